@@ -1,0 +1,137 @@
+ghost use Rattle.std.specs.Prelude.{◌≡◌, ◌<◌, IsSome, IfSome, ◌↔◌, SomeIff};
+ghost use Rattle.rv_decode.specs.Instruction.{format_of};
+
+use std::marker::Model;
+
+/// What an instruction does, by its name in the RISC-V Unprivileged ISA 20191213.
+#[derive(Clone, Copy, Debug, PartialEq, Eq)]
+pub enum Kind {
+    /// Load upper immediate.
+    Lui,
+    /// Add immediate.
+    Addi,
+    /// Store byte.
+    Sb,
+    /// Store word.
+    Sw,
+}
+
+/// How the fields of an instruction lie in its word (sections 2.2 and 2.3).
+#[derive(Clone, Copy, Debug, PartialEq, Eq)]
+pub enum Format {
+    /// `rd` and an immediate of the upper 20 bits.
+    U,
+    /// `rd`, `rs1` and a signed immediate of 12 bits.
+    I,
+    /// `rs1`, `rs2` and a signed immediate of 12 bits.
+    S,
+}
+
+impl Kind {
+    /// The format of this kind's words.
+    #[inline]
+    pub fn format(self) -> Format
+        ensures { result ≡ format_of self }
+    {
+        match self {
+            Kind::Lui => Format::U,
+            Kind::Addi => Format::I,
+            Kind::Sb | Kind::Sw => Format::S,
+        }
+    }
+}
+
+/// An instruction: its kind, its registers from 0 to 31, and its immediate. Each field is in the
+/// range of the kind's format, and 0 where the format lacks it.
+#[derive(Clone, Copy, Debug)]
+pub struct Instr {
+    pub(crate) kind: Kind,
+    pub(crate) rd: u8,
+    pub(crate) rs1: u8,
+    pub(crate) rs2: u8,
+    pub(crate) imm: i32,
+}
+
+impl Model for Instr {
+    ghost use Rattle.rv_decode.specs.Instruction.{Instruction, IsInstruction};
+
+    ghost Value = { Instruction };
+
+    ghost view = { λ i. record { kind = i.kind; rd = i.rd; rs1 = i.rs1; rs2 = i.rs2; imm = i.imm } };
+
+    ghost invariant = { λ i. IsInstruction (record { kind = i.kind; rd = i.rd; rs1 = i.rs1; rs2 = i.rs2; imm = i.imm }) };
+
+    ghost inverse = { λ v. record { kind = v.kind; rd = v.rd; rs1 = v.rs1; rs2 = v.rs2; imm = v.imm } };
+}
+
+impl Instr {
+    ghost use Rattle.rv_decode.specs.Instruction.{Instruction, IsInstruction};
+
+    /// The instruction with these fields, or `None` exactly where a field is out of its format's
+    /// range, or one that the format lacks is not 0.
+    pub fn new(kind: Kind, rd: u32, rs1: u32, rs2: u32, imm: i32) -> Option<Instr>
+        ensures {
+            let fields : Instruction = record { kind = kind; rd = rd; rs1 = rs1; rs2 = rs2; imm = imm }
+            in SomeIff result (IsInstruction fields) fields
+        }
+    {
+        let registers_fit = match kind.format() {
+            Format::U => rd < 32 && rs1 == 0 && rs2 == 0 && imm.cast_unsigned() % 4096 == 0,
+            Format::I => rd < 32 && rs1 < 32 && rs2 == 0 && (-2048..2048).contains(&imm),
+            Format::S => rd == 0 && rs1 < 32 && rs2 < 32 && (-2048..2048).contains(&imm),
+        };
+        if registers_fit {
+            Some(Instr {
+                kind,
+                rd: rd as u8,
+                rs1: rs1 as u8,
+                rs2: rs2 as u8,
+                imm,
+            })
+        } else {
+            None
+        }
+    }
+
+    #[inline]
+    pub fn kind(self) -> Kind
+        ensures { result ≡ self.kind }
+    {
+        self.kind
+    }
+
+    /// The register that is written, 0 where there is none.
+    #[inline]
+    pub fn rd(self) -> u32
+        ensures value { result ≡ self.rd }
+        ensures register { result < 32 }
+    {
+        u32::from(self.rd)
+    }
+
+    /// The first register that is read, 0 where there is none.
+    #[inline]
+    pub fn rs1(self) -> u32
+        ensures value { result ≡ self.rs1 }
+        ensures register { result < 32 }
+    {
+        u32::from(self.rs1)
+    }
+
+    /// The second register that is read, 0 where there is none.
+    #[inline]
+    pub fn rs2(self) -> u32
+        ensures value { result ≡ self.rs2 }
+        ensures register { result < 32 }
+    {
+        u32::from(self.rs2)
+    }
+
+    /// The immediate, 0 where there is none.
+    #[inline]
+    pub fn imm(self) -> i32
+        ensures { result ≡ self.imm }
+    {
+        self.imm
+    }
+}

@@ -1,0 +1,8 @@
+//! RISC-V instruction words: the table of the instructions that the machine has, and its decoder.
+#![tactic(auto)]
+
+mod decoder;
+mod instruction;
+
+pub use decoder::decode;
+pub use instruction::{Format, Instr, Kind};
