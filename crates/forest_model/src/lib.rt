@@ -1,13 +1,32 @@
-// A library with one function.
+//! The meaning of a machine, as plain data: one flat list of bytes for RAM, what the coming step is,
+//! what it does, and the machine run to its end. The code of the crates above is proved equal to it.
 #![tactic(auto)]
 
-ghost use Rattle.std.specs.Prelude.{◌≡◌};
-ghost use Rattle.forest_model.specs.Echo.{echo_of};
+pub mod cause;
+pub mod laws;
 
-// The `ensures` clause is the contract: what `echo` returns is `echo_of` of its argument, a definition
-// in `specs/Echo.antt`, which a caller's clause can cite too.
-pub fn echo(x: usize) -> usize
-    ensures { result ≡ echo_of x }
-{
-    x
+/// How a machine ended.
+#[derive(Clone, Copy, Debug, PartialEq, Eq)]
+pub enum Ending {
+    /// By EXIT, with its value.
+    Exit(u32),
+    /// By the limit of its steps.
+    Limit,
+    /// By an exception, with its cause (RISC-V Privileged ISA 20211203, section 3.1.15).
+    Fault(u32),
+}
+
+/// What a store to a port does to the machine beside the port's own registers.
+#[derive(Clone, Copy, Debug, PartialEq, Eq)]
+pub enum Effect {
+    Done,
+    /// The machine ends with this value.
+    Exit(u32),
+}
+
+/// What a machine is started with.
+#[derive(Clone, Copy, Debug, PartialEq, Eq)]
+pub struct Options {
+    /// The most steps that the machine makes, from 1 to 1,000,000,000.
+    pub limit: u64,
 }

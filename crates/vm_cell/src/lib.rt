@@ -1,13 +1,8 @@
-// A library with one function.
+//! One machine: its registers, memory and ports, and the loop that steps it.
 #![tactic(auto)]
 
-ghost use Rattle.std.specs.Prelude.{◌≡◌};
-ghost use Rattle.vm_cell.specs.Echo.{echo_of};
+mod hart;
+mod ports;
+mod vm;
 
-// The `ensures` clause is the contract: what `echo` returns is `echo_of` of its argument, a definition
-// in `specs/Echo.antt`, which a caller's clause can cite too.
-pub fn echo(x: usize) -> usize
-    ensures { result ≡ echo_of x }
-{
-    x
-}
+pub use vm::{Ran, Stepped, Vm};

@@ -1,0 +1,81 @@
+-- A machine counts its steps, and ends by its own EXIT, by an exception or by its limit.
+use Rattle.std.specs.Prelude.{◌≡◌, ℕ, ◌<◌, zero, suc, ◌+◌, ◌-◌, ◌==◌, if◌then◌else◌, List, replicate, Option, Some, None}
+use Rattle.elf_load.specs.Image.{Image}
+use Rattle.forest_model.specs.declared.Ending.{Ending}
+use Rattle.forest_model.specs.declared.Ending.TheVariants.{Exit, Limit, Fault}
+use Rattle.forest_model.specs.declared.Options.{Options}
+use Rattle.forest_model.specs.Ports.{ports_at_start}
+use Rattle.forest_model.specs.State.{State}
+use Rattle.forest_model.specs.Action.{Action, trap, retire, exit, action}
+
+pub record Machine : Type 0 where
+  pub state : State
+  pub steps : ℕ
+  pub limit : ℕ
+  -- none while the machine lives
+  pub ending : Option Ending
+
+-- a live machine is below its limit
+abbrev pub IsWithinLimit : Machine → Type 0
+IsWithinLimit m = m.ending ≡ None → m.steps < m.limit
+
+-- what the next step of a live machine is
+pub data Next : Type 0 where
+  -- an exception, with its cause and value
+  exception : ℕ → ℕ → Next
+  plain : Next
+
+abbrev pub next_of : Action → Next
+next_of (trap cause value) = exception cause value
+next_of (retire s) = plain
+next_of (exit value s) = plain
+
+abbrev pub next : Machine → Next
+next m = next_of (action m.state)
+
+-- one step is counted, and a machine whose steps reach its limit ends, but for one that has ended in
+-- that very step
+abbrev pub limited : State → Machine → Machine
+limited s m = record { state = s; steps = m.steps + 1; limit = m.limit; ending = if m.steps + 1 == m.limit then Some Limit else None }
+
+abbrev pub ended : State → Ending → Machine → Machine
+ended s ending m = record { state = s; steps = m.steps + 1; limit = m.limit; ending = Some ending }
+
+abbrev pub applied : Action → Machine → Machine
+applied (trap cause value) m = ended m.state (Fault cause) m
+applied (retire s) m = limited s m
+applied (exit value s) m = ended s (Exit value) m
+
+abbrev pub advance_from : Option Ending → Machine → Machine
+advance_from None m = applied (action m.state) m
+advance_from (Some ending) m = m
+
+-- the machine after one step, or itself where it has ended
+unfoldable pub advance : Machine → Machine
+advance m = advance_from m.ending m
+
+unfoldable pub after_steps : ℕ → Machine → Machine
+after_steps zero m = m
+after_steps (suc n) m = after_steps n (advance m)
+
+-- the machine run to its end
+unfoldable pub finish : Machine → Machine
+finish m = after_steps (m.limit - m.steps) m
+
+-- registers that all read 0
+unfoldable pub registers_at_start : List ℕ
+registers_at_start = replicate 32 0
+
+-- the machine that starts from an image
+unfoldable pub boot : Image → Options → Machine
+boot image options = record {
+  state = record {
+    registers = registers_at_start;
+    pc = image.entry;
+    ram = image.ram;
+    ports = ports_at_start;
+  };
+  steps = 0;
+  limit = options.limit;
+  ending = None;
+}

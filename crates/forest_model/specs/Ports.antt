@@ -1,0 +1,73 @@
+-- The ports of the machine, by the address of an access. Where a port has no such access, an answer
+-- is none.
+use Rattle.std.specs.Prelude.{ℕ, ◌+◌, ◌-◌, ◌%◌, ◌==◌, ◌&&◌, Bool, true, false, nat_lt, nat_le, if◌then◌else◌, List, [], ◌∷◌, ◌++◌, Option, Some, None}
+use Rattle.forest_model.specs.declared.Effect.{Effect}
+use Rattle.forest_model.specs.declared.Effect.TheVariants.{Done, Exit}
+
+-- what the console has put out
+pub record ConsoleRegisters : Type 0 where
+  pub output : List ℕ
+
+-- the argument of the next command
+pub record ForkRegisters : Type 0 where
+  pub argument : ℕ
+
+pub record PortRegisters : Type 0 where
+  pub console : ConsoleRegisters
+  pub fork : ForkRegisters
+
+-- the ports of a machine that starts
+abbrev pub ports_at_start : PortRegisters
+ports_at_start = record { console = record { output = [] }; fork = record { argument = 0 } }
+
+-- the ports after a store, and what the store does to the machine
+pub record Stored : Type 0 where
+  pub ports : PortRegisters
+  pub effect : Effect
+
+-- The console: a byte that is stored to offset 0 goes to the output.
+abbrev pub console_store : ConsoleRegisters → ℕ → ℕ → ℕ → Option ConsoleRegisters
+console_store c offset width word =
+    if (offset == 0) && (width == 1) then Some (record { output = c.output ++ word % 256 ∷ [] }) else None
+
+-- The fork port: the command 5 ends the machine with the argument as its value, and others do nothing.
+abbrev pub command_effect : ForkRegisters → ℕ → Effect
+command_effect f command = if command == 5 then Exit f.argument else Done
+
+pub record ForkStored : Type 0 where
+  pub fork : ForkRegisters
+  pub effect : Effect
+
+-- words alone: the argument at offset 0, the command at offset 8
+abbrev pub fork_store : ForkRegisters → ℕ → ℕ → ℕ → Option ForkStored
+fork_store f offset width word =
+    if (offset == 0) && (width == 4) then Some (record { fork = record { argument = word }; effect = Done })
+    else (if (offset == 8) && (width == 4) then Some (record { fork = f; effect = command_effect f word }) else None)
+
+-- the port that an address is of, with the offset there
+pub data Place : Type 0 where
+  at_console : ℕ → Place
+  at_fork : ℕ → Place
+  at_no_port : Place
+
+abbrev pub place_of : ℕ → Place
+place_of address =
+    if nat_le 0x1000_0000 address && nat_lt address 0x1000_0008 then at_console (address - 0x1000_0000)
+    else (if nat_le 0x1000_2000 address && nat_lt address 0x1000_2028 then at_fork (address - 0x1000_2000) else at_no_port)
+
+abbrev pub console_stored : Option ConsoleRegisters → PortRegisters → Option Stored
+console_stored None ports = None
+console_stored (Some c) ports = Some (record { ports = record ports { console = c }; effect = Done })
+
+abbrev pub fork_stored : Option ForkStored → PortRegisters → Option Stored
+fork_stored None ports = None
+fork_stored (Some s) ports = Some (record { ports = record ports { fork = s.fork }; effect = s.effect })
+
+abbrev pub store_at : Place → PortRegisters → ℕ → ℕ → Option Stored
+store_at (at_console offset) ports width word = console_stored (console_store ports.console offset width word) ports
+store_at (at_fork offset) ports width word = fork_stored (fork_store ports.fork offset width word) ports
+store_at at_no_port ports width word = None
+
+-- a store of the low `width` bytes of a word
+unfoldable pub port_store : PortRegisters → ℕ → ℕ → ℕ → Option Stored
+port_store ports address width word = store_at (place_of address) ports width word

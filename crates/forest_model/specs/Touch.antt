@@ -1,0 +1,42 @@
+-- The pages of RAM that a step needs: the page of its code, and the page of the data that it reads or
+-- writes. A store needs its page since the rest of it stays.
+use Rattle.std.specs.Prelude.{ℕ, ◌-◌, ◌/◌, ◌%◌, ◌==◌, ◌&&◌, Bool, true, false, if◌then◌else◌, List, [], ◌∷◌, length, Option, Some, None}
+use Rattle.elf_load.specs.declared.image.TheConstants.{RAM_BASE, PAGE_SIZE}
+use Rattle.rv_decode.specs.Instruction.{Instruction}
+use Rattle.rv_decode.specs.Table.{decoded}
+use Rattle.forest_model.specs.declared.Ending.{Ending}
+use Rattle.forest_model.specs.Effect.{Group, compute_immediate, store, group_of, store_bytes}
+use Rattle.forest_model.specs.State.{State, is_in_ram}
+use Rattle.forest_model.specs.Action.{data_address, fetched}
+use Rattle.forest_model.specs.Machine.{Machine}
+
+abbrev pub page_of : ℕ → ℕ
+page_of address = (address - RAM_BASE) / PAGE_SIZE
+
+-- the page that an instruction reads or writes, if it is of RAM and the access is aligned
+abbrev pub data_page : Group → Instruction → State → Option ℕ
+data_page compute_immediate i s = None
+data_page store i s =
+    if (data_address i s % length (store_bytes i.kind 0) == 0) && is_in_ram s.ram (data_address i s)
+    then Some (page_of (data_address i s)) else None
+
+-- one page is listed once
+abbrev pub code_and_data : ℕ → Option ℕ → List ℕ
+code_and_data code None = code ∷ []
+code_and_data code (Some page) = if page == code then code ∷ [] else code ∷ (page ∷ [])
+
+abbrev pub touch_decoded : Option Instruction → State → List ℕ
+touch_decoded None s = page_of s.pc ∷ []
+touch_decoded (Some i) s = code_and_data (page_of s.pc) (data_page (group_of i.kind) i s)
+
+abbrev pub touch_fetch : Bool → State → List ℕ
+touch_fetch false s = []
+touch_fetch true s = touch_decoded (decoded (fetched s)) s
+
+abbrev pub touch_from : Option Ending → State → List ℕ
+touch_from None s = touch_fetch (is_in_ram s.ram s.pc) s
+touch_from (Some ending) s = []
+
+-- the pages that the next step touches, in order
+unfoldable pub touch : Machine → List ℕ
+touch m = touch_from m.ending m.state
