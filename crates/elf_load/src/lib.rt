@@ -1,13 +1,10 @@
-// A library with one function.
+//! Executable images: ELF files for RV32, and the memory that loading one gives.
 #![tactic(auto)]
 
-ghost use Rattle.std.specs.Prelude.{◌≡◌};
-ghost use Rattle.elf_load.specs.Echo.{echo_of};
+mod error;
+mod image;
+mod loader;
 
-// The `ensures` clause is the contract: what `echo` returns is `echo_of` of its argument, a definition
-// in `specs/Echo.antt`, which a caller's clause can cite too.
-pub fn echo(x: usize) -> usize
-    ensures { result ≡ echo_of x }
-{
-    x
-}
+pub use error::{FORM_NOT_BUILT, ImageError};
+pub use image::{Loaded, MAX_PAGES, MIN_PAGES, PAGE_SIZE, RAM_BASE};
+pub use loader::{load_elf, one_segment};

@@ -1,0 +1,27 @@
+ghost use Rattle.std.specs.Prelude.{◌≡◌};
+ghost use Rattle.elf_load.specs.declared.error.ImageError.TheVariants.{Memory};
+
+use std::alloc::AllocError;
+use thiserror::Error;
+
+/// The refusal of a form of image that is not built yet.
+pub const FORM_NOT_BUILT: u32 = 14;
+
+/// Why an image is not loaded.
+#[derive(Clone, Copy, Debug, PartialEq, Eq, Error)]
+pub enum ImageError {
+    /// The image is refused, with the number of the rule that it breaks.
+    #[error("the image is refused by rule {0}")]
+    Refused(u32),
+    /// Out of memory.
+    #[error("out of memory")]
+    Memory,
+}
+
+impl From<AllocError> for ImageError {
+    ghost from_gives = { λ _ error. error ≡ Memory };
+
+    fn from(_error: AllocError) -> ImageError {
+        ImageError::Memory
+    }
+}
