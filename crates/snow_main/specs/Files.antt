@@ -1,9 +1,7 @@
 -- Named files in memory.
-use Rattle.std.specs.Prelude.{ℕ, if◌then◌else◌, List, [], ◌∷◌, Option, Some, None, string_bytes}
+use Rattle.std.specs.Prelude.{ℕ, if◌then◌else◌, List, [], ◌∷◌, Option, Some, None, string_bytes, String, Vec}
 use Rattle.std.specs.Str.{bytes_eq}
 use Rattle.std.specs.declared.alloc.Global.{Global}
-use Rattle.std.specs.Vec.{Vec}
-use Rattle.std.specs.String.{String}
 
 -- the bytes of the first file of a name
 abbrev pub file_named : List (String Global × Vec ℕ Global) → List ℕ → Option (List ℕ)

@@ -1,5 +1,5 @@
 -- The outside as contracts see it: counts of faults, and the bytes that are gone.
-use Rattle.std.specs.Prelude.{◌≡◌, ℕ, ◌<◌, ◌⊎◌, List, ◌++◌, take, Option}
+use Rattle.std.specs.Prelude.{◌≡◌, ℕ, ◌<◌, ◌≤◌, ◌⊎◌, List, ◌++◌, length, take, Option}
 use Rattle.std.specs.Option.{option_map}
 use Rattle.snow_main.specs.declared.outside.TheConstants.{LAST_COUNT}
 
@@ -11,6 +11,6 @@ HasRisen old new = (old < new) ⊎ (new ≡ LAST_COUNT)
 abbrev pub appended : Option (List ℕ) → List ℕ → Option (List ℕ)
 appended gone bytes = option_map (λ before. before ++ bytes) gone
 
--- a prefix of the bytes is gone
+-- the first n of the bytes are gone, for some n
 abbrev pub IsPrefixGone : Option (List ℕ) → Option (List ℕ) → List ℕ → Type 0
-IsPrefixGone old new bytes = (n : ℕ) × (new ≡ appended old (take n bytes))
+IsPrefixGone old new bytes = (n : ℕ) × (n ≤ length bytes) × (new ≡ appended old (take n bytes))
