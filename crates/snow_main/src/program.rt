@@ -41,6 +41,18 @@ pub struct Status {
     pub second: u32,
 }
 
+impl Status {
+    fn new(code: u8, first: u32) -> Status
+        ensures { result ≡ record { code = code; first = first; second = 0 } }
+    {
+        Status {
+            code,
+            first,
+            second: 0,
+        }
+    }
+}
+
 /// Why a command did not write its text whole.
 #[derive(Clone, Copy, Debug, PartialEq, Eq)]
 pub enum Stop {
@@ -90,24 +102,14 @@ pub fn snow<R: AllocGlobal, S: Shelf, K: Sink>(
     ensures status { IsStatus result }
 {
     let Some(image) = image_to_run(words) else {
-        return status(2, 0);
+        return Status::new(2, 0);
     };
     match run_image(rt.alloc(), image, shelf, sink) {
-        Ok(()) => status(0, 0),
-        Err(Stop::ReadFault) => status(1, 1),
-        Err(Stop::Refused(number)) => status(3, number),
-        Err(Stop::WriteFault) => status(5, 0),
-        Err(Stop::Memory) => status(6, 0),
-    }
-}
-
-fn status(code: u8, first: u32) -> Status
-    ensures { result ≡ record { code = code; first = first; second = 0 } }
-{
-    Status {
-        code,
-        first,
-        second: 0,
+        Ok(()) => Status::new(0, 0),
+        Err(Stop::ReadFault) => Status::new(1, 1),
+        Err(Stop::Refused(number)) => Status::new(3, number),
+        Err(Stop::WriteFault) => Status::new(5, 0),
+        Err(Stop::Memory) => Status::new(6, 0),
     }
 }
 
