@@ -26,8 +26,8 @@ rows =
     ∷ row 0x0000_707f 0x0000_2023 Sw
     ∷ []
 
-abbrev pub belongs : ℕ → Row → Bool
-belongs word r = bit_and word r.mask == r.bits
+abbrev pub matches : ℕ → Row → Bool
+matches word r = bit_and word r.mask == r.bits
 
 -- the fields of a word: bits 11:7, 19:15 and 24:20
 abbrev pub rd_field : ℕ → ℕ
@@ -61,7 +61,7 @@ in_format S kind word = record { kind = kind; rd = 0; rs1 = rs1_field word; rs2 
 
 -- the kind of a word, or none where no row has it
 unfoldable pub kind_of_word : ℕ → Option Kind
-kind_of_word word = option_map (λ r. r.kind) (find (belongs word) rows)
+kind_of_word word = option_map (λ r. r.kind) (find (matches word) rows)
 
 -- what a word says, or none
 unfoldable pub decoded : ℕ → Option Instruction
