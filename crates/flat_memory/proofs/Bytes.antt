@@ -11,7 +11,7 @@ get_or-put_bytes_before memory bytes at k within before =
 
 -- what stands behind the bytes before the write
 behind : (memory bytes : List ℕ) (at k : ℕ) → at ≤ length memory → at ≤ k
-  → get_or (put_bytes memory at bytes) k 0 ≡ get_or (bytes ++ drop (at + length bytes) memory) (k - at) 0
+    → get_or (put_bytes memory at bytes) k 0 ≡ get_or (bytes ++ drop (at + length bytes) memory) (k - at) 0
 behind memory bytes at k within from =
     get_or-append_right (take at memory) (bytes ++ drop (at + length bytes) memory) at k 0 (length-take-le at memory within) from
 
@@ -29,7 +29,7 @@ get_or-put_bytes memory bytes at k within below =
     ∙ get_or_append_left bytes (drop (at + length bytes) memory) 0 k below
 
 pub get_or-put_bytes_outside : (memory bytes : List ℕ) (at k : ℕ) → at ≤ length memory → (k < at) ⊎ (at + length bytes ≤ k)
-  → get_or (put_bytes memory at bytes) k 0 ≡ get_or memory k 0
+    → get_or (put_bytes memory at bytes) k 0 ≡ get_or memory k 0
 get_or-put_bytes_outside memory bytes at k within (inl before) = get_or-put_bytes_before memory bytes at k within before
 get_or-put_bytes_outside memory bytes at k within (inr after) = get_or-put_bytes_after memory bytes at k within after
 

@@ -1,6 +1,6 @@
 -- No two rows of the table match one word. A word of both rows gives them the same bits where both
 -- masks have bits, so a test of each pair of rows, without a word, tells them apart.
-use Rattle.std.proofs.Common.{◌≡◌, ℕ, zero, suc, ◌<◌, Bool, true, false, not, eqb, ◌&&◌, List, [], ◌∷◌, length, get_or, Option, Some, refl, sym, ap, ◌∙◌, cond, arith}
+use Rattle.std.proofs.Common.{◌≡◌, ℕ, zero, suc, ◌<◌, Bool, true, not, eqb, ◌&&◌, List, [], ◌∷◌, length, get_or, Some, refl, sym, ap, ◌∙◌, cond, arith}
 use Rattle.std.specs.List.{All, AllPairs, find, list_all}
 use Rattle.std.specs.Prelude.{bit_and, IsTrue}
 use Rattle.std.specs.Option.{option_map}
@@ -46,21 +46,21 @@ AllPairs-all_apart word (r ∷ rs) apart =
     let first : list_all (is_apart r) rs ≡ true = grind arith in
     let rest : all_apart rs ≡ true = grind arith in
     AllPairs-cons (IsApart word) r rs
-      (λ k d below. IsApart-is_apart word r (get_or rs k d) (AllPass-from_list_all (is_apart r) rs first k d below))
-      (AllPairs-all_apart word rs rest)
+    (λ k d below. IsApart-is_apart word r (get_or rs k d) (AllPass-from_list_all (is_apart r) rs first k d below))
+    (AllPairs-all_apart word rs rest)
 
 pub AllPairs-rows : (word : ℕ) → AllPairs (IsApart word) rows
 AllPairs-rows word = AllPairs-all_apart word rows table_is_apart
 
 -- the row that is found is any that the word matches
 find-IsApart : (word : ℕ) (rs : List Row) → AllPairs (IsApart word) rs → (k : ℕ) (d : Row) → k < length rs
-  → IsTrue (matches word (get_or rs k d)) → find (matches word) rs ≡ Some (get_or rs k d)
+    → IsTrue (matches word (get_or rs k d)) → find (matches word) rs ≡ Some (get_or rs k d)
 find-IsApart word [] apart k d below of_row = absurd (omega arith)
 find-IsApart word (r ∷ rs) apart zero d below of_row = ap (λ b. cond b (Some r) (find (matches word) rs)) of_row
 find-IsApart word (r ∷ rs) apart (suc k) d below of_row =
     let not_of_first : IsTrue (matches word r) → ⊥ = λ of_first. apart 0 (suc k) d (omega arith) below (of_first, of_row) in
     let rest : find (matches word) rs ≡ Some (get_or rs k d) =
-      find-IsApart word rs (λ i j e before within. apart (suc i) (suc j) e (omega arith) (omega arith)) k d (omega arith) of_row in
+    find-IsApart word rs (λ i j e before within. apart (suc i) (suc j) e (omega arith) (omega arith)) k d (omega arith) of_row in
     ap (λ b. cond b (Some r) (find (matches word) rs)) (false_from_ne_true (matches word r) not_of_first) ∙ rest
 
 pub kind_of_word-matches : (word : ℕ) → All (λ r. IsTrue (matches word r) → kind_of_word word ≡ Some r.kind) rows

@@ -8,5 +8,4 @@ ghost use Rattle.rv_decode.specs.Table.{rows, matches, kind_of_word};
 pub fn rows_are_apart()
     ensures apart { (word : ℕ) → AllPairs (λ a b. ¬ (IsTrue (matches word a) × IsTrue (matches word b))) rows }
     ensures kind { (word : ℕ) → All (λ row. IsTrue (matches word row) → kind_of_word word ≡ Some row.kind) rows }
-{
-}
+{}

@@ -1,4 +1,4 @@
-ghost use Rattle.std.specs.Prelude.{◌≡◌, ◌<◌, ◌↔◌, [], length, Some, None, IfOk, OnOk, OnErr, IsErrOf, MatchResult, IsSomeAnd};
+ghost use Rattle.std.specs.Prelude.{◌≡◌, ◌<◌, ◌↔◌, [], length, Some, None, IfOk, OnOk, OnErr, IsErrOf, IsSomeAnd};
 ghost use Rattle.forest_model.specs.Ports.{console_store, fork_store, port_store};
 
 use forest_model::Effect;
