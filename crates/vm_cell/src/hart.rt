@@ -1,5 +1,5 @@
 ghost use Rattle.std.specs.Prelude.{◌≡◌, ◌<◌, ◌-◌, ◌+◌, ◌%◌, ◌≤◌, ◌↔◌, ◌⊎◌, length, Some, None, IsNone, IfOk, IfSome, OnErr, true, false};
-ghost use Rattle.forest_model.specs.Effect.{group_of, alu, compute_immediate, store};
+ghost use Rattle.forest_model.specs.Operation.{group_of, alu, compute_immediate, store};
 ghost use Rattle.forest_model.specs.Ports.{port_store, ports_at_start};
 ghost use Rattle.forest_model.specs.State.{is_in_ram, register, with_register, at_next_instruction};
 ghost use Rattle.forest_model.specs.Action.{retire, action, execute, computed_immediate, stored, store_action, port_action};
@@ -38,8 +38,7 @@ pub struct Hart {
 }
 
 impl Model for Hart {
-    ghost use Rattle.forest_model.specs.Ports.{ports_at_start};
-ghost use Rattle.forest_model.specs.State.{State};
+    ghost use Rattle.forest_model.specs.State.{State};
     ghost use Rattle.vm_cell.specs.Hart.{IsHart};
 
     ghost Value = { State };
@@ -148,8 +147,9 @@ impl Hart {
         let address = self.register(instr.rs1()).wrapping_add(instr.imm().cast_unsigned());
         let value = self.register(instr.rs2());
         match instr.kind() {
+            Kind::Sb => self.store_to(address, value, &[(value % 256) as u8]),
             Kind::Sw => self.store_to(address, value, &value.to_le_bytes()),
-            _ => self.store_to(address, value, &[(value % 256) as u8]),
+            Kind::Lui | Kind::Addi => unreachable!(),
         }
     }
 

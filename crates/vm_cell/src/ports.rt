@@ -1,7 +1,10 @@
-ghost use Rattle.std.specs.Prelude.{◌≡◌, ◌<◌, ◌↔◌, [], length, Some, None, IfOk, OnOk, OnErr, IsErrOf, MatchResult, IsSomeAnd};
+ghost use Rattle.std.specs.Prelude.{◌≡◌, ◌<◌, ◌↔◌, [], length, Some, None, IfOk, OnOk, OnErr, IsErrOf, IsSomeAnd};
 ghost use Rattle.forest_model.specs.Ports.{console_store, fork_store, port_store};
 
 use forest_model::Effect;
+use forest_model::port_map::{
+    CONSOLE_BASE, CONSOLE_DATA, CONSOLE_SIZE, EXIT_COMMAND, FORK_ARGUMENT, FORK_BASE, FORK_COMMAND, FORK_SIZE,
+};
 use std::alloc::{AllocError, AllocFailed, Global};
 use std::marker::Model;
 
@@ -28,6 +31,17 @@ impl<T: Drop> From<AllocFailed<T>> for PortError {
 /// The access that no port has.
 #[derive(Clone, Copy, Debug, PartialEq, Eq)]
 pub struct Fault;
+
+impl From<Fault> for PortError {
+    ghost use Rattle.std.specs.Prelude.{◌≡◌};
+    ghost use Rattle.vm_cell.specs.declared.ports.PortError.TheVariants.{Fault};
+
+    ghost from_gives = { λ _ e. e ≡ Fault };
+
+    fn from(_e: Fault) -> PortError {
+        PortError::Fault
+    }
+}
 
 /// The console: bytes that are put out.
 #[derive(Drop)]
@@ -76,7 +90,7 @@ impl ConsolePort {
             → IsSomeAnd (console_store self.old offset width word) (λ c. length self.old.output < length c.output)
         }
     {
-        if offset != 0 || width != 1 {
+        if offset != CONSOLE_DATA || width != 1 {
             return Err(PortError::Fault);
         }
         self.output.push((word % 256) as u8)?;
@@ -114,12 +128,12 @@ impl ForkPort {
         ensures err { OnErr result (self.new ≡ self.old) }
     {
         match (offset, width) {
-            (0, 4) => {
+            (FORK_ARGUMENT, 4) => {
                 self.argument = word;
                 Ok(Effect::Done)
             }
-            (8, 4) if word == 5 => Ok(Effect::Exit(self.argument)),
-            (8, 4) => Ok(Effect::Done),
+            (FORK_COMMAND, 4) if word == EXIT_COMMAND => Ok(Effect::Exit(self.argument)),
+            (FORK_COMMAND, 4) => Ok(Effect::Done),
             _ => Err(Fault),
         }
     }
@@ -177,16 +191,13 @@ impl Ports {
                 (λ s. (s.effect ≡ Effect.Done) × (length self.old.console.output < length s.ports.console.output))
         }
     {
-        if address >= 0x1000_0000 && address < 0x1000_0008 {
-            self.console.store(address - 0x1000_0000, width, word)?;
-            return Ok(Effect::Done);
+        if (CONSOLE_BASE..CONSOLE_BASE + CONSOLE_SIZE).contains(&address) {
+            self.console.store(address - CONSOLE_BASE, width, word)?;
+            Ok(Effect::Done)
+        } else if (FORK_BASE..FORK_BASE + FORK_SIZE).contains(&address) {
+            Ok(self.fork.store(address - FORK_BASE, width, word)?)
+        } else {
+            Err(PortError::Fault)
         }
-        if address >= 0x1000_2000 && address < 0x1000_2028 {
-            return match self.fork.store(address - 0x1000_2000, width, word) {
-                Ok(effect) => Ok(effect),
-                Err(Fault) => Err(PortError::Fault),
-            };
-        }
-        Err(PortError::Fault)
     }
 }

@@ -1,4 +1,4 @@
-ghost use Rattle.std.specs.Prelude.{◌≡◌, ◌+◌, ◌-◌, ◌≤◌, ◌<◌, None, IfOk, OnErr, OnOk, IsTrue, IsSome, is_none};
+ghost use Rattle.std.specs.Prelude.{◌≡◌, ◌+◌, ◌-◌, ◌≤◌, ◌<◌, None, IfOk, OnErr, OnOk, IsSome};
 ghost use Rattle.forest_model.specs.Action.{action};
 ghost use Rattle.forest_model.specs.Machine.{IsWithinLimit, advance, after_steps, finish, boot};
 ghost use Rattle.vm_cell.specs.Acts.{Grows};
