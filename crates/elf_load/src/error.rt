@@ -11,7 +11,7 @@ pub const FORM_NOT_BUILT: u32 = 14;
 #[derive(Clone, Copy, Debug, PartialEq, Eq, Error)]
 pub enum ImageError {
     /// The image is refused, with the number of the rule that it breaks.
-    #[error("the image is refused by rule {0}")]
+    #[error("the image is refused with number {0}")]
     Refused(u32),
     /// Out of memory.
     #[error("out of memory")]

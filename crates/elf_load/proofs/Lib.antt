@@ -1,0 +1,3 @@
+pub mod OneSegment
+pub mod Pages
+pub mod Words

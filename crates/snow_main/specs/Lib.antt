@@ -1,0 +1,5 @@
+pub mod Outside
+pub mod Files
+pub mod Report
+pub mod Words
+pub mod Text
