@@ -1,16 +1,15 @@
 -- The form of the images that are loaded: the headers of the code, and then the code.
-use Rattle.std.proofs.Common.{◌≡◌, ℕ, ◌*◌, ◌%◌, ◌≤◌, Bool, true, false, cond, List, ◌++◌, length, take, drop, Some, None, Decides, sym, refl, ap, subst, ◌∙◌, inl, inr, arith}
+use Rattle.std.proofs.Common.{◌≡◌, ℕ, ◌*◌, ◌%◌, ◌≤◌, List, length, take, drop, Some, None, Decides, sym, refl, ap, subst, ◌∙◌, inl, inr, arith}
 use Rattle.std.proofs.lemmas.Bool.{false_from_ne_true, cases_Bool, cond-true, cond-false, leb-true, le-leb}
 use Rattle.std.proofs.lemmas.Bool.Decides.{Decides-and, Decides-eqb, Decides-like, not_from_Decides}
 use Rattle.std.proofs.lemmas.List.{take-append-drop, take_at, drop_at, length-take}
 use Rattle.std.proofs.lemmas.Slice.Eq.{bytes_eq-Decides}
-use Rattle.flat_memory.specs.Flat.{zeros}
-use Rattle.elf_load.specs.Image.{Image, IsOneSegment, is_one_segment, identification, elf_header, program_header, headers, elf_of, code_of, image_of, loaded}
+use Rattle.elf_load.specs.Image.{Image, IsOneSegment, is_one_segment, headers, elf_of, code_of, image_of, loaded}
 use Rattle.elf_load.specs.declared.image.TheConstants.{RAM_BASE, PAGE_SIZE}
 use Rattle.elf_load.specs.declared.loader.TheConstants.{HEADERS_SIZE}
 
 pub length-headers : (base size : ℕ) → length (headers base size) ≡ HEADERS_SIZE
-unfolding headers elf_header program_header identification zeros
+unfolding headers
 length-headers base size = refl
 
 pub code_of-elf_of : (base : ℕ) (code : List ℕ) → code_of (elf_of base code) ≡ code

@@ -1,6 +1,6 @@
 -- Executable images: the ELF files that are loaded, and what loading one gives.
 -- System V gABI, "ELF Header" and "Program Header"; RISC-V ELF psABI, "File Header"
-use Rattle.std.specs.Prelude.{◌≡◌, ℕ, ◌+◌, ◌-◌, ◌*◌, ◌/◌, ◌%◌, ◌<◌, ◌≤◌, ◌==◌, Bool, true, false, ◌&&◌, nat_lt, nat_le, if◌then◌else◌, List, [], ◌∷◌, ◌++◌, length, drop, map, slice_get, slice_index, Option, Some, None, ⊤}
+use Rattle.std.specs.Prelude.{◌≡◌, ℕ, ◌+◌, ◌-◌, ◌*◌, ◌/◌, ◌%◌, ◌<◌, ◌≤◌, ◌==◌, Bool, false, ◌&&◌, nat_lt, nat_le, if◌then◌else◌, List, [], ◌∷◌, ◌++◌, length, drop, map, replicate, slice_get, slice_index, Option, Some, None, ⊤}
 use Rattle.std.specs.List.{flat_map, range_with_len}
 use Rattle.std.specs.Str.{bytes_eq}
 use Rattle.byteorder.specs.Endian.{little_bytes, little_number}
@@ -40,11 +40,11 @@ abbrev pub word : ℕ → List ℕ
 word n = little_bytes 4 n
 
 -- the magic number, 32-bit objects, little endian, version 1, and padding
-unfoldable pub identification : List ℕ
-identification = 0x7f ∷ 0x45 ∷ 0x4c ∷ 0x46 ∷ 1 ∷ 1 ∷ 1 ∷ zeros 9
+abbrev pub identification : List ℕ
+identification = 0x7f ∷ 0x45 ∷ 0x4c ∷ 0x46 ∷ 1 ∷ 1 ∷ 1 ∷ replicate 9 0
 
 -- the header of an executable for RISC-V that starts at `entry`, with one program header and no sections
-unfoldable pub elf_header : ℕ → List ℕ
+abbrev pub elf_header : ℕ → List ℕ
 elf_header entry =
     identification
     ++ half 2  -- e_type: ET_EXEC
@@ -62,10 +62,10 @@ elf_header entry =
     ++ half 0  -- e_shstrndx
 
 -- the header of a segment of `size` bytes that stands behind the two headers and goes to `base`
-unfoldable pub program_header : ℕ → ℕ → List ℕ
+abbrev pub program_header : ℕ → ℕ → List ℕ
 program_header base size =
     word 1  -- p_type: PT_LOAD
-    ++ word 84  -- p_offset
+    ++ word HEADERS_SIZE  -- p_offset
     ++ word base  -- p_vaddr
     ++ word base  -- p_paddr
     ++ word size  -- p_filesz
@@ -89,11 +89,11 @@ abbrev pub words_of : List ℕ → List ℕ
 words_of (a ∷ b ∷ c ∷ d ∷ bytes) = little_number 4 (a ∷ b ∷ c ∷ d ∷ []) ∷ words_of bytes
 words_of _ = []
 
--- what stands behind the headers
+-- what stands behind the headers of a file
 abbrev pub code_of : List ℕ → List ℕ
 code_of bytes = drop HEADERS_SIZE bytes
 
--- the bytes are an executable of one segment that goes to the start of RAM, of whole words that fit there
+-- the file is an executable of one segment, of whole words, which goes to the start of RAM and fits there
 pub record IsOneSegment (bytes : List ℕ) (pages : ℕ) : Type 0 where
   pub written : bytes ≡ elf_of RAM_BASE (code_of bytes)
   pub whole_words : length (code_of bytes) % 4 ≡ 0
@@ -118,11 +118,11 @@ image_of code pages =
       segments = segment_pages (length code) pages;
     }
 
--- what loading gives, none exactly where the bytes have another form
+-- what loading a file gives, none exactly where it has another form
 unfoldable pub loaded : List ℕ → ℕ → Option Image
 loaded bytes pages = if is_one_segment bytes pages then Some (image_of (code_of bytes) pages) else None
 
--- when each error comes. Want of memory may come always
+-- when each error comes. Out of memory may come at any time
 abbrev pub IsRefused : List ℕ → ℕ → ImageError → Type 0
 IsRefused bytes pages (Refused number) = (number ≡ FORM_NOT_BUILT) × (loaded bytes pages ≡ None)
 IsRefused bytes pages Memory = ⊤

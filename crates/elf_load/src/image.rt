@@ -36,6 +36,7 @@ impl Model for Loaded {
 
 impl Loaded {
     /// The bytes of RAM, in whole pages.
+    #[inline]
     pub fn ram(&self) -> &[u8]
         ensures value { result.now ≡ self.now.ram }
         ensures whole_pages { length self.now.ram % PAGE_SIZE ≡ 0 }
@@ -46,6 +47,7 @@ impl Loaded {
     }
 
     /// The address of the first instruction, which is in RAM.
+    #[inline]
     pub fn entry(&self) -> u32
         ensures value { result ≡ self.now.entry }
         ensures aligned { result % 4 ≡ 0 }
@@ -56,6 +58,7 @@ impl Loaded {
     }
 
     /// How many pages RAM has.
+    #[inline]
     pub fn pages(&self) -> u32
         ensures value { PAGE_SIZE * result ≡ length self.now.ram }
         ensures least { MIN_PAGES ≤ result }
@@ -65,6 +68,7 @@ impl Loaded {
     }
 
     /// For each page, whether a byte of a segment falls in it. The other pages are zeros.
+    #[inline]
     pub fn segments(&self) -> &[bool]
         ensures value { result.now ≡ self.now.segments }
         ensures one_a_page { PAGE_SIZE * length self.now.segments ≡ length self.now.ram }

@@ -58,7 +58,7 @@ fn accepted_code(bytes: &[u8], ram_pages: u32) -> Option<&[u8]>
 }
 
 /// The headers of an executable whose one segment, of `size` bytes, goes to `RAM_BASE`.
-#[tactic(auto, unfolding(crate::specs::Image::headers, crate::specs::Image::elf_header, crate::specs::Image::program_header, crate::specs::Image::identification, flat_memory::specs::Flat::zeros))]
+#[tactic(auto, unfolding(crate::specs::Image::headers))]
 fn headers_of(size: u32) -> [u8; HEADERS_SIZE]
     ensures { result ≡ headers RAM_BASE size }
 {
@@ -135,14 +135,20 @@ mod tests {
     use std::test::Fail;
 
     // A program that exits with 7, and a byte that is not part of its image.
+    #[rattlefmt::skip]
     const EXIT_SEVEN_AND_A_BYTE: [u8; 105] = [
         0x7f, 0x45, 0x4c, 0x46, 0x01, 0x01, 0x01, 0x00, 0x00, 0x00, 0x00, 0x00, 0x00, 0x00, 0x00,
         0x00, 0x02, 0x00, 0xf3, 0x00, 0x01, 0x00, 0x00, 0x00, 0x00, 0x00, 0x00, 0x80, 0x34, 0x00,
         0x00, 0x00, 0x00, 0x00, 0x00, 0x00, 0x00, 0x00, 0x00, 0x00, 0x34, 0x00, 0x20, 0x00, 0x01,
         0x00, 0x00, 0x00, 0x00, 0x00, 0x00, 0x00, 0x01, 0x00, 0x00, 0x00, 0x54, 0x00, 0x00, 0x00,
         0x00, 0x00, 0x00, 0x80, 0x00, 0x00, 0x00, 0x80, 0x14, 0x00, 0x00, 0x00, 0x14, 0x00, 0x00,
-        0x00, 0x07, 0x00, 0x00, 0x00, 0x04, 0x00, 0x00, 0x00, 0xb7, 0x22, 0x00, 0x10, 0x13, 0x03,
-        0x70, 0x00, 0x23, 0xa0, 0x62, 0x00, 0x13, 0x03, 0x50, 0x00, 0x23, 0xa4, 0x62, 0x00, 0x00,
+        0x00, 0x07, 0x00, 0x00, 0x00, 0x04, 0x00, 0x00, 0x00,
+        0xb7, 0x22, 0x00, 0x10,
+        0x13, 0x03, 0x70, 0x00,
+        0x23, 0xa0, 0x62, 0x00,
+        0x13, 0x03, 0x50, 0x00,
+        0x23, 0xa4, 0x62, 0x00,
+        0x00,
     ];
 
     #[test]
@@ -150,32 +156,19 @@ mod tests {
         let loaded = load_elf(rt.alloc(), &EXIT_SEVEN_AND_A_BYTE[..104], 64)?;
         assert_eq!(rt; loaded.entry(), 0x8000_0000);
         assert_eq!(rt; loaded.pages(), 64);
-        assert_eq!(rt; loaded.ram().len(), 64 * 4096);
         assert_eq!(rt;
-            loaded
-                .ram()
-                .iter()
-                .take(5)
-                .copied()
-                .eq([0xb7, 0x22, 0x00, 0x10, 0x13]),
-            true
+            &loaded.ram()[..5],
+            [0xb7, 0x22, 0x00, 0x10, 0x13].as_slice()
         );
-        assert_eq!(rt;
-            loaded.segments().iter().filter(|touched| **touched).count(),
-            1
-        );
+        assert_eq!(rt; &loaded.segments()[..2], [true, false].as_slice());
         Ok(())
     }
 
     #[test]
     fn refuses_other_images(rt: HostRuntime) {
         for len in [0, 103, 105] {
-            let answer = load_elf(rt.alloc(), &EXIT_SEVEN_AND_A_BYTE[..len], 64);
-            assert_eq!(rt;
-                answer.err(),
-                Some(ImageError::Refused(14)),
-                "at {len} bytes"
-            );
+            let refusal = load_elf(rt.alloc(), &EXIT_SEVEN_AND_A_BYTE[..len], 64).err();
+            assert_eq!(rt; refusal, Some(ImageError::Refused(14)), "at {len} bytes");
         }
     }
 }

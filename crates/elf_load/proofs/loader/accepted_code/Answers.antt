@@ -1,7 +1,6 @@
-use Rattle.std.proofs.Common.{◌<◌, ◌≤◌, length, ap, sym, ◌∙◌, arith, rules}
+use Rattle.std.proofs.Common.{length, ap, sym, ◌∙◌, arith}
 use Rattle.std.proofs.lemmas.Slice.Eq.{bytes_eq-Decides}
 use Rattle.std.proofs.lemmas.Bool.Decides.{not_from_Decides}
-use Rattle.elf_load.specs.Image.{headers}
 use Rattle.elf_load.proofs.OneSegment.{long_from_written, headers_from_written, loaded-other, loaded_from_parts}
 use Rattle.elf_load.proofs.loader.accepted_code.Goals as goal
 use Rattle.elf_load.proofs.loader.accepted_code.Goals.{then-code-ne0-via-then-code-ne0, then-code-ne0-via-else-code-ne0+then-code-ram_pages}

@@ -1,0 +1,138 @@
+//! A shelf and a sink in memory, for tests: they tell all that they hold, and fail when they are told.
+
+ghost use Rattle.std.specs.Prelude.{◌≡◌, ◌≤◌, [], IfOk};
+ghost use Rattle.std.specs.Option.{option_copied};
+ghost use Rattle.snow_main.specs.Files.{file_named};
+
+use crate::outside::{Shelf, ShelfError, Sink, WriteFault};
+use std::alloc::{AllocError, Global};
+use std::marker::Model;
+
+/// Files in memory. A call that is listed as failing, counted from 1, is a fault, and so is a name
+/// that no file has.
+#[derive(Drop)]
+pub struct MemShelf {
+    files: Vec<(String, Vec<u8>)>,
+    failing: Vec<u64>,
+    calls: u64,
+    faults: u64,
+}
+
+impl MemShelf {
+    pub fn new(files: Vec<(String, Vec<u8>)>, failing: Vec<u64>) -> MemShelf {
+        MemShelf {
+            files,
+            failing,
+            calls: 0,
+            faults: 0,
+        }
+    }
+}
+
+impl Shelf for MemShelf {
+    ghost use Rattle.std.specs.Prelude.{Some};
+    ghost use Rattle.snow_main.specs.Files.{file_named};
+
+    ghost files = { λ s. Some (file_named s.files.items) };
+
+    ghost faults = { λ s. s.faults };
+
+    fn load(&mut self, alloc: Global, name: &str, at_most: usize) -> Result<Vec<u8>, ShelfError> {
+        self.calls = self.calls.saturating_add(1);
+        if self.failing.contains(&self.calls) {
+            self.faults = self.faults.saturating_add(1);
+            return Err(ShelfError::Fault);
+        }
+        let Some(bytes) = find(&self.files, name) else {
+            self.faults = self.faults.saturating_add(1);
+            return Err(ShelfError::Fault);
+        };
+        if bytes.len() > at_most {
+            return Err(ShelfError::TooLong);
+        }
+        match Vec::from_slice(alloc, bytes) {
+            Ok(copy) => Ok(copy),
+            Err(AllocError) => Err(ShelfError::Memory),
+        }
+    }
+}
+
+/// The bytes of the first file of a name.
+fn find<'a>(files: &'a [(String, Vec<u8>)], name: &str) -> Option<&'a [u8]>
+    ensures { option_copied result ≡ file_named files.now name.now }
+{
+    for (other, bytes) in files {
+        if other.as_str() == name {
+            return Some(bytes.as_slice());
+        }
+    }
+    None
+}
+
+/// Bytes in memory. It takes at most `most` bytes a call, and `room` bytes in all. A call that is
+/// listed as failing, counted from 1, is a fault, and so is one that finds no room left.
+#[derive(Drop)]
+pub struct MemSink {
+    bytes: Vec<u8>,
+    most: usize,
+    room: usize,
+    failing: Vec<u64>,
+    calls: u64,
+    faults: u64,
+}
+
+impl Model for MemSink {
+    ghost use Rattle.std.specs.Prelude.{◌≤◌, ◌<◌, vec_len, vec_capacity};
+    ghost use Rattle.snow_main.specs.Gone.{Kept};
+
+    ghost Value = { Kept };
+
+    ghost view = { λ s. record { bytes = s.bytes.items; faults = s.faults } };
+
+    ghost invariant = { λ s. (0 < s.most) × (vec_len s.bytes ≤ s.room) × (s.room ≤ vec_capacity s.bytes) };
+}
+
+impl MemSink {
+    /// An empty sink, whose room is taken now.
+    pub fn new(alloc: Global, most: usize, room: usize, failing: Vec<u64>) -> Result<MemSink, AllocError>
+        requires { 1 ≤ most }
+        ensures { IfOk result (λ sink. sink ≡ record { bytes = []; faults = 0 }) }
+    {
+        Ok(MemSink {
+            bytes: Vec::with_capacity(alloc, room)?,
+            most,
+            room,
+            failing,
+            calls: 0,
+            faults: 0,
+        })
+    }
+
+    /// The bytes that are gone.
+    pub fn bytes(&self) -> &[u8]
+        ensures { result.now ≡ self.now.bytes }
+    {
+        &self.bytes
+    }
+}
+
+impl Sink for MemSink {
+    ghost use Rattle.std.specs.Prelude.{Some};
+
+    ghost gone = { λ s. Some s.bytes };
+
+    ghost faults = { λ s. s.faults };
+
+    fn put(&mut self, piece: &[u8]) -> Result<usize, WriteFault> {
+        self.calls = self.calls.saturating_add(1);
+        let left = self.room - self.bytes.len();
+        if self.failing.contains(&self.calls) || left == 0 && !piece.is_empty() {
+            self.faults = self.faults.saturating_add(1);
+            return Err(WriteFault);
+        }
+        let n = piece.len().min(self.most).min(left);
+        let (taken, _) = piece.split_at(n);
+        self.bytes.extend_from_slice(taken).unwrap();
+        Ok(n)
+    }
+}
