@@ -2,7 +2,7 @@
 
 ghost use Rattle.std.specs.Prelude.{◌≡◌, ◌≤◌, [], IfOk};
 ghost use Rattle.std.specs.Option.{option_copied};
-ghost use Rattle.snow_main.specs.Files.{file_named};
+ghost use Rattle.snow_main.specs.Files.{file_named, named};
 
 use crate::outside::{Shelf, ShelfError, Sink, WriteFault};
 use std::alloc::{AllocError, Global};
@@ -18,8 +18,18 @@ pub struct MemShelf {
     faults: u64,
 }
 
+impl Model for MemShelf {
+    ghost use Rattle.snow_main.specs.Files.{Shelved, named};
+
+    ghost Value = { Shelved };
+
+    ghost view = { λ s. record { files = named s.files.items; failing = s.failing.items; calls = s.calls; faults = s.faults } };
+}
+
 impl MemShelf {
-    pub fn new(files: Vec<(String, Vec<u8>)>, failing: Vec<u64>) -> MemShelf {
+    pub fn new(files: Vec<(String, Vec<u8>)>, failing: Vec<u64>) -> MemShelf
+        ensures { result ≡ record { files = named files.items; failing = failing.items; calls = 0; faults = 0 } }
+    {
         MemShelf {
             files,
             failing,
@@ -33,33 +43,34 @@ impl Shelf for MemShelf {
     ghost use Rattle.std.specs.Prelude.{Some};
     ghost use Rattle.snow_main.specs.Files.{file_named};
 
-    ghost files = { λ s. Some (file_named s.files.items) };
+    ghost files = { λ s. Some (file_named s.files) };
 
     ghost faults = { λ s. s.faults };
 
     fn load(&mut self, alloc: Global, name: &str, at_most: usize) -> Result<Vec<u8>, ShelfError> {
         self.calls = self.calls.saturating_add(1);
-        if self.failing.contains(&self.calls) {
-            self.faults = self.faults.saturating_add(1);
-            return Err(ShelfError::Fault);
-        }
-        let Some(bytes) = find(&self.files, name) else {
-            self.faults = self.faults.saturating_add(1);
-            return Err(ShelfError::Fault);
+        let found = if self.failing.contains(&self.calls) {
+            None
+        } else {
+            find(&self.files, name)
         };
-        if bytes.len() > at_most {
-            return Err(ShelfError::TooLong);
-        }
-        match Vec::from_slice(alloc, bytes) {
-            Ok(copy) => Ok(copy),
-            Err(AllocError) => Err(ShelfError::Memory),
+        match found {
+            None => {
+                self.faults = self.faults.saturating_add(1);
+                Err(ShelfError::Fault)
+            }
+            Some(bytes) if bytes.len() > at_most => Err(ShelfError::TooLong),
+            Some(bytes) => match Vec::from_slice(alloc, bytes) {
+                Ok(copy) => Ok(copy),
+                Err(AllocError) => Err(ShelfError::Memory),
+            },
         }
     }
 }
 
 /// The bytes of the first file of a name.
 fn find<'a>(files: &'a [(String, Vec<u8>)], name: &str) -> Option<&'a [u8]>
-    ensures { option_copied result ≡ file_named files.now name.now }
+    ensures { option_copied result ≡ file_named (named files.now) name.now }
 {
     for (other, bytes) in files {
         if other.as_str() == name {

@@ -42,6 +42,20 @@ pub struct Status {
 }
 
 impl Status {
+    /// The words have no meaning.
+    pub const USAGE: Status = Status {
+        code: 2,
+        first: 0,
+        second: 0,
+    };
+
+    /// Want of memory.
+    pub const OUT_OF_MEMORY: Status = Status {
+        code: 6,
+        first: 0,
+        second: 0,
+    };
+
     fn new(code: u8, first: u32) -> Status
         ensures { result ≡ record { code = code; first = first; second = 0 } }
     {
