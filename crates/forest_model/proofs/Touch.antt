@@ -58,7 +58,7 @@ page_of-begins : (ram : List ℕ) (address : ℕ) → is_in_ram ram address ≡ 
 page_of-begins ram address in_ram = grind (arith, nat_tests)
 
 begins-access_page : (ram : List ℕ) (address : ℕ) (aligned in_ram : Bool) → is_in_ram ram address ≡ in_ram
-  → IfSome (cond (aligned && in_ram) (Some (page_of address)) None) (λ page. PAGE_SIZE * page < length ram)
+    → IfSome (cond (aligned && in_ram) (Some (page_of address)) None) (λ page. PAGE_SIZE * page < length ram)
 begins-access_page ram address false in_ram e = tt
 begins-access_page ram address true false e = tt
 begins-access_page ram address true true e = page_of-begins ram address e
@@ -70,12 +70,12 @@ begins-data_page store i s =
     begins-access_page s.ram address (eqb (address % length (stored_bytes i s)) 0) (is_in_ram s.ram address) refl
 
 IsPages-both : (ram : List ℕ) (code page : ℕ) (same : Bool) → eqb page code ≡ same → PAGE_SIZE * code < length ram → PAGE_SIZE * page < length ram
-  → IsPages ram (cond same (code ∷ []) (code ∷ page ∷ []))
+    → IsPages ram (cond same (code ∷ []) (code ∷ page ∷ []))
 IsPages-both ram code page true e begins begins_too = IsPages-one ram code begins
 IsPages-both ram code page false e begins begins_too = IsPages-two ram code page begins begins_too (grind (arith, nat_tests))
 
 IsPages-code_and_data : (ram : List ℕ) (code : ℕ) (page : Option ℕ) → PAGE_SIZE * code < length ram → IfSome page (λ page. PAGE_SIZE * page < length ram)
-  → IsPages ram (code_and_data code page)
+    → IsPages ram (code_and_data code page)
 IsPages-code_and_data ram code None begins begins_too = IsPages-one ram code begins
 IsPages-code_and_data ram code (Some page) begins begins_too = IsPages-both ram code page (eqb page code) refl begins begins_too
 
@@ -83,7 +83,7 @@ IsPages-decoded : (i : Option Instruction) (s : State) → is_in_ram s.ram s.pc 
 IsPages-decoded None s in_ram = IsPages-one s.ram (page_of s.pc) (page_of-begins s.ram s.pc in_ram)
 IsPages-decoded (Some i) s in_ram =
     IsPages-code_and_data s.ram (page_of s.pc) (data_page (group_of i.kind) i s)
-      (page_of-begins s.ram s.pc in_ram) (begins-data_page (group_of i.kind) i s)
+    (page_of-begins s.ram s.pc in_ram) (begins-data_page (group_of i.kind) i s)
 
 IsPages-fetch : (in_ram : Bool) (s : State) → is_in_ram s.ram s.pc ≡ in_ram → IsPages s.ram (touch_fetch in_ram s)
 IsPages-fetch false s e = IsPages-nil s.ram
@@ -113,7 +113,7 @@ Leaves at s action = get_or (ram_after action s) at 0 ≡ get_or s.ram at 0
 
 -- a page other than that of an aligned store has none of its bytes
 outside : (width at address : ℕ) → (width ≡ 1) ⊎ (width ≡ 4) → address % width ≡ 0 → RAM_BASE ≤ address → at / PAGE_SIZE ≢ page_of address
-  → (at < address - RAM_BASE) ⊎ (address - RAM_BASE + width ≤ at)
+    → (at < address - RAM_BASE) ⊎ (address - RAM_BASE + width ≤ at)
 outside width at address (inl one) aligned from_base other = grind arith
 outside width at address (inr four) aligned from_base other =
     let by_four : address % 4 ≡ 0 = subst (λ w. address % w ≡ 0) four aligned in
@@ -130,17 +130,17 @@ Leaves-port_action at (Some stored) address s =
 
 -- a store of one byte or four leaves each byte outside its page
 Leaves-place_action : (at : ℕ) (in_ram : Bool) (address : ℕ) (bytes : List ℕ) (word : ℕ) (s : State) → is_in_ram s.ram address ≡ in_ram
-  → (length bytes ≡ 1) ⊎ (length bytes ≡ 4) → address % length bytes ≡ 0
-  → ((page : ℕ) → cond in_ram (Some (page_of address)) None ≡ Some page → at / PAGE_SIZE ≢ page) → Leaves at s (place_action in_ram address bytes word s)
+    → (length bytes ≡ 1) ⊎ (length bytes ≡ 4) → address % length bytes ≡ 0
+    → ((page : ℕ) → cond in_ram (Some (page_of address)) None ≡ Some page → at / PAGE_SIZE ≢ page) → Leaves at s (place_action in_ram address bytes word s)
 Leaves-place_action at false address bytes word s e widths aligned other = Leaves-port_action at (port_store s.ports address (length bytes) word) address s
 Leaves-place_action at true address bytes word s e widths aligned other =
     get_or-put_bytes_outside s.ram bytes (address - RAM_BASE) at (grind (arith, nat_tests))
-      (outside (length bytes) at address widths aligned (grind (arith, nat_tests)) (other (page_of address) refl))
+    (outside (length bytes) at address widths aligned (grind (arith, nat_tests)) (other (page_of address) refl))
 
 Leaves-aligned_action : (at : ℕ) (aligned : Bool) (address : ℕ) (bytes : List ℕ) (word : ℕ) (s : State) → eqb (address % length bytes) 0 ≡ aligned
-  → (length bytes ≡ 1) ⊎ (length bytes ≡ 4)
-  → ((page : ℕ) → cond (aligned && is_in_ram s.ram address) (Some (page_of address)) None ≡ Some page → at / PAGE_SIZE ≢ page)
-  → Leaves at s (aligned_action aligned address bytes word s)
+    → (length bytes ≡ 1) ⊎ (length bytes ≡ 4)
+    → ((page : ℕ) → cond (aligned && is_in_ram s.ram address) (Some (page_of address)) None ≡ Some page → at / PAGE_SIZE ≢ page)
+    → Leaves at s (aligned_action aligned address bytes word s)
 Leaves-aligned_action at false address bytes word s e widths other = refl
 Leaves-aligned_action at true address bytes word s e widths other =
     Leaves-place_action at (is_in_ram s.ram address) address bytes word s refl widths (eqb-true (address % length bytes) 0 e) other
@@ -152,26 +152,26 @@ length-store_bytes Sb value h = inl refl
 length-store_bytes Sw value h = inr refl
 
 Leaves-execute_group : (at : ℕ) (group : Group) (i : Instruction) (s : State) → group_of i.kind ≡ group
-  → ((page : ℕ) → data_page group i s ≡ Some page → at / PAGE_SIZE ≢ page) → Leaves at s (execute_group group i s)
+    → ((page : ℕ) → data_page group i s ≡ Some page → at / PAGE_SIZE ≢ page) → Leaves at s (execute_group group i s)
 unfolding computed_immediate stored store_action
 Leaves-execute_group at compute_immediate i s e other = refl
 Leaves-execute_group at store i s e other =
     Leaves-aligned_action at (eqb (data_address i s % length (stored_bytes i s)) 0) (data_address i s) (stored_bytes i s) (register s.registers i.rs2) s refl
-      (length-store_bytes i.kind (register s.registers i.rs2) e) other
+    (length-store_bytes i.kind (register s.registers i.rs2) e) other
 
 Contains-both : (code page : ℕ) (same : Bool) → eqb page code ≡ same → Contains (cond same (code ∷ []) (code ∷ page ∷ [])) page
 Contains-both code page true e = (0, omega arith, sym (eqb-true page code e))
 Contains-both code page false e = (1, omega arith, refl)
 
 Leaves-decoded : (at : ℕ) (decoded : Option Instruction) (word : ℕ) (s : State)
-  → (Contains (touch_decoded decoded s) (at / PAGE_SIZE) → ⊥) → Leaves at s (decoded_action decoded word s)
+    → (Contains (touch_decoded decoded s) (at / PAGE_SIZE) → ⊥) → Leaves at s (decoded_action decoded word s)
 unfolding execute
 Leaves-decoded at None word s not_touched = refl
 Leaves-decoded at (Some i) word s not_touched =
     let code : ℕ = page_of s.pc in
     Leaves-execute_group at (group_of i.kind) i s refl (λ page e same.
-      let listed : Contains (code_and_data code (Some page)) page = Contains-both code page (eqb page code) refl in
-      not_touched (subst (λ p. Contains (code_and_data code p) (at / PAGE_SIZE)) (sym e) (subst (Contains (code_and_data code (Some page))) (sym same) listed)))
+    let listed : Contains (code_and_data code (Some page)) page = Contains-both code page (eqb page code) refl in
+    not_touched (subst (λ p. Contains (code_and_data code p) (at / PAGE_SIZE)) (sym e) (subst (Contains (code_and_data code (Some page))) (sym same) listed)))
 
 Leaves-fetch : (at : ℕ) (in_ram : Bool) (s : State) → (Contains (touch_fetch in_ram s) (at / PAGE_SIZE) → ⊥) → Leaves at s (fetch_action in_ram s)
 Leaves-fetch at false s not_touched = refl
@@ -187,7 +187,7 @@ ram-applied (retire s) m = refl
 ram-applied (exit value s) m = refl
 
 advance_from-leaves : (at : ℕ) (ending : Option Ending) (m : Machine) → (Contains (touch_from ending m.state) (at / PAGE_SIZE) → ⊥)
-  → get_or (advance_from ending m).state.ram at 0 ≡ get_or m.state.ram at 0
+    → get_or (advance_from ending m).state.ram at 0 ≡ get_or m.state.ram at 0
 advance_from-leaves at None m not_touched = ap (λ ram. get_or ram at 0) (ram-applied (action m.state) m) ∙ Leaves-action at m.state not_touched
 advance_from-leaves at (Some ending) m not_touched = refl
 

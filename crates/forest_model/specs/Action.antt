@@ -29,7 +29,7 @@ immediate i = cast_unsigned w32 i.imm
 unfoldable pub computed_immediate : Instruction → State → Action
 computed_immediate i s =
     retire (at_next_instruction (record s {
-      registers = with_register s.registers i.rd (alu i.kind (register s.registers i.rs1) (immediate i))
+      registers = with_register s.registers i.rd (alu i.kind (register s.registers i.rs1) (immediate i));
     }))
 
 -- the address of a load or a store

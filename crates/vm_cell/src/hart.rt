@@ -52,11 +52,12 @@ impl Hart {
     /// A hart at the entry of an image.
     #[tactic(auto, unfolding(forest_model::specs::Machine::registers_at_start))]
     pub fn new(alloc: Global, image: &Loaded) -> Result<Hart, AllocError>
-        ensures {
-            IfOk result (λ hart. hart ≡ record {
-                registers = registers_at_start; pc = image.now.entry; ram = image.now.ram; ports = ports_at_start
-            })
-        }
+        ensures { IfOk result (λ hart. hart ≡ record {
+          registers = registers_at_start;
+          pc = image.now.entry;
+          ram = image.now.ram;
+          ports = ports_at_start;
+        }) }
     {
         Ok(Hart {
             registers: [0; 32],
@@ -144,7 +145,9 @@ impl Hart {
         ensures acts { Acts self.old self.new (stored instr self.old) result }
         ensures memory { OnErr result (Grows (stored instr self.old) self.old) }
     {
-        let address = self.register(instr.rs1()).wrapping_add(instr.imm().cast_unsigned());
+        let address = self
+            .register(instr.rs1())
+            .wrapping_add(instr.imm().cast_unsigned());
         let value = self.register(instr.rs2());
         match instr.kind() {
             Kind::Sb => self.store_to(address, value, &[(value % 256) as u8]),
@@ -179,12 +182,7 @@ impl Hart {
     }
 
     /// Stores the low `width` bytes of `word` to a port.
-    fn store_to_port(
-        &mut self,
-        address: u32,
-        width: u32,
-        word: u32,
-    ) -> Result<Acted, AllocError>
+    fn store_to_port(&mut self, address: u32, width: u32, word: u32) -> Result<Acted, AllocError>
         ensures acts { Acts self.old self.new (port_action (port_store self.old.ports address width word) address self.old) result }
         ensures memory { OnErr result (Grows (port_action (port_store self.old.ports address width word) address self.old) self.old) }
     {
@@ -215,7 +213,11 @@ impl Hart {
             return None;
         }
         let offset = (address - RAM_BASE) as usize;
-        if offset < self.ram.len() { Some(offset) } else { None }
+        if offset < self.ram.len() {
+            Some(offset)
+        } else {
+            None
+        }
     }
 
     #[inline]

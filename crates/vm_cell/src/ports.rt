@@ -3,7 +3,8 @@ ghost use Rattle.forest_model.specs.Ports.{console_store, fork_store, port_store
 
 use forest_model::Effect;
 use forest_model::port_map::{
-    CONSOLE_BASE, CONSOLE_DATA, CONSOLE_SIZE, EXIT_COMMAND, FORK_ARGUMENT, FORK_BASE, FORK_COMMAND, FORK_SIZE,
+    CONSOLE_BASE, CONSOLE_DATA, CONSOLE_SIZE, EXIT_COMMAND, FORK_ARGUMENT, FORK_BASE, FORK_COMMAND,
+    FORK_SIZE,
 };
 use std::alloc::{AllocError, AllocFailed, Global};
 use std::marker::Model;
@@ -85,10 +86,8 @@ impl ConsolePort {
         ensures fault { IsErrOf result PortError.Fault ↔ (console_store self.old offset width word ≡ None) }
         ensures err { OnErr result (self.new ≡ self.old) }
         // Memory is wanted where a byte goes to the output.
-        ensures memory {
-            IsErrOf result PortError.Memory
-            → IsSomeAnd (console_store self.old offset width word) (λ c. length self.old.output < length c.output)
-        }
+        ensures memory { IsErrOf result PortError.Memory
+            → IsSomeAnd (console_store self.old offset width word) (λ c. length self.old.output < length c.output) }
     {
         if offset != CONSOLE_DATA || width != 1 {
             return Err(PortError::Fault);
@@ -121,9 +120,7 @@ impl ForkPort {
 
     /// Stores the low `width` bytes of `word`.
     pub fn store(&mut self, offset: u32, width: u32, word: u32) -> Result<Effect, Fault>
-        ensures ok {
-            IfOk result (λ effect. fork_store self.old offset width word ≡ Some (record { fork = self.new; effect = effect }))
-        }
+        ensures ok { IfOk result (λ effect. fork_store self.old offset width word ≡ Some (record { fork = self.new; effect = effect })) }
         ensures fault { OnErr result (fork_store self.old offset width word ≡ None) }
         ensures err { OnErr result (self.new ≡ self.old) }
     {
@@ -180,16 +177,12 @@ impl Ports {
     /// Stores the low `width` bytes of `word` to the port that `address` is of.
     #[tactic(auto, unfolding(forest_model::specs::Ports::port_store))]
     pub fn store(&mut self, address: u32, width: u32, word: u32) -> Result<Effect, PortError>
-        ensures ok {
-            IfOk result (λ effect. port_store self.old address width word ≡ Some (record { ports = self.new; effect = effect }))
-        }
+        ensures ok { IfOk result (λ effect. port_store self.old address width word ≡ Some (record { ports = self.new; effect = effect })) }
         ensures fault { IsErrOf result PortError.Fault ↔ (port_store self.old address width word ≡ None) }
         ensures err { OnErr result (self.new ≡ self.old) }
-        ensures memory {
-            IsErrOf result PortError.Memory
+        ensures memory { IsErrOf result PortError.Memory
             → IsSomeAnd (port_store self.old address width word)
-                (λ s. (s.effect ≡ Effect.Done) × (length self.old.console.output < length s.ports.console.output))
-        }
+            (λ s. (s.effect ≡ Effect.Done) × (length self.old.console.output < length s.ports.console.output)) }
     {
         if (CONSOLE_BASE..CONSOLE_BASE + CONSOLE_SIZE).contains(&address) {
             self.console.store(address - CONSOLE_BASE, width, word)?;
