@@ -1,5 +1,5 @@
 -- A memory is one flat list of bytes. Numbers lie in it little endian, the lowest byte first.
-use Rattle.std.specs.Prelude.{ℕ, suc, zero, ◌+◌, List, ◌++◌, length, take, drop, replicate}
+use Rattle.std.specs.Prelude.{ℕ, ◌+◌, List, ◌++◌, length, take, drop, replicate}
 use Rattle.byteorder.specs.Endian.{little_from}
 
 -- the number in the four bytes from `at`

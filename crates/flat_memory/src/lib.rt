@@ -1,6 +1,8 @@
 //! Flat little-endian memory: what a word at an offset is, and what a write does to the list of bytes.
 #![tactic(auto)]
 
+pub mod laws;
+
 ghost use Rattle.std.specs.Prelude.{◌≡◌, ◌+◌, ◌≤◌, length};
 ghost use Rattle.flat_memory.specs.Flat.{word_at, half_at, put_bytes};
 

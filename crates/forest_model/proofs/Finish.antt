@@ -4,7 +4,7 @@ use Rattle.forest_model.specs.declared.Ending.{Ending}
 use Rattle.forest_model.specs.declared.Ending.TheVariants.{Exit, Limit, Fault}
 use Rattle.forest_model.specs.State.{State}
 use Rattle.forest_model.specs.Action.{Action, trap, retire, exit, action}
-use Rattle.forest_model.specs.Machine.{Machine, IsWithinLimit, advance, advance_from, applied, after_steps, finish}
+use Rattle.forest_model.specs.Machine.{Machine, IsWithinLimit, Next, exception, next_of, next, advance, advance_from, applied, after_steps, finish}
 
 -- an ended machine stays as it is
 pub advance-ended : (m : Machine) (e : Ending) → m.ending ≡ Some e → advance m ≡ m
@@ -59,6 +59,29 @@ steps-applied (exit value s) m = refl
 pub steps-advance : (m : Machine) → m.ending ≡ None → (advance m).steps ≡ m.steps + 1
 steps-advance m h = ap (λ (n : Machine). n.steps) (advance-live m h) ∙ steps-applied (action m.state) m
 
+-- a step is an exception exactly where it ends the machine by a fault
+applied-exception : (a : Action) (m : Machine) (cause value : ℕ) → next_of a ≡ exception cause value
+    → applied a m ≡ record m { steps = m.steps + 1; ending = Some (Fault cause) }
+applied-exception (trap cause value) m c v h = let same : cause ≡ c = cc in ap (λ k. applied (trap k value) m) same
+applied-exception (retire s) m c v h = absurd (cc)
+applied-exception (exit value s) m c v h = absurd (cc)
+
+no-fault-limited : (reached : Bool) (cause : ℕ) → cond reached (Some Limit) None ≡ Some (Fault cause) → ⊥
+no-fault-limited true cause h = cc
+no-fault-limited false cause h = cc
+
+next_of-fault : (a : Action) (m : Machine) (cause : ℕ) → (applied a m).ending ≡ Some (Fault cause) → (value : ℕ) × (next_of a ≡ exception cause value)
+next_of-fault (trap cause value) m c h = let same : cause ≡ c = cc in (value, ap (λ k. exception k value) same)
+next_of-fault (retire s) m c h = absurd (no-fault-limited (eqb (m.steps + 1) m.limit) c h)
+next_of-fault (exit value s) m c h = absurd (cc)
+
+pub advance-exception : (m : Machine) (cause value : ℕ) → m.ending ≡ None → next m ≡ exception cause value
+    → advance m ≡ record m { steps = m.steps + 1; ending = Some (Fault cause) }
+advance-exception m cause value live h = advance-live m live ∙ applied-exception (action m.state) m cause value h
+
+pub next-fault : (m : Machine) (cause : ℕ) → m.ending ≡ None → (advance m).ending ≡ Some (Fault cause) → (value : ℕ) × (next m ≡ exception cause value)
+next-fault m cause live h = next_of-fault (action m.state) m cause (ap (λ (n : Machine). n.ending) (sym (advance-live m live)) ∙ h)
+
 -- a machine that lives after a step is below its limit
 below-limited : (reached : Bool) (steps limit : ℕ) → eqb steps limit ≡ reached → steps ≤ limit → cond reached (Some Limit) None ≡ None → steps < limit
 below-limited true steps limit e h live = cc
@@ -84,9 +107,9 @@ cases-ending (Some ending) = inl (ending, refl)
 
 pub IsWithinLimit-advance : (m : Machine) → IsWithinLimit m → IsWithinLimit (advance m)
 IsWithinLimit-advance m h = elim (cases-ending m.ending) [
-    inl ended ↦ subst IsWithinLimit (sym (advance-ended m ended.0 ended.1)) h
+  | inl ended ↦ subst IsWithinLimit (sym (advance-ended m ended.0 ended.1)) h
   | inr live ↦ IsWithinLimit-live m live (h live)
-  ]
+]
 
 pub IsWithinLimit-after_steps : (n : ℕ) (m : Machine) → IsWithinLimit m → IsWithinLimit (after_steps n m)
 unfolding after_steps
@@ -117,16 +140,16 @@ finish-after_steps n m e fits h =
 ended-after_steps : (n : ℕ) (m : Machine) → IsWithinLimit m → m.limit ≤ m.steps + n → IsSome (after_steps n m).ending
 unfolding after_steps
 ended-after_steps zero m h reached = elim (cases-ending m.ending) [
-    inl ended ↦ subst IsSome (sym ended.1) refl
+  | inl ended ↦ subst IsSome (sym ended.1) refl
   | inr live ↦ let below : m.steps < m.limit = h live in absurd (omega arith)
-  ]
+]
 ended-after_steps (suc n) m h reached = elim (cases-ending m.ending) [
-    inl ended ↦ subst (λ (k : Machine). IsSome k.ending) (sym (after_steps-ended (suc n) m ended.0 ended.1)) (subst IsSome (sym ended.1) refl)
+  | inl ended ↦ subst (λ (k : Machine). IsSome k.ending) (sym (after_steps-ended (suc n) m ended.0 ended.1)) (subst IsSome (sym ended.1) refl)
   | inr live ↦
       let steps : (advance m).steps ≡ m.steps + 1 = steps-advance m live in
       let limit : (advance m).limit ≡ m.limit = limit-advance m in
       ended-after_steps n (advance m) (IsWithinLimit-advance m h) (omega arith)
-  ]
+]
 
 pub finish-ends : (m : Machine) → IsWithinLimit m → IsSome (finish m).ending
 unfolding finish
@@ -134,23 +157,23 @@ finish-ends m h = ended-after_steps (m.limit - m.steps) m h (omega arith)
 
 -- no other function meets the two equations
 only-after_steps : (f : Machine → Machine) → ((m : Machine) → IsSome m.ending → f m ≡ m) → ((m : Machine) → m.ending ≡ None → f m ≡ f (advance m))
-  → (n : ℕ) (m : Machine) → IsWithinLimit m → m.limit ≤ m.steps + n → f m ≡ after_steps n m
+    → (n : ℕ) (m : Machine) → IsWithinLimit m → m.limit ≤ m.steps + n → f m ≡ after_steps n m
 unfolding after_steps
 only-after_steps f ends goes zero m h reached = ends m (ended-after_steps zero m h reached)
 only-after_steps f ends goes (suc n) m h reached = elim (cases-ending m.ending) [
-    inl ended ↦ ends m (subst IsSome (sym ended.1) refl) ∙ sym (after_steps-ended (suc n) m ended.0 ended.1)
+  | inl ended ↦ ends m (subst IsSome (sym ended.1) refl) ∙ sym (after_steps-ended (suc n) m ended.0 ended.1)
   | inr live ↦
       let steps : (advance m).steps ≡ m.steps + 1 = steps-advance m live in
       let limit : (advance m).limit ≡ m.limit = limit-advance m in
       goes m live ∙ only-after_steps f ends goes n (advance m) (IsWithinLimit-advance m h) (omega arith)
-  ]
+]
 
 pub finish-only : (f : Machine → Machine) → ((m : Machine) → IsSome m.ending → f m ≡ m) → ((m : Machine) → m.ending ≡ None → f m ≡ f (advance m))
-  → (m : Machine) → IsWithinLimit m → f m ≡ finish m
+    → (m : Machine) → IsWithinLimit m → f m ≡ finish m
 unfolding finish
 finish-only f ends goes m h = only-after_steps f ends goes (m.limit - m.steps) m h (omega arith)
 
-IsSome-ended : (e : Option Ending) → IsSome e → (ending : Ending) × (e ≡ Some ending)
+pub IsSome-ended : (e : Option Ending) → IsSome e → (ending : Ending) × (e ≡ Some ending)
 IsSome-ended None h = absurd (cc)
 IsSome-ended (Some ending) h = (ending, refl)
 

@@ -9,7 +9,7 @@ use Rattle.rv_decode.specs.Table.{decoded}
 use Rattle.forest_model.specs.declared.cause.TheConstants.{INSTRUCTION_ADDRESS_FAULT, ILLEGAL_INSTRUCTION, STORE_ADDRESS_MISALIGNED, STORE_ACCESS_FAULT}
 use Rattle.forest_model.specs.declared.Effect.{Effect}
 use Rattle.forest_model.specs.declared.Effect.TheVariants.{Done, Exit}
-use Rattle.forest_model.specs.Effect.{Group, compute_immediate, store, group_of, alu, store_bytes}
+use Rattle.forest_model.specs.Operation.{Group, compute_immediate, store, group_of, alu, store_bytes}
 use Rattle.forest_model.specs.Ports.{Stored, port_store}
 use Rattle.forest_model.specs.State.{State, is_in_ram, register, with_register, at_next_instruction}
 
@@ -29,7 +29,7 @@ immediate i = cast_unsigned w32 i.imm
 unfoldable pub computed_immediate : Instruction → State → Action
 computed_immediate i s =
     retire (at_next_instruction (record s {
-      registers = with_register s.registers i.rd (alu i.kind (register s.registers i.rs1) (immediate i))
+      registers = with_register s.registers i.rd (alu i.kind (register s.registers i.rs1) (immediate i));
     }))
 
 -- the address of a load or a store
@@ -57,11 +57,12 @@ aligned_action true address bytes word s = place_action (is_in_ram s.ram address
 unfoldable pub store_action : ℕ → List ℕ → ℕ → State → Action
 store_action address bytes word s = aligned_action (address % length bytes == 0) address bytes word s
 
--- the low bytes of rs2 go to memory
+-- the bytes that a store writes, the low ones of rs2
+abbrev pub stored_bytes : Instruction → State → List ℕ
+stored_bytes i s = store_bytes i.kind (register s.registers i.rs2)
+
 unfoldable pub stored : Instruction → State → Action
-stored i s =
-    let word = register s.registers i.rs2
-    in store_action (data_address i s) (store_bytes i.kind word) word s
+stored i s = store_action (data_address i s) (stored_bytes i s) (register s.registers i.rs2) s
 
 abbrev pub execute_group : Group → Instruction → State → Action
 execute_group compute_immediate i s = computed_immediate i s

@@ -1,6 +1,7 @@
 -- The ports of the machine, by the address of an access. Where a port has no such access, an answer
 -- is none.
 use Rattle.std.specs.Prelude.{ℕ, ◌+◌, ◌-◌, ◌%◌, ◌==◌, ◌&&◌, Bool, true, false, nat_lt, nat_le, if◌then◌else◌, List, [], ◌∷◌, ◌++◌, Option, Some, None}
+use Rattle.forest_model.specs.declared.port_map.TheConstants.{CONSOLE_BASE, CONSOLE_SIZE, CONSOLE_DATA, FORK_BASE, FORK_SIZE, FORK_ARGUMENT, FORK_COMMAND, EXIT_COMMAND}
 use Rattle.forest_model.specs.declared.Effect.{Effect}
 use Rattle.forest_model.specs.declared.Effect.TheVariants.{Done, Exit}
 
@@ -25,24 +26,24 @@ pub record Stored : Type 0 where
   pub ports : PortRegisters
   pub effect : Effect
 
--- The console: a byte that is stored to offset 0 goes to the output.
+-- the console: bytes alone
 abbrev pub console_store : ConsoleRegisters → ℕ → ℕ → ℕ → Option ConsoleRegisters
 console_store c offset width word =
-    if (offset == 0) && (width == 1) then Some (record { output = c.output ++ word % 256 ∷ [] }) else None
+    if (offset == CONSOLE_DATA) && (width == 1) then Some (record { output = c.output ++ word % 256 ∷ [] }) else None
 
--- The fork port: the command 5 ends the machine with the argument as its value, and others do nothing.
+-- The fork port: EXIT ends the machine with the argument as its value, and other commands do nothing.
 abbrev pub command_effect : ForkRegisters → ℕ → Effect
-command_effect f command = if command == 5 then Exit f.argument else Done
+command_effect f command = if command == EXIT_COMMAND then Exit f.argument else Done
 
 pub record ForkStored : Type 0 where
   pub fork : ForkRegisters
   pub effect : Effect
 
--- words alone: the argument at offset 0, the command at offset 8
+-- words alone
 abbrev pub fork_store : ForkRegisters → ℕ → ℕ → ℕ → Option ForkStored
 fork_store f offset width word =
-    if (offset == 0) && (width == 4) then Some (record { fork = record { argument = word }; effect = Done })
-    else (if (offset == 8) && (width == 4) then Some (record { fork = f; effect = command_effect f word }) else None)
+    if (offset == FORK_ARGUMENT) && (width == 4) then Some (record { fork = record { argument = word }; effect = Done })
+    else (if (offset == FORK_COMMAND) && (width == 4) then Some (record { fork = f; effect = command_effect f word }) else None)
 
 -- the port that an address is of, with the offset there
 pub data Place : Type 0 where
@@ -52,8 +53,8 @@ pub data Place : Type 0 where
 
 abbrev pub place_of : ℕ → Place
 place_of address =
-    if nat_le 0x1000_0000 address && nat_lt address 0x1000_0008 then at_console (address - 0x1000_0000)
-    else (if nat_le 0x1000_2000 address && nat_lt address 0x1000_2028 then at_fork (address - 0x1000_2000) else at_no_port)
+    if nat_le CONSOLE_BASE address && nat_lt address (CONSOLE_BASE + CONSOLE_SIZE) then at_console (address - CONSOLE_BASE)
+    else (if nat_le FORK_BASE address && nat_lt address (FORK_BASE + FORK_SIZE) then at_fork (address - FORK_BASE) else at_no_port)
 
 abbrev pub console_stored : Option ConsoleRegisters → PortRegisters → Option Stored
 console_stored None ports = None

@@ -5,20 +5,23 @@ use Rattle.elf_load.specs.declared.image.TheConstants.{RAM_BASE, PAGE_SIZE}
 use Rattle.rv_decode.specs.Instruction.{Instruction}
 use Rattle.rv_decode.specs.Table.{decoded}
 use Rattle.forest_model.specs.declared.Ending.{Ending}
-use Rattle.forest_model.specs.Effect.{Group, compute_immediate, store, group_of, store_bytes}
+use Rattle.forest_model.specs.Operation.{Group, compute_immediate, store, group_of}
 use Rattle.forest_model.specs.State.{State, is_in_ram}
-use Rattle.forest_model.specs.Action.{data_address, fetched}
+use Rattle.forest_model.specs.Action.{data_address, stored_bytes, fetched}
 use Rattle.forest_model.specs.Machine.{Machine}
 
 abbrev pub page_of : ℕ → ℕ
 page_of address = (address - RAM_BASE) / PAGE_SIZE
 
--- the page that an instruction reads or writes, if it is of RAM and the access is aligned
+-- the page of an access of `width` bytes, if it is aligned and of RAM
+abbrev pub access_page : ℕ → ℕ → List ℕ → Option ℕ
+access_page address width ram =
+    if (address % width == 0) && is_in_ram ram address then Some (page_of address) else None
+
+-- the page that an instruction reads or writes
 abbrev pub data_page : Group → Instruction → State → Option ℕ
 data_page compute_immediate i s = None
-data_page store i s =
-    if (data_address i s % length (store_bytes i.kind 0) == 0) && is_in_ram s.ram (data_address i s)
-    then Some (page_of (data_address i s)) else None
+data_page store i s = access_page (data_address i s) (length (stored_bytes i s)) s.ram
 
 -- one page is listed once
 abbrev pub code_and_data : ℕ → Option ℕ → List ℕ

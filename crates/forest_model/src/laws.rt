@@ -1,7 +1,11 @@
 //! Laws of the definitions, each the contract of a function that does nothing.
 
-ghost use Rattle.std.specs.Prelude.{◌≡◌, ℕ, ◌+◌, ◌<◌, ◌≤◌, None, IsSome};
-ghost use Rattle.forest_model.specs.Machine.{Machine, IsWithinLimit, advance, after_steps, finish};
+ghost use Rattle.std.specs.Prelude.{◌≡◌, ◌≢◌, ℕ, ◌+◌, ◌*◌, ◌/◌, ◌<◌, ◌≤◌, [], length, slice_index, Some, None, IsSome, All, AllPairs, Contains};
+ghost use Rattle.forest_model.specs.Machine.{Machine, IsWithinLimit, exception, next, advance, after_steps, finish};
+ghost use Rattle.forest_model.specs.Touch.{touch};
+
+use crate::Ending;
+use elf_load::PAGE_SIZE;
 
 /// A step of a live machine is counted, none moves the limit, and a machine that has ended stays.
 pub fn advance_counts()
@@ -9,8 +13,16 @@ pub fn advance_counts()
     ensures limit_stays { (m : Machine) → (advance m).limit ≡ m.limit }
     ensures within { (m : Machine) → IsWithinLimit m → IsWithinLimit (advance m) }
     ensures ended { (m : Machine) → IsSome m.ending → advance m ≡ m }
-{
-}
+{}
+
+/// A step of a live machine that is an exception is counted and ends the machine by it, also where it
+/// reaches the limit, and changes nothing else. No other step does so.
+pub fn exception_ends()
+    ensures exception { (m : Machine) (cause value : ℕ) → m.ending ≡ None → next m ≡ exception cause value
+        → advance m ≡ record m { steps = m.steps + 1; ending = Some (Ending.Fault cause) } }
+    ensures no_other { (m : Machine) (cause : ℕ) → m.ending ≡ None → (advance m).ending ≡ Some (Ending.Fault cause)
+        → (value : ℕ) × (next m ≡ exception cause value) }
+{}
 
 /// A machine run to its end is itself where it has ended, and else what its next step leads to. It
 /// has ended, and no other function of machines does so.
@@ -18,20 +30,29 @@ pub fn finish_ends()
     ensures ended { (m : Machine) → IsSome m.ending → finish m ≡ m }
     ensures live { (m : Machine) → m.ending ≡ None → m.steps < m.limit → finish m ≡ finish (advance m) }
     ensures ends { (m : Machine) → IsWithinLimit m → IsSome (finish m).ending }
-    ensures only {
-        (f : Machine → Machine)
+    ensures only { (f : Machine → Machine)
         → ((m : Machine) → IsSome m.ending → f m ≡ m)
         → ((m : Machine) → m.ending ≡ None → f m ≡ f (advance m))
-        → (m : Machine) → IsWithinLimit m → f m ≡ finish m
-    }
-{
-}
+        → (m : Machine) → IsWithinLimit m → f m ≡ finish m }
+{}
 
 /// A machine that ends on the way to its limit is then what running it to its end gives.
 pub fn ends_on_the_way()
-    ensures {
-        (n : ℕ) (m : Machine) → n + m.steps ≤ m.limit → IsSome (after_steps n m).ending
-        → finish m ≡ after_steps n m
-    }
-{
-}
+    ensures { (n : ℕ) (m : Machine) → n + m.steps ≤ m.limit → IsSome (after_steps n m).ending
+        → finish m ≡ after_steps n m }
+{}
+
+/// The pages that a step touches are pages of RAM, at most two, and none is listed twice. A machine
+/// that has ended touches none.
+pub fn touched_pages()
+    ensures of_ram { (m : Machine) → All (λ page. PAGE_SIZE * page < length m.state.ram) (touch m) }
+    ensures at_most_two { (m : Machine) → length (touch m) ≤ 2 }
+    ensures none_twice { (m : Machine) → AllPairs (λ one other. one ≢ other) (touch m) }
+    ensures ended { (m : Machine) → IsSome m.ending → touch m ≡ [] }
+{}
+
+/// A step changes RAM only in the pages that it touches.
+pub fn writes_touched_pages()
+    ensures { (m : Machine) (at : ℕ) → ¬ Contains (touch m) (at / PAGE_SIZE)
+        → slice_index (advance m).state.ram at ≡ slice_index m.state.ram at }
+{}

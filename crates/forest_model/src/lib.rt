@@ -4,6 +4,7 @@
 
 pub mod cause;
 pub mod laws;
+pub mod port_map;
 
 /// How a machine ended.
 #[derive(Clone, Copy, Debug, PartialEq, Eq)]

@@ -1,4 +1,4 @@
--- The instruction table: a word belongs to a row where its bits under the row's mask are the row's bits.
+-- The instruction table: a word matches a row where its bits under the mask are the bits of the row.
 -- RISC-V Unprivileged ISA 20191213, chapter 24
 use Rattle.std.specs.Prelude.{ℕ, ◌+◌, ◌*◌, ◌/◌, ◌%◌, ◌==◌, Bool, ℤ, pos, ◌-ℤ◌, nat_lt, if◌then◌else◌, List, [], ◌∷◌, Option, bit_and, find, ◌^◌}
 use Rattle.std.specs.Option.{option_map}
@@ -26,8 +26,8 @@ rows =
     ∷ row 0x0000_707f 0x0000_2023 Sw
     ∷ []
 
-abbrev pub belongs : ℕ → Row → Bool
-belongs word r = bit_and word r.mask == r.bits
+abbrev pub matches : ℕ → Row → Bool
+matches word r = bit_and word r.mask == r.bits
 
 -- the fields of a word: bits 11:7, 19:15 and 24:20
 abbrev pub rd_field : ℕ → ℕ
@@ -59,10 +59,10 @@ in_format U kind word = record { kind = kind; rd = rd_field word; rs1 = 0; rs2 =
 in_format I kind word = record { kind = kind; rd = rd_field word; rs1 = rs1_field word; rs2 = 0; imm = i_immediate word }
 in_format S kind word = record { kind = kind; rd = 0; rs1 = rs1_field word; rs2 = rs2_field word; imm = s_immediate word }
 
--- the kind of a word, or none where no row has it
+-- the kind of the row that a word matches, or none
 unfoldable pub kind_of_word : ℕ → Option Kind
-kind_of_word word = option_map (λ r. r.kind) (find (belongs word) rows)
+kind_of_word word = option_map (λ r. r.kind) (find (matches word) rows)
 
--- what a word says, or none
+-- the instruction that a word encodes, or none where no row matches
 unfoldable pub decoded : ℕ → Option Instruction
 decoded word = option_map (λ kind. in_format (format_of kind) kind word) (kind_of_word word)

@@ -1,10 +1,10 @@
-ghost use Rattle.std.specs.Prelude.{◌≡◌, ◌<◌, ◌/◌, ◌%◌, ◌^◌};
+ghost use Rattle.std.specs.Prelude.{◌≡◌, ◌<◌};
 ghost use Rattle.rv_decode.specs.Instruction.{format_of};
 ghost use Rattle.rv_decode.specs.Table.{decoded, kind_of_word, in_format, signed_12, rd_field, rs1_field, rs2_field};
 
 use crate::instruction::{Format, Instr, Kind};
 
-/// The instruction that `word` says, or `None` exactly where no row of the table has it.
+/// The instruction that `word` encodes, or `None` exactly where no row of the table matches it.
 #[inline]
 #[tactic(auto, unfolding(crate::specs::Table::decoded))]
 pub fn decode(word: u32) -> Option<Instr>
@@ -14,7 +14,7 @@ pub fn decode(word: u32) -> Option<Instr>
     Some(instr_of_word(kind, word))
 }
 
-/// The kind of the row that `word` belongs to.
+/// The kind of the row that `word` matches.
 #[inline]
 #[tactic(auto, unfolding(crate::specs::Table::kind_of_word, crate::specs::Table::rows))]
 fn kind_of_word(word: u32) -> Option<Kind>
@@ -31,7 +31,7 @@ fn kind_of_word(word: u32) -> Option<Kind>
     }
 }
 
-/// The fields of `word`, which is of this kind.
+/// The instruction of this kind with the fields of `word`.
 #[inline]
 fn instr_of_word(kind: Kind, word: u32) -> Instr
     ensures { result ≡ in_format (format_of kind) kind word }
@@ -98,5 +98,34 @@ fn signed_12(field: u32) -> i32
         field.cast_signed()
     } else {
         field.cast_signed() - 4096
+    }
+}
+
+#[cfg(test)]
+mod tests {
+    use super::*;
+
+    #[test]
+    fn decodes_words(rt: HostRuntime) {
+        let words = [
+            (0x100022b7, Some((Kind::Lui, 5, 0, 0, 0x1000_2000))),
+            (0xfffff0b7, Some((Kind::Lui, 1, 0, 0, -4096))),
+            (0x80000037, Some((Kind::Lui, 0, 0, 0, i32::MIN))),
+            (0x00700313, Some((Kind::Addi, 6, 0, 0, 7))),
+            (0x04100313, Some((Kind::Addi, 6, 0, 0, 65))),
+            (0xfff00093, Some((Kind::Addi, 1, 0, 0, -1))),
+            (0x7fff8f93, Some((Kind::Addi, 31, 31, 0, 2047))),
+            (0x00628023, Some((Kind::Sb, 0, 5, 6, 0))),
+            (0x81ff8023, Some((Kind::Sb, 0, 31, 31, -2048))),
+            (0x0062a023, Some((Kind::Sw, 0, 5, 6, 0))),
+            (0x0062a423, Some((Kind::Sw, 0, 5, 6, 8))),
+            (0xfe20ae23, Some((Kind::Sw, 0, 1, 2, -4))),
+            (0x00000000, None),
+            (0xffffffff, None),
+        ];
+        for (word, want) in words {
+            let fields = decode(word).map(|i| (i.kind(), i.rd(), i.rs1(), i.rs2(), i.imm()));
+            assert_eq!(rt; fields, want, "at {word:08x}");
+        }
     }
 }

@@ -1,4 +1,4 @@
-ghost use Rattle.std.specs.Prelude.{◌≡◌, ◌<◌, IsSome, IfSome, ◌↔◌, SomeIff};
+ghost use Rattle.std.specs.Prelude.{◌≡◌, ◌<◌, SomeIff};
 ghost use Rattle.rv_decode.specs.Instruction.{format_of};
 
 use std::marker::Model;
@@ -70,17 +70,15 @@ impl Instr {
     /// The instruction with these fields, or `None` exactly where a field is out of its format's
     /// range, or one that the format lacks is not 0.
     pub fn new(kind: Kind, rd: u32, rs1: u32, rs2: u32, imm: i32) -> Option<Instr>
-        ensures {
-            let fields : Instruction = record { kind = kind; rd = rd; rs1 = rs1; rs2 = rs2; imm = imm }
-            in SomeIff result (IsInstruction fields) fields
-        }
+        ensures { let fields : Instruction = record { kind = kind; rd = rd; rs1 = rs1; rs2 = rs2; imm = imm }
+            in SomeIff result (IsInstruction fields) fields }
     {
-        let registers_fit = match kind.format() {
+        let is_in_format = match kind.format() {
             Format::U => rd < 32 && rs1 == 0 && rs2 == 0 && imm.cast_unsigned() % 4096 == 0,
             Format::I => rd < 32 && rs1 < 32 && rs2 == 0 && (-2048..2048).contains(&imm),
             Format::S => rd == 0 && rs1 < 32 && rs2 < 32 && (-2048..2048).contains(&imm),
         };
-        if registers_fit {
+        if is_in_format {
             Some(Instr {
                 kind,
                 rd: rd as u8,
@@ -133,5 +131,35 @@ impl Instr {
         ensures { result ≡ self.imm }
     {
         self.imm
+    }
+}
+
+#[cfg(test)]
+mod tests {
+    use super::*;
+
+    #[test]
+    fn takes_fields_in_range(rt: HostRuntime) {
+        let cases = [
+            (Kind::Lui, 31, 0, 0, 0x7fff_f000, true),
+            (Kind::Lui, 31, 0, 0, i32::MIN, true),
+            (Kind::Lui, 32, 0, 0, 0, false),
+            (Kind::Lui, 5, 1, 0, 0, false),
+            (Kind::Lui, 5, 0, 0, 1, false),
+            (Kind::Addi, 31, 31, 0, 2047, true),
+            (Kind::Addi, 31, 31, 0, -2048, true),
+            (Kind::Addi, 1, 0, 1, 0, false),
+            (Kind::Addi, 1, 32, 0, 0, false),
+            (Kind::Addi, 1, 0, 0, 2048, false),
+            (Kind::Sb, 0, 31, 31, -2048, true),
+            (Kind::Sb, 0, 0, 0, -2049, false),
+            (Kind::Sw, 0, 31, 31, 2047, true),
+            (Kind::Sw, 1, 5, 6, 8, false),
+            (Kind::Sw, 0, 5, 32, 8, false),
+        ];
+        for (kind, rd, rs1, rs2, imm, want) in cases {
+            let made = Instr::new(kind, rd, rs1, rs2, imm);
+            assert_eq!(rt; made.is_some(), want, "{kind:?} {rd} {rs1} {rs2} {imm}");
+        }
     }
 }

@@ -3,6 +3,7 @@
 
 mod decoder;
 mod instruction;
+pub mod laws;
 
 pub use decoder::decode;
 pub use instruction::{Format, Instr, Kind};

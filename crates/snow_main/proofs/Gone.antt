@@ -23,9 +23,11 @@ IsPrefixGone-front old new xs ys p =
 
 -- a first piece and a prefix of the rest are one of the whole
 pub IsPrefixGone-after : (old mid new : Option (List ℕ)) (xs ys : List ℕ) → mid ≡ appended old xs → IsPrefixGone mid new ys → IsPrefixGone old new (xs ++ ys)
-IsPrefixGone-after old mid new xs ys e p =
-    (length xs + p.0, omega (arith, length-append xs ys, p.1),
-      p.2 ∙ ap (λ gone. appended gone (take p.0 ys)) e ∙ appended-appended old xs (take p.0 ys) ∙ ap (appended old) (sym (take-append-add xs ys p.0)))
+IsPrefixGone-after old mid new xs ys e p = (
+  length xs + p.0,
+  omega (arith, length-append xs ys, p.1),
+  p.2 ∙ ap (λ gone. appended gone (take p.0 ys)) e ∙ appended-appended old xs (take p.0 ys) ∙ ap (appended old) (sym (take-append-add xs ys p.0)),
+)
 
 -- one more piece of the bytes
 pub appended-take : (old : Option (List ℕ)) (bytes : List ℕ) (at n : ℕ) → at ≤ length bytes → appended (appended old (take at bytes)) (take n (drop at bytes)) ≡ appended old (take (at + n) bytes)

@@ -17,13 +17,13 @@ text-too_long None h = absurd h
 text-too_long (Some bytes) h = ap (λ long. refused_image (cond long (Err TOO_LONG) (booted_text (loaded bytes RAM_PAGES)))) (lt-ltb IMAGE_MOST (length bytes) h)
 
 pub told-too_long : (files : Option Files) (name : List ℕ) → IfSome files (λ told. IsSomeAnd (told name) (λ bytes. IMAGE_MOST < length bytes))
-  → IfSome (option_map (λ told. file_text (told name)) files) (λ text. text ≡ Err (image_refused TOO_LONG))
+    → IfSome (option_map (λ told. file_text (told name)) files) (λ text. text ≡ Err (image_refused TOO_LONG))
 told-too_long None name h = tt
 told-too_long (Some told) name h = text-too_long (told name) h
 
 -- the run of a booted machine that has steps enough is its finish
 pub booted-finished : (m new : Machine) (image : Image) (options : Options) → m ≡ boot image options
-  → (m.limit ≤ m.steps + options.limit → (new ≡ finish m) × IsSome new.ending) → (new ≡ finish (boot image options)) × IsSome new.ending
+    → (m.limit ≤ m.steps + options.limit → (new ≡ finish m) × IsSome new.ending) → (new ≡ finish (boot image options)) × IsSome new.ending
 unfolding boot
 booted-finished m new image options booted run =
     let limit : m.limit ≡ options.limit = ap (λ (k : Machine). k.limit) booted in
@@ -31,7 +31,7 @@ booted-finished m new image options booted run =
     (ended.0 ∙ ap finish booted, ended.1)
 
 pub report-ended : (m : Machine) (e : Ending) → m.ending ≡ Some e
-  → report m ≡ report_of (record { ending = e; steps = m.steps; output = m.state.ports.console.output })
+    → report m ≡ report_of (record { ending = e; steps = m.steps; output = m.state.ports.console.output })
 unfolding report
 report-ended m e h = ap (λ ending. report_from ending m) h
 

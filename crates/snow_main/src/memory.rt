@@ -105,7 +105,12 @@ impl Model for MemSink {
 
 impl MemSink {
     /// An empty sink, whose room is taken now.
-    pub fn new(alloc: Global, most: usize, room: usize, failing: Vec<u64>) -> Result<MemSink, AllocError>
+    pub fn new(
+        alloc: Global,
+        most: usize,
+        room: usize,
+        failing: Vec<u64>,
+    ) -> Result<MemSink, AllocError>
         requires { 1 ≤ most }
         ensures { IfOk result (λ sink. sink ≡ record { bytes = []; faults = 0 }) }
     {

@@ -38,10 +38,8 @@ pub trait Shelf {
         ensures counts { faults self.old ≤ faults self.new }
         ensures given { IfOk result (λ bytes. IfSome (files self.old) (λ files. files name.now ≡ Some bytes.items)) }
         ensures at_most { IfOk result (λ bytes. vec_len bytes ≤ at_most) }
-        ensures too_long {
-            IsErrOf result ShelfError.TooLong
-            → IfSome (files self.old) (λ files. IsSomeAnd (files name.now) (λ bytes. at_most < length bytes))
-        }
+        ensures too_long { IsErrOf result ShelfError.TooLong
+            → IfSome (files self.old) (λ files. IsSomeAnd (files name.now) (λ bytes. at_most < length bytes)) }
         ensures fault { IsErrOf result ShelfError.Fault → HasRisen (faults self.old) (faults self.new) };
 }
 

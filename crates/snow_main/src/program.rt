@@ -89,9 +89,7 @@ pub fn snow<R: AllocGlobal, S: Shelf, K: Sink>(
 ) -> Status
     // 0: the sink has gained the text of the words, which is the report of the machine that is booted
     // from the image and run to its end.
-    ensures written {
-        result.code ≡ 0 → IsWritten (S.files shelf.old) (texts words.now) (K.gone sink.old) (K.gone sink.new)
-    }
+    ensures written { result.code ≡ 0 → IsWritten (S.files shelf.old) (texts words.now) (K.gone sink.old) (K.gone sink.new) }
 
     // 1: only where the shelf had a fault. 2: exactly where the words have no meaning. 3: only where the
     // image is refused, with its number.
@@ -101,18 +99,14 @@ pub fn snow<R: AllocGlobal, S: Shelf, K: Sink>(
 
     // 5: only where the sink had a fault, and a prefix of the text is out.
     ensures write_fault { result.code ≡ 5 → HasRisen (K.faults sink.old) (K.faults sink.new) }
-    ensures prefix {
-        result.code ≡ 5 → IsPrefixOut (S.files shelf.old) (texts words.now) (K.gone sink.old) (K.gone sink.new)
-    }
+    ensures prefix { result.code ≡ 5 → IsPrefixOut (S.files shelf.old) (texts words.now) (K.gone sink.old) (K.gone sink.new) }
 
     // On every other code the sink has been given nothing.
     ensures silent { ¬ (result.code ≡ 0) → ¬ (result.code ≡ 5) → sink.new ≡ sink.old }
 
     // The words and the files decide the code, but for faults and for want of memory, which is 6.
-    ensures complete {
-        Completes result (S.files shelf.old) (texts words.now)
-            (HasRisen (S.faults shelf.old) (S.faults shelf.new)) (HasRisen (K.faults sink.old) (K.faults sink.new))
-    }
+    ensures complete { Completes result (S.files shelf.old) (texts words.now)
+        (HasRisen (S.faults shelf.old) (S.faults shelf.new)) (HasRisen (K.faults sink.old) (K.faults sink.new)) }
     ensures status { IsStatus result }
 {
     let Some(image) = image_to_run(words) else {
@@ -134,11 +128,9 @@ fn run_image<S: Shelf, K: Sink>(
     shelf: &mut S,
     sink: &mut K,
 ) -> Result<(), Stop>
-    ensures runs {
-        Runs result (option_map (λ files. file_text (files name.now)) (S.files shelf.old))
-            (HasRisen (S.faults shelf.old) (S.faults shelf.new)) (HasRisen (K.faults sink.old) (K.faults sink.new))
-            (K.gone sink.old) (K.gone sink.new)
-    }
+    ensures runs { Runs result (option_map (λ files. file_text (files name.now)) (S.files shelf.old))
+        (HasRisen (S.faults shelf.old) (S.faults shelf.new)) (HasRisen (K.faults sink.old) (K.faults sink.new))
+        (K.gone sink.old) (K.gone sink.new) }
     ensures silent { IsSilent result (sink.new ≡ sink.old) }
 {
     let outcome = load_and_run(alloc, name, shelf)?;
@@ -151,10 +143,8 @@ fn run_image<S: Shelf, K: Sink>(
 
 /// Loads the image of a name and runs it.
 fn load_and_run<S: Shelf>(alloc: Global, name: &str, shelf: &mut S) -> Result<Outcome, Stop>
-    ensures {
-        Loads result (option_map (λ files. file_text (files name.now)) (S.files shelf.old))
-            (HasRisen (S.faults shelf.old) (S.faults shelf.new))
-    }
+    ensures { Loads result (option_map (λ files. file_text (files name.now)) (S.files shelf.old))
+        (HasRisen (S.faults shelf.old) (S.faults shelf.new)) }
 {
     match shelf.load(alloc, name, IMAGE_MOST) {
         Ok(bytes) => run_bytes(alloc, &bytes),

@@ -40,10 +40,16 @@ impl<R: Files> Shelf for FileShelf<'_, R> {
 }
 
 /// The first bytes of a file, one more than `at_most` where it has so many.
-fn read_at_most<R: Files>(rt: &R, alloc: Global, name: &str, at_most: usize) -> io::Result<Vec<u8>> {
+fn read_at_most<R: Files>(
+    rt: &R,
+    alloc: Global,
+    name: &str,
+    at_most: usize,
+) -> io::Result<Vec<u8>> {
     let mut bytes = Vec::new(alloc);
     let file = fs::open(rt, name)?;
-    file.take((at_most as u64).saturating_add(1)).read_to_end(&mut bytes)?;
+    file.take((at_most as u64).saturating_add(1))
+        .read_to_end(&mut bytes)?;
     Ok(bytes)
 }
 

@@ -10,9 +10,7 @@ use std::fs;
 use std::test::Fail;
 
 /// The words of the guest that ends with the value 7.
-const EXIT_SEVEN: [u32; 5] = [
-    0x100022b7, 0x00700313, 0x0062a023, 0x00500313, 0x0062a423,
-];
+const EXIT_SEVEN: [u32; 5] = [0x100022b7, 0x00700313, 0x0062a023, 0x00500313, 0x0062a423];
 
 /// The words of the guest that puts out `A` and ends with the value 0.
 const PRINT_LETTER: [u32; 7] = [

@@ -16,12 +16,12 @@ IsRun-advance old mid new made run step counted = record {
 
 -- the machine of a run that had steps enough is the finish
 pub finished : (old new : Machine) (made most : ℕ) → IsRun old new made → IsWithinLimit new → new.steps ≤ new.limit
-  → (new.ending ≡ None → made ≡ most) → old.limit ≤ old.steps + most → (new ≡ finish old) × IsSome new.ending
+    → (new.ending ≡ None → made ≡ most) → old.limit ≤ old.steps + most → (new ≡ finish old) × IsSome new.ending
 finished old new made most run within counted all enough =
     let limit : new.limit ≡ old.limit = ap (λ (m : Machine). m.limit) run.steps ∙ limit-after_steps made old in
     let before : new.steps ≡ old.steps + made = run.counted in
     elim (cases-ending new.ending) [
-        inl ended ↦
+      | inl ended ↦
           let is_some : IsSome new.ending = subst IsSome (sym ended.1) refl in
           (run.steps ∙ sym (finish-after_steps_IsSome made old (omega arith) (subst (λ (m : Machine). IsSome m.ending) run.steps is_some)), is_some)
       | inr live ↦

@@ -1,5 +1,5 @@
 ghost use Rattle.std.specs.Prelude.{◌≡◌, ◌<◌, ◌-◌, ◌+◌, ◌%◌, ◌≤◌, ◌↔◌, ◌⊎◌, length, Some, None, IsNone, IfOk, IfSome, OnErr, true, false};
-ghost use Rattle.forest_model.specs.Effect.{group_of, alu, compute_immediate, store};
+ghost use Rattle.forest_model.specs.Operation.{group_of, alu, compute_immediate, store};
 ghost use Rattle.forest_model.specs.Ports.{port_store, ports_at_start};
 ghost use Rattle.forest_model.specs.State.{is_in_ram, register, with_register, at_next_instruction};
 ghost use Rattle.forest_model.specs.Action.{retire, action, execute, computed_immediate, stored, store_action, port_action};
@@ -38,8 +38,7 @@ pub struct Hart {
 }
 
 impl Model for Hart {
-    ghost use Rattle.forest_model.specs.Ports.{ports_at_start};
-ghost use Rattle.forest_model.specs.State.{State};
+    ghost use Rattle.forest_model.specs.State.{State};
     ghost use Rattle.vm_cell.specs.Hart.{IsHart};
 
     ghost Value = { State };
@@ -53,11 +52,12 @@ impl Hart {
     /// A hart at the entry of an image.
     #[tactic(auto, unfolding(forest_model::specs::Machine::registers_at_start))]
     pub fn new(alloc: Global, image: &Loaded) -> Result<Hart, AllocError>
-        ensures {
-            IfOk result (λ hart. hart ≡ record {
-                registers = registers_at_start; pc = image.now.entry; ram = image.now.ram; ports = ports_at_start
-            })
-        }
+        ensures { IfOk result (λ hart. hart ≡ record {
+          registers = registers_at_start;
+          pc = image.now.entry;
+          ram = image.now.ram;
+          ports = ports_at_start;
+        }) }
     {
         Ok(Hart {
             registers: [0; 32],
@@ -145,11 +145,14 @@ impl Hart {
         ensures acts { Acts self.old self.new (stored instr self.old) result }
         ensures memory { OnErr result (Grows (stored instr self.old) self.old) }
     {
-        let address = self.register(instr.rs1()).wrapping_add(instr.imm().cast_unsigned());
+        let address = self
+            .register(instr.rs1())
+            .wrapping_add(instr.imm().cast_unsigned());
         let value = self.register(instr.rs2());
         match instr.kind() {
+            Kind::Sb => self.store_to(address, value, &[(value % 256) as u8]),
             Kind::Sw => self.store_to(address, value, &value.to_le_bytes()),
-            _ => self.store_to(address, value, &[(value % 256) as u8]),
+            Kind::Lui | Kind::Addi => unreachable!(),
         }
     }
 
@@ -179,12 +182,7 @@ impl Hart {
     }
 
     /// Stores the low `width` bytes of `word` to a port.
-    fn store_to_port(
-        &mut self,
-        address: u32,
-        width: u32,
-        word: u32,
-    ) -> Result<Acted, AllocError>
+    fn store_to_port(&mut self, address: u32, width: u32, word: u32) -> Result<Acted, AllocError>
         ensures acts { Acts self.old self.new (port_action (port_store self.old.ports address width word) address self.old) result }
         ensures memory { OnErr result (Grows (port_action (port_store self.old.ports address width word) address self.old) self.old) }
     {
@@ -215,7 +213,11 @@ impl Hart {
             return None;
         }
         let offset = (address - RAM_BASE) as usize;
-        if offset < self.ram.len() { Some(offset) } else { None }
+        if offset < self.ram.len() {
+            Some(offset)
+        } else {
+            None
+        }
     }
 
     #[inline]

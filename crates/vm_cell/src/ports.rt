@@ -1,7 +1,11 @@
-ghost use Rattle.std.specs.Prelude.{◌≡◌, ◌<◌, ◌↔◌, [], length, Some, None, IfOk, OnOk, OnErr, IsErrOf, MatchResult, IsSomeAnd};
+ghost use Rattle.std.specs.Prelude.{◌≡◌, ◌<◌, ◌↔◌, [], length, Some, None, IfOk, OnOk, OnErr, IsErrOf, IsSomeAnd};
 ghost use Rattle.forest_model.specs.Ports.{console_store, fork_store, port_store};
 
 use forest_model::Effect;
+use forest_model::port_map::{
+    CONSOLE_BASE, CONSOLE_DATA, CONSOLE_SIZE, EXIT_COMMAND, FORK_ARGUMENT, FORK_BASE, FORK_COMMAND,
+    FORK_SIZE,
+};
 use std::alloc::{AllocError, AllocFailed, Global};
 use std::marker::Model;
 
@@ -28,6 +32,17 @@ impl<T: Drop> From<AllocFailed<T>> for PortError {
 /// The access that no port has.
 #[derive(Clone, Copy, Debug, PartialEq, Eq)]
 pub struct Fault;
+
+impl From<Fault> for PortError {
+    ghost use Rattle.std.specs.Prelude.{◌≡◌};
+    ghost use Rattle.vm_cell.specs.declared.ports.PortError.TheVariants.{Fault};
+
+    ghost from_gives = { λ _ e. e ≡ Fault };
+
+    fn from(_e: Fault) -> PortError {
+        PortError::Fault
+    }
+}
 
 /// The console: bytes that are put out.
 #[derive(Drop)]
@@ -71,12 +86,10 @@ impl ConsolePort {
         ensures fault { IsErrOf result PortError.Fault ↔ (console_store self.old offset width word ≡ None) }
         ensures err { OnErr result (self.new ≡ self.old) }
         // Memory is wanted where a byte goes to the output.
-        ensures memory {
-            IsErrOf result PortError.Memory
-            → IsSomeAnd (console_store self.old offset width word) (λ c. length self.old.output < length c.output)
-        }
+        ensures memory { IsErrOf result PortError.Memory
+            → IsSomeAnd (console_store self.old offset width word) (λ c. length self.old.output < length c.output) }
     {
-        if offset != 0 || width != 1 {
+        if offset != CONSOLE_DATA || width != 1 {
             return Err(PortError::Fault);
         }
         self.output.push((word % 256) as u8)?;
@@ -107,19 +120,17 @@ impl ForkPort {
 
     /// Stores the low `width` bytes of `word`.
     pub fn store(&mut self, offset: u32, width: u32, word: u32) -> Result<Effect, Fault>
-        ensures ok {
-            IfOk result (λ effect. fork_store self.old offset width word ≡ Some (record { fork = self.new; effect = effect }))
-        }
+        ensures ok { IfOk result (λ effect. fork_store self.old offset width word ≡ Some (record { fork = self.new; effect = effect })) }
         ensures fault { OnErr result (fork_store self.old offset width word ≡ None) }
         ensures err { OnErr result (self.new ≡ self.old) }
     {
         match (offset, width) {
-            (0, 4) => {
+            (FORK_ARGUMENT, 4) => {
                 self.argument = word;
                 Ok(Effect::Done)
             }
-            (8, 4) if word == 5 => Ok(Effect::Exit(self.argument)),
-            (8, 4) => Ok(Effect::Done),
+            (FORK_COMMAND, 4) if word == EXIT_COMMAND => Ok(Effect::Exit(self.argument)),
+            (FORK_COMMAND, 4) => Ok(Effect::Done),
             _ => Err(Fault),
         }
     }
@@ -166,27 +177,20 @@ impl Ports {
     /// Stores the low `width` bytes of `word` to the port that `address` is of.
     #[tactic(auto, unfolding(forest_model::specs::Ports::port_store))]
     pub fn store(&mut self, address: u32, width: u32, word: u32) -> Result<Effect, PortError>
-        ensures ok {
-            IfOk result (λ effect. port_store self.old address width word ≡ Some (record { ports = self.new; effect = effect }))
-        }
+        ensures ok { IfOk result (λ effect. port_store self.old address width word ≡ Some (record { ports = self.new; effect = effect })) }
         ensures fault { IsErrOf result PortError.Fault ↔ (port_store self.old address width word ≡ None) }
         ensures err { OnErr result (self.new ≡ self.old) }
-        ensures memory {
-            IsErrOf result PortError.Memory
+        ensures memory { IsErrOf result PortError.Memory
             → IsSomeAnd (port_store self.old address width word)
-                (λ s. (s.effect ≡ Effect.Done) × (length self.old.console.output < length s.ports.console.output))
-        }
+            (λ s. (s.effect ≡ Effect.Done) × (length self.old.console.output < length s.ports.console.output)) }
     {
-        if address >= 0x1000_0000 && address < 0x1000_0008 {
-            self.console.store(address - 0x1000_0000, width, word)?;
-            return Ok(Effect::Done);
+        if (CONSOLE_BASE..CONSOLE_BASE + CONSOLE_SIZE).contains(&address) {
+            self.console.store(address - CONSOLE_BASE, width, word)?;
+            Ok(Effect::Done)
+        } else if (FORK_BASE..FORK_BASE + FORK_SIZE).contains(&address) {
+            Ok(self.fork.store(address - FORK_BASE, width, word)?)
+        } else {
+            Err(PortError::Fault)
         }
-        if address >= 0x1000_2000 && address < 0x1000_2028 {
-            return match self.fork.store(address - 0x1000_2000, width, word) {
-                Ok(effect) => Ok(effect),
-                Err(Fault) => Err(PortError::Fault),
-            };
-        }
-        Err(PortError::Fault)
     }
 }

@@ -1,4 +1,4 @@
-ghost use Rattle.std.specs.Prelude.{◌≡◌, ◌+◌, ◌-◌, ◌≤◌, ◌<◌, None, IfOk, OnErr, OnOk, IsTrue, IsSome, is_none};
+ghost use Rattle.std.specs.Prelude.{◌≡◌, ◌+◌, ◌-◌, ◌≤◌, ◌<◌, None, IfOk, OnErr, OnOk, IsSome};
 ghost use Rattle.forest_model.specs.Action.{action};
 ghost use Rattle.forest_model.specs.Machine.{IsWithinLimit, advance, after_steps, finish, boot};
 ghost use Rattle.vm_cell.specs.Acts.{Grows};
@@ -119,9 +119,7 @@ impl Vm {
         ensures stands { IfOk result (λ ran. ran.why ≡ stepped_of self.new.ending) }
         ensures most { IfOk result (λ ran. ran.steps ≤ most) }
         ensures all_made { IfOk result (λ ran. ran.why ≡ Stepped.Went → ran.steps ≡ most) }
-        ensures finished {
-            IfOk result (λ ran. self.old.limit ≤ self.old.steps + most → (self.new ≡ finish self.old) × IsSome self.new.ending)
-        }
+        ensures finished { IfOk result (λ ran. self.old.limit ≤ self.old.steps + most → (self.new ≡ finish self.old) × IsSome self.new.ending) }
         ensures err { OnErr result (self.new ≡ after_steps (self.new.steps - self.old.steps) self.old) }
         ensures err_steps { OnErr result (self.old.steps ≤ self.new.steps) }
         ensures err_live { OnErr result (self.new.ending ≡ None) }

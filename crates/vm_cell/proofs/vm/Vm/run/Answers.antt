@@ -15,8 +15,8 @@ loop-steps-preserved c =
 pub returns-clause-finished : goal.returns-clause-finished
 returns-clause-finished c =
     let all : c.loop-steps.self.ending ≡ None → c.loop-steps.steps ≡ c.args.most =
-      elim c.loop-steps-test.branch [
-          then-loop-steps-test+else-is_none w ↦ λ live. grind arith
-        | else-loop-steps-test w ↦ λ live. omega (arith, c.loop-steps.invariant.1)
-      ] in
+    elim c.loop-steps-test.branch [
+      | then-loop-steps-test+else-is_none w ↦ λ live. grind arith
+      | else-loop-steps-test w ↦ λ live. omega (arith, c.loop-steps.invariant.1)
+    ] in
     finished _ _ _ _ c.loop-steps.invariant.0 c.standing.ensures.within c.standing.ensures.counted all

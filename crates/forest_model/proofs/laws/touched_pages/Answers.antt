@@ -1,0 +1,10 @@
+use Rattle.forest_model.proofs.Touch.{IsPages-touch, touch-IsSome}
+use Rattle.forest_model.proofs.laws.touched_pages.Goals as goal
+
+pub returns : goal.returns
+returns c = record {
+  of_ram = λ m. (IsPages-touch m).of_ram;
+  at_most_two = λ m. (IsPages-touch m).at_most_two;
+  none_twice = λ m. (IsPages-touch m).none_twice;
+  ended = touch-IsSome;
+}
