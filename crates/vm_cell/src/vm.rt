@@ -181,8 +181,27 @@ mod tests {
     // The headers of an image whose one segment, of `size` bytes, goes to the start of RAM.
     fn headers(size: u32) -> [u32; 21] {
         [
-            0x464c_457f, 0x0001_0101, 0, 0, 0x00f3_0002, 1, 0x8000_0000, 52, 0, 0, 0x0020_0034, 1, 0,
-            1, 84, 0x8000_0000, 0x8000_0000, size, size, 7, 4,
+            0x464c_457f,
+            0x0001_0101,
+            0,
+            0,
+            0x00f3_0002,
+            1,
+            0x8000_0000,
+            52,
+            0,
+            0,
+            0x0020_0034,
+            1,
+            0,
+            1,
+            84,
+            0x8000_0000,
+            0x8000_0000,
+            size,
+            size,
+            7,
+            4,
         ]
     }
 
