@@ -49,7 +49,7 @@ impl Model for Hart {
 }
 
 impl Hart {
-    /// A hart at the entry of an image.
+    /// A hart with an image in its RAM, at the entry.
     #[tactic(auto, unfolding(forest_model::specs::Machine::registers_at_start))]
     pub fn new(alloc: Global, image: &Loaded) -> Result<Hart, AllocError>
         ensures { IfOk result (λ hart. hart ≡ record {
@@ -67,12 +67,14 @@ impl Hart {
         })
     }
 
+    /// The console's output.
     pub fn output(&self) -> &[u8]
         ensures { result.now ≡ self.now.ports.console.output }
     {
         self.ports.output()
     }
 
+    /// The console's output, of a hart that is needed no more.
     pub fn into_output(self) -> Vec<u8>
         ensures { result.items ≡ self.ports.console.output }
     {
@@ -108,6 +110,7 @@ impl Hart {
         }
     }
 
+    /// Executes an instruction at the pc.
     #[inline]
     #[tactic(auto, unfolding(forest_model::specs::Action::execute))]
     fn execute(&mut self, instr: Instr) -> Result<Acted, AllocError>
@@ -123,6 +126,7 @@ impl Hart {
         }
     }
 
+    /// Executes a kind that computes the register rd from rs1 and the immediate.
     #[inline]
     #[tactic(auto, unfolding(forest_model::specs::Action::computed_immediate))]
     fn compute_immediate(&mut self, instr: Instr)
@@ -135,9 +139,10 @@ impl Hart {
             instr.imm().cast_unsigned(),
         );
         self.set_register(instr.rd(), value);
-        self.go_on();
+        self.advance_pc();
     }
 
+    /// Executes a store of the low bytes of the register rs2.
     #[inline]
     #[tactic(auto, unfolding(forest_model::specs::Action::stored))]
     fn store(&mut self, instr: Instr) -> Result<Acted, AllocError>
@@ -156,8 +161,9 @@ impl Hart {
         }
     }
 
-    /// Stores the bytes, which are the low ones of `word`.
-    #[inline]
+    /// Stores the bytes, which are the low ones of `word`. It is inlined at each width, so that the
+    /// test of the address and the write know how many bytes there are.
+    #[inline(always)]
     #[tactic(auto, unfolding(forest_model::specs::Action::store_action))]
     fn store_to(&mut self, address: u32, word: u32, bytes: &[u8]) -> Result<Acted, AllocError>
         requires width { (length bytes.now ≡ 1) ⊎ (length bytes.now ≡ 4) }
@@ -174,7 +180,7 @@ impl Hart {
         match self.ram_offset(address) {
             Some(offset) => {
                 write_bytes(&mut self.ram, offset, bytes);
-                self.go_on();
+                self.advance_pc();
                 Ok(Acted::Retired)
             }
             None => self.store_to_port(address, width, word),
@@ -188,7 +194,7 @@ impl Hart {
     {
         match self.ports.store(address, width, word) {
             Ok(effect) => {
-                self.go_on();
+                self.advance_pc();
                 Ok(match effect {
                     Effect::Done => Acted::Retired,
                     Effect::Exit(value) => Acted::Exited(value),
@@ -240,14 +246,14 @@ impl Hart {
 
     /// Goes on at the next instruction.
     #[inline]
-    fn go_on(&mut self)
+    fn advance_pc(&mut self)
         ensures { self.new ≡ at_next_instruction self.old }
     {
         self.pc = self.pc.wrapping_add(4);
     }
 }
 
-/// The result of a kind that computes: `a` is the register rs1, `b` the immediate.
+/// What a kind that computes makes of the register rs1, `a`, and the immediate, `b`.
 #[inline]
 fn alu(kind: Kind, a: u32, b: u32) -> u32
     requires { group_of kind ≡ compute_immediate }

@@ -1,4 +1,4 @@
-ghost use Rattle.std.specs.Prelude.{◌≡◌, ◌+◌, ◌-◌, ◌≤◌, ◌<◌, None, IfOk, OnErr, OnOk, IsSome};
+ghost use Rattle.std.specs.Prelude.{◌≡◌, ◌+◌, ◌-◌, ◌≤◌, ◌<◌, length, None, IfOk, OnErr, OnOk, IsSome};
 ghost use Rattle.forest_model.specs.Action.{action};
 ghost use Rattle.forest_model.specs.Machine.{IsWithinLimit, advance, after_steps, finish, boot};
 ghost use Rattle.vm_cell.specs.Acts.{Grows};
@@ -122,7 +122,9 @@ impl Vm {
         ensures finished { IfOk result (λ ran. self.old.limit ≤ self.old.steps + most → (self.new ≡ finish self.old) × IsSome self.new.ending) }
         ensures err { OnErr result (self.new ≡ after_steps (self.new.steps - self.old.steps) self.old) }
         ensures err_steps { OnErr result (self.old.steps ≤ self.new.steps) }
+        ensures err_most { OnErr result (self.new.steps < self.old.steps + most) }
         ensures err_live { OnErr result (self.new.ending ≡ None) }
+        ensures err_memory { OnErr result (Grows (action self.new.state) self.new.state) }
     {
         let mut steps = 0;
         while steps < most && self.ending.is_none() {
@@ -156,6 +158,7 @@ impl Vm {
         Ok(())
     }
 
+    /// Where the machine stands.
     #[inline]
     fn standing(&self) -> Stepped
         ensures stands { result ≡ stepped_of self.now.ending }
@@ -166,5 +169,87 @@ impl Vm {
             None => Stepped::Went,
             Some(ending) => Stepped::Ended(ending),
         }
+    }
+}
+
+#[cfg(test)]
+mod tests {
+    use super::*;
+    use elf_load::{ImageError, load_elf};
+    use std::test::Fail;
+
+    // The headers of an image whose one segment, of `size` bytes, goes to the start of RAM.
+    fn headers(size: u32) -> [u32; 21] {
+        [
+            0x464c_457f, 0x0001_0101, 0, 0, 0x00f3_0002, 1, 0x8000_0000, 52, 0, 0, 0x0020_0034, 1, 0,
+            1, 84, 0x8000_0000, 0x8000_0000, size, size, 7, 4,
+        ]
+    }
+
+    // An image of instruction words, loaded into 64 pages.
+    fn load(alloc: Global, words: &[u32]) -> Result<Loaded, ImageError>
+        requires { length words.now ≤ 32 }
+    {
+        let mut bytes = Vec::new(alloc);
+        for word in headers(4 * words.len() as u32).iter().chain(words) {
+            bytes.extend_from_slice(&word.to_le_bytes())?;
+        }
+        load_elf(alloc, &bytes, 64)
+    }
+
+    const EXIT_SEVEN: [u32; 5] = [0x100022b7, 0x00700313, 0x0062a023, 0x00500313, 0x0062a423];
+
+    const PRINT_LETTER: [u32; 7] = [
+        0x100002b7, 0x04100313, 0x00628023, 0x100022b7, 0x0002a023, 0x00500313, 0x0062a423,
+    ];
+
+    // EXIT 7, of which a byte store makes EXIT 9 before it is executed.
+    const PATCHED: [u32; 8] = [
+        0x100022b7, 0x800003b7, 0x09000413, 0x00838923, 0x00700313, 0x0062a023, 0x00500313,
+        0x0062a423,
+    ];
+
+    #[test]
+    fn runs_programs(rt: HostRuntime) -> Result<(), Fail> {
+        let cases: [(&[u32], u64, Ending, u64, &[u8]); 9] = [
+            (&EXIT_SEVEN, 1_000_000, Ending::Exit(7), 5, b""),
+            (&EXIT_SEVEN, 5, Ending::Exit(7), 5, b""),
+            (&EXIT_SEVEN, 4, Ending::Limit, 4, b""),
+            (&PRINT_LETTER, 1_000_000, Ending::Exit(0), 7, b"A"),
+            (&PATCHED, 1_000_000, Ending::Exit(9), 8, b""),
+            // no instruction, on the last step that the limit allows
+            (&[0], 1, Ending::Fault(2), 1, b""),
+            // a word to 0x10002001, to 0x10002004, and to the console
+            (&[0x100022b7, 0x0002a0a3], 9, Ending::Fault(6), 2, b""),
+            (&[0x100022b7, 0x0002a223], 9, Ending::Fault(7), 2, b""),
+            (&[0x100002b7, 0x0002a023], 9, Ending::Fault(7), 2, b""),
+        ];
+        for (words, limit, ending, steps, output) in cases {
+            assert!(rt; words.len() <= 32 && 1 <= limit && limit <= 1_000_000_000);
+            let mut vm = Vm::boot(rt.alloc(), &load(rt.alloc(), words)?, Options { limit })?;
+            let ran = vm.run(limit)?;
+            assert_eq!(rt; ran.steps, steps, "at {words:?}");
+            assert_eq!(rt; ran.why, Stepped::Ended(ending), "at {words:?}");
+            assert_eq!(rt; vm.ended(), Some(ending));
+            assert_eq!(rt; vm.steps(), steps);
+            assert_eq!(rt; vm.output(), output);
+            assert_eq!(rt; vm.into_output().as_slice(), output);
+        }
+        Ok(())
+    }
+
+    #[test]
+    fn stops_and_goes_on(rt: HostRuntime) -> Result<(), Fail> {
+        let image = load(rt.alloc(), &EXIT_SEVEN)?;
+        let mut vm = Vm::boot(rt.alloc(), &image, Options { limit: 100 })?;
+        let ran = vm.run(3)?;
+        assert_eq!(rt; ran.steps, 3);
+        assert_eq!(rt; ran.why, Stepped::Went);
+        assert_eq!(rt; vm.step()?, Stepped::Went);
+        assert_eq!(rt; vm.step()?, Stepped::Ended(Ending::Exit(7)));
+        assert_eq!(rt; vm.step()?, Stepped::Ended(Ending::Exit(7)));
+        assert_eq!(rt; vm.run(3)?.steps, 0);
+        assert_eq!(rt; vm.steps(), 5);
+        Ok(())
     }
 }
