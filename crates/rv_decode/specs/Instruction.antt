@@ -2,10 +2,10 @@
 -- RISC-V Unprivileged ISA 20191213, sections 2.2 and 2.3
 use Rattle.std.specs.Prelude.{◌≡◌, ℕ, ◌<◌, ◌%◌, ℤ, pos, negsuc, ◌≤ℤ◌, ◌<ℤ◌, FitsSigned}
 use Rattle.std.specs.Int.{cast_unsigned, w32}
-use Rattle.rv_decode.specs.declared.instruction.Kind.{Kind}
-use Rattle.rv_decode.specs.declared.instruction.Kind.TheVariants.{Lui, Addi, Sb, Sw}
-use Rattle.rv_decode.specs.declared.instruction.Format.{Format}
-use Rattle.rv_decode.specs.declared.instruction.Format.TheVariants.{U, I, S}
+use Rattle.rv_decode.specs.declared.kinds.Kind.{Kind}
+use Rattle.rv_decode.specs.declared.kinds.Kind.TheVariants.{Lui, Addi, Sb, Sw}
+use Rattle.rv_decode.specs.declared.kinds.Format.{Format}
+use Rattle.rv_decode.specs.declared.kinds.Format.TheVariants.{U, I, S}
 
 pub record Instruction : Type 0 where
   pub kind : Kind

@@ -3,10 +3,10 @@
 use Rattle.std.specs.Prelude.{ℕ, ◌+◌, ◌*◌, ◌/◌, ◌%◌, ◌==◌, Bool, ℤ, pos, ◌-ℤ◌, nat_lt, if◌then◌else◌, List, [], ◌∷◌, Option, bit_and, find, ◌^◌}
 use Rattle.std.specs.Option.{option_map}
 use Rattle.std.specs.Int.{cast_signed, w32}
-use Rattle.rv_decode.specs.declared.instruction.Kind.{Kind}
-use Rattle.rv_decode.specs.declared.instruction.Kind.TheVariants.{Lui, Addi, Sb, Sw}
-use Rattle.rv_decode.specs.declared.instruction.Format.{Format}
-use Rattle.rv_decode.specs.declared.instruction.Format.TheVariants.{U, I, S}
+use Rattle.rv_decode.specs.declared.kinds.Kind.{Kind}
+use Rattle.rv_decode.specs.declared.kinds.Kind.TheVariants.{Lui, Addi, Sb, Sw}
+use Rattle.rv_decode.specs.declared.kinds.Format.{Format}
+use Rattle.rv_decode.specs.declared.kinds.Format.TheVariants.{U, I, S}
 use Rattle.rv_decode.specs.Instruction.{Instruction, format_of}
 
 pub record Row : Type 0 where

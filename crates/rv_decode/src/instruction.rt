@@ -1,45 +1,8 @@
 ghost use Rattle.std.specs.Prelude.{◌≡◌, ◌<◌, SomeIff};
-ghost use Rattle.rv_decode.specs.Instruction.{format_of};
 
 use std::marker::Model;
 
-/// What an instruction does, by its name in the RISC-V Unprivileged ISA 20191213.
-#[derive(Clone, Copy, Debug, PartialEq, Eq)]
-pub enum Kind {
-    /// Load upper immediate.
-    Lui,
-    /// Add immediate.
-    Addi,
-    /// Store byte.
-    Sb,
-    /// Store word.
-    Sw,
-}
-
-/// How the fields of an instruction lie in its word (sections 2.2 and 2.3).
-#[derive(Clone, Copy, Debug, PartialEq, Eq)]
-pub enum Format {
-    /// `rd` and an immediate of the upper 20 bits.
-    U,
-    /// `rd`, `rs1` and a signed immediate of 12 bits.
-    I,
-    /// `rs1`, `rs2` and a signed immediate of 12 bits.
-    S,
-}
-
-impl Kind {
-    /// The format of this kind's words.
-    #[inline]
-    pub fn format(self) -> Format
-        ensures { result ≡ format_of self }
-    {
-        match self {
-            Kind::Lui => Format::U,
-            Kind::Addi => Format::I,
-            Kind::Sb | Kind::Sw => Format::S,
-        }
-    }
-}
+use crate::kinds::{Format, Kind};
 
 /// An instruction: its kind, its registers from 0 to 31, and its immediate. Each field is in the
 /// range of the kind's format, and 0 where the format lacks it.

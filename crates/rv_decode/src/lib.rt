@@ -3,7 +3,9 @@
 
 mod decoder;
 mod instruction;
+mod kinds;
 pub mod laws;
 
 pub use decoder::decode;
-pub use instruction::{Format, Instr, Kind};
+pub use instruction::Instr;
+pub use kinds::{Format, Group, Kind};
