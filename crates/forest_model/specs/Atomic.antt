@@ -1,25 +1,19 @@
 -- Words that are loaded, computed with and stored in one step, in RAM alone, at the address in rs1.
 -- RISC-V Unprivileged ISA 20191213, chapter 8
-use Rattle.std.specs.Prelude.{ℕ, ◌-◌, ◌==◌, Bool, true, false, Option, Some, None}
+use Rattle.std.specs.Prelude.{ℕ, ◌==◌, Bool, true, false, Option, Some, None}
 use Rattle.std.specs.Int.{to_le_bytes, w32}
-use Rattle.elf_load.specs.declared.image.TheConstants.{RAM_BASE}
-use Rattle.flat_memory.specs.Flat.{word_at}
 use Rattle.rv_decode.specs.Instruction.{Instruction}
 use Rattle.rv_exec.specs.Amo.{amo_value}
 use Rattle.forest_model.specs.declared.cause.TheConstants.{LOAD_ADDRESS_MISALIGNED, LOAD_ACCESS_FAULT, STORE_ADDRESS_MISALIGNED, STORE_ACCESS_FAULT}
 use Rattle.forest_model.specs.State.{State, is_in_ram}
 use Rattle.forest_model.specs.Action.{Action, trap, retire_next, with_rd, rs1, rs2}
-use Rattle.forest_model.specs.Memory.{is_aligned, with_bytes}
-
--- the word of RAM at an address
-abbrev pub ram_word : ℕ → State → ℕ
-ram_word address s = word_at s.ram (address - RAM_BASE)
+use Rattle.forest_model.specs.Memory.{is_aligned, ram_number, with_bytes}
 
 -- LR: the word is loaded, and its address is reserved
 abbrev pub reserve_at : Bool → Instruction → ℕ → State → Action
 reserve_at false i address s = trap LOAD_ACCESS_FAULT address
 reserve_at true i address s =
-    retire_next (with_rd i (ram_word address s) (record s { reservation = Some address }))
+    retire_next (with_rd i (ram_number address 4 s) (record s { reservation = Some address }))
 
 abbrev pub aligned_reserve : Bool → Instruction → ℕ → State → Action
 aligned_reserve false i address s = trap LOAD_ADDRESS_MISALIGNED address
@@ -54,7 +48,7 @@ store_conditional i s = aligned_conditional (is_aligned (rs1 i s) 4) i (rs1 i s)
 abbrev pub amo_at : Bool → Instruction → ℕ → State → Action
 amo_at false i address s = trap STORE_ACCESS_FAULT address
 amo_at true i address s =
-    let old = ram_word address s
+    let old = ram_number address 4 s
     in retire_next (with_rd i old (with_bytes address (to_le_bytes w32 (amo_value i.kind old (rs2 i s))) s))
 
 abbrev pub aligned_amo : Bool → Instruction → ℕ → State → Action

@@ -6,7 +6,8 @@ use Rattle.forest_model.specs.declared.Ending.TheVariants.{Exit, Limit, Fault}
 use Rattle.forest_model.specs.declared.Options.{Options}
 use Rattle.forest_model.specs.Ports.{ports_at_start}
 use Rattle.forest_model.specs.State.{State}
-use Rattle.forest_model.specs.Action.{Action, trap, retire, exit, action}
+use Rattle.forest_model.specs.Action.{Action, trap, retire, exit}
+use Rattle.forest_model.specs.Execute.{action}
 
 pub record Machine : Type 0 where
   pub state : State
@@ -72,6 +73,7 @@ boot image options = record {
   state = record {
     registers = registers_at_start;
     pc = image.entry;
+    reservation = None;
     ram = image.ram;
     ports = ports_at_start;
   };

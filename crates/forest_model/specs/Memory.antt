@@ -2,7 +2,8 @@
 -- RISC-V Unprivileged ISA 20191213, section 2.6
 use Rattle.std.specs.Prelude.{ℕ, ◌+◌, ◌-◌, ◌%◌, ◌^◌, ◌==◌, Bool, true, false, List, length, Option, Some, None}
 use Rattle.elf_load.specs.declared.image.TheConstants.{RAM_BASE}
-use Rattle.flat_memory.specs.Flat.{number_at, put_bytes}
+use Rattle.byteorder.specs.Endian.{little_from}
+use Rattle.flat_memory.specs.Flat.{put_bytes}
 use Rattle.rv_decode.specs.Instruction.{Instruction}
 use Rattle.rv_exec.specs.Memory.{load_value, load_width, store_bytes}
 use Rattle.forest_model.specs.declared.cause.TheConstants.{LOAD_ADDRESS_MISALIGNED, LOAD_ACCESS_FAULT, STORE_ADDRESS_MISALIGNED, STORE_ACCESS_FAULT}
@@ -20,6 +21,10 @@ data_address i s = (rs1 i s + immediate i) % 2 ^ 32
 abbrev pub is_aligned : ℕ → ℕ → Bool
 is_aligned address width = address % width == 0
 
+-- the number in the `width` bytes of RAM at an address, the lowest first
+abbrev pub ram_number : ℕ → ℕ → State → ℕ
+ram_number address width s = little_from (address - RAM_BASE) width s.ram
+
 -- rd becomes what the kind makes of a number that was read
 abbrev pub read_action : Option Read → Instruction → ℕ → State → Action
 read_action None i address s = trap LOAD_ACCESS_FAULT address
@@ -27,7 +32,7 @@ read_action (Some read) i address s = retire_next (with_rd i (load_value i.kind 
 
 abbrev pub place_load : Bool → Instruction → ℕ → State → Action
 place_load true i address s =
-    retire_next (with_rd i (load_value i.kind (number_at s.ram (address - RAM_BASE) (load_width i.kind))) s)
+    retire_next (with_rd i (load_value i.kind (ram_number address (load_width i.kind) s)) s)
 place_load false i address s = read_action (port_load s.ports address (load_width i.kind)) i address s
 
 abbrev pub aligned_load : Bool → Instruction → ℕ → State → Action

@@ -1,5 +1,5 @@
 -- What an instruction sees of a machine.
-use Rattle.std.specs.Prelude.{ℕ, ◌+◌, ◌-◌, ◌/◌, ◌%◌, ◌^◌, ◌==◌, ◌&&◌, Bool, nat_lt, nat_le, if◌then◌else◌, List, length, slice_index, slice_set}
+use Rattle.std.specs.Prelude.{ℕ, ◌+◌, ◌-◌, ◌/◌, ◌%◌, ◌^◌, ◌==◌, ◌&&◌, Bool, nat_lt, nat_le, if◌then◌else◌, List, length, slice_index, slice_set, Option}
 use Rattle.elf_load.specs.declared.image.TheConstants.{RAM_BASE}
 use Rattle.forest_model.specs.Ports.{PortRegisters}
 
@@ -7,6 +7,8 @@ pub record State : Type 0 where
   -- x0 to x31, of which x0 reads 0
   pub registers : List ℕ
   pub pc : ℕ
+  -- the address of the word that LR reserved, if any
+  pub reservation : Option ℕ
   pub ram : List ℕ
   pub ports : PortRegisters
 
