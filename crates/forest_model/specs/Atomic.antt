@@ -3,7 +3,7 @@
 use Rattle.std.specs.Prelude.{ℕ, ◌==◌, Bool, true, false, Option, Some, None}
 use Rattle.std.specs.Int.{to_le_bytes, w32}
 use Rattle.rv_decode.specs.Instruction.{Instruction}
-use Rattle.rv_exec.specs.Amo.{amo_value}
+use Rattle.rv_exec.specs.Atomic.{amo_value}
 use Rattle.forest_model.specs.declared.cause.TheConstants.{LOAD_ADDRESS_MISALIGNED, LOAD_ACCESS_FAULT, STORE_ADDRESS_MISALIGNED, STORE_ACCESS_FAULT}
 use Rattle.forest_model.specs.State.{State, is_in_ram}
 use Rattle.forest_model.specs.Action.{Action, trap, retire_next, with_rd, rs1, rs2}

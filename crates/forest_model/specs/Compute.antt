@@ -1,7 +1,7 @@
 -- Instructions that compute a value for rd. RISC-V Unprivileged ISA 20191213, section 2.4 and chapter 7
 use Rattle.std.specs.Prelude.{ℕ, ◌+◌, ◌%◌, ◌^◌}
 use Rattle.rv_decode.specs.Instruction.{Instruction}
-use Rattle.rv_exec.specs.Alu.{alu}
+use Rattle.rv_exec.specs.Compute.{alu}
 use Rattle.forest_model.specs.State.{State}
 use Rattle.forest_model.specs.Action.{Action, retire_next, with_rd, rs1, rs2, immediate}
 
