@@ -1,8 +1,10 @@
-ghost use Rattle.std.specs.Prelude.{◌≡◌, ◌<◌};
-ghost use Rattle.rv_decode.specs.Instruction.{format_of};
-ghost use Rattle.rv_decode.specs.Table.{decoded, kind_of_word, in_format, signed_12, rd_field, rs1_field, rs2_field};
+ghost use Rattle.std.specs.Prelude.{◌≡◌, ◌*◌, ◌<◌, ◌≤◌};
+ghost use Rattle.rv_decode.specs.Kinds.{format_of};
+ghost use Rattle.rv_decode.specs.Instruction.{IsMultiple, IsSigned};
+ghost use Rattle.rv_decode.specs.Table.{decoded, kind_of_word, in_format, signed, rd_field, rs1_field, rs2_field, u_immediate, j_immediate, b_immediate, i_immediate, s_immediate};
 
-use crate::instruction::{Format, Instr, Kind};
+use crate::instruction::Instr;
+use crate::kinds::{Format, Kind};
 
 /// The instruction that `word` encodes, or `None` exactly where no row of the table matches it.
 #[inline]
@@ -36,28 +38,24 @@ fn kind_of_word(word: u32) -> Option<Kind>
 fn instr_of_word(kind: Kind, word: u32) -> Instr
     ensures { result ≡ in_format (format_of kind) kind word }
 {
-    match kind.format() {
-        Format::U => Instr {
-            kind,
-            rd: rd(word),
-            rs1: 0,
-            rs2: 0,
-            imm: (word / 4096 * 4096).cast_signed(),
-        },
-        Format::I => Instr {
-            kind,
-            rd: rd(word),
-            rs1: rs1(word),
-            rs2: 0,
-            imm: signed_12(word >> 20),
-        },
-        Format::S => Instr {
-            kind,
-            rd: 0,
-            rs1: rs1(word),
-            rs2: rs2(word),
-            imm: signed_12((word >> 25) * 32 + u32::from(rd(word))),
-        },
+    let (rd, rs1, rs2, imm) = match kind.format() {
+        Format::U => (rd(word), 0, 0, u_immediate(word)),
+        Format::J => (rd(word), 0, 0, j_immediate(word)),
+        Format::B => (0, rs1(word), rs2(word), b_immediate(word)),
+        Format::I => (rd(word), rs1(word), 0, i_immediate(word)),
+        Format::S => (0, rs1(word), rs2(word), s_immediate(word)),
+        Format::Shift => (rd(word), rs1(word), 0, i32::from(rs2(word))),
+        Format::Csr => (rd(word), rs1(word), 0, (word >> 20).cast_signed()),
+        Format::R => (rd(word), rs1(word), rs2(word), 0),
+        Format::Lr => (rd(word), rs1(word), 0, 0),
+        Format::Bare => (0, 0, 0, 0),
+    };
+    Instr {
+        kind,
+        rd,
+        rs1,
+        rs2,
+        imm,
     }
 }
 
@@ -88,16 +86,64 @@ fn rs2(word: u32) -> u8
     (word >> 20 & 31) as u8
 }
 
-/// A field of 12 bits in two's complement.
 #[inline]
-fn signed_12(field: u32) -> i32
-    requires { field < 4096 }
-    ensures { result ≡ signed_12 field }
+fn u_immediate(word: u32) -> i32
+    ensures value { result ≡ u_immediate word }
+    ensures multiple { IsMultiple 4096 result }
 {
-    if field < 2048 {
-        field.cast_signed()
+    (word / 4096 * 4096).cast_signed()
+}
+
+#[inline]
+fn j_immediate(word: u32) -> i32
+    ensures value { result ≡ j_immediate word }
+    ensures signed { IsSigned 0x10_0000 result }
+    ensures even { IsMultiple 2 result }
+{
+    let upper = (word >> 31) * 0x10_0000 + (word >> 12 & 0xff) * 0x1000;
+    let lower = (word >> 20 & 1) * 0x800 + (word >> 21 & 0x3ff) * 2;
+    signed(0x10_0000, upper + lower)
+}
+
+#[inline]
+fn b_immediate(word: u32) -> i32
+    ensures value { result ≡ b_immediate word }
+    ensures signed { IsSigned 0x1000 result }
+    ensures even { IsMultiple 2 result }
+{
+    let upper = (word >> 31) * 0x1000 + (word >> 7 & 1) * 0x800;
+    let lower = (word >> 25 & 0x3f) * 32 + (word >> 8 & 0xf) * 2;
+    signed(0x1000, upper + lower)
+}
+
+#[inline]
+fn i_immediate(word: u32) -> i32
+    ensures value { result ≡ i_immediate word }
+    ensures signed { IsSigned 0x800 result }
+{
+    signed(0x800, word >> 20)
+}
+
+#[inline]
+fn s_immediate(word: u32) -> i32
+    ensures value { result ≡ s_immediate word }
+    ensures signed { IsSigned 0x800 result }
+{
+    signed(0x800, (word >> 25) * 32 + u32::from(rd(word)))
+}
+
+/// A field in two's complement whose sign bit is worth `half`.
+#[inline]
+fn signed(half: u32, value: u32) -> i32
+    requires limit { half ≤ 0x10_0000 }
+    requires field { value < 2 * half }
+    ensures value { result ≡ signed half value }
+    ensures signed { IsSigned half result }
+{
+    if value < half {
+        value.cast_signed()
     } else {
-        field.cast_signed() - 4096
+        value.cast_signed() - (2 * half).cast_signed()
     }
 }
 
