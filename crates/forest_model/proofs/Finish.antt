@@ -3,7 +3,8 @@ use Rattle.std.proofs.Common.{◌≡◌, ℕ, zero, suc, ◌+◌, ◌-◌, ◌<�
 use Rattle.forest_model.specs.declared.Ending.{Ending}
 use Rattle.forest_model.specs.declared.Ending.TheVariants.{Exit, Limit, Fault}
 use Rattle.forest_model.specs.State.{State}
-use Rattle.forest_model.specs.Action.{Action, trap, retire, exit, action}
+use Rattle.forest_model.specs.Action.{Action, trap, retire, exit}
+use Rattle.forest_model.specs.Execute.{action}
 use Rattle.forest_model.specs.Machine.{Machine, IsWithinLimit, Next, exception, next_of, next, advance, advance_from, applied, after_steps, finish}
 
 -- an ended machine stays as it is

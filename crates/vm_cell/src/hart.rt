@@ -60,6 +60,7 @@ impl Hart {
         ensures { IfOk result (λ hart. hart ≡ record {
           registers = registers_at_start;
           pc = image.now.entry;
+          reservation = None;
           ram = image.now.ram;
           ports = ports_at_start;
         }) }
@@ -161,6 +162,7 @@ impl Hart {
     fn ram_offset(&self, address: u32) -> Option<usize>
         ensures outside { IsNone result ↔ (is_in_ram self.now.ram address ≡ false) }
         ensures inside { IfSome result (λ offset. (is_in_ram self.now.ram address ≡ true) × (offset ≡ address - RAM_BASE) × (offset < length self.now.ram)) }
+        ensures whole_halves { IfSome result (λ offset. address % 2 ≡ 0 → offset + 2 ≤ length self.now.ram) }
         ensures whole_words { IfSome result (λ offset. address % 4 ≡ 0 → offset + 4 ≤ length self.now.ram) }
     {
         if address < RAM_BASE {

@@ -1,5 +1,5 @@
 ghost use Rattle.std.specs.Prelude.{◌≡◌, ◌+◌, ◌-◌, ◌≤◌, ◌<◌, length, None, IfOk, OnErr, OnOk, IsSome};
-ghost use Rattle.forest_model.specs.Action.{action};
+ghost use Rattle.forest_model.specs.Execute.{action};
 ghost use Rattle.forest_model.specs.Machine.{IsWithinLimit, advance, after_steps, finish, boot};
 ghost use Rattle.vm_cell.specs.Acts.{Grows};
 ghost use Rattle.vm_cell.specs.Steps.{stepped_of};

@@ -4,8 +4,9 @@ ghost use Rattle.std.specs.Prelude.{◌≡◌, ◌+◌, ◌≤◌, ◌⊎◌, le
 ghost use Rattle.rv_decode.specs.declared.kinds.Group.TheVariants as group;
 ghost use Rattle.rv_decode.specs.Kinds.{group_of};
 ghost use Rattle.byteorder.specs.Endian.{little_from};
-ghost use Rattle.forest_model.specs.Ports.{port_store};
-ghost use Rattle.forest_model.specs.Memory.{data_address, load, store, store_action, port_action};
+ghost use Rattle.forest_model.specs.Ports.{port_load, port_store};
+ghost use Rattle.forest_model.specs.Memory.{data_address, is_aligned, aligned_load, read_action, load, store, store_action, port_action};
+ghost use Rattle.rv_exec.specs.Memory.{load_width};
 ghost use Rattle.vm_cell.specs.Acts.{Acts, Grows};
 
 use super::{Acted, Hart, trapped};
@@ -16,7 +17,7 @@ use forest_model::cause::{
     LOAD_ACCESS_FAULT, LOAD_ADDRESS_MISALIGNED, STORE_ACCESS_FAULT, STORE_ADDRESS_MISALIGNED,
 };
 use rv_decode::{Instr, Kind};
-use rv_exec::{load_value, load_width};
+use rv_exec::load_value;
 use std::alloc::AllocError;
 
 impl Hart {
@@ -30,25 +31,48 @@ impl Hart {
     }
 
     #[inline]
-    #[tactic(auto, unfolding(forest_model::specs::Memory::load))]
+    #[tactic(auto, unfolding(forest_model::specs::Memory::load, rv_decode::specs::Kinds::group_of))]
     pub(super) fn load(&mut self, instr: Instr) -> Acted
         requires { group_of instr.kind ≡ group.Load }
         ensures { Acts self.old self.new (load instr self.old) (Ok result) }
     {
         let address = self.data_address(instr);
-        let width = load_width(instr.kind());
+        match instr.kind() {
+            Kind::Lb | Kind::Lbu => self.load_from(instr, address, 1),
+            Kind::Lh | Kind::Lhu => self.load_from(instr, address, 2),
+            Kind::Lw => self.load_from(instr, address, 4),
+            _ => unreachable!(),
+        }
+    }
+
+    /// Loads the `width` bytes from `address`.
+    #[inline(always)]
+    fn load_from(&mut self, instr: Instr, address: u32, width: u32) -> Acted
+        requires group { group_of instr.kind ≡ group.Load }
+        requires width { width ≡ load_width instr.kind }
+        requires widths { (width ≡ 1) ⊎ ((width ≡ 2) ⊎ (width ≡ 4)) }
+        ensures { Acts self.old self.new (aligned_load (is_aligned address width) instr address self.old) (Ok result) }
+    {
         if address % width != 0 {
             return trapped(LOAD_ADDRESS_MISALIGNED, address);
         }
         let Some(offset) = self.ram_offset(address) else {
-            return trapped(LOAD_ACCESS_FAULT, address);
+            return self.load_from_port(instr, address, width);
         };
         let number = self.read(offset, width);
         self.retire_with(instr, load_value(instr.kind(), number))
     }
 
+    /// Loads the `width` bytes from a port: none gives one yet.
+    #[tactic(auto, unfolding(forest_model::specs::Ports::port_load))]
+    fn load_from_port(&mut self, instr: Instr, address: u32, width: u32) -> Acted
+        ensures { Acts self.old self.new (read_action (port_load self.old.ports address width) instr address self.old) (Ok result) }
+    {
+        trapped(LOAD_ACCESS_FAULT, address)
+    }
+
     /// The number in the `width` bytes of RAM from `offset`.
-    #[inline]
+    #[inline(always)]
     fn read(&self, offset: usize, width: u32) -> u32
         requires width { (width ≡ 1) ⊎ ((width ≡ 2) ⊎ (width ≡ 4)) }
         requires within { offset + width ≤ length self.now.ram }
@@ -62,7 +86,7 @@ impl Hart {
     }
 
     #[inline]
-    #[tactic(auto, unfolding(forest_model::specs::Memory::store))]
+    #[tactic(auto, unfolding(forest_model::specs::Memory::store, rv_decode::specs::Kinds::group_of))]
     pub(super) fn store(&mut self, instr: Instr) -> Result<Acted, AllocError>
         requires { group_of instr.kind ≡ group.Store }
         ensures acts { Acts self.old self.new (store instr self.old) result }
@@ -74,7 +98,8 @@ impl Hart {
         match instr.kind() {
             Kind::Sb => self.store_to(address, word, &[a]),
             Kind::Sh => self.store_to(address, word, &[a, b]),
-            _ => self.store_to(address, word, &[a, b, c, d]),
+            Kind::Sw => self.store_to(address, word, &[a, b, c, d]),
+            _ => unreachable!(),
         }
     }
 
