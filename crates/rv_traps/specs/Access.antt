@@ -2,16 +2,15 @@
 -- RISC-V Privileged ISA 20211203, section 2.1
 use Rattle.std.specs.Prelude.{ℕ, ◌/◌, ◌%◌, ◌^◌, ◌==◌, Bool, true, false, if◌then◌else◌, Option, Some, None, bit_and}
 use Rattle.std.specs.Option.{option_map}
-use Rattle.std.specs.Int.{bit_at}
 use Rattle.rv_traps.specs.declared.number.Csr.{Csr}
 use Rattle.rv_traps.specs.declared.number.Csr.TheVariants.{Mstatus, Mie, Mtvec, Mscratch, Mepc, Mcause, Mtval, Mcycle, Minstret, Mcycleh, Minstreth}
 use Rattle.rv_traps.specs.declared.registers.CsrRegisters.{CsrRegisters}
-use Rattle.rv_traps.specs.Registers.{mstatus_of, with_low_half, with_high_half}
+use Rattle.rv_traps.specs.Registers.{has_bit, mstatus_of, with_low_half, with_high_half}
 use Rattle.rv_traps.specs.Table.{csr_of, reading, keeps}
 
 -- the registers after a write of one that keeps these bits; one that is not named here keeps none
 abbrev pub put : Csr → ℕ → CsrRegisters → CsrRegisters
-put Mstatus kept c = record c { mstatus = mstatus_of (bit_at kept 3) (bit_at kept 7) }
+put Mstatus kept c = record c { mstatus = mstatus_of (has_bit kept 3) (has_bit kept 7) }
 put Mie kept c = record c { mie = kept }
 put Mtvec kept c = record c { mtvec = kept }
 put Mscratch kept c = record c { mscratch = kept }

@@ -1,9 +1,9 @@
 -- Traps, the return from them, and when the timer interrupt comes.
 -- RISC-V Privileged ISA 20211203, sections 3.1.6, 3.1.7, 3.1.9 and 3.3.2
-use Rattle.std.specs.Prelude.{ℕ, ◌+◌, ◌*◌, ◌/◌, ◌%◌, ◌^◌, ◌==◌, ◌&&◌, Bool, nat_le, if◌then◌else◌}
+use Rattle.std.specs.Prelude.{ℕ, ◌+◌, ◌*◌, ◌/◌, ◌%◌, ◌^◌, ◌==◌, ◌&&◌, Bool, true, false, nat_le, if◌then◌else◌}
 use Rattle.rv_traps.specs.declared.csrs.TheConstants.{TIMER_INTERRUPT}
 use Rattle.rv_traps.specs.declared.registers.CsrRegisters.{CsrRegisters}
-use Rattle.rv_traps.specs.Registers.{mstatus_of, interrupt_enable, previous_interrupt_enable, timer_interrupt_enable}
+use Rattle.rv_traps.specs.Registers.{has_bit, mstatus_of, interrupt_enable, previous_interrupt_enable, timer_interrupt_enable}
 
 -- an address with its bits 1:0 cleared
 abbrev pub aligned : ℕ → ℕ
@@ -13,12 +13,12 @@ aligned address = address / 4 * 4
 -- behind it.
 abbrev pub handler : CsrRegisters → ℕ → ℕ
 handler c cause =
-    if (cause == TIMER_INTERRUPT) && (c.mtvec % 2 == 1) then (aligned c.mtvec + 4 * 7) % 2 ^ 32 else aligned c.mtvec
+    if (cause == TIMER_INTERRUPT) && has_bit c.mtvec 0 then (aligned c.mtvec + 4 * 7) % 2 ^ 32 else aligned c.mtvec
 
 -- a trap with this cause and value from a pc
 abbrev pub trap : CsrRegisters → ℕ → ℕ → ℕ → CsrRegisters
 trap c cause value pc = record c {
-  mstatus = mstatus_of 0 (interrupt_enable c);
+  mstatus = mstatus_of false (interrupt_enable c);
   mepc = aligned pc;
   mcause = cause;
   mtval = value;
@@ -26,11 +26,11 @@ trap c cause value pc = record c {
 
 -- the return from a trap, which goes on at mepc
 abbrev pub mret : CsrRegisters → CsrRegisters
-mret c = record c { mstatus = mstatus_of (previous_interrupt_enable c) 1 }
+mret c = record c { mstatus = mstatus_of (previous_interrupt_enable c) true }
 
 -- the coming step is the timer interrupt; `timer` is whether the timer is due
 abbrev pub takes_interrupt : CsrRegisters → Bool → Bool
-takes_interrupt c timer = timer && ((interrupt_enable c == 1) && (timer_interrupt_enable c == 1))
+takes_interrupt c timer = timer && (interrupt_enable c && timer_interrupt_enable c)
 
 -- the same, by the registers of the timer
 abbrev pub due : CsrRegisters → ℕ → ℕ → Bool

@@ -6,14 +6,17 @@ ghost use Rattle.rv_traps.specs.Counters.{counted};
 
 use crate::counter::{Wrote, counted_if};
 use crate::number::Csr;
-use crate::registers::{CsrRegisters, mstatus};
+use crate::registers::{CsrRegisters, has_bit, mstatus};
 use std::marker::Model;
 
 /// The cause of the machine timer interrupt, the one interrupt of the machine (section 3.1.15).
 pub const TIMER_INTERRUPT: u32 = 0x8000_0007;
 
+/// Where the timer interrupt goes in vectored mode, from the base on: 4 times its number.
+const TIMER_HANDLER: u32 = 4 * 7;
+
 /// The control and status registers of a machine, with the rules of the RISC-V Privileged ISA 20211203.
-#[derive(Clone, Copy)]
+#[derive(Clone, Copy, Debug, PartialEq, Eq)]
 pub struct Csrs {
     registers: CsrRegisters,
 }
@@ -38,7 +41,7 @@ impl Csrs {
     {
         Csrs {
             registers: CsrRegisters {
-                mstatus: mstatus(0, 0),
+                mstatus: mstatus(false, false),
                 mie: 0,
                 mtvec: 0,
                 mscratch: 0,
@@ -104,17 +107,13 @@ impl Csrs {
         ensures goes { result ≡ handler self.old cause }
         ensures aligned { result % 4 ≡ 0 }
     {
-        let registers = self.registers;
-        self.registers = CsrRegisters {
-            mstatus: mstatus(0, registers.mstatus >> 3 & 1),
-            mepc: pc / 4 * 4,
-            mcause: cause,
-            mtval: value,
-            ..registers
-        };
-        let base = registers.mtvec / 4 * 4;
-        if cause == TIMER_INTERRUPT && registers.mtvec % 2 == 1 {
-            base.wrapping_add(28)
+        self.registers.mstatus = mstatus(false, self.registers.interrupt_enable());
+        self.registers.mepc = pc / 4 * 4;
+        self.registers.mcause = cause;
+        self.registers.mtval = value;
+        let base = self.registers.mtvec / 4 * 4;
+        if cause == TIMER_INTERRUPT && has_bit(self.registers.mtvec, 0) {
+            base.wrapping_add(TIMER_HANDLER)
         } else {
             base
         }
@@ -127,7 +126,7 @@ impl Csrs {
         ensures goes { result ≡ self.old.mepc }
         ensures aligned { result % 4 ≡ 0 }
     {
-        self.registers.mstatus = mstatus(self.registers.mstatus >> 7 & 1, 1);
+        self.registers.mstatus = mstatus(self.registers.previous_interrupt_enable(), true);
         self.registers.mepc
     }
 
@@ -136,7 +135,7 @@ impl Csrs {
     pub fn interrupt(&self, timer: bool) -> bool
         ensures { result ≡ takes_interrupt self.now timer }
     {
-        timer && self.registers.mstatus >> 3 & 1 == 1 && self.registers.mie >> 7 & 1 == 1
+        timer && self.registers.interrupt_enable() && self.registers.timer_interrupt_enable()
     }
 
     /// Counts a step, which retired an instruction or did not, and which wrote a half of a counter or

@@ -1,6 +1,6 @@
 ghost use Rattle.std.specs.Prelude.{◌≡◌, ◌<◌};
 ghost use Rattle.rv_traps.specs.Access.{put};
-ghost use Rattle.rv_traps.specs.Registers.{mstatus_of};
+ghost use Rattle.rv_traps.specs.Registers.{has_bit, mstatus_of, interrupt_enable, previous_interrupt_enable, timer_interrupt_enable};
 ghost use Rattle.rv_traps.specs.Table.{reading};
 
 use crate::counter::{high_half, low_half, with_high_half, with_low_half};
@@ -26,6 +26,30 @@ pub struct CsrRegisters {
 }
 
 impl CsrRegisters {
+    /// MIE.
+    #[inline]
+    pub(crate) fn interrupt_enable(&self) -> bool
+        ensures { result ≡ interrupt_enable self.now }
+    {
+        has_bit(self.mstatus, 3)
+    }
+
+    /// MPIE.
+    #[inline]
+    pub(crate) fn previous_interrupt_enable(&self) -> bool
+        ensures { result ≡ previous_interrupt_enable self.now }
+    {
+        has_bit(self.mstatus, 7)
+    }
+
+    /// MTIE.
+    #[inline]
+    pub(crate) fn timer_interrupt_enable(&self) -> bool
+        ensures { result ≡ timer_interrupt_enable self.now }
+    {
+        has_bit(self.mie, 7)
+    }
+
     /// What a register reads. `timer` is whether the timer is due.
     #[inline]
     pub(crate) fn reading(&self, csr: Csr, timer: bool) -> u32
@@ -66,7 +90,7 @@ impl CsrRegisters {
         ensures { self.new ≡ put csr kept self.old }
     {
         match csr {
-            Csr::Mstatus => self.mstatus = mstatus(kept >> 3 & 1, kept >> 7 & 1),
+            Csr::Mstatus => self.mstatus = mstatus(has_bit(kept, 3), has_bit(kept, 7)),
             Csr::Mie => self.mie = kept,
             Csr::Mtvec => self.mtvec = kept,
             Csr::Mscratch => self.mscratch = kept,
@@ -91,10 +115,19 @@ impl CsrRegisters {
 
 /// mstatus with these bits MIE and MPIE.
 #[inline]
-pub(crate) fn mstatus(mie: u32, mpie: u32) -> u32
-    requires mie { mie < 2 }
-    requires mpie { mpie < 2 }
+pub(crate) fn mstatus(mie: bool, mpie: bool) -> u32
     ensures { result ≡ mstatus_of mie mpie }
 {
-    0x1800 + mie * 0x08 + mpie * 0x80
+    let mie = if mie { 0x08 } else { 0 };
+    let mpie = if mpie { 0x80 } else { 0 };
+    0x1800 + mie + mpie
+}
+
+/// Whether the bit at this place is 1.
+#[inline]
+pub(crate) fn has_bit(word: u32, place: u32) -> bool
+    requires { place < 32 }
+    ensures { result ≡ has_bit word place }
+{
+    word >> place & 1 == 1
 }
