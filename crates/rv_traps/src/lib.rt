@@ -4,6 +4,7 @@
 
 mod counter;
 mod csrs;
+pub mod laws;
 mod number;
 mod registers;
 
