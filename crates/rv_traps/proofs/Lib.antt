@@ -1,3 +1,3 @@
 pub mod InRange
+pub mod Mstatus
 pub mod Rows
-pub mod Trap

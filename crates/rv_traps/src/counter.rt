@@ -82,5 +82,9 @@ pub(crate) fn with_high_half(counter: u64, word: u32) -> u64
 pub(crate) fn counted_if(counts: bool, counter: u64) -> u64
     ensures { result ≡ counted_if counts counter }
 {
-    if counts { counter.wrapping_add(1) } else { counter }
+    if counts {
+        counter.wrapping_add(1)
+    } else {
+        counter
+    }
 }

@@ -145,10 +145,7 @@ impl Csrs {
         ensures { self.new ≡ counted self.old retired wrote }
     {
         let mcycle = counted_if(!wrote.is_of_mcycle(), self.registers.mcycle);
-        let minstret = counted_if(
-            retired && !wrote.is_of_minstret(),
-            self.registers.minstret,
-        );
+        let minstret = counted_if(retired && !wrote.is_of_minstret(), self.registers.minstret);
         self.registers.mcycle = mcycle;
         self.registers.minstret = minstret;
     }

@@ -64,13 +64,7 @@ impl CsrRegisters {
             Csr::Mepc => self.mepc,
             Csr::Mcause => self.mcause,
             Csr::Mtval => self.mtval,
-            Csr::Mip => {
-                if timer {
-                    0x80
-                } else {
-                    0
-                }
-            }
+            Csr::Mip => { if timer { 0x80 } else { 0 } }
             Csr::Mcycle => low_half(self.mcycle),
             Csr::Mcycleh => high_half(self.mcycle),
             Csr::Minstret => low_half(self.minstret),

@@ -1,4 +1,4 @@
--- What the return from a trap gives back.
+-- The bits of mstatus.
 use Rattle.std.proofs.Common.{◌≡◌, Bool, true, false, refl}
 use Rattle.rv_traps.specs.Registers.{has_bit, mstatus_of}
 
