@@ -28,6 +28,8 @@ use Rattle.forest_model.specs.Compute.{load_upper, add_upper, compute_immediate,
 use Rattle.forest_model.specs.Control.{aligned_jump, jump, jump_register, branch_by, branch, relative, linked}
 use Rattle.forest_model.specs.Memory.{data_address, is_aligned, read_action, place_load, aligned_load, load, effect_action, port_action, place_store, aligned_store, store_action, stored_bytes, store}
 use Rattle.forest_model.specs.Atomic.{is_reserved, reserve_at, aligned_reserve, load_reserved, conditional_action, conditional_at, aligned_conditional, store_conditional, amo_at, aligned_amo, amo}
+use Rattle.rv_traps.specs.declared.registers.CsrRegisters.{CsrRegisters}
+use Rattle.forest_model.specs.System.{operation_of, reads, writes, written_action, write_action, old_action, old_value, csr_access, trap_return}
 use Rattle.forest_model.specs.Execute.{action, execute_group, execute, decoded_action, fetched, fetch_action}
 use Rattle.forest_model.specs.Machine.{Machine, advance, advance_from, applied}
 use Rattle.forest_model.specs.Touch.{page_of, access_page, data_page, code_and_data, touch_decoded, touch_fetch, touch_from, touch}
@@ -134,7 +136,7 @@ touch-IsSome m h = let e = IsSome-ended m.ending h in ap (λ ending. touch_from 
 -- RAM after an action
 abbrev ram_after : Action → State → List ℕ
 ram_after (trap cause value) s = s.ram
-ram_after (retire new) s = new.ram
+ram_after (retire wrote new) s = new.ram
 ram_after (exit value new) s = new.ram
 
 -- the action leaves the byte at `at`
@@ -256,13 +258,26 @@ store_lengths Sh value h = inr (inl refl)
 store_lengths Sw value h = inr (inr refl)
 store_lengths _ value h = absurd (cc)
 
+-- no access to a control and status register changes RAM
+Leaves-written_action : (at : ℕ) (csrs : Option CsrRegisters) (old : ℕ) (i : Instruction) (word : ℕ) (s : State) → Leaves at s (written_action csrs old i word s)
+Leaves-written_action at None old i word s = refl
+Leaves-written_action at (Some csrs) old i word s = refl
+
+Leaves-write_action : (at : ℕ) (writes : Bool) (old : ℕ) (i : Instruction) (word : ℕ) (s : State) → Leaves at s (write_action writes old i word s)
+Leaves-write_action at false old i word s = refl
+Leaves-write_action at true old i word s = Leaves-written_action at _ old i word s
+
+Leaves-old_action : (at : ℕ) (old : Option ℕ) (i : Instruction) (word : ℕ) (s : State) → Leaves at s (old_action old i word s)
+Leaves-old_action at None i word s = refl
+Leaves-old_action at (Some old) i word s = Leaves-write_action at (writes (operation_of i.kind) i) old i word s
+
 length-stored_bytes : (i : Instruction) (s : State) → group_of i.kind ≡ Store
     → (length (stored_bytes i s) ≡ 1) ⊎ ((length (stored_bytes i s) ≡ 2) ⊎ (length (stored_bytes i s) ≡ 4))
 length-stored_bytes i s h = store_lengths i.kind (rs2 i s) h
 
 Leaves-execute_group : (at : ℕ) (group : Group) (i : Instruction) (word : ℕ) (s : State) → group_of i.kind ≡ group
     → IsElsewhere at (data_page group i s) → Leaves at s (execute_group group i word s)
-unfolding load_upper add_upper compute_immediate compute jump jump_register branch load store store_action load_reserved store_conditional amo
+unfolding load_upper add_upper compute_immediate compute jump jump_register branch load store store_action load_reserved store_conditional amo csr_access trap_return
 Leaves-execute_group at LoadUpper i word s e other = refl
 Leaves-execute_group at AddUpper i word s e other = refl
 Leaves-execute_group at Jump i word s e other = Leaves-aligned_jump at (eqb (relative i s % 4) 0) (relative i s) (linked i s) s refl
@@ -278,7 +293,7 @@ Leaves-execute_group at Nothing i word s e other = refl
 Leaves-execute_group at EnvironmentCall i word s e other = refl
 Leaves-execute_group at Breakpoint i word s e other = refl
 Leaves-execute_group at TrapReturn i word s e other = refl
-Leaves-execute_group at Csr i word s e other = refl
+Leaves-execute_group at Csr i word s e other = Leaves-old_action at (old_value (reads (operation_of i.kind) i) i s) i word s
 Leaves-execute_group at LoadReserved i word s e other = Leaves-aligned_reserve at (is_aligned (rs1 i s) 4) i (rs1 i s) s
 Leaves-execute_group at StoreConditional i word s e other = Leaves-aligned_conditional at (is_aligned (rs1 i s) 4) i (rs1 i s) s refl other
 Leaves-execute_group at Amo i word s e other = Leaves-aligned_amo at (is_aligned (rs1 i s) 4) i (rs1 i s) s refl other
@@ -307,7 +322,7 @@ Leaves-action at s not_touched = Leaves-fetch at (is_in_ram s.ram s.pc) s not_to
 
 ram-applied : (a : Action) (m : Machine) → (applied a m).state.ram ≡ ram_after a m.state
 ram-applied (trap cause value) m = refl
-ram-applied (retire s) m = refl
+ram-applied (retire wrote s) m = refl
 ram-applied (exit value s) m = refl
 
 advance_from-leaves : (at : ℕ) (ending : Option Ending) (m : Machine) → (Contains (touch_from ending m.state) (at / PAGE_SIZE) → ⊥)

@@ -2,19 +2,21 @@
 use Rattle.std.specs.Prelude.{ℕ, Bool, true, false}
 use Rattle.std.specs.Int.{cast_unsigned, w32}
 use Rattle.rv_decode.specs.Instruction.{Instruction}
+use Rattle.rv_traps.specs.declared.counter.Wrote.{Wrote}
+use Rattle.rv_traps.specs.declared.counter.Wrote.TheVariants.{Nothing}
 use Rattle.forest_model.specs.State.{State, register, with_register, at_next_instruction}
 
 pub data Action : Type 0 where
   -- an exception, with its cause and value
   trap : ℕ → ℕ → Action
-  -- an instruction that retires, with the state after it
-  retire : State → Action
+  -- an instruction that retires, with the half of a counter that it wrote, and the state after it
+  retire : Wrote → State → Action
   -- the machine ends with a value, and the state after the instruction
   exit : ℕ → State → Action
 
 -- the instruction retires, and the next one follows
 abbrev pub retire_next : State → Action
-retire_next s = retire (at_next_instruction s)
+retire_next s = retire Nothing (at_next_instruction s)
 
 -- the state with a value in rd
 abbrev pub with_rd : Instruction → ℕ → State → State

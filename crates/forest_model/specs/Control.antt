@@ -2,6 +2,7 @@
 use Rattle.std.specs.Prelude.{ℕ, ◌+◌, ◌-◌, ◌%◌, ◌^◌, ◌==◌, Bool, true, false}
 use Rattle.rv_decode.specs.Instruction.{Instruction}
 use Rattle.rv_exec.specs.Branch.{branch_taken}
+use Rattle.rv_traps.specs.declared.counter.Wrote.TheVariants.{Nothing}
 use Rattle.forest_model.specs.declared.cause.TheConstants.{INSTRUCTION_ADDRESS_MISALIGNED}
 use Rattle.forest_model.specs.State.{State, at_next_instruction}
 use Rattle.forest_model.specs.Action.{Action, trap, retire, retire_next, with_rd, rs1, rs2, immediate}
@@ -9,7 +10,7 @@ use Rattle.forest_model.specs.Action.{Action, trap, retire, retire_next, with_rd
 -- control goes to a target, which is a multiple of 4. Else the jump is an exception, and s does not come
 abbrev pub aligned_jump : Bool → ℕ → State → Action
 aligned_jump false target s = trap INSTRUCTION_ADDRESS_MISALIGNED target
-aligned_jump true target s = retire (record s { pc = target })
+aligned_jump true target s = retire Nothing (record s { pc = target })
 
 abbrev pub jump_to : ℕ → State → Action
 jump_to target s = aligned_jump (target % 4 == 0) target s

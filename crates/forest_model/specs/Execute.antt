@@ -14,6 +14,7 @@ use Rattle.forest_model.specs.Action.{Action, trap, retire_next}
 use Rattle.forest_model.specs.Compute.{load_upper, add_upper, compute_immediate, compute}
 use Rattle.forest_model.specs.Control.{jump, jump_register, branch}
 use Rattle.forest_model.specs.Memory.{load, store}
+use Rattle.forest_model.specs.System.{csr_access, trap_return}
 use Rattle.forest_model.specs.Atomic.{load_reserved, store_conditional, amo}
 
 abbrev pub execute_group : Group → Instruction → ℕ → State → Action
@@ -29,8 +30,8 @@ execute_group Compute i word s = compute i s
 execute_group Nothing i word s = retire_next s
 execute_group EnvironmentCall i word s = trap ENVIRONMENT_CALL 0
 execute_group Breakpoint i word s = trap BREAKPOINT 0
-execute_group TrapReturn i word s = trap ILLEGAL_INSTRUCTION word
-execute_group Csr i word s = trap ILLEGAL_INSTRUCTION word
+execute_group TrapReturn i word s = trap_return s
+execute_group Csr i word s = csr_access i word s
 execute_group LoadReserved i word s = load_reserved i s
 execute_group StoreConditional i word s = store_conditional i s
 execute_group Amo i word s = amo i s

@@ -6,6 +6,7 @@ use Rattle.byteorder.specs.Endian.{little_from}
 use Rattle.flat_memory.specs.Flat.{put_bytes}
 use Rattle.rv_decode.specs.Instruction.{Instruction}
 use Rattle.rv_exec.specs.Memory.{load_value, load_width, store_bytes}
+use Rattle.rv_traps.specs.declared.counter.Wrote.TheVariants.{Nothing}
 use Rattle.forest_model.specs.declared.cause.TheConstants.{LOAD_ADDRESS_MISALIGNED, LOAD_ACCESS_FAULT, STORE_ADDRESS_MISALIGNED, STORE_ACCESS_FAULT}
 use Rattle.forest_model.specs.declared.Effect.{Effect}
 use Rattle.forest_model.specs.declared.Effect.TheVariants.{Done, Exit}
@@ -44,7 +45,7 @@ load i s = aligned_load (is_aligned (data_address i s) (load_width i.kind)) i (d
 
 -- a store to a port, and what it does to the machine
 abbrev pub effect_action : Effect → State → Action
-effect_action Done s = retire s
+effect_action Done s = retire Nothing s
 effect_action (Exit value) s = exit value s
 
 abbrev pub port_action : Option Stored → ℕ → State → Action

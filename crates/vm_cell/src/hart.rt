@@ -1,9 +1,10 @@
 ghost use Rattle.std.specs.Prelude.{◌≡◌, ◌<◌, ◌-◌, ◌+◌, ◌%◌, ◌≤◌, ◌↔◌, length, IsNone, IfOk, IfSome, OnErr, Ok, None, true, false};
+ghost use Rattle.rv_traps.specs.Registers.{at_reset};
 ghost use Rattle.forest_model.specs.Ports.{ports_at_start};
 ghost use Rattle.forest_model.specs.State.{is_in_ram, register, with_register};
 ghost use Rattle.forest_model.specs.Action.{retire_next, with_rd};
 ghost use Rattle.forest_model.specs.Execute.{action, execute};
-ghost use Rattle.forest_model.specs.Machine.{registers_at_start};
+ghost use Rattle.forest_model.specs.Machine.{registers_at_start, trapped, count};
 ghost use Rattle.vm_cell.specs.Acts.{Acts, Grows};
 
 use crate::ports::Ports;
@@ -14,20 +15,22 @@ use forest_model::cause::{
 };
 use rv_decode::{Group, Instr, decode};
 use std::alloc::{AllocError, Global};
+use rv_traps::{Csrs, Wrote};
 use std::marker::Model;
 
 mod atomic;
 mod compute;
 mod control;
 mod memory;
+mod system;
 
 /// What a step came to.
 #[derive(Clone, Copy, Debug, PartialEq, Eq)]
 pub enum Acted {
     /// An exception, with its cause and value. Nothing else has changed.
     Trapped { cause: u32, value: u32 },
-    /// The instruction retired.
-    Retired,
+    /// The instruction retired, and wrote a half of a counter or none.
+    Retired(Wrote),
     /// The instruction retired, and ended the machine with this value.
     Exited(u32),
 }
@@ -37,6 +40,7 @@ pub enum Acted {
 pub struct Hart {
     registers: [u32; 32],
     pc: u32,
+    csrs: Csrs,
     reservation: Option<u32>,
     ram: Vec<u8>,
     ports: Ports,
@@ -48,9 +52,9 @@ impl Model for Hart {
 
     ghost Value = { State };
 
-    ghost view = { λ h. record { registers = h.registers; pc = h.pc; reservation = h.reservation; ram = h.ram.items; ports = h.ports } };
+    ghost view = { λ h. record { registers = h.registers; pc = h.pc; csrs = h.csrs; reservation = h.reservation; ram = h.ram.items; ports = h.ports } };
 
-    ghost invariant = { λ h. IsHart (record { registers = h.registers; pc = h.pc; reservation = h.reservation; ram = h.ram.items; ports = h.ports }) };
+    ghost invariant = { λ h. IsHart (record { registers = h.registers; pc = h.pc; csrs = h.csrs; reservation = h.reservation; ram = h.ram.items; ports = h.ports }) };
 }
 
 impl Hart {
@@ -60,6 +64,7 @@ impl Hart {
         ensures { IfOk result (λ hart. hart ≡ record {
           registers = registers_at_start;
           pc = image.now.entry;
+          csrs = at_reset;
           reservation = None;
           ram = image.now.ram;
           ports = ports_at_start;
@@ -68,6 +73,7 @@ impl Hart {
         Ok(Hart {
             registers: [0; 32],
             pc: image.entry(),
+            csrs: Csrs::reset(),
             reservation: None,
             ram: Vec::from_slice(alloc, image.ram())?,
             ports: Ports::new(alloc),
@@ -88,6 +94,7 @@ impl Hart {
         let Hart {
             registers: _,
             pc: _,
+            csrs: _,
             reservation: _,
             ram: _,
             ports,
@@ -112,6 +119,22 @@ impl Hart {
         }
     }
 
+    /// Takes a trap.
+    pub fn take_trap(&mut self, cause: u32, value: u32)
+        ensures { self.new ≡ trapped cause value self.old }
+    {
+        self.pc = self.csrs.enter(cause, value, self.pc);
+        self.reservation = None;
+    }
+
+    /// Counts a step, which retired an instruction or did not, and wrote a half of a counter or none.
+    #[inline]
+    pub fn count(&mut self, retired: bool, wrote: Wrote)
+        ensures { self.new ≡ count retired wrote self.old }
+    {
+        self.csrs.count(retired, wrote);
+    }
+
     /// Executes an instruction at the pc, which `word` encodes.
     #[inline]
     #[tactic(auto, unfolding(forest_model::specs::Execute::execute))]
@@ -132,7 +155,8 @@ impl Hart {
             Group::Nothing => Ok(self.retire()),
             Group::EnvironmentCall => Ok(trapped(ENVIRONMENT_CALL, 0)),
             Group::Breakpoint => Ok(trapped(BREAKPOINT, 0)),
-            Group::TrapReturn | Group::Csr => Ok(trapped(ILLEGAL_INSTRUCTION, word)),
+            Group::TrapReturn => Ok(self.trap_return()),
+            Group::Csr => Ok(self.csr_access(instr, word)),
             Group::LoadReserved => Ok(self.load_reserved(instr)),
             Group::StoreConditional => Ok(self.store_conditional(instr)),
             Group::Amo => Ok(self.amo(instr)),
@@ -154,7 +178,7 @@ impl Hart {
         ensures { Acts self.old self.new (retire_next self.old) (Ok result) }
     {
         self.pc = self.pc.wrapping_add(4);
-        Acted::Retired
+        Acted::Retired(Wrote::Nothing)
     }
 
     /// The offset of an address in RAM, or `None` where it is not in RAM.

@@ -1,6 +1,6 @@
 ghost use Rattle.std.specs.Prelude.{◌≡◌, ◌+◌, ◌-◌, ◌≤◌, ◌<◌, length, None, IfOk, OnErr, OnOk, IsSome};
 ghost use Rattle.forest_model.specs.Execute.{action};
-ghost use Rattle.forest_model.specs.Machine.{IsWithinLimit, advance, after_steps, finish, boot};
+ghost use Rattle.forest_model.specs.Machine.{IsWithinLimit, limited, advance, after_steps, finish, boot};
 ghost use Rattle.vm_cell.specs.Acts.{Grows};
 ghost use Rattle.vm_cell.specs.Steps.{stepped_of};
 
@@ -8,6 +8,7 @@ use crate::hart::{Acted, Hart};
 use elf_load::Loaded;
 use forest_model::{Ending, Options};
 use std::alloc::{AllocError, Global};
+use rv_traps::Wrote;
 use std::marker::Model;
 
 /// Where a machine stands after a step.
@@ -147,15 +148,35 @@ impl Vm {
         ensures err { OnErr result (self.new ≡ self.old) }
         ensures memory { OnErr result (Grows (action self.old.state) self.old.state) }
     {
-        let acted = self.hart.act()?;
-        self.steps += 1;
-        self.ending = match acted {
-            Acted::Trapped { cause, value: _ } => Some(Ending::Fault(cause)),
-            Acted::Retired if self.steps == self.limit => Some(Ending::Limit),
-            Acted::Retired => None,
-            Acted::Exited(value) => Some(Ending::Exit(value)),
-        };
+        match self.hart.act()? {
+            Acted::Trapped { cause, value } => {
+                self.hart.take_trap(cause, value);
+                self.hart.count(false, Wrote::Nothing);
+                self.count_step();
+            }
+            Acted::Retired(wrote) => {
+                self.hart.count(true, wrote);
+                self.count_step();
+            }
+            Acted::Exited(value) => {
+                self.hart.count(true, Wrote::Nothing);
+                self.steps += 1;
+                self.ending = Some(Ending::Exit(value));
+            }
+        }
         Ok(())
+    }
+
+    /// Counts a step of a machine that lives, which ends it where it reaches the limit.
+    #[inline]
+    fn count_step(&mut self)
+        requires { self.old.ending ≡ None }
+        ensures { self.new ≡ limited self.old.state self.old }
+    {
+        self.steps += 1;
+        if self.steps == self.limit {
+            self.ending = Some(Ending::Limit);
+        }
     }
 
     /// Where the machine stands.

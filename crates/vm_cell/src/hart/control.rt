@@ -10,6 +10,7 @@ use super::{Acted, Hart, trapped};
 use forest_model::cause::INSTRUCTION_ADDRESS_MISALIGNED;
 use rv_decode::Instr;
 use rv_exec::branch_taken;
+use rv_traps::Wrote;
 
 impl Hart {
     #[inline]
@@ -66,7 +67,7 @@ impl Hart {
         let next = self.pc.wrapping_add(4);
         self.set_register(instr.rd(), next);
         self.pc = target;
-        Acted::Retired
+        Acted::Retired(Wrote::Nothing)
     }
 
     #[inline]
@@ -77,6 +78,6 @@ impl Hart {
             return trapped(INSTRUCTION_ADDRESS_MISALIGNED, target);
         }
         self.pc = target;
-        Acted::Retired
+        Acted::Retired(Wrote::Nothing)
     }
 }

@@ -18,6 +18,7 @@ use forest_model::cause::{
 };
 use rv_decode::{Instr, Kind};
 use rv_exec::load_value;
+use rv_traps::Wrote;
 use std::alloc::AllocError;
 
 impl Hart {
@@ -138,7 +139,7 @@ impl Hart {
             Ok(effect) => {
                 self.retire();
                 Ok(match effect {
-                    Effect::Done => Acted::Retired,
+                    Effect::Done => Acted::Retired(Wrote::Nothing),
                     Effect::Exit(value) => Acted::Exited(value),
                 })
             }
