@@ -3,6 +3,7 @@
 -- choice.
 use Rattle.std.specs.Prelude.{ℕ, ◌+◌, ◌-◌, ◌*◌, ◌/◌, ◌%◌, ◌^◌, ◌==◌, Bool, ◌||◌, nat_le, if◌then◌else◌, Option, Some, None}
 use Rattle.std.specs.Option.{option_map}
+use Rattle.timer_port.specs.declared.registers.TheConstants.{MTIMECMP_LOW, MTIMECMP_HIGH, MTIME_LOW, MTIME_HIGH}
 use Rattle.timer_port.specs.declared.registers.Half.{Half}
 use Rattle.timer_port.specs.declared.registers.Half.TheVariants.{MtimecmpLow, MtimecmpHigh, MtimeLow, MtimeHigh}
 use Rattle.timer_port.specs.declared.registers.TimerRegisters.{TimerRegisters}
@@ -13,10 +14,10 @@ at_start = record { mtime = 0; mtimecmp = 2 ^ 64 - 1 }
 
 abbrev pub half_at : ℕ → Option Half
 half_at offset =
-    if offset == 0x0000 then Some MtimecmpLow
-    else (if offset == 0x0004 then Some MtimecmpHigh
-    else (if offset == 0x7ff8 then Some MtimeLow
-    else (if offset == 0x7ffc then Some MtimeHigh else None)))
+    if offset == MTIMECMP_LOW then Some MtimecmpLow
+    else (if offset == MTIMECMP_HIGH then Some MtimecmpHigh
+    else (if offset == MTIME_LOW then Some MtimeLow
+    else (if offset == MTIME_HIGH then Some MtimeHigh else None)))
 
 -- the half that an access is of, or none; words alone
 abbrev pub half_of : ℕ → ℕ → Option Half
@@ -60,7 +61,7 @@ is_due t = nat_le t.mtimecmp t.mtime
 
 -- the offsets of mtime
 abbrev pub is_of_mtime : ℕ → Bool
-is_of_mtime offset = (offset == 0x7ff8) || (offset == 0x7ffc)
+is_of_mtime offset = (offset == MTIME_LOW) || (offset == MTIME_HIGH)
 
 -- the registers after a step: mtime counts it, unless the step wrote a half of mtime
 abbrev pub timer_counted : TimerRegisters → Bool → TimerRegisters

@@ -5,7 +5,7 @@ mod port;
 mod registers;
 
 pub use port::TimerPort;
-pub use registers::TimerRegisters;
+pub use registers::{MTIME_HIGH, MTIME_LOW, MTIMECMP_HIGH, MTIMECMP_LOW, TimerRegisters};
 
 #[cfg(test)]
 mod tests;

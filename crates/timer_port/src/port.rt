@@ -1,7 +1,7 @@
 ghost use Rattle.std.specs.Prelude.{◌≡◌, Some, None, IfOk, OnOk, OnErr};
 ghost use Rattle.timer_port.specs.Timer.{at_start, timer_load, timer_store, is_due, is_of_mtime, timer_counted};
 
-use crate::registers::{Half, TimerRegisters};
+use crate::registers::{Half, MTIME_HIGH, MTIME_LOW, TimerRegisters};
 use port_error::Fault;
 use std::marker::Model;
 
@@ -23,7 +23,7 @@ impl Model for TimerPort {
 }
 
 impl TimerPort {
-    /// The timer of a machine that starts: it is not due before the last time of all.
+    /// The timer of a machine that starts: time is 0, and it is due at the last time of all.
     pub fn new() -> TimerPort
         ensures { result ≡ at_start }
     {
@@ -107,7 +107,7 @@ impl TimerPort {
     pub fn is_of_mtime(offset: u32) -> bool
         ensures { result ≡ is_of_mtime offset }
     {
-        offset == 0x7ff8 || offset == 0x7ffc
+        offset == MTIME_LOW || offset == MTIME_HIGH
     }
 
     /// Counts a step, which wrote a half of mtime or did not.

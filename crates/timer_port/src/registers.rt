@@ -1,6 +1,18 @@
 ghost use Rattle.std.specs.Prelude.{◌≡◌};
 ghost use Rattle.timer_port.specs.Timer.{half_of, reading, put, low_half, high_half, with_low_half, with_high_half};
 
+/// The offset of mtimecmp's bits 31:0.
+pub const MTIMECMP_LOW: u32 = 0x0000;
+
+/// The offset of mtimecmp's bits 63:32.
+pub const MTIMECMP_HIGH: u32 = 0x0004;
+
+/// The offset of mtime's bits 31:0.
+pub const MTIME_LOW: u32 = 0x7ff8;
+
+/// The offset of mtime's bits 63:32.
+pub const MTIME_HIGH: u32 = 0x7ffc;
+
 /// What the timer holds, by the names in the RISC-V Privileged ISA 20211203, section 3.2.1.
 #[derive(Clone, Copy, Debug, PartialEq, Eq)]
 pub struct TimerRegisters {
@@ -24,10 +36,10 @@ impl Half {
         ensures { result ≡ half_of offset width }
     {
         match (offset, width) {
-            (0x0000, 4) => Some(Half::MtimecmpLow),
-            (0x0004, 4) => Some(Half::MtimecmpHigh),
-            (0x7ff8, 4) => Some(Half::MtimeLow),
-            (0x7ffc, 4) => Some(Half::MtimeHigh),
+            (MTIMECMP_LOW, 4) => Some(Half::MtimecmpLow),
+            (MTIMECMP_HIGH, 4) => Some(Half::MtimecmpHigh),
+            (MTIME_LOW, 4) => Some(Half::MtimeLow),
+            (MTIME_HIGH, 4) => Some(Half::MtimeHigh),
             _ => None,
         }
     }
@@ -80,7 +92,7 @@ fn high_half(register: u64) -> u32
 fn with_low_half(register: u64, word: u32) -> u64
     ensures { result ≡ with_low_half register word }
 {
-    u64::from(high_half(register)) * 2_u64.pow(32) + u64::from(word)
+    u64::from(high_half(register)) << 32 | u64::from(word)
 }
 
 /// The register with `word` as its bits 63:32.
@@ -88,5 +100,5 @@ fn with_low_half(register: u64, word: u32) -> u64
 fn with_high_half(register: u64, word: u32) -> u64
     ensures { result ≡ with_high_half register word }
 {
-    u64::from(word) * 2_u64.pow(32) + u64::from(low_half(register))
+    u64::from(word) << 32 | u64::from(low_half(register))
 }
