@@ -66,7 +66,7 @@ pub(crate) fn high_half(counter: u64) -> u32
 pub(crate) fn with_low_half(counter: u64, word: u32) -> u64
     ensures { result ≡ with_low_half counter word }
 {
-    u64::from(high_half(counter)) * 2_u64.pow(32) + u64::from(word)
+    u64::from(high_half(counter)) << 32 | u64::from(word)
 }
 
 /// The counter with `word` as its bits 63:32.
@@ -74,7 +74,7 @@ pub(crate) fn with_low_half(counter: u64, word: u32) -> u64
 pub(crate) fn with_high_half(counter: u64, word: u32) -> u64
     ensures { result ≡ with_high_half counter word }
 {
-    u64::from(word) * 2_u64.pow(32) + u64::from(low_half(counter))
+    u64::from(word) << 32 | u64::from(low_half(counter))
 }
 
 /// The counter, one more where it counts.

@@ -1,13 +1,11 @@
-// A library with one function.
+//! The timer port: a time that counts steps, and the time from which it asks for an interrupt.
 #![tactic(auto)]
 
-ghost use Rattle.std.specs.Prelude.{◌≡◌};
-ghost use Rattle.timer_port.specs.Echo.{echo_of};
+mod port;
+mod registers;
 
-// The `ensures` clause is the contract: what `echo` returns is `echo_of` of its argument, a definition
-// in `specs/Echo.antt`, which a caller's clause can cite too.
-pub fn echo(x: usize) -> usize
-    ensures { result ≡ echo_of x }
-{
-    x
-}
+pub use port::TimerPort;
+pub use registers::{MTIME_HIGH, MTIME_LOW, MTIMECMP_HIGH, MTIMECMP_LOW, TimerRegisters};
+
+#[cfg(test)]
+mod tests;
