@@ -14,8 +14,8 @@ use forest_model::cause::{
     BREAKPOINT, ENVIRONMENT_CALL, ILLEGAL_INSTRUCTION, INSTRUCTION_ACCESS_FAULT,
 };
 use rv_decode::{Group, Instr, decode};
-use std::alloc::{AllocError, Global};
 use rv_traps::{Csrs, Wrote};
+use std::alloc::{AllocError, Global};
 use std::marker::Model;
 
 mod atomic;

@@ -126,12 +126,7 @@ impl Hart {
     }
 
     /// Stores the low `width` bytes of `word` to a port.
-    fn store_to_port(
-        &mut self,
-        address: u32,
-        width: u32,
-        word: u32,
-    ) -> Result<Acted, AllocError>
+    fn store_to_port(&mut self, address: u32, width: u32, word: u32) -> Result<Acted, AllocError>
         ensures acts { Acts self.old self.new (port_action (port_store self.old.ports address width word) address self.old) result }
         ensures memory { OnErr result (Grows (port_action (port_store self.old.ports address width word) address self.old) self.old) }
     {
