@@ -1,10 +1,11 @@
 ghost use Rattle.std.specs.Prelude.{◌≡◌, ◌*◌, ◌<◌, ◌≤◌};
 ghost use Rattle.rv_decode.specs.Kinds.{format_of};
 ghost use Rattle.rv_decode.specs.Instruction.{IsMultiple, IsSigned};
-ghost use Rattle.rv_decode.specs.Table.{decoded, kind_of_word, in_format, signed, rd_field, rs1_field, rs2_field, u_immediate, j_immediate, b_immediate, i_immediate, s_immediate};
+ghost use Rattle.rv_decode.specs.Table.{decoded, in_format, signed, rd_field, rs1_field, rs2_field, u_immediate, j_immediate, b_immediate, i_immediate, s_immediate};
 
 use crate::instruction::Instr;
 use crate::kinds::{Format, Kind};
+use crate::opcodes::kind_of_word;
 
 /// The instruction that `word` encodes, or `None` exactly where no row of the table matches it.
 #[inline]
@@ -14,23 +15,6 @@ pub fn decode(word: u32) -> Option<Instr>
 {
     let kind = kind_of_word(word)?;
     Some(instr_of_word(kind, word))
-}
-
-/// The kind of the row that `word` matches.
-#[inline]
-#[tactic(auto, unfolding(crate::specs::Table::kind_of_word, crate::specs::Table::rows))]
-fn kind_of_word(word: u32) -> Option<Kind>
-    ensures { result ≡ kind_of_word word }
-{
-    if word & 0x7f == 0x37 {
-        return Some(Kind::Lui);
-    }
-    match word & 0x707f {
-        0x0013 => Some(Kind::Addi),
-        0x0023 => Some(Kind::Sb),
-        0x2023 => Some(Kind::Sw),
-        _ => None,
-    }
 }
 
 /// The instruction of this kind with the fields of `word`.

@@ -5,6 +5,7 @@ mod decoder;
 mod instruction;
 mod kinds;
 pub mod laws;
+mod opcodes;
 
 pub use decoder::decode;
 pub use instruction::Instr;
