@@ -2,6 +2,7 @@
 #![tactic(auto)]
 
 mod decoder;
+mod fields;
 mod instruction;
 mod kinds;
 pub mod laws;
