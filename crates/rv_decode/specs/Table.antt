@@ -1,10 +1,10 @@
 -- The instruction table: a word matches a row where its bits under the mask are the bits of the row.
 -- RISC-V Unprivileged ISA 20191213, chapter 24
-use Rattle.std.specs.Prelude.{ℕ, ◌+◌, ◌-◌, ◌*◌, ◌/◌, ◌%◌, ◌^◌, ◌==◌, Bool, ℤ, pos, ◌-ℤ◌, nat_lt, if◌then◌else◌, List, [], ◌∷◌, Option, bit_and, find}
+use Rattle.std.specs.Prelude.{ℕ, ◌+◌, ◌-◌, ◌*◌, ◌/◌, ◌%◌, ◌^◌, ◌==◌, Bool, ℤ, pos, ◌-ℤ◌, nat_lt, if◌then◌else◌, List, [], ◌∷◌, Option, bit_and, filter, find}
 use Rattle.std.specs.Option.{option_map}
 use Rattle.std.specs.Int.{cast_signed, w32}
 use Rattle.rv_decode.specs.declared.kinds.Kind.{Kind}
-use Rattle.rv_decode.specs.declared.kinds.Kind.TheVariants.{Lui, Addi, Sb, Sw}
+use Rattle.rv_decode.specs.declared.kinds.Kind.TheVariants.{Lui, Auipc, Jal, Jalr, Beq, Bne, Blt, Bge, Bltu, Bgeu, Lb, Lh, Lw, Lbu, Lhu, Sb, Sh, Sw, Addi, Slti, Sltiu, Xori, Ori, Andi, Slli, Srli, Srai, Add, Sub, Sll, Slt, Sltu, Xor, Srl, Sra, Or, And, Mul, Mulh, Mulhsu, Mulhu, Div, Divu, Rem, Remu, Fence, FenceI, Ecall, Ebreak, Mret, Wfi, Csrrw, Csrrs, Csrrc, Csrrwi, Csrrsi, Csrrci, LrW, ScW, AmoswapW, AmoaddW, AmoxorW, AmoandW, AmoorW, AmominW, AmomaxW, AmominuW, AmomaxuW}
 use Rattle.rv_decode.specs.declared.kinds.Format.{Format}
 use Rattle.rv_decode.specs.declared.kinds.Format.TheVariants.{U, J, B, I, S, Shift, Csr, R, Lr, Bare}
 use Rattle.rv_decode.specs.Kinds.{format_of}
@@ -18,13 +18,98 @@ pub record Row : Type 0 where
 abbrev pub row : ℕ → ℕ → Kind → Row
 row mask bits kind = record { mask = mask; bits = bits; kind = kind }
 
+-- The masks, by the last of the fields that tell a row. A word has its bits in the order funct7, rs2,
+-- rs1, funct3, rd, opcode. An atomic instruction has the bits aq and rl, at which no row looks, below
+-- a funct5.
+abbrev pub opcode : ℕ
+opcode = 0b1111111
+
+abbrev pub funct3 : ℕ
+funct3 = 0b111_00000_1111111
+
+abbrev pub funct7 : ℕ
+funct7 = 0b1111111_00000_00000_111_00000_1111111
+
+abbrev pub funct5 : ℕ
+funct5 = 0b11111_00_00000_00000_111_00000_1111111
+
+abbrev pub funct5_rs2 : ℕ
+funct5_rs2 = 0b11111_00_11111_00000_111_00000_1111111
+
+abbrev pub every_bit : ℕ
+every_bit = 0b1111111_11111_11111_111_11111_1111111
+
 -- mask, bits, kind
 unfoldable pub rows : List Row
 rows =
-    row 0x0000_007f 0x0000_0037 Lui
-    ∷ row 0x0000_707f 0x0000_0013 Addi
-    ∷ row 0x0000_707f 0x0000_0023 Sb
-    ∷ row 0x0000_707f 0x0000_2023 Sw
+    row opcode 0b0110111 Lui
+    ∷ row opcode 0b0010111 Auipc
+    ∷ row opcode 0b1101111 Jal
+    ∷ row funct3 0b000_00000_1100111 Jalr
+    ∷ row funct3 0b000_00000_1100011 Beq
+    ∷ row funct3 0b001_00000_1100011 Bne
+    ∷ row funct3 0b100_00000_1100011 Blt
+    ∷ row funct3 0b101_00000_1100011 Bge
+    ∷ row funct3 0b110_00000_1100011 Bltu
+    ∷ row funct3 0b111_00000_1100011 Bgeu
+    ∷ row funct3 0b000_00000_0000011 Lb
+    ∷ row funct3 0b001_00000_0000011 Lh
+    ∷ row funct3 0b010_00000_0000011 Lw
+    ∷ row funct3 0b100_00000_0000011 Lbu
+    ∷ row funct3 0b101_00000_0000011 Lhu
+    ∷ row funct3 0b000_00000_0100011 Sb
+    ∷ row funct3 0b001_00000_0100011 Sh
+    ∷ row funct3 0b010_00000_0100011 Sw
+    ∷ row funct3 0b000_00000_0010011 Addi
+    ∷ row funct3 0b010_00000_0010011 Slti
+    ∷ row funct3 0b011_00000_0010011 Sltiu
+    ∷ row funct3 0b100_00000_0010011 Xori
+    ∷ row funct3 0b110_00000_0010011 Ori
+    ∷ row funct3 0b111_00000_0010011 Andi
+    ∷ row funct7 0b0000000_00000_00000_001_00000_0010011 Slli
+    ∷ row funct7 0b0000000_00000_00000_101_00000_0010011 Srli
+    ∷ row funct7 0b0100000_00000_00000_101_00000_0010011 Srai
+    ∷ row funct7 0b0000000_00000_00000_000_00000_0110011 Add
+    ∷ row funct7 0b0100000_00000_00000_000_00000_0110011 Sub
+    ∷ row funct7 0b0000000_00000_00000_001_00000_0110011 Sll
+    ∷ row funct7 0b0000000_00000_00000_010_00000_0110011 Slt
+    ∷ row funct7 0b0000000_00000_00000_011_00000_0110011 Sltu
+    ∷ row funct7 0b0000000_00000_00000_100_00000_0110011 Xor
+    ∷ row funct7 0b0000000_00000_00000_101_00000_0110011 Srl
+    ∷ row funct7 0b0100000_00000_00000_101_00000_0110011 Sra
+    ∷ row funct7 0b0000000_00000_00000_110_00000_0110011 Or
+    ∷ row funct7 0b0000000_00000_00000_111_00000_0110011 And
+    ∷ row funct7 0b0000001_00000_00000_000_00000_0110011 Mul
+    ∷ row funct7 0b0000001_00000_00000_001_00000_0110011 Mulh
+    ∷ row funct7 0b0000001_00000_00000_010_00000_0110011 Mulhsu
+    ∷ row funct7 0b0000001_00000_00000_011_00000_0110011 Mulhu
+    ∷ row funct7 0b0000001_00000_00000_100_00000_0110011 Div
+    ∷ row funct7 0b0000001_00000_00000_101_00000_0110011 Divu
+    ∷ row funct7 0b0000001_00000_00000_110_00000_0110011 Rem
+    ∷ row funct7 0b0000001_00000_00000_111_00000_0110011 Remu
+    ∷ row funct3 0b000_00000_0001111 Fence
+    ∷ row funct3 0b001_00000_0001111 FenceI
+    ∷ row every_bit 0b0000000_00000_00000_000_00000_1110011 Ecall
+    ∷ row every_bit 0b0000000_00001_00000_000_00000_1110011 Ebreak
+    ∷ row every_bit 0b0011000_00010_00000_000_00000_1110011 Mret
+    ∷ row every_bit 0b0001000_00101_00000_000_00000_1110011 Wfi
+    ∷ row funct3 0b001_00000_1110011 Csrrw
+    ∷ row funct3 0b010_00000_1110011 Csrrs
+    ∷ row funct3 0b011_00000_1110011 Csrrc
+    ∷ row funct3 0b101_00000_1110011 Csrrwi
+    ∷ row funct3 0b110_00000_1110011 Csrrsi
+    ∷ row funct3 0b111_00000_1110011 Csrrci
+    ∷ row funct5_rs2 0b00010_00_00000_00000_010_00000_0101111 LrW
+    ∷ row funct5 0b00011_00_00000_00000_010_00000_0101111 ScW
+    ∷ row funct5 0b00001_00_00000_00000_010_00000_0101111 AmoswapW
+    ∷ row funct5 0b00000_00_00000_00000_010_00000_0101111 AmoaddW
+    ∷ row funct5 0b00100_00_00000_00000_010_00000_0101111 AmoxorW
+    ∷ row funct5 0b01100_00_00000_00000_010_00000_0101111 AmoandW
+    ∷ row funct5 0b01000_00_00000_00000_010_00000_0101111 AmoorW
+    ∷ row funct5 0b10000_00_00000_00000_010_00000_0101111 AmominW
+    ∷ row funct5 0b10100_00_00000_00000_010_00000_0101111 AmomaxW
+    ∷ row funct5 0b11000_00_00000_00000_010_00000_0101111 AmominuW
+    ∷ row funct5 0b11100_00_00000_00000_010_00000_0101111 AmomaxuW
     ∷ []
 
 abbrev pub matches : ℕ → Row → Bool
@@ -80,6 +165,11 @@ in_format Bare kind word = record { kind = kind; rd = 0; rs1 = 0; rs2 = 0; imm =
 -- the kind of the row that a word matches, or none
 unfoldable pub kind_of_word : ℕ → Option Kind
 kind_of_word word = option_map (λ r. r.kind) (find (matches word) rows)
+
+-- the kind of the row of this opcode that a word matches, or none
+unfoldable pub kind_with_opcode : ℕ → ℕ → Option Kind
+kind_with_opcode code word =
+    option_map (λ r. r.kind) (find (matches word) (filter (λ r. bit_and r.bits opcode == code) rows))
 
 -- the instruction that a word encodes, or none where no row matches
 unfoldable pub decoded : ℕ → Option Instruction

@@ -1,9 +1,8 @@
 ghost use Rattle.std.specs.Prelude.{◌≡◌, ◌<◌, ◌↔◌, IsTrue, SomeIff};
 ghost use Rattle.rv_decode.specs.Instruction.{Instruction, IsInstruction};
 
-use std::marker::Model;
-
 use crate::kinds::{Format, Kind};
+use std::marker::Model;
 
 /// An instruction: its kind, its registers from 0 to 31, and its immediate. Each field is in the
 /// range of the kind's format, and 0 where the format lacks it.
