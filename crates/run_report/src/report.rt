@@ -1,6 +1,6 @@
 ghost use Rattle.std.specs.Prelude.{◌≡◌, ◌≤◌, ◌++◌, codes, IfOk, OnOk, OnErr, IsErrOf, string_bytes};
-ghost use Rattle.snow_main.specs.Outside.{HasRisen, appended, IsPrefixGone};
-ghost use Rattle.snow_main.specs.Report.{heading, report_of};
+ghost use Rattle.io_edge.specs.Outside.{HasRisen, appended, IsPrefixGone};
+ghost use Rattle.run_report.specs.Report.{heading, report_of};
 
 use crate::outside::{Sink, WriteFault};
 use forest_model::Ending;
@@ -16,7 +16,7 @@ pub struct Outcome {
 }
 
 impl Model for Outcome {
-    ghost use Rattle.snow_main.specs.Report.{Ended};
+    ghost use Rattle.run_report.specs.Report.{Ended};
 
     ghost Value = { Ended };
 
@@ -64,7 +64,7 @@ pub enum ReportError {
 
 impl From<AllocError> for ReportError {
     ghost use Rattle.std.specs.Prelude.{◌≡◌};
-    ghost use Rattle.snow_main.specs.declared.report.ReportError.TheVariants.{Memory};
+    ghost use Rattle.run_report.specs.declared.report.ReportError.TheVariants.{Memory};
 
     ghost from_gives = { λ _ e. e ≡ Memory };
 
@@ -75,7 +75,7 @@ impl From<AllocError> for ReportError {
 
 impl From<WriteFault> for ReportError {
     ghost use Rattle.std.specs.Prelude.{◌≡◌};
-    ghost use Rattle.snow_main.specs.declared.report.ReportError.TheVariants.{Sink};
+    ghost use Rattle.run_report.specs.declared.report.ReportError.TheVariants.{Sink};
 
     ghost from_gives = { λ _ e. e ≡ Sink };
 
