@@ -1,5 +1,5 @@
 -- Files in memory, by name.
-use Rattle.std.specs.Prelude.{◌≡◌, ℕ, ◌<◌, ◌≤◌, Bool, if◌then◌else◌, List, [], ◌∷◌, length, Option, Some, None, Result, Ok, Err, is_some, string_bytes, String, Vec}
+use Rattle.std.specs.Prelude.{◌≡◌, ℕ, ◌<◌, ◌≤◌, Bool, if◌then◌else◌, List, [], ◌∷◌, length, Option, Some, None, Result, Ok, Err, is_some, string_bytes, String, Vec, vec_len}
 use Rattle.std.specs.Str.{bytes_eq}
 use Rattle.std.specs.declared.alloc.Global.{Global}
 use Rattle.io_edge.specs.declared.outside.ShelfError.{ShelfError}
@@ -37,7 +37,7 @@ after_load found shelf = record shelf {
 -- what a load answers. Want of memory may come where there are bytes to copy
 abbrev pub Loads : Option (List ℕ) → ℕ → Result (Vec ℕ Global) ShelfError → Type 0
 Loads None at_most result = result ≡ Err Fault
-Loads (Some bytes) at_most (Ok copy) = (copy.items ≡ bytes) × (length bytes ≤ at_most)
+Loads (Some bytes) at_most (Ok copy) = (copy.items ≡ bytes) × (vec_len copy ≤ at_most)
 Loads (Some bytes) at_most (Err Fault) = ⊥
 Loads (Some bytes) at_most (Err TooLong) = at_most < length bytes
 Loads (Some bytes) at_most (Err Memory) = length bytes ≤ at_most

@@ -1,5 +1,6 @@
 -- Bytes that are gone to a sink in memory.
-use Rattle.std.specs.Prelude.{ℕ, ◌-◌, ◌==◌, ◌&&◌, ◌||◌, Bool, not, if◌then◌else◌, List, ◌++◌, length, min, take}
+use Rattle.std.specs.Prelude.{◌≡◌, ℕ, ◌-◌, ◌==◌, ◌&&◌, ◌||◌, Bool, true, false, not, List, ◌++◌, length, min, take, Result, Ok, Err}
+use Rattle.io_edge.specs.declared.outside.WriteFault.{WriteFault}
 use Rattle.io_edge.specs.Outside.{next_count, is_next_listed}
 
 -- a sink in memory: the bytes that are gone, the most that it takes a call and in all, the calls that are
@@ -24,10 +25,12 @@ is_put_fault sink piece = is_next_listed sink.failing sink.calls || (room_left s
 abbrev pub taken_of : Kept → List ℕ → ℕ
 taken_of sink piece = min (min (length piece) sink.most) (room_left sink)
 
--- the sink after a put, by whether that is a fault
-abbrev pub after_put : Bool → Kept → List ℕ → Kept
-after_put is_fault sink piece = record sink {
-  bytes = if is_fault then sink.bytes else sink.bytes ++ take (taken_of sink piece) piece;
-  calls = next_count sink.calls;
-  faults = if is_fault then next_count sink.faults else sink.faults;
-}
+-- a put: it takes what it can, or is a fault
+abbrev pub Puts : Kept → List ℕ → Result ℕ WriteFault → Kept → Type 0
+Puts old piece (Ok n) new =
+    (is_put_fault old piece ≡ false)
+    × (n ≡ taken_of old piece)
+    × (new ≡ record old { bytes = old.bytes ++ take n piece; calls = next_count old.calls })
+Puts old piece (Err fault) new =
+    (is_put_fault old piece ≡ true)
+    × (new ≡ record old { calls = next_count old.calls; faults = next_count old.faults })

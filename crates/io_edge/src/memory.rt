@@ -1,9 +1,9 @@
 //! A shelf and a sink in memory, for tests: they tell all that they hold, and fail when they are told.
 
-ghost use Rattle.std.specs.Prelude.{◌≡◌, ◌≤◌, ◌↔◌, [], IfOk, IsErr, IsTrue};
+ghost use Rattle.std.specs.Prelude.{◌≡◌, ◌≤◌, ◌<◌, [], length, IfOk};
 ghost use Rattle.std.specs.Option.{option_copied};
 ghost use Rattle.io_edge.specs.Files.{Loads, after_load, file_named, found, named};
-ghost use Rattle.io_edge.specs.Gone.{after_put, is_put_fault, taken_of};
+ghost use Rattle.io_edge.specs.Gone.{Puts};
 
 use crate::outside::{Shelf, ShelfError, Sink, WriteFault};
 use std::alloc::{AllocError, Global};
@@ -51,6 +51,7 @@ impl Shelf for MemShelf {
     fn load(&mut self, alloc: Global, name: &str, at_most: usize) -> Result<Vec<u8>, ShelfError>
         ensures loads { Loads (found self.old name.now) at_most result }
         ensures after { self.new ≡ after_load (found self.old name.now) self.old }
+        ensures counts { self.old.faults ≤ self.new.faults }
     {
         self.calls = self.calls.saturating_add(1);
         let found = if self.failing.contains(&self.calls) {
@@ -144,9 +145,9 @@ impl Sink for MemSink {
     ghost faults = { λ s. s.faults };
 
     fn put(&mut self, piece: &[u8]) -> Result<usize, WriteFault>
-        ensures fault { IsErr result ↔ IsTrue (is_put_fault self.old piece.now) }
-        ensures taken { IfOk result (λ n. n ≡ taken_of self.old piece.now) }
-        ensures after { self.new ≡ after_put (is_put_fault self.old piece.now) self.old piece.now }
+        ensures puts { Puts self.old piece.now result self.new }
+        ensures some { IfOk result (λ n. 0 < length piece.now → 0 < n) }
+        ensures counts { self.old.faults ≤ self.new.faults }
     {
         self.calls = self.calls.saturating_add(1);
         let left = self.room - self.bytes.len();
