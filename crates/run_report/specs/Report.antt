@@ -4,34 +4,46 @@ use Rattle.std.specs.Fmt.{decimal}
 use Rattle.forest_model.specs.declared.Ending.{Ending}
 use Rattle.forest_model.specs.declared.Ending.TheVariants.{Exit, Limit, Fault}
 use Rattle.forest_model.specs.Machine.{Machine}
+use Rattle.run_report.specs.Name.{name_text}
 
--- what a report says of a machine that has ended
+-- what a report says of a machine that has ended. The name is the forks on the way from the root
 pub record Ended : Type 0 where
+  pub name : List (ℕ × ℕ)
   pub ending : Ending
   pub steps : ℕ
   pub output : List ℕ
 
--- the end of the first line
-abbrev pub counts : Ended → List ℕ
-counts e = codes " steps " ++ (decimal e.steps ++ (codes " out " ++ (decimal (length e.output) ++ codes "\n")))
-
-abbrev pub heading_by : Ending → Ended → List ℕ
-heading_by (Exit value) e = codes "machine 0 exit " ++ (decimal value ++ counts e)
-heading_by Limit e = codes "machine 0 limit" ++ counts e
-heading_by (Fault cause) e = codes "machine 0 fault " ++ (decimal cause ++ counts e)
+-- how it ended, in words
+abbrev pub ending_text : Ending → List ℕ
+ending_text (Exit value) = codes "exit " ++ decimal value
+ending_text Limit = codes "limit"
+ending_text (Fault cause) = codes "fault " ++ decimal cause
 
 -- the first line
 unfoldable pub heading : Ended → List ℕ
-heading e = heading_by e.ending e
+heading e =
+    codes "machine "
+    ++ (name_text e.name
+    ++ (codes " "
+    ++ (ending_text e.ending
+    ++ (codes " steps "
+    ++ (decimal e.steps
+    ++ (codes " out "
+    ++ (decimal (length e.output)
+    ++ codes "\n")))))))
 
 -- the first line, the output and a newline
 unfoldable pub report_of : Ended → List ℕ
 report_of e = heading e ++ (e.output ++ codes "\n")
 
-abbrev pub report_from : Option Ending → Machine → List ℕ
-report_from None m = []
-report_from (Some ending) m = report_of (record { ending = ending; steps = m.steps; output = m.state.ports.console.output })
+-- what the report of the machine that was booted says
+abbrev pub ended_root : Ending → Machine → Ended
+ended_root ending m = record { name = []; ending = ending; steps = m.steps; output = m.state.ports.console.output }
 
--- the report of a machine; one that lives has none
+abbrev pub report_by : Option Ending → Machine → List ℕ
+report_by None m = []
+report_by (Some ending) m = report_of (ended_root ending m)
+
+-- the report of the machine that was booted; one that lives has none
 unfoldable pub report : Machine → List ℕ
-report m = report_from m.ending m
+report m = report_by m.ending m

@@ -1,13 +1,8 @@
-// A library with one function.
+//! The report of machines that have ended.
 #![tactic(auto)]
 
-ghost use Rattle.std.specs.Prelude.{◌≡◌};
-ghost use Rattle.run_report.specs.Echo.{echo_of};
+mod name;
+mod report;
 
-// The `ensures` clause is the contract: what `echo` returns is `echo_of` of its argument, a definition
-// in `specs/Echo.antt`, which a caller's clause can cite too.
-pub fn echo(x: usize) -> usize
-    ensures { result ≡ echo_of x }
-{
-    x
-}
+pub use name::Name;
+pub use report::{Outcome, ReportError, report_into};
