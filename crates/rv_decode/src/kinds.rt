@@ -212,7 +212,8 @@ impl Kind {
             Kind::Beq | Kind::Bne | Kind::Blt | Kind::Bge | Kind::Bltu | Kind::Bgeu => Format::B,
             Kind::Jalr | Kind::Lb | Kind::Lh | Kind::Lw | Kind::Lbu | Kind::Lhu => Format::I,
             Kind::Sb | Kind::Sh | Kind::Sw => Format::S,
-            Kind::Addi | Kind::Slti | Kind::Sltiu | Kind::Xori | Kind::Ori | Kind::Andi => Format::I,
+            Kind::Addi | Kind::Slti | Kind::Sltiu | Kind::Xori | Kind::Ori | Kind::Andi =>
+                Format::I,
             Kind::Slli | Kind::Srli | Kind::Srai => Format::Shift,
             Kind::Add | Kind::Sub | Kind::Sll | Kind::Slt | Kind::Sltu => Format::R,
             Kind::Xor | Kind::Srl | Kind::Sra | Kind::Or | Kind::And => Format::R,
@@ -239,7 +240,8 @@ impl Kind {
         match self {
             Kind::Lui | Kind::Auipc => Group::Upper,
             Kind::Jal | Kind::Jalr => Group::Jump,
-            Kind::Beq | Kind::Bne | Kind::Blt | Kind::Bge | Kind::Bltu | Kind::Bgeu => Group::Branch,
+            Kind::Beq | Kind::Bne | Kind::Blt | Kind::Bge | Kind::Bltu | Kind::Bgeu =>
+                Group::Branch,
             Kind::Lb | Kind::Lh | Kind::Lw | Kind::Lbu | Kind::Lhu => Group::Load,
             Kind::Sb | Kind::Sh | Kind::Sw => Group::Store,
             Kind::Addi | Kind::Slti | Kind::Sltiu | Kind::Xori | Kind::Ori | Kind::Andi => {

@@ -2,9 +2,11 @@
 #![tactic(auto)]
 
 mod decoder;
+mod fields;
 mod instruction;
 mod kinds;
 pub mod laws;
+mod opcodes;
 
 pub use decoder::decode;
 pub use instruction::Instr;
