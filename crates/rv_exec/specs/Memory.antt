@@ -1,9 +1,13 @@
 -- What loads and stores make of the bytes of memory. RISC-V Unprivileged ISA 20191213, section 2.6
-use Rattle.std.specs.Prelude.{ℕ, ◌%◌, ◌^◌, List}
+use Rattle.std.specs.Prelude.{◌≡◌, ◌⊎◌, ℕ, ◌%◌, ◌^◌, List}
 use Rattle.std.specs.Int.{cast_signed, bytes_low_first, w8, w16}
 use Rattle.rv_decode.specs.declared.kinds.Kind.{Kind}
 use Rattle.rv_decode.specs.declared.kinds.Kind.TheVariants.{Lb, Lh, Lw, Lbu, Lhu, Sb, Sh, Sw}
 use Rattle.rv_exec.specs.Words.{word_of}
+
+-- a byte, a halfword or a word
+abbrev pub IsAccessWidth : ℕ → Type 0
+IsAccessWidth width = (width ≡ 1) ⊎ ((width ≡ 2) ⊎ (width ≡ 4))
 
 -- how many bytes a load reads
 abbrev pub load_width : Kind → ℕ

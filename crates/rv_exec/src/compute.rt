@@ -73,7 +73,9 @@ fn quotient(a: u32, b: u32) -> u32
     if b == 0 {
         u32::MAX
     } else {
-        a.cast_signed().wrapping_div(b.cast_signed()).cast_unsigned()
+        a.cast_signed()
+            .wrapping_div(b.cast_signed())
+            .cast_unsigned()
     }
 }
 
@@ -91,7 +93,9 @@ fn remainder(a: u32, b: u32) -> u32
     if b == 0 {
         a
     } else {
-        a.cast_signed().wrapping_rem(b.cast_signed()).cast_unsigned()
+        a.cast_signed()
+            .wrapping_rem(b.cast_signed())
+            .cast_unsigned()
     }
 }
 

@@ -5,6 +5,8 @@ mod atomic;
 mod branch;
 mod compute;
 mod memory;
+#[cfg(test)]
+mod tests;
 
 pub use atomic::amo_value;
 pub use branch::branch_taken;
