@@ -1,10 +1,10 @@
 //! Laws of the definitions, each the contract of a function that does nothing.
 
-ghost use Rattle.std.specs.Prelude.{◌≡◌, ℕ, ◌<◌, ◌+◌, ◌*◌, ◌%◌, ◌^◌};
+ghost use Rattle.std.specs.Prelude.{◌≡◌, ℕ};
 ghost use Rattle.rv_decode.specs.declared.kinds.Kind.TheVariants.{Div, Divu, Rem, Remu};
 ghost use Rattle.rv_exec.specs.Compute.{alu};
 
-/// Division by zero, and of the least number by -1, traps nowhere (RISC-V Unprivileged ISA 20191213,
+/// What divisions by zero give, and of the least number by -1 (RISC-V Unprivileged ISA 20191213,
 /// table 7.1).
 pub fn division_edges()
     ensures by_zero { (a : ℕ) → (alu Divu a 0 ≡ 0xffff_ffff) × (alu Remu a 0 ≡ a)

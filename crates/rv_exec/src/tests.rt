@@ -2,7 +2,7 @@ use super::*;
 use rv_decode::{Group, Kind};
 
 /// A kind, two words, and what the instruction makes of them: 1 where a branch is taken. A load has no
-/// second word. `tests/edge_values.py` computes and writes these lines.
+/// second word. `tests/edge_values` at the top of the repository computed these lines.
 static EDGE_VALUES: [(Kind, u32, u32, u32); 228] = [
     (Kind::Addi, 0x7fff_ffff, 0x0000_07ff, 0x8000_07fe),
     (Kind::Addi, 0x0000_0000, 0xffff_ffff, 0xffff_ffff),
@@ -180,6 +180,26 @@ static EDGE_VALUES: [(Kind, u32, u32, u32); 228] = [
     (Kind::Bgeu, 0x0000_0001, 0xffff_ffff, 0x0000_0000),
     (Kind::Bgeu, 0x8000_0000, 0x7fff_ffff, 0x0000_0001),
     (Kind::Bgeu, 0x7fff_ffff, 0x8000_0000, 0x0000_0000),
+    (Kind::Lb, 0x89ab_cdef, 0x0000_0000, 0xffff_ffef),
+    (Kind::Lb, 0xffff_7f80, 0x0000_0000, 0xffff_ff80),
+    (Kind::Lb, 0xffff_807f, 0x0000_0000, 0x0000_007f),
+    (Kind::Lb, 0x0000_7fff, 0x0000_0000, 0xffff_ffff),
+    (Kind::Lh, 0x89ab_cdef, 0x0000_0000, 0xffff_cdef),
+    (Kind::Lh, 0xffff_7f80, 0x0000_0000, 0x0000_7f80),
+    (Kind::Lh, 0xffff_807f, 0x0000_0000, 0xffff_807f),
+    (Kind::Lh, 0x0000_7fff, 0x0000_0000, 0x0000_7fff),
+    (Kind::Lw, 0x89ab_cdef, 0x0000_0000, 0x89ab_cdef),
+    (Kind::Lw, 0xffff_7f80, 0x0000_0000, 0xffff_7f80),
+    (Kind::Lw, 0xffff_807f, 0x0000_0000, 0xffff_807f),
+    (Kind::Lw, 0x0000_7fff, 0x0000_0000, 0x0000_7fff),
+    (Kind::Lbu, 0x89ab_cdef, 0x0000_0000, 0x0000_00ef),
+    (Kind::Lbu, 0xffff_7f80, 0x0000_0000, 0x0000_0080),
+    (Kind::Lbu, 0xffff_807f, 0x0000_0000, 0x0000_007f),
+    (Kind::Lbu, 0x0000_7fff, 0x0000_0000, 0x0000_00ff),
+    (Kind::Lhu, 0x89ab_cdef, 0x0000_0000, 0x0000_cdef),
+    (Kind::Lhu, 0xffff_7f80, 0x0000_0000, 0x0000_7f80),
+    (Kind::Lhu, 0xffff_807f, 0x0000_0000, 0x0000_807f),
+    (Kind::Lhu, 0x0000_7fff, 0x0000_0000, 0x0000_7fff),
     (Kind::AmoswapW, 0xff00_ff00, 0x0ff0_0ff0, 0x0ff0_0ff0),
     (Kind::AmoswapW, 0x0000_0000, 0xffff_ffff, 0xffff_ffff),
     (Kind::AmoaddW, 0x7fff_ffff, 0x0000_0001, 0x8000_0000),
@@ -212,26 +232,6 @@ static EDGE_VALUES: [(Kind, u32, u32, u32); 228] = [
     (Kind::AmomaxuW, 0x0000_0001, 0xffff_ffff, 0xffff_ffff),
     (Kind::AmomaxuW, 0x8000_0000, 0x7fff_ffff, 0x8000_0000),
     (Kind::AmomaxuW, 0x7fff_ffff, 0x8000_0000, 0x8000_0000),
-    (Kind::Lb, 0x89ab_cdef, 0x0000_0000, 0xffff_ffef),
-    (Kind::Lb, 0xffff_7f80, 0x0000_0000, 0xffff_ff80),
-    (Kind::Lb, 0xffff_807f, 0x0000_0000, 0x0000_007f),
-    (Kind::Lb, 0x0000_7fff, 0x0000_0000, 0xffff_ffff),
-    (Kind::Lh, 0x89ab_cdef, 0x0000_0000, 0xffff_cdef),
-    (Kind::Lh, 0xffff_7f80, 0x0000_0000, 0x0000_7f80),
-    (Kind::Lh, 0xffff_807f, 0x0000_0000, 0xffff_807f),
-    (Kind::Lh, 0x0000_7fff, 0x0000_0000, 0x0000_7fff),
-    (Kind::Lw, 0x89ab_cdef, 0x0000_0000, 0x89ab_cdef),
-    (Kind::Lw, 0xffff_7f80, 0x0000_0000, 0xffff_7f80),
-    (Kind::Lw, 0xffff_807f, 0x0000_0000, 0xffff_807f),
-    (Kind::Lw, 0x0000_7fff, 0x0000_0000, 0x0000_7fff),
-    (Kind::Lbu, 0x89ab_cdef, 0x0000_0000, 0x0000_00ef),
-    (Kind::Lbu, 0xffff_7f80, 0x0000_0000, 0x0000_0080),
-    (Kind::Lbu, 0xffff_807f, 0x0000_0000, 0x0000_007f),
-    (Kind::Lbu, 0x0000_7fff, 0x0000_0000, 0x0000_00ff),
-    (Kind::Lhu, 0x89ab_cdef, 0x0000_0000, 0x0000_cdef),
-    (Kind::Lhu, 0xffff_7f80, 0x0000_0000, 0x0000_7f80),
-    (Kind::Lhu, 0xffff_807f, 0x0000_0000, 0x0000_807f),
-    (Kind::Lhu, 0x0000_7fff, 0x0000_0000, 0x0000_7fff),
 ];
 
 fn effect(kind: Kind, a: u32, b: u32) -> Option<u32> {
