@@ -1,3 +1,1 @@
-pub mod OneSegment
-pub mod Pages
 pub mod Words
