@@ -1,1 +1,5 @@
+pub mod Loads
+pub mod Overlap
+pub mod RamBytes
+pub mod RamPages
 pub mod Words

@@ -1,6 +1,6 @@
 -- Which files are loaded, and what loading one gives: ELF executables for RV32.
 -- System V gABI, "ELF Header" and "Program Header"; RISC-V ELF psABI, "File Header"
-use Rattle.std.specs.Prelude.{◌≡◌, ℕ, ◌+◌, ◌-◌, ◌*◌, ◌%◌, ◌==◌, Bool, true, false, not, ◌&&◌, ◌||◌, nat_eq, nat_lt, nat_le, max, min, if◌then◌else◌, List, [], ◌∷◌, ◌++◌, length, map, filter, slice_index, Option, Some, None, Result, Ok, Err, ⊤}
+use Rattle.std.specs.Prelude.{◌≡◌, ℕ, ◌+◌, ◌-◌, ◌*◌, ◌%◌, ◌<◌, ◌≤◌, ◌==◌, Bool, true, false, not, ◌&&◌, ◌||◌, nat_eq, nat_lt, nat_le, max, min, if◌then◌else◌, List, [], ◌∷◌, ◌++◌, length, map, filter, slice_index, Option, Some, None, Result, Ok, Err, ⊤}
 use Rattle.std.specs.List.{list_any, range_with_len, starts_with}
 use Rattle.flat_memory.specs.Flat.{half_at, word_at}
 use Rattle.elf_load.specs.Image.{Image}
@@ -163,22 +163,23 @@ header_rules file =
     ∷ (7, is_cut_in_table file)
     ∷ []
 
-unfoldable pub segment_rules : List ℕ → ℕ → List (ℕ × Bool)
-segment_rules file pages =
-    (8, list_any is_overfull (loads_of file))
-    ∷ (9, list_any (is_cut file) (segments_of file))
-    ∷ (10, list_any (is_outside pages) (segments_of file))
-    ∷ (11, overlap (segments_of file))
-    ∷ (12, not (is_entry pages (e_entry file)))
+unfoldable pub place_rules : List ℕ → ℕ → List Segment → ℕ → List (ℕ × Bool)
+place_rules file pages segments entry =
+    (9, list_any (is_cut file) segments)
+    ∷ (10, list_any (is_outside pages) segments)
+    ∷ (11, overlap segments)
+    ∷ (12, not (is_entry pages entry))
     ∷ []
+
+unfoldable pub rules_of : List ℕ → ℕ → List (ℕ × Bool)
+rules_of file pages =
+    header_rules file
+    ++ ((8, list_any is_overfull (loads_of file)) ∷ place_rules file pages (segments_of file) (e_entry file))
 
 -- the number of the first rule that is broken
 abbrev pub first_broken : List (ℕ × Bool) → Option ℕ
 first_broken [] = None
-first_broken (rule ∷ rules) = if rule.1 then Some rule.0 else first_broken rules
-
-unfoldable pub refusal : List ℕ → ℕ → Option ℕ
-refusal file pages = first_broken (header_rules file ++ segment_rules file pages)
+first_broken (rule ∷ others) = if rule.1 then Some rule.0 else first_broken others
 
 -- ---- what is loaded
 
@@ -218,7 +219,7 @@ unless_refused (Some number) image = Err number
 
 -- what loading a file into so many pages of RAM gives, or the number of its refusal
 unfoldable pub loaded : List ℕ → ℕ → Result Image ℕ
-loaded file pages = unless_refused (refusal file pages) (image_of file pages)
+loaded file pages = unless_refused (first_broken (rules_of file pages)) (image_of file pages)
 
 -- when each error comes. Out of memory may come at any time
 abbrev pub IsRefused : List ℕ → ℕ → ImageError → Type 0
@@ -229,3 +230,18 @@ IsRefused file pages Memory = ⊤
 abbrev pub NamesRule : Option ℕ → ImageError → Type 0
 NamesRule broken (Refused number) = broken ≡ Some number
 NamesRule broken Memory = ⊤
+
+-- a segment has its bytes in the file, and no more of them than it has in memory
+pub record IsInFile (file : List ℕ) (s : Segment) : Type 0 where
+  pub within : s.offset + s.file_size ≤ length file
+  pub fits : s.file_size ≤ s.memory_size
+
+-- a segment places a byte, and all that it places is in RAM
+pub record IsInRam (pages : ℕ) (s : Segment) : Type 0 where
+  pub not_empty : 0 < s.memory_size
+  pub from_base : RAM_BASE ≤ s.address
+  pub within : end_of s ≤ ram_end pages
+
+-- a segment ends before another begins
+abbrev pub IsBelow : Segment → Segment → Type 0
+IsBelow low high = end_of low ≤ high.address

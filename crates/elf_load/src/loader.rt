@@ -1,12 +1,14 @@
 ghost use Rattle.std.specs.Prelude.{◌≡◌, ℕ, ◌+◌, ◌-◌, ◌*◌, ◌%◌, ◌<◌, ◌≤◌, List, ◌++◌, length, All, IfOk, IfErr, Ok};
-ghost use Rattle.elf_load.specs.Elf.{IsRefused, is_entry, loaded};
+ghost use Rattle.std.specs.List.{list_any};
+ghost use Rattle.std.specs.List.Sorted.{IsNonDecreasingBy};
+ghost use Rattle.elf_load.specs.Elf.{IsRefused, is_cut, is_outside, is_entry, overlap, place_rules, first_broken, loaded};
 ghost use Rattle.elf_load.specs.OneSegment.{elf_of, bytes_of_words, words_of, image_of_code};
 
 use crate::error::ImageError;
 use crate::header::Header;
 use crate::image::{Loaded, MAX_PAGES, MIN_PAGES, PAGE_SIZE, RAM_BASE};
 use crate::memory::{pages_of, ram_of};
-use crate::segment::segments_of;
+use crate::segment::{Segment, segments_of};
 use std::alloc::Global;
 
 /// Loads an ELF executable for RISC-V of 32 bits into RAM of `ram_pages` pages. Each segment goes to its
@@ -20,18 +22,9 @@ pub fn load_elf(alloc: Global, bytes: &[u8], ram_pages: u32) -> Result<Loaded, I
 {
     let header = Header::read(bytes)?;
     let mut segments = segments_of(alloc, bytes, &header)?;
-    if segments.iter().any(|segment| segment.file_end() > bytes.len()) {
-        return Err(ImageError::Refused(9));
-    }
-    if segments.iter().any(|segment| segment.is_outside(ram_pages)) {
-        return Err(ImageError::Refused(10));
-    }
     segments.sort_unstable_by_key(|segment| segment.address);
-    if !segments.is_sorted_by(|low, high| low.end() <= high.address as usize) {
-        return Err(ImageError::Refused(11));
-    }
-    if !is_entry(header.entry, ram_pages) {
-        return Err(ImageError::Refused(12));
+    if let Some(rule) = broken_rule(bytes, &segments, header.entry, ram_pages) {
+        return Err(ImageError::Refused(rule));
     }
     Ok(Loaded {
         ram: ram_of(alloc, bytes, &segments, ram_pages)?,
@@ -40,13 +33,58 @@ pub fn load_elf(alloc: Global, bytes: &[u8], ram_pages: u32) -> Result<Loaded, I
     })
 }
 
+/// The first of the rules 9 to 12 that is broken, by segments in the order of their addresses.
+#[tactic(auto, unfolding(crate::specs::Elf::place_rules))]
+fn broken_rule(bytes: &[u8], segments: &[Segment], entry: u32, pages: u32) -> Option<u32>
+    requires most { pages ≤ MAX_PAGES }
+    requires sorted { IsNonDecreasingBy (λ s. s.address) segments.now }
+    requires not_empty { All (λ s. 0 < s.memory_size) segments.now }
+    ensures { result ≡ first_broken (place_rules bytes.now pages segments.now entry) }
+{
+    if any_cut(bytes, segments) {
+        Some(9)
+    } else if any_outside(segments, pages) {
+        Some(10)
+    } else if overlap(segments) {
+        Some(11)
+    } else if !is_entry(entry, pages) {
+        Some(12)
+    } else {
+        None
+    }
+}
+
+/// Whether the bytes of any segment end behind the file.
+fn any_cut(bytes: &[u8], segments: &[Segment]) -> bool
+    ensures { result ≡ list_any (is_cut bytes.now) segments.now }
+{
+    segments.iter().any(|segment| bytes.len() < segment.file_end())
+}
+
+/// Whether any segment lies partly out of RAM.
+fn any_outside(segments: &[Segment], pages: u32) -> bool
+    requires { pages ≤ MAX_PAGES }
+    ensures { result ≡ list_any (is_outside pages) segments.now }
+{
+    segments.iter().any(|segment| segment.is_outside(pages))
+}
+
+/// Whether any two of these segments, which are in the order of their addresses, share a byte.
+fn overlap(segments: &[Segment]) -> bool
+    requires sorted { IsNonDecreasingBy (λ s. s.address) segments.now }
+    requires not_empty { All (λ s. 0 < s.memory_size) segments.now }
+    ensures { result ≡ overlap segments.now }
+{
+    !segments.is_sorted_by(|low, high| low.end() <= high.address as usize)
+}
+
 /// Whether an address is in RAM and a multiple of 4.
 fn is_entry(address: u32, pages: u32) -> bool
+    requires { pages ≤ MAX_PAGES }
     ensures { result ≡ is_entry pages address }
 {
-    address % 4 == 0
-        && RAM_BASE <= address
-        && (address as usize) < RAM_BASE as usize + PAGE_SIZE * (pages as usize)
+    let end = RAM_BASE as usize + PAGE_SIZE * pages as usize;
+    address % 4 == 0 && RAM_BASE <= address && (address as usize) < end
 }
 
 /// What `elf_of` writes of code that fits in RAM from an address on is loaded, with the code there and

@@ -1,6 +1,6 @@
-ghost use Rattle.std.specs.Prelude.{◌≡◌, ℕ, ◌+◌, ◌*◌, ◌/◌, ◌<◌, ◌≤◌, Bool, true, false, length, IfOk, All, slice_index_or};
-ghost use Rattle.std.specs.List.{AllPairs, list_any};
-ghost use Rattle.elf_load.specs.Elf.{ram_of, pages_of, end_of, ram_end, is_cut, is_outside, is_overfull};
+ghost use Rattle.std.specs.Prelude.{◌≡◌, ◌≤◌, false, length, replicate, IfOk, All};
+ghost use Rattle.std.specs.List.{AllPairs};
+ghost use Rattle.elf_load.specs.Elf.{ram_of, pages_of, IsInFile, IsInRam, IsBelow};
 
 use crate::image::{MAX_PAGES, PAGE_SIZE, RAM_BASE};
 use crate::segment::Segment;
@@ -9,10 +9,9 @@ use std::alloc::{AllocError, Global};
 /// The bytes of RAM with these segments of a file in it, which lie one behind the other.
 pub(crate) fn ram_of(alloc: Global, bytes: &[u8], segments: &[Segment], pages: u32) -> Result<Vec<u8>, AllocError>
     requires most { pages ≤ MAX_PAGES }
-    requires exact { list_any is_overfull segments.now ≡ false }
-    requires in_file { list_any (is_cut bytes.now) segments.now ≡ false }
-    requires in_ram { list_any (is_outside pages) segments.now ≡ false }
-    requires in_order { AllPairs (λ low high. end_of low ≤ high.address) segments.now }
+    requires in_file { All (IsInFile bytes.now) segments.now }
+    requires in_ram { All (IsInRam pages) segments.now }
+    requires in_order { AllPairs IsBelow segments.now }
     ensures { IfOk result (λ ram. ram.items ≡ ram_of bytes.now segments.now pages) }
 {
     let size = PAGE_SIZE * pages as usize;
@@ -28,14 +27,23 @@ pub(crate) fn ram_of(alloc: Global, bytes: &[u8], segments: &[Segment], pages: u
 /// For each page of RAM, whether a byte of a segment falls in it.
 pub(crate) fn pages_of(alloc: Global, segments: &[Segment], pages: u32) -> Result<Vec<bool>, AllocError>
     requires most { pages ≤ MAX_PAGES }
-    requires in_ram { list_any (is_outside pages) segments.now ≡ false }
+    requires in_ram { All (IsInRam pages) segments.now }
     ensures { IfOk result (λ flags. flags.items ≡ pages_of segments.now pages) }
 {
     let mut flags = vec![in alloc; false; pages as usize]?;
+    flag_pages(&mut flags, segments);
+    Ok(flags)
+}
+
+/// Sets the flags of the pages in which a byte of a segment falls, where none is set.
+fn flag_pages(flags: &mut [bool], segments: &[Segment])
+    requires none { flags.old ≡ replicate (length flags.old) false }
+    requires in_ram { All (IsInRam (length flags.old)) segments.now }
+    ensures { flags.new ≡ pages_of segments.now (length flags.old) }
+{
     for segment in segments {
         let first = (segment.address - RAM_BASE) as usize / PAGE_SIZE;
-        let end = (segment.end() - RAM_BASE as usize).div_ceil(PAGE_SIZE);
-        flags[first..end].fill(true);
+        let last = (segment.end() - 1 - RAM_BASE as usize) / PAGE_SIZE;
+        flags[first..last + 1].fill(true);
     }
-    Ok(flags)
 }
