@@ -1,5 +1,9 @@
+pub mod Kept
 pub mod Loads
+pub mod Order
 pub mod Overlap
+pub mod Placing
 pub mod RamBytes
 pub mod RamPages
+pub mod Rules
 pub mod Words

@@ -7,7 +7,8 @@ use Rattle.std.proofs.lemmas.List.{append-nil, map-append, take-append-drop}
 use Rattle.std.proofs.lemmas.List.Elements.{filter-append}
 use Rattle.std.proofs.lemmas.List.Folds.{list_any-append}
 use Rattle.std.proofs.lemmas.List.FromFn.{map-range_with_len_more, take-map-range_with_len}
-use Rattle.elf_load.specs.Elf.{places, p_type, segment_at, loads_among, non_empty, is_overfull}
+use Rattle.elf_load.specs.Elf.{places, p_type, e_phnum, segment_at, loads_among, loads_of, non_empty, is_overfull, IsHeaderOf}
+use Rattle.elf_load.specs.declared.header.Header.{Header}
 use Rattle.elf_load.specs.declared.segment.Segment.{Segment}
 use Rattle.elf_load.specs.declared.segment.TheConstants.{PROGRAM_HEADER_SIZE, PT_LOAD}
 
@@ -42,6 +43,11 @@ pub loads_more_other : (file : List ℕ) (table n at : ℕ) → at ≡ table + P
 loads_more_other file table n at is_at is_other =
     loads_more file table n ∙ ap (λ place. loads_among file (places table n) ++ loads_among file (place ∷ [])) (sym is_at)
     ∙ ap (λ none. loads_among file (places table n) ++ none) (loads_none file at is_other) ∙ append-nil (loads_among file (places table n))
+
+-- the table that the ELF header tells of
+pub loads_of_header : (file : List ℕ) (header : Header) → IsHeaderOf file header → loads_of file ≡ loads_among file (places header.table header.count)
+loads_of_header file header h =
+    ap (λ table. loads_among file (places table (e_phnum file))) (sym h.table) ∙ ap (λ count. loads_among file (places header.table count)) (sym h.count)
 
 -- an overfull segment among the first headers is one among all
 pub overfull_stays : (file : List ℕ) (table n count : ℕ) → n ≤ count → list_any is_overfull (loads_among file (places table n)) ≡ true

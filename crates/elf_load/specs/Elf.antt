@@ -6,6 +6,7 @@ use Rattle.flat_memory.specs.Flat.{half_at, word_at}
 use Rattle.elf_load.specs.Image.{Image}
 use Rattle.elf_load.specs.declared.error.ImageError.{ImageError}
 use Rattle.elf_load.specs.declared.error.ImageError.TheVariants.{Refused, Memory}
+use Rattle.elf_load.specs.declared.header.Header.{Header}
 use Rattle.elf_load.specs.declared.header.TheConstants.{MAGIC, HEADER_SIZE, ELFCLASS32, ELFDATA2LSB, EV_CURRENT, ET_EXEC, EM_RISCV, PN_XNUM}
 use Rattle.elf_load.specs.declared.image.TheConstants.{RAM_BASE, PAGE_SIZE}
 use Rattle.elf_load.specs.declared.segment.Segment.{Segment}
@@ -230,6 +231,13 @@ IsRefused file pages Memory = ⊤
 abbrev pub NamesRule : Option ℕ → ImageError → Type 0
 NamesRule broken (Refused number) = broken ≡ Some number
 NamesRule broken Memory = ⊤
+
+-- what the loader takes from the header of a file, whose program headers end within it
+pub record IsHeaderOf (file : List ℕ) (header : Header) : Type 0 where
+  pub entry : header.entry ≡ e_entry file
+  pub table : header.table ≡ e_phoff file
+  pub count : header.count ≡ e_phnum file
+  pub within : header.table + PROGRAM_HEADER_SIZE * header.count ≤ length file
 
 -- a segment has its bytes in the file, and no more of them than it has in memory
 pub record IsInFile (file : List ℕ) (s : Segment) : Type 0 where

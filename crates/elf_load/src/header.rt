@@ -1,5 +1,5 @@
-ghost use Rattle.std.specs.Prelude.{◌≡◌, ◌+◌, ◌*◌, ◌≤◌, length, IfOk, IfErr, None};
-ghost use Rattle.elf_load.specs.Elf.{NamesRule, header_rules, first_broken, e_entry, e_phoff, e_phnum};
+ghost use Rattle.std.specs.Prelude.{◌≡◌, IfOk, IfErr, None};
+ghost use Rattle.elf_load.specs.Elf.{IsHeaderOf, NamesRule, header_rules, first_broken};
 
 use crate::error::ImageError;
 use crate::segment::PROGRAM_HEADER_SIZE;
@@ -44,11 +44,8 @@ impl Header {
     /// Reads the ELF header of a file, or refuses the file by the rules 1 to 7.
     #[tactic(auto, unfolding(crate::specs::Elf::header_rules))]
     pub(crate) fn read(bytes: &[u8]) -> Result<Header, ImageError>
-        ensures unbroken { IfOk result (λ header. first_broken (header_rules bytes.now) ≡ None) }
-        ensures entry { IfOk result (λ header. header.entry ≡ e_entry bytes.now) }
-        ensures table { IfOk result (λ header. header.table ≡ e_phoff bytes.now) }
-        ensures count { IfOk result (λ header. header.count ≡ e_phnum bytes.now) }
-        ensures within { IfOk result (λ header. header.table + PROGRAM_HEADER_SIZE * header.count ≤ length bytes.now) }
+        ensures unbroken { IfOk result (λ _. first_broken (header_rules bytes.now) ≡ None) }
+        ensures header { IfOk result (IsHeaderOf bytes.now) }
         ensures refused { IfErr result (NamesRule (first_broken (header_rules bytes.now))) }
     {
         if bytes.len() < HEADER_SIZE {

@@ -1,15 +1,15 @@
-ghost use Rattle.std.specs.Prelude.{◌≡◌, ℕ, ◌+◌, ◌-◌, ◌*◌, ◌%◌, ◌<◌, ◌≤◌, List, ◌++◌, length, All, IfOk, IfErr, Ok};
-ghost use Rattle.std.specs.List.{list_any};
+ghost use Rattle.std.specs.Prelude.{◌≡◌, ℕ, ◌+◌, ◌-◌, ◌*◌, ◌%◌, ◌<◌, ◌≤◌, List, ◌++◌, length, All, IsTrue, IfOk, IfErr, Ok};
+ghost use Rattle.std.specs.List.{AllPairs, list_any};
 ghost use Rattle.std.specs.List.Sorted.{IsNonDecreasingBy};
-ghost use Rattle.elf_load.specs.Elf.{IsRefused, is_cut, is_outside, is_entry, overlap, place_rules, first_broken, loaded};
+ghost use Rattle.elf_load.specs.Elf.{IsRefused, is_cut, is_outside, is_entry, overlap, place_rules, first_broken, ram_of, pages_of, loaded, IsInFile, IsInRam, IsBelow};
 ghost use Rattle.elf_load.specs.OneSegment.{elf_of, bytes_of_words, words_of, image_of_code};
 
 use crate::error::ImageError;
 use crate::header::Header;
 use crate::image::{Loaded, MAX_PAGES, MIN_PAGES, PAGE_SIZE, RAM_BASE};
 use crate::memory::{pages_of, ram_of};
-use crate::segment::{Segment, segments_of};
-use std::alloc::Global;
+use crate::segment::{Segment, segments_by_address};
+use std::alloc::{AllocError, Global};
 
 /// Loads an ELF executable for RISC-V of 32 bits into RAM of `ram_pages` pages. Each segment goes to its
 /// physical address. A file that cannot be loaded is refused by the first rule of `ImageError` that it
@@ -21,15 +21,31 @@ pub fn load_elf(alloc: Global, bytes: &[u8], ram_pages: u32) -> Result<Loaded, I
     ensures refuses { IfErr result (IsRefused bytes.now ram_pages) }
 {
     let header = Header::read(bytes)?;
-    let mut segments = segments_of(alloc, bytes, &header)?;
-    segments.sort_unstable_by_key(|segment| segment.address);
+    let segments = segments_by_address(alloc, bytes, &header)?;
     if let Some(rule) = broken_rule(bytes, &segments, header.entry, ram_pages) {
         return Err(ImageError::Refused(rule));
     }
+    Ok(place(alloc, bytes, &segments, header.entry, ram_pages)?)
+}
+
+/// The image of a file with these segments, which lie one behind the other.
+fn place(alloc: Global, bytes: &[u8], segments: &[Segment], entry: u32, pages: u32) -> Result<Loaded, AllocError>
+    requires least { MIN_PAGES ≤ pages }
+    requires most { pages ≤ MAX_PAGES }
+    requires in_file { All (IsInFile bytes.now) segments.now }
+    requires in_ram { All (IsInRam pages) segments.now }
+    requires in_order { AllPairs IsBelow segments.now }
+    requires entered { IsTrue (is_entry pages entry) }
+    ensures { IfOk result (λ image. image ≡ record {
+      ram = ram_of bytes.now segments.now pages;
+      entry = entry;
+      segments = pages_of segments.now pages;
+    }) }
+{
     Ok(Loaded {
-        ram: ram_of(alloc, bytes, &segments, ram_pages)?,
-        entry: header.entry,
-        segments: pages_of(alloc, &segments, ram_pages)?,
+        ram: ram_of(alloc, bytes, segments, pages)?,
+        entry,
+        segments: pages_of(alloc, segments, pages)?,
     })
 }
 

@@ -1,6 +1,7 @@
 ghost use Rattle.std.specs.Prelude.{◌≡◌, ◌+◌, ◌*◌, ◌≤◌, if◌then◌else◌, length, IfOk, IfErr, Some, None, false};
 ghost use Rattle.std.specs.List.{list_any};
-ghost use Rattle.elf_load.specs.Elf.{segment_at, end_of, is_outside, places, loads_among, non_empty, is_overfull, NamesRule};
+ghost use Rattle.std.specs.List.Sorted.{IsPermutation, IsNonDecreasingBy};
+ghost use Rattle.elf_load.specs.Elf.{segment_at, end_of, is_outside, loads_of, segments_of, is_overfull, IsHeaderOf, NamesRule};
 
 use crate::error::ImageError;
 use crate::header::Header;
@@ -67,14 +68,26 @@ impl Segment {
     }
 }
 
-/// The segments that a file places in RAM, in the order of its program headers. It is refused where a
-/// segment has more bytes in the file than in memory.
-pub(crate) fn segments_of(alloc: Global, bytes: &[u8], header: &Header) -> Result<Vec<Segment>, ImageError>
-    requires { header.now.table + PROGRAM_HEADER_SIZE * header.now.count ≤ length bytes.now }
-    ensures placed { let loads = loads_among bytes.now (places header.now.table header.now.count) in
-        IfOk result (λ segments. (segments.items ≡ non_empty loads) × (list_any is_overfull loads ≡ false)) }
-    ensures overfull { let loads = loads_among bytes.now (places header.now.table header.now.count) in
-        IfErr result (NamesRule (if list_any is_overfull loads then Some 8 else None)) }
+/// The segments that a file places in RAM, in the order of their addresses. It is refused where one has
+/// more bytes in the file than in memory.
+pub(crate) fn segments_by_address(alloc: Global, bytes: &[u8], header: &Header) -> Result<Vec<Segment>, ImageError>
+    requires { IsHeaderOf bytes.now header.now }
+    ensures placed { IfOk result (λ segments. IsPermutation (segments_of bytes.now) segments.items) }
+    ensures rising { IfOk result (λ segments. IsNonDecreasingBy (λ s. s.address) segments.items) }
+    ensures fit { IfOk result (λ _. list_any is_overfull (loads_of bytes.now) ≡ false) }
+    ensures overfull { IfErr result (NamesRule (if list_any is_overfull (loads_of bytes.now) then Some 8 else None)) }
+{
+    let mut segments = read_segments(alloc, bytes, header)?;
+    segments.sort_unstable_by_key(|segment| segment.address);
+    Ok(segments)
+}
+
+/// The same in the order of the program headers.
+fn read_segments(alloc: Global, bytes: &[u8], header: &Header) -> Result<Vec<Segment>, ImageError>
+    requires { IsHeaderOf bytes.now header.now }
+    ensures placed { IfOk result (λ segments. segments.items ≡ segments_of bytes.now) }
+    ensures fit { IfOk result (λ _. list_any is_overfull (loads_of bytes.now) ≡ false) }
+    ensures overfull { IfErr result (NamesRule (if list_any is_overfull (loads_of bytes.now) then Some 8 else None)) }
 {
     let mut segments = Vec::new(alloc);
     for n in 0..header.count as usize {

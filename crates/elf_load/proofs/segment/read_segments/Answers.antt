@@ -3,9 +3,9 @@ use Rattle.std.proofs.lemmas.Bool.{cond-true}
 use Rattle.std.specs.List.{list_any}
 use Rattle.elf_load.specs.Elf.{places, loads_among, non_empty, is_overfull, segment_at}
 use Rattle.elf_load.specs.declared.segment.Segment.{Segment}
-use Rattle.elf_load.proofs.Loads.{loads_more_other, loads_more_load, overfull_stays, overfull_push, exact_push, non_empty_push, non_empty_skip}
-use Rattle.elf_load.proofs.segment.segments_of.Goals as goal
-use Rattle.elf_load.proofs.segment.segments_of.Goals.{then-segment-gt0+in_ok-map_err, else-segment-gt0}
+use Rattle.elf_load.proofs.Loads.{loads_of_header, loads_more_other, loads_more_load, overfull_stays, overfull_push, exact_push, non_empty_push, non_empty_skip}
+use Rattle.elf_load.proofs.segment.read_segments.Goals as goal
+use Rattle.elf_load.proofs.segment.read_segments.Goals.{then-segment-gt0+in_ok-map_err, else-segment-gt0}
 
 pub loop-n-init : goal.loop-n-init
 unfolding loads_among
@@ -23,7 +23,8 @@ returns-then-segment-clause-overfull c =
     let more = loads_more_load file table c.loop-n.n _ refl (sym c.read_word.ensures ∙ c.if-read_word-ne-PT_LOAD.false) in
     let over = overfull_push (loads_among file (places table c.loop-n.n)) c.read-segment.result c.if-segment.true in
     ap (λ found. cond found (Some 8) None)
-    (overfull_stays file table (c.loop-n.n + 1) c.args.header.now.count (omega arith)
+    (ap (list_any is_overfull) (loads_of_header file c.args.header.now c.requires)
+    ∙ overfull_stays file table (c.loop-n.n + 1) c.args.header.now.count (omega arith)
     (ap (list_any is_overfull) more ∙ ap (λ s. list_any is_overfull (loads_among file (places table c.loop-n.n) ++ s ∷ [])) (sym c.read-segment.ensures) ∙ over))
 
 pub loop-n-preserved : goal.loop-n-preserved
