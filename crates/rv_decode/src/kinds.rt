@@ -173,10 +173,14 @@ pub enum Format {
 /// The kinds that are executed alike.
 #[derive(Clone, Copy, Debug, PartialEq, Eq)]
 pub enum Group {
-    /// LUI and AUIPC.
-    Upper,
-    /// JAL and JALR.
+    /// LUI.
+    LoadUpper,
+    /// AUIPC.
+    AddUpper,
+    /// JAL.
     Jump,
+    /// JALR.
+    JumpRegister,
     /// The branches.
     Branch,
     /// The loads, but for LR.
@@ -187,14 +191,20 @@ pub enum Group {
     ComputeImmediate,
     /// Computations from `rs1` and `rs2`.
     Compute,
-    /// FENCE, FENCE.I and WFI.
-    Fence,
-    /// ECALL, EBREAK and MRET.
-    System,
+    /// FENCE, FENCE.I and WFI, which change nothing.
+    Nothing,
+    /// ECALL.
+    EnvironmentCall,
+    /// EBREAK.
+    Breakpoint,
+    /// MRET.
+    TrapReturn,
     /// Accesses to CSRs.
     Csr,
-    /// LR and SC.
-    Reserved,
+    /// LR.
+    LoadReserved,
+    /// SC.
+    StoreConditional,
     /// The atomic memory operations.
     Amo,
 }
@@ -238,8 +248,10 @@ impl Kind {
         ensures { result ≡ group_of self }
     {
         match self {
-            Kind::Lui | Kind::Auipc => Group::Upper,
-            Kind::Jal | Kind::Jalr => Group::Jump,
+            Kind::Lui => Group::LoadUpper,
+            Kind::Auipc => Group::AddUpper,
+            Kind::Jal => Group::Jump,
+            Kind::Jalr => Group::JumpRegister,
             Kind::Beq | Kind::Bne | Kind::Blt | Kind::Bge | Kind::Bltu | Kind::Bgeu =>
                 Group::Branch,
             Kind::Lb | Kind::Lh | Kind::Lw | Kind::Lbu | Kind::Lhu => Group::Load,
@@ -252,11 +264,14 @@ impl Kind {
             Kind::Xor | Kind::Srl | Kind::Sra | Kind::Or | Kind::And => Group::Compute,
             Kind::Mul | Kind::Mulh | Kind::Mulhsu | Kind::Mulhu => Group::Compute,
             Kind::Div | Kind::Divu | Kind::Rem | Kind::Remu => Group::Compute,
-            Kind::Fence | Kind::FenceI | Kind::Wfi => Group::Fence,
-            Kind::Ecall | Kind::Ebreak | Kind::Mret => Group::System,
+            Kind::Fence | Kind::FenceI | Kind::Wfi => Group::Nothing,
+            Kind::Ecall => Group::EnvironmentCall,
+            Kind::Ebreak => Group::Breakpoint,
+            Kind::Mret => Group::TrapReturn,
             Kind::Csrrw | Kind::Csrrs | Kind::Csrrc => Group::Csr,
             Kind::Csrrwi | Kind::Csrrsi | Kind::Csrrci => Group::Csr,
-            Kind::LrW | Kind::ScW => Group::Reserved,
+            Kind::LrW => Group::LoadReserved,
+            Kind::ScW => Group::StoreConditional,
             Kind::AmoswapW | Kind::AmoaddW | Kind::AmoxorW | Kind::AmoandW => Group::Amo,
             Kind::AmoorW | Kind::AmominW | Kind::AmomaxW | Kind::AmominuW => Group::Amo,
             Kind::AmomaxuW => Group::Amo,
