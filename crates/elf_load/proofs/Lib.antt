@@ -1,5 +1,6 @@
 pub mod Kept
 pub mod Loads
+pub mod OneSegment
 pub mod Order
 pub mod Overlap
 pub mod Placing
