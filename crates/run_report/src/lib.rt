@@ -3,6 +3,8 @@
 
 mod name;
 mod report;
+#[cfg(test)]
+mod tests;
 
 pub use name::Name;
 pub use report::{Outcome, ReportError, report_into};
