@@ -77,7 +77,9 @@ fn signed_quotient(a: u32, b: u32) -> u32
     if b == 0 {
         u32::MAX
     } else {
-        a.cast_signed().wrapping_div(b.cast_signed()).cast_unsigned()
+        a.cast_signed()
+            .wrapping_div(b.cast_signed())
+            .cast_unsigned()
     }
 }
 
@@ -97,7 +99,9 @@ fn signed_remainder(a: u32, b: u32) -> u32
     if b == 0 {
         a
     } else {
-        a.cast_signed().wrapping_rem(b.cast_signed()).cast_unsigned()
+        a.cast_signed()
+            .wrapping_rem(b.cast_signed())
+            .cast_unsigned()
     }
 }
 
