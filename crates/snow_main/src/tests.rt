@@ -16,7 +16,7 @@ const PRINT_LETTER: [u32; 7] = [
     0x100002b7, 0x04100313, 0x00628023, 0x100022b7, 0x0002a023, 0x00500313, 0x0062a423,
 ];
 
-/// An executable of one segment, as a linker writes it.
+/// An executable of one segment, which goes to the start of RAM and starts there.
 fn image_of(alloc: Global, words: &[u32]) -> Result<Vec<u8>, AllocError> {
     let size = u32::try_from(words.len())
         .unwrap_or(0)
