@@ -18,10 +18,8 @@ pub fn advance_counts()
 /// A step of a live machine that is an exception is counted and goes to the handler, and changes
 /// nothing but what a trap changes.
 pub fn exception_traps()
-    ensures {
-        (m : Machine) (cause value : ℕ) → m.ending ≡ None → next m ≡ exception cause value
-        → advance m ≡ limited (count false Wrote.Nothing (trapped cause value m.state)) m
-    }
+    ensures { (m : Machine) (cause value : ℕ) → m.ending ≡ None → next m ≡ exception cause value
+        → advance m ≡ limited (count false Wrote.Nothing (trapped cause value m.state)) m }
 {}
 
 /// A machine run to its end is itself where it has ended, and else what its next step leads to. It

@@ -10,4 +10,3 @@ mod tests;
 pub use memory::{MemShelf, MemSink};
 pub use outside::{LAST_COUNT, Shelf, ShelfError, Sink, WriteFault, put_all};
 pub use real::{FileShelf, StdSink};
-

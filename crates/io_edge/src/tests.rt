@@ -23,7 +23,10 @@ fn reads_and_writes_the_real_outside(rt: HostRuntime) -> Result<(), Fail> {
 #[test]
 fn reads_and_writes_memory(rt: HostRuntime) -> Result<(), Fail> {
     let alloc = rt.alloc();
-    let file = (String::from_str(alloc, "name")?, Vec::from_slice(alloc, b"12345")?);
+    let file = (
+        String::from_str(alloc, "name")?,
+        Vec::from_slice(alloc, b"12345")?,
+    );
     let mut shelf = MemShelf::new(vec![in alloc; file]?, Vec::new(alloc));
     let bytes = shelf.load(alloc, "name", 5)?;
     let mut sink = MemSink::new(alloc, 2, 8, Vec::new(alloc))?;

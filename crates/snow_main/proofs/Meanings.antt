@@ -30,9 +30,9 @@ number_of-parse text r h =
     by_test (IsNumeral 10 digits × (digits_value 10 digits < 2 ^ 32)) _ (digits_value 10 digits) r
     (λ p. and_from _ _ (lt-ltb _ _ p.0.0) (and_from _ _ (numerals.from digits p.0.1) (lt-ltb _ _ p.1)))
     (λ e.
-        let parts = and_parts _ _ e in
-        let more = and_parts _ _ parts.1 in
-        ((ltb-true _ _ parts.0, numerals.to digits more.0), ltb-true _ _ more.1))
+    let parts = and_parts _ _ e in
+    let more = and_parts _ _ parts.1 in
+    ((ltb-true _ _ parts.0, numerals.to digits more.0), ltb-true _ _ more.1))
     h
 
 -- ---- the parser of the words

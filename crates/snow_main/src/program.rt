@@ -176,12 +176,7 @@ fn run_to_end(alloc: Global, image: &Loaded, limit: u64) -> Result<Outcome, Allo
     let mut vm = Vm::boot(alloc, image, Options { limit })?;
     vm.run(limit)?;
     match vm.ended() {
-        Some(ending) => Ok(Outcome::new(
-            Name::root(alloc),
-            ending,
-            vm.steps(),
-            vm.into_output(),
-        )),
+        Some(ending) => Ok(Outcome::new(Name::root(alloc), ending, vm.steps(), vm.into_output())),
         None => unreachable!(),
     }
 }

@@ -84,12 +84,32 @@ fn reports(rt: HostRuntime) -> Result<(), Fail> {
             &["run", "guest"],
             b"machine 0 limit steps 1000000 out 0\n\n",
         ),
-        (&EXIT_SEVEN, &["run", "guest", "--ram", "16"], EXIT_SEVEN_REPORT),
-        (&EXIT_SEVEN, &["run", "--ram=+1024", "guest"], EXIT_SEVEN_REPORT),
+        (
+            &EXIT_SEVEN,
+            &["run", "guest", "--ram", "16"],
+            EXIT_SEVEN_REPORT,
+        ),
+        (
+            &EXIT_SEVEN,
+            &["run", "--ram=+1024", "guest"],
+            EXIT_SEVEN_REPORT,
+        ),
         // EXIT wins over the limit.
-        (&EXIT_SEVEN, &["run", "guest", "--limit", "5"], EXIT_SEVEN_REPORT),
-        (&EXIT_SEVEN, &["run", "--limit", "005", "--", "guest"], EXIT_SEVEN_REPORT),
-        (&EXIT_SEVEN, &["run", "guest", "--limit", "1000000000"], EXIT_SEVEN_REPORT),
+        (
+            &EXIT_SEVEN,
+            &["run", "guest", "--limit", "5"],
+            EXIT_SEVEN_REPORT,
+        ),
+        (
+            &EXIT_SEVEN,
+            &["run", "--limit", "005", "--", "guest"],
+            EXIT_SEVEN_REPORT,
+        ),
+        (
+            &EXIT_SEVEN,
+            &["run", "guest", "--limit", "1000000000"],
+            EXIT_SEVEN_REPORT,
+        ),
         (
             &EXIT_SEVEN,
             &["run", "guest", "--limit", "4"],
@@ -125,10 +145,22 @@ fn refuses_by_cause(rt: HostRuntime) -> Result<(), Fail> {
         (&["run", "guest", "--ram", "15"], 104, status(2, 0)),
         (&["run", "guest", "--ram", "1025"], 104, status(2, 0)),
         (&["run", "guest", "--limit", "0"], 104, status(2, 0)),
-        (&["run", "guest", "--limit", "1000000001"], 104, status(2, 0)),
-        (&["run", "guest", "--limit", "4294967296"], 104, status(2, 0)),
+        (
+            &["run", "guest", "--limit", "1000000001"],
+            104,
+            status(2, 0),
+        ),
+        (
+            &["run", "guest", "--limit", "4294967296"],
+            104,
+            status(2, 0),
+        ),
         (&["run", "guest", "--limit", "5x"], 104, status(2, 0)),
-        (&["run", "guest", "--ram", "16", "--ram", "16"], 104, status(2, 0)),
+        (
+            &["run", "guest", "--ram", "16", "--ram", "16"],
+            104,
+            status(2, 0),
+        ),
         (&["run", "guest", "--ram"], 104, status(2, 0)),
         (&["run", "guest", "--workers", "65"], 104, status(2, 0)),
         (&["--help"], 104, status(2, 0)),
@@ -162,7 +194,10 @@ fn stops_at_each_fault(rt: HostRuntime) -> Result<(), Fail> {
         (0, 6, status(0, 0), 32),
     ];
     for (shelf_fails, sink_fails, want, out) in rows {
-        let file = (String::from_str(alloc, "guest")?, image_of(alloc, &EXIT_SEVEN)?);
+        let file = (
+            String::from_str(alloc, "guest")?,
+            image_of(alloc, &EXIT_SEVEN)?,
+        );
         let mut shelf = MemShelf::new(vec![in alloc; file]?, vec![in alloc; shelf_fails]?);
         let mut sink = MemSink::new(alloc, 10, 100, vec![in alloc; sink_fails]?)?;
         assert_eq!(rt; snow(&rt, &words, &mut shelf, &mut sink), want);
