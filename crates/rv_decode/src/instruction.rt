@@ -1,45 +1,8 @@
-ghost use Rattle.std.specs.Prelude.{◌≡◌, ◌<◌, SomeIff};
-ghost use Rattle.rv_decode.specs.Instruction.{format_of};
+ghost use Rattle.std.specs.Prelude.{◌≡◌, ◌<◌, ◌↔◌, IsTrue, SomeIff};
+ghost use Rattle.rv_decode.specs.Instruction.{Instruction, IsInstruction};
 
+use crate::kinds::{Format, Kind};
 use std::marker::Model;
-
-/// What an instruction does, by its name in the RISC-V Unprivileged ISA 20191213.
-#[derive(Clone, Copy, Debug, PartialEq, Eq)]
-pub enum Kind {
-    /// Load upper immediate.
-    Lui,
-    /// Add immediate.
-    Addi,
-    /// Store byte.
-    Sb,
-    /// Store word.
-    Sw,
-}
-
-/// How the fields of an instruction lie in its word (sections 2.2 and 2.3).
-#[derive(Clone, Copy, Debug, PartialEq, Eq)]
-pub enum Format {
-    /// `rd` and an immediate of the upper 20 bits.
-    U,
-    /// `rd`, `rs1` and a signed immediate of 12 bits.
-    I,
-    /// `rs1`, `rs2` and a signed immediate of 12 bits.
-    S,
-}
-
-impl Kind {
-    /// The format of this kind's words.
-    #[inline]
-    pub fn format(self) -> Format
-        ensures { result ≡ format_of self }
-    {
-        match self {
-            Kind::Lui => Format::U,
-            Kind::Addi => Format::I,
-            Kind::Sb | Kind::Sw => Format::S,
-        }
-    }
-}
 
 /// An instruction: its kind, its registers from 0 to 31, and its immediate. Each field is in the
 /// range of the kind's format, and 0 where the format lacks it.
@@ -65,20 +28,13 @@ impl Model for Instr {
 }
 
 impl Instr {
-    ghost use Rattle.rv_decode.specs.Instruction.{Instruction, IsInstruction};
-
     /// The instruction with these fields, or `None` exactly where a field is out of its format's
     /// range, or one that the format lacks is not 0.
     pub fn new(kind: Kind, rd: u32, rs1: u32, rs2: u32, imm: i32) -> Option<Instr>
         ensures { let fields : Instruction = record { kind = kind; rd = rd; rs1 = rs1; rs2 = rs2; imm = imm }
             in SomeIff result (IsInstruction fields) fields }
     {
-        let is_in_format = match kind.format() {
-            Format::U => rd < 32 && rs1 == 0 && rs2 == 0 && imm.cast_unsigned() % 4096 == 0,
-            Format::I => rd < 32 && rs1 < 32 && rs2 == 0 && (-2048..2048).contains(&imm),
-            Format::S => rd == 0 && rs1 < 32 && rs2 < 32 && (-2048..2048).contains(&imm),
-        };
-        if is_in_format {
+        if is_instruction(kind, rd, rs1, rs2, imm) {
             Some(Instr {
                 kind,
                 rd: rd as u8,
@@ -131,6 +87,38 @@ impl Instr {
         ensures { result ≡ self.imm }
     {
         self.imm
+    }
+}
+
+/// Whether each field is in the range of the kind's format, and 0 where the format lacks it.
+fn is_instruction(kind: Kind, rd: u32, rs1: u32, rs2: u32, imm: i32) -> bool
+    ensures fields { let fields : Instruction = record { kind = kind; rd = rd; rs1 = rs1; rs2 = rs2; imm = imm }
+        in IsTrue result ↔ IsInstruction fields }
+    ensures registers { IsTrue result → (rd < 32) × (rs1 < 32) × (rs2 < 32) }
+{
+    match kind.format() {
+        Format::U => rd < 32 && rs1 == 0 && rs2 == 0 && imm.cast_unsigned() % 4096 == 0,
+        Format::J => {
+            rd < 32
+                && rs1 == 0
+                && rs2 == 0
+                && (-0x10_0000..0x10_0000).contains(&imm)
+                && imm.cast_unsigned() % 2 == 0
+        }
+        Format::B => {
+            rd == 0
+                && rs1 < 32
+                && rs2 < 32
+                && (-0x1000..0x1000).contains(&imm)
+                && imm.cast_unsigned() % 2 == 0
+        }
+        Format::I => rd < 32 && rs1 < 32 && rs2 == 0 && (-0x800..0x800).contains(&imm),
+        Format::S => rd == 0 && rs1 < 32 && rs2 < 32 && (-0x800..0x800).contains(&imm),
+        Format::Shift => rd < 32 && rs1 < 32 && rs2 == 0 && (0..32).contains(&imm),
+        Format::Csr => rd < 32 && rs1 < 32 && rs2 == 0 && (0..0x1000).contains(&imm),
+        Format::R => rd < 32 && rs1 < 32 && rs2 < 32 && imm == 0,
+        Format::Lr => rd < 32 && rs1 < 32 && rs2 == 0 && imm == 0,
+        Format::Bare => rd == 0 && rs1 == 0 && rs2 == 0 && imm == 0,
     }
 }
 

@@ -14,7 +14,7 @@ use std::marker::Model;
 pub enum PortError {
     /// The port has no such access.
     Fault,
-    /// Want of memory.
+    /// Out of memory.
     Memory,
 }
 
@@ -29,7 +29,7 @@ impl<T: Drop> From<AllocFailed<T>> for PortError {
     }
 }
 
-/// The access that no port has.
+/// The port has no such access. Nothing has changed then.
 #[derive(Clone, Copy, Debug, PartialEq, Eq)]
 pub struct Fault;
 
