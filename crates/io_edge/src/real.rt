@@ -1,20 +1,33 @@
 //! The real outside: files and the standard output. They tell nothing of what they hold.
 
+ghost use Rattle.std.specs.Prelude.{◌≡◌};
+
 use crate::outside::{Shelf, ShelfError, Sink, WriteFault};
 use std::alloc::Global;
 use std::fs;
 use std::io::{self, ErrorKind, Read};
+use std::marker::Model;
 use std::rt::Files;
 
-/// The files of the system.
+/// The files of the system. A contract sees the count of faults.
 #[derive(Drop)]
 pub struct FileShelf<'a, R: Files> {
     rt: &'a R,
     faults: u64,
 }
 
+impl<'a, R: Files> Model for FileShelf<'a, R> {
+    ghost use Rattle.std.specs.Prelude.{ℕ};
+
+    ghost Value = { ℕ };
+
+    ghost view = { λ s. s.faults };
+}
+
 impl<'a, R: Files> FileShelf<'a, R> {
-    pub fn new(rt: &'a R) -> FileShelf<'a, R> {
+    pub fn new(rt: &'a R) -> FileShelf<'a, R>
+        ensures { result ≡ 0 }
+    {
         FileShelf { rt, faults: 0 }
     }
 }
@@ -24,7 +37,7 @@ impl<R: Files> Shelf for FileShelf<'_, R> {
 
     ghost files = { λ _. None };
 
-    ghost faults = { λ s. s.faults };
+    ghost faults = { λ faults. faults };
 
     fn load(&mut self, alloc: Global, name: &str, at_most: usize) -> Result<Vec<u8>, ShelfError> {
         match read_at_most(self.rt, alloc, name, at_most) {
@@ -53,15 +66,25 @@ fn read_at_most<R: Files>(
     Ok(bytes)
 }
 
-/// The standard output.
+/// The standard output. A contract sees the count of faults.
 #[derive(Drop)]
 pub struct StdSink<'a, R: Print> {
     rt: &'a R,
     faults: u64,
 }
 
+impl<'a, R: Print> Model for StdSink<'a, R> {
+    ghost use Rattle.std.specs.Prelude.{ℕ};
+
+    ghost Value = { ℕ };
+
+    ghost view = { λ s. s.faults };
+}
+
 impl<'a, R: Print> StdSink<'a, R> {
-    pub fn new(rt: &'a R) -> StdSink<'a, R> {
+    pub fn new(rt: &'a R) -> StdSink<'a, R>
+        ensures { result ≡ 0 }
+    {
         StdSink { rt, faults: 0 }
     }
 }
@@ -71,7 +94,7 @@ impl<R: Print> Sink for StdSink<'_, R> {
 
     ghost gone = { λ _. None };
 
-    ghost faults = { λ s. s.faults };
+    ghost faults = { λ faults. faults };
 
     fn put(&mut self, piece: &[u8]) -> Result<usize, WriteFault> {
         match self.rt.write_some(piece) {

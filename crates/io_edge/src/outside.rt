@@ -1,27 +1,32 @@
 //! The outside: where files come from and where the report goes. What a real file or terminal holds
 //! no contract can say, so an implementation may tell its contents or not.
 
-ghost use Rattle.std.specs.Prelude.{◌≡◌, ℕ, ◌≤◌, ◌<◌, List, Option, length, take, vec_len, Some, IfOk, IfSome, OnErr, IsErrOf, IsSomeAnd};
-ghost use Rattle.snow_main.specs.Outside.{HasRisen, appended};
+ghost use Rattle.std.specs.Prelude.{◌≡◌, ℕ, ◌≤◌, ◌<◌, List, Option, length, take, vec_len, Some, IfOk, IfSome, OnOk, OnErr, IsErrOf, IsSomeAnd};
+ghost use Rattle.io_edge.specs.Outside.{HasRisen, IsPrefixGone, appended};
 
 use std::alloc::Global;
+use thiserror::Error;
 
 /// The last value of a count of faults: a count stays there, and a fault may then come without a rise.
 pub const LAST_COUNT: u64 = u64::MAX;
 
 /// Why a file was not given.
-#[derive(Clone, Copy, Debug, PartialEq, Eq)]
+#[derive(Clone, Copy, Debug, PartialEq, Eq, Error)]
 pub enum ShelfError {
     /// It could not be read, or there is none of that name.
+    #[error("the file could not be read")]
     Fault,
     /// It is longer than was asked for.
+    #[error("the file is too long")]
     TooLong,
     /// Want of memory.
+    #[error("want of memory")]
     Memory,
 }
 
 /// The bytes could not be put out.
-#[derive(Clone, Copy, Debug, PartialEq, Eq)]
+#[derive(Clone, Copy, Debug, PartialEq, Eq, Error)]
+#[error("the bytes could not be put out")]
 pub struct WriteFault;
 
 /// Files by name.
@@ -59,4 +64,19 @@ pub trait Sink {
         ensures out { IfOk result (λ n. gone self.new ≡ appended (gone self.old) (take n piece.now)) }
         ensures none_out { OnErr result (gone self.new ≡ gone self.old) }
         ensures fault { OnErr result (HasRisen (faults self.old) (faults self.new)) };
+}
+
+/// Puts out all of the bytes, or a prefix of them up to a fault.
+pub fn put_all<K: Sink>(sink: &mut K, bytes: &[u8]) -> Result<(), WriteFault>
+    ensures counts { K.faults sink.old ≤ K.faults sink.new }
+    ensures ok { OnOk result (K.gone sink.new ≡ appended (K.gone sink.old) bytes.now) }
+    ensures fault { OnErr result (HasRisen (K.faults sink.old) (K.faults sink.new)) }
+    ensures prefix { IsPrefixGone (K.gone sink.old) (K.gone sink.new) bytes.now }
+{
+    let mut done = 0;
+    while done < bytes.len() {
+        let (_, rest) = bytes.split_at(done);
+        done += sink.put(rest)?;
+    }
+    Ok(())
 }

@@ -1,8 +1,9 @@
 //! A shelf and a sink in memory, for tests: they tell all that they hold, and fail when they are told.
 
-ghost use Rattle.std.specs.Prelude.{◌≡◌, ◌≤◌, [], IfOk};
+ghost use Rattle.std.specs.Prelude.{◌≡◌, ◌≤◌, ◌<◌, [], length, IfOk};
 ghost use Rattle.std.specs.Option.{option_copied};
-ghost use Rattle.snow_main.specs.Files.{file_named, named};
+ghost use Rattle.io_edge.specs.Files.{Loads, after_load, file_named, found, named};
+ghost use Rattle.io_edge.specs.Gone.{Puts};
 
 use crate::outside::{Shelf, ShelfError, Sink, WriteFault};
 use std::alloc::{AllocError, Global};
@@ -19,7 +20,7 @@ pub struct MemShelf {
 }
 
 impl Model for MemShelf {
-    ghost use Rattle.snow_main.specs.Files.{Shelved, named};
+    ghost use Rattle.io_edge.specs.Files.{Shelved, named};
 
     ghost Value = { Shelved };
 
@@ -41,13 +42,17 @@ impl MemShelf {
 
 impl Shelf for MemShelf {
     ghost use Rattle.std.specs.Prelude.{Some};
-    ghost use Rattle.snow_main.specs.Files.{file_named};
+    ghost use Rattle.io_edge.specs.Files.{file_named};
 
     ghost files = { λ s. Some (file_named s.files) };
 
     ghost faults = { λ s. s.faults };
 
-    fn load(&mut self, alloc: Global, name: &str, at_most: usize) -> Result<Vec<u8>, ShelfError> {
+    fn load(&mut self, alloc: Global, name: &str, at_most: usize) -> Result<Vec<u8>, ShelfError>
+        ensures loads { Loads (found self.old name.now) at_most result }
+        ensures after { self.new ≡ after_load (found self.old name.now) self.old }
+        ensures counts { self.old.faults ≤ self.new.faults }
+    {
         self.calls = self.calls.saturating_add(1);
         let found = if self.failing.contains(&self.calls) {
             None
@@ -94,11 +99,11 @@ pub struct MemSink {
 
 impl Model for MemSink {
     ghost use Rattle.std.specs.Prelude.{◌≤◌, ◌<◌, vec_len, vec_capacity};
-    ghost use Rattle.snow_main.specs.Gone.{Kept};
+    ghost use Rattle.io_edge.specs.Gone.{Kept};
 
     ghost Value = { Kept };
 
-    ghost view = { λ s. record { bytes = s.bytes.items; faults = s.faults } };
+    ghost view = { λ s. record { bytes = s.bytes.items; most = s.most; room = s.room; failing = s.failing.items; calls = s.calls; faults = s.faults } };
 
     ghost invariant = { λ s. (0 < s.most) × (vec_len s.bytes ≤ s.room) × (s.room ≤ vec_capacity s.bytes) };
 }
@@ -112,7 +117,7 @@ impl MemSink {
         failing: Vec<u64>,
     ) -> Result<MemSink, AllocError>
         requires { 1 ≤ most }
-        ensures { IfOk result (λ sink. sink ≡ record { bytes = []; faults = 0 }) }
+        ensures { IfOk result (λ sink. sink ≡ record { bytes = []; most = most; room = room; failing = failing.items; calls = 0; faults = 0 }) }
     {
         Ok(MemSink {
             bytes: Vec::with_capacity(alloc, room)?,
@@ -139,7 +144,11 @@ impl Sink for MemSink {
 
     ghost faults = { λ s. s.faults };
 
-    fn put(&mut self, piece: &[u8]) -> Result<usize, WriteFault> {
+    fn put(&mut self, piece: &[u8]) -> Result<usize, WriteFault>
+        ensures puts { Puts self.old piece.now result self.new }
+        ensures some { IfOk result (λ n. 0 < length piece.now → 0 < n) }
+        ensures counts { self.old.faults ≤ self.new.faults }
+    {
         self.calls = self.calls.saturating_add(1);
         let left = self.room - self.bytes.len();
         if self.failing.contains(&self.calls) || left == 0 && !piece.is_empty() {

@@ -2,7 +2,7 @@
 use Rattle.std.proofs.Common.{append-nil, take-add, ◌≡◌, ℕ, ◌+◌, ◌<◌, ◌≤◌, List, [], ◌∷◌, ◌++◌, length, take, drop, Option, Some, None, refl, sym, ap, ◌∙◌, append_assoc, length-append, arith}
 use Rattle.std.proofs.lemmas.List.{take-append-le, length-take-le}
 use Rattle.std.proofs.Math.Seq.{take-append-add}
-use Rattle.snow_main.specs.Outside.{appended, IsPrefixGone}
+use Rattle.io_edge.specs.Outside.{appended, IsPrefixGone}
 
 pub appended-appended : (gone : Option (List ℕ)) (xs ys : List ℕ) → appended (appended gone xs) ys ≡ appended gone (xs ++ ys)
 appended-appended None xs ys = refl

@@ -1,7 +1,7 @@
 use Rattle.std.proofs.Common.{◌∙◌, ap, take, arith}
-use Rattle.snow_main.specs.Outside.{appended}
-use Rattle.snow_main.proofs.Gone.{appended-take}
-use Rattle.snow_main.proofs.report.put_all.Goals as goal
+use Rattle.io_edge.specs.Outside.{appended}
+use Rattle.io_edge.proofs.Gone.{appended-take}
+use Rattle.io_edge.proofs.outside.put_all.Goals as goal
 
 pub loop-done-preserved : goal.loop-done-preserved
 loop-done-preserved g c = record {

@@ -1,6 +1,6 @@
 use Rattle.std.proofs.Common.{◌≡◌, ◌-◌, ◌≤◌, length, take}
-use Rattle.snow_main.specs.Outside.{appended}
-use Rattle.snow_main.proofs.report.put_all.Given as goal
+use Rattle.io_edge.specs.Outside.{appended}
+use Rattle.io_edge.proofs.outside.put_all.Given as goal
 
 abbrev pub invariant-loop-done : goal.invariant-loop-done
 invariant-loop-done g l =

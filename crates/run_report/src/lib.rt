@@ -1,0 +1,8 @@
+//! The report of machines that have ended.
+#![tactic(auto)]
+
+mod name;
+mod report;
+
+pub use name::Name;
+pub use report::{Outcome, ReportError, report_into};
