@@ -1,5 +1,6 @@
 ghost use Rattle.std.specs.Prelude.{◌≡◌, ◌<◌, ◌↔◌, IsTrue, SomeIff};
-ghost use Rattle.rv_decode.specs.Instruction.{Instruction, IsInstruction};
+ghost use Rattle.rv_decode.specs.Kinds.{format_of};
+ghost use Rattle.rv_decode.specs.Instruction.{Instruction, IsInFormat, IsInstruction};
 
 use crate::kinds::{Format, Kind};
 use std::marker::Model;
@@ -52,6 +53,15 @@ impl Instr {
         ensures { result ≡ self.kind }
     {
         self.kind
+    }
+
+    /// The format of this kind's words, in whose ranges the fields are.
+    #[inline]
+    pub fn format(self) -> Format
+        ensures value { result ≡ format_of self.kind }
+        ensures fields { IsInFormat result self }
+    {
+        self.kind.format()
     }
 
     /// The register that is written, 0 where there is none.

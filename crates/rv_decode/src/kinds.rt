@@ -252,7 +252,8 @@ impl Kind {
             Kind::Auipc => Group::AddUpper,
             Kind::Jal => Group::Jump,
             Kind::Jalr => Group::JumpRegister,
-            Kind::Beq | Kind::Bne | Kind::Blt | Kind::Bge | Kind::Bltu | Kind::Bgeu => Group::Branch,
+            Kind::Beq | Kind::Bne | Kind::Blt | Kind::Bge | Kind::Bltu | Kind::Bgeu =>
+                Group::Branch,
             Kind::Lb | Kind::Lh | Kind::Lw | Kind::Lbu | Kind::Lhu => Group::Load,
             Kind::Sb | Kind::Sh | Kind::Sw => Group::Store,
             Kind::Addi | Kind::Slti | Kind::Sltiu | Kind::Xori | Kind::Ori | Kind::Andi => {

@@ -1,4 +1,4 @@
--- The word that an atomic memory operation leaves in memory: old was there, and source is the
+-- What an atomic memory operation leaves in memory: old is the word that was there, and source the
 -- register rs2. RISC-V Unprivileged ISA 20191213, section 8.4
 use Rattle.std.specs.Prelude.{ℕ, ◌+◌, ◌%◌, ◌^◌, min, max, int_lt, if◌then◌else◌, bit_and, bit_or, bit_xor}
 use Rattle.rv_decode.specs.declared.kinds.Kind.{Kind}

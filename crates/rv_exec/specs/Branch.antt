@@ -1,4 +1,4 @@
--- When a branch is taken: a is the register rs1, b the register rs2.
+-- Where a branch is taken: a is the register rs1, b the register rs2.
 -- RISC-V Unprivileged ISA 20191213, section 2.5
 use Rattle.std.specs.Prelude.{ℕ, ◌==◌, Bool, false, not, nat_lt, nat_le, int_lt, int_le}
 use Rattle.rv_decode.specs.declared.kinds.Kind.{Kind}

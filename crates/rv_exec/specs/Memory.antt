@@ -1,9 +1,14 @@
--- What loads and stores make of the bytes of memory. RISC-V Unprivileged ISA 20191213, section 2.6
-use Rattle.std.specs.Prelude.{ℕ, ◌%◌, ◌^◌, List}
+-- What loads make of the bytes of memory, and stores of a register.
+-- RISC-V Unprivileged ISA 20191213, section 2.6
+use Rattle.std.specs.Prelude.{◌≡◌, ◌⊎◌, ℕ, ◌%◌, ◌^◌, List}
 use Rattle.std.specs.Int.{cast_signed, bytes_low_first, w8, w16}
 use Rattle.rv_decode.specs.declared.kinds.Kind.{Kind}
 use Rattle.rv_decode.specs.declared.kinds.Kind.TheVariants.{Lb, Lh, Lw, Lbu, Lhu, Sb, Sh, Sw}
 use Rattle.rv_exec.specs.Words.{word_of}
+
+-- the bytes of a byte, a halfword or a word
+abbrev pub IsWidth : ℕ → Type 0
+IsWidth width = (width ≡ 1) ⊎ ((width ≡ 2) ⊎ (width ≡ 4))
 
 -- how many bytes a load reads
 abbrev pub load_width : Kind → ℕ
@@ -14,7 +19,7 @@ load_width Lbu = 1
 load_width Lhu = 2
 load_width _ = 0
 
--- the result for rd of a load, where the bytes that it reads are the lowest of a number
+-- what a load writes to rd, where the bytes that it reads are the lowest of a word
 abbrev pub load_value : Kind → ℕ → ℕ
 load_value Lb word = word_of (cast_signed w8 (word % 2 ^ 8))
 load_value Lh word = word_of (cast_signed w16 (word % 2 ^ 16))
@@ -30,6 +35,6 @@ store_width Sh = 2
 store_width Sw = 4
 store_width _ = 0
 
--- the lowest bytes of the register rs2, as many as a store writes
+-- what a store writes: that many bytes of the register rs2, from the lowest up
 abbrev pub store_bytes : Kind → ℕ → List ℕ
 store_bytes kind value = bytes_low_first 0 (store_width kind) value

@@ -5,7 +5,7 @@ ghost use Rattle.rv_exec.specs.Atomic.{amo_value};
 
 use rv_decode::Kind;
 
-/// The word that an atomic memory operation leaves where `old` was, with the register `source`.
+/// The word that an atomic memory operation leaves where `old` was: `source` is the register `rs2`.
 #[inline]
 #[tactic(auto, unfolding(rv_decode::specs::Kinds::group_of))]
 pub fn amo_value(kind: Kind, old: u32, source: u32) -> u32

@@ -5,7 +5,7 @@ ghost use Rattle.rv_exec.specs.Branch.{branch_taken};
 
 use rv_decode::Kind;
 
-/// Whether a branch on the registers `a` and `b` is taken.
+/// Whether a branch is taken: `a` is the register `rs1`, `b` the register `rs2`.
 #[inline]
 #[tactic(auto, unfolding(rv_decode::specs::Kinds::group_of))]
 pub fn branch_taken(kind: Kind, a: u32, b: u32) -> bool

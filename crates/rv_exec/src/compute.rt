@@ -2,12 +2,12 @@ ghost use Rattle.std.specs.Prelude.{◌≡◌, ◌⊎◌, ◌^◌};
 ghost use Rattle.rv_decode.specs.declared.kinds.Group.TheVariants.{Compute, ComputeImmediate};
 ghost use Rattle.rv_decode.specs.Kinds.{group_of};
 ghost use Rattle.rv_exec.specs.Words.{word_of, floor_div};
-ghost use Rattle.rv_exec.specs.Compute.{alu, high_product, high_product_signed_unsigned, high_product_unsigned, quotient, quotient_unsigned, remainder, remainder_unsigned};
+ghost use Rattle.rv_exec.specs.Compute.{alu, signed_high_product, mixed_high_product, unsigned_high_product, signed_quotient, unsigned_quotient, signed_remainder, unsigned_remainder};
 
 use rv_decode::Kind;
 
-/// The result of a computation from `a`, the register `rs1`, and `b`, the register `rs2` or the
-/// immediate.
+/// What a computing instruction writes to `rd`: `a` is the register `rs1`, `b` the register `rs2` or
+/// the immediate.
 #[inline]
 #[tactic(auto, unfolding(rv_decode::specs::Kinds::group_of))]
 pub fn alu(kind: Kind, a: u32, b: u32) -> u32
@@ -26,29 +26,39 @@ pub fn alu(kind: Kind, a: u32, b: u32) -> u32
         Kind::Srli | Kind::Srl => a >> (b % 32),
         Kind::Srai | Kind::Sra => (a.cast_signed() >> (b % 32)).cast_unsigned(),
         Kind::Mul => a.wrapping_mul(b),
-        Kind::Mulh => high_product(a, b),
-        Kind::Mulhsu => high_product_signed_unsigned(a, b),
-        Kind::Mulhu => high_product_unsigned(a, b),
-        Kind::Div => quotient(a, b),
-        Kind::Divu => quotient_unsigned(a, b),
-        Kind::Rem => remainder(a, b),
-        Kind::Remu => remainder_unsigned(a, b),
+        Kind::Mulh => signed_high_product(a, b),
+        Kind::Mulhsu => mixed_high_product(a, b),
+        Kind::Mulhu => unsigned_high_product(a, b),
+        Kind::Div => signed_quotient(a, b),
+        Kind::Divu => unsigned_quotient(a, b),
+        Kind::Rem => signed_remainder(a, b),
+        Kind::Remu => unsigned_remainder(a, b),
         _ => unreachable!(),
     }
 }
 
+/// Bits 63:32 of the product of signed numbers.
 #[inline]
-fn high_product(a: u32, b: u32) -> u32
-    ensures { result ≡ high_product a b }
+fn signed_high_product(a: u32, b: u32) -> u32
+    ensures { result ≡ signed_high_product a b }
 {
     high_half(i64::from(a.cast_signed()) * i64::from(b.cast_signed()))
 }
 
+/// Bits 63:32 of the product of `a`, signed, and `b`, unsigned.
 #[inline]
-fn high_product_signed_unsigned(a: u32, b: u32) -> u32
-    ensures { result ≡ high_product_signed_unsigned a b }
+fn mixed_high_product(a: u32, b: u32) -> u32
+    ensures { result ≡ mixed_high_product a b }
 {
     high_half(i64::from(a.cast_signed()) * i64::from(b))
+}
+
+/// Bits 63:32 of the product of unsigned numbers.
+#[inline]
+fn unsigned_high_product(a: u32, b: u32) -> u32
+    ensures { result ≡ unsigned_high_product a b }
+{
+    (u64::from(a) * u64::from(b) >> 32) as u32
 }
 
 /// Bits 63:32.
@@ -59,16 +69,10 @@ fn high_half(product: i64) -> u32
     (product.cast_unsigned() >> 32) as u32
 }
 
+/// The quotient of signed numbers, with every bit set where `b` is 0.
 #[inline]
-fn high_product_unsigned(a: u32, b: u32) -> u32
-    ensures { result ≡ high_product_unsigned a b }
-{
-    (u64::from(a) * u64::from(b) >> 32) as u32
-}
-
-#[inline]
-fn quotient(a: u32, b: u32) -> u32
-    ensures { result ≡ quotient a b }
+fn signed_quotient(a: u32, b: u32) -> u32
+    ensures { result ≡ signed_quotient a b }
 {
     if b == 0 {
         u32::MAX
@@ -77,16 +81,18 @@ fn quotient(a: u32, b: u32) -> u32
     }
 }
 
+/// The quotient of unsigned numbers, with every bit set where `b` is 0.
 #[inline]
-fn quotient_unsigned(a: u32, b: u32) -> u32
-    ensures { result ≡ quotient_unsigned a b }
+fn unsigned_quotient(a: u32, b: u32) -> u32
+    ensures { result ≡ unsigned_quotient a b }
 {
     if b == 0 { u32::MAX } else { a / b }
 }
 
+/// The remainder of signed numbers, and `a` where `b` is 0.
 #[inline]
-fn remainder(a: u32, b: u32) -> u32
-    ensures { result ≡ remainder a b }
+fn signed_remainder(a: u32, b: u32) -> u32
+    ensures { result ≡ signed_remainder a b }
 {
     if b == 0 {
         a
@@ -95,9 +101,10 @@ fn remainder(a: u32, b: u32) -> u32
     }
 }
 
+/// The remainder of unsigned numbers, and `a` where `b` is 0.
 #[inline]
-fn remainder_unsigned(a: u32, b: u32) -> u32
-    ensures { result ≡ remainder_unsigned a b }
+fn unsigned_remainder(a: u32, b: u32) -> u32
+    ensures { result ≡ unsigned_remainder a b }
 {
     if b == 0 { a } else { a % b }
 }

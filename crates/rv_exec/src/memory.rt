@@ -1,7 +1,7 @@
 ghost use Rattle.std.specs.Prelude.{◌≡◌, take};
 ghost use Rattle.rv_decode.specs.declared.kinds.Group.TheVariants.{Load, Store};
 ghost use Rattle.rv_decode.specs.Kinds.{group_of};
-ghost use Rattle.rv_exec.specs.Memory.{load_width, load_value, store_width, store_bytes};
+ghost use Rattle.rv_exec.specs.Memory.{IsWidth, load_width, load_value, store_width, store_bytes};
 
 use rv_decode::Kind;
 
@@ -10,7 +10,8 @@ use rv_decode::Kind;
 #[tactic(auto, unfolding(rv_decode::specs::Kinds::group_of))]
 pub fn load_width(kind: Kind) -> u32
     requires { group_of kind ≡ Load }
-    ensures { result ≡ load_width kind }
+    ensures value { result ≡ load_width kind }
+    ensures width { IsWidth result }
 {
     match kind {
         Kind::Lb | Kind::Lbu => 1,
@@ -20,7 +21,7 @@ pub fn load_width(kind: Kind) -> u32
     }
 }
 
-/// What a load gives, where the bytes that it reads are the lowest of `word`.
+/// What a load writes to `rd`, where the bytes that it reads are the lowest of `word`.
 #[inline]
 #[tactic(auto, unfolding(rv_decode::specs::Kinds::group_of))]
 pub fn load_value(kind: Kind, word: u32) -> u32
@@ -42,7 +43,8 @@ pub fn load_value(kind: Kind, word: u32) -> u32
 #[tactic(auto, unfolding(rv_decode::specs::Kinds::group_of))]
 pub fn store_width(kind: Kind) -> u32
     requires { group_of kind ≡ Store }
-    ensures { result ≡ store_width kind }
+    ensures value { result ≡ store_width kind }
+    ensures width { IsWidth result }
 {
     match kind {
         Kind::Sb => 1,
@@ -52,13 +54,14 @@ pub fn store_width(kind: Kind) -> u32
     }
 }
 
-/// The bytes that a store writes of the register `value`, and how many of the four they are.
+/// The bytes of the register `rs2`, the lowest first, and how many of them a store writes.
 #[inline]
 #[tactic(auto, unfolding(rv_decode::specs::Kinds::group_of))]
 pub fn store_bytes(kind: Kind, value: u32) -> ([u8; 4], u32)
     requires { group_of kind ≡ Store }
-    ensures width { result.1 ≡ store_width kind }
     ensures bytes { take result.1 result.0 ≡ store_bytes kind value }
+    ensures value { result.1 ≡ store_width kind }
+    ensures width { IsWidth result.1 }
 {
     (value.to_le_bytes(), store_width(kind))
 }
