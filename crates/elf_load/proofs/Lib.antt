@@ -1,3 +1,9 @@
-pub mod OneSegment
-pub mod Pages
+pub mod Kept
+pub mod Loads
+pub mod Order
+pub mod Overlap
+pub mod Placing
+pub mod RamBytes
+pub mod RamPages
+pub mod Rules
 pub mod Words

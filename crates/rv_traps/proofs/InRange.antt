@@ -1,9 +1,9 @@
 -- What a write keeps is in range.
-use Rattle.std.proofs.Common.{◌≡◌, ℕ, ◌*◌, ◌^◌, ◌/◌, ◌%◌, refl, sym, ap, ◌∙◌, arith, bit_and, Bool, true, false}
+use Rattle.std.proofs.Common.{◌≡◌, ℕ, ◌*◌, ◌^◌, ◌/◌, ◌%◌, refl, sym, ap, ◌∙◌, arith, bit_and, Bool}
 use Rattle.std.proofs.lemmas.Nat.{and_assoc}
 use Rattle.std.proofs.lemmas.Nat.Bits.{and_high}
 use Rattle.rv_traps.specs.declared.number.Csr.{Csr}
-use Rattle.rv_traps.specs.declared.number.Csr.TheVariants.{Information, Mstatus, Misa, Mie, Mtvec, Mstatush, Mcountinhibit, Mhpmevent, Mscratch, Mepc, Mcause, Mtval, Mip, Mcycle, Minstret, Mhpmcounter, Mcycleh, Minstreth, Mhpmcounterh}
+use Rattle.rv_traps.specs.declared.number.Csr.TheVariants.{Mstatus, Mie, Mtvec, Mscratch, Mepc, Mcause, Mtval, Mcycle, Minstret, Mcycleh, Minstreth}
 use Rattle.rv_traps.specs.declared.registers.CsrRegisters.{CsrRegisters}
 use Rattle.rv_traps.specs.Access.{put}
 use Rattle.rv_traps.specs.Registers.{IsInRange, has_bit, mstatus_of}

@@ -1,6 +1,6 @@
 -- Reads and writes of the control and status registers by number.
 -- RISC-V Privileged ISA 20211203, section 2.1
-use Rattle.std.specs.Prelude.{ℕ, ◌/◌, ◌%◌, ◌^◌, ◌==◌, Bool, true, false, if◌then◌else◌, Option, Some, None, bit_and}
+use Rattle.std.specs.Prelude.{ℕ, ◌/◌, ◌%◌, ◌^◌, ◌==◌, Bool, if◌then◌else◌, Option, None, bit_and}
 use Rattle.std.specs.Option.{option_map}
 use Rattle.rv_traps.specs.declared.number.Csr.{Csr}
 use Rattle.rv_traps.specs.declared.number.Csr.TheVariants.{Mstatus, Mie, Mtvec, Mscratch, Mepc, Mcause, Mtval, Mcycle, Minstret, Mcycleh, Minstreth}

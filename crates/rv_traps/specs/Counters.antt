@@ -1,6 +1,6 @@
 -- How the counters of steps and of retired instructions go up.
 -- RISC-V Privileged ISA 20211203, section 3.1.10
-use Rattle.std.specs.Prelude.{ℕ, ◌+◌, ◌*◌, ◌/◌, ◌%◌, ◌^◌, Bool, true, false, ◌&&◌, not, if◌then◌else◌, Option, Some, None}
+use Rattle.std.specs.Prelude.{ℕ, ◌+◌, ◌%◌, ◌^◌, Bool, true, false, ◌&&◌, not, if◌then◌else◌, Option, Some, None}
 use Rattle.rv_traps.specs.declared.counter.Wrote.{Wrote}
 use Rattle.rv_traps.specs.declared.counter.Wrote.TheVariants.{Nothing, CycleLow, CycleHigh, InstretLow, InstretHigh}
 use Rattle.rv_traps.specs.declared.number.Csr.{Csr}

@@ -3,6 +3,7 @@
 use Rattle.std.specs.Prelude.{◌≡◌, ℕ, ◌+◌, ◌*◌, ◌/◌, ◌%◌, ◌^◌, ◌==◌, Bool, if◌then◌else◌, bit_and}
 use Rattle.rv_traps.specs.declared.registers.CsrRegisters.{CsrRegisters}
 
+-- the bit of a word at this place is 1
 abbrev pub has_bit : ℕ → ℕ → Bool
 has_bit word place = word / 2 ^ place % 2 == 1
 
@@ -20,7 +21,8 @@ previous_interrupt_enable c = has_bit c.mstatus 7
 abbrev pub timer_interrupt_enable : CsrRegisters → Bool
 timer_interrupt_enable c = has_bit c.mie 7
 
--- each register holds only bits that a write of it keeps
+-- Each register holds only what it can: mstatus machine mode and the bits MIE and MPIE, mie bit 7, and
+-- mtvec all but bit 1.
 pub record IsInRange (c : CsrRegisters) : Type 0 where
   pub mstatus : c.mstatus ≡ mstatus_of (interrupt_enable c) (previous_interrupt_enable c)
   pub mie : c.mie ≡ bit_and c.mie 0x80

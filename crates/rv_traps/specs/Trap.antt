@@ -1,5 +1,5 @@
 -- Traps, the return from them, and when the timer interrupt comes.
--- RISC-V Privileged ISA 20211203, sections 3.1.6, 3.1.7, 3.1.9 and 3.3.2
+-- RISC-V Privileged ISA 20211203, sections 3.1.6, 3.1.7, 3.1.9, 3.1.14 and 3.3.2
 use Rattle.std.specs.Prelude.{ℕ, ◌+◌, ◌*◌, ◌/◌, ◌%◌, ◌^◌, ◌==◌, ◌&&◌, Bool, true, false, nat_le, if◌then◌else◌}
 use Rattle.rv_traps.specs.declared.csrs.TheConstants.{TIMER_INTERRUPT}
 use Rattle.rv_traps.specs.declared.registers.CsrRegisters.{CsrRegisters}
@@ -15,7 +15,7 @@ abbrev pub handler : CsrRegisters → ℕ → ℕ
 handler c cause =
     if (cause == TIMER_INTERRUPT) && has_bit c.mtvec 0 then (aligned c.mtvec + 4 * 7) % 2 ^ 32 else aligned c.mtvec
 
--- a trap with this cause and value from a pc
+-- a trap with this cause and value from a pc; the bits 1:0 of mepc are always 0
 abbrev pub trap : CsrRegisters → ℕ → ℕ → ℕ → CsrRegisters
 trap c cause value pc = record c {
   mstatus = mstatus_of false (interrupt_enable c);

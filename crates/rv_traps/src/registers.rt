@@ -1,6 +1,6 @@
-ghost use Rattle.std.specs.Prelude.{◌≡◌, ◌<◌};
+ghost use Rattle.std.specs.Prelude.{◌≡◌, ◌<◌, ◌↔◌, IsTrue};
 ghost use Rattle.rv_traps.specs.Access.{put};
-ghost use Rattle.rv_traps.specs.Registers.{has_bit, mstatus_of, interrupt_enable, previous_interrupt_enable, timer_interrupt_enable};
+ghost use Rattle.rv_traps.specs.Registers.{IsInRange, has_bit, mstatus_of, interrupt_enable, previous_interrupt_enable, timer_interrupt_enable};
 ghost use Rattle.rv_traps.specs.Table.{reading};
 
 use crate::counter::{high_half, low_half, with_high_half, with_low_half};
@@ -26,6 +26,16 @@ pub struct CsrRegisters {
 }
 
 impl CsrRegisters {
+    /// Whether each register holds only what it can.
+    pub fn is_in_range(&self) -> bool
+        ensures { IsTrue result ↔ IsInRange self.now }
+    {
+        self.mstatus == mstatus(self.interrupt_enable(), self.previous_interrupt_enable())
+            && self.mie == self.mie & 0x80
+            && self.mtvec == self.mtvec & 0xffff_fffd
+            && self.mepc % 4 == 0
+    }
+
     /// MIE.
     #[inline]
     pub(crate) fn interrupt_enable(&self) -> bool

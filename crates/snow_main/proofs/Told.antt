@@ -2,7 +2,8 @@
 use Rattle.std.proofs.Common.{◌≡◌, ℕ, ◌+◌, ◌<◌, ◌≤◌, Bool, true, false, cond, List, length, Option, Some, None, Result, Ok, Err, IsSome, IfSome, IsSomeAnd, refl, sym, ap, ◌∙◌, subst, arith, ltb}
 use Rattle.std.specs.Option.{option_map}
 use Rattle.std.proofs.lemmas.Bool.{lt-ltb}
-use Rattle.elf_load.specs.Image.{Image, loaded}
+use Rattle.elf_load.specs.Image.{Image}
+use Rattle.elf_load.specs.Elf.{loaded}
 use Rattle.forest_model.specs.declared.Ending.{Ending}
 use Rattle.forest_model.specs.declared.Options.{Options}
 use Rattle.forest_model.specs.Machine.{Machine, boot, finish}

@@ -1,8 +1,8 @@
 -- The text that a command line writes: the report of the machine that is booted from the image and run
 -- to its end.
 use Rattle.std.specs.Prelude.{ℕ, nat_lt, if◌then◌else◌, List, length, Option, Some, None, Result, Ok, Err}
-use Rattle.elf_load.specs.Image.{Image, loaded}
-use Rattle.elf_load.specs.declared.error.TheConstants.{FORM_NOT_BUILT}
+use Rattle.elf_load.specs.Image.{Image}
+use Rattle.elf_load.specs.Elf.{loaded}
 use Rattle.forest_model.specs.declared.Options.{Options}
 use Rattle.forest_model.specs.Machine.{Machine, boot, finish}
 use Rattle.run_report.specs.Report.{report}
@@ -19,9 +19,9 @@ abbrev pub options_of : RunValues → Options
 options_of values = record { limit = values.limit }
 
 -- the report of the machine that is booted from what an image loads, or the number of the refusal
-abbrev pub booted_text : Options → Option Image → Result (List ℕ) ℕ
-booted_text options None = Err FORM_NOT_BUILT
-booted_text options (Some image) = Ok (report (finish (boot image options)))
+abbrev pub booted_text : Options → Result Image ℕ → Result (List ℕ) ℕ
+booted_text options (Err number) = Err number
+booted_text options (Ok image) = Ok (report (finish (boot image options)))
 
 -- the text of an image, or the number of its refusal
 unfoldable pub image_text : RunValues → List ℕ → Result (List ℕ) ℕ

@@ -66,7 +66,7 @@ fn reports_the_examples(rt: HostRuntime) -> Result<(), Fail> {
     let rows: [(&[u32], &[u8]); 3] = [
         (&EXIT_SEVEN, b"machine 0 exit 7 steps 5 out 0\n\n"),
         (&PRINT_LETTER, b"machine 0 exit 0 steps 7 out 1\nA\n"),
-        (&[0], b"machine 0 fault 2 steps 1 out 0\n\n"),
+        (&[0], b"machine 0 limit steps 1000000 out 0\n\n"),
     ];
     for (guest, report) in rows {
         let mut shelf = shelf_of(alloc, image_of(alloc, guest)?)?;
@@ -83,8 +83,8 @@ fn refuses_by_cause(rt: HostRuntime) -> Result<(), Fail> {
     let whole = image_of(alloc, &EXIT_SEVEN)?;
     assert_eq!(rt; whole.len(), 104);
     let rows: [(&[&str], usize, Status); 8] = [
-        (&["run", "guest"], 0, status(3, 14)),
-        (&["run", "guest"], 103, status(3, 14)),
+        (&["run", "guest"], 0, status(3, 1)),
+        (&["run", "guest"], 103, status(3, 9)),
         (&["run", "other"], 104, status(1, 1)),
         (&[], 104, status(2, 0)),
         (&["run"], 104, status(2, 0)),

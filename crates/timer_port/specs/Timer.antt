@@ -59,9 +59,9 @@ timer_store t offset width word = option_map (λ half. put half word t) (half_of
 abbrev pub is_due : TimerRegisters → Bool
 is_due t = nat_le t.mtimecmp t.mtime
 
--- the offsets of mtime
-abbrev pub is_of_mtime : ℕ → Bool
-is_of_mtime offset = (offset == MTIME_LOW) || (offset == MTIME_HIGH)
+-- a store at this offset writes a half of mtime
+abbrev pub writes_mtime : ℕ → Bool
+writes_mtime offset = (offset == MTIME_LOW) || (offset == MTIME_HIGH)
 
 -- the registers after a step: mtime counts it, unless the step wrote a half of mtime
 abbrev pub timer_counted : TimerRegisters → Bool → TimerRegisters

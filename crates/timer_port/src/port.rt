@@ -1,5 +1,5 @@
 ghost use Rattle.std.specs.Prelude.{◌≡◌, Some, None, IfOk, OnOk, OnErr};
-ghost use Rattle.timer_port.specs.Timer.{at_start, timer_load, timer_store, is_due, is_of_mtime, timer_counted};
+ghost use Rattle.timer_port.specs.Timer.{at_start, timer_load, timer_store, is_due, writes_mtime, timer_counted};
 
 use crate::registers::{Half, MTIME_HIGH, MTIME_LOW, TimerRegisters};
 use port_error::Fault;
@@ -104,8 +104,8 @@ impl TimerPort {
 
     /// Whether a store at this offset writes a half of mtime.
     #[inline]
-    pub fn is_of_mtime(offset: u32) -> bool
-        ensures { result ≡ is_of_mtime offset }
+    pub fn writes_mtime(offset: u32) -> bool
+        ensures { result ≡ writes_mtime offset }
     {
         offset == MTIME_LOW || offset == MTIME_HIGH
     }

@@ -1,5 +1,4 @@
-use Rattle.std.proofs.Common.{◌≡◌, ◌∙◌, false, refl, arith}
-use Rattle.rv_traps.specs.Registers.{interrupt_enable, has_bit, mstatus_of}
+use Rattle.std.proofs.Common.{arith}
 use Rattle.rv_traps.proofs.Mstatus.{mie-mstatus_of, mpie-mstatus_of}
 use Rattle.rv_traps.proofs.laws.mret_undoes_trap.Goals as goal
 
