@@ -44,9 +44,9 @@ IsZeroOutside-pages_of file segments pages at unset =
     let none = flag_at segments pages (at / PAGE_SIZE) unset in
     elim (cases_lt at (PAGE_SIZE * pages)) [
       | inl within ↦
-        get_or-map-range_with_len (λ at. byte_at file segments (RAM_BASE + at)) 0 (PAGE_SIZE * pages) at at 0 within (omega arith)
-        ∙ byte_at_none file segments (RAM_BASE + at)
-        (λ k d inside. false_from_ne_true _ (λ covering. both_ways _ none (list_any_at (touches (at / PAGE_SIZE)) segments k d inside (touches_covered (get_or segments k d) at covering))))
+          get_or-map-range_with_len (λ at. byte_at file segments (RAM_BASE + at)) 0 (PAGE_SIZE * pages) at at 0 within (omega arith)
+          ∙ byte_at_none file segments (RAM_BASE + at)
+          (λ k d inside. false_from_ne_true _ (λ covering. both_ways _ none (list_any_at (touches (at / PAGE_SIZE)) segments k d inside (touches_covered (get_or segments k d) at covering))))
       | inr past ↦ get_or_past _ at 0 (omega (arith, length-ram_of file segments pages))
     ]
 

@@ -78,8 +78,8 @@ touches_alone page s =
     elim (cases_Bool (ltb 0 s.memory_size)) [
       | inl some ↦ ap (λ b. list_any (touches page) (cond b (s ∷ []) [])) some ∙ or_false (touches page s)
       | inr none ↦
-        ap (λ b. list_any (touches page) (cond b (s ∷ []) [])) none
-        ∙ sym (let empty = ltb-false 0 s.memory_size none in le-ltb _ _ (omega arith))
+          ap (λ b. list_any (touches page) (cond b (s ∷ []) [])) none
+          ∙ sym (let empty = ltb-false 0 s.memory_size none in le-ltb _ _ (omega arith))
     ]
 
 byte_at_alone : (file : List ℕ) (s : Segment) (address : ℕ) → byte_at file (non_empty (s ∷ [])) address ≡ cond (covers s address) (segment_byte file s address) 0
@@ -87,8 +87,8 @@ byte_at_alone file s address =
     elim (cases_Bool (ltb 0 s.memory_size)) [
       | inl some ↦ ap (λ b. byte_at file (cond b (s ∷ []) []) address) some
       | inr none ↦
-        ap (λ b. byte_at file (cond b (s ∷ []) []) address) none
-        ∙ sym (cond-false _ _ _ (let empty = ltb-false 0 s.memory_size none in not_covered s address (empty_outside s address empty)))
+          ap (λ b. byte_at file (cond b (s ∷ []) []) address) none
+          ∙ sym (cond-false _ _ _ (let empty = ltb-false 0 s.memory_size none in not_covered s address (empty_outside s address empty)))
     ]
 
 fits_alone : (base : ℕ) (code : List ℕ) → list_any is_overfull (segment_of base code ∷ []) ≡ false
@@ -142,20 +142,20 @@ byte_in_code base code at before behind start =
     let s = segment_of base code in
     elim (cases_lt at before) [
       | inl ahead ↦
-        get_or_append_left (zeros before) (code ++ zeros behind) 0 at (omega (arith, length-zeros before)) ∙ get_or-zeros before at
-        ∙ sym (cond-false _ _ _ (not_covered s (RAM_BASE + at) (inl (omega arith))))
+          get_or_append_left (zeros before) (code ++ zeros behind) 0 at (omega (arith, length-zeros before)) ∙ get_or-zeros before at
+          ∙ sym (cond-false _ _ _ (not_covered s (RAM_BASE + at) (inl (omega arith))))
       | inr from ↦ elim (cases_lt (at - before) (length code)) [
-          | inl within ↦
+        | inl within ↦
             get_or-append_right (zeros before) (code ++ zeros behind) before at 0 (length-zeros before) from
             ∙ get_or_append_left code (zeros behind) 0 (at - before) within
             ∙ sym (code_byte base code (at - before)) ∙ ap (λ i. get_or (elf_of base code) i 0) (omega arith)
             ∙ sym (cond-true _ _ _ (lt-ltb (RAM_BASE + at) (base + length code) (omega arith)))
             ∙ sym (cond-true _ _ _ (and_from _ _ (le-leb base (RAM_BASE + at) (omega arith)) (lt-ltb (RAM_BASE + at) (base + length code) (omega arith))))
-          | inr past ↦
+        | inr past ↦
             get_or-append_right (zeros before) (code ++ zeros behind) before at 0 (length-zeros before) from
             ∙ get_or-append_right code (zeros behind) (length code) (at - before) 0 refl past ∙ get_or-zeros behind (at - before - length code)
             ∙ sym (cond-false _ _ _ (not_covered s (RAM_BASE + at) (inr (omega arith))))
-        ]
+      ]
     ]
 
 ram-elf_of : (base : ℕ) (code : List ℕ) (pages : ℕ) → Fits base code pages
@@ -179,8 +179,8 @@ image-elf_of base code pages h =
     let entry = entry-elf_of base code small.0 in
     let ram = ap (λ segments. ram_of (elf_of base code) segments pages) placed ∙ sym (ram-elf_of base code pages h) in
     let flags =
-        ap (λ segments. map (λ page. list_any (touches page) segments) (range_with_len 0 pages)) placed
-        ∙ same_map _ _ (λ page. touches_alone page (segment_of base code)) (range_with_len 0 pages) in
+    ap (λ segments. map (λ page. list_any (touches page) segments) (range_with_len 0 pages)) placed
+    ∙ same_map _ _ (λ page. touches_alone page (segment_of base code)) (range_with_len 0 pages) in
     cc
 
 pub loaded-elf_of : (base : ℕ) (code : List ℕ) (pages : ℕ) → pages ≤ MAX_PAGES → base % 4 ≡ 0 → RAM_BASE ≤ base → base < ram_end pages → base + length code ≤ ram_end pages

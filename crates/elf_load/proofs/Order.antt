@@ -35,9 +35,9 @@ cases_byte_at file (s ∷ segments) address =
     elim (cases_Bool (covers s address)) [
       | inl covering ↦ inl (record { segment = s; is_one = (0, omega arith, refl); covering = covering; byte = cond-true _ _ _ covering })
       | inr outside ↦ elim (cases_byte_at file segments address) [
-          | inl g ↦ inl (record { segment = g.segment; is_one = (suc g.is_one.0, omega (arith, g.is_one.1), g.is_one.2); covering = g.covering; byte = cond-false _ _ _ outside ∙ g.byte })
-          | inr none ↦ inr (All-cons (λ s. covers s address ≡ false) s segments outside none)
-        ]
+        | inl g ↦ inl (record { segment = g.segment; is_one = (suc g.is_one.0, omega (arith, g.is_one.1), g.is_one.2); covering = g.covering; byte = cond-false _ _ _ outside ∙ g.byte })
+        | inr none ↦ inr (All-cons (λ s. covers s address ≡ false) s segments outside none)
+      ]
     ]
 
 -- of segments one behind the other only one covers an address
@@ -58,7 +58,7 @@ byte_at-IsPermutation file segments sorted address same in_order =
     elim (cases_byte_at file segments address) [
       | inl g ↦ byte_at_one file sorted g.segment address in_order (Contains-permutation segments sorted g.segment same g.is_one) g.covering ∙ sym g.byte
       | inr none ↦
-        byte_at_none file sorted address (All-permutation (λ s. covers s address ≡ false) segments sorted same none) ∙ sym (byte_at_none file segments address none)
+          byte_at_none file sorted address (All-permutation (λ s. covers s address ≡ false) segments sorted same none) ∙ sym (byte_at_none file segments address none)
     ]
 
 pub ram_of-IsPermutation : (file : List ℕ) (segments sorted : List Segment) (pages : ℕ) → IsPermutation segments sorted → AllPairs IsBelow sorted

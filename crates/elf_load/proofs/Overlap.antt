@@ -39,7 +39,7 @@ overlap_from_distinct (s ∷ segments) apart =
 pub overlap-IsPermutation : (segments others : List Segment) → IsPermutation segments others → overlap segments ≡ overlap others
 overlap-IsPermutation segments others same =
     let kept = λ (xs : List Segment) (ys : List Segment) (p : IsPermutation xs ys) (none : overlap xs ≡ false).
-        overlap_from_distinct ys (IsDistinct-IsPermutation shares shares_flips xs ys p (distinct_from_overlap xs none)) in
+    overlap_from_distinct ys (IsDistinct-IsPermutation shares shares_flips xs ys p (distinct_from_overlap xs none)) in
     elim (cases_Bool (overlap segments)) [
       | inl found ↦ found ∙ sym (true_from_ne_false _ (λ none. both_ways _ (kept others segments (IsPermutation-sym segments others same) none) found))
       | inr none ↦ none ∙ sym (kept segments others same none)
@@ -62,10 +62,10 @@ overlap_at : (segments : List Segment) (k : ℕ) (d : Segment) → IsNonDecreasi
     → overlap segments ≡ true
 overlap_at segments k d rising not_empty within meets =
     true_from_ne_false _ (λ none.
-        let low = rising k (k + 1) d (omega arith) within in
-        let first = not_empty k d (omega arith) in
-        let second = not_empty (k + 1) d within in
-        both_ways _ (apart_from_distinct shares segments k (k + 1) d (distinct_from_overlap segments none) (omega arith) within) (lt-ltb _ _ (omega arith)))
+    let low = rising k (k + 1) d (omega arith) within in
+    let first = not_empty k d (omega arith) in
+    let second = not_empty (k + 1) d within in
+    both_ways _ (apart_from_distinct shares segments k (k + 1) d (distinct_from_overlap segments none) (omega arith) within) (lt-ltb _ _ (omega arith)))
 
 -- sorted segments overlap where one does with the next
 pub overlap_from_adjacent : (segments : List Segment) (d : Segment) (apart : Bool) → IsNonDecreasingBy (λ (s : Segment). s.address) segments → All (λ (s : Segment). 0 < s.memory_size) segments

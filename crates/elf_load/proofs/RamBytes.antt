@@ -79,13 +79,13 @@ bytes_from_start file before s address k place fits below =
     let below_address = All-weaker (λ t. end_of t ≤ s.address) (λ t. end_of t ≤ address) (λ t h. omega arith) before below in
     elim (cases_lt k s.file_size) [
       | inl within ↦
-        get_or_piece file s.offset s.file_size k within ∙ sym (segment_byte_in_file file s address k place within)
-        ∙ sym (cond-true _ _ _ (covers_true s address (omega arith) (omega arith)))
-        ∙ sym (byte_at_first file before s address below_address)
+          get_or_piece file s.offset s.file_size k within ∙ sym (segment_byte_in_file file s address k place within)
+          ∙ sym (cond-true _ _ _ (covers_true s address (omega arith) (omega arith)))
+          ∙ sym (byte_at_first file before s address below_address)
       | inr past ↦
-        get_or_behind_piece file s.offset s.file_size k past
-        ∙ sym (cond-same (covers s address) (segment_byte file s address) 0 (segment_byte_behind file s address k place past))
-        ∙ sym (byte_at_first file before s address below_address)
+          get_or_behind_piece file s.offset s.file_size k past
+          ∙ sym (cond-same (covers s address) (segment_byte file s address) 0 (segment_byte_behind file s address k place past))
+          ∙ sym (byte_at_first file before s address below_address)
     ]
 
 -- one segment more, at the end of RAM so far
@@ -96,11 +96,11 @@ pub bytes_more : (file : List ℕ) (before : List Segment) (s : Segment) (ram pi
 bytes_more file before s ram piece start fits below is_piece sofar at =
     elim (cases_lt at (length ram)) [
       | inl within ↦
-        get_or_append_left ram piece 0 at within ∙ sofar at
-        ∙ sym (byte_at_skip file before s (RAM_BASE + at) (covers_before s (RAM_BASE + at) (omega arith)))
+          get_or_append_left ram piece 0 at within ∙ sofar at
+          ∙ sym (byte_at_skip file before s (RAM_BASE + at) (covers_before s (RAM_BASE + at) (omega arith)))
       | inr past ↦
-        get_or-append_right ram piece (length ram) at 0 refl past ∙ ap (λ bytes. get_or bytes (at - length ram) 0) is_piece
-        ∙ bytes_from_start file before s (RAM_BASE + at) (at - length ram) (omega arith) fits below
+          get_or-append_right ram piece (length ram) at 0 refl past ∙ ap (λ bytes. get_or bytes (at - length ram) 0) is_piece
+          ∙ bytes_from_start file before s (RAM_BASE + at) (at - length ram) (omega arith) fits below
     ]
 
 -- the segments before a place end before the one there begins
@@ -146,5 +146,5 @@ ram_all file segments pages i ram new n past sofar is_new new_len =
     let placed = take_all i segments past in
     fill_by_all (λ at. byte_at file segments (RAM_BASE + at)) new (PAGE_SIZE * pages) 0 new_len
     (λ at within.
-        ap (λ ram. get_or ram at 0) is_new ∙ get_or_padded ram (PAGE_SIZE * pages) n at sofar.within ∙ sofar.bytes at
-        ∙ ap (λ placed. byte_at file placed (RAM_BASE + at)) placed)
+    ap (λ ram. get_or ram at 0) is_new ∙ get_or_padded ram (PAGE_SIZE * pages) n at sofar.within ∙ sofar.bytes at
+    ∙ ap (λ placed. byte_at file placed (RAM_BASE + at)) placed)

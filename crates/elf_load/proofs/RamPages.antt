@@ -61,9 +61,9 @@ flag_more pages page s flags first last n place all is_first is_last is_n =
     elim (cases_lt page first) [
       | inl before ↦ set_before flags first n page room before ∙ sym (or_false _ _ (touches_before pages page s place (omega arith)))
       | inr from ↦ elim (cases_lt last page) [
-          | inl behind ↦ set_behind flags first n page room (omega (arith, place.not_empty, place.from_base)) ∙ sym (or_false _ _ (touches_behind pages page s place (omega arith)))
-          | inr to ↦ set_within flags first n page room from (omega arith) ∙ sym (or_right _ _ (touches_within pages page s place (omega arith) (omega arith)))
-        ]
+        | inl behind ↦ set_behind flags first n page room (omega (arith, place.not_empty, place.from_base)) ∙ sym (or_false _ _ (touches_behind pages page s place (omega arith)))
+        | inr to ↦ set_within flags first n page room from (omega arith) ∙ sym (or_right _ _ (touches_within pages page s place (omega arith) (omega arith)))
+      ]
     ]
 
 -- one segment more

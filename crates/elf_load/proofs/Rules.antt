@@ -45,8 +45,8 @@ pub refused_by_size : (file : List ℕ) (pages : ℕ) (error : ImageError) → f
 refused_by_size file pages (Refused number) unbroken broken =
     elim (cases_Bool (list_any is_overfull (loads_of file))) [
       | inl overfull ↦ (
-        let is_eight : Some 8 ≡ Some number = sym (cond-true _ _ _ overfull) ∙ broken in
-        loaded_overfull file pages unbroken overfull ∙ ap Err (let same : 8 ≡ number = cc in same))
+          let is_eight : Some 8 ≡ Some number = sym (cond-true _ _ _ overfull) ∙ broken in
+          loaded_overfull file pages unbroken overfull ∙ ap Err (let same : 8 ≡ number = cc in same))
       | inr fit ↦ absurd (let none : None ≡ Some number = sym (cond-false _ _ _ fit) ∙ broken in let no : ⊥ = cc in no)
     ]
 refused_by_size file pages Memory unbroken broken = tt
@@ -115,8 +115,8 @@ pub all_in_file : (file : List ℕ) (loads sorted : List Segment) → list_any i
     → All (IsInFile file) sorted
 all_in_file file loads sorted exact same none_cut k d within =
     let fit =
-        All-permutation (λ s. is_overfull s ≡ false) (non_empty loads) sorted same
-        (All-filter (λ (s : Segment). ltb 0 s.memory_size) (λ s. is_overfull s ≡ false) loads (all_fail is_overfull loads exact)) in
+    All-permutation (λ s. is_overfull s ≡ false) (non_empty loads) sorted same
+    (All-filter (λ (s : Segment). ltb 0 s.memory_size) (λ s. is_overfull s ≡ false) loads (all_fail is_overfull loads exact)) in
     record {
       within = ltb-false _ _ (all_fail (is_cut file) sorted none_cut k d within);
       fits = ltb-false _ _ (fit k d within);

@@ -29,7 +29,13 @@ pub fn load_elf(alloc: Global, bytes: &[u8], ram_pages: u32) -> Result<Loaded, I
 }
 
 /// The image of a file with these segments, which lie one behind the other.
-fn place(alloc: Global, bytes: &[u8], segments: &[Segment], entry: u32, pages: u32) -> Result<Loaded, AllocError>
+fn place(
+    alloc: Global,
+    bytes: &[u8],
+    segments: &[Segment],
+    entry: u32,
+    pages: u32,
+) -> Result<Loaded, AllocError>
     requires least { MIN_PAGES ≤ pages }
     requires most { pages ≤ MAX_PAGES }
     requires in_file { All (IsInFile bytes.now) segments.now }
@@ -74,7 +80,9 @@ fn broken_rule(bytes: &[u8], segments: &[Segment], entry: u32, pages: u32) -> Op
 fn any_cut(bytes: &[u8], segments: &[Segment]) -> bool
     ensures { result ≡ list_any (is_cut bytes.now) segments.now }
 {
-    segments.iter().any(|segment| bytes.len() < segment.file_end())
+    segments
+        .iter()
+        .any(|segment| bytes.len() < segment.file_end())
 }
 
 /// Whether any segment lies partly out of RAM.

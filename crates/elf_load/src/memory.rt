@@ -7,7 +7,12 @@ use crate::segment::Segment;
 use std::alloc::{AllocError, Global};
 
 /// The bytes of RAM with these segments of a file in it, which lie one behind the other.
-pub(crate) fn ram_of(alloc: Global, bytes: &[u8], segments: &[Segment], pages: u32) -> Result<Vec<u8>, AllocError>
+pub(crate) fn ram_of(
+    alloc: Global,
+    bytes: &[u8],
+    segments: &[Segment],
+    pages: u32,
+) -> Result<Vec<u8>, AllocError>
     requires most { pages ≤ MAX_PAGES }
     requires in_file { All (IsInFile bytes.now) segments.now }
     requires in_ram { All (IsInRam pages) segments.now }
@@ -25,7 +30,11 @@ pub(crate) fn ram_of(alloc: Global, bytes: &[u8], segments: &[Segment], pages: u
 }
 
 /// For each page of RAM, whether a byte of a segment falls in it.
-pub(crate) fn pages_of(alloc: Global, segments: &[Segment], pages: u32) -> Result<Vec<bool>, AllocError>
+pub(crate) fn pages_of(
+    alloc: Global,
+    segments: &[Segment],
+    pages: u32,
+) -> Result<Vec<bool>, AllocError>
     requires most { pages ≤ MAX_PAGES }
     requires in_ram { All (IsInRam pages) segments.now }
     ensures { IfOk result (λ flags. flags.items ≡ pages_of segments.now pages) }

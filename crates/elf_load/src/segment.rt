@@ -70,7 +70,11 @@ impl Segment {
 
 /// The segments that a file places in RAM, in the order of their addresses. It is refused where one has
 /// more bytes in the file than in memory.
-pub(crate) fn segments_by_address(alloc: Global, bytes: &[u8], header: &Header) -> Result<Vec<Segment>, ImageError>
+pub(crate) fn segments_by_address(
+    alloc: Global,
+    bytes: &[u8],
+    header: &Header,
+) -> Result<Vec<Segment>, ImageError>
     requires { IsHeaderOf bytes.now header.now }
     ensures placed { IfOk result (λ segments. IsPermutation (segments_of bytes.now) segments.items) }
     ensures rising { IfOk result (λ segments. IsNonDecreasingBy (λ s. s.address) segments.items) }

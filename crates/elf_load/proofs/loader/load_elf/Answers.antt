@@ -27,9 +27,9 @@ returns-in-Some-clause-refuses c =
 pub place-requires : goal.place-requires
 place-requires c =
     let may =
-        may_place c.args.bytes.now c.args.ram_pages c.in_ok-segments.segments.items c.in_ok-header.header.entry
-        (record { unbroken = c.in_ok-header.ensures.unbroken; entered = c.in_ok-header.ensures.header.entry; placed = c.in_ok-segments.ensures.placed; rising = c.in_ok-segments.ensures.rising; fit = c.in_ok-segments.ensures.fit })
-        (rw c.deref.ensures.value at (sym c.in_default.ensures)) in
+    may_place c.args.bytes.now c.args.ram_pages c.in_ok-segments.segments.items c.in_ok-header.header.entry
+    (record { unbroken = c.in_ok-header.ensures.unbroken; entered = c.in_ok-header.ensures.header.entry; placed = c.in_ok-segments.ensures.placed; rising = c.in_ok-segments.ensures.rising; fit = c.in_ok-segments.ensures.fit })
+    (rw c.deref.ensures.value at (sym c.in_default.ensures)) in
     rw c.deref-2.ensures.value (record {
       least = c.requires.least;
       most = c.requires.most;
@@ -42,7 +42,7 @@ place-requires c =
 pub returns-clause-loads : goal.returns-clause-loads
 returns-clause-loads c =
     let may =
-        may_place c.args.bytes.now c.args.ram_pages c.in_ok-segments.segments.items c.in_ok-header.header.entry
-        (record { unbroken = c.in_ok-header.ensures.unbroken; entered = c.in_ok-header.ensures.header.entry; placed = c.in_ok-segments.ensures.placed; rising = c.in_ok-segments.ensures.rising; fit = c.in_ok-segments.ensures.fit })
-        (rw c.deref.ensures.value at (sym c.in_default.ensures)) in
+    may_place c.args.bytes.now c.args.ram_pages c.in_ok-segments.segments.items c.in_ok-header.header.entry
+    (record { unbroken = c.in_ok-header.ensures.unbroken; entered = c.in_ok-header.ensures.header.entry; placed = c.in_ok-segments.ensures.placed; rising = c.in_ok-segments.ensures.rising; fit = c.in_ok-segments.ensures.fit })
+    (rw c.deref.ensures.value at (sym c.in_default.ensures)) in
     may.loads ∙ ap Ok (sym (rw c.deref-2.ensures.value at c.in_ok-place.ensures))

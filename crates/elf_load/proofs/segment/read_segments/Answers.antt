@@ -33,23 +33,23 @@ loop-n-preserved c =
     let table = c.args.header.now.table in
     let sofar = loads_among file (places table c.loop-n.n) in
     let more : loads_among file (places table (c.loop-n.n + 1)) ≡ sofar ++ c.read-segment.result ∷ [] =
-        loads_more_load file table c.loop-n.n _ refl (sym c.read_word.ensures ∙ c.if-read_word-ne-PT_LOAD.false)
-        ∙ ap (λ s. sofar ++ s ∷ []) (sym c.read-segment.ensures) in
+    loads_more_load file table c.loop-n.n _ refl (sym c.read_word.ensures ∙ c.if-read_word-ne-PT_LOAD.false)
+    ∙ ap (λ s. sofar ++ s ∷ []) (sym c.read-segment.ensures) in
     let exact = exact_push sofar c.read-segment.result c.loop-n.invariant.exact c.if-segment.false in
     elim c.if-segment-gt0.branch [
       | then-segment-gt0+in_ok-map_err w ↦ (
-        let pushed : w.push.new.self.items ≡ c.loop-n.segments.items ++ c.read-segment.result ∷ [] =
-            w.push.ensures.items ∙ cond-true _ _ _ (sym w.map_err.ensures.variant ∙ ap is_ok w.in_ok-map_err.was) in
-        rw more (record {
-          placed =
-              ap (λ v. v.items) w.segments-is ∙ pushed ∙ ap (λ items. items ++ c.read-segment.result ∷ []) c.loop-n.invariant.placed
-              ∙ sym (non_empty_push sofar c.read-segment.result w.if-segment-gt0.true);
-          exact = exact;
-        }))
+          let pushed : w.push.new.self.items ≡ c.loop-n.segments.items ++ c.read-segment.result ∷ [] =
+          w.push.ensures.items ∙ cond-true _ _ _ (sym w.map_err.ensures.variant ∙ ap is_ok w.in_ok-map_err.was) in
+          rw more (record {
+            placed =
+                ap (λ v. v.items) w.segments-is ∙ pushed ∙ ap (λ items. items ++ c.read-segment.result ∷ []) c.loop-n.invariant.placed
+                ∙ sym (non_empty_push sofar c.read-segment.result w.if-segment-gt0.true);
+            exact = exact;
+          }))
       | else-segment-gt0 w ↦ rw more (record {
-          placed =
-              ap (λ v. v.items) w.segments-is ∙ c.loop-n.invariant.placed
-              ∙ sym (non_empty_skip sofar c.read-segment.result (omega arith));
-          exact = exact;
-        })
+        placed =
+            ap (λ v. v.items) w.segments-is ∙ c.loop-n.invariant.placed
+            ∙ sym (non_empty_skip sofar c.read-segment.result (omega arith));
+        exact = exact;
+      })
     ]
