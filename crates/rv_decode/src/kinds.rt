@@ -286,19 +286,19 @@ mod tests {
     #[test]
     fn has_a_format_and_a_group(rt: HostRuntime) {
         let kinds = [
-            (Kind::Auipc, Format::U, Group::Upper),
+            (Kind::Auipc, Format::U, Group::AddUpper),
             (Kind::Jal, Format::J, Group::Jump),
-            (Kind::Jalr, Format::I, Group::Jump),
+            (Kind::Jalr, Format::I, Group::JumpRegister),
             (Kind::Bgeu, Format::B, Group::Branch),
             (Kind::Lhu, Format::I, Group::Load),
             (Kind::Sh, Format::S, Group::Store),
             (Kind::Srai, Format::Shift, Group::ComputeImmediate),
             (Kind::Remu, Format::R, Group::Compute),
-            (Kind::Wfi, Format::Bare, Group::Fence),
-            (Kind::Mret, Format::Bare, Group::System),
+            (Kind::Wfi, Format::Bare, Group::Nothing),
+            (Kind::Mret, Format::Bare, Group::TrapReturn),
             (Kind::Csrrci, Format::Csr, Group::Csr),
-            (Kind::LrW, Format::Lr, Group::Reserved),
-            (Kind::ScW, Format::R, Group::Reserved),
+            (Kind::LrW, Format::Lr, Group::LoadReserved),
+            (Kind::ScW, Format::R, Group::StoreConditional),
             (Kind::AmomaxuW, Format::R, Group::Amo),
         ];
         for (kind, format, group) in kinds {
