@@ -278,3 +278,31 @@ impl Kind {
         }
     }
 }
+
+#[cfg(test)]
+mod tests {
+    use super::*;
+
+    #[test]
+    fn has_a_format_and_a_group(rt: HostRuntime) {
+        let kinds = [
+            (Kind::Auipc, Format::U, Group::Upper),
+            (Kind::Jal, Format::J, Group::Jump),
+            (Kind::Jalr, Format::I, Group::Jump),
+            (Kind::Bgeu, Format::B, Group::Branch),
+            (Kind::Lhu, Format::I, Group::Load),
+            (Kind::Sh, Format::S, Group::Store),
+            (Kind::Srai, Format::Shift, Group::ComputeImmediate),
+            (Kind::Remu, Format::R, Group::Compute),
+            (Kind::Wfi, Format::Bare, Group::Fence),
+            (Kind::Mret, Format::Bare, Group::System),
+            (Kind::Csrrci, Format::Csr, Group::Csr),
+            (Kind::LrW, Format::Lr, Group::Reserved),
+            (Kind::ScW, Format::R, Group::Reserved),
+            (Kind::AmomaxuW, Format::R, Group::Amo),
+        ];
+        for (kind, format, group) in kinds {
+            assert_eq!(rt; (kind.format(), kind.group()), (format, group), "{kind:?}");
+        }
+    }
+}
