@@ -286,6 +286,7 @@ mod tests {
     #[test]
     fn has_a_format_and_a_group(rt: HostRuntime) {
         let kinds = [
+            (Kind::Lui, Format::U, Group::LoadUpper),
             (Kind::Auipc, Format::U, Group::AddUpper),
             (Kind::Jal, Format::J, Group::Jump),
             (Kind::Jalr, Format::I, Group::JumpRegister),
@@ -295,6 +296,8 @@ mod tests {
             (Kind::Srai, Format::Shift, Group::ComputeImmediate),
             (Kind::Remu, Format::R, Group::Compute),
             (Kind::Wfi, Format::Bare, Group::Nothing),
+            (Kind::Ecall, Format::Bare, Group::EnvironmentCall),
+            (Kind::Ebreak, Format::Bare, Group::Breakpoint),
             (Kind::Mret, Format::Bare, Group::TrapReturn),
             (Kind::Csrrci, Format::Csr, Group::Csr),
             (Kind::LrW, Format::Lr, Group::LoadReserved),
