@@ -18,9 +18,9 @@ pub record Row : Type 0 where
 abbrev pub row : ℕ → ℕ → Kind → Row
 row mask bits kind = record { mask = mask; bits = bits; kind = kind }
 
--- The masks, by the last of the fields that tell a row. A word has its bits in the order funct7, rs2,
--- rs1, funct3, rd, opcode. An atomic instruction has the bits aq and rl, at which no row looks, below
--- a funct5.
+-- The masks, each named by the highest field that it takes. The fields of a word, from the highest bit
+-- on, are funct7, rs2, rs1, funct3, rd and opcode. An atomic instruction has a funct5 in place of funct7,
+-- and below it the bits aq and rl, which no row looks at.
 abbrev pub opcode : ℕ
 opcode = 0b1111111
 
@@ -39,27 +39,31 @@ funct5_rs2 = 0b11111_00_11111_00000_111_00000_1111111
 abbrev pub every_bit : ℕ
 every_bit = 0b1111111_11111_11111_111_11111_1111111
 
--- mask, bits, kind
+-- mask, bits and kind, under the manual's names of the opcodes (table 24.1)
 unfoldable pub rows : List Row
 rows =
     row opcode 0b0110111 Lui
     ∷ row opcode 0b0010111 Auipc
     ∷ row opcode 0b1101111 Jal
     ∷ row funct3 0b000_00000_1100111 Jalr
+    -- BRANCH
     ∷ row funct3 0b000_00000_1100011 Beq
     ∷ row funct3 0b001_00000_1100011 Bne
     ∷ row funct3 0b100_00000_1100011 Blt
     ∷ row funct3 0b101_00000_1100011 Bge
     ∷ row funct3 0b110_00000_1100011 Bltu
     ∷ row funct3 0b111_00000_1100011 Bgeu
+    -- LOAD
     ∷ row funct3 0b000_00000_0000011 Lb
     ∷ row funct3 0b001_00000_0000011 Lh
     ∷ row funct3 0b010_00000_0000011 Lw
     ∷ row funct3 0b100_00000_0000011 Lbu
     ∷ row funct3 0b101_00000_0000011 Lhu
+    -- STORE
     ∷ row funct3 0b000_00000_0100011 Sb
     ∷ row funct3 0b001_00000_0100011 Sh
     ∷ row funct3 0b010_00000_0100011 Sw
+    -- OP-IMM
     ∷ row funct3 0b000_00000_0010011 Addi
     ∷ row funct3 0b010_00000_0010011 Slti
     ∷ row funct3 0b011_00000_0010011 Sltiu
@@ -69,6 +73,7 @@ rows =
     ∷ row funct7 0b0000000_00000_00000_001_00000_0010011 Slli
     ∷ row funct7 0b0000000_00000_00000_101_00000_0010011 Srli
     ∷ row funct7 0b0100000_00000_00000_101_00000_0010011 Srai
+    -- OP
     ∷ row funct7 0b0000000_00000_00000_000_00000_0110011 Add
     ∷ row funct7 0b0100000_00000_00000_000_00000_0110011 Sub
     ∷ row funct7 0b0000000_00000_00000_001_00000_0110011 Sll
@@ -79,6 +84,7 @@ rows =
     ∷ row funct7 0b0100000_00000_00000_101_00000_0110011 Sra
     ∷ row funct7 0b0000000_00000_00000_110_00000_0110011 Or
     ∷ row funct7 0b0000000_00000_00000_111_00000_0110011 And
+    -- OP, extension M
     ∷ row funct7 0b0000001_00000_00000_000_00000_0110011 Mul
     ∷ row funct7 0b0000001_00000_00000_001_00000_0110011 Mulh
     ∷ row funct7 0b0000001_00000_00000_010_00000_0110011 Mulhsu
@@ -87,18 +93,22 @@ rows =
     ∷ row funct7 0b0000001_00000_00000_101_00000_0110011 Divu
     ∷ row funct7 0b0000001_00000_00000_110_00000_0110011 Rem
     ∷ row funct7 0b0000001_00000_00000_111_00000_0110011 Remu
+    -- MISC-MEM
     ∷ row funct3 0b000_00000_0001111 Fence
     ∷ row funct3 0b001_00000_0001111 FenceI
+    -- SYSTEM
     ∷ row every_bit 0b0000000_00000_00000_000_00000_1110011 Ecall
     ∷ row every_bit 0b0000000_00001_00000_000_00000_1110011 Ebreak
     ∷ row every_bit 0b0011000_00010_00000_000_00000_1110011 Mret
     ∷ row every_bit 0b0001000_00101_00000_000_00000_1110011 Wfi
+    -- SYSTEM, extension Zicsr
     ∷ row funct3 0b001_00000_1110011 Csrrw
     ∷ row funct3 0b010_00000_1110011 Csrrs
     ∷ row funct3 0b011_00000_1110011 Csrrc
     ∷ row funct3 0b101_00000_1110011 Csrrwi
     ∷ row funct3 0b110_00000_1110011 Csrrsi
     ∷ row funct3 0b111_00000_1110011 Csrrci
+    -- AMO
     ∷ row funct5_rs2 0b00010_00_00000_00000_010_00000_0101111 LrW
     ∷ row funct5 0b00011_00_00000_00000_010_00000_0101111 ScW
     ∷ row funct5 0b00001_00_00000_00000_010_00000_0101111 AmoswapW

@@ -278,3 +278,34 @@ impl Kind {
         }
     }
 }
+
+#[cfg(test)]
+mod tests {
+    use super::*;
+
+    #[test]
+    fn has_a_format_and_a_group(rt: HostRuntime) {
+        let kinds = [
+            (Kind::Lui, Format::U, Group::LoadUpper),
+            (Kind::Auipc, Format::U, Group::AddUpper),
+            (Kind::Jal, Format::J, Group::Jump),
+            (Kind::Jalr, Format::I, Group::JumpRegister),
+            (Kind::Bgeu, Format::B, Group::Branch),
+            (Kind::Lhu, Format::I, Group::Load),
+            (Kind::Sh, Format::S, Group::Store),
+            (Kind::Srai, Format::Shift, Group::ComputeImmediate),
+            (Kind::Remu, Format::R, Group::Compute),
+            (Kind::Wfi, Format::Bare, Group::Nothing),
+            (Kind::Ecall, Format::Bare, Group::EnvironmentCall),
+            (Kind::Ebreak, Format::Bare, Group::Breakpoint),
+            (Kind::Mret, Format::Bare, Group::TrapReturn),
+            (Kind::Csrrci, Format::Csr, Group::Csr),
+            (Kind::LrW, Format::Lr, Group::LoadReserved),
+            (Kind::ScW, Format::R, Group::StoreConditional),
+            (Kind::AmomaxuW, Format::R, Group::Amo),
+        ];
+        for (kind, format, group) in kinds {
+            assert_eq!(rt; (kind.format(), kind.group()), (format, group), "{kind:?}");
+        }
+    }
+}

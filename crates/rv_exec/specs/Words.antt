@@ -1,5 +1,5 @@
 -- Registers hold whole numbers below 2 ^ 32. How they are read as signed numbers, and what is kept of
--- a number that lies outside. RISC-V Unprivileged ISA 20191213, sections 1.5 and 2.1
+-- a number that lies outside. RISC-V Unprivileged ISA 20191213, section 2.1
 use Rattle.std.specs.Prelude.{ℕ, ◌^◌, ℤ, pos, unsigned_abs}
 use Rattle.std.specs.Int.{cast_signed, int_div_euclid, int_rem_euclid, w32}
 

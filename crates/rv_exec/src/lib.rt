@@ -2,7 +2,7 @@
 //! operation leaves in memory, and what loads and stores make of bytes. Words are `u32`, and each
 //! function's contract is a definition in whole numbers.
 //!
-//! A function takes the kinds of its groups alone: a caller matches on [`Kind::group`] first.
+//! A function takes the kinds of its groups alone: a caller matches on `Kind::group` first.
 #![tactic(auto)]
 
 mod atomic;
