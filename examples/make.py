@@ -11,12 +11,18 @@ import sys
 
 BASE = 0x80000000
 
-EXIT_SEVEN = "100022B7 00700313 0062A023 00500313 0062A423"
-PRINT_LETTER = "100002B7 04100313 00628023 100022B7 0002A023 00500313 0062A423"
-ILLEGAL_WORD = "00000000"
-
-# 32,497 times ADDI x6, x6, 1 and SW x6, -16(x7), between what sets x5 to x7 and EXIT with x6
-STRAIGHT_LINE = ["100022B7", "800403B7", "00000313", *32497 * ["00130313", "FE63A823"], "0062A023", "00500313", "0062A423"]
+# The guests by name, each as its words. README.md has them instruction by instruction.
+GUESTS = {
+    "exit_seven": "100022B7 00700313 0062A023 00500313 0062A423",
+    "print_letter": "100002B7 04100313 00628023 100022B7 0002A023 00500313 0062A423",
+    "illegal_word": "00000000",
+    "trap_handler": "100022B7 00000317 01430313 30531073 00000073 00100073 342023F3 0072A023 00500313 0062A423",
+    "straight_line": f"100022B7 800403B7 00000313 {32497 * '00130313 FE63A823 '} 0062A023 00500313 0062A423",
+    "loop_compute": "00100313 00D31393 00734333 01135393 00734333 00531393 00734333 00137393 00038463 00140413 FDDFF06F",
+    "loop_memory": "800012B7 80002337 00028393 0003A403 00140413 0083A023 0003D483 00939123 00038503 00A380A3"
+    " 00438393 FE6390E3 FD9FF06F",
+    "loop_multiply": "001962B7 60D28293 00100313 02530333 00130313 025333B3 02735433 025364B3 FEDFF06F",
+}
 
 
 def image(words):
@@ -39,10 +45,8 @@ def main(arguments):
         write(arguments[0], arguments[1:])
         return
     folder = os.path.dirname(os.path.abspath(__file__))
-    write(f"{folder}/exit_seven.elf", EXIT_SEVEN.split())
-    write(f"{folder}/print_letter.elf", PRINT_LETTER.split())
-    write(f"{folder}/illegal_word.elf", ILLEGAL_WORD.split())
-    write(f"{folder}/straight_line.elf", STRAIGHT_LINE)
+    for name, words in GUESTS.items():
+        write(f"{folder}/{name}.elf", words.split())
 
 
 if __name__ == "__main__":

@@ -1,3 +1,10 @@
+pub mod Kept
+pub mod Loads
 pub mod OneSegment
-pub mod Pages
+pub mod Order
+pub mod Overlap
+pub mod Placing
+pub mod RamBytes
+pub mod RamPages
+pub mod Rules
 pub mod Words

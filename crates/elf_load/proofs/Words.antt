@@ -3,7 +3,7 @@ use Rattle.std.proofs.Common.{◌≡◌, ℕ, ◌*◌, ◌%◌, ◌<◌, List, [
 use Rattle.std.specs.Prelude.{All}
 use Rattle.std.proofs.lemmas.List.Elements.{All-drop}
 use Rattle.byteorder.specs.Endian.{little_number}
-use Rattle.elf_load.specs.Image.{word, bytes_of_words, words_of}
+use Rattle.elf_load.specs.OneSegment.{word, bytes_of_words, words_of}
 
 pub length-bytes_of_words : (words : List ℕ) → length (bytes_of_words words) ≡ 4 * length words
 length-bytes_of_words [] = refl

@@ -2,9 +2,14 @@
 #![tactic(auto)]
 
 mod error;
+mod header;
 mod image;
 mod loader;
+mod memory;
+mod segment;
+#[cfg(test)]
+mod tests;
 
-pub use error::{FORM_NOT_BUILT, ImageError};
+pub use error::ImageError;
 pub use image::{Loaded, MAX_PAGES, MIN_PAGES, PAGE_SIZE, RAM_BASE};
 pub use loader::{load_elf, one_segment};

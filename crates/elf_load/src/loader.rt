@@ -1,174 +1,126 @@
-ghost use Rattle.std.specs.Prelude.{◌≡◌, ℕ, ◌+◌, ◌-◌, ◌*◌, ◌%◌, ◌<◌, ◌≤◌, List, ◌++◌, length, All, MatchOption, Some, None, IfOk, IfErr};
-ghost use Rattle.flat_memory.specs.Flat.{zeros};
-ghost use Rattle.elf_load.specs.Image.{Image, IsOneSegment, IsRefused, headers, elf_of, bytes_of_words, words_of, code_of, segment_pages, image_of, loaded};
+ghost use Rattle.std.specs.Prelude.{◌≡◌, ℕ, ◌+◌, ◌-◌, ◌*◌, ◌%◌, ◌<◌, ◌≤◌, List, ◌++◌, length, All, IsTrue, IfOk, IfErr, Ok};
+ghost use Rattle.std.specs.List.{AllPairs, list_any};
+ghost use Rattle.std.specs.List.Sorted.{IsNonDecreasingBy};
+ghost use Rattle.elf_load.specs.Elf.{IsRefused, is_cut, is_outside, is_entry, overlap, place_rules, first_broken, ram_of, pages_of, loaded, IsInFile, IsInRam, IsBelow};
+ghost use Rattle.elf_load.specs.OneSegment.{elf_of, bytes_of_words, words_of, image_of_code};
 
-use crate::error::{FORM_NOT_BUILT, ImageError};
+use crate::error::ImageError;
+use crate::header::Header;
 use crate::image::{Loaded, MAX_PAGES, MIN_PAGES, PAGE_SIZE, RAM_BASE};
+use crate::memory::{pages_of, ram_of};
+use crate::segment::{Segment, segments_by_address};
 use std::alloc::{AllocError, Global};
 
-/// The bytes of an ELF header and one program header.
-const HEADERS_SIZE: usize = 84;
-
-/// Loads an image into RAM of `ram_pages` pages. The one form that is built is an executable of one
-/// segment that goes to `RAM_BASE` and starts there, as `one_segment` says. Every other image is
-/// refused with `FORM_NOT_BUILT`.
+/// Loads an ELF executable for RISC-V of 32 bits into RAM of `ram_pages` pages. Each segment goes to its
+/// physical address. A file that cannot be loaded is refused by the first rule of `ImageError` that it
+/// breaks.
 pub fn load_elf(alloc: Global, bytes: &[u8], ram_pages: u32) -> Result<Loaded, ImageError>
     requires least { MIN_PAGES ≤ ram_pages }
     requires most { ram_pages ≤ MAX_PAGES }
-    ensures loads { IfOk result (λ image. loaded bytes.now ram_pages ≡ Some image) }
+    ensures loads { IfOk result (λ image. loaded bytes.now ram_pages ≡ Ok image) }
     ensures refuses { IfErr result (IsRefused bytes.now ram_pages) }
 {
-    let Some(code) = accepted_code(bytes, ram_pages) else {
-        return Err(ImageError::Refused(FORM_NOT_BUILT));
-    };
-    Ok(place(alloc, code, ram_pages)?)
+    let header = Header::read(bytes)?;
+    let segments = segments_by_address(alloc, bytes, &header)?;
+    if let Some(rule) = broken_rule(bytes, &segments, header.entry, ram_pages) {
+        return Err(ImageError::Refused(rule));
+    }
+    Ok(place(alloc, bytes, &segments, header.entry, ram_pages)?)
 }
 
-/// The form of the images that are loaded: what `elf_of` writes of whole words that fit in RAM is
-/// loaded, and nothing else is.
+/// The image of a file with these segments, which lie one behind the other.
+fn place(
+    alloc: Global,
+    bytes: &[u8],
+    segments: &[Segment],
+    entry: u32,
+    pages: u32,
+) -> Result<Loaded, AllocError>
+    requires least { MIN_PAGES ≤ pages }
+    requires most { pages ≤ MAX_PAGES }
+    requires in_file { All (IsInFile bytes.now) segments.now }
+    requires in_ram { All (IsInRam pages) segments.now }
+    requires in_order { AllPairs IsBelow segments.now }
+    requires entered { IsTrue (is_entry pages entry) }
+    ensures { IfOk result (λ image. image ≡ record {
+      ram = ram_of bytes.now segments.now pages;
+      entry = entry;
+      segments = pages_of segments.now pages;
+    }) }
+{
+    Ok(Loaded {
+        ram: ram_of(alloc, bytes, segments, pages)?,
+        entry,
+        segments: pages_of(alloc, segments, pages)?,
+    })
+}
+
+/// The first of the rules 9 to 12 that is broken, by segments in the order of their addresses.
+#[tactic(auto, unfolding(crate::specs::Elf::place_rules))]
+fn broken_rule(bytes: &[u8], segments: &[Segment], entry: u32, pages: u32) -> Option<u32>
+    requires most { pages ≤ MAX_PAGES }
+    requires sorted { IsNonDecreasingBy (λ s. s.address) segments.now }
+    requires not_empty { All (λ s. 0 < s.memory_size) segments.now }
+    ensures { result ≡ first_broken (place_rules bytes.now pages segments.now entry) }
+{
+    if any_cut(bytes, segments) {
+        Some(9)
+    } else if any_outside(segments, pages) {
+        Some(10)
+    } else if overlap(segments) {
+        Some(11)
+    } else if !is_entry(entry, pages) {
+        Some(12)
+    } else {
+        None
+    }
+}
+
+/// Whether the bytes of any segment end behind the file.
+fn any_cut(bytes: &[u8], segments: &[Segment]) -> bool
+    ensures { result ≡ list_any (is_cut bytes.now) segments.now }
+{
+    segments
+        .iter()
+        .any(|segment| bytes.len() < segment.file_end())
+}
+
+/// Whether any segment lies partly out of RAM.
+fn any_outside(segments: &[Segment], pages: u32) -> bool
+    requires { pages ≤ MAX_PAGES }
+    ensures { result ≡ list_any (is_outside pages) segments.now }
+{
+    segments.iter().any(|segment| segment.is_outside(pages))
+}
+
+/// Whether any two of these segments, which are in the order of their addresses, share a byte.
+fn overlap(segments: &[Segment]) -> bool
+    requires sorted { IsNonDecreasingBy (λ s. s.address) segments.now }
+    requires not_empty { All (λ s. 0 < s.memory_size) segments.now }
+    ensures { result ≡ overlap segments.now }
+{
+    !segments.is_sorted_by(|low, high| low.end() <= high.address as usize)
+}
+
+/// Whether an address is in RAM and a multiple of 4.
+fn is_entry(address: u32, pages: u32) -> bool
+    requires { pages ≤ MAX_PAGES }
+    ensures { result ≡ is_entry pages address }
+{
+    let end = RAM_BASE as usize + PAGE_SIZE * pages as usize;
+    address % 4 == 0 && RAM_BASE <= address && (address as usize) < end
+}
+
+/// What `elf_of` writes of code that fits in RAM from an address on is loaded, with the code there and
+/// zeros elsewhere.
 pub fn one_segment()
-    ensures accepts { (code : List ℕ) (pages : ℕ) → length code % 4 ≡ 0 → length code ≤ PAGE_SIZE * pages
-        → loaded (elf_of RAM_BASE code) pages ≡ Some (image_of code pages) }
-    ensures accepts_no_other { (bytes : List ℕ) (pages : ℕ) (image : Image) → loaded bytes pages ≡ Some image
-        → IsOneSegment bytes pages × (image ≡ image_of (code_of bytes) pages) }
+    ensures loads { (base : ℕ) (code : List ℕ) (pages : ℕ) → pages ≤ MAX_PAGES
+        → base % 4 ≡ 0 → RAM_BASE ≤ base → base < RAM_BASE + PAGE_SIZE * pages
+        → base + length code ≤ RAM_BASE + PAGE_SIZE * pages
+        → loaded (elf_of base code) pages ≡ Ok (image_of_code base code pages) }
 
     // Whole words are the bytes of some words, and the bytes of words are whole words.
     ensures words { (code : List ℕ) → All (λ byte. byte < 256) code → length code % 4 ≡ 0
         → bytes_of_words (words_of code) ≡ code }
     ensures whole_words { (words : List ℕ) → length (bytes_of_words words) ≡ 4 * length words }
 {}
-
-/// The code of an image, or `None` exactly where the image is of a form that is not built.
-fn accepted_code(bytes: &[u8], ram_pages: u32) -> Option<&[u8]>
-    requires most { ram_pages ≤ MAX_PAGES }
-    ensures { MatchOption result
-        (loaded bytes.now ram_pages ≡ None)
-        (λ code. (loaded bytes.now ram_pages ≡ Some (image_of code.now ram_pages))
-        × (length code.now ≤ PAGE_SIZE * ram_pages)) }
-{
-    let (headers, code) = bytes.split_at_checked(HEADERS_SIZE)?;
-    if code.len() % 4 != 0 || code.len() > PAGE_SIZE * ram_pages as usize {
-        return None;
-    }
-    if headers == headers_of(code.len() as u32).as_slice() {
-        Some(code)
-    } else {
-        None
-    }
-}
-
-/// The headers of an executable whose one segment, of `size` bytes, goes to `RAM_BASE`.
-#[tactic(auto, unfolding(crate::specs::Image::headers))]
-fn headers_of(size: u32) -> [u8; HEADERS_SIZE]
-    ensures { result ≡ headers RAM_BASE size }
-{
-    let [s0, s1, s2, s3] = size.to_le_bytes();
-    [
-        0x7f, b'E', b'L', b'F', 1, 1, 1, 0, 0, 0, 0, 0, 0, 0, 0, 0, // e_ident
-        2, 0, // e_type: ET_EXEC
-        243, 0, // e_machine: EM_RISCV
-        1, 0, 0, 0, // e_version
-        0, 0, 0, 0x80, // e_entry
-        52, 0, 0, 0, // e_phoff
-        0, 0, 0, 0, // e_shoff
-        0, 0, 0, 0, // e_flags
-        52, 0, // e_ehsize
-        32, 0, // e_phentsize
-        1, 0, // e_phnum
-        0, 0, // e_shentsize
-        0, 0, // e_shnum
-        0, 0, // e_shstrndx
-        1, 0, 0, 0, // p_type: PT_LOAD
-        84, 0, 0, 0, // p_offset
-        0, 0, 0, 0x80, // p_vaddr
-        0, 0, 0, 0x80, // p_paddr
-        s0, s1, s2, s3, // p_filesz
-        s0, s1, s2, s3, // p_memsz
-        7, 0, 0, 0, // p_flags: PF_R, PF_W and PF_X
-        4, 0, 0, 0, // p_align
-    ]
-}
-
-/// The image that has `code` at the start of RAM.
-fn place(alloc: Global, code: &[u8], ram_pages: u32) -> Result<Loaded, AllocError>
-    requires least { MIN_PAGES ≤ ram_pages }
-    requires most { ram_pages ≤ MAX_PAGES }
-    requires fits { length code.now ≤ PAGE_SIZE * ram_pages }
-    ensures { IfOk result (λ image. image ≡ image_of code.now ram_pages) }
-{
-    let pages = ram_pages as usize;
-    Ok(Loaded {
-        ram: padded(alloc, code, PAGE_SIZE * pages)?,
-        entry: RAM_BASE,
-        segments: segment_pages(alloc, code.len(), pages)?,
-    })
-}
-
-/// The bytes with zeros behind them, `size` bytes in all.
-#[tactic(auto, using(std::proofs::lemmas::List::take_all), unfolding(flat_memory::specs::Flat::zeros))]
-fn padded(alloc: Global, bytes: &[u8], size: usize) -> Result<Vec<u8>, AllocError>
-    requires { length bytes.now ≤ size }
-    ensures { IfOk result (λ ram. ram.items ≡ bytes.now ++ zeros (size - length bytes.now)) }
-{
-    let mut ram = Vec::with_capacity(alloc, size)?;
-    ram.extend_from_slice(bytes)?;
-    ram.resize(size, 0)?;
-    Ok(ram)
-}
-
-/// For each page, whether one of the first `size` bytes of RAM falls in it.
-#[tactic(auto, using(crate::proofs::Pages::segment_pages_more), unfolding(crate::specs::Image::segment_pages))]
-fn segment_pages(alloc: Global, size: usize, pages: usize) -> Result<Vec<bool>, AllocError>
-    requires { pages ≤ MAX_PAGES }
-    ensures { IfOk result (λ segments. segments.items ≡ segment_pages size pages) }
-{
-    let mut segments = Vec::with_capacity(alloc, pages)?;
-    for page in 0..pages {
-        segments.push(PAGE_SIZE * page < size)?;
-    }
-    Ok(segments)
-}
-
-#[cfg(test)]
-mod tests {
-    use super::*;
-    use std::test::Fail;
-
-    // A program that exits with 7, and a byte that is not part of its image.
-    #[rattlefmt::skip]
-    const EXIT_SEVEN_AND_A_BYTE: [u8; 105] = [
-        0x7f, 0x45, 0x4c, 0x46, 0x01, 0x01, 0x01, 0x00, 0x00, 0x00, 0x00, 0x00, 0x00, 0x00, 0x00,
-        0x00, 0x02, 0x00, 0xf3, 0x00, 0x01, 0x00, 0x00, 0x00, 0x00, 0x00, 0x00, 0x80, 0x34, 0x00,
-        0x00, 0x00, 0x00, 0x00, 0x00, 0x00, 0x00, 0x00, 0x00, 0x00, 0x34, 0x00, 0x20, 0x00, 0x01,
-        0x00, 0x00, 0x00, 0x00, 0x00, 0x00, 0x00, 0x01, 0x00, 0x00, 0x00, 0x54, 0x00, 0x00, 0x00,
-        0x00, 0x00, 0x00, 0x80, 0x00, 0x00, 0x00, 0x80, 0x14, 0x00, 0x00, 0x00, 0x14, 0x00, 0x00,
-        0x00, 0x07, 0x00, 0x00, 0x00, 0x04, 0x00, 0x00, 0x00,
-        0xb7, 0x22, 0x00, 0x10,
-        0x13, 0x03, 0x70, 0x00,
-        0x23, 0xa0, 0x62, 0x00,
-        0x13, 0x03, 0x50, 0x00,
-        0x23, 0xa4, 0x62, 0x00,
-        0x00,
-    ];
-
-    #[test]
-    fn loads_exit_seven(rt: HostRuntime) -> Result<(), Fail> {
-        let loaded = load_elf(rt.alloc(), &EXIT_SEVEN_AND_A_BYTE[..104], 64)?;
-        assert_eq!(rt; loaded.entry(), 0x8000_0000);
-        assert_eq!(rt; loaded.pages(), 64);
-        assert_eq!(rt;
-            &loaded.ram()[..5],
-            [0xb7, 0x22, 0x00, 0x10, 0x13].as_slice()
-        );
-        assert_eq!(rt; &loaded.segments()[..2], [true, false].as_slice());
-        Ok(())
-    }
-
-    #[test]
-    fn refuses_other_images(rt: HostRuntime) {
-        for len in [0, 103, 105] {
-            let refusal = load_elf(rt.alloc(), &EXIT_SEVEN_AND_A_BYTE[..len], 64).err();
-            assert_eq!(rt; refusal, Some(ImageError::Refused(14)), "at {len} bytes");
-        }
-    }
-}

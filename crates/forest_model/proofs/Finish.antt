@@ -1,10 +1,12 @@
 -- A machine that is run: ended machines stay, steps add up, and every machine ends at its limit.
 use Rattle.std.proofs.Common.{◌≡◌, ℕ, zero, suc, ◌+◌, ◌-◌, ◌<◌, ◌≤◌, Bool, true, false, eqb, Option, Some, None, IsSome, refl, sym, ap, ◌∙◌, subst, arith, suc-add, zero-add, cond, inl, inr, ◌⊎◌}
 use Rattle.forest_model.specs.declared.Ending.{Ending}
-use Rattle.forest_model.specs.declared.Ending.TheVariants.{Exit, Limit, Fault}
+use Rattle.forest_model.specs.declared.Ending.TheVariants.{Exit, Limit}
+use Rattle.rv_traps.specs.declared.counter.Wrote.TheVariants.{Nothing}
 use Rattle.forest_model.specs.State.{State}
-use Rattle.forest_model.specs.Action.{Action, trap, retire, exit, action}
-use Rattle.forest_model.specs.Machine.{Machine, IsWithinLimit, Next, exception, next_of, next, advance, advance_from, applied, after_steps, finish}
+use Rattle.forest_model.specs.Action.{Action, trap, retire, exit}
+use Rattle.forest_model.specs.Execute.{action}
+use Rattle.forest_model.specs.Machine.{Machine, IsWithinLimit, Next, exception, next_of, next, limited, count, trapped, advance, advance_from, applied, after_steps, finish}
 
 -- an ended machine stays as it is
 pub advance-ended : (m : Machine) (e : Ending) → m.ending ≡ Some e → advance m ≡ m
@@ -34,7 +36,7 @@ after_steps-add (suc a) b m = ap (λ n. after_steps n m) (suc-add a b) ∙ after
 -- the limit stays
 limit-applied : (a : Action) (m : Machine) → (applied a m).limit ≡ m.limit
 limit-applied (trap cause value) m = refl
-limit-applied (retire s) m = refl
+limit-applied (retire wrote s) m = refl
 limit-applied (exit value s) m = refl
 
 limit-advance_from : (e : Option Ending) (m : Machine) → (advance_from e m).limit ≡ m.limit
@@ -53,34 +55,25 @@ limit-after_steps (suc n) m = limit-after_steps n (advance m) ∙ limit-advance 
 -- each step of a live machine is counted
 steps-applied : (a : Action) (m : Machine) → (applied a m).steps ≡ m.steps + 1
 steps-applied (trap cause value) m = refl
-steps-applied (retire s) m = refl
+steps-applied (retire wrote s) m = refl
 steps-applied (exit value s) m = refl
 
 pub steps-advance : (m : Machine) → m.ending ≡ None → (advance m).steps ≡ m.steps + 1
 steps-advance m h = ap (λ (n : Machine). n.steps) (advance-live m h) ∙ steps-applied (action m.state) m
 
--- a step is an exception exactly where it ends the machine by a fault
+-- a step that is an exception is a trap
 applied-exception : (a : Action) (m : Machine) (cause value : ℕ) → next_of a ≡ exception cause value
-    → applied a m ≡ record m { steps = m.steps + 1; ending = Some (Fault cause) }
-applied-exception (trap cause value) m c v h = let same : cause ≡ c = cc in ap (λ k. applied (trap k value) m) same
-applied-exception (retire s) m c v h = absurd (cc)
+    → applied a m ≡ limited (count false Nothing (trapped cause value m.state)) m
+applied-exception (trap cause value) m c v h =
+    let same_cause : cause ≡ c = cc in
+    let same_value : value ≡ v = cc in
+    ap (λ k. applied (trap k value) m) same_cause ∙ ap (λ k. applied (trap c k) m) same_value
+applied-exception (retire wrote s) m c v h = absurd (cc)
 applied-exception (exit value s) m c v h = absurd (cc)
 
-no-fault-limited : (reached : Bool) (cause : ℕ) → cond reached (Some Limit) None ≡ Some (Fault cause) → ⊥
-no-fault-limited true cause h = cc
-no-fault-limited false cause h = cc
-
-next_of-fault : (a : Action) (m : Machine) (cause : ℕ) → (applied a m).ending ≡ Some (Fault cause) → (value : ℕ) × (next_of a ≡ exception cause value)
-next_of-fault (trap cause value) m c h = let same : cause ≡ c = cc in (value, ap (λ k. exception k value) same)
-next_of-fault (retire s) m c h = absurd (no-fault-limited (eqb (m.steps + 1) m.limit) c h)
-next_of-fault (exit value s) m c h = absurd (cc)
-
 pub advance-exception : (m : Machine) (cause value : ℕ) → m.ending ≡ None → next m ≡ exception cause value
-    → advance m ≡ record m { steps = m.steps + 1; ending = Some (Fault cause) }
+    → advance m ≡ limited (count false Nothing (trapped cause value m.state)) m
 advance-exception m cause value live h = advance-live m live ∙ applied-exception (action m.state) m cause value h
-
-pub next-fault : (m : Machine) (cause : ℕ) → m.ending ≡ None → (advance m).ending ≡ Some (Fault cause) → (value : ℕ) × (next m ≡ exception cause value)
-next-fault m cause live h = next_of-fault (action m.state) m cause (ap (λ (n : Machine). n.ending) (sym (advance-live m live)) ∙ h)
 
 -- a machine that lives after a step is below its limit
 below-limited : (reached : Bool) (steps limit : ℕ) → eqb steps limit ≡ reached → steps ≤ limit → cond reached (Some Limit) None ≡ None → steps < limit
@@ -88,8 +81,8 @@ below-limited true steps limit e h live = cc
 below-limited false steps limit e h live = grind arith
 
 below-applied : (a : Action) (m : Machine) → m.steps < m.limit → (applied a m).ending ≡ None → m.steps + 1 < m.limit
-below-applied (trap cause value) m h live = cc
-below-applied (retire s) m h live = below-limited (eqb (m.steps + 1) m.limit) (m.steps + 1) m.limit refl (omega arith) live
+below-applied (trap cause value) m h live = below-limited (eqb (m.steps + 1) m.limit) (m.steps + 1) m.limit refl (omega arith) live
+below-applied (retire wrote s) m h live = below-limited (eqb (m.steps + 1) m.limit) (m.steps + 1) m.limit refl (omega arith) live
 below-applied (exit value s) m h live = cc
 
 IsWithinLimit-live : (m : Machine) → m.ending ≡ None → m.steps < m.limit → IsWithinLimit (advance m)

@@ -1,6 +1,7 @@
 -- The pages that a step touches: they are few and of RAM, and RAM changes nowhere else.
 use Rattle.std.proofs.Common.{◌≡◌, ◌≢◌, ℕ, ◌+◌, ◌-◌, ◌*◌, ◌/◌, ◌%◌, ◌<◌, ◌≤◌, ◌⊎◌, inl, inr, Bool, true, false, eqb, ◌&&◌, List, [], ◌∷◌, length, get_or, Option, Some, None, IsSome, refl, sym, ap, ◌∙◌, subst, cond, arith}
 use Rattle.std.specs.Option.{IfSome}
+use Rattle.std.specs.Int.{to_le_bytes, bytes_low_first, w32}
 use Rattle.std.specs.List.{All, AllPairs, Contains}
 use Rattle.std.proofs.lemmas.Bool.{eqb-true}
 use Rattle.std.proofs.lemmas.Bool.Decides.{nat_tests}
@@ -11,15 +12,25 @@ use Rattle.flat_memory.specs.Flat.{put_bytes}
 use Rattle.flat_memory.proofs.Bytes.{get_or-put_bytes_outside}
 use Rattle.rv_decode.specs.Instruction.{Instruction}
 use Rattle.rv_decode.specs.Table.{decoded}
-use Rattle.rv_decode.specs.declared.instruction.Kind.{Kind}
-use Rattle.rv_decode.specs.declared.instruction.Kind.TheVariants.{Lui, Addi, Sb, Sw}
+use Rattle.rv_decode.specs.declared.kinds.Kind.{Kind}
+use Rattle.rv_decode.specs.declared.kinds.Kind.TheVariants.{Sb, Sh, Sw}
+use Rattle.rv_decode.specs.declared.kinds.Group.{Group}
+use Rattle.rv_decode.specs.declared.kinds.Group.TheVariants.{LoadUpper, AddUpper, Jump, JumpRegister, Branch, Load, Store, ComputeImmediate, Compute, Nothing, EnvironmentCall, Breakpoint, TrapReturn, Csr, LoadReserved, StoreConditional, Amo}
+use Rattle.rv_decode.specs.Kinds.{group_of}
+use Rattle.rv_exec.specs.Memory.{load_width, store_bytes, store_width}
 use Rattle.forest_model.specs.declared.Ending.{Ending}
 use Rattle.forest_model.specs.declared.Effect.{Effect}
 use Rattle.forest_model.specs.declared.Effect.TheVariants.{Done, Exit}
-use Rattle.forest_model.specs.Operation.{Group, compute_immediate, store, group_of, store_bytes}
-use Rattle.forest_model.specs.Ports.{Stored, port_store}
+use Rattle.forest_model.specs.Ports.{Read, Stored, port_load, port_store}
 use Rattle.forest_model.specs.State.{State, is_in_ram, register, at_next_instruction}
-use Rattle.forest_model.specs.Action.{Action, trap, retire, exit, action, computed_immediate, data_address, effect_action, port_action, place_action, aligned_action, store_action, stored_bytes, stored, execute_group, execute, decoded_action, fetched, fetch_action}
+use Rattle.forest_model.specs.Action.{Action, trap, retire, exit, rs1, rs2, immediate}
+use Rattle.forest_model.specs.Compute.{load_upper, add_upper, compute_immediate, compute}
+use Rattle.forest_model.specs.Control.{aligned_jump, jump, jump_register, branch_by, branch, relative, linked}
+use Rattle.forest_model.specs.Memory.{data_address, is_aligned, read_action, place_load, aligned_load, load, effect_action, port_action, place_store, aligned_store, store_action, stored_bytes, store}
+use Rattle.forest_model.specs.Atomic.{is_reserved, reserve_at, aligned_reserve, load_reserved, conditional_action, conditional_at, aligned_conditional, store_conditional, amo_at, aligned_amo, amo}
+use Rattle.rv_traps.specs.declared.registers.CsrRegisters.{CsrRegisters}
+use Rattle.forest_model.specs.System.{operation_of, reads, writes, written_action, write_action, old_action, old_value, csr_access, trap_return}
+use Rattle.forest_model.specs.Execute.{action, execute_group, execute, decoded_action, fetched, fetch_action}
 use Rattle.forest_model.specs.Machine.{Machine, advance, advance_from, applied}
 use Rattle.forest_model.specs.Touch.{page_of, access_page, data_page, code_and_data, touch_decoded, touch_fetch, touch_from, touch}
 use Rattle.forest_model.proofs.Finish.{IsSome-ended}
@@ -63,11 +74,32 @@ begins-access_page ram address false in_ram e = tt
 begins-access_page ram address true false e = tt
 begins-access_page ram address true true e = page_of-begins ram address e
 
+begins-access : (ram : List ℕ) (address width : ℕ) → IfSome (access_page address width ram) (λ page. PAGE_SIZE * page < length ram)
+begins-access ram address width = begins-access_page ram address (eqb (address % width) 0) (is_in_ram ram address) refl
+
+begins-if : (reserved : Bool) (ram : List ℕ) (address : ℕ)
+    → IfSome (cond reserved (access_page address 4 ram) None) (λ page. PAGE_SIZE * page < length ram)
+begins-if false ram address = tt
+begins-if true ram address = begins-access ram address 4
+
 begins-data_page : (group : Group) (i : Instruction) (s : State) → IfSome (data_page group i s) (λ page. PAGE_SIZE * page < length s.ram)
-begins-data_page compute_immediate i s = tt
-begins-data_page store i s =
-    let address : ℕ = data_address i s in
-    begins-access_page s.ram address (eqb (address % length (stored_bytes i s)) 0) (is_in_ram s.ram address) refl
+begins-data_page LoadUpper i s = tt
+begins-data_page AddUpper i s = tt
+begins-data_page Jump i s = tt
+begins-data_page JumpRegister i s = tt
+begins-data_page Branch i s = tt
+begins-data_page Load i s = begins-access s.ram (data_address i s) (load_width i.kind)
+begins-data_page Store i s = begins-access s.ram (data_address i s) (length (stored_bytes i s))
+begins-data_page ComputeImmediate i s = tt
+begins-data_page Compute i s = tt
+begins-data_page Nothing i s = tt
+begins-data_page EnvironmentCall i s = tt
+begins-data_page Breakpoint i s = tt
+begins-data_page TrapReturn i s = tt
+begins-data_page Csr i s = tt
+begins-data_page LoadReserved i s = begins-access s.ram (rs1 i s) 4
+begins-data_page StoreConditional i s = begins-if (is_reserved s.reservation (rs1 i s)) s.ram (rs1 i s)
+begins-data_page Amo i s = begins-access s.ram (rs1 i s) 4
 
 IsPages-both : (ram : List ℕ) (code page : ℕ) (same : Bool) → eqb page code ≡ same → PAGE_SIZE * code < length ram → PAGE_SIZE * page < length ram
     → IsPages ram (cond same (code ∷ []) (code ∷ page ∷ []))
@@ -104,7 +136,7 @@ touch-IsSome m h = let e = IsSome-ended m.ending h in ap (λ ending. touch_from 
 -- RAM after an action
 abbrev ram_after : Action → State → List ℕ
 ram_after (trap cause value) s = s.ram
-ram_after (retire new) s = new.ram
+ram_after (retire wrote new) s = new.ram
 ram_after (exit value new) s = new.ram
 
 -- the action leaves the byte at `at`
@@ -112,12 +144,23 @@ abbrev Leaves : ℕ → State → Action → Type 0
 Leaves at s action = get_or (ram_after action s) at 0 ≡ get_or s.ram at 0
 
 -- a page other than that of an aligned store has none of its bytes
-outside : (width at address : ℕ) → (width ≡ 1) ⊎ (width ≡ 4) → address % width ≡ 0 → RAM_BASE ≤ address → at / PAGE_SIZE ≢ page_of address
+outside : (width at address : ℕ) → (width ≡ 1) ⊎ ((width ≡ 2) ⊎ (width ≡ 4)) → address % width ≡ 0 → RAM_BASE ≤ address → at / PAGE_SIZE ≢ page_of address
     → (at < address - RAM_BASE) ⊎ (address - RAM_BASE + width ≤ at)
 outside width at address (inl one) aligned from_base other = grind arith
-outside width at address (inr four) aligned from_base other =
+outside width at address (inr (inl two)) aligned from_base other =
+    let by_two : address % 2 ≡ 0 = subst (λ w. address % w ≡ 0) two aligned in
+    grind arith
+outside width at address (inr (inr four)) aligned from_base other =
     let by_four : address % 4 ≡ 0 = subst (λ w. address % w ≡ 0) four aligned in
     grind arith
+
+-- bytes that an aligned store puts into RAM leave each byte outside the page of the store
+Leaves-put_bytes : (at address : ℕ) (bytes : List ℕ) (s : State) → is_in_ram s.ram address ≡ true
+    → (length bytes ≡ 1) ⊎ ((length bytes ≡ 2) ⊎ (length bytes ≡ 4)) → address % length bytes ≡ 0 → at / PAGE_SIZE ≢ page_of address
+    → get_or (put_bytes s.ram (address - RAM_BASE) bytes) at 0 ≡ get_or s.ram at 0
+Leaves-put_bytes at address bytes s e widths aligned other =
+    get_or-put_bytes_outside s.ram bytes (address - RAM_BASE) at (grind (arith, nat_tests))
+    (outside (length bytes) at address widths aligned (grind (arith, nat_tests)) other)
 
 ram_after-effect_action : (effect : Effect) (new s : State) → ram_after (effect_action effect new) s ≡ new.ram
 ram_after-effect_action Done new s = refl
@@ -128,36 +171,132 @@ Leaves-port_action at None address s = refl
 Leaves-port_action at (Some stored) address s =
     ap (λ ram. get_or ram at 0) (ram_after-effect_action stored.effect (at_next_instruction (record s { ports = stored.ports })) s)
 
--- a store of one byte or four leaves each byte outside its page
-Leaves-place_action : (at : ℕ) (in_ram : Bool) (address : ℕ) (bytes : List ℕ) (word : ℕ) (s : State) → is_in_ram s.ram address ≡ in_ram
-    → (length bytes ≡ 1) ⊎ (length bytes ≡ 4) → address % length bytes ≡ 0
-    → ((page : ℕ) → cond in_ram (Some (page_of address)) None ≡ Some page → at / PAGE_SIZE ≢ page) → Leaves at s (place_action in_ram address bytes word s)
-Leaves-place_action at false address bytes word s e widths aligned other = Leaves-port_action at (port_store s.ports address (length bytes) word) address s
-Leaves-place_action at true address bytes word s e widths aligned other =
-    get_or-put_bytes_outside s.ram bytes (address - RAM_BASE) at (grind (arith, nat_tests))
-    (outside (length bytes) at address widths aligned (grind (arith, nat_tests)) (other (page_of address) refl))
+-- where the access is to a page, `at` lies in another
+abbrev IsElsewhere : ℕ → Option ℕ → Type 0
+IsElsewhere at page = (p : ℕ) → page ≡ Some p → at / PAGE_SIZE ≢ p
 
-Leaves-aligned_action : (at : ℕ) (aligned : Bool) (address : ℕ) (bytes : List ℕ) (word : ℕ) (s : State) → eqb (address % length bytes) 0 ≡ aligned
-    → (length bytes ≡ 1) ⊎ (length bytes ≡ 4)
-    → ((page : ℕ) → cond (aligned && is_in_ram s.ram address) (Some (page_of address)) None ≡ Some page → at / PAGE_SIZE ≢ page)
-    → Leaves at s (aligned_action aligned address bytes word s)
-Leaves-aligned_action at false address bytes word s e widths other = refl
-Leaves-aligned_action at true address bytes word s e widths other =
-    Leaves-place_action at (is_in_ram s.ram address) address bytes word s refl widths (eqb-true (address % length bytes) 0 e) other
+Leaves-place_store : (at : ℕ) (in_ram : Bool) (address : ℕ) (bytes : List ℕ) (word : ℕ) (s : State) → is_in_ram s.ram address ≡ in_ram
+    → (length bytes ≡ 1) ⊎ ((length bytes ≡ 2) ⊎ (length bytes ≡ 4)) → address % length bytes ≡ 0
+    → IsElsewhere at (cond in_ram (Some (page_of address)) None) → Leaves at s (place_store in_ram address bytes word s)
+Leaves-place_store at false address bytes word s e widths aligned other = Leaves-port_action at (port_store s.ports address (length bytes) word) address s
+Leaves-place_store at true address bytes word s e widths aligned other =
+    Leaves-put_bytes at address bytes s e widths aligned (other (page_of address) refl)
 
-length-store_bytes : (kind : Kind) (value : ℕ) → group_of kind ≡ store → (length (store_bytes kind value) ≡ 1) ⊎ (length (store_bytes kind value) ≡ 4)
-length-store_bytes Lui value h = absurd (cc)
-length-store_bytes Addi value h = absurd (cc)
-length-store_bytes Sb value h = inl refl
-length-store_bytes Sw value h = inr refl
+Leaves-aligned_store : (at : ℕ) (aligned : Bool) (address : ℕ) (bytes : List ℕ) (word : ℕ) (s : State) → eqb (address % length bytes) 0 ≡ aligned
+    → (length bytes ≡ 1) ⊎ ((length bytes ≡ 2) ⊎ (length bytes ≡ 4))
+    → IsElsewhere at (cond (aligned && is_in_ram s.ram address) (Some (page_of address)) None)
+    → Leaves at s (aligned_store aligned address bytes word s)
+Leaves-aligned_store at false address bytes word s e widths other = refl
+Leaves-aligned_store at true address bytes word s e widths other =
+    Leaves-place_store at (is_in_ram s.ram address) address bytes word s refl widths (eqb-true (address % length bytes) 0 e) other
 
-Leaves-execute_group : (at : ℕ) (group : Group) (i : Instruction) (s : State) → group_of i.kind ≡ group
-    → ((page : ℕ) → data_page group i s ≡ Some page → at / PAGE_SIZE ≢ page) → Leaves at s (execute_group group i s)
-unfolding computed_immediate stored store_action
-Leaves-execute_group at compute_immediate i s e other = refl
-Leaves-execute_group at store i s e other =
-    Leaves-aligned_action at (eqb (data_address i s % length (stored_bytes i s)) 0) (data_address i s) (stored_bytes i s) (register s.registers i.rs2) s refl
-    (length-store_bytes i.kind (register s.registers i.rs2) e) other
+-- no load changes RAM
+Leaves-read_action : (at : ℕ) (answer : Option Read) (i : Instruction) (address : ℕ) (s : State) → Leaves at s (read_action answer i address s)
+Leaves-read_action at None i address s = refl
+Leaves-read_action at (Some read) i address s = refl
+
+Leaves-place_load : (at : ℕ) (in_ram : Bool) (i : Instruction) (address : ℕ) (s : State) → Leaves at s (place_load in_ram i address s)
+Leaves-place_load at true i address s = refl
+Leaves-place_load at false i address s = Leaves-read_action at (port_load s.ports address (load_width i.kind)) i address s
+
+Leaves-aligned_load : (at : ℕ) (aligned : Bool) (i : Instruction) (address : ℕ) (s : State) → Leaves at s (aligned_load aligned i address s)
+Leaves-aligned_load at false i address s = refl
+Leaves-aligned_load at true i address s = Leaves-place_load at (is_in_ram s.ram address) i address s
+
+Leaves-aligned_jump : (at : ℕ) (aligned : Bool) (target : ℕ) (new s : State) → get_or new.ram at 0 ≡ get_or s.ram at 0 → Leaves at s (aligned_jump aligned target new)
+Leaves-aligned_jump at false target new s e = refl
+Leaves-aligned_jump at true target new s e = e
+
+Leaves-branch_by : (at : ℕ) (taken : Bool) (i : Instruction) (s : State) → Leaves at s (branch_by taken i s)
+Leaves-branch_by at false i s = refl
+Leaves-branch_by at true i s = Leaves-aligned_jump at (eqb (relative i s % 4) 0) (relative i s) s s refl
+
+Leaves-reserve_at : (at : ℕ) (in_ram : Bool) (i : Instruction) (address : ℕ) (s : State) → Leaves at s (reserve_at in_ram i address s)
+Leaves-reserve_at at false i address s = refl
+Leaves-reserve_at at true i address s = refl
+
+Leaves-aligned_reserve : (at : ℕ) (aligned : Bool) (i : Instruction) (address : ℕ) (s : State) → Leaves at s (aligned_reserve aligned i address s)
+Leaves-aligned_reserve at false i address s = refl
+Leaves-aligned_reserve at true i address s = Leaves-reserve_at at (is_in_ram s.ram address) i address s
+
+Leaves-conditional_action : (at : ℕ) (reserved : Bool) (i : Instruction) (address : ℕ) (s : State) → is_in_ram s.ram address ≡ true → address % 4 ≡ 0
+    → IsElsewhere at (cond reserved (Some (page_of address)) None) → Leaves at s (conditional_action reserved i address s)
+Leaves-conditional_action at false i address s e aligned other = refl
+Leaves-conditional_action at true i address s e aligned other =
+    Leaves-put_bytes at address (to_le_bytes w32 (rs2 i s)) s e (inr (inr refl)) aligned (other (page_of address) refl)
+
+Leaves-conditional_at : (at : ℕ) (in_ram : Bool) (i : Instruction) (address : ℕ) (s : State) → is_in_ram s.ram address ≡ in_ram → address % 4 ≡ 0
+    → IsElsewhere at (cond (is_reserved s.reservation address) (cond in_ram (Some (page_of address)) None) None)
+    → Leaves at s (conditional_at in_ram i address s)
+Leaves-conditional_at at false i address s e aligned other = refl
+Leaves-conditional_at at true i address s e aligned other =
+    Leaves-conditional_action at (is_reserved s.reservation address) i address s e aligned other
+
+Leaves-aligned_conditional : (at : ℕ) (aligned : Bool) (i : Instruction) (address : ℕ) (s : State) → eqb (address % 4) 0 ≡ aligned
+    → IsElsewhere at (cond (is_reserved s.reservation address) (cond (aligned && is_in_ram s.ram address) (Some (page_of address)) None) None)
+    → Leaves at s (aligned_conditional aligned i address s)
+Leaves-aligned_conditional at false i address s e other = refl
+Leaves-aligned_conditional at true i address s e other =
+    Leaves-conditional_at at (is_in_ram s.ram address) i address s refl (eqb-true (address % 4) 0 e) other
+
+Leaves-amo_at : (at : ℕ) (in_ram : Bool) (i : Instruction) (address : ℕ) (s : State) → is_in_ram s.ram address ≡ in_ram → address % 4 ≡ 0
+    → IsElsewhere at (cond in_ram (Some (page_of address)) None) → Leaves at s (amo_at in_ram i address s)
+Leaves-amo_at at false i address s e aligned other = refl
+Leaves-amo_at at true i address s e aligned other =
+    Leaves-put_bytes at address (to_le_bytes w32 _) s e (inr (inr refl)) aligned (other (page_of address) refl)
+
+Leaves-aligned_amo : (at : ℕ) (aligned : Bool) (i : Instruction) (address : ℕ) (s : State) → eqb (address % 4) 0 ≡ aligned
+    → IsElsewhere at (cond (aligned && is_in_ram s.ram address) (Some (page_of address)) None) → Leaves at s (aligned_amo aligned i address s)
+Leaves-aligned_amo at false i address s e other = refl
+Leaves-aligned_amo at true i address s e other = Leaves-amo_at at (is_in_ram s.ram address) i address s refl (eqb-true (address % 4) 0 e) other
+
+store_lengths : (kind : Kind) (value : ℕ) → group_of kind ≡ Store
+    → (length (store_bytes kind value) ≡ 1) ⊎ ((length (store_bytes kind value) ≡ 2) ⊎ (length (store_bytes kind value) ≡ 4))
+unfolding group_of
+store_lengths Sb value h = inl refl
+store_lengths Sh value h = inr (inl refl)
+store_lengths Sw value h = inr (inr refl)
+store_lengths _ value h = absurd (cc)
+
+-- no access to a control and status register changes RAM
+Leaves-written_action : (at : ℕ) (csrs : Option CsrRegisters) (old : ℕ) (i : Instruction) (word : ℕ) (s : State) → Leaves at s (written_action csrs old i word s)
+Leaves-written_action at None old i word s = refl
+Leaves-written_action at (Some csrs) old i word s = refl
+
+Leaves-write_action : (at : ℕ) (writes : Bool) (old : ℕ) (i : Instruction) (word : ℕ) (s : State) → Leaves at s (write_action writes old i word s)
+Leaves-write_action at false old i word s = refl
+Leaves-write_action at true old i word s = Leaves-written_action at _ old i word s
+
+Leaves-old_action : (at : ℕ) (old : Option ℕ) (i : Instruction) (word : ℕ) (s : State) → Leaves at s (old_action old i word s)
+Leaves-old_action at None i word s = refl
+Leaves-old_action at (Some old) i word s = Leaves-write_action at (writes (operation_of i.kind) i) old i word s
+
+length-stored_bytes : (i : Instruction) (s : State) → group_of i.kind ≡ Store
+    → (length (stored_bytes i s) ≡ 1) ⊎ ((length (stored_bytes i s) ≡ 2) ⊎ (length (stored_bytes i s) ≡ 4))
+length-stored_bytes i s h = store_lengths i.kind (rs2 i s) h
+
+Leaves-execute_group : (at : ℕ) (group : Group) (i : Instruction) (word : ℕ) (s : State) → group_of i.kind ≡ group
+    → IsElsewhere at (data_page group i s) → Leaves at s (execute_group group i word s)
+unfolding load_upper add_upper compute_immediate compute jump jump_register branch load store store_action load_reserved store_conditional amo csr_access trap_return
+Leaves-execute_group at LoadUpper i word s e other = refl
+Leaves-execute_group at AddUpper i word s e other = refl
+Leaves-execute_group at Jump i word s e other = Leaves-aligned_jump at (eqb (relative i s % 4) 0) (relative i s) (linked i s) s refl
+Leaves-execute_group at JumpRegister i word s e other = Leaves-aligned_jump at _ _ (linked i s) s refl
+Leaves-execute_group at Branch i word s e other = Leaves-branch_by at _ i s
+Leaves-execute_group at Load i word s e other = Leaves-aligned_load at (is_aligned (data_address i s) (load_width i.kind)) i (data_address i s) s
+Leaves-execute_group at Store i word s e other =
+    Leaves-aligned_store at (is_aligned (data_address i s) (length (stored_bytes i s))) (data_address i s) (stored_bytes i s) (rs2 i s) s refl
+    (length-stored_bytes i s e) other
+Leaves-execute_group at ComputeImmediate i word s e other = refl
+Leaves-execute_group at Compute i word s e other = refl
+Leaves-execute_group at Nothing i word s e other = refl
+Leaves-execute_group at EnvironmentCall i word s e other = refl
+Leaves-execute_group at Breakpoint i word s e other = refl
+Leaves-execute_group at TrapReturn i word s e other = refl
+Leaves-execute_group at Csr i word s e other = Leaves-old_action at (old_value (reads (operation_of i.kind) i) i s) i word s
+Leaves-execute_group at LoadReserved i word s e other = Leaves-aligned_reserve at (is_aligned (rs1 i s) 4) i (rs1 i s) s
+Leaves-execute_group at StoreConditional i word s e other = Leaves-aligned_conditional at (is_aligned (rs1 i s) 4) i (rs1 i s) s refl other
+Leaves-execute_group at Amo i word s e other = Leaves-aligned_amo at (is_aligned (rs1 i s) 4) i (rs1 i s) s refl other
 
 Contains-both : (code page : ℕ) (same : Bool) → eqb page code ≡ same → Contains (cond same (code ∷ []) (code ∷ page ∷ [])) page
 Contains-both code page true e = (0, omega arith, sym (eqb-true page code e))
@@ -169,7 +308,7 @@ unfolding execute
 Leaves-decoded at None word s not_touched = refl
 Leaves-decoded at (Some i) word s not_touched =
     let code : ℕ = page_of s.pc in
-    Leaves-execute_group at (group_of i.kind) i s refl (λ page e same.
+    Leaves-execute_group at (group_of i.kind) i word s refl (λ page e same.
     let listed : Contains (code_and_data code (Some page)) page = Contains-both code page (eqb page code) refl in
     not_touched (subst (λ p. Contains (code_and_data code p) (at / PAGE_SIZE)) (sym e) (subst (Contains (code_and_data code (Some page))) (sym same) listed)))
 
@@ -183,7 +322,7 @@ Leaves-action at s not_touched = Leaves-fetch at (is_in_ram s.ram s.pc) s not_to
 
 ram-applied : (a : Action) (m : Machine) → (applied a m).state.ram ≡ ram_after a m.state
 ram-applied (trap cause value) m = refl
-ram-applied (retire s) m = refl
+ram-applied (retire wrote s) m = refl
 ram-applied (exit value s) m = refl
 
 advance_from-leaves : (at : ℕ) (ending : Option Ending) (m : Machine) → (Contains (touch_from ending m.state) (at / PAGE_SIZE) → ⊥)

@@ -1,12 +1,18 @@
--- A machine counts its steps, and ends by its own EXIT, by an exception or by its limit.
-use Rattle.std.specs.Prelude.{◌≡◌, ℕ, ◌<◌, zero, suc, ◌+◌, ◌-◌, ◌==◌, if◌then◌else◌, List, replicate, Option, Some, None}
+-- A machine counts its steps, and ends by its own EXIT or by its limit.
+use Rattle.std.specs.Prelude.{◌≡◌, ℕ, Bool, true, false, ◌<◌, zero, suc, ◌+◌, ◌-◌, ◌==◌, if◌then◌else◌, List, replicate, Option, Some, None}
 use Rattle.elf_load.specs.Image.{Image}
 use Rattle.forest_model.specs.declared.Ending.{Ending}
-use Rattle.forest_model.specs.declared.Ending.TheVariants.{Exit, Limit, Fault}
+use Rattle.forest_model.specs.declared.Ending.TheVariants.{Exit, Limit}
 use Rattle.forest_model.specs.declared.Options.{Options}
+use Rattle.rv_traps.specs.declared.counter.Wrote.{Wrote}
+use Rattle.rv_traps.specs.declared.counter.Wrote.TheVariants.{Nothing}
+use Rattle.rv_traps.specs.Registers.{at_reset}
+use Rattle.rv_traps.specs.Counters.{counted}
+use Rattle.rv_traps.specs.Trap as csr
 use Rattle.forest_model.specs.Ports.{ports_at_start}
 use Rattle.forest_model.specs.State.{State}
-use Rattle.forest_model.specs.Action.{Action, trap, retire, exit, action}
+use Rattle.forest_model.specs.Action.{Action, trap, retire, exit}
+use Rattle.forest_model.specs.Execute.{action}
 
 pub record Machine : Type 0 where
   pub state : State
@@ -27,7 +33,7 @@ pub data Next : Type 0 where
 
 abbrev pub next_of : Action → Next
 next_of (trap cause value) = exception cause value
-next_of (retire s) = plain
+next_of (retire wrote s) = plain
 next_of (exit value s) = plain
 
 abbrev pub next : Machine → Next
@@ -41,10 +47,18 @@ limited s m = record { state = s; steps = m.steps + 1; limit = m.limit; ending =
 abbrev pub ended : State → Ending → Machine → Machine
 ended s ending m = record { state = s; steps = m.steps + 1; limit = m.limit; ending = Some ending }
 
+-- the state after a trap: its registers tell of it, control goes to the handler, and nothing is reserved
+abbrev pub trapped : ℕ → ℕ → State → State
+trapped cause value s = record s { csrs = csr.trap s.csrs cause value s.pc; pc = csr.handler s.csrs cause; reservation = None }
+
+-- the counters after a step, which retired an instruction or did not, and wrote a half of a counter or none
+abbrev pub count : Bool → Wrote → State → State
+count retired wrote s = record s { csrs = counted s.csrs retired wrote }
+
 abbrev pub applied : Action → Machine → Machine
-applied (trap cause value) m = ended m.state (Fault cause) m
-applied (retire s) m = limited s m
-applied (exit value s) m = ended s (Exit value) m
+applied (trap cause value) m = limited (count false Nothing (trapped cause value m.state)) m
+applied (retire wrote s) m = limited (count true wrote s) m
+applied (exit value s) m = ended (count true Nothing s) (Exit value) m
 
 abbrev pub advance_from : Option Ending → Machine → Machine
 advance_from None m = applied (action m.state) m
@@ -72,6 +86,8 @@ boot image options = record {
   state = record {
     registers = registers_at_start;
     pc = image.entry;
+    csrs = at_reset;
+    reservation = None;
     ram = image.ram;
     ports = ports_at_start;
   };

@@ -72,3 +72,12 @@ store_at at_no_port ports width word = None
 -- a store of the low `width` bytes of a word
 unfoldable pub port_store : PortRegisters → ℕ → ℕ → ℕ → Option Stored
 port_store ports address width word = store_at (place_of address) ports width word
+
+-- the number that a load gives, and the ports after it
+pub record Read : Type 0 where
+  pub ports : PortRegisters
+  pub value : ℕ
+
+-- a load of `width` bytes: no port gives one yet
+unfoldable pub port_load : PortRegisters → ℕ → ℕ → Option Read
+port_load ports address width = None

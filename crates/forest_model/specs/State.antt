@@ -1,12 +1,16 @@
 -- What an instruction sees of a machine.
-use Rattle.std.specs.Prelude.{ℕ, ◌+◌, ◌-◌, ◌/◌, ◌%◌, ◌^◌, ◌==◌, ◌&&◌, Bool, nat_lt, nat_le, if◌then◌else◌, List, length, slice_index, slice_set}
+use Rattle.std.specs.Prelude.{ℕ, ◌+◌, ◌-◌, ◌/◌, ◌%◌, ◌^◌, ◌==◌, ◌&&◌, Bool, false, nat_lt, nat_le, if◌then◌else◌, List, length, slice_index, slice_set, Option}
 use Rattle.elf_load.specs.declared.image.TheConstants.{RAM_BASE}
+use Rattle.rv_traps.specs.declared.registers.CsrRegisters.{CsrRegisters}
 use Rattle.forest_model.specs.Ports.{PortRegisters}
 
 pub record State : Type 0 where
   -- x0 to x31, of which x0 reads 0
   pub registers : List ℕ
   pub pc : ℕ
+  pub csrs : CsrRegisters
+  -- the address of the word that LR reserved, if any
+  pub reservation : Option ℕ
   pub ram : List ℕ
   pub ports : PortRegisters
 
@@ -22,3 +26,7 @@ with_register registers number value = if number == 0 then registers else slice_
 -- the state that goes on at the next instruction
 abbrev pub at_next_instruction : State → State
 at_next_instruction s = record s { pc = (s.pc + 4) % 2 ^ 32 }
+
+-- the timer is due: there is none yet
+abbrev pub is_timer_due : State → Bool
+is_timer_due s = false

@@ -5,9 +5,15 @@ use Rattle.elf_load.specs.declared.image.TheConstants.{RAM_BASE, PAGE_SIZE}
 use Rattle.rv_decode.specs.Instruction.{Instruction}
 use Rattle.rv_decode.specs.Table.{decoded}
 use Rattle.forest_model.specs.declared.Ending.{Ending}
-use Rattle.forest_model.specs.Operation.{Group, compute_immediate, store, group_of}
+use Rattle.rv_decode.specs.declared.kinds.Group.{Group}
+use Rattle.rv_decode.specs.declared.kinds.Group.TheVariants.{LoadUpper, AddUpper, Jump, JumpRegister, Branch, Load, Store, ComputeImmediate, Compute, Nothing, EnvironmentCall, Breakpoint, TrapReturn, Csr, LoadReserved, StoreConditional, Amo}
+use Rattle.rv_decode.specs.Kinds.{group_of}
+use Rattle.rv_exec.specs.Memory.{load_width}
 use Rattle.forest_model.specs.State.{State, is_in_ram}
-use Rattle.forest_model.specs.Action.{data_address, stored_bytes, fetched}
+use Rattle.forest_model.specs.Action.{rs1}
+use Rattle.forest_model.specs.Memory.{data_address, stored_bytes}
+use Rattle.forest_model.specs.Atomic.{is_reserved}
+use Rattle.forest_model.specs.Execute.{fetched}
 use Rattle.forest_model.specs.Machine.{Machine}
 
 abbrev pub page_of : ℕ → ℕ
@@ -20,8 +26,23 @@ access_page address width ram =
 
 -- the page that an instruction reads or writes
 abbrev pub data_page : Group → Instruction → State → Option ℕ
-data_page compute_immediate i s = None
-data_page store i s = access_page (data_address i s) (length (stored_bytes i s)) s.ram
+data_page Load i s = access_page (data_address i s) (load_width i.kind) s.ram
+data_page Store i s = access_page (data_address i s) (length (stored_bytes i s)) s.ram
+data_page LoadReserved i s = access_page (rs1 i s) 4 s.ram
+data_page StoreConditional i s = if is_reserved s.reservation (rs1 i s) then access_page (rs1 i s) 4 s.ram else None
+data_page Amo i s = access_page (rs1 i s) 4 s.ram
+data_page LoadUpper i s = None
+data_page AddUpper i s = None
+data_page Jump i s = None
+data_page JumpRegister i s = None
+data_page Branch i s = None
+data_page ComputeImmediate i s = None
+data_page Compute i s = None
+data_page Nothing i s = None
+data_page EnvironmentCall i s = None
+data_page Breakpoint i s = None
+data_page TrapReturn i s = None
+data_page Csr i s = None
 
 -- one page is listed once
 abbrev pub code_and_data : ℕ → Option ℕ → List ℕ

@@ -1,11 +1,11 @@
 //! Laws of the definitions, each the contract of a function that does nothing.
 
-ghost use Rattle.std.specs.Prelude.{◌≡◌, ◌≢◌, ℕ, ◌+◌, ◌*◌, ◌/◌, ◌<◌, ◌≤◌, [], length, slice_index, Some, None, IsSome, All, AllPairs, Contains};
-ghost use Rattle.forest_model.specs.Machine.{Machine, IsWithinLimit, exception, next, advance, after_steps, finish};
+ghost use Rattle.std.specs.Prelude.{◌≡◌, ◌≢◌, ℕ, false, ◌+◌, ◌*◌, ◌/◌, ◌<◌, ◌≤◌, [], length, slice_index, Some, None, IsSome, All, AllPairs, Contains};
+ghost use Rattle.forest_model.specs.Machine.{Machine, IsWithinLimit, exception, next, limited, count, trapped, advance, after_steps, finish};
 ghost use Rattle.forest_model.specs.Touch.{touch};
 
-use crate::Ending;
 use elf_load::PAGE_SIZE;
+use rv_traps::Wrote;
 
 /// A step of a live machine is counted, none moves the limit, and a machine that has ended stays.
 pub fn advance_counts()
@@ -15,13 +15,11 @@ pub fn advance_counts()
     ensures ended { (m : Machine) → IsSome m.ending → advance m ≡ m }
 {}
 
-/// A step of a live machine that is an exception is counted and ends the machine by it, also where it
-/// reaches the limit, and changes nothing else. No other step does so.
-pub fn exception_ends()
-    ensures exception { (m : Machine) (cause value : ℕ) → m.ending ≡ None → next m ≡ exception cause value
-        → advance m ≡ record m { steps = m.steps + 1; ending = Some (Ending.Fault cause) } }
-    ensures no_other { (m : Machine) (cause : ℕ) → m.ending ≡ None → (advance m).ending ≡ Some (Ending.Fault cause)
-        → (value : ℕ) × (next m ≡ exception cause value) }
+/// A step of a live machine that is an exception is counted and goes to the handler, and changes
+/// nothing but what a trap changes.
+pub fn exception_traps()
+    ensures { (m : Machine) (cause value : ℕ) → m.ending ≡ None → next m ≡ exception cause value
+        → advance m ≡ limited (count false Wrote.Nothing (trapped cause value m.state)) m }
 {}
 
 /// A machine run to its end is itself where it has ended, and else what its next step leads to. It

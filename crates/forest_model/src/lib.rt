@@ -13,8 +13,6 @@ pub enum Ending {
     Exit(u32),
     /// By the limit of its steps.
     Limit,
-    /// By an exception, with its cause (RISC-V Privileged ISA 20211203, section 3.1.15).
-    Fault(u32),
 }
 
 /// What a store to a port does to the machine beside the port's own registers.
@@ -23,6 +21,17 @@ pub enum Effect {
     Done,
     /// The machine ends with this value.
     Exit(u32),
+}
+
+/// What an access to a control and status register does with its operand.
+#[derive(Clone, Copy, Debug, PartialEq, Eq)]
+pub enum CsrOperation {
+    /// The register becomes the operand.
+    Write,
+    /// The bits of the operand are set.
+    SetBits,
+    /// The bits of the operand are cleared.
+    ClearBits,
 }
 
 /// What a machine is started with.

@@ -1,45 +1,9 @@
-ghost use Rattle.std.specs.Prelude.{◌≡◌, ◌<◌, SomeIff};
-ghost use Rattle.rv_decode.specs.Instruction.{format_of};
+ghost use Rattle.std.specs.Prelude.{◌≡◌, ◌<◌, ◌↔◌, IsTrue, SomeIff};
+ghost use Rattle.rv_decode.specs.Kinds.{format_of};
+ghost use Rattle.rv_decode.specs.Instruction.{Instruction, IsInFormat, IsInstruction};
 
+use crate::kinds::{Format, Kind};
 use std::marker::Model;
-
-/// What an instruction does, by its name in the RISC-V Unprivileged ISA 20191213.
-#[derive(Clone, Copy, Debug, PartialEq, Eq)]
-pub enum Kind {
-    /// Load upper immediate.
-    Lui,
-    /// Add immediate.
-    Addi,
-    /// Store byte.
-    Sb,
-    /// Store word.
-    Sw,
-}
-
-/// How the fields of an instruction lie in its word (sections 2.2 and 2.3).
-#[derive(Clone, Copy, Debug, PartialEq, Eq)]
-pub enum Format {
-    /// `rd` and an immediate of the upper 20 bits.
-    U,
-    /// `rd`, `rs1` and a signed immediate of 12 bits.
-    I,
-    /// `rs1`, `rs2` and a signed immediate of 12 bits.
-    S,
-}
-
-impl Kind {
-    /// The format of this kind's words.
-    #[inline]
-    pub fn format(self) -> Format
-        ensures { result ≡ format_of self }
-    {
-        match self {
-            Kind::Lui => Format::U,
-            Kind::Addi => Format::I,
-            Kind::Sb | Kind::Sw => Format::S,
-        }
-    }
-}
 
 /// An instruction: its kind, its registers from 0 to 31, and its immediate. Each field is in the
 /// range of the kind's format, and 0 where the format lacks it.
@@ -65,20 +29,13 @@ impl Model for Instr {
 }
 
 impl Instr {
-    ghost use Rattle.rv_decode.specs.Instruction.{Instruction, IsInstruction};
-
     /// The instruction with these fields, or `None` exactly where a field is out of its format's
     /// range, or one that the format lacks is not 0.
     pub fn new(kind: Kind, rd: u32, rs1: u32, rs2: u32, imm: i32) -> Option<Instr>
         ensures { let fields : Instruction = record { kind = kind; rd = rd; rs1 = rs1; rs2 = rs2; imm = imm }
             in SomeIff result (IsInstruction fields) fields }
     {
-        let is_in_format = match kind.format() {
-            Format::U => rd < 32 && rs1 == 0 && rs2 == 0 && imm.cast_unsigned() % 4096 == 0,
-            Format::I => rd < 32 && rs1 < 32 && rs2 == 0 && (-2048..2048).contains(&imm),
-            Format::S => rd == 0 && rs1 < 32 && rs2 < 32 && (-2048..2048).contains(&imm),
-        };
-        if is_in_format {
+        if is_instruction(kind, rd, rs1, rs2, imm) {
             Some(Instr {
                 kind,
                 rd: rd as u8,
@@ -96,6 +53,15 @@ impl Instr {
         ensures { result ≡ self.kind }
     {
         self.kind
+    }
+
+    /// The format of this kind's words, in whose ranges the fields are.
+    #[inline]
+    pub fn format(self) -> Format
+        ensures value { result ≡ format_of self.kind }
+        ensures fields { IsInFormat result self }
+    {
+        self.kind.format()
     }
 
     /// The register that is written, 0 where there is none.
@@ -134,32 +100,100 @@ impl Instr {
     }
 }
 
+/// Whether each field is in the range of the kind's format, and 0 where the format lacks it.
+fn is_instruction(kind: Kind, rd: u32, rs1: u32, rs2: u32, imm: i32) -> bool
+    ensures fields { let fields : Instruction = record { kind = kind; rd = rd; rs1 = rs1; rs2 = rs2; imm = imm }
+        in IsTrue result ↔ IsInstruction fields }
+    ensures registers { IsTrue result → (rd < 32) × (rs1 < 32) × (rs2 < 32) }
+{
+    match kind.format() {
+        Format::U => rd < 32 && rs1 == 0 && rs2 == 0 && imm.cast_unsigned() % 4096 == 0,
+        Format::J => {
+            rd < 32
+                && rs1 == 0
+                && rs2 == 0
+                && (-0x10_0000..0x10_0000).contains(&imm)
+                && imm.cast_unsigned() % 2 == 0
+        }
+        Format::B => {
+            rd == 0
+                && rs1 < 32
+                && rs2 < 32
+                && (-0x1000..0x1000).contains(&imm)
+                && imm.cast_unsigned() % 2 == 0
+        }
+        Format::I => rd < 32 && rs1 < 32 && rs2 == 0 && (-0x800..0x800).contains(&imm),
+        Format::S => rd == 0 && rs1 < 32 && rs2 < 32 && (-0x800..0x800).contains(&imm),
+        Format::Shift => rd < 32 && rs1 < 32 && rs2 == 0 && (0..32).contains(&imm),
+        Format::Csr => rd < 32 && rs1 < 32 && rs2 == 0 && (0..0x1000).contains(&imm),
+        Format::R => rd < 32 && rs1 < 32 && rs2 < 32 && imm == 0,
+        Format::Lr => rd < 32 && rs1 < 32 && rs2 == 0 && imm == 0,
+        Format::Bare => rd == 0 && rs1 == 0 && rs2 == 0 && imm == 0,
+    }
+}
+
 #[cfg(test)]
 mod tests {
     use super::*;
 
     #[test]
     fn takes_fields_in_range(rt: HostRuntime) {
-        let cases = [
-            (Kind::Lui, 31, 0, 0, 0x7fff_f000, true),
-            (Kind::Lui, 31, 0, 0, i32::MIN, true),
-            (Kind::Lui, 32, 0, 0, 0, false),
-            (Kind::Lui, 5, 1, 0, 0, false),
-            (Kind::Lui, 5, 0, 0, 1, false),
-            (Kind::Addi, 31, 31, 0, 2047, true),
-            (Kind::Addi, 31, 31, 0, -2048, true),
-            (Kind::Addi, 1, 0, 1, 0, false),
-            (Kind::Addi, 1, 32, 0, 0, false),
-            (Kind::Addi, 1, 0, 0, 2048, false),
-            (Kind::Sb, 0, 31, 31, -2048, true),
-            (Kind::Sb, 0, 0, 0, -2049, false),
-            (Kind::Sw, 0, 31, 31, 2047, true),
-            (Kind::Sw, 1, 5, 6, 8, false),
-            (Kind::Sw, 0, 5, 32, 8, false),
+        let taken = [
+            (Kind::Lui, 31, 0, 0, 0x7fff_f000),
+            (Kind::Auipc, 0, 0, 0, i32::MIN),
+            (Kind::Jal, 31, 0, 0, 0xf_fffe),
+            (Kind::Jal, 0, 0, 0, -0x10_0000),
+            (Kind::Bne, 0, 31, 31, 0xffe),
+            (Kind::Beq, 0, 0, 0, -0x1000),
+            (Kind::Jalr, 31, 31, 0, 2047),
+            (Kind::Addi, 31, 31, 0, -2048),
+            (Kind::Sb, 0, 31, 31, -2048),
+            (Kind::Sw, 0, 31, 31, 2047),
+            (Kind::Srai, 31, 31, 0, 31),
+            (Kind::Csrrwi, 31, 31, 0, 0xfff),
+            (Kind::Mulhsu, 31, 31, 31, 0),
+            (Kind::AmomaxuW, 31, 31, 31, 0),
+            (Kind::LrW, 31, 31, 0, 0),
+            (Kind::Fence, 0, 0, 0, 0),
         ];
-        for (kind, rd, rs1, rs2, imm, want) in cases {
+        for (kind, rd, rs1, rs2, imm) in taken {
             let made = Instr::new(kind, rd, rs1, rs2, imm);
-            assert_eq!(rt; made.is_some(), want, "{kind:?} {rd} {rs1} {rs2} {imm}");
+            assert!(rt; made.is_some(), "{kind:?} {rd} {rs1} {rs2} {imm}");
+        }
+    }
+
+    #[test]
+    fn refuses_fields_out_of_range(rt: HostRuntime) {
+        let refused = [
+            (Kind::Lui, 32, 0, 0, 0),
+            (Kind::Lui, 5, 1, 0, 0),
+            (Kind::Lui, 5, 0, 0, 1),
+            (Kind::Jal, 1, 0, 0, 3),
+            (Kind::Jal, 1, 0, 0, 0x10_0000),
+            (Kind::Bne, 1, 2, 3, 8),
+            (Kind::Bne, 0, 2, 3, 5),
+            (Kind::Bne, 0, 2, 3, 0x1000),
+            (Kind::Bne, 0, 2, 3, -0x1002),
+            (Kind::Addi, 1, 0, 1, 0),
+            (Kind::Addi, 1, 32, 0, 0),
+            (Kind::Addi, 1, 0, 0, 2048),
+            (Kind::Sb, 0, 0, 0, -2049),
+            (Kind::Sw, 1, 5, 6, 8),
+            (Kind::Sw, 0, 5, 32, 8),
+            (Kind::Slli, 1, 2, 0, 32),
+            (Kind::Slli, 1, 2, 0, -1),
+            (Kind::Csrrw, 1, 2, 0, 0x1000),
+            (Kind::Csrrs, 1, 2, 0, -1),
+            (Kind::Csrrsi, 1, 32, 0, 0x300),
+            (Kind::Add, 1, 2, 3, 1),
+            (Kind::ScW, 1, 2, 32, 0),
+            (Kind::LrW, 1, 2, 3, 0),
+            (Kind::Wfi, 1, 0, 0, 0),
+            (Kind::Ecall, 0, 0, 0, 1),
+        ];
+        for (kind, rd, rs1, rs2, imm) in refused {
+            let made = Instr::new(kind, rd, rs1, rs2, imm);
+            assert!(rt; made.is_none(), "{kind:?} {rd} {rs1} {rs2} {imm}");
         }
     }
 }

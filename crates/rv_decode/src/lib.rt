@@ -2,8 +2,12 @@
 #![tactic(auto)]
 
 mod decoder;
+mod fields;
 mod instruction;
+mod kinds;
 pub mod laws;
+mod opcodes;
 
 pub use decoder::decode;
-pub use instruction::{Format, Instr, Kind};
+pub use instruction::Instr;
+pub use kinds::{Format, Group, Kind};

@@ -1,2 +1,2 @@
-pub mod Gone
 pub mod Told
+pub mod Meanings

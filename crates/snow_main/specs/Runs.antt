@@ -1,7 +1,7 @@
 -- How the inner calls of `snow` end, over the text that the shelf tells (none where it tells none).
 use Rattle.std.specs.Prelude.{◌≡◌, ℕ, List, Option, Result, Ok, Err, IfSome, IsOkAnd}
-use Rattle.snow_main.specs.Outside.{appended, IsPrefixGone}
-use Rattle.snow_main.specs.Report.{Ended, report_of}
+use Rattle.io_edge.specs.Outside.{appended, IsPrefixGone}
+use Rattle.run_report.specs.Report.{Ended, report_of}
 use Rattle.snow_main.specs.Text.{Refusal, image_refused}
 use Rattle.snow_main.specs.declared.program.Stop.{Stop}
 use Rattle.snow_main.specs.declared.program.Stop.TheVariants.{ReadFault, Refused, WriteFault, Memory}

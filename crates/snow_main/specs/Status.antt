@@ -1,6 +1,6 @@
 -- What the codes of `snow` say, over the files that the shelf tells (none where it tells none).
 use Rattle.std.specs.Prelude.{◌≡◌, ℕ, ◌⊎◌, List, Option, Result, Ok, Err, IfSome, IsOkAnd}
-use Rattle.snow_main.specs.Outside.{appended, IsPrefixGone}
+use Rattle.io_edge.specs.Outside.{appended, IsPrefixGone}
 use Rattle.snow_main.specs.Text.{Files, Refusal, no_meaning, no_file, image_refused, text}
 use Rattle.snow_main.specs.declared.program.Status.{Status}
 
@@ -21,7 +21,7 @@ IsRefused files words number = IfSome files (λ told. text words told ≡ Err (i
 abbrev pub CallsFor : Result (List ℕ) Refusal → Status → Type 0 → Type 0 → Type 0
 CallsFor (Ok bytes) s read_fault write_fault =
     (s.code ≡ 0) ⊎ ((s.code ≡ 6) ⊎ (((s.code ≡ 1) × read_fault) ⊎ ((s.code ≡ 5) × write_fault)))
-CallsFor (Err no_meaning) s read_fault write_fault = s.code ≡ 2
+CallsFor (Err no_meaning) s read_fault write_fault = (s.code ≡ 2) ⊎ (s.code ≡ 6)
 CallsFor (Err no_file) s read_fault write_fault = (s.code ≡ 6) ⊎ ((s.code ≡ 1) × read_fault)
 CallsFor (Err (image_refused number)) s read_fault write_fault =
     ((s.code ≡ 3) × (s.first ≡ number)) ⊎ ((s.code ≡ 6) ⊎ ((s.code ≡ 1) × read_fault))

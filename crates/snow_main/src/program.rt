@@ -3,29 +3,23 @@
 ghost use Rattle.std.specs.Prelude.{◌≡◌, ◌≤◌, ◌↔◌, length, IfOk, None, Some};
 ghost use Rattle.std.specs.Option.{option_map};
 ghost use Rattle.forest_model.specs.Machine.{boot, finish};
-ghost use Rattle.snow_main.specs.Outside.{HasRisen};
-ghost use Rattle.snow_main.specs.Report.{report, report_of};
+ghost use Rattle.io_edge.specs.Outside.{HasRisen};
+ghost use Rattle.run_report.specs.Report.{report, report_of};
 ghost use Rattle.snow_main.specs.Words.{meant, texts};
-ghost use Rattle.snow_main.specs.Text.{default_options, image_text, refused_image, file_text};
+ghost use Rattle.snow_main.specs.Text.{image_text, refused_image, run_text};
 ghost use Rattle.snow_main.specs.Runs.{Loads, Runs, IsSilent};
 ghost use Rattle.snow_main.specs.Status.{IsWritten, IsPrefixOut, IsRefused, Completes, IsStatus};
 
-use crate::outside::{Shelf, ShelfError, Sink};
-use crate::report::{Outcome, ReportError, report_into};
-use crate::words::image_to_run;
+use crate::words::{LEAST_LIMIT, MOST_LIMIT, Run, run_asked};
 use elf_load::{ImageError, Loaded, load_elf};
 use forest_model::Options;
+use io_edge::{Shelf, ShelfError, Sink};
+use run_report::{Name, Outcome, ReportError, report_into};
 use std::alloc::{AllocError, Global};
 use vm_cell::Vm;
 
 /// The most bytes of an image: 16 MiB.
 pub const IMAGE_MOST: usize = 16 * 1024 * 1024;
-
-/// The pages of RAM.
-pub const RAM_PAGES: u32 = 64;
-
-/// The most steps of a machine.
-pub const LIMIT: u64 = 1_000_000;
 
 /// The refusal of an image that is over `IMAGE_MOST` bytes.
 pub const TOO_LONG: u32 = 13;
@@ -80,7 +74,7 @@ pub enum Stop {
     Memory,
 }
 
-/// Runs what the words ask for: `run` and the name of an image.
+/// Does what the words ask for, which leave out the program's own name.
 pub fn snow<R: AllocGlobal, S: Shelf, K: Sink>(
     rt: &R,
     words: &[String],
@@ -91,10 +85,10 @@ pub fn snow<R: AllocGlobal, S: Shelf, K: Sink>(
     // from the image and run to its end.
     ensures written { result.code ≡ 0 → IsWritten (S.files shelf.old) (texts words.now) (K.gone sink.old) (K.gone sink.new) }
 
-    // 1: only where the shelf had a fault. 2: exactly where the words have no meaning. 3: only where the
-    // image is refused, with its number.
+    // 1: only where the shelf had a fault. 2: exactly where the words have no meaning, but that want of
+    // memory may come first. 3: only where the image is refused, with its number.
     ensures read_fault { result.code ≡ 1 → HasRisen (S.faults shelf.old) (S.faults shelf.new) }
-    ensures usage { (result.code ≡ 2) ↔ (meant (texts words.now) ≡ None) }
+    ensures usage { ¬ (result.code ≡ 6) → ((result.code ≡ 2) ↔ (meant (texts words.now) ≡ None)) }
     ensures refused { result.code ≡ 3 → IsRefused (S.files shelf.old) (texts words.now) result.first }
 
     // 5: only where the sink had a fault, and a prefix of the text is out.
@@ -109,31 +103,33 @@ pub fn snow<R: AllocGlobal, S: Shelf, K: Sink>(
         (HasRisen (S.faults shelf.old) (S.faults shelf.new)) (HasRisen (K.faults sink.old) (K.faults sink.new)) }
     ensures status { IsStatus result }
 {
-    let Some(image) = image_to_run(words) else {
-        return Status::new(2, 0);
+    let run = match run_asked(rt.alloc(), words) {
+        Ok(Some(run)) => run,
+        Ok(None) => return Status::USAGE,
+        Err(AllocError) => return Status::OUT_OF_MEMORY,
     };
-    match run_image(rt.alloc(), image, shelf, sink) {
+    match run_image(rt.alloc(), &run, shelf, sink) {
         Ok(()) => Status::new(0, 0),
         Err(Stop::ReadFault) => Status::new(1, 1),
         Err(Stop::Refused(number)) => Status::new(3, number),
         Err(Stop::WriteFault) => Status::new(5, 0),
-        Err(Stop::Memory) => Status::new(6, 0),
+        Err(Stop::Memory) => Status::OUT_OF_MEMORY,
     }
 }
 
-/// Runs the image of a name and writes its report.
+/// Runs an image and writes its report.
 fn run_image<S: Shelf, K: Sink>(
     alloc: Global,
-    name: &str,
+    run: &Run<'_>,
     shelf: &mut S,
     sink: &mut K,
 ) -> Result<(), Stop>
-    ensures runs { Runs result (option_map (λ files. file_text (files name.now)) (S.files shelf.old))
+    ensures runs { Runs result (option_map (run_text run.now) (S.files shelf.old))
         (HasRisen (S.faults shelf.old) (S.faults shelf.new)) (HasRisen (K.faults sink.old) (K.faults sink.new))
         (K.gone sink.old) (K.gone sink.new) }
     ensures silent { IsSilent result (sink.new ≡ sink.old) }
 {
-    let outcome = load_and_run(alloc, name, shelf)?;
+    let outcome = load_and_run(alloc, run, shelf)?;
     match report_into(alloc, &outcome, sink) {
         Ok(()) => Ok(()),
         Err(ReportError::Sink) => Err(Stop::WriteFault),
@@ -141,13 +137,13 @@ fn run_image<S: Shelf, K: Sink>(
     }
 }
 
-/// Loads the image of a name and runs it.
-fn load_and_run<S: Shelf>(alloc: Global, name: &str, shelf: &mut S) -> Result<Outcome, Stop>
-    ensures { Loads result (option_map (λ files. file_text (files name.now)) (S.files shelf.old))
+/// Loads an image and runs it.
+fn load_and_run<S: Shelf>(alloc: Global, run: &Run<'_>, shelf: &mut S) -> Result<Outcome, Stop>
+    ensures { Loads result (option_map (run_text run.now) (S.files shelf.old))
         (HasRisen (S.faults shelf.old) (S.faults shelf.new)) }
 {
-    match shelf.load(alloc, name, IMAGE_MOST) {
-        Ok(bytes) => run_bytes(alloc, &bytes),
+    match shelf.load(alloc, run.image(), IMAGE_MOST) {
+        Ok(bytes) => run_bytes(alloc, &bytes, run),
         Err(ShelfError::Fault) => Err(Stop::ReadFault),
         Err(ShelfError::TooLong) => Err(Stop::Refused(TOO_LONG)),
         Err(ShelfError::Memory) => Err(Stop::Memory),
@@ -156,12 +152,12 @@ fn load_and_run<S: Shelf>(alloc: Global, name: &str, shelf: &mut S) -> Result<Ou
 
 /// Runs an image, which is not too long, to its end.
 #[tactic(auto, unfolding(crate::specs::Text::image_text))]
-fn run_bytes(alloc: Global, bytes: &[u8]) -> Result<Outcome, Stop>
+fn run_bytes(alloc: Global, bytes: &[u8], run: &Run<'_>) -> Result<Outcome, Stop>
     requires { length bytes.now ≤ IMAGE_MOST }
-    ensures { Loads result (Some (refused_image (image_text bytes.now))) ⊥ }
+    ensures { Loads result (Some (refused_image (image_text run.now bytes.now))) ⊥ }
 {
-    match load_elf(alloc, bytes, RAM_PAGES) {
-        Ok(image) => match run_to_end(alloc, &image) {
+    match load_elf(alloc, bytes, run.pages()) {
+        Ok(image) => match run_to_end(alloc, &image, run.limit()) {
             Ok(outcome) => Ok(outcome),
             Err(AllocError) => Err(Stop::Memory),
         },
@@ -170,15 +166,17 @@ fn run_bytes(alloc: Global, bytes: &[u8]) -> Result<Outcome, Stop>
     }
 }
 
-/// Boots a machine from an image and runs it to its end.
-#[tactic(auto, unfolding(crate::specs::Report::report))]
-fn run_to_end(alloc: Global, image: &Loaded) -> Result<Outcome, AllocError>
-    ensures { IfOk result (λ outcome. report (finish (boot image.now default_options)) ≡ report_of outcome) }
+/// Boots a machine from an image and runs it to its end, in at most `limit` steps.
+#[tactic(auto, unfolding(run_report::specs::Report::report))]
+fn run_to_end(alloc: Global, image: &Loaded, limit: u64) -> Result<Outcome, AllocError>
+    requires least { LEAST_LIMIT ≤ limit }
+    requires most { limit ≤ MOST_LIMIT }
+    ensures { IfOk result (λ outcome. report (finish (boot image.now (record { limit = limit }))) ≡ report_of outcome) }
 {
-    let mut vm = Vm::boot(alloc, image, Options { limit: LIMIT })?;
-    vm.run(LIMIT)?;
+    let mut vm = Vm::boot(alloc, image, Options { limit })?;
+    vm.run(limit)?;
     match vm.ended() {
-        Some(ending) => Ok(Outcome::new(ending, vm.steps(), vm.into_output())),
+        Some(ending) => Ok(Outcome::new(Name::root(alloc), ending, vm.steps(), vm.into_output())),
         None => unreachable!(),
     }
 }

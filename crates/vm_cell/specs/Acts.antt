@@ -9,12 +9,12 @@ use Rattle.vm_cell.specs.declared.hart.Acted.TheVariants.{Trapped, Retired, Exit
 -- the answer tells the action, which led from old to new
 abbrev pub Acts : State → State → Action → Result Acted AllocError → Type 0
 Acts old new action (Ok (Trapped cause value)) = (action ≡ trap cause value) × (new ≡ old)
-Acts old new action (Ok Retired) = action ≡ retire new
+Acts old new action (Ok (Retired wrote)) = action ≡ retire wrote new
 Acts old new action (Ok (Exited value)) = action ≡ exit value new
 Acts old new action (Err e) = new ≡ old
 
 -- the action writes to the output
 abbrev pub Grows : Action → State → Type 0
-Grows (retire s) old = length old.ports.console.output < length s.ports.console.output
+Grows (retire wrote s) old = length old.ports.console.output < length s.ports.console.output
 Grows (trap cause value) old = ⊥
 Grows (exit value s) old = ⊥

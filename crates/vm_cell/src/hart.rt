@@ -1,29 +1,36 @@
-ghost use Rattle.std.specs.Prelude.{◌≡◌, ◌<◌, ◌-◌, ◌+◌, ◌%◌, ◌≤◌, ◌↔◌, ◌⊎◌, length, Some, None, IsNone, IfOk, IfSome, OnErr, true, false};
-ghost use Rattle.forest_model.specs.Operation.{group_of, alu, compute_immediate, store};
-ghost use Rattle.forest_model.specs.Ports.{port_store, ports_at_start};
-ghost use Rattle.forest_model.specs.State.{is_in_ram, register, with_register, at_next_instruction};
-ghost use Rattle.forest_model.specs.Action.{retire, action, execute, computed_immediate, stored, store_action, port_action};
-ghost use Rattle.forest_model.specs.Machine.{registers_at_start};
+ghost use Rattle.std.specs.Prelude.{◌≡◌, ◌<◌, ◌-◌, ◌+◌, ◌%◌, ◌≤◌, ◌↔◌, length, IsNone, IfOk, IfSome, OnErr, Ok, None, true, false};
+ghost use Rattle.rv_traps.specs.Registers.{at_reset};
+ghost use Rattle.forest_model.specs.Ports.{ports_at_start};
+ghost use Rattle.forest_model.specs.State.{is_in_ram, register, with_register};
+ghost use Rattle.forest_model.specs.Action.{retire_next, with_rd};
+ghost use Rattle.forest_model.specs.Execute.{action, execute};
+ghost use Rattle.forest_model.specs.Machine.{registers_at_start, trapped, count};
 ghost use Rattle.vm_cell.specs.Acts.{Acts, Grows};
 
-use crate::ports::{PortError, Ports};
+use crate::ports::Ports;
 use elf_load::{Loaded, RAM_BASE};
-use flat_memory::{read_word, write_bytes};
-use forest_model::Effect;
+use flat_memory::read_word;
 use forest_model::cause::{
-    ILLEGAL_INSTRUCTION, INSTRUCTION_ADDRESS_FAULT, STORE_ACCESS_FAULT, STORE_ADDRESS_MISALIGNED,
+    BREAKPOINT, ENVIRONMENT_CALL, ILLEGAL_INSTRUCTION, INSTRUCTION_ACCESS_FAULT,
 };
-use rv_decode::{Instr, Kind, decode};
+use rv_decode::{Group, Instr, decode};
+use rv_traps::{Csrs, Wrote};
 use std::alloc::{AllocError, Global};
 use std::marker::Model;
+
+mod atomic;
+mod compute;
+mod control;
+mod memory;
+mod system;
 
 /// What a step came to.
 #[derive(Clone, Copy, Debug, PartialEq, Eq)]
 pub enum Acted {
     /// An exception, with its cause and value. Nothing else has changed.
     Trapped { cause: u32, value: u32 },
-    /// The instruction retired.
-    Retired,
+    /// The instruction retired, and wrote a half of a counter or none.
+    Retired(Wrote),
     /// The instruction retired, and ended the machine with this value.
     Exited(u32),
 }
@@ -33,6 +40,8 @@ pub enum Acted {
 pub struct Hart {
     registers: [u32; 32],
     pc: u32,
+    csrs: Csrs,
+    reservation: Option<u32>,
     ram: Vec<u8>,
     ports: Ports,
 }
@@ -43,9 +52,9 @@ impl Model for Hart {
 
     ghost Value = { State };
 
-    ghost view = { λ h. record { registers = h.registers; pc = h.pc; ram = h.ram.items; ports = h.ports } };
+    ghost view = { λ h. record { registers = h.registers; pc = h.pc; csrs = h.csrs; reservation = h.reservation; ram = h.ram.items; ports = h.ports } };
 
-    ghost invariant = { λ h. IsHart (record { registers = h.registers; pc = h.pc; ram = h.ram.items; ports = h.ports }) };
+    ghost invariant = { λ h. IsHart (record { registers = h.registers; pc = h.pc; csrs = h.csrs; reservation = h.reservation; ram = h.ram.items; ports = h.ports }) };
 }
 
 impl Hart {
@@ -55,6 +64,8 @@ impl Hart {
         ensures { IfOk result (λ hart. hart ≡ record {
           registers = registers_at_start;
           pc = image.now.entry;
+          csrs = at_reset;
+          reservation = None;
           ram = image.now.ram;
           ports = ports_at_start;
         }) }
@@ -62,6 +73,8 @@ impl Hart {
         Ok(Hart {
             registers: [0; 32],
             pc: image.entry(),
+            csrs: Csrs::reset(),
+            reservation: None,
             ram: Vec::from_slice(alloc, image.ram())?,
             ports: Ports::new(alloc),
         })
@@ -81,6 +94,8 @@ impl Hart {
         let Hart {
             registers: _,
             pc: _,
+            csrs: _,
+            reservation: _,
             ram: _,
             ports,
         } = self;
@@ -89,123 +104,81 @@ impl Hart {
 
     /// Makes the coming step.
     #[inline]
-    #[tactic(auto, unfolding(forest_model::specs::Action::action))]
+    #[tactic(auto, unfolding(forest_model::specs::Execute::action))]
     pub fn act(&mut self) -> Result<Acted, AllocError>
         ensures acts { Acts self.old self.new (action self.old) result }
         ensures memory { OnErr result (Grows (action self.old) self.old) }
     {
         let Some(offset) = self.ram_offset(self.pc) else {
-            return Ok(Acted::Trapped {
-                cause: INSTRUCTION_ADDRESS_FAULT,
-                value: self.pc,
-            });
+            return Ok(trapped(INSTRUCTION_ACCESS_FAULT, self.pc));
         };
         let word = read_word(&self.ram, offset);
         match decode(word) {
-            Some(instr) => self.execute(instr),
-            None => Ok(Acted::Trapped {
-                cause: ILLEGAL_INSTRUCTION,
-                value: word,
-            }),
+            Some(instr) => self.execute(instr, word),
+            None => Ok(trapped(ILLEGAL_INSTRUCTION, word)),
         }
     }
 
-    /// Executes an instruction at the pc.
-    #[inline]
-    #[tactic(auto, unfolding(forest_model::specs::Action::execute))]
-    fn execute(&mut self, instr: Instr) -> Result<Acted, AllocError>
-        ensures acts { Acts self.old self.new (execute instr self.old) result }
-        ensures memory { OnErr result (Grows (execute instr self.old) self.old) }
+    /// Takes a trap.
+    pub fn take_trap(&mut self, cause: u32, value: u32)
+        ensures { self.new ≡ trapped cause value self.old }
     {
-        match instr.kind() {
-            Kind::Lui | Kind::Addi => {
-                self.compute_immediate(instr);
-                Ok(Acted::Retired)
-            }
-            Kind::Sb | Kind::Sw => self.store(instr),
+        self.pc = self.csrs.enter(cause, value, self.pc);
+        self.reservation = None;
+    }
+
+    /// Counts a step, which retired an instruction or did not, and wrote a half of a counter or none.
+    #[inline]
+    pub fn count(&mut self, retired: bool, wrote: Wrote)
+        ensures { self.new ≡ count retired wrote self.old }
+    {
+        self.csrs.count(retired, wrote);
+    }
+
+    /// Executes an instruction at the pc, which `word` encodes.
+    #[inline]
+    #[tactic(auto, unfolding(forest_model::specs::Execute::execute))]
+    fn execute(&mut self, instr: Instr, word: u32) -> Result<Acted, AllocError>
+        ensures acts { Acts self.old self.new (execute instr word self.old) result }
+        ensures memory { OnErr result (Grows (execute instr word self.old) self.old) }
+    {
+        match instr.kind().group() {
+            Group::LoadUpper => Ok(self.load_upper(instr)),
+            Group::AddUpper => Ok(self.add_upper(instr)),
+            Group::Jump => Ok(self.jump(instr)),
+            Group::JumpRegister => Ok(self.jump_register(instr)),
+            Group::Branch => Ok(self.branch(instr)),
+            Group::Load => Ok(self.load(instr)),
+            Group::Store => self.store(instr),
+            Group::ComputeImmediate => Ok(self.compute_immediate(instr)),
+            Group::Compute => Ok(self.compute(instr)),
+            Group::Nothing => Ok(self.retire()),
+            Group::EnvironmentCall => Ok(trapped(ENVIRONMENT_CALL, 0)),
+            Group::Breakpoint => Ok(trapped(BREAKPOINT, 0)),
+            Group::TrapReturn => Ok(self.trap_return()),
+            Group::Csr => Ok(self.csr_access(instr, word)),
+            Group::LoadReserved => Ok(self.load_reserved(instr)),
+            Group::StoreConditional => Ok(self.store_conditional(instr)),
+            Group::Amo => Ok(self.amo(instr)),
         }
     }
 
-    /// Executes a kind that computes the register rd from rs1 and the immediate.
+    /// Retires, with a value for rd.
     #[inline]
-    #[tactic(auto, unfolding(forest_model::specs::Action::computed_immediate))]
-    fn compute_immediate(&mut self, instr: Instr)
-        requires { group_of instr.kind ≡ compute_immediate }
-        ensures { computed_immediate instr self.old ≡ retire self.new }
+    fn retire_with(&mut self, instr: Instr, value: u32) -> Acted
+        ensures { Acts self.old self.new (retire_next (with_rd instr value self.old)) (Ok result) }
     {
-        let value = alu(
-            instr.kind(),
-            self.register(instr.rs1()),
-            instr.imm().cast_unsigned(),
-        );
         self.set_register(instr.rd(), value);
-        self.advance_pc();
+        self.retire()
     }
 
-    /// Executes a store of the low bytes of the register rs2.
+    /// Retires: the next instruction follows.
     #[inline]
-    #[tactic(auto, unfolding(forest_model::specs::Action::stored))]
-    fn store(&mut self, instr: Instr) -> Result<Acted, AllocError>
-        requires { group_of instr.kind ≡ store }
-        ensures acts { Acts self.old self.new (stored instr self.old) result }
-        ensures memory { OnErr result (Grows (stored instr self.old) self.old) }
+    fn retire(&mut self) -> Acted
+        ensures { Acts self.old self.new (retire_next self.old) (Ok result) }
     {
-        let address = self
-            .register(instr.rs1())
-            .wrapping_add(instr.imm().cast_unsigned());
-        let value = self.register(instr.rs2());
-        match instr.kind() {
-            Kind::Sb => self.store_to(address, value, &[(value % 256) as u8]),
-            Kind::Sw => self.store_to(address, value, &value.to_le_bytes()),
-            Kind::Lui | Kind::Addi => unreachable!(),
-        }
-    }
-
-    /// Stores the bytes, which are the low ones of `word`. It is inlined at each width, so that the
-    /// test of the address and the write know how many bytes there are.
-    #[inline(always)]
-    #[tactic(auto, unfolding(forest_model::specs::Action::store_action))]
-    fn store_to(&mut self, address: u32, word: u32, bytes: &[u8]) -> Result<Acted, AllocError>
-        requires width { (length bytes.now ≡ 1) ⊎ (length bytes.now ≡ 4) }
-        ensures acts { Acts self.old self.new (store_action address bytes.now word self.old) result }
-        ensures memory { OnErr result (Grows (store_action address bytes.now word self.old) self.old) }
-    {
-        let width = bytes.len() as u32;
-        if address % width != 0 {
-            return Ok(Acted::Trapped {
-                cause: STORE_ADDRESS_MISALIGNED,
-                value: address,
-            });
-        }
-        match self.ram_offset(address) {
-            Some(offset) => {
-                write_bytes(&mut self.ram, offset, bytes);
-                self.advance_pc();
-                Ok(Acted::Retired)
-            }
-            None => self.store_to_port(address, width, word),
-        }
-    }
-
-    /// Stores the low `width` bytes of `word` to a port.
-    fn store_to_port(&mut self, address: u32, width: u32, word: u32) -> Result<Acted, AllocError>
-        ensures acts { Acts self.old self.new (port_action (port_store self.old.ports address width word) address self.old) result }
-        ensures memory { OnErr result (Grows (port_action (port_store self.old.ports address width word) address self.old) self.old) }
-    {
-        match self.ports.store(address, width, word) {
-            Ok(effect) => {
-                self.advance_pc();
-                Ok(match effect {
-                    Effect::Done => Acted::Retired,
-                    Effect::Exit(value) => Acted::Exited(value),
-                })
-            }
-            Err(PortError::Fault) => Ok(Acted::Trapped {
-                cause: STORE_ACCESS_FAULT,
-                value: address,
-            }),
-            Err(PortError::Memory) => Err(AllocError),
-        }
+        self.pc = self.pc.wrapping_add(4);
+        Acted::Retired(Wrote::Nothing)
     }
 
     /// The offset of an address in RAM, or `None` where it is not in RAM.
@@ -213,6 +186,7 @@ impl Hart {
     fn ram_offset(&self, address: u32) -> Option<usize>
         ensures outside { IsNone result ↔ (is_in_ram self.now.ram address ≡ false) }
         ensures inside { IfSome result (λ offset. (is_in_ram self.now.ram address ≡ true) × (offset ≡ address - RAM_BASE) × (offset < length self.now.ram)) }
+        ensures whole_halves { IfSome result (λ offset. address % 2 ≡ 0 → offset + 2 ≤ length self.now.ram) }
         ensures whole_words { IfSome result (λ offset. address % 4 ≡ 0 → offset + 4 ≤ length self.now.ram) }
     {
         if address < RAM_BASE {
@@ -243,25 +217,12 @@ impl Hart {
             self.registers[number as usize] = value;
         }
     }
-
-    /// Goes on at the next instruction.
-    #[inline]
-    fn advance_pc(&mut self)
-        ensures { self.new ≡ at_next_instruction self.old }
-    {
-        self.pc = self.pc.wrapping_add(4);
-    }
 }
 
-/// What a kind that computes makes of the register rs1, `a`, and the immediate, `b`.
+/// The answer of an exception.
 #[inline]
-fn alu(kind: Kind, a: u32, b: u32) -> u32
-    requires { group_of kind ≡ compute_immediate }
-    ensures { result ≡ alu kind a b }
+fn trapped(cause: u32, value: u32) -> Acted
+    ensures { result ≡ Acted.Trapped cause value }
 {
-    match kind {
-        Kind::Lui => b,
-        Kind::Addi => a.wrapping_add(b),
-        Kind::Sb | Kind::Sw => unreachable!(),
-    }
+    Acted::Trapped { cause, value }
 }

@@ -1,12 +1,13 @@
 ghost use Rattle.std.specs.Prelude.{◌≡◌, ◌+◌, ◌-◌, ◌≤◌, ◌<◌, length, None, IfOk, OnErr, OnOk, IsSome};
-ghost use Rattle.forest_model.specs.Action.{action};
-ghost use Rattle.forest_model.specs.Machine.{IsWithinLimit, advance, after_steps, finish, boot};
+ghost use Rattle.forest_model.specs.Execute.{action};
+ghost use Rattle.forest_model.specs.Machine.{IsWithinLimit, limited, advance, after_steps, finish, boot};
 ghost use Rattle.vm_cell.specs.Acts.{Grows};
 ghost use Rattle.vm_cell.specs.Steps.{stepped_of};
 
 use crate::hart::{Acted, Hart};
 use elf_load::Loaded;
 use forest_model::{Ending, Options};
+use rv_traps::Wrote;
 use std::alloc::{AllocError, Global};
 use std::marker::Model;
 
@@ -147,15 +148,35 @@ impl Vm {
         ensures err { OnErr result (self.new ≡ self.old) }
         ensures memory { OnErr result (Grows (action self.old.state) self.old.state) }
     {
-        let acted = self.hart.act()?;
-        self.steps += 1;
-        self.ending = match acted {
-            Acted::Trapped { cause, value: _ } => Some(Ending::Fault(cause)),
-            Acted::Retired if self.steps == self.limit => Some(Ending::Limit),
-            Acted::Retired => None,
-            Acted::Exited(value) => Some(Ending::Exit(value)),
-        };
+        match self.hart.act()? {
+            Acted::Trapped { cause, value } => {
+                self.hart.take_trap(cause, value);
+                self.hart.count(false, Wrote::Nothing);
+                self.count_step();
+            }
+            Acted::Retired(wrote) => {
+                self.hart.count(true, wrote);
+                self.count_step();
+            }
+            Acted::Exited(value) => {
+                self.hart.count(true, Wrote::Nothing);
+                self.steps += 1;
+                self.ending = Some(Ending::Exit(value));
+            }
+        }
         Ok(())
+    }
+
+    /// Counts a step of a machine that lives, which ends it where it reaches the limit.
+    #[inline]
+    fn count_step(&mut self)
+        requires { self.old.ending ≡ None }
+        ensures { self.new ≡ limited self.old.state self.old }
+    {
+        self.steps += 1;
+        if self.steps == self.limit {
+            self.ending = Some(Ending::Limit);
+        }
     }
 
     /// Where the machine stands.
@@ -228,20 +249,46 @@ mod tests {
         0x0062a423,
     ];
 
+    // The handler's address goes to mtvec, the next word is tried, and the handler exits with a CSR, which
+    // is mcause here.
+    fn trapping(word: u32, csr: u32) -> [u32; 10] {
+        [
+            0x100022b7, 0x00000317, 0x01430313, 0x30531073, word, 0x00100073, csr, 0x0072a023,
+            0x00500313, 0x0062a423,
+        ]
+    }
+
+    const READ_MCAUSE: u32 = 0x342023f3;
+
+    const READ_MTVAL: u32 = 0x343023f3;
+
+    const READ_MEPC: u32 = 0x341023f3;
+
+    const READ_MCYCLE: u32 = 0xb00023f3;
+
+    const READ_MINSTRET: u32 = 0xb02023f3;
+
+    // addi x7, x0, 3; addi x7, x7, -1; bne x7, x0, -4; and EXIT with x7
+    const COUNT_DOWN: [u32; 7] = [
+        0x00300393, 0xfff38393, 0xfe039ee3, 0x100022b7, 0x0072a023, 0x00500313, 0x0062a423,
+    ];
+
     #[test]
     fn runs_programs(rt: HostRuntime) -> Result<(), Fail> {
-        let cases: [(&[u32], u64, Ending, u64, &[u8]); 9] = [
+        let cases: [(&[u32], u64, Ending, u64, &[u8]); 10] = [
             (&EXIT_SEVEN, 1_000_000, Ending::Exit(7), 5, b""),
             (&EXIT_SEVEN, 5, Ending::Exit(7), 5, b""),
             (&EXIT_SEVEN, 4, Ending::Limit, 4, b""),
             (&PRINT_LETTER, 1_000_000, Ending::Exit(0), 7, b"A"),
             (&PATCHED, 1_000_000, Ending::Exit(9), 8, b""),
-            // no instruction, on the last step that the limit allows
-            (&[0], 1, Ending::Fault(2), 1, b""),
-            // a word to 0x10002001, to 0x10002004, and to the console
-            (&[0x100022b7, 0x0002a0a3], 9, Ending::Fault(6), 2, b""),
-            (&[0x100022b7, 0x0002a223], 9, Ending::Fault(7), 2, b""),
-            (&[0x100002b7, 0x0002a023], 9, Ending::Fault(7), 2, b""),
+            // Each step is a trap to address 0, which is outside RAM.
+            (&[0], 100, Ending::Limit, 100, b""),
+            // ECALL
+            (&trapping(0x73, READ_MCAUSE), 100, Ending::Exit(11), 9, b""),
+            (&trapping(0x73, READ_MINSTRET), 100, Ending::Exit(4), 9, b""),
+            (&trapping(0x73, READ_MCYCLE), 100, Ending::Exit(5), 9, b""),
+            // x7 counts down from 3; the two words of the loop are ADDI and BNE
+            (&COUNT_DOWN, 100, Ending::Exit(0), 11, b""),
         ];
         for (words, limit, ending, steps, output) in cases {
             assert!(rt; words.len() <= 32 && 1 <= limit && limit <= 1_000_000_000);
@@ -253,6 +300,88 @@ mod tests {
             assert_eq!(rt; vm.steps(), steps);
             assert_eq!(rt; vm.output(), output);
             assert_eq!(rt; vm.into_output().as_slice(), output);
+        }
+        Ok(())
+    }
+
+    // What a word, at 0x80000010 with x5 at the fork port and all other registers 0 but x6, makes a CSR.
+    #[test]
+    fn traps(rt: HostRuntime) -> Result<(), Fail> {
+        let cases = [
+            // EBREAK; no instruction; an unknown CSR; a CSR that is only read
+            (0x00100073, READ_MCAUSE, 3),
+            (0x00000000, READ_MCAUSE, 2),
+            (0xc0002073, READ_MCAUSE, 2),
+            (0xf1101073, READ_MCAUSE, 2),
+            (0xc0002073, READ_MTVAL, 0xc0002073),
+            // SW to 0x10002001 and 0x10002004, and SH to 0x10002001
+            (0x0002a0a3, READ_MCAUSE, 6),
+            (0x0002a223, READ_MCAUSE, 7),
+            (0x0002a223, READ_MTVAL, 0x10002004),
+            (0x000290a3, READ_MCAUSE, 6),
+            // LW from 0, LH from 1, LW from the fork port
+            (0x00002003, READ_MCAUSE, 5),
+            (0x00101003, READ_MCAUSE, 4),
+            (0x0002a003, READ_MTVAL, 0x10002000),
+            // JAL by 2, and a BEQ by 2 that is taken
+            (0x0020006f, READ_MCAUSE, 0),
+            (0x0020006f, READ_MTVAL, 0x80000012),
+            (0x00000163, READ_MCAUSE, 0),
+            // LR, SC and AMOADD at the fork port, and at an odd address
+            (0x1002a02f, READ_MCAUSE, 5),
+            (0x1802a02f, READ_MCAUSE, 7),
+            (0x0002a02f, READ_MCAUSE, 7),
+            (0x00000073, READ_MEPC, 0x80000010),
+        ];
+        for (word, csr, value) in cases {
+            let image = load(rt.alloc(), &trapping(word, csr))?;
+            let mut vm = Vm::boot(rt.alloc(), &image, Options { limit: 100 })?;
+            let ran = vm.run(100)?;
+            assert_eq!(rt;
+                ran.why,
+                Stepped::Ended(Ending::Exit(value)),
+                "at {word:08x}"
+            );
+            assert_eq!(rt; ran.steps, 9, "at {word:08x}");
+        }
+        Ok(())
+    }
+
+    // What a word makes x7 that finds 0x80000040 in x8, 0x89abcdef there, and 3 in x9.
+    #[test]
+    fn loads_and_stores(rt: HostRuntime) -> Result<(), Fail> {
+        let cases = [
+            // LB, LBU, LH, LHU and LW of x8
+            (0x00040383, 0xffff_ffef),
+            (0x00044383, 0xef),
+            (0x00041383, 0xffff_cdef),
+            (0x00245383, 0x89ab),
+            (0x00042383, 0x89ab_cdef),
+            // AMOADD, AMOSWAP and AMOMAXU give the word before; SC with nothing reserved gives 1
+            (0x009423af, 0x89ab_cdef),
+            (0x089423af, 0x89ab_cdef),
+            (0xe09423af, 0x89ab_cdef),
+            (0x189423af, 1),
+            (0x100423af, 0x89ab_cdef),
+        ];
+        for (word, value) in cases {
+            // lui x8, 0x80000; addi x8, x8, 64; lui x7, 0x89abd; addi x7, x7, -529; sw x7, 0(x8);
+            // addi x9, x0, 3; the word; and EXIT with x7
+            let words = [
+                0x80000437, 0x04040413, 0x89abd3b7, 0xdef38393, 0x00742023, 0x00300493, word,
+                0x100022b7, 0x0072a023, 0x00500313, 0x0062a423,
+            ];
+            let mut vm = Vm::boot(
+                rt.alloc(),
+                &load(rt.alloc(), &words)?,
+                Options { limit: 100 },
+            )?;
+            let ran = vm.run(100)?;
+            assert_eq!(rt;
+                ran.why,
+                Stepped::Ended(Ending::Exit(value)),
+                "at {word:08x}"
+            );
         }
         Ok(())
     }

@@ -1,0 +1,184 @@
+//! What no clause says: that images are loaded where there is memory, and a file by each rule.
+
+use crate::error::ImageError;
+use crate::loader::load_elf;
+use flat_memory::write_bytes;
+use std::alloc::{AllocError, Global};
+use std::test::Fail;
+
+/// The image of a program that exits with 7.
+#[rattlefmt::skip]
+const EXIT_SEVEN: [u8; 104] = [
+    0x7f, 0x45, 0x4c, 0x46, 0x01, 0x01, 0x01, 0x00, 0x00, 0x00, 0x00, 0x00, 0x00, 0x00, 0x00, 0x00,
+    0x02, 0x00, 0xf3, 0x00, 0x01, 0x00, 0x00, 0x00, 0x00, 0x00, 0x00, 0x80, 0x34, 0x00, 0x00, 0x00,
+    0x00, 0x00, 0x00, 0x00, 0x00, 0x00, 0x00, 0x00, 0x34, 0x00, 0x20, 0x00, 0x01, 0x00, 0x00, 0x00,
+    0x00, 0x00, 0x00, 0x00,
+    0x01, 0x00, 0x00, 0x00, 0x54, 0x00, 0x00, 0x00, 0x00, 0x00, 0x00, 0x80, 0x00, 0x00, 0x00, 0x80,
+    0x14, 0x00, 0x00, 0x00, 0x14, 0x00, 0x00, 0x00, 0x07, 0x00, 0x00, 0x00, 0x04, 0x00, 0x00, 0x00,
+    0xb7, 0x22, 0x00, 0x10,
+    0x13, 0x03, 0x70, 0x00,
+    0x23, 0xa0, 0x62, 0x00,
+    0x13, 0x03, 0x50, 0x00,
+    0x23, 0xa4, 0x62, 0x00,
+];
+
+/// A program header: p_type, p_offset, p_paddr, p_filesz and p_memsz.
+type ProgramHeader = [u32; 5];
+
+fn push_word(image: &mut Vec<u8>, word: u32) -> Result<(), AllocError> {
+    image.extend_from_slice(&word.to_le_bytes())
+}
+
+/// An executable with these program headers and then these bytes. The fields that a loader does not read
+/// are all ones.
+fn image_of(
+    alloc: Global,
+    entry: u32,
+    headers: &[ProgramHeader],
+    bytes: &[u8],
+) -> Result<Vec<u8>, AllocError> {
+    let count = u16::try_from(headers.len()).unwrap_or(0);
+    let mut image = Vec::new(alloc);
+    image.extend_from_slice(
+        b"\x7fELF\x01\x01\x01\xff\xff\xff\xff\xff\xff\xff\xff\xff\x02\0\xf3\0\x01\0\0\0",
+    )?;
+    push_word(&mut image, entry)?;
+    image.extend_from_slice(b"\x34\0\0\0\xff\xff\xff\xff\xff\xff\xff\xff\xff\xff\x20\0")?;
+    image.extend_from_slice(&count.to_le_bytes())?;
+    image.extend_from_slice(b"\xff\xff\xff\xff\xff\xff")?;
+    for header in headers {
+        let [kind, offset, address, file_size, memory_size] = *header;
+        for word in [
+            kind,
+            offset,
+            u32::MAX,
+            address,
+            file_size,
+            memory_size,
+            u32::MAX,
+            u32::MAX,
+        ] {
+            push_word(&mut image, word)?;
+        }
+    }
+    image.extend_from_slice(bytes)?;
+    Ok(image)
+}
+
+/// The first `length` bytes of an image, with other words at some places.
+fn changed(
+    alloc: Global,
+    image: &[u8],
+    length: usize,
+    changes: &[(usize, u32)],
+) -> Result<Vec<u8>, AllocError> {
+    let mut changed = Vec::from_slice(alloc, image)?;
+    changed.truncate(length);
+    for (at, word) in changes {
+        if *at < changed.len() && changed.len() - at >= 4 {
+            write_bytes(&mut changed, *at, &word.to_le_bytes());
+        }
+    }
+    Ok(changed)
+}
+
+#[test]
+fn loads_exit_seven(rt: HostRuntime) -> Result<(), Fail> {
+    let loaded = load_elf(rt.alloc(), &EXIT_SEVEN, 64)?;
+    assert_eq!(rt; loaded.entry(), 0x8000_0000);
+    assert_eq!(rt; loaded.pages(), 64);
+    assert_eq!(rt;
+        &loaded.ram()[..5],
+        [0xb7, 0x22, 0x00, 0x10, 0x13].as_slice()
+    );
+    assert_eq!(rt; &loaded.segments()[..2], [true, false].as_slice());
+    Ok(())
+}
+
+#[test]
+fn loads_segments_in_any_order(rt: HostRuntime) -> Result<(), Fail> {
+    let alloc = rt.alloc();
+    let headers = [
+        [1, 212, 0x8000_2ffe, 2, 6],
+        [4, u32::MAX, u32::MAX, u32::MAX, 0],
+        [1, 214, 0x8000_0000, 3, 3],
+        [1, u32::MAX, u32::MAX, 0, 0],
+        [1, 217, 0x8000_1000, 1, 0x1000],
+    ];
+    let image = image_of(alloc, 0x8000_1000, &headers, &[1, 2, 3, 4, 5, 6])?;
+    let loaded = load_elf(alloc, &image, 16)?;
+    assert_eq!(rt; loaded.entry(), 0x8000_1000);
+    assert_eq!(rt; &loaded.ram()[..5], [3, 4, 5, 0, 0].as_slice());
+    assert_eq!(rt; &loaded.ram()[0xfff..0x1002], [0, 6, 0].as_slice());
+    assert_eq!(rt; &loaded.ram()[0x2ffd..0x3002], [0, 1, 2, 0, 0].as_slice());
+    assert_eq!(rt;
+        &loaded.segments()[..5],
+        [true, true, true, true, false].as_slice()
+    );
+    Ok(())
+}
+
+/// A program header for each of 65,534 bytes, the last byte of RAM first.
+#[test]
+fn loads_as_many_segments_as_there_may_be(rt: HostRuntime) -> Result<(), Fail> {
+    let alloc = rt.alloc();
+    let mut headers = Vec::new(alloc);
+    for n in 0..65_534 {
+        headers.push([1, 0, 0x8000_fffd - n, 1, 1])?;
+    }
+    let image = image_of(alloc, 0x8000_0000, &headers, &[])?;
+    let loaded = load_elf(alloc, &image, 16)?;
+    assert_eq!(rt; &loaded.ram()[0xfffc..0xffff], [0x7f, 0x7f, 0].as_slice());
+    Ok(())
+}
+
+#[test]
+fn refuses_by_the_first_rule_that_is_broken(rt: HostRuntime) -> Result<(), Fail> {
+    let alloc = rt.alloc();
+    let headers = [[1, 116, 0x8000_0000, 16, 16], [1, 132, 0x8000_0010, 4, 8]];
+    let image = image_of(alloc, 0x8000_0000, &headers, &[0; 20])?;
+    load_elf(alloc, &image, 16)?;
+
+    // A length of the file, words at places of it, and the rule that they break.
+    let rows: [(usize, &[(usize, u32)], u32); 29] = [
+        (51, &[], 1),
+        (136, &[(0, 0x464c_457e)], 2),
+        (136, &[(4, 0xff01_0102)], 3),
+        (136, &[(4, 0xff01_0201)], 3),
+        (136, &[(4, 0xff00_0101)], 3),
+        (136, &[(20, 2)], 3),
+        (136, &[(16, 0x00f3_0003)], 4),
+        (136, &[(16, 0x003e_0002)], 5),
+        (136, &[(40, 0x0021_ffff)], 6),
+        (136, &[(44, 0xffff_ffff)], 6),
+        (115, &[], 7),
+        (136, &[(28, 73)], 7),
+        (136, &[(28, u32::MAX)], 7),
+        (136, &[(68, 17)], 8),
+        (135, &[], 9),
+        (136, &[(56, 121)], 9),
+        (136, &[(56, u32::MAX)], 9),
+        (136, &[(64, 0x7fff_ffff)], 10),
+        (136, &[(96, 0x8000_fff9)], 10),
+        (136, &[(104, 0x0000_fff1)], 10),
+        (136, &[(104, u32::MAX)], 10),
+        (136, &[(96, 0x8000_000f)], 11),
+        (136, &[(24, 0x8000_0002)], 12),
+        (136, &[(24, 0x7fff_fffc)], 12),
+        (136, &[(24, 0x8001_0000)], 12),
+        (136, &[(16, 0x003e_0003), (4, 0)], 3),
+        (136, &[(56, 121), (104, 3)], 8),
+        (136, &[(64, 0), (88, 133)], 9),
+        (136, &[(24, 1), (96, 0x8000_000f)], 11),
+    ];
+    for (length, changes, rule) in rows {
+        let changed = changed(alloc, &image, length, changes)?;
+        let refusal = load_elf(alloc, &changed, 16).err();
+        assert_eq!(rt;
+            refusal,
+            Some(ImageError::Refused(rule)),
+            "{changes:?} at {length} bytes"
+        );
+    }
+    Ok(())
+}

@@ -1,0 +1,57 @@
+-- What the coming step of a machine is: the word at pc, the instruction that it says, and what that
+-- does.
+use Rattle.std.specs.Prelude.{ℕ, ◌-◌, Bool, true, false, Option, Some, None}
+use Rattle.elf_load.specs.declared.image.TheConstants.{RAM_BASE}
+use Rattle.flat_memory.specs.Flat.{word_at}
+use Rattle.rv_decode.specs.declared.kinds.Group.{Group}
+use Rattle.rv_decode.specs.declared.kinds.Group.TheVariants.{LoadUpper, AddUpper, Jump, JumpRegister, Branch, Load, Store, ComputeImmediate, Compute, Nothing, EnvironmentCall, Breakpoint, TrapReturn, Csr, LoadReserved, StoreConditional, Amo}
+use Rattle.rv_decode.specs.Kinds.{group_of}
+use Rattle.rv_decode.specs.Instruction.{Instruction}
+use Rattle.rv_decode.specs.Table.{decoded}
+use Rattle.forest_model.specs.declared.cause.TheConstants.{INSTRUCTION_ACCESS_FAULT, ILLEGAL_INSTRUCTION, BREAKPOINT, ENVIRONMENT_CALL}
+use Rattle.forest_model.specs.State.{State, is_in_ram}
+use Rattle.forest_model.specs.Action.{Action, trap, retire_next}
+use Rattle.forest_model.specs.Compute.{load_upper, add_upper, compute_immediate, compute}
+use Rattle.forest_model.specs.Control.{jump, jump_register, branch}
+use Rattle.forest_model.specs.Memory.{load, store}
+use Rattle.forest_model.specs.System.{csr_access, trap_return}
+use Rattle.forest_model.specs.Atomic.{load_reserved, store_conditional, amo}
+
+abbrev pub execute_group : Group → Instruction → ℕ → State → Action
+execute_group LoadUpper i word s = load_upper i s
+execute_group AddUpper i word s = add_upper i s
+execute_group Jump i word s = jump i s
+execute_group JumpRegister i word s = jump_register i s
+execute_group Branch i word s = branch i s
+execute_group Load i word s = load i s
+execute_group Store i word s = store i s
+execute_group ComputeImmediate i word s = compute_immediate i s
+execute_group Compute i word s = compute i s
+execute_group Nothing i word s = retire_next s
+execute_group EnvironmentCall i word s = trap ENVIRONMENT_CALL 0
+execute_group Breakpoint i word s = trap BREAKPOINT 0
+execute_group TrapReturn i word s = trap_return s
+execute_group Csr i word s = csr_access i word s
+execute_group LoadReserved i word s = load_reserved i s
+execute_group StoreConditional i word s = store_conditional i s
+execute_group Amo i word s = amo i s
+
+-- what an instruction does, which a word says
+unfoldable pub execute : Instruction → ℕ → State → Action
+execute i word s = execute_group (group_of i.kind) i word s
+
+abbrev pub decoded_action : Option Instruction → ℕ → State → Action
+decoded_action None word s = trap ILLEGAL_INSTRUCTION word
+decoded_action (Some i) word s = execute i word s
+
+-- the word at pc
+abbrev pub fetched : State → ℕ
+fetched s = word_at s.ram (s.pc - RAM_BASE)
+
+abbrev pub fetch_action : Bool → State → Action
+fetch_action false s = trap INSTRUCTION_ACCESS_FAULT s.pc
+fetch_action true s = decoded_action (decoded (fetched s)) (fetched s) s
+
+-- the coming step
+unfoldable pub action : State → Action
+action s = fetch_action (is_in_ram s.ram s.pc) s

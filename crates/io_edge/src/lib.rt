@@ -1,0 +1,12 @@
+//! The outside of the program: files by name, and where bytes go, real or in memory.
+#![tactic(auto)]
+
+mod memory;
+mod outside;
+mod real;
+#[cfg(test)]
+mod tests;
+
+pub use memory::{MemShelf, MemSink};
+pub use outside::{LAST_COUNT, Shelf, ShelfError, Sink, WriteFault, put_all};
+pub use real::{FileShelf, StdSink};

@@ -1,0 +1,108 @@
+//! The real outside: files and the standard output. They tell nothing of what they hold.
+
+ghost use Rattle.std.specs.Prelude.{◌≡◌};
+
+use crate::outside::{Shelf, ShelfError, Sink, WriteFault};
+use std::alloc::Global;
+use std::fs;
+use std::io::{self, ErrorKind, Read};
+use std::marker::Model;
+use std::rt::Files;
+
+/// The files of the system. A contract sees the count of faults.
+#[derive(Drop)]
+pub struct FileShelf<'a, R: Files> {
+    rt: &'a R,
+    faults: u64,
+}
+
+impl<'a, R: Files> Model for FileShelf<'a, R> {
+    ghost use Rattle.std.specs.Prelude.{ℕ};
+
+    ghost Value = { ℕ };
+
+    ghost view = { λ s. s.faults };
+}
+
+impl<'a, R: Files> FileShelf<'a, R> {
+    pub fn new(rt: &'a R) -> FileShelf<'a, R>
+        ensures { result ≡ 0 }
+    {
+        FileShelf { rt, faults: 0 }
+    }
+}
+
+impl<R: Files> Shelf for FileShelf<'_, R> {
+    ghost use Rattle.std.specs.Prelude.{None};
+
+    ghost files = { λ _. None };
+
+    ghost faults = { λ faults. faults };
+
+    fn load(&mut self, alloc: Global, name: &str, at_most: usize) -> Result<Vec<u8>, ShelfError> {
+        match read_at_most(self.rt, alloc, name, at_most) {
+            Ok(bytes) if bytes.len() > at_most => Err(ShelfError::TooLong),
+            Ok(bytes) => Ok(bytes),
+            Err(error) if error.kind() == ErrorKind::OutOfMemory => Err(ShelfError::Memory),
+            Err(_) => {
+                self.faults = self.faults.saturating_add(1);
+                Err(ShelfError::Fault)
+            }
+        }
+    }
+}
+
+/// The first bytes of a file, one more than `at_most` where it has so many.
+fn read_at_most<R: Files>(
+    rt: &R,
+    alloc: Global,
+    name: &str,
+    at_most: usize,
+) -> io::Result<Vec<u8>> {
+    let mut bytes = Vec::new(alloc);
+    let file = fs::open(rt, name)?;
+    file.take((at_most as u64).saturating_add(1))
+        .read_to_end(&mut bytes)?;
+    Ok(bytes)
+}
+
+/// The standard output. A contract sees the count of faults.
+#[derive(Drop)]
+pub struct StdSink<'a, R: Print> {
+    rt: &'a R,
+    faults: u64,
+}
+
+impl<'a, R: Print> Model for StdSink<'a, R> {
+    ghost use Rattle.std.specs.Prelude.{ℕ};
+
+    ghost Value = { ℕ };
+
+    ghost view = { λ s. s.faults };
+}
+
+impl<'a, R: Print> StdSink<'a, R> {
+    pub fn new(rt: &'a R) -> StdSink<'a, R>
+        ensures { result ≡ 0 }
+    {
+        StdSink { rt, faults: 0 }
+    }
+}
+
+impl<R: Print> Sink for StdSink<'_, R> {
+    ghost use Rattle.std.specs.Prelude.{None};
+
+    ghost gone = { λ _. None };
+
+    ghost faults = { λ faults. faults };
+
+    fn put(&mut self, piece: &[u8]) -> Result<usize, WriteFault> {
+        match self.rt.write_some(piece) {
+            Ok(n) if n > 0 || piece.is_empty() => Ok(n),
+            _ => {
+                self.faults = self.faults.saturating_add(1);
+                Err(WriteFault)
+            }
+        }
+    }
+}

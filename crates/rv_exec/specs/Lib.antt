@@ -1,0 +1,5 @@
+pub mod Words
+pub mod Compute
+pub mod Branch
+pub mod Atomic
+pub mod Memory

@@ -1,0 +1,16 @@
+//! The control and status registers of a machine: what a read gives and what a write keeps, traps and
+//! the return from them, and the counters.
+#![tactic(auto)]
+
+mod counter;
+mod csrs;
+pub mod laws;
+mod number;
+mod registers;
+
+pub use counter::Wrote;
+pub use csrs::{Csrs, TIMER_INTERRUPT};
+pub use registers::CsrRegisters;
+
+#[cfg(test)]
+mod tests;

@@ -1,6 +1,0 @@
-use Rattle.std.proofs.Common.{◌≡◌, drop}
-use Rattle.snow_main.specs.Files.{file_named, named}
-use Rattle.snow_main.proofs.memory.find.Given as goal
-
-abbrev pub invariant-loop-other : goal.invariant-loop-other
-invariant-loop-other l = file_named (named (drop l.other-index l.files)) l.name ≡ file_named (named l.files) l.name

@@ -1,0 +1,83 @@
+//! Jumps and branches.
+
+ghost use Rattle.std.specs.Prelude.{◌≡◌, Ok};
+ghost use Rattle.rv_decode.specs.declared.kinds.Group.TheVariants as group;
+ghost use Rattle.rv_decode.specs.Kinds.{group_of};
+ghost use Rattle.forest_model.specs.Control.{jump_to, relative, linked, jump, jump_register, branch};
+ghost use Rattle.vm_cell.specs.Acts.{Acts};
+
+use super::{Acted, Hart, trapped};
+use forest_model::cause::INSTRUCTION_ADDRESS_MISALIGNED;
+use rv_decode::Instr;
+use rv_exec::branch_taken;
+use rv_traps::Wrote;
+
+impl Hart {
+    #[inline]
+    #[tactic(auto, unfolding(forest_model::specs::Control::jump))]
+    pub(super) fn jump(&mut self, instr: Instr) -> Acted
+        ensures { Acts self.old self.new (jump instr self.old) (Ok result) }
+    {
+        let target = self.relative(instr);
+        self.link_and_jump(instr, target)
+    }
+
+    #[inline]
+    #[tactic(auto, unfolding(forest_model::specs::Control::jump_register))]
+    pub(super) fn jump_register(&mut self, instr: Instr) -> Acted
+        ensures { Acts self.old self.new (jump_register instr self.old) (Ok result) }
+    {
+        let address = self
+            .register(instr.rs1())
+            .wrapping_add(instr.imm().cast_unsigned());
+        self.link_and_jump(instr, address - address % 2)
+    }
+
+    #[inline]
+    #[tactic(auto, unfolding(forest_model::specs::Control::branch))]
+    pub(super) fn branch(&mut self, instr: Instr) -> Acted
+        requires { group_of instr.kind ≡ group.Branch }
+        ensures { Acts self.old self.new (branch instr self.old) (Ok result) }
+    {
+        let a = self.register(instr.rs1());
+        let b = self.register(instr.rs2());
+        if !branch_taken(instr.kind(), a, b) {
+            return self.retire();
+        }
+        let target = self.relative(instr);
+        self.jump_to(target)
+    }
+
+    /// The pc plus the immediate.
+    #[inline]
+    fn relative(&self, instr: Instr) -> u32
+        ensures { result ≡ relative instr self.now }
+    {
+        self.pc.wrapping_add(instr.imm().cast_unsigned())
+    }
+
+    /// Jumps, with the address of the next instruction for rd.
+    #[inline]
+    fn link_and_jump(&mut self, instr: Instr, target: u32) -> Acted
+        ensures { Acts self.old self.new (jump_to target (linked instr self.old)) (Ok result) }
+    {
+        if target % 4 != 0 {
+            return trapped(INSTRUCTION_ADDRESS_MISALIGNED, target);
+        }
+        let next = self.pc.wrapping_add(4);
+        self.set_register(instr.rd(), next);
+        self.pc = target;
+        Acted::Retired(Wrote::Nothing)
+    }
+
+    #[inline]
+    fn jump_to(&mut self, target: u32) -> Acted
+        ensures { Acts self.old self.new (jump_to target self.old) (Ok result) }
+    {
+        if target % 4 != 0 {
+            return trapped(INSTRUCTION_ADDRESS_MISALIGNED, target);
+        }
+        self.pc = target;
+        Acted::Retired(Wrote::Nothing)
+    }
+}

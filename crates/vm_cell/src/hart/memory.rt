@@ -1,0 +1,145 @@
+//! Loads and stores.
+
+ghost use Rattle.std.specs.Prelude.{◌≡◌, ◌+◌, ◌≤◌, ◌⊎◌, length, Ok, OnErr};
+ghost use Rattle.rv_decode.specs.declared.kinds.Group.TheVariants as group;
+ghost use Rattle.rv_decode.specs.Kinds.{group_of};
+ghost use Rattle.byteorder.specs.Endian.{little_from};
+ghost use Rattle.forest_model.specs.Ports.{port_load, port_store};
+ghost use Rattle.forest_model.specs.Memory.{data_address, is_aligned, aligned_load, read_action, load, store, store_action, port_action};
+ghost use Rattle.rv_exec.specs.Memory.{load_width};
+ghost use Rattle.vm_cell.specs.Acts.{Acts, Grows};
+
+use super::{Acted, Hart, trapped};
+use crate::ports::PortError;
+use flat_memory::{read_half, read_word, write_bytes};
+use forest_model::Effect;
+use forest_model::cause::{
+    LOAD_ACCESS_FAULT, LOAD_ADDRESS_MISALIGNED, STORE_ACCESS_FAULT, STORE_ADDRESS_MISALIGNED,
+};
+use rv_decode::{Instr, Kind};
+use rv_exec::load_value;
+use rv_traps::Wrote;
+use std::alloc::AllocError;
+
+impl Hart {
+    /// The address of a load or a store.
+    #[inline]
+    fn data_address(&self, instr: Instr) -> u32
+        ensures { result ≡ data_address instr self.now }
+    {
+        self.register(instr.rs1())
+            .wrapping_add(instr.imm().cast_unsigned())
+    }
+
+    #[inline]
+    #[tactic(auto, unfolding(forest_model::specs::Memory::load, rv_decode::specs::Kinds::group_of))]
+    pub(super) fn load(&mut self, instr: Instr) -> Acted
+        requires { group_of instr.kind ≡ group.Load }
+        ensures { Acts self.old self.new (load instr self.old) (Ok result) }
+    {
+        let address = self.data_address(instr);
+        match instr.kind() {
+            Kind::Lb | Kind::Lbu => self.load_from(instr, address, 1),
+            Kind::Lh | Kind::Lhu => self.load_from(instr, address, 2),
+            Kind::Lw => self.load_from(instr, address, 4),
+            _ => unreachable!(),
+        }
+    }
+
+    /// Loads the `width` bytes from `address`.
+    #[inline(always)]
+    fn load_from(&mut self, instr: Instr, address: u32, width: u32) -> Acted
+        requires group { group_of instr.kind ≡ group.Load }
+        requires width { width ≡ load_width instr.kind }
+        requires widths { (width ≡ 1) ⊎ ((width ≡ 2) ⊎ (width ≡ 4)) }
+        ensures { Acts self.old self.new (aligned_load (is_aligned address width) instr address self.old) (Ok result) }
+    {
+        if address % width != 0 {
+            return trapped(LOAD_ADDRESS_MISALIGNED, address);
+        }
+        let Some(offset) = self.ram_offset(address) else {
+            return self.load_from_port(instr, address, width);
+        };
+        let number = self.read(offset, width);
+        self.retire_with(instr, load_value(instr.kind(), number))
+    }
+
+    /// Loads the `width` bytes from a port: none gives one yet.
+    #[tactic(auto, unfolding(forest_model::specs::Ports::port_load))]
+    fn load_from_port(&mut self, instr: Instr, address: u32, width: u32) -> Acted
+        ensures { Acts self.old self.new (read_action (port_load self.old.ports address width) instr address self.old) (Ok result) }
+    {
+        trapped(LOAD_ACCESS_FAULT, address)
+    }
+
+    /// The number in the `width` bytes of RAM from `offset`.
+    #[inline(always)]
+    fn read(&self, offset: usize, width: u32) -> u32
+        requires width { (width ≡ 1) ⊎ ((width ≡ 2) ⊎ (width ≡ 4)) }
+        requires within { offset + width ≤ length self.now.ram }
+        ensures { result ≡ little_from offset width self.now.ram }
+    {
+        match width {
+            1 => u32::from(self.ram[offset]),
+            2 => u32::from(read_half(&self.ram, offset)),
+            _ => read_word(&self.ram, offset),
+        }
+    }
+
+    #[inline]
+    #[tactic(auto, unfolding(forest_model::specs::Memory::store, rv_decode::specs::Kinds::group_of))]
+    pub(super) fn store(&mut self, instr: Instr) -> Result<Acted, AllocError>
+        requires { group_of instr.kind ≡ group.Store }
+        ensures acts { Acts self.old self.new (store instr self.old) result }
+        ensures memory { OnErr result (Grows (store instr self.old) self.old) }
+    {
+        let address = self.data_address(instr);
+        let word = self.register(instr.rs2());
+        let [a, b, c, d] = word.to_le_bytes();
+        match instr.kind() {
+            Kind::Sb => self.store_to(address, word, &[a]),
+            Kind::Sh => self.store_to(address, word, &[a, b]),
+            Kind::Sw => self.store_to(address, word, &[a, b, c, d]),
+            _ => unreachable!(),
+        }
+    }
+
+    /// Stores the bytes, which are the low ones of `word`.
+    #[inline(always)]
+    #[tactic(auto, unfolding(forest_model::specs::Memory::store_action))]
+    fn store_to(&mut self, address: u32, word: u32, bytes: &[u8]) -> Result<Acted, AllocError>
+        requires width { (length bytes.now ≡ 1) ⊎ ((length bytes.now ≡ 2) ⊎ (length bytes.now ≡ 4)) }
+        ensures acts { Acts self.old self.new (store_action address bytes.now word self.old) result }
+        ensures memory { OnErr result (Grows (store_action address bytes.now word self.old) self.old) }
+    {
+        let width = bytes.len() as u32;
+        if address % width != 0 {
+            return Ok(trapped(STORE_ADDRESS_MISALIGNED, address));
+        }
+        match self.ram_offset(address) {
+            Some(offset) => {
+                write_bytes(&mut self.ram, offset, bytes);
+                Ok(self.retire())
+            }
+            None => self.store_to_port(address, width, word),
+        }
+    }
+
+    /// Stores the low `width` bytes of `word` to a port.
+    fn store_to_port(&mut self, address: u32, width: u32, word: u32) -> Result<Acted, AllocError>
+        ensures acts { Acts self.old self.new (port_action (port_store self.old.ports address width word) address self.old) result }
+        ensures memory { OnErr result (Grows (port_action (port_store self.old.ports address width word) address self.old) self.old) }
+    {
+        match self.ports.store(address, width, word) {
+            Ok(effect) => {
+                self.retire();
+                Ok(match effect {
+                    Effect::Done => Acted::Retired(Wrote::Nothing),
+                    Effect::Exit(value) => Acted::Exited(value),
+                })
+            }
+            Err(PortError::Fault) => Ok(trapped(STORE_ACCESS_FAULT, address)),
+            Err(PortError::Memory) => Err(AllocError),
+        }
+    }
+}
