@@ -6,8 +6,8 @@ ghost use Rattle.vm_cell.specs.Steps.{stepped_of};
 
 use crate::hart::{Acted, Hart};
 use elf_load::Loaded;
-use forest_model::{Ending, Options};
-use rv_traps::Wrote;
+use forest_model::{Ending, Options, Written};
+use rv_traps::TIMER_INTERRUPT;
 use std::alloc::{AllocError, Global};
 use std::marker::Model;
 
@@ -151,15 +151,20 @@ impl Vm {
         match self.hart.act()? {
             Acted::Trapped { cause, value } => {
                 self.hart.take_trap(cause, value);
-                self.hart.count(false, Wrote::Nothing);
+                self.hart.count(false, Written::Nothing);
                 self.count_step();
             }
-            Acted::Retired(wrote) => {
-                self.hart.count(true, wrote);
+            Acted::Interrupted => {
+                self.hart.take_trap(TIMER_INTERRUPT, 0);
+                self.hart.count(false, Written::Nothing);
+                self.count_step();
+            }
+            Acted::Retired(written) => {
+                self.hart.count(true, written);
                 self.count_step();
             }
             Acted::Exited(value) => {
-                self.hart.count(true, Wrote::Nothing);
+                self.hart.count(true, Written::Nothing);
                 self.steps += 1;
                 self.ending = Some(Ending::Exit(value));
             }
