@@ -5,3 +5,6 @@ mod port;
 pub mod registers;
 
 pub use port::{Effect, ForkPort};
+
+#[cfg(test)]
+mod tests;

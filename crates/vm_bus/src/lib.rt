@@ -6,3 +6,6 @@ mod ports;
 
 pub use fork_port::Effect;
 pub use ports::Ports;
+
+#[cfg(test)]
+mod tests;
