@@ -49,10 +49,7 @@ impl ConsolePort {
             place: 0,
             line_control: 0,
         };
-        Ok(ConsolePort::of_fields(
-            fields,
-            Vec::from_slice(alloc, input)?,
-        ))
+        Ok(ConsolePort::of_fields(fields, Vec::from_slice(alloc, input)?))
     }
 
     /// A console with these registers and this input, and no output.

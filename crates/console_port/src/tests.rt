@@ -16,8 +16,16 @@ fn takes_bytes_at_eight_offsets(rt: HostRuntime) -> Result<(), Fail> {
             } else {
                 (Some(Fault), Err(PortError::Fault))
             };
-            assert_eq!(rt; port.load(offset, width).err(), load, "{width} bytes at {offset}");
-            assert_eq!(rt; port.store(offset, width, 0), store, "{width} bytes at {offset}");
+            assert_eq!(rt;
+                port.load(offset, width).err(),
+                load,
+                "{width} bytes at {offset}"
+            );
+            assert_eq!(rt;
+                port.store(offset, width, 0),
+                store,
+                "{width} bytes at {offset}"
+            );
         }
     }
     assert_eq!(rt; port.output(), [0].as_slice());

@@ -15,7 +15,11 @@ fn words_alone_and_two_registers(rt: HostRuntime) {
             };
             assert_eq!(rt; stored, want, "{offset} of {width}");
             let argument = if is_register && offset == 0 { 7 } else { 0 };
-            assert_eq!(rt; port.store(8, 4, 5), Ok(Effect::Exit(argument)), "{offset} of {width}");
+            assert_eq!(rt;
+                port.store(8, 4, 5),
+                Ok(Effect::Exit(argument)),
+                "{offset} of {width}"
+            );
         }
     }
 }

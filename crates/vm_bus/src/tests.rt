@@ -33,7 +33,11 @@ fn loads_at_each_port_s_edges(rt: HostRuntime) -> Result<(), AllocError> {
     ];
     for (address, width, want) in cases {
         let mut ports = Ports::new(rt.alloc())?;
-        assert_eq!(rt; ports.load(address, width), want, "{address:08x} of {width}");
+        assert_eq!(rt;
+            ports.load(address, width),
+            want,
+            "{address:08x} of {width}"
+        );
     }
     Ok(())
 }
@@ -67,7 +71,11 @@ fn stores_at_each_port_s_edges(rt: HostRuntime) -> Result<(), AllocError> {
     ];
     for (address, width, want) in cases {
         let mut ports = Ports::new(rt.alloc())?;
-        assert_eq!(rt; ports.store(address, width, 5), want, "{address:08x} of {width}");
+        assert_eq!(rt;
+            ports.store(address, width, 5),
+            want,
+            "{address:08x} of {width}"
+        );
     }
     Ok(())
 }

@@ -335,8 +335,20 @@ mod tests {
             (&trapping(0x73, READ_MCYCLE), 100, Ending::Exit(5), 9, b""),
             // x7 counts down from 3; the two words of the loop are ADDI and BNE
             (&COUNT_DOWN, 100, Ending::Exit(0), 11, b""),
-            (&interrupted(VECTORED), 100, Ending::Exit(0x8000_0007), 15, b""),
-            (&interrupted(DIRECT), 100, Ending::Exit(0x8000_0007), 15, b""),
+            (
+                &interrupted(VECTORED),
+                100,
+                Ending::Exit(0x8000_0007),
+                15,
+                b"",
+            ),
+            (
+                &interrupted(DIRECT),
+                100,
+                Ending::Exit(0x8000_0007),
+                15,
+                b"",
+            ),
             (&TEN_TICKS, 1000, Ending::Exit(10), 207, b""),
             (&TEN_TICKS, 206, Ending::Limit, 206, b""),
             (&TIME_WRITTEN, 100, Ending::Exit(100), 8, b""),

@@ -15,9 +15,9 @@ use forest_model::Written;
 use forest_model::cause::{
     LOAD_ACCESS_FAULT, LOAD_ADDRESS_MISALIGNED, STORE_ACCESS_FAULT, STORE_ADDRESS_MISALIGNED,
 };
+use port_error::PortError;
 use rv_decode::{Instr, Kind};
 use rv_exec::load_value;
-use port_error::PortError;
 use std::alloc::AllocError;
 use vm_bus::Effect;
 

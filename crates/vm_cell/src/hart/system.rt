@@ -5,8 +5,8 @@ ghost use Rattle.forest_model.specs.System.{operand, operation_of, csr_value, re
 ghost use Rattle.vm_cell.specs.Acts.{Acts};
 
 use super::{Acted, Hart, trapped};
-use forest_model::{CsrOperation, Written};
 use forest_model::cause::ILLEGAL_INSTRUCTION;
+use forest_model::{CsrOperation, Written};
 use rv_decode::{Instr, Kind};
 use rv_traps::Wrote;
 
