@@ -1,5 +1,5 @@
 -- What holds of every hart.
-use Rattle.std.specs.Prelude.{◌≡◌, ℕ, ◌%◌, ◌*◌, ◌≤◌, length, slice_index}
+use Rattle.std.specs.Prelude.{◌≡◌, ◌%◌, ◌*◌, ◌≤◌, length, slice_index}
 use Rattle.elf_load.specs.declared.image.TheConstants.{PAGE_SIZE, MAX_PAGES}
 use Rattle.forest_model.specs.State.{State}
 use Rattle.forest_model.specs.Ports.{PortRegisters}
