@@ -95,7 +95,7 @@ fn each_port_keeps_what_is_stored(rt: HostRuntime) -> Result<(), AllocError> {
     assert_eq!(rt; ports.store(0x1000_0000, 1, 0x141), Ok(Effect::Done));
     assert_eq!(rt; ports.store(0x1000_2000, 4, 9), Ok(Effect::Done));
     assert_eq!(rt; ports.store(0x1000_2008, 4, 5), Ok(Effect::Exit(9)));
-    assert_eq!(rt; ports.output(), b"A");
-    assert_eq!(rt; ports.into_output().as_slice(), b"A");
+    assert_eq!(rt; ports.output(), b"A".as_slice());
+    assert_eq!(rt; ports.into_output().as_slice(), b"A".as_slice());
     Ok(())
 }
