@@ -5,3 +5,6 @@ mod port;
 pub mod registers;
 
 pub use port::{ConsoleFields, ConsolePort, MAX_INPUT};
+
+#[cfg(test)]
+mod tests;
