@@ -7,3 +7,6 @@ mod status;
 
 pub use port::{BlockFields, BlockPort};
 pub use status::Status;
+
+#[cfg(test)]
+mod tests;

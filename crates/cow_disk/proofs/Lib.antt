@@ -1,2 +1,3 @@
+pub mod Sectors
 pub mod PieceLemmas
 pub mod TableLemmas

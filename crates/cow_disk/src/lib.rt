@@ -4,6 +4,7 @@
 
 mod disk;
 mod error;
+pub mod laws;
 mod leaf;
 mod table;
 
