@@ -2,9 +2,9 @@
 use Rattle.std.proofs.Common.{◌≡◌, ℕ, zero, suc, ◌+◌, ◌-◌, ◌<◌, ◌≤◌, Bool, true, false, eqb, Option, Some, None, IsSome, refl, sym, ap, ◌∙◌, subst, arith, suc-add, zero-add, cond, inl, inr, ◌⊎◌}
 use Rattle.forest_model.specs.declared.Ending.{Ending}
 use Rattle.forest_model.specs.declared.Ending.TheVariants.{Exit, Limit}
-use Rattle.rv_traps.specs.declared.counter.Wrote.TheVariants.{Nothing}
+use Rattle.forest_model.specs.declared.Written.TheVariants.{Nothing}
 use Rattle.forest_model.specs.State.{State}
-use Rattle.forest_model.specs.Action.{Action, trap, retire, exit}
+use Rattle.forest_model.specs.Action.{Action, trap, interrupt, retire, exit}
 use Rattle.forest_model.specs.Execute.{action}
 use Rattle.forest_model.specs.Machine.{Machine, IsWithinLimit, Next, exception, next_of, next, limited, count, trapped, advance, advance_from, applied, after_steps, finish}
 
@@ -36,7 +36,8 @@ after_steps-add (suc a) b m = ap (λ n. after_steps n m) (suc-add a b) ∙ after
 -- the limit stays
 limit-applied : (a : Action) (m : Machine) → (applied a m).limit ≡ m.limit
 limit-applied (trap cause value) m = refl
-limit-applied (retire wrote s) m = refl
+limit-applied interrupt m = refl
+limit-applied (retire written s) m = refl
 limit-applied (exit value s) m = refl
 
 limit-advance_from : (e : Option Ending) (m : Machine) → (advance_from e m).limit ≡ m.limit
@@ -55,7 +56,8 @@ limit-after_steps (suc n) m = limit-after_steps n (advance m) ∙ limit-advance 
 -- each step of a live machine is counted
 steps-applied : (a : Action) (m : Machine) → (applied a m).steps ≡ m.steps + 1
 steps-applied (trap cause value) m = refl
-steps-applied (retire wrote s) m = refl
+steps-applied interrupt m = refl
+steps-applied (retire written s) m = refl
 steps-applied (exit value s) m = refl
 
 pub steps-advance : (m : Machine) → m.ending ≡ None → (advance m).steps ≡ m.steps + 1
@@ -68,7 +70,8 @@ applied-exception (trap cause value) m c v h =
     let same_cause : cause ≡ c = cc in
     let same_value : value ≡ v = cc in
     ap (λ k. applied (trap k value) m) same_cause ∙ ap (λ k. applied (trap c k) m) same_value
-applied-exception (retire wrote s) m c v h = absurd (cc)
+applied-exception interrupt m c v h = absurd (cc)
+applied-exception (retire written s) m c v h = absurd (cc)
 applied-exception (exit value s) m c v h = absurd (cc)
 
 pub advance-exception : (m : Machine) (cause value : ℕ) → m.ending ≡ None → next m ≡ exception cause value
@@ -82,7 +85,8 @@ below-limited false steps limit e h live = grind arith
 
 below-applied : (a : Action) (m : Machine) → m.steps < m.limit → (applied a m).ending ≡ None → m.steps + 1 < m.limit
 below-applied (trap cause value) m h live = below-limited (eqb (m.steps + 1) m.limit) (m.steps + 1) m.limit refl (omega arith) live
-below-applied (retire wrote s) m h live = below-limited (eqb (m.steps + 1) m.limit) (m.steps + 1) m.limit refl (omega arith) live
+below-applied interrupt m h live = below-limited (eqb (m.steps + 1) m.limit) (m.steps + 1) m.limit refl (omega arith) live
+below-applied (retire written s) m h live = below-limited (eqb (m.steps + 1) m.limit) (m.steps + 1) m.limit refl (omega arith) live
 below-applied (exit value s) m h live = cc
 
 IsWithinLimit-live : (m : Machine) → m.ending ≡ None → m.steps < m.limit → IsWithinLimit (advance m)

@@ -19,20 +19,21 @@ use Rattle.rv_decode.specs.declared.kinds.Group.TheVariants.{LoadUpper, AddUpper
 use Rattle.rv_decode.specs.Kinds.{group_of}
 use Rattle.rv_exec.specs.Memory.{load_width, store_bytes, store_width}
 use Rattle.forest_model.specs.declared.Ending.{Ending}
-use Rattle.forest_model.specs.declared.Effect.{Effect}
-use Rattle.forest_model.specs.declared.Effect.TheVariants.{Done, Exit}
+use Rattle.fork_port.specs.declared.port.Effect.{Effect}
+use Rattle.fork_port.specs.declared.port.Effect.TheVariants.{Done, TimeWritten, Exit}
 use Rattle.forest_model.specs.Ports.{Read, Stored, port_load, port_store}
-use Rattle.forest_model.specs.State.{State, is_in_ram, register, at_next_instruction}
-use Rattle.forest_model.specs.Action.{Action, trap, retire, exit, rs1, rs2, immediate}
+use Rattle.forest_model.specs.State.{State, is_in_ram, is_timer_due, register, at_next_instruction}
+use Rattle.forest_model.specs.Action.{Action, trap, interrupt, retire, exit, rs1, rs2, immediate}
 use Rattle.forest_model.specs.Compute.{load_upper, add_upper, compute_immediate, compute}
 use Rattle.forest_model.specs.Control.{aligned_jump, jump, jump_register, branch_by, branch, relative, linked}
 use Rattle.forest_model.specs.Memory.{data_address, is_aligned, read_action, place_load, aligned_load, load, effect_action, port_action, place_store, aligned_store, store_action, stored_bytes, store}
 use Rattle.forest_model.specs.Atomic.{is_reserved, reserve_at, aligned_reserve, load_reserved, conditional_action, conditional_at, aligned_conditional, store_conditional, amo_at, aligned_amo, amo}
+use Rattle.rv_traps.specs.Trap.{takes_interrupt}
 use Rattle.rv_traps.specs.declared.registers.CsrRegisters.{CsrRegisters}
 use Rattle.forest_model.specs.System.{operation_of, reads, writes, written_action, write_action, old_action, old_value, csr_access, trap_return}
-use Rattle.forest_model.specs.Execute.{action, execute_group, execute, decoded_action, fetched, fetch_action}
+use Rattle.forest_model.specs.Execute.{action, action_by, execute_group, execute, decoded_action, fetched, fetch_action}
 use Rattle.forest_model.specs.Machine.{Machine, advance, advance_from, applied}
-use Rattle.forest_model.specs.Touch.{page_of, access_page, data_page, code_and_data, touch_decoded, touch_fetch, touch_from, touch}
+use Rattle.forest_model.specs.Touch.{page_of, access_page, data_page, code_and_data, touch_decoded, touch_fetch, touch_step, touch_from, touch}
 use Rattle.forest_model.proofs.Finish.{IsSome-ended}
 
 -- the pages listed begin in RAM, are at most two, and differ
@@ -121,8 +122,12 @@ IsPages-fetch : (in_ram : Bool) (s : State) → is_in_ram s.ram s.pc ≡ in_ram 
 IsPages-fetch false s e = IsPages-nil s.ram
 IsPages-fetch true s e = IsPages-decoded (decoded (fetched s)) s e
 
+IsPages-step : (taken : Bool) (s : State) → IsPages s.ram (touch_step taken s)
+IsPages-step true s = IsPages-nil s.ram
+IsPages-step false s = IsPages-fetch (is_in_ram s.ram s.pc) s refl
+
 IsPages-from : (ending : Option Ending) (s : State) → IsPages s.ram (touch_from ending s)
-IsPages-from None s = IsPages-fetch (is_in_ram s.ram s.pc) s refl
+IsPages-from None s = IsPages-step (takes_interrupt s.csrs (is_timer_due s)) s
 IsPages-from (Some ending) s = IsPages-nil s.ram
 
 pub IsPages-touch : (m : Machine) → IsPages m.state.ram (touch m)
@@ -136,7 +141,8 @@ touch-IsSome m h = let e = IsSome-ended m.ending h in ap (λ ending. touch_from 
 -- RAM after an action
 abbrev ram_after : Action → State → List ℕ
 ram_after (trap cause value) s = s.ram
-ram_after (retire wrote new) s = new.ram
+ram_after interrupt s = s.ram
+ram_after (retire written new) s = new.ram
 ram_after (exit value new) s = new.ram
 
 -- the action leaves the byte at `at`
@@ -164,6 +170,7 @@ Leaves-put_bytes at address bytes s e widths aligned other =
 
 ram_after-effect_action : (effect : Effect) (new s : State) → ram_after (effect_action effect new) s ≡ new.ram
 ram_after-effect_action Done new s = refl
+ram_after-effect_action TimeWritten new s = refl
 ram_after-effect_action (Exit value) new s = refl
 
 Leaves-port_action : (at : ℕ) (answer : Option Stored) (address : ℕ) (s : State) → Leaves at s (port_action answer address s)
@@ -316,13 +323,18 @@ Leaves-fetch : (at : ℕ) (in_ram : Bool) (s : State) → (Contains (touch_fetch
 Leaves-fetch at false s not_touched = refl
 Leaves-fetch at true s not_touched = Leaves-decoded at (decoded (fetched s)) (fetched s) s not_touched
 
-Leaves-action : (at : ℕ) (s : State) → (Contains (touch_fetch (is_in_ram s.ram s.pc) s) (at / PAGE_SIZE) → ⊥) → Leaves at s (action s)
+Leaves-by : (at : ℕ) (taken : Bool) (s : State) → (Contains (touch_step taken s) (at / PAGE_SIZE) → ⊥) → Leaves at s (action_by taken s)
+Leaves-by at true s not_touched = refl
+Leaves-by at false s not_touched = Leaves-fetch at (is_in_ram s.ram s.pc) s not_touched
+
+Leaves-action : (at : ℕ) (s : State) → (Contains (touch_from None s) (at / PAGE_SIZE) → ⊥) → Leaves at s (action s)
 unfolding action
-Leaves-action at s not_touched = Leaves-fetch at (is_in_ram s.ram s.pc) s not_touched
+Leaves-action at s not_touched = Leaves-by at (takes_interrupt s.csrs (is_timer_due s)) s not_touched
 
 ram-applied : (a : Action) (m : Machine) → (applied a m).state.ram ≡ ram_after a m.state
 ram-applied (trap cause value) m = refl
-ram-applied (retire wrote s) m = refl
+ram-applied interrupt m = refl
+ram-applied (retire written s) m = refl
 ram-applied (exit value s) m = refl
 
 advance_from-leaves : (at : ℕ) (ending : Option Ending) (m : Machine) → (Contains (touch_from ending m.state) (at / PAGE_SIZE) → ⊥)

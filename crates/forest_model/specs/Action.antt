@@ -2,15 +2,17 @@
 use Rattle.std.specs.Prelude.{ℕ, Bool, true, false}
 use Rattle.std.specs.Int.{cast_unsigned, w32}
 use Rattle.rv_decode.specs.Instruction.{Instruction}
-use Rattle.rv_traps.specs.declared.counter.Wrote.{Wrote}
-use Rattle.rv_traps.specs.declared.counter.Wrote.TheVariants.{Nothing}
+use Rattle.forest_model.specs.declared.Written.{Written}
+use Rattle.forest_model.specs.declared.Written.TheVariants.{Nothing}
 use Rattle.forest_model.specs.State.{State, register, with_register, at_next_instruction}
 
 pub data Action : Type 0 where
   -- an exception, with its cause and value
   trap : ℕ → ℕ → Action
-  -- an instruction that retires, with the half of a counter that it wrote, and the state after it
-  retire : Wrote → State → Action
+  -- the timer interrupt
+  interrupt : Action
+  -- an instruction that retires, with what it wrote of the counters, and the state after it
+  retire : Written → State → Action
   -- the machine ends with a value, and the state after the instruction
   exit : ℕ → State → Action
 

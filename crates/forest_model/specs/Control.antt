@@ -2,7 +2,7 @@
 use Rattle.std.specs.Prelude.{ℕ, ◌+◌, ◌-◌, ◌%◌, ◌^◌, ◌==◌, Bool, true, false}
 use Rattle.rv_decode.specs.Instruction.{Instruction}
 use Rattle.rv_exec.specs.Branch.{branch_taken}
-use Rattle.rv_traps.specs.declared.counter.Wrote.TheVariants.{Nothing}
+use Rattle.forest_model.specs.declared.Written.TheVariants.{Nothing}
 use Rattle.forest_model.specs.declared.cause.TheConstants.{INSTRUCTION_ADDRESS_MISALIGNED}
 use Rattle.forest_model.specs.State.{State, at_next_instruction}
 use Rattle.forest_model.specs.Action.{Action, trap, retire, retire_next, with_rd, rs1, rs2, immediate}

@@ -8,9 +8,10 @@ use Rattle.rv_decode.specs.declared.kinds.Group.TheVariants.{LoadUpper, AddUpper
 use Rattle.rv_decode.specs.Kinds.{group_of}
 use Rattle.rv_decode.specs.Instruction.{Instruction}
 use Rattle.rv_decode.specs.Table.{decoded}
+use Rattle.rv_traps.specs.Trap.{takes_interrupt}
 use Rattle.forest_model.specs.declared.cause.TheConstants.{INSTRUCTION_ACCESS_FAULT, ILLEGAL_INSTRUCTION, BREAKPOINT, ENVIRONMENT_CALL}
-use Rattle.forest_model.specs.State.{State, is_in_ram}
-use Rattle.forest_model.specs.Action.{Action, trap, retire_next}
+use Rattle.forest_model.specs.State.{State, is_in_ram, is_timer_due}
+use Rattle.forest_model.specs.Action.{Action, trap, interrupt, retire_next}
 use Rattle.forest_model.specs.Compute.{load_upper, add_upper, compute_immediate, compute}
 use Rattle.forest_model.specs.Control.{jump, jump_register, branch}
 use Rattle.forest_model.specs.Memory.{load, store}
@@ -52,6 +53,10 @@ abbrev pub fetch_action : Bool → State → Action
 fetch_action false s = trap INSTRUCTION_ACCESS_FAULT s.pc
 fetch_action true s = decoded_action (decoded (fetched s)) (fetched s) s
 
--- the coming step
+abbrev pub action_by : Bool → State → Action
+action_by true s = interrupt
+action_by false s = fetch_action (is_in_ram s.ram s.pc) s
+
+-- the coming step: the interrupt comes before all else
 unfoldable pub action : State → Action
-action s = fetch_action (is_in_ram s.ram s.pc) s
+action s = action_by (takes_interrupt s.csrs (is_timer_due s)) s

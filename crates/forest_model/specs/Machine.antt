@@ -5,13 +5,17 @@ use Rattle.forest_model.specs.declared.Ending.{Ending}
 use Rattle.forest_model.specs.declared.Ending.TheVariants.{Exit, Limit}
 use Rattle.forest_model.specs.declared.Options.{Options}
 use Rattle.rv_traps.specs.declared.counter.Wrote.{Wrote}
-use Rattle.rv_traps.specs.declared.counter.Wrote.TheVariants.{Nothing}
+use Rattle.rv_traps.specs.declared.counter.Wrote.TheVariants as counter
+use Rattle.rv_traps.specs.declared.csrs.TheConstants.{TIMER_INTERRUPT}
+use Rattle.timer_port.specs.Timer.{timer_counted}
+use Rattle.forest_model.specs.declared.Written.{Written}
+use Rattle.forest_model.specs.declared.Written.TheVariants.{Nothing, Counter, Time}
 use Rattle.rv_traps.specs.Registers.{at_reset}
 use Rattle.rv_traps.specs.Counters.{counted}
 use Rattle.rv_traps.specs.Trap as csr
 use Rattle.forest_model.specs.Ports.{ports_at_start}
 use Rattle.forest_model.specs.State.{State}
-use Rattle.forest_model.specs.Action.{Action, trap, retire, exit}
+use Rattle.forest_model.specs.Action.{Action, trap, interrupt, retire, exit}
 use Rattle.forest_model.specs.Execute.{action}
 
 pub record Machine : Type 0 where
@@ -29,11 +33,13 @@ IsWithinLimit m = m.ending ≡ None → m.steps < m.limit
 pub data Next : Type 0 where
   -- an exception, with its cause and value
   exception : ℕ → ℕ → Next
+  timer_interrupt : Next
   plain : Next
 
 abbrev pub next_of : Action → Next
 next_of (trap cause value) = exception cause value
-next_of (retire wrote s) = plain
+next_of interrupt = timer_interrupt
+next_of (retire written s) = plain
 next_of (exit value s) = plain
 
 abbrev pub next : Machine → Next
@@ -51,13 +57,28 @@ ended s ending m = record { state = s; steps = m.steps + 1; limit = m.limit; end
 abbrev pub trapped : ℕ → ℕ → State → State
 trapped cause value s = record s { csrs = csr.trap s.csrs cause value s.pc; pc = csr.handler s.csrs cause; reservation = None }
 
--- the counters after a step, which retired an instruction or did not, and wrote a half of a counter or none
-abbrev pub count : Bool → Wrote → State → State
-count retired wrote s = record s { csrs = counted s.csrs retired wrote }
+-- the half of mcycle or minstret, and whether a half of mtime, that was written
+abbrev pub counter_of : Written → Wrote
+counter_of Nothing = counter.Nothing
+counter_of (Counter half) = half
+counter_of Time = counter.Nothing
+
+abbrev pub is_time : Written → Bool
+is_time Nothing = false
+is_time (Counter half) = false
+is_time Time = true
+
+-- the counters after a step, which retired an instruction or did not, and wrote this of them
+abbrev pub count : Bool → Written → State → State
+count retired written s = record s {
+  csrs = counted s.csrs retired (counter_of written);
+  ports = record s.ports { timer = timer_counted s.ports.timer (is_time written) };
+}
 
 abbrev pub applied : Action → Machine → Machine
 applied (trap cause value) m = limited (count false Nothing (trapped cause value m.state)) m
-applied (retire wrote s) m = limited (count true wrote s) m
+applied interrupt m = limited (count false Nothing (trapped TIMER_INTERRUPT 0 m.state)) m
+applied (retire written s) m = limited (count true written s) m
 applied (exit value s) m = ended (count true Nothing s) (Exit value) m
 
 abbrev pub advance_from : Option Ending → Machine → Machine

@@ -6,10 +6,10 @@ use Rattle.byteorder.specs.Endian.{little_from}
 use Rattle.flat_memory.specs.Flat.{put_bytes}
 use Rattle.rv_decode.specs.Instruction.{Instruction}
 use Rattle.rv_exec.specs.Memory.{load_value, load_width, store_bytes}
-use Rattle.rv_traps.specs.declared.counter.Wrote.TheVariants.{Nothing}
+use Rattle.forest_model.specs.declared.Written.TheVariants.{Nothing, Time}
 use Rattle.forest_model.specs.declared.cause.TheConstants.{LOAD_ADDRESS_MISALIGNED, LOAD_ACCESS_FAULT, STORE_ADDRESS_MISALIGNED, STORE_ACCESS_FAULT}
-use Rattle.forest_model.specs.declared.Effect.{Effect}
-use Rattle.forest_model.specs.declared.Effect.TheVariants.{Done, Exit}
+use Rattle.fork_port.specs.declared.port.Effect.{Effect}
+use Rattle.fork_port.specs.declared.port.Effect.TheVariants.{Done, TimeWritten, Exit}
 use Rattle.forest_model.specs.Ports.{Read, Stored, port_load, port_store}
 use Rattle.forest_model.specs.State.{State, is_in_ram, at_next_instruction}
 use Rattle.forest_model.specs.Action.{Action, trap, retire, exit, retire_next, with_rd, rs1, rs2, immediate}
@@ -46,6 +46,7 @@ load i s = aligned_load (is_aligned (data_address i s) (load_width i.kind)) i (d
 -- a store to a port, and what it does to the machine
 abbrev pub effect_action : Effect → State → Action
 effect_action Done s = retire Nothing s
+effect_action TimeWritten s = retire Time s
 effect_action (Exit value) s = exit value s
 
 abbrev pub port_action : Option Stored → ℕ → State → Action

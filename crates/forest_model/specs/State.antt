@@ -1,7 +1,8 @@
 -- What an instruction sees of a machine.
-use Rattle.std.specs.Prelude.{ℕ, ◌+◌, ◌-◌, ◌/◌, ◌%◌, ◌^◌, ◌==◌, ◌&&◌, Bool, false, nat_lt, nat_le, if◌then◌else◌, List, length, slice_index, slice_set, Option}
+use Rattle.std.specs.Prelude.{ℕ, ◌+◌, ◌-◌, ◌/◌, ◌%◌, ◌^◌, ◌==◌, ◌&&◌, Bool, nat_lt, nat_le, if◌then◌else◌, List, length, slice_index, slice_set, Option}
 use Rattle.elf_load.specs.declared.image.TheConstants.{RAM_BASE}
 use Rattle.rv_traps.specs.declared.registers.CsrRegisters.{CsrRegisters}
+use Rattle.timer_port.specs.Timer.{is_due}
 use Rattle.forest_model.specs.Ports.{PortRegisters}
 
 pub record State : Type 0 where
@@ -27,6 +28,6 @@ with_register registers number value = if number == 0 then registers else slice_
 abbrev pub at_next_instruction : State → State
 at_next_instruction s = record s { pc = (s.pc + 4) % 2 ^ 32 }
 
--- the timer is due: there is none yet
+-- the timer asks for an interrupt
 abbrev pub is_timer_due : State → Bool
-is_timer_due s = false
+is_timer_due s = is_due s.ports.timer

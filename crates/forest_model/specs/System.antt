@@ -5,7 +5,7 @@ use Rattle.rv_decode.specs.declared.kinds.Kind.{Kind}
 use Rattle.rv_decode.specs.declared.kinds.Kind.TheVariants.{Csrrw, Csrrs, Csrrc, Csrrwi, Csrrsi, Csrrci}
 use Rattle.rv_decode.specs.Instruction.{Instruction}
 use Rattle.rv_traps.specs.declared.registers.CsrRegisters.{CsrRegisters}
-use Rattle.rv_traps.specs.declared.counter.Wrote.TheVariants.{Nothing}
+use Rattle.forest_model.specs.declared.Written.TheVariants.{Nothing, Counter}
 use Rattle.rv_traps.specs.Access.{csr_read, csr_write}
 use Rattle.rv_traps.specs.Counters.{half_of}
 use Rattle.rv_traps.specs.Trap.{mret}
@@ -52,7 +52,7 @@ writes ClearBits i = not (i.rs1 == 0)
 abbrev pub written_action : Option CsrRegisters → ℕ → Instruction → ℕ → State → Action
 written_action None old i word s = trap ILLEGAL_INSTRUCTION word
 written_action (Some csrs) old i word s =
-    retire (half_of (immediate i)) (at_next_instruction (with_rd i old (record s { csrs = csrs })))
+    retire (Counter (half_of (immediate i))) (at_next_instruction (with_rd i old (record s { csrs = csrs })))
 
 abbrev pub write_action : Bool → ℕ → Instruction → ℕ → State → Action
 write_action false old i word s = retire_next (with_rd i old s)

@@ -4,12 +4,13 @@ use Rattle.std.specs.Prelude.{ℕ, ◌-◌, ◌/◌, ◌%◌, ◌==◌, ◌&&◌
 use Rattle.elf_load.specs.declared.image.TheConstants.{RAM_BASE, PAGE_SIZE}
 use Rattle.rv_decode.specs.Instruction.{Instruction}
 use Rattle.rv_decode.specs.Table.{decoded}
+use Rattle.rv_traps.specs.Trap.{takes_interrupt}
 use Rattle.forest_model.specs.declared.Ending.{Ending}
 use Rattle.rv_decode.specs.declared.kinds.Group.{Group}
 use Rattle.rv_decode.specs.declared.kinds.Group.TheVariants.{LoadUpper, AddUpper, Jump, JumpRegister, Branch, Load, Store, ComputeImmediate, Compute, Nothing, EnvironmentCall, Breakpoint, TrapReturn, Csr, LoadReserved, StoreConditional, Amo}
 use Rattle.rv_decode.specs.Kinds.{group_of}
 use Rattle.rv_exec.specs.Memory.{load_width}
-use Rattle.forest_model.specs.State.{State, is_in_ram}
+use Rattle.forest_model.specs.State.{State, is_in_ram, is_timer_due}
 use Rattle.forest_model.specs.Action.{rs1}
 use Rattle.forest_model.specs.Memory.{data_address, stored_bytes}
 use Rattle.forest_model.specs.Atomic.{is_reserved}
@@ -57,8 +58,13 @@ abbrev pub touch_fetch : Bool → State → List ℕ
 touch_fetch false s = []
 touch_fetch true s = touch_decoded (decoded (fetched s)) s
 
+-- an interrupt needs none
+abbrev pub touch_step : Bool → State → List ℕ
+touch_step true s = []
+touch_step false s = touch_fetch (is_in_ram s.ram s.pc) s
+
 abbrev pub touch_from : Option Ending → State → List ℕ
-touch_from None s = touch_fetch (is_in_ram s.ram s.pc) s
+touch_from None s = touch_step (takes_interrupt s.csrs (is_timer_due s)) s
 touch_from (Some ending) s = []
 
 -- the pages that the next step touches, in order

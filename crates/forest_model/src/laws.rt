@@ -4,8 +4,8 @@ ghost use Rattle.std.specs.Prelude.{◌≡◌, ◌≢◌, ℕ, false, ◌+◌, �
 ghost use Rattle.forest_model.specs.Machine.{Machine, IsWithinLimit, exception, next, limited, count, trapped, advance, after_steps, finish};
 ghost use Rattle.forest_model.specs.Touch.{touch};
 
+use crate::Written;
 use elf_load::PAGE_SIZE;
-use rv_traps::Wrote;
 
 /// A step of a live machine is counted, none moves the limit, and a machine that has ended stays.
 pub fn advance_counts()
@@ -19,7 +19,7 @@ pub fn advance_counts()
 /// nothing but what a trap changes.
 pub fn exception_traps()
     ensures { (m : Machine) (cause value : ℕ) → m.ending ≡ None → next m ≡ exception cause value
-        → advance m ≡ limited (count false Wrote.Nothing (trapped cause value m.state)) m }
+        → advance m ≡ limited (count false Written.Nothing (trapped cause value m.state)) m }
 {}
 
 /// A machine run to its end is itself where it has ended, and else what its next step leads to. It

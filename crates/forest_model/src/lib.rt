@@ -6,6 +6,8 @@ pub mod cause;
 pub mod laws;
 pub mod port_map;
 
+use rv_traps::Wrote;
+
 /// How a machine ended.
 #[derive(Clone, Copy, Debug, PartialEq, Eq)]
 pub enum Ending {
@@ -15,12 +17,14 @@ pub enum Ending {
     Limit,
 }
 
-/// What a store to a port does to the machine beside the port's own registers.
+/// What of the counters a step wrote itself. It does not count the step.
 #[derive(Clone, Copy, Debug, PartialEq, Eq)]
-pub enum Effect {
-    Done,
-    /// The machine ends with this value.
-    Exit(u32),
+pub enum Written {
+    Nothing,
+    /// A half of mcycle or of minstret.
+    Counter(Wrote),
+    /// A half of mtime.
+    Time,
 }
 
 /// What an access to a control and status register does with its operand.

@@ -1,7 +1,7 @@
 -- A run so far, and what its end says.
-use Rattle.std.proofs.Common.{◌≡◌, ℕ, suc, ◌+◌, ◌-◌, ◌<◌, ◌≤◌, Option, Some, None, IsSome, refl, sym, ap, ◌∙◌, inl, inr, subst, arith, add-one}
+use Rattle.std.proofs.Common.{◌≡◌, ℕ, ◌+◌, ◌<◌, ◌≤◌, None, IsSome, refl, sym, ap, ◌∙◌, inl, inr, subst, arith, add-one}
 use Rattle.forest_model.specs.Machine.{Machine, IsWithinLimit, advance, after_steps, finish}
-use Rattle.forest_model.proofs.Finish.{after_steps-suc, limit-after_steps, steps-advance, finish-after_steps_IsSome, cases-ending}
+use Rattle.forest_model.proofs.Finish.{after_steps-suc, limit-after_steps, finish-after_steps_IsSome, cases-ending}
 
 -- `made` steps lead from old to new, and each was made by a live machine
 pub record IsRun (old new : Machine) (made : ℕ) : Type 0 where

@@ -1,7 +1,13 @@
 -- What holds of every hart.
-use Rattle.std.specs.Prelude.{◌≡◌, ℕ, ◌%◌, ◌*◌, ◌≤◌, length, slice_index}
+use Rattle.std.specs.Prelude.{◌≡◌, ◌%◌, ◌*◌, ◌≤◌, length, slice_index}
 use Rattle.elf_load.specs.declared.image.TheConstants.{PAGE_SIZE, MAX_PAGES}
 use Rattle.forest_model.specs.State.{State}
+use Rattle.forest_model.specs.Ports.{PortRegisters}
+use Rattle.vm_bus.specs.Bus.{BusRegisters}
+
+-- what the bus holds
+abbrev pub ports_of : BusRegisters → PortRegisters
+ports_of b = record { console = b.console; timer = b.timer; fork = b.fork }
 
 pub record IsHart (s : State) : Type 0 where
   -- so a read of x0 needs no test

@@ -7,9 +7,9 @@ ghost use Rattle.forest_model.specs.Execute.{action, execute};
 ghost use Rattle.forest_model.specs.Machine.{registers_at_start, trapped, count};
 ghost use Rattle.vm_cell.specs.Acts.{Acts, Grows};
 
-use crate::ports::Ports;
 use elf_load::{Loaded, RAM_BASE};
 use flat_memory::read_word;
+use forest_model::Written;
 use forest_model::cause::{
     BREAKPOINT, ENVIRONMENT_CALL, ILLEGAL_INSTRUCTION, INSTRUCTION_ACCESS_FAULT,
 };
@@ -17,6 +17,7 @@ use rv_decode::{Group, Instr, decode};
 use rv_traps::{Csrs, Wrote};
 use std::alloc::{AllocError, Global};
 use std::marker::Model;
+use vm_bus::Ports;
 
 mod atomic;
 mod compute;
@@ -29,8 +30,10 @@ mod system;
 pub enum Acted {
     /// An exception, with its cause and value. Nothing else has changed.
     Trapped { cause: u32, value: u32 },
-    /// The instruction retired, and wrote a half of a counter or none.
-    Retired(Wrote),
+    /// The timer interrupt comes before the instruction. Nothing has changed.
+    Interrupted,
+    /// The instruction retired, and wrote this of the counters.
+    Retired(Written),
     /// The instruction retired, and ended the machine with this value.
     Exited(u32),
 }
@@ -48,13 +51,13 @@ pub struct Hart {
 
 impl Model for Hart {
     ghost use Rattle.forest_model.specs.State.{State};
-    ghost use Rattle.vm_cell.specs.Hart.{IsHart};
+    ghost use Rattle.vm_cell.specs.Hart.{IsHart, ports_of};
 
     ghost Value = { State };
 
-    ghost view = { λ h. record { registers = h.registers; pc = h.pc; csrs = h.csrs; reservation = h.reservation; ram = h.ram.items; ports = h.ports } };
+    ghost view = { λ h. record { registers = h.registers; pc = h.pc; csrs = h.csrs; reservation = h.reservation; ram = h.ram.items; ports = ports_of h.ports } };
 
-    ghost invariant = { λ h. IsHart (record { registers = h.registers; pc = h.pc; csrs = h.csrs; reservation = h.reservation; ram = h.ram.items; ports = h.ports }) };
+    ghost invariant = { λ h. IsHart (record { registers = h.registers; pc = h.pc; csrs = h.csrs; reservation = h.reservation; ram = h.ram.items; ports = ports_of h.ports }) };
 }
 
 impl Hart {
@@ -76,7 +79,7 @@ impl Hart {
             csrs: Csrs::reset(),
             reservation: None,
             ram: Vec::from_slice(alloc, image.ram())?,
-            ports: Ports::new(alloc),
+            ports: Ports::new(alloc)?,
         })
     }
 
@@ -109,6 +112,9 @@ impl Hart {
         ensures acts { Acts self.old self.new (action self.old) result }
         ensures memory { OnErr result (Grows (action self.old) self.old) }
     {
+        if self.csrs.interrupt(self.ports.is_timer_due()) {
+            return Ok(Acted::Interrupted);
+        }
         let Some(offset) = self.ram_offset(self.pc) else {
             return Ok(trapped(INSTRUCTION_ACCESS_FAULT, self.pc));
         };
@@ -127,12 +133,18 @@ impl Hart {
         self.reservation = None;
     }
 
-    /// Counts a step, which retired an instruction or did not, and wrote a half of a counter or none.
+    /// Counts a step, which retired an instruction or did not, and wrote this of the counters.
     #[inline]
-    pub fn count(&mut self, retired: bool, wrote: Wrote)
-        ensures { self.new ≡ count retired wrote self.old }
+    pub fn count(&mut self, retired: bool, written: Written)
+        ensures { self.new ≡ count retired written self.old }
     {
-        self.csrs.count(retired, wrote);
+        let (half, is_time) = match written {
+            Written::Nothing => (Wrote::Nothing, false),
+            Written::Counter(half) => (half, false),
+            Written::Time => (Wrote::Nothing, true),
+        };
+        self.csrs.count(retired, half);
+        self.ports.count_time(is_time);
     }
 
     /// Executes an instruction at the pc, which `word` encodes.
@@ -178,7 +190,7 @@ impl Hart {
         ensures { Acts self.old self.new (retire_next self.old) (Ok result) }
     {
         self.pc = self.pc.wrapping_add(4);
-        Acted::Retired(Wrote::Nothing)
+        Acted::Retired(Written::Nothing)
     }
 
     /// The offset of an address in RAM, or `None` where it is not in RAM.

@@ -2,7 +2,6 @@
 #![tactic(auto)]
 
 mod hart;
-mod ports;
 mod vm;
 
 pub use vm::{Ran, Stepped, Vm};

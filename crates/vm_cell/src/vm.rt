@@ -6,8 +6,8 @@ ghost use Rattle.vm_cell.specs.Steps.{stepped_of};
 
 use crate::hart::{Acted, Hart};
 use elf_load::Loaded;
-use forest_model::{Ending, Options};
-use rv_traps::Wrote;
+use forest_model::{Ending, Options, Written};
+use rv_traps::TIMER_INTERRUPT;
 use std::alloc::{AllocError, Global};
 use std::marker::Model;
 
@@ -151,15 +151,20 @@ impl Vm {
         match self.hart.act()? {
             Acted::Trapped { cause, value } => {
                 self.hart.take_trap(cause, value);
-                self.hart.count(false, Wrote::Nothing);
+                self.hart.count(false, Written::Nothing);
                 self.count_step();
             }
-            Acted::Retired(wrote) => {
-                self.hart.count(true, wrote);
+            Acted::Interrupted => {
+                self.hart.take_trap(TIMER_INTERRUPT, 0);
+                self.hart.count(false, Written::Nothing);
+                self.count_step();
+            }
+            Acted::Retired(written) => {
+                self.hart.count(true, written);
                 self.count_step();
             }
             Acted::Exited(value) => {
-                self.hart.count(true, Wrote::Nothing);
+                self.hart.count(true, Written::Nothing);
                 self.steps += 1;
                 self.ending = Some(Ending::Exit(value));
             }
@@ -273,9 +278,50 @@ mod tests {
         0x00300393, 0xfff38393, 0xfe039ee3, 0x100022b7, 0x0072a023, 0x00500313, 0x0062a423,
     ];
 
+    // The interrupt comes after the write of mstatus, and goes to the handler by `address`, from
+    // 0x80000004 on: the vectored mode's place for the timer, or the base itself.
+    fn interrupted(address: u32) -> [u32; 19] {
+        [
+            0x100022b7, 0x00000317, address, 0x30531073, 0x08000313, 0x30431073, 0x020044b7,
+            0x0004a023, 0x0004a223, 0x30046073, 0x13, 0x13, 0x13, 0x13, 0x13, 0x342023f3,
+            0x0072a023, 0x00500313, 0x0062a423,
+        ]
+    }
+
+    // addi x6, x6, 29: base 0x80000020, vectored
+    const VECTORED: u32 = 0x01d30313;
+
+    // addi x6, x6, 56: base 0x8000003c, direct
+    const DIRECT: u32 = 0x03830313;
+
+    // A tick each 20 steps. The first word to the last before the wait are steps 0 to 10, and mtime is the
+    // number of the step, so tick k is step 20 * k. Each but the tenth takes six more steps, to MRET, before
+    // the wait goes on. The tenth is step 200, and steps 201 to 206 count it and exit with the count.
+    const TEN_TICKS: [u32; 21] = [
+        // lui x5, 0x10002; auipc x6, 0; addi x6, x6, 44; csrw mtvec, x6
+        0x100022b7, 0x00000317, 0x02c30313, 0x30531073,
+        // lui x8, 0x2004; sw x0, 4(x8); addi x10, x0, 20; sw x10, 0(x8)
+        0x02004437, 0x00042223, 0x01400513, 0x00a42023,
+        // addi x6, x0, 128; csrw mie, x6; csrsi mstatus, 8; jal x0, 0
+        0x08000313, 0x30431073, 0x30046073, 0x0000006f,
+        // addi x7, x7, 1; addi x11, x0, 10; beq x7, x11, 16
+        0x00138393, 0x00a00593, 0x00b38863,
+        // addi x10, x10, 20; sw x10, 0(x8); mret
+        0x01450513, 0x00a42023, 0x30200073,
+        // sw x7, 0(x5); addi x6, x0, 5; sw x6, 8(x5)
+        0x0072a023, 0x00500313, 0x0062a423,
+    ];
+
+    // lui x9, 0x200c; addi x6, x0, 100; sw x6, -8(x9); lw x7, -8(x9); and EXIT with x7: mtime does not count
+    // the step that wrote it.
+    const TIME_WRITTEN: [u32; 8] = [
+        0x100022b7, 0x0200c4b7, 0x06400313, 0xfe64ac23, 0xff84a383, 0x0072a023, 0x00500313,
+        0x0062a423,
+    ];
+
     #[test]
     fn runs_programs(rt: HostRuntime) -> Result<(), Fail> {
-        let cases: [(&[u32], u64, Ending, u64, &[u8]); 10] = [
+        let cases: [(&[u32], u64, Ending, u64, &[u8]); 15] = [
             (&EXIT_SEVEN, 1_000_000, Ending::Exit(7), 5, b""),
             (&EXIT_SEVEN, 5, Ending::Exit(7), 5, b""),
             (&EXIT_SEVEN, 4, Ending::Limit, 4, b""),
@@ -289,6 +335,23 @@ mod tests {
             (&trapping(0x73, READ_MCYCLE), 100, Ending::Exit(5), 9, b""),
             // x7 counts down from 3; the two words of the loop are ADDI and BNE
             (&COUNT_DOWN, 100, Ending::Exit(0), 11, b""),
+            (
+                &interrupted(VECTORED),
+                100,
+                Ending::Exit(0x8000_0007),
+                15,
+                b"",
+            ),
+            (
+                &interrupted(DIRECT),
+                100,
+                Ending::Exit(0x8000_0007),
+                15,
+                b"",
+            ),
+            (&TEN_TICKS, 1000, Ending::Exit(10), 207, b""),
+            (&TEN_TICKS, 206, Ending::Limit, 206, b""),
+            (&TIME_WRITTEN, 100, Ending::Exit(100), 8, b""),
         ];
         for (words, limit, ending, steps, output) in cases {
             assert!(rt; words.len() <= 32 && 1 <= limit && limit <= 1_000_000_000);

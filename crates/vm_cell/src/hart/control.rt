@@ -7,10 +7,10 @@ ghost use Rattle.forest_model.specs.Control.{jump_to, relative, linked, jump, ju
 ghost use Rattle.vm_cell.specs.Acts.{Acts};
 
 use super::{Acted, Hart, trapped};
+use forest_model::Written;
 use forest_model::cause::INSTRUCTION_ADDRESS_MISALIGNED;
 use rv_decode::Instr;
 use rv_exec::branch_taken;
-use rv_traps::Wrote;
 
 impl Hart {
     #[inline]
@@ -67,7 +67,7 @@ impl Hart {
         let next = self.pc.wrapping_add(4);
         self.set_register(instr.rd(), next);
         self.pc = target;
-        Acted::Retired(Wrote::Nothing)
+        Acted::Retired(Written::Nothing)
     }
 
     #[inline]
@@ -78,6 +78,6 @@ impl Hart {
             return trapped(INSTRUCTION_ADDRESS_MISALIGNED, target);
         }
         self.pc = target;
-        Acted::Retired(Wrote::Nothing)
+        Acted::Retired(Written::Nothing)
     }
 }

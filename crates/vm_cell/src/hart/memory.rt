@@ -10,16 +10,16 @@ ghost use Rattle.rv_exec.specs.Memory.{load_width};
 ghost use Rattle.vm_cell.specs.Acts.{Acts, Grows};
 
 use super::{Acted, Hart, trapped};
-use crate::ports::PortError;
 use flat_memory::{read_half, read_word, write_bytes};
-use forest_model::Effect;
+use forest_model::Written;
 use forest_model::cause::{
     LOAD_ACCESS_FAULT, LOAD_ADDRESS_MISALIGNED, STORE_ACCESS_FAULT, STORE_ADDRESS_MISALIGNED,
 };
+use port_error::PortError;
 use rv_decode::{Instr, Kind};
 use rv_exec::load_value;
-use rv_traps::Wrote;
 use std::alloc::AllocError;
+use vm_bus::Effect;
 
 impl Hart {
     /// The address of a load or a store.
@@ -64,12 +64,16 @@ impl Hart {
         self.retire_with(instr, load_value(instr.kind(), number))
     }
 
-    /// Loads the `width` bytes from a port: none gives one yet.
-    #[tactic(auto, unfolding(forest_model::specs::Ports::port_load))]
+    /// Loads the `width` bytes from a port.
+    #[tactic(auto, unfolding(forest_model::specs::Ports::port_load, vm_bus::specs::Bus::bus_load, timer_port::specs::Timer::timer_load))]
     fn load_from_port(&mut self, instr: Instr, address: u32, width: u32) -> Acted
+        requires group { group_of instr.kind ≡ group.Load }
         ensures { Acts self.old self.new (read_action (port_load self.old.ports address width) instr address self.old) (Ok result) }
     {
-        trapped(LOAD_ACCESS_FAULT, address)
+        match self.ports.load(address, width) {
+            Ok(number) => self.retire_with(instr, load_value(instr.kind(), number)),
+            Err(_) => trapped(LOAD_ACCESS_FAULT, address),
+        }
     }
 
     /// The number in the `width` bytes of RAM from `offset`.
@@ -126,6 +130,7 @@ impl Hart {
     }
 
     /// Stores the low `width` bytes of `word` to a port.
+    #[tactic(auto, unfolding(forest_model::specs::Ports::port_store, vm_bus::specs::Bus::bus_store, timer_port::specs::Timer::timer_store))]
     fn store_to_port(&mut self, address: u32, width: u32, word: u32) -> Result<Acted, AllocError>
         ensures acts { Acts self.old self.new (port_action (port_store self.old.ports address width word) address self.old) result }
         ensures memory { OnErr result (Grows (port_action (port_store self.old.ports address width word) address self.old) self.old) }
@@ -134,7 +139,8 @@ impl Hart {
             Ok(effect) => {
                 self.retire();
                 Ok(match effect {
-                    Effect::Done => Acted::Retired(Wrote::Nothing),
+                    Effect::Done => Acted::Retired(Written::Nothing),
+                    Effect::TimeWritten => Acted::Retired(Written::Time),
                     Effect::Exit(value) => Acted::Exited(value),
                 })
             }

@@ -5,8 +5,8 @@ ghost use Rattle.forest_model.specs.System.{operand, operation_of, csr_value, re
 ghost use Rattle.vm_cell.specs.Acts.{Acts};
 
 use super::{Acted, Hart, trapped};
-use forest_model::CsrOperation;
 use forest_model::cause::ILLEGAL_INSTRUCTION;
+use forest_model::{CsrOperation, Written};
 use rv_decode::{Instr, Kind};
 use rv_traps::Wrote;
 
@@ -17,7 +17,7 @@ impl Hart {
         ensures { Acts self.old self.new (trap_return self.old) (Ok result) }
     {
         self.pc = self.csrs.mret();
-        Acted::Retired(Wrote::Nothing)
+        Acted::Retired(Written::Nothing)
     }
 
     /// Reads and writes a CSR, as `word` encodes.
@@ -27,7 +27,7 @@ impl Hart {
     {
         let number = instr.imm().cast_unsigned();
         let old = if reads(operation(instr.kind()), instr) {
-            match self.csrs.read(number, false) {
+            match self.csrs.read(number, self.ports.is_timer_due()) {
                 Some(old) => old,
                 None => return trapped(ILLEGAL_INSTRUCTION, word),
             }
@@ -51,7 +51,7 @@ impl Hart {
             return trapped(ILLEGAL_INSTRUCTION, word);
         }
         self.retire_with(instr, old);
-        Acted::Retired(Wrote::by_write(number))
+        Acted::Retired(Written::Counter(Wrote::by_write(number)))
     }
 
     /// The operand: a register, or the field itself.

@@ -1,0 +1,10 @@
+//! The console port: bytes that come in, and bytes that go out.
+#![tactic(auto)]
+
+mod port;
+pub mod registers;
+
+pub use port::{ConsoleFields, ConsolePort, MAX_INPUT};
+
+#[cfg(test)]
+mod tests;

@@ -1,0 +1,3 @@
+pub mod Sectors
+pub mod PieceLemmas
+pub mod TableLemmas

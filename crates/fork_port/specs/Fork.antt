@@ -1,0 +1,28 @@
+-- The fork port: an argument, and commands. Words alone.
+use Rattle.std.specs.Prelude.{ℕ, ◌==◌, ◌&&◌, if◌then◌else◌, Option, Some, None}
+use Rattle.fork_port.specs.declared.registers.TheConstants.{FORK_ARGUMENT, FORK_COMMAND, EXIT_COMMAND}
+use Rattle.fork_port.specs.declared.port.Effect.{Effect}
+use Rattle.fork_port.specs.declared.port.Effect.TheVariants.{Done, Exit}
+
+-- the argument of the next command
+pub record ForkRegisters : Type 0 where
+  pub argument : ℕ
+
+-- the registers of a machine that starts
+abbrev pub at_start : ForkRegisters
+at_start = record { argument = 0 }
+
+-- EXIT ends the machine with the argument as its value, and other commands do nothing
+abbrev pub command_effect : ForkRegisters → ℕ → Effect
+command_effect f command = if command == EXIT_COMMAND then Exit f.argument else Done
+
+-- the registers after a store, and what it does to the machine
+pub record ForkStored : Type 0 where
+  pub fork : ForkRegisters
+  pub effect : Effect
+
+-- a store of the low `width` bytes of a word, or none where there is no such access
+abbrev pub fork_store : ForkRegisters → ℕ → ℕ → ℕ → Option ForkStored
+fork_store f offset width word =
+    if (offset == FORK_ARGUMENT) && (width == 4) then Some (record { fork = record { argument = word }; effect = Done })
+    else (if (offset == FORK_COMMAND) && (width == 4) then Some (record { fork = f; effect = command_effect f word }) else None)

@@ -1,0 +1,10 @@
+//! Where the ports lie.
+
+/// The address of the timer.
+pub const TIMER_BASE: u32 = 0x0200_4000;
+
+/// The address of the console.
+pub const CONSOLE_BASE: u32 = 0x1000_0000;
+
+/// The address of the fork port.
+pub const FORK_BASE: u32 = 0x1000_2000;

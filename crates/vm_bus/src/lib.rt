@@ -1,0 +1,11 @@
+//! The bus: the ports of a machine, each at its addresses.
+#![tactic(auto)]
+
+pub mod addresses;
+mod ports;
+
+pub use fork_port::Effect;
+pub use ports::Ports;
+
+#[cfg(test)]
+mod tests;

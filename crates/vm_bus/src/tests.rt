@@ -1,0 +1,101 @@
+use crate::{Effect, Ports};
+use port_error::{Fault, PortError};
+use std::alloc::AllocError;
+
+// What a load of `width` bytes gives a machine that starts.
+#[test]
+fn loads_at_each_port_s_edges(rt: HostRuntime) -> Result<(), AllocError> {
+    let cases = [
+        (0x0000_0000, 4, Err(Fault)),
+        (0x0200_3ffc, 4, Err(Fault)),
+        (0x0200_4000, 4, Ok(0xffff_ffff)),
+        (0x0200_4000, 2, Err(Fault)),
+        (0x0200_4000, 1, Err(Fault)),
+        (0x0200_4004, 4, Ok(0xffff_ffff)),
+        (0x0200_4008, 4, Err(Fault)),
+        (0x0200_bff4, 4, Err(Fault)),
+        (0x0200_bff8, 4, Ok(0)),
+        (0x0200_bff8, 2, Err(Fault)),
+        (0x0200_bffc, 4, Ok(0)),
+        (0x0200_c000, 4, Err(Fault)),
+        (0x0fff_ffff, 1, Err(Fault)),
+        (0x1000_0000, 1, Ok(0)),
+        (0x1000_0000, 2, Err(Fault)),
+        (0x1000_0000, 4, Err(Fault)),
+        (0x1000_0005, 1, Ok(0x60)),
+        (0x1000_0007, 1, Ok(0)),
+        (0x1000_0008, 1, Err(Fault)),
+        (0x1000_1fff, 1, Err(Fault)),
+        (0x1000_2000, 4, Err(Fault)),
+        (0x1000_2000, 1, Err(Fault)),
+        (0x1000_2008, 4, Err(Fault)),
+        (0xffff_ffff, 1, Err(Fault)),
+    ];
+    for (address, width, want) in cases {
+        let mut ports = Ports::new(rt.alloc())?;
+        assert_eq!(rt;
+            ports.load(address, width),
+            want,
+            "{address:08x} of {width}"
+        );
+    }
+    Ok(())
+}
+
+// What a store of the low `width` bytes of 5 does to a machine that starts.
+#[test]
+fn stores_at_each_port_s_edges(rt: HostRuntime) -> Result<(), AllocError> {
+    let cases = [
+        (0x0000_0000, 4, Err(PortError::Fault)),
+        (0x0200_3ffc, 4, Err(PortError::Fault)),
+        (0x0200_4000, 4, Ok(Effect::Done)),
+        (0x0200_4000, 1, Err(PortError::Fault)),
+        (0x0200_4004, 4, Ok(Effect::Done)),
+        (0x0200_4008, 4, Err(PortError::Fault)),
+        (0x0200_bff4, 4, Err(PortError::Fault)),
+        (0x0200_bff8, 4, Ok(Effect::TimeWritten)),
+        (0x0200_bffc, 4, Ok(Effect::TimeWritten)),
+        (0x0200_c000, 4, Err(PortError::Fault)),
+        (0x0fff_ffff, 1, Err(PortError::Fault)),
+        (0x1000_0000, 1, Ok(Effect::Done)),
+        (0x1000_0000, 4, Err(PortError::Fault)),
+        (0x1000_0007, 1, Ok(Effect::Done)),
+        (0x1000_0008, 1, Err(PortError::Fault)),
+        (0x1000_1fff, 1, Err(PortError::Fault)),
+        (0x1000_2000, 4, Ok(Effect::Done)),
+        (0x1000_2000, 1, Err(PortError::Fault)),
+        (0x1000_2004, 4, Err(PortError::Fault)),
+        (0x1000_2008, 4, Ok(Effect::Exit(0))),
+        (0x1000_2028, 4, Err(PortError::Fault)),
+        (0xffff_ffff, 1, Err(PortError::Fault)),
+    ];
+    for (address, width, want) in cases {
+        let mut ports = Ports::new(rt.alloc())?;
+        assert_eq!(rt;
+            ports.store(address, width, 5),
+            want,
+            "{address:08x} of {width}"
+        );
+    }
+    Ok(())
+}
+
+#[test]
+fn each_port_keeps_what_is_stored(rt: HostRuntime) -> Result<(), AllocError> {
+    let mut ports = Ports::new(rt.alloc())?;
+    // mtimecmp becomes 2, and mtime counts to it
+    assert_eq!(rt; ports.store(0x0200_4004, 4, 0), Ok(Effect::Done));
+    assert_eq!(rt; ports.store(0x0200_4000, 4, 2), Ok(Effect::Done));
+    for due in [false, false, true] {
+        assert_eq!(rt; ports.is_timer_due(), due);
+        ports.count_time(false);
+    }
+    ports.count_time(true);
+    assert_eq!(rt; ports.load(0x0200_bff8, 4), Ok(3));
+    assert_eq!(rt; ports.store(0x1000_0000, 1, 0x141), Ok(Effect::Done));
+    assert_eq!(rt; ports.store(0x1000_2000, 4, 9), Ok(Effect::Done));
+    assert_eq!(rt; ports.store(0x1000_2008, 4, 5), Ok(Effect::Exit(9)));
+    assert_eq!(rt; ports.output(), b"A".as_slice());
+    assert_eq!(rt; ports.into_output().as_slice(), b"A".as_slice());
+    Ok(())
+}
