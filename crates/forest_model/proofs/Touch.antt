@@ -138,6 +138,15 @@ pub touch-IsSome : (m : Machine) → IsSome m.ending → touch m ≡ []
 unfolding touch
 touch-IsSome m h = let e = IsSome-ended m.ending h in ap (λ ending. touch_from ending m.state) e.1
 
+-- an interrupt touches none
+touch_from-interrupt : (ending : Option Ending) (s : State) → takes_interrupt s.csrs (is_timer_due s) ≡ true → touch_from ending s ≡ []
+touch_from-interrupt None s h = ap (λ taken. touch_step taken s) h
+touch_from-interrupt (Some ending) s h = refl
+
+pub touch-interrupt : (m : Machine) → takes_interrupt m.state.csrs (is_timer_due m.state) ≡ true → touch m ≡ []
+unfolding touch
+touch-interrupt m h = touch_from-interrupt m.ending m.state h
+
 -- RAM after an action
 abbrev ram_after : Action → State → List ℕ
 ram_after (trap cause value) s = s.ram
