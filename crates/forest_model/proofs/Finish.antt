@@ -2,7 +2,7 @@
 use Rattle.std.proofs.Common.{◌≡◌, ℕ, zero, suc, ◌+◌, ◌-◌, ◌<◌, ◌≤◌, Bool, true, false, eqb, Option, Some, None, IsSome, refl, sym, ap, ◌∙◌, subst, arith, suc-add, zero-add, cond, inl, inr, ◌⊎◌}
 use Rattle.std.proofs.lemmas.Bool.Decides.{leb_tells}
 use Rattle.forest_model.specs.declared.Ending.{Ending}
-use Rattle.forest_model.specs.declared.Ending.TheVariants.{Exit, Limit}
+use Rattle.forest_model.specs.declared.Ending.TheVariants.{Limit}
 use Rattle.forest_model.specs.declared.Written.TheVariants.{Nothing}
 use Rattle.rv_traps.specs.declared.csrs.TheConstants.{TIMER_INTERRUPT}
 use Rattle.rv_traps.specs.Trap.{takes_interrupt}
