@@ -1,12 +1,15 @@
 -- A machine that is run: ended machines stay, steps add up, and every machine ends at its limit.
 use Rattle.std.proofs.Common.{◌≡◌, ℕ, zero, suc, ◌+◌, ◌-◌, ◌<◌, ◌≤◌, Bool, true, false, eqb, Option, Some, None, IsSome, refl, sym, ap, ◌∙◌, subst, arith, suc-add, zero-add, cond, inl, inr, ◌⊎◌}
+use Rattle.std.proofs.lemmas.Bool.Decides.{leb_tells}
 use Rattle.forest_model.specs.declared.Ending.{Ending}
-use Rattle.forest_model.specs.declared.Ending.TheVariants.{Exit, Limit}
+use Rattle.forest_model.specs.declared.Ending.TheVariants.{Limit}
 use Rattle.forest_model.specs.declared.Written.TheVariants.{Nothing}
-use Rattle.forest_model.specs.State.{State}
+use Rattle.rv_traps.specs.declared.csrs.TheConstants.{TIMER_INTERRUPT}
+use Rattle.rv_traps.specs.Trap.{takes_interrupt}
+use Rattle.forest_model.specs.State.{State, is_timer_due}
 use Rattle.forest_model.specs.Action.{Action, trap, interrupt, retire, exit}
-use Rattle.forest_model.specs.Execute.{action}
-use Rattle.forest_model.specs.Machine.{Machine, IsWithinLimit, Next, exception, next_of, next, limited, count, trapped, advance, advance_from, applied, after_steps, finish}
+use Rattle.forest_model.specs.Execute.{action, action_by}
+use Rattle.forest_model.specs.Machine.{Machine, IsWithinLimit, exception, timer_interrupt, next_of, next, limited, count, trapped, advance, advance_from, applied, after_steps, finish}
 
 -- an ended machine stays as it is
 pub advance-ended : (m : Machine) (e : Ending) → m.ending ≡ Some e → advance m ≡ m
@@ -77,6 +80,18 @@ applied-exception (exit value s) m c v h = absurd (cc)
 pub advance-exception : (m : Machine) (cause value : ℕ) → m.ending ≡ None → next m ≡ exception cause value
     → advance m ≡ limited (count false Nothing (trapped cause value m.state)) m
 advance-exception m cause value live h = advance-live m live ∙ applied-exception (action m.state) m cause value h
+
+-- an interrupt that is enabled and due is the coming step
+action-interrupt : (s : State) → takes_interrupt s.csrs (is_timer_due s) ≡ true → action s ≡ interrupt
+unfolding action
+action-interrupt s h = ap (λ taken. action_by taken s) h
+
+pub next-interrupt : (m : Machine) → takes_interrupt m.state.csrs (is_timer_due m.state) ≡ true → next m ≡ timer_interrupt
+next-interrupt m h = ap next_of (action-interrupt m.state h)
+
+pub advance-interrupt : (m : Machine) → m.ending ≡ None → takes_interrupt m.state.csrs (is_timer_due m.state) ≡ true
+    → advance m ≡ limited (count false Nothing (trapped TIMER_INTERRUPT 0 m.state)) m
+advance-interrupt m live h = advance-live m live ∙ ap (λ a. applied a m) (action-interrupt m.state h)
 
 -- a machine that lives after a step is below its limit
 below-limited : (reached : Bool) (steps limit : ℕ) → eqb steps limit ≡ reached → steps ≤ limit → cond reached (Some Limit) None ≡ None → steps < limit
@@ -182,3 +197,17 @@ finish-after_steps_IsSome n m fits h = let e = IsSome-ended (after_steps n m).en
 
 pub advance-IsSome : (m : Machine) → IsSome m.ending → advance m ≡ m
 advance-IsSome m h = let e = IsSome-ended m.ending h in advance-ended m e.0 e.1
+
+-- a machine that has ended is the same after more steps
+after_steps-longer : (a b : ℕ) (m : Machine) → a ≤ b → IsSome (after_steps a m).ending → after_steps b m ≡ after_steps a m
+after_steps-longer a b m longer h =
+    let e = IsSome-ended (after_steps a m).ending h in
+    let left : b ≡ a + (b - a) = omega arith in
+    ap (λ k. after_steps k m) left ∙ after_steps-add a (b - a) m ∙ after_steps-ended (b - a) (after_steps a m) e.0 e.1
+
+-- however many steps are made, a machine ends the same
+pub after_steps-agree : (a b : ℕ) (m : Machine) → IsSome (after_steps a m).ending → IsSome (after_steps b m).ending → after_steps a m ≡ after_steps b m
+after_steps-agree a b m one other = elim (leb_tells a b) [
+  | inl shorter ↦ sym (after_steps-longer a b m shorter.1 one)
+  | inr longer ↦ let within : b ≤ a = omega (arith, longer.1) in after_steps-longer b a m within other
+]

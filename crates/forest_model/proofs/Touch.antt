@@ -1,7 +1,7 @@
 -- The pages that a step touches: they are few and of RAM, and RAM changes nowhere else.
 use Rattle.std.proofs.Common.{◌≡◌, ◌≢◌, ℕ, ◌+◌, ◌-◌, ◌*◌, ◌/◌, ◌%◌, ◌<◌, ◌≤◌, ◌⊎◌, inl, inr, Bool, true, false, eqb, ◌&&◌, List, [], ◌∷◌, length, get_or, Option, Some, None, IsSome, refl, sym, ap, ◌∙◌, subst, cond, arith}
 use Rattle.std.specs.Option.{IfSome}
-use Rattle.std.specs.Int.{to_le_bytes, bytes_low_first, w32}
+use Rattle.std.specs.Int.{to_le_bytes, w32}
 use Rattle.std.specs.List.{All, AllPairs, Contains}
 use Rattle.std.proofs.lemmas.Bool.{eqb-true}
 use Rattle.std.proofs.lemmas.Bool.Decides.{nat_tests}
@@ -17,13 +17,13 @@ use Rattle.rv_decode.specs.declared.kinds.Kind.TheVariants.{Sb, Sh, Sw}
 use Rattle.rv_decode.specs.declared.kinds.Group.{Group}
 use Rattle.rv_decode.specs.declared.kinds.Group.TheVariants.{LoadUpper, AddUpper, Jump, JumpRegister, Branch, Load, Store, ComputeImmediate, Compute, Nothing, EnvironmentCall, Breakpoint, TrapReturn, Csr, LoadReserved, StoreConditional, Amo}
 use Rattle.rv_decode.specs.Kinds.{group_of}
-use Rattle.rv_exec.specs.Memory.{load_width, store_bytes, store_width}
+use Rattle.rv_exec.specs.Memory.{load_width, store_bytes}
 use Rattle.forest_model.specs.declared.Ending.{Ending}
 use Rattle.fork_port.specs.declared.port.Effect.{Effect}
 use Rattle.fork_port.specs.declared.port.Effect.TheVariants.{Done, TimeWritten, Exit}
 use Rattle.forest_model.specs.Ports.{Read, Stored, port_load, port_store}
-use Rattle.forest_model.specs.State.{State, is_in_ram, is_timer_due, register, at_next_instruction}
-use Rattle.forest_model.specs.Action.{Action, trap, interrupt, retire, exit, rs1, rs2, immediate}
+use Rattle.forest_model.specs.State.{State, is_in_ram, is_timer_due, at_next_instruction}
+use Rattle.forest_model.specs.Action.{Action, trap, interrupt, retire, exit, rs1, rs2}
 use Rattle.forest_model.specs.Compute.{load_upper, add_upper, compute_immediate, compute}
 use Rattle.forest_model.specs.Control.{aligned_jump, jump, jump_register, branch_by, branch, relative, linked}
 use Rattle.forest_model.specs.Memory.{data_address, is_aligned, read_action, place_load, aligned_load, load, effect_action, port_action, place_store, aligned_store, store_action, stored_bytes, store}
@@ -137,6 +137,15 @@ IsPages-touch m = IsPages-from m.ending m.state
 pub touch-IsSome : (m : Machine) → IsSome m.ending → touch m ≡ []
 unfolding touch
 touch-IsSome m h = let e = IsSome-ended m.ending h in ap (λ ending. touch_from ending m.state) e.1
+
+-- an interrupt touches none
+touch_from-interrupt : (ending : Option Ending) (s : State) → takes_interrupt s.csrs (is_timer_due s) ≡ true → touch_from ending s ≡ []
+touch_from-interrupt None s h = ap (λ taken. touch_step taken s) h
+touch_from-interrupt (Some ending) s h = refl
+
+pub touch-interrupt : (m : Machine) → takes_interrupt m.state.csrs (is_timer_due m.state) ≡ true → touch m ≡ []
+unfolding touch
+touch-interrupt m h = touch_from-interrupt m.ending m.state h
 
 -- RAM after an action
 abbrev ram_after : Action → State → List ℕ

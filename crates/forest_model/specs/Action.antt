@@ -1,5 +1,5 @@
 -- What the coming step of a machine comes to.
-use Rattle.std.specs.Prelude.{ℕ, Bool, true, false}
+use Rattle.std.specs.Prelude.{ℕ}
 use Rattle.std.specs.Int.{cast_unsigned, w32}
 use Rattle.rv_decode.specs.Instruction.{Instruction}
 use Rattle.forest_model.specs.declared.Written.{Written}

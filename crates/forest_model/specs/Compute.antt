@@ -1,5 +1,5 @@
 -- Instructions that compute a value for rd. RISC-V Unprivileged ISA 20191213, section 2.4 and chapter 7
-use Rattle.std.specs.Prelude.{ℕ, ◌+◌, ◌%◌, ◌^◌}
+use Rattle.std.specs.Prelude.{◌+◌, ◌%◌, ◌^◌}
 use Rattle.rv_decode.specs.Instruction.{Instruction}
 use Rattle.rv_exec.specs.Compute.{alu}
 use Rattle.forest_model.specs.State.{State}

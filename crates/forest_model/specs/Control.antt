@@ -4,7 +4,7 @@ use Rattle.rv_decode.specs.Instruction.{Instruction}
 use Rattle.rv_exec.specs.Branch.{branch_taken}
 use Rattle.forest_model.specs.declared.Written.TheVariants.{Nothing}
 use Rattle.forest_model.specs.declared.cause.TheConstants.{INSTRUCTION_ADDRESS_MISALIGNED}
-use Rattle.forest_model.specs.State.{State, at_next_instruction}
+use Rattle.forest_model.specs.State.{State}
 use Rattle.forest_model.specs.Action.{Action, trap, retire, retire_next, with_rd, rs1, rs2, immediate}
 
 -- control goes to a target, which is a multiple of 4. Else the jump is an exception, and s does not come

@@ -1,8 +1,8 @@
 -- Accesses to control and status registers, and the return from a trap.
 -- RISC-V Unprivileged ISA 20191213, chapter 9, and Privileged ISA 20211203, section 3.3.2
-use Rattle.std.specs.Prelude.{ℕ, ◌-◌, ◌^◌, ◌==◌, ◌&&◌, Bool, true, false, not, if◌then◌else◌, Option, Some, None, bit_and, bit_or}
+use Rattle.std.specs.Prelude.{ℕ, ◌-◌, ◌^◌, ◌==◌, Bool, true, false, not, Option, Some, None, bit_and, bit_or}
 use Rattle.rv_decode.specs.declared.kinds.Kind.{Kind}
-use Rattle.rv_decode.specs.declared.kinds.Kind.TheVariants.{Csrrw, Csrrs, Csrrc, Csrrwi, Csrrsi, Csrrci}
+use Rattle.rv_decode.specs.declared.kinds.Kind.TheVariants.{Csrrs, Csrrc, Csrrwi, Csrrsi, Csrrci}
 use Rattle.rv_decode.specs.Instruction.{Instruction}
 use Rattle.rv_traps.specs.declared.registers.CsrRegisters.{CsrRegisters}
 use Rattle.forest_model.specs.declared.Written.TheVariants.{Nothing, Counter}

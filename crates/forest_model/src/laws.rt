@@ -1,11 +1,14 @@
 //! Laws of the definitions, each the contract of a function that does nothing.
 
-ghost use Rattle.std.specs.Prelude.{◌≡◌, ◌≢◌, ℕ, false, ◌+◌, ◌*◌, ◌/◌, ◌<◌, ◌≤◌, [], length, slice_index, Some, None, IsSome, All, AllPairs, Contains};
-ghost use Rattle.forest_model.specs.Machine.{Machine, IsWithinLimit, exception, next, limited, count, trapped, advance, after_steps, finish};
+ghost use Rattle.std.specs.Prelude.{◌≡◌, ◌≢◌, ℕ, true, false, ◌+◌, ◌*◌, ◌/◌, ◌<◌, ◌≤◌, [], length, slice_index, Some, None, IsSome, All, AllPairs, Contains};
+ghost use Rattle.rv_traps.specs.Trap.{takes_interrupt};
+ghost use Rattle.forest_model.specs.State.{is_timer_due};
+ghost use Rattle.forest_model.specs.Machine.{Machine, IsWithinLimit, exception, timer_interrupt, next, limited, count, trapped, advance, after_steps, finish};
 ghost use Rattle.forest_model.specs.Touch.{touch};
 
 use crate::Written;
 use elf_load::PAGE_SIZE;
+use rv_traps::TIMER_INTERRUPT;
 
 /// A step of a live machine is counted, none moves the limit, and a machine that has ended stays.
 pub fn advance_counts()
@@ -20,6 +23,15 @@ pub fn advance_counts()
 pub fn exception_traps()
     ensures { (m : Machine) (cause value : ℕ) → m.ending ≡ None → next m ≡ exception cause value
         → advance m ≡ limited (count false Written.Nothing (trapped cause value m.state)) m }
+{}
+
+/// Where the timer is due and its interrupt enabled, the interrupt is the coming step of a machine,
+/// whatever instruction stands at the pc. It touches no page, and is a trap with the timer's cause.
+pub fn interrupt_comes_first()
+    ensures comes { (m : Machine) → takes_interrupt m.state.csrs (is_timer_due m.state) ≡ true → next m ≡ timer_interrupt }
+    ensures touches_nothing { (m : Machine) → takes_interrupt m.state.csrs (is_timer_due m.state) ≡ true → touch m ≡ [] }
+    ensures traps { (m : Machine) → m.ending ≡ None → takes_interrupt m.state.csrs (is_timer_due m.state) ≡ true
+        → advance m ≡ limited (count false Written.Nothing (trapped TIMER_INTERRUPT 0 m.state)) m }
 {}
 
 /// A machine run to its end is itself where it has ended, and else what its next step leads to. It
@@ -38,6 +50,14 @@ pub fn finish_ends()
 pub fn ends_on_the_way()
     ensures { (n : ℕ) (m : Machine) → n + m.steps ≤ m.limit → IsSome (after_steps n m).ending
         → finish m ≡ after_steps n m }
+{}
+
+/// Two runs of one machine are equal. A run is one run however it is cut into pieces, and two that have
+/// ended came to the same machine, whatever number of steps was asked of each.
+pub fn runs_agree()
+    ensures in_pieces { (a b : ℕ) (m : Machine) → after_steps (a + b) m ≡ after_steps b (after_steps a m) }
+    ensures ended { (a b : ℕ) (m : Machine) → IsSome (after_steps a m).ending → IsSome (after_steps b m).ending
+        → after_steps a m ≡ after_steps b m }
 {}
 
 /// The pages that a step touches are pages of RAM, at most two, and none is listed twice. A machine
