@@ -1,7 +1,7 @@
 -- The block port: a disk that is read and written a sector at a time, through a buffer.
 use Rattle.std.specs.Prelude.{◌≡◌, ℕ, ◌+◌, ◌-◌, ◌%◌, ◌<◌, ◌==◌, ◌&&◌, Bool, nat_lt, nat_le, if◌then◌else◌, List, length, Option, Some, None}
 use Rattle.std.specs.Int.{to_le_bytes, w32}
-use Rattle.flat_memory.specs.Flat.{word_at, put_bytes}
+use Rattle.flat_memory.specs.Flat.{word_at, put_bytes, zeros}
 use Rattle.cow_disk.specs.declared.disk.TheConstants.{SECTOR_SIZE}
 use Rattle.cow_disk.specs.Disk.{sector_count, sector_at, with_sector}
 use Rattle.block_port.specs.declared.registers.TheConstants.{BLOCK_SECTOR, BLOCK_COMMAND, BLOCK_STATUS, BLOCK_COUNT, BLOCK_BUFFER, READ_COMMAND, WRITE_COMMAND}
@@ -14,6 +14,10 @@ pub record BlockRegisters : Type 0 where
   pub status : Status
   pub buffer : List ℕ
   pub disk : List ℕ
+
+-- the registers of a machine that starts with this disk
+abbrev pub at_start : List ℕ → BlockRegisters
+at_start disk = record { sector = 0; status = Done; buffer = zeros SECTOR_SIZE; disk = disk }
 
 abbrev pub status_word : Status → ℕ
 status_word Done = 0

@@ -1,7 +1,6 @@
 ghost use Rattle.std.specs.Prelude.{◌≡◌, ◌+◌, ◌-◌, ◌<◌, ◌≤◌, ◌↔◌, true, false, Some, None, IsErr, IfOk, OnOk, OnErr, IsErrOf, IfSome, IsNone};
-ghost use Rattle.flat_memory.specs.Flat.{zeros};
 ghost use Rattle.cow_disk.specs.Disk.{sector_count};
-ghost use Rattle.block_port.specs.Block.{WritesSector, block_load, block_store, commanded, is_in_buffer};
+ghost use Rattle.block_port.specs.Block.{WritesSector, at_start, block_load, block_store, commanded, is_in_buffer};
 
 use crate::registers::{
     BLOCK_BUFFER, BLOCK_COMMAND, BLOCK_COUNT, BLOCK_SECTOR, BLOCK_STATUS, READ_COMMAND,
@@ -43,7 +42,7 @@ impl BlockPort {
     /// A port over this disk, with all registers 0.
     #[tactic(auto, unfolding(flat_memory::specs::Flat::zeros))]
     pub fn new(disk: Disk) -> BlockPort
-        ensures { result ≡ record { sector = 0; status = Status.Done; buffer = zeros SECTOR_SIZE; disk = disk } }
+        ensures { result ≡ at_start disk }
     {
         BlockPort {
             sector: 0,

@@ -101,16 +101,16 @@ finish m = after_steps (m.limit - m.steps) m
 unfoldable pub registers_at_start : List ℕ
 registers_at_start = replicate 32 0
 
--- the machine that starts from an image
-unfoldable pub boot : Image → Options → Machine
-boot image options = record {
+-- the machine that starts from an image, with these bytes on its disk and this input
+unfoldable pub boot : Image → List ℕ → List ℕ → Options → Machine
+boot image disk input options = record {
   state = record {
     registers = registers_at_start;
     pc = image.entry;
     csrs = at_reset;
     reservation = None;
     ram = image.ram;
-    ports = ports_at_start;
+    ports = ports_at_start disk input options.allot;
   };
   steps = 0;
   limit = options.limit;

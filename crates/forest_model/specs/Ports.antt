@@ -1,29 +1,34 @@
 -- The ports of the machine, by the address of an access. Where a port has no such access, an answer
 -- is none.
-use Rattle.std.specs.Prelude.{ℕ, ◌+◌, ◌-◌, ◌&&◌, Bool, nat_lt, nat_le, if◌then◌else◌, [], Option, Some, None}
+use Rattle.std.specs.Prelude.{ℕ, ◌+◌, ◌-◌, ◌&&◌, Bool, nat_lt, nat_le, if◌then◌else◌, List, [], Option, Some, None}
 use Rattle.console_port.specs.declared.registers.TheConstants.{CONSOLE_SIZE}
 use Rattle.console_port.specs.Console.{ConsoleRegisters, ConsoleLoaded, console_load, console_store}
 use Rattle.timer_port.specs.declared.registers.TimerRegisters.{TimerRegisters}
 use Rattle.timer_port.specs.Timer as timer
 use Rattle.timer_port.specs.Timer.{timer_load, timer_store, writes_mtime}
+use Rattle.block_port.specs.declared.registers.TheConstants.{BLOCK_SIZE}
+use Rattle.block_port.specs.Block as block
+use Rattle.block_port.specs.Block.{BlockRegisters, block_load, block_store}
 use Rattle.fork_port.specs.declared.registers.TheConstants.{FORK_SIZE}
 use Rattle.fork_port.specs.declared.port.Effect.{Effect}
 use Rattle.fork_port.specs.declared.port.Effect.TheVariants.{Done, TimeWritten}
 use Rattle.fork_port.specs.Fork as fork
-use Rattle.fork_port.specs.Fork.{ForkRegisters, ForkStored, fork_store}
-use Rattle.forest_model.specs.declared.port_map.TheConstants.{CONSOLE_BASE, TIMER_BASE, TIMER_SIZE, FORK_BASE}
+use Rattle.fork_port.specs.Fork.{ForkRegisters, ForkStored, fork_load, fork_store}
+use Rattle.forest_model.specs.declared.port_map.TheConstants.{CONSOLE_BASE, TIMER_BASE, TIMER_SIZE, BLOCK_BASE, FORK_BASE}
 
 pub record PortRegisters : Type 0 where
   pub console : ConsoleRegisters
   pub timer : TimerRegisters
+  pub block : BlockRegisters
   pub fork : ForkRegisters
 
--- the ports of a machine that starts
-abbrev pub ports_at_start : PortRegisters
-ports_at_start = record {
-  console = record { input = []; place = 0; output = []; line_control = 0 };
+-- the ports of a machine that starts with this disk and this input, and may have so many clones
+abbrev pub ports_at_start : List ℕ → List ℕ → ℕ → PortRegisters
+ports_at_start disk input allot = record {
+  console = record { input = input; place = 0; output = []; line_control = 0 };
   timer = timer.at_start;
-  fork = fork.at_start;
+  block = block.at_start disk;
+  fork = fork.at_start allot;
 }
 
 -- the number that a load gives, and the ports after it
@@ -40,6 +45,7 @@ pub record Stored : Type 0 where
 pub data Place : Type 0 where
   at_console : ℕ → Place
   at_timer : ℕ → Place
+  at_block : ℕ → Place
   at_fork : ℕ → Place
   at_no_port : Place
 
@@ -50,20 +56,23 @@ abbrev pub place_of : ℕ → Place
 place_of address =
     if is_within CONSOLE_BASE CONSOLE_SIZE address then at_console (address - CONSOLE_BASE)
     else (if is_within TIMER_BASE TIMER_SIZE address then at_timer (address - TIMER_BASE)
-    else (if is_within FORK_BASE FORK_SIZE address then at_fork (address - FORK_BASE) else at_no_port))
+    else (if is_within BLOCK_BASE BLOCK_SIZE address then at_block (address - BLOCK_BASE)
+    else (if is_within FORK_BASE FORK_SIZE address then at_fork (address - FORK_BASE) else at_no_port)))
 
 abbrev pub console_read : Option ConsoleLoaded → PortRegisters → Option Read
 console_read None ports = None
 console_read (Some l) ports = Some (record { ports = record ports { console = l.console }; value = l.value })
 
-abbrev pub timer_read : Option ℕ → PortRegisters → Option Read
-timer_read None ports = None
-timer_read (Some value) ports = Some (record { ports = ports; value = value })
+-- a load that changes nothing
+abbrev pub plain_read : Option ℕ → PortRegisters → Option Read
+plain_read None ports = None
+plain_read (Some value) ports = Some (record { ports = ports; value = value })
 
 abbrev pub load_at : Place → PortRegisters → ℕ → Option Read
 load_at (at_console offset) ports width = console_read (console_load ports.console offset width) ports
-load_at (at_timer offset) ports width = timer_read (timer_load ports.timer offset width) ports
-load_at (at_fork offset) ports width = None
+load_at (at_timer offset) ports width = plain_read (timer_load ports.timer offset width) ports
+load_at (at_block offset) ports width = plain_read (block_load ports.block offset width) ports
+load_at (at_fork offset) ports width = plain_read (fork_load ports.fork offset width) ports
 load_at at_no_port ports width = None
 
 -- a load of `width` bytes
@@ -81,6 +90,10 @@ abbrev pub timer_stored : Option TimerRegisters → ℕ → PortRegisters → Op
 timer_stored None offset ports = None
 timer_stored (Some t) offset ports = Some (record { ports = record ports { timer = t }; effect = timer_effect offset })
 
+abbrev pub block_stored : Option BlockRegisters → PortRegisters → Option Stored
+block_stored None ports = None
+block_stored (Some b) ports = Some (record { ports = record ports { block = b }; effect = Done })
+
 abbrev pub fork_stored : Option ForkStored → PortRegisters → Option Stored
 fork_stored None ports = None
 fork_stored (Some s) ports = Some (record { ports = record ports { fork = s.fork }; effect = s.effect })
@@ -88,6 +101,7 @@ fork_stored (Some s) ports = Some (record { ports = record ports { fork = s.fork
 abbrev pub store_at : Place → PortRegisters → ℕ → ℕ → Option Stored
 store_at (at_console offset) ports width word = console_stored (console_store ports.console offset width word) ports
 store_at (at_timer offset) ports width word = timer_stored (timer_store ports.timer offset width word) offset ports
+store_at (at_block offset) ports width word = block_stored (block_store ports.block offset width word) ports
 store_at (at_fork offset) ports width word = fork_stored (fork_store ports.fork offset width word) ports
 store_at at_no_port ports width word = None
 

@@ -43,4 +43,6 @@ pub enum CsrOperation {
 pub struct Options {
     /// The most steps that the machine makes, from 1 to 1,000,000,000.
     pub limit: u64,
+    /// How many clones the machine may have, at most 4,096.
+    pub allot: u32,
 }

@@ -1,7 +1,7 @@
-ghost use Rattle.std.specs.Prelude.{◌≡◌, Some, None, IfOk, OnErr};
-ghost use Rattle.fork_port.specs.Fork.{at_start, fork_store};
+ghost use Rattle.std.specs.Prelude.{◌≡◌, ◌↔◌, Some, None, IfOk, OnErr, IsErr};
+ghost use Rattle.fork_port.specs.Fork.{at_start, fork_load, fork_store};
 
-use crate::registers::{EXIT_COMMAND, FORK_ARGUMENT, FORK_COMMAND};
+use crate::registers::{EXIT_COMMAND, FORK_ALLOT, FORK_ARGUMENT, FORK_COMMAND};
 use port_error::Fault;
 use std::marker::Model;
 
@@ -15,10 +15,11 @@ pub enum Effect {
     Exit(u32),
 }
 
-/// The fork port: an argument, and commands.
+/// The fork port: an argument, commands, and how many clones the machine may still have.
 #[derive(Drop)]
 pub struct ForkPort {
     argument: u32,
+    allot: u32,
 }
 
 impl Model for ForkPort {
@@ -26,15 +27,27 @@ impl Model for ForkPort {
 
     ghost Value = { ForkRegisters };
 
-    ghost view = { λ p. record { argument = p.argument } };
+    ghost view = { λ p. record { argument = p.argument; allot = p.allot } };
 }
 
 impl ForkPort {
-    /// The port of a machine that starts.
-    pub fn new() -> ForkPort
-        ensures { result ≡ at_start }
+    /// The port of a machine that starts, and may have so many clones.
+    pub fn new(allot: u32) -> ForkPort
+        ensures { result ≡ at_start allot }
     {
-        ForkPort { argument: 0 }
+        ForkPort { argument: 0, allot }
+    }
+
+    /// Loads a word. A load changes nothing.
+    pub fn load(&self, offset: u32, width: u32) -> Result<u32, Fault>
+        ensures ok { IfOk result (λ word. fork_load self.now offset width ≡ Some word) }
+        ensures fault { IsErr result ↔ (fork_load self.now offset width ≡ None) }
+    {
+        match (offset, width) {
+            (FORK_ARGUMENT, 4) => Ok(self.argument),
+            (FORK_ALLOT, 4) => Ok(self.allot),
+            _ => Err(Fault),
+        }
     }
 
     /// Stores the low `width` bytes of `word`.

@@ -7,9 +7,12 @@ use Rattle.clap.specs.Words.{App, Kinds, Row, Rule, fault_of, first_of, new_app,
 use Rattle.elf_load.specs.declared.image.TheConstants.{MIN_PAGES, MAX_PAGES}
 use Rattle.snow_main.specs.declared.words.TheConstants.{DEFAULT_PAGES, LEAST_LIMIT, MOST_LIMIT, DEFAULT_LIMIT}
 
--- what `run` is asked for: the name of the image, the pages of RAM, and the most steps
+-- what `run` is asked for: the names of the image, of the disk and of the input, the pages of RAM, and the
+-- most steps
 pub record RunValues : Type 0 where
   pub image : List ℕ
+  pub disk : Option (List ℕ)
+  pub input : Option (List ℕ)
   pub pages : ℕ
   pub limit : ℕ
 
@@ -22,11 +25,14 @@ pub data Command : Type 0 where
 abbrev pub option_rule : List ℕ → Rule
 option_rule name = record (new_rule name) { long = Some name }
 
--- `run IMAGE [--ram N] [--limit N]`
+-- `run IMAGE [--disk F] [--input F] [--ram N] [--limit N]`
+abbrev pub image_app : App
+image_app = with_rule (new_app (codes "run")) (record (new_rule (codes "IMAGE")) { required = true })
+
 abbrev pub run_app : App
 run_app =
     with_rule
-    (with_rule (with_rule (new_app (codes "run")) (record (new_rule (codes "IMAGE")) { required = true })) (option_rule (codes "ram")))
+    (with_rule (with_rule (with_rule image_app (option_rule (codes "disk"))) (option_rule (codes "input"))) (option_rule (codes "ram")))
     (option_rule (codes "limit"))
 
 -- the first word is not the program's own name
@@ -63,14 +69,17 @@ abbrev pub value_of : ℕ → ℕ → ℕ → Option (List ℕ) → Option ℕ
 value_of least most default None = Some default
 value_of least most default (Some text) = number_within least most (number_of text)
 
-abbrev pub run_with : Option (List ℕ) → Option ℕ → Option ℕ → Option Command
-run_with (Some image) (Some pages) (Some limit) = Some (run (record { image = image; pages = pages; limit = limit }))
-run_with _ _ _ = None
+abbrev pub run_with : Option (List ℕ) → Option (List ℕ) → Option (List ℕ) → Option ℕ → Option ℕ → Option Command
+run_with (Some image) disk input (Some pages) (Some limit) =
+    Some (run (record { image = image; disk = disk; input = input; pages = pages; limit = limit }))
+run_with _ disk input _ _ = None
 
 abbrev pub run_of : List Row → Option Command
 run_of rows =
     run_with
     (first_of (codes "IMAGE") rows)
+    (first_of (codes "disk") rows)
+    (first_of (codes "input") rows)
     (value_of MIN_PAGES MAX_PAGES DEFAULT_PAGES (first_of (codes "ram") rows))
     (value_of LEAST_LIMIT MOST_LIMIT DEFAULT_LIMIT (first_of (codes "limit") rows))
 

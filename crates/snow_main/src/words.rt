@@ -27,19 +27,21 @@ pub const DEFAULT_LIMIT: u32 = 1_000_000;
 #[derive(Drop)]
 pub struct Run<'a> {
     image: &'a str,
+    disk: Option<&'a str>,
+    input: Option<&'a str>,
     pages: u32,
     limit: u64,
 }
 
 impl<'a> Model for Run<'a> {
-    ghost use Rattle.std.specs.Prelude.{◌≤◌};
+    ghost use Rattle.std.specs.Prelude.{◌≤◌, option_map};
     ghost use Rattle.elf_load.specs.declared.image.TheConstants.{MIN_PAGES, MAX_PAGES};
     ghost use Rattle.snow_main.specs.declared.words.TheConstants.{LEAST_LIMIT, MOST_LIMIT};
     ghost use Rattle.snow_main.specs.Words.{RunValues};
 
     ghost Value = { RunValues };
 
-    ghost view = { λ r. record { image = r.image.now; pages = r.pages; limit = r.limit } };
+    ghost view = { λ r. record { image = r.image.now; disk = option_map (λ name. name.now) r.disk; input = option_map (λ name. name.now) r.input; pages = r.pages; limit = r.limit } };
 
     ghost invariant = { λ r. (MIN_PAGES ≤ r.pages) × (r.pages ≤ MAX_PAGES) × (LEAST_LIMIT ≤ r.limit) × (r.limit ≤ MOST_LIMIT) };
 }
@@ -50,6 +52,20 @@ impl Run<'_> {
         ensures { result.now ≡ self.now.image }
     {
         self.image
+    }
+
+    /// The name of the disk, if one is given.
+    pub fn disk(&self) -> Option<&str>
+        ensures { option_map (λ name. name.now) result ≡ self.now.disk }
+    {
+        self.disk
+    }
+
+    /// The name of the input, if one is given.
+    pub fn input(&self) -> Option<&str>
+        ensures { option_map (λ name. name.now) result ≡ self.now.input }
+    {
+        self.input
     }
 
     /// The pages of RAM.
@@ -99,6 +115,8 @@ fn run_command<'a>(alloc: Global) -> Result<Command<'a>, AllocError>
 {
     Command::new(alloc, "run")
         .arg(Arg::new(alloc, "IMAGE").required(true))?
+        .arg(Arg::new(alloc, "disk").long("disk"))?
+        .arg(Arg::new(alloc, "input").long("input"))?
         .arg(Arg::new(alloc, "ram").long("ram"))?
         .arg(Arg::new(alloc, "limit").long("limit"))
 }
@@ -118,10 +136,14 @@ fn run_of<'a>(found: &ArgMatches<'a>) -> Option<Run<'a>>
     ensures { option_map run result ≡ run_of (rows_of (found_of found.now)) }
 {
     let image = text_of(found, "IMAGE")?;
+    let disk = text_of(found, "disk");
+    let input = text_of(found, "input");
     let pages = value_of(found, "ram", MIN_PAGES, MAX_PAGES, DEFAULT_PAGES)?;
     let limit = value_of(found, "limit", LEAST_LIMIT, MOST_LIMIT, DEFAULT_LIMIT)?;
     Some(Run {
         image,
+        disk,
+        input,
         pages,
         limit: u64::from(limit),
     })

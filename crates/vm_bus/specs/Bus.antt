@@ -1,19 +1,22 @@
 -- The ports by address. Each takes the accesses from its base on; the offset there is its own matter.
-use Rattle.std.specs.Prelude.{ℕ, ◌+◌, ◌-◌, Bool, nat_lt, if◌then◌else◌, [], Option, Some, None}
+use Rattle.std.specs.Prelude.{ℕ, ◌-◌, ◌<◌, ◌⊎◌, nat_lt, if◌then◌else◌, List, [], length, Option, None, IsSomeAnd}
 use Rattle.std.specs.Option.{option_map}
 use Rattle.console_port.specs.Console.{ConsoleRegisters, console_load, console_store}
 use Rattle.timer_port.specs.declared.registers.TimerRegisters.{TimerRegisters}
 use Rattle.timer_port.specs.Timer.{timer_load, timer_store, writes_mtime}
 use Rattle.timer_port.specs.Timer as timer
+use Rattle.block_port.specs.Block.{BlockRegisters, WritesSector, block_load, block_store}
+use Rattle.block_port.specs.Block as block
 use Rattle.fork_port.specs.declared.port.Effect.{Effect}
 use Rattle.fork_port.specs.declared.port.Effect.TheVariants.{Done, TimeWritten}
-use Rattle.fork_port.specs.Fork.{ForkRegisters, fork_store}
+use Rattle.fork_port.specs.Fork.{ForkRegisters, fork_load, fork_store}
 use Rattle.fork_port.specs.Fork as fork
-use Rattle.vm_bus.specs.declared.addresses.TheConstants.{TIMER_BASE, CONSOLE_BASE, FORK_BASE}
+use Rattle.vm_bus.specs.declared.addresses.TheConstants.{TIMER_BASE, CONSOLE_BASE, BLOCK_BASE, FORK_BASE}
 
 pub record BusRegisters : Type 0 where
   pub timer : TimerRegisters
   pub console : ConsoleRegisters
+  pub block : BlockRegisters
   pub fork : ForkRegisters
 
 -- the number that a load gives, and the ports after it
@@ -26,9 +29,14 @@ pub record BusStored : Type 0 where
   pub bus : BusRegisters
   pub effect : Effect
 
--- the ports of a machine that starts
-abbrev pub at_start : BusRegisters
-at_start = record { timer = timer.at_start; console = record { input = []; place = 0; output = []; line_control = 0 }; fork = fork.at_start }
+-- the ports of a machine that starts with this disk and this input, and may have so many clones
+abbrev pub at_start : List ℕ → List ℕ → ℕ → BusRegisters
+at_start disk input allot = record {
+  timer = timer.at_start;
+  console = record { input = input; place = 0; output = []; line_control = 0 };
+  block = block.at_start disk;
+  fork = fork.at_start allot;
+}
 
 abbrev pub store_effect : ℕ → Effect
 store_effect offset = if writes_mtime offset then TimeWritten else Done
@@ -38,18 +46,30 @@ abbrev pub timer_stored : BusRegisters → ℕ → ℕ → ℕ → Option BusSto
 timer_stored b offset width word =
     option_map (λ t. record { bus = record b { timer = t }; effect = store_effect offset }) (timer_store b.timer offset width word)
 
--- below the console's base an address is of the timer, below the fork port's of the console, and else of
--- the fork port, if it is of a port
+-- a load that changes nothing
+abbrev pub read : BusRegisters → Option ℕ → Option BusLoaded
+read b value = option_map (λ value. record { bus = b; value = value }) value
+
+-- below the console's base an address is of the timer, below the block port's of the console, below the
+-- fork port's of the block port, and else of the fork port, if it is of a port
 unfoldable pub bus_load : BusRegisters → ℕ → ℕ → Option BusLoaded
 bus_load b address width =
     if nat_lt address TIMER_BASE then None
-    else (if nat_lt address CONSOLE_BASE then option_map (λ value. record { bus = b; value = value }) (timer_load b.timer (address - TIMER_BASE) width)
-    else (if nat_lt address FORK_BASE then option_map (λ l. record { bus = record b { console = l.console }; value = l.value }) (console_load b.console (address - CONSOLE_BASE) width)
-    else None))
+    else (if nat_lt address CONSOLE_BASE then read b (timer_load b.timer (address - TIMER_BASE) width)
+    else (if nat_lt address BLOCK_BASE then option_map (λ l. record { bus = record b { console = l.console }; value = l.value }) (console_load b.console (address - CONSOLE_BASE) width)
+    else (if nat_lt address FORK_BASE then read b (block_load b.block (address - BLOCK_BASE) width)
+    else read b (fork_load b.fork (address - FORK_BASE) width))))
 
 unfoldable pub bus_store : BusRegisters → ℕ → ℕ → ℕ → Option BusStored
 bus_store b address width word =
     if nat_lt address TIMER_BASE then None
     else (if nat_lt address CONSOLE_BASE then timer_stored b (address - TIMER_BASE) width word
-    else (if nat_lt address FORK_BASE then option_map (λ c. record { bus = record b { console = c }; effect = Done }) (console_store b.console (address - CONSOLE_BASE) width word)
-    else option_map (λ s. record { bus = record b { fork = s.fork }; effect = s.effect }) (fork_store b.fork (address - FORK_BASE) width word)))
+    else (if nat_lt address BLOCK_BASE then option_map (λ c. record { bus = record b { console = c }; effect = Done }) (console_store b.console (address - CONSOLE_BASE) width word)
+    else (if nat_lt address FORK_BASE then option_map (λ k. record { bus = record b { block = k }; effect = Done }) (block_store b.block (address - BLOCK_BASE) width word)
+    else option_map (λ s. record { bus = record b { fork = s.fork }; effect = s.effect }) (fork_store b.fork (address - FORK_BASE) width word))))
+
+-- Memory is wanted where a byte goes to the output, or a sector is written.
+abbrev pub WantsMemory : BusRegisters → ℕ → ℕ → ℕ → Type 0
+WantsMemory b address width word =
+    IsSomeAnd (bus_store b address width word) (λ s. length b.console.output < length s.bus.console.output)
+    ⊎ WritesSector b.block (address - BLOCK_BASE) width word

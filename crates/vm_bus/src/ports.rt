@@ -1,9 +1,12 @@
-ghost use Rattle.std.specs.Prelude.{◌≡◌, ◌<◌, ◌↔◌, length, Some, None, Err, IfOk, OnErr, IsErrOf, IsSomeAnd};
+ghost use Rattle.std.specs.Prelude.{◌≡◌, ◌≤◌, ◌↔◌, length, Some, None, Err, IfOk, IsErr, OnErr, IsErrOf};
+ghost use Rattle.console_port.specs.declared.port.TheConstants.{MAX_INPUT};
 ghost use Rattle.timer_port.specs.Timer.{is_due, timer_counted};
-ghost use Rattle.vm_bus.specs.Bus.{at_start, bus_load, bus_store, timer_stored};
+ghost use Rattle.vm_bus.specs.Bus.{at_start, bus_load, bus_store, timer_stored, WantsMemory};
 
-use crate::addresses::{CONSOLE_BASE, FORK_BASE, TIMER_BASE};
+use crate::addresses::{BLOCK_BASE, CONSOLE_BASE, FORK_BASE, TIMER_BASE};
+use block_port::BlockPort;
 use console_port::ConsolePort;
+use cow_disk::Disk;
 use fork_port::{Effect, ForkPort};
 use port_error::{Fault, PortError};
 use std::alloc::{AllocError, Global};
@@ -15,6 +18,7 @@ use timer_port::TimerPort;
 pub struct Ports {
     timer: TimerPort,
     console: ConsolePort,
+    block: BlockPort,
     fork: ForkPort,
 }
 
@@ -23,19 +27,29 @@ impl Model for Ports {
 
     ghost Value = { BusRegisters };
 
-    ghost view = { λ p. record { timer = p.timer; console = p.console; fork = p.fork } };
+    ghost view = { λ p. record { timer = p.timer; console = p.console; block = p.block; fork = p.fork } };
 }
 
 impl Ports {
-    /// The ports of a machine that starts.
-    pub fn new(alloc: Global) -> Result<Ports, AllocError>
-        ensures { IfOk result (λ ports. ports ≡ at_start) }
+    /// The ports of a machine that starts with this disk and this input, and may have `allot` clones.
+    pub fn new(alloc: Global, disk: Disk, input: &[u8], allot: u32) -> Result<Ports, AllocError>
+        requires { length input.now ≤ MAX_INPUT }
+        ensures { IfOk result (λ ports. ports ≡ at_start disk input.now allot) }
     {
         Ok(Ports {
             timer: TimerPort::new(),
-            console: ConsolePort::new(alloc, b"")?,
-            fork: ForkPort::new(),
+            console: ConsolePort::new(alloc, input)?,
+            block: BlockPort::new(disk),
+            fork: ForkPort::new(allot),
         })
+    }
+
+    /// The whole input of the console, read or not.
+    pub fn input(&self) -> &[u8]
+        ensures value { result.now ≡ self.now.console.input }
+        ensures fits { length result.now ≤ MAX_INPUT }
+    {
+        self.console.input()
     }
 
     /// What the console has put out.
@@ -52,9 +66,17 @@ impl Ports {
         let Ports {
             timer: _,
             console,
+            block: _,
             fork: _,
         } = self;
         console.into_output()
+    }
+
+    /// The disk behind the block port.
+    pub fn disk(&self) -> &Disk
+        ensures { result.now ≡ self.now.block.disk }
+    {
+        self.block.disk()
     }
 
     /// Whether the timer asks for an interrupt.
@@ -77,17 +99,19 @@ impl Ports {
     #[tactic(auto, unfolding(crate::specs::Bus::bus_load))]
     pub fn load(&mut self, address: u32, width: u32) -> Result<u32, Fault>
         ensures ok { IfOk result (λ value. bus_load self.old address width ≡ Some (record { bus = self.new; value = value })) }
-        ensures fault { OnErr result (bus_load self.old address width ≡ None) }
+        ensures fault { IsErr result ↔ (bus_load self.old address width ≡ None) }
         ensures err { OnErr result (self.new ≡ self.old) }
     {
         if address < TIMER_BASE {
             Err(Fault)
         } else if address < CONSOLE_BASE {
             self.timer.load(address - TIMER_BASE, width)
-        } else if address < FORK_BASE {
+        } else if address < BLOCK_BASE {
             self.console.load(address - CONSOLE_BASE, width)
+        } else if address < FORK_BASE {
+            self.block.load(address - BLOCK_BASE, width)
         } else {
-            Err(Fault)
+            self.fork.load(address - FORK_BASE, width)
         }
     }
 
@@ -98,17 +122,17 @@ impl Ports {
         ensures ok { IfOk result (λ effect. bus_store self.old address width word ≡ Some (record { bus = self.new; effect = effect })) }
         ensures fault { IsErrOf result PortError.Fault ↔ (bus_store self.old address width word ≡ None) }
         ensures err { OnErr result (self.new ≡ self.old) }
-        // Memory is wanted where a byte goes to the output.
-        ensures memory { IsErrOf result PortError.Memory
-            → IsSomeAnd (bus_store self.old address width word)
-            (λ s. (s.effect ≡ Effect.Done) × (length self.old.console.output < length s.bus.console.output)) }
+        ensures memory { IsErrOf result PortError.Memory → WantsMemory self.old address width word }
     {
         if address < TIMER_BASE {
             Err(PortError::Fault)
         } else if address < CONSOLE_BASE {
             self.store_timer(address - TIMER_BASE, width, word)
-        } else if address < FORK_BASE {
+        } else if address < BLOCK_BASE {
             self.console.store(address - CONSOLE_BASE, width, word)?;
+            Ok(Effect::Done)
+        } else if address < FORK_BASE {
+            self.block.store(address - BLOCK_BASE, width, word)?;
             Ok(Effect::Done)
         } else {
             Ok(self.fork.store(address - FORK_BASE, width, word)?)

@@ -1,10 +1,18 @@
 use crate::{Effect, Ports};
+use cow_disk::Disk;
 use port_error::{Fault, PortError};
-use std::alloc::AllocError;
+use std::alloc::Global;
+use std::test::Fail;
+
+/// The ports of a machine with a disk of one sector of bytes AA, one byte of input and 3 clones.
+fn ports_at_start(alloc: Global) -> Result<Ports, Fail> {
+    let disk = Disk::from_bytes(alloc, &[0xaa; 512])?;
+    Ok(Ports::new(alloc, disk, b"Z", 3)?)
+}
 
 // What a load of `width` bytes gives a machine that starts.
 #[test]
-fn loads_at_each_port_s_edges(rt: HostRuntime) -> Result<(), AllocError> {
+fn loads_at_each_port_s_edges(rt: HostRuntime) -> Result<(), Fail> {
     let cases = [
         (0x0000_0000, 4, Err(Fault)),
         (0x0200_3ffc, 4, Err(Fault)),
@@ -19,20 +27,32 @@ fn loads_at_each_port_s_edges(rt: HostRuntime) -> Result<(), AllocError> {
         (0x0200_bffc, 4, Ok(0)),
         (0x0200_c000, 4, Err(Fault)),
         (0x0fff_ffff, 1, Err(Fault)),
-        (0x1000_0000, 1, Ok(0)),
+        (0x1000_0000, 1, Ok(0x5a)),
         (0x1000_0000, 2, Err(Fault)),
         (0x1000_0000, 4, Err(Fault)),
-        (0x1000_0005, 1, Ok(0x60)),
+        (0x1000_0005, 1, Ok(0x61)),
         (0x1000_0007, 1, Ok(0)),
         (0x1000_0008, 1, Err(Fault)),
+        (0x1000_0fff, 1, Err(Fault)),
+        (0x1000_1000, 4, Ok(0)),
+        (0x1000_1000, 1, Err(Fault)),
+        (0x1000_1004, 4, Err(Fault)),
+        (0x1000_1008, 4, Ok(0)),
+        (0x1000_100c, 4, Ok(1)),
+        (0x1000_11fc, 4, Err(Fault)),
+        (0x1000_1200, 4, Ok(0)),
+        (0x1000_13fc, 4, Ok(0)),
+        (0x1000_1400, 4, Err(Fault)),
         (0x1000_1fff, 1, Err(Fault)),
-        (0x1000_2000, 4, Err(Fault)),
+        (0x1000_2000, 4, Ok(0)),
         (0x1000_2000, 1, Err(Fault)),
         (0x1000_2008, 4, Err(Fault)),
+        (0x1000_2014, 4, Ok(3)),
+        (0x1000_2028, 4, Err(Fault)),
         (0xffff_ffff, 1, Err(Fault)),
     ];
     for (address, width, want) in cases {
-        let mut ports = Ports::new(rt.alloc())?;
+        let mut ports = ports_at_start(rt.alloc())?;
         assert_eq!(rt;
             ports.load(address, width),
             want,
@@ -44,7 +64,7 @@ fn loads_at_each_port_s_edges(rt: HostRuntime) -> Result<(), AllocError> {
 
 // What a store of the low `width` bytes of 5 does to a machine that starts.
 #[test]
-fn stores_at_each_port_s_edges(rt: HostRuntime) -> Result<(), AllocError> {
+fn stores_at_each_port_s_edges(rt: HostRuntime) -> Result<(), Fail> {
     let cases = [
         (0x0000_0000, 4, Err(PortError::Fault)),
         (0x0200_3ffc, 4, Err(PortError::Fault)),
@@ -61,6 +81,16 @@ fn stores_at_each_port_s_edges(rt: HostRuntime) -> Result<(), AllocError> {
         (0x1000_0000, 4, Err(PortError::Fault)),
         (0x1000_0007, 1, Ok(Effect::Done)),
         (0x1000_0008, 1, Err(PortError::Fault)),
+        (0x1000_0fff, 1, Err(PortError::Fault)),
+        (0x1000_1000, 4, Ok(Effect::Done)),
+        (0x1000_1000, 2, Err(PortError::Fault)),
+        (0x1000_1004, 4, Ok(Effect::Done)),
+        (0x1000_1008, 4, Err(PortError::Fault)),
+        (0x1000_100c, 4, Err(PortError::Fault)),
+        (0x1000_11fc, 4, Err(PortError::Fault)),
+        (0x1000_1200, 4, Ok(Effect::Done)),
+        (0x1000_13fc, 4, Ok(Effect::Done)),
+        (0x1000_1400, 4, Err(PortError::Fault)),
         (0x1000_1fff, 1, Err(PortError::Fault)),
         (0x1000_2000, 4, Ok(Effect::Done)),
         (0x1000_2000, 1, Err(PortError::Fault)),
@@ -70,7 +100,7 @@ fn stores_at_each_port_s_edges(rt: HostRuntime) -> Result<(), AllocError> {
         (0xffff_ffff, 1, Err(PortError::Fault)),
     ];
     for (address, width, want) in cases {
-        let mut ports = Ports::new(rt.alloc())?;
+        let mut ports = ports_at_start(rt.alloc())?;
         assert_eq!(rt;
             ports.store(address, width, 5),
             want,
@@ -81,8 +111,8 @@ fn stores_at_each_port_s_edges(rt: HostRuntime) -> Result<(), AllocError> {
 }
 
 #[test]
-fn each_port_keeps_what_is_stored(rt: HostRuntime) -> Result<(), AllocError> {
-    let mut ports = Ports::new(rt.alloc())?;
+fn each_port_keeps_what_is_stored(rt: HostRuntime) -> Result<(), Fail> {
+    let mut ports = ports_at_start(rt.alloc())?;
     // mtimecmp becomes 2, and mtime counts to it
     assert_eq!(rt; ports.store(0x0200_4004, 4, 0), Ok(Effect::Done));
     assert_eq!(rt; ports.store(0x0200_4000, 4, 2), Ok(Effect::Done));
@@ -95,6 +125,16 @@ fn each_port_keeps_what_is_stored(rt: HostRuntime) -> Result<(), AllocError> {
     assert_eq!(rt; ports.store(0x1000_0000, 1, 0x141), Ok(Effect::Done));
     assert_eq!(rt; ports.store(0x1000_2000, 4, 9), Ok(Effect::Done));
     assert_eq!(rt; ports.store(0x1000_2008, 4, 5), Ok(Effect::Exit(9)));
+    // sector 0 goes to the buffer, whose first word is then another
+    assert_eq!(rt; ports.store(0x1000_1004, 4, 1), Ok(Effect::Done));
+    assert_eq!(rt; ports.load(0x1000_1200, 4), Ok(0xaaaa_aaaa));
+    assert_eq!(rt; ports.store(0x1000_1200, 4, 7), Ok(Effect::Done));
+    assert_eq!(rt; ports.store(0x1000_1004, 4, 2), Ok(Effect::Done));
+    assert_eq!(rt; ports.load(0x1000_1200, 4), Ok(7));
+    let mut sector = [0; 512];
+    assert_eq!(rt; ports.disk().read_sector(0, &mut sector), Ok(()));
+    assert_eq!(rt; (sector[0], sector[1], sector[4]), (7, 0, 0xaa));
+    assert_eq!(rt; ports.input(), b"Z".as_slice());
     assert_eq!(rt; ports.output(), b"A".as_slice());
     assert_eq!(rt; ports.into_output().as_slice(), b"A".as_slice());
     Ok(())

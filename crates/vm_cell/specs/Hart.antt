@@ -7,7 +7,7 @@ use Rattle.vm_bus.specs.Bus.{BusRegisters}
 
 -- what the bus holds
 abbrev pub ports_of : BusRegisters → PortRegisters
-ports_of b = record { console = b.console; timer = b.timer; fork = b.fork }
+ports_of b = record { console = b.console; timer = b.timer; block = b.block; fork = b.fork }
 
 pub record IsHart (s : State) : Type 0 where
   -- so a read of x0 needs no test

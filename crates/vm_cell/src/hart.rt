@@ -1,12 +1,14 @@
 ghost use Rattle.std.specs.Prelude.{◌≡◌, ◌<◌, ◌-◌, ◌+◌, ◌%◌, ◌≤◌, ◌↔◌, length, IsNone, IfOk, IfSome, OnErr, Ok, None, true, false};
+ghost use Rattle.console_port.specs.declared.port.TheConstants.{MAX_INPUT};
 ghost use Rattle.rv_traps.specs.Registers.{at_reset};
 ghost use Rattle.forest_model.specs.Ports.{ports_at_start};
 ghost use Rattle.forest_model.specs.State.{is_in_ram, register, with_register};
 ghost use Rattle.forest_model.specs.Action.{retire_next, with_rd};
 ghost use Rattle.forest_model.specs.Execute.{action, execute};
 ghost use Rattle.forest_model.specs.Machine.{registers_at_start, trapped, count};
-ghost use Rattle.vm_cell.specs.Acts.{Acts, Grows};
+ghost use Rattle.vm_cell.specs.Acts.{Acts, Grows, InstructionGrows};
 
+use cow_disk::Disk;
 use elf_load::{Loaded, RAM_BASE};
 use flat_memory::read_word;
 use forest_model::Written;
@@ -61,16 +63,24 @@ impl Model for Hart {
 }
 
 impl Hart {
-    /// A hart with an image in its RAM, at the entry.
+    /// A hart with an image in its RAM, at the entry, with this disk and this input, that may have `allot`
+    /// clones.
     #[tactic(auto, unfolding(forest_model::specs::Machine::registers_at_start))]
-    pub fn new(alloc: Global, image: &Loaded) -> Result<Hart, AllocError>
+    pub fn new(
+        alloc: Global,
+        image: &Loaded,
+        disk: Disk,
+        input: &[u8],
+        allot: u32,
+    ) -> Result<Hart, AllocError>
+        requires { length input.now ≤ MAX_INPUT }
         ensures { IfOk result (λ hart. hart ≡ record {
           registers = registers_at_start;
           pc = image.now.entry;
           csrs = at_reset;
           reservation = None;
           ram = image.now.ram;
-          ports = ports_at_start;
+          ports = ports_at_start disk input.now allot;
         }) }
     {
         Ok(Hart {
@@ -79,8 +89,22 @@ impl Hart {
             csrs: Csrs::reset(),
             reservation: None,
             ram: Vec::from_slice(alloc, image.ram())?,
-            ports: Ports::new(alloc)?,
+            ports: Ports::new(alloc, disk, input, allot)?,
         })
+    }
+
+    /// The whole input, read or not.
+    pub fn input(&self) -> &[u8]
+        ensures { result.now ≡ self.now.ports.console.input }
+    {
+        self.ports.input()
+    }
+
+    /// The disk.
+    pub fn disk(&self) -> &Disk
+        ensures { result.now ≡ self.now.ports.block.disk }
+    {
+        self.ports.disk()
     }
 
     /// The console's output.
@@ -107,10 +131,10 @@ impl Hart {
 
     /// Makes the coming step.
     #[inline]
-    #[tactic(auto, unfolding(forest_model::specs::Execute::action))]
+    #[tactic(auto, unfolding(forest_model::specs::Execute::action, crate::specs::Acts::Grows))]
     pub fn act(&mut self) -> Result<Acted, AllocError>
         ensures acts { Acts self.old self.new (action self.old) result }
-        ensures memory { OnErr result (Grows (action self.old) self.old) }
+        ensures memory { OnErr result (Grows self.old) }
     {
         if self.csrs.interrupt(self.ports.is_timer_due()) {
             return Ok(Acted::Interrupted);
@@ -152,7 +176,7 @@ impl Hart {
     #[tactic(auto, unfolding(forest_model::specs::Execute::execute))]
     fn execute(&mut self, instr: Instr, word: u32) -> Result<Acted, AllocError>
         ensures acts { Acts self.old self.new (execute instr word self.old) result }
-        ensures memory { OnErr result (Grows (execute instr word self.old) self.old) }
+        ensures memory { OnErr result (InstructionGrows instr self.old) }
     {
         match instr.kind().group() {
             Group::LoadUpper => Ok(self.load_upper(instr)),

@@ -1,10 +1,11 @@
 ghost use Rattle.std.specs.Prelude.{◌≡◌, ◌+◌, ◌-◌, ◌≤◌, ◌<◌, length, None, IfOk, OnErr, OnOk, IsSome};
-ghost use Rattle.forest_model.specs.Execute.{action};
+ghost use Rattle.console_port.specs.declared.port.TheConstants.{MAX_INPUT};
 ghost use Rattle.forest_model.specs.Machine.{IsWithinLimit, limited, advance, after_steps, finish, boot};
 ghost use Rattle.vm_cell.specs.Acts.{Grows};
 ghost use Rattle.vm_cell.specs.Steps.{stepped_of};
 
 use crate::hart::{Acted, Hart};
+use cow_disk::Disk;
 use elf_load::Loaded;
 use forest_model::{Ending, Options, Written};
 use rv_traps::TIMER_INTERRUPT;
@@ -48,15 +49,23 @@ impl Model for Vm {
 }
 
 impl Vm {
-    /// The machine that starts from an image.
+    /// The machine that starts from an image, with this disk and this input.
     #[tactic(auto, unfolding(forest_model::specs::Machine::boot))]
-    pub fn boot(alloc: Global, image: &Loaded, options: Options) -> Result<Vm, AllocError>
+    pub fn boot(
+        alloc: Global,
+        image: &Loaded,
+        disk: Disk,
+        input: &[u8],
+        options: Options,
+    ) -> Result<Vm, AllocError>
+        requires input_fits { length input.now ≤ MAX_INPUT }
         requires least { 1 ≤ options.limit }
         requires most { options.limit ≤ 1_000_000_000 }
-        ensures { IfOk result (λ vm. vm ≡ boot image.now options) }
+        requires allot { options.allot ≤ 4096 }
+        ensures { IfOk result (λ vm. vm ≡ boot image.now disk input.now options) }
     {
         Ok(Vm {
-            hart: Hart::new(alloc, image)?,
+            hart: Hart::new(alloc, image, disk, input, options.allot)?,
             steps: 0,
             limit: options.limit,
             ending: None,
@@ -104,8 +113,8 @@ impl Vm {
         ensures steps { OnOk result (self.new ≡ advance self.old) }
         ensures stands { IfOk result (λ stepped. stepped ≡ stepped_of self.new.ending) }
         ensures err { OnErr result (self.new ≡ self.old) }
-        // Memory is wanted only for a byte of output.
-        ensures memory { OnErr result ((self.old.ending ≡ None) × Grows (action self.old.state) self.old.state) }
+        // Memory is wanted only for a byte of output or a sector of the disk.
+        ensures memory { OnErr result ((self.old.ending ≡ None) × Grows self.old.state) }
     {
         if self.ending.is_none() {
             self.step_live()?;
@@ -125,7 +134,7 @@ impl Vm {
         ensures err_steps { OnErr result (self.old.steps ≤ self.new.steps) }
         ensures err_most { OnErr result (self.new.steps < self.old.steps + most) }
         ensures err_live { OnErr result (self.new.ending ≡ None) }
-        ensures err_memory { OnErr result (Grows (action self.new.state) self.new.state) }
+        ensures err_memory { OnErr result (Grows self.new.state) }
     {
         let mut steps = 0;
         while steps < most && self.ending.is_none() {
@@ -146,7 +155,7 @@ impl Vm {
         ensures steps { OnOk result (self.new ≡ advance self.old) }
         ensures counted { OnOk result (self.new.steps ≡ self.old.steps + 1) }
         ensures err { OnErr result (self.new ≡ self.old) }
-        ensures memory { OnErr result (Grows (action self.old.state) self.old.state) }
+        ensures memory { OnErr result (Grows self.old.state) }
     {
         match self.hart.act()? {
             Acted::Trapped { cause, value } => {
@@ -240,6 +249,22 @@ mod tests {
             bytes.extend_from_slice(&word.to_le_bytes())?;
         }
         load_elf(alloc, &bytes, 64)
+    }
+
+    // The machine of an image, with no disk and no input.
+    fn booted(alloc: Global, words: &[u32], limit: u64) -> Result<Vm, Fail>
+        requires words { length words.now ≤ 32 }
+        requires limit { (1 ≤ limit) × (limit ≤ 1_000_000_000) }
+    {
+        let image = load(alloc, words)?;
+        let disk = Disk::from_bytes(alloc, b"")?;
+        Ok(Vm::boot(
+            alloc,
+            &image,
+            disk,
+            b"",
+            Options { limit, allot: 0 },
+        )?)
     }
 
     const EXIT_SEVEN: [u32; 5] = [0x100022b7, 0x00700313, 0x0062a023, 0x00500313, 0x0062a423];
@@ -355,7 +380,7 @@ mod tests {
         ];
         for (words, limit, ending, steps, output) in cases {
             assert!(rt; words.len() <= 32 && 1 <= limit && limit <= 1_000_000_000);
-            let mut vm = Vm::boot(rt.alloc(), &load(rt.alloc(), words)?, Options { limit })?;
+            let mut vm = booted(rt.alloc(), words, limit)?;
             let ran = vm.run(limit)?;
             assert_eq!(rt; ran.steps, steps, "at {words:?}");
             assert_eq!(rt; ran.why, Stepped::Ended(ending), "at {words:?}");
@@ -382,10 +407,10 @@ mod tests {
             (0x0002a223, READ_MCAUSE, 7),
             (0x0002a223, READ_MTVAL, 0x10002004),
             (0x000290a3, READ_MCAUSE, 6),
-            // LW from 0, LH from 1, LW from the fork port
+            // LW from 0, LH from 1, LW from the fork port's command
             (0x00002003, READ_MCAUSE, 5),
             (0x00101003, READ_MCAUSE, 4),
-            (0x0002a003, READ_MTVAL, 0x10002000),
+            (0x0082a003, READ_MTVAL, 0x10002008),
             // JAL by 2, and a BEQ by 2 that is taken
             (0x0020006f, READ_MCAUSE, 0),
             (0x0020006f, READ_MTVAL, 0x80000012),
@@ -397,8 +422,7 @@ mod tests {
             (0x00000073, READ_MEPC, 0x80000010),
         ];
         for (word, csr, value) in cases {
-            let image = load(rt.alloc(), &trapping(word, csr))?;
-            let mut vm = Vm::boot(rt.alloc(), &image, Options { limit: 100 })?;
+            let mut vm = booted(rt.alloc(), &trapping(word, csr), 100)?;
             let ran = vm.run(100)?;
             assert_eq!(rt;
                 ran.why,
@@ -434,11 +458,7 @@ mod tests {
                 0x80000437, 0x04040413, 0x89abd3b7, 0xdef38393, 0x00742023, 0x00300493, word,
                 0x100022b7, 0x0072a023, 0x00500313, 0x0062a423,
             ];
-            let mut vm = Vm::boot(
-                rt.alloc(),
-                &load(rt.alloc(), &words)?,
-                Options { limit: 100 },
-            )?;
+            let mut vm = booted(rt.alloc(), &words, 100)?;
             let ran = vm.run(100)?;
             assert_eq!(rt;
                 ran.why,
@@ -451,8 +471,7 @@ mod tests {
 
     #[test]
     fn stops_and_goes_on(rt: HostRuntime) -> Result<(), Fail> {
-        let image = load(rt.alloc(), &EXIT_SEVEN)?;
-        let mut vm = Vm::boot(rt.alloc(), &image, Options { limit: 100 })?;
+        let mut vm = booted(rt.alloc(), &EXIT_SEVEN, 100)?;
         let ran = vm.run(3)?;
         assert_eq!(rt; ran.steps, 3);
         assert_eq!(rt; ran.why, Stepped::Went);

@@ -7,7 +7,7 @@ ghost use Rattle.byteorder.specs.Endian.{little_from};
 ghost use Rattle.forest_model.specs.Ports.{port_load, port_store};
 ghost use Rattle.forest_model.specs.Memory.{data_address, is_aligned, aligned_load, read_action, load, store, store_action, port_action};
 ghost use Rattle.rv_exec.specs.Memory.{load_width};
-ghost use Rattle.vm_cell.specs.Acts.{Acts, Grows};
+ghost use Rattle.vm_cell.specs.Acts.{Acts, InstructionGrows, PortGrows};
 
 use super::{Acted, Hart, trapped};
 use flat_memory::{read_half, read_word, write_bytes};
@@ -95,7 +95,7 @@ impl Hart {
     pub(super) fn store(&mut self, instr: Instr) -> Result<Acted, AllocError>
         requires { group_of instr.kind ≡ group.Store }
         ensures acts { Acts self.old self.new (store instr self.old) result }
-        ensures memory { OnErr result (Grows (store instr self.old) self.old) }
+        ensures memory { OnErr result (InstructionGrows instr self.old) }
     {
         let address = self.data_address(instr);
         let word = self.register(instr.rs2());
@@ -114,7 +114,7 @@ impl Hart {
     fn store_to(&mut self, address: u32, word: u32, bytes: &[u8]) -> Result<Acted, AllocError>
         requires width { (length bytes.now ≡ 1) ⊎ ((length bytes.now ≡ 2) ⊎ (length bytes.now ≡ 4)) }
         ensures acts { Acts self.old self.new (store_action address bytes.now word self.old) result }
-        ensures memory { OnErr result (Grows (store_action address bytes.now word self.old) self.old) }
+        ensures memory { OnErr result (PortGrows self.old.ports address (length bytes.now) word) }
     {
         let width = bytes.len() as u32;
         if address % width != 0 {
@@ -133,7 +133,7 @@ impl Hart {
     #[tactic(auto, unfolding(forest_model::specs::Ports::port_store, vm_bus::specs::Bus::bus_store, timer_port::specs::Timer::timer_store))]
     fn store_to_port(&mut self, address: u32, width: u32, word: u32) -> Result<Acted, AllocError>
         ensures acts { Acts self.old self.new (port_action (port_store self.old.ports address width word) address self.old) result }
-        ensures memory { OnErr result (Grows (port_action (port_store self.old.ports address width word) address self.old) self.old) }
+        ensures memory { OnErr result (PortGrows self.old.ports address width word) }
     {
         match self.ports.store(address, width, word) {
             Ok(effect) => {
