@@ -1,37 +1,124 @@
 -- What the shelf tells, and what the machine that is run to its end reports.
-use Rattle.std.proofs.Common.{◌≡◌, ℕ, ◌+◌, ◌<◌, ◌≤◌, Bool, true, false, cond, List, length, Option, Some, None, Result, Ok, Err, IsSome, IfSome, IsSomeAnd, refl, sym, ap, ◌∙◌, subst, arith, ltb}
+use Rattle.std.proofs.Common.{◌≡◌, ℕ, ◌+◌, ◌<◌, ◌≤◌, Bool, true, false, cond, List, [], length, Option, Some, None, Result, Ok, Err, IsSome, IfSome, IsSomeAnd, sym, ap, ◌∙◌, subst, arith, ltb}
 use Rattle.std.specs.Option.{option_map}
+use Rattle.std.specs.Result.{IsErrAnd}
 use Rattle.std.proofs.lemmas.Bool.{lt-ltb}
 use Rattle.elf_load.specs.Image.{Image}
 use Rattle.elf_load.specs.Elf.{loaded}
 use Rattle.forest_model.specs.declared.Ending.{Ending}
 use Rattle.forest_model.specs.declared.Options.{Options}
 use Rattle.forest_model.specs.Machine.{Machine, boot, finish}
-use Rattle.snow_main.specs.declared.program.TheConstants.{IMAGE_MOST, TOO_LONG}
 use Rattle.run_report.specs.Report.{ended_root, report, report_by, report_of}
-use Rattle.snow_main.specs.Text.{Files, Refusal, image_refused, image_text, booted_text, refused_image, file_text, options_of, run_text}
+use Rattle.snow_main.specs.declared.program.TheConstants.{IMAGE_LOAD, DISK_LOAD, INPUT_LOAD, IMAGE_MOST, DISK_MOST}
+use Rattle.console_port.specs.declared.port.TheConstants.{MAX_INPUT}
+use Rattle.snow_main.specs.declared.program.Stop.{Stop}
+use Rattle.snow_main.specs.declared.program.Stop.TheVariants.{ReadFault, ImageRefused, DataRefused, WriteFault, Memory}
+use Rattle.snow_main.specs.Runs.{Loads, ReadsFile, IsImageRefusal, IsDataRefusal, last_load}
+use Rattle.snow_main.specs.Text.{Files, Refusal, no_file, image_too_long, disk_too_long, disk_not_sectors, input_too_long, file_read, option_read, image_read, disk_read, input_read, loaded_text, bytes_text, with_input, with_disk, with_image, run_text}
 use Rattle.snow_main.specs.Words.{RunValues}
 
--- a file that is too long is refused
-text-too_long : (values : RunValues) (file : Option (List ℕ)) → IsSomeAnd file (λ bytes. IMAGE_MOST < length bytes)
-    → file_text values file ≡ Err (image_refused TOO_LONG)
-unfolding image_text
-text-too_long values None h = absurd h
-text-too_long values (Some bytes) h =
-    ap (λ long. refused_image (cond long (Err TOO_LONG) (booted_text (options_of values) (loaded bytes values.pages)))) (lt-ltb IMAGE_MOST (length bytes) h)
+-- ---- files
 
-pub told-too_long : (files : Option Files) (values : RunValues) (name : List ℕ) → name ≡ values.image
-    → IfSome files (λ told. IsSomeAnd (told name) (λ bytes. IMAGE_MOST < length bytes))
-    → IfSome (option_map (run_text values) files) (λ text. text ≡ Err (image_refused TOO_LONG))
-told-too_long None values name e h = tt
-told-too_long (Some told) values name e h =
-    text-too_long values (told values.image) (subst (λ name. IsSomeAnd (told name) (λ bytes. IMAGE_MOST < length bytes)) e h)
+-- a file that is too long is refused
+pub read-too_long : (load most : ℕ) (refusal : Refusal) (file : Option (List ℕ)) → IsSomeAnd file (λ bytes. most < length bytes)
+    → file_read load most refusal file ≡ Err refusal
+read-too_long load most refusal None h = absurd h
+read-too_long load most refusal (Some bytes) h = ap (λ long. cond long (Err refusal) (Ok bytes)) (lt-ltb most (length bytes) h)
+
+-- the same, of what the shelf tells of a name
+pub told-too_long : (P : Refusal → Type 0) (load most : ℕ) (refusal : Refusal) (name : List ℕ) (read : Files → Result (List ℕ) Refusal) (files : Option Files)
+    → ((told : Files) → read told ≡ file_read load most refusal (told name)) → P refusal
+    → IfSome files (λ told. IsSomeAnd (told name) (λ bytes. most < length bytes))
+    → IfSome (option_map read files) (λ file. IsErrAnd file P)
+told-too_long P load most refusal name read None same p h = tt
+told-too_long P load most refusal name read (Some told) same p h =
+    subst (λ r. IsErrAnd r P) (sym (same told ∙ read-too_long load most refusal (told name) h)) p
+
+-- ---- the last load that comes before a text
+
+by_sectors : (whole : Bool) (text : List ℕ) → INPUT_LOAD ≤ last_load (cond whole (Ok text) (Err disk_not_sectors))
+by_sectors true text = omega arith
+by_sectors false text = omega arith
+
+by_loaded : (values : RunValues) (r : Result Image ℕ) (disk input : List ℕ) → INPUT_LOAD ≤ last_load (loaded_text values r disk input)
+by_loaded values (Err number) disk input = omega arith
+by_loaded values (Ok image) disk input = by_sectors _ _
+
+bytes-load : (values : RunValues) (image disk input : List ℕ) → INPUT_LOAD ≤ last_load (bytes_text values image disk input)
+unfolding bytes_text
+bytes-load values image disk input = by_loaded values (loaded image values.pages) disk input
+
+by_length : (is_long : Bool) (load : ℕ) (refusal : Refusal) (bytes : List ℕ) (rest : Result (List ℕ) Refusal → Result (List ℕ) Refusal)
+    → load ≤ last_load (rest (Err refusal)) → ((bytes : List ℕ) → load ≤ last_load (rest (Ok bytes)))
+    → load ≤ last_load (rest (cond is_long (Err refusal) (Ok bytes)))
+by_length true load refusal bytes rest long read = long
+by_length false load refusal bytes rest long read = read bytes
+
+-- a file that is not there, is too long, or is read
+by_file : (load most : ℕ) (refusal : Refusal) (file : Option (List ℕ)) (rest : Result (List ℕ) Refusal → Result (List ℕ) Refusal)
+    → load ≤ last_load (rest (Err (no_file load))) → load ≤ last_load (rest (Err refusal))
+    → ((bytes : List ℕ) → load ≤ last_load (rest (Ok bytes)))
+    → load ≤ last_load (rest (file_read load most refusal file))
+by_file load most refusal None rest none long read = none
+by_file load most refusal (Some bytes) rest none long read = by_length (ltb most (length bytes)) load refusal bytes rest long read
+
+by_option : (load most : ℕ) (refusal : Refusal) (name : Option (List ℕ)) (files : Files) (rest : Result (List ℕ) Refusal → Result (List ℕ) Refusal)
+    → load ≤ last_load (rest (Err (no_file load))) → load ≤ last_load (rest (Err refusal))
+    → ((bytes : List ℕ) → load ≤ last_load (rest (Ok bytes)))
+    → load ≤ last_load (rest (option_read load most refusal name files))
+by_option load most refusal None files rest none long read = read []
+by_option load most refusal (Some name) files rest none long read = by_file load most refusal (files name) rest none long read
+
+pub input-load : (values : RunValues) (image disk : List ℕ) (files : Files)
+    → INPUT_LOAD ≤ last_load (with_input values image disk (input_read values files))
+unfolding input_read
+input-load values image disk files =
+    by_option INPUT_LOAD MAX_INPUT input_too_long values.input files (with_input values image disk) (omega arith) (omega arith)
+    (bytes-load values image disk)
+
+pub disk-load : (values : RunValues) (image : List ℕ) (files : Files)
+    → DISK_LOAD ≤ last_load (with_disk values files image (disk_read values files))
+unfolding disk_read
+disk-load values image files =
+    by_option DISK_LOAD DISK_MOST disk_too_long values.disk files (with_disk values files image) (omega arith) (omega arith)
+    (λ disk. let later = input-load values image disk files in omega (arith, later))
+
+pub image-load : (values : RunValues) (files : Files) → IMAGE_LOAD ≤ last_load (run_text values files)
+unfolding image_read
+image-load values files =
+    by_file IMAGE_LOAD IMAGE_MOST image_too_long (files values.image) (with_image values files) (omega arith) (omega arith)
+    (λ image. let later = disk-load values image files in omega (arith, later))
+
+-- ---- a file that is not read
+
+refused : (P : Refusal → Type 0) (file : Result (List ℕ) Refusal) (rest : Result (List ℕ) Refusal → Result (List ℕ) Refusal)
+    → ((refusal : Refusal) → rest (Err refusal) ≡ Err refusal) → IsErrAnd file P → IsErrAnd (rest file) P
+refused P (Ok bytes) rest passes h = absurd h
+refused P (Err refusal) rest passes h = subst (λ r. IsErrAnd r P) (sym (passes refusal)) h
+
+-- a load that fails fails the run
+pub stops : (stop : Stop) (files : Option Files) (read : Files → Result (List ℕ) Refusal) (load : ℕ) (rf : Type 0)
+    (rest : Files → Result (List ℕ) Refusal → Result (List ℕ) Refusal)
+    → ((told : Files) (refusal : Refusal) → rest told (Err refusal) ≡ Err refusal)
+    → ((told : Files) → load ≤ last_load (rest told (read told)))
+    → ReadsFile (Err stop) (option_map read files) load rf → Loads (Err stop) (option_map (λ told. rest told (read told)) files) rf
+stops (ReadFault at) None read load rf rest passes reached h = (h.1, tt)
+stops (ReadFault at) (Some told) read load rf rest passes reached h = (h.1, subst (λ n. n ≤ last_load (rest told (read told))) (sym h.0) (reached told))
+stops (ImageRefused number) None read load rf rest passes reached h = tt
+stops (ImageRefused number) (Some told) read load rf rest passes reached h = refused (IsImageRefusal number) (read told) (rest told) (passes told) h
+stops (DataRefused number) None read load rf rest passes reached h = tt
+stops (DataRefused number) (Some told) read load rf rest passes reached h = refused (IsDataRefusal number) (read told) (rest told) (passes told) h
+stops WriteFault files read load rf rest passes reached h = absurd h
+stops Memory files read load rf rest passes reached h = tt
+
+-- ---- the machine
 
 -- the run of a booted machine that has steps enough is its finish
-pub booted-finished : (m new : Machine) (image : Image) (options : Options) → m ≡ boot image options
-    → (m.limit ≤ m.steps + options.limit → (new ≡ finish m) × IsSome new.ending) → (new ≡ finish (boot image options)) × IsSome new.ending
+pub booted-finished : (m new : Machine) (image : Image) (disk input : List ℕ) (options : Options) → m ≡ boot image disk input options
+    → (m.limit ≤ m.steps + options.limit → (new ≡ finish m) × IsSome new.ending)
+    → (new ≡ finish (boot image disk input options)) × IsSome new.ending
 unfolding boot
-booted-finished m new image options booted run =
+booted-finished m new image disk input options booted run =
     let limit : m.limit ≡ options.limit = ap (λ (k : Machine). k.limit) booted in
     let ended = run (omega arith) in
     (ended.0 ∙ ap finish booted, ended.1)

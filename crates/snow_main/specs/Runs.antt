@@ -1,5 +1,6 @@
 -- How the inner calls of `snow` end, over the text that the shelf tells (none where it tells none).
-use Rattle.std.specs.Prelude.{◌≡◌, ℕ, ◌≤◌, ◌⊎◌, List, Option, Result, Ok, Err, IfSome, IsSome, IsOkAnd, IsErrAnd}
+use Rattle.std.specs.Prelude.{◌≡◌, ℕ, ◌≤◌, ◌⊎◌, List, Vec, Option, Result, Ok, Err, IfSome, IsSome, IsOkAnd, IsErrAnd}
+use Rattle.std.specs.declared.alloc.Global.{Global}
 use Rattle.io_edge.specs.Outside.{appended, IsPrefixGone}
 use Rattle.run_report.specs.Report.{Ended, report_of}
 use Rattle.snow_main.specs.declared.program.TheConstants.{TOO_LONG, DISK_TOO_LONG, DISK_NOT_SECTORS, INPUT_TOO_LONG, IMAGE_LOAD, DISK_LOAD, INPUT_LOAD}
@@ -57,8 +58,8 @@ FaultsWhereAsked values (Err WriteFault) = Unit {0}
 FaultsWhereAsked values (Err Memory) = Unit {0}
 
 -- a file for a load was read, or why not
-abbrev pub ReadsFile : Result (List ℕ) Stop → Option (Result (List ℕ) Refusal) → ℕ → Type 0 → Type 0
-ReadsFile (Ok bytes) told load read_fault = IfSome told (λ file. file ≡ Ok bytes)
+abbrev pub ReadsFile : Result (Vec ℕ Global) Stop → Option (Result (List ℕ) Refusal) → ℕ → Type 0 → Type 0
+ReadsFile (Ok bytes) told load read_fault = IfSome told (λ file. file ≡ Ok bytes.items)
 ReadsFile (Err (ReadFault at)) told load read_fault = (at ≡ load) × read_fault
 ReadsFile (Err (ImageRefused number)) told load read_fault = IfSome told (λ file. IsErrAnd file (IsImageRefusal number))
 ReadsFile (Err (DataRefused number)) told load read_fault = IfSome told (λ file. IsErrAnd file (IsDataRefusal number))

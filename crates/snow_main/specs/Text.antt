@@ -1,12 +1,12 @@
 -- The text that a command line writes: the report of the machine that is booted from the image, with its
 -- disk and its input, and run to its end.
-use Rattle.std.specs.Prelude.{ℕ, ◌*◌, ◌%◌, ◌==◌, nat_lt, if◌then◌else◌, List, [], length, Option, Some, None, Result, Ok, Err}
+use Rattle.std.specs.Prelude.{ℕ, ◌%◌, ◌==◌, nat_lt, if◌then◌else◌, List, [], length, Option, Some, None, Result, Ok, Err}
 use Rattle.console_port.specs.declared.port.TheConstants.{MAX_INPUT}
-use Rattle.cow_disk.specs.declared.disk.TheConstants.{SECTOR_SIZE, MAX_SECTORS}
+use Rattle.cow_disk.specs.declared.disk.TheConstants.{SECTOR_SIZE}
 use Rattle.elf_load.specs.Image.{Image}
 use Rattle.elf_load.specs.Elf.{loaded}
 use Rattle.forest_model.specs.declared.Options.{Options}
-use Rattle.forest_model.specs.Machine.{Machine, boot, finish}
+use Rattle.forest_model.specs.Machine.{boot, finish}
 use Rattle.run_report.specs.Report.{report}
 use Rattle.snow_main.specs.declared.program.TheConstants.{IMAGE_MOST, DISK_MOST, IMAGE_LOAD, DISK_LOAD, INPUT_LOAD}
 use Rattle.snow_main.specs.Words.{Command, RunValues, run, meant}

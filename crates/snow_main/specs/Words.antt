@@ -29,11 +29,11 @@ option_rule name = record (new_rule name) { long = Some name }
 abbrev pub image_app : App
 image_app = with_rule (new_app (codes "run")) (record (new_rule (codes "IMAGE")) { required = true })
 
+abbrev pub files_app : App
+files_app = with_rule (with_rule image_app (option_rule (codes "disk"))) (option_rule (codes "input"))
+
 abbrev pub run_app : App
-run_app =
-    with_rule
-    (with_rule (with_rule (with_rule image_app (option_rule (codes "disk"))) (option_rule (codes "input"))) (option_rule (codes "ram")))
-    (option_rule (codes "limit"))
+run_app = with_rule (with_rule files_app (option_rule (codes "ram"))) (option_rule (codes "limit"))
 
 -- the first word is not the program's own name
 abbrev pub without_own_name : App → App

@@ -217,6 +217,7 @@ fn read_input_and_run<S: Shelf>(
     run_bytes(alloc, run, image, disk, &input)
 }
 
+#[tactic(auto, unfolding(crate::specs::Text::image_read))]
 fn read_image<S: Shelf>(alloc: Global, run: &Run<'_>, shelf: &mut S) -> Result<Vec<u8>, Stop>
     ensures reads { ReadsFile result (option_map (image_read run.now) (S.files shelf.old)) IMAGE_LOAD
         (HasRisen (S.faults shelf.old) (S.faults shelf.new)) }
@@ -232,6 +233,7 @@ fn read_image<S: Shelf>(alloc: Global, run: &Run<'_>, shelf: &mut S) -> Result<V
 }
 
 /// The bytes of the disk, of which there are none where no disk is named.
+#[tactic(auto, unfolding(crate::specs::Text::disk_read))]
 fn read_disk<S: Shelf>(alloc: Global, run: &Run<'_>, shelf: &mut S) -> Result<Vec<u8>, Stop>
     ensures reads { ReadsFile result (option_map (disk_read run.now) (S.files shelf.old)) DISK_LOAD
         (HasRisen (S.faults shelf.old) (S.faults shelf.new)) }
@@ -252,6 +254,7 @@ fn read_disk<S: Shelf>(alloc: Global, run: &Run<'_>, shelf: &mut S) -> Result<Ve
 }
 
 /// The bytes of the input, of which there are none where no input is named.
+#[tactic(auto, unfolding(crate::specs::Text::input_read))]
 fn read_input<S: Shelf>(alloc: Global, run: &Run<'_>, shelf: &mut S) -> Result<Vec<u8>, Stop>
     ensures reads { ReadsFile result (option_map (input_read run.now) (S.files shelf.old)) INPUT_LOAD
         (HasRisen (S.faults shelf.old) (S.faults shelf.new)) }

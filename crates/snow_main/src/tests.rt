@@ -16,6 +16,46 @@ const PRINT_LETTER: [u32; 7] = [
     0x100002b7, 0x04100313, 0x00628023, 0x100022b7, 0x0002a023, 0x00500313, 0x0062a423,
 ];
 
+/// The words of the guest that puts out the first byte of its input.
+const ECHO_BYTE: [u32; 7] = [
+    0x100002b7, 0x0002c303, 0x00628023, 0x100022b7, 0x0002a023, 0x00500313, 0x0062a423,
+];
+
+/// The words of the guest that copies sector 0 of its disk to sector 1. It reads sector 0 to the buffer,
+/// writes the buffer to sector 1, clears the buffer word by word, reads sector 1, and compares the buffer
+/// with that of sector 0, of which it has kept a copy. It exits with how many words differ, and puts out
+/// the first byte of the buffer and the last.
+const COPY_SECTOR: [u32; 46] = [
+    // lui x5, 0x10001; addi x6, x0, 1; sw x0, 0(x5); sw x6, 4(x5): sector 0 to the buffer
+    0x100012b7, 0x00100313, 0x0002a023, 0x0062a223,
+    // lui x7, 0x80001; addi x8, x5, 512; addi x9, x5, 1024: the copy, and the buffer's ends
+    0x800013b7, 0x20028413, 0x40028493,
+    // lw x10, 0(x8); sw x10, 0(x7); addi x8, x8, 4; addi x7, x7, 4; bne x8, x9, -16
+    0x00042503, 0x00a3a023, 0x00440413, 0x00438393, 0xfe9418e3,
+    // sw x6, 0(x5); addi x11, x0, 2; sw x11, 4(x5): the buffer to sector 1
+    0x0062a023, 0x00200593, 0x00b2a223,
+    // addi x8, x5, 512; sw x0, 0(x8); addi x8, x8, 4; bne x8, x9, -8
+    0x20028413, 0x00042023, 0x00440413, 0xfe941ce3,
+    // sw x6, 4(x5): sector 1 to the buffer
+    0x0062a223,
+    // lui x7, 0x80001; addi x8, x5, 512; addi x12, x0, 0
+    0x800013b7, 0x20028413, 0x00000613,
+    // lw x10, 0(x8); lw x13, 0(x7); beq x10, x13, 8; addi x12, x12, 1
+    0x00042503, 0x0003a683, 0x00d50463, 0x00160613,
+    // addi x8, x8, 4; addi x7, x7, 4; bne x8, x9, -24
+    0x00440413, 0x00438393, 0xfe9414e3,
+    // lw x14, 8(x5); add x12, x12, x14; lw x14, 12(x5): the status, and the count of sectors
+    0x0082a703, 0x00e60633, 0x00c2a703,
+    // addi x15, x0, 2; beq x14, x15, 8; addi x12, x12, 1
+    0x00200793, 0x00f70463, 0x00160613,
+    // lui x16, 0x10000; lw x10, 512(x5); sb x10, 0(x16): puts out the first byte
+    0x10000837, 0x2002a503, 0x00a80023,
+    // lw x10, 1020(x5); srli x10, x10, 24; sb x10, 0(x16): and the last
+    0x3fc2a503, 0x01855513, 0x00a80023,
+    // lui x5, 0x10002; sw x12, 0(x5); addi x6, x0, 5; sw x6, 8(x5)
+    0x100022b7, 0x00c2a023, 0x00500313, 0x0062a423,
+];
+
 /// An executable of one segment, which goes to the start of RAM and starts there.
 fn image_of(alloc: Global, words: &[u32]) -> Result<Vec<u8>, AllocError> {
     let size = u32::try_from(words.len())
@@ -174,6 +214,133 @@ fn refuses_by_cause(rt: HostRuntime) -> Result<(), Fail> {
         let mut sink = MemSink::new(alloc, 7, 100, Vec::new(alloc))?;
         assert_eq!(rt; snow(&rt, &asked, &mut shelf, &mut sink), want, "{words:?}");
         assert_eq!(rt; sink.bytes().len(), 0);
+    }
+    Ok(())
+}
+
+/// A shelf with a guest, a disk of two sectors, whose bytes are their places, and the input `Z`.
+fn shelf_with(alloc: Global, guest: &[u32]) -> Result<MemShelf, Fail> {
+    let mut disk = Vec::new(alloc);
+    for at in 0..1024u32 {
+        disk.push((at % 251) as u8)?;
+    }
+    let mut files = Vec::new(alloc);
+    files.push((String::from_str(alloc, "guest")?, image_of(alloc, guest)?))?;
+    files.push((String::from_str(alloc, "disk")?, disk))?;
+    files.push((
+        String::from_str(alloc, "input")?,
+        Vec::from_slice(alloc, b"Z")?,
+    ))?;
+    files.push((String::from_str(alloc, "empty")?, Vec::new(alloc)))?;
+    Ok(MemShelf::new(files, Vec::new(alloc)))
+}
+
+#[test]
+fn gives_the_guest_its_disk_and_its_input(rt: HostRuntime) -> Result<(), Fail> {
+    let alloc = rt.alloc();
+    let rows: [(&[u32], &[&str], &[u8]); 6] = [
+        (
+            &ECHO_BYTE,
+            &["run", "guest", "--input", "input"],
+            b"machine 0 exit 0 steps 7 out 1\nZ\n",
+        ),
+        (
+            &ECHO_BYTE,
+            &["run", "guest", "--input=empty"],
+            b"machine 0 exit 0 steps 7 out 1\n\0\n",
+        ),
+        (
+            &ECHO_BYTE,
+            &["run", "guest", "--disk", "disk"],
+            b"machine 0 exit 0 steps 7 out 1\n\0\n",
+        ),
+        // The bytes 0 and 511 of the disk are 0 and 9.
+        (
+            &COPY_SECTOR,
+            &["run", "--disk", "disk", "guest", "--input", "input"],
+            b"machine 0 exit 0 steps 1822 out 2\n\0\x09\n",
+        ),
+        // Without sectors each command has the status 1, the buffer stays, and the count is not 2.
+        (
+            &COPY_SECTOR,
+            &["run", "guest", "--disk", "empty"],
+            b"machine 0 exit 2 steps 1823 out 2\n\0\0\n",
+        ),
+        (
+            &COPY_SECTOR,
+            &["run", "guest"],
+            b"machine 0 exit 2 steps 1823 out 2\n\0\0\n",
+        ),
+    ];
+    for (guest, words, report) in rows {
+        let asked = words_of(alloc, words)?;
+        let mut sink = MemSink::new(alloc, 7, 100, Vec::new(alloc))?;
+        let done = snow(&rt, &asked, &mut shelf_with(alloc, guest)?, &mut sink);
+        assert_eq!(rt; done, status(0, 0), "{words:?}");
+        assert_eq!(rt; sink.bytes(), report, "{words:?}");
+    }
+    Ok(())
+}
+
+/// So many zeros.
+fn zeros(alloc: Global, count: usize) -> Result<Vec<u8>, AllocError> {
+    let mut bytes = Vec::new(alloc);
+    bytes.resize(count, 0)?;
+    Ok(bytes)
+}
+
+#[test]
+fn refuses_disks_and_inputs_in_order(rt: HostRuntime) -> Result<(), Fail> {
+    let alloc = rt.alloc();
+    let disk: &[&str] = &["run", "guest", "--disk", "disk"];
+    let input: &[&str] = &["run", "guest", "--input", "input"];
+    let both: &[&str] = &["run", "guest", "--disk", "disk", "--input", "input"];
+    // The bytes of the image that are there, of the disk and of the input.
+    let rows: [(&[&str], usize, usize, usize, Status); 16] = [
+        (both, 104, 4_194_304, 65_536, status(0, 0)),
+        (disk, 104, 513, 0, status(4, 2)),
+        (disk, 104, 4_194_816, 0, status(4, 1)),
+        // Too long comes before no multiple of 512, and so does an input that is too long.
+        (disk, 104, 4_194_305, 0, status(4, 1)),
+        (both, 104, 513, 65_537, status(4, 3)),
+        (both, 104, 4_194_305, 65_537, status(4, 1)),
+        (input, 104, 513, 65_537, status(4, 3)),
+        (input, 104, 513, 0, status(0, 0)),
+        // A file that is not named is not read.
+        (&["run", "guest"], 104, 513, 65_537, status(0, 0)),
+        // The image is looked at once all files are read, and before the sectors of the disk.
+        (disk, 0, 513, 0, status(3, 1)),
+        (disk, 103, 4_194_305, 0, status(4, 1)),
+        (both, 103, 513, 65_537, status(4, 3)),
+        // A file that is not there.
+        (&["run", "guest", "--disk", "other"], 0, 0, 0, status(1, 2)),
+        (&["run", "guest", "--input", "other"], 0, 0, 0, status(1, 3)),
+        (&["run", "other", "--disk", "other"], 0, 0, 0, status(1, 1)),
+        (
+            &["run", "guest", "--disk", "disk", "--input", "other"],
+            104,
+            513,
+            0,
+            status(1, 3),
+        ),
+    ];
+    for (words, length, sectors, bytes, want) in rows {
+        let whole = image_of(alloc, &EXIT_SEVEN)?;
+        let (image, _) = whole.split_at(length.min(whole.len()));
+        let mut files = Vec::new(alloc);
+        files.push((
+            String::from_str(alloc, "guest")?,
+            Vec::from_slice(alloc, image)?,
+        ))?;
+        files.push((String::from_str(alloc, "disk")?, zeros(alloc, sectors)?))?;
+        files.push((String::from_str(alloc, "input")?, zeros(alloc, bytes)?))?;
+        let mut shelf = MemShelf::new(files, Vec::new(alloc));
+        let mut sink = MemSink::new(alloc, 7, 100, Vec::new(alloc))?;
+        let asked = words_of(alloc, words)?;
+        let found = snow(&rt, &asked, &mut shelf, &mut sink);
+        assert_eq!(rt; found, want, "{words:?}, {length}, {sectors}, {bytes}");
+        let out = if found.code == 0 { 32 } else { 0 };
+        assert_eq!(rt; sink.bytes().len(), out);
     }
     Ok(())
 }

@@ -3,7 +3,7 @@
 ghost use Rattle.std.specs.Prelude.{◌≡◌, ◌≤◌, false, IfOk, IfSome, option_map};
 ghost use Rattle.clap.specs.declared.Command.TheViews.{out-Command};
 ghost use Rattle.clap.specs.Words.{app_of, first_of, found_of, rows_of, subcommand_rows_of};
-ghost use Rattle.snow_main.specs.Words.{command_of, meant, number_of, run, run_app, run_of, snow_app, texts, value_of};
+ghost use Rattle.snow_main.specs.Words.{command_of, files_app, meant, number_of, run, run_app, run_of, snow_app, texts, value_of};
 
 use clap::error::ErrorKind;
 use clap::{Arg, ArgMatches, Command};
@@ -113,12 +113,20 @@ fn run_command<'a>(alloc: Global) -> Result<Command<'a>, AllocError>
     ensures app { IfOk result (λ command. app_of command ≡ run_app) }
     ensures local { IfOk result (λ command. (out-Command command).has_globals ≡ false) }
 {
+    files_command(alloc)?
+        .arg(Arg::new(alloc, "ram").long("ram"))?
+        .arg(Arg::new(alloc, "limit").long("limit"))
+}
+
+/// The part of `run` that names files.
+fn files_command<'a>(alloc: Global) -> Result<Command<'a>, AllocError>
+    ensures app { IfOk result (λ command. app_of command ≡ files_app) }
+    ensures local { IfOk result (λ command. (out-Command command).has_globals ≡ false) }
+{
     Command::new(alloc, "run")
         .arg(Arg::new(alloc, "IMAGE").required(true))?
         .arg(Arg::new(alloc, "disk").long("disk"))?
-        .arg(Arg::new(alloc, "input").long("input"))?
-        .arg(Arg::new(alloc, "ram").long("ram"))?
-        .arg(Arg::new(alloc, "limit").long("limit"))
+        .arg(Arg::new(alloc, "input").long("input"))
 }
 
 /// The subcommand that was found, with its values.

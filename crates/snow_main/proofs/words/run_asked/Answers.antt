@@ -1,4 +1,4 @@
-use Rattle.std.proofs.Common.{◌∙◌, sym}
+use Rattle.std.proofs.Common.{◌∙◌}
 use Rattle.snow_main.specs.Words.{texts}
 use Rattle.snow_main.proofs.Meanings.{meant-taken, meant-refused}
 use Rattle.snow_main.proofs.words.run_asked.Goals as goal

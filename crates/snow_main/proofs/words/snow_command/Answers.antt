@@ -1,7 +1,7 @@
 use Rattle.std.proofs.Common.{◌∙◌, ap, ap₂, rules, ◌≡◌}
 use Rattle.std.proofs.lemmas.Result.{IfOk-weaker}
 use Rattle.clap.specs.Words.{App, app_of, with_subcommand}
-use Rattle.snow_main.specs.Words.{snow_app, without_own_name}
+use Rattle.snow_main.specs.Words.{without_own_name}
 use Rattle.snow_main.proofs.words.snow_command.Goals as goal
 
 pub returns : goal.returns
