@@ -1,4 +1,5 @@
 ghost use Rattle.std.specs.Prelude.{◌≡◌, ◌+◌, ◌<◌, ◌≤◌, length, slice_index, OnOk, OnErr, IfOk};
+ghost use Rattle.std.specs.Arc.{arc_value};
 ghost use Rattle.flat_memory.specs.Flat.{word_at, half_at, put_bytes, zeros};
 
 use flat_memory::{read_half, read_word, write_bytes};
@@ -123,6 +124,9 @@ impl Page {
 /// Writes bytes of a frame, of which this owner gets a copy first where there are others.
 #[inline]
 fn write_frame(frame: &mut Arc<Frame>, at: usize, bytes: &[u8]) -> Result<(), AllocError>
+    requires { at + length bytes.now ≤ length (arc_value frame.old).bytes }
+    ensures ok { OnOk result ((arc_value frame.new).bytes ≡ put_bytes (arc_value frame.old).bytes at bytes.now) }
+    ensures err { OnErr result ((arc_value frame.new).bytes ≡ (arc_value frame.old).bytes) }
 {
     write_bytes(&mut Arc::make_mut(frame)?.bytes, at, bytes);
     Ok(())
