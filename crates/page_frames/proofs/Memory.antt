@@ -1,5 +1,5 @@
 -- The memory of a page table, byte by byte.
-use Rattle.std.proofs.Common.{◌≡◌, ℕ, zero, suc, ◌+◌, ◌-◌, ◌*◌, ◌/◌, ◌%◌, ◌<◌, ◌≤◌, ◌⊎◌, inl, inr, List, [], ◌∷◌, length, map, get_or, refl, sym, ap, ◌∙◌, subst, arith}
+use Rattle.std.proofs.Common.{◌≡◌, ◌≢◌, ℕ, zero, suc, ◌+◌, ◌-◌, ◌*◌, ◌/◌, ◌%◌, ◌<◌, ◌≤◌, ◌⊎◌, inl, inr, List, [], ◌∷◌, length, map, get_or, refl, sym, ap, ◌∙◌, subst, arith}
 use Rattle.std.specs.List.{range_with_len}
 use Rattle.std.proofs.Math.ListN.{set, length-set}
 use Rattle.std.proofs.lemmas.Bool.{cases_lt}
@@ -98,13 +98,73 @@ module _ (entries : List Entry) (page : ℕ) (there : page < length entries) (en
   pub same_page : entry_at (set entries page entry) page ≡ entry
   same_page = get_or-set_same entries page entry Blank there
 
-  -- a write that lies in one page
-  pub write_in_page : (at : ℕ) (bytes : List ℕ) → length (entry_bytes (entry_at entries page)) ≡ PAGE_SIZE → at + length bytes ≤ PAGE_SIZE
-      → entry_bytes entry ≡ put_bytes (entry_bytes (entry_at entries page)) at bytes
-      → flat_bytes (set entries page entry) ≡ put_bytes (flat_bytes entries) (PAGE_SIZE * page + at) bytes
-  write_in_page at bytes whole within written =
-      let sizes : length (set entries page entry) ≡ length entries = length-set entries page entry in
-      let fits : PAGE_SIZE * page + at + length bytes ≤ length (flat_bytes entries) = omega (arith, length-flat_bytes entries) in
-      flat_bytes_is (set entries page entry) (put_bytes (flat_bytes entries) (PAGE_SIZE * page + at) bytes)
-      (length-put_bytes (flat_bytes entries) bytes (PAGE_SIZE * page + at) fits ∙ length-flat_bytes entries ∙ ap (λ n. PAGE_SIZE * n) (sym sizes))
-      (λ i below. ?)
+  -- bytes that are written in the page
+  module _ (at : ℕ) (bytes : List ℕ) (whole : length (entry_bytes (entry_at entries page)) ≡ PAGE_SIZE) (within : at + length bytes ≤ PAGE_SIZE)
+      (written : entry_bytes entry ≡ put_bytes (entry_bytes (entry_at entries page)) at bytes) where
+    start : ℕ
+    start = PAGE_SIZE * page + at
+
+    unwritten : (k : ℕ) → k < PAGE_SIZE → (k < at) ⊎ (at + length bytes ≤ k)
+        → get_or (put_bytes (entry_bytes (entry_at entries page)) at bytes) k 0 ≡ get_or (put_bytes (flat_bytes entries) start bytes) (PAGE_SIZE * page + k) 0
+    unfolding start
+    unwritten k below outside =
+        let size = length-flat_bytes entries in
+        let beside : (PAGE_SIZE * page + k < start) ⊎ (start + length bytes ≤ PAGE_SIZE * page + k) =
+        elim outside [ inl before ↦ inl (omega arith) | inr after ↦ inr (omega arith) ] in
+        get_or-put_bytes_outside (entry_bytes (entry_at entries page)) bytes at k (omega arith) outside
+        ∙ sym (byte_of_page entries page k there below)
+        ∙ sym (get_or-put_bytes_outside (flat_bytes entries) bytes start (PAGE_SIZE * page + k) (omega arith) beside)
+
+    is_written : (k : ℕ) → at ≤ k → k < at + length bytes
+        → get_or (put_bytes (entry_bytes (entry_at entries page)) at bytes) k 0 ≡ get_or (put_bytes (flat_bytes entries) start bytes) (PAGE_SIZE * page + k) 0
+    unfolding start
+    is_written k from below =
+        let size = length-flat_bytes entries in
+        ap (λ i. get_or (put_bytes (entry_bytes (entry_at entries page)) at bytes) i 0) (omega arith)
+        ∙ get_or-put_bytes (entry_bytes (entry_at entries page)) bytes at (k - at) (omega arith) (omega arith)
+        ∙ sym (get_or-put_bytes (flat_bytes entries) bytes start (k - at) (omega arith) (omega arith))
+        ∙ ap (λ i. get_or (put_bytes (flat_bytes entries) start bytes) i 0) (omega arith)
+
+    in_page : (k : ℕ) → k < PAGE_SIZE → get_or (entry_bytes entry) k 0 ≡ get_or (put_bytes (flat_bytes entries) start bytes) (PAGE_SIZE * page + k) 0
+    in_page k below = ap (λ page. get_or page k 0) written ∙ elim (cases_lt k at) [
+          | inl before ↦ unwritten k below (inl before)
+          | inr from ↦ elim (cases_lt k (at + length bytes)) [
+            | inl before_end ↦ is_written k from before_end
+            | inr after ↦ unwritten k below (inr after)
+          ]
+        ]
+
+    in_other : (i : ℕ) → i < PAGE_SIZE * length entries → (i < PAGE_SIZE * page) ⊎ (PAGE_SIZE * page + PAGE_SIZE ≤ i)
+        → get_or (entry_bytes (entry_at (set entries page entry) (i / PAGE_SIZE))) (i % PAGE_SIZE) 0 ≡ get_or (put_bytes (flat_bytes entries) start bytes) i 0
+    unfolding start
+    in_other i below outside =
+        let size = length-flat_bytes entries in
+        let other : i / PAGE_SIZE ≢ page = elim outside [ inl before ↦ λ same. omega arith | inr after ↦ λ same. omega arith ] in
+        let beside : (i < start) ⊎ (start + length bytes ≤ i) = elim outside [ inl before ↦ inl (omega arith) | inr after ↦ inr (omega arith) ] in
+        ap (λ e. get_or (entry_bytes e) (i % PAGE_SIZE) 0) (get_or-set_other entries page (i / PAGE_SIZE) entry Blank other)
+        ∙ sym (get_or-flat_bytes entries i below)
+        ∙ sym (get_or-put_bytes_outside (flat_bytes entries) bytes start i (omega arith) beside)
+
+    at_place : (i : ℕ) → i < PAGE_SIZE * length entries
+        → get_or (entry_bytes (entry_at (set entries page entry) (i / PAGE_SIZE))) (i % PAGE_SIZE) 0 ≡ get_or (put_bytes (flat_bytes entries) start bytes) i 0
+    at_place i below = elim (cases_lt i (PAGE_SIZE * page)) [
+          | inl before ↦ in_other i below (inl before)
+          | inr from ↦ elim (cases_lt i (PAGE_SIZE * page + PAGE_SIZE)) [
+            | inl before_end ↦
+                let is_page : i / PAGE_SIZE ≡ page = omega arith in
+                ap (λ p. get_or (entry_bytes (entry_at (set entries page entry) p)) (i % PAGE_SIZE) 0) is_page
+                ∙ ap (λ e. get_or (entry_bytes e) (i % PAGE_SIZE) 0) same_page
+                ∙ in_page (i % PAGE_SIZE) (omega arith)
+                ∙ ap (λ j. get_or (put_bytes (flat_bytes entries) start bytes) j 0) (omega arith)
+            | inr after ↦ in_other i below (inr after)
+          ]
+        ]
+
+    pub write_in_page : flat_bytes (set entries page entry) ≡ put_bytes (flat_bytes entries) (PAGE_SIZE * page + at) bytes
+    unfolding start
+    write_in_page =
+        let sizes : length (set entries page entry) ≡ length entries = length-set entries page entry in
+        let fits : start + length bytes ≤ length (flat_bytes entries) = omega (arith, length-flat_bytes entries) in
+        flat_bytes_is (set entries page entry) (put_bytes (flat_bytes entries) start bytes)
+        (length-put_bytes (flat_bytes entries) bytes start fits ∙ length-flat_bytes entries ∙ ap (λ n. PAGE_SIZE * n) (sym sizes))
+        (λ i below. at_place i (subst (λ n. i < PAGE_SIZE * n) sizes below))
