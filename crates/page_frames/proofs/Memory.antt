@@ -22,9 +22,9 @@ length-zeros n = length-replicate n 0
 pub get_or-zeros : (n at : ℕ) → get_or (zeros n) at 0 ≡ 0
 unfolding zeros
 get_or-zeros n at = elim (cases_lt at n) [
-      | inl below ↦ get_or-replicate n at 0 0 below
-      | inr past ↦ get_or_past (zeros n) at 0 (omega (arith, length-zeros n))
-    ]
+  | inl below ↦ get_or-replicate n at 0 0 below
+  | inr past ↦ get_or_past (zeros n) at 0 (omega (arith, length-zeros n))
+]
 
 pub little_from-zeros : (at n size : ℕ) → little_from at n (zeros size) ≡ 0
 little_from-zeros at zero size = refl
@@ -127,12 +127,12 @@ module _ (entries : List Entry) (page : ℕ) (there : page < length entries) (en
 
     in_page : (k : ℕ) → k < PAGE_SIZE → get_or (entry_bytes entry) k 0 ≡ get_or (put_bytes (flat_bytes entries) start bytes) (PAGE_SIZE * page + k) 0
     in_page k below = ap (λ page. get_or page k 0) written ∙ elim (cases_lt k at) [
-          | inl before ↦ unwritten k below (inl before)
-          | inr from ↦ elim (cases_lt k (at + length bytes)) [
-            | inl before_end ↦ is_written k from before_end
-            | inr after ↦ unwritten k below (inr after)
-          ]
-        ]
+      | inl before ↦ unwritten k below (inl before)
+      | inr from ↦ elim (cases_lt k (at + length bytes)) [
+        | inl before_end ↦ is_written k from before_end
+        | inr after ↦ unwritten k below (inr after)
+      ]
+    ]
 
     in_other : (i : ℕ) → i < PAGE_SIZE * length entries → (i < PAGE_SIZE * page) ⊎ (PAGE_SIZE * page + PAGE_SIZE ≤ i)
         → get_or (entry_bytes (entry_at (set entries page entry) (i / PAGE_SIZE))) (i % PAGE_SIZE) 0 ≡ get_or (put_bytes (flat_bytes entries) start bytes) i 0
@@ -148,17 +148,17 @@ module _ (entries : List Entry) (page : ℕ) (there : page < length entries) (en
     at_place : (i : ℕ) → i < PAGE_SIZE * length entries
         → get_or (entry_bytes (entry_at (set entries page entry) (i / PAGE_SIZE))) (i % PAGE_SIZE) 0 ≡ get_or (put_bytes (flat_bytes entries) start bytes) i 0
     at_place i below = elim (cases_lt i (PAGE_SIZE * page)) [
-          | inl before ↦ in_other i below (inl before)
-          | inr from ↦ elim (cases_lt i (PAGE_SIZE * page + PAGE_SIZE)) [
-            | inl before_end ↦
-                let is_page : i / PAGE_SIZE ≡ page = omega arith in
-                ap (λ p. get_or (entry_bytes (entry_at (set entries page entry) p)) (i % PAGE_SIZE) 0) is_page
-                ∙ ap (λ e. get_or (entry_bytes e) (i % PAGE_SIZE) 0) same_page
-                ∙ in_page (i % PAGE_SIZE) (omega arith)
-                ∙ ap (λ j. get_or (put_bytes (flat_bytes entries) start bytes) j 0) (omega arith)
-            | inr after ↦ in_other i below (inr after)
-          ]
-        ]
+      | inl before ↦ in_other i below (inl before)
+      | inr from ↦ elim (cases_lt i (PAGE_SIZE * page + PAGE_SIZE)) [
+        | inl before_end ↦
+            let is_page : i / PAGE_SIZE ≡ page = omega arith in
+            ap (λ p. get_or (entry_bytes (entry_at (set entries page entry) p)) (i % PAGE_SIZE) 0) is_page
+            ∙ ap (λ e. get_or (entry_bytes e) (i % PAGE_SIZE) 0) same_page
+            ∙ in_page (i % PAGE_SIZE) (omega arith)
+            ∙ ap (λ j. get_or (put_bytes (flat_bytes entries) start bytes) j 0) (omega arith)
+        | inr after ↦ in_other i below (inr after)
+      ]
+    ]
 
     pub write_in_page : flat_bytes (set entries page entry) ≡ put_bytes (flat_bytes entries) (PAGE_SIZE * page + at) bytes
     unfolding start

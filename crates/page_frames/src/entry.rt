@@ -48,6 +48,7 @@ impl Entry {
         requires { at + length bytes.now ≤ PAGE_SIZE }
         ensures ok { OnOk result (self.new ≡ Entry.Held (put_bytes (entry_bytes self.old) at bytes.now)) }
         ensures err { OnErr result (self.new ≡ self.old) }
+        ensures whole { length (entry_bytes self.old) ≡ PAGE_SIZE }
     {
         match self {
             Entry::Held(page) => page.write(at, bytes),
