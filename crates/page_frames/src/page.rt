@@ -70,14 +70,6 @@ impl Page {
         })
     }
 
-    /// The bytes of the page.
-    #[inline]
-    pub fn bytes(&self) -> &[u8; PAGE_SIZE]
-        ensures { result.now ≡ self.now }
-    {
-        &self.frame.bytes
-    }
-
     /// The byte at a place.
     #[inline]
     pub fn byte(&self, at: u32) -> u8

@@ -1,5 +1,4 @@
-//! What no clause says: that calls succeed, that pages really are shared until they are written,
-//! and that they move between threads.
+//! What no clause says: that calls succeed, and that pages move between threads.
 
 use crate::{Entry, PAGE_SIZE, Page, share_entries};
 use std::alloc::Global;
@@ -44,24 +43,6 @@ fn a_page_shared_three_ways_is_written_in_each(rt: HostRuntime) -> Result<(), Fa
     for (page, want) in rows {
         assert_eq!(rt; [page.byte(0), page.byte(1), page.byte(LAST)], want);
     }
-    Ok(())
-}
-
-// A page that moved has another address, as the old one is given up only after it is copied.
-#[test]
-fn only_a_shared_page_is_copied(rt: HostRuntime) -> Result<(), Fail> {
-    let mut page = page_of(rt.alloc(), 0xaa)?;
-    let place = page.bytes().as_ptr();
-    page.write(0, &[1])?;
-    assert!(rt; page.bytes().as_ptr() == place, "copied, and not shared");
-    let shared = page.share()?;
-    assert!(rt; shared.bytes().as_ptr() == place, "copied by sharing");
-    page.write(0, &[2])?;
-    assert!(rt; page.bytes().as_ptr() != place, "not copied, and shared");
-    assert!(rt;
-        shared.bytes().as_ptr() == place,
-        "copied by a write to another"
-    );
     Ok(())
 }
 
