@@ -1,5 +1,5 @@
 -- A frozen image: the memory, the disk and the input of a machine at one moment.
-use Rattle.std.specs.Prelude.{ℕ, ◌*◌, ◌+◌, ◌/◌, ◌<◌, ◌≤◌, Bool, List, [], ◌∷◌, length}
+use Rattle.std.specs.Prelude.{ℕ, ◌*◌, ◌+◌, ◌/◌, ◌<◌, ◌≤◌, Bool, List, [], length, slice_index_or}
 use Rattle.flat_memory.specs.Flat.{word_at}
 use Rattle.page_frames.specs.declared.page.TheConstants.{PAGE_SIZE}
 use Rattle.page_frames.specs.declared.entry.Entry.{Entry}
@@ -27,8 +27,7 @@ page_word image page at = word_at image.contents (PAGE_SIZE * page + at)
 
 -- an image's own table, which is the first
 abbrev pub own_table : List (List Entry) → List Entry
-own_table [] = []
-own_table (own ∷ base) = own
+own_table tables = slice_index_or tables 0 []
 
 -- the image that is kept by tables, with a disk and an input
 abbrev pub image_of_tables : List (List Entry) → List ℕ → List ℕ → Image

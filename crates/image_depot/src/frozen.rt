@@ -82,7 +82,7 @@ impl Frozen {
         ensures whole { PAGE_SIZE * result ≡ length self.now.contents }
         ensures most { result ≤ MAX_PAGES }
     {
-        self.tables[0].entries().len() as u32
+        self.entries().len() as u32
     }
 
     /// The word at a place of a page, which is a multiple of 4.
@@ -93,6 +93,15 @@ impl Frozen {
         requires aligned { at % 4 ≡ 0 }
         ensures { result ≡ page_word self.now page at }
     {
-        self.tables[0].entries()[page as usize].word(at)
+        self.entries()[page as usize].word(at)
+    }
+
+    /// The entries of its own table.
+    #[inline]
+    fn entries(&self) -> &[Entry]
+        ensures contents { flat_bytes result.now ≡ self.now.contents }
+        ensures fits { length result.now ≤ MAX_PAGES }
+    {
+        self.tables[0].entries()
     }
 }
