@@ -1,9 +1,10 @@
 -- The RAM of a booted guest, and of a clone.
-use Rattle.std.proofs.Common.{◌≡◌, ℕ, ◌+◌, ◌*◌, ◌/◌, ◌%◌, ◌<◌, Bool, true, false, cond, List, length, map, get_or, take, drop, slice_get, Some, refl, sym, ap, ◌∙◌, subst, arith}
+use Rattle.std.proofs.Common.{◌≡◌, ℕ, zero, suc, ◌+◌, ◌*◌, ◌/◌, ◌%◌, ◌<◌, Bool, true, false, cond, List, [], ◌∷◌, ◌++◌, length, length-append, map, get_or, take, drop, slice_get, Some, refl, sym, ap, ◌∙◌, subst, arith}
 use Rattle.std.specs.Prelude.{not, if◌then◌else◌}
 use Rattle.std.specs.List.{range_with_len}
-use Rattle.std.proofs.lemmas.List.{length-map, get_or-map, ext_get_or, get_or-take, get_or-drop, map-id}
-use Rattle.std.proofs.lemmas.List.FromFn.{length-map-range_with_len, get_or-map-range_with_len}
+use Rattle.std.specs.Simd.{first_chunks}
+use Rattle.std.proofs.lemmas.List.{length-map, get_or-map, ext_get_or, get_or-take, get_or-drop, map-id, drop-drop}
+use Rattle.std.proofs.lemmas.List.FromFn.{length-map-range_with_len, get_or-map-range_with_len, map-range_with_len_more}
 use Rattle.std.proofs.lemmas.Option.{slice_get-get_or}
 use Rattle.elf_load.specs.Image.{Image, IsZeroOutside}
 use Rattle.page_frames.specs.declared.page.TheConstants.{PAGE_SIZE}
@@ -14,6 +15,30 @@ use Rattle.page_frames.proofs.Memory.{get_or-zeros, length-paged, get_or-paged, 
 use Rattle.guest_mem.specs.Ram.{Ram, AreZero, is_here, ram_of, at_boot, cleared, cloned}
 use Rattle.guest_mem.specs.Table.{boot_entry, page_of, boot_table, clone_entry, clone_table}
 use Rattle.guest_mem.proofs.Pages.{same_ram}
+
+-- ---- tables that are made page by page
+
+pub length_of_table : (entry_of : ℕ → Entry) (pages : ℕ) → length (map entry_of (range_with_len 0 pages)) ≡ pages
+length_of_table entry_of pages = length-map-range_with_len entry_of 0 pages
+
+-- one entry more, for an item more
+pub table_more : {X : Type 0} (entry_of : ℕ → Entry) (table : List Entry) (entry : Entry) (items : List X) (item : X) → table ≡ map entry_of (range_with_len 0 (length items))
+    → entry ≡ entry_of (length items) → table ++ entry ∷ [] ≡ map entry_of (range_with_len 0 (length (items ++ item ∷ [])))
+table_more entry_of table entry items item made is_next =
+    ap (λ front. front ++ entry ∷ []) made
+    ∙ ap (λ e. map entry_of (range_with_len 0 (length items)) ++ e ∷ []) is_next
+    ∙ sym (map-range_with_len_more entry_of 0 (length items) (length items) (omega arith))
+    ∙ ap (λ n. map entry_of (range_with_len 0 n)) (sym (length-append items (item ∷ [])))
+
+pub get_or-first_chunks : (size count : ℕ) (bytes : List ℕ) (i : ℕ) → i < count → get_or (first_chunks size count bytes) i [] ≡ take size (drop (size * i) bytes)
+get_or-first_chunks size zero bytes i below = absurd (omega arith)
+get_or-first_chunks size (suc count) bytes zero below =
+    let none : 0 ≡ size * 0 = omega arith in
+    ap (λ n. take size (drop n bytes)) none
+get_or-first_chunks size (suc count) bytes (suc i) below =
+    let next : size + size * i ≡ size * suc i = grind arith in
+    get_or-first_chunks size count (drop size bytes) i (omega arith)
+    ∙ ap (take size) (drop-drop (size * i) size bytes) ∙ ap (λ n. take size (drop n bytes)) next
 
 -- flags of a table that is made page by page, of other flags
 flags_of_table : (f : Entry → Bool) (entry_of : ℕ → Entry) (g : Bool → Bool) (flags : List Bool) → ((page : ℕ) → f (entry_of page) ≡ g (get_or flags page false))
@@ -104,9 +129,9 @@ kept_byte false byte none = refl
 
 pub cleared_same : (blank : List Bool) (memory : List ℕ) → length memory ≡ PAGE_SIZE * length blank → AreZero blank memory → cleared blank memory ≡ memory
 unfolding cleared
-cleared_same blank memory size zero =
+cleared_same blank memory size are_zero =
     paged_is (length blank) (λ page at. if get_or blank page false then 0 else get_or memory (PAGE_SIZE * page + at) 0) memory size
     (λ i below.
     let there : i / PAGE_SIZE < length blank = omega arith in
     let same : get_or memory (PAGE_SIZE * (i / PAGE_SIZE) + i % PAGE_SIZE) 0 ≡ get_or memory i 0 = ap (λ j. get_or memory j 0) (omega arith) in
-    kept_byte (get_or blank (i / PAGE_SIZE) false) _ (λ set. same ∙ zero i (slice_get-get_or blank (i / PAGE_SIZE) false there ∙ ap Some set)) ∙ same)
+    kept_byte (get_or blank (i / PAGE_SIZE) false) _ (λ set. same ∙ are_zero i (slice_get-get_or blank (i / PAGE_SIZE) false there ∙ ap Some set)) ∙ same)

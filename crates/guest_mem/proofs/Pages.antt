@@ -175,6 +175,14 @@ module _ (entries : List Entry) (first count : ℕ) (room : first + count ≤ le
         ]
       ])
 
+  pub length_of_run : length (take first entries ++ (replicate count Blank ++ drop count (drop first entries))) ≡ length entries
+  unfolding with_blank
+  length_of_run = length-with_blank
+
   pub ram_of_run : ram_of (take first entries ++ (replicate count Blank ++ drop count (drop first entries))) ≡ zeroed (ram_of entries) first count
   unfolding with_blank
   ram_of_run = same_ram _ _ _ _ _ _ bytes_of_run (flags_of_run is_here refl) (flags_of_run is_blank refl)
+
+pub map_to_blank : (entries : List Entry) → map (λ (entry : Entry). Blank) entries ≡ replicate (length entries) Blank
+map_to_blank [] = refl
+map_to_blank (entry ∷ entries) = ap (λ rest. Blank ∷ rest) (map_to_blank entries)

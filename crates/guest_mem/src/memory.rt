@@ -3,7 +3,7 @@ ghost use Rattle.byteorder.specs.Endian.{little_from, little_bytes};
 ghost use Rattle.flat_memory.specs.Flat.{word_at, put_bytes};
 ghost use Rattle.guest_mem.specs.Ram.{IsRam, at_boot, stored, zeroed};
 
-use crate::table::{boot_table, make_blank};
+use crate::table::{blank_flags, boot_table, make_blank};
 use elf_load::{Loaded, MAX_PAGES, MIN_PAGES};
 use page_frames::{Entry, PAGE_SIZE, Page};
 use std::alloc::{AllocError, Global};
@@ -138,11 +138,7 @@ impl GuestMem {
     pub fn blank(&self, alloc: Global) -> Result<PageMap, AllocError>
         ensures { IfOk result (λ map. map ≡ self.now.blank) }
     {
-        let mut flags = Vec::with_capacity(alloc, self.entries.len())?;
-        for entry in &self.entries {
-            flags.push(matches!(entry, Entry::Blank))?;
-        }
-        Ok(PageMap::from_vec(flags))
+        Ok(PageMap::from_vec(blank_flags(alloc, &self.entries)?))
     }
 }
 

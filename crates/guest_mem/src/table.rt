@@ -1,6 +1,7 @@
 //! Page tables of images and clones, and runs of blank pages.
 
 ghost use Rattle.std.specs.Prelude.{◌≡◌, ◌*◌, length, replicate, IfOk};
+ghost use Rattle.page_frames.specs.Tables.{is_blank, blank_pages};
 ghost use Rattle.guest_mem.specs.Table.{boot_entry, boot_table, clone_entry, clone_table};
 
 use page_frames::{Entry, PAGE_SIZE, Page};
@@ -60,4 +61,17 @@ pub fn make_blank(entries: &mut [Entry])
     for entry in entries {
         *entry = Entry::Blank;
     }
+}
+
+/// For each entry, whether it is blank.
+pub fn blank_flags(alloc: Global, entries: &[Entry]) -> Result<Vec<bool>, AllocError>
+    ensures { IfOk result (λ flags. flags.items ≡ blank_pages entries.now) }
+{
+    entries.iter().map(|entry| is_blank(entry)).collect(alloc)
+}
+
+fn is_blank(entry: &Entry) -> bool
+    ensures { result ≡ is_blank entry.now }
+{
+    matches!(entry, Entry::Blank)
 }
