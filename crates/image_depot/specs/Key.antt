@@ -1,16 +1,16 @@
 -- Keys to the images of a depot.
 use Rattle.std.specs.Prelude.{ℕ}
 use Rattle.boxcar.specs.Table.{Shelves, Where, Shows}
-use Rattle.image_depot.specs.Image.{Image}
+use Rattle.image_depot.specs.Image.{FrozenImage}
 
 -- a key has the number of an image, and the image itself
 abbrev pub Key : Type 0
-Key = Where Image
+Key = Where FrozenImage
 
 abbrev pub number_of : Key → ℕ
 number_of key = key.index
 
-abbrev pub image_of : Key → Image
+abbrev pub image_of : Key → FrozenImage
 image_of key = key.value
 
 -- the key is one to an image of this depot

@@ -1,6 +1,6 @@
 ghost use Rattle.std.specs.Prelude.{◌≡◌, ◌+◌, ◌*◌, ◌%◌, ◌<◌, ◌≤◌, [], ◌∷◌, length, IfOk};
 ghost use Rattle.image_depot.specs.Image.{image_of_tables, own_table, page_count, page_word};
-ghost use Rattle.page_frames.specs.Tables.{flat_bytes, blank_pages};
+ghost use Rattle.page_frames.specs.Tables.{flat_bytes};
 
 use crate::table::Table;
 use console_port::MAX_INPUT;
@@ -21,9 +21,9 @@ pub struct Frozen {
 }
 
 impl Model for Frozen {
-    ghost use Rattle.image_depot.specs.Image.{Image, IsFrozen, image_of_tables};
+    ghost use Rattle.image_depot.specs.Image.{FrozenImage, IsFrozen, image_of_tables};
 
-    ghost Value = { Image };
+    ghost Value = { FrozenImage };
 
     ghost view = { λ f. image_of_tables f.tables.items f.disk f.input.items };
 
@@ -53,8 +53,8 @@ impl Frozen {
     /// The page tables that keep the contents of the pages, of which the first decides.
     #[inline]
     pub fn tables(&self) -> &[Table]
-        ensures value { image_of_tables result.now self.now.disk self.now.input ≡ self.now }
         ensures own { 0 < length result.now }
+        ensures contents { flat_bytes (own_table result.now) ≡ self.now.contents }
     {
         &self.tables
     }
@@ -82,7 +82,7 @@ impl Frozen {
         ensures whole { PAGE_SIZE * result ≡ length self.now.contents }
         ensures most { result ≤ MAX_PAGES }
     {
-        self.tables[0].entries().len() as u32
+        self.entries().len() as u32
     }
 
     /// The word at a place of a page, which is a multiple of 4.
@@ -93,6 +93,15 @@ impl Frozen {
         requires aligned { at % 4 ≡ 0 }
         ensures { result ≡ page_word self.now page at }
     {
-        self.tables[0].entries()[page as usize].word(at)
+        self.entries()[page as usize].word(at)
+    }
+
+    /// The entries of its own table.
+    #[inline]
+    fn entries(&self) -> &[Entry]
+        ensures contents { flat_bytes result.now ≡ self.now.contents }
+        ensures fits { length result.now ≤ MAX_PAGES }
+    {
+        self.tables[0].entries()
     }
 }

@@ -9,7 +9,7 @@ use std::marker::Model;
 use std::sync::Arc;
 
 /// The key to a frozen image of a depot. Contracts see in it the number of the image, and the image
-/// itself: what a key reads is a part of the key.
+/// itself: what is read by a key is a part of the key, so no later call changes it.
 #[derive(Drop)]
 pub struct ImageKey {
     token: Arc<Pushed<Frozen>>,
@@ -28,7 +28,7 @@ impl Model for ImageKey {
 }
 
 impl ImageKey {
-    /// The number of the image, which no other image of its depot has.
+    /// The number of the image. Keys of one depot that have one number are to one image.
     #[inline]
     pub fn number(&self) -> u32
         ensures { result ≡ number_of self.now }
