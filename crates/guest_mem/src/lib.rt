@@ -1,7 +1,7 @@
 //! The RAM of a guest, in pages that it shares with other guests until it writes them.
 #![tactic(auto)]
 
-// mod image;
+mod image;
 pub mod laws;
 mod memory;
 mod table;
