@@ -3,7 +3,7 @@ use Rattle.std.proofs.Common.{◌≡◌, ℕ, zero, suc, ◌+◌, ◌*◌, ◌/�
 use Rattle.std.specs.Prelude.{not, if◌then◌else◌}
 use Rattle.std.specs.List.{range_with_len}
 use Rattle.std.specs.Simd.{first_chunks}
-use Rattle.std.proofs.lemmas.List.{length-map, get_or-map, ext_get_or, get_or-take, get_or-drop, map-id, drop-drop}
+use Rattle.std.proofs.lemmas.List.{length-map, get_or-map, get_or_default, ext_get_or, get_or-take, get_or-drop, map-id, drop-drop}
 use Rattle.std.proofs.lemmas.List.FromFn.{length-map-range_with_len, get_or-map-range_with_len, map-range_with_len_more}
 use Rattle.std.proofs.lemmas.Option.{slice_get-get_or}
 use Rattle.elf_load.specs.Image.{Image, IsZeroOutside}
@@ -12,6 +12,7 @@ use Rattle.page_frames.specs.declared.entry.Entry.{Entry}
 use Rattle.page_frames.specs.declared.entry.Entry.TheVariants.{Held, Blank}
 use Rattle.page_frames.specs.Tables.{paged, entry_at, entry_bytes, flat_bytes, is_blank, blank_pages}
 use Rattle.page_frames.proofs.Memory.{get_or-zeros, length-paged, get_or-paged, paged_is, flat_bytes_is, byte_of_page}
+use Rattle.image_depot.specs.Image.{own_table}
 use Rattle.guest_mem.specs.Ram.{Ram, AreZero, is_here, ram_of, at_boot, cleared, cloned}
 use Rattle.guest_mem.specs.Table.{boot_entry, page_of, boot_table, clone_entry, clone_table}
 use Rattle.guest_mem.proofs.Pages.{same_ram}
@@ -122,6 +123,11 @@ ram_of_clone entries blank sizes =
     same_ram _ _ _ _ _ _ (clone_bytes entries blank sizes)
     (flags_of_table is_here entry_of (λ _. true) blank (λ page. clone_is_here (entry_at entries page) (get_or blank page false)))
     (flags_of_table is_blank entry_of (λ flag. flag) blank (λ page. clone_is_blank (entry_at entries page) (get_or blank page false)) ∙ map-id blank)
+
+-- the bytes of an image's own table
+pub bytes_of_own : (tables : List (List Entry)) (entries : List Entry) (contents : List ℕ) → 0 < length tables → entries ≡ get_or tables 0 entries
+    → flat_bytes (own_table tables) ≡ contents → flat_bytes entries ≡ contents
+bytes_of_own tables entries contents own read bytes = ap flat_bytes (read ∙ get_or_default tables 0 entries [] own) ∙ bytes
 
 kept_byte : (is_blank : Bool) (byte : ℕ) → (is_blank ≡ true → byte ≡ 0) → (if is_blank then 0 else byte) ≡ byte
 kept_byte true byte none = sym (none refl)
