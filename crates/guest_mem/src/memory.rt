@@ -128,10 +128,7 @@ impl GuestMem {
         requires { page < length self.now.here }
         ensures { result ≡ slice_index_or self.now.here page false }
     {
-        matches!(
-            self.entries[page as usize],
-            Entry::Held(_) | Entry::Blank
-        )
+        matches!(self.entries[page as usize], Entry::Held(_) | Entry::Blank)
     }
 
     /// For each page, whether it is blank.

@@ -31,7 +31,11 @@ fn boot_entry(alloc: Global, bytes: &[u8; PAGE_SIZE], is_held: bool) -> Result<E
 }
 
 /// The table of a clone with these pages, but for the flagged ones, which are blank.
-pub fn clone_table(alloc: Global, entries: &[Entry], blank: &[bool]) -> Result<Vec<Entry>, AllocError>
+pub fn clone_table(
+    alloc: Global,
+    entries: &[Entry],
+    blank: &[bool],
+) -> Result<Vec<Entry>, AllocError>
     requires { length entries.now ≡ length blank.now }
     ensures { IfOk result (λ table. table.items ≡ clone_table entries.now blank.now) }
 {

@@ -17,4 +17,3 @@ returns c =
     ∙ ap (λ rest. map (λ (entry : Entry). Blank) c.args.entries.now ++ rest) (drop_all c.loop-entry.entry-index c.args.entries.now c.loop-entry-test.false)
     ∙ append-nil (map (λ (entry : Entry). Blank) c.args.entries.now)
     ∙ map_to_blank c.args.entries.now
-
