@@ -1,0 +1,5 @@
+pub mod Operations
+pub mod Tree
+pub mod Settle
+pub mod Sound
+pub mod Finish
