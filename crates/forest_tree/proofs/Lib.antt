@@ -1,0 +1,5 @@
+pub mod All
+pub mod Broods
+pub mod Settle
+pub mod Run
+

@@ -1,5 +1,5 @@
 -- One step of one machine of a tree.
-use Rattle.std.specs.Prelude.{ℕ, zero, suc, Bool, true, false, ◌&&◌, if◌then◌else◌, List, [], ◌∷◌, Option, Some, None, is_some}
+use Rattle.std.specs.Prelude.{ℕ, zero, suc, Bool, true, false, not, ◌&&◌, List, [], ◌∷◌, Option, Some, None, is_some}
 use Rattle.forest_tree.specs.Operations.{Call, clone, join, kill, Operations}
 use Rattle.forest_tree.specs.Tree.{Tree, node, Trees, no_tree, tree, Broods, no_brood, brood, Log, no_entry, joined, killed, machine, at_child, brood_of, without, at_brood, Branch, Path}
 
@@ -49,6 +49,15 @@ module _ {M E : Type 0} (o : Operations M E) where
   settled m broods log = settled_by (o.ending m) m broods log
 
   -- a join waits for all children of its ticket to end
+  abbrev pub waits_by : Option Call → Broods M → Bool
+  waits_by None broods = false
+  waits_by (Some (clone t)) broods = false
+  waits_by (Some (join t)) broods = not (have_ended (brood_of t broods))
+  waits_by (Some (kill t)) broods = false
+
+  abbrev pub waits : Tree M → Bool
+  waits (node m broods log) = waits_by (o.call m) broods
+
   abbrev pub join_by : Bool → ℕ → M → Broods M → Log M → Tree M
   join_by false t m broods log = node m broods log
   join_by true t m broods log =
