@@ -22,6 +22,11 @@ module _ {M : Type 0} where
   AllBroods-all P all no_brood = tt
   AllBroods-all P all (brood t trees rest) = (AllTrees-all P all trees, AllBroods-all P all rest)
 
+  pub AllTrees-apply : (P Q : Tree M → Type 0) (trees : Trees M) → AllTrees (λ t. P t → Q t) trees → AllTrees P trees → AllTrees Q trees
+  unfolding AllTrees
+  AllTrees-apply P Q no_tree f h = tt
+  AllTrees-apply P Q (tree t rest) f h = (f.0 h.0, AllTrees-apply P Q rest f.1 h.1)
+
   -- what a tree has where the trees below it do, every tree has
   mutual
     unfolding AllBroods AllTrees

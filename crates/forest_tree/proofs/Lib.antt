@@ -2,4 +2,6 @@ pub mod All
 pub mod Broods
 pub mod Settle
 pub mod Run
+pub mod Finish
+pub mod Stays
 

@@ -14,6 +14,10 @@ pub is-some : {A : Type 0} (e : Option A) → IsSome e → (a : A) × (e ≡ Som
 is-some None h = absurd (cc)
 is-some (Some a) h = (a, refl)
 
+pub cases-ending : {A : Type 0} (e : Option A) → ((ending : A) × (e ≡ Some ending)) ⊎ (e ≡ None)
+cases-ending None = inr refl
+cases-ending (Some ending) = inl (ending, refl)
+
 module _ {M E : Type 0} (o : Operations M E) where
 
   abbrev pub HasEnded : Tree M → Type 0
@@ -30,7 +34,7 @@ module _ {M E : Type 0} (o : Operations M E) where
   unfolding step
   step-lives m broods log next e c = ap (λ f. step_from o f m broods log) e ∙ ap (λ n. step_by o n m broods log) c
 
-  run-alone : (n : ℕ) (m : M) (log : Log M) (ending : E) → o.ending m ≡ Some ending → run o n (node m no_brood log) ≡ node m no_brood log
+  pub run-alone : (n : ℕ) (m : M) (log : Log M) (ending : E) → o.ending m ≡ Some ending → run o n (node m no_brood log) ≡ node m no_brood log
   unfolding run each_brood
   run-alone zero m log ending e = refl
   run-alone (suc n) m log ending e =
@@ -68,6 +72,11 @@ module _ {M E : Type 0} (o : Operations M E) where
   AllBroods-sound P Q of grant no_brood sound h = tt
   AllBroods-sound P Q of grant (brood t trees rest) sound h =
       (AllTrees-sound P Q of (grant t).share trees sound.1 h.0, AllBroods-sound P Q of grant rest sound.2 h.1)
+
+  pub AllBroods-of-sound : (Q : Tree M → Type 0) → ((t : Tree M) → IsSound o t → Q t) → (grant : ℕ → Grant) (broods : Broods M)
+      → AreSound o grant broods → AllBroods Q broods
+  AllBroods-of-sound Q of grant broods sound =
+      AllBroods-sound (λ t. Unit {0}) Q (λ t h _. of t h) grant broods sound (AllBroods-all (λ t. Unit {0}) (λ t. tt) broods)
 
   -- the children after a step are those before it, or newly born
   settled_by-broods : (P : Tree M → Type 0) (e : Option E) (m : M) (broods : Broods M) (log : Log M) → AllBroods P broods
@@ -184,10 +193,6 @@ module _ {M E : Type 0} (o : Operations M E) where
         record { sound = c.sound; holding = c.holding ∙ b.holding ∙ a.holding }
 
     -- as many steps as are left to a machine whose children have ended bring it to its end
-    cases-ending : (e : Option E) → ((ending : E) × (e ≡ Some ending)) ⊎ (e ≡ None)
-    cases-ending None = inr refl
-    cases-ending (Some ending) = inl (ending, refl)
-
     broods-with : (f : Broods M → Broods M) (t : Tree M) → broods_of (with_broods f t) ≡ f (broods_of t)
     broods-with f (node m broods log) = refl
 
