@@ -124,3 +124,27 @@ module _ {M : Type 0} where
   brood_of-each_brood f t no_brood = refl
   brood_of-each_brood f t (brood u trees rest) =
       brood_of-each-head f trees (brood_of t rest) (brood_of t (each_brood f rest)) (eqb u t) (brood_of-each_brood f t rest)
+
+  -- one brood changed
+  at_brood-head : (f g : Tree M → Tree M) (trees : Trees M) (same : Bool) → AllTrees (λ t. f t ≡ g t) trees
+      → cond same (each f trees) trees ≡ cond same (each g trees) trees
+  at_brood-head f g trees true h = each-agree f g trees h
+  at_brood-head f g trees false h = refl
+
+  pub at_brood-agree : (f g : Tree M → Tree M) (t : ℕ) (broods : Broods M) → AllBroods (λ u. f u ≡ g u) broods
+      → at_brood (each f) t broods ≡ at_brood (each g) t broods
+  unfolding AllBroods at_brood
+  at_brood-agree f g t no_brood h = refl
+  at_brood-agree f g t (brood u trees rest) h =
+      ap₂ (brood u) (at_brood-head f g trees (eqb u t) h.0) (at_brood-agree f g t rest h.1)
+
+  brood_of-at-head : (f : Tree M → Tree M) (trees rest left : Trees M) (same : Bool) → left ≡ each f rest
+      → cond same (cond same (each f trees) trees) left ≡ each f (cond same trees rest)
+  brood_of-at-head f trees rest left true h = refl
+  brood_of-at-head f trees rest left false h = h
+
+  pub brood_of-at_brood : (f : Tree M → Tree M) (t : ℕ) (broods : Broods M) → brood_of t (at_brood (each f) t broods) ≡ each f (brood_of t broods)
+  unfolding brood_of at_brood each
+  brood_of-at_brood f t no_brood = refl
+  brood_of-at_brood f t (brood u trees rest) =
+      brood_of-at-head f trees (brood_of t rest) (brood_of t (at_brood (each f) t rest)) (eqb u t) (brood_of-at_brood f t rest)

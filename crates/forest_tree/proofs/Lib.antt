@@ -4,4 +4,5 @@ pub mod Settle
 pub mod Run
 pub mod Finish
 pub mod Stays
-
+pub mod Equations
+pub mod Places

@@ -5,7 +5,7 @@ use Rattle.forest_tree.specs.Tree.{Tree, node, Trees, no_tree, tree, Broods, no_
 use Rattle.forest_tree.specs.Settle.{has_ended, have_ended, endings, alone, children_from, children, settled_by, settled, waits_by, waits, join_by, step_by, step_from, step}
 use Rattle.forest_tree.specs.Sound.{IsSoundMachine, IsSound, AreSound, Hold}
 use Rattle.forest_tree.specs.Finish.{with_broods, run}
-use Rattle.forest_tree.proofs.All.{AllTrees, AllBroods, AllBroods-all, AllBroods-each, AllBroods-without, AllTrees-brood_of}
+use Rattle.forest_tree.proofs.All.{AllTrees, AllBroods, AllTrees-all, AllBroods-all, AllBroods-each, AllBroods-without, AllTrees-brood_of}
 use Rattle.forest_tree.proofs.Broods.{broods_with-each_brood}
 use Rattle.forest_tree.proofs.Settle.{some-none, both-true, root-sound, below-sound, KeepsTo, Keeps, AreSound-each_brood, alone-sound, machine-settled, broods-sound, join-step, step-keeps}
 
@@ -77,6 +77,11 @@ module _ {M E : Type 0} (o : Operations M E) where
       → AreSound o grant broods → AllBroods Q broods
   AllBroods-of-sound Q of grant broods sound =
       AllBroods-sound (λ t. Unit {0}) Q (λ t h _. of t h) grant broods sound (AllBroods-all (λ t. Unit {0}) (λ t. tt) broods)
+
+  pub AllTrees-of-sound : (Q : Tree M → Type 0) → ((t : Tree M) → IsSound o t → Q t) → (share : ℕ) (trees : Trees M)
+      → Hold o share trees → AllTrees Q trees
+  AllTrees-of-sound Q of share trees sound =
+      AllTrees-sound (λ t. Unit {0}) Q (λ t h _. of t h) share trees sound (AllTrees-all (λ t. Unit {0}) (λ t. tt) trees)
 
   -- the children after a step are those before it, or newly born
   settled_by-broods : (P : Tree M → Type 0) (e : Option E) (m : M) (broods : Broods M) (log : Log M) → AllBroods P broods

@@ -289,7 +289,7 @@ module _ {M E : Type 0} (o : Operations M E) where
           }
         , sound)
 
-    at_brood-none : (f : Trees M → Trees M) (t : ℕ) (broods : Broods M) → broods ≡ no_brood → at_brood f t broods ≡ no_brood
+    pub at_brood-none : (f : Trees M → Trees M) (t : ℕ) (broods : Broods M) → broods ≡ no_brood → at_brood f t broods ≡ no_brood
     unfolding at_brood
     at_brood-none f t no_brood e = refl
     at_brood-none f t (brood u trees rest) e = absurd (cc)
