@@ -1,5 +1,5 @@
 -- One step of one machine of a tree.
-use Rattle.std.specs.Prelude.{ℕ, zero, suc, Bool, true, false, not, ◌&&◌, List, [], ◌∷◌, Option, Some, None, is_some}
+use Rattle.std.specs.Prelude.{ℕ, zero, suc, Bool, true, false, not, ◌&&◌, ◌||◌, List, [], ◌∷◌, Option, Some, None, is_some}
 use Rattle.forest_tree.specs.Operations.{Call, clone, join, kill, Operations}
 use Rattle.forest_tree.specs.Tree.{Tree, node, Trees, no_tree, tree, Broods, no_brood, brood, Log, no_entry, joined, killed, machine, at_child, brood_of, without, at_brood, Branch, Path}
 
@@ -82,3 +82,19 @@ module _ {M E : Type 0} (o : Operations M E) where
   unfoldable pub settle : Path → Tree M → Tree M
   settle [] t = step t
   settle (b ∷ path) (node m broods log) = node m (at_brood (at_child (settle path) b.child) b.ticket broods) log
+
+  -- one step for each of the paths, in order
+  unfoldable pub settle_all : List Path → Tree M → Tree M
+  settle_all [] t = t
+  settle_all (path ∷ rest) t = settle_all rest (settle path t)
+
+  -- what a step at a path leaves of a tree at another: a step in it where the path goes through that,
+  -- and else the tree
+  abbrev pub settle_beyond : Option Path → Tree M → Tree M
+  settle_beyond None t = t
+  settle_beyond (Some path) t = settle path t
+
+  -- no machine is at the place, or it has ended, or it waits
+  abbrev pub rests : Option (Tree M) → Bool
+  rests None = true
+  rests (Some t) = has_ended t || waits t

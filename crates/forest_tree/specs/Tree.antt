@@ -1,5 +1,5 @@
 -- Trees of machines. A machine has a brood for each of its cloned tickets, and a log.
-use Rattle.std.specs.Prelude.{ℕ, zero, suc, ◌+◌, ◌==◌, if◌then◌else◌, List, [], ◌∷◌, Option, Some, None, option_and_then}
+use Rattle.std.specs.Prelude.{ℕ, zero, suc, ◌+◌, ◌==◌, ◌&&◌, if◌then◌else◌, List, [], ◌∷◌, Option, Some, None, option_and_then}
 
 mutual
   pub data Tree (M : Type 0) : Type 0 where
@@ -91,3 +91,9 @@ Path = List Branch
 unfoldable pub subtree : {M : Type 0} → Path → Tree M → Option (Tree M)
 subtree [] t = Some t
 subtree (b ∷ path) t = option_and_then (subtree path) (child_at b.child (brood_of b.ticket (broods_of t)))
+
+-- what is left of a path beyond another, where it goes through that
+unfoldable pub beyond : Path → Path → Option Path
+beyond [] path = Some path
+beyond (a ∷ way) [] = None
+beyond (a ∷ way) (b ∷ path) = if (b.ticket == a.ticket) && (b.child == a.child) then beyond way path else None
