@@ -6,3 +6,5 @@ pub mod Finish
 pub mod Stays
 pub mod Equations
 pub mod Places
+pub mod Rests
+pub mod Schedules

@@ -2,12 +2,24 @@
 use Rattle.std.proofs.Common.{◌≡◌, ◌≢◌, ℕ, zero, suc, ◌+◌, ◌<◌, ◌≤◌, ◌==◌, ◌&&◌, ◌||◌, not, eqb, eqb-true, Bool, true, false, cond, refl, sym, ap, ap₂, ◌∙◌, subst, arith, inl, inr, List, [], ◌∷◌, ◌++◌, Option, Some, None, IsSome, is_some, option_and_then, option_map}
 use Rattle.std.proofs.lemmas.Bool.{eqb-false}
 use Rattle.forest_tree.specs.Operations.{Call, clone, join, kill, Grant, Operations, is_cloned, Makes, IsMachine}
-use Rattle.forest_tree.specs.Tree.{Tree, node, Trees, no_tree, tree, Broods, no_brood, brood, Log, joined, killed, machine, broods_of, at_child, child_at, brood_of, without, at_brood, broods_with, Branch, Path, subtree, beyond}
+use Rattle.forest_tree.specs.Tree.{Tree, node, Trees, no_tree, tree, Broods, no_brood, brood, Log, joined, killed, machine, broods_of, at_child, child_at, brood_of, without, at_brood, broods_with, Branch, Path, subtree, beyond, goes_on, is_below}
 use Rattle.forest_tree.specs.Settle.{have_ended, endings, children, settled_by, settled, join_by, step_by, step, settle, settle_beyond}
 use Rattle.forest_tree.specs.Sound.{IsSound, AreSound, Hold}
 use Rattle.forest_tree.proofs.Broods.{one_if}
 use Rattle.forest_tree.proofs.Settle.{some-none, root-sound, below-sound, KeepsTo, settle-keeps}
 use Rattle.forest_tree.proofs.Run.{cases-ending, step-ended, step-lives}
+
+eqb-sym : (t u : ℕ) → eqb t u ≡ eqb u t
+eqb-sym t u = by (eqb t u) (eqb u t) refl refl
+  where
+    by : (p q : Bool) → eqb t u ≡ p → eqb u t ≡ q → eqb t u ≡ eqb u t
+    by true true e f = e ∙ sym f
+    by false false e f = e ∙ sym f
+    by true false e f = absurd (eqb-false u t f (sym (eqb-true t u e)))
+    by false true e f = absurd (eqb-false t u e (sym (eqb-true u t f)))
+
+branch-sym : (rest : Option Path) (t u k j : ℕ) → cond (eqb t u && eqb k j) rest None ≡ cond (eqb u t && eqb j k) rest None
+branch-sym rest t u k j = ap₂ (λ a b. cond (a && b) rest None) (eqb-sym t u) (eqb-sym k j)
 
 -- a value that is some
 pub some-same : {A : Type 0} (a b : A) → Some a ≡ Some b → a ≡ b
@@ -120,6 +132,17 @@ module _ {M : Type 0} where
   kept-brood t u trees before true fresh = is_new (fresh refl)
   kept-brood t u trees before false fresh = stays refl
 
+  -- a path in two parts
+  pub subtree-parts : (way path : Path) (t : Tree M) → subtree (way ++ path) t ≡ option_and_then (subtree path) (subtree way t)
+  unfolding subtree
+  subtree-parts [] path t = refl
+  subtree-parts (b ∷ way) path t = parts (child_at b.child (brood_of b.ticket (broods_of t))) (λ u. subtree-parts way path u)
+    where
+      parts : (c : Option (Tree M)) → ((u : Tree M) → subtree (way ++ path) u ≡ option_and_then (subtree path) (subtree way u))
+          → option_and_then (subtree (way ++ path)) c ≡ option_and_then (subtree path) (option_and_then (subtree way) c)
+      parts None h = refl
+      parts (Some u) h = h u
+
 module _ {M E : Type 0} (o : Operations M E) where
 
   kept-settled_by : (e : Option E) (m : M) (before broods : Broods M) (log : Log M) (u : ℕ)
@@ -183,6 +206,17 @@ module _ {M E : Type 0} (o : Operations M E) where
     kept-within way k before after a b (is_new e) f g =
         let none : None ≡ Some a = sym (ap (within way k) e) ∙ f in cc
 
+    -- nothing is changed where there is no step beyond
+    same : (t : Option (Tree M)) → option_map (settle_beyond o None) t ≡ t
+    same None = refl
+    same (Some t) = refl
+
+    moved : (way p : Path) (f : Tree M → Tree M) (c : Option (Tree M))
+        → ((t : Tree M) → c ≡ Some t → subtree way (f t) ≡ option_map (settle_beyond o (beyond way p)) (subtree way t))
+        → option_and_then (subtree way) (option_map f c) ≡ option_map (settle_beyond o (beyond way p)) (option_and_then (subtree way) c)
+    moved way p f None h = refl
+    moved way p f (Some t) h = h t refl
+
     -- trees below a sound one are sound
     child-sound : (share k : ℕ) (trees : Trees M) (c : Tree M) → Hold o share trees → child_at k trees ≡ Some c → IsSound o c
     unfolding IsSound child_at
@@ -202,14 +236,14 @@ module _ {M E : Type 0} (o : Operations M E) where
     brood-sound grant t (brood u trees rest) h =
         brood-head 0 (grant u).share (eqb u t) trees (brood_of t rest) h.1 (brood-sound grant t rest h.2)
 
-    below-at : (m : M) (broods : Broods M) (log : Log M) (t k : ℕ) (c : Tree M) → IsSound o (node m broods log)
+    pub below-at : (m : M) (broods : Broods M) (log : Log M) (t k : ℕ) (c : Tree M) → IsSound o (node m broods log)
         → child_at k (brood_of t broods) ≡ Some c → IsSound o c
     below-at m broods log t k c h e =
         let held = brood-sound (o.grant m) t broods (below-sound o m broods log h) in
         child-sound held.0 k (brood_of t broods) c held.1 e
 
     -- the tree at a way into a brood, by the child there
-    is-within : (way : Path) (c : Option (Tree M)) (a : Tree M) → option_and_then (subtree way) c ≡ Some a
+    pub is-within : (way : Path) (c : Option (Tree M)) (a : Tree M) → option_and_then (subtree way) c ≡ Some a
         → (t : Tree M) × (c ≡ Some t) × (subtree way t ≡ Some a)
     is-within way None a e = absurd (cc)
     is-within way (Some t) a e = (t, refl, e)
@@ -260,3 +294,28 @@ module _ {M E : Type 0} (o : Operations M E) where
     settle-holding at path t h a b here there =
         ap (λ (u : Tree M). o.holding (machine u)) (settle-at at path t h a b here there)
         ∙ holding-beyond (beyond at path) a (subtree-sound at t a h here)
+
+    -- a step changes nothing that is not below its path, but by a step in it
+    elsewhere-by : (way p : Path) (f : Tree M → Tree M) (k j : ℕ) (trees : Trees M) (ticket child : Bool) → eqb k j ≡ child
+        → goes_on (cond (ticket && child) (beyond p way) None) ≡ false
+        → ((c : Tree M) → child_at j trees ≡ Some c → goes_on (beyond p way) ≡ false
+            → subtree way (f c) ≡ option_map (settle_beyond o (beyond way p)) (subtree way c))
+        → within way j (cond ticket (at_child f k trees) trees)
+            ≡ option_map (settle_beyond o (cond (ticket && child) (beyond way p) None)) (within way j trees)
+    elsewhere-by way p f k j trees false child e apart below = sym (same (within way j trees))
+    elsewhere-by way p f k j trees true false e apart below =
+        ap (option_and_then (subtree way)) (child_at-other f k j trees (eqb-false k j e)) ∙ sym (same (within way j trees))
+    elsewhere-by way p f k j trees true true e apart below =
+        ap (option_and_then (subtree way)) (ap (λ i. child_at j (at_child f i trees)) (eqb-true k j e) ∙ child_at-same f j trees)
+        ∙ moved way p f (child_at j trees) (λ c found. below c found apart)
+
+    pub settle-elsewhere : (at path : Path) (t : Tree M) → is_below path at ≡ false
+        → subtree at (settle o path t) ≡ option_map (settle_beyond o (beyond at path)) (subtree at t)
+    unfolding settle subtree beyond
+    settle-elsewhere [] path t apart = refl
+    settle-elsewhere (x ∷ way) [] t apart = absurd (cc)
+    settle-elsewhere (x ∷ way) (y ∷ p) (node m broods log) apart =
+        ap (within way x.child) (brood_of-at (at_child (settle o p) y.child) (at_child-none (settle o p) y.child) y.ticket x.ticket broods)
+        ∙ elsewhere-by way p (settle o p) y.child x.child (brood_of x.ticket broods) (eqb y.ticket x.ticket) (eqb y.child x.child) refl
+            (ap goes_on (branch-sym (beyond p way) y.ticket x.ticket y.child x.child) ∙ apart)
+            (λ c found down. settle-elsewhere way p c down)

@@ -1,6 +1,6 @@
 -- A step keeps soundness and what each machine holds.
 use Rattle.std.proofs.Common.{◌≡◌, ℕ, zero, suc, ◌+◌, ◌<◌, ◌≤◌, ◌==◌, ◌&&◌, ◌||◌, not, Bool, true, false, cond, eqb, eqb-true, refl, sym, ap, ◌∙◌, subst, arith, List, [], ◌∷◌, length, Option, Some, None, IsSome, is_some}
-use Rattle.forest_tree.specs.Operations.{Call, clone, join, kill, Grant, Operations, is_cloned, Makes, IsStep, IsChild, IsMachine}
+use Rattle.forest_tree.specs.Operations.{Call, clone, join, kill, Grant, Operations, is_among, is_cloned, Makes, IsStep, IsChild, IsMachine}
 use Rattle.forest_tree.specs.Tree.{Tree, node, Trees, no_tree, tree, Broods, no_brood, brood, Log, no_entry, joined, killed, machine, size, each, at_child, brood_of, without, at_brood, each_brood, broods_with, Path}
 use Rattle.forest_tree.specs.Settle.{has_ended, have_ended, with_ending, endings, alone, children_from, children, log_killed, settled_by, settled, join_by, step_by, step_from, step, settle}
 use Rattle.forest_tree.specs.Sound.{IsSoundMachine, IsSound, AreSound, Hold}
@@ -140,11 +140,32 @@ module _ {M E : Type 0} (o : Operations M E) where
       → IsSound o (settled o n broods log)
   settled-sound m n cloned broods log s counts h = settled_by-sound m n cloned broods log (o.ending n) refl s counts h
 
-  -- the children of a clone
-  pub alone-sound : (m : M) (t : ℕ) (n : M) → IsChild o m t n → IsSound o (alone o n)
+  -- a machine that has cloned nothing is sound alone, as the children of a clone are
+  pub good-alone : (m : M) → o.is_good m ≡ true → ((t : ℕ) → is_cloned o m t ≡ false) → IsSound o (alone o m)
   unfolding IsSound broods_with
-  alone-sound m t n c =
-      (record { good = c.good; ended = λ ended. refl; one_each = λ lives u. ap one_if (sym (c.tickets u)) }, tt)
+  good-alone m good none = (record { good = good; ended = λ ended. refl; one_each = λ lives u. ap one_if (sym (none u)) }, tt)
+
+  pub alone-sound : (m : M) (t : ℕ) (n : M) → IsChild o m t n → IsSound o (alone o n)
+  alone-sound m t n c = good-alone n c.good c.tickets
+
+  none-cloned : (m : M) → o.cloned m ≡ [] → (t : ℕ) → is_cloned o m t ≡ false
+  unfolding is_among
+  none-cloned m none t = ap (is_among t) none
+
+  pub start-sound : (m : M) → o.is_good m ≡ true → o.cloned m ≡ [] → IsSound o (alone o m)
+  start-sound m good none = good-alone m good (none-cloned m none)
+
+  -- the endings of trees that have ended are as many as they
+  length-with_ending : (e : Option E) (rest : List E) → is_some e ≡ true → length (with_ending o e rest) ≡ suc (length rest)
+  length-with_ending None rest h = cc
+  length-with_ending (Some ending) rest h = refl
+
+  pub length-endings : (trees : Trees M) → have_ended o trees ≡ true → length (endings o trees) ≡ size trees
+  unfolding have_ended endings size
+  length-endings no_tree h = refl
+  length-endings (tree t rest) h =
+      let both = both-true (is_some (o.ending (machine t))) (have_ended o rest) h in
+      length-with_ending (o.ending (machine t)) (endings o rest) both.0 ∙ ap suc (length-endings rest both.1)
 
   module _ (rules : IsMachine o) where
 
@@ -160,18 +181,6 @@ module _ {M E : Type 0} (o : Operations M E) where
     unfolding size children_from
     size-children_from m zero k = refl
     size-children_from m (suc n) k = ap suc (size-children_from m n (suc k))
-
-    -- the endings of trees that have ended are as many as they
-    length-with_ending : (e : Option E) (rest : List E) → is_some e ≡ true → length (with_ending o e rest) ≡ suc (length rest)
-    length-with_ending None rest h = cc
-    length-with_ending (Some ending) rest h = refl
-
-    pub length-endings : (trees : Trees M) → have_ended o trees ≡ true → length (endings o trees) ≡ size trees
-    unfolding have_ended endings size
-    length-endings no_tree h = refl
-    length-endings (tree t rest) h =
-        let both = both-true (is_some (o.ending (machine t))) (have_ended o rest) h in
-        length-with_ending (o.ending (machine t)) (endings o rest) both.0 ∙ ap suc (length-endings rest both.1)
 
     -- the brood of a ticket that has one is as large as was granted
     size-brood_by : (grant : ℕ → Grant) (t u : ℕ) (trees rest : Trees M) (same : Bool) → eqb u t ≡ same

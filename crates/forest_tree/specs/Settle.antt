@@ -88,8 +88,7 @@ module _ {M E : Type 0} (o : Operations M E) where
   settle_all [] t = t
   settle_all (path ∷ rest) t = settle_all rest (settle path t)
 
-  -- what a step at a path leaves of a tree at another: a step in it where the path goes through that,
-  -- and else the tree
+  -- a step at what is left of a path, if anything is
   abbrev pub settle_beyond : Option Path → Tree M → Tree M
   settle_beyond None t = t
   settle_beyond (Some path) t = settle path t

@@ -1,5 +1,5 @@
 -- Trees of machines. A machine has a brood for each of its cloned tickets, and a log.
-use Rattle.std.specs.Prelude.{ℕ, zero, suc, ◌+◌, ◌==◌, ◌&&◌, if◌then◌else◌, List, [], ◌∷◌, Option, Some, None, option_and_then}
+use Rattle.std.specs.Prelude.{ℕ, zero, suc, ◌+◌, ◌==◌, ◌&&◌, Bool, true, false, if◌then◌else◌, List, [], ◌∷◌, Option, Some, None, option_and_then}
 
 mutual
   pub data Tree (M : Type 0) : Type 0 where
@@ -92,8 +92,17 @@ unfoldable pub subtree : {M : Type 0} → Path → Tree M → Option (Tree M)
 subtree [] t = Some t
 subtree (b ∷ path) t = option_and_then (subtree path) (child_at b.child (brood_of b.ticket (broods_of t)))
 
--- what is left of a path beyond another, where it goes through that
+-- what is left of a path beyond a way, where it goes that way
 unfoldable pub beyond : Path → Path → Option Path
 beyond [] path = Some path
 beyond (a ∷ way) [] = None
 beyond (a ∷ way) (b ∷ path) = if (b.ticket == a.ticket) && (b.child == a.child) then beyond way path else None
+
+-- the path goes on from another, and ends below it
+abbrev pub goes_on : Option Path → Bool
+goes_on None = false
+goes_on (Some []) = false
+goes_on (Some (b ∷ rest)) = true
+
+abbrev pub is_below : Path → Path → Bool
+is_below way path = goes_on (beyond way path)
