@@ -8,3 +8,4 @@ pub mod Equations
 pub mod Places
 pub mod Rests
 pub mod Schedules
+pub mod SmallMachine

@@ -3,3 +3,4 @@ pub mod Tree
 pub mod Settle
 pub mod Sound
 pub mod Finish
+pub mod Toy
