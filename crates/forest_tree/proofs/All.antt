@@ -1,9 +1,8 @@
 -- What holds of each tree of some, and trees that a function leaves as they are.
-use Rattle.std.proofs.Common.{◌≡◌, ℕ, zero, suc, Bool, true, false, cond, eqb, refl, sym, ap, ap₂, ◌∙◌}
-use Rattle.forest_tree.specs.Tree.{Tree, node, Trees, no_tree, tree, Broods, no_brood, brood, Log, each, at_child, brood_of, without, at_brood, each_brood}
+use Rattle.std.proofs.Common.{◌≡◌, ℕ, Bool, true, false, cond, eqb, refl, ap, ap₂}
+use Rattle.forest_tree.specs.Tree.{Tree, node, Trees, no_tree, tree, Broods, no_brood, brood, Log, each, brood_of, without, at_brood, each_brood}
 
 module _ {M : Type 0} where
-
   unfoldable pub AllTrees : (Tree M → Type 0) → Trees M → Type 0
   AllTrees P no_tree = Unit {0}
   AllTrees P (tree t rest) = P t × AllTrees P rest

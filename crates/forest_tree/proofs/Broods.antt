@@ -1,7 +1,6 @@
 -- Broods by ticket: how many there are of one, and what a change of them keeps.
-use Rattle.std.proofs.Common.{◌≡◌, ℕ, zero, suc, ◌+◌, ◌<◌, ◌≤◌, Bool, true, false, cond, eqb, eqb-true, eq-eqb, refl, sym, ap, ◌∙◌, arith}
-use Rattle.std.proofs.lemmas.Bool.{eqb-false}
-use Rattle.forest_tree.specs.Tree.{Tree, Trees, no_tree, tree, Broods, no_brood, brood, size, each, at_child, brood_of, without, at_brood, each_brood, broods_with}
+use Rattle.std.proofs.Common.{◌≡◌, ℕ, zero, suc, ◌+◌, ◌≤◌, Bool, true, false, cond, eqb, eqb-true, eq-eqb, refl, sym, ap, ◌∙◌, arith}
+use Rattle.forest_tree.specs.Tree.{Tree, Trees, no_tree, tree, Broods, no_brood, brood, size, each, at_child, without, at_brood, each_brood, broods_with}
 
 -- one for true
 abbrev pub one_if : Bool → ℕ
@@ -31,7 +30,6 @@ zero_either true = refl
 zero_either false = refl
 
 module _ {M : Type 0} where
-
   pub broods_with-brood : (t : ℕ) (trees : Trees M) (rest : Broods M) → broods_with t (brood t trees rest) ≡ suc (broods_with t rest)
   unfolding broods_with
   broods_with-brood t trees rest =

@@ -1,8 +1,8 @@
 -- The finish meets the equations of running to the end, and no other function does.
 use Rattle.std.proofs.Common.{◌≡◌, ◌≢◌, ℕ, zero, suc, ◌<◌, ◌≤◌, not, eqb, Bool, true, false, cond, refl, sym, ap, ◌∙◌, subst, le_refl, arith, inl, inr, Option, Some, None, IsSome}
-use Rattle.forest_tree.specs.Operations.{Call, clone, join, kill, Grant, Operations, IsChild, IsMachine}
-use Rattle.forest_tree.specs.Tree.{Tree, node, Trees, no_tree, tree, Broods, no_brood, brood, Log, machine, broods_of, size, each, brood_of, at_brood, each_brood}
-use Rattle.forest_tree.specs.Settle.{have_ended, alone, waits_by, waits, step}
+use Rattle.forest_tree.specs.Operations.{Call, clone, join, kill, Grant, Operations, IsMachine}
+use Rattle.forest_tree.specs.Tree.{Tree, node, Trees, no_tree, tree, Broods, no_brood, brood, Log, machine, broods_of, each, brood_of, at_brood}
+use Rattle.forest_tree.specs.Settle.{have_ended, alone, waits_by, step}
 use Rattle.forest_tree.specs.Sound.{IsSound, AreSound, Hold}
 use Rattle.forest_tree.specs.Finish.{finish, with_brood, IsFinish}
 use Rattle.forest_tree.proofs.All.{AllTrees, AllBroods, AllTrees-all, AllTrees-each, AllTrees-brood_of, tree-below, at_brood-agree, brood_of-at_brood}
@@ -13,7 +13,6 @@ use Rattle.forest_tree.proofs.Finish.{finish-ended, Ends, finish-ends}
 use Rattle.forest_tree.proofs.Stays.{finish-step, each-at_brood, finish-broods}
 
 module _ {M E : Type 0} (o : Operations M E) (rules : IsMachine o) where
-
   finish-keeps : (t : Tree M) → IsSound o t → Keeps o (finish o) t
   finish-keeps t h = (finish-ends o rules t h).keeps
 
@@ -34,16 +33,16 @@ module _ {M E : Type 0} (o : Operations M E) (rules : IsMachine o) where
       → IsSound o (node m (at_brood (each (finish o)) t broods) log)
   with_brood-sound t m broods log h =
       broods-sound o rules m broods (at_brood (each (finish o)) t broods) log
-          (λ u. broods_with-at_brood (each (finish o)) t u broods)
-          (at_brood-none o rules (each (finish o)) t broods)
-          (AreSound-at_brood o (each (finish o)) (o.grant m) t (size-each (finish o)) Hold-finish broods (below-sound o m broods log h))
-          h
+      (λ u. broods_with-at_brood (each (finish o)) t u broods)
+      (at_brood-none o rules (each (finish o)) t broods)
+      (AreSound-at_brood o (each (finish o)) (o.grant m) t (size-each (finish o)) Hold-finish broods (below-sound o m broods log h))
+      h
 
   finish-with_brood : (t : ℕ) (m : M) (broods : Broods M) (log : Log M) → IsSound o (node m broods log)
       → finish o (node m (at_brood (each (finish o)) t broods) log) ≡ finish o (node m broods log)
   finish-with_brood t m broods log h =
       finish-broods o rules m broods (at_brood (each (finish o)) t broods) log
-          (each-at_brood o rules (each (finish o)) each-twice t (o.grant m) broods (below-sound o m broods log h))
+      (each-at_brood o rules (each (finish o)) each-twice t (o.grant m) broods (below-sound o m broods log h))
 
   finish-joins : (t : Tree M) (ticket : ℕ) → IsSound o t → finish o t ≡ finish o (step o (with_brood (finish o) ticket t))
   finish-joins (node m broods log) ticket h =
@@ -63,14 +62,13 @@ module _ {M E : Type 0} (o : Operations M E) (rules : IsMachine o) where
   finished-ready t grant broods h =
       ap (have_ended o) (brood_of-at_brood (finish o) t broods)
       ∙ have_ended-all o (each (finish o) (brood_of t broods))
-          (AllTrees-each (HasEnded o) (finish o) (brood_of t broods)
-              (AllTrees-brood_of (λ u. HasEnded o (finish o u)) t broods
-                  (AllBroods-of-sound o (λ u. HasEnded o (finish o u)) (λ u sound. (finish-ends o rules u sound).ended) grant broods h)))
+      (AllTrees-each (HasEnded o) (finish o) (brood_of t broods)
+      (AllTrees-brood_of (λ u. HasEnded o (finish o u)) t broods
+      (AllBroods-of-sound o (λ u. HasEnded o (finish o u)) (λ u sound. (finish-ends o rules u sound).ended) grant broods h)))
 
   -- a function that meets the equations is the finish: by the steps that are left, where it is so of the
   -- children
   module _ (f : Tree M → Tree M) (is : IsFinish o f) where
-
     abbrev IsKnown : Tree M → Type 0
     IsKnown t = f t ≡ finish o t
 
@@ -93,9 +91,9 @@ module _ {M E : Type 0} (o : Operations M E) (rules : IsMachine o) where
         let counts : o.left m ≡ suc (o.left (machine (step o t))) = step-counts o rules m broods log h lives ready in
         let after : KeepsTo o t (step o t) = step-keeps o rules t h in
         let children : AllBroods IsKnown (broods_of (step o t)) =
-            step-broods o rules IsKnown m broods log h lives
-                (λ k c born. let one : o.left m ≡ suc (o.left c) = born.counted in
-                    known (alone o c) (alone-sound o m k c born) (omega arith) tt) below in
+        step-broods o rules IsKnown m broods log h lives
+        (λ k c born. let one : o.left m ≡ suc (o.left c) = born.counted in
+        known (alone o c) (alone-sound o m k c born) (omega arith) tt) below in
         known (step o t) after.sound (omega arith) children ∙ finish-step o rules t h
 
     head-known : (trees : Trees M) (same : Bool) → AllTrees IsKnown (each (finish o) trees) → AllTrees IsKnown trees
@@ -107,12 +105,13 @@ module _ {M E : Type 0} (o : Operations M E) (rules : IsMachine o) where
         → AllBroods IsKnown (at_brood (each (finish o)) t broods)
     unfolding IsSound AllBroods at_brood
     with_brood-known t grant no_brood h below = tt
-    with_brood-known t grant (brood u trees rest) h below =
-        ( head-known trees (eqb u t)
-            (AllTrees-each IsKnown (finish o) trees
-                (AllTrees-of-sound o (λ c. IsKnown (finish o c)) finish-known (grant u).share trees h.1))
-            below.0
-        , with_brood-known t grant rest h.2 below.1)
+    with_brood-known t grant (brood u trees rest) h below = (
+      head-known trees (eqb u t)
+          (AllTrees-each IsKnown (finish o) trees
+          (AllTrees-of-sound o (λ c. IsKnown (finish o c)) finish-known (grant u).share trees h.1))
+          below.0,
+      with_brood-known t grant rest h.2 below.1,
+    )
 
     -- by the kinds of the next step
     ready-known : (n : ℕ) → KnownWithin n → (m : M) (broods : Broods M) (log : Log M) → IsSound o (node m broods log) → o.left m ≤ suc n
@@ -130,8 +129,8 @@ module _ {M E : Type 0} (o : Operations M E) (rules : IsMachine o) where
         is.joins (node m broods log) ticket h lives call
         ∙ ap (λ b. f (step o (node m b log))) (at_brood-agree f (finish o) ticket broods below)
         ∙ step-known n known m finished log (with_brood-sound ticket m broods log h) fits lives
-            (ap (λ c. waits_by o c finished) call ∙ ap not (finished-ready ticket (o.grant m) broods sound))
-            (with_brood-known ticket (o.grant m) broods sound below)
+        (ap (λ c. waits_by o c finished) call ∙ ap not (finished-ready ticket (o.grant m) broods sound))
+        (with_brood-known ticket (o.grant m) broods sound below)
         ∙ finish-with_brood ticket m broods log h
 
     live-known : (n : ℕ) → KnownWithin n → (m : M) (broods : Broods M) (log : Log M) → IsSound o (node m broods log) → o.left m ≤ suc n
@@ -159,8 +158,8 @@ module _ {M E : Type 0} (o : Operations M E) (rules : IsMachine o) where
         → IsSound o (node m broods log) → IsKnown (node m broods log)
     root-known m broods log below h =
         known-within (o.left m) (node m broods log) h (le_refl (o.left m))
-            (AllBroods-sound o (λ t. IsSound o t → IsKnown t) IsKnown (λ t sound known. known sound) (o.grant m) broods
-                (below-sound o m broods log h) below)
+        (AllBroods-sound o (λ t. IsSound o t → IsKnown t) IsKnown (λ t sound known. known sound) (o.grant m) broods
+        (below-sound o m broods log h) below)
 
     pub finish-only : (t : Tree M) → IsSound o t → f t ≡ finish o t
     finish-only t h = tree-below (λ u. IsSound o u → IsKnown u) root-known t h

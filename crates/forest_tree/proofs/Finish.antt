@@ -1,15 +1,14 @@
 -- A tree run to its end has ended and is sound, and one that has ended is its own finish.
-use Rattle.std.proofs.Common.{◌≡◌, ℕ, zero, suc, ◌≤◌, refl, sym, ap, ap₂, ◌∙◌, subst, le_refl, Option, Some, None, IsSome}
-use Rattle.forest_tree.specs.Operations.{Grant, Operations, IsMachine}
-use Rattle.forest_tree.specs.Tree.{Tree, node, Trees, no_tree, tree, Broods, no_brood, brood, Log, machine, broods_of, each, each_brood}
-use Rattle.forest_tree.specs.Sound.{IsSound, AreSound, Hold}
+use Rattle.std.proofs.Common.{◌≡◌, refl, sym, ap, ap₂, ◌∙◌, subst, le_refl}
+use Rattle.forest_tree.specs.Operations.{Operations, IsMachine}
+use Rattle.forest_tree.specs.Tree.{Tree, node, Trees, no_tree, tree, Broods, no_brood, brood, Log, each, each_brood}
+use Rattle.forest_tree.specs.Sound.{IsSound}
 use Rattle.forest_tree.specs.Finish.{with_broods, run, finish, finish_trees, finish_broods}
-use Rattle.forest_tree.proofs.All.{AllTrees, AllBroods, AllBroods-each, tree-below}
+use Rattle.forest_tree.proofs.All.{AllBroods, AllBroods-each, tree-below}
 use Rattle.forest_tree.proofs.Settle.{root-sound, below-sound, KeepsTo, Keeps}
 use Rattle.forest_tree.proofs.Run.{is-some, HasEnded, AllBroods-sound, run-alone, with-each-keeps, run-keeps, run-ends}
 
 module _ {M E : Type 0} (o : Operations M E) where
-
   pub finish_trees-each : (trees : Trees M) → finish_trees o trees ≡ each (finish o) trees
   unfolding finish_trees each
   finish_trees-each no_tree = refl
@@ -40,7 +39,6 @@ module _ {M E : Type 0} (o : Operations M E) where
       ∙ ap (λ b. node m b log) (sym none)
 
   module _ (rules : IsMachine o) where
-
     -- the finish of a sound tree is sound, holds the same, and has ended
     pub record Ends (t : Tree M) : Type 0 where
       pub keeps : KeepsTo o t (finish o t)
@@ -52,15 +50,15 @@ module _ {M E : Type 0} (o : Operations M E) where
         let t : Tree M = node m broods log in
         let u : Tree M = with_broods (each_brood (finish o)) t in
         let keep : AllBroods (λ c. IsSound o c → Keeps o (finish o) c) broods =
-            AllBroods-sound o (λ c. IsSound o c → Ends c) (λ c. IsSound o c → Keeps o (finish o) c)
-                (λ c sound ends _. (ends sound).keeps) (o.grant m) broods (below-sound o m broods log h) below in
+        AllBroods-sound o (λ c. IsSound o c → Ends c) (λ c. IsSound o c → Keeps o (finish o) c)
+        (λ c sound ends _. (ends sound).keeps) (o.grant m) broods (below-sound o m broods log h) below in
         let end : AllBroods (λ c. HasEnded o (finish o c)) broods =
-            AllBroods-sound o (λ c. IsSound o c → Ends c) (λ c. HasEnded o (finish o c))
-                (λ c sound ends. (ends sound).ended) (o.grant m) broods (below-sound o m broods log h) below in
+        AllBroods-sound o (λ c. IsSound o c → Ends c) (λ c. HasEnded o (finish o c))
+        (λ c sound ends. (ends sound).ended) (o.grant m) broods (below-sound o m broods log h) below in
         let a : KeepsTo o t u = with-each-keeps o rules (finish o) t keep h in
         let b : KeepsTo o u (run o (o.left m) u) = run-keeps o rules (o.left m) u a.sound in
         let ended : HasEnded o (run o (o.left m) u) =
-            run-ends o rules (o.left m) u a.sound (le_refl (o.left m)) (AllBroods-each (HasEnded o) (finish o) broods end) in
+        run-ends o rules (o.left m) u a.sound (le_refl (o.left m)) (AllBroods-each (HasEnded o) (finish o) broods end) in
         let same : run o (o.left m) u ≡ finish o t = sym (finish-run m broods log) in
         record {
           keeps = subst (KeepsTo o t) same (record { sound = b.sound; holding = b.holding ∙ a.holding });

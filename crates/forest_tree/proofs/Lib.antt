@@ -7,5 +7,6 @@ pub mod Stays
 pub mod Equations
 pub mod Places
 pub mod Rests
+pub mod Calls
 pub mod Schedules
 pub mod SmallMachine

@@ -1,12 +1,12 @@
 -- What one step leaves at each place of a tree.
-use Rattle.std.proofs.Common.{◌≡◌, ◌≢◌, ℕ, zero, suc, ◌+◌, ◌<◌, ◌≤◌, ◌==◌, ◌&&◌, ◌||◌, not, eqb, eqb-true, Bool, true, false, cond, refl, sym, ap, ap₂, ◌∙◌, subst, arith, inl, inr, List, [], ◌∷◌, ◌++◌, Option, Some, None, IsSome, is_some, option_and_then, option_map}
+use Rattle.std.proofs.Common.{◌≡◌, ◌≢◌, ℕ, zero, suc, ◌+◌, ◌&&◌, eqb, eqb-true, Bool, true, false, cond, refl, sym, ap, ap₂, ◌∙◌, subst, arith, inl, inr, [], ◌∷◌, ◌++◌, Option, Some, None, option_and_then, option_map}
 use Rattle.std.proofs.lemmas.Bool.{eqb-false}
 use Rattle.forest_tree.specs.Operations.{Call, clone, join, kill, Grant, Operations, is_cloned, Makes, IsMachine}
-use Rattle.forest_tree.specs.Tree.{Tree, node, Trees, no_tree, tree, Broods, no_brood, brood, Log, joined, killed, machine, broods_of, at_child, child_at, brood_of, without, at_brood, broods_with, Branch, Path, subtree, beyond, goes_on, is_below}
+use Rattle.forest_tree.specs.Tree.{Tree, node, Trees, no_tree, tree, Broods, no_brood, brood, Log, joined, killed, machine, broods_of, at_child, child_at, brood_of, without, at_brood, broods_with, Path, subtree, beyond, goes_on, is_below}
 use Rattle.forest_tree.specs.Settle.{have_ended, endings, children, settled_by, settled, join_by, step_by, step, settle, settle_beyond}
 use Rattle.forest_tree.specs.Sound.{IsSound, AreSound, Hold}
 use Rattle.forest_tree.proofs.Broods.{one_if}
-use Rattle.forest_tree.proofs.Settle.{some-none, root-sound, below-sound, KeepsTo, settle-keeps}
+use Rattle.forest_tree.proofs.Settle.{root-sound, below-sound, settle-keeps}
 use Rattle.forest_tree.proofs.Run.{cases-ending, step-ended, step-lives}
 
 eqb-sym : (t u : ℕ) → eqb t u ≡ eqb u t
@@ -26,7 +26,6 @@ pub some-same : {A : Type 0} (a b : A) → Some a ≡ Some b → a ≡ b
 some-same a b e = cc
 
 module _ {M : Type 0} where
-
   -- a brood, where another goes or is changed
   brood_of-without-head : (v t u : ℕ) (trees rest left : Trees M) (same : Bool) → eqb v t ≡ same → left ≡ cond (eqb t u) no_tree rest
       → (other : Bool) → eqb v u ≡ other → (third : Bool) → eqb t u ≡ third
@@ -57,7 +56,7 @@ module _ {M : Type 0} where
   brood_of-without t u (brood v trees rest) =
       without-brood u v trees (without t rest) (eqb v t)
       ∙ brood_of-without-head v t u trees (brood_of u rest) (brood_of u (without t rest)) (eqb v t) refl (brood_of-without t u rest)
-          (eqb v u) refl (eqb t u) refl
+      (eqb v u) refl (eqb t u) refl
 
   brood_of-at-head : (f : Trees M → Trees M) (v t u : ℕ) (trees rest left : Trees M) (same : Bool) → eqb v t ≡ same
       → (other : Bool) → eqb v u ≡ other → (third : Bool) → eqb t u ≡ third
@@ -79,7 +78,7 @@ module _ {M : Type 0} where
   brood_of-at f none t u no_brood = at-none f (eqb t u) none
   brood_of-at f none t u (brood v trees rest) =
       brood_of-at-head f v t u trees (brood_of u rest) (brood_of u (at_brood f t rest)) (eqb v t) refl (eqb v u) refl (eqb t u) refl
-          (brood_of-at f none t u rest)
+      (brood_of-at f none t u rest)
 
   pub at_child-none : (f : Tree M → Tree M) (k : ℕ) → at_child f k no_tree ≡ no_tree
   unfolding at_child
@@ -144,7 +143,6 @@ module _ {M : Type 0} where
       parts (Some u) h = h u
 
 module _ {M E : Type 0} (o : Operations M E) where
-
   kept-settled_by : (e : Option E) (m : M) (before broods : Broods M) (log : Log M) (u : ℕ)
       → Kept (brood_of u before) (brood_of u broods)
       → Kept (brood_of u before) (brood_of u (broods_of (settled_by o e m broods log)))
@@ -162,10 +160,9 @@ module _ {M E : Type 0} (o : Operations M E) where
   kept-join false t m broods log u = stays refl
   kept-join true t m broods log u =
       kept-settled (o.after_join m (endings o (brood_of t broods))) broods (without t broods) (joined log t (brood_of t broods)) u
-          (kept-without t u broods)
+      (kept-without t u broods)
 
   module _ (rules : IsMachine o) where
-
     new-brood : (m : M) (t : ℕ) (broods : Broods M) (log : Log M) → Makes o m (Some (clone t)) → IsSound o (node m broods log)
         → (u : ℕ) → eqb t u ≡ true → brood_of u broods ≡ no_tree
     new-brood m t broods log makes h u same =
@@ -179,7 +176,7 @@ module _ {M E : Type 0} (o : Operations M E) where
     kept-step_by None m broods log makes h u = kept-settled (o.advance m) broods broods log u (stays refl)
     kept-step_by (Some (clone t)) m broods log makes h u =
         kept-settled (o.forked m) broods (brood t (children o m t) broods) log u
-            (kept-brood t u (children o m t) (brood_of u broods) (eqb t u) (new-brood m t broods log makes h u))
+        (kept-brood t u (children o m t) (brood_of u broods) (eqb t u) (new-brood m t broods log makes h u))
     kept-step_by (Some (join t)) m broods log makes h u = kept-join (have_ended o (brood_of t broods)) t m broods log u
     kept-step_by (Some (kill t)) m broods log makes h u =
         kept-settled (o.after_kill m) broods (without t broods) (killed log t (o.grant m t).children) u (kept-without t u broods)
@@ -190,7 +187,7 @@ module _ {M E : Type 0} (o : Operations M E) where
       | inl ended ↦ subst (λ t. Kept (brood_of u broods) (brood_of u (broods_of t))) (sym (step-ended o m broods log ended.0 ended.1)) (stays refl)
       | inr lives ↦
           subst (λ t. Kept (brood_of u broods) (brood_of u (broods_of t))) (sym (step-lives o m broods log (o.call m) lives refl))
-              (kept-step_by (o.call m) m broods log (record { good = (root-sound o m broods log h).good; lives = lives; call = refl }) h u)
+          (kept-step_by (o.call m) m broods log (record { good = (root-sound o m broods log h).good; lives = lives; call = refl }) h u)
     ]
 
     -- the tree at a way into a brood
@@ -251,7 +248,7 @@ module _ {M E : Type 0} (o : Operations M E) where
     -- a step beyond, by whether the ticket and the child are the same
     beyond-by : (way p : Path) (f : Tree M → Tree M) (k j : ℕ) (trees : Trees M) (ticket child : Bool) → eqb k j ≡ child
         → ((c a b : Tree M) → child_at j trees ≡ Some c → subtree way c ≡ Some a → subtree way (f c) ≡ Some b
-            → b ≡ settle_beyond o (beyond way p) a)
+        → b ≡ settle_beyond o (beyond way p) a)
         → (a b : Tree M) → within way j trees ≡ Some a → within way j (cond ticket (at_child f k trees) trees) ≡ Some b
         → b ≡ settle_beyond o (cond (ticket && child) (beyond way p) None) a
     beyond-by way p f k j trees false child e below a b here there = some-same b a (sym there ∙ here)
@@ -260,7 +257,7 @@ module _ {M E : Type 0} (o : Operations M E) where
     beyond-by way p f k j trees true true e below a b here there =
         let is = is-within way (child_at j trees) a here in
         let moved : child_at j (at_child f k trees) ≡ Some (f is.0) =
-            ap (λ i. child_at j (at_child f i trees)) (eqb-true k j e) ∙ child_at-same f j trees ∙ ap (option_map f) is.1 in
+        ap (λ i. child_at j (at_child f i trees)) (eqb-true k j e) ∙ child_at-same f j trees ∙ ap (option_map f) is.1 in
         below is.0 a b is.1 is.2 (sym (ap (option_and_then (subtree way)) moved) ∙ there)
 
     pub settle-at : (at path : Path) (t : Tree M) → IsSound o t → (a b : Tree M) → subtree at t ≡ Some a → subtree at (settle o path t) ≡ Some b
@@ -269,13 +266,13 @@ module _ {M E : Type 0} (o : Operations M E) where
     settle-at [] path t h a b here there = some-same b (settle o path t) (sym there) ∙ ap (settle o path) (some-same t a here)
     settle-at (x ∷ way) [] (node m broods log) h a b here there =
         kept-within way x.child (brood_of x.ticket broods) (brood_of x.ticket (broods_of (step o (node m broods log)))) a b
-            (kept-step m broods log h x.ticket) here there
+        (kept-step m broods log h x.ticket) here there
     settle-at (x ∷ way) (y ∷ p) (node m broods log) h a b here there =
         let f : Tree M → Tree M = settle o p in
         let moved = brood_of-at (at_child f y.child) (at_child-none f y.child) y.ticket x.ticket broods in
         beyond-by way p f y.child x.child (brood_of x.ticket broods) (eqb y.ticket x.ticket) (eqb y.child x.child) refl
-            (λ c d e found. settle-at way p c (below-at m broods log x.ticket x.child c h found) d e)
-            a b here (sym (ap (within way x.child) moved) ∙ there)
+        (λ c d e found. settle-at way p c (below-at m broods log x.ticket x.child c h found) d e)
+        a b here (sym (ap (within way x.child) moved) ∙ there)
 
     pub subtree-sound : (at : Path) (t a : Tree M) → IsSound o t → subtree at t ≡ Some a → IsSound o a
     unfolding subtree
@@ -299,9 +296,9 @@ module _ {M E : Type 0} (o : Operations M E) where
     elsewhere-by : (way p : Path) (f : Tree M → Tree M) (k j : ℕ) (trees : Trees M) (ticket child : Bool) → eqb k j ≡ child
         → goes_on (cond (ticket && child) (beyond p way) None) ≡ false
         → ((c : Tree M) → child_at j trees ≡ Some c → goes_on (beyond p way) ≡ false
-            → subtree way (f c) ≡ option_map (settle_beyond o (beyond way p)) (subtree way c))
+        → subtree way (f c) ≡ option_map (settle_beyond o (beyond way p)) (subtree way c))
         → within way j (cond ticket (at_child f k trees) trees)
-            ≡ option_map (settle_beyond o (cond (ticket && child) (beyond way p) None)) (within way j trees)
+        ≡ option_map (settle_beyond o (cond (ticket && child) (beyond way p) None)) (within way j trees)
     elsewhere-by way p f k j trees false child e apart below = sym (same (within way j trees))
     elsewhere-by way p f k j trees true false e apart below =
         ap (option_and_then (subtree way)) (child_at-other f k j trees (eqb-false k j e)) ∙ sym (same (within way j trees))
@@ -317,5 +314,5 @@ module _ {M E : Type 0} (o : Operations M E) where
     settle-elsewhere (x ∷ way) (y ∷ p) (node m broods log) apart =
         ap (within way x.child) (brood_of-at (at_child (settle o p) y.child) (at_child-none (settle o p) y.child) y.ticket x.ticket broods)
         ∙ elsewhere-by way p (settle o p) y.child x.child (brood_of x.ticket broods) (eqb y.ticket x.ticket) (eqb y.child x.child) refl
-            (ap goes_on (branch-sym (beyond p way) y.ticket x.ticket y.child x.child) ∙ apart)
-            (λ c found down. settle-elsewhere way p c down)
+        (ap goes_on (branch-sym (beyond p way) y.ticket x.ticket y.child x.child) ∙ apart)
+        (λ c found down. settle-elsewhere way p c down)

@@ -1,12 +1,12 @@
 -- A step at a path changes the tree exactly where a machine is there that lives and does not wait; and
 -- what a join stores.
-use Rattle.std.proofs.Common.{◌≡◌, ◌≢◌, ℕ, zero, suc, ◌+◌, ◌<◌, ◌≤◌, ◌&&◌, ◌||◌, ◌↔◌, not, eqb, Bool, true, false, cond, refl, sym, ap, ap₂, ◌∙◌, subst, arith, inl, inr, List, [], ◌∷◌, length, Option, Some, None, IsSome, is_some, option_and_then, option_map, slice_get}
+use Rattle.std.proofs.Common.{◌≡◌, ℕ, zero, suc, ◌+◌, ◌≤◌, ◌||◌, ◌↔◌, not, eqb, Bool, true, false, cond, refl, sym, ap, ap₂, ◌∙◌, subst, arith, inl, inr, [], ◌∷◌, Option, Some, None, IsSome, is_some, option_and_then, option_map}
 use Rattle.forest_tree.specs.Operations.{Call, clone, join, kill, Operations, is_cloned, IsMachine}
-use Rattle.forest_tree.specs.Tree.{Tree, node, Trees, no_tree, tree, Broods, no_brood, brood, Log, joined, machine, size, at_child, child_at, brood_of, without, at_brood, broods_with, Path, subtree}
-use Rattle.forest_tree.specs.Settle.{has_ended, have_ended, with_ending, endings, settled, waits_by, waits, join_by, step_by, step, settle, rests}
+use Rattle.forest_tree.specs.Tree.{Tree, node, Trees, no_tree, tree, Broods, no_brood, brood, Log, machine, at_child, child_at, brood_of, at_brood, broods_with, Path, subtree}
+use Rattle.forest_tree.specs.Settle.{have_ended, waits_by, join_by, step, settle, rests}
 use Rattle.forest_tree.specs.Sound.{IsSound}
 use Rattle.forest_tree.proofs.Broods.{one_if, eqb-same}
-use Rattle.forest_tree.proofs.Settle.{some-none, both-true, root-sound}
+use Rattle.forest_tree.proofs.Settle.{root-sound}
 use Rattle.forest_tree.proofs.Run.{cases-ending, step-ended, step-lives, step-counts}
 use Rattle.forest_tree.proofs.Places.{some-same, brood_of-at, at_child-none, child_at-same, below-at, is-within, subtree-sound}
 
@@ -28,7 +28,6 @@ at-most-one true = omega arith
 at-most-one false = omega arith
 
 module _ {M : Type 0} where
-
   -- trees of which a child is none, or left as it is
   at_child-leaves : (f : Tree M → Tree M) (k : ℕ) (trees : Trees M) → ((c : Tree M) → child_at k trees ≡ Some c → f c ≡ c)
       → at_child f k trees ≡ trees
@@ -63,7 +62,6 @@ module _ {M : Type 0} where
       by false fits same down = ap (brood u trees) (down (omega arith) same)
 
 module _ {M E : Type 0} (o : Operations M E) where
-
   -- a machine that has ended or waits makes no step
   step-waits : (m : M) (broods : Broods M) (log : Log M) (next : Option Call) → o.ending m ≡ None → o.call m ≡ next
       → waits_by o next broods ≡ true → step o (node m broods log) ≡ node m broods log
@@ -82,18 +80,17 @@ module _ {M E : Type 0} (o : Operations M E) where
     | inl ended ↦ step-ended o m broods log ended.0 ended.1
     | inr lives ↦
         step-waits m broods log (o.call m) lives refl
-            (either-true (is_some (o.ending m)) (waits_by o (o.call m) broods) h (ap is_some lives))
+        (either-true (is_some (o.ending m)) (waits_by o (o.call m) broods) h (ap is_some lives))
   ]
 
   module _ (rules : IsMachine o) where
-
     step-moves : (t : Tree M) → IsSound o t → step o t ≡ t → rests o (Some t) ≡ true
     step-moves (node m broods log) h same =
         neither (is_some (o.ending m)) (waits_by o (o.call m) broods) (λ lives ready.
-            let counts : o.left m ≡ suc (o.left (machine (step o (node m broods log)))) =
-                step-counts o rules m broods log h (lives-none (o.ending m) lives) ready in
-            let stays : o.left (machine (step o (node m broods log))) ≡ o.left m = ap (λ (u : Tree M). o.left (machine u)) same in
-            omega arith)
+        let counts : o.left m ≡ suc (o.left (machine (step o (node m broods log)))) =
+        step-counts o rules m broods log h (lives-none (o.ending m) lives) ready in
+        let stays : o.left (machine (step o (node m broods log))) ≡ o.left m = ap (λ (u : Tree M). o.left (machine u)) same in
+        omega arith)
 
     -- at the path itself the tree has made the step
     pub settle-here : (path : Path) (t a : Tree M) → subtree path t ≡ Some a → subtree path (settle o path t) ≡ Some (step o a)
@@ -103,8 +100,8 @@ module _ {M E : Type 0} (o : Operations M E) where
         let is = is-within o rules path (child_at x.child (brood_of x.ticket broods)) a here in
         let moved = brood_of-at (at_child (settle o path) x.child) (at_child-none (settle o path) x.child) x.ticket x.ticket broods in
         let found : brood_of x.ticket (at_brood (at_child (settle o path) x.child) x.ticket broods)
-                ≡ at_child (settle o path) x.child (brood_of x.ticket broods) =
-            moved ∙ ap (λ b. cond b (at_child (settle o path) x.child (brood_of x.ticket broods)) (brood_of x.ticket broods)) (eqb-same x.ticket) in
+        ≡ at_child (settle o path) x.child (brood_of x.ticket broods) =
+        moved ∙ ap (λ b. cond b (at_child (settle o path) x.child (brood_of x.ticket broods)) (brood_of x.ticket broods)) (eqb-same x.ticket) in
         ap (λ trees. option_and_then (subtree path) (child_at x.child trees)) found
         ∙ ap (option_and_then (subtree path)) (child_at-same (settle o path) x.child (brood_of x.ticket broods) ∙ ap (option_map (settle o path)) is.1)
         ∙ settle-here path is.0 a is.2
@@ -126,55 +123,18 @@ module _ {M E : Type 0} (o : Operations M E) where
     settle-rests [] t h rest = step-rests t rest
     settle-rests (x ∷ path) (node m broods log) h rest =
         ap (λ b. node m b log)
-            (at_brood-leaves (at_child (settle o path) x.child) x.ticket broods (one-brood m broods log h x.ticket)
-                (at_child-leaves (settle o path) x.child (brood_of x.ticket broods) (λ c found.
-                    settle-rests path c (below-at o rules m broods log x.ticket x.child c h found)
-                        (ap (λ i. rests o (option_and_then (subtree path) i)) (sym found) ∙ rest))))
+        (at_brood-leaves (at_child (settle o path) x.child) x.ticket broods (one-brood m broods log h x.ticket)
+        (at_child-leaves (settle o path) x.child (brood_of x.ticket broods) (λ c found.
+        settle-rests path c (below-at o rules m broods log x.ticket x.child c h found)
+        (ap (λ i. rests o (option_and_then (subtree path) i)) (sym found) ∙ rest))))
 
     settle-same : (path : Path) (t : Tree M) → IsSound o t → settle o path t ≡ t → (there : Option (Tree M)) → subtree path t ≡ there
         → rests o there ≡ true
     settle-same path t h same None there = refl
     settle-same path t h same (Some a) there =
         let moved : step o a ≡ a =
-            some-same (step o a) a (sym (settle-here path t a there) ∙ ap (subtree path) same ∙ there) in
+        some-same (step o a) a (sym (settle-here path t a there) ∙ ap (subtree path) same ∙ there) in
         step-moves a (subtree-sound o rules path t a h there) moved
 
     pub settle-exactly : (path : Path) (t : Tree M) → IsSound o t → (settle o path t ≡ t) ↔ (rests o (subtree path t) ≡ true)
     settle-exactly path t h = (λ same. settle-same path t h same (subtree path t) refl, settle-rests path t h)
-
-  -- a join that does not wait hands over the broods' endings
-  not-not : (b : Bool) → not b ≡ false → b ≡ true
-  not-not true h = refl
-  not-not false h = absurd (cc)
-
-  pub ready-ended : (m : M) (broods : Broods M) (log : Log M) (t : ℕ) → o.call m ≡ Some (join t)
-      → waits o (node m broods log) ≡ false → have_ended o (brood_of t broods) ≡ true
-  ready-ended m broods log t call ready =
-      not-not (have_ended o (brood_of t broods)) (ap (λ next. waits_by o next broods) (sym call) ∙ ready)
-
-  pub step-join : (m : M) (broods : Broods M) (log : Log M) (t : ℕ) → o.ending m ≡ None → o.call m ≡ Some (join t)
-      → waits o (node m broods log) ≡ false
-      → step o (node m broods log) ≡ settled o (o.after_join m (endings o (brood_of t broods))) (without t broods) (joined log t (brood_of t broods))
-  step-join m broods log t lives call ready =
-      step-lives o m broods log (Some (join t)) lives call
-      ∙ ap (λ b. join_by o b t m broods log) (ready-ended m broods log t call ready)
-
-  -- of each child, in order
-  first-ending : (e : Option E) (rest : List E) → is_some e ≡ true → slice_get (with_ending o e rest) 0 ≡ e
-  first-ending None rest h = absurd (cc)
-  first-ending (Some a) rest h = refl
-
-  later-ending : (e : Option E) (rest : List E) (i : ℕ) → is_some e ≡ true → slice_get (with_ending o e rest) (suc i) ≡ slice_get rest i
-  later-ending None rest i h = absurd (cc)
-  later-ending (Some a) rest i h = refl
-
-  pub endings-at : (trees : Trees M) → have_ended o trees ≡ true → (i : ℕ) (c : Tree M) → child_at (suc i) trees ≡ Some c
-      → slice_get (endings o trees) i ≡ o.ending (machine c)
-  unfolding have_ended endings child_at
-  endings-at no_tree h i c e = absurd (cc)
-  endings-at (tree t rest) h zero c e =
-      let both = both-true (is_some (o.ending (machine t))) (have_ended o rest) h in
-      first-ending (o.ending (machine t)) (endings o rest) both.0 ∙ ap (λ (u : Tree M). o.ending (machine u)) (some-same t c e)
-  endings-at (tree t rest) h (suc i) c e =
-      let both = both-true (is_some (o.ending (machine t))) (have_ended o rest) h in
-      later-ending (o.ending (machine t)) (endings o rest) i both.0 ∙ endings-at rest both.1 i c e

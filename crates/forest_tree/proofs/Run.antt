@@ -1,13 +1,13 @@
 -- A machine that is run, whose children have ended.
 use Rattle.std.proofs.Common.{◌≡◌, ℕ, zero, suc, ◌+◌, ◌<◌, ◌≤◌, ◌&&◌, ◌||◌, not, eqb, ◌⊎◌, inl, inr, Bool, true, false, refl, sym, ap, ◌∙◌, subst, arith, Option, Some, None, IsSome, is_some}
 use Rattle.forest_tree.specs.Operations.{Call, clone, join, kill, Grant, Operations, is_cloned, Makes, IsStep, IsChild, IsMachine}
-use Rattle.forest_tree.specs.Tree.{Tree, node, Trees, no_tree, tree, Broods, no_brood, brood, Log, no_entry, joined, killed, machine, broods_of, each, brood_of, without, each_brood, broods_with}
-use Rattle.forest_tree.specs.Settle.{has_ended, have_ended, endings, alone, children_from, children, settled_by, settled, waits_by, waits, join_by, step_by, step_from, step}
-use Rattle.forest_tree.specs.Sound.{IsSoundMachine, IsSound, AreSound, Hold}
+use Rattle.forest_tree.specs.Tree.{Tree, node, Trees, no_tree, tree, Broods, no_brood, brood, Log, joined, killed, machine, broods_of, brood_of, without, each_brood}
+use Rattle.forest_tree.specs.Settle.{have_ended, endings, alone, children_from, children, settled_by, settled, waits_by, waits, join_by, step_by, step_from, step}
+use Rattle.forest_tree.specs.Sound.{IsSound, AreSound, Hold}
 use Rattle.forest_tree.specs.Finish.{with_broods, run}
 use Rattle.forest_tree.proofs.All.{AllTrees, AllBroods, AllTrees-all, AllBroods-all, AllBroods-each, AllBroods-without, AllTrees-brood_of}
 use Rattle.forest_tree.proofs.Broods.{broods_with-each_brood}
-use Rattle.forest_tree.proofs.Settle.{some-none, both-true, root-sound, below-sound, KeepsTo, Keeps, AreSound-each_brood, alone-sound, machine-settled, broods-sound, join-step, step-keeps}
+use Rattle.forest_tree.proofs.Settle.{both-true, root-sound, below-sound, KeepsTo, Keeps, AreSound-each_brood, alone-sound, machine-settled, broods-sound, join-step, step-keeps}
 
 -- none, or an ending
 pub is-some : {A : Type 0} (e : Option A) → IsSome e → (a : A) × (e ≡ Some a)
@@ -19,7 +19,6 @@ cases-ending None = inr refl
 cases-ending (Some ending) = inl (ending, refl)
 
 module _ {M E : Type 0} (o : Operations M E) where
-
   abbrev pub HasEnded : Tree M → Type 0
   HasEnded t = IsSome (o.ending (machine t))
 
@@ -99,17 +98,17 @@ module _ {M E : Type 0} (o : Operations M E) where
   join-broods P false t m broods log h = h
   join-broods P true t m broods log h =
       settled-broods P (o.after_join m (endings o (brood_of t broods))) (without t broods) (joined log t (brood_of t broods))
-          (AllBroods-without P t broods h)
+      (AllBroods-without P t broods h)
 
   module _ (rules : IsMachine o) where
-
     children_from-all : (P : Tree M → Type 0) (m : M) (t : ℕ) → Makes o m (Some (clone t)) → ((c : M) → IsChild o m t c → P (alone o c))
         → (n k : ℕ) → 1 ≤ k → k + n ≤ suc (o.grant m t).children → AllTrees P (children_from o m k n)
     unfolding children_from AllTrees
     children_from-all P m t makes born zero k first last = tt
-    children_from-all P m t makes born (suc n) k first last =
-        ( born (o.child m k) (rules.child m t k makes first (omega arith))
-        , children_from-all P m t makes born n (suc k) (omega arith) (omega arith))
+    children_from-all P m t makes born (suc n) k first last = (
+      born (o.child m k) (rules.child m t k makes first (omega arith)),
+      children_from-all P m t makes born n (suc k) (omega arith) (omega arith),
+    )
 
     pub children-all : (P : Tree M → Type 0) (m : M) (t : ℕ) → Makes o m (Some (clone t)) → ((c : M) → IsChild o m t c → P (alone o c))
         → AllTrees P (children o m t)
@@ -137,7 +136,7 @@ module _ {M E : Type 0} (o : Operations M E) where
     join-counts false t m broods log e makes h ready = absurd (cc)
     join-counts true t m broods log e makes h ready =
         settled-counts m (o.after_join m (endings o (brood_of t broods))) (λ u. not (eqb t u) && is_cloned o m u)
-            (without t broods) (joined log t (brood_of t broods)) (join-step o rules t m broods log e makes h)
+        (without t broods) (joined log t (brood_of t broods)) (join-step o rules t m broods log e makes h)
 
     step_by-counts : (next : Option Call) (m : M) (broods : Broods M) (log : Log M) → Makes o m next
         → IsSound o (node m broods log) → waits_by o next broods ≡ false
@@ -150,7 +149,7 @@ module _ {M E : Type 0} (o : Operations M E) where
         join-counts (have_ended o (brood_of t broods)) t m broods log refl makes h ready
     step_by-counts (Some (kill t)) m broods log makes h ready =
         settled-counts m (o.after_kill m) (λ u. not (eqb t u) && is_cloned o m u)
-            (without t broods) (killed log t (o.grant m t).children) (rules.after_kill m t makes)
+        (without t broods) (killed log t (o.grant m t).children) (rules.after_kill m t makes)
 
     pub step-counts : (m : M) (broods : Broods M) (log : Log M) → IsSound o (node m broods log) → o.ending m ≡ None
         → waits o (node m broods log) ≡ false → o.left m ≡ suc (o.left (machine (step o (node m broods log))))
@@ -163,7 +162,7 @@ module _ {M E : Type 0} (o : Operations M E) where
         → AllBroods P (broods_of (step o (node m broods log)))
     step-broods P m broods log h lives born all =
         subst (λ t. AllBroods P (broods_of t)) (sym (step-lives m broods log (o.call m) lives refl))
-            (step_by-broods P (o.call m) m broods log (record { good = (root-sound o m broods log h).good; lives = lives; call = refl }) born all)
+        (step_by-broods P (o.call m) m broods log (record { good = (root-sound o m broods log h).good; lives = lives; call = refl }) born all)
 
     -- where all children have ended, no join waits
     pub none-waits : (next : Option Call) (broods : Broods M) → AllBroods HasEnded broods → waits_by o next broods ≡ false
@@ -192,9 +191,9 @@ module _ {M E : Type 0} (o : Operations M E) where
     run-keeps (suc n) t h =
         let a : KeepsTo o t (step o t) = step-keeps o rules t h in
         let b : KeepsTo o (step o t) (with_broods (each_brood (run o n)) (step o t)) =
-            with-each-keeps (run o n) (step o t) (AllBroods-all (λ u. IsSound o u → Keeps o (run o n) u) (λ u sound. run-keeps n u sound) (broods_of (step o t))) a.sound in
+        with-each-keeps (run o n) (step o t) (AllBroods-all (λ u. IsSound o u → Keeps o (run o n) u) (λ u sound. run-keeps n u sound) (broods_of (step o t))) a.sound in
         let c : KeepsTo o (with_broods (each_brood (run o n)) (step o t)) (run o n (with_broods (each_brood (run o n)) (step o t))) =
-            run-keeps n (with_broods (each_brood (run o n)) (step o t)) b.sound in
+        run-keeps n (with_broods (each_brood (run o n)) (step o t)) b.sound in
         record { sound = c.sound; holding = c.holding ∙ b.holding ∙ a.holding }
 
     -- as many steps as are left to a machine whose children have ended bring it to its end
@@ -220,17 +219,17 @@ module _ {M E : Type 0} (o : Operations M E) where
           let after : KeepsTo o t u = step-keeps o rules t h in
           let counts : o.left m ≡ suc (o.left (machine u)) = step-counts m broods log h lives (none-waits (o.call m) broods all) in
           let stay : AllBroods (λ c. HasEnded (run o n c)) broods =
-              AllBroods-sound HasEnded (λ c. HasEnded (run o n c)) (λ c sound ended. subst HasEnded (sym (run-ended n c sound ended)) ended)
-                  (o.grant m) broods (below-sound o m broods log h) all in
+          AllBroods-sound HasEnded (λ c. HasEnded (run o n c)) (λ c sound ended. subst HasEnded (sym (run-ended n c sound ended)) ended)
+          (o.grant m) broods (below-sound o m broods log h) all in
           let below : AllBroods (λ c. HasEnded (run o n c)) (broods_of u) =
-              step-broods (λ c. HasEnded (run o n c)) m broods log h lives
-                  (λ k c born. let one : o.left m ≡ suc (o.left c) = born.counted in
-                      run-ends n (alone o c) (alone-sound o m k c born) (omega arith) tt) stay in
+          step-broods (λ c. HasEnded (run o n c)) m broods log h lives
+          (λ k c born. let one : o.left m ≡ suc (o.left c) = born.counted in
+          run-ends n (alone o c) (alone-sound o m k c born) (omega arith) tt) stay in
           let v : Tree M = with_broods (each_brood (run o n)) u in
           let sound : IsSound o v =
-              (with-each-keeps (run o n) u (AllBroods-all (λ c. IsSound o c → Keeps o (run o n) c) (λ c. run-keeps n c) (broods_of u)) after.sound).sound in
+          (with-each-keeps (run o n) u (AllBroods-all (λ c. IsSound o c → Keeps o (run o n) c) (λ c. run-keeps n c) (broods_of u)) after.sound).sound in
           let ended : AllBroods HasEnded (broods_of v) =
-              subst (AllBroods HasEnded) (sym (broods-with (each_brood (run o n)) u)) (AllBroods-each HasEnded (run o n) (broods_of u) below) in
+          subst (AllBroods HasEnded) (sym (broods-with (each_brood (run o n)) u)) (AllBroods-each HasEnded (run o n) (broods_of u) below) in
           let same : o.left (machine v) ≡ o.left (machine u) = ap o.left (machine-with (each_brood (run o n)) u) in
           run-ends n v sound (omega arith) ended
     ]

@@ -1,5 +1,5 @@
 -- Steps in any order.
-use Rattle.std.proofs.Common.{◌≡◌, refl, sym, ap, ◌∙◌, List, [], ◌∷◌, IsSome}
+use Rattle.std.proofs.Common.{◌≡◌, refl, sym, ◌∙◌, List, [], ◌∷◌, IsSome}
 use Rattle.forest_tree.specs.Operations.{Operations, IsMachine}
 use Rattle.forest_tree.specs.Tree.{Tree, machine, Path}
 use Rattle.forest_tree.specs.Settle.{settle, settle_all}
@@ -10,7 +10,6 @@ use Rattle.forest_tree.proofs.Finish.{finish-ended}
 use Rattle.forest_tree.proofs.Stays.{finish-settle}
 
 module _ {M E : Type 0} (o : Operations M E) (rules : IsMachine o) where
-
   pub settle_all-keeps : (paths : List Path) (t : Tree M) → IsSound o t → Keeps o (settle_all o paths) t
   unfolding settle_all
   settle_all-keeps [] t h = record { sound = h; holding = refl }

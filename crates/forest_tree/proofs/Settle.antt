@@ -1,11 +1,11 @@
 -- A step keeps soundness and what each machine holds.
-use Rattle.std.proofs.Common.{◌≡◌, ℕ, zero, suc, ◌+◌, ◌<◌, ◌≤◌, ◌==◌, ◌&&◌, ◌||◌, not, Bool, true, false, cond, eqb, eqb-true, refl, sym, ap, ◌∙◌, subst, arith, List, [], ◌∷◌, length, Option, Some, None, IsSome, is_some}
+use Rattle.std.proofs.Common.{◌≡◌, ℕ, zero, suc, ◌+◌, ◌<◌, ◌≤◌, ◌&&◌, ◌||◌, not, Bool, true, false, cond, eqb, eqb-true, refl, sym, ap, ◌∙◌, subst, arith, List, [], ◌∷◌, length, Option, Some, None, IsSome, is_some}
 use Rattle.forest_tree.specs.Operations.{Call, clone, join, kill, Grant, Operations, is_among, is_cloned, Makes, IsStep, IsChild, IsMachine}
-use Rattle.forest_tree.specs.Tree.{Tree, node, Trees, no_tree, tree, Broods, no_brood, brood, Log, no_entry, joined, killed, machine, size, each, at_child, brood_of, without, at_brood, each_brood, broods_with, Path}
-use Rattle.forest_tree.specs.Settle.{has_ended, have_ended, with_ending, endings, alone, children_from, children, log_killed, settled_by, settled, join_by, step_by, step_from, step, settle}
+use Rattle.forest_tree.specs.Tree.{Tree, node, Trees, no_tree, tree, Broods, no_brood, brood, Log, joined, killed, machine, size, each, at_child, brood_of, without, at_brood, each_brood, broods_with, Path}
+use Rattle.forest_tree.specs.Settle.{have_ended, with_ending, endings, alone, children_from, children, settled_by, settled, join_by, step_by, step_from, step, settle}
 use Rattle.forest_tree.specs.Sound.{IsSoundMachine, IsSound, AreSound, Hold}
 use Rattle.forest_tree.proofs.All.{AllTrees, AllBroods}
-use Rattle.forest_tree.proofs.Broods.{one_if, broods_with-brood, broods_with-rest, broods_with-at_brood, broods_with-each_brood, broods_with-without, size-each, size-at_child}
+use Rattle.forest_tree.proofs.Broods.{one_if, broods_with-brood, broods_with-rest, broods_with-at_brood, broods_with-without, size-each, size-at_child}
 
 -- how many broods of u there are after a clone of t, and without those of t
 one-clone : (same cloned : Bool) (n : ℕ) → (same ≡ true → cloned ≡ false) → n ≡ one_if cloned → one_if same + n ≡ one_if (same || cloned)
@@ -32,7 +32,6 @@ is-one n true h has = refl
 is-one n false h has = absurd (omega arith)
 
 module _ {M E : Type 0} (o : Operations M E) where
-
   -- the parts of soundness
   pub root-sound : (m : M) (broods : Broods M) (log : Log M) → IsSound o (node m broods log) → IsSoundMachine o m broods
   unfolding IsSound
@@ -72,10 +71,11 @@ module _ {M E : Type 0} (o : Operations M E) where
   unfolding IsSound
   AreSound-grants grant after no_brood same h = tt
   AreSound-grants grant after (brood t trees rest) same h =
-      let e : after t ≡ grant t = same t (omega (arith, broods_with-brood t trees rest)) in
-      ( h.0 ∙ ap (λ (g : Grant). g.children) (sym e)
-      , subst (λ (g : Grant). Hold o g.share trees) (sym e) h.1
-      , AreSound-grants grant after rest (λ u has. same u (omega (arith, broods_with-rest u t trees rest))) h.2)
+      let e : after t ≡ grant t = same t (omega (arith, broods_with-brood t trees rest)) in (
+        h.0 ∙ ap (λ (g : Grant). g.children) (sym e),
+        subst (λ (g : Grant). Hold o g.share trees) (sym e) h.1,
+        AreSound-grants grant after rest (λ u has. same u (omega (arith, broods_with-rest u t trees rest))) h.2,
+      )
 
   -- and where one of them is changed
   brood-sound : (f : Trees M → Trees M) (grant : Grant) (same : Bool) (trees : Trees M)
@@ -111,10 +111,11 @@ module _ {M E : Type 0} (o : Operations M E) where
       → AllBroods (λ t. IsSound o t → Keeps f t) broods → AreSound o grant broods → AreSound o grant (each_brood f broods)
   unfolding IsSound each_brood AllBroods
   AreSound-each_brood f grant no_brood keeps h = tt
-  AreSound-each_brood f grant (brood t trees rest) keeps h =
-      ( size-each f trees ∙ h.0
-      , Hold-each f (grant t).share trees keeps.0 h.1
-      , AreSound-each_brood f grant rest keeps.1 h.2)
+  AreSound-each_brood f grant (brood t trees rest) keeps h = (
+    size-each f trees ∙ h.0,
+    Hold-each f (grant t).share trees keeps.0 h.1,
+    AreSound-each_brood f grant rest keeps.1 h.2,
+  )
 
   -- what a step leads to holds what its machine does, and is sound
   machine-settled_by : (e : Option E) (m : M) (broods : Broods M) (log : Log M) → machine (settled_by o e m broods log) ≡ m
@@ -129,9 +130,10 @@ module _ {M E : Type 0} (o : Operations M E) where
       → IsSound o (settled_by o e n broods log)
   unfolding IsSound
   settled_by-sound m n cloned broods log None e s counts h =
-      let each_one : (t : ℕ) → broods_with t broods ≡ one_if (is_cloned o n t) = λ t. counts t ∙ ap one_if (sym (s.tickets t)) in
-      ( record { good = s.good; ended = λ ended. absurd (some-none (o.ending n) e ended); one_each = λ lives. each_one }
-      , AreSound-grants (o.grant m) (o.grant n) broods (λ t has. s.grants t (is-one (broods_with t broods) (is_cloned o n t) (each_one t) has)) h)
+      let each_one : (t : ℕ) → broods_with t broods ≡ one_if (is_cloned o n t) = λ t. counts t ∙ ap one_if (sym (s.tickets t)) in (
+        record { good = s.good; ended = λ ended. absurd (some-none (o.ending n) e ended); one_each = λ lives. each_one },
+        AreSound-grants (o.grant m) (o.grant n) broods (λ t has. s.grants t (is-one (broods_with t broods) (is_cloned o n t) (each_one t) has)) h,
+      )
   settled_by-sound m n cloned broods log (Some ending) e s counts h =
       (record { good = s.good; ended = λ ended. refl; one_each = λ lives. absurd (some-none (o.ending n) lives (subst IsSome (sym e) refl)) }, tt)
 
@@ -168,7 +170,6 @@ module _ {M E : Type 0} (o : Operations M E) where
       length-with_ending (o.ending (machine t)) (endings o rest) both.0 ∙ ap suc (length-endings rest both.1)
 
   module _ (rules : IsMachine o) where
-
     children_from-sound : (m : M) (t : ℕ) → Makes o m (Some (clone t)) → (n k : ℕ) → 1 ≤ k → k + n ≤ suc (o.grant m t).children
         → Hold o (o.grant m t).share (children_from o m k n)
     unfolding IsSound children_from
@@ -195,9 +196,9 @@ module _ {M E : Type 0} (o : Operations M E) where
     size-brood_of grant t no_brood h has = absurd (omega arith)
     size-brood_of grant t (brood u trees rest) h has =
         size-brood_by grant t u trees (brood_of t rest) (eqb u t) refl h.0
-            (λ other.
-              let below : 0 < one_if false + broods_with t rest = subst (λ same. 0 < one_if same + broods_with t rest) other has in
-              size-brood_of grant t rest h.2 (omega arith))
+        (λ other.
+        let below : 0 < one_if false + broods_with t rest = subst (λ same. 0 < one_if same + broods_with t rest) other has in
+        size-brood_of grant t rest h.2 (omega arith))
 
     -- a step to a machine n
     settled-keeps : (m n : M) (cloned : ℕ → Bool) (before broods : Broods M) (log after : Log M)
@@ -224,56 +225,61 @@ module _ {M E : Type 0} (o : Operations M E) where
     unfolding broods_with
     clone-counts m broods t u kids fresh h =
         one-clone (eqb t u) (is_cloned o m u) (broods_with u broods)
-            (λ same. ap (is_cloned o m) (sym (eqb-true t u same)) ∙ fresh) h
+        (λ same. ap (is_cloned o m) (sym (eqb-true t u same)) ∙ fresh) h
 
     clone-sound : (m : M) (t : ℕ) (broods : Broods M) → Makes o m (Some (clone t)) → AreSound o (o.grant m) broods
         → AreSound o (o.grant m) (brood t (children o m t) broods)
     unfolding IsSound
-    clone-sound m t broods makes h =
-        ( size-children_from m (o.grant m t).children 1
-        , children_from-sound m t makes (o.grant m t).children 1 (omega arith) (omega arith)
-        , h)
+    clone-sound m t broods makes h = (
+      size-children_from m (o.grant m t).children 1,
+      children_from-sound m t makes (o.grant m t).children 1 (omega arith) (omega arith),
+      h,
+    )
+
+    -- the brood of a cloned ticket has as many trees as were granted
+    pub size-cloned : (t : ℕ) (m : M) (broods : Broods M) (log : Log M) → o.ending m ≡ None → is_cloned o m t ≡ true
+        → IsSound o (node m broods log) → size (brood_of t broods) ≡ (o.grant m t).children
+    size-cloned t m broods log lives cloned h =
+        let counts : broods_with t broods ≡ one_if (is_cloned o m t) = (root-sound m broods log h).one_each lives t in
+        size-brood_of (o.grant m) t broods (below-sound m broods log h) (has-brood (broods_with t broods) (is_cloned o m t) counts cloned)
 
     -- a join that need not wait is a step
     pub join-step : (t : ℕ) (m : M) (broods : Broods M) (log : Log M) → have_ended o (brood_of t broods) ≡ true
         → Makes o m (Some (join t)) → IsSound o (node m broods log)
         → IsStep o m (o.after_join m (endings o (brood_of t broods))) (λ u. not (eqb t u) && is_cloned o m u)
     join-step t m broods log e makes h =
-        let counts : broods_with t broods ≡ one_if (is_cloned o m t) = (root-sound m broods log h).one_each makes.lives t in
-        let has : 0 < broods_with t broods = has-brood (broods_with t broods) (is_cloned o m t) counts (rules.join_is_cloned m t makes) in
-        let all : length (endings o (brood_of t broods)) ≡ (o.grant m t).children =
-            length-endings (brood_of t broods) e ∙ size-brood_of (o.grant m) t broods (below-sound m broods log h) has in
-        rules.after_join m t (endings o (brood_of t broods)) makes all
+        rules.after_join m t (endings o (brood_of t broods)) makes
+        (length-endings (brood_of t broods) e ∙ size-cloned t m broods log makes.lives (rules.join_is_cloned m t makes) h)
 
     join_by-keeps : (ready : Bool) (t : ℕ) (m : M) (broods : Broods M) (log : Log M) → have_ended o (brood_of t broods) ≡ ready
         → Makes o m (Some (join t)) → IsSound o (node m broods log) → KeepsTo (node m broods log) (join_by o ready t m broods log)
     join_by-keeps false t m broods log e makes h = record { sound = h; holding = refl }
     join_by-keeps true t m broods log e makes h =
         settled-keeps m (o.after_join m (endings o (brood_of t broods))) (λ u. not (eqb t u) && is_cloned o m u)
-            broods (without t broods) log (joined log t (brood_of t broods))
-            (join-step t m broods log e makes h)
-            (λ u. without-counts m broods t u ((root-sound m broods log h).one_each makes.lives u))
-            (AreSound-without (o.grant m) t broods (below-sound m broods log h))
+        broods (without t broods) log (joined log t (brood_of t broods))
+        (join-step t m broods log e makes h)
+        (λ u. without-counts m broods t u ((root-sound m broods log h).one_each makes.lives u))
+        (AreSound-without (o.grant m) t broods (below-sound m broods log h))
 
     step_by-keeps : (next : Option Call) (m : M) (broods : Broods M) (log : Log M) → Makes o m next → IsSound o (node m broods log)
         → KeepsTo (node m broods log) (step_by o next m broods log)
     step_by-keeps None m broods log makes h =
         settled-keeps m (o.advance m) (is_cloned o m) broods broods log log (rules.advance m makes)
-            ((root-sound m broods log h).one_each makes.lives) (below-sound m broods log h)
+        ((root-sound m broods log h).one_each makes.lives) (below-sound m broods log h)
     step_by-keeps (Some (clone t)) m broods log makes h =
         settled-keeps m (o.forked m) (λ u. eqb t u || is_cloned o m u) broods (brood t (children o m t) broods) log log
-            (rules.forked m t makes)
-            (λ u. clone-counts m broods t u (children o m t) (rules.clone_is_new m t makes)
-                ((root-sound m broods log h).one_each makes.lives u))
-            (clone-sound m t broods makes (below-sound m broods log h))
+        (rules.forked m t makes)
+        (λ u. clone-counts m broods t u (children o m t) (rules.clone_is_new m t makes)
+        ((root-sound m broods log h).one_each makes.lives u))
+        (clone-sound m t broods makes (below-sound m broods log h))
     step_by-keeps (Some (join t)) m broods log makes h =
         join_by-keeps (have_ended o (brood_of t broods)) t m broods log refl makes h
     step_by-keeps (Some (kill t)) m broods log makes h =
         settled-keeps m (o.after_kill m) (λ u. not (eqb t u) && is_cloned o m u)
-            broods (without t broods) log (killed log t (o.grant m t).children)
-            (rules.after_kill m t makes)
-            (λ u. without-counts m broods t u ((root-sound m broods log h).one_each makes.lives u))
-            (AreSound-without (o.grant m) t broods (below-sound m broods log h))
+        broods (without t broods) log (killed log t (o.grant m t).children)
+        (rules.after_kill m t makes)
+        (λ u. without-counts m broods t u ((root-sound m broods log h).one_each makes.lives u))
+        (AreSound-without (o.grant m) t broods (below-sound m broods log h))
 
     step_from-keeps : (e : Option E) (m : M) (broods : Broods M) (log : Log M) → o.ending m ≡ e → IsSound o (node m broods log)
         → KeepsTo (node m broods log) (step_from o e m broods log)
@@ -290,13 +296,14 @@ module _ {M E : Type 0} (o : Operations M E) where
         → (broods ≡ no_brood → after ≡ no_brood) → AreSound o (o.grant m) after
         → IsSound o (node m broods log) → IsSound o (node m after log)
     unfolding IsSound
-    broods-sound m broods after log counts none sound h =
-        ( record {
-            good = h.0.good;
-            ended = λ ended. none (h.0.ended ended);
-            one_each = λ lives t. counts t ∙ h.0.one_each lives t;
-          }
-        , sound)
+    broods-sound m broods after log counts none sound h = (
+      record {
+        good = h.0.good;
+        ended = λ ended. none (h.0.ended ended);
+        one_each = λ lives t. counts t ∙ h.0.one_each lives t;
+      },
+      sound,
+    )
 
     pub at_brood-none : (f : Trees M → Trees M) (t : ℕ) (broods : Broods M) → broods ≡ no_brood → at_brood f t broods ≡ no_brood
     unfolding at_brood
@@ -311,9 +318,9 @@ module _ {M E : Type 0} (o : Operations M E) where
           (λ t. broods_with-at_brood (at_child (settle o path) b.child) b.ticket t broods)
           (at_brood-none (at_child (settle o path) b.child) b.ticket broods)
           (AreSound-at_brood (at_child (settle o path) b.child) (o.grant m) b.ticket
-              (size-at_child (settle o path) b.child)
-              (λ share trees held. Hold-at_child (settle o path) (λ u sound. settle-keeps path u sound) share b.child trees held)
-              broods (below-sound m broods log h))
+          (size-at_child (settle o path) b.child)
+          (λ share trees held. Hold-at_child (settle o path) (λ u sound. settle-keeps path u sound) share b.child trees held)
+          broods (below-sound m broods log h))
           h;
       holding = refl;
     }

@@ -1,9 +1,9 @@
 -- The small machine keeps the rules of a machine in a forest.
-use Rattle.std.proofs.Common.{◌≡◌, ℕ, zero, suc, pred, ◌+◌, ◌-◌, ◌*◌, ◌<◌, ◌≤◌, ◌&&◌, ◌||◌, not, eqb, ltb, leb, Bool, true, false, cond, refl, sym, ap, ◌∙◌, subst, arith, ltb-true, lt-ltb, leb-true, eqb-true, List, [], ◌∷◌, length, Option, Some, None, IsSome, is_some}
+use Rattle.std.proofs.Common.{◌≡◌, ℕ, zero, suc, pred, ◌+◌, ◌<◌, ◌≤◌, ◌&&◌, ◌||◌, not, eqb, ltb, leb, Bool, true, false, cond, refl, sym, ap, ◌∙◌, subst, arith, ltb-true, lt-ltb, leb-true, [], Option, Some, None, is_some}
 use Rattle.std.proofs.lemmas.Bool.{eqb-false}
 use Rattle.forest_tree.proofs.Broods.{eqb-same}
-use Rattle.forest_tree.specs.Operations.{Call, clone, join, kill, Grant, Operations, is_among, is_cloned, Makes, IsStep, IsChild, IsMachine}
-use Rattle.forest_tree.specs.Toy.{Order, pause, request, clone_children, join_children, kill_children, exit, Ticket, no_ticket, granted, cloned, ToyEnding, by_exit, by_limit, Toy, cost, ticket_cost, ticket_grant, cloned_numbers, order_of, rest_of, call_of, given_back, requested, obeyed, set_cloned, ending_after, counted, total, toy_forked, toy_child, toy}
+use Rattle.forest_tree.specs.Operations.{Call, clone, join, kill, Grant, is_among, is_cloned, Makes, IsStep, IsChild, IsMachine}
+use Rattle.forest_tree.specs.Toy.{Order, pause, request, clone_children, join_children, kill_children, exit, Ticket, no_ticket, granted, cloned, ToyEnding, by_limit, Toy, cost, ticket_cost, ticket_grant, cloned_numbers, order_of, call_of, given_back, requested, obeyed, set_cloned, ending_after, total, toy_forked, toy_child, toy}
 
 -- a machine that lives has steps left
 left-some : (e : Option ToyEnding) (left : ℕ) → is_some e || ltb 0 left ≡ true → e ≡ None → 0 < left
@@ -181,9 +181,10 @@ IsMachine-toy = record {
   after_join = λ m t endings makes all.
       let is = join-stands m t makes in
       gone-step m (toy.after_join m endings) t is.0 is.1 refl refl (good-after (order_of m.orders) (pred m.left) (total endings))
-          (suc-left m (Some (join t)) makes);
+      (suc-left m (Some (join t)) makes);
+  kill_is_cloned = λ m t makes. let is = kill-stands m t makes in one-cloned m.ticket t is.0 is.1;
   after_kill = λ m t makes.
       let is = kill-stands m t makes in
       gone-step m (toy.after_kill m) t is.0 is.1 refl refl (good-after (order_of m.orders) (pred m.left) m.value)
-          (suc-left m (Some (kill t)) makes);
+      (suc-left m (Some (kill t)) makes);
 }

@@ -1,17 +1,16 @@
 -- A step of any machine of a sound tree leaves its finish.
-use Rattle.std.proofs.Common.{◌≡◌, ℕ, zero, suc, ◌+◌, ◌<◌, ◌≤◌, ◌&&◌, ◌||◌, not, eqb, Bool, true, false, cond, refl, sym, ap, ap₂, ◌∙◌, subst, arith, List, [], ◌∷◌, inl, inr, Option, Some, None, IsSome}
+use Rattle.std.proofs.Common.{◌≡◌, ℕ, zero, suc, ◌&&◌, ◌||◌, not, eqb, Bool, true, false, cond, refl, sym, ap, ap₂, ◌∙◌, arith, [], ◌∷◌, inl, inr, Option, Some, None}
 use Rattle.forest_tree.specs.Operations.{Call, clone, join, kill, Grant, Operations, is_cloned, Makes, IsStep, IsChild, IsMachine}
-use Rattle.forest_tree.specs.Tree.{Tree, node, Trees, no_tree, tree, Broods, no_brood, brood, Log, no_entry, joined, killed, machine, broods_of, each, at_child, brood_of, without, at_brood, each_brood, Path}
+use Rattle.forest_tree.specs.Tree.{Tree, node, Trees, no_tree, tree, Broods, no_brood, brood, Log, no_entry, joined, killed, each, at_child, brood_of, without, at_brood, each_brood, Path}
 use Rattle.forest_tree.specs.Settle.{have_ended, endings, alone, children, log_killed, settled_by, settled, join_by, step_by, step, settle}
 use Rattle.forest_tree.specs.Sound.{IsSound, AreSound, Hold}
 use Rattle.forest_tree.specs.Finish.{with_broods, run, finish}
-use Rattle.forest_tree.proofs.All.{AllTrees, AllBroods, AllBroods-each, AllBroods-without, AllTrees-brood_of, AllTrees-apply, each-agree, each-leaves, each_brood-leaves, without-each_brood, brood_of-each_brood}
-use Rattle.forest_tree.proofs.Settle.{root-sound, below-sound, KeepsTo, Keeps, AreSound-without, join-step}
-use Rattle.forest_tree.proofs.Run.{is-some, HasEnded, all-have_ended, have_ended-all, AllBroods-of-sound, run-ended, step-ended, step-lives, children-all, cases-ending}
+use Rattle.forest_tree.proofs.All.{AllBroods-each, AllTrees-brood_of, AllTrees-apply, each-agree, each-leaves, each_brood-leaves, without-each_brood, brood_of-each_brood}
+use Rattle.forest_tree.proofs.Settle.{root-sound, below-sound, AreSound-without, join-step}
+use Rattle.forest_tree.proofs.Run.{HasEnded, all-have_ended, AllBroods-of-sound, run-ended, step-ended, step-lives, children-all, cases-ending}
 use Rattle.forest_tree.proofs.Finish.{finish-run, finish-alone, finish-ended, Ends, finish-ends}
 
 module _ {M E : Type 0} (o : Operations M E) where
-
   -- the broods of what a step leads to
   with_broods-by : (f : Broods M → Broods M) → f no_brood ≡ no_brood → (e : Option E) (m : M) (broods : Broods M) (log : Log M)
       → with_broods f (settled_by o e m broods log) ≡ settled_by o e m (f broods) log
@@ -51,7 +50,6 @@ module _ {M E : Type 0} (o : Operations M E) where
       ∙ sym (finish-settled m left log)
 
   module _ (rules : IsMachine o) where
-
     -- finished trees stay in a run
     run-finished : (n : ℕ) (t : Tree M) → IsSound o t → run o n (finish o t) ≡ finish o t
     run-finished n t h =
@@ -62,8 +60,8 @@ module _ {M E : Type 0} (o : Operations M E) where
         → each_brood (run o n) (each_brood (finish o) broods) ≡ each_brood (finish o) broods
     stay-finished n grant broods h =
         each_brood-leaves (run o n) (each_brood (finish o) broods)
-            (AllBroods-each (λ t. run o n t ≡ t) (finish o) broods
-                (AllBroods-of-sound o (λ t. run o n (finish o t) ≡ finish o t) (run-finished n) grant broods h))
+        (AllBroods-each (λ t. run o n t ≡ t) (finish o) broods
+        (AllBroods-of-sound o (λ t. run o n (finish o t) ≡ finish o t) (run-finished n) grant broods h))
 
     -- trees that have ended are their own finishes
     finish-brood_of : (t : ℕ) (grant : ℕ → Grant) (broods : Broods M) → AreSound o grant broods → have_ended o (brood_of t broods) ≡ true
@@ -71,21 +69,21 @@ module _ {M E : Type 0} (o : Operations M E) where
     finish-brood_of t grant broods h ended =
         brood_of-each_brood (finish o) t broods
         ∙ each-leaves (finish o) (brood_of t broods)
-            (AllTrees-apply (HasEnded o) (λ u. finish o u ≡ u) (brood_of t broods)
-                (AllTrees-brood_of (λ u. HasEnded o u → finish o u ≡ u) t broods
-                    (AllBroods-of-sound o (λ u. HasEnded o u → finish o u ≡ u) (finish-ended o) grant broods h))
-                (all-have_ended o (brood_of t broods) ended))
+        (AllTrees-apply (HasEnded o) (λ u. finish o u ≡ u) (brood_of t broods)
+        (AllTrees-brood_of (λ u. HasEnded o u → finish o u ≡ u) t broods
+        (AllBroods-of-sound o (λ u. HasEnded o u → finish o u ≡ u) (finish-ended o) grant broods h))
+        (all-have_ended o (brood_of t broods) ended))
 
     -- the first step of a finish
     finish-first : (next : Option Call) (n : ℕ) (m : M) (broods : Broods M) (log : Log M) → o.left m ≡ suc n → Makes o m next
         → finish o (node m broods log)
-            ≡ run o n (with_broods (each_brood (run o n)) (step_by o next m (each_brood (finish o) broods) log))
+        ≡ run o n (with_broods (each_brood (run o n)) (step_by o next m (each_brood (finish o) broods) log))
     finish-first next n m broods log left makes =
         finish-run o m broods log
         ∙ ap (λ k. run o k (node m (each_brood (finish o) broods) log)) left
         ∙ run-suc n (node m (each_brood (finish o) broods) log)
         ∙ ap (λ t. run o n (with_broods (each_brood (run o n)) t))
-            (step-lives o m (each_brood (finish o) broods) log next makes.lives makes.call)
+        (step-lives o m (each_brood (finish o) broods) log next makes.lives makes.call)
 
     -- by the kinds of the step
     finish-own : (m : M) (broods : Broods M) (log : Log M) → Makes o m None → AreSound o (o.grant m) broods
@@ -110,11 +108,11 @@ module _ {M E : Type 0} (o : Operations M E) where
         let s : IsStep o m (o.forked m) (λ u. eqb t u || is_cloned o m u) = rules.forked m t makes in
         let kids : Trees M = children o m t in
         let born : each (run o n) kids ≡ each (finish o) kids =
-            each-agree (run o n) (finish o) kids
-                (children-all o rules (λ u. run o n u ≡ finish o u) m t makes (λ c child. finish-born m t n c s.counted child)) in
+        each-agree (run o n) (finish o) kids
+        (children-all o rules (λ u. run o n u ≡ finish o u) m t makes (λ c child. finish-born m t n c s.counted child)) in
         finish-first (Some (clone t)) n m broods log s.counted makes
         ∙ run-settled n (o.forked m) (brood t kids (each_brood (finish o) broods)) (brood t kids broods) log refl
-            (ap₂ (brood t) born (stay-finished n (o.grant m) broods h))
+        (ap₂ (brood t) born (stay-finished n (o.grant m) broods h))
 
     same-without : (n t : ℕ) (grant : ℕ → Grant) (broods : Broods M) → AreSound o grant broods
         → each_brood (run o n) (without t (each_brood (finish o) broods)) ≡ each_brood (finish o) (without t broods)
@@ -135,9 +133,9 @@ module _ {M E : Type 0} (o : Operations M E) where
         finish-first (Some (join t)) n m broods log s.counted makes
         ∙ ap (λ ready. run o n (with_broods (each_brood (run o n)) (join_by o ready t m finished log))) (ap (have_ended o) same ∙ ended)
         ∙ ap (λ trees. run o n (with_broods (each_brood (run o n))
-            (settled o (o.after_join m (endings o trees)) (without t finished) (joined log t trees)))) same
+        (settled o (o.after_join m (endings o trees)) (without t finished) (joined log t trees)))) same
         ∙ run-settled n k (without t finished) (without t broods) (joined log t (brood_of t broods)) refl
-            (same-without n t (o.grant m) broods sound)
+        (same-without n t (o.grant m) broods sound)
 
     finish-join : (m : M) (t : ℕ) (broods : Broods M) (log : Log M) (ready : Bool) → have_ended o (brood_of t broods) ≡ ready
         → Makes o m (Some (join t)) → IsSound o (node m broods log)
@@ -152,7 +150,7 @@ module _ {M E : Type 0} (o : Operations M E) where
         let s : IsStep o m (o.after_kill m) (λ u. not (eqb t u) && is_cloned o m u) = rules.after_kill m t makes in
         finish-first (Some (kill t)) n m broods log s.counted makes
         ∙ run-settled n (o.after_kill m) (without t (each_brood (finish o) broods)) (without t broods)
-            (killed log t (o.grant m t).children) refl (same-without n t (o.grant m) broods h)
+        (killed log t (o.grant m t).children) refl (same-without n t (o.grant m) broods h)
 
     finish-step_by : (next : Option Call) (m : M) (broods : Broods M) (log : Log M) → Makes o m next → IsSound o (node m broods log)
         → finish o (node m broods log) ≡ finish o (step_by o next m broods log)
@@ -167,7 +165,7 @@ module _ {M E : Type 0} (o : Operations M E) where
       | inr lives ↦
           ap (finish o) (step-lives o m broods log (o.call m) lives refl)
           ∙ sym (finish-step_by (o.call m) m broods log
-              (record { good = (root-sound o m broods log h).good; lives = lives; call = refl }) h)
+          (record { good = (root-sound o m broods log h).good; lives = lives; call = refl }) h)
     ]
 
     -- broods of which one tree is changed, to one of the same finish
@@ -204,6 +202,6 @@ module _ {M E : Type 0} (o : Operations M E) where
     finish-settle [] t h = finish-step t h
     finish-settle (b ∷ path) (node m broods log) h =
         finish-broods m broods (at_brood (at_child (settle o path) b.child) b.ticket broods) log
-            (each-at_brood (at_child (settle o path) b.child)
-                (λ share trees held. each-at_child (settle o path) (λ t sound. finish-settle path t sound) share b.child trees held)
-                b.ticket (o.grant m) broods (below-sound o m broods log h))
+        (each-at_brood (at_child (settle o path) b.child)
+        (λ share trees held. each-at_child (settle o path) (λ t sound. finish-settle path t sound) share b.child trees held)
+        b.ticket (o.grant m) broods (below-sound o m broods log h))

@@ -13,7 +13,6 @@ abbrev pub with_brood : {M : Type 0} → (Tree M → Tree M) → ℕ → Tree M 
 with_brood f t (node m broods log) = node m (at_brood (each f) t broods) log
 
 module _ {M E : Type 0} (o : Operations M E) where
-
   -- at most n steps of the machine at the root, where each child is run to its end as soon as it is
   -- born. A child has made the steps of its parent, so n are enough for it too
   unfoldable pub run : ℕ → Tree M → Tree M

@@ -42,7 +42,6 @@ is_among t [] = false
 is_among t (u ∷ rest) = (u == t) || is_among t rest
 
 module _ {M E : Type 0} (o : Operations M E) where
-
   abbrev pub is_cloned : M → ℕ → Bool
   is_cloned m t = is_among t (o.cloned m)
 
@@ -79,4 +78,5 @@ module _ {M E : Type 0} (o : Operations M E) where
     pub join_is_cloned : (m : M) (t : ℕ) → Makes m (Some (join t)) → is_cloned m t ≡ true
     pub after_join : (m : M) (t : ℕ) (endings : List E) → Makes m (Some (join t)) → length endings ≡ (o.grant m t).children
         → IsStep m (o.after_join m endings) (λ u. not (t == u) && is_cloned m u)
+    pub kill_is_cloned : (m : M) (t : ℕ) → Makes m (Some (kill t)) → is_cloned m t ≡ true
     pub after_kill : (m : M) (t : ℕ) → Makes m (Some (kill t)) → IsStep m (o.after_kill m) (λ u. not (t == u) && is_cloned m u)

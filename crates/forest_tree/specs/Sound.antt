@@ -1,10 +1,9 @@
 -- Trees that a forest can come to.
-use Rattle.std.specs.Prelude.{◌≡◌, ℕ, true, if◌then◌else◌, Option, None, IsSome}
+use Rattle.std.specs.Prelude.{◌≡◌, ℕ, true, if◌then◌else◌, None, IsSome}
 use Rattle.forest_tree.specs.Operations.{Grant, Operations, is_cloned}
 use Rattle.forest_tree.specs.Tree.{Tree, node, Trees, no_tree, tree, Broods, no_brood, brood, machine, size, broods_with}
 
 module _ {M E : Type 0} (o : Operations M E) where
-
   -- a good machine with its broods: none where it has ended, and else one for each of its cloned tickets
   -- and no other
   pub record IsSoundMachine (m : M) (broods : Broods M) : Type 0 where

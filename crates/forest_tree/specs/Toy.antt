@@ -1,6 +1,6 @@
 -- A small machine with one ticket at a time, which carries out a list of orders. It keeps all the rules of
 -- a machine in a forest.
-use Rattle.std.specs.Prelude.{ℕ, zero, suc, pred, ◌+◌, ◌-◌, ◌*◌, ◌==◌, ◌||◌, Bool, true, false, nat_lt, nat_le, if◌then◌else◌, List, [], ◌∷◌, ◌++◌, map, Option, Some, None, is_some}
+use Rattle.std.specs.Prelude.{ℕ, suc, pred, ◌+◌, ◌-◌, ◌*◌, ◌==◌, ◌||◌, Bool, true, false, nat_lt, nat_le, if◌then◌else◌, List, [], ◌∷◌, ◌++◌, map, Option, Some, None, is_some}
 use Rattle.forest_tree.specs.Operations.{Call, clone, join, kill, Grant, Operations}
 use Rattle.forest_tree.specs.Tree.{Log, no_entry, joined, killed}
 use Rattle.forest_tree.specs.Settle.{endings}
@@ -124,7 +124,13 @@ toy = record {
 -- a machine that starts
 abbrev pub toy_start : List Order → ℕ → ℕ → Toy
 toy_start orders allot limit = record {
-  orders = orders; ticket = no_ticket; next_ticket = 1; allot = allot; value = 0; left = limit; ending = None;
+  orders = orders;
+  ticket = no_ticket;
+  next_ticket = 1;
+  allot = allot;
+  value = 0;
+  left = limit;
+  ending = None;
 }
 
 -- a machine with two children, which it joins: it ends with the sum of what they end with

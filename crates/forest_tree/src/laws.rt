@@ -1,10 +1,10 @@
 //! Laws of the definitions, each the contract of a function that does nothing. They hold for all
 //! machines that keep the rules.
 
-ghost use Rattle.std.specs.Prelude.{◌≡◌, ◌↔◌, ℕ, suc, true, false, List, [], ◌++◌, length, slice_get, Option, Some, None, IsSome, option_and_then, option_map};
-ghost use Rattle.forest_tree.specs.Operations.{join, Operations, is_cloned, IsMachine};
-ghost use Rattle.forest_tree.specs.Tree.{Tree, node, Trees, Broods, Log, joined, machine, size, child_at, brood_of, without, Path, subtree, beyond, is_below};
-ghost use Rattle.forest_tree.specs.Settle.{have_ended, endings, alone, settled, waits, step, settle, settle_all, settle_beyond, rests};
+ghost use Rattle.std.specs.Prelude.{◌≡◌, ◌↔◌, ◌≤◌, ℕ, suc, true, false, List, [], ◌++◌, length, slice_get, Option, Some, None, IsSome, option_and_then, option_map};
+ghost use Rattle.forest_tree.specs.Operations.{clone, join, kill, Operations, IsMachine};
+ghost use Rattle.forest_tree.specs.Tree.{Tree, node, Trees, Broods, brood, Log, joined, killed, machine, size, child_at, brood_of, without, Path, subtree, beyond, is_below};
+ghost use Rattle.forest_tree.specs.Settle.{have_ended, endings, alone, children, settled, waits, step, settle, settle_all, settle_beyond, rests};
 ghost use Rattle.forest_tree.specs.Sound.{IsSound};
 ghost use Rattle.forest_tree.specs.Finish.{finish, IsFinish};
 
@@ -44,18 +44,39 @@ pub fn settle_rests<M, E>()
         → (settle o path t ≡ t) ↔ (rests o (subtree path t) ≡ true) }
 {}
 
+/// A clone bears the children of its ticket, child k at place k, and a machine's own step changes itself
+/// alone. After each step a machine that has ended drops its broods.
+pub fn clone_bears_children<M, E>()
+    ensures own { (o : Operations M E) (m : M) (broods : Broods M) (log : Log M) → o.ending m ≡ None → o.call m ≡ None
+        → step o (node m broods log) ≡ settled o (o.advance m) broods log }
+    ensures clone { (o : Operations M E) (m : M) (broods : Broods M) (log : Log M) (ticket : ℕ) → o.ending m ≡ None
+        → o.call m ≡ Some (clone ticket)
+        → step o (node m broods log) ≡ settled o (o.forked m) (brood ticket (children o m ticket) broods) log }
+    ensures as_many { (o : Operations M E) (m : M) (ticket : ℕ) → size (children o m ticket) ≡ (o.grant m ticket).children }
+    ensures in_order { (o : Operations M E) (m : M) (ticket k : ℕ) → 1 ≤ k → k ≤ (o.grant m ticket).children
+        → child_at k (children o m ticket) ≡ Some (alone o (o.child m k)) }
+{}
+
 /// A join that does not wait takes the children of its ticket, which have all ended, and stores the
 /// endings of just these, in order.
 pub fn join_stores_endings<M, E>()
-    ensures takes { (o : Operations M E) (m : M) (broods : Broods M) (log : Log M) (ticket : ℕ) → o.ending m ≡ None → o.call m ≡ Some (join ticket)
-        → waits o (node m broods log) ≡ false
+    ensures takes { (o : Operations M E) (m : M) (broods : Broods M) (log : Log M) (ticket : ℕ) → o.ending m ≡ None
+        → o.call m ≡ Some (join ticket) → waits o (node m broods log) ≡ false
         → step o (node m broods log)
-            ≡ settled o (o.after_join m (endings o (brood_of ticket broods))) (without ticket broods) (joined log ticket (brood_of ticket broods)) }
+        ≡ settled o (o.after_join m (endings o (brood_of ticket broods))) (without ticket broods) (joined log ticket (brood_of ticket broods)) }
     ensures ended { (o : Operations M E) (m : M) (broods : Broods M) (log : Log M) (ticket : ℕ) → o.call m ≡ Some (join ticket)
         → waits o (node m broods log) ≡ false → have_ended o (brood_of ticket broods) ≡ true }
     ensures as_many { (o : Operations M E) (trees : Trees M) → have_ended o trees ≡ true → length (endings o trees) ≡ size trees }
     ensures in_order { (o : Operations M E) (trees : Trees M) → have_ended o trees ≡ true → (i : ℕ) (child : Tree M)
         → child_at (suc i) trees ≡ Some child → slice_get (endings o trees) i ≡ o.ending (machine child) }
+{}
+
+/// A kill drops the children of its ticket, and logs how many they were.
+pub fn kill_drops_children<M, E>()
+    ensures { (o : Operations M E) → IsMachine o → (m : M) (broods : Broods M) (log : Log M) (ticket : ℕ) → IsSound o (node m broods log)
+        → o.ending m ≡ None → o.call m ≡ Some (kill ticket)
+        → step o (node m broods log)
+        ≡ settled o (o.after_kill m) (without ticket broods) (killed log ticket (size (brood_of ticket broods))) }
 {}
 
 /// A sound tree run to its end has ended and is sound, and holds what it did. One that has ended is its

@@ -1,5 +1,5 @@
 use Rattle.forest_tree.proofs.Settle.{length-endings}
-use Rattle.forest_tree.proofs.Rests.{step-join, ready-ended, endings-at}
+use Rattle.forest_tree.proofs.Calls.{step-join, ready-ended, endings-at}
 use Rattle.forest_tree.proofs.laws.join_stores_endings.Goals as goal
 
 pub returns : goal.returns
