@@ -6,7 +6,7 @@ use Rattle.forest_tree.specs.Tree.{Tree, node, Trees, no_tree, tree, Broods, no_
 use Rattle.forest_tree.specs.Settle.{have_ended, endings, children, settled_by, settled, join_by, step_by, step, settle, settle_beyond}
 use Rattle.forest_tree.specs.Sound.{IsSound, AreSound, Hold}
 use Rattle.forest_tree.proofs.Broods.{one_if}
-use Rattle.forest_tree.proofs.Settle.{root-sound, below-sound, settle-keeps}
+use Rattle.forest_tree.proofs.Settle.{clone-is-new, root-sound, below-sound, settle-keeps}
 use Rattle.forest_tree.proofs.Run.{cases-ending, step-ended, step-lives}
 
 eqb-sym : (t u : ℕ) → eqb t u ≡ eqb u t
@@ -167,7 +167,7 @@ module _ {M E : Type 0} (o : Operations M E) where
         → (u : ℕ) → eqb t u ≡ true → brood_of u broods ≡ no_tree
     new-brood m t broods log makes h u same =
         let counts : broods_with u broods ≡ one_if (is_cloned o m u) = (root-sound o m broods log h).one_each makes.lives u in
-        let fresh : is_cloned o m u ≡ false = ap (is_cloned o m) (sym (eqb-true t u same)) ∙ rules.clone_is_new m t makes in
+        let fresh : is_cloned o m u ≡ false = ap (is_cloned o m) (sym (eqb-true t u same)) ∙ clone-is-new o rules m t makes in
         brood_of-none u broods (counts ∙ ap one_if fresh)
 
     kept-step_by : (next : Option Call) (m : M) (broods : Broods M) (log : Log M) → Makes o m next → IsSound o (node m broods log) → (u : ℕ)

@@ -170,6 +170,14 @@ module _ {M E : Type 0} (o : Operations M E) where
       length-with_ending (o.ending (machine t)) (endings o rest) both.0 ∙ ap suc (length-endings rest both.1)
 
   module _ (rules : IsMachine o) where
+    -- a clone is of a ticket that is not cloned
+    new-by : (may cloned : Bool) → may ≡ true → (cloned ≡ true → may ≡ false) → cloned ≡ false
+    new-by may false e h = refl
+    new-by may true e h = let no : true ≡ false = sym e ∙ h refl in absurd (cc)
+
+    pub clone-is-new : (m : M) (t : ℕ) → Makes o m (Some (clone t)) → is_cloned o m t ≡ false
+    clone-is-new m t makes = new-by (o.may_clone m t) (is_cloned o m t) (rules.clone_may m t makes) (rules.cloned_once m t makes.good)
+
     children_from-sound : (m : M) (t : ℕ) → Makes o m (Some (clone t)) → (n k : ℕ) → 1 ≤ k → k + n ≤ suc (o.grant m t).children
         → Hold o (o.grant m t).share (children_from o m k n)
     unfolding IsSound children_from
@@ -269,7 +277,7 @@ module _ {M E : Type 0} (o : Operations M E) where
     step_by-keeps (Some (clone t)) m broods log makes h =
         settled-keeps m (o.forked m) (λ u. eqb t u || is_cloned o m u) broods (brood t (children o m t) broods) log log
         (rules.forked m t makes)
-        (λ u. clone-counts m broods t u (children o m t) (rules.clone_is_new m t makes)
+        (λ u. clone-counts m broods t u (children o m t) (clone-is-new m t makes)
         ((root-sound m broods log h).one_each makes.lives u))
         (clone-sound m t broods makes (below-sound m broods log h))
     step_by-keeps (Some (join t)) m broods log makes h =

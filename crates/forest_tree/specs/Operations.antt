@@ -26,6 +26,8 @@ pub record Operations (M E : Type 0) : Type 0 where
   -- the numbers of its cloned tickets, in order
   pub cloned : M → List ℕ
   pub grant : M → ℕ → Grant
+  -- a ticket of this number may come to be cloned: it is not cloned yet, or the number is not given yet
+  pub may_clone : M → ℕ → Bool
   -- its tickets have distinct numbers below that of its next ticket, and where it lives it is below its limit
   pub is_good : M → Bool
   -- the machine after a step of its own
@@ -51,14 +53,15 @@ module _ {M E : Type 0} (o : Operations M E) where
     pub lives : o.ending m ≡ None
     pub call : o.call m ≡ next
 
-  -- n is m after one step: the step is counted, and what m holds and was granted stays. What of its
-  -- tickets is cloned then
+  -- n is m after one step: the step is counted, and what m holds and was granted stays; what of its
+  -- tickets is cloned then; and no number of a ticket comes back
   pub record IsStep (m n : M) (then_cloned : ℕ → Bool) : Type 0 where
     pub good : o.is_good n ≡ true
     pub counted : o.left m ≡ suc (o.left n)
     pub holding : o.holding n ≡ o.holding m
     pub tickets : (t : ℕ) → is_cloned n t ≡ then_cloned t
     pub grants : (t : ℕ) → is_cloned n t ≡ true → o.grant n t ≡ o.grant m t
+    pub once : (t : ℕ) → o.may_clone n t ≡ true → o.may_clone m t ≡ true
 
   -- n is a child of ticket t of m: it has counted the step of the clone, holds its share, and has
   -- cloned nothing
@@ -72,7 +75,8 @@ module _ {M E : Type 0} (o : Operations M E) where
   pub record IsMachine : Type 0 where
     pub below_limit : (m : M) → o.is_good m ≡ true → o.ending m ≡ None → 0 < o.left m
     pub advance : (m : M) → Makes m None → IsStep m (o.advance m) (is_cloned m)
-    pub clone_is_new : (m : M) (t : ℕ) → Makes m (Some (clone t)) → is_cloned m t ≡ false
+    pub cloned_once : (m : M) (t : ℕ) → o.is_good m ≡ true → is_cloned m t ≡ true → o.may_clone m t ≡ false
+    pub clone_may : (m : M) (t : ℕ) → Makes m (Some (clone t)) → o.may_clone m t ≡ true
     pub forked : (m : M) (t : ℕ) → Makes m (Some (clone t)) → IsStep m (o.forked m) (λ u. (t == u) || is_cloned m u)
     pub child : (m : M) (t k : ℕ) → Makes m (Some (clone t)) → 1 ≤ k → k ≤ (o.grant m t).children → IsChild m t (o.child m k)
     pub join_is_cloned : (m : M) (t : ℕ) → Makes m (Some (join t)) → is_cloned m t ≡ true

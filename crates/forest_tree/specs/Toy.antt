@@ -1,6 +1,6 @@
 -- A small machine with one ticket at a time, which carries out a list of orders. It keeps all the rules of
 -- a machine in a forest.
-use Rattle.std.specs.Prelude.{ℕ, suc, pred, ◌+◌, ◌-◌, ◌*◌, ◌==◌, ◌||◌, Bool, true, false, nat_lt, nat_le, if◌then◌else◌, List, [], ◌∷◌, ◌++◌, map, Option, Some, None, is_some}
+use Rattle.std.specs.Prelude.{ℕ, suc, pred, ◌+◌, ◌-◌, ◌*◌, ◌==◌, ◌&&◌, ◌||◌, Bool, true, false, nat_lt, nat_le, if◌then◌else◌, List, [], ◌∷◌, ◌++◌, map, Option, Some, None, is_some}
 use Rattle.forest_tree.specs.Operations.{Call, clone, join, kill, Grant, Operations}
 use Rattle.forest_tree.specs.Tree.{Log, no_entry, joined, killed}
 use Rattle.forest_tree.specs.Settle.{endings}
@@ -52,6 +52,17 @@ abbrev pub cloned_numbers : Ticket → List ℕ
 cloned_numbers no_ticket = []
 cloned_numbers (granted t g) = []
 cloned_numbers (cloned t g) = t ∷ []
+
+-- a ticket that is not cloned yet has this number
+abbrev pub is_uncloned : Ticket → ℕ → Bool
+is_uncloned no_ticket t = false
+is_uncloned (granted u g) t = u == t
+is_uncloned (cloned u g) t = false
+
+abbrev pub is_numbered_below : Ticket → ℕ → Bool
+is_numbered_below no_ticket next = true
+is_numbered_below (granted t g) next = nat_lt t next
+is_numbered_below (cloned t g) next = nat_lt t next
 
 abbrev pub order_of : List Order → Order
 order_of [] = pause
@@ -113,7 +124,8 @@ toy = record {
   holding = λ m. m.allot + ticket_cost m.ticket;
   cloned = λ m. cloned_numbers m.ticket;
   grant = λ m t. ticket_grant m.ticket;
-  is_good = λ m. is_some m.ending || nat_lt 0 m.left;
+  may_clone = λ m t. nat_le m.next_ticket t || is_uncloned m.ticket t;
+  is_good = λ m. is_numbered_below m.ticket m.next_ticket && (is_some m.ending || nat_lt 0 m.left);
   advance = λ m. counted (obeyed (order_of m.orders) m.ticket m);
   forked = toy_forked;
   child = toy_child;
