@@ -10,3 +10,4 @@ pub mod Rests
 pub mod Calls
 pub mod Schedules
 pub mod SmallMachine
+pub mod Names

@@ -2,7 +2,7 @@
 use Rattle.std.proofs.Common.{◌≡◌, ◌≢◌, ℕ, zero, suc, ◌+◌, ◌&&◌, eqb, eqb-true, Bool, true, false, cond, refl, sym, ap, ap₂, ◌∙◌, subst, arith, inl, inr, [], ◌∷◌, ◌++◌, Option, Some, None, option_and_then, option_map}
 use Rattle.std.proofs.lemmas.Bool.{eqb-false}
 use Rattle.forest_tree.specs.Operations.{Call, clone, join, kill, Grant, Operations, is_cloned, Makes, IsMachine}
-use Rattle.forest_tree.specs.Tree.{Tree, node, Trees, no_tree, tree, Broods, no_brood, brood, Log, joined, killed, machine, broods_of, at_child, child_at, brood_of, without, at_brood, broods_with, Path, subtree, beyond, goes_on, is_below}
+use Rattle.forest_tree.specs.Tree.{Tree, node, Trees, no_tree, tree, Broods, no_brood, brood, Log, joined, killed, machine, broods_of, at_child, child_at, brood_of, without, at_brood, broods_with, Branch, Path, subtree, beyond, goes_on, is_below}
 use Rattle.forest_tree.specs.Settle.{have_ended, endings, children, settled_by, settled, join_by, step_by, step, settle, settle_beyond}
 use Rattle.forest_tree.specs.Sound.{IsSound, AreSound, Hold}
 use Rattle.forest_tree.proofs.Broods.{one_if}
@@ -115,21 +115,23 @@ module _ {M : Type 0} where
       brood_of-none-head t u trees (brood_of t rest) (eqb u t) (broods_with t rest) none (brood_of-none t rest)
 
   -- a brood after a step: it stays, or goes, or is new
-  pub data Kept (before after : Trees M) : Type 0 where
-    stays : after ≡ before → Kept before after
-    goes : after ≡ no_tree → Kept before after
-    is_new : before ≡ no_tree → Kept before after
+  pub data Kept (may : Bool) (before after : Trees M) : Type 0 where
+    stays : after ≡ before → Kept may before after
+    goes : after ≡ no_tree → Kept may before after
+    is_new : may ≡ true → before ≡ no_tree → Kept may before after
 
-  kept-cond : (same : Bool) (trees : Trees M) → Kept trees (cond same no_tree trees)
-  kept-cond true trees = goes refl
-  kept-cond false trees = stays refl
+  kept-cond : (may same : Bool) (trees : Trees M) → Kept may trees (cond same no_tree trees)
+  kept-cond may true trees = goes refl
+  kept-cond may false trees = stays refl
 
-  kept-without : (t u : ℕ) (broods : Broods M) → Kept (brood_of u broods) (brood_of u (without t broods))
-  kept-without t u broods = subst (Kept (brood_of u broods)) (sym (brood_of-without t u broods)) (kept-cond (eqb t u) (brood_of u broods))
+  kept-without : (may : Bool) (t u : ℕ) (broods : Broods M) → Kept may (brood_of u broods) (brood_of u (without t broods))
+  kept-without may t u broods =
+      subst (Kept may (brood_of u broods)) (sym (brood_of-without t u broods)) (kept-cond may (eqb t u) (brood_of u broods))
 
-  kept-brood : (t u : ℕ) (trees before : Trees M) (same : Bool) → (same ≡ true → before ≡ no_tree) → Kept before (cond same trees before)
-  kept-brood t u trees before true fresh = is_new (fresh refl)
-  kept-brood t u trees before false fresh = stays refl
+  kept-brood : (may : Bool) (trees before : Trees M) (same : Bool) → (same ≡ true → may ≡ true) → (same ≡ true → before ≡ no_tree)
+      → Kept may before (cond same trees before)
+  kept-brood may trees before true number fresh = is_new (number refl) (fresh refl)
+  kept-brood may trees before false number fresh = stays refl
 
   -- a path in two parts
   pub subtree-parts : (way path : Path) (t : Tree M) → subtree (way ++ path) t ≡ option_and_then (subtree path) (subtree way t)
@@ -143,24 +145,24 @@ module _ {M : Type 0} where
       parts (Some u) h = h u
 
 module _ {M E : Type 0} (o : Operations M E) where
-  kept-settled_by : (e : Option E) (m : M) (before broods : Broods M) (log : Log M) (u : ℕ)
-      → Kept (brood_of u before) (brood_of u broods)
-      → Kept (brood_of u before) (brood_of u (broods_of (settled_by o e m broods log)))
+  kept-settled_by : (may : Bool) (e : Option E) (m : M) (before broods : Broods M) (log : Log M) (u : ℕ)
+      → Kept may (brood_of u before) (brood_of u broods)
+      → Kept may (brood_of u before) (brood_of u (broods_of (settled_by o e m broods log)))
   unfolding brood_of
-  kept-settled_by None m before broods log u h = h
-  kept-settled_by (Some ending) m before broods log u h = goes refl
+  kept-settled_by may None m before broods log u h = h
+  kept-settled_by may (Some ending) m before broods log u h = goes refl
 
-  kept-settled : (m : M) (before broods : Broods M) (log : Log M) (u : ℕ)
-      → Kept (brood_of u before) (brood_of u broods)
-      → Kept (brood_of u before) (brood_of u (broods_of (settled o m broods log)))
-  kept-settled m before broods log u h = kept-settled_by (o.ending m) m before broods log u h
+  kept-settled : (may : Bool) (m : M) (before broods : Broods M) (log : Log M) (u : ℕ)
+      → Kept may (brood_of u before) (brood_of u broods)
+      → Kept may (brood_of u before) (brood_of u (broods_of (settled o m broods log)))
+  kept-settled may m before broods log u h = kept-settled_by may (o.ending m) m before broods log u h
 
-  kept-join : (ready : Bool) (t : ℕ) (m : M) (broods : Broods M) (log : Log M) (u : ℕ)
-      → Kept (brood_of u broods) (brood_of u (broods_of (join_by o ready t m broods log)))
-  kept-join false t m broods log u = stays refl
-  kept-join true t m broods log u =
-      kept-settled (o.after_join m (endings o (brood_of t broods))) broods (without t broods) (joined log t (brood_of t broods)) u
-      (kept-without t u broods)
+  kept-join : (may ready : Bool) (t : ℕ) (m : M) (broods : Broods M) (log : Log M) (u : ℕ)
+      → Kept may (brood_of u broods) (brood_of u (broods_of (join_by o ready t m broods log)))
+  kept-join may false t m broods log u = stays refl
+  kept-join may true t m broods log u =
+      kept-settled may (o.after_join m (endings o (brood_of t broods))) broods (without t broods) (joined log t (brood_of t broods)) u
+      (kept-without may t u broods)
 
   module _ (rules : IsMachine o) where
     new-brood : (m : M) (t : ℕ) (broods : Broods M) (log : Log M) → Makes o m (Some (clone t)) → IsSound o (node m broods log)
@@ -171,22 +173,23 @@ module _ {M E : Type 0} (o : Operations M E) where
         brood_of-none u broods (counts ∙ ap one_if fresh)
 
     kept-step_by : (next : Option Call) (m : M) (broods : Broods M) (log : Log M) → Makes o m next → IsSound o (node m broods log) → (u : ℕ)
-        → Kept (brood_of u broods) (brood_of u (broods_of (step_by o next m broods log)))
+        → Kept (o.may_clone m u) (brood_of u broods) (brood_of u (broods_of (step_by o next m broods log)))
     unfolding brood_of
-    kept-step_by None m broods log makes h u = kept-settled (o.advance m) broods broods log u (stays refl)
+    kept-step_by None m broods log makes h u = kept-settled (o.may_clone m u) (o.advance m) broods broods log u (stays refl)
     kept-step_by (Some (clone t)) m broods log makes h u =
-        kept-settled (o.forked m) broods (brood t (children o m t) broods) log u
-        (kept-brood t u (children o m t) (brood_of u broods) (eqb t u) (new-brood m t broods log makes h u))
-    kept-step_by (Some (join t)) m broods log makes h u = kept-join (have_ended o (brood_of t broods)) t m broods log u
+        kept-settled (o.may_clone m u) (o.forked m) broods (brood t (children o m t) broods) log u
+        (kept-brood (o.may_clone m u) (children o m t) (brood_of u broods) (eqb t u)
+        (λ same. ap (o.may_clone m) (sym (eqb-true t u same)) ∙ rules.clone_may m t makes) (new-brood m t broods log makes h u))
+    kept-step_by (Some (join t)) m broods log makes h u = kept-join (o.may_clone m u) (have_ended o (brood_of t broods)) t m broods log u
     kept-step_by (Some (kill t)) m broods log makes h u =
-        kept-settled (o.after_kill m) broods (without t broods) (killed log t (o.grant m t).children) u (kept-without t u broods)
+        kept-settled (o.may_clone m u) (o.after_kill m) broods (without t broods) (killed log t (o.grant m t).children) u (kept-without (o.may_clone m u) t u broods)
 
-    kept-step : (m : M) (broods : Broods M) (log : Log M) → IsSound o (node m broods log) → (u : ℕ)
-        → Kept (brood_of u broods) (brood_of u (broods_of (step o (node m broods log))))
+    pub kept-step : (m : M) (broods : Broods M) (log : Log M) → IsSound o (node m broods log) → (u : ℕ)
+        → Kept (o.may_clone m u) (brood_of u broods) (brood_of u (broods_of (step o (node m broods log))))
     kept-step m broods log h u = elim (cases-ending (o.ending m)) [
-      | inl ended ↦ subst (λ t. Kept (brood_of u broods) (brood_of u (broods_of t))) (sym (step-ended o m broods log ended.0 ended.1)) (stays refl)
+      | inl ended ↦ subst (λ t. Kept (o.may_clone m u) (brood_of u broods) (brood_of u (broods_of t))) (sym (step-ended o m broods log ended.0 ended.1)) (stays refl)
       | inr lives ↦
-          subst (λ t. Kept (brood_of u broods) (brood_of u (broods_of t))) (sym (step-lives o m broods log (o.call m) lives refl))
+          subst (λ t. Kept (o.may_clone m u) (brood_of u broods) (brood_of u (broods_of t))) (sym (step-lives o m broods log (o.call m) lives refl))
           (kept-step_by (o.call m) m broods log (record { good = (root-sound o m broods log h).good; lives = lives; call = refl }) h u)
     ]
 
@@ -194,13 +197,13 @@ module _ {M E : Type 0} (o : Operations M E) where
     abbrev within : Path → ℕ → Trees M → Option (Tree M)
     within way k trees = option_and_then (subtree way) (child_at k trees)
 
-    kept-within : (way : Path) (k : ℕ) (before after : Trees M) (a b : Tree M) → Kept before after
+    kept-within : (way : Path) (k : ℕ) (may : Bool) (before after : Trees M) (a b : Tree M) → Kept may before after
         → within way k before ≡ Some a → within way k after ≡ Some b → b ≡ a
     unfolding child_at
-    kept-within way k before after a b (stays e) f g = some-same b a (sym g ∙ ap (within way k) e ∙ f)
-    kept-within way k before after a b (goes e) f g =
+    kept-within way k may before after a b (stays e) f g = some-same b a (sym g ∙ ap (within way k) e ∙ f)
+    kept-within way k may before after a b (goes e) f g =
         let none : None ≡ Some b = sym (ap (within way k) e) ∙ g in cc
-    kept-within way k before after a b (is_new e) f g =
+    kept-within way k may before after a b (is_new _ e) f g =
         let none : None ≡ Some a = sym (ap (within way k) e) ∙ f in cc
 
     -- nothing is changed where there is no step beyond
@@ -245,6 +248,21 @@ module _ {M E : Type 0} (o : Operations M E) where
     is-within way None a e = absurd (cc)
     is-within way (Some t) a e = (t, refl, e)
 
+    -- the child at a place, where one at another is changed
+    moved-by : (f : Tree M → Tree M) (k j : ℕ) (trees : Trees M) (ticket child : Bool) → eqb k j ≡ child
+        → child_at j (cond ticket (at_child f k trees) trees) ≡ cond (ticket && child) (option_map f (child_at j trees)) (child_at j trees)
+    moved-by f k j trees false child e = refl
+    moved-by f k j trees true false e = child_at-other f k j trees (eqb-false k j e)
+    moved-by f k j trees true true e = ap (λ i. child_at j (at_child f i trees)) (eqb-true k j e) ∙ child_at-same f j trees
+
+    pub child-moved : (f : Tree M → Tree M) (b y : Branch) (broods : Broods M)
+        → child_at b.child (brood_of b.ticket (at_brood (at_child f y.child) y.ticket broods))
+            ≡ cond (eqb y.ticket b.ticket && eqb y.child b.child) (option_map f (child_at b.child (brood_of b.ticket broods)))
+                (child_at b.child (brood_of b.ticket broods))
+    child-moved f b y broods =
+        ap (child_at b.child) (brood_of-at (at_child f y.child) (at_child-none f y.child) y.ticket b.ticket broods)
+        ∙ moved-by f y.child b.child (brood_of b.ticket broods) (eqb y.ticket b.ticket) (eqb y.child b.child) refl
+
     -- a step beyond, by whether the ticket and the child are the same
     beyond-by : (way p : Path) (f : Tree M → Tree M) (k j : ℕ) (trees : Trees M) (ticket child : Bool) → eqb k j ≡ child
         → ((c a b : Tree M) → child_at j trees ≡ Some c → subtree way c ≡ Some a → subtree way (f c) ≡ Some b
@@ -265,7 +283,7 @@ module _ {M E : Type 0} (o : Operations M E) where
     unfolding settle subtree beyond
     settle-at [] path t h a b here there = some-same b (settle o path t) (sym there) ∙ ap (settle o path) (some-same t a here)
     settle-at (x ∷ way) [] (node m broods log) h a b here there =
-        kept-within way x.child (brood_of x.ticket broods) (brood_of x.ticket (broods_of (step o (node m broods log)))) a b
+        kept-within way x.child (o.may_clone m x.ticket) (brood_of x.ticket broods) (brood_of x.ticket (broods_of (step o (node m broods log)))) a b
         (kept-step m broods log h x.ticket) here there
     settle-at (x ∷ way) (y ∷ p) (node m broods log) h a b here there =
         let f : Tree M → Tree M = settle o p in

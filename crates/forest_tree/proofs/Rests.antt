@@ -19,7 +19,7 @@ neither true b h = refl
 neither false true h = refl
 neither false false h = absurd (h refl refl)
 
-lives-none : {A : Type 0} (e : Option A) → is_some e ≡ false → e ≡ None
+pub lives-none : {A : Type 0} (e : Option A) → is_some e ≡ false → e ≡ None
 lives-none None h = refl
 lives-none (Some a) h = absurd (cc)
 

@@ -1,5 +1,5 @@
 -- One step of one machine of a tree.
-use Rattle.std.specs.Prelude.{ℕ, zero, suc, Bool, true, false, not, ◌&&◌, ◌||◌, List, [], ◌∷◌, Option, Some, None, is_some}
+use Rattle.std.specs.Prelude.{ℕ, zero, suc, ◌+◌, Bool, true, false, not, ◌&&◌, ◌||◌, if◌then◌else◌, List, [], ◌∷◌, Option, Some, None, is_some}
 use Rattle.forest_tree.specs.Operations.{Call, clone, join, kill, Operations}
 use Rattle.forest_tree.specs.Tree.{Tree, node, Trees, no_tree, tree, Broods, no_brood, brood, Log, no_entry, joined, killed, machine, at_child, brood_of, without, at_brood, Path}
 
@@ -96,3 +96,12 @@ module _ {M E : Type 0} (o : Operations M E) where
   abbrev pub rests : Option (Tree M) → Bool
   rests None = true
   rests (Some t) = has_ended t || waits t
+
+  -- how many of these steps the machine at the root makes itself
+  abbrev pub is_own : Path → Tree M → Bool
+  is_own [] t = not (rests (Some t))
+  is_own (b ∷ path) t = false
+
+  unfoldable pub own_steps : List Path → Tree M → ℕ
+  own_steps [] t = 0
+  own_steps (path ∷ rest) t = (if is_own path t then 1 else 0) + own_steps rest (settle path t)

@@ -106,3 +106,12 @@ goes_on (Some (b ∷ rest)) = true
 
 abbrev pub is_below : Path → Path → Bool
 is_below way path = goes_on (beyond way path)
+
+-- what is left of those paths that go a way, in order
+abbrev pub with_path : Option Path → List Path → List Path
+with_path None rest = rest
+with_path (Some path) rest = path ∷ rest
+
+unfoldable pub beyond_all : Path → List Path → List Path
+beyond_all way [] = []
+beyond_all way (path ∷ rest) = with_path (beyond way path) (beyond_all way rest)

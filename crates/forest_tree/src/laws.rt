@@ -1,10 +1,10 @@
 //! Laws of the definitions, each the contract of a function that does nothing. They hold for all
 //! machines that keep the rules.
 
-ghost use Rattle.std.specs.Prelude.{◌≡◌, ◌↔◌, ◌≤◌, ℕ, suc, true, false, List, [], ◌++◌, length, slice_get, Option, Some, None, IsSome, option_and_then, option_map};
+ghost use Rattle.std.specs.Prelude.{◌≡◌, ◌↔◌, ◌+◌, ◌≤◌, ℕ, suc, true, false, List, [], ◌++◌, length, slice_get, Option, Some, None, IsSome, option_and_then, option_map};
 ghost use Rattle.forest_tree.specs.Operations.{clone, join, kill, Operations, IsMachine};
-ghost use Rattle.forest_tree.specs.Tree.{Tree, node, Trees, Broods, brood, Log, joined, killed, machine, size, child_at, brood_of, without, Path, subtree, beyond, is_below};
-ghost use Rattle.forest_tree.specs.Settle.{have_ended, endings, alone, children, settled, waits, step, settle, settle_all, settle_beyond, rests};
+ghost use Rattle.forest_tree.specs.Tree.{Tree, node, Trees, Broods, brood, Log, joined, killed, machine, size, child_at, brood_of, without, Path, subtree, beyond, beyond_all, is_below};
+ghost use Rattle.forest_tree.specs.Settle.{have_ended, endings, alone, children, settled, waits, step, settle, settle_all, settle_beyond, rests, own_steps};
 ghost use Rattle.forest_tree.specs.Sound.{IsSound};
 ghost use Rattle.forest_tree.specs.Finish.{finish, IsFinish};
 
@@ -36,6 +36,18 @@ pub fn settle_changes_one<M, E>()
         → subtree at (settle o path t) ≡ option_map (settle_beyond o (beyond at path)) (subtree at t) }
     ensures stays { (o : Operations M E) → IsMachine o → (at path : Path) (t : Tree M) → IsSound o t
         → (a b : Tree M) → subtree at t ≡ Some a → subtree at (settle o path t) ≡ Some b → b ≡ settle_beyond o (beyond at path) a }
+{}
+
+/// A place that a tree has left stays empty. What becomes of a tree that is still there is what the steps
+/// at its place and below make of that tree alone, in their order, and as many of them are its machine's
+/// own as that has counted.
+pub fn steps_below_alone<M, E>()
+    ensures stays_empty { (o : Operations M E) → IsMachine o → (at : Path) (paths more : List Path) (t a : Tree M) → IsSound o t
+        → subtree at t ≡ Some a → subtree at (settle_all o paths t) ≡ None → subtree at (settle_all o more (settle_all o paths t)) ≡ None }
+    ensures alone { (o : Operations M E) → IsMachine o → (at : Path) (paths : List Path) (t a b : Tree M) → IsSound o t
+        → subtree at t ≡ Some a → subtree at (settle_all o paths t) ≡ Some b → b ≡ settle_all o (beyond_all at paths) a }
+    ensures counted { (o : Operations M E) → IsMachine o → (paths : List Path) (t : Tree M) → IsSound o t
+        → o.left (machine t) ≡ own_steps o paths t + o.left (machine (settle_all o paths t)) }
 {}
 
 /// A step at a path changes nothing exactly where no machine is there that lives and does not wait.
