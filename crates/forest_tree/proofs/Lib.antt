@@ -11,3 +11,4 @@ pub mod Calls
 pub mod Schedules
 pub mod SmallMachine
 pub mod Names
+pub mod Projected

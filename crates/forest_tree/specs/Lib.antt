@@ -3,4 +3,5 @@ pub mod Tree
 pub mod Settle
 pub mod Sound
 pub mod Finish
+pub mod Projection
 pub mod Toy
