@@ -211,3 +211,64 @@ module _ {M N E : Type 0} (o : Operations M E) (p : Operations N E) (f : M → N
     finish_broods-map : (broods : Broods M) → finish_broods p (map_broods f broods) ≡ map_broods f (finish_broods o broods)
     finish_broods-map no_brood = refl
     finish_broods-map (brood t trees rest) = ap₂ (brood t) (finish_trees-map trees) (finish_broods-map rest)
+
+  -- what the machine with less keeps, the one with more does
+  makes-map : (m : M) (next : Option Call) → Makes o m next → Makes p (f m) next
+  makes-map m next makes = record {
+    good = is.is_good m ∙ makes.good;
+    lives = is.ending m ∙ makes.lives;
+    call = is.call m ∙ makes.call;
+  }
+
+  cloned-map : (m : M) (t : ℕ) → is_cloned p (f m) t ≡ is_cloned o m t
+  cloned-map m t = ap (is_among t) (is.cloned m)
+
+  step-back : (m n : M) (k : N) (there here : ℕ → Bool) → k ≡ f n → ((t : ℕ) → there t ≡ here t) → IsStep p (f m) k there → IsStep o m n here
+  step-back m n k there here e same s =
+      let r : IsStep p (f m) (f n) there = subst (λ j. IsStep p (f m) j there) e s in
+      record {
+        good = sym (is.is_good n) ∙ r.good;
+        counted = sym (is.left m) ∙ r.counted ∙ ap suc (is.left n);
+        holding = sym (is.holding n) ∙ r.holding ∙ is.holding m;
+        tickets = λ t. sym (cloned-map n t) ∙ r.tickets t ∙ same t;
+        grants = λ t cloned. sym (is.grant n t) ∙ r.grants t (cloned-map n t ∙ cloned) ∙ is.grant m t;
+        once = λ t may. sym (is.may_clone m t) ∙ r.once t (is.may_clone n t ∙ may);
+      }
+
+  child-back : (m n : M) (k : N) (t : ℕ) → k ≡ f n → IsChild p (f m) t k → IsChild o m t n
+  child-back m n k t e c =
+      let r : IsChild p (f m) t (f n) = subst (λ j. IsChild p (f m) t j) e c in
+      record {
+        good = sym (is.is_good n) ∙ r.good;
+        counted = sym (is.left m) ∙ r.counted ∙ ap suc (is.left n);
+        holding = sym (is.holding n) ∙ r.holding ∙ ap (λ (g : Grant). g.share) (is.grant m t);
+        tickets = λ u. sym (cloned-map n u) ∙ r.tickets u;
+      }
+
+  pub IsMachine-projected : IsMachine p → IsMachine o
+  IsMachine-projected rules = record {
+    below_limit = λ m good lives. subst (λ n. 0 < n) (is.left m) (rules.below_limit (f m) (is.is_good m ∙ good) (is.ending m ∙ lives));
+    advance = λ m makes.
+        step-back m (o.advance m) (p.advance (f m)) (is_cloned p (f m)) (is_cloned o m) (is.advance m) (cloned-map m)
+            (rules.advance (f m) (makes-map m None makes));
+    cloned_once = λ m t good cloned. sym (is.may_clone m t) ∙ rules.cloned_once (f m) t (is.is_good m ∙ good) (cloned-map m t ∙ cloned);
+    clone_may = λ m t makes. sym (is.may_clone m t) ∙ rules.clone_may (f m) t (makes-map m (Some (clone t)) makes);
+    forked = λ m t makes.
+        step-back m (o.forked m) (p.forked (f m)) (λ u. eqb t u || is_cloned p (f m) u) (λ u. eqb t u || is_cloned o m u) (is.forked m)
+            (λ u. ap (λ b. eqb t u || b) (cloned-map m u)) (rules.forked (f m) t (makes-map m (Some (clone t)) makes));
+    child = λ m t k makes first last.
+        child-back m (o.child m k) (p.child (f m) k) t (is.child m k)
+            (rules.child (f m) t k (makes-map m (Some (clone t)) makes) first (subst (λ (g : Grant). k ≤ g.children) (sym (is.grant m t)) last));
+    join_is_cloned = λ m t makes. sym (cloned-map m t) ∙ rules.join_is_cloned (f m) t (makes-map m (Some (join t)) makes);
+    after_join = λ m t values makes all.
+        step-back m (o.after_join m values) (p.after_join (f m) values)
+            (λ u. not (eqb t u) && is_cloned p (f m) u) (λ u. not (eqb t u) && is_cloned o m u) (is.after_join m values)
+            (λ u. ap (λ b. not (eqb t u) && b) (cloned-map m u))
+            (rules.after_join (f m) t values (makes-map m (Some (join t)) makes) (all ∙ ap (λ (g : Grant). g.children) (sym (is.grant m t))));
+    kill_is_cloned = λ m t makes. sym (cloned-map m t) ∙ rules.kill_is_cloned (f m) t (makes-map m (Some (kill t)) makes);
+    after_kill = λ m t makes.
+        step-back m (o.after_kill m) (p.after_kill (f m))
+            (λ u. not (eqb t u) && is_cloned p (f m) u) (λ u. not (eqb t u) && is_cloned o m u) (is.after_kill m)
+            (λ u. ap (λ b. not (eqb t u) && b) (cloned-map m u))
+            (rules.after_kill (f m) t (makes-map m (Some (kill t)) makes));
+  }

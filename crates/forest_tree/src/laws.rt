@@ -7,6 +7,7 @@ ghost use Rattle.forest_tree.specs.Tree.{Tree, node, Trees, Broods, brood, Log, 
 ghost use Rattle.forest_tree.specs.Settle.{have_ended, endings, alone, children, settled, waits, step, settle, settle_all, settle_beyond, rests, own_steps};
 ghost use Rattle.forest_tree.specs.Sound.{IsSound};
 ghost use Rattle.forest_tree.specs.Finish.{finish, IsFinish};
+ghost use Rattle.forest_tree.specs.Projection.{map_tree, Projects};
 
 /// A good machine that has cloned nothing is a sound tree alone.
 pub fn alone_is_sound<M, E>()
@@ -121,4 +122,17 @@ pub fn orders_agree<M, E>()
     ensures agree { (o : Operations M E) → IsMachine o → (one other : List Path) (t : Tree M) → IsSound o t
         → IsSome (o.ending (machine (settle_all o one t))) → IsSome (o.ending (machine (settle_all o other t)))
         → settle_all o one t ≡ settle_all o other t }
+{}
+
+/// Machines with more inside keep the rules where what is left of them, seen as machines with less, does.
+/// Steps and finishes are the same whether the tree is seen so before or after.
+pub fn projection_commutes<M, N, E>()
+    ensures keeps { (o : Operations M E) (p : Operations N E) (f : M → N) → Projects o p f → IsMachine p → IsMachine o }
+    ensures subtree { (f : M → N) (path : Path) (t : Tree M) → subtree path (map_tree f t) ≡ option_map (map_tree f) (subtree path t) }
+    ensures settle { (o : Operations M E) (p : Operations N E) (f : M → N) → Projects o p f → (path : Path) (t : Tree M)
+        → settle p path (map_tree f t) ≡ map_tree f (settle o path t) }
+    ensures settle_all { (o : Operations M E) (p : Operations N E) (f : M → N) → Projects o p f → (paths : List Path) (t : Tree M)
+        → settle_all p paths (map_tree f t) ≡ map_tree f (settle_all o paths t) }
+    ensures finish { (o : Operations M E) (p : Operations N E) (f : M → N) → Projects o p f → (t : Tree M)
+        → finish p (map_tree f t) ≡ map_tree f (finish o t) }
 {}
