@@ -4,7 +4,7 @@ use Rattle.forest_tree.specs.Operations.{clone, join, kill, Operations, IsMachin
 use Rattle.forest_tree.specs.Tree.{Tree, node, Trees, no_tree, tree, Broods, brood, Log, joined, killed, machine, size, child_at, brood_of, without}
 use Rattle.forest_tree.specs.Settle.{have_ended, with_ending, endings, alone, children_from, children, settled, waits_by, waits, join_by, step}
 use Rattle.forest_tree.specs.Sound.{IsSound}
-use Rattle.forest_tree.proofs.Settle.{both-true, root-sound, size-cloned}
+use Rattle.forest_tree.proofs.Settle.{both-true, root-sound, size-children_from, size-cloned}
 use Rattle.forest_tree.proofs.Run.{step-lives}
 use Rattle.forest_tree.proofs.Places.{some-same}
 
@@ -22,13 +22,8 @@ module _ {M E : Type 0} (o : Operations M E) where
       → step o (node m broods log) ≡ settled o (o.forked m) (brood t (children o m t) broods) log
   step-clone m broods log t lives call = step-lives o m broods log (Some (clone t)) lives call
 
-  size-from : (m : M) (n k : ℕ) → size (children_from o m k n) ≡ n
-  unfolding size children_from
-  size-from m zero k = refl
-  size-from m (suc n) k = ap suc (size-from m n (suc k))
-
   pub size-children : (m : M) (t : ℕ) → size (children o m t) ≡ (o.grant m t).children
-  size-children m t = size-from m (o.grant m t).children 1
+  size-children m t = size-children_from o m (o.grant m t).children 1
 
   child-from : (m : M) (n k i : ℕ) → i < n → child_at (suc i) (children_from o m k n) ≡ Some (alone o (o.child m (k + i)))
   unfolding child_at children_from

@@ -12,3 +12,4 @@ pub mod Schedules
 pub mod SmallMachine
 pub mod Names
 pub mod Projected
+pub mod Ahead

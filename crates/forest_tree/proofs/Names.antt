@@ -1,11 +1,11 @@
 -- A place that is gone does not come back, so what becomes of a tree is what is done in it.
-use Rattle.std.proofs.Common.{◌≡◌, ℕ, zero, suc, ◌+◌, ◌<◌, ◌≤◌, ◌&&◌, ◌||◌, not, eqb, ◌⊎◌, Bool, true, false, cond, refl, sym, ap, ◌∙◌, subst, arith, inl, inr, List, [], ◌∷◌, Option, Some, None, IsSome, is_some, option_and_then, option_map}
+use Rattle.std.proofs.Common.{◌≡◌, ℕ, suc, ◌+◌, ◌&&◌, ◌||◌, not, eqb, ◌⊎◌, Bool, true, false, cond, refl, sym, ap, ◌∙◌, subst, arith, inl, inr, List, [], ◌∷◌, Option, Some, None, IsSome, is_some, option_and_then, option_map}
 use Rattle.forest_tree.specs.Operations.{Call, clone, join, kill, Operations, is_cloned, Makes, IsStep, IsMachine}
-use Rattle.forest_tree.specs.Tree.{Tree, node, Trees, no_tree, Broods, no_brood, Log, brood, joined, killed, machine, broods_of, at_child, child_at, brood_of, without, at_brood, broods_with, Branch, Path, subtree, beyond, with_path, beyond_all}
+use Rattle.forest_tree.specs.Tree.{Tree, node, Trees, Broods, Log, brood, joined, killed, machine, broods_of, child_at, brood_of, without, broods_with, Branch, Path, subtree, beyond, with_path, beyond_all}
 use Rattle.forest_tree.specs.Settle.{have_ended, endings, children, settled, waits_by, join_by, step_by, step, settle, settle_all, settle_beyond, rests, is_own, own_steps}
 use Rattle.forest_tree.specs.Sound.{IsSound}
 use Rattle.forest_tree.proofs.Broods.{one_if}
-use Rattle.forest_tree.proofs.Settle.{root-sound, KeepsTo, machine-settled, join-step, step-keeps, settle-keeps}
+use Rattle.forest_tree.proofs.Settle.{root-sound, machine-settled, join-step, settle-keeps}
 use Rattle.forest_tree.proofs.Run.{cases-ending, step-ended, step-lives, step-counts}
 use Rattle.forest_tree.proofs.Places.{some-same, Kept, stays, goes, is_new, brood_of-none, kept-step, below-at, is-within, child-moved, settle-at}
 use Rattle.forest_tree.proofs.Rests.{lives-none, step-rests}
@@ -16,7 +16,6 @@ neither-true true b h = absurd (cc)
 neither-true false b h = (refl, h)
 
 module _ {M E : Type 0} (o : Operations M E) (rules : IsMachine o) where
-
   -- no number comes back in a step
   settled-once : (m n : M) (cloned : ℕ → Bool) (broods : Broods M) (log : Log M) → IsStep o m n cloned → (u : ℕ)
       → o.may_clone (machine (settled o n broods log)) u ≡ true → o.may_clone m u ≡ true
@@ -28,7 +27,7 @@ module _ {M E : Type 0} (o : Operations M E) (rules : IsMachine o) where
   join-once false t m broods log e makes h u may = may
   join-once true t m broods log e makes h u may =
       settled-once m (o.after_join m (endings o (brood_of t broods))) (λ k. not (eqb t k) && is_cloned o m k)
-          (without t broods) (joined log t (brood_of t broods)) (join-step o rules t m broods log e makes h) u may
+      (without t broods) (joined log t (brood_of t broods)) (join-step o rules t m broods log e makes h) u may
 
   step_by-once : (next : Option Call) (m : M) (broods : Broods M) (log : Log M) → Makes o m next → IsSound o (node m broods log) → (u : ℕ)
       → o.may_clone (machine (step_by o next m broods log)) u ≡ true → o.may_clone m u ≡ true
@@ -56,7 +55,7 @@ module _ {M E : Type 0} (o : Operations M E) (rules : IsMachine o) where
     | inr lives ↦
         let makes : Makes o m (o.call m) = record { good = (root-sound o m broods log h).good; lives = lives; call = refl } in
         subst (λ t. IsPast (machine t) u) (sym (step-lives o m broods log (o.call m) lives refl))
-            (live past lives (step_by-once (o.call m) m broods log makes h u))
+        (live past lives (step_by-once (o.call m) m broods log makes h u))
   ]
     where
       live : {n : M} → IsPast m u → o.ending m ≡ None → (o.may_clone n u ≡ true → o.may_clone m u ≡ true) → IsPast n u
@@ -128,8 +127,8 @@ module _ {M E : Type 0} (o : Operations M E) (rules : IsMachine o) where
     | inr lives ↦
         let past : IsPast m b.ticket = past-in (IsGone way) m broods log b.ticket b.child h gone in
         gone-above (IsGone way) m (machine (step o (node m broods log))) b.ticket b.child (brood_of b.ticket broods)
-            (brood_of b.ticket (broods_of (step o (node m broods log))))
-            (kept-step o rules m broods log h b.ticket) (never-alive m b.ticket past lives) gone (step-past m broods log b.ticket h past)
+        (brood_of b.ticket (broods_of (step o (node m broods log))))
+        (kept-step o rules m broods log h b.ticket) (never-alive m b.ticket past lives) gone (step-past m broods log b.ticket h past)
   ]
 
   -- after a step below
@@ -147,9 +146,9 @@ module _ {M E : Type 0} (o : Operations M E) (rules : IsMachine o) where
   gone-settle (b ∷ way) [] (node m broods log) h gone = gone-root b way m broods log h gone
   gone-settle (b ∷ way) (y ∷ path) (node m broods log) h gone =
       subst (λ c. GoneIn (IsGone way) c m b.ticket) (sym (child-moved o rules (settle o path) b y broods))
-          (gone-below (IsGone way) (settle o path) m b.ticket (eqb y.ticket b.ticket && eqb y.child b.child)
-              (child_at b.child (brood_of b.ticket broods)) gone
-              (λ u found inside. gone-settle way path u (below-at o rules m broods log b.ticket b.child u h found) inside))
+      (gone-below (IsGone way) (settle o path) m b.ticket (eqb y.ticket b.ticket && eqb y.child b.child)
+      (child_at b.child (brood_of b.ticket broods)) gone
+      (λ u found inside. gone-settle way path u (below-at o rules m broods log b.ticket b.child u h found) inside))
 
   -- what was there and is not after a step is gone
   lost-root : (gone : Tree M → Type 0) (b : Branch) (way : Path) (m n : M) (before after : Trees M) (a : Tree M)
@@ -175,8 +174,8 @@ module _ {M E : Type 0} (o : Operations M E) (rules : IsMachine o) where
         let is = is-within o rules way (child_at b.child (brood_of b.ticket broods)) a here in
         let past : IsPast m b.ticket = cloned-past m broods log b.ticket b.child is.0 h is.1 in
         lost-root (IsGone way) b way m (machine (step o (node m broods log))) (brood_of b.ticket broods)
-            (brood_of b.ticket (broods_of (step o (node m broods log)))) a
-            (kept-step o rules m broods log h b.ticket) (never-alive m b.ticket past lives) (step-past m broods log b.ticket h past) here there
+        (brood_of b.ticket (broods_of (step o (node m broods log)))) a
+        (kept-step o rules m broods log h b.ticket) (never-alive m b.ticket past lives) (step-past m broods log b.ticket h past) here there
   ]
 
   lost-below : (gone : Tree M → Type 0) (f : Tree M → Tree M) (way : Path) (m : M) (t : ℕ) (same : Bool) (c : Option (Tree M)) (a : Tree M)
@@ -196,9 +195,9 @@ module _ {M E : Type 0} (o : Operations M E) (rules : IsMachine o) where
   lost-gone (b ∷ way) (y ∷ path) (node m broods log) a h here there =
       let moved = child-moved o rules (settle o path) b y broods in
       subst (λ c. GoneIn (IsGone way) c m b.ticket) (sym moved)
-          (lost-below (IsGone way) (settle o path) way m b.ticket (eqb y.ticket b.ticket && eqb y.child b.child)
-              (child_at b.child (brood_of b.ticket broods)) a here (ap (option_and_then (subtree way)) (sym moved) ∙ there)
-              (λ u found inside outside. lost-gone way path u a (below-at o rules m broods log b.ticket b.child u h found) inside outside))
+      (lost-below (IsGone way) (settle o path) way m b.ticket (eqb y.ticket b.ticket && eqb y.child b.child)
+      (child_at b.child (brood_of b.ticket broods)) a here (ap (option_and_then (subtree way)) (sym moved) ∙ there)
+      (λ u found inside outside. lost-gone way path u a (below-at o rules m broods log b.ticket b.child u h found) inside outside))
 
   -- over steps in any order
   stay-gone : (at : Path) (paths : List Path) (t : Tree M) → IsSound o t → IsGone at t → IsGone at (settle_all o paths t)
@@ -228,7 +227,7 @@ module _ {M E : Type 0} (o : Operations M E) (rules : IsMachine o) where
       → subtree at (settle_all o paths t) ≡ None → subtree at (settle_all o more (settle_all o paths t)) ≡ None
   lost-stays at paths more t a h here lost =
       gone-none at (settle_all o more (settle_all o paths t))
-          (stay-gone at more (settle_all o paths t) (settle_all-keeps o rules paths t h).sound (lost-all at paths t a h here lost))
+      (stay-gone at more (settle_all o paths t) (settle_all-keeps o rules paths t h).sound (lost-all at paths t a h here lost))
 
   -- what becomes of a tree that stays is what is done in it
   beyond-first : (beyond_first : Option Path) (rest : List Path) (a : Tree M)
@@ -250,8 +249,8 @@ module _ {M E : Type 0} (o : Operations M E) (rules : IsMachine o) where
             ∙ sym (beyond-first (beyond at path) (beyond_all at rest) a)
         | inr lost ↦
             let no : None ≡ Some b =
-                sym (gone-none at (settle_all o rest (settle o path t)) (stay-gone at rest (settle o path t) sound (lost-gone at path t a h here lost)))
-                ∙ there in
+            sym (gone-none at (settle_all o rest (settle o path t)) (stay-gone at rest (settle o path t) sound (lost-gone at path t a h here lost)))
+            ∙ there in
             absurd (cc)
       ]
 
@@ -264,7 +263,7 @@ module _ {M E : Type 0} (o : Operations M E) (rules : IsMachine o) where
   own-first m broods log h false e =
       let parts = neither-true (is_some (o.ending m)) (waits_by o (o.call m) broods) e in
       let counts : o.left m ≡ suc (o.left (machine (step o (node m broods log)))) =
-          step-counts o rules m broods log h (lives-none (o.ending m) parts.0) parts.1 in
+      step-counts o rules m broods log h (lives-none (o.ending m) parts.0) parts.1 in
       omega arith
 
   own-settle : (path : Path) (t : Tree M) → IsSound o t → o.left (machine t) ≡ one_if (is_own o path t) + o.left (machine (settle o path t))
@@ -279,5 +278,5 @@ module _ {M E : Type 0} (o : Operations M E) (rules : IsMachine o) where
   left-own (path ∷ rest) t h =
       let first : o.left (machine t) ≡ one_if (is_own o path t) + o.left (machine (settle o path t)) = own-settle path t h in
       let later : o.left (machine (settle o path t)) ≡ own_steps o rest (settle o path t) + o.left (machine (settle_all o rest (settle o path t))) =
-          left-own rest (settle o path t) (settle-keeps o rules path t h).sound in
+      left-own rest (settle o path t) (settle-keeps o rules path t h).sound in
       omega arith

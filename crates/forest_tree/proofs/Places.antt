@@ -257,8 +257,8 @@ module _ {M E : Type 0} (o : Operations M E) where
 
     pub child-moved : (f : Tree M → Tree M) (b y : Branch) (broods : Broods M)
         → child_at b.child (brood_of b.ticket (at_brood (at_child f y.child) y.ticket broods))
-            ≡ cond (eqb y.ticket b.ticket && eqb y.child b.child) (option_map f (child_at b.child (brood_of b.ticket broods)))
-                (child_at b.child (brood_of b.ticket broods))
+        ≡ cond (eqb y.ticket b.ticket && eqb y.child b.child) (option_map f (child_at b.child (brood_of b.ticket broods)))
+        (child_at b.child (brood_of b.ticket broods))
     child-moved f b y broods =
         ap (child_at b.child) (brood_of-at (at_child f y.child) (at_child-none f y.child) y.ticket b.ticket broods)
         ∙ moved-by f y.child b.child (brood_of b.ticket broods) (eqb y.ticket b.ticket) (eqb y.child b.child) refl

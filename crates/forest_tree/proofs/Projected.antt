@@ -1,13 +1,12 @@
 -- A forest of machines with more inside is, seen as machines with less, a forest of these.
-use Rattle.std.proofs.Common.{◌≡◌, ℕ, zero, suc, ◌+◌, ◌<◌, ◌≤◌, ◌&&◌, ◌||◌, not, eqb, Bool, true, false, cond, refl, sym, ap, ap₂, ◌∙◌, subst, List, [], ◌∷◌, length, Option, Some, None, option_map, option_and_then, is_some}
+use Rattle.std.proofs.Common.{◌≡◌, ℕ, zero, suc, ◌+◌, ◌*◌, ◌<◌, ◌≤◌, ◌&&◌, ◌||◌, not, eqb, Bool, true, false, cond, refl, sym, ap, ap₂, ◌∙◌, subst, List, [], ◌∷◌, Option, Some, None, option_map, option_and_then, is_some}
 use Rattle.forest_tree.specs.Operations.{Call, clone, join, kill, Grant, Operations, is_among, is_cloned, Makes, IsStep, IsChild, IsMachine}
-use Rattle.forest_tree.specs.Tree.{Tree, node, Trees, no_tree, tree, Broods, no_brood, brood, Log, no_entry, joined, killed, machine, broods_of, size, each, at_child, child_at, brood_of, without, at_brood, each_brood, Branch, Path, subtree}
+use Rattle.forest_tree.specs.Tree.{Tree, node, Trees, no_tree, tree, Broods, no_brood, brood, Log, joined, killed, machine, broods_of, each, at_child, child_at, brood_of, without, at_brood, each_brood, Path, subtree}
 use Rattle.forest_tree.specs.Settle.{have_ended, with_ending, endings, alone, children_from, children, log_killed, settled_by, settled, join_by, step_by, step_from, step, settle, settle_all}
 use Rattle.forest_tree.specs.Finish.{with_broods, run, finish, finish_trees, finish_broods}
 use Rattle.forest_tree.specs.Projection.{map_tree, map_trees, map_broods, map_log, Projects}
 
 module _ {M N : Type 0} (f : M → N) where
-
   -- looks and changes go with the map
   if-trees : (same : Bool) (a b : Trees M) → map_trees f (cond same a b) ≡ cond same (map_trees f a) (map_trees f b)
   if-trees true a b = refl
@@ -51,8 +50,8 @@ module _ {M N : Type 0} (f : M → N) where
   at_brood-map g h same t no_brood = refl
   at_brood-map g h same t (brood u trees rest) =
       ap₂ (brood u)
-          (ap (λ changed. cond (eqb u t) changed (map_trees f trees)) (same trees) ∙ sym (if-trees (eqb u t) (g trees) trees))
-          (at_brood-map g h same t rest)
+      (ap (λ changed. cond (eqb u t) changed (map_trees f trees)) (same trees) ∙ sym (if-trees (eqb u t) (g trees) trees))
+      (at_brood-map g h same t rest)
 
   each-map : (g : Tree M → Tree M) (h : Tree N → Tree N) → ((t : Tree M) → h (map_tree f t) ≡ map_tree f (g t)) → (trees : Trees M)
       → each h (map_trees f trees) ≡ map_trees f (each g trees)
@@ -90,7 +89,6 @@ module _ {M N : Type 0} (f : M → N) where
       inside (Some u) down = down u
 
 module _ {M N E : Type 0} (o : Operations M E) (p : Operations N E) (f : M → N) (is : Projects o p f) where
-
   have_ended-map : (trees : Trees M) → have_ended p (map_trees f trees) ≡ have_ended o trees
   unfolding map_trees have_ended
   have_ended-map no_tree = refl
@@ -123,7 +121,7 @@ module _ {M N E : Type 0} (o : Operations M E) (p : Operations N E) (f : M → N
   settled_by-map None m broods log = refl
   settled_by-map (Some ending) m broods log =
       ap (λ log. node (f m) no_brood log)
-          (ap (λ tickets. log_killed p (f m) tickets (map_log f log)) (is.cloned m) ∙ log_killed-map m (o.cloned m) log)
+      (ap (λ tickets. log_killed p (f m) tickets (map_log f log)) (is.cloned m) ∙ log_killed-map m (o.cloned m) log)
 
   settled-map : (n : N) (m : M) (broods : Broods M) (log : Log M) → n ≡ f m
       → settled p n (map_broods f broods) (map_log f log) ≡ map_tree f (settled o m broods log)
@@ -139,9 +137,9 @@ module _ {M N E : Type 0} (o : Operations M E) (p : Operations N E) (f : M → N
   join_by-map true t m broods log =
       ap (λ trees. settled p (p.after_join (f m) (endings p trees)) (without t (map_broods f broods)) (joined (map_log f log) t trees)) (brood_of-map f t broods)
       ∙ ap₂ (λ values left. settled p (p.after_join (f m) values) left (joined (map_log f log) t (map_trees f (brood_of t broods))))
-          (endings-map (brood_of t broods)) (without-map f t broods)
+      (endings-map (brood_of t broods)) (without-map f t broods)
       ∙ settled-map (p.after_join (f m) (endings o (brood_of t broods))) (o.after_join m (endings o (brood_of t broods)))
-          (without t broods) (joined log t (brood_of t broods)) (is.after_join m (endings o (brood_of t broods)))
+      (without t broods) (joined log t (brood_of t broods)) (is.after_join m (endings o (brood_of t broods)))
 
   step_by-map : (next : Option Call) (m : M) (broods : Broods M) (log : Log M)
       → step_by p next (f m) (map_broods f broods) (map_log f log) ≡ map_tree f (step_by o next m broods log)
@@ -152,7 +150,7 @@ module _ {M N E : Type 0} (o : Operations M E) (p : Operations N E) (f : M → N
       ∙ settled-map (p.forked (f m)) (o.forked m) (brood t (children o m t) broods) log (is.forked m)
   step_by-map (Some (join t)) m broods log =
       ap (λ ready. join_by p ready t (f m) (map_broods f broods) (map_log f log))
-          (ap (have_ended p) (brood_of-map f t broods) ∙ have_ended-map (brood_of t broods))
+      (ap (have_ended p) (brood_of-map f t broods) ∙ have_ended-map (brood_of t broods))
       ∙ join_by-map (have_ended o (brood_of t broods)) t m broods log
   step_by-map (Some (kill t)) m broods log =
       ap₂ (λ left (g : Grant). settled p (p.after_kill (f m)) left (killed (map_log f log) t g.children)) (without-map f t broods) (is.grant m t)
@@ -175,8 +173,8 @@ module _ {M N E : Type 0} (o : Operations M E) (p : Operations N E) (f : M → N
   settle-map [] t = step-map t
   settle-map (b ∷ path) (node m broods log) =
       ap (λ after. node (f m) after (map_log f log))
-          (at_brood-map f (at_child (settle o path) b.child) (at_child (settle p path) b.child)
-              (at_child-map f (settle o path) (settle p path) (λ t. settle-map path t) b.child) b.ticket broods)
+      (at_brood-map f (at_child (settle o path) b.child) (at_child (settle p path) b.child)
+      (at_child-map f (settle o path) (settle p path) (λ t. settle-map path t) b.child) b.ticket broods)
 
   pub settle_all-map : (paths : List Path) (t : Tree M) → settle_all p paths (map_tree f t) ≡ map_tree f (settle_all o paths t)
   unfolding settle_all
@@ -250,25 +248,29 @@ module _ {M N E : Type 0} (o : Operations M E) (p : Operations N E) (f : M → N
     below_limit = λ m good lives. subst (λ n. 0 < n) (is.left m) (rules.below_limit (f m) (is.is_good m ∙ good) (is.ending m ∙ lives));
     advance = λ m makes.
         step-back m (o.advance m) (p.advance (f m)) (is_cloned p (f m)) (is_cloned o m) (is.advance m) (cloned-map m)
-            (rules.advance (f m) (makes-map m None makes));
+        (rules.advance (f m) (makes-map m None makes));
     cloned_once = λ m t good cloned. sym (is.may_clone m t) ∙ rules.cloned_once (f m) t (is.is_good m ∙ good) (cloned-map m t ∙ cloned);
+    clone_affords = λ m t makes.
+        subst (λ n. (o.grant m t).children * (1 + (o.grant m t).share) ≤ n) (is.holding m)
+            (subst (λ (g : Grant). g.children * (1 + g.share) ≤ p.holding (f m)) (is.grant m t)
+                (rules.clone_affords (f m) t (makes-map m (Some (clone t)) makes)));
     clone_may = λ m t makes. sym (is.may_clone m t) ∙ rules.clone_may (f m) t (makes-map m (Some (clone t)) makes);
     forked = λ m t makes.
         step-back m (o.forked m) (p.forked (f m)) (λ u. eqb t u || is_cloned p (f m) u) (λ u. eqb t u || is_cloned o m u) (is.forked m)
-            (λ u. ap (λ b. eqb t u || b) (cloned-map m u)) (rules.forked (f m) t (makes-map m (Some (clone t)) makes));
+        (λ u. ap (λ b. eqb t u || b) (cloned-map m u)) (rules.forked (f m) t (makes-map m (Some (clone t)) makes));
     child = λ m t k makes first last.
         child-back m (o.child m k) (p.child (f m) k) t (is.child m k)
-            (rules.child (f m) t k (makes-map m (Some (clone t)) makes) first (subst (λ (g : Grant). k ≤ g.children) (sym (is.grant m t)) last));
+        (rules.child (f m) t k (makes-map m (Some (clone t)) makes) first (subst (λ (g : Grant). k ≤ g.children) (sym (is.grant m t)) last));
     join_is_cloned = λ m t makes. sym (cloned-map m t) ∙ rules.join_is_cloned (f m) t (makes-map m (Some (join t)) makes);
     after_join = λ m t values makes all.
         step-back m (o.after_join m values) (p.after_join (f m) values)
-            (λ u. not (eqb t u) && is_cloned p (f m) u) (λ u. not (eqb t u) && is_cloned o m u) (is.after_join m values)
-            (λ u. ap (λ b. not (eqb t u) && b) (cloned-map m u))
-            (rules.after_join (f m) t values (makes-map m (Some (join t)) makes) (all ∙ ap (λ (g : Grant). g.children) (sym (is.grant m t))));
+        (λ u. not (eqb t u) && is_cloned p (f m) u) (λ u. not (eqb t u) && is_cloned o m u) (is.after_join m values)
+        (λ u. ap (λ b. not (eqb t u) && b) (cloned-map m u))
+        (rules.after_join (f m) t values (makes-map m (Some (join t)) makes) (all ∙ ap (λ (g : Grant). g.children) (sym (is.grant m t))));
     kill_is_cloned = λ m t makes. sym (cloned-map m t) ∙ rules.kill_is_cloned (f m) t (makes-map m (Some (kill t)) makes);
     after_kill = λ m t makes.
         step-back m (o.after_kill m) (p.after_kill (f m))
-            (λ u. not (eqb t u) && is_cloned p (f m) u) (λ u. not (eqb t u) && is_cloned o m u) (is.after_kill m)
-            (λ u. ap (λ b. not (eqb t u) && b) (cloned-map m u))
-            (rules.after_kill (f m) t (makes-map m (Some (kill t)) makes));
+        (λ u. not (eqb t u) && is_cloned p (f m) u) (λ u. not (eqb t u) && is_cloned o m u) (is.after_kill m)
+        (λ u. ap (λ b. not (eqb t u) && b) (cloned-map m u))
+        (rules.after_kill (f m) t (makes-map m (Some (kill t)) makes));
   }

@@ -118,7 +118,7 @@ module _ {M E : Type 0} (o : Operations M E) where
           omega (arith, at-most-one (is_cloned o m t))
     ]
 
-    settle-rests : (path : Path) (t : Tree M) → IsSound o t → rests o (subtree path t) ≡ true → settle o path t ≡ t
+    pub settle-rests : (path : Path) (t : Tree M) → IsSound o t → rests o (subtree path t) ≡ true → settle o path t ≡ t
     unfolding settle subtree
     settle-rests [] t h rest = step-rests t rest
     settle-rests (x ∷ path) (node m broods log) h rest =

@@ -157,6 +157,11 @@ module _ {M E : Type 0} (o : Operations M E) where
   pub start-sound : (m : M) → o.is_good m ≡ true → o.cloned m ≡ [] → IsSound o (alone o m)
   start-sound m good none = good-alone m good (none-cloned m none)
 
+  pub size-children_from : (m : M) (n k : ℕ) → size (children_from o m k n) ≡ n
+  unfolding size children_from
+  size-children_from m zero k = refl
+  size-children_from m (suc n) k = ap suc (size-children_from m n (suc k))
+
   -- the endings of trees that have ended are as many as they
   length-with_ending : (e : Option E) (rest : List E) → is_some e ≡ true → length (with_ending o e rest) ≡ suc (length rest)
   length-with_ending None rest h = cc
@@ -185,11 +190,6 @@ module _ {M E : Type 0} (o : Operations M E) where
     children_from-sound m t makes (suc n) k first last =
         let c : IsChild o m t (o.child m k) = rules.child m t k makes first (omega arith) in
         (c.holding, alone-sound m t (o.child m k) c, children_from-sound m t makes n (suc k) (omega arith) (omega arith))
-
-    size-children_from : (m : M) (n k : ℕ) → size (children_from o m k n) ≡ n
-    unfolding size children_from
-    size-children_from m zero k = refl
-    size-children_from m (suc n) k = ap suc (size-children_from m n (suc k))
 
     -- the brood of a ticket that has one is as large as was granted
     size-brood_by : (grant : ℕ → Grant) (t u : ℕ) (trees rest : Trees M) (same : Bool) → eqb u t ≡ same

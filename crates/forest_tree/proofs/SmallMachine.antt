@@ -75,14 +75,25 @@ requested-keeps false g m e none = record { left = refl; holding = refl; numbers
 requested-keeps true g m e none =
     let within : cost g ≤ m.allot = leb-true (cost g) m.allot e in
     let nothing : ticket_cost m.ticket ≡ 0 = ap ticket_cost none in
-    record { left = refl; holding = omega arith; numbers = sym (ap cloned_numbers none); grants = λ t h. absurd (cc);
+    record {
+      left = refl;
+      holding = omega arith;
+      numbers = sym (ap cloned_numbers none);
+      grants = λ t h. absurd (cc);
       below = λ h. lt-ltb m.next_ticket (suc m.next_ticket) (omega arith);
-      once = λ t h. new-number m.next_ticket t (is_uncloned m.ticket t) (leb (suc m.next_ticket) t) (eqb m.next_ticket t) refl refl h }
+      once = λ t h. new-number m.next_ticket t (is_uncloned m.ticket t) (leb (suc m.next_ticket) t) (eqb m.next_ticket t) refl refl h;
+    }
 
 given_back-keeps : (m : Toy) (t : ℕ) (g : Grant) → m.ticket ≡ granted t g → Keeps m (given_back m)
 unfolding is_among
-given_back-keeps m t g e = record { left = refl; holding = omega arith; numbers = sym (ap cloned_numbers e); grants = λ t h. absurd (cc);
-    below = λ h. refl; once = λ t h. or-left (leb m.next_ticket t) false (is_uncloned m.ticket t) refl h }
+given_back-keeps m t g e = record {
+  left = refl;
+  holding = omega arith;
+  numbers = sym (ap cloned_numbers e);
+  grants = λ t h. absurd (cc);
+  below = λ h. refl;
+  once = λ t h. or-left (leb m.next_ticket t) false (is_uncloned m.ticket t) refl h;
+}
 
 obeyed-keeps : (order : Order) (held : Ticket) (m : Toy) → m.ticket ≡ held → Keeps m (obeyed order held m)
 obeyed-keeps (request n share) no_ticket m e =
@@ -243,6 +254,10 @@ IsMachine-toy = record {
   below_limit = has-left;
   advance = advance-step;
   cloned_once = λ m t good among. once-by m.ticket m.next_ticket t (is-below m good) among;
+  clone_affords = λ m t makes.
+      let is = clone-stands m t makes in
+      let same : cost (ticket_grant m.ticket) ≡ ticket_cost m.ticket = ap (λ k. cost (ticket_grant k)) is.1 ∙ sym (ap ticket_cost is.1) in
+      omega arith;
   clone_may = λ m t makes.
       let is = clone-stands m t makes in
       or-right (leb m.next_ticket t) (is_uncloned m.ticket t) (ap (λ k. is_uncloned k t) is.1 ∙ eqb-same t);

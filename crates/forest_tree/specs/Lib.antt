@@ -3,5 +3,6 @@ pub mod Tree
 pub mod Settle
 pub mod Sound
 pub mod Finish
+pub mod Ahead
 pub mod Projection
 pub mod Toy

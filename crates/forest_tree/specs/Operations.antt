@@ -1,6 +1,6 @@
 -- What a forest uses of a machine, and what it rests on. The definitions and laws of the forest stand
 -- over every machine that meets `IsMachine`, whatever is inside it.
-use Rattle.std.specs.Prelude.{◌≡◌, ℕ, suc, ◌<◌, ◌≤◌, ◌==◌, ◌&&◌, ◌||◌, not, Bool, true, false, List, [], ◌∷◌, length, Option, Some, None}
+use Rattle.std.specs.Prelude.{◌≡◌, ℕ, suc, ◌+◌, ◌*◌, ◌<◌, ◌≤◌, ◌==◌, ◌&&◌, ◌||◌, not, Bool, true, false, List, [], ◌∷◌, length, Option, Some, None}
 
 -- a step that is not the machine's own alone: it names a ticket
 pub data Call : Type 0 where
@@ -76,6 +76,7 @@ module _ {M E : Type 0} (o : Operations M E) where
     pub below_limit : (m : M) → o.is_good m ≡ true → o.ending m ≡ None → 0 < o.left m
     pub advance : (m : M) → Makes m None → IsStep m (o.advance m) (is_cloned m)
     pub cloned_once : (m : M) (t : ℕ) → o.is_good m ≡ true → is_cloned m t ≡ true → o.may_clone m t ≡ false
+    pub clone_affords : (m : M) (t : ℕ) → Makes m (Some (clone t)) → (o.grant m t).children * (1 + (o.grant m t).share) ≤ o.holding m
     pub clone_may : (m : M) (t : ℕ) → Makes m (Some (clone t)) → o.may_clone m t ≡ true
     pub forked : (m : M) (t : ℕ) → Makes m (Some (clone t)) → IsStep m (o.forked m) (λ u. (t == u) || is_cloned m u)
     pub child : (m : M) (t k : ℕ) → Makes m (Some (clone t)) → 1 ≤ k → k ≤ (o.grant m t).children → IsChild m t (o.child m k)

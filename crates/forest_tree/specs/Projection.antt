@@ -4,7 +4,6 @@ use Rattle.forest_tree.specs.Operations.{Operations}
 use Rattle.forest_tree.specs.Tree.{Tree, node, Trees, no_tree, tree, Broods, no_brood, brood, Log, no_entry, joined, killed}
 
 module _ {M N : Type 0} (f : M → N) where
-
   -- the tree with f of each machine in it and in its log
   unfoldable mutual
     pub map_tree : Tree M → Tree N

@@ -1,12 +1,13 @@
 //! Laws of the definitions, each the contract of a function that does nothing. They hold for all
 //! machines that keep the rules.
 
-ghost use Rattle.std.specs.Prelude.{◌≡◌, ◌↔◌, ◌+◌, ◌≤◌, ℕ, suc, true, false, List, [], ◌++◌, length, slice_get, Option, Some, None, IsSome, option_and_then, option_map};
+ghost use Rattle.std.specs.Prelude.{◌≡◌, ◌↔◌, ◌+◌, ◌<◌, ◌≤◌, ℕ, suc, true, false, List, [], ◌++◌, length, slice_get, Option, Some, None, IsSome, option_and_then, option_map};
 ghost use Rattle.forest_tree.specs.Operations.{clone, join, kill, Operations, IsMachine};
 ghost use Rattle.forest_tree.specs.Tree.{Tree, node, Trees, Broods, brood, Log, joined, killed, machine, size, child_at, brood_of, without, Path, subtree, beyond, beyond_all, is_below};
 ghost use Rattle.forest_tree.specs.Settle.{have_ended, endings, alone, children, settled, waits, step, settle, settle_all, settle_beyond, rests, own_steps};
 ghost use Rattle.forest_tree.specs.Sound.{IsSound};
 ghost use Rattle.forest_tree.specs.Finish.{finish, IsFinish};
+ghost use Rattle.forest_tree.specs.Ahead.{ahead};
 ghost use Rattle.forest_tree.specs.Projection.{map_tree, Projects};
 
 /// A good machine that has cloned nothing is a sound tree alone.
@@ -104,6 +105,15 @@ pub fn finish_ends<M, E>()
 /// A tree run to its end comes to the same whichever of its machines makes a step first.
 pub fn finish_stays<M, E>()
     ensures { (o : Operations M E) → IsMachine o → (path : Path) (t : Tree M) → IsSound o t → finish o (settle o path t) ≡ finish o t }
+{}
+
+/// Where the root lives, some machine lives and does not wait. Each step of such a machine lowers the number
+/// of steps that are ahead. So in whatever order they are made, the steps end, and the root has ended then.
+pub fn steps_run_out<M, E>()
+    ensures some_moves { (o : Operations M E) → IsMachine o → (t : Tree M) → o.ending (machine t) ≡ None
+        → (path : Path) × (rests o (subtree path t) ≡ false) }
+    ensures fewer_ahead { (o : Operations M E) → IsMachine o → (path : Path) (t : Tree M) → IsSound o t
+        → rests o (subtree path t) ≡ false → ahead o (settle o path t) < ahead o t }
 {}
 
 /// The finish runs each sound tree to its end, and no other function does.
