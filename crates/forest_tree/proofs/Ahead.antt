@@ -1,13 +1,13 @@
 -- Each step lowers the number of steps ahead, and a tree whose root lives has a machine that makes one.
-use Rattle.std.proofs.Common.{◌≡◌, ℕ, zero, suc, ◌+◌, ◌*◌, ◌<◌, ◌≤◌, ◌&&◌, ◌||◌, not, eqb, Bool, true, false, cond, refl, sym, ap, ◌∙◌, subst, arith, inl, inr, le_refl, [], ◌∷◌, Option, Some, None, IsSome, is_some, option_and_then}
+use Rattle.std.proofs.Common.{◌≡◌, ℕ, zero, suc, ◌+◌, ◌*◌, ◌<◌, ◌≤◌, ◌&&◌, ◌||◌, not, eqb, Bool, true, false, cond, refl, sym, ap, ◌∙◌, subst, arith, le_refl, [], ◌∷◌, Option, Some, None, is_some, option_and_then}
 use Rattle.forest_tree.specs.Operations.{Call, clone, join, kill, Grant, Operations, is_cloned, Makes, IsStep, IsChild, IsMachine}
-use Rattle.forest_tree.specs.Tree.{Tree, node, Trees, no_tree, tree, Broods, no_brood, brood, Log, no_entry, joined, killed, machine, at_child, child_at, brood_of, without, at_brood, Branch, Path, subtree}
+use Rattle.forest_tree.specs.Tree.{Tree, node, Trees, no_tree, tree, Broods, no_brood, brood, Log, joined, killed, at_child, child_at, brood_of, without, at_brood, Branch, Path, subtree}
 use Rattle.forest_tree.specs.Settle.{has_ended, have_ended, endings, alone, children_from, children, settled_by, settled, waits_by, join_by, step_by, step, settle, rests}
 use Rattle.forest_tree.specs.Sound.{IsSound, AreSound, Hold}
 use Rattle.forest_tree.specs.Ahead.{most_steps, own_ahead, ahead, ahead_trees, ahead_broods}
 use Rattle.forest_tree.proofs.All.{AllTrees, AllBroods, AllTrees-brood_of, tree-below}
 use Rattle.forest_tree.proofs.Settle.{root-sound, below-sound, join-step}
-use Rattle.forest_tree.proofs.Run.{cases-ending, step-ended, step-lives}
+use Rattle.forest_tree.proofs.Run.{step-lives}
 use Rattle.forest_tree.proofs.Places.{some-same, below-at}
 use Rattle.forest_tree.proofs.Rests.{lives-none, settle-rests}
 
@@ -23,6 +23,53 @@ most-grows (suc left) less more h =
     product a b x y h k = grind arith
 
 module _ {M E : Type 0} (o : Operations M E) where
+  -- a place where a machine makes a step
+  abbrev pub Moves : Tree M → Type 0
+  Moves t = (path : Path) × (rests o (subtree path t) ≡ false)
+
+  -- of trees that have not all ended, one has not
+  abbrev LivesMoves : Tree M → Type 0
+  LivesMoves t = has_ended o t ≡ false → Moves t
+
+  some-lives : (trees : Trees M) → AllTrees LivesMoves trees → have_ended o trees ≡ false
+      → (k : ℕ) × (c : Tree M) × (child_at (suc k) trees ≡ Some c) × Moves c
+  unfolding AllTrees have_ended child_at
+  some-lives no_tree all h = absurd (cc)
+  some-lives (tree t rest) all h = by (has_ended o t) refl h (λ later. some-lives rest all.1 later)
+    where
+      by : (ended : Bool) → has_ended o t ≡ ended → ended && have_ended o rest ≡ false
+          → (have_ended o rest ≡ false → (k : ℕ) × (c : Tree M) × (child_at (suc k) rest ≡ Some c) × Moves c)
+          → (k : ℕ) × (c : Tree M) × (child_at (suc k) (tree t rest) ≡ Some c) × Moves c
+      by false e h later = (0, t, refl, all.0 e)
+      by true e h later = let found = later h in (suc found.0, found.1, found.2, found.3)
+
+  waits-child : (next : Option Call) (broods : Broods M) → AllBroods LivesMoves broods → waits_by o next broods ≡ true
+      → (b : Branch) × (c : Tree M) × (child_at b.child (brood_of b.ticket broods) ≡ Some c) × Moves c
+  waits-child None broods all h = absurd (cc)
+  waits-child (Some (clone t)) broods all h = absurd (cc)
+  waits-child (Some (join t)) broods all h =
+      let found = some-lives (brood_of t broods) (AllTrees-brood_of LivesMoves t broods all) (not-ended (have_ended o (brood_of t broods)) h) in
+      (record { ticket = t; child = suc found.0 }, found.1, found.2, found.3)
+    where
+      not-ended : (all : Bool) → not all ≡ true → all ≡ false
+      not-ended true e = absurd (cc)
+      not-ended false e = refl
+  waits-child (Some (kill t)) broods all h = absurd (cc)
+
+  moves-root : (m : M) (broods : Broods M) (log : Log M) → AllBroods LivesMoves broods → LivesMoves (node m broods log)
+  unfolding subtree
+  moves-root m broods log all lives = by (waits_by o (o.call m) broods) refl
+    where
+      by : (waiting : Bool) → waits_by o (o.call m) broods ≡ waiting → Moves (node m broods log)
+      by false e = ([], ap (λ b. b || waits_by o (o.call m) broods) lives ∙ e)
+      by true e =
+          let found = waits-child (o.call m) broods all e in (
+            found.0 ∷ found.3.0,
+            ap (λ c. rests o (option_and_then (subtree found.3.0) c)) found.2 ∙ found.3.1,
+          )
+
+  pub live-moves : (t : Tree M) → has_ended o t ≡ false → Moves t
+  live-moves t lives = tree-below LivesMoves moves-root t lives
 
   -- what a step leads to has no more ahead than its machine and broods
   settled_by-ahead : (e : Option E) (n : M) (broods : Broods M) (log : Log M) → o.ending n ≡ e
@@ -38,8 +85,8 @@ module _ {M E : Type 0} (o : Operations M E) where
       let counted : o.left m ≡ suc (o.left n) = s.counted in
       let same : o.left n ≡ left = omega arith in
       subst (λ k. ahead o (settled o n broods log) ≤ most_steps k (o.holding m) + ahead_broods o broods) same
-          (subst (λ k. ahead o (settled o n broods log) ≤ most_steps (o.left n) k + ahead_broods o broods) s.holding
-              (settled_by-ahead (o.ending n) n broods log refl))
+      (subst (λ k. ahead o (settled o n broods log) ≤ most_steps (o.left n) k + ahead_broods o broods) s.holding
+      (settled_by-ahead (o.ending n) n broods log refl))
 
   without-ahead-head : (u : ℕ) (trees : Trees M) (rest left : Broods M) (same : Bool) → ahead_broods o left ≤ ahead_broods o rest
       → ahead_broods o (cond same left (brood u trees left)) ≤ ahead_broods o (brood u trees rest)
@@ -53,7 +100,6 @@ module _ {M E : Type 0} (o : Operations M E) where
   without-ahead t (brood u trees rest) = without-ahead-head u trees rest (without t rest) (eqb u t) (without-ahead t rest)
 
   module _ (rules : IsMachine o) where
-
     -- the children of a clone
     alone-ahead-by : (e : Option E) (c : M) → own_ahead o e c ≤ most_steps (o.left c) (o.holding c)
     alone-ahead-by None c = le_refl _
@@ -65,8 +111,8 @@ module _ {M E : Type 0} (o : Operations M E) where
         let counted : o.left m ≡ suc (o.left c) = born.counted in
         let same : o.left c ≡ left = omega arith in
         let own : own_ahead o (o.ending c) c ≤ most_steps left (o.grant m t).share =
-            subst (λ k. own_ahead o (o.ending c) c ≤ most_steps k (o.grant m t).share) same
-                (subst (λ k. own_ahead o (o.ending c) c ≤ most_steps (o.left c) k) born.holding (alone-ahead-by (o.ending c) c)) in
+        subst (λ k. own_ahead o (o.ending c) c ≤ most_steps k (o.grant m t).share) same
+        (subst (λ k. own_ahead o (o.ending c) c ≤ most_steps (o.left c) k) born.holding (alone-ahead-by (o.ending c) c)) in
         omega arith
 
     children_from-ahead : (m : M) (t left : ℕ) → o.left m ≡ suc left → Makes o m (Some (clone t)) → (n k : ℕ) → 1 ≤ k
@@ -75,9 +121,9 @@ module _ {M E : Type 0} (o : Operations M E) where
     children_from-ahead m t left e makes zero k first last = omega arith
     children_from-ahead m t left e makes (suc n) k first last =
         let one : ahead o (alone o (o.child m k)) ≤ most_steps left (o.grant m t).share =
-            alone-ahead m t left (o.child m k) e (rules.child m t k makes first (omega arith)) in
+        alone-ahead m t left (o.child m k) e (rules.child m t k makes first (omega arith)) in
         let rest : ahead_trees o (children_from o m (suc k) n) ≤ n * most_steps left (o.grant m t).share =
-            children_from-ahead m t left e makes n (suc k) (omega arith) (omega arith) in
+        children_from-ahead m t left e makes n (suc k) (omega arith) (omega arith) in
         omega arith
 
     -- one step less, with the children that it bears
@@ -102,9 +148,9 @@ module _ {M E : Type 0} (o : Operations M E) where
         let n : ℕ = (o.grant m t).children in
         let share : ℕ = (o.grant m t).share in
         let kids : ahead_trees o (children o m t) ≤ n * most_steps left share =
-            children_from-ahead m t left e makes n 1 (omega arith) (omega arith) in
+        children_from-ahead m t left e makes n 1 (omega arith) (omega arith) in
         let all : n * most_steps left share + most_steps left (o.holding m) < 1 + (1 + o.holding m) * most_steps left (o.holding m) =
-            fewer-born n share (o.holding m) left (rules.clone_affords m t makes) in
+        fewer-born n share (o.holding m) left (rules.clone_affords m t makes) in
         omega arith
 
     own-falls : (left h : ℕ) → most_steps left h < most_steps (suc left) h
@@ -122,8 +168,8 @@ module _ {M E : Type 0} (o : Operations M E) where
     join-falls true t m broods log left e counted makes h ready =
         let s = join-step o rules t m broods log e makes h in
         let bound : ahead o (join_by o true t m broods log) ≤ most_steps left (o.holding m) + ahead_broods o (without t broods) =
-            settled-ahead m (o.after_join m (endings o (brood_of t broods))) (λ u. not (eqb t u) && is_cloned o m u)
-                (without t broods) (joined log t (brood_of t broods)) left counted s in
+        settled-ahead m (o.after_join m (endings o (brood_of t broods))) (λ u. not (eqb t u) && is_cloned o m u)
+        (without t broods) (joined log t (brood_of t broods)) left counted s in
         let fewer_broods : ahead_broods o (without t broods) ≤ ahead_broods o broods = without-ahead t broods in
         omega arith
 
@@ -133,26 +179,26 @@ module _ {M E : Type 0} (o : Operations M E) where
     unfolding ahead
     step_by-falls None m broods log left counted makes h ready =
         let bound : ahead o (step_by o None m broods log) ≤ most_steps left (o.holding m) + ahead_broods o broods =
-            settled-ahead m (o.advance m) (is_cloned o m) broods log left counted (rules.advance m makes) in
+        settled-ahead m (o.advance m) (is_cloned o m) broods log left counted (rules.advance m makes) in
         let falls : most_steps left (o.holding m) < most_steps (suc left) (o.holding m) = own-falls left (o.holding m) in
         omega arith
     step_by-falls (Some (clone t)) m broods log left counted makes h ready =
         let bound : ahead o (step_by o (Some (clone t)) m broods log)
-                ≤ most_steps left (o.holding m) + (ahead_trees o (children o m t) + ahead_broods o broods) =
-            settled-ahead m (o.forked m) (λ u. eqb t u || is_cloned o m u) (brood t (children o m t) broods) log left counted
-                (rules.forked m t makes) in
+        ≤ most_steps left (o.holding m) + (ahead_trees o (children o m t) + ahead_broods o broods) =
+        settled-ahead m (o.forked m) (λ u. eqb t u || is_cloned o m u) (brood t (children o m t) broods) log left counted
+        (rules.forked m t makes) in
         let falls : ahead_trees o (children o m t) + most_steps left (o.holding m) < most_steps (suc left) (o.holding m) =
-            children-ahead m t left counted makes in
+        children-ahead m t left counted makes in
         omega arith
     step_by-falls (Some (join t)) m broods log left counted makes h ready =
         let bound : ahead o (step_by o (Some (join t)) m broods log) ≤ most_steps left (o.holding m) + ahead_broods o broods =
-            join-falls (have_ended o (brood_of t broods)) t m broods log left refl counted makes h ready in
+        join-falls (have_ended o (brood_of t broods)) t m broods log left refl counted makes h ready in
         let falls : most_steps left (o.holding m) < most_steps (suc left) (o.holding m) = own-falls left (o.holding m) in
         omega arith
     step_by-falls (Some (kill t)) m broods log left counted makes h ready =
         let bound : ahead o (step_by o (Some (kill t)) m broods log) ≤ most_steps left (o.holding m) + ahead_broods o (without t broods) =
-            settled-ahead m (o.after_kill m) (λ u. not (eqb t u) && is_cloned o m u) (without t broods)
-                (killed log t (o.grant m t).children) left counted (rules.after_kill m t makes) in
+        settled-ahead m (o.after_kill m) (λ u. not (eqb t u) && is_cloned o m u) (without t broods)
+        (killed log t (o.grant m t).children) left counted (rules.after_kill m t makes) in
         let fewer_broods : ahead_broods o (without t broods) ≤ ahead_broods o broods = without-ahead t broods in
         let falls : most_steps left (o.holding m) < most_steps (suc left) (o.holding m) = own-falls left (o.holding m) in
         omega arith
@@ -171,9 +217,9 @@ module _ {M E : Type 0} (o : Operations M E) where
         let same : own_ahead o (o.ending m) m ≡ most_steps (o.left m) (o.holding m) = ap (λ e. own_ahead o e m) lives in
         let makes : Makes o m (o.call m) = record { good = good; lives = lives; call = refl } in
         let falls : ahead o (step_by o (o.call m) m broods log) < most_steps (o.left m) (o.holding m) + ahead_broods o broods =
-            by (o.left m) some refl makes both.1 in
+        by (o.left m) some refl makes both.1 in
         let stepped : ahead o (step o (node m broods log)) ≡ ahead o (step_by o (o.call m) m broods log) =
-            ap (ahead o) (step-lives o m broods log (o.call m) lives refl) in
+        ap (ahead o) (step-lives o m broods log (o.call m) lives refl) in
         omega arith
       where
         by : (left : ℕ) → 0 < left → o.left m ≡ left → Makes o m (o.call m) → waits_by o (o.call m) broods ≡ false
@@ -212,7 +258,7 @@ module _ {M E : Type 0} (o : Operations M E) where
     at_brood-within g within t grant no_brood h = le_refl 0
     at_brood-within g within t grant (brood u trees rest) h =
         let first : ahead_trees o (cond (eqb u t) (g trees) trees) ≤ ahead_trees o trees =
-            head-within g trees (eqb u t) (within (grant u).share trees h.1) in
+        head-within g trees (eqb u t) (within (grant u).share trees h.1) in
         let later : ahead_broods o (at_brood g t rest) ≤ ahead_broods o rest = at_brood-within g within t grant rest h.2 in
         omega arith
 
@@ -254,59 +300,12 @@ module _ {M E : Type 0} (o : Operations M E) where
     settle-falls (b ∷ path) (node m broods log) h moves =
         let f : Tree M → Tree M = settle o path in
         let within : (c : Tree M) → IsSound o c → ahead o (f c) ≤ ahead o c =
-            λ c sound. settle-ahead-by path c sound (rests o (subtree path c)) refl (settle-falls path c sound) in
+        λ c sound. settle-ahead-by path c sound (rests o (subtree path c)) refl (settle-falls path c sound) in
         let broods_within : (share : ℕ) (trees : Trees M) → Hold o share trees → ahead_trees o (at_child f b.child trees) ≤ ahead_trees o trees =
-            λ share trees held. at_child-within f within share b.child trees held in
+        λ share trees held. at_child-within f within share b.child trees held in
         let found = child-there path (child_at b.child (brood_of b.ticket broods)) refl moves in
-        let sound : IsSound o found.0 = below-at o rules m broods log b.ticket b.child found.0 h found.1 in
+        let sound : IsSound o found.0 = below-at o m broods log b.ticket b.child found.0 h found.1 in
         let falls : ahead_broods o (at_brood (at_child f b.child) b.ticket broods) < ahead_broods o broods =
-            at_brood-falls (at_child f b.child) broods_within b.ticket (o.grant m) broods (below-sound o m broods log h)
-                (at_child-falls f b.child (brood_of b.ticket broods) found.0 found.1 (settle-falls path found.0 sound found.2)) in
+        at_brood-falls (at_child f b.child) broods_within b.ticket (o.grant m) broods (below-sound o m broods log h)
+        (at_child-falls f b.child (brood_of b.ticket broods) found.0 found.1 (settle-falls path found.0 sound found.2)) in
         omega arith
-
-    -- a place where a machine makes a step
-    abbrev pub Moves : Tree M → Type 0
-    Moves t = (path : Path) × (rests o (subtree path t) ≡ false)
-
-    -- of trees that have not all ended, one has not
-    abbrev LivesMoves : Tree M → Type 0
-    LivesMoves t = has_ended o t ≡ false → Moves t
-
-    some-lives : (trees : Trees M) → AllTrees LivesMoves trees → have_ended o trees ≡ false
-        → (k : ℕ) × (c : Tree M) × (child_at (suc k) trees ≡ Some c) × Moves c
-    unfolding AllTrees have_ended child_at
-    some-lives no_tree all h = absurd (cc)
-    some-lives (tree t rest) all h = by (has_ended o t) refl h (λ later. some-lives rest all.1 later)
-      where
-        by : (ended : Bool) → has_ended o t ≡ ended → ended && have_ended o rest ≡ false
-            → (have_ended o rest ≡ false → (k : ℕ) × (c : Tree M) × (child_at (suc k) rest ≡ Some c) × Moves c)
-            → (k : ℕ) × (c : Tree M) × (child_at (suc k) (tree t rest) ≡ Some c) × Moves c
-        by false e h later = (0, t, refl, all.0 e)
-        by true e h later = let found = later h in (suc found.0, found.1, found.2, found.3)
-
-    waits-child : (next : Option Call) (broods : Broods M) → AllBroods LivesMoves broods → waits_by o next broods ≡ true
-        → (b : Branch) × (c : Tree M) × (child_at b.child (brood_of b.ticket broods) ≡ Some c) × Moves c
-    waits-child None broods all h = absurd (cc)
-    waits-child (Some (clone t)) broods all h = absurd (cc)
-    waits-child (Some (join t)) broods all h =
-        let found = some-lives (brood_of t broods) (AllTrees-brood_of LivesMoves t broods all) (not-ended (have_ended o (brood_of t broods)) h) in
-        (record { ticket = t; child = suc found.0 }, found.1, found.2, found.3)
-      where
-        not-ended : (all : Bool) → not all ≡ true → all ≡ false
-        not-ended true e = absurd (cc)
-        not-ended false e = refl
-    waits-child (Some (kill t)) broods all h = absurd (cc)
-
-    moves-root : (m : M) (broods : Broods M) (log : Log M) → AllBroods LivesMoves broods → LivesMoves (node m broods log)
-    unfolding subtree
-    moves-root m broods log all lives = by (waits_by o (o.call m) broods) refl
-      where
-        by : (waiting : Bool) → waits_by o (o.call m) broods ≡ waiting → Moves (node m broods log)
-        by false e = ([], ap (λ b. b || waits_by o (o.call m) broods) lives ∙ e)
-        by true e =
-            let found = waits-child (o.call m) broods all e in
-            ( found.0 ∷ found.3.0
-            , ap (λ c. rests o (option_and_then (subtree found.3.0) c)) found.2 ∙ found.3.1)
-
-    pub live-moves : (t : Tree M) → has_ended o t ≡ false → Moves t
-    live-moves t lives = tree-below LivesMoves moves-root t lives

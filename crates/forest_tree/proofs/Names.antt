@@ -145,10 +145,10 @@ module _ {M E : Type 0} (o : Operations M E) (rules : IsMachine o) where
   gone-settle [] path t h gone = gone
   gone-settle (b ∷ way) [] (node m broods log) h gone = gone-root b way m broods log h gone
   gone-settle (b ∷ way) (y ∷ path) (node m broods log) h gone =
-      subst (λ c. GoneIn (IsGone way) c m b.ticket) (sym (child-moved o rules (settle o path) b y broods))
+      subst (λ c. GoneIn (IsGone way) c m b.ticket) (sym (child-moved o (settle o path) b y broods))
       (gone-below (IsGone way) (settle o path) m b.ticket (eqb y.ticket b.ticket && eqb y.child b.child)
       (child_at b.child (brood_of b.ticket broods)) gone
-      (λ u found inside. gone-settle way path u (below-at o rules m broods log b.ticket b.child u h found) inside))
+      (λ u found inside. gone-settle way path u (below-at o m broods log b.ticket b.child u h found) inside))
 
   -- what was there and is not after a step is gone
   lost-root : (gone : Tree M → Type 0) (b : Branch) (way : Path) (m n : M) (before after : Trees M) (a : Tree M)
@@ -171,7 +171,7 @@ module _ {M E : Type 0} (o : Operations M E) (rules : IsMachine o) where
         let same = step-ended o m broods log ended.0 ended.1 in
         let no : None ≡ Some a = sym there ∙ ap (subtree (b ∷ way)) same ∙ here in absurd (cc)
     | inr lives ↦
-        let is = is-within o rules way (child_at b.child (brood_of b.ticket broods)) a here in
+        let is = is-within o way (child_at b.child (brood_of b.ticket broods)) a here in
         let past : IsPast m b.ticket = cloned-past m broods log b.ticket b.child is.0 h is.1 in
         lost-root (IsGone way) b way m (machine (step o (node m broods log))) (brood_of b.ticket broods)
         (brood_of b.ticket (broods_of (step o (node m broods log)))) a
@@ -193,11 +193,11 @@ module _ {M E : Type 0} (o : Operations M E) (rules : IsMachine o) where
   lost-gone [] path t a h here there = absurd (cc)
   lost-gone (b ∷ way) [] (node m broods log) a h here there = lost-step b way m broods log a h here there
   lost-gone (b ∷ way) (y ∷ path) (node m broods log) a h here there =
-      let moved = child-moved o rules (settle o path) b y broods in
+      let moved = child-moved o (settle o path) b y broods in
       subst (λ c. GoneIn (IsGone way) c m b.ticket) (sym moved)
       (lost-below (IsGone way) (settle o path) way m b.ticket (eqb y.ticket b.ticket && eqb y.child b.child)
       (child_at b.child (brood_of b.ticket broods)) a here (ap (option_and_then (subtree way)) (sym moved) ∙ there)
-      (λ u found inside outside. lost-gone way path u a (below-at o rules m broods log b.ticket b.child u h found) inside outside))
+      (λ u found inside outside. lost-gone way path u a (below-at o m broods log b.ticket b.child u h found) inside outside))
 
   -- over steps in any order
   stay-gone : (at : Path) (paths : List Path) (t : Tree M) → IsSound o t → IsGone at t → IsGone at (settle_all o paths t)

@@ -164,6 +164,108 @@ module _ {M E : Type 0} (o : Operations M E) where
       kept-settled may (o.after_join m (endings o (brood_of t broods))) broods (without t broods) (joined log t (brood_of t broods)) u
       (kept-without may t u broods)
 
+  -- the tree at a way into a brood
+  abbrev within : Path → ℕ → Trees M → Option (Tree M)
+  within way k trees = option_and_then (subtree way) (child_at k trees)
+
+  kept-within : (way : Path) (k : ℕ) (may : Bool) (before after : Trees M) (a b : Tree M) → Kept may before after
+      → within way k before ≡ Some a → within way k after ≡ Some b → b ≡ a
+  unfolding child_at
+  kept-within way k may before after a b (stays e) f g = some-same b a (sym g ∙ ap (within way k) e ∙ f)
+  kept-within way k may before after a b (goes e) f g =
+      let none : None ≡ Some b = sym (ap (within way k) e) ∙ g in cc
+  kept-within way k may before after a b (is_new _ e) f g =
+      let none : None ≡ Some a = sym (ap (within way k) e) ∙ f in cc
+
+  -- nothing is changed where there is no step beyond
+  same : (t : Option (Tree M)) → option_map (settle_beyond o None) t ≡ t
+  same None = refl
+  same (Some t) = refl
+
+  moved : (way p : Path) (f : Tree M → Tree M) (c : Option (Tree M))
+      → ((t : Tree M) → c ≡ Some t → subtree way (f t) ≡ option_map (settle_beyond o (beyond way p)) (subtree way t))
+      → option_and_then (subtree way) (option_map f c) ≡ option_map (settle_beyond o (beyond way p)) (option_and_then (subtree way) c)
+  moved way p f None h = refl
+  moved way p f (Some t) h = h t refl
+
+  -- trees below a sound one are sound
+  child-sound : (share k : ℕ) (trees : Trees M) (c : Tree M) → Hold o share trees → child_at k trees ≡ Some c → IsSound o c
+  unfolding IsSound child_at
+  child-sound share k no_tree c h e = absurd (cc)
+  child-sound share zero (tree t rest) c h e = absurd (cc)
+  child-sound share (suc zero) (tree t rest) c h e = subst (IsSound o) (some-same t c e) h.1
+  child-sound share (suc (suc k)) (tree t rest) c h e = child-sound share (suc k) rest c h.2 e
+
+  brood-head : (share before : ℕ) (same : Bool) (trees rest : Trees M) → Hold o before trees → ((s : ℕ) × Hold o s rest)
+      → (s : ℕ) × Hold o s (cond same trees rest)
+  brood-head share before true trees rest h k = (before, h)
+  brood-head share before false trees rest h k = k
+
+  brood-sound : (grant : ℕ → Grant) (t : ℕ) (broods : Broods M) → AreSound o grant broods → (s : ℕ) × Hold o s (brood_of t broods)
+  unfolding IsSound brood_of
+  brood-sound grant t no_brood h = (0, tt)
+  brood-sound grant t (brood u trees rest) h =
+      brood-head 0 (grant u).share (eqb u t) trees (brood_of t rest) h.1 (brood-sound grant t rest h.2)
+
+  pub below-at : (m : M) (broods : Broods M) (log : Log M) (t k : ℕ) (c : Tree M) → IsSound o (node m broods log)
+      → child_at k (brood_of t broods) ≡ Some c → IsSound o c
+  below-at m broods log t k c h e =
+      let held = brood-sound (o.grant m) t broods (below-sound o m broods log h) in
+      child-sound held.0 k (brood_of t broods) c held.1 e
+
+  -- the tree at a way into a brood, by the child there
+  pub is-within : (way : Path) (c : Option (Tree M)) (a : Tree M) → option_and_then (subtree way) c ≡ Some a
+      → (t : Tree M) × (c ≡ Some t) × (subtree way t ≡ Some a)
+  is-within way None a e = absurd (cc)
+  is-within way (Some t) a e = (t, refl, e)
+
+  -- the child at a place, where one at another is changed
+  moved-by : (f : Tree M → Tree M) (k j : ℕ) (trees : Trees M) (ticket child : Bool) → eqb k j ≡ child
+      → child_at j (cond ticket (at_child f k trees) trees) ≡ cond (ticket && child) (option_map f (child_at j trees)) (child_at j trees)
+  moved-by f k j trees false child e = refl
+  moved-by f k j trees true false e = child_at-other f k j trees (eqb-false k j e)
+  moved-by f k j trees true true e = ap (λ i. child_at j (at_child f i trees)) (eqb-true k j e) ∙ child_at-same f j trees
+
+  pub child-moved : (f : Tree M → Tree M) (b y : Branch) (broods : Broods M)
+      → child_at b.child (brood_of b.ticket (at_brood (at_child f y.child) y.ticket broods))
+      ≡ cond (eqb y.ticket b.ticket && eqb y.child b.child) (option_map f (child_at b.child (brood_of b.ticket broods)))
+      (child_at b.child (brood_of b.ticket broods))
+  child-moved f b y broods =
+      ap (child_at b.child) (brood_of-at (at_child f y.child) (at_child-none f y.child) y.ticket b.ticket broods)
+      ∙ moved-by f y.child b.child (brood_of b.ticket broods) (eqb y.ticket b.ticket) (eqb y.child b.child) refl
+
+  pub subtree-sound : (at : Path) (t a : Tree M) → IsSound o t → subtree at t ≡ Some a → IsSound o a
+  unfolding subtree
+  subtree-sound [] t a h e = subst (IsSound o) (some-same t a e) h
+  subtree-sound (x ∷ way) (node m broods log) a h e =
+      let is = is-within way (child_at x.child (brood_of x.ticket broods)) a e in
+      subtree-sound way is.0 a (below-at m broods log x.ticket x.child is.0 h is.1) is.2
+
+  -- a step changes nothing that is not below its path, but by a step in it
+  elsewhere-by : (way p : Path) (f : Tree M → Tree M) (k j : ℕ) (trees : Trees M) (ticket child : Bool) → eqb k j ≡ child
+      → goes_on (cond (ticket && child) (beyond p way) None) ≡ false
+      → ((c : Tree M) → child_at j trees ≡ Some c → goes_on (beyond p way) ≡ false
+      → subtree way (f c) ≡ option_map (settle_beyond o (beyond way p)) (subtree way c))
+      → within way j (cond ticket (at_child f k trees) trees)
+      ≡ option_map (settle_beyond o (cond (ticket && child) (beyond way p) None)) (within way j trees)
+  elsewhere-by way p f k j trees false child e apart below = sym (same (within way j trees))
+  elsewhere-by way p f k j trees true false e apart below =
+      ap (option_and_then (subtree way)) (child_at-other f k j trees (eqb-false k j e)) ∙ sym (same (within way j trees))
+  elsewhere-by way p f k j trees true true e apart below =
+      ap (option_and_then (subtree way)) (ap (λ i. child_at j (at_child f i trees)) (eqb-true k j e) ∙ child_at-same f j trees)
+      ∙ moved way p f (child_at j trees) (λ c found. below c found apart)
+
+  pub settle-elsewhere : (at path : Path) (t : Tree M) → is_below path at ≡ false
+      → subtree at (settle o path t) ≡ option_map (settle_beyond o (beyond at path)) (subtree at t)
+  unfolding settle subtree beyond
+  settle-elsewhere [] path t apart = refl
+  settle-elsewhere (x ∷ way) [] t apart = absurd (cc)
+  settle-elsewhere (x ∷ way) (y ∷ p) (node m broods log) apart =
+      ap (within way x.child) (brood_of-at (at_child (settle o p) y.child) (at_child-none (settle o p) y.child) y.ticket x.ticket broods)
+      ∙ elsewhere-by way p (settle o p) y.child x.child (brood_of x.ticket broods) (eqb y.ticket x.ticket) (eqb y.child x.child) refl
+      (ap goes_on (branch-sym (beyond p way) y.ticket x.ticket y.child x.child) ∙ apart)
+      (λ c found down. settle-elsewhere way p c down)
+
   module _ (rules : IsMachine o) where
     new-brood : (m : M) (t : ℕ) (broods : Broods M) (log : Log M) → Makes o m (Some (clone t)) → IsSound o (node m broods log)
         → (u : ℕ) → eqb t u ≡ true → brood_of u broods ≡ no_tree
@@ -192,76 +294,6 @@ module _ {M E : Type 0} (o : Operations M E) where
           subst (λ t. Kept (o.may_clone m u) (brood_of u broods) (brood_of u (broods_of t))) (sym (step-lives o m broods log (o.call m) lives refl))
           (kept-step_by (o.call m) m broods log (record { good = (root-sound o m broods log h).good; lives = lives; call = refl }) h u)
     ]
-
-    -- the tree at a way into a brood
-    abbrev within : Path → ℕ → Trees M → Option (Tree M)
-    within way k trees = option_and_then (subtree way) (child_at k trees)
-
-    kept-within : (way : Path) (k : ℕ) (may : Bool) (before after : Trees M) (a b : Tree M) → Kept may before after
-        → within way k before ≡ Some a → within way k after ≡ Some b → b ≡ a
-    unfolding child_at
-    kept-within way k may before after a b (stays e) f g = some-same b a (sym g ∙ ap (within way k) e ∙ f)
-    kept-within way k may before after a b (goes e) f g =
-        let none : None ≡ Some b = sym (ap (within way k) e) ∙ g in cc
-    kept-within way k may before after a b (is_new _ e) f g =
-        let none : None ≡ Some a = sym (ap (within way k) e) ∙ f in cc
-
-    -- nothing is changed where there is no step beyond
-    same : (t : Option (Tree M)) → option_map (settle_beyond o None) t ≡ t
-    same None = refl
-    same (Some t) = refl
-
-    moved : (way p : Path) (f : Tree M → Tree M) (c : Option (Tree M))
-        → ((t : Tree M) → c ≡ Some t → subtree way (f t) ≡ option_map (settle_beyond o (beyond way p)) (subtree way t))
-        → option_and_then (subtree way) (option_map f c) ≡ option_map (settle_beyond o (beyond way p)) (option_and_then (subtree way) c)
-    moved way p f None h = refl
-    moved way p f (Some t) h = h t refl
-
-    -- trees below a sound one are sound
-    child-sound : (share k : ℕ) (trees : Trees M) (c : Tree M) → Hold o share trees → child_at k trees ≡ Some c → IsSound o c
-    unfolding IsSound child_at
-    child-sound share k no_tree c h e = absurd (cc)
-    child-sound share zero (tree t rest) c h e = absurd (cc)
-    child-sound share (suc zero) (tree t rest) c h e = subst (IsSound o) (some-same t c e) h.1
-    child-sound share (suc (suc k)) (tree t rest) c h e = child-sound share (suc k) rest c h.2 e
-
-    brood-head : (share before : ℕ) (same : Bool) (trees rest : Trees M) → Hold o before trees → ((s : ℕ) × Hold o s rest)
-        → (s : ℕ) × Hold o s (cond same trees rest)
-    brood-head share before true trees rest h k = (before, h)
-    brood-head share before false trees rest h k = k
-
-    brood-sound : (grant : ℕ → Grant) (t : ℕ) (broods : Broods M) → AreSound o grant broods → (s : ℕ) × Hold o s (brood_of t broods)
-    unfolding IsSound brood_of
-    brood-sound grant t no_brood h = (0, tt)
-    brood-sound grant t (brood u trees rest) h =
-        brood-head 0 (grant u).share (eqb u t) trees (brood_of t rest) h.1 (brood-sound grant t rest h.2)
-
-    pub below-at : (m : M) (broods : Broods M) (log : Log M) (t k : ℕ) (c : Tree M) → IsSound o (node m broods log)
-        → child_at k (brood_of t broods) ≡ Some c → IsSound o c
-    below-at m broods log t k c h e =
-        let held = brood-sound (o.grant m) t broods (below-sound o m broods log h) in
-        child-sound held.0 k (brood_of t broods) c held.1 e
-
-    -- the tree at a way into a brood, by the child there
-    pub is-within : (way : Path) (c : Option (Tree M)) (a : Tree M) → option_and_then (subtree way) c ≡ Some a
-        → (t : Tree M) × (c ≡ Some t) × (subtree way t ≡ Some a)
-    is-within way None a e = absurd (cc)
-    is-within way (Some t) a e = (t, refl, e)
-
-    -- the child at a place, where one at another is changed
-    moved-by : (f : Tree M → Tree M) (k j : ℕ) (trees : Trees M) (ticket child : Bool) → eqb k j ≡ child
-        → child_at j (cond ticket (at_child f k trees) trees) ≡ cond (ticket && child) (option_map f (child_at j trees)) (child_at j trees)
-    moved-by f k j trees false child e = refl
-    moved-by f k j trees true false e = child_at-other f k j trees (eqb-false k j e)
-    moved-by f k j trees true true e = ap (λ i. child_at j (at_child f i trees)) (eqb-true k j e) ∙ child_at-same f j trees
-
-    pub child-moved : (f : Tree M → Tree M) (b y : Branch) (broods : Broods M)
-        → child_at b.child (brood_of b.ticket (at_brood (at_child f y.child) y.ticket broods))
-        ≡ cond (eqb y.ticket b.ticket && eqb y.child b.child) (option_map f (child_at b.child (brood_of b.ticket broods)))
-        (child_at b.child (brood_of b.ticket broods))
-    child-moved f b y broods =
-        ap (child_at b.child) (brood_of-at (at_child f y.child) (at_child-none f y.child) y.ticket b.ticket broods)
-        ∙ moved-by f y.child b.child (brood_of b.ticket broods) (eqb y.ticket b.ticket) (eqb y.child b.child) refl
 
     -- a step beyond, by whether the ticket and the child are the same
     beyond-by : (way p : Path) (f : Tree M → Tree M) (k j : ℕ) (trees : Trees M) (ticket child : Bool) → eqb k j ≡ child
@@ -292,13 +324,6 @@ module _ {M E : Type 0} (o : Operations M E) where
         (λ c d e found. settle-at way p c (below-at m broods log x.ticket x.child c h found) d e)
         a b here (sym (ap (within way x.child) moved) ∙ there)
 
-    pub subtree-sound : (at : Path) (t a : Tree M) → IsSound o t → subtree at t ≡ Some a → IsSound o a
-    unfolding subtree
-    subtree-sound [] t a h e = subst (IsSound o) (some-same t a e) h
-    subtree-sound (x ∷ way) (node m broods log) a h e =
-        let is = is-within way (child_at x.child (brood_of x.ticket broods)) a e in
-        subtree-sound way is.0 a (below-at m broods log x.ticket x.child is.0 h is.1) is.2
-
     holding-beyond : (rest : Option Path) (a : Tree M) → IsSound o a → o.holding (machine (settle_beyond o rest a)) ≡ o.holding (machine a)
     holding-beyond None a h = refl
     holding-beyond (Some path) a h = (settle-keeps o rules path a h).holding
@@ -309,28 +334,3 @@ module _ {M E : Type 0} (o : Operations M E) where
     settle-holding at path t h a b here there =
         ap (λ (u : Tree M). o.holding (machine u)) (settle-at at path t h a b here there)
         ∙ holding-beyond (beyond at path) a (subtree-sound at t a h here)
-
-    -- a step changes nothing that is not below its path, but by a step in it
-    elsewhere-by : (way p : Path) (f : Tree M → Tree M) (k j : ℕ) (trees : Trees M) (ticket child : Bool) → eqb k j ≡ child
-        → goes_on (cond (ticket && child) (beyond p way) None) ≡ false
-        → ((c : Tree M) → child_at j trees ≡ Some c → goes_on (beyond p way) ≡ false
-        → subtree way (f c) ≡ option_map (settle_beyond o (beyond way p)) (subtree way c))
-        → within way j (cond ticket (at_child f k trees) trees)
-        ≡ option_map (settle_beyond o (cond (ticket && child) (beyond way p) None)) (within way j trees)
-    elsewhere-by way p f k j trees false child e apart below = sym (same (within way j trees))
-    elsewhere-by way p f k j trees true false e apart below =
-        ap (option_and_then (subtree way)) (child_at-other f k j trees (eqb-false k j e)) ∙ sym (same (within way j trees))
-    elsewhere-by way p f k j trees true true e apart below =
-        ap (option_and_then (subtree way)) (ap (λ i. child_at j (at_child f i trees)) (eqb-true k j e) ∙ child_at-same f j trees)
-        ∙ moved way p f (child_at j trees) (λ c found. below c found apart)
-
-    pub settle-elsewhere : (at path : Path) (t : Tree M) → is_below path at ≡ false
-        → subtree at (settle o path t) ≡ option_map (settle_beyond o (beyond at path)) (subtree at t)
-    unfolding settle subtree beyond
-    settle-elsewhere [] path t apart = refl
-    settle-elsewhere (x ∷ way) [] t apart = absurd (cc)
-    settle-elsewhere (x ∷ way) (y ∷ p) (node m broods log) apart =
-        ap (within way x.child) (brood_of-at (at_child (settle o p) y.child) (at_child-none (settle o p) y.child) y.ticket x.ticket broods)
-        ∙ elsewhere-by way p (settle o p) y.child x.child (brood_of x.ticket broods) (eqb y.ticket x.ticket) (eqb y.child x.child) refl
-        (ap goes_on (branch-sym (beyond p way) y.ticket x.ticket y.child x.child) ∙ apart)
-        (λ c found down. settle-elsewhere way p c down)

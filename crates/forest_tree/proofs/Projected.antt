@@ -252,8 +252,8 @@ module _ {M N E : Type 0} (o : Operations M E) (p : Operations N E) (f : M → N
     cloned_once = λ m t good cloned. sym (is.may_clone m t) ∙ rules.cloned_once (f m) t (is.is_good m ∙ good) (cloned-map m t ∙ cloned);
     clone_affords = λ m t makes.
         subst (λ n. (o.grant m t).children * (1 + (o.grant m t).share) ≤ n) (is.holding m)
-            (subst (λ (g : Grant). g.children * (1 + g.share) ≤ p.holding (f m)) (is.grant m t)
-                (rules.clone_affords (f m) t (makes-map m (Some (clone t)) makes)));
+        (subst (λ (g : Grant). g.children * (1 + g.share) ≤ p.holding (f m)) (is.grant m t)
+        (rules.clone_affords (f m) t (makes-map m (Some (clone t)) makes)));
     clone_may = λ m t makes. sym (is.may_clone m t) ∙ rules.clone_may (f m) t (makes-map m (Some (clone t)) makes);
     forked = λ m t makes.
         step-back m (o.forked m) (p.forked (f m)) (λ u. eqb t u || is_cloned p (f m) u) (λ u. eqb t u || is_cloned o m u) (is.forked m)

@@ -97,7 +97,7 @@ module _ {M E : Type 0} (o : Operations M E) where
     unfolding settle subtree
     settle-here [] t a here = ap (λ u. Some (step o u)) (some-same t a here)
     settle-here (x ∷ path) (node m broods log) a here =
-        let is = is-within o rules path (child_at x.child (brood_of x.ticket broods)) a here in
+        let is = is-within o path (child_at x.child (brood_of x.ticket broods)) a here in
         let moved = brood_of-at (at_child (settle o path) x.child) (at_child-none (settle o path) x.child) x.ticket x.ticket broods in
         let found : brood_of x.ticket (at_brood (at_child (settle o path) x.child) x.ticket broods)
         ≡ at_child (settle o path) x.child (brood_of x.ticket broods) =
@@ -125,7 +125,7 @@ module _ {M E : Type 0} (o : Operations M E) where
         ap (λ b. node m b log)
         (at_brood-leaves (at_child (settle o path) x.child) x.ticket broods (one-brood m broods log h x.ticket)
         (at_child-leaves (settle o path) x.child (brood_of x.ticket broods) (λ c found.
-        settle-rests path c (below-at o rules m broods log x.ticket x.child c h found)
+        settle-rests path c (below-at o m broods log x.ticket x.child c h found)
         (ap (λ i. rests o (option_and_then (subtree path) i)) (sym found) ∙ rest))))
 
     settle-same : (path : Path) (t : Tree M) → IsSound o t → settle o path t ≡ t → (there : Option (Tree M)) → subtree path t ≡ there
@@ -134,7 +134,7 @@ module _ {M E : Type 0} (o : Operations M E) where
     settle-same path t h same (Some a) there =
         let moved : step o a ≡ a =
         some-same (step o a) a (sym (settle-here path t a there) ∙ ap (subtree path) same ∙ there) in
-        step-moves a (subtree-sound o rules path t a h there) moved
+        step-moves a (subtree-sound o path t a h there) moved
 
     pub settle-exactly : (path : Path) (t : Tree M) → IsSound o t → (settle o path t ≡ t) ↔ (rests o (subtree path t) ≡ true)
     settle-exactly path t h = (λ same. settle-same path t h same (subtree path t) refl, settle-rests path t h)

@@ -27,14 +27,14 @@ pub fn settle_keeps_soundness<M, E>()
 
 /// The trees below a sound tree are sound, and a path may be gone in parts.
 pub fn subtrees_are_sound<M, E>()
-    ensures sound { (o : Operations M E) → IsMachine o → (at : Path) (t a : Tree M) → IsSound o t → subtree at t ≡ Some a → IsSound o a }
+    ensures sound { (o : Operations M E) (at : Path) (t a : Tree M) → IsSound o t → subtree at t ≡ Some a → IsSound o a }
     ensures in_parts { (way path : Path) (t : Tree M) → subtree (way ++ path) t ≡ option_and_then (subtree path) (subtree way t) }
 {}
 
 /// A step of one machine changes no other. What is not below it has made the step where the path goes
 /// through it, and else is as it was; what is below it and still there is as it was.
 pub fn settle_changes_one<M, E>()
-    ensures elsewhere { (o : Operations M E) → IsMachine o → (at path : Path) (t : Tree M) → is_below path at ≡ false
+    ensures elsewhere { (o : Operations M E) (at path : Path) (t : Tree M) → is_below path at ≡ false
         → subtree at (settle o path t) ≡ option_map (settle_beyond o (beyond at path)) (subtree at t) }
     ensures stays { (o : Operations M E) → IsMachine o → (at path : Path) (t : Tree M) → IsSound o t
         → (a b : Tree M) → subtree at t ≡ Some a → subtree at (settle o path t) ≡ Some b → b ≡ settle_beyond o (beyond at path) a }
@@ -110,7 +110,7 @@ pub fn finish_stays<M, E>()
 /// Where the root lives, some machine lives and does not wait. Each step of such a machine lowers the number
 /// of steps that are ahead. So in whatever order they are made, the steps end, and the root has ended then.
 pub fn steps_run_out<M, E>()
-    ensures some_moves { (o : Operations M E) → IsMachine o → (t : Tree M) → o.ending (machine t) ≡ None
+    ensures some_moves { (o : Operations M E) (t : Tree M) → o.ending (machine t) ≡ None
         → (path : Path) × (rests o (subtree path t) ≡ false) }
     ensures fewer_ahead { (o : Operations M E) → IsMachine o → (path : Path) (t : Tree M) → IsSound o t
         → rests o (subtree path t) ≡ false → ahead o (settle o path t) < ahead o t }

@@ -4,6 +4,6 @@ use Rattle.forest_tree.proofs.laws.steps_run_out.Goals as goal
 
 pub returns : goal.returns
 returns g c = record {
-  some_moves = λ o rules t lives. live-moves o rules t (ap is_some lives);
+  some_moves = λ o t lives. live-moves o t (ap is_some lives);
   fewer_ahead = settle-falls;
 }
