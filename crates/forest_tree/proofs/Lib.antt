@@ -1,0 +1,15 @@
+pub mod All
+pub mod Broods
+pub mod Settle
+pub mod Run
+pub mod Finish
+pub mod Stays
+pub mod Equations
+pub mod Places
+pub mod Rests
+pub mod Calls
+pub mod Schedules
+pub mod SmallMachine
+pub mod Names
+pub mod Projected
+pub mod Ahead
