@@ -1,1 +1,4 @@
+pub mod Ending
+pub mod Tickets
 pub mod Fork
+pub mod Children
