@@ -7,7 +7,8 @@ use Rattle.fork_port.specs.declared.asked.Stored.{Stored}
 use Rattle.fork_port.specs.declared.asked.Stored.TheVariants.{Register, Command}
 use Rattle.fork_port.specs.declared.asked.Call.TheVariants as call
 use Rattle.fork_port.specs.declared.asked.Asked.{Asked}
-use Rattle.fork_port.specs.declared.asked.Asked.TheVariants.{Refused, NewTicket, Discard, Call, Exit, Zero}
+use Rattle.fork_port.specs.declared.asked.Asked.TheVariants.{Refused, NewTicket, Discard, Exit, Zero}
+use Rattle.fork_port.specs.declared.asked.Asked.TheVariants as asked
 use Rattle.fork_port.specs.declared.refusals.TheConstants.{NO_SUCH_TICKET, ALREADY_CLONED, NOT_CLONED, BAD_ARGUMENT, NOTHING_GRANTED, UNKNOWN_COMMAND}
 use Rattle.fork_port.specs.declared.registers.TheConstants.{FORK_FIRST_ARGUMENT, FORK_SECOND_ARGUMENT, FORK_COMMAND, FORK_RESULT, FORK_CLONE_ID, FORK_ALLOT, FORK_JOIN_SELECT, FORK_JOIN_KIND, FORK_JOIN_VALUE, FORK_GRANTED, TICKET_COMMAND, CLONE_COMMAND, JOIN_COMMAND, KILL_COMMAND, EXIT_COMMAND, ZERO_COMMAND}
 use Rattle.fork_port.specs.Ending.{join_kind, join_value}
@@ -87,16 +88,16 @@ fork_store f offset word =
 -- What CLONE, JOIN and KILL of this number ask for, by the ticket that has it.
 abbrev pub clone_asks : ℕ → Option Ticket → Asked
 clone_asks number None = Refused NO_SUCH_TICKET
-clone_asks number (Some ticket) = if ticket.is_cloned then Refused ALREADY_CLONED else Call (call.Clone number)
+clone_asks number (Some ticket) = if ticket.is_cloned then Refused ALREADY_CLONED else asked.Call (call.Clone number)
 
 abbrev pub join_asks : ℕ → Option Ticket → Asked
 join_asks number None = Refused NO_SUCH_TICKET
-join_asks number (Some ticket) = if ticket.is_cloned then Call (call.Join number) else Refused NOT_CLONED
+join_asks number (Some ticket) = if ticket.is_cloned then asked.Call (call.Join number) else Refused NOT_CLONED
 
 -- a ticket that was not cloned has no children to drop
 abbrev pub kill_asks : ℕ → Option Ticket → Asked
 kill_asks number None = Refused NO_SUCH_TICKET
-kill_asks number (Some ticket) = if ticket.is_cloned then Call (call.Kill number) else Discard number
+kill_asks number (Some ticket) = if ticket.is_cloned then asked.Call (call.Kill number) else Discard number
 
 -- what a command asks for
 unfoldable pub fork_command : ForkRegisters → ℕ → Asked

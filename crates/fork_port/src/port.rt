@@ -2,7 +2,7 @@ ghost use Rattle.std.specs.Prelude.{◌≡◌, ◌+◌, ◌*◌, ◌^◌, ◌<�
 ghost use Rattle.fork_port.specs.Ending.{join_kind, join_value};
 ghost use Rattle.fork_port.specs.Tickets.{cost};
 ghost use Rattle.fork_port.specs.Fork.{at_start, clone_asks, fork_command, fork_load, fork_store, holding, join_asks, join_result, kill_asks, refused, ticket_found, told_load};
-ghost use Rattle.fork_port.specs.Children.{IsAccounted, after_clone, after_join, after_kill, after_ticket, answered, child_registers, children_granted, given_back, of_registers, registers_told, ticket_told, with_ticket};
+ghost use Rattle.fork_port.specs.Children.{HasTicket, IsAccounted, IsAnswerable, after_clone, after_join, after_kill, after_ticket, answered, child_registers, children_granted, given_back, of_registers, registers_told, ticket_told, with_ticket};
 
 use crate::asked::{Asked, Call, Stored};
 use crate::ending::Ending;
@@ -226,7 +226,9 @@ impl ForkPort {
     /// What a command asks for.
     #[tactic(auto, unfolding(crate::specs::Fork::fork_command))]
     pub fn asked(&self, command: u32) -> Asked
-        ensures { result ≡ fork_command self.now command }
+        ensures value { result ≡ fork_command self.now command }
+        // what answers it has its conditions met
+        ensures answerable { IsAnswerable self.now command result }
     {
         let number = self.first_argument;
         match command {
@@ -247,6 +249,7 @@ impl ForkPort {
         ensures asked { IfOk result (λ asked. asked ≡ fork_command self.old command) }
         ensures ok { OnOk result (self.new ≡ answered (fork_command self.old command) self.old) }
         ensures err { OnErr result (self.new ≡ self.old) }
+        ensures holding_stays { holding self.new ≡ holding self.old }
         // Memory is wanted where a ticket is granted.
         ensures memory { OnErr result ((command ≡ TICKET_COMMAND) × (0 < children_granted self.old)) }
     {
@@ -273,6 +276,7 @@ impl ForkPort {
         requires { self.old.next_ticket < TICKETS_END }
         ensures ok { OnOk result (self.new ≡ after_ticket self.old) }
         ensures err { OnErr result (self.new ≡ self.old) }
+        ensures holding_stays { holding self.new ≡ holding self.old }
         // Memory is wanted where a ticket is granted.
         ensures memory { OnErr result (0 < children_granted self.old) }
     {
@@ -321,8 +325,9 @@ impl ForkPort {
 
     /// Does CLONE in the parent: the ticket's children are made.
     pub fn cloned(&mut self, number: u32)
-        requires { IsSomeAnd (ticket_found self.old number) (λ ticket. ticket.is_cloned ≡ false) }
-        ensures { self.new ≡ after_clone self.old number }
+        requires { HasTicket self.old number false }
+        ensures ok { self.new ≡ after_clone self.old number }
+        ensures holding_stays { holding self.new ≡ holding self.old }
     {
         self.tickets.mark_cloned(number);
         self.result = 0;
@@ -331,9 +336,11 @@ impl ForkPort {
     /// Does JOIN: the ticket's children have ended so, in order.
     #[tactic(auto, unfolding(crate::specs::Children::after_join))]
     pub fn joined(&mut self, number: u32, endings: &[Ending]) -> Result<(), AllocError>
-        requires { IsSomeAnd (ticket_found self.old number) (λ ticket. (ticket.is_cloned ≡ true) × (length endings.now ≡ ticket.children)) }
+        requires there { HasTicket self.old number true }
+        requires all { IsSomeAnd (ticket_found self.old number) (λ ticket. length endings.now ≡ ticket.children) }
         ensures ok { OnOk result (self.new ≡ after_join self.old number endings.now) }
         ensures err { OnErr result (self.new ≡ self.old) }
+        ensures holding_stays { holding self.new ≡ holding self.old }
     {
         let joined = Vec::from_slice(*self.joined.allocator(), endings)?;
         let ticket = self.give_back(number);
@@ -346,7 +353,8 @@ impl ForkPort {
     #[tactic(auto, unfolding(crate::specs::Children::after_kill))]
     pub fn killed(&mut self, number: u32)
         requires { IsSome (ticket_found self.old number) }
-        ensures { self.new ≡ after_kill self.old number }
+        ensures ok { self.new ≡ after_kill self.old number }
+        ensures holding_stays { holding self.new ≡ holding self.old }
     {
         let ticket = self.give_back(number);
         self.result = if ticket.is_cloned { ticket.children } else { 0 };
@@ -365,7 +373,8 @@ impl ForkPort {
 
     /// The port that child k of a ticket with this share starts with.
     pub fn child(&self, k: u32, share: u32) -> ForkPort
-        ensures { result ≡ child_registers self.now k share }
+        ensures ok { result ≡ child_registers self.now k share }
+        ensures holding_is_share { holding result ≡ share }
     {
         let alloc = *self.joined.allocator();
         ForkPort {
