@@ -1,5 +1,5 @@
 -- Tickets in the order of their numbers: what finding, marking, adding and taking out one does.
-use Rattle.std.proofs.Common.{◌≡◌, ◌≢◌, ℕ, zero, suc, ◌+◌, ◌<◌, ◌≤◌, Bool, true, false, not, cond, eqb, List, [], ◌∷◌, ◌++◌, length, get_or, set, map, filter, find, sum_by, Some, None, Option, Ordering, Result, Ok, Err, IfOk, OnErr, refl, sym, ap, ◌∙◌, subst, inl, inr, arith, lit≤}
+use Rattle.std.proofs.Common.{◌≡◌, ◌≢◌, ℕ, zero, suc, ◌+◌, ◌<◌, ◌≤◌, Bool, true, false, not, cond, eqb, List, [], ◌∷◌, ◌++◌, length, get_or, set, map, filter, find, sum_by, Some, None, Option, option_map, Ordering, Result, Ok, Err, IfOk, OnErr, refl, sym, ap, ◌∙◌, subst, inl, inr, arith, lit≤}
 use Rattle.std.specs.List.{All, AllByRecursion, remove}
 use Rattle.std.specs.List.Sorted.{IsSearchInRange, IsBinarySearchResult, IsNonDecreasingBy}
 use Rattle.std.specs.Ordering.{nat_cmp, ordering_index}
@@ -9,7 +9,7 @@ use Rattle.std.proofs.lemmas.Cmp.{ranked}
 use Rattle.std.proofs.lemmas.List.Elements.{All-from_recursion}
 use Rattle.std.proofs.lemmas.List.Sums.{sum_by-cons, sum_by_push}
 use Rattle.fork_port.specs.declared.tickets.Ticket.{Ticket}
-use Rattle.fork_port.specs.Tickets.{has_number, ticket_of, without, marked, with_cloned, cost, held, IsRising, IsAt}
+use Rattle.fork_port.specs.Tickets.{has_number, ticket_of, without, marked, as_cloned, with_cloned, cost, held, IsRising, IsAt}
 
 -- what holds of both choices holds of the choice
 pub either : {A : Type 0} (P : A → Type 0) (b : Bool) (x y : A) → P x → P y → P (cond b x y)
@@ -192,3 +192,38 @@ held_without (x ∷ xs) number ticket rising found = elim (eqb_tells x.number nu
     let kept : without (x ∷ xs) number ≡ x ∷ without xs number = grind (arith, nat_tests) in
     rw kept (omega (arith, sum_by-cons cost x xs, sum_by-cons cost x (without xs number), held_without xs number ticket rising.1 there))
 ]
+
+-- what is found once a ticket came, was marked or went
+pub ticket_of_push : (tickets : List Ticket) (ticket : Ticket) (other : ℕ) → AllByRecursion (λ (t : Ticket). t.number < ticket.number) tickets
+    → ticket_of (tickets ++ ticket ∷ []) other ≡ cond (eqb other ticket.number) (Some ticket) (ticket_of tickets other)
+ticket_of_push [] ticket other below = grind (arith, nat_tests)
+ticket_of_push (x ∷ xs) ticket other below =
+    let first = below.0 in
+    let rest = ticket_of_push xs ticket other below.1 in
+    grind (arith, nat_tests)
+
+pub ticket_of_with_cloned : (tickets : List Ticket) (number other : ℕ)
+    → ticket_of (with_cloned tickets number) other ≡ cond (eqb other number) (option_map as_cloned (ticket_of tickets other)) (ticket_of tickets other)
+ticket_of_with_cloned [] number other = either (λ (o : Option Ticket). None ≡ o) (eqb other number) None None refl refl
+ticket_of_with_cloned (x ∷ xs) number other =
+    let rest = ticket_of_with_cloned xs number other in
+    elim (eqb_tells x.number number) [
+      | inl here ↦
+        let mark : marked number x ≡ as_cloned x = grind (arith, nat_tests) in
+        rw mark (elim (eqb_tells x.number other) [
+          | inl same ↦ let it : other ≡ number = omega arith in grind (arith, nat_tests)
+          | inr differs ↦ grind (arith, nat_tests)
+        ])
+      | inr here ↦
+        let mark : marked number x ≡ x = grind (arith, nat_tests) in
+        rw mark (elim (eqb_tells x.number other) [
+          | inl same ↦ grind (arith, nat_tests)
+          | inr differs ↦ grind (arith, nat_tests)
+        ])
+    ]
+
+pub ticket_of_without : (tickets : List Ticket) (number other : ℕ) → ticket_of (without tickets number) other ≡ cond (eqb other number) None (ticket_of tickets other)
+ticket_of_without [] number other = either (λ (o : Option Ticket). None ≡ o) (eqb other number) None None refl refl
+ticket_of_without (x ∷ xs) number other =
+    let rest = ticket_of_without xs number other in
+    grind (arith, nat_tests)

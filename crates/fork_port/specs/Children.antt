@@ -11,7 +11,7 @@ use Rattle.fork_port.specs.declared.asked.Call.{Call}
 use Rattle.fork_port.specs.declared.asked.Call.TheVariants as call
 use Rattle.fork_port.specs.declared.refusals.TheConstants.{BAD_ARGUMENT, NOTHING_GRANTED}
 use Rattle.fork_port.specs.declared.registers.TheConstants.{TICKET_COMMAND}
-use Rattle.fork_port.specs.Tickets.{cost, held, with_cloned, without, IsRising}
+use Rattle.fork_port.specs.Tickets.{children_made, cost, held, with_cloned, without, IsRising}
 use Rattle.fork_port.specs.Fork.{ForkRegisters, ticket_found, refused, holding}
 
 -- how many children TICKET is granted: as many as it asks for, as far as allot pays for each 1 and its share
@@ -56,7 +56,7 @@ after_join f number endings = joined_from (ticket_found f number) f number endin
 
 abbrev pub killed_from : Option Ticket → ForkRegisters → ℕ → ForkRegisters
 killed_from None f number = f
-killed_from (Some ticket) f number = record (given_back f number ticket) { result = if ticket.is_cloned then ticket.children else 0 }
+killed_from (Some ticket) f number = record (given_back f number ticket) { result = children_made ticket }
 
 -- once the children of the ticket are dropped, if it was cloned
 unfoldable pub after_kill : ForkRegisters → ℕ → ForkRegisters

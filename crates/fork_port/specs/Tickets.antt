@@ -14,8 +14,11 @@ ticket_of tickets number = find (has_number number) tickets
 abbrev pub without : List Ticket → ℕ → List Ticket
 without tickets number = filter (λ ticket. not (has_number number ticket)) tickets
 
+abbrev pub as_cloned : Ticket → Ticket
+as_cloned ticket = record ticket { is_cloned = true }
+
 abbrev pub marked : ℕ → Ticket → Ticket
-marked number ticket = if has_number number ticket then record ticket { is_cloned = true } else ticket
+marked number ticket = if has_number number ticket then as_cloned ticket else ticket
 
 -- the tickets once the children of that one are made
 abbrev pub with_cloned : List Ticket → ℕ → List Ticket
@@ -25,7 +28,11 @@ with_cloned tickets number = map (marked number) tickets
 abbrev pub cost : Ticket → ℕ
 cost ticket = ticket.children * (1 + ticket.share)
 
--- what all of them cost
+-- how many of its children were made
+abbrev pub children_made : Ticket → ℕ
+children_made ticket = if ticket.is_cloned then ticket.children else 0
+
+-- what all tickets cost
 abbrev pub held : List Ticket → ℕ
 held tickets = sum_by cost tickets
 

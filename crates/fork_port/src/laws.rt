@@ -3,7 +3,7 @@
 ghost use Rattle.std.specs.Prelude.{◌≡◌, ℕ, ◌+◌, ◌*◌, ◌^◌, ◌<◌, ◌≤◌, ◌==◌, ◌↔◌, true, if◌then◌else◌, List, Some, None, IsSome, option_map};
 ghost use Rattle.std.specs.List.{AllByRecursion};
 ghost use Rattle.fork_port.specs.declared.ending.Ending.{Ending};
-ghost use Rattle.fork_port.specs.Tickets.{IsRising};
+ghost use Rattle.fork_port.specs.Tickets.{IsRising, as_cloned};
 ghost use Rattle.fork_port.specs.Fork.{ForkRegisters, fork_command, holding, refused, ticket_found};
 ghost use Rattle.fork_port.specs.Children.{IsAccounted, IsAnswerable, after_clone, after_join, after_kill, after_ticket, child_registers, children_granted, new_ticket, with_ticket};
 
@@ -43,7 +43,7 @@ pub fn one_ticket_changes()
     ensures granted { (f : ForkRegisters) (children other : ℕ) → IsAccounted f → ticket_found (with_ticket f children) other
         ≡ (if other == f.next_ticket then Some (new_ticket f children) else ticket_found f other) }
     ensures cloned { (f : ForkRegisters) (number other : ℕ) → ticket_found (after_clone f number) other
-        ≡ (if other == number then option_map (λ ticket. record ticket { is_cloned = true }) (ticket_found f other) else ticket_found f other) }
+        ≡ (if other == number then option_map as_cloned (ticket_found f other) else ticket_found f other) }
     ensures joined { (f : ForkRegisters) (number other : ℕ) (endings : List Ending) → IsSome (ticket_found f number)
         → ticket_found (after_join f number endings) other ≡ (if other == number then None else ticket_found f other) }
     ensures killed { (f : ForkRegisters) (number other : ℕ) → IsSome (ticket_found f number)

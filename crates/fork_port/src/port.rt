@@ -357,7 +357,7 @@ impl ForkPort {
         ensures holding_stays { holding self.new ≡ holding self.old }
     {
         let ticket = self.give_back(number);
-        self.result = if ticket.is_cloned { ticket.children } else { 0 };
+        self.result = ticket.children_made();
     }
 
     // Takes a ticket out, and its cost back.
@@ -365,6 +365,7 @@ impl ForkPort {
         requires { IsSome (ticket_found self.old number) }
         ensures found { ticket_found self.old number ≡ Some result }
         ensures back { self.new ≡ given_back self.old number result }
+        ensures holding_stays { holding self.new ≡ holding self.old }
     {
         let ticket = self.tickets.remove(number);
         self.allot += ticket.cost() as u32;

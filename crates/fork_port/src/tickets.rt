@@ -1,7 +1,7 @@
 ghost use Rattle.std.specs.Prelude.{◌≡◌, ℕ, ◌<◌, [], ◌∷◌, ◌++◌, ◌+◌, length, slice_get, Some, None, IsSome, IfOk, OnOk, OnErr};
 ghost use Rattle.std.specs.List.{AllByRecursion};
 ghost use Rattle.std.specs.Option.{option_copied};
-ghost use Rattle.fork_port.specs.Tickets.{IsAt, IsRising, cost, held, ticket_of, with_cloned, without};
+ghost use Rattle.fork_port.specs.Tickets.{IsAt, IsRising, children_made, cost, held, ticket_of, with_cloned, without};
 
 use std::alloc::{AllocError, Global};
 use std::marker::Model;
@@ -24,6 +24,13 @@ impl Ticket {
         ensures { result ≡ cost self }
     {
         u64::from(self.children) * (1 + u64::from(self.share))
+    }
+
+    /// How many of its children were made.
+    pub fn children_made(self) -> u32
+        ensures { result ≡ children_made self }
+    {
+        if self.is_cloned { self.children } else { 0 }
     }
 }
 
