@@ -5,7 +5,7 @@ use Rattle.std.proofs.lemmas.Bool.Decides.{nat_tests, eqb_tells}
 use Rattle.fork_port.specs.declared.ending.Ending.{Ending}
 use Rattle.fork_port.specs.declared.tickets.Ticket.{Ticket}
 use Rattle.fork_port.specs.Tickets.{ticket_of, without, with_cloned, cost, held, IsRising}
-use Rattle.fork_port.specs.Fork.{ForkRegisters, holding, refused, ticket_found}
+use Rattle.fork_port.specs.Registers.{ForkRegisters, holding, refused, ticket_found}
 use Rattle.fork_port.specs.declared.refusals.TheConstants.{TICKETS_END, BAD_ARGUMENT, NOTHING_GRANTED}
 use Rattle.fork_port.specs.Children.{IsBalanced, IsAccounted, children_granted, new_ticket, with_ticket, after_ticket, after_clone, given_back, joined_from, after_join, killed_from, after_kill}
 use mathlib.Core.Bool.{false≢true}

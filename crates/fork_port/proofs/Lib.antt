@@ -1,3 +1,3 @@
 pub mod TicketLemmas
 pub mod Balance
-pub mod Commands
+pub mod CommandLemmas

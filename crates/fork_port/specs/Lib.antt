@@ -1,4 +1,6 @@
 pub mod Ending
 pub mod Tickets
-pub mod Fork
+pub mod Registers
 pub mod Children
+pub mod Commands
+pub mod Fork

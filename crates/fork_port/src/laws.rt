@@ -4,8 +4,9 @@ ghost use Rattle.std.specs.Prelude.{◌≡◌, ℕ, ◌+◌, ◌*◌, ◌^◌, �
 ghost use Rattle.std.specs.List.{AllByRecursion};
 ghost use Rattle.fork_port.specs.declared.ending.Ending.{Ending};
 ghost use Rattle.fork_port.specs.Tickets.{IsRising, as_cloned};
-ghost use Rattle.fork_port.specs.Fork.{ForkRegisters, fork_command, holding, refused, ticket_found};
-ghost use Rattle.fork_port.specs.Children.{IsAccounted, IsAnswerable, after_clone, after_join, after_kill, after_ticket, child_registers, children_granted, new_ticket, with_ticket};
+ghost use Rattle.fork_port.specs.Registers.{ForkRegisters, holding, ticket_found};
+ghost use Rattle.fork_port.specs.Commands.{IsAnswerable, fork_command};
+ghost use Rattle.fork_port.specs.Children.{IsAccounted, after_clone, after_join, after_kill, after_ticket, child_registers, children_granted, new_ticket, with_ticket};
 
 use crate::refusals::TICKETS_END;
 

@@ -2,7 +2,7 @@
 //! makes its children, and how the children of the last join ended.
 #![tactic(auto)]
 
-mod asked;
+mod commands;
 mod ending;
 pub mod laws;
 mod port;
@@ -10,7 +10,7 @@ pub mod refusals;
 pub mod registers;
 mod tickets;
 
-pub use asked::{Asked, Call, Stored};
+pub use commands::{Asked, Call, Effect, Stored};
 pub use ending::Ending;
 pub use port::{ForkFields, ForkPort};
 pub use tickets::Ticket;

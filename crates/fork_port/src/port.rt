@@ -1,10 +1,12 @@
-ghost use Rattle.std.specs.Prelude.{◌≡◌, ◌+◌, ◌*◌, ◌^◌, ◌<◌, ◌≤◌, ◌↔◌, true, false, [], length, Some, None, IsSome, IsSomeAnd, IsErr, option_map, IfOk, OnOk, OnErr};
+ghost use Rattle.std.specs.Prelude.{◌≡◌, ◌+◌, ◌*◌, ◌^◌, ◌<◌, ◌≤◌, ◌↔◌, true, false, [], length, Some, None, IsSome, IsSomeAnd, IsErr, IsErrOf, option_map, IfOk, OnOk, OnErr};
 ghost use Rattle.fork_port.specs.Ending.{join_kind, join_value};
 ghost use Rattle.fork_port.specs.Tickets.{cost};
-ghost use Rattle.fork_port.specs.Fork.{at_start, clone_asks, fork_command, fork_load, fork_store, holding, join_asks, join_result, kill_asks, refused, ticket_found, told_load};
-ghost use Rattle.fork_port.specs.Children.{HasTicket, IsAccounted, IsAnswerable, after_clone, after_join, after_kill, after_ticket, answered, child_registers, children_granted, given_back, of_registers, registers_told, ticket_told, with_ticket};
+ghost use Rattle.fork_port.specs.Registers.{HasTicket, at_start, fields_of, holding, join_result, refused, register_store, registers_of, ticket_found, ticket_told, told_load};
+ghost use Rattle.fork_port.specs.Children.{IsAccounted, after_clone, after_join, after_kill, after_ticket, child_registers, children_granted, given_back, with_ticket};
+ghost use Rattle.fork_port.specs.Commands.{IsAnswerable, answered, clone_asks, fork_command, join_asks, kill_asks};
+ghost use Rattle.fork_port.specs.Fork.{GrantsTicket, fork_load, fork_store};
 
-use crate::asked::{Asked, Call, Stored};
+use crate::commands::{Asked, Call, Effect, Stored};
 use crate::ending::Ending;
 use crate::refusals::{
     ALREADY_CLONED, BAD_ARGUMENT, NO_SUCH_TICKET, NOT_CLONED, NOTHING_GRANTED, TICKETS_END,
@@ -16,7 +18,7 @@ use crate::registers::{
     FORK_SECOND_ARGUMENT, JOIN_COMMAND, KILL_COMMAND, TICKET_COMMAND, ZERO_COMMAND,
 };
 use crate::tickets::{Ticket, TicketList};
-use port_error::Fault;
+use port_error::{Fault, PortError};
 use std::alloc::{AllocError, Global};
 use std::marker::Model;
 use std::snapshot::Snapshot;
@@ -54,7 +56,7 @@ pub struct ForkPort {
 impl Model for ForkPort {
     ghost use Rattle.std.specs.Prelude.{List};
     ghost use Rattle.fork_port.specs.declared.tickets.Ticket.{Ticket};
-    ghost use Rattle.fork_port.specs.Fork.{ForkRegisters};
+    ghost use Rattle.fork_port.specs.Registers.{ForkRegisters};
     ghost use Rattle.fork_port.specs.Children.{IsBalanced};
 
     ghost Value = { ForkRegisters };
@@ -98,7 +100,7 @@ impl ForkPort {
 
     /// A port with these registers, without tickets and join results.
     pub fn of_fields(alloc: Global, fields: ForkFields) -> ForkPort
-        ensures { result ≡ of_registers fields }
+        ensures { result ≡ registers_of fields }
     {
         let ForkFields {
             first_argument,
@@ -127,7 +129,7 @@ impl ForkPort {
 
     /// The registers.
     pub fn fields(&self) -> ForkFields
-        ensures { result ≡ registers_told self.now }
+        ensures { result ≡ fields_of self.now }
     {
         ForkFields {
             first_argument: self.first_argument,
@@ -206,11 +208,28 @@ impl ForkPort {
         self.joined.get(at as usize).copied()
     }
 
-    /// Stores a word to a register. A command does nothing yet.
+    /// Stores a word, and does at once what a command does to the port alone.
     #[tactic(auto, unfolding(crate::specs::Fork::fork_store))]
+    pub fn store(&mut self, offset: u32, width: u32, word: u32) -> Result<Effect, PortError>
+        requires { offset ≡ FORK_COMMAND → word ≡ TICKET_COMMAND → self.old.next_ticket < TICKETS_END }
+        ensures ok { IfOk result (λ effect. fork_store self.old offset width word ≡ Some (record { fork = self.new; effect = effect })) }
+        ensures fault { IsErrOf result PortError.Fault ↔ (fork_store self.old offset width word ≡ None) }
+        ensures err { OnErr result (self.new ≡ self.old) }
+        ensures memory { IsErrOf result PortError.Memory → GrantsTicket self.old offset width word }
+    {
+        if width != 4 {
+            return Err(PortError::Fault);
+        }
+        match self.store_reg(offset, word)? {
+            Stored::Register => Ok(Effect::Done),
+            Stored::Command(command) => Ok(self.command(command)?.effect()),
+        }
+    }
+
+    /// Stores a word to a register. A command is answered, and not done.
     pub fn store_reg(&mut self, offset: u32, word: u32) -> Result<Stored, Fault>
-        ensures ok { IfOk result (λ stored. fork_store self.old offset word ≡ Some (record { fork = self.new; stored = stored })) }
-        ensures fault { IsErr result ↔ (fork_store self.old offset word ≡ None) }
+        ensures ok { IfOk result (λ stored. register_store self.old offset word ≡ Some (record { fork = self.new; stored = stored })) }
+        ensures fault { IsErr result ↔ (register_store self.old offset word ≡ None) }
         ensures err { OnErr result (self.new ≡ self.old) }
     {
         match offset {
@@ -224,7 +243,7 @@ impl ForkPort {
     }
 
     /// What a command asks for.
-    #[tactic(auto, unfolding(crate::specs::Fork::fork_command))]
+    #[tactic(auto, unfolding(crate::specs::Commands::fork_command))]
     pub fn asked(&self, command: u32) -> Asked
         ensures value { result ≡ fork_command self.now command }
         // what answers it has its conditions met

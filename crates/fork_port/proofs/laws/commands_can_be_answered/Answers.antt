@@ -1,4 +1,4 @@
-use Rattle.fork_port.proofs.Commands.{answerable}
+use Rattle.fork_port.proofs.CommandLemmas.{answerable}
 use Rattle.fork_port.proofs.laws.commands_can_be_answered.Goals as goal
 
 pub returns : goal.returns

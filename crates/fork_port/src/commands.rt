@@ -1,3 +1,8 @@
+//! What commands ask for, and what stores to ports do to the machine.
+
+ghost use Rattle.std.specs.Prelude.{◌≡◌};
+ghost use Rattle.fork_port.specs.Commands.{effect_of};
+
 /// What a store to a register was.
 #[derive(Clone, Copy, Debug, PartialEq, Eq)]
 pub enum Stored {
@@ -33,4 +38,32 @@ pub enum Asked {
     Exit(u32),
     /// That pages read as zeros: from which one, and how many.
     Zero(u32, u32),
+}
+
+/// What a store to a port does to the machine beside the port's own registers.
+#[derive(Clone, Copy, Debug, PartialEq, Eq)]
+pub enum Effect {
+    Done,
+    /// A half of mtime was written.
+    TimeWritten,
+    /// The machine is to make this call. The registers are as before.
+    Call(Call),
+    /// The machine ends with this value.
+    Exit(u32),
+    /// Pages are to read as zeros: from which one, and how many. RESULT is not set yet.
+    Zero(u32, u32),
+}
+
+impl Asked {
+    /// What the command does to the machine.
+    pub fn effect(self) -> Effect
+        ensures { result ≡ effect_of self }
+    {
+        match self {
+            Asked::Refused(_) | Asked::NewTicket | Asked::Discard(_) => Effect::Done,
+            Asked::Call(call) => Effect::Call(call),
+            Asked::Exit(value) => Effect::Exit(value),
+            Asked::Zero(first, count) => Effect::Zero(first, count),
+        }
+    }
 }
