@@ -1,13 +1,16 @@
 //! Laws of the definitions, each the contract of a function that does nothing.
 
-ghost use Rattle.std.specs.Prelude.{◌≡◌, ℕ, ◌+◌, ◌*◌, ◌^◌, ◌<◌, ◌≤◌, ◌==◌, ◌↔◌, true, if◌then◌else◌, List, Some, None, IsSome, option_map};
+ghost use Rattle.std.specs.Prelude.{◌≡◌, ℕ, ◌+◌, ◌*◌, ◌^◌, ◌<◌, ◌≤◌, ◌==◌, ◌↔◌, true, if◌then◌else◌, List, Some, None, IsSome, IfSome, option_map};
 ghost use Rattle.std.specs.List.{AllByRecursion};
 ghost use Rattle.fork_port.specs.declared.ending.Ending.{Ending};
+ghost use Rattle.fork_port.specs.declared.commands.Call.{Call};
 ghost use Rattle.fork_port.specs.Tickets.{IsRising, as_cloned};
 ghost use Rattle.fork_port.specs.Registers.{ForkRegisters, holding, ticket_found};
-ghost use Rattle.fork_port.specs.Commands.{IsAnswerable, fork_command};
+ghost use Rattle.fork_port.specs.Commands.{IsAnswerable, IsMakeable, fork_command};
+ghost use Rattle.fork_port.specs.Fork.{fork_store};
 ghost use Rattle.fork_port.specs.Children.{IsAccounted, after_clone, after_join, after_kill, after_ticket, child_registers, children_granted, new_ticket, with_ticket};
 
+use crate::commands::Effect;
 use crate::refusals::TICKETS_END;
 
 /// A grant is the greatest that was asked for and can be paid.
@@ -20,6 +23,8 @@ pub fn grant_is_the_greatest()
 
 /// What a machine holds stays, and a child holds its share.
 pub fn holding_stays()
+    ensures store { (f : ForkRegisters) (offset width word : ℕ) → IsRising f.tickets
+        → IfSome (fork_store f offset width word) (λ s. holding s.fork ≡ holding f) }
     ensures ticket { (f : ForkRegisters) → holding (after_ticket f) ≡ holding f }
     ensures clone { (f : ForkRegisters) (number : ℕ) → holding (after_clone f number) ≡ holding f }
     ensures join { (f : ForkRegisters) (number : ℕ) (endings : List Ending) → IsRising f.tickets
@@ -31,6 +36,8 @@ pub fn holding_stays()
 /// What holds of every fork port stays: tickets with rising numbers below the next one, each for a
 /// child at least, that cost what was taken from allot.
 pub fn accounts_stay()
+    ensures store { (f : ForkRegisters) (offset width word : ℕ) → IsAccounted f
+        → IfSome (fork_store f offset width word) (λ s. IsAccounted s.fork) }
     ensures ticket { (f : ForkRegisters) → IsAccounted f → IsAccounted (after_ticket f) }
     ensures clone { (f : ForkRegisters) (number : ℕ) → IsAccounted f → IsAccounted (after_clone f number) }
     ensures join { (f : ForkRegisters) (number : ℕ) (endings : List Ending) → IsAccounted f
@@ -60,6 +67,12 @@ pub fn a_number_is_no_refusal()
 /// cloned or not, as the call needs it.
 pub fn commands_can_be_answered()
     ensures { (f : ForkRegisters) (command : ℕ) → IsAnswerable f command (fork_command f command) }
+{}
+
+/// A store that is a call leaves the registers as they are, and the call can be made.
+pub fn calls_wait()
+    ensures { (f : ForkRegisters) (offset width word : ℕ) (call : Call)
+        → IfSome (fork_store f offset width word) (λ s. s.effect ≡ Effect.Call call → (s.fork ≡ f) × IsMakeable f call) }
 {}
 
 /// A child's registers depend on no ticket of its parent: before and after CLONE they are the same.
