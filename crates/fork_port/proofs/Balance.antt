@@ -1,10 +1,9 @@
 -- What the machine holds stays as tickets come, are cloned and go.
-use Rattle.std.proofs.Common.{◌≡◌, ℕ, ◌+◌, ◌-◌, ◌*◌, ◌/◌, ◌<◌, ◌≤◌, Bool, true, false, cond, eqb, min, List, [], ◌∷◌, ◌++◌, Some, None, Option, IsSome, ◌↔◌, refl, sym, ap, ◌∙◌, subst, inl, inr, lit≤, arith}
-use Rattle.std.specs.List.{AllByRecursion}
-use Rattle.std.proofs.lemmas.Bool.Decides.{nat_tests, eqb_tells}
+use Rattle.std.proofs.Common.{◌≡◌, ℕ, ◌+◌, ◌-◌, ◌<◌, ◌≤◌, Bool, true, false, cond, eqb, List, [], ◌∷◌, ◌++◌, Some, None, Option, IsSome, ◌↔◌, refl, lit≤, arith}
+use Rattle.std.proofs.lemmas.Bool.Decides.{nat_tests}
 use Rattle.fork_port.specs.declared.ending.Ending.{Ending}
 use Rattle.fork_port.specs.declared.tickets.Ticket.{Ticket}
-use Rattle.fork_port.specs.Tickets.{ticket_of, without, with_cloned, cost, held, IsRising}
+use Rattle.fork_port.specs.Tickets.{without, with_cloned, cost, held, IsRising}
 use Rattle.fork_port.specs.Registers.{ForkRegisters, holding, refused, ticket_found}
 use Rattle.fork_port.specs.declared.refusals.TheConstants.{TICKETS_END, BAD_ARGUMENT, NOTHING_GRANTED}
 use Rattle.fork_port.specs.Children.{IsBalanced, IsAccounted, children_granted, new_ticket, with_ticket, after_ticket, after_clone, given_back, joined_from, after_join, killed_from, after_kill}

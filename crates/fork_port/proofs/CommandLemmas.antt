@@ -1,14 +1,13 @@
 -- What holds where a command asks for something.
-use Rattle.std.proofs.Common.{◌≡◌, ℕ, Bool, true, false, cond, eqb, Some, None, Option, IsSome, IsSomeAnd, refl, sym, ◌∙◌, arith}
+use Rattle.std.proofs.Common.{◌≡◌, ℕ, Bool, true, false, cond, eqb, Some, None, Option, refl}
 use Rattle.std.proofs.lemmas.Bool.Decides.{Decides-eqb}
 use Rattle.fork_port.specs.declared.commands.Asked.{Asked}
-use Rattle.fork_port.specs.declared.commands.Call.{Call}
 use Rattle.fork_port.specs.declared.commands.Asked.TheVariants as asked
 use Rattle.fork_port.specs.declared.commands.Call.TheVariants as call
 use Rattle.fork_port.specs.declared.tickets.Ticket.{Ticket}
-use Rattle.fork_port.specs.declared.refusals.TheConstants.{NO_SUCH_TICKET, ALREADY_CLONED, NOT_CLONED, UNKNOWN_COMMAND}
+use Rattle.fork_port.specs.declared.refusals.TheConstants.{ALREADY_CLONED, NOT_CLONED}
 use Rattle.fork_port.specs.declared.registers.TheConstants.{TICKET_COMMAND, CLONE_COMMAND, JOIN_COMMAND, KILL_COMMAND, EXIT_COMMAND, ZERO_COMMAND}
-use Rattle.fork_port.specs.Registers.{ForkRegisters, ticket_found, HasTicket}
+use Rattle.fork_port.specs.Registers.{ForkRegisters, ticket_found}
 use Rattle.fork_port.specs.Commands.{IsAnswerable, clone_asks, join_asks, kill_asks, fork_command}
 use Rattle.fork_port.proofs.TicketLemmas.{either}
 

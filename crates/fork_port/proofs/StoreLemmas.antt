@@ -1,10 +1,9 @@
 -- What holds of each store.
-use Rattle.std.proofs.Common.{◌≡◌, ℕ, Bool, cond, eqb, Option, Some, None, IfSome, option_map, refl, sym, ap, ◌∙◌, subst}
-use Rattle.fork_port.specs.declared.commands.Stored.TheVariants.{Register, Command}
+use Rattle.std.proofs.Common.{◌≡◌, ℕ, eqb, Option, None, IfSome, option_map, refl, subst}
+use Rattle.fork_port.specs.declared.commands.Stored.TheVariants.{Command}
 use Rattle.fork_port.specs.declared.commands.Call.{Call}
 use Rattle.fork_port.specs.declared.commands.Asked.{Asked}
 use Rattle.fork_port.specs.declared.commands.Asked.TheVariants as asked
-use Rattle.fork_port.specs.declared.commands.Effect.{Effect}
 use Rattle.fork_port.specs.declared.commands.Effect.TheVariants as effect
 use Rattle.fork_port.specs.declared.registers.TheConstants.{FORK_FIRST_ARGUMENT, FORK_SECOND_ARGUMENT, FORK_COMMAND, FORK_JOIN_SELECT}
 use Rattle.fork_port.specs.Tickets.{IsRising}

@@ -1,12 +1,11 @@
 -- Tickets in the order of their numbers: what finding, marking, adding and taking out one does.
-use Rattle.std.proofs.Common.{◌≡◌, ◌≢◌, ℕ, zero, suc, ◌+◌, ◌<◌, ◌≤◌, Bool, true, false, not, cond, eqb, List, [], ◌∷◌, ◌++◌, length, get_or, set, map, filter, find, sum_by, Some, None, Option, option_map, Ordering, Result, Ok, Err, IfOk, OnErr, refl, sym, ap, ◌∙◌, subst, inl, inr, arith, lit≤}
-use Rattle.std.specs.List.{All, AllByRecursion, remove}
+use Rattle.std.proofs.Common.{◌≡◌, ◌≢◌, ℕ, zero, suc, ◌+◌, ◌<◌, ◌≤◌, Bool, true, false, not, cond, eqb, List, [], ◌∷◌, ◌++◌, length, get_or, set, Some, None, Option, option_map, Ordering, Result, Ok, Err, IfOk, OnErr, refl, sym, ap, ◌∙◌, subst, inl, inr, arith}
+use Rattle.std.specs.List.{AllByRecursion, remove}
 use Rattle.std.specs.List.Sorted.{IsSearchInRange, IsBinarySearchResult, IsNonDecreasingBy}
 use Rattle.std.specs.Ordering.{nat_cmp, ordering_index}
 use Rattle.std.proofs.lemmas.Bool.{cases_lt}
 use Rattle.std.proofs.lemmas.Bool.Decides.{nat_tests, eqb_tells}
 use Rattle.std.proofs.lemmas.Cmp.{ranked}
-use Rattle.std.proofs.lemmas.List.Elements.{All-from_recursion}
 use Rattle.std.proofs.lemmas.List.Sums.{sum_by-cons, sum_by_push}
 use Rattle.fork_port.specs.declared.tickets.Ticket.{Ticket}
 use Rattle.fork_port.specs.Tickets.{has_number, ticket_of, without, marked, as_cloned, with_cloned, cost, held, IsRising, IsAt}
@@ -150,9 +149,10 @@ number_marked number ticket = either (λ (t : Ticket). t.number ≡ ticket.numbe
 
 pub rising_with_cloned : (tickets : List Ticket) (number : ℕ) → IsRising tickets → IsRising (with_cloned tickets number)
 rising_with_cloned [] number rising = tt
-rising_with_cloned (x ∷ xs) number rising =
-    (subst (λ (n : ℕ). IsBelow n (with_cloned xs number)) (sym (number_marked number x)) (all_with_cloned (λ (other : Ticket). x.number < other.number) (λ t h. h) xs number rising.0),
-    rising_with_cloned xs number rising.1)
+rising_with_cloned (x ∷ xs) number rising = (
+  subst (λ (n : ℕ). IsBelow n (with_cloned xs number)) (sym (number_marked number x)) (all_with_cloned (λ (other : Ticket). x.number < other.number) (λ t h. h) xs number rising.0),
+  rising_with_cloned xs number rising.1,
+)
 
 pub rising_without : (tickets : List Ticket) (number : ℕ) → IsRising tickets → IsRising (without tickets number)
 rising_without [] number rising = tt
@@ -182,15 +182,15 @@ pub held_without : (tickets : List Ticket) (number : ℕ) (ticket : Ticket) → 
 held_without [] number ticket rising found = cc
 held_without (x ∷ xs) number ticket rising found = elim (eqb_tells x.number number) [
   | inl here ↦
-    let same : x.number ≡ number = here.1 in
-    let is_it : x ≡ ticket = grind (arith, nat_tests) in
-    let rest = without_above xs number (subst (λ (n : ℕ). IsBelow n xs) same rising.0) in
-    let kept : without (x ∷ xs) number ≡ xs = grind (arith, nat_tests) in
-    rw kept (omega (arith, sum_by-cons cost x xs, ap cost is_it))
+      let same : x.number ≡ number = here.1 in
+      let is_it : x ≡ ticket = grind (arith, nat_tests) in
+      let rest = without_above xs number (subst (λ (n : ℕ). IsBelow n xs) same rising.0) in
+      let kept : without (x ∷ xs) number ≡ xs = grind (arith, nat_tests) in
+      rw kept (omega (arith, sum_by-cons cost x xs, ap cost is_it))
   | inr here ↦
-    let there : ticket_of xs number ≡ Some ticket = grind (arith, nat_tests) in
-    let kept : without (x ∷ xs) number ≡ x ∷ without xs number = grind (arith, nat_tests) in
-    rw kept (omega (arith, sum_by-cons cost x xs, sum_by-cons cost x (without xs number), held_without xs number ticket rising.1 there))
+      let there : ticket_of xs number ≡ Some ticket = grind (arith, nat_tests) in
+      let kept : without (x ∷ xs) number ≡ x ∷ without xs number = grind (arith, nat_tests) in
+      rw kept (omega (arith, sum_by-cons cost x xs, sum_by-cons cost x (without xs number), held_without xs number ticket rising.1 there))
 ]
 
 -- what is found once a ticket came, was marked or went
@@ -209,17 +209,17 @@ ticket_of_with_cloned (x ∷ xs) number other =
     let rest = ticket_of_with_cloned xs number other in
     elim (eqb_tells x.number number) [
       | inl here ↦
-        let mark : marked number x ≡ as_cloned x = grind (arith, nat_tests) in
-        rw mark (elim (eqb_tells x.number other) [
-          | inl same ↦ let it : other ≡ number = omega arith in grind (arith, nat_tests)
-          | inr differs ↦ grind (arith, nat_tests)
-        ])
+          let mark : marked number x ≡ as_cloned x = grind (arith, nat_tests) in
+          rw mark (elim (eqb_tells x.number other) [
+            | inl same ↦ let it : other ≡ number = omega arith in grind (arith, nat_tests)
+            | inr differs ↦ grind (arith, nat_tests)
+          ])
       | inr here ↦
-        let mark : marked number x ≡ x = grind (arith, nat_tests) in
-        rw mark (elim (eqb_tells x.number other) [
-          | inl same ↦ grind (arith, nat_tests)
-          | inr differs ↦ grind (arith, nat_tests)
-        ])
+          let mark : marked number x ≡ x = grind (arith, nat_tests) in
+          rw mark (elim (eqb_tells x.number other) [
+            | inl same ↦ grind (arith, nat_tests)
+            | inr differs ↦ grind (arith, nat_tests)
+          ])
     ]
 
 pub ticket_of_without : (tickets : List Ticket) (number other : ℕ) → ticket_of (without tickets number) other ≡ cond (eqb other number) None (ticket_of tickets other)

@@ -1,11 +1,11 @@
 -- What becomes of the registers as tickets are granted, cloned, joined and killed, and what a child starts with.
-use Rattle.std.specs.Prelude.{◌≡◌, ℕ, ◌+◌, ◌-◌, ◌*◌, ◌/◌, ◌^◌, ◌<◌, ◌==◌, false, min, if◌then◌else◌, List, [], ◌∷◌, ◌++◌, Option, Some, None}
+use Rattle.std.specs.Prelude.{◌≡◌, ℕ, ◌+◌, ◌-◌, ◌/◌, ◌^◌, ◌<◌, ◌==◌, false, min, if◌then◌else◌, List, [], ◌∷◌, ◌++◌, Option, Some, None}
 use Rattle.std.specs.List.{AllByRecursion}
 use Rattle.fork_port.specs.declared.ending.Ending.{Ending}
 use Rattle.fork_port.specs.declared.tickets.Ticket.{Ticket}
 use Rattle.fork_port.specs.declared.refusals.TheConstants.{BAD_ARGUMENT, NOTHING_GRANTED}
 use Rattle.fork_port.specs.Tickets.{children_made, cost, held, with_cloned, without, IsRising}
-use Rattle.fork_port.specs.Registers.{ForkRegisters, ticket_found, refused, holding}
+use Rattle.fork_port.specs.Registers.{ForkRegisters, ticket_found, refused}
 
 -- how many children TICKET is granted: as many as it asks for, as far as allot pays for each 1 and its share
 abbrev pub children_granted : ForkRegisters → ℕ
@@ -22,7 +22,7 @@ with_ticket f children = record f {
   allot = f.allot - cost (new_ticket f children);
   granted = children;
   next_ticket = f.next_ticket + 1;
-  tickets = f.tickets ++ new_ticket f children ∷ []
+  tickets = f.tickets ++ new_ticket f children ∷ [];
 }
 
 -- after TICKET
@@ -58,7 +58,13 @@ after_kill f number = killed_from (ticket_found f number) f number
 -- what child k of a ticket with this share starts with, from its parent's registers
 abbrev pub child_registers : ForkRegisters → ℕ → ℕ → ForkRegisters
 child_registers f k share = record f {
-  result = k; clone_id = k; allot = share; next_ticket = 1; tickets = []; joined = []; opening = share
+  result = k;
+  clone_id = k;
+  allot = share;
+  next_ticket = 1;
+  tickets = [];
+  joined = [];
+  opening = share;
 }
 
 -- What holds of every fork port. What the machine holds is what it started with, and the tickets have rising

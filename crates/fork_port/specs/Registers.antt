@@ -32,8 +32,17 @@ pub record ForkRegisters : Type 0 where
 -- the registers of a machine that starts with this allot
 abbrev pub at_start : ℕ → ForkRegisters
 at_start allot = record {
-  first_argument = 0; second_argument = 0; result = 0; clone_id = 0; allot = allot; join_select = 0;
-  granted = 0; next_ticket = 1; tickets = []; joined = []; opening = allot
+  first_argument = 0;
+  second_argument = 0;
+  result = 0;
+  clone_id = 0;
+  allot = allot;
+  join_select = 0;
+  granted = 0;
+  next_ticket = 1;
+  tickets = [];
+  joined = [];
+  opening = allot;
 }
 
 abbrev pub ticket_found : ForkRegisters → ℕ → Option Ticket
@@ -91,13 +100,27 @@ ticket_told ticket = (ticket.children, ticket.share, ticket.is_cloned)
 -- the registers as a record of numbers, and the registers of a port that is made from one
 abbrev pub fields_of : ForkRegisters → ForkFields
 fields_of f = record {
-  first_argument = f.first_argument; second_argument = f.second_argument; result = f.result; clone_id = f.clone_id;
-  allot = f.allot; join_select = f.join_select; granted = f.granted; next_ticket = f.next_ticket
+  first_argument = f.first_argument;
+  second_argument = f.second_argument;
+  result = f.result;
+  clone_id = f.clone_id;
+  allot = f.allot;
+  join_select = f.join_select;
+  granted = f.granted;
+  next_ticket = f.next_ticket;
 }
 
 abbrev pub registers_of : ForkFields → ForkRegisters
 registers_of f = record {
-  first_argument = f.first_argument; second_argument = f.second_argument; result = f.result; clone_id = f.clone_id;
-  allot = f.allot; join_select = f.join_select; granted = f.granted; next_ticket = f.next_ticket;
-  tickets = []; joined = []; opening = f.allot
+  first_argument = f.first_argument;
+  second_argument = f.second_argument;
+  result = f.result;
+  clone_id = f.clone_id;
+  allot = f.allot;
+  join_select = f.join_select;
+  granted = f.granted;
+  next_ticket = f.next_ticket;
+  tickets = [];
+  joined = [];
+  opening = f.allot;
 }

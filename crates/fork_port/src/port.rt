@@ -62,17 +62,17 @@ impl Model for ForkPort {
     ghost Value = { ForkRegisters };
 
     ghost view = { λ p. record {
-        first_argument = p.first_argument;
-        second_argument = p.second_argument;
-        result = p.result;
-        clone_id = p.clone_id;
-        allot = p.allot;
-        join_select = p.join_select;
-        granted = p.granted;
-        next_ticket = p.next_ticket;
-        tickets = p.tickets;
-        joined = p.joined.items;
-        opening = p.opening.value;
+      first_argument = p.first_argument;
+      second_argument = p.second_argument;
+      result = p.result;
+      clone_id = p.clone_id;
+      allot = p.allot;
+      join_select = p.join_select;
+      granted = p.granted;
+      next_ticket = p.next_ticket;
+      tickets = p.tickets;
+      joined = p.joined.items;
+      opening = p.opening.value;
     } };
 
     ghost invariant = { λ p. IsBalanced p.allot p.opening.value p.next_ticket p.tickets };

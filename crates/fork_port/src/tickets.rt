@@ -113,6 +113,7 @@ impl TicketList {
         ensures found { IfOk result (IsAt self.now number) }
         ensures absent { OnErr result (ticket_of self.now number ≡ None) }
     {
-        self.tickets.binary_search_by_key(&number, |ticket| ticket.number)
+        self.tickets
+            .binary_search_by_key(&number, |ticket| ticket.number)
     }
 }

@@ -1,5 +1,4 @@
-use Rattle.std.proofs.Common.{sym, ◌∙◌}
-use Rattle.fork_port.specs.Tickets.{IsAt, IsRising}
+use Rattle.fork_port.specs.Tickets.{IsAt}
 use Rattle.fork_port.proofs.TicketLemmas.{with_cloned_at, rising_with_cloned}
 use Rattle.fork_port.proofs.tickets.TicketList.mark_cloned.Goals as goal
 

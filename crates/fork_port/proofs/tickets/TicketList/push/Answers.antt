@@ -1,5 +1,3 @@
-use Rattle.std.proofs.Common.{subst}
-use Rattle.std.specs.List.{AllByRecursion}
 use Rattle.fork_port.proofs.TicketLemmas.{rising_push}
 use Rattle.fork_port.proofs.tickets.TicketList.push.Goals as goal
 

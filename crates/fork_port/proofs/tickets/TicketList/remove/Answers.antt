@@ -1,5 +1,5 @@
 use Rattle.std.proofs.Common.{Some, ap, sym, ◌∙◌}
-use Rattle.fork_port.specs.Tickets.{IsAt, IsRising}
+use Rattle.fork_port.specs.Tickets.{IsAt}
 use Rattle.fork_port.proofs.TicketLemmas.{remove_at, rising_without, ticket_of_at}
 use Rattle.fork_port.proofs.tickets.TicketList.remove.Goals as goal
 
