@@ -397,6 +397,8 @@ impl ForkPort {
         ensures holding_is_share { holding result ≡ share }
     {
         let alloc = *self.joined.allocator();
+        let tickets = TicketList::new(alloc);
+        let joined = Vec::new(alloc);
         ForkPort {
             first_argument: self.first_argument,
             second_argument: self.second_argument,
@@ -406,8 +408,8 @@ impl ForkPort {
             join_select: self.join_select,
             granted: self.granted,
             next_ticket: 1,
-            tickets: TicketList::new(alloc),
-            joined: Vec::new(alloc),
+            tickets,
+            joined,
             opening: Snapshot::of(&share),
         }
     }
