@@ -18,7 +18,7 @@ use Rattle.rv_decode.specs.declared.kinds.Group.{Group}
 use Rattle.rv_decode.specs.declared.kinds.Group.TheVariants.{LoadUpper, AddUpper, Jump, JumpRegister, Branch, Load, Store, ComputeImmediate, Compute, Nothing, EnvironmentCall, Breakpoint, TrapReturn, Csr, LoadReserved, StoreConditional, Amo}
 use Rattle.rv_decode.specs.Kinds.{group_of}
 use Rattle.rv_exec.specs.Memory.{load_width, store_bytes}
-use Rattle.forest_model.specs.declared.Ending.{Ending}
+use Rattle.fork_port.specs.declared.ending.Ending.{Ending}
 use Rattle.fork_port.specs.declared.port.Effect.{Effect}
 use Rattle.fork_port.specs.declared.port.Effect.TheVariants.{Done, TimeWritten, Exit}
 use Rattle.forest_model.specs.Ports.{Read, Stored, port_load, port_store}

@@ -2,6 +2,7 @@
 use Rattle.std.specs.Prelude.{ℕ}
 use Rattle.std.specs.Int.{cast_unsigned, w32}
 use Rattle.rv_decode.specs.Instruction.{Instruction}
+use Rattle.fork_port.specs.declared.commands.Call.{Call}
 use Rattle.forest_model.specs.declared.Written.{Written}
 use Rattle.forest_model.specs.declared.Written.TheVariants.{Nothing}
 use Rattle.forest_model.specs.State.{State, register, with_register, at_next_instruction}
@@ -15,6 +16,8 @@ pub data Action : Type 0 where
   retire : Written → State → Action
   -- the machine ends with a value, and the state after the instruction
   exit : ℕ → State → Action
+  -- the machine asks for a call, and the state after the instruction but for what the call does
+  ask : Call → State → Action
 
 -- the instruction retires, and the next one follows
 abbrev pub retire_next : State → Action

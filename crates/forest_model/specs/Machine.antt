@@ -1,8 +1,9 @@
 -- A machine counts its steps, and ends by its own EXIT or by its limit.
 use Rattle.std.specs.Prelude.{◌≡◌, ℕ, Bool, true, false, ◌<◌, zero, suc, ◌+◌, ◌-◌, ◌==◌, if◌then◌else◌, List, replicate, Option, Some, None}
 use Rattle.elf_load.specs.Image.{Image}
-use Rattle.forest_model.specs.declared.Ending.{Ending}
-use Rattle.forest_model.specs.declared.Ending.TheVariants.{Exit, Limit}
+use Rattle.fork_port.specs.declared.commands.Call.{Call}
+use Rattle.fork_port.specs.declared.ending.Ending.{Ending}
+use Rattle.fork_port.specs.declared.ending.Ending.TheVariants.{Exit, Limit}
 use Rattle.forest_model.specs.declared.Options.{Options}
 use Rattle.rv_traps.specs.declared.counter.Wrote.{Wrote}
 use Rattle.rv_traps.specs.declared.counter.Wrote.TheVariants as counter
@@ -15,7 +16,7 @@ use Rattle.rv_traps.specs.Counters.{counted}
 use Rattle.rv_traps.specs.Trap as csr
 use Rattle.forest_model.specs.Ports.{ports_at_start}
 use Rattle.forest_model.specs.State.{State}
-use Rattle.forest_model.specs.Action.{Action, trap, interrupt, retire, exit}
+use Rattle.forest_model.specs.Action.{Action, trap, interrupt, retire, exit, ask}
 use Rattle.forest_model.specs.Execute.{action}
 
 pub record Machine : Type 0 where
@@ -35,12 +36,14 @@ pub data Next : Type 0 where
   exception : ℕ → ℕ → Next
   timer_interrupt : Next
   plain : Next
+  call : Call → Next
 
 abbrev pub next_of : Action → Next
 next_of (trap cause value) = exception cause value
 next_of interrupt = timer_interrupt
 next_of (retire written s) = plain
 next_of (exit value s) = plain
+next_of (ask c s) = call c
 
 abbrev pub next : Machine → Next
 next m = next_of (action m.state)
@@ -80,22 +83,20 @@ applied (trap cause value) m = limited (count false Nothing (trapped cause value
 applied interrupt m = limited (count false Nothing (trapped TIMER_INTERRUPT 0 m.state)) m
 applied (retire written s) m = limited (count true written s) m
 applied (exit value s) m = ended (count true Nothing s) (Exit value) m
+applied (ask c s) m = m
 
 abbrev pub advance_from : Option Ending → Machine → Machine
 advance_from None m = applied (action m.state) m
 advance_from (Some ending) m = m
 
--- the machine after one step, or itself where it has ended
+-- the machine after one step, or itself where it has ended, and where its next step is a call: that takes
+-- other machines too
 unfoldable pub advance : Machine → Machine
 advance m = advance_from m.ending m
 
 unfoldable pub after_steps : ℕ → Machine → Machine
 after_steps zero m = m
 after_steps (suc n) m = after_steps n (advance m)
-
--- the machine run to its end
-unfoldable pub finish : Machine → Machine
-finish m = after_steps (m.limit - m.steps) m
 
 -- registers that all read 0
 unfoldable pub registers_at_start : List ℕ

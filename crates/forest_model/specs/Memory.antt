@@ -1,18 +1,20 @@
 -- Loads and stores: an address that is a multiple of the width goes to RAM, or else to a port.
 -- RISC-V Unprivileged ISA 20191213, section 2.6
-use Rattle.std.specs.Prelude.{ℕ, ◌+◌, ◌-◌, ◌%◌, ◌^◌, ◌==◌, Bool, true, false, List, length, Option, Some, None}
-use Rattle.elf_load.specs.declared.image.TheConstants.{RAM_BASE}
+use Rattle.std.specs.Prelude.{ℕ, ◌+◌, ◌-◌, ◌*◌, ◌/◌, ◌%◌, ◌^◌, ◌==◌, ◌&&◌, not, nat_le, Bool, true, false, List, length, Option, Some, None}
+use Rattle.elf_load.specs.declared.image.TheConstants.{RAM_BASE, PAGE_SIZE}
 use Rattle.byteorder.specs.Endian.{little_from}
-use Rattle.flat_memory.specs.Flat.{put_bytes}
+use Rattle.flat_memory.specs.Flat.{put_bytes, zeros}
 use Rattle.rv_decode.specs.Instruction.{Instruction}
 use Rattle.rv_exec.specs.Memory.{load_value, load_width, store_bytes}
 use Rattle.forest_model.specs.declared.Written.TheVariants.{Nothing, Time}
 use Rattle.forest_model.specs.declared.cause.TheConstants.{LOAD_ADDRESS_MISALIGNED, LOAD_ACCESS_FAULT, STORE_ADDRESS_MISALIGNED, STORE_ACCESS_FAULT}
-use Rattle.fork_port.specs.declared.port.Effect.{Effect}
-use Rattle.fork_port.specs.declared.port.Effect.TheVariants.{Done, TimeWritten, Exit}
+use Rattle.fork_port.specs.declared.commands.Effect.{Effect}
+use Rattle.fork_port.specs.declared.commands.Effect.TheVariants.{Done, TimeWritten, Exit, Call, Zero}
+use Rattle.fork_port.specs.declared.refusals.TheConstants.{BAD_ARGUMENT}
+use Rattle.fork_port.specs.Registers.{ForkRegisters, refused}
 use Rattle.forest_model.specs.Ports.{Read, Stored, port_load, port_store}
 use Rattle.forest_model.specs.State.{State, is_in_ram, at_next_instruction}
-use Rattle.forest_model.specs.Action.{Action, trap, retire, exit, retire_next, with_rd, rs1, rs2, immediate}
+use Rattle.forest_model.specs.Action.{Action, trap, retire, exit, ask, retire_next, with_rd, rs1, rs2, immediate}
 
 -- the address of a load or a store
 abbrev pub data_address : Instruction → State → ℕ
@@ -43,11 +45,28 @@ aligned_load true i address s = place_load (is_in_ram s.ram address) i address s
 unfoldable pub load : Instruction → State → Action
 load i s = aligned_load (is_aligned (data_address i s) (load_width i.kind)) i (data_address i s) s
 
+-- the state with these registers of the fork port
+abbrev pub with_fork : ForkRegisters → State → State
+with_fork fork s = record s { ports = record s.ports { fork = fork } }
+
+-- ZERO: the pages from `first` on read as zeros, or RESULT tells that they are not pages of RAM
+abbrev pub is_page_range : ℕ → ℕ → List ℕ → Bool
+is_page_range first count ram = not (count == 0) && nat_le (first + count) (length ram / PAGE_SIZE)
+
+abbrev pub with_zeros : ℕ → ℕ → State → State
+with_zeros first count s = record s { ram = put_bytes s.ram (PAGE_SIZE * first) (zeros (PAGE_SIZE * count)) }
+
+abbrev pub zeroed : Bool → ℕ → ℕ → State → State
+zeroed false first count s = with_fork (refused s.ports.fork BAD_ARGUMENT) s
+zeroed true first count s = with_fork (refused s.ports.fork 0) (with_zeros first count s)
+
 -- a store to a port, and what it does to the machine
 abbrev pub effect_action : Effect → State → Action
 effect_action Done s = retire Nothing s
 effect_action TimeWritten s = retire Time s
 effect_action (Exit value) s = exit value s
+effect_action (Call call) s = ask call s
+effect_action (Zero first count) s = retire Nothing (zeroed (is_page_range first count s.ram) first count s)
 
 abbrev pub port_action : Option Stored → ℕ → State → Action
 port_action None address s = trap STORE_ACCESS_FAULT address

@@ -10,10 +10,11 @@ use Rattle.block_port.specs.declared.registers.TheConstants.{BLOCK_SIZE}
 use Rattle.block_port.specs.Block as block
 use Rattle.block_port.specs.Block.{BlockRegisters, block_load, block_store}
 use Rattle.fork_port.specs.declared.registers.TheConstants.{FORK_SIZE}
-use Rattle.fork_port.specs.declared.port.Effect.{Effect}
-use Rattle.fork_port.specs.declared.port.Effect.TheVariants.{Done, TimeWritten}
-use Rattle.fork_port.specs.Fork as fork
-use Rattle.fork_port.specs.Fork.{ForkRegisters, ForkStored, fork_load, fork_store}
+use Rattle.fork_port.specs.declared.commands.Effect.{Effect}
+use Rattle.fork_port.specs.declared.commands.Effect.TheVariants.{Done, TimeWritten}
+use Rattle.fork_port.specs.Registers as fork
+use Rattle.fork_port.specs.Registers.{ForkRegisters}
+use Rattle.fork_port.specs.Fork.{ForkStored, fork_load, fork_store}
 use Rattle.forest_model.specs.declared.port_map.TheConstants.{CONSOLE_BASE, TIMER_BASE, TIMER_SIZE, BLOCK_BASE, FORK_BASE}
 
 pub record PortRegisters : Type 0 where

@@ -1,17 +1,20 @@
 -- The pages of RAM that a step needs: the page of its code, and the page of the data that it reads or
 -- writes. A store needs its page since the rest of it stays.
-use Rattle.std.specs.Prelude.{ℕ, ◌-◌, ◌/◌, ◌%◌, ◌==◌, ◌&&◌, Bool, true, false, if◌then◌else◌, List, [], ◌∷◌, length, Option, Some, None}
+use Rattle.std.specs.Prelude.{◌≡◌, ℕ, ◌+◌, ◌-◌, ◌/◌, ◌%◌, ◌<◌, ◌≤◌, ◌==◌, ◌&&◌, Bool, true, false, if◌then◌else◌, List, [], ◌∷◌, length, Option, Some, None, IsSomeAnd}
 use Rattle.elf_load.specs.declared.image.TheConstants.{RAM_BASE, PAGE_SIZE}
 use Rattle.rv_decode.specs.Instruction.{Instruction}
 use Rattle.rv_decode.specs.Table.{decoded}
 use Rattle.rv_traps.specs.Trap.{takes_interrupt}
-use Rattle.forest_model.specs.declared.Ending.{Ending}
+use Rattle.fork_port.specs.declared.commands.Effect.{Effect}
+use Rattle.fork_port.specs.declared.commands.Effect.TheVariants.{Done, TimeWritten, Exit, Call, Zero}
+use Rattle.fork_port.specs.declared.ending.Ending.{Ending}
 use Rattle.rv_decode.specs.declared.kinds.Group.{Group}
 use Rattle.rv_decode.specs.declared.kinds.Group.TheVariants.{LoadUpper, AddUpper, Jump, JumpRegister, Branch, Load, Store, ComputeImmediate, Compute, Nothing, EnvironmentCall, Breakpoint, TrapReturn, Csr, LoadReserved, StoreConditional, Amo}
 use Rattle.rv_decode.specs.Kinds.{group_of}
 use Rattle.rv_exec.specs.Memory.{load_width}
+use Rattle.forest_model.specs.Ports.{port_store}
 use Rattle.forest_model.specs.State.{State, is_in_ram, is_timer_due}
-use Rattle.forest_model.specs.Action.{rs1}
+use Rattle.forest_model.specs.Action.{rs1, rs2}
 use Rattle.forest_model.specs.Memory.{data_address, stored_bytes}
 use Rattle.forest_model.specs.Atomic.{is_reserved}
 use Rattle.forest_model.specs.Execute.{fetched}
@@ -70,3 +73,20 @@ touch_from (Some ending) s = []
 -- the pages that the next step touches, in order
 unfoldable pub touch : Machine → List ℕ
 touch m = touch_from m.ending m.state
+
+-- a store to a port makes this page read as zeros, which needs no page
+abbrev pub IsZeroedBy : Effect → ℕ → Type 0
+IsZeroedBy Done page = ⊥
+IsZeroedBy TimeWritten page = ⊥
+IsZeroedBy (Exit value) page = ⊥
+IsZeroedBy (Call call) page = ⊥
+IsZeroedBy (Zero first count) page = (first ≤ page) × (page < first + count)
+
+-- the coming instruction is such a store
+abbrev pub IsZeroedByStore : Instruction → ℕ → State → Type 0
+IsZeroedByStore i page s =
+    (group_of i.kind ≡ Store)
+    × IsSomeAnd (port_store s.ports (data_address i s) (length (stored_bytes i s)) (rs2 i s)) (λ stored. IsZeroedBy stored.effect page)
+
+unfoldable pub IsZeroed : State → ℕ → Type 0
+IsZeroed s page = IsSomeAnd (decoded (fetched s)) (λ i. IsZeroedByStore i page s)

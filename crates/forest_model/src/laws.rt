@@ -1,21 +1,28 @@
 //! Laws of the definitions, each the contract of a function that does nothing.
 
-ghost use Rattle.std.specs.Prelude.{◌≡◌, ◌≢◌, ℕ, true, false, ◌+◌, ◌*◌, ◌/◌, ◌<◌, ◌≤◌, [], length, slice_index, Some, None, IsSome, All, AllPairs, Contains};
+ghost use Rattle.std.specs.Prelude.{◌≡◌, ◌≢◌, ℕ, true, ◌+◌, ◌*◌, ◌/◌, ◌<◌, ◌≤◌, List, [], length, slice_index, Some, None, IsSome, All, AllPairs, Contains};
 ghost use Rattle.rv_traps.specs.Trap.{takes_interrupt};
 ghost use Rattle.forest_model.specs.State.{is_timer_due};
-ghost use Rattle.forest_model.specs.Machine.{Machine, IsWithinLimit, exception, timer_interrupt, next, limited, count, trapped, advance, after_steps, finish};
-ghost use Rattle.forest_model.specs.Touch.{touch};
+ghost use Rattle.forest_model.specs.Machine.{Machine, IsWithinLimit, exception, timer_interrupt, next, limited, count, trapped, advance, after_steps};
+ghost use Rattle.forest_model.specs.Forest.{IsChildless, booted, call_of, finish, machines};
+ghost use Rattle.forest_tree.specs.Operations.{IsMachine};
+ghost use Rattle.forest_tree.specs.Settle.{alone};
+ghost use Rattle.forest_tree.specs.Sound.{IsSound};
+ghost use Rattle.elf_load.specs.Image.{Image};
+ghost use Rattle.forest_model.specs.Touch.{IsZeroed, touch};
 
-use crate::Written;
+use crate::{Options, Written};
 use elf_load::PAGE_SIZE;
 use rv_traps::TIMER_INTERRUPT;
 
-/// A step of a live machine is counted, none moves the limit, and a machine that has ended stays.
+/// A step of a live machine is counted, unless it is a call, and none moves the limit. A machine that has
+/// ended stays, and so does one whose next step is a call.
 pub fn advance_counts()
-    ensures counted { (m : Machine) → m.ending ≡ None → (advance m).steps ≡ m.steps + 1 }
+    ensures counted { (m : Machine) → m.ending ≡ None → call_of (next m) ≡ None → (advance m).steps ≡ m.steps + 1 }
     ensures limit_stays { (m : Machine) → (advance m).limit ≡ m.limit }
     ensures within { (m : Machine) → IsWithinLimit m → IsWithinLimit (advance m) }
     ensures ended { (m : Machine) → IsSome m.ending → advance m ≡ m }
+    ensures waits { (m : Machine) → IsSome (call_of (next m)) → advance m ≡ m }
 {}
 
 /// A step of a live machine that is an exception is counted and goes to the handler, and changes
@@ -34,22 +41,21 @@ pub fn interrupt_comes_first()
         → advance m ≡ limited (count false Written.Nothing (trapped TIMER_INTERRUPT 0 m.state)) m }
 {}
 
-/// A machine run to its end is itself where it has ended, and else what its next step leads to. It
-/// has ended, and no other function of machines does so.
-pub fn finish_ends()
-    ensures ended { (m : Machine) → IsSome m.ending → finish m ≡ m }
-    ensures live { (m : Machine) → m.ending ≡ None → m.steps < m.limit → finish m ≡ finish (advance m) }
-    ensures ends { (m : Machine) → IsWithinLimit m → IsSome (finish m).ending }
-    ensures only { (f : Machine → Machine)
-        → ((m : Machine) → IsSome m.ending → f m ≡ m)
-        → ((m : Machine) → m.ending ≡ None → f m ≡ f (advance m))
-        → (m : Machine) → IsWithinLimit m → f m ≡ finish m }
+/// The machines keep the rules of a forest: the laws of its trees hold of them. A machine that is booted
+/// is a sound tree alone.
+pub fn machines_keep_the_rules()
+    ensures rules { IsMachine machines }
+    ensures booted { (image : Image) (disk input : List ℕ) (options : Options) → 0 < options.limit
+        → IsSound machines (booted image disk input options) }
 {}
 
-/// A machine that ends on the way to its limit is then what running it to its end gives.
-pub fn ends_on_the_way()
-    ensures { (n : ℕ) (m : Machine) → n + m.steps ≤ m.limit → IsSome (after_steps n m).ending
-        → finish m ≡ after_steps n m }
+/// A machine that may have no clones and has no ticket never makes a call, and neither does it after any
+/// steps. So it is run to its end by its own steps alone.
+pub fn childless_machines_run_alone()
+    ensures no_call { (m : Machine) → IsChildless m → call_of (next m) ≡ None }
+    ensures stays { (n : ℕ) (m : Machine) → IsChildless m → IsChildless (after_steps n m) }
+    ensures finish { (n : ℕ) (m : Machine) → IsChildless m → IsWithinLimit m → IsSome (after_steps n m).ending
+        → finish (alone machines m) ≡ alone machines (after_steps n m) }
 {}
 
 /// Two runs of one machine are equal. A run is one run however it is cut into pieces, and two that have
@@ -69,8 +75,8 @@ pub fn touched_pages()
     ensures ended { (m : Machine) → IsSome m.ending → touch m ≡ [] }
 {}
 
-/// A step changes RAM only in the pages that it touches.
+/// A step changes RAM only in the pages that it touches, and in those that it zeroes.
 pub fn writes_touched_pages()
-    ensures { (m : Machine) (at : ℕ) → ¬ Contains (touch m) (at / PAGE_SIZE)
+    ensures { (m : Machine) (at : ℕ) → ¬ Contains (touch m) (at / PAGE_SIZE) → ¬ IsZeroed m.state (at / PAGE_SIZE)
         → slice_index (advance m).state.ram at ≡ slice_index m.state.ram at }
 {}

@@ -6,16 +6,9 @@ pub mod cause;
 pub mod laws;
 pub mod port_map;
 
-use rv_traps::Wrote;
+pub use fork_port::Ending;
 
-/// How a machine ended.
-#[derive(Clone, Copy, Debug, PartialEq, Eq)]
-pub enum Ending {
-    /// By EXIT, with its value.
-    Exit(u32),
-    /// By the limit of its steps.
-    Limit,
-}
+use rv_traps::Wrote;
 
 /// What of the counters a step wrote itself. It does not count the step.
 #[derive(Clone, Copy, Debug, PartialEq, Eq)]

@@ -5,7 +5,7 @@ use Rattle.std.specs.Result.{IsErrAnd}
 use Rattle.std.proofs.lemmas.Bool.{lt-ltb}
 use Rattle.elf_load.specs.Image.{Image}
 use Rattle.elf_load.specs.Elf.{loaded}
-use Rattle.forest_model.specs.declared.Ending.{Ending}
+use Rattle.fork_port.specs.declared.ending.Ending.{Ending}
 use Rattle.forest_model.specs.declared.Options.{Options}
 use Rattle.forest_model.specs.Machine.{Machine, boot, finish}
 use Rattle.run_report.specs.Report.{ended_root, report, report_by, report_of}

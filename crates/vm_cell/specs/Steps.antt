@@ -1,6 +1,6 @@
 -- How the answers of a machine's calls tell where it stands.
 use Rattle.std.specs.Prelude.{◌≡◌, ℕ, ◌<◌, ◌≤◌, Option, Some, None}
-use Rattle.forest_model.specs.declared.Ending.{Ending}
+use Rattle.fork_port.specs.declared.ending.Ending.{Ending}
 use Rattle.vm_cell.specs.declared.vm.Stepped.{Stepped}
 use Rattle.vm_cell.specs.declared.vm.Stepped.TheVariants.{Went, Ended}
 
