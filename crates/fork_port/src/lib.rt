@@ -1,10 +1,19 @@
-//! The fork port: a guest's calls to the machine that runs it.
+//! The fork port: a guest's calls to the machine that runs it. It keeps the tickets by which a machine
+//! makes its children, and how the children of the last join ended.
 #![tactic(auto)]
 
+mod commands;
+mod ending;
+pub mod laws;
 mod port;
+pub mod refusals;
 pub mod registers;
+mod tickets;
 
-pub use port::{Effect, ForkPort};
+pub use commands::{Asked, Call, Effect, Stored};
+pub use ending::Ending;
+pub use port::{ForkFields, ForkPort};
+pub use tickets::Ticket;
 
 #[cfg(test)]
 mod tests;

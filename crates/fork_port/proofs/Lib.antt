@@ -1,0 +1,4 @@
+pub mod TicketLemmas
+pub mod Balance
+pub mod CommandLemmas
+pub mod StoreLemmas
