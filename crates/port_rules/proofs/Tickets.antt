@@ -1,15 +1,15 @@
 -- The fork port keeps what a forest asks of the tickets of a machine.
-use Rattle.std.proofs.Common.{◌≡◌, ◌≢◌, ℕ, zero, suc, ◌+◌, ◌*◌, ◌^◌, ◌<◌, ◌≤◌, ◌&&◌, ◌||◌, not, eqb, ltb, leb, Bool, true, false, cond, refl, sym, ap, ◌∙◌, subst, arith, ltb-true, lt-ltb, leb-true, le-leb, eqb-true, eq-eqb, List, [], ◌∷◌, ◌++◌, Option, Some, None, IsSome, IsSomeAnd, option_map, is_some}
+use Rattle.std.proofs.Common.{◌≡◌, ℕ, zero, suc, ◌+◌, ◌*◌, ◌^◌, ◌<◌, ◌≤◌, ◌&&◌, ◌||◌, not, eqb, ltb, leb, Bool, true, false, cond, refl, sym, ap, ◌∙◌, subst, arith, ltb-true, lt-ltb, leb-true, le-leb, eqb-true, eq-eqb, List, [], ◌∷◌, Option, Some, None, IsSome, IsSomeAnd, option_map, is_some}
 use Rattle.std.proofs.lemmas.Bool.{eqb-false, lt-leb}
 use Rattle.std.proofs.lemmas.Bool.Decides.{nat_tests}
 use Rattle.std.specs.List.{AllByRecursion}
-use Rattle.forest_tree.specs.Operations.{Grant, is_among}
+use Rattle.forest_tree.specs.Operations.{is_among}
 use Rattle.fork_port.specs.declared.ending.Ending.{Ending}
 use Rattle.fork_port.specs.declared.tickets.Ticket.{Ticket}
-use Rattle.fork_port.specs.Tickets.{has_number, ticket_of, without, with_cloned, as_cloned, cost, held, IsRising}
-use Rattle.fork_port.specs.Registers.{ForkRegisters, HasTicket, holding, ticket_found, refused}
-use Rattle.fork_port.specs.Children.{IsBalanced, IsAccounted, children_granted, new_ticket, with_ticket, after_ticket, after_clone, given_back, joined_from, after_join, killed_from, after_kill, child_registers}
-use Rattle.fork_port.proofs.TicketLemmas.{held_without, ticket_of_push, ticket_of_with_cloned, ticket_of_without}
+use Rattle.fork_port.specs.Tickets.{ticket_of, as_cloned, cost, held, IsRising}
+use Rattle.fork_port.specs.Registers.{ForkRegisters, HasTicket, holding, ticket_found}
+use Rattle.fork_port.specs.Children.{IsAccounted, children_granted, new_ticket, with_ticket, after_ticket, after_clone, joined_from, after_join, killed_from, after_kill, child_registers}
+use Rattle.fork_port.proofs.TicketLemmas.{held_without, ticket_of_push, ticket_of_with_cloned}
 use Rattle.fork_port.proofs.Balance.{unless, holding_after_ticket, holding_after_clone, holding_after_join, holding_after_kill, accounted_after_ticket, accounted_after_clone, accounted_after_join, accounted_after_kill, found_after_join, found_after_kill}
 use Rattle.port_rules.specs.Rules.{cloned_numbers, is_cloned, is_uncloned, grant_of, may_clone, are_below, are_above, are_for_children, are_rising, is_accounted, IsPortStep}
 
@@ -90,9 +90,9 @@ accounted-is f h =
 pub is-accounted : (f : ForkRegisters) → IsAccounted f → is_accounted f ≡ true
 is-accounted f h =
     and (eqb (holding f) f.opening && ltb f.opening (2 ^ 32)) (are_below f.next_ticket f.tickets && (are_for_children f.tickets && are_rising f.tickets))
-        (and (eqb (holding f) f.opening) (ltb f.opening (2 ^ 32)) (eq-eqb (holding f) f.opening h.balanced.kept) (lt-ltb f.opening (2 ^ 32) h.balanced.fits))
-        (and (are_below f.next_ticket f.tickets) (are_for_children f.tickets && are_rising f.tickets) (all-below f.next_ticket f.tickets h.balanced.below)
-            (and (are_for_children f.tickets) (are_rising f.tickets) (all-children f.tickets h.balanced.for_children) (all-rising f.tickets h.rising)))
+    (and (eqb (holding f) f.opening) (ltb f.opening (2 ^ 32)) (eq-eqb (holding f) f.opening h.balanced.kept) (lt-ltb f.opening (2 ^ 32) h.balanced.fits))
+    (and (are_below f.next_ticket f.tickets) (are_for_children f.tickets && are_rising f.tickets) (all-below f.next_ticket f.tickets h.balanced.below)
+    (and (are_for_children f.tickets) (are_rising f.tickets) (all-children f.tickets h.balanced.for_children) (all-rising f.tickets h.rising)))
 
 -- a ticket is among the cloned ones where it is found so
 above-none : (tickets : List Ticket) (number : ℕ) → AllByRecursion (λ (ticket : Ticket). number < ticket.number) tickets → ticket_of tickets number ≡ None
@@ -124,9 +124,9 @@ among-cloned [] rising number = refl
 among-cloned (x ∷ xs) rising number =
     among-if x.is_cloned number x.number (cloned_numbers xs)
     ∙ among-head x number (eqb x.number number) x.is_cloned (is_among number (cloned_numbers xs)) (is_cloned (ticket_of xs number)) refl
-        (λ same. among-cloned xs rising.1 number
-            ∙ ap is_cloned (above-none xs number (subst (λ n. AllByRecursion (λ (ticket : Ticket). n < ticket.number) xs) (eqb-true x.number number same) rising.0)))
-        (among-cloned xs rising.1 number)
+    (λ same. among-cloned xs rising.1 number
+    ∙ ap is_cloned (above-none xs number (subst (λ n. AllByRecursion (λ (ticket : Ticket). n < ticket.number) xs) (eqb-true x.number number same) rising.0)))
+    (among-cloned xs rising.1 number)
     ∙ if-cloned (eqb x.number number) x (ticket_of xs number)
 
 -- what is found decides
@@ -204,8 +204,8 @@ step-after_ticket : (f : ForkRegisters) → IsAccounted f → TicketsStep f (aft
 unfolding after_ticket
 step-after_ticket f good =
     unless (λ g. TicketsStep f g (still f)) (eqb f.first_argument 0) _ _ (same-tickets f _ refl refl)
-        (λ _. unless (λ g. TicketsStep f g (still f)) (eqb (children_granted f) 0) _ _ (same-tickets f _ refl refl)
-            (λ _. with-new f (children_granted f) good))
+    (λ _. unless (λ g. TicketsStep f g (still f)) (eqb (children_granted f) 0) _ _ (same-tickets f _ refl refl)
+    (λ _. with-new f (children_granted f) good))
 
 -- as a step of the port
 whole : (f g : ForkRegisters) (then_cloned : ℕ → Bool) → IsAccounted g → holding g ≡ holding f → TicketsStep f g then_cloned → IsPortStep f g then_cloned
@@ -279,15 +279,15 @@ module _ (f : ForkRegisters) (number : ℕ) where
       let good : IsAccounted f = accounted-is f h in
       let is = has-ticket (ticket_found f number) false has in
       let found : (u : ℕ) → ticket_found (after_clone f number) u ≡ cond (eqb u number) (option_map as_cloned (ticket_found f u)) (ticket_found f u) =
-          λ u. ticket_of_with_cloned f.tickets number u in
+      λ u. ticket_of_with_cloned f.tickets number u in
       whole f (after_clone f number) (λ u. eqb number u || is_cloned (ticket_found f u))
-          (accounted_after_clone f number good) (holding_after_clone f number) (record {
-            tickets = λ u. ap is_cloned (found u)
-                ∙ clone-is u (eqb u number) (ticket_found f u) (λ same. ap is_some (ap (ticket_found f) (eqb-true u number same) ∙ is.1))
-                ∙ ap (λ b. b || is_cloned (ticket_found f u)) (eqb-sym u number);
-            grants = λ u cloned. ap grant_of (found u) ∙ clone-grant (eqb u number) (ticket_found f u);
-            once = λ u may. clone-once f.next_ticket u (eqb u number) (ticket_found f u) (ap (λ k. leb f.next_ticket u || is_uncloned k) (sym (found u)) ∙ may);
-          })
+      (accounted_after_clone f number good) (holding_after_clone f number) (record {
+        tickets = λ u. ap is_cloned (found u)
+            ∙ clone-is u (eqb u number) (ticket_found f u) (λ same. ap is_some (ap (ticket_found f) (eqb-true u number same) ∙ is.1))
+            ∙ ap (λ b. b || is_cloned (ticket_found f u)) (eqb-sym u number);
+        grants = λ u cloned. ap grant_of (found u) ∙ clone-grant (eqb u number) (ticket_found f u);
+        once = λ u may. clone-once f.next_ticket u (eqb u number) (ticket_found f u) (ap (λ k. leb f.next_ticket u || is_uncloned k) (sym (found u)) ∙ may);
+      })
 
   -- a ticket that goes
   gone-is : (same : Bool) (found : Option Ticket) → is_cloned (cond same None found) ≡ not same && is_cloned found
@@ -309,7 +309,7 @@ module _ (f : ForkRegisters) (number : ℕ) where
     grants = λ u cloned. ap grant_of (found u) ∙ gone-grant (eqb u number) (ticket_found f u) (ap is_cloned (sym (found u)) ∙ cloned);
     once = λ u may. gone-once f.next_ticket u (eqb u number) (ticket_found f u)
         (ap (λ next. leb next u || is_uncloned (cond (eqb u number) None (ticket_found f u))) (sym n)
-          ∙ ap (λ k. leb g.next_ticket u || is_uncloned k) (sym (found u)) ∙ may);
+        ∙ ap (λ k. leb g.next_ticket u || is_uncloned k) (sym (found u)) ∙ may);
   }
 
   next-join : (endings : List Ending) → (after_join f number endings).next_ticket ≡ f.next_ticket
@@ -336,16 +336,16 @@ module _ (f : ForkRegisters) (number : ℕ) where
   port-join endings h has =
       let good : IsAccounted f = accounted-is f h in
       whole f (after_join f number endings) (λ u. not (eqb number u) && is_cloned (ticket_found f u))
-          (accounted_after_join f number endings good) (holding_after_join f number endings good.rising)
-          (gone-step (after_join f number endings) (next-join endings) (λ u. found_after_join f number u endings (there true has)))
+      (accounted_after_join f number endings good) (holding_after_join f number endings good.rising)
+      (gone-step (after_join f number endings) (next-join endings) (λ u. found_after_join f number u endings (there true has)))
 
   pub port-kill : is_accounted f ≡ true → HasTicket f number true
       → IsPortStep f (after_kill f number) (λ u. not (eqb number u) && is_cloned (ticket_found f u))
   port-kill h has =
       let good : IsAccounted f = accounted-is f h in
       whole f (after_kill f number) (λ u. not (eqb number u) && is_cloned (ticket_found f u))
-          (accounted_after_kill f number good) (holding_after_kill f number good.rising)
-          (gone-step (after_kill f number) next-kill (λ u. found_after_kill f number u (there true has)))
+      (accounted_after_kill f number good) (holding_after_kill f number good.rising)
+      (gone-step (after_kill f number) next-kill (λ u. found_after_kill f number u (there true has)))
 
   -- a ticket that was not cloned is discarded by a step of the machine's own
   stays-cloned : (u : ℕ) (same : Bool) → eqb number u ≡ same → HasTicket f number false → not same && is_cloned (ticket_found f u) ≡ is_cloned (ticket_found f u)
@@ -358,10 +358,10 @@ module _ (f : ForkRegisters) (number : ℕ) where
   port-discard h has =
       let good : IsAccounted f = accounted-is f h in
       let s : TicketsStep f (after_kill f number) (λ u. not (eqb number u) && is_cloned (ticket_found f u)) =
-          gone-step (after_kill f number) next-kill (λ u. found_after_kill f number u (there false has)) in
+      gone-step (after_kill f number) next-kill (λ u. found_after_kill f number u (there false has)) in
       whole f (after_kill f number) (λ u. is_cloned (ticket_found f u))
-          (accounted_after_kill f number good) (holding_after_kill f number good.rising)
-          (record { tickets = λ u. s.tickets u ∙ stays-cloned u (eqb number u) refl has; grants = s.grants; once = s.once })
+      (accounted_after_kill f number good) (holding_after_kill f number good.rising)
+      (record { tickets = λ u. s.tickets u ∙ stays-cloned u (eqb number u) refl has; grants = s.grants; once = s.once })
 
 -- a ticket that is cloned may not be cloned again, and one that is not cloned may
 found-below-by : (number next : ℕ) (x ticket : Ticket) (rest : Option Ticket) (same : Bool) → eqb x.number number ≡ same → x.number < next
