@@ -19,8 +19,8 @@ use Rattle.rv_decode.specs.declared.kinds.Group.TheVariants.{LoadUpper, AddUpper
 use Rattle.rv_decode.specs.Kinds.{group_of}
 use Rattle.rv_exec.specs.Memory.{load_width, store_bytes}
 use Rattle.fork_port.specs.declared.ending.Ending.{Ending}
-use Rattle.fork_port.specs.declared.port.Effect.{Effect}
-use Rattle.fork_port.specs.declared.port.Effect.TheVariants.{Done, TimeWritten, Exit}
+use Rattle.fork_port.specs.declared.commands.Effect.{Effect}
+use Rattle.fork_port.specs.declared.commands.Effect.TheVariants.{Done, TimeWritten, Exit}
 use Rattle.forest_model.specs.Ports.{Read, Stored, port_load, port_store}
 use Rattle.forest_model.specs.State.{State, is_in_ram, is_timer_due, at_next_instruction}
 use Rattle.forest_model.specs.Action.{Action, trap, interrupt, retire, exit, rs1, rs2}

@@ -1,5 +1,5 @@
 -- What a machine is after a call, and what its children are.
-use Rattle.std.specs.Prelude.{ℕ, [], List, Option, Some, None}
+use Rattle.std.specs.Prelude.{ℕ, true, [], List, Option, Some, None}
 use Rattle.fork_port.specs.declared.commands.Call.{Call}
 use Rattle.fork_port.specs.declared.commands.Call.TheVariants.{Clone, Join, Kill}
 use Rattle.fork_port.specs.declared.ending.Ending.{Ending}

@@ -7,10 +7,12 @@ use Rattle.timer_port.specs.Timer.{timer_load, timer_store, writes_mtime}
 use Rattle.timer_port.specs.Timer as timer
 use Rattle.block_port.specs.Block.{BlockRegisters, WritesSector, block_load, block_store}
 use Rattle.block_port.specs.Block as block
-use Rattle.fork_port.specs.declared.port.Effect.{Effect}
-use Rattle.fork_port.specs.declared.port.Effect.TheVariants.{Done, TimeWritten}
-use Rattle.fork_port.specs.Fork.{ForkRegisters, fork_load, fork_store}
-use Rattle.fork_port.specs.Fork as fork
+use Rattle.fork_port.specs.declared.commands.Effect.{Effect}
+use Rattle.fork_port.specs.declared.commands.Effect.TheVariants.{Done, TimeWritten}
+use Rattle.fork_port.specs.Registers.{ForkRegisters}
+use Rattle.fork_port.specs.Registers as fork
+use Rattle.fork_port.specs.Fork.{GrantsTicket, fork_load, fork_store}
+use Rattle.vm_bus.specs.declared.ports.PortFields.{PortFields}
 use Rattle.vm_bus.specs.declared.addresses.TheConstants.{TIMER_BASE, CONSOLE_BASE, BLOCK_BASE, FORK_BASE}
 
 pub record BusRegisters : Type 0 where
@@ -36,6 +38,23 @@ at_start disk input allot = record {
   console = record { input = input; place = 0; output = []; line_control = 0 };
   block = block.at_start disk;
   fork = fork.at_start allot;
+}
+
+-- the registers as a record of plain numbers, and ports that are made from one
+abbrev pub fields_of : BusRegisters → PortFields
+fields_of b = record {
+  timer = b.timer;
+  console = record { place = b.console.place; line_control = b.console.line_control };
+  block = record { sector = b.block.sector; status = b.block.status; buffer = b.block.buffer };
+  fork = fork.fields_of b.fork;
+}
+
+abbrev pub ports_of_fields : PortFields → List ℕ → List ℕ → BusRegisters
+ports_of_fields fields disk input = record {
+  timer = fields.timer;
+  console = record { input = input; place = fields.console.place; output = []; line_control = fields.console.line_control };
+  block = record { sector = fields.block.sector; status = fields.block.status; buffer = fields.block.buffer; disk = disk };
+  fork = fork.registers_of fields.fork;
 }
 
 abbrev pub store_effect : ℕ → Effect
@@ -68,8 +87,8 @@ bus_store b address width word =
     else (if nat_lt address FORK_BASE then option_map (λ k. record { bus = record b { block = k }; effect = Done }) (block_store b.block (address - BLOCK_BASE) width word)
     else option_map (λ s. record { bus = record b { fork = s.fork }; effect = s.effect }) (fork_store b.fork (address - FORK_BASE) width word))))
 
--- Memory is wanted where a byte goes to the output, or a sector is written.
+-- Memory is wanted where a byte goes to the output, a sector is written, or a ticket is granted.
 abbrev pub WantsMemory : BusRegisters → ℕ → ℕ → ℕ → Type 0
 WantsMemory b address width word =
     IsSomeAnd (bus_store b address width word) (λ s. length b.console.output < length s.bus.console.output)
-    ⊎ WritesSector b.block (address - BLOCK_BASE) width word
+    ⊎ (WritesSector b.block (address - BLOCK_BASE) width word ⊎ GrantsTicket b.fork (address - FORK_BASE) width word)

@@ -5,7 +5,7 @@ pub mod addresses;
 mod ports;
 
 pub use fork_port::Effect;
-pub use ports::Ports;
+pub use ports::{PortFields, Ports};
 
 #[cfg(test)]
 mod tests;

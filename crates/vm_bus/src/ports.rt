@@ -1,17 +1,31 @@
-ghost use Rattle.std.specs.Prelude.{◌≡◌, ◌≤◌, ◌↔◌, length, Some, None, Err, IfOk, IsErr, OnErr, IsErrOf};
+ghost use Rattle.std.specs.Prelude.{◌≡◌, ◌+◌, ◌<◌, ◌≤◌, ◌↔◌, true, false, length, Some, None, Err, IfOk, IsErr, IsSome, IsSomeAnd, OnErr, OnOk, IsErrOf, option_map};
 ghost use Rattle.console_port.specs.declared.port.TheConstants.{MAX_INPUT};
 ghost use Rattle.timer_port.specs.Timer.{is_due, timer_counted};
-ghost use Rattle.vm_bus.specs.Bus.{at_start, bus_load, bus_store, timer_stored, WantsMemory};
+ghost use Rattle.fork_port.specs.Registers.{HasTicket, refused, ticket_found, ticket_told};
+ghost use Rattle.fork_port.specs.Children.{after_clone, after_join, after_kill, child_registers};
+ghost use Rattle.vm_bus.specs.Bus.{at_start, bus_load, bus_store, fields_of, ports_of_fields, timer_stored, WantsMemory};
 
 use crate::addresses::{BLOCK_BASE, CONSOLE_BASE, FORK_BASE, TIMER_BASE};
-use block_port::BlockPort;
-use console_port::ConsolePort;
+use block_port::{BlockFields, BlockPort};
+use console_port::{ConsoleFields, ConsolePort};
 use cow_disk::Disk;
-use fork_port::{Effect, ForkPort};
+use fork_port::registers::{FORK_COMMAND, TICKET_COMMAND};
+use fork_port::refusals::TICKETS_END;
+use fork_port::{Effect, Ending, ForkFields, ForkPort};
 use port_error::{Fault, PortError};
 use std::alloc::{AllocError, Global};
 use std::marker::Model;
-use timer_port::TimerPort;
+use timer_port::{TimerPort, TimerRegisters};
+
+/// The registers of the ports, but for the disk, the input and the output, the tickets and what was
+/// joined.
+#[derive(Clone, Copy, Debug, PartialEq, Eq)]
+pub struct PortFields {
+    pub timer: TimerRegisters,
+    pub console: ConsoleFields,
+    pub block: BlockFields,
+    pub fork: ForkFields,
+}
 
 /// The ports of a machine.
 #[derive(Drop)]
@@ -40,7 +54,7 @@ impl Ports {
             timer: TimerPort::new(),
             console: ConsolePort::new(alloc, input)?,
             block: BlockPort::new(disk),
-            fork: ForkPort::new(allot),
+            fork: ForkPort::new(alloc, allot),
         })
     }
 
@@ -119,6 +133,7 @@ impl Ports {
     /// does to the machine.
     #[tactic(auto, unfolding(crate::specs::Bus::bus_store))]
     pub fn store(&mut self, address: u32, width: u32, word: u32) -> Result<Effect, PortError>
+        requires ticket { address ≡ FORK_BASE + FORK_COMMAND → word ≡ TICKET_COMMAND → self.old.fork.next_ticket < TICKETS_END }
         ensures ok { IfOk result (λ effect. bus_store self.old address width word ≡ Some (record { bus = self.new; effect = effect })) }
         ensures fault { IsErrOf result PortError.Fault ↔ (bus_store self.old address width word ≡ None) }
         ensures err { OnErr result (self.new ≡ self.old) }
@@ -135,7 +150,88 @@ impl Ports {
             self.block.store(address - BLOCK_BASE, width, word)?;
             Ok(Effect::Done)
         } else {
-            Ok(self.fork.store(address - FORK_BASE, width, word)?)
+            self.fork.store(address - FORK_BASE, width, word)
+        }
+    }
+
+    /// How many children a ticket is for, the share of each, and whether they were made; `None` where
+    /// there is no such ticket.
+    pub fn find(&self, ticket: u32) -> Option<(u32, u32, bool)>
+        ensures { result ≡ option_map ticket_told (ticket_found self.now.fork ticket) }
+    {
+        self.fork.find(ticket)
+    }
+
+    /// Sets RESULT of the fork port.
+    pub fn refuse(&mut self, word: u32)
+        ensures { self.new ≡ record self.old { fork = refused self.old.fork word } }
+    {
+        self.fork.refuse(word);
+    }
+
+    /// Does CLONE in the parent: the ticket's children are made.
+    pub fn cloned(&mut self, ticket: u32)
+        requires { HasTicket self.old.fork ticket false }
+        ensures { self.new ≡ record self.old { fork = after_clone self.old.fork ticket } }
+    {
+        self.fork.cloned(ticket);
+    }
+
+    /// Does JOIN: the ticket's children have ended so, in order.
+    pub fn joined(&mut self, ticket: u32, endings: &[Ending]) -> Result<(), AllocError>
+        requires there { HasTicket self.old.fork ticket true }
+        requires all { IsSomeAnd (ticket_found self.old.fork ticket) (λ ticket. length endings.now ≡ ticket.children) }
+        ensures ok { OnOk result (self.new ≡ record self.old { fork = after_join self.old.fork ticket endings.now }) }
+        ensures err { OnErr result (self.new ≡ self.old) }
+    {
+        self.fork.joined(ticket, endings)
+    }
+
+    /// Does KILL: the ticket's children are dropped, if it has any.
+    pub fn killed(&mut self, ticket: u32)
+        requires { IsSome (ticket_found self.old.fork ticket) }
+        ensures { self.new ≡ record self.old { fork = after_kill self.old.fork ticket } }
+    {
+        self.fork.killed(ticket);
+    }
+
+    /// The fork port that child k of a ticket with this share starts with.
+    pub fn child(&self, k: u32, share: u32) -> ForkPort
+        ensures { result ≡ child_registers self.now.fork k share }
+    {
+        self.fork.child(k, share)
+    }
+
+    /// The registers, but for the disk, the input and the output, the tickets and what was joined.
+    pub fn fields(&self) -> PortFields
+        ensures { result ≡ fields_of self.now }
+        ensures place_fits { result.console.place ≤ MAX_INPUT }
+    {
+        PortFields {
+            timer: self.timer.fields(),
+            console: self.console.fields(),
+            block: self.block.fields(),
+            fork: self.fork.fields(),
+        }
+    }
+
+    /// Ports with these registers, this disk and this input, and no output, tickets and join results.
+    pub fn of_fields(alloc: Global, fields: PortFields, disk: Disk, input: Vec<u8>) -> Ports
+        requires input_fits { length input.items ≤ MAX_INPUT }
+        requires place_fits { fields.console.place ≤ MAX_INPUT }
+        ensures { result ≡ ports_of_fields fields disk input.items }
+    {
+        let PortFields {
+            timer,
+            console,
+            block,
+            fork,
+        } = fields;
+        Ports {
+            timer: TimerPort::of_fields(timer),
+            console: ConsolePort::of_fields(console, input),
+            block: BlockPort::of_fields(block, disk),
+            fork: ForkPort::of_fields(alloc, fork),
         }
     }
 
