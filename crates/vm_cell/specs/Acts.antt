@@ -1,5 +1,5 @@
 -- How a change of a hart meets an action, and when it may want memory.
-use Rattle.std.specs.Prelude.{◌≡◌, ℕ, ◌-◌, ◌<◌, ◌⊎◌, true, length, Option, Result, Ok, Err, IsSomeAnd}
+use Rattle.std.specs.Prelude.{◌≡◌, ℕ, ◌-◌, ◌<◌, ◌⊎◌, true, false, length, Option, Result, Ok, Err, IsSomeAnd}
 use Rattle.std.specs.declared.alloc.AllocError.{AllocError}
 use Rattle.block_port.specs.Block.{WritesSector}
 use Rattle.rv_decode.specs.declared.kinds.Group.{Group}
@@ -7,9 +7,10 @@ use Rattle.rv_decode.specs.declared.kinds.Group.TheVariants.{Store, StoreConditi
 use Rattle.rv_decode.specs.Kinds.{group_of}
 use Rattle.rv_decode.specs.Instruction.{Instruction}
 use Rattle.rv_decode.specs.Table.{decoded}
+use Rattle.rv_traps.specs.Trap.{takes_interrupt}
 use Rattle.forest_model.specs.declared.port_map.TheConstants.{BLOCK_BASE}
 use Rattle.forest_model.specs.Ports.{PortRegisters, port_store}
-use Rattle.forest_model.specs.State.{State, is_in_ram}
+use Rattle.forest_model.specs.State.{State, is_in_ram, is_timer_due}
 use Rattle.forest_model.specs.Action.{Action, trap, interrupt, retire, exit, rs1, rs2}
 use Rattle.forest_model.specs.Memory.{is_aligned, data_address, stored_bytes}
 use Rattle.forest_model.specs.Atomic.{is_reserved}
@@ -50,6 +51,8 @@ GroupGrows _ i s = ⊥
 abbrev pub InstructionGrows : Instruction → State → Type 0
 InstructionGrows i s = GroupGrows (group_of i.kind) i s
 
--- the instruction at pc is one
+-- the coming step executes one
 unfoldable pub Grows : State → Type 0
-Grows s = IsSomeAnd (decoded (fetched s)) (λ i. InstructionGrows i s)
+Grows s =
+    (takes_interrupt s.csrs (is_timer_due s) ≡ false) × (is_in_ram s.ram s.pc ≡ true)
+    × IsSomeAnd (decoded (fetched s)) (λ i. InstructionGrows i s)
