@@ -1,6 +1,5 @@
 -- What holds of every hart.
-use Rattle.std.specs.Prelude.{◌≡◌, ◌%◌, ◌*◌, ◌≤◌, length, slice_index}
-use Rattle.elf_load.specs.declared.image.TheConstants.{PAGE_SIZE, MAX_PAGES}
+use Rattle.std.specs.Prelude.{◌≡◌, ◌%◌, slice_index}
 use Rattle.forest_model.specs.State.{State}
 use Rattle.forest_model.specs.Ports.{PortRegisters}
 use Rattle.vm_bus.specs.Bus.{BusRegisters}
@@ -14,5 +13,3 @@ pub record IsHart (s : State) : Type 0 where
   pub zero_register : slice_index s.registers 0 ≡ 0
   -- so a word at a pc in RAM lies in RAM whole
   pub aligned : s.pc % 4 ≡ 0
-  pub whole_pages : length s.ram % PAGE_SIZE ≡ 0
-  pub most : length s.ram ≤ PAGE_SIZE * MAX_PAGES

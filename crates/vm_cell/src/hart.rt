@@ -1,4 +1,4 @@
-ghost use Rattle.std.specs.Prelude.{◌≡◌, ◌<◌, ◌-◌, ◌+◌, ◌%◌, ◌≤◌, ◌↔◌, length, IsNone, IfOk, IfSome, OnErr, Ok, None, true, false};
+ghost use Rattle.std.specs.Prelude.{◌≡◌, ◌<◌, ◌-◌, ◌≤◌, ◌↔◌, ◌∷◌, length, drop, IsNone, IfOk, IfSome, OnErr, Ok, None, true, false};
 ghost use Rattle.console_port.specs.declared.port.TheConstants.{MAX_INPUT};
 ghost use Rattle.rv_traps.specs.Registers.{at_reset};
 ghost use Rattle.forest_model.specs.Ports.{ports_at_start};
@@ -7,14 +7,15 @@ ghost use Rattle.forest_model.specs.Action.{retire_next, with_rd};
 ghost use Rattle.forest_model.specs.Execute.{action, execute};
 ghost use Rattle.forest_model.specs.Machine.{registers_at_start, trapped, count};
 ghost use Rattle.vm_cell.specs.Acts.{Acts, Grows, InstructionGrows};
+ghost use Rattle.vm_cell.specs.Shown.{peeked, shown_registers};
 
 use cow_disk::Disk;
 use elf_load::{Loaded, RAM_BASE};
-use flat_memory::read_word;
 use forest_model::Written;
 use forest_model::cause::{
     BREAKPOINT, ENVIRONMENT_CALL, ILLEGAL_INSTRUCTION, INSTRUCTION_ACCESS_FAULT,
 };
+use guest_mem::GuestMem;
 use rv_decode::{Group, Instr, decode};
 use rv_traps::{Csrs, Wrote};
 use std::alloc::{AllocError, Global};
@@ -47,7 +48,7 @@ pub struct Hart {
     pc: u32,
     csrs: Csrs,
     reservation: Option<u32>,
-    ram: Vec<u8>,
+    memory: GuestMem,
     ports: Ports,
 }
 
@@ -57,9 +58,9 @@ impl Model for Hart {
 
     ghost Value = { State };
 
-    ghost view = { λ h. record { registers = h.registers; pc = h.pc; csrs = h.csrs; reservation = h.reservation; ram = h.ram.items; ports = ports_of h.ports } };
+    ghost view = { λ h. record { registers = h.registers; pc = h.pc; csrs = h.csrs; reservation = h.reservation; ram = h.memory.reads; ports = ports_of h.ports } };
 
-    ghost invariant = { λ h. IsHart (record { registers = h.registers; pc = h.pc; csrs = h.csrs; reservation = h.reservation; ram = h.ram.items; ports = ports_of h.ports }) };
+    ghost invariant = { λ h. IsHart (record { registers = h.registers; pc = h.pc; csrs = h.csrs; reservation = h.reservation; ram = h.memory.reads; ports = ports_of h.ports }) };
 }
 
 impl Hart {
@@ -88,7 +89,7 @@ impl Hart {
             pc: image.entry(),
             csrs: Csrs::reset(),
             reservation: None,
-            ram: Vec::from_slice(alloc, image.ram())?,
+            memory: GuestMem::booted(alloc, image)?,
             ports: Ports::new(alloc, disk, input, allot)?,
         })
     }
@@ -123,10 +124,30 @@ impl Hart {
             pc: _,
             csrs: _,
             reservation: _,
-            ram: _,
+            memory: _,
             ports,
         } = self;
         ports.into_output()
+    }
+
+    /// The word at an address, or `None` where that is no multiple of 4 in RAM.
+    pub fn peek(&self, address: u32) -> Option<u32>
+        ensures { result ≡ peeked self.now address }
+    {
+        if address % 4 != 0 {
+            return None;
+        }
+        match self.ram_offset(address) {
+            Some(offset) => Some(self.memory.peek(offset)),
+            None => None,
+        }
+    }
+
+    /// The pc, and then x1 to x31.
+    pub fn shown_registers(&self) -> [u32; 32]
+        ensures { result ≡ shown_registers self.now }
+    {
+        with_pc(&self.registers, self.pc)
     }
 
     /// Makes the coming step.
@@ -142,7 +163,7 @@ impl Hart {
         let Some(offset) = self.ram_offset(self.pc) else {
             return Ok(trapped(INSTRUCTION_ACCESS_FAULT, self.pc));
         };
-        let word = read_word(&self.ram, offset);
+        let word = self.memory.peek(offset);
         match decode(word) {
             Some(instr) => self.execute(instr, word),
             None => Ok(trapped(ILLEGAL_INSTRUCTION, word)),
@@ -194,8 +215,8 @@ impl Hart {
             Group::TrapReturn => Ok(self.trap_return()),
             Group::Csr => Ok(self.csr_access(instr, word)),
             Group::LoadReserved => Ok(self.load_reserved(instr)),
-            Group::StoreConditional => Ok(self.store_conditional(instr)),
-            Group::Amo => Ok(self.amo(instr)),
+            Group::StoreConditional => self.store_conditional(instr),
+            Group::Amo => self.amo(instr),
         }
     }
 
@@ -219,17 +240,13 @@ impl Hart {
 
     /// The offset of an address in RAM, or `None` where it is not in RAM.
     #[inline]
-    fn ram_offset(&self, address: u32) -> Option<usize>
+    fn ram_offset(&self, address: u32) -> Option<u32>
         ensures outside { IsNone result ↔ (is_in_ram self.now.ram address ≡ false) }
-        ensures inside { IfSome result (λ offset. (is_in_ram self.now.ram address ≡ true) × (offset ≡ address - RAM_BASE) × (offset < length self.now.ram)) }
-        ensures whole_halves { IfSome result (λ offset. address % 2 ≡ 0 → offset + 2 ≤ length self.now.ram) }
-        ensures whole_words { IfSome result (λ offset. address % 4 ≡ 0 → offset + 4 ≤ length self.now.ram) }
+        ensures inside { IfSome result (λ offset. (is_in_ram self.now.ram address ≡ true) × (RAM_BASE ≤ address) × (offset ≡ address - RAM_BASE) × (offset < length self.now.ram)) }
     {
-        if address < RAM_BASE {
-            return None;
-        }
-        let offset = (address - RAM_BASE) as usize;
-        if offset < self.ram.len() {
+        // Below RAM it wraps to an offset behind RAM.
+        let offset = address.wrapping_sub(RAM_BASE);
+        if offset < self.memory.size() {
             Some(offset)
         } else {
             None
@@ -253,6 +270,15 @@ impl Hart {
             self.registers[number as usize] = value;
         }
     }
+}
+
+/// The registers with the pc in the place of x0.
+fn with_pc(registers: &[u32; 32], pc: u32) -> [u32; 32]
+    ensures { result ≡ pc ∷ drop 1 registers.now }
+{
+    let mut shown = *registers;
+    shown[0] = pc;
+    shown
 }
 
 /// The answer of an exception.

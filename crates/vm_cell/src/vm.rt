@@ -2,6 +2,7 @@ ghost use Rattle.std.specs.Prelude.{◌≡◌, ◌+◌, ◌-◌, ◌≤◌, ◌<
 ghost use Rattle.console_port.specs.declared.port.TheConstants.{MAX_INPUT};
 ghost use Rattle.forest_model.specs.Machine.{IsWithinLimit, limited, advance, after_steps, finish, boot};
 ghost use Rattle.vm_cell.specs.Acts.{Grows};
+ghost use Rattle.vm_cell.specs.Shown.{peeked, shown_registers};
 ghost use Rattle.vm_cell.specs.Steps.{stepped_of};
 
 use crate::hart::{Acted, Hart};
@@ -86,6 +87,20 @@ impl Vm {
         self.ending
     }
 
+    /// The word of RAM at an address, or `None` where the address is no multiple of 4 in RAM.
+    pub fn peek(&self, address: u32) -> Option<u32>
+        ensures { result ≡ peeked self.now.state address }
+    {
+        self.hart.peek(address)
+    }
+
+    /// The pc, and then the registers x1 to x31.
+    pub fn regs(&self) -> [u32; 32]
+        ensures { result ≡ shown_registers self.now.state }
+    {
+        self.hart.shown_registers()
+    }
+
     /// What the machine has put out on its console.
     pub fn output(&self) -> &[u8]
         ensures { result.now ≡ self.now.state.ports.console.output }
@@ -113,7 +128,8 @@ impl Vm {
         ensures steps { OnOk result (self.new ≡ advance self.old) }
         ensures stands { IfOk result (λ stepped. stepped ≡ stepped_of self.new.ending) }
         ensures err { OnErr result (self.new ≡ self.old) }
-        // Memory is wanted only for a byte of output or a sector of the disk.
+        // Memory is wanted only for a page of RAM, a byte of output or a sector of the disk that is
+        // written.
         ensures memory { OnErr result ((self.old.ending ≡ None) × Grows self.old.state) }
     {
         if self.ending.is_none() {
@@ -466,6 +482,55 @@ mod tests {
                 "at {word:08x}"
             );
         }
+        Ok(())
+    }
+
+    // The word that is left at 0x80001000, in a page of zeros, by a word that finds that address in x8
+    // and 0x01020309 in x7.
+    #[test]
+    fn writes_a_blank_page(rt: HostRuntime) -> Result<(), Fail> {
+        let cases = [
+            // SB, SH and SW of x7
+            (0x00740023, 0x09),
+            (0x00741023, 0x0309),
+            (0x00742023, 0x0102_0309),
+            // AMOADD of x7, and SC with nothing reserved
+            (0x0074202f, 0x0102_0309),
+            (0x1874202f, 0),
+        ];
+        for (word, left) in cases {
+            // lui x8, 0x80001; lui x7, 0x1020; addi x7, x7, 777; the word
+            let words = [0x80001437, 0x010203b7, 0x30938393, word];
+            let mut vm = booted(rt.alloc(), &words, 100)?;
+            assert_eq!(rt; vm.run(4)?.why, Stepped::Went);
+            assert_eq!(rt; vm.peek(0x8000_1000), Some(left), "at {word:08x}");
+        }
+        Ok(())
+    }
+
+    #[test]
+    fn shows_words_and_registers(rt: HostRuntime) -> Result<(), Fail> {
+        let mut vm = booted(rt.alloc(), &EXIT_SEVEN, 100)?;
+        vm.run(2)?;
+        let words = [
+            (0x8000_0000, Some(0x1000_22b7)),
+            (0x8000_0004, Some(0x0070_0313)),
+            (0x8003_fffc, Some(0)),
+            (0x8000_0002, None),
+            (0x8000_0003, None),
+            (0x8004_0000, None),
+            (0x7fff_fffc, None),
+            (0, None),
+        ];
+        for (address, word) in words {
+            assert_eq!(rt; vm.peek(address), word, "at {address:08x}");
+        }
+        // x5 is the fork port, and x6 the value to exit with
+        let mut registers = [0; 32];
+        registers[0] = 0x8000_0008;
+        registers[5] = 0x1000_2000;
+        registers[6] = 7;
+        assert_eq!(rt; vm.regs().as_slice(), registers.as_slice());
         Ok(())
     }
 

@@ -1,21 +1,21 @@
 //! Words that are loaded, computed with and stored in one step.
 
-ghost use Rattle.std.specs.Prelude.{◌≡◌, ◌+◌, ◌-◌, ◌≤◌, length, Ok, true};
+ghost use Rattle.std.specs.Prelude.{◌≡◌, ◌-◌, ◌%◌, ◌<◌, length, Ok, OnOk, OnErr, true};
 ghost use Rattle.std.specs.Int.{to_le_bytes, w32};
 ghost use Rattle.rv_decode.specs.declared.kinds.Group.TheVariants as group;
 ghost use Rattle.rv_decode.specs.Kinds.{group_of};
 ghost use Rattle.forest_model.specs.Memory.{with_bytes};
 ghost use Rattle.forest_model.specs.Atomic.{is_reserved, load_reserved, conditional_action, store_conditional, amo_at, amo};
-ghost use Rattle.vm_cell.specs.Acts.{Acts};
+ghost use Rattle.vm_cell.specs.Acts.{Acts, InstructionGrows};
 
 use super::{Acted, Hart, trapped};
 use elf_load::RAM_BASE;
-use flat_memory::{read_word, write_bytes};
 use forest_model::cause::{
     LOAD_ACCESS_FAULT, LOAD_ADDRESS_MISALIGNED, STORE_ACCESS_FAULT, STORE_ADDRESS_MISALIGNED,
 };
 use rv_decode::Instr;
 use rv_exec::amo_value;
+use std::alloc::AllocError;
 
 impl Hart {
     /// LR.
@@ -31,7 +31,7 @@ impl Hart {
         let Some(offset) = self.ram_offset(address) else {
             return trapped(LOAD_ACCESS_FAULT, address);
         };
-        let word = read_word(&self.ram, offset);
+        let word = self.memory.peek(offset);
         self.reservation = Some(address);
         self.retire_with(instr, word)
     }
@@ -39,73 +39,86 @@ impl Hart {
     /// SC.
     #[inline]
     #[tactic(auto, unfolding(forest_model::specs::Atomic::store_conditional))]
-    pub(super) fn store_conditional(&mut self, instr: Instr) -> Acted
-        ensures { Acts self.old self.new (store_conditional instr self.old) (Ok result) }
+    pub(super) fn store_conditional(&mut self, instr: Instr) -> Result<Acted, AllocError>
+        requires { group_of instr.kind ≡ group.StoreConditional }
+        ensures acts { Acts self.old self.new (store_conditional instr self.old) result }
+        ensures memory { OnErr result (InstructionGrows instr self.old) }
     {
         let address = self.register(instr.rs1());
         if address % 4 != 0 {
-            return trapped(STORE_ADDRESS_MISALIGNED, address);
+            return Ok(trapped(STORE_ADDRESS_MISALIGNED, address));
         }
         match self.ram_offset(address) {
             Some(offset) => self.store_where_reserved(instr, address, offset),
-            None => trapped(STORE_ACCESS_FAULT, address),
+            None => Ok(trapped(STORE_ACCESS_FAULT, address)),
         }
     }
 
     /// Stores rs2 at an address in RAM, if it is the one that is reserved.
     #[inline]
-    fn store_where_reserved(&mut self, instr: Instr, address: u32, offset: usize) -> Acted
+    fn store_where_reserved(
+        &mut self,
+        instr: Instr,
+        address: u32,
+        offset: u32,
+    ) -> Result<Acted, AllocError>
         requires offset { offset ≡ address - RAM_BASE }
-        requires within { offset + 4 ≤ length self.old.ram }
-        ensures { Acts self.old self.new (conditional_action (is_reserved self.old.reservation address) instr address self.old) (Ok result) }
+        requires aligned { offset % 4 ≡ 0 }
+        requires inside { offset < length self.old.ram }
+        ensures acts { Acts self.old self.new (conditional_action (is_reserved self.old.reservation address) instr address self.old) result }
+        ensures memory { OnErr result (is_reserved self.old.reservation address ≡ true) }
     {
-        let word = self.register(instr.rs2());
-        let reserved = self.reservation.take();
-        if reserved != Some(address) {
-            return self.retire_with(instr, 1);
+        let is_reserved = self.reservation == Some(address);
+        if is_reserved {
+            let word = self.register(instr.rs2());
+            self.write_word(address, offset, word)?;
         }
-        self.write_word(address, offset, word);
-        self.retire_with(instr, 0)
+        self.reservation = None;
+        Ok(self.retire_with(instr, u32::from(!is_reserved)))
     }
 
     /// The atomic memory operations.
     #[inline]
     #[tactic(auto, unfolding(forest_model::specs::Atomic::amo))]
-    pub(super) fn amo(&mut self, instr: Instr) -> Acted
+    pub(super) fn amo(&mut self, instr: Instr) -> Result<Acted, AllocError>
         requires { group_of instr.kind ≡ group.Amo }
-        ensures { Acts self.old self.new (amo instr self.old) (Ok result) }
+        ensures acts { Acts self.old self.new (amo instr self.old) result }
+        ensures memory { OnErr result (InstructionGrows instr self.old) }
     {
         let address = self.register(instr.rs1());
         if address % 4 != 0 {
-            return trapped(STORE_ADDRESS_MISALIGNED, address);
+            return Ok(trapped(STORE_ADDRESS_MISALIGNED, address));
         }
         match self.ram_offset(address) {
             Some(offset) => self.update(instr, address, offset),
-            None => trapped(STORE_ACCESS_FAULT, address),
+            None => Ok(trapped(STORE_ACCESS_FAULT, address)),
         }
     }
 
     /// Gives rd the word at an address in RAM, and puts there what the kind makes of it and rs2.
     #[inline]
-    fn update(&mut self, instr: Instr, address: u32, offset: usize) -> Acted
+    fn update(&mut self, instr: Instr, address: u32, offset: u32) -> Result<Acted, AllocError>
         requires group { group_of instr.kind ≡ group.Amo }
         requires offset { offset ≡ address - RAM_BASE }
-        requires within { offset + 4 ≤ length self.old.ram }
-        ensures { Acts self.old self.new (amo_at true instr address self.old) (Ok result) }
+        requires aligned { offset % 4 ≡ 0 }
+        requires inside { offset < length self.old.ram }
+        ensures { Acts self.old self.new (amo_at true instr address self.old) result }
     {
-        let old = read_word(&self.ram, offset);
+        let old = self.memory.peek(offset);
         let source = self.register(instr.rs2());
-        self.write_word(address, offset, amo_value(instr.kind(), old, source));
-        self.retire_with(instr, old)
+        self.write_word(address, offset, amo_value(instr.kind(), old, source))?;
+        Ok(self.retire_with(instr, old))
     }
 
     /// Writes a word at an address in RAM.
     #[inline]
-    fn write_word(&mut self, address: u32, offset: usize, word: u32)
+    fn write_word(&mut self, address: u32, offset: u32, word: u32) -> Result<(), AllocError>
         requires offset { offset ≡ address - RAM_BASE }
-        requires within { offset + 4 ≤ length self.old.ram }
-        ensures { self.new ≡ with_bytes address (to_le_bytes w32 word) self.old }
+        requires aligned { offset % 4 ≡ 0 }
+        requires inside { offset < length self.old.ram }
+        ensures ok { OnOk result (self.new ≡ with_bytes address (to_le_bytes w32 word) self.old) }
+        ensures err { OnErr result (self.new ≡ self.old) }
     {
-        write_bytes(&mut self.ram, offset, &word.to_le_bytes());
+        self.memory.store(offset, 4, word)
     }
 }

@@ -1,16 +1,15 @@
 //! Loads and stores.
 
-ghost use Rattle.std.specs.Prelude.{◌≡◌, ◌+◌, ◌≤◌, ◌⊎◌, length, Ok, OnErr};
+ghost use Rattle.std.specs.Prelude.{◌≡◌, Ok, OnErr};
 ghost use Rattle.rv_decode.specs.declared.kinds.Group.TheVariants as group;
 ghost use Rattle.rv_decode.specs.Kinds.{group_of};
-ghost use Rattle.byteorder.specs.Endian.{little_from};
+ghost use Rattle.byteorder.specs.Endian.{little_bytes};
 ghost use Rattle.forest_model.specs.Ports.{port_load, port_store};
 ghost use Rattle.forest_model.specs.Memory.{data_address, is_aligned, aligned_load, read_action, load, store, store_action, port_action};
-ghost use Rattle.rv_exec.specs.Memory.{load_width};
-ghost use Rattle.vm_cell.specs.Acts.{Acts, InstructionGrows, PortGrows};
+ghost use Rattle.rv_exec.specs.Memory.{IsWidth, load_width};
+ghost use Rattle.vm_cell.specs.Acts.{Acts, InstructionGrows, StoreGrows, PortGrows};
 
 use super::{Acted, Hart, trapped};
-use flat_memory::{read_half, read_word, write_bytes};
 use forest_model::Written;
 use forest_model::cause::{
     LOAD_ACCESS_FAULT, LOAD_ADDRESS_MISALIGNED, STORE_ACCESS_FAULT, STORE_ADDRESS_MISALIGNED,
@@ -51,7 +50,7 @@ impl Hart {
     fn load_from(&mut self, instr: Instr, address: u32, width: u32) -> Acted
         requires group { group_of instr.kind ≡ group.Load }
         requires width { width ≡ load_width instr.kind }
-        requires widths { (width ≡ 1) ⊎ ((width ≡ 2) ⊎ (width ≡ 4)) }
+        requires widths { IsWidth width }
         ensures { Acts self.old self.new (aligned_load (is_aligned address width) instr address self.old) (Ok result) }
     {
         if address % width != 0 {
@@ -60,7 +59,7 @@ impl Hart {
         let Some(offset) = self.ram_offset(address) else {
             return self.load_from_port(instr, address, width);
         };
-        let number = self.read(offset, width);
+        let number = self.memory.load(offset, width);
         self.retire_with(instr, load_value(instr.kind(), number))
     }
 
@@ -76,20 +75,6 @@ impl Hart {
         }
     }
 
-    /// The number in the `width` bytes of RAM from `offset`.
-    #[inline(always)]
-    fn read(&self, offset: usize, width: u32) -> u32
-        requires width { (width ≡ 1) ⊎ ((width ≡ 2) ⊎ (width ≡ 4)) }
-        requires within { offset + width ≤ length self.now.ram }
-        ensures { result ≡ little_from offset width self.now.ram }
-    {
-        match width {
-            1 => u32::from(self.ram[offset]),
-            2 => u32::from(read_half(&self.ram, offset)),
-            _ => read_word(&self.ram, offset),
-        }
-    }
-
     #[inline]
     #[tactic(auto, unfolding(forest_model::specs::Memory::store, rv_decode::specs::Kinds::group_of))]
     pub(super) fn store(&mut self, instr: Instr) -> Result<Acted, AllocError>
@@ -99,30 +84,28 @@ impl Hart {
     {
         let address = self.data_address(instr);
         let word = self.register(instr.rs2());
-        let [a, b, c, d] = word.to_le_bytes();
         match instr.kind() {
-            Kind::Sb => self.store_to(address, word, &[a]),
-            Kind::Sh => self.store_to(address, word, &[a, b]),
-            Kind::Sw => self.store_to(address, word, &[a, b, c, d]),
+            Kind::Sb => self.store_to(address, 1, word),
+            Kind::Sh => self.store_to(address, 2, word),
+            Kind::Sw => self.store_to(address, 4, word),
             _ => unreachable!(),
         }
     }
 
-    /// Stores the bytes, which are the low ones of `word`.
+    /// Stores the low `width` bytes of `word`.
     #[inline(always)]
     #[tactic(auto, unfolding(forest_model::specs::Memory::store_action))]
-    fn store_to(&mut self, address: u32, word: u32, bytes: &[u8]) -> Result<Acted, AllocError>
-        requires width { (length bytes.now ≡ 1) ⊎ ((length bytes.now ≡ 2) ⊎ (length bytes.now ≡ 4)) }
-        ensures acts { Acts self.old self.new (store_action address bytes.now word self.old) result }
-        ensures memory { OnErr result (PortGrows self.old.ports address (length bytes.now) word) }
+    fn store_to(&mut self, address: u32, width: u32, word: u32) -> Result<Acted, AllocError>
+        requires { IsWidth width }
+        ensures acts { Acts self.old self.new (store_action address (little_bytes width word) word self.old) result }
+        ensures memory { OnErr result (StoreGrows address width word self.old) }
     {
-        let width = bytes.len() as u32;
         if address % width != 0 {
             return Ok(trapped(STORE_ADDRESS_MISALIGNED, address));
         }
         match self.ram_offset(address) {
             Some(offset) => {
-                write_bytes(&mut self.ram, offset, bytes);
+                self.memory.store(offset, width, word)?;
                 Ok(self.retire())
             }
             None => self.store_to_port(address, width, word),
