@@ -1,5 +1,5 @@
 -- The ports by address. Each takes the accesses from its base on; the offset there is its own matter.
-use Rattle.std.specs.Prelude.{ℕ, ◌-◌, ◌<◌, ◌⊎◌, nat_lt, if◌then◌else◌, List, [], length, Option, None, IsSomeAnd}
+use Rattle.std.specs.Prelude.{◌≡◌, ℕ, ◌-◌, ◌<◌, ◌⊎◌, nat_lt, if◌then◌else◌, List, [], length, Option, None, IsSomeAnd}
 use Rattle.std.specs.Option.{option_map}
 use Rattle.console_port.specs.Console.{ConsoleRegisters, console_load, console_store}
 use Rattle.timer_port.specs.declared.registers.TimerRegisters.{TimerRegisters}
@@ -8,7 +8,8 @@ use Rattle.timer_port.specs.Timer as timer
 use Rattle.block_port.specs.Block.{BlockRegisters, WritesSector, block_load, block_store}
 use Rattle.block_port.specs.Block as block
 use Rattle.fork_port.specs.declared.commands.Effect.{Effect}
-use Rattle.fork_port.specs.declared.commands.Effect.TheVariants.{Done, TimeWritten}
+use Rattle.fork_port.specs.declared.commands.Effect.TheVariants.{Done, TimeWritten, Call, Exit, Zero}
+use Rattle.fork_port.specs.Commands.{IsMakeable}
 use Rattle.fork_port.specs.Registers.{ForkRegisters}
 use Rattle.fork_port.specs.Registers as fork
 use Rattle.fork_port.specs.Fork.{GrantsTicket, fork_load, fork_store}
@@ -65,6 +66,11 @@ abbrev pub timer_stored : BusRegisters → ℕ → ℕ → ℕ → Option BusSto
 timer_stored b offset width word =
     option_map (λ t. record { bus = record b { timer = t }; effect = store_effect offset }) (timer_store b.timer offset width word)
 
+-- a store to the fork port
+abbrev pub fork_stored : BusRegisters → ℕ → ℕ → ℕ → Option BusStored
+fork_stored b offset width word =
+    option_map (λ s. record { bus = record b { fork = s.fork }; effect = s.effect }) (fork_store b.fork offset width word)
+
 -- a load that changes nothing
 abbrev pub read : BusRegisters → Option ℕ → Option BusLoaded
 read b value = option_map (λ value. record { bus = b; value = value }) value
@@ -85,7 +91,15 @@ bus_store b address width word =
     else (if nat_lt address CONSOLE_BASE then timer_stored b (address - TIMER_BASE) width word
     else (if nat_lt address BLOCK_BASE then option_map (λ c. record { bus = record b { console = c }; effect = Done }) (console_store b.console (address - CONSOLE_BASE) width word)
     else (if nat_lt address FORK_BASE then option_map (λ k. record { bus = record b { block = k }; effect = Done }) (block_store b.block (address - BLOCK_BASE) width word)
-    else option_map (λ s. record { bus = record b { fork = s.fork }; effect = s.effect }) (fork_store b.fork (address - FORK_BASE) width word))))
+    else fork_stored b (address - FORK_BASE) width word)))
+
+-- a store that is a call changes nothing yet, and the call can be made
+abbrev pub Waits : BusRegisters → BusRegisters → Effect → Type 0
+Waits old new Done = Unit {0}
+Waits old new TimeWritten = Unit {0}
+Waits old new (Call call) = (new ≡ old) × IsMakeable old.fork call
+Waits old new (Exit value) = Unit {0}
+Waits old new (Zero first count) = Unit {0}
 
 -- Memory is wanted where a byte goes to the output, a sector is written, or a ticket is granted.
 abbrev pub WantsMemory : BusRegisters → ℕ → ℕ → ℕ → Type 0

@@ -1,9 +1,11 @@
 ghost use Rattle.std.specs.Prelude.{◌≡◌, ◌+◌, ◌<◌, ◌≤◌, ◌↔◌, true, false, length, Some, None, Err, IfOk, IsErr, IsSome, IsSomeAnd, OnErr, OnOk, IsErrOf, option_map};
 ghost use Rattle.console_port.specs.declared.port.TheConstants.{MAX_INPUT};
 ghost use Rattle.timer_port.specs.Timer.{is_due, timer_counted};
+ghost use Rattle.fork_port.specs.Commands.{fork_command};
+ghost use Rattle.fork_port.specs.Fork.{GrantsTicket};
 ghost use Rattle.fork_port.specs.Registers.{HasTicket, refused, ticket_found, ticket_told};
 ghost use Rattle.fork_port.specs.Children.{after_clone, after_join, after_kill, child_registers};
-ghost use Rattle.vm_bus.specs.Bus.{at_start, bus_load, bus_store, fields_of, ports_of_fields, timer_stored, WantsMemory};
+ghost use Rattle.vm_bus.specs.Bus.{at_start, bus_load, bus_store, fields_of, fork_stored, ports_of_fields, timer_stored, Waits, WantsMemory};
 
 use crate::addresses::{BLOCK_BASE, CONSOLE_BASE, FORK_BASE, TIMER_BASE};
 use block_port::{BlockFields, BlockPort};
@@ -11,7 +13,7 @@ use console_port::{ConsoleFields, ConsolePort};
 use cow_disk::Disk;
 use fork_port::registers::{FORK_COMMAND, TICKET_COMMAND};
 use fork_port::refusals::TICKETS_END;
-use fork_port::{Effect, Ending, ForkFields, ForkPort};
+use fork_port::{Asked, Effect, Ending, ForkFields, ForkPort};
 use port_error::{Fault, PortError};
 use std::alloc::{AllocError, Global};
 use std::marker::Model;
@@ -135,6 +137,7 @@ impl Ports {
     pub fn store(&mut self, address: u32, width: u32, word: u32) -> Result<Effect, PortError>
         requires ticket { address ≡ FORK_BASE + FORK_COMMAND → word ≡ TICKET_COMMAND → self.old.fork.next_ticket < TICKETS_END }
         ensures ok { IfOk result (λ effect. bus_store self.old address width word ≡ Some (record { bus = self.new; effect = effect })) }
+        ensures waits { IfOk result (Waits self.old self.new) }
         ensures fault { IsErrOf result PortError.Fault ↔ (bus_store self.old address width word ≡ None) }
         ensures err { OnErr result (self.new ≡ self.old) }
         ensures memory { IsErrOf result PortError.Memory → WantsMemory self.old address width word }
@@ -150,7 +153,7 @@ impl Ports {
             self.block.store(address - BLOCK_BASE, width, word)?;
             Ok(Effect::Done)
         } else {
-            self.fork.store(address - FORK_BASE, width, word)
+            self.store_fork(address - FORK_BASE, width, word)
         }
     }
 
@@ -204,7 +207,7 @@ impl Ports {
 
     /// The registers, but for the disk, the input and the output, the tickets and what was joined.
     pub fn fields(&self) -> PortFields
-        ensures { result ≡ fields_of self.now }
+        ensures value { result ≡ fields_of self.now }
         ensures place_fits { result.console.place ≤ MAX_INPUT }
     {
         PortFields {
@@ -235,8 +238,27 @@ impl Ports {
         }
     }
 
+    /// What a command of the fork port asks for.
+    pub fn asked(&self, command: u32) -> Asked
+        ensures { result ≡ fork_command self.now.fork command }
+    {
+        self.fork.asked(command)
+    }
+
+    fn store_fork(&mut self, offset: u32, width: u32, word: u32) -> Result<Effect, PortError>
+        requires { offset ≡ FORK_COMMAND → word ≡ TICKET_COMMAND → self.old.fork.next_ticket < TICKETS_END }
+        ensures ok { IfOk result (λ effect. fork_stored self.old offset width word ≡ Some (record { bus = self.new; effect = effect })) }
+        ensures waits { IfOk result (Waits self.old self.new) }
+        ensures fault { IsErrOf result PortError.Fault ↔ (fork_stored self.old offset width word ≡ None) }
+        ensures err { OnErr result (self.new ≡ self.old) }
+        ensures memory { IsErrOf result PortError.Memory → GrantsTicket self.old.fork offset width word }
+    {
+        self.fork.store(offset, width, word)
+    }
+
     fn store_timer(&mut self, offset: u32, width: u32, word: u32) -> Result<Effect, PortError>
         ensures ok { IfOk result (λ effect. timer_stored self.old offset width word ≡ Some (record { bus = self.new; effect = effect })) }
+        ensures waits { IfOk result (Waits self.old self.new) }
         ensures fault { OnErr result (timer_stored self.old offset width word ≡ None) }
         ensures only { OnErr result (result ≡ Err PortError.Fault) }
         ensures err { OnErr result (self.new ≡ self.old) }

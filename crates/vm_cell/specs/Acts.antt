@@ -2,21 +2,23 @@
 use Rattle.std.specs.Prelude.{◌≡◌, ℕ, ◌-◌, ◌<◌, ◌⊎◌, true, false, length, Option, Result, Ok, Err, IsSomeAnd}
 use Rattle.std.specs.declared.alloc.AllocError.{AllocError}
 use Rattle.block_port.specs.Block.{WritesSector}
+use Rattle.fork_port.specs.Commands.{IsMakeable}
+use Rattle.fork_port.specs.Fork.{GrantsTicket}
 use Rattle.rv_decode.specs.declared.kinds.Group.{Group}
 use Rattle.rv_decode.specs.declared.kinds.Group.TheVariants.{Store, StoreConditional, Amo}
 use Rattle.rv_decode.specs.Kinds.{group_of}
 use Rattle.rv_decode.specs.Instruction.{Instruction}
 use Rattle.rv_decode.specs.Table.{decoded}
 use Rattle.rv_traps.specs.Trap.{takes_interrupt}
-use Rattle.forest_model.specs.declared.port_map.TheConstants.{BLOCK_BASE}
+use Rattle.forest_model.specs.declared.port_map.TheConstants.{BLOCK_BASE, FORK_BASE}
 use Rattle.forest_model.specs.Ports.{PortRegisters, port_store}
-use Rattle.forest_model.specs.State.{State, is_in_ram, is_timer_due}
-use Rattle.forest_model.specs.Action.{Action, trap, interrupt, retire, exit, rs1, rs2}
+use Rattle.forest_model.specs.State.{State, is_in_ram, is_timer_due, at_next_instruction}
+use Rattle.forest_model.specs.Action.{Action, trap, interrupt, retire, exit, ask, rs1, rs2}
 use Rattle.forest_model.specs.Memory.{is_aligned, data_address, stored_bytes}
 use Rattle.forest_model.specs.Atomic.{is_reserved}
 use Rattle.forest_model.specs.Execute.{fetched}
 use Rattle.vm_cell.specs.declared.hart.Acted.{Acted}
-use Rattle.vm_cell.specs.declared.hart.Acted.TheVariants.{Trapped, Interrupted, Retired, Exited}
+use Rattle.vm_cell.specs.declared.hart.Acted.TheVariants.{Trapped, Interrupted, Retired, Exited, Asked}
 
 -- the answer tells the action, which led from old to new
 abbrev pub Acts : State → State → Action → Result Acted AllocError → Type 0
@@ -24,13 +26,14 @@ Acts old new action (Ok (Trapped cause value)) = (action ≡ trap cause value) �
 Acts old new action (Ok Interrupted) = (action ≡ interrupt) × (new ≡ old)
 Acts old new action (Ok (Retired written)) = action ≡ retire written new
 Acts old new action (Ok (Exited value)) = action ≡ exit value new
+Acts old new action (Ok (Asked call)) = (action ≡ ask call (at_next_instruction old)) × (new ≡ old) × IsMakeable old.ports.fork call
 Acts old new action (Err e) = new ≡ old
 
--- a store to a port puts out a byte, or writes a sector of the disk
+-- a store to a port puts out a byte, writes a sector of the disk, or grants a ticket
 abbrev pub PortGrows : PortRegisters → ℕ → ℕ → ℕ → Type 0
 PortGrows ports address width word =
     IsSomeAnd (port_store ports address width word) (λ stored. length ports.console.output < length stored.ports.console.output)
-    ⊎ WritesSector ports.block (address - BLOCK_BASE) width word
+    ⊎ (WritesSector ports.block (address - BLOCK_BASE) width word ⊎ GrantsTicket ports.fork (address - FORK_BASE) width word)
 
 -- an access of `width` bytes is aligned and of RAM. A write may want memory for its page, since it
 -- copies one that is shared, and one of zeros has no bytes of its own

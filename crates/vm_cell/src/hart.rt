@@ -11,6 +11,8 @@ ghost use Rattle.vm_cell.specs.Shown.{peeked, shown_registers};
 
 use cow_disk::Disk;
 use elf_load::{Loaded, RAM_BASE};
+use fork_port::Call;
+use fork_port::refusals::TICKETS_END;
 use forest_model::Written;
 use forest_model::cause::{
     BREAKPOINT, ENVIRONMENT_CALL, ILLEGAL_INSTRUCTION, INSTRUCTION_ACCESS_FAULT,
@@ -39,6 +41,8 @@ pub enum Acted {
     Retired(Written),
     /// The instruction retired, and ended the machine with this value.
     Exited(u32),
+    /// The machine is to make this call. Nothing has changed.
+    Asked(Call),
 }
 
 /// A hardware thread with its memory and ports: what an instruction sees of a machine.
@@ -154,6 +158,7 @@ impl Hart {
     #[inline]
     #[tactic(auto, unfolding(forest_model::specs::Execute::action, crate::specs::Acts::Grows))]
     pub fn act(&mut self) -> Result<Acted, AllocError>
+        requires { self.old.ports.fork.next_ticket < TICKETS_END }
         ensures acts { Acts self.old self.new (action self.old) result }
         ensures memory { OnErr result (Grows self.old) }
     {
@@ -196,6 +201,7 @@ impl Hart {
     #[inline]
     #[tactic(auto, unfolding(forest_model::specs::Execute::execute))]
     fn execute(&mut self, instr: Instr, word: u32) -> Result<Acted, AllocError>
+        requires { self.old.ports.fork.next_ticket < TICKETS_END }
         ensures acts { Acts self.old self.new (execute instr word self.old) result }
         ensures memory { OnErr result (InstructionGrows instr self.old) }
     {

@@ -1,13 +1,15 @@
-ghost use Rattle.std.specs.Prelude.{◌≡◌, ◌+◌, ◌-◌, ◌≤◌, ◌<◌, length, None, IfOk, OnErr, OnOk, IsSome};
+ghost use Rattle.std.specs.Prelude.{◌≡◌, ◌≢◌, ◌+◌, ◌-◌, ◌≤◌, ◌<◌, length, None, IfOk, OnErr};
 ghost use Rattle.console_port.specs.declared.port.TheConstants.{MAX_INPUT};
-ghost use Rattle.forest_model.specs.Machine.{IsWithinLimit, limited, advance, after_steps, finish, boot};
+ghost use Rattle.forest_model.specs.Machine.{IsWithinLimit, limited, advance, after_steps, boot};
 ghost use Rattle.vm_cell.specs.Acts.{Grows};
 ghost use Rattle.vm_cell.specs.Shown.{peeked, shown_registers};
-ghost use Rattle.vm_cell.specs.Steps.{stepped_of};
+ghost use Rattle.fork_port.specs.declared.commands.Call.{Call as Asked};
+ghost use Rattle.vm_cell.specs.Steps.{GoesOn, Stands, Steps};
 
 use crate::hart::{Acted, Hart};
 use cow_disk::Disk;
 use elf_load::Loaded;
+use fork_port::Call;
 use forest_model::{Ending, Options, Written};
 use rv_traps::TIMER_INTERRUPT;
 use std::alloc::{AllocError, Global};
@@ -18,6 +20,8 @@ use std::marker::Model;
 pub enum Stepped {
     /// The step was made, and the machine lives.
     Went,
+    /// The next step is a call, which the machine is to make. It was not made.
+    Call(Call),
     /// The step ended the machine, or it had ended before.
     Ended(Ending),
 }
@@ -46,7 +50,7 @@ impl Model for Vm {
 
     ghost view = { λ v. record { state = v.hart; steps = v.steps; limit = v.limit; ending = v.ending } };
 
-    ghost invariant = { λ v. IsCounted v.steps v.limit v.ending };
+    ghost invariant = { λ v. IsCounted v.steps v.limit v.ending v.hart.ports.fork.next_ticket };
 }
 
 impl Vm {
@@ -121,31 +125,33 @@ impl Vm {
         hart.into_output()
     }
 
-    /// Makes one step, if the machine lives.
+    /// Makes one step, if the machine lives and the step is no call.
     #[inline]
-    #[tactic(auto, unfolding(forest_model::specs::Machine::advance))]
     pub fn step(&mut self) -> Result<Stepped, AllocError>
-        ensures steps { OnOk result (self.new ≡ advance self.old) }
-        ensures stands { IfOk result (λ stepped. stepped ≡ stepped_of self.new.ending) }
+        ensures steps { IfOk result (λ stepped. Steps self.old self.new stepped) }
         ensures err { OnErr result (self.new ≡ self.old) }
         // Memory is wanted only for a page of RAM, a byte of output or a sector of the disk that is
-        // written.
+        // written, and for a ticket.
         ensures memory { OnErr result ((self.old.ending ≡ None) × Grows self.old.state) }
     {
-        if self.ending.is_none() {
-            self.step_live()?;
+        if let Some(ending) = self.ending {
+            return Ok(Stepped::Ended(ending));
+        }
+        if let Some(call) = self.step_live()? {
+            return Ok(Stepped::Call(call));
         }
         Ok(self.standing())
     }
 
-    /// Makes at most `most` steps, until the machine ends. After an `Err` the steps before it stand.
+    /// Makes at most `most` steps, until the machine ends or is to make a call. After an `Err` the
+    /// steps before it stand.
     pub fn run(&mut self, most: u64) -> Result<Ran, AllocError>
         ensures steps { IfOk result (λ ran. self.new ≡ after_steps ran.steps self.old) }
         ensures each_made { IfOk result (λ ran. self.new.steps ≡ self.old.steps + ran.steps) }
-        ensures stands { IfOk result (λ ran. ran.why ≡ stepped_of self.new.ending) }
+        ensures stands { IfOk result (λ ran. Stands self.new ran.why) }
         ensures most { IfOk result (λ ran. ran.steps ≤ most) }
         ensures all_made { IfOk result (λ ran. ran.why ≡ Stepped.Went → ran.steps ≡ most) }
-        ensures finished { IfOk result (λ ran. self.old.limit ≤ self.old.steps + most → (self.new ≡ finish self.old) × IsSome self.new.ending) }
+        ensures enough { IfOk result (λ ran. self.old.limit ≤ self.old.steps + most → ran.why ≢ Stepped.Went) }
         ensures err { OnErr result (self.new ≡ after_steps (self.new.steps - self.old.steps) self.old) }
         ensures err_steps { OnErr result (self.old.steps ≤ self.new.steps) }
         ensures err_most { OnErr result (self.new.steps < self.old.steps + most) }
@@ -154,7 +160,12 @@ impl Vm {
     {
         let mut steps = 0;
         while steps < most && self.ending.is_none() {
-            self.step_live()?;
+            if let Some(call) = self.step_live()? {
+                return Ok(Ran {
+                    steps,
+                    why: Stepped::Call(call),
+                });
+            }
             steps += 1;
         }
         Ok(Ran {
@@ -163,13 +174,12 @@ impl Vm {
         })
     }
 
-    /// Makes one step of a machine that lives.
+    /// Makes one step of a machine that lives, or answers the call that it is.
     #[inline]
     #[tactic(auto, unfolding(forest_model::specs::Machine::advance))]
-    fn step_live(&mut self) -> Result<(), AllocError>
+    fn step_live(&mut self) -> Result<Option<Call>, AllocError>
         requires { self.old.ending ≡ None }
-        ensures steps { OnOk result (self.new ≡ advance self.old) }
-        ensures counted { OnOk result (self.new.steps ≡ self.old.steps + 1) }
+        ensures goes { IfOk result (λ call. GoesOn self.old self.new call) }
         ensures err { OnErr result (self.new ≡ self.old) }
         ensures memory { OnErr result (Grows self.old.state) }
     {
@@ -193,8 +203,9 @@ impl Vm {
                 self.steps += 1;
                 self.ending = Some(Ending::Exit(value));
             }
+            Acted::Asked(call) => return Ok(Some(call)),
         }
-        Ok(())
+        Ok(None)
     }
 
     /// Counts a step of a machine that lives, which ends it where it reaches the limit.
@@ -212,7 +223,8 @@ impl Vm {
     /// Where the machine stands.
     #[inline]
     fn standing(&self) -> Stepped
-        ensures stands { result ≡ stepped_of self.now.ending }
+        ensures stands { Stands self.now result }
+        ensures no_call { (call : Asked) → result ≢ Stepped.Call call }
         ensures within { IsWithinLimit self.now }
         ensures counted { self.now.steps ≤ self.now.limit }
     {

@@ -1,11 +1,11 @@
 //! Loads and stores.
 
-ghost use Rattle.std.specs.Prelude.{◌≡◌, Ok, OnErr};
+ghost use Rattle.std.specs.Prelude.{◌≡◌, ◌<◌, Ok, OnErr};
 ghost use Rattle.rv_decode.specs.declared.kinds.Group.TheVariants as group;
 ghost use Rattle.rv_decode.specs.Kinds.{group_of};
 ghost use Rattle.byteorder.specs.Endian.{little_bytes};
 ghost use Rattle.forest_model.specs.Ports.{port_load, port_store};
-ghost use Rattle.forest_model.specs.Memory.{data_address, is_aligned, aligned_load, read_action, load, store, store_action, port_action};
+ghost use Rattle.forest_model.specs.Memory.{data_address, is_aligned, aligned_load, read_action, load, store, store_action, port_action, is_page_range, zeroed};
 ghost use Rattle.rv_exec.specs.Memory.{IsWidth, load_width};
 ghost use Rattle.vm_cell.specs.Acts.{Acts, InstructionGrows, StoreGrows, PortGrows};
 
@@ -14,6 +14,7 @@ use forest_model::Written;
 use forest_model::cause::{
     LOAD_ACCESS_FAULT, LOAD_ADDRESS_MISALIGNED, STORE_ACCESS_FAULT, STORE_ADDRESS_MISALIGNED,
 };
+use fork_port::refusals::{BAD_ARGUMENT, TICKETS_END};
 use port_error::PortError;
 use rv_decode::{Instr, Kind};
 use rv_exec::load_value;
@@ -78,7 +79,8 @@ impl Hart {
     #[inline]
     #[tactic(auto, unfolding(forest_model::specs::Memory::store, rv_decode::specs::Kinds::group_of))]
     pub(super) fn store(&mut self, instr: Instr) -> Result<Acted, AllocError>
-        requires { group_of instr.kind ≡ group.Store }
+        requires group { group_of instr.kind ≡ group.Store }
+        requires tickets { self.old.ports.fork.next_ticket < TICKETS_END }
         ensures acts { Acts self.old self.new (store instr self.old) result }
         ensures memory { OnErr result (InstructionGrows instr self.old) }
     {
@@ -96,7 +98,8 @@ impl Hart {
     #[inline(always)]
     #[tactic(auto, unfolding(forest_model::specs::Memory::store_action))]
     fn store_to(&mut self, address: u32, width: u32, word: u32) -> Result<Acted, AllocError>
-        requires { IsWidth width }
+        requires width { IsWidth width }
+        requires tickets { self.old.ports.fork.next_ticket < TICKETS_END }
         ensures acts { Acts self.old self.new (store_action address (little_bytes width word) word self.old) result }
         ensures memory { OnErr result (StoreGrows address width word self.old) }
     {
@@ -115,20 +118,41 @@ impl Hart {
     /// Stores the low `width` bytes of `word` to a port.
     #[tactic(auto, unfolding(forest_model::specs::Ports::port_store, vm_bus::specs::Bus::bus_store, timer_port::specs::Timer::timer_store))]
     fn store_to_port(&mut self, address: u32, width: u32, word: u32) -> Result<Acted, AllocError>
+        requires { self.old.ports.fork.next_ticket < TICKETS_END }
         ensures acts { Acts self.old self.new (port_action (port_store self.old.ports address width word) address self.old) result }
         ensures memory { OnErr result (PortGrows self.old.ports address width word) }
     {
         match self.ports.store(address, width, word) {
-            Ok(effect) => {
+            Ok(Effect::Done) => Ok(self.retire()),
+            Ok(Effect::TimeWritten) => {
                 self.retire();
-                Ok(match effect {
-                    Effect::Done => Acted::Retired(Written::Nothing),
-                    Effect::TimeWritten => Acted::Retired(Written::Time),
-                    Effect::Exit(value) => Acted::Exited(value),
-                })
+                Ok(Acted::Retired(Written::Time))
+            }
+            Ok(Effect::Call(call)) => Ok(Acted::Asked(call)),
+            Ok(Effect::Exit(value)) => {
+                self.retire();
+                Ok(Acted::Exited(value))
+            }
+            Ok(Effect::Zero(first, count)) => {
+                self.retire();
+                self.zero(first, count);
+                Ok(Acted::Retired(Written::Nothing))
             }
             Err(PortError::Fault) => Ok(trapped(STORE_ACCESS_FAULT, address)),
             Err(PortError::Memory) => Err(AllocError),
+        }
+    }
+
+    /// Makes pages read as zeros, or tells that they are not pages of RAM.
+    fn zero(&mut self, first: u32, count: u32)
+        ensures { self.new ≡ zeroed (is_page_range first count self.old.ram) first count self.old }
+    {
+        let end = u64::from(first) + u64::from(count);
+        if count != 0 && end <= u64::from(self.memory.pages()) {
+            self.memory.zero_pages(first, count);
+            self.ports.refuse(0);
+        } else {
+            self.ports.refuse(BAD_ARGUMENT);
         }
     }
 }

@@ -1,0 +1,24 @@
+-- A store to the fork port that is a call changes nothing yet.
+use Rattle.std.proofs.Common.{◌≡◌, ℕ, Option, Some, None, IfSome, refl, ap, subst, sym, ◌∙◌}
+use Rattle.fork_port.specs.declared.commands.Call.{Call}
+use Rattle.fork_port.specs.declared.commands.Effect.{Effect}
+use Rattle.fork_port.specs.declared.commands.Effect.TheVariants as effect
+use Rattle.fork_port.specs.Registers.{ForkRegisters}
+use Rattle.fork_port.specs.Commands.{IsMakeable}
+use Rattle.fork_port.specs.Fork.{ForkStored, fork_store}
+use Rattle.fork_port.proofs.StoreLemmas.{call_stored}
+use Rattle.vm_bus.specs.Bus.{BusRegisters, Waits}
+
+pub fork-waits : (b : BusRegisters) (f : ForkRegisters) (offset width word : ℕ) (e : Effect)
+    → fork_store b.fork offset width word ≡ Some (record { fork = f; effect = e }) → Waits b (record b { fork = f }) e
+fork-waits b f offset width word effect.Done h = tt
+fork-waits b f offset width word effect.TimeWritten h = tt
+fork-waits b f offset width word (effect.Call c) h =
+    let all : IfSome (fork_store b.fork offset width word) (λ (s : ForkStored). s.effect ≡ effect.Call c → (s.fork ≡ b.fork) × IsMakeable b.fork c) =
+    call_stored b.fork offset width word c in
+    let one : (effect.Call c ≡ effect.Call c) → (f ≡ b.fork) × IsMakeable b.fork c =
+    subst (λ (o : Option ForkStored). IfSome o (λ (s : ForkStored). s.effect ≡ effect.Call c → (s.fork ≡ b.fork) × IsMakeable b.fork c)) h all in
+    let both = one refl in
+    (ap (λ (g : ForkRegisters). record b { fork = g }) both.0, both.1)
+fork-waits b f offset width word (effect.Exit value) h = tt
+fork-waits b f offset width word (effect.Zero first count) h = tt
