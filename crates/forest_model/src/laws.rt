@@ -1,6 +1,6 @@
 //! Laws of the definitions, each the contract of a function that does nothing.
 
-ghost use Rattle.std.specs.Prelude.{◌≡◌, ◌≢◌, ℕ, true, ◌+◌, ◌*◌, ◌/◌, ◌<◌, ◌≤◌, List, [], length, slice_index, Some, None, IsSome, All, AllPairs, Contains};
+ghost use Rattle.std.specs.Prelude.{◌≡◌, ◌≢◌, ℕ, true, false, ◌+◌, ◌*◌, ◌/◌, ◌<◌, ◌≤◌, List, [], length, slice_index, Some, None, IsSome, All, AllPairs, Contains};
 ghost use Rattle.rv_traps.specs.Trap.{takes_interrupt};
 ghost use Rattle.forest_model.specs.State.{is_timer_due};
 ghost use Rattle.forest_model.specs.Machine.{Machine, IsWithinLimit, exception, timer_interrupt, next, limited, count, trapped, advance, after_steps};
