@@ -1,2 +1,5 @@
 pub mod Finish
 pub mod Touch
+pub mod ForkPort
+pub mod Numbers
+pub mod Rules

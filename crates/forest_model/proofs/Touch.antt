@@ -1,14 +1,15 @@
 -- The pages that a step touches: they are few and of RAM, and RAM changes nowhere else.
-use Rattle.std.proofs.Common.{◌≡◌, ◌≢◌, ℕ, ◌+◌, ◌-◌, ◌*◌, ◌/◌, ◌%◌, ◌<◌, ◌≤◌, ◌⊎◌, inl, inr, Bool, true, false, eqb, ◌&&◌, List, [], ◌∷◌, length, get_or, Option, Some, None, IsSome, refl, sym, ap, ◌∙◌, subst, cond, arith}
-use Rattle.std.specs.Option.{IfSome}
+use Rattle.std.proofs.Common.{◌≡◌, ◌≢◌, ℕ, ◌+◌, ◌-◌, ◌*◌, ◌/◌, ◌%◌, ◌<◌, ◌≤◌, ◌⊎◌, inl, inr, Bool, true, false, eqb, ◌&&◌, List, [], ◌∷◌, length, get_or, not, leb, Option, Some, None, IsSome, refl, sym, ap, ◌∙◌, subst, cond, arith}
+use Rattle.std.specs.Option.{IfSome, IsSomeAnd}
 use Rattle.std.specs.Int.{to_le_bytes, w32}
 use Rattle.std.specs.List.{All, AllPairs, Contains}
 use Rattle.std.proofs.lemmas.Bool.{eqb-true}
-use Rattle.std.proofs.lemmas.Bool.Decides.{nat_tests}
+use Rattle.std.proofs.lemmas.List.{length-replicate}
+use Rattle.std.proofs.lemmas.Bool.Decides.{nat_tests, leb_tells}
 use Rattle.std.proofs.lemmas.List.Elements.{All-nil, All-cons}
 use Rattle.std.proofs.lemmas.List.Kept.{AllPairs-cons}
 use Rattle.elf_load.specs.declared.image.TheConstants.{RAM_BASE, PAGE_SIZE}
-use Rattle.flat_memory.specs.Flat.{put_bytes}
+use Rattle.flat_memory.specs.Flat.{put_bytes, zeros}
 use Rattle.flat_memory.proofs.Bytes.{get_or-put_bytes_outside}
 use Rattle.rv_decode.specs.Instruction.{Instruction}
 use Rattle.rv_decode.specs.Table.{decoded}
@@ -20,20 +21,20 @@ use Rattle.rv_decode.specs.Kinds.{group_of}
 use Rattle.rv_exec.specs.Memory.{load_width, store_bytes}
 use Rattle.fork_port.specs.declared.ending.Ending.{Ending}
 use Rattle.fork_port.specs.declared.commands.Effect.{Effect}
-use Rattle.fork_port.specs.declared.commands.Effect.TheVariants.{Done, TimeWritten, Exit}
+use Rattle.fork_port.specs.declared.commands.Effect.TheVariants.{Done, TimeWritten, Exit, Call, Zero}
 use Rattle.forest_model.specs.Ports.{Read, Stored, port_load, port_store}
 use Rattle.forest_model.specs.State.{State, is_in_ram, is_timer_due, at_next_instruction}
-use Rattle.forest_model.specs.Action.{Action, trap, interrupt, retire, exit, rs1, rs2}
+use Rattle.forest_model.specs.Action.{Action, trap, interrupt, retire, exit, ask, rs1, rs2}
 use Rattle.forest_model.specs.Compute.{load_upper, add_upper, compute_immediate, compute}
 use Rattle.forest_model.specs.Control.{aligned_jump, jump, jump_register, branch_by, branch, relative, linked}
-use Rattle.forest_model.specs.Memory.{data_address, is_aligned, read_action, place_load, aligned_load, load, effect_action, port_action, place_store, aligned_store, store_action, stored_bytes, store}
+use Rattle.forest_model.specs.Memory.{data_address, is_aligned, read_action, place_load, aligned_load, load, is_page_range, zeroed, effect_action, port_action, place_store, aligned_store, store_action, stored_bytes, store}
 use Rattle.forest_model.specs.Atomic.{is_reserved, reserve_at, aligned_reserve, load_reserved, conditional_action, conditional_at, aligned_conditional, store_conditional, amo_at, aligned_amo, amo}
 use Rattle.rv_traps.specs.Trap.{takes_interrupt}
 use Rattle.rv_traps.specs.declared.registers.CsrRegisters.{CsrRegisters}
 use Rattle.forest_model.specs.System.{operation_of, reads, writes, written_action, write_action, old_action, old_value, csr_access, trap_return}
 use Rattle.forest_model.specs.Execute.{action, action_by, execute_group, execute, decoded_action, fetched, fetch_action}
 use Rattle.forest_model.specs.Machine.{Machine, advance, advance_from, applied}
-use Rattle.forest_model.specs.Touch.{page_of, access_page, data_page, code_and_data, touch_decoded, touch_fetch, touch_step, touch_from, touch}
+use Rattle.forest_model.specs.Touch.{page_of, access_page, data_page, code_and_data, touch_decoded, touch_fetch, touch_step, touch_from, touch, IsZeroedBy, IsZeroedByStore, IsZeroed}
 use Rattle.forest_model.proofs.Finish.{IsSome-ended}
 
 -- the pages listed begin in RAM, are at most two, and differ
@@ -147,12 +148,13 @@ pub touch-interrupt : (m : Machine) → takes_interrupt m.state.csrs (is_timer_d
 unfolding touch
 touch-interrupt m h = touch_from-interrupt m.ending m.state h
 
--- RAM after an action
+-- RAM after an action. A call waits
 abbrev ram_after : Action → State → List ℕ
 ram_after (trap cause value) s = s.ram
 ram_after interrupt s = s.ram
 ram_after (retire written new) s = new.ram
 ram_after (exit value new) s = new.ram
+ram_after (ask c new) s = s.ram
 
 -- the action leaves the byte at `at`
 abbrev Leaves : ℕ → State → Action → Type 0
@@ -177,15 +179,48 @@ Leaves-put_bytes at address bytes s e widths aligned other =
     get_or-put_bytes_outside s.ram bytes (address - RAM_BASE) at (grind (arith, nat_tests))
     (outside (length bytes) at address widths aligned (grind (arith, nat_tests)) other)
 
-ram_after-effect_action : (effect : Effect) (new s : State) → ram_after (effect_action effect new) s ≡ new.ram
-ram_after-effect_action Done new s = refl
-ram_after-effect_action TimeWritten new s = refl
-ram_after-effect_action (Exit value) new s = refl
+length-zeros : (n : ℕ) → length (zeros n) ≡ n
+unfolding zeros
+length-zeros n = length-replicate n 0
 
-Leaves-port_action : (at : ℕ) (answer : Option Stored) (address : ℕ) (s : State) → Leaves at s (port_action answer address s)
-Leaves-port_action at None address s = refl
-Leaves-port_action at (Some stored) address s =
-    ap (λ ram. get_or ram at 0) (ram_after-effect_action stored.effect (at_next_instruction (record s { ports = stored.ports })) s)
+-- pages that read as zeros leave each byte of another page
+outside_pages : (first count at : ℕ) → ((first ≤ at / PAGE_SIZE) × (at / PAGE_SIZE < first + count) → ⊥)
+    → (at < PAGE_SIZE * first) ⊎ (PAGE_SIZE * first + PAGE_SIZE * count ≤ at)
+outside_pages first count at other = elim (leb_tells first (at / PAGE_SIZE)) [
+  | inl from ↦ elim (leb_tells (first + count) (at / PAGE_SIZE)) [
+    | inl past ↦ inr (let after : first + count ≤ at / PAGE_SIZE = past.1 in omega arith)
+    | inr within ↦ absurd (other (from.1, within.1))
+  ]
+  | inr before ↦ inl (let below : at / PAGE_SIZE < first = before.1 in omega arith)
+]
+
+pages-within : (first count size : ℕ) → not (eqb count 0) && leb (first + count) (size / PAGE_SIZE) ≡ true → PAGE_SIZE * first ≤ size
+pages-within first count size h = grind (arith, nat_tests)
+
+Leaves-zeroed : (at : ℕ) (in_range : Bool) (first count : ℕ) (s : State) → is_page_range first count s.ram ≡ in_range
+    → (IsZeroedBy (Zero first count) (at / PAGE_SIZE) → ⊥) → get_or (zeroed in_range first count s).ram at 0 ≡ get_or s.ram at 0
+Leaves-zeroed at false first count s e other = refl
+Leaves-zeroed at true first count s e other =
+    get_or-put_bytes_outside s.ram (zeros (PAGE_SIZE * count)) (PAGE_SIZE * first) at (pages-within first count (length s.ram) e)
+    (rw (length-zeros (PAGE_SIZE * count)) (outside_pages first count at other))
+
+Leaves-effect_action : (at : ℕ) (effect : Effect) (new s : State) → new.ram ≡ s.ram → (IsZeroedBy effect (at / PAGE_SIZE) → ⊥)
+    → Leaves at s (effect_action effect new)
+Leaves-effect_action at Done new s e other = ap (λ ram. get_or ram at 0) e
+Leaves-effect_action at TimeWritten new s e other = ap (λ ram. get_or ram at 0) e
+Leaves-effect_action at (Exit value) new s e other = ap (λ ram. get_or ram at 0) e
+Leaves-effect_action at (Call call) new s e other = refl
+Leaves-effect_action at (Zero first count) new s e other =
+    Leaves-zeroed at (is_page_range first count new.ram) first count new refl other ∙ ap (λ ram. get_or ram at 0) e
+
+-- the store makes no page read as zeros where `at` lies
+abbrev IsUnzeroed : ℕ → Option Stored → Type 0
+IsUnzeroed at answer = IsSomeAnd answer (λ stored. IsZeroedBy stored.effect (at / PAGE_SIZE)) → ⊥
+
+Leaves-port_action : (at : ℕ) (answer : Option Stored) (address : ℕ) (s : State) → IsUnzeroed at answer → Leaves at s (port_action answer address s)
+Leaves-port_action at None address s other = refl
+Leaves-port_action at (Some stored) address s other =
+    Leaves-effect_action at stored.effect (at_next_instruction (record s { ports = stored.ports })) s refl other
 
 -- where the access is to a page, `at` lies in another
 abbrev IsElsewhere : ℕ → Option ℕ → Type 0
@@ -193,18 +228,20 @@ IsElsewhere at page = (p : ℕ) → page ≡ Some p → at / PAGE_SIZE ≢ p
 
 Leaves-place_store : (at : ℕ) (in_ram : Bool) (address : ℕ) (bytes : List ℕ) (word : ℕ) (s : State) → is_in_ram s.ram address ≡ in_ram
     → (length bytes ≡ 1) ⊎ ((length bytes ≡ 2) ⊎ (length bytes ≡ 4)) → address % length bytes ≡ 0
-    → IsElsewhere at (cond in_ram (Some (page_of address)) None) → Leaves at s (place_store in_ram address bytes word s)
-Leaves-place_store at false address bytes word s e widths aligned other = Leaves-port_action at (port_store s.ports address (length bytes) word) address s
-Leaves-place_store at true address bytes word s e widths aligned other =
+    → IsElsewhere at (cond in_ram (Some (page_of address)) None) → IsUnzeroed at (port_store s.ports address (length bytes) word)
+    → Leaves at s (place_store in_ram address bytes word s)
+Leaves-place_store at false address bytes word s e widths aligned other unzeroed =
+    Leaves-port_action at (port_store s.ports address (length bytes) word) address s unzeroed
+Leaves-place_store at true address bytes word s e widths aligned other unzeroed =
     Leaves-put_bytes at address bytes s e widths aligned (other (page_of address) refl)
 
 Leaves-aligned_store : (at : ℕ) (aligned : Bool) (address : ℕ) (bytes : List ℕ) (word : ℕ) (s : State) → eqb (address % length bytes) 0 ≡ aligned
     → (length bytes ≡ 1) ⊎ ((length bytes ≡ 2) ⊎ (length bytes ≡ 4))
     → IsElsewhere at (cond (aligned && is_in_ram s.ram address) (Some (page_of address)) None)
-    → Leaves at s (aligned_store aligned address bytes word s)
-Leaves-aligned_store at false address bytes word s e widths other = refl
-Leaves-aligned_store at true address bytes word s e widths other =
-    Leaves-place_store at (is_in_ram s.ram address) address bytes word s refl widths (eqb-true (address % length bytes) 0 e) other
+    → IsUnzeroed at (port_store s.ports address (length bytes) word) → Leaves at s (aligned_store aligned address bytes word s)
+Leaves-aligned_store at false address bytes word s e widths other unzeroed = refl
+Leaves-aligned_store at true address bytes word s e widths other unzeroed =
+    Leaves-place_store at (is_in_ram s.ram address) address bytes word s refl widths (eqb-true (address % length bytes) 0 e) other unzeroed
 
 -- no load changes RAM
 Leaves-read_action : (at : ℕ) (answer : Option Read) (i : Instruction) (address : ℕ) (s : State) → Leaves at s (read_action answer i address s)
@@ -292,65 +329,72 @@ length-stored_bytes : (i : Instruction) (s : State) → group_of i.kind ≡ Stor
 length-stored_bytes i s h = store_lengths i.kind (rs2 i s) h
 
 Leaves-execute_group : (at : ℕ) (group : Group) (i : Instruction) (word : ℕ) (s : State) → group_of i.kind ≡ group
-    → IsElsewhere at (data_page group i s) → Leaves at s (execute_group group i word s)
+    → IsElsewhere at (data_page group i s) → (IsZeroedByStore i (at / PAGE_SIZE) s → ⊥) → Leaves at s (execute_group group i word s)
 unfolding load_upper add_upper compute_immediate compute jump jump_register branch load store store_action load_reserved store_conditional amo csr_access trap_return
-Leaves-execute_group at LoadUpper i word s e other = refl
-Leaves-execute_group at AddUpper i word s e other = refl
-Leaves-execute_group at Jump i word s e other = Leaves-aligned_jump at (eqb (relative i s % 4) 0) (relative i s) (linked i s) s refl
-Leaves-execute_group at JumpRegister i word s e other = Leaves-aligned_jump at _ _ (linked i s) s refl
-Leaves-execute_group at Branch i word s e other = Leaves-branch_by at _ i s
-Leaves-execute_group at Load i word s e other = Leaves-aligned_load at (is_aligned (data_address i s) (load_width i.kind)) i (data_address i s) s
-Leaves-execute_group at Store i word s e other =
+Leaves-execute_group at LoadUpper i word s e other unzeroed = refl
+Leaves-execute_group at AddUpper i word s e other unzeroed = refl
+Leaves-execute_group at Jump i word s e other unzeroed = Leaves-aligned_jump at (eqb (relative i s % 4) 0) (relative i s) (linked i s) s refl
+Leaves-execute_group at JumpRegister i word s e other unzeroed = Leaves-aligned_jump at _ _ (linked i s) s refl
+Leaves-execute_group at Branch i word s e other unzeroed = Leaves-branch_by at _ i s
+Leaves-execute_group at Load i word s e other unzeroed = Leaves-aligned_load at (is_aligned (data_address i s) (load_width i.kind)) i (data_address i s) s
+Leaves-execute_group at Store i word s e other unzeroed =
     Leaves-aligned_store at (is_aligned (data_address i s) (length (stored_bytes i s))) (data_address i s) (stored_bytes i s) (rs2 i s) s refl
-    (length-stored_bytes i s e) other
-Leaves-execute_group at ComputeImmediate i word s e other = refl
-Leaves-execute_group at Compute i word s e other = refl
-Leaves-execute_group at Nothing i word s e other = refl
-Leaves-execute_group at EnvironmentCall i word s e other = refl
-Leaves-execute_group at Breakpoint i word s e other = refl
-Leaves-execute_group at TrapReturn i word s e other = refl
-Leaves-execute_group at Csr i word s e other = Leaves-old_action at (old_value (reads (operation_of i.kind) i) i s) i word s
-Leaves-execute_group at LoadReserved i word s e other = Leaves-aligned_reserve at (is_aligned (rs1 i s) 4) i (rs1 i s) s
-Leaves-execute_group at StoreConditional i word s e other = Leaves-aligned_conditional at (is_aligned (rs1 i s) 4) i (rs1 i s) s refl other
-Leaves-execute_group at Amo i word s e other = Leaves-aligned_amo at (is_aligned (rs1 i s) 4) i (rs1 i s) s refl other
+    (length-stored_bytes i s e) other (λ zeroed. unzeroed (e, zeroed))
+Leaves-execute_group at ComputeImmediate i word s e other unzeroed = refl
+Leaves-execute_group at Compute i word s e other unzeroed = refl
+Leaves-execute_group at Nothing i word s e other unzeroed = refl
+Leaves-execute_group at EnvironmentCall i word s e other unzeroed = refl
+Leaves-execute_group at Breakpoint i word s e other unzeroed = refl
+Leaves-execute_group at TrapReturn i word s e other unzeroed = refl
+Leaves-execute_group at Csr i word s e other unzeroed = Leaves-old_action at (old_value (reads (operation_of i.kind) i) i s) i word s
+Leaves-execute_group at LoadReserved i word s e other unzeroed = Leaves-aligned_reserve at (is_aligned (rs1 i s) 4) i (rs1 i s) s
+Leaves-execute_group at StoreConditional i word s e other unzeroed = Leaves-aligned_conditional at (is_aligned (rs1 i s) 4) i (rs1 i s) s refl other
+Leaves-execute_group at Amo i word s e other unzeroed = Leaves-aligned_amo at (is_aligned (rs1 i s) 4) i (rs1 i s) s refl other
 
 Contains-both : (code page : ℕ) (same : Bool) → eqb page code ≡ same → Contains (cond same (code ∷ []) (code ∷ page ∷ [])) page
 Contains-both code page true e = (0, omega arith, sym (eqb-true page code e))
 Contains-both code page false e = (1, omega arith, refl)
 
 Leaves-decoded : (at : ℕ) (decoded : Option Instruction) (word : ℕ) (s : State)
-    → (Contains (touch_decoded decoded s) (at / PAGE_SIZE) → ⊥) → Leaves at s (decoded_action decoded word s)
+    → (Contains (touch_decoded decoded s) (at / PAGE_SIZE) → ⊥) → (IsSomeAnd decoded (λ i. IsZeroedByStore i (at / PAGE_SIZE) s) → ⊥)
+    → Leaves at s (decoded_action decoded word s)
 unfolding execute
-Leaves-decoded at None word s not_touched = refl
-Leaves-decoded at (Some i) word s not_touched =
+Leaves-decoded at None word s not_touched unzeroed = refl
+Leaves-decoded at (Some i) word s not_touched unzeroed =
     let code : ℕ = page_of s.pc in
     Leaves-execute_group at (group_of i.kind) i word s refl (λ page e same.
     let listed : Contains (code_and_data code (Some page)) page = Contains-both code page (eqb page code) refl in
-    not_touched (subst (λ p. Contains (code_and_data code p) (at / PAGE_SIZE)) (sym e) (subst (Contains (code_and_data code (Some page))) (sym same) listed)))
+    not_touched (subst (λ p. Contains (code_and_data code p) (at / PAGE_SIZE)) (sym e) (subst (Contains (code_and_data code (Some page))) (sym same) listed))) unzeroed
 
-Leaves-fetch : (at : ℕ) (in_ram : Bool) (s : State) → (Contains (touch_fetch in_ram s) (at / PAGE_SIZE) → ⊥) → Leaves at s (fetch_action in_ram s)
-Leaves-fetch at false s not_touched = refl
-Leaves-fetch at true s not_touched = Leaves-decoded at (decoded (fetched s)) (fetched s) s not_touched
+Leaves-fetch : (at : ℕ) (in_ram : Bool) (s : State) → (Contains (touch_fetch in_ram s) (at / PAGE_SIZE) → ⊥) → (IsZeroed s (at / PAGE_SIZE) → ⊥)
+    → Leaves at s (fetch_action in_ram s)
+unfolding IsZeroed
+Leaves-fetch at false s not_touched unzeroed = refl
+Leaves-fetch at true s not_touched unzeroed = Leaves-decoded at (decoded (fetched s)) (fetched s) s not_touched unzeroed
 
-Leaves-by : (at : ℕ) (taken : Bool) (s : State) → (Contains (touch_step taken s) (at / PAGE_SIZE) → ⊥) → Leaves at s (action_by taken s)
-Leaves-by at true s not_touched = refl
-Leaves-by at false s not_touched = Leaves-fetch at (is_in_ram s.ram s.pc) s not_touched
+Leaves-by : (at : ℕ) (taken : Bool) (s : State) → (Contains (touch_step taken s) (at / PAGE_SIZE) → ⊥) → (IsZeroed s (at / PAGE_SIZE) → ⊥)
+    → Leaves at s (action_by taken s)
+Leaves-by at true s not_touched unzeroed = refl
+Leaves-by at false s not_touched unzeroed = Leaves-fetch at (is_in_ram s.ram s.pc) s not_touched unzeroed
 
-Leaves-action : (at : ℕ) (s : State) → (Contains (touch_from None s) (at / PAGE_SIZE) → ⊥) → Leaves at s (action s)
+Leaves-action : (at : ℕ) (s : State) → (Contains (touch_from None s) (at / PAGE_SIZE) → ⊥) → (IsZeroed s (at / PAGE_SIZE) → ⊥) → Leaves at s (action s)
 unfolding action
-Leaves-action at s not_touched = Leaves-by at (takes_interrupt s.csrs (is_timer_due s)) s not_touched
+Leaves-action at s not_touched unzeroed = Leaves-by at (takes_interrupt s.csrs (is_timer_due s)) s not_touched unzeroed
 
 ram-applied : (a : Action) (m : Machine) → (applied a m).state.ram ≡ ram_after a m.state
 ram-applied (trap cause value) m = refl
 ram-applied interrupt m = refl
 ram-applied (retire written s) m = refl
 ram-applied (exit value s) m = refl
+ram-applied (ask c s) m = refl
 
 advance_from-leaves : (at : ℕ) (ending : Option Ending) (m : Machine) → (Contains (touch_from ending m.state) (at / PAGE_SIZE) → ⊥)
-    → get_or (advance_from ending m).state.ram at 0 ≡ get_or m.state.ram at 0
-advance_from-leaves at None m not_touched = ap (λ ram. get_or ram at 0) (ram-applied (action m.state) m) ∙ Leaves-action at m.state not_touched
-advance_from-leaves at (Some ending) m not_touched = refl
+    → (IsZeroed m.state (at / PAGE_SIZE) → ⊥) → get_or (advance_from ending m).state.ram at 0 ≡ get_or m.state.ram at 0
+advance_from-leaves at None m not_touched unzeroed =
+    ap (λ ram. get_or ram at 0) (ram-applied (action m.state) m) ∙ Leaves-action at m.state not_touched unzeroed
+advance_from-leaves at (Some ending) m not_touched unzeroed = refl
 
-pub advance-leaves : (m : Machine) (at : ℕ) → (Contains (touch m) (at / PAGE_SIZE) → ⊥) → get_or (advance m).state.ram at 0 ≡ get_or m.state.ram at 0
+pub advance-leaves : (m : Machine) (at : ℕ) → (Contains (touch m) (at / PAGE_SIZE) → ⊥) → (IsZeroed m.state (at / PAGE_SIZE) → ⊥)
+    → get_or (advance m).state.ram at 0 ≡ get_or m.state.ram at 0
 unfolding advance touch
-advance-leaves m at not_touched = advance_from-leaves at m.ending m not_touched
+advance-leaves m at not_touched unzeroed = advance_from-leaves at m.ending m not_touched unzeroed

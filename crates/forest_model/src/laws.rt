@@ -1,17 +1,18 @@
 //! Laws of the definitions, each the contract of a function that does nothing.
 
-ghost use Rattle.std.specs.Prelude.{◌≡◌, ◌≢◌, ℕ, true, ◌+◌, ◌*◌, ◌/◌, ◌<◌, ◌≤◌, List, [], length, slice_index, Some, None, IsSome, All, AllPairs, Contains};
+ghost use Rattle.std.specs.Prelude.{◌≡◌, ◌≢◌, ℕ, true, false, ◌+◌, ◌*◌, ◌/◌, ◌^◌, ◌<◌, ◌≤◌, List, [], length, slice_index, Some, None, IsSome, All, AllPairs, Contains};
 ghost use Rattle.rv_traps.specs.Trap.{takes_interrupt};
 ghost use Rattle.forest_model.specs.State.{is_timer_due};
 ghost use Rattle.forest_model.specs.Machine.{Machine, IsWithinLimit, exception, timer_interrupt, next, limited, count, trapped, advance, after_steps};
-ghost use Rattle.forest_model.specs.Forest.{IsChildless, booted, call_of, finish, machines};
+ghost use Rattle.forest_model.specs.Calls.{forked, after_join, after_kill};
+ghost use Rattle.forest_model.specs.Forest.{IsChildless, booted, call_of, finish, machines, port_of};
 ghost use Rattle.forest_tree.specs.Operations.{IsMachine};
 ghost use Rattle.forest_tree.specs.Settle.{alone};
 ghost use Rattle.forest_tree.specs.Sound.{IsSound};
 ghost use Rattle.elf_load.specs.Image.{Image};
 ghost use Rattle.forest_model.specs.Touch.{IsZeroed, touch};
 
-use crate::{Options, Written};
+use crate::{Ending, Options, Written};
 use elf_load::PAGE_SIZE;
 use rv_traps::TIMER_INTERRUPT;
 
@@ -41,11 +42,19 @@ pub fn interrupt_comes_first()
         → advance m ≡ limited (count false Written.Nothing (trapped TIMER_INTERRUPT 0 m.state)) m }
 {}
 
+/// The numbers of tickets are given in turn: a step of a machine gives one at most, and a call none.
+pub fn tickets_rise()
+    ensures step { (m : Machine) → (port_of (advance m)).next_ticket ≤ (port_of m).next_ticket + 1 }
+    ensures clone { (m : Machine) → (port_of (forked m)).next_ticket ≡ (port_of m).next_ticket }
+    ensures join { (m : Machine) (endings : List Ending) → (port_of (after_join m endings)).next_ticket ≡ (port_of m).next_ticket }
+    ensures kill { (m : Machine) → (port_of (after_kill m)).next_ticket ≡ (port_of m).next_ticket }
+{}
+
 /// The machines keep the rules of a forest: the laws of its trees hold of them. A machine that is booted
 /// is a sound tree alone.
 pub fn machines_keep_the_rules()
     ensures rules { IsMachine machines }
-    ensures booted { (image : Image) (disk input : List ℕ) (options : Options) → 0 < options.limit
+    ensures booted { (image : Image) (disk input : List ℕ) (options : Options) → 0 < options.limit → options.allot < 2 ^ 32
         → IsSound machines (booted image disk input options) }
 {}
 

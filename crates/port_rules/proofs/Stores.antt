@@ -13,7 +13,7 @@ use Rattle.fork_port.proofs.CommandLemmas.{answerable}
 use Rattle.port_rules.specs.Rules.{is_cloned, is_accounted, IsPortStep}
 use Rattle.port_rules.proofs.Tickets.{port-same, port-ticket, port-discard}
 
-each_store : (P : ForkStored → Type 0) (f : ForkRegisters) (offset width word : ℕ)
+pub each_store : (P : ForkStored → Type 0) (f : ForkRegisters) (offset width word : ℕ)
     → P (record { fork = record f { first_argument = word }; effect = effect.Done })
     → P (record { fork = record f { second_argument = word }; effect = effect.Done })
     → P (record { fork = record f { join_select = word }; effect = effect.Done })

@@ -1,4 +1,4 @@
-use Rattle.forest_model.proofs.Finish.{steps-advance, limit-advance, IsWithinLimit-advance, advance-IsSome}
+use Rattle.forest_model.proofs.Finish.{steps-advance, limit-advance, IsWithinLimit-advance, advance-IsSome, waits-advance}
 use Rattle.forest_model.proofs.laws.advance_counts.Goals as goal
 
 pub returns : goal.returns
@@ -7,4 +7,5 @@ returns c = record {
   limit_stays = limit-advance;
   within = IsWithinLimit-advance;
   ended = advance-IsSome;
+  waits = waits-advance;
 }

@@ -1,0 +1,257 @@
+-- What an instruction does to the fork port: nothing, or what one store to it does.
+use Rattle.std.proofs.Common.{◌≡◌, ℕ, ◌%◌, List, length, Bool, true, false, cond, eqb, Option, Some, None, refl, sym, subst}
+use Rattle.std.specs.Option.{IfSome}
+use Rattle.rv_decode.specs.Instruction.{Instruction}
+use Rattle.rv_decode.specs.Table.{decoded}
+use Rattle.rv_decode.specs.declared.kinds.Group.{Group}
+use Rattle.rv_decode.specs.declared.kinds.Group.TheVariants.{LoadUpper, AddUpper, Jump, JumpRegister, Branch, Load, Store, ComputeImmediate, Compute, Nothing, EnvironmentCall, Breakpoint, TrapReturn, Csr, LoadReserved, StoreConditional, Amo}
+use Rattle.rv_decode.specs.Kinds.{group_of}
+use Rattle.rv_exec.specs.Memory.{load_width}
+use Rattle.rv_traps.specs.Trap.{takes_interrupt}
+use Rattle.rv_traps.specs.declared.registers.CsrRegisters.{CsrRegisters}
+use Rattle.console_port.specs.Console.{ConsoleRegisters, ConsoleLoaded, console_load, console_store}
+use Rattle.timer_port.specs.declared.registers.TimerRegisters.{TimerRegisters}
+use Rattle.timer_port.specs.Timer.{timer_load, timer_store, writes_mtime}
+use Rattle.block_port.specs.Block.{BlockRegisters, block_load, block_store}
+use Rattle.fork_port.specs.declared.commands.Call.{Call}
+use Rattle.fork_port.specs.declared.ending.Ending.{Ending}
+use Rattle.fork_port.specs.declared.commands.Effect.{Effect}
+use Rattle.fork_port.specs.declared.commands.Effect.TheVariants as effect
+use Rattle.fork_port.specs.declared.refusals.TheConstants.{BAD_ARGUMENT}
+use Rattle.fork_port.specs.Registers.{ForkRegisters, refused}
+use Rattle.fork_port.specs.Fork.{ForkStored, fork_load, fork_store}
+use Rattle.forest_model.specs.Ports.{PortRegisters, Read, Stored, Place, at_console, at_timer, at_block, at_fork, at_no_port, place_of, console_read, plain_read, load_at, port_load, console_stored, timer_stored, block_stored, fork_stored, store_at, port_store}
+use Rattle.forest_model.specs.State.{State, is_in_ram, is_timer_due, at_next_instruction}
+use Rattle.forest_model.specs.Action.{Action, trap, interrupt, retire, exit, ask, rs1, rs2}
+use Rattle.forest_model.specs.Compute.{load_upper, add_upper, compute_immediate, compute}
+use Rattle.forest_model.specs.Control.{even, aligned_jump, jump, jump_register, branch_by, branch, relative, linked}
+use Rattle.forest_model.specs.Memory.{data_address, is_aligned, read_action, place_load, aligned_load, load, is_page_range, zeroed, effect_action, port_action, place_store, aligned_store, store_action, stored_bytes, store}
+use Rattle.forest_model.specs.Atomic.{is_reserved, reserve_at, aligned_reserve, load_reserved, conditional_action, conditional_at, aligned_conditional, store_conditional, amo_at, aligned_amo, amo}
+use Rattle.forest_model.specs.System.{operation_of, reads, writes, written_action, write_action, old_action, old_value, csr_access, trap_return}
+use Rattle.forest_model.specs.Execute.{action, action_by, execute_group, execute, decoded_action, fetched, fetch_action}
+use Rattle.forest_model.specs.Machine.{Machine, advance, advance_from, applied}
+use Rattle.forest_model.specs.Calls.{fork_of}
+use Rattle.forest_model.specs.Forest.{port_of}
+
+-- no load changes the fork port
+fork-console_read : (loaded : Option ConsoleLoaded) (ports : PortRegisters) → IfSome (console_read loaded ports) (λ read. read.ports.fork ≡ ports.fork)
+fork-console_read None ports = tt
+fork-console_read (Some l) ports = refl
+
+fork-plain_read : (loaded : Option ℕ) (ports : PortRegisters) → IfSome (plain_read loaded ports) (λ read. read.ports.fork ≡ ports.fork)
+fork-plain_read None ports = tt
+fork-plain_read (Some value) ports = refl
+
+fork-load_at : (place : Place) (ports : PortRegisters) (width : ℕ) → IfSome (load_at place ports width) (λ read. read.ports.fork ≡ ports.fork)
+fork-load_at (at_console offset) ports width = fork-console_read (console_load ports.console offset width) ports
+fork-load_at (at_timer offset) ports width = fork-plain_read (timer_load ports.timer offset width) ports
+fork-load_at (at_block offset) ports width = fork-plain_read (block_load ports.block offset width) ports
+fork-load_at (at_fork offset) ports width = fork-plain_read (fork_load ports.fork offset width) ports
+fork-load_at at_no_port ports width = tt
+
+fork-port_load : (ports : PortRegisters) (address width : ℕ) → IfSome (port_load ports address width) (λ read. read.ports.fork ≡ ports.fork)
+unfolding port_load
+fork-port_load ports address width = fork-load_at (place_of address) ports width
+
+-- P is to hold of the registers after each step of a machine, and Q of each call that it asks for
+module _ (P : ForkRegisters → Type 0) (Q : Call → Type 0) where
+  -- registers f keep P in each store
+  pub record IsKept (f : ForkRegisters) : Type 0 where
+    pub before : P f
+    pub after_store : (offset width word : ℕ) → IfSome (fork_store f offset width word) (λ s. P s.fork)
+    pub at_call : (offset width word : ℕ) (c : Call)
+        → IfSome (fork_store f offset width word) (λ s. s.effect ≡ effect.Call c → (s.fork ≡ f) × Q c)
+    -- RESULT may be anything
+    pub after_answer : (g : ForkRegisters) (word : ℕ) → P g → P (refused g word)
+
+  -- after an action. A call waits, as the registers are
+  abbrev pub Ported : ForkRegisters → Action → Type 0
+  Ported f (trap cause value) = Unit {0}
+  Ported f interrupt = Unit {0}
+  Ported f (retire written new) = P (fork_of new)
+  Ported f (exit value new) = P (fork_of new)
+  Ported f (ask c new) = (fork_of new ≡ f) × Q c
+
+  -- after a store to any port
+  abbrev IsStored : ForkRegisters → Stored → Type 0
+  IsStored f stored = P stored.ports.fork × ((c : Call) → stored.effect ≡ effect.Call c → (stored.ports.fork ≡ f) × Q c)
+
+  time-no-call : (b : Bool) (c : Call) {R : Type 0} → cond b effect.TimeWritten effect.Done ≡ effect.Call c → R
+  time-no-call true c is = absurd (cc)
+  time-no-call false c is = absurd (cc)
+
+  IsStored-console : (stored : Option ConsoleRegisters) (ports : PortRegisters) → P ports.fork → IfSome (console_stored stored ports) (IsStored ports.fork)
+  IsStored-console None ports p = tt
+  IsStored-console (Some console) ports p = (p, λ c is. absurd (cc))
+
+  IsStored-timer : (stored : Option TimerRegisters) (offset : ℕ) (ports : PortRegisters) → P ports.fork
+      → IfSome (timer_stored stored offset ports) (IsStored ports.fork)
+  IsStored-timer None offset ports p = tt
+  IsStored-timer (Some timer) offset ports p = (p, λ c is. time-no-call (writes_mtime offset) c is)
+
+  IsStored-block : (stored : Option BlockRegisters) (ports : PortRegisters) → P ports.fork → IfSome (block_stored stored ports) (IsStored ports.fork)
+  IsStored-block None ports p = tt
+  IsStored-block (Some block) ports p = (p, λ c is. absurd (cc))
+
+  IsStored-fork : (stored : Option ForkStored) (ports : PortRegisters) → IfSome stored (λ s. P s.fork)
+      → ((c : Call) → IfSome stored (λ s. s.effect ≡ effect.Call c → (s.fork ≡ ports.fork) × Q c)) → IfSome (fork_stored stored ports) (IsStored ports.fork)
+  IsStored-fork None ports p asks = tt
+  IsStored-fork (Some s) ports p asks = (p, asks)
+
+  IsStored-at : (place : Place) (ports : PortRegisters) (width word : ℕ) → IsKept ports.fork → IfSome (store_at place ports width word) (IsStored ports.fork)
+  IsStored-at (at_console offset) ports width word kept = IsStored-console (console_store ports.console offset width word) ports kept.before
+  IsStored-at (at_timer offset) ports width word kept = IsStored-timer (timer_store ports.timer offset width word) offset ports kept.before
+  IsStored-at (at_block offset) ports width word kept = IsStored-block (block_store ports.block offset width word) ports kept.before
+  IsStored-at (at_fork offset) ports width word kept =
+      IsStored-fork (fork_store ports.fork offset width word) ports (kept.after_store offset width word) (kept.at_call offset width word)
+  IsStored-at at_no_port ports width word kept = tt
+
+  IsStored-port_store : (ports : PortRegisters) (address width word : ℕ) → IsKept ports.fork → IfSome (port_store ports address width word) (IsStored ports.fork)
+  unfolding port_store
+  IsStored-port_store ports address width word kept = IsStored-at (place_of address) ports width word kept
+
+  module _ (s : State) (kept : IsKept (fork_of s)) where
+    abbrev Follows : Action → Type 0
+    Follows a = Ported (fork_of s) a
+
+    Follows-zeroed : (in_range : Bool) (first count : ℕ) (new : State) → P (fork_of new) → P (fork_of (zeroed in_range first count new))
+    Follows-zeroed false first count new p = kept.after_answer (fork_of new) BAD_ARGUMENT p
+    Follows-zeroed true first count new p = kept.after_answer (fork_of new) 0 p
+
+    Follows-effect_action : (e : Effect) (new : State) → P (fork_of new)
+        → ((c : Call) → e ≡ effect.Call c → (fork_of new ≡ fork_of s) × Q c) → Follows (effect_action e new)
+    Follows-effect_action effect.Done new p asks = p
+    Follows-effect_action effect.TimeWritten new p asks = p
+    Follows-effect_action (effect.Exit value) new p asks = p
+    Follows-effect_action (effect.Call c) new p asks = asks c refl
+    Follows-effect_action (effect.Zero first count) new p asks = Follows-zeroed (is_page_range first count new.ram) first count new p
+
+    Follows-port_action : (answer : Option Stored) (address : ℕ) → IfSome answer (IsStored (fork_of s)) → Follows (port_action answer address s)
+    Follows-port_action None address h = tt
+    Follows-port_action (Some stored) address h =
+        Follows-effect_action stored.effect (at_next_instruction (record s { ports = stored.ports })) h.0 h.1
+
+    Follows-place_store : (in_ram : Bool) (address : ℕ) (bytes : List ℕ) (word : ℕ) → Follows (place_store in_ram address bytes word s)
+    Follows-place_store true address bytes word = kept.before
+    Follows-place_store false address bytes word =
+        Follows-port_action (port_store s.ports address (length bytes) word) address (IsStored-port_store s.ports address (length bytes) word kept)
+
+    Follows-aligned_store : (aligned : Bool) (address : ℕ) (bytes : List ℕ) (word : ℕ) → Follows (aligned_store aligned address bytes word s)
+    Follows-aligned_store false address bytes word = tt
+    Follows-aligned_store true address bytes word = Follows-place_store (is_in_ram s.ram address) address bytes word
+
+    Follows-read_action : (answer : Option Read) (i : Instruction) (address : ℕ) → IfSome answer (λ read. read.ports.fork ≡ fork_of s)
+        → Follows (read_action answer i address s)
+    Follows-read_action None i address e = tt
+    Follows-read_action (Some read) i address e = subst P (sym e) kept.before
+
+    Follows-place_load : (in_ram : Bool) (i : Instruction) (address : ℕ) → Follows (place_load in_ram i address s)
+    Follows-place_load true i address = kept.before
+    Follows-place_load false i address =
+        Follows-read_action (port_load s.ports address (load_width i.kind)) i address (fork-port_load s.ports address (load_width i.kind))
+
+    Follows-aligned_load : (aligned : Bool) (i : Instruction) (address : ℕ) → Follows (aligned_load aligned i address s)
+    Follows-aligned_load false i address = tt
+    Follows-aligned_load true i address = Follows-place_load (is_in_ram s.ram address) i address
+
+    Follows-aligned_jump : (aligned : Bool) (target : ℕ) (new : State) → P (fork_of new) → Follows (aligned_jump aligned target new)
+    Follows-aligned_jump false target new p = tt
+    Follows-aligned_jump true target new p = p
+
+    Follows-branch_by : (taken : Bool) (i : Instruction) → Follows (branch_by taken i s)
+    Follows-branch_by false i = kept.before
+    Follows-branch_by true i = Follows-aligned_jump (eqb (relative i s % 4) 0) (relative i s) s kept.before
+
+    Follows-reserve_at : (in_ram : Bool) (i : Instruction) (address : ℕ) → Follows (reserve_at in_ram i address s)
+    Follows-reserve_at false i address = tt
+    Follows-reserve_at true i address = kept.before
+
+    Follows-aligned_reserve : (aligned : Bool) (i : Instruction) (address : ℕ) → Follows (aligned_reserve aligned i address s)
+    Follows-aligned_reserve false i address = tt
+    Follows-aligned_reserve true i address = Follows-reserve_at (is_in_ram s.ram address) i address
+
+    Follows-conditional_action : (reserved : Bool) (i : Instruction) (address : ℕ) → Follows (conditional_action reserved i address s)
+    Follows-conditional_action false i address = kept.before
+    Follows-conditional_action true i address = kept.before
+
+    Follows-conditional_at : (in_ram : Bool) (i : Instruction) (address : ℕ) → Follows (conditional_at in_ram i address s)
+    Follows-conditional_at false i address = tt
+    Follows-conditional_at true i address = Follows-conditional_action (is_reserved s.reservation address) i address
+
+    Follows-aligned_conditional : (aligned : Bool) (i : Instruction) (address : ℕ) → Follows (aligned_conditional aligned i address s)
+    Follows-aligned_conditional false i address = tt
+    Follows-aligned_conditional true i address = Follows-conditional_at (is_in_ram s.ram address) i address
+
+    Follows-amo_at : (in_ram : Bool) (i : Instruction) (address : ℕ) → Follows (amo_at in_ram i address s)
+    Follows-amo_at false i address = tt
+    Follows-amo_at true i address = kept.before
+
+    Follows-aligned_amo : (aligned : Bool) (i : Instruction) (address : ℕ) → Follows (aligned_amo aligned i address s)
+    Follows-aligned_amo false i address = tt
+    Follows-aligned_amo true i address = Follows-amo_at (is_in_ram s.ram address) i address
+
+    Follows-written_action : (csrs : Option CsrRegisters) (old : ℕ) (i : Instruction) (word : ℕ) → Follows (written_action csrs old i word s)
+    Follows-written_action None old i word = tt
+    Follows-written_action (Some csrs) old i word = kept.before
+
+    Follows-write_action : (writes : Bool) (old : ℕ) (i : Instruction) (word : ℕ) → Follows (write_action writes old i word s)
+    Follows-write_action false old i word = kept.before
+    Follows-write_action true old i word = Follows-written_action _ old i word
+
+    Follows-old_action : (old : Option ℕ) (i : Instruction) (word : ℕ) → Follows (old_action old i word s)
+    Follows-old_action None i word = tt
+    Follows-old_action (Some old) i word = Follows-write_action (writes (operation_of i.kind) i) old i word
+
+    Follows-execute_group : (group : Group) (i : Instruction) (word : ℕ) → Follows (execute_group group i word s)
+    unfolding load_upper add_upper compute_immediate compute jump jump_register branch load store store_action load_reserved store_conditional amo csr_access trap_return
+    Follows-execute_group LoadUpper i word = kept.before
+    Follows-execute_group AddUpper i word = kept.before
+    Follows-execute_group Jump i word = Follows-aligned_jump (eqb (relative i s % 4) 0) (relative i s) (linked i s) kept.before
+    Follows-execute_group JumpRegister i word = Follows-aligned_jump _ _ (linked i s) kept.before
+    Follows-execute_group Branch i word = Follows-branch_by _ i
+    Follows-execute_group Load i word = Follows-aligned_load (is_aligned (data_address i s) (load_width i.kind)) i (data_address i s)
+    Follows-execute_group Store i word =
+        Follows-aligned_store (is_aligned (data_address i s) (length (stored_bytes i s))) (data_address i s) (stored_bytes i s) (rs2 i s)
+    Follows-execute_group ComputeImmediate i word = kept.before
+    Follows-execute_group Compute i word = kept.before
+    Follows-execute_group Nothing i word = kept.before
+    Follows-execute_group EnvironmentCall i word = tt
+    Follows-execute_group Breakpoint i word = tt
+    Follows-execute_group TrapReturn i word = kept.before
+    Follows-execute_group Csr i word = Follows-old_action (old_value (reads (operation_of i.kind) i) i s) i word
+    Follows-execute_group LoadReserved i word = Follows-aligned_reserve (is_aligned (rs1 i s) 4) i (rs1 i s)
+    Follows-execute_group StoreConditional i word = Follows-aligned_conditional (is_aligned (rs1 i s) 4) i (rs1 i s)
+    Follows-execute_group Amo i word = Follows-aligned_amo (is_aligned (rs1 i s) 4) i (rs1 i s)
+
+    Follows-decoded : (decoded : Option Instruction) (word : ℕ) → Follows (decoded_action decoded word s)
+    unfolding execute
+    Follows-decoded None word = tt
+    Follows-decoded (Some i) word = Follows-execute_group (group_of i.kind) i word
+
+    Follows-fetch : (in_ram : Bool) → Follows (fetch_action in_ram s)
+    Follows-fetch false = tt
+    Follows-fetch true = Follows-decoded (decoded (fetched s)) (fetched s)
+
+    Follows-by : (taken : Bool) → Follows (action_by taken s)
+    Follows-by true = tt
+    Follows-by false = Follows-fetch (is_in_ram s.ram s.pc)
+
+    pub action-ported : Ported (fork_of s) (action s)
+    unfolding action
+    action-ported = Follows-by (takes_interrupt s.csrs (is_timer_due s))
+
+  -- the machine after a step of its own
+  pub port-applied : (a : Action) (m : Machine) → Ported (port_of m) a → P (port_of m) → P (port_of (applied a m))
+  port-applied (trap cause value) m h p = p
+  port-applied interrupt m h p = p
+  port-applied (retire written new) m h p = h
+  port-applied (exit value new) m h p = h
+  port-applied (ask c new) m h p = p
+
+  port-advance_from : (ending : Option Ending) (m : Machine) → IsKept (port_of m) → P (port_of (advance_from ending m))
+  port-advance_from None m kept = port-applied (action m.state) m (action-ported m.state kept) kept.before
+  port-advance_from (Some ending) m kept = kept.before
+
+  pub port-advance : (m : Machine) → IsKept (port_of m) → P (port_of (advance m))
+  unfolding advance
+  port-advance m kept = port-advance_from m.ending m kept

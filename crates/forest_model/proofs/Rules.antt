@@ -1,0 +1,266 @@
+-- The machines keep the rules of a forest.
+use Rattle.std.proofs.Common.{◌≡◌, ℕ, suc, ◌+◌, ◌-◌, ◌*◌, ◌^◌, ◌<◌, ◌≤◌, ◌&&◌, ◌||◌, not, Bool, true, false, cond, eqb, ltb, eqb-true, ltb-true, lt-ltb, List, [], length, Option, Some, None, is_some, refl, sym, ap, ◌∙◌, subst, arith}
+use Rattle.std.proofs.lemmas.Bool.{eqb-false}
+use Rattle.fork_port.specs.declared.commands.Call.{Call}
+use Rattle.fork_port.specs.declared.commands.Call.TheVariants.{Clone, Join, Kill}
+use Rattle.fork_port.specs.declared.ending.Ending.{Ending}
+use Rattle.fork_port.specs.declared.ending.Ending.TheVariants.{Limit}
+use Rattle.fork_port.specs.declared.tickets.Ticket.{Ticket}
+use Rattle.fork_port.specs.Registers.{ForkRegisters, HasTicket, ticket_found, holding, at_start}
+use Rattle.fork_port.specs.Children as fork
+use Rattle.fork_port.specs.Commands.{IsMakeable}
+use Rattle.fork_port.proofs.StoreLemmas.{call_stored}
+use Rattle.port_rules.specs.Rules as port
+use Rattle.port_rules.specs.Rules.{cloned_numbers, grant_of, is_accounted, IsPortStep}
+use Rattle.port_rules.proofs.Tickets.{accounted-is, is-accounted, among-cloned, cloned-once, clone-may, cloned-has, clone-affords, port-same, port-clone, port-join, port-kill, child-good, child-holding, child-fits}
+use Rattle.port_rules.proofs.Stores.{port-stored}
+use Rattle.forest_tree.specs.Operations as tree
+use Rattle.forest_tree.specs.Operations.{is_among, is_cloned, Makes, IsStep, IsChild, IsMachine}
+use Rattle.forest_tree.specs.Sound.{IsSound}
+use Rattle.forest_tree.proofs.Settle.{start-sound}
+use Rattle.elf_load.specs.Image.{Image}
+use Rattle.forest_model.specs.declared.Options.{Options}
+use Rattle.forest_model.specs.State.{State}
+use Rattle.forest_model.specs.Action.{Action, trap, interrupt, retire, exit, ask}
+use Rattle.forest_model.specs.Execute.{action}
+use Rattle.forest_model.specs.Machine.{Machine, next_of, next, limited, applied, advance, boot}
+use Rattle.forest_model.specs.Calls.{called, fork_of, forked_by, forked, share_of, child_by, child, joined_by, after_join, killed_by, after_kill}
+use Rattle.forest_model.specs.Forest.{call_of, port_of, is_good, machines, booted}
+use Rattle.forest_model.proofs.ForkPort.{IsKept, Ported, action-ported, port-applied}
+use Rattle.forest_model.proofs.Finish.{advance-live}
+
+both : (a b : Bool) → a && b ≡ true → (a ≡ true) × (b ≡ true)
+both true b h = (refl, h)
+both false b h = absurd (cc)
+
+and : (a b : Bool) → a ≡ true → b ≡ true → a && b ≡ true
+and true b e h = h
+and false b e h = absurd (cc)
+
+-- a good machine that lives is below its limit
+is-below : (ending : Option Ending) (steps limit : ℕ) → is_some ending || ltb steps limit ≡ true → ending ≡ None → steps < limit
+is-below None steps limit h lives = ltb-true steps limit h
+is-below (Some e) steps limit h lives = absurd (cc)
+
+accounted : (m : Machine) → is_good m ≡ true → is_accounted (port_of m) ≡ true
+accounted m good = (both (is_accounted (port_of m)) (is_some m.ending || ltb m.steps m.limit) good).0
+
+below : (m : Machine) → is_good m ≡ true → m.ending ≡ None → m.steps < m.limit
+below m good lives = is-below m.ending m.steps m.limit (both (is_accounted (port_of m)) (is_some m.ending || ltb m.steps m.limit) good).1 lives
+
+-- n has counted one step more than m, and lives below its limit
+record IsCounted (m n : Machine) : Type 0 where
+  steps : n.steps ≡ m.steps + 1
+  limit : n.limit ≡ m.limit
+  live : is_some n.ending || ltb n.steps n.limit ≡ true
+
+live-limited : (steps limit : ℕ) (reached : Bool) → eqb steps limit ≡ reached → steps ≤ limit
+    → is_some (cond reached (Some Limit) None) || ltb steps limit ≡ true
+live-limited steps limit true e fits = refl
+live-limited steps limit false e fits = lt-ltb steps limit (let differs = eqb-false steps limit e in grind arith)
+
+counted-limited : (s : State) (m : Machine) → m.steps < m.limit → IsCounted m (limited s m)
+counted-limited s m h = record { steps = refl; limit = refl; live = live-limited (m.steps + 1) m.limit (eqb (m.steps + 1) m.limit) refl (omega arith) }
+
+counted-applied : (a : Action) (m : Machine) → call_of (next_of a) ≡ None → m.steps < m.limit → IsCounted m (applied a m)
+counted-applied (trap cause value) m own h = counted-limited _ m h
+counted-applied interrupt m own h = counted-limited _ m h
+counted-applied (retire written s) m own h = counted-limited _ m h
+counted-applied (exit value s) m own h = record { steps = refl; limit = refl; live = refl }
+counted-applied (ask c s) m own h = absurd (cc)
+
+-- what a step owes, by what it does to the fork port
+module _ (m : Machine) (good : is_good m ≡ true) where
+  among : (n : Machine) → is_accounted (port_of n) ≡ true → (t : ℕ)
+      → is_among t (cloned_numbers (port_of n).tickets) ≡ port.is_cloned (ticket_found (port_of n) t)
+  among n accounts t = among-cloned (port_of n).tickets (accounted-is (port_of n) accounts).rising t
+
+  stepped : (n : Machine) (then : ℕ → Bool → Bool) → m.ending ≡ None → IsCounted m n
+      → IsPortStep (port_of m) (port_of n) (λ t. then t (port.is_cloned (ticket_found (port_of m) t)))
+      → IsStep machines m n (λ t. then t (is_cloned machines m t))
+  unfolding machines
+  stepped n then lives counts s = record {
+    good = and (is_accounted (port_of n)) (is_some n.ending || ltb n.steps n.limit) s.good counts.live;
+    counted = let under : m.steps < m.limit = below m good lives in
+        let steps : n.steps ≡ m.steps + 1 = counts.steps in
+        let limit : n.limit ≡ m.limit = counts.limit in
+        omega arith;
+    holding = s.holding;
+    tickets = λ t. among n s.good t ∙ s.tickets t ∙ ap (then t) (sym (among m (accounted m good) t));
+    grants = λ t is. s.grants t (sym (among n s.good t) ∙ is);
+    once = s.once;
+  }
+
+-- an instruction changes the fork port as one store does
+abbrev Steps : ForkRegisters → ForkRegisters → Type 0
+Steps f g = IsPortStep f g (λ t. port.is_cloned (ticket_found f t))
+
+Steps-kept : (f : ForkRegisters) → is_accounted f ≡ true → IsKept (Steps f) (IsMakeable f) f
+Steps-kept f h = record {
+  before = port-same f f h refl refl refl refl;
+  after_store = λ offset width word. port-stored f offset width word h;
+  at_call = call_stored f;
+  after_answer = λ g word s. record { good = s.good; holding = s.holding; tickets = s.tickets; grants = s.grants; once = s.once };
+}
+
+ported : (m : Machine) → is_good m ≡ true → Ported (Steps (port_of m)) (IsMakeable (port_of m)) (port_of m) (action m.state)
+ported m good = action-ported (Steps (port_of m)) (IsMakeable (port_of m)) m.state (Steps-kept (port_of m) (accounted m good))
+
+-- a call that is made: the action asks for it, and its ticket is there
+record Asks (m : Machine) (c : Call) : Type 0 where
+  state : State
+  is : action m.state ≡ ask c state
+  same : fork_of state ≡ port_of m
+  makeable : IsMakeable (port_of m) c
+
+asks-by : (m : Machine) (c : Call) (s : State) → is_good m ≡ true → action m.state ≡ ask c s → Asks m c
+asks-by m c s good e =
+    let h = subst (Ported (Steps (port_of m)) (IsMakeable (port_of m)) (port_of m)) e (ported m good) in
+    record { state = s; is = e; same = h.0; makeable = h.1 }
+
+clone-action : (a : Action) (t : ℕ) → call_of (next_of a) ≡ Some (tree.clone t) → (s : State) × (a ≡ ask (Clone t) s)
+clone-action (ask (Clone u) s) t e = let same : u ≡ t = cc in (s, ap (λ k. ask (Clone k) s) same)
+clone-action _ t e = absurd (cc)
+
+join-action : (a : Action) (t : ℕ) → call_of (next_of a) ≡ Some (tree.join t) → (s : State) × (a ≡ ask (Join t) s)
+join-action (ask (Join u) s) t e = let same : u ≡ t = cc in (s, ap (λ k. ask (Join k) s) same)
+join-action _ t e = absurd (cc)
+
+kill-action : (a : Action) (t : ℕ) → call_of (next_of a) ≡ Some (tree.kill t) → (s : State) × (a ≡ ask (Kill t) s)
+kill-action (ask (Kill u) s) t e = let same : u ≡ t = cc in (s, ap (λ k. ask (Kill k) s) same)
+kill-action _ t e = absurd (cc)
+
+module _ (m : Machine) (t : ℕ) where
+  clone-asks : Makes machines m (Some (tree.clone t)) → Asks m (Clone t)
+  unfolding machines
+  clone-asks makes = let a = clone-action (action m.state) t makes.call in asks-by m (Clone t) a.0 makes.good a.1
+
+  join-asks : Makes machines m (Some (tree.join t)) → Asks m (Join t)
+  unfolding machines
+  join-asks makes = let a = join-action (action m.state) t makes.call in asks-by m (Join t) a.0 makes.good a.1
+
+  kill-asks : Makes machines m (Some (tree.kill t)) → Asks m (Kill t)
+  unfolding machines
+  kill-asks makes = let a = kill-action (action m.state) t makes.call in asks-by m (Kill t) a.0 makes.good a.1
+
+-- the machine's own step
+own-steps : (m : Machine) → Makes machines m None → IsStep machines m (advance m) (is_cloned machines m)
+unfolding machines
+own-steps m makes =
+    subst (λ n. IsStep machines m n (is_cloned machines m)) (sym (advance-live m makes.lives))
+    (stepped m makes.good (applied (action m.state) m) (λ t b. b) makes.lives
+    (counted-applied (action m.state) m makes.call (below m makes.good makes.lives))
+    (port-applied (Steps (port_of m)) (IsMakeable (port_of m)) (action m.state) m (ported m makes.good)
+    (port-same (port_of m) (port_of m) (accounted m makes.good) refl refl refl refl)))
+
+-- the calls
+forked-is : (m : Machine) (t : ℕ) (a : Asks m (Clone t)) → forked m ≡ called a.state (fork.after_clone (fork_of a.state) t) m
+unfolding forked
+forked-is m t a = ap (λ k. forked_by k m) a.is
+
+joined-is : (m : Machine) (t : ℕ) (endings : List Ending) (a : Asks m (Join t))
+    → after_join m endings ≡ called a.state (fork.after_join (fork_of a.state) t endings) m
+unfolding after_join
+joined-is m t endings a = ap (λ k. joined_by k m endings) a.is
+
+killed-is : (m : Machine) (t : ℕ) (a : Asks m (Kill t)) → after_kill m ≡ called a.state (fork.after_kill (fork_of a.state) t) m
+unfolding after_kill
+killed-is m t a = ap (λ k. killed_by k m) a.is
+
+-- a call is counted, and does to the fork port what it says
+called-steps : (m : Machine) (s : State) (f : ForkRegisters) (then : ℕ → Bool → Bool) → is_good m ≡ true → m.ending ≡ None
+    → IsPortStep (port_of m) f (λ t. then t (port.is_cloned (ticket_found (port_of m) t)))
+    → IsStep machines m (called s f m) (λ t. then t (is_cloned machines m t))
+called-steps m s f then good lives steps =
+    stepped m good (called s f m) then lives (counted-limited _ m (below m good lives)) steps
+
+forked-steps : (m : Machine) (t : ℕ) → Makes machines m (Some (tree.clone t)) → IsStep machines m (forked m) (λ u. eqb t u || is_cloned machines m u)
+unfolding machines
+forked-steps m t makes =
+    let a = clone-asks m t makes in
+    subst (λ n. IsStep machines m n (λ u. eqb t u || is_cloned machines m u)) (sym (forked-is m t a))
+    (called-steps m a.state (fork.after_clone (fork_of a.state) t) (λ u b. eqb t u || b) makes.good makes.lives
+    (subst (λ f. IsPortStep (port_of m) (fork.after_clone f t) (λ u. eqb t u || port.is_cloned (ticket_found (port_of m) u))) (sym a.same)
+    (port-clone (port_of m) t (accounted m makes.good) a.makeable)))
+
+joined-steps : (m : Machine) (t : ℕ) (endings : List Ending) → Makes machines m (Some (tree.join t))
+    → IsStep machines m (after_join m endings) (λ u. not (eqb t u) && is_cloned machines m u)
+unfolding machines
+joined-steps m t endings makes =
+    let a = join-asks m t makes in
+    subst (λ n. IsStep machines m n (λ u. not (eqb t u) && is_cloned machines m u)) (sym (joined-is m t endings a))
+    (called-steps m a.state (fork.after_join (fork_of a.state) t endings) (λ u b. not (eqb t u) && b) makes.good makes.lives
+    (subst (λ f. IsPortStep (port_of m) (fork.after_join f t endings) (λ u. not (eqb t u) && port.is_cloned (ticket_found (port_of m) u))) (sym a.same)
+    (port-join (port_of m) t endings (accounted m makes.good) a.makeable)))
+
+killed-steps : (m : Machine) (t : ℕ) → Makes machines m (Some (tree.kill t))
+    → IsStep machines m (after_kill m) (λ u. not (eqb t u) && is_cloned machines m u)
+unfolding machines
+killed-steps m t makes =
+    let a = kill-asks m t makes in
+    subst (λ n. IsStep machines m n (λ u. not (eqb t u) && is_cloned machines m u)) (sym (killed-is m t a))
+    (called-steps m a.state (fork.after_kill (fork_of a.state) t) (λ u b. not (eqb t u) && b) makes.good makes.lives
+    (subst (λ f. IsPortStep (port_of m) (fork.after_kill f t) (λ u. not (eqb t u) && port.is_cloned (ticket_found (port_of m) u))) (sym a.same)
+    (port-kill (port_of m) t (accounted m makes.good) a.makeable)))
+
+-- a child
+share-grant : (found : Option Ticket) → share_of found ≡ (grant_of found).share
+share-grant None = refl
+share-grant (Some ticket) = refl
+
+child-of : (m n : Machine) (t share : ℕ) (f : ForkRegisters) → share ≡ (grant_of (ticket_found (port_of m) t)).share → share < 2 ^ 32
+    → m.steps < m.limit → IsCounted m n → (k : ℕ) → port_of n ≡ fork.child_registers f k share → IsChild machines m t n
+unfolding machines cloned_numbers is_among
+child-of m n t share f is fits under counts k born = record {
+  good = and (is_accounted (port_of n)) (is_some n.ending || ltb n.steps n.limit) (ap is_accounted born ∙ child-good f k share fits) counts.live;
+  counted = let steps : n.steps ≡ m.steps + 1 = counts.steps in
+      let limit : n.limit ≡ m.limit = counts.limit in
+      omega arith;
+  holding = ap holding born ∙ child-holding f k share ∙ is;
+  tickets = λ u. ap (λ g. is_among u (cloned_numbers g.tickets)) born;
+}
+
+children-are : (m : Machine) (t k : ℕ) → Makes machines m (Some (tree.clone t)) → 1 ≤ k → k ≤ (machines.grant m t).children
+    → IsChild machines m t (child m k)
+unfolding machines child
+children-are m t k makes first last =
+    let a = clone-asks m t makes in
+    let f : ForkRegisters = fork.after_clone (fork_of a.state) t in
+    let share : ℕ = share_of (ticket_found (fork_of a.state) t) in
+    let is : share ≡ (grant_of (ticket_found (port_of m) t)).share =
+    ap (λ g. share_of (ticket_found g t)) a.same ∙ share-grant (ticket_found (port_of m) t) in
+    let fits = child-fits (port_of m) t (accounted m makes.good) a.makeable (omega arith) in
+    let parent = counted-limited (called a.state f m).state m (below m makes.good makes.lives) in
+    subst (IsChild machines m t) (sym (ap (λ b. child_by b m k) a.is))
+    (child-of m (child_by (ask (Clone t) a.state) m k) t share f is (subst (λ n. n < 2 ^ 32) (sym is) fits)
+    (below m makes.good makes.lives) (record { steps = parent.steps; limit = parent.limit; live = parent.live }) k refl)
+
+pub machines-rules : IsMachine machines
+unfolding machines
+machines-rules = record {
+  below_limit = λ m good lives. let under : m.steps < m.limit = below m good lives in omega arith;
+  advance = own-steps;
+  cloned_once = λ m t good is. cloned-once (port_of m) t (accounted m good) (sym (among m good m (accounted m good) t) ∙ is);
+  clone_affords = λ m t makes. clone-affords (port_of m) t (accounted m makes.good) (clone-asks m t makes).makeable;
+  clone_may = λ m t makes. clone-may (port_of m) t (clone-asks m t makes).makeable;
+  forked = forked-steps;
+  child = children-are;
+  join_is_cloned = λ m t makes.
+      among m makes.good m (accounted m makes.good) t ∙ cloned-has (port_of m) t (join-asks m t makes).makeable;
+  after_join = λ m t endings makes as_many. joined-steps m t endings makes;
+  kill_is_cloned = λ m t makes.
+      among m makes.good m (accounted m makes.good) t ∙ cloned-has (port_of m) t (kill-asks m t makes).makeable;
+  after_kill = killed-steps;
+}
+
+-- a machine that is booted
+start-accounted : (allot : ℕ) → allot < 2 ^ 32 → is_accounted (at_start allot) ≡ true
+start-accounted allot fits =
+    is-accounted (at_start allot) (record { balanced = record { kept = omega arith; fits = fits; below = tt; for_children = tt }; rising = tt })
+
+pub booted-sound : (image : Image) (disk input : List ℕ) (options : Options) → 0 < options.limit → options.allot < 2 ^ 32
+    → IsSound machines (booted image disk input options)
+unfolding machines boot cloned_numbers
+booted-sound image disk input options some fits =
+    start-sound machines (boot image disk input options)
+    (and (is_accounted (at_start options.allot)) (ltb 0 options.limit) (start-accounted options.allot fits) (lt-ltb 0 options.limit some)) refl

@@ -1,0 +1,8 @@
+use Rattle.forest_model.proofs.Rules.{machines-rules, booted-sound}
+use Rattle.forest_model.proofs.laws.machines_keep_the_rules.Goals as goal
+
+pub returns : goal.returns
+returns c = record {
+  rules = machines-rules;
+  booted = booted-sound;
+}
