@@ -1,5 +1,5 @@
 -- How a change of a hart meets an action, and when it may want memory.
-use Rattle.std.specs.Prelude.{◌≡◌, ℕ, ◌-◌, ◌<◌, ◌⊎◌, true, false, length, Option, Result, Ok, Err, IsSomeAnd}
+use Rattle.std.specs.Prelude.{◌≡◌, ℕ, ◌-◌, ◌<◌, ◌⊎◌, true, false, length, Result, Ok, Err, IsSomeAnd}
 use Rattle.std.specs.declared.alloc.AllocError.{AllocError}
 use Rattle.block_port.specs.Block.{WritesSector}
 use Rattle.fork_port.specs.Commands.{IsMakeable}

@@ -141,10 +141,8 @@ impl Hart {
         if address % 4 != 0 {
             return None;
         }
-        match self.ram_offset(address) {
-            Some(offset) => Some(self.memory.peek(offset)),
-            None => None,
-        }
+        let offset = self.ram_offset(address)?;
+        Some(self.memory.peek(offset))
     }
 
     /// The pc, and then x1 to x31.
