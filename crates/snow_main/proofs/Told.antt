@@ -1,13 +1,21 @@
 -- What the shelf tells, and what the machine that is run to its end reports.
-use Rattle.std.proofs.Common.{◌≡◌, ℕ, ◌+◌, ◌<◌, ◌≤◌, Bool, true, false, cond, List, [], length, Option, Some, None, Result, Ok, Err, IsSome, IfSome, IsSomeAnd, sym, ap, ◌∙◌, subst, arith, ltb}
+use Rattle.std.proofs.Common.{◌≡◌, ◌≢◌, refl, ℕ, ◌+◌, ◌<◌, ◌≤◌, Bool, true, false, cond, List, [], length, Option, Some, None, Result, Ok, Err, IsSome, IfSome, IsSomeAnd, sym, ap, ◌∙◌, subst, arith, ltb}
 use Rattle.std.specs.Option.{option_map}
 use Rattle.std.specs.Result.{IsErrAnd}
 use Rattle.std.proofs.lemmas.Bool.{lt-ltb}
 use Rattle.elf_load.specs.Image.{Image}
 use Rattle.elf_load.specs.Elf.{loaded}
+use Rattle.fork_port.specs.declared.commands.Call.{Call as Asked}
 use Rattle.fork_port.specs.declared.ending.Ending.{Ending}
 use Rattle.forest_model.specs.declared.Options.{Options}
-use Rattle.forest_model.specs.Machine.{Machine, boot, finish}
+use Rattle.forest_tree.specs.Tree.{machine}
+use Rattle.forest_tree.specs.Settle.{alone}
+use Rattle.forest_model.specs.Machine.{Machine, IsWithinLimit, call, next, boot, after_steps}
+use Rattle.forest_model.specs.Forest.{IsChildless, booted, call_of, finish, machines}
+use Rattle.forest_model.proofs.Alone.{IsChildless-after_steps, no-call, finish-childless}
+use Rattle.vm_cell.specs.declared.vm.Stepped.{Stepped}
+use Rattle.vm_cell.specs.declared.vm.Stepped.TheVariants.{Went, Call, Ended}
+use Rattle.vm_cell.specs.Steps.{Stands}
 use Rattle.run_report.specs.Report.{ended_root, report, report_by, report_of}
 use Rattle.snow_main.specs.declared.program.TheConstants.{IMAGE_LOAD, DISK_LOAD, INPUT_LOAD, IMAGE_MOST, DISK_MOST}
 use Rattle.console_port.specs.declared.port.TheConstants.{MAX_INPUT}
@@ -113,15 +121,46 @@ stops Memory files read load rf rest passes reached h = tt
 
 -- ---- the machine
 
--- the run of a booted machine that has steps enough is its finish
-pub booted-finished : (m new : Machine) (image : Image) (disk input : List ℕ) (options : Options) → m ≡ boot image disk input options
-    → (m.limit ≤ m.steps + options.limit → (new ≡ finish m) × IsSome new.ending)
-    → (new ≡ finish (boot image disk input options)) × IsSome new.ending
+booted-childless : (m : Machine) (image : Image) (disk input : List ℕ) (options : Options) → options.allot ≡ 0
+    → m ≡ boot image disk input options → IsChildless m
 unfolding boot
-booted-finished m new image disk input options booted run =
+booted-childless m image disk input options none booted =
+    subst IsChildless (sym booted) (record { no_allot = none; no_ticket = refl })
+
+booted-within : (m : Machine) (image : Image) (disk input : List ℕ) (options : Options) → 1 ≤ options.limit
+    → m ≡ boot image disk input options → IsWithinLimit m
+unfolding boot
+booted-within m image disk input options some booted = subst IsWithinLimit (sym booted) (λ live. some)
+
+no-call-is : (m : Machine) (c : Asked) {P : Type 0} → call_of (next m) ≡ None → next m ≡ call c → P
+no-call-is m c none is =
+    let some = sym (ap call_of is) ∙ none in absurd (cc)
+
+-- where a childless machine stands after enough steps, it has ended
+ended-by : (m : Machine) (why : Stepped) → IsChildless m → why ≢ Went → Stands m why → IsSome m.ending
+ended-by m Went childless enough stands = absurd (enough refl)
+ended-by m (Call c) childless enough stands = absurd (no-call-is m c (no-call m childless) stands.1)
+ended-by m (Ended ending) childless enough stands = subst IsSome (sym stands) refl
+
+booted-enough : (m : Machine) (image : Image) (disk input : List ℕ) (options : Options) → m ≡ boot image disk input options
+    → m.limit ≤ m.steps + options.limit
+unfolding boot
+booted-enough m image disk input options booted =
     let limit : m.limit ≡ options.limit = ap (λ (k : Machine). k.limit) booted in
-    let ended = run (omega arith) in
-    (ended.0 ∙ ap finish booted, ended.1)
+    omega arith
+
+-- the run of a booted machine that has steps enough is its finish, if it may have no clones
+pub booted-finished : (m new : Machine) (steps : ℕ) (why : Stepped) (image : Image) (disk input : List ℕ) (options : Options)
+    → options.allot ≡ 0 → 1 ≤ options.limit → m ≡ boot image disk input options
+    → new ≡ after_steps steps m → Stands new why → (m.limit ≤ m.steps + options.limit → why ≢ Went)
+    → (new ≡ machine (finish (booted image disk input options))) × IsSome new.ending
+booted-finished m new steps why image disk input options none some booted run stands enough =
+    let childless = booted-childless m image disk input options none booted in
+    let later : IsChildless new = subst IsChildless (sym run) (IsChildless-after_steps steps m childless) in
+    let ended : IsSome new.ending = ended-by new why later (enough (booted-enough m image disk input options booted)) stands in
+    let alone_there = finish-childless steps m childless (booted-within m image disk input options some booted)
+        (subst (λ (k : Machine). IsSome k.ending) run ended) in
+    (run ∙ sym (ap machine alone_there) ∙ ap (λ (k : Machine). machine (finish (alone machines k))) booted, ended)
 
 pub report-ended : (m : Machine) (ending : Ending) → m.ending ≡ Some ending → report m ≡ report_of (ended_root ending m)
 unfolding report

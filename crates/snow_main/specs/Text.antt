@@ -6,7 +6,8 @@ use Rattle.cow_disk.specs.declared.disk.TheConstants.{SECTOR_SIZE}
 use Rattle.elf_load.specs.Image.{Image}
 use Rattle.elf_load.specs.Elf.{loaded}
 use Rattle.forest_model.specs.declared.Options.{Options}
-use Rattle.forest_model.specs.Machine.{boot, finish}
+use Rattle.forest_tree.specs.Tree.{machine}
+use Rattle.forest_model.specs.Forest.{booted, finish}
 use Rattle.run_report.specs.Report.{report}
 use Rattle.snow_main.specs.declared.program.TheConstants.{IMAGE_MOST, DISK_MOST, IMAGE_LOAD, DISK_LOAD, INPUT_LOAD}
 use Rattle.snow_main.specs.Words.{Command, RunValues, run, meant}
@@ -50,10 +51,11 @@ input_read values files = option_read INPUT_LOAD MAX_INPUT input_too_long values
 abbrev pub options_of : RunValues → Options
 options_of values = record { limit = values.limit; allot = 0 }
 
--- the report of the machine that is booted from these and run to its end
+-- the report of the machine that is booted from these, where its forest is run to its end. It may have no
+-- clones, so it is alone there
 abbrev pub booted_text : RunValues → Image → List ℕ → List ℕ → Result (List ℕ) Refusal
 booted_text values image disk input =
-    if length disk % SECTOR_SIZE == 0 then Ok (report (finish (boot image disk input (options_of values)))) else Err disk_not_sectors
+    if length disk % SECTOR_SIZE == 0 then Ok (report (machine (finish (booted image disk input (options_of values))))) else Err disk_not_sectors
 
 -- the same of what the loader makes of an image, or the number of its refusal
 abbrev pub loaded_text : RunValues → Result Image ℕ → List ℕ → List ℕ → Result (List ℕ) Refusal
