@@ -1,5 +1,5 @@
 -- A machine that may have no clones and has no ticket is run by its own steps.
-use Rattle.std.proofs.Common.{◌≡◌, ◌≢◌, ℕ, zero, suc, ◌+◌, ◌-◌, ◌/◌, ◌<◌, ◌≤◌, ◌⊎◌, inl, inr, Bool, true, false, eqb, List, [], Option, Some, None, IsSome, IsSomeAnd, refl, sym, ap, ◌∙◌, subst, arith}
+use Rattle.std.proofs.Common.{◌≡◌, ℕ, zero, suc, ◌+◌, ◌-◌, ◌/◌, ◌<◌, ◌≤◌, inl, inr, Bool, true, false, eqb, [], Option, Some, None, IsSome, IsSomeAnd, refl, sym, ap, ◌∙◌, subst, arith}
 use Rattle.std.proofs.lemmas.Bool.{eqb-false}
 use Rattle.fork_port.specs.declared.commands.Call.{Call}
 use Rattle.fork_port.specs.declared.commands.Call.TheVariants as call
@@ -14,8 +14,8 @@ use Rattle.fork_port.specs.Commands.{IsMakeable, answered, fork_command}
 use Rattle.fork_port.proofs.Balance.{unless}
 use Rattle.port_rules.specs.Rules.{cloned_numbers}
 use Rattle.port_rules.proofs.Stores.{each_store}
-use Rattle.forest_tree.specs.Tree.{Tree, node, no_brood, no_entry, each_brood}
-use Rattle.forest_tree.specs.Settle.{alone, log_killed, settled_by, settled, step_by, step_from, step}
+use Rattle.forest_tree.specs.Tree.{node, no_brood, no_entry, each_brood}
+use Rattle.forest_tree.specs.Settle.{alone, log_killed, settled_by, step_by, step_from, step}
 use Rattle.forest_tree.specs.Finish as tree
 use Rattle.forest_model.specs.Action.{Action, trap, interrupt, retire, exit, ask}
 use Rattle.forest_model.specs.Execute.{action}

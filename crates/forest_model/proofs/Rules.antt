@@ -1,12 +1,12 @@
 -- The machines keep the rules of a forest.
-use Rattle.std.proofs.Common.{◌≡◌, ℕ, suc, ◌+◌, ◌-◌, ◌*◌, ◌^◌, ◌<◌, ◌≤◌, ◌&&◌, ◌||◌, not, Bool, true, false, cond, eqb, ltb, eqb-true, ltb-true, lt-ltb, List, [], length, Option, Some, None, is_some, refl, sym, ap, ◌∙◌, subst, arith}
+use Rattle.std.proofs.Common.{◌≡◌, ℕ, ◌+◌, ◌^◌, ◌<◌, ◌≤◌, ◌&&◌, ◌||◌, not, Bool, true, false, cond, eqb, ltb, ltb-true, lt-ltb, List, Option, Some, None, is_some, refl, sym, ap, ◌∙◌, subst, arith}
 use Rattle.std.proofs.lemmas.Bool.{eqb-false}
 use Rattle.fork_port.specs.declared.commands.Call.{Call}
 use Rattle.fork_port.specs.declared.commands.Call.TheVariants.{Clone, Join, Kill}
 use Rattle.fork_port.specs.declared.ending.Ending.{Ending}
 use Rattle.fork_port.specs.declared.ending.Ending.TheVariants.{Limit}
 use Rattle.fork_port.specs.declared.tickets.Ticket.{Ticket}
-use Rattle.fork_port.specs.Registers.{ForkRegisters, HasTicket, ticket_found, holding, at_start}
+use Rattle.fork_port.specs.Registers.{ForkRegisters, ticket_found, holding, at_start}
 use Rattle.fork_port.specs.Children as fork
 use Rattle.fork_port.specs.Commands.{IsMakeable}
 use Rattle.port_rules.specs.Rules as port
@@ -22,7 +22,7 @@ use Rattle.forest_model.specs.declared.Options.{Options}
 use Rattle.forest_model.specs.State.{State}
 use Rattle.forest_model.specs.Action.{Action, trap, interrupt, retire, exit, ask}
 use Rattle.forest_model.specs.Execute.{action}
-use Rattle.forest_model.specs.Machine.{Machine, next_of, next, limited, applied, advance, boot}
+use Rattle.forest_model.specs.Machine.{Machine, next_of, limited, applied, advance, boot}
 use Rattle.forest_model.specs.Calls.{called, fork_of, forked_by, forked, share_of, child_by, child, joined_by, after_join, killed_by, after_kill}
 use Rattle.forest_model.specs.Forest.{call_of, port_of, is_good, machines, booted}
 use Rattle.forest_model.proofs.ForkPort.{IsKept, Ported, action-ported, port-applied}
