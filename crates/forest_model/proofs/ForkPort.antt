@@ -19,12 +19,14 @@ use Rattle.fork_port.specs.declared.commands.Effect.{Effect}
 use Rattle.fork_port.specs.declared.commands.Effect.TheVariants as effect
 use Rattle.fork_port.specs.declared.refusals.TheConstants.{BAD_ARGUMENT}
 use Rattle.fork_port.specs.Registers.{ForkRegisters, refused}
+use Rattle.fork_port.specs.Commands.{IsMakeable}
 use Rattle.fork_port.specs.Fork.{ForkStored, fork_load, fork_store}
+use Rattle.fork_port.proofs.StoreLemmas.{call_stored}
 use Rattle.forest_model.specs.Ports.{PortRegisters, Read, Stored, Place, at_console, at_timer, at_block, at_fork, at_no_port, place_of, console_read, plain_read, load_at, port_load, console_stored, timer_stored, block_stored, fork_stored, store_at, port_store}
 use Rattle.forest_model.specs.State.{State, is_in_ram, is_timer_due, at_next_instruction}
 use Rattle.forest_model.specs.Action.{Action, trap, interrupt, retire, exit, ask, rs1, rs2}
 use Rattle.forest_model.specs.Compute.{load_upper, add_upper, compute_immediate, compute}
-use Rattle.forest_model.specs.Control.{even, aligned_jump, jump, jump_register, branch_by, branch, relative, linked}
+use Rattle.forest_model.specs.Control.{aligned_jump, jump, jump_register, branch_by, branch, relative, linked}
 use Rattle.forest_model.specs.Memory.{data_address, is_aligned, read_action, place_load, aligned_load, load, is_page_range, zeroed, effect_action, port_action, place_store, aligned_store, store_action, stored_bytes, store}
 use Rattle.forest_model.specs.Atomic.{is_reserved, reserve_at, aligned_reserve, load_reserved, conditional_action, conditional_at, aligned_conditional, store_conditional, amo_at, aligned_amo, amo}
 use Rattle.forest_model.specs.System.{operation_of, reads, writes, written_action, write_action, old_action, old_value, csr_access, trap_return}
@@ -53,28 +55,26 @@ fork-port_load : (ports : PortRegisters) (address width : ℕ) → IfSome (port_
 unfolding port_load
 fork-port_load ports address width = fork-load_at (place_of address) ports width
 
--- P is to hold of the registers after each step of a machine, and Q of each call that it asks for
-module _ (P : ForkRegisters → Type 0) (Q : Call → Type 0) where
+-- P is to hold of the registers after each step of a machine
+module _ (P : ForkRegisters → Type 0) where
   -- registers f keep P in each store
   pub record IsKept (f : ForkRegisters) : Type 0 where
     pub before : P f
     pub after_store : (offset width word : ℕ) → IfSome (fork_store f offset width word) (λ s. P s.fork)
-    pub at_call : (offset width word : ℕ) (c : Call)
-        → IfSome (fork_store f offset width word) (λ s. s.effect ≡ effect.Call c → (s.fork ≡ f) × Q c)
     -- RESULT may be anything
     pub after_answer : (g : ForkRegisters) (word : ℕ) → P g → P (refused g word)
 
-  -- after an action. A call waits, as the registers are
+  -- after an action. A call waits with the registers as they are, and can be made
   abbrev pub Ported : ForkRegisters → Action → Type 0
   Ported f (trap cause value) = Unit {0}
   Ported f interrupt = Unit {0}
   Ported f (retire written new) = P (fork_of new)
   Ported f (exit value new) = P (fork_of new)
-  Ported f (ask c new) = (fork_of new ≡ f) × Q c
+  Ported f (ask c new) = (fork_of new ≡ f) × IsMakeable f c
 
   -- after a store to any port
   abbrev IsStored : ForkRegisters → Stored → Type 0
-  IsStored f stored = P stored.ports.fork × ((c : Call) → stored.effect ≡ effect.Call c → (stored.ports.fork ≡ f) × Q c)
+  IsStored f stored = P stored.ports.fork × ((c : Call) → stored.effect ≡ effect.Call c → (stored.ports.fork ≡ f) × IsMakeable f c)
 
   time-no-call : (b : Bool) (c : Call) {R : Type 0} → cond b effect.TimeWritten effect.Done ≡ effect.Call c → R
   time-no-call true c is = absurd (cc)
@@ -94,7 +94,7 @@ module _ (P : ForkRegisters → Type 0) (Q : Call → Type 0) where
   IsStored-block (Some block) ports p = (p, λ c is. absurd (cc))
 
   IsStored-fork : (stored : Option ForkStored) (ports : PortRegisters) → IfSome stored (λ s. P s.fork)
-      → ((c : Call) → IfSome stored (λ s. s.effect ≡ effect.Call c → (s.fork ≡ ports.fork) × Q c)) → IfSome (fork_stored stored ports) (IsStored ports.fork)
+      → ((c : Call) → IfSome stored (λ s. s.effect ≡ effect.Call c → (s.fork ≡ ports.fork) × IsMakeable ports.fork c)) → IfSome (fork_stored stored ports) (IsStored ports.fork)
   IsStored-fork None ports p asks = tt
   IsStored-fork (Some s) ports p asks = (p, asks)
 
@@ -103,7 +103,7 @@ module _ (P : ForkRegisters → Type 0) (Q : Call → Type 0) where
   IsStored-at (at_timer offset) ports width word kept = IsStored-timer (timer_store ports.timer offset width word) offset ports kept.before
   IsStored-at (at_block offset) ports width word kept = IsStored-block (block_store ports.block offset width word) ports kept.before
   IsStored-at (at_fork offset) ports width word kept =
-      IsStored-fork (fork_store ports.fork offset width word) ports (kept.after_store offset width word) (kept.at_call offset width word)
+      IsStored-fork (fork_store ports.fork offset width word) ports (kept.after_store offset width word) (call_stored ports.fork offset width word)
   IsStored-at at_no_port ports width word kept = tt
 
   IsStored-port_store : (ports : PortRegisters) (address width word : ℕ) → IsKept ports.fork → IfSome (port_store ports address width word) (IsStored ports.fork)
@@ -119,7 +119,7 @@ module _ (P : ForkRegisters → Type 0) (Q : Call → Type 0) where
     Follows-zeroed true first count new p = kept.after_answer (fork_of new) 0 p
 
     Follows-effect_action : (e : Effect) (new : State) → P (fork_of new)
-        → ((c : Call) → e ≡ effect.Call c → (fork_of new ≡ fork_of s) × Q c) → Follows (effect_action e new)
+        → ((c : Call) → e ≡ effect.Call c → (fork_of new ≡ fork_of s) × IsMakeable (fork_of s) c) → Follows (effect_action e new)
     Follows-effect_action effect.Done new p asks = p
     Follows-effect_action effect.TimeWritten new p asks = p
     Follows-effect_action (effect.Exit value) new p asks = p

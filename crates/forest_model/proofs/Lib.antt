@@ -3,3 +3,4 @@ pub mod Touch
 pub mod ForkPort
 pub mod Numbers
 pub mod Rules
+pub mod Alone

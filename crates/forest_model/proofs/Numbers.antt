@@ -1,20 +1,16 @@
 -- The numbers of tickets are given in turn.
-use Rattle.std.proofs.Common.{◌≡◌, ℕ, ◌+◌, ◌≤◌, eqb, Option, Some, None, List, IfSome, refl, ap, ◌∙◌, arith}
-use Rattle.fork_port.specs.declared.commands.Call.{Call}
+use Rattle.std.proofs.Common.{◌≡◌, ℕ, ◌+◌, ◌≤◌, eqb, Option, Some, None, List, refl, ap, ◌∙◌, arith}
 use Rattle.fork_port.specs.declared.commands.Call.TheVariants as call
 use Rattle.fork_port.specs.declared.commands.Asked.{Asked}
 use Rattle.fork_port.specs.declared.commands.Asked.TheVariants as asked
-use Rattle.fork_port.specs.declared.commands.Effect.TheVariants as effect
 use Rattle.fork_port.specs.declared.ending.Ending.{Ending}
 use Rattle.fork_port.specs.declared.tickets.Ticket.{Ticket}
 use Rattle.fork_port.specs.Registers.{ForkRegisters, ticket_found}
 use Rattle.fork_port.specs.Children.{children_granted, after_ticket, joined_from, after_join, killed_from, after_kill}
-use Rattle.fork_port.specs.Commands.{IsMakeable, answered, fork_command}
-use Rattle.fork_port.specs.Fork.{ForkStored, fork_store}
+use Rattle.fork_port.specs.Commands.{answered, fork_command}
 use Rattle.fork_port.proofs.TicketLemmas.{either}
-use Rattle.fork_port.proofs.StoreLemmas.{call_stored}
 use Rattle.port_rules.proofs.Stores.{each_store}
-use Rattle.forest_model.specs.Action.{Action, trap, interrupt, retire, exit, ask}
+use Rattle.forest_model.specs.Action.{Action, ask}
 use Rattle.forest_model.specs.Execute.{action}
 use Rattle.forest_model.specs.Machine.{Machine, advance}
 use Rattle.forest_model.specs.Calls as calls
@@ -23,9 +19,6 @@ use Rattle.forest_model.proofs.ForkPort.{IsKept, Ported, action-ported, port-adv
 
 abbrev Rises : ForkRegisters → ForkRegisters → Type 0
 Rises f g = g.next_ticket ≤ f.next_ticket + 1
-
-abbrev AnyCall : Call → Type 0
-AnyCall c = Unit {0}
 
 next-after_join : (f : ForkRegisters) (number : ℕ) (endings : List Ending) → (after_join f number endings).next_ticket ≡ f.next_ticket
 unfolding after_join
@@ -56,33 +49,27 @@ Rises-answered f (asked.Call c) = omega arith
 Rises-answered f (asked.Exit value) = omega arith
 Rises-answered f (asked.Zero first count) = omega arith
 
-any-call : (f : ForkRegisters) (c : Call) (stored : Option ForkStored) → IfSome stored (λ s. s.effect ≡ effect.Call c → (s.fork ≡ f) × IsMakeable f c)
-    → IfSome stored (λ s. s.effect ≡ effect.Call c → (s.fork ≡ f) × AnyCall c)
-any-call f c None h = tt
-any-call f c (Some s) h = λ is. ((h is).0, tt)
-
-Rises-kept : (f : ForkRegisters) → IsKept (Rises f) AnyCall f
+Rises-kept : (f : ForkRegisters) → IsKept (Rises f) f
 Rises-kept f = record {
   before = omega arith;
   after_store = λ offset width word.
       each_store (λ s. Rises f s.fork) f offset width word (omega arith) (omega arith) (omega arith) (Rises-answered f (fork_command f word));
-  at_call = λ offset width word c. any-call f c (fork_store f offset width word) (call_stored f offset width word c);
   after_answer = λ g word h. h;
 }
 
 pub next-advance : (m : Machine) → (port_of (advance m)).next_ticket ≤ (port_of m).next_ticket + 1
-next-advance m = port-advance (Rises (port_of m)) AnyCall m (Rises-kept (port_of m))
+next-advance m = port-advance (Rises (port_of m)) m (Rises-kept (port_of m))
 
 -- a call gives none
 module _ (m : Machine) where
-  asked-port : Ported (Rises (port_of m)) AnyCall (port_of m) (action m.state)
-  asked-port = action-ported (Rises (port_of m)) AnyCall m.state (Rises-kept (port_of m))
+  asked-port : Ported (Rises (port_of m)) (port_of m) (action m.state)
+  asked-port = action-ported (Rises (port_of m)) m.state (Rises-kept (port_of m))
 
   pub next-forked : (port_of (calls.forked m)).next_ticket ≡ (port_of m).next_ticket
   unfolding calls.forked
   next-forked = by (action m.state) asked-port
     where
-      by : (a : Action) → Ported (Rises (port_of m)) AnyCall (port_of m) a → (port_of (calls.forked_by a m)).next_ticket ≡ (port_of m).next_ticket
+      by : (a : Action) → Ported (Rises (port_of m)) (port_of m) a → (port_of (calls.forked_by a m)).next_ticket ≡ (port_of m).next_ticket
       by (ask (call.Clone t) s) h = ap (λ (f : ForkRegisters). f.next_ticket) h.0
       by _ h = refl
 
@@ -90,7 +77,7 @@ module _ (m : Machine) where
   unfolding calls.after_join
   next-joined endings = by (action m.state) asked-port
     where
-      by : (a : Action) → Ported (Rises (port_of m)) AnyCall (port_of m) a → (port_of (calls.joined_by a m endings)).next_ticket ≡ (port_of m).next_ticket
+      by : (a : Action) → Ported (Rises (port_of m)) (port_of m) a → (port_of (calls.joined_by a m endings)).next_ticket ≡ (port_of m).next_ticket
       by (ask (call.Join t) s) h = next-after_join (calls.fork_of s) t endings ∙ ap (λ (f : ForkRegisters). f.next_ticket) h.0
       by _ h = refl
 
@@ -98,6 +85,6 @@ module _ (m : Machine) where
   unfolding calls.after_kill
   next-killed = by (action m.state) asked-port
     where
-      by : (a : Action) → Ported (Rises (port_of m)) AnyCall (port_of m) a → (port_of (calls.killed_by a m)).next_ticket ≡ (port_of m).next_ticket
+      by : (a : Action) → Ported (Rises (port_of m)) (port_of m) a → (port_of (calls.killed_by a m)).next_ticket ≡ (port_of m).next_ticket
       by (ask (call.Kill t) s) h = next-after_kill (calls.fork_of s) t ∙ ap (λ (f : ForkRegisters). f.next_ticket) h.0
       by _ h = refl

@@ -1,15 +1,14 @@
 -- The machines keep the rules of a forest.
-use Rattle.std.proofs.Common.{◌≡◌, ℕ, suc, ◌+◌, ◌-◌, ◌*◌, ◌^◌, ◌<◌, ◌≤◌, ◌&&◌, ◌||◌, not, Bool, true, false, cond, eqb, ltb, eqb-true, ltb-true, lt-ltb, List, [], length, Option, Some, None, is_some, refl, sym, ap, ◌∙◌, subst, arith}
+use Rattle.std.proofs.Common.{◌≡◌, ℕ, ◌+◌, ◌^◌, ◌<◌, ◌≤◌, ◌&&◌, ◌||◌, not, Bool, true, false, cond, eqb, ltb, ltb-true, lt-ltb, List, Option, Some, None, is_some, refl, sym, ap, ◌∙◌, subst, arith}
 use Rattle.std.proofs.lemmas.Bool.{eqb-false}
 use Rattle.fork_port.specs.declared.commands.Call.{Call}
 use Rattle.fork_port.specs.declared.commands.Call.TheVariants.{Clone, Join, Kill}
 use Rattle.fork_port.specs.declared.ending.Ending.{Ending}
 use Rattle.fork_port.specs.declared.ending.Ending.TheVariants.{Limit}
 use Rattle.fork_port.specs.declared.tickets.Ticket.{Ticket}
-use Rattle.fork_port.specs.Registers.{ForkRegisters, HasTicket, ticket_found, holding, at_start}
+use Rattle.fork_port.specs.Registers.{ForkRegisters, ticket_found, holding, at_start}
 use Rattle.fork_port.specs.Children as fork
 use Rattle.fork_port.specs.Commands.{IsMakeable}
-use Rattle.fork_port.proofs.StoreLemmas.{call_stored}
 use Rattle.port_rules.specs.Rules as port
 use Rattle.port_rules.specs.Rules.{cloned_numbers, grant_of, is_accounted, IsPortStep}
 use Rattle.port_rules.proofs.Tickets.{accounted-is, is-accounted, among-cloned, cloned-once, clone-may, cloned-has, clone-affords, port-same, port-clone, port-join, port-kill, child-good, child-holding, child-fits}
@@ -23,7 +22,7 @@ use Rattle.forest_model.specs.declared.Options.{Options}
 use Rattle.forest_model.specs.State.{State}
 use Rattle.forest_model.specs.Action.{Action, trap, interrupt, retire, exit, ask}
 use Rattle.forest_model.specs.Execute.{action}
-use Rattle.forest_model.specs.Machine.{Machine, next_of, next, limited, applied, advance, boot}
+use Rattle.forest_model.specs.Machine.{Machine, next_of, limited, applied, advance, boot}
 use Rattle.forest_model.specs.Calls.{called, fork_of, forked_by, forked, share_of, child_by, child, joined_by, after_join, killed_by, after_kill}
 use Rattle.forest_model.specs.Forest.{call_of, port_of, is_good, machines, booted}
 use Rattle.forest_model.proofs.ForkPort.{IsKept, Ported, action-ported, port-applied}
@@ -95,16 +94,15 @@ module _ (m : Machine) (good : is_good m ≡ true) where
 abbrev Steps : ForkRegisters → ForkRegisters → Type 0
 Steps f g = IsPortStep f g (λ t. port.is_cloned (ticket_found f t))
 
-Steps-kept : (f : ForkRegisters) → is_accounted f ≡ true → IsKept (Steps f) (IsMakeable f) f
+Steps-kept : (f : ForkRegisters) → is_accounted f ≡ true → IsKept (Steps f) f
 Steps-kept f h = record {
   before = port-same f f h refl refl refl refl;
   after_store = λ offset width word. port-stored f offset width word h;
-  at_call = call_stored f;
   after_answer = λ g word s. record { good = s.good; holding = s.holding; tickets = s.tickets; grants = s.grants; once = s.once };
 }
 
-ported : (m : Machine) → is_good m ≡ true → Ported (Steps (port_of m)) (IsMakeable (port_of m)) (port_of m) (action m.state)
-ported m good = action-ported (Steps (port_of m)) (IsMakeable (port_of m)) m.state (Steps-kept (port_of m) (accounted m good))
+ported : (m : Machine) → is_good m ≡ true → Ported (Steps (port_of m)) (port_of m) (action m.state)
+ported m good = action-ported (Steps (port_of m)) m.state (Steps-kept (port_of m) (accounted m good))
 
 -- a call that is made: the action asks for it, and its ticket is there
 record Asks (m : Machine) (c : Call) : Type 0 where
@@ -115,7 +113,7 @@ record Asks (m : Machine) (c : Call) : Type 0 where
 
 asks-by : (m : Machine) (c : Call) (s : State) → is_good m ≡ true → action m.state ≡ ask c s → Asks m c
 asks-by m c s good e =
-    let h = subst (Ported (Steps (port_of m)) (IsMakeable (port_of m)) (port_of m)) e (ported m good) in
+    let h = subst (Ported (Steps (port_of m)) (port_of m)) e (ported m good) in
     record { state = s; is = e; same = h.0; makeable = h.1 }
 
 clone-action : (a : Action) (t : ℕ) → call_of (next_of a) ≡ Some (tree.clone t) → (s : State) × (a ≡ ask (Clone t) s)
@@ -150,7 +148,7 @@ own-steps m makes =
     subst (λ n. IsStep machines m n (is_cloned machines m)) (sym (advance-live m makes.lives))
     (stepped m makes.good (applied (action m.state) m) (λ t b. b) makes.lives
     (counted-applied (action m.state) m makes.call (below m makes.good makes.lives))
-    (port-applied (Steps (port_of m)) (IsMakeable (port_of m)) (action m.state) m (ported m makes.good)
+    (port-applied (Steps (port_of m)) (action m.state) m (ported m makes.good)
     (port-same (port_of m) (port_of m) (accounted m makes.good) refl refl refl refl)))
 
 -- the calls

@@ -1,6 +1,5 @@
 -- What a machine is after a call, and what its children are.
 use Rattle.std.specs.Prelude.{ℕ, true, [], List, Option, Some, None}
-use Rattle.fork_port.specs.declared.commands.Call.{Call}
 use Rattle.fork_port.specs.declared.commands.Call.TheVariants.{Clone, Join, Kill}
 use Rattle.fork_port.specs.declared.ending.Ending.{Ending}
 use Rattle.fork_port.specs.declared.tickets.Ticket.{Ticket}
@@ -8,7 +7,7 @@ use Rattle.fork_port.specs.Registers.{ForkRegisters, ticket_found}
 use Rattle.fork_port.specs.Children as fork
 use Rattle.forest_model.specs.declared.Written.TheVariants.{Nothing}
 use Rattle.forest_model.specs.State.{State}
-use Rattle.forest_model.specs.Action.{Action, trap, interrupt, retire, exit, ask}
+use Rattle.forest_model.specs.Action.{Action, ask}
 use Rattle.forest_model.specs.Memory.{with_fork}
 use Rattle.forest_model.specs.Execute.{action}
 use Rattle.forest_model.specs.Machine.{Machine, limited, count}

@@ -1,5 +1,5 @@
 -- A machine counts its steps, and ends by its own EXIT or by its limit.
-use Rattle.std.specs.Prelude.{◌≡◌, ℕ, Bool, true, false, ◌<◌, zero, suc, ◌+◌, ◌-◌, ◌==◌, if◌then◌else◌, List, replicate, Option, Some, None}
+use Rattle.std.specs.Prelude.{◌≡◌, ℕ, Bool, true, false, ◌<◌, zero, suc, ◌+◌, ◌==◌, if◌then◌else◌, List, replicate, Option, Some, None}
 use Rattle.elf_load.specs.Image.{Image}
 use Rattle.fork_port.specs.declared.commands.Call.{Call}
 use Rattle.fork_port.specs.declared.ending.Ending.{Ending}

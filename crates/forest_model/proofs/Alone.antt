@@ -1,0 +1,158 @@
+-- A machine that may have no clones and has no ticket is run by its own steps.
+use Rattle.std.proofs.Common.{◌≡◌, ℕ, zero, suc, ◌+◌, ◌-◌, ◌/◌, ◌<◌, ◌≤◌, inl, inr, Bool, true, false, eqb, [], Option, Some, None, IsSome, IsSomeAnd, refl, sym, ap, ◌∙◌, subst, arith}
+use Rattle.std.proofs.lemmas.Bool.{eqb-false}
+use Rattle.fork_port.specs.declared.commands.Call.{Call}
+use Rattle.fork_port.specs.declared.commands.Call.TheVariants as call
+use Rattle.fork_port.specs.declared.commands.Asked.{Asked}
+use Rattle.fork_port.specs.declared.commands.Asked.TheVariants as asked
+use Rattle.fork_port.specs.declared.ending.Ending.{Ending}
+use Rattle.fork_port.specs.declared.tickets.Ticket.{Ticket}
+use Rattle.fork_port.specs.Tickets.{ticket_of}
+use Rattle.fork_port.specs.Registers.{ForkRegisters, HasTicket, ticket_found}
+use Rattle.fork_port.specs.Children.{children_granted, after_ticket, killed_from, after_kill}
+use Rattle.fork_port.specs.Commands.{IsMakeable, answered, fork_command}
+use Rattle.fork_port.proofs.Balance.{unless}
+use Rattle.port_rules.specs.Rules.{cloned_numbers}
+use Rattle.port_rules.proofs.Stores.{each_store}
+use Rattle.forest_tree.specs.Tree.{node, no_brood, no_entry, each_brood}
+use Rattle.forest_tree.specs.Settle.{alone, log_killed, settled_by, step_by, step_from, step}
+use Rattle.forest_tree.specs.Finish as tree
+use Rattle.forest_model.specs.Action.{Action, trap, interrupt, retire, exit, ask}
+use Rattle.forest_model.specs.Execute.{action}
+use Rattle.forest_model.specs.Machine.{Machine, IsWithinLimit, next_of, next, advance, after_steps}
+use Rattle.forest_model.specs.Forest.{call_of, port_of, machines, finish, IsChildless}
+use Rattle.forest_model.proofs.ForkPort.{IsKept, Ported, action-ported, port-advance}
+use Rattle.forest_model.proofs.Finish.{advance-ended, after_steps-ended, after_steps-agree, cases-ending, steps-advance, limit-advance, IsWithinLimit-advance}
+
+-- nothing to give, and nothing given
+record IsBare (f : ForkRegisters) : Type 0 where
+  no_allot : f.allot ≡ 0
+  no_ticket : f.tickets ≡ []
+
+bare : (m : Machine) → IsChildless m → IsBare (port_of m)
+bare m h = record { no_allot = h.no_allot; no_ticket = h.no_ticket }
+
+none-found : (f : ForkRegisters) → IsBare f → (number : ℕ) → ticket_found f number ≡ None
+none-found f h number = ap (λ tickets. ticket_of tickets number) h.no_ticket
+
+none-granted : (f : ForkRegisters) → IsBare f → children_granted f ≡ 0
+none-granted f h =
+    let none : f.allot / (1 + f.second_argument) ≡ 0 = ap (λ allot. allot / (1 + f.second_argument)) h.no_allot ∙ nothing (f.second_argument) in
+    grind arith
+  where
+    nothing : (n : ℕ) → 0 / (1 + n) ≡ 0
+    nothing n = grind arith
+
+IsBare-after_ticket : (f : ForkRegisters) → IsBare f → IsBare (after_ticket f)
+unfolding after_ticket
+IsBare-after_ticket f h =
+    let answered : IsBare f = h in
+    unless IsBare (eqb f.first_argument 0) _ _ (record { no_allot = h.no_allot; no_ticket = h.no_ticket })
+    (λ _. unless IsBare (eqb (children_granted f) 0) _ _ (record { no_allot = h.no_allot; no_ticket = h.no_ticket })
+    (λ some. absurd (eqb-false (children_granted f) 0 some (none-granted f h))))
+
+IsBare-killed : (f : ForkRegisters) (number : ℕ) (found : Option Ticket) → found ≡ None → IsBare f → IsBare (killed_from found f number)
+IsBare-killed f number None e h = h
+IsBare-killed f number (Some ticket) e h = absurd (cc)
+
+IsBare-after_kill : (f : ForkRegisters) (number : ℕ) → IsBare f → IsBare (after_kill f number)
+unfolding after_kill
+IsBare-after_kill f number h = IsBare-killed f number (ticket_found f number) (none-found f h number) h
+
+IsBare-answered : (f : ForkRegisters) → IsBare f → (a : Asked) → IsBare (answered a f)
+IsBare-answered f h (asked.Refused word) = record { no_allot = h.no_allot; no_ticket = h.no_ticket }
+IsBare-answered f h asked.NewTicket = IsBare-after_ticket f h
+IsBare-answered f h (asked.Discard number) = IsBare-after_kill f number h
+IsBare-answered f h (asked.Call c) = h
+IsBare-answered f h (asked.Exit value) = h
+IsBare-answered f h (asked.Zero first count) = h
+
+IsBare-kept : (f : ForkRegisters) → IsBare f → IsKept IsBare f
+IsBare-kept f h = record {
+  before = h;
+  after_store = λ offset width word.
+      each_store (λ s. IsBare s.fork) f offset width word
+      (record { no_allot = h.no_allot; no_ticket = h.no_ticket }) (record { no_allot = h.no_allot; no_ticket = h.no_ticket })
+      (record { no_allot = h.no_allot; no_ticket = h.no_ticket }) (IsBare-answered f h (fork_command f word));
+  after_answer = λ g word k. record { no_allot = k.no_allot; no_ticket = k.no_ticket };
+}
+
+pub IsChildless-advance : (m : Machine) → IsChildless m → IsChildless (advance m)
+IsChildless-advance m h =
+    let k : IsBare (port_of (advance m)) = port-advance IsBare m (IsBare-kept (port_of m) (bare m h)) in
+    record { no_allot = k.no_allot; no_ticket = k.no_ticket }
+
+pub IsChildless-after_steps : (n : ℕ) (m : Machine) → IsChildless m → IsChildless (after_steps n m)
+unfolding after_steps
+IsChildless-after_steps zero m h = h
+IsChildless-after_steps (suc n) m h = IsChildless-after_steps n (advance m) (IsChildless-advance m h)
+
+-- no call can be made where there is no ticket
+no-ticket : (f : ForkRegisters) → IsBare f → (number : ℕ) (b : Bool) → HasTicket f number b → ⊥
+no-ticket f h number b has = subst (λ found. IsSomeAnd found (λ (ticket : Ticket). ticket.is_cloned ≡ b)) (none-found f h number) has
+
+no-call-makeable : (f : ForkRegisters) → IsBare f → (c : Call) → IsMakeable f c → ⊥
+no-call-makeable f h (call.Clone t) has = no-ticket f h t false has
+no-call-makeable f h (call.Join t) has = no-ticket f h t true has
+no-call-makeable f h (call.Kill t) has = no-ticket f h t true has
+
+no-call-by : (f : ForkRegisters) → IsBare f → (a : Action) → Ported IsBare f a → call_of (next_of a) ≡ None
+no-call-by f h (trap cause value) p = refl
+no-call-by f h interrupt p = refl
+no-call-by f h (retire written s) p = refl
+no-call-by f h (exit value s) p = refl
+no-call-by f h (ask c s) p = absurd (no-call-makeable f h c p.1)
+
+pub no-call : (m : Machine) → IsChildless m → call_of (next m) ≡ None
+no-call m h = no-call-by (port_of m) (bare m h) (action m.state) (action-ported IsBare m.state (IsBare-kept (port_of m) (bare m h)))
+
+-- its steps are those of its tree
+settled-alone : (ending : Option Ending) (m : Machine) → (port_of m).tickets ≡ []
+    → settled_by machines ending m no_brood no_entry ≡ alone machines m
+unfolding machines log_killed cloned_numbers
+settled-alone None m none = refl
+settled-alone (Some ending) m none = ap (λ tickets. node m no_brood (log_killed machines m (cloned_numbers tickets) no_entry)) none
+
+step-alone-by : (ending : Option Ending) (m : Machine) → m.ending ≡ ending → IsChildless m
+    → step_from machines ending m no_brood no_entry ≡ alone machines (advance m)
+unfolding machines
+step-alone-by None m e h =
+    ap (λ c. step_by machines c m no_brood no_entry) (no-call m h)
+    ∙ settled-alone (advance m).ending (advance m) (IsChildless-advance m h).no_ticket
+step-alone-by (Some ending) m e h = ap (alone machines) (sym (advance-ended m ending e))
+
+step-alone : (m : Machine) → IsChildless m → step machines (alone machines m) ≡ alone machines (advance m)
+unfolding step machines
+step-alone m h = step-alone-by m.ending m refl h
+
+run-alone : (n : ℕ) (m : Machine) → IsChildless m → tree.run machines n (alone machines m) ≡ alone machines (after_steps n m)
+unfolding tree.run each_brood after_steps
+run-alone zero m h = refl
+run-alone (suc n) m h =
+    ap (λ t. tree.run machines n (tree.with_broods (each_brood (tree.run machines n)) t)) (step-alone m h)
+    ∙ run-alone n (advance m) (IsChildless-advance m h)
+
+-- it has ended when its limit is reached
+ended-after_steps : (n : ℕ) (m : Machine) → IsChildless m → IsWithinLimit m → m.limit ≤ m.steps + n → IsSome (after_steps n m).ending
+unfolding after_steps
+ended-after_steps zero m h within reached = elim (cases-ending m.ending) [
+  | inl ended ↦ subst IsSome (sym ended.1) refl
+  | inr live ↦ let below : m.steps < m.limit = within live in absurd (omega arith)
+]
+ended-after_steps (suc n) m h within reached = elim (cases-ending m.ending) [
+  | inl ended ↦ subst (λ (k : Machine). IsSome k.ending) (sym (after_steps-ended (suc n) m ended.0 ended.1)) (subst IsSome (sym ended.1) refl)
+  | inr live ↦
+      let steps : (advance m).steps ≡ m.steps + 1 = steps-advance m live (no-call m h) in
+      let limit : (advance m).limit ≡ m.limit = limit-advance m in
+      ended-after_steps n (advance m) (IsChildless-advance m h) (IsWithinLimit-advance m within) (omega arith)
+]
+
+finish-alone : (m : Machine) → IsChildless m → finish (alone machines m) ≡ alone machines (after_steps (m.limit - m.steps) m)
+unfolding tree.finish machines
+finish-alone m h = run-alone (m.limit - m.steps) m h
+
+pub finish-childless : (n : ℕ) (m : Machine) → IsChildless m → IsWithinLimit m → IsSome (after_steps n m).ending
+    → finish (alone machines m) ≡ alone machines (after_steps n m)
+finish-childless n m h within ended =
+    finish-alone m h
+    ∙ ap (alone machines) (after_steps-agree (m.limit - m.steps) n m (ended-after_steps (m.limit - m.steps) m h within (omega arith)) ended)
