@@ -258,13 +258,7 @@ mod tests {
     {
         let image = load(alloc, words)?;
         let disk = Disk::from_bytes(alloc, b"")?;
-        Ok(Vm::boot(
-            alloc,
-            &image,
-            disk,
-            b"",
-            Options { limit, allot: 0 },
-        )?)
+        Ok(Vm::boot(alloc, &image, disk, b"", Options { limit, allot: 0 })?)
     }
 
     const EXIT_SEVEN: [u32; 5] = [0x100022b7, 0x00700313, 0x0062a023, 0x00500313, 0x0062a423];
