@@ -1,0 +1,138 @@
+//! What no clause says: that calls succeed, that images share the pages that they were made of, and
+//! that threads freeze and read images of one depot side by side.
+
+ghost use Rattle.std.specs.Prelude.{◌≤◌, IfSome};
+ghost use Rattle.image_depot.specs.Key.{IsKeyOf};
+
+use crate::{Depot, Frozen, ImageKey};
+use cow_disk::{Disk, DiskError};
+use page_frames::{Entry, PAGE_SIZE, Page};
+use std::alloc::Global;
+use std::sync::Wait;
+use std::test::Fail;
+use std::thread;
+use std::thread::Threads;
+
+/// The last place of a word in a page.
+const LAST: u32 = PAGE_SIZE as u32 - 4;
+
+/// The image of a page of these bytes, a blank page and a page of one more, with a disk and an input
+/// of this byte.
+fn image_of(alloc: Global, byte: u8) -> Result<Frozen, DiskError> {
+    let entries = vec![in alloc;
+        Entry::Held(Page::from_slice(alloc, &[byte; PAGE_SIZE])?),
+        Entry::Blank,
+        Entry::Held(Page::from_slice(alloc, &[byte ^ 1; PAGE_SIZE])?),
+    ]?;
+    let disk = Disk::from_bytes(alloc, &[byte; 512])?.freeze()?;
+    let input = vec![in alloc; byte; 2]?;
+    Ok(Frozen::new(alloc, entries, disk, input)?)
+}
+
+#[test]
+fn lends_what_was_frozen(rt: HostRuntime) -> Result<(), Fail> {
+    let depot = Depot::new(rt.alloc())?;
+    let first = depot.freeze(&rt, image_of(rt.alloc(), 0x10)?)?;
+    let second = depot.freeze(&rt, image_of(rt.alloc(), 0x20)?)?;
+    assert_eq!(rt; (first.number(), second.number()), (0, 1));
+    for (key, byte) in [(&first, 0x10), (&second.again()?, 0x20u8)] {
+        assert_eq!(rt; depot.pages(key), 3);
+        let image = depot.frozen(key);
+        let words = [
+            image.word(0, 0),
+            image.word(0, LAST),
+            image.word(1, 0),
+            image.word(2, LAST),
+        ];
+        let word = u32::from(byte) * 0x0101_0101;
+        assert_eq!(rt; words, [word, word, 0, word ^ 0x0101_0101]);
+        assert_eq!(rt; image.input(), [byte; 2].as_slice());
+        assert_eq!(rt; image.tables().len(), 1);
+        let mut sector = [0; 512];
+        image.disk().open()?.read_sector(0, &mut sector)?;
+        assert_eq!(rt; sector[511], byte);
+    }
+    Ok(())
+}
+
+/// The first word of an image, if it has a page.
+fn first_word(depot: &Depot, key: &ImageKey) -> Option<u32>
+    requires { IsKeyOf depot.now key.now }
+{
+    if depot.pages(key) == 0 {
+        return None;
+    }
+    Some(depot.frozen(key).word(0, 0))
+}
+
+#[test]
+fn a_write_to_a_page_shows_in_no_image(rt: HostRuntime) -> Result<(), Fail> {
+    let mut page = Page::from_slice(rt.alloc(), &[0xaa; PAGE_SIZE])?;
+    let entries = vec![in rt.alloc(); Entry::Held(page.share()?)]?;
+    let disk = Disk::from_bytes(rt.alloc(), &[])?.freeze()?;
+    let depot = Depot::new(rt.alloc())?;
+    let key = depot.freeze(
+        &rt,
+        Frozen::new(rt.alloc(), entries, disk, Vec::new(rt.alloc()))?,
+    )?;
+    page.write(0, &[0x11])?;
+    assert_eq!(rt; first_word(&depot, &key), Some(0xaaaa_aaaa));
+    assert_eq!(rt; page.word(0), 0xaaaa_aa11);
+    Ok(())
+}
+
+/// Freezes an image of each of a hundred bytes, and gives the key to the last. `None` where an image
+/// does not read as it was frozen when the next one is there too.
+fn freeze_hundred<R: Wait>(rt: &R, alloc: Global, depot: &Depot, first: u8) -> Option<ImageKey>
+    requires { first ≤ 100 }
+    ensures { IfSome result (λ key. IsKeyOf depot.now key) }
+{
+    let mut last = depot.freeze(rt, image_of(alloc, first).ok()?).ok()?;
+    for byte in first..first + 100 {
+        let next = depot.freeze(rt, image_of(alloc, byte + 1).ok()?).ok()?;
+        if first_word(depot, &last) != Some(u32::from(byte) * 0x0101_0101) {
+            return None;
+        }
+        last = next;
+    }
+    Some(last)
+}
+
+fn freeze_in_two_threads<R: Threads + Wait + Sync>(
+    rt: &R,
+    alloc: Global,
+    depot: &Depot,
+) -> Option<(ImageKey, ImageKey)>
+    ensures { IfSome result (λ keys. IsKeyOf depot.now keys.0 × IsKeyOf depot.now keys.1) }
+{
+    let (first, second) = thread::join(
+        rt,
+        || freeze_hundred(rt, alloc, depot, 0),
+        || freeze_hundred(rt, alloc, depot, 100),
+    );
+    Some((first?, second?))
+}
+
+#[test]
+fn threads_freeze_and_read_side_by_side(rt: HostRuntime) -> Result<(), Fail> {
+    let depot = Depot::new(rt.alloc())?;
+    let (first, second) = freeze_in_two_threads(&rt, rt.alloc(), &depot).ok_or(
+        "an image has changed",
+    )?;
+    assert_ne!(rt; first.number(), second.number());
+    // Each thread reads the image that the other has frozen.
+    let (one, other) = thread::join(&rt, || first_word(&depot, &second), move || first.number());
+    assert_eq!(rt; one, Some(0xc8c8_c8c8));
+    assert!(rt; other < 202);
+    Ok(())
+}
+
+#[test]
+fn moves_between_threads(rt: HostRuntime) -> Result<(), Fail> {
+    let image = image_of(rt.alloc(), 0xaa)?;
+    let depot = Depot::new(rt.alloc())?;
+    let (depot, length) = thread::join(&rt, move || depot, move || image.input().len());
+    assert_eq!(rt; length, 2);
+    depot.freeze(&rt, image_of(rt.alloc(), 0xbb)?)?;
+    Ok(())
+}

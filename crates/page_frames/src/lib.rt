@@ -1,0 +1,12 @@
+//! Pages of memory that are shared until they are written, and the entries of page tables.
+#![tactic(auto)]
+
+mod entry;
+pub mod laws;
+mod page;
+
+pub use entry::{Entry, share_entries};
+pub use page::{PAGE_SIZE, Page};
+
+#[cfg(test)]
+mod tests;
