@@ -1,5 +1,5 @@
 ghost use Rattle.std.specs.Prelude.{◌≡◌, ◌+◌, ◌≤◌, length, OnOk, OnErr, IfOk};
-ghost use Rattle.flat_memory.specs.Flat.{word_at, put_bytes};
+ghost use Rattle.flat_memory.specs.Flat.{word_at, put_bytes, zeros};
 ghost use Rattle.page_frames.specs.Tables.{entry_bytes};
 
 use crate::page::{PAGE_SIZE, Page};
@@ -43,7 +43,7 @@ impl Entry {
 
     /// Writes bytes over those from a place of the page on. The entry then holds a page, which no
     /// other entry shares.
-    #[inline]
+    #[inline(always)]
     pub fn write(&mut self, alloc: Global, at: u32, bytes: &[u8]) -> Result<(), AllocError>
         requires { at + length bytes.now ≤ PAGE_SIZE }
         ensures ok { OnOk result (self.new ≡ Entry.Held (put_bytes (entry_bytes self.old) at bytes.now)) }
@@ -52,13 +52,24 @@ impl Entry {
     {
         match self {
             Entry::Held(page) => page.write(at, bytes),
-            Entry::Blank => {
-                let mut page = Page::zeroed(alloc)?;
-                page.write(at, bytes)?;
-                *self = Entry::Held(page);
-                Ok(())
-            }
+            Entry::Blank => self.fill(alloc, at, bytes),
         }
+    }
+
+    /// The same where the page is blank. It is apart and never inlined, so that a write to a page that
+    /// is held is short.
+    #[cold]
+    #[inline(never)]
+    fn fill(&mut self, alloc: Global, at: u32, bytes: &[u8]) -> Result<(), AllocError>
+        requires blank { self.old ≡ Entry.Blank }
+        requires within { at + length bytes.now ≤ PAGE_SIZE }
+        ensures ok { OnOk result (self.new ≡ Entry.Held (put_bytes (zeros PAGE_SIZE) at bytes.now)) }
+        ensures err { OnErr result (self.new ≡ self.old) }
+    {
+        let mut page = Page::zeroed(alloc)?;
+        page.write(at, bytes)?;
+        *self = Entry::Held(page);
+        Ok(())
     }
 }
 

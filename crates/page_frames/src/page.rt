@@ -102,7 +102,7 @@ impl Page {
 
     /// Writes bytes over those from a place on. A page that others share is copied first, and one
     /// that no other shares is written in its place. No other page changes.
-    #[inline]
+    #[inline(always)]
     pub fn write(&mut self, at: u32, bytes: &[u8]) -> Result<(), AllocError>
         requires { at + length bytes.now ≤ PAGE_SIZE }
         ensures ok { OnOk result (self.new ≡ put_bytes self.old at bytes.now) }
@@ -114,8 +114,24 @@ impl Page {
 }
 
 /// Writes bytes of a frame, of which this owner gets a copy first where there are others.
-#[inline]
+#[inline(always)]
 fn write_frame(frame: &mut Arc<Frame>, at: usize, bytes: &[u8]) -> Result<(), AllocError>
+    requires { at + length bytes.now ≤ length (arc_value frame.old).bytes }
+    ensures ok { OnOk result ((arc_value frame.new).bytes ≡ put_bytes (arc_value frame.old).bytes at bytes.now) }
+    ensures err { OnErr result ((arc_value frame.new).bytes ≡ (arc_value frame.old).bytes) }
+{
+    if let Some(own) = Arc::get_mut(frame) {
+        write_bytes(&mut own.bytes, at, bytes);
+        return Ok(());
+    }
+    write_copy(frame, at, bytes)
+}
+
+/// The same where there are others. It is apart and never inlined, so that a write to a page that has
+/// one owner is short.
+#[cold]
+#[inline(never)]
+fn write_copy(frame: &mut Arc<Frame>, at: usize, bytes: &[u8]) -> Result<(), AllocError>
     requires { at + length bytes.now ≤ length (arc_value frame.old).bytes }
     ensures ok { OnOk result ((arc_value frame.new).bytes ≡ put_bytes (arc_value frame.old).bytes at bytes.now) }
     ensures err { OnErr result ((arc_value frame.new).bytes ≡ (arc_value frame.old).bytes) }

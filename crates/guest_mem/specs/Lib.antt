@@ -1,0 +1,2 @@
+pub mod Ram
+pub mod Table
