@@ -1,3 +1,4 @@
 pub mod Bits
+pub mod Encoding
 pub mod Fields
 pub mod Reading

@@ -60,12 +60,9 @@ placed R i imm = rs2_bits i.rs2 + rs1_bits i.rs1 + rd_bits i.rd
 placed Lr i imm = rs1_bits i.rs1 + rd_bits i.rd
 placed Bare i imm = 0
 
-abbrev pub placed_fields : Instruction → ℕ
-placed_fields i = placed (format_of i.kind) i (cast_unsigned w32 i.imm)
-
 -- the word of an instruction
 unfoldable pub encoded : Instruction → ℕ
-encoded i = (row_of i.kind).bits + placed_fields i
+encoded i = (row_of i.kind).bits + placed (format_of i.kind) i (cast_unsigned w32 i.imm)
 
 -- the bits at which a format has its fields. The fields of a word, from the highest bit on, are funct7,
 -- rs2, rs1, funct3, rd and opcode

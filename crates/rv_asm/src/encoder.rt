@@ -1,6 +1,7 @@
 ghost use Rattle.std.specs.Prelude.{◌≡◌, ◌≤◌, Some, bit_and};
+ghost use Rattle.std.specs.Int.{cast_unsigned, w32};
 ghost use Rattle.rv_decode.specs.Table.{decoded};
-ghost use Rattle.rv_asm.specs.Encode.{row_of, u_bits, j_bits, b_bits, i_bits, s_bits, placed_fields, encoded, read_bits};
+ghost use Rattle.rv_asm.specs.Encode.{row_of, u_bits, j_bits, b_bits, i_bits, s_bits, placed, encoded, read_bits};
 
 use rv_decode::{Format, Instr, Kind};
 
@@ -13,18 +14,19 @@ pub fn encode(instruction: &Instr) -> u32
     ensures ignored { bit_and result (read_bits instruction.now.kind) ≡ result }
     ensures value { result ≡ encoded instruction.now }
 {
-    row_bits(instruction.kind()) + placed_fields(*instruction)
+    row_bits(instruction.kind()) + placed(instruction.format(), instruction)
 }
 
-/// The fields of an instruction at their places in its word.
-fn placed_fields(instruction: Instr) -> u32
-    ensures { result ≡ placed_fields instruction }
+/// The fields of an instruction at their places in a word of this format.
+#[inline]
+fn placed(format: Format, instruction: &Instr) -> u32
+    ensures { result ≡ placed format instruction.now (cast_unsigned w32 instruction.now.imm) }
 {
     let rd = instruction.rd() << 7;
     let rs1 = instruction.rs1() << 15;
     let rs2 = instruction.rs2() << 20;
     let imm = instruction.imm().cast_unsigned();
-    match instruction.format() {
+    match format {
         Format::U => u_bits(imm) + rd,
         Format::J => j_bits(imm) + rd,
         Format::B => b_bits(imm) + rs2 + rs1,
