@@ -1,4 +1,6 @@
 pub mod Bits
 pub mod Encoding
 pub mod Fields
+pub mod Lines
+pub mod Offsets
 pub mod Reading

@@ -1,1 +1,3 @@
 pub mod Encode
+pub mod Offset
+pub mod Listing

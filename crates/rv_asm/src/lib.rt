@@ -3,5 +3,10 @@
 #![tactic(auto)]
 
 mod encoder;
+mod error;
+mod line;
+mod program;
 
 pub use encoder::encode;
+pub use error::AsmError;
+pub use program::Program;
