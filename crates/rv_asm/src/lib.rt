@@ -4,9 +4,12 @@
 
 mod encoder;
 mod error;
+mod image;
+pub mod laws;
 mod line;
 mod program;
 
 pub use encoder::encode;
 pub use error::AsmError;
+pub use image::{MAX_WORDS, elf_of};
 pub use program::Program;
