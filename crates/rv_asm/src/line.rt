@@ -4,8 +4,20 @@ ghost use Rattle.std.specs.Prelude.{◌≡◌, ◌+◌, ◌*◌, ◌<◌, ◌≤
 ghost use Rattle.rv_decode.specs.Instruction.{IsSigned, IsMultiple};
 ghost use Rattle.rv_asm.specs.Offset.{takes_label, reach, offset, reaches};
 
-use rv_decode::{Format, Instr};
+use rv_decode::{Format, Instr, Kind};
 use std::marker::Model;
+
+/// Whether the immediate of an instruction is an offset from its own address, which a label can give: JAL
+/// and the branches.
+pub fn takes_label(kind: Kind) -> bool
+    ensures { result ≡ takes_label kind }
+{
+    match kind {
+        Kind::Jal => true,
+        Kind::Beq | Kind::Bne | Kind::Blt | Kind::Bge | Kind::Bltu | Kind::Bgeu => true,
+        _ => false,
+    }
+}
 
 /// A line of a program, which is one word.
 #[derive(Clone, Copy, Debug)]

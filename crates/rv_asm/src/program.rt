@@ -59,7 +59,7 @@ impl Program {
     }
 
     /// Adds a jump or a branch to a label, which may be placed before or after it. The offset to the label
-    /// takes the place of the instruction's immediate.
+    /// takes the place of the instruction's immediate. `takes_label` tells which instructions it is for.
     pub fn branch_to(&mut self, instruction: Instr, label: u32) -> Result<(), AsmError>
         requires { IsTrue (takes_label instruction.kind) }
         ensures ok { OnOk result (self.new ≡ with_line self.old (ToLabel (record { instruction = instruction; label = label }))) }
