@@ -1,3 +1,4 @@
+pub mod Assembled
 pub mod Bits
 pub mod Encoding
 pub mod Fields

@@ -80,3 +80,9 @@ pub reaches-IsSigned : (kind : Kind) (at place : ℕ) → IsSigned (reach kind) 
 reaches-IsSigned kind at place fits =
     let near = offset-IsSigned (reach kind) at place fits in
     and_from _ _ (le-leb _ _ near.0) (lt-ltb _ _ near.1)
+
+pub IsInstruction-reaches : (i : Instruction) (at place : ℕ) → IsTrue (takes_label i.kind) → IsInstruction i
+    → IsTrue (reaches i.kind at place) ↔ IsInstruction (record i { imm = offset at place })
+IsInstruction-reaches i at place takes h =
+    let same = IsInstruction-other i (offset at place) takes h in
+    (λ near. same.1 (IsSigned-reaches i.kind at place near, IsMultiple-offset at place), λ new. reaches-IsSigned i.kind at place (same.0 new).0)

@@ -1,6 +1,6 @@
 -- A program is a list of lines, each of one word, and the places of its labels. A place is the index of
 -- a line.
-use Rattle.std.specs.Prelude.{◌≡◌, ◌≢◌, ℕ, ◌+◌, if◌then◌else◌, List, [], ◌∷◌, ◌++◌, length, Option, Some, None, Result, Ok, Err, ⊤}
+use Rattle.std.specs.Prelude.{◌≡◌, ◌≢◌, ℕ, ◌+◌, ◌<◌, if◌then◌else◌, List, [], ◌∷◌, ◌++◌, length, slice_get, Option, Some, None, Result, Ok, Err, IsOk, ⊤}
 use Rattle.std.specs.Ordering.{nat_cmp}
 use Rattle.std.specs.Map.{lookup}
 use Rattle.std.specs.BTreeMap.{is_at}
@@ -57,6 +57,14 @@ assembled_from p at (line ∷ lines) = then_words (instruction_of p at line) (as
 
 abbrev pub assembled : Listing → Result (List ℕ) AsmError
 assembled p = assembled_from p 0 p.lines
+
+-- the first line that gives an error gives this one
+pub record FailsFirst (p : Listing) (error : AsmError) : Type 0 where
+  pub place : ℕ
+  pub line : Line
+  pub is : slice_get p.lines place ≡ Some line
+  pub gives : instruction_of p place line ≡ Err error
+  pub before : (k : ℕ) (other : Line) → k < place → slice_get p.lines k ≡ Some other → IsOk (instruction_of p k other)
 
 -- when each error comes. Out of memory may come at any time
 abbrev pub IsRefused : Listing → AsmError → Type 0

@@ -1,11 +1,38 @@
 //! Laws of the definitions, each the contract of a function that does nothing.
 
-ghost use Rattle.std.specs.Prelude.{◌≡◌, ℕ, ◌+◌, ◌-◌, ◌*◌, ◌<◌, ◌≤◌, ◌⊎◌, ◌^◌, List, length, slice_index, All, IsTrue, ◌↔◌, Ok, Err};
+ghost use Rattle.std.specs.Prelude.{◌≡◌, ℕ, ◌+◌, ◌-◌, ◌*◌, ◌^◌, ◌<◌, ◌≤◌, ◌⊎◌, ◌↔◌, List, length, slice_index, slice_get, All, IsTrue, Some, Ok, Err, IsOkAnd};
 ghost use Rattle.flat_memory.specs.Flat.{word_at};
 ghost use Rattle.elf_load.specs.Elf.{loaded};
 ghost use Rattle.elf_load.specs.OneSegment.{elf_of, bytes_of_words, image_of_code};
 ghost use Rattle.elf_load.specs.declared.image.TheConstants.{RAM_BASE};
+ghost use Rattle.rv_decode.specs.Instruction.{Instruction, IsInstruction};
+ghost use Rattle.rv_decode.specs.Table.{decoded};
+ghost use Rattle.rv_asm.specs.Encode.{encoded};
+ghost use Rattle.rv_asm.specs.Offset.{takes_label, offset, reaches};
+ghost use Rattle.rv_asm.specs.Listing.{Listing, instruction_of, assembled, FailsFirst};
+ghost use Rattle.rv_asm.specs.declared.error.AsmError.{AsmError};
+ghost use Rattle.rv_asm.specs.declared.line.Line.{Line};
 ghost use Rattle.rv_asm.specs.Fit.{IsBuilt, FitsInRam, misfit};
+
+/// The word of an instruction decodes to it.
+pub fn words_decode()
+    ensures { (i : Instruction) → IsInstruction i → decoded (encoded i) ≡ Some i }
+{}
+
+/// An offset is in reach exactly where the instruction with it is one of its format.
+pub fn reach_is_the_range()
+    ensures { (i : Instruction) (at place : ℕ) → IsTrue (takes_label i.kind) → IsInstruction i
+        → IsTrue (reaches i.kind at place) ↔ IsInstruction (record i { imm = offset at place }) }
+{}
+
+/// A program is assembled line by line: each gives the word at its place, and where there is none the first
+/// that gives an error names it.
+pub fn lines_give_words()
+    ensures count { (p : Listing) (words : List ℕ) → assembled p ≡ Ok words → length words ≡ length p.lines }
+    ensures each { (p : Listing) (words : List ℕ) (k : ℕ) (line : Line) → assembled p ≡ Ok words → slice_get p.lines k ≡ Some line
+        → IsOkAnd (instruction_of p k line) (λ i. slice_get words k ≡ Some (encoded i)) }
+    ensures first_error { (p : Listing) (error : AsmError) → assembled p ≡ Err error → FailsFirst p error }
+{}
 
 /// The loader takes what `elf_of` writes exactly where the words fit in RAM. RAM then has these words from
 /// their address on and zeros elsewhere, and the machine starts at the first of them.
