@@ -8,10 +8,12 @@ use Rattle.std.proofs.lemmas.Bool.{cases_Bool, cond-true, cond-false}
 use Rattle.rv_decode.specs.Instruction.{Instruction, IsSigned, IsMultiple}
 use Rattle.rv_asm.specs.Encode.{encoded}
 use Rattle.rv_asm.specs.Offset.{reach, offset, reaches}
-use Rattle.rv_asm.specs.Listing.{Listing, with_offset, instruction_of, then_words, assembled_from, assembled, IsRefused}
+use Rattle.rv_asm.specs.Listing.{Listing, place_of, with_offset, instruction_of, then_words, assembled_from, assembled, IsRefused}
 use Rattle.rv_asm.specs.declared.error.AsmError.{AsmError}
 use Rattle.rv_asm.specs.declared.error.AsmError.TheVariants.{UnplacedLabel, OffsetOutOfRange, LabelPlacedTwice, Memory}
 use Rattle.rv_asm.specs.declared.line.Line.{Line}
+use Rattle.rv_asm.specs.declared.line.Line.TheVariants.{Plain, ToLabel}
+use Rattle.rv_asm.proofs.Assembled.{first_error}
 use Rattle.rv_asm.proofs.Offsets.{IsMultiple-offset, IsSigned-reaches, reaches-IsSigned}
 
 -- an instruction that takes the offset exactly where it is in reach
@@ -75,8 +77,23 @@ unfolding assembled_from
 AreWordsBefore-all p at words past before =
     before ∙ ap (λ lines. after_words words (assembled_from p at lines)) (drop_of_length-le p.lines past) ∙ ap Ok (append-nil words)
 
+-- no line gives the error of a label that is placed twice
+with_offset-placed_twice : (i : Instruction) (at : ℕ) (place : Option ℕ) → with_offset i at place ≡ Err LabelPlacedTwice → ⊥
+with_offset-placed_twice i at None gives = cc
+with_offset-placed_twice i at (Some place) gives =
+    elim (cases_Bool (reaches i.kind at place)) [
+      | inl near ↦ (let other = sym (cond-true _ _ _ near) ∙ gives in let no_error : ⊥ = cc in no_error)
+      | inr far_away ↦ (let other = sym (cond-false _ _ _ far_away) ∙ gives in let no_error : ⊥ = cc in no_error)
+    ]
+
+instruction_of-placed_twice : (p : Listing) (at : ℕ) (line : Line) → instruction_of p at line ≡ Err LabelPlacedTwice → ⊥
+instruction_of-placed_twice p at (Plain i) gives = cc
+instruction_of-placed_twice p at (ToLabel b) gives = with_offset-placed_twice b.instruction at (place_of p b.label) gives
+
 pub IsRefused-assembled : (p : Listing) (error : AsmError) → assembled p ≡ Err error → IsRefused p error
 IsRefused-assembled p UnplacedLabel fails = fails
 IsRefused-assembled p OffsetOutOfRange fails = fails
-IsRefused-assembled p LabelPlacedTwice fails = fails
+IsRefused-assembled p LabelPlacedTwice fails =
+    let f = first_error p LabelPlacedTwice fails in
+    instruction_of-placed_twice p f.place f.line f.gives
 IsRefused-assembled p Memory fails = tt

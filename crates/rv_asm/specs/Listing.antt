@@ -68,5 +68,7 @@ pub record FailsFirst (p : Listing) (error : AsmError) : Type 0 where
 
 -- when each error comes. Out of memory may come at any time
 abbrev pub IsRefused : Listing → AsmError → Type 0
+IsRefused p UnplacedLabel = assembled p ≡ Err UnplacedLabel
+IsRefused p OffsetOutOfRange = assembled p ≡ Err OffsetOutOfRange
+IsRefused p LabelPlacedTwice = ⊥
 IsRefused p Memory = ⊤
-IsRefused p error = assembled p ≡ Err error

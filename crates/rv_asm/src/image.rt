@@ -19,9 +19,7 @@ const PROGRAM_HEADER_SIZE: u16 = 32;
 const HEADERS_SIZE: u32 = 84;
 
 /// The magic number, 32-bit objects, little endian, version 1, and padding.
-const IDENTIFICATION: [u8; 16] = [
-    0x7f, b'E', b'L', b'F', 1, 1, 1, 0, 0, 0, 0, 0, 0, 0, 0, 0,
-];
+const IDENTIFICATION: [u8; 16] = [0x7f, b'E', b'L', b'F', 1, 1, 1, 0, 0, 0, 0, 0, 0, 0, 0, 0];
 
 /// An executable, in `e_type`.
 const ET_EXEC: u16 = 2;

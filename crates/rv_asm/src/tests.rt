@@ -5,11 +5,12 @@ mod guests;
 use crate::{AsmError, MAX_WORDS, Program, elf_of, encode, takes_label};
 use elf_load::{ImageError, load_elf};
 use guests::{
-    ECHO_BYTE, ECHO_BYTE_WORDS, EXIT_SEVEN, EXIT_SEVEN_WORDS, GRANDCHILD, GRANDCHILD_WORDS, KILL_THEN_JOIN,
-    KILL_THEN_JOIN_WORDS, LOOP_COMPUTE, LOOP_COMPUTE_WORDS, LOOP_MEMORY, LOOP_MEMORY_WORDS, LOOP_MULTIPLY,
-    LOOP_MULTIPLY_WORDS, PRINT_LETTER, PRINT_LETTER_WORDS, TEN_TICKS, TEN_TICKS_WORDS, TIMER_AT_FORK,
-    TIMER_AT_FORK_WORDS, TRAP_HANDLER, TRAP_HANDLER_WORDS, TWO_CHILDREN, TWO_CHILDREN_WORDS,
-    VECTORED_INTERRUPT, VECTORED_INTERRUPT_WORDS, ZEROED_PAGE, ZEROED_PAGE_WORDS,
+    ECHO_BYTE, ECHO_BYTE_WORDS, EXIT_SEVEN, EXIT_SEVEN_WORDS, GRANDCHILD, GRANDCHILD_WORDS,
+    KILL_THEN_JOIN, KILL_THEN_JOIN_WORDS, LOOP_COMPUTE, LOOP_COMPUTE_WORDS, LOOP_MEMORY,
+    LOOP_MEMORY_WORDS, LOOP_MULTIPLY, LOOP_MULTIPLY_WORDS, PRINT_LETTER, PRINT_LETTER_WORDS,
+    TEN_TICKS, TEN_TICKS_WORDS, TIMER_AT_FORK, TIMER_AT_FORK_WORDS, TRAP_HANDLER,
+    TRAP_HANDLER_WORDS, TWO_CHILDREN, TWO_CHILDREN_WORDS, VECTORED_INTERRUPT,
+    VECTORED_INTERRUPT_WORDS, ZEROED_PAGE, ZEROED_PAGE_WORDS,
 };
 use rv_decode::{Instr, Kind};
 use std::alloc::{AllocError, Global};
@@ -73,9 +74,11 @@ fn add_line(rt: &impl Abort, program: &mut Program, line: Line) -> Result<(), As
         Line::Registers(kind, rd, rs1, rs2) => {
             program.push(instruction(rt, kind, rd, rs1, rs2, 0))
         }
-        Line::Immediate(kind, rd, rs1, imm)
-        | Line::Load(kind, rd, imm, rs1)
-        | Line::Csr(kind, rd, imm, rs1) => program.push(instruction(rt, kind, rd, rs1, 0, imm)),
+        Line::Immediate(kind, rd, rs1, imm) => {
+            program.push(instruction(rt, kind, rd, rs1, 0, imm))
+        }
+        Line::Load(kind, rd, imm, rs1) => program.push(instruction(rt, kind, rd, rs1, 0, imm)),
+        Line::Csr(kind, rd, imm, rs1) => program.push(instruction(rt, kind, rd, rs1, 0, imm)),
         Line::Store(kind, rs2, imm, rs1) => program.push(instruction(rt, kind, 0, rs1, rs2, imm)),
         Line::Bare(kind) => program.push(instruction(rt, kind, 0, 0, 0, 0)),
         Line::Branch(kind, rs1, rs2, label) => {
@@ -120,7 +123,10 @@ fn assembles_the_example_guests(rt: HostRuntime) -> Result<(), Fail> {
         (PRINT_LETTER.as_slice(), PRINT_LETTER_WORDS.as_slice()),
         (ECHO_BYTE.as_slice(), ECHO_BYTE_WORDS.as_slice()),
         (TRAP_HANDLER.as_slice(), TRAP_HANDLER_WORDS.as_slice()),
-        (VECTORED_INTERRUPT.as_slice(), VECTORED_INTERRUPT_WORDS.as_slice()),
+        (
+            VECTORED_INTERRUPT.as_slice(),
+            VECTORED_INTERRUPT_WORDS.as_slice(),
+        ),
         (TEN_TICKS.as_slice(), TEN_TICKS_WORDS.as_slice()),
         (LOOP_COMPUTE.as_slice(), LOOP_COMPUTE_WORDS.as_slice()),
         (LOOP_MEMORY.as_slice(), LOOP_MEMORY_WORDS.as_slice()),
@@ -153,7 +159,10 @@ fn names_the_first_error(rt: HostRuntime) {
             [Line::Label(1), NOTHING, Line::Branch(Kind::Bne, 1, 2, 1)],
             Ok((0x0000_0013, 2)),
         ),
-        ([Line::Jump(0, 1), NOTHING, NOTHING], Err(AsmError::UnplacedLabel)),
+        (
+            [Line::Jump(0, 1), NOTHING, NOTHING],
+            Err(AsmError::UnplacedLabel),
+        ),
         (
             [Line::Label(1), NOTHING, Line::Label(1)],
             Err(AsmError::LabelPlacedTwice),
