@@ -1,6 +1,5 @@
 -- The fields of an instruction lie at their places, and are read there.
-use Rattle.std.proofs.Common.{◌≡◌, ℕ, ◌+◌, ◌-◌, ◌*◌, ◌/◌, ◌%◌, ◌<◌, ◌≤◌, ◌^◌, Bool, true, eqb, ltb, ◌&&◌, refl, sym, ap, ◌∙◌, arith}
-use Rattle.std.specs.Prelude.{bit_and}
+use Rattle.std.proofs.Common.{ℕ, ◌-◌, ◌*◌, ◌<◌, ◌^◌, refl, arith}
 use Rattle.rv_decode.specs.declared.kinds.Format.{Format}
 use Rattle.rv_decode.specs.declared.kinds.Format.TheVariants.{U, J, B, I, S, Shift, Csr, R, Lr, Bare}
 use Rattle.rv_decode.specs.Instruction.{Instruction, IsInFormat}

@@ -1,8 +1,8 @@
 -- How the loader takes an image of words.
-use Rattle.std.proofs.Common.{◌≡◌, ℕ, zero, suc, ◌+◌, ◌-◌, ◌*◌, ◌/◌, ◌%◌, ◌<◌, ◌≤◌, ◌^◌, ◌⊎◌, Bool, true, false, not, cond, ltb, leb, eqb, List, [], ◌∷◌, ◌++◌, length, get_or, Some, None, Ok, Err, refl, sym, ap, ◌∙◌, inl, inr, subst, arith}
-use Rattle.std.specs.Prelude.{◌||◌, ◌&&◌, All}
+use Rattle.std.proofs.Common.{◌≡◌, ℕ, zero, suc, ◌+◌, ◌-◌, ◌*◌, ◌/◌, ◌%◌, ◌<◌, ◌≤◌, ◌^◌, ◌⊎◌, true, false, not, cond, ltb, List, [], ◌∷◌, ◌++◌, length, get_or, Some, None, Ok, Err, refl, sym, ap, ◌∙◌, inl, inr, subst, arith}
+use Rattle.std.specs.Prelude.{◌||◌, All}
 use Rattle.std.specs.List.{list_any}
-use Rattle.std.proofs.lemmas.Bool.{cases_Bool, cases_lt, cond-true, cond-false, le-ltb, lt-ltb, ltb-true, ltb-false, leb-true, eqb-true, and_parts, or_from, or_left, or_right, or_parts}
+use Rattle.std.proofs.lemmas.Bool.{cases_Bool, cases_lt, cond-true, cond-false, le-ltb, lt-ltb, ltb-true, ltb-false, leb-true, and_parts, or_from, or_left, or_parts}
 use Rattle.std.proofs.lemmas.List.{length-append, length-replicate, get_or-append_right, get_or_append_left, get_or-replicate, get_or_past}
 use Rattle.std.proofs.lemmas.List.Elements.{All-drop}
 use Rattle.std.proofs.lemmas.List.Sorted.{IsPermutation-refl}
@@ -10,7 +10,7 @@ use Rattle.byteorder.specs.Endian.{little_from}
 use Rattle.flat_memory.specs.Flat.{zeros, word_at}
 use Rattle.elf_load.specs.Elf.{e_entry, segment_at, header_rules, place_rules, first_broken, loads_among, loads_of, segments_of, non_empty, loaded, ram_end, is_entry, is_cut, is_outside, is_overfull}
 use Rattle.elf_load.specs.OneSegment.{word, headers, elf_of, bytes_of_words, image_of_code}
-use Rattle.elf_load.specs.declared.image.TheConstants.{RAM_BASE, PAGE_SIZE, MAX_PAGES}
+use Rattle.elf_load.specs.declared.image.TheConstants.{RAM_BASE}
 use Rattle.elf_load.proofs.OneSegment.{loaded-elf_of}
 use Rattle.elf_load.proofs.Rules.{loaded_place_broken}
 use Rattle.elf_load.proofs.Words.{length-bytes_of_words}

@@ -1,13 +1,13 @@
 -- The offsets that a jump or a branch can have.
-use Rattle.std.proofs.Common.{◌≡◌, ℕ, suc, ◌+◌, ◌-◌, ◌*◌, ◌/◌, ◌%◌, ◌<◌, ◌≤◌, inl, inr, Bool, true, false, Some, None, Option, refl, sym, ap, ◌∙◌, subst, arith}
-use Rattle.std.specs.Prelude.{ℤ, pos, negsuc, ◌-ℤ◌, IsTrue, ◌↔◌, SomeIff}
+use Rattle.std.proofs.Common.{◌≡◌, ℕ, suc, ◌+◌, ◌-◌, ◌*◌, ◌<◌, ◌≤◌, inl, inr, true, Some, None, Option, refl, arith}
+use Rattle.std.specs.Prelude.{ℤ, pos, negsuc, IsTrue, ◌↔◌, SomeIff}
 use Rattle.std.proofs.lemmas.Bool.{cases_lt, le-leb, lt-ltb, leb-true, ltb-true, and_from, and_parts}
 use Rattle.std.proofs.lemmas.Int.{ints}
 use Rattle.rv_decode.specs.declared.kinds.Kind.{Kind}
 use Rattle.rv_decode.specs.declared.kinds.Kind.TheVariants.{Jal, Beq, Bne, Blt, Bge, Bltu, Bgeu}
 use Rattle.rv_decode.specs.declared.kinds.Format.TheVariants.{J}
 use Rattle.rv_decode.specs.Kinds.{format_of}
-use Rattle.rv_decode.specs.Instruction.{Instruction, IsInstruction, IsInFormat, IsSigned, IsMultiple}
+use Rattle.rv_decode.specs.Instruction.{Instruction, IsInstruction, IsSigned, IsMultiple}
 use Rattle.rv_asm.specs.Offset.{takes_label, reach, offset, reaches}
 
 abbrev pub instruction : Kind → ℕ → ℕ → ℕ → ℤ → Instruction

@@ -1,6 +1,6 @@
 -- The fields of an instruction are read where they were placed.
-use Rattle.std.proofs.Common.{◌≡◌, ℕ, suc, ◌+◌, ◌-◌, ◌*◌, ◌/◌, ◌%◌, ◌<◌, ◌≤◌, ◌^◌, Bool, true, ltb, ◌&&◌, refl, sym, ap, ◌∙◌, arith}
-use Rattle.std.specs.Prelude.{ℤ, pos, negsuc, ◌-ℤ◌, FitsSigned}
+use Rattle.std.proofs.Common.{◌≡◌, ℕ, suc, ◌+◌, ◌*◌, ◌%◌, ◌<◌, ◌^◌, Bool, true, ltb, ◌&&◌, refl, sym, ap, ◌∙◌, arith}
+use Rattle.std.specs.Prelude.{ℤ, pos, negsuc, FitsSigned}
 use Rattle.std.specs.Int.{cast_signed, cast_unsigned, w32}
 use Rattle.std.proofs.lemmas.Bool.{cond-true, cond-false, lt-ltb, le-ltb, ltb-true, and_parts}
 use Rattle.std.proofs.lemmas.Int.{ints, to_z-of_z}
@@ -8,7 +8,7 @@ use Rattle.rv_decode.specs.declared.kinds.Kind.{Kind}
 use Rattle.rv_decode.specs.declared.kinds.Format.{Format}
 use Rattle.rv_decode.specs.declared.kinds.Format.TheVariants.{U, J, B, I, S, Shift, Csr, R, Lr, Bare}
 use Rattle.rv_decode.specs.Instruction.{Instruction, IsInFormat, IsSigned, IsUnsigned, IsMultiple}
-use Rattle.rv_decode.specs.Table.{field, rd_field, rs1_field, rs2_field, signed, u_immediate, j_immediate, b_immediate, i_immediate, s_immediate, in_format}
+use Rattle.rv_decode.specs.Table.{field, signed, u_immediate, j_immediate, b_immediate, i_immediate, s_immediate, in_format}
 use Rattle.rv_asm.specs.Encode.{placed, u_bits, j_bits, b_bits, i_bits, s_bits, shift_bits, rd_bits, rs1_bits, rs2_bits}
 
 -- a number in two's complement
@@ -104,41 +104,38 @@ same_fields : {kind kind' : Kind} {rd rd' rs1 rs1' rs2 rs2' : ℕ} {imm imm' : �
     → instruction kind rd rs1 rs2 imm ≡ instruction kind' rd' rs1' rs2' imm'
 same_fields k d a b i = cc
 
+-- what two tests tell
+both : (a b c d : ℕ) → (ltb a b && ltb c d) ≡ true → (a < b) × (c < d)
+both a b c d h = (ltb-true a b (and_parts _ _ h).0, ltb-true c d (and_parts _ _ h).1)
+
 -- the fields that are placed beside the bits of a row are those that are read
 pub read_back : (format : Format) (i : Instruction) (bits : ℕ) → IsInFormat format i → leaves format bits ≡ true
     → in_format format i.kind (bits + placed format i (cast_unsigned w32 i.imm)) ≡ i
 read_back U i bits h free =
-    let clear : bits < 0x80 = ltb-true bits 0x80 free in
+    let clear = ltb-true bits 0x80 free in
     same_fields refl (omega arith) (sym h.1) (sym h.2) (u_read bits i.rd i.imm clear h.0 h.3 h.4)
 read_back J i bits h free =
-    let clear : bits < 0x80 = ltb-true bits 0x80 free in
+    let clear = ltb-true bits 0x80 free in
     same_fields refl (omega arith) (sym h.1) (sym h.2) (j_read bits i.rd i.imm clear h.0 h.3 h.4)
 read_back B i bits h free =
-    let low : bits % 0x1000 < 0x80 = ltb-true _ _ (and_parts _ _ free).0 in
-    let clear : bits < 0x8000 = ltb-true _ _ (and_parts _ _ free).1 in
-    same_fields refl (sym h.0) (omega arith) (omega arith) (b_read bits i.rs1 i.rs2 i.imm low clear h.1 h.2 h.3 h.4)
+    let clear = both (bits % 0x1000) 0x80 bits 0x8000 free in
+    same_fields refl (sym h.0) (omega arith) (omega arith) (b_read bits i.rs1 i.rs2 i.imm clear.0 clear.1 h.1 h.2 h.3 h.4)
 read_back I i bits h free =
-    let low : bits % 0x1000 < 0x80 = ltb-true _ _ (and_parts _ _ free).0 in
-    let clear : bits < 0x8000 = ltb-true _ _ (and_parts _ _ free).1 in
-    same_fields refl (omega arith) (omega arith) (sym h.2) (i_read bits i.rs1 i.rd i.imm low clear h.1 h.0 h.3)
+    let clear = both (bits % 0x1000) 0x80 bits 0x8000 free in
+    same_fields refl (omega arith) (omega arith) (sym h.2) (i_read bits i.rs1 i.rd i.imm clear.0 clear.1 h.1 h.0 h.3)
 read_back S i bits h free =
-    let low : bits % 0x1000 < 0x80 = ltb-true _ _ (and_parts _ _ free).0 in
-    let clear : bits < 0x8000 = ltb-true _ _ (and_parts _ _ free).1 in
-    same_fields refl (sym h.0) (omega arith) (omega arith) (s_read bits i.rs1 i.rs2 i.imm low clear h.1 h.2 h.3)
+    let clear = both (bits % 0x1000) 0x80 bits 0x8000 free in
+    same_fields refl (sym h.0) (omega arith) (omega arith) (s_read bits i.rs1 i.rs2 i.imm clear.0 clear.1 h.1 h.2 h.3)
 read_back Shift i bits h free =
-    let low : bits % 0x1000 < 0x80 = ltb-true _ _ (and_parts _ _ free).0 in
-    let clear : bits % 0x200_0000 < 0x8000 = ltb-true _ _ (and_parts _ _ free).1 in
-    same_fields refl (omega arith) (omega arith) (sym h.2) (shift_read bits i.rs1 i.rd i.imm low clear h.1 h.0 h.3)
+    let clear = both (bits % 0x1000) 0x80 (bits % 0x200_0000) 0x8000 free in
+    same_fields refl (omega arith) (omega arith) (sym h.2) (shift_read bits i.rs1 i.rd i.imm clear.0 clear.1 h.1 h.0 h.3)
 read_back Csr i bits h free =
-    let low : bits % 0x1000 < 0x80 = ltb-true _ _ (and_parts _ _ free).0 in
-    let clear : bits < 0x8000 = ltb-true _ _ (and_parts _ _ free).1 in
-    same_fields refl (omega arith) (omega arith) (sym h.2) (csr_read bits i.rs1 i.rd i.imm low clear h.1 h.0 h.3)
+    let clear = both (bits % 0x1000) 0x80 bits 0x8000 free in
+    same_fields refl (omega arith) (omega arith) (sym h.2) (csr_read bits i.rs1 i.rd i.imm clear.0 clear.1 h.1 h.0 h.3)
 read_back R i bits h free =
-    let low : bits % 0x1000 < 0x80 = ltb-true _ _ (and_parts _ _ free).0 in
-    let clear : bits % 0x200_0000 < 0x8000 = ltb-true _ _ (and_parts _ _ free).1 in
+    let clear = both (bits % 0x1000) 0x80 (bits % 0x200_0000) 0x8000 free in
     same_fields refl (omega arith) (omega arith) (omega arith) (sym h.3)
 read_back Lr i bits h free =
-    let low : bits % 0x1000 < 0x80 = ltb-true _ _ (and_parts _ _ free).0 in
-    let clear : bits % 0x10_0000 < 0x8000 = ltb-true _ _ (and_parts _ _ free).1 in
+    let clear = both (bits % 0x1000) 0x80 (bits % 0x10_0000) 0x8000 free in
     same_fields refl (omega arith) (omega arith) (sym h.2) (sym h.3)
 read_back Bare i bits h free = same_fields refl (sym h.0) (sym h.1) (sym h.2) (sym h.3)

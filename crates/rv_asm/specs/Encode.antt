@@ -1,6 +1,6 @@
 -- The word of an instruction: the bits that tell its kind, and its fields at their places.
 -- RISC-V Unprivileged ISA 20191213, sections 2.2 and 2.3, and chapter 24
-use Rattle.std.specs.Prelude.{ℕ, ◌+◌, ◌*◌, ◌^◌, Bool, ℤ, find, unwrap_or}
+use Rattle.std.specs.Prelude.{ℕ, ◌+◌, ◌*◌, ◌^◌, Bool, find, unwrap_or}
 use Rattle.std.specs.Int.{cast_unsigned, w32}
 use denote.Enum.Bare.{sameb}
 use Rattle.rv_decode.specs.contracts.kinds.Kind.{the_type}

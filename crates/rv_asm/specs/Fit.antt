@@ -1,5 +1,5 @@
 -- Where the words of an image are loaded.
-use Rattle.std.specs.Prelude.{◌≡◌, ℕ, ◌+◌, ◌*◌, ◌%◌, ◌^◌, ◌<◌, ◌≤◌, List, [], ◌∷◌, length, All}
+use Rattle.std.specs.Prelude.{◌≡◌, ℕ, ◌+◌, ◌*◌, ◌%◌, ◌^◌, ◌<◌, ◌≤◌, List, [], ◌∷◌, length}
 use Rattle.elf_load.specs.Elf.{ram_end}
 use Rattle.elf_load.specs.declared.image.TheConstants.{RAM_BASE, MAX_PAGES}
 use Rattle.rv_asm.specs.declared.image.TheConstants.{MAX_WORDS}

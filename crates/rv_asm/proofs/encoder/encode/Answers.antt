@@ -1,4 +1,4 @@
-use Rattle.std.proofs.Common.{◌≡◌, ◌+◌, sym, subst, arith}
+use Rattle.std.proofs.Common.{◌≡◌, ◌+◌, subst, arith}
 use Rattle.rv_decode.specs.Instruction.{IsInstruction, IsInFormat}
 use Rattle.rv_asm.specs.Encode.{encoded}
 use Rattle.rv_asm.proofs.Encoding.{encoded_within, encoded_below, decoded-encoded}
