@@ -149,15 +149,15 @@ fn assembles_the_example_guests(rt: HostRuntime) -> Result<(), Fail> {
 }
 
 #[test]
-fn names_the_first_error(rt: HostRuntime) {
+fn takes_labels_before_and_behind(rt: HostRuntime) {
     let rows = [
         (
             [Line::Jump(0, 1), NOTHING, Line::Label(1)],
-            Ok((0x0080_006f, 2)),
+            Ok((0x0080_006f, 0x0000_0013, 2)),
         ),
         (
             [Line::Label(1), NOTHING, Line::Branch(Kind::Bne, 1, 2, 1)],
-            Ok((0x0000_0013, 2)),
+            Ok((0x0000_0013, 0xfe20_9ee3, 2)),
         ),
         (
             [Line::Jump(0, 1), NOTHING, NOTHING],
@@ -167,16 +167,48 @@ fn names_the_first_error(rt: HostRuntime) {
             [Line::Label(1), NOTHING, Line::Label(1)],
             Err(AsmError::LabelPlacedTwice),
         ),
-        (
-            [Line::Label(1), Line::Jump(0, 2), Line::Label(1)],
-            Err(AsmError::LabelPlacedTwice),
-        ),
     ];
     for (lines, want) in rows {
-        let words = assembled(&rt, rt.alloc(), &lines);
-        let found = words.map(|words| (words.first().copied().unwrap_or(0), words.len()));
+        let found = assembled(&rt, rt.alloc(), &lines).map(|words| {
+            let first = words.first().copied().unwrap_or(0);
+            let last = words.last().copied().unwrap_or(0);
+            (first, last, words.len())
+        });
         assert_eq!(rt; found, want, "{lines:?}");
     }
+}
+
+/// The error of these lines, where the label 1 stands 1,025 words behind them.
+fn error_of(
+    rt: &impl Abort,
+    alloc: Global,
+    first: Line,
+    second: Line,
+) -> Result<Option<AsmError>, AsmError> {
+    let mut program = Program::new(alloc, BASE);
+    add_line(rt, &mut program, first)?;
+    add_line(rt, &mut program, second)?;
+    for _ in 0..1025 {
+        add_line(rt, &mut program, NOTHING)?;
+    }
+    program.place_label(1)?;
+    Ok(program.finish().err())
+}
+
+#[test]
+fn names_the_first_error(rt: HostRuntime) -> Result<(), Fail> {
+    let far = Line::Branch(Kind::Beq, 0, 0, 1);
+    let unplaced = Line::Jump(0, 2);
+    let rows = [
+        (far, unplaced, Some(AsmError::OffsetOutOfRange)),
+        (unplaced, far, Some(AsmError::UnplacedLabel)),
+        (NOTHING, NOTHING, None),
+    ];
+    for (first, second, want) in rows {
+        let error = error_of(&rt, rt.alloc(), first, second)?;
+        assert_eq!(rt; error, want, "{first:?}, {second:?}");
+    }
+    Ok(())
 }
 
 #[test]
