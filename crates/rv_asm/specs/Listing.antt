@@ -12,10 +12,20 @@ use Rattle.rv_asm.specs.declared.error.AsmError.TheVariants.{UnplacedLabel, Offs
 use Rattle.rv_asm.specs.declared.line.Line.{Line}
 use Rattle.rv_asm.specs.declared.line.Line.TheVariants.{Plain, ToLabel}
 
+-- a line with an instruction as it is, and one with a jump or a branch to a label
+abbrev pub plain : Instruction → Line
+plain i = Plain i
+
+abbrev pub to_label : Instruction → ℕ → Line
+to_label i label = ToLabel (record { instruction = i; label = label })
+
+abbrev pub Lines : Type 0
+Lines = List Line
+
 -- the address of the first word, the lines, and each label with its place, in the order of the labels
 pub record Listing : Type 0 where
   pub base : ℕ
-  pub lines : List Line
+  pub lines : Lines
   pub labels : List (ℕ × ℕ)
 
 abbrev pub empty : ℕ → Listing
@@ -51,7 +61,7 @@ then_words (Ok i) (Err error) = Err error
 then_words (Err error) words = Err error
 
 -- the words of the lines from a place on
-unfoldable pub assembled_from : Listing → ℕ → List Line → Result (List ℕ) AsmError
+unfoldable pub assembled_from : Listing → ℕ → Lines → Result (List ℕ) AsmError
 assembled_from p at [] = Ok []
 assembled_from p at (line ∷ lines) = then_words (instruction_of p at line) (assembled_from p (at + 1) lines)
 

@@ -1,7 +1,6 @@
 ghost use Rattle.std.specs.Prelude.{◌≡◌, ◌<◌, ◌≢◌, ◌↔◌, IsTrue, IsSome, IsErrOf, IfOk, IfErr, OnOk, OnErr, Ok};
 ghost use Rattle.rv_asm.specs.Offset.{takes_label};
-ghost use Rattle.rv_asm.specs.Listing.{empty, with_line, place_of, PlacesLabel, with_offset, instruction_of, assembled, IsRefused};
-ghost use Rattle.rv_asm.specs.declared.line.Line.TheVariants.{Plain, ToLabel};
+ghost use Rattle.rv_asm.specs.Listing.{empty, plain, to_label, with_line, place_of, PlacesLabel, with_offset, instruction_of, assembled, IsRefused};
 
 use crate::encoder::encode;
 use crate::error::AsmError;
@@ -50,7 +49,7 @@ impl Program {
 
     /// Adds an instruction as it is.
     pub fn push(&mut self, instruction: Instr) -> Result<(), AsmError>
-        ensures ok { OnOk result (self.new ≡ with_line self.old (Plain instruction)) }
+        ensures ok { OnOk result (self.new ≡ with_line self.old (plain instruction)) }
         ensures memory { IfErr result (λ error. error ≡ AsmError.Memory) }
         ensures err { OnErr result (self.new ≡ self.old) }
     {
@@ -62,7 +61,7 @@ impl Program {
     /// takes the place of the instruction's immediate. `takes_label` tells which instructions it is for.
     pub fn branch_to(&mut self, instruction: Instr, label: u32) -> Result<(), AsmError>
         requires { IsTrue (takes_label instruction.kind) }
-        ensures ok { OnOk result (self.new ≡ with_line self.old (ToLabel (record { instruction = instruction; label = label }))) }
+        ensures ok { OnOk result (self.new ≡ with_line self.old (to_label instruction label)) }
         ensures memory { IfErr result (λ error. error ≡ AsmError.Memory) }
         ensures err { OnErr result (self.new ≡ self.old) }
     {
