@@ -1,19 +1,19 @@
 -- The RAM of a booted guest, and of a clone.
-use Rattle.std.proofs.Common.{◌≡◌, ℕ, zero, suc, ◌+◌, ◌*◌, ◌/◌, ◌%◌, ◌<◌, Bool, true, false, cond, List, [], ◌∷◌, ◌++◌, length, length-append, map, get_or, take, drop, slice_get, Some, refl, sym, ap, ◌∙◌, subst, arith}
+use Rattle.std.proofs.Common.{◌≡◌, ℕ, zero, suc, ◌+◌, ◌*◌, ◌/◌, ◌%◌, ◌<◌, Bool, true, false, List, [], ◌∷◌, ◌++◌, length, length-append, map, get_or, take, drop, Some, refl, sym, ap, ◌∙◌, subst, arith}
 use Rattle.std.specs.Prelude.{not, if◌then◌else◌}
 use Rattle.std.specs.List.{range_with_len}
 use Rattle.std.specs.Simd.{first_chunks}
 use Rattle.std.proofs.lemmas.List.{length-map, get_or-map, get_or_default, ext_get_or, get_or-take, get_or-drop, map-id, drop-drop}
 use Rattle.std.proofs.lemmas.List.FromFn.{length-map-range_with_len, get_or-map-range_with_len, map-range_with_len_more}
 use Rattle.std.proofs.lemmas.Option.{slice_get-get_or}
-use Rattle.elf_load.specs.Image.{Image, IsZeroOutside}
+use Rattle.elf_load.specs.Image.{IsZeroOutside}
 use Rattle.page_frames.specs.declared.page.TheConstants.{PAGE_SIZE}
 use Rattle.page_frames.specs.declared.entry.Entry.{Entry}
-use Rattle.page_frames.specs.declared.entry.Entry.TheVariants.{Held, Blank}
-use Rattle.page_frames.specs.Tables.{paged, entry_at, entry_bytes, flat_bytes, is_blank, blank_pages}
+use Rattle.page_frames.specs.declared.entry.Entry.TheVariants.{Blank}
+use Rattle.page_frames.specs.Tables.{paged, entry_at, entry_bytes, flat_bytes, is_blank}
 use Rattle.page_frames.proofs.Memory.{get_or-zeros, length-paged, get_or-paged, paged_is, flat_bytes_is, byte_of_page}
 use Rattle.image_depot.specs.Image.{own_table}
-use Rattle.guest_mem.specs.Ram.{Ram, AreZero, is_here, ram_of, at_boot, cleared, cloned}
+use Rattle.guest_mem.specs.Ram.{Ram, IsRam, AreZero, is_here, ram_of, at_boot, cleared, cloned}
 use Rattle.guest_mem.specs.Table.{boot_entry, page_of, boot_table, clone_entry, clone_table}
 use Rattle.guest_mem.proofs.Pages.{same_ram}
 
@@ -141,3 +141,6 @@ cleared_same blank memory size are_zero =
     let there : i / PAGE_SIZE < length blank = omega arith in
     let same : get_or memory (PAGE_SIZE * (i / PAGE_SIZE) + i % PAGE_SIZE) 0 ≡ get_or memory i 0 = ap (λ j. get_or memory j 0) (omega arith) in
     kept_byte (get_or blank (i / PAGE_SIZE) false) _ (λ set. same ∙ are_zero i (slice_get-get_or blank (i / PAGE_SIZE) false there ∙ ap Some set)) ∙ same)
+
+pub cleared_frozen : (ram : Ram) → IsRam ram → cleared ram.blank ram.reads ≡ ram.reads
+cleared_frozen ram valid = cleared_same ram.blank ram.reads (valid.whole_pages ∙ ap (λ n. PAGE_SIZE * n) (sym valid.flagged)) valid.zero

@@ -1,9 +1,9 @@
 -- What loads, stores and runs of blank pages do to the RAM of a page table.
-use Rattle.std.proofs.Common.{◌≡◌, ℕ, zero, suc, ◌+◌, ◌-◌, ◌*◌, ◌/◌, ◌%◌, ◌<◌, ◌≤◌, ◌⊎◌, inl, inr, Bool, true, false, Some, List, [], ◌∷◌, ◌++◌, length, map, get_or, take, drop, replicate, slice_get, refl, sym, ap, ◌∙◌, subst, length-append, arith}
+use Rattle.std.proofs.Common.{◌≡◌, ℕ, zero, suc, ◌+◌, ◌-◌, ◌*◌, ◌/◌, ◌%◌, ◌<◌, ◌≤◌, ◌⊎◌, inl, inr, Bool, true, false, List, [], ◌∷◌, ◌++◌, length, map, get_or, take, drop, replicate, refl, sym, ap, ◌∙◌, subst, length-append, arith}
 use Rattle.std.proofs.Math.ListN.{set}
 use Rattle.std.proofs.Math.Seq.{map-set_same}
-use Rattle.std.proofs.lemmas.Bool.{cases_lt}
-use Rattle.std.proofs.lemmas.List.{length-map, map-set, get_or-map, ext_get_or, get_or_default, get_or-take, get_or-drop, get_or_append_left, get_or-append_right, get_or-replicate, length-replicate, length-take-le, length-take, length-drop, map-append, take-map, drop-map, drop-drop}
+use Rattle.std.proofs.lemmas.Bool.{cases_lt, both_ways}
+use Rattle.std.proofs.lemmas.List.{length-map, map-set, get_or-map, get_or_past, get_or_default, get_or-take, get_or-drop, get_or_append_left, get_or-append_right, get_or-replicate, length-replicate, length-take-le, length-drop, map-append, take-map, drop-map, drop-drop}
 use Rattle.std.proofs.lemmas.Option.{slice_get_within, get_or_from_slice_get}
 use Rattle.byteorder.specs.Endian.{little_from}
 use Rattle.flat_memory.specs.Flat.{put_bytes, zeros}
@@ -33,6 +33,18 @@ AreZero-blank_pages entries at flagged =
     sym (get_or-map is_blank entries (at / PAGE_SIZE) Blank true there) ∙ get_or_from_slice_get (blank_pages entries) (at / PAGE_SIZE) true true flagged in
     get_or-flat_bytes entries at (omega arith) ∙ blank_reads_zero _ _ blank
 
+all_here : (entry : Entry) → is_here entry ≡ true
+all_here (Held page) = refl
+all_here Blank = refl
+
+blank_is_here : (entries : List Entry) (page : ℕ) → get_or (blank_pages entries) page false ≡ true → get_or (map is_here entries) page false ≡ true
+blank_is_here entries page set = elim (cases_lt page (length entries)) [
+  | inl there ↦ get_or-map is_here entries page Blank false there ∙ all_here (entry_at entries page)
+  | inr past ↦
+      let unset = get_or_past (blank_pages entries) page false (omega (arith, length-map entries is_blank)) in
+      absurd (both_ways _ unset set)
+]
+
 pub IsRam-ram_of : (entries : List Entry) → IsTable entries → IsRam (ram_of entries)
 IsRam-ram_of entries table =
     let flags : length (map is_here entries) ≡ length entries = length-map entries is_here in
@@ -41,12 +53,9 @@ IsRam-ram_of entries table =
       flagged = length-map entries is_blank ∙ sym flags;
       least = subst (λ n. MIN_PAGES ≤ n) (sym flags) table.least;
       most = subst (λ n. n ≤ MAX_PAGES) (sym flags) table.most;
+      blank_is_here = blank_is_here entries;
       zero = AreZero-blank_pages entries;
     }
-
-all_here : (entry : Entry) → is_here entry ≡ true
-all_here (Held page) = refl
-all_here Blank = refl
 
 -- ---- loads and stores
 

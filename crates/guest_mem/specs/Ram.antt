@@ -63,6 +63,7 @@ pub record IsRam (ram : Ram) : Type 0 where
   pub flagged : length ram.blank ≡ length ram.here
   pub least : MIN_PAGES ≤ length ram.here
   pub most : length ram.here ≤ MAX_PAGES
+  pub blank_is_here : (page : ℕ) → slice_index_or ram.blank page false ≡ true → slice_index_or ram.here page false ≡ true
   pub zero : AreZero ram.blank ram.reads
 
 -- a table has an entry for each page

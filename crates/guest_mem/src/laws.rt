@@ -1,12 +1,9 @@
 //! Laws of the definitions, each the contract of a function that does nothing.
 
-ghost use Rattle.std.specs.Prelude.{◌≡◌, ◌*◌, List, ℕ, Bool, length};
-ghost use Rattle.guest_mem.specs.Ram.{AreZero, cleared};
+ghost use Rattle.std.specs.Prelude.{◌≡◌};
+ghost use Rattle.guest_mem.specs.Ram.{Ram, IsRam, cloned};
 
-use page_frames::PAGE_SIZE;
-
-/// A clone reads just what its image has, where the pages that are to be blank are zeros there.
-pub fn blank_pages_change_nothing()
-    ensures { (blank : List Bool) (memory : List ℕ) → length memory ≡ PAGE_SIZE * length blank → AreZero blank memory
-        → cleared blank memory ≡ memory }
+/// A clone reads what its parent read when it was frozen: the parent's blank pages were zeros.
+pub fn clone_reads_what_was_frozen()
+    ensures { (ram : Ram) → IsRam ram → (cloned ram.reads ram.blank).reads ≡ ram.reads }
 {}

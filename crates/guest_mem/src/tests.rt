@@ -1,7 +1,7 @@
 //! What no clause says: that calls succeed, that guests really share their pages until they write
 //! them, and that they move between threads.
 
-ghost use Rattle.std.specs.Prelude.{◌≤◌, IfOk};
+ghost use Rattle.std.specs.Prelude.{◌≡◌, ◌≤◌, IfOk};
 ghost use Rattle.image_depot.specs.Key.{IsKeyOf};
 
 use crate::GuestMem;
@@ -23,12 +23,11 @@ use vm_descriptor::{Descriptor, PageMap};
 /// The offset of the second page.
 const SECOND: u32 = PAGE_SIZE as u32;
 
-/// An executable of one segment, from the second page of RAM on.
-fn image_of(alloc: Global, pages: u32, bytes: &[u8]) -> Result<Loaded, ImageError>
+/// An executable of one segment, which fills the second page of RAM.
+fn image_of(alloc: Global, pages: u32, bytes: &[u8; PAGE_SIZE]) -> Result<Loaded, ImageError>
     requires least { MIN_PAGES ≤ pages }
     requires most { pages ≤ MAX_PAGES }
 {
-    let size = bytes.len() as u32;
     let start = RAM_BASE + SECOND;
     let mut image = Vec::from_slice(
         alloc,
@@ -46,8 +45,8 @@ fn image_of(alloc: Global, pages: u32, bytes: &[u8]) -> Result<Loaded, ImageErro
         84,
         start,
         start,
-        size,
-        size,
+        SECOND,
+        SECOND,
         7,
         4,
     ] {
@@ -83,11 +82,13 @@ fn load(memory: &GuestMem, at: u32, width: u32) -> Option<u32> {
     }
 }
 
-/// The descriptor of a clone that has these blank pages.
-fn descriptor_of(blank: PageMap) -> Descriptor {
+/// The descriptor of a clone of so many pages, with these that are blank.
+fn descriptor_of(pages: u32, blank: PageMap) -> Descriptor
+    ensures { result.pages ≡ pages }
+{
     Descriptor {
         image: 0,
-        pages: blank.flags().len() as u32,
+        pages,
         clone_id: 1,
         share: 0,
         pc: RAM_BASE,
@@ -133,8 +134,8 @@ fn frozen<R: Wait>(
 fn clone_of(alloc: Global, key: &ImageKey, blank: PageMap, depot: &Depot) -> Result<GuestMem, Fail>
     requires { IsKeyOf depot.now key.now }
 {
-    let descriptor = descriptor_of(blank);
-    if !descriptor.is_in_range() || descriptor.pages != depot.pages(key) {
+    let descriptor = descriptor_of(depot.pages(key), blank);
+    if !descriptor.is_in_range() {
         return Err("another image".into());
     }
     Ok(GuestMem::clone_of(alloc, key, &descriptor, depot)?)
@@ -210,6 +211,32 @@ fn zeroed_pages_are_blank_until_they_are_stored_to(rt: HostRuntime) -> Result<()
     Ok(())
 }
 
+/// Stores to the first word of the first two pages.
+fn store_two(memory: &mut GuestMem, word: u32) -> Result<(), Fail> {
+    store(memory, 0, 4, word)?;
+    store(memory, SECOND, 4, word)
+}
+
+/// The first word of the first two pages, and the second word of the second.
+fn three_words(memory: &GuestMem) -> [Option<u32>; 3] {
+    [
+        load(memory, 0, 4),
+        load(memory, SECOND, 4),
+        load(memory, SECOND + 4, 4),
+    ]
+}
+
+/// The first word of the first two pages of an image.
+fn two_words(depot: &Depot, key: &ImageKey) -> Option<[u32; 2]>
+    requires { IsKeyOf depot.now key.now }
+{
+    if depot.pages(key) < 2 {
+        return None;
+    }
+    let image = depot.frozen(key);
+    Some([image.word(0, 0), image.word(1, 0)])
+}
+
 #[test]
 fn a_store_after_a_freeze_shows_in_one_guest(rt: HostRuntime) -> Result<(), Fail> {
     let depot = Depot::new(rt.alloc())?;
@@ -217,22 +244,19 @@ fn a_store_after_a_freeze_shows_in_one_guest(rt: HostRuntime) -> Result<(), Fail
     let key = frozen(&rt, rt.alloc(), &parent, &depot)?;
     let mut first = clone_of(rt.alloc(), &key, parent.blank(rt.alloc())?, &depot)?;
     let mut second = clone_of(rt.alloc(), &key, parent.blank(rt.alloc())?, &depot)?;
-    for (guest, word) in [(&mut parent, 1), (&mut first, 2), (&mut second, 3)] {
-        store(guest, SECOND, 4, word)?;
-        store(guest, 0, 4, 16 * word)?;
-    }
-    for (guest, word) in [(&parent, 1), (&first, 2), (&second, 3)] {
-        assert_eq!(rt; load(guest, SECOND, 4), Some(word));
-        assert_eq!(rt; load(guest, 0, 4), Some(16 * word));
-        assert_eq!(rt; load(guest, SECOND + 4, 4), Some(0xaaaa_aaaa));
-    }
-    let image = depot.frozen(&key);
-    if image.pages() == 16 {
-        assert_eq!(rt; (image.word(0, 0), image.word(1, 0)), (0, 0xaaaa_aaaa));
-    }
-    assert_eq!(rt; image.input(), b"in".as_slice());
-    let late = clone_of(rt.alloc(), &key, first.blank(rt.alloc())?, &depot)?;
-    assert_eq!(rt; load(&late, SECOND, 4), Some(0xaaaa_aaaa));
+    store_two(&mut parent, 1)?;
+    store_two(&mut first, 2)?;
+    store_two(&mut second, 3)?;
+    let late = clone_of(rt.alloc(), &key, parent.blank(rt.alloc())?, &depot)?;
+    assert_eq!(rt; three_words(&parent), [Some(1), Some(1), Some(0xaaaa_aaaa)]);
+    assert_eq!(rt; three_words(&first), [Some(2), Some(2), Some(0xaaaa_aaaa)]);
+    assert_eq!(rt; three_words(&second), [Some(3), Some(3), Some(0xaaaa_aaaa)]);
+    assert_eq!(rt;
+        three_words(&late),
+        [Some(0), Some(0xaaaa_aaaa), Some(0xaaaa_aaaa)]
+    );
+    assert_eq!(rt; two_words(&depot, &key), Some([0, 0xaaaa_aaaa]));
+    assert_eq!(rt; depot.frozen(&key).input(), b"in".as_slice());
     Ok(())
 }
 

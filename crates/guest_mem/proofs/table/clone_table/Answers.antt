@@ -1,6 +1,5 @@
-use Rattle.std.proofs.Common.{ℕ, ◌*◌, ◌/◌, ◌<◌, Bool, [], length, map, get_or, false, sym, ap, ◌∙◌, arith, rules}
-use Rattle.std.specs.List.{range_with_len}
-use Rattle.std.proofs.lemmas.Slice.Zip.{zip_turn, zip_end}
+use Rattle.std.proofs.Common.{ℕ, length, get_or, false, ap, ◌∙◌, rules}
+use Rattle.std.proofs.lemmas.Slice.Zip.{zip_turn}
 use Rattle.page_frames.specs.declared.entry.Entry.TheVariants.{Blank}
 use Rattle.page_frames.specs.Tables.{entry_at}
 use Rattle.guest_mem.specs.Table.{clone_entry}

@@ -1,4 +1,4 @@
-use Rattle.std.proofs.Common.{◌≡◌, ◌*◌, List, Bool, ℕ, length, get_or, false, subst, ap, ◌∙◌, arith}
+use Rattle.std.proofs.Common.{◌≡◌, ℕ, length, get_or, false, ap, ◌∙◌, arith}
 use Rattle.guest_mem.specs.Ram.{ram_of}
 use Rattle.guest_mem.specs.Table.{boot_entry, page_of, boot_table}
 use Rattle.guest_mem.proofs.Making.{length_of_table, ram_of_boot}

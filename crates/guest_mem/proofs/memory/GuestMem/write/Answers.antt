@@ -1,4 +1,4 @@
-use Rattle.std.proofs.Common.{◌≡◌, ◌<◌, ◌/◌, length, sym, ap, ◌∙◌, subst, arith}
+use Rattle.std.proofs.Common.{◌<◌, ◌/◌, length, sym, ap, ◌∙◌, subst, arith}
 use Rattle.guest_mem.specs.Ram.{stored, ram_of}
 use Rattle.std.proofs.Math.ListN.{set}
 use Rattle.page_frames.specs.declared.page.TheConstants.{PAGE_SIZE}

@@ -1,4 +1,4 @@
-use Rattle.std.proofs.Common.{◌<◌, length, subst, sym}
+use Rattle.std.proofs.Common.{◌<◌, subst, sym}
 use Rattle.image_depot.proofs.Contents.{page_count-entries, word_of_entry}
 use Rattle.image_depot.proofs.frozen.Frozen.word.Goals as goal
 

@@ -1,0 +1,4 @@
+pub mod Encode
+pub mod Offset
+pub mod Listing
+pub mod Fit
