@@ -1,7 +1,9 @@
 //! What no clause says: the exact reports of the example guests, and the codes at their causes.
 
 use crate::program::{Status, snow};
+use elf_load::RAM_BASE;
 use io_edge::{MemShelf, MemSink};
+use rv_asm::{MAX_WORDS, elf_of};
 use std::alloc::{AllocError, Global};
 use std::test::Fail;
 
@@ -19,6 +21,15 @@ const PRINT_LETTER: [u32; 7] = [
 /// The words of the guest that puts out the first byte of its input.
 const ECHO_BYTE: [u32; 7] = [
     0x100002b7, 0x0002c303, 0x00628023, 0x100022b7, 0x0002a023, 0x00500313, 0x0062a423,
+];
+
+/// The words of the guest that makes two children, where it gets a ticket for them. It joins them and
+/// exits with the value of the first.
+const TWO_CHILDREN: [u32; 25] = [
+    0x100022b7, 0x00200313, 0x0062a023, 0x0002a223, 0x00100313, 0x0062a423, 0x00c2a383, 0x0072a023,
+    0x00200313, 0x0062a423, 0x0102a403, 0x02041463, 0x00300313, 0x0072a023, 0x0062a423, 0x00100313,
+    0x0062ac23, 0x0202a303, 0x0062a023, 0x00500313, 0x0062a423, 0x02840313, 0x0062a023, 0x00500313,
+    0x0062a423,
 ];
 
 /// The words of the guest that copies sector 0 of its disk to sector 1. It reads sector 0 to the buffer,
@@ -56,23 +67,10 @@ const COPY_SECTOR: [u32; 46] = [
     0x100022b7, 0x00c2a023, 0x00500313, 0x0062a423,
 ];
 
-/// An executable of one segment, which goes to the start of RAM and starts there.
+/// An executable of these words.
 fn image_of(alloc: Global, words: &[u32]) -> Result<Vec<u8>, AllocError> {
-    let size = u32::try_from(words.len())
-        .unwrap_or(0)
-        .wrapping_mul(4)
-        .to_le_bytes();
-    let mut image = Vec::new(alloc);
-    image.extend_from_slice(b"\x7fELF\x01\x01\x01\0\0\0\0\0\0\0\0\0\x02\0\xf3\0\x01\0\0\0")?;
-    image.extend_from_slice(b"\0\0\0\x80\x34\0\0\0\0\0\0\0\0\0\0\0\x34\0\x20\0\x01\0\0\0\0\0\0\0")?;
-    image.extend_from_slice(b"\x01\0\0\0\x54\0\0\0\0\0\0\x80\0\0\0\x80")?;
-    image.extend_from_slice(&size)?;
-    image.extend_from_slice(&size)?;
-    image.extend_from_slice(b"\x07\0\0\0\x04\0\0\0")?;
-    for word in words {
-        image.extend_from_slice(&word.to_le_bytes())?;
-    }
-    Ok(image)
+    let (words, _) = words.split_at(words.len().min(MAX_WORDS));
+    elf_of(alloc, RAM_BASE, words)
 }
 
 fn words_of(alloc: Global, words: &[&str]) -> Result<Vec<String>, AllocError> {
@@ -112,8 +110,14 @@ fn report_of(rt: &impl AllocGlobal, guest: &[u32], words: &[&str]) -> Result<Mem
 
 #[test]
 fn reports(rt: HostRuntime) -> Result<(), Fail> {
-    let rows: [(&[u32], &[&str], &[u8]); 10] = [
+    let rows: [(&[u32], &[&str], &[u8]); 11] = [
         (&EXIT_SEVEN, &["run", "guest"], EXIT_SEVEN_REPORT),
+        // No clones are allotted: the ticket is refused, and with it the clone and the join.
+        (
+            &TWO_CHILDREN,
+            &["run", "guest"],
+            b"machine 0 exit 0 steps 21 out 0\n\n",
+        ),
         (
             &PRINT_LETTER,
             &["run", "guest"],

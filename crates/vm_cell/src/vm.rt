@@ -238,50 +238,21 @@ impl Vm {
 #[cfg(test)]
 mod tests {
     use super::*;
-    use elf_load::{ImageError, load_elf};
+    use elf_load::{ImageError, RAM_BASE, load_elf};
+    use rv_asm::elf_of;
     use std::test::Fail;
-
-    // The headers of an image whose one segment, of `size` bytes, goes to the start of RAM.
-    fn headers(size: u32) -> [u32; 21] {
-        [
-            0x464c_457f,
-            0x0001_0101,
-            0,
-            0,
-            0x00f3_0002,
-            1,
-            0x8000_0000,
-            52,
-            0,
-            0,
-            0x0020_0034,
-            1,
-            0,
-            1,
-            84,
-            0x8000_0000,
-            0x8000_0000,
-            size,
-            size,
-            7,
-            4,
-        ]
-    }
 
     // An image of instruction words, loaded into 64 pages.
     fn load(alloc: Global, words: &[u32]) -> Result<Loaded, ImageError>
-        requires { length words.now ≤ 32 }
+        requires { length words.now ≤ 64 }
     {
-        let mut bytes = Vec::new(alloc);
-        for word in headers(4 * words.len() as u32).iter().chain(words) {
-            bytes.extend_from_slice(&word.to_le_bytes())?;
-        }
-        load_elf(alloc, &bytes, 64)
+        let image = elf_of(alloc, RAM_BASE, words)?;
+        load_elf(alloc, &image, 64)
     }
 
     // The machine of an image, with no disk and no input.
     fn booted(alloc: Global, words: &[u32], limit: u64) -> Result<Vm, Fail>
-        requires words { length words.now ≤ 32 }
+        requires words { length words.now ≤ 64 }
         requires limit { (1 ≤ limit) × (limit ≤ 1_000_000_000) }
     {
         let image = load(alloc, words)?;
@@ -366,9 +337,31 @@ mod tests {
         0x0062a423,
     ];
 
+    // Two children that exit with 40 and their number, whom the parent joins, to exit with the value of the
+    // first. It gets no ticket here.
+    const TWO_CHILDREN: [u32; 25] = [
+        0x100022b7, 0x00200313, 0x0062a023, 0x0002a223, 0x00100313, 0x0062a423, 0x00c2a383,
+        0x0072a023, 0x00200313, 0x0062a423, 0x0102a403, 0x02041463, 0x00300313, 0x0072a023,
+        0x0062a423, 0x00100313, 0x0062ac23, 0x0202a303, 0x0062a023, 0x00500313, 0x0062a423,
+        0x02840313, 0x0062a023, 0x00500313, 0x0062a423,
+    ];
+
+    // Stores 17 to page 1, makes that page read as zeros, and exits with its word plus RESULT.
+    const ZEROES_A_PAGE: [u32; 15] = [
+        0x100022b7, 0x800014b7, 0x01100513, 0x00a4a023, 0x00100313, 0x0062a023, 0x0062a223,
+        0x00600313, 0x0062a423, 0x0004a503, 0x00c2a583, 0x00b50533, 0x00a2a023, 0x00500313,
+        0x0062a423,
+    ];
+
+    // Asks that page 64 of 64 read as zeros, and exits with RESULT.
+    const ZEROES_BEYOND_RAM: [u32; 11] = [
+        0x100022b7, 0x04000313, 0x0062a023, 0x00100313, 0x0062a223, 0x00600313, 0x0062a423,
+        0x00c2a383, 0x0072a023, 0x00500313, 0x0062a423,
+    ];
+
     #[test]
     fn runs_programs(rt: HostRuntime) -> Result<(), Fail> {
-        let cases: [(&[u32], u64, Ending, u64, &[u8]); 15] = [
+        let cases: [(&[u32], u64, Ending, u64, &[u8]); 18] = [
             (&EXIT_SEVEN, 1_000_000, Ending::Exit(7), 5, b""),
             (&EXIT_SEVEN, 5, Ending::Exit(7), 5, b""),
             (&EXIT_SEVEN, 4, Ending::Limit, 4, b""),
@@ -399,9 +392,12 @@ mod tests {
             (&TEN_TICKS, 1000, Ending::Exit(10), 207, b""),
             (&TEN_TICKS, 206, Ending::Limit, 206, b""),
             (&TIME_WRITTEN, 100, Ending::Exit(100), 8, b""),
+            (&TWO_CHILDREN, 100, Ending::Exit(0), 21, b""),
+            (&ZEROES_A_PAGE, 100, Ending::Exit(0), 15, b""),
+            (&ZEROES_BEYOND_RAM, 100, Ending::Exit(0xffff_fffc), 11, b""),
         ];
         for (words, limit, ending, steps, output) in cases {
-            assert!(rt; words.len() <= 32 && 1 <= limit && limit <= 1_000_000_000);
+            assert!(rt; words.len() <= 64 && 1 <= limit && limit <= 1_000_000_000);
             let mut vm = booted(rt.alloc(), words, limit)?;
             let ran = vm.run(limit)?;
             assert_eq!(rt; ran.steps, steps, "at {words:?}");
@@ -424,10 +420,10 @@ mod tests {
             (0xc0002073, READ_MCAUSE, 2),
             (0xf1101073, READ_MCAUSE, 2),
             (0xc0002073, READ_MTVAL, 0xc0002073),
-            // SW to 0x10002001 and 0x10002004, and SH to 0x10002001
+            // SW to 0x10002001 and to RESULT, which is only read, and SH to 0x10002001
             (0x0002a0a3, READ_MCAUSE, 6),
-            (0x0002a223, READ_MCAUSE, 7),
-            (0x0002a223, READ_MTVAL, 0x10002004),
+            (0x0002a623, READ_MCAUSE, 7),
+            (0x0002a623, READ_MTVAL, 0x1000200c),
             (0x000290a3, READ_MCAUSE, 6),
             // LW from 0, LH from 1, LW from the fork port's command
             (0x00002003, READ_MCAUSE, 5),
