@@ -1,5 +1,5 @@
 -- A machine that may have no clones and has no ticket is run by its own steps.
-use Rattle.std.proofs.Common.{◌≡◌, ℕ, zero, suc, ◌+◌, ◌-◌, ◌/◌, ◌<◌, ◌≤◌, inl, inr, Bool, true, false, eqb, [], Option, Some, None, IsSome, IsSomeAnd, refl, sym, ap, ◌∙◌, subst, arith}
+use Rattle.std.proofs.Common.{◌≡◌, ℕ, zero, suc, ◌+◌, ◌-◌, ◌/◌, ◌<◌, ◌≤◌, inl, inr, Bool, true, false, eqb, List, [], Option, Some, None, IsSome, IsSomeAnd, refl, sym, ap, ◌∙◌, subst, arith}
 use Rattle.std.proofs.lemmas.Bool.{eqb-false}
 use Rattle.fork_port.specs.declared.commands.Call.{Call}
 use Rattle.fork_port.specs.declared.commands.Call.TheVariants as call
@@ -17,9 +17,11 @@ use Rattle.port_rules.proofs.Stores.{each_store}
 use Rattle.forest_tree.specs.Tree.{node, no_brood, no_entry, each_brood}
 use Rattle.forest_tree.specs.Settle.{alone, log_killed, settled_by, step_by, step_from, step}
 use Rattle.forest_tree.specs.Finish as tree
+use Rattle.elf_load.specs.Image.{Image}
+use Rattle.forest_model.specs.declared.Options.{Options}
 use Rattle.forest_model.specs.Action.{Action, trap, interrupt, retire, exit, ask}
 use Rattle.forest_model.specs.Execute.{action}
-use Rattle.forest_model.specs.Machine.{Machine, IsWithinLimit, next_of, next, advance, after_steps}
+use Rattle.forest_model.specs.Machine.{Machine, IsWithinLimit, next_of, next, advance, after_steps, boot}
 use Rattle.forest_model.specs.Forest.{call_of, port_of, machines, finish, IsChildless}
 use Rattle.forest_model.proofs.ForkPort.{IsKept, Ported, action-ported, port-advance}
 use Rattle.forest_model.proofs.Finish.{advance-ended, after_steps-ended, after_steps-agree, cases-ending, steps-advance, limit-advance, IsWithinLimit-advance}
@@ -133,7 +135,7 @@ run-alone (suc n) m h =
     ∙ run-alone n (advance m) (IsChildless-advance m h)
 
 -- it has ended when its limit is reached
-ended-after_steps : (n : ℕ) (m : Machine) → IsChildless m → IsWithinLimit m → m.limit ≤ m.steps + n → IsSome (after_steps n m).ending
+pub ended-after_steps : (n : ℕ) (m : Machine) → IsChildless m → IsWithinLimit m → m.limit ≤ m.steps + n → IsSome (after_steps n m).ending
 unfolding after_steps
 ended-after_steps zero m h within reached = elim (cases-ending m.ending) [
   | inl ended ↦ subst IsSome (sym ended.1) refl
@@ -156,3 +158,7 @@ pub finish-childless : (n : ℕ) (m : Machine) → IsChildless m → IsWithinLim
 finish-childless n m h within ended =
     finish-alone m h
     ∙ ap (alone machines) (after_steps-agree (m.limit - m.steps) n m (ended-after_steps (m.limit - m.steps) m h within (omega arith)) ended)
+
+pub booted-childless : (image : Image) (disk input : List ℕ) (options : Options) → options.allot ≡ 0 → IsChildless (boot image disk input options)
+unfolding boot
+booted-childless image disk input options none = record { no_allot = none; no_ticket = refl }

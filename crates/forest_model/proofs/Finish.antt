@@ -1,8 +1,8 @@
 -- A machine that is run by its own steps: ended machines stay, steps add up, and none goes past its limit.
-use Rattle.std.proofs.Common.{◌≡◌, ℕ, zero, suc, ◌+◌, ◌-◌, ◌<◌, ◌≤◌, Bool, true, false, eqb, Option, Some, None, IsSome, refl, sym, ap, ◌∙◌, subst, arith, suc-add, zero-add, cond, inl, inr, ◌⊎◌}
+use Rattle.std.proofs.Common.{◌≡◌, ◌≢◌, ℕ, zero, suc, ◌+◌, ◌-◌, ◌<◌, ◌≤◌, Bool, true, false, eqb, Option, Some, None, IsSome, refl, sym, ap, ◌∙◌, subst, arith, suc-add, zero-add, cond, inl, inr, ◌⊎◌}
 use Rattle.std.proofs.lemmas.Bool.Decides.{leb_tells}
 use Rattle.fork_port.specs.declared.ending.Ending.{Ending}
-use Rattle.fork_port.specs.declared.ending.Ending.TheVariants.{Limit}
+use Rattle.fork_port.specs.declared.ending.Ending.TheVariants.{Exit, Limit}
 use Rattle.forest_model.specs.declared.Written.TheVariants.{Nothing}
 use Rattle.rv_traps.specs.declared.csrs.TheConstants.{TIMER_INTERRUPT}
 use Rattle.rv_traps.specs.Trap.{takes_interrupt}
@@ -128,6 +128,25 @@ within-applied (retire written s) m h live = below-made m h live
 within-applied (exit value s) m h live = cc
 within-applied (ask c s) m h live = h
 
+-- EXIT ends a machine, and else its limit does
+exit-applied : (a : Action) (m : Machine) (value : ℕ) (s : State) → a ≡ exit value s → (applied a m).ending ≡ Some (Exit value)
+exit-applied a m value s e = ap (λ k. (applied k m).ending) e
+
+pub exit-advance : (m : Machine) (value : ℕ) (s : State) → m.ending ≡ None → action m.state ≡ exit value s → (advance m).ending ≡ Some (Exit value)
+exit-advance m value s live e = ap (λ (n : Machine). n.ending) (advance-live m live) ∙ exit-applied (action m.state) m value s e
+
+limit-reached : (a : Action) (m : Machine) → call_of (next_of a) ≡ None → ((value : ℕ) (s : State) → a ≢ exit value s)
+    → (applied a m).ending ≡ cond (eqb (m.steps + 1) m.limit) (Some Limit) None
+limit-reached (trap cause value) m own other = refl
+limit-reached interrupt m own other = refl
+limit-reached (retire written s) m own other = refl
+limit-reached (exit value s) m own other = absurd (other value s refl)
+limit-reached (ask c s) m own other = absurd (cc)
+
+pub limit-ends : (m : Machine) → m.ending ≡ None → call_of (next m) ≡ None → ((value : ℕ) (s : State) → action m.state ≢ exit value s)
+    → (advance m).ending ≡ cond (eqb (m.steps + 1) m.limit) (Some Limit) None
+limit-ends m live own other = ap (λ (n : Machine). n.ending) (advance-live m live) ∙ limit-reached (action m.state) m own other
+
 -- a machine has ended, or it lives
 pub cases-ending : (e : Option Ending) → ((ending : Ending) × (e ≡ Some ending)) ⊎ (e ≡ None)
 cases-ending None = inr refl
@@ -138,11 +157,6 @@ IsWithinLimit-advance m h = elim (cases-ending m.ending) [
   | inl ended ↦ subst IsWithinLimit (sym (advance-ended m ended.0 ended.1)) h
   | inr live ↦ subst IsWithinLimit (sym (advance-live m live)) (within-applied (action m.state) m (h live))
 ]
-
-pub IsWithinLimit-after_steps : (n : ℕ) (m : Machine) → IsWithinLimit m → IsWithinLimit (after_steps n m)
-unfolding after_steps
-IsWithinLimit-after_steps zero m h = h
-IsWithinLimit-after_steps (suc n) m h = IsWithinLimit-after_steps n (advance m) (IsWithinLimit-advance m h)
 
 pub IsSome-ended : (e : Option Ending) → IsSome e → (ending : Ending) × (e ≡ Some ending)
 IsSome-ended None h = absurd (cc)

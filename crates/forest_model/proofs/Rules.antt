@@ -1,14 +1,12 @@
 -- The machines keep the rules of a forest.
 use Rattle.std.proofs.Common.{◌≡◌, ℕ, ◌+◌, ◌^◌, ◌<◌, ◌≤◌, ◌&&◌, ◌||◌, not, Bool, true, false, cond, eqb, ltb, ltb-true, lt-ltb, List, Option, Some, None, is_some, refl, sym, ap, ◌∙◌, subst, arith}
 use Rattle.std.proofs.lemmas.Bool.{eqb-false}
-use Rattle.fork_port.specs.declared.commands.Call.{Call}
 use Rattle.fork_port.specs.declared.commands.Call.TheVariants.{Clone, Join, Kill}
 use Rattle.fork_port.specs.declared.ending.Ending.{Ending}
 use Rattle.fork_port.specs.declared.ending.Ending.TheVariants.{Limit}
 use Rattle.fork_port.specs.declared.tickets.Ticket.{Ticket}
 use Rattle.fork_port.specs.Registers.{ForkRegisters, ticket_found, holding, at_start}
 use Rattle.fork_port.specs.Children as fork
-use Rattle.fork_port.specs.Commands.{IsMakeable}
 use Rattle.port_rules.specs.Rules as port
 use Rattle.port_rules.specs.Rules.{cloned_numbers, grant_of, is_accounted, IsPortStep}
 use Rattle.port_rules.proofs.Tickets.{accounted-is, is-accounted, among-cloned, cloned-once, clone-may, cloned-has, clone-affords, port-same, port-clone, port-join, port-kill, child-good, child-holding, child-fits}
@@ -23,10 +21,11 @@ use Rattle.forest_model.specs.State.{State}
 use Rattle.forest_model.specs.Action.{Action, trap, interrupt, retire, exit, ask}
 use Rattle.forest_model.specs.Execute.{action}
 use Rattle.forest_model.specs.Machine.{Machine, next_of, limited, applied, advance, boot}
-use Rattle.forest_model.specs.Calls.{called, fork_of, forked_by, forked, share_of, child_by, child, joined_by, after_join, killed_by, after_kill}
+use Rattle.forest_model.specs.Calls.{called, fork_of, forked, share_of, child_by, child, after_join, after_kill}
 use Rattle.forest_model.specs.Forest.{call_of, port_of, is_good, machines, booted}
 use Rattle.forest_model.proofs.ForkPort.{IsKept, Ported, action-ported, port-applied}
 use Rattle.forest_model.proofs.Finish.{advance-live}
+use Rattle.forest_model.proofs.Calls.{Asks, clone-asks, join-asks, kill-asks, forked-is, child-is, joined-is, killed-is}
 
 both : (a b : Bool) → a && b ≡ true → (a ≡ true) × (b ≡ true)
 both true b h = (refl, h)
@@ -104,42 +103,19 @@ Steps-kept f h = record {
 ported : (m : Machine) → is_good m ≡ true → Ported (Steps (port_of m)) (port_of m) (action m.state)
 ported m good = action-ported (Steps (port_of m)) m.state (Steps-kept (port_of m) (accounted m good))
 
--- a call that is made: the action asks for it, and its ticket is there
-record Asks (m : Machine) (c : Call) : Type 0 where
-  state : State
-  is : action m.state ≡ ask c state
-  same : fork_of state ≡ port_of m
-  makeable : IsMakeable (port_of m) c
-
-asks-by : (m : Machine) (c : Call) (s : State) → is_good m ≡ true → action m.state ≡ ask c s → Asks m c
-asks-by m c s good e =
-    let h = subst (Ported (Steps (port_of m)) (port_of m)) e (ported m good) in
-    record { state = s; is = e; same = h.0; makeable = h.1 }
-
-clone-action : (a : Action) (t : ℕ) → call_of (next_of a) ≡ Some (tree.clone t) → (s : State) × (a ≡ ask (Clone t) s)
-clone-action (ask (Clone u) s) t e = let same : u ≡ t = cc in (s, ap (λ k. ask (Clone k) s) same)
-clone-action _ t e = absurd (cc)
-
-join-action : (a : Action) (t : ℕ) → call_of (next_of a) ≡ Some (tree.join t) → (s : State) × (a ≡ ask (Join t) s)
-join-action (ask (Join u) s) t e = let same : u ≡ t = cc in (s, ap (λ k. ask (Join k) s) same)
-join-action _ t e = absurd (cc)
-
-kill-action : (a : Action) (t : ℕ) → call_of (next_of a) ≡ Some (tree.kill t) → (s : State) × (a ≡ ask (Kill t) s)
-kill-action (ask (Kill u) s) t e = let same : u ≡ t = cc in (s, ap (λ k. ask (Kill k) s) same)
-kill-action _ t e = absurd (cc)
-
+-- the call that its next step is
 module _ (m : Machine) (t : ℕ) where
-  clone-asks : Makes machines m (Some (tree.clone t)) → Asks m (Clone t)
+  makes-clone : Makes machines m (Some (tree.clone t)) → Asks m (Clone t)
   unfolding machines
-  clone-asks makes = let a = clone-action (action m.state) t makes.call in asks-by m (Clone t) a.0 makes.good a.1
+  makes-clone makes = clone-asks m t makes.call
 
-  join-asks : Makes machines m (Some (tree.join t)) → Asks m (Join t)
+  makes-join : Makes machines m (Some (tree.join t)) → Asks m (Join t)
   unfolding machines
-  join-asks makes = let a = join-action (action m.state) t makes.call in asks-by m (Join t) a.0 makes.good a.1
+  makes-join makes = join-asks m t makes.call
 
-  kill-asks : Makes machines m (Some (tree.kill t)) → Asks m (Kill t)
+  makes-kill : Makes machines m (Some (tree.kill t)) → Asks m (Kill t)
   unfolding machines
-  kill-asks makes = let a = kill-action (action m.state) t makes.call in asks-by m (Kill t) a.0 makes.good a.1
+  makes-kill makes = kill-asks m t makes.call
 
 -- the machine's own step
 own-steps : (m : Machine) → Makes machines m None → IsStep machines m (advance m) (is_cloned machines m)
@@ -151,20 +127,6 @@ own-steps m makes =
     (port-applied (Steps (port_of m)) (action m.state) m (ported m makes.good)
     (port-same (port_of m) (port_of m) (accounted m makes.good) refl refl refl refl)))
 
--- the calls
-forked-is : (m : Machine) (t : ℕ) (a : Asks m (Clone t)) → forked m ≡ called a.state (fork.after_clone (fork_of a.state) t) m
-unfolding forked
-forked-is m t a = ap (λ k. forked_by k m) a.is
-
-joined-is : (m : Machine) (t : ℕ) (endings : List Ending) (a : Asks m (Join t))
-    → after_join m endings ≡ called a.state (fork.after_join (fork_of a.state) t endings) m
-unfolding after_join
-joined-is m t endings a = ap (λ k. joined_by k m endings) a.is
-
-killed-is : (m : Machine) (t : ℕ) (a : Asks m (Kill t)) → after_kill m ≡ called a.state (fork.after_kill (fork_of a.state) t) m
-unfolding after_kill
-killed-is m t a = ap (λ k. killed_by k m) a.is
-
 -- a call is counted, and does to the fork port what it says
 called-steps : (m : Machine) (s : State) (f : ForkRegisters) (then : ℕ → Bool → Bool) → is_good m ≡ true → m.ending ≡ None
     → IsPortStep (port_of m) f (λ t. then t (port.is_cloned (ticket_found (port_of m) t)))
@@ -175,7 +137,7 @@ called-steps m s f then good lives steps =
 forked-steps : (m : Machine) (t : ℕ) → Makes machines m (Some (tree.clone t)) → IsStep machines m (forked m) (λ u. eqb t u || is_cloned machines m u)
 unfolding machines
 forked-steps m t makes =
-    let a = clone-asks m t makes in
+    let a = makes-clone m t makes in
     subst (λ n. IsStep machines m n (λ u. eqb t u || is_cloned machines m u)) (sym (forked-is m t a))
     (called-steps m a.state (fork.after_clone (fork_of a.state) t) (λ u b. eqb t u || b) makes.good makes.lives
     (subst (λ f. IsPortStep (port_of m) (fork.after_clone f t) (λ u. eqb t u || port.is_cloned (ticket_found (port_of m) u))) (sym a.same)
@@ -185,7 +147,7 @@ joined-steps : (m : Machine) (t : ℕ) (endings : List Ending) → Makes machine
     → IsStep machines m (after_join m endings) (λ u. not (eqb t u) && is_cloned machines m u)
 unfolding machines
 joined-steps m t endings makes =
-    let a = join-asks m t makes in
+    let a = makes-join m t makes in
     subst (λ n. IsStep machines m n (λ u. not (eqb t u) && is_cloned machines m u)) (sym (joined-is m t endings a))
     (called-steps m a.state (fork.after_join (fork_of a.state) t endings) (λ u b. not (eqb t u) && b) makes.good makes.lives
     (subst (λ f. IsPortStep (port_of m) (fork.after_join f t endings) (λ u. not (eqb t u) && port.is_cloned (ticket_found (port_of m) u))) (sym a.same)
@@ -195,7 +157,7 @@ killed-steps : (m : Machine) (t : ℕ) → Makes machines m (Some (tree.kill t))
     → IsStep machines m (after_kill m) (λ u. not (eqb t u) && is_cloned machines m u)
 unfolding machines
 killed-steps m t makes =
-    let a = kill-asks m t makes in
+    let a = makes-kill m t makes in
     subst (λ n. IsStep machines m n (λ u. not (eqb t u) && is_cloned machines m u)) (sym (killed-is m t a))
     (called-steps m a.state (fork.after_kill (fork_of a.state) t) (λ u b. not (eqb t u) && b) makes.good makes.lives
     (subst (λ f. IsPortStep (port_of m) (fork.after_kill f t) (λ u. not (eqb t u) && port.is_cloned (ticket_found (port_of m) u))) (sym a.same)
@@ -220,16 +182,16 @@ child-of m n t share f is fits under counts k born = record {
 
 children-are : (m : Machine) (t k : ℕ) → Makes machines m (Some (tree.clone t)) → 1 ≤ k → k ≤ (machines.grant m t).children
     → IsChild machines m t (child m k)
-unfolding machines child
+unfolding machines
 children-are m t k makes first last =
-    let a = clone-asks m t makes in
+    let a = makes-clone m t makes in
     let f : ForkRegisters = fork.after_clone (fork_of a.state) t in
     let share : ℕ = share_of (ticket_found (fork_of a.state) t) in
     let is : share ≡ (grant_of (ticket_found (port_of m) t)).share =
     ap (λ g. share_of (ticket_found g t)) a.same ∙ share-grant (ticket_found (port_of m) t) in
     let fits = child-fits (port_of m) t (accounted m makes.good) a.makeable (omega arith) in
     let parent = counted-limited (called a.state f m).state m (below m makes.good makes.lives) in
-    subst (IsChild machines m t) (sym (ap (λ b. child_by b m k) a.is))
+    subst (IsChild machines m t) (sym (child-is m t k a))
     (child-of m (child_by (ask (Clone t) a.state) m k) t share f is (subst (λ n. n < 2 ^ 32) (sym is) fits)
     (below m makes.good makes.lives) (record { steps = parent.steps; limit = parent.limit; live = parent.live }) k refl)
 
@@ -239,15 +201,15 @@ machines-rules = record {
   below_limit = λ m good lives. let under : m.steps < m.limit = below m good lives in omega arith;
   advance = own-steps;
   cloned_once = λ m t good is. cloned-once (port_of m) t (accounted m good) (sym (among m good m (accounted m good) t) ∙ is);
-  clone_affords = λ m t makes. clone-affords (port_of m) t (accounted m makes.good) (clone-asks m t makes).makeable;
-  clone_may = λ m t makes. clone-may (port_of m) t (clone-asks m t makes).makeable;
+  clone_affords = λ m t makes. clone-affords (port_of m) t (accounted m makes.good) (makes-clone m t makes).makeable;
+  clone_may = λ m t makes. clone-may (port_of m) t (makes-clone m t makes).makeable;
   forked = forked-steps;
   child = children-are;
   join_is_cloned = λ m t makes.
-      among m makes.good m (accounted m makes.good) t ∙ cloned-has (port_of m) t (join-asks m t makes).makeable;
+      among m makes.good m (accounted m makes.good) t ∙ cloned-has (port_of m) t (makes-join m t makes).makeable;
   after_join = λ m t endings makes as_many. joined-steps m t endings makes;
   kill_is_cloned = λ m t makes.
-      among m makes.good m (accounted m makes.good) t ∙ cloned-has (port_of m) t (kill-asks m t makes).makeable;
+      among m makes.good m (accounted m makes.good) t ∙ cloned-has (port_of m) t (makes-kill m t makes).makeable;
   after_kill = killed-steps;
 }
 

@@ -1,15 +1,14 @@
 -- The pages that a step touches: they are few and of RAM, and RAM changes nowhere else.
-use Rattle.std.proofs.Common.{◌≡◌, ◌≢◌, ℕ, ◌+◌, ◌-◌, ◌*◌, ◌/◌, ◌%◌, ◌<◌, ◌≤◌, ◌⊎◌, inl, inr, Bool, true, false, eqb, ◌&&◌, List, [], ◌∷◌, length, get_or, not, leb, Option, Some, None, IsSome, refl, sym, ap, ◌∙◌, subst, cond, arith}
+use Rattle.std.proofs.Common.{◌≡◌, ◌≢◌, ℕ, ◌+◌, ◌-◌, ◌*◌, ◌/◌, ◌%◌, ◌<◌, ◌≤◌, ◌⊎◌, inl, inr, Bool, true, false, eqb, ◌&&◌, List, [], ◌∷◌, length, get_or, Option, Some, None, IsSome, refl, sym, ap, ◌∙◌, subst, cond, arith}
 use Rattle.std.specs.Option.{IfSome, IsSomeAnd}
 use Rattle.std.specs.Int.{to_le_bytes, w32}
 use Rattle.std.specs.List.{All, AllPairs, Contains}
 use Rattle.std.proofs.lemmas.Bool.{eqb-true}
-use Rattle.std.proofs.lemmas.List.{length-replicate}
-use Rattle.std.proofs.lemmas.Bool.Decides.{nat_tests, leb_tells}
+use Rattle.std.proofs.lemmas.Bool.Decides.{nat_tests}
 use Rattle.std.proofs.lemmas.List.Elements.{All-nil, All-cons}
 use Rattle.std.proofs.lemmas.List.Kept.{AllPairs-cons}
 use Rattle.elf_load.specs.declared.image.TheConstants.{RAM_BASE, PAGE_SIZE}
-use Rattle.flat_memory.specs.Flat.{put_bytes, zeros}
+use Rattle.flat_memory.specs.Flat.{put_bytes}
 use Rattle.flat_memory.proofs.Bytes.{get_or-put_bytes_outside}
 use Rattle.rv_decode.specs.Instruction.{Instruction}
 use Rattle.rv_decode.specs.Table.{decoded}
@@ -36,6 +35,7 @@ use Rattle.forest_model.specs.Execute.{action, action_by, execute_group, execute
 use Rattle.forest_model.specs.Machine.{Machine, advance, advance_from, applied}
 use Rattle.forest_model.specs.Touch.{page_of, access_page, data_page, code_and_data, touch_decoded, touch_fetch, touch_step, touch_from, touch, IsZeroedBy, IsZeroedByStore, IsZeroed}
 use Rattle.forest_model.proofs.Finish.{IsSome-ended}
+use Rattle.forest_model.proofs.Zero.{zeroed-leaves}
 
 -- the pages listed begin in RAM, are at most two, and differ
 pub record IsPages (ram : List ℕ) (listed : List ℕ) : Type 0 where
@@ -179,30 +179,10 @@ Leaves-put_bytes at address bytes s e widths aligned other =
     get_or-put_bytes_outside s.ram bytes (address - RAM_BASE) at (grind (arith, nat_tests))
     (outside (length bytes) at address widths aligned (grind (arith, nat_tests)) other)
 
-length-zeros : (n : ℕ) → length (zeros n) ≡ n
-unfolding zeros
-length-zeros n = length-replicate n 0
-
--- pages that read as zeros leave each byte of another page
-outside_pages : (first count at : ℕ) → ((first ≤ at / PAGE_SIZE) × (at / PAGE_SIZE < first + count) → ⊥)
-    → (at < PAGE_SIZE * first) ⊎ (PAGE_SIZE * first + PAGE_SIZE * count ≤ at)
-outside_pages first count at other = elim (leb_tells first (at / PAGE_SIZE)) [
-  | inl from ↦ elim (leb_tells (first + count) (at / PAGE_SIZE)) [
-    | inl past ↦ inr (let after : first + count ≤ at / PAGE_SIZE = past.1 in omega arith)
-    | inr within ↦ absurd (other (from.1, within.1))
-  ]
-  | inr before ↦ inl (let below : at / PAGE_SIZE < first = before.1 in omega arith)
-]
-
-pages-within : (first count size : ℕ) → not (eqb count 0) && leb (first + count) (size / PAGE_SIZE) ≡ true → PAGE_SIZE * first ≤ size
-pages-within first count size h = grind (arith, nat_tests)
-
 Leaves-zeroed : (at : ℕ) (in_range : Bool) (first count : ℕ) (s : State) → is_page_range first count s.ram ≡ in_range
     → (IsZeroedBy (Zero first count) (at / PAGE_SIZE) → ⊥) → get_or (zeroed in_range first count s).ram at 0 ≡ get_or s.ram at 0
 Leaves-zeroed at false first count s e other = refl
-Leaves-zeroed at true first count s e other =
-    get_or-put_bytes_outside s.ram (zeros (PAGE_SIZE * count)) (PAGE_SIZE * first) at (pages-within first count (length s.ram) e)
-    (rw (length-zeros (PAGE_SIZE * count)) (outside_pages first count at other))
+Leaves-zeroed at true first count s e other = zeroed-leaves s first count at e other
 
 Leaves-effect_action : (at : ℕ) (effect : Effect) (new s : State) → new.ram ≡ s.ram → (IsZeroedBy effect (at / PAGE_SIZE) → ⊥)
     → Leaves at s (effect_action effect new)

@@ -50,6 +50,17 @@ child_by _ m k = m
 unfoldable pub child : Machine → ℕ → Machine
 child m k = child_by (action m.state) m k
 
+-- a child with its parent's output and fork port
+abbrev pub as_in_parent : Machine → Machine → Machine
+as_in_parent child parent = record child {
+  state = record child.state {
+    ports = record child.state.ports {
+      fork = fork_of parent.state;
+      console = record child.state.ports.console { output = parent.state.ports.console.output };
+    };
+  };
+}
+
 -- after JOIN, by the endings of the ticket's children in order
 abbrev pub joined_by : Action → Machine → List Ending → Machine
 joined_by (ask (Join t) s) m endings = called s (fork.after_join (fork_of s) t endings) m

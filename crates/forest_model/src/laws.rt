@@ -1,12 +1,17 @@
 //! Laws of the definitions, each the contract of a function that does nothing.
 
-ghost use Rattle.std.specs.Prelude.{◌≡◌, ◌≢◌, ℕ, true, false, ◌+◌, ◌*◌, ◌/◌, ◌^◌, ◌<◌, ◌≤◌, List, [], length, slice_index, Some, None, IsSome, All, AllPairs, Contains};
+ghost use Rattle.std.specs.Prelude.{◌≡◌, ◌≢◌, ◌==◌, if◌then◌else◌, ℕ, Bool, true, false, ◌+◌, ◌*◌, ◌/◌, ◌^◌, ◌<◌, ◌≤◌, List, [], length, slice_index, Some, None, IsSome, All, AllPairs, Contains};
 ghost use Rattle.rv_traps.specs.Trap.{takes_interrupt};
-ghost use Rattle.forest_model.specs.State.{is_timer_due};
-ghost use Rattle.forest_model.specs.Machine.{Machine, IsWithinLimit, exception, timer_interrupt, next, limited, count, trapped, advance, after_steps};
-ghost use Rattle.forest_model.specs.Calls.{forked, after_join, after_kill};
+ghost use Rattle.forest_model.specs.State.{State, is_timer_due};
+ghost use Rattle.forest_model.specs.Action.{exit};
+ghost use Rattle.forest_model.specs.Memory.{is_page_range, zeroed};
+ghost use Rattle.forest_model.specs.Execute.{action};
+ghost use Rattle.fork_port.specs.Registers.{ticket_found, refused};
+ghost use Rattle.fork_port.specs.Children as fork;
+ghost use Rattle.forest_model.specs.Machine.{Machine, IsWithinLimit, exception, timer_interrupt, next, limited, count, trapped, advance, after_steps, boot};
+ghost use Rattle.forest_model.specs.Calls.{as_in_parent, child, fork_of, forked, after_join, after_kill, share_of};
 ghost use Rattle.forest_model.specs.Forest.{IsChildless, booted, call_of, finish, machines, port_of};
-ghost use Rattle.forest_tree.specs.Operations.{IsMachine};
+ghost use Rattle.forest_tree.specs.Operations.{clone, join, kill, IsMachine};
 ghost use Rattle.forest_tree.specs.Settle.{alone};
 ghost use Rattle.forest_tree.specs.Sound.{IsSound};
 ghost use Rattle.elf_load.specs.Image.{Image};
@@ -14,6 +19,7 @@ ghost use Rattle.forest_model.specs.Touch.{IsZeroed, touch};
 
 use crate::{Ending, Options, Written};
 use elf_load::PAGE_SIZE;
+use fork_port::refusals::BAD_ARGUMENT;
 use rv_traps::TIMER_INTERRUPT;
 
 /// A step of a live machine is counted, unless it is a call, and none moves the limit. A machine that has
@@ -24,6 +30,15 @@ pub fn advance_counts()
     ensures within { (m : Machine) → IsWithinLimit m → IsWithinLimit (advance m) }
     ensures ended { (m : Machine) → IsSome m.ending → advance m ≡ m }
     ensures waits { (m : Machine) → IsSome (call_of (next m)) → advance m ≡ m }
+{}
+
+/// EXIT ends a live machine with its value, also in the last step that the limit leaves. A step that is
+/// neither EXIT nor a call ends it exactly where it is the last.
+pub fn machines_end()
+    ensures exit { (m : Machine) (value : ℕ) (s : State) → m.ending ≡ None → action m.state ≡ exit value s
+        → (advance m).ending ≡ Some (Ending.Exit value) }
+    ensures limit { (m : Machine) → m.ending ≡ None → call_of (next m) ≡ None → ((value : ℕ) (s : State) → action m.state ≢ exit value s)
+        → (advance m).ending ≡ (if m.steps + 1 == m.limit then Some Ending.Limit else None) }
 {}
 
 /// A step of a live machine that is an exception is counted and goes to the handler, and changes
@@ -40,6 +55,38 @@ pub fn interrupt_comes_first()
     ensures touches_nothing { (m : Machine) → takes_interrupt m.state.csrs (is_timer_due m.state) ≡ true → touch m ≡ [] }
     ensures traps { (m : Machine) → m.ending ≡ None → takes_interrupt m.state.csrs (is_timer_due m.state) ≡ true
         → advance m ≡ limited (count false Written.Nothing (trapped TIMER_INTERRUPT 0 m.state)) m }
+{}
+
+/// ZERO makes a range of whole pages of RAM read as zeros, and changes no other byte. RESULT tells where the
+/// range is none.
+pub fn zero_clears_pages()
+    ensures cleared { (s : State) (first count at : ℕ) → is_page_range first count s.ram ≡ true
+        → first ≤ at / PAGE_SIZE → at / PAGE_SIZE < first + count → slice_index (zeroed true first count s).ram at ≡ 0 }
+    ensures others { (s : State) (first count at : ℕ) → is_page_range first count s.ram ≡ true
+        → ¬ ((first ≤ at / PAGE_SIZE) × (at / PAGE_SIZE < first + count)) → slice_index (zeroed true first count s).ram at ≡ slice_index s.ram at }
+    ensures size { (s : State) (first count : ℕ) → is_page_range first count s.ram ≡ true → length (zeroed true first count s).ram ≡ length s.ram }
+    ensures tells { (s : State) (first count : ℕ) (in_range : Bool)
+        → fork_of (zeroed in_range first count s) ≡ refused (fork_of s) (if in_range then 0 else BAD_ARGUMENT) }
+{}
+
+/// A call does to the fork port of its machine what it says. After JOIN the children's endings are told in
+/// order.
+pub fn calls_change_the_port()
+    ensures clone { (m : Machine) (t : ℕ) → call_of (next m) ≡ Some (clone t) → port_of (forked m) ≡ fork.after_clone (port_of m) t }
+    ensures join { (m : Machine) (t : ℕ) (endings : List Ending) → call_of (next m) ≡ Some (join t)
+        → port_of (after_join m endings) ≡ fork.after_join (port_of m) t endings }
+    ensures values { (m : Machine) (t : ℕ) (endings : List Ending) → call_of (next m) ≡ Some (join t)
+        → (port_of (after_join m endings)).joined ≡ endings }
+    ensures kill { (m : Machine) (t : ℕ) → call_of (next m) ≡ Some (kill t) → port_of (after_kill m) ≡ fork.after_kill (port_of m) t }
+{}
+
+/// A child is its parent after the clone, but for its fork port and its output: it has no output yet, and
+/// the registers that child k of a ticket with this share starts with.
+pub fn children_are_their_parent()
+    ensures as_parent { (m : Machine) (k : ℕ) → as_in_parent (child m k) (forked m) ≡ forked m }
+    ensures no_output { (m : Machine) (t k : ℕ) → call_of (next m) ≡ Some (clone t) → (child m k).state.ports.console.output ≡ [] }
+    ensures own_port { (m : Machine) (t k : ℕ) → call_of (next m) ≡ Some (clone t)
+        → port_of (child m k) ≡ fork.child_registers (port_of (forked m)) k (share_of (ticket_found (port_of m) t)) }
 {}
 
 /// The numbers of tickets are given in turn: a step of a machine gives one at most, and a call none.
@@ -63,8 +110,10 @@ pub fn machines_keep_the_rules()
 pub fn childless_machines_run_alone()
     ensures no_call { (m : Machine) → IsChildless m → call_of (next m) ≡ None }
     ensures stays { (n : ℕ) (m : Machine) → IsChildless m → IsChildless (after_steps n m) }
+    ensures ends { (n : ℕ) (m : Machine) → IsChildless m → IsWithinLimit m → m.limit ≤ m.steps + n → IsSome (after_steps n m).ending }
     ensures finish { (n : ℕ) (m : Machine) → IsChildless m → IsWithinLimit m → IsSome (after_steps n m).ending
         → finish (alone machines m) ≡ alone machines (after_steps n m) }
+    ensures boots { (image : Image) (disk input : List ℕ) (options : Options) → options.allot ≡ 0 → IsChildless (boot image disk input options) }
 {}
 
 /// Two runs of one machine are equal. A run is one run however it is cut into pieces, and two that have

@@ -7,7 +7,6 @@ pub mod laws;
 pub mod port_map;
 
 pub use fork_port::Ending;
-
 use rv_traps::Wrote;
 
 /// What of the counters a step wrote itself. It does not count the step.
