@@ -48,7 +48,6 @@ none-granted f h =
 IsBare-after_ticket : (f : ForkRegisters) → IsBare f → IsBare (after_ticket f)
 unfolding after_ticket
 IsBare-after_ticket f h =
-    let answered : IsBare f = h in
     unless IsBare (eqb f.first_argument 0) _ _ (record { no_allot = h.no_allot; no_ticket = h.no_ticket })
     (λ _. unless IsBare (eqb (children_granted f) 0) _ _ (record { no_allot = h.no_allot; no_ticket = h.no_ticket })
     (λ some. absurd (eqb-false (children_granted f) 0 some (none-granted f h))))

@@ -14,7 +14,7 @@ use Rattle.port_rules.proofs.Stores.{port-stored}
 use Rattle.forest_tree.specs.Operations as tree
 use Rattle.forest_tree.specs.Operations.{is_among, is_cloned, Makes, IsStep, IsChild, IsMachine}
 use Rattle.forest_tree.specs.Sound.{IsSound}
-use Rattle.forest_tree.proofs.Settle.{start-sound}
+use Rattle.forest_tree.proofs.Settle.{both-true, start-sound}
 use Rattle.elf_load.specs.Image.{Image}
 use Rattle.forest_model.specs.declared.Options.{Options}
 use Rattle.forest_model.specs.State.{State}
@@ -27,10 +27,7 @@ use Rattle.forest_model.proofs.ForkPort.{IsKept, Ported, action-ported, port-app
 use Rattle.forest_model.proofs.Finish.{advance-live}
 use Rattle.forest_model.proofs.Calls.{Asks, clone-asks, join-asks, kill-asks, forked-is, child-is, joined-is, killed-is}
 
-both : (a b : Bool) → a && b ≡ true → (a ≡ true) × (b ≡ true)
-both true b h = (refl, h)
-both false b h = absurd (cc)
-
+-- tests that are both true
 and : (a b : Bool) → a ≡ true → b ≡ true → a && b ≡ true
 and true b e h = h
 and false b e h = absurd (cc)
@@ -41,10 +38,10 @@ is-below None steps limit h lives = ltb-true steps limit h
 is-below (Some e) steps limit h lives = absurd (cc)
 
 accounted : (m : Machine) → is_good m ≡ true → is_accounted (port_of m) ≡ true
-accounted m good = (both (is_accounted (port_of m)) (is_some m.ending || ltb m.steps m.limit) good).0
+accounted m good = (both-true (is_accounted (port_of m)) (is_some m.ending || ltb m.steps m.limit) good).0
 
 below : (m : Machine) → is_good m ≡ true → m.ending ≡ None → m.steps < m.limit
-below m good lives = is-below m.ending m.steps m.limit (both (is_accounted (port_of m)) (is_some m.ending || ltb m.steps m.limit) good).1 lives
+below m good lives = is-below m.ending m.steps m.limit (both-true (is_accounted (port_of m)) (is_some m.ending || ltb m.steps m.limit) good).1 lives
 
 -- n has counted one step more than m, and lives below its limit
 record IsCounted (m n : Machine) : Type 0 where

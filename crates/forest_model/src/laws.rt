@@ -1,20 +1,20 @@
 //! Laws of the definitions, each the contract of a function that does nothing.
 
 ghost use Rattle.std.specs.Prelude.{◌≡◌, ◌≢◌, ◌==◌, if◌then◌else◌, ℕ, Bool, true, false, ◌+◌, ◌*◌, ◌/◌, ◌^◌, ◌<◌, ◌≤◌, List, [], length, slice_index, Some, None, IsSome, All, AllPairs, Contains};
+ghost use Rattle.elf_load.specs.Image.{Image};
 ghost use Rattle.rv_traps.specs.Trap.{takes_interrupt};
+ghost use Rattle.fork_port.specs.Registers.{ticket_found, refused};
+ghost use Rattle.fork_port.specs.Children as fork;
+ghost use Rattle.forest_tree.specs.Operations.{clone, join, kill, IsMachine};
+ghost use Rattle.forest_tree.specs.Settle.{alone};
+ghost use Rattle.forest_tree.specs.Sound.{IsSound};
 ghost use Rattle.forest_model.specs.State.{State, is_timer_due};
 ghost use Rattle.forest_model.specs.Action.{exit};
 ghost use Rattle.forest_model.specs.Memory.{is_page_range, zeroed};
 ghost use Rattle.forest_model.specs.Execute.{action};
-ghost use Rattle.fork_port.specs.Registers.{ticket_found, refused};
-ghost use Rattle.fork_port.specs.Children as fork;
 ghost use Rattle.forest_model.specs.Machine.{Machine, IsWithinLimit, exception, timer_interrupt, next, limited, count, trapped, advance, after_steps, boot};
 ghost use Rattle.forest_model.specs.Calls.{as_in_parent, child, fork_of, forked, after_join, after_kill, share_of};
 ghost use Rattle.forest_model.specs.Forest.{IsChildless, booted, call_of, finish, machines, port_of};
-ghost use Rattle.forest_tree.specs.Operations.{clone, join, kill, IsMachine};
-ghost use Rattle.forest_tree.specs.Settle.{alone};
-ghost use Rattle.forest_tree.specs.Sound.{IsSound};
-ghost use Rattle.elf_load.specs.Image.{Image};
 ghost use Rattle.forest_model.specs.Touch.{IsZeroed, touch};
 
 use crate::{Ending, Options, Written};
@@ -98,7 +98,7 @@ pub fn tickets_rise()
 {}
 
 /// The machines keep the rules of a forest: the laws of its trees hold of them. A machine that is booted
-/// is a sound tree alone.
+/// is a sound tree alone. (Every allot that the type has is below 2 ^ 32.)
 pub fn machines_keep_the_rules()
     ensures rules { IsMachine machines }
     ensures booted { (image : Image) (disk input : List ℕ) (options : Options) → 0 < options.limit → options.allot < 2 ^ 32
