@@ -159,7 +159,7 @@ booted-finished m new steps why image disk input options none some booted run st
     let later : IsChildless new = subst IsChildless (sym run) (IsChildless-after_steps steps m childless) in
     let ended : IsSome new.ending = ended-by new why later (enough (booted-enough m image disk input options booted)) stands in
     let alone_there = finish-childless steps m childless (booted-within m image disk input options some booted)
-        (subst (λ (k : Machine). IsSome k.ending) run ended) in
+    (subst (λ (k : Machine). IsSome k.ending) run ended) in
     (run ∙ sym (ap machine alone_there) ∙ ap (λ (k : Machine). machine (finish (alone machines k))) booted, ended)
 
 pub report-ended : (m : Machine) (ending : Ending) → m.ending ≡ Some ending → report m ≡ report_of (ended_root ending m)

@@ -1,5 +1,5 @@
 -- How the answers of a machine's calls tell where it stands.
-use Rattle.std.specs.Prelude.{◌≡◌, ℕ, ◌+◌, ◌<◌, ◌≤◌, Option, Some, None, IsSome}
+use Rattle.std.specs.Prelude.{◌≡◌, ℕ, ◌+◌, ◌<◌, ◌≤◌, Option, Some, None}
 use Rattle.fork_port.specs.declared.commands.Call.{Call as Asked}
 use Rattle.fork_port.specs.declared.ending.Ending.{Ending}
 use Rattle.forest_model.specs.Machine.{Machine, call, next, advance}

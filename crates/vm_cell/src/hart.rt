@@ -11,12 +11,12 @@ ghost use Rattle.vm_cell.specs.Shown.{peeked, shown_registers};
 
 use cow_disk::Disk;
 use elf_load::{Loaded, RAM_BASE};
-use fork_port::Call;
-use fork_port::refusals::TICKETS_END;
 use forest_model::Written;
 use forest_model::cause::{
     BREAKPOINT, ENVIRONMENT_CALL, ILLEGAL_INSTRUCTION, INSTRUCTION_ACCESS_FAULT,
 };
+use fork_port::Call;
+use fork_port::refusals::TICKETS_END;
 use guest_mem::GuestMem;
 use rv_decode::{Group, Instr, decode};
 use rv_traps::{Csrs, Wrote};

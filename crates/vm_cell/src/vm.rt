@@ -1,6 +1,6 @@
-ghost use Rattle.std.specs.Prelude.{◌≡◌, ◌≢◌, ◌+◌, ◌-◌, ◌≤◌, ◌<◌, length, None, IfOk, OnErr};
+ghost use Rattle.std.specs.Prelude.{◌≡◌, ◌≢◌, ◌+◌, ◌-◌, ◌≤◌, ◌<◌, ◌==◌, if◌then◌else◌, length, None, Some, IfOk, OnErr};
 ghost use Rattle.console_port.specs.declared.port.TheConstants.{MAX_INPUT};
-ghost use Rattle.forest_model.specs.Machine.{IsWithinLimit, limited, advance, after_steps, boot};
+ghost use Rattle.forest_model.specs.Machine.{IsWithinLimit, after_steps, boot};
 ghost use Rattle.vm_cell.specs.Acts.{Grows};
 ghost use Rattle.vm_cell.specs.Shown.{peeked, shown_registers};
 ghost use Rattle.fork_port.specs.declared.commands.Call.{Call as Asked};
@@ -9,8 +9,8 @@ ghost use Rattle.vm_cell.specs.Steps.{GoesOn, Stands, Steps};
 use crate::hart::{Acted, Hart};
 use cow_disk::Disk;
 use elf_load::Loaded;
-use fork_port::Call;
 use forest_model::{Ending, Options, Written};
+use fork_port::Call;
 use rv_traps::TIMER_INTERRUPT;
 use std::alloc::{AllocError, Global};
 use std::marker::Model;
@@ -127,6 +127,7 @@ impl Vm {
 
     /// Makes one step, if the machine lives and the step is no call.
     #[inline]
+    #[tactic(auto, unfolding(forest_model::specs::Machine::advance))]
     pub fn step(&mut self) -> Result<Stepped, AllocError>
         ensures steps { IfOk result (λ stepped. Steps self.old self.new stepped) }
         ensures err { OnErr result (self.new ≡ self.old) }
@@ -187,16 +188,16 @@ impl Vm {
             Acted::Trapped { cause, value } => {
                 self.hart.take_trap(cause, value);
                 self.hart.count(false, Written::Nothing);
-                self.count_step();
+                count_step(&mut self.steps, self.limit, &mut self.ending);
             }
             Acted::Interrupted => {
                 self.hart.take_trap(TIMER_INTERRUPT, 0);
                 self.hart.count(false, Written::Nothing);
-                self.count_step();
+                count_step(&mut self.steps, self.limit, &mut self.ending);
             }
             Acted::Retired(written) => {
                 self.hart.count(true, written);
-                self.count_step();
+                count_step(&mut self.steps, self.limit, &mut self.ending);
             }
             Acted::Exited(value) => {
                 self.hart.count(true, Written::Nothing);
@@ -206,18 +207,6 @@ impl Vm {
             Acted::Asked(call) => return Ok(Some(call)),
         }
         Ok(None)
-    }
-
-    /// Counts a step of a machine that lives, which ends it where it reaches the limit.
-    #[inline]
-    fn count_step(&mut self)
-        requires { self.old.ending ≡ None }
-        ensures { self.new ≡ limited self.old.state self.old }
-    {
-        self.steps += 1;
-        if self.steps == self.limit {
-            self.ending = Some(Ending::Limit);
-        }
     }
 
     /// Where the machine stands.
@@ -232,6 +221,19 @@ impl Vm {
             None => Stepped::Went,
             Some(ending) => Stepped::Ended(ending),
         }
+    }
+}
+
+/// Counts a step of a machine that lives, which ends it where it reaches the limit.
+#[inline]
+fn count_step(steps: &mut u64, limit: u64, ending: &mut Option<Ending>)
+    requires { steps.old < limit }
+    ensures counted { steps.new ≡ steps.old + 1 }
+    ensures ends { ending.new ≡ (if steps.old + 1 == limit then Some Ending.Limit else ending.old) }
+{
+    *steps += 1;
+    if *steps == limit {
+        *ending = Some(Ending::Limit);
     }
 }
 

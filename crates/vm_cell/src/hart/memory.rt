@@ -65,7 +65,7 @@ impl Hart {
     }
 
     /// Loads the `width` bytes from a port.
-    #[tactic(auto, unfolding(forest_model::specs::Ports::port_load, vm_bus::specs::Bus::bus_load, timer_port::specs::Timer::timer_load))]
+    #[tactic(auto, using(crate::proofs::PortChoice::same_load))]
     fn load_from_port(&mut self, instr: Instr, address: u32, width: u32) -> Acted
         requires group { group_of instr.kind ≡ group.Load }
         ensures { Acts self.old self.new (read_action (port_load self.old.ports address width) instr address self.old) (Ok result) }
@@ -116,7 +116,7 @@ impl Hart {
     }
 
     /// Stores the low `width` bytes of `word` to a port.
-    #[tactic(auto, unfolding(forest_model::specs::Ports::port_store, vm_bus::specs::Bus::bus_store, timer_port::specs::Timer::timer_store))]
+    #[tactic(auto, using(crate::proofs::PortChoice::same_store))]
     fn store_to_port(&mut self, address: u32, width: u32, word: u32) -> Result<Acted, AllocError>
         requires { self.old.ports.fork.next_ticket < TICKETS_END }
         ensures acts { Acts self.old self.new (port_action (port_store self.old.ports address width word) address self.old) result }
