@@ -8,9 +8,10 @@ use crate::GuestMem;
 use block_port::{BlockFields, Status};
 use console_port::ConsoleFields;
 use cow_disk::Disk;
-use elf_load::{ImageError, Loaded, MAX_PAGES, MIN_PAGES, RAM_BASE, load_elf};
+use elf_load::{ImageError, MAX_PAGES, MIN_PAGES, RAM_BASE, load_elf};
 use image_depot::{Depot, ImageKey};
 use page_frames::PAGE_SIZE;
+use rv_asm::elf_of;
 use rv_traps::Csrs;
 use std::alloc::{AllocError, Global};
 use std::rt::Files;
@@ -23,46 +24,13 @@ use vm_descriptor::{Descriptor, PageMap};
 /// The offset of the second page.
 const SECOND: u32 = PAGE_SIZE as u32;
 
-/// An executable of one segment, which fills the second page of RAM.
-fn image_of(alloc: Global, pages: u32, bytes: &[u8; PAGE_SIZE]) -> Result<Loaded, ImageError>
-    requires least { MIN_PAGES ≤ pages }
-    requires most { pages ≤ MAX_PAGES }
-{
-    let start = RAM_BASE + SECOND;
-    let mut image = Vec::from_slice(
-        alloc,
-        b"\x7fELF\x01\x01\x01\0\0\0\0\0\0\0\0\0\x02\0\xf3\0\x01\0\0\0",
-    )?;
-    for word in [
-        start,
-        52,
-        0,
-        0,
-        0x0020_0034,
-        1,
-        0,
-        1,
-        84,
-        start,
-        start,
-        SECOND,
-        SECOND,
-        7,
-        4,
-    ] {
-        image.extend_from_slice(&word.to_le_bytes())?;
-    }
-    image.extend_from_slice(bytes)?;
-    load_elf(alloc, &image, pages)
-}
-
 /// The RAM of so many pages, with the byte 0xaa all over the second.
 fn booted(alloc: Global, pages: u32) -> Result<GuestMem, ImageError>
     requires least { MIN_PAGES ≤ pages }
     requires most { pages ≤ MAX_PAGES }
 {
-    let image = image_of(alloc, pages, &[0xaa; PAGE_SIZE])?;
-    Ok(GuestMem::booted(alloc, &image)?)
+    let image = elf_of(alloc, RAM_BASE + SECOND, &[0xaaaa_aaaa; PAGE_SIZE / 4])?;
+    Ok(GuestMem::booted(alloc, &load_elf(alloc, &image, pages)?)?)
 }
 
 /// Stores the low bytes of a word.
