@@ -1,0 +1,5 @@
+pub mod Places
+pub mod World
+pub mod Rows
+pub mod Weight
+pub mod Children
