@@ -91,7 +91,7 @@ module _ {M E : Type 0} (o : Operations M E) where
 
   pub record Spends (how : How) (k : ℕ) (t : Tree (Spot M)) : Type 0 where
     pub ran : RanOut k t
-    pub how : may_spend how (advanced o k (machine t).machine) (waits (spots o) (steps (spots o) k t)) ≡ true
+    pub may : may_spend how (advanced o k (machine t).machine) (waits (spots o) (steps (spots o) k t)) ≡ true
 
   -- it is to fork, or to join children that have all ended
   pub record Keeps (k : ℕ) (t : Tree (Spot M)) : Type 0 where

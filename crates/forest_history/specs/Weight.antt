@@ -1,31 +1,39 @@
 -- How much is ahead of a world whose machines run one after another.
-use Rattle.std.specs.Prelude.{ℕ, suc, ◌+◌, ◌*◌, if◌then◌else◌}
+use Rattle.std.specs.Prelude.{ℕ, zero, suc, ◌+◌, ◌*◌, Option, Some, None}
 use Rattle.forest_tree.specs.Operations.{Operations}
-use Rattle.forest_tree.specs.Tree.{Tree, node, Trees, no_tree, tree, Broods, no_brood, brood, machine}
-use Rattle.forest_tree.specs.Ahead.{ahead}
-use Rattle.forest_history.specs.Places.{Place, asleep, home, out, parked, Spot, bare}
+use Rattle.forest_tree.specs.Tree.{Tree, node, Trees, no_tree, tree, Broods, no_brood, brood}
+use Rattle.forest_history.specs.Places.{Place, asleep, home, out, parked, Spot, spots}
 
--- a machine that came to wait counts nothing
+-- the most of a machine with so many steps left, and of all its descendants, where it holds so much: a
+-- step is worth more than to be at home, and a clone more than its children and their places
+unfoldable pub most_weight : ℕ → ℕ → ℕ
+most_weight zero held = 0
+most_weight (suc left) held = 1 + (1 + held) * (1 + most_weight left held)
+
+-- a machine that came to wait counts nothing for its place
 abbrev pub place_weight : Place → ℕ
 place_weight asleep = 1
 place_weight home = 1
 place_weight out = 1
 place_weight parked = 0
 
--- how many machines of the tree did not come to wait
-unfoldable mutual
-  pub not_parked : {M : Type 0} → Tree (Spot M) → ℕ
-  not_parked (node s broods log) = place_weight s.place + not_parked_broods broods
+module _ {M E : Type 0} (o : Operations M E) (at : M → ℕ) where
+  abbrev pub own_weight : Option E → M → ℕ
+  own_weight None m = most_weight (o.left m) (o.holding m) + at m
+  own_weight (Some ending) m = 0
 
-  pub not_parked_trees : {M : Type 0} → Trees (Spot M) → ℕ
-  not_parked_trees no_tree = 0
-  not_parked_trees (tree t rest) = not_parked t + not_parked_trees rest
+  unfoldable mutual
+    pub weigh : Tree M → ℕ
+    weigh (node m broods log) = own_weight (o.ending m) m + weigh_broods broods
 
-  pub not_parked_broods : {M : Type 0} → Broods (Spot M) → ℕ
-  not_parked_broods no_brood = 0
-  not_parked_broods (brood t trees rest) = not_parked_trees trees + not_parked_broods rest
+    pub weigh_trees : Trees M → ℕ
+    weigh_trees no_tree = 0
+    weigh_trees (tree t rest) = weigh t + weigh_trees rest
+
+    pub weigh_broods : Broods M → ℕ
+    weigh_broods no_brood = 0
+    weigh_broods (brood t trees rest) = weigh_trees trees + weigh_broods rest
 
 module _ {M E : Type 0} (o : Operations M E) where
-  -- there are no more machines than the root holds and itself
-  unfoldable pub weight : Tree (Spot M) → ℕ
-  weight t = ahead o (bare t) * suc (suc (o.holding (machine t).machine)) + not_parked t
+  abbrev pub weight : Tree (Spot M) → ℕ
+  weight t = weigh (spots o) (λ s. place_weight s.place) t

@@ -61,7 +61,7 @@ pub fn rows_keep_the_end<M, E, R>()
         → IsSound (spots o) (does o row w).tree }
     ensures end { (o : Operations M E) → IsMachine o → (row : Row R) (w : World M R) → IsSound (spots o) w.tree → Allows o row w
         → finish o (bare (does o row w).tree) ≡ finish o (bare w.tree) }
-    ensures start { (o : Operations M E) (m : M) → o.is_good m ≡ true → o.cloned m ≡ [] → IsSound (spots o) (world_of {R = R} o m).tree }
+    ensures start { (o : Operations M E) (m : M) → o.is_good m ≡ true → o.cloned m ≡ [] → IsSound (spots o) (world_of o {R = R} m).tree }
 {}
 
 /// Where the root has ended, the forest is its own end.
@@ -77,7 +77,7 @@ pub fn some_machine_is_ready<M, E>()
 /// A machine that is taken and comes back leaves no machine on lease, and less ahead where it made a step
 /// or came to wait.
 pub fn turns_run_out<M, E, R>()
-    ensures start { (o : Operations M E) (m : M) → IsWhole o (world_of {R = R} o m).tree }
+    ensures start { (o : Operations M E) (m : M) → IsWhole o (world_of o {R = R} m).tree }
     ensures whole { (o : Operations M E) → IsMachine o → (how : How) (name : Path) (k : ℕ) (w : World M R) → IsSound (spots o) w.tree → IsWhole o w.tree
         → Allows o (spent how name k) (does o (took name) w) → IsWhole o (does o (spent how name k) (does o (took name) w)).tree }
     ensures less { (o : Operations M E) → IsMachine o → (how : How) (name : Path) (k : ℕ) (w : World M R) → IsSound (spots o) w.tree
