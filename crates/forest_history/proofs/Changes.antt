@@ -1,0 +1,228 @@
+-- What a change at one path leaves of a tree.
+use Rattle.std.proofs.Common.{◌≡◌, ℕ, zero, suc, ◌&&◌, not, eqb, eqb-true, Bool, true, false, cond, refl, sym, ap, ap₂, ◌∙◌, [], ◌∷◌, ◌++◌, replicate, Option, Some, None, option_and_then, option_map, is_some}
+use Rattle.std.proofs.lemmas.Bool.{eqb-false}
+use Rattle.forest_tree.specs.Operations.{Operations}
+use Rattle.forest_tree.specs.Tree.{Tree, node, Trees, no_tree, tree, Broods, no_brood, brood, Log, machine, log_of, at_child, child_at, brood_of, at_brood, Branch, Path, subtree, beyond, goes_on, is_below}
+use Rattle.forest_tree.specs.Settle.{settled_by, settled, step, settle, settle_all}
+use Rattle.forest_tree.proofs.Broods.{eqb-same}
+use Rattle.forest_tree.proofs.Settle.{both-true}
+use Rattle.forest_tree.proofs.Places.{brood_of-at, at_child-none, child_at-same, child_at-other}
+use Rattle.forest_tree.proofs.Rests.{lives-none}
+use Rattle.forest_tree.proofs.Calls.{step-own}
+use Rattle.forest_history.specs.Places.{at_path, at_beyond, advanced, may_run, steps}
+
+eqb-sym : (t u : ℕ) → eqb t u ≡ eqb u t
+eqb-sym t u = by (eqb t u) (eqb u t) refl refl
+  where
+    by : (p q : Bool) → eqb t u ≡ p → eqb u t ≡ q → eqb t u ≡ eqb u t
+    by true true e f = e ∙ sym f
+    by false false e f = e ∙ sym f
+    by true false e f = absurd (eqb-false u t f (sym (eqb-true t u e)))
+    by false true e f = absurd (eqb-false t u e (sym (eqb-true u t f)))
+
+branch-sym : (rest : Option Path) (t u k j : ℕ) → cond (eqb t u && eqb k j) rest None ≡ cond (eqb u t && eqb j k) rest None
+branch-sym rest t u k j = ap₂ (λ a b. cond (a && b) rest None) (eqb-sym t u) (eqb-sym k j)
+
+pub not-true : (b : Bool) → not b ≡ true → b ≡ false
+not-true true h = absurd (cc)
+not-true false h = refl
+
+module _ {M : Type 0} where
+  -- functions that agree make the same change
+  at_child-agree : (f g : Tree M → Tree M) → ((t : Tree M) → f t ≡ g t) → (k : ℕ) (trees : Trees M) → at_child f k trees ≡ at_child g k trees
+  unfolding at_child
+  at_child-agree f g same k no_tree = refl
+  at_child-agree f g same zero (tree t rest) = refl
+  at_child-agree f g same (suc zero) (tree t rest) = ap (λ u. tree u rest) (same t)
+  at_child-agree f g same (suc (suc k)) (tree t rest) = ap (tree t) (at_child-agree f g same (suc k) rest)
+
+  at_brood-agree : (f g : Trees M → Trees M) → ((trees : Trees M) → f trees ≡ g trees) → (t : ℕ) (broods : Broods M)
+      → at_brood f t broods ≡ at_brood g t broods
+  unfolding at_brood
+  at_brood-agree f g same t no_brood = refl
+  at_brood-agree f g same t (brood u trees rest) =
+      ap₂ (λ changed left. brood u (cond (eqb u t) changed trees) left) (same trees) (at_brood-agree f g same t rest)
+
+  below-agree : (f g : Tree M → Tree M) → ((t : Tree M) → f t ≡ g t) → (b : Branch) (m : M) (broods : Broods M) (log : Log M)
+      → node m (at_brood (at_child f b.child) b.ticket broods) log ≡ node m (at_brood (at_child g b.child) b.ticket broods) log
+  below-agree f g same b m broods log =
+      ap (λ after. node m after log)
+      (at_brood-agree (at_child f b.child) (at_child g b.child) (λ trees. at_child-agree f g same b.child trees) b.ticket broods)
+
+  pub at_path-agree : (f g : Tree M → Tree M) → ((t : Tree M) → f t ≡ g t) → (path : Path) (t : Tree M) → at_path f path t ≡ at_path g path t
+  unfolding at_path
+  at_path-agree f g same [] t = same t
+  at_path-agree f g same (b ∷ path) (node m broods log) =
+      below-agree (at_path f path) (at_path g path) (λ t. at_path-agree f g same path t) b m broods log
+
+  -- a function that changes nothing
+  at_child-leaves : (f : Tree M → Tree M) → ((t : Tree M) → f t ≡ t) → (k : ℕ) (trees : Trees M) → at_child f k trees ≡ trees
+  unfolding at_child
+  at_child-leaves f leaves k no_tree = refl
+  at_child-leaves f leaves zero (tree t rest) = refl
+  at_child-leaves f leaves (suc zero) (tree t rest) = ap (λ u. tree u rest) (leaves t)
+  at_child-leaves f leaves (suc (suc k)) (tree t rest) = ap (tree t) (at_child-leaves f leaves (suc k) rest)
+
+  at_brood-leaves : (f : Trees M → Trees M) → ((trees : Trees M) → f trees ≡ trees) → (t : ℕ) (broods : Broods M) → at_brood f t broods ≡ broods
+  unfolding at_brood
+  at_brood-leaves f leaves t no_brood = refl
+  at_brood-leaves f leaves t (brood u trees rest) = ap₂ (brood u) (head (eqb u t)) (at_brood-leaves f leaves t rest)
+    where
+      head : (same : Bool) → cond same (f trees) trees ≡ trees
+      head true = leaves trees
+      head false = refl
+
+  pub at_path-leaves : (f : Tree M → Tree M) → ((t : Tree M) → f t ≡ t) → (path : Path) (t : Tree M) → at_path f path t ≡ t
+  unfolding at_path
+  at_path-leaves f leaves [] t = leaves t
+  at_path-leaves f leaves (b ∷ path) (node m broods log) =
+      ap (λ after. node m after log)
+      (at_brood-leaves (at_child (at_path f path) b.child)
+      (λ trees. at_child-leaves (at_path f path) (λ t. at_path-leaves f leaves path t) b.child trees) b.ticket broods)
+
+  -- two changes at a path are one
+  at_child-twice : (f g h : Tree M → Tree M) → ((t : Tree M) → g (f t) ≡ h t) → (k : ℕ) (trees : Trees M)
+      → at_child g k (at_child f k trees) ≡ at_child h k trees
+  unfolding at_child
+  at_child-twice f g h both k no_tree = refl
+  at_child-twice f g h both zero (tree t rest) = refl
+  at_child-twice f g h both (suc zero) (tree t rest) = ap (λ u. tree u rest) (both t)
+  at_child-twice f g h both (suc (suc k)) (tree t rest) = ap (tree t) (at_child-twice f g h both (suc k) rest)
+
+  at_brood-twice : (f g h : Trees M → Trees M) → ((trees : Trees M) → g (f trees) ≡ h trees) → (t : ℕ) (broods : Broods M)
+      → at_brood g t (at_brood f t broods) ≡ at_brood h t broods
+  unfolding at_brood
+  at_brood-twice f g h both t no_brood = refl
+  at_brood-twice f g h both t (brood u trees rest) = ap₂ (brood u) (head (eqb u t)) (at_brood-twice f g h both t rest)
+    where
+      head : (same : Bool) → cond same (g (cond same (f trees) trees)) (cond same (f trees) trees) ≡ cond same (h trees) trees
+      head true = both trees
+      head false = refl
+
+  pub at_path-twice : (f g : Tree M → Tree M) (path : Path) (t : Tree M) → at_path g path (at_path f path t) ≡ at_path (λ a. g (f a)) path t
+  unfolding at_path
+  at_path-twice f g [] t = refl
+  at_path-twice f g (b ∷ path) (node m broods log) =
+      ap (λ after. node m after log)
+      (at_brood-twice (at_child (at_path f path) b.child) (at_child (at_path g path) b.child) (at_child (at_path (λ a. g (f a)) path) b.child)
+      (λ trees. at_child-twice (at_path f path) (at_path g path) (at_path (λ a. g (f a)) path) (λ t. at_path-twice f g path t) b.child trees)
+      b.ticket broods)
+
+  -- the child at a place, where one is changed
+  changed-by : (f : Tree M → Tree M) (k j : ℕ) (trees : Trees M) (ticket child : Bool) → eqb k j ≡ child
+      → child_at j (cond ticket (at_child f k trees) trees) ≡ cond (ticket && child) (option_map f (child_at j trees)) (child_at j trees)
+  changed-by f k j trees false child e = refl
+  changed-by f k j trees true false e = child_at-other f k j trees (eqb-false k j e)
+  changed-by f k j trees true true e = ap (λ i. child_at j (at_child f i trees)) (eqb-true k j e) ∙ child_at-same f j trees
+
+  pub child-changed : (f : Tree M → Tree M) (y x : Branch) (broods : Broods M)
+      → child_at x.child (brood_of x.ticket (at_brood (at_child f y.child) y.ticket broods))
+      ≡ cond (eqb y.ticket x.ticket && eqb y.child x.child) (option_map f (child_at x.child (brood_of x.ticket broods)))
+      (child_at x.child (brood_of x.ticket broods))
+  child-changed f y x broods =
+      ap (child_at x.child) (brood_of-at (at_child f y.child) (at_child-none f y.child) y.ticket x.ticket broods)
+      ∙ changed-by f y.child x.child (brood_of x.ticket broods) (eqb y.ticket x.ticket) (eqb y.child x.child) refl
+
+  child-here : (f : Tree M → Tree M) (b : Branch) (broods : Broods M)
+      → child_at b.child (brood_of b.ticket (at_brood (at_child f b.child) b.ticket broods)) ≡ option_map f (child_at b.child (brood_of b.ticket broods))
+  child-here f b broods =
+      let c : Option (Tree M) = child_at b.child (brood_of b.ticket broods) in
+      child-changed f b b broods
+      ∙ ap₂ (λ ticket child. cond (ticket && child) (option_map f c) c) (eqb-same b.ticket) (eqb-same b.child)
+
+  pub at_path-within : (f : Tree M → Tree M) (path rest : Path) (t : Tree M)
+      → subtree (path ++ rest) (at_path f path t) ≡ option_and_then (λ a. subtree rest (f a)) (subtree path t)
+  unfolding at_path subtree
+  at_path-within f [] rest t = refl
+  at_path-within f (b ∷ path) rest (node m broods log) =
+      ap (option_and_then (subtree (path ++ rest))) (child-here (at_path f path) b broods)
+      ∙ inside (child_at b.child (brood_of b.ticket broods)) (λ u. at_path-within f path rest u)
+    where
+      inside : (c : Option (Tree M))
+          → ((u : Tree M) → subtree (path ++ rest) (at_path f path u) ≡ option_and_then (λ a. subtree rest (f a)) (subtree path u))
+          → option_and_then (subtree (path ++ rest)) (option_map (at_path f path) c)
+          ≡ option_and_then (λ a. subtree rest (f a)) (option_and_then (subtree path) c)
+      inside None down = refl
+      inside (Some u) down = down u
+
+  pub at_path-here : (f : Tree M → Tree M) (path : Path) (t : Tree M) → subtree path (at_path f path t) ≡ option_map f (subtree path t)
+  unfolding at_path subtree
+  at_path-here f [] t = refl
+  at_path-here f (b ∷ path) (node m broods log) =
+      ap (option_and_then (subtree path)) (child-here (at_path f path) b broods)
+      ∙ inside (child_at b.child (brood_of b.ticket broods)) (λ u. at_path-here f path u)
+    where
+      inside : (c : Option (Tree M)) → ((u : Tree M) → subtree path (at_path f path u) ≡ option_map f (subtree path u))
+          → option_and_then (subtree path) (option_map (at_path f path) c) ≡ option_map f (option_and_then (subtree path) c)
+      inside None down = refl
+      inside (Some u) down = down u
+
+  -- nothing is changed where nothing is left of the path
+  none-beyond : (f : Tree M → Tree M) (t : Option (Tree M)) → option_map (at_beyond f None) t ≡ t
+  none-beyond f None = refl
+  none-beyond f (Some t) = refl
+
+  elsewhere-by : (f g : Tree M → Tree M) (way p : Path) (same : Bool) (c : Option (Tree M)) → goes_on (cond same (beyond p way) None) ≡ false
+      → ((u : Tree M) → goes_on (beyond p way) ≡ false → subtree way (g u) ≡ option_map (at_beyond f (beyond way p)) (subtree way u))
+      → option_and_then (subtree way) (cond same (option_map g c) c)
+      ≡ option_map (at_beyond f (cond same (beyond way p) None)) (option_and_then (subtree way) c)
+  elsewhere-by f g way p false c apart below = sym (none-beyond f (option_and_then (subtree way) c))
+  elsewhere-by f g way p true None apart below = refl
+  elsewhere-by f g way p true (Some u) apart below = below u apart
+
+  pub at_path-elsewhere : (f : Tree M → Tree M) (path at : Path) (t : Tree M) → is_below path at ≡ false
+      → subtree at (at_path f path t) ≡ option_map (at_beyond f (beyond at path)) (subtree at t)
+  unfolding at_path subtree beyond
+  at_path-elsewhere f path [] t apart = refl
+  at_path-elsewhere f [] (x ∷ way) t apart = absurd (cc)
+  at_path-elsewhere f (y ∷ p) (x ∷ way) (node m broods log) apart =
+      ap (option_and_then (subtree way)) (child-changed (at_path f p) y x broods)
+      ∙ elsewhere-by f (at_path f p) way p (eqb y.ticket x.ticket && eqb y.child x.child) (child_at x.child (brood_of x.ticket broods))
+      (ap goes_on (branch-sym (beyond p way) y.ticket x.ticket y.child x.child) ∙ apart)
+      (λ u down. at_path-elsewhere f p way u down)
+
+  pub at_path-machine : (f : Tree M → Tree M) (b : Branch) (path : Path) (t : Tree M) → machine (at_path f (b ∷ path) t) ≡ machine t
+  unfolding at_path
+  at_path-machine f b path (node m broods log) = refl
+
+  pub at_path-log : (f : Tree M → Tree M) (b : Branch) (path : Path) (t : Tree M) → log_of (at_path f (b ∷ path) t) ≡ log_of t
+  unfolding at_path
+  at_path-log f b path (node m broods log) = refl
+
+module _ {M E : Type 0} (o : Operations M E) where
+  -- a step is a change
+  pub settle-changes : (path : Path) (t : Tree M) → settle o path t ≡ at_path (step o) path t
+  unfolding settle at_path
+  settle-changes [] t = refl
+  settle-changes (b ∷ path) (node m broods log) =
+      below-agree (settle o path) (at_path (step o) path) (λ t. settle-changes path t) b m broods log
+
+  pub settle_all-changes : (k : ℕ) (path : Path) (t : Tree M) → settle_all o (replicate k path) t ≡ at_path (steps o k) path t
+  unfolding settle_all steps
+  settle_all-changes zero path t = sym (at_path-leaves (steps o 0) (λ u. refl) path t)
+  settle_all-changes (suc k) path t =
+      settle_all-changes k path (settle o path t)
+      ∙ ap (at_path (steps o k) path) (settle-changes path t)
+      ∙ at_path-twice (step o) (steps o k) path t
+      ∙ at_path-agree (λ a. steps o k (step o a)) (steps o (suc k)) (λ u. refl) path t
+
+  -- a machine's own steps
+  settled-lives : (m : M) (broods : Broods M) (log : Log M) → o.ending m ≡ None → settled o m broods log ≡ node m broods log
+  settled-lives m broods log lives = ap (λ e. settled_by o e m broods log) lives
+
+  steps-settled : (k : ℕ) (m : M) (broods : Broods M) (log : Log M) → may_run o k m ≡ true
+      → steps o k (settled o m broods log) ≡ settled o (advanced o k m) broods log
+  unfolding steps advanced may_run
+  steps-settled zero m broods log own = refl
+  steps-settled (suc k) m broods log own =
+      let first = both-true (not (is_some (o.ending m))) (not (is_some (o.call m)) && may_run o k (o.advance m)) own in
+      let then = both-true (not (is_some (o.call m))) (may_run o k (o.advance m)) first.1 in
+      let lives : o.ending m ≡ None = lives-none (o.ending m) (not-true (is_some (o.ending m)) first.0) in
+      let call : o.call m ≡ None = lives-none (o.call m) (not-true (is_some (o.call m)) then.0) in
+      ap (λ t. steps o k (step o t)) (settled-lives m broods log lives)
+      ∙ ap (steps o k) (step-own o m broods log lives call)
+      ∙ steps-settled k (o.advance m) broods log then.1
+
+  pub steps-own : (k : ℕ) (m : M) (broods : Broods M) (log : Log M) → o.ending m ≡ None → may_run o k m ≡ true
+      → steps o k (node m broods log) ≡ settled o (advanced o k m) broods log
+  steps-own k m broods log lives own = ap (steps o k) (sym (settled-lives m broods log lives)) ∙ steps-settled k m broods log own
