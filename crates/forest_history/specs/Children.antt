@@ -1,5 +1,5 @@
 -- How many of a machine's children live.
-use Rattle.std.specs.Prelude.{ℕ, suc, ◌+◌, Bool, if◌then◌else◌}
+use Rattle.std.specs.Prelude.{ℕ, ◌+◌, if◌then◌else◌}
 use Rattle.forest_tree.specs.Operations.{Operations}
 use Rattle.forest_tree.specs.Tree.{Tree, Trees, no_tree, tree}
 use Rattle.forest_tree.specs.Settle.{has_ended}

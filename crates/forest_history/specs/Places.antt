@@ -1,8 +1,8 @@
 -- Trees whose machines are kept at home or out on lease.
-use Rattle.std.specs.Prelude.{ℕ, zero, suc, Bool, true, false, not, ◌&&◌, List, [], ◌∷◌, Option, Some, None, is_some}
+use Rattle.std.specs.Prelude.{ℕ, zero, suc, Bool, true, not, ◌&&◌, [], ◌∷◌, Option, Some, None, is_some}
 use Rattle.forest_tree.specs.Operations.{Operations}
-use Rattle.forest_tree.specs.Tree.{Tree, node, machine, at_child, at_brood, Path, subtree}
-use Rattle.forest_tree.specs.Settle.{has_ended, waits, step}
+use Rattle.forest_tree.specs.Tree.{Tree, node, at_child, at_brood, Path}
+use Rattle.forest_tree.specs.Settle.{step}
 use Rattle.forest_tree.specs.Projection.{map_tree}
 
 -- the tree with f of the tree at a path, where one is

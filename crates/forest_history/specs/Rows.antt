@@ -1,9 +1,9 @@
 -- What the calls on a world do: for each answer, where it is allowed, and what the world is after it.
-use Rattle.std.specs.Prelude.{◌≡◌, ℕ, Bool, true, false, not, ◌&&◌, ◌||◌, ◌⊎◌, Option, Some, None, is_some}
+use Rattle.std.specs.Prelude.{◌≡◌, ℕ, Bool, true, false, not, ◌&&◌, ◌||◌, Option, Some, None, is_some}
 use Rattle.forest_tree.specs.Operations.{Call, clone, join, kill, Operations}
-use Rattle.forest_tree.specs.Tree.{Tree, node, machine, Path, subtree}
+use Rattle.forest_tree.specs.Tree.{Tree, machine, Path, subtree}
 use Rattle.forest_tree.specs.Settle.{has_ended, waits, step}
-use Rattle.forest_history.specs.Places.{at_path, Place, home, out, parked, Spot, placed, spots, advanced, may_run, steps}
+use Rattle.forest_history.specs.Places.{at_path, home, out, parked, Spot, placed, spots, advanced, may_run, steps}
 use Rattle.forest_history.specs.World.{World, is_ready, is_to_wake}
 
 -- what becomes of a machine that comes back, after its own steps
