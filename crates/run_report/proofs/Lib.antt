@@ -1,0 +1,3 @@
+pub mod NameMaps
+mod Seen
+mod Texts
