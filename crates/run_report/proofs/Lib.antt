@@ -1,3 +1,4 @@
 pub mod NameMaps
+mod Below
 mod Seen
 mod Texts

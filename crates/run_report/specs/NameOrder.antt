@@ -1,9 +1,7 @@
 -- The order of names: the first forks that are not the same decide, and a machine comes before those below it.
-use Rattle.std.specs.Prelude.{◌≡◌, ℕ, List, Bool, true, refl}
 use Rattle.std.specs.declared.cmp.Ordering.{Ordering}
-use Rattle.std.specs.declared.cmp.Ordering.TheVariants.{Less, Equal, Greater}
-use Rattle.std.specs.Ordering.{nat_cmp, on, then_cmp, eq_by_cmp, as_partial_cmp, ordering_then}
-use Rattle.std.specs.Cmp.{IsEquivalence, IsPartialEquivalence, IsPartialOrder, IsTotalOrder, eq_by_cmp_equiv, nat_cmp_total, on_total, then_total, partial_equiv_from_equiv, partial_order_from_total}
+use Rattle.std.specs.Ordering.{nat_cmp, on, then_cmp, eq_by_cmp}
+use Rattle.std.specs.Cmp.{IsEquivalence, IsTotalOrder, eq_by_cmp_equiv, nat_cmp_total, on_total, then_total}
 use Rattle.std.specs.Cmp.Lexicographic.{slice_cmp, lists_total}
 use Rattle.forest_tree.specs.Tree.{Branch, Path}
 

@@ -175,16 +175,11 @@ impl Name {
 fn rest_beyond<'a>(path: &'a [Branch], way: &[Branch]) -> Option<&'a [Branch]>
     ensures { option_map (λ rest. rest.now) result ≡ beyond way.now path.now }
 {
-    let mut rest = path;
-    'ways: for step in way {
-        match rest {
-            [first, after @ ..] if first.ticket == step.ticket && first.child == step.child => {
-                rest = after;
-            }
-            _ => return None,
-        }
+    if path.len() < way.len() {
+        return None;
     }
-    Some(rest)
+    let (front, rest) = path.split_at(way.len());
+    if front == way { Some(rest) } else { None }
 }
 
 impl PartialEq for Name {

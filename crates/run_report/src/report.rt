@@ -30,13 +30,7 @@ impl Model for Outcome {
 }
 
 impl Outcome {
-    pub fn new(
-        name: Name,
-        ending: Ending,
-        steps: u64,
-        output: Vec<u8>,
-        log: Vec<Line>,
-    ) -> Outcome
+    pub fn new(name: Name, ending: Ending, steps: u64, output: Vec<u8>, log: Vec<Line>) -> Outcome
         ensures { result ≡ record { name = name; ending = ending; steps = steps; output = output.items; log = log.items } }
     {
         Outcome {
@@ -80,7 +74,10 @@ impl Outcome {
         ensures len { vec_len log.new ≡ vec_len log.old + length (lines_of self) }
         ensures capacity { vec_capacity log.old ≤ vec_capacity log.new }
     {
-        let Outcome { own, log: mut lines } = self;
+        let Outcome {
+            own,
+            log: mut lines,
+        } = self;
         log.push_reserved(Line::of_machine(own));
         log.append(&mut lines).unwrap();
     }
@@ -152,11 +149,7 @@ fn headings(alloc: Global, lines: &[Line]) -> Result<Vec<String>, AllocError>
 }
 
 /// Puts out lines in order, whose headings are at hand.
-fn put_lines<K: Sink>(
-    sink: &mut K,
-    headings: &[String],
-    lines: &[Line],
-) -> Result<(), WriteFault>
+fn put_lines<K: Sink>(sink: &mut K, headings: &[String], lines: &[Line]) -> Result<(), WriteFault>
     requires { map string_bytes headings.now ≡ map heading lines.now }
     ensures counts { K.faults sink.old ≤ K.faults sink.new }
     ensures ok { OnOk result (K.gone sink.new ≡ appended (K.gone sink.old) (text_of lines.now)) }
