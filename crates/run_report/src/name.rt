@@ -1,6 +1,6 @@
 //! Names of machines, which are keys of maps too.
 
-ghost use Rattle.std.specs.Prelude.{◌≡◌, ◌+◌, ◌≤◌, [], ◌∷◌, ◌++◌, length, IfOk, MatchOption, string_bytes};
+ghost use Rattle.std.specs.Prelude.{◌≡◌, ◌+◌, ◌≤◌, [], ◌∷◌, ◌++◌, length, IfOk, IsTrue, ◌↔◌, MatchOption, string_bytes};
 ghost use Rattle.std.specs.Option.{option_map};
 ghost use Rattle.forest_tree.specs.Tree.{beyond, is_below};
 ghost use Rattle.run_report.specs.Name.{begins_with, child_path, name_text};
@@ -113,6 +113,13 @@ impl Name {
         Name {
             branches: Vec::new(alloc),
         }
+    }
+
+    /// Whether this is the name of the machine that was booted.
+    pub fn is_root(&self) -> bool
+        ensures { IsTrue result ↔ (self.now ≡ []) }
+    {
+        self.branches.is_empty()
     }
 
     /// The name of a child of this machine.

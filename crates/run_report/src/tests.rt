@@ -42,6 +42,7 @@ fn names_have_texts(rt: HostRuntime) -> Result<(), Fail> {
     let alloc = rt.alloc();
     let root = Name::root(alloc);
     assert_eq!(rt; root.text(alloc)?.as_str(), "0");
+    assert!(rt; root.is_root());
     let child = root.child(alloc, 1, 2)?;
     let mut grandchild = child.child(alloc, 30, 4_294_967_295)?;
     assert_eq!(rt; grandchild.text(alloc)?.as_str(), "0.1.2.30.4294967295");
