@@ -1,8 +1,8 @@
 //! Names of machines, which are keys of maps too.
 
-ghost use Rattle.std.specs.Prelude.{◌≡◌, ◌+◌, ◌≤◌, [], ◌∷◌, ◌++◌, length, IfOk, IsTrue, ◌↔◌, MatchOption, string_bytes};
+ghost use Rattle.std.specs.Prelude.{◌≡◌, ℕ, ◌+◌, ◌≤◌, [], ◌∷◌, ◌++◌, length, IfOk, IsTrue, ◌↔◌, MatchOption, string_bytes};
 ghost use Rattle.std.specs.Option.{option_map};
-ghost use Rattle.forest_tree.specs.Tree.{beyond, is_below};
+ghost use Rattle.forest_tree.specs.Tree.{Path, beyond, is_below};
 ghost use Rattle.run_report.specs.Name.{begins_with, child_path, name_text};
 
 use std::alloc::{AllocError, Global};
@@ -155,6 +155,18 @@ impl Name {
     {
         let last = self.branches.pop()?;
         Some((last.ticket, last.child))
+    }
+
+    /// Gives the child of the last fork another number, so that a sibling's name is left. The root's name has
+    /// no fork, and stays. It takes no memory.
+    pub fn set_last_index(&mut self, index: u32)
+        ensures root { self.old ≡ [] → self.new ≡ [] }
+        ensures child { (parent : Path) (ticket k : ℕ) → self.old ≡ child_path parent ticket k → self.new ≡ child_path parent ticket index }
+    {
+        let Some(last) = self.branches.pop() else {
+            return;
+        };
+        self.branches.push_reserved(Branch::new(last.ticket, index));
     }
 
     /// Whether this name goes on from another by a child of a ticket.

@@ -50,7 +50,8 @@ fn names_have_texts(rt: HostRuntime) -> Result<(), Fail> {
     assert!(rt; !grandchild.is_below(&root, 2));
     assert!(rt; grandchild.is_below_all(&child));
     assert!(rt; !child.is_below_all(&child));
-    assert_eq!(rt; grandchild.pop(), Some((30, 4_294_967_295)));
+    grandchild.set_last_index(7);
+    assert_eq!(rt; grandchild.pop(), Some((30, 7)));
     assert!(rt; grandchild == child);
     Ok(())
 }
