@@ -1,10 +1,13 @@
-//! The report of machines that have ended.
+//! Names of machines, and the report of machines that have ended.
 #![tactic(auto)]
 
+pub mod laws;
+mod line;
 mod name;
 mod report;
 #[cfg(test)]
 mod tests;
 
+pub use line::Line;
 pub use name::Name;
 pub use report::{Outcome, ReportError, report_into};

@@ -1,5 +1,5 @@
 use Rattle.io_edge.proofs.Gone.{IsPrefixGone-front, IsPrefixGone-after}
-use Rattle.run_report.proofs.report.put_report.Goals as goal
+use Rattle.run_report.proofs.line.put_machine.Goals as goal
 
 pub returns-in_err-put_all-clause-prefix : goal.returns-in_err-put_all-clause-prefix
 returns-in_err-put_all-clause-prefix g c = IsPrefixGone-front _ _ _ _ c.put_all.ensures.prefix

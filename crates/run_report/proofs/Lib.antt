@@ -1,0 +1,5 @@
+pub mod Begin
+pub mod NameMaps
+pub mod Seen
+mod Below
+mod Texts

@@ -1,0 +1,59 @@
+-- The order of names tells names apart, so a map by names is a function of paths.
+use Rattle.std.proofs.Common.{◌≡◌, ◌≢◌, ℕ, refl, sym, ap, ap₂, ◌∙◌, [], ◌∷◌, Option, true, false}
+use Rattle.std.specs.declared.cmp.Ordering.{Ordering}
+use Rattle.std.specs.declared.cmp.Ordering.TheVariants.{Less, Equal, Greater}
+use Rattle.std.specs.Ordering.{nat_cmp, is_eq, ordering_then}
+use Rattle.std.specs.Cmp.{ranked}
+use Rattle.std.specs.Cmp.Lexicographic.{slice_cmp}
+use Rattle.std.proofs.lemmas.Cmp.{tied_itself}
+use Rattle.std.specs.BTreeMap.{BTreeMap, Updates, get}
+use Rattle.forest_tree.specs.Tree.{Branch, Path}
+use Rattle.run_report.specs.NameOrder.{branch_cmp, path_cmp, path_cmp_total}
+
+both-equal : (a b : Ordering) → ordering_then a b ≡ Equal → (a ≡ Equal) × (b ≡ Equal)
+both-equal Less b h = absurd (cc h)
+both-equal Equal b h = (refl, h)
+both-equal Greater b h = absurd (cc h)
+
+same-number : (x y : ℕ) → nat_cmp x y ≡ Equal → x ≡ y
+same-number x y h = ranked x y Equal (sym h)
+
+same-branch : (a b : Branch) → branch_cmp a b ≡ Equal → a ≡ b
+unfolding branch_cmp
+same-branch a b h =
+    let parts = both-equal (nat_cmp a.ticket b.ticket) (nat_cmp a.child b.child) h in
+    let same : (t k : ℕ) → Branch = λ t k. record { ticket = t; child = k } in
+    ap₂ same (same-number a.ticket b.ticket parts.0) (same-number a.child b.child parts.1)
+
+pub equal-same : (a b : Path) → path_cmp a b ≡ Equal → a ≡ b
+unfolding path_cmp
+equal-same [] [] h = refl
+equal-same [] (b ∷ bs) h = absurd (cc h)
+equal-same (a ∷ as_) [] h = absurd (cc h)
+equal-same (a ∷ as_) (b ∷ bs) h =
+    let parts = both-equal (branch_cmp a b) (slice_cmp branch_cmp as_ bs) h in
+    ap₂ (λ x xs. x ∷ xs) (same-branch a b parts.0) (equal-same as_ bs parts.1)
+
+pub itself : (a : Path) → path_cmp a a ≡ Equal
+itself a = tied_itself path_cmp_total a
+
+-- the order's test answers yes at one path, and no at two
+pub is_eq-same : (a b : Path) → a ≡ b → is_eq (path_cmp a b) ≡ true
+is_eq-same a b e = ap is_eq (ap (path_cmp a) (sym e) ∙ itself a)
+
+is_eq-by : (a b : Path) (r : Ordering) → path_cmp a b ≡ r → a ≢ b → is_eq r ≡ false
+is_eq-by a b Less e apart = refl
+is_eq-by a b Equal e apart = absurd (apart (equal-same a b e))
+is_eq-by a b Greater e apart = refl
+
+pub is_eq-apart : (a b : Path) → a ≢ b → is_eq (path_cmp a b) ≡ false
+is_eq-apart a b apart = is_eq-by a b (path_cmp a b) refl apart
+
+-- after an update at a path, the map has the value there, and what it had at every other path
+pub updated-here : {V : Type 0} (old new : BTreeMap Path V) (at : Path) (value : Option V) → Updates path_cmp old new at value
+    → get path_cmp new at ≡ value
+updated-here old new at value h = h.1
+
+pub updated-apart : {V : Type 0} (old new : BTreeMap Path V) (at : Path) (value : Option V) → Updates path_cmp old new at value
+    → (path : Path) → at ≢ path → get path_cmp new path ≡ get path_cmp old path
+updated-apart old new at value h path apart = h.2 path (is_eq-apart at path apart)

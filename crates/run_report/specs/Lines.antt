@@ -1,0 +1,91 @@
+-- What a report says of a family of machines, line by line.
+use Rattle.std.specs.Prelude.{◌≡◌, ℕ, suc, List, [], ◌∷◌, ◌++◌, length, codes, Option, Some, None}
+use Rattle.std.specs.List.{flat_map}
+use Rattle.std.specs.Fmt.{decimal}
+use Rattle.fork_port.specs.declared.ending.Ending.{Ending}
+use Rattle.fork_port.specs.declared.ending.Ending.TheVariants.{Exit, Limit}
+use Rattle.forest_tree.specs.Tree.{Tree, node, Trees, no_tree, tree, Log, no_entry, joined, killed, Path}
+use Rattle.run_report.specs.Name.{name_text, child_path}
+
+-- a line of a report. A name is the path to the machine
+pub data Line : Type 0 where
+  -- a machine that has ended: its name, how it ended, its steps and its output
+  machine_line : Path → Ending → ℕ → List ℕ → Line
+  -- a killed ticket: the name of its machine, its number, and how many children it had
+  ticket_line : Path → ℕ → ℕ → Line
+
+-- how a machine ended, in words
+abbrev pub ending_text : Ending → List ℕ
+ending_text (Exit value) = codes "exit " ++ decimal value
+ending_text Limit = codes "limit"
+
+-- what is put out before the output
+unfoldable pub heading : Line → List ℕ
+heading (machine_line name ending steps output) =
+    codes "machine "
+    ++ (name_text name
+    ++ (codes " "
+    ++ (ending_text ending
+    ++ (codes " steps "
+    ++ (decimal steps
+    ++ (codes " out "
+    ++ (decimal (length output)
+    ++ codes "\n")))))))
+heading (ticket_line name ticket count) =
+    codes "ticket "
+    ++ (name_text name
+    ++ (codes "."
+    ++ (decimal ticket
+    ++ (codes " killed "
+    ++ (decimal count
+    ++ codes "\n")))))
+
+-- what is put out after the heading: the output of a machine, and a newline
+abbrev pub after_heading : Line → List ℕ
+after_heading (machine_line name ending steps output) = output ++ codes "\n"
+after_heading (ticket_line name ticket count) = []
+
+unfoldable pub line_text : Line → List ℕ
+line_text line = heading line ++ after_heading line
+
+-- the lines, one after another
+unfoldable pub text_of : List Line → List ℕ
+text_of lines = flat_map line_text lines
+
+-- what is told of the machines M of a tree
+pub record Told (M : Type 0) : Type 0 where
+  -- none while the machine lives
+  pub ending : M → Option Ending
+  pub steps : M → ℕ
+  pub output : M → List ℕ
+
+module _ {M : Type 0} (told : Told M) where
+  -- the line of a machine at a path. One that lives has none
+  abbrev pub own_lines_by : Option Ending → Path → M → List Line
+  own_lines_by None path m = []
+  own_lines_by (Some ending) path m = machine_line path ending (told.steps m) (told.output m) ∷ []
+
+  abbrev pub own_lines : Path → M → List Line
+  own_lines path m = own_lines_by (told.ending m) path m
+
+  unfoldable mutual
+    -- the lines of a tree at a path: of the machine itself, then of its log in order
+    pub lines : Path → Tree M → List Line
+    lines path (node m broods log) = own_lines path m ++ log_lines path log
+
+    -- the lines of children of ticket t, from child k on
+    pub trees_lines : Path → ℕ → ℕ → Trees M → List Line
+    trees_lines path t k no_tree = []
+    trees_lines path t k (tree child rest) = lines (child_path path t k) child ++ trees_lines path t (suc k) rest
+
+    -- the lines of the log of the machine at a path
+    pub log_lines : Path → Log M → List Line
+    log_lines path no_entry = []
+    log_lines path (joined log t trees) = log_lines path log ++ trees_lines path t 1 trees
+    log_lines path (killed log t count) = log_lines path log ++ ticket_line path t count ∷ []
+
+-- f leaves of a machine all that is told of it
+pub record TellsSame {M N : Type 0} (told : Told M) (less : Told N) (f : M → N) : Type 0 where
+  pub ending : (m : M) → less.ending (f m) ≡ told.ending m
+  pub steps : (m : M) → less.steps (f m) ≡ told.steps m
+  pub output : (m : M) → less.output (f m) ≡ told.output m
