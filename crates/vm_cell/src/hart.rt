@@ -25,6 +25,7 @@ use std::marker::Model;
 use vm_bus::Ports;
 
 mod atomic;
+mod call;
 mod compute;
 mod control;
 mod memory;
