@@ -1,5 +1,5 @@
 -- The call that a machine stands at, and the machine after it.
-use Rattle.std.proofs.Common.{◌≡◌, ℕ, ◌+◌, ◌≤◌, List, Bool, true, false, eqb, cond, Option, Some, None, IsSome, IsSomeAnd, refl, sym, ap, ◌∙◌, arith}
+use Rattle.std.proofs.Common.{◌≡◌, ℕ, ◌+◌, ◌≤◌, List, Bool, true, false, eqb, cond, Option, Some, None, IsSome, IsSomeAnd, refl, sym, ap, ◌∙◌, arith, mul-le-mul_right}
 use Rattle.std.specs.Option.{IfSome, is_some, option_map}
 use Rattle.fork_port.specs.declared.commands.Call.{Call}
 use Rattle.fork_port.specs.declared.commands.Call.TheVariants.{Clone, Join, Kill}
@@ -20,7 +20,7 @@ use Rattle.forest_model.specs.Machine.{Machine, Next, exception, timer_interrupt
 use Rattle.forest_model.specs.Calls.{forked_by, forked, joined_by, after_join, killed_by, after_kill}
 use Rattle.forest_model.specs.Forest.{call_of, machines, port_of}
 use Rattle.forest_model.proofs.Calls.{clone-asks, join-asks, kill-asks}
-use Rattle.vm_descriptor.specs.declared.descriptor.TheConstants.{MAX_CLONES}
+use Rattle.vm_descriptor.specs.declared.descriptor.TheConstants.{MAX_CLONES, MAX_SHARE}
 use Rattle.vm_cell.specs.Standing.{asked_call, standing_from, standing_call, AsksFor, IsAsked, made}
 use Rattle.vm_cell.specs.Steps.{IsFunded}
 
@@ -179,3 +179,25 @@ after_call m f state steps ending live is counted ends =
     ap (λ (s : State). record { state = s; steps = steps; limit = m.limit; ending = ending }) is
     ∙ ap (λ n. record { state = made f m.state; steps = n; limit = m.limit; ending = ending }) counted
     ∙ ap (λ e. record { state = made f m.state; steps = m.steps + 1; limit = m.limit; ending = e }) (ends ∙ ap (cond (eqb (m.steps + 1) m.limit) (Some Limit)) live)
+
+-- ---- the call of a machine
+
+pub asked_stands : (m : Machine) (c : Call) → IsAsked m c → Some c ≡ standing_call m
+asked_stands m c asked = is_standing m (Some c) asked.live asked.is
+
+pub same_ticket : (m : Machine) (t u : ℕ) → IsAsked m (Clone t) → standing_call m ≡ Some (Clone u) → t ≡ u
+same_ticket m t u asked is = let both = asked_stands m (Clone t) asked ∙ is in cc
+
+module _ (m : Machine) (t : ℕ) where
+  -- each child of a ticket has less than the ticket's price
+  pub share_fits : IsFunded (port_of m) → 1 ≤ (machines.grant m t).children → (machines.grant m t).share ≤ MAX_SHARE
+  unfolding machines
+  share_fits funded = by (ticket_found (port_of m) t) refl
+    where
+      by : (found : Option Ticket) → ticket_found (port_of m) t ≡ found → 1 ≤ (grant_of found).children → (grant_of found).share ≤ MAX_SHARE
+      by None e some = omega arith
+      by (Some ticket) e some =
+          let held_with = held_without (port_of m).tickets t ticket funded.accounted.rising e in
+          let most : (port_of m).allot + held (port_of m).tickets ≤ MAX_CLONES = funded.most in
+          let price = mul-le-mul_right (1 + ticket.share) some in
+          omega arith

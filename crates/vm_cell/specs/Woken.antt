@@ -1,5 +1,6 @@
 -- The machine that a descriptor and an image stand for, and what a machine leaves for each of its children.
-use Rattle.std.specs.Prelude.{◌≡◌, ℕ, ◌+◌, ◌<◌, ◌==◌, if◌then◌else◌, List, ◌∷◌, length, slice_index_or, Some, None}
+use Rattle.std.specs.Prelude.{◌≡◌, ℕ, ◌+◌, ◌*◌, ◌/◌, ◌<◌, ◌==◌, if◌then◌else◌, Bool, List, ◌∷◌, length, drop, slice_index_or, Some, None}
+use Rattle.elf_load.specs.declared.image.TheConstants.{PAGE_SIZE}
 use Rattle.fork_port.specs.declared.ending.Ending.TheVariants.{Limit}
 use Rattle.vm_bus.specs.declared.ports.PortFields.{PortFields}
 use Rattle.vm_bus.specs.Bus.{ports_of_fields}
@@ -50,6 +51,39 @@ woken d image = record {
   limit = d.limit;
   ending = if d.steps == d.limit then Some Limit else None;
 }
+
+-- the image that a machine leaves for its children
+abbrev pub image_left : State → FrozenImage
+image_left s = record { contents = s.ram; disk = s.ports.block.disk; input = s.ports.console.input }
+
+-- the descriptor of child k, with this share, of a machine that is in this state after its CLONE, and has then
+-- made so many steps, of so many
+abbrev pub seed_of : State → ℕ → ℕ → ℕ → ℕ → ℕ → List Bool → Descriptor
+seed_of s image k share steps limit blank = record {
+  image = image;
+  pages = length s.ram / PAGE_SIZE;
+  clone_id = k;
+  share = share;
+  pc = s.pc;
+  registers = drop 1 s.registers;
+  csrs = s.csrs;
+  timer = s.ports.timer;
+  steps = steps;
+  limit = limit;
+  reservation = s.reservation;
+  console = record { place = s.ports.console.place; line_control = s.ports.console.line_control };
+  block = record { sector = s.ports.block.sector; status = s.ports.block.status; buffer = s.ports.block.buffer };
+  argument_0 = s.ports.fork.first_argument;
+  argument_1 = s.ports.fork.second_argument;
+  join_select = s.ports.fork.join_select;
+  granted = s.ports.fork.granted;
+  blank = blank;
+}
+
+-- one flag for each page, and the pages that are flagged are zeros
+pub record IsBlankMap (ram : List ℕ) (blank : List Bool) : Type 0 where
+  pub one_a_page : length ram ≡ PAGE_SIZE * length blank
+  pub zero : cleared blank ram ≡ ram
 
 -- a descriptor is of the image of this key
 pub record IsOfImage (key : Key) (d : Descriptor) : Type 0 where

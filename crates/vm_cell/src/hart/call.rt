@@ -1,7 +1,7 @@
 //! Calls: which one the coming step is, and what those do that change this hart alone.
 
-ghost use Rattle.std.specs.Prelude.{◌≡◌, ℕ, true, length, option_map, IsSome, IsSomeAnd, OnOk, OnErr};
-ghost use Rattle.fork_port.specs.Children.{after_join, after_kill};
+ghost use Rattle.std.specs.Prelude.{◌≡◌, ℕ, true, false, length, option_map, IsSome, IsSomeAnd, OnOk, OnErr};
+ghost use Rattle.fork_port.specs.Children.{after_clone, after_join, after_kill};
 ghost use Rattle.fork_port.specs.Registers.{HasTicket, ticket_found, ticket_told};
 ghost use Rattle.forest_model.specs.Execute.{action, execute};
 ghost use Rattle.vm_cell.specs.Standing.{AsksFor, call_asked, made};
@@ -57,6 +57,15 @@ impl Hart {
         ensures { result ≡ option_map ticket_told (ticket_found self.now.ports.fork ticket) }
     {
         self.ports.find(ticket)
+    }
+
+    /// Makes CLONE, which retires and is counted.
+    pub fn fork(&mut self, ticket: u32)
+        requires { HasTicket self.old.ports.fork ticket false }
+        ensures { self.new ≡ made (after_clone self.old.ports.fork ticket) self.old }
+    {
+        self.ports.cloned(ticket);
+        self.retire_call();
     }
 
     /// Makes JOIN, which retires and is counted.

@@ -2,7 +2,7 @@ use Rattle.std.proofs.Common.{◌≤◌, ◌∙◌, subst, sym}
 use Rattle.forest_model.specs.Machine.{Machine}
 use Rattle.vm_descriptor.specs.declared.descriptor.TheConstants.{MAX_CLONES}
 use Rattle.vm_cell.proofs.Standing.{granted_fits, granted_told}
-use Rattle.vm_cell.proofs.vm.Vm.granted.Goals as goal
+use Rattle.vm_cell.proofs.vm.Vm.grant.Goals as goal
 
 pub returns-in-Some-clause-most : goal.returns-in-Some-clause-most
 returns-in-Some-clause-most c =
