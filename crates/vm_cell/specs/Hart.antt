@@ -1,5 +1,6 @@
 -- What holds of every hart.
-use Rattle.std.specs.Prelude.{◌≡◌, ◌%◌, slice_index}
+use Rattle.std.specs.Prelude.{◌≡◌, ℕ, ◌+◌, ◌%◌, ◌<◌, ◌≤◌, length, slice_index, IfSome}
+use Rattle.elf_load.specs.declared.image.TheConstants.{RAM_BASE}
 use Rattle.forest_model.specs.State.{State}
 use Rattle.forest_model.specs.Ports.{PortRegisters}
 use Rattle.vm_bus.specs.Bus.{BusRegisters}
@@ -8,8 +9,15 @@ use Rattle.vm_bus.specs.Bus.{BusRegisters}
 abbrev pub ports_of : BusRegisters → PortRegisters
 ports_of b = record { console = b.console; timer = b.timer; block = b.block; fork = b.fork }
 
+-- the address of a word of RAM of so many bytes
+pub record IsWordOf (size address : ℕ) : Type 0 where
+  pub aligned : address % 4 ≡ 0
+  pub from_base : RAM_BASE ≤ address
+  pub below_end : address < RAM_BASE + size
+
 pub record IsHart (s : State) : Type 0 where
   -- so a read of x0 needs no test
   pub zero_register : slice_index s.registers 0 ≡ 0
   -- so a word at a pc in RAM lies in RAM whole
   pub aligned : s.pc % 4 ≡ 0
+  pub reservation : IfSome s.reservation (IsWordOf (length s.ram))

@@ -2,6 +2,9 @@
 use Rattle.std.specs.Prelude.{◌≡◌, ℕ, ◌+◌, ◌<◌, ◌≤◌, Option, Some, None}
 use Rattle.fork_port.specs.declared.commands.Call.{Call as Asked}
 use Rattle.fork_port.specs.declared.ending.Ending.{Ending}
+use Rattle.fork_port.specs.Registers.{ForkRegisters, holding}
+use Rattle.fork_port.specs.Children.{IsAccounted}
+use Rattle.vm_descriptor.specs.declared.descriptor.TheConstants.{MAX_CLONES, MAX_LIMIT}
 use Rattle.forest_model.specs.Machine.{Machine, call, next, advance}
 use Rattle.forest_model.specs.Forest.{call_of}
 use Rattle.vm_cell.specs.declared.vm.Stepped.{Stepped}
@@ -18,16 +21,28 @@ Steps old new Went = (old.ending ≡ None) × (call_of (next old) ≡ None) × (
 Steps old new (Call c) = (old.ending ≡ None) × (next old ≡ call c) × (new ≡ old)
 Steps old new (Ended ending) = (new ≡ advance old) × (new.ending ≡ Some ending)
 
--- the answer of a run: the machine that it leaves lives, is to make a call, or has ended
+-- the answer after a step: the machine lives, or has ended
+abbrev pub IsAfterStep : Machine → Stepped → Type 0
+IsAfterStep m Went = m.ending ≡ None
+IsAfterStep m (Call c) = ⊥
+IsAfterStep m (Ended ending) = m.ending ≡ Some ending
+
+-- the answer of a run: the machine that it leaves lives and is to make no call, is to make one, or has ended
 abbrev pub Stands : Machine → Stepped → Type 0
-Stands m Went = m.ending ≡ None
+Stands m Went = (m.ending ≡ None) × (call_of (next m) ≡ None)
 Stands m (Call c) = (m.ending ≡ None) × (next m ≡ call c)
 Stands m (Ended ending) = m.ending ≡ Some ending
 
+-- what holds of the fork port of every machine: its tickets are paid for, and for at most so many children
+pub record IsFunded (fork : ForkRegisters) : Type 0 where
+  pub accounted : IsAccounted fork
+  pub most : holding fork ≤ MAX_CLONES
+
 -- what holds of the counts of every machine
-pub record IsCounted (steps limit : ℕ) (ending : Option Ending) (next_ticket : ℕ) : Type 0 where
+pub record IsCounted (steps limit : ℕ) (ending : Option Ending) (fork : ForkRegisters) : Type 0 where
   pub within : steps ≤ limit
   pub live : ending ≡ None → steps < limit
-  pub most : limit ≤ 1_000_000_000
+  pub most : limit ≤ MAX_LIMIT
   -- a step grants a ticket at most
-  pub tickets : next_ticket ≤ steps + 1
+  pub tickets : fork.next_ticket ≤ steps + 1
+  pub funded : IsFunded fork

@@ -25,9 +25,11 @@ use std::marker::Model;
 use vm_bus::Ports;
 
 mod atomic;
+mod call;
 mod compute;
 mod control;
 mod memory;
+mod seed;
 mod system;
 
 /// What a step came to.
@@ -100,7 +102,8 @@ impl Hart {
 
     /// The whole input, read or not.
     pub fn input(&self) -> &[u8]
-        ensures { result.now ≡ self.now.ports.console.input }
+        ensures value { result.now ≡ self.now.ports.console.input }
+        ensures fits { length result.now ≤ MAX_INPUT }
     {
         self.ports.input()
     }

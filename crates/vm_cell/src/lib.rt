@@ -4,4 +4,4 @@
 mod hart;
 mod vm;
 
-pub use vm::{Ran, Stepped, Vm};
+pub use vm::{Brood, Ran, Stepped, Vm};

@@ -3,8 +3,7 @@ ghost use Rattle.console_port.specs.declared.port.TheConstants.{MAX_INPUT};
 ghost use Rattle.forest_model.specs.Machine.{IsWithinLimit, after_steps, boot};
 ghost use Rattle.vm_cell.specs.Acts.{Grows};
 ghost use Rattle.vm_cell.specs.Shown.{peeked, shown_registers};
-ghost use Rattle.fork_port.specs.declared.commands.Call.{Call as Asked};
-ghost use Rattle.vm_cell.specs.Steps.{GoesOn, Stands, Steps};
+ghost use Rattle.vm_cell.specs.Steps.{GoesOn, IsAfterStep, Stands, Steps};
 
 use crate::hart::{Acted, Hart};
 use cow_disk::Disk;
@@ -14,6 +13,10 @@ use fork_port::Call;
 use rv_traps::TIMER_INTERRUPT;
 use std::alloc::{AllocError, Global};
 use std::marker::Model;
+
+mod fork;
+
+pub use fork::Brood;
 
 /// Where a machine stands after a step.
 #[derive(Clone, Copy, Debug, PartialEq, Eq)]
@@ -50,7 +53,7 @@ impl Model for Vm {
 
     ghost view = { λ v. record { state = v.hart; steps = v.steps; limit = v.limit; ending = v.ending } };
 
-    ghost invariant = { λ v. IsCounted v.steps v.limit v.ending v.hart.ports.fork.next_ticket };
+    ghost invariant = { λ v. IsCounted v.steps v.limit v.ending v.hart.ports.fork };
 }
 
 impl Vm {
@@ -144,8 +147,8 @@ impl Vm {
         Ok(self.standing())
     }
 
-    /// Makes at most `most` steps, until the machine ends or is to make a call. After an `Err` the
-    /// steps before it stand.
+    /// Makes at most `most` steps, until the machine ends or is to make a call, and looks at the step after
+    /// them. After an `Err` the steps before it stand.
     pub fn run(&mut self, most: u64) -> Result<Ran, AllocError>
         ensures steps { IfOk result (λ ran. self.new ≡ after_steps ran.steps self.old) }
         ensures each_made { IfOk result (λ ran. self.new.steps ≡ self.old.steps + ran.steps) }
@@ -171,7 +174,7 @@ impl Vm {
         }
         Ok(Ran {
             steps,
-            why: self.standing(),
+            why: self.standing_now(),
         })
     }
 
@@ -209,17 +212,29 @@ impl Vm {
         Ok(None)
     }
 
-    /// Where the machine stands.
+    /// Where the machine stands after a step, with no look at the next one.
     #[inline]
     fn standing(&self) -> Stepped
-        ensures stands { Stands self.now result }
-        ensures no_call { (call : Asked) → result ≢ Stepped.Call call }
-        ensures within { IsWithinLimit self.now }
-        ensures counted { self.now.steps ≤ self.now.limit }
+        ensures { IsAfterStep self.now result }
     {
         match self.ending {
             None => Stepped::Went,
             Some(ending) => Stepped::Ended(ending),
+        }
+    }
+
+    /// Where the machine stands, with a look at the next step.
+    fn standing_now(&self) -> Stepped
+        ensures stands { Stands self.now result }
+        ensures within { IsWithinLimit self.now }
+        ensures counted { self.now.steps ≤ self.now.limit }
+    {
+        if let Some(ending) = self.ending {
+            return Stepped::Ended(ending);
+        }
+        match self.call() {
+            Some(call) => Stepped::Call(call),
+            None => Stepped::Went,
         }
     }
 }

@@ -24,7 +24,7 @@ use vm_bus::Effect;
 impl Hart {
     /// The address of a load or a store.
     #[inline]
-    fn data_address(&self, instr: Instr) -> u32
+    pub(super) fn data_address(&self, instr: Instr) -> u32
         ensures { result ≡ data_address instr self.now }
     {
         self.register(instr.rs1())

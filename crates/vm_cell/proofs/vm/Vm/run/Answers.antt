@@ -15,10 +15,11 @@ loop-steps-preserved c =
 
 pub returns-clause-enough : goal.returns-clause-enough
 returns-clause-enough c = λ enough went.
-    let live : c.loop-steps.self.ending ≡ None = rw went at c.standing.ensures.stands in
+    let stands = rw went at c.standing_now.ensures.stands in
+    let live : c.loop-steps.self.ending ≡ None = stands.0 in
     let all : c.loop-steps.steps ≡ c.args.most =
     elim c.loop-steps-test.branch [
       | then-loop-steps-test+else-is_none w ↦ grind arith
       | else-loop-steps-test w ↦ omega (arith, c.loop-steps.invariant.1)
     ] in
-    enough_made _ _ _ _ c.loop-steps.invariant.0 c.standing.ensures.within live all enough
+    enough_made _ _ _ _ c.loop-steps.invariant.0 c.standing_now.ensures.within live all enough

@@ -1,0 +1,109 @@
+//! Calls: which one the coming step is, and what those do that change this hart alone.
+
+ghost use Rattle.std.specs.Prelude.{◌≡◌, ℕ, true, false, length, option_map, IsSome, IsSomeAnd, OnOk, OnErr};
+ghost use Rattle.fork_port.specs.Children.{after_clone, after_join, after_kill};
+ghost use Rattle.fork_port.specs.Registers.{HasTicket, ticket_found, ticket_told};
+ghost use Rattle.forest_model.specs.Execute.{action, execute};
+ghost use Rattle.vm_cell.specs.Standing.{AsksFor, call_asked, made};
+
+use super::Hart;
+use forest_model::Written;
+use forest_model::port_map::FORK_BASE;
+use fork_port::registers::FORK_COMMAND;
+use fork_port::{Asked, Call, Ending};
+use rv_decode::{Instr, Kind, decode};
+use std::alloc::AllocError;
+
+impl Hart {
+    /// The call that the coming step is, if it is one.
+    #[tactic(auto, unfolding(forest_model::specs::Execute::action))]
+    pub fn call(&self) -> Option<Call>
+        ensures { AsksFor (action self.now) self.now result }
+    {
+        if self.csrs.interrupt(self.ports.is_timer_due()) {
+            return None;
+        }
+        let Some(offset) = self.ram_offset(self.pc) else {
+            return None;
+        };
+        match decode(self.memory.peek(offset)) {
+            Some(instr) => self.call_of(instr),
+            None => None,
+        }
+    }
+
+    /// The call that an instruction at the pc is: a store of a word to the fork port's command.
+    fn call_of(&self, instr: Instr) -> Option<Call>
+        ensures { (word : ℕ) → AsksFor (execute instr word self.now) self.now result }
+    {
+        match instr.kind() {
+            Kind::Sw => self.call_stored(instr),
+            _ => None,
+        }
+    }
+
+    fn call_stored(&self, instr: Instr) -> Option<Call>
+        requires { instr.kind ≡ Kind.Sw }
+        ensures { (word : ℕ) → AsksFor (execute instr word self.now) self.now result }
+    {
+        if self.data_address(instr) != FORK_BASE + FORK_COMMAND {
+            return None;
+        }
+        call_in(self.ports.asked(self.register(instr.rs2())))
+    }
+
+    /// How many children a ticket is for, the share of each, and whether they were made.
+    pub fn find(&self, ticket: u32) -> Option<(u32, u32, bool)>
+        ensures { result ≡ option_map ticket_told (ticket_found self.now.ports.fork ticket) }
+    {
+        self.ports.find(ticket)
+    }
+
+    /// Makes CLONE, which retires and is counted.
+    pub fn fork(&mut self, ticket: u32)
+        requires { HasTicket self.old.ports.fork ticket false }
+        ensures { self.new ≡ made (after_clone self.old.ports.fork ticket) self.old }
+    {
+        self.ports.cloned(ticket);
+        self.retire_call();
+    }
+
+    /// Makes JOIN, which retires and is counted.
+    pub fn join(&mut self, ticket: u32, endings: &[Ending]) -> Result<(), AllocError>
+        requires there { HasTicket self.old.ports.fork ticket true }
+        requires all { IsSomeAnd (ticket_found self.old.ports.fork ticket) (λ ticket. length endings.now ≡ ticket.children) }
+        ensures ok { OnOk result (self.new ≡ made (after_join self.old.ports.fork ticket endings.now) self.old) }
+        ensures err { OnErr result (self.new ≡ self.old) }
+    {
+        self.ports.joined(ticket, endings)?;
+        self.retire_call();
+        Ok(())
+    }
+
+    /// Makes KILL, which retires and is counted.
+    pub fn kill(&mut self, ticket: u32)
+        requires { IsSome (ticket_found self.old.ports.fork ticket) }
+        ensures { self.new ≡ made (after_kill self.old.ports.fork ticket) self.old }
+    {
+        self.ports.killed(ticket);
+        self.retire_call();
+    }
+
+    /// The instruction of a call retires, and is counted.
+    fn retire_call(&mut self)
+        ensures { self.new ≡ made self.old.ports.fork self.old }
+    {
+        self.pc = self.pc.wrapping_add(4);
+        self.count(true, Written::Nothing);
+    }
+}
+
+/// The call among what commands ask for.
+fn call_in(asked: Asked) -> Option<Call>
+    ensures { result ≡ call_asked asked }
+{
+    match asked {
+        Asked::Call(call) => Some(call),
+        _ => None,
+    }
+}
