@@ -6,9 +6,7 @@ use Rattle.std.proofs.lemmas.Bool.{lt-ltb}
 use Rattle.elf_load.specs.Image.{Image}
 use Rattle.elf_load.specs.Elf.{loaded}
 use Rattle.fork_port.specs.declared.commands.Call.{Call as Asked}
-use Rattle.fork_port.specs.declared.ending.Ending.{Ending}
 use Rattle.forest_model.specs.declared.Options.{Options}
-use Rattle.forest_tree.specs.Tree.{machine}
 use Rattle.forest_tree.specs.Settle.{alone}
 use Rattle.forest_model.specs.Machine.{Machine, IsWithinLimit, call, next, boot, after_steps}
 use Rattle.forest_model.specs.Forest.{IsChildless, booted, call_of, finish, machines}
@@ -16,7 +14,6 @@ use Rattle.forest_model.proofs.Alone.{IsChildless-after_steps, no-call, finish-c
 use Rattle.vm_cell.specs.declared.vm.Stepped.{Stepped}
 use Rattle.vm_cell.specs.declared.vm.Stepped.TheVariants.{Went, Call, Ended}
 use Rattle.vm_cell.specs.Steps.{Stands}
-use Rattle.run_report.specs.Report.{ended_root, report, report_by, report_of}
 use Rattle.snow_main.specs.declared.program.TheConstants.{IMAGE_LOAD, DISK_LOAD, INPUT_LOAD, IMAGE_MOST, DISK_MOST}
 use Rattle.console_port.specs.declared.port.TheConstants.{MAX_INPUT}
 use Rattle.snow_main.specs.declared.program.Stop.{Stop}
@@ -153,18 +150,14 @@ booted-enough m image disk input options booted =
 pub booted-finished : (m new : Machine) (steps : ℕ) (why : Stepped) (image : Image) (disk input : List ℕ) (options : Options)
     → options.allot ≡ 0 → 1 ≤ options.limit → m ≡ boot image disk input options
     → new ≡ after_steps steps m → Stands new why → (m.limit ≤ m.steps + options.limit → why ≢ Went)
-    → (new ≡ machine (finish (booted image disk input options))) × IsSome new.ending
+    → (finish (booted image disk input options) ≡ alone machines new) × IsSome new.ending
 booted-finished m new steps why image disk input options none some booted run stands enough =
     let childless = booted-childless m image disk input options none booted in
     let later : IsChildless new = subst IsChildless (sym run) (IsChildless-after_steps steps m childless) in
     let ended : IsSome new.ending = ended-by new why later (enough (booted-enough m image disk input options booted)) stands in
     let alone_there = finish-childless steps m childless (booted-within m image disk input options some booted)
     (subst (λ (k : Machine). IsSome k.ending) run ended) in
-    (run ∙ sym (ap machine alone_there) ∙ ap (λ (k : Machine). machine (finish (alone machines k))) booted, ended)
-
-pub report-ended : (m : Machine) (ending : Ending) → m.ending ≡ Some ending → report m ≡ report_of (ended_root ending m)
-unfolding report
-report-ended m ending h = ap (λ ended. report_by ended m) h
+    (ap (λ (k : Machine). finish (alone machines k)) (sym booted) ∙ alone_there ∙ ap (alone machines) (sym run), ended)
 
 pub not-None : {A : Type 0} (o : Option A) → IsSome o → o ≡ None → ⊥
 not-None None h e = cc

@@ -6,7 +6,6 @@ use Rattle.cow_disk.specs.declared.disk.TheConstants.{SECTOR_SIZE}
 use Rattle.elf_load.specs.Image.{Image}
 use Rattle.elf_load.specs.Elf.{loaded}
 use Rattle.forest_model.specs.declared.Options.{Options}
-use Rattle.forest_tree.specs.Tree.{machine}
 use Rattle.forest_model.specs.Forest.{booted, finish}
 use Rattle.run_report.specs.Report.{report}
 use Rattle.snow_main.specs.declared.program.TheConstants.{IMAGE_MOST, DISK_MOST, IMAGE_LOAD, DISK_LOAD, INPUT_LOAD}
@@ -55,7 +54,7 @@ options_of values = record { limit = values.limit; allot = 0 }
 -- clones, so it is alone there
 abbrev pub booted_text : RunValues → Image → List ℕ → List ℕ → Result (List ℕ) Refusal
 booted_text values image disk input =
-    if length disk % SECTOR_SIZE == 0 then Ok (report (machine (finish (booted image disk input (options_of values))))) else Err disk_not_sectors
+    if length disk % SECTOR_SIZE == 0 then Ok (report (finish (booted image disk input (options_of values)))) else Err disk_not_sectors
 
 -- the same of what the loader makes of an image, or the number of its refusal
 abbrev pub loaded_text : RunValues → Result Image ℕ → List ℕ → List ℕ → Result (List ℕ) Refusal

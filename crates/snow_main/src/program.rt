@@ -2,7 +2,6 @@
 
 ghost use Rattle.std.specs.Prelude.{◌≡◌, ◌≤◌, ◌↔◌, length, vec_len, IfOk, None, Some};
 ghost use Rattle.std.specs.Option.{option_map};
-ghost use Rattle.forest_tree.specs.Tree.{machine};
 ghost use Rattle.forest_model.specs.Forest.{booted, finish};
 ghost use Rattle.io_edge.specs.Outside.{HasRisen};
 ghost use Rattle.run_report.specs.Report.{report, report_of};
@@ -333,13 +332,17 @@ fn run_to_end(
     requires input { length input.now ≤ MAX_INPUT }
     requires least { LEAST_LIMIT ≤ limit }
     requires most { limit ≤ MOST_LIMIT }
-    ensures { IfOk result (λ outcome. report (machine (finish (booted image.now disk input.now (record { limit = limit; allot = 0 })))) ≡ report_of outcome) }
+    ensures { IfOk result (λ outcome. report (finish (booted image.now disk input.now (record { limit = limit; allot = 0 }))) ≡ report_of outcome) }
 {
     let options = Options { limit, allot: 0 };
     let mut vm = Vm::boot(alloc, image, disk, input, options)?;
     vm.run(limit)?;
     match vm.ended() {
-        Some(ending) => Ok(Outcome::new(Name::root(alloc), ending, vm.steps(), vm.into_output())),
+        Some(ending) => {
+            let steps = vm.steps();
+            let log = Vec::new(alloc);
+            Ok(Outcome::new(Name::root(alloc), ending, steps, vm.into_output(), log))
+        }
         None => unreachable!(),
     }
 }
