@@ -5,3 +5,6 @@ mod hart;
 mod vm;
 
 pub use vm::{Brood, Ran, Stepped, Vm};
+
+#[cfg(test)]
+mod tests;

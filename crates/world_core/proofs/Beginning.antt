@@ -1,0 +1,85 @@
+-- The world of one machine.
+use Rattle.std.proofs.Common.{◌≡◌, ◌≢◌, ℕ, Bool, true, false, refl, sym, ap, ◌∙◌, subst, List, [], ◌∷◌, Option, Some, None, is_some, option_and_then}
+use Rattle.std.specs.Option.{IfSome}
+use Rattle.std.specs.BTreeMap.{BTreeMap, Updates, get}
+use Rattle.boxcar.specs.Table.{Shelves}
+use Rattle.port_rules.specs.Rules.{cloned_numbers}
+use Rattle.forest_tree.specs.Operations.{is_among, is_cloned}
+use Rattle.forest_tree.specs.Tree.{Tree, no_brood, child_at, brood_of, Branch, Path, subtree}
+use Rattle.forest_tree.specs.Settle.{alone}
+use Rattle.forest_history.specs.Places.{home, Spot, spots}
+use Rattle.forest_history.specs.World.{world_of, holds, is_ready, lives_ready}
+use Rattle.forest_history.proofs.Ends.{start-whole}
+use Rattle.forest_model.specs.Machine.{Machine}
+use Rattle.forest_model.specs.Forest.{machines, port_of}
+use Rattle.run_report.specs.NameOrder.{path_cmp}
+use Rattle.run_report.proofs.NameMaps.{updated-here, updated-apart}
+use Rattle.world_core.specs.declared.cell.Cell.{Cell}
+use Rattle.world_core.specs.declared.reason.Reason.{Reason}
+use Rattle.world_core.specs.declared.world.World.{World}
+use Rattle.world_core.specs.Waiting.{Waiting, IsListed}
+use Rattle.world_core.specs.Shows.{forest, IsAwake, CellShows, Shows}
+use Rattle.world_core.specs.World.{IsDue, StandsFor}
+use Rattle.world_core.proofs.Ready.{IsListed-first}
+
+-- a machine without tickets has cloned none
+no-ticket : (vm : Machine) → (port_of vm).tickets ≡ [] → machines.cloned vm ≡ []
+unfolding machines cloned_numbers
+no-ticket vm none = ap cloned_numbers none
+
+pub none-cloned : (vm : Machine) → (port_of vm).tickets ≡ [] → (ticket : ℕ) → is_cloned machines vm ticket ≡ false
+unfolding is_among
+none-cloned vm none ticket = ap (is_among ticket) (no-ticket vm none)
+
+module _ (depot : Shelves) (vm : Machine) (old cells : BTreeMap Path Cell) (list : List Waiting) (cell : Cell) where
+  abbrev first : Tree (Spot Machine)
+  first = alone forest (record { machine = vm; place = home })
+
+  abbrev start : World
+  start = record { cells = cells; ready = list; halted = None; outcome = None }
+
+  none-below : (x : Branch) (rest : Path) → subtree (x ∷ rest) first ≡ None
+  unfolding subtree brood_of child_at
+  none-below x rest = refl
+
+  root-apart : (x : Branch) (rest : Path) → [] ≢ x ∷ rest
+  root-apart x rest e = cc
+
+  pub start-stands : vm.ending ≡ None → (port_of vm).tickets ≡ [] → machines.is_good vm ≡ true → ((name : Path) → get path_cmp old name ≡ None)
+      → Updates path_cmp old cells [] (Some cell) → CellShows depot [] cell first → list ≡ record { name = []; children = None } ∷ []
+      → StandsFor depot start (world_of machines vm)
+  unfolding subtree
+  start-stands lives none good empty inserted shows listed = record {
+    sound = start-whole machines Reason vm good (no-ticket vm none);
+    halted = refl;
+    tree = record {
+      root = shows.awake;
+      cells = at;
+      ready = due;
+      listed = turn;
+    };
+  }
+    where
+      here_is : get path_cmp cells [] ≡ Some cell
+      here_is = updated-here old cells [] (Some cell) inserted
+
+      gone_is : (x : Branch) (rest : Path) → get path_cmp cells (x ∷ rest) ≡ None
+      gone_is x rest = updated-apart old cells [] (Some cell) inserted (x ∷ rest) (root-apart x rest) ∙ empty (x ∷ rest)
+
+      named : IsListed [] list
+      named = subst (IsListed []) (sym listed) (IsListed-first [] (record { name = []; children = None }) [] refl)
+
+      at : (name : Path) → Shows depot name (get path_cmp cells name) (subtree name first)
+      at [] = subst (λ o. Shows depot [] o (Some first)) (sym here_is) shows
+      at (x ∷ rest) =
+          subst (λ o. Shows depot (x ∷ rest) o (subtree (x ∷ rest) first)) (sym (gone_is x rest))
+          (subst (Shows depot (x ∷ rest) None) (sym (none-below x rest)) tt)
+
+      due : (name : Path) → is_ready machines name first ≡ true → IsDue (get path_cmp cells name) name list
+      due [] ready = subst (λ o. IsDue o [] list) (sym here_is) named
+      due (x ∷ rest) ready =
+          let no : false ≡ true = sym (ap (holds machines (lives_ready machines)) (none-below x rest)) ∙ ready in absurd (cc)
+
+      turn : (name : Path) → IfSome (get path_cmp cells name) (λ (c : Cell). c.is_listed ≡ true → IsListed name list)
+      turn [] = subst (λ o. IfSome o (λ (c : Cell). c.is_listed ≡ true → IsListed [] list)) (sym here_is) (λ is. named)
+      turn (x ∷ rest) = subst (λ o. IfSome o (λ (c : Cell). c.is_listed ≡ true → IsListed (x ∷ rest) list)) (sym (gone_is x rest)) tt

@@ -1,0 +1,137 @@
+-- What the slots of a brood tell of the children that they show.
+use Rattle.std.proofs.Common.{◌≡◌, ℕ, zero, suc, ◌+◌, ◌<◌, Bool, true, false, cond, List, [], ◌∷◌, ◌++◌, length, get_or, replicate, Option, Some, None, is_some, refl, sym, ap, ◌∙◌, subst, arith}
+use Rattle.boxcar.specs.Table.{Shelves}
+use Rattle.fork_port.specs.declared.ending.Ending.{Ending}
+use Rattle.forest_tree.specs.Tree.{Tree, Trees, no_tree, tree, machine, Path}
+use Rattle.forest_tree.specs.Settle.{alone, has_ended, have_ended, with_ending, endings, children_from, children}
+use Rattle.forest_tree.proofs.Settle.{both-true}
+use Rattle.forest_history.specs.Places.{Spot, spots, asleep}
+use Rattle.forest_history.specs.Children.{living}
+use Rattle.forest_model.specs.Machine.{Machine}
+use Rattle.forest_model.specs.Calls.{forked, child}
+use Rattle.forest_model.specs.Forest.{machines}
+use Rattle.forest_model.proofs.Calls.{child-as-parent}
+use Rattle.image_depot.specs.Key.{Key, IsKeyOf}
+use Rattle.vm_descriptor.specs.declared.descriptor.Descriptor.{Descriptor}
+use Rattle.vm_cell.specs.Woken.{AreSeeds, IsSeed}
+use Rattle.vm_cell.specs.declared.vm.fork.Brood.{Brood as Young}
+use Rattle.run_report.specs.Lines.{Line, lines, trees_lines}
+use Rattle.run_report.specs.Name.{child_path}
+use Rattle.world_core.specs.declared.cell.Brood.{Brood}
+use Rattle.world_core.specs.declared.cell.Slot.{Slot}
+use Rattle.world_core.specs.declared.cell.Slot.TheVariants.{Asleep, Awake, Ended}
+use Rattle.world_core.specs.Broods.{endings_in, slot_endings, lines_in, slot_lines}
+use Rattle.world_core.specs.Shows.{forest, told_spot, SlotShows, SlotsShow, BornShows, BroodShows}
+
+-- ---- children that have all ended
+
+ended_slot : (path : Path) (key : Key) (seed : Descriptor) (slot : Slot) (t : Tree (Spot Machine)) → SlotShows path key seed slot t → has_ended forest t ≡ true
+    → (rest : List Ending) → endings_in slot ++ rest ≡ with_ending forest (forest.ending (machine t)) rest
+unfolding spots machines
+ended_slot path key seed Asleep t h ended rest = let lives = h.lives in absurd (cc)
+ended_slot path key seed Awake t h ended rest = let lives = h.lives in absurd (cc)
+ended_slot path key seed (Ended outcome) t h ended rest = ap (λ (e : Option Ending). with_ending forest e rest) (sym h.0)
+
+slot_lines_are : (path : Path) (key : Key) (seed : Descriptor) (slot : Slot) (t : Tree (Spot Machine)) → SlotShows path key seed slot t → has_ended forest t ≡ true
+    → lines_in slot ≡ lines told_spot path t
+slot_lines_are path key seed Asleep t h ended = let lives = h.lives in absurd (cc)
+slot_lines_are path key seed Awake t h ended = let lives = h.lives in absurd (cc)
+slot_lines_are path key seed (Ended outcome) t h ended = h.1
+
+module _ (path : Path) (ticket : ℕ) (key : Key) where
+  shown_endings : (k : ℕ) (seeds : List Descriptor) (slots : List Slot) (trees : Trees (Spot Machine)) → SlotsShow path ticket key k seeds slots trees
+      → have_ended forest trees ≡ true → slot_endings slots ≡ endings forest trees
+  unfolding SlotsShow have_ended endings
+  shown_endings k [] [] no_tree h all = refl
+  shown_endings k [] [] (tree t rest) h all = absurd h
+  shown_endings k [] (slot ∷ slots) trees h all = absurd h
+  shown_endings k (seed ∷ seeds) [] trees h all = absurd h
+  shown_endings k (seed ∷ seeds) (slot ∷ slots) no_tree h all = absurd h
+  shown_endings k (seed ∷ seeds) (slot ∷ slots) (tree t rest) h all =
+      let both = both-true (has_ended forest t) (have_ended forest rest) all in
+      ap (λ (es : List Ending). endings_in slot ++ es) (shown_endings (suc k) seeds slots rest h.1 both.1)
+      ∙ ended_slot (child_path path ticket k) key seed slot t h.0 both.0 (endings forest rest)
+
+  shown_lines : (k : ℕ) (seeds : List Descriptor) (slots : List Slot) (trees : Trees (Spot Machine)) → SlotsShow path ticket key k seeds slots trees
+      → have_ended forest trees ≡ true → slot_lines slots ≡ trees_lines told_spot path ticket k trees
+  unfolding SlotsShow have_ended lines
+  shown_lines k [] [] no_tree h all = refl
+  shown_lines k [] [] (tree t rest) h all = absurd h
+  shown_lines k [] (slot ∷ slots) trees h all = absurd h
+  shown_lines k (seed ∷ seeds) [] trees h all = absurd h
+  shown_lines k (seed ∷ seeds) (slot ∷ slots) no_tree h all = absurd h
+  shown_lines k (seed ∷ seeds) (slot ∷ slots) (tree t rest) h all =
+      let both = both-true (has_ended forest t) (have_ended forest rest) all in
+      ap (λ (ls : List Line). lines_in slot ++ ls) (shown_lines (suc k) seeds slots rest h.1 both.1)
+      ∙ ap (λ (ls : List Line). ls ++ trees_lines told_spot path ticket (suc k) rest) (slot_lines_are (child_path path ticket k) key seed slot t h.0 both.0)
+
+-- the same of a brood
+module _ (depot : Shelves) (path : Path) (ticket : ℕ) where
+  born_endings : (young : Option Young) (slots : List Slot) (trees : Trees (Spot Machine)) → BornShows depot path ticket young slots trees
+      → have_ended forest trees ≡ true → slot_endings slots ≡ endings forest trees
+  born_endings None slots trees h all = absurd h
+  born_endings (Some young) slots trees h all = shown_endings path ticket young.key 1 young.seeds.items slots trees h.1 all
+
+  born_lines : (young : Option Young) (slots : List Slot) (trees : Trees (Spot Machine)) → BornShows depot path ticket young slots trees
+      → have_ended forest trees ≡ true → slot_lines slots ≡ trees_lines told_spot path ticket 1 trees
+  born_lines None slots trees h all = absurd h
+  born_lines (Some young) slots trees h all = shown_lines path ticket young.key 1 young.seeds.items slots trees h.1 all
+
+  pub brood_endings : (b : Brood) (trees : Trees (Spot Machine)) → BroodShows depot path ticket b trees → have_ended forest trees ≡ true
+      → slot_endings b.slots.items ≡ endings forest trees
+  brood_endings b trees h all = born_endings b.young b.slots.items trees h.born all
+
+  pub brood_lines : (b : Brood) (trees : Trees (Spot Machine)) → BroodShows depot path ticket b trees → have_ended forest trees ≡ true
+      → slot_lines b.slots.items ≡ trees_lines told_spot path ticket 1 trees
+  brood_lines b trees h all = born_lines b.young b.slots.items trees h.born all
+
+-- ---- children that are born
+
+child_ending : (m : Machine) (k : ℕ) → (child m k).ending ≡ (forked m).ending
+child_ending m k = ap (λ (n : Machine). n.ending) (child-as-parent m k)
+
+child_lives : (s : Spot Machine) → forest.ending (forest.forked s) ≡ None → (k : ℕ) → has_ended forest (alone forest (forest.child s k)) ≡ false
+unfolding spots machines
+child_lives s lives k = ap is_some (child_ending s.machine k ∙ lives)
+
+living_children : (s : Spot Machine) → forest.ending (forest.forked s) ≡ None → (n k : ℕ) → living forest (children_from forest s k n) ≡ n
+unfolding living children_from
+living_children s lives zero k = refl
+living_children s lives (suc n) k =
+    let rest : living forest (children_from forest s (suc k) n) ≡ n = living_children s lives n (suc k) in
+    let more : 1 + living forest (children_from forest s (suc k) n) ≡ suc n = omega arith in
+    ap (λ (ended : Bool). cond ended 0 1 + living forest (children_from forest s (suc k) n)) (child_lives s lives k) ∙ more
+
+module _ (path : Path) (ticket : ℕ) (key : Key) (s : Spot Machine) (lives : forest.ending (forest.forked s) ≡ None) where
+  born_shows : (n k : ℕ) (seeds : List Descriptor) → length seeds ≡ n
+      → ((i : ℕ) (default : Descriptor) → i < n → IsSeed s.machine (i + k) key (get_or seeds i default))
+      → SlotsShow path ticket key k seeds (replicate n Asleep) (children_from forest s k n)
+  unfolding SlotsShow children_from spots machines
+  born_shows zero k [] size h = tt
+  born_shows zero k (seed ∷ seeds) size h = absurd (omega arith)
+  born_shows (suc n) k [] size h = absurd (omega arith)
+  born_shows (suc n) k (seed ∷ seeds) size h =
+      let first : IsSeed s.machine k key seed = (let same : 0 + k ≡ k = omega arith in subst (λ j. IsSeed s.machine j key seed) same (h 0 seed (omega arith))) in (
+        record {
+          of_image = first.of_image;
+          born = ap (λ (m : Machine). alone forest (record { machine = m; place = asleep })) (sym first.wakes);
+          lives = child_lives s lives k;
+        },
+        born_shows n (suc k) seeds (omega arith)
+            (λ i default within. let same : suc i + k ≡ i + suc k = omega arith in
+            subst (λ j. IsSeed s.machine j key (get_or seeds i default)) same (h (suc i) default (omega arith))),
+      )
+
+pub brood_born : (depot : Shelves) (path : Path) (ticket : ℕ) (s : Spot Machine) (b : Brood) (young : Young) → forest.ending (forest.forked s) ≡ None
+    → b.young ≡ Some young → b.slots.items ≡ replicate (forest.grant s ticket).children Asleep → b.live ≡ (forest.grant s ticket).children
+    → IsKeyOf depot young.key → length young.seeds.items ≡ (forest.grant s ticket).children → AreSeeds s.machine young.key young.seeds.items
+    → BroodShows depot path ticket b (children forest s ticket)
+brood_born depot path ticket s b young lives is slots live key size seeds =
+    let n = (forest.grant s ticket).children in
+    record {
+      live = live ∙ sym (living_children s lives n 1);
+      born =
+          subst (λ (o : Option Young). BornShows depot path ticket o b.slots.items (children forest s ticket)) (sym is)
+          (subst (λ (items : List Slot). BornShows depot path ticket (Some young) items (children forest s ticket)) (sym slots)
+          (key, born_shows path ticket young.key s lives n 1 young.seeds.items size (λ i default within. seeds i default (subst (λ m. i < m) (sym size) within))));
+    }

@@ -1,0 +1,191 @@
+-- What is left of a machine that has ended, and the world without it.
+use Rattle.std.proofs.Common.{◌≡◌, ◌⊎◌, ℕ, Bool, true, false, cond, refl, sym, ap, ◌∙◌, subst, inl, inr, List, [], ◌∷◌, ◌++◌, length, arith, Option, Some, None, option_and_then}
+use Rattle.std.specs.Option.{IfSome, IsSomeAnd}
+use Rattle.std.specs.Map.{lookup}
+use Rattle.std.specs.Ordering.{nat_cmp}
+use Rattle.std.specs.BTreeMap.{BTreeMap, btree_map_len, get, is_at}
+use Rattle.boxcar.specs.Table.{Shelves}
+use Rattle.fork_port.specs.declared.ending.Ending.{Ending}
+use Rattle.forest_tree.specs.Operations.{is_cloned}
+use Rattle.forest_tree.specs.Tree.{Tree, node, Trees, no_tree, Broods, no_brood, machine, broods_of, child_at, brood_of, Branch, Path, subtree, beyond}
+use Rattle.forest_tree.specs.Sound.{IsSound}
+use Rattle.forest_tree.proofs.Places.{brood_of-none}
+use Rattle.forest_history.specs.Places.{at_path, Place, home, Spot, put, placed, spots}
+use Rattle.forest_model.specs.Machine.{Machine}
+use Rattle.forest_model.specs.Forest.{machines}
+use Rattle.run_report.specs.NameOrder.{path_cmp}
+use Rattle.run_report.specs.Lines.{own_lines_by, lines, log_lines}
+use Rattle.run_report.specs.Report.{Ended, lines_of}
+use Rattle.world_core.specs.declared.cell.Brood.{Brood}
+use Rattle.world_core.specs.declared.cell.Cell.{Cell}
+use Rattle.world_core.specs.declared.world.World.{World}
+use Rattle.world_core.specs.Waiting.{IsListed}
+use Rattle.world_core.specs.Shows.{forest, told_spot, TallyAt, Tallies, HoldsAfter, IsAwake, CellShows, Shows, child_of, ended_tree}
+use Rattle.world_core.specs.World.{Forest, IsDue, StandsFor}
+use Rattle.world_core.specs.Between.{HasLeft, IsBetween, IsLeaving, IsWhole, TakesOut, with_tree}
+use Rattle.world_core.proofs.Changes.{Lies, here, below, parent, above, apart, lies}
+use Rattle.world_core.proofs.Returns.{append-none}
+use Rattle.world_core.proofs.Leaving.{left-ended, parent-shows}
+
+-- ---- what is left where a machine has ended
+
+none-in : {X : Type 0} (test : ℕ → Bool) (es : List (ℕ × X)) → length es ≡ 0 → lookup test es ≡ None
+none-in test [] e = refl
+none-in test (x ∷ es) e = absurd (omega arith)
+
+-- a cell without broods is that of a machine without children
+untallied : (path : Path) (count : ℕ) (b : Option Brood) (is : Bool) → b ≡ None → TallyAt path count b is → is ≡ false
+untallied path count None false e h = refl
+untallied path count None true e h = absurd h
+untallied path count (Some b) is e h = absurd (cc)
+
+childless : (path : Path) (c : Cell) (a : Tree (Spot Machine)) → btree_map_len c.broods ≡ 0 → Tallies path c a → IsWhole a → (x : Branch) (rest : Path)
+    → subtree (x ∷ rest) a ≡ None
+unfolding subtree child_at
+childless path c (node s broods log) none h whole x rest =
+    let fresh : is_cloned forest s x.ticket ≡ false =
+    untallied path (forest.grant s x.ticket).children (get nat_cmp c.broods x.ticket) (is_cloned forest s x.ticket)
+    (none-in (is_at (nat_cmp x.ticket)) c.broods.entries none) (h.broods x.ticket) in
+    let empty : brood_of x.ticket broods ≡ no_tree = brood_of-none x.ticket broods (whole.one_each x.ticket ∙ ap (λ (b : Bool). cond b 1 0) fresh) in
+    ap (λ (trees : Trees (Spot Machine)). option_and_then (subtree rest) (child_at x.child trees)) empty
+
+no-cell : (depot : Shelves) (name : Path) (c : Option Cell) → Shows depot name c None → c ≡ None
+no-cell depot name None h = refl
+no-cell depot name (Some c) h = absurd h
+
+module _ (depot : Shelves) (w : World) (f : Forest) (name : Path) (a : Tree (Spot Machine)) (between : IsBetween depot w f name a) (cells : BTreeMap Path Cell)
+    (c : Cell) (taken : TakesOut w.cells cells name c) where
+  pub taken-holds : HoldsAfter depot name c a
+  taken-holds = subst (λ o. IsSomeAnd o (λ cell. HoldsAfter depot name cell a)) taken.was between.cell
+
+  all-gone : (rest : Path) → get path_cmp cells (name ++ rest) ≡ None
+  all-gone [] = ap (get path_cmp cells) (append-none name) ∙ taken.here
+  all-gone (x ∷ rest) = by (taken.below x rest)
+    where
+      by : (get path_cmp cells (name ++ (x ∷ rest)) ≡ None)
+          ⊎ ((btree_map_len c.broods ≡ 0) × (get path_cmp cells (name ++ (x ∷ rest)) ≡ get path_cmp w.cells (name ++ (x ∷ rest))))
+          → get path_cmp cells (name ++ (x ∷ rest)) ≡ None
+      by (inl none) = none
+      by (inr alone) =
+          alone.1
+          ∙ no-cell depot (name ++ (x ∷ rest)) (get path_cmp w.cells (name ++ (x ∷ rest)))
+          (subst (Shows depot (name ++ (x ∷ rest)) (get path_cmp w.cells (name ++ (x ∷ rest)))) (childless name c a alone.0 taken-holds.0 between.whole x rest)
+          (between.below x rest))
+
+  pub between-leaves : IsLeaving depot (record w { cells = cells }) f name
+  between-leaves = record {
+    halted = between.halted;
+    going = between.going;
+    root = between.root;
+    there = between.there;
+    gone = all-gone;
+    elsewhere = λ n none. subst (λ o. Shows depot n o (subtree n f.tree)) (sym (taken.elsewhere n none)) (between.elsewhere n none);
+    ready = λ n none is. subst (λ o. IsDue o n w.ready) (sym (taken.elsewhere n none)) (between.ready n none is);
+    listed = λ n. by n (lies name n);
+  }
+    where
+      outer : (n : Path) → beyond name n ≡ None → IfSome (get path_cmp cells n) (λ (cell : Cell). cell.is_listed ≡ true → IsListed n w.ready)
+      outer n none =
+          subst (λ o. IfSome o (λ (cell : Cell). cell.is_listed ≡ true → IsListed n w.ready)) (sym (taken.elsewhere n none)) (between.listed n)
+
+      by : (n : Path) → Lies name n → IfSome (get path_cmp cells n) (λ (cell : Cell). cell.is_listed ≡ true → IsListed n w.ready)
+      by n (here e) =
+          subst (λ o. IfSome o (λ (cell : Cell). cell.is_listed ≡ true → IsListed n w.ready)) (sym (ap (get path_cmp cells) e ∙ taken.here)) tt
+      by n (below x rest e) =
+          subst (λ o. IfSome o (λ (cell : Cell). cell.is_listed ≡ true → IsListed n w.ready)) (sym (ap (get path_cmp cells) e ∙ all-gone (x ∷ rest))) tt
+      by n (parent x none e) = outer n none
+      by n (above x y rest none e) = outer n none
+      by n (apart none e) = outer n none
+
+-- its lines are the same at every place
+own-placed : (e : Option Ending) (path : Path) (place : Place) (s : Spot Machine) → own_lines_by told_spot e path (put place s) ≡ own_lines_by told_spot e path s
+own-placed None path place s = refl
+own-placed (Some ending) path place s = refl
+
+lines-placed : (path : Path) (place : Place) (t : Tree (Spot Machine)) → lines told_spot path (placed place t) ≡ lines told_spot path t
+unfolding lines
+lines-placed path place (node s broods log) = ap (λ own. own ++ log_lines told_spot path log) (own-placed (told_spot.ending s) path place s)
+
+-- the machine that has ended, alone with its log
+abbrev pub left_tree : Tree (Spot Machine) → Tree (Spot Machine)
+left_tree (node s broods log) = node s no_brood log
+
+module _ (depot : Shelves) (path : Path) (c : Cell) (a : Tree (Spot Machine)) (vm : Machine) (ending : Ending) (same : (machine a).machine ≡ vm)
+    (over : vm.ending ≡ Some ending) where
+  pub left-tallies : HoldsAfter depot path c a → Tallies path c (left_tree a)
+  left-tallies h = by a h.0
+    where
+      by : (t : Tree (Spot Machine)) → Tallies path c t → Tallies path c (left_tree t)
+      by (node s broods log) k = record { log = k.log; room = k.room; broods = k.broods }
+
+  pub left-sound : IsWhole a → IsSound forest (left_tree a)
+  unfolding IsSound spots machines
+  left-sound whole = by a same whole.good
+    where
+      some-none : (o : Option Ending) → o ≡ Some ending → o ≡ None → ⊥
+      some-none o e none = let no : Some ending ≡ None = sym e ∙ none in cc
+
+      by : (t : Tree (Spot Machine)) → (machine t).machine ≡ vm → forest.is_good (machine t) ≡ true → IsSound forest (left_tree t)
+      by (node s broods log) is good = (
+        record {
+          good = good;
+          ended = λ has. refl;
+          one_each = λ lives t. absurd (some-none s.machine.ending (ap (λ (m : Machine). m.ending) is ∙ over) lives);
+        },
+        tt,
+      )
+
+  pub left-machine : (machine (left_tree a)).machine ≡ vm
+  left-machine = by a same
+    where
+      by : (t : Tree (Spot Machine)) → (machine t).machine ≡ vm → (machine (left_tree t)).machine ≡ vm
+      by (node s broods log) is = is
+
+  pub has-left : (outcome : Ended) → outcome.ending ≡ ending → lines_of outcome ≡ lines told_spot path (ended_tree (left_tree a))
+      → HasLeft path (placed home (ended_tree a)) outcome
+  has-left outcome ends told_so = by a same told_so
+    where
+      by : (t : Tree (Spot Machine)) → (machine t).machine ≡ vm → lines_of outcome ≡ lines told_spot path (ended_tree (left_tree t))
+          → HasLeft path (placed home (ended_tree t)) outcome
+      by (node s broods log) is so = record {
+        ending = ap (λ (m : Machine). m.ending) is ∙ over ∙ ap Some (sym ends);
+        home = refl;
+        alone = refl;
+        lines = so ∙ sym (lines-placed path home (ended_tree (node s broods log)));
+      }
+
+  -- what is wanted of the cell, and what comes of it, where it has the name in a key
+  pub outcome-wanted : HoldsAfter depot path c a → IsWhole a → (key : Path) → key ≡ path → (t : Tree (Spot Machine)) × Tallies key c t × IsSound forest t
+  outcome-wanted holds whole key is = (left_tree a, subst (λ k. Tallies k c (left_tree a)) (sym is) (left-tallies holds), left-sound whole)
+
+  pub left-by : HoldsAfter depot path c a → IsWhole a → (key : Path) → key ≡ path → (moved : Machine) → moved ≡ vm → (outcome : Ended) → outcome.ending ≡ ending
+      → ((t : Tree (Spot Machine)) → Tallies key c t → IsSound forest t → (machine t).machine ≡ moved → moved.ending ≡ Some ending
+      → lines_of outcome ≡ lines told_spot key (ended_tree t))
+      → HasLeft path (placed home (ended_tree a)) outcome
+  left-by holds whole key is moved moved_is outcome ends told_so =
+      has-left outcome ends
+      (told_so (left_tree a) (subst (λ k. Tallies k c (left_tree a)) (sym is) (left-tallies holds)) (left-sound whole) (left-machine ∙ sym moved_is)
+      (ap (λ (m : Machine). m.ending) moved_is ∙ over)
+      ∙ ap (λ k. lines told_spot k (ended_tree (left_tree a))) is)
+
+-- what is wanted of the parent's cell
+pub parent-known : (depot : Shelves) (w : World) (f : Forest) (parent : Path) (x : Branch) → IsLeaving depot w f (parent ++ (x ∷ []))
+    → IfSome (get path_cmp w.cells parent) (λ (c : Cell). (depot : Shelves) × (t a : Tree (Spot Machine))
+    × CellShows depot parent c t × (child_of x.ticket x.child t ≡ Some a) × IsAwake a)
+parent-known depot w f way x leaving = by (get path_cmp w.cells way) refl
+  where
+    by : (o : Option Cell) → get path_cmp w.cells way ≡ o
+        → IfSome o (λ (c : Cell). (depot : Shelves) × (t a : Tree (Spot Machine)) × CellShows depot way c t × (child_of x.ticket x.child t ≡ Some a) × IsAwake a)
+    by None e = tt
+    by (Some c) e = let is = parent-shows depot w f way x c leaving e in (depot, is.0, is.1, is.3, is.4, is.5)
+
+-- the root has left
+pub root-leaves : (depot : Shelves) (w : World) (f : Forest) (b : Tree (Spot Machine)) (outcome : Ended) (name : Path) → name ≡ [] → IsLeaving depot w f name
+    → HasLeft name b outcome → IsSound forest (with_tree name b f).tree → StandsFor depot (record w { outcome = Some outcome }) (with_tree name b f)
+unfolding at_path
+root-leaves depot w f b outcome [] e leaving left sound = record {
+  sound = sound;
+  halted = leaving.halted;
+  tree = record { ended = left-ended [] b outcome left; home = left.home; lines = left.lines; cells = leaving.gone };
+}
+root-leaves depot w f b outcome (x ∷ rest) e leaving left sound = absurd (cc)

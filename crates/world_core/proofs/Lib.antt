@@ -1,0 +1,24 @@
+pub mod TurnLists
+pub mod Steps
+pub mod Changes
+pub mod Ready
+pub mod Returns
+pub mod Slots
+pub mod SlotPlaces
+pub mod SlotBegins
+pub mod SlotWaits
+pub mod SlotChanges
+pub mod SlotSteps
+pub mod SlotEnds
+pub mod Taking
+pub mod Leaving
+pub mod Finishing
+mod LogKilled
+mod BroodSlots
+mod Broods
+mod Calling
+mod CallKill
+mod CallJoin
+mod CallFork
+pub mod Giving
+pub mod Beginning

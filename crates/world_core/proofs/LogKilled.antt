@@ -1,0 +1,218 @@
+-- The lines of the tickets that a machine had cloned, where it has ended.
+use Rattle.std.proofs.Common.{Less, ◌≡◌, ℕ, ◌^◌, ◌<◌, ◌≤◌, ◌||◌, Bool, true, false, cond, eqb, ltb, eqb-true, List, [], ◌∷◌, ◌++◌, map, Option, Some, None, is_some, refl, sym, ap, ◌∙◌, subst, inl, inr, arith, append_assoc, vec_len}
+use Rattle.std.specs.List.{AllByRecursion}
+use Rattle.std.specs.List.Sorted.{IsStrictlySortedBy}
+use Rattle.std.specs.Map.{lookup, keys_of}
+use Rattle.std.specs.Option.{IfSome}
+use Rattle.std.specs.Ordering.{nat_cmp}
+use Rattle.std.specs.BTreeMap.{IsOrdered, get, is_at}
+use Rattle.std.specs.Cmp.{nat_cmp_is}
+use Rattle.std.proofs.lemmas.Bool.{cases_lt}
+use Rattle.std.proofs.lemmas.Bool.Decides.{nat_tests}
+use Rattle.std.proofs.lemmas.Cmp.{ranked}
+use Rattle.std.proofs.lemmas.List.{append-nil}
+use Rattle.std.proofs.lemmas.Map.Keys.{sorted_head, sorted_tail}
+use Rattle.fork_port.specs.declared.ending.Ending.{Ending}
+use Rattle.fork_port.specs.declared.tickets.Ticket.{Ticket}
+use Rattle.fork_port.specs.Tickets.{IsRising}
+use Rattle.port_rules.specs.Rules.{cloned_numbers, is_accounted}
+use Rattle.port_rules.proofs.Tickets.{accounted-is}
+use Rattle.forest_tree.specs.Operations.{is_among, is_cloned}
+use Rattle.forest_tree.specs.Tree.{Tree, node, Log, killed, log_of, machine, Path}
+use Rattle.forest_tree.specs.Settle.{log_killed}
+use Rattle.forest_tree.specs.Sound.{IsSound}
+use Rattle.forest_tree.proofs.Settle.{both-true, root-sound}
+use Rattle.forest_tree.proofs.Broods.{eqb-same}
+use Rattle.forest_history.specs.Places.{Spot, spots}
+use Rattle.forest_model.specs.Machine.{Machine}
+use Rattle.forest_model.specs.Forest.{machines, port_of}
+use Rattle.run_report.specs.Lines.{Line, machine_line, ticket_line, own_lines_by, lines, log_lines}
+use Rattle.world_core.specs.declared.cell.Brood.{Brood}
+use Rattle.world_core.specs.declared.cell.Cell.{Cell}
+use Rattle.world_core.specs.Broods.{killed_line}
+use Rattle.world_core.specs.Shows.{TallyAt, IsTallied, Tallies, forest, told_spot, ended_tree}
+
+-- ---- the log of killed tickets
+
+abbrev pub ticket_lines : Path → (ℕ → ℕ) → List ℕ → List Line
+ticket_lines path count tickets = map (λ (ticket : ℕ). ticket_line path ticket (count ticket)) tickets
+
+lines_killed : (path : Path) (s : Spot Machine) (tickets : List ℕ) (log : Log (Spot Machine))
+    → log_lines told_spot path (log_killed forest s tickets log) ≡ log_lines told_spot path log ++ ticket_lines path (λ t. (forest.grant s t).children) tickets
+unfolding log_killed lines
+lines_killed path s [] log = sym (append-nil (log_lines told_spot path log))
+lines_killed path s (t ∷ rest) log =
+    lines_killed path s rest (killed log t (forest.grant s t).children)
+    ∙ append_assoc (log_lines told_spot path log) (ticket_line path t (forest.grant s t).children ∷ []) (ticket_lines path (λ u. (forest.grant s u).children) rest)
+
+-- ---- numbers in order
+
+abbrev AreAbove : ℕ → List ℕ → Type 0
+AreAbove u numbers = AllByRecursion (λ y. u < y) numbers
+
+above_first : (x u : ℕ) (xs : List ℕ) → u ≤ x → AllByRecursion (λ y. nat_cmp x y ≡ Less) xs → AreAbove u xs
+above_first x u [] under h = tt
+above_first x u (y ∷ ys) under h = let less : x < y = ranked x y Less (sym h.0) in (omega arith, above_first x u ys under h.1)
+
+not_among : (u : ℕ) (xs : List ℕ) → AreAbove u xs → is_among u xs ≡ false
+unfolding is_among
+not_among u [] h = refl
+not_among u (x ∷ xs) h =
+    let less : u < x = h.0 in
+    let rest = not_among u xs h.1 in
+    grind (arith, nat_tests)
+
+not_looked_up : {X : Type 0} (u : ℕ) (entries : List (ℕ × X)) → AreAbove u (keys_of entries) → lookup (is_at (nat_cmp u)) entries ≡ None
+not_looked_up u [] h = refl
+not_looked_up u (e ∷ es) h =
+    let less : u < e.0 = h.0 in
+    let rest = not_looked_up u es h.1 in
+    grind (arith, nat_tests)
+
+among_first : (x : ℕ) (xs : List ℕ) → is_among x (x ∷ xs) ≡ true
+unfolding is_among
+among_first x xs = ap (λ b. b || is_among x xs) (eqb-same x)
+
+among_rest : (u x : ℕ) (xs : List ℕ) → eqb x u ≡ false → is_among u (x ∷ xs) ≡ is_among u xs
+unfolding is_among
+among_rest u x xs e = ap (λ b. b || is_among u xs) e
+
+looked_up_first : {X : Type 0} (e : ℕ × X) (es : List (ℕ × X)) (u : ℕ) → e.0 ≡ u → lookup (is_at (nat_cmp u)) (e ∷ es) ≡ Some e.1
+looked_up_first e es u same = grind (arith, nat_tests)
+
+looked_up_rest : {X : Type 0} (e : ℕ × X) (es : List (ℕ × X)) (u : ℕ) → eqb e.0 u ≡ false → lookup (is_at (nat_cmp u)) (e ∷ es) ≡ lookup (is_at (nat_cmp u)) es
+looked_up_rest e es u differs = grind (arith, nat_tests)
+
+-- ---- broods that are killed in order
+
+module _ (path : Path) (count : ℕ → ℕ) where
+  abbrev AreTallied : List (ℕ × Brood) → List ℕ → Type 0
+  AreTallied entries tickets = (u : ℕ) → TallyAt path (count u) (lookup (is_at (nat_cmp u)) entries) (is_among u tickets)
+
+  tallied : (o : Option Brood) (among : Bool) (b : Brood) (u : ℕ) → o ≡ Some b → among ≡ true → TallyAt path (count u) o among → IsTallied path (count u) b
+  tallied o among b u found is h =
+      subst (λ (p : Option Brood). TallyAt path (count u) p true) found (subst (TallyAt path (count u) o) is h)
+
+  no_brood_for : (o : Option Brood) (among : Bool) (u : ℕ) → o ≡ None → among ≡ true → TallyAt path (count u) o among → ⊥
+  no_brood_for o among u found is h =
+      subst (λ (p : Option Brood). TallyAt path (count u) p true) found (subst (TallyAt path (count u) o) is h)
+
+  no_ticket_for : (o : Option Brood) (among : Bool) (b : Brood) (u : ℕ) → o ≡ Some b → among ≡ false → TallyAt path (count u) o among → ⊥
+  no_ticket_for o among b u found is h =
+      subst (λ (p : Option Brood). TallyAt path (count u) p false) found (subst (TallyAt path (count u) o) is h)
+
+  line_tallied : (e : ℕ × Brood) (t : ℕ) → e.0 ≡ t → IsTallied path (count t) e.1 → killed_line e ≡ ticket_line path t (count t)
+  line_tallied e t same h =
+      ap (λ (p : Path). ticket_line p e.0 (vec_len e.1.slots)) h.name
+      ∙ ap (λ (n : ℕ). ticket_line path n (vec_len e.1.slots)) same
+      ∙ ap (ticket_line path t) h.size
+
+  tallied_rest : (e : ℕ × Brood) (es : List (ℕ × Brood)) (t : ℕ) (ts : List ℕ) → e.0 ≡ t → AreAbove t (keys_of es) → AreAbove t ts
+      → AreTallied (e ∷ es) (t ∷ ts) → AreTallied es ts
+  tallied_rest e es t ts same above_keys above h u = by (eqb t u) refl
+    where
+      by : (here : Bool) → eqb t u ≡ here → TallyAt path (count u) (lookup (is_at (nat_cmp u)) es) (is_among u ts)
+      by true is =
+          let it : t ≡ u = eqb-true t u is in
+          let none = not_looked_up u es (subst (λ n. AreAbove n (keys_of es)) it above_keys) in
+          let not_there = not_among u ts (subst (λ n. AreAbove n ts) it above) in
+          subst (λ (o : Option Brood). TallyAt path (count u) o (is_among u ts)) (sym none) (subst (TallyAt path (count u) None) (sym not_there) tt)
+      by false is =
+          let there = looked_up_rest e es u (ap (λ n. eqb n u) same ∙ is) in
+          subst (λ (o : Option Brood). TallyAt path (count u) o (is_among u ts)) there
+          (subst (TallyAt path (count u) (lookup (is_at (nat_cmp u)) (e ∷ es))) (among_rest u t ts is) (h u))
+
+  killed_entries : (entries : List (ℕ × Brood)) (tickets : List ℕ) → IsStrictlySortedBy nat_cmp (keys_of entries) → IsStrictlySortedBy nat_cmp tickets
+      → AreTallied entries tickets → map killed_line entries ≡ ticket_lines path count tickets
+  unfolding is_among
+  killed_entries [] [] keys numbers h = refl
+  killed_entries [] (t ∷ ts) keys numbers h = absurd (no_brood_for None (is_among t (t ∷ ts)) t refl (among_first t ts) (h t))
+  killed_entries (e ∷ es) [] keys numbers h =
+      absurd (no_ticket_for (lookup (is_at (nat_cmp e.0)) (e ∷ es)) (is_among e.0 []) e.1 e.0 (looked_up_first e es e.0 refl) refl (h e.0))
+  killed_entries (e ∷ es) (t ∷ ts) keys numbers h = elim (cases_lt e.0 t) [
+    | inl before ↦
+        let above = above_first t e.0 ts (omega arith) (sorted_head nat_cmp t ts numbers) in
+        absurd (no_ticket_for (lookup (is_at (nat_cmp e.0)) (e ∷ es)) (is_among e.0 (t ∷ ts)) e.1 e.0 (looked_up_first e es e.0 refl)
+        (not_among e.0 (t ∷ ts) (before, above)) (h e.0))
+    | inr after ↦ elim (cases_lt t e.0) [
+      | inl before ↦
+          let above = above_first e.0 t (keys_of es) (omega arith) (sorted_head nat_cmp e.0 (keys_of es) keys) in
+          absurd (no_brood_for (lookup (is_at (nat_cmp t)) (e ∷ es)) (is_among t (t ∷ ts)) t (not_looked_up t (e ∷ es) (before, above)) (among_first t ts) (h t))
+      | inr under ↦
+          let same : e.0 ≡ t = omega arith in
+          let first = tallied (lookup (is_at (nat_cmp t)) (e ∷ es)) (is_among t (t ∷ ts)) e.1 t (looked_up_first e es t same) (among_first t ts) (h t) in
+          let above_keys = above_first e.0 t (keys_of es) (omega arith) (sorted_head nat_cmp e.0 (keys_of es) keys) in
+          let above = above_first t t ts (omega arith) (sorted_head nat_cmp t ts numbers) in
+          ap (λ (line : Line). line ∷ map killed_line es) (line_tallied e t same first)
+          ∙ ap (λ (rest : List Line). ticket_line path t (count t) ∷ rest)
+          (killed_entries es ts (sorted_tail nat_cmp e.0 (keys_of es) keys) (sorted_tail nat_cmp t ts numbers) (tallied_rest e es t ts same above_keys above h))
+    ]
+  ]
+
+-- ---- the cloned tickets of a good machine
+
+above_cloned : (number : ℕ) (tickets : List Ticket) → AllByRecursion (λ (other : Ticket). number < other.number) tickets
+    → AllByRecursion (λ y. nat_cmp number y ≡ Less) (cloned_numbers tickets)
+unfolding cloned_numbers
+above_cloned number [] h = tt
+above_cloned number (x ∷ xs) h = by x.is_cloned (sym (nat_cmp_is number x.number Less h.0)) (above_cloned number xs h.1)
+  where
+    by : (is : Bool) → nat_cmp number x.number ≡ Less → AllByRecursion (λ y. nat_cmp number y ≡ Less) (cloned_numbers xs)
+        → AllByRecursion (λ y. nat_cmp number y ≡ Less) (cond is (x.number ∷ cloned_numbers xs) (cloned_numbers xs))
+    by true first rest = (first, rest)
+    by false first rest = rest
+
+sorted_cloned : (tickets : List Ticket) → IsRising tickets → IsStrictlySortedBy nat_cmp (cloned_numbers tickets)
+unfolding cloned_numbers IsStrictlySortedBy
+sorted_cloned [] rising = tt
+sorted_cloned (x ∷ xs) rising = by x.is_cloned (above_cloned x.number xs rising.0) (sorted_cloned xs rising.1)
+  where
+    by : (is : Bool) → AllByRecursion (λ y. nat_cmp x.number y ≡ Less) (cloned_numbers xs) → IsStrictlySortedBy nat_cmp (cloned_numbers xs)
+        → IsStrictlySortedBy nat_cmp (cond is (x.number ∷ cloned_numbers xs) (cloned_numbers xs))
+    by true first rest = (first, rest)
+    by false first rest = rest
+
+accounted : (s : Spot Machine) → forest.is_good s ≡ true → is_accounted (port_of s.machine) ≡ true
+unfolding spots machines
+accounted s good = (both-true (is_accounted (port_of s.machine)) (is_some s.machine.ending || ltb s.machine.steps s.machine.limit) good).0
+
+good_sorted : (s : Spot Machine) → forest.is_good s ≡ true → IsStrictlySortedBy nat_cmp (forest.cloned s)
+unfolding spots machines
+good_sorted s good = sorted_cloned (port_of s.machine).tickets (accounted-is (port_of s.machine) (accounted s good)).rising
+
+-- ---- what a machine leaves that has ended
+
+pub ended_lines : (path : Path) (c : Cell) (t : Tree (Spot Machine)) → Tallies path c t → IsSound forest t → IsOrdered nat_cmp c.broods
+    → log_lines told_spot path (log_of (ended_tree t)) ≡ c.log.items ++ map killed_line c.broods.entries
+ended_lines path c (node s broods log) h sound ordered =
+    let count : ℕ → ℕ = λ t. (forest.grant s t).children in
+    lines_killed path s (forest.cloned s) log
+    ∙ ap (λ (front : List Line). front ++ ticket_lines path count (forest.cloned s)) (sym h.log)
+    ∙ ap (λ (back : List Line). c.log.items ++ back)
+    (sym (killed_entries path count c.broods.entries (forest.cloned s) ordered (good_sorted s (root-sound forest s broods log sound).good) h.broods))
+
+tally_fits : (path : Path) (count : ℕ) (o : Option Brood) (among : Bool) → TallyAt path count o among → IfSome o (λ b. vec_len b.slots < 2 ^ 32)
+tally_fits path count None among h = tt
+tally_fits path count (Some b) false h = absurd h
+tally_fits path count (Some b) true h = omega (arith, h.few)
+
+pub broods_fit : (path : Path) (c : Cell) (t : Tree (Spot Machine)) → Tallies path c t → (number : ℕ) → IfSome (get nat_cmp c.broods number) (λ b. vec_len b.slots < 2 ^ 32)
+broods_fit path c t h number =
+    tally_fits path (forest.grant (machine t) number).children (get nat_cmp c.broods number) (is_cloned forest (machine t) number) (h.broods number)
+
+own_line : (path : Path) (s : Spot Machine) (vm : Machine) (ending : Ending) (steps : ℕ) (output : List ℕ) → s.machine ≡ vm → vm.ending ≡ Some ending
+    → steps ≡ vm.steps → output ≡ vm.state.ports.console.output
+    → machine_line path ending steps output ∷ [] ≡ own_lines_by told_spot (told_spot.ending s) path s
+own_line path s vm ending steps output is ended made put =
+    ap (λ (n : ℕ). machine_line path ending n output ∷ []) (made ∙ ap (λ (m : Machine). m.steps) (sym is))
+    ∙ ap (λ (bytes : List ℕ). machine_line path ending s.machine.steps bytes ∷ []) (put ∙ ap (λ (m : Machine). m.state.ports.console.output) (sym is))
+    ∙ ap (λ (e : Option Ending). own_lines_by told_spot e path s) (sym (ap (λ (m : Machine). m.ending) is ∙ ended))
+
+pub outcome_lines : (path : Path) (c : Cell) (t : Tree (Spot Machine)) (vm : Machine) (ending : Ending) (steps : ℕ) (output : List ℕ) (log : List Line)
+    → Tallies path c t → IsSound forest t → IsOrdered nat_cmp c.broods → log ≡ c.log.items ++ map killed_line c.broods.entries
+    → (machine t).machine ≡ vm → vm.ending ≡ Some ending → steps ≡ vm.steps → output ≡ vm.state.ports.console.output
+    → machine_line path ending steps output ∷ log ≡ lines told_spot path (ended_tree t)
+unfolding lines
+outcome_lines path c (node s broods log') vm ending steps output log h sound ordered told is ended made put =
+    ap (λ (rest : List Line). machine_line path ending steps output ∷ rest) (told ∙ sym (ended_lines path c (node s broods log') h sound ordered))
+    ∙ ap (λ (own : List Line). own ++ log_lines told_spot path (log_of (ended_tree (node s broods log')))) (own_line path s vm ending steps output is ended made put)

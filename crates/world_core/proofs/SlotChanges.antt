@@ -1,0 +1,108 @@
+-- A child of a cell's machine, and the cell once that child has changed.
+use Rattle.std.proofs.Common.{◌≡◌, ℕ, zero, suc, ◌+◌, ◌-◌, ◌<◌, ◌≤◌, true, false, length, List, Option, Some, None, is_some, slice_get, vec_len, sym, ap, ◌∙◌, subst, arith}
+use Rattle.std.proofs.lemmas.Option.{slice_get_within}
+use Rattle.std.specs.Ordering.{nat_cmp}
+use Rattle.std.specs.BTreeMap.{get}
+use Rattle.boxcar.specs.Table.{Shelves}
+use Rattle.forest_tree.specs.Tree.{Tree, Trees, machine, broods_of, brood_of, child_at, Path}
+use Rattle.forest_tree.specs.Settle.{has_ended}
+use Rattle.forest_history.specs.Places.{Spot, spots}
+use Rattle.forest_history.specs.World.{is_asleep_at}
+use Rattle.forest_model.specs.Machine.{Machine}
+use Rattle.forest_model.specs.Forest.{machines}
+use Rattle.image_depot.specs.Key.{Key, IsKeyOf, image_of}
+use Rattle.vm_descriptor.specs.declared.descriptor.Descriptor.{Descriptor}
+use Rattle.vm_cell.specs.Woken.{IsOfImage, woken}
+use Rattle.vm_cell.specs.declared.vm.fork.Brood.{Brood as Young}
+use Rattle.run_report.specs.Name.{child_path}
+use Rattle.world_core.specs.declared.cell.Brood.{Brood}
+use Rattle.world_core.specs.declared.cell.Cell.{Cell}
+use Rattle.world_core.specs.declared.cell.Slot.{Slot}
+use Rattle.world_core.specs.declared.cell.Slot.TheVariants.{Asleep, Awake, Ended}
+use Rattle.world_core.specs.Shows.{forest, Sleeps, SlotShows, SlotsShow, BornShows, Holds, child_of}
+use Rattle.world_core.proofs.Slots.{HasSlot, slot-of, not-first}
+use Rattle.world_core.proofs.SlotWaits.{none-held, one-held}
+
+-- where a ticket has a child, its cell has a brood
+pub no-brood-no-child : (depot : Shelves) (path : Path) (c : Cell) (t a : Tree (Spot Machine)) (ticket index : ℕ) → Holds depot path c t
+    → child_of ticket index t ≡ Some a → get nat_cmp c.broods ticket ≡ None → ⊥
+unfolding child_at
+no-brood-no-child depot path c t a ticket index h found none =
+    let gone : child_of ticket index t ≡ None = ap (child_at index) (none-held depot path c t h ticket none) in cc
+
+-- the slot of child `index`
+pub record IsChildSlot (depot : Shelves) (path : Path) (ticket index : ℕ) (young : Young) (slots : List Slot) (a : Tree (Spot Machine)) : Type 0 where
+  pub first : 1 ≤ index
+  pub key : IsKeyOf depot young.key
+  pub has : HasSlot path ticket young.key 1 (index - 1) young.seeds.items slots a
+
+slot-at : (path : Path) (ticket index : ℕ) (key : Key) (seeds : List Descriptor) (slots : List Slot) (trees : Trees (Spot Machine)) (a : Tree (Spot Machine))
+    → SlotsShow path ticket key 1 seeds slots trees → child_at index trees ≡ Some a
+    → (1 ≤ index) × HasSlot path ticket key 1 (index - 1) seeds slots a
+slot-at path ticket zero key seeds slots trees a h found = absurd (not-first trees a found)
+slot-at path ticket (suc j) key seeds slots trees a h found =
+    (omega arith, subst (λ i. HasSlot path ticket key 1 i seeds slots a) (omega arith) (slot-of path ticket key 1 seeds slots trees j a h found))
+
+child-slot-by : (depot : Shelves) (path : Path) (ticket index : ℕ) (born : Option Young) (young : Young) (slots : List Slot) (trees : Trees (Spot Machine))
+    (a : Tree (Spot Machine)) → BornShows depot path ticket born slots trees → born ≡ Some young → child_at index trees ≡ Some a
+    → IsChildSlot depot path ticket index young slots a
+child-slot-by depot path ticket index born young slots trees a h is found =
+    let shown : BornShows depot path ticket (Some young) slots trees = subst (λ y. BornShows depot path ticket y slots trees) is h in
+    let at = slot-at path ticket index young.key young.seeds.items slots trees a shown.1 found in
+    record { first = at.0; key = shown.0; has = at.1 }
+
+pub child-slot : (depot : Shelves) (path : Path) (c : Cell) (t a : Tree (Spot Machine)) (ticket index : ℕ) (b : Brood) (young : Young) → Holds depot path c t
+    → child_of ticket index t ≡ Some a → get nat_cmp c.broods ticket ≡ Some b → b.young ≡ Some young
+    → IsChildSlot depot path ticket index young b.slots.items a
+child-slot depot path c t a ticket index b young h found some is =
+    child-slot-by depot path ticket index b.young young b.slots.items (brood_of ticket (broods_of t)) a (one-held depot path c t h ticket b some).born is found
+
+-- the place of a child among the slots
+place-by : (depot : Shelves) (path : Path) (ticket index : ℕ) (born : Option Young) (slots : List Slot) (trees : Trees (Spot Machine)) (a : Tree (Spot Machine))
+    → BornShows depot path ticket born slots trees → child_at index trees ≡ Some a → (1 ≤ index) × (index - 1 < length slots)
+place-by depot path ticket index None slots trees a h found = absurd h
+place-by depot path ticket index (Some young) slots trees a h found =
+    let at = slot-at path ticket index young.key young.seeds.items slots trees a h.1 found in
+    (at.0, slice_get_within slots (index - 1) at.1.slot at.1.slot_at)
+
+pub child-place : (depot : Shelves) (path : Path) (c : Cell) (t a : Tree (Spot Machine)) (ticket index : ℕ) (b : Brood) → Holds depot path c t
+    → child_of ticket index t ≡ Some a → get nat_cmp c.broods ticket ≡ Some b → (1 ≤ index) × (index - 1 < vec_len b.slots)
+child-place depot path c t a ticket index b h found some =
+    let at = place-by depot path ticket index b.young b.slots.items (brood_of ticket (broods_of t)) a (one-held depot path c t h ticket b some).born found in
+    (at.0, subst (λ n. index - 1 < n) (sym b.slots.ok.0) at.1)
+
+-- the seed of a child that is still a descriptor
+sleeps-by : (path : Path) (key : Key) (seed : Descriptor) (slot : Slot) (a : Tree (Spot Machine)) → SlotShows path key seed slot a
+    → is_asleep_at (machine a).place ≡ true → has_ended forest a ≡ false → Sleeps key seed a
+unfolding spots machines
+sleeps-by path key seed Asleep a h asleep lives = h
+sleeps-by path key seed Awake a h asleep lives = let no : true ≡ false = sym asleep ∙ h.awake in absurd (cc)
+sleeps-by path key seed (Ended outcome) a h asleep lives = let no : true ≡ false = sym (ap is_some h.0) ∙ lives in absurd (cc)
+
+pub record IsSleepersSeed (depot : Shelves) (index : ℕ) (young : Young) (a : Tree (Spot Machine)) : Type 0 where
+  pub first : 1 ≤ index
+  pub key : IsKeyOf depot young.key
+  pub seed : Descriptor
+  pub seed_at : slice_get young.seeds.items (index - 1) ≡ Some seed
+  pub sleeps : Sleeps young.key seed a
+
+pub sleepers-seed : (depot : Shelves) (path : Path) (c : Cell) (t a : Tree (Spot Machine)) (ticket index : ℕ) (b : Brood) (young : Young) → Holds depot path c t
+    → child_of ticket index t ≡ Some a → is_asleep_at (machine a).place ≡ true → has_ended forest a ≡ false → get nat_cmp c.broods ticket ≡ Some b
+    → b.young ≡ Some young → IsSleepersSeed depot index young a
+sleepers-seed depot path c t a ticket index b young h found asleep lives some is =
+    let at = child-slot depot path c t a ticket index b young h found some is in record {
+      first = at.first;
+      key = at.key;
+      seed = at.has.seed;
+      seed_at = at.has.seed_at;
+      sleeps = sleeps-by (child_path path ticket (1 + (index - 1))) young.key at.has.seed at.has.slot a at.has.shows asleep lives;
+    }
+
+-- the machine that the seed wakes to
+pub wakes-to : (depot : Shelves) (index : ℕ) (young : Young) (a : Tree (Spot Machine)) (seed : Descriptor) → IsSleepersSeed depot index young a
+    → slice_get young.seeds.items (index - 1) ≡ Some seed → IsOfImage young.key seed × ((machine a).machine ≡ woken seed (image_of young.key))
+wakes-to depot index young a seed h at =
+    let same : h.seed ≡ seed = cc (h.seed_at, at) in (
+      subst (IsOfImage young.key) same h.sleeps.of_image,
+      subst (λ s. (machine a).machine ≡ woken s (image_of young.key)) same (ap (λ (u : Tree (Spot Machine)). (machine u).machine) h.sleeps.born),
+    )

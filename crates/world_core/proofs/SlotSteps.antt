@@ -1,0 +1,134 @@
+-- A cell once a child of its machine has changed.
+use Rattle.std.proofs.Common.{◌≡◌, ℕ, zero, suc, ◌+◌, ◌-◌, ◌≤◌, Bool, true, false, cond, eqb, eqb-true, List, Option, Some, None, IsSome, slice_set, vec_len, vec_capacity, refl, sym, ap, ◌∙◌, subst, arith}
+use Rattle.std.proofs.lemmas.Bool.{eqb-false}
+use Rattle.std.proofs.lemmas.Map.Lookups.{exact_unsigned}
+use Rattle.std.specs.declared.cmp.Ordering.{Ordering}
+use Rattle.std.specs.declared.cmp.Ordering.TheVariants.{Less, Equal, Greater}
+use Rattle.std.specs.Ordering.{nat_cmp, is_eq}
+use Rattle.std.specs.BTreeMap.{BTreeMap, get, btree_map_len, WritesThrough}
+use Rattle.std.specs.Vec.{with_item}
+use Rattle.boxcar.specs.Table.{Shelves}
+use Rattle.forest_tree.specs.Operations.{is_cloned}
+use Rattle.forest_tree.specs.Tree.{Tree, node, Trees, machine, brood_of, child_at, at_child, at_brood, Path}
+use Rattle.forest_tree.proofs.Broods.{eqb-same}
+use Rattle.forest_tree.proofs.Places.{brood_of-at, at_child-none}
+use Rattle.forest_history.specs.Places.{Spot}
+use Rattle.forest_history.specs.Children.{life, living}
+use Rattle.forest_history.proofs.Lives.{one-child}
+use Rattle.forest_model.specs.Machine.{Machine}
+use Rattle.image_depot.specs.Key.{Key}
+use Rattle.vm_descriptor.specs.declared.descriptor.Descriptor.{Descriptor}
+use Rattle.vm_cell.specs.declared.vm.fork.Brood.{Brood as Young}
+use Rattle.run_report.specs.Name.{child_path}
+use Rattle.world_core.specs.declared.cell.Brood.{Brood}
+use Rattle.world_core.specs.declared.cell.Cell.{Cell}
+use Rattle.world_core.specs.declared.cell.Slot.{Slot}
+use Rattle.world_core.specs.Shows.{forest, SlotShows, SlotsShow, BornShows, BroodShows, BroodAt, TallyAt, Holds, child_of, with_child}
+use Rattle.world_core.proofs.Slots.{with-slot, not-first}
+
+-- the brood of one ticket is another
+pub record IsWritten (old new : BTreeMap ℕ Brood) (ticket : ℕ) (b : Brood) : Type 0 where
+  pub here : get nat_cmp new ticket ≡ Some b
+  pub others : (u : ℕ) → eqb ticket u ≡ false → get nat_cmp new u ≡ get nat_cmp old u
+  pub length : btree_map_len new ≡ btree_map_len old
+
+equal : (o : Ordering) → is_eq o ≡ true → o ≡ Equal
+equal Less h = absurd (cc)
+equal Equal h = refl
+equal Greater h = absurd (cc)
+
+apart : (t u : ℕ) (same : Bool) → is_eq (nat_cmp t u) ≡ same → eqb t u ≡ false → is_eq (nat_cmp t u) ≡ false
+apart t u true e other = absurd (eqb-false t u other (exact_unsigned t u (equal (nat_cmp t u) e)))
+apart t u false e other = e
+
+pub written : (old new : BTreeMap ℕ Brood) (ticket : ℕ) (b : Brood) → WritesThrough nat_cmp (nat_cmp ticket) old b new → IsSome (get nat_cmp old ticket)
+    → IsWritten old new ticket b
+written old new ticket b h some =
+    let updates = h.3 some in record {
+      here = updates.1;
+      others = λ u other. updates.2 u (apart ticket u (is_eq (nat_cmp ticket u)) refl other);
+      length = h.2;
+    }
+
+-- a brood with another slot, and so many that live
+abbrev pub brood_with : Brood → ℕ → Slot → ℕ → Brood
+brood_with b index slot live = record { name = b.name; young = b.young; slots = with_item b.slots (index - 1) slot; live = live }
+
+slots-with : (path : Path) (ticket index : ℕ) (key : Key) (a b : Tree (Spot Machine)) (slot : Slot) (seeds : List Descriptor) (slots : List Slot)
+    (trees : Trees (Spot Machine)) → ((seed : Descriptor) → SlotShows (child_path path ticket index) key seed slot b)
+    → SlotsShow path ticket key 1 seeds slots trees → child_at index trees ≡ Some a
+    → SlotsShow path ticket key 1 seeds (slice_set slots (index - 1) slot) (at_child (λ a. b) index trees)
+slots-with path ticket zero key a b slot seeds slots trees shows h found = absurd (not-first trees a found)
+slots-with path ticket (suc j) key a b slot seeds slots trees shows h found =
+    let same : j ≡ suc j - 1 = omega arith in let next : suc j ≡ 1 + j = omega arith in
+    subst (λ i. SlotsShow path ticket key 1 seeds (slice_set slots i slot) (at_child (λ a. b) (suc j) trees)) same
+    (with-slot path ticket key 1 seeds slots trees j b slot h (λ seed. subst (λ i. SlotShows (child_path path ticket i) key seed slot b) next (shows seed)))
+
+module _ (depot : Shelves) (path : Path) (ticket index : ℕ) (a b : Tree (Spot Machine)) (slot : Slot)
+    (shows : (key : Key) (seed : Descriptor) → SlotShows (child_path path ticket index) key seed slot b) where
+  born-with : (young : Option Young) (slots : List Slot) (trees : Trees (Spot Machine)) → BornShows depot path ticket young slots trees
+      → child_at index trees ≡ Some a → BornShows depot path ticket young (slice_set slots (index - 1) slot) (at_child (λ a. b) index trees)
+  born-with None slots trees h found = absurd h
+  born-with (Some young) slots trees h found =
+      (h.0, slots-with path ticket index young.key a b slot young.seeds.items slots trees (shows young.key) h.1 found)
+
+  brood-with : (old : Brood) (live : ℕ) (trees : Trees (Spot Machine)) → child_at index trees ≡ Some a → live + life forest a ≡ old.live + life forest b
+      → BroodShows depot path ticket old trees → BroodShows depot path ticket (brood_with old index slot live) (at_child (λ a. b) index trees)
+  brood-with old live trees found lives h = record {
+    live = let one : living forest (at_child (λ a. b) index trees) + life forest a ≡ living forest trees + life forest b =
+        one-child forest (λ a. b) index trees a found in
+        omega (arith, h.live);
+    born = born-with old.young old.slots.items trees h.born found;
+  }
+
+  brood-at-with : (old : Brood) (live : ℕ) (cloned : Bool) (trees : Trees (Spot Machine)) → child_at index trees ≡ Some a
+      → live + life forest a ≡ old.live + life forest b → BroodAt depot path ticket (Some old) cloned trees
+      → BroodAt depot path ticket (Some (brood_with old index slot live)) cloned (at_child (λ a. b) index trees)
+  brood-at-with old live true trees found lives h = brood-with old live trees found lives h
+  brood-at-with old live false trees found lives h = absurd h
+
+  tally-with : (old : Brood) (live count : ℕ) (cloned : Bool) → TallyAt path count (Some old) cloned
+      → TallyAt path count (Some (brood_with old index slot live)) cloned
+  tally-with old live count true h = record { name = h.name; size = h.size; few = h.few }
+  tally-with old live count false h = absurd h
+
+  pub holds-with : (c : Cell) (broods : BTreeMap ℕ Brood) (old : Brood) (live : ℕ) (t : Tree (Spot Machine)) → Holds depot path c t
+      → child_of ticket index t ≡ Some a → get nat_cmp c.broods ticket ≡ Some old → IsWritten c.broods broods ticket (brood_with old index slot live)
+      → live + life forest a ≡ old.live + life forest b → Holds depot path (record c { broods = broods }) (with_child ticket index b t)
+  holds-with c broods old live (node s trees log) h found some w lives = record {
+    tallies = record {
+      log = h.tallies.log;
+      room = subst (λ n. vec_len c.log + n ≤ vec_capacity c.log) (sym w.length) h.tallies.room;
+      broods = λ u. tally u (eqb ticket u) refl;
+    };
+    broods = λ u. brood u (eqb ticket u) refl;
+  }
+    where
+      tally : (u : ℕ) (same : Bool) → eqb ticket u ≡ same → TallyAt path ((forest.grant s u).children) (get nat_cmp broods u) (is_cloned forest s u)
+      tally u true e =
+          subst (λ u. TallyAt path ((forest.grant s u).children) (get nat_cmp broods u) (is_cloned forest s u)) (eqb-true ticket u e)
+          (subst (λ g. TallyAt path ((forest.grant s ticket).children) g (is_cloned forest s ticket)) (sym w.here)
+          (tally-with old live ((forest.grant s ticket).children) (is_cloned forest s ticket)
+          (subst (λ g. TallyAt path ((forest.grant s ticket).children) g (is_cloned forest s ticket)) some (h.tallies.broods ticket))))
+      tally u false e =
+          subst (λ g. TallyAt path ((forest.grant s u).children) g (is_cloned forest s u)) (sym (w.others u e)) (h.tallies.broods u)
+
+      left : (u : ℕ) (same : Bool) → eqb ticket u ≡ same
+          → brood_of u (at_brood (at_child (λ a. b) index) ticket trees) ≡ cond same (at_child (λ a. b) index (brood_of u trees)) (brood_of u trees)
+      left u same e =
+          brood_of-at (at_child (λ a. b) index) (at_child-none (λ a. b) index) ticket u trees
+          ∙ ap (λ same. cond same (at_child (λ a. b) index (brood_of u trees)) (brood_of u trees)) e
+
+      brood : (u : ℕ) (same : Bool) → eqb ticket u ≡ same
+          → BroodAt depot path u (get nat_cmp broods u) (is_cloned forest s u) (brood_of u (at_brood (at_child (λ a. b) index) ticket trees))
+      brood u true e =
+          subst (λ u. BroodAt depot path u (get nat_cmp broods u) (is_cloned forest s u) (brood_of u (at_brood (at_child (λ a. b) index) ticket trees)))
+          (eqb-true ticket u e)
+          (subst (λ g. BroodAt depot path ticket g (is_cloned forest s ticket) (brood_of ticket (at_brood (at_child (λ a. b) index) ticket trees)))
+          (sym w.here)
+          (subst (BroodAt depot path ticket (Some (brood_with old index slot live)) (is_cloned forest s ticket)) (sym (left ticket true (eqb-same ticket)))
+          (brood-at-with old live (is_cloned forest s ticket) (brood_of ticket trees) found lives
+          (subst (λ g. BroodAt depot path ticket g (is_cloned forest s ticket) (brood_of ticket trees)) some (h.broods ticket)))))
+      brood u false e =
+          subst (λ g. BroodAt depot path u g (is_cloned forest s u) (brood_of u (at_brood (at_child (λ a. b) index) ticket trees))) (sym (w.others u e))
+          (subst (BroodAt depot path u (get nat_cmp c.broods u) (is_cloned forest s u)) (sym (left u false e)) (h.broods u))

@@ -1,0 +1,62 @@
+use Rattle.std.proofs.Common.{◌≡◌, ◌∷◌, true, Some, None, refl, sym, ap, ◌∙◌, subst}
+use Rattle.std.specs.BTreeMap.{get}
+use Rattle.std.specs.Option.{IfSome}
+use Rattle.boxcar.specs.Table.{Shelves}
+use Rattle.forest_tree.specs.Tree.{Tree, Branch}
+use Rattle.forest_history.specs.Places.{Spot}
+use Rattle.forest_model.specs.Machine.{Machine}
+use Rattle.run_report.specs.Name.{child_path}
+use Rattle.run_report.specs.NameOrder.{path_cmp}
+use Rattle.world_core.specs.declared.cell.Cell.{Cell}
+use Rattle.world_core.specs.Turns.{turn_of}
+use Rattle.world_core.specs.Waiting.{IsListed}
+use Rattle.world_core.specs.Shows.{CellShows, IsAwake, child_of}
+use Rattle.world_core.specs.World.{StandsFor}
+use Rattle.world_core.specs.Between.{with_tree}
+use Rattle.world_core.proofs.Ready.{IsListed-more, IsListed-first, IsCovered-more}
+use Rattle.world_core.proofs.Leaving.{end-child, if-some-is, leave-none}
+use Rattle.world_core.proofs.world.World.end_child.Goals as goal
+
+pub returns-in_default : goal.returns-in_default
+returns-in_default c depot f b leaving left sound =
+    let x : Branch = record { ticket = c.args.ticket; child = c.args.index } in
+    let w = c.args.self.now in
+    leave-none depot w f c.args.parent.now x b c.args.outcome leaving left (record w { cells = c.get_mut.follows.lender-at-none })
+    (sym c.in_default.ensures.value) sound refl refl
+    (λ n. ap (λ m. get path_cmp m n) c.get_mut.follows.holds-at-none) refl
+
+pub push-requires : goal.push-requires
+push-requires c =
+    let parent = c.args.parent.now in
+    let Known : Cell → Type 0 = λ cell. (depot : Shelves) × (t a : Tree (Spot Machine))
+    × CellShows depot parent cell t × (child_of c.args.ticket c.args.index t ≡ Some a) × IsAwake a in
+    let known = if-some-is (get path_cmp c.args.self.now.cells parent) c.in-Some.cell.now Known c.in-Some.ensures.value c.requires in
+    (c.in-Some-child_ended.ensures.turn known.0 parent known.1 known.3).0
+
+pub returns-in-Some-child_ended : goal.returns-in-Some-child_ended
+returns-in-Some-child_ended c depot f b leaving left sound =
+    let x : Branch = record { ticket = c.args.ticket; child = c.args.index } in
+    let parent = c.args.parent.now in
+    let turn = c.in-Some-child_ended.turn in
+    subst (λ list. StandsFor depot (record c.args.self.now { cells = c.get_mut.follows.lender c.child_ended.new.self; ready = list }) (with_tree (child_path parent c.args.ticket c.args.index) b f)) (sym c.push.ensures)
+    (end-child depot c.args.self.now f parent x b c.args.outcome leaving left sound c.in-Some.cell.now c.child_ended.new.self
+    (c.get_mut.follows.lender c.child_ended.new.self) (turn_of turn.value ∷ c.args.self.now.ready) c.in-Some.ensures.value
+    (c.get_mut.follows.holds c.child_ended.new.self)
+    (λ p a shows there awake. c.child_ended.ensures.shows depot parent p a b shows there awake left.ending left.lines)
+    (λ p a shows there awake. c.child_ended.ensures.ready depot parent p a b shows there awake left.ending)
+    (λ n. IsListed-more n (turn_of turn.value) c.args.self.now.ready) (λ n. IsCovered-more n (turn_of turn.value) c.args.self.now.ready)
+    (λ p shows is. IsListed-first parent (turn_of turn.value) c.args.self.now.ready (c.in-Some-child_ended.ensures.turn depot parent p shows).1))
+
+pub returns-in_default-child_ended : goal.returns-in_default-child_ended
+returns-in_default-child_ended c depot f b leaving left sound =
+    let x : Branch = record { ticket = c.args.ticket; child = c.args.index } in
+    let parent = c.args.parent.now in
+    end-child depot c.args.self.now f parent x b c.args.outcome leaving left sound c.in-Some.cell.now c.child_ended.new.self
+    (c.get_mut.follows.lender c.child_ended.new.self) c.args.self.now.ready c.in-Some.ensures.value
+    (c.get_mut.follows.holds c.child_ended.new.self)
+    (λ p a shows there awake. c.child_ended.ensures.shows depot parent p a b shows there awake left.ending left.lines)
+    (λ p a shows there awake. c.child_ended.ensures.ready depot parent p a b shows there awake left.ending)
+    (λ n h. h) (λ n h. h)
+    (λ p shows is.
+    if-some-is (get path_cmp c.args.self.now.cells parent) c.in-Some.cell.now (λ (cell : Cell). cell.is_listed ≡ true → IsListed parent c.args.self.now.ready)
+    c.in-Some.ensures.value (leaving.listed parent) (sym c.in_default-child_ended.ensures.listed ∙ is))

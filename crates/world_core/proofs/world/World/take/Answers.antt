@@ -1,0 +1,56 @@
+use Rattle.std.proofs.Common.{◌≡◌, ◌∷◌, suc, ◌<◌, length, refl, sym, ap, ◌∙◌, subst, arith}
+use Rattle.std.specs.Option.{IfNone}
+use Rattle.world_core.specs.Turns.{turn_of}
+use Rattle.world_core.proofs.Taking.{over-goes, stopped-goes, idle-goes, none-some, with-popped, goes-on}
+use Rattle.world_core.proofs.world.World.take.Goals as goal
+
+pub returns-then-is_some : goal.returns-then-is_some
+returns-then-is_some c = λ f h. over-goes c.args.depot.now c.args.self.now f h (sym c.if-is_some.ensures)
+
+pub returns-in-Some : goal.returns-in-Some
+returns-in-Some c = λ f h.
+    stopped-goes c.args.depot.now c.args.self.now f c.in-Some.reason h (none-some c.args.self.now.outcome (sym c.if-is_some.ensures)) c.in-Some.is
+
+pub loop-turn-init : goal.loop-turn-init
+loop-turn-init c = record {
+  going = none-some c.args.self.now.outcome (sym c.if-is_some.ensures);
+  unhalted = c.in_default.is;
+  stands = λ f h. h;
+}
+
+pub take_by-requires-clause-world : goal.take_by-requires-clause-world
+take_by-requires-clause-world c =
+    let r = c.requires in (
+      r.0,
+      with-popped c.args.depot.now c.loop-turn.self (turn_of c.in-Some-pop.turn.value) c.pop.new.self r.0 c.in-Some-pop.ensures.first
+          (c.loop-turn.invariant.stands r.0 r.1),
+    )
+
+pub take_by-requires-clause-going : goal.take_by-requires-clause-going
+take_by-requires-clause-going c = (c.loop-turn.invariant.going, c.loop-turn.invariant.unhalted)
+
+pub returns-in-Some-take_by : goal.returns-in-Some-take_by
+returns-in-Some-take_by c = λ f h.
+    c.in-Some-take_by.ensures.takes f
+    (with-popped c.args.depot.now c.loop-turn.self (turn_of c.in-Some-pop.turn.value) c.pop.new.self f c.in-Some-pop.ensures.first
+    (c.loop-turn.invariant.stands f h))
+
+pub loop-turn-smaller : goal.loop-turn-smaller
+loop-turn-smaller c =
+    let same : c.take_by.new.self.ready ≡ c.pop.new.self
+    = subst (λ r. IfNone r (c.take_by.new.self.ready ≡ c.pop.new.self)) c.in_default-take_by.is c.take_by.ensures.turns in
+    let left : length c.take_by.new.self.ready ≡ length c.pop.new.self = ap length same in
+    let was : length c.loop-turn.self.ready ≡ suc (length c.pop.new.self) = ap length c.in-Some-pop.ensures.first in
+    let less : length c.take_by.new.self.ready < length c.loop-turn.self.ready = omega arith in
+    less
+
+pub loop-turn-preserved : goal.loop-turn-preserved
+loop-turn-preserved c =
+    goes-on c.args.depot.now c.args.self.now c.loop-turn.self c.take_by.new.self (turn_of c.in-Some-pop.turn.value) c.pop.new.self c.loop-turn.invariant
+    c.in-Some-pop.ensures.first c.in_default-take_by.ensures.takes c.take_by.ensures.going.0 c.take_by.ensures.going.1
+
+pub returns : goal.returns
+returns c = λ f h.
+    let left = c.in_default-pop.ensures.first in
+    idle-goes c.args.depot.now c.loop-turn.self c.pop.new.self f (c.loop-turn.invariant.stands f h) c.loop-turn.invariant.going c.loop-turn.invariant.unhalted
+    left.0 left.1

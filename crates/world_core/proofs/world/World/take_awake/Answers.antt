@@ -1,0 +1,46 @@
+use Rattle.std.proofs.Common.{refl, sym, ap, ◌∙◌, subst}
+use Rattle.std.specs.BTreeMap.{WritesThrough, get, get_by}
+use Rattle.run_report.specs.NameOrder.{path_cmp}
+use Rattle.forest_tree.specs.Tree.{Path}
+use Rattle.forest_history.specs.Rows.{took}
+use Rattle.world_core.specs.declared.turns.Turn.{out-Turn}
+use Rattle.world_core.specs.declared.world.World.{World}
+use Rattle.world_core.specs.Lent.{Lent}
+use Rattle.world_core.specs.Turns.{turn_of}
+use Rattle.world_core.specs.Answers.{Goes, Starts}
+use Rattle.world_core.specs.Popped.{TakesBy}
+use Rattle.world_core.proofs.Taking.{awake-gone, awake-idle, awake-taken}
+use Rattle.world_core.proofs.world.World.take_awake.Goals as goal
+
+pub returns-in_err-cell-clause-takes : goal.returns-in_err-cell-clause-takes
+returns-in_err-cell-clause-takes c = λ depot f h.
+    let cells = c.get_mut.follows.lender-at-none in
+    let after : World = record c.args.self.now { cells = cells } in
+    subst (λ r. TakesBy depot f r after) (sym c.from_residual.ensures)
+    (awake-gone depot (turn_of c.args.turn.value) c.args.self.now f c.requires.one h c.requires.going.0 cells
+    (c.in_err-cell.ensures.value ∙ ap (λ t. get_by (path_cmp (out-Turn t).name) c.args.self.now.cells) c.deref.ensures)
+    (λ n. ap (λ cells. get path_cmp cells n) c.get_mut.follows.holds-at-none))
+
+pub returns-in_err-vm-clause-takes : goal.returns-in_err-vm-clause-takes
+returns-in_err-vm-clause-takes c = λ depot f h.
+    let name : Path = (turn_of c.args.turn.value).name in
+    let cells = c.get_mut.follows.lender c.lend.new.self in
+    let after : World = record c.args.self.now { cells = cells } in
+    subst (λ r. TakesBy depot f r after) (sym c.from_residual-in_err-vm.ensures)
+    (awake-idle depot (turn_of c.args.turn.value) c.args.self.now f c.requires.one h c.requires.going.0 c.in_ok-cell.cell.now
+    (c.in_ok-cell.ensures.value ∙ ap (λ t. get_by (path_cmp (out-Turn t).name) c.args.self.now.cells) c.deref.ensures) cells c.lend.new.self
+    (subst (λ t. WritesThrough path_cmp (path_cmp (out-Turn t).name) c.args.self.now.cells c.lend.new.self cells) c.deref.ensures
+    (c.get_mut.follows.holds c.lend.new.self))
+    (c.in_err-vm.ensures.shows depot name))
+
+pub returns-clause-takes : goal.returns-clause-takes
+returns-clause-takes c = λ depot f h.
+    let name : Path = (turn_of c.args.turn.value).name in
+    let cells = c.get_mut.follows.lender c.lend.new.self in
+    let after : World = record c.args.self.now { cells = cells } in
+    subst (λ (lease : Lent). Goes depot f (took lease.name) after × Starts f lease) (sym c.new.ensures)
+    (awake-taken depot (turn_of c.args.turn.value) c.args.self.now f c.requires.one h c.requires.going.0 c.in_ok-cell.cell.now
+    (c.in_ok-cell.ensures.value ∙ ap (λ t. get_by (path_cmp (out-Turn t).name) c.args.self.now.cells) c.deref.ensures) cells c.lend.new.self
+    (subst (λ t. WritesThrough path_cmp (path_cmp (out-Turn t).name) c.args.self.now.cells c.lend.new.self cells) c.deref.ensures
+    (c.get_mut.follows.holds c.lend.new.self))
+    c.in_ok-vm.vm.value c.requires.going.1 c.in_ok-vm.ensures.place (c.in_ok-vm.ensures.shows depot name))

@@ -1,0 +1,115 @@
+use Rattle.std.proofs.Common.{◌≡◌, None, Some, refl, sym, ap, ◌∙◌, subst}
+use Rattle.std.specs.Option.{IfSome}
+use Rattle.std.specs.BTreeMap.{Updates, WritesThrough, get}
+use Rattle.forest_tree.specs.Tree.{Tree, Path, machine, subtree}
+use Rattle.forest_history.specs.Places.{Spot, out, placed}
+use Rattle.forest_model.specs.Machine.{Machine}
+use Rattle.run_report.specs.Name.{child_path}
+use Rattle.run_report.specs.NameOrder.{path_cmp}
+use Rattle.world_core.specs.Lent.{Lent}
+use Rattle.world_core.specs.Shows.{CellShows, with_child}
+use Rattle.world_core.specs.Waiting.{Waiting}
+use Rattle.world_core.specs.Turns.{turn_of}
+use Rattle.world_core.proofs.Taking.{parent-there, sleeper-of, lent-shows, woken-machine, woken-some, woken-listed, woken-cells, old-parent, sleeper-no_cell}
+use Rattle.world_core.proofs.world.World.wake.Goals as goal
+
+pub unreachable-requires : goal.unreachable-requires
+unreachable-requires c =
+    let r = c.requires in
+    parent-there c.args.depot.now c.args.self.now.cells c.args.parent.now c.args.ticket c.args.index r.0 r.1 r.2 c.in_default.ensures.value
+
+pub woken-requires : goal.woken-requires
+woken-requires c =
+    let r = c.requires in
+    let s = sleeper-of c.args.depot.now c.args.self.now.cells c.args.parent.now c.args.ticket c.args.index r.0 r.1 r.2 c.in-Some.cell.now c.in-Some.ensures.value in
+    (c.args.parent.now, s.above, s.child, s.shows.holds, s.is_child, s.asleep, s.lives)
+
+pub unreachable-requires-in_default-2 : goal.unreachable-requires-in_default-2
+unreachable-requires-in_default-2 c =
+    let r = c.requires in
+    let s = sleeper-of c.args.depot.now c.args.self.now.cells c.args.parent.now c.args.ticket c.args.index r.0 r.1 r.2 c.in-Some.cell.now c.in-Some.ensures.value in
+    c.in_default-2.not-Some _ (c.in_ok-vm.ensures c.args.parent.now s.above s.child s.shows.holds s.is_child s.asleep s.lives)
+
+pub child_wakes-requires : goal.child_wakes-requires
+child_wakes-requires c =
+    let found : Some c.in-Some-get_mut.cell.now ≡ get path_cmp c.insert.new.self c.args.parent.now = c.in-Some-get_mut.ensures.value in
+    let inserted : Updates path_cmp c.args.self.now.cells c.insert.new.self c.in_ok-name.name (Some c.of_lent.result) = c.in_ok-insert.ensures.updates in
+    let old = old-parent c.args.self.now.cells c.insert.new.self c.args.parent.now c.args.ticket c.args.index c.in_ok-name.name c.of_lent.result
+    c.in-Some-get_mut.cell.now c.in_ok-name.ensures inserted found in
+    let r = c.requires in
+    let s = sleeper-of c.args.depot.now c.args.self.now.cells c.args.parent.now c.args.ticket c.args.index r.0 r.1 r.2 c.in-Some-get_mut.cell.now old in
+    (c.args.depot.now, c.args.parent.now, s.above, s.child, s.shows.holds, s.is_child, s.asleep, s.lives)
+
+pub returns-clause-start : goal.returns-clause-start
+returns-clause-start c = λ t h is.
+    let path : Path = child_path c.args.parent.now c.args.ticket c.args.index in
+    let s = sleeper-of c.args.depot.now c.args.self.now.cells c.args.parent.now c.args.ticket c.args.index t h is c.in-Some.cell.now c.in-Some.ensures.value in
+    let woke : c.in_ok-vm.field-0 ≡ Some (machine s.child).machine
+    = c.in_ok-vm.ensures c.args.parent.now s.above s.child s.shows.holds s.is_child s.asleep s.lives in
+    let lent : c.new-2.result
+    ≡ record { name = (turn_of c.in_ok-turn.turn.value).name; start = c.in_ok-vm-2.vm.value; ran = 0; now = c.in_ok-vm-2.vm.value } = c.new-2.ensures in
+    let turn : turn_of c.in_ok-turn.turn.value ≡ record { name = c.in_ok-copy.field-0; children = None } = c.in_ok-turn.ensures.value in
+    let copied : c.in_ok-copy.field-0 ≡ c.in_ok-name.name = c.in_ok-copy.ensures in
+    let named : (turn_of c.in_ok-turn.turn.value).name ≡ path = ap (λ (w : Waiting). w.name) turn ∙ copied ∙ c.in_ok-name.ensures in
+    let is_vm : c.in_ok-vm.field-0 ≡ Some c.in-Some-2.vm = c.in-Some-2.is in
+    let same : (machine s.child).machine ≡ c.in_ok-vm-2.vm.value
+    = sym (woken-machine c.in_ok-vm.field-0 c.in-Some-2.vm (subtree path t) s.child s.child is_vm woke s.there s.there) ∙ sym c.in_ok-vm-2.ensures.ok in
+    subst (λ (l : Lent). IfSome (subtree l.name t) (λ (a : Tree (Spot Machine)). (machine a).machine ≡ l.start)) (sym lent)
+    (subst (λ n. IfSome (subtree n t) (λ (a : Tree (Spot Machine)). (machine a).machine ≡ c.in_ok-vm-2.vm.value)) (sym named)
+    (subst (λ o. IfSome o (λ (a : Tree (Spot Machine)). (machine a).machine ≡ c.in_ok-vm-2.vm.value)) (sym s.there) same))
+
+pub returns-clause-cells : goal.returns-clause-cells
+returns-clause-cells c = λ t h is.
+    let cells = c.args.self.now.cells in
+    let mid = c.insert.new.self in
+    let path : Path = child_path c.args.parent.now c.args.ticket c.args.index in
+    let cell = c.in-Some-get_mut.cell.now in
+    let waked = c.child_wakes.new.self in
+    let found : Some cell ≡ get path_cmp mid c.args.parent.now = c.in-Some-get_mut.ensures.value in
+    let inserted : Updates path_cmp cells mid c.in_ok-name.name (Some c.of_lent.result) = c.in_ok-insert.ensures.updates in
+    let written : WritesThrough path_cmp (path_cmp c.args.parent.now) mid waked (c.get_mut.follows.lender waked) = c.get_mut.follows.holds waked in
+    let old = old-parent cells mid c.args.parent.now c.args.ticket c.args.index c.in_ok-name.name c.of_lent.result cell c.in_ok-name.ensures inserted found in
+    let s = sleeper-of c.args.depot.now cells c.args.parent.now c.args.ticket c.args.index t h is cell old in
+    let first = sleeper-of c.args.depot.now cells c.args.parent.now c.args.ticket c.args.index t h is c.in-Some.cell.now c.in-Some.ensures.value in
+    let woke : c.in_ok-vm.field-0 ≡ Some (machine first.child).machine
+    = c.in_ok-vm.ensures c.args.parent.now first.above first.child first.shows.holds first.is_child first.asleep first.lives in
+    let is_vm : c.in_ok-vm.field-0 ≡ Some c.in-Some-2.vm = c.in-Some-2.is in
+    let same : c.deref.result.now ≡ (machine s.child).machine
+    = c.deref.ensures ∙ c.in_ok-vm-2.ensures.ok
+    ∙ woken-machine c.in_ok-vm.field-0 c.in-Some-2.vm (subtree path t) first.child s.child is_vm woke first.there s.there in
+    let lent = lent-shows c.args.depot.now cells c.args.parent.now c.args.ticket c.args.index t cell c.of_lent.result c.deref.result.now h s same
+    c.of_lent.ensures.shows in
+    let parent : CellShows c.args.depot.now c.args.parent.now waked (with_child c.args.ticket c.args.index (placed out s.child) s.above)
+    = c.child_wakes.ensures.shows c.args.depot.now c.args.parent.now s.above s.child s.shows s.is_child s.asleep s.lives in
+    woken-cells cells mid c.args.parent.now c.args.ticket c.args.index c.in_ok-name.name c.of_lent.result cell c.in_ok-name.ensures inserted found
+    (c.get_mut.follows.lender waked) waked written c.args.depot.now t h s lent parent
+
+pub returns-clause-listed : goal.returns-clause-listed
+returns-clause-listed c =
+    let cells = c.args.self.now.cells in
+    let mid = c.insert.new.self in
+    let path : Path = child_path c.args.parent.now c.args.ticket c.args.index in
+    let cell = c.in-Some-get_mut.cell.now in
+    let waked = c.child_wakes.new.self in
+    let found : Some cell ≡ get path_cmp mid c.args.parent.now = c.in-Some-get_mut.ensures.value in
+    let inserted : Updates path_cmp cells mid c.in_ok-name.name (Some c.of_lent.result) = c.in_ok-insert.ensures.updates in
+    let written : WritesThrough path_cmp (path_cmp c.args.parent.now) mid waked (c.get_mut.follows.lender waked) = c.get_mut.follows.holds waked in
+    let r = c.requires in
+    let s = sleeper-of c.args.depot.now cells c.args.parent.now c.args.ticket c.args.index r.0 r.1 r.2 c.in-Some.cell.now c.in-Some.ensures.value in
+    let none : get path_cmp cells c.in_ok-name.name ≡ None
+    = ap (λ n. get path_cmp cells n) c.in_ok-name.ensures
+    ∙ sleeper-no_cell c.args.depot.now cells c.args.parent.now c.args.ticket c.args.index r.0 c.in-Some.cell.now r.1 s in
+    woken-listed cells mid c.args.parent.now c.args.ticket c.args.index c.in_ok-name.name c.of_lent.result cell c.in_ok-name.ensures inserted found
+    (c.get_mut.follows.lender waked) waked written none c.of_lent.ensures.listed c.child_wakes.ensures.place
+
+pub returns-clause-others : goal.returns-clause-others
+returns-clause-others c =
+    let cells = c.args.self.now.cells in
+    let mid = c.insert.new.self in
+    let cell = c.in-Some-get_mut.cell.now in
+    let waked = c.child_wakes.new.self in
+    let found : Some cell ≡ get path_cmp mid c.args.parent.now = c.in-Some-get_mut.ensures.value in
+    let inserted : Updates path_cmp cells mid c.in_ok-name.name (Some c.of_lent.result) = c.in_ok-insert.ensures.updates in
+    let written : WritesThrough path_cmp (path_cmp c.args.parent.now) mid waked (c.get_mut.follows.lender waked) = c.get_mut.follows.holds waked in
+    woken-some cells mid c.args.parent.now c.args.ticket c.args.index c.in_ok-name.name c.of_lent.result cell c.in_ok-name.ensures inserted found
+    (c.get_mut.follows.lender waked) waked written

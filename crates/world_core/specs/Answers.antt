@@ -1,0 +1,116 @@
+-- What the calls of a world answer, and what the world stands for after them.
+use Rattle.std.specs.Prelude.{◌≡◌, ℕ, [], Option, Some, None, Bool, true, false, not, ◌&&◌, if◌then◌else◌, is_some, OnSome, IfSome, Result, Ok, Err}
+use Rattle.boxcar.specs.Table.{Shelves}
+use Rattle.std.specs.declared.alloc.AllocError.{AllocError}
+use Rattle.fork_port.specs.declared.commands.Call.{Call}
+use Rattle.fork_port.specs.declared.commands.Call.TheVariants.{Clone, Join, Kill}
+use Rattle.fork_port.specs.declared.ending.Ending.{Ending}
+use Rattle.forest_tree.specs.Tree.{Tree, node, machine, Path, subtree}
+use Rattle.forest_tree.specs.Settle.{has_ended, waits}
+use Rattle.forest_history.specs.Places.{Place, out, Spot}
+use Rattle.forest_history.specs.World.{is_ready, is_at_home}
+use Rattle.forest_history.specs.Rows.{How, gave, ended, forked, joined, killed, waited, Row, over, stopped, idle, took, nothing, spent, dropped, kept, halted, Allows, does}
+use Rattle.forest_model.specs.Machine.{Machine}
+use Rattle.forest_model.specs.Forest.{machines}
+use Rattle.world_core.specs.declared.reason.Reason.{Reason}
+use Rattle.world_core.specs.declared.world.World.{World}
+use Rattle.world_core.specs.declared.world.Placed.{Placed}
+use Rattle.world_core.specs.declared.world.Placed.TheVariants.{Done, Parked, Dropped, Memory}
+use Rattle.world_core.specs.declared.world.Taken.{Taken}
+use Rattle.world_core.specs.declared.world.Taken.TheVariants as taken
+use Rattle.world_core.specs.Lent.{Lent}
+use Rattle.world_core.specs.Shows.{forest}
+use Rattle.world_core.specs.World.{Forest, StandsFor}
+
+-- the call is this row of the forest, and the world stands for what the row makes of it
+pub record Goes (depot : Shelves) (f : Forest) (row : Row Reason) (new : World) : Type 0 where
+  pub allowed : Allows machines row f
+  pub after : StandsFor depot new (does machines row f)
+
+-- the forest's machine of this name is out as it is on this lease, or the name is gone
+abbrev pub IsOutAs : Machine → Option (Tree (Spot Machine)) → Type 0
+IsOutAs start None = Unit {0}
+IsOutAs start (Some t) = machine t ≡ record { machine = start; place = out }
+
+abbrev pub IsHandedOut : Forest → Lent → Type 0
+IsHandedOut f lease = IsOutAs lease.start (subtree lease.name f.tree)
+
+-- the world handed out the lease: so it is in a forest that the world stands for, with its images in this depot
+abbrev pub HandedOutIn : Shelves → World → Lent → Type 0
+HandedOutIn depot w lease = (f : Forest) × StandsFor depot w f × IsHandedOut f lease
+
+-- the same, in any depot
+abbrev pub HandedOut : World → Lent → Type 0
+HandedOut w lease = (depot : Shelves) × HandedOutIn depot w lease
+
+-- the call is JOIN
+abbrev pub IsJoinCall : Option Call → Type 0
+IsJoinCall None = ⊥
+IsJoinCall (Some (Clone ticket)) = ⊥
+IsJoinCall (Some (Join ticket)) = Unit {0}
+IsJoinCall (Some (Kill ticket)) = ⊥
+
+abbrev pub join_ticket : Option Call → Option ℕ
+join_ticket None = None
+join_ticket (Some (Clone ticket)) = None
+join_ticket (Some (Join ticket)) = Some ticket
+join_ticket (Some (Kill ticket)) = None
+
+-- which calls may want memory
+abbrev pub MayWant : How → Type 0
+MayWant gave = ⊥
+MayWant ended = ⊥
+MayWant forked = Unit {0}
+MayWant joined = Unit {0}
+MayWant killed = ⊥
+MayWant waited = ⊥
+
+-- which may find that the machine waits
+abbrev pub MayWait : How → Type 0
+MayWait gave = ⊥
+MayWait ended = ⊥
+MayWait forked = ⊥
+MayWait joined = Unit {0}
+MayWait killed = ⊥
+MayWait waited = ⊥
+
+-- the answer to a lease that comes back so
+abbrev pub Answers : Shelves → Forest → How → Lent → Placed → World → Type 0
+Answers depot f how lease Done new = Goes depot f (spent how lease.name lease.ran) new
+Answers depot f how lease Parked new = MayWait how × Goes depot f (spent waited lease.name lease.ran) new
+Answers depot f how lease Dropped new = Goes depot f (dropped lease.name) new
+Answers depot f how lease (Memory back) new = MayWant how × (back ≡ lease) × Goes depot f (kept lease.name lease.ran) new
+
+-- a machine that comes back lives, or has ended
+abbrev pub home_by : Option Ending → How
+home_by None = gave
+home_by (Some ending) = ended
+
+-- a lease of the machine of that name, as it stands there
+pub record Starts (f : Forest) (lease : Lent) : Type 0 where
+  pub ran : lease.ran ≡ 0
+  pub now : lease.now ≡ lease.start
+  pub start : IfSome (subtree lease.name f.tree) (λ t. (machine t).machine ≡ lease.start)
+
+-- the answer of `take`
+abbrev pub Takes : Shelves → Forest → Taken → World → Type 0
+Takes depot f taken.Over new = Goes depot f over new
+Takes depot f (taken.Stopped reason) new = Goes depot f (stopped reason) new
+Takes depot f taken.Idle new = Goes depot f idle new
+Takes depot f (taken.Took lease) new = Goes depot f (took lease.name) new × Starts f lease
+Takes depot f taken.Memory new = Goes depot f nothing new
+
+-- the answer of `take_named`, which takes a machine that waits too
+abbrev pub TakesNamed : Shelves → Forest → Path → Result (Option Lent) AllocError → World → Type 0
+TakesNamed depot f name (Ok None) new = (is_at_home machines name f.tree ≡ false) × StandsFor depot new f
+TakesNamed depot f name (Ok (Some lease)) new =
+    (is_at_home machines name f.tree ≡ true) × (lease.name ≡ name) × Starts f lease × StandsFor depot new (does machines (took name) f)
+TakesNamed depot f name (Err e) new = StandsFor depot new f
+
+-- the tree with its machine as it stands now
+abbrev pub with_machine : Machine → Tree (Spot Machine) → Tree (Spot Machine)
+with_machine m (node s broods log) = node (record s { machine = m }) broods log
+
+-- its machine stands at the JOIN of a ticket of which a child lives
+abbrev pub stands_waiting : Tree (Spot Machine) → Bool
+stands_waiting t = not (has_ended forest t) && waits forest t

@@ -1,0 +1,10 @@
+pub mod Lent
+pub mod Waiting
+pub mod Turns
+pub mod Broods
+pub mod Shows
+pub mod Unparked
+pub mod World
+pub mod Answers
+pub mod Between
+pub mod Popped

@@ -1,0 +1,178 @@
+-- How the code's machines, broods and logs show those of a forest.
+use Rattle.std.specs.Prelude.{◌≡◌, ◌⊎◌, ℕ, suc, ◌+◌, ◌≤◌, Bool, true, false, List, [], ◌∷◌, ◌-◌, slice_get, Option, Some, None, vec_len, vec_capacity}
+use Rattle.std.specs.Ordering.{nat_cmp}
+use Rattle.std.specs.BTreeMap.{get, btree_map_len}
+use Rattle.boxcar.specs.Table.{Shelves}
+use Rattle.fork_port.specs.declared.ending.Ending.{Ending}
+use Rattle.forest_tree.specs.Operations.{Operations, Call, join, is_cloned}
+use Rattle.forest_tree.specs.Sound.{IsSound}
+use Rattle.forest_tree.specs.Tree.{Tree, node, Trees, no_tree, tree, Broods, no_brood, brood, Log, joined, killed, machine, broods_of, log_of, brood_of, without, child_at, at_child, at_brood, Path}
+use Rattle.forest_tree.specs.Settle.{alone, has_ended, waits, endings, children, log_killed}
+use Rattle.forest_history.specs.Places.{Place, asleep, home, out, parked, Spot, spots}
+use Rattle.forest_history.specs.World.{is_asleep_at, is_out_at}
+use Rattle.forest_history.specs.Children.{living}
+use Rattle.forest_model.specs.Machine.{Machine}
+use Rattle.forest_model.specs.Forest.{machines}
+use Rattle.image_depot.specs.Key.{Key, IsKeyOf, image_of}
+use Rattle.vm_descriptor.specs.declared.descriptor.Descriptor.{Descriptor}
+use Rattle.vm_descriptor.specs.declared.descriptor.TheConstants.{MAX_CLONES}
+use Rattle.vm_cell.specs.Woken.{IsOfImage, woken}
+use Rattle.run_report.specs.Lines.{Told, lines, log_lines}
+use Rattle.run_report.specs.Name.{child_path}
+use Rattle.run_report.specs.Report.{lines_of, told}
+use Rattle.vm_cell.specs.declared.vm.fork.Brood.{Brood as Young}
+use Rattle.world_core.specs.declared.cell.Brood.{Brood}
+use Rattle.world_core.specs.declared.cell.Cell.{Cell}
+use Rattle.world_core.specs.declared.cell.Slot.{Slot}
+use Rattle.world_core.specs.declared.cell.Slot.TheVariants.{Asleep, Awake, Ended}
+use Rattle.world_core.specs.declared.cell.State.{State}
+use Rattle.world_core.specs.declared.cell.State.TheVariants.{Home, Parked, Out}
+use Rattle.world_core.specs.Turns.{turn_of, turns_from}
+
+-- the machines of a world, each at its place
+abbrev pub forest : Operations (Spot Machine) Ending
+forest = spots machines
+
+-- what a report tells of them
+abbrev pub told_spot : Told (Spot Machine)
+told_spot = record { ending = λ s. told.ending s.machine; steps = λ s. told.steps s.machine; output = λ s. told.output s.machine }
+
+-- a tree whose machine is awake and lives
+pub record IsAwake (t : Tree (Spot Machine)) : Type 0 where
+  pub lives : has_ended forest t ≡ false
+  pub awake : is_asleep_at (machine t).place ≡ false
+
+abbrev pub sleeper : Key → Descriptor → Spot Machine
+sleeper key seed = record { machine = woken seed (image_of key); place = asleep }
+
+-- a child that is still a descriptor, which is of the brood's image
+pub record Sleeps (key : Key) (seed : Descriptor) (t : Tree (Spot Machine)) : Type 0 where
+  pub of_image : IsOfImage key seed
+  pub born : t ≡ alone forest (sleeper key seed)
+  pub lives : has_ended forest t ≡ false
+
+-- a slot shows the child at a path, which was born of a seed
+abbrev pub SlotShows : Path → Key → Descriptor → Slot → Tree (Spot Machine) → Type 0
+SlotShows path key seed Asleep t = Sleeps key seed t
+SlotShows path key seed Awake t = IsAwake t
+SlotShows path key seed (Ended outcome) t = (told_spot.ending (machine t) ≡ Some outcome.ending) × (lines_of outcome ≡ lines told_spot path t)
+
+-- the slots show the children of a ticket, from child k on
+unfoldable pub SlotsShow : Path → ℕ → Key → ℕ → List Descriptor → List Slot → Trees (Spot Machine) → Type 0
+SlotsShow path ticket key k [] [] no_tree = Unit {0}
+SlotsShow path ticket key k [] [] (tree t rest) = ⊥
+SlotsShow path ticket key k [] (slot ∷ slots) trees = ⊥
+SlotsShow path ticket key k (seed ∷ seeds) [] trees = ⊥
+SlotsShow path ticket key k (seed ∷ seeds) (slot ∷ slots) no_tree = ⊥
+SlotsShow path ticket key k (seed ∷ seeds) (slot ∷ slots) (tree t rest) =
+    SlotShows (child_path path ticket k) key seed slot t × SlotsShow path ticket key (suc k) seeds slots rest
+
+-- what the fork of a brood left for its children
+abbrev pub BornShows : Shelves → Path → ℕ → Option Young → List Slot → Trees (Spot Machine) → Type 0
+BornShows depot path ticket None slots trees = ⊥
+BornShows depot path ticket (Some young) slots trees =
+    IsKeyOf depot young.key × SlotsShow path ticket young.key 1 young.seeds.items slots trees
+
+-- a brood shows the children of a ticket of the machine at a path
+pub record BroodShows (depot : Shelves) (path : Path) (ticket : ℕ) (b : Brood) (trees : Trees (Spot Machine)) : Type 0 where
+  pub live : b.live ≡ living forest trees
+  pub born : BornShows depot path ticket b.young b.slots.items trees
+
+-- there is a brood exactly where the ticket is cloned, and else no child
+abbrev pub BroodAt : Shelves → Path → ℕ → Option Brood → Bool → Trees (Spot Machine) → Type 0
+BroodAt depot path ticket None false trees = trees ≡ no_tree
+BroodAt depot path ticket None true trees = ⊥
+BroodAt depot path ticket (Some b) false trees = ⊥
+BroodAt depot path ticket (Some b) true trees = BroodShows depot path ticket b trees
+
+-- where a machine is, which waits or not
+abbrev pub StateShows : Path → State → Spot Machine → Bool → Type 0
+StateShows path (Home vm) s is_waiting = (vm.value ≡ s.machine) × ((s.place ≡ home) ⊎ ((s.place ≡ parked) × (is_waiting ≡ false)))
+StateShows path (Parked ticket vm turn) s is_waiting =
+    (vm.value ≡ s.machine) × (s.place ≡ parked) × (is_waiting ≡ true) × (machines.call s.machine ≡ Some (join ticket))
+    × (turns_from turn.value ≡ turn_of turn.value ∷ []) × (turn_of turn.value ≡ record { name = path; children = None })
+StateShows path (Out start) s is_waiting = (start.value ≡ s.machine) × (s.place ≡ out)
+
+-- what is known of a brood where its machine has ended: what its line of the log tells
+pub record IsTallied (path : Path) (count : ℕ) (b : Brood) : Type 0 where
+  pub name : b.name ≡ path
+  pub size : vec_len b.slots ≡ count
+  pub few : vec_len b.slots ≤ MAX_CLONES
+
+abbrev pub TallyAt : Path → ℕ → Option Brood → Bool → Type 0
+TallyAt path count None false = Unit {0}
+TallyAt path count None true = ⊥
+TallyAt path count (Some b) false = ⊥
+TallyAt path count (Some b) true = IsTallied path count b
+
+-- a cell holds the log of the machine at a path, with room for a line of each cloned ticket
+pub record Tallies (path : Path) (c : Cell) (t : Tree (Spot Machine)) : Type 0 where
+  pub log : c.log.items ≡ log_lines told_spot path (log_of t)
+  pub room : vec_len c.log + btree_map_len c.broods ≤ vec_capacity c.log
+  pub broods : (ticket : ℕ) → TallyAt path (forest.grant (machine t) ticket).children (get nat_cmp c.broods ticket) (is_cloned forest (machine t) ticket)
+
+-- a cell holds the log and the broods of the machine at a path
+pub record Holds (depot : Shelves) (path : Path) (c : Cell) (t : Tree (Spot Machine)) : Type 0 where
+  pub tallies : Tallies path c t
+  pub broods : (ticket : ℕ) → BroodAt depot path ticket (get nat_cmp c.broods ticket) (is_cloned forest (machine t) ticket) (brood_of ticket (broods_of t))
+
+-- a cell shows the machine at a path
+pub record CellShows (depot : Shelves) (path : Path) (c : Cell) (t : Tree (Spot Machine)) : Type 0 where
+  pub awake : IsAwake t
+  pub state : StateShows path c.state (machine t) (waits forest t)
+  pub holds : Holds depot path c t
+
+-- a machine that is no cell's: it has ended, and is not on lease, or is still a descriptor
+abbrev pub IsNoCell : Tree (Spot Machine) → Type 0
+IsNoCell t = ((has_ended forest t ≡ true) × (is_out_at (machine t).place ≡ false)) ⊎ (is_asleep_at (machine t).place ≡ true)
+
+-- the cell of a name, where there is one, shows the machine of that name
+abbrev pub Shows : Shelves → Path → Option Cell → Option (Tree (Spot Machine)) → Type 0
+Shows depot path None None = Unit {0}
+Shows depot path None (Some t) = IsNoCell t
+Shows depot path (Some c) None = ⊥
+Shows depot path (Some c) (Some t) = CellShows depot path c t
+
+-- the tree before a machine that its step has ended drops its broods
+abbrev pub forked_tree : ℕ → Tree (Spot Machine) → Tree (Spot Machine)
+forked_tree ticket (node s broods log) = node (forest.forked s) (brood ticket (children forest s ticket) broods) log
+
+abbrev pub joined_tree : ℕ → Tree (Spot Machine) → Tree (Spot Machine)
+joined_tree ticket (node s broods log) =
+    node (forest.after_join s (endings forest (brood_of ticket broods))) (without ticket broods) (joined log ticket (brood_of ticket broods))
+
+abbrev pub killed_tree : ℕ → Tree (Spot Machine) → Tree (Spot Machine)
+killed_tree ticket (node s broods log) =
+    node (forest.after_kill s) (without ticket broods) (killed log ticket (forest.grant s ticket).children)
+
+-- the tree once a machine has ended: its broods are dropped, and their tickets logged as killed
+abbrev pub ended_tree : Tree (Spot Machine) → Tree (Spot Machine)
+ended_tree (node s broods log) = node s no_brood (log_killed forest s (forest.cloned s) log)
+
+-- the tree with another child at a place
+abbrev pub with_child : ℕ → ℕ → Tree (Spot Machine) → Tree (Spot Machine) → Tree (Spot Machine)
+with_child ticket k child (node s broods log) = node s (at_brood (at_child (λ a. child) k) ticket broods) log
+
+abbrev pub child_of : ℕ → ℕ → Tree (Spot Machine) → Option (Tree (Spot Machine))
+child_of ticket k t = child_at k (brood_of ticket (broods_of t))
+
+-- the machine of the tree is this one, which stands at a call
+pub record StandsAt (vm : Machine) (c : Call) (t : Tree (Spot Machine)) : Type 0 where
+  pub is : (machine t).machine ≡ vm
+  pub at_call : machines.call vm ≡ Some c
+  pub lives : vm.ending ≡ None
+  pub sound : IsSound forest t
+
+-- where the machine lives, the cell holds its broods, and else what their lines tell
+abbrev pub HoldsAfter : Shelves → Path → Cell → Tree (Spot Machine) → Type 0
+HoldsAfter depot path c t = Tallies path c t × (has_ended forest t ≡ false → Holds depot path c t)
+
+-- slot k, from 1
+abbrev pub slot_at : ℕ → List Slot → Option Slot
+slot_at k slots = slice_get slots (k - 1)
+
+abbrev pub IsNotAsleep : Option Slot → Type 0
+IsNotAsleep None = Unit {0}
+IsNotAsleep (Some Asleep) = ⊥
+IsNotAsleep (Some Awake) = Unit {0}
+IsNotAsleep (Some (Ended outcome)) = Unit {0}

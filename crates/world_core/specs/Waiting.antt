@@ -1,0 +1,27 @@
+-- Machines that are ready, in the order in which they are taken.
+use Rattle.std.specs.Prelude.{◌≡◌, ℕ, ◌≤◌, ◌⊎◌, List, [], ◌∷◌, Option, Some, None}
+use Rattle.forest_tree.specs.Tree.{Path}
+use Rattle.run_report.specs.Name.{child_path}
+
+-- the machine of that name, or the children of one of its tickets, from one on
+pub record Waiting : Type 0 where
+  pub name : Path
+  pub children : Option (ℕ × ℕ)
+
+-- the machine's own turn is among them
+unfoldable pub IsListed : Path → List Waiting → Type 0
+IsListed path [] = ⊥
+IsListed path (w ∷ rest) = (w ≡ record { name = path; children = None }) ⊎ IsListed path rest
+
+abbrev pub CoversBy : Path → Path → Option (ℕ × ℕ) → Type 0
+CoversBy path name None = ⊥
+CoversBy path name (Some range) = (k : ℕ) × (range.1 ≤ k) × (path ≡ child_path name range.0 k)
+
+-- the turn is one of children, with that of this name
+abbrev pub Covers : Path → Waiting → Type 0
+Covers path w = CoversBy path w.name w.children
+
+-- a turn of children is among them that has the one of this name
+unfoldable pub IsCovered : Path → List Waiting → Type 0
+IsCovered path [] = ⊥
+IsCovered path (w ∷ rest) = Covers path w ⊎ IsCovered path rest

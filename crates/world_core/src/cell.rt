@@ -1,0 +1,264 @@
+ghost use Rattle.std.specs.Prelude.{◌≡◌, ◌+◌, ◌≤◌, ◌<◌, ◌⊎◌, ◌∷◌, ℕ, [], true, false, not, Option, Some, None, IfOk, IfSome, OnOk, OnErr, MatchOption, vec_len};
+ghost use Rattle.boxcar.specs.Table.{Shelves};
+ghost use Rattle.forest_tree.specs.Operations.{clone, join, kill, is_cloned};
+ghost use Rattle.forest_tree.specs.Tree.{Tree, machine, brood_of, broods_of, Path};
+ghost use Rattle.forest_tree.specs.Settle.{alone, endings, has_ended, have_ended};
+ghost use Rattle.forest_tree.specs.Sound.{IsSound};
+ghost use Rattle.forest_history.specs.Places.{Spot, home, out, placed};
+ghost use Rattle.forest_history.specs.World.{is_asleep_at, lives_ready, lives_at_home};
+ghost use Rattle.forest_model.specs.Calls.{after_join, after_kill, forked};
+ghost use Rattle.forest_model.specs.Forest.{machines};
+ghost use Rattle.forest_model.specs.Machine.{Machine};
+ghost use Rattle.run_report.specs.Lines.{lines};
+ghost use Rattle.run_report.specs.Name.{child_path};
+ghost use Rattle.run_report.specs.Report.{lines_of};
+ghost use Rattle.vm_cell.specs.Standing.{IsClone, IsJoin, IsKill, standing_call};
+ghost use Rattle.vm_descriptor.specs.declared.descriptor.TheConstants.{MAX_CLONES};
+ghost use Rattle.world_core.specs.Turns.{turn_of, turns_from};
+ghost use Rattle.world_core.specs.Unparked.{unparked, is_parked_for, kept_turn};
+ghost use Rattle.world_core.specs.Shows.{CellShows, Holds, HoldsAfter, IsAwake, IsNotAsleep, StandsAt, Tallies, child_of, slot_at, ended_tree, forest, forked_tree, joined_tree, killed_tree, told_spot, with_child};
+
+use crate::turns::Turn;
+use forest_model::Ending;
+use fork_port::Call;
+use image_depot::Depot;
+use run_report::{Line, Name, Outcome};
+use std::alloc::{AllocError, Global};
+use std::collections::BTreeMap;
+use std::mem;
+use std::snapshot::Snapshot;
+use std::sync::Wait;
+use vm_cell::{Brood as Young, Vm};
+
+mod broods;
+mod calls;
+
+/// A machine that lives and is no descriptor any more.
+#[derive(Drop)]
+pub(crate) struct Cell {
+    pub(crate) state: State,
+    /// A turn for it is among those of its world.
+    pub(crate) is_listed: bool,
+    /// The children of its cloned tickets.
+    pub(crate) broods: BTreeMap<u32, Brood>,
+    /// It has room for a line of each brood.
+    pub(crate) log: Vec<Line>,
+}
+
+/// Where a machine is.
+#[derive(Drop)]
+pub(crate) enum State {
+    /// It is at home, and can be handed out.
+    Home(Box<Vm>),
+    /// It is at home, and waits for the children of a ticket. It keeps the room for its turn.
+    Parked(u32, Box<Vm>, Box<Turn>),
+    /// It is on lease. Contracts see the machine that was handed out.
+    Out(Snapshot<Vm>),
+}
+
+/// The children of a ticket.
+#[derive(Drop)]
+pub(crate) struct Brood {
+    /// The name of their parent, for the line of the log where the ticket is killed.
+    pub(crate) name: Name,
+    /// What they start with, once the parent has forked.
+    pub(crate) young: Option<Young>,
+    /// One for each of them, in order.
+    pub(crate) slots: Vec<Slot>,
+    /// How many of them have not ended.
+    pub(crate) live: u32,
+}
+
+/// A child of a ticket.
+#[derive(Drop)]
+pub(crate) enum Slot {
+    /// It is still a descriptor.
+    Asleep,
+    /// It lives, in a cell of its own.
+    Awake,
+    Ended(Outcome),
+}
+
+impl Cell {
+    /// The cell of a machine that is handed out as it wakes.
+    pub(crate) fn of_lent(alloc: Global, vm: &Vm) -> Cell
+        ensures shows { (depot : Shelves) (path : Path) → vm.now.ending ≡ None → ((ticket : ℕ) → is_cloned machines vm.now ticket ≡ false)
+            → CellShows depot path result (alone forest (record { machine = vm.now; place = out })) }
+        ensures listed { result.is_listed ≡ false }
+    {
+        Cell {
+            state: State::Out(Snapshot::of(vm)),
+            is_listed: false,
+            broods: BTreeMap::new(alloc),
+            log: Vec::new(alloc),
+        }
+    }
+
+    /// The cell of a machine that is at home from its start on, and whose turn is listed.
+    pub(crate) fn of_root(alloc: Global, vm: Box<Vm>) -> Cell
+        ensures shows { (depot : Shelves) (path : Path) → vm.value.ending ≡ None → ((ticket : ℕ) → is_cloned machines vm.value ticket ≡ false)
+            → CellShows depot path result (alone forest (record { machine = vm.value; place = home })) }
+        ensures listed { result.is_listed ≡ true }
+    {
+        Cell {
+            state: State::Home(vm),
+            is_listed: true,
+            broods: BTreeMap::new(alloc),
+            log: Vec::new(alloc),
+        }
+    }
+
+    /// Whether a child of the ticket lives.
+    pub(crate) fn waits(&self, ticket: u32) -> bool
+        ensures { (depot : Shelves) (path : Path) (t : Tree (Spot Machine)) → Holds depot path self.now t
+            → result ≡ not (have_ended forest (brood_of ticket (broods_of t))) }
+    {
+        match self.broods.get(&ticket) {
+            Some(brood) => brood.live > 0,
+            None => false,
+        }
+    }
+
+    /// Hands out the machine, if it is at home and does not wait.
+    pub(crate) fn lend(&mut self) -> Option<Box<Vm>>
+        ensures shows { (depot : Shelves) (path : Path) (t : Tree (Spot Machine)) → CellShows depot path self.old t
+            → MatchOption result ((lives_ready machines t ≡ false) × (self.new ≡ self.old))
+            (λ vm. (lives_ready machines t ≡ true) × (vm.value ≡ (machine t).machine) × CellShows depot path self.new (placed out t)) }
+        ensures place { self.new.is_listed ≡ self.old.is_listed }
+    {
+        if let State::Home(vm) = &self.state {
+            let out = State::Out(Snapshot::of(&**vm));
+            if let State::Home(vm) = mem::replace(&mut self.state, out) {
+                return Some(vm);
+            }
+        }
+        None
+    }
+
+    /// Hands out the machine, if it is at home, where it waits too.
+    pub(crate) fn lend_named(&mut self) -> Option<Box<Vm>>
+        ensures shows { (depot : Shelves) (path : Path) (t : Tree (Spot Machine)) → CellShows depot path self.old t
+            → MatchOption result ((lives_at_home machines t ≡ false) × (self.new ≡ self.old))
+            (λ vm. (lives_at_home machines t ≡ true) × (vm.value ≡ (machine t).machine) × CellShows depot path self.new (placed out t)) }
+        ensures place { self.new.is_listed ≡ self.old.is_listed }
+    {
+        if let State::Parked(_, vm, _) = &self.state {
+            let out = State::Out(Snapshot::of(&**vm));
+            if let State::Parked(_, vm, _) = mem::replace(&mut self.state, out) {
+                return Some(vm);
+            }
+        }
+        self.lend()
+    }
+
+    /// The machine of a child that is still a descriptor, woken.
+    pub(crate) fn woken(
+        &self,
+        alloc: Global,
+        depot: &Depot,
+        ticket: u32,
+        index: u32,
+    ) -> Result<Option<Vm>, AllocError>
+        requires { (path : Path) × (t a : Tree (Spot Machine)) × Holds depot.now path self.now t × (child_of ticket index t ≡ Some a) × (is_asleep_at (machine a).place ≡ true)
+            × (has_ended forest a ≡ false) }
+        ensures { (path : Path) (t a : Tree (Spot Machine)) → Holds depot.now path self.now t → child_of ticket index t ≡ Some a
+            → is_asleep_at (machine a).place ≡ true → has_ended forest a ≡ false
+            → IfOk result (λ vm. vm ≡ Some (machine a).machine) }
+    {
+        let Some(brood) = self.broods.get(&ticket) else {
+            return Ok(None);
+        };
+        let Some(young) = &brood.young else {
+            return Ok(None);
+        };
+        let seed = &young.seeds[index as usize - 1];
+        Ok(Some(Vm::wake(alloc, seed, &young.key, depot)?))
+    }
+
+    /// A child has a cell of its own from now on.
+    pub(crate) fn child_wakes(&mut self, ticket: u32, index: u32)
+        requires { (depot : Shelves) × (path : Path) × (t a : Tree (Spot Machine)) × Holds depot path self.old t × (child_of ticket index t ≡ Some a) × (is_asleep_at (machine a).place ≡ true)
+            × (has_ended forest a ≡ false) }
+        ensures shows { (depot : Shelves) (path : Path) (t a : Tree (Spot Machine)) → CellShows depot path self.old t → child_of ticket index t ≡ Some a
+            → is_asleep_at (machine a).place ≡ true → has_ended forest a ≡ false
+            → CellShows depot path self.new (with_child ticket index (placed out a) t) }
+        ensures place { self.new.is_listed ≡ self.old.is_listed }
+    {
+        if let Some(brood) = self.broods.get_mut(&ticket) {
+            brood.slots[index as usize - 1] = Slot::Awake;
+        }
+    }
+
+    /// A child of the machine has ended. The machine's turn comes back where it waited for that.
+    pub(crate) fn child_ended(
+        &mut self,
+        ticket: u32,
+        index: u32,
+        outcome: Outcome,
+    ) -> Option<Box<Turn>>
+        requires { (depot : Shelves) × (path : Path) × (t a : Tree (Spot Machine)) × CellShows depot path self.old t × (child_of ticket index t ≡ Some a) × IsAwake a }
+        ensures shows { (depot : Shelves) (path : Path) (t a b : Tree (Spot Machine)) → CellShows depot path self.old t
+            → child_of ticket index t ≡ Some a → IsAwake a → (told_spot.ending (machine b) ≡ Some outcome.ending)
+            → (lines_of outcome ≡ lines told_spot (child_path path ticket index) b) → CellShows depot path self.new (with_child ticket index b t) }
+        ensures turn { (depot : Shelves) (path : Path) (t : Tree (Spot Machine)) → CellShows depot path self.old t
+            → IfSome result (λ turn. (turns_from turn.value ≡ turn_of turn.value ∷ []) × (turn_of turn.value ≡ record { name = path; children = None })) }
+        ensures listed { MatchOption result (self.new.is_listed ≡ self.old.is_listed) (λ turn. self.new.is_listed ≡ true) }
+        ensures ready { (depot : Shelves) (path : Path) (t a b : Tree (Spot Machine)) → CellShows depot path self.old t → child_of ticket index t ≡ Some a → IsAwake a
+            → (told_spot.ending (machine b) ≡ Some outcome.ending) → lives_ready machines (with_child ticket index b t) ≡ true
+            → (lives_ready machines t ≡ true) ⊎ (self.new.is_listed ≡ true) }
+    {
+        let brood = self.broods.get_mut(&ticket)?;
+        brood.slots[index as usize - 1] = Slot::Ended(outcome);
+        brood.live -= 1;
+        if brood.live > 0 {
+            return None;
+        }
+        self.unpark(ticket)
+    }
+
+    /// Ends the wait for the children of a ticket. The machine's turn comes back where it is to be listed.
+    fn unpark(&mut self, ticket: u32) -> Option<Box<Turn>>
+        ensures state { self.new.state ≡ unparked ticket self.old.state }
+        ensures rest { (self.new.broods ≡ self.old.broods) × (self.new.log ≡ self.old.log) }
+        ensures turn { IfSome result (λ turn. kept_turn self.old.state ≡ Some turn) }
+        ensures listed { MatchOption result (self.new.is_listed ≡ self.old.is_listed) (λ turn. self.new.is_listed ≡ true) }
+        ensures ready { is_parked_for ticket self.old.state ≡ true → self.new.is_listed ≡ true }
+    {
+        let State::Parked(waited, vm, _) = &self.state else {
+            return None;
+        };
+        if *waited != ticket {
+            return None;
+        }
+        let out = State::Out(Snapshot::of(&**vm));
+        let State::Parked(_, vm, turn) = mem::replace(&mut self.state, out) else {
+            return None;
+        };
+        self.state = State::Home(vm);
+        if self.is_listed {
+            return None;
+        }
+        self.is_listed = true;
+        Some(turn)
+    }
+}
+
+impl Brood {
+    /// The first child, from one on, that is still a descriptor.
+    pub(crate) fn asleep_from(&self, first: u32) -> Option<u32>
+        requires first { 1 ≤ first }
+        requires few { vec_len self.now.slots ≤ MAX_CLONES }
+        ensures { MatchOption result ((k : ℕ) → first ≤ k → IsNotAsleep (slot_at k self.now.slots.items))
+            (λ index. (first ≤ index) × (slot_at index self.now.slots.items ≡ Some Slot.Asleep)
+            × ((k : ℕ) → first ≤ k → k < index → IsNotAsleep (slot_at k self.now.slots.items))) }
+    {
+        let mut index = first;
+        while index as usize <= self.slots.len() {
+            if let Slot::Asleep = &self.slots[index as usize - 1] {
+                return Some(index);
+            }
+            index += 1;
+        }
+        None
+    }
+}

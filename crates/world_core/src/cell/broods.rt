@@ -1,0 +1,81 @@
+//! Broods, before their children are born and once they are done with.
+
+ghost use Rattle.std.specs.Prelude.{◌≡◌, ◌+◌, ◌≤◌, ◌<◌, ◌^◌, ◌++◌, None, IfOk, length, min, replicate, vec_capacity, vec_len};
+ghost use Rattle.run_report.specs.Lines.{ticket_line};
+ghost use Rattle.world_core.specs.Broods.{slot_endings, slot_lines};
+
+use crate::cell::{Brood, Slot};
+use forest_model::Ending;
+use run_report::{Line, Name};
+use std::alloc::{AllocError, Global};
+
+impl Brood {
+    /// The children of a ticket of the machine of that name, before they are born.
+    pub(super) fn unborn(alloc: Global, name: &Name, children: u32) -> Result<Brood, AllocError>
+        ensures name { IfOk result (λ brood. brood.name ≡ name.now) }
+        ensures young { IfOk result (λ brood. brood.young ≡ None) }
+        ensures slots { IfOk result (λ brood. brood.slots.items ≡ replicate children Slot.Asleep) }
+        ensures live { IfOk result (λ brood. brood.live ≡ children) }
+    {
+        let mut slots = Vec::with_capacity(alloc, children as usize)?;
+        for _ in 0..children {
+            slots.push(Slot::Asleep)?;
+        }
+        Ok(Brood {
+            name: name.copy(alloc)?,
+            young: None,
+            slots,
+            live: children,
+        })
+    }
+
+    /// How the children ended that have, in order.
+    pub(super) fn endings(&self, alloc: Global) -> Result<Vec<Ending>, AllocError>
+        ensures { IfOk result (λ endings. endings.items ≡ slot_endings self.now.slots.items) }
+    {
+        let mut endings = Vec::with_capacity(alloc, self.slots.len())?;
+        for slot in &self.slots {
+            if let Slot::Ended(outcome) = slot {
+                endings.push(outcome.ending())?;
+            }
+        }
+        Ok(endings)
+    }
+
+    /// How many lines a log gets of the children that have ended, or `usize::MAX` where they are more: no log
+    /// has room for so many.
+    pub(super) fn line_count(&self) -> usize
+        ensures { result ≡ min (length (slot_lines self.now.slots.items)) usize.MAX }
+    {
+        let mut count = 0usize;
+        for slot in &self.slots {
+            if let Slot::Ended(outcome) = slot {
+                count = count.saturating_add(outcome.line_count());
+            }
+        }
+        count
+    }
+
+    /// Moves the lines of the children that have ended to a log, which has room for them.
+    pub(super) fn into_log(self, log: &mut Vec<Line>)
+        requires { vec_len log.old + length (slot_lines self.slots.items) ≤ vec_capacity log.old }
+        ensures lines { log.new.items ≡ log.old.items ++ slot_lines self.slots.items }
+        ensures len { vec_len log.new ≡ vec_len log.old + length (slot_lines self.slots.items) }
+        ensures capacity { vec_capacity log.old ≤ vec_capacity log.new }
+    {
+        for slot in self.slots {
+            if let Slot::Ended(outcome) = slot {
+                outcome.into_log(log);
+            }
+        }
+    }
+
+    /// The line of the ticket, where it is killed.
+    pub(super) fn into_line(self, ticket: u32) -> Line
+        requires { vec_len self.slots < 2 ^ 32 }
+        ensures { result ≡ ticket_line self.name ticket (vec_len self.slots) }
+    {
+        let children = self.slots.len() as u32;
+        Line::ticket(self.name, ticket, children)
+    }
+}

@@ -1,0 +1,138 @@
+//! The calls of a machine, and its end.
+
+ghost use Rattle.std.specs.Prelude.{◌≡◌, ℕ, ◌+◌, ◌≤◌, ◌<◌, ◌^◌, ◌++◌, Some, OnOk, OnErr, IfSome, map, true, false, vec_capacity, vec_len};
+ghost use Rattle.std.specs.BTreeMap.{IsOrdered, btree_map_len, get};
+ghost use Rattle.std.specs.Ordering.{nat_cmp};
+ghost use Rattle.boxcar.specs.Table.{Shelves};
+ghost use Rattle.forest_tree.specs.Operations.{clone, join, kill};
+ghost use Rattle.forest_tree.specs.Tree.{Path, Tree, brood_of, broods_of, machine};
+ghost use Rattle.forest_tree.specs.Settle.{endings, have_ended};
+ghost use Rattle.forest_tree.specs.Sound.{IsSound};
+ghost use Rattle.forest_history.specs.Places.{Spot};
+ghost use Rattle.forest_model.specs.Calls.{after_join, after_kill, forked};
+ghost use Rattle.forest_model.specs.Machine.{Machine};
+ghost use Rattle.run_report.specs.Lines.{lines};
+ghost use Rattle.run_report.specs.Report.{lines_of};
+ghost use Rattle.vm_cell.specs.Standing.{standing_call};
+ghost use Rattle.world_core.specs.Broods.{killed_line};
+ghost use Rattle.world_core.specs.Shows.{Holds, HoldsAfter, StandsAt, Tallies, ended_tree, forest, forked_tree, joined_tree, killed_tree, told_spot};
+
+use crate::cell::{Brood, Cell};
+use forest_model::Ending;
+use fork_port::Call;
+use image_depot::Depot;
+use run_report::{Line, Name, Outcome};
+use std::alloc::{AllocError, Global};
+use std::collections::BTreeMap;
+use std::sync::Wait;
+use vm_cell::Vm;
+
+impl Cell {
+    /// Makes the CLONE that the machine stands at.
+    pub(crate) fn fork<R: Wait>(
+        &mut self,
+        rt: &R,
+        alloc: Global,
+        vm: &mut Vm,
+        name: &Name,
+        ticket: u32,
+        depot: &Depot,
+    ) -> Result<(), AllocError>
+        requires { standing_call vm.old ≡ Some (Call.Clone ticket) }
+        ensures ok { OnOk result (vm.new ≡ forked vm.old) }
+        ensures err { OnErr result (vm.new ≡ vm.old) }
+        ensures holds { OnOk result ((t : Tree (Spot Machine)) → Holds depot.now name.now self.old t → StandsAt vm.old (clone ticket) t
+            → HoldsAfter depot.now name.now self.new (forked_tree ticket t)) }
+        ensures still { OnErr result ((t : Tree (Spot Machine)) → Holds depot.now name.now self.old t → StandsAt vm.old (clone ticket) t
+            → Holds depot.now name.now self.new t) }
+        ensures place { (self.new.state ≡ self.old.state) × (self.new.is_listed ≡ self.old.is_listed) }
+    {
+        let children = vm.granted(ticket);
+        self.log.reserve(self.broods.len() + 1)?;
+        let brood = Brood::unborn(alloc, name, children)?;
+        self.broods.insert(ticket, brood)?;
+        match vm.freeze_child(rt, alloc, depot) {
+            Ok(young) => {
+                if let Some(brood) = self.broods.get_mut(&ticket) {
+                    brood.young = Some(young);
+                }
+                Ok(())
+            }
+            Err(error) => {
+                self.broods.remove(&ticket);
+                Err(error)
+            }
+        }
+    }
+
+    /// Makes the JOIN that the machine stands at, whose children have all ended.
+    pub(crate) fn join(&mut self, alloc: Global, vm: &mut Vm, ticket: u32) -> Result<(), AllocError>
+        requires joins { standing_call vm.old ≡ Some (Call.Join ticket) }
+        requires ended { (depot : Shelves) × (path : Path) × (t : Tree (Spot Machine)) × Holds depot path self.old t × StandsAt vm.old (join ticket) t
+            × (have_ended forest (brood_of ticket (broods_of t)) ≡ true) }
+        ensures ok { (t : Tree (Spot Machine)) (depot : Shelves) (path : Path) → Holds depot path self.old t → StandsAt vm.old (join ticket) t
+            → have_ended forest (brood_of ticket (broods_of t)) ≡ true
+            → OnOk result ((vm.new ≡ after_join vm.old (endings forest (brood_of ticket (broods_of t))))
+            × HoldsAfter depot path self.new (joined_tree ticket t)) }
+        ensures err { OnErr result (vm.new ≡ vm.old) }
+        ensures still { (t : Tree (Spot Machine)) (depot : Shelves) (path : Path) → Holds depot path self.old t → OnErr result (Holds depot path self.new t) }
+        ensures place { (self.new.state ≡ self.old.state) × (self.new.is_listed ≡ self.old.is_listed) }
+    {
+        let Some(brood) = self.broods.get(&ticket) else {
+            return Ok(());
+        };
+        let endings = brood.endings(alloc)?;
+        self.log
+            .reserve(brood.line_count().saturating_add(self.broods.len()))?;
+        vm.joined(&endings)?;
+        if let Some(brood) = self.broods.remove(&ticket) {
+            brood.into_log(&mut self.log);
+        }
+        Ok(())
+    }
+
+    /// Makes the KILL that the machine stands at.
+    pub(crate) fn kill(&mut self, vm: &mut Vm, ticket: u32)
+        requires kills { standing_call vm.old ≡ Some (Call.Kill ticket) }
+        requires holds { (depot : Shelves) × (path : Path) × (t : Tree (Spot Machine)) × Holds depot path self.old t × StandsAt vm.old (kill ticket) t }
+        ensures vm { vm.new ≡ after_kill vm.old }
+        ensures after { (t : Tree (Spot Machine)) (depot : Shelves) (path : Path) → Holds depot path self.old t → StandsAt vm.old (kill ticket) t
+            → HoldsAfter depot path self.new (killed_tree ticket t) }
+        ensures place { (self.new.state ≡ self.old.state) × (self.new.is_listed ≡ self.old.is_listed) }
+    {
+        vm.killed();
+        if let Some(brood) = self.broods.remove(&ticket) {
+            self.log.push_reserved(brood.into_line(ticket));
+        }
+    }
+
+    /// What a machine that has ended leaves. The tickets that it had cloned are killed.
+    pub(crate) fn into_outcome(self, name: Name, vm: Vm, ending: Ending) -> Outcome
+        requires { (t : Tree (Spot Machine)) × Tallies name self t × IsSound forest t }
+        ensures ending { result.ending ≡ ending }
+        ensures lines { (t : Tree (Spot Machine)) → Tallies name self t → IsSound forest t → (machine t).machine ≡ vm → vm.ending ≡ Some ending
+            → lines_of result ≡ lines told_spot name (ended_tree t) }
+    {
+        let Cell {
+            state: _,
+            is_listed: _,
+            broods,
+            mut log,
+        } = self;
+        log_killed(broods, &mut log);
+        let steps = vm.steps();
+        Outcome::new(name, ending, steps, vm.into_output(), log)
+    }
+}
+
+/// Moves the lines of tickets, where they are killed, to a log, which has room for them.
+fn log_killed(broods: BTreeMap<u32, Brood>, log: &mut Vec<Line>)
+    requires room { vec_len log.old + btree_map_len broods ≤ vec_capacity log.old }
+    requires small { (number : ℕ) → IfSome (get nat_cmp broods number) (λ brood. vec_len brood.slots < 2 ^ 32) }
+    ensures lines { log.new.items ≡ log.old.items ++ map killed_line broods.entries }
+    ensures ordered { IsOrdered nat_cmp broods }
+{
+    'broods: for (ticket, brood) in broods {
+        log.push_reserved(brood.into_line(ticket));
+    }
+}

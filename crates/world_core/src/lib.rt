@@ -1,0 +1,13 @@
+//! A world of machines: a family of machines that fork, of which some are handed out on lease to be run,
+//! and come back.
+#![tactic(auto)]
+
+mod cell;
+mod lease;
+mod reason;
+mod turns;
+mod world;
+
+pub use lease::Lease;
+pub use reason::Reason;
+pub use world::{Placed, Taken, World};

@@ -1,0 +1,258 @@
+ghost use Rattle.std.specs.Prelude.{◌≡◌, [], ◌∷◌, None, Some, true, false, IfOk, IfSome, IsSome, MatchOption};
+ghost use Rattle.std.specs.BTreeMap.{get};
+ghost use Rattle.boxcar.specs.Table.{Shelves};
+ghost use Rattle.forest_tree.specs.Settle.{has_ended};
+ghost use Rattle.forest_tree.specs.Sound.{IsSound};
+ghost use Rattle.forest_tree.specs.Tree.{Path, Tree, machine, subtree};
+ghost use Rattle.forest_history.specs.Places.{Spot, home, placed};
+ghost use Rattle.forest_history.specs.World.{world_of};
+ghost use Rattle.forest_history.specs.Rows.{gave, ended, halted, does};
+ghost use Rattle.forest_model.specs.Forest.{machines, port_of};
+ghost use Rattle.forest_model.specs.Machine.{Machine};
+ghost use Rattle.run_report.specs.Lines.{lines};
+ghost use Rattle.run_report.specs.Name.{child_path};
+ghost use Rattle.run_report.specs.NameOrder.{path_cmp};
+ghost use Rattle.run_report.specs.Report.{lines_of};
+ghost use Rattle.world_core.specs.Turns.{turns_from, turn_of};
+ghost use Rattle.world_core.specs.Shows.{CellShows, IsAwake, child_of, forest, told_spot, ended_tree};
+ghost use Rattle.world_core.specs.World.{Forest, StandsFor};
+ghost use Rattle.world_core.specs.Between.{HasLeft, IsBetween, IsLeaving, IsSameWorld, TakesOut, with_tree};
+ghost use Rattle.world_core.specs.Answers.{Answers, HandedOut, IsHandedOut, home_by, join_ticket, stands_waiting, with_machine};
+
+use crate::cell::{Cell, State};
+use crate::lease::Lease;
+use crate::reason::Reason;
+use crate::turns::{Turn, Turns};
+use forest_model::Ending;
+use fork_port::Call;
+use image_depot::Depot;
+use run_report::{Name, Outcome};
+use std::alloc::{AllocError, Global};
+use std::collections::BTreeMap;
+use vm_cell::Vm;
+
+mod calls;
+mod take;
+
+/// What `take` hands out.
+#[derive(Drop)]
+pub enum Taken {
+    /// The root has ended.
+    Over,
+    /// The root lives, and this was the first reason to stop.
+    Stopped(Reason),
+    /// Each live machine is on lease, or waits for children.
+    Idle,
+    Took(Lease),
+    /// Want of memory, where a descriptor was to be woken.
+    Memory,
+}
+
+/// What became of a lease that was handed back.
+#[derive(Drop)]
+pub enum Placed {
+    /// The change was made.
+    Done,
+    /// The machine waits for a child that lives, and is parked at home.
+    Parked,
+    /// The machine's name is no longer in the forest.
+    Dropped,
+    /// Want of memory: nothing was changed, and the lease comes back.
+    Memory(Lease),
+}
+
+/// A family of machines, some of them on lease.
+#[derive(Drop)]
+pub struct World {
+    /// Those that live and are no descriptors any more, by name.
+    pub(crate) cells: BTreeMap<Name, Cell>,
+    /// Those that are ready, and maybe some that are no longer.
+    pub(crate) ready: Turns,
+    pub(crate) halted: Option<Reason>,
+    /// How the root has ended, with all that the family did.
+    pub(crate) outcome: Option<Outcome>,
+}
+
+impl World {
+    /// The world of one machine, which has no ticket and has made no step that ended it.
+    pub fn new(alloc: Global, vm: Vm, depot: &Depot) -> Result<World, AllocError>
+        requires lives { vm.ending ≡ None }
+        requires no_ticket { (port_of vm).tickets ≡ [] }
+        requires good { machines.is_good vm ≡ true }
+        ensures { IfOk result (λ world. StandsFor depot.now world (world_of machines vm)) }
+    {
+        let _ = depot;
+        let mut ready = Turns::new();
+        ready.push(Turn::of_machine(alloc, Name::root(alloc))?);
+        let mut cells = BTreeMap::new(alloc);
+        cells.insert(
+            Name::root(alloc),
+            Cell::of_root(alloc, Box::new(alloc, vm)?),
+        )?;
+        Ok(World {
+            cells,
+            ready,
+            halted: None,
+            outcome: None,
+        })
+    }
+
+    /// Takes a machine back. It takes no memory.
+    pub fn give(&mut self, lease: Lease) -> Placed
+        requires { HandedOut self.old lease }
+        ensures { (depot : Shelves) (f : Forest) → StandsFor depot self.old f → IsHandedOut f lease
+            → Answers depot f (home_by lease.now.ending) lease result self.new }
+    {
+        if lease.ended().is_some() {
+            return self.end(lease);
+        }
+        let Lease { turn, vm, .. } = lease;
+        self.home(turn, vm)
+    }
+
+    /// Takes back a machine that has ended, and drops its descendants. It takes no memory.
+    pub fn end(&mut self, lease: Lease) -> Placed
+        requires lent { HandedOut self.old lease }
+        requires ended { IsSome lease.now.ending }
+        ensures { (depot : Shelves) (f : Forest) → StandsFor depot self.old f → IsHandedOut f lease
+            → Answers depot f ended lease result self.new }
+    {
+        let Lease { turn, vm, .. } = lease;
+        match vm.ended() {
+            Some(ending) => self.finish(turn, vm, ending),
+            None => Placed::Dropped,
+        }
+    }
+
+    /// No machine is handed out from now on, for the first reason that is given.
+    pub fn stop(&mut self, reason: Reason)
+        ensures { (depot : Shelves) (f : Forest) → StandsFor depot self.old f
+            → StandsFor depot self.new (does machines (halted reason) f) }
+    {
+        if self.halted.is_none() {
+            self.halted = Some(reason);
+        }
+    }
+
+    /// How the family ended, once the root has.
+    pub fn finished(&self) -> Option<&Outcome>
+        ensures { (depot : Shelves) (f : Forest) → StandsFor depot self.now f
+            → MatchOption result (has_ended forest f.tree ≡ false)
+            (λ outcome. (has_ended forest f.tree ≡ true) × (lines_of outcome.now ≡ lines told_spot [] f.tree)) }
+    {
+        self.outcome.as_ref()
+    }
+
+    /// The same, of a world that is needed no more.
+    pub fn into_finished(self) -> Option<Outcome>
+        ensures { (depot : Shelves) (f : Forest) → StandsFor depot self f
+            → MatchOption result (has_ended forest f.tree ≡ false)
+            (λ outcome. (has_ended forest f.tree ≡ true) × (lines_of outcome ≡ lines told_spot [] f.tree)) }
+    {
+        let World {
+            cells: _,
+            ready: _,
+            halted: _,
+            outcome,
+        } = self;
+        outcome
+    }
+
+    /// Whether the machine on lease stands at the JOIN of a ticket of which a child lives.
+    pub fn waits(&self, lease: &Lease) -> bool
+        ensures { (depot : Shelves) (f : Forest) → StandsFor depot self.now f → IsHandedOut f lease.now
+            → IfSome (subtree lease.now.name f.tree) (λ t. result ≡ stands_waiting (with_machine lease.now.now t)) }
+    {
+        let Some(ticket) = joined_ticket(lease.call()) else {
+            return false;
+        };
+        match self.cells.get(lease.name()) {
+            Some(cell) => cell.waits(ticket),
+            None => false,
+        }
+    }
+
+    /// Puts a live machine home, which is ready then.
+    fn home(&mut self, turn: Box<Turn>, vm: Box<Vm>) -> Placed
+        requires alone { turns_from turn.value ≡ turn_of turn.value ∷ [] }
+        requires one { (turn_of turn.value).children ≡ None }
+        ensures gone { get path_cmp self.old.cells (turn_of turn.value).name ≡ None → (result ≡ Placed.Dropped) × IsSameWorld self.old self.new }
+        ensures home { (depot : Shelves) (f : Forest) (a : Tree (Spot Machine)) → IsBetween depot self.old f (turn_of turn.value).name a
+            → (machine a).machine ≡ vm.value → has_ended forest a ≡ false
+            → IsSound forest (with_tree (turn_of turn.value).name (placed home a) f).tree
+            → (result ≡ Placed.Done) × StandsFor depot self.new (with_tree (turn_of turn.value).name (placed home a) f) }
+    {
+        let Some(cell) = self.cells.get_mut(&turn.name) else {
+            return Placed::Dropped;
+        };
+        cell.state = State::Home(vm);
+        if !cell.is_listed {
+            cell.is_listed = true;
+            self.ready.push(turn);
+        }
+        Placed::Done
+    }
+
+    /// Puts what a machine left that has ended into its parent's brood, or keeps it where it is the root's.
+    /// Its descendants are dropped.
+    fn finish(&mut self, turn: Box<Turn>, vm: Box<Vm>, ending: Ending) -> Placed
+        requires ended { vm.value.ending ≡ Some ending }
+        requires between { IfSome (get path_cmp self.old.cells (turn_of turn.value).name)
+            (λ c. (depot : Shelves) × (f : Forest) × (a : Tree (Spot Machine)) × IsBetween depot self.old f (turn_of turn.value).name a
+            × ((machine a).machine ≡ vm.value)) }
+        ensures gone { get path_cmp self.old.cells (turn_of turn.value).name ≡ None → (result ≡ Placed.Dropped) × IsSameWorld self.old self.new }
+        ensures finished { (depot : Shelves) (f : Forest) (a : Tree (Spot Machine)) → IsBetween depot self.old f (turn_of turn.value).name a
+            → (machine a).machine ≡ vm.value
+            → IsSound forest (with_tree (turn_of turn.value).name (placed home (ended_tree a)) f).tree
+            → (result ≡ Placed.Done) × StandsFor depot self.new (with_tree (turn_of turn.value).name (placed home (ended_tree a)) f) }
+    {
+        let mut name = Box::into_inner(turn).into_name();
+        let Some((key, cell)) = take_out(&mut self.cells, &name) else {
+            return Placed::Dropped;
+        };
+        let outcome = cell.into_outcome(key, Box::into_inner(vm), ending);
+        match name.pop() {
+            Some((ticket, index)) => self.end_child(&name, ticket, index, outcome),
+            None => self.outcome = Some(outcome),
+        }
+        Placed::Done
+    }
+
+    /// Tells a machine how a child of it has ended. It may be ready then.
+    fn end_child(&mut self, parent: &Name, ticket: u32, index: u32, outcome: Outcome)
+        requires { IfSome (get path_cmp self.old.cells parent.now) (λ c. (depot : Shelves) × (t a : Tree (Spot Machine))
+            × CellShows depot parent.now c t × (child_of ticket index t ≡ Some a) × IsAwake a) }
+        ensures { (depot : Shelves) (f : Forest) (b : Tree (Spot Machine)) → IsLeaving depot self.old f (child_path parent.now ticket index)
+            → HasLeft (child_path parent.now ticket index) b outcome → IsSound forest (with_tree (child_path parent.now ticket index) b f).tree
+            → StandsFor depot self.new (with_tree (child_path parent.now ticket index) b f) }
+    {
+        let Some(cell) = self.cells.get_mut(parent) else {
+            return;
+        };
+        if let Some(turn) = cell.child_ended(ticket, index, outcome) {
+            self.ready.push(turn);
+        }
+    }
+}
+
+/// Takes out the cell of a name, and those of its descendants. It answers the name and the cell.
+fn take_out(cells: &mut BTreeMap<Name, Cell>, name: &Name) -> Option<(Name, Cell)>
+    ensures { MatchOption result ((get path_cmp cells.old name.now ≡ None) × ((n : Path) → get path_cmp cells.new n ≡ get path_cmp cells.old n))
+        (λ taken. (taken.0 ≡ name.now) × TakesOut cells.old cells.new name.now taken.1) }
+{
+    let (key, cell) = cells.remove_entry(name)?;
+    if !cell.broods.is_empty() {
+        cells.retain(|other, _| !other.is_below_all(&key));
+    }
+    Some((key, cell))
+}
+
+/// The ticket of a call that is a JOIN.
+fn joined_ticket(call: Option<Call>) -> Option<u32>
+    ensures { result ≡ join_ticket call }
+{
+    match call {
+        Some(Call::Join(ticket)) => Some(ticket),
+        _ => None,
+    }
+}

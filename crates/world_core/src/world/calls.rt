@@ -1,0 +1,149 @@
+ghost use Rattle.std.specs.Prelude.{◌≡◌, [], ◌∷◌, None, if◌then◌else◌};
+ghost use Rattle.std.specs.BTreeMap.{get};
+ghost use Rattle.boxcar.specs.Table.{Shelves};
+ghost use Rattle.forest_tree.specs.Sound.{IsSound};
+ghost use Rattle.forest_tree.specs.Tree.{Path, Tree, beyond, machine};
+ghost use Rattle.forest_history.specs.Places.{Spot, home, placed};
+ghost use Rattle.forest_history.specs.Rows.{forked, joined, killed};
+ghost use Rattle.forest_model.specs.Machine.{Machine};
+ghost use Rattle.run_report.specs.Name.{begins_with};
+ghost use Rattle.run_report.specs.NameOrder.{path_cmp};
+ghost use Rattle.vm_cell.specs.Standing.{IsClone, IsKill, standing_call};
+ghost use Rattle.world_core.specs.Between.{IsBetween, settled_tree, with_tree};
+ghost use Rattle.world_core.specs.Shows.{forest};
+ghost use Rattle.world_core.specs.Turns.{turn_of, turns_from};
+ghost use Rattle.world_core.specs.World.{Forest, StandsFor};
+ghost use Rattle.world_core.specs.Answers.{Answers, HandedOut, HandedOutIn, IsHandedOut, IsJoinCall};
+
+use crate::cell::{Cell, State};
+use crate::lease::Lease;
+use crate::turns::Turn;
+use crate::world::{Placed, World};
+use fork_port::Call;
+use image_depot::Depot;
+use run_report::Name;
+use std::alloc::Global;
+use std::collections::BTreeMap;
+use std::sync::Wait;
+use vm_cell::Vm;
+
+impl World {
+    /// Makes the CLONE at which a machine stands. Its children are ready then.
+    pub fn fork<R: Wait>(&mut self, rt: &R, alloc: Global, lease: Lease, depot: &Depot) -> Placed
+        requires lent { HandedOutIn depot.now self.old lease }
+        requires clone { IsClone (standing_call lease.now) }
+        ensures { (f : Forest) → StandsFor depot.now self.old f → IsHandedOut f lease
+            → Answers depot.now f forked lease result self.new }
+    {
+        let Some(Call::Clone(ticket)) = lease.call() else {
+            unreachable!();
+        };
+        let Some(cell) = self.cells.get_mut(lease.name()) else {
+            return Placed::Dropped;
+        };
+        let Ok(name) = lease.name().copy(alloc) else {
+            return Placed::Memory(lease);
+        };
+        let Ok(children) = Turn::of_children(alloc, name, ticket) else {
+            return Placed::Memory(lease);
+        };
+        let Lease {
+            turn,
+            mut vm,
+            ran,
+            start,
+        } = lease;
+        if cell
+            .fork(rt, alloc, &mut vm, &turn.name, ticket, depot)
+            .is_err()
+        {
+            return Placed::Memory(Lease {
+                turn,
+                vm,
+                ran,
+                start,
+            });
+        }
+        self.ready.push(children);
+        self.place(turn, vm)
+    }
+
+    /// Makes the JOIN at which a machine stands, or parks the machine where a child of the ticket lives.
+    pub fn join(&mut self, alloc: Global, lease: Lease) -> Placed
+        requires lent { HandedOut self.old lease }
+        requires join { IsJoinCall (standing_call lease.now) }
+        ensures { (depot : Shelves) (f : Forest) → StandsFor depot self.old f → IsHandedOut f lease
+            → Answers depot f joined lease result self.new }
+    {
+        let Some(Call::Join(ticket)) = lease.call() else {
+            unreachable!();
+        };
+        let Some(cell) = self.cells.get_mut(lease.name()) else {
+            return Placed::Dropped;
+        };
+        let Lease {
+            turn,
+            mut vm,
+            ran,
+            start,
+        } = lease;
+        if cell.waits(ticket) {
+            cell.state = State::Parked(ticket, vm, turn);
+            return Placed::Parked;
+        }
+        if cell.join(alloc, &mut vm, ticket).is_err() {
+            return Placed::Memory(Lease {
+                turn,
+                vm,
+                ran,
+                start,
+            });
+        }
+        self.place(turn, vm)
+    }
+
+    /// Makes the KILL at which a machine stands. The children of the ticket are dropped, with theirs. It
+    /// takes no memory.
+    pub fn kill(&mut self, lease: Lease) -> Placed
+        requires lent { HandedOut self.old lease }
+        requires kill { IsKill (standing_call lease.now) }
+        ensures { (depot : Shelves) (f : Forest) → StandsFor depot self.old f → IsHandedOut f lease
+            → Answers depot f killed lease result self.new }
+    {
+        let Some(Call::Kill(ticket)) = lease.call() else {
+            unreachable!();
+        };
+        let Some(cell) = self.cells.get_mut(lease.name()) else {
+            return Placed::Dropped;
+        };
+        let Lease { turn, mut vm, .. } = lease;
+        cell.kill(&mut vm, ticket);
+        drop_below(&mut self.cells, &turn.name, ticket);
+        self.place(turn, vm)
+    }
+
+    /// Puts a machine home after its call, or ends it.
+    fn place(&mut self, turn: Box<Turn>, vm: Box<Vm>) -> Placed
+        requires alone { turns_from turn.value ≡ turn_of turn.value ∷ [] }
+        requires one { (turn_of turn.value).children ≡ None }
+        requires between { (depot : Shelves) × (f : Forest) × (a : Tree (Spot Machine)) × IsBetween depot self.old f (turn_of turn.value).name a
+            × ((machine a).machine ≡ vm.value) }
+        ensures { (depot : Shelves) (f : Forest) (a : Tree (Spot Machine)) → IsBetween depot self.old f (turn_of turn.value).name a
+            → (machine a).machine ≡ vm.value
+            → IsSound forest (with_tree (turn_of turn.value).name (placed home (settled_tree a)) f).tree
+            → (result ≡ Placed.Done) × StandsFor depot self.new (with_tree (turn_of turn.value).name (placed home (settled_tree a)) f) }
+    {
+        match vm.ended() {
+            Some(ending) => self.finish(turn, vm, ending),
+            None => self.home(turn, vm),
+        }
+    }
+}
+
+/// Drops the cells of the children of a ticket, and of all machines below them.
+fn drop_below(cells: &mut BTreeMap<Name, Cell>, name: &Name, ticket: u32)
+    ensures { (other : Path) → get path_cmp cells.new other
+        ≡ (if begins_with ticket (beyond name.now other) then None else get path_cmp cells.old other) }
+{
+    cells.retain(|other, _| !other.is_below(name, ticket));
+}

@@ -1,0 +1,182 @@
+ghost use Rattle.std.specs.Prelude.{◌≡◌, ◌≢◌, ◌∷◌, [], None, Some, true, is_some, IfNone, IfSome, IfOk, OnErr, OnOk};
+ghost use Rattle.std.specs.BTreeMap.{BTreeMap, get};
+ghost use Rattle.boxcar.specs.Table.{Shelves};
+ghost use Rattle.forest_tree.specs.Tree.{Tree, Path, machine, subtree};
+ghost use Rattle.forest_history.specs.Places.{Spot, at_path, out, placed};
+ghost use Rattle.forest_model.specs.Machine.{Machine};
+ghost use Rattle.run_report.specs.Name.{child_path};
+ghost use Rattle.run_report.specs.NameOrder.{path_cmp};
+ghost use Rattle.world_core.specs.Turns.{turn_of, turns_from};
+ghost use Rattle.world_core.specs.World.{Forest, StandsFor, IsWorld};
+ghost use Rattle.world_core.specs.Answers.{Takes, TakesNamed};
+ghost use Rattle.world_core.specs.Popped.{TakesBy, ShowsCells, IsFirstAsleep, is_listed_in, sleeps, with_turn};
+
+use crate::cell::Cell;
+use crate::lease::Lease;
+use crate::turns::Turn;
+use crate::world::{Taken, World};
+use image_depot::Depot;
+use run_report::Name;
+use std::alloc::{AllocError, Global};
+use vm_cell::Vm;
+
+impl World {
+    /// Hands out a machine that is ready. Memory is wanted only where it is still a descriptor.
+    pub fn take(&mut self, alloc: Global, depot: &Depot) -> Taken
+        requires { IsWorld depot.now self.old }
+        ensures { (f : Forest) → StandsFor depot.now self.old f → Takes depot.now f result self.new }
+    {
+        if self.outcome.is_some() {
+            return Taken::Over;
+        }
+        if let Some(reason) = self.halted {
+            return Taken::Stopped(reason);
+        }
+        while let Some(turn) = self.ready.pop() {
+            if let Some(taken) = self.take_by(alloc, depot, turn) {
+                return taken;
+            }
+        }
+        Taken::Idle
+    }
+
+    /// Hands out a machine by its turn, or nothing where none of the turn is ready any more.
+    fn take_by(&mut self, alloc: Global, depot: &Depot, turn: Box<Turn>) -> Option<Taken>
+        requires alone { turns_from turn.value ≡ turn_of turn.value ∷ [] }
+        requires world { IsWorld depot.now (with_turn (turn_of turn.value) self.old) }
+        requires going { (self.old.outcome ≡ None) × (self.old.halted ≡ None) }
+        ensures takes { (f : Forest) → StandsFor depot.now (with_turn (turn_of turn.value) self.old) f
+            → TakesBy depot.now f result self.new }
+        ensures going { (self.new.outcome ≡ None) × (self.new.halted ≡ None) }
+        ensures turns { IfNone result (self.new.ready ≡ self.old.ready) }
+    {
+        match turn.children {
+            None => self.take_awake(turn),
+            Some((ticket, first)) => self.take_asleep(alloc, depot, turn, ticket, first),
+        }
+    }
+
+    /// Hands out the machine of a turn, if it is ready.
+    fn take_awake(&mut self, turn: Box<Turn>) -> Option<Taken>
+        requires alone { turns_from turn.value ≡ turn_of turn.value ∷ [] }
+        requires one { (turn_of turn.value).children ≡ None }
+        requires going { (self.old.outcome ≡ None) × (self.old.halted ≡ None) }
+        ensures takes { (depot : Shelves) (f : Forest) → StandsFor depot (with_turn (turn_of turn.value) self.old) f
+            → TakesBy depot f result self.new }
+        ensures going { (self.new.outcome ≡ None) × (self.new.halted ≡ None) }
+        ensures turns { self.new.ready ≡ self.old.ready }
+    {
+        let cell = self.cells.get_mut(&turn.name)?;
+        cell.is_listed = false;
+        let vm = cell.lend()?;
+        Some(Taken::Took(Lease::new(turn, vm)))
+    }
+
+    /// Wakes the first child of a turn that is still a descriptor, if there is one, and hands it out.
+    fn take_asleep(
+        &mut self,
+        alloc: Global,
+        depot: &Depot,
+        turn: Box<Turn>,
+        ticket: u32,
+        first: u32,
+    ) -> Option<Taken>
+        requires alone { turns_from turn.value ≡ turn_of turn.value ∷ [] }
+        requires children { (turn_of turn.value).children ≡ Some (ticket, first) }
+        requires world { IsWorld depot.now (with_turn (turn_of turn.value) self.old) }
+        requires going { (self.old.outcome ≡ None) × (self.old.halted ≡ None) }
+        ensures takes { (f : Forest) → StandsFor depot.now (with_turn (turn_of turn.value) self.old) f
+            → TakesBy depot.now f result self.new }
+        ensures going { (self.new.outcome ≡ None) × (self.new.halted ≡ None) }
+        ensures turns { IfNone result (self.new.ready ≡ self.old.ready) }
+    {
+        let index = self.asleep_from(&turn.name, ticket, first)?;
+        let woken = self.wake(alloc, depot, &turn.name, ticket, index);
+        let mut turn = turn;
+        turn.children = Some((ticket, index));
+        self.ready.push(turn);
+        match woken {
+            Ok(lease) => Some(Taken::Took(lease)),
+            Err(_) => Some(Taken::Memory),
+        }
+    }
+
+    /// Hands out the machine of a name, if one lives at home, where it waits too.
+    pub fn take_named(
+        &mut self,
+        alloc: Global,
+        name: &Name,
+        depot: &Depot,
+    ) -> Result<Option<Lease>, AllocError>
+        requires { IsWorld depot.now self.old }
+        ensures { (f : Forest) → StandsFor depot.now self.old f → TakesNamed depot.now f name.now result self.new }
+    {
+        if self.outcome.is_some() {
+            return Ok(None);
+        }
+        if let Some(cell) = self.cells.get_mut(name) {
+            let turn = Turn::of_machine(alloc, name.copy(alloc)?)?;
+            let Some(vm) = cell.lend_named() else {
+                return Ok(None);
+            };
+            return Ok(Some(Lease::new(turn, vm)));
+        }
+        let mut parent = name.copy(alloc)?;
+        let Some((ticket, index)) = parent.pop() else {
+            return Ok(None);
+        };
+        if self.asleep_from(&parent, ticket, index) != Some(index) {
+            return Ok(None);
+        }
+        Ok(Some(self.wake(alloc, depot, &parent, ticket, index)?))
+    }
+
+    /// The first child of a ticket, from one on, that is still a descriptor.
+    fn asleep_from(&self, parent: &Name, ticket: u32, first: u32) -> Option<u32>
+        requires { (depot : Shelves) × (t : Tree (Spot Machine)) × ShowsCells depot self.now.cells t }
+        ensures { (depot : Shelves) (t : Tree (Spot Machine)) → ShowsCells depot self.now.cells t
+            → IsFirstAsleep parent.now ticket first t result }
+    {
+        let cell = self.cells.get(parent)?;
+        let brood = cell.broods.get(&ticket)?;
+        // Children count from 1.
+        brood.asleep_from(first.max(1))
+    }
+
+    /// Wakes a child that is still a descriptor, and hands it out.
+    fn wake(
+        &mut self,
+        alloc: Global,
+        depot: &Depot,
+        parent: &Name,
+        ticket: u32,
+        index: u32,
+    ) -> Result<Lease, AllocError>
+        requires { (t : Tree (Spot Machine)) × ShowsCells depot.now self.old.cells t × (sleeps parent.now ticket index t ≡ true) }
+        ensures lease { IfOk result (λ lease. (lease.name ≡ child_path parent.now ticket index) × (lease.ran ≡ 0) × (lease.now ≡ lease.start)) }
+        ensures start { (t : Tree (Spot Machine)) → ShowsCells depot.now self.old.cells t → sleeps parent.now ticket index t ≡ true
+            → IfOk result (λ lease. IfSome (subtree lease.name t) (λ a. (machine a).machine ≡ lease.start)) }
+        ensures cells { (t : Tree (Spot Machine)) → ShowsCells depot.now self.old.cells t → sleeps parent.now ticket index t ≡ true
+            → OnOk result (ShowsCells depot.now self.new.cells (at_path (placed out) (child_path parent.now ticket index) t)) }
+        ensures same { OnErr result ((name : Path) → get path_cmp self.new.cells name ≡ get path_cmp self.old.cells name) }
+        ensures listed { (name : Path) → is_listed_in (get path_cmp self.new.cells name) ≡ is_listed_in (get path_cmp self.old.cells name) }
+        ensures others { (name : Path) → name ≢ child_path parent.now ticket index → is_some (get path_cmp self.new.cells name) ≡ is_some (get path_cmp self.old.cells name) }
+        ensures rest { (self.new.ready ≡ self.old.ready) × (self.new.halted ≡ self.old.halted) × (self.new.outcome ≡ self.old.outcome) }
+    {
+        let name = parent.child(alloc, ticket, index)?;
+        let turn = Turn::of_machine(alloc, name.copy(alloc)?)?;
+        let Some(cell) = self.cells.get(parent) else {
+            unreachable!();
+        };
+        let Some(vm) = cell.woken(alloc, depot, ticket, index)? else {
+            unreachable!();
+        };
+        let vm = Box::new(alloc, vm)?;
+        self.cells.insert(name, Cell::of_lent(alloc, &vm))?;
+        let Some(cell) = self.cells.get_mut(parent) else {
+            unreachable!();
+        };
+        cell.child_wakes(ticket, index);
+        Ok(Lease::new(turn, vm))
+    }
+}
