@@ -1,2 +1,4 @@
-pub mod Told
+pub mod PartLemmas
 pub mod Meanings
+pub mod Ended
+pub mod Turning

@@ -1,5 +1,5 @@
 -- What the clauses of `parse` and of the parser of the words tell of what the words mean.
-use Rattle.std.proofs.Common.{◌≡◌, ◌≢◌, ℕ, ◌<◌, ◌^◌, ◌⊎◌, inl, inr, Bool, true, false, cond, List, [], ◌∷◌, Option, Some, None, Result, Ok, Err, refl, sym, ap, ◌∙◌, subst}
+use Rattle.std.proofs.Common.{◌≡◌, ◌≢◌, ℕ, ◌<◌, ◌^◌, ◌⊎◌, inl, inr, Bool, true, false, ◌||◌, cond, List, [], ◌∷◌, Option, Some, None, Result, Ok, Err, refl, sym, ap, ◌∙◌, subst}
 use Rattle.std.specs.Result.{OkIff, result_ok}
 use Rattle.std.specs.Str.{all_ascii_digits}
 use Rattle.std.specs.Str.Parse.{IsNumeral, ParsesUnsigned, digits_value, without_leading_plus}
@@ -41,6 +41,10 @@ simple = refl
 
 simple_and_free : is_simple_and_free snow_app ≡ true
 simple_and_free = refl
+
+-- a command with one more argument, neither of them global
+pub not-global : (a b g : Bool) → b ≡ (a || g) → a ≡ false → g ≡ false → b ≡ false
+not-global a b g added old new = added ∙ ap (λ v. v || g) old ∙ new
 
 -- words that the parser takes mean what the subcommand that was found says
 pub meant-taken : (app : App) (words : List (List ℕ)) (m : ArgMatches) → app ≡ snow_app

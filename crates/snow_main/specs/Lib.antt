@@ -1,4 +1,6 @@
 pub mod Words
+pub mod Commands
 pub mod Text
-pub mod Runs
+pub mod Parts
 pub mod Status
+pub mod Turned

@@ -1,10 +1,11 @@
-//! What no clause says: the exact reports of the example guests, and the codes at their causes.
+//! What no clause says: the exact texts of the example guests, and the codes at their causes.
 
 use crate::program::{Status, snow};
 use elf_load::RAM_BASE;
 use io_edge::{MemShelf, MemSink};
 use rv_asm::{MAX_WORDS, elf_of};
 use std::alloc::{AllocError, Global};
+use std::sync::Wait;
 use std::test::Fail;
 
 /// The words of the guest that ends with the value 7.
@@ -30,6 +31,45 @@ const TWO_CHILDREN: [u32; 25] = [
     0x00200313, 0x0062a423, 0x0102a403, 0x02041463, 0x00300313, 0x0072a023, 0x0062a423, 0x00100313,
     0x0062ac23, 0x0202a303, 0x0062a023, 0x00500313, 0x0062a423, 0x02840313, 0x0062a023, 0x00500313,
     0x0062a423,
+];
+
+/// The words of the guest that kills its two children, and then tries to join them.
+const KILL_THEN_JOIN: [u32; 25] = [
+    0x100022b7, 0x00200313, 0x0062a023, 0x0002a223, 0x00100313, 0x0062a423, 0x00c2a383, 0x0072a023,
+    0x00200313, 0x0062a423, 0x0102a403, 0x02041463, 0x00400313, 0x0072a023, 0x0062a423, 0x00300313,
+    0x0062a423, 0x00c2a303, 0x0062a023, 0x00500313, 0x0062a423, 0x02840313, 0x0062a023, 0x00500313,
+    0x0062a423,
+];
+
+/// The words of the guest that has a child and a grandchild.
+const GRANDCHILD: [u32; 40] = [
+    0x100022b7, 0x800014b7, 0x01100513, 0x00a4a023, 0x00100313, 0x0062a023, 0x0062a223, 0x0062a423,
+    0x00c2a383, 0x0072a023, 0x00200313, 0x0062a423, 0x00c2a403, 0x00041863, 0x01200513, 0x00a4a023,
+    0x0340006f, 0x00100313, 0x0062a023, 0x0002a223, 0x0062a423, 0x00c2a383, 0x0072a023, 0x00200313,
+    0x0062a423, 0x00c2a403, 0x02041863, 0x01300513, 0x00a4a023, 0x00300313, 0x0072a023, 0x0062a423,
+    0x00100313, 0x0062ac23, 0x0202a503, 0x00a2a023, 0x00500313, 0x0062a423, 0x0004a503, 0xff1ff06f,
+];
+
+/// The words of the guest whose timer is due at the moment of its CLONE. The handler is in page 2.
+const TIMER_AT_FORK: [u32; 19] = [
+    0x100022b7, 0x020044b7, 0x80002537, 0x30551073, 0x00552023, 0x00100313, 0x0062a023, 0x0002a223,
+    0x0062a423, 0x00c2a383, 0x0072a023, 0x08000313, 0x30431073, 0x01300313, 0x0064a023, 0x0004a223,
+    0x30046073, 0x00200313, 0x0062a423,
+];
+
+/// The words of the guest that makes a thousand children and joins them.
+const THOUSAND_CHILDREN: [u32; 21] = [
+    0x100022b7, 0x3e800313, 0x0062a023, 0x0002a223, 0x00100313, 0x0062a423, 0x00c2a383, 0x0072a023,
+    0x00200313, 0x0062a423, 0x0102a403, 0x00041e63, 0x00300313, 0x0062a423, 0x00c2a303, 0x0062a023,
+    0x00500313, 0x0062a423, 0x0082a023, 0x00500313, 0x0062a423,
+];
+
+/// The words of the guest of which each machine has a child, as long as there are clones.
+const LONG_CHAIN: [u32; 26] = [
+    0x100022b7, 0x0142a483, 0x04048a63, 0x00100313, 0x0062a023, 0xfff48513, 0x00a2a223, 0x0062a423,
+    0x00c2a383, 0x0072a023, 0x00200313, 0x0062a423, 0x00c2a403, 0xfc0418e3, 0x00300313, 0x0062a423,
+    0x00100313, 0x0062ac23, 0x0202a583, 0x00158593, 0x00b2a023, 0x00500313, 0x0062a423, 0x0002a023,
+    0x00500313, 0x0062a423,
 ];
 
 /// The words of the guest that copies sector 0 of its disk to sector 1. It reads sector 0 to the buffer,
@@ -97,11 +137,15 @@ fn status(code: u8, first: u32) -> Status {
 }
 
 /// What a command line writes over `guest`, which is the image of these words.
-fn report_of(rt: &impl AllocGlobal, guest: &[u32], words: &[&str]) -> Result<MemSink, Fail> {
+fn report_of<R: AllocGlobal + Wait>(
+    rt: &R,
+    guest: &[u32],
+    words: &[&str],
+) -> Result<MemSink, Fail> {
     let alloc = rt.alloc();
     let words = words_of(alloc, words)?;
     let mut shelf = shelf_of(alloc, image_of(alloc, guest)?)?;
-    let mut sink = MemSink::new(alloc, 7, 100, Vec::new(alloc))?;
+    let mut sink = MemSink::new(alloc, 7, 100_000, Vec::new(alloc))?;
     match snow(rt, &words, &mut shelf, &mut sink).code {
         0 => Ok(sink),
         _ => Err("the report is not out")?,
@@ -172,11 +216,82 @@ fn reports(rt: HostRuntime) -> Result<(), Fail> {
 }
 
 #[test]
+fn reports_families(rt: HostRuntime) -> Result<(), Fail> {
+    let rows: [(&[u32], &[&str], &[u8]); 7] = [
+        (
+            &TWO_CHILDREN,
+            &["run", "guest", "--clones", "2"],
+            b"machine 0 exit 41 steps 21 out 0\n\nmachine 0.1.1 exit 41 steps 16 out 0\n\nmachine 0.1.2 exit 42 steps 16 out 0\n\n",
+        ),
+        // More clones than are asked for change nothing.
+        (
+            &TWO_CHILDREN,
+            &["run", "guest", "--clones", "4096"],
+            b"machine 0 exit 41 steps 21 out 0\n\nmachine 0.1.1 exit 41 steps 16 out 0\n\nmachine 0.1.2 exit 42 steps 16 out 0\n\n",
+        ),
+        (
+            &TWO_CHILDREN,
+            &["run", "guest", "--clones", "1"],
+            b"machine 0 exit 41 steps 21 out 0\n\nmachine 0.1.1 exit 41 steps 16 out 0\n\n",
+        ),
+        (
+            &TWO_CHILDREN,
+            &["run", "guest", "--clones=0"],
+            b"machine 0 exit 0 steps 21 out 0\n\n",
+        ),
+        // The parent ends with its CLONE, and so do its children.
+        (
+            &TWO_CHILDREN,
+            &["run", "guest", "--clones", "2", "--limit", "10"],
+            b"machine 0 limit steps 10 out 0\n\nticket 0.1 killed 2\n",
+        ),
+        (
+            &KILL_THEN_JOIN,
+            &["run", "guest", "--clones", "2"],
+            b"machine 0 exit 4294967295 steps 21 out 0\n\nticket 0.1 killed 2\n",
+        ),
+        (
+            &GRANDCHILD,
+            &["run", "guest", "--clones", "2"],
+            b"machine 0 exit 17 steps 26 out 0\n\nmachine 0.1.1 exit 17 steps 35 out 0\n\nmachine 0.1.1.1.1 exit 17 steps 29 out 0\n\n",
+        ),
+    ];
+    for (guest, words, report) in rows {
+        assert_eq!(rt; report_of(&rt, guest, words)?.bytes(), report, "{words:?}");
+    }
+    Ok(())
+}
+
+// A wide family and a deep one, with a line for each machine.
+#[test]
+fn reports_large_families(rt: HostRuntime) -> Result<(), Fail> {
+    let words = ["run", "guest", "--clones", "1000"];
+    let wide = report_of(&rt, &THOUSAND_CHILDREN, &words)?;
+    assert!(rt;
+        wide.bytes().starts_with(
+            b"machine 0 exit 1000 steps 18 out 0\n\nmachine 0.1.1 exit 1 steps 15 out 0\n\n"
+        )
+    );
+    assert!(rt;
+        wide.bytes()
+            .ends_with(b"machine 0.1.1000 exit 1000 steps 15 out 0\n\n")
+    );
+    let words = ["run", "guest", "--clones", "100"];
+    let deep = report_of(&rt, &LONG_CHAIN, &words)?;
+    assert!(rt;
+        deep.bytes().starts_with(
+            b"machine 0 exit 100 steps 23 out 0\n\nmachine 0.1.1 exit 99 steps 36 out 0\n\n"
+        )
+    );
+    Ok(())
+}
+
+#[test]
 fn refuses_by_cause(rt: HostRuntime) -> Result<(), Fail> {
     let alloc = rt.alloc();
     let whole = image_of(alloc, &EXIT_SEVEN)?;
     assert_eq!(rt; whole.len(), 104);
-    let rows: [(&[&str], usize, Status); 21] = [
+    let rows: [(&[&str], usize, Status); 22] = [
         (&["run", "guest"], 0, status(3, 1)),
         (&["run", "guest"], 103, status(3, 9)),
         (&["run", "other"], 104, status(1, 1)),
@@ -189,6 +304,7 @@ fn refuses_by_cause(rt: HostRuntime) -> Result<(), Fail> {
         (&["run", "guest", "--ram", "15"], 104, status(2, 0)),
         (&["run", "guest", "--ram", "1025"], 104, status(2, 0)),
         (&["run", "guest", "--limit", "0"], 104, status(2, 0)),
+        (&["run", "guest", "--clones", "4097"], 104, status(2, 0)),
         (
             &["run", "guest", "--limit", "1000000001"],
             104,
@@ -373,6 +489,292 @@ fn stops_at_each_fault(rt: HostRuntime) -> Result<(), Fail> {
         let mut sink = MemSink::new(alloc, 10, 100, vec![in alloc; sink_fails]?)?;
         assert_eq!(rt; snow(&rt, &words, &mut shelf, &mut sink), want);
         assert_eq!(rt; sink.bytes(), EXIT_SEVEN_REPORT.split_at(out.min(32)).0);
+    }
+    Ok(())
+}
+
+/// A shelf with a guest and a script.
+fn shelf_to_drive(alloc: Global, guest: Vec<u8>, script: &[u8]) -> Result<MemShelf, AllocError> {
+    let mut files = Vec::new(alloc);
+    files.push((String::from_str(alloc, "guest")?, guest))?;
+    files.push((
+        String::from_str(alloc, "script")?,
+        Vec::from_slice(alloc, script)?,
+    ))?;
+    Ok(MemShelf::new(files, Vec::new(alloc)))
+}
+
+/// What `drive` writes over the image of these words and a script.
+fn told_of<R: AllocGlobal + Wait>(
+    rt: &R,
+    guest: &[u32],
+    options: &[&str],
+    script: &[u8],
+) -> Result<MemSink, Fail> {
+    let alloc = rt.alloc();
+    let mut words = words_of(alloc, &["drive", "guest", "script"])?;
+    words.append(&mut words_of(alloc, options)?)?;
+    let mut shelf = shelf_to_drive(alloc, image_of(alloc, guest)?, script)?;
+    let mut sink = MemSink::new(alloc, 7, 1000, Vec::new(alloc))?;
+    match snow(rt, &words, &mut shelf, &mut sink).code {
+        0 => Ok(sink),
+        _ => Err("the text is not out")?,
+    }
+}
+
+#[test]
+fn tells_what_scripts_do(rt: HostRuntime) -> Result<(), Fail> {
+    let rows: [(&[u32], &[&str], &[u8], &[u8]); 6] = [
+        (
+            &TWO_CHILDREN,
+            &["--clones", "2", "--ram", "16"],
+            b"step 0 12\nstep 0.1.1 6\nstep 0 9\nstep 0.1.2 9\nstep 0 7\nstep 0 1\n",
+            b"0 ran 12 ok\n0.1.1 ran 6 exit 41\n0 ran 2 wait 1\n0.1.2 ran 6 exit 42\n0 ran 7 exit 41\n0 none\n",
+        ),
+        (
+            &GRANDCHILD,
+            &["--clones", "2", "--ram", "16"],
+            b"step 0 12\nstep 0 4\npeek 0 80001000\npeek 0.1.1 80001000",
+            b"0 ran 12 ok\n0 ran 4 ok\n0 word 00000012\n0.1.1 word 00000011\n",
+        ),
+        // EXIT wins over the limit.
+        (
+            &EXIT_SEVEN,
+            &["--limit", "5"],
+            b"step 0 1000000000",
+            b"0 ran 5 exit 7\n",
+        ),
+        (
+            &EXIT_SEVEN,
+            &["--limit=4"],
+            b"step 0 4\nstep 0 1",
+            b"0 ran 4 limit\n0 none\n",
+        ),
+        // No machine has the name, and no word is at the address.
+        (
+            &EXIT_SEVEN,
+            &["--ram", "16"],
+            b"\nregs 0.1.1\n\npeek 0 80010000\npeek 0 80000002\n",
+            b"0.1.1 none\n0 word none\n0 word none\n",
+        ),
+        (&EXIT_SEVEN, &[], b"", b""),
+    ];
+    for (guest, options, script, told) in rows {
+        assert_eq!(rt;
+            told_of(&rt, guest, options, script)?.bytes(),
+            told,
+            "{script:?}"
+        );
+    }
+    let script = b"step 0 19\nstep 0.1.1 1\nregs 0.1.1\n";
+    let sink = told_of(
+        &rt,
+        &TIMER_AT_FORK,
+        &["--clones", "1", "--ram", "16"],
+        script,
+    )?;
+    let begins: &[u8] = b"0 ran 19 ok\n0.1.1 ran 1 ok\n0.1.1 regs 80002000 ";
+    assert!(rt; sink.bytes().starts_with(begins));
+    // Two lines before, and 32 words.
+    assert_eq!(rt; sink.bytes().len(), 12 + 15 + 10 + 32 * 9 + 1);
+    Ok(())
+}
+
+#[test]
+fn stops_where_what_is_told_cannot_be_written(rt: HostRuntime) -> Result<(), Fail> {
+    let alloc = rt.alloc();
+    let words = words_of(alloc, &["drive", "guest", "script"])?;
+    // The call of the sink that fails, and what is then out.
+    let rows: [(u64, Status, &[u8]); 3] = [
+        (1, status(5, 0), b""),
+        (2, status(5, 0), b"0 ran 5 ex"),
+        (3, status(0, 0), b"0 ran 5 exit 7\n"),
+    ];
+    for (fails, want, out) in rows {
+        let mut shelf = shelf_to_drive(alloc, image_of(alloc, &EXIT_SEVEN)?, b"step 0 5\n")?;
+        let mut sink = MemSink::new(alloc, 10, 100, vec![in alloc; fails]?)?;
+        assert_eq!(rt; snow(&rt, &words, &mut shelf, &mut sink), want);
+        assert_eq!(rt; sink.bytes(), out);
+    }
+    Ok(())
+}
+
+fn script_status(first: u32, second: u32) -> Status {
+    Status {
+        code: 8,
+        first,
+        second,
+    }
+}
+
+#[test]
+fn refuses_scripts(rt: HostRuntime) -> Result<(), Fail> {
+    let alloc = rt.alloc();
+    let words = words_of(alloc, &["drive", "guest", "script"])?;
+    let rows: [(&[u8], Status); 6] = [
+        (b"step 0 1\nregs 0\njump 0\n", script_status(3, 1)),
+        (b"step 00 1", script_status(1, 3)),
+        (b"step 0 01", script_status(1, 4)),
+        (b"peek 0 8000", script_status(1, 5)),
+        (b"regs", script_status(1, 2)),
+        (b"\n\nregs 0 0\njump", script_status(3, 2)),
+    ];
+    for (script, want) in rows {
+        let mut shelf = shelf_to_drive(alloc, image_of(alloc, &EXIT_SEVEN)?, script)?;
+        let mut sink = MemSink::new(alloc, 7, 100, Vec::new(alloc))?;
+        assert_eq!(rt;
+            snow(&rt, &words, &mut shelf, &mut sink),
+            want,
+            "{script:?}"
+        );
+        assert_eq!(rt; sink.bytes().len(), 0);
+    }
+    Ok(())
+}
+
+#[test]
+fn refuses_what_is_to_be_driven_in_order(rt: HostRuntime) -> Result<(), Fail> {
+    let alloc = rt.alloc();
+    let plain: &[&str] = &["drive", "guest", "script"];
+    let disk: &[&str] = &["drive", "guest", "script", "--disk", "disk"];
+    let input: &[&str] = &["drive", "guest", "script", "--input", "input"];
+    // The bytes of the image that are there, of the disk, of the input and of the script, which are zeros.
+    let rows: [(&[&str], usize, usize, usize, usize, Status); 22] = [
+        (&["drive"], 104, 0, 0, 1, status(2, 0)),
+        (&["drive", "guest"], 104, 0, 0, 1, status(2, 0)),
+        (
+            &["drive", "guest", "script", "script"],
+            104,
+            0,
+            0,
+            1,
+            status(2, 0),
+        ),
+        (
+            &["drive", "guest", "script", "--ram", "15"],
+            104,
+            0,
+            0,
+            1,
+            status(2, 0),
+        ),
+        (
+            &["drive", "guest", "script", "--clones", "4097"],
+            104,
+            0,
+            0,
+            1,
+            status(2, 0),
+        ),
+        (&["drive", "--help"], 104, 0, 0, 1, status(2, 0)),
+        (&["run", "guest", "script"], 104, 0, 0, 1, status(2, 0)),
+        // A file that is not there.
+        (&["drive", "guest", "other"], 104, 0, 0, 1, status(1, 4)),
+        (&["drive", "guest", "other"], 0, 0, 0, 1, status(1, 4)),
+        (&["drive", "other", "other"], 0, 0, 0, 1, status(1, 1)),
+        (
+            &["drive", "guest", "other", "--disk", "other"],
+            0,
+            0,
+            0,
+            1,
+            status(1, 2),
+        ),
+        (
+            &["drive", "guest", "other", "--input", "other"],
+            0,
+            0,
+            0,
+            1,
+            status(1, 3),
+        ),
+        // A file that is too long, before those that are read after it.
+        (
+            &["drive", "guest", "other", "--disk", "disk"],
+            104,
+            4_194_305,
+            0,
+            1,
+            status(4, 1),
+        ),
+        (
+            &["drive", "guest", "other", "--input", "input"],
+            104,
+            0,
+            65_537,
+            1,
+            status(4, 3),
+        ),
+        (input, 0, 0, 65_537, 1_048_577, status(4, 3)),
+        (plain, 104, 0, 0, 1_048_577, script_status(0, 6)),
+        (plain, 0, 0, 0, 1_048_577, script_status(0, 6)),
+        (disk, 104, 513, 0, 1_048_577, script_status(0, 6)),
+        // What the files hold: the image, the disk, the script.
+        (disk, 103, 513, 0, 1, status(3, 9)),
+        (plain, 0, 0, 0, 1, status(3, 1)),
+        (disk, 104, 513, 0, 1, status(4, 2)),
+        (disk, 104, 512, 0, 1_048_576, script_status(1, 1)),
+    ];
+    for (words, length, sectors, bytes, script, want) in rows {
+        let whole = image_of(alloc, &EXIT_SEVEN)?;
+        let (image, _) = whole.split_at(length.min(whole.len()));
+        let mut files = Vec::new(alloc);
+        files.push((
+            String::from_str(alloc, "guest")?,
+            Vec::from_slice(alloc, image)?,
+        ))?;
+        files.push((String::from_str(alloc, "disk")?, zeros(alloc, sectors)?))?;
+        files.push((String::from_str(alloc, "input")?, zeros(alloc, bytes)?))?;
+        files.push((String::from_str(alloc, "script")?, zeros(alloc, script)?))?;
+        let mut shelf = MemShelf::new(files, Vec::new(alloc));
+        let mut sink = MemSink::new(alloc, 7, 100, Vec::new(alloc))?;
+        let asked = words_of(alloc, words)?;
+        let found = snow(&rt, &asked, &mut shelf, &mut sink);
+        assert_eq!(rt;
+            found,
+            want,
+            "{words:?}, {length}, {sectors}, {bytes}, {script}"
+        );
+        assert_eq!(rt; sink.bytes().len(), 0);
+    }
+    Ok(())
+}
+
+// Each load that `drive` makes, in order.
+#[test]
+fn stops_at_each_load_of_drive(rt: HostRuntime) -> Result<(), Fail> {
+    let alloc = rt.alloc();
+    let plain: &[&str] = &["drive", "guest", "script"];
+    let input: &[&str] = &["drive", "guest", "script", "--input", "input"];
+    let both: &[&str] = &[
+        "drive", "guest", "script", "--disk", "disk", "--input", "input",
+    ];
+    // The call of the shelf that fails.
+    let rows: [(&[&str], u64, Status); 9] = [
+        (plain, 1, status(1, 1)),
+        (plain, 2, status(1, 4)),
+        (input, 1, status(1, 1)),
+        (input, 2, status(1, 3)),
+        (input, 3, status(1, 4)),
+        (both, 1, status(1, 1)),
+        (both, 2, status(1, 2)),
+        (both, 3, status(1, 3)),
+        (both, 4, status(1, 4)),
+    ];
+    for (words, fails, want) in rows {
+        let mut files = Vec::new(alloc);
+        for name in ["guest", "disk", "input", "script"] {
+            files.push((String::from_str(alloc, name)?, Vec::new(alloc)))?;
+        }
+        let mut shelf = MemShelf::new(files, vec![in alloc; fails]?);
+        let mut sink = MemSink::new(alloc, 10, 100, Vec::new(alloc))?;
+        let asked = words_of(alloc, words)?;
+        assert_eq!(rt;
+            snow(&rt, &asked, &mut shelf, &mut sink),
+            want,
+            "{words:?}, {fails}"
+        );
+        assert_eq!(rt; sink.bytes().len(), 0);
     }
     Ok(())
 }

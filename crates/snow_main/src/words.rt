@@ -1,12 +1,13 @@
 //! What the words of the command line ask for.
 
-ghost use Rattle.std.specs.Prelude.{◌≡◌, ◌≤◌, false, IfOk, IfSome, option_map};
+ghost use Rattle.std.specs.Prelude.{◌≡◌, ◌≤◌, false, codes, IfOk, IfSome, option_map};
 ghost use Rattle.clap.specs.declared.Command.TheViews.{out-Command};
 ghost use Rattle.clap.specs.Words.{app_of, first_of, found_of, rows_of, subcommand_rows_of};
-ghost use Rattle.snow_main.specs.Words.{command_of, files_app, meant, number_of, run, run_app, run_of, snow_app, texts, value_of};
+ghost use Rattle.snow_main.specs.Commands.{meaning};
+ghost use Rattle.snow_main.specs.Words.{command_of, drive_app, drive_with, guest_of, meant, number_of, run, run_app, snow_app, texts, value_of, with_files, with_numbers};
 
 use clap::error::ErrorKind;
-use clap::{Arg, ArgMatches, Command};
+use clap::{Arg, ArgMatches};
 use elf_load::{MAX_PAGES, MIN_PAGES};
 use std::alloc::{AllocError, Global};
 use std::marker::Model;
@@ -23,30 +24,46 @@ pub const MOST_LIMIT: u32 = 1_000_000_000;
 /// The most steps of a machine where `--limit` is not given.
 pub const DEFAULT_LIMIT: u32 = 1_000_000;
 
-/// What `run` is asked for.
+/// The most clones that `--clones` may allow.
+pub const MOST_CLONES: u32 = 4096;
+
+/// The clones of a family where `--clones` is not given.
+pub const DEFAULT_CLONES: u32 = 0;
+
+/// What the words ask for.
 #[derive(Drop)]
-pub struct Run<'a> {
+pub enum Command<'a> {
+    /// `run IMAGE`: the family of a guest is run to its end.
+    Run(GuestWords<'a>),
+    /// `drive IMAGE SCRIPT`: it is driven by the script of this name.
+    Drive(GuestWords<'a>, &'a str),
+}
+
+/// What the words say of a guest.
+#[derive(Drop)]
+pub struct GuestWords<'a> {
     image: &'a str,
     disk: Option<&'a str>,
     input: Option<&'a str>,
     pages: u32,
     limit: u64,
+    clones: u32,
 }
 
-impl<'a> Model for Run<'a> {
+impl<'a> Model for GuestWords<'a> {
     ghost use Rattle.std.specs.Prelude.{◌≤◌, option_map};
     ghost use Rattle.elf_load.specs.declared.image.TheConstants.{MIN_PAGES, MAX_PAGES};
-    ghost use Rattle.snow_main.specs.declared.words.TheConstants.{LEAST_LIMIT, MOST_LIMIT};
-    ghost use Rattle.snow_main.specs.Words.{RunValues};
+    ghost use Rattle.snow_main.specs.declared.words.TheConstants.{LEAST_LIMIT, MOST_LIMIT, MOST_CLONES};
+    ghost use Rattle.snow_main.specs.Words.{GuestValues};
 
-    ghost Value = { RunValues };
+    ghost Value = { GuestValues };
 
-    ghost view = { λ r. record { image = r.image.now; disk = option_map (λ name. name.now) r.disk; input = option_map (λ name. name.now) r.input; pages = r.pages; limit = r.limit } };
+    ghost view = { λ g. record { image = g.image.now; disk = option_map (λ name. name.now) g.disk; input = option_map (λ name. name.now) g.input; pages = g.pages; limit = g.limit; clones = g.clones } };
 
-    ghost invariant = { λ r. (MIN_PAGES ≤ r.pages) × (r.pages ≤ MAX_PAGES) × (LEAST_LIMIT ≤ r.limit) × (r.limit ≤ MOST_LIMIT) };
+    ghost invariant = { λ g. (MIN_PAGES ≤ g.pages) × (g.pages ≤ MAX_PAGES) × (LEAST_LIMIT ≤ g.limit) × (g.limit ≤ MOST_LIMIT) × (g.clones ≤ MOST_CLONES) };
 }
 
-impl Run<'_> {
+impl GuestWords<'_> {
     /// The name of the image.
     pub fn image(&self) -> &str
         ensures { result.now ≡ self.now.image }
@@ -85,14 +102,22 @@ impl Run<'_> {
     {
         self.limit
     }
+
+    /// How many clones the family may have.
+    pub fn clones(&self) -> u32
+        ensures value { result ≡ self.now.clones }
+        ensures most { result ≤ MOST_CLONES }
+    {
+        self.clones
+    }
 }
 
 /// What the words ask for, or `None` exactly where they have no meaning.
-pub fn run_asked(alloc: Global, words: &[String]) -> Result<Option<Run<'_>>, AllocError>
-    ensures { IfOk result (λ asked. option_map run asked ≡ meant (texts words.now)) }
+pub fn command_asked(alloc: Global, words: &[String]) -> Result<Option<Command<'_>>, AllocError>
+    ensures { IfOk result (λ asked. option_map meaning asked ≡ meant (texts words.now)) }
 {
     match snow_command(alloc)?.try_get_matches_from(words) {
-        Ok(matches) => Ok(run_found(&matches)),
+        Ok(matches) => Ok(command_found(&matches)),
         Err(error) => match error.kind() {
             ErrorKind::OutOfMemory => Err(AllocError),
             _ => Ok(None),
@@ -101,59 +126,104 @@ pub fn run_asked(alloc: Global, words: &[String]) -> Result<Option<Run<'_>>, All
 }
 
 /// The command line that the parser is to take.
-fn snow_command<'a>(alloc: Global) -> Result<Command<'a>, AllocError>
+fn snow_command<'a>(alloc: Global) -> Result<clap::Command<'a>, AllocError>
     ensures { IfOk result (λ command. app_of command ≡ snow_app) }
 {
-    Command::new(alloc, "snow")
+    clap::Command::new(alloc, "snow")
         .no_binary_name(true)
-        .subcommand(run_command(alloc)?)
+        .subcommand(run_command(alloc)?)?
+        .subcommand(drive_command(alloc)?)
 }
 
-fn run_command<'a>(alloc: Global) -> Result<Command<'a>, AllocError>
+fn run_command<'a>(alloc: Global) -> Result<clap::Command<'a>, AllocError>
     ensures app { IfOk result (λ command. app_of command ≡ run_app) }
     ensures local { IfOk result (λ command. (out-Command command).has_globals ≡ false) }
 {
-    files_command(alloc)?
-        .arg(Arg::new(alloc, "ram").long("ram"))?
-        .arg(Arg::new(alloc, "limit").long("limit"))
+    let command = clap::Command::new(alloc, "run").arg(Arg::new(alloc, "IMAGE").required(true))?;
+    numbers_added(alloc, files_added(alloc, command)?)
 }
 
-/// The part of `run` that names files.
-fn files_command<'a>(alloc: Global) -> Result<Command<'a>, AllocError>
-    ensures app { IfOk result (λ command. app_of command ≡ files_app) }
+fn drive_command<'a>(alloc: Global) -> Result<clap::Command<'a>, AllocError>
+    ensures app { IfOk result (λ command. app_of command ≡ drive_app) }
     ensures local { IfOk result (λ command. (out-Command command).has_globals ≡ false) }
 {
-    Command::new(alloc, "run")
+    let command = clap::Command::new(alloc, "drive")
         .arg(Arg::new(alloc, "IMAGE").required(true))?
+        .arg(Arg::new(alloc, "SCRIPT").required(true))?;
+    numbers_added(alloc, files_added(alloc, command)?)
+}
+
+/// A command with the options that name files of its guest.
+fn files_added<'a>(
+    alloc: Global,
+    command: clap::Command<'a>,
+) -> Result<clap::Command<'a>, AllocError>
+    ensures app { IfOk result (λ added. app_of added ≡ with_files (app_of command.entry)) }
+    ensures local { IfOk result (λ added. (out-Command command.entry).has_globals ≡ false → (out-Command added).has_globals ≡ false) }
+{
+    command
         .arg(Arg::new(alloc, "disk").long("disk"))?
         .arg(Arg::new(alloc, "input").long("input"))
 }
 
+/// A command with the options that are numbers.
+fn numbers_added<'a>(
+    alloc: Global,
+    command: clap::Command<'a>,
+) -> Result<clap::Command<'a>, AllocError>
+    ensures app { IfOk result (λ added. app_of added ≡ with_numbers (app_of command.entry)) }
+    ensures local { IfOk result (λ added. (out-Command command.entry).has_globals ≡ false → (out-Command added).has_globals ≡ false) }
+{
+    command
+        .arg(Arg::new(alloc, "ram").long("ram"))?
+        .arg(Arg::new(alloc, "limit").long("limit"))?
+        .arg(Arg::new(alloc, "clones").long("clones"))
+}
+
 /// The subcommand that was found, with its values.
-fn run_found<'a>(matches: &ArgMatches<'a>) -> Option<Run<'a>>
-    ensures { option_map run result ≡ command_of (subcommand_rows_of matches.now) }
+fn command_found<'a>(matches: &ArgMatches<'a>) -> Option<Command<'a>>
+    ensures { option_map meaning result ≡ command_of (subcommand_rows_of matches.now) }
 {
     match matches.subcommand() {
         Some((name, found)) if name == "run" => run_of(found),
+        Some((name, found)) if name == "drive" => drive_of(found),
         _ => None,
     }
 }
 
 /// The values of `run`.
-fn run_of<'a>(found: &ArgMatches<'a>) -> Option<Run<'a>>
-    ensures { option_map run result ≡ run_of (rows_of (found_of found.now)) }
+fn run_of<'a>(found: &ArgMatches<'a>) -> Option<Command<'a>>
+    ensures { option_map meaning result ≡ option_map run (guest_of (rows_of (found_of found.now))) }
+{
+    Some(Command::Run(guest_of(found)?))
+}
+
+/// The values of `drive`.
+fn drive_of<'a>(found: &ArgMatches<'a>) -> Option<Command<'a>>
+    ensures { option_map meaning result ≡ drive_with (guest_of (rows_of (found_of found.now))) (first_of (codes "SCRIPT") (rows_of (found_of found.now))) }
+{
+    let guest = guest_of(found)?;
+    let script = text_of(found, "SCRIPT")?;
+    Some(Command::Drive(guest, script))
+}
+
+/// What is said of a guest.
+fn guest_of<'a>(found: &ArgMatches<'a>) -> Option<GuestWords<'a>>
+    ensures { result ≡ guest_of (rows_of (found_of found.now)) }
 {
     let image = text_of(found, "IMAGE")?;
     let disk = text_of(found, "disk");
     let input = text_of(found, "input");
     let pages = value_of(found, "ram", MIN_PAGES, MAX_PAGES, DEFAULT_PAGES)?;
     let limit = value_of(found, "limit", LEAST_LIMIT, MOST_LIMIT, DEFAULT_LIMIT)?;
-    Some(Run {
+    let clones = value_of(found, "clones", 0, MOST_CLONES, DEFAULT_CLONES)?;
+    Some(GuestWords {
         image,
         disk,
         input,
         pages,
         limit: u64::from(limit),
+        clones,
     })
 }
 

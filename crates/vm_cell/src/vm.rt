@@ -1,5 +1,6 @@
-ghost use Rattle.std.specs.Prelude.{◌≡◌, ◌≢◌, ◌+◌, ◌-◌, ◌≤◌, ◌<◌, ◌==◌, if◌then◌else◌, length, None, Some, IfOk, OnErr};
+ghost use Rattle.std.specs.Prelude.{◌≡◌, ◌≢◌, ◌+◌, ◌-◌, ◌≤◌, ◌<◌, ◌==◌, if◌then◌else◌, true, length, None, Some, IfOk, OnErr};
 ghost use Rattle.console_port.specs.declared.port.TheConstants.{MAX_INPUT};
+ghost use Rattle.forest_model.specs.Forest.{machines};
 ghost use Rattle.forest_model.specs.Machine.{IsWithinLimit, after_steps, boot};
 ghost use Rattle.vm_cell.specs.Acts.{Grows};
 ghost use Rattle.vm_cell.specs.Shown.{peeked, shown_registers};
@@ -96,7 +97,9 @@ impl Vm {
 
     /// How the machine has ended, or `None` while it lives.
     pub fn ended(&self) -> Option<Ending>
-        ensures { result ≡ self.now.ending }
+        ensures ending { result ≡ self.now.ending }
+        // What a forest asks of every machine.
+        ensures good { machines.is_good self.now ≡ true }
     {
         self.ending
     }

@@ -1,24 +1,27 @@
 -- The world of one machine.
-use Rattle.std.proofs.Common.{◌≡◌, ◌≢◌, ℕ, Bool, true, false, refl, sym, ap, ◌∙◌, subst, List, [], ◌∷◌, Option, Some, None, is_some, option_and_then}
+use Rattle.std.proofs.Common.{◌≡◌, ◌≢◌, ℕ, true, false, refl, sym, ap, ◌∙◌, subst, List, [], ◌∷◌, ◌++◌, Some, None, is_some}
 use Rattle.std.specs.Option.{IfSome}
 use Rattle.std.specs.BTreeMap.{BTreeMap, Updates, get}
 use Rattle.boxcar.specs.Table.{Shelves}
 use Rattle.port_rules.specs.Rules.{cloned_numbers}
 use Rattle.forest_tree.specs.Operations.{is_among, is_cloned}
-use Rattle.forest_tree.specs.Tree.{Tree, no_brood, child_at, brood_of, Branch, Path, subtree}
+use Rattle.forest_tree.specs.Tree.{Tree, child_at, brood_of, Branch, Path, subtree}
 use Rattle.forest_tree.specs.Settle.{alone}
+use Rattle.fork_port.specs.declared.ending.Ending.{Ending}
 use Rattle.forest_history.specs.Places.{home, Spot, spots}
 use Rattle.forest_history.specs.World.{world_of, holds, is_ready, lives_ready}
 use Rattle.forest_history.proofs.Ends.{start-whole}
 use Rattle.forest_model.specs.Machine.{Machine}
 use Rattle.forest_model.specs.Forest.{machines, port_of}
+use Rattle.run_report.specs.Lines.{machine_line, lines, own_lines_by}
 use Rattle.run_report.specs.NameOrder.{path_cmp}
+use Rattle.run_report.specs.Report.{Ended, lines_of}
 use Rattle.run_report.proofs.NameMaps.{updated-here, updated-apart}
 use Rattle.world_core.specs.declared.cell.Cell.{Cell}
 use Rattle.world_core.specs.declared.reason.Reason.{Reason}
 use Rattle.world_core.specs.declared.world.World.{World}
 use Rattle.world_core.specs.Waiting.{Waiting, IsListed}
-use Rattle.world_core.specs.Shows.{forest, IsAwake, CellShows, Shows}
+use Rattle.world_core.specs.Shows.{forest, told_spot, CellShows, Shows}
 use Rattle.world_core.specs.World.{IsDue, StandsFor}
 use Rattle.world_core.proofs.Ready.{IsListed-first}
 
@@ -30,6 +33,31 @@ no-ticket vm none = ap cloned_numbers none
 pub none-cloned : (vm : Machine) → (port_of vm).tickets ≡ [] → (ticket : ℕ) → is_cloned machines vm ticket ≡ false
 unfolding is_among
 none-cloned vm none ticket = ap (is_among ticket) (no-ticket vm none)
+
+-- ---- a machine that has ended
+
+own-line : (vm : Machine) (ending : Ending) → vm.ending ≡ Some ending
+    → lines told_spot [] (alone forest (record { machine = vm; place = home })) ≡ machine_line [] ending vm.steps vm.state.ports.console.output ∷ []
+unfolding lines
+own-line vm ending over = ap (λ e. own_lines_by told_spot e [] (record { machine = vm; place = home }) ++ []) over
+
+pub end-stands : (depot : Shelves) (vm : Machine) (ending : Ending) (outcome : Ended) (cells : BTreeMap Path Cell) (list : List Waiting)
+    → vm.ending ≡ Some ending → (port_of vm).tickets ≡ [] → machines.is_good vm ≡ true → ((name : Path) → get path_cmp cells name ≡ None)
+    → outcome ≡ record { name = []; ending = ending; steps = vm.steps; output = vm.state.ports.console.output; log = [] }
+    → StandsFor depot (record { cells = cells; ready = list; halted = None; outcome = Some outcome }) (world_of machines vm)
+unfolding spots machines lines_of
+end-stands depot vm ending outcome cells list over none good empty is = record {
+  sound = start-whole machines Reason vm good (no-ticket vm none);
+  halted = refl;
+  tree = record {
+    ended = ap is_some over;
+    home = refl;
+    lines = ap lines_of is ∙ sym (own-line vm ending over);
+    cells = empty;
+  };
+}
+
+-- ---- a machine that lives
 
 module _ (depot : Shelves) (vm : Machine) (old cells : BTreeMap Path Cell) (list : List Waiting) (cell : Cell) where
   abbrev first : Tree (Spot Machine)

@@ -5,7 +5,7 @@ use Rattle.std.specs.BTreeMap.{BTreeMap, WritesThrough, get}
 use Rattle.boxcar.specs.Table.{Shelves}
 use Rattle.fork_port.specs.declared.commands.Call.TheVariants.{Clone}
 use Rattle.forest_tree.specs.Operations.{clone, is_cloned, Makes, IsStep}
-use Rattle.forest_tree.specs.Tree.{Tree, node, Trees, tree, Broods, no_brood, brood, Log, machine, broods_of, child_at, brood_of, broods_with, Branch, Path, subtree}
+use Rattle.forest_tree.specs.Tree.{Tree, node, Trees, Broods, no_brood, brood, Log, machine, broods_of, child_at, brood_of, broods_with, Branch, Path, subtree}
 use Rattle.forest_tree.specs.Settle.{children_from, children, waits}
 use Rattle.forest_tree.specs.Sound.{IsSound}
 use Rattle.forest_tree.proofs.Broods.{one_if}
@@ -28,7 +28,6 @@ use Rattle.world_core.specs.Shows.{forest, IsAwake, Holds, HoldsAfter, Shows, St
 use Rattle.world_core.specs.World.{Forest, IsDue, StandsFor}
 use Rattle.world_core.specs.Between.{IsWhole, IsBetween, settled_tree}
 use Rattle.world_core.specs.Answers.{Goes, IsHandedOut}
-use Rattle.world_core.proofs.Changes.{below}
 use Rattle.world_core.proofs.Ready.{IsListed-more, IsCovered-more}
 use Rattle.world_core.proofs.Returns.{apart-below, apart-outside, same-or-apart, some-is, written-here, written-apart}
 use Rattle.world_core.proofs.Steps.{forest-rules, Holds-same, SameTickets-back, lease-same}
@@ -237,6 +236,7 @@ module _ (depot : Shelves) (w : World) (f : Forest) (lease : Lent) (ticket : ℕ
 
     forked-between : v.halted ≡ w.halted → v.outcome ≡ w.outcome → d.is_listed ≡ c.is_listed → HoldsAfter depot lease.name d new_tree → IsBetween depot v f lease.name new_tree
     forked-between halted outcome same after_it = record {
+      sound = h.sound;
       halted = halted ∙ h.halted;
       going = outcome ∙ h.is.going;
       root = h.is.live.root;

@@ -1,5 +1,5 @@
 -- A world after a JOIN.
-use Rattle.std.proofs.Common.{◌≡◌, ◌≢◌, ℕ, zero, suc, ◌+◌, ◌&&◌, ◌||◌, not, eqb, eqb-true, Bool, true, false, cond, refl, sym, ap, ap₂, ◌∙◌, subst, [], ◌∷◌, ◌++◌, Option, Some, None, IsSome, is_some, option_and_then}
+use Rattle.std.proofs.Common.{◌≡◌, ◌≢◌, ℕ, zero, suc, ◌&&◌, ◌||◌, not, eqb, eqb-true, Bool, true, false, cond, refl, sym, ap, ap₂, ◌∙◌, subst, [], ◌∷◌, ◌++◌, Option, Some, None, IsSome, is_some, option_and_then}
 use Rattle.std.specs.Option.{IfSome}
 use Rattle.std.specs.BTreeMap.{BTreeMap, WritesThrough, get}
 use Rattle.std.specs.declared.alloc.Global.{Global}
@@ -154,7 +154,7 @@ module _ (depot : Shelves) (w : World) (f : Forest) (lease : Lent) (ticket : ℕ
         let n = forest.after_join s (endings forest trees) in
         gone-between depot w v f lease.name ticket (lent_out lease.start) n broods log (over log ticket trees) c d h.is ready found
         (λ q none. others q (apart-outside lease.name q none))
-        (λ x rest. others (lease.name ++ x ∷ rest) (apart-below lease.name x rest) ∙ by (eqb ticket x.ticket) (get path_cmp w.cells (lease.name ++ x ∷ rest)) (none-waits x rest))
+        (λ x rest. others (lease.name ++ x ∷ rest) (apart-below lease.name x rest) ∙ by (eqb ticket x.ticket) (get path_cmp w.cells (lease.name ++ x ∷ rest)) (none-waits x rest)) h.sound
         (whole-gone ticket s n broods log (over log ticket trees) h.at.sound makes-join.lives (join-step forest forest-rules ticket s broods log all makes-join h.at.sound))
         after_it same (halted ∙ h.halted) outcome
       where

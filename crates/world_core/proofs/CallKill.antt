@@ -6,18 +6,18 @@ use Rattle.std.specs.List.{filter}
 use Rattle.std.specs.Ordering.{is_eq}
 use Rattle.std.specs.declared.cmp.Ordering.{Ordering}
 use Rattle.std.specs.declared.cmp.Ordering.TheVariants.{Less, Equal, Greater}
-use Rattle.std.proofs.Common.{◌≡◌, ◌≢◌, ℕ, ◌+◌, ◌&&◌, not, eqb, eqb-true, Bool, true, false, cond, refl, sym, ap, ap₂, ◌∙◌, subst, [], ◌∷◌, ◌++◌, Option, Some, None, is_some}
+use Rattle.std.proofs.Common.{◌≡◌, ◌≢◌, ℕ, ◌&&◌, not, eqb, eqb-true, Bool, true, false, cond, refl, sym, ap, ap₂, ◌∙◌, subst, [], ◌∷◌, ◌++◌, Option, Some, None, is_some}
 use Rattle.std.specs.BTreeMap.{BTreeMap, WritesThrough, get, is_at}
 use Rattle.boxcar.specs.Table.{Shelves}
 use Rattle.fork_port.specs.declared.commands.Call.TheVariants.{Kill}
 use Rattle.forest_tree.specs.Operations.{kill, Makes}
 use Rattle.forest_tree.specs.Tree.{killed as dead}
-use Rattle.forest_tree.specs.Tree.{Tree, node, tree, Broods, Log, machine, Branch, Path, beyond}
+use Rattle.forest_tree.specs.Tree.{Tree, node, Broods, Log, machine, Branch, Path, beyond}
 use Rattle.forest_tree.specs.Settle.{waits}
 use Rattle.forest_tree.proofs.Run.{step-lives}
 use Rattle.forest_tree.proofs.Settle.{root-sound}
 use Rattle.forest_history.specs.Places.{home, Spot, placed, spots}
-use Rattle.forest_history.specs.Rows.{killed, dropped, is_kill, may_spend, spend}
+use Rattle.forest_history.specs.Rows.{killed, is_kill, may_spend, spend}
 use Rattle.forest_model.specs.Machine.{Machine}
 use Rattle.forest_model.specs.Calls.{after_kill}
 use Rattle.forest_model.specs.Forest.{machines}
@@ -32,7 +32,7 @@ use Rattle.world_core.specs.Shows.{forest, Holds, HoldsAfter, StandsAt, killed_t
 use Rattle.world_core.specs.World.{Forest, StandsFor}
 use Rattle.world_core.specs.Between.{IsBetween, settled_tree}
 use Rattle.world_core.specs.Answers.{IsHandedOut}
-use Rattle.world_core.proofs.Changes.{beyond-append, below}
+use Rattle.world_core.proofs.Changes.{beyond-append}
 use Rattle.world_core.proofs.Returns.{append-none, apart-below, apart-outside, some-is, written-here, written-apart}
 use Rattle.world_core.proofs.Steps.{forest-rules}
 use Rattle.world_core.proofs.Calling.{lent_out, StandsHere, lives-out, spent-sound, spent-goes, whole-gone, gone-between, found-here, Called}
@@ -99,7 +99,7 @@ module _ (depot : Shelves) (w v : World) (f : Forest) (lease : Lent) (ticket : �
   killed-between ready halted outcome found same elsewhere swept after_it =
       let s = lent_out lease.now in
       let count : ℕ = (forest.grant s ticket).children in
-      gone-between depot w v f lease.name ticket (lent_out lease.start) (forest.after_kill s) broods log (dead log ticket count) c d h.is ready found elsewhere swept
+      gone-between depot w v f lease.name ticket (lent_out lease.start) (forest.after_kill s) broods log (dead log ticket count) c d h.is ready found elsewhere swept h.sound
       (whole-gone ticket s (forest.after_kill s) broods log (dead log ticket count) h.at.sound (lives-out lease.now h.at.lives) (forest-rules.after_kill s ticket makes-kill))
       after_it same (halted ∙ h.halted) outcome
 

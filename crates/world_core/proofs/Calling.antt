@@ -290,9 +290,10 @@ module _ (depot : Shelves) (w v : World) (f : Forest) (name : Path) (ticket : �
       by (above x y rest none e) = outside none
       by (apart none e) = outside none
 
-  pub gone-between : IsWhole gone_tree → HoldsAfter depot name d gone_tree → d.is_listed ≡ c.is_listed → v.halted ≡ f.halted → v.outcome ≡ w.outcome
+  pub gone-between : IsSound forest f.tree → IsWhole gone_tree → HoldsAfter depot name d gone_tree → d.is_listed ≡ c.is_listed → v.halted ≡ f.halted → v.outcome ≡ w.outcome
       → IsBetween depot v f name gone_tree
-  gone-between whole after_it same halted outcome = record {
+  gone-between sound whole after_it same halted outcome = record {
+    sound = sound;
     halted = halted;
     going = outcome ∙ is.going;
     root = is.live.root;
@@ -369,6 +370,7 @@ module _ (depot : Shelves) (w : World) (f : Forest) (lease : Lent) (next : Call)
       below-name lease.name f.tree (node (lent_out lease.start) broods log) x rest h.is.there
       ∙ same-below (lent_out lease.start) (lent_out lease.now) broods log log x rest in
       record {
+        sound = h.sound;
         halted = h.halted;
         going = h.is.going;
         root = h.is.live.root;

@@ -1,18 +1,18 @@
 -- What a change of one machine leaves of what a world shows.
-use Rattle.std.proofs.Common.{◌≡◌, ◌≢◌, ℕ, zero, suc, ◌+◌, ◌&&◌, eqb, eqb-true, Bool, true, false, cond, refl, sym, ap, ap₂, ◌∙◌, subst, arith, inl, inr, List, [], ◌∷◌, ◌++◌, Option, Some, None, is_some, option_and_then, option_map}
+use Rattle.std.proofs.Common.{◌≡◌, ℕ, zero, suc, ◌&&◌, eqb, eqb-true, Bool, true, false, cond, refl, sym, ap, ap₂, ◌∙◌, subst, arith, List, [], ◌∷◌, ◌++◌, Option, Some, None, is_some, option_and_then, option_map}
 use Rattle.std.specs.BTreeMap.{get}
 use Rattle.std.specs.Ordering.{nat_cmp}
 use Rattle.boxcar.specs.Table.{Shelves}
 use Rattle.fork_port.specs.declared.ending.Ending.{Ending}
 use Rattle.forest_tree.specs.Operations.{is_cloned}
-use Rattle.forest_tree.specs.Tree.{Tree, node, Trees, no_tree, tree, Broods, Log, machine, broods_of, log_of, at_child, child_at, brood_of, at_brood, Branch, Path, subtree, beyond, goes_on, is_below}
+use Rattle.forest_tree.specs.Tree.{Tree, node, Trees, no_tree, tree, Broods, Log, machine, broods_of, at_child, child_at, brood_of, at_brood, Branch, Path, subtree, beyond, goes_on}
 use Rattle.forest_tree.specs.Settle.{alone, has_ended, waits}
 use Rattle.forest_tree.proofs.Broods.{eqb-same}
 use Rattle.forest_tree.proofs.Places.{some-same, brood_of-at, at_child-none, subtree-parts}
-use Rattle.forest_history.specs.Places.{at_path, at_beyond, Place, asleep, Spot, spots}
+use Rattle.forest_history.specs.Places.{at_path, at_beyond, Spot, spots}
 use Rattle.forest_history.specs.World.{is_asleep_at}
 use Rattle.forest_history.specs.Children.{life, living}
-use Rattle.forest_history.proofs.Changes.{at_path-within, at_path-here, at_path-elsewhere, at_path-machine}
+use Rattle.forest_history.proofs.Changes.{at_path-within, at_path-here, at_path-elsewhere}
 use Rattle.forest_history.proofs.Lives.{one-child, no-child, waits-deep, waits-child}
 use Rattle.forest_model.specs.Machine.{Machine}
 use Rattle.forest_model.specs.Forest.{machines}
@@ -25,7 +25,7 @@ use Rattle.world_core.specs.declared.cell.Brood.{Brood}
 use Rattle.world_core.specs.declared.cell.Cell.{Cell}
 use Rattle.world_core.specs.declared.cell.Slot.{Slot}
 use Rattle.world_core.specs.declared.cell.Slot.TheVariants.{Asleep, Awake, Ended}
-use Rattle.world_core.specs.Shows.{forest, told_spot, IsAwake, sleeper, Sleeps, SlotShows, SlotsShow, BornShows, BroodShows, BroodAt, StateShows, Tallies, Holds, CellShows, IsNoCell, Shows}
+use Rattle.world_core.specs.Shows.{forest, told_spot, IsAwake, sleeper, SlotShows, SlotsShow, BornShows, BroodAt, StateShows, Holds, CellShows, IsNoCell, Shows}
 
 -- ---- names, by where they lie
 

@@ -1,5 +1,5 @@
 -- What is left of a machine that has ended, and the world without it.
-use Rattle.std.proofs.Common.{◌≡◌, ◌⊎◌, ℕ, Bool, true, false, cond, refl, sym, ap, ◌∙◌, subst, inl, inr, List, [], ◌∷◌, ◌++◌, length, arith, Option, Some, None, option_and_then}
+use Rattle.std.proofs.Common.{◌≡◌, ◌⊎◌, ℕ, Bool, true, false, cond, refl, sym, ap, ◌∙◌, subst, inl, inr, List, [], ◌∷◌, ◌++◌, append_assoc, length, arith, Option, Some, None, option_and_then}
 use Rattle.std.specs.Option.{IfSome, IsSomeAnd}
 use Rattle.std.specs.Map.{lookup}
 use Rattle.std.specs.Ordering.{nat_cmp}
@@ -23,9 +23,10 @@ use Rattle.world_core.specs.Waiting.{IsListed}
 use Rattle.world_core.specs.Shows.{forest, told_spot, TallyAt, Tallies, HoldsAfter, IsAwake, CellShows, Shows, child_of, ended_tree}
 use Rattle.world_core.specs.World.{Forest, IsDue, StandsFor}
 use Rattle.world_core.specs.Between.{HasLeft, IsBetween, IsLeaving, IsWhole, TakesOut, with_tree}
-use Rattle.world_core.proofs.Changes.{Lies, here, below, parent, above, apart, lies}
-use Rattle.world_core.proofs.Returns.{append-none}
-use Rattle.world_core.proofs.Leaving.{left-ended, parent-shows}
+use Rattle.world_core.proofs.Changes.{beyond-append, Lies, here, below, parent, above, apart, lies, child-there}
+use Rattle.world_core.proofs.Returns.{append-none, there-is}
+use Rattle.world_core.proofs.Leaving.{beyond-parent, left-ended, parent-shows}
+use Rattle.world_core.proofs.Awake.{child-below, awake-cell, awake-there}
 
 -- ---- what is left where a machine has ended
 
@@ -74,6 +75,7 @@ module _ (depot : Shelves) (w : World) (f : Forest) (name : Path) (a : Tree (Spo
 
   pub between-leaves : IsLeaving depot (record w { cells = cells }) f name
   between-leaves = record {
+    sound = between.sound;
     halted = between.halted;
     going = between.going;
     root = between.root;
@@ -168,16 +170,42 @@ module _ (depot : Shelves) (path : Path) (c : Cell) (a : Tree (Spot Machine)) (v
       (ap (λ (m : Machine). m.ending) moved_is ∙ over)
       ∙ ap (λ k. lines told_spot k (ended_tree (left_tree a))) is)
 
+barren : (x : Branch) (p : Tree (Spot Machine)) → broods_of p ≡ no_brood → child_of x.ticket x.child p ≡ None
+unfolding brood_of child_at
+barren x p none = ap (λ (broods : Broods (Spot Machine)). child_at x.child (brood_of x.ticket broods)) none
+
+-- the parent of a machine that was awake has a cell
+parent-cell : (depot : Shelves) (w : World) (f : Forest) (parent : Path) (x : Branch) → IsLeaving depot w f (parent ++ (x ∷ []))
+    → (c : Cell) × (get path_cmp w.cells parent ≡ Some c)
+parent-cell depot w f way x leaving =
+    let is = there-is (subtree (way ++ (x ∷ [])) f.tree) IsAwake leaving.there in by is.0 is.1 (subtree way f.tree) refl
+  where
+    above_it : (n : Path) (b : Branch) (rest : Path) → way ≡ n ++ (b ∷ rest) → Shows depot n (get path_cmp w.cells n) (subtree n f.tree)
+    above_it n b rest e =
+        leaving.elsewhere n
+        (ap (λ m. beyond (m ++ (x ∷ [])) n) e ∙ ap (λ m. beyond m n) (append_assoc n (b ∷ rest) (x ∷ [])) ∙ beyond-parent n b (rest ++ (x ∷ [])))
+
+    by : (a : Tree (Spot Machine)) → subtree (way ++ (x ∷ [])) f.tree ≡ Some a → (p : Option (Tree (Spot Machine))) → subtree way f.tree ≡ p
+        → (c : Cell) × (get path_cmp w.cells way ≡ Some c)
+    by a there None e = let no : None ≡ Some a = sym (child-below way x.ticket x.child f.tree None e) ∙ there in absurd (cc)
+    by a there (Some p) e = elim (awake-there depot w.cells f.tree leaving.sound way above_it p leaving.root e) [
+      | inl awake ↦
+          let cell = awake-cell depot way (get path_cmp w.cells way) p awake
+          (subst (Shows depot way (get path_cmp w.cells way)) e (leaving.elsewhere way (beyond-parent way x []))) in
+          (cell.0, cell.1)
+      | inr none ↦
+          let no : None ≡ Some a = sym (barren x p none) ∙ child-there (way ++ (x ∷ [])) way f.tree a p x (beyond-append way (x ∷ [])) there e in absurd (cc)
+    ]
+
 -- what is wanted of the parent's cell
 pub parent-known : (depot : Shelves) (w : World) (f : Forest) (parent : Path) (x : Branch) → IsLeaving depot w f (parent ++ (x ∷ []))
-    → IfSome (get path_cmp w.cells parent) (λ (c : Cell). (depot : Shelves) × (t a : Tree (Spot Machine))
+    → IsSomeAnd (get path_cmp w.cells parent) (λ (c : Cell). (depot : Shelves) × (t a : Tree (Spot Machine))
     × CellShows depot parent c t × (child_of x.ticket x.child t ≡ Some a) × IsAwake a)
-parent-known depot w f way x leaving = by (get path_cmp w.cells way) refl
-  where
-    by : (o : Option Cell) → get path_cmp w.cells way ≡ o
-        → IfSome o (λ (c : Cell). (depot : Shelves) × (t a : Tree (Spot Machine)) × CellShows depot way c t × (child_of x.ticket x.child t ≡ Some a) × IsAwake a)
-    by None e = tt
-    by (Some c) e = let is = parent-shows depot w f way x c leaving e in (depot, is.0, is.1, is.3, is.4, is.5)
+parent-known depot w f way x leaving =
+    let cell = parent-cell depot w f way x leaving in
+    let is = parent-shows depot w f way x cell.0 leaving cell.1 in
+    subst (λ o. IsSomeAnd o (λ (c : Cell). (depot : Shelves) × (t a : Tree (Spot Machine)) × CellShows depot way c t × (child_of x.ticket x.child t ≡ Some a) × IsAwake a))
+    (sym cell.1) (depot, is.0, is.1, is.3, is.4, is.5)
 
 -- the root has left
 pub root-leaves : (depot : Shelves) (w : World) (f : Forest) (b : Tree (Spot Machine)) (outcome : Ended) (name : Path) → name ≡ [] → IsLeaving depot w f name

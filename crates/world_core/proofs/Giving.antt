@@ -1,5 +1,5 @@
 -- A world after a machine has come back that makes no call.
-use Rattle.std.proofs.Common.{◌≡◌, ℕ, Bool, true, false, refl, sym, ap, ◌∙◌, subst, [], ◌∷◌, ◌++◌, Option, Some, None, IsSome, is_some, option_and_then, cond, not}
+use Rattle.std.proofs.Common.{◌≡◌, Bool, true, false, refl, sym, ap, ◌∙◌, subst, ◌∷◌, ◌++◌, Option, Some, None, is_some, option_and_then, cond, not}
 use Rattle.std.specs.Option.{IfSome, IsSomeAnd}
 use Rattle.std.specs.BTreeMap.{get}
 use Rattle.boxcar.specs.Table.{Shelves}
@@ -10,8 +10,8 @@ use Rattle.forest_tree.specs.Sound.{IsSound}
 use Rattle.forest_tree.proofs.Settle.{root-sound}
 use Rattle.forest_tree.proofs.Places.{subtree-parts, subtree-sound}
 use Rattle.forest_tree.proofs.Rests.{lives-none}
-use Rattle.forest_history.specs.Places.{at_path, home, out, Spot, placed, spots, steps}
-use Rattle.forest_history.specs.World.{holds, is_ready, lives_ready}
+use Rattle.forest_history.specs.Places.{at_path, home, Spot, placed, spots, steps}
+use Rattle.forest_history.specs.World.{holds, lives_ready}
 use Rattle.forest_history.specs.Rows.{How, gave, ended, spent, dropped, may_spend, came_back, Spends, IfThere, Allows, does}
 use Rattle.forest_history.proofs.Ends.{does-sound}
 use Rattle.forest_model.specs.Machine.{Machine}
@@ -25,8 +25,8 @@ use Rattle.world_core.specs.declared.world.Placed.{Placed}
 use Rattle.world_core.specs.declared.world.Placed.TheVariants.{Done, Dropped}
 use Rattle.world_core.specs.Lent.{Lent, IsLent}
 use Rattle.world_core.specs.Shows.{forest, IsAwake, HoldsAfter, Shows, ended_tree}
-use Rattle.world_core.specs.World.{Forest, IsDue, ShowsTree, StandsFor}
-use Rattle.world_core.specs.Between.{IsBetween, IsSameWorld, IsWhole, with_tree}
+use Rattle.world_core.specs.World.{Forest, ShowsTree, StandsFor}
+use Rattle.world_core.specs.Between.{IsBetween, IsSameWorld, with_tree}
 use Rattle.world_core.specs.Answers.{Answers, Goes, HandedOut, IsHandedOut}
 use Rattle.world_core.proofs.Calling.{at_path-there, lent_out}
 use Rattle.world_core.proofs.Returns.{IsOutHere, Handed, gone, there, handed, shows-same}
@@ -70,6 +70,7 @@ module _ (depot : Shelves) (w : World) (f : Forest) (lease : Lent) (lent : IsLen
 
   pub back-between : IsBetween depot w f lease.name back
   back-between = record {
+    sound = stands.sound;
     halted = stands.halted;
     going = is.going;
     root = is.live.root;

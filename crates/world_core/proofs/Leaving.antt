@@ -1,37 +1,34 @@
 -- A machine that has ended leaves its world.
-use Rattle.std.proofs.Common.{◌≡◌, ◌≢◌, ◌⊎◌, ℕ, ◌&&◌, eqb, Bool, true, false, not, cond, refl, sym, ap, ap₂, ◌∙◌, subst, inl, inr, List, [], ◌∷◌, ◌++◌, append_assoc, length, arith, Option, Some, None, IsSome, is_some, option_and_then, option_map}
-use Rattle.std.specs.Option.{IfSome, IsSomeAnd}
+use Rattle.std.proofs.Common.{◌≡◌, ◌≢◌, ◌⊎◌, ◌&&◌, eqb, Bool, true, false, not, cond, refl, sym, ap, ap₂, ◌∙◌, subst, inl, inr, List, [], ◌∷◌, ◌++◌, append_assoc, Option, Some, None, is_some, option_and_then, option_map}
+use Rattle.std.specs.Option.{IfSome}
 use Rattle.std.specs.declared.cmp.Ordering.{Ordering}
 use Rattle.std.specs.declared.cmp.Ordering.TheVariants.{Less, Equal, Greater}
-use Rattle.std.specs.Ordering.{is_eq, nat_cmp}
+use Rattle.std.specs.Ordering.{is_eq}
 use Rattle.std.specs.BTreeMap.{BTreeMap, UpdatesBy, WritesThrough, btree_map_len, get, is_at}
 use Rattle.std.specs.List.{filter}
 use Rattle.std.specs.Map.{lookup}
 use Rattle.std.proofs.lemmas.Map.Entries.{lookup-filter-keys}
 use Rattle.boxcar.specs.Table.{Shelves}
 use Rattle.fork_port.specs.declared.ending.Ending.{Ending}
-use Rattle.forest_tree.specs.Operations.{is_cloned}
-use Rattle.forest_tree.specs.Tree.{Tree, node, Trees, no_tree, Broods, no_brood, machine, broods_of, child_at, brood_of, Branch, Path, subtree, beyond, goes_on, is_below}
-use Rattle.forest_tree.proofs.Places.{some-same, brood_of-none}
+use Rattle.forest_tree.specs.Tree.{Tree, node, Broods, machine, child_at, brood_of, Branch, Path, subtree, beyond, goes_on, is_below}
+use Rattle.forest_tree.proofs.Places.{some-same}
 use Rattle.forest_tree.specs.Settle.{has_ended, waits}
 use Rattle.forest_tree.specs.Sound.{IsSound}
-use Rattle.forest_history.specs.Places.{at_path, Place, asleep, home, out, parked, Spot, placed, spots}
+use Rattle.forest_history.specs.Places.{at_path, Spot, spots}
 use Rattle.forest_history.specs.World.{is_asleep_at, is_ready_at, lives_ready, holds, is_ready}
 use Rattle.forest_history.proofs.Changes.{at_path-machine}
 use Rattle.forest_model.specs.Machine.{Machine}
 use Rattle.forest_model.specs.Forest.{machines}
-use Rattle.run_report.specs.Lines.{lines}
-use Rattle.run_report.specs.Report.{Ended, lines_of}
+use Rattle.run_report.specs.Report.{Ended}
 use Rattle.run_report.specs.NameOrder.{path_cmp}
 use Rattle.run_report.proofs.NameMaps.{equal-same, updated-here, updated-apart}
-use Rattle.world_core.specs.declared.cell.Brood.{Brood}
 use Rattle.world_core.specs.declared.cell.Cell.{Cell}
 use Rattle.world_core.specs.declared.world.World.{World}
 use Rattle.world_core.specs.Waiting.{Waiting, IsListed, IsCovered}
-use Rattle.world_core.specs.Shows.{forest, told_spot, IsAwake, TallyAt, Tallies, HoldsAfter, CellShows, Shows, ended_tree, with_child, child_of}
+use Rattle.world_core.specs.Shows.{forest, IsAwake, CellShows, Shows, with_child, child_of}
 use Rattle.world_core.specs.World.{Forest, IsDue, ShowsTree, StandsFor}
-use Rattle.world_core.specs.Between.{HasLeft, IsBetween, IsLeaving, IsWhole, TakesOut, with_tree}
-use Rattle.world_core.proofs.Changes.{beyond-append, beyond-is, is_one, child-there, no_cell-kept, outside, shows-changed}
+use Rattle.world_core.specs.Between.{HasLeft, IsLeaving, TakesOut, with_tree}
+use Rattle.world_core.proofs.Changes.{beyond-append, beyond-is, is_one, child-there, outside, shows-changed}
 use Rattle.world_core.proofs.Ready.{ready-changed}
 use Rattle.world_core.proofs.Returns.{append-none, apart-below, apart-outside, same-or-apart, some-is, there-is, written-here, written-apart}
 
@@ -125,27 +122,6 @@ never-ready : (b : Tree (Spot Machine)) → has_ended forest b ≡ true → live
 never-ready b over ready =
     let no : false ≡ true = sym (ap (λ ended. not ended && is_ready_at (machine b).place (waits forest b)) over) ∙ ready in cc
 
--- a machine that sleeps is ready, whether it waits or not
-asleep-by : (place : Place) (waiting : Bool) → is_asleep_at place ≡ true → is_ready_at place waiting ≡ true
-asleep-by asleep waiting sleeps = refl
-asleep-by home waiting sleeps = absurd (cc)
-asleep-by out waiting sleeps = absurd (cc)
-asleep-by parked waiting sleeps = absurd (cc)
-
-asleep-lives : (t : Tree (Spot Machine)) → is_asleep_at (machine t).place ≡ true → lives_ready machines t ≡ not (has_ended forest t)
-asleep-lives t sleeps =
-    ap (λ ready. not (has_ended forest t) && ready) (asleep-by (machine t).place (waits forest t) sleeps) ∙ and-true (not (has_ended forest t))
-  where
-    and-true : (b : Bool) → b && true ≡ b
-    and-true true = refl
-    and-true false = refl
-
-asleep-ready : (t u : Tree (Spot Machine)) → machine u ≡ machine t → is_asleep_at (machine t).place ≡ true → lives_ready machines u ≡ lives_ready machines t
-asleep-ready t u same sleeps =
-    asleep-lives u (ap (λ (s : Spot Machine). is_asleep_at s.place) same ∙ sleeps)
-    ∙ ap (λ (s : Spot Machine). not (is_some (forest.ending s))) same
-    ∙ sym (asleep-lives t sleeps)
-
 with-child : (x : Branch) (b t : Tree (Spot Machine)) → at_path (λ a. b) (x ∷ []) t ≡ with_child x.ticket x.child b t
 unfolding at_path
 with-child x b (node s broods log) = refl
@@ -174,8 +150,7 @@ module _ (depot : Shelves) (w : World) (f : Forest) (parent : Path) (x : Branch)
   name-apart : parent ≢ name
   name-apart = apart-below parent x []
 
-  -- the world where the parent's cell has changed, or not
-  pub leave-stands : (v : World) → IsSound forest after → v.halted ≡ w.halted → v.outcome ≡ w.outcome
+  leave-stands : (v : World) → IsSound forest after → v.halted ≡ w.halted → v.outcome ≡ w.outcome
       → ((n : Path) → parent ≢ n → get path_cmp v.cells n ≡ get path_cmp w.cells n)
       → ((n : Path) → IsListed n w.ready → IsListed n v.ready) → ((n : Path) → IsCovered n w.ready → IsCovered n v.ready)
       → Shows depot parent (get path_cmp v.cells parent) (subtree parent after)
@@ -252,34 +227,7 @@ module _ (depot : Shelves) (w : World) (f : Forest) (parent : Path) (x : Branch)
   parent-after : subtree parent after ≡ option_map (at_path (λ t. b) (x ∷ [])) (subtree parent f.tree)
   parent-after = outside (λ t. b) name parent f.tree (Some (x ∷ [])) parent-outside (beyond-append parent (x ∷ []))
 
-  -- where the parent has no cell
-  none-shows : (u : Option (Tree (Spot Machine))) → Shows depot parent None u → Shows depot parent None (option_map (at_path (λ t. b) (x ∷ [])) u)
-  none-shows None h = tt
-  none-shows (Some p) h = no_cell-kept (λ t. b) x [] p h
-
-  none-ready : (u : Option (Tree (Spot Machine))) → Shows depot parent None u
-      → holds machines (lives_ready machines) (option_map (at_path (λ t. b) (x ∷ [])) u) ≡ true → holds machines (lives_ready machines) u ≡ true
-  none-ready None h ready = ready
-  none-ready (Some p) (inl over) ready =
-      absurd (never-ready (at_path (λ t. b) (x ∷ []) p) (ap (λ (s : Spot Machine). is_some (forest.ending s)) (at_path-machine (λ t. b) x [] p) ∙ over.0) ready)
-  none-ready (Some p) (inr sleeps) ready =
-      sym (asleep-ready p (at_path (λ t. b) (x ∷ []) p) (at_path-machine (λ t. b) x [] p) sleeps) ∙ ready
-
-  pub leave-none : (v : World) → get path_cmp w.cells parent ≡ None → IsSound forest after → v.halted ≡ w.halted → v.outcome ≡ w.outcome
-      → ((n : Path) → get path_cmp v.cells n ≡ get path_cmp w.cells n) → v.ready ≡ w.ready → StandsFor depot v (with_tree name b f)
-  leave-none v none sound halted outcome_same cells ready =
-      let was : Shows depot parent None (subtree parent f.tree) = subst (λ c. Shows depot parent c (subtree parent f.tree)) none (leaving.elsewhere parent parent-outside) in
-      let now : get path_cmp v.cells parent ≡ None = cells parent ∙ none in
-      leave-stands v sound halted outcome_same (λ n other. cells n) (λ n h. subst (IsListed n) (sym ready) h) (λ n h. subst (IsCovered n) (sym ready) h)
-      (subst (λ c. Shows depot parent c (subtree parent after)) (sym now) (subst (Shows depot parent None) (sym parent-after) (none-shows (subtree parent f.tree) was)))
-      (λ yes.
-      subst (IsDue (get path_cmp v.cells parent) parent) (sym ready)
-      (subst (λ c. IsDue c parent w.ready) (sym (cells parent))
-      (leaving.ready parent parent-outside
-      (none-ready (subtree parent f.tree) was (ap (holds machines (lives_ready machines)) (sym parent-after) ∙ yes)))))
-      (subst (λ o. IfSome o (λ (c : Cell). c.is_listed ≡ true → IsListed parent v.ready)) (sym now) tt)
-
-  -- where it has one
+  -- the parent's cell has changed
   pub leave-some : (v : World) (p : Tree (Spot Machine)) (d : Cell) → subtree parent f.tree ≡ Some p → get path_cmp v.cells parent ≡ Some d
       → CellShows depot parent d (with_child x.ticket x.child b p)
       → (lives_ready machines (with_child x.ticket x.child b p) ≡ true → (lives_ready machines p ≡ true) ⊎ (d.is_listed ≡ true))

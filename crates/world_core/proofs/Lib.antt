@@ -10,6 +10,7 @@ pub mod SlotWaits
 pub mod SlotChanges
 pub mod SlotSteps
 pub mod SlotEnds
+pub mod Awake
 pub mod Taking
 pub mod Leaving
 pub mod Finishing

@@ -1,6 +1,6 @@
 -- Which machines are ready after a change of one.
-use Rattle.std.proofs.Common.{◌≡◌, ◌⊎◌, ◌&&◌, not, Bool, true, false, refl, sym, ap, ap₂, ◌∙◌, subst, inl, inr, List, [], ◌∷◌, ◌++◌, Option, Some, None, is_some, option_and_then, option_map}
-use Rattle.forest_tree.specs.Tree.{Tree, machine, Branch, Path, subtree, beyond}
+use Rattle.std.proofs.Common.{◌≡◌, ◌&&◌, not, true, false, refl, sym, ap, ap₂, ◌∙◌, subst, inl, inr, List, [], ◌∷◌, ◌++◌, Option, Some, None, is_some, option_and_then, option_map}
+use Rattle.forest_tree.specs.Tree.{Tree, Branch, Path, subtree, beyond}
 use Rattle.forest_tree.specs.Settle.{has_ended, waits}
 use Rattle.forest_history.specs.Places.{at_path, Spot}
 use Rattle.forest_history.specs.World.{is_ready_at, lives_ready, holds, is_ready}
@@ -10,7 +10,7 @@ use Rattle.forest_model.specs.Machine.{Machine}
 use Rattle.forest_model.specs.Forest.{machines}
 use Rattle.world_core.specs.Waiting.{Waiting, IsListed, IsCovered}
 use Rattle.world_core.specs.Shows.{forest}
-use Rattle.world_core.proofs.Changes.{is_one, Lies, here, below, parent, above, apart, lies, child_by, child-there, outside, outside-apart}
+use Rattle.world_core.proofs.Changes.{is_one, Lies, here, below, parent, above, apart, lies, child-there, outside, outside-apart}
 
 -- one more in the list
 pub IsListed-more : (n : Path) (w : Waiting) (list : List Waiting) → IsListed n list → IsListed n (w ∷ list)

@@ -1,5 +1,5 @@
 -- A world after a machine has come back, and other changes that leave most of it.
-use Rattle.std.proofs.Common.{◌≡◌, ◌≢◌, ℕ, Bool, true, false, refl, sym, ap, ◌∙◌, subst, inl, inr, ◌⊎◌, List, [], ◌∷◌, ◌++◌, Option, Some, None, IsSome, is_some, option_and_then, not, length, length-append, arith, ◌+◌, suc}
+use Rattle.std.proofs.Common.{◌≡◌, ◌≢◌, Bool, true, false, refl, sym, ap, ◌∙◌, subst, inl, inr, ◌⊎◌, List, [], ◌∷◌, ◌++◌, Option, Some, None, IsSome, is_some, option_and_then, length, length-append, arith, ◌+◌, suc}
 use Rattle.std.specs.Option.{IfSome, IsSomeAnd}
 use Rattle.std.specs.declared.alloc.Global.{Global}
 use Rattle.std.specs.declared.boxed.Box.{Box}
@@ -8,13 +8,11 @@ use Rattle.boxcar.specs.Table.{Shelves}
 use Rattle.forest_tree.specs.Tree.{Tree, node, Broods, Log, machine, child_at, brood_of, Branch, Path, subtree, beyond}
 use Rattle.forest_tree.proofs.Settle.{root-sound}
 use Rattle.forest_tree.proofs.Places.{some-same}
-use Rattle.fork_port.specs.declared.ending.Ending.{Ending}
 use Rattle.forest_tree.specs.Settle.{has_ended}
 use Rattle.forest_tree.specs.Sound.{IsSound}
 use Rattle.forest_history.specs.Places.{at_path, Place, asleep, home, out, parked, Spot, placed, spots}
 use Rattle.forest_history.specs.World.{holds, is_asleep_at, is_out_at, is_ready, lives_ready}
 use Rattle.forest_history.specs.Rows.{first_reason}
-use Rattle.forest_history.proofs.Changes.{at_path-machine}
 use Rattle.forest_model.specs.Machine.{Machine}
 use Rattle.forest_model.specs.Forest.{machines}
 use Rattle.run_report.specs.NameOrder.{path_cmp}
@@ -28,7 +26,7 @@ use Rattle.world_core.specs.Waiting.{Waiting, IsListed, IsCovered}
 use Rattle.world_core.specs.Shows.{forest, IsAwake, Holds, HoldsAfter, CellShows, Shows}
 use Rattle.world_core.specs.Lent.{Lent}
 use Rattle.world_core.specs.Answers.{IsOutAs, IsHandedOut}
-use Rattle.world_core.specs.World.{Forest, IsDue, ShowsLive, ShowsEnd, ShowsTree, StandsFor}
+use Rattle.world_core.specs.World.{Forest, IsDue, ShowsLive, ShowsTree, StandsFor}
 use Rattle.world_core.specs.Between.{IsBetween, with_tree}
 use Rattle.world_core.proofs.Changes.{beyond-append, Lies, here, below, parent, above, apart, lies, parent-awake, shows-changed}
 use Rattle.world_core.proofs.Ready.{parent-ready, ready-changed}

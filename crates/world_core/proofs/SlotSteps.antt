@@ -9,7 +9,7 @@ use Rattle.std.specs.BTreeMap.{BTreeMap, get, btree_map_len, WritesThrough}
 use Rattle.std.specs.Vec.{with_item}
 use Rattle.boxcar.specs.Table.{Shelves}
 use Rattle.forest_tree.specs.Operations.{is_cloned}
-use Rattle.forest_tree.specs.Tree.{Tree, node, Trees, machine, brood_of, child_at, at_child, at_brood, Path}
+use Rattle.forest_tree.specs.Tree.{Tree, node, Trees, brood_of, child_at, at_child, at_brood, Path}
 use Rattle.forest_tree.proofs.Broods.{eqb-same}
 use Rattle.forest_tree.proofs.Places.{brood_of-at, at_child-none}
 use Rattle.forest_history.specs.Places.{Spot}

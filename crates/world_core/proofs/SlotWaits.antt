@@ -1,5 +1,5 @@
 -- Whether a machine waits, as its broods tell.
-use Rattle.std.proofs.Common.{◌≡◌, ℕ, zero, suc, ◌+◌, ◌-◌, ◌≤◌, not, Bool, true, false, cond, eqb, eqb-true, nat_lt, Option, Some, None, refl, sym, ap, ◌∙◌, subst, arith}
+use Rattle.std.proofs.Common.{◌≡◌, ℕ, zero, suc, ◌+◌, ◌≤◌, not, Bool, true, false, cond, eqb, eqb-true, nat_lt, Option, Some, None, refl, sym, ap, ◌∙◌, subst, arith}
 use Rattle.std.proofs.lemmas.Bool.{ne_eqb}
 use Rattle.std.proofs.lemmas.Bool.Decides.{nat_tests}
 use Rattle.std.specs.Ordering.{nat_cmp}
@@ -7,7 +7,7 @@ use Rattle.std.specs.BTreeMap.{get}
 use Rattle.boxcar.specs.Table.{Shelves}
 use Rattle.forest_tree.specs.Operations.{Call, clone, join, kill, is_cloned}
 use Rattle.forest_tree.specs.Tree.{Tree, Trees, no_tree, tree, Broods, machine, broods_of, brood_of, child_at, at_child, at_brood, Path}
-use Rattle.forest_tree.specs.Settle.{has_ended, have_ended, waits_by, waits}
+use Rattle.forest_tree.specs.Settle.{has_ended, have_ended, waits_by}
 use Rattle.forest_tree.proofs.Places.{some-same, brood_of-at, at_child-none}
 use Rattle.forest_history.specs.Places.{Spot}
 use Rattle.forest_history.specs.Children.{life, living}

@@ -1,5 +1,5 @@
 -- The slots of a brood, child by child.
-use Rattle.std.proofs.Common.{◌≡◌, ℕ, zero, suc, ◌+◌, ◌-◌, List, [], ◌∷◌, Some, slice_get, slice_set, refl, subst, arith}
+use Rattle.std.proofs.Common.{◌≡◌, ℕ, zero, suc, ◌+◌, List, [], ◌∷◌, Some, slice_get, slice_set, refl, subst, arith}
 use Rattle.forest_tree.specs.Tree.{Tree, Trees, no_tree, tree, at_child, child_at, Path}
 use Rattle.forest_tree.proofs.Places.{some-same}
 use Rattle.forest_history.specs.Places.{Spot}

@@ -7,25 +7,24 @@ use Rattle.fork_port.specs.declared.commands.Call.{Call}
 use Rattle.fork_port.specs.declared.commands.Call.TheVariants.{Clone, Join, Kill}
 use Rattle.fork_port.specs.declared.ending.Ending.{Ending}
 use Rattle.forest_tree.specs.Operations.{Operations, is_cloned, IsMachine, Makes, IsStep}
-use Rattle.forest_tree.specs.Tree.{Tree, node, Trees, Broods, no_brood, Log, machine, brood_of, broods_of, Path}
-use Rattle.forest_tree.specs.Settle.{has_ended, have_ended, settled_by, settled, log_killed, waits_by}
-use Rattle.forest_tree.specs.Sound.{IsSound}
-use Rattle.forest_tree.proofs.Settle.{both-true, root-sound}
+use Rattle.forest_tree.specs.Tree.{Tree, node, Trees, Broods, Log, brood_of, broods_of, Path}
+use Rattle.forest_tree.specs.Settle.{have_ended, settled, waits_by}
+use Rattle.forest_tree.proofs.Settle.{both-true}
 use Rattle.forest_tree.proofs.Rests.{lives-none}
 use Rattle.forest_tree.proofs.Places.{some-same}
-use Rattle.forest_history.specs.Places.{Place, out, Spot, spots, advanced, may_run, steps}
+use Rattle.forest_history.specs.Places.{out, Spot, spots, advanced, may_run, steps}
 use Rattle.forest_history.proofs.Changes.{not-true, steps-own}
 use Rattle.forest_history.proofs.Spots.{machine-spots}
 use Rattle.forest_model.specs.Machine.{Machine, Next, exception, timer_interrupt, plain, call, next, advance, after_steps}
 use Rattle.forest_model.specs.Forest.{call_of, machines, tree_call}
 use Rattle.forest_model.proofs.Finish.{cases-ending, advance-ended, steps-advance, waits-advance}
 use Rattle.forest_model.proofs.Rules.{machines-rules}
-use Rattle.vm_cell.specs.Standing.{asked_call, standing_from, standing_call}
+use Rattle.vm_cell.specs.Standing.{standing_from, standing_call}
 use Rattle.world_core.specs.declared.cell.Brood.{Brood}
 use Rattle.world_core.specs.declared.cell.Cell.{Cell}
 use Rattle.world_core.specs.Lent.{IsLent}
 use Rattle.world_core.specs.Answers.{join_ticket, stands_waiting, with_machine}
-use Rattle.world_core.specs.Shows.{forest, BroodAt, TallyAt, Tallies, Holds, ended_tree}
+use Rattle.world_core.specs.Shows.{forest, BroodAt, TallyAt, Tallies, Holds}
 
 -- a value is there, or not
 cases-some : {A : Type 0} (x : Option A) → IsSome x ⊎ (x ≡ None)

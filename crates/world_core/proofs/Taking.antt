@@ -1,13 +1,12 @@
 -- What a child that is still a descriptor is in a world, and which of a ticket's children are.
-use Rattle.std.proofs.Common.{◌≡◌, ◌≢◌, ◌⊎◌, ℕ, zero, suc, ◌+◌, ◌-◌, ◌≤◌, ◌<◌, ◌&&◌, not, Bool, true, false, cond, eqb, eqb-true, leb, max, refl, sym, ap, ap₂, ◌∙◌, subst, arith, inl, inr, List, [], ◌∷◌, ◌++◌, Option, Some, None, is_some, IsSome, MatchOption, Result, Ok, Err, slice_get, option_and_then, option_map}
+use Rattle.std.proofs.Common.{◌≡◌, ◌≢◌, ◌⊎◌, ℕ, zero, suc, ◌-◌, ◌≤◌, ◌<◌, ◌&&◌, not, Bool, true, false, cond, eqb, eqb-true, leb, ltb, lt-ltb, max, refl, sym, ap, ap₂, ◌∙◌, subst, arith, inl, inr, List, [], ◌∷◌, ◌++◌, Option, Some, None, is_some, MatchOption, Result, Ok, Err, slice_get, option_and_then, option_map}
 use Rattle.std.proofs.lemmas.Bool.Decides.{leb_tells}
-use Rattle.std.specs.Option.{IfSome, option_eq}
+use Rattle.std.specs.Option.{IfSome}
 use Rattle.std.specs.Result.{IsErr}
 use Rattle.std.specs.declared.alloc.AllocError.{AllocError}
 use Rattle.std.specs.BTreeMap.{BTreeMap, Updates, WritesThrough, get}
 use Rattle.std.specs.Ordering.{nat_cmp}
 use Rattle.boxcar.specs.Table.{Shelves}
-use Rattle.fork_port.specs.declared.ending.Ending.{Ending}
 use Rattle.forest_tree.specs.Operations.{Call, clone, join, kill, is_cloned}
 use Rattle.forest_tree.specs.Tree.{Tree, node, Trees, no_tree, tree, Broods, no_brood, Log, no_entry, machine, broods_of, brood_of, broods_with, child_at, at_child, at_brood, Branch, Path, subtree, beyond}
 use Rattle.forest_tree.specs.Settle.{alone, has_ended, have_ended, waits_by, waits}
@@ -32,7 +31,7 @@ use Rattle.world_core.specs.declared.cell.Brood.{Brood}
 use Rattle.world_core.specs.declared.cell.Cell.{Cell}
 use Rattle.world_core.specs.declared.cell.Slot.{Slot}
 use Rattle.world_core.specs.declared.cell.Slot.TheVariants.{Asleep, Awake, Ended}
-use Rattle.world_core.specs.Shows.{forest, told_spot, IsAwake, sleeper, Sleeps, SlotShows, SlotsShow, BornShows, BroodShows, BroodAt, StateShows, Holds, CellShows, IsNoCell, Shows, IsNotAsleep, child_of, with_child, slot_at}
+use Rattle.world_core.specs.Shows.{forest, IsAwake, SlotShows, SlotsShow, BornShows, BroodAt, StateShows, CellShows, IsNoCell, Shows, is_asleep_slot, IsNotAsleep, child_of, with_child, slot_at}
 use Rattle.world_core.specs.declared.turns.Turn.{Turn, Turn-F, out-Turn, roll-Turn, out-roll-Turn}
 use Rattle.world_core.specs.declared.world.World.{World}
 use Rattle.world_core.specs.declared.reason.Reason.{Reason}
@@ -43,9 +42,9 @@ use Rattle.world_core.specs.Waiting.{Waiting, CoversBy, IsListed, IsCovered}
 use Rattle.world_core.specs.World.{Forest, IsDue, ShowsLive, ShowsTree, StandsFor}
 use Rattle.world_core.specs.Answers.{Goes, Starts, TakesNamed}
 use Rattle.world_core.specs.Popped.{ShowsCells, sleeps, IsFirstAsleep, is_listed_in, with_turn}
-use Rattle.world_core.proofs.Slots.{HasSlot, slot-of, not-first}
+use Rattle.world_core.proofs.Awake.{child-below, slot-ended, never-both, ended-broods, slotted, awake-there}
 use Rattle.world_core.proofs.SlotWaits.{none-held, one-held}
-use Rattle.world_core.proofs.Changes.{beyond-append, beyond-is, child_by, one-below, is_one, outside, parent-awake, shows-changed}
+use Rattle.world_core.proofs.Changes.{beyond-append, beyond-is, child_by, is_one, outside, parent-awake, shows-changed}
 use Rattle.world_core.proofs.Ready.{parent-ready, ready-changed}
 use Rattle.world_core.proofs.Returns.{apart-below, apart-outside, same-or-apart, shows-same, written-here, written-apart, some-is, below-placed, lives-placed, place-placed}
 use Rattle.world_core.proofs.Steps.{forest-rules}
@@ -56,16 +55,6 @@ use Rattle.world_core.proofs.TurnLists.{turns_from_roll, turns_from_out}
 -- ready, and still a descriptor
 abbrev pub wakes : Option (Tree (Spot Machine)) → Bool
 wakes u = holds machines (lives_ready machines) u && holds machines (λ a. is_asleep_at (machine a).place) u
-
-pub child-below : (parent : Path) (ticket k : ℕ) (t : Tree (Spot Machine)) (p : Option (Tree (Spot Machine))) → subtree parent t ≡ p
-    → subtree (child_path parent ticket k) t ≡ option_and_then (λ u. child_of ticket k u) p
-child-below parent ticket k t p there =
-    let b : Branch = record { ticket = ticket; child = k } in
-    subtree-parts parent (b ∷ []) t ∙ ap (option_and_then (subtree (b ∷ []))) there ∙ by b p
-  where
-    by : (b : Branch) (p : Option (Tree (Spot Machine))) → option_and_then (subtree (b ∷ [])) p ≡ option_and_then (λ u. child_by b u) p
-    by b None = refl
-    by b (Some u) = one-below b u
 
 sleeps-by : (parent : Path) (ticket k : ℕ) (t p : Tree (Spot Machine)) → subtree parent t ≡ Some p → sleeps parent ticket k t ≡ wakes (child_of ticket k p)
 sleeps-by parent ticket k t p there = ap wakes (child-below parent ticket k t (Some p) there)
@@ -97,114 +86,20 @@ wakes-awake false there h = refl
 pub wakes-is : (a : Tree (Spot Machine)) → wakes (Some a) ≡ true → (has_ended forest a ≡ false) × (is_asleep_at (machine a).place ≡ true)
 wakes-is a h = wakes-parts (has_ended forest a) (waits forest a) (machine a).place h
 
--- an ended machine, as its slot tells
-slot-ended : (ending : Ending) (a : Tree (Spot Machine)) → told_spot.ending (machine a) ≡ Some ending → has_ended forest a ≡ true
-unfolding spots machines
-slot-ended ending a h = ap is_some h
-
 -- a tree by its slot
-abbrev is_asleep_slot : Slot → Bool
-is_asleep_slot Asleep = true
-is_asleep_slot Awake = false
-is_asleep_slot (Ended outcome) = false
-
 wakes-slot : (path : Path) (key : Key) (seed : Descriptor) (slot : Slot) (a : Tree (Spot Machine)) → SlotShows path key seed slot a
-    → wakes (Some a) ≡ is_asleep_slot slot
+    → wakes (Some a) ≡ is_asleep_slot (Some slot)
 wakes-slot path key seed Asleep a h =
     wakes-yes (has_ended forest a) (waits forest a) (machine a).place h.lives (ap (λ (u : Tree (Spot Machine)). is_asleep_at (machine u).place) h.born)
 wakes-slot path key seed Awake a h = wakes-awake (lives_ready machines a) (is_asleep_at (machine a).place) h.awake
 wakes-slot path key seed (Ended outcome) a h =
     wakes-ended (has_ended forest a) (is_ready_at (machine a).place (waits forest a)) (is_asleep_at (machine a).place) (slot-ended outcome.ending a h.0)
 
--- ---- machines with no cell
-
-never-both : (a : Tree (Spot Machine)) → IsAwake a → IsNoCell a → ⊥
-never-both a awake (inl ended) = let no : true ≡ false = sym ended.0 ∙ awake.lives in cc
-never-both a awake (inr there) = let no : true ≡ false = sym there ∙ awake.awake in cc
-
--- a machine that lives awake has a cell
-pub awake-cell : (depot : Shelves) (path : Path) (c : Option Cell) (a : Tree (Spot Machine)) → IsAwake a → Shows depot path c (Some a)
-    → (cell : Cell) × (c ≡ Some cell) × CellShows depot path cell a
-awake-cell depot path None a awake h = absurd (never-both a awake h)
-awake-cell depot path (Some cell) a awake h = (cell, refl, h)
-
--- a machine has a slot in its parent's brood
-record IsSlotted (path : Path) (a : Tree (Spot Machine)) : Type 0 where
-  key : Key
-  seed : Descriptor
-  slot : Slot
-  shows : SlotShows path key seed slot a
-
-ended-broods : (a : Tree (Spot Machine)) → IsSound forest a → has_ended forest a ≡ true → broods_of a ≡ no_brood
-ended-broods (node s broods log) sound ended = (root-sound forest s broods log sound).ended ended
-
-slotted-kind : (path : Path) (key : Key) (seed : Descriptor) (slot : Slot) (a : Tree (Spot Machine)) → SlotShows path key seed slot a → IsSound forest a
-    → IsAwake a ⊎ (broods_of a ≡ no_brood)
-slotted-kind path key seed Asleep a h sound = inr (ap broods_of h.born)
-slotted-kind path key seed Awake a h sound = inl h
-slotted-kind path key seed (Ended outcome) a h sound = inr (ended-broods a sound (slot-ended outcome.ending a h.0))
-
--- the child of a machine that has a cell
-slotted-born : (depot : Shelves) (path : Path) (ticket k : ℕ) (young : Option Young) (slots : List Slot) (trees : Trees (Spot Machine)) (a : Tree (Spot Machine))
-    → BornShows depot path ticket young slots trees → child_at k trees ≡ Some a → IsSlotted (child_path path ticket k) a
-slotted-born depot path ticket k None slots trees a h found = absurd h
-slotted-born depot path ticket zero (Some young) slots trees a h found = absurd (not-first trees a found)
-slotted-born depot path ticket (suc j) (Some young) slots trees a h found =
-    let has = slot-of path ticket young.key 1 young.seeds.items slots trees j a h.1 found in
-    let same : 1 + j ≡ suc j = omega arith in
-    record {
-      key = young.key;
-      seed = has.seed;
-      slot = has.slot;
-      shows = subst (λ n. SlotShows (child_path path ticket n) young.key has.seed has.slot a) same has.shows;
-    }
-
-none-there : (k : ℕ) (trees : Trees (Spot Machine)) (a : Tree (Spot Machine)) → trees ≡ no_tree → child_at k trees ≡ Some a → ⊥
-unfolding child_at
-none-there k trees a none found = let no : None ≡ Some a = sym (ap (child_at k) none) ∙ found in cc
-
-slotted : (depot : Shelves) (path : Path) (c : Cell) (ticket k : ℕ) (t a : Tree (Spot Machine)) → Holds depot path c t → child_of ticket k t ≡ Some a
-    → IsSlotted (child_path path ticket k) a
-slotted depot path c ticket k t a h found = by (get nat_cmp c.broods ticket) refl
-  where
-    by : (b : Option Brood) → get nat_cmp c.broods ticket ≡ b → IsSlotted (child_path path ticket k) a
-    by None e = absurd (none-there k (brood_of ticket (broods_of t)) a (none-held depot path c t h ticket e) found)
-    by (Some b) e =
-        slotted-born depot path ticket k b.young b.slots.items (brood_of ticket (broods_of t)) a (one-held depot path c t h ticket b e).born found
-
-none-below : (path : Path) (a p : Tree (Spot Machine)) → broods_of a ≡ no_brood → subtree path a ≡ Some p → broods_of p ≡ no_brood
-unfolding subtree brood_of child_at
-none-below [] a p none there = ap broods_of (sym (some-same a p there)) ∙ none
-none-below (b ∷ path) a p none there =
-    let no : None ≡ Some p = sym (ap (λ broods. option_and_then (subtree path) (child_at b.child (brood_of b.ticket broods))) none) ∙ there in
-    absurd (cc)
-
 childless : (ticket k : ℕ) (p : Tree (Spot Machine)) → broods_of p ≡ no_brood → wakes (child_of ticket k p) ≡ false
 unfolding brood_of child_at
 childless ticket k p empty = ap (λ broods. wakes (child_at k (brood_of ticket broods))) empty
 
 module _ (depot : Shelves) (cells : BTreeMap Path Cell) (t : Tree (Spot Machine)) (h : ShowsCells depot cells t) where
-  -- a machine below one that is awake is awake, or has no children
-  awake-below : (path way : Path) (u p : Tree (Spot Machine)) → subtree way t ≡ Some u → IsAwake u → subtree path u ≡ Some p
-      → IsAwake p ⊎ (broods_of p ≡ no_brood)
-  unfolding subtree
-  awake-below [] way u p at awake there = inl (subst IsAwake (some-same u p there) awake)
-  awake-below (b ∷ path) way u p at awake there =
-      by (child_by b u) refl there (λ a found lives rest. awake-below path (way ++ b ∷ []) a p found lives rest)
-    where
-      by : (c : Option (Tree (Spot Machine))) → child_by b u ≡ c → option_and_then (subtree path) c ≡ Some p
-          → ((a : Tree (Spot Machine)) → subtree (way ++ b ∷ []) t ≡ Some a → IsAwake a → subtree path a ≡ Some p → IsAwake p ⊎ (broods_of p ≡ no_brood))
-          → IsAwake p ⊎ (broods_of p ≡ no_brood)
-      by None e rest down = absurd (cc)
-      by (Some a) e rest down =
-          let cell = awake-cell depot way (get path_cmp cells way) u awake (subst (Shows depot way (get path_cmp cells way)) at (h.shows way)) in
-          let found : subtree (way ++ b ∷ []) t ≡ Some a = child-below way b.ticket b.child t (Some u) at ∙ e in
-          let slot = slotted depot way cell.0 b.ticket b.child u a cell.2.holds e in
-          elim (slotted-kind (child_path way b.ticket b.child) slot.key slot.seed slot.slot a slot.shows (subtree-sound forest (way ++ b ∷ []) t a h.sound found)) [
-            | inl lives ↦ down a found lives rest
-            | inr none ↦ inr (none-below path a p none rest)
-          ]
-
   pub none-sleeps : (parent : Path) (ticket k : ℕ) → get path_cmp cells parent ≡ None → sleeps parent ticket k t ≡ false
   unfolding subtree
   none-sleeps parent ticket k none = by (subtree parent t) refl
@@ -213,7 +108,7 @@ module _ (depot : Shelves) (cells : BTreeMap Path Cell) (t : Tree (Spot Machine)
       by None e = ap wakes (child-below parent ticket k t None e)
       by (Some p) e =
           let no_cell : IsNoCell p = subst (λ c. Shows depot parent c (Some p)) none (subst (Shows depot parent (get path_cmp cells parent)) e (h.shows parent)) in
-          elim (awake-below parent [] t p refl h.root e) [
+          elim (awake-there depot cells t h.sound parent (λ way b rest is. h.shows way) p h.root e) [
             | inl awake ↦ absurd (never-both p awake no_cell)
             | inr empty ↦ sleeps-by parent ticket k t p e ∙ childless ticket k p empty
           ]
@@ -230,7 +125,7 @@ slot-sleeps path ticket key k [] (slot ∷ slots) trees j h there = absurd h
 slot-sleeps path ticket key k (seed ∷ seeds) [] trees j h there = absurd h
 slot-sleeps path ticket key k (seed ∷ seeds) (slot ∷ slots) no_tree j h there = absurd h
 slot-sleeps path ticket key k (seed ∷ seeds) (slot ∷ slots) (tree t rest) zero h there =
-    wakes-slot (child_path path ticket k) key seed slot t h.0 ∙ ap is_asleep_slot (some-same slot Asleep there)
+    wakes-slot (child_path path ticket k) key seed slot t h.0 ∙ ap (λ s. is_asleep_slot (Some s)) (some-same slot Asleep there)
 slot-sleeps path ticket key k (seed ∷ seeds) (slot ∷ slots) (tree t rest) (suc j) h there =
     slot-sleeps path ticket key (suc k) seeds slots rest j h.1 there
 
@@ -245,7 +140,7 @@ slot-wakes path ticket key k (seed ∷ seeds) (slot ∷ slots) no_tree j h there
 slot-wakes path ticket key k (seed ∷ seeds) (slot ∷ slots) (tree t rest) zero h there =
     wakes-slot (child_path path ticket k) key seed slot t h.0 ∙ by slot there
   where
-    by : (slot : Slot) → IsNotAsleep (Some slot) → is_asleep_slot slot ≡ false
+    by : (slot : Slot) → IsNotAsleep (Some slot) → is_asleep_slot (Some slot) ≡ false
     by Asleep there = absurd there
     by Awake there = refl
     by (Ended outcome) there = refl
@@ -273,6 +168,19 @@ born-wakes depot path ticket (suc j) (Some young) slots trees h there =
     let same : suc j - 1 ≡ j = omega arith in
     slot-wakes path ticket young.key 1 young.seeds.items slots trees j h.1 (subst (λ i. IsNotAsleep (slice_get slots i)) same (there (omega arith)))
 
+-- a child's slot tells whether it is still a descriptor
+born-slot : (depot : Shelves) (path : Path) (ticket k : ℕ) (young : Option Young) (slots : List Slot) (trees : Trees (Spot Machine))
+    → BornShows depot path ticket young slots trees → ltb 0 k && is_asleep_slot (slot_at k slots) ≡ wakes (child_at k trees)
+born-slot depot path ticket zero young slots trees h = sym (not-zero trees)
+born-slot depot path ticket (suc j) young slots trees h =
+    ap (λ first. first && is_asleep_slot (slot_at (suc j) slots)) (lt-ltb 0 (suc j) (omega arith)) ∙ by (slot_at (suc j) slots) refl
+  where
+    by : (o : Option Slot) → slot_at (suc j) slots ≡ o → is_asleep_slot (slot_at (suc j) slots) ≡ wakes (child_at (suc j) trees)
+    by None e = ap is_asleep_slot e ∙ sym (born-wakes depot path ticket (suc j) young slots trees h (λ one. subst IsNotAsleep (sym e) tt))
+    by (Some Asleep) e = ap is_asleep_slot e ∙ sym (born-sleeps depot path ticket (suc j) young slots trees h (omega arith) e)
+    by (Some Awake) e = ap is_asleep_slot e ∙ sym (born-wakes depot path ticket (suc j) young slots trees h (λ one. subst IsNotAsleep (sym e) tt))
+    by (Some (Ended outcome)) e = ap is_asleep_slot e ∙ sym (born-wakes depot path ticket (suc j) young slots trees h (λ one. subst IsNotAsleep (sym e) tt))
+
 -- the cell, where there is one, shows the machine of its name
 pub cell-shows : (depot : Shelves) (path : Path) (c : Option Cell) (cell : Cell) (u : Option (Tree (Spot Machine))) → c ≡ Some cell → Shows depot path c u
     → (t : Tree (Spot Machine)) × (u ≡ Some t) × CellShows depot path cell t
@@ -291,6 +199,14 @@ module _ (depot : Shelves) (cells : BTreeMap Path Cell) (t : Tree (Spot Machine)
       λ k le.
       sleeps-by parent ticket k t shown.0 shown.1
       ∙ ap (λ trees. wakes (child_at k trees)) (none-held depot parent c shown.0 shown.2.holds ticket none)
+
+  pub sleeps-slot : (c : Cell) (b : Brood) → get path_cmp cells parent ≡ Some c → get nat_cmp c.broods ticket ≡ Some b
+      → ltb 0 first && is_asleep_slot (slot_at first b.slots.items) ≡ sleeps parent ticket first t
+  sleeps-slot c b some held =
+      let shown = cell-shows depot parent (get path_cmp cells parent) c (subtree parent t) some (h.shows parent) in
+      born-slot depot parent ticket first b.young b.slots.items (brood_of ticket (broods_of shown.0))
+      (one-held depot parent c shown.0 shown.2.holds ticket b held).born
+      ∙ sym (sleeps-by parent ticket first t shown.0 shown.1)
 
   pub first-in : (c : Cell) (b : Brood) (from : ℕ) (r : Option ℕ) → get path_cmp cells parent ≡ Some c → get nat_cmp c.broods ticket ≡ Some b → from ≡ max first 1
       → MatchOption r ((k : ℕ) → from ≤ k → IsNotAsleep (slot_at k b.slots.items))
@@ -754,10 +670,9 @@ module _ (cells mid : BTreeMap Path Cell) (parent : Path) (ticket index : ℕ) (
         (with-child-path depot parent d (placed out) b s.above s.child s.is_child waked))))
 
 -- the machine that woke
-pub woken-machine : (u : Option Machine) (m : Machine) (o : Option (Tree (Spot Machine))) (a b : Tree (Spot Machine)) → u ≡ Some m → u ≡ Some (machine a).machine
-    → o ≡ Some a → o ≡ Some b → m ≡ (machine b).machine
-woken-machine u m o a b is woke one other =
-    some-same m (machine a).machine (sym is ∙ woke) ∙ ap (λ (t : Tree (Spot Machine)). (machine t).machine) (some-same a b (sym one ∙ other))
+pub woken-machine : (m : Machine) (o : Option (Tree (Spot Machine))) (a b : Tree (Spot Machine)) → m ≡ (machine a).machine → o ≡ Some a → o ≡ Some b
+    → m ≡ (machine b).machine
+woken-machine m o a b woke one other = woke ∙ ap (λ (t : Tree (Spot Machine)). (machine t).machine) (some-same a b (sym one ∙ other))
 
 -- a machine that is still a descriptor has no cell
 pub sleeper-no_cell : (depot : Shelves) (cells : BTreeMap Path Cell) (parent : Path) (ticket index : ℕ) (t : Tree (Spot Machine)) (c : Cell) → ShowsCells depot cells t
@@ -1049,18 +964,6 @@ over-nobody depot w f name h some = ended-nobody name f.tree h.sound (by w.outco
     by (Some outcome) shown some = shown.ended
 
 -- the number that was looked for
-pub not-found : (r : Option ℕ) (i : ℕ) → true ≡ not (option_eq eqb r (Some i)) → r ≡ Some i → ⊥
-not-found r i e same =
-    let no : true ≡ false = e ∙ ap (λ o. not (option_eq eqb o (Some i))) same ∙ ap not (eqb-same i) in cc
-
-pub is-found : (r : Option ℕ) (i : ℕ) → false ≡ not (option_eq eqb r (Some i)) → r ≡ Some i
-is-found None i e = absurd (cc)
-is-found (Some j) i e = ap Some (eqb-true j i (by (eqb j i) e))
-  where
-    by : (b : Bool) → false ≡ not b → b ≡ true
-    by true e = refl
-    by false e = absurd (cc)
-
 -- the same cells
 pub stands-same : (depot : Shelves) (w v : World) (f : Forest) → ((n : Path) → get path_cmp v.cells n ≡ get path_cmp w.cells n) → v.ready ≡ w.ready
     → v.halted ≡ w.halted → v.outcome ≡ w.outcome → StandsFor depot w f → StandsFor depot v f
@@ -1161,7 +1064,7 @@ module _ (depot : Shelves) (w : World) (f : Forest) (name : Path) (h : StandsFor
         (subst (λ c. Shows depot [] c (Some f.tree)) (ap (get path_cmp w.cells) (sym root) ∙ sym none) (before-named.shows []))
 
     module _ (parent : Path) (ticket index : ℕ) (named : name ≡ child_path parent ticket index) where
-      no_cell-home : sleeps parent ticket index f.tree ≡ false → is_at_home machines name f.tree ≡ false
+      pub no_cell-home : sleeps parent ticket index f.tree ≡ false → is_at_home machines name f.tree ≡ false
       no_cell-home awake =
           by (subtree name f.tree) (subst (λ c. Shows depot name c (subtree name f.tree)) (sym none) (before-named.shows name))
           (ap (λ n. wakes (subtree n f.tree)) named ∙ awake)
@@ -1172,18 +1075,6 @@ module _ (depot : Shelves) (w : World) (f : Forest) (name : Path) (h : StandsFor
           by (Some a) (inr there) awake = asleep-dead (has_ended forest a) (waits forest a) (machine a).place there awake
 
       -- it is not the first from itself on
-      pub not-first-asleep : (r : Option ℕ) → (r ≡ Some index → ⊥) → IsFirstAsleep parent ticket index f.tree r → is_at_home machines name f.tree ≡ false
-      not-first-asleep None other first = no_cell-home (first index (omega arith))
-      not-first-asleep (Some j) other first =
-          no_cell-home (first.2 index (omega arith) (above_it index j first.0 (λ same. other (ap Some same))))
-        where
-          above_it : (i j : ℕ) → i ≤ j → (j ≡ i → ⊥) → i < j
-          above_it i j le differ = omega arith
-
-      pub sleeps-first : (r : Option ℕ) → r ≡ Some index → IsFirstAsleep parent ticket index f.tree r → sleeps parent ticket index f.tree ≡ true
-      sleeps-first None e first = absurd (cc)
-      sleeps-first (Some j) e first = subst (λ k. sleeps parent ticket k f.tree ≡ true) (some-same j index e) first.1
-
       -- it wakes
       pub named-woken : (v : World) (lease : Lent) → sleeps parent ticket index f.tree ≡ true → lease.name ≡ child_path parent ticket index → lease.ran ≡ 0
           → lease.now ≡ lease.start → IfSome (subtree lease.name f.tree) (λ a. (machine a).machine ≡ lease.start)

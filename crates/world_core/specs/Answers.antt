@@ -1,5 +1,5 @@
 -- What the calls of a world answer, and what the world stands for after them.
-use Rattle.std.specs.Prelude.{◌≡◌, ℕ, [], Option, Some, None, Bool, true, false, not, ◌&&◌, if◌then◌else◌, is_some, OnSome, IfSome, Result, Ok, Err}
+use Rattle.std.specs.Prelude.{◌≡◌, ℕ, Option, Some, None, Bool, true, false, not, ◌&&◌, IfSome, Result, Ok, Err}
 use Rattle.boxcar.specs.Table.{Shelves}
 use Rattle.std.specs.declared.alloc.AllocError.{AllocError}
 use Rattle.fork_port.specs.declared.commands.Call.{Call}
@@ -7,9 +7,9 @@ use Rattle.fork_port.specs.declared.commands.Call.TheVariants.{Clone, Join, Kill
 use Rattle.fork_port.specs.declared.ending.Ending.{Ending}
 use Rattle.forest_tree.specs.Tree.{Tree, node, machine, Path, subtree}
 use Rattle.forest_tree.specs.Settle.{has_ended, waits}
-use Rattle.forest_history.specs.Places.{Place, out, Spot}
-use Rattle.forest_history.specs.World.{is_ready, is_at_home}
-use Rattle.forest_history.specs.Rows.{How, gave, ended, forked, joined, killed, waited, Row, over, stopped, idle, took, nothing, spent, dropped, kept, halted, Allows, does}
+use Rattle.forest_history.specs.Places.{out, Spot}
+use Rattle.forest_history.specs.World.{is_at_home}
+use Rattle.forest_history.specs.Rows.{How, gave, ended, forked, joined, killed, waited, Row, over, stopped, idle, took, nothing, spent, dropped, kept, Allows, does}
 use Rattle.forest_model.specs.Machine.{Machine}
 use Rattle.forest_model.specs.Forest.{machines}
 use Rattle.world_core.specs.declared.reason.Reason.{Reason}

@@ -34,6 +34,7 @@ pub record IsWhole (t : Tree (Spot Machine)) : Type 0 where
 -- the world stands for a forest but for the machine of this name, whose cell holds the tree `a` in place of its own
 -- there, and whose descendants are those of `a`
 pub record IsBetween (depot : Shelves) (w : World) (f : Forest) (name : Path) (a : Tree (Spot Machine)) : Type 0 where
+  pub sound : IsSound forest f.tree
   pub halted : w.halted ≡ f.halted
   pub going : w.outcome ≡ None
   pub root : IsAwake f.tree
@@ -50,6 +51,7 @@ pub record IsBetween (depot : Shelves) (w : World) (f : Forest) (name : Path) (a
 
 -- the world stands for a forest but for the machine of this name, which is gone from it with its descendants
 pub record IsLeaving (depot : Shelves) (w : World) (f : Forest) (name : Path) : Type 0 where
+  pub sound : IsSound forest f.tree
   pub halted : w.halted ≡ f.halted
   pub going : w.outcome ≡ None
   pub root : IsAwake f.tree

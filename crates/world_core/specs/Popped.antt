@@ -2,7 +2,7 @@
 use Rattle.std.specs.Prelude.{◌≡◌, ℕ, ◌≤◌, ◌<◌, ◌∷◌, Bool, true, false, Option, Some, None}
 use Rattle.std.specs.BTreeMap.{BTreeMap, get}
 use Rattle.boxcar.specs.Table.{Shelves}
-use Rattle.forest_tree.specs.Tree.{Tree, Path, machine, subtree}
+use Rattle.forest_tree.specs.Tree.{Tree, Path, subtree}
 use Rattle.forest_tree.specs.Sound.{IsSound}
 use Rattle.forest_history.specs.Places.{Spot}
 use Rattle.forest_history.specs.World.{is_to_wake}

@@ -6,9 +6,9 @@ use Rattle.boxcar.specs.Table.{Shelves}
 use Rattle.fork_port.specs.declared.ending.Ending.{Ending}
 use Rattle.forest_tree.specs.Operations.{Operations, Call, join, is_cloned}
 use Rattle.forest_tree.specs.Sound.{IsSound}
-use Rattle.forest_tree.specs.Tree.{Tree, node, Trees, no_tree, tree, Broods, no_brood, brood, Log, joined, killed, machine, broods_of, log_of, brood_of, without, child_at, at_child, at_brood, Path}
+use Rattle.forest_tree.specs.Tree.{Tree, node, Trees, no_tree, tree, no_brood, brood, joined, killed, machine, broods_of, log_of, brood_of, without, child_at, at_child, at_brood, Path}
 use Rattle.forest_tree.specs.Settle.{alone, has_ended, waits, endings, children, log_killed}
-use Rattle.forest_history.specs.Places.{Place, asleep, home, out, parked, Spot, spots}
+use Rattle.forest_history.specs.Places.{asleep, home, out, parked, Spot, spots}
 use Rattle.forest_history.specs.World.{is_asleep_at, is_out_at}
 use Rattle.forest_history.specs.Children.{living}
 use Rattle.forest_model.specs.Machine.{Machine}
@@ -170,6 +170,13 @@ HoldsAfter depot path c t = Tallies path c t × (has_ended forest t ≡ false �
 -- slot k, from 1
 abbrev pub slot_at : ℕ → List Slot → Option Slot
 slot_at k slots = slice_get slots (k - 1)
+
+-- a child is there, and is still a descriptor
+abbrev pub is_asleep_slot : Option Slot → Bool
+is_asleep_slot None = false
+is_asleep_slot (Some Asleep) = true
+is_asleep_slot (Some Awake) = false
+is_asleep_slot (Some (Ended outcome)) = false
 
 abbrev pub IsNotAsleep : Option Slot → Type 0
 IsNotAsleep None = Unit {0}

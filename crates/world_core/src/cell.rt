@@ -1,4 +1,4 @@
-ghost use Rattle.std.specs.Prelude.{◌≡◌, ◌+◌, ◌≤◌, ◌<◌, ◌⊎◌, ◌∷◌, ℕ, [], true, false, not, Option, Some, None, IfOk, IfSome, OnOk, OnErr, MatchOption, vec_len};
+ghost use Rattle.std.specs.Prelude.{◌≡◌, ◌+◌, ◌≤◌, ◌<◌, ◌⊎◌, ◌∷◌, ℕ, [], ◌&&◌, true, false, not, nat_lt, Option, Some, None, IfOk, IfSome, OnOk, OnErr, MatchOption, vec_len};
 ghost use Rattle.boxcar.specs.Table.{Shelves};
 ghost use Rattle.forest_tree.specs.Operations.{clone, join, kill, is_cloned};
 ghost use Rattle.forest_tree.specs.Tree.{Tree, machine, brood_of, broods_of, Path};
@@ -16,7 +16,7 @@ ghost use Rattle.vm_cell.specs.Standing.{IsClone, IsJoin, IsKill, standing_call}
 ghost use Rattle.vm_descriptor.specs.declared.descriptor.TheConstants.{MAX_CLONES};
 ghost use Rattle.world_core.specs.Turns.{turn_of, turns_from};
 ghost use Rattle.world_core.specs.Unparked.{unparked, is_parked_for, kept_turn};
-ghost use Rattle.world_core.specs.Shows.{CellShows, Holds, HoldsAfter, IsAwake, IsNotAsleep, StandsAt, Tallies, child_of, slot_at, ended_tree, forest, forked_tree, joined_tree, killed_tree, told_spot, with_child};
+ghost use Rattle.world_core.specs.Shows.{CellShows, Holds, HoldsAfter, IsAwake, IsNotAsleep, StandsAt, Tallies, child_of, is_asleep_slot, slot_at, ended_tree, forest, forked_tree, joined_tree, killed_tree, told_spot, with_child};
 
 use crate::turns::Turn;
 use forest_model::Ending;
@@ -128,9 +128,10 @@ impl Cell {
     {
         if let State::Home(vm) = &self.state {
             let out = State::Out(Snapshot::of(&**vm));
-            if let State::Home(vm) = mem::replace(&mut self.state, out) {
-                return Some(vm);
-            }
+            let State::Home(vm) = mem::replace(&mut self.state, out) else {
+                unreachable!();
+            };
+            return Some(vm);
         }
         None
     }
@@ -144,9 +145,10 @@ impl Cell {
     {
         if let State::Parked(_, vm, _) = &self.state {
             let out = State::Out(Snapshot::of(&**vm));
-            if let State::Parked(_, vm, _) = mem::replace(&mut self.state, out) {
-                return Some(vm);
-            }
+            let State::Parked(_, vm, _) = mem::replace(&mut self.state, out) else {
+                unreachable!();
+            };
+            return Some(vm);
         }
         self.lend()
     }
@@ -158,21 +160,21 @@ impl Cell {
         depot: &Depot,
         ticket: u32,
         index: u32,
-    ) -> Result<Option<Vm>, AllocError>
+    ) -> Result<Vm, AllocError>
         requires { (path : Path) × (t a : Tree (Spot Machine)) × Holds depot.now path self.now t × (child_of ticket index t ≡ Some a) × (is_asleep_at (machine a).place ≡ true)
             × (has_ended forest a ≡ false) }
         ensures { (path : Path) (t a : Tree (Spot Machine)) → Holds depot.now path self.now t → child_of ticket index t ≡ Some a
             → is_asleep_at (machine a).place ≡ true → has_ended forest a ≡ false
-            → IfOk result (λ vm. vm ≡ Some (machine a).machine) }
+            → IfOk result (λ vm. vm ≡ (machine a).machine) }
     {
         let Some(brood) = self.broods.get(&ticket) else {
-            return Ok(None);
+            unreachable!();
         };
         let Some(young) = &brood.young else {
-            return Ok(None);
+            unreachable!();
         };
         let seed = &young.seeds[index as usize - 1];
-        Ok(Some(Vm::wake(alloc, seed, &young.key, depot)?))
+        Vm::wake(alloc, seed, &young.key, depot)
     }
 
     /// A child has a cell of its own from now on.
@@ -184,9 +186,10 @@ impl Cell {
             → CellShows depot path self.new (with_child ticket index (placed out a) t) }
         ensures place { self.new.is_listed ≡ self.old.is_listed }
     {
-        if let Some(brood) = self.broods.get_mut(&ticket) {
-            brood.slots[index as usize - 1] = Slot::Awake;
-        }
+        let Some(brood) = self.broods.get_mut(&ticket) else {
+            unreachable!();
+        };
+        brood.slots[index as usize - 1] = Slot::Awake;
     }
 
     /// A child of the machine has ended. The machine's turn comes back where it waited for that.
@@ -207,7 +210,9 @@ impl Cell {
             → (told_spot.ending (machine b) ≡ Some outcome.ending) → lives_ready machines (with_child ticket index b t) ≡ true
             → (lives_ready machines t ≡ true) ⊎ (self.new.is_listed ≡ true) }
     {
-        let brood = self.broods.get_mut(&ticket)?;
+        let Some(brood) = self.broods.get_mut(&ticket) else {
+            unreachable!();
+        };
         brood.slots[index as usize - 1] = Slot::Ended(outcome);
         brood.live -= 1;
         if brood.live > 0 {
@@ -232,7 +237,7 @@ impl Cell {
         }
         let out = State::Out(Snapshot::of(&**vm));
         let State::Parked(_, vm, turn) = mem::replace(&mut self.state, out) else {
-            return None;
+            unreachable!();
         };
         self.state = State::Home(vm);
         if self.is_listed {
@@ -244,6 +249,13 @@ impl Cell {
 }
 
 impl Brood {
+    /// Whether a child is still a descriptor.
+    pub(crate) fn is_asleep(&self, index: u32) -> bool
+        ensures { result ≡ nat_lt 0 index && is_asleep_slot (slot_at index self.now.slots.items) }
+    {
+        index > 0 && matches!(self.slots.get(index as usize - 1), Some(Slot::Asleep))
+    }
+
     /// The first child, from one on, that is still a descriptor.
     pub(crate) fn asleep_from(&self, first: u32) -> Option<u32>
         requires first { 1 ≤ first }

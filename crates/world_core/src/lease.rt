@@ -1,4 +1,4 @@
-ghost use Rattle.std.specs.Prelude.{◌≡◌, ◌≢◌, ◌≤◌, ◌+◌, ◌-◌, ◌∷◌, [], IfOk, OnErr, None};
+ghost use Rattle.std.specs.Prelude.{◌≡◌, ◌≢◌, ◌≤◌, ◌<◌, ◌+◌, ◌-◌, ◌∷◌, [], IfOk, OnErr, None};
 ghost use Rattle.forest_model.specs.Machine.{after_steps};
 ghost use Rattle.vm_cell.specs.Acts.{Grows};
 ghost use Rattle.vm_cell.specs.Shown.{peeked, shown_registers};
@@ -15,9 +15,8 @@ use std::marker::Model;
 use std::snapshot::Snapshot;
 use vm_cell::{Ran, Stepped, Vm};
 
-/// A machine on lease. It runs by itself, and nothing else runs it meanwhile. It is to be handed back to
-/// the world that handed it out.
-#[derive(Drop)]
+/// A machine on lease. It runs by itself, and nothing else runs it meanwhile. A lease cannot be let go: it is
+/// spent by the world that handed it out, in `give`, `end`, `fork`, `join` or `kill`.
 pub struct Lease {
     pub(crate) turn: Box<Turn>,
     pub(crate) vm: Box<Vm>,
@@ -52,6 +51,16 @@ impl Lease {
             ran: 0,
             start,
         }
+    }
+
+    /// Lets go of a machine whose name is gone from its world.
+    pub(crate) fn discard(self) {
+        let Lease {
+            turn: _,
+            vm: _,
+            ran: _,
+            start: _,
+        } = self;
     }
 
     /// The name of the machine.
@@ -114,6 +123,7 @@ impl Lease {
         ensures enough { IfOk result (λ ran. self.old.now.limit ≤ self.old.now.steps + most → ran.why ≢ Stepped.Went) }
         ensures err { OnErr result (self.new.now ≡ after_steps (self.new.ran - self.old.ran) self.old.now) }
         ensures err_ran { OnErr result (self.old.ran ≤ self.new.ran) }
+        ensures err_most { OnErr result (self.new.ran < self.old.ran + most) }
         ensures err_live { OnErr result (self.new.now.ending ≡ None) }
     {
         let before = self.vm.steps();

@@ -1,4 +1,4 @@
-ghost use Rattle.std.specs.Prelude.{◌≡◌, [], ◌∷◌, None, Some, true, false, IfOk, IfSome, IsSome, MatchOption};
+ghost use Rattle.std.specs.Prelude.{◌≡◌, [], ◌∷◌, None, Some, true, false, IfOk, IfSome, IsSome, IsSomeAnd, MatchOption};
 ghost use Rattle.std.specs.BTreeMap.{get};
 ghost use Rattle.boxcar.specs.Table.{Shelves};
 ghost use Rattle.forest_tree.specs.Settle.{has_ended};
@@ -35,7 +35,6 @@ mod calls;
 mod take;
 
 /// What `take` hands out.
-#[derive(Drop)]
 pub enum Taken {
     /// The root has ended.
     Over,
@@ -43,19 +42,19 @@ pub enum Taken {
     Stopped(Reason),
     /// Each live machine is on lease, or waits for children.
     Idle,
+    /// A machine that was ready.
     Took(Lease),
     /// Want of memory, where a descriptor was to be woken.
     Memory,
 }
 
 /// What became of a lease that was handed back.
-#[derive(Drop)]
 pub enum Placed {
     /// The change was made.
     Done,
     /// The machine waits for a child that lives, and is parked at home.
     Parked,
-    /// The machine's name is no longer in the forest.
+    /// The machine's name is no longer in the forest, and the machine is dropped.
     Dropped,
     /// Want of memory: nothing was changed, and the lease comes back.
     Memory(Lease),
@@ -74,14 +73,42 @@ pub struct World {
 }
 
 impl World {
-    /// The world of one machine, which has no ticket and has made no step that ended it.
+    /// The world of one machine, which has no ticket.
     pub fn new(alloc: Global, vm: Vm, depot: &Depot) -> Result<World, AllocError>
-        requires lives { vm.ending ≡ None }
         requires no_ticket { (port_of vm).tickets ≡ [] }
-        requires good { machines.is_good vm ≡ true }
         ensures { IfOk result (λ world. StandsFor depot.now world (world_of machines vm)) }
     {
         let _ = depot;
+        match vm.ended() {
+            Some(ending) => Ok(World::of_ended(alloc, vm, ending)),
+            None => World::of_live(alloc, vm),
+        }
+    }
+
+    /// The world of a machine that has ended.
+    fn of_ended(alloc: Global, vm: Vm, ending: Ending) -> World
+        requires ended { vm.ending ≡ Some ending }
+        requires no_ticket { (port_of vm).tickets ≡ [] }
+        requires good { machines.is_good vm ≡ true }
+        ensures { (depot : Shelves) → StandsFor depot result (world_of machines vm) }
+    {
+        let steps = vm.steps();
+        let log = Vec::new(alloc);
+        World {
+            cells: BTreeMap::new(alloc),
+            ready: Turns::new(),
+            halted: None,
+            outcome: Some(Outcome::new(Name::root(alloc), ending, steps, vm.into_output(), log)),
+        }
+    }
+
+    /// The world of a machine that lives. It is ready.
+    fn of_live(alloc: Global, vm: Vm) -> Result<World, AllocError>
+        requires lives { vm.ending ≡ None }
+        requires no_ticket { (port_of vm).tickets ≡ [] }
+        requires good { machines.is_good vm ≡ true }
+        ensures { IfOk result (λ world. (depot : Shelves) → StandsFor depot world (world_of machines vm)) }
+    {
         let mut ready = Turns::new();
         ready.push(Turn::of_machine(alloc, Name::root(alloc))?);
         let mut cells = BTreeMap::new(alloc);
@@ -106,7 +133,12 @@ impl World {
         if lease.ended().is_some() {
             return self.end(lease);
         }
-        let Lease { turn, vm, .. } = lease;
+        let Lease {
+            turn,
+            vm,
+            ran: _,
+            start: _,
+        } = lease;
         self.home(turn, vm)
     }
 
@@ -117,11 +149,16 @@ impl World {
         ensures { (depot : Shelves) (f : Forest) → StandsFor depot self.old f → IsHandedOut f lease
             → Answers depot f ended lease result self.new }
     {
-        let Lease { turn, vm, .. } = lease;
-        match vm.ended() {
-            Some(ending) => self.finish(turn, vm, ending),
-            None => Placed::Dropped,
-        }
+        let Lease {
+            turn,
+            vm,
+            ran: _,
+            start: _,
+        } = lease;
+        let Some(ending) = vm.ended() else {
+            unreachable!();
+        };
+        self.finish(turn, vm, ending)
     }
 
     /// No machine is handed out from now on, for the first reason that is given.
@@ -220,14 +257,14 @@ impl World {
 
     /// Tells a machine how a child of it has ended. It may be ready then.
     fn end_child(&mut self, parent: &Name, ticket: u32, index: u32, outcome: Outcome)
-        requires { IfSome (get path_cmp self.old.cells parent.now) (λ c. (depot : Shelves) × (t a : Tree (Spot Machine))
+        requires { IsSomeAnd (get path_cmp self.old.cells parent.now) (λ c. (depot : Shelves) × (t a : Tree (Spot Machine))
             × CellShows depot parent.now c t × (child_of ticket index t ≡ Some a) × IsAwake a) }
         ensures { (depot : Shelves) (f : Forest) (b : Tree (Spot Machine)) → IsLeaving depot self.old f (child_path parent.now ticket index)
             → HasLeft (child_path parent.now ticket index) b outcome → IsSound forest (with_tree (child_path parent.now ticket index) b f).tree
             → StandsFor depot self.new (with_tree (child_path parent.now ticket index) b f) }
     {
         let Some(cell) = self.cells.get_mut(parent) else {
-            return;
+            unreachable!();
         };
         if let Some(turn) = cell.child_ended(ticket, index, outcome) {
             self.ready.push(turn);

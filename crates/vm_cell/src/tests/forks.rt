@@ -4,7 +4,7 @@ ghost use Rattle.std.specs.Prelude.{◌≤◌, length, All, IfOk};
 ghost use Rattle.image_depot.specs.Key.{IsKeyOf};
 ghost use Rattle.vm_cell.specs.Woken.{IsOfImage};
 
-use super::{TWO_CHILDREN, load};
+use super::load;
 use crate::{Brood, Stepped, Vm};
 use cow_disk::Disk;
 use forest_model::{Ending, Options};
@@ -13,6 +13,15 @@ use image_depot::Depot;
 use std::alloc::Global;
 use std::sync::Wait;
 use std::test::Fail;
+
+// Two children that exit with 40 and their number, whom the parent joins, to exit with the value of the
+// first.
+const TWO_CHILDREN: [u32; 25] = [
+    0x100022b7, 0x00200313, 0x0062a023, 0x0002a223, 0x00100313, 0x0062a423, 0x00c2a383, 0x0072a023,
+    0x00200313, 0x0062a423, 0x0102a403, 0x02041463, 0x00300313, 0x0072a023, 0x0062a423, 0x00100313,
+    0x0062ac23, 0x0202a303, 0x0062a023, 0x00500313, 0x0062a423, 0x02840313, 0x0062a023, 0x00500313,
+    0x0062a423,
+];
 
 // A machine that may have so many clones, with no disk.
 fn booted(alloc: Global, words: &[u32], input: &[u8], limit: u64, allot: u32) -> Result<Vm, Fail>
@@ -128,28 +137,6 @@ fn a_parent_joins_two_children(rt: HostRuntime) -> Result<(), Fail> {
     Ok(())
 }
 
-// The steps of the children of a machine before they are run, and after.
-fn steps_of<R: Wait>(rt: &R, alloc: Global, vm: &mut Vm) -> Result<Vec<(u64, u64)>, Fail> {
-    let depot = Depot::new(alloc)?;
-    let mut steps = Vec::new(alloc);
-    for child in &mut children_of(rt, alloc, vm, &depot)? {
-        let before = child.steps();
-        end_of(child)?;
-        steps.push((before, child.steps()))?;
-    }
-    Ok(steps)
-}
-
-#[test]
-fn a_child_has_made_its_parents_steps(rt: HostRuntime) -> Result<(), Fail> {
-    let mut vm = booted(rt.alloc(), &TWO_CHILDREN, b"", 1000, 2)?;
-    let steps = steps_of(&rt, rt.alloc(), &mut vm)?;
-    assert_eq!(rt; steps.as_slice(), [(10, 16); 2].as_slice());
-    assert_eq!(rt; vm.steps(), 10);
-    assert_eq!(rt; [vm.granted(0), vm.granted(1), vm.granted(2)], [0, 2, 0]);
-    Ok(())
-}
-
 #[test]
 fn a_run_looks_at_the_step_after_its_last(rt: HostRuntime) -> Result<(), Fail> {
     let rows = [
@@ -243,31 +230,5 @@ fn killed_children_are_joined_no_more(rt: HostRuntime) -> Result<(), Fail> {
     let ending = end_of_killer(&rt, rt.alloc(), &mut vm)?;
     // 2 children, and that there is no such ticket
     assert_eq!(rt; ending, Ending::Exit(2u32.wrapping_add(0xffff_ffff)));
-    Ok(())
-}
-
-// Asks for one child with all that is left as its share. A child does the same, and what gets no ticket
-// exits with the number of its generation, as each parent does.
-const GENERATIONS: [u32; 16] = [
-    0x100022b7, 0x00100313, 0x0062a023, 0x0142a383, 0xfff38393, 0x0072a223, 0x0062a423, 0x00150513,
-    0x00200313, 0x0062a423, 0x00c2a403, 0x00100493, 0xfc940ae3, 0x00a2a023, 0x00500313, 0x0062a423,
-];
-
-// How the grandchild of a machine ends.
-fn end_of_grandchild<R: Wait>(rt: &R, alloc: Global, vm: &mut Vm) -> Result<Ending, Fail> {
-    let depot = Depot::new(alloc)?;
-    let mut child = children_of(rt, alloc, vm, &depot)?.pop().ok_or("no child")?;
-    let mut grandchild = children_of(rt, alloc, &mut child, &depot)?
-        .pop()
-        .ok_or("no grandchild")?;
-    end_of(&mut grandchild)
-}
-
-#[test]
-fn a_child_has_a_child(rt: HostRuntime) -> Result<(), Fail> {
-    let mut vm = booted(rt.alloc(), &GENERATIONS, b"", 1000, 2)?;
-    let ending = end_of_grandchild(&rt, rt.alloc(), &mut vm)?;
-    assert_eq!(rt; ending, Ending::Exit(3));
-    assert_eq!(rt; end_of(&mut vm)?, Ending::Exit(1));
     Ok(())
 }

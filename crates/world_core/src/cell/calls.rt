@@ -53,9 +53,10 @@ impl Cell {
         self.broods.insert(ticket, brood)?;
         match vm.freeze_child(rt, alloc, depot) {
             Ok(young) => {
-                if let Some(brood) = self.broods.get_mut(&ticket) {
-                    brood.young = Some(young);
-                }
+                let Some(brood) = self.broods.get_mut(&ticket) else {
+                    unreachable!();
+                };
+                brood.young = Some(young);
                 Ok(())
             }
             Err(error) => {
@@ -79,15 +80,16 @@ impl Cell {
         ensures place { (self.new.state ≡ self.old.state) × (self.new.is_listed ≡ self.old.is_listed) }
     {
         let Some(brood) = self.broods.get(&ticket) else {
-            return Ok(());
+            unreachable!();
         };
         let endings = brood.endings(alloc)?;
         self.log
             .reserve(brood.line_count().saturating_add(self.broods.len()))?;
         vm.joined(&endings)?;
-        if let Some(brood) = self.broods.remove(&ticket) {
-            brood.into_log(&mut self.log);
-        }
+        let Some(brood) = self.broods.remove(&ticket) else {
+            unreachable!();
+        };
+        brood.into_log(&mut self.log);
         Ok(())
     }
 
@@ -101,9 +103,10 @@ impl Cell {
         ensures place { (self.new.state ≡ self.old.state) × (self.new.is_listed ≡ self.old.is_listed) }
     {
         vm.killed();
-        if let Some(brood) = self.broods.remove(&ticket) {
-            self.log.push_reserved(brood.into_line(ticket));
-        }
+        let Some(brood) = self.broods.remove(&ticket) else {
+            unreachable!();
+        };
+        self.log.push_reserved(brood.into_line(ticket));
     }
 
     /// What a machine that has ended leaves. The tickets that it had cloned are killed.

@@ -39,6 +39,7 @@ impl World {
             unreachable!();
         };
         let Some(cell) = self.cells.get_mut(lease.name()) else {
+            lease.discard();
             return Placed::Dropped;
         };
         let Ok(name) = lease.name().copy(alloc) else {
@@ -79,6 +80,7 @@ impl World {
             unreachable!();
         };
         let Some(cell) = self.cells.get_mut(lease.name()) else {
+            lease.discard();
             return Placed::Dropped;
         };
         let Lease {
@@ -114,9 +116,15 @@ impl World {
             unreachable!();
         };
         let Some(cell) = self.cells.get_mut(lease.name()) else {
+            lease.discard();
             return Placed::Dropped;
         };
-        let Lease { turn, mut vm, .. } = lease;
+        let Lease {
+            turn,
+            mut vm,
+            ran: _,
+            start: _,
+        } = lease;
         cell.kill(&mut vm, ticket);
         drop_below(&mut self.cells, &turn.name, ticket);
         self.place(turn, vm)

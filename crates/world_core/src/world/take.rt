@@ -123,12 +123,25 @@ impl World {
         }
         let mut parent = name.copy(alloc)?;
         let Some((ticket, index)) = parent.pop() else {
-            return Ok(None);
+            unreachable!();
         };
-        if self.asleep_from(&parent, ticket, index) != Some(index) {
+        if !self.is_asleep(&parent, ticket, index) {
             return Ok(None);
         }
         Ok(Some(self.wake(alloc, depot, &parent, ticket, index)?))
+    }
+
+    /// Whether a child is still a descriptor.
+    fn is_asleep(&self, parent: &Name, ticket: u32, index: u32) -> bool
+        ensures { (depot : Shelves) (t : Tree (Spot Machine)) → ShowsCells depot self.now.cells t → result ≡ sleeps parent.now ticket index t }
+    {
+        let Some(cell) = self.cells.get(parent) else {
+            return false;
+        };
+        match cell.broods.get(&ticket) {
+            Some(brood) => brood.is_asleep(index),
+            None => false,
+        }
     }
 
     /// The first child of a ticket, from one on, that is still a descriptor.
@@ -168,9 +181,7 @@ impl World {
         let Some(cell) = self.cells.get(parent) else {
             unreachable!();
         };
-        let Some(vm) = cell.woken(alloc, depot, ticket, index)? else {
-            unreachable!();
-        };
+        let vm = cell.woken(alloc, depot, ticket, index)?;
         let vm = Box::new(alloc, vm)?;
         self.cells.insert(name, Cell::of_lent(alloc, &vm))?;
         let Some(cell) = self.cells.get_mut(parent) else {

@@ -1,10 +1,7 @@
-use Rattle.std.proofs.Common.{rules, ◌≡◌, not, refl, sym, ap, ◌∙◌, subst}
+use Rattle.std.proofs.Common.{rules, ◌≡◌, refl, sym, subst}
 use Rattle.std.specs.List.{filter}
 use Rattle.std.proofs.lemmas.Map.Made.{filter_same_pairs}
-use Rattle.forest_tree.specs.Tree.{Path}
-use Rattle.run_report.specs.NameOrder.{path_cmp}
 use Rattle.run_report.proofs.NameMaps.{equal-same}
-use Rattle.world_core.specs.declared.cell.Cell.{Cell}
 use Rattle.world_core.specs.Between.{TakesOut}
 use Rattle.world_core.proofs.Leaving.{is_kept, taken-all, taken-alone}
 use Rattle.world_core.proofs.world.take_out.Goals as goal

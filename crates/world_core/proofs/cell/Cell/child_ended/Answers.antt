@@ -3,43 +3,40 @@ use Rattle.world_core.proofs.SlotChanges.{no-brood-no-child, child-place}
 use Rattle.world_core.proofs.SlotEnds.{some-live, ended-shows, ended-unparks, ended-ready, unparked-ready}
 use Rattle.world_core.proofs.cell.Cell.child_ended.Goals as goal
 
-pub returns-in_err-brood-clause-shows : goal.returns-in_err-brood-clause-shows
-returns-in_err-brood-clause-shows c depot path t a b h found is told said =
-    absurd (no-brood-no-child depot path c.args.self.now t a c.args.ticket c.args.index h.holds found (sym c.in_err-brood.ensures.value))
-
-pub returns-in_err-brood-clause-ready : goal.returns-in_err-brood-clause-ready
-returns-in_err-brood-clause-ready c depot path t a b h found is told ready =
-    absurd (no-brood-no-child depot path c.args.self.now t a c.args.ticket c.args.index h.holds found (sym c.in_err-brood.ensures.value))
+pub unreachable-requires : goal.unreachable-requires
+unreachable-requires c =
+    let r = c.requires in
+    no-brood-no-child r.0 r.1 c.args.self.now r.2 r.3 c.args.ticket c.args.index r.4.holds r.5 (sym c.in_default.ensures.value)
 
 pub overflow_sub-index : goal.overflow_sub-index
 overflow_sub-index c =
     let r = c.requires in
-    (child-place r.0 r.1 c.args.self.now r.2 r.3 c.args.ticket c.args.index c.in_ok-brood.brood.now r.4.holds r.5 (sym c.in_ok-brood.ensures.value)).0
+    (child-place r.0 r.1 c.args.self.now r.2 r.3 c.args.ticket c.args.index c.in-Some.brood.now r.4.holds r.5 (sym c.in-Some.ensures.value)).0
 
 pub index_mut-requires : goal.index_mut-requires
 index_mut-requires c =
     let r = c.requires in
-    (child-place r.0 r.1 c.args.self.now r.2 r.3 c.args.ticket c.args.index c.in_ok-brood.brood.now r.4.holds r.5 (sym c.in_ok-brood.ensures.value)).1
+    (child-place r.0 r.1 c.args.self.now r.2 r.3 c.args.ticket c.args.index c.in-Some.brood.now r.4.holds r.5 (sym c.in-Some.ensures.value)).1
 
 pub overflow_sub-brood : goal.overflow_sub-brood
 overflow_sub-brood c =
     let r = c.requires in
-    some-live r.0 r.1 c.args.ticket c.args.index c.args.self.now c.in_ok-brood.brood.now r.2 r.3 r.4.holds r.5 r.6 (sym c.in_ok-brood.ensures.value)
+    some-live r.0 r.1 c.args.ticket c.args.index c.args.self.now c.in-Some.brood.now r.2 r.3 r.4.holds r.5 r.6 (sym c.in-Some.ensures.value)
 
 pub returns-then-brood-gt0-clause-shows : goal.returns-then-brood-gt0-clause-shows
 returns-then-brood-gt0-clause-shows c depot path t a b h found is told said =
-    ended-shows depot path c.args.ticket c.args.index c.args.self.now _ c.in_ok-brood.brood.now c.args.outcome t a b h found is told said
-    (sym c.in_ok-brood.ensures.value) (c.get_mut.follows.holds _) c.if-brood-gt0.true
+    ended-shows depot path c.args.ticket c.args.index c.args.self.now _ c.in-Some.brood.now c.args.outcome t a b h found is told said
+    (sym c.in-Some.ensures.value) (c.get_mut.follows.holds _) c.if-brood-gt0.true
 
 pub returns-then-brood-gt0-clause-ready : goal.returns-then-brood-gt0-clause-ready
 returns-then-brood-gt0-clause-ready c depot path t a b h found is told ready =
-    inl (ended-ready depot path c.args.ticket c.args.index c.args.self.now c.in_ok-brood.brood.now c.args.outcome t a b h found is told
-    (sym c.in_ok-brood.ensures.value) c.if-brood-gt0.true ready)
+    inl (ended-ready depot path c.args.ticket c.args.index c.args.self.now c.in-Some.brood.now c.args.outcome t a b h found is told
+    (sym c.in-Some.ensures.value) c.if-brood-gt0.true ready)
 
 pub returns-clause-shows : goal.returns-clause-shows
 returns-clause-shows c depot path t a b h found is told said =
-    ended-unparks depot path c.args.ticket c.args.index c.args.self.now c.unpark.new.self _ c.in_ok-brood.brood.now c.args.outcome t a b h found is told said
-    (sym c.in_ok-brood.ensures.value) (c.get_mut.follows.holds _) (omega (arith, c.if-brood-gt0.false)) c.unpark.ensures.state c.unpark.ensures.rest.0
+    ended-unparks depot path c.args.ticket c.args.index c.args.self.now c.unpark.new.self _ c.in-Some.brood.now c.args.outcome t a b h found is told said
+    (sym c.in-Some.ensures.value) (c.get_mut.follows.holds _) (omega (arith, c.if-brood-gt0.false)) c.unpark.ensures.state c.unpark.ensures.rest.0
     c.unpark.ensures.rest.1
 
 pub returns-clause-ready : goal.returns-clause-ready

@@ -7,19 +7,20 @@ use Rattle.world_core.proofs.Broods.{killed_after, killed_there}
 use Rattle.world_core.proofs.LogKilled.{broods_fit}
 use Rattle.world_core.proofs.cell.Cell.kill.Goals as goal
 
+pub unreachable-requires : goal.unreachable-requires
+unreachable-requires c =
+    let h = c.requires.holds in
+    killed_there h.0 h.1 c.args.vm.now c.args.ticket c.args.self.now h.2 (sym c.in_default.ensures.value) h.3 h.4
+
 pub into_line-requires : goal.into_line-requires
 into_line-requires c =
     let h = c.requires.holds in
     subst (λ (o : Option Brood). IfSome o (λ b. vec_len b.slots < 2 ^ 32)) (sym c.in-Some.ensures.value) (broods_fit h.1 c.args.self.now h.2 h.3.tallies c.args.ticket)
 
-pub returns-in-Some-clause-after : goal.returns-in-Some-clause-after
-returns-in-Some-clause-after c = λ t depot path h at.
+pub returns-clause-after : goal.returns-clause-after
+returns-clause-after c = λ t depot path h at.
     let old = c.args.self.now in
     let new : Cell = record old { broods = c.remove.new.self; log = c.push_reserved.new.self } in
     killed_after depot path c.args.vm.now c.args.ticket old new c.in-Some.brood (sym c.in-Some.ensures.value) c.remove.ensures.updates.0
     (omega (arith, h.tallies.room, c.in-Some.ensures.len, c.push_reserved.ensures.len, c.push_reserved.ensures.capacity)) t
     (c.push_reserved.ensures.items ∙ ap (λ (line : Line). old.log.items ++ line ∷ []) c.into_line.ensures) h at
-
-pub returns-in_default-clause-after : goal.returns-in_default-clause-after
-returns-in_default-clause-after c = λ t depot path h at.
-    absurd (killed_there depot path c.args.vm.now c.args.ticket c.args.self.now t (sym c.in_default.ensures.value) h at)

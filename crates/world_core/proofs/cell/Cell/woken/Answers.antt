@@ -1,11 +1,12 @@
-use Rattle.std.proofs.Common.{◌-◌, ◌<◌, length, Some, refl, sym, ap, ◌∙◌, subst}
+use Rattle.std.proofs.Common.{◌≡◌, ◌-◌, ◌<◌, length, refl, sym, subst, IfOk}
 use Rattle.std.proofs.lemmas.Option.{slice_get_within, slice_get_read}
 use Rattle.world_core.proofs.SlotChanges.{no-brood-no-child, sleepers-seed, wakes-to}
 use Rattle.world_core.proofs.cell.Cell.woken.Goals as goal
 
-pub returns-in_default : goal.returns-in_default
-returns-in_default c path t a h found asleep lives =
-    absurd (no-brood-no-child c.args.depot.now path c.args.self.now t a c.args.ticket c.args.index h found (sym c.in_default.ensures.value))
+pub unreachable-requires : goal.unreachable-requires
+unreachable-requires c =
+    let r = c.requires in
+    no-brood-no-child c.args.depot.now r.0 c.args.self.now r.1 r.2 c.args.ticket c.args.index r.3 r.4 (sym c.in_default.ensures.value)
 
 pub overflow_sub-index : goal.overflow_sub-index
 overflow_sub-index c =
@@ -38,4 +39,4 @@ returns c path t a h found asleep lives =
     let within : c.args.index - 1 < length young.seeds.items = slice_get_within young.seeds.items (c.args.index - 1) at.seed at.seed_at in
     let wakes = wakes-to c.args.depot.now c.args.index young a c.index-seed.result.now at
     (slice_get_read young.seeds.items (length young.seeds.items) (c.args.index - 1) c.index-seed.result.now refl within c.index-seed.ensures) in
-    ap Some (c.in_ok-wake.ensures ∙ sym wakes.1)
+    subst (λ m. IfOk c.wake.result (λ vm. vm ≡ m)) (sym wakes.1) c.wake.ensures

@@ -1,4 +1,4 @@
-use Rattle.std.proofs.Common.{◌≡◌, sym, ap, ◌∙◌, subst}
+use Rattle.std.proofs.Common.{sym, ap, ◌∙◌, subst}
 use Rattle.forest_history.specs.Rows.{ended}
 use Rattle.world_core.specs.Lent.{Lent}
 use Rattle.world_core.specs.Turns.{turn_of}
@@ -12,11 +12,11 @@ finish-requires-clause-between c =
     let lease : Lent = record { name = (turn_of i.turn.value).name; start = i.start.value; ran = i.ran; now = i.vm.value } in
     back-wanted c.args.self.now lease c.lease.invariant.0 (subst (HandedOut c.args.self.now) (sym c.lease.view_is) c.requires.lent)
 
-pub returns-in-Some : goal.returns-in-Some
-returns-in-Some c depot f stands out_as =
+pub returns : goal.returns
+returns c depot f stands out_as =
     let i = c.lease.inside in
     let lease : Lent = record { name = (turn_of i.turn.value).name; start = i.start.value; ran = i.ran; now = i.vm.value } in
     subst (λ l. Answers depot f ended l c.finish.result c.finish.new.self) c.lease.view_is
     (ended-answers depot c.args.self.now f lease c.lease.invariant.0 stands (subst (IsHandedOut f) (sym c.lease.view_is) out_as) c.finish.result
-    c.finish.new.self c.finish.ensures.gone c.in-Some.ending (sym (ap (λ m. m.ending) c.deref.ensures) ∙ sym c.ended.ensures ∙ c.in-Some.is)
+    c.finish.new.self c.finish.ensures.gone c.in-Some.ending (sym (ap (λ m. m.ending) c.deref.ensures) ∙ sym c.ended.ensures.ending ∙ c.in-Some.is)
     (c.finish.ensures.finished depot f))

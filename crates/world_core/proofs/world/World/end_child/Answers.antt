@@ -1,6 +1,6 @@
-use Rattle.std.proofs.Common.{◌≡◌, ◌∷◌, true, Some, None, refl, sym, ap, ◌∙◌, subst}
+use Rattle.std.proofs.Common.{◌≡◌, ◌∷◌, true, Some, sym, ◌∙◌, subst}
 use Rattle.std.specs.BTreeMap.{get}
-use Rattle.std.specs.Option.{IfSome}
+use Rattle.std.specs.Option.{IsSomeAnd}
 use Rattle.boxcar.specs.Table.{Shelves}
 use Rattle.forest_tree.specs.Tree.{Tree, Branch}
 use Rattle.forest_history.specs.Places.{Spot}
@@ -14,23 +14,15 @@ use Rattle.world_core.specs.Shows.{CellShows, IsAwake, child_of}
 use Rattle.world_core.specs.World.{StandsFor}
 use Rattle.world_core.specs.Between.{with_tree}
 use Rattle.world_core.proofs.Ready.{IsListed-more, IsListed-first, IsCovered-more}
-use Rattle.world_core.proofs.Leaving.{end-child, if-some-is, leave-none}
+use Rattle.world_core.proofs.Leaving.{end-child, if-some-is}
 use Rattle.world_core.proofs.world.World.end_child.Goals as goal
-
-pub returns-in_default : goal.returns-in_default
-returns-in_default c depot f b leaving left sound =
-    let x : Branch = record { ticket = c.args.ticket; child = c.args.index } in
-    let w = c.args.self.now in
-    leave-none depot w f c.args.parent.now x b c.args.outcome leaving left (record w { cells = c.get_mut.follows.lender-at-none })
-    (sym c.in_default.ensures.value) sound refl refl
-    (λ n. ap (λ m. get path_cmp m n) c.get_mut.follows.holds-at-none) refl
 
 pub push-requires : goal.push-requires
 push-requires c =
     let parent = c.args.parent.now in
     let Known : Cell → Type 0 = λ cell. (depot : Shelves) × (t a : Tree (Spot Machine))
     × CellShows depot parent cell t × (child_of c.args.ticket c.args.index t ≡ Some a) × IsAwake a in
-    let known = if-some-is (get path_cmp c.args.self.now.cells parent) c.in-Some.cell.now Known c.in-Some.ensures.value c.requires in
+    let known = subst (λ o. IsSomeAnd o Known) (sym c.in-Some.ensures.value) c.requires in
     (c.in-Some-child_ended.ensures.turn known.0 parent known.1 known.3).0
 
 pub returns-in-Some-child_ended : goal.returns-in-Some-child_ended

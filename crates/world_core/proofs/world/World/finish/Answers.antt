@@ -1,10 +1,10 @@
-use Rattle.std.proofs.Common.{◌≡◌, ◌++◌, ◌∷◌, [], Some, refl, sym, ap, ◌∙◌, subst}
+use Rattle.std.proofs.Common.{◌≡◌, refl, sym, ap, ◌∙◌, subst}
 use Rattle.std.specs.BTreeMap.{BTreeMap, get}
 use Rattle.std.specs.Option.{IfSome}
 use Rattle.boxcar.specs.Table.{Shelves}
 use Rattle.forest_tree.specs.Tree.{Tree, Branch, Path, machine}
 use Rattle.forest_tree.specs.Sound.{IsSound}
-use Rattle.forest_history.specs.Places.{at_path, Spot, home, placed}
+use Rattle.forest_history.specs.Places.{Spot, home, placed}
 use Rattle.forest_model.specs.Machine.{Machine}
 use Rattle.run_report.specs.Name.{child_path}
 use Rattle.run_report.specs.NameOrder.{path_cmp}

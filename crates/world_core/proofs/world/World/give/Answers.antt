@@ -1,5 +1,4 @@
 use Rattle.std.proofs.Common.{◌≡◌, None, is_some, sym, ap, ◌∙◌, subst}
-use Rattle.fork_port.specs.declared.ending.Ending.{Ending}
 use Rattle.forest_tree.proofs.Rests.{lives-none}
 use Rattle.world_core.specs.Lent.{Lent}
 use Rattle.world_core.specs.Turns.{turn_of}

@@ -1,4 +1,4 @@
-use Rattle.std.proofs.Common.{◌≡◌, Bool, true, Some, refl, sym, ap, ◌∙◌, subst}
+use Rattle.std.proofs.Common.{◌≡◌, Bool, true, refl, sym, ap, ◌∙◌, subst}
 use Rattle.std.specs.BTreeMap.{WritesThrough, get_by}
 use Rattle.std.specs.Option.{IfSome}
 use Rattle.forest_tree.specs.Tree.{Path}

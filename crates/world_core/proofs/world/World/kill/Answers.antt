@@ -1,4 +1,4 @@
-use Rattle.std.proofs.Common.{◌≡◌, Some, sym, ap, ◌∙◌, subst}
+use Rattle.std.proofs.Common.{Some, sym, ap, ◌∙◌, subst}
 use Rattle.std.specs.BTreeMap.{WritesThrough, get_by}
 use Rattle.fork_port.specs.declared.commands.Call.TheVariants.{Kill}
 use Rattle.forest_tree.specs.Operations.{kill}

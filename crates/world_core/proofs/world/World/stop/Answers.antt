@@ -1,4 +1,4 @@
-use Rattle.std.proofs.Common.{◌≡◌, not, ap, ◌∙◌}
+use Rattle.std.proofs.Common.{not, ap, ◌∙◌}
 use Rattle.forest_history.specs.Rows.{first_reason, does}
 use Rattle.world_core.proofs.Returns.{stopped-first, stopped-kept, stands-halted}
 use Rattle.world_core.proofs.world.World.stop.Goals as goal

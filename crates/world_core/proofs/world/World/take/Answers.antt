@@ -1,4 +1,4 @@
-use Rattle.std.proofs.Common.{◌≡◌, ◌∷◌, suc, ◌<◌, length, refl, sym, ap, ◌∙◌, subst, arith}
+use Rattle.std.proofs.Common.{◌≡◌, suc, ◌<◌, length, sym, ap, subst, arith}
 use Rattle.std.specs.Option.{IfNone}
 use Rattle.world_core.specs.Turns.{turn_of}
 use Rattle.world_core.proofs.Taking.{over-goes, stopped-goes, idle-goes, none-some, with-popped, goes-on}

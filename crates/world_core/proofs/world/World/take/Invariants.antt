@@ -1,4 +1,4 @@
-use Rattle.std.proofs.Common.{ℕ, length}
+use Rattle.std.proofs.Common.{length}
 use Rattle.world_core.proofs.Taking.{IsTaking}
 use Rattle.world_core.proofs.world.World.take.Given as goal
 

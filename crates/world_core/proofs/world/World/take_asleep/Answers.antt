@@ -1,16 +1,13 @@
-use Rattle.std.proofs.Common.{◌≡◌, ◌≢◌, ℕ, true, [], ◌∷◌, None, Some, is_some, refl, sym, ap, ◌∙◌, subst}
-use Rattle.std.specs.Option.{IfSome}
+use Rattle.std.proofs.Common.{◌≡◌, ◌≢◌, ℕ, true, [], ◌∷◌, None, Some, is_some, sym, ap, ◌∙◌, subst}
 use Rattle.std.specs.BTreeMap.{get}
-use Rattle.forest_tree.specs.Tree.{Tree, Path}
-use Rattle.forest_history.specs.Places.{at_path, out, placed, Spot}
-use Rattle.forest_model.specs.Machine.{Machine}
+use Rattle.forest_tree.specs.Tree.{Path}
+use Rattle.forest_history.specs.Places.{at_path, out, placed}
 use Rattle.run_report.specs.Name.{child_path}
 use Rattle.run_report.specs.NameOrder.{path_cmp}
 use Rattle.world_core.specs.declared.turns.Turn.{Turn, Turn-F, out-Turn, roll-Turn}
 use Rattle.world_core.specs.declared.world.World.{World}
 use Rattle.world_core.specs.Turns.{turn_of, turns_from}
-use Rattle.world_core.specs.World.{StandsFor}
-use Rattle.world_core.specs.Popped.{IsFirstAsleep, ShowsCells, TakesBy, sleeps, with_turn}
+use Rattle.world_core.specs.Popped.{IsFirstAsleep, ShowsCells, TakesBy, sleeps}
 use Rattle.world_core.proofs.Taking.{before-children, spent-turn, child-taken, child-kept, children_turn, rolled_turn}
 use Rattle.world_core.proofs.world.World.take_asleep.Goals as goal
 

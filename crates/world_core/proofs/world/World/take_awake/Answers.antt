@@ -1,4 +1,4 @@
-use Rattle.std.proofs.Common.{refl, sym, ap, ◌∙◌, subst}
+use Rattle.std.proofs.Common.{sym, ap, ◌∙◌, subst}
 use Rattle.std.specs.BTreeMap.{WritesThrough, get, get_by}
 use Rattle.run_report.specs.NameOrder.{path_cmp}
 use Rattle.forest_tree.specs.Tree.{Path}

@@ -1,15 +1,14 @@
-use Rattle.std.proofs.Common.{◌≡◌, ◌≢◌, ℕ, true, false, [], ◌∷◌, None, Some, is_some, refl, sym, ap, ◌∙◌, subst}
-use Rattle.std.specs.BTreeMap.{WritesThrough, get}
+use Rattle.std.proofs.Common.{◌≡◌, ℕ, true, None, refl, sym, ap, ◌∙◌, subst}
+use Rattle.std.specs.BTreeMap.{get}
 use Rattle.forest_tree.specs.Tree.{Path}
 use Rattle.run_report.specs.Name.{child_path}
 use Rattle.run_report.specs.NameOrder.{path_cmp}
 use Rattle.world_core.specs.declared.world.World.{World}
-use Rattle.world_core.specs.Lent.{Lent}
 use Rattle.world_core.specs.Waiting.{Waiting}
 use Rattle.world_core.specs.Popped.{ShowsCells, sleeps}
 use Rattle.world_core.specs.Turns.{turn_of}
 use Rattle.world_core.specs.World.{StandsFor}
-use Rattle.world_core.proofs.Taking.{over-nobody, not-found, is-found, none-some, stands-same, rewritten, named-error, named-idle, named-taken, root-cell, before-named, not-first-asleep, sleeps-first, named-woken}
+use Rattle.world_core.proofs.Taking.{over-nobody, none-some, stands-same, rewritten, named-error, named-idle, named-taken, root-cell, before-named, no_cell-home, named-woken}
 use Rattle.world_core.proofs.world.World.take_named.Goals as goal
 
 pub returns-then-is_some : goal.returns-then-is_some
@@ -50,30 +49,20 @@ returns-in-Some c = λ f h.
     c.in-Some.ensures.value (c.get_mut.follows.lender lent) lent (c.get_mut.follows.holds lent) c.new.result m is c.in-Some-lend_named.ensures.place
     (c.in-Some-lend_named.ensures.shows c.args.depot.now c.args.name.now)
 
-pub returns-in_default-pop : goal.returns-in_default-pop
-returns-in_default-pop c = λ f h.
-    absurd
-    (root-cell c.args.depot.now c.args.self.now f c.args.name.now h (none-some c.args.self.now.outcome (sym c.if-is_some.ensures)) c.in_default.ensures.value
-    (sym c.in_ok-parent.ensures ∙ c.in_default-pop.ensures.0))
+pub unreachable-requires : goal.unreachable-requires
+unreachable-requires c =
+    let r = c.requires in
+    root-cell c.args.depot.now c.args.self.now r.0 c.args.name.now r.1 (none-some c.args.self.now.outcome (sym c.if-is_some.ensures)) c.in_default.ensures.value
+    (sym c.in_ok-parent.ensures ∙ c.in_default-pop.ensures.0)
 
-pub asleep_from-requires : goal.asleep_from-requires
-asleep_from-requires c =
-    let r = c.requires in (
-      c.args.depot.now,
-      r.0.tree,
-      subst (λ cells. ShowsCells c.args.depot.now cells r.0.tree) (sym c.get_mut.follows.holds-at-none)
-          (before-named c.args.depot.now c.args.self.now r.0 c.args.name.now r.1 (none-some c.args.self.now.outcome (sym c.if-is_some.ensures))),
-    )
-
-pub returns-then-ne : goal.returns-then-ne
-returns-then-ne c = λ f h.
+pub returns-then-not-is_asleep : goal.returns-then-not-is_asleep
+returns-then-not-is_asleep c = λ f h.
     let depot = c.args.depot.now in
     let same = sym c.get_mut.follows.holds-at-none in
     let going = none-some c.args.self.now.outcome (sym c.if-is_some.ensures) in
     let before = subst (λ cells. ShowsCells depot cells f.tree) same (before-named depot c.args.self.now f c.args.name.now h going) in (
-      not-first-asleep depot c.args.self.now f c.args.name.now h going c.in_default.ensures.value c.pop.new.self c.in-Some-pop.ticket c.in-Some-pop.index
-          (sym c.in_ok-parent.ensures ∙ c.in-Some-pop.ensures) c.asleep_from.result (not-found c.asleep_from.result c.in-Some-pop.index c.if-ne.ensures)
-          (c.asleep_from.ensures depot f.tree before),
+      no_cell-home depot c.args.self.now f c.args.name.now h going c.in_default.ensures.value c.pop.new.self c.in-Some-pop.ticket c.in-Some-pop.index
+          (sym c.in_ok-parent.ensures ∙ c.in-Some-pop.ensures) (sym (c.is_asleep.ensures depot f.tree before) ∙ c.if-not-is_asleep.true),
       subst (λ cells. StandsFor depot (record c.args.self.now { cells = cells }) f) same h,
     )
 
@@ -86,9 +75,7 @@ wake-requires c =
     let before = subst (λ cells. ShowsCells depot cells r.0.tree) same (before-named depot c.args.self.now r.0 c.args.name.now r.1 going) in (
       r.0.tree,
       before,
-      sleeps-first depot c.args.self.now r.0 c.args.name.now r.1 going c.in_default.ensures.value c.pop.new.self c.in-Some-pop.ticket c.in-Some-pop.index
-          (sym c.in_ok-parent.ensures ∙ c.in-Some-pop.ensures) c.asleep_from.result (is-found c.asleep_from.result c.in-Some-pop.index c.if-ne.ensures)
-          (c.asleep_from.ensures depot r.0.tree before),
+      sym (c.is_asleep.ensures depot r.0.tree before) ∙ c.if-not-is_asleep.false,
     )
 
 pub returns : goal.returns
@@ -105,8 +92,7 @@ returns c = λ f h.
     let none : None ≡ get path_cmp w.cells c.args.name.now = c.in_default.ensures.value ∙ ap (λ cells. get path_cmp cells c.args.name.now) same in
     let before = before-named depot w f c.args.name.now stands going in
     let asleep : sleeps parent ticket index f.tree ≡ true
-    = sleeps-first depot w f c.args.name.now stands going none parent ticket index named c.asleep_from.result
-    (is-found c.asleep_from.result index c.if-ne.ensures) (c.asleep_from.ensures depot f.tree before) in
+    = sym (c.is_asleep.ensures depot f.tree before) ∙ c.if-not-is_asleep.false in
     let woke = c.in_ok-wake.ensures in
     named-woken depot w f c.args.name.now stands going none parent ticket index named c.wake.new.self c.in_ok-wake.field-0 asleep woke.lease.0 woke.lease.1
     woke.lease.2 (woke.start f.tree before asleep) (woke.cells f.tree before asleep) woke.listed woke.others woke.rest.0 woke.rest.1 woke.rest.2

@@ -1,4 +1,4 @@
-use Rattle.std.proofs.Common.{◌≡◌, None, Some, refl, sym, ap, ◌∙◌, subst}
+use Rattle.std.proofs.Common.{◌≡◌, None, Some, sym, ap, ◌∙◌, subst}
 use Rattle.std.specs.Option.{IfSome}
 use Rattle.std.specs.BTreeMap.{Updates, WritesThrough, get}
 use Rattle.forest_tree.specs.Tree.{Tree, Path, machine, subtree}
@@ -24,12 +24,6 @@ woken-requires c =
     let s = sleeper-of c.args.depot.now c.args.self.now.cells c.args.parent.now c.args.ticket c.args.index r.0 r.1 r.2 c.in-Some.cell.now c.in-Some.ensures.value in
     (c.args.parent.now, s.above, s.child, s.shows.holds, s.is_child, s.asleep, s.lives)
 
-pub unreachable-requires-in_default-2 : goal.unreachable-requires-in_default-2
-unreachable-requires-in_default-2 c =
-    let r = c.requires in
-    let s = sleeper-of c.args.depot.now c.args.self.now.cells c.args.parent.now c.args.ticket c.args.index r.0 r.1 r.2 c.in-Some.cell.now c.in-Some.ensures.value in
-    c.in_default-2.not-Some _ (c.in_ok-vm.ensures c.args.parent.now s.above s.child s.shows.holds s.is_child s.asleep s.lives)
-
 pub child_wakes-requires : goal.child_wakes-requires
 child_wakes-requires c =
     let found : Some c.in-Some-get_mut.cell.now ≡ get path_cmp c.insert.new.self c.args.parent.now = c.in-Some-get_mut.ensures.value in
@@ -44,16 +38,13 @@ pub returns-clause-start : goal.returns-clause-start
 returns-clause-start c = λ t h is.
     let path : Path = child_path c.args.parent.now c.args.ticket c.args.index in
     let s = sleeper-of c.args.depot.now c.args.self.now.cells c.args.parent.now c.args.ticket c.args.index t h is c.in-Some.cell.now c.in-Some.ensures.value in
-    let woke : c.in_ok-vm.field-0 ≡ Some (machine s.child).machine
-    = c.in_ok-vm.ensures c.args.parent.now s.above s.child s.shows.holds s.is_child s.asleep s.lives in
+    let woke : c.in_ok-vm.vm ≡ (machine s.child).machine = c.in_ok-vm.ensures c.args.parent.now s.above s.child s.shows.holds s.is_child s.asleep s.lives in
     let lent : c.new-2.result
     ≡ record { name = (turn_of c.in_ok-turn.turn.value).name; start = c.in_ok-vm-2.vm.value; ran = 0; now = c.in_ok-vm-2.vm.value } = c.new-2.ensures in
     let turn : turn_of c.in_ok-turn.turn.value ≡ record { name = c.in_ok-copy.field-0; children = None } = c.in_ok-turn.ensures.value in
     let copied : c.in_ok-copy.field-0 ≡ c.in_ok-name.name = c.in_ok-copy.ensures in
     let named : (turn_of c.in_ok-turn.turn.value).name ≡ path = ap (λ (w : Waiting). w.name) turn ∙ copied ∙ c.in_ok-name.ensures in
-    let is_vm : c.in_ok-vm.field-0 ≡ Some c.in-Some-2.vm = c.in-Some-2.is in
-    let same : (machine s.child).machine ≡ c.in_ok-vm-2.vm.value
-    = sym (woken-machine c.in_ok-vm.field-0 c.in-Some-2.vm (subtree path t) s.child s.child is_vm woke s.there s.there) ∙ sym c.in_ok-vm-2.ensures.ok in
+    let same : (machine s.child).machine ≡ c.in_ok-vm-2.vm.value = sym woke ∙ sym c.in_ok-vm-2.ensures.ok in
     subst (λ (l : Lent). IfSome (subtree l.name t) (λ (a : Tree (Spot Machine)). (machine a).machine ≡ l.start)) (sym lent)
     (subst (λ n. IfSome (subtree n t) (λ (a : Tree (Spot Machine)). (machine a).machine ≡ c.in_ok-vm-2.vm.value)) (sym named)
     (subst (λ o. IfSome o (λ (a : Tree (Spot Machine)). (machine a).machine ≡ c.in_ok-vm-2.vm.value)) (sym s.there) same))
@@ -71,12 +62,11 @@ returns-clause-cells c = λ t h is.
     let old = old-parent cells mid c.args.parent.now c.args.ticket c.args.index c.in_ok-name.name c.of_lent.result cell c.in_ok-name.ensures inserted found in
     let s = sleeper-of c.args.depot.now cells c.args.parent.now c.args.ticket c.args.index t h is cell old in
     let first = sleeper-of c.args.depot.now cells c.args.parent.now c.args.ticket c.args.index t h is c.in-Some.cell.now c.in-Some.ensures.value in
-    let woke : c.in_ok-vm.field-0 ≡ Some (machine first.child).machine
+    let woke : c.in_ok-vm.vm ≡ (machine first.child).machine
     = c.in_ok-vm.ensures c.args.parent.now first.above first.child first.shows.holds first.is_child first.asleep first.lives in
-    let is_vm : c.in_ok-vm.field-0 ≡ Some c.in-Some-2.vm = c.in-Some-2.is in
     let same : c.deref.result.now ≡ (machine s.child).machine
     = c.deref.ensures ∙ c.in_ok-vm-2.ensures.ok
-    ∙ woken-machine c.in_ok-vm.field-0 c.in-Some-2.vm (subtree path t) first.child s.child is_vm woke first.there s.there in
+    ∙ woken-machine c.in_ok-vm.vm (subtree path t) first.child s.child woke first.there s.there in
     let lent = lent-shows c.args.depot.now cells c.args.parent.now c.args.ticket c.args.index t cell c.of_lent.result c.deref.result.now h s same
     c.of_lent.ensures.shows in
     let parent : CellShows c.args.depot.now c.args.parent.now waked (with_child c.args.ticket c.args.index (placed out s.child) s.above)

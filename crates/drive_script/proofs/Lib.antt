@@ -1,0 +1,20 @@
+mod Parts
+mod Numbers
+mod OneByOne
+mod Names
+mod Scripts
+mod Steps
+mod OneMachine
+mod Lined
+mod Runs
+mod Limits
+mod Lent
+mod Whys
+mod Turning
+mod Driving
+mod Stepping
+pub mod Started
+mod WrittenNames
+mod WrittenWords
+mod WrittenLines
+mod Digits

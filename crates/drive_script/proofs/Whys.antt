@@ -1,0 +1,73 @@
+-- Why a machine on lease stops, by what is read of it.
+use Rattle.std.proofs.Common.{◌≡◌, ℕ, ◌&&◌, not, Bool, true, false, refl, sym, ap, Option, Some, None, is_some}
+use Rattle.fork_port.specs.declared.commands.Call.{Call}
+use Rattle.fork_port.specs.declared.commands.Call.TheVariants.{Clone, Join, Kill}
+use Rattle.fork_port.specs.declared.ending.Ending.{Ending}
+use Rattle.forest_tree.specs.Tree.{Tree, node, Broods}
+use Rattle.forest_tree.specs.Settle.{waits_by, waits}
+use Rattle.forest_model.specs.Machine.{Machine, Next, exception, timer_interrupt, plain, call, next}
+use Rattle.forest_model.specs.Forest.{call_of, machines}
+use Rattle.vm_cell.specs.Standing.{standing_from, standing_call}
+use Rattle.world_core.specs.Answers.{join_ticket}
+use Rattle.world_core.proofs.Steps.{standing}
+use Rattle.drive_script.specs.declared.answer.Why.TheVariants.{Ended, Waits, MayGoOn}
+use Rattle.drive_script.specs.Steps.{why}
+use Rattle.drive_script.specs.Turned.{with_machine}
+use Rattle.drive_script.proofs.Runs.{why-ended, why-goes, why-waits}
+
+waits-true : (ending : Option Ending) (waiting : Bool) → true ≡ not (is_some ending) && waiting → waiting ≡ true
+waits-true None waiting h = sym h
+waits-true (Some ending) waiting h = absurd (cc)
+
+waits-false : (ending : Option Ending) (waiting : Bool) → ending ≡ None → false ≡ not (is_some ending) && waiting → waiting ≡ false
+waits-false None waiting lives h = sym h
+waits-false (Some ending) waiting lives h = absurd (cc)
+
+-- it waits at a JOIN alone
+joins-by : (ending : Option Ending) (step : Next) (broods : Broods Machine) → None ≡ join_ticket (standing_from ending step) → ending ≡ None
+    → waits_by machines (call_of step) broods ≡ false
+joins-by None (exception cause value) broods h lives = refl
+joins-by None timer_interrupt broods h lives = refl
+joins-by None plain broods h lives = refl
+joins-by None (call (Clone ticket)) broods h lives = refl
+joins-by None (call (Join ticket)) broods h lives = absurd (cc)
+joins-by None (call (Kill ticket)) broods h lives = refl
+joins-by (Some ending) step broods h lives = absurd (cc)
+
+stands-at : (c : Option Call) (ticket : ℕ) → Some ticket ≡ join_ticket c → c ≡ Some (Join ticket)
+stands-at None ticket h = absurd (cc)
+stands-at (Some (Clone t)) ticket h = absurd (cc)
+stands-at (Some (Join t)) ticket h = ap (λ n. Some (Join n)) (cc)
+stands-at (Some (Kill t)) ticket h = absurd (cc)
+
+module _ (now : Machine) (a : Tree Machine) where
+  pub ends : (ending : Ending) → now.ending ≡ Some ending → Ended ending ≡ why machines (with_machine now a)
+  unfolding machines
+  ends ending over = by a
+    where
+      by : (b : Tree Machine) → Ended ending ≡ why machines (with_machine now b)
+      by (node old broods log) = sym (why-ended machines (node now broods log) ending over)
+
+  pub goes : now.ending ≡ None → false ≡ not (is_some now.ending) && waits machines (with_machine now a) → MayGoOn ≡ why machines (with_machine now a)
+  unfolding machines
+  goes lives ready = by a (waits-false now.ending (waits machines (with_machine now a)) lives ready)
+    where
+      by : (b : Tree Machine) → waits machines (with_machine now b) ≡ false → MayGoOn ≡ why machines (with_machine now b)
+      by (node old broods log) not_waiting = sym (why-goes machines (node now broods log) lives not_waiting)
+
+  pub waits-at : (ticket : ℕ) → Some ticket ≡ join_ticket (standing_call now) → true ≡ not (is_some now.ending) && waits machines (with_machine now a)
+      → Waits ticket ≡ why machines (with_machine now a)
+  unfolding machines
+  waits-at ticket joins waiting = by a (waits-true now.ending (waits machines (with_machine now a)) waiting)
+    where
+      by : (b : Tree Machine) → waits machines (with_machine now b) ≡ true → Waits ticket ≡ why machines (with_machine now b)
+      by (node old broods log) waiting_there =
+          let is = standing now (Join ticket) (stands-at (standing_call now) ticket joins) in
+          sym (why-waits machines (node now broods log) ticket is.0 is.1 waiting_there)
+
+  pub goes-by : now.ending ≡ None → None ≡ join_ticket (standing_call now) → MayGoOn ≡ why machines (with_machine now a)
+  unfolding machines standing_call
+  goes-by lives joins = by a
+    where
+      by : (b : Tree Machine) → MayGoOn ≡ why machines (with_machine now b)
+      by (node old broods log) = sym (why-goes machines (node now broods log) lives (joins-by now.ending (next now) broods joins lives))

@@ -1,0 +1,31 @@
+use Rattle.std.proofs.Common.{Option, Result, Ok, refl, sym, subst}
+use Rattle.std.proofs.lemmas.Result.{err_from_is_err_and}
+use Rattle.std.specs.declared.alloc.AllocError.{AllocError}
+use Rattle.world_core.specs.Answers.{TakesNamed}
+use Rattle.world_core.specs.Lent.{Lent}
+use Rattle.drive_script.specs.declared.answer.Answer.{Answer}
+use Rattle.drive_script.specs.Driven.{DrivesLine}
+use Rattle.drive_script.specs.Script.{peek}
+use Rattle.drive_script.proofs.Driving.{looked, looks-at-none, looks-not, peeks}
+use Rattle.drive_script.proofs.driver.peek.Goals as goal
+
+pub returns-in_err-lease : goal.returns-in_err-lease
+returns-in_err-lease c t h =
+    let exit = err_from_is_err_and c.from_residual.result c.from_residual.ensures.1 in
+    subst (λ (r : Result Answer AllocError). DrivesLine c.args.depot.now (peek c.args.name.now c.args.address) t r c.take_named.new.self) (sym exit.1)
+    (looks-not c.args.depot.now c.args.world.now c.take_named.new.self t (peek c.args.name.now c.args.address) h c.in_err-lease.field-0.0 exit.0
+    (c.in_err-lease.ensures h.forest h.stands))
+
+pub returns-in_default : goal.returns-in_default
+returns-in_default c t h =
+    looks-at-none c.args.depot.now c.args.world.now c.take_named.new.self t (peek c.args.name.now c.args.address) h refl
+    (subst (λ (o : Option Lent). TakesNamed c.args.depot.now h.forest c.args.name.now (Ok o) c.take_named.new.self) c.in_default.is
+    (c.in_ok-lease.ensures h.forest h.stands))
+
+pub returns : goal.returns
+returns c t h =
+    let depot = c.args.depot.now in
+    peeks depot c.give_back.new.world t c.args.name.now c.args.address c.peek-word.result c.in-Some.lease.now c.peek-word.ensures
+    (looked depot c.args.world.now c.take_named.new.self c.give_back.new.world t c.args.name.now h c.in-Some.lease
+    (subst (λ (o : Option Lent). TakesNamed depot h.forest c.args.name.now (Ok o) c.take_named.new.self) c.in-Some.is (c.in_ok-lease.ensures h.forest h.stands))
+    (c.give_back.ensures depot t))

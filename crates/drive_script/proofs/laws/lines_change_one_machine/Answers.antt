@@ -1,0 +1,11 @@
+use Rattle.drive_script.proofs.Lined.{apart, below, gone, logs, others}
+use Rattle.drive_script.proofs.laws.lines_change_one_machine.Goals as goal
+
+pub returns : goal.returns
+returns c = record {
+  others = others;
+  logs = logs;
+  apart = apart;
+  below = below;
+  gone = gone;
+}

@@ -1,0 +1,19 @@
+use Rattle.drive_script.proofs.Lent.{given-back, home-wants-none, lent-handed, taken}
+use Rattle.drive_script.proofs.turn.give_back.Goals as goal
+
+pub give-requires : goal.give-requires
+give-requires c =
+    let h = c.requires.2 in
+    (c.requires.0, (taken c.requires.0 c.args.world.now c.requires.1 c.args.lease h, h.stands, lent-handed c.requires.0 c.args.world.now c.requires.1 c.args.lease h))
+
+pub returns : goal.returns
+returns c depot t h =
+    given-back depot c.args.world.now t c.args.lease h c.give.result c.give.new.self
+    (c.give.ensures depot (taken depot c.args.world.now t c.args.lease h) h.stands (lent-handed depot c.args.world.now t c.args.lease h))
+
+pub unreachable-requires : goal.unreachable-requires
+unreachable-requires c =
+    let h = c.requires.2 in
+    let f = taken c.requires.0 c.args.world.now c.requires.1 c.args.lease h in
+    home-wants-none c.args.lease.now.ending
+    (c.in-Memory.ensures c.requires.0 f h.stands (lent-handed c.requires.0 c.args.world.now c.requires.1 c.args.lease h)).0

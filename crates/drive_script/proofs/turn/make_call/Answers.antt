@@ -1,0 +1,44 @@
+use Rattle.std.proofs.Common.{subst, inl, inr, sym}
+use Rattle.vm_cell.specs.Standing.{standing_call}
+use Rattle.world_core.specs.declared.world.Placed.{Placed}
+use Rattle.drive_script.specs.Turned.{AnswersCall, HasBack, HasLent}
+use Rattle.drive_script.proofs.Lent.{call-dropped, call-kept, call-made, call-parked, lent-handed, some-there, taken}
+use Rattle.drive_script.proofs.turn.make_call.Goals as goal
+
+pub give_back-requires : goal.give_back-requires
+give_back-requires g c =
+    let depot = c.args.depot.now in
+    let t = c.requires.lent.0 in
+    let h = c.requires.lent.1 in
+    let kept = call-kept depot c.args.world.now t c.args.lease h c.in-Memory.lease c.try_call.new.world
+    (c.in-Memory.ensures (taken depot c.args.world.now t c.args.lease h) h.stands (lent-handed depot c.args.world.now t c.args.lease h)) in
+    (depot, t, subst (HasLent depot c.try_call.new.world t) (sym kept.0) kept.1)
+
+pub unreachable-requires : goal.unreachable-requires
+unreachable-requires g c =
+    let depot = c.args.depot.now in
+    let t = c.requires.lent.0 in
+    let h = c.requires.lent.1 in
+    let answers = c.try_call.ensures (taken depot c.args.world.now t c.args.lease h) h.stands (lent-handed depot c.args.world.now t c.args.lease h) in
+    elim c.in-Parked.is [
+      | inl parked ↦ call-parked depot c.args.world.now t c.args.lease h c.try_call.new.world
+          (subst (λ (p : Placed). AnswersCall depot (taken depot c.args.world.now t c.args.lease h) c.args.lease p c.try_call.new.world) parked answers)
+          c.requires.lent.2
+      | inr dropped ↦ call-dropped depot c.args.world.now t c.args.lease h c.try_call.new.world
+          (subst (λ (p : Placed). AnswersCall depot (taken depot c.args.world.now t c.args.lease h) c.args.lease p c.try_call.new.world) dropped answers)
+    ]
+
+pub returns-in-Done : goal.returns-in-Done
+returns-in-Done g c t h =
+    let depot = c.args.depot.now in
+    let call = some-there (standing_call c.args.lease.now) c.requires.call in
+    call-made depot c.args.world.now t c.args.lease h call.0 call.1 c.try_call.new.world
+    (c.in-Done.ensures (taken depot c.args.world.now t c.args.lease h) h.stands (lent-handed depot c.args.world.now t c.args.lease h))
+
+pub returns-in-Memory : goal.returns-in-Memory
+returns-in-Memory g c t h =
+    let depot = c.args.depot.now in
+    let kept = call-kept depot c.args.world.now t c.args.lease h c.in-Memory.lease c.try_call.new.world
+    (c.in-Memory.ensures (taken depot c.args.world.now t c.args.lease h) h.stands (lent-handed depot c.args.world.now t c.args.lease h)) in
+    subst (HasBack depot c.give_back.new.world t) kept.0
+    (c.give_back.ensures depot t (subst (HasLent depot c.try_call.new.world t) (sym kept.0) kept.1))

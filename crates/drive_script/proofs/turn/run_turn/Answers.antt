@@ -1,0 +1,106 @@
+use Rattle.std.proofs.Common.{rules, ◌≡◌, ◌+◌, IfSome, IsSome, Result, Ok, Err, sym, ◌∙◌, subst, arith, inl, inr, Bool}
+use Rattle.forest_tree.specs.Tree.{subtree}
+use Rattle.forest_tree.proofs.Rests.{lives-none}
+use Rattle.vm_cell.specs.Standing.{standing_call}
+use Rattle.world_core.specs.Answers as answers
+use Rattle.world_core.specs.Answers.{stands_waiting}
+use Rattle.std.specs.declared.alloc.AllocError.{AllocError}
+use Rattle.drive_script.specs.declared.turn.Turn.{Turn}
+use Rattle.drive_script.specs.declared.turn.Turn.TheVariants.{Stopped, Called}
+use Rattle.drive_script.specs.Turned.{Turns}
+use Rattle.std.proofs.lemmas.Result.{err_from_is_err_and}
+use Rattle.drive_script.proofs.Lent.{lent-handed, taken}
+use Rattle.drive_script.proofs.Turning.{lent-failed, lent-ran, may-call, stops-ended, stops-waiting, turn-called, turn-failed, turn-stopped}
+use Rattle.drive_script.proofs.turn.run_turn.Goals as goal
+use Rattle.drive_script.proofs.turn.run_turn.Goals.{else-ran-most-via-then-ran-most+then-is_some+else-not-waits, else-ran-most-via-then-ran-most+else-is_some, else-ran-most-via-else-ran-most}
+
+pub give_back-requires : goal.give_back-requires
+give_back-requires g c = (
+  c.args.depot.now,
+  c.requires.lent.0,
+  lent-failed c.args.depot.now c.args.world.now c.requires.lent.0 c.args.lease c.run.new.self c.in_default.ensures.same c.in_default.ensures.err_ran
+      c.in_default.ensures.err c.requires.lent.1,
+)
+
+pub returns-in_default : goal.returns-in_default
+returns-in_default g c t h =
+    let depot = c.args.depot.now in
+    let later = c.run.new.self in
+    let lent = lent-failed depot c.args.world.now t c.args.lease later c.in_default.ensures.same c.in_default.ensures.err_ran c.in_default.ensures.err h in
+    let few = c.in_default.ensures.err_most in
+    let none = c.requires.new in
+    subst (λ name. Turns depot name c.args.most t (Err c.in_default.field-0) c.give_back.new.world) c.in_default.ensures.same.0
+    (turn-failed depot c.args.world.now t later lent c.give_back.new.world (c.give_back.ensures depot t lent) c.args.most (omega (arith, few, none)))
+
+pub make_call-requires-clause-lent : goal.make_call-requires-clause-lent
+make_call-requires-clause-lent g c =
+    let depot = c.args.depot.now in
+    let t = c.requires.lent.0 in
+    let later = c.run.new.self in
+    let lent = lent-ran depot c.args.world.now t c.args.lease later c.in-Ok.ran.steps c.in-Ok.ensures.same c.in-Ok.ensures.now.0 c.in-Ok.ensures.now.1
+    c.requires.lent.1 in
+    let some : IsSome (standing_call later.now) = search rules in
+    let waits = c.waits.ensures depot (taken depot c.args.world.now t later lent) lent.stands (lent-handed depot c.args.world.now t later lent) in (
+      t,
+      lent,
+      may-call depot c.args.world.now t later lent some
+          (subst (λ (b : Bool). IfSome (subtree later.name (taken depot c.args.world.now t later lent).tree) (λ a. b ≡ stands_waiting (answers.with_machine later.now a)))
+          c.if-not-waits.true waits),
+    )
+
+pub returns-in_err-make_call : goal.returns-in_err-make_call
+returns-in_err-make_call g c t h =
+    let depot = c.args.depot.now in
+    let later = c.run.new.self in
+    let lent = lent-ran depot c.args.world.now t c.args.lease later c.in-Ok.ran.steps c.in-Ok.ensures.same c.in-Ok.ensures.now.0 c.in-Ok.ensures.now.1 h in
+    let ran = c.in-Ok.ensures.now.0 in
+    let within = c.in-Ok.ensures.most in
+    let none = c.requires.new in
+    let exit = err_from_is_err_and c.from_residual.result c.from_residual.ensures.1 in
+    subst (λ (r : Result Turn AllocError). Turns depot c.args.lease.name c.args.most t r c.make_call.new.world) (sym exit.1)
+    (subst (λ name. Turns depot name c.args.most t (Err exit.0) c.make_call.new.world) c.in-Ok.ensures.same.0
+    (turn-failed depot c.args.world.now t later lent c.make_call.new.world (c.in_err-make_call.ensures t lent) c.args.most (omega (arith, ran, within, none))))
+
+pub returns-then-not-waits : goal.returns-then-not-waits
+returns-then-not-waits g c t h =
+    let depot = c.args.depot.now in
+    let later = c.run.new.self in
+    let lent = lent-ran depot c.args.world.now t c.args.lease later c.in-Ok.ran.steps c.in-Ok.ensures.same c.in-Ok.ensures.now.0 c.in-Ok.ensures.now.1 h in
+    let ran = c.in-Ok.ensures.now.0 in
+    let below = c.if-ran-most.true in
+    let none = c.requires.new in
+    subst (λ name. Turns depot name c.args.most t (Ok (Called (c.in-Ok.ran.steps + 1))) c.make_call.new.world) c.in-Ok.ensures.same.0
+    (turn-called depot c.args.world.now t later lent c.args.most c.in-Ok.ran.steps c.make_call.new.world (omega (arith, ran, none)) below
+    (c.in_ok-make_call.ensures t lent))
+
+pub give_back-requires-2 : goal.give_back-requires-2
+give_back-requires-2 g c = (
+  c.args.depot.now,
+  c.requires.lent.0,
+  lent-ran c.args.depot.now c.args.world.now c.requires.lent.0 c.args.lease c.run.new.self c.in-Ok.ran.steps c.in-Ok.ensures.same c.in-Ok.ensures.now.0
+      c.in-Ok.ensures.now.1 c.requires.lent.1,
+)
+
+pub returns : goal.returns
+returns g c t h =
+    let depot = c.args.depot.now in
+    let later = c.run.new.self in
+    let lent = lent-ran depot c.args.world.now t c.args.lease later c.in-Ok.ran.steps c.in-Ok.ensures.same c.in-Ok.ensures.now.0 c.in-Ok.ensures.now.1 h in
+    let ran = c.in-Ok.ensures.now.0 in
+    let none = c.requires.new in
+    subst (λ name. Turns depot name c.args.most t (Ok (Stopped c.in-Ok.ran.steps c.why_it_stops-why.result)) c.give_back-2.new.world) c.in-Ok.ensures.same.0
+    (turn-stopped depot c.args.world.now t later lent c.give_back-2.new.world (c.give_back-2.ensures depot t lent) c.args.most c.in-Ok.ran.steps
+    c.why_it_stops-why.result (omega (arith, ran, none)) c.in-Ok.ensures.most (c.why_it_stops-why.ensures depot t lent)
+    (elim c.else-ran-most.branch [
+      | else-ran-most-via-then-ran-most+then-is_some+else-not-waits w ↦ inr (stops-waiting depot c.args.world.now t later lent
+          (subst (λ (b : Bool). IfSome (subtree later.name (taken depot c.args.world.now t later lent).tree) (λ a. b ≡ stands_waiting (answers.with_machine later.now a)))
+          w.if-not-waits.false
+          (w.waits.ensures depot (taken depot c.args.world.now t later lent) lent.stands (lent-handed depot c.args.world.now t later lent))))
+      | else-ran-most-via-then-ran-most+else-is_some w ↦ inr (stops-ended depot c.args.world.now t later lent c.in-Ok.ran.why
+          (λ went. let all = c.in-Ok.ensures.all_made went in let below = w.if-ran-most.true in absurd (omega (arith, all, below)))
+          c.in-Ok.ensures.stands (sym w.call.ensures ∙ lives-none w.call.result (sym w.if-is_some.ensures)))
+      | else-ran-most-via-else-ran-most w ↦
+          let over = w.if-ran-most.false in
+          let within = c.in-Ok.ensures.most in
+          inl (omega (arith, over, within))
+    ]))

@@ -1,0 +1,32 @@
+use Rattle.std.proofs.Common.{Option, Result, Ok, sym, subst, replicate}
+use Rattle.std.proofs.lemmas.Result.{err_from_is_err_and}
+use Rattle.std.specs.declared.alloc.AllocError.{AllocError}
+use Rattle.forest_model.specs.Forest.{machines}
+use Rattle.world_core.specs.Lent.{Lent}
+use Rattle.world_core.specs.Answers.{TakesNamed}
+use Rattle.drive_script.specs.Steps.{steps_made}
+use Rattle.drive_script.specs.declared.turn.Turn.{Turn}
+use Rattle.drive_script.specs.Turned.{Turns}
+use Rattle.drive_script.proofs.Driving.{made-none}
+use Rattle.drive_script.proofs.Lent.{named-kept, named-lent, named-none}
+use Rattle.drive_script.proofs.turn.take_turn.Goals as goal
+
+pub returns-in_err-lease : goal.returns-in_err-lease
+returns-in_err-lease g c t h =
+    let exit = err_from_is_err_and c.from_residual.result c.from_residual.ensures.1 in
+    subst (λ (r : Result Turn AllocError). Turns c.args.depot.now c.args.name.now c.args.most t r c.take_named.new.self) (sym exit.1)
+    (made-none c.args.depot.now c.take_named.new.self (replicate (steps_made machines c.args.most c.args.name.now t) c.args.name.now) t
+    (named-kept c.args.depot.now c.args.world.now c.take_named.new.self t c.args.name.now h (c.in_err-lease.ensures h.forest h.stands)))
+
+pub returns-in-Some : goal.returns-in-Some
+returns-in-Some g c t h =
+    let named = subst (λ (o : Option Lent). TakesNamed c.args.depot.now h.forest c.args.name.now (Ok o) c.take_named.new.self) c.in-Some.is
+    (c.in_ok-lease.ensures h.forest h.stands) in
+    let lent = named-lent c.args.depot.now c.args.world.now c.take_named.new.self t c.args.name.now h c.in-Some.lease named in
+    subst (λ name. Turns c.args.depot.now name c.args.most t c.run_turn.result c.run_turn.new.world) named.1 (c.run_turn.ensures t lent)
+
+pub returns-in-None : goal.returns-in-None
+returns-in-None g c t h =
+    named-none c.args.depot.now c.args.world.now c.take_named.new.self t c.args.name.now h
+    (subst (λ (o : Option Lent). TakesNamed c.args.depot.now h.forest c.args.name.now (Ok o) c.take_named.new.self) c.in-None.is
+    (c.in_ok-lease.ensures h.forest h.stands))

@@ -1,0 +1,7 @@
+pub mod Script
+pub mod Lines
+pub mod Steps
+pub mod Told
+pub mod Written
+pub mod Driven
+pub mod Turned

@@ -1,0 +1,13 @@
+-- Lines of a script, by the values of the code.
+use Rattle.std.specs.Prelude.{List, map}
+use Rattle.drive_script.specs.declared.line.Line.{Line as Read}
+use Rattle.drive_script.specs.declared.line.Line.TheVariants as read
+use Rattle.drive_script.specs.Script.{Line, step, peek, regs}
+
+abbrev pub line_read : Read → Line
+line_read (read.Step name most) = step name most
+line_read (read.Peek name address) = peek name address
+line_read (read.Regs name) = regs name
+
+abbrev pub lines_read : List Read → List Line
+lines_read lines = map line_read lines

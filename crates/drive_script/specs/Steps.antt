@@ -1,0 +1,48 @@
+-- The steps of one machine of a tree, and why it stops.
+use Rattle.std.specs.Prelude.{◌≡◌, ℕ, zero, suc, true, if◌then◌else◌, replicate, Option, Some, None, IsSome, option_and_then}
+use Rattle.forest_tree.specs.Operations.{Call, clone, join, kill, Operations}
+use Rattle.forest_tree.specs.Tree.{Tree, node, Broods, machine, broods_of, brood_of, Path, subtree}
+use Rattle.forest_tree.specs.Settle.{have_ended, rests, step, settle, settle_all}
+use Rattle.fork_port.specs.declared.ending.Ending.{Ending}
+use Rattle.drive_script.specs.declared.answer.Why.{Why}
+use Rattle.drive_script.specs.declared.answer.Why.TheVariants.{Ended, Waits, MayGoOn}
+
+module _ {M E : Type 0} (o : Operations M E) where
+  -- of at most so many steps of the machine at a path, those that it makes: it stops where it has ended or waits
+  unfoldable pub steps_made : ℕ → Path → Tree M → ℕ
+  steps_made zero path t = 0
+  steps_made (suc most) path t = if rests o (subtree path t) then 0 else suc (steps_made most path (settle o path t))
+
+  -- the tree after so many steps of the machine at a path
+  abbrev pub after_steps : ℕ → Path → Tree M → Tree M
+  after_steps count path t = settle_all o (replicate count path) t
+
+  abbrev pub if_lives : Option E → Tree M → Option (Tree M)
+  if_lives None t = Some t
+  if_lives (Some ending) t = None
+
+  -- the tree at a path, where its machine lives
+  abbrev pub live_at : Path → Tree M → Option (Tree M)
+  live_at path t = option_and_then (λ a. if_lives (o.ending (machine a)) a) (subtree path t)
+
+module _ {M : Type 0} (o : Operations M Ending) where
+  -- why a live machine stops that makes this call next, or none: its join waits while a child of the ticket lives
+  abbrev pub why_at : Option Call → Broods M → Why
+  why_at None broods = MayGoOn
+  why_at (Some (clone ticket)) broods = MayGoOn
+  why_at (Some (join ticket)) broods = if have_ended o (brood_of ticket broods) then MayGoOn else Waits ticket
+  why_at (Some (kill ticket)) broods = MayGoOn
+
+  abbrev pub why_by : Option Ending → Option Call → Broods M → Why
+  why_by None call broods = why_at call broods
+  why_by (Some ending) call broods = Ended ending
+
+  -- why the machine at the root stops where it stands
+  abbrev pub why : Tree M → Why
+  why (node m broods log) = why_by (o.ending m) (o.call m) broods
+
+-- the next step of the machine at the root drops the children of a ticket, or takes them where all have ended
+pub data Drops {M E : Type 0} (o : Operations M E) (ticket : ℕ) (t : Tree M) : Type 0 where
+  by_kill : o.call (machine t) ≡ Some (kill ticket) → Drops o ticket t
+  by_join : o.call (machine t) ≡ Some (join ticket) → have_ended o (brood_of ticket (broods_of t)) ≡ true → Drops o ticket t
+  by_end : IsSome (o.ending (machine (step o t))) → Drops o ticket t

@@ -1,0 +1,101 @@
+-- What a machine does in its turn: it is taken from a world, makes steps of its own, maybe makes a call, and is
+-- at home again.
+use Rattle.std.specs.Prelude.{◌≡◌, true, false, ℕ, ◌<◌, ◌≤◌, Option, Some, None, IsSome, IfSome, IsSomeAnd, Result, Ok, Err, replicate}
+use Rattle.std.specs.declared.alloc.AllocError.{AllocError}
+use Rattle.boxcar.specs.Table.{Shelves}
+use Rattle.fork_port.specs.declared.ending.Ending.{Ending}
+use Rattle.fork_port.specs.declared.ending.Ending.TheVariants.{Exit, Limit}
+use Rattle.forest_tree.specs.Tree.{Tree, node, Path, machine, subtree}
+use Rattle.forest_tree.specs.Settle.{rests, settled}
+use Rattle.forest_history.specs.Places.{bare}
+use Rattle.forest_history.specs.World.{IsWhole, is_at_home}
+use Rattle.forest_history.specs.Rows.{How, gave, ended, forked, joined, killed, waited, took, does}
+use Rattle.forest_model.specs.Machine as model
+use Rattle.forest_model.specs.Machine.{Machine}
+use Rattle.forest_model.specs.Forest.{machines}
+use Rattle.world_core.specs.declared.world.World.{World}
+use Rattle.world_core.specs.declared.world.Placed.{Placed}
+use Rattle.world_core.specs.Answers.{Answers}
+use Rattle.world_core.specs.Lent.{Lent}
+use Rattle.world_core.specs.World.{Forest, StandsFor}
+use Rattle.drive_script.specs.declared.answer.Why.{Why}
+use Rattle.drive_script.specs.declared.turn.Turn.{Turn}
+use Rattle.drive_script.specs.declared.turn.Turn.TheVariants.{NoMachine, Stopped, Called}
+use Rattle.drive_script.specs.Steps.{steps_made, after_steps, why, live_at}
+use Rattle.drive_script.specs.Driven.{HasMachines, HasMade}
+
+-- ---- a machine on lease
+
+-- the world has the machines of t, of which this one is on lease and no other. It lived when it was taken
+pub record HasLent (depot : Shelves) (w : World) (t : Tree Machine) (lease : Lent) : Type 0 where
+  -- the forest before it was taken
+  pub forest : Forest
+  pub whole : IsWhole machines forest.tree
+  pub same : bare forest.tree ≡ t
+  pub lives : is_at_home machines lease.name forest.tree ≡ true
+  pub start : IfSome (subtree lease.name forest.tree) (λ a. (machine a).machine ≡ lease.start)
+  pub now : lease.now ≡ model.after_steps lease.ran lease.start
+  pub stands : StandsFor depot w (does machines (took lease.name) forest)
+
+-- the tree with its machine as it stands on lease
+abbrev pub with_machine : Machine → Tree Machine → Tree Machine
+with_machine m (node old broods log) = node m broods log
+
+-- the tree whose machine ran on by itself, and stands so
+abbrev pub ran_to : Machine → Tree Machine → Tree Machine
+ran_to m (node old broods log) = settled machines m broods log
+
+-- the machine on lease lives, and does not wait
+abbrev pub MayGo : Tree Machine → Lent → Type 0
+MayGo t lease = IsSomeAnd (subtree lease.name t) (λ a. rests machines (Some (with_machine lease.now a)) ≡ false)
+
+-- the machine that was on lease is at home again, and has made the steps of the lease, each by itself
+pub record HasBack (depot : Shelves) (w : World) (t : Tree Machine) (lease : Lent) : Type 0 where
+  pub made : steps_made machines lease.ran lease.name t ≡ lease.ran
+  pub there : IsSomeAnd (subtree lease.name t) (λ a. subtree lease.name (after_steps machines lease.ran lease.name t) ≡ Some (ran_to lease.now a))
+  pub has : HasMachines depot w (after_steps machines lease.ran lease.name t)
+
+-- ---- its call
+
+abbrev pub IsCall : How → Type 0
+IsCall gave = ⊥
+IsCall ended = ⊥
+IsCall forked = Unit {0}
+IsCall joined = Unit {0}
+IsCall killed = Unit {0}
+IsCall waited = ⊥
+
+-- the answer of the world to a machine that makes its call
+abbrev pub AnswersCall : Shelves → Forest → Lent → Placed → World → Type 0
+AnswersCall depot f lease placed w = (how : How) × IsCall how × Answers depot f how lease placed w
+
+-- a machine lives, or has ended by its limit
+abbrev pub IsLiveOrLimit : Option Ending → Type 0
+IsLiveOrLimit None = Unit {0}
+IsLiveOrLimit (Some (Exit value)) = ⊥
+IsLiveOrLimit (Some Limit) = Unit {0}
+
+-- ---- its turn
+
+-- a live machine has the name
+abbrev pub Lives : Path → Tree Machine → Type 0
+Lives name t = IsSome (live_at machines name t)
+
+-- the machine has made so many steps, the last of them a call
+pub record HasRun (depot : Shelves) (name : Path) (steps : ℕ) (t : Tree Machine) (w : World) : Type 0 where
+  pub made : steps_made machines steps name t ≡ steps
+  pub there : IsSomeAnd (subtree name (after_steps machines steps name t)) (λ a. IsLiveOrLimit (machine a).ending)
+  pub has : HasMachines depot w (after_steps machines steps name t)
+
+-- of at most so many steps it has made these, and this is why it stops
+pub record HasStopped (depot : Shelves) (name : Path) (most : ℕ) (t : Tree Machine) (steps : ℕ) (reason : Why) (w : World) : Type 0 where
+  pub made : steps_made machines most name t ≡ steps
+  pub there : IsSomeAnd (subtree name (after_steps machines steps name t)) (λ a. why machines a ≡ reason)
+  pub has : HasMachines depot w (after_steps machines steps name t)
+
+-- the answer of a turn of at most so many steps
+abbrev pub Turns : Shelves → Path → ℕ → Tree Machine → Result Turn AllocError → World → Type 0
+Turns depot name most t (Ok NoMachine) w = (live_at machines name t ≡ None) × HasMachines depot w t
+Turns depot name most t (Ok (Stopped steps reason)) w = Lives name t × HasStopped depot name most t steps reason w
+Turns depot name most t (Ok (Called steps)) w = Lives name t × (0 < steps) × (steps ≤ most) × HasRun depot name steps t w
+Turns depot name most t (Err e) w = HasMade depot (replicate (steps_made machines most name t) name) t w

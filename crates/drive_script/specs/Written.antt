@@ -1,0 +1,45 @@
+-- Scripts as they are written: the text of each line, and the limits of its numbers.
+use Rattle.std.specs.Prelude.{◌≡◌, ℕ, ◌^◌, ◌<◌, ◌≤◌, List, [], ◌∷◌, ◌++◌, codes, map}
+use Rattle.std.specs.Char.{to_ascii_lowercase}
+use Rattle.std.specs.Fmt.{decimal}
+use Rattle.forest_tree.specs.Tree.{Branch, Path}
+use Rattle.run_report.specs.Name.{name_text}
+use Rattle.drive_script.specs.declared.line.TheConstants.{MAX_STEPS}
+use Rattle.drive_script.specs.Script.{Line, step, peek, regs}
+use Rattle.drive_script.specs.Told.{word_text}
+
+abbrev pub line_text : Line → List ℕ
+line_text (step path most) = codes "step " ++ (name_text path ++ (codes " " ++ decimal most))
+line_text (peek path address) = codes "peek " ++ (name_text path ++ (codes " " ++ word_text address))
+line_text (regs path) = codes "regs " ++ name_text path
+
+unfoldable pub script_text : List Line → List ℕ
+script_text [] = []
+script_text (line ∷ rest) = line_text line ++ (codes "\n" ++ script_text rest)
+
+-- the numbers of a name
+pub record IsFork (b : Branch) : Type 0 where
+  pub ticket_from : 1 ≤ b.ticket
+  pub ticket_to : b.ticket < 2 ^ 32
+  pub child_from : 1 ≤ b.child
+  pub child_to : b.child < 2 ^ 32
+
+abbrev pub AreForks : Path → Type 0
+AreForks [] = Unit {0}
+AreForks (b ∷ rest) = IsFork b × AreForks rest
+
+abbrev pub IsInForm : Line → Type 0
+IsInForm (step path most) = AreForks path × (most ≤ MAX_STEPS)
+IsInForm (peek path address) = AreForks path × (address < 2 ^ 32)
+IsInForm (regs path) = AreForks path
+
+abbrev pub AreInForm : List Line → Type 0
+AreInForm [] = Unit {0}
+AreInForm (line ∷ rest) = IsInForm line × AreInForm rest
+
+-- the text is that of the line, but that the digits of an address may be of either case
+abbrev pub IsTextOf : List ℕ → Line → Type 0
+IsTextOf text (step path most) = text ≡ line_text (step path most)
+IsTextOf text (peek path address) =
+    (digits : List ℕ) × (text ≡ codes "peek " ++ (name_text path ++ (codes " " ++ digits))) × (map to_ascii_lowercase digits ≡ word_text address)
+IsTextOf text (regs path) = text ≡ line_text (regs path)

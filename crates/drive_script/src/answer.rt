@@ -1,0 +1,95 @@
+//! What the lines of a script answer, and the text of it.
+
+ghost use Rattle.std.specs.Prelude.{◌++◌, Some, codes};
+ghost use Rattle.std.specs.Fmt.{WritesOnOk};
+ghost use Rattle.std.specs.List.{flat_map};
+ghost use Rattle.drive_script.specs.Told.{answer_text, register_text, why_text, word_text};
+
+use fork_port::Ending;
+use std::{fmt, str};
+
+/// Why a machine stops.
+#[derive(Clone, Copy, Debug)]
+pub(crate) enum Why {
+    /// It has ended.
+    Ended(Ending),
+    /// Its next step is the JOIN of this ticket, of which a child lives.
+    Waits(u32),
+    /// All steps that were asked for are made. It may go on.
+    MayGoOn,
+}
+
+impl fmt::Display for Why {
+    ghost output = { λ why. Some (why_text why) };
+
+    fn fmt<W: fmt::Write>(&self, f: &mut fmt::Formatter<W>) -> fmt::Result {
+        match self {
+            Why::Ended(Ending::Exit(value)) => write!(f, "exit {value}"),
+            Why::Ended(Ending::Limit) => write!(f, "limit"),
+            Why::Waits(ticket) => write!(f, "wait {ticket}"),
+            Why::MayGoOn => write!(f, "ok"),
+        }
+    }
+}
+
+/// What a line answers of the machine that it names.
+#[derive(Clone, Copy, Debug)]
+pub(crate) enum Answer {
+    /// No live machine has the name.
+    NoMachine,
+    /// It made so many steps.
+    Ran { steps: u64, why: Why },
+    /// The word at an address, if one is there.
+    Word(Option<u32>),
+    /// The pc, and then the registers x1 to x31.
+    Registers([u32; 32]),
+}
+
+impl fmt::Display for Answer {
+    ghost output = { λ answer. Some (answer_text answer) };
+
+    #[tactic(auto, unfolding(crate::specs::Told::answer_text))]
+    fn fmt<W: fmt::Write>(&self, f: &mut fmt::Formatter<W>) -> fmt::Result {
+        match self {
+            Answer::NoMachine => write!(f, "none"),
+            Answer::Ran { steps, why } => write!(f, "ran {steps} {why}"),
+            Answer::Word(None) => write!(f, "word none"),
+            Answer::Word(Some(word)) => {
+                let word = HexWord(*word);
+                write!(f, "word {word}")
+            }
+            Answer::Registers(values) => write_registers(f, values),
+        }
+    }
+}
+
+/// Writes the values of registers, each after a space.
+fn write_registers<W: fmt::Write>(f: &mut fmt::Formatter<W>, values: &[u32]) -> fmt::Result
+    ensures { WritesOnOk W.write_str_gives f.old result (codes "regs" ++ flat_map register_text values.now) f.new }
+{
+    write!(f, "regs")?;
+    for value in values {
+        let word = HexWord(*value);
+        write!(f, " {word}")?;
+    }
+    Ok(())
+}
+
+/// A word, in its eight hexadecimal digits.
+#[derive(Clone, Copy)]
+struct HexWord(u32);
+
+impl fmt::Display for HexWord {
+    ghost output = { λ word. Some (word_text word.0) };
+
+    fn fmt<W: fmt::Write>(&self, f: &mut fmt::Formatter<W>) -> fmt::Result {
+        let mut digits = [0u8; 8];
+        let Ok(()) = hex::encode_to_slice(self.0.to_be_bytes(), &mut digits) else {
+            unreachable!();
+        };
+        let Ok(text) = str::from_utf8(&digits) else {
+            unreachable!();
+        };
+        f.write_str(text)
+    }
+}

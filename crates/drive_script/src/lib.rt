@@ -1,0 +1,19 @@
+//! Scripts: which texts are scripts and the lines that they are, and what a script makes of a forest of
+//! machines and writes of it.
+#![tactic(auto)]
+
+mod answer;
+mod driver;
+mod error;
+mod fields;
+pub mod laws;
+mod line;
+mod script;
+#[cfg(test)]
+mod tests;
+mod turn;
+
+pub use driver::drive;
+pub use error::ScriptError;
+pub use line::{Line, MAX_STEPS};
+pub use script::{MAX_SCRIPT, Script, read_script};

@@ -1,0 +1,164 @@
+//! A machine's turn: it is taken, runs up to its next call and comes back.
+
+ghost use Rattle.std.specs.Prelude.{◌≡◌, ◌+◌, IsSome, IsSomeAnd, MatchResult};
+ghost use Rattle.boxcar.specs.Table.{Shelves};
+ghost use Rattle.forest_tree.specs.Tree.{Tree, subtree};
+ghost use Rattle.forest_model.specs.Machine.{Machine};
+ghost use Rattle.forest_model.specs.Forest.{machines};
+ghost use Rattle.vm_cell.specs.Standing.{standing_call};
+ghost use Rattle.world_core.specs.World.{Forest, StandsFor};
+ghost use Rattle.world_core.specs.Answers.{IsHandedOut, join_ticket};
+ghost use Rattle.drive_script.specs.Driven.{HasMachines};
+ghost use Rattle.drive_script.specs.Steps.{why};
+ghost use Rattle.drive_script.specs.Turned.{AnswersCall, HasBack, HasRun, HasLent, MayGo, Turns, with_machine};
+
+use crate::answer::Why;
+use fork_port::Call;
+use image_depot::Depot;
+use run_report::Name;
+use std::alloc::{AllocError, Global};
+use std::sync::Wait;
+use world_core::{Lease, Placed, World};
+
+/// What a machine did in its turn.
+#[derive(Clone, Copy, Debug)]
+pub(crate) enum Turn {
+    /// No live machine has the name.
+    NoMachine,
+    /// It made so many steps, and stopped.
+    Stopped { steps: u64, why: Why },
+    /// It made so many steps, and the last of them was a call.
+    Called { steps: u64 },
+}
+
+/// Takes the machine of a name, if one lives, and lets it make at most so many steps.
+pub(crate) fn take_turn<R: Wait>(
+    rt: &R,
+    alloc: Global,
+    world: &mut World,
+    name: &Name,
+    most: u64,
+    depot: &Depot,
+) -> Result<Turn, AllocError>
+    requires { (t : Tree Machine) × HasMachines depot.now world.old t }
+    ensures { (t : Tree Machine) → HasMachines depot.now world.old t → Turns depot.now name.now most t result world.new }
+{
+    match world.take_named(alloc, name, depot)? {
+        Some(lease) => run_turn(rt, alloc, world, lease, most, depot),
+        None => Ok(Turn::NoMachine),
+    }
+}
+
+/// Runs a machine up to its end or its next call. Where steps are left it makes the call, unless it waits.
+fn run_turn<R: Wait>(
+    rt: &R,
+    alloc: Global,
+    world: &mut World,
+    mut lease: Lease,
+    most: u64,
+    depot: &Depot,
+) -> Result<Turn, AllocError>
+    requires lent { (t : Tree Machine) × HasLent depot.now world.old t lease }
+    requires new { lease.ran ≡ 0 }
+    ensures { (t : Tree Machine) → HasLent depot.now world.old t lease → Turns depot.now lease.name most t result world.new }
+{
+    let Ok(ran) = lease.run(most) else {
+        give_back(world, lease);
+        return Err(AllocError);
+    };
+    if ran.steps < most && lease.call().is_some() && !world.waits(&lease) {
+        make_call(rt, alloc, world, lease, depot)?;
+        return Ok(Turn::Called {
+            steps: ran.steps + 1,
+        });
+    }
+    let why = why_it_stops(world, &lease);
+    give_back(world, lease);
+    Ok(Turn::Stopped {
+        steps: ran.steps,
+        why,
+    })
+}
+
+/// Why the machine on lease stops where it stands.
+fn why_it_stops(world: &World, lease: &Lease) -> Why
+    ensures { (depot : Shelves) (t : Tree Machine) → HasLent depot world.now t lease.now
+        → IsSomeAnd (subtree lease.now.name t) (λ a. result ≡ why machines (with_machine lease.now.now a)) }
+{
+    if let Some(ending) = lease.ended() {
+        return Why::Ended(ending);
+    }
+    let Some(ticket) = joined_ticket(lease.call()) else {
+        return Why::MayGoOn;
+    };
+    if world.waits(lease) {
+        Why::Waits(ticket)
+    } else {
+        Why::MayGoOn
+    }
+}
+
+/// The ticket of a call that is a JOIN.
+fn joined_ticket(call: Option<Call>) -> Option<u32>
+    ensures { result ≡ join_ticket call }
+{
+    match call {
+        Some(Call::Join(ticket)) => Some(ticket),
+        _ => None,
+    }
+}
+
+/// Gives a machine back that makes no call.
+pub(crate) fn give_back(world: &mut World, lease: Lease)
+    requires { (depot : Shelves) × (t : Tree Machine) × HasLent depot world.old t lease }
+    ensures { (depot : Shelves) (t : Tree Machine) → HasLent depot world.old t lease → HasBack depot world.new t lease }
+{
+    match world.give(lease) {
+        Placed::Done | Placed::Parked | Placed::Dropped => {}
+        Placed::Memory(_lease) => unreachable!(),
+    }
+}
+
+/// Makes the call at which a machine stands, which does not wait. Where memory is wanting the machine is
+/// given back as it is.
+fn make_call<R: Wait>(
+    rt: &R,
+    alloc: Global,
+    world: &mut World,
+    lease: Lease,
+    depot: &Depot,
+) -> Result<(), AllocError>
+    requires lent { (t : Tree Machine) × HasLent depot.now world.old t lease × MayGo t lease }
+    requires call { IsSome (standing_call lease.now) }
+    ensures { (t : Tree Machine) → HasLent depot.now world.old t lease
+        → MatchResult result (λ _. HasRun depot.now lease.name (lease.ran + 1) t world.new) (λ _. HasBack depot.now world.new t lease) }
+{
+    match try_call(rt, alloc, world, lease, depot) {
+        Placed::Done => Ok(()),
+        Placed::Memory(lease) => {
+            give_back(world, lease);
+            Err(AllocError)
+        }
+        Placed::Parked | Placed::Dropped => unreachable!(),
+    }
+}
+
+/// Makes the call at which a machine stands.
+fn try_call<R: Wait>(
+    rt: &R,
+    alloc: Global,
+    world: &mut World,
+    lease: Lease,
+    depot: &Depot,
+) -> Placed
+    requires lent { (t : Tree Machine) × HasLent depot.now world.old t lease }
+    requires call { IsSome (standing_call lease.now) }
+    ensures { (f : Forest) → StandsFor depot.now world.old f → IsHandedOut f lease → AnswersCall depot.now f lease result world.new }
+{
+    match lease.call() {
+        Some(Call::Clone(_)) => world.fork(rt, alloc, lease, depot),
+        Some(Call::Join(_)) => world.join(alloc, lease),
+        Some(Call::Kill(_)) => world.kill(lease),
+        None => unreachable!(),
+    }
+}

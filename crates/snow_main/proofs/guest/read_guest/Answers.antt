@@ -1,0 +1,31 @@
+use Rattle.std.proofs.Common.{arith}
+use Rattle.std.proofs.lemmas.Result.{err_from_is_err_and}
+use Rattle.snow_main.proofs.PartLemmas.{image-stops, disk-stops, input-stops, guest-given, rises}
+use Rattle.snow_main.proofs.guest.read_guest.Goals as goal
+
+pub returns-in_err-image-clause-gives : goal.returns-in_err-image-clause-gives
+returns-in_err-image-clause-gives g c =
+    let p = err_from_is_err_and c.from_residual.result c.from_residual.ensures.1 in
+    rw (p.1, p.2) (image-stops c.args.guest.now (g.S.Shelf.files c.args.shelf.now) _ c.in_err-image.field-0.0 c.in_err-image.ensures.gives)
+
+pub returns-in_err-disk-clause-gives : goal.returns-in_err-disk-clause-gives
+returns-in_err-disk-clause-gives g c =
+    let p = err_from_is_err_and c.from_residual-in_err-disk.result c.from_residual-in_err-disk.ensures.1 in
+    rw (p.1, p.2)
+    (disk-stops c.args.guest.now (g.S.Shelf.files c.args.shelf.now) (g.S.Shelf.files c.read_image.new.shelf) _ _ _ c.in_err-disk.field-0.0 c.in_ok-image.ensures.same
+    c.in_ok-image.ensures.gives (rises _ _ _ c.in_ok-image.ensures.counts) c.in_err-disk.ensures.gives)
+
+pub returns-in_err-input-clause-gives : goal.returns-in_err-input-clause-gives
+returns-in_err-input-clause-gives g c =
+    let p = err_from_is_err_and c.from_residual-in_err-input.result c.from_residual-in_err-input.ensures.1 in
+    let counts = c.in_ok-image.ensures.counts in
+    let counts_again = c.in_ok-disk.ensures.counts in
+    rw (p.1, p.2)
+    (input-stops c.args.guest.now (g.S.Shelf.files c.args.shelf.now) (g.S.Shelf.files c.read_image.new.shelf) (g.S.Shelf.files c.read_disk.new.shelf) _ _ _ _
+    c.in_err-input.field-0.0 c.in_ok-image.ensures.same c.in_ok-disk.ensures.same c.in_ok-image.ensures.gives c.in_ok-disk.ensures.gives
+    (rises _ _ _ (omega (arith, counts, counts_again))) c.in_err-input.ensures.gives)
+
+pub returns-clause-gives : goal.returns-clause-gives
+returns-clause-gives g c =
+    guest-given c.args.guest.now (g.S.Shelf.files c.args.shelf.now) (g.S.Shelf.files c.read_image.new.shelf) (g.S.Shelf.files c.read_disk.new.shelf) _ _ _
+    c.in_ok-image.ensures.same c.in_ok-disk.ensures.same c.in_ok-image.ensures.gives c.in_ok-disk.ensures.gives c.in_ok-input.ensures.gives

@@ -1,0 +1,131 @@
+-- Machines that live and are awake have cells.
+use Rattle.std.proofs.Common.{◌≡◌, ◌⊎◌, ℕ, zero, suc, ◌+◌, true, false, refl, sym, ap, ◌∙◌, subst, inl, inr, List, [], ◌∷◌, ◌++◌, append_assoc, arith, Option, Some, None, is_some, option_and_then}
+use Rattle.std.specs.BTreeMap.{BTreeMap, get}
+use Rattle.std.specs.Ordering.{nat_cmp}
+use Rattle.boxcar.specs.Table.{Shelves}
+use Rattle.fork_port.specs.declared.ending.Ending.{Ending}
+use Rattle.forest_tree.specs.Tree.{Tree, node, Trees, no_tree, no_brood, machine, broods_of, brood_of, child_at, Branch, Path, subtree}
+use Rattle.forest_tree.specs.Settle.{has_ended}
+use Rattle.forest_tree.specs.Sound.{IsSound}
+use Rattle.forest_tree.proofs.Places.{some-same, subtree-parts, subtree-sound}
+use Rattle.forest_tree.proofs.Settle.{root-sound}
+use Rattle.forest_history.specs.Places.{Spot, spots}
+use Rattle.forest_model.specs.Machine.{Machine}
+use Rattle.forest_model.specs.Forest.{machines}
+use Rattle.image_depot.specs.Key.{Key}
+use Rattle.run_report.specs.Name.{child_path}
+use Rattle.run_report.specs.NameOrder.{path_cmp}
+use Rattle.vm_descriptor.specs.declared.descriptor.Descriptor.{Descriptor}
+use Rattle.vm_cell.specs.declared.vm.fork.Brood.{Brood as Young}
+use Rattle.world_core.specs.declared.cell.Brood.{Brood}
+use Rattle.world_core.specs.declared.cell.Cell.{Cell}
+use Rattle.world_core.specs.declared.cell.Slot.{Slot}
+use Rattle.world_core.specs.declared.cell.Slot.TheVariants.{Asleep, Awake, Ended}
+use Rattle.world_core.specs.Shows.{forest, told_spot, IsAwake, SlotShows, BornShows, Holds, CellShows, IsNoCell, Shows, child_of}
+use Rattle.world_core.proofs.Slots.{slot-of, not-first}
+use Rattle.world_core.proofs.SlotWaits.{none-held, one-held}
+use Rattle.world_core.proofs.Changes.{child_by, one-below}
+
+pub child-below : (parent : Path) (ticket k : ℕ) (t : Tree (Spot Machine)) (p : Option (Tree (Spot Machine))) → subtree parent t ≡ p
+    → subtree (child_path parent ticket k) t ≡ option_and_then (λ u. child_of ticket k u) p
+child-below parent ticket k t p there =
+    let b : Branch = record { ticket = ticket; child = k } in
+    subtree-parts parent (b ∷ []) t ∙ ap (option_and_then (subtree (b ∷ []))) there ∙ by b p
+  where
+    by : (b : Branch) (p : Option (Tree (Spot Machine))) → option_and_then (subtree (b ∷ [])) p ≡ option_and_then (λ u. child_by b u) p
+    by b None = refl
+    by b (Some u) = one-below b u
+
+-- an ended machine, as its slot tells
+pub slot-ended : (ending : Ending) (a : Tree (Spot Machine)) → told_spot.ending (machine a) ≡ Some ending → has_ended forest a ≡ true
+unfolding spots machines
+slot-ended ending a h = ap is_some h
+
+pub never-both : (a : Tree (Spot Machine)) → IsAwake a → IsNoCell a → ⊥
+never-both a awake (inl ended) = let no : true ≡ false = sym ended.0 ∙ awake.lives in cc
+never-both a awake (inr there) = let no : true ≡ false = sym there ∙ awake.awake in cc
+
+-- a machine that lives awake has a cell
+pub awake-cell : (depot : Shelves) (path : Path) (c : Option Cell) (a : Tree (Spot Machine)) → IsAwake a → Shows depot path c (Some a)
+    → (cell : Cell) × (c ≡ Some cell) × CellShows depot path cell a
+awake-cell depot path None a awake h = absurd (never-both a awake h)
+awake-cell depot path (Some cell) a awake h = (cell, refl, h)
+
+-- a machine has a slot in its parent's brood
+pub record IsSlotted (path : Path) (a : Tree (Spot Machine)) : Type 0 where
+  pub key : Key
+  pub seed : Descriptor
+  pub slot : Slot
+  pub shows : SlotShows path key seed slot a
+
+pub ended-broods : (a : Tree (Spot Machine)) → IsSound forest a → has_ended forest a ≡ true → broods_of a ≡ no_brood
+ended-broods (node s broods log) sound ended = (root-sound forest s broods log sound).ended ended
+
+slotted-kind : (path : Path) (key : Key) (seed : Descriptor) (slot : Slot) (a : Tree (Spot Machine)) → SlotShows path key seed slot a → IsSound forest a
+    → IsAwake a ⊎ (broods_of a ≡ no_brood)
+slotted-kind path key seed Asleep a h sound = inr (ap broods_of h.born)
+slotted-kind path key seed Awake a h sound = inl h
+slotted-kind path key seed (Ended outcome) a h sound = inr (ended-broods a sound (slot-ended outcome.ending a h.0))
+
+-- the child of a machine that has a cell
+slotted-born : (depot : Shelves) (path : Path) (ticket k : ℕ) (young : Option Young) (slots : List Slot) (trees : Trees (Spot Machine)) (a : Tree (Spot Machine))
+    → BornShows depot path ticket young slots trees → child_at k trees ≡ Some a → IsSlotted (child_path path ticket k) a
+slotted-born depot path ticket k None slots trees a h found = absurd h
+slotted-born depot path ticket zero (Some young) slots trees a h found = absurd (not-first trees a found)
+slotted-born depot path ticket (suc j) (Some young) slots trees a h found =
+    let has = slot-of path ticket young.key 1 young.seeds.items slots trees j a h.1 found in
+    let same : 1 + j ≡ suc j = omega arith in
+    record {
+      key = young.key;
+      seed = has.seed;
+      slot = has.slot;
+      shows = subst (λ n. SlotShows (child_path path ticket n) young.key has.seed has.slot a) same has.shows;
+    }
+
+none-there : (k : ℕ) (trees : Trees (Spot Machine)) (a : Tree (Spot Machine)) → trees ≡ no_tree → child_at k trees ≡ Some a → ⊥
+unfolding child_at
+none-there k trees a none found = let no : None ≡ Some a = sym (ap (child_at k) none) ∙ found in cc
+
+pub slotted : (depot : Shelves) (path : Path) (c : Cell) (ticket k : ℕ) (t a : Tree (Spot Machine)) → Holds depot path c t → child_of ticket k t ≡ Some a
+    → IsSlotted (child_path path ticket k) a
+slotted depot path c ticket k t a h found = by (get nat_cmp c.broods ticket) refl
+  where
+    by : (b : Option Brood) → get nat_cmp c.broods ticket ≡ b → IsSlotted (child_path path ticket k) a
+    by None e = absurd (none-there k (brood_of ticket (broods_of t)) a (none-held depot path c t h ticket e) found)
+    by (Some b) e =
+        slotted-born depot path ticket k b.young b.slots.items (brood_of ticket (broods_of t)) a (one-held depot path c t h ticket b e).born found
+
+none-below : (path : Path) (a p : Tree (Spot Machine)) → broods_of a ≡ no_brood → subtree path a ≡ Some p → broods_of p ≡ no_brood
+unfolding subtree brood_of child_at
+none-below [] a p none there = ap broods_of (sym (some-same a p there)) ∙ none
+none-below (b ∷ path) a p none there =
+    let no : None ≡ Some p = sym (ap (λ broods. option_and_then (subtree path) (child_at b.child (brood_of b.ticket broods))) none) ∙ there in
+    absurd (cc)
+
+-- a tree of which each machine above a name is shown
+module _ (depot : Shelves) (cells : BTreeMap Path Cell) (t : Tree (Spot Machine)) (sound : IsSound forest t) (name : Path)
+    (shows : (way : Path) (b : Branch) (rest : Path) → name ≡ way ++ (b ∷ rest) → Shows depot way (get path_cmp cells way) (subtree way t)) where
+  awake-below : (path way : Path) (u p : Tree (Spot Machine)) → name ≡ way ++ path → subtree way t ≡ Some u → IsAwake u → subtree path u ≡ Some p
+      → IsAwake p ⊎ (broods_of p ≡ no_brood)
+  unfolding subtree
+  awake-below [] way u p is at awake there = inl (subst IsAwake (some-same u p there) awake)
+  awake-below (b ∷ path) way u p is at awake there =
+      by (child_by b u) refl there (λ a found lives rest. awake-below path (way ++ b ∷ []) a p (is ∙ sym (append_assoc way (b ∷ []) path)) found lives rest)
+    where
+      by : (c : Option (Tree (Spot Machine))) → child_by b u ≡ c → option_and_then (subtree path) c ≡ Some p
+          → ((a : Tree (Spot Machine)) → subtree (way ++ b ∷ []) t ≡ Some a → IsAwake a → subtree path a ≡ Some p → IsAwake p ⊎ (broods_of p ≡ no_brood))
+          → IsAwake p ⊎ (broods_of p ≡ no_brood)
+      by None e rest down = absurd (cc)
+      by (Some a) e rest down =
+          let cell = awake-cell depot way (get path_cmp cells way) u awake (subst (Shows depot way (get path_cmp cells way)) at (shows way b path is)) in
+          let found : subtree (way ++ b ∷ []) t ≡ Some a = child-below way b.ticket b.child t (Some u) at ∙ e in
+          let slot = slotted depot way cell.0 b.ticket b.child u a cell.2.holds e in
+          elim (slotted-kind (child_path way b.ticket b.child) slot.key slot.seed slot.slot a slot.shows (subtree-sound forest (way ++ b ∷ []) t a sound found)) [
+            | inl lives ↦ down a found lives rest
+            | inr none ↦ inr (none-below path a p none rest)
+          ]
+
+  -- the machine of the name is awake, or has no children
+  pub awake-there : (p : Tree (Spot Machine)) → IsAwake t → subtree name t ≡ Some p → IsAwake p ⊎ (broods_of p ≡ no_brood)
+  unfolding subtree
+  awake-there p root there = awake-below name [] t p refl refl root there
