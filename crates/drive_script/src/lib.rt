@@ -9,8 +9,6 @@ mod fields;
 pub mod laws;
 mod line;
 mod script;
-#[cfg(test)]
-mod tests;
 mod turn;
 
 pub use driver::drive;

@@ -7,7 +7,7 @@ ghost use Rattle.forest_model.specs.Machine.{Machine};
 ghost use Rattle.forest_model.specs.Forest.{machines};
 ghost use Rattle.vm_cell.specs.Standing.{standing_call};
 ghost use Rattle.world_core.specs.World.{Forest, StandsFor};
-ghost use Rattle.world_core.specs.Answers.{IsHandedOut, join_ticket};
+ghost use Rattle.world_core.specs.Answers.{IsHandedOut};
 ghost use Rattle.drive_script.specs.Driven.{HasMachines};
 ghost use Rattle.drive_script.specs.Steps.{why};
 ghost use Rattle.drive_script.specs.Turned.{AnswersCall, HasBack, HasRun, HasLent, MayGo, Turns, with_machine};
@@ -88,23 +88,13 @@ fn why_it_stops(world: &World, lease: &Lease) -> Why
     if let Some(ending) = lease.ended() {
         return Why::Ended(ending);
     }
-    let Some(ticket) = joined_ticket(lease.call()) else {
+    let Some(ticket) = lease.joins() else {
         return Why::MayGoOn;
     };
     if world.waits(lease) {
         Why::Waits(ticket)
     } else {
         Why::MayGoOn
-    }
-}
-
-/// The ticket of a call that is a JOIN.
-fn joined_ticket(call: Option<Call>) -> Option<u32>
-    ensures { result ≡ join_ticket call }
-{
-    match call {
-        Some(Call::Join(ticket)) => Some(ticket),
-        _ => None,
     }
 }
 

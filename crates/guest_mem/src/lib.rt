@@ -7,6 +7,3 @@ mod memory;
 mod table;
 
 pub use memory::GuestMem;
-
-#[cfg(test)]
-mod tests;

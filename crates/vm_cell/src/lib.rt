@@ -5,6 +5,3 @@ mod hart;
 mod vm;
 
 pub use vm::{Brood, Ran, Stepped, Vm};
-
-#[cfg(test)]
-mod tests;

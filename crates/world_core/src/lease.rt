@@ -4,6 +4,7 @@ ghost use Rattle.vm_cell.specs.Acts.{Grows};
 ghost use Rattle.vm_cell.specs.Shown.{peeked, shown_registers};
 ghost use Rattle.vm_cell.specs.Standing.{standing_call};
 ghost use Rattle.vm_cell.specs.Steps.{Stands};
+ghost use Rattle.world_core.specs.Answers.{join_ticket};
 ghost use Rattle.world_core.specs.Turns.{turn_of, turns_from};
 
 use crate::turns::Turn;
@@ -89,6 +90,16 @@ impl Lease {
         ensures { result ≡ standing_call self.now.now }
     {
         self.vm.call()
+    }
+
+    /// The ticket of the JOIN that the machine is to make next, if it is to make one.
+    pub fn joins(&self) -> Option<u32>
+        ensures { result ≡ join_ticket (standing_call self.now.now) }
+    {
+        match self.vm.call() {
+            Some(Call::Join(ticket)) => Some(ticket),
+            _ => None,
+        }
     }
 
     /// The most steps that the machine may make.

@@ -17,14 +17,13 @@ ghost use Rattle.world_core.specs.Turns.{turns_from, turn_of};
 ghost use Rattle.world_core.specs.Shows.{CellShows, IsAwake, child_of, forest, told_spot, ended_tree};
 ghost use Rattle.world_core.specs.World.{Forest, StandsFor};
 ghost use Rattle.world_core.specs.Between.{HasLeft, IsBetween, IsLeaving, IsSameWorld, TakesOut, with_tree};
-ghost use Rattle.world_core.specs.Answers.{Answers, HandedOut, IsHandedOut, home_by, join_ticket, stands_waiting, with_machine};
+ghost use Rattle.world_core.specs.Answers.{Answers, HandedOut, IsHandedOut, home_by, stands_waiting, with_machine};
 
 use crate::cell::{Cell, State};
 use crate::lease::Lease;
 use crate::reason::Reason;
 use crate::turns::{Turn, Turns};
 use forest_model::Ending;
-use fork_port::Call;
 use image_depot::Depot;
 use run_report::{Name, Outcome};
 use std::alloc::{AllocError, Global};
@@ -200,7 +199,7 @@ impl World {
         ensures { (depot : Shelves) (f : Forest) → StandsFor depot self.now f → IsHandedOut f lease.now
             → IfSome (subtree lease.now.name f.tree) (λ t. result ≡ stands_waiting (with_machine lease.now.now t)) }
     {
-        let Some(ticket) = joined_ticket(lease.call()) else {
+        let Some(ticket) = lease.joins() else {
             return false;
         };
         match self.cells.get(lease.name()) {
@@ -282,14 +281,4 @@ fn take_out(cells: &mut BTreeMap<Name, Cell>, name: &Name) -> Option<(Name, Cell
         cells.retain(|other, _| !other.is_below_all(&key));
     }
     Some((key, cell))
-}
-
-/// The ticket of a call that is a JOIN.
-fn joined_ticket(call: Option<Call>) -> Option<u32>
-    ensures { result ≡ join_ticket call }
-{
-    match call {
-        Some(Call::Join(ticket)) => Some(ticket),
-        _ => None,
-    }
 }

@@ -1,6 +1,5 @@
-use Rattle.std.proofs.Common.{◌≡◌, ap, sym, ◌∙◌}
+use Rattle.std.proofs.Common.{◌≡◌, sym, ◌∙◌}
 use Rattle.forest_model.specs.Forest.{machines}
-use Rattle.world_core.specs.Answers.{join_ticket}
 use Rattle.drive_script.specs.declared.answer.Why.TheVariants.{Ended, Waits, MayGoOn}
 use Rattle.drive_script.specs.Steps.{why}
 use Rattle.drive_script.specs.Turned.{with_machine}
@@ -14,19 +13,19 @@ returns-in-Some c depot t h =
     lent-shows depot c.args.world.now t lease h (λ a. Ended c.in-Some.ending ≡ why machines (with_machine lease.now a))
     (ends lease.now (own-tree depot c.args.world.now t lease h) c.in-Some.ending (sym c.in-Some.ensures))
 
-pub returns-in_default-joined_ticket : goal.returns-in_default-joined_ticket
-returns-in_default-joined_ticket c depot t h =
+pub returns-in_default-joins : goal.returns-in_default-joins
+returns-in_default-joins c depot t h =
     let lease = c.args.lease.now in
     lent-shows depot c.args.world.now t lease h (λ a. MayGoOn ≡ why machines (with_machine lease.now a))
     (goes-by lease.now (own-tree depot c.args.world.now t lease h) (sym c.in_default.ensures)
-    (c.in_default-joined_ticket.ensures ∙ ap join_ticket c.call.ensures))
+    c.in_default-joins.ensures)
 
 pub returns-then-waits : goal.returns-then-waits
 returns-then-waits c depot t h =
     let lease = c.args.lease.now in
-    lent-shows depot c.args.world.now t lease h (λ a. Waits c.in-Some-joined_ticket.ticket ≡ why machines (with_machine lease.now a))
-    (waits-at lease.now (own-tree depot c.args.world.now t lease h) c.in-Some-joined_ticket.ticket
-    (c.in-Some-joined_ticket.ensures ∙ ap join_ticket c.call.ensures)
+    lent-shows depot c.args.world.now t lease h (λ a. Waits c.in-Some-joins.ticket ≡ why machines (with_machine lease.now a))
+    (waits-at lease.now (own-tree depot c.args.world.now t lease h) c.in-Some-joins.ticket
+    c.in-Some-joins.ensures
     (sym c.if-waits.true ∙ lent-waits depot c.args.world.now t lease h c.waits.result
     (c.waits.ensures depot (taken depot c.args.world.now t lease h) h.stands (lent-handed depot c.args.world.now t lease h))))
 

@@ -7,7 +7,7 @@ use Rattle.forest_model.specs.Machine.{Machine}
 use Rattle.run_report.specs.NameOrder.{path_cmp}
 use Rattle.world_core.specs.declared.cell.Cell.{Cell}
 use Rattle.world_core.specs.Shows.{Holds}
-use Rattle.world_core.specs.Answers.{join_ticket, stands_waiting, with_machine}
+use Rattle.world_core.specs.Answers.{stands_waiting, with_machine}
 use Rattle.world_core.proofs.Steps.{waits-join, waits-none}
 use Rattle.world_core.proofs.Returns.{if-handed}
 use Rattle.world_core.proofs.world.World.waits.Goals as goal
@@ -17,7 +17,7 @@ returns-in_default c depot f stands out_as =
     let lease = c.args.lease.now in
     if-handed depot c.args.self.now f lease (λ t. false ≡ stands_waiting (with_machine lease.now t)) stands out_as
     (λ broods log cell is.
-    waits-none lease.now (node (record { machine = lease.start; place = out }) broods log) (c.in_default.ensures ∙ ap join_ticket c.call.ensures))
+    waits-none lease.now (node (record { machine = lease.start; place = out }) broods log) c.in_default.ensures)
 
 pub returns-in-None : goal.returns-in-None
 returns-in-None c depot f stands out_as =
@@ -36,4 +36,4 @@ returns-in-Some-get c depot f stands out_as =
     let found : Some c.in-Some-get.cell.now ≡ Some cell =
     c.in-Some-get.ensures.value ∙ ap (λ name. get_by (path_cmp name) c.args.self.now.cells) c.name.ensures ∙ is.cell in
     c.waits.ensures depot lease.name t (subst (λ (d : Cell). Holds depot lease.name d t) (sym (some-same c.in-Some-get.cell.now cell found)) is.shows.holds)
-    ∙ waits-join lease.now t c.in-Some.ticket (c.in-Some.ensures ∙ ap join_ticket c.call.ensures))
+    ∙ waits-join lease.now t c.in-Some.ticket c.in-Some.ensures)

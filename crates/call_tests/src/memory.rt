@@ -1,14 +1,14 @@
-//! What no clause says: that calls succeed, that guests really share their pages until they write
-//! them, and that they move between threads.
+//! The RAM of guests: that calls succeed, that guests really share their pages until they write them, and that
+//! they move between threads.
 
 ghost use Rattle.std.specs.Prelude.{◌≡◌, ◌≤◌, IfOk};
 ghost use Rattle.image_depot.specs.Key.{IsKeyOf};
 
-use crate::GuestMem;
 use block_port::{BlockFields, Status};
 use console_port::ConsoleFields;
 use cow_disk::Disk;
 use elf_load::{ImageError, MAX_PAGES, MIN_PAGES, RAM_BASE, load_elf};
+use guest_mem::GuestMem;
 use image_depot::{Depot, ImageKey};
 use page_frames::PAGE_SIZE;
 use rv_asm::elf_of;

@@ -1,0 +1,124 @@
+//! One machine: that calls succeed. What whole guests come to is tested by the command line.
+
+ghost use Rattle.std.specs.Prelude.{◌≤◌, length, All, IfOk};
+ghost use Rattle.image_depot.specs.Key.{IsKeyOf};
+ghost use Rattle.vm_cell.specs.Woken.{IsOfImage};
+
+use cow_disk::Disk;
+use elf_load::{RAM_BASE, load_elf};
+use forest_model::{Ending, Options};
+use fork_port::Call;
+use image_depot::Depot;
+use rv_asm::elf_of;
+use std::alloc::Global;
+use std::sync::Wait;
+use std::test::Fail;
+use vm_cell::{Brood, Stepped, Vm};
+
+// A machine of these words that makes at most 1,000 steps and may have two clones.
+fn booted(alloc: Global, words: &[u32]) -> Result<Vm, Fail>
+    requires { length words.now ≤ 64 }
+{
+    let image = load_elf(alloc, &elf_of(alloc, RAM_BASE, words)?, 64)?;
+    let disk = Disk::from_bytes(alloc, b"")?;
+    let options = Options {
+        limit: 1000,
+        allot: 2,
+    };
+    Ok(Vm::boot(alloc, &image, disk, b"", options)?)
+}
+
+static EXIT_SEVEN: [u32; 5] = [0x100022b7, 0x00700313, 0x0062a023, 0x00500313, 0x0062a423];
+
+#[test]
+fn shows_words_and_registers(rt: HostRuntime) -> Result<(), Fail> {
+    let mut vm = booted(rt.alloc(), &EXIT_SEVEN)?;
+    vm.run(2)?;
+    assert_eq!(rt; vm.peek(0x8000_0004), Some(0x0070_0313));
+    assert_eq!(rt; vm.peek(0x8003_fffc), Some(0));
+    assert_eq!(rt; vm.peek(0x8000_0002), None);
+    assert_eq!(rt; vm.peek(0x8004_0000), None);
+    // x5 is the fork port, and x6 the value to exit with
+    let mut registers = [0; 32];
+    registers[0] = 0x8000_0008;
+    registers[5] = 0x1000_2000;
+    registers[6] = 7;
+    assert_eq!(rt; vm.regs().as_slice(), registers.as_slice());
+    Ok(())
+}
+
+#[test]
+fn stops_and_goes_on(rt: HostRuntime) -> Result<(), Fail> {
+    let mut vm = booted(rt.alloc(), &EXIT_SEVEN)?;
+    let ran = vm.run(3)?;
+    assert_eq!(rt; ran.steps, 3);
+    assert_eq!(rt; ran.why, Stepped::Went);
+    assert_eq!(rt; vm.step()?, Stepped::Went);
+    assert_eq!(rt; vm.step()?, Stepped::Ended(Ending::Exit(7)));
+    assert_eq!(rt; vm.step()?, Stepped::Ended(Ending::Exit(7)));
+    assert_eq!(rt; vm.run(3)?.steps, 0);
+    assert_eq!(rt; vm.steps(), 5);
+    Ok(())
+}
+
+// Two children that exit with 40 and their number, whom the parent joins, to exit with the value of the
+// first.
+static TWO_CHILDREN: [u32; 25] = [
+    0x100022b7, 0x00200313, 0x0062a023, 0x0002a223, 0x00100313, 0x0062a423, 0x00c2a383, 0x0072a023,
+    0x00200313, 0x0062a423, 0x0102a403, 0x02041463, 0x00300313, 0x0072a023, 0x0062a423, 0x00100313,
+    0x0062ac23, 0x0202a303, 0x0062a023, 0x00500313, 0x0062a423, 0x02840313, 0x0062a023, 0x00500313,
+    0x0062a423,
+];
+
+// Makes the CLONE that a machine stands at.
+fn fork<R: Wait>(rt: &R, alloc: Global, vm: &mut Vm, depot: &Depot) -> Result<Brood, Fail>
+    ensures { IfOk result (λ brood. IsKeyOf depot.now brood.key × All (IsOfImage brood.key) brood.seeds.items) }
+{
+    match vm.call() {
+        Some(Call::Clone(_)) => Ok(vm.freeze_child(rt, alloc, depot)?),
+        _ => Err("no CLONE".into()),
+    }
+}
+
+// How the children of a brood end.
+fn ends_of(alloc: Global, brood: &Brood, depot: &Depot) -> Result<Vec<Ending>, Fail>
+    requires here { IsKeyOf depot.now brood.now.key }
+    requires seeds { All (IsOfImage brood.now.key) brood.now.seeds.items }
+{
+    let mut endings = Vec::new(alloc);
+    for seed in &brood.seeds {
+        let mut child = Vm::wake(alloc, seed, &brood.key, depot)?;
+        child.run(1000)?;
+        endings.push(child.ended().ok_or("a child lives")?)?;
+    }
+    Ok(endings)
+}
+
+// Makes the JOIN that a machine stands at.
+fn join(vm: &mut Vm, endings: &[Ending]) -> Result<(), Fail> {
+    match vm.call() {
+        Some(Call::Join(ticket)) if endings.len() == vm.granted(ticket) as usize => {
+            Ok(vm.joined(endings)?)
+        }
+        _ => Err("no such JOIN".into()),
+    }
+}
+
+#[test]
+fn a_parent_joins_its_children(rt: HostRuntime) -> Result<(), Fail> {
+    let alloc = rt.alloc();
+    let depot = Depot::new(alloc)?;
+    let mut vm = booted(alloc, &TWO_CHILDREN)?;
+    assert_eq!(rt; vm.run(1000)?.why, Stepped::Call(Call::Clone(1)));
+    let brood = fork(&rt, alloc, &mut vm, &depot)?;
+    let endings = ends_of(alloc, &brood, &depot)?;
+    assert_eq!(rt;
+        endings.as_slice(),
+        [Ending::Exit(41), Ending::Exit(42)].as_slice()
+    );
+    assert_eq!(rt; vm.run(1000)?.why, Stepped::Call(Call::Join(1)));
+    join(&mut vm, &endings)?;
+    assert_eq!(rt; vm.run(1000)?.why, Stepped::Ended(Ending::Exit(41)));
+    assert_eq!(rt; vm.steps(), 21);
+    Ok(())
+}
