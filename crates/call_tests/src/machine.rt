@@ -14,15 +14,18 @@ use std::alloc::Global;
 use std::sync::Wait;
 use std::test::Fail;
 use vm_cell::{Brood, Stepped, Vm};
+use vm_descriptor::{DescError, Descriptor};
 
-// A machine of these words that makes at most 1,000 steps and may have two clones.
-fn booted(alloc: Global, words: &[u32]) -> Result<Vm, Fail>
-    requires { length words.now ≤ 64 }
+// A machine of these words with so many pages, that makes at most 1,000,000 steps and may have two clones.
+fn booted(alloc: Global, words: &[u32], pages: u32) -> Result<Vm, Fail>
+    requires words { length words.now ≤ 64 }
+    requires least { 16 ≤ pages }
+    requires most { pages ≤ 1024 }
 {
-    let image = load_elf(alloc, &elf_of(alloc, RAM_BASE, words)?, 64)?;
+    let image = load_elf(alloc, &elf_of(alloc, RAM_BASE, words)?, pages)?;
     let disk = Disk::from_bytes(alloc, b"")?;
     let options = Options {
-        limit: 1000,
+        limit: 1_000_000,
         allot: 2,
     };
     Ok(Vm::boot(alloc, &image, disk, b"", options)?)
@@ -32,7 +35,7 @@ static EXIT_SEVEN: [u32; 5] = [0x100022b7, 0x00700313, 0x0062a023, 0x00500313, 0
 
 #[test]
 fn shows_words_and_registers(rt: HostRuntime) -> Result<(), Fail> {
-    let mut vm = booted(rt.alloc(), &EXIT_SEVEN)?;
+    let mut vm = booted(rt.alloc(), &EXIT_SEVEN, 64)?;
     vm.run(2)?;
     assert_eq!(rt; vm.peek(0x8000_0004), Some(0x0070_0313));
     assert_eq!(rt; vm.peek(0x8003_fffc), Some(0));
@@ -49,7 +52,7 @@ fn shows_words_and_registers(rt: HostRuntime) -> Result<(), Fail> {
 
 #[test]
 fn stops_and_goes_on(rt: HostRuntime) -> Result<(), Fail> {
-    let mut vm = booted(rt.alloc(), &EXIT_SEVEN)?;
+    let mut vm = booted(rt.alloc(), &EXIT_SEVEN, 64)?;
     let ran = vm.run(3)?;
     assert_eq!(rt; ran.steps, 3);
     assert_eq!(rt; ran.why, Stepped::Went);
@@ -108,7 +111,7 @@ fn join(vm: &mut Vm, endings: &[Ending]) -> Result<(), Fail> {
 fn a_parent_joins_its_children(rt: HostRuntime) -> Result<(), Fail> {
     let alloc = rt.alloc();
     let depot = Depot::new(alloc)?;
-    let mut vm = booted(alloc, &TWO_CHILDREN)?;
+    let mut vm = booted(alloc, &TWO_CHILDREN, 64)?;
     assert_eq!(rt; vm.run(1000)?.why, Stepped::Call(Call::Clone(1)));
     let brood = fork(&rt, alloc, &mut vm, &depot)?;
     let endings = ends_of(alloc, &brood, &depot)?;
@@ -120,5 +123,71 @@ fn a_parent_joins_its_children(rt: HostRuntime) -> Result<(), Fail> {
     join(&mut vm, &endings)?;
     assert_eq!(rt; vm.run(1000)?.why, Stepped::Ended(Ending::Exit(41)));
     assert_eq!(rt; vm.steps(), 21);
+    Ok(())
+}
+
+/// Bytes of the descriptor of the first child, by their places.
+static FIRST_CHILD: [(usize, &[u8]); 10] = [
+    (0, b"SFD1"),
+    (12, b"\x01\0\0\0\0\0\0\0\x28\0\0\x80"),
+    (40, b"\0\x20\0\x10\x02\0\0\0\x01\0\0\0"),
+    (148, b"\0\x18\0\0"),
+    (200, b"\xff\xff\xff\xff\xff\xff\xff\xff"),
+    (208, b"\x0a\0\0\0\0\0\0\0\x40\x42\x0f\0\0\0\0\0"),
+    (224, b"\0\0\0\0\0\0\0\0"),
+    (248, b"\x01\0\0\0"),
+    (260, b"\x02\0\0\0"),
+    (776, b"\xfe\xff"),
+];
+
+/// Changes of those bytes, each a place and a byte, and the reason for which they are refused.
+static REFUSED: [(usize, u8, u32); 5] = [
+    (0, 0, 2),
+    (8, 0x0f, 3),
+    (8, 0x11, 4),
+    (12, 0, 5),
+    (20, 0x29, 5),
+];
+
+// Whether bytes are refused so.
+fn is_refused(alloc: Global, bytes: &[u8], number: u32) -> bool {
+    match Descriptor::decode(alloc, bytes) {
+        Err(error) => error == DescError::Refused(number),
+        Ok(_) => false,
+    }
+}
+
+#[test]
+fn a_descriptor_goes_through_its_bytes(rt: HostRuntime) -> Result<(), Fail> {
+    let alloc = rt.alloc();
+    let depot = Depot::new(alloc)?;
+    let mut vm = booted(alloc, &TWO_CHILDREN, 16)?;
+    vm.run(1000)?;
+    let brood = fork(&rt, alloc, &mut vm, &depot)?;
+    let mut bytes = brood.seeds.first().ok_or("no child")?.encode(alloc)?;
+    assert_eq!(rt; bytes.len(), 778);
+    for (at, part) in FIRST_CHILD.iter() {
+        assert!(rt;
+            bytes.split_at(*at.min(&bytes.len())).1.starts_with(part),
+            "at {at}"
+        );
+    }
+    let again = Descriptor::decode(alloc, &bytes)?.encode(alloc)?;
+    assert_eq!(rt; again.as_slice(), bytes.as_slice());
+    assert!(rt; is_refused(alloc, bytes.split_at(775.min(bytes.len())).0, 1));
+    assert!(rt; is_refused(alloc, bytes.split_at(777.min(bytes.len())).0, 4));
+    for (at, byte, number) in REFUSED.iter() {
+        let mut changed = bytes.clone()?;
+        if let Some(old) = changed.get_mut(*at) {
+            *old = *byte;
+        }
+        assert!(rt; is_refused(alloc, &changed, *number), "at {at}");
+    }
+    bytes.push(0xff)?;
+    assert!(rt; is_refused(alloc, &bytes, 4));
+    if let Some(pages) = bytes.get_mut(8) {
+        *pages = 20;
+    }
+    assert!(rt; is_refused(alloc, &bytes, 6));
     Ok(())
 }

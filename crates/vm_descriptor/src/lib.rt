@@ -1,10 +1,16 @@
 //! The descriptor of a clone: what a machine that was forked starts with, beside what its image holds.
 #![tactic(auto)]
 
+mod bytes;
 mod descriptor;
+mod error;
+pub mod laws;
 mod page_map;
+mod read;
+mod refusal;
 
 pub use descriptor::{Descriptor, MAX_CLONES, MAX_LIMIT, MAX_SHARE};
+pub use error::DescError;
 pub use page_map::PageMap;
 
 #[cfg(test)]

@@ -1,0 +1,64 @@
+//! Replies to requests for a page of a frozen image, as frames of bytes.
+#![tactic(auto)]
+
+ghost use Rattle.std.specs.Prelude.{◌≡◌, ◌≢◌, ℕ, List, length, IfOk, MatchOption};
+ghost use Rattle.fetch_proto.specs.Frame.{frame};
+
+use page_frames::PAGE_SIZE;
+use std::alloc::{AllocError, Global};
+
+/// The bytes of a frame.
+pub const FRAME_SIZE: usize = 12 + PAGE_SIZE;
+
+/// The number in the four bytes that a frame begins with, `SFR1`.
+const MAGIC: u32 = 0x3152_4653;
+
+/// A page of an image, as a frame has it.
+#[derive(Clone, Copy, Debug)]
+pub struct Frame<'a> {
+    /// The number of the image.
+    pub image: u32,
+    /// The number of the page in the image.
+    pub page: u32,
+    /// The bytes of the page.
+    pub bytes: &'a [u8; PAGE_SIZE],
+}
+
+/// The frame of a page of an image.
+pub fn encode_reply(
+    alloc: Global,
+    image: u32,
+    page: u32,
+    bytes: &[u8; PAGE_SIZE],
+) -> Result<Vec<u8>, AllocError>
+    ensures { IfOk result (λ reply. reply.items ≡ frame image page bytes.now) }
+{
+    let mut reply = Vec::with_capacity(alloc, FRAME_SIZE)?;
+    reply.extend_from_slice(&MAGIC.to_le_bytes())?;
+    reply.extend_from_slice(&image.to_le_bytes())?;
+    reply.extend_from_slice(&page.to_le_bytes())?;
+    reply.extend_from_slice(bytes)?;
+    Ok(reply)
+}
+
+/// Reads a frame, or answers `None` exactly where the bytes are no frame.
+pub fn decode_frame(bytes: &[u8]) -> Option<Frame<'_>>
+    ensures { MatchOption result
+        ((image page : ℕ) (content : List ℕ) → length content ≡ PAGE_SIZE → bytes.now ≢ frame image page content)
+        (λ f. bytes.now ≡ frame f.image f.page f.bytes.now) }
+{
+    let (magic, rest) = bytes.split_first_chunk::<4>()?;
+    let (image, rest) = rest.split_first_chunk::<4>()?;
+    let (page, rest) = rest.split_first_chunk::<4>()?;
+    let Ok(bytes) = <&[u8; PAGE_SIZE]>::try_from(rest) else {
+        return None;
+    };
+    if u32::from_le_bytes(*magic) != MAGIC {
+        return None;
+    }
+    Some(Frame {
+        image: u32::from_le_bytes(*image),
+        page: u32::from_le_bytes(*page),
+        bytes,
+    })
+}

@@ -1,0 +1,14 @@
+mod Accepted
+mod AcceptedSpelled
+mod Appended
+mod Maps
+mod DescribedBack
+mod FlagsRead
+mod MapLast
+mod MapSpelled
+mod Bits
+mod NotRefused
+mod ReadBack
+mod Spelled
+mod Spelling
+mod Words

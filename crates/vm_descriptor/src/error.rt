@@ -1,0 +1,26 @@
+//! Why bytes are no descriptor.
+
+ghost use Rattle.std.specs.Prelude.{◌≡◌};
+ghost use Rattle.vm_descriptor.specs.declared.error.DescError.TheVariants as error;
+
+use std::alloc::AllocError;
+use thiserror::Error;
+
+/// Why bytes are no descriptor.
+#[derive(Debug, Drop, Error, PartialEq, Eq)]
+pub enum DescError {
+    /// The number of the first reason: 1 fewer than 776 bytes, 2 another mark, 3 no number of pages, 4 another
+    /// length than those pages ask for, 5 a field out of its range, 6 a bit of the map past the last page.
+    #[error("descriptor refused, reason {0}")]
+    Refused(u32),
+    #[error("want of memory")]
+    Memory,
+}
+
+impl From<AllocError> for DescError {
+    ghost from_gives = { λ _ given. given ≡ error.Memory };
+
+    fn from(_error: AllocError) -> DescError {
+        DescError::Memory
+    }
+}
