@@ -7,6 +7,3 @@ mod status;
 
 pub use port::{BlockFields, BlockPort};
 pub use status::Status;
-
-#[cfg(test)]
-mod tests;

@@ -5,6 +5,3 @@ mod port;
 pub mod registers;
 
 pub use port::{ConsoleFields, ConsolePort, MAX_INPUT};
-
-#[cfg(test)]
-mod tests;

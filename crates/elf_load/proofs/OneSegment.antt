@@ -1,12 +1,13 @@
 -- Files that `elf_of` writes, and the image that they load.
-use Rattle.std.proofs.Common.{◌≡◌, ℕ, ◌+◌, ◌-◌, ◌*◌, ◌/◌, ◌%◌, ◌<◌, ◌≤◌, ◌^◌, Bool, true, false, not, cond, eqb, ltb, leb, max, min, List, [], ◌∷◌, ◌++◌, length, get_or, drop, replicate, Some, None, Ok, refl, sym, ap, ◌∙◌, inl, inr, arith}
+use Rattle.std.proofs.Common.{◌≡◌, ℕ, ◌+◌, ◌-◌, ◌*◌, ◌/◌, ◌%◌, ◌<◌, ◌≤◌, ◌^◌, Bool, true, false, not, cond, eqb, ltb, leb, max, min, List, [], ◌∷◌, ◌++◌, length, get_or, drop, Some, None, Ok, refl, sym, ap, ◌∙◌, inl, inr, arith}
 use Rattle.std.specs.Prelude.{◌||◌, ◌&&◌, ◌⊎◌, map, filter}
 use Rattle.std.specs.List.{list_any, range_with_len, starts_with}
 use Rattle.std.proofs.lemmas.Bool.{cases_Bool, cases_lt, cond-true, cond-false, le-ltb, lt-ltb, ltb-false, le-leb, lt-leb, eq-eqb, and_from, and_left, and_right, or_from, not_from_true}
-use Rattle.std.proofs.lemmas.List.{length-append, length-replicate, get_or-append_right, get_or_append_left, get_or-replicate, get_or_past}
+use Rattle.std.proofs.lemmas.List.{length-append, get_or-append_right, get_or_append_left}
 use Rattle.std.proofs.lemmas.List.FromFn.{fill_by_all, length-map-range_with_len}
 use Rattle.std.proofs.lemmas.List.Sorted.{IsPermutation-refl}
 use Rattle.flat_memory.specs.Flat.{half_at, word_at, zeros}
+use Rattle.flat_memory.proofs.Zeros.{length-zeros, get_or-zeros}
 use Rattle.elf_load.specs.Elf.{e_type, e_machine, e_version, e_entry, e_phoff, e_phentsize, e_phnum, p_type, segment_at, header_rules, place_rules, rules_of, first_broken, loads_among, loads_of, segments_of, non_empty, loaded, unless_refused, image_of, covers, touches, segment_byte, byte_at, ram_of, pages_of, ram_end, page_start, end_of, is_entry, is_cut, is_outside, is_overfull, overlap}
 use Rattle.elf_load.specs.OneSegment.{headers, elf_of, image_of_code}
 use Rattle.elf_load.specs.declared.image.TheConstants.{RAM_BASE, PAGE_SIZE, MAX_PAGES}
@@ -15,20 +16,20 @@ use Rattle.elf_load.specs.declared.segment.Segment.{Segment}
 use Rattle.elf_load.proofs.Order.{same_map}
 use Rattle.elf_load.proofs.Rules.{loaded_unbroken}
 
-length-elf_of : (base : ℕ) (code : List ℕ) → length (elf_of base code) ≡ 84 + length code
+pub length-elf_of : (base : ℕ) (code : List ℕ) → length (elf_of base code) ≡ 84 + length code
 unfolding elf_of headers
 length-elf_of base code = length-append (headers base (length code)) code
 
 -- a number below 2 ^ 32 in four bytes
-whole_word : (n : ℕ) → n < 4294967296 → n % 256 + 256 * (n / 256 % 256 + 256 * (n / 65536 % 256 + 256 * (n / 16777216 % 256 + 256 * 0))) ≡ n
+pub whole_word : (n : ℕ) → n < 4294967296 → n % 256 + 256 * (n / 256 % 256 + 256 * (n / 65536 % 256 + 256 * (n / 16777216 % 256 + 256 * 0))) ≡ n
 whole_word n small = omega arith
 
-entry-elf_of : (base : ℕ) (code : List ℕ) → base < 4294967296 → e_entry (elf_of base code) ≡ base
+pub entry-elf_of : (base : ℕ) (code : List ℕ) → base < 4294967296 → e_entry (elf_of base code) ≡ base
 unfolding elf_of headers
 entry-elf_of base code small = whole_word base small
 
 -- no rule on the header is broken
-header-elf_of : (base : ℕ) (code : List ℕ) → first_broken (header_rules (elf_of base code)) ≡ None
+pub header-elf_of : (base : ℕ) (code : List ℕ) → first_broken (header_rules (elf_of base code)) ≡ None
 unfolding elf_of headers header_rules
 header-elf_of base code =
     let long = length-elf_of base code in
@@ -120,18 +121,6 @@ whole base code pages h = (omega (arith, h.entered, h.most), omega (arith, h.roo
 code_byte : (base : ℕ) (code : List ℕ) (k : ℕ) → get_or (elf_of base code) (84 + k) 0 ≡ get_or code k 0
 unfolding elf_of headers
 code_byte base code k = get_or-append_right (headers base (length code)) code 84 (84 + k) 0 refl (omega arith) ∙ ap (λ i. get_or code i 0) (omega arith)
-
-length-zeros : (n : ℕ) → length (zeros n) ≡ n
-unfolding zeros
-length-zeros n = length-replicate n 0
-
-get_or-zeros : (n at : ℕ) → get_or (zeros n) at 0 ≡ 0
-unfolding zeros
-get_or-zeros n at =
-    elim (cases_lt at n) [
-      | inl within ↦ get_or-replicate {A = ℕ} n at 0 0 within
-      | inr past ↦ get_or_past _ at 0 (omega (arith, length-replicate {A = ℕ} n 0))
-    ]
 
 -- the byte of the segment, at an offset in RAM
 byte_in_code : (base : ℕ) (code : List ℕ) (at before behind : ℕ) → base ≡ RAM_BASE + before

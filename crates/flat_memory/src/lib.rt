@@ -3,10 +3,13 @@
 
 pub mod laws;
 
-ghost use Rattle.std.specs.Prelude.{◌≡◌, ◌+◌, ◌≤◌, length};
+ghost use Rattle.std.specs.Prelude.{◌≡◌, ◌+◌, ◌≤◌, ◌++◌, length, OnOk};
+ghost use Rattle.std.specs.List.{flat_map};
+ghost use Rattle.byteorder.specs.Endian.{little_bytes};
 ghost use Rattle.flat_memory.specs.Flat.{word_at, half_at, put_bytes};
 
 use byteorder::{ByteOrder, LittleEndian};
+use std::alloc::AllocError;
 
 /// The 32-bit number in the four bytes from `at`.
 #[inline]
@@ -33,4 +36,14 @@ pub fn write_bytes(memory: &mut [u8], at: usize, bytes: &[u8])
     ensures { memory.new ≡ put_bytes memory.old at bytes.now }
 {
     memory[at..at + bytes.len()].copy_from_slice(bytes);
+}
+
+/// Adds the bytes of these words, little endian.
+pub fn push_words(bytes: &mut Vec<u8>, words: &[u32]) -> Result<(), AllocError>
+    ensures { OnOk result (bytes.new.items ≡ bytes.old.items ++ flat_map (little_bytes 4) words.now) }
+{
+    for word in words {
+        bytes.extend_from_slice(&word.to_le_bytes())?;
+    }
+    Ok(())
 }

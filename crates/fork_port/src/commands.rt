@@ -4,7 +4,7 @@ ghost use Rattle.std.specs.Prelude.{◌≡◌};
 ghost use Rattle.fork_port.specs.Commands.{effect_of};
 
 /// What a store to a register was.
-#[derive(Clone, Copy, Debug, PartialEq, Eq)]
+#[derive(Clone, Copy)]
 pub enum Stored {
     /// The register keeps the word.
     Register,
@@ -24,7 +24,7 @@ pub enum Call {
 }
 
 /// What a command asks for, as the registers stand.
-#[derive(Clone, Copy, Debug, PartialEq, Eq)]
+#[derive(Clone, Copy)]
 pub enum Asked {
     /// Nothing: it is refused, and RESULT tells why by this word.
     Refused(u32),

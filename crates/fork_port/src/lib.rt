@@ -14,6 +14,3 @@ pub use commands::{Asked, Call, Effect, Stored};
 pub use ending::Ending;
 pub use port::{ForkFields, ForkPort};
 pub use tickets::Ticket;
-
-#[cfg(test)]
-mod tests;

@@ -83,7 +83,7 @@ impl ForkPort {
     pub fn new(alloc: Global, allot: u32) -> ForkPort
         ensures { result ≡ at_start allot }
     {
-        ForkPort {
+        let fields = ForkFields {
             first_argument: 0,
             second_argument: 0,
             result: 0,
@@ -92,10 +92,8 @@ impl ForkPort {
             join_select: 0,
             granted: 0,
             next_ticket: 1,
-            tickets: TicketList::new(alloc),
-            joined: Vec::new(alloc),
-            opening: Snapshot::of(&allot),
-        }
+        };
+        ForkPort::of_fields(alloc, fields)
     }
 
     /// A port with these registers, without tickets and join results.
@@ -396,10 +394,7 @@ impl ForkPort {
         ensures ok { result ≡ child_registers self.now k share }
         ensures holding_is_share { holding result ≡ share }
     {
-        let alloc = *self.joined.allocator();
-        let tickets = TicketList::new(alloc);
-        let joined = Vec::new(alloc);
-        ForkPort {
+        let fields = ForkFields {
             first_argument: self.first_argument,
             second_argument: self.second_argument,
             result: k,
@@ -408,10 +403,8 @@ impl ForkPort {
             join_select: self.join_select,
             granted: self.granted,
             next_ticket: 1,
-            tickets,
-            joined,
-            opening: Snapshot::of(&share),
-        }
+        };
+        ForkPort::of_fields(*self.joined.allocator(), fields)
     }
 }
 

@@ -16,7 +16,7 @@ pub const TIMER_INTERRUPT: u32 = 0x8000_0007;
 const TIMER_HANDLER: u32 = 4 * 7;
 
 /// The control and status registers of a machine, with the rules of the RISC-V Privileged ISA 20211203.
-#[derive(Clone, Copy, Debug, PartialEq, Eq)]
+#[derive(Clone, Copy)]
 pub struct Csrs {
     registers: CsrRegisters,
 }

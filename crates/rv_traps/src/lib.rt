@@ -11,6 +11,3 @@ mod registers;
 pub use counter::Wrote;
 pub use csrs::{Csrs, TIMER_INTERRUPT};
 pub use registers::CsrRegisters;
-
-#[cfg(test)]
-mod tests;

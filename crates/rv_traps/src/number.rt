@@ -2,7 +2,7 @@ ghost use Rattle.std.specs.Prelude.{◌≡◌};
 ghost use Rattle.rv_traps.specs.Table.{csr_of, keeps};
 
 /// A control and status register, by its name in the RISC-V Privileged ISA 20211203, chapter 2.
-#[derive(Clone, Copy, Debug, PartialEq, Eq)]
+#[derive(Clone, Copy)]
 pub(crate) enum Csr {
     /// mvendorid, marchid, mimpid, mhartid and mconfigptr.
     Information,

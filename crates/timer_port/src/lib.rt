@@ -6,6 +6,3 @@ mod registers;
 
 pub use port::TimerPort;
 pub use registers::{MTIME_HIGH, MTIME_LOW, MTIMECMP_HIGH, MTIMECMP_LOW, TimerRegisters};
-
-#[cfg(test)]
-mod tests;

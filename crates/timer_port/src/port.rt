@@ -7,7 +7,7 @@ use std::marker::Model;
 
 /// The timer of a machine (RISC-V Privileged ISA 20211203, section 3.2.1). Its registers lie at
 /// offsets from 0x02004000, and each half of them is accessed as a word.
-#[derive(Clone, Copy, Debug, PartialEq, Eq)]
+#[derive(Clone, Copy)]
 pub struct TimerPort {
     registers: TimerRegisters,
 }

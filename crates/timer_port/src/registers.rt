@@ -21,7 +21,7 @@ pub struct TimerRegisters {
 }
 
 /// A half of a register, which is a word of the port.
-#[derive(Clone, Copy, Debug, PartialEq, Eq)]
+#[derive(Clone, Copy)]
 pub(crate) enum Half {
     MtimecmpLow,
     MtimecmpHigh,

@@ -6,6 +6,3 @@ mod ports;
 
 pub use fork_port::Effect;
 pub use ports::{PortFields, Ports};
-
-#[cfg(test)]
-mod tests;

@@ -21,7 +21,7 @@ use timer_port::{TimerPort, TimerRegisters};
 
 /// The registers of the ports, but for the disk, the input and the output, the tickets and what was
 /// joined.
-#[derive(Clone, Copy, Debug, PartialEq, Eq)]
+#[derive(Clone, Copy)]
 pub struct PortFields {
     pub timer: TimerRegisters,
     pub console: ConsoleFields,

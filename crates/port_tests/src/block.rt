@@ -1,0 +1,194 @@
+//! The block port.
+
+use block_port::{BlockPort, Status};
+use cow_disk::{Disk, FrozenDisk};
+use port_error::{Fault, PortError};
+use std::alloc::Global;
+use std::process::Abort;
+use std::test::Fail;
+use std::thread;
+
+/// A frozen disk of one sector of bytes AA.
+fn frozen_disk(alloc: Global) -> Result<FrozenDisk, Fail> {
+    Ok(Disk::from_bytes(alloc, &[0xaa; 512])?.freeze()?)
+}
+
+/// A port over that disk.
+fn port_at_start(alloc: Global) -> Result<BlockPort, Fail> {
+    Ok(BlockPort::new(frozen_disk(alloc)?.open()?))
+}
+
+/// SECTOR, STATUS, COUNT and the ends of the buffer.
+fn registers(port: &mut BlockPort) -> Result<[u32; 5], PortError> {
+    Ok([
+        port.load(0, 4)?,
+        port.load(8, 4)?,
+        port.load(12, 4)?,
+        port.load(0x200, 4)?,
+        port.load(0x3fc, 4)?,
+    ])
+}
+
+/// Whether the port has a load and a store of so many bytes at an offset.
+fn has_access(offset: u32, width: u32) -> (bool, bool) {
+    let buffer = offset % 4 == 0 && (0x200..0x400).contains(&offset);
+    match (offset, width) {
+        (0, 4) => (true, true),
+        (4, 4) => (false, true),
+        (8 | 12, 4) => (true, false),
+        (_, 4) => (buffer, buffer),
+        _ => (false, false),
+    }
+}
+
+fn takes_words(rt: &impl Abort, port: &mut BlockPort) {
+    for offset in 0..0x410u32 {
+        for width in 0..9u32 {
+            let (loads, stores) = has_access(offset, width);
+            let load = port.load(offset, width).err();
+            let store = port.store(offset, width, 7).err();
+            assert_eq!(rt;
+                (load, store),
+                (
+                    if loads { None } else { Some(Fault) },
+                    if stores { None } else { Some(PortError::Fault) }
+                ),
+                "{width} bytes at {offset}"
+            );
+        }
+    }
+}
+
+#[test]
+fn takes_words_at_its_registers(rt: HostRuntime) -> Result<(), Fail> {
+    let mut port = port_at_start(rt.alloc())?;
+    takes_words(&rt, &mut port);
+    Ok(())
+}
+
+/// The sector, the command, and then the status and the ends of the buffer.
+static COMMANDS: [(u32, u32, u32, u32, u32); 8] = [
+    (1, 1, 1, 0, 0x11223344),
+    (1, 2, 1, 0, 0x11223344),
+    (1, 3, 1, 0, 0x11223344),
+    (0xffff_ffff, 1, 1, 0, 0x11223344),
+    (0, 3, 2, 0, 0x11223344),
+    (0, 0, 2, 0, 0x11223344),
+    (0, 1, 0, 0xaaaa_aaaa, 0xaaaa_aaaa),
+    (0, 2, 0, 0xaaaa_aaaa, 0xaaaa_aaaa),
+];
+
+/// Gives a command, and reads the registers after it.
+fn run(port: &mut BlockPort, sector: u32, command: u32) -> Result<[u32; 5], PortError> {
+    port.store(0, 4, sector)?;
+    port.store(4, 4, command)?;
+    registers(port)
+}
+
+fn does_commands(rt: &impl Abort, port: &mut BlockPort) {
+    assert_eq!(rt; registers(port), Ok([0, 0, 1, 0, 0]));
+    assert_eq!(rt; port.store(0x3fc, 4, 0x11223344), Ok(()));
+    for &(sector, command, status, first, last) in COMMANDS.iter() {
+        assert_eq!(rt;
+            run(port, sector, command),
+            Ok([sector, status, 1, first, last]),
+            "command {command} at {sector}"
+        );
+    }
+}
+
+#[test]
+fn commands_by_the_table(rt: HostRuntime) -> Result<(), Fail> {
+    let mut port = port_at_start(rt.alloc())?;
+    does_commands(&rt, &mut port);
+    Ok(())
+}
+
+/// Loads the first word of the buffer after reading sector 0.
+fn first_word(port: &mut BlockPort) -> Result<u32, PortError> {
+    port.store(0, 4, 0)?;
+    port.store(4, 4, 1)?;
+    Ok(port.load(0x200, 4)?)
+}
+
+/// Writes a sector of these bytes, and changes the buffer then.
+fn write_word(port: &mut BlockPort) -> Result<(), PortError> {
+    port.store(0x200, 4, 0x11223344)?;
+    port.store(4, 4, 2)?;
+    port.store(0x200, 4, 0)
+}
+
+fn writes_alone(rt: &impl Abort, first: &mut BlockPort, second: &mut BlockPort) {
+    assert_eq!(rt; write_word(first), Ok(()));
+    assert_eq!(rt;
+        (first_word(first), first_word(second)),
+        (Ok(0x11223344), Ok(0xaaaa_aaaa))
+    );
+    assert_eq!(rt;
+        (first.load(0x204, 4), first.load(8, 1)),
+        (Ok(0), Err(Fault))
+    );
+}
+
+/// The first word of a port that is opened over this disk.
+fn opened_word(frozen: &FrozenDisk) -> Result<u32, Fail> {
+    let mut port = BlockPort::new(frozen.open()?);
+    Ok(first_word(&mut port)?)
+}
+
+#[test]
+fn a_write_shows_behind_one_port(rt: HostRuntime) -> Result<(), Fail> {
+    let frozen = frozen_disk(rt.alloc())?;
+    let mut first = BlockPort::new(frozen.open()?);
+    let mut second = BlockPort::new(frozen.open()?);
+    writes_alone(&rt, &mut first, &mut second);
+    assert_eq!(rt; opened_word(&frozen)?, 0xaaaa_aaaa);
+    Ok(())
+}
+
+/// Fills a buffer, and gives a command for a sector that is not there.
+fn asks_for_no_sector(port: &mut BlockPort) -> Result<(), PortError> {
+    port.store(0x204, 4, 0x11223344)?;
+    port.store(0, 4, 9)?;
+    port.store(4, 4, 1)
+}
+
+fn are_equal(rt: &impl Abort, port: &BlockPort, same: &mut BlockPort) {
+    let fields = port.fields();
+    assert_eq!(rt;
+        (fields.sector, fields.status, fields.buffer[4]),
+        (9, Status::BadSector, 0x44)
+    );
+    assert_eq!(rt; same.fields(), fields);
+    assert_eq!(rt; registers(same), Ok([9, 1, 1, 0, 0]));
+}
+
+#[test]
+fn fields_make_an_equal_port(rt: HostRuntime) -> Result<(), Fail> {
+    let mut port = port_at_start(rt.alloc())?;
+    asks_for_no_sector(&mut port)?;
+    let mut same = BlockPort::of_fields(port.fields(), port.disk().freeze()?.open()?);
+    are_equal(&rt, &port, &mut same);
+    Ok(())
+}
+
+/// The numbers by which STATUS tells what became of a command.
+#[test]
+fn statuses_by_their_numbers(rt: HostRuntime) {
+    let statuses = [Status::Done, Status::BadSector, Status::UnknownCommand];
+    for (status, number) in statuses.into_iter().zip(0..) {
+        assert_eq!(rt;
+            (status.word(), Status::from_word(number)),
+            (number, Some(status))
+        );
+    }
+    assert_eq!(rt; Status::from_word(3), None);
+}
+
+#[test]
+fn moves_between_threads(rt: HostRuntime) -> Result<(), Fail> {
+    let mut port = port_at_start(rt.alloc())?;
+    let (word, _) = thread::join(&rt, move || first_word(&mut port), || ());
+    assert_eq!(rt; word, Ok(0xaaaa_aaaa));
+    Ok(())
+}

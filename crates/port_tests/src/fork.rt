@@ -1,0 +1,314 @@
+//! The fork port. Its registers, commands and refusals are told here by their numbers.
+
+use fork_port::{Asked, Call, Effect, Ending, ForkFields, ForkPort};
+use port_error::{Fault, PortError};
+use std::process::Abort;
+use std::thread;
+
+const TICKET: u32 = 1;
+
+const CLONE: u32 = 2;
+
+const JOIN: u32 = 3;
+
+const KILL: u32 = 4;
+
+/// The first word of RESULT that is no ticket's number.
+const TICKETS_END: u32 = 0xffff_fffa;
+
+/// Carries out a command, where it is a JOIN with these endings.
+fn carry_out(port: &mut ForkPort, command: u32, endings: &[Ending]) -> Result<(), PortError> {
+    match port.asked(command) {
+        Asked::Call(Call::Clone(number)) => port.cloned(number),
+        Asked::Call(Call::Kill(number)) => port.killed(number),
+        Asked::Call(Call::Join(number)) => {
+            if let Some((children, _, _)) = port.find(number)
+                && children as usize == endings.len()
+            {
+                port.joined(number, endings)?;
+            }
+        }
+        _ => {
+            if port.fields().next_ticket < TICKETS_END {
+                port.store(8, 4, command)?;
+            }
+        }
+    }
+    Ok(())
+}
+
+/// Stores the arguments, carries out the command, and loads RESULT.
+fn run(
+    port: &mut ForkPort,
+    command: u32,
+    first: u32,
+    second: u32,
+    endings: &[Ending],
+) -> Result<u32, PortError> {
+    port.store(0, 4, first)?;
+    port.store(4, 4, second)?;
+    carry_out(port, command, endings)?;
+    Ok(port.load(12, 4)?)
+}
+
+/// GRANTED and ALLOT.
+fn amounts(port: &ForkPort) -> Result<(u32, u32), Fault> {
+    Ok((port.load(36, 4)?, port.load(20, 4)?))
+}
+
+/// JKIND and JVALUE of a child of the last join.
+fn join_result(port: &mut ForkPort, child: u32) -> Result<(u32, u32), PortError> {
+    port.store(24, 4, child)?;
+    Ok((port.load(28, 4)?, port.load(32, 4)?))
+}
+
+/// All registers that are loaded.
+fn registers(port: &ForkPort) -> Result<[u32; 9], Fault> {
+    let mut read = [0; 9];
+    for (offset, value) in [0, 4, 12, 16, 20, 24, 28, 32, 36]
+        .into_iter()
+        .zip(&mut read)
+    {
+        *value = port.load(offset, 4)?;
+    }
+    Ok(read)
+}
+
+fn takes_a_word(rt: &impl Abort, port: &mut ForkPort, offset: u32, width: u32) {
+    let is_word = width == 4 && offset % 4 == 0 && offset < 40;
+    let load = if is_word && offset != 8 {
+        None
+    } else {
+        Some(Fault)
+    };
+    let store = match offset {
+        0 | 4 | 8 | 24 if is_word => Ok(Effect::Done),
+        _ => Err(PortError::Fault),
+    };
+    let found = (port.load(offset, width).err(), port.store(offset, width, 7));
+    assert_eq!(rt; found, (load, store), "{width} bytes at {offset}");
+}
+
+#[test]
+fn takes_words_at_its_registers(rt: HostRuntime) {
+    for offset in 0..48u32 {
+        for width in 0..9u32 {
+            let mut port = ForkPort::new(rt.alloc(), 0);
+            takes_a_word(&rt, &mut port, offset, width);
+        }
+    }
+}
+
+fn is_granted_cloned_and_joined(rt: &impl Abort, port: &mut ForkPort) {
+    assert_eq!(rt; registers(port), Ok([0, 0, 0, 0, 7, 0, 0, 0, 0]));
+    assert_eq!(rt;
+        (run(port, TICKET, 4, 2, &[]), amounts(port)),
+        (Ok(1), Ok((2, 1)))
+    );
+    assert_eq!(rt; port.find(1), Some((2, 2, false)));
+    assert_eq!(rt;
+        (run(port, CLONE, 1, 0, &[]), port.find(1)),
+        (Ok(0), Some((2, 2, true)))
+    );
+    let endings = [Ending::Exit(5), Ending::Limit];
+    assert_eq!(rt;
+        (run(port, JOIN, 1, 0, &endings), amounts(port)),
+        (Ok(2), Ok((2, 7)))
+    );
+    assert_eq!(rt; port.find(1), None);
+}
+
+/// A child of the last join, and then JKIND and JVALUE.
+static JOINED: [(u32, (u32, u32)); 5] = [
+    (0, (0, 0)),
+    (1, (1, 5)),
+    (2, (2, 0)),
+    (3, (0, 0)),
+    (0xffff_ffff, (0, 0)),
+];
+
+fn tells_of_the_join(rt: &impl Abort, port: &mut ForkPort) {
+    for &(child, want) in JOINED.iter() {
+        assert_eq!(rt; join_result(port, child), Ok(want), "child {child}");
+    }
+    assert_eq!(rt; run(port, TICKET, 1, 0, &[]), Ok(2));
+}
+
+#[test]
+fn a_ticket_from_its_grant_to_its_join(rt: HostRuntime) {
+    let mut port = ForkPort::new(rt.alloc(), 7);
+    is_granted_cloned_and_joined(&rt, &mut port);
+    tells_of_the_join(&rt, &mut port);
+}
+
+/// A command with its arguments, and then RESULT, GRANTED and ALLOT.
+static COMMANDS: [(u32, u32, u32, u32, u32, u32); 24] = [
+    (TICKET, 0, 2, 0xffff_fffc, 0, 7),
+    (TICKET, 4, 7, 0xffff_fffb, 0, 7),
+    (TICKET, 4, 0xffff_ffff, 0xffff_fffb, 0, 7),
+    (TICKET, 0, 0xffff_ffff, 0xffff_fffc, 0, 7),
+    (CLONE, 1, 0, 0xffff_ffff, 0, 7),
+    (JOIN, 1, 0, 0xffff_ffff, 0, 7),
+    (KILL, 1, 0, 0xffff_ffff, 0, 7),
+    (0, 1, 0, 0xffff_fffa, 0, 7),
+    (7, 1, 0, 0xffff_fffa, 0, 7),
+    (0x0100_0001, 1, 0, 0xffff_fffa, 0, 7),
+    (TICKET, 4, 2, 1, 2, 1),
+    (JOIN, 1, 0, 0xffff_fffd, 2, 1),
+    (CLONE, 1, 0, 0, 2, 1),
+    (CLONE, 1, 0, 0xffff_fffe, 2, 1),
+    (TICKET, 1, 1, 0xffff_fffb, 2, 1),
+    (TICKET, 9, 0, 2, 1, 0),
+    (CLONE, 0, 0, 0xffff_ffff, 1, 0),
+    (CLONE, 3, 0, 0xffff_ffff, 1, 0),
+    (KILL, 2, 0, 0, 1, 1),
+    (KILL, 2, 0, 0xffff_ffff, 1, 1),
+    (KILL, 1, 0, 2, 1, 7),
+    (JOIN, 1, 0, 0xffff_ffff, 1, 7),
+    (TICKET, 7, 0, 3, 7, 0),
+    (KILL, 3, 0, 0, 7, 7),
+];
+
+fn does_commands(rt: &impl Abort, port: &mut ForkPort) {
+    for (at, row) in COMMANDS.iter().enumerate() {
+        let (command, first, second, result, granted, allot) = *row;
+        let found = (run(port, command, first, second, &[]), amounts(port));
+        assert_eq!(rt; found, (Ok(result), Ok((granted, allot))), "row {at}");
+    }
+}
+
+/// What EXIT and ZERO ask of the machine, with RESULT, which they leave.
+fn ask_of_the_machine(port: &mut ForkPort) -> Result<(Effect, Effect, u32), PortError> {
+    port.store(0, 4, 9)?;
+    port.store(4, 4, 2)?;
+    let exit = port.store(8, 4, 5)?;
+    let zero = port.store(8, 4, 6)?;
+    Ok((exit, zero, port.load(12, 4)?))
+}
+
+#[test]
+fn commands_by_the_table(rt: HostRuntime) {
+    let mut port = ForkPort::new(rt.alloc(), 7);
+    does_commands(&rt, &mut port);
+    let asked = ask_of_the_machine(&mut port);
+    assert_eq!(rt; asked, Ok((Effect::Exit(9), Effect::Zero(9, 2), 0)));
+    port.refuse(0xffff_fffc);
+    assert_eq!(rt; port.load(12, 4), Ok(0xffff_fffc));
+}
+
+/// The children that are asked for and their share, and then GRANTED and ALLOT.
+static GREATEST: [(u32, u32, u32, u32); 4] = [
+    (0xffff_ffff, 0, 0xffff_ffff, 0),
+    (0xffff_ffff, 1, 0x7fff_ffff, 1),
+    (0xffff_ffff, 0xffff_fffe, 1, 0),
+    (1, 0x7fff_ffff, 1, 0x7fff_ffff),
+];
+
+fn gives_and_takes(rt: &impl Abort, port: &mut ForkPort, row: (u32, u32, u32, u32)) {
+    let (children, share, granted, allot) = row;
+    let ticket = (run(port, TICKET, children, share, &[]), amounts(port));
+    assert_eq!(rt;
+        ticket,
+        (Ok(1), Ok((granted, allot))),
+        "{children} with {share}"
+    );
+    let killed = (
+        run(port, CLONE, 1, 0, &[]),
+        run(port, KILL, 1, 0, &[]),
+        amounts(port),
+    );
+    assert_eq!(rt;
+        killed,
+        (Ok(0), Ok(granted), Ok((granted, 0xffff_ffff))),
+        "{children} with {share}"
+    );
+}
+
+#[test]
+fn the_greatest_tickets(rt: HostRuntime) {
+    for row in GREATEST.iter() {
+        let mut port = ForkPort::new(rt.alloc(), 0xffff_ffff);
+        gives_and_takes(&rt, &mut port, *row);
+    }
+}
+
+fn makes_a_child(rt: &impl Abort, port: &mut ForkPort, share: u32) {
+    let ticket = (run(port, TICKET, 1, share, &[]), amounts(port));
+    assert_eq!(rt; ticket, (Ok(1), Ok((1, 0))));
+    assert_eq!(rt;
+        (run(port, CLONE, 1, 8, &[]), port.store(24, 4, 1)),
+        (Ok(0), Ok(Effect::Done))
+    );
+}
+
+fn is_a_child(rt: &impl Abort, child: &mut ForkPort, share: u32) {
+    let want = ForkFields {
+        first_argument: 1,
+        second_argument: 8,
+        result: 6,
+        clone_id: 6,
+        allot: share,
+        join_select: 1,
+        granted: 1,
+        next_ticket: 1,
+    };
+    assert_eq!(rt; child.fields(), want);
+    assert_eq!(rt; amounts(child), Ok((1, share)));
+    assert_eq!(rt;
+        (child.tickets().len(), join_result(child, 1)),
+        (0, Ok((0, 0)))
+    );
+}
+
+#[test]
+fn shares_of_shares(rt: HostRuntime) {
+    let mut port = ForkPort::new(rt.alloc(), 4);
+    for share in [3, 2, 1, 0] {
+        makes_a_child(&rt, &mut port, share);
+        port = port.child(6, share);
+        is_a_child(&rt, &mut port, share);
+    }
+    assert_eq!(rt; run(&mut port, TICKET, 1, 0, &[]), Ok(0xffff_fffb));
+}
+
+fn is_of_fields(rt: &impl Abort, port: &mut ForkPort, fields: ForkFields) {
+    assert_eq!(rt; (port.fields(), port.find(1)), (fields, None));
+    assert_eq!(rt; run(port, TICKET, 9, 0, &[]), Ok(2));
+}
+
+#[test]
+fn fields_make_a_port_without_tickets(rt: HostRuntime) {
+    let mut port = ForkPort::new(rt.alloc(), 9);
+    let stored = (run(&mut port, TICKET, 2, 1, &[]), port.store(24, 4, 3));
+    assert_eq!(rt; stored, (Ok(1), Ok(Effect::Done)));
+    let fields = port.fields();
+    assert_eq!(rt; (fields.result, fields.granted, fields.allot), (1, 2, 5));
+    let mut same = ForkPort::of_fields(rt.alloc(), fields);
+    is_of_fields(&rt, &mut same, fields);
+}
+
+#[test]
+fn registers_by_their_offsets(rt: HostRuntime) {
+    let port = ForkPort::of_fields(
+        rt.alloc(),
+        ForkFields {
+            first_argument: 1,
+            second_argument: 2,
+            result: 3,
+            clone_id: 4,
+            allot: 5,
+            join_select: 6,
+            granted: 7,
+            next_ticket: 8,
+        },
+    );
+    let read = registers(&port);
+    assert_eq!(rt; read, Ok([1, 2, 3, 4, 5, 6, 0, 0, 7]));
+}
+
+#[test]
+fn moves_between_threads(rt: HostRuntime) {
+    let mut port = ForkPort::new(rt.alloc(), 1);
+    let (number, _) = thread::join(&rt, move || run(&mut port, TICKET, 1, 0, &[]), || ());
+    assert_eq!(rt; number, Ok(1));
+}
