@@ -1,5 +1,6 @@
 -- A machine on lease from a world that has all other machines of a tree at home.
-use Rattle.std.proofs.Common.{rules, ◌≡◌, ℕ, ◌+◌, ◌&&◌, ◌||◌, not, Bool, true, false, refl, sym, ap, ◌∙◌, subst, arith, Option, Some, None, IsSome, IfSome, IsSomeAnd, is_some, option_map, option_and_then, Ok}
+use Rattle.std.proofs.Common.{rules, ◌≡◌, ℕ, ◌+◌, ◌&&◌, ◌||◌, not, Bool, true, false, refl, sym, ap, ◌∙◌, subst, arith, Option, Some, None, IsSome, IfSome, MatchOption, IsSomeAnd, is_some, option_map, option_and_then, Ok}
+use Rattle.std.proofs.lemmas.Bool.{and_parts, not-true}
 use Rattle.boxcar.specs.Table.{Shelves}
 use Rattle.fork_port.specs.declared.commands.Call.{Call}
 use Rattle.fork_port.specs.declared.ending.Ending.{Ending}
@@ -8,12 +9,13 @@ use Rattle.forest_tree.specs.Settle.{has_ended, rests, settled_by, settled, wait
 use Rattle.forest_tree.specs.Projection.{map_tree}
 use Rattle.forest_tree.proofs.Projected.{subtree-map}
 use Rattle.forest_tree.proofs.Rests.{lives-none}
-use Rattle.forest_tree.proofs.Settle.{both-true}
+use Rattle.forest_tree.proofs.Run.{is-some}
 use Rattle.forest_history.specs.Places.{Place, asleep, home, out, parked, Spot, placed, bare, spots, advanced, may_run, steps}
 use Rattle.forest_history.specs.World.{holds, is_at_home, is_at_home_at, is_out_at, lives_at_home}
 use Rattle.forest_history.specs.Rows.{How, gave, ended, forked, joined, killed, waited, took, spent, Spends, IfThere, Allows, does}
-use Rattle.forest_history.proofs.Changes.{at_path-here, not-true, steps-own}
+use Rattle.forest_history.proofs.Changes.{at_path-here, steps-own}
 use Rattle.forest_history.proofs.Whole.{turn-home}
+use Rattle.forest_history.proofs.Spots.{machine-placed}
 use Rattle.forest_model.specs.Machine as model
 use Rattle.forest_model.specs.Machine.{Machine}
 use Rattle.forest_model.specs.Forest.{machines, tree_call}
@@ -51,11 +53,8 @@ found (Some a) start lives is = record {
   is = is;
   lives =
       ap (λ (m : Machine). m.ending) (sym is)
-      ∙ lives-none (machine a).machine.ending (not-true (is_some (machine a).machine.ending) (both-true (not (is_some (machine a).machine.ending)) _ lives).0);
+      ∙ lives-none (machine a).machine.ending (not-true (is_some (machine a).machine.ending) (and_parts (not (is_some (machine a).machine.ending)) _ lives).0);
 }
-
-put-machine : (place : Place) (t : Tree (Spot Machine)) → (machine (placed place t)).machine ≡ (machine t).machine
-put-machine place (node s broods log) = refl
 
 bare-machine : (t : Tree (Spot Machine)) → machine (bare t) ≡ (machine t).machine
 unfolding map_tree
@@ -66,10 +65,6 @@ out-as start (node s broods log) is = ap (λ (m : Machine). record { machine = m
 
 some-not : {A : Type 0} (o : Option A) (a : A) → o ≡ Some a → o ≡ None → ⊥
 some-not o a some none = cc
-
-pub some-there : {A : Type 0} (o : Option A) → IsSome o → (a : A) × (o ≡ Some a)
-some-there None some = absurd (search rules)
-some-there (Some a) some = (a, refl)
 
 -- a machine's own steps
 ran-on : (k : ℕ) (m now : Machine) (broods : Broods Machine) (log : Log Machine) → m.ending ≡ None → may_run machines k m ≡ true
@@ -164,11 +159,11 @@ module _ (depot : Shelves) (w : World) (t : Tree Machine) (lease : Lent) (h : Ha
   lent-shown P shown = subst (λ o. IsSomeAnd o P) lent-at shown
 
   -- whether it waits as it stands
-  pub lent-waits : (waiting : Bool) → IfSome (subtree lease.name taken.tree) (λ a. waiting ≡ stands_waiting (answers.with_machine lease.now a))
+  pub lent-waits : (waiting : Bool) → MatchOption (subtree lease.name taken.tree) (waiting ≡ false) (λ a. waiting ≡ stands_waiting (answers.with_machine lease.now a))
       → waiting ≡ not (is_some lease.now.ending) && waits machines (with_machine lease.now own-tree)
   unfolding spots machines
   lent-waits waiting shown =
-      subst (λ o. IfSome o (λ a. waiting ≡ stands_waiting (answers.with_machine lease.now a))) out-there shown
+      subst (λ o. MatchOption o (waiting ≡ false) (λ a. waiting ≡ stands_waiting (answers.with_machine lease.now a))) out-there shown
       ∙ now-waits lease.now at-home.at
 
   -- ---- what a row makes
@@ -179,7 +174,7 @@ module _ (depot : Shelves) (w : World) (t : Tree Machine) (lease : Lent) (h : Ha
     spends = subst (IfThere machines (Spends machines how lease.ran)) out-there goes.allowed
 
     out-machine : (machine (placed out at-home.at)).machine ≡ lease.start
-    out-machine = put-machine out at-home.at ∙ at-home.is
+    out-machine = machine-placed out at-home.at ∙ at-home.is
 
     own : may_run machines lease.ran lease.start ≡ true
     own = ap (may_run machines lease.ran) (sym out-machine) ∙ spends.ran.own
@@ -287,7 +282,7 @@ module _ (depot : Shelves) (w : World) (t : Tree Machine) (lease : Lent) (h : Ha
       let ready : waits machines (steps machines lease.ran own-tree) ≡ false =
       ap (waits machines) same
       ∙ (goes-lives (has_ended machines (with_machine lease.now own-tree)) (waits machines (with_machine lease.now own-tree)) goes).1 in
-      let waiting = (both-true _ (waits (spots machines) (steps (spots machines) lease.ran (placed out at-home.at))) (spends waited new a.2.1).may).1 in
+      let waiting = (and_parts _ (waits (spots machines) (steps (spots machines) lease.ran (placed out at-home.at))) (spends waited new a.2.1).may).1 in
       let no : false ≡ true = sym ready ∙ waits-then waited new a.2.1 ∙ waiting in
       absurd (cc)
 

@@ -10,6 +10,7 @@ mod Runs
 mod Limits
 mod Lent
 mod Whys
+mod Reasons
 mod Turning
 mod Driving
 mod Stepping

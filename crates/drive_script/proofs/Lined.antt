@@ -1,6 +1,6 @@
 -- Lines of scripts, as steps.
 use Rattle.std.proofs.Common.{◌≡◌, ◌≢◌, ℕ, zero, suc, ◌+◌, ◌<◌, ◌≤◌, ◌||◌, not, cond, Bool, true, false, refl, sym, ap, ap₂, ◌∙◌, subst, arith, inl, inr, List, [], ◌∷◌, ◌++◌, length, replicate, Option, Some, None, IsSome, is_some, option_map}
-use Rattle.std.proofs.lemmas.Bool.{cases_lt}
+use Rattle.std.proofs.lemmas.Bool.{cases_lt, and_parts}
 use Rattle.std.proofs.lemmas.List.{length-replicate}
 use Rattle.std.specs.Prelude.{slice_get}
 use Rattle.forest_tree.specs.Operations.{join}
@@ -8,7 +8,7 @@ use Rattle.forest_tree.specs.Tree.{Tree, node, Trees, no_tree, tree, Broods, Log
 use Rattle.forest_tree.specs.Settle.{have_ended, endings, own_steps, waits, rests, step, settle, settle_all}
 use Rattle.forest_tree.specs.Sound.{IsSound}
 use Rattle.forest_tree.proofs.Calls.{step-join, ready-ended, endings-at}
-use Rattle.forest_tree.proofs.Settle.{both-true, length-endings, machine-settled}
+use Rattle.forest_tree.proofs.Settle.{length-endings, machine-settled}
 use Rattle.forest_tree.proofs.Places.{some-same, subtree-sound}
 use Rattle.forest_tree.proofs.Rests.{settle-here}
 use Rattle.forest_tree.proofs.Schedules.{settle_all-keeps, finish-settle_all}
@@ -140,8 +140,8 @@ child-ended : (trees : Trees Machine) → have_ended machines trees ≡ true →
     → IsSome (machines.ending (machine child))
 unfolding have_ended child_at
 child-ended no_tree h i child e = cc e
-child-ended (tree t rest) h zero child e = subst (λ x. IsSome (machines.ending (machine x))) (some-same t child e) (both-true (is_some (machines.ending (machine t))) (have_ended machines rest) h).0
-child-ended (tree t rest) h (suc i) child e = child-ended rest (both-true (is_some (machines.ending (machine t))) (have_ended machines rest) h).1 i child e
+child-ended (tree t rest) h zero child e = subst (λ x. IsSome (machines.ending (machine x))) (some-same t child e) (and_parts (is_some (machines.ending (machine t))) (have_ended machines rest) h).0
+child-ended (tree t rest) h (suc i) child e = child-ended rest (and_parts (is_some (machines.ending (machine t))) (have_ended machines rest) h).1 i child e
 
 moves : (t : Tree Machine) (path : Path) (a : Tree Machine) → subtree path t ≡ Some a → rests machines (Some a) ≡ false
     → after_line (script.step path 1) t ≡ settle machines path t

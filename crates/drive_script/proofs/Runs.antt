@@ -1,5 +1,6 @@
 -- What rows of a world make of the tree of whole machines, and how many steps of a machine they are.
 use Rattle.std.proofs.Common.{◌≡◌, ℕ, zero, suc, ◌+◌, ◌&&◌, ◌||◌, not, eqb, Bool, true, false, cond, refl, sym, ap, ap₂, ◌∙◌, arith, [], replicate, Option, Some, None, option_map, is_some}
+use Rattle.std.proofs.lemmas.Bool.{and_parts, not-true}
 use Rattle.forest_tree.specs.Operations.{Call, clone, join, kill, Operations}
 use Rattle.forest_tree.specs.Tree.{Tree, node, Trees, no_tree, tree, Broods, no_brood, brood, Log, Path, machine, brood_of, subtree}
 use Rattle.forest_tree.specs.Settle.{have_ended, waits_by, waits, rests, settled_by, settled, step, settle}
@@ -7,10 +8,10 @@ use Rattle.forest_tree.specs.Projection.{map_tree, map_trees, map_broods}
 use Rattle.forest_tree.proofs.Calls.{step-own}
 use Rattle.forest_tree.proofs.Projected.{settle-map, settle_all-map}
 use Rattle.forest_tree.proofs.Rests.{lives-none}
-use Rattle.forest_tree.proofs.Settle.{both-true, machine-settled}
+use Rattle.forest_tree.proofs.Settle.{machine-settled}
 use Rattle.forest_history.specs.Places.{at_path, Place, home, out, parked, Spot, placed, bare, spots, advanced, may_run, steps}
 use Rattle.forest_history.specs.Rows.{How, gave, ended, forked, joined, killed, waited, is_clone, is_join, is_kill, may_spend, spend, came_back}
-use Rattle.forest_history.proofs.Changes.{at_path-here, at_path-leaves, at_path-twice, not-true, settle-changes, settle_all-changes}
+use Rattle.forest_history.proofs.Changes.{at_path-here, at_path-leaves, at_path-twice, settle-changes, settle_all-changes}
 use Rattle.forest_history.proofs.Ends.{at_path-map}
 use Rattle.forest_history.proofs.Spots.{projects}
 use Rattle.fork_port.specs.declared.ending.Ending.{Ending}
@@ -94,8 +95,8 @@ module _ {M E : Type 0} (o : Operations M E) where
   own-step : (k : ℕ) (a : Tree M) → may_run o (suc k) (machine a) ≡ true → OwnStep k a
   unfolding may_run
   own-step k (node m broods log) own =
-      let first = both-true (not (is_some (o.ending m))) (not (is_some (o.call m)) && may_run o k (o.advance m)) own in
-      let then = both-true (not (is_some (o.call m))) (may_run o k (o.advance m)) first.1 in
+      let first = and_parts (not (is_some (o.ending m))) (not (is_some (o.call m)) && may_run o k (o.advance m)) own in
+      let then = and_parts (not (is_some (o.call m))) (may_run o k (o.advance m)) first.1 in
       let lives : o.ending m ≡ None = lives-none (o.ending m) (not-true (is_some (o.ending m)) first.0) in
       let call : o.call m ≡ None = lives-none (o.call m) (not-true (is_some (o.call m)) then.0) in
       record {
@@ -173,7 +174,7 @@ module _ {M E : Type 0} (o : Operations M E) where
 
   join-goes : (e : Option E) (c : Option Call) (broods : Broods M) (test : Bool) → (not (is_some e) && test) && not (waits_by o c broods) ≡ true
       → is_some e || waits_by o c broods ≡ false
-  join-goes None c broods test h = not-true (waits_by o c broods) (both-true test (not (waits_by o c broods)) h).1
+  join-goes None c broods test h = not-true (waits_by o c broods) (and_parts test (not (waits_by o c broods)) h).1
   join-goes (Some ending) c broods test h = cc h
 
   pub call-goes : (how : How) (a : Tree M) (m : M) (waiting : Bool) → machine a ≡ m → waits o a ≡ waiting → calls how ≡ 1

@@ -7,9 +7,11 @@ use Rattle.fork_port.specs.declared.ending.Ending.{Ending}
 use Rattle.fork_port.specs.declared.ending.Ending.TheVariants.{Exit, Limit}
 use Rattle.forest_tree.specs.Tree.{Tree, Path, machine, subtree}
 use Rattle.forest_tree.specs.Settle.{rests, waits}
+use Rattle.forest_tree.proofs.Run.{is-some}
 use Rattle.forest_model.specs.Machine.{Machine}
 use Rattle.forest_model.specs.Forest.{machines}
 use Rattle.world_core.specs.declared.world.World.{World}
+use Rattle.world_core.proofs.Returns.{there-is}
 use Rattle.drive_script.specs.declared.answer.Answer.TheVariants.{NoMachine, Ran}
 use Rattle.drive_script.specs.declared.answer.Why.{Why}
 use Rattle.drive_script.specs.declared.answer.Why.TheVariants.{Ended}
@@ -21,13 +23,8 @@ use Rattle.drive_script.specs.Steps.{steps_made, after_steps, if_lives, live_at,
 use Rattle.drive_script.specs.Told.{answer, answer_by, ran, ran_by}
 use Rattle.drive_script.specs.Turned.{HasRun, HasStopped, IsLiveOrLimit, Lives, Turns}
 use Rattle.drive_script.proofs.Driving.{made-within}
-use Rattle.drive_script.proofs.Lent.{some-there}
 use Rattle.drive_script.proofs.Runs.{why-ended}
 use Rattle.drive_script.proofs.Steps.{after-both, after-none, made-all, made-at-most, made-none, made-zero}
-
-there-is : {A : Type 0} (o : Option A) (P : A → Type 0) → IsSomeAnd o P → (a : A) × (o ≡ Some a) × P a
-there-is None P h = absurd h
-there-is (Some a) P h = (a, refl, h)
 
 -- so many steps were made, and none before the first turn
 abbrev pub Stepping : Shelves → Path → Tree Machine → ℕ → World → Type 0
@@ -78,7 +75,7 @@ module _ (depot : Shelves) (name : Path) (t : Tree Machine) (made : ℕ) (w : Wo
     answer-made : (steps : ℕ) (a : Tree Machine) → Lives name t → steps_made machines most name t ≡ steps
         → subtree name (after_steps machines steps name t) ≡ Some a → answer (step name most) t ≡ Ran steps (why machines a)
     answer-made steps a lives is there =
-        ap (answer_by (step name most) t) (some-there (live_at machines name t) lives).1
+        ap (answer_by (step name most) t) (is-some (live_at machines name t) lives).1
         ∙ ap (λ n. ran name n t) is ∙ ap (ran_by steps) there
 
     -- memory was wanting

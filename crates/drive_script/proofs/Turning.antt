@@ -1,11 +1,12 @@
 -- What a machine did in its turn.
-use Rattle.std.proofs.Common.{◌≡◌, ◌≢◌, ℕ, ◌+◌, ◌-◌, ◌<◌, ◌≤◌, ◌⊎◌, ◌&&◌, ◌||◌, not, inl, inr, Bool, true, false, refl, sym, ap, ap₂, ◌∙◌, subst, arith, replicate, Option, Some, None, IsSome, IfSome, IsSomeAnd, is_some, Ok}
+use Rattle.std.proofs.Common.{◌≡◌, ◌≢◌, ℕ, ◌+◌, ◌-◌, ◌<◌, ◌≤◌, ◌⊎◌, ◌&&◌, ◌||◌, not, inl, inr, Bool, true, false, refl, sym, ap, ap₂, ◌∙◌, subst, arith, replicate, Option, Some, None, IsSome, IfSome, MatchOption, IsSomeAnd, is_some, Ok}
 use Rattle.boxcar.specs.Table.{Shelves}
 use Rattle.fork_port.specs.declared.commands.Call.{Call}
 use Rattle.fork_port.specs.declared.ending.Ending.{Ending}
 use Rattle.forest_tree.specs.Tree.{Tree, node, machine, subtree}
 use Rattle.forest_tree.specs.Settle.{has_ended, rests, settled, waits}
 use Rattle.forest_tree.proofs.Settle.{machine-settled}
+use Rattle.forest_tree.proofs.Run.{is-some}
 use Rattle.forest_model.specs.Machine as model
 use Rattle.forest_model.specs.Machine.{Machine, next}
 use Rattle.forest_model.specs.Forest.{machines}
@@ -27,7 +28,7 @@ use Rattle.drive_script.specs.declared.turn.Turn.TheVariants.{Stopped, Called}
 use Rattle.drive_script.specs.Driven.{HasMachines, HasMade}
 use Rattle.drive_script.specs.Steps.{steps_made, after_steps, why}
 use Rattle.drive_script.specs.Turned.{HasBack, HasRun, HasLent, HasStopped, Lives, MayGo, Turns, ran_to, with_machine}
-use Rattle.drive_script.proofs.Lent.{lent-live, lent-shown, lent-shows, lent-waits, own-tree, ran-live, some-there, taken}
+use Rattle.drive_script.proofs.Lent.{lent-live, lent-shown, lent-shows, lent-waits, own-tree, ran-live, taken}
 use Rattle.drive_script.proofs.Runs.{why-settled}
 use Rattle.drive_script.proofs.Steps.{first-made, made-stops}
 
@@ -67,7 +68,7 @@ ended-rests : (now : Machine) (a : Tree Machine) → IsSome now.ending → rests
 unfolding machines
 ended-rests now (node old broods log) over =
     rests-ended (has_ended machines (settled machines now broods log)) (waits machines (settled machines now broods log))
-    (ap (λ (m : Machine). is_some m.ending) (machine-settled machines now broods log) ∙ ap is_some (some-there now.ending over).1)
+    (ap (λ (m : Machine). is_some m.ending) (machine-settled machines now broods log) ∙ ap is_some (is-some now.ending over).1)
 
 waits-parts : (ending : Option Ending) (waiting : Bool) → true ≡ not (is_some ending) && waiting → (ending ≡ None) × (waiting ≡ true)
 waits-parts None waiting h = (refl, sym h)
@@ -111,10 +112,10 @@ module _ (depot : Shelves) (w : World) (t : Tree Machine) (lease : Lent) (h : Ha
   lent-lives = subst IsSome (sym (lent-live depot w t lease h)) refl
 
   -- it makes its call
-  pub may-call : IsSome (standing_call lease.now) → IfSome (subtree lease.name (taken depot w t lease h).tree) (λ a. false ≡ stands_waiting (answers.with_machine lease.now a))
+  pub may-call : IsSome (standing_call lease.now) → MatchOption (subtree lease.name (taken depot w t lease h).tree) (false ≡ false) (λ a. false ≡ stands_waiting (answers.with_machine lease.now a))
       → MayGo t lease
   may-call some waits_not =
-      let call = some-there (standing_call lease.now) some in
+      let call = is-some (standing_call lease.now) some in
       lent-shows depot w t lease h (λ a. rests machines (Some (with_machine lease.now a)) ≡ false)
       (call-goes lease.now (own-tree depot w t lease h) call.0 call.1 (lent-waits depot w t lease h false waits_not))
 
@@ -158,7 +159,7 @@ module _ (depot : Shelves) (w : World) (t : Tree Machine) (lease : Lent) (h : Ha
     )
 
   -- why it made no call
-  pub stops-waiting : IfSome (subtree lease.name (taken depot w t lease h).tree) (λ a. true ≡ stands_waiting (answers.with_machine lease.now a))
+  pub stops-waiting : MatchOption (subtree lease.name (taken depot w t lease h).tree) (true ≡ false) (λ a. true ≡ stands_waiting (answers.with_machine lease.now a))
       → rests machines (Some now-tree) ≡ true
   stops-waiting waits_there = waits-rests lease.now (own-tree depot w t lease h) (lent-waits depot w t lease h true waits_there)
 

@@ -9,7 +9,7 @@ use fork_port::Ending;
 use std::{fmt, str};
 
 /// Why a machine stops.
-#[derive(Clone, Copy, Debug)]
+#[derive(Clone, Copy)]
 pub(crate) enum Why {
     /// It has ended.
     Ended(Ending),
@@ -33,7 +33,7 @@ impl fmt::Display for Why {
 }
 
 /// What a line answers of the machine that it names.
-#[derive(Clone, Copy, Debug)]
+#[derive(Clone, Copy)]
 pub(crate) enum Answer {
     /// No live machine has the name.
     NoMachine,

@@ -1,7 +1,9 @@
 //! A world of machines that is driven by a script.
 
+ghost use Rattle.std.specs.Prelude.{◌≡◌};
 ghost use Rattle.forest_tree.specs.Tree.{Tree};
 ghost use Rattle.forest_model.specs.Machine.{Machine};
+ghost use Rattle.world_core.specs.World.{reason_of};
 ghost use Rattle.drive_script.specs.Driven.{Drives, DrivesLine, HasMachines};
 ghost use Rattle.drive_script.specs.Lines.{line_read};
 ghost use Rattle.drive_script.specs.Script.{peek, regs, step};
@@ -20,7 +22,7 @@ use world_core::World;
 
 /// Does what the lines of a script say, one after another, and gives the text that they write. No machine is
 /// on lease, before and after. Where memory is wanting the lines before that are done, and of the line at which
-/// it was wanting the steps that were made.
+/// it was wanting the steps that were made. The world's reason to stop stays.
 pub fn drive<R: Wait>(
     rt: &R,
     alloc: Global,
@@ -29,7 +31,8 @@ pub fn drive<R: Wait>(
     depot: &Depot,
 ) -> Result<Vec<u8>, AllocError>
     requires { (t : Tree Machine) × HasMachines depot.now world.old t }
-    ensures { (t : Tree Machine) → HasMachines depot.now world.old t → Drives depot.now script.now t result world.new }
+    ensures drives { (t : Tree Machine) → HasMachines depot.now world.old t → Drives depot.now script.now t result world.new }
+    ensures reason { reason_of world.new ≡ reason_of world.old }
 {
     let mut text = String::new(alloc);
     'lines: for line in script.lines() {
@@ -49,7 +52,8 @@ fn answer_line<R: Wait>(
     depot: &Depot,
 ) -> Result<Answer, AllocError>
     requires { (t : Tree Machine) × HasMachines depot.now world.old t }
-    ensures { (t : Tree Machine) → HasMachines depot.now world.old t → DrivesLine depot.now (line_read line.now) t result world.new }
+    ensures drives { (t : Tree Machine) → HasMachines depot.now world.old t → DrivesLine depot.now (line_read line.now) t result world.new }
+    ensures reason { reason_of world.new ≡ reason_of world.old }
 {
     match line {
         Line::Step { name, most } => step(rt, alloc, world, name, u64::from(*most), depot),
@@ -68,7 +72,8 @@ fn step<R: Wait>(
     depot: &Depot,
 ) -> Result<Answer, AllocError>
     requires { (t : Tree Machine) × HasMachines depot.now world.old t }
-    ensures { (t : Tree Machine) → HasMachines depot.now world.old t → DrivesLine depot.now (step name.now most) t result world.new }
+    ensures drives { (t : Tree Machine) → HasMachines depot.now world.old t → DrivesLine depot.now (step name.now most) t result world.new }
+    ensures reason { reason_of world.new ≡ reason_of world.old }
 {
     let mut made = 0;
     loop {
@@ -101,7 +106,8 @@ fn peek(
     depot: &Depot,
 ) -> Result<Answer, AllocError>
     requires { (t : Tree Machine) × HasMachines depot.now world.old t }
-    ensures { (t : Tree Machine) → HasMachines depot.now world.old t → DrivesLine depot.now (peek name.now address) t result world.new }
+    ensures drives { (t : Tree Machine) → HasMachines depot.now world.old t → DrivesLine depot.now (peek name.now address) t result world.new }
+    ensures reason { reason_of world.new ≡ reason_of world.old }
 {
     let Some(lease) = world.take_named(alloc, name, depot)? else {
         return Ok(Answer::NoMachine);
@@ -114,7 +120,8 @@ fn peek(
 /// Reads a machine's pc and its registers.
 fn regs(alloc: Global, world: &mut World, name: &Name, depot: &Depot) -> Result<Answer, AllocError>
     requires { (t : Tree Machine) × HasMachines depot.now world.old t }
-    ensures { (t : Tree Machine) → HasMachines depot.now world.old t → DrivesLine depot.now (regs name.now) t result world.new }
+    ensures drives { (t : Tree Machine) → HasMachines depot.now world.old t → DrivesLine depot.now (regs name.now) t result world.new }
+    ensures reason { reason_of world.new ≡ reason_of world.old }
 {
     let Some(lease) = world.take_named(alloc, name, depot)? else {
         return Ok(Answer::NoMachine);

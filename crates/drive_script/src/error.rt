@@ -44,7 +44,7 @@ impl<T: Drop> From<AllocFailed<T>> for ScriptError {
 }
 
 /// Why a line is not read.
-#[derive(Clone, Copy, Debug)]
+#[derive(Clone, Copy)]
 pub(crate) enum LineError {
     /// It is not in form, by this kind.
     Refused(u32),

@@ -14,7 +14,7 @@ use std::alloc::Global;
 pub const MAX_STEPS: u32 = 1_000_000_000;
 
 /// A line of a script. Each names a machine.
-#[derive(Debug, Drop)]
+#[derive(Drop)]
 pub enum Line {
     /// `step N K`: at most so many steps.
     Step { name: Name, most: u32 },
@@ -38,7 +38,7 @@ impl Line {
 }
 
 /// The word that a line begins with.
-#[derive(Clone, Copy, Debug)]
+#[derive(Clone, Copy)]
 enum Word {
     Step,
     Peek,

@@ -14,7 +14,7 @@ use std::marker::Model;
 pub const MAX_SCRIPT: usize = 1_048_576;
 
 /// A script: its lines in order, without those that are empty.
-#[derive(Debug, Drop)]
+#[derive(Drop)]
 pub struct Script {
     lines: Vec<Line>,
 }

@@ -6,7 +6,7 @@ ghost use Rattle.forest_tree.specs.Tree.{Tree, subtree};
 ghost use Rattle.forest_model.specs.Machine.{Machine};
 ghost use Rattle.forest_model.specs.Forest.{machines};
 ghost use Rattle.vm_cell.specs.Standing.{standing_call};
-ghost use Rattle.world_core.specs.World.{Forest, StandsFor};
+ghost use Rattle.world_core.specs.World.{Forest, StandsFor, reason_of};
 ghost use Rattle.world_core.specs.Answers.{IsHandedOut};
 ghost use Rattle.drive_script.specs.Driven.{HasMachines};
 ghost use Rattle.drive_script.specs.Steps.{why};
@@ -21,7 +21,7 @@ use std::sync::Wait;
 use world_core::{Lease, Placed, World};
 
 /// What a machine did in its turn.
-#[derive(Clone, Copy, Debug)]
+#[derive(Clone, Copy)]
 pub(crate) enum Turn {
     /// No live machine has the name.
     NoMachine,
@@ -41,7 +41,8 @@ pub(crate) fn take_turn<R: Wait>(
     depot: &Depot,
 ) -> Result<Turn, AllocError>
     requires { (t : Tree Machine) × HasMachines depot.now world.old t }
-    ensures { (t : Tree Machine) → HasMachines depot.now world.old t → Turns depot.now name.now most t result world.new }
+    ensures turns { (t : Tree Machine) → HasMachines depot.now world.old t → Turns depot.now name.now most t result world.new }
+    ensures reason { reason_of world.new ≡ reason_of world.old }
 {
     match world.take_named(alloc, name, depot)? {
         Some(lease) => run_turn(rt, alloc, world, lease, most, depot),
@@ -60,7 +61,8 @@ fn run_turn<R: Wait>(
 ) -> Result<Turn, AllocError>
     requires lent { (t : Tree Machine) × HasLent depot.now world.old t lease }
     requires new { lease.ran ≡ 0 }
-    ensures { (t : Tree Machine) → HasLent depot.now world.old t lease → Turns depot.now lease.name most t result world.new }
+    ensures turns { (t : Tree Machine) → HasLent depot.now world.old t lease → Turns depot.now lease.name most t result world.new }
+    ensures reason { reason_of world.new ≡ reason_of world.old }
 {
     let Ok(ran) = lease.run(most) else {
         give_back(world, lease);
@@ -101,7 +103,8 @@ fn why_it_stops(world: &World, lease: &Lease) -> Why
 /// Gives a machine back that makes no call.
 pub(crate) fn give_back(world: &mut World, lease: Lease)
     requires { (depot : Shelves) × (t : Tree Machine) × HasLent depot world.old t lease }
-    ensures { (depot : Shelves) (t : Tree Machine) → HasLent depot world.old t lease → HasBack depot world.new t lease }
+    ensures back { (depot : Shelves) (t : Tree Machine) → HasLent depot world.old t lease → HasBack depot world.new t lease }
+    ensures reason { reason_of world.new ≡ reason_of world.old }
 {
     match world.give(lease) {
         Placed::Done | Placed::Parked | Placed::Dropped => {}
@@ -120,8 +123,9 @@ fn make_call<R: Wait>(
 ) -> Result<(), AllocError>
     requires lent { (t : Tree Machine) × HasLent depot.now world.old t lease × MayGo t lease }
     requires call { IsSome (standing_call lease.now) }
-    ensures { (t : Tree Machine) → HasLent depot.now world.old t lease
+    ensures made { (t : Tree Machine) → HasLent depot.now world.old t lease
         → MatchResult result (λ _. HasRun depot.now lease.name (lease.ran + 1) t world.new) (λ _. HasBack depot.now world.new t lease) }
+    ensures reason { reason_of world.new ≡ reason_of world.old }
 {
     match try_call(rt, alloc, world, lease, depot) {
         Placed::Done => Ok(()),

@@ -1,31 +1,14 @@
 -- What a change at one path leaves of a tree.
-use Rattle.std.proofs.Common.{◌≡◌, ℕ, zero, suc, ◌&&◌, not, eqb, eqb-true, Bool, true, false, cond, refl, sym, ap, ap₂, ◌∙◌, [], ◌∷◌, ◌++◌, replicate, Option, Some, None, option_and_then, option_map, is_some}
-use Rattle.std.proofs.lemmas.Bool.{eqb-false}
+use Rattle.std.proofs.Common.{◌≡◌, ℕ, zero, suc, ◌&&◌, not, eqb, Bool, true, false, cond, refl, sym, ap, ap₂, ◌∙◌, [], ◌∷◌, ◌++◌, replicate, Option, Some, None, option_and_then, option_map, is_some}
+use Rattle.std.proofs.lemmas.Bool.{and_parts, not-true}
 use Rattle.forest_tree.specs.Operations.{Operations}
 use Rattle.forest_tree.specs.Tree.{Tree, node, Trees, no_tree, tree, Broods, no_brood, brood, Log, machine, log_of, at_child, child_at, brood_of, at_brood, Branch, Path, subtree, beyond, goes_on, is_below}
 use Rattle.forest_tree.specs.Settle.{settled_by, settled, step, settle, settle_all}
 use Rattle.forest_tree.proofs.Broods.{eqb-same}
-use Rattle.forest_tree.proofs.Settle.{both-true}
-use Rattle.forest_tree.proofs.Places.{brood_of-at, at_child-none, child_at-same, child_at-other}
+use Rattle.forest_tree.proofs.Places.{branch-sym, child-moved}
 use Rattle.forest_tree.proofs.Rests.{lives-none}
 use Rattle.forest_tree.proofs.Calls.{step-own}
 use Rattle.forest_history.specs.Places.{at_path, at_beyond, advanced, may_run, steps}
-
-eqb-sym : (t u : ℕ) → eqb t u ≡ eqb u t
-eqb-sym t u = by (eqb t u) (eqb u t) refl refl
-  where
-    by : (p q : Bool) → eqb t u ≡ p → eqb u t ≡ q → eqb t u ≡ eqb u t
-    by true true e f = e ∙ sym f
-    by false false e f = e ∙ sym f
-    by true false e f = absurd (eqb-false u t f (sym (eqb-true t u e)))
-    by false true e f = absurd (eqb-false t u e (sym (eqb-true u t f)))
-
-branch-sym : (rest : Option Path) (t u k j : ℕ) → cond (eqb t u && eqb k j) rest None ≡ cond (eqb u t && eqb j k) rest None
-branch-sym rest t u k j = ap₂ (λ a b. cond (a && b) rest None) (eqb-sym t u) (eqb-sym k j)
-
-pub not-true : (b : Bool) → not b ≡ true → b ≡ false
-not-true true h = absurd (cc)
-not-true false h = refl
 
 module _ {M : Type 0} where
   -- functions that agree make the same change
@@ -108,26 +91,11 @@ module _ {M : Type 0} where
       (λ trees. at_child-twice (at_path f path) (at_path g path) (at_path (λ a. g (f a)) path) (λ t. at_path-twice f g path t) b.child trees)
       b.ticket broods)
 
-  -- the child at a place, where one is changed
-  changed-by : (f : Tree M → Tree M) (k j : ℕ) (trees : Trees M) (ticket child : Bool) → eqb k j ≡ child
-      → child_at j (cond ticket (at_child f k trees) trees) ≡ cond (ticket && child) (option_map f (child_at j trees)) (child_at j trees)
-  changed-by f k j trees false child e = refl
-  changed-by f k j trees true false e = child_at-other f k j trees (eqb-false k j e)
-  changed-by f k j trees true true e = ap (λ i. child_at j (at_child f i trees)) (eqb-true k j e) ∙ child_at-same f j trees
-
-  pub child-changed : (f : Tree M → Tree M) (y x : Branch) (broods : Broods M)
-      → child_at x.child (brood_of x.ticket (at_brood (at_child f y.child) y.ticket broods))
-      ≡ cond (eqb y.ticket x.ticket && eqb y.child x.child) (option_map f (child_at x.child (brood_of x.ticket broods)))
-      (child_at x.child (brood_of x.ticket broods))
-  child-changed f y x broods =
-      ap (child_at x.child) (brood_of-at (at_child f y.child) (at_child-none f y.child) y.ticket x.ticket broods)
-      ∙ changed-by f y.child x.child (brood_of x.ticket broods) (eqb y.ticket x.ticket) (eqb y.child x.child) refl
-
   child-here : (f : Tree M → Tree M) (b : Branch) (broods : Broods M)
       → child_at b.child (brood_of b.ticket (at_brood (at_child f b.child) b.ticket broods)) ≡ option_map f (child_at b.child (brood_of b.ticket broods))
   child-here f b broods =
       let c : Option (Tree M) = child_at b.child (brood_of b.ticket broods) in
-      child-changed f b b broods
+      child-moved f b b broods
       ∙ ap₂ (λ ticket child. cond (ticket && child) (option_map f c) c) (eqb-same b.ticket) (eqb-same b.child)
 
   pub at_path-within : (f : Tree M → Tree M) (path rest : Path) (t : Tree M)
@@ -176,7 +144,7 @@ module _ {M : Type 0} where
   at_path-elsewhere f path [] t apart = refl
   at_path-elsewhere f [] (x ∷ way) t apart = absurd (cc)
   at_path-elsewhere f (y ∷ p) (x ∷ way) (node m broods log) apart =
-      ap (option_and_then (subtree way)) (child-changed (at_path f p) y x broods)
+      ap (option_and_then (subtree way)) (child-moved (at_path f p) x y broods)
       ∙ elsewhere-by f (at_path f p) way p (eqb y.ticket x.ticket && eqb y.child x.child) (child_at x.child (brood_of x.ticket broods))
       (ap goes_on (branch-sym (beyond p way) y.ticket x.ticket y.child x.child) ∙ apart)
       (λ u down. at_path-elsewhere f p way u down)
@@ -215,8 +183,8 @@ module _ {M E : Type 0} (o : Operations M E) where
   unfolding steps advanced may_run
   steps-settled zero m broods log own = refl
   steps-settled (suc k) m broods log own =
-      let first = both-true (not (is_some (o.ending m))) (not (is_some (o.call m)) && may_run o k (o.advance m)) own in
-      let then = both-true (not (is_some (o.call m))) (may_run o k (o.advance m)) first.1 in
+      let first = and_parts (not (is_some (o.ending m))) (not (is_some (o.call m)) && may_run o k (o.advance m)) own in
+      let then = and_parts (not (is_some (o.call m))) (may_run o k (o.advance m)) first.1 in
       let lives : o.ending m ≡ None = lives-none (o.ending m) (not-true (is_some (o.ending m)) first.0) in
       let call : o.call m ≡ None = lives-none (o.call m) (not-true (is_some (o.call m)) then.0) in
       ap (λ t. steps o k (step o t)) (settled-lives m broods log lives)

@@ -1,19 +1,21 @@
 -- A machine that is taken and comes back leaves less ahead.
 use Rattle.std.proofs.Common.{◌≡◌, ◌≢◌, ℕ, zero, suc, ◌+◌, ◌<◌, ◌≤◌, ◌&&◌, ◌||◌, ◌⊎◌, inl, inr, not, Bool, true, false, refl, sym, ap, ap₂, ◌∙◌, subst, arith, Option, Some, None, option_map, is_some}
+use Rattle.std.proofs.lemmas.Bool.{and_parts, not-true}
 use Rattle.forest_tree.specs.Operations.{Call, clone, join, kill, Operations, IsMachine}
 use Rattle.forest_tree.specs.Tree.{Tree, node, Broods, Log, machine, Path, subtree}
 use Rattle.forest_tree.specs.Settle.{settled_by, waits_by, waits, step, rests}
 use Rattle.forest_tree.specs.Sound.{IsSound}
-use Rattle.forest_tree.proofs.Settle.{both-true}
 use Rattle.forest_tree.proofs.Rests.{lives-none}
 use Rattle.forest_history.specs.Places.{at_path, Place, asleep, home, out, parked, Spot, put, placed, spots, advanced, may_run, steps}
 use Rattle.forest_history.specs.World.{World, is_ready_at, lives_ready, holds}
 use Rattle.forest_history.specs.Rows.{How, gave, ended, forked, joined, killed, waited, took, spent, is_clone, is_join, is_kill, stands_at, may_spend, came_back, Spends, IfThere, Allows, does}
-use Rattle.forest_history.specs.Weight.{place_weight, weigh_broods, weight}
-use Rattle.forest_history.proofs.Changes.{not-true, at_path-here, at_path-twice, steps-own}
-use Rattle.forest_history.proofs.Spots.{machine-spots}
+use Rattle.forest_tree.specs.Ahead.{weigh_broods}
+use Rattle.forest_history.specs.Weight.{place_weight, weight}
+use Rattle.forest_history.proofs.Changes.{at_path-here, at_path-twice, steps-own}
+use Rattle.forest_history.proofs.Spots.{machine-spots, place-placed}
 use Rattle.forest_history.proofs.Ends.{steps-keeps, placed-keeps}
-use Rattle.forest_history.proofs.Weigh.{own_under, under, weigh-within, weigh-lives, step-falls, steps-within, steps-fall, at_path-falls}
+use Rattle.forest_tree.proofs.Ahead.{own_under, under, weigh-within, weigh-lives, step-falls}
+use Rattle.forest_history.proofs.Weigh.{steps-within, steps-fall, at_path-falls}
 
 -- a place counts at most one
 place-low : (place : Place) → place_weight place ≤ 1
@@ -31,7 +33,7 @@ ready-waiting parked ready = absurd (cc)
 
 module _ {M E : Type 0} (o : Operations M E) where
   abbrev inside : Tree (Spot M) → ℕ
-  inside t = under (spots o) (λ s. place_weight s.place) t
+  inside t = under (spots o) 1 (λ s. place_weight s.place) t
 
   -- own steps of the machine alone
   advanced-spots : (k : ℕ) (s : Spot M) → (advanced (spots o) k s).machine ≡ advanced o k s.machine
@@ -55,7 +57,7 @@ module _ {M E : Type 0} (o : Operations M E) where
 
   -- another place leaves the rest of the weight
   own-placed : (place : Place) (s : Spot M) (e : Option E)
-      → own_under (spots o) (λ r. place_weight r.place) e (put place s) ≡ own_under (spots o) (λ r. place_weight r.place) e s
+      → own_under (spots o) 1 (λ r. place_weight r.place) e (put place s) ≡ own_under (spots o) 1 (λ r. place_weight r.place) e s
   unfolding spots
   own-placed place s None = refl
   own-placed place s (Some ending) = refl
@@ -63,16 +65,13 @@ module _ {M E : Type 0} (o : Operations M E) where
   inside-placed : (place : Place) (t : Tree (Spot M)) → inside (placed place t) ≡ inside t
   unfolding spots
   inside-placed place (node s broods log) =
-      ap (λ n. n + weigh_broods (spots o) (λ r. place_weight r.place) broods) (own-placed place s ((spots o).ending s))
-
-  place-placed : (place : Place) (t : Tree (Spot M)) → (machine (placed place t)).place ≡ place
-  place-placed place (node s broods log) = refl
+      ap (λ n. n + weigh_broods (spots o) 1 (λ r. place_weight r.place) broods) (own-placed place s ((spots o).ending s))
 
   weight-placed : (place : Place) (t : Tree (Spot M)) → weight o (placed place t) ≤ inside t + place_weight place
   weight-placed place t =
       subst (λ n. weight o (placed place t) ≤ n + place_weight place) (inside-placed place t)
       (subst (λ p. weight o (placed place t) ≤ inside (placed place t) + place_weight p) (place-placed place t)
-      (weigh-within (spots o) (λ s. place_weight s.place) (placed place t)))
+      (weigh-within (spots o) 1 (λ s. place_weight s.place) (placed place t)))
 
   -- a clone and a kill do not wait
   clone-goes : (next : Option Call) (broods : Broods (Spot M)) → is_clone next ≡ true → waits_by (spots o) next broods ≡ false
@@ -98,8 +97,8 @@ module _ {M E : Type 0} (o : Operations M E) where
         let u : Tree (Spot M) = steps (spots o) k t in
         let all = machine-spots o rules in
         let sound : IsSound (spots o) u = (steps-keeps (spots o) all k t h).sound in
-        let first : inside u ≤ inside t = steps-within (spots o) (λ s. place_weight s.place) all low k t h in
-        let call : inside (step (spots o) u) + 1 < inside u = step-falls (spots o) (λ s. place_weight s.place) all low u sound moves in
+        let first : inside u ≤ inside t = steps-within (spots o) 1 (λ s. place_weight s.place) all low k t h in
+        let call : inside (step (spots o) u) + 1 < inside u = step-falls (spots o) 1 (λ s. place_weight s.place) all low u sound moves in
         let back : weight o (placed home (step (spots o) u)) ≤ inside (step (spots o) u) + 1 = weight-placed home (step (spots o) u) in
         omega arith
 
@@ -108,7 +107,7 @@ module _ {M E : Type 0} (o : Operations M E) where
         → weight o (placed place (steps (spots o) (suc k) t)) < inside t
     ran-falls place k t h moves =
         let all = machine-spots o rules in
-        let steps_fall : inside (steps (spots o) (suc k) t) + 1 < inside t = steps-fall (spots o) (λ s. place_weight s.place) all low k t h moves in
+        let steps_fall : inside (steps (spots o) (suc k) t) + 1 < inside t = steps-fall (spots o) 1 (λ s. place_weight s.place) all low k t h moves in
         let back : weight o (placed place (steps (spots o) (suc k) t)) ≤ inside (steps (spots o) (suc k) t) + place_weight place =
         weight-placed place (steps (spots o) (suc k) t) in
         let one : place_weight place ≤ 1 = place-low place in
@@ -150,8 +149,8 @@ module _ {M E : Type 0} (o : Operations M E) where
         → rests (spots o) (Some (node s broods log)) ≡ false
     unfolding may_run
     runs s broods log k lives own =
-        let first = both-true (not (is_some (o.ending s.machine))) (not (is_some (o.call s.machine)) && may_run o k (o.advance s.machine)) own in
-        let then = both-true (not (is_some (o.call s.machine))) (may_run o k (o.advance s.machine)) first.1 in
+        let first = and_parts (not (is_some (o.ending s.machine))) (not (is_some (o.call s.machine)) && may_run o k (o.advance s.machine)) own in
+        let then = and_parts (not (is_some (o.call s.machine))) (may_run o k (o.advance s.machine)) first.1 in
         ap₂ (λ e next. is_some e || waits_by (spots o) next broods) (ending-spots s s.machine refl ∙ lives)
         (call-spots s s.machine refl ∙ lives-none (o.call s.machine) (not-true (is_some (o.call s.machine)) then.0))
 
@@ -164,7 +163,7 @@ module _ {M E : Type 0} (o : Operations M E) where
     waited-now s broods log lives ready wait =
         let t : Tree (Spot M) = node s broods log in
         let counts : place_weight s.place ≡ 1 = ready-waiting s.place (ap (is_ready_at s.place) (sym wait) ∙ ready) in
-        let before : weight o t ≡ inside t + place_weight s.place = weigh-lives (spots o) (λ r. place_weight r.place) t lives in
+        let before : weight o t ≡ inside t + place_weight s.place = weigh-lives (spots o) 1 (λ r. place_weight r.place) t lives in
         let then : weight o (placed parked (node (put out s) broods log)) ≤ inside (node (put out s) broods log) + 0 =
         weight-placed parked (node (put out s) broods log) in
         let same : inside (node (put out s) broods log) ≡ inside t = inside-placed out t in
@@ -185,26 +184,26 @@ module _ {M E : Type 0} (o : Operations M E) where
         inl (ran-falls home k (node (put out s) broods log) h (runs (put out s) broods log k lives own))
     turn-at forked k s broods log h lives ready other own may =
         let m : M = advanced o k s.machine in
-        let both = both-true (not (is_some (o.ending m))) (is_clone (o.call m)) may in
+        let both = and_parts (not (is_some (o.ending m))) (is_clone (o.call m)) may in
         inl (called-falls k (node (put out s) broods log) h
         (goes-by k (put out s) broods log lives own (lives-none (o.ending m) (not-true (is_some (o.ending m)) both.0))
         (clone-goes (o.call m) broods both.1)))
     turn-at killed k s broods log h lives ready other own may =
         let m : M = advanced o k s.machine in
-        let both = both-true (not (is_some (o.ending m))) (is_kill (o.call m)) may in
+        let both = and_parts (not (is_some (o.ending m))) (is_kill (o.call m)) may in
         inl (called-falls k (node (put out s) broods log) h
         (goes-by k (put out s) broods log lives own (lives-none (o.ending m) (not-true (is_some (o.ending m)) both.0))
         (kill-goes (o.call m) broods both.1)))
     turn-at joined k s broods log h lives ready other own may =
         let m : M = advanced o k s.machine in
         let wait : Bool = waits (spots o) (steps (spots o) k (node (put out s) broods log)) in
-        let parts = both-true (stands_at o is_join m) (not wait) may in
-        let both = both-true (not (is_some (o.ending m))) (is_join (o.call m)) parts.0 in
+        let parts = and_parts (stands_at o is_join m) (not wait) may in
+        let both = and_parts (not (is_some (o.ending m))) (is_join (o.call m)) parts.0 in
         inl (called-falls k (node (put out s) broods log) h
         (goes-ready k (put out s) broods log lives own (lives-none (o.ending m) (not-true (is_some (o.ending m)) both.0))
         (not-true wait parts.1)))
     turn-at waited zero s broods log h lives ready other own may =
-        let parts = both-true (stands_at o is_join s.machine) (waits (spots o) (node (put out s) broods log)) may in
+        let parts = and_parts (stands_at o is_join s.machine) (waits (spots o) (node (put out s) broods log)) may in
         inr (waited-now s broods log lives ready parts.1)
     turn-at waited (suc k) s broods log h lives ready other own may =
         inl (ran-falls parked k (node (put out s) broods log) h (runs (put out s) broods log k lives own))
@@ -213,11 +212,11 @@ module _ {M E : Type 0} (o : Operations M E) where
         → Spends o how k (placed out t) → weight o (came_back o how k (placed out t)) < weight o t
     turn-node how k (node s broods log) h ready other spends =
         let t : Tree (Spot M) = node s broods log in
-        let both = both-true (not (is_some ((spots o).ending s))) (is_ready_at s.place (waits (spots o) t)) ready in
+        let both = and_parts (not (is_some ((spots o).ending s))) (is_ready_at s.place (waits (spots o) t)) ready in
         let lives : o.ending s.machine ≡ None =
         sym (ending-spots s s.machine refl) ∙ lives-none ((spots o).ending s) (not-true (is_some ((spots o).ending s)) both.0) in
         let before : weight o t ≡ inside t + place_weight s.place =
-        weigh-lives (spots o) (λ r. place_weight r.place) t (ending-spots s s.machine refl ∙ lives) in
+        weigh-lives (spots o) 1 (λ r. place_weight r.place) t (ending-spots s s.machine refl ∙ lives) in
         let same : inside (node (put out s) broods log) ≡ inside t = inside-placed out t in
         elim (turn-at how k s broods log (placed-keeps o out t h).sound lives both.1 other spends.ran.own spends.may) [
           | inl below ↦ omega arith
@@ -230,7 +229,7 @@ module _ {M E : Type 0} (o : Operations M E) where
         → weight o (at_path (λ a. came_back o how k (placed out a)) name t) < weight o t
     turn-there how k name t h other None found ready spends = absurd (cc)
     turn-there how k name t h other (Some a) found ready spends =
-        at_path-falls (spots o) (λ s. place_weight s.place) (λ u. came_back o how k (placed out u)) name t a h found
+        at_path-falls (spots o) 1 (λ s. place_weight s.place) (λ u. came_back o how k (placed out u)) name t a h found
         (λ sound. turn-node how k a sound ready other spends)
 
     pub turn-falls : {R : Type 0} (how : How) (name : Path) (k : ℕ) (w : World M R) → IsSound (spots o) w.tree → Allows o (took name) w → how ≢ gave

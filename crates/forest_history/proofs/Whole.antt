@@ -3,12 +3,12 @@ use Rattle.std.proofs.Common.{◌≡◌, ℕ, zero, suc, ◌&&◌, ◌||◌, not
 use Rattle.forest_tree.specs.Operations.{Call, clone, join, kill, Operations}
 use Rattle.forest_tree.specs.Tree.{Tree, node, Trees, no_tree, Broods, no_brood, brood, Log, no_entry, joined, killed, machine, broods_of, at_child, child_at, brood_of, without, at_brood, Path, subtree}
 use Rattle.forest_tree.specs.Settle.{has_ended, have_ended, endings, alone, children_from, children, settled_by, settled, waits, join_by, step_by, step_from, step, rests}
-use Rattle.forest_tree.proofs.Places.{brood_of-without}
+use Rattle.forest_tree.proofs.Places.{brood_of-without, child-moved}
 use Rattle.forest_tree.proofs.Ahead.{live-moves}
 use Rattle.forest_history.specs.Places.{at_path, Place, asleep, home, out, parked, Spot, put, placed, spots, steps}
 use Rattle.forest_history.specs.World.{World, is_ready_at, is_out_at, lives_ready, holds, is_ready, IsWhole, world_of}
 use Rattle.forest_history.specs.Rows.{How, gave, ended, forked, joined, killed, waited, took, spent, spend, came_back, does}
-use Rattle.forest_history.proofs.Changes.{child-changed, at_path-twice}
+use Rattle.forest_history.proofs.Changes.{at_path-twice}
 
 -- a machine that is not out, lives and does not wait
 ready-by : (ended waiting : Bool) (place : Place) → ended || waiting ≡ false → is_out_at place ≡ false → not ended && is_ready_at place waiting ≡ true
@@ -161,7 +161,7 @@ module _ {M E : Type 0} (o : Operations M E) where
       whole-node s (at_brood (at_child (at_path f path) b.child) b.ticket broods) log (root-home s broods log whole)
       (λ t k way.
       subst (λ c. holds o is_away (option_and_then (subtree way) c) ≡ false)
-      (sym (child-changed (at_path f path) b (record { ticket = t; child = k }) broods))
+      (sym (child-moved (at_path f path) (record { ticket = t; child = k }) b broods))
       (changed-home (at_path f path) (eqb b.ticket t && eqb b.child k) (child_at k (brood_of t broods))
       (λ u inside. at_path-home f keeps path u inside) (λ v. below-home s broods log whole t k v) way))
 

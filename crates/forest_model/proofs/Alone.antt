@@ -12,8 +12,8 @@ use Rattle.fork_port.specs.Registers.{ForkRegisters, HasTicket, ticket_found}
 use Rattle.fork_port.specs.Children.{children_granted, after_ticket, killed_from, after_kill}
 use Rattle.fork_port.specs.Commands.{IsMakeable, answered, fork_command}
 use Rattle.fork_port.proofs.Balance.{unless}
+use Rattle.fork_port.proofs.StoreLemmas.{each_store}
 use Rattle.port_rules.specs.Rules.{cloned_numbers}
-use Rattle.port_rules.proofs.Stores.{each_store}
 use Rattle.forest_tree.specs.Tree.{node, no_brood, no_entry, each_brood}
 use Rattle.forest_tree.specs.Settle.{alone, log_killed, settled_by, step_by, step_from, step}
 use Rattle.forest_tree.specs.Finish as tree

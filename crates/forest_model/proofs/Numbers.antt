@@ -9,7 +9,7 @@ use Rattle.fork_port.specs.Registers.{ForkRegisters, ticket_found}
 use Rattle.fork_port.specs.Children.{children_granted, after_ticket, joined_from, after_join, killed_from, after_kill}
 use Rattle.fork_port.specs.Commands.{answered, fork_command}
 use Rattle.fork_port.proofs.TicketLemmas.{either}
-use Rattle.port_rules.proofs.Stores.{each_store}
+use Rattle.fork_port.proofs.StoreLemmas.{each_store}
 use Rattle.forest_model.specs.Action.{Action, ask}
 use Rattle.forest_model.specs.Execute.{action}
 use Rattle.forest_model.specs.Machine.{Machine, advance}

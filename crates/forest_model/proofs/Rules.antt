@@ -1,6 +1,6 @@
 -- The machines keep the rules of a forest.
 use Rattle.std.proofs.Common.{◌≡◌, ℕ, ◌+◌, ◌^◌, ◌<◌, ◌≤◌, ◌&&◌, ◌||◌, not, Bool, true, false, cond, eqb, ltb, ltb-true, lt-ltb, List, Option, Some, None, is_some, refl, sym, ap, ◌∙◌, subst, arith}
-use Rattle.std.proofs.lemmas.Bool.{eqb-false}
+use Rattle.std.proofs.lemmas.Bool.{eqb-false, and_parts, and_from}
 use Rattle.fork_port.specs.declared.commands.Call.TheVariants.{Clone, Join, Kill}
 use Rattle.fork_port.specs.declared.ending.Ending.{Ending}
 use Rattle.fork_port.specs.declared.ending.Ending.TheVariants.{Limit}
@@ -14,7 +14,7 @@ use Rattle.port_rules.proofs.Stores.{port-stored}
 use Rattle.forest_tree.specs.Operations as tree
 use Rattle.forest_tree.specs.Operations.{is_among, is_cloned, Makes, IsStep, IsChild, IsMachine}
 use Rattle.forest_tree.specs.Sound.{IsSound}
-use Rattle.forest_tree.proofs.Settle.{both-true, start-sound}
+use Rattle.forest_tree.proofs.Settle.{start-sound}
 use Rattle.elf_load.specs.Image.{Image}
 use Rattle.forest_model.specs.declared.Options.{Options}
 use Rattle.forest_model.specs.State.{State}
@@ -27,21 +27,16 @@ use Rattle.forest_model.proofs.ForkPort.{IsKept, Ported, action-ported, port-app
 use Rattle.forest_model.proofs.Finish.{advance-live}
 use Rattle.forest_model.proofs.Calls.{Asks, clone-asks, join-asks, kill-asks, forked-is, child-is, joined-is, killed-is}
 
--- tests that are both true
-and : (a b : Bool) → a ≡ true → b ≡ true → a && b ≡ true
-and true b e h = h
-and false b e h = absurd (cc)
-
 -- a good machine that lives is below its limit
 is-below : (ending : Option Ending) (steps limit : ℕ) → is_some ending || ltb steps limit ≡ true → ending ≡ None → steps < limit
 is-below None steps limit h lives = ltb-true steps limit h
 is-below (Some e) steps limit h lives = absurd (cc)
 
 accounted : (m : Machine) → is_good m ≡ true → is_accounted (port_of m) ≡ true
-accounted m good = (both-true (is_accounted (port_of m)) (is_some m.ending || ltb m.steps m.limit) good).0
+accounted m good = (and_parts (is_accounted (port_of m)) (is_some m.ending || ltb m.steps m.limit) good).0
 
 below : (m : Machine) → is_good m ≡ true → m.ending ≡ None → m.steps < m.limit
-below m good lives = is-below m.ending m.steps m.limit (both-true (is_accounted (port_of m)) (is_some m.ending || ltb m.steps m.limit) good).1 lives
+below m good lives = is-below m.ending m.steps m.limit (and_parts (is_accounted (port_of m)) (is_some m.ending || ltb m.steps m.limit) good).1 lives
 
 -- n has counted one step more than m, and lives below its limit
 record IsCounted (m n : Machine) : Type 0 where
@@ -75,7 +70,7 @@ module _ (m : Machine) (good : is_good m ≡ true) where
       → IsStep machines m n (λ t. then t (is_cloned machines m t))
   unfolding machines
   stepped n then lives counts s = record {
-    good = and (is_accounted (port_of n)) (is_some n.ending || ltb n.steps n.limit) s.good counts.live;
+    good = and_from (is_accounted (port_of n)) (is_some n.ending || ltb n.steps n.limit) s.good counts.live;
     counted = let under : m.steps < m.limit = below m good lives in
         let steps : n.steps ≡ m.steps + 1 = counts.steps in
         let limit : n.limit ≡ m.limit = counts.limit in
@@ -169,7 +164,7 @@ child-of : (m n : Machine) (t share : ℕ) (f : ForkRegisters) → share ≡ (gr
     → m.steps < m.limit → IsCounted m n → (k : ℕ) → port_of n ≡ fork.child_registers f k share → IsChild machines m t n
 unfolding machines cloned_numbers is_among
 child-of m n t share f is fits under counts k born = record {
-  good = and (is_accounted (port_of n)) (is_some n.ending || ltb n.steps n.limit) (ap is_accounted born ∙ child-good f k share fits) counts.live;
+  good = and_from (is_accounted (port_of n)) (is_some n.ending || ltb n.steps n.limit) (ap is_accounted born ∙ child-good f k share fits) counts.live;
   counted = let steps : n.steps ≡ m.steps + 1 = counts.steps in
       let limit : n.limit ≡ m.limit = counts.limit in
       omega arith;
@@ -220,4 +215,4 @@ pub booted-sound : (image : Image) (disk input : List ℕ) (options : Options) �
 unfolding machines boot cloned_numbers
 booted-sound image disk input options some fits =
     start-sound machines (boot image disk input options)
-    (and (is_accounted (at_start options.allot)) (ltb 0 options.limit) (start-accounted options.allot fits) (lt-ltb 0 options.limit some)) refl
+    (and_from (is_accounted (at_start options.allot)) (ltb 0 options.limit) (start-accounted options.allot fits) (lt-ltb 0 options.limit some)) refl

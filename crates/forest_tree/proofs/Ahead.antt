@@ -1,26 +1,18 @@
--- Each step lowers the number of steps ahead, and a tree whose root lives has a machine that makes one.
+-- Each step lowers what is ahead by more than a place counts, and a tree whose root lives has a machine that
+-- makes one.
 use Rattle.std.proofs.Common.{◌≡◌, ℕ, zero, suc, ◌+◌, ◌*◌, ◌<◌, ◌≤◌, ◌&&◌, ◌||◌, not, eqb, Bool, true, false, cond, refl, sym, ap, ◌∙◌, subst, arith, le_refl, [], ◌∷◌, Option, Some, None, is_some, option_and_then}
-use Rattle.forest_tree.specs.Operations.{Call, clone, join, kill, Grant, Operations, is_cloned, Makes, IsStep, IsChild, IsMachine}
-use Rattle.forest_tree.specs.Tree.{Tree, node, Trees, no_tree, tree, Broods, no_brood, brood, Log, joined, killed, at_child, child_at, brood_of, without, at_brood, Branch, Path, subtree}
+use Rattle.std.proofs.lemmas.Bool.{not-true, or_parts}
+use Rattle.forest_tree.specs.Operations.{Call, clone, join, kill, Operations, is_cloned, Makes, IsStep, IsChild, IsMachine}
+use Rattle.forest_tree.specs.Tree.{Tree, node, Trees, no_tree, tree, Broods, no_brood, brood, Log, joined, killed, machine, at_child, child_at, brood_of, without, at_brood, broods_with, Branch, Path, subtree}
 use Rattle.forest_tree.specs.Settle.{has_ended, have_ended, endings, alone, children_from, children, settled_by, settled, waits_by, join_by, step_by, step, settle, rests}
-use Rattle.forest_tree.specs.Sound.{IsSound, AreSound, Hold}
-use Rattle.forest_tree.specs.Ahead.{most_steps, own_ahead, ahead, ahead_trees, ahead_broods}
+use Rattle.forest_tree.specs.Sound.{IsSound}
+use Rattle.forest_tree.specs.Ahead.{most_ahead, own_weight, weigh, weigh_trees, weigh_broods, ahead}
 use Rattle.forest_tree.proofs.All.{AllTrees, AllBroods, AllTrees-brood_of, tree-below}
-use Rattle.forest_tree.proofs.Settle.{root-sound, below-sound, join-step}
+use Rattle.forest_tree.proofs.Broods.{one_if}
+use Rattle.forest_tree.proofs.Settle.{root-sound, join-step}
 use Rattle.forest_tree.proofs.Run.{step-lives}
-use Rattle.forest_tree.proofs.Places.{some-same, below-at}
-use Rattle.forest_tree.proofs.Rests.{lives-none, settle-rests}
-
--- more to hold, more steps
-most-grows : (left less more : ℕ) → less ≤ more → most_steps left less ≤ most_steps left more
-unfolding most_steps
-most-grows zero less more h = le_refl 0
-most-grows (suc left) less more h =
-    let down : most_steps left less ≤ most_steps left more = most-grows left less more h in
-    product less more (most_steps left less) (most_steps left more) h down
-  where
-    product : (a b x y : ℕ) → a ≤ b → x ≤ y → 1 + (1 + a) * x ≤ 1 + (1 + b) * y
-    product a b x y h k = grind arith
+use Rattle.forest_tree.proofs.Places.{some-same, below-at, is-within}
+use Rattle.forest_tree.proofs.Rests.{lives-none, step-rests, one-brood, at_brood-absent}
 
 module _ {M E : Type 0} (o : Operations M E) where
   -- a place where a machine makes a step
@@ -48,12 +40,8 @@ module _ {M E : Type 0} (o : Operations M E) where
   waits-child None broods all h = absurd (cc)
   waits-child (Some (clone t)) broods all h = absurd (cc)
   waits-child (Some (join t)) broods all h =
-      let found = some-lives (brood_of t broods) (AllTrees-brood_of LivesMoves t broods all) (not-ended (have_ended o (brood_of t broods)) h) in
+      let found = some-lives (brood_of t broods) (AllTrees-brood_of LivesMoves t broods all) (not-true (have_ended o (brood_of t broods)) h) in
       (record { ticket = t; child = suc found.0 }, found.1, found.2, found.3)
-    where
-      not-ended : (all : Bool) → not all ≡ true → all ≡ false
-      not-ended true e = absurd (cc)
-      not-ended false e = refl
   waits-child (Some (kill t)) broods all h = absurd (cc)
 
   moves-root : (m : M) (broods : Broods M) (log : Log M) → AllBroods LivesMoves broods → LivesMoves (node m broods log)
@@ -71,241 +59,266 @@ module _ {M E : Type 0} (o : Operations M E) where
   pub live-moves : (t : Tree M) → has_ended o t ≡ false → Moves t
   live-moves t lives = tree-below LivesMoves moves-root t lives
 
-  -- what a step leads to has no more ahead than its machine and broods
-  settled_by-ahead : (e : Option E) (n : M) (broods : Broods M) (log : Log M) → o.ending n ≡ e
-      → ahead o (settled_by o e n broods log) ≤ most_steps (o.left n) (o.holding n) + ahead_broods o broods
-  unfolding ahead
-  settled_by-ahead None n broods log e = subst (λ i. own_ahead o i n + ahead_broods o broods ≤ own_ahead o None n + ahead_broods o broods) (sym e) (le_refl _)
-  settled_by-ahead (Some ending) n broods log e =
-      let nothing : own_ahead o (o.ending n) n ≡ 0 = ap (λ i. own_ahead o i n) e in omega arith
+-- more to hold, more ahead
+most-grows : (worth left less more : ℕ) → less ≤ more → most_ahead worth left less ≤ most_ahead worth left more
+unfolding most_ahead
+most-grows worth zero less more h = le_refl 0
+most-grows worth (suc left) less more h =
+    let down : most_ahead worth left less ≤ most_ahead worth left more = most-grows worth left less more h in
+    product less more (worth + most_ahead worth left less) (worth + most_ahead worth left more) h (omega arith)
+  where
+    product : (a b x y : ℕ) → a ≤ b → x ≤ y → 1 + (1 + a) * x ≤ 1 + (1 + b) * y
+    product a b x y h k = grind arith
 
-  settled-ahead : (m n : M) (cloned : ℕ → Bool) (broods : Broods M) (log : Log M) (left : ℕ) → o.left m ≡ suc left → IsStep o m n cloned
-      → ahead o (settled o n broods log) ≤ most_steps left (o.holding m) + ahead_broods o broods
-  settled-ahead m n cloned broods log left e s =
+-- a step of a machine's own, and a clone
+own-falls : (worth left h : ℕ) → most_ahead worth left h + worth < most_ahead worth (suc left) h
+unfolding most_ahead
+own-falls worth left h = by (worth + most_ahead worth left h) h (omega arith)
+  where
+    by : (x h : ℕ) {y : ℕ} → y ≡ x → y < 1 + (1 + h) * x
+    by x h same = grind arith
+
+fewer : (h n less most : ℕ) → n ≤ h → less ≤ most → n * less + most < 1 + (1 + h) * most
+fewer h n less most within down = grind arith
+
+fewer-born : (worth n share h left : ℕ) → n * (1 + share) ≤ h
+    → n * (most_ahead worth left share + worth) + (most_ahead worth left h + worth) < most_ahead worth (suc left) h
+unfolding most_ahead
+fewer-born worth zero share h left fits = none (most_ahead worth left share + worth) (most_ahead worth left h) h
+  where
+    none : (x y h : ℕ) → 0 * x + (y + worth) < 1 + (1 + h) * (worth + y)
+    none x y h = grind arith
+fewer-born worth (suc n) share h left fits =
+    let within : suc n ≤ h = omega arith in
+    let less : share ≤ h = omega arith in
+    let down : most_ahead worth left share ≤ most_ahead worth left h = most-grows worth left share h less in
+    let turned : worth + most_ahead worth left h ≡ most_ahead worth left h + worth = omega arith in
+    subst (λ most. suc n * (most_ahead worth left share + worth) + (most_ahead worth left h + worth) < 1 + (1 + h) * most) (sym turned)
+    (fewer h (suc n) (most_ahead worth left share + worth) (most_ahead worth left h + worth) within (omega arith))
+
+one-more : (n y a b : ℕ) → a ≤ y → b ≤ n * y → a + b ≤ suc n * y
+one-more n y a b first rest = omega arith
+
+module _ {M E : Type 0} (o : Operations M E) (worth : ℕ) (at : M → ℕ) where
+  -- the weight without the place of the machine at the root
+  abbrev pub own_under : Option E → M → ℕ
+  own_under None m = most_ahead worth (o.left m) (o.holding m)
+  own_under (Some ending) m = 0
+
+  abbrev pub under : Tree M → ℕ
+  under (node m broods log) = own_under (o.ending m) m + weigh_broods o worth at broods
+
+  weight-by : (e : Option E) (m : M) → own_weight o worth at e m ≤ own_under e m + at m
+  weight-by None m = le_refl _
+  weight-by (Some ending) m = omega arith
+
+  pub weigh-within : (t : Tree M) → weigh o worth at t ≤ under t + at (machine t)
+  unfolding weigh
+  weigh-within (node m broods log) =
+      let own : own_weight o worth at (o.ending m) m ≤ own_under (o.ending m) m + at m = weight-by (o.ending m) m in omega arith
+
+  pub weigh-lives : (t : Tree M) → o.ending (machine t) ≡ None → weigh o worth at t ≡ under t + at (machine t)
+  unfolding weigh
+  weigh-lives (node m broods log) lives =
+      let own : own_weight o worth at (o.ending m) m ≡ own_under (o.ending m) m + at m =
+      subst (λ e. own_weight o worth at e m ≡ own_under e m + at m) (sym lives) refl in
+      omega arith
+
+  -- what a step leads to weighs no more than its machine and broods
+  settled_by-under : (e : Option E) (n : M) (broods : Broods M) (log : Log M) → o.ending n ≡ e
+      → under (settled_by o e n broods log) ≤ most_ahead worth (o.left n) (o.holding n) + weigh_broods o worth at broods
+  unfolding weigh
+  settled_by-under None n broods log e =
+      subst (λ i. own_under i n + weigh_broods o worth at broods ≤ own_under None n + weigh_broods o worth at broods) (sym e) (le_refl _)
+  settled_by-under (Some ending) n broods log e =
+      let nothing : own_under (o.ending n) n ≡ 0 = ap (λ i. own_under i n) e in omega arith
+
+  settled-under : (m n : M) (cloned : ℕ → Bool) (broods : Broods M) (log : Log M) (left : ℕ) → o.left m ≡ suc left → IsStep o m n cloned
+      → under (settled o n broods log) ≤ most_ahead worth left (o.holding m) + weigh_broods o worth at broods
+  settled-under m n cloned broods log left e s =
       let counted : o.left m ≡ suc (o.left n) = s.counted in
       let same : o.left n ≡ left = omega arith in
-      subst (λ k. ahead o (settled o n broods log) ≤ most_steps k (o.holding m) + ahead_broods o broods) same
-      (subst (λ k. ahead o (settled o n broods log) ≤ most_steps (o.left n) k + ahead_broods o broods) s.holding
-      (settled_by-ahead (o.ending n) n broods log refl))
+      subst (λ k. under (settled o n broods log) ≤ most_ahead worth k (o.holding m) + weigh_broods o worth at broods) same
+      (subst (λ k. under (settled o n broods log) ≤ most_ahead worth (o.left n) k + weigh_broods o worth at broods) s.holding
+      (settled_by-under (o.ending n) n broods log refl))
 
-  without-ahead-head : (u : ℕ) (trees : Trees M) (rest left : Broods M) (same : Bool) → ahead_broods o left ≤ ahead_broods o rest
-      → ahead_broods o (cond same left (brood u trees left)) ≤ ahead_broods o (brood u trees rest)
-  unfolding ahead
-  without-ahead-head u trees rest left true h = omega arith
-  without-ahead-head u trees rest left false h = omega arith
+  without-head : (u : ℕ) (trees : Trees M) (rest left : Broods M) (same : Bool) → weigh_broods o worth at left ≤ weigh_broods o worth at rest
+      → weigh_broods o worth at (cond same left (brood u trees left)) ≤ weigh_broods o worth at (brood u trees rest)
+  unfolding weigh
+  without-head u trees rest left true h = omega arith
+  without-head u trees rest left false h = omega arith
 
-  without-ahead : (t : ℕ) (broods : Broods M) → ahead_broods o (without t broods) ≤ ahead_broods o broods
+  without-within : (t : ℕ) (broods : Broods M) → weigh_broods o worth at (without t broods) ≤ weigh_broods o worth at broods
   unfolding without
-  without-ahead t no_brood = le_refl _
-  without-ahead t (brood u trees rest) = without-ahead-head u trees rest (without t rest) (eqb u t) (without-ahead t rest)
+  without-within t no_brood = le_refl _
+  without-within t (brood u trees rest) = without-head u trees rest (without t rest) (eqb u t) (without-within t rest)
 
-  module _ (rules : IsMachine o) where
+  module _ (rules : IsMachine o) (low : (m : M) → at m ≤ worth) where
     -- the children of a clone
-    alone-ahead-by : (e : Option E) (c : M) → own_ahead o e c ≤ most_steps (o.left c) (o.holding c)
-    alone-ahead-by None c = le_refl _
-    alone-ahead-by (Some ending) c = omega arith
+    alone-by : (e : Option E) (c : M) → own_weight o worth at e c ≤ most_ahead worth (o.left c) (o.holding c) + worth
+    alone-by None c = let one : at c ≤ worth = low c in omega arith
+    alone-by (Some ending) c = omega arith
 
-    alone-ahead : (m : M) (t left : ℕ) (c : M) → o.left m ≡ suc left → IsChild o m t c → ahead o (alone o c) ≤ most_steps left (o.grant m t).share
-    unfolding ahead
-    alone-ahead m t left c e born =
+    alone-within : (m : M) (t left : ℕ) (c : M) → o.left m ≡ suc left → IsChild o m t c
+        → weigh o worth at (alone o c) ≤ most_ahead worth left (o.grant m t).share + worth
+    unfolding weigh
+    alone-within m t left c e born =
         let counted : o.left m ≡ suc (o.left c) = born.counted in
         let same : o.left c ≡ left = omega arith in
-        let own : own_ahead o (o.ending c) c ≤ most_steps left (o.grant m t).share =
-        subst (λ k. own_ahead o (o.ending c) c ≤ most_steps k (o.grant m t).share) same
-        (subst (λ k. own_ahead o (o.ending c) c ≤ most_steps (o.left c) k) born.holding (alone-ahead-by (o.ending c) c)) in
+        let own : own_weight o worth at (o.ending c) c ≤ most_ahead worth left (o.grant m t).share + worth =
+        subst (λ k. own_weight o worth at (o.ending c) c ≤ most_ahead worth k (o.grant m t).share + worth) same
+        (subst (λ k. own_weight o worth at (o.ending c) c ≤ most_ahead worth (o.left c) k + worth) born.holding (alone-by (o.ending c) c)) in
         omega arith
 
-    children_from-ahead : (m : M) (t left : ℕ) → o.left m ≡ suc left → Makes o m (Some (clone t)) → (n k : ℕ) → 1 ≤ k
-        → k + n ≤ suc (o.grant m t).children → ahead_trees o (children_from o m k n) ≤ n * most_steps left (o.grant m t).share
-    unfolding ahead children_from
-    children_from-ahead m t left e makes zero k first last = omega arith
-    children_from-ahead m t left e makes (suc n) k first last =
-        let one : ahead o (alone o (o.child m k)) ≤ most_steps left (o.grant m t).share =
-        alone-ahead m t left (o.child m k) e (rules.child m t k makes first (omega arith)) in
-        let rest : ahead_trees o (children_from o m (suc k) n) ≤ n * most_steps left (o.grant m t).share =
-        children_from-ahead m t left e makes n (suc k) (omega arith) (omega arith) in
-        omega arith
+    children_from-within : (m : M) (t left : ℕ) → o.left m ≡ suc left → Makes o m (Some (clone t)) → (n k : ℕ) → 1 ≤ k
+        → k + n ≤ suc (o.grant m t).children → weigh_trees o worth at (children_from o m k n) ≤ n * (most_ahead worth left (o.grant m t).share + worth)
+    unfolding weigh children_from
+    children_from-within m t left e makes zero k first last = omega arith
+    children_from-within m t left e makes (suc n) k first last =
+        one-more n (most_ahead worth left (o.grant m t).share + worth) (weigh o worth at (alone o (o.child m k))) (weigh_trees o worth at (children_from o m (suc k) n))
+        (alone-within m t left (o.child m k) e (rules.child m t k makes first (omega arith)))
+        (children_from-within m t left e makes n (suc k) (omega arith) (omega arith))
 
-    -- one step less, with the children that it bears
-    fewer : (h children less most : ℕ) → children ≤ h → less ≤ most → children * less + most < 1 + (1 + h) * most
-    fewer h children less most within down = grind arith
-
-    fewer-born : (n share h left : ℕ) → n * (1 + share) ≤ h
-        → n * most_steps left share + most_steps left h < 1 + (1 + h) * most_steps left h
-    fewer-born zero share h left fits = none (most_steps left share) (most_steps left h) h
-      where
-        none : (x y h : ℕ) → 0 * x + y < 1 + (1 + h) * y
-        none x y h = grind arith
-    fewer-born (suc n) share h left fits =
-        let within : suc n ≤ h = omega arith in
-        let less : share ≤ h = omega arith in
-        fewer h (suc n) (most_steps left share) (most_steps left h) within (most-grows left share h less)
-
-    children-ahead : (m : M) (t left : ℕ) → o.left m ≡ suc left → Makes o m (Some (clone t))
-        → ahead_trees o (children o m t) + most_steps left (o.holding m) < most_steps (suc left) (o.holding m)
-    unfolding most_steps
-    children-ahead m t left e makes =
+    children-fall : (m : M) (t left : ℕ) → o.left m ≡ suc left → Makes o m (Some (clone t))
+        → weigh_trees o worth at (children o m t) + most_ahead worth left (o.holding m) + worth < most_ahead worth (suc left) (o.holding m)
+    children-fall m t left e makes =
         let n : ℕ = (o.grant m t).children in
         let share : ℕ = (o.grant m t).share in
-        let kids : ahead_trees o (children o m t) ≤ n * most_steps left share =
-        children_from-ahead m t left e makes n 1 (omega arith) (omega arith) in
-        let all : n * most_steps left share + most_steps left (o.holding m) < 1 + (1 + o.holding m) * most_steps left (o.holding m) =
-        fewer-born n share (o.holding m) left (rules.clone_affords m t makes) in
-        omega arith
-
-    own-falls : (left h : ℕ) → most_steps left h < most_steps (suc left) h
-    unfolding most_steps
-    own-falls left h = by (most_steps left h) h
+        let kids : weigh_trees o worth at (children o m t) ≤ n * (most_ahead worth left share + worth) =
+        children_from-within m t left e makes n 1 (omega arith) (omega arith) in
+        let all : n * (most_ahead worth left share + worth) + (most_ahead worth left (o.holding m) + worth) < most_ahead worth (suc left) (o.holding m) =
+        fewer-born worth n share (o.holding m) left (rules.clone_affords m t makes) in
+        by (weigh_trees o worth at (children o m t)) (n * (most_ahead worth left share + worth)) (most_ahead worth left (o.holding m)) (most_ahead worth (suc left) (o.holding m)) kids all
       where
-        by : (x h : ℕ) → x < 1 + (1 + h) * x
-        by x h = grind arith
+        by : (a b c d : ℕ) → a ≤ b → b + (c + worth) < d → a + c + worth < d
+        by a b c d h k = omega arith
 
     -- by the kinds of the step
     join-falls : (ready : Bool) (t : ℕ) (m : M) (broods : Broods M) (log : Log M) (left : ℕ) → have_ended o (brood_of t broods) ≡ ready
         → o.left m ≡ suc left → Makes o m (Some (join t)) → IsSound o (node m broods log) → not ready ≡ false
-        → ahead o (join_by o ready t m broods log) ≤ most_steps left (o.holding m) + ahead_broods o broods
+        → under (join_by o ready t m broods log) ≤ most_ahead worth left (o.holding m) + weigh_broods o worth at broods
     join-falls false t m broods log left e counted makes h ready = absurd (cc)
     join-falls true t m broods log left e counted makes h ready =
         let s = join-step o rules t m broods log e makes h in
-        let bound : ahead o (join_by o true t m broods log) ≤ most_steps left (o.holding m) + ahead_broods o (without t broods) =
-        settled-ahead m (o.after_join m (endings o (brood_of t broods))) (λ u. not (eqb t u) && is_cloned o m u)
+        let bound : under (join_by o true t m broods log) ≤ most_ahead worth left (o.holding m) + weigh_broods o worth at (without t broods) =
+        settled-under m (o.after_join m (endings o (brood_of t broods))) (λ u. not (eqb t u) && is_cloned o m u)
         (without t broods) (joined log t (brood_of t broods)) left counted s in
-        let fewer_broods : ahead_broods o (without t broods) ≤ ahead_broods o broods = without-ahead t broods in
+        let fewer_broods : weigh_broods o worth at (without t broods) ≤ weigh_broods o worth at broods = without-within t broods in
         omega arith
 
     step_by-falls : (next : Option Call) (m : M) (broods : Broods M) (log : Log M) (left : ℕ) → o.left m ≡ suc left → Makes o m next
         → IsSound o (node m broods log) → waits_by o next broods ≡ false
-        → ahead o (step_by o next m broods log) < most_steps (suc left) (o.holding m) + ahead_broods o broods
-    unfolding ahead
+        → under (step_by o next m broods log) + worth < most_ahead worth (suc left) (o.holding m) + weigh_broods o worth at broods
+    unfolding weigh
     step_by-falls None m broods log left counted makes h ready =
-        let bound : ahead o (step_by o None m broods log) ≤ most_steps left (o.holding m) + ahead_broods o broods =
-        settled-ahead m (o.advance m) (is_cloned o m) broods log left counted (rules.advance m makes) in
-        let falls : most_steps left (o.holding m) < most_steps (suc left) (o.holding m) = own-falls left (o.holding m) in
+        let bound : under (step_by o None m broods log) ≤ most_ahead worth left (o.holding m) + weigh_broods o worth at broods =
+        settled-under m (o.advance m) (is_cloned o m) broods log left counted (rules.advance m makes) in
+        let falls : most_ahead worth left (o.holding m) + worth < most_ahead worth (suc left) (o.holding m) = own-falls worth left (o.holding m) in
         omega arith
     step_by-falls (Some (clone t)) m broods log left counted makes h ready =
-        let bound : ahead o (step_by o (Some (clone t)) m broods log)
-        ≤ most_steps left (o.holding m) + (ahead_trees o (children o m t) + ahead_broods o broods) =
-        settled-ahead m (o.forked m) (λ u. eqb t u || is_cloned o m u) (brood t (children o m t) broods) log left counted
+        let bound : under (step_by o (Some (clone t)) m broods log)
+        ≤ most_ahead worth left (o.holding m) + (weigh_trees o worth at (children o m t) + weigh_broods o worth at broods) =
+        settled-under m (o.forked m) (λ u. eqb t u || is_cloned o m u) (brood t (children o m t) broods) log left counted
         (rules.forked m t makes) in
-        let falls : ahead_trees o (children o m t) + most_steps left (o.holding m) < most_steps (suc left) (o.holding m) =
-        children-ahead m t left counted makes in
+        let falls : weigh_trees o worth at (children o m t) + most_ahead worth left (o.holding m) + worth < most_ahead worth (suc left) (o.holding m) =
+        children-fall m t left counted makes in
         omega arith
     step_by-falls (Some (join t)) m broods log left counted makes h ready =
-        let bound : ahead o (step_by o (Some (join t)) m broods log) ≤ most_steps left (o.holding m) + ahead_broods o broods =
+        let bound : under (step_by o (Some (join t)) m broods log) ≤ most_ahead worth left (o.holding m) + weigh_broods o worth at broods =
         join-falls (have_ended o (brood_of t broods)) t m broods log left refl counted makes h ready in
-        let falls : most_steps left (o.holding m) < most_steps (suc left) (o.holding m) = own-falls left (o.holding m) in
+        let falls : most_ahead worth left (o.holding m) + worth < most_ahead worth (suc left) (o.holding m) = own-falls worth left (o.holding m) in
         omega arith
     step_by-falls (Some (kill t)) m broods log left counted makes h ready =
-        let bound : ahead o (step_by o (Some (kill t)) m broods log) ≤ most_steps left (o.holding m) + ahead_broods o (without t broods) =
-        settled-ahead m (o.after_kill m) (λ u. not (eqb t u) && is_cloned o m u) (without t broods)
+        let bound : under (step_by o (Some (kill t)) m broods log) ≤ most_ahead worth left (o.holding m) + weigh_broods o worth at (without t broods) =
+        settled-under m (o.after_kill m) (λ u. not (eqb t u) && is_cloned o m u) (without t broods)
         (killed log t (o.grant m t).children) left counted (rules.after_kill m t makes) in
-        let fewer_broods : ahead_broods o (without t broods) ≤ ahead_broods o broods = without-ahead t broods in
-        let falls : most_steps left (o.holding m) < most_steps (suc left) (o.holding m) = own-falls left (o.holding m) in
+        let fewer_broods : weigh_broods o worth at (without t broods) ≤ weigh_broods o worth at broods = without-within t broods in
+        let falls : most_ahead worth left (o.holding m) + worth < most_ahead worth (suc left) (o.holding m) = own-falls worth left (o.holding m) in
         omega arith
 
-    neither : (a b : Bool) → a || b ≡ false → (a ≡ false) × (b ≡ false)
-    neither true b h = absurd (cc)
-    neither false b h = (refl, h)
-
-    step-falls : (t : Tree M) → IsSound o t → rests o (Some t) ≡ false → ahead o (step o t) < ahead o t
-    unfolding ahead
+    pub step-falls : (t : Tree M) → IsSound o t → rests o (Some t) ≡ false → under (step o t) + worth < under t
     step-falls (node m broods log) h moves =
-        let both = neither (is_some (o.ending m)) (waits_by o (o.call m) broods) moves in
+        let both = or_parts (is_some (o.ending m)) (waits_by o (o.call m) broods) moves in
         let lives : o.ending m ≡ None = lives-none (o.ending m) both.0 in
         let good : o.is_good m ≡ true = (root-sound o m broods log h).good in
         let some : 0 < o.left m = rules.below_limit m good lives in
-        let same : own_ahead o (o.ending m) m ≡ most_steps (o.left m) (o.holding m) = ap (λ e. own_ahead o e m) lives in
+        let same : own_under (o.ending m) m ≡ most_ahead worth (o.left m) (o.holding m) = ap (λ e. own_under e m) lives in
         let makes : Makes o m (o.call m) = record { good = good; lives = lives; call = refl } in
-        let falls : ahead o (step_by o (o.call m) m broods log) < most_steps (o.left m) (o.holding m) + ahead_broods o broods =
+        let falls : under (step_by o (o.call m) m broods log) + worth < most_ahead worth (o.left m) (o.holding m) + weigh_broods o worth at broods =
         by (o.left m) some refl makes both.1 in
-        let stepped : ahead o (step o (node m broods log)) ≡ ahead o (step_by o (o.call m) m broods log) =
-        ap (ahead o) (step-lives o m broods log (o.call m) lives refl) in
+        let stepped : under (step o (node m broods log)) ≡ under (step_by o (o.call m) m broods log) =
+        ap under (step-lives o m broods log (o.call m) lives refl) in
         omega arith
       where
         by : (left : ℕ) → 0 < left → o.left m ≡ left → Makes o m (o.call m) → waits_by o (o.call m) broods ≡ false
-            → ahead o (step_by o (o.call m) m broods log) < most_steps left (o.holding m) + ahead_broods o broods
+            → under (step_by o (o.call m) m broods log) + worth < most_ahead worth left (o.holding m) + weigh_broods o worth at broods
         by zero some e makes ready = absurd (omega arith)
         by (suc left) some e makes ready = step_by-falls (o.call m) m broods log left e makes h ready
 
-    -- a step below lowers what is ahead in its brood
-    at_child-within : (f : Tree M → Tree M) → ((c : Tree M) → IsSound o c → ahead o (f c) ≤ ahead o c) → (share k : ℕ) (trees : Trees M)
-        → Hold o share trees → ahead_trees o (at_child f k trees) ≤ ahead_trees o trees
-    unfolding IsSound ahead at_child
-    at_child-within f within share k no_tree h = le_refl 0
-    at_child-within f within share zero (tree t rest) h = le_refl (ahead o t + ahead_trees o rest)
-    at_child-within f within share (suc zero) (tree t rest) h = let first : ahead o (f t) ≤ ahead o t = within t h.1 in omega arith
-    at_child-within f within share (suc (suc k)) (tree t rest) h =
-        let later : ahead_trees o (at_child f (suc k) rest) ≤ ahead_trees o rest = at_child-within f within share (suc k) rest h.2 in omega arith
-
-    at_child-falls : (f : Tree M → Tree M) (k : ℕ) (trees : Trees M) (c : Tree M) → child_at k trees ≡ Some c → ahead o (f c) < ahead o c
-        → ahead_trees o (at_child f k trees) < ahead_trees o trees
-    unfolding ahead at_child child_at
-    at_child-falls f k no_tree c found falls = absurd (cc)
-    at_child-falls f zero (tree t rest) c found falls = absurd (cc)
-    at_child-falls f (suc zero) (tree t rest) c found falls =
-        let first : ahead o (f t) < ahead o t = subst (λ u. ahead o (f u) < ahead o u) (sym (some-same t c found)) falls in omega arith
-    at_child-falls f (suc (suc k)) (tree t rest) c found falls =
-        let later : ahead_trees o (at_child f (suc k) rest) < ahead_trees o rest = at_child-falls f (suc k) rest c found falls in omega arith
-
-    head-within : (g : Trees M → Trees M) (trees : Trees M) (same : Bool) → ahead_trees o (g trees) ≤ ahead_trees o trees
-        → ahead_trees o (cond same (g trees) trees) ≤ ahead_trees o trees
-    head-within g trees true h = h
-    head-within g trees false h = le_refl (ahead_trees o trees)
-
-    at_brood-within : (g : Trees M → Trees M) → ((share : ℕ) (trees : Trees M) → Hold o share trees → ahead_trees o (g trees) ≤ ahead_trees o trees)
-        → (t : ℕ) (grant : ℕ → Grant) (broods : Broods M) → AreSound o grant broods → ahead_broods o (at_brood g t broods) ≤ ahead_broods o broods
-    unfolding IsSound ahead at_brood
-    at_brood-within g within t grant no_brood h = le_refl 0
-    at_brood-within g within t grant (brood u trees rest) h =
-        let first : ahead_trees o (cond (eqb u t) (g trees) trees) ≤ ahead_trees o trees =
-        head-within g trees (eqb u t) (within (grant u).share trees h.1) in
-        let later : ahead_broods o (at_brood g t rest) ≤ ahead_broods o rest = at_brood-within g within t grant rest h.2 in
-        omega arith
-
-    at_brood-falls : (g : Trees M → Trees M) → ((share : ℕ) (trees : Trees M) → Hold o share trees → ahead_trees o (g trees) ≤ ahead_trees o trees)
-        → (t : ℕ) (grant : ℕ → Grant) (broods : Broods M) → AreSound o grant broods
-        → ahead_trees o (g (brood_of t broods)) < ahead_trees o (brood_of t broods)
-        → ahead_broods o (at_brood g t broods) < ahead_broods o broods
-    unfolding IsSound ahead at_brood brood_of
-    at_brood-falls g within t grant no_brood h falls =
-        let none : ahead_trees o (g no_tree) < 0 = falls in absurd (omega arith)
-    at_brood-falls g within t grant (brood u trees rest) h falls =
-        by (eqb u t) falls (at_brood-within g within t grant rest h.2) (at_brood-falls g within t grant rest h.2) (within (grant u).share trees h.1)
+    pub step-within : (t : Tree M) → IsSound o t → under (step o t) ≤ under t
+    step-within t h = by (rests o (Some t)) refl
       where
-        by : (same : Bool) → ahead_trees o (g (cond same trees (brood_of t rest))) < ahead_trees o (cond same trees (brood_of t rest))
-            → ahead_broods o (at_brood g t rest) ≤ ahead_broods o rest
-            → (ahead_trees o (g (brood_of t rest)) < ahead_trees o (brood_of t rest) → ahead_broods o (at_brood g t rest) < ahead_broods o rest)
-            → ahead_trees o (g trees) ≤ ahead_trees o trees
-            → ahead_trees o (cond same (g trees) trees) + ahead_broods o (at_brood g t rest) < ahead_trees o trees + ahead_broods o rest
-        by true first rest_within down here = omega arith
-        by false later rest_within down here = let fell : ahead_broods o (at_brood g t rest) < ahead_broods o rest = down later in omega arith
+        by : (resting : Bool) → rests o (Some t) ≡ resting → under (step o t) ≤ under t
+        by true e = let same : under (step o t) ≡ under t = ap under (step-rests o t e) in omega arith
+        by false e = let falls : under (step o t) + worth < under t = step-falls t h e in omega arith
 
-    -- the child on the way to a step
-    child-there : (path : Path) {there : Option (Tree M)} (c : Option (Tree M)) → there ≡ c
-        → rests o (option_and_then (subtree path) c) ≡ false
-        → (u : Tree M) × (there ≡ Some u) × (rests o (subtree path u) ≡ false)
-    child-there path None e moves = absurd (cc)
-    child-there path (Some u) e moves = (u, e, moves)
+  -- a change that lowers the weight at a path lowers that of the whole
+  pub child-falls : (f : Tree M → Tree M) (k : ℕ) (trees : Trees M) (c : Tree M) → child_at k trees ≡ Some c → weigh o worth at (f c) < weigh o worth at c
+      → weigh_trees o worth at (at_child f k trees) < weigh_trees o worth at trees
+  unfolding weigh at_child child_at
+  child-falls f k no_tree c found falls = absurd (cc)
+  child-falls f zero (tree t rest) c found falls = absurd (cc)
+  child-falls f (suc zero) (tree t rest) c found falls =
+      let first : weigh o worth at (f t) < weigh o worth at t = subst (λ u. weigh o worth at (f u) < weigh o worth at u) (sym (some-same t c found)) falls in omega arith
+  child-falls f (suc (suc k)) (tree t rest) c found falls =
+      let later : weigh_trees o worth at (at_child f (suc k) rest) < weigh_trees o worth at rest = child-falls f (suc k) rest c found falls in omega arith
 
-    -- each step lowers what is ahead, and a path with no step leaves it
-    settle-ahead-by : (path : Path) (t : Tree M) → IsSound o t → (resting : Bool) → rests o (subtree path t) ≡ resting
-        → (rests o (subtree path t) ≡ false → ahead o (settle o path t) < ahead o t) → ahead o (settle o path t) ≤ ahead o t
-    settle-ahead-by path t h true e falls =
-        let same : ahead o (settle o path t) ≡ ahead o t = ap (ahead o) (settle-rests o rules path t h e) in omega arith
-    settle-ahead-by path t h false e falls = let fell : ahead o (settle o path t) < ahead o t = falls e in omega arith
+  pub brood-falls : (g : Trees M → Trees M) (t : ℕ) (broods : Broods M) → broods_with t broods ≤ 1
+      → weigh_trees o worth at (g (brood_of t broods)) < weigh_trees o worth at (brood_of t broods)
+      → weigh_broods o worth at (at_brood g t broods) < weigh_broods o worth at broods
+  unfolding weigh at_brood brood_of broods_with
+  brood-falls g t no_brood one falls = absurd (omega arith)
+  brood-falls g t (brood u trees rest) one falls =
+      by (eqb u t) one falls (λ none. ap (weigh_broods o worth at) (at_brood-absent g t rest none)) (λ fits fell. brood-falls g t rest fits fell)
+    where
+      by : (same : Bool) → one_if same + broods_with t rest ≤ 1
+          → weigh_trees o worth at (g (cond same trees (brood_of t rest))) < weigh_trees o worth at (cond same trees (brood_of t rest))
+          → (broods_with t rest ≡ 0 → weigh_broods o worth at (at_brood g t rest) ≡ weigh_broods o worth at rest)
+          → (broods_with t rest ≤ 1 → weigh_trees o worth at (g (brood_of t rest)) < weigh_trees o worth at (brood_of t rest)
+          → weigh_broods o worth at (at_brood g t rest) < weigh_broods o worth at rest)
+          → weigh_trees o worth at (cond same (g trees) trees) + weigh_broods o worth at (at_brood g t rest) < weigh_trees o worth at trees + weigh_broods o worth at rest
+      by true fits here absent down =
+          let same : weigh_broods o worth at (at_brood g t rest) ≡ weigh_broods o worth at rest = absent (omega arith) in omega arith
+      by false fits here absent down =
+          let fell : weigh_broods o worth at (at_brood g t rest) < weigh_broods o worth at rest = down (omega arith) here in omega arith
 
-    pub settle-falls : (path : Path) (t : Tree M) → IsSound o t → rests o (subtree path t) ≡ false → ahead o (settle o path t) < ahead o t
-    unfolding settle subtree ahead
-    settle-falls [] t h moves = step-falls t h moves
-    settle-falls (b ∷ path) (node m broods log) h moves =
-        let f : Tree M → Tree M = settle o path in
-        let within : (c : Tree M) → IsSound o c → ahead o (f c) ≤ ahead o c =
-        λ c sound. settle-ahead-by path c sound (rests o (subtree path c)) refl (settle-falls path c sound) in
-        let broods_within : (share : ℕ) (trees : Trees M) → Hold o share trees → ahead_trees o (at_child f b.child trees) ≤ ahead_trees o trees =
-        λ share trees held. at_child-within f within share b.child trees held in
-        let found = child-there path (child_at b.child (brood_of b.ticket broods)) refl moves in
-        let sound : IsSound o found.0 = below-at o m broods log b.ticket b.child found.0 h found.1 in
-        let falls : ahead_broods o (at_brood (at_child f b.child) b.ticket broods) < ahead_broods o broods =
-        at_brood-falls (at_child f b.child) broods_within b.ticket (o.grant m) broods (below-sound o m broods log h)
-        (at_child-falls f b.child (brood_of b.ticket broods) found.0 found.1 (settle-falls path found.0 sound found.2)) in
-        omega arith
+module _ {M E : Type 0} (o : Operations M E) (rules : IsMachine o) where
+  none-low : (m : M) → 0 ≤ 0
+  none-low m = le_refl 0
+
+  step-ahead : (t : Tree M) → IsSound o t → rests o (Some t) ≡ false → ahead o (step o t) < ahead o t
+  step-ahead (node m broods log) h moves =
+      let t : Tree M = node m broods log in
+      let lives : o.ending m ≡ None = lives-none (o.ending m) (or_parts (is_some (o.ending m)) (waits_by o (o.call m) broods) moves).0 in
+      let after : ahead o (step o t) ≤ under o 0 (λ m. 0) (step o t) + 0 = weigh-within o 0 (λ m. 0) (step o t) in
+      let falls : under o 0 (λ m. 0) (step o t) + 0 < under o 0 (λ m. 0) t = step-falls o 0 (λ m. 0) rules none-low t h moves in
+      let before : ahead o t ≡ under o 0 (λ m. 0) t + 0 = weigh-lives o 0 (λ m. 0) t lives in
+      omega (arith, after, falls, before)
+
+  pub settle-falls : (path : Path) (t : Tree M) → IsSound o t → rests o (subtree path t) ≡ false → ahead o (settle o path t) < ahead o t
+  unfolding settle subtree weigh
+  settle-falls [] t h moves = step-ahead t h moves
+  settle-falls (b ∷ path) (node m broods log) h moves =
+      let there = child-there path (child_at b.child (brood_of b.ticket broods)) refl moves in
+      let sound : IsSound o there.0 = below-at o m broods log b.ticket b.child there.0 h there.1 in
+      let below : weigh_broods o 0 (λ m. 0) (at_brood (at_child (settle o path) b.child) b.ticket broods) < weigh_broods o 0 (λ m. 0) broods =
+      brood-falls o 0 (λ m. 0) (at_child (settle o path) b.child) b.ticket broods (one-brood o m broods log h b.ticket)
+      (child-falls o 0 (λ m. 0) (settle o path) b.child (brood_of b.ticket broods) there.0 there.1 (settle-falls path there.0 sound there.2)) in
+      omega arith
+    where
+      -- the child on the way to a step
+      child-there : (path : Path) {there : Option (Tree M)} (c : Option (Tree M)) → there ≡ c
+          → rests o (option_and_then (subtree path) c) ≡ false
+          → (u : Tree M) × (there ≡ Some u) × (rests o (subtree path u) ≡ false)
+      child-there path None e moves = absurd (cc)
+      child-there path (Some u) e moves = (u, e, moves)

@@ -1,5 +1,6 @@
 -- Broods by ticket: how many there are of one, and what a change of them keeps.
 use Rattle.std.proofs.Common.{◌≡◌, ℕ, zero, suc, ◌+◌, ◌≤◌, Bool, true, false, cond, eqb, eqb-true, eq-eqb, refl, sym, ap, ◌∙◌, arith}
+use Rattle.std.proofs.lemmas.Bool.{eqb-false}
 use Rattle.forest_tree.specs.Tree.{Tree, Trees, no_tree, tree, Broods, no_brood, brood, size, each, at_child, without, at_brood, each_brood, broods_with}
 
 -- one for true
@@ -8,6 +9,15 @@ one_if b = cond b 1 0
 
 pub eqb-same : (t : ℕ) → eqb t t ≡ true
 eqb-same t = eq-eqb t t refl
+
+pub eqb-sym : (t u : ℕ) → eqb t u ≡ eqb u t
+eqb-sym t u = by (eqb t u) (eqb u t) refl refl
+  where
+    by : (p q : Bool) → eqb t u ≡ p → eqb u t ≡ q → eqb t u ≡ eqb u t
+    by true true e f = e ∙ sym f
+    by false false e f = e ∙ sym f
+    by true false e f = absurd (eqb-false u t f (sym (eqb-true t u e)))
+    by false true e f = absurd (eqb-false t u e (sym (eqb-true u t f)))
 
 -- counts of one ticket, where the broods of another go
 one-other : (v t u : ℕ) (same : Bool) → eqb v t ≡ false → eqb t u ≡ same → (n : ℕ)

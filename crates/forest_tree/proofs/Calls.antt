@@ -1,10 +1,11 @@
 -- What a step is, by the call that it makes.
 use Rattle.std.proofs.Common.{◌≡◌, ℕ, zero, suc, ◌+◌, ◌<◌, ◌≤◌, not, Bool, true, false, refl, sym, ap, ◌∙◌, arith, List, Option, Some, None, is_some, slice_get}
+use Rattle.std.proofs.lemmas.Bool.{and_parts}
 use Rattle.forest_tree.specs.Operations.{clone, join, kill, Operations, IsMachine}
 use Rattle.forest_tree.specs.Tree.{Tree, node, Trees, no_tree, tree, Broods, brood, Log, joined, killed, machine, size, child_at, brood_of, without}
 use Rattle.forest_tree.specs.Settle.{have_ended, with_ending, endings, alone, children_from, children, settled, waits_by, waits, join_by, step}
 use Rattle.forest_tree.specs.Sound.{IsSound}
-use Rattle.forest_tree.proofs.Settle.{both-true, root-sound, size-children_from, size-cloned}
+use Rattle.forest_tree.proofs.Settle.{root-sound, size-children_from, size-cloned}
 use Rattle.forest_tree.proofs.Run.{step-lives}
 use Rattle.forest_tree.proofs.Places.{some-same}
 
@@ -66,10 +67,10 @@ module _ {M E : Type 0} (o : Operations M E) where
   unfolding have_ended endings child_at
   endings-at no_tree h i c e = absurd (cc)
   endings-at (tree t rest) h zero c e =
-      let both = both-true (is_some (o.ending (machine t))) (have_ended o rest) h in
+      let both = and_parts (is_some (o.ending (machine t))) (have_ended o rest) h in
       first-ending (o.ending (machine t)) (endings o rest) both.0 ∙ ap (λ (u : Tree M). o.ending (machine u)) (some-same t c e)
   endings-at (tree t rest) h (suc i) c e =
-      let both = both-true (is_some (o.ending (machine t))) (have_ended o rest) h in
+      let both = and_parts (is_some (o.ending (machine t))) (have_ended o rest) h in
       later-ending (o.ending (machine t)) (endings o rest) i both.0 ∙ endings-at rest both.1 i c e
 
   -- a kill drops as many children as it logs

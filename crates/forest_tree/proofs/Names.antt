@@ -1,5 +1,6 @@
 -- A place that is gone does not come back, so what becomes of a tree is what is done in it.
 use Rattle.std.proofs.Common.{◌≡◌, ℕ, suc, ◌+◌, ◌&&◌, ◌||◌, not, eqb, ◌⊎◌, Bool, true, false, cond, refl, sym, ap, ◌∙◌, subst, arith, inl, inr, List, [], ◌∷◌, Option, Some, None, IsSome, is_some, option_and_then, option_map}
+use Rattle.std.proofs.lemmas.Bool.{or_parts}
 use Rattle.forest_tree.specs.Operations.{Call, clone, join, kill, Operations, is_cloned, Makes, IsStep, IsMachine}
 use Rattle.forest_tree.specs.Tree.{Tree, node, Trees, Broods, Log, brood, joined, killed, machine, broods_of, child_at, brood_of, without, broods_with, Branch, Path, subtree, beyond, with_path, beyond_all}
 use Rattle.forest_tree.specs.Settle.{have_ended, endings, children, settled, waits_by, join_by, step_by, step, settle, settle_all, settle_beyond, rests, is_own, own_steps}
@@ -10,10 +11,6 @@ use Rattle.forest_tree.proofs.Run.{cases-ending, step-ended, step-lives, step-co
 use Rattle.forest_tree.proofs.Places.{some-same, Kept, stays, goes, is_new, brood_of-none, kept-step, below-at, is-within, child-moved, settle-at}
 use Rattle.forest_tree.proofs.Rests.{lives-none, step-rests}
 use Rattle.forest_tree.proofs.Schedules.{settle_all-keeps}
-
-neither-true : (a b : Bool) → a || b ≡ false → (a ≡ false) × (b ≡ false)
-neither-true true b h = absurd (cc)
-neither-true false b h = (refl, h)
 
 module _ {M E : Type 0} (o : Operations M E) (rules : IsMachine o) where
   -- no number comes back in a step
@@ -145,7 +142,7 @@ module _ {M E : Type 0} (o : Operations M E) (rules : IsMachine o) where
   gone-settle [] path t h gone = gone
   gone-settle (b ∷ way) [] (node m broods log) h gone = gone-root b way m broods log h gone
   gone-settle (b ∷ way) (y ∷ path) (node m broods log) h gone =
-      subst (λ c. GoneIn (IsGone way) c m b.ticket) (sym (child-moved o (settle o path) b y broods))
+      subst (λ c. GoneIn (IsGone way) c m b.ticket) (sym (child-moved (settle o path) b y broods))
       (gone-below (IsGone way) (settle o path) m b.ticket (eqb y.ticket b.ticket && eqb y.child b.child)
       (child_at b.child (brood_of b.ticket broods)) gone
       (λ u found inside. gone-settle way path u (below-at o m broods log b.ticket b.child u h found) inside))
@@ -193,7 +190,7 @@ module _ {M E : Type 0} (o : Operations M E) (rules : IsMachine o) where
   lost-gone [] path t a h here there = absurd (cc)
   lost-gone (b ∷ way) [] (node m broods log) a h here there = lost-step b way m broods log a h here there
   lost-gone (b ∷ way) (y ∷ path) (node m broods log) a h here there =
-      let moved = child-moved o (settle o path) b y broods in
+      let moved = child-moved (settle o path) b y broods in
       subst (λ c. GoneIn (IsGone way) c m b.ticket) (sym moved)
       (lost-below (IsGone way) (settle o path) way m b.ticket (eqb y.ticket b.ticket && eqb y.child b.child)
       (child_at b.child (brood_of b.ticket broods)) a here (ap (option_and_then (subtree way)) (sym moved) ∙ there)
@@ -261,7 +258,7 @@ module _ {M E : Type 0} (o : Operations M E) (rules : IsMachine o) where
       let same : o.left (machine (step o (node m broods log))) ≡ o.left m = ap (λ (t : Tree M). o.left (machine t)) (step-rests o (node m broods log) e) in
       omega arith
   own-first m broods log h false e =
-      let parts = neither-true (is_some (o.ending m)) (waits_by o (o.call m) broods) e in
+      let parts = or_parts (is_some (o.ending m)) (waits_by o (o.call m) broods) e in
       let counts : o.left m ≡ suc (o.left (machine (step o (node m broods log)))) =
       step-counts o rules m broods log h (lives-none (o.ending m) parts.0) parts.1 in
       omega arith

@@ -5,20 +5,11 @@ use Rattle.forest_tree.specs.Operations.{Call, clone, join, kill, Grant, Operati
 use Rattle.forest_tree.specs.Tree.{Tree, node, Trees, no_tree, tree, Broods, no_brood, brood, Log, joined, killed, machine, broods_of, at_child, child_at, brood_of, without, at_brood, broods_with, Branch, Path, subtree, beyond, goes_on, is_below}
 use Rattle.forest_tree.specs.Settle.{have_ended, endings, children, settled_by, settled, join_by, step_by, step, settle, settle_beyond}
 use Rattle.forest_tree.specs.Sound.{IsSound, AreSound, Hold}
-use Rattle.forest_tree.proofs.Broods.{one_if}
+use Rattle.forest_tree.proofs.Broods.{one_if, eqb-sym}
 use Rattle.forest_tree.proofs.Settle.{clone-is-new, root-sound, below-sound, settle-keeps}
 use Rattle.forest_tree.proofs.Run.{cases-ending, step-ended, step-lives}
 
-eqb-sym : (t u : ℕ) → eqb t u ≡ eqb u t
-eqb-sym t u = by (eqb t u) (eqb u t) refl refl
-  where
-    by : (p q : Bool) → eqb t u ≡ p → eqb u t ≡ q → eqb t u ≡ eqb u t
-    by true true e f = e ∙ sym f
-    by false false e f = e ∙ sym f
-    by true false e f = absurd (eqb-false u t f (sym (eqb-true t u e)))
-    by false true e f = absurd (eqb-false t u e (sym (eqb-true u t f)))
-
-branch-sym : (rest : Option Path) (t u k j : ℕ) → cond (eqb t u && eqb k j) rest None ≡ cond (eqb u t && eqb j k) rest None
+pub branch-sym : (rest : Option Path) (t u k j : ℕ) → cond (eqb t u && eqb k j) rest None ≡ cond (eqb u t && eqb j k) rest None
 branch-sym rest t u k j = ap₂ (λ a b. cond (a && b) rest None) (eqb-sym t u) (eqb-sym k j)
 
 -- a value that is some
@@ -144,6 +135,21 @@ module _ {M : Type 0} where
       parts None h = refl
       parts (Some u) h = h u
 
+  -- the child at a place, where one at another is changed
+  moved-by : (f : Tree M → Tree M) (k j : ℕ) (trees : Trees M) (ticket child : Bool) → eqb k j ≡ child
+      → child_at j (cond ticket (at_child f k trees) trees) ≡ cond (ticket && child) (option_map f (child_at j trees)) (child_at j trees)
+  moved-by f k j trees false child e = refl
+  moved-by f k j trees true false e = child_at-other f k j trees (eqb-false k j e)
+  moved-by f k j trees true true e = ap (λ i. child_at j (at_child f i trees)) (eqb-true k j e) ∙ child_at-same f j trees
+
+  pub child-moved : (f : Tree M → Tree M) (b y : Branch) (broods : Broods M)
+      → child_at b.child (brood_of b.ticket (at_brood (at_child f y.child) y.ticket broods))
+      ≡ cond (eqb y.ticket b.ticket && eqb y.child b.child) (option_map f (child_at b.child (brood_of b.ticket broods)))
+      (child_at b.child (brood_of b.ticket broods))
+  child-moved f b y broods =
+      ap (child_at b.child) (brood_of-at (at_child f y.child) (at_child-none f y.child) y.ticket b.ticket broods)
+      ∙ moved-by f y.child b.child (brood_of b.ticket broods) (eqb y.ticket b.ticket) (eqb y.child b.child) refl
+
 module _ {M E : Type 0} (o : Operations M E) where
   kept-settled_by : (may : Bool) (e : Option E) (m : M) (before broods : Broods M) (log : Log M) (u : ℕ)
       → Kept may (brood_of u before) (brood_of u broods)
@@ -218,21 +224,6 @@ module _ {M E : Type 0} (o : Operations M E) where
       → (t : Tree M) × (c ≡ Some t) × (subtree way t ≡ Some a)
   is-within way None a e = absurd (cc)
   is-within way (Some t) a e = (t, refl, e)
-
-  -- the child at a place, where one at another is changed
-  moved-by : (f : Tree M → Tree M) (k j : ℕ) (trees : Trees M) (ticket child : Bool) → eqb k j ≡ child
-      → child_at j (cond ticket (at_child f k trees) trees) ≡ cond (ticket && child) (option_map f (child_at j trees)) (child_at j trees)
-  moved-by f k j trees false child e = refl
-  moved-by f k j trees true false e = child_at-other f k j trees (eqb-false k j e)
-  moved-by f k j trees true true e = ap (λ i. child_at j (at_child f i trees)) (eqb-true k j e) ∙ child_at-same f j trees
-
-  pub child-moved : (f : Tree M → Tree M) (b y : Branch) (broods : Broods M)
-      → child_at b.child (brood_of b.ticket (at_brood (at_child f y.child) y.ticket broods))
-      ≡ cond (eqb y.ticket b.ticket && eqb y.child b.child) (option_map f (child_at b.child (brood_of b.ticket broods)))
-      (child_at b.child (brood_of b.ticket broods))
-  child-moved f b y broods =
-      ap (child_at b.child) (brood_of-at (at_child f y.child) (at_child-none f y.child) y.ticket b.ticket broods)
-      ∙ moved-by f y.child b.child (brood_of b.ticket broods) (eqb y.ticket b.ticket) (eqb y.child b.child) refl
 
   pub subtree-sound : (at : Path) (t a : Tree M) → IsSound o t → subtree at t ≡ Some a → IsSound o a
   unfolding subtree

@@ -37,7 +37,7 @@ module _ {M : Type 0} where
   at_child-leaves f (suc zero) (tree t rest) h = ap (λ u. tree u rest) (h t refl)
   at_child-leaves f (suc (suc k)) (tree t rest) h = ap (tree t) (at_child-leaves f (suc k) rest h)
 
-  at_brood-absent : (f : Trees M → Trees M) (t : ℕ) (broods : Broods M) → broods_with t broods ≡ 0 → at_brood f t broods ≡ broods
+  pub at_brood-absent : (f : Trees M → Trees M) (t : ℕ) (broods : Broods M) → broods_with t broods ≡ 0 → at_brood f t broods ≡ broods
   unfolding at_brood broods_with
   at_brood-absent f t no_brood none = refl
   at_brood-absent f t (brood u trees rest) none =
@@ -62,6 +62,19 @@ module _ {M : Type 0} where
       by false fits same down = ap (brood u trees) (down (omega arith) same)
 
 module _ {M E : Type 0} (o : Operations M E) where
+  -- a machine has one brood of a ticket at most
+  pub one-brood : (m : M) (broods : Broods M) (log : Log M) → IsSound o (node m broods log) → (t : ℕ) → broods_with t broods ≤ 1
+  unfolding broods_with
+  one-brood m broods log h t = elim (cases-ending (o.ending m)) [
+    | inl ended ↦
+        let none : broods ≡ no_brood = (root-sound o m broods log h).ended (subst IsSome (sym ended.1) refl) in
+        let count : broods_with t broods ≡ 0 = ap (broods_with t) none in
+        omega arith
+    | inr lives ↦
+        let count : broods_with t broods ≡ one_if (is_cloned o m t) = (root-sound o m broods log h).one_each lives t in
+        omega (arith, at-most-one (is_cloned o m t))
+  ]
+
   -- a machine that has ended or waits makes no step
   step-waits : (m : M) (broods : Broods M) (log : Log M) (next : Option Call) → o.ending m ≡ None → o.call m ≡ next
       → waits_by o next broods ≡ true → step o (node m broods log) ≡ node m broods log
@@ -105,18 +118,6 @@ module _ {M E : Type 0} (o : Operations M E) where
         ap (λ trees. option_and_then (subtree path) (child_at x.child trees)) found
         ∙ ap (option_and_then (subtree path)) (child_at-same (settle o path) x.child (brood_of x.ticket broods) ∙ ap (option_map (settle o path)) is.1)
         ∙ settle-here path is.0 a is.2
-
-    one-brood : (m : M) (broods : Broods M) (log : Log M) → IsSound o (node m broods log) → (t : ℕ) → broods_with t broods ≤ 1
-    unfolding broods_with
-    one-brood m broods log h t = elim (cases-ending (o.ending m)) [
-      | inl ended ↦
-          let none : broods ≡ no_brood = (root-sound o m broods log h).ended (subst IsSome (sym ended.1) refl) in
-          let count : broods_with t broods ≡ 0 = ap (broods_with t) none in
-          omega arith
-      | inr lives ↦
-          let count : broods_with t broods ≡ one_if (is_cloned o m t) = (root-sound o m broods log h).one_each lives t in
-          omega (arith, at-most-one (is_cloned o m t))
-    ]
 
     pub settle-rests : (path : Path) (t : Tree M) → IsSound o t → rests o (subtree path t) ≡ true → settle o path t ≡ t
     unfolding settle subtree

@@ -1,5 +1,6 @@
 -- A machine that is run, whose children have ended.
 use Rattle.std.proofs.Common.{◌≡◌, ℕ, zero, suc, ◌+◌, ◌<◌, ◌≤◌, ◌&&◌, ◌||◌, not, eqb, ◌⊎◌, inl, inr, Bool, true, false, refl, sym, ap, ◌∙◌, subst, arith, Option, Some, None, IsSome, is_some}
+use Rattle.std.proofs.lemmas.Bool.{and_parts}
 use Rattle.forest_tree.specs.Operations.{Call, clone, join, kill, Grant, Operations, is_cloned, Makes, IsStep, IsChild, IsMachine}
 use Rattle.forest_tree.specs.Tree.{Tree, node, Trees, no_tree, tree, Broods, no_brood, brood, Log, joined, killed, machine, broods_of, brood_of, without, each_brood}
 use Rattle.forest_tree.specs.Settle.{have_ended, endings, alone, children_from, children, settled_by, settled, waits_by, waits, join_by, step_by, step_from, step}
@@ -7,7 +8,7 @@ use Rattle.forest_tree.specs.Sound.{IsSound, AreSound, Hold}
 use Rattle.forest_tree.specs.Finish.{with_broods, run}
 use Rattle.forest_tree.proofs.All.{AllTrees, AllBroods, AllTrees-all, AllBroods-all, AllBroods-each, AllBroods-without, AllTrees-brood_of}
 use Rattle.forest_tree.proofs.Broods.{broods_with-each_brood}
-use Rattle.forest_tree.proofs.Settle.{both-true, root-sound, below-sound, KeepsTo, Keeps, AreSound-each_brood, alone-sound, machine-settled, broods-sound, join-step, step-keeps}
+use Rattle.forest_tree.proofs.Settle.{root-sound, below-sound, KeepsTo, Keeps, AreSound-each_brood, alone-sound, machine-settled, broods-sound, join-step, step-keeps}
 
 -- none, or an ending
 pub is-some : {A : Type 0} (e : Option A) → IsSome e → (a : A) × (e ≡ Some a)
@@ -55,7 +56,7 @@ module _ {M E : Type 0} (o : Operations M E) where
   unfolding have_ended AllTrees
   all-have_ended no_tree h = tt
   all-have_ended (tree t rest) h =
-      let both = both-true (is_some (o.ending (machine t))) (have_ended o rest) h in
+      let both = and_parts (is_some (o.ending (machine t))) (have_ended o rest) h in
       (both.0, all-have_ended rest both.1)
 
   -- what is so of each sound tree is so of those below a sound one

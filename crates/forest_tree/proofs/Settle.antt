@@ -1,5 +1,6 @@
 -- A step keeps soundness and what each machine holds.
 use Rattle.std.proofs.Common.{◌≡◌, ℕ, zero, suc, ◌+◌, ◌<◌, ◌≤◌, ◌&&◌, ◌||◌, not, Bool, true, false, cond, eqb, eqb-true, refl, sym, ap, ◌∙◌, subst, arith, List, [], ◌∷◌, length, Option, Some, None, IsSome, is_some}
+use Rattle.std.proofs.lemmas.Bool.{and_parts}
 use Rattle.forest_tree.specs.Operations.{Call, clone, join, kill, Grant, Operations, is_among, is_cloned, Makes, IsStep, IsChild, IsMachine}
 use Rattle.forest_tree.specs.Tree.{Tree, node, Trees, no_tree, tree, Broods, no_brood, brood, Log, joined, killed, machine, size, each, at_child, brood_of, without, at_brood, each_brood, broods_with, Path}
 use Rattle.forest_tree.specs.Settle.{have_ended, with_ending, endings, alone, children_from, children, settled_by, settled, join_by, step_by, step_from, step, settle}
@@ -22,10 +23,6 @@ one-without false cloned n h = h
 pub some-none : {A : Type 0} (e : Option A) → e ≡ None → IsSome e → ⊥
 some-none None e h = cc
 some-none (Some a) e h = cc
-
-pub both-true : (a b : Bool) → a && b ≡ true → (a ≡ true) × (b ≡ true)
-both-true true b h = (refl, h)
-both-true false b h = cc
 
 is-one : (n : ℕ) (cloned : Bool) → n ≡ one_if cloned → 0 < n → cloned ≡ true
 is-one n true h has = refl
@@ -171,7 +168,7 @@ module _ {M E : Type 0} (o : Operations M E) where
   unfolding have_ended endings size
   length-endings no_tree h = refl
   length-endings (tree t rest) h =
-      let both = both-true (is_some (o.ending (machine t))) (have_ended o rest) h in
+      let both = and_parts (is_some (o.ending (machine t))) (have_ended o rest) h in
       length-with_ending (o.ending (machine t)) (endings o rest) both.0 ∙ ap suc (length-endings rest both.1)
 
   module _ (rules : IsMachine o) where

@@ -1,6 +1,6 @@
 -- The small machine keeps the rules of a machine in a forest.
 use Rattle.std.proofs.Common.{◌≡◌, ℕ, zero, suc, pred, ◌+◌, ◌<◌, ◌≤◌, ◌&&◌, ◌||◌, not, eqb, ltb, leb, Bool, true, false, cond, refl, sym, ap, ◌∙◌, subst, arith, ltb-true, lt-ltb, leb-true, le-leb, eqb-true, [], Option, Some, None, is_some}
-use Rattle.std.proofs.lemmas.Bool.{eqb-false, lt-leb}
+use Rattle.std.proofs.lemmas.Bool.{eqb-false, lt-leb, and_parts, and_from}
 use Rattle.forest_tree.proofs.Broods.{eqb-same}
 use Rattle.forest_tree.specs.Operations.{Call, clone, join, kill, Grant, is_among, is_cloned, Makes, IsStep, IsChild, IsMachine}
 use Rattle.forest_tree.specs.Toy.{Order, pause, request, clone_children, join_children, kill_children, exit, Ticket, no_ticket, granted, cloned, ToyEnding, by_limit, Toy, cost, ticket_cost, ticket_grant, cloned_numbers, order_of, call_of, given_back, requested, obeyed, set_cloned, is_uncloned, is_numbered_below, ending_after, counted, total, toy_forked, toy_child, toy}
@@ -26,14 +26,6 @@ good-after join_children left value = by-limit-good left (eqb left 0) refl
 good-after kill_children left value = by-limit-good left (eqb left 0) refl
 good-after exit left value = refl
 
-good-both : (below live : Bool) → below && live ≡ true → (below ≡ true) × (live ≡ true)
-good-both true live h = (refl, h)
-good-both false live h = absurd (cc)
-
-both-good : (below live : Bool) → below ≡ true → live ≡ true → below && live ≡ true
-both-good true live e h = h
-both-good false live e h = absurd (cc)
-
 or-left : (a b c : Bool) → b ≡ false → a || b ≡ true → a || c ≡ true
 or-left true b c e h = refl
 or-left false b c e h = let no : false ≡ true = sym e ∙ h in absurd (cc)
@@ -43,11 +35,11 @@ or-right true b h = refl
 or-right false b h = h
 
 is-below : (m : Toy) → toy.is_good m ≡ true → is_numbered_below m.ticket m.next_ticket ≡ true
-is-below m good = (good-both (is_numbered_below m.ticket m.next_ticket) (is_some m.ending || ltb 0 m.left) good).0
+is-below m good = (and_parts (is_numbered_below m.ticket m.next_ticket) (is_some m.ending || ltb 0 m.left) good).0
 
 has-left : (m : Toy) → toy.is_good m ≡ true → m.ending ≡ None → 0 < m.left
 has-left m good lives =
-    left-some m.ending m.left (good-both (is_numbered_below m.ticket m.next_ticket) (is_some m.ending || ltb 0 m.left) good).1 lives
+    left-some m.ending m.left (and_parts (is_numbered_below m.ticket m.next_ticket) (is_some m.ending || ltb 0 m.left) good).1 lives
 
 suc-left : (m : Toy) (next : Option Call) → Makes toy m next → m.left ≡ suc (pred m.left)
 suc-left m next makes = let some : 0 < m.left = has-left m makes.good makes.lives in omega arith
@@ -106,7 +98,7 @@ advance-step m makes =
     let n : Toy = obeyed (order_of m.orders) m.ticket m in
     let k : Keeps m n = obeyed-keeps (order_of m.orders) m.ticket m refl in
     record {
-      good = both-good (is_numbered_below n.ticket n.next_ticket) (is_some (counted n).ending || ltb 0 (pred n.left))
+      good = and_from (is_numbered_below n.ticket n.next_ticket) (is_some (counted n).ending || ltb 0 (pred n.left))
           (k.below (is-below m makes.good)) (good-after (order_of n.orders) (pred n.left) n.value);
       counted = suc-left m None makes ∙ ap (λ l. suc (pred l)) (sym k.left);
       holding = k.holding;
@@ -214,7 +206,7 @@ forked-step : (m : Toy) (t : ℕ) → Makes toy m (Some (clone t)) → IsStep to
 forked-step m t makes =
     let is = clone-stands m t makes in
     record {
-      good = both-good (is_numbered_below (set_cloned m.ticket) m.next_ticket) (is_some (toy_forked m).ending || ltb 0 (pred m.left))
+      good = and_from (is_numbered_below (set_cloned m.ticket) m.next_ticket) (is_some (toy_forked m).ending || ltb 0 (pred m.left))
           (forked-below m.ticket m.next_ticket ∙ is-below m makes.good) (good-after (order_of m.orders) (pred m.left) m.value);
       counted = suc-left m (Some (clone t)) makes;
       holding = ap (λ n. m.allot + n) (forked-cost m.ticket);

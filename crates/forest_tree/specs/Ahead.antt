@@ -1,27 +1,34 @@
--- How many steps the machines of a tree may still make.
+-- How much is ahead of the machines of a tree: the steps that they may still make, and beside them what the
+-- place at which a machine is counts.
 use Rattle.std.specs.Prelude.{ℕ, zero, suc, ◌+◌, ◌*◌, Option, Some, None}
 use Rattle.forest_tree.specs.Operations.{Operations}
 use Rattle.forest_tree.specs.Tree.{Tree, node, Trees, no_tree, tree, Broods, no_brood, brood}
 
--- the most steps of a machine with so many left, and of all its descendants, where it holds so much. A
--- child is born with fewer left, and all children of a clone hold less together
-unfoldable pub most_steps : ℕ → ℕ → ℕ
-most_steps zero held = 0
-most_steps (suc left) held = 1 + (1 + held) * most_steps left held
+-- the most of a machine with so many steps left, and of all its descendants, where it holds so much and a place
+-- counts `worth` at most: a step is worth more than a place, and a clone more than its children and their
+-- places. A child is born with fewer left, and all children of a clone hold less together
+unfoldable pub most_ahead : ℕ → ℕ → ℕ → ℕ
+most_ahead worth zero held = 0
+most_ahead worth (suc left) held = 1 + (1 + held) * (worth + most_ahead worth left held)
 
-module _ {M E : Type 0} (o : Operations M E) where
-  abbrev pub own_ahead : Option E → M → ℕ
-  own_ahead None m = most_steps (o.left m) (o.holding m)
-  own_ahead (Some ending) m = 0
+module _ {M E : Type 0} (o : Operations M E) (worth : ℕ) (at : M → ℕ) where
+  abbrev pub own_weight : Option E → M → ℕ
+  own_weight None m = most_ahead worth (o.left m) (o.holding m) + at m
+  own_weight (Some ending) m = 0
 
   unfoldable mutual
-    pub ahead : Tree M → ℕ
-    ahead (node m broods log) = own_ahead (o.ending m) m + ahead_broods broods
+    pub weigh : Tree M → ℕ
+    weigh (node m broods log) = own_weight (o.ending m) m + weigh_broods broods
 
-    pub ahead_trees : Trees M → ℕ
-    ahead_trees no_tree = 0
-    ahead_trees (tree t rest) = ahead t + ahead_trees rest
+    pub weigh_trees : Trees M → ℕ
+    weigh_trees no_tree = 0
+    weigh_trees (tree t rest) = weigh t + weigh_trees rest
 
-    pub ahead_broods : Broods M → ℕ
-    ahead_broods no_brood = 0
-    ahead_broods (brood t trees rest) = ahead_trees trees + ahead_broods rest
+    pub weigh_broods : Broods M → ℕ
+    weigh_broods no_brood = 0
+    weigh_broods (brood t trees rest) = weigh_trees trees + weigh_broods rest
+
+module _ {M E : Type 0} (o : Operations M E) where
+  -- how many steps they may still make: no place counts
+  abbrev pub ahead : Tree M → ℕ
+  ahead t = weigh o 0 (λ m. 0) t

@@ -16,7 +16,7 @@ use Rattle.fork_port.proofs.Balance.{holding_after_ticket, holding_after_kill, a
 use Rattle.fork_port.proofs.CommandLemmas.{answerable}
 
 -- what holds after a store to each register, and after the command, holds after every store that is made
-each_store : (P : ForkStored → Type 0) (f : ForkRegisters) (offset width word : ℕ)
+pub each_store : (P : ForkStored → Type 0) (f : ForkRegisters) (offset width word : ℕ)
     → P (record { fork = record f { first_argument = word }; effect = effect.Done })
     → P (record { fork = record f { second_argument = word }; effect = effect.Done })
     → P (record { fork = record f { join_select = word }; effect = effect.Done })

@@ -10,24 +10,9 @@ use Rattle.fork_port.specs.Commands.{IsAnswerable, answered, fork_command}
 use Rattle.fork_port.specs.Fork.{ForkStored, carried_out, stored_from, fork_store}
 use Rattle.fork_port.proofs.TicketLemmas.{either}
 use Rattle.fork_port.proofs.CommandLemmas.{answerable}
+use Rattle.fork_port.proofs.StoreLemmas.{each_store}
 use Rattle.port_rules.specs.Rules.{is_cloned, is_accounted, IsPortStep}
 use Rattle.port_rules.proofs.Tickets.{port-same, port-ticket, port-discard}
-
-pub each_store : (P : ForkStored → Type 0) (f : ForkRegisters) (offset width word : ℕ)
-    → P (record { fork = record f { first_argument = word }; effect = effect.Done })
-    → P (record { fork = record f { second_argument = word }; effect = effect.Done })
-    → P (record { fork = record f { join_select = word }; effect = effect.Done })
-    → P (stored_from (Command word) f)
-    → IfSome (fork_store f offset width word) P
-unfolding fork_store
-each_store P f offset width word first second select command =
-    let Q : Option RegisterStored → Type 0 = λ o. IfSome (option_map carried_out o) P in
-    either (λ (o : Option ForkStored). IfSome o P) (eqb width 4) _ None
-    (either Q (eqb offset FORK_FIRST_ARGUMENT) _ _ first
-    (either Q (eqb offset FORK_SECOND_ARGUMENT) _ _ second
-    (either Q (eqb offset FORK_COMMAND) _ _ command
-    (either Q (eqb offset FORK_JOIN_SELECT) _ None select tt))))
-    tt
 
 port-answered : (f : ForkRegisters) (command : ℕ) → is_accounted f ≡ true → (a : Asked) → IsAnswerable f command a
     → IsPortStep f (answered a f) (λ t. is_cloned (ticket_found f t))

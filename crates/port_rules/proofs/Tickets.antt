@@ -1,9 +1,10 @@
 -- The fork port keeps what a forest asks of the tickets of a machine.
 use Rattle.std.proofs.Common.{◌≡◌, ℕ, zero, suc, ◌+◌, ◌*◌, ◌^◌, ◌<◌, ◌≤◌, ◌&&◌, ◌||◌, not, eqb, ltb, leb, Bool, true, false, cond, refl, sym, ap, ◌∙◌, subst, arith, ltb-true, lt-ltb, leb-true, le-leb, eqb-true, eq-eqb, List, [], ◌∷◌, Option, Some, None, IsSome, IsSomeAnd, option_map, is_some}
-use Rattle.std.proofs.lemmas.Bool.{eqb-false, lt-leb}
+use Rattle.std.proofs.lemmas.Bool.{eqb-false, lt-leb, and_parts, and_from}
 use Rattle.std.proofs.lemmas.Bool.Decides.{nat_tests}
 use Rattle.std.specs.List.{AllByRecursion}
 use Rattle.forest_tree.specs.Operations.{is_among}
+use Rattle.forest_tree.proofs.Broods.{eqb-sym}
 use Rattle.fork_port.specs.declared.ending.Ending.{Ending}
 use Rattle.fork_port.specs.declared.tickets.Ticket.{Ticket}
 use Rattle.fork_port.specs.Tickets.{ticket_of, as_cloned, cost, held, IsRising}
@@ -12,15 +13,6 @@ use Rattle.fork_port.specs.Children.{IsAccounted, children_granted, new_ticket, 
 use Rattle.fork_port.proofs.TicketLemmas.{held_without, ticket_of_push, ticket_of_with_cloned}
 use Rattle.fork_port.proofs.Balance.{unless, holding_after_ticket, holding_after_clone, holding_after_join, holding_after_kill, accounted_after_ticket, accounted_after_clone, accounted_after_join, accounted_after_kill, found_after_join, found_after_kill}
 use Rattle.port_rules.specs.Rules.{cloned_numbers, is_cloned, is_uncloned, grant_of, may_clone, are_below, are_above, are_for_children, are_rising, is_accounted, IsPortStep}
-
--- tests that are both true
-both : (a b : Bool) → a && b ≡ true → (a ≡ true) × (b ≡ true)
-both true b h = (refl, h)
-both false b h = absurd (cc)
-
-and : (a b : Bool) → a ≡ true → b ≡ true → a && b ≡ true
-and true b e h = h
-and false b e h = absurd (cc)
 
 or-left : (a b c : Bool) → (b ≡ true → a || c ≡ true) → a || b ≡ true → a || c ≡ true
 or-left true b c weaker h = refl
@@ -31,52 +23,52 @@ below-all : (next : ℕ) (tickets : List Ticket) → are_below next tickets ≡ 
 unfolding are_below
 below-all next [] h = tt
 below-all next (x ∷ xs) h =
-    let parts = both (ltb x.number next) (are_below next xs) h in (ltb-true x.number next parts.0, below-all next xs parts.1)
+    let parts = and_parts (ltb x.number next) (are_below next xs) h in (ltb-true x.number next parts.0, below-all next xs parts.1)
 
 all-below : (next : ℕ) (tickets : List Ticket) → AllByRecursion (λ (ticket : Ticket). ticket.number < next) tickets → are_below next tickets ≡ true
 unfolding are_below
 all-below next [] h = refl
-all-below next (x ∷ xs) h = and (ltb x.number next) (are_below next xs) (lt-ltb x.number next h.0) (all-below next xs h.1)
+all-below next (x ∷ xs) h = and_from (ltb x.number next) (are_below next xs) (lt-ltb x.number next h.0) (all-below next xs h.1)
 
 above-all : (number : ℕ) (tickets : List Ticket) → are_above number tickets ≡ true → AllByRecursion (λ (ticket : Ticket). number < ticket.number) tickets
 unfolding are_above
 above-all number [] h = tt
 above-all number (x ∷ xs) h =
-    let parts = both (ltb number x.number) (are_above number xs) h in (ltb-true number x.number parts.0, above-all number xs parts.1)
+    let parts = and_parts (ltb number x.number) (are_above number xs) h in (ltb-true number x.number parts.0, above-all number xs parts.1)
 
 all-above : (number : ℕ) (tickets : List Ticket) → AllByRecursion (λ (ticket : Ticket). number < ticket.number) tickets → are_above number tickets ≡ true
 unfolding are_above
 all-above number [] h = refl
-all-above number (x ∷ xs) h = and (ltb number x.number) (are_above number xs) (lt-ltb number x.number h.0) (all-above number xs h.1)
+all-above number (x ∷ xs) h = and_from (ltb number x.number) (are_above number xs) (lt-ltb number x.number h.0) (all-above number xs h.1)
 
 children-all : (tickets : List Ticket) → are_for_children tickets ≡ true → AllByRecursion (λ (ticket : Ticket). 0 < ticket.children) tickets
 unfolding are_for_children
 children-all [] h = tt
 children-all (x ∷ xs) h =
-    let parts = both (ltb 0 x.children) (are_for_children xs) h in (ltb-true 0 x.children parts.0, children-all xs parts.1)
+    let parts = and_parts (ltb 0 x.children) (are_for_children xs) h in (ltb-true 0 x.children parts.0, children-all xs parts.1)
 
 all-children : (tickets : List Ticket) → AllByRecursion (λ (ticket : Ticket). 0 < ticket.children) tickets → are_for_children tickets ≡ true
 unfolding are_for_children
 all-children [] h = refl
-all-children (x ∷ xs) h = and (ltb 0 x.children) (are_for_children xs) (lt-ltb 0 x.children h.0) (all-children xs h.1)
+all-children (x ∷ xs) h = and_from (ltb 0 x.children) (are_for_children xs) (lt-ltb 0 x.children h.0) (all-children xs h.1)
 
 rising-all : (tickets : List Ticket) → are_rising tickets ≡ true → IsRising tickets
 unfolding are_rising
 rising-all [] h = tt
 rising-all (x ∷ xs) h =
-    let parts = both (are_above x.number xs) (are_rising xs) h in (above-all x.number xs parts.0, rising-all xs parts.1)
+    let parts = and_parts (are_above x.number xs) (are_rising xs) h in (above-all x.number xs parts.0, rising-all xs parts.1)
 
 all-rising : (tickets : List Ticket) → IsRising tickets → are_rising tickets ≡ true
 unfolding are_rising
 all-rising [] h = refl
-all-rising (x ∷ xs) h = and (are_above x.number xs) (are_rising xs) (all-above x.number xs h.0) (all-rising xs h.1)
+all-rising (x ∷ xs) h = and_from (are_above x.number xs) (are_rising xs) (all-above x.number xs h.0) (all-rising xs h.1)
 
 pub accounted-is : (f : ForkRegisters) → is_accounted f ≡ true → IsAccounted f
 accounted-is f h =
-    let one = both (eqb (holding f) f.opening && ltb f.opening (2 ^ 32)) (are_below f.next_ticket f.tickets && (are_for_children f.tickets && are_rising f.tickets)) h in
-    let two = both (eqb (holding f) f.opening) (ltb f.opening (2 ^ 32)) one.0 in
-    let three = both (are_below f.next_ticket f.tickets) (are_for_children f.tickets && are_rising f.tickets) one.1 in
-    let four = both (are_for_children f.tickets) (are_rising f.tickets) three.1 in
+    let one = and_parts (eqb (holding f) f.opening && ltb f.opening (2 ^ 32)) (are_below f.next_ticket f.tickets && (are_for_children f.tickets && are_rising f.tickets)) h in
+    let two = and_parts (eqb (holding f) f.opening) (ltb f.opening (2 ^ 32)) one.0 in
+    let three = and_parts (are_below f.next_ticket f.tickets) (are_for_children f.tickets && are_rising f.tickets) one.1 in
+    let four = and_parts (are_for_children f.tickets) (are_rising f.tickets) three.1 in
     record {
       balanced = record {
         kept = eqb-true (holding f) f.opening two.0;
@@ -89,10 +81,10 @@ accounted-is f h =
 
 pub is-accounted : (f : ForkRegisters) → IsAccounted f → is_accounted f ≡ true
 is-accounted f h =
-    and (eqb (holding f) f.opening && ltb f.opening (2 ^ 32)) (are_below f.next_ticket f.tickets && (are_for_children f.tickets && are_rising f.tickets))
-    (and (eqb (holding f) f.opening) (ltb f.opening (2 ^ 32)) (eq-eqb (holding f) f.opening h.balanced.kept) (lt-ltb f.opening (2 ^ 32) h.balanced.fits))
-    (and (are_below f.next_ticket f.tickets) (are_for_children f.tickets && are_rising f.tickets) (all-below f.next_ticket f.tickets h.balanced.below)
-    (and (are_for_children f.tickets) (are_rising f.tickets) (all-children f.tickets h.balanced.for_children) (all-rising f.tickets h.rising)))
+    and_from (eqb (holding f) f.opening && ltb f.opening (2 ^ 32)) (are_below f.next_ticket f.tickets && (are_for_children f.tickets && are_rising f.tickets))
+    (and_from (eqb (holding f) f.opening) (ltb f.opening (2 ^ 32)) (eq-eqb (holding f) f.opening h.balanced.kept) (lt-ltb f.opening (2 ^ 32) h.balanced.fits))
+    (and_from (are_below f.next_ticket f.tickets) (are_for_children f.tickets && are_rising f.tickets) (all-below f.next_ticket f.tickets h.balanced.below)
+    (and_from (are_for_children f.tickets) (are_rising f.tickets) (all-children f.tickets h.balanced.for_children) (all-rising f.tickets h.rising)))
 
 -- a ticket is among the cloned ones where it is found so
 above-none : (tickets : List Ticket) (number : ℕ) → AllByRecursion (λ (ticket : Ticket). number < ticket.number) tickets → ticket_of tickets number ≡ None
@@ -136,15 +128,6 @@ below-none (x ∷ xs) number h =
     let first : x.number < number = h.0 in
     let rest = below-none xs number h.1 in
     grind (arith, nat_tests)
-
-eqb-sym : (t u : ℕ) → eqb t u ≡ eqb u t
-eqb-sym t u = by (eqb t u) (eqb u t) refl refl
-  where
-    by : (p q : Bool) → eqb t u ≡ p → eqb u t ≡ q → eqb t u ≡ eqb u t
-    by true true e f = e ∙ sym f
-    by false false e f = e ∙ sym f
-    by true false e f = absurd (eqb-false u t f (sym (eqb-true t u e)))
-    by false true e f = absurd (eqb-false t u e (sym (eqb-true u t f)))
 
 -- what a step does to the tickets, by what is found
 record TicketsStep (f g : ForkRegisters) (then_cloned : ℕ → Bool) : Type 0 where

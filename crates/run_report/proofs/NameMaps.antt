@@ -34,6 +34,15 @@ equal-same (a ∷ as_) (b ∷ bs) h =
     let parts = both-equal (branch_cmp a b) (slice_cmp branch_cmp as_ bs) h in
     ap₂ (λ x xs. x ∷ xs) (same-branch a b parts.0) (equal-same as_ bs parts.1)
 
+is_eq-equal : (r : Ordering) → is_eq r ≡ true → r ≡ Equal
+is_eq-equal Less h = absurd (cc)
+is_eq-equal Equal h = refl
+is_eq-equal Greater h = absurd (cc)
+
+-- the order's test answers yes at one path alone
+pub yes-same : (a b : Path) → is_eq (path_cmp a b) ≡ true → a ≡ b
+yes-same a b h = equal-same a b (is_eq-equal (path_cmp a b) h)
+
 pub itself : (a : Path) → path_cmp a a ≡ Equal
 itself a = tied_itself path_cmp_total a
 

@@ -1,10 +1,10 @@
 -- What the slots of a brood tell of the children that they show.
 use Rattle.std.proofs.Common.{◌≡◌, ℕ, zero, suc, ◌+◌, ◌<◌, Bool, true, false, cond, List, [], ◌∷◌, ◌++◌, length, get_or, replicate, Option, Some, None, is_some, refl, sym, ap, ◌∙◌, subst, arith}
+use Rattle.std.proofs.lemmas.Bool.{and_parts}
 use Rattle.boxcar.specs.Table.{Shelves}
 use Rattle.fork_port.specs.declared.ending.Ending.{Ending}
 use Rattle.forest_tree.specs.Tree.{Tree, Trees, no_tree, tree, machine, Path}
 use Rattle.forest_tree.specs.Settle.{alone, has_ended, have_ended, with_ending, endings, children_from, children}
-use Rattle.forest_tree.proofs.Settle.{both-true}
 use Rattle.forest_history.specs.Places.{Spot, spots, asleep}
 use Rattle.forest_history.specs.Children.{living}
 use Rattle.forest_model.specs.Machine.{Machine}
@@ -48,7 +48,7 @@ module _ (path : Path) (ticket : ℕ) (key : Key) where
   shown_endings k (seed ∷ seeds) [] trees h all = absurd h
   shown_endings k (seed ∷ seeds) (slot ∷ slots) no_tree h all = absurd h
   shown_endings k (seed ∷ seeds) (slot ∷ slots) (tree t rest) h all =
-      let both = both-true (has_ended forest t) (have_ended forest rest) all in
+      let both = and_parts (has_ended forest t) (have_ended forest rest) all in
       ap (λ (es : List Ending). endings_in slot ++ es) (shown_endings (suc k) seeds slots rest h.1 both.1)
       ∙ ended_slot (child_path path ticket k) key seed slot t h.0 both.0 (endings forest rest)
 
@@ -61,7 +61,7 @@ module _ (path : Path) (ticket : ℕ) (key : Key) where
   shown_lines k (seed ∷ seeds) [] trees h all = absurd h
   shown_lines k (seed ∷ seeds) (slot ∷ slots) no_tree h all = absurd h
   shown_lines k (seed ∷ seeds) (slot ∷ slots) (tree t rest) h all =
-      let both = both-true (has_ended forest t) (have_ended forest rest) all in
+      let both = and_parts (has_ended forest t) (have_ended forest rest) all in
       ap (λ (ls : List Line). lines_in slot ++ ls) (shown_lines (suc k) seeds slots rest h.1 both.1)
       ∙ ap (λ (ls : List Line). ls ++ trees_lines told_spot path ticket (suc k) rest) (slot_lines_are (child_path path ticket k) key seed slot t h.0 both.0)
 

@@ -1,9 +1,10 @@
 -- A world after a JOIN.
-use Rattle.std.proofs.Common.{◌≡◌, ◌≢◌, ℕ, zero, suc, ◌&&◌, ◌||◌, not, eqb, eqb-true, Bool, true, false, cond, refl, sym, ap, ap₂, ◌∙◌, subst, [], ◌∷◌, ◌++◌, Option, Some, None, IsSome, is_some, option_and_then}
+use Rattle.std.proofs.Common.{◌≡◌, ◌≢◌, ℕ, zero, suc, ◌&&◌, ◌||◌, not, eqb, eqb-true, Bool, true, false, cond, refl, sym, ap, ap₂, ◌∙◌, subst, [], ◌∷◌, ◌++◌, Option, Some, None, is_some, option_and_then}
 use Rattle.std.specs.Option.{IfSome}
 use Rattle.std.specs.BTreeMap.{BTreeMap, WritesThrough, get}
 use Rattle.std.specs.declared.alloc.Global.{Global}
 use Rattle.std.specs.declared.boxed.Box.{Box}
+use Rattle.std.proofs.lemmas.Bool.{and_parts, not-true, not-false}
 use Rattle.boxcar.specs.Table.{Shelves}
 use Rattle.fork_port.specs.declared.commands.Call.TheVariants.{Join}
 use Rattle.forest_tree.specs.Operations.{join, Makes}
@@ -13,11 +14,11 @@ use Rattle.forest_tree.specs.Settle.{has_ended, have_ended, endings, waits_by, w
 use Rattle.forest_tree.specs.Sound.{IsSound}
 use Rattle.forest_tree.proofs.Calls.{step-join}
 use Rattle.forest_tree.proofs.Places.{some-same, below-at, subtree-sound}
-use Rattle.forest_tree.proofs.Settle.{both-true, root-sound, join-step}
+use Rattle.forest_tree.proofs.Settle.{root-sound, join-step}
 use Rattle.forest_history.specs.Places.{Place, home, parked, Spot, placed, spots}
 use Rattle.forest_history.specs.World.{is_asleep_at}
-use Rattle.forest_history.proofs.Changes.{not-true}
 use Rattle.forest_history.specs.Rows.{forked, joined, waited, spent, kept, is_join, is_clone, may_spend, spend}
+use Rattle.forest_history.proofs.Spots.{place-placed}
 use Rattle.forest_model.specs.Machine.{Machine}
 use Rattle.forest_model.specs.Calls.{after_join}
 use Rattle.forest_model.specs.Forest.{machines}
@@ -34,13 +35,10 @@ use Rattle.world_core.specs.Shows.{forest, IsAwake, Holds, HoldsAfter, Shows, St
 use Rattle.world_core.specs.World.{Forest, StandsFor}
 use Rattle.world_core.specs.Between.{IsBetween, settled_tree}
 use Rattle.world_core.specs.Answers.{Goes, IsHandedOut}
-use Rattle.world_core.proofs.Returns.{apart-below, apart-outside, some-is, written-here, written-apart, between-stands, holds-placed, lives-placed, place-placed, below-placed}
+use Rattle.world_core.proofs.Returns.{apart-below, apart-outside, some-is, written-here, written-apart, between-stands, below-placed}
 use Rattle.world_core.proofs.Steps.{forest-rules}
 use Rattle.world_core.proofs.Calling.{lent_out, StandsHere, lives-out, spent-sound, spent-goes, whole-gone, below-name, gone-between, same-stands, still-between, kept-goes, none-shown, found-here, Called}
-
-not-not : (b : Bool) → false ≡ not b → b ≡ true
-not-not true h = refl
-not-not false h = absurd (cc)
+use Rattle.world_core.proofs.AtPlaces.{holds-placed, lives-placed}
 
 -- ---- children that have all ended have no cells
 
@@ -49,13 +47,9 @@ unfolding have_ended child_at
 ended-child k no_tree a all found = absurd (cc)
 ended-child zero (tree t rest) a all found = absurd (cc)
 ended-child (suc zero) (tree t rest) a all found =
-    ap (has_ended forest) (sym (some-same t a found)) ∙ (both-true (has_ended forest t) (have_ended forest rest) all).0
+    ap (has_ended forest) (sym (some-same t a found)) ∙ (and_parts (has_ended forest t) (have_ended forest rest) all).0
 ended-child (suc (suc k)) (tree t rest) a all found =
-    ended-child (suc k) rest a (both-true (has_ended forest t) (have_ended forest rest) all).1 found
-
-some-ended : {A : Type 0} (o : Option A) → is_some o ≡ true → IsSome o
-some-ended None h = absurd (cc)
-some-ended (Some a) h = refl
+    ended-child (suc k) rest a (and_parts (has_ended forest t) (have_ended forest rest) all).1 found
 
 ended-shown : (depot : Shelves) (name : Path) (c : Option Cell) (u : Option (Tree (Spot Machine))) (a : Tree (Spot Machine)) → u ≡ Some a → has_ended forest a ≡ true
     → Shows depot name c u → c ≡ None
@@ -68,7 +62,7 @@ ended-shown depot name (Some c) (Some t) a is ended h =
 ended-below : (a : Tree (Spot Machine)) (y : Branch) (rest : Path) → IsSound forest a → has_ended forest a ≡ true → subtree (y ∷ rest) a ≡ None
 unfolding subtree brood_of child_at
 ended-below (node s broods log) y rest sound ended =
-    let none = (root-sound forest s broods log sound).ended (some-ended (forest.ending s) ended) in
+    let none = (root-sound forest s broods log sound).ended ended in
     ap (λ (b : Broods (Spot Machine)). option_and_then (subtree rest) (child_at y.child (brood_of y.ticket b))) none
 
 -- the names of the ticket's children, and below
@@ -216,7 +210,7 @@ module _ (depot : Shelves) (w : World) (f : Forest) (lease : Lent) (ticket : ℕ
 
   module _ (ready : (depot : Shelves) (path : Path) (t : Tree (Spot Machine)) → Holds depot path c t → false ≡ not (have_ended forest (brood_of ticket (broods_of t)))) where
     all-ended : (t : Tree (Spot Machine)) → Holds depot lease.name c t → have_ended forest (brood_of ticket (broods_of t)) ≡ true
-    all-ended t holds = not-not (have_ended forest (brood_of ticket (broods_of t))) (ready depot lease.name t holds)
+    all-ended t holds = not-false (have_ended forest (brood_of ticket (broods_of t))) (sym (ready depot lease.name t holds))
 
     pub join-asked : (vm : Machine) → vm ≡ lease.now
         → (depot : Shelves) × (path : Path) × (t : Tree (Spot Machine)) × Holds depot path c t × StandsAt vm (join ticket) t

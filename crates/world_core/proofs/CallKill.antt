@@ -1,13 +1,10 @@
 -- A world after a KILL.
-use Rattle.std.proofs.lemmas.Bool.{eqb-false}
 use Rattle.std.proofs.lemmas.Map.Entries.{lookup-filter-keys}
 use Rattle.std.specs.Map.{lookup}
 use Rattle.std.specs.List.{filter}
-use Rattle.std.specs.Ordering.{is_eq}
-use Rattle.std.specs.declared.cmp.Ordering.{Ordering}
-use Rattle.std.specs.declared.cmp.Ordering.TheVariants.{Less, Equal, Greater}
-use Rattle.std.proofs.Common.{◌≡◌, ◌≢◌, ℕ, ◌&&◌, not, eqb, eqb-true, Bool, true, false, cond, refl, sym, ap, ap₂, ◌∙◌, subst, [], ◌∷◌, ◌++◌, Option, Some, None, is_some}
+use Rattle.std.proofs.Common.{◌≡◌, ◌≢◌, ℕ, ◌&&◌, not, eqb, Bool, true, false, cond, refl, sym, ap, ap₂, ◌∙◌, subst, [], ◌∷◌, ◌++◌, Option, Some, None, is_some}
 use Rattle.std.specs.BTreeMap.{BTreeMap, WritesThrough, get, is_at}
+use Rattle.std.proofs.lemmas.List.{append-nil}
 use Rattle.boxcar.specs.Table.{Shelves}
 use Rattle.fork_port.specs.declared.commands.Call.TheVariants.{Kill}
 use Rattle.forest_tree.specs.Operations.{kill, Makes}
@@ -16,6 +13,7 @@ use Rattle.forest_tree.specs.Tree.{Tree, node, Broods, Log, machine, Branch, Pat
 use Rattle.forest_tree.specs.Settle.{waits}
 use Rattle.forest_tree.proofs.Run.{step-lives}
 use Rattle.forest_tree.proofs.Settle.{root-sound}
+use Rattle.forest_tree.proofs.Broods.{eqb-sym}
 use Rattle.forest_history.specs.Places.{home, Spot, placed, spots}
 use Rattle.forest_history.specs.Rows.{killed, is_kill, may_spend, spend}
 use Rattle.forest_model.specs.Machine.{Machine}
@@ -23,7 +21,7 @@ use Rattle.forest_model.specs.Calls.{after_kill}
 use Rattle.forest_model.specs.Forest.{machines}
 use Rattle.run_report.specs.Name.{begins_with}
 use Rattle.run_report.specs.NameOrder.{path_cmp}
-use Rattle.run_report.proofs.NameMaps.{equal-same}
+use Rattle.run_report.proofs.NameMaps.{yes-same}
 use Rattle.vm_cell.specs.Standing.{standing_call}
 use Rattle.world_core.specs.declared.cell.Cell.{Cell}
 use Rattle.world_core.specs.declared.world.World.{World}
@@ -33,30 +31,16 @@ use Rattle.world_core.specs.World.{Forest, StandsFor}
 use Rattle.world_core.specs.Between.{IsBetween, settled_tree}
 use Rattle.world_core.specs.Answers.{IsHandedOut}
 use Rattle.world_core.proofs.Changes.{beyond-append}
-use Rattle.world_core.proofs.Returns.{append-none, apart-below, apart-outside, some-is, written-here, written-apart}
+use Rattle.world_core.proofs.Returns.{apart-below, apart-outside, some-is, written-here, written-apart}
 use Rattle.world_core.proofs.Steps.{forest-rules}
 use Rattle.world_core.proofs.Calling.{lent_out, StandsHere, lives-out, spent-sound, spent-goes, whole-gone, gone-between, found-here, Called}
-
-eqb-sym : (t u : ℕ) → eqb t u ≡ eqb u t
-eqb-sym t u = by (eqb t u) (eqb u t) refl refl
-  where
-    by : (p q : Bool) → eqb t u ≡ p → eqb u t ≡ q → eqb t u ≡ eqb u t
-    by true true e f = e ∙ sym f
-    by false false e f = e ∙ sym f
-    by true false e f = absurd (eqb-false u t f (sym (eqb-true t u e)))
-    by false true e f = absurd (eqb-false t u e (sym (eqb-true u t f)))
-
-is_eq-equal : (r : Ordering) → is_eq r ≡ true → r ≡ Equal
-is_eq-equal Less h = absurd (cc)
-is_eq-equal Equal h = refl
-is_eq-equal Greater h = absurd (cc)
 
 -- a map of which some names are dropped
 pub kept-get : (m n : BTreeMap Path Cell) (p : Path → Bool) → n.entries ≡ filter (λ (e : Path × Cell). not (p e.0)) m.entries → (q : Path)
     → get path_cmp n q ≡ cond (p q) None (get path_cmp m q)
 kept-get m n p kept q =
     ap (lookup (is_at (path_cmp q))) kept
-    ∙ lookup-filter-keys (is_at (path_cmp q)) (λ k. not (p k)) (not (p q)) (λ k same. ap (λ u. not (p u)) (sym (equal-same q k (is_eq-equal (path_cmp q k) same)))) m.entries
+    ∙ lookup-filter-keys (is_at (path_cmp q)) (λ k. not (p k)) (not (p q)) (λ k same. ap (λ u. not (p u)) (sym (yes-same q k same))) m.entries
     ∙ by (p q) (get path_cmp m q)
   where
     by : (is : Bool) (o : Option Cell) → cond (not is) o None ≡ cond is None o
@@ -71,7 +55,7 @@ module _ (before cells swept : BTreeMap Path Cell) (name : Path) (ticket : ℕ) 
   looked q way e = kept q ∙ ap (λ u. cond (begins_with ticket u) None (get path_cmp cells q)) e
 
   pub sweep-here : get path_cmp swept name ≡ Some d
-  sweep-here = looked name (Some []) (ap (beyond name) (sym (append-none name)) ∙ beyond-append name []) ∙ put
+  sweep-here = looked name (Some []) (ap (beyond name) (sym (append-nil name)) ∙ beyond-append name []) ∙ put
 
   pub sweep-outside : (q : Path) → beyond name q ≡ None → get path_cmp swept q ≡ get path_cmp before q
   sweep-outside q none = looked q None none ∙ others q (apart-outside name q none)

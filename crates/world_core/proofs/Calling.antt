@@ -13,8 +13,8 @@ use Rattle.forest_tree.specs.Settle.{has_ended, waits, step, settled_by}
 use Rattle.forest_tree.specs.Sound.{IsSound}
 use Rattle.forest_tree.proofs.Broods.{one_if, broods_with-without}
 use Rattle.forest_tree.proofs.Places.{some-same, below-at, brood_of-without, subtree-parts, subtree-sound}
-use Rattle.forest_tree.proofs.Run.{cases-ending}
 use Rattle.forest_tree.proofs.Settle.{root-sound}
+use Rattle.forest_tree.proofs.Rests.{one-brood, lives-none}
 use Rattle.forest_history.specs.Places.{at_path, home, out, Spot, placed, spots, advanced, steps}
 use Rattle.forest_history.specs.World.{holds, is_ready, lives_ready}
 use Rattle.forest_history.specs.Rows.{How, forked, joined, spent, dropped, kept, may_spend, spend, came_back, RanOut, Spends, Keeps, IfThere, Allows, does}
@@ -74,28 +74,12 @@ module _ {M : Type 0} where
       (at_brood-none f g t rest) (at_brood-one f g t rest)
 
 module _ {M E : Type 0} (o : Operations M E) where
-  at-most-one : (m : M) (broods : Broods M) (log : Log M) → IsSound o (node m broods log) → (t : ℕ) → broods_with t broods ≤ 1
-  unfolding broods_with
-  at-most-one m broods log sound t = elim (cases-ending (o.ending m)) [
-    | inl ended ↦
-        let none : broods ≡ no_brood = (root-sound o m broods log sound).ended (ap is_some ended.1) in
-        let zero_of : broods_with t broods ≡ 0 = ap (broods_with t) none in
-        omega arith
-    | inr lives ↦
-        let count = (root-sound o m broods log sound).one_each lives t in
-        at-most (is_cloned o m t) (broods_with t broods) count
-  ]
-    where
-      at-most : (is : Bool) (n : ℕ) → n ≡ one_if is → n ≤ 1
-      at-most true n e = omega arith
-      at-most false n e = omega arith
-
   pub at_path-there : (f : Tree M → Tree M) (path : Path) (t a : Tree M) → IsSound o t → subtree path t ≡ Some a → at_path f path t ≡ at_path (λ b. f a) path t
   unfolding at_path subtree
   at_path-there f [] t a sound found = ap f (some-same t a found)
   at_path-there f (x ∷ path) (node m broods log) a sound found =
       ap (λ after. node m after log)
-      (at_brood-one (at_child (at_path f path) x.child) (at_child (at_path (λ b. f a) path) x.child) x.ticket broods (at-most-one m broods log sound x.ticket)
+      (at_brood-one (at_child (at_path f path) x.child) (at_child (at_path (λ b. f a) path) x.child) x.ticket broods (one-brood o m broods log sound x.ticket)
       (at_child-at (at_path f path) (at_path (λ b. f a) path) x.child (brood_of x.ticket broods)
       (λ c is. at_path-there f path c a (below-at o m broods log x.ticket x.child c sound is) (sym (ap (option_and_then (subtree path)) is) ∙ found))))
 
@@ -120,10 +104,6 @@ pub lives-out : (m : Machine) → m.ending ≡ None → forest.ending (lent_out 
 unfolding spots machines
 lives-out m lives = lives
 
-none-ended : {A : Type 0} (o : Option A) → is_some o ≡ false → o ≡ None
-none-ended None h = refl
-none-ended (Some a) h = absurd (cc)
-
 pub stood : (depot : Shelves) (w : World) (f : Forest) (lease : Lent) (call : port.Call) (broods : Broods (Spot Machine)) (log : Log (Spot Machine)) (c : Cell)
     → StandsFor depot w f → IsLent lease.start lease.ran lease.now → standing_call lease.now ≡ Some call
     → IsOutHere depot w f lease.name (node (lent_out lease.start) broods log) c → StandsHere depot w f lease (tree_call call) broods log c
@@ -132,7 +112,7 @@ stood depot w f lease call broods log c stands lent at is =
     let before : Tree (Spot Machine) = node (lent_out lease.start) broods log in
     let sound : IsSound forest before = subtree-sound forest lease.name f.tree before stands.sound is.there in
     let run : steps forest lease.ran before ≡ node (lent_out lease.now) broods log =
-    lease-steps lease.start lease.now lease.ran lent broods log (none-ended (forest.ending (lent_out lease.start)) is.shows.awake.lives)
+    lease-steps lease.start lease.now lease.ran lent broods log (lives-none (forest.ending (lent_out lease.start)) is.shows.awake.lives)
     ∙ ap (λ e. settled_by forest e (lent_out lease.now) broods log) (lives-out lease.now calls.0) in
     record {
       is = is;

@@ -2,6 +2,7 @@
 use Rattle.std.proofs.Common.{◌≡◌, ℕ, zero, suc, ◌&&◌, eqb, eqb-true, Bool, true, false, cond, refl, sym, ap, ap₂, ◌∙◌, subst, arith, List, [], ◌∷◌, ◌++◌, Option, Some, None, is_some, option_and_then, option_map}
 use Rattle.std.specs.BTreeMap.{get}
 use Rattle.std.specs.Ordering.{nat_cmp}
+use Rattle.std.proofs.lemmas.List.{append-nil}
 use Rattle.boxcar.specs.Table.{Shelves}
 use Rattle.fork_port.specs.declared.ending.Ending.{Ending}
 use Rattle.forest_tree.specs.Operations.{is_cloned}
@@ -56,6 +57,17 @@ is_one (Some []) = false
 is_one (Some (x ∷ [])) = true
 is_one (Some (x ∷ (y ∷ rest))) = false
 
+-- no name goes on from one below it
+pub beyond-parent : (way : Path) (x : Branch) (rest : Path) → beyond (way ++ (x ∷ rest)) way ≡ None
+unfolding beyond
+beyond-parent [] x rest = refl
+beyond-parent (a ∷ way) x rest =
+    ap (λ left. cond (eqb a.ticket a.ticket && eqb a.child a.child) left None) (beyond-parent way x rest) ∙ none-both (eqb a.ticket a.ticket && eqb a.child a.child)
+  where
+    none-both : (same : Bool) → ◌≡◌ {A = Option Path} (cond same None None) None
+    none-both true = refl
+    none-both false = refl
+
 -- where a name lies, of that of a change
 pub data Lies (name n : Path) : Type 0 where
   here : n ≡ name → Lies name n
@@ -66,21 +78,13 @@ pub data Lies (name n : Path) : Type 0 where
 
 lies-outside : (name n : Path) → beyond name n ≡ None → (way : Option Path) → beyond n name ≡ way → Lies name n
 lies-outside name n none None e = apart none e
-lies-outside name n none (Some []) e = here (sym (beyond-is n name [] e ∙ append-none n))
-  where
-    append-none : (path : Path) → path ++ [] ≡ path
-    append-none [] = refl
-    append-none (x ∷ path) = ap (λ rest. x ∷ rest) (append-none path)
+lies-outside name n none (Some []) e = here (sym (beyond-is n name [] e ∙ append-nil n))
 lies-outside name n none (Some (x ∷ [])) e = parent x none e
 lies-outside name n none (Some (x ∷ (y ∷ rest))) e = above x y rest none e
 
 lies-by : (name n : Path) (way : Option Path) → beyond name n ≡ way → Lies name n
 lies-by name n None e = lies-outside name n e (beyond n name) refl
-lies-by name n (Some []) e = here (beyond-is name n [] e ∙ append-none name)
-  where
-    append-none : (path : Path) → path ++ [] ≡ path
-    append-none [] = refl
-    append-none (x ∷ path) = ap (λ rest. x ∷ rest) (append-none path)
+lies-by name n (Some []) e = here (beyond-is name n [] e ∙ append-nil name)
 lies-by name n (Some (x ∷ rest)) e = below x rest (beyond-is name n (x ∷ rest) e)
 
 pub lies : (name n : Path) → Lies name n
@@ -113,11 +117,8 @@ pub keeps-awake : (f : Tree (Spot Machine) → Tree (Spot Machine)) (a : Tree (S
 unfolding spots machines
 keeps-awake f a before after = record { slot = by; ended = after.lives ∙ sym before.lives }
   where
-    ended-alike : (e : Option Ending) (ending : Ending) → e ≡ Some ending → is_some e ≡ true
-    ended-alike e ending h = ap is_some h
-
     never : (ending : Ending) → told_spot.ending (machine a) ≡ Some ending → ⊥
-    never ending h = let no : true ≡ false = sym (ended-alike (told_spot.ending (machine a)) ending h) ∙ before.lives in absurd (cc)
+    never ending h = let no : true ≡ false = sym (ap is_some h) ∙ before.lives in absurd (cc)
 
     by : (path : Path) (key : Key) (seed : Descriptor) (slot : Slot) → SlotShows path key seed slot a → SlotShows path key seed slot (f a)
     by path key seed Asleep h =

@@ -4,6 +4,7 @@ use Rattle.std.specs.Option.{IfSome, IsSomeAnd}
 use Rattle.std.specs.Map.{lookup}
 use Rattle.std.specs.Ordering.{nat_cmp}
 use Rattle.std.specs.BTreeMap.{BTreeMap, btree_map_len, get, is_at}
+use Rattle.std.proofs.lemmas.List.{append-nil}
 use Rattle.boxcar.specs.Table.{Shelves}
 use Rattle.fork_port.specs.declared.ending.Ending.{Ending}
 use Rattle.forest_tree.specs.Operations.{is_cloned}
@@ -23,9 +24,9 @@ use Rattle.world_core.specs.Waiting.{IsListed}
 use Rattle.world_core.specs.Shows.{forest, told_spot, TallyAt, Tallies, HoldsAfter, IsAwake, CellShows, Shows, child_of, ended_tree}
 use Rattle.world_core.specs.World.{Forest, IsDue, StandsFor}
 use Rattle.world_core.specs.Between.{HasLeft, IsBetween, IsLeaving, IsWhole, TakesOut, with_tree}
-use Rattle.world_core.proofs.Changes.{beyond-append, Lies, here, below, parent, above, apart, lies, child-there}
-use Rattle.world_core.proofs.Returns.{append-none, there-is}
-use Rattle.world_core.proofs.Leaving.{beyond-parent, left-ended, parent-shows}
+use Rattle.world_core.proofs.Changes.{beyond-append, Lies, here, below, parent, above, apart, lies, child-there, beyond-parent}
+use Rattle.world_core.proofs.Returns.{there-is, no-cell}
+use Rattle.world_core.proofs.Leaving.{left-ended, parent-shows}
 use Rattle.world_core.proofs.Awake.{child-below, awake-cell, awake-there}
 
 -- ---- what is left where a machine has ended
@@ -50,17 +51,13 @@ childless path c (node s broods log) none h whole x rest =
     let empty : brood_of x.ticket broods ≡ no_tree = brood_of-none x.ticket broods (whole.one_each x.ticket ∙ ap (λ (b : Bool). cond b 1 0) fresh) in
     ap (λ (trees : Trees (Spot Machine)). option_and_then (subtree rest) (child_at x.child trees)) empty
 
-no-cell : (depot : Shelves) (name : Path) (c : Option Cell) → Shows depot name c None → c ≡ None
-no-cell depot name None h = refl
-no-cell depot name (Some c) h = absurd h
-
 module _ (depot : Shelves) (w : World) (f : Forest) (name : Path) (a : Tree (Spot Machine)) (between : IsBetween depot w f name a) (cells : BTreeMap Path Cell)
     (c : Cell) (taken : TakesOut w.cells cells name c) where
   pub taken-holds : HoldsAfter depot name c a
   taken-holds = subst (λ o. IsSomeAnd o (λ cell. HoldsAfter depot name cell a)) taken.was between.cell
 
   all-gone : (rest : Path) → get path_cmp cells (name ++ rest) ≡ None
-  all-gone [] = ap (get path_cmp cells) (append-none name) ∙ taken.here
+  all-gone [] = ap (get path_cmp cells) (append-nil name) ∙ taken.here
   all-gone (x ∷ rest) = by (taken.below x rest)
     where
       by : (get path_cmp cells (name ++ (x ∷ rest)) ≡ None)

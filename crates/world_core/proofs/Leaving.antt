@@ -1,15 +1,12 @@
 -- A machine that has ended leaves its world.
-use Rattle.std.proofs.Common.{◌≡◌, ◌≢◌, ◌⊎◌, ◌&&◌, eqb, Bool, true, false, not, cond, refl, sym, ap, ap₂, ◌∙◌, subst, inl, inr, List, [], ◌∷◌, ◌++◌, append_assoc, Option, Some, None, is_some, option_and_then, option_map}
+use Rattle.std.proofs.Common.{◌≡◌, ◌≢◌, ◌⊎◌, ◌&&◌, Bool, true, false, not, cond, refl, sym, ap, ap₂, ◌∙◌, subst, inl, inr, List, [], ◌∷◌, ◌++◌, append_assoc, Option, Some, None, is_some, option_and_then, option_map}
 use Rattle.std.specs.Option.{IfSome}
-use Rattle.std.specs.declared.cmp.Ordering.{Ordering}
-use Rattle.std.specs.declared.cmp.Ordering.TheVariants.{Less, Equal, Greater}
-use Rattle.std.specs.Ordering.{is_eq}
 use Rattle.std.specs.BTreeMap.{BTreeMap, UpdatesBy, WritesThrough, btree_map_len, get, is_at}
 use Rattle.std.specs.List.{filter}
 use Rattle.std.specs.Map.{lookup}
 use Rattle.std.proofs.lemmas.Map.Entries.{lookup-filter-keys}
+use Rattle.std.proofs.lemmas.List.{append-nil}
 use Rattle.boxcar.specs.Table.{Shelves}
-use Rattle.fork_port.specs.declared.ending.Ending.{Ending}
 use Rattle.forest_tree.specs.Tree.{Tree, node, Broods, machine, child_at, brood_of, Branch, Path, subtree, beyond, goes_on, is_below}
 use Rattle.forest_tree.proofs.Places.{some-same}
 use Rattle.forest_tree.specs.Settle.{has_ended, waits}
@@ -21,23 +18,18 @@ use Rattle.forest_model.specs.Machine.{Machine}
 use Rattle.forest_model.specs.Forest.{machines}
 use Rattle.run_report.specs.Report.{Ended}
 use Rattle.run_report.specs.NameOrder.{path_cmp}
-use Rattle.run_report.proofs.NameMaps.{equal-same, updated-here, updated-apart}
+use Rattle.run_report.proofs.NameMaps.{updated-here, updated-apart, yes-same}
 use Rattle.world_core.specs.declared.cell.Cell.{Cell}
 use Rattle.world_core.specs.declared.world.World.{World}
 use Rattle.world_core.specs.Waiting.{Waiting, IsListed, IsCovered}
 use Rattle.world_core.specs.Shows.{forest, IsAwake, CellShows, Shows, with_child, child_of}
 use Rattle.world_core.specs.World.{Forest, IsDue, ShowsTree, StandsFor}
 use Rattle.world_core.specs.Between.{HasLeft, IsLeaving, TakesOut, with_tree}
-use Rattle.world_core.proofs.Changes.{beyond-append, beyond-is, is_one, child-there, outside, shows-changed}
+use Rattle.world_core.proofs.Changes.{beyond-append, beyond-is, is_one, child-there, outside, shows-changed, beyond-parent}
 use Rattle.world_core.proofs.Ready.{ready-changed}
-use Rattle.world_core.proofs.Returns.{append-none, apart-below, apart-outside, same-or-apart, some-is, there-is, written-here, written-apart}
+use Rattle.world_core.proofs.Returns.{apart-below, apart-outside, same-or-apart, some-is, there-is, written-here, written-apart}
 
 -- ---- a cell is taken out
-
-is_eq-equal : (r : Ordering) → is_eq r ≡ true → r ≡ Equal
-is_eq-equal Less h = absurd (cc)
-is_eq-equal Equal h = refl
-is_eq-equal Greater h = absurd (cc)
 
 -- the names that are kept when those below one are dropped
 abbrev pub is_kept : Path → Path × Cell → Bool
@@ -48,10 +40,10 @@ pub kept-at : (name : Path) (mid new : BTreeMap Path Cell) → new.entries ≡ f
 kept-at name mid new kept q =
     ap (lookup (is_at (path_cmp q))) kept
     ∙ lookup-filter-keys (is_at (path_cmp q)) (λ path. not (is_below name path)) (not (is_below name q))
-    (λ k same. ap (λ path. not (is_below name path)) (sym (equal-same q k (is_eq-equal (path_cmp q k) same)))) mid.entries
+    (λ k same. ap (λ path. not (is_below name path)) (sym (yes-same q k same))) mid.entries
 
 below-itself : (name : Path) → is_below name name ≡ false
-below-itself name = ap (λ path. is_below name path) (sym (append-none name)) ∙ ap goes_on (beyond-append name [])
+below-itself name = ap (λ path. is_below name path) (sym (append-nil name)) ∙ ap goes_on (beyond-append name [])
 
 module _ (old mid : BTreeMap Path Cell) (name : Path) (c : Cell) (was : Some c ≡ get path_cmp old name) (removed : UpdatesBy path_cmp (path_cmp name) old mid None) where
   -- and those below it too
@@ -79,16 +71,6 @@ module _ (old mid : BTreeMap Path Cell) (name : Path) (c : Cell) (was : Some c �
 
 -- ---- a parent's name
 
-pub beyond-parent : (way : Path) (x : Branch) (rest : Path) → beyond (way ++ (x ∷ rest)) way ≡ None
-unfolding beyond
-beyond-parent [] x rest = refl
-beyond-parent (a ∷ way) x rest =
-    ap (λ left. cond (eqb a.ticket a.ticket && eqb a.child a.child) left None) (beyond-parent way x rest) ∙ none-both (eqb a.ticket a.ticket && eqb a.child a.child)
-  where
-    none-both : (same : Bool) → ◌≡◌ {A = Option Path} (cond same None None) None
-    none-both true = refl
-    none-both false = refl
-
 same-head : (a b : Branch) (as_ bs : Path) → a ∷ as_ ≡ b ∷ bs → a ≡ b
 same-head a b as_ bs e = cc
 
@@ -107,12 +89,9 @@ same-parent (a ∷ way) (b ∷ path) x y e =
 
 -- ---- a machine that has left
 
-ended-is : (e : Option Ending) (ending : Ending) → e ≡ Some ending → is_some e ≡ true
-ended-is e ending h = ap is_some h
-
 pub left-ended : (path : Path) (b : Tree (Spot Machine)) (outcome : Ended) → HasLeft path b outcome → has_ended forest b ≡ true
 unfolding spots machines
-left-ended path b outcome left = ended-is (machine b).machine.ending outcome.ending left.ending
+left-ended path b outcome left = ap is_some left.ending
 
 pub left-below : (path : Path) (b : Tree (Spot Machine)) (outcome : Ended) → HasLeft path b outcome → (x : Branch) (rest : Path) → subtree (x ∷ rest) b ≡ None
 unfolding subtree brood_of child_at
@@ -184,7 +163,7 @@ module _ (depot : Shelves) (w : World) (f : Forest) (parent : Path) (x : Branch)
       at-name : Shows depot name (get path_cmp v.cells name) (Some b)
       at-name =
           subst (λ c. Shows depot name c (Some b))
-          (sym (others name name-apart ∙ ap (get path_cmp w.cells) (sym (append-none name)) ∙ leaving.gone []))
+          (sym (others name name-apart ∙ ap (get path_cmp w.cells) (sym (append-nil name)) ∙ leaving.gone []))
           (inl (left-ended name b outcome left, left.home))
 
       deeper : (y : Branch) (rest : Path) → parent ≢ name ++ (y ∷ rest)

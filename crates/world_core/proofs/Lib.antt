@@ -1,6 +1,7 @@
 pub mod TurnLists
 pub mod Steps
 pub mod Changes
+pub mod AtPlaces
 pub mod Ready
 pub mod Returns
 pub mod Slots
@@ -11,7 +12,14 @@ pub mod SlotChanges
 pub mod SlotSteps
 pub mod SlotEnds
 pub mod Awake
-pub mod Taking
+pub mod Sleepers
+pub mod TurnOut
+pub mod TakenOut
+pub mod TurnOfOne
+pub mod Waking
+pub mod TurnOfChildren
+pub mod TurnByTurn
+pub mod ByName
 pub mod Leaving
 pub mod Finishing
 mod LogKilled

@@ -7,7 +7,7 @@ use Rattle.std.specs.Option.{IfSome}
 use Rattle.std.specs.Ordering.{nat_cmp}
 use Rattle.std.specs.BTreeMap.{IsOrdered, get, is_at}
 use Rattle.std.specs.Cmp.{nat_cmp_is}
-use Rattle.std.proofs.lemmas.Bool.{cases_lt}
+use Rattle.std.proofs.lemmas.Bool.{cases_lt, and_parts}
 use Rattle.std.proofs.lemmas.Bool.Decides.{nat_tests}
 use Rattle.std.proofs.lemmas.Cmp.{ranked}
 use Rattle.std.proofs.lemmas.List.{append-nil}
@@ -21,7 +21,7 @@ use Rattle.forest_tree.specs.Operations.{is_among, is_cloned}
 use Rattle.forest_tree.specs.Tree.{Tree, node, Log, killed, log_of, machine, Path}
 use Rattle.forest_tree.specs.Settle.{log_killed}
 use Rattle.forest_tree.specs.Sound.{IsSound}
-use Rattle.forest_tree.proofs.Settle.{both-true, root-sound}
+use Rattle.forest_tree.proofs.Settle.{root-sound}
 use Rattle.forest_tree.proofs.Broods.{eqb-same}
 use Rattle.forest_history.specs.Places.{Spot, spots}
 use Rattle.forest_model.specs.Machine.{Machine}
@@ -174,7 +174,7 @@ sorted_cloned (x ∷ xs) rising = by x.is_cloned (above_cloned x.number xs risin
 
 accounted : (s : Spot Machine) → forest.is_good s ≡ true → is_accounted (port_of s.machine) ≡ true
 unfolding spots machines
-accounted s good = (both-true (is_accounted (port_of s.machine)) (is_some s.machine.ending || ltb s.machine.steps s.machine.limit) good).0
+accounted s good = (and_parts (is_accounted (port_of s.machine)) (is_some s.machine.ending || ltb s.machine.steps s.machine.limit) good).0
 
 good_sorted : (s : Spot Machine) → forest.is_good s ≡ true → IsStrictlySortedBy nat_cmp (forest.cloned s)
 unfolding spots machines

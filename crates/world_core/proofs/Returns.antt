@@ -1,35 +1,37 @@
 -- A world after a machine has come back, and other changes that leave most of it.
-use Rattle.std.proofs.Common.{◌≡◌, ◌≢◌, Bool, true, false, refl, sym, ap, ◌∙◌, subst, inl, inr, ◌⊎◌, List, [], ◌∷◌, ◌++◌, Option, Some, None, IsSome, is_some, option_and_then, length, length-append, arith, ◌+◌, suc}
+use Rattle.std.proofs.Common.{◌≡◌, ◌≢◌, Bool, true, false, refl, sym, ap, ◌∙◌, subst, inl, inr, ◌⊎◌, List, [], ◌∷◌, ◌++◌, Option, Some, None, IsSome, is_some, MatchOption, option_and_then, length, length-append, arith, ◌+◌, suc}
 use Rattle.std.specs.Option.{IfSome, IsSomeAnd}
 use Rattle.std.specs.declared.alloc.Global.{Global}
 use Rattle.std.specs.declared.boxed.Box.{Box}
 use Rattle.std.specs.BTreeMap.{BTreeMap, WritesThrough, get}
+use Rattle.std.proofs.lemmas.List.{append-nil}
 use Rattle.boxcar.specs.Table.{Shelves}
 use Rattle.forest_tree.specs.Tree.{Tree, node, Broods, Log, machine, child_at, brood_of, Branch, Path, subtree, beyond}
 use Rattle.forest_tree.proofs.Settle.{root-sound}
 use Rattle.forest_tree.proofs.Places.{some-same}
 use Rattle.forest_tree.specs.Settle.{has_ended}
 use Rattle.forest_tree.specs.Sound.{IsSound}
-use Rattle.forest_history.specs.Places.{at_path, Place, asleep, home, out, parked, Spot, placed, spots}
+use Rattle.forest_history.specs.Places.{at_path, Place, asleep, home, out, parked, Spot, placed}
 use Rattle.forest_history.specs.World.{holds, is_asleep_at, is_out_at, is_ready, lives_ready}
 use Rattle.forest_history.specs.Rows.{first_reason}
+use Rattle.forest_history.proofs.Spots.{machine-placed, place-placed}
 use Rattle.forest_model.specs.Machine.{Machine}
 use Rattle.forest_model.specs.Forest.{machines}
 use Rattle.run_report.specs.NameOrder.{path_cmp}
 use Rattle.run_report.specs.Report.{Ended}
 use Rattle.world_core.specs.declared.reason.Reason.{Reason}
 use Rattle.world_core.specs.declared.cell.Cell.{Cell}
-use Rattle.world_core.specs.declared.cell.State.{State}
 use Rattle.world_core.specs.declared.cell.State.TheVariants.{Home}
 use Rattle.world_core.specs.declared.world.World.{World}
 use Rattle.world_core.specs.Waiting.{Waiting, IsListed, IsCovered}
-use Rattle.world_core.specs.Shows.{forest, IsAwake, Holds, HoldsAfter, CellShows, Shows}
+use Rattle.world_core.specs.Shows.{forest, IsAwake, HoldsAfter, CellShows, Shows}
 use Rattle.world_core.specs.Lent.{Lent}
 use Rattle.world_core.specs.Answers.{IsOutAs, IsHandedOut}
 use Rattle.world_core.specs.World.{Forest, IsDue, ShowsLive, ShowsTree, StandsFor}
 use Rattle.world_core.specs.Between.{IsBetween, with_tree}
 use Rattle.world_core.proofs.Changes.{beyond-append, Lies, here, below, parent, above, apart, lies, parent-awake, shows-changed}
 use Rattle.world_core.proofs.Ready.{parent-ready, ready-changed}
+use Rattle.world_core.proofs.AtPlaces.{holds-placed, lives-placed}
 use Rattle.run_report.proofs.NameMaps.{updated-here, updated-apart}
 
 -- the same cells and the same list show the same
@@ -71,10 +73,6 @@ stopped-kept (Some q) first r same some = ap (λ o. first_reason o r) same
 
 -- ---- names that differ
 
-pub append-none : (path : Path) → path ++ [] ≡ path
-append-none [] = refl
-append-none (x ∷ path) = ap (λ rest. x ∷ rest) (append-none path)
-
 pub apart-below : (name : Path) (x : Branch) (rest : Path) → name ≢ name ++ (x ∷ rest)
 apart-below name x rest e =
     let longer : length (name ++ (x ∷ rest)) ≡ length name + suc (length rest) = length-append name (x ∷ rest) in
@@ -83,7 +81,7 @@ apart-below name x rest e =
 
 pub apart-outside : (name n : Path) → beyond name n ≡ None → name ≢ n
 apart-outside name n none e =
-    let itself : beyond name n ≡ Some [] = ap (beyond name) (sym e ∙ sym (append-none name)) ∙ beyond-append name [] in
+    let itself : beyond name n ≡ Some [] = ap (beyond name) (sym e ∙ sym (append-nil name)) ∙ beyond-append name [] in
     let no : None ≡ Some [] = sym none ∙ itself in
     cc
 
@@ -187,25 +185,6 @@ module _ (depot : Shelves) (w v : World) (f : Forest) (name : Path) (a b : Tree 
         });
       }
 
--- what a cell holds is of its broods and its log, and not of the place of its machine
-pub holds-placed : (depot : Shelves) (path : Path) (c : Cell) (state : State) (listed : Bool) (place : Place) (t : Tree (Spot Machine)) → Holds depot path c t
-    → Holds depot path (record c { state = state; is_listed = listed }) (placed place t)
-unfolding spots
-holds-placed depot path c state listed place (node s broods log) h = record {
-  tallies = record { log = h.tallies.log; room = h.tallies.room; broods = h.tallies.broods };
-  broods = h.broods;
-}
-
-pub lives-placed : (place : Place) (t : Tree (Spot Machine)) → has_ended forest (placed place t) ≡ has_ended forest t
-unfolding spots
-lives-placed place (node s broods log) = refl
-
-pub machine-placed : (place : Place) (t : Tree (Spot Machine)) → (machine (placed place t)).machine ≡ (machine t).machine
-machine-placed place (node s broods log) = refl
-
-pub place-placed : (place : Place) (t : Tree (Spot Machine)) → (machine (placed place t)).place ≡ place
-place-placed place (node s broods log) = refl
-
 pub below-placed : (place : Place) (t : Tree (Spot Machine)) (x : Branch) (rest : Path) → subtree (x ∷ rest) (placed place t) ≡ subtree (x ∷ rest) t
 unfolding subtree
 below-placed place (node s broods log) x rest = refl
@@ -264,17 +243,13 @@ pub record IsOutHere (depot : Shelves) (w : World) (f : Forest) (name : Path) (t
   pub going : w.outcome ≡ None
   pub live : ShowsLive depot w f.tree
 
-some-ended : {A : Type 0} (o : Option A) → is_some o ≡ true → IsSome o
-some-ended None h = absurd (cc)
-some-ended (Some a) h = refl
-
 ended-below : (t a : Tree (Spot Machine)) (name : Path) → IsSound forest t → has_ended forest t ≡ true → is_out_at (machine t).place ≡ false
     → subtree name t ≡ Some a → is_out_at (machine a).place ≡ true → ⊥
 unfolding subtree brood_of child_at
 ended-below t a [] sound over inside at away =
     let no : false ≡ true = sym inside ∙ ap (λ (u : Tree (Spot Machine)). is_out_at (machine u).place) (some-same t a at) ∙ away in cc
 ended-below (node s broods log) a (x ∷ rest) sound over inside at away =
-    let none = (root-sound forest s broods log sound).ended (some-ended (forest.ending s) over) in
+    let none = (root-sound forest s broods log sound).ended over in
     let no : None ≡ Some a = sym (ap (λ (b : Broods (Spot Machine)). option_and_then (subtree rest) (child_at x.child (brood_of x.ticket b))) none) ∙ at in
     cc
 
@@ -295,7 +270,7 @@ out-here depot w f name t h at away = by w.outcome refl h.tree
     by (Some outcome) over end = absurd (ended-below f.tree t name h.sound end.ended end.home at away)
 
 -- no cell has the name of a machine that is gone
-no-cell : (depot : Shelves) (name : Path) (c : Option Cell) → Shows depot name c None → c ≡ None
+pub no-cell : (depot : Shelves) (name : Path) (c : Option Cell) → Shows depot name c None → c ≡ None
 no-cell depot name None h = refl
 no-cell depot name (Some c) h = absurd h
 
@@ -322,14 +297,16 @@ handed depot w f lease h out_as = by (subtree lease.name f.tree) refl out_as
         let found = out-here depot w f lease.name (node (record { machine = lease.start; place = out }) broods log) h same refl in
         there broods log found.0 found.1
 
--- what holds of the machine that is out holds of the one of that name, if it is there
-pub if-handed : (depot : Shelves) (w : World) (f : Forest) (lease : Lent) (P : Tree (Spot Machine) → Type 0) → StandsFor depot w f → IsHandedOut f lease
+-- this holds where the name is gone, and that of the machine that is out, if it is there
+pub match-handed : (depot : Shelves) (w : World) (f : Forest) (lease : Lent) (Q : Type 0) (P : Tree (Spot Machine) → Type 0) → StandsFor depot w f
+    → IsHandedOut f lease
+    → (get path_cmp w.cells lease.name ≡ None → Q)
     → ((broods : Broods (Spot Machine)) (log : Log (Spot Machine)) (c : Cell)
     → IsOutHere depot w f lease.name (node (record { machine = lease.start; place = out }) broods log) c
     → P (node (record { machine = lease.start; place = out }) broods log))
-    → IfSome (subtree lease.name f.tree) P
-if-handed depot w f lease P h out_as each = by (handed depot w f lease h out_as)
+    → MatchOption (subtree lease.name f.tree) Q P
+match-handed depot w f lease Q P h out_as gone_so each = by (handed depot w f lease h out_as)
   where
-    by : Handed depot w f lease → IfSome (subtree lease.name f.tree) P
-    by (gone none cell) = subst (λ u. IfSome u P) (sym none) tt
-    by (there broods log c is) = subst (λ u. IfSome u P) (sym is.there) (each broods log c is)
+    by : Handed depot w f lease → MatchOption (subtree lease.name f.tree) Q P
+    by (gone none cell) = subst (λ u. MatchOption u Q P) (sym none) (gone_so cell)
+    by (there broods log c is) = subst (λ u. MatchOption u Q P) (sym is.there) (each broods log c is)

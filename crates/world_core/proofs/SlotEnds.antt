@@ -23,9 +23,10 @@ use Rattle.world_core.specs.declared.cell.State.TheVariants.{Home, Parked, Out}
 use Rattle.world_core.specs.declared.cell.Slot.TheVariants.{Awake, Ended}
 use Rattle.world_core.specs.Shows.{forest, told_spot, IsAwake, StateShows, Holds, CellShows, child_of, with_child}
 use Rattle.world_core.specs.Unparked.{unparked, is_parked_for}
-use Rattle.world_core.proofs.SlotPlaces.{lives-placed, awake-placed, both, ready-home}
+use Rattle.world_core.proofs.SlotPlaces.{awake-placed, both, ready-home}
 use Rattle.world_core.proofs.SlotWaits.{one-held, has-life, goes-on, waits-elsewhere, waits-here, waits-still}
 use Rattle.world_core.proofs.SlotSteps.{brood_with, written, holds-with}
+use Rattle.world_core.proofs.AtPlaces.{lives-placed}
 
 -- a child has a cell of its own from now on
 pub wakes-shows : (depot : Shelves) (path : Path) (ticket index : ℕ) (c : Cell) (broods : BTreeMap ℕ Brood) (old : Brood) (t a : Tree (Spot Machine))

@@ -1,10 +1,11 @@
 -- A cell whose machine is at another place.
 use Rattle.std.proofs.Common.{◌≡◌, ℕ, Option, Some, None, MatchOption, ◌⊎◌, inl, inr, ◌&&◌, not, Bool, true, false, refl, sym, ap, ◌∙◌, subst}
 use Rattle.boxcar.specs.Table.{Shelves}
-use Rattle.forest_tree.specs.Tree.{Tree, node, machine, Path}
+use Rattle.forest_tree.specs.Tree.{Tree, machine, Path}
 use Rattle.forest_tree.specs.Settle.{has_ended, waits}
-use Rattle.forest_history.specs.Places.{Place, asleep, home, out, parked, Spot, placed, spots}
+use Rattle.forest_history.specs.Places.{Place, asleep, home, out, parked, Spot, placed}
 use Rattle.forest_history.specs.World.{is_ready_at, is_at_home_at, is_asleep_at, lives_ready, lives_at_home}
+use Rattle.forest_history.proofs.Spots.{machine-placed, place-placed}
 use Rattle.forest_model.specs.Machine.{Machine}
 use Rattle.forest_model.specs.Forest.{machines}
 use Rattle.std.specs.declared.alloc.Global.{Global}
@@ -14,37 +15,19 @@ use Rattle.world_core.specs.declared.cell.Cell.{Cell}
 use Rattle.world_core.specs.declared.cell.State.{State}
 use Rattle.world_core.specs.declared.cell.State.TheVariants.{Home, Parked, Out}
 use Rattle.world_core.specs.declared.turns.Turn.{Turn}
-use Rattle.world_core.specs.Shows.{forest, IsAwake, StateShows, Holds, CellShows}
-
--- the broods and the log do not tell the place
-pub holds-placed : (depot : Shelves) (path : Path) (c : Cell) (state : State) (place : Place) (t : Tree (Spot Machine)) → Holds depot path c t
-    → Holds depot path (record c { state = state }) (placed place t)
-unfolding spots
-holds-placed depot path c state place (node s broods log) h = record {
-  tallies = record { log = h.tallies.log; room = h.tallies.room; broods = h.tallies.broods };
-  broods = h.broods;
-}
-
-pub lives-placed : (place : Place) (t : Tree (Spot Machine)) → has_ended forest (placed place t) ≡ has_ended forest t
-unfolding spots
-lives-placed place (node s broods log) = refl
-
-place-of : (place : Place) (t : Tree (Spot Machine)) → (machine (placed place t)).place ≡ place
-place-of place (node s broods log) = refl
-
-machine-placed : (place : Place) (t : Tree (Spot Machine)) → (machine (placed place t)).machine ≡ (machine t).machine
-machine-placed place (node s broods log) = refl
+use Rattle.world_core.specs.Shows.{forest, IsAwake, StateShows, CellShows}
+use Rattle.world_core.proofs.AtPlaces.{holds-placed, lives-placed}
 
 pub awake-placed : (place : Place) → is_asleep_at place ≡ false → (t : Tree (Spot Machine)) → has_ended forest t ≡ false → IsAwake (placed place t)
-awake-placed place awake t lives = record { lives = lives-placed place t ∙ lives; awake = ap is_asleep_at (place-of place t) ∙ awake }
+awake-placed place awake t lives = record { lives = lives-placed place t ∙ lives; awake = ap is_asleep_at (place-placed place t) ∙ awake }
 
 -- the machine is on lease from now on
 pub out-shows : (depot : Shelves) (path : Path) (c : Cell) (start : Snapshot Machine) (t : Tree (Spot Machine)) → start.value ≡ (machine t).machine
     → CellShows depot path c t → CellShows depot path (record c { state = Out start }) (placed out t)
 out-shows depot path c start t is h = record {
   awake = awake-placed out refl t h.awake.lives;
-  state = (is ∙ sym (machine-placed out t), place-of out t);
-  holds = holds-placed depot path c (Out start) out t h.holds;
+  state = (is ∙ sym (machine-placed out t), place-placed out t);
+  holds = holds-placed depot path c (Out start) c.is_listed out t h.holds;
 }
 
 -- a machine that lives

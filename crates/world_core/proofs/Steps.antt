@@ -2,6 +2,7 @@
 use Rattle.std.proofs.Common.{◌≡◌, ℕ, zero, suc, ◌+◌, ◌≤◌, ◌⊎◌, ◌&&◌, not, Bool, true, false, Option, Some, None, IsSome, is_some, refl, sym, ap, ap₂, ◌∙◌, subst, arith, inl, inr}
 use Rattle.std.specs.BTreeMap.{get}
 use Rattle.std.specs.Ordering.{nat_cmp}
+use Rattle.std.proofs.lemmas.Bool.{and_parts, not-true}
 use Rattle.boxcar.specs.Table.{Shelves}
 use Rattle.fork_port.specs.declared.commands.Call.{Call}
 use Rattle.fork_port.specs.declared.commands.Call.TheVariants.{Clone, Join, Kill}
@@ -9,11 +10,10 @@ use Rattle.fork_port.specs.declared.ending.Ending.{Ending}
 use Rattle.forest_tree.specs.Operations.{Operations, is_cloned, IsMachine, Makes, IsStep}
 use Rattle.forest_tree.specs.Tree.{Tree, node, Trees, Broods, Log, brood_of, broods_of, Path}
 use Rattle.forest_tree.specs.Settle.{have_ended, settled, waits_by}
-use Rattle.forest_tree.proofs.Settle.{both-true}
 use Rattle.forest_tree.proofs.Rests.{lives-none}
 use Rattle.forest_tree.proofs.Places.{some-same}
 use Rattle.forest_history.specs.Places.{out, Spot, spots, advanced, may_run, steps}
-use Rattle.forest_history.proofs.Changes.{not-true, steps-own}
+use Rattle.forest_history.proofs.Changes.{steps-own}
 use Rattle.forest_history.proofs.Spots.{machine-spots}
 use Rattle.forest_model.specs.Machine.{Machine, Next, exception, timer_interrupt, plain, call, next, advance, after_steps}
 use Rattle.forest_model.specs.Forest.{call_of, machines, tree_call}
@@ -95,8 +95,8 @@ pub run-same : (k : ℕ) (s : Spot Machine) → forest.is_good s ≡ true → ma
 unfolding may_run advanced
 run-same zero s good own = record { good = good; cloned = λ t. refl; grants = λ t is. refl }
 run-same (suc k) s good own =
-    let first = both-true (not (is_some (forest.ending s))) (not (is_some (forest.call s)) && may_run forest k (forest.advance s)) own in
-    let then = both-true (not (is_some (forest.call s))) (may_run forest k (forest.advance s)) first.1 in
+    let first = and_parts (not (is_some (forest.ending s))) (not (is_some (forest.call s)) && may_run forest k (forest.advance s)) own in
+    let then = and_parts (not (is_some (forest.call s))) (may_run forest k (forest.advance s)) first.1 in
     let makes : Makes forest s None = record {
       good = good;
       lives = lives-none (forest.ending s) (not-true (is_some (forest.ending s)) first.0);

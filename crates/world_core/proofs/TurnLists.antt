@@ -18,7 +18,7 @@ pub turns_from_out : (t : Turn) → turns_from t ≡ turn_of t ∷ turns_of (out
 unfolding turns_from
 turns_from_out t = ap turns_from (is-Turn' t) ∙ ap (λ rest. turn_of t ∷ rest) (turns_behind-back (out-Turn t).next)
 
-turn_of_roll : (x : Turn-F Turn) → turn_of (roll-Turn x) ≡ record { name = x.name; children = x.children }
+pub turn_of_roll : (x : Turn-F Turn) → turn_of (roll-Turn x) ≡ record { name = x.name; children = x.children }
 turn_of_roll x = ap (λ y. record { name = y.name; children = y.children }) (out-roll-Turn x)
 
 -- a turn with nothing behind it

@@ -53,6 +53,10 @@ pub record StandsFor (depot : Shelves) (w : World) (f : Forest) : Type 0 where
   pub halted : w.halted ≡ f.halted
   pub tree : ShowsTree w.outcome depot w f.tree
 
+-- the first reason to stop that it was given, if it was given one
+abbrev pub reason_of : World → Option Reason
+reason_of w = w.halted
+
 -- it stands for some forest
 abbrev pub IsWorld : Shelves → World → Type 0
 IsWorld depot w = (f : Forest) × StandsFor depot w f

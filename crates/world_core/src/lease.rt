@@ -136,6 +136,8 @@ impl Lease {
         ensures err_ran { OnErr result (self.old.ran ≤ self.new.ran) }
         ensures err_most { OnErr result (self.new.ran < self.old.ran + most) }
         ensures err_live { OnErr result (self.new.now.ending ≡ None) }
+        // Memory is wanted only where the coming step takes some.
+        ensures err_memory { OnErr result (Grows self.new.now.state) }
     {
         let before = self.vm.steps();
         let ran = self.vm.run(most);

@@ -1,5 +1,5 @@
 /// Why the machines of a world are to be handed out no more.
-#[derive(Clone, Copy, Debug, PartialEq, Eq)]
+#[derive(Clone, Copy)]
 pub enum Reason {
     /// The wire lost too much.
     Wire,

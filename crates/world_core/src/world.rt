@@ -194,10 +194,11 @@ impl World {
         outcome
     }
 
-    /// Whether the machine on lease stands at the JOIN of a ticket of which a child lives.
+    /// Whether the machine on lease stands at the JOIN of a ticket of which a child lives. A machine whose name
+    /// is gone does not.
     pub fn waits(&self, lease: &Lease) -> bool
         ensures { (depot : Shelves) (f : Forest) → StandsFor depot self.now f → IsHandedOut f lease.now
-            → IfSome (subtree lease.now.name f.tree) (λ t. result ≡ stands_waiting (with_machine lease.now.now t)) }
+            → MatchOption (subtree lease.now.name f.tree) (result ≡ false) (λ t. result ≡ stands_waiting (with_machine lease.now.now t)) }
     {
         let Some(ticket) = lease.joins() else {
             return false;

@@ -1,4 +1,4 @@
-use Rattle.std.proofs.Common.{◌+◌, ◌++◌, take, drop, Result, sym, ap, ap₂, ◌∙◌, subst, Vec, ℕ}
+use Rattle.std.proofs.Common.{refl, ◌+◌, ◌++◌, take, drop, Result, sym, ap, ap₂, ◌∙◌, subst, Vec, ℕ}
 use Rattle.std.proofs.lemmas.Result.{err_from_is_err_and}
 use Rattle.std.specs.declared.alloc.AllocError.{AllocError}
 use Rattle.std.specs.declared.alloc.Global.{Global}
@@ -10,15 +10,15 @@ use Rattle.drive_script.proofs.driver.drive.Goals as goal
 
 pub lines-init : goal.lines-init
 unfolding told told_text after_script
-lines-init g c t h = (c.new-text.ensures.bytes, h)
+lines-init g c = (λ t h. (c.new-text.ensures.bytes, h), refl)
 
 pub answer_line-requires : goal.answer_line-requires
 answer_line-requires g c =
     let t = c.requires.0 in
-    (after_script (take c.lines.line-index (lines_read c.lines-line-items.result.now)) t, (c.lines.invariant t c.requires.1).1)
+    (after_script (take c.lines.line-index (lines_read c.lines-line-items.result.now)) t, (c.lines.invariant.0 t c.requires.1).1)
 
-pub returns-in_err-answer : goal.returns-in_err-answer
-returns-in_err-answer g c t h =
+pub returns-in_err-answer-clause-drives : goal.returns-in_err-answer-clause-drives
+returns-in_err-answer-clause-drives g c t h =
     let depot = c.args.depot.now in
     let items = c.lines-line-items.result.now in
     let i = c.lines.line-index in
@@ -29,10 +29,10 @@ returns-in_err-answer g c t h =
     (subst (λ lines. HasMade depot (steps_of_script lines t) t c.answer_line.new.world)
     (all-lines items i line c.lines-test.true c.line-item.is ∙ c.lines-line-items.ensures)
     (script-failed depot c.answer_line.new.world done (line_read line) (drop (i + 1) (lines_read items)) t
-    (c.in_err-answer.ensures (after_script done t) (c.lines.invariant t h).1)))
+    (c.in_err-answer.ensures.drives (after_script done t) (c.lines.invariant.0 t h).1)))
 
-pub returns-in_err-write : goal.returns-in_err-write
-returns-in_err-write g c t h =
+pub returns-in_err-write-clause-drives : goal.returns-in_err-write-clause-drives
+returns-in_err-write-clause-drives g c t h =
     let depot = c.args.depot.now in
     let items = c.lines-line-items.result.now in
     let i = c.lines.line-index in
@@ -43,20 +43,23 @@ returns-in_err-write g c t h =
     (subst (λ lines. HasMade depot (steps_of_script lines t) t c.answer_line.new.world)
     (all-lines items i line c.lines-test.true c.line-item.is ∙ c.lines-line-items.ensures)
     (script-unwritten depot c.answer_line.new.world done (line_read line) (drop (i + 1) (lines_read items)) t
-    (c.in_ok-answer.ensures (after_script done t) (c.lines.invariant t h).1).1))
+    (c.in_ok-answer.ensures.drives (after_script done t) (c.lines.invariant.0 t h).1).1))
 
 pub lines-preserved : goal.lines-preserved
-lines-preserved g c t h =
-    let depot = c.args.depot.now in
-    let items = c.lines-line-items.result.now in
-    let i = c.lines.line-index in
-    let line = c.line-item.result in
-    let done = take i (lines_read items) in
-    let before = c.lines.invariant t h in
-    let after = c.in_ok-answer.ensures (after_script done t) before.1 in
-    let next = take-next items i line c.lines-test.true c.line-item.is in (
-      c.in_ok-write.ensures.bytes
-          ∙ ap₂ (λ text more. text ++ more) before.0 (ap₂ (λ name answered. told_line (name, answered)) c.name-name.ensures after.0)
-          ∙ sym (ap (λ lines. told_text lines t) next ∙ text-next done (line_read line) t),
-      subst (HasMachines depot c.answer_line.new.world) (sym (ap (λ lines. after_script lines t) next ∙ script-next done (line_read line) t)) after.1,
-    )
+lines-preserved g c = (
+  λ t h.
+      let depot = c.args.depot.now in
+      let items = c.lines-line-items.result.now in
+      let i = c.lines.line-index in
+      let line = c.line-item.result in
+      let done = take i (lines_read items) in
+      let before = c.lines.invariant.0 t h in
+      let after = c.in_ok-answer.ensures.drives (after_script done t) before.1 in
+      let next = take-next items i line c.lines-test.true c.line-item.is in (
+        c.in_ok-write.ensures.bytes
+            ∙ ap₂ (λ text more. text ++ more) before.0 (ap₂ (λ name answered. told_line (name, answered)) c.name-name.ensures after.0)
+            ∙ sym (ap (λ lines. told_text lines t) next ∙ text-next done (line_read line) t),
+        subst (HasMachines depot c.answer_line.new.world) (sym (ap (λ lines. after_script lines t) next ∙ script-next done (line_read line) t)) after.1,
+      ),
+  c.answer_line.ensures.reason ∙ c.lines.invariant.1,
+)

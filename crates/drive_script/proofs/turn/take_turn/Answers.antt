@@ -1,4 +1,4 @@
-use Rattle.std.proofs.Common.{Option, Result, Ok, sym, subst, replicate}
+use Rattle.std.proofs.Common.{Option, Result, Ok, sym, ◌∙◌, subst, replicate}
 use Rattle.std.proofs.lemmas.Result.{err_from_is_err_and}
 use Rattle.std.specs.declared.alloc.AllocError.{AllocError}
 use Rattle.forest_model.specs.Forest.{machines}
@@ -9,24 +9,43 @@ use Rattle.drive_script.specs.declared.turn.Turn.{Turn}
 use Rattle.drive_script.specs.Turned.{Turns}
 use Rattle.drive_script.proofs.Driving.{made-none}
 use Rattle.drive_script.proofs.Lent.{named-kept, named-lent, named-none}
+use Rattle.drive_script.proofs.Reasons.{named-reason}
 use Rattle.drive_script.proofs.turn.take_turn.Goals as goal
 
-pub returns-in_err-lease : goal.returns-in_err-lease
-returns-in_err-lease g c t h =
+pub returns-in_err-lease-clause-turns : goal.returns-in_err-lease-clause-turns
+returns-in_err-lease-clause-turns g c t h =
     let exit = err_from_is_err_and c.from_residual.result c.from_residual.ensures.1 in
     subst (λ (r : Result Turn AllocError). Turns c.args.depot.now c.args.name.now c.args.most t r c.take_named.new.self) (sym exit.1)
     (made-none c.args.depot.now c.take_named.new.self (replicate (steps_made machines c.args.most c.args.name.now t) c.args.name.now) t
     (named-kept c.args.depot.now c.args.world.now c.take_named.new.self t c.args.name.now h (c.in_err-lease.ensures h.forest h.stands)))
 
-pub returns-in-Some : goal.returns-in-Some
-returns-in-Some g c t h =
+pub returns-in-Some-clause-turns : goal.returns-in-Some-clause-turns
+returns-in-Some-clause-turns g c t h =
     let named = subst (λ (o : Option Lent). TakesNamed c.args.depot.now h.forest c.args.name.now (Ok o) c.take_named.new.self) c.in-Some.is
     (c.in_ok-lease.ensures h.forest h.stands) in
     let lent = named-lent c.args.depot.now c.args.world.now c.take_named.new.self t c.args.name.now h c.in-Some.lease named in
-    subst (λ name. Turns c.args.depot.now name c.args.most t c.run_turn.result c.run_turn.new.world) named.1 (c.run_turn.ensures t lent)
+    subst (λ name. Turns c.args.depot.now name c.args.most t c.run_turn.result c.run_turn.new.world) named.1 (c.run_turn.ensures.turns t lent)
 
-pub returns-in-None : goal.returns-in-None
-returns-in-None g c t h =
+pub returns-in-None-clause-turns : goal.returns-in-None-clause-turns
+returns-in-None-clause-turns g c t h =
     named-none c.args.depot.now c.args.world.now c.take_named.new.self t c.args.name.now h
     (subst (λ (o : Option Lent). TakesNamed c.args.depot.now h.forest c.args.name.now (Ok o) c.take_named.new.self) c.in-None.is
     (c.in_ok-lease.ensures h.forest h.stands))
+
+pub returns-in_err-lease-clause-reason : goal.returns-in_err-lease-clause-reason
+returns-in_err-lease-clause-reason g c =
+    let h = c.requires.1 in
+    named-reason c.args.depot.now c.args.world.now c.take_named.new.self h.forest h.stands c.args.name.now c.take_named.result
+    (c.take_named.ensures h.forest h.stands)
+
+pub returns-in-Some-clause-reason : goal.returns-in-Some-clause-reason
+returns-in-Some-clause-reason g c =
+    let h = c.requires.1 in
+    c.run_turn.ensures.reason ∙ named-reason c.args.depot.now c.args.world.now c.take_named.new.self h.forest h.stands c.args.name.now c.take_named.result
+    (c.take_named.ensures h.forest h.stands)
+
+pub returns-in-None-clause-reason : goal.returns-in-None-clause-reason
+returns-in-None-clause-reason g c =
+    let h = c.requires.1 in
+    named-reason c.args.depot.now c.args.world.now c.take_named.new.self h.forest h.stands c.args.name.now c.take_named.result
+    (c.take_named.ensures h.forest h.stands)

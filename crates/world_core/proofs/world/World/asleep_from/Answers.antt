@@ -1,6 +1,6 @@
 use Rattle.std.proofs.Common.{sym, subst}
 use Rattle.world_core.specs.Popped.{IsFirstAsleep}
-use Rattle.world_core.proofs.Taking.{first-no_cell, first-no_brood, first-in}
+use Rattle.world_core.proofs.Sleepers.{first-no_cell, first-no_brood, first-in}
 use Rattle.world_core.proofs.world.World.asleep_from.Goals as goal
 
 pub returns-in_err-cell : goal.returns-in_err-cell

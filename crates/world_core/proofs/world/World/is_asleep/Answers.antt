@@ -1,5 +1,5 @@
 use Rattle.std.proofs.Common.{sym, ◌∙◌, arith}
-use Rattle.world_core.proofs.Taking.{none-sleeps, first-no_brood, sleeps-slot}
+use Rattle.world_core.proofs.Sleepers.{none-sleeps, first-no_brood, sleeps-slot}
 use Rattle.world_core.proofs.world.World.is_asleep.Goals as goal
 
 pub returns-in_default : goal.returns-in_default

@@ -1,7 +1,8 @@
 use Rattle.std.proofs.Common.{◌≡◌, suc, ◌<◌, length, sym, ap, subst, arith}
+use Rattle.forest_tree.proofs.Rests.{lives-none}
 use Rattle.std.specs.Option.{IfNone}
 use Rattle.world_core.specs.Turns.{turn_of}
-use Rattle.world_core.proofs.Taking.{over-goes, stopped-goes, idle-goes, none-some, with-popped, goes-on}
+use Rattle.world_core.proofs.TurnByTurn.{over-goes, stopped-goes, idle-goes, with-popped, goes-on}
 use Rattle.world_core.proofs.world.World.take.Goals as goal
 
 pub returns-then-is_some : goal.returns-then-is_some
@@ -9,11 +10,11 @@ returns-then-is_some c = λ f h. over-goes c.args.depot.now c.args.self.now f h 
 
 pub returns-in-Some : goal.returns-in-Some
 returns-in-Some c = λ f h.
-    stopped-goes c.args.depot.now c.args.self.now f c.in-Some.reason h (none-some c.args.self.now.outcome (sym c.if-is_some.ensures)) c.in-Some.is
+    stopped-goes c.args.depot.now c.args.self.now f c.in-Some.reason h (lives-none c.args.self.now.outcome (sym c.if-is_some.ensures)) c.in-Some.is
 
 pub loop-turn-init : goal.loop-turn-init
 loop-turn-init c = record {
-  going = none-some c.args.self.now.outcome (sym c.if-is_some.ensures);
+  going = lives-none c.args.self.now.outcome (sym c.if-is_some.ensures);
   unhalted = c.in_default.is;
   stands = λ f h. h;
 }

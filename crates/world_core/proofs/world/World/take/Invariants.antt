@@ -1,5 +1,5 @@
 use Rattle.std.proofs.Common.{length}
-use Rattle.world_core.proofs.Taking.{IsTaking}
+use Rattle.world_core.proofs.TurnByTurn.{IsTaking}
 use Rattle.world_core.proofs.world.World.take.Given as goal
 
 abbrev pub invariant-loop-turn : goal.invariant-loop-turn

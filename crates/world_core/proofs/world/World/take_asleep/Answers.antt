@@ -8,8 +8,9 @@ use Rattle.world_core.specs.declared.turns.Turn.{Turn, Turn-F, out-Turn, roll-Tu
 use Rattle.world_core.specs.declared.world.World.{World}
 use Rattle.world_core.specs.Turns.{turn_of, turns_from}
 use Rattle.world_core.specs.Popped.{IsFirstAsleep, ShowsCells, TakesBy, sleeps}
-use Rattle.world_core.proofs.Taking.{before-children, spent-turn, child-taken, child-kept, children_turn, rolled_turn}
+use Rattle.world_core.proofs.TurnOfChildren.{before-children, spent-turn, child-taken, child-kept, children_turn}
 use Rattle.world_core.proofs.world.World.take_asleep.Goals as goal
+use Rattle.world_core.proofs.TurnLists.{turn_of_roll}
 
 pub asleep_from-requires : goal.asleep_from-requires
 asleep_from-requires c =
@@ -56,7 +57,7 @@ returns-in-Ok-clause-takes c = λ f h.
     let found : IsFirstAsleep turn.name ticket c.args.first f.tree (Some index)
     = subst (λ u. IsFirstAsleep (out-Turn u).name ticket c.args.first f.tree (Some index)) c.deref.ensures (c.in_ok-index.ensures depot f.tree before) in
     let later : turn_of (roll-Turn x) ≡ record { name = turn.name; children = Some (ticket, index) }
-    = rolled_turn x ∙ ap (λ u. record { name = (out-Turn u).name; children = Some (ticket, index) }) c.deref_mut.ensures.value in
+    = turn_of_roll x ∙ ap (λ u. record { name = (out-Turn u).name; children = Some (ticket, index) }) c.deref_mut.ensures.value in
     let parent : Path = (out-Turn c.deref-2.result.now).name in
     let same : parent ≡ turn.name = ap (λ u. (out-Turn u).name) c.deref-2.ensures in
     let asleep : sleeps parent ticket index f.tree ≡ true = subst (λ p. sleeps p ticket index f.tree ≡ true) (sym same) found.1 in
@@ -84,7 +85,7 @@ returns-in-Err-clause-takes c = λ f h.
     let found : IsFirstAsleep turn.name ticket c.args.first f.tree (Some index)
     = subst (λ u. IsFirstAsleep (out-Turn u).name ticket c.args.first f.tree (Some index)) c.deref.ensures (c.in_ok-index.ensures depot f.tree before) in
     let later : turn_of (roll-Turn x) ≡ record { name = turn.name; children = Some (ticket, index) }
-    = rolled_turn x ∙ ap (λ u. record { name = (out-Turn u).name; children = Some (ticket, index) }) c.deref_mut.ensures.value in
+    = turn_of_roll x ∙ ap (λ u. record { name = (out-Turn u).name; children = Some (ticket, index) }) c.deref_mut.ensures.value in
     let after : World = record c.wake-woken.new.self { ready = c.push.new.self } in
     let rest = c.wake-woken.ensures.rest in
     let ready : after.ready ≡ turn_of (roll-Turn x) ∷ c.args.self.now.ready = c.push.ensures ∙ ap (λ turns. turn_of (roll-Turn x) ∷ turns) rest.0 in

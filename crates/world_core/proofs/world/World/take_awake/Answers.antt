@@ -9,7 +9,7 @@ use Rattle.world_core.specs.Lent.{Lent}
 use Rattle.world_core.specs.Turns.{turn_of}
 use Rattle.world_core.specs.Answers.{Goes, Starts}
 use Rattle.world_core.specs.Popped.{TakesBy}
-use Rattle.world_core.proofs.Taking.{awake-gone, awake-idle, awake-taken}
+use Rattle.world_core.proofs.TurnOfOne.{awake-gone, awake-idle, awake-taken}
 use Rattle.world_core.proofs.world.World.take_awake.Goals as goal
 
 pub returns-in_err-cell-clause-takes : goal.returns-in_err-cell-clause-takes

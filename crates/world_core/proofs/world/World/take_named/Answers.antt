@@ -1,6 +1,7 @@
 use Rattle.std.proofs.Common.{◌≡◌, ℕ, true, None, refl, sym, ap, ◌∙◌, subst}
 use Rattle.std.specs.BTreeMap.{get}
 use Rattle.forest_tree.specs.Tree.{Path}
+use Rattle.forest_tree.proofs.Rests.{lives-none}
 use Rattle.run_report.specs.Name.{child_path}
 use Rattle.run_report.specs.NameOrder.{path_cmp}
 use Rattle.world_core.specs.declared.world.World.{World}
@@ -8,7 +9,7 @@ use Rattle.world_core.specs.Waiting.{Waiting}
 use Rattle.world_core.specs.Popped.{ShowsCells, sleeps}
 use Rattle.world_core.specs.Turns.{turn_of}
 use Rattle.world_core.specs.World.{StandsFor}
-use Rattle.world_core.proofs.Taking.{over-nobody, none-some, stands-same, rewritten, named-error, named-idle, named-taken, root-cell, before-named, no_cell-home, named-woken}
+use Rattle.world_core.proofs.ByName.{over-nobody, stands-same, rewritten, named-error, named-idle, named-taken, root-cell, before-named, no_cell-home, named-woken}
 use Rattle.world_core.proofs.world.World.take_named.Goals as goal
 
 pub returns-then-is_some : goal.returns-then-is_some
@@ -33,7 +34,7 @@ returns-in_err-turn c = λ f h.
 pub returns-in_default-lend_named : goal.returns-in_default-lend_named
 returns-in_default-lend_named c = λ f h.
     let lent = c.lend_named.new.self in
-    named-idle c.args.depot.now c.args.self.now f c.args.name.now h (none-some c.args.self.now.outcome (sym c.if-is_some.ensures)) c.in-Some.cell.now
+    named-idle c.args.depot.now c.args.self.now f c.args.name.now h (lives-none c.args.self.now.outcome (sym c.if-is_some.ensures)) c.in-Some.cell.now
     c.in-Some.ensures.value (c.get_mut.follows.lender lent) lent (c.get_mut.follows.holds lent)
     (c.in_default-lend_named.ensures.shows c.args.depot.now c.args.name.now)
 
@@ -45,21 +46,21 @@ returns-in-Some c = λ f h.
     = ap (λ (w : Waiting). w.name) c.in_ok-turn.ensures.value ∙ c.in_ok-copy.ensures in
     let is : c.new.result ≡ record { name = c.args.name.now; start = m; ran = 0; now = m }
     = c.new.ensures ∙ ap (λ n. record { name = n; start = m; ran = 0; now = m }) name in
-    named-taken c.args.depot.now c.args.self.now f c.args.name.now h (none-some c.args.self.now.outcome (sym c.if-is_some.ensures)) c.in-Some.cell.now
+    named-taken c.args.depot.now c.args.self.now f c.args.name.now h (lives-none c.args.self.now.outcome (sym c.if-is_some.ensures)) c.in-Some.cell.now
     c.in-Some.ensures.value (c.get_mut.follows.lender lent) lent (c.get_mut.follows.holds lent) c.new.result m is c.in-Some-lend_named.ensures.place
     (c.in-Some-lend_named.ensures.shows c.args.depot.now c.args.name.now)
 
 pub unreachable-requires : goal.unreachable-requires
 unreachable-requires c =
     let r = c.requires in
-    root-cell c.args.depot.now c.args.self.now r.0 c.args.name.now r.1 (none-some c.args.self.now.outcome (sym c.if-is_some.ensures)) c.in_default.ensures.value
+    root-cell c.args.depot.now c.args.self.now r.0 c.args.name.now r.1 (lives-none c.args.self.now.outcome (sym c.if-is_some.ensures)) c.in_default.ensures.value
     (sym c.in_ok-parent.ensures ∙ c.in_default-pop.ensures.0)
 
 pub returns-then-not-is_asleep : goal.returns-then-not-is_asleep
 returns-then-not-is_asleep c = λ f h.
     let depot = c.args.depot.now in
     let same = sym c.get_mut.follows.holds-at-none in
-    let going = none-some c.args.self.now.outcome (sym c.if-is_some.ensures) in
+    let going = lives-none c.args.self.now.outcome (sym c.if-is_some.ensures) in
     let before = subst (λ cells. ShowsCells depot cells f.tree) same (before-named depot c.args.self.now f c.args.name.now h going) in (
       no_cell-home depot c.args.self.now f c.args.name.now h going c.in_default.ensures.value c.pop.new.self c.in-Some-pop.ticket c.in-Some-pop.index
           (sym c.in_ok-parent.ensures ∙ c.in-Some-pop.ensures) (sym (c.is_asleep.ensures depot f.tree before) ∙ c.if-not-is_asleep.true),
@@ -71,7 +72,7 @@ wake-requires c =
     let r = c.requires in
     let depot = c.args.depot.now in
     let same = sym c.get_mut.follows.holds-at-none in
-    let going = none-some c.args.self.now.outcome (sym c.if-is_some.ensures) in
+    let going = lives-none c.args.self.now.outcome (sym c.if-is_some.ensures) in
     let before = subst (λ cells. ShowsCells depot cells r.0.tree) same (before-named depot c.args.self.now r.0 c.args.name.now r.1 going) in (
       r.0.tree,
       before,
@@ -85,7 +86,7 @@ returns c = λ f h.
     let ticket : ℕ = c.in-Some-pop.ticket in
     let index : ℕ = c.in-Some-pop.index in
     let same = sym c.get_mut.follows.holds-at-none in
-    let going = none-some c.args.self.now.outcome (sym c.if-is_some.ensures) in
+    let going = lives-none c.args.self.now.outcome (sym c.if-is_some.ensures) in
     let named : c.args.name.now ≡ child_path parent ticket index = sym c.in_ok-parent.ensures ∙ c.in-Some-pop.ensures in
     let w : World = record c.args.self.now { cells = c.get_mut.follows.lender-at-none } in
     let stands : StandsFor depot w f = subst (λ cells. StandsFor depot (record c.args.self.now { cells = cells }) f) same h in

@@ -1,4 +1,4 @@
-use Rattle.std.proofs.Common.{◌≡◌, false, Some, None, sym, ap, ◌∙◌, subst}
+use Rattle.std.proofs.Common.{◌≡◌, false, Some, None, refl, sym, ap, ◌∙◌, subst}
 use Rattle.std.specs.BTreeMap.{get_by}
 use Rattle.forest_tree.specs.Tree.{Tree, node}
 use Rattle.forest_tree.proofs.Places.{some-same}
@@ -9,20 +9,22 @@ use Rattle.world_core.specs.declared.cell.Cell.{Cell}
 use Rattle.world_core.specs.Shows.{Holds}
 use Rattle.world_core.specs.Answers.{stands_waiting, with_machine}
 use Rattle.world_core.proofs.Steps.{waits-join, waits-none}
-use Rattle.world_core.proofs.Returns.{if-handed}
+use Rattle.world_core.proofs.Returns.{match-handed}
 use Rattle.world_core.proofs.world.World.waits.Goals as goal
 
 pub returns-in_default : goal.returns-in_default
 returns-in_default c depot f stands out_as =
     let lease = c.args.lease.now in
-    if-handed depot c.args.self.now f lease (λ t. false ≡ stands_waiting (with_machine lease.now t)) stands out_as
+    match-handed depot c.args.self.now f lease (false ≡ false) (λ t. false ≡ stands_waiting (with_machine lease.now t)) stands out_as
+    (λ none. refl)
     (λ broods log cell is.
     waits-none lease.now (node (record { machine = lease.start; place = out }) broods log) c.in_default.ensures)
 
 pub returns-in-None : goal.returns-in-None
 returns-in-None c depot f stands out_as =
     let lease = c.args.lease.now in
-    if-handed depot c.args.self.now f lease (λ t. false ≡ stands_waiting (with_machine lease.now t)) stands out_as
+    match-handed depot c.args.self.now f lease (false ≡ false) (λ t. false ≡ stands_waiting (with_machine lease.now t)) stands out_as
+    (λ none. refl)
     (λ broods log cell is.
     let no : None ≡ Some cell = c.in-None.ensures.value ∙ ap (λ name. get_by (path_cmp name) c.args.self.now.cells) c.name.ensures ∙ is.cell in
     absurd (cc))
@@ -30,7 +32,11 @@ returns-in-None c depot f stands out_as =
 pub returns-in-Some-get : goal.returns-in-Some-get
 returns-in-Some-get c depot f stands out_as =
     let lease = c.args.lease.now in
-    if-handed depot c.args.self.now f lease (λ t. c.waits.result ≡ stands_waiting (with_machine lease.now t)) stands out_as
+    match-handed depot c.args.self.now f lease (c.waits.result ≡ false) (λ t. c.waits.result ≡ stands_waiting (with_machine lease.now t)) stands out_as
+    (λ none.
+    let no : None ≡ Some c.in-Some-get.cell.now =
+    sym none ∙ sym (ap (λ name. get_by (path_cmp name) c.args.self.now.cells) c.name.ensures) ∙ sym c.in-Some-get.ensures.value in
+    absurd (cc))
     (λ broods log cell is.
     let t : Tree (Spot Machine) = node (record { machine = lease.start; place = out }) broods log in
     let found : Some c.in-Some-get.cell.now ≡ Some cell =

@@ -10,7 +10,7 @@ use Rattle.world_core.specs.Lent.{Lent}
 use Rattle.world_core.specs.Shows.{CellShows, with_child}
 use Rattle.world_core.specs.Waiting.{Waiting}
 use Rattle.world_core.specs.Turns.{turn_of}
-use Rattle.world_core.proofs.Taking.{parent-there, sleeper-of, lent-shows, woken-machine, woken-some, woken-listed, woken-cells, old-parent, sleeper-no_cell}
+use Rattle.world_core.proofs.Waking.{parent-there, sleeper-of, lent-shows, woken-machine, woken-some, woken-listed, woken-cells, old-parent, sleeper-no_cell}
 use Rattle.world_core.proofs.world.World.wake.Goals as goal
 
 pub unreachable-requires : goal.unreachable-requires

@@ -1,0 +1,188 @@
+-- A child that is handed out by a turn of its parent's children.
+use Rattle.std.proofs.Common.{◌≡◌, ◌≢◌, ◌⊎◌, ℕ, ◌≤◌, ◌<◌, ◌&&◌, Bool, true, false, leb, refl, sym, ap, ◌∙◌, subst, inl, inr, List, ◌∷◌, Option, Some, None, is_some, []}
+use Rattle.std.proofs.lemmas.Bool.Decides.{leb_tells}
+use Rattle.std.specs.Option.{IfSome}
+use Rattle.std.specs.BTreeMap.{get}
+use Rattle.std.proofs.lemmas.Bool.{and_parts}
+use Rattle.boxcar.specs.Table.{Shelves}
+use Rattle.forest_tree.specs.Tree.{Tree, machine, Path, subtree}
+use Rattle.forest_tree.specs.Settle.{has_ended, waits}
+use Rattle.forest_history.specs.Places.{at_path, out, Spot, placed}
+use Rattle.forest_history.specs.World.{is_asleep_at, is_ready_at, lives_ready, holds, is_ready}
+use Rattle.forest_history.specs.Rows.{took, nothing, Allows, does}
+use Rattle.forest_model.specs.Machine.{Machine}
+use Rattle.forest_model.specs.Forest.{machines}
+use Rattle.run_report.specs.Name.{child_path}
+use Rattle.run_report.specs.NameOrder.{path_cmp}
+use Rattle.world_core.specs.declared.cell.Cell.{Cell}
+use Rattle.world_core.specs.Shows.{forest, Shows}
+use Rattle.world_core.specs.declared.turns.Turn.{Turn, Turn-F, out-Turn, roll-Turn}
+use Rattle.world_core.specs.declared.world.World.{World}
+use Rattle.world_core.specs.Lent.{Lent}
+use Rattle.world_core.specs.Turns.{turns_from, turns_of, turn_of}
+use Rattle.world_core.specs.Waiting.{Waiting, CoversBy, IsListed, IsCovered}
+use Rattle.world_core.specs.World.{Forest, IsDue, ShowsLive, ShowsTree, StandsFor}
+use Rattle.world_core.specs.Answers.{Goes, Starts}
+use Rattle.world_core.specs.Popped.{ShowsCells, IsFirstAsleep, is_listed_in, with_turn}
+use Rattle.world_core.proofs.TurnLists.{turns_from_roll, turns_from_out, turn_of_roll}
+use Rattle.world_core.proofs.Sleepers.{wakes, wakes-there, dead-not}
+use Rattle.world_core.proofs.TakenOut.{taken, allows-took}
+use Rattle.world_core.proofs.TurnOut.{shown-with}
+
+-- a turn with nothing behind it, from another child on
+pub children_turn : (t : Turn) (children : Option (ℕ × ℕ)) → turns_from t ≡ turn_of t ∷ []
+    → turns_from (roll-Turn record { name = (out-Turn t).name; children = children; next = (out-Turn t).next })
+    ≡ turn_of (roll-Turn record { name = (out-Turn t).name; children = children; next = (out-Turn t).next }) ∷ []
+children_turn t children single =
+    let x : Turn-F Turn = record { name = (out-Turn t).name; children = children; next = (out-Turn t).next } in
+    let behind : turns_of (out-Turn t).next ≡ [] = rest-none (turn_of t) (turns_of (out-Turn t).next) (sym (turns_from_out t) ∙ single) in
+    turns_from_roll x ∙ ap (λ rest. record { name = (out-Turn t).name; children = children } ∷ rest) behind ∙ ap (λ w. w ∷ []) (sym (turn_of_roll x))
+  where
+    rest-none : (w : Waiting) (rest : List Waiting) → w ∷ rest ≡ w ∷ [] → rest ≡ []
+    rest-none w [] e = refl
+    rest-none w (v ∷ rest) e = absurd (cc)
+
+-- a machine that has no cell and is ready is still a descriptor
+ready-asleep : (depot : Shelves) (n : Path) (u : Option (Tree (Spot Machine))) → Shows depot n None u → holds machines (lives_ready machines) u ≡ true → wakes u ≡ true
+ready-asleep depot n None h ready = absurd (cc)
+ready-asleep depot n (Some a) (inl ended) ready =
+    let no : false ≡ true = sym (dead-not (has_ended forest a) (is_ready_at (machine a).place (waits forest a)) ended.0) ∙ ready in absurd (cc)
+ready-asleep depot n (Some a) (inr there) ready = both (lives_ready machines a) (is_asleep_at (machine a).place) ready there
+  where
+    both : (p q : Bool) → p ≡ true → q ≡ true → p && q ≡ true
+    both true true e f = refl
+    both true false e f = absurd (cc)
+    both false q e f = absurd (cc)
+
+-- whether a cell is listed, and what holds where it is
+pub listed-by : {X : Type 0} (o : Option Cell) → (is_listed_in o ≡ true → X) → IfSome o (λ (c : Cell). c.is_listed ≡ true → X)
+listed-by None h = tt
+listed-by (Some c) h = h
+
+pub listed-in : {X : Type 0} (o : Option Cell) → IfSome o (λ (c : Cell). c.is_listed ≡ true → X) → is_listed_in o ≡ true → X
+listed-in None h is = absurd (cc)
+listed-in (Some c) h is = h is
+
+pub due-alike : (a b : Option Cell) (n : Path) (turns : List Waiting) → is_some b ≡ is_some a → IsDue a n turns → IsDue b n turns
+due-alike None None n turns e h = h
+due-alike None (Some d) n turns e h = absurd (cc)
+due-alike (Some c) None n turns e h = absurd (cc)
+due-alike (Some c) (Some d) n turns e h = h
+
+module _ (depot : Shelves) (turn : Waiting) (ticket first : ℕ) (w : World) (f : Forest) (children : turn.children ≡ Some (ticket, first))
+    (h : StandsFor depot (with_turn turn w) f) (going : w.outcome ≡ None) where
+  shows-children : ShowsLive depot (with_turn turn w) f.tree
+  shows-children = shown-with depot turn w f h going
+
+  pub before-children : ShowsCells depot w.cells f.tree
+  before-children = record { sound = h.sound; root = shows-children.root; shows = shows-children.cells }
+
+  asleep-due : (n : Path) → get path_cmp w.cells n ≡ None → is_ready machines n f.tree ≡ true → wakes (subtree n f.tree) ≡ true
+  asleep-due n none ready = ready-asleep depot n (subtree n f.tree) (subst (λ c. Shows depot n c (subtree n f.tree)) none (shows-children.cells n)) ready
+
+  not-own : (n : Path) → IsListed n (turn ∷ w.ready) → IsListed n w.ready
+  unfolding IsListed
+  not-own n (inl e) =
+      let no : ◌≡◌ {A = Option (ℕ × ℕ)} (Some (ticket, first)) None = sym children ∙ ap (λ (v : Waiting). v.children) e in absurd (cc)
+  not-own n (inr listed) = listed
+
+  -- covered by the turn, or by another
+  covered-by : (n : Path) → IsCovered n (turn ∷ w.ready) → ((k : ℕ) × (first ≤ k) × (n ≡ child_path turn.name ticket k)) ⊎ IsCovered n w.ready
+  unfolding IsCovered
+  covered-by n (inl covers) = inl (subst (CoversBy n turn.name) children covers)
+  covered-by n (inr rest) = inr rest
+
+  -- none of the children is a descriptor any more
+  pub spent-turn : IsFirstAsleep turn.name ticket first f.tree None → StandsFor depot w f
+  spent-turn none = record {
+    sound = h.sound;
+    halted = h.halted;
+    tree = subst (λ o. ShowsTree o depot w f.tree) (sym going) (record {
+      root = shows-children.root;
+      cells = shows-children.cells;
+      ready = λ n ready. due n ready (get path_cmp w.cells n) refl (shows-children.ready n ready);
+      listed = λ n. listed-by (get path_cmp w.cells n) (λ is. not-own n (listed-in (get path_cmp w.cells n) (shows-children.listed n) is));
+    });
+  }
+    where
+      due : (n : Path) → is_ready machines n f.tree ≡ true → (c : Option Cell) → get path_cmp w.cells n ≡ c → IsDue c n (turn ∷ w.ready) → IsDue c n w.ready
+      due n ready None e covered = elim (covered-by n covered) [
+        | inl by ↦
+            let no : true ≡ false = sym (asleep-due n e ready) ∙ ap (λ m. wakes (subtree m f.tree)) by.2 ∙ none by.0 by.1 in absurd (cc)
+        | inr rest ↦ rest
+      ]
+      due n ready (Some c) e listed = not-own n listed
+
+  -- the first of them that is a descriptor
+  module _ (index : ℕ) (found : IsFirstAsleep turn.name ticket first f.tree (Some index)) (v : World) (later : Waiting)
+      (is : later ≡ record { name = turn.name; children = Some (ticket, index) }) (ready : v.ready ≡ later ∷ w.ready) where
+    listed-later : (n : Path) → IsListed n (turn ∷ w.ready) → IsListed n v.ready
+    unfolding IsListed
+    listed-later n listed = subst (IsListed n) (sym ready) (inr (not-own n listed))
+
+    covers-later : (n : Path) (k : ℕ) → index ≤ k → n ≡ child_path turn.name ticket k → IsCovered n v.ready
+    unfolding IsCovered
+    covers-later n k le e = subst (IsCovered n) (sym ready) (subst (λ u. IsCovered n (u ∷ w.ready)) (sym is) (inl (k, le, e)))
+
+    covered-later : (n : Path) → IsCovered n w.ready → IsCovered n v.ready
+    unfolding IsCovered
+    covered-later n rest = subst (IsCovered n) (sym ready) (inr rest)
+
+    due-later : (n : Path) → is_ready machines n f.tree ≡ true → (c : Option Cell) → get path_cmp w.cells n ≡ c → IsDue c n (turn ∷ w.ready) → IsDue c n v.ready
+    due-later n now None e covered = elim (covered-by n covered) [
+      | inl by ↦ from by.0 by.1 by.2 (leb_tells index by.0)
+      | inr rest ↦ covered-later n rest
+    ]
+      where
+        from : (k : ℕ) → first ≤ k → n ≡ child_path turn.name ticket k → ((leb index k ≡ true) × (index ≤ k)) ⊎ ((leb index k ≡ false) × (k < index)) → IsCovered n v.ready
+        from k le same (inr before) =
+            let no : true ≡ false = sym (asleep-due n e now) ∙ ap (λ m. wakes (subtree m f.tree)) same ∙ found.2 k le before.1 in absurd (cc)
+        from k le same (inl after) = covers-later n k after.1 same
+    due-later n now (Some c) e listed = listed-later n listed
+
+    -- the child is handed out
+    pub child-taken : (lease : Lent) → lease.name ≡ child_path turn.name ticket index → lease.ran ≡ 0 → lease.now ≡ lease.start
+        → IfSome (subtree lease.name f.tree) (λ a. (machine a).machine ≡ lease.start)
+        → ShowsCells depot v.cells (at_path (placed out) (child_path turn.name ticket index) f.tree)
+        → ((n : Path) → is_listed_in (get path_cmp v.cells n) ≡ is_listed_in (get path_cmp w.cells n))
+        → ((n : Path) → n ≢ child_path turn.name ticket index → is_some (get path_cmp v.cells n) ≡ is_some (get path_cmp w.cells n))
+        → v.halted ≡ w.halted → v.outcome ≡ w.outcome → w.halted ≡ None
+        → Goes depot f (took lease.name) v × Starts f lease
+    child-taken lease name ran now start cells listed others halted outcome unhalted =
+        let path : Path = child_path turn.name ticket index in
+        let there = wakes-there (subtree path f.tree) found.1 in (
+          subst (λ n. Goes depot f (took n) v) (sym name)
+              (record {
+                allowed = allows-took f path shows-children.root.lives (sym h.halted ∙ unhalted)
+                    (and_parts (holds machines (lives_ready machines) (subtree path f.tree)) (holds machines (λ a. is_asleep_at (machine a).place) (subtree path f.tree)) found.1).0;
+                after = taken depot v f path there.0 there.1 cells (halted ∙ h.halted) (outcome ∙ going)
+                    (λ n other ready_then.
+                    due-alike (get path_cmp w.cells n) (get path_cmp v.cells n) n v.ready (others n (λ same. other (sym same)))
+                    (due-later n ready_then (get path_cmp w.cells n) refl (shows-children.ready n ready_then)))
+                    (λ n.
+                    listed-by (get path_cmp v.cells n)
+                    (λ is_now. listed-later n (listed-in (get path_cmp w.cells n) (shows-children.listed n) (sym (listed n) ∙ is_now))));
+              }),
+          record { ran = ran; now = now; start = start },
+        )
+
+    -- there is no room for it
+    pub child-kept : ((n : Path) → get path_cmp v.cells n ≡ get path_cmp w.cells n) → v.halted ≡ w.halted → v.outcome ≡ w.outcome → w.halted ≡ None
+        → Goes depot f nothing v
+    unfolding Allows does
+    child-kept cells halted outcome unhalted = record {
+      allowed = ((shows-children.root.lives, sym h.halted ∙ unhalted), (child_path turn.name ticket index, found.1));
+      after = record {
+        sound = h.sound;
+        halted = halted ∙ h.halted;
+        tree = subst (λ o. ShowsTree o depot v f.tree) (sym (outcome ∙ going)) (record {
+          root = shows-children.root;
+          cells = λ n. subst (λ c. Shows depot n c (subtree n f.tree)) (sym (cells n)) (shows-children.cells n);
+          ready = λ n ready_then.
+              subst (λ c. IsDue c n v.ready) (sym (cells n)) (due-later n ready_then (get path_cmp w.cells n) refl (shows-children.ready n ready_then));
+          listed = λ n.
+              subst (λ o. IfSome o (λ (c : Cell). c.is_listed ≡ true → IsListed n v.ready)) (sym (cells n))
+              (listed-by (get path_cmp w.cells n) (λ is_now. listed-later n (listed-in (get path_cmp w.cells n) (shows-children.listed n) is_now)));
+        });
+      };
+    }

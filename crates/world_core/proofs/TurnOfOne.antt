@@ -1,0 +1,106 @@
+-- A machine that is handed out by its own turn.
+use Rattle.std.proofs.Common.{◌≡◌, ◌≢◌, Bool, true, false, refl, sym, ap, ◌∙◌, subst, ◌∷◌, Some, None}
+use Rattle.std.specs.Option.{IfSome}
+use Rattle.std.specs.BTreeMap.{BTreeMap, WritesThrough, get}
+use Rattle.boxcar.specs.Table.{Shelves}
+use Rattle.forest_tree.specs.Tree.{Tree, machine, Path, subtree}
+use Rattle.forest_history.specs.Places.{out, Spot, placed}
+use Rattle.forest_history.specs.World.{lives_ready, holds}
+use Rattle.forest_history.specs.Rows.{took}
+use Rattle.forest_model.specs.Machine.{Machine}
+use Rattle.forest_model.specs.Forest.{machines}
+use Rattle.run_report.specs.NameOrder.{path_cmp}
+use Rattle.world_core.specs.declared.cell.Cell.{Cell}
+use Rattle.world_core.specs.Shows.{CellShows, Shows}
+use Rattle.world_core.specs.declared.world.World.{World}
+use Rattle.world_core.specs.Waiting.{Waiting, IsListed}
+use Rattle.world_core.specs.World.{Forest, IsDue, ShowsLive, StandsFor}
+use Rattle.world_core.specs.Answers.{Goes, Starts}
+use Rattle.world_core.specs.Popped.{ShowsCells, is_listed_in, with_turn}
+use Rattle.world_core.proofs.Changes.{parent-awake}
+use Rattle.world_core.proofs.Returns.{apart-outside, written-here, written-apart, some-is}
+use Rattle.world_core.proofs.Sleepers.{cell-shows}
+use Rattle.world_core.proofs.TurnOut.{covered-rest, due-apart, listed-apart, unlisted, all-apart, popped, shown-with}
+use Rattle.world_core.proofs.TakenOut.{cells-taken, taken, allows-took}
+
+-- a cell shows the same where its turn is listed or not
+pub relisted : (depot : Shelves) (path : Path) (c : Cell) (listed : Bool) (t : Tree (Spot Machine)) → CellShows depot path c t
+    → CellShows depot path (record c { is_listed = listed }) t
+relisted depot path c listed t h = record {
+  awake = record { lives = h.awake.lives; awake = h.awake.awake };
+  state = h.state;
+  holds = record { tallies = record { log = h.holds.tallies.log; room = h.holds.tallies.room; broods = h.holds.tallies.broods }; broods = h.holds.broods };
+}
+
+module _ (depot : Shelves) (turn : Waiting) (w : World) (f : Forest) (one : turn.children ≡ None) (h : StandsFor depot (with_turn turn w) f)
+    (going : w.outcome ≡ None) where
+  shows-turn : ShowsLive depot (with_turn turn w) f.tree
+  shows-turn = shown-with depot turn w f h going
+
+  -- no live machine of that name is awake
+  pub awake-gone : (cells : BTreeMap Path Cell) → None ≡ get path_cmp w.cells turn.name → ((n : Path) → get path_cmp cells n ≡ get path_cmp w.cells n)
+      → StandsFor depot (record w { cells = cells }) f
+  awake-gone cells none same =
+      let none_now : get path_cmp cells turn.name ≡ None = same turn.name ∙ sym none in
+      popped depot turn w (record w { cells = cells }) f one h going going refl refl (λ n other. same n)
+      (subst (λ c. Shows depot turn.name c (subtree turn.name f.tree)) (sym (same turn.name)) (shows-turn.cells turn.name))
+      (λ ready.
+      let due : IsDue None turn.name (turn ∷ w.ready) = subst (λ c. IsDue c turn.name (turn ∷ w.ready)) (sym none) (shows-turn.ready turn.name ready) in
+      subst (λ c. IsDue c turn.name w.ready) (sym none_now) (covered-rest turn.name turn w.ready one due))
+      (ap is_listed_in none_now)
+
+  module _ (c : Cell) (found : Some c ≡ get path_cmp w.cells turn.name) (cells : BTreeMap Path Cell) (d : Cell)
+      (written : WritesThrough path_cmp (path_cmp turn.name) w.cells d cells) where
+    now-here : get path_cmp cells turn.name ≡ Some d
+    now-here = written-here w.cells cells turn.name d written (some-is c (get path_cmp w.cells turn.name) found)
+
+    now-apart : (n : Path) → turn.name ≢ n → get path_cmp cells n ≡ get path_cmp w.cells n
+    now-apart = written-apart w.cells cells turn.name d written (some-is c (get path_cmp w.cells turn.name) found)
+
+    shown : (t : Tree (Spot Machine)) × (subtree turn.name f.tree ≡ Some t) × CellShows depot turn.name c t
+    shown = cell-shows depot turn.name (get path_cmp w.cells turn.name) c (subtree turn.name f.tree) (sym found) (shows-turn.cells turn.name)
+
+    -- it is not ready
+    pub awake-idle : ((t : Tree (Spot Machine)) → CellShows depot turn.name (record c { is_listed = false }) t
+        → (lives_ready machines t ≡ false) × (d ≡ record c { is_listed = false })) → StandsFor depot (record w { cells = cells }) f
+    awake-idle lent =
+        let still = relisted depot turn.name c false shown.0 shown.2 in
+        let idle = lent shown.0 still in
+        popped depot turn w (record w { cells = cells }) f one h going going refl refl now-apart
+        (subst (λ o. Shows depot turn.name o (subtree turn.name f.tree)) (sym now-here)
+        (subst (Shows depot turn.name (Some d)) (sym shown.1) (subst (λ e. CellShows depot turn.name e shown.0) (sym idle.1) still)))
+        (λ ready.
+        let no : true ≡ false = sym ready ∙ ap (holds machines (lives_ready machines)) shown.1 ∙ idle.0 in absurd (cc))
+        (ap is_listed_in now-here ∙ ap (λ (e : Cell). e.is_listed) idle.1)
+
+    -- it is handed out
+    pub awake-taken : (m : Machine) → w.halted ≡ None → d.is_listed ≡ false
+        → ((t : Tree (Spot Machine)) → CellShows depot turn.name (record c { is_listed = false }) t
+        → (lives_ready machines t ≡ true) × (m ≡ (machine t).machine) × CellShows depot turn.name d (placed out t))
+        → Goes depot f (took turn.name) (record w { cells = cells }) × Starts f (record { name = turn.name; start = m; ran = 0; now = m })
+    awake-taken m unhalted unlisted lent =
+        let taken_as = lent shown.0 (relisted depot turn.name c false shown.0 shown.2) in
+        let before : ShowsCells depot w.cells f.tree = record { sound = h.sound; root = shows-turn.root; shows = shows-turn.cells } in
+        let after : World = record w { cells = cells } in (
+          record {
+            allowed = allows-took f turn.name shows-turn.root.lives (sym h.halted ∙ unhalted) (ap (holds machines (lives_ready machines)) shown.1 ∙ taken_as.0);
+            after = taken depot after f turn.name shown.0 shown.1
+                (cells-taken depot w.cells cells f.tree shown.0 turn.name shown.1 before (λ n other one. now-apart n other)
+                (subst (λ o. Shows depot turn.name o (Some (placed out shown.0))) (sym now-here) taken_as.2)
+                (λ n x none e.
+                parent-awake (placed out) depot turn.name n f.tree shown.0 x (get path_cmp cells n) none e shown.1 shown.2.awake taken_as.2.awake
+                (subst (λ o. Shows depot n o (subtree n f.tree)) (sym (now-apart n (apart-outside turn.name n none))) (shows-turn.cells n))))
+                h.halted going
+                (λ n other ready. due-apart depot turn w after f one h going going refl refl now-apart n other (shows-turn.ready n ready))
+                (all-apart depot turn w after f one h going going refl refl now-apart
+                {P = λ n. IfSome (get path_cmp cells n) (λ (e : Cell). e.is_listed ≡ true → IsListed n w.ready)}
+                (subst (λ o. IfSome o (λ (e : Cell). e.is_listed ≡ true → IsListed turn.name w.ready)) (sym now-here)
+                (λ is. let no : true ≡ false = sym is ∙ unlisted in absurd (cc)))
+                (listed-apart depot turn w after f one h going going refl refl now-apart));
+          },
+          record {
+            ran = refl;
+            now = refl;
+            start = subst (λ o. IfSome o (λ (t : Tree (Spot Machine)). (machine t).machine ≡ m)) (sym shown.1) (sym taken_as.1);
+          },
+        )
