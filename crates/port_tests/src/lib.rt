@@ -13,6 +13,8 @@ mod console;
 #[cfg(test)]
 mod fork;
 #[cfg(test)]
+mod sizes;
+#[cfg(test)]
 mod timer;
 #[cfg(test)]
 mod traps;

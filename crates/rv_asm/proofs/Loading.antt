@@ -2,16 +2,17 @@
 use Rattle.std.proofs.Common.{◌≡◌, ℕ, zero, suc, ◌+◌, ◌-◌, ◌*◌, ◌/◌, ◌%◌, ◌<◌, ◌≤◌, ◌^◌, ◌⊎◌, true, false, not, cond, ltb, List, [], ◌∷◌, ◌++◌, length, get_or, Some, None, Ok, Err, refl, sym, ap, ◌∙◌, inl, inr, subst, arith}
 use Rattle.std.specs.Prelude.{◌||◌, All}
 use Rattle.std.specs.List.{list_any}
-use Rattle.std.proofs.lemmas.Bool.{cases_Bool, cases_lt, cond-true, cond-false, le-ltb, lt-ltb, ltb-true, ltb-false, leb-true, and_parts, or_from, or_left, or_parts}
-use Rattle.std.proofs.lemmas.List.{length-append, length-replicate, get_or-append_right, get_or_append_left, get_or-replicate, get_or_past}
+use Rattle.std.proofs.lemmas.Bool.{cases_Bool, cond-true, cond-false, le-ltb, lt-ltb, ltb-true, ltb-false, leb-true, and_parts, or_from, or_left, or_parts}
+use Rattle.std.proofs.lemmas.List.{get_or-append_right, get_or_append_left}
 use Rattle.std.proofs.lemmas.List.Elements.{All-drop}
 use Rattle.std.proofs.lemmas.List.Sorted.{IsPermutation-refl}
 use Rattle.byteorder.specs.Endian.{little_from}
 use Rattle.flat_memory.specs.Flat.{zeros, word_at}
-use Rattle.elf_load.specs.Elf.{e_entry, segment_at, header_rules, place_rules, first_broken, loads_among, loads_of, segments_of, non_empty, loaded, ram_end, is_entry, is_cut, is_outside, is_overfull}
+use Rattle.flat_memory.proofs.Zeros.{length-zeros, get_or-zeros}
+use Rattle.elf_load.specs.Elf.{e_entry, segment_at, place_rules, first_broken, loads_among, loads_of, segments_of, non_empty, loaded, ram_end, is_entry, is_cut, is_outside, is_overfull}
 use Rattle.elf_load.specs.OneSegment.{word, headers, elf_of, bytes_of_words, image_of_code}
 use Rattle.elf_load.specs.declared.image.TheConstants.{RAM_BASE}
-use Rattle.elf_load.proofs.OneSegment.{loaded-elf_of}
+use Rattle.elf_load.proofs.OneSegment.{entry-elf_of, header-elf_of, length-elf_of, loaded-elf_of, whole_word}
 use Rattle.elf_load.proofs.Rules.{loaded_place_broken}
 use Rattle.elf_load.proofs.Words.{length-bytes_of_words}
 use Rattle.rv_asm.specs.Fit.{IsBuilt, FitsInRam, misfit}
@@ -24,25 +25,6 @@ loads base words pages built fits =
     loaded-elf_of base (bytes_of_words words) pages built.most_pages built.aligned fits.from_base fits.entered (omega (arith, size, fits.room))
 
 -- ---- what is read of the image
-
--- a number below 2 ^ 32 in four bytes
-whole_word : (n : ℕ) → n < 4294967296 → n % 256 + 256 * (n / 256 % 256 + 256 * (n / 65536 % 256 + 256 * (n / 16777216 % 256 + 256 * 0))) ≡ n
-whole_word n small = omega arith
-
-length-elf_of : (base : ℕ) (code : List ℕ) → length (elf_of base code) ≡ 84 + length code
-unfolding elf_of headers
-length-elf_of base code = length-append (headers base (length code)) code
-
-entry-elf_of : (base : ℕ) (code : List ℕ) → base < 4294967296 → e_entry (elf_of base code) ≡ base
-unfolding elf_of headers
-entry-elf_of base code small = whole_word base small
-
-header-elf_of : (base : ℕ) (code : List ℕ) → first_broken (header_rules (elf_of base code)) ≡ None
-unfolding elf_of headers header_rules
-header-elf_of base code =
-    let long = length-elf_of base code in
-    cond-false _ _ _ (le-ltb (length (elf_of base code)) 52 (omega arith))
-    ∙ cond-false _ _ _ (le-ltb (length (elf_of base code)) 84 (omega arith))
 
 -- its one segment, of the program header at 52
 loads_of-elf_of : (base : ℕ) (code : List ℕ) → loads_of (elf_of base code) ≡ segment_at (elf_of base code) 52 ∷ []
@@ -158,18 +140,6 @@ word_at-bytes_of_words (x ∷ words) (suc k) fit within =
     ap (λ i. little_from i 4 (bytes_of_words (x ∷ words))) next
     ∙ little_from-behind (word x) (bytes_of_words words) 4 (4 * k)
     ∙ word_at-bytes_of_words words k (All-drop (λ word. word < 2 ^ 32) 1 (x ∷ words) fit) (omega arith)
-
-length-zeros : (n : ℕ) → length (zeros n) ≡ n
-unfolding zeros
-length-zeros n = length-replicate n 0
-
-get_or-zeros : (n at : ℕ) → get_or (zeros n) at 0 ≡ 0
-unfolding zeros
-get_or-zeros n at =
-    elim (cases_lt at n) [
-      | inl within ↦ get_or-replicate {A = ℕ} n at 0 0 within
-      | inr past ↦ get_or_past _ at 0 (omega (arith, length-replicate {A = ℕ} n 0))
-    ]
 
 pub words_loaded : (base : ℕ) (words : List ℕ) (pages k : ℕ) → FitsInRam base words pages → All (λ word. word < 2 ^ 32) words → k < length words
     → word_at (image_of_code base (bytes_of_words words) pages).ram (base - RAM_BASE + 4 * k) ≡ get_or words k 0

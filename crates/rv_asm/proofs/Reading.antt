@@ -105,8 +105,8 @@ same_fields : {kind kind' : Kind} {rd rd' rs1 rs1' rs2 rs2' : ℕ} {imm imm' : �
 same_fields k d a b i = cc
 
 -- what two tests tell
-both : (a b c d : ℕ) → (ltb a b && ltb c d) ≡ true → (a < b) × (c < d)
-both a b c d h = (ltb-true a b (and_parts _ _ h).0, ltb-true c d (and_parts _ _ h).1)
+both_below : (a b c d : ℕ) → (ltb a b && ltb c d) ≡ true → (a < b) × (c < d)
+both_below a b c d h = (ltb-true a b (and_parts _ _ h).0, ltb-true c d (and_parts _ _ h).1)
 
 -- the fields that are placed beside the bits of a row are those that are read
 pub read_back : (format : Format) (i : Instruction) (bits : ℕ) → IsInFormat format i → leaves format bits ≡ true
@@ -118,24 +118,24 @@ read_back J i bits h free =
     let clear = ltb-true bits 0x80 free in
     same_fields refl (omega arith) (sym h.1) (sym h.2) (j_read bits i.rd i.imm clear h.0 h.3 h.4)
 read_back B i bits h free =
-    let clear = both (bits % 0x1000) 0x80 bits 0x8000 free in
+    let clear = both_below (bits % 0x1000) 0x80 bits 0x8000 free in
     same_fields refl (sym h.0) (omega arith) (omega arith) (b_read bits i.rs1 i.rs2 i.imm clear.0 clear.1 h.1 h.2 h.3 h.4)
 read_back I i bits h free =
-    let clear = both (bits % 0x1000) 0x80 bits 0x8000 free in
+    let clear = both_below (bits % 0x1000) 0x80 bits 0x8000 free in
     same_fields refl (omega arith) (omega arith) (sym h.2) (i_read bits i.rs1 i.rd i.imm clear.0 clear.1 h.1 h.0 h.3)
 read_back S i bits h free =
-    let clear = both (bits % 0x1000) 0x80 bits 0x8000 free in
+    let clear = both_below (bits % 0x1000) 0x80 bits 0x8000 free in
     same_fields refl (sym h.0) (omega arith) (omega arith) (s_read bits i.rs1 i.rs2 i.imm clear.0 clear.1 h.1 h.2 h.3)
 read_back Shift i bits h free =
-    let clear = both (bits % 0x1000) 0x80 (bits % 0x200_0000) 0x8000 free in
+    let clear = both_below (bits % 0x1000) 0x80 (bits % 0x200_0000) 0x8000 free in
     same_fields refl (omega arith) (omega arith) (sym h.2) (shift_read bits i.rs1 i.rd i.imm clear.0 clear.1 h.1 h.0 h.3)
 read_back Csr i bits h free =
-    let clear = both (bits % 0x1000) 0x80 bits 0x8000 free in
+    let clear = both_below (bits % 0x1000) 0x80 bits 0x8000 free in
     same_fields refl (omega arith) (omega arith) (sym h.2) (csr_read bits i.rs1 i.rd i.imm clear.0 clear.1 h.1 h.0 h.3)
 read_back R i bits h free =
-    let clear = both (bits % 0x1000) 0x80 (bits % 0x200_0000) 0x8000 free in
+    let clear = both_below (bits % 0x1000) 0x80 (bits % 0x200_0000) 0x8000 free in
     same_fields refl (omega arith) (omega arith) (omega arith) (sym h.3)
 read_back Lr i bits h free =
-    let clear = both (bits % 0x1000) 0x80 (bits % 0x10_0000) 0x8000 free in
+    let clear = both_below (bits % 0x1000) 0x80 (bits % 0x10_0000) 0x8000 free in
     same_fields refl (omega arith) (omega arith) (sym h.2) (sym h.3)
 read_back Bare i bits h free = same_fields refl (sym h.0) (sym h.1) (sym h.2) (sym h.3)

@@ -4,6 +4,7 @@ ghost use Rattle.std.specs.Prelude.{◌≡◌, ◌+◌, ◌*◌, ◌%◌, ◌≤
 ghost use Rattle.std.specs.List.{flat_map};
 ghost use Rattle.elf_load.specs.OneSegment.{half, bytes_of_words, elf_header, program_header, elf_of};
 
+use flat_memory::push_words;
 use std::alloc::{AllocError, Global};
 
 /// The most words of an image, which fill the greatest RAM.
@@ -81,16 +82,6 @@ fn push_program_header(file: &mut Vec<u8>, base: u32, size: u32) -> Result<(), A
             4,
         ],
     )
-}
-
-/// Adds the bytes of these numbers, little endian.
-fn push_words(file: &mut Vec<u8>, words: &[u32]) -> Result<(), AllocError>
-    ensures { OnOk result (file.new.items ≡ file.old.items ++ bytes_of_words words.now) }
-{
-    for word in words {
-        file.extend_from_slice(&word.to_le_bytes())?;
-    }
-    Ok(())
 }
 
 /// Adds the bytes of these numbers, little endian.

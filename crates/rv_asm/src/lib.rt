@@ -14,6 +14,3 @@ pub use error::AsmError;
 pub use image::{MAX_WORDS, elf_of};
 pub use line::takes_label;
 pub use program::Program;
-
-#[cfg(test)]
-mod tests;

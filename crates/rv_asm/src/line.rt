@@ -20,7 +20,7 @@ pub fn takes_label(kind: Kind) -> bool
 }
 
 /// A line of a program, which is one word.
-#[derive(Clone, Copy, Debug)]
+#[derive(Clone, Copy)]
 pub(crate) enum Line {
     /// An instruction as it is.
     Plain(Instr),
@@ -29,7 +29,7 @@ pub(crate) enum Line {
 }
 
 /// A jump or a branch to a label.
-#[derive(Clone, Copy, Debug)]
+#[derive(Clone, Copy)]
 pub(crate) struct Branch {
     instruction: Instr,
     label: u32,

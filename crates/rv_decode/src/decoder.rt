@@ -44,6 +44,3 @@ fn instr_of_word(kind: Kind, word: u32) -> Instr
         imm,
     }
 }
-
-#[cfg(test)]
-mod tests;

@@ -3,7 +3,7 @@ ghost use Rattle.rv_decode.specs.Kinds.{format_of, group_of};
 
 /// What an instruction does, by its name in the RISC-V Unprivileged ISA 20191213, chapter 24, and for
 /// `Mret` and `Wfi` in the Privileged ISA 20211203, chapter 5.
-#[derive(Clone, Copy, Debug, PartialEq, Eq)]
+#[derive(Clone, Copy)]
 pub enum Kind {
     /// Load upper immediate.
     Lui,
@@ -145,7 +145,7 @@ pub enum Kind {
 
 /// How the fields of an instruction lie in its word (RISC-V Unprivileged ISA 20191213, sections 2.2
 /// and 2.3), and so which it has.
-#[derive(Clone, Copy, Debug, PartialEq, Eq)]
+#[derive(Clone, Copy)]
 pub enum Format {
     /// `rd` and an immediate of the upper 20 bits.
     U,
@@ -171,7 +171,7 @@ pub enum Format {
 }
 
 /// The kinds that are executed alike.
-#[derive(Clone, Copy, Debug, PartialEq, Eq)]
+#[derive(Clone, Copy)]
 pub enum Group {
     /// LUI.
     LoadUpper,
@@ -275,37 +275,6 @@ impl Kind {
             Kind::AmoswapW | Kind::AmoaddW | Kind::AmoxorW | Kind::AmoandW => Group::Amo,
             Kind::AmoorW | Kind::AmominW | Kind::AmomaxW | Kind::AmominuW => Group::Amo,
             Kind::AmomaxuW => Group::Amo,
-        }
-    }
-}
-
-#[cfg(test)]
-mod tests {
-    use super::*;
-
-    #[test]
-    fn has_a_format_and_a_group(rt: HostRuntime) {
-        let kinds = [
-            (Kind::Lui, Format::U, Group::LoadUpper),
-            (Kind::Auipc, Format::U, Group::AddUpper),
-            (Kind::Jal, Format::J, Group::Jump),
-            (Kind::Jalr, Format::I, Group::JumpRegister),
-            (Kind::Bgeu, Format::B, Group::Branch),
-            (Kind::Lhu, Format::I, Group::Load),
-            (Kind::Sh, Format::S, Group::Store),
-            (Kind::Srai, Format::Shift, Group::ComputeImmediate),
-            (Kind::Remu, Format::R, Group::Compute),
-            (Kind::Wfi, Format::Bare, Group::Nothing),
-            (Kind::Ecall, Format::Bare, Group::EnvironmentCall),
-            (Kind::Ebreak, Format::Bare, Group::Breakpoint),
-            (Kind::Mret, Format::Bare, Group::TrapReturn),
-            (Kind::Csrrci, Format::Csr, Group::Csr),
-            (Kind::LrW, Format::Lr, Group::LoadReserved),
-            (Kind::ScW, Format::R, Group::StoreConditional),
-            (Kind::AmomaxuW, Format::R, Group::Amo),
-        ];
-        for (kind, format, group) in kinds {
-            assert_eq!(rt; (kind.format(), kind.group()), (format, group), "{kind:?}");
         }
     }
 }

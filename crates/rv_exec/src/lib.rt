@@ -10,8 +10,6 @@ mod branch;
 mod compute;
 pub mod laws;
 mod memory;
-#[cfg(test)]
-mod tests;
 
 pub use atomic::amo_value;
 pub use branch::branch_taken;

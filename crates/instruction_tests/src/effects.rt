@@ -1,5 +1,7 @@
-use super::*;
+//! What instructions compute, at edge values.
+
 use rv_decode::{Group, Kind};
+use rv_exec::{alu, amo_value, branch_taken, load_value, load_width, store_bytes, store_width};
 
 /// A kind, two words, and what the instruction makes of them: 1 where a branch is taken. A load has no
 /// second word. `tests/edge_values` at the top of the repository computed these lines.
@@ -247,11 +249,11 @@ fn effect(kind: Kind, a: u32, b: u32) -> Option<u32> {
 
 #[test]
 fn has_effects_at_edge_values(rt: HostRuntime) {
-    for &(kind, a, b, want) in EDGE_VALUES.iter() {
+    for (row, &(kind, a, b, want)) in EDGE_VALUES.iter().enumerate() {
         assert_eq!(rt;
             effect(kind, a, b),
             Some(want),
-            "{kind:?} of {a:08x} and {b:08x}"
+            "row {row}, of {a:08x} and {b:08x}"
         );
     }
 }
@@ -263,4 +265,18 @@ fn stores_low_bytes_first(rt: HostRuntime) {
     assert_eq!(rt; store_bytes(Kind::Sb, value), ([0xef, 0xcd, 0xab, 0x89], 1));
     assert_eq!(rt; store_bytes(Kind::Sh, value), ([0xef, 0xcd, 0xab, 0x89], 2));
     assert_eq!(rt; store_bytes(Kind::Sw, value), ([0xef, 0xcd, 0xab, 0x89], 4));
+    let loads = [
+        load_width(Kind::Lb),
+        load_width(Kind::Lh),
+        load_width(Kind::Lw),
+        load_width(Kind::Lbu),
+        load_width(Kind::Lhu),
+    ];
+    assert_eq!(rt; loads, [1, 2, 4, 1, 2]);
+    let stores = [
+        store_width(Kind::Sb),
+        store_width(Kind::Sh),
+        store_width(Kind::Sw),
+    ];
+    assert_eq!(rt; stores, [1, 2, 4]);
 }

@@ -1,0 +1,400 @@
+//! Programs and images: that they are assembled where there is memory, and known words and bytes.
+
+mod guests;
+
+use elf_load::{ImageError, load_elf};
+use guests::{
+    ECHO_BYTE, ECHO_BYTE_WORDS, EXIT_SEVEN, EXIT_SEVEN_WORDS, GRANDCHILD, GRANDCHILD_WORDS,
+    KILL_THEN_JOIN, KILL_THEN_JOIN_WORDS, LOOP_COMPUTE, LOOP_COMPUTE_WORDS, LOOP_MEMORY,
+    LOOP_MEMORY_WORDS, LOOP_MULTIPLY, LOOP_MULTIPLY_WORDS, PRINT_LETTER, PRINT_LETTER_WORDS,
+    TEN_TICKS, TEN_TICKS_WORDS, TIMER_AT_FORK, TIMER_AT_FORK_WORDS, TRAP_HANDLER,
+    TRAP_HANDLER_WORDS, TWO_CHILDREN, TWO_CHILDREN_WORDS, VECTORED_INTERRUPT,
+    VECTORED_INTERRUPT_WORDS, ZEROED_PAGE, ZEROED_PAGE_WORDS,
+};
+use rv_asm::{AsmError, MAX_WORDS, Program, elf_of, encode, takes_label};
+use rv_decode::{Instr, Kind};
+use std::alloc::{AllocError, Global};
+use std::process::Abort;
+use std::test::Fail;
+
+/// Where the example guests are loaded.
+const BASE: u32 = 0x8000_0000;
+
+/// The headers of an image that goes there, up to the sizes of its segment.
+const HEADERS: [u8; 68] = *b"\x7fELF\x01\x01\x01\0\0\0\0\0\0\0\0\0\
+    \x02\0\xf3\0\x01\0\0\0\0\0\0\x80\x34\0\0\0\
+    \0\0\0\0\0\0\0\0\x34\0\x20\0\x01\0\0\0\0\0\0\0\
+    \x01\0\0\0\x54\0\0\0\0\0\0\x80\0\0\0\x80";
+
+/// A line of a guest, with its operands in the order of the assembly language.
+#[derive(Clone, Copy)]
+enum Line {
+    /// rd, and the upper 20 bits.
+    Upper(Kind, u32, u32),
+    /// rd, rs1 and rs2.
+    Registers(Kind, u32, u32, u32),
+    /// rd, rs1, and the immediate.
+    Immediate(Kind, u32, u32, i32),
+    /// rd, and the address as an offset to rs1.
+    Load(Kind, u32, i32, u32),
+    /// rs2, and the address as an offset to rs1.
+    Store(Kind, u32, i32, u32),
+    /// rd, the number of the CSR, and rs1 or the operand.
+    Csr(Kind, u32, i32, u32),
+    /// No operand.
+    Bare(Kind),
+    /// rs1, rs2, and a label.
+    Branch(Kind, u32, u32, u32),
+    /// rd, and a label.
+    Jump(u32, u32),
+    Label(u32),
+}
+
+fn instruction(rt: &impl Abort, kind: Kind, rd: u32, rs1: u32, rs2: u32, imm: i32) -> Instr {
+    Instr::new(kind, rd, rs1, rs2, imm).expect(rt, "fields in range")
+}
+
+/// Adds a jump or a branch to a label.
+fn branch_to(
+    rt: &impl Abort,
+    program: &mut Program,
+    branch: Instr,
+    label: u32,
+) -> Result<(), AsmError> {
+    assert!(rt; takes_label(branch.kind()));
+    program.branch_to(branch, label)
+}
+
+fn add_line(rt: &impl Abort, program: &mut Program, line: Line) -> Result<(), AsmError> {
+    match line {
+        Line::Upper(kind, rd, upper) => {
+            let imm = (upper & 0xf_ffff) << 12;
+            program.push(instruction(rt, kind, rd, 0, 0, imm.cast_signed()))
+        }
+        Line::Registers(kind, rd, rs1, rs2) => {
+            program.push(instruction(rt, kind, rd, rs1, rs2, 0))
+        }
+        Line::Immediate(kind, rd, rs1, imm) => {
+            program.push(instruction(rt, kind, rd, rs1, 0, imm))
+        }
+        Line::Load(kind, rd, imm, rs1) => program.push(instruction(rt, kind, rd, rs1, 0, imm)),
+        Line::Csr(kind, rd, imm, rs1) => program.push(instruction(rt, kind, rd, rs1, 0, imm)),
+        Line::Store(kind, rs2, imm, rs1) => program.push(instruction(rt, kind, 0, rs1, rs2, imm)),
+        Line::Bare(kind) => program.push(instruction(rt, kind, 0, 0, 0, 0)),
+        Line::Branch(kind, rs1, rs2, label) => {
+            branch_to(rt, program, instruction(rt, kind, 0, rs1, rs2, 0), label)
+        }
+        Line::Jump(rd, label) => {
+            branch_to(rt, program, instruction(rt, Kind::Jal, rd, 0, 0, 0), label)
+        }
+        Line::Label(label) => program.place_label(label),
+    }
+}
+
+fn add_lines(rt: &impl Abort, program: &mut Program, lines: &[Line]) -> Result<(), AsmError> {
+    for line in lines {
+        add_line(rt, program, *line)?;
+    }
+    Ok(())
+}
+
+/// The words of these lines.
+fn assembled(rt: &impl Abort, alloc: Global, lines: &[Line]) -> Result<Vec<u32>, AsmError> {
+    let mut program = Program::new(alloc, BASE);
+    add_lines(rt, &mut program, lines)?;
+    program.finish()
+}
+
+/// An instruction that does nothing.
+const NOTHING: Line = Line::Immediate(Kind::Addi, 0, 0, 0);
+
+/// The image of these words.
+fn image_of(alloc: Global, words: &[u32]) -> Result<Vec<u8>, AllocError> {
+    let size = u32::try_from(4 * words.len().min(MAX_WORDS)).unwrap_or(0);
+    let mut image = Vec::from_slice(alloc, &HEADERS)?;
+    for field in [size, size, 7, 4] {
+        image.extend_from_slice(&field.to_le_bytes())?;
+    }
+    for word in words {
+        image.extend_from_slice(&word.to_le_bytes())?;
+    }
+    Ok(image)
+}
+
+/// The image of these words is that of the words that are wanted.
+fn is_image_of(rt: &impl Abort, alloc: Global, words: &[u32], want: &[u32]) -> Result<(), Fail> {
+    assert_eq!(rt; words, want);
+    assert!(rt; words.len() <= MAX_WORDS);
+    let image = elf_of(alloc, BASE, words)?;
+    let stored = image_of(alloc, want)?;
+    assert_eq!(rt; image.as_slice(), stored.as_slice());
+    Ok(())
+}
+
+/// These lines are assembled to the words that are wanted.
+fn is_assembled(rt: &impl Abort, alloc: Global, lines: &[Line], want: &[u32]) -> Result<(), Fail> {
+    let words = assembled(rt, alloc, lines)?;
+    is_image_of(rt, alloc, &words, want)
+}
+
+#[test]
+fn assembles_the_example_guests(rt: HostRuntime) -> Result<(), Fail> {
+    is_assembled(&rt, rt.alloc(), &EXIT_SEVEN, &EXIT_SEVEN_WORDS)?;
+    is_assembled(&rt, rt.alloc(), &PRINT_LETTER, &PRINT_LETTER_WORDS)?;
+    is_assembled(&rt, rt.alloc(), &ECHO_BYTE, &ECHO_BYTE_WORDS)?;
+    is_assembled(&rt, rt.alloc(), &TRAP_HANDLER, &TRAP_HANDLER_WORDS)?;
+    is_assembled(
+        &rt,
+        rt.alloc(),
+        &VECTORED_INTERRUPT,
+        &VECTORED_INTERRUPT_WORDS,
+    )?;
+    is_assembled(&rt, rt.alloc(), &TEN_TICKS, &TEN_TICKS_WORDS)?;
+    is_assembled(&rt, rt.alloc(), &LOOP_COMPUTE, &LOOP_COMPUTE_WORDS)?;
+    is_assembled(&rt, rt.alloc(), &LOOP_MEMORY, &LOOP_MEMORY_WORDS)?;
+    is_assembled(&rt, rt.alloc(), &LOOP_MULTIPLY, &LOOP_MULTIPLY_WORDS)?;
+    is_assembled(&rt, rt.alloc(), &TWO_CHILDREN, &TWO_CHILDREN_WORDS)?;
+    is_assembled(&rt, rt.alloc(), &KILL_THEN_JOIN, &KILL_THEN_JOIN_WORDS)?;
+    is_assembled(&rt, rt.alloc(), &GRANDCHILD, &GRANDCHILD_WORDS)?;
+    is_assembled(&rt, rt.alloc(), &ZEROED_PAGE, &ZEROED_PAGE_WORDS)?;
+    is_assembled(&rt, rt.alloc(), &TIMER_AT_FORK, &TIMER_AT_FORK_WORDS)?;
+    Ok(())
+}
+
+/// Three lines, and their first and last word and how many there are.
+static LABELLED: [(Line, Line, Line, Result<(u32, u32, usize), AsmError>); 4] = [
+    (
+        Line::Jump(0, 1),
+        NOTHING,
+        Line::Label(1),
+        Ok((0x0080_006f, 0x0000_0013, 2)),
+    ),
+    (
+        Line::Label(1),
+        NOTHING,
+        Line::Branch(Kind::Bne, 1, 2, 1),
+        Ok((0x0000_0013, 0xfe20_9ee3, 2)),
+    ),
+    (
+        Line::Jump(0, 1),
+        NOTHING,
+        NOTHING,
+        Err(AsmError::UnplacedLabel),
+    ),
+    (
+        Line::Label(1),
+        NOTHING,
+        Line::Label(1),
+        Err(AsmError::LabelPlacedTwice),
+    ),
+];
+
+fn ends_of(words: &[u32]) -> (u32, u32, usize) {
+    let first = words.first().copied().unwrap_or(0);
+    let last = words.last().copied().unwrap_or(0);
+    (first, last, words.len())
+}
+
+fn ends_of_lines(
+    rt: &impl Abort,
+    alloc: Global,
+    lines: &[Line],
+) -> Result<(u32, u32, usize), AsmError> {
+    let words = assembled(rt, alloc, lines)?;
+    Ok(ends_of(&words))
+}
+
+#[test]
+fn takes_labels_before_and_behind(rt: HostRuntime) {
+    for &(first, second, third, want) in LABELLED.iter() {
+        let found = ends_of_lines(&rt, rt.alloc(), &[first, second, third]);
+        assert_eq!(rt; found, want);
+    }
+}
+
+/// Adds two lines, and the label 1 behind 1,025 words more.
+fn add_before_a_far_label(
+    rt: &impl Abort,
+    program: &mut Program,
+    first: Line,
+    second: Line,
+) -> Result<(), AsmError> {
+    add_lines(rt, program, &[first, second])?;
+    for _ in 0..1025 {
+        add_line(rt, program, NOTHING)?;
+    }
+    program.place_label(1)
+}
+
+/// The error of these lines, where the label 1 stands 1,025 words behind them.
+fn error_of(
+    rt: &impl Abort,
+    alloc: Global,
+    first: Line,
+    second: Line,
+) -> Result<Option<AsmError>, AsmError> {
+    let mut program = Program::new(alloc, BASE);
+    add_before_a_far_label(rt, &mut program, first, second)?;
+    Ok(program.finish().err())
+}
+
+/// A branch to a label that is too far away for it.
+const FAR: Line = Line::Branch(Kind::Beq, 0, 0, 1);
+
+/// A jump to a label that is placed nowhere.
+const UNPLACED: Line = Line::Jump(0, 2);
+
+static FIRST_ERRORS: [(Line, Line, Option<AsmError>); 3] = [
+    (FAR, UNPLACED, Some(AsmError::OffsetOutOfRange)),
+    (UNPLACED, FAR, Some(AsmError::UnplacedLabel)),
+    (NOTHING, NOTHING, None),
+];
+
+#[test]
+fn names_the_first_error(rt: HostRuntime) {
+    for (row, &(first, second, want)) in FIRST_ERRORS.iter().enumerate() {
+        let error = error_of(&rt, rt.alloc(), first, second);
+        assert_eq!(rt; error, Ok(want), "row {row}");
+    }
+}
+
+/// Places the label 1 a second time, between its place and a jump to it.
+fn place_twice(rt: &impl Abort, program: &mut Program) -> Result<(), AsmError> {
+    program.place_label(1)?;
+    add_line(rt, program, NOTHING)?;
+    assert_eq!(rt; program.place_label(1), Err(AsmError::LabelPlacedTwice));
+    add_line(rt, program, Line::Jump(0, 1))?;
+    assert_eq!(rt; program.base(), BASE);
+    Ok(())
+}
+
+#[test]
+fn a_label_that_is_placed_twice_stays(rt: HostRuntime) -> Result<(), Fail> {
+    let mut program = Program::new(rt.alloc(), BASE);
+    place_twice(&rt, &mut program)?;
+    let words = program.finish()?;
+    assert_eq!(rt; words.as_slice(), [0x0000_0013, 0xffdf_f06f].as_slice());
+    Ok(())
+}
+
+fn add_nothing(rt: &impl Abort, program: &mut Program, count: usize) -> Result<(), AsmError> {
+    for _ in 0..count {
+        add_line(rt, program, NOTHING)?;
+    }
+    Ok(())
+}
+
+/// Adds a branch to a label so many words ahead, or behind it.
+fn add_far(
+    rt: &impl Abort,
+    program: &mut Program,
+    branch: Line,
+    ahead: usize,
+    behind: usize,
+) -> Result<(), AsmError> {
+    if ahead == 0 {
+        program.place_label(1)?;
+    }
+    add_nothing(rt, program, behind)?;
+    add_line(rt, program, branch)?;
+    if ahead != 0 {
+        add_nothing(rt, program, ahead - 1)?;
+        program.place_label(1)?;
+    }
+    Ok(())
+}
+
+/// The word of that branch.
+fn far_word(
+    rt: &impl Abort,
+    alloc: Global,
+    branch: Line,
+    ahead: usize,
+    behind: usize,
+) -> Result<u32, AsmError> {
+    let mut program = Program::new(alloc, BASE);
+    add_far(rt, &mut program, branch, ahead, behind)?;
+    Ok(program.finish()?.get(behind).copied().unwrap_or(0))
+}
+
+/// A branch, how many words its label is ahead or behind, and the word.
+static REACHES: [(Line, usize, usize, Result<u32, AsmError>); 9] = [
+    (FAR, 1023, 0, Ok(0x7e00_0ee3)),
+    (FAR, 1024, 0, Err(AsmError::OffsetOutOfRange)),
+    (FAR, 1025, 0, Err(AsmError::OffsetOutOfRange)),
+    (FAR, 0, 1024, Ok(0x8000_0063)),
+    (FAR, 0, 1025, Err(AsmError::OffsetOutOfRange)),
+    (Line::Jump(0, 1), 0x3_ffff, 0, Ok(0x7fdf_f06f)),
+    (
+        Line::Jump(0, 1),
+        0x4_0000,
+        0,
+        Err(AsmError::OffsetOutOfRange),
+    ),
+    (Line::Jump(0, 1), 0, 0x4_0000, Ok(0x8000_006f)),
+    (
+        Line::Jump(0, 1),
+        0,
+        0x4_0001,
+        Err(AsmError::OffsetOutOfRange),
+    ),
+];
+
+#[test]
+fn reaches_as_far_as_the_format(rt: HostRuntime) {
+    for &(line, ahead, behind, want) in REACHES.iter() {
+        let word = far_word(&rt, rt.alloc(), line, ahead, behind);
+        assert_eq!(rt; word, want, "{ahead} ahead, {behind} behind");
+    }
+}
+
+/// A kind, its registers, and the word.
+static IGNORED_BITS: [(Kind, u32, u32, u32, u32); 6] = [
+    (Kind::Fence, 0, 0, 0, 0x0000_000f),
+    (Kind::FenceI, 0, 0, 0, 0x0000_100f),
+    (Kind::LrW, 5, 6, 0, 0x1003_22af),
+    (Kind::ScW, 5, 6, 7, 0x1873_22af),
+    (Kind::AmoaddW, 1, 2, 3, 0x0031_20af),
+    (Kind::AmomaxuW, 31, 31, 31, 0xe1ff_afaf),
+];
+
+#[test]
+fn writes_ignored_bits_as_zeros(rt: HostRuntime) {
+    for &(kind, rd, rs1, rs2, want) in IGNORED_BITS.iter() {
+        let word = encode(&instruction(&rt, kind, rd, rs1, rs2, 0));
+        assert_eq!(rt; word, want);
+    }
+}
+
+/// An address, how many words go there, and the entry or the refusal.
+static PLACES: [(u32, usize, Result<u32, ImageError>); 6] = [
+    (0x8000_0000, 2, Ok(0x8000_0000)),
+    (0x8000_fffc, 1, Ok(0x8000_fffc)),
+    (0x8000_fffc, 2, Err(ImageError::Refused(10))),
+    (0x7fff_fffc, 2, Err(ImageError::Refused(10))),
+    (0x8000_fffc, 0, Ok(0x8000_fffc)),
+    (0x8001_0000, 0, Err(ImageError::Refused(12))),
+];
+
+/// Where the image of these words is entered.
+fn entry_of(
+    rt: &impl Abort,
+    alloc: Global,
+    base: u32,
+    words: &[u32],
+) -> Result<Result<u32, ImageError>, AllocError> {
+    assert!(rt; base % 4 == 0);
+    assert!(rt; words.len() <= MAX_WORDS);
+    let image = elf_of(alloc, base, words)?;
+    Ok(load_elf(alloc, &image, 16).map(|loaded| loaded.entry()))
+}
+
+#[test]
+fn images_are_loaded_where_they_fit(rt: HostRuntime) -> Result<(), Fail> {
+    let words = [0x0000_0013; 2];
+    for &(base, count, want) in PLACES.iter() {
+        let entry = entry_of(&rt, rt.alloc(), base, words.get(..count).unwrap_or(&[]))?;
+        assert_eq!(rt; entry, want, "{count} words at {base:#x}");
+    }
+    Ok(())
+}

@@ -1,0 +1,15 @@
+//! Tests of instructions by public calls: the table of instruction words against words that were encoded by
+//! hand, results at edge values, and known words and images of programs. They stand here and not in the crates
+//! of the calls, since a crate with tests is proved twice, and this one has nothing else.
+#![tactic(auto)]
+
+#[cfg(test)]
+mod assembly;
+#[cfg(test)]
+mod decoding;
+#[cfg(test)]
+mod effects;
+#[cfg(test)]
+mod fields;
+#[cfg(test)]
+mod rows;

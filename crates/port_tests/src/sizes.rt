@@ -1,0 +1,16 @@
+//! Sizes and limits, which other crates take from the ports.
+
+use block_port::registers::BLOCK_SIZE;
+use console_port::MAX_INPUT;
+use console_port::registers::CONSOLE_SIZE;
+use fork_port::refusals::TICKETS_END;
+use fork_port::registers::FORK_SIZE;
+use vm_bus::addresses::{BLOCK_BASE, CONSOLE_BASE, FORK_BASE, TIMER_BASE};
+
+#[test]
+fn sizes_and_limits_by_their_numbers(rt: HostRuntime) {
+    let bases = [TIMER_BASE, CONSOLE_BASE, BLOCK_BASE, FORK_BASE];
+    assert_eq!(rt; bases, [0x0200_4000, 0x1000_0000, 0x1000_1000, 0x1000_2000]);
+    assert_eq!(rt; [CONSOLE_SIZE, BLOCK_SIZE, FORK_SIZE], [8, 0x400, 40]);
+    assert_eq!(rt; (MAX_INPUT, TICKETS_END), (65_536, 0xffff_fffa));
+}
