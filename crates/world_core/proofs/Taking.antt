@@ -6,7 +6,6 @@ use Rattle.std.specs.Result.{IsErr}
 use Rattle.std.specs.declared.alloc.AllocError.{AllocError}
 use Rattle.std.specs.BTreeMap.{BTreeMap, Updates, WritesThrough, get}
 use Rattle.std.specs.Ordering.{nat_cmp}
-use Rattle.boxcar.specs.Table.{Shelves}
 use Rattle.forest_tree.specs.Operations.{Call, clone, join, kill, is_cloned}
 use Rattle.forest_tree.specs.Tree.{Tree, node, Trees, no_tree, tree, Broods, no_brood, Log, no_entry, machine, broods_of, brood_of, broods_with, child_at, at_child, at_brood, Branch, Path, subtree, beyond}
 use Rattle.forest_tree.specs.Settle.{alone, has_ended, have_ended, waits_by, waits}
@@ -21,7 +20,7 @@ use Rattle.forest_history.specs.Rows.{over, stopped, idle, took, nothing, Allows
 use Rattle.forest_history.proofs.Ends.{at_path-keeps, placed-keeps}
 use Rattle.forest_model.specs.Machine.{Machine}
 use Rattle.forest_model.specs.Forest.{machines}
-use Rattle.image_depot.specs.Key.{Key}
+use Rattle.image_depot.specs.Key.{Shelves, Key}
 use Rattle.run_report.specs.Name.{child_path}
 use Rattle.run_report.specs.NameOrder.{path_cmp}
 use Rattle.run_report.proofs.NameMaps.{updated-here, updated-apart}
