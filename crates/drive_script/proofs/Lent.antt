@@ -1,7 +1,7 @@
 -- A machine on lease from a world that has all other machines of a tree at home.
 use Rattle.std.proofs.Common.{rules, ◌≡◌, ℕ, ◌+◌, ◌&&◌, ◌||◌, not, Bool, true, false, refl, sym, ap, ◌∙◌, subst, arith, Option, Some, None, IsSome, IfSome, MatchOption, IsSomeAnd, is_some, option_map, option_and_then, Ok}
 use Rattle.std.proofs.lemmas.Bool.{and_parts, not-true}
-use Rattle.boxcar.specs.Table.{Shelves}
+use Rattle.image_depot.specs.Key.{Shelves}
 use Rattle.fork_port.specs.declared.commands.Call.{Call}
 use Rattle.fork_port.specs.declared.ending.Ending.{Ending}
 use Rattle.forest_tree.specs.Tree.{Tree, node, Broods, Log, Path, machine, subtree}

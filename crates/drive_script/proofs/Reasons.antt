@@ -1,7 +1,7 @@
 -- A world keeps its reason to stop.
 use Rattle.std.proofs.Common.{◌≡◌, refl, sym, ◌∙◌, Option, Some, None, Result, Ok, Err}
 use Rattle.std.specs.declared.alloc.AllocError.{AllocError}
-use Rattle.boxcar.specs.Table.{Shelves}
+use Rattle.image_depot.specs.Key.{Shelves}
 use Rattle.forest_tree.specs.Tree.{Path}
 use Rattle.forest_history.specs.Rows.{How, waited, took, spent, dropped, kept, does}
 use Rattle.forest_model.specs.Forest.{machines}

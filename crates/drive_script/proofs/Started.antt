@@ -1,6 +1,6 @@
 -- The world of one machine.
 use Rattle.std.proofs.Common.{◌≡◌, refl}
-use Rattle.boxcar.specs.Table.{Shelves}
+use Rattle.image_depot.specs.Key.{Shelves}
 use Rattle.forest_tree.specs.Projection.{map_tree}
 use Rattle.forest_tree.specs.Settle.{alone}
 use Rattle.forest_history.specs.Places.{bare}

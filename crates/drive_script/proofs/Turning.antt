@@ -1,6 +1,6 @@
 -- What a machine did in its turn.
 use Rattle.std.proofs.Common.{◌≡◌, ◌≢◌, ℕ, ◌+◌, ◌-◌, ◌<◌, ◌≤◌, ◌⊎◌, ◌&&◌, ◌||◌, not, inl, inr, Bool, true, false, refl, sym, ap, ap₂, ◌∙◌, subst, arith, replicate, Option, Some, None, IsSome, IfSome, MatchOption, IsSomeAnd, is_some, Ok}
-use Rattle.boxcar.specs.Table.{Shelves}
+use Rattle.image_depot.specs.Key.{Shelves}
 use Rattle.fork_port.specs.declared.commands.Call.{Call}
 use Rattle.fork_port.specs.declared.ending.Ending.{Ending}
 use Rattle.forest_tree.specs.Tree.{Tree, node, machine, subtree}

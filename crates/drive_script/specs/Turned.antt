@@ -2,7 +2,7 @@
 -- at home again.
 use Rattle.std.specs.Prelude.{◌≡◌, true, false, ℕ, ◌<◌, ◌≤◌, Option, Some, None, IsSome, IfSome, IsSomeAnd, Result, Ok, Err, replicate}
 use Rattle.std.specs.declared.alloc.AllocError.{AllocError}
-use Rattle.boxcar.specs.Table.{Shelves}
+use Rattle.image_depot.specs.Key.{Shelves}
 use Rattle.fork_port.specs.declared.ending.Ending.{Ending}
 use Rattle.fork_port.specs.declared.ending.Ending.TheVariants.{Exit, Limit}
 use Rattle.forest_tree.specs.Tree.{Tree, node, Path, machine, subtree}

@@ -1,7 +1,7 @@
 //! A machine's turn: it is taken, runs up to its next call and comes back.
 
 ghost use Rattle.std.specs.Prelude.{◌≡◌, ◌+◌, IsSome, IsSomeAnd, MatchResult};
-ghost use Rattle.boxcar.specs.Table.{Shelves};
+ghost use Rattle.image_depot.specs.Key.{Shelves};
 ghost use Rattle.forest_tree.specs.Tree.{Tree, subtree};
 ghost use Rattle.forest_model.specs.Machine.{Machine};
 ghost use Rattle.forest_model.specs.Forest.{machines};

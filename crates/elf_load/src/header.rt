@@ -30,7 +30,7 @@ pub const EM_RISCV: u16 = 243;
 pub const PN_XNUM: u16 = 0xffff;
 
 /// What the loader takes from an ELF header.
-#[derive(Clone, Copy, Debug)]
+#[derive(Clone, Copy)]
 pub(crate) struct Header {
     /// The address of the first instruction.
     pub(crate) entry: u32,

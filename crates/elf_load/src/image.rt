@@ -17,7 +17,7 @@ pub const MAX_PAGES: u32 = 1024;
 
 /// What an image puts into a machine: the bytes of RAM from `RAM_BASE` on, the address of the first
 /// instruction, and for each page of RAM whether a byte of a segment falls in it.
-#[derive(Debug, Drop)]
+#[derive(Drop)]
 pub struct Loaded {
     pub(crate) ram: Vec<u8>,
     pub(crate) entry: u32,

@@ -16,7 +16,7 @@ pub const PROGRAM_HEADER_SIZE: usize = 32;
 pub const PT_LOAD: u32 = 1;
 
 /// A segment of a file: bytes that go to RAM, and zeros behind them.
-#[derive(Clone, Copy, Debug)]
+#[derive(Clone, Copy)]
 pub(crate) struct Segment {
     /// The place of its bytes in the file.
     pub(crate) offset: u32,

@@ -1,39 +1,46 @@
 ghost use Rattle.std.specs.Prelude.{◌≡◌, ◌*◌, ◌^◌, ◌<◌, ◌≤◌, length, IfOk};
 ghost use Rattle.image_depot.specs.Image.{page_count};
 ghost use Rattle.image_depot.specs.Key.{number_of, image_of, IsKeyOf};
+ghost use Rattle.image_depot.specs.Reply.{reply_of, IsSentOf};
 
 use crate::frozen::Frozen;
 use crate::key::ImageKey;
+use crate::parcel::Parcel;
+use crate::sent::Sent;
 use boxcar::Pushed;
 use elf_load::MAX_PAGES;
+use fetch_proto::encode_reply;
 use page_frames::PAGE_SIZE;
 use std::alloc::{AllocError, Global};
 use std::marker::Model;
 use std::sync::Wait;
 use std::thread;
 
-/// All frozen images. Threads share it, and an image stays where it was put until the depot ends.
+/// All frozen images, and all replies that were sent. Threads share it, and what was put into it stays
+/// there until the depot ends.
 #[derive(Drop)]
 pub struct Depot {
     images: boxcar::Vec<Frozen>,
+    replies: boxcar::Vec<Parcel>,
     alloc: Global,
 }
 
 impl Model for Depot {
-    ghost use Rattle.boxcar.specs.Table.{Shelves, shelves_coded};
+    ghost use Rattle.image_depot.specs.Key.{Shelves, depot_coded};
 
     ghost Value = { Shelves };
 
-    ghost coded = { shelves_coded };
+    ghost coded = { depot_coded };
 
-    ghost view = { λ d. d.images };
+    ghost view = { λ d. record { images = d.images; replies = d.replies } };
 }
 
 impl Depot {
-    /// A depot without images.
+    /// A depot without images and replies.
     pub fn new(alloc: Global) -> Result<Depot, AllocError> {
         Ok(Depot {
             images: boxcar::Vec::new(alloc)?,
+            replies: boxcar::Vec::new(alloc)?,
             alloc,
         })
     }
@@ -79,6 +86,41 @@ impl Depot {
         ensures { image_of first.now ≡ image_of second.now }
     {
         self.images.agrees(first.token(), second.token());
+    }
+
+    /// The reply to a request for a page of an image. The page is copied into it once, and it waits for
+    /// no other thread.
+    pub fn answer(&self, key: &ImageKey, page: u32) -> Result<Parcel, AllocError>
+        requires here { IsKeyOf self.now key.now }
+        requires there { page < page_count (image_of key.now) }
+        ensures { IfOk result (λ parcel. parcel ≡ record { key = key.now; page = page }) }
+    {
+        let bytes = self.frozen(key).page(page);
+        let reply = encode_reply(self.alloc, key.number(), page, bytes)?;
+        Ok(Parcel::of_reply(key.again()?, page, reply))
+    }
+
+    /// Keeps a parcel. It may wait for another thread that keeps one.
+    pub fn push<R: Wait>(&self, rt: &R, parcel: Parcel) -> Result<Sent, AllocError>
+        requires { IsKeyOf self.now parcel.key }
+        ensures here { IfOk result (λ sent. IsSentOf self.now sent) }
+        ensures value { IfOk result (λ sent. reply_of sent ≡ parcel) }
+    {
+        let image = parcel.key().number();
+        let page = parcel.page();
+        let Ok(token) = self.replies.push_shown(rt, parcel) else {
+            return Err(AllocError);
+        };
+        Sent::of_token(self.alloc, token, image, page)
+    }
+
+    /// The parcel that was pushed. No later call changes it, and it takes no memory.
+    #[inline]
+    pub fn sent(&self, sent: &Sent) -> &Parcel
+        requires { IsSentOf self.now sent.now }
+        ensures { result.now ≡ reply_of sent.now }
+    {
+        self.replies.value(sent.token())
     }
 }
 

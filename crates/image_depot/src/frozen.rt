@@ -1,5 +1,6 @@
 ghost use Rattle.std.specs.Prelude.{◌≡◌, ◌+◌, ◌*◌, ◌%◌, ◌<◌, ◌≤◌, [], ◌∷◌, length, IfOk};
 ghost use Rattle.image_depot.specs.Image.{image_of_tables, own_table, page_count, page_word};
+ghost use Rattle.image_depot.specs.Reply.{page_bytes};
 ghost use Rattle.page_frames.specs.Tables.{flat_bytes};
 
 use crate::table::Table;
@@ -94,6 +95,16 @@ impl Frozen {
         ensures { result ≡ page_word self.now page at }
     {
         self.entries()[page as usize].word(at)
+    }
+
+    /// The bytes of a page.
+    #[inline]
+    pub(crate) fn page(&self, page: u32) -> &[u8; PAGE_SIZE]
+        requires { page < page_count self.now }
+        ensures value { result.now ≡ page_bytes self.now page }
+        ensures whole { length (page_bytes self.now page) ≡ PAGE_SIZE }
+    {
+        self.entries()[page as usize].bytes()
     }
 
     /// The entries of its own table.

@@ -1,11 +1,12 @@
 -- The memory of a page table, byte by byte.
-use Rattle.std.proofs.Common.{◌≡◌, ◌≢◌, ℕ, zero, suc, ◌+◌, ◌-◌, ◌*◌, ◌/◌, ◌%◌, ◌<◌, ◌≤◌, ◌⊎◌, inl, inr, List, length, get_or, refl, sym, ap, ◌∙◌, subst, arith}
+use Rattle.std.proofs.Common.{◌≡◌, ◌≢◌, ℕ, zero, suc, ◌+◌, ◌-◌, ◌*◌, ◌/◌, ◌%◌, ◌<◌, ◌≤◌, ◌⊎◌, inl, inr, List, length, take, drop, get_or, refl, sym, ap, ◌∙◌, subst, arith}
 use Rattle.std.proofs.Math.ListN.{set, length-set}
 use Rattle.std.proofs.lemmas.Bool.{cases_lt}
-use Rattle.std.proofs.lemmas.List.{ext_get_or, get_or_past, get_or-replicate, get_or-set_same, get_or-set_other, length-replicate}
+use Rattle.std.proofs.lemmas.List.{ext_get_or, get_or-drop, get_or-set_same, get_or-set_other, get_or-take, length-drop, length-take-le}
 use Rattle.std.proofs.lemmas.List.FromFn.{length-map-range_with_len, get_or-map-range_with_len}
 use Rattle.byteorder.specs.Endian.{little_from}
 use Rattle.flat_memory.specs.Flat.{put_bytes, zeros}
+use Rattle.flat_memory.proofs.ByteLists.{get_or-zeros}
 use Rattle.flat_memory.proofs.Bytes.{get_or-put_bytes, get_or-put_bytes_outside, length-put_bytes}
 use Rattle.page_frames.specs.declared.page.TheConstants.{PAGE_SIZE}
 use Rattle.page_frames.specs.declared.entry.Entry.{Entry}
@@ -13,17 +14,6 @@ use Rattle.page_frames.specs.declared.entry.Entry.TheVariants.{Blank}
 use Rattle.page_frames.specs.Tables.{paged, entry_bytes, entry_at, flat_bytes}
 
 -- ---- zeros
-
-pub length-zeros : (n : ℕ) → length (zeros n) ≡ n
-unfolding zeros
-length-zeros n = length-replicate n 0
-
-pub get_or-zeros : (n at : ℕ) → get_or (zeros n) at 0 ≡ 0
-unfolding zeros
-get_or-zeros n at = elim (cases_lt at n) [
-  | inl below ↦ get_or-replicate n at 0 0 below
-  | inr past ↦ get_or_past (zeros n) at 0 (omega (arith, length-zeros n))
-]
 
 pub little_from-zeros : (at n size : ℕ) → little_from at n (zeros size) ≡ 0
 little_from-zeros at zero size = refl
@@ -89,6 +79,17 @@ pub number_of_page : (entries : List Entry) (page at n : ℕ) → page < length 
 number_of_page entries page at n there within =
     little_from_same n (PAGE_SIZE * page + at) at (flat_bytes entries) (entry_bytes (entry_at entries page))
     (λ k below. ap (λ p. get_or (flat_bytes entries) p 0) (omega arith) ∙ byte_of_page entries page (at + k) there (omega arith))
+
+-- the bytes of one page
+pub bytes_of_page : (entries : List Entry) (page : ℕ) → page < length entries → length (entry_bytes (entry_at entries page)) ≡ PAGE_SIZE
+    → take PAGE_SIZE (drop (PAGE_SIZE * page) (flat_bytes entries)) ≡ entry_bytes (entry_at entries page)
+bytes_of_page entries page there whole =
+    let left = drop (PAGE_SIZE * page) (flat_bytes entries) in
+    let enough : PAGE_SIZE ≤ length left = omega (arith, length-flat_bytes entries, length-drop (PAGE_SIZE * page) (flat_bytes entries)) in
+    let size : length (take PAGE_SIZE left) ≡ PAGE_SIZE = length-take-le PAGE_SIZE left enough in
+    ext_get_or 0 (take PAGE_SIZE left) (entry_bytes (entry_at entries page)) (size ∙ sym whole)
+    (λ at below. let within : at < PAGE_SIZE = subst (λ n. at < n) size below in
+    get_or-take PAGE_SIZE left at 0 within ∙ get_or-drop (PAGE_SIZE * page) (flat_bytes entries) at 0 ∙ byte_of_page entries page at there within)
 
 -- ---- writes
 

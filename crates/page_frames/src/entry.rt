@@ -29,6 +29,18 @@ impl Clone for Entry {
 }
 
 impl Entry {
+    /// All bytes of the page.
+    #[inline]
+    pub fn bytes(&self) -> &[u8; PAGE_SIZE]
+        ensures value { result.now ≡ entry_bytes self.now }
+        ensures whole { length (entry_bytes self.now) ≡ PAGE_SIZE }
+    {
+        match self {
+            Entry::Held(page) => page.bytes(),
+            Entry::Blank => &[0; PAGE_SIZE],
+        }
+    }
+
     /// The 32-bit number in the four bytes from a place of the page on.
     #[inline]
     pub fn word(&self, at: u32) -> u32

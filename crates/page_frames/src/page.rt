@@ -70,6 +70,15 @@ impl Page {
         })
     }
 
+    /// All its bytes.
+    #[inline]
+    pub fn bytes(&self) -> &[u8; PAGE_SIZE]
+        ensures value { result.now ≡ self.now }
+        ensures whole { length self.now ≡ PAGE_SIZE }
+    {
+        &self.frame.bytes
+    }
+
     /// The byte at a place.
     #[inline]
     pub fn byte(&self, at: u32) -> u8

@@ -1,7 +1,7 @@
 -- A turn of a family that runs in one thread.
 use Rattle.std.proofs.Common.{◌≡◌, ◌≢◌, ◌<◌, ◌^◌, ℕ, true, false, List, [], Option, Some, None, IsSome, IfSome, MatchOption, Result, Ok, Err, OnOk, refl, sym, ap, ◌∙◌, subst}
 use Rattle.std.specs.Option.{option_map}
-use Rattle.boxcar.specs.Table.{Shelves}
+use Rattle.image_depot.specs.Key.{Shelves}
 use Rattle.elf_load.specs.Image.{Image}
 use Rattle.forest_tree.specs.Projection.{map_tree}
 use Rattle.forest_tree.specs.Settle.{alone, has_ended}

@@ -1,6 +1,6 @@
 -- What the run of a family comes to.
 use Rattle.std.specs.Prelude.{◌≡◌, ℕ, true, Option, Some, None}
-use Rattle.boxcar.specs.Table.{Shelves}
+use Rattle.image_depot.specs.Key.{Shelves}
 use Rattle.drive_script.specs.Driven.{HasMachines}
 use Rattle.forest_tree.specs.Tree.{Tree, machine, subtree}
 use Rattle.forest_tree.specs.Settle.{has_ended}

@@ -2,7 +2,7 @@
 use Rattle.std.proofs.Common.{◌≡◌, ◌≤◌, ◌+◌, ◌%◌, ℕ, List, length, refl, true, false, take, Some, None}
 use Rattle.std.specs.Prelude.{Bool, not, ◌&&◌, ◌==◌, nat_lt, nat_le, if◌then◌else◌, Option, codes}
 use Rattle.std.specs.Str.{bytes_eq}
-use Rattle.std.proofs.lemmas.Bool.{ltb-false, leb-true, not-false}
+use Rattle.std.proofs.lemmas.Bool.{and_parts, ltb-false, leb-true, not-false}
 use Rattle.flat_memory.specs.Flat.{word_at}
 use Rattle.vm_descriptor.specs.Described.{double_at, map_size, is_page_count, is_clone, are_csrs, is_within_limit, is_reservation, are_ports, fields_in_range, has_spare_bit, refused}
 
@@ -37,10 +37,6 @@ accepted bytes none =
       clear = six.0;
     }
 
-pub both : (a b : Bool) → (a && b) ≡ true → (a ≡ true) × (b ≡ true)
-both true b is = (refl, is)
-both false b is = absurd (cc)
-
 -- each field is in its range
 pub record AreInRange (bytes : List ℕ) : Type 0 where
   pub clone : is_clone (word_at bytes 12) (word_at bytes 16) ≡ true
@@ -53,16 +49,16 @@ pub record AreInRange (bytes : List ℕ) : Type 0 where
 pub in_range : (bytes : List ℕ) → fields_in_range bytes ≡ true → AreInRange bytes
 unfolding fields_in_range
 in_range bytes is =
-    let one = both (is_clone (word_at bytes 12) (word_at bytes 16)) _ is in
-    let two = both (word_at bytes 20 % 4 == 0) _ one.1 in
-    let three = both (are_csrs (word_at bytes 148) (word_at bytes 152) (word_at bytes 156) (word_at bytes 164)) _ two.1 in
-    let four = both (is_within_limit (double_at bytes 208) (double_at bytes 216)) _ three.1 in
-    let five = both (is_reservation (word_at bytes 8) (word_at bytes 224) (word_at bytes 228)) (are_ports (word_at bytes 232) (word_at bytes 236) (word_at bytes 244)) four.1 in
+    let one = and_parts (is_clone (word_at bytes 12) (word_at bytes 16)) _ is in
+    let two = and_parts (word_at bytes 20 % 4 == 0) _ one.1 in
+    let three = and_parts (are_csrs (word_at bytes 148) (word_at bytes 152) (word_at bytes 156) (word_at bytes 164)) _ two.1 in
+    let four = and_parts (is_within_limit (double_at bytes 208) (double_at bytes 216)) _ three.1 in
+    let five = and_parts (is_reservation (word_at bytes 8) (word_at bytes 224) (word_at bytes 228)) (are_ports (word_at bytes 232) (word_at bytes 236) (word_at bytes 244)) four.1 in
     record { clone = one.0; pc = two.0; csrs = three.0; limit = four.0; reservation = five.0; ports = five.1 }
 
 -- the ranges of the ports' fields
 pub port_ranges : (place line status : ℕ) → are_ports place line status ≡ true → (line ≤ 255) × (status ≤ 2)
 port_ranges place line status are =
-    let first = both (nat_le place 65536) (nat_le line 255 && nat_le status 2) are in
-    let others = both (nat_le line 255) (nat_le status 2) first.1 in
+    let first = and_parts (nat_le place 65536) (nat_le line 255 && nat_le status 2) are in
+    let others = and_parts (nat_le line 255) (nat_le status 2) first.1 in
     (leb-true line 255 others.0, leb-true status 2 others.1)

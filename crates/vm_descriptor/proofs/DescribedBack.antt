@@ -1,6 +1,6 @@
 -- A descriptor that is spelled is read as it was.
-use Rattle.std.proofs.Common.{◌≡◌, ◌<◌, ◌+◌, ◌*◌, ◌^◌, ℕ, List, [], ◌∷◌, ◌++◌, length, take, drop, sym, ap, ◌∙◌, refl, subst, Some, None, arith}
-use Rattle.std.specs.Prelude.{Bool, codes, IfSome, Option, if◌then◌else◌, ◌==◌}
+use Rattle.std.proofs.Common.{◌≡◌, ◌<◌, ◌+◌, ◌*◌, ◌^◌, ℕ, List, ◌++◌, length, take, drop, sym, ap, ◌∙◌, refl, Some, None, arith}
+use Rattle.std.specs.Prelude.{Bool, codes, IfSome, Option}
 use Rattle.std.specs.List.{flat_map}
 use Rattle.std.proofs.Math.Seq.{drop-drop, take-append_seam, drop-append_seam}
 use Rattle.flat_memory.specs.Flat.{word_at}
@@ -12,7 +12,7 @@ use Rattle.block_port.specs.declared.port.BlockFields.{BlockFields}
 use Rattle.console_port.specs.declared.port.ConsoleFields.{ConsoleFields}
 use Rattle.timer_port.specs.declared.registers.TimerRegisters.{TimerRegisters}
 use Rattle.rv_traps.specs.declared.registers.CsrRegisters.{CsrRegisters}
-use Rattle.vm_descriptor.specs.Described.{word, double, double_at, words_from, before_registers, csrs_and_counts, described, Fits, flags_of, map_bytes, ports, read, read_of_block, read_of_csrs, reservation_bytes, reservation_of, status_of}
+use Rattle.vm_descriptor.specs.Described.{word, double_at, words_from, before_registers, csrs_and_counts, described, Fits, flags_of, map_bytes, ports, read, read_of_block, read_of_csrs, reservation_bytes, reservation_of, status_of}
 use Rattle.vm_descriptor.proofs.FlagsRead.{flags_read}
 use Rattle.vm_descriptor.proofs.ReadBack.{read_word, read_double, read_words}
 use Rattle.vm_descriptor.proofs.Spelling.{regroup}

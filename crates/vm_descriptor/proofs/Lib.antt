@@ -2,6 +2,7 @@ mod Accepted
 mod AcceptedSpelled
 mod Appended
 mod Maps
+mod DecodedInRange
 mod DescribedBack
 mod FlagsRead
 mod MapLast

@@ -1,5 +1,5 @@
 -- The length of a map, and its last byte.
-use Rattle.std.proofs.Common.{◌≡◌, ◌≢◌, ◌≤◌, ◌<◌, ◌+◌, ◌-◌, ◌*◌, ◌/◌, ◌%◌, ℕ, zero, suc, List, [], ◌∷◌, length, sym, ap, ◌∙◌, refl, true, false, subst, arith}
+use Rattle.std.proofs.Common.{◌≡◌, ◌≢◌, ◌≤◌, ◌<◌, ◌+◌, ◌-◌, ◌*◌, ◌/◌, ◌%◌, ℕ, List, [], ◌∷◌, length, sym, ap, ◌∙◌, refl, true, false, subst, arith}
 use Rattle.std.specs.Prelude.{Bool, ◌^◌}
 use Rattle.std.proofs.Math.ListN.{get_or}
 use Rattle.std.proofs.Math.Nat.{pow-succ', div-eq_of_lt}

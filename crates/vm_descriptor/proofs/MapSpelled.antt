@@ -1,5 +1,5 @@
 -- Maps that are read are spelled as they were.
-use Rattle.std.proofs.Common.{◌≡◌, ◌≢◌, ◌≤◌, ◌<◌, ◌+◌, ◌-◌, ◌*◌, ◌/◌, ◌%◌, ℕ, zero, suc, List, [], ◌∷◌, ◌++◌, length, take, drop, sym, ap, ◌∙◌, refl, true, false, subst, arith, inl, inr}
+use Rattle.std.proofs.Common.{◌≡◌, ◌≤◌, ◌<◌, ◌+◌, ◌-◌, ◌*◌, ◌/◌, ◌%◌, ℕ, zero, suc, List, [], ◌∷◌, ◌++◌, length, drop, sym, ap, ◌∙◌, refl, true, false, subst, arith, inl, inr}
 use Rattle.std.proofs.lemmas.List.{get_or-drop, length-drop}
 use Rattle.std.specs.Prelude.{Bool, not, ◌&&◌, ◌^◌, ◌==◌, nat_lt, if◌then◌else◌, ◌⊎◌}
 use Rattle.std.proofs.Math.ListN.{get_or}
@@ -7,7 +7,7 @@ use Rattle.std.proofs.lemmas.Bool.{eqb-true, eqb-false, ltb-false, ltb-true}
 use Rattle.std.proofs.lemmas.Nat.{pow_pos}
 use Rattle.std.proofs.Math.Nat.{pow-succ', lt-div-mul-add}
 use Rattle.vm_descriptor.specs.Described.{bit_value, bits_of, flags_of, has_spare_bit, map_bytes, number_of_bits}
-use Rattle.vm_descriptor.proofs.Spelled.{AreBytes}
+use Rattle.flat_memory.proofs.ByteLists.{AreBytes}
 
 bit_by : (odd : Bool) (n : ℕ) → (n % 2 == 1) ≡ odd → bit_value odd ≡ n % 2
 bit_by true n is = sym (eqb-true (n % 2) 1 is)

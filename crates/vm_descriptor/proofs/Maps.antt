@@ -1,5 +1,5 @@
 -- Maps of pages in bytes.
-use Rattle.std.proofs.Common.{◌≡◌, ◌≢◌, ◌≤◌, ◌<◌, ℕ, List, [], ◌∷◌, length, refl, take, drop, arith}
+use Rattle.std.proofs.Common.{◌≡◌, ◌≢◌, ◌≤◌, ◌<◌, List, [], ◌∷◌, length, refl, take, drop, arith}
 use Rattle.std.specs.Prelude.{Bool}
 use Rattle.vm_descriptor.specs.Described.{map_bytes, number_of_bits}
 

@@ -1,15 +1,12 @@
 -- The bytes of a number are those that it was read from.
-use Rattle.std.proofs.Common.{◌≡◌, ◌≤◌, ◌<◌, ◌+◌, ◌*◌, ℕ, zero, suc, List, [], ◌∷◌, ◌++◌, length, drop, sym, ap, ◌∙◌, refl, arith}
+use Rattle.std.proofs.Common.{◌≡◌, ◌≤◌, ◌<◌, ◌+◌, ◌*◌, ℕ, zero, suc, List, [], ◌∷◌, ◌++◌, length, drop, sym, ap, ◌∙◌, arith}
 use Rattle.std.proofs.Math.ListN.{get_or}
 use Rattle.std.proofs.Math.Seq.{drop-cons}
 use Rattle.byteorder.specs.Endian.{little_number}
+use Rattle.flat_memory.proofs.ByteLists.{AreBytes}
 use Rattle.flat_memory.specs.Flat.{word_at}
 use Rattle.std.specs.List.{flat_map}
 use Rattle.vm_descriptor.specs.Described.{word, words_from, double, double_at}
-
--- each of a list is a byte
-abbrev pub AreBytes : List ℕ → Type 0
-AreBytes xs = (i : ℕ) → get_or xs i 0 < 256
 
 same_four : {a b c d a' b' c' d' : ℕ} {rest : List ℕ} → a ≡ a' → b ≡ b' → c ≡ c' → d ≡ d' → a ∷ b ∷ c ∷ d ∷ rest ≡ a' ∷ b' ∷ c' ∷ d' ∷ rest
 same_four p q r s = cc

@@ -1,15 +1,16 @@
 -- Bytes that are accepted are spelled as they are read.
-use Rattle.std.proofs.Common.{◌≡◌, ◌≢◌, ◌≤◌, ◌+◌, ◌%◌, ℕ, zero, suc, List, [], ◌∷◌, ◌++◌, length, take, drop, sym, ap, ◌∙◌, refl, true, false, Some, None, arith}
-use Rattle.std.specs.Prelude.{Bool, ◌&&◌, ◌==◌, nat_le, nat_lt, if◌then◌else◌, codes}
+use Rattle.std.proofs.Common.{◌≡◌, ◌≤◌, ℕ, zero, suc, List, ◌++◌, take, drop, sym, ap, ◌∙◌, refl, true, false, Some, None, arith}
+use Rattle.std.specs.Prelude.{Bool, ◌&&◌, ◌==◌, if◌then◌else◌, codes}
 use Rattle.std.specs.List.{flat_map}
 use Rattle.std.proofs.Math.Seq.{drop-drop}
 use Rattle.std.proofs.lemmas.List.{append_assoc, take-append-drop}
-use Rattle.std.proofs.lemmas.Bool.{eqb-true}
+use Rattle.std.proofs.lemmas.Bool.{and_parts, eqb-true}
 use Rattle.flat_memory.specs.Flat.{word_at}
 use Rattle.block_port.specs.Block.{status_word}
-use Rattle.vm_descriptor.specs.Described.{word, double, double_at, words_from, before_registers, csrs_and_counts, described, flags_of, is_reservation, map_bytes, ports, read, reservation_bytes, reservation_of, status_of}
+use Rattle.vm_descriptor.specs.Described.{word, words_from, before_registers, csrs_and_counts, described, flags_of, is_reservation, map_bytes, ports, read, reservation_bytes, reservation_of, status_of}
 use Rattle.vm_descriptor.proofs.Accepted.{IsAccepted, AreInRange, port_ranges}
-use Rattle.vm_descriptor.proofs.Spelled.{AreBytes, next_word, next_double, next_words}
+use Rattle.flat_memory.proofs.ByteLists.{AreBytes}
+use Rattle.vm_descriptor.proofs.Spelled.{next_word, next_double, next_words}
 
 status_spelled : (w : ℕ) → w ≤ 2 → status_word (status_of w) ≡ w
 status_spelled zero most = refl
@@ -17,15 +18,11 @@ status_spelled (suc zero) most = refl
 status_spelled (suc (suc zero)) most = refl
 status_spelled (suc (suc (suc w))) most = absurd (omega (arith, most))
 
-both : (a b : Bool) → (a && b) ≡ true → (a ≡ true) × (b ≡ true)
-both true b is = (refl, is)
-both false b is = absurd (cc)
-
 reserved_by : (none : Bool) (flag address : ℕ) (rest : Bool) → (flag == 0) ≡ none → (if none then address == 0 else (flag == 1 && rest)) ≡ true
     → reservation_bytes (if none then None else Some address) ≡ word flag ++ word address
 reserved_by true flag address rest test is =
     ap (λ (f : ℕ). word f ++ word 0) (sym (eqb-true flag 0 test)) ∙ ap (λ (a : ℕ). word flag ++ word a) (sym (eqb-true address 0 is))
-reserved_by false flag address rest test is = ap (λ (f : ℕ). word f ++ word address) (sym (eqb-true flag 1 (both (flag == 1) rest is).0))
+reserved_by false flag address rest test is = ap (λ (f : ℕ). word f ++ word address) (sym (eqb-true flag 1 (and_parts (flag == 1) rest is).0))
 
 reservation_spelled : (pages flag address : ℕ) → is_reservation pages flag address ≡ true → reservation_bytes (reservation_of flag address) ≡ word flag ++ word address
 reservation_spelled pages flag address is = reserved_by (flag == 0) flag address _ refl is

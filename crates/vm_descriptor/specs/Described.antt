@@ -1,5 +1,5 @@
 -- The bytes of a descriptor, and why others are none. All numbers are little endian.
-use Rattle.std.specs.Prelude.{◌≡◌, ⊤, ℕ, zero, suc, ◌+◌, ◌*◌, ◌/◌, ◌%◌, ◌-◌, ◌^◌, ◌==◌, slice_index, nat_le, nat_lt, not, ◌&&◌, Bool, true, false, if◌then◌else◌, ◌<◌, IfSome, List, [], ◌∷◌, ◌++◌, length, take, drop, codes, bit_and, Option, Some, None}
+use Rattle.std.specs.Prelude.{◌≡◌, ⊤, ℕ, zero, suc, ◌+◌, ◌*◌, ◌/◌, ◌%◌, ◌-◌, ◌^◌, ◌==◌, slice_index, nat_le, nat_lt, not, ◌&&◌, Bool, true, false, if◌then◌else◌, ◌<◌, IfSome, List, [], ◌∷◌, ◌++◌, length, take, drop, codes, bit_and, Option, Some, None, Result, Ok, Err}
 use Rattle.std.specs.List.{flat_map}
 use Rattle.std.specs.Str.{bytes_eq}
 use Rattle.byteorder.specs.Endian.{little_bytes, little_from}
@@ -10,6 +10,7 @@ use Rattle.block_port.specs.declared.status.Status.TheVariants.{Done, BadSector,
 use Rattle.console_port.specs.declared.port.TheConstants.{MAX_INPUT}
 use Rattle.block_port.specs.declared.port.BlockFields.{BlockFields}
 use Rattle.rv_traps.specs.declared.registers.CsrRegisters.{CsrRegisters}
+use Rattle.rv_traps.specs.Registers.{has_bit, mstatus_of}
 use Rattle.elf_load.specs.declared.image.TheConstants.{RAM_BASE, PAGE_SIZE, MIN_PAGES, MAX_PAGES}
 use Rattle.vm_descriptor.specs.declared.error.DescError.{DescError}
 use Rattle.vm_descriptor.specs.declared.error.DescError.TheVariants.{Refused, Memory}
@@ -175,7 +176,7 @@ is_clone clone_id share = nat_le 1 clone_id && (nat_le clone_id MAX_CLONES && na
 -- mstatus has machine mode and the bits 3 and 7 alone, mie bit 7 alone, mtvec all but bit 1, and mepc is a multiple of 4
 abbrev pub are_csrs : ℕ → ℕ → ℕ → ℕ → Bool
 are_csrs mstatus mie mtvec mepc =
-    mstatus == 0x1800 + bit_and mstatus 0x88 && (mie == bit_and mie 0x80 && (mtvec == bit_and mtvec 0xffff_fffd && mepc % 4 == 0))
+    mstatus == mstatus_of (has_bit mstatus 3) (has_bit mstatus 7) && (mie == bit_and mie 0x80 && (mtvec == bit_and mtvec 0xffff_fffd && mepc % 4 == 0))
 
 abbrev pub is_within_limit : ℕ → ℕ → Bool
 is_within_limit steps limit = nat_le 1 limit && (nat_le limit MAX_LIMIT && nat_le steps limit)
@@ -212,6 +213,12 @@ refused bytes =
 abbrev pub IsRefused : List ℕ → DescError → Type 0
 IsRefused bytes (Refused number) = refused bytes ≡ Some number
 IsRefused bytes Memory = ⊤
+
+-- the answer is this descriptor, or there is no memory for it
+abbrev pub IsReadAs : Descriptor → Result Descriptor DescError → Type 0
+IsReadAs d (Ok found) = found ≡ d
+IsReadAs d (Err (Refused number)) = ⊥
+IsReadAs d (Err Memory) = ⊤
 
 -- ---- what the types of the fields say
 

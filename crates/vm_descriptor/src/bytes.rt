@@ -1,12 +1,11 @@
 //! Descriptors as bytes.
 
-ghost use Rattle.std.specs.Prelude.{◌≡◌, ◌+◌, ◌*◌, ◌≤◌, ◌<◌, ◌^◌, ◌++◌, length, drop, IfOk, OnOk, None, Some, MatchResult, if◌then◌else◌};
+ghost use Rattle.std.specs.Prelude.{◌≡◌, ◌≤◌, ◌<◌, ◌^◌, ◌++◌, length, IfOk, OnOk};
 ghost use Rattle.std.specs.List.{flat_map};
-ghost use Rattle.vm_descriptor.specs.Descriptor.{IsInRange};
-ghost use Rattle.vm_descriptor.specs.Described.{described, double, fields_in_range, flags_of, map_bytes, map_size, number_of_bits, read, refused, reservation_bytes, before_buffer, word, words_from};
+ghost use Rattle.vm_descriptor.specs.Described.{before_buffer, described, double, map_bytes, number_of_bits, reservation_bytes, word};
 
 use crate::descriptor::Descriptor;
-use crate::error::DescError;
+use flat_memory::push_words;
 use rv_traps::CsrRegisters;
 use std::alloc::{AllocError, Global};
 
@@ -66,16 +65,6 @@ impl Descriptor {
         )?;
         Ok(())
     }
-}
-
-/// Adds the bytes of words.
-fn push_words(bytes: &mut Vec<u8>, words: &[u32]) -> Result<(), AllocError>
-    ensures { OnOk result (bytes.new.items ≡ bytes.old.items ++ flat_map word words.now) }
-{
-    for word in words {
-        bytes.extend_from_slice(&word.to_le_bytes())?;
-    }
-    Ok(())
 }
 
 /// Adds the bytes of numbers of 64 bits.

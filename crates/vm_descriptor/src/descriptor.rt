@@ -19,7 +19,7 @@ pub const MAX_LIMIT: u64 = 1_000_000_000;
 
 /// What a clone of a machine starts with. The contents of its RAM, its disk and its input are those of
 /// an image, and all that is not named here is empty or 0.
-#[derive(Debug, Drop)]
+#[derive(Drop)]
 pub struct Descriptor {
     /// The number of the image.
     pub image: u32,

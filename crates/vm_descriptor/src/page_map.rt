@@ -4,7 +4,7 @@ use std::alloc::AllocError;
 use std::marker::Model;
 
 /// One flag for each page of RAM, in order.
-#[derive(Debug, Drop)]
+#[derive(Drop)]
 pub struct PageMap {
     flags: Vec<bool>,
 }

@@ -1,8 +1,10 @@
 //! What the fields of bytes say.
 
-ghost use Rattle.std.specs.Prelude.{◌≡◌, true, ◌≤◌, length, IfOk, IfErr, OnOk, None, ◌++◌, nat_lt, if◌then◌else◌};
+ghost use Rattle.std.specs.Prelude.{◌≡◌, ◌≤◌, ◌++◌, true, length, nat_lt, if◌then◌else◌, None, IfOk, IfErr, OnOk};
 ghost use Rattle.flat_memory.specs.Flat.{word_at};
-ghost use Rattle.vm_descriptor.specs.Described.{IsRefused, are_ports, bits_of, described, flags_of, read, read_of_block, read_of_csrs, refused, reservation_of, status_of, words_from};
+ghost use Rattle.vm_descriptor.specs.declared.descriptor.Descriptor.{Descriptor};
+ghost use Rattle.vm_descriptor.specs.Descriptor.{IsInRange};
+ghost use Rattle.vm_descriptor.specs.Described.{Fits, IsReadAs, IsRefused, are_ports, bits_of, described, flags_of, read, read_of_block, read_of_csrs, refused, reservation_of, status_of, words_from};
 
 use crate::bytes::HEADER_SIZE;
 use crate::descriptor::Descriptor;
@@ -18,10 +20,14 @@ use std::alloc::{AllocError, Global};
 use timer_port::TimerRegisters;
 
 impl Descriptor {
-    /// Reads a descriptor, or refuses the bytes by the first reason.
+    /// Reads a descriptor, or refuses the bytes by the first reason. The bytes of a descriptor in range
+    /// are read as it was, and no others are taken.
     pub fn decode(alloc: Global, bytes: &[u8]) -> Result<Descriptor, DescError>
-        ensures reads { IfOk result (λ d. (refused bytes.now ≡ None) × (d ≡ read bytes.now)) }
+        ensures accepts { IfOk result (λ d. refused bytes.now ≡ None) }
+        ensures reads { IfOk result (λ d. d ≡ read bytes.now) }
         ensures spelled { IfOk result (λ d. described d ≡ bytes.now) }
+        ensures in_range { IfOk result IsInRange }
+        ensures taken { (d : Descriptor) → Fits d → IsInRange d → bytes.now ≡ described d → IsReadAs d result }
         ensures refuses { IfErr result (IsRefused bytes.now) }
     {
         if let Some(number) = refusal(bytes) {

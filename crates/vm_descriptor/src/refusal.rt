@@ -2,6 +2,7 @@
 
 ghost use Rattle.std.specs.Prelude.{◌≡◌, ◌+◌, ◌≤◌, true, length};
 ghost use Rattle.flat_memory.specs.Flat.{word_at};
+ghost use Rattle.rv_traps.specs.Registers.{has_bit, mstatus_of};
 ghost use Rattle.vm_descriptor.specs.Described.{are_csrs, are_ports, double_at, fields_in_range, has_spare_bit, is_clone, is_page_count, is_reservation, is_within_limit, map_size, refused};
 
 use crate::bytes::HEADER_SIZE;
@@ -82,10 +83,19 @@ fn is_of_a_ticket(clone_id: u32, share: u32) -> bool
 fn are_of_csrs(mstatus: u32, mie: u32, mtvec: u32, mepc: u32) -> bool
     ensures { result ≡ are_csrs mstatus mie mtvec mepc }
 {
-    mstatus == 0x1800 + (mstatus & 0x88)
+    mstatus == machine_mode(mstatus)
         && mie == mie & 0x80
         && mtvec == mtvec & 0xffff_fffd
         && mepc % 4 == 0
+}
+
+/// The mstatus that has the bits 3 and 7 of a word, and machine mode.
+fn machine_mode(word: u32) -> u32
+    ensures { result ≡ mstatus_of (has_bit word 3) (has_bit word 7) }
+{
+    let interrupts = if word / 8 % 2 == 1 { 0x08 } else { 0 };
+    let earlier = if word / 0x80 % 2 == 1 { 0x80 } else { 0 };
+    0x1800 + interrupts + earlier
 }
 
 fn is_limit_of(steps: u64, limit: u64) -> bool

@@ -1,6 +1,6 @@
 -- What does not tell the place of a machine.
 use Rattle.std.proofs.Common.{◌≡◌, Bool, refl}
-use Rattle.boxcar.specs.Table.{Shelves}
+use Rattle.image_depot.specs.Key.{Shelves}
 use Rattle.forest_tree.specs.Tree.{Tree, node, Path}
 use Rattle.forest_tree.specs.Settle.{has_ended}
 use Rattle.forest_history.specs.Places.{Place, Spot, placed, spots}

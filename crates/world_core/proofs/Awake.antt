@@ -2,7 +2,6 @@
 use Rattle.std.proofs.Common.{◌≡◌, ◌⊎◌, ℕ, zero, suc, ◌+◌, true, false, refl, sym, ap, ◌∙◌, subst, inl, inr, List, [], ◌∷◌, ◌++◌, append_assoc, arith, Option, Some, None, is_some, option_and_then}
 use Rattle.std.specs.BTreeMap.{BTreeMap, get}
 use Rattle.std.specs.Ordering.{nat_cmp}
-use Rattle.boxcar.specs.Table.{Shelves}
 use Rattle.fork_port.specs.declared.ending.Ending.{Ending}
 use Rattle.forest_tree.specs.Tree.{Tree, node, Trees, no_tree, no_brood, machine, broods_of, brood_of, child_at, Branch, Path, subtree}
 use Rattle.forest_tree.specs.Settle.{has_ended}
@@ -12,7 +11,7 @@ use Rattle.forest_tree.proofs.Settle.{root-sound}
 use Rattle.forest_history.specs.Places.{Spot, spots}
 use Rattle.forest_model.specs.Machine.{Machine}
 use Rattle.forest_model.specs.Forest.{machines}
-use Rattle.image_depot.specs.Key.{Key}
+use Rattle.image_depot.specs.Key.{Shelves, Key}
 use Rattle.run_report.specs.Name.{child_path}
 use Rattle.run_report.specs.NameOrder.{path_cmp}
 use Rattle.vm_descriptor.specs.declared.descriptor.Descriptor.{Descriptor}

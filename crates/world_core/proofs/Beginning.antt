@@ -2,7 +2,7 @@
 use Rattle.std.proofs.Common.{◌≡◌, ◌≢◌, ℕ, true, false, refl, sym, ap, ◌∙◌, subst, List, [], ◌∷◌, ◌++◌, Some, None, is_some}
 use Rattle.std.specs.Option.{IfSome}
 use Rattle.std.specs.BTreeMap.{BTreeMap, Updates, get}
-use Rattle.boxcar.specs.Table.{Shelves}
+use Rattle.image_depot.specs.Key.{Shelves}
 use Rattle.port_rules.specs.Rules.{cloned_numbers}
 use Rattle.forest_tree.specs.Operations.{is_among, is_cloned}
 use Rattle.forest_tree.specs.Tree.{Tree, child_at, brood_of, Branch, Path, subtree}

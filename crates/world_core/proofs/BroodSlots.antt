@@ -1,7 +1,7 @@
 -- What the slots of a brood tell of the children that they show.
 use Rattle.std.proofs.Common.{◌≡◌, ℕ, zero, suc, ◌+◌, ◌<◌, Bool, true, false, cond, List, [], ◌∷◌, ◌++◌, length, get_or, replicate, Option, Some, None, is_some, refl, sym, ap, ◌∙◌, subst, arith}
 use Rattle.std.proofs.lemmas.Bool.{and_parts}
-use Rattle.boxcar.specs.Table.{Shelves}
+use Rattle.image_depot.specs.Key.{Shelves}
 use Rattle.fork_port.specs.declared.ending.Ending.{Ending}
 use Rattle.forest_tree.specs.Tree.{Tree, Trees, no_tree, tree, machine, Path}
 use Rattle.forest_tree.specs.Settle.{alone, has_ended, have_ended, with_ending, endings, children_from, children}
@@ -11,7 +11,7 @@ use Rattle.forest_model.specs.Machine.{Machine}
 use Rattle.forest_model.specs.Calls.{forked, child}
 use Rattle.forest_model.specs.Forest.{machines}
 use Rattle.forest_model.proofs.Calls.{child-as-parent}
-use Rattle.image_depot.specs.Key.{Key, IsKeyOf}
+use Rattle.image_depot.specs.Key.{Shelves, Key, IsKeyOf}
 use Rattle.vm_descriptor.specs.declared.descriptor.Descriptor.{Descriptor}
 use Rattle.vm_cell.specs.Woken.{AreSeeds, IsSeed}
 use Rattle.vm_cell.specs.declared.vm.fork.Brood.{Brood as Young}

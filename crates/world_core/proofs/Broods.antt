@@ -4,7 +4,6 @@ use Rattle.std.specs.BTreeMap.{btree_map_len, get, is_at}
 use Rattle.std.specs.Ordering.{is_eq, nat_cmp}
 use Rattle.std.proofs.lemmas.Bool.Decides.{nat_tests}
 use Rattle.std.proofs.Math.ListN.{length-replicate}
-use Rattle.boxcar.specs.Table.{Shelves}
 use Rattle.fork_port.specs.declared.commands.Call.TheVariants as fork
 use Rattle.fork_port.specs.declared.ending.Ending.{Ending}
 use Rattle.forest_tree.specs.Operations.{Call, clone, join, kill, Grant, is_cloned, Makes, IsStep, IsMachine}
@@ -18,7 +17,7 @@ use Rattle.forest_history.proofs.Spots.{machine-spots}
 use Rattle.forest_model.specs.Machine.{Machine}
 use Rattle.forest_model.specs.Forest.{machines}
 use Rattle.forest_model.proofs.Rules.{machines-rules}
-use Rattle.image_depot.specs.Key.{IsKeyOf}
+use Rattle.image_depot.specs.Key.{Shelves, IsKeyOf}
 use Rattle.vm_descriptor.specs.declared.descriptor.TheConstants.{MAX_CLONES}
 use Rattle.vm_cell.specs.Standing.{IsJoin, standing_call}
 use Rattle.vm_cell.specs.Woken.{AreSeeds}

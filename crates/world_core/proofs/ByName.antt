@@ -4,7 +4,7 @@ use Rattle.std.specs.Option.{IfSome}
 use Rattle.std.specs.Result.{IsErr}
 use Rattle.std.specs.declared.alloc.AllocError.{AllocError}
 use Rattle.std.specs.BTreeMap.{BTreeMap, WritesThrough, get}
-use Rattle.boxcar.specs.Table.{Shelves}
+use Rattle.image_depot.specs.Key.{Shelves}
 use Rattle.forest_tree.specs.Tree.{Tree, machine, brood_of, child_at, Path, subtree}
 use Rattle.forest_tree.specs.Settle.{has_ended, waits}
 use Rattle.forest_tree.specs.Sound.{IsSound}

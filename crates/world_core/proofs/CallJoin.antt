@@ -5,7 +5,7 @@ use Rattle.std.specs.BTreeMap.{BTreeMap, WritesThrough, get}
 use Rattle.std.specs.declared.alloc.Global.{Global}
 use Rattle.std.specs.declared.boxed.Box.{Box}
 use Rattle.std.proofs.lemmas.Bool.{and_parts, not-true, not-false}
-use Rattle.boxcar.specs.Table.{Shelves}
+use Rattle.image_depot.specs.Key.{Shelves}
 use Rattle.fork_port.specs.declared.commands.Call.TheVariants.{Join}
 use Rattle.forest_tree.specs.Operations.{join, Makes}
 use Rattle.forest_tree.specs.Tree.{joined as over}

@@ -5,7 +5,7 @@ use Rattle.std.specs.List.{filter}
 use Rattle.std.proofs.Common.{◌≡◌, ◌≢◌, ℕ, ◌&&◌, not, eqb, Bool, true, false, cond, refl, sym, ap, ap₂, ◌∙◌, subst, [], ◌∷◌, ◌++◌, Option, Some, None, is_some}
 use Rattle.std.specs.BTreeMap.{BTreeMap, WritesThrough, get, is_at}
 use Rattle.std.proofs.lemmas.List.{append-nil}
-use Rattle.boxcar.specs.Table.{Shelves}
+use Rattle.image_depot.specs.Key.{Shelves}
 use Rattle.fork_port.specs.declared.commands.Call.TheVariants.{Kill}
 use Rattle.forest_tree.specs.Operations.{kill, Makes}
 use Rattle.forest_tree.specs.Tree.{killed as dead}

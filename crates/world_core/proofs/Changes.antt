@@ -3,7 +3,7 @@ use Rattle.std.proofs.Common.{◌≡◌, ℕ, zero, suc, ◌&&◌, eqb, eqb-true
 use Rattle.std.specs.BTreeMap.{get}
 use Rattle.std.specs.Ordering.{nat_cmp}
 use Rattle.std.proofs.lemmas.List.{append-nil}
-use Rattle.boxcar.specs.Table.{Shelves}
+use Rattle.image_depot.specs.Key.{Shelves}
 use Rattle.fork_port.specs.declared.ending.Ending.{Ending}
 use Rattle.forest_tree.specs.Operations.{is_cloned}
 use Rattle.forest_tree.specs.Tree.{Tree, node, Trees, no_tree, tree, Broods, Log, machine, broods_of, at_child, child_at, brood_of, at_brood, Branch, Path, subtree, beyond, goes_on}
@@ -17,7 +17,7 @@ use Rattle.forest_history.proofs.Changes.{at_path-within, at_path-here, at_path-
 use Rattle.forest_history.proofs.Lives.{one-child, no-child, waits-deep, waits-child}
 use Rattle.forest_model.specs.Machine.{Machine}
 use Rattle.forest_model.specs.Forest.{machines}
-use Rattle.image_depot.specs.Key.{Key}
+use Rattle.image_depot.specs.Key.{Shelves, Key}
 use Rattle.vm_descriptor.specs.declared.descriptor.Descriptor.{Descriptor}
 use Rattle.vm_cell.specs.declared.vm.fork.Brood.{Brood as Young}
 use Rattle.run_report.specs.Lines.{lines}

@@ -2,7 +2,7 @@
 use Rattle.std.proofs.Common.{◌≡◌, Bool, true, false, refl, sym, ap, ◌∙◌, subst, ◌∷◌, ◌++◌, Option, Some, None, is_some, option_and_then, cond, not}
 use Rattle.std.specs.Option.{IfSome, IsSomeAnd}
 use Rattle.std.specs.BTreeMap.{get}
-use Rattle.boxcar.specs.Table.{Shelves}
+use Rattle.image_depot.specs.Key.{Shelves}
 use Rattle.fork_port.specs.declared.ending.Ending.{Ending}
 use Rattle.forest_tree.specs.Tree.{Tree, node, Broods, Log, machine, Branch, Path, subtree}
 use Rattle.forest_tree.specs.Settle.{has_ended, settled_by, waits}

@@ -6,7 +6,7 @@ use Rattle.std.specs.List.{filter}
 use Rattle.std.specs.Map.{lookup}
 use Rattle.std.proofs.lemmas.Map.Entries.{lookup-filter-keys}
 use Rattle.std.proofs.lemmas.List.{append-nil}
-use Rattle.boxcar.specs.Table.{Shelves}
+use Rattle.image_depot.specs.Key.{Shelves}
 use Rattle.forest_tree.specs.Tree.{Tree, node, Broods, machine, child_at, brood_of, Branch, Path, subtree, beyond, goes_on, is_below}
 use Rattle.forest_tree.proofs.Places.{some-same}
 use Rattle.forest_tree.specs.Settle.{has_ended, waits}

@@ -2,7 +2,7 @@
 use Rattle.std.proofs.Common.{◌≡◌, ℕ, zero, suc, ◌-◌, ◌≤◌, ◌<◌, ◌&&◌, not, Bool, true, false, ltb, lt-ltb, max, refl, sym, ap, ◌∙◌, subst, arith, inl, inr, List, ◌∷◌, Option, Some, None, MatchOption, slice_get, []}
 use Rattle.std.specs.BTreeMap.{BTreeMap, get}
 use Rattle.std.specs.Ordering.{nat_cmp}
-use Rattle.boxcar.specs.Table.{Shelves}
+use Rattle.image_depot.specs.Key.{Shelves}
 use Rattle.forest_tree.specs.Tree.{Tree, Trees, no_tree, tree, no_brood, machine, broods_of, brood_of, child_at, Path, subtree}
 use Rattle.forest_tree.specs.Settle.{has_ended, waits}
 use Rattle.forest_tree.proofs.Places.{some-same}

@@ -3,14 +3,13 @@ use Rattle.std.proofs.Common.{◌≡◌, ℕ, zero, suc, ◌+◌, ◌-◌, ◌<�
 use Rattle.std.proofs.lemmas.Option.{slice_get_within}
 use Rattle.std.specs.Ordering.{nat_cmp}
 use Rattle.std.specs.BTreeMap.{get}
-use Rattle.boxcar.specs.Table.{Shelves}
 use Rattle.forest_tree.specs.Tree.{Tree, Trees, machine, broods_of, brood_of, child_at, Path}
 use Rattle.forest_tree.specs.Settle.{has_ended}
 use Rattle.forest_history.specs.Places.{Spot, spots}
 use Rattle.forest_history.specs.World.{is_asleep_at}
 use Rattle.forest_model.specs.Machine.{Machine}
 use Rattle.forest_model.specs.Forest.{machines}
-use Rattle.image_depot.specs.Key.{Key, IsKeyOf, image_of}
+use Rattle.image_depot.specs.Key.{Shelves, Key, IsKeyOf, image_of}
 use Rattle.vm_descriptor.specs.declared.descriptor.Descriptor.{Descriptor}
 use Rattle.vm_cell.specs.Woken.{IsOfImage, woken}
 use Rattle.vm_cell.specs.declared.vm.fork.Brood.{Brood as Young}

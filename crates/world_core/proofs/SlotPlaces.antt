@@ -1,6 +1,6 @@
 -- A cell whose machine is at another place.
 use Rattle.std.proofs.Common.{◌≡◌, ℕ, Option, Some, None, MatchOption, ◌⊎◌, inl, inr, ◌&&◌, not, Bool, true, false, refl, sym, ap, ◌∙◌, subst}
-use Rattle.boxcar.specs.Table.{Shelves}
+use Rattle.image_depot.specs.Key.{Shelves}
 use Rattle.forest_tree.specs.Tree.{Tree, machine, Path}
 use Rattle.forest_tree.specs.Settle.{has_ended, waits}
 use Rattle.forest_history.specs.Places.{Place, asleep, home, out, parked, Spot, placed}

@@ -7,7 +7,6 @@ use Rattle.std.specs.declared.cmp.Ordering.TheVariants.{Less, Equal, Greater}
 use Rattle.std.specs.Ordering.{nat_cmp, is_eq}
 use Rattle.std.specs.BTreeMap.{BTreeMap, get, btree_map_len, WritesThrough}
 use Rattle.std.specs.Vec.{with_item}
-use Rattle.boxcar.specs.Table.{Shelves}
 use Rattle.forest_tree.specs.Operations.{is_cloned}
 use Rattle.forest_tree.specs.Tree.{Tree, node, Trees, brood_of, child_at, at_child, at_brood, Path}
 use Rattle.forest_tree.proofs.Broods.{eqb-same}
@@ -16,7 +15,7 @@ use Rattle.forest_history.specs.Places.{Spot}
 use Rattle.forest_history.specs.Children.{life, living}
 use Rattle.forest_history.proofs.Lives.{one-child}
 use Rattle.forest_model.specs.Machine.{Machine}
-use Rattle.image_depot.specs.Key.{Key}
+use Rattle.image_depot.specs.Key.{Shelves, Key}
 use Rattle.vm_descriptor.specs.declared.descriptor.Descriptor.{Descriptor}
 use Rattle.vm_cell.specs.declared.vm.fork.Brood.{Brood as Young}
 use Rattle.run_report.specs.Name.{child_path}

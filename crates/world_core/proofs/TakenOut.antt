@@ -2,7 +2,7 @@
 use Rattle.std.proofs.Common.{◌≡◌, ◌≢◌, ◌&&◌, not, Bool, true, false, refl, sym, ap, ◌∙◌, subst, ◌∷◌, ◌++◌, Some, None, option_and_then, []}
 use Rattle.std.specs.Option.{IfSome}
 use Rattle.std.specs.BTreeMap.{BTreeMap, get}
-use Rattle.boxcar.specs.Table.{Shelves}
+use Rattle.image_depot.specs.Key.{Shelves}
 use Rattle.forest_tree.specs.Tree.{Tree, node, machine, Branch, Path, subtree, beyond}
 use Rattle.forest_tree.specs.Settle.{has_ended, waits}
 use Rattle.forest_tree.specs.Sound.{IsSound}

@@ -1,7 +1,7 @@
 -- Turns that are taken out until one gives a machine.
 use Rattle.std.proofs.Common.{◌≡◌, Bool, true, false, refl, sym, ◌∙◌, subst, List, ◌∷◌, Option, Some, None, is_some, []}
 use Rattle.std.specs.BTreeMap.{get}
-use Rattle.boxcar.specs.Table.{Shelves}
+use Rattle.image_depot.specs.Key.{Shelves}
 use Rattle.forest_tree.specs.Tree.{Path}
 use Rattle.forest_tree.specs.Settle.{has_ended}
 use Rattle.forest_history.specs.World.{is_ready}

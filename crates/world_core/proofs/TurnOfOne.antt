@@ -2,7 +2,7 @@
 use Rattle.std.proofs.Common.{◌≡◌, ◌≢◌, Bool, true, false, refl, sym, ap, ◌∙◌, subst, ◌∷◌, Some, None}
 use Rattle.std.specs.Option.{IfSome}
 use Rattle.std.specs.BTreeMap.{BTreeMap, WritesThrough, get}
-use Rattle.boxcar.specs.Table.{Shelves}
+use Rattle.image_depot.specs.Key.{Shelves}
 use Rattle.forest_tree.specs.Tree.{Tree, machine, Path, subtree}
 use Rattle.forest_history.specs.Places.{out, Spot, placed}
 use Rattle.forest_history.specs.World.{lives_ready, holds}

@@ -2,7 +2,7 @@
 use Rattle.std.proofs.Common.{◌≡◌, ◌≢◌, true, false, refl, sym, ap, ◌∙◌, subst, inl, inr, List, ◌∷◌, Option, Some, None}
 use Rattle.std.specs.Option.{IfSome}
 use Rattle.std.specs.BTreeMap.{get}
-use Rattle.boxcar.specs.Table.{Shelves}
+use Rattle.image_depot.specs.Key.{Shelves}
 use Rattle.forest_tree.specs.Tree.{Path, subtree}
 use Rattle.forest_history.specs.World.{is_ready}
 use Rattle.forest_model.specs.Forest.{machines}

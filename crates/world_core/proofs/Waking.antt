@@ -2,7 +2,7 @@
 use Rattle.std.proofs.Common.{◌≡◌, ◌≢◌, ℕ, zero, suc, not, Bool, true, false, cond, eqb, eqb-true, refl, sym, ap, ap₂, ◌∙◌, subst, arith, inl, inr, ◌∷◌, ◌++◌, Option, Some, None, is_some, option_map, []}
 use Rattle.std.specs.BTreeMap.{BTreeMap, Updates, WritesThrough, get}
 use Rattle.std.specs.Ordering.{nat_cmp}
-use Rattle.boxcar.specs.Table.{Shelves}
+use Rattle.image_depot.specs.Key.{Shelves}
 use Rattle.forest_tree.specs.Operations.{Call, clone, join, kill, is_cloned}
 use Rattle.forest_tree.specs.Tree.{Tree, node, Trees, no_tree, tree, Broods, no_brood, Log, no_entry, machine, brood_of, broods_with, child_at, at_child, at_brood, Branch, Path, subtree, beyond}
 use Rattle.forest_tree.specs.Settle.{alone, has_ended, have_ended, waits_by}

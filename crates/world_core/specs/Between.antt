@@ -1,7 +1,7 @@
 -- A world in the middle of a call: a machine has come back and made its call, and is to be put home or to be ended.
 use Rattle.std.specs.Prelude.{◌≡◌, ◌⊎◌, ℕ, true, false, ◌∷◌, ◌++◌, Some, None, IfSome, IsSomeAnd, if◌then◌else◌}
 use Rattle.std.specs.BTreeMap.{BTreeMap, btree_map_len, get}
-use Rattle.boxcar.specs.Table.{Shelves}
+use Rattle.image_depot.specs.Key.{Shelves}
 use Rattle.forest_tree.specs.Operations.{is_cloned}
 use Rattle.forest_tree.specs.Tree.{Tree, node, no_brood, Branch, Path, machine, broods_of, broods_with, beyond, subtree}
 use Rattle.forest_tree.specs.Settle.{settled}

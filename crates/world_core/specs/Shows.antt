@@ -2,7 +2,6 @@
 use Rattle.std.specs.Prelude.{◌≡◌, ◌⊎◌, ℕ, suc, ◌+◌, ◌≤◌, Bool, true, false, List, [], ◌∷◌, ◌-◌, slice_get, Option, Some, None, vec_len, vec_capacity}
 use Rattle.std.specs.Ordering.{nat_cmp}
 use Rattle.std.specs.BTreeMap.{get, btree_map_len}
-use Rattle.boxcar.specs.Table.{Shelves}
 use Rattle.fork_port.specs.declared.ending.Ending.{Ending}
 use Rattle.forest_tree.specs.Operations.{Operations, Call, join, is_cloned}
 use Rattle.forest_tree.specs.Sound.{IsSound}
@@ -13,7 +12,7 @@ use Rattle.forest_history.specs.World.{is_asleep_at, is_out_at}
 use Rattle.forest_history.specs.Children.{living}
 use Rattle.forest_model.specs.Machine.{Machine}
 use Rattle.forest_model.specs.Forest.{machines}
-use Rattle.image_depot.specs.Key.{Key, IsKeyOf, image_of}
+use Rattle.image_depot.specs.Key.{Shelves, Key, IsKeyOf, image_of}
 use Rattle.vm_descriptor.specs.declared.descriptor.Descriptor.{Descriptor}
 use Rattle.vm_descriptor.specs.declared.descriptor.TheConstants.{MAX_CLONES}
 use Rattle.vm_cell.specs.Woken.{IsOfImage, woken}

@@ -1,7 +1,7 @@
 -- What a world of the code stands for.
 use Rattle.std.specs.Prelude.{◌≡◌, true, false, [], List, Option, Some, None, IfSome}
 use Rattle.std.specs.BTreeMap.{get}
-use Rattle.boxcar.specs.Table.{Shelves}
+use Rattle.image_depot.specs.Key.{Shelves}
 use Rattle.forest_tree.specs.Tree.{Tree, Path, machine, subtree}
 use Rattle.forest_tree.specs.Settle.{has_ended}
 use Rattle.forest_tree.specs.Sound.{IsSound}

@@ -1,5 +1,5 @@
 ghost use Rattle.std.specs.Prelude.{◌≡◌, ◌+◌, ◌≤◌, ◌<◌, ◌⊎◌, ◌∷◌, ℕ, [], ◌&&◌, true, false, not, nat_lt, Option, Some, None, IfOk, IfSome, OnOk, OnErr, MatchOption, vec_len};
-ghost use Rattle.boxcar.specs.Table.{Shelves};
+ghost use Rattle.image_depot.specs.Key.{Shelves};
 ghost use Rattle.forest_tree.specs.Operations.{clone, join, kill, is_cloned};
 ghost use Rattle.forest_tree.specs.Tree.{Tree, machine, brood_of, broods_of, Path};
 ghost use Rattle.forest_tree.specs.Settle.{alone, endings, has_ended, have_ended};

@@ -1,6 +1,6 @@
 ghost use Rattle.std.specs.Prelude.{◌≡◌, [], ◌∷◌, None, Some, true, false, IfOk, IfSome, IsSome, IsSomeAnd, MatchOption};
 ghost use Rattle.std.specs.BTreeMap.{get};
-ghost use Rattle.boxcar.specs.Table.{Shelves};
+ghost use Rattle.image_depot.specs.Key.{Shelves};
 ghost use Rattle.forest_tree.specs.Settle.{has_ended};
 ghost use Rattle.forest_tree.specs.Sound.{IsSound};
 ghost use Rattle.forest_tree.specs.Tree.{Path, Tree, machine, subtree};

@@ -3,7 +3,7 @@
 ghost use Rattle.std.specs.Prelude.{◌≡◌, ℕ, ◌+◌, ◌≤◌, ◌<◌, ◌^◌, ◌++◌, Some, OnOk, OnErr, IfSome, map, true, false, vec_capacity, vec_len};
 ghost use Rattle.std.specs.BTreeMap.{IsOrdered, btree_map_len, get};
 ghost use Rattle.std.specs.Ordering.{nat_cmp};
-ghost use Rattle.boxcar.specs.Table.{Shelves};
+ghost use Rattle.image_depot.specs.Key.{Shelves};
 ghost use Rattle.forest_tree.specs.Operations.{clone, join, kill};
 ghost use Rattle.forest_tree.specs.Tree.{Path, Tree, brood_of, broods_of, machine};
 ghost use Rattle.forest_tree.specs.Settle.{endings, have_ended};

@@ -1,6 +1,6 @@
 ghost use Rattle.std.specs.Prelude.{◌≡◌, ◌≢◌, ◌∷◌, [], None, Some, true, is_some, IfNone, IfSome, IfOk, OnErr, OnOk};
 ghost use Rattle.std.specs.BTreeMap.{BTreeMap, get};
-ghost use Rattle.boxcar.specs.Table.{Shelves};
+ghost use Rattle.image_depot.specs.Key.{Shelves};
 ghost use Rattle.forest_tree.specs.Tree.{Tree, Path, machine, subtree};
 ghost use Rattle.forest_history.specs.Places.{Spot, at_path, out, placed};
 ghost use Rattle.forest_model.specs.Machine.{Machine};

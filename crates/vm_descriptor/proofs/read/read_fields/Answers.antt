@@ -1,4 +1,4 @@
-use Rattle.std.proofs.Common.{rules, ◌≡◌, ◌≤◌, sym, ◌∙◌, subst}
+use Rattle.std.proofs.Common.{rules}
 use Rattle.flat_memory.specs.Flat.{word_at}
 use Rattle.vm_descriptor.proofs.Accepted.{port_ranges}
 use Rattle.vm_descriptor.proofs.read.read_fields.Goals as goal

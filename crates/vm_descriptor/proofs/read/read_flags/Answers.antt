@@ -1,4 +1,4 @@
-use Rattle.std.proofs.Common.{rules, ◌≡◌, ℕ, List, [], ◌∷◌, ◌++◌, ◌<◌, ◌+◌, ◌-◌, length, sym, ap, ◌∙◌, drop, arith, subst}
+use Rattle.std.proofs.Common.{rules, ◌≡◌, List, [], ◌++◌, ◌+◌, ◌-◌, sym, ap, ◌∙◌, drop}
 use Rattle.std.specs.Prelude.{Bool}
 use Rattle.std.proofs.Math.ListN.{get_or}
 use Rattle.std.proofs.lemmas.List.{append-nil, append_assoc, at_drop_more, drop_all}

@@ -1,0 +1,64 @@
+ghost use Rattle.std.specs.Prelude.{◌≡◌, ◌<◌, length};
+ghost use Rattle.fetch_proto.specs.Frame.{frame};
+ghost use Rattle.image_depot.specs.Image.{page_count};
+ghost use Rattle.image_depot.specs.Key.{image_of, number_of};
+ghost use Rattle.image_depot.specs.Reply.{page_bytes, reply_bytes};
+
+use crate::key::ImageKey;
+use page_frames::PAGE_SIZE;
+use std::marker::Model;
+
+/// A page of an image on its way to a clone: the key of the image, and the reply that carries the page.
+/// Contracts see in it the key and the number of the page, and its bytes are the frame of that page.
+#[derive(Drop)]
+pub struct Parcel {
+    key: ImageKey,
+    page: u32,
+    bytes: Vec<u8>,
+}
+
+impl Model for Parcel {
+    ghost use Rattle.image_depot.specs.Reply.{IsParcel, Reply};
+
+    ghost Value = { Reply };
+
+    ghost view = { λ p. record { key = p.key; page = p.page } };
+
+    ghost invariant = { λ p. IsParcel p.key p.page p.bytes.items };
+}
+
+impl Parcel {
+    /// The key of the image that the page is of. It takes no memory.
+    #[inline]
+    pub fn key(&self) -> &ImageKey
+        ensures { result.now ≡ self.now.key }
+    {
+        &self.key
+    }
+
+    /// The bytes of the reply: the frame of the page. It takes no memory.
+    #[inline]
+    pub fn bytes(&self) -> &[u8]
+        ensures value { result.now ≡ reply_bytes self.now }
+        ensures there { self.now.page < page_count (image_of self.now.key) }
+        ensures whole { length (page_bytes (image_of self.now.key) self.now.page) ≡ PAGE_SIZE }
+    {
+        &self.bytes
+    }
+
+    /// The number of the page.
+    pub(crate) fn page(&self) -> u32
+        ensures { result ≡ self.now.page }
+    {
+        self.page
+    }
+
+    pub(crate) fn of_reply(key: ImageKey, page: u32, bytes: Vec<u8>) -> Parcel
+        requires there { page < page_count (image_of key) }
+        requires whole { length (page_bytes (image_of key) page) ≡ PAGE_SIZE }
+        requires is { bytes.items ≡ frame (number_of key) page (page_bytes (image_of key) page) }
+        ensures { result ≡ record { key = key; page = page } }
+    {
+        Parcel { key, page, bytes }
+    }
+}

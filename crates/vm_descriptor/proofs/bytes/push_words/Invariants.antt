@@ -1,7 +1,0 @@
-use Rattle.std.proofs.Common.{◌≡◌, ◌++◌, take}
-use Rattle.std.specs.List.{flat_map}
-use Rattle.vm_descriptor.specs.Described.{word}
-use Rattle.vm_descriptor.proofs.bytes.push_words.Given as goal
-
-abbrev pub invariant-loop-word : goal.invariant-loop-word
-invariant-loop-word l = l.bytes.items ≡ l.initial.bytes.items ++ flat_map word (take l.word-index l.words)
