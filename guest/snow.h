@@ -90,8 +90,8 @@ static inline uint32_t snow_granted(void)
 
 /* Makes the children of a ticket. Each is a copy of this machine: its memory, its disk, its place in the
  * input, its timer and its count of steps; but it has no output, no ticket and nothing joined. From then on
- * they share nothing. Returns 0 in this machine, and in child k the number k. Refusals: SNOW_NO_TICKET,
- * SNOW_CLONED. */
+ * they share nothing. Returns 0 in this machine, and in child k the number k. A refusal, SNOW_NO_TICKET or
+ * SNOW_CLONED, is neither: a guest whose ticket may be refused asks snow_refused before. */
 static inline uint32_t snow_clone(uint32_t ticket)
 {
     SNOW_FORK_PORT->arg0 = ticket;
@@ -143,7 +143,7 @@ static inline _Noreturn void snow_exit(uint32_t value)
 }
 
 /* Makes pages of RAM read as zeros, from the one that is named, of 4,096 bytes and counted from 0x80000000.
- * A page that is given up so is no longer kept in memory. Returns 0. Refusal: SNOW_BAD_ARGUMENT. */
+ * This machine no longer keeps a page that it gives up so. Returns 0. Refusal: SNOW_BAD_ARGUMENT. */
 static inline uint32_t snow_zero(uint32_t page, uint32_t pages)
 {
     SNOW_FORK_PORT->arg0 = page;
