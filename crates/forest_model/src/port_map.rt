@@ -6,8 +6,8 @@ pub const CONSOLE_BASE: u32 = 0x1000_0000;
 /// The address of the timer.
 pub const TIMER_BASE: u32 = 0x0200_4000;
 
-/// The bytes from the timer's first register to its last.
-pub const TIMER_SIZE: u32 = 0xc000;
+/// The bytes from the timer's first register to the end of its last.
+pub const TIMER_SIZE: u32 = 0x8000;
 
 /// The address of the block port.
 pub const BLOCK_BASE: u32 = 0x1000_1000;
