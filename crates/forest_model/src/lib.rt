@@ -10,7 +10,7 @@ pub use fork_port::Ending;
 use rv_traps::Wrote;
 
 /// What of the counters a step wrote itself. It does not count the step.
-#[derive(Clone, Copy, Debug, PartialEq, Eq)]
+#[derive(Clone, Copy)]
 pub enum Written {
     Nothing,
     /// A half of mcycle or of minstret.
@@ -20,7 +20,7 @@ pub enum Written {
 }
 
 /// What an access to a control and status register does with its operand.
-#[derive(Clone, Copy, Debug, PartialEq, Eq)]
+#[derive(Clone, Copy, PartialEq, Eq)]
 pub enum CsrOperation {
     /// The register becomes the operand.
     Write,
@@ -31,7 +31,7 @@ pub enum CsrOperation {
 }
 
 /// What a machine is started with.
-#[derive(Clone, Copy, Debug, PartialEq, Eq)]
+#[derive(Clone, Copy)]
 pub struct Options {
     /// The most steps that the machine makes, from 1 to 1,000,000,000.
     pub limit: u64,

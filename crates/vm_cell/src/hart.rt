@@ -33,7 +33,7 @@ mod seed;
 mod system;
 
 /// What a step came to.
-#[derive(Clone, Copy, Debug, PartialEq, Eq)]
+#[derive(Clone, Copy)]
 pub enum Acted {
     /// An exception, with its cause and value. Nothing else has changed.
     Trapped { cause: u32, value: u32 },

@@ -31,7 +31,7 @@ pub enum Stepped {
 }
 
 /// What a run came to: how many steps were made, and where the machine stands after them.
-#[derive(Clone, Copy, Debug, PartialEq, Eq)]
+#[derive(Clone, Copy)]
 pub struct Ran {
     pub steps: u64,
     pub why: Stepped,
