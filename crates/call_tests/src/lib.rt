@@ -4,10 +4,6 @@
 #![tactic(auto)]
 
 #[cfg(test)]
-mod frames;
-#[cfg(test)]
 mod machine;
-#[cfg(test)]
-mod memory;
 #[cfg(test)]
 mod scripts;

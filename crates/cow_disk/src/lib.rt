@@ -10,6 +10,3 @@ mod table;
 
 pub use disk::{Disk, FrozenDisk, MAX_SECTORS, SECTOR_SIZE};
 pub use error::{BadSector, DiskError};
-
-#[cfg(test)]
-mod tests;

@@ -7,8 +7,6 @@ mod image;
 mod loader;
 mod memory;
 mod segment;
-#[cfg(test)]
-mod tests;
 
 pub use error::ImageError;
 pub use image::{Loaded, MAX_PAGES, MIN_PAGES, PAGE_SIZE, RAM_BASE};

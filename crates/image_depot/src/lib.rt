@@ -15,6 +15,3 @@ pub use key::ImageKey;
 pub use parcel::Parcel;
 pub use sent::Sent;
 pub use table::Table;
-
-#[cfg(test)]
-mod tests;

@@ -7,6 +7,3 @@ mod page;
 
 pub use entry::{Entry, share_entries};
 pub use page::{PAGE_SIZE, Page};
-
-#[cfg(test)]
-mod tests;

@@ -12,6 +12,3 @@ mod refusal;
 pub use descriptor::{Descriptor, MAX_CLONES, MAX_LIMIT, MAX_SHARE};
 pub use error::DescError;
 pub use page_map::PageMap;
-
-#[cfg(test)]
-mod tests;

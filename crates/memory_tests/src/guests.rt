@@ -4,32 +4,31 @@
 ghost use Rattle.std.specs.Prelude.{◌≡◌, ◌≤◌, IfOk};
 ghost use Rattle.image_depot.specs.Key.{IsKeyOf};
 
+use crate::process::resident_bytes;
 use block_port::{BlockFields, Status};
 use console_port::ConsoleFields;
 use cow_disk::Disk;
 use elf_load::{ImageError, MAX_PAGES, MIN_PAGES, RAM_BASE, load_elf};
 use guest_mem::GuestMem;
 use image_depot::{Depot, ImageKey};
-use page_frames::PAGE_SIZE;
 use rv_asm::elf_of;
 use rv_traps::Csrs;
 use std::alloc::{AllocError, Global};
-use std::rt::Files;
 use std::sync::Wait;
 use std::test::Fail;
-use std::{fs, thread};
+use std::thread;
 use timer_port::TimerPort;
 use vm_descriptor::{Descriptor, PageMap};
 
 /// The offset of the second page.
-const SECOND: u32 = PAGE_SIZE as u32;
+const SECOND: u32 = 4096;
 
 /// The RAM of so many pages, with the byte 0xaa all over the second.
 fn booted(alloc: Global, pages: u32) -> Result<GuestMem, ImageError>
     requires least { MIN_PAGES ≤ pages }
     requires most { pages ≤ MAX_PAGES }
 {
-    let image = elf_of(alloc, RAM_BASE + SECOND, &[0xaaaa_aaaa; PAGE_SIZE / 4])?;
+    let image = elf_of(alloc, RAM_BASE + SECOND, &[0xaaaa_aaaa; 1024])?;
     Ok(GuestMem::booted(alloc, &load_elf(alloc, &image, pages)?)?)
 }
 
@@ -109,72 +108,104 @@ fn clone_of(alloc: Global, key: &ImageKey, blank: PageMap, depot: &Depot) -> Res
     Ok(GuestMem::clone_of(alloc, key, &descriptor, depot)?)
 }
 
-#[test]
-fn loads_what_was_stored_around_a_page_border(rt: HostRuntime) -> Result<(), Fail> {
-    let mut memory = booted(rt.alloc(), 16)?;
+/// Stores 16 bytes around the border of two pages.
+fn store_around_the_border(memory: &mut GuestMem) -> Result<(), Fail> {
     for byte in 0..16 {
-        store(&mut memory, SECOND - 8 + byte, 1, byte + 1)?;
-    }
-    let rows = [
-        (SECOND - 9, 1, 0),
-        (SECOND - 4, 4, 0x0807_0605),
-        (SECOND - 2, 2, 0x0807),
-        (SECOND - 1, 1, 0x08),
-        (SECOND, 1, 0x09),
-        (SECOND, 2, 0x0a09),
-        (SECOND, 4, 0x0c0b_0a09),
-        (SECOND + 8, 4, 0xaaaa_aaaa),
-        (2 * SECOND - 1, 1, 0xaa),
-        (2 * SECOND, 4, 0),
-        (16 * SECOND - 4, 4, 0),
-    ];
-    for (at, width, want) in rows {
-        assert_eq!(rt; load(&memory, at, width), Some(want), "{width} from {at}");
+        store(memory, SECOND - 8 + byte, 1, byte + 1)?;
     }
     Ok(())
 }
 
+/// An offset, a width, and the number that is loaded there after those stores.
+static AROUND_THE_BORDER: [(u32, u32, u32); 11] = [
+    (SECOND - 9, 1, 0),
+    (SECOND - 4, 4, 0x0807_0605),
+    (SECOND - 2, 2, 0x0807),
+    (SECOND - 1, 1, 0x08),
+    (SECOND, 1, 0x09),
+    (SECOND, 2, 0x0a09),
+    (SECOND, 4, 0x0c0b_0a09),
+    (SECOND + 8, 4, 0xaaaa_aaaa),
+    (2 * SECOND - 1, 1, 0xaa),
+    (2 * SECOND, 4, 0),
+    (16 * SECOND - 4, 4, 0),
+];
+
 #[test]
-fn stores_so_many_bytes(rt: HostRuntime) -> Result<(), Fail> {
-    let rows = [
-        (SECOND - 4, 1, [0x0000_0044, 0xaaaa_aaaa]),
-        (SECOND - 4, 2, [0x0000_3344, 0xaaaa_aaaa]),
-        (SECOND - 4, 4, [0x1122_3344, 0xaaaa_aaaa]),
-        (SECOND - 2, 2, [0x3344_0000, 0xaaaa_aaaa]),
-        (SECOND - 1, 1, [0x4400_0000, 0xaaaa_aaaa]),
-        (SECOND, 1, [0, 0xaaaa_aa44]),
-        (SECOND, 2, [0, 0xaaaa_3344]),
-        (SECOND, 4, [0, 0x1122_3344]),
-        (SECOND + 2, 2, [0, 0x3344_aaaa]),
-        (SECOND + 3, 1, [0, 0x44aa_aaaa]),
-    ];
-    for (at, width, want) in rows {
-        let mut memory = booted(rt.alloc(), 16)?;
-        store(&mut memory, at, width, 0x1122_3344)?;
-        let words = [load(&memory, SECOND - 4, 4), load(&memory, SECOND, 4)];
-        assert_eq!(rt; words, want.map(Some), "{width} at {at}");
+fn loads_what_was_stored_around_a_page_border(rt: HostRuntime) -> Result<(), Fail> {
+    let mut memory = booted(rt.alloc(), 16)?;
+    store_around_the_border(&mut memory)?;
+    for (at, width, want) in AROUND_THE_BORDER.iter() {
+        assert_eq!(rt;
+            load(&memory, *at, *width),
+            Some(*want),
+            "{width} from {at}"
+        );
     }
     Ok(())
+}
+
+/// The two words at the border of the pages, after a store of so many bytes at an offset.
+fn words_after(alloc: Global, at: u32, width: u32) -> Result<[Option<u32>; 2], Fail> {
+    let mut memory = booted(alloc, 16)?;
+    store(&mut memory, at, width, 0x1122_3344)?;
+    Ok([load(&memory, SECOND - 4, 4), load(&memory, SECOND, 4)])
+}
+
+/// An offset, a width, and the two words at the border after the store.
+static STORED: [(u32, u32, [u32; 2]); 10] = [
+    (SECOND - 4, 1, [0x0000_0044, 0xaaaa_aaaa]),
+    (SECOND - 4, 2, [0x0000_3344, 0xaaaa_aaaa]),
+    (SECOND - 4, 4, [0x1122_3344, 0xaaaa_aaaa]),
+    (SECOND - 2, 2, [0x3344_0000, 0xaaaa_aaaa]),
+    (SECOND - 1, 1, [0x4400_0000, 0xaaaa_aaaa]),
+    (SECOND, 1, [0, 0xaaaa_aa44]),
+    (SECOND, 2, [0, 0xaaaa_3344]),
+    (SECOND, 4, [0, 0x1122_3344]),
+    (SECOND + 2, 2, [0, 0x3344_aaaa]),
+    (SECOND + 3, 1, [0, 0x44aa_aaaa]),
+];
+
+#[test]
+fn stores_so_many_bytes(rt: HostRuntime) -> Result<(), Fail> {
+    for (at, width, [low, high]) in STORED.iter() {
+        let words = words_after(rt.alloc(), *at, *width)?;
+        assert_eq!(rt; words, [Some(*low), Some(*high)], "{width} at {at}");
+    }
+    Ok(())
+}
+
+/// Makes all pages blank but the first, and then stores to the third.
+fn zero_and_store(memory: &mut GuestMem) -> Result<(), Fail> {
+    let end = memory.size();
+    store(memory, end - 1, 1, 0x11)?;
+    if memory.pages() == 1024 {
+        memory.zero_pages(1, 1023);
+    }
+    store(memory, 2 * SECOND, 4, 0x22)
+}
+
+/// The pages that are not blank.
+fn held_pages(alloc: Global, memory: &GuestMem) -> Result<Vec<usize>, AllocError> {
+    let map = memory.blank(alloc)?;
+    (0..1024)
+        .zip(map.flags())
+        .filter(|(_, is_blank)| !**is_blank)
+        .map(|(page, _)| page)
+        .collect(alloc)
 }
 
 #[test]
 fn zeroed_pages_are_blank_until_they_are_stored_to(rt: HostRuntime) -> Result<(), Fail> {
     let mut memory = booted(rt.alloc(), 1024)?;
-    let end = memory.size();
-    store(&mut memory, end - 1, 1, 0x11)?;
-    if memory.pages() == 1024 {
-        memory.zero_pages(1, 1023);
-    }
-    store(&mut memory, 2 * SECOND, 4, 0x22)?;
-    assert_eq!(rt; load(&memory, SECOND, 4), Some(0));
-    assert_eq!(rt; load(&memory, end - 4, 4), Some(0));
-    assert_eq!(rt; load(&memory, 2 * SECOND, 4), Some(0x22));
-    let map = memory.blank(rt.alloc())?;
-    let held: Vec<usize> = (0..1024)
-        .zip(map.flags())
-        .filter(|(_, is_blank)| !**is_blank)
-        .map(|(page, _)| page)
-        .collect(rt.alloc())?;
+    zero_and_store(&mut memory)?;
+    let words = [
+        load(&memory, SECOND, 4),
+        load(&memory, 1024 * SECOND - 4, 4),
+        load(&memory, 2 * SECOND, 4),
+    ];
+    let held = held_pages(rt.alloc(), &memory)?;
+    assert_eq!(rt; words, [Some(0), Some(0), Some(0x22)]);
     assert_eq!(rt; held.as_slice(), [2].as_slice());
     Ok(())
 }
@@ -205,38 +236,75 @@ fn two_words(depot: &Depot, key: &ImageKey) -> Option<[u32; 2]>
     Some([image.word(0, 0), image.word(1, 0)])
 }
 
+/// A clone that starts with an image, with the blank pages of its parent, and stores a word to two pages.
+fn stored_clone(
+    alloc: Global,
+    parent: &GuestMem,
+    key: &ImageKey,
+    depot: &Depot,
+    word: u32,
+) -> Result<GuestMem, Fail>
+    requires { IsKeyOf depot.now key.now }
+{
+    let mut clone = clone_of(alloc, key, parent.blank(alloc)?, depot)?;
+    store_two(&mut clone, word)?;
+    Ok(clone)
+}
+
+/// The words of two clones that store after a freeze. The second starts before the first is done.
+fn words_of_clones(
+    alloc: Global,
+    parent: &GuestMem,
+    key: &ImageKey,
+    depot: &Depot,
+) -> Result<[[Option<u32>; 3]; 2], Fail>
+    requires { IsKeyOf depot.now key.now }
+{
+    let mut first = clone_of(alloc, key, parent.blank(alloc)?, depot)?;
+    let second = stored_clone(alloc, parent, key, depot, 3)?;
+    store_two(&mut first, 2)?;
+    Ok([three_words(&first), three_words(&second)])
+}
+
 #[test]
 fn a_store_after_a_freeze_shows_in_one_guest(rt: HostRuntime) -> Result<(), Fail> {
     let depot = Depot::new(rt.alloc())?;
     let mut parent = booted(rt.alloc(), 16)?;
     let key = frozen(&rt, rt.alloc(), &parent, &depot)?;
-    let mut first = clone_of(rt.alloc(), &key, parent.blank(rt.alloc())?, &depot)?;
-    let mut second = clone_of(rt.alloc(), &key, parent.blank(rt.alloc())?, &depot)?;
     store_two(&mut parent, 1)?;
-    store_two(&mut first, 2)?;
-    store_two(&mut second, 3)?;
-    let late = clone_of(rt.alloc(), &key, parent.blank(rt.alloc())?, &depot)?;
-    assert_eq!(rt; three_words(&parent), [Some(1), Some(1), Some(0xaaaa_aaaa)]);
-    assert_eq!(rt; three_words(&first), [Some(2), Some(2), Some(0xaaaa_aaaa)]);
-    assert_eq!(rt; three_words(&second), [Some(3), Some(3), Some(0xaaaa_aaaa)]);
+    let clones = words_of_clones(rt.alloc(), &parent, &key, &depot)?;
     assert_eq!(rt;
-        three_words(&late),
-        [Some(0), Some(0xaaaa_aaaa), Some(0xaaaa_aaaa)]
+        (three_words(&parent), clones),
+        (
+            [Some(1), Some(1), Some(0xaaaa_aaaa)],
+            [
+                [Some(2), Some(2), Some(0xaaaa_aaaa)],
+                [Some(3), Some(3), Some(0xaaaa_aaaa)],
+            ]
+        )
     );
-    assert_eq!(rt; two_words(&depot, &key), Some([0, 0xaaaa_aaaa]));
-    assert_eq!(rt; depot.frozen(&key).input(), b"in".as_slice());
     Ok(())
 }
 
-/// How many bytes of the process are in memory (proc(5), `/proc/pid/statm`).
-fn resident_bytes(rt: &(impl Files + Alloc)) -> Result<u64, Fail> {
-    let text = fs::read_to_string(rt, "/proc/self/statm")?;
-    let pages = text
-        .as_str()
-        .split_whitespace()
-        .nth(1)
-        .ok_or("no such word")?;
-    Ok(pages.parse::<u64>()?.saturating_mul(4096))
+#[test]
+fn an_image_stays_as_it_was_frozen(rt: HostRuntime) -> Result<(), Fail> {
+    let depot = Depot::new(rt.alloc())?;
+    let mut parent = booted(rt.alloc(), 16)?;
+    let key = frozen(&rt, rt.alloc(), &parent, &depot)?;
+    let blank = parent.blank(rt.alloc())?;
+    store_two(&mut parent, 1)?;
+    words_of_clones(rt.alloc(), &parent, &key, &depot)?;
+    let late = three_words(&clone_of(rt.alloc(), &key, blank, &depot)?);
+    let input = depot.frozen(&key).input();
+    assert_eq!(rt;
+        (late, two_words(&depot, &key), input),
+        (
+            [Some(0), Some(0xaaaa_aaaa), Some(0xaaaa_aaaa)],
+            Some([0, 0xaaaa_aaaa]),
+            b"in".as_slice()
+        )
+    );
+    Ok(())
 }
 
 /// So many clones, each with a page of its own.
@@ -257,6 +325,18 @@ fn written_clones(
     Ok(clones)
 }
 
+/// How many of the clones have their own word, and the next one as it was. The n-th stored n.
+fn as_stored(clones: &[GuestMem]) -> usize {
+    let mut count = 0;
+    for (n, clone) in (0..1000).zip(clones) {
+        if [load(clone, SECOND, 4), load(clone, SECOND + 4, 4)] != [Some(n), Some(0xaaaa_aaaa)] {
+            return count;
+        }
+        count = n as usize + 1;
+    }
+    count
+}
+
 // A thousand whole copies take 64 megabytes, and a thousand tables and pages five.
 #[test]
 fn a_thousand_clones_share_an_image(rt: HostRuntime) -> Result<(), Fail> {
@@ -266,11 +346,8 @@ fn a_thousand_clones_share_an_image(rt: HostRuntime) -> Result<(), Fail> {
     let before = resident_bytes(&rt)?;
     let clones = written_clones(rt.alloc(), &parent, &key, &depot)?;
     let taken = resident_bytes(&rt)?.saturating_sub(before);
+    assert_eq!(rt; as_stored(&clones), 1000);
     assert!(rt; taken < 6 << 20, "{taken} bytes");
-    for (n, clone) in (0..1000).zip(&clones) {
-        assert_eq!(rt; load(clone, SECOND, 4), Some(n), "clone {n}");
-        assert_eq!(rt; load(clone, SECOND + 4, 4), Some(0xaaaa_aaaa), "clone {n}");
-    }
     Ok(())
 }
 

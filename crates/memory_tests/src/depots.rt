@@ -1,24 +1,21 @@
-//! What no clause says: that calls succeed, that images share the pages that they were made of, and
-//! that threads freeze and read images of one depot side by side.
+//! Depots: that calls succeed, that images share the pages that they were made of, and that threads
+//! freeze and read images of one depot side by side.
 
 ghost use Rattle.std.specs.Prelude.{◌≤◌, IfSome};
 ghost use Rattle.image_depot.specs.Key.{IsKeyOf};
 
-use crate::{Depot, Frozen, ImageKey};
 use cow_disk::{Disk, DiskError};
+use image_depot::{Depot, Frozen, ImageKey};
 use page_frames::{Entry, PAGE_SIZE, Page};
-use std::alloc::Global;
+use std::alloc::{AllocError, Global};
 use std::sync::Wait;
 use std::test::Fail;
 use std::thread;
 use std::thread::Threads;
 
-/// The last place of a word in a page.
-const LAST: u32 = PAGE_SIZE as u32 - 4;
-
 /// The image of a page of these bytes, a blank page and a page of one more, with a disk and an input
 /// of this byte.
-fn image_of(alloc: Global, byte: u8) -> Result<Frozen, DiskError> {
+pub fn image_of(alloc: Global, byte: u8) -> Result<Frozen, DiskError> {
     let entries = vec![in alloc;
         Entry::Held(Page::from_slice(alloc, &[byte; PAGE_SIZE])?),
         Entry::Blank,
@@ -29,29 +26,71 @@ fn image_of(alloc: Global, byte: u8) -> Result<Frozen, DiskError> {
     Ok(Frozen::new(alloc, entries, disk, input)?)
 }
 
+/// Words of all three pages of an image, if it has as many.
+fn words_of(image: &Frozen) -> Option<[u32; 4]> {
+    if image.pages() < 3 {
+        return None;
+    }
+    Some([
+        image.word(0, 0),
+        image.word(0, 4092),
+        image.word(1, 0),
+        image.word(2, 4092),
+    ])
+}
+
+/// The last byte of the disk of an image.
+fn disk_byte(image: &Frozen) -> Result<u8, Fail> {
+    let mut sector = [0; 512];
+    image.disk().open()?.read_sector(0, &mut sector)?;
+    Ok(sector[511])
+}
+
+/// The pages of an image, the input, and how many tables it has.
+fn parts_of<'a>(depot: &'a Depot, key: &ImageKey) -> (u32, &'a [u8], usize)
+    requires { IsKeyOf depot.now key.now }
+{
+    let image = depot.frozen(key);
+    (depot.pages(key), image.input(), image.tables().len())
+}
+
 #[test]
 fn lends_what_was_frozen(rt: HostRuntime) -> Result<(), Fail> {
     let depot = Depot::new(rt.alloc())?;
     let first = depot.freeze(&rt, image_of(rt.alloc(), 0x10)?)?;
     let second = depot.freeze(&rt, image_of(rt.alloc(), 0x20)?)?;
+    let words = [
+        words_of(depot.frozen(&first)),
+        words_of(depot.frozen(&second)),
+    ];
+    let bytes = [
+        disk_byte(depot.frozen(&first))?,
+        disk_byte(depot.frozen(&second))?,
+    ];
     assert_eq!(rt; (first.number(), second.number()), (0, 1));
-    for (key, byte) in [(&first, 0x10), (&second.again()?, 0x20u8)] {
-        assert_eq!(rt; depot.pages(key), 3);
-        let image = depot.frozen(key);
-        let words = [
-            image.word(0, 0),
-            image.word(0, LAST),
-            image.word(1, 0),
-            image.word(2, LAST),
-        ];
-        let word = u32::from(byte) * 0x0101_0101;
-        assert_eq!(rt; words, [word, word, 0, word ^ 0x0101_0101]);
-        assert_eq!(rt; image.input(), [byte; 2].as_slice());
-        assert_eq!(rt; image.tables().len(), 1);
-        let mut sector = [0; 512];
-        image.disk().open()?.read_sector(0, &mut sector)?;
-        assert_eq!(rt; sector[511], byte);
-    }
+    assert_eq!(rt;
+        (words, bytes),
+        (
+            [
+                Some([0x1010_1010, 0x1010_1010, 0, 0x1111_1111]),
+                Some([0x2020_2020, 0x2020_2020, 0, 0x2121_2121]),
+            ],
+            [0x10, 0x20],
+        )
+    );
+    Ok(())
+}
+
+#[test]
+fn lends_the_parts_of_an_image(rt: HostRuntime) -> Result<(), Fail> {
+    let depot = Depot::new(rt.alloc())?;
+    let first = depot.freeze(&rt, image_of(rt.alloc(), 0x10)?)?;
+    let second = depot.freeze(&rt, image_of(rt.alloc(), 0x20)?)?.again()?;
+    let parts = [parts_of(&depot, &first), parts_of(&depot, &second)];
+    assert_eq!(rt;
+        parts,
+        [(3, [0x10; 2].as_slice(), 1), (3, [0x20; 2].as_slice(), 1),]
+    );
     Ok(())
 }
 
@@ -65,19 +104,23 @@ fn first_word(depot: &Depot, key: &ImageKey) -> Option<u32>
     Some(depot.frozen(key).word(0, 0))
 }
 
+/// The image of one page, with no disk and no input.
+fn image_of_page(alloc: Global, page: &Page) -> Result<Frozen, DiskError> {
+    let entries = vec![in alloc; Entry::Held(page.share()?)]?;
+    let disk = Disk::from_bytes(alloc, &[])?.freeze()?;
+    Ok(Frozen::new(alloc, entries, disk, Vec::new(alloc))?)
+}
+
 #[test]
 fn a_write_to_a_page_shows_in_no_image(rt: HostRuntime) -> Result<(), Fail> {
     let mut page = Page::from_slice(rt.alloc(), &[0xaa; PAGE_SIZE])?;
-    let entries = vec![in rt.alloc(); Entry::Held(page.share()?)]?;
-    let disk = Disk::from_bytes(rt.alloc(), &[])?.freeze()?;
     let depot = Depot::new(rt.alloc())?;
-    let key = depot.freeze(
-        &rt,
-        Frozen::new(rt.alloc(), entries, disk, Vec::new(rt.alloc()))?,
-    )?;
+    let key = depot.freeze(&rt, image_of_page(rt.alloc(), &page)?)?;
     page.write(0, &[0x11])?;
-    assert_eq!(rt; first_word(&depot, &key), Some(0xaaaa_aaaa));
-    assert_eq!(rt; page.word(0), 0xaaaa_aa11);
+    assert_eq!(rt;
+        (first_word(&depot, &key), page.word(0)),
+        (Some(0xaaaa_aaaa), 0xaaaa_aa11)
+    );
     Ok(())
 }
 
@@ -127,12 +170,17 @@ fn threads_freeze_and_read_side_by_side(rt: HostRuntime) -> Result<(), Fail> {
     Ok(())
 }
 
+/// The key of an image that is kept in the depot.
+fn kept(rt: &impl Wait, depot: &Depot, image: Frozen) -> Result<ImageKey, AllocError> {
+    depot.freeze(rt, image)
+}
+
 #[test]
 fn moves_between_threads(rt: HostRuntime) -> Result<(), Fail> {
     let image = image_of(rt.alloc(), 0xaa)?;
     let depot = Depot::new(rt.alloc())?;
     let (depot, length) = thread::join(&rt, move || depot, move || image.input().len());
     assert_eq!(rt; length, 2);
-    depot.freeze(&rt, image_of(rt.alloc(), 0xbb)?)?;
+    kept(&rt, &depot, image_of(rt.alloc(), 0xbb)?)?;
     Ok(())
 }

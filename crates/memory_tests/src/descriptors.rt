@@ -1,0 +1,381 @@
+//! Descriptors: that calls succeed, where each field stands in the bytes, and bytes for each reason why
+//! there are none.
+
+use block_port::{BlockFields, Status};
+use console_port::ConsoleFields;
+use flat_memory::write_bytes;
+use rv_traps::{CsrRegisters, Csrs};
+use std::alloc::{AllocError, Global};
+use std::test::Fail;
+use std::thread;
+use timer_port::{TimerPort, TimerRegisters};
+use vm_descriptor::{DescError, Descriptor, PageMap};
+
+/// A map of so many pages, all blank but one.
+fn map_of(alloc: Global, pages: usize, held: usize) -> Result<PageMap, AllocError> {
+    let mut blank = vec![in alloc; true; pages]?;
+    if let Some(page) = blank.get_mut(held) {
+        *page = false;
+    }
+    Ok(PageMap::from_vec(blank))
+}
+
+/// The registers of a program that stands behind a CLONE.
+fn registers_at_clone() -> [u32; 31] {
+    let mut registers = [0; 31];
+    registers[4] = 0x1000_2000;
+    registers[5] = 2;
+    registers[6] = 1;
+    registers
+}
+
+/// The first of two clones of a machine with 16 pages, that made ten steps to its CLONE.
+fn first_child(alloc: Global) -> Result<Descriptor, AllocError> {
+    let mut csrs = Csrs::reset().fields();
+    csrs.mcycle = 10;
+    csrs.minstret = 10;
+    let mut timer = TimerPort::new().fields();
+    timer.mtime = 10;
+    Ok(Descriptor {
+        image: 0,
+        pages: 16,
+        clone_id: 1,
+        share: 0,
+        pc: 0x8000_0028,
+        registers: registers_at_clone(),
+        csrs,
+        timer,
+        steps: 10,
+        limit: 1_000_000,
+        reservation: None,
+        console: ConsoleFields {
+            place: 0,
+            line_control: 0,
+        },
+        block: BlockFields {
+            sector: 0,
+            status: Status::Done,
+            buffer: [0; 512],
+        },
+        argument_0: 1,
+        argument_1: 0,
+        join_select: 0,
+        granted: 2,
+        blank: map_of(alloc, 16, 0)?,
+    })
+}
+
+/// x1 to x31, each with a number of its own.
+fn numbered_registers() -> [u32; 31] {
+    let mut registers = [0; 31];
+    for index in 0..31 {
+        registers[index] = 0x0100_0001 + index as u32;
+    }
+    registers
+}
+
+/// A buffer that is told apart at both ends.
+fn marked_buffer() -> [u8; 512] {
+    let mut buffer = [0; 512];
+    buffer[0] = 0xb1;
+    buffer[511] = 0xb2;
+    buffer
+}
+
+/// Registers that all differ, in their ranges.
+fn numbered_csrs() -> CsrRegisters {
+    CsrRegisters {
+        mstatus: 0x1888,
+        mie: 0x80,
+        mtvec: 0x8000_0101,
+        mscratch: 0x0201_0101,
+        mepc: 0x8000_0204,
+        mcause: 0x8000_0007,
+        mtval: 0x0201_0102,
+        mcycle: 0x0302_0101_0101_0101,
+        minstret: 0x0302_0101_0101_0102,
+    }
+}
+
+/// A descriptor whose fields all differ, with 20 pages of which the first and the last are blank.
+fn numbered(alloc: Global) -> Result<Descriptor, AllocError> {
+    let mut blank = vec![in alloc; false; 20]?;
+    for page in [0, 19] {
+        if let Some(flag) = blank.get_mut(page) {
+            *flag = true;
+        }
+    }
+    Ok(Descriptor {
+        image: 0x0401_0101,
+        pages: 20,
+        clone_id: 0x0a0b,
+        share: 0x0c0d,
+        pc: 0x8000_1234,
+        registers: numbered_registers(),
+        csrs: numbered_csrs(),
+        timer: TimerRegisters {
+            mtime: 0x0302_0101_0101_0103,
+            mtimecmp: 0x0302_0101_0101_0104,
+        },
+        steps: 0x0102_0304,
+        limit: 0x0102_0305,
+        reservation: Some(0x8000_0ff0),
+        console: ConsoleFields {
+            place: 0x1234,
+            line_control: 0x83,
+        },
+        block: BlockFields {
+            sector: 0x0501_0101,
+            status: Status::UnknownCommand,
+            buffer: marked_buffer(),
+        },
+        argument_0: 0x0501_0102,
+        argument_1: 0x0501_0103,
+        join_select: 0x0501_0104,
+        granted: 0x0501_0105,
+        blank: PageMap::from_vec(blank),
+    })
+}
+
+/// Bytes of the first child, by their places.
+static FIRST_CHILD: [(usize, &[u8]); 11] = [
+    (0, b"SFD1\0\0\0\0\x10\0\0\0"),
+    (12, b"\x01\0\0\0\0\0\0\0\x28\0\0\x80"),
+    (40, b"\0\x20\0\x10\x02\0\0\0\x01\0\0\0"),
+    (148, b"\0\x18\0\0\0\0\0\0"),
+    (
+        176,
+        b"\x0a\0\0\0\0\0\0\0\x0a\0\0\0\0\0\0\0\x0a\0\0\0\0\0\0\0",
+    ),
+    (200, b"\xff\xff\xff\xff\xff\xff\xff\xff"),
+    (208, b"\x0a\0\0\0\0\0\0\0\x40\x42\x0f\0\0\0\0\0"),
+    (224, b"\0\0\0\0\0\0\0\0"),
+    (248, b"\x01\0\0\0\0\0\0\0"),
+    (260, b"\x02\0\0\0"),
+    (776, b"\xfe\xff"),
+];
+
+/// Bytes of the descriptor whose fields all differ, by their places.
+static NUMBERED: [(usize, &[u8]); 24] = [
+    (0, b"SFD1\x01\x01\x01\x04"),
+    (8, b"\x14\0\0\0\x0b\x0a\0\0"),
+    (16, b"\x0d\x0c\0\0\x34\x12\0\x80"),
+    (24, b"\x01\0\0\x01\x02\0\0\x01"),
+    (144, b"\x1f\0\0\x01"),
+    (148, b"\x88\x18\0\0\x80\0\0\0"),
+    (156, b"\x01\x01\0\x80\x01\x01\x01\x02"),
+    (164, b"\x04\x02\0\x80\x07\0\0\x80"),
+    (172, b"\x02\x01\x01\x02"),
+    (176, b"\x01\x01\x01\x01\x01\x01\x02\x03"),
+    (184, b"\x02\x01\x01\x01\x01\x01\x02\x03"),
+    (192, b"\x03\x01\x01\x01\x01\x01\x02\x03"),
+    (200, b"\x04\x01\x01\x01\x01\x01\x02\x03"),
+    (208, b"\x04\x03\x02\x01\0\0\0\0"),
+    (216, b"\x05\x03\x02\x01\0\0\0\0"),
+    (224, b"\x01\0\0\0\xf0\x0f\0\x80"),
+    (232, b"\x34\x12\0\0\x83\0\0\0"),
+    (240, b"\x01\x01\x01\x05\x02\0\0\0"),
+    (248, b"\x02\x01\x01\x05\x03\x01\x01\x05"),
+    (256, b"\x04\x01\x01\x05\x05\x01\x01\x05"),
+    (264, b"\xb1\0\0\0"),
+    (772, b"\0\0\0\xb2"),
+    (776, b"\x01\0\x08"),
+    (779, b""),
+];
+
+/// The first place at which bytes do not stand as a table tells, if there is one.
+fn misplaced(bytes: &[u8], rows: &[(usize, &[u8])]) -> Option<usize> {
+    for (at, part) in rows {
+        if !bytes.split_at(*at.min(&bytes.len())).1.starts_with(part) {
+            return Some(*at);
+        }
+    }
+    None
+}
+
+/// The bytes of what bytes are read as.
+fn again(alloc: Global, bytes: &[u8]) -> Result<Vec<u8>, DescError> {
+    let descriptor = Descriptor::decode(alloc, bytes)?;
+    if !descriptor.is_in_range() {
+        return Err(DescError::Refused(0));
+    }
+    Ok(descriptor.encode(alloc)?)
+}
+
+#[test]
+fn fields_stand_at_their_places(rt: HostRuntime) -> Result<(), Fail> {
+    let first = first_child(rt.alloc())?.encode(rt.alloc())?;
+    let numbered = numbered(rt.alloc())?.encode(rt.alloc())?;
+    let found = [
+        misplaced(&first, &FIRST_CHILD),
+        misplaced(&numbered, &NUMBERED),
+    ];
+    assert_eq!(rt;
+        (first.len(), numbered.len(), found),
+        (778, 779, [None, None])
+    );
+    Ok(())
+}
+
+#[test]
+fn what_was_encoded_is_read(rt: HostRuntime) -> Result<(), Fail> {
+    let bytes = numbered(rt.alloc())?.encode(rt.alloc())?;
+    assert_eq!(rt; again(rt.alloc(), &bytes)?.as_slice(), bytes.as_slice());
+    Ok(())
+}
+
+/// Of the first child's bytes a length, words at places of them, and the reason why they are refused, or
+/// 0 where they are taken.
+static CHANGES: [(usize, &[(usize, u32)], u32); 55] = [
+    (0, &[], 1),
+    (12, &[], 1),
+    (775, &[], 1),
+    (778, &[(0, 0x3144_4600)], 2),
+    (778, &[(0, 0x3244_4653)], 2),
+    (778, &[(8, 15)], 3),
+    (778, &[(8, 1025)], 3),
+    (776, &[], 4),
+    (777, &[], 4),
+    (779, &[], 4),
+    (778, &[(8, 17)], 4),
+    (778, &[(12, 0)], 5),
+    (778, &[(12, 4097)], 5),
+    (778, &[(16, 4096)], 5),
+    (778, &[(20, 0x8000_0029)], 5),
+    (778, &[(20, 0x8000_002a)], 5),
+    (778, &[(148, 0x1801)], 5),
+    (778, &[(148, 0x1000)], 5),
+    (778, &[(148, 0x0088)], 5),
+    (778, &[(152, 1)], 5),
+    (778, &[(152, 0x0880)], 5),
+    (778, &[(156, 2)], 5),
+    (778, &[(164, 1)], 5),
+    (778, &[(164, 2)], 5),
+    (778, &[(224, 2)], 5),
+    (778, &[(228, 0x8000_0000)], 5),
+    (778, &[(224, 1)], 5),
+    (778, &[(224, 1), (228, 0x7fff_fffc)], 5),
+    (778, &[(224, 1), (228, 0x8000_0002)], 5),
+    (778, &[(224, 1), (228, 0x8001_0000)], 5),
+    (778, &[(232, 65_537)], 5),
+    (778, &[(236, 256)], 5),
+    (778, &[(244, 3)], 5),
+    (778, &[(208, 0), (216, 0)], 5),
+    (778, &[(216, 1_000_000_001)], 5),
+    (778, &[(208, 1_000_001)], 5),
+    (778, &[(212, 1)], 5),
+    (779, &[(8, 20), (775, 0xffff_fe00)], 6),
+    (779, &[(8, 20), (775, 0x0fff_fe00)], 0),
+    (775, &[(0, 0)], 1),
+    (778, &[(0, 0), (8, 15)], 2),
+    (777, &[(8, 15)], 3),
+    (777, &[(12, 0)], 4),
+    (778, &[], 0),
+    (778, &[(4, 0xffff_ffff)], 0),
+    (778, &[(12, 4096), (16, 4095)], 0),
+    (778, &[(20, 0xffff_fffc)], 0),
+    (778, &[(148, 0x1888), (152, 0x80)], 0),
+    (778, &[(148, 0x1808)], 0),
+    (778, &[(156, 0xffff_fffd), (164, 0xffff_fffc)], 0),
+    (778, &[(224, 1), (228, 0x8000_0000)], 0),
+    (778, &[(224, 1), (228, 0x8000_fffc)], 0),
+    (778, &[(232, 65_536), (236, 255)], 0),
+    (778, &[(244, 2)], 0),
+    (778, &[(208, 1_000_000_000), (216, 1_000_000_000)], 0),
+];
+
+/// The first `length` bytes, or zeros behind them, with other words at some places.
+fn changed(
+    alloc: Global,
+    bytes: &[u8],
+    length: usize,
+    changes: &[(usize, u32)],
+) -> Result<Vec<u8>, AllocError> {
+    let mut changed = Vec::from_slice(alloc, bytes)?;
+    changed.resize(length, 0)?;
+    for (at, word) in changes {
+        if *at < changed.len() && changed.len() - at >= 4 {
+            write_bytes(&mut changed, *at, &word.to_le_bytes());
+        }
+    }
+    Ok(changed)
+}
+
+/// The reason why bytes are refused, or 0 where they are taken and spelled as they were.
+fn reason(alloc: Global, bytes: &[u8]) -> Option<u32> {
+    match again(alloc, bytes) {
+        Ok(spelled) => (spelled.as_slice() == bytes).then_some(0),
+        Err(DescError::Refused(number)) => Some(number),
+        Err(DescError::Memory) => None,
+    }
+}
+
+/// The first row of a table that does not tell the reason why changed bytes are refused, if there is one.
+fn mistold(
+    alloc: Global,
+    bytes: &[u8],
+    rows: &[(usize, &[(usize, u32)], u32)],
+) -> Result<Option<usize>, AllocError> {
+    for (row, (length, changes, number)) in rows.iter().enumerate() {
+        if reason(alloc, &changed(alloc, bytes, *length, changes)?) != Some(*number) {
+            return Ok(Some(row));
+        }
+    }
+    Ok(None)
+}
+
+#[test]
+fn refuses_by_the_first_reason(rt: HostRuntime) -> Result<(), Fail> {
+    let bytes = first_child(rt.alloc())?.encode(rt.alloc())?;
+    assert_eq!(rt; mistold(rt.alloc(), &bytes, &CHANGES)?, None);
+    Ok(())
+}
+
+/// Bytes of the descriptor with 20 pages and three bytes of map, of which the last half byte is spare.
+static SPARE: [(usize, &[(usize, u32)], u32); 5] = [
+    (779, &[], 0),
+    (779, &[(775, 0xff00_01b2)], 6),
+    (779, &[(775, 0x1000_01b2)], 6),
+    (779, &[(775, 0x0f00_01b2)], 0),
+    (779, &[(775, 0xff00_01b2), (16, 4096)], 5),
+];
+
+#[test]
+fn refuses_a_second_spelling(rt: HostRuntime) -> Result<(), Fail> {
+    let bytes = numbered(rt.alloc())?.encode(rt.alloc())?;
+    assert_eq!(rt; mistold(rt.alloc(), &bytes, &SPARE)?, None);
+    Ok(())
+}
+
+#[test]
+fn takes_a_map_of_the_most_pages(rt: HostRuntime) -> Result<(), Fail> {
+    let mut descriptor = first_child(rt.alloc())?;
+    descriptor.pages = 1024;
+    descriptor.blank = map_of(rt.alloc(), 1024, 1023)?;
+    let bytes = descriptor.encode(rt.alloc())?;
+    let tail = misplaced(&bytes, &[(776, b"\xff\xff"), (902, b"\xff\x7f")]);
+    assert_eq!(rt;
+        (bytes.len(), tail, reason(rt.alloc(), &bytes)),
+        (904, None, Some(0))
+    );
+    Ok(())
+}
+
+#[test]
+fn a_map_is_copied(rt: HostRuntime) -> Result<(), Fail> {
+    let map = map_of(rt.alloc(), 16, 0)?;
+    let copy = map.clone()?;
+    assert_eq!(rt; copy.flags(), map.flags());
+    let flags = copy.into_vec();
+    let blank = flags.iter().filter(|is_blank| **is_blank).count();
+    assert_eq!(rt; (flags.len(), blank), (16, 15));
+    Ok(())
+}
+
+#[test]
+fn moves_between_threads(rt: HostRuntime) -> Result<(), Fail> {
+    let descriptor = first_child(rt.alloc())?;
+    let (in_range, _) = thread::join(&rt, move || descriptor.is_in_range(), || ());
+    assert!(rt; in_range);
+    Ok(())
+}

@@ -1,0 +1,218 @@
+//! Images of programs: that they are loaded where there is memory, and a file for each rule.
+
+use elf_load::{ImageError, Loaded, load_elf};
+use flat_memory::write_bytes;
+use std::alloc::{AllocError, Global};
+use std::test::Fail;
+
+/// The image of a program that exits with 7.
+#[rattlefmt::skip]
+static EXIT_SEVEN: [u8; 104] = [
+    0x7f, 0x45, 0x4c, 0x46, 0x01, 0x01, 0x01, 0x00, 0x00, 0x00, 0x00, 0x00, 0x00, 0x00, 0x00, 0x00,
+    0x02, 0x00, 0xf3, 0x00, 0x01, 0x00, 0x00, 0x00, 0x00, 0x00, 0x00, 0x80, 0x34, 0x00, 0x00, 0x00,
+    0x00, 0x00, 0x00, 0x00, 0x00, 0x00, 0x00, 0x00, 0x34, 0x00, 0x20, 0x00, 0x01, 0x00, 0x00, 0x00,
+    0x00, 0x00, 0x00, 0x00,
+    0x01, 0x00, 0x00, 0x00, 0x54, 0x00, 0x00, 0x00, 0x00, 0x00, 0x00, 0x80, 0x00, 0x00, 0x00, 0x80,
+    0x14, 0x00, 0x00, 0x00, 0x14, 0x00, 0x00, 0x00, 0x07, 0x00, 0x00, 0x00, 0x04, 0x00, 0x00, 0x00,
+    0xb7, 0x22, 0x00, 0x10,
+    0x13, 0x03, 0x70, 0x00,
+    0x23, 0xa0, 0x62, 0x00,
+    0x13, 0x03, 0x50, 0x00,
+    0x23, 0xa4, 0x62, 0x00,
+];
+
+/// A program header: p_type, p_offset, p_paddr, p_filesz and p_memsz.
+type ProgramHeader = [u32; 5];
+
+/// Adds a program header. The fields that a loader does not read are all ones.
+fn push_header(image: &mut Vec<u8>, header: &ProgramHeader) -> Result<(), AllocError> {
+    let [kind, offset, address, file_size, memory_size] = *header;
+    let words = [
+        kind,
+        offset,
+        u32::MAX,
+        address,
+        file_size,
+        memory_size,
+        u32::MAX,
+        u32::MAX,
+    ];
+    for word in words {
+        image.extend_from_slice(&word.to_le_bytes())?;
+    }
+    Ok(())
+}
+
+/// An executable with these program headers and then these bytes. The fields that a loader does not read
+/// are all ones.
+fn image_of(
+    alloc: Global,
+    entry: u32,
+    headers: &[ProgramHeader],
+    bytes: &[u8],
+) -> Result<Vec<u8>, AllocError> {
+    let count = u16::try_from(headers.len()).unwrap_or(0);
+    let mut image = Vec::new(alloc);
+    image.extend_from_slice(
+        b"\x7fELF\x01\x01\x01\xff\xff\xff\xff\xff\xff\xff\xff\xff\x02\0\xf3\0\x01\0\0\0",
+    )?;
+    image.extend_from_slice(&entry.to_le_bytes())?;
+    image.extend_from_slice(b"\x34\0\0\0\xff\xff\xff\xff\xff\xff\xff\xff\xff\xff\x20\0")?;
+    image.extend_from_slice(&count.to_le_bytes())?;
+    image.extend_from_slice(b"\xff\xff\xff\xff\xff\xff")?;
+    for header in headers {
+        push_header(&mut image, header)?;
+    }
+    image.extend_from_slice(bytes)?;
+    Ok(image)
+}
+
+/// The first `length` bytes of an image, with other words at some places.
+fn changed(
+    alloc: Global,
+    image: &[u8],
+    length: usize,
+    changes: &[(usize, u32)],
+) -> Result<Vec<u8>, AllocError> {
+    let mut changed = Vec::from_slice(alloc, image)?;
+    changed.truncate(length);
+    for (at, word) in changes {
+        if *at < changed.len() && changed.len() - at >= 4 {
+            write_bytes(&mut changed, *at, &word.to_le_bytes());
+        }
+    }
+    Ok(changed)
+}
+
+/// So many bytes of RAM from an offset on, if there are as many.
+fn ram_at(loaded: &Loaded, at: usize, count: usize) -> Option<&[u8]> {
+    loaded.ram().get(at..)?.get(..count)
+}
+
+/// The flags of the first pages.
+fn first_flags(loaded: &Loaded, count: usize) -> Option<&[bool]> {
+    loaded.segments().get(..count)
+}
+
+#[test]
+fn loads_exit_seven(rt: HostRuntime) -> Result<(), Fail> {
+    let loaded = load_elf(rt.alloc(), &EXIT_SEVEN, 64)?;
+    assert_eq!(rt; (loaded.entry(), loaded.pages()), (0x8000_0000, 64));
+    assert_eq!(rt;
+        ram_at(&loaded, 0, 5),
+        Some([0xb7, 0x22, 0x00, 0x10, 0x13].as_slice())
+    );
+    assert_eq!(rt; first_flags(&loaded, 2), Some([true, false].as_slice()));
+    Ok(())
+}
+
+static ANY_ORDER: [ProgramHeader; 5] = [
+    [1, 212, 0x8000_2ffe, 2, 6],
+    [4, u32::MAX, u32::MAX, u32::MAX, 0],
+    [1, 214, 0x8000_0000, 3, 3],
+    [1, u32::MAX, u32::MAX, 0, 0],
+    [1, 217, 0x8000_1000, 1, 0x1000],
+];
+
+/// Whether the bytes lie at the borders of those segments as the headers tell.
+fn are_placed(loaded: &Loaded) -> [bool; 3] {
+    [
+        ram_at(loaded, 0, 5) == Some([3, 4, 5, 0, 0].as_slice()),
+        ram_at(loaded, 0xfff, 3) == Some([0, 6, 0].as_slice()),
+        ram_at(loaded, 0x2ffd, 5) == Some([0, 1, 2, 0, 0].as_slice()),
+    ]
+}
+
+#[test]
+fn loads_segments_in_any_order(rt: HostRuntime) -> Result<(), Fail> {
+    let image = image_of(rt.alloc(), 0x8000_1000, &ANY_ORDER, &[1, 2, 3, 4, 5, 6])?;
+    let loaded = load_elf(rt.alloc(), &image, 16)?;
+    assert_eq!(rt;
+        (loaded.entry(), are_placed(&loaded)),
+        (0x8000_1000, [true; 3])
+    );
+    assert_eq!(rt;
+        first_flags(&loaded, 5),
+        Some([true, true, true, true, false].as_slice())
+    );
+    Ok(())
+}
+
+/// A program header for each of 65,534 bytes, the last byte of RAM first.
+fn most_headers(alloc: Global) -> Result<Vec<ProgramHeader>, AllocError> {
+    let mut headers = Vec::new(alloc);
+    for n in 0..65_534 {
+        headers.push([1, 0, 0x8000_fffd - n, 1, 1])?;
+    }
+    Ok(headers)
+}
+
+#[test]
+fn loads_as_many_segments_as_there_may_be(rt: HostRuntime) -> Result<(), Fail> {
+    let headers = most_headers(rt.alloc())?;
+    let image = image_of(rt.alloc(), 0x8000_0000, &headers, &[])?;
+    let loaded = load_elf(rt.alloc(), &image, 16)?;
+    assert_eq!(rt;
+        ram_at(&loaded, 0xfffc, 3),
+        Some([0x7f, 0x7f, 0].as_slice())
+    );
+    Ok(())
+}
+
+static TWO_SEGMENTS: [ProgramHeader; 2] = [
+    [1, 116, 0x8000_0000, 16, 16],
+    [1, 132, 0x8000_0010, 4, 8],
+];
+
+/// Of the file with those segments a length, words at places of it, and the rule that they break.
+static BROKEN: [(usize, &[(usize, u32)], u32); 29] = [
+    (51, &[], 1),
+    (136, &[(0, 0x464c_457e)], 2),
+    (136, &[(4, 0xff01_0102)], 3),
+    (136, &[(4, 0xff01_0201)], 3),
+    (136, &[(4, 0xff00_0101)], 3),
+    (136, &[(20, 2)], 3),
+    (136, &[(16, 0x00f3_0003)], 4),
+    (136, &[(16, 0x003e_0002)], 5),
+    (136, &[(40, 0x0021_ffff)], 6),
+    (136, &[(44, 0xffff_ffff)], 6),
+    (115, &[], 7),
+    (136, &[(28, 73)], 7),
+    (136, &[(28, u32::MAX)], 7),
+    (136, &[(68, 17)], 8),
+    (135, &[], 9),
+    (136, &[(56, 121)], 9),
+    (136, &[(56, u32::MAX)], 9),
+    (136, &[(64, 0x7fff_ffff)], 10),
+    (136, &[(96, 0x8000_fff9)], 10),
+    (136, &[(104, 0x0000_fff1)], 10),
+    (136, &[(104, u32::MAX)], 10),
+    (136, &[(96, 0x8000_000f)], 11),
+    (136, &[(24, 0x8000_0002)], 12),
+    (136, &[(24, 0x7fff_fffc)], 12),
+    (136, &[(24, 0x8001_0000)], 12),
+    (136, &[(16, 0x003e_0003), (4, 0)], 3),
+    (136, &[(56, 121), (104, 3)], 8),
+    (136, &[(64, 0), (88, 133)], 9),
+    (136, &[(24, 1), (96, 0x8000_000f)], 11),
+];
+
+/// Why a file is not loaded, if it is not.
+fn refusal(alloc: Global, file: &[u8]) -> Option<ImageError> {
+    load_elf(alloc, file, 16).err()
+}
+
+#[test]
+fn refuses_by_the_first_rule_that_is_broken(rt: HostRuntime) -> Result<(), Fail> {
+    let image = image_of(rt.alloc(), 0x8000_0000, &TWO_SEGMENTS, &[0; 20])?;
+    assert_eq!(rt; refusal(rt.alloc(), &image), None);
+    for (length, changes, rule) in BROKEN.iter() {
+        let file = changed(rt.alloc(), &image, *length, changes)?;
+        assert_eq!(rt;
+            refusal(rt.alloc(), &file),
+            Some(ImageError::Refused(*rule)),
+            "{changes:?} at {length} bytes"
+        );
+    }
+    Ok(())
+}

@@ -1,0 +1,100 @@
+//! Pages: that calls succeed, that pages are shared until they are written, and that they move between
+//! threads.
+
+use page_frames::{Entry, PAGE_SIZE, Page, share_entries};
+use std::alloc::{AllocError, Global};
+use std::test::Fail;
+use std::thread;
+
+fn page_of(alloc: Global, byte: u8) -> Result<Page, AllocError> {
+    Page::from_slice(alloc, &[byte; PAGE_SIZE])
+}
+
+/// Writes at both ends of a page.
+fn write_ends(page: &mut Page) -> Result<(), AllocError> {
+    page.write(0, &[0x11])?;
+    page.write(1, &[0x22, 0x33])?;
+    page.write(4092, &[0x44, 0x55, 0x66, 0x77])
+}
+
+#[test]
+fn reads_what_is_written(rt: HostRuntime) -> Result<(), Fail> {
+    let mut page = Page::zeroed(rt.alloc())?;
+    write_ends(&mut page)?;
+    let words = [page.word(0), page.word(4092)];
+    let halves = [page.half(1), page.half(4094)];
+    let bytes = [page.byte(0), page.byte(4095), page.byte(4091)];
+    assert_eq!(rt;
+        (words, halves, bytes),
+        (
+            [0x0033_2211, 0x7766_5544],
+            [0x3322, 0x7766],
+            [0x11, 0x77, 0]
+        )
+    );
+    Ok(())
+}
+
+/// The first two bytes and the last of each of three pages.
+fn ends_of(pages: [&Page; 3]) -> [[u8; 3]; 3] {
+    pages.map(|page| [page.byte(0), page.byte(1), page.byte(4095)])
+}
+
+#[test]
+fn a_page_shared_three_ways_is_written_in_each(rt: HostRuntime) -> Result<(), Fail> {
+    let mut first = page_of(rt.alloc(), 0xaa)?;
+    let mut second = first.share()?;
+    let mut third = second.share()?;
+    first.write(0, &[1])?;
+    second.write(4095, &[2])?;
+    third.write(0, &[3, 4])?;
+    assert_eq!(rt;
+        ends_of([&first, &second, &third]),
+        [[1, 0xaa, 0xaa], [0xaa, 0xaa, 2], [3, 4, 0xaa]]
+    );
+    Ok(())
+}
+
+/// Writes two bytes in each entry.
+fn write_each(alloc: Global, entries: &mut [Entry]) -> Result<(), AllocError> {
+    for entry in entries {
+        entry.write(alloc, 4, &[0x11, 0x22])?;
+    }
+    Ok(())
+}
+
+/// Two words of the first two entries, if there are two.
+fn words_of(entries: &[Entry]) -> Option<[u32; 4]> {
+    let [first, second] = entries else {
+        return None;
+    };
+    Some([first.word(4), first.word(8), second.word(4), second.word(8)])
+}
+
+#[test]
+fn a_shared_table_is_written_apart(rt: HostRuntime) -> Result<(), Fail> {
+    let table = vec![in rt.alloc(); Entry::Held(page_of(rt.alloc(), 0xaa)?), Entry::Blank]?;
+    let mut shared = share_entries(rt.alloc(), &table)?;
+    write_each(rt.alloc(), &mut shared)?;
+    assert_eq!(rt;
+        (words_of(&table), words_of(&shared)),
+        (
+            Some([0xaaaa_aaaa, 0xaaaa_aaaa, 0, 0]),
+            Some([0xaaaa_2211, 0xaaaa_aaaa, 0x2211, 0])
+        )
+    );
+    assert!(rt;
+        matches!(table.get(1), Some(Entry::Blank)),
+        "a blank page is held"
+    );
+    Ok(())
+}
+
+#[test]
+fn moves_between_threads(rt: HostRuntime) -> Result<(), Fail> {
+    let page = page_of(rt.alloc(), 0xaa)?;
+    let entry = Entry::Held(page.share()?);
+    let (shared, word) = thread::join(&rt, || page.share(), move || entry.word(0));
+    assert_eq!(rt; (shared?.byte(0), word), (0xaa, 0xaaaa_aaaa));
+    Ok(())
+}

@@ -1,0 +1,16 @@
+//! What the operating system tells of this process.
+
+use std::fs;
+use std::rt::Files;
+use std::test::Fail;
+
+/// How many bytes of the process are in memory (proc(5), `/proc/pid/statm`).
+pub fn resident_bytes(rt: &(impl Files + Alloc)) -> Result<u64, Fail> {
+    let text = fs::read_to_string(rt, "/proc/self/statm")?;
+    let pages = text
+        .as_str()
+        .split_whitespace()
+        .nth(1)
+        .ok_or("no such word")?;
+    Ok(pages.parse::<u64>()?.saturating_mul(4096))
+}
