@@ -17,6 +17,7 @@ abbrev pub total : {V : Type 0} → (V → ℕ) → List V → ℕ
 total f [] = 0
 total f (v ∷ vs) = f v + total f vs
 
+-- n where there is something, else 0
 abbrev pub count_if : {A : Type 0} → Option A → ℕ → ℕ
 count_if None n = 0
 count_if (Some a) n = n
@@ -34,9 +35,11 @@ pub record IsNamed {A : Type 0} (key : A) (made : List (List ℕ)) (about : Opti
   pub unmade : IsLive about → (k : ℕ) → splits ≤ k → has_seat made (seat ++ k ∷ []) ≡ false
 
 module _ {A N : Type 0} where
+  -- how many seats may yet come of it, itself among them; of a spent one none
   abbrev pub room_of : View A N → ℕ
   room_of v = count_if v.about (room (length v.seat) v.splits)
 
+  -- the count of the numbers that it has drawn and not passed
   abbrev pub drawn_of : View A N → ℕ
   drawn_of v = count_if v.number 1
 
@@ -52,9 +55,11 @@ module _ {A N : Type 0} where
   abbrev pub child : View A N → View A N
   child v = record { about = v.about; seat = v.seat ++ v.splits ∷ []; splits = 0; seen = v.seen; mine = []; told = []; number = None; served = false }
 
+  -- the first seat, told what the second had seen
   abbrev pub informed : View A N → View A N → View A N
   informed v w = record v { told = w.seen }
 
+  -- what is left of a seat that was joined to another
   abbrev pub spent : View A N
   spent = record { about = None; seat = []; splits = 0; seen = []; mine = []; told = []; number = None; served = false }
 
@@ -81,7 +86,7 @@ module _ {A N : Type 0} where
   Unlike v w = ((n : ℕ) → v.number ≡ Some n → w.number ≢ Some n) × (IsLive v.about → IsLive w.about → v.seat ≢ w.seat)
 
   module _ {T : Type 0} where
-    -- the value is in the slot and stands for the history, or the slot is out with a seat whose turn has come
+    -- the value is in the slot and stands for the history, or the slot is out with a seat whose turn has come, which alone moves it
     abbrev pub Home : (A → History N → T → Type 0) → A → History N → State (Content T N) (View A N) → Type 0
     Home stands about log s =
         ((x : T) × (note : Option (Snapshot N)) × (get_elem? s.homes 0 ≡ some (some (content (Some x) note))) × stands about log x)
@@ -92,14 +97,19 @@ module _ {A N : Type 0} where
       pub log : History N
       -- the numbers of the seats that were made
       pub made : List (List ℕ)
-      -- as many numbers were drawn
+      -- how many numbers were drawn
       pub ticket : ℕ
+      -- SERVING is how many entries the history has
       pub words_are : s.words ≡ ticket ∷ length log ∷ []
+      -- SERVING and the count of the numbers drawn and not passed make TICKET
       pub count : ticket ≡ length log + total drawn_of s.views
+      -- no more seats live than had room in the first, so neither word wraps
       pub seats : total room_of s.views ≤ 281474976710656
       pub bound : length log ≤ 9223372036854775808
       pub fits : (id : ℕ) (v : View A N) → get_elem? s.views id ≡ some v → Fits about log made ticket v
       pub apart : (i j : ℕ) (v w : View A N) → i ≢ j → get_elem? s.views i ≡ some v → get_elem? s.views j ≡ some w → Unlike v w
+      -- who split a seat off was made before it
       pub rooted : (seat : List ℕ) (k : ℕ) → has_seat made (seat ++ k ∷ []) ≡ true → has_seat made seat ≡ true
+      -- the history has no entry of a seat that is not made
       pub fresh : (seat : List ℕ) → has_seat made seat ≡ false → entries_by seat log ≡ []
       pub home : Home stands about log s

@@ -18,7 +18,8 @@ pub(crate) const SERVING: usize = 1;
 /// A number from here on waits for ever.
 pub(crate) const MOST: u64 = 1 << 63;
 
-/// The table of a lock: two words, and one slot for the value. It stands apart from `Turns`, so that it may go to other threads.
+/// The table of a lock: two words, and one slot for the value. It has its rule as a parameter, since a struct that names a
+/// rule which stands on a bound may not go to other threads.
 #[derive(Drop)]
 pub struct Lock<S, V, K, P: TableRule<S, V, K>> {
     pub table: Table<S, V, K, P, Global>,
