@@ -1,0 +1,5 @@
+pub mod Views
+pub mod Names
+pub mod Entries
+pub mod Moves
+pub mod Calls

@@ -1,0 +1,66 @@
+-- Numbers of seats: which are made, and how many may yet be.
+use Rattle.std.proofs.Common.{◌≡◌, ◌≢◌, ◌⊎◌, ℕ, zero, suc, ◌+◌, ◌<◌, ◌≤◌, List, [], ◌∷◌, ◌++◌, length, Bool, true, false, refl, sym, ap, ◌∙◌, subst, inl, inr, arith}
+use Rattle.std.specs.Prelude.{◌||◌}
+use Rattle.std.proofs.lemmas.List.{length_push, same_from_push}
+use Rattle.std.proofs.lemmas.Slice.Eq.{bytes_eq-Decides}
+use Rattle.turn_board.specs.Seats.{is_seat, has_seat, room}
+
+pub not_true : (b : Bool) → (b ≡ true → ⊥) → b ≡ false
+not_true true h = absurd (h refl)
+not_true false h = refl
+
+pub same_is : (s : List ℕ) → is_seat s s ≡ true
+same_is s = (bytes_eq-Decides s s).1 refl
+
+pub unlike_is : (s t : List ℕ) → s ≢ t → is_seat s t ≡ false
+unlike_is s t other = not_true (is_seat s t) (λ e. other ((bytes_eq-Decides s t).0 e))
+
+pub has_new : (made : List (List ℕ)) (s : List ℕ) → has_seat (s ∷ made) s ≡ true
+has_new made s = ap (λ b. b || has_seat made s) (same_is s)
+
+pub has_old : (made : List (List ℕ)) (s t : List ℕ) → has_seat made t ≡ true → has_seat (s ∷ made) t ≡ true
+has_old made s t had = ap (λ b. is_seat s t || b) had ∙ or_true (is_seat s t)
+  where
+    or_true : (b : Bool) → (b || true) ≡ true
+    or_true true = refl
+    or_true false = refl
+
+pub has_not : (made : List (List ℕ)) (s t : List ℕ) → s ≢ t → has_seat made t ≡ false → has_seat (s ∷ made) t ≡ false
+has_not made s t other none = ap (λ b. b || has_seat made t) (unlike_is s t other) ∙ none
+
+pub had : (made : List (List ℕ)) (s t : List ℕ) → has_seat (s ∷ made) t ≡ true → (s ≡ t) ⊎ (has_seat made t ≡ true)
+had made s t has = either (is_seat s t) refl has
+  where
+    either : (b : Bool) → is_seat s t ≡ b → (b || has_seat made t) ≡ true → (s ≡ t) ⊎ (has_seat made t ≡ true)
+    either true same h = inl ((bytes_eq-Decides s t).0 same)
+    either false same h = inr h
+
+pub had_not : (made : List (List ℕ)) (s t : List ℕ) → has_seat (s ∷ made) t ≡ false → (s ≢ t) × (has_seat made t ≡ false)
+had_not made s t none = (
+  (λ same. differ (sym (subst (λ u. has_seat (s ∷ made) u ≡ true) same (has_new made s)) ∙ none)),
+  not_true (has_seat made t) (λ has. differ (sym (has_old made s t has) ∙ none)),
+)
+  where
+    differ : true ≡ false → ⊥
+    differ e = cc
+
+pub above_self : (s : List ℕ) (k : ℕ) → s ++ k ∷ [] ≢ s
+above_self s k e = let longer = ap length e in absurd (omega (arith, length_push s k))
+
+pub same_child : (s t : List ℕ) (j k : ℕ) → s ++ j ∷ [] ≡ t ++ k ∷ [] → (s ≡ t) × (j ≡ k)
+same_child s t j k e = same_from_push s t j k e
+
+-- a split hands on just the room of the new seat
+pub room_split : (p splits : ℕ) → p < 3 → splits < 65535 → room p splits ≡ room p (splits + 1) + room (suc p) 0
+room_split zero k low few = omega arith
+room_split (suc zero) k low few = omega arith
+room_split (suc (suc zero)) k low few = omega arith
+room_split (suc (suc (suc p))) k low few = absurd (omega arith)
+
+-- a seat has room for itself
+pub room_pos : (p splits : ℕ) → p ≤ 3 → splits ≤ 65535 → 1 ≤ room p splits
+room_pos zero k low few = omega arith
+room_pos (suc zero) k low few = omega arith
+room_pos (suc (suc zero)) k low few = omega arith
+room_pos (suc (suc (suc zero))) k low few = omega arith
+room_pos (suc (suc (suc (suc p)))) k low few = absurd (omega arith)

@@ -1,0 +1,15 @@
+//! A lock whose holders take turns, in the order of the tickets that they draw. All turns are one history, and the value
+//! under the lock stands for it.
+#![tactic(auto)]
+
+mod crossing;
+mod lends;
+mod plays;
+mod turn;
+mod turns;
+mod view;
+
+pub use crossing::split_beside;
+pub use turn::Turn;
+pub use turns::{Lock, Turns};
+pub use view::{Content, Keeping, Kept, Seat, View};

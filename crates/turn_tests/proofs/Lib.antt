@@ -1,0 +1,1 @@
+-- The one proof file beside this one is the invariant of a loop.
