@@ -4,8 +4,6 @@
 mod memory;
 mod outside;
 mod real;
-#[cfg(test)]
-mod tests;
 
 pub use memory::{MemShelf, MemSink};
 pub use outside::{LAST_COUNT, Shelf, ShelfError, Sink, WriteFault, put_all};

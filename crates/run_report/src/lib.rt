@@ -5,8 +5,6 @@ pub mod laws;
 mod line;
 mod name;
 mod report;
-#[cfg(test)]
-mod tests;
 
 pub use line::Line;
 pub use name::Name;

@@ -2,7 +2,7 @@
 
 ghost use Rattle.std.specs.Prelude.{◌≡◌, ◌≤◌, ◌++◌, codes, IfOk, OnOk, OnErr, string_bytes};
 ghost use Rattle.io_edge.specs.Outside.{HasRisen, appended, IsPrefixGone};
-ghost use Rattle.run_report.specs.Lines.{after_heading, heading, machine_line, ticket_line};
+ghost use Rattle.run_report.specs.Lines.{after_heading, heading, ticket_line};
 ghost use Rattle.run_report.specs.Said.{line_of_machine, line_of_ticket};
 
 use crate::Name;
@@ -80,17 +80,6 @@ impl Model for Line {
 
 impl Line {
     /// The line of a machine that has ended.
-    pub fn machine(name: Name, ending: Ending, steps: u64, output: Vec<u8>) -> Line
-        ensures { result ≡ machine_line name ending steps output.items }
-    {
-        Line::of_machine(MachineLine {
-            name,
-            ending,
-            steps,
-            output,
-        })
-    }
-
     pub(crate) fn of_machine(line: MachineLine) -> Line
         ensures { result ≡ line_of_machine line }
     {

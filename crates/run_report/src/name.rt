@@ -1,6 +1,6 @@
 //! Names of machines, which are keys of maps too.
 
-ghost use Rattle.std.specs.Prelude.{◌≡◌, ℕ, ◌+◌, ◌≤◌, [], ◌∷◌, ◌++◌, length, IfOk, IsTrue, ◌↔◌, MatchOption, string_bytes};
+ghost use Rattle.std.specs.Prelude.{◌≡◌, ℕ, ◌+◌, ◌≤◌, [], ◌∷◌, ◌++◌, length, IfOk, MatchOption, string_bytes};
 ghost use Rattle.std.specs.Option.{option_map};
 ghost use Rattle.forest_tree.specs.Tree.{Path, beyond, is_below};
 ghost use Rattle.run_report.specs.Name.{begins_with, child_path, name_text};
@@ -11,7 +11,7 @@ use std::fmt;
 use std::marker::Model;
 
 /// A fork on the way to a machine: the ticket, and which child of the ticket it is.
-#[derive(Clone, Copy, Debug)]
+#[derive(Clone, Copy)]
 struct Branch {
     ticket: u32,
     child: u32,
@@ -92,7 +92,7 @@ impl Ord for Branch {
 /// The name of a machine: for each fork on the way to it from the root, the ticket and which child of
 /// the ticket it is. The root's name has none. Names are in the order of a family's tree: a machine comes
 /// before its children, and these by ticket and by number.
-#[derive(Debug, Drop)]
+#[derive(Drop)]
 pub struct Name {
     branches: Vec<Branch>,
 }
@@ -113,13 +113,6 @@ impl Name {
         Name {
             branches: Vec::new(alloc),
         }
-    }
-
-    /// Whether this is the name of the machine that was booted.
-    pub fn is_root(&self) -> bool
-        ensures { IsTrue result ↔ (self.now ≡ []) }
-    {
-        self.branches.is_empty()
     }
 
     /// The name of a child of this machine.
@@ -155,18 +148,6 @@ impl Name {
     {
         let last = self.branches.pop()?;
         Some((last.ticket, last.child))
-    }
-
-    /// Gives the child of the last fork another number, so that a sibling's name is left. The root's name has
-    /// no fork, and stays. It takes no memory.
-    pub fn set_last_index(&mut self, index: u32)
-        ensures root { self.old ≡ [] → self.new ≡ [] }
-        ensures child { (parent : Path) (ticket k : ℕ) → self.old ≡ child_path parent ticket k → self.new ≡ child_path parent ticket index }
-    {
-        let Some(last) = self.branches.pop() else {
-            return;
-        };
-        self.branches.push_reserved(Branch::new(last.ticket, index));
     }
 
     /// Whether this name goes on from another by a child of a ticket.

@@ -1,6 +1,6 @@
 use Rattle.std.proofs.Common.{◌∙◌}
 use Rattle.run_report.proofs.NameMaps.{updated-apart}
-use Rattle.run_report.proofs.tests.got_after.Goals as goal
+use Rattle.machine_tests.proofs.reports.got_after.Goals as goal
 
 pub returns-clause-apart : goal.returns-clause-apart
 returns-clause-apart c other =

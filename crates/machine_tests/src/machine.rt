@@ -1,7 +1,8 @@
 //! One machine: that calls succeed. What whole guests come to is tested by the command line.
 
-ghost use Rattle.std.specs.Prelude.{◌≤◌, length, All, IfOk};
+ghost use Rattle.std.specs.Prelude.{◌≡◌, ◌≤◌, [], length, All, IfOk};
 ghost use Rattle.image_depot.specs.Key.{IsKeyOf};
+ghost use Rattle.forest_model.specs.Forest.{port_of};
 ghost use Rattle.vm_cell.specs.Woken.{IsOfImage};
 
 use cow_disk::Disk;
@@ -11,16 +12,19 @@ use fork_port::Call;
 use image_depot::Depot;
 use rv_asm::elf_of;
 use std::alloc::Global;
+use std::process::Abort;
 use std::sync::Wait;
 use std::test::Fail;
 use vm_cell::{Brood, Stepped, Vm};
 use vm_descriptor::{DescError, Descriptor};
 
 // A machine of these words with so many pages, that makes at most 1,000,000 steps and may have two clones.
-fn booted(alloc: Global, words: &[u32], pages: u32) -> Result<Vm, Fail>
+#[tactic(auto, unfolding(forest_model::specs::Machine::boot))]
+pub(crate) fn booted(alloc: Global, words: &[u32], pages: u32) -> Result<Vm, Fail>
     requires words { length words.now ≤ 64 }
     requires least { 16 ≤ pages }
     requires most { pages ≤ 1024 }
+    ensures { IfOk result (λ vm. (port_of vm).tickets ≡ []) }
 {
     let image = load_elf(alloc, &elf_of(alloc, RAM_BASE, words)?, pages)?;
     let disk = Disk::from_bytes(alloc, b"")?;
@@ -37,36 +41,46 @@ static EXIT_SEVEN: [u32; 5] = [0x100022b7, 0x00700313, 0x0062a023, 0x00500313, 0
 fn shows_words_and_registers(rt: HostRuntime) -> Result<(), Fail> {
     let mut vm = booted(rt.alloc(), &EXIT_SEVEN, 64)?;
     vm.run(2)?;
-    assert_eq!(rt; vm.peek(0x8000_0004), Some(0x0070_0313));
-    assert_eq!(rt; vm.peek(0x8003_fffc), Some(0));
-    assert_eq!(rt; vm.peek(0x8000_0002), None);
-    assert_eq!(rt; vm.peek(0x8004_0000), None);
+    shows(&rt, &vm);
+    Ok(())
+}
+
+fn shows(rt: &impl Abort, vm: &Vm) {
+    let words = [
+        vm.peek(0x8000_0004),
+        vm.peek(0x8003_fffc),
+        vm.peek(0x8000_0002),
+        vm.peek(0x8004_0000),
+    ];
+    assert_eq!(rt; words, [Some(0x0070_0313), Some(0), None, None]);
     // x5 is the fork port, and x6 the value to exit with
     let mut registers = [0; 32];
     registers[0] = 0x8000_0008;
     registers[5] = 0x1000_2000;
     registers[6] = 7;
-    assert_eq!(rt; vm.regs().as_slice(), registers.as_slice());
-    Ok(())
+    assert_eq!(rt; vm.regs(), registers);
 }
 
 #[test]
 fn stops_and_goes_on(rt: HostRuntime) -> Result<(), Fail> {
     let mut vm = booted(rt.alloc(), &EXIT_SEVEN, 64)?;
+    goes_on(&rt, &mut vm)
+}
+
+fn goes_on(rt: &impl Abort, vm: &mut Vm) -> Result<(), Fail> {
     let ran = vm.run(3)?;
-    assert_eq!(rt; ran.steps, 3);
-    assert_eq!(rt; ran.why, Stepped::Went);
-    assert_eq!(rt; vm.step()?, Stepped::Went);
-    assert_eq!(rt; vm.step()?, Stepped::Ended(Ending::Exit(7)));
-    assert_eq!(rt; vm.step()?, Stepped::Ended(Ending::Exit(7)));
-    assert_eq!(rt; vm.run(3)?.steps, 0);
-    assert_eq!(rt; vm.steps(), 5);
+    let stepped = [vm.step()?, vm.step()?, vm.step()?];
+    let last = vm.run(3)?;
+    assert_eq!(rt; (ran.steps, ran.why), (3, Stepped::Went));
+    let ended = Stepped::Ended(Ending::Exit(7));
+    assert_eq!(rt; stepped, [Stepped::Went, ended, ended]);
+    assert_eq!(rt; (last.steps, vm.steps()), (0, 5));
     Ok(())
 }
 
 // Two children that exit with 40 and their number, whom the parent joins, to exit with the value of the
 // first.
-static TWO_CHILDREN: [u32; 25] = [
+pub(crate) static TWO_CHILDREN: [u32; 25] = [
     0x100022b7, 0x00200313, 0x0062a023, 0x0002a223, 0x00100313, 0x0062a423, 0x00c2a383, 0x0072a023,
     0x00200313, 0x0062a423, 0x0102a403, 0x02041463, 0x00300313, 0x0072a023, 0x0062a423, 0x00100313,
     0x0062ac23, 0x0202a303, 0x0062a023, 0x00500313, 0x0062a423, 0x02840313, 0x0062a023, 0x00500313,
@@ -109,18 +123,27 @@ fn join(vm: &mut Vm, endings: &[Ending]) -> Result<(), Fail> {
 
 #[test]
 fn a_parent_joins_its_children(rt: HostRuntime) -> Result<(), Fail> {
-    let alloc = rt.alloc();
-    let depot = Depot::new(alloc)?;
-    let mut vm = booted(alloc, &TWO_CHILDREN, 64)?;
+    let depot = Depot::new(rt.alloc())?;
+    let mut vm = booted(rt.alloc(), &TWO_CHILDREN, 64)?;
+    joins_its_children(&rt, rt.alloc(), &mut vm, &depot)
+}
+
+fn joins_its_children<R: Abort + Wait>(
+    rt: &R,
+    alloc: Global,
+    vm: &mut Vm,
+    depot: &Depot,
+) -> Result<(), Fail> {
     assert_eq!(rt; vm.run(1000)?.why, Stepped::Call(Call::Clone(1)));
-    let brood = fork(&rt, alloc, &mut vm, &depot)?;
-    let endings = ends_of(alloc, &brood, &depot)?;
-    assert_eq!(rt;
-        endings.as_slice(),
-        [Ending::Exit(41), Ending::Exit(42)].as_slice()
-    );
+    let brood = fork(rt, alloc, vm, depot)?;
+    let endings = ends_of(alloc, &brood, depot)?;
+    ends_with_the_first(rt, vm, &endings)
+}
+
+fn ends_with_the_first(rt: &impl Abort, vm: &mut Vm, endings: &[Ending]) -> Result<(), Fail> {
+    assert_eq!(rt; endings, [Ending::Exit(41), Ending::Exit(42)].as_slice());
     assert_eq!(rt; vm.run(1000)?.why, Stepped::Call(Call::Join(1)));
-    join(&mut vm, &endings)?;
+    join(vm, endings)?;
     assert_eq!(rt; vm.run(1000)?.why, Stepped::Ended(Ending::Exit(41)));
     assert_eq!(rt; vm.steps(), 21);
     Ok(())
@@ -157,14 +180,29 @@ fn is_refused(alloc: Global, bytes: &[u8], number: u32) -> bool {
     }
 }
 
+/// The bytes of the descriptor of the first child.
+fn first_child<R: Wait>(
+    rt: &R,
+    alloc: Global,
+    vm: &mut Vm,
+    depot: &Depot,
+) -> Result<Vec<u8>, Fail> {
+    vm.run(1000)?;
+    let brood = fork(rt, alloc, vm, depot)?;
+    Ok(brood.seeds.first().ok_or("no child")?.encode(alloc)?)
+}
+
 #[test]
 fn a_descriptor_goes_through_its_bytes(rt: HostRuntime) -> Result<(), Fail> {
-    let alloc = rt.alloc();
-    let depot = Depot::new(alloc)?;
-    let mut vm = booted(alloc, &TWO_CHILDREN, 16)?;
-    vm.run(1000)?;
-    let brood = fork(&rt, alloc, &mut vm, &depot)?;
-    let mut bytes = brood.seeds.first().ok_or("no child")?.encode(alloc)?;
+    let depot = Depot::new(rt.alloc())?;
+    let mut vm = booted(rt.alloc(), &TWO_CHILDREN, 16)?;
+    let mut bytes = first_child(&rt, rt.alloc(), &mut vm, &depot)?;
+    goes_through(&rt, rt.alloc(), &bytes)?;
+    is_refused_where_changed(&rt, rt.alloc(), &bytes)?;
+    is_refused_where_longer(&rt, rt.alloc(), &mut bytes)
+}
+
+fn goes_through(rt: &impl Abort, alloc: Global, bytes: &[u8]) -> Result<(), Fail> {
     assert_eq!(rt; bytes.len(), 778);
     for (at, part) in FIRST_CHILD.iter() {
         assert!(rt;
@@ -172,22 +210,34 @@ fn a_descriptor_goes_through_its_bytes(rt: HostRuntime) -> Result<(), Fail> {
             "at {at}"
         );
     }
-    let again = Descriptor::decode(alloc, &bytes)?.encode(alloc)?;
-    assert_eq!(rt; again.as_slice(), bytes.as_slice());
+    let again = Descriptor::decode(alloc, bytes)?.encode(alloc)?;
+    assert_eq!(rt; again.as_slice(), bytes);
+    Ok(())
+}
+
+fn is_refused_where_changed(rt: &impl Abort, alloc: Global, bytes: &[u8]) -> Result<(), Fail> {
     assert!(rt; is_refused(alloc, bytes.split_at(775.min(bytes.len())).0, 1));
     assert!(rt; is_refused(alloc, bytes.split_at(777.min(bytes.len())).0, 4));
     for (at, byte, number) in REFUSED.iter() {
-        let mut changed = bytes.clone()?;
+        let mut changed = Vec::from_slice(alloc, bytes)?;
         if let Some(old) = changed.get_mut(*at) {
             *old = *byte;
         }
         assert!(rt; is_refused(alloc, &changed, *number), "at {at}");
     }
+    Ok(())
+}
+
+fn is_refused_where_longer(
+    rt: &impl Abort,
+    alloc: Global,
+    bytes: &mut Vec<u8>,
+) -> Result<(), Fail> {
     bytes.push(0xff)?;
-    assert!(rt; is_refused(alloc, &bytes, 4));
+    assert!(rt; is_refused(alloc, bytes, 4));
     if let Some(pages) = bytes.get_mut(8) {
         *pages = 20;
     }
-    assert!(rt; is_refused(alloc, &bytes, 6));
+    assert!(rt; is_refused(alloc, bytes, 6));
     Ok(())
 }

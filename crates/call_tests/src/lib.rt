@@ -1,9 +1,0 @@
-//! Tests of public calls, of what no clause says: that those which may want memory succeed where there is some,
-//! that pages are really shared, which texts are no scripts. They stand here and not in the crates of the calls,
-//! since a crate with tests is proved twice, and this one has nothing else.
-#![tactic(auto)]
-
-#[cfg(test)]
-mod machine;
-#[cfg(test)]
-mod scripts;

@@ -1,0 +1,18 @@
+//! Tests of public calls, of what no clause says: that those which may want memory succeed where there is some,
+//! which texts are no scripts, what a report looks like, which numbers stand behind the names of constants. They
+//! stand here and not in the crates of the calls, since a crate with tests is proved twice, and this one has
+//! nothing else.
+#![tactic(auto)]
+
+#[cfg(test)]
+mod machine;
+#[cfg(test)]
+mod numbers;
+#[cfg(test)]
+mod outside;
+#[cfg(test)]
+mod reports;
+#[cfg(test)]
+mod scripts;
+#[cfg(test)]
+mod worlds;

@@ -1,0 +1,68 @@
+//! The numbers that stand behind the names of constants.
+
+use console_port::MAX_INPUT;
+use drive_script::{MAX_SCRIPT, MAX_STEPS};
+use elf_load::{MAX_PAGES, MIN_PAGES, PAGE_SIZE, RAM_BASE};
+use forest_model::cause::{
+    BREAKPOINT, ENVIRONMENT_CALL, ILLEGAL_INSTRUCTION, INSTRUCTION_ACCESS_FAULT,
+    INSTRUCTION_ADDRESS_MISALIGNED, LOAD_ACCESS_FAULT, LOAD_ADDRESS_MISALIGNED, STORE_ACCESS_FAULT,
+    STORE_ADDRESS_MISALIGNED,
+};
+use forest_model::port_map::{BLOCK_BASE, CONSOLE_BASE, FORK_BASE, TIMER_BASE};
+use rv_traps::TIMER_INTERRUPT;
+use std::test::Fail;
+use vm_descriptor::{MAX_CLONES, MAX_LIMIT, MAX_SHARE};
+
+/// Where RAM and the ports begin.
+static ADDRESSES: [(u32, u32); 5] = [
+    (RAM_BASE, 0x8000_0000),
+    (CONSOLE_BASE, 0x1000_0000),
+    (BLOCK_BASE, 0x1000_1000),
+    (FORK_BASE, 0x1000_2000),
+    (TIMER_BASE, 0x0200_4000),
+];
+
+/// The causes of traps.
+static CAUSES: [(u32, u32); 10] = [
+    (INSTRUCTION_ADDRESS_MISALIGNED, 0),
+    (INSTRUCTION_ACCESS_FAULT, 1),
+    (ILLEGAL_INSTRUCTION, 2),
+    (BREAKPOINT, 3),
+    (LOAD_ADDRESS_MISALIGNED, 4),
+    (LOAD_ACCESS_FAULT, 5),
+    (STORE_ADDRESS_MISALIGNED, 6),
+    (STORE_ACCESS_FAULT, 7),
+    (ENVIRONMENT_CALL, 11),
+    (TIMER_INTERRUPT, 0x8000_0007),
+];
+
+/// The least pages of a guest and the most, its most clones, the greatest share, and the most steps of a line of
+/// a script.
+static LIMITS: [(u32, u32); 5] = [
+    (MIN_PAGES, 16),
+    (MAX_PAGES, 1024),
+    (MAX_CLONES, 4096),
+    (MAX_SHARE, 4095),
+    (MAX_STEPS, 1_000_000_000),
+];
+
+/// The bytes of a page, and the most of an input and of a script.
+static SIZES: [(usize, usize); 3] = [
+    (PAGE_SIZE, 4096),
+    (MAX_INPUT, 65_536),
+    (MAX_SCRIPT, 1_048_576),
+];
+
+#[test]
+fn constants_are_these(rt: HostRuntime) -> Result<(), Fail> {
+    for table in [ADDRESSES.as_slice(), CAUSES.as_slice(), LIMITS.as_slice()] {
+        for (is, number) in table.iter() {
+            assert_eq!(rt; is, number);
+        }
+    }
+    for (is, number) in SIZES.iter() {
+        assert_eq!(rt; is, number);
+    }
+    assert_eq!(rt; MAX_LIMIT, 1_000_000_000);
+    Ok(())
+}

@@ -1,0 +1,54 @@
+//! What no clause says of the outside: real files and streams, and that memory does not want where there is some.
+
+use io_edge::{
+    FileShelf, MemShelf, MemSink, Shelf, ShelfError, Sink, StdSink, WriteFault, put_all,
+};
+use std::alloc::Global;
+use std::fs;
+use std::process::Abort;
+use std::test::Fail;
+
+#[test]
+fn reads_and_writes_the_real_outside(rt: HostRuntime) -> Result<(), Fail> {
+    fs::write(&rt, "machine_tests-file", b"12345".as_slice())?;
+    reads_a_file(&rt, rt.alloc(), &mut FileShelf::new(&rt))?;
+    fs::remove_file(&rt, "machine_tests-file")?;
+    is_missing(&rt, rt.alloc(), &mut FileShelf::new(&rt));
+    assert_eq!(rt; StdSink::new(&rt).put(b"snow"), Ok(4));
+    Ok(())
+}
+
+/// The file is read whole, or not at all.
+fn reads_a_file<S: Shelf>(rt: &impl Abort, alloc: Global, shelf: &mut S) -> Result<(), Fail> {
+    let bytes = shelf.load(alloc, "machine_tests-file", 5)?;
+    assert_eq!(rt; bytes.as_slice(), b"12345".as_slice());
+    let cut = shelf.load(alloc, "machine_tests-file", 4).err();
+    assert_eq!(rt; cut, Some(ShelfError::TooLong));
+    Ok(())
+}
+
+fn is_missing<S: Shelf>(rt: &impl Abort, alloc: Global, shelf: &mut S) {
+    let missing = shelf.load(alloc, "machine_tests-file", 5).err();
+    assert_eq!(rt; missing, Some(ShelfError::Fault));
+}
+
+#[test]
+fn reads_and_writes_memory(rt: HostRuntime) -> Result<(), Fail> {
+    let alloc = rt.alloc();
+    let file = (
+        String::from_str(alloc, "name")?,
+        Vec::from_slice(alloc, b"12345")?,
+    );
+    let mut shelf = MemShelf::new(vec![in alloc; file]?, Vec::new(alloc));
+    let bytes = shelf.load(alloc, "name", 5)?;
+    fills_a_sink(&rt, alloc, &bytes)
+}
+
+/// A sink takes bytes while it has room.
+fn fills_a_sink(rt: &impl Abort, alloc: Global, bytes: &[u8]) -> Result<(), Fail> {
+    let mut sink = MemSink::new(alloc, 2, 8, Vec::new(alloc))?;
+    let puts = [put_all(&mut sink, bytes), put_all(&mut sink, bytes)];
+    assert_eq!(rt; puts, [Ok(()), Err(WriteFault)]);
+    assert_eq!(rt; sink.bytes(), b"12345123".as_slice());
+    Ok(())
+}

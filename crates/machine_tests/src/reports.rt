@@ -1,0 +1,212 @@
+//! What no clause says of names and reports: their texts, and that memory does not want where there is some.
+
+ghost use Rattle.std.specs.Prelude.{◌≡◌, ◌≢◌, Some, IfOk};
+ghost use Rattle.std.specs.Option.{option_copied};
+ghost use Rattle.std.specs.BTreeMap.{get};
+ghost use Rattle.run_report.specs.NameOrder.{path_cmp};
+
+use forest_model::Ending;
+use io_edge::MemSink;
+use run_report::{Line, Name, Outcome, report_into};
+use std::alloc::{AllocError, AllocFailed, Global};
+use std::collections::BTreeMap;
+use std::process::Abort;
+use std::test::Fail;
+
+/// What a map has at a name after 1 was put at another.
+fn got_after(
+    map: &mut BTreeMap<Name, u32>,
+    at: Name,
+    name: &Name,
+) -> Result<Option<u32>, AllocFailed<(Name, u32)>>
+    ensures here { IfOk result (λ got. at ≡ name.now → got ≡ Some 1) }
+    ensures apart { IfOk result (λ got. at ≢ name.now → got ≡ get path_cmp map.old name.now) }
+{
+    map.insert(at, 1)?;
+    Ok(map.get(name).copied())
+}
+
+#[test]
+fn names_are_keys(rt: HostRuntime) -> Result<(), Fail> {
+    let mut map = BTreeMap::new(rt.alloc());
+    are_keys(&rt, rt.alloc(), &mut map)
+}
+
+fn are_keys(rt: &impl Abort, alloc: Global, map: &mut BTreeMap<Name, u32>) -> Result<(), Fail> {
+    let root = Name::root(alloc);
+    let child = root.child(alloc, 1, 2)?;
+    assert_eq!(rt; got_after(map, child.copy(alloc)?, &child)?, Some(1));
+    let other = root.child(alloc, 1, 3)?;
+    assert_eq!(rt; got_after(map, root, &other)?, None);
+    Ok(())
+}
+
+#[test]
+fn names_have_texts(rt: HostRuntime) -> Result<(), Fail> {
+    let alloc = rt.alloc();
+    let root = Name::root(alloc);
+    let child = root.child(alloc, 1, 2)?;
+    let mut grandchild = child.child(alloc, 30, 4_294_967_295)?;
+    has_text(&rt, alloc, &root, "0")?;
+    has_text(&rt, alloc, &grandchild, "0.1.2.30.4294967295")?;
+    tells_what_is_below(&rt, &root, &child, &grandchild);
+    goes_back(&rt, &child, &mut grandchild);
+    Ok(())
+}
+
+fn has_text(rt: &impl Abort, alloc: Global, name: &Name, text: &str) -> Result<(), Fail> {
+    assert_eq!(rt; name.text(alloc)?.as_str(), text);
+    Ok(())
+}
+
+fn tells_what_is_below(rt: &impl Abort, root: &Name, child: &Name, grandchild: &Name) {
+    let told = [
+        grandchild.is_below(root, 1),
+        grandchild.is_below(root, 2),
+        grandchild.is_below_all(child),
+        child.is_below_all(child),
+    ];
+    assert_eq!(rt; told, [true, false, true, false]);
+}
+
+fn goes_back(rt: &impl Abort, child: &Name, grandchild: &mut Name) {
+    assert_eq!(rt; grandchild.pop(), Some((30, 4_294_967_295)));
+    assert!(rt; &*grandchild == child);
+}
+
+/// An outcome is reported so.
+fn is_reported(rt: &impl Abort, alloc: Global, outcome: &Outcome, text: &[u8]) -> Result<(), Fail> {
+    let mut sink = MemSink::new(alloc, 7, 1000, Vec::new(alloc))?;
+    report_into(alloc, outcome, &mut sink)?;
+    assert_eq!(rt; sink.bytes(), text);
+    Ok(())
+}
+
+/// An outcome with no output.
+fn silent(name: Name, ending: Ending, steps: u64, log: Vec<Line>, alloc: Global) -> Outcome {
+    Outcome::new(name, ending, steps, Vec::new(alloc), log)
+}
+
+/// A log of a killed ticket.
+fn log_of(alloc: Global, name: &Name, ticket: u32, killed: u32) -> Result<Vec<Line>, AllocError> {
+    let mut log = Vec::new(alloc);
+    log.push(Line::ticket(name.copy(alloc)?, ticket, killed))?;
+    Ok(log)
+}
+
+/// Moves the lines of a child to a log.
+fn join(log: &mut Vec<Line>, child: Outcome) -> Result<(), AllocError> {
+    log.reserve(child.line_count())?;
+    child.into_log(log);
+    Ok(())
+}
+
+#[test]
+fn one_machine_puts_out_its_bytes(rt: HostRuntime) -> Result<(), Fail> {
+    let alloc = rt.alloc();
+    let name = Name::root(alloc).child(alloc, 1, 2)?;
+    let output = Vec::from_slice(alloc, b"A")?;
+    let outcome = Outcome::new(name, Ending::Limit, 10, output, Vec::new(alloc));
+    is_reported(
+        &rt,
+        alloc,
+        &outcome,
+        b"machine 0.1.2 limit steps 10 out 1\nA\n",
+    )
+}
+
+/// What the children of the family end with, by their number.
+static VALUES: [(u32, u32); 2] = [(1, 41), (2, 42)];
+
+/// The family of a root and two children.
+fn family(alloc: Global) -> Result<Outcome, AllocError> {
+    let root = Name::root(alloc);
+    let mut log = Vec::new(alloc);
+    for (index, value) in VALUES.iter() {
+        let name = root.child(alloc, 1, *index)?;
+        join(
+            &mut log,
+            silent(name, Ending::Exit(*value), 16, Vec::new(alloc), alloc),
+        )?;
+    }
+    Ok(silent(root, Ending::Exit(41), 21, log, alloc))
+}
+
+#[test]
+fn children_come_after_their_parent(rt: HostRuntime) -> Result<(), Fail> {
+    let outcome = family(rt.alloc())?;
+    is_reported(
+        &rt,
+        rt.alloc(),
+        &outcome,
+        b"machine 0 exit 41 steps 21 out 0\n\nmachine 0.1.1 exit 41 steps 16 out 0\n\nmachine 0.1.2 exit 42 steps 16 out 0\n\n",
+    )
+}
+
+/// How a machine ends that has killed a ticket of two children, after how many steps, and what is reported of it.
+static KILLED: [(Ending, u64, &[u8]); 2] = [
+    (
+        Ending::Limit,
+        10,
+        b"machine 0 limit steps 10 out 0\n\nticket 0.1 killed 2\n",
+    ),
+    (
+        Ending::Exit(4_294_967_295),
+        21,
+        b"machine 0 exit 4294967295 steps 21 out 0\n\nticket 0.1 killed 2\n",
+    ),
+];
+
+#[test]
+fn killed_tickets_are_told(rt: HostRuntime) -> Result<(), Fail> {
+    for (ending, steps, text) in KILLED.iter() {
+        is_told(&rt, rt.alloc(), *ending, *steps, text)?;
+    }
+    Ok(())
+}
+
+fn is_told(
+    rt: &impl Abort,
+    alloc: Global,
+    ending: Ending,
+    steps: u64,
+    text: &[u8],
+) -> Result<(), Fail> {
+    let root = Name::root(alloc);
+    let log = log_of(alloc, &root, 1, 2)?;
+    let outcome = silent(root, ending, steps, log, alloc);
+    is_reported(rt, alloc, &outcome, text)
+}
+
+/// A grandchild that has killed a ticket, and its parent, which has too.
+fn two_levels(alloc: Global, child: Name) -> Result<Outcome, AllocError> {
+    let grandchild = child.child(alloc, 1, 1)?;
+    let last = log_of(alloc, &grandchild, 7, 3)?;
+    let mut middle = Vec::new(alloc);
+    join(
+        &mut middle,
+        silent(grandchild, Ending::Exit(17), 29, last, alloc),
+    )?;
+    middle.push(Line::ticket(child.copy(alloc)?, 2, 1))?;
+    Ok(silent(child, Ending::Limit, 35, middle, alloc))
+}
+
+/// Those, and the root, which has killed one before.
+fn three_levels(alloc: Global) -> Result<Outcome, AllocError> {
+    let root = Name::root(alloc);
+    let mut first = log_of(alloc, &root, 3, 5)?;
+    join(&mut first, two_levels(alloc, root.child(alloc, 1, 1)?)?)?;
+    Ok(silent(root, Ending::Exit(17), 26, first, alloc))
+}
+
+#[test]
+fn three_levels_with_killed_tickets(rt: HostRuntime) -> Result<(), Fail> {
+    let outcome = three_levels(rt.alloc())?;
+    assert_eq!(rt; outcome.line_count(), 6);
+    is_reported(
+        &rt,
+        rt.alloc(),
+        &outcome,
+        b"machine 0 exit 17 steps 26 out 0\n\nticket 0.3 killed 5\nmachine 0.1.1 limit steps 35 out 0\n\nmachine 0.1.1.1.1 exit 17 steps 29 out 0\n\nticket 0.1.1.1.1.7 killed 3\nticket 0.1.1.2 killed 1\n",
+    )
+}

@@ -1,0 +1,76 @@
+//! Worlds of machines: that their calls succeed, where there is memory.
+
+ghost use Rattle.std.specs.Prelude.{IfOk};
+ghost use Rattle.forest_tree.specs.Tree.{Tree};
+ghost use Rattle.forest_model.specs.Machine.{Machine};
+ghost use Rattle.drive_script.specs.Driven.{HasMachines};
+
+use crate::machine::{TWO_CHILDREN, booted};
+use crate::scripts::read;
+use drive_script::drive;
+use image_depot::Depot;
+use std::alloc::{AllocError, Global};
+use std::process::Abort;
+use std::sync::Wait;
+use std::test::Fail;
+use world_core::{Placed, Taken, World};
+
+// The world of the machine of two children.
+fn started(alloc: Global, depot: &Depot) -> Result<World, Fail>
+    ensures { IfOk result (λ world. (t : Tree Machine) × HasMachines depot.now world t) }
+{
+    let vm = booted(alloc, &TWO_CHILDREN, 16)?;
+    let world = World::new(alloc, vm, depot)?;
+    Ok(world)
+}
+
+/// What a family does line by line, and what it writes.
+static SCRIPT: &[u8] = b"step 0 12\nstep 0.1.2 9\nstep 0 9\nstep 0.1.1 6\nstep 0 7\nstep 0 1\n";
+
+static TOLD: &[u8] =
+    b"0 ran 12 ok\n0.1.2 ran 6 exit 42\n0 ran 2 wait 1\n0.1.1 ran 6 exit 41\n0 ran 7 exit 41\n0 none\n";
+
+#[test]
+fn a_script_drives_a_family(rt: HostRuntime) -> Result<(), Fail> {
+    let depot = Depot::new(rt.alloc())?;
+    let mut world = started(rt.alloc(), &depot)?;
+    is_driven(&rt, rt.alloc(), &mut world, &depot)
+}
+
+fn is_driven<R: Abort + Wait>(
+    rt: &R,
+    alloc: Global,
+    world: &mut World,
+    depot: &Depot,
+) -> Result<(), Fail>
+    requires { (t : Tree Machine) × HasMachines depot.now world.old t }
+{
+    let script = read(rt, alloc, SCRIPT)?;
+    let told = drive(rt, alloc, &script, world, depot)?;
+    assert_eq!(rt; told.as_slice(), TOLD);
+    Ok(())
+}
+
+#[test]
+fn a_machine_is_taken_and_given_back(rt: HostRuntime) -> Result<(), Fail> {
+    let depot = Depot::new(rt.alloc())?;
+    let mut world = started(rt.alloc(), &depot)?;
+    assert!(rt; is_given_back(rt.alloc(), &mut world, &depot)?);
+    Ok(())
+}
+
+// Whether a machine is taken, and comes back.
+fn is_given_back(alloc: Global, world: &mut World, depot: &Depot) -> Result<bool, AllocError>
+    requires { (t : Tree Machine) × HasMachines depot.now world.old t }
+{
+    let lease = match world.take(alloc, depot) {
+        Taken::Took(lease) => lease,
+        Taken::Memory => return Err(AllocError),
+        Taken::Over | Taken::Idle | Taken::Stopped(_) => return Ok(false),
+    };
+    match world.give(lease) {
+        Placed::Done => Ok(true),
+        Placed::Parked | Placed::Dropped => Ok(false),
+        Placed::Memory(_lease) => unreachable!(),
+    }
+}
