@@ -63,7 +63,14 @@ fn shelf_of(
 }
 
 /// Compares an answer and what is out with what is wanted.
-fn compare<R: Abort>(rt: &R, found: &Status, sink: &MemSink, status: &Status, out: &[u8]) {
+fn compare<R: Abort>(
+    rt: &R,
+    line: &str,
+    found: &Status,
+    sink: &MemSink,
+    status: &Status,
+    out: &[u8],
+) {
     assert_eq!(rt; *found, *status, "{line}");
     assert_eq!(rt; sink.bytes(), out);
 }
@@ -84,7 +91,7 @@ fn answers<R: AllocGlobal + Wait + Abort>(
     let mut shelf = shelf_of(alloc, image, script, fails)?;
     let mut sink = MemSink::new(alloc, 7, 1000, Vec::new(alloc))?;
     let found = snow(rt, &words, &mut shelf, &mut sink);
-    compare(rt, &found, &sink, status, out);
+    compare(rt, line, &found, &sink, status, out);
     Ok(())
 }
 
