@@ -6,6 +6,7 @@ use Rattle.io_edge.specs.declared.outside.ShelfError.TheVariants.{Fault, TooLong
 use Rattle.io_edge.specs.declared.outside.WriteFault.{WriteFault}
 use Rattle.io_edge.specs.declared.outside.TheConstants.{LAST_COUNT}
 use Rattle.io_edge.specs.Outside.{HasRisen, next_count}
+use Rattle.io_edge.specs.Asked.{Asked, asked_after}
 use Rattle.io_edge.specs.Files.{Shelved, Loads, after_load}
 use Rattle.io_edge.specs.Gone.{Kept, Puts}
 
@@ -65,3 +66,19 @@ fault (Some bytes) at_most shelf h = absurd h
 pub fault-Loads : (found : Option (List ℕ)) (at_most : ℕ) (r : Result (Vec ℕ Global) ShelfError) (old new : Shelved)
     → Loads found at_most r → new ≡ after_load found old → IsErrOf r Fault → HasRisen old.faults new.faults
 fault-Loads found at_most r old new h after e = rw after (fault found at_most old (subst (Loads found at_most) e h))
+
+asked : (found : Option (List ℕ)) (at_most : ℕ) (r : Result (Vec ℕ Global) ShelfError) (old : Shelved) → Loads found at_most r
+    → record { loads = (after_load found old).calls; last_fault = (after_load found old).last_fault } ≡ asked_after r (record { loads = old.calls; last_fault = old.last_fault })
+asked None at_most (Ok copy) old h = cc
+asked None at_most (Err Fault) old h = refl
+asked None at_most (Err TooLong) old h = cc
+asked None at_most (Err Memory) old h = cc
+asked (Some bytes) at_most (Ok copy) old h = refl
+asked (Some bytes) at_most (Err Fault) old h = absurd h
+asked (Some bytes) at_most (Err TooLong) old h = refl
+asked (Some bytes) at_most (Err Memory) old h = refl
+
+pub asked-Loads : (found : Option (List ℕ)) (at_most : ℕ) (r : Result (Vec ℕ Global) ShelfError) (old new : Shelved)
+    → Loads found at_most r → new ≡ after_load found old
+    → record { loads = new.calls; last_fault = new.last_fault } ≡ asked_after r (record { loads = old.calls; last_fault = old.last_fault })
+asked-Loads found at_most r old new h after = rw after (asked found at_most r old h)

@@ -6,12 +6,19 @@ use Rattle.io_edge.specs.declared.outside.ShelfError.{ShelfError}
 use Rattle.io_edge.specs.declared.outside.ShelfError.TheVariants.{Fault, TooLong, Memory}
 use Rattle.io_edge.specs.Outside.{next_count, is_next_listed}
 
--- a shelf in memory: its files, the calls that are to fail, and how many calls and faults there were
+-- how many calls and faults there were, and which call had the last fault
+pub record Counted : Type 0 where
+  pub calls : ℕ
+  pub faults : ℕ
+  pub last_fault : ℕ
+
+-- a shelf in memory: its files, the calls that are to fail, and the same counts
 pub record Shelved : Type 0 where
   pub files : List (List ℕ × List ℕ)
   pub failing : List ℕ
   pub calls : ℕ
   pub faults : ℕ
+  pub last_fault : ℕ
 
 -- the bytes of the names and files
 abbrev pub named : List (String Global × Vec ℕ Global) → List (List ℕ × List ℕ)
@@ -32,6 +39,7 @@ abbrev pub after_load : Option (List ℕ) → Shelved → Shelved
 after_load found shelf = record shelf {
   calls = next_count shelf.calls;
   faults = if is_some found then shelf.faults else next_count shelf.faults;
+  last_fault = if is_some found then shelf.last_fault else next_count shelf.calls;
 }
 
 -- what a load answers. Want of memory may come where there are bytes to copy

@@ -1,3 +1,4 @@
 pub mod Outside
+pub mod Asked
 pub mod Files
 pub mod Gone

@@ -2,7 +2,7 @@
 
 ghost use Rattle.std.specs.Prelude.{◌≡◌, ◌≤◌, ◌<◌, [], length, IfOk};
 ghost use Rattle.std.specs.Option.{option_copied};
-ghost use Rattle.io_edge.specs.Files.{Loads, after_load, file_named, found, named};
+ghost use Rattle.io_edge.specs.Files.{Loads, file_named, found, named, after_load};
 ghost use Rattle.io_edge.specs.Gone.{Puts};
 
 use crate::outside::{Shelf, ShelfError, Sink, WriteFault};
@@ -17,6 +17,7 @@ pub struct MemShelf {
     failing: Vec<u64>,
     calls: u64,
     faults: u64,
+    last_fault: u64,
 }
 
 impl Model for MemShelf {
@@ -24,18 +25,19 @@ impl Model for MemShelf {
 
     ghost Value = { Shelved };
 
-    ghost view = { λ s. record { files = named s.files.items; failing = s.failing.items; calls = s.calls; faults = s.faults } };
+    ghost view = { λ s. record { files = named s.files.items; failing = s.failing.items; calls = s.calls; faults = s.faults; last_fault = s.last_fault } };
 }
 
 impl MemShelf {
     pub fn new(files: Vec<(String, Vec<u8>)>, failing: Vec<u64>) -> MemShelf
-        ensures { result ≡ record { files = named files.items; failing = failing.items; calls = 0; faults = 0 } }
+        ensures { result ≡ record { files = named files.items; failing = failing.items; calls = 0; faults = 0; last_fault = 0 } }
     {
         MemShelf {
             files,
             failing,
             calls: 0,
             faults: 0,
+            last_fault: 0,
         }
     }
 }
@@ -47,6 +49,8 @@ impl Shelf for MemShelf {
     ghost files = { λ s. Some (file_named s.files) };
 
     ghost faults = { λ s. s.faults };
+
+    ghost asked = { λ s. record { loads = s.calls; last_fault = s.last_fault } };
 
     fn load(&mut self, alloc: Global, name: &str, at_most: usize) -> Result<Vec<u8>, ShelfError>
         ensures loads { Loads (found self.old name.now) at_most result }
@@ -62,6 +66,7 @@ impl Shelf for MemShelf {
         match found {
             None => {
                 self.faults = self.faults.saturating_add(1);
+                self.last_fault = self.calls;
                 Err(ShelfError::Fault)
             }
             Some(bytes) if bytes.len() > at_most => Err(ShelfError::TooLong),

@@ -3,15 +3,16 @@
 
 ghost use Rattle.std.specs.Prelude.{◌≡◌, ℕ, ◌≤◌, ◌<◌, List, Option, length, take, vec_len, Some, IfOk, IfSome, OnOk, OnErr, IsErrOf, IsSomeAnd};
 ghost use Rattle.io_edge.specs.Outside.{HasRisen, IsPrefixGone, appended};
+ghost use Rattle.io_edge.specs.Asked.{Asked, asked_after};
 
 use std::alloc::Global;
 use thiserror::Error;
 
-/// The last value of a count of faults: a count stays there, and a fault may then come without a rise.
+/// The last value of a count of loads or faults: a count stays there, and one more may then come without a rise.
 pub const LAST_COUNT: u64 = u64::MAX;
 
 /// Why a file was not given.
-#[derive(Clone, Copy, Debug, PartialEq, Eq, Error)]
+#[derive(Clone, Copy, Debug, PartialEq, Error)]
 pub enum ShelfError {
     /// It could not be read, or there is none of that name.
     #[error("the file could not be read")]
@@ -25,7 +26,7 @@ pub enum ShelfError {
 }
 
 /// The bytes could not be put out.
-#[derive(Clone, Copy, Debug, PartialEq, Eq, Error)]
+#[derive(Clone, Copy, Debug, PartialEq, Error)]
 #[error("the bytes could not be put out")]
 pub struct WriteFault;
 
@@ -37,6 +38,9 @@ pub trait Shelf {
     /// How many faults there were.
     ghost faults: { Self → ℕ };
 
+    /// How many loads were asked for, and which of them had the last fault.
+    ghost asked: { Self → Asked };
+
     /// The bytes of a file, `at_most` so many.
     fn load(&mut self, alloc: Global, name: &str, at_most: usize) -> Result<Vec<u8>, ShelfError>
         ensures same { files self.new ≡ files self.old }
@@ -45,7 +49,8 @@ pub trait Shelf {
         ensures at_most { IfOk result (λ bytes. vec_len bytes ≤ at_most) }
         ensures too_long { IsErrOf result ShelfError.TooLong
             → IfSome (files self.old) (λ files. IsSomeAnd (files name.now) (λ bytes. at_most < length bytes)) }
-        ensures fault { IsErrOf result ShelfError.Fault → HasRisen (faults self.old) (faults self.new) };
+        ensures fault { IsErrOf result ShelfError.Fault → HasRisen (faults self.old) (faults self.new) }
+        ensures asked { asked self.new ≡ asked_after result (asked self.old) };
 }
 
 /// Where bytes go.

@@ -9,26 +9,33 @@ use std::io::{self, ErrorKind, Read};
 use std::marker::Model;
 use std::rt::Files;
 
-/// The files of the system. A contract sees the count of faults.
+/// The files of the system. A contract sees the counts of loads and faults.
 #[derive(Drop)]
 pub struct FileShelf<'a, R: Files> {
     rt: &'a R,
+    calls: u64,
     faults: u64,
+    last_fault: u64,
 }
 
 impl<'a, R: Files> Model for FileShelf<'a, R> {
-    ghost use Rattle.std.specs.Prelude.{ℕ};
+    ghost use Rattle.io_edge.specs.Files.{Counted};
 
-    ghost Value = { ℕ };
+    ghost Value = { Counted };
 
-    ghost view = { λ s. s.faults };
+    ghost view = { λ s. record { calls = s.calls; faults = s.faults; last_fault = s.last_fault } };
 }
 
 impl<'a, R: Files> FileShelf<'a, R> {
     pub fn new(rt: &'a R) -> FileShelf<'a, R>
-        ensures { result ≡ 0 }
+        ensures { result ≡ record { calls = 0; faults = 0; last_fault = 0 } }
     {
-        FileShelf { rt, faults: 0 }
+        FileShelf {
+            rt,
+            calls: 0,
+            faults: 0,
+            last_fault: 0,
+        }
     }
 }
 
@@ -37,15 +44,19 @@ impl<R: Files> Shelf for FileShelf<'_, R> {
 
     ghost files = { λ _. None };
 
-    ghost faults = { λ faults. faults };
+    ghost faults = { λ s. s.faults };
+
+    ghost asked = { λ s. record { loads = s.calls; last_fault = s.last_fault } };
 
     fn load(&mut self, alloc: Global, name: &str, at_most: usize) -> Result<Vec<u8>, ShelfError> {
+        self.calls = self.calls.saturating_add(1);
         match read_at_most(self.rt, alloc, name, at_most) {
             Ok(bytes) if bytes.len() > at_most => Err(ShelfError::TooLong),
             Ok(bytes) => Ok(bytes),
             Err(error) if error.kind() == ErrorKind::OutOfMemory => Err(ShelfError::Memory),
             Err(_) => {
                 self.faults = self.faults.saturating_add(1);
+                self.last_fault = self.calls;
                 Err(ShelfError::Fault)
             }
         }

@@ -1,7 +1,7 @@
 use Rattle.std.proofs.Common.{ap, Some}
 use Rattle.io_edge.specs.Outside.{is_next_listed}
 use Rattle.io_edge.specs.Files.{Shelved, file_named, found}
-use Rattle.io_edge.proofs.Told.{given-Loads, at_most-Loads, too_long-Loads, fault-Loads}
+use Rattle.io_edge.proofs.Told.{given-Loads, at_most-Loads, too_long-Loads, fault-Loads, asked-Loads}
 use Rattle.io_edge.proofs.memory.MemShelfShelf.TheImpl.Goals as goal
 
 pub load-tells : goal.load-tells
@@ -17,4 +17,5 @@ load-tells c =
       at_most = at_most-Loads (found old name) c.args.at_most c.result c.ensures.loads;
       too_long = too_long-Loads listed file c.args.at_most c.result c.ensures.loads;
       fault = fault-Loads (found old name) c.args.at_most c.result old c.new.self.now c.ensures.loads c.ensures.after;
+      asked = asked-Loads (found old name) c.args.at_most c.result old c.new.self.now c.ensures.loads c.ensures.after;
     }

@@ -1,0 +1,72 @@
+-- What the clauses of `parse` and of the parser of the words tell of what the words mean.
+use Rattle.std.proofs.Common.{◌≡◌, ◌≢◌, ℕ, ◌<◌, ◌^◌, ◌⊎◌, inl, inr, Bool, true, false, ◌||◌, cond, List, [], ◌∷◌, Option, Some, None, Result, Ok, Err, refl, sym, ap, ◌∙◌, subst}
+use Rattle.std.specs.Result.{OkIff, result_ok}
+use Rattle.std.specs.Str.{all_ascii_digits}
+use Rattle.std.specs.Str.Parse.{IsNumeral, ParsesUnsigned, digits_value, without_leading_plus}
+use Rattle.std.proofs.lemmas.Str.Parse.{IsNumeralModel, numerals_by_value, tells_all_ascii_digits}
+use Rattle.std.proofs.lemmas.Bool.{and_from, and_parts, lt-ltb, ltb-true}
+use Rattle.clap.specs.Words.{App, HasMatchesOf, IsAmong, Kinds, Row, fault_of, is_simple, is_simple_and_free, subcommand_rows_of}
+use Rattle.clap.specs.declared.error.kind.ErrorKind.{ErrorKind}
+use Rattle.clap.specs.declared.error.kind.ErrorKind.TheVariants.{OutOfMemory}
+use Rattle.clap.specs.declared.parser.matches.ArgMatches.{ArgMatches}
+use Rattle.command_line.specs.Words.{command_of, found, meant, meant_by, number_of, refusals, snow_app}
+
+-- ---- numbers
+
+numerals : IsNumeralModel (λ ds. all_ascii_digits ds ≡ true) (digits_value 10)
+numerals = numerals_by_value _ tells_all_ascii_digits
+
+-- a value exactly where a test of the fact holds
+by_test : {E : Type 0} (P : Type 0) (test : Bool) (n : ℕ) (r : Result ℕ E) → (P → test ≡ true) → (test ≡ true → P) → OkIff r P n
+    → result_ok r ≡ cond test (Some n) None
+by_test P test n (Ok x) to from h = rw (to h.0) (ap Some h.1)
+by_test P true n (Err e) to from h = absurd (h (from refl))
+by_test P false n (Err e) to from h = refl
+
+pub number_of-parse : {E : Type 0} (text : List ℕ) (r : Result ℕ E) → ParsesUnsigned 32 10 text r → result_ok r ≡ number_of text
+number_of-parse text r h =
+    let digits = without_leading_plus text in
+    by_test (IsNumeral 10 digits × (digits_value 10 digits < 2 ^ 32)) _ (digits_value 10 digits) r
+    (λ p. and_from _ _ (lt-ltb _ _ p.0.0) (and_from _ _ (numerals.from digits p.0.1) (lt-ltb _ _ p.1)))
+    (λ e.
+    let parts = and_parts _ _ e in
+    let more = and_parts _ _ parts.1 in
+    ((ltb-true _ _ parts.0, numerals.to digits more.0), ltb-true _ _ more.1))
+    h
+
+-- ---- the parser of the words
+
+simple : is_simple snow_app ≡ true
+simple = refl
+
+simple_and_free : is_simple_and_free snow_app ≡ true
+simple_and_free = refl
+
+-- a command with one more argument, neither of them global
+pub not-global : (a b g : Bool) → b ≡ (a || g) → a ≡ false → g ≡ false → b ≡ false
+not-global a b g added old new = added ∙ ap (λ v. v || g) old ∙ new
+
+-- words that the parser takes mean what the subcommand that was found says
+pub meant-taken : (app : App) (words : List (List ℕ)) (m : ArgMatches) → app ≡ snow_app
+    → (is_simple_and_free app ≡ true → fault_of app words ≡ []) → HasMatchesOf app words m
+    → command_of (subcommand_rows_of m) ≡ meant words
+unfolding refusals found
+meant-taken app words m e taken matches =
+    let none = subst (λ app. is_simple_and_free app ≡ true → fault_of app words ≡ []) e taken simple_and_free in
+    let rows = (subst (λ app. HasMatchesOf app words m) e matches simple).1 in
+    ap command_of rows ∙ ap (λ kinds. meant_by kinds (found words)) (sym none)
+
+refused : (kind : ErrorKind) (kinds : Kinds) (subcommand : Option (List ℕ × List Row)) → IsAmong kind kinds → None ≡ meant_by kinds subcommand
+refused kind [] subcommand h = absurd h
+refused kind (k ∷ kinds) subcommand h = refl
+
+-- words that it refuses mean nothing
+pub meant-refused : (app : App) (words : List (List ℕ)) (kind : ErrorKind) → app ≡ snow_app
+    → (is_simple_and_free app ≡ true → (kind ≡ OutOfMemory) ⊎ IsAmong kind (fault_of app words)) → kind ≢ OutOfMemory
+    → None ≡ meant words
+unfolding refusals
+meant-refused app words kind e fails other =
+    elim (subst (λ app. is_simple_and_free app ≡ true → (kind ≡ OutOfMemory) ⊎ IsAmong kind (fault_of app words)) e fails simple_and_free) [
+      | inl memory ↦ absurd (other memory)
+      | inr among ↦ refused kind (refusals words) (found words) among
+    ]

@@ -1,0 +1,258 @@
+//! What the words of the command line ask for.
+
+ghost use Rattle.std.specs.Prelude.{◌≡◌, ◌≤◌, false, codes, IfOk, IfSome, option_map};
+ghost use Rattle.clap.specs.declared.Command.TheViews.{out-Command};
+ghost use Rattle.clap.specs.Words.{app_of, first_of, found_of, rows_of, subcommand_rows_of};
+ghost use Rattle.command_line.specs.Commands.{meaning};
+ghost use Rattle.command_line.specs.Words.{command_of, drive_app, drive_with, guest_of, meant, number_of, run, run_app, snow_app, texts, value_of, with_files, with_numbers};
+
+use clap::error::ErrorKind;
+use clap::{Arg, ArgMatches};
+use elf_load::{MAX_PAGES, MIN_PAGES};
+use std::alloc::{AllocError, Global};
+use std::marker::Model;
+
+/// The pages of RAM where `--ram` is not given.
+pub const DEFAULT_PAGES: u32 = 64;
+
+/// The fewest steps that `--limit` may allow.
+pub const LEAST_LIMIT: u32 = 1;
+
+/// The most steps that `--limit` may allow.
+pub const MOST_LIMIT: u32 = 1_000_000_000;
+
+/// The most steps of a machine where `--limit` is not given.
+pub const DEFAULT_LIMIT: u32 = 1_000_000;
+
+/// The most clones that `--clones` may allow.
+pub const MOST_CLONES: u32 = 4096;
+
+/// The clones of a family where `--clones` is not given.
+pub const DEFAULT_CLONES: u32 = 0;
+
+/// What the words ask for.
+#[derive(Drop)]
+pub enum Command<'a> {
+    /// `run IMAGE`: the family of a guest is run to its end.
+    Run(GuestWords<'a>),
+    /// `drive IMAGE SCRIPT`: it is driven by the script of this name.
+    Drive(GuestWords<'a>, &'a str),
+}
+
+/// What the words say of a guest.
+#[derive(Drop)]
+pub struct GuestWords<'a> {
+    image: &'a str,
+    disk: Option<&'a str>,
+    input: Option<&'a str>,
+    pages: u32,
+    limit: u64,
+    clones: u32,
+}
+
+impl<'a> Model for GuestWords<'a> {
+    ghost use Rattle.std.specs.Prelude.{◌≤◌, option_map};
+    ghost use Rattle.elf_load.specs.declared.image.TheConstants.{MIN_PAGES, MAX_PAGES};
+    ghost use Rattle.command_line.specs.declared.words.TheConstants.{LEAST_LIMIT, MOST_LIMIT, MOST_CLONES};
+    ghost use Rattle.command_line.specs.Words.{GuestValues};
+
+    ghost Value = { GuestValues };
+
+    ghost view = { λ g. record { image = g.image.now; disk = option_map (λ name. name.now) g.disk; input = option_map (λ name. name.now) g.input; pages = g.pages; limit = g.limit; clones = g.clones } };
+
+    ghost invariant = { λ g. (MIN_PAGES ≤ g.pages) × (g.pages ≤ MAX_PAGES) × (LEAST_LIMIT ≤ g.limit) × (g.limit ≤ MOST_LIMIT) × (g.clones ≤ MOST_CLONES) };
+}
+
+impl GuestWords<'_> {
+    /// The name of the image.
+    pub fn image(&self) -> &str
+        ensures { result.now ≡ self.now.image }
+    {
+        self.image
+    }
+
+    /// The name of the disk, if one is given.
+    pub fn disk(&self) -> Option<&str>
+        ensures { option_map (λ name. name.now) result ≡ self.now.disk }
+    {
+        self.disk
+    }
+
+    /// The name of the input, if one is given.
+    pub fn input(&self) -> Option<&str>
+        ensures { option_map (λ name. name.now) result ≡ self.now.input }
+    {
+        self.input
+    }
+
+    /// The pages of RAM.
+    pub fn pages(&self) -> u32
+        ensures value { result ≡ self.now.pages }
+        ensures least { MIN_PAGES ≤ result }
+        ensures most { result ≤ MAX_PAGES }
+    {
+        self.pages
+    }
+
+    /// The most steps of the machine.
+    pub fn limit(&self) -> u64
+        ensures value { result ≡ self.now.limit }
+        ensures least { LEAST_LIMIT ≤ result }
+        ensures most { result ≤ MOST_LIMIT }
+    {
+        self.limit
+    }
+
+    /// How many clones the family may have.
+    pub fn clones(&self) -> u32
+        ensures value { result ≡ self.now.clones }
+        ensures most { result ≤ MOST_CLONES }
+    {
+        self.clones
+    }
+}
+
+/// What the words ask for, or `None` exactly where they have no meaning.
+pub fn command_asked(alloc: Global, words: &[String]) -> Result<Option<Command<'_>>, AllocError>
+    ensures { IfOk result (λ asked. option_map meaning asked ≡ meant (texts words.now)) }
+{
+    match snow_command(alloc)?.try_get_matches_from(words) {
+        Ok(matches) => Ok(command_found(&matches)),
+        Err(error) => match error.kind() {
+            ErrorKind::OutOfMemory => Err(AllocError),
+            _ => Ok(None),
+        },
+    }
+}
+
+/// The command line that the parser is to take.
+fn snow_command<'a>(alloc: Global) -> Result<clap::Command<'a>, AllocError>
+    ensures { IfOk result (λ command. app_of command ≡ snow_app) }
+{
+    clap::Command::new(alloc, "snow")
+        .no_binary_name(true)
+        .subcommand(run_command(alloc)?)?
+        .subcommand(drive_command(alloc)?)
+}
+
+fn run_command<'a>(alloc: Global) -> Result<clap::Command<'a>, AllocError>
+    ensures app { IfOk result (λ command. app_of command ≡ run_app) }
+    ensures local { IfOk result (λ command. (out-Command command).has_globals ≡ false) }
+{
+    let command = clap::Command::new(alloc, "run").arg(Arg::new(alloc, "IMAGE").required(true))?;
+    numbers_added(alloc, files_added(alloc, command)?)
+}
+
+fn drive_command<'a>(alloc: Global) -> Result<clap::Command<'a>, AllocError>
+    ensures app { IfOk result (λ command. app_of command ≡ drive_app) }
+    ensures local { IfOk result (λ command. (out-Command command).has_globals ≡ false) }
+{
+    let command = clap::Command::new(alloc, "drive")
+        .arg(Arg::new(alloc, "IMAGE").required(true))?
+        .arg(Arg::new(alloc, "SCRIPT").required(true))?;
+    numbers_added(alloc, files_added(alloc, command)?)
+}
+
+/// A command with the options that name files of its guest.
+fn files_added<'a>(
+    alloc: Global,
+    command: clap::Command<'a>,
+) -> Result<clap::Command<'a>, AllocError>
+    ensures app { IfOk result (λ added. app_of added ≡ with_files (app_of command.entry)) }
+    ensures local { IfOk result (λ added. (out-Command command.entry).has_globals ≡ false → (out-Command added).has_globals ≡ false) }
+{
+    command
+        .arg(Arg::new(alloc, "disk").long("disk"))?
+        .arg(Arg::new(alloc, "input").long("input"))
+}
+
+/// A command with the options that are numbers.
+fn numbers_added<'a>(
+    alloc: Global,
+    command: clap::Command<'a>,
+) -> Result<clap::Command<'a>, AllocError>
+    ensures app { IfOk result (λ added. app_of added ≡ with_numbers (app_of command.entry)) }
+    ensures local { IfOk result (λ added. (out-Command command.entry).has_globals ≡ false → (out-Command added).has_globals ≡ false) }
+{
+    command
+        .arg(Arg::new(alloc, "ram").long("ram"))?
+        .arg(Arg::new(alloc, "limit").long("limit"))?
+        .arg(Arg::new(alloc, "clones").long("clones"))
+}
+
+/// The subcommand that was found, with its values.
+fn command_found<'a>(matches: &ArgMatches<'a>) -> Option<Command<'a>>
+    ensures { option_map meaning result ≡ command_of (subcommand_rows_of matches.now) }
+{
+    match matches.subcommand() {
+        Some((name, found)) if name == "run" => run_of(found),
+        Some((name, found)) if name == "drive" => drive_of(found),
+        _ => None,
+    }
+}
+
+/// The values of `run`.
+fn run_of<'a>(found: &ArgMatches<'a>) -> Option<Command<'a>>
+    ensures { option_map meaning result ≡ option_map run (guest_of (rows_of (found_of found.now))) }
+{
+    Some(Command::Run(guest_of(found)?))
+}
+
+/// The values of `drive`.
+fn drive_of<'a>(found: &ArgMatches<'a>) -> Option<Command<'a>>
+    ensures { option_map meaning result ≡ drive_with (guest_of (rows_of (found_of found.now))) (first_of (codes "SCRIPT") (rows_of (found_of found.now))) }
+{
+    let guest = guest_of(found)?;
+    let script = text_of(found, "SCRIPT")?;
+    Some(Command::Drive(guest, script))
+}
+
+/// What is said of a guest.
+fn guest_of<'a>(found: &ArgMatches<'a>) -> Option<GuestWords<'a>>
+    ensures { result ≡ guest_of (rows_of (found_of found.now)) }
+{
+    let image = text_of(found, "IMAGE")?;
+    let disk = text_of(found, "disk");
+    let input = text_of(found, "input");
+    let pages = value_of(found, "ram", MIN_PAGES, MAX_PAGES, DEFAULT_PAGES)?;
+    let limit = value_of(found, "limit", LEAST_LIMIT, MOST_LIMIT, DEFAULT_LIMIT)?;
+    let clones = value_of(found, "clones", 0, MOST_CLONES, DEFAULT_CLONES)?;
+    Some(GuestWords {
+        image,
+        disk,
+        input,
+        pages,
+        limit: u64::from(limit),
+        clones,
+    })
+}
+
+/// The value of an option: a number within its limits, or the default where the option is not given.
+fn value_of(found: &ArgMatches<'_>, id: &str, least: u32, most: u32, default: u32) -> Option<u32>
+    requires least { least ≤ default }
+    requires most { default ≤ most }
+    ensures value { result ≡ value_of least most default (first_of id.now (rows_of (found_of found.now))) }
+    ensures least { IfSome result (λ n. least ≤ n) }
+    ensures most { IfSome result (λ n. n ≤ most) }
+{
+    match text_of(found, id) {
+        None => Some(default),
+        Some(text) => match number_of(text) {
+            Some(n) if least <= n && n <= most => Some(n),
+            _ => None,
+        },
+    }
+}
+
+/// The text that was given for an argument.
+fn text_of<'a>(found: &ArgMatches<'a>, id: &str) -> Option<&'a str>
+    ensures { option_map (λ text. text.now) result ≡ first_of id.now (rows_of (found_of found.now)) }
+{
+    found.get_str(id)
+}
+
+fn number_of(text: &str) -> Option<u32>
+    ensures { result ≡ number_of text.now }
+{
+    text.parse().ok()
+}

@@ -1,0 +1,129 @@
+-- How the parts of the program end, by what the files tell of each (none where the shelf does not tell its files).
+use Rattle.std.specs.Prelude.{◌≡◌, ℕ, ◌≤◌, ◌⊎◌, List, [], ◌∷◌, ◌++◌, Option, Some, None, Result, Ok, Err, IfSome, IsSome, IsOkAnd, IsErrAnd}
+use Rattle.io_edge.specs.Outside.{next_count}
+use Rattle.io_edge.specs.Asked.{Asked}
+use Rattle.guest_files.specs.declared.stop.TheConstants.{TOO_LONG, DISK_TOO_LONG, DISK_NOT_SECTORS, INPUT_TOO_LONG, SCRIPT_TOO_LONG, IMAGE_LOAD, DISK_LOAD, INPUT_LOAD, SCRIPT_LOAD}
+use Rattle.guest_files.specs.declared.stop.Stop.{Stop}
+use Rattle.guest_files.specs.declared.stop.Stop.TheVariants.{ReadFault, ImageRefused, DataRefused, ScriptRefused, WriteFault, Memory}
+use Rattle.command_line.specs.Words.{Command, GuestValues, run, drive}
+use Rattle.guest_files.specs.Reads.{Refusal, no_meaning, no_file, image_too_long, image_refused, disk_too_long, disk_not_sectors, input_too_long, script_too_long, script_refused}
+
+-- ---- refusals
+
+-- the image is refused with this number
+abbrev pub IsImageRefusal : ℕ → Refusal → Type 0
+IsImageRefusal number image_too_long = number ≡ TOO_LONG
+IsImageRefusal number (image_refused rule) = number ≡ rule
+IsImageRefusal number _ = ⊥
+
+-- the disk or the input is refused with this number
+abbrev pub IsDataRefusal : ℕ → Refusal → Type 0
+IsDataRefusal number disk_too_long = number ≡ DISK_TOO_LONG
+IsDataRefusal number disk_not_sectors = number ≡ DISK_NOT_SECTORS
+IsDataRefusal number input_too_long = number ≡ INPUT_TOO_LONG
+IsDataRefusal number _ = ⊥
+
+-- the script is refused with the number of a line, and the kind of what is not in form there. One that is too long is
+-- refused with line 0
+abbrev pub IsScriptRefusal : ℕ → ℕ → Refusal → Type 0
+IsScriptRefusal line kind script_too_long = (line ≡ 0) × (kind ≡ SCRIPT_TOO_LONG)
+IsScriptRefusal line kind (script_refused at what) = (line ≡ at) × (kind ≡ what)
+IsScriptRefusal line kind _ = ⊥
+
+-- the program stops with the numbers of this refusal
+abbrev pub IsStopFor : Stop → Refusal → Type 0
+IsStopFor (ImageRefused number) refusal = IsImageRefusal number refusal
+IsStopFor (DataRefused number) refusal = IsDataRefusal number refusal
+IsStopFor (ScriptRefused line kind) refusal = IsScriptRefusal line kind refusal
+IsStopFor _ refusal = ⊥
+
+-- ---- loads
+
+-- the values of a guest ask for this load
+abbrev pub IsGuestLoad : GuestValues → ℕ → Type 0
+IsGuestLoad values load =
+    (load ≡ IMAGE_LOAD) ⊎ (((load ≡ DISK_LOAD) × IsSome values.disk) ⊎ ((load ≡ INPUT_LOAD) × IsSome values.input))
+
+-- a command asks for it
+abbrev pub IsLoadOf : Command → ℕ → Type 0
+IsLoadOf (run values) load = IsGuestLoad values load
+IsLoadOf (drive values script) load = IsGuestLoad values load ⊎ (load ≡ SCRIPT_LOAD)
+
+-- the load of a name, where it is given
+abbrev pub load_if : ℕ → Option (List ℕ) → List ℕ
+load_if load None = []
+load_if load (Some name) = load ∷ []
+
+-- the loads that the values of a guest ask for, in order
+abbrev pub guest_loads : GuestValues → List ℕ
+guest_loads values = IMAGE_LOAD ∷ (load_if DISK_LOAD values.disk ++ load_if INPUT_LOAD values.input)
+
+-- those that a command asks for
+abbrev pub loads_of : Command → List ℕ
+loads_of (run values) = guest_loads values
+loads_of (drive values script) = guest_loads values ++ (SCRIPT_LOAD ∷ [])
+
+-- a count after these loads
+abbrev pub counted : List ℕ → ℕ → ℕ
+counted [] count = count
+counted (load ∷ loads) count = counted loads (next_count count)
+
+-- all of these loads were asked for
+abbrev pub AreAsked : List ℕ → Asked → Asked → Type 0
+AreAsked loads old new = new.loads ≡ counted loads old.loads
+
+-- of these loads this one was the last that was asked for, and had a fault
+pub record IsFaultOf (loads : List ℕ) (load : ℕ) (old new : Asked) : Type 0 where
+  pub before : List ℕ
+  pub rest : List ℕ
+  pub place : loads ≡ before ++ (load ∷ rest)
+  pub asked : AreAsked (before ++ (load ∷ [])) old new
+  pub fault : new.last_fault ≡ new.loads
+
+-- the last load that a command may ask for
+abbrev pub final_load : Command → ℕ
+final_load (run values) = INPUT_LOAD
+final_load (drive values script) = SCRIPT_LOAD
+
+-- the last load that is made before a refusal is known, where this is the last of all. What the files hold is looked at
+-- once all are read
+abbrev pub last_load_before : ℕ → Refusal → ℕ
+last_load_before final no_meaning = 0
+last_load_before final (no_file load) = load
+last_load_before final image_too_long = IMAGE_LOAD
+last_load_before final (image_refused rule) = final
+last_load_before final disk_too_long = DISK_LOAD
+last_load_before final disk_not_sectors = final
+last_load_before final input_too_long = INPUT_LOAD
+last_load_before final script_too_long = SCRIPT_LOAD
+last_load_before final (script_refused line kind) = final
+
+-- the same, before what is told is known, or the lack of it
+abbrev pub last_load : {B : Type 0} → ℕ → Result B Refusal → ℕ
+last_load final (Ok told) = final
+last_load final (Err refusal) = last_load_before final refusal
+
+-- the program stops so where the file of a load is too long, which is this refusal
+abbrev pub IsTooLong : ℕ → Stop → Refusal → Type 0
+IsTooLong load stop refusal = IsStopFor stop refusal × (load ≤ last_load_before load refusal)
+
+-- ---- parts
+
+-- why a part stopped that makes loads up to this one: a load had a fault that no refusal forestalls, or what is told is
+-- refused, or memory was wanting
+abbrev pub Stops : {B : Type 0} → ℕ → (ℕ → Type 0) → Option (Result B Refusal) → Stop → Type 0
+Stops final had_fault told (ReadFault load) = had_fault load × IfSome told (λ r. load ≤ last_load final r)
+Stops final had_fault told (ImageRefused number) = IfSome told (λ r. IsErrAnd r (IsImageRefusal number))
+Stops final had_fault told (DataRefused number) = IfSome told (λ r. IsErrAnd r (IsDataRefusal number))
+Stops final had_fault told (ScriptRefused line kind) = IfSome told (λ r. IsErrAnd r (IsScriptRefusal line kind))
+Stops final had_fault told WriteFault = ⊥
+Stops final had_fault told Memory = Unit {0}
+
+-- a part gives a value that shows what is told, or stops for a reason
+abbrev pub Gives : {A B : Type 0} → ℕ → (ℕ → Type 0) → Option (Result B Refusal) → (A → B → Type 0) → Result A Stop → Type 0
+Gives final had_fault told shows (Ok value) = IfSome told (λ r. IsOkAnd r (shows value))
+Gives final had_fault told shows (Err stop) = Stops final had_fault told stop
+
+-- the same of a part that makes no load
+abbrev pub Makes : {A B : Type 0} → Result B Refusal → (A → B → Type 0) → Result A Stop → Type 0
+Makes told shows result = Gives 0 (λ load. ⊥) (Some told) shows result

@@ -1,0 +1,175 @@
+//! The files of a guest are read.
+
+ghost use Rattle.std.specs.Prelude.{◌≡◌, ◌≤◌, [], ◌∷◌, length, vec_len, IfOk, OnOk};
+ghost use Rattle.std.specs.Option.{option_map};
+ghost use Rattle.io_edge.specs.Outside.{HasRisen};
+ghost use Rattle.guest_files.specs.Reads.{Refusal, disk_read, file_read, guest_read, image_read, input_read};
+ghost use Rattle.guest_files.specs.Parts.{AreAsked, Gives, IsFaultOf, IsGuestLoad, IsTooLong, guest_loads, load_if};
+
+use crate::stop::{
+    DISK_LOAD, DISK_MOST, DISK_TOO_LONG, IMAGE_LOAD, IMAGE_MOST, INPUT_LOAD, INPUT_TOO_LONG, Stop,
+    TOO_LONG,
+};
+use command_line::GuestWords;
+use console_port::MAX_INPUT;
+use io_edge::{Shelf, ShelfError};
+use std::alloc::Global;
+use std::marker::Model;
+
+/// The files of a guest, of which the disk and the input are not too long.
+#[derive(Drop)]
+pub struct GuestFiles {
+    image: Vec<u8>,
+    disk: Vec<u8>,
+    input: Vec<u8>,
+}
+
+impl Model for GuestFiles {
+    ghost use Rattle.std.specs.Prelude.{◌≤◌, vec_len};
+    ghost use Rattle.console_port.specs.declared.port.TheConstants.{MAX_INPUT};
+    ghost use Rattle.guest_files.specs.declared.stop.TheConstants.{DISK_MOST};
+    ghost use Rattle.guest_files.specs.Reads.{Guest};
+
+    ghost Value = { Guest };
+
+    ghost view = { λ f. record { image = f.image.items; disk = f.disk.items; input = f.input.items } };
+
+    ghost invariant = { λ f. (vec_len f.disk ≤ DISK_MOST) × (vec_len f.input ≤ MAX_INPUT) };
+}
+
+impl GuestFiles {
+    /// The bytes of the image.
+    pub fn image(&self) -> &[u8]
+        ensures { result.now ≡ self.now.image }
+    {
+        &self.image
+    }
+
+    /// The bytes of the disk, of which there are none where no disk is named.
+    pub fn disk(&self) -> &[u8]
+        ensures value { result.now ≡ self.now.disk }
+        ensures most { length result.now ≤ DISK_MOST }
+    {
+        &self.disk
+    }
+
+    /// The bytes of the input, of which there are none where no input is named.
+    pub fn input(&self) -> &[u8]
+        ensures value { result.now ≡ self.now.input }
+        ensures most { length result.now ≤ MAX_INPUT }
+    {
+        &self.input
+    }
+}
+
+/// Reads the image, then the disk, and then the input.
+pub fn read_guest<S: Shelf>(
+    alloc: Global,
+    guest: &GuestWords<'_>,
+    shelf: &mut S,
+) -> Result<GuestFiles, Stop>
+    ensures gives { Gives INPUT_LOAD (λ load. IsGuestLoad guest.now load × HasRisen (S.faults shelf.old) (S.faults shelf.new)
+        × IsFaultOf (guest_loads guest.now) load (S.asked shelf.old) (S.asked shelf.new))
+        (option_map (guest_read guest.now) (S.files shelf.old)) (λ files told. files ≡ told) result }
+    ensures same { S.files shelf.new ≡ S.files shelf.old }
+    ensures counts { S.faults shelf.old ≤ S.faults shelf.new }
+    ensures asked { OnOk result (AreAsked (guest_loads guest.now) (S.asked shelf.old) (S.asked shelf.new)) }
+{
+    let image = read_image(alloc, guest, shelf)?;
+    let disk = read_disk(alloc, guest, shelf)?;
+    let input = read_input(alloc, guest, shelf)?;
+    Ok(GuestFiles { image, disk, input })
+}
+
+fn read_image<S: Shelf>(
+    alloc: Global,
+    guest: &GuestWords<'_>,
+    shelf: &mut S,
+) -> Result<Vec<u8>, Stop>
+    ensures gives { Gives IMAGE_LOAD (λ load. IsGuestLoad guest.now load × HasRisen (S.faults shelf.old) (S.faults shelf.new)
+        × IsFaultOf (IMAGE_LOAD ∷ []) load (S.asked shelf.old) (S.asked shelf.new))
+        (option_map (image_read guest.now) (S.files shelf.old)) (λ bytes told. bytes.items ≡ told) result }
+    ensures same { S.files shelf.new ≡ S.files shelf.old }
+    ensures counts { S.faults shelf.old ≤ S.faults shelf.new }
+    ensures asked { OnOk result (AreAsked (IMAGE_LOAD ∷ []) (S.asked shelf.old) (S.asked shelf.new)) }
+{
+    let too_long = Stop::ImageRefused(TOO_LONG);
+    load_file(
+        alloc,
+        shelf,
+        guest.image(),
+        IMAGE_LOAD,
+        IMAGE_MOST,
+        too_long,
+    )
+}
+
+/// The bytes of the disk, of which there are none where no disk is named.
+#[tactic(auto, unfolding(crate::specs::Reads::disk_read))]
+fn read_disk<S: Shelf>(
+    alloc: Global,
+    guest: &GuestWords<'_>,
+    shelf: &mut S,
+) -> Result<Vec<u8>, Stop>
+    ensures gives { Gives DISK_LOAD (λ load. IsGuestLoad guest.now load × HasRisen (S.faults shelf.old) (S.faults shelf.new)
+        × IsFaultOf (load_if DISK_LOAD guest.now.disk) load (S.asked shelf.old) (S.asked shelf.new))
+        (option_map (disk_read guest.now) (S.files shelf.old)) (λ bytes told. bytes.items ≡ told) result }
+    ensures most { IfOk result (λ bytes. vec_len bytes ≤ DISK_MOST) }
+    ensures same { S.files shelf.new ≡ S.files shelf.old }
+    ensures counts { S.faults shelf.old ≤ S.faults shelf.new }
+    ensures asked { OnOk result (AreAsked (load_if DISK_LOAD guest.now.disk) (S.asked shelf.old) (S.asked shelf.new)) }
+{
+    let Some(name) = guest.disk() else {
+        return Ok(Vec::new(alloc));
+    };
+    let too_long = Stop::DataRefused(DISK_TOO_LONG);
+    load_file(alloc, shelf, name, DISK_LOAD, DISK_MOST, too_long)
+}
+
+/// The bytes of the input, of which there are none where no input is named.
+#[tactic(auto, unfolding(crate::specs::Reads::input_read))]
+fn read_input<S: Shelf>(
+    alloc: Global,
+    guest: &GuestWords<'_>,
+    shelf: &mut S,
+) -> Result<Vec<u8>, Stop>
+    ensures gives { Gives INPUT_LOAD (λ load. IsGuestLoad guest.now load × HasRisen (S.faults shelf.old) (S.faults shelf.new)
+        × IsFaultOf (load_if INPUT_LOAD guest.now.input) load (S.asked shelf.old) (S.asked shelf.new))
+        (option_map (input_read guest.now) (S.files shelf.old)) (λ bytes told. bytes.items ≡ told) result }
+    ensures most { IfOk result (λ bytes. vec_len bytes ≤ MAX_INPUT) }
+    ensures same { S.files shelf.new ≡ S.files shelf.old }
+    ensures counts { S.faults shelf.old ≤ S.faults shelf.new }
+    ensures asked { OnOk result (AreAsked (load_if INPUT_LOAD guest.now.input) (S.asked shelf.old) (S.asked shelf.new)) }
+{
+    let Some(name) = guest.input() else {
+        return Ok(Vec::new(alloc));
+    };
+    let too_long = Stop::DataRefused(INPUT_TOO_LONG);
+    load_file(alloc, shelf, name, INPUT_LOAD, MAX_INPUT, too_long)
+}
+
+/// The bytes of a file for a load, at most so many. Where there are more, the program stops with `too_long`.
+pub fn load_file<S: Shelf>(
+    alloc: Global,
+    shelf: &mut S,
+    name: &str,
+    load: u32,
+    most: usize,
+    too_long: Stop,
+) -> Result<Vec<u8>, Stop>
+    ensures gives { (refusal : Refusal) → IsTooLong load too_long refusal
+        → Gives load (λ at. (at ≡ load) × HasRisen (S.faults shelf.old) (S.faults shelf.new)
+        × IsFaultOf (load ∷ []) at (S.asked shelf.old) (S.asked shelf.new))
+        (option_map (λ files. file_read load most refusal (files name.now)) (S.files shelf.old)) (λ bytes told. bytes.items ≡ told) result }
+    ensures most { IfOk result (λ bytes. vec_len bytes ≤ most) }
+    ensures same { S.files shelf.new ≡ S.files shelf.old }
+    ensures counts { S.faults shelf.old ≤ S.faults shelf.new }
+    ensures asked { OnOk result (AreAsked (load ∷ []) (S.asked shelf.old) (S.asked shelf.new)) }
+{
+    match shelf.load(alloc, name, most) {
+        Ok(bytes) => Ok(bytes),
+        Err(ShelfError::Fault) => Err(Stop::ReadFault(load)),
+        Err(ShelfError::TooLong) => Err(too_long),
+        Err(ShelfError::Memory) => Err(Stop::Memory),
+    }
+}

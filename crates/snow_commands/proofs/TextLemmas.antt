@@ -1,0 +1,92 @@
+-- What the parts of a command tell of the whole.
+use Rattle.std.proofs.Common.{◌≡◌, ℕ, ◌≤◌, inl, inr, Bool, true, false, cond, List, Option, Result, Ok, Err, subst, arith}
+use Rattle.std.specs.Option.{option_map}
+use Rattle.elf_load.specs.Image.{Image}
+use Rattle.elf_load.specs.Elf.{loaded}
+use Rattle.forest_tree.specs.Tree.{Tree}
+use Rattle.forest_model.specs.Machine.{Machine}
+use Rattle.drive_script.specs.Script.{Line, script}
+use Rattle.drive_script.specs.declared.script.TheConstants.{MAX_SCRIPT}
+use Rattle.command_line.specs.Words.{GuestValues}
+use Rattle.guest_files.specs.declared.stop.TheConstants.{INPUT_LOAD, SCRIPT_LOAD}
+use Rattle.guest_files.specs.declared.stop.Stop.{Stop}
+use Rattle.guest_files.specs.Reads.{Files, Refusal, Guest, disk_not_sectors, script_too_long, and_then, guest_read}
+use Rattle.guest_files.specs.Parts.{last_load, Stops, Gives, Makes}
+use Rattle.guest_files.proofs.PartLemmas.{Gave, after, continues, file-load, makes, stops}
+use Rattle.snow_commands.specs.Text.{script_read, loaded_from, guest_booted, run_with, run_text, lines_of, told_by, drive_with, drive_from, drive_text}
+
+-- ---- the last load before what comes of the files
+
+by_sectors : (final : ℕ) (whole : Bool) (t : Tree Machine) → final ≤ last_load final (cond whole (Ok t) (Err disk_not_sectors))
+by_sectors final true t = omega arith
+by_sectors final false t = omega arith
+
+by_loaded : (final : ℕ) (values : GuestValues) (guest : Guest) (r : Result Image ℕ) → final ≤ last_load final (loaded_from values guest r)
+by_loaded final values guest (Err number) = omega arith
+by_loaded final values guest (Ok image) = by_sectors final _ _
+
+booted-after : (final : ℕ) (values : GuestValues) (guest : Guest) → final ≤ last_load final (guest_booted values guest)
+unfolding guest_booted
+booted-after final values guest = by_loaded final values guest (loaded guest.image values.pages)
+
+by_lines : (final : ℕ) (r : Result (List Line) (ℕ × ℕ)) → final ≤ last_load final (lines_of r)
+by_lines final (Ok lines) = omega arith
+by_lines final (Err refusal) = omega arith
+
+-- what the files hold is looked at after all loads
+run-after : (values : GuestValues) (guest : Guest) → INPUT_LOAD ≤ last_load INPUT_LOAD (run_with values guest)
+run-after values guest = after INPUT_LOAD INPUT_LOAD (guest_booted values guest) _ (booted-after INPUT_LOAD values guest) (λ t. omega arith)
+
+drive-after : (values : GuestValues) (guest : Guest) (text : List ℕ) → SCRIPT_LOAD ≤ last_load SCRIPT_LOAD (drive_with values guest text)
+drive-after values guest text =
+    after SCRIPT_LOAD SCRIPT_LOAD (guest_booted values guest) (told_by text) (booted-after SCRIPT_LOAD values guest)
+    (λ t. after SCRIPT_LOAD SCRIPT_LOAD (lines_of (script text)) _ (by_lines SCRIPT_LOAD (script text)) (λ lines. omega arith))
+
+guest-after : (values : GuestValues) (name : List ℕ) (files : Files) (guest : Guest) → INPUT_LOAD ≤ last_load SCRIPT_LOAD (drive_from values name files guest)
+unfolding script_read
+guest-after values name files guest =
+    after INPUT_LOAD SCRIPT_LOAD (script_read name files) (drive_with values guest)
+    (file-load INPUT_LOAD SCRIPT_LOAD MAX_SCRIPT SCRIPT_LOAD script_too_long (files name) (omega arith) (omega arith) (omega arith))
+    (λ text. let later = drive-after values guest text in omega (arith, later))
+
+-- ---- `run`
+
+pub run-stops : (values : GuestValues) (files : Option Files) (P : ℕ → Type 0) (stop : Stop)
+    → Stops INPUT_LOAD P (option_map (guest_read values) files) stop → Stops INPUT_LOAD P (option_map (run_text values) files) stop
+unfolding run_text
+run-stops values files P stop h =
+    stops INPUT_LOAD INPUT_LOAD P P files (guest_read values) (λ told. run_with values) stop (omega arith) (λ told. run-after values) (λ load was. was) h
+
+pub run-gives : {V : Type 0} (values : GuestValues) (files : Option Files) (P : ℕ → Type 0) (guest : Guest) (shows : V → List ℕ → Type 0) (result : Result V Stop)
+    → Gave (guest_read values) files guest → Makes (run_with values guest) shows result → Gives INPUT_LOAD P (option_map (run_text values) files) shows result
+unfolding run_text
+run-gives values files P guest shows result gave h =
+    continues INPUT_LOAD P P files (guest_read values) (λ told. run_with values) guest shows result gave (λ load was. was)
+    (makes INPUT_LOAD P files (run_with values guest) shows result h)
+
+-- ---- `drive`
+
+pub drive-stops : (values : GuestValues) (name : List ℕ) (files : Option Files) (P Q : ℕ → Type 0) (stop : Stop) → ((load : ℕ) → P load → Q load)
+    → Stops INPUT_LOAD P (option_map (guest_read values) files) stop → Stops SCRIPT_LOAD Q (option_map (drive_text values name) files) stop
+unfolding drive_text
+drive-stops values name files P Q stop to h =
+    stops INPUT_LOAD SCRIPT_LOAD P Q files (guest_read values) (drive_from values name) stop (omega arith) (guest-after values name) to h
+
+pub script-stops : (values : GuestValues) (name : List ℕ) (files mid : Option Files) (guest : Guest) (P Q : ℕ → Type 0) (stop : Stop) → mid ≡ files
+    → Gave (guest_read values) files guest → ((load : ℕ) → P load → Q load) → Stops SCRIPT_LOAD P (option_map (script_read name) mid) stop
+    → Stops SCRIPT_LOAD Q (option_map (drive_text values name) files) stop
+unfolding drive_text
+script-stops values name files mid guest P Q stop same gave to h =
+    let here = subst (λ told. Stops SCRIPT_LOAD P (option_map (script_read name) told) stop) same h in
+    continues {A = Guest} {V = List ℕ} SCRIPT_LOAD Q Q files (guest_read values) (drive_from values name) guest (λ v told. v ≡ told) (Err stop) gave (λ load was. was)
+    (stops SCRIPT_LOAD SCRIPT_LOAD P Q files (script_read name) (λ told. drive_with values guest) stop (omega arith) (λ told. drive-after values guest) to here)
+
+pub drive-gives : {V : Type 0} (values : GuestValues) (name : List ℕ) (files mid : Option Files) (P : ℕ → Type 0) (guest : Guest) (text : List ℕ)
+    (shows : V → List ℕ → Type 0) (result : Result V Stop) → mid ≡ files → Gave (guest_read values) files guest → Gave (script_read name) mid text
+    → Makes (drive_with values guest text) shows result → Gives SCRIPT_LOAD P (option_map (drive_text values name) files) shows result
+unfolding drive_text
+drive-gives values name files mid P guest text shows result same gave gave_text h =
+    continues SCRIPT_LOAD P P files (guest_read values) (drive_from values name) guest shows result gave (λ load was. was)
+    (continues SCRIPT_LOAD P P files (script_read name) (λ told. drive_with values guest) text shows result
+    (subst (λ told. Gave (script_read name) told text) same gave_text) (λ load was. was)
+    (makes SCRIPT_LOAD P files (drive_with values guest text) shows result h))

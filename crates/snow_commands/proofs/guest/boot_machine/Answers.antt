@@ -1,0 +1,19 @@
+use Rattle.std.proofs.Common.{ap, ◌∙◌}
+use Rattle.std.proofs.lemmas.Result.{IfOk-weaker}
+use Rattle.forest_model.specs.Machine.{Machine, boot}
+use Rattle.forest_model.specs.Forest.{port_of}
+use Rattle.snow_commands.proofs.Turning.{boot-ticketless, booted-family}
+use Rattle.snow_commands.proofs.guest.boot_machine.Goals as goal
+
+pub new-requires : goal.new-requires
+new-requires c = record {
+  no_ticket =
+      ap (λ (m : Machine). (port_of m).tickets) c.in_ok-vm.ensures ∙ boot-ticketless c.args.image.now c.args.disk c.args.input.now c.args.options;
+}
+
+pub returns : goal.returns
+returns c =
+    IfOk-weaker c.new.result _ _
+    (λ world stands.
+    booted-family c.args.depot.now world c.in_ok-vm.vm (boot c.args.image.now c.args.disk c.args.input.now c.args.options) stands c.in_ok-vm.ensures)
+    c.new.ensures

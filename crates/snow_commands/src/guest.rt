@@ -1,0 +1,78 @@
+//! The machine of a guest whose files are read is booted.
+
+ghost use Rattle.std.specs.Prelude.{◌≡◌, ◌≤◌, length, IfOk};
+ghost use Rattle.forest_model.specs.Forest.{booted};
+ghost use Rattle.guest_files.specs.Parts.{Makes};
+ghost use Rattle.snow_commands.specs.Text.{booted_from, guest_booted};
+ghost use Rattle.snow_commands.specs.Turned.{HasFamily};
+
+use command_line::{GuestWords, LEAST_LIMIT, MOST_CLONES, MOST_LIMIT};
+use console_port::MAX_INPUT;
+use cow_disk::{Disk, DiskError};
+use elf_load::{ImageError, Loaded, load_elf};
+use forest_model::Options;
+use guest_files::{DISK_NOT_SECTORS, GuestFiles, Stop};
+use image_depot::Depot;
+use std::alloc::{AllocError, Global};
+use vm_cell::Vm;
+use world_core::World;
+
+/// Boots the machine of a guest. The images of its family will be in the depot.
+#[tactic(auto, unfolding(crate::specs::Text::guest_booted))]
+pub fn boot(
+    alloc: Global,
+    guest: &GuestWords<'_>,
+    files: &GuestFiles,
+    depot: &Depot,
+) -> Result<World, Stop>
+    ensures { Makes (guest_booted guest.now files.now) (HasFamily depot.now) result }
+{
+    match load_elf(alloc, files.image(), guest.pages()) {
+        Ok(image) => boot_image(alloc, guest, files, &image, depot),
+        Err(ImageError::Refused(number)) => Err(Stop::ImageRefused(number)),
+        Err(ImageError::Memory) => Err(Stop::Memory),
+    }
+}
+
+/// Boots the machine of an image that is loaded.
+fn boot_image(
+    alloc: Global,
+    guest: &GuestWords<'_>,
+    files: &GuestFiles,
+    image: &Loaded,
+    depot: &Depot,
+) -> Result<World, Stop>
+    ensures { Makes (booted_from guest.now files.now image.now) (HasFamily depot.now) result }
+{
+    let disk = match Disk::from_bytes(alloc, files.disk()) {
+        Ok(disk) => disk,
+        Err(DiskError::NotSectors) => return Err(Stop::DataRefused(DISK_NOT_SECTORS)),
+        Err(DiskError::Memory) => return Err(Stop::Memory),
+        Err(DiskError::TooLong | DiskError::BadSector) => unreachable!(),
+    };
+    let options = Options {
+        limit: guest.limit(),
+        allot: guest.clones(),
+    };
+    let world = boot_machine(alloc, image, disk, files.input(), options, depot)?;
+    Ok(world)
+}
+
+/// Boots a machine, which is then the only one of a world.
+fn boot_machine(
+    alloc: Global,
+    image: &Loaded,
+    disk: Disk,
+    input: &[u8],
+    options: Options,
+    depot: &Depot,
+) -> Result<World, AllocError>
+    requires input { length input.now ≤ MAX_INPUT }
+    requires least { LEAST_LIMIT ≤ options.limit }
+    requires most { options.limit ≤ MOST_LIMIT }
+    requires clones { options.allot ≤ MOST_CLONES }
+    ensures { IfOk result (λ world. HasFamily depot.now world (booted image.now disk input.now options)) }
+{
+    let vm = Vm::boot(alloc, image, disk, input, options)?;
+    World::new(alloc, vm, depot)
+}

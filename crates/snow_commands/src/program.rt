@@ -1,0 +1,142 @@
+//! What the program does with its words.
+
+ghost use Rattle.std.specs.Prelude.{◌≡◌, ◌↔◌, None};
+ghost use Rattle.io_edge.specs.Outside.{HasRisen};
+ghost use Rattle.command_line.specs.Commands.{meaning};
+ghost use Rattle.command_line.specs.Words.{meant, texts};
+ghost use Rattle.guest_files.specs.Parts.{IsDataRefusal, IsFaultOf, IsImageRefusal, IsScriptRefusal, loads_of};
+ghost use Rattle.snow_commands.specs.Writes.{IsSilent, Writes};
+ghost use Rattle.snow_commands.specs.Status.{IsWritten, IsPrefixOut, IsRefused, IsFaultAsked, IsLoadAsked, IsReached, Completes, IsStatus};
+
+use crate::drive::drive_and_write;
+use crate::run::run_and_report;
+use command_line::{Command, command_asked};
+use guest_files::Stop;
+use io_edge::{Shelf, Sink};
+use std::alloc::AllocError;
+use std::sync::Wait;
+
+/// How a call of `snow` ended. `first` and `second` are 0 where the code gives them no meaning.
+#[derive(Clone, Copy, Debug, PartialEq)]
+pub struct Status {
+    /// 0 done, 1 a file could not be read, 2 the words have no meaning, 3 the image is refused, 4 the
+    /// disk or the input is refused, 5 the text could not be written whole, 6 want of memory, 8 the
+    /// script is refused.
+    pub code: u8,
+    /// Of code 1 which load failed: 1 the image, 2 the disk, 3 the input, 4 the script; of codes 3 and 4
+    /// the number of the refusal; of code 8 the line that is refused, or 0 where the script is too long.
+    pub first: u32,
+    /// Of code 8 the kind of what is refused.
+    pub second: u32,
+}
+
+impl Status {
+    /// The words have no meaning.
+    pub const USAGE: Status = Status {
+        code: 2,
+        first: 0,
+        second: 0,
+    };
+
+    /// Want of memory.
+    pub const OUT_OF_MEMORY: Status = Status {
+        code: 6,
+        first: 0,
+        second: 0,
+    };
+
+    fn new(code: u8, first: u32) -> Status
+        ensures { result ≡ record { code = code; first = first; second = 0 } }
+    {
+        Status {
+            code,
+            first,
+            second: 0,
+        }
+    }
+
+    /// The script is refused.
+    fn of_script(line: u32, kind: u32) -> Status
+        ensures { result ≡ record { code = 8; first = line; second = kind } }
+    {
+        Status {
+            code: 8,
+            first: line,
+            second: kind,
+        }
+    }
+}
+
+/// Does what the words ask for, which leave out the program's own name.
+pub fn snow<R: AllocGlobal + Wait, S: Shelf, K: Sink>(
+    rt: &R,
+    words: &[String],
+    shelf: &mut S,
+    sink: &mut K,
+) -> Status
+    // 0: the sink has gained the text of the words. That is of `run` the report of the family of the
+    // machine that is booted from the image, with its disk and its input, run to its end; and of `drive`
+    // what the script tells of that family, line by line.
+    ensures written { result.code ≡ 0 → IsWritten (S.files shelf.old) (texts words.now) (K.gone sink.old) (K.gone sink.new) }
+
+    // 1: only where the shelf had a fault, in a load that the words ask for and no earlier check
+    // forestalls. It is that of the last load that was asked for.
+    ensures read_fault { result.code ≡ 1 → HasRisen (S.faults shelf.old) (S.faults shelf.new) }
+    ensures load_asked { result.code ≡ 1 → IsLoadAsked (meant (texts words.now)) result.first }
+    ensures load_reached { result.code ≡ 1 → IsReached (S.files shelf.old) (texts words.now) result.first }
+    ensures load_fault { result.code ≡ 1 → IsFaultAsked (meant (texts words.now)) result.first (S.asked shelf.old) (S.asked shelf.new) }
+
+    // 2: exactly where the words have no meaning, but that want of memory may come first. 3: only where
+    // the image is refused, and 4: only where the disk or the input is, with the number of the refusal.
+    // 8: only where the script is, with the line and the kind.
+    ensures usage { ¬ (result.code ≡ 6) → ((result.code ≡ 2) ↔ (meant (texts words.now) ≡ None)) }
+    ensures image_refused { result.code ≡ 3 → IsRefused (S.files shelf.old) (texts words.now) (IsImageRefusal result.first) }
+    ensures data_refused { result.code ≡ 4 → IsRefused (S.files shelf.old) (texts words.now) (IsDataRefusal result.first) }
+    ensures script_refused { result.code ≡ 8 → IsRefused (S.files shelf.old) (texts words.now) (IsScriptRefusal result.first result.second) }
+
+    // 5: only where the sink had a fault, and a prefix of the text is out.
+    ensures write_fault { result.code ≡ 5 → HasRisen (K.faults sink.old) (K.faults sink.new) }
+    ensures prefix { result.code ≡ 5 → IsPrefixOut (S.files shelf.old) (texts words.now) (K.gone sink.old) (K.gone sink.new) }
+
+    // On every other code the sink has been given nothing.
+    ensures silent { ¬ (result.code ≡ 0) → ¬ (result.code ≡ 5) → sink.new ≡ sink.old }
+
+    // The words and the files decide the code, but for faults and for want of memory, which is 6.
+    ensures complete { Completes result (S.files shelf.old) (texts words.now)
+        (HasRisen (S.faults shelf.old) (S.faults shelf.new)) (HasRisen (K.faults sink.old) (K.faults sink.new)) }
+    ensures status { IsStatus result }
+{
+    let command = match command_asked(rt.alloc(), words) {
+        Ok(Some(command)) => command,
+        Ok(None) => return Status::USAGE,
+        Err(AllocError) => return Status::OUT_OF_MEMORY,
+    };
+    match write_text(rt, &command, shelf, sink) {
+        Ok(()) => Status::new(0, 0),
+        Err(Stop::ReadFault(load)) => Status::new(1, load),
+        Err(Stop::ImageRefused(number)) => Status::new(3, number),
+        Err(Stop::DataRefused(number)) => Status::new(4, number),
+        Err(Stop::ScriptRefused { line, kind }) => Status::of_script(line, kind),
+        Err(Stop::WriteFault) => Status::new(5, 0),
+        Err(Stop::Memory) => Status::OUT_OF_MEMORY,
+    }
+}
+
+/// Writes the text of a command.
+fn write_text<R: AllocGlobal + Wait, S: Shelf, K: Sink>(
+    rt: &R,
+    command: &Command<'_>,
+    shelf: &mut S,
+    sink: &mut K,
+) -> Result<(), Stop>
+    ensures writes { Writes (meaning command.now) (S.files shelf.old)
+        (λ load. HasRisen (S.faults shelf.old) (S.faults shelf.new) × IsFaultOf (loads_of (meaning command.now)) load (S.asked shelf.old) (S.asked shelf.new))
+        (HasRisen (K.faults sink.old) (K.faults sink.new))
+        (K.gone sink.old) (K.gone sink.new) result }
+    ensures silent { IsSilent result (sink.new ≡ sink.old) }
+{
+    match command {
+        Command::Run(guest) => run_and_report(rt, guest, shelf, sink),
+        Command::Drive(guest, script) => drive_and_write(rt, guest, script, shelf, sink),
+    }
+}

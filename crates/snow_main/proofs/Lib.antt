@@ -1,4 +1,0 @@
-pub mod PartLemmas
-pub mod Meanings
-pub mod Ended
-pub mod Turning

@@ -1,8 +1,0 @@
--- Commands, by the values of the code.
-use Rattle.snow_main.specs.declared.words.Command.{Command as Asked}
-use Rattle.snow_main.specs.declared.words.Command.TheVariants as asked
-use Rattle.snow_main.specs.Words.{Command, run, drive}
-
-abbrev pub meaning : Asked → Command
-meaning (asked.Run guest) = run guest
-meaning (asked.Drive guest script) = drive guest script.now

@@ -1,6 +1,0 @@
-pub mod Words
-pub mod Commands
-pub mod Text
-pub mod Parts
-pub mod Status
-pub mod Turned

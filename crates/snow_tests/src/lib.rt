@@ -1,0 +1,6 @@
+//! Tests of the commands of `snow`, of what no clause says. They stand here and not beside the commands, since a
+//! crate with tests is proved twice, and this one has nothing else.
+#![tactic(auto)]
+
+#[cfg(test)]
+mod tests;

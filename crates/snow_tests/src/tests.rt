@@ -1,0 +1,232 @@
+//! What no clause says: the texts of two guests, and the codes at their causes. Whole guests, options and real
+//! files are tested by the command line.
+
+ghost use Rattle.std.specs.Prelude.{◌≤◌, length};
+
+use elf_load::RAM_BASE;
+use io_edge::{MemShelf, MemSink};
+use rv_asm::elf_of;
+use snow_commands::{Status, snow};
+use std::alloc::{AllocError, Global};
+use std::process::Abort;
+use std::sync::Wait;
+use std::test::Fail;
+
+/// The words of the guest that ends with the value 7. Its image has 104 bytes.
+static EXIT_SEVEN: [u32; 5] = [0x100022b7, 0x00700313, 0x0062a023, 0x00500313, 0x0062a423];
+
+/// The words of the guest that makes two children, where it gets a ticket for them. It joins them and
+/// exits with the value of the first.
+static TWO_CHILDREN: [u32; 25] = [
+    0x100022b7, 0x00200313, 0x0062a023, 0x0002a223, 0x00100313, 0x0062a423, 0x00c2a383, 0x0072a023,
+    0x00200313, 0x0062a423, 0x0102a403, 0x02041463, 0x00300313, 0x0072a023, 0x0062a423, 0x00100313,
+    0x0062ac23, 0x0202a303, 0x0062a023, 0x00500313, 0x0062a423, 0x02840313, 0x0062a023, 0x00500313,
+    0x0062a423,
+];
+
+/// Its report, where it gets its children.
+static TWO_CHILDREN_REPORT: &[u8] =
+    b"machine 0 exit 41 steps 21 out 0\n\nmachine 0.1.1 exit 41 steps 16 out 0\n\nmachine 0.1.2 exit 42 steps 16 out 0\n\n";
+
+/// The words of a command line.
+fn words_of(alloc: Global, line: &str) -> Result<Vec<String>, AllocError> {
+    let mut words = Vec::new(alloc);
+    for word in line.split(' ') {
+        words.push(String::from_str(alloc, word)?)?;
+    }
+    Ok(words)
+}
+
+/// A file of a shelf.
+fn file(alloc: Global, name: &str, bytes: &[u8]) -> Result<(String, Vec<u8>), AllocError> {
+    Ok((
+        String::from_str(alloc, name)?,
+        Vec::from_slice(alloc, bytes)?,
+    ))
+}
+
+/// A shelf with the image `guest` of which so many bytes are there, `script`, `disk`, of 512 bytes, and the input
+/// `Z`. Its call of this number fails.
+fn shelf_of(
+    alloc: Global,
+    guest: &[u8],
+    script: &[u8],
+    fails: u64,
+) -> Result<MemShelf, AllocError> {
+    let files = vec![in alloc;
+        file(alloc, "guest", guest)?,
+        file(alloc, "script", script)?,
+        file(alloc, "disk", &[0; 512])?,
+        file(alloc, "input", b"Z")?,
+    ]?;
+    Ok(MemShelf::new(files, vec![in alloc; fails]?))
+}
+
+/// Compares an answer and what is out with what is wanted.
+fn compare<R: Abort>(
+    rt: &R,
+    line: &str,
+    found: &Status,
+    sink: &MemSink,
+    status: &Status,
+    out: &[u8],
+) {
+    assert_eq!(rt; *found, *status, "{line}");
+    assert_eq!(rt; sink.bytes(), out);
+}
+
+/// Runs a command line over an image and a script, with a shelf whose load of this number fails, and
+/// compares what it answers and what is out.
+fn answers<R: AllocGlobal + Wait + Abort>(
+    rt: &R,
+    line: &str,
+    image: &[u8],
+    script: &[u8],
+    fails: u64,
+    status: &Status,
+    out: &[u8],
+) -> Result<(), Fail> {
+    let alloc = rt.alloc();
+    let words = words_of(alloc, line)?;
+    let mut shelf = shelf_of(alloc, image, script, fails)?;
+    let mut sink = MemSink::new(alloc, 7, 1000, Vec::new(alloc))?;
+    let found = snow(rt, &words, &mut shelf, &mut sink);
+    compare(rt, line, &found, &sink, status, out);
+    Ok(())
+}
+
+/// Expects that a command line writes this over the image of these words and a script.
+fn writes<R: AllocGlobal + Wait + Abort>(
+    rt: &R,
+    line: &str,
+    guest: &[u32],
+    script: &[u8],
+    out: &[u8],
+) -> Result<(), Fail>
+    requires { length guest.now ≤ 64 }
+{
+    let image = elf_of(rt.alloc(), RAM_BASE, guest)?;
+    let done = Status {
+        code: 0,
+        first: 0,
+        second: 0,
+    };
+    answers(rt, line, &image, script, 0, &done, out)
+}
+
+#[test]
+fn writes_reports(rt: HostRuntime) -> Result<(), Fail> {
+    let report: &[u8] = b"machine 0 exit 7 steps 5 out 0\n\n";
+    writes(&rt, "run guest", &EXIT_SEVEN, b"", report)?;
+    writes(
+        &rt,
+        "run guest --clones 2",
+        &TWO_CHILDREN,
+        b"",
+        TWO_CHILDREN_REPORT,
+    )
+}
+
+#[test]
+fn writes_what_scripts_tell(rt: HostRuntime) -> Result<(), Fail> {
+    let script: &[u8] = b"step 0 12\nstep 0.1.1 6\nstep 0 9\nstep 0.1.2 9\nstep 0 7\nstep 0 1\n";
+    let told: &[u8] =
+        b"0 ran 12 ok\n0.1.1 ran 6 exit 41\n0 ran 2 wait 1\n0.1.2 ran 6 exit 42\n0 ran 7 exit 41\n0 none\n";
+    let words = "drive guest script --clones 2 --ram 16";
+    writes(&rt, words, &TWO_CHILDREN, script, told)
+}
+
+/// Command lines, how many bytes of the image are there, the script, and the code with its two numbers.
+static REFUSALS: [(&str, usize, &[u8], u8, u32, u32); 14] = [
+    ("fly guest", 104, b"", 2, 0, 0),
+    ("run guest script", 104, b"", 2, 0, 0),
+    ("drive guest", 104, b"", 2, 0, 0),
+    ("run --help", 104, b"", 2, 0, 0),
+    ("run guest --ram 15", 104, b"", 2, 0, 0),
+    ("run guest --clones 4097", 104, b"", 2, 0, 0),
+    ("run other", 104, b"", 1, 1, 0),
+    ("run guest", 103, b"", 3, 9, 0),
+    ("run guest --disk guest", 104, b"", 4, 2, 0),
+    ("drive guest other --disk disk", 0, b"", 1, 4, 0),
+    ("drive guest script --disk guest", 103, b"", 3, 9, 0),
+    ("drive guest script --disk guest", 104, b"jump", 4, 2, 0),
+    (
+        "drive guest script",
+        104,
+        b"step 0 1\nregs 0\njump 0\n",
+        8,
+        3,
+        1,
+    ),
+    ("drive guest script", 104, b"\nstep 0 01", 8, 2, 4),
+];
+
+// Nothing is out then.
+#[test]
+fn refuses_by_cause(rt: HostRuntime) -> Result<(), Fail> {
+    let image = elf_of(rt.alloc(), RAM_BASE, &EXIT_SEVEN)?;
+    for (line, length, script, code, first, second) in REFUSALS.iter() {
+        let (guest, _) = image.split_at(image.len().min(*length));
+        let status = Status {
+            code: *code,
+            first: *first,
+            second: *second,
+        };
+        answers(&rt, line, guest, script, 0, &status, b"")?;
+    }
+    Ok(())
+}
+
+// Each load that `drive` makes, in order.
+#[test]
+fn stops_at_each_load(rt: HostRuntime) -> Result<(), Fail> {
+    let line = "drive guest script --disk disk --input input";
+    for load in 1..=4u32 {
+        let status = Status {
+            code: 1,
+            first: load,
+            second: 0,
+        };
+        answers(&rt, line, b"", b"", u64::from(load), &status, b"")?;
+    }
+    Ok(())
+}
+
+/// Expects code 5, and the pieces of the report of two children that were out before this put.
+fn compare_cut<R: Abort>(rt: &R, found: &Status, sink: &MemSink, fails: u64)
+    requires least { 1 ≤ fails }
+    requires most { fails ≤ 11 }
+{
+    assert_eq!(rt; found.code, 5);
+    assert!(rt; sink.bytes().len() as u64 <= 10 * (fails - 1));
+    assert!(rt; TWO_CHILDREN_REPORT.starts_with(sink.bytes()));
+}
+
+/// Runs a guest of two children over a sink whose put of this number fails.
+fn stops_at_put<R: AllocGlobal + Wait + Abort>(
+    rt: &R,
+    words: &[String],
+    image: &[u8],
+    fails: u64,
+) -> Result<(), Fail>
+    requires least { 1 ≤ fails }
+    requires most { fails ≤ 11 }
+{
+    let alloc = rt.alloc();
+    let mut shelf = shelf_of(alloc, image, b"", 0)?;
+    let mut sink = MemSink::new(alloc, 10, 1000, vec![in alloc; fails]?)?;
+    let found = snow(rt, words, &mut shelf, &mut sink);
+    compare_cut(rt, &found, &sink, fails);
+    Ok(())
+}
+
+// The report of 110 bytes goes in pieces of at most ten.
+#[test]
+fn stops_at_each_put(rt: HostRuntime) -> Result<(), Fail> {
+    let image = elf_of(rt.alloc(), RAM_BASE, &TWO_CHILDREN)?;
+    let words = words_of(rt.alloc(), "run guest --clones 2")?;
+    for fails in 1..=11u64 {
+        stops_at_put(&rt, &words, &image, fails)?;
+    }
+    Ok(())
+}
