@@ -1,22 +1,14 @@
 -- Pages that ZERO makes read as zeros.
 use Rattle.std.proofs.Common.{◌≡◌, ℕ, ◌+◌, ◌-◌, ◌*◌, ◌/◌, ◌<◌, ◌≤◌, ◌⊎◌, ◌&&◌, inl, inr, Bool, true, false, not, cond, eqb, leb, length, get_or, refl, ap, ◌∙◌, arith}
 use Rattle.std.proofs.lemmas.Bool.Decides.{nat_tests, leb_tells}
-use Rattle.std.proofs.lemmas.List.{length-replicate, get_or-replicate}
 use Rattle.elf_load.specs.declared.image.TheConstants.{PAGE_SIZE}
 use Rattle.flat_memory.specs.Flat.{zeros}
+use Rattle.flat_memory.proofs.Zeros.{length-zeros, get_or-zeros}
 use Rattle.flat_memory.proofs.Bytes.{get_or-put_bytes, get_or-put_bytes_outside, length-put_bytes}
 use Rattle.fork_port.specs.declared.refusals.TheConstants.{BAD_ARGUMENT}
 use Rattle.fork_port.specs.Registers.{refused}
 use Rattle.forest_model.specs.State.{State}
 use Rattle.forest_model.specs.Memory.{is_page_range, zeroed}
-
-length-zeros : (n : ℕ) → length (zeros n) ≡ n
-unfolding zeros
-length-zeros n = length-replicate n 0
-
-get_or-zeros : (n k : ℕ) → k < n → get_or (zeros n) k 0 ≡ 0
-unfolding zeros
-get_or-zeros n k h = get_or-replicate n k 0 0 h
 
 -- the range lies in RAM
 pages-within : (first count size : ℕ) → not (eqb count 0) && leb (first + count) (size / PAGE_SIZE) ≡ true
@@ -50,7 +42,7 @@ module _ (s : State) (first count : ℕ) where
       let place : at ≡ PAGE_SIZE * first + (at - PAGE_SIZE * first) = omega arith in
       ap (λ i. get_or (zeroed true first count s).ram i 0) place
       ∙ get_or-put_bytes s.ram (zeros (PAGE_SIZE * count)) (PAGE_SIZE * first) (at - PAGE_SIZE * first) (omega arith) (omega arith)
-      ∙ get_or-zeros (PAGE_SIZE * count) (at - PAGE_SIZE * first) (omega arith)
+      ∙ get_or-zeros (PAGE_SIZE * count) (at - PAGE_SIZE * first)
 
   pub zeroed-length : is_page_range first count s.ram ≡ true → length (zeroed true first count s).ram ≡ length s.ram
   zeroed-length e =

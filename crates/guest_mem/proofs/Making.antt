@@ -11,7 +11,7 @@ use Rattle.page_frames.specs.declared.page.TheConstants.{PAGE_SIZE}
 use Rattle.page_frames.specs.declared.entry.Entry.{Entry}
 use Rattle.page_frames.specs.declared.entry.Entry.TheVariants.{Blank}
 use Rattle.page_frames.specs.Tables.{paged, entry_at, entry_bytes, flat_bytes, is_blank}
-use Rattle.flat_memory.proofs.ByteLists.{get_or-zeros}
+use Rattle.flat_memory.proofs.Zeros.{get_or-zeros}
 use Rattle.page_frames.proofs.Memory.{length-paged, get_or-paged, paged_is, flat_bytes_is, byte_of_page}
 use Rattle.image_depot.specs.Image.{own_table}
 use Rattle.guest_mem.specs.Ram.{Ram, IsRam, AreZero, is_here, ram_of, at_boot, cleared, cloned}

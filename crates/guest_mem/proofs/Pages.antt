@@ -13,7 +13,7 @@ use Rattle.page_frames.specs.declared.page.TheConstants.{PAGE_SIZE}
 use Rattle.page_frames.specs.declared.entry.Entry.{Entry}
 use Rattle.page_frames.specs.declared.entry.Entry.TheVariants.{Held, Blank}
 use Rattle.page_frames.specs.Tables.{entry_at, entry_bytes, flat_bytes, is_blank, blank_pages}
-use Rattle.flat_memory.proofs.ByteLists.{length-zeros, get_or-zeros}
+use Rattle.flat_memory.proofs.Zeros.{length-zeros, get_or-zeros}
 use Rattle.page_frames.proofs.Memory.{length-flat_bytes, get_or-flat_bytes, flat_bytes_is, number_of_page, write_in_page}
 use Rattle.guest_mem.specs.Ram.{Ram, IsRam, IsTable, AreZero, is_here, ram_of, stored, zeroed, with_set}
 

@@ -1,6 +1,6 @@
 use Rattle.std.proofs.Common.{ap, sym}
 use Rattle.flat_memory.specs.Flat.{zeros}
-use Rattle.flat_memory.proofs.ByteLists.{length-zeros}
+use Rattle.flat_memory.proofs.Zeros.{length-zeros}
 use Rattle.page_frames.specs.declared.page.TheConstants.{PAGE_SIZE}
 use Rattle.page_frames.specs.Tables.{entry_bytes}
 use Rattle.page_frames.proofs.entry.Entry.bytes.Goals as goal
