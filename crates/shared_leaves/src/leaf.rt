@@ -70,7 +70,33 @@ impl<T: Handle> Leaf<T> {
         ensures* writes_back { sem 𝓛 (leaf_lends T.row self.entry i result) }
         ensures value { IfOk result (λ entry. entry.now ≡ slice_index_or self.old i entry.now) }
     {
-        let entries = Arc::make_mut(&mut self.entries)?;
+        self.unshare()?;
+        let Some(entries) = Arc::get_mut(&mut self.entries) else {
+            return Err(AllocError);
+        };
         Ok(&mut entries[i])
+    }
+
+    /// Gives this leaf entries of its own where a clone shares them.
+    #[inline(always)]
+    fn unshare(&mut self) -> Result<(), AllocError>
+        ensures { self.new ≡ self.old }
+    {
+        if Arc::strong_count(&self.entries) == 1 {
+            return Ok(());
+        }
+        self.copy()
+    }
+
+    /// Copies the entries. It is apart and never inlined, so that a write to a leaf that has one owner
+    /// is short.
+    #[cold]
+    #[inline(never)]
+    fn copy(&mut self) -> Result<(), AllocError>
+        ensures { self.new ≡ self.old }
+    {
+        let alloc = *self.entries.allocator();
+        *self = Leaf::new(alloc, Vec::from_clones(alloc, &self.entries)?)?;
+        Ok(())
     }
 }
