@@ -1,3 +1,2 @@
 pub mod Sectors
-pub mod PieceLemmas
-pub mod TableLemmas
+pub mod SectorLemmas

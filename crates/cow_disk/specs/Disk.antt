@@ -1,7 +1,7 @@
 -- A disk is one flat list of bytes, in sectors of 512.
-use Rattle.std.specs.Prelude.{◌≡◌, ℕ, ◌*◌, ◌/◌, ◌%◌, ◌≤◌, List, length, take, drop}
+use Rattle.std.specs.Prelude.{ℕ, ◌*◌, ◌/◌, List, length, take, drop}
 use Rattle.flat_memory.specs.Flat.{put_bytes}
-use Rattle.cow_disk.specs.declared.disk.TheConstants.{SECTOR_SIZE, MAX_SECTORS}
+use Rattle.cow_disk.specs.declared.disk.TheConstants.{SECTOR_SIZE}
 
 abbrev pub sector_count : List ℕ → ℕ
 sector_count disk = length disk / SECTOR_SIZE

@@ -1,2 +1,2 @@
 pub mod Disk
-pub mod Pieces
+pub mod Sectors

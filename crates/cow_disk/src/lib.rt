@@ -5,7 +5,7 @@
 mod disk;
 mod error;
 pub mod laws;
-mod leaf;
+mod sector;
 mod table;
 
 pub use disk::{Disk, FrozenDisk, MAX_SECTORS, SECTOR_SIZE};

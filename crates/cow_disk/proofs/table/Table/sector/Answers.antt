@@ -1,17 +1,13 @@
-use Rattle.std.proofs.Common.{◌%◌, arith, ap, ◌∙◌}
-use Rattle.std.specs.Arc.{arc_value}
-use Rattle.cow_disk.specs.declared.leaf.TheConstants.{LEAF_SECTORS}
-use Rattle.cow_disk.specs.Disk.{sector_at}
-use Rattle.cow_disk.proofs.TableLemmas.{leaf_below, within_leaf, sector_at-leaf}
+use Rattle.std.proofs.Common.{[], sym, ◌∙◌}
+use Rattle.std.proofs.lemmas.List.{get_or_read}
+use Rattle.cow_disk.proofs.SectorLemmas.{there, sector_at-concat}
 use Rattle.cow_disk.proofs.table.Table.sector.Goals as goal
 
-pub index-requires : goal.index-requires
-index-requires c = let below = leaf_below arc_value _ _ _ _ c.self.invariant c.self.view_is c.requires in omega arith
-
-pub sector-requires : goal.sector-requires
-sector-requires c = rw c.deref.ensures (within_leaf arc_value _ _ _ _ c.self.invariant c.self.view_is c.requires _ c.index.ensures)
+pub get-requires : goal.get-requires
+get-requires c = there c.self.inside.sectors c.args.self.now c.args.n c.self.invariant.whole c.self.view_is c.requires
 
 pub returns : goal.returns
 returns c =
-    c.sector.ensures ∙ ap (λ leaf. sector_at leaf (c.args.n % LEAF_SECTORS)) c.deref.ensures
-    ∙ sector_at-leaf arc_value _ _ _ _ c.self.invariant c.self.view_is c.requires _ c.index.ensures
+    let below = there c.self.inside.sectors c.args.self.now c.args.n c.self.invariant.whole c.self.view_is c.requires in
+    rw (← c.self.view_is)
+    (c.bytes.ensures ∙ get_or_read c.self.inside.sectors c.args.n c.get.result.now below c.get.ensures [] ∙ sym (sector_at-concat c.self.inside.sectors c.args.n c.self.invariant.whole below))

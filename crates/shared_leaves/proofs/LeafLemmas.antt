@@ -1,0 +1,210 @@
+-- Reads and writes of a list that is cut into leaves.
+use Rattle.std.proofs.Common.{◌≡◌, ℕ, zero, suc, ◌+◌, ◌-◌, ◌*◌, ◌/◌, ◌%◌, ◌<◌, ◌≤◌, List, [], ◌∷◌, ◌++◌, length, take, drop, get_or, replicate, sym, ap, ◌∙◌, subst, append_assoc, length-append, arith}
+use Rattle.std.specs.List.{splice}
+use Rattle.std.proofs.Math.ListN.{set, get_or-append}
+use Rattle.std.proofs.Math.Seq.{take-append-add, drop-append-add}
+use Rattle.std.proofs.lemmas.List.{append-nil, drop_at, drop-drop, get_or-append-add, get_or_read, length-drop, length-replicate, length-set, length-take-le, replicate-append-replicate, set-append_left, set-append_right, set-get_or, set_split, take-append-drop, take_at}
+use Rattle.shared_leaves.specs.declared.leaf.TheConstants.{LEAF_ENTRIES}
+use Rattle.shared_leaves.specs.Leaves.{joined, IsCut}
+
+module _ {T : Type 0} where
+  pub length-joined : (count : ℕ) (leaves : List (List T)) → IsCut count leaves → length (joined leaves) ≡ count
+  length-joined count [] cut = sym cut
+  length-joined count (leaf ∷ leaves) cut =
+      let rest = length-joined (count - LEAF_ENTRIES) leaves cut.2 in
+      omega (arith, length-append leaf (joined leaves), cut.0, cut.1, rest)
+
+  -- the leaf in which an entry lies
+  pub leaf_below : (count : ℕ) (leaves : List (List T)) (k r : ℕ) → IsCut count leaves → LEAF_ENTRIES * k + r < count → k < length leaves
+  leaf_below count [] k r cut inside = absurd (omega arith)
+  leaf_below count (leaf ∷ leaves) zero r cut inside = omega arith
+  leaf_below count (leaf ∷ leaves) (suc k) r cut inside =
+      let below : k < length leaves = leaf_below (count - LEAF_ENTRIES) leaves k r cut.2 (omega arith) in
+      omega arith
+
+  pub within_leaf : (count : ℕ) (leaves : List (List T)) (k r : ℕ) → IsCut count leaves → LEAF_ENTRIES * k + r < count → r < LEAF_ENTRIES
+      → r < length (get_or leaves k [])
+  within_leaf count [] k r cut inside fits = absurd (omega arith)
+  within_leaf count (leaf ∷ leaves) zero r cut inside fits = omega (arith, cut.1)
+  within_leaf count (leaf ∷ leaves) (suc k) r cut inside fits = within_leaf (count - LEAF_ENTRIES) leaves k r cut.2 (omega arith) fits
+
+  pub get_or-joined : (count : ℕ) (leaves : List (List T)) (k r : ℕ) (d : T) → IsCut count leaves → LEAF_ENTRIES * k + r < count → r < LEAF_ENTRIES
+      → get_or (joined leaves) (LEAF_ENTRIES * k + r) d ≡ get_or (get_or leaves k []) r d
+  get_or-joined count [] k r d cut inside fits = absurd (omega arith)
+  get_or-joined count (leaf ∷ leaves) zero r d cut inside fits =
+      let within : r < length leaf = omega (arith, cut.1) in
+      ap (λ i. get_or (leaf ++ joined leaves) i d) (omega arith) ∙ get_or-append leaf (joined leaves) d r within
+  get_or-joined count (leaf ∷ leaves) (suc k) r d cut inside fits =
+      let place : LEAF_ENTRIES * suc k + r ≡ length leaf + (LEAF_ENTRIES * k + r) = omega (arith, cut.1) in
+      ap (λ i. get_or (leaf ++ joined leaves) i d) place ∙ get_or-append-add leaf (joined leaves) (LEAF_ENTRIES * k + r) d
+      ∙ get_or-joined (count - LEAF_ENTRIES) leaves k r d cut.2 (omega arith) fits
+
+  pub set-joined : (count : ℕ) (leaves : List (List T)) (k r : ℕ) (entry : T) → IsCut count leaves → LEAF_ENTRIES * k + r < count → r < LEAF_ENTRIES
+      → joined (set leaves k (set (get_or leaves k []) r entry)) ≡ set (joined leaves) (LEAF_ENTRIES * k + r) entry
+  set-joined count [] k r entry cut inside fits = absurd (omega arith)
+  set-joined count (leaf ∷ leaves) zero r entry cut inside fits =
+      let within : r < length leaf = omega (arith, cut.1) in
+      sym (ap (λ i. set (leaf ++ joined leaves) i entry) (omega arith) ∙ set-append_left leaf (joined leaves) r entry within)
+  set-joined count (leaf ∷ leaves) (suc k) r entry cut inside fits =
+      let full : length leaf ≡ LEAF_ENTRIES = omega (arith, cut.1) in
+      let place : LEAF_ENTRIES * suc k + r - LEAF_ENTRIES ≡ LEAF_ENTRIES * k + r = omega arith in
+      ap (λ rest. leaf ++ rest) (set-joined (count - LEAF_ENTRIES) leaves k r entry cut.2 (omega arith) fits)
+      ∙ sym (set-append_right leaf (joined leaves) LEAF_ENTRIES (LEAF_ENTRIES * suc k + r) entry full (omega arith)
+      ∙ ap (λ i. leaf ++ set (joined leaves) i entry) place)
+
+  pub IsCut-set : (count : ℕ) (leaves : List (List T)) (k : ℕ) (leaf : List T) → IsCut count leaves → length leaf ≡ length (get_or leaves k [])
+      → IsCut count (set leaves k leaf)
+  IsCut-set count [] k leaf cut same = cut
+  IsCut-set count (l ∷ leaves) zero leaf cut same = (cut.0, same ∙ cut.1, cut.2)
+  IsCut-set count (l ∷ leaves) (suc k) leaf cut same = (cut.0, cut.1, IsCut-set (count - LEAF_ENTRIES) leaves k leaf cut.2 same)
+
+  pub joined-push : (leaves : List (List T)) (leaf : List T) → joined (leaves ++ leaf ∷ []) ≡ joined leaves ++ leaf
+  joined-push [] leaf = append-nil leaf
+  joined-push (l ∷ leaves) leaf = ap (λ rest. l ++ rest) (joined-push leaves leaf) ∙ sym (append_assoc l (joined leaves) leaf)
+
+  -- a leaf behind full ones
+  pub IsCut-push : (count : ℕ) (leaves : List (List T)) (leaf : List T) → IsCut count leaves → count % LEAF_ENTRIES ≡ 0 → 0 < length leaf → length leaf ≤ LEAF_ENTRIES
+      → IsCut (count + length leaf) (leaves ++ leaf ∷ [])
+  IsCut-push count [] leaf cut whole some most = (omega arith, omega arith, omega arith)
+  IsCut-push count (l ∷ leaves) leaf cut whole some most =
+      let rest = IsCut-push (count - LEAF_ENTRIES) leaves leaf cut.2 (omega (arith, cut.0)) some most in
+      let counted : count - LEAF_ENTRIES + length leaf ≡ count + length leaf - LEAF_ENTRIES = omega (arith, cut.0) in
+      (omega arith, omega (arith, cut.0, cut.1), subst (λ n. IsCut n (leaves ++ leaf ∷ [])) counted rest)
+
+  length_leaf : (count : ℕ) (leaves : List (List T)) (k : ℕ) → IsCut count leaves → LEAF_ENTRIES * k + LEAF_ENTRIES ≤ count → length (get_or leaves k []) ≡ LEAF_ENTRIES
+  length_leaf count [] k cut inside = absurd (omega arith)
+  length_leaf count (leaf ∷ leaves) zero cut inside = omega (arith, cut.1)
+  length_leaf count (leaf ∷ leaves) (suc k) cut inside = length_leaf (count - LEAF_ENTRIES) leaves k cut.2 (omega arith)
+
+  pub IsCut-replace : (count : ℕ) (leaves : List (List T)) (k : ℕ) (leaf : List T) → IsCut count leaves → LEAF_ENTRIES * k + LEAF_ENTRIES ≤ count → length leaf ≡ LEAF_ENTRIES
+      → IsCut count (set leaves k leaf)
+  IsCut-replace count leaves k leaf cut inside full = IsCut-set count leaves k leaf cut (full ∙ sym (length_leaf count leaves k cut inside))
+
+  -- a full leaf in the place of another
+  pub joined-replace : (count : ℕ) (leaves : List (List T)) (k : ℕ) (leaf : List T) → IsCut count leaves → LEAF_ENTRIES * k + LEAF_ENTRIES ≤ count
+      → joined (set leaves k leaf) ≡ splice (joined leaves) (LEAF_ENTRIES * k) (LEAF_ENTRIES * k + LEAF_ENTRIES) leaf
+  joined-replace count [] k leaf cut inside = absurd (omega arith)
+  joined-replace count (l ∷ leaves) zero leaf cut inside =
+      let full : length l ≡ LEAF_ENTRIES = omega (arith, cut.1) in
+      sym (ap (λ rest. leaf ++ rest) (drop_at l (joined leaves) LEAF_ENTRIES full))
+  joined-replace count (l ∷ leaves) (suc k) leaf cut inside =
+      let start : LEAF_ENTRIES * suc k ≡ length l + LEAF_ENTRIES * k = omega (arith, cut.1) in
+      let end : LEAF_ENTRIES * suc k + LEAF_ENTRIES ≡ length l + (LEAF_ENTRIES * k + LEAF_ENTRIES) = omega (arith, cut.1) in
+      ap (λ rest. l ++ rest) (joined-replace (count - LEAF_ENTRIES) leaves k leaf cut.2 (omega arith))
+      ∙ sym (append_assoc l (take (LEAF_ENTRIES * k) (joined leaves)) (leaf ++ drop (LEAF_ENTRIES * k + LEAF_ENTRIES) (joined leaves)))
+      ∙ sym (ap (λ front. front ++ (leaf ++ drop (LEAF_ENTRIES * k + LEAF_ENTRIES) (joined leaves)))
+      (ap (λ n. take n (l ++ joined leaves)) start ∙ take-append-add l (joined leaves) (LEAF_ENTRIES * k)))
+      ∙ sym (ap (λ rest. take (LEAF_ENTRIES * suc k) (l ++ joined leaves) ++ (leaf ++ rest))
+      (ap (λ n. drop n (l ++ joined leaves)) end ∙ drop-append-add l (joined leaves) (LEAF_ENTRIES * k + LEAF_ENTRIES)))
+
+  -- a run behind a run
+  pub splice-splice : (xs ys zs : List T) (first at end : ℕ) → first ≤ length xs → first + length ys ≡ at → at ≤ end
+      → splice (splice xs first at ys) at end zs ≡ splice xs first end (ys ++ zs)
+  splice-splice xs ys zs first at end inside counted order =
+      let front : length (take first xs ++ ys) ≡ at = length-append (take first xs) ys ∙ ap (λ n. n + length ys) (length-take-le first xs inside) ∙ counted in
+      let begins : take at (take first xs ++ ys ++ drop at xs) ≡ take first xs ++ ys = take_at (take first xs ++ ys) (drop at xs) at front in
+      let more : at + (end - at) ≡ end = omega arith in
+      let ends : drop end (take first xs ++ ys ++ drop at xs) ≡ drop end xs =
+      ap (λ n. drop n (take first xs ++ ys ++ drop at xs)) (sym more)
+      ∙ sym (drop-drop (end - at) at (take first xs ++ ys ++ drop at xs))
+      ∙ ap (λ rest. drop (end - at) rest) (drop_at (take first xs ++ ys) (drop at xs) at front)
+      ∙ drop-drop (end - at) at xs
+      ∙ ap (λ n. drop n xs) more in
+      ap (λ list. splice list at end zs) (sym (append_assoc (take first xs) ys (drop at xs)))
+      ∙ ap (λ front. front ++ (zs ++ drop end (take first xs ++ ys ++ drop at xs))) begins
+      ∙ ap (λ rest. take first xs ++ ys ++ (zs ++ rest)) ends
+      ∙ append_assoc (take first xs) ys (zs ++ drop end xs)
+      ∙ ap (λ rest. take first xs ++ rest) (sym (append_assoc ys zs (drop end xs)))
+
+  pub set_is_splice : (xs : List T) (at : ℕ) (entry : T) → at < length xs → set xs at entry ≡ splice xs at (at + 1) (entry ∷ [])
+  set_is_splice xs at entry inside =
+      let next : suc at ≡ at + 1 = omega arith in
+      set_split xs at entry inside ∙ ap (λ n. take at xs ++ entry ∷ drop n xs) next
+
+  pub length-splice : (xs ys : List T) (first end : ℕ) → first + length ys ≡ end → end ≤ length xs → length (splice xs first end ys) ≡ length xs
+  length-splice xs ys first end counted inside =
+      omega (arith, length-append (take first xs) (ys ++ drop end xs), length-append ys (drop end xs), length-take-le first xs (omega arith), length-drop end xs)
+
+  pub splice-none : (xs : List T) (first : ℕ) (entry : T) → xs ≡ splice xs first first (replicate (first - first) entry)
+  splice-none xs first entry =
+      let none : first - first ≡ 0 = omega arith in
+      sym (ap (λ n. splice xs first first (replicate n entry)) none ∙ take-append-drop first xs)
+
+  -- a run of equal entries that grows
+  pub run-more : (xs : List T) (first at n : ℕ) (entry : T) → first ≤ at → at + n ≤ length xs
+      → splice (splice xs first at (replicate (at - first) entry)) at (at + n) (replicate n entry) ≡ splice xs first (at + n) (replicate (at + n - first) entry)
+  run-more xs first at n entry order inside =
+      let counted : first + length (replicate (at - first) entry) ≡ at = omega (arith, length-replicate (at - first) entry) in
+      let total : at - first + n ≡ at + n - first = omega arith in
+      splice-splice xs (replicate (at - first) entry) (replicate n entry) first at (at + n) (omega arith) counted (omega arith)
+      ∙ ap (λ ys. splice xs first (at + n) ys) (replicate-append-replicate (at - first) n entry ∙ ap (λ k. replicate k entry) total)
+
+  pub length-run : (xs list : List T) (first at : ℕ) (entry : T) → first ≤ at → at ≤ length xs → list ≡ splice xs first at (replicate (at - first) entry)
+      → length list ≡ length xs
+  length-run xs list first at entry order inside is =
+      let counted : first + length (replicate (at - first) entry) ≡ at = omega (arith, length-replicate (at - first) entry) in
+      ap length is ∙ length-splice xs (replicate (at - first) entry) first at counted inside
+
+  pub run-set : (xs list : List T) (first at : ℕ) (entry : T) → first ≤ at → at < length xs → list ≡ splice xs first at (replicate (at - first) entry)
+      → set list at entry ≡ splice xs first (at + 1) (replicate (at + 1 - first) entry)
+  run-set xs list first at entry order inside is =
+      let long : length list ≡ length xs = length-run xs list first at entry order (omega arith) is in
+      set_is_splice list at entry (omega arith) ∙ ap (λ l. splice l at (at + 1) (entry ∷ [])) is ∙ run-more xs first at 1 entry order (omega arith)
+
+  pub run-leaf : (xs list leaf : List T) (first at k : ℕ) (entry : T) → first ≤ at → at + LEAF_ENTRIES ≤ length xs → list ≡ splice xs first at (replicate (at - first) entry)
+      → LEAF_ENTRIES * k ≡ at → leaf ≡ replicate LEAF_ENTRIES entry
+      → splice list (LEAF_ENTRIES * k) (LEAF_ENTRIES * k + LEAF_ENTRIES) leaf ≡ splice xs first (at + LEAF_ENTRIES) (replicate (at + LEAF_ENTRIES - first) entry)
+  run-leaf xs list leaf first at k entry order inside is place equal =
+      ap (λ n. splice list n (n + LEAF_ENTRIES) leaf) place
+      ∙ ap (λ l. splice list at (at + LEAF_ENTRIES) l) equal
+      ∙ ap (λ l. splice l at (at + LEAF_ENTRIES) (replicate LEAF_ENTRIES entry)) is
+      ∙ run-more xs first at LEAF_ENTRIES entry order inside
+
+  -- equal entries behind equal entries
+  pub equal-more : (list leaf made : List T) (n : ℕ) (entry : T) → list ≡ replicate (length list) entry → leaf ≡ replicate n entry → made ≡ list ++ leaf
+      → (made ≡ replicate (length made) entry) × (length made ≡ length list + n)
+  equal-more list leaf made n entry equal more is =
+      let both : made ≡ replicate (length list + n) entry = is ∙ ap (λ xs. xs ++ leaf) equal ∙ ap (λ ys. replicate (length list) entry ++ ys) more ∙ replicate-append-replicate (length list) n entry in
+      let long : length made ≡ length list + n = ap length both ∙ length-replicate (length list + n) entry in
+      (both ∙ ap (λ k. replicate k entry) (sym long), long)
+
+-- the entry at place i, and its leaf
+module _ {T : Type 0} (count : ℕ) (leaves : List (List T)) (i : ℕ) (cut : IsCut count leaves) (inside : i < length (joined leaves)) where
+  at_place : LEAF_ENTRIES * (i / LEAF_ENTRIES) + i % LEAF_ENTRIES ≡ i
+  at_place = omega arith
+
+  short : i % LEAF_ENTRIES < LEAF_ENTRIES
+  short = omega arith
+
+  in_leaves : LEAF_ENTRIES * (i / LEAF_ENTRIES) + i % LEAF_ENTRIES < count
+  in_leaves = omega (arith, length-joined count leaves cut)
+
+  pub leaf_there : i / LEAF_ENTRIES < length leaves
+  leaf_there = leaf_below count leaves (i / LEAF_ENTRIES) (i % LEAF_ENTRIES) cut in_leaves
+
+  module _ (leaf : List T) (read : leaf ≡ get_or leaves (i / LEAF_ENTRIES) leaf) where
+    is_leaf : leaf ≡ get_or leaves (i / LEAF_ENTRIES) []
+    is_leaf = get_or_read leaves (i / LEAF_ENTRIES) leaf leaf_there read []
+
+    pub entry_there : i % LEAF_ENTRIES < length leaf
+    entry_there = subst (λ l. i % LEAF_ENTRIES < length l) (sym is_leaf) (within_leaf count leaves (i / LEAF_ENTRIES) (i % LEAF_ENTRIES) cut in_leaves short)
+
+    pub entry_read : (entry : T) → entry ≡ get_or leaf (i % LEAF_ENTRIES) entry → entry ≡ get_or (joined leaves) i entry
+    entry_read entry of_leaf =
+        of_leaf ∙ ap (λ l. get_or l (i % LEAF_ENTRIES) entry) is_leaf
+        ∙ sym (get_or-joined count leaves (i / LEAF_ENTRIES) (i % LEAF_ENTRIES) entry cut in_leaves short)
+        ∙ ap (λ n. get_or (joined leaves) n entry) at_place
+
+    pub entry_written : (entry : T) → joined (set leaves (i / LEAF_ENTRIES) (set leaf (i % LEAF_ENTRIES) entry)) ≡ set (joined leaves) i entry
+    entry_written entry =
+        ap (λ l. joined (set leaves (i / LEAF_ENTRIES) (set l (i % LEAF_ENTRIES) entry))) is_leaf
+        ∙ set-joined count leaves (i / LEAF_ENTRIES) (i % LEAF_ENTRIES) entry cut in_leaves short
+        ∙ ap (λ n. set (joined leaves) n entry) at_place
+
+    pub IsCut-written : (entry : T) → IsCut count (set leaves (i / LEAF_ENTRIES) (set leaf (i % LEAF_ENTRIES) entry))
+    IsCut-written entry =
+        IsCut-set count leaves (i / LEAF_ENTRIES) (set leaf (i % LEAF_ENTRIES) entry) cut (length-set leaf (i % LEAF_ENTRIES) entry ∙ ap length is_leaf)
+
+    -- the leaf as it was
+    pub leaf_kept : set leaves (i / LEAF_ENTRIES) leaf ≡ leaves
+    leaf_kept = ap (λ l. set leaves (i / LEAF_ENTRIES) l) read ∙ set-get_or leaves (i / LEAF_ENTRIES) leaf

@@ -1,0 +1,102 @@
+ghost use Rattle.std.specs.Prelude.{◌≡◌, ◌<◌, length, slice_index_or, IfOk};
+ghost use Rattle.std.specs.Borrow.{sem};
+ghost use Rattle.shared_leaves.specs.Lends.{leaf_lends};
+
+use crate::handle::Handle;
+use std::alloc::{AllocError, Global};
+use std::marker::Model;
+use std::sync::Arc;
+
+/// The entries of a leaf. Only the last leaf of a list may have fewer.
+pub const LEAF_ENTRIES: usize = 64;
+
+/// Entries in a row, which a leaf and its clones share until one of them is written.
+#[derive(Drop)]
+pub struct Leaf<T> {
+    entries: Arc<Vec<T>>,
+}
+
+impl<T> Model for Leaf<T> {
+    ghost use Rattle.std.specs.Prelude.{List};
+    ghost use Rattle.std.specs.Arc.{arc_value};
+
+    ghost Value = { List T };
+
+    ghost view = { λ l. (arc_value l.entries).items };
+}
+
+impl<T: Drop> Clone for Leaf<T> {
+    ghost use Rattle.std.specs.Prelude.{◌≡◌};
+
+    ghost is_clone = { λ leaf copy. copy ≡ leaf };
+
+    fn clone(&self) -> Result<Leaf<T>, AllocError> {
+        Ok(Leaf {
+            entries: Arc::try_clone(&self.entries)?,
+        })
+    }
+}
+
+impl<T: Handle> Leaf<T> {
+    /// The leaf that has these entries.
+    pub fn new(alloc: Global, entries: Vec<T>) -> Result<Leaf<T>, AllocError>
+        ensures { IfOk result (λ leaf. leaf ≡ entries.items) }
+    {
+        Ok(Leaf {
+            entries: Arc::new(alloc, entries)?,
+        })
+    }
+
+    /// How many entries the leaf has.
+    pub fn len(&self) -> usize
+        ensures { result ≡ length self.now }
+    {
+        self.entries.len()
+    }
+
+    /// The entry at a place.
+    #[inline(always)]
+    pub fn get(&self, i: usize) -> &T
+        requires { i < length self.now }
+        ensures { result.now ≡ slice_index_or self.now i result.now }
+    {
+        &self.entries[i]
+    }
+
+    /// The entry at a place, to be written. The entries are copied first where a clone shares them.
+    #[inline(always)]
+    pub fn entry_mut(&mut self, i: usize) -> Result<&mut T, AllocError>
+        requires { i < length self.old }
+        ensures* writes_back { sem 𝓛 (leaf_lends T.row self.entry i result) }
+        ensures value { IfOk result (λ entry. entry.now ≡ slice_index_or self.old i entry.now) }
+    {
+        self.unshare()?;
+        let Some(entries) = Arc::get_mut(&mut self.entries) else {
+            return Err(AllocError);
+        };
+        Ok(&mut entries[i])
+    }
+
+    /// Gives this leaf entries of its own where a clone shares them.
+    #[inline(always)]
+    fn unshare(&mut self) -> Result<(), AllocError>
+        ensures { self.new ≡ self.old }
+    {
+        if Arc::strong_count(&self.entries) == 1 {
+            return Ok(());
+        }
+        self.copy()
+    }
+
+    /// Copies the entries. It is apart and never inlined, so that a write to a leaf that has one owner
+    /// is short.
+    #[cold]
+    #[inline(never)]
+    fn copy(&mut self) -> Result<(), AllocError>
+        ensures { self.new ≡ self.old }
+    {
+        let alloc = *self.entries.allocator();
+        *self = Leaf::new(alloc, Vec::from_clones(alloc, &self.entries)?)?;
+        Ok(())
+    }
+}

@@ -1,0 +1,11 @@
+//! Lists that share what they hold. A list is cut into leaves of 64 entries, which other lists share
+//! until they write them. Contracts see one flat list.
+#![tactic(auto)]
+
+mod handle;
+mod leaf;
+mod list;
+mod make;
+
+pub use handle::Handle;
+pub use list::SharedList;

@@ -1,0 +1,92 @@
+ghost use Rattle.std.specs.Prelude.{◌≡◌, ◌<◌, length, slice_index_or, slice_set, IfOk, OnOk, OnErr};
+ghost use Rattle.std.specs.Borrow.{sem};
+ghost use Rattle.shared_leaves.specs.Lends.{list_lends};
+
+use crate::handle::Handle;
+use crate::leaf::{LEAF_ENTRIES, Leaf};
+use std::alloc::{AllocError, Global};
+use std::marker::Model;
+
+/// A list whose leaves other lists share until they write them.
+#[derive(Drop)]
+pub struct SharedList<T> {
+    pub(crate) leaves: Vec<Leaf<T>>,
+    pub(crate) len: usize,
+}
+
+impl<T> Model for SharedList<T> {
+    ghost use Rattle.std.specs.Prelude.{List};
+    ghost use Rattle.shared_leaves.specs.Leaves.{joined, IsCut};
+
+    ghost Value = { List T };
+
+    ghost view = { λ l. joined l.leaves.items };
+
+    ghost invariant = { λ l. IsCut l.len l.leaves.items };
+}
+
+impl<T: Drop> Clone for SharedList<T> {
+    ghost use Rattle.std.specs.Prelude.{◌≡◌};
+
+    ghost is_clone = { λ list copy. copy ≡ list };
+
+    fn clone(&self) -> Result<SharedList<T>, AllocError> {
+        Ok(SharedList {
+            leaves: self.leaves.clone()?,
+            len: self.len,
+        })
+    }
+}
+
+impl<T: Handle> SharedList<T> {
+    /// How many entries the list has.
+    #[inline(always)]
+    pub fn len(&self) -> usize
+        ensures { result ≡ length self.now }
+    {
+        self.len
+    }
+
+    /// The allocator of the list.
+    #[inline(always)]
+    pub fn allocator(&self) -> Global {
+        *self.leaves.allocator()
+    }
+
+    /// The entry at a place.
+    #[inline(always)]
+    pub fn get(&self, i: usize) -> &T
+        requires { i < length self.now }
+        ensures { result.now ≡ slice_index_or self.now i result.now }
+    {
+        self.leaves[i / LEAF_ENTRIES].get(i % LEAF_ENTRIES)
+    }
+
+    /// The entry at a place, to be written in its place. Its leaf is copied first where another list
+    /// shares it.
+    #[inline(always)]
+    pub fn entry_mut(&mut self, i: usize) -> Result<&mut T, AllocError>
+        requires { i < length self.old }
+        ensures* writes_back { sem 𝓛 (list_lends T.row self.entry i result) }
+        ensures value { IfOk result (λ entry. entry.now ≡ slice_index_or self.old i entry.now) }
+    {
+        self.leaves[i / LEAF_ENTRIES].entry_mut(i % LEAF_ENTRIES)
+    }
+
+    /// Writes the entry at a place. Its leaf is copied first where another list shares it.
+    pub fn set(&mut self, i: usize, entry: T) -> Result<(), AllocError>
+        requires { i < length self.old }
+        ensures ok { OnOk result (self.new ≡ slice_set self.old i entry) }
+        ensures err { OnErr result (self.new ≡ self.old) }
+    {
+        *self.entry_mut(i)? = entry;
+        Ok(())
+    }
+
+    /// The same list once more. It costs one handle a leaf.
+    pub fn share(&self) -> Result<SharedList<T>, AllocError>
+        ensures { IfOk result (λ shared. shared ≡ self.now) }
+    {
+        self.clone()
+    }
+}
