@@ -1,0 +1,53 @@
+//! The numbers that stand behind the names of constants.
+
+use command_line::{
+    DEFAULT_CLONES, DEFAULT_LIMIT, DEFAULT_PAGES, LEAST_LIMIT, MOST_CLONES, MOST_LIMIT,
+};
+use guest_files::{
+    DISK_LOAD, DISK_MOST, DISK_NOT_SECTORS, DISK_TOO_LONG, IMAGE_LOAD, IMAGE_MOST, INPUT_LOAD,
+    INPUT_TOO_LONG, SCRIPT_LOAD, SCRIPT_TOO_LONG, TOO_LONG,
+};
+use std::test::Fail;
+
+/// The loads.
+static LOADS: [(u32, u32); 4] = [
+    (IMAGE_LOAD, 1),
+    (DISK_LOAD, 2),
+    (INPUT_LOAD, 3),
+    (SCRIPT_LOAD, 4),
+];
+
+/// The refusals of an image, a disk, an input and a script by their lengths.
+static REFUSALS: [(u32, u32); 5] = [
+    (TOO_LONG, 13),
+    (DISK_TOO_LONG, 1),
+    (DISK_NOT_SECTORS, 2),
+    (INPUT_TOO_LONG, 3),
+    (SCRIPT_TOO_LONG, 6),
+];
+
+/// What an option is that is not given, and its limits.
+static OPTIONS: [(u32, u32); 6] = [
+    (DEFAULT_PAGES, 64),
+    (DEFAULT_LIMIT, 1_000_000),
+    (LEAST_LIMIT, 1),
+    (MOST_LIMIT, 1_000_000_000),
+    (DEFAULT_CLONES, 0),
+    (MOST_CLONES, 4096),
+];
+
+/// The most bytes of an image and of a disk.
+static SIZES: [(usize, usize); 2] = [(IMAGE_MOST, 16_777_216), (DISK_MOST, 4_194_304)];
+
+#[test]
+fn constants_are_these(rt: HostRuntime) -> Result<(), Fail> {
+    for table in [LOADS.as_slice(), REFUSALS.as_slice(), OPTIONS.as_slice()] {
+        for (is, number) in table.iter() {
+            assert_eq!(rt; is, number);
+        }
+    }
+    for (is, number) in SIZES.iter() {
+        assert_eq!(rt; is, number);
+    }
+    Ok(())
+}
