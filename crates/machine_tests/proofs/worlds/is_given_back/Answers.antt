@@ -43,4 +43,4 @@ pub unreachable-requires : goal.unreachable-requires
 unreachable-requires c =
     let h = c.requires.1 in
     let out_so = handed-out c.args.depot.now h.forest c.take.result c.in-Took.lease c.take.new.self c.in-Took.is (c.take.ensures h.forest h.stands) in
-    wants-none c.in-Took.lease.now.ending (c.in-Memory.ensures out_so.0 out_so.1.0 out_so.1.1 out_so.1.2).0
+    wants-none c.in-Took.lease.now.ending (c.in-Memory-give.ensures out_so.0 out_so.1.0 out_so.1.1 out_so.1.2).0
