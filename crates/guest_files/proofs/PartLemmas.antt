@@ -8,7 +8,7 @@ use Rattle.io_edge.specs.declared.outside.ShelfError.{ShelfError}
 use Rattle.io_edge.specs.declared.outside.ShelfError.TheVariants.{Fault}
 use Rattle.io_edge.specs.Asked.{Asked, asked_after}
 use Rattle.command_line.specs.Words.{GuestValues}
-use Rattle.guest_files.specs.declared.stop.TheConstants.{DISK_MOST, IMAGE_LOAD, DISK_LOAD, INPUT_LOAD}
+use Rattle.guest_files.specs.declared.stop.TheConstants.{IMAGE_MOST, DISK_MOST, IMAGE_LOAD, DISK_LOAD, INPUT_LOAD}
 use Rattle.guest_files.specs.declared.stop.Stop.{Stop}
 use Rattle.guest_files.specs.declared.stop.Stop.TheVariants.{ReadFault, ImageRefused, DataRefused, ScriptRefused, WriteFault, Memory}
 use Rattle.guest_files.specs.Reads.{Files, Refusal, no_meaning, no_file, image_too_long, image_refused, disk_too_long, disk_not_sectors, input_too_long, script_too_long, script_refused, and_then, file_read, option_read, image_read, disk_read, input_read, guest_read, Guest, with_disk, with_image}
@@ -212,31 +212,46 @@ fault-after first loads load old mid new before h = record {
 abbrev pub Gave : {F A : Type 0} → (F → Result A Refusal) → Option F → A → Type 0
 Gave read files x = IfSome (option_map read files) (λ r. IsOkAnd r (λ told. x ≡ told))
 
+-- the load of the name that the values tell is what they read
+pub image-read : (values : GuestValues) (name : List ℕ) → name ≡ values.image
+    → (λ (told : Files). file_read IMAGE_LOAD IMAGE_MOST image_too_long (told name)) ≡ image_read values
+unfolding image_read
+image-read values name is_image = ap (λ it (told : Files). file_read IMAGE_LOAD IMAGE_MOST image_too_long (told it)) is_image
+
+pub disk-read : (values : GuestValues) (name : Option (List ℕ)) → name ≡ values.disk → option_read DISK_LOAD DISK_MOST disk_too_long name ≡ disk_read values
+unfolding disk_read
+disk-read values name is_disk = ap (option_read DISK_LOAD DISK_MOST disk_too_long) is_disk
+
+pub input-read : (values : GuestValues) (name : Option (List ℕ)) → name ≡ values.input → option_read INPUT_LOAD MAX_INPUT input_too_long name ≡ input_read values
+unfolding input_read
+input-read values name is_input = ap (option_read INPUT_LOAD MAX_INPUT input_too_long) is_input
+
 pub rises : (old mid new : ℕ) → old ≤ mid → HasRisen mid new → HasRisen old new
 rises old mid new counts (inl more) = inl (omega arith)
 rises old mid new counts (inr last) = inr last
 
-pub image-stops : (values : GuestValues) (files : Option Files) (P Q : ℕ → Type 0) (stop : Stop) → ((load : ℕ) → P load → Q load)
-    → Stops IMAGE_LOAD P (option_map (image_read values) files) stop → Stops INPUT_LOAD Q (option_map (guest_read values) files) stop
+pub image-stops : (values : GuestValues) (files : Option Files) (P Q : ℕ → Type 0) (stop : Stop)
+    → Stops IMAGE_LOAD P (option_map (image_read values) files) stop → ((load : ℕ) → P load → Q load)
+    → Stops INPUT_LOAD Q (option_map (guest_read values) files) stop
 unfolding guest_read
-image-stops values files P Q stop to h =
+image-stops values files P Q stop h to =
     stops IMAGE_LOAD INPUT_LOAD P Q files (image_read values) (with_image values) stop (omega arith) (image-after values) to h
 
 pub disk-stops : (values : GuestValues) (files mid : Option Files) (image : List ℕ) (P Q : ℕ → Type 0) (stop : Stop) → mid ≡ files
-    → Gave (image_read values) files image → ((load : ℕ) → P load → Q load) → Stops DISK_LOAD P (option_map (disk_read values) mid) stop
+    → Gave (image_read values) files image → Stops DISK_LOAD P (option_map (disk_read values) mid) stop → ((load : ℕ) → P load → Q load)
     → Stops INPUT_LOAD Q (option_map (guest_read values) files) stop
 unfolding guest_read
-disk-stops values files mid image P Q stop same gave to h =
+disk-stops values files mid image P Q stop same gave h to =
     let here = subst (λ told. Stops DISK_LOAD P (option_map (disk_read values) told) stop) same h in
     continues {A = List ℕ} {V = Guest} INPUT_LOAD Q Q files (image_read values) (with_image values) image (λ v told. v ≡ told) (Err stop) gave (λ load was. was)
     (stops DISK_LOAD INPUT_LOAD P Q files (disk_read values) (λ told. with_disk values told image) stop (omega arith)
     (λ told disk. disk-after values told image disk) to here)
 
 pub input-stops : (values : GuestValues) (files mid last : Option Files) (image disk : List ℕ) (P Q : ℕ → Type 0) (stop : Stop) → mid ≡ files → last ≡ mid
-    → Gave (image_read values) files image → Gave (disk_read values) mid disk → ((load : ℕ) → P load → Q load)
-    → Stops INPUT_LOAD P (option_map (input_read values) last) stop → Stops INPUT_LOAD Q (option_map (guest_read values) files) stop
+    → Gave (image_read values) files image → Gave (disk_read values) mid disk → Stops INPUT_LOAD P (option_map (input_read values) last) stop
+    → ((load : ℕ) → P load → Q load) → Stops INPUT_LOAD Q (option_map (guest_read values) files) stop
 unfolding guest_read
-input-stops values files mid last image disk P Q stop same again gave_image gave_disk to h =
+input-stops values files mid last image disk P Q stop same again gave_image gave_disk h to =
     let here = subst (λ told. Stops INPUT_LOAD P (option_map (input_read values) told) stop) (again ∙ same) h in
     let gave_here = subst (λ told. Gave (disk_read values) told disk) same gave_disk in
     continues {A = List ℕ} {V = Guest} INPUT_LOAD Q Q files (image_read values) (with_image values) image (λ v told. v ≡ told) (Err stop) gave_image (λ load was. was)

@@ -1,9 +1,9 @@
 //! The files of a guest are read.
 
-ghost use Rattle.std.specs.Prelude.{◌≡◌, ◌≤◌, [], ◌∷◌, length, vec_len, IfOk, OnOk};
+ghost use Rattle.std.specs.Prelude.{◌≡◌, ◌≤◌, [], ◌∷◌, length, vec_len, IfOk, IsSome, OnOk};
 ghost use Rattle.std.specs.Option.{option_map};
 ghost use Rattle.io_edge.specs.Outside.{HasRisen};
-ghost use Rattle.guest_files.specs.Reads.{Refusal, disk_read, file_read, guest_read, image_read, input_read};
+ghost use Rattle.guest_files.specs.Reads.{Refusal, file_read, guest_read, option_read};
 ghost use Rattle.guest_files.specs.Parts.{AreAsked, Gives, IsFaultOf, IsGuestLoad, IsTooLong, guest_loads, load_if};
 
 use crate::stop::{
@@ -75,77 +75,44 @@ pub fn read_guest<S: Shelf>(
     ensures counts { S.faults shelf.old ≤ S.faults shelf.new }
     ensures asked { OnOk result (AreAsked (guest_loads guest.now) (S.asked shelf.old) (S.asked shelf.new)) }
 {
-    let image = read_image(alloc, guest, shelf)?;
-    let disk = read_disk(alloc, guest, shelf)?;
-    let input = read_input(alloc, guest, shelf)?;
-    Ok(GuestFiles { image, disk, input })
-}
-
-fn read_image<S: Shelf>(
-    alloc: Global,
-    guest: &GuestWords<'_>,
-    shelf: &mut S,
-) -> Result<Vec<u8>, Stop>
-    ensures gives { Gives IMAGE_LOAD (λ load. IsGuestLoad guest.now load × HasRisen (S.faults shelf.old) (S.faults shelf.new)
-        × IsFaultOf (IMAGE_LOAD ∷ []) load (S.asked shelf.old) (S.asked shelf.new))
-        (option_map (image_read guest.now) (S.files shelf.old)) (λ bytes told. bytes.items ≡ told) result }
-    ensures same { S.files shelf.new ≡ S.files shelf.old }
-    ensures counts { S.faults shelf.old ≤ S.faults shelf.new }
-    ensures asked { OnOk result (AreAsked (IMAGE_LOAD ∷ []) (S.asked shelf.old) (S.asked shelf.new)) }
-{
     let too_long = Stop::ImageRefused(TOO_LONG);
-    load_file(
+    let image = load_file(
         alloc,
         shelf,
         guest.image(),
         IMAGE_LOAD,
         IMAGE_MOST,
         too_long,
-    )
-}
-
-/// The bytes of the disk, of which there are none where no disk is named.
-#[tactic(auto, unfolding(crate::specs::Reads::disk_read))]
-fn read_disk<S: Shelf>(
-    alloc: Global,
-    guest: &GuestWords<'_>,
-    shelf: &mut S,
-) -> Result<Vec<u8>, Stop>
-    ensures gives { Gives DISK_LOAD (λ load. IsGuestLoad guest.now load × HasRisen (S.faults shelf.old) (S.faults shelf.new)
-        × IsFaultOf (load_if DISK_LOAD guest.now.disk) load (S.asked shelf.old) (S.asked shelf.new))
-        (option_map (disk_read guest.now) (S.files shelf.old)) (λ bytes told. bytes.items ≡ told) result }
-    ensures most { IfOk result (λ bytes. vec_len bytes ≤ DISK_MOST) }
-    ensures same { S.files shelf.new ≡ S.files shelf.old }
-    ensures counts { S.faults shelf.old ≤ S.faults shelf.new }
-    ensures asked { OnOk result (AreAsked (load_if DISK_LOAD guest.now.disk) (S.asked shelf.old) (S.asked shelf.new)) }
-{
-    let Some(name) = guest.disk() else {
-        return Ok(Vec::new(alloc));
-    };
+    )?;
     let too_long = Stop::DataRefused(DISK_TOO_LONG);
-    load_file(alloc, shelf, name, DISK_LOAD, DISK_MOST, too_long)
+    let disk = load_named(alloc, shelf, guest.disk(), DISK_LOAD, DISK_MOST, too_long)?;
+    let too_long = Stop::DataRefused(INPUT_TOO_LONG);
+    let input = load_named(alloc, shelf, guest.input(), INPUT_LOAD, MAX_INPUT, too_long)?;
+    Ok(GuestFiles { image, disk, input })
 }
 
-/// The bytes of the input, of which there are none where no input is named.
-#[tactic(auto, unfolding(crate::specs::Reads::input_read))]
-fn read_input<S: Shelf>(
+/// The bytes of a file for a load, of which there are none where no name is given.
+fn load_named<S: Shelf>(
     alloc: Global,
-    guest: &GuestWords<'_>,
     shelf: &mut S,
+    name: Option<&str>,
+    load: u32,
+    most: usize,
+    too_long: Stop,
 ) -> Result<Vec<u8>, Stop>
-    ensures gives { Gives INPUT_LOAD (λ load. IsGuestLoad guest.now load × HasRisen (S.faults shelf.old) (S.faults shelf.new)
-        × IsFaultOf (load_if INPUT_LOAD guest.now.input) load (S.asked shelf.old) (S.asked shelf.new))
-        (option_map (input_read guest.now) (S.files shelf.old)) (λ bytes told. bytes.items ≡ told) result }
-    ensures most { IfOk result (λ bytes. vec_len bytes ≤ MAX_INPUT) }
+    ensures gives { (refusal : Refusal) → IsTooLong load too_long refusal
+        → Gives load (λ at. ((at ≡ load) × IsSome (option_map (λ text. text.now) name.entry)) × HasRisen (S.faults shelf.old) (S.faults shelf.new)
+        × IsFaultOf (load_if load (option_map (λ text. text.now) name.entry)) at (S.asked shelf.old) (S.asked shelf.new))
+        (option_map (option_read load most refusal (option_map (λ text. text.now) name.entry)) (S.files shelf.old)) (λ bytes told. bytes.items ≡ told) result }
+    ensures most { IfOk result (λ bytes. vec_len bytes ≤ most) }
     ensures same { S.files shelf.new ≡ S.files shelf.old }
     ensures counts { S.faults shelf.old ≤ S.faults shelf.new }
-    ensures asked { OnOk result (AreAsked (load_if INPUT_LOAD guest.now.input) (S.asked shelf.old) (S.asked shelf.new)) }
+    ensures asked { OnOk result (AreAsked (load_if load (option_map (λ text. text.now) name.entry)) (S.asked shelf.old) (S.asked shelf.new)) }
 {
-    let Some(name) = guest.input() else {
-        return Ok(Vec::new(alloc));
-    };
-    let too_long = Stop::DataRefused(INPUT_TOO_LONG);
-    load_file(alloc, shelf, name, INPUT_LOAD, MAX_INPUT, too_long)
+    match name {
+        Some(name) => load_file(alloc, shelf, name, load, most, too_long),
+        None => Ok(Vec::new(alloc)),
+    }
 }
 
 /// The bytes of a file for a load, at most so many. Where there are more, the program stops with `too_long`.
