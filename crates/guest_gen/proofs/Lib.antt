@@ -1,2 +1,3 @@
 pub mod Lengths
 pub mod Loading
+pub mod Steps

@@ -1,25 +1,19 @@
 -- Where a guest is loaded, and where its forks lead.
 use Rattle.std.proofs.Common.{◌≡◌, ℕ, ◌+◌, ◌*◌, ◌≤◌, length, Option, Some, Ok, refl, ap, arith, length-append, lit<, lit≤}
 use Rattle.std.specs.Prelude.{slice_get, ℤ, pos}
-use Rattle.std.proofs.lemmas.List.{length-map}
 use Rattle.std.proofs.lemmas.Int.{ints}
 use Rattle.elf_load.specs.Elf.{loaded}
 use Rattle.elf_load.specs.OneSegment.{bytes_of_words, image_of_code}
 use Rattle.elf_load.specs.declared.image.TheConstants.{RAM_BASE, MIN_PAGES, MAX_PAGES}
 use Rattle.rv_decode.specs.declared.kinds.Kind.TheVariants.{Jal}
 use Rattle.rv_decode.specs.Instruction.{Instruction}
-use Rattle.rv_asm.specs.Encode.{encoded}
 use Rattle.rv_asm.specs.Offset.{offset}
 use Rattle.rv_asm.proofs.Loading as image
 use Rattle.guest_gen.specs.Assembly.{jal}
 use Rattle.guest_gen.specs.Blocks.{Code}
 use Rattle.guest_gen.specs.Levels.{fork, forked}
-use Rattle.guest_gen.specs.Guest.{instructions, words, guest}
-use Rattle.guest_gen.proofs.Lengths.{instructions_short}
-
-pub words_short : (seed : ℕ) → length (words seed) ≤ 8113
-unfolding words
-words_short seed = omega (arith, instructions_short seed, length-map (instructions seed) encoded)
+use Rattle.guest_gen.specs.Guest.{words, guest}
+use Rattle.guest_gen.proofs.Lengths.{words_short}
 
 pub below : (seed : ℕ) → 4 * length (words seed) ≤ 16 * 4096
 below seed = omega (arith, words_short seed)

@@ -123,7 +123,7 @@ fn push_block(code: &mut Vec<Instr>, draws: &mut Draws) -> Result<(), AllocError
 }
 
 /// Adds so many blocks.
-#[tactic(auto, unfolding(crate::specs::Blocks::blocks, crate::specs::Blocks::after_blocks))]
+#[tactic(auto, using(std::proofs::lemmas::List::append_assoc, crate::proofs::Steps::blocks_more, crate::proofs::Steps::after_blocks_more), unfolding(crate::specs::Blocks::blocks, crate::specs::Blocks::after_blocks))]
 pub(crate) fn push_blocks(
     code: &mut Vec<Instr>,
     draws: &mut Draws,
@@ -132,7 +132,7 @@ pub(crate) fn push_blocks(
     ensures code { OnOk result (code.new.items ≡ code.old.items ++ blocks count draws.old) }
     ensures draws { OnOk result (draws.new ≡ after_blocks count draws.old) }
 {
-    for _done in 0..count {
+    for _ in 0..count {
         push_block(code, draws)?;
     }
     Ok(())

@@ -12,7 +12,7 @@ use std::alloc::{AllocError, Global};
 
 /// The image of the guest of a seed: an executable with one segment at the start of RAM, which is entered at
 /// its start. It wants 64 pages of RAM, a disk of 16 sectors or more, and 72 clones.
-#[tactic(auto, unfolding(crate::specs::Guest::guest, crate::specs::Guest::words))]
+#[tactic(auto, using(crate::proofs::Lengths::words_short), unfolding(crate::specs::Guest::guest, crate::specs::Guest::words))]
 pub fn guest_of(alloc: Global, seed: u32) -> Result<Vec<u8>, AllocError>
     ensures { IfOk result (λ file. file.items ≡ guest seed) }
 {

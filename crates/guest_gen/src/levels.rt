@@ -93,7 +93,7 @@ fn exit() -> [Instr; 3]
 }
 
 /// Adds the instructions that add the values of all children to the sum.
-#[tactic(auto, unfolding(crate::specs::Levels::values))]
+#[tactic(auto, using(std::proofs::lemmas::List::append_assoc, crate::proofs::Steps::values_more), unfolding(crate::specs::Levels::values))]
 fn push_values(code: &mut Vec<Instr>) -> Result<(), AllocError>
     ensures { OnOk result (code.new.items ≡ code.old.items ++ values 4) }
 {
@@ -104,7 +104,7 @@ fn push_values(code: &mut Vec<Instr>) -> Result<(), AllocError>
 }
 
 /// Adds a fork and the rest of its level.
-#[tactic(auto, unfolding(crate::specs::Levels::forked))]
+#[tactic(auto, using(std::proofs::lemmas::List::append_assoc), unfolding(crate::specs::Levels::forked))]
 fn push_forked(
     code: &mut Vec<Instr>,
     register: u32,
@@ -136,7 +136,7 @@ fn last_part(alloc: Global, draws: &mut Draws) -> Result<Vec<Instr>, AllocError>
 }
 
 /// The part of a level behind its first fork.
-#[tactic(auto, unfolding(crate::specs::Levels::middle_part))]
+#[tactic(auto, using(std::proofs::lemmas::List::append_assoc, crate::proofs::Lengths::last_part_short), unfolding(crate::specs::Levels::middle_part))]
 fn middle_part(alloc: Global, draws: &mut Draws, share: u32) -> Result<Vec<Instr>, AllocError>
     requires { share < 2048 }
     ensures part { IfOk result (λ part. part.items ≡ middle_part share draws.old) }
@@ -150,7 +150,7 @@ fn middle_part(alloc: Global, draws: &mut Draws, share: u32) -> Result<Vec<Instr
 }
 
 /// Adds a level that forks.
-#[tactic(auto, unfolding(crate::specs::Levels::forking_level, crate::specs::Levels::after_level))]
+#[tactic(auto, using(std::proofs::lemmas::List::append_assoc, crate::proofs::Lengths::middle_part_short), unfolding(crate::specs::Levels::forking_level, crate::specs::Levels::after_level))]
 pub(crate) fn push_forking_level(
     code: &mut Vec<Instr>,
     draws: &mut Draws,
@@ -166,7 +166,7 @@ pub(crate) fn push_forking_level(
 }
 
 /// Adds a level that does not fork.
-#[tactic(auto, unfolding(crate::specs::Levels::last_level))]
+#[tactic(auto, using(std::proofs::lemmas::List::append_assoc), unfolding(crate::specs::Levels::last_level))]
 pub(crate) fn push_last_level(code: &mut Vec<Instr>, draws: &mut Draws) -> Result<(), AllocError>
     ensures { OnOk result (code.new.items ≡ code.old.items ++ last_level draws.old) }
 {
