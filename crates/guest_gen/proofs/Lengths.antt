@@ -1,5 +1,5 @@
 -- How many instructions the parts of a guest have at most.
-use Rattle.std.proofs.Common.{◌≡◌, ℕ, zero, suc, ◌+◌, ◌*◌, ◌%◌, ◌≤◌, length, arith, length-append, lit≤}
+use Rattle.std.proofs.Common.{ℕ, zero, suc, ◌*◌, ◌%◌, ◌≤◌, length, arith, length-append, lit≤}
 use Rattle.std.proofs.lemmas.Bool.Decides.{nat_tests}
 use Rattle.std.proofs.lemmas.List.{length-map}
 use Rattle.rv_asm.specs.Encode.{encoded}
