@@ -29,7 +29,7 @@ disk_block sector increase =
     ∷ add 14 14 7
     ∷ []
 
--- a word of a page behind the code is added to the sum, and a letter or the like goes to the console
+-- a word of a page behind the code is added to the sum, and a letter goes to the console
 unfoldable pub console_block : ℕ → ℕ → ℕ → Code
 console_block page word letter = lui 6 (0x8_0010 + page) ∷ lw 8 (4 * word) 6 ∷ add 14 14 8 ∷ addi 7 0 (65 + letter) ∷ sb 7 0 11 ∷ []
 

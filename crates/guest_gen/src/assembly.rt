@@ -1,7 +1,7 @@
 //! The instructions of a guest, by their operands in the order of the assembly language. Registers are from
 //! 0 to 31, and no immediate is negative.
 
-ghost use Rattle.std.specs.Prelude.{◌≡◌, ◌*◌, ◌%◌, ◌^◌, ◌<◌, ℤ};
+ghost use Rattle.std.specs.Prelude.{◌≡◌, ◌%◌, ◌^◌, ◌<◌};
 ghost use Rattle.rv_decode.specs.Instruction.{Instruction, IsInstruction};
 ghost use Rattle.guest_gen.specs.Assembly.{lui, addi, add, lw, sw, sb, beq, jal};
 

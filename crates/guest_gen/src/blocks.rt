@@ -64,7 +64,7 @@ fn disk_block(sector: u32, increase: u32) -> [Instr; 10]
     ]
 }
 
-/// Adds a word of a page behind the code to the sum, and puts out a letter or the like.
+/// Adds a word of a page behind the code to the sum, and puts out a letter, `A` being 0.
 #[tactic(auto, unfolding(crate::specs::Blocks::console_block))]
 fn console_block(page: u32, word: u32, letter: u32) -> [Instr; 5]
     requires page { page < 48 }

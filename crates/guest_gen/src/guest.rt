@@ -1,4 +1,4 @@
-ghost use Rattle.std.specs.Prelude.{◌≡◌, ◌≤◌, length, map, IfOk};
+ghost use Rattle.std.specs.Prelude.{◌≡◌, map, IfOk};
 ghost use Rattle.rv_asm.specs.Encode.{encoded};
 ghost use Rattle.guest_gen.specs.Guest.{start, instructions, guest};
 
@@ -11,7 +11,8 @@ use rv_decode::Instr;
 use std::alloc::{AllocError, Global};
 
 /// The image of the guest of a seed: an executable with one segment at the start of RAM, which is entered at
-/// its start. It wants 64 pages of RAM, a disk of 16 sectors or more, and 72 clones.
+/// its start. It wants 64 pages of RAM, a disk of 16 sectors or more, and 72 clones. The one error is want of
+/// memory.
 #[tactic(auto, using(crate::proofs::Lengths::words_short), unfolding(crate::specs::Guest::guest, crate::specs::Guest::words))]
 pub fn guest_of(alloc: Global, seed: u32) -> Result<Vec<u8>, AllocError>
     ensures { IfOk result (λ file. file.items ≡ guest seed) }

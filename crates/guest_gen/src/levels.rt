@@ -28,8 +28,8 @@ pub(crate) fn numbered() -> [Instr; 2]
     [lw(8, 16, 5), add(14, 14, 8)]
 }
 
-/// Makes children with a ticket, whose number goes to a register, and each of which can make `share` more.
-/// They go on behind the rest of the level, which is so many words.
+/// Takes a ticket for children that can make `share` clones each, keeps its number in a register, and makes
+/// the children. They go on behind the rest of the level, which is so many words.
 #[tactic(auto, unfolding(crate::specs::Levels::fork))]
 fn fork(register: u32, share: u32, words: u32) -> [Instr; 13]
     requires register { register < 32 }

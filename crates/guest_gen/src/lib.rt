@@ -1,6 +1,6 @@
-//! Generated guests. Each is a program that does all that the machine has but traps, with numbers that are
-//! drawn from a seed: it writes, reads and zeros pages, uses the disk and the console, and forks on two
-//! levels, where it kills the children of one ticket and joins those of another.
+//! Generated guests. Each is a program of many small blocks with numbers that are drawn from a seed. They
+//! write, read and zero pages, use the disk and put out letters. Between them it forks, on two levels, and
+//! there it kills the children of one ticket and joins those of another.
 #![tactic(auto)]
 
 mod assembly;
