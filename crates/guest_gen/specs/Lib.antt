@@ -1,0 +1,5 @@
+pub mod Draws
+pub mod Assembly
+pub mod Blocks
+pub mod Levels
+pub mod Guest
