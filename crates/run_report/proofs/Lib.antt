@@ -2,4 +2,3 @@ pub mod Begin
 pub mod NameMaps
 pub mod Seen
 mod Below
-mod Texts
