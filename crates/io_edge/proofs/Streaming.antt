@@ -1,5 +1,5 @@
 -- Bytes on their way to a sink, one piece after another.
-use Rattle.std.proofs.Common.{append-nil, take-append-drop, ◌≡◌, ℕ, ◌+◌, ◌<◌, List, [], ◌∷◌, ◌++◌, get_or, length, take, drop, Option, Result, Ok, Err, refl, sym, ap, ◌∙◌, subst, append_assoc}
+use Rattle.std.proofs.Common.{append-nil, take-append-drop, ◌≡◌, ℕ, ◌+◌, ◌<◌, List, [], ◌∷◌, ◌++◌, get_or, length, take, drop, Option, Result, Ok, Err, OnOk, refl, sym, ap, ◌∙◌, subst, append_assoc}
 use Rattle.std.specs.List.{flat_map}
 use Rattle.std.proofs.lemmas.List.{drop_more, take_more}
 use Rattle.std.proofs.lemmas.Grind.{flat_map-append}
@@ -9,52 +9,78 @@ use Rattle.io_edge.specs.Streamed.{IsPartGone, Streams}
 use Rattle.io_edge.proofs.Gone.{appended-appended, appended-nothing, IsPrefixGone-front, IsPrefixGone-after}
 
 -- all of the bytes wait
-pub all_wait : (gone : Option (List ℕ)) (bytes : List ℕ) → IsPartGone gone gone bytes bytes
-all_wait gone bytes = record { part = []; gone = sym (appended-nothing gone); rest = refl }
+pub all_wait : (gone : Option (List ℕ)) (before text after : List ℕ) (done : Unit {0}) → after ≡ before ++ text → Streams gone gone before text after (Ok done)
+all_wait gone before text after done is = record {
+  ok = record { part = []; gone = sym (appended-nothing gone); rest = is };
+  prefix = tt;
+  empty = tt;
+}
 
--- all of the bytes are out
-pub all_gone : (old new : Option (List ℕ)) (bytes : List ℕ) → new ≡ appended old bytes → IsPartGone old new bytes []
-all_gone old new bytes is = record { part = bytes; gone = is; rest = append-nil bytes }
+-- what waited is out, and nothing has come
+pub emptied : (old new : Option (List ℕ)) (before : List ℕ) → new ≡ appended old before → Streams old new before [] [] (Ok tt)
+emptied old new before is = record {
+  ok = record { part = before; gone = is; rest = refl };
+  prefix = tt;
+  empty = tt;
+}
 
--- what waited is put out too
-pub flushed : {old mid new : Option (List ℕ)} {bytes waiting : List ℕ} → IsPartGone old mid bytes waiting → new ≡ appended mid waiting → new ≡ appended old bytes
-flushed {old} {mid} {new} {bytes} {waiting} first is =
-    is ∙ ap (λ gone. appended gone waiting) first.gone ∙ appended-appended old first.part waiting ∙ ap (appended old) first.rest
+-- nothing waits, and a text is put out as it lies
+pub as_it_lies : (old new : Option (List ℕ)) (text : List ℕ) (r : Result Unit WriteFault) → OnOk r (new ≡ appended old text) → IsPrefixGone old new text
+    → Streams old new [] text [] r
+as_it_lies old new text (Ok done) is prefix = record {
+  ok = record { part = text; gone = is; rest = append-nil text };
+  prefix = tt;
+  empty = tt;
+}
+as_it_lies old new text (Err fault) is prefix = record { ok = tt; prefix = prefix; empty = refl }
+
+-- nothing has waited, and nothing has come
+pub starts : (gone : Option (List ℕ)) → Streams gone gone [] [] [] (Ok tt)
+starts gone = all_wait gone [] [] [] tt refl
+
+-- what waits is put out too
+pub flushed : {old mid new : Option (List ℕ)} {before text waiting : List ℕ} {done : Unit {0}} → Streams old mid before text waiting (Ok done)
+    → new ≡ appended mid waiting → new ≡ appended old (before ++ text)
+flushed {old} {mid} {new} {before} {text} {waiting} first is =
+    is ∙ ap (λ gone. appended gone waiting) first.ok.gone ∙ appended-appended old first.ok.part waiting ∙ ap (appended old) first.ok.rest
 
 -- a prefix of what waits is put out
-pub flushed-part : {old mid new : Option (List ℕ)} {bytes waiting : List ℕ} → IsPartGone old mid bytes waiting → IsPrefixGone mid new waiting → IsPrefixGone old new bytes
-flushed-part {old} {mid} {new} {bytes} {waiting} first part =
-    subst (IsPrefixGone old new) first.rest (IsPrefixGone-after old mid new first.part waiting first.gone part)
+pub flushed-part : {old mid new : Option (List ℕ)} {before text waiting : List ℕ} {done : Unit {0}} → Streams old mid before text waiting (Ok done)
+    → IsPrefixGone mid new waiting → IsPrefixGone old new (before ++ text)
+flushed-part {old} {mid} {new} {before} {text} {waiting} first part =
+    subst (IsPrefixGone old new) first.ok.rest (IsPrefixGone-after old mid new first.ok.part waiting first.ok.gone part)
 
--- nothing more comes
-pub ends : {old new : Option (List ℕ)} {bytes waiting : List ℕ} {r : Result Unit WriteFault} → Streams old new bytes waiting r → Streams old new (bytes ++ []) waiting r
-ends {old} {new} {bytes} {waiting} {r} h = subst (λ all. Streams old new all waiting r) (sym (append-nil bytes)) h
-
-joined : (before text more : List ℕ) → (before ++ text) ++ more ≡ before ++ (text ++ more)
-joined before text more = append_assoc before text more
-
--- more bytes come after a first piece
-pub then : {old mid new : Option (List ℕ)} {before text waiting more after : List ℕ} {r : Result Unit WriteFault}
-    → IsPartGone old mid (before ++ text) waiting → Streams mid new (waiting ++ more) after r → Streams old new (before ++ (text ++ more)) after r
-then {old} {mid} {new} {before} {text} {waiting} {more} {after} {Ok done} first next = record {
-  part = first.part ++ next.part;
-  gone = next.gone ∙ ap (λ gone. appended gone next.part) first.gone ∙ appended-appended old first.part next.part;
-  rest =
-      append_assoc first.part next.part after ∙ ap (λ rest. first.part ++ rest) next.rest ∙ sym (append_assoc first.part waiting more)
-      ∙ ap (λ bytes. bytes ++ more) first.rest ∙ joined before text more;
+-- more comes behind a first text
+pub then : {old mid new : Option (List ℕ)} {before text waiting more after : List ℕ} {done : Unit {0}} {r : Result Unit WriteFault}
+    → Streams old mid before text waiting (Ok done) → Streams mid new waiting more after r → Streams old new before (text ++ more) after r
+then {old} {mid} {new} {before} {text} {waiting} {more} {after} {r = Ok done} first next = record {
+  ok = record {
+    part = first.ok.part ++ next.ok.part;
+    gone = next.ok.gone ∙ ap (λ gone. appended gone next.ok.part) first.ok.gone ∙ appended-appended old first.ok.part next.ok.part;
+    rest =
+        append_assoc first.ok.part next.ok.part after ∙ ap (λ rest. first.ok.part ++ rest) next.ok.rest
+        ∙ sym (append_assoc first.ok.part waiting more) ∙ ap (λ bytes. bytes ++ more) first.ok.rest ∙ append_assoc before text more;
+  };
+  prefix = tt;
+  empty = tt;
 }
-then {old} {mid} {new} {before} {text} {waiting} {more} {after} {Err fault} first next = (
-  subst (IsPrefixGone old new)
-  (sym (append_assoc first.part waiting more) ∙ ap (λ bytes. bytes ++ more) first.rest ∙ joined before text more)
-  (IsPrefixGone-after old mid new first.part (waiting ++ more) first.gone next.0),
-  next.1,
-)
+then {old} {mid} {new} {before} {text} {waiting} {more} {after} {r = Err fault} first next = record {
+  ok = tt;
+  prefix =
+      subst (IsPrefixGone old new)
+      (sym (append_assoc first.ok.part waiting more) ∙ ap (λ bytes. bytes ++ more) first.ok.rest ∙ append_assoc before text more)
+      (IsPrefixGone-after old mid new first.ok.part (waiting ++ more) first.ok.gone next.prefix);
+  empty = next.empty;
+}
 
--- a first piece had a fault, and no more comes
-pub stops : {old new : Option (List ℕ)} {before text waiting : List ℕ} {fault : WriteFault} (more : List ℕ)
-    → Streams old new (before ++ text) waiting (Err fault) → Streams old new (before ++ (text ++ more)) waiting (Err fault)
-stops {old} {new} {before} {text} more h =
-    (subst (IsPrefixGone old new) (joined before text more) (IsPrefixGone-front old new (before ++ text) more h.0), h.1)
+-- a first text had a fault, and no more comes
+pub stops : {old new : Option (List ℕ)} {before text after : List ℕ} {fault : WriteFault} (more : List ℕ)
+    → Streams old new before text after (Err fault) → Streams old new before (text ++ more) after (Err fault)
+stops {old} {new} {before} {text} more first = record {
+  ok = tt;
+  prefix = subst (IsPrefixGone old new) (append_assoc before text more) (IsPrefixGone-front old new (before ++ text) more first.prefix);
+  empty = first.empty;
+}
 
 -- ---- a list of things, each of which has a text
 
@@ -71,16 +97,16 @@ module _ {A : Type 0} (text : A → List ℕ) where
       (ap (flat_map text) (drop_more xs i x within) ∙ ap (λ first. text first ++ flat_map text (drop (i + 1) xs)) (sym is))
 
   -- one more of them
-  pub one_more : {old mid new : Option (List ℕ)} {before waiting after : List ℕ} (xs : List A) (i : ℕ) (x : A) → i < length xs → x ≡ get_or xs i x
-      → IsPartGone old mid (before ++ flat_map text (take i xs)) waiting → IsPartGone mid new (waiting ++ text x) after
-      → IsPartGone old new (before ++ flat_map text (take (i + 1) xs)) after
+  pub one_more : {old mid new : Option (List ℕ)} {before waiting after : List ℕ} {done then_done : Unit {0}} (xs : List A) (i : ℕ) (x : A) → i < length xs → x ≡ get_or xs i x
+      → Streams old mid before (flat_map text (take i xs)) waiting (Ok done) → Streams mid new waiting (text x) after (Ok then_done)
+      → Streams old new before (flat_map text (take (i + 1) xs)) after (Ok tt)
   one_more {old} {mid} {new} {before} {waiting} {after} xs i x within is first next =
-      subst (λ all. IsPartGone old new (before ++ all) after) (sym (up_to xs i x within is)) (then {r = Ok tt} first next)
+      subst (λ all. Streams old new before all after (Ok tt)) (sym (up_to xs i x within is)) (then first next)
 
   -- a fault at one of them
-  pub stops_at : {old mid new : Option (List ℕ)} {before waiting after : List ℕ} {fault : WriteFault} (xs : List A) (i : ℕ) (x : A) → i < length xs → x ≡ get_or xs i x
-      → IsPartGone old mid (before ++ flat_map text (take i xs)) waiting → Streams mid new (waiting ++ text x) after (Err fault)
-      → Streams old new (before ++ flat_map text xs) after (Err fault)
-  stops_at {old} {mid} {new} {before} {waiting} {after} {fault} xs i x within is first next =
-      subst (λ all. Streams old new (before ++ all) after (Err fault)) (sym (around xs i x within is))
-      (then {r = Err fault} first (stops (flat_map text (drop (i + 1) xs)) next))
+  pub stops_at : {old mid new : Option (List ℕ)} {before waiting after : List ℕ} {done : Unit {0}} {fault : WriteFault} (xs : List A) (i : ℕ) (x : A) → i < length xs → x ≡ get_or xs i x
+      → Streams old mid before (flat_map text (take i xs)) waiting (Ok done) → Streams mid new waiting (text x) after (Err fault)
+      → Streams old new before (flat_map text xs) after (Err fault)
+  stops_at {old} {mid} {new} {before} {waiting} {after} {done} {fault} xs i x within is first next =
+      subst (λ all. Streams old new before all after (Err fault)) (sym (around xs i x within is))
+      (then first (stops (flat_map text (drop (i + 1) xs)) next))

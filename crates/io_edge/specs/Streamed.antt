@@ -1,5 +1,5 @@
 -- Bytes on their way to a sink: some are out, and the rest waits.
-use Rattle.std.specs.Prelude.{◌≡◌, ℕ, List, [], ◌++◌, Option, Result, Ok, Err}
+use Rattle.std.specs.Prelude.{◌≡◌, ℕ, List, [], ◌++◌, Option, Result, OnOk, OnErr}
 use Rattle.io_edge.specs.declared.outside.WriteFault.{WriteFault}
 use Rattle.io_edge.specs.Outside.{appended, IsPrefixGone}
 
@@ -9,8 +9,9 @@ pub record IsPartGone (old new : Option (List ℕ)) (bytes waiting : List ℕ) :
   pub gone : new ≡ appended old part
   pub rest : part ++ waiting ≡ bytes
 
--- what becomes of bytes that are on their way: a first part has gone out and the rest waits, or up to a fault
--- a prefix is out and nothing waits
-abbrev pub Streams : Option (List ℕ) → Option (List ℕ) → List ℕ → List ℕ → Result Unit WriteFault → Type 0
-Streams old new bytes waiting (Ok done) = IsPartGone old new bytes waiting
-Streams old new bytes waiting (Err fault) = IsPrefixGone old new bytes × (waiting ≡ [])
+-- some bytes waited, and a text was given to go behind them: of these a first part has gone out, and the rest
+-- waits. Or up to a fault a prefix of them is out, and nothing waits
+pub record Streams (old new : Option (List ℕ)) (before text after : List ℕ) (r : Result Unit WriteFault) : Type 0 where
+  pub ok : OnOk r (IsPartGone old new (before ++ text) after)
+  pub prefix : OnErr r (IsPrefixGone old new (before ++ text))
+  pub empty : OnErr r (after ≡ [])

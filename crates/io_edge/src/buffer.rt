@@ -43,7 +43,7 @@ impl SinkBuffer {
     pub fn put<K: Sink>(&mut self, sink: &mut K, piece: &[u8]) -> Result<(), WriteFault>
         ensures counts { K.faults sink.old ≤ K.faults sink.new }
         ensures fault { OnErr result (HasRisen (K.faults sink.old) (K.faults sink.new)) }
-        ensures streams { Streams (K.gone sink.old) (K.gone sink.new) (self.old ++ piece.now) self.new result }
+        ensures streams { Streams (K.gone sink.old) (K.gone sink.new) self.old piece.now self.new result }
     {
         match self.waiting.try_extend_from_slice(piece) {
             Ok(()) => Ok(()),
@@ -57,7 +57,7 @@ impl SinkBuffer {
     fn put_beyond<K: Sink>(&mut self, sink: &mut K, piece: &[u8]) -> Result<(), WriteFault>
         ensures counts { K.faults sink.old ≤ K.faults sink.new }
         ensures fault { OnErr result (HasRisen (K.faults sink.old) (K.faults sink.new)) }
-        ensures streams { Streams (K.gone sink.old) (K.gone sink.new) (self.old ++ piece.now) self.new result }
+        ensures streams { Streams (K.gone sink.old) (K.gone sink.new) self.old piece.now self.new result }
     {
         self.flush(sink)?;
         match self.waiting.try_extend_from_slice(piece) {
@@ -71,7 +71,7 @@ impl SinkBuffer {
     pub fn put_number<K: Sink>(&mut self, sink: &mut K, number: u64) -> Result<(), WriteFault>
         ensures counts { K.faults sink.old ≤ K.faults sink.new }
         ensures fault { OnErr result (HasRisen (K.faults sink.old) (K.faults sink.new)) }
-        ensures streams { Streams (K.gone sink.old) (K.gone sink.new) (self.old ++ decimal number) self.new result }
+        ensures streams { Streams (K.gone sink.old) (K.gone sink.new) self.old (decimal number) self.new result }
     {
         let mut digits = itoa::Buffer::new();
         self.put(sink, digits.format(number).as_bytes())

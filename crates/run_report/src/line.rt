@@ -30,7 +30,7 @@ impl MachineLine {
     ) -> Result<(), WriteFault>
         ensures counts { K.faults sink.old ≤ K.faults sink.new }
         ensures fault { OnErr result (HasRisen (K.faults sink.old) (K.faults sink.new)) }
-        ensures streams { Streams (K.gone sink.old) (K.gone sink.new) (buffer.old ++ line_text (line_of_machine self.now)) buffer.new result }
+        ensures streams { Streams (K.gone sink.old) (K.gone sink.new) buffer.old (line_text (line_of_machine self.now)) buffer.new result }
     {
         let pieces = [
             Piece::Text(b"machine "),
@@ -62,7 +62,7 @@ impl TicketLine {
     fn put<K: Sink>(&self, buffer: &mut SinkBuffer, sink: &mut K) -> Result<(), WriteFault>
         ensures counts { K.faults sink.old ≤ K.faults sink.new }
         ensures fault { OnErr result (HasRisen (K.faults sink.old) (K.faults sink.new)) }
-        ensures streams { Streams (K.gone sink.old) (K.gone sink.new) (buffer.old ++ line_text (line_of_ticket self.now)) buffer.new result }
+        ensures streams { Streams (K.gone sink.old) (K.gone sink.new) buffer.old (line_text (line_of_ticket self.now)) buffer.new result }
     {
         let pieces = [
             Piece::Text(b"ticket "),
@@ -130,7 +130,7 @@ impl Line {
     ) -> Result<(), WriteFault>
         ensures counts { K.faults sink.old ≤ K.faults sink.new }
         ensures fault { OnErr result (HasRisen (K.faults sink.old) (K.faults sink.new)) }
-        ensures streams { Streams (K.gone sink.old) (K.gone sink.new) (buffer.old ++ line_text self.now) buffer.new result }
+        ensures streams { Streams (K.gone sink.old) (K.gone sink.new) buffer.old (line_text self.now) buffer.new result }
     {
         match &self.said {
             Said::Machine(line) => line.put(buffer, sink),
@@ -152,7 +152,7 @@ impl Piece<'_> {
     fn put<K: Sink>(&self, buffer: &mut SinkBuffer, sink: &mut K) -> Result<(), WriteFault>
         ensures counts { K.faults sink.old ≤ K.faults sink.new }
         ensures fault { OnErr result (HasRisen (K.faults sink.old) (K.faults sink.new)) }
-        ensures streams { Streams (K.gone sink.old) (K.gone sink.new) (buffer.old ++ piece_text self.now) buffer.new result }
+        ensures streams { Streams (K.gone sink.old) (K.gone sink.new) buffer.old (piece_text self.now) buffer.new result }
     {
         match self {
             Piece::Text(text) => buffer.put(sink, text),
@@ -171,7 +171,7 @@ fn put_pieces<K: Sink>(
 ) -> Result<(), WriteFault>
     ensures counts { K.faults sink.old ≤ K.faults sink.new }
     ensures fault { OnErr result (HasRisen (K.faults sink.old) (K.faults sink.new)) }
-    ensures streams { Streams (K.gone sink.old) (K.gone sink.new) (buffer.old ++ flat_map piece_text pieces.now) buffer.new result }
+    ensures streams { Streams (K.gone sink.old) (K.gone sink.new) buffer.old (flat_map piece_text pieces.now) buffer.new result }
 {
     'pieces: for piece in pieces {
         piece.put(buffer, sink)?;
@@ -187,7 +187,7 @@ fn put_ending<K: Sink>(
 ) -> Result<(), WriteFault>
     ensures counts { K.faults sink.old ≤ K.faults sink.new }
     ensures fault { OnErr result (HasRisen (K.faults sink.old) (K.faults sink.new)) }
-    ensures streams { Streams (K.gone sink.old) (K.gone sink.new) (buffer.old ++ ending_text ending) buffer.new result }
+    ensures streams { Streams (K.gone sink.old) (K.gone sink.new) buffer.old (ending_text ending) buffer.new result }
 {
     match ending {
         Ending::Exit(value) => {

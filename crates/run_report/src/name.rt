@@ -46,7 +46,7 @@ impl Branch {
     fn put<K: Sink>(&self, buffer: &mut SinkBuffer, sink: &mut K) -> Result<(), WriteFault>
         ensures counts { K.faults sink.old ≤ K.faults sink.new }
         ensures fault { OnErr result (HasRisen (K.faults sink.old) (K.faults sink.new)) }
-        ensures streams { Streams (K.gone sink.old) (K.gone sink.new) (buffer.old ++ branch_text self.now) buffer.new result }
+        ensures streams { Streams (K.gone sink.old) (K.gone sink.new) buffer.old (branch_text self.now) buffer.new result }
     {
         let mut text = [0; BRANCH_LENGTH];
         let begin = self.write(&mut text);
@@ -178,7 +178,7 @@ impl Name {
     pub fn put<K: Sink>(&self, buffer: &mut SinkBuffer, sink: &mut K) -> Result<(), WriteFault>
         ensures counts { K.faults sink.old ≤ K.faults sink.new }
         ensures fault { OnErr result (HasRisen (K.faults sink.old) (K.faults sink.new)) }
-        ensures streams { Streams (K.gone sink.old) (K.gone sink.new) (buffer.old ++ name_text self.now) buffer.new result }
+        ensures streams { Streams (K.gone sink.old) (K.gone sink.new) buffer.old (name_text self.now) buffer.new result }
     {
         buffer.put(sink, b"0")?;
         put_branches(&self.branches, buffer, sink)
@@ -222,7 +222,7 @@ fn put_branches<K: Sink>(
 ) -> Result<(), WriteFault>
     ensures counts { K.faults sink.old ≤ K.faults sink.new }
     ensures fault { OnErr result (HasRisen (K.faults sink.old) (K.faults sink.new)) }
-    ensures streams { Streams (K.gone sink.old) (K.gone sink.new) (buffer.old ++ flat_map branch_text branches.now) buffer.new result }
+    ensures streams { Streams (K.gone sink.old) (K.gone sink.new) buffer.old (flat_map branch_text branches.now) buffer.new result }
 {
     'branches: for branch in branches {
         branch.put(buffer, sink)?;

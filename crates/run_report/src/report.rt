@@ -126,7 +126,7 @@ fn put_lines<K: Sink>(
 ) -> Result<(), WriteFault>
     ensures counts { K.faults sink.old ≤ K.faults sink.new }
     ensures fault { OnErr result (HasRisen (K.faults sink.old) (K.faults sink.new)) }
-    ensures streams { Streams (K.gone sink.old) (K.gone sink.new) (buffer.old ++ text_of lines.now) buffer.new result }
+    ensures streams { Streams (K.gone sink.old) (K.gone sink.new) buffer.old (text_of lines.now) buffer.new result }
 {
     'lines: for line in lines {
         line.put(buffer, sink)?;
