@@ -23,6 +23,7 @@ pub(crate) struct MachineLine {
 
 impl MachineLine {
     /// Puts the line out, with the output behind it.
+    #[tactic(auto, unfolding(crate::specs::Lines::line_text))]
     pub(crate) fn put<K: Sink>(
         &self,
         buffer: &mut SinkBuffer,
@@ -59,6 +60,7 @@ struct TicketLine {
 
 impl TicketLine {
     /// Puts the line out.
+    #[tactic(auto, unfolding(crate::specs::Lines::line_text))]
     fn put<K: Sink>(&self, buffer: &mut SinkBuffer, sink: &mut K) -> Result<(), WriteFault>
         ensures counts { K.faults sink.old ≤ K.faults sink.new }
         ensures fault { OnErr result (HasRisen (K.faults sink.old) (K.faults sink.new)) }
@@ -140,6 +142,7 @@ impl Line {
 }
 
 /// A piece of a line.
+#[derive(Clone, Copy)]
 enum Piece<'a> {
     Text(&'a [u8]),
     Named(&'a Name),

@@ -119,6 +119,7 @@ pub fn report_into<K: Sink>(outcome: &Outcome, sink: &mut K) -> Result<(), Repor
 }
 
 /// Puts out lines in order.
+#[tactic(auto, unfolding(crate::specs::Lines::text_of))]
 fn put_lines<K: Sink>(
     lines: &[Line],
     buffer: &mut SinkBuffer,
