@@ -292,7 +292,13 @@ fn long_output(alloc: Global) -> Result<(Outcome, Vec<u8>), AllocError> {
     let mut text = Vec::from_slice(alloc, LONG)?;
     text.extend_from_slice(&output)?;
     text.push(b'\n')?;
-    let outcome = Outcome::new(Name::root(alloc), Ending::Limit, 10, output, Vec::new(alloc));
+    let outcome = Outcome::new(
+        Name::root(alloc),
+        Ending::Limit,
+        10,
+        output,
+        Vec::new(alloc),
+    );
     Ok((outcome, text))
 }
 

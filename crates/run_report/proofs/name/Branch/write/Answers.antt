@@ -17,8 +17,7 @@ overflow_sub-child c =
 pub write_digits-ticket-requires : goal.write_digits-ticket-requires
 write_digits-ticket-requires c =
     let child : length (decimal c.self.inside.child) ≤ 10 = length-decimal-le 10 c.self.inside.child (omega arith) (omega arith) (omega arith) in
-    let ticket : length (decimal c.self.inside.ticket) ≤ 10 = length-decimal-le 10 c.self.inside.ticket (omega arith) (omega arith) (omega arith) in
-    (
+    let ticket : length (decimal c.self.inside.ticket) ≤ 10 = length-decimal-le 10 c.self.inside.ticket (omega arith) (omega arith) (omega arith) in (
       omega (arith, child, ticket, c.write_digits-child.ensures.start),
       omega (arith, c.told-bytes, c.write_digits-child.auto.buf, c.write_digits-child.ensures.start, length-set c.write_digits-child.new.buf (c.write_digits-child.result - 1) 46),
     )
