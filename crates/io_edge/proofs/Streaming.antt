@@ -34,10 +34,6 @@ as_it_lies old new text (Ok done) is prefix = record {
 }
 as_it_lies old new text (Err fault) is prefix = record { ok = tt; prefix = prefix; empty = refl }
 
--- nothing has waited, and nothing has come
-pub starts : (gone : Option (List ℕ)) → Streams gone gone [] [] [] (Ok tt)
-starts gone = all_wait gone [] [] [] tt refl
-
 -- what waits is put out too
 pub flushed : {old mid new : Option (List ℕ)} {before text waiting : List ℕ} {done : Unit {0}} → Streams old mid before text waiting (Ok done)
     → new ≡ appended mid waiting → new ≡ appended old (before ++ text)
