@@ -1,2 +1,3 @@
 pub mod Gone
+pub mod Streaming
 pub mod Told

@@ -140,6 +140,13 @@ impl MemSink {
     {
         &self.bytes
     }
+
+    /// How many puts there were, the faults among them.
+    pub fn calls(&self) -> u64
+        ensures { result ≡ self.now.calls }
+    {
+        self.calls
+    }
 }
 
 impl Sink for MemSink {

@@ -77,7 +77,7 @@ fn goes_back(rt: &impl Abort, child: &Name, grandchild: &mut Name) {
 /// An outcome is reported so.
 fn is_reported(rt: &impl Abort, alloc: Global, outcome: &Outcome, text: &[u8]) -> Result<(), Fail> {
     let mut sink = MemSink::new(alloc, 7, 1000, Vec::new(alloc))?;
-    report_into(alloc, outcome, &mut sink)?;
+    report_into(outcome, &mut sink)?;
     assert_eq!(rt; sink.bytes(), text);
     Ok(())
 }
@@ -209,4 +209,109 @@ fn three_levels_with_killed_tickets(rt: HostRuntime) -> Result<(), Fail> {
         &outcome,
         b"machine 0 exit 17 steps 26 out 0\n\nticket 0.3 killed 5\nmachine 0.1.1 limit steps 35 out 0\n\nmachine 0.1.1.1.1 exit 17 steps 29 out 0\n\nticket 0.1.1.1.1.7 killed 3\nticket 0.1.1.2 killed 1\n",
     )
+}
+
+/// The sink after a report was put out on it, which takes so many bytes a put, and has a fault at this one.
+fn put_out(alloc: Global, outcome: &Outcome, most: usize, fails: u64) -> Result<MemSink, Fail>
+    requires { 1 ≤ most }
+{
+    let mut sink = MemSink::new(alloc, most, 1 << 16, vec![in alloc; fails]?)?;
+    let _ = report_into(outcome, &mut sink);
+    Ok(sink)
+}
+
+/// So many bytes of a text are out, its first, after so many puts.
+fn is_cut(rt: &impl Abort, sink: &MemSink, text: &[u8], length: usize, calls: u64) {
+    assert_eq!(rt; sink.bytes().len(), length);
+    assert_eq!(rt; sink.calls(), calls);
+    assert!(rt; text.starts_with(sink.bytes()));
+}
+
+/// The report of the family, of 110 bytes.
+static FAMILY: &[u8] =
+    b"machine 0 exit 41 steps 21 out 0\n\nmachine 0.1.1 exit 41 steps 16 out 0\n\nmachine 0.1.2 exit 42 steps 16 out 0\n\n";
+
+/// How many bytes a sink takes a put, which put fails, and how many bytes of that report are out after how many
+/// puts. It goes out in one piece, since it is shorter than the buffer.
+static CUTS: [(usize, u64, usize, u64); 18] = [
+    (10, 0, 110, 11),
+    (10, 1, 0, 1),
+    (10, 2, 10, 2),
+    (10, 3, 20, 3),
+    (10, 4, 30, 4),
+    (10, 5, 40, 5),
+    (10, 6, 50, 6),
+    (10, 7, 60, 7),
+    (10, 8, 70, 8),
+    (10, 9, 80, 9),
+    (10, 10, 90, 10),
+    (10, 11, 100, 11),
+    (1, 0, 110, 110),
+    (1, 1, 0, 1),
+    (1, 36, 35, 36),
+    (1, 110, 109, 110),
+    (1000, 0, 110, 1),
+    (1000, 1, 0, 1),
+];
+
+#[test]
+fn a_fault_leaves_a_prefix(rt: HostRuntime) -> Result<(), Fail> {
+    let outcome = family(rt.alloc())?;
+    for (most, fails, length, calls) in CUTS.iter() {
+        assert!(rt; *most > 0);
+        let sink = put_out(rt.alloc(), &outcome, *most, *fails)?;
+        is_cut(&rt, &sink, FAMILY, *length, *calls);
+    }
+    Ok(())
+}
+
+/// A machine that killed a ticket of two children a thousand times: a line of 32 bytes, and a thousand of 20.
+fn many_lines(alloc: Global) -> Result<Outcome, AllocError> {
+    let root = Name::root(alloc);
+    let mut log = Vec::new(alloc);
+    for _ in 0..1000 {
+        log.push(Line::ticket(root.copy(alloc)?, 1, 2))?;
+    }
+    Ok(silent(root, Ending::Limit, 10, log, alloc))
+}
+
+#[test]
+fn many_lines_go_out_in_few_puts(rt: HostRuntime) -> Result<(), Fail> {
+    let outcome = many_lines(rt.alloc())?;
+    let sink = put_out(rt.alloc(), &outcome, 1 << 16, 0)?;
+    assert_eq!(rt; (sink.bytes().len(), sink.calls()), (20_032, 3));
+    Ok(())
+}
+
+/// The line of a machine that put out ten thousand bytes.
+static LONG: &[u8] = b"machine 0 limit steps 10 out 10000\n";
+
+/// That machine, and its report.
+fn long_output(alloc: Global) -> Result<(Outcome, Vec<u8>), AllocError> {
+    let output = vec![in alloc; b'A'; 10_000]?;
+    let mut text = Vec::from_slice(alloc, LONG)?;
+    text.extend_from_slice(&output)?;
+    text.push(b'\n')?;
+    let outcome = Outcome::new(
+        Name::root(alloc),
+        Ending::Limit,
+        10,
+        output,
+        Vec::new(alloc),
+    );
+    Ok((outcome, text))
+}
+
+/// Which put fails, and how many bytes of that report are out after how many puts: the line, the output as it
+/// lies, and the newline.
+static LONG_CUTS: [(u64, usize, u64); 4] = [(0, 10_036, 3), (1, 0, 1), (2, 35, 2), (3, 10_035, 3)];
+
+#[test]
+fn a_long_output_goes_out_as_it_lies(rt: HostRuntime) -> Result<(), Fail> {
+    let (outcome, text) = long_output(rt.alloc())?;
+    for (fails, length, calls) in LONG_CUTS.iter() {
+        let sink = put_out(rt.alloc(), &outcome, 1 << 16, *fails)?;
+        is_cut(&rt, &sink, &text, *length, *calls);
+    }
+    Ok(())
 }

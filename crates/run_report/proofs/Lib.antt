@@ -2,4 +2,4 @@ pub mod Begin
 pub mod NameMaps
 pub mod Seen
 mod Below
-mod Texts
+mod Pieces

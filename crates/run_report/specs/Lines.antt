@@ -19,9 +19,9 @@ abbrev pub ending_text : Ending → List ℕ
 ending_text (Exit value) = codes "exit " ++ decimal value
 ending_text Limit = codes "limit"
 
--- what is put out before the output
-unfoldable pub heading : Line → List ℕ
-heading (machine_line name ending steps output) =
+-- what is put out of a line: the line, and after that of a machine its output and a newline
+unfoldable pub line_text : Line → List ℕ
+line_text (machine_line name ending steps output) =
     codes "machine "
     ++ (name_text name
     ++ (codes " "
@@ -30,8 +30,10 @@ heading (machine_line name ending steps output) =
     ++ (decimal steps
     ++ (codes " out "
     ++ (decimal (length output)
-    ++ codes "\n")))))))
-heading (ticket_line name ticket count) =
+    ++ (codes "\n"
+    ++ (output
+    ++ codes "\n")))))))))
+line_text (ticket_line name ticket count) =
     codes "ticket "
     ++ (name_text name
     ++ (codes "."
@@ -39,14 +41,6 @@ heading (ticket_line name ticket count) =
     ++ (codes " killed "
     ++ (decimal count
     ++ codes "\n")))))
-
--- what is put out after the heading: the output of a machine, and a newline
-abbrev pub after_heading : Line → List ℕ
-after_heading (machine_line name ending steps output) = output ++ codes "\n"
-after_heading (ticket_line name ticket count) = []
-
-unfoldable pub line_text : Line → List ℕ
-line_text line = heading line ++ after_heading line
 
 -- the lines, one after another
 unfoldable pub text_of : List Line → List ℕ

@@ -1,15 +1,15 @@
 //! The lines of a report.
 
-ghost use Rattle.std.specs.Prelude.{◌≡◌, ◌≤◌, ◌++◌, codes, IfOk, OnOk, OnErr, string_bytes};
-ghost use Rattle.io_edge.specs.Outside.{HasRisen, appended, IsPrefixGone};
-ghost use Rattle.run_report.specs.Lines.{after_heading, heading, ticket_line};
-ghost use Rattle.run_report.specs.Said.{line_of_machine, line_of_ticket};
+ghost use Rattle.std.specs.Prelude.{◌≡◌, ◌≤◌, ◌++◌, OnErr};
+ghost use Rattle.std.specs.List.{flat_map};
+ghost use Rattle.io_edge.specs.Outside.{HasRisen};
+ghost use Rattle.io_edge.specs.Streamed.{Streams};
+ghost use Rattle.run_report.specs.Lines.{ending_text, line_text, ticket_line};
+ghost use Rattle.run_report.specs.Said.{line_of_machine, line_of_ticket, piece_text};
 
 use crate::Name;
 use forest_model::Ending;
-use io_edge::{Sink, WriteFault, put_all};
-use std::alloc::{AllocError, Global};
-use std::fmt;
+use io_edge::{Sink, SinkBuffer, WriteFault};
 use std::marker::Model;
 
 /// What a report says of a machine that has ended.
@@ -22,16 +22,31 @@ pub(crate) struct MachineLine {
 }
 
 impl MachineLine {
-    /// What is put out before the output.
-    #[tactic(auto, unfolding(crate::specs::Lines::heading))]
-    pub(crate) fn heading(&self, alloc: Global) -> Result<String, AllocError>
-        ensures { IfOk result (λ text. string_bytes text ≡ heading (line_of_machine self.now)) }
+    /// Puts the line out, with the output behind it.
+    #[tactic(auto, unfolding(crate::specs::Lines::line_text))]
+    pub(crate) fn put<K: Sink>(
+        &self,
+        buffer: &mut SinkBuffer,
+        sink: &mut K,
+    ) -> Result<(), WriteFault>
+        ensures counts { K.faults sink.old ≤ K.faults sink.new }
+        ensures fault { OnErr result (HasRisen (K.faults sink.old) (K.faults sink.new)) }
+        ensures streams { Streams (K.gone sink.old) (K.gone sink.new) buffer.old (line_text (line_of_machine self.now)) buffer.new result }
     {
-        let name = &self.name;
-        let ending = EndingText(self.ending);
-        let steps = self.steps;
-        let bytes = self.output.len();
-        format!(in alloc; "machine {name} {ending} steps {steps} out {bytes}\n")
+        let pieces = [
+            Piece::Text(b"machine "),
+            Piece::Named(&self.name),
+            Piece::Text(b" "),
+            Piece::Ended(self.ending),
+            Piece::Text(b" steps "),
+            Piece::Number(self.steps),
+            Piece::Text(b" out "),
+            Piece::Number(self.output.len() as u64),
+            Piece::Text(b"\n"),
+            Piece::Text(&self.output),
+            Piece::Text(b"\n"),
+        ];
+        put_pieces(&pieces, buffer, sink)
     }
 }
 
@@ -44,15 +59,23 @@ struct TicketLine {
 }
 
 impl TicketLine {
-    /// All that is put out of it.
-    #[tactic(auto, unfolding(crate::specs::Lines::heading))]
-    fn heading(&self, alloc: Global) -> Result<String, AllocError>
-        ensures { IfOk result (λ text. string_bytes text ≡ heading (line_of_ticket self.now)) }
+    /// Puts the line out.
+    #[tactic(auto, unfolding(crate::specs::Lines::line_text))]
+    fn put<K: Sink>(&self, buffer: &mut SinkBuffer, sink: &mut K) -> Result<(), WriteFault>
+        ensures counts { K.faults sink.old ≤ K.faults sink.new }
+        ensures fault { OnErr result (HasRisen (K.faults sink.old) (K.faults sink.new)) }
+        ensures streams { Streams (K.gone sink.old) (K.gone sink.new) buffer.old (line_text (line_of_ticket self.now)) buffer.new result }
     {
-        let name = &self.name;
-        let ticket = self.ticket;
-        let killed = self.killed;
-        format!(in alloc; "ticket {name}.{ticket} killed {killed}\n")
+        let pieces = [
+            Piece::Text(b"ticket "),
+            Piece::Named(&self.name),
+            Piece::Text(b"."),
+            Piece::Number(self.ticket as u64),
+            Piece::Text(b" killed "),
+            Piece::Number(self.killed as u64),
+            Piece::Text(b"\n"),
+        ];
+        put_pieces(&pieces, buffer, sink)
     }
 }
 
@@ -101,60 +124,79 @@ impl Line {
         }
     }
 
-    /// What is put out before the output.
-    pub(crate) fn heading(&self, alloc: Global) -> Result<String, AllocError>
-        ensures { IfOk result (λ text. string_bytes text ≡ heading self.now) }
-    {
-        match &self.said {
-            Said::Machine(line) => line.heading(alloc),
-            Said::Ticket(line) => line.heading(alloc),
-        }
-    }
-
-    /// Puts out the line, whose heading is at hand.
-    pub(crate) fn put<K: Sink>(&self, heading: &[u8], sink: &mut K) -> Result<(), WriteFault>
+    /// Puts the line out, with the output of a machine behind it.
+    pub(crate) fn put<K: Sink>(
+        &self,
+        buffer: &mut SinkBuffer,
+        sink: &mut K,
+    ) -> Result<(), WriteFault>
         ensures counts { K.faults sink.old ≤ K.faults sink.new }
-        ensures ok { OnOk result (K.gone sink.new ≡ appended (K.gone sink.old) (heading.now ++ after_heading self.now)) }
         ensures fault { OnErr result (HasRisen (K.faults sink.old) (K.faults sink.new)) }
-        ensures prefix { IsPrefixGone (K.gone sink.old) (K.gone sink.new) (heading.now ++ after_heading self.now) }
+        ensures streams { Streams (K.gone sink.old) (K.gone sink.new) buffer.old (line_text self.now) buffer.new result }
     {
         match &self.said {
-            Said::Machine(line) => put_machine(sink, heading, &line.output),
-            Said::Ticket(_) => put_all(sink, heading),
+            Said::Machine(line) => line.put(buffer, sink),
+            Said::Ticket(line) => line.put(buffer, sink),
         }
     }
 }
 
-/// Puts out a heading, an output and a newline.
-pub(crate) fn put_machine<K: Sink>(
+/// A piece of a line.
+#[derive(Clone, Copy)]
+enum Piece<'a> {
+    Text(&'a [u8]),
+    Named(&'a Name),
+    Ended(Ending),
+    Number(u64),
+}
+
+impl Piece<'_> {
+    /// Puts the piece out.
+    fn put<K: Sink>(&self, buffer: &mut SinkBuffer, sink: &mut K) -> Result<(), WriteFault>
+        ensures counts { K.faults sink.old ≤ K.faults sink.new }
+        ensures fault { OnErr result (HasRisen (K.faults sink.old) (K.faults sink.new)) }
+        ensures streams { Streams (K.gone sink.old) (K.gone sink.new) buffer.old (piece_text self.now) buffer.new result }
+    {
+        match self {
+            Piece::Text(text) => buffer.put(sink, text),
+            Piece::Named(name) => name.put(buffer, sink),
+            Piece::Ended(ending) => put_ending(*ending, buffer, sink),
+            Piece::Number(number) => buffer.put_number(sink, *number),
+        }
+    }
+}
+
+/// Puts out pieces, one after another.
+fn put_pieces<K: Sink>(
+    pieces: &[Piece<'_>],
+    buffer: &mut SinkBuffer,
     sink: &mut K,
-    heading: &[u8],
-    output: &[u8],
 ) -> Result<(), WriteFault>
     ensures counts { K.faults sink.old ≤ K.faults sink.new }
-    ensures ok { OnOk result (K.gone sink.new ≡ appended (K.gone sink.old) (heading.now ++ (output.now ++ codes "\n"))) }
     ensures fault { OnErr result (HasRisen (K.faults sink.old) (K.faults sink.new)) }
-    ensures prefix { IsPrefixGone (K.gone sink.old) (K.gone sink.new) (heading.now ++ (output.now ++ codes "\n")) }
+    ensures streams { Streams (K.gone sink.old) (K.gone sink.new) buffer.old (flat_map piece_text pieces.now) buffer.new result }
 {
-    put_all(sink, heading)?;
-    put_all(sink, output)?;
-    put_all(sink, b"\n")
+    'pieces: for piece in pieces {
+        piece.put(buffer, sink)?;
+    }
+    Ok(())
 }
 
-/// How a machine ended, in the words of the report.
-#[derive(Clone, Copy)]
-struct EndingText(Ending);
-
-impl fmt::Display for EndingText {
-    ghost use Rattle.std.specs.Prelude.{Some};
-    ghost use Rattle.run_report.specs.Lines.{ending_text};
-
-    ghost output = { λ text. Some (ending_text text.0) };
-
-    fn fmt<W: fmt::Write>(&self, f: &mut fmt::Formatter<W>) -> fmt::Result {
-        match self.0 {
-            Ending::Exit(value) => write!(f, "exit {value}"),
-            Ending::Limit => write!(f, "limit"),
+/// Puts out how a machine ended, in words.
+fn put_ending<K: Sink>(
+    ending: Ending,
+    buffer: &mut SinkBuffer,
+    sink: &mut K,
+) -> Result<(), WriteFault>
+    ensures counts { K.faults sink.old ≤ K.faults sink.new }
+    ensures fault { OnErr result (HasRisen (K.faults sink.old) (K.faults sink.new)) }
+    ensures streams { Streams (K.gone sink.old) (K.gone sink.new) buffer.old (ending_text ending) buffer.new result }
+{
+    match ending {
+        Ending::Exit(value) => {
+            buffer.put(sink, b"exit ")?;
+            buffer.put_number(sink, value as u64)
         }
+        Ending::Limit => buffer.put(sink, b"limit"),
     }
 }

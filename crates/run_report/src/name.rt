@@ -1,14 +1,22 @@
 //! Names of machines, which are keys of maps too.
 
-ghost use Rattle.std.specs.Prelude.{◌≡◌, ℕ, ◌+◌, ◌≤◌, [], ◌∷◌, ◌++◌, length, IfOk, MatchOption, string_bytes};
+ghost use Rattle.std.specs.Prelude.{◌≡◌, ℕ, ◌+◌, ◌≤◌, [], ◌∷◌, ◌++◌, drop, length, IfOk, MatchOption, OnErr, string_bytes};
+ghost use Rattle.std.specs.List.{flat_map};
 ghost use Rattle.std.specs.Option.{option_map};
 ghost use Rattle.forest_tree.specs.Tree.{Path, beyond, is_below};
-ghost use Rattle.run_report.specs.Name.{begins_with, child_path, name_text};
+ghost use Rattle.io_edge.specs.Outside.{HasRisen};
+ghost use Rattle.io_edge.specs.Streamed.{Streams};
+ghost use Rattle.run_report.specs.Name.{begins_with, branch_text, child_path, name_text};
 
+use io_edge::{Sink, SinkBuffer, WriteFault};
+use itoa::write_digits;
 use std::alloc::{AllocError, Global};
 use std::cmp::Ordering;
 use std::fmt;
 use std::marker::Model;
+
+/// The bytes of the longest fork in text: two points, and two numbers of ten digits.
+const BRANCH_LENGTH: usize = 22;
 
 /// A fork on the way to a machine: the ticket, and which child of the ticket it is.
 #[derive(Clone, Copy)]
@@ -32,6 +40,31 @@ impl Branch {
         ensures { result ≡ record { ticket = ticket; child = child } }
     {
         Branch { ticket, child }
+    }
+
+    /// Puts out the fork in text.
+    fn put<K: Sink>(&self, buffer: &mut SinkBuffer, sink: &mut K) -> Result<(), WriteFault>
+        ensures counts { K.faults sink.old ≤ K.faults sink.new }
+        ensures fault { OnErr result (HasRisen (K.faults sink.old) (K.faults sink.new)) }
+        ensures streams { Streams (K.gone sink.old) (K.gone sink.new) buffer.old (branch_text self.now) buffer.new result }
+    {
+        let mut text = [0; BRANCH_LENGTH];
+        let begin = self.write(&mut text);
+        let (_, text) = text.split_at(begin);
+        buffer.put(sink, text)
+    }
+
+    /// Writes the fork in text to the end of the bytes, and tells where it begins.
+    #[inline]
+    fn write(&self, bytes: &mut [u8; BRANCH_LENGTH]) -> usize
+        ensures within { result ≤ BRANCH_LENGTH }
+        ensures text { drop result bytes.new ≡ branch_text self.now }
+    {
+        let child = write_digits(self.child as u64, bytes, BRANCH_LENGTH) - 1;
+        bytes[child] = b'.';
+        let ticket = write_digits(self.ticket as u64, bytes, child) - 1;
+        bytes[ticket] = b'.';
+        ticket
     }
 }
 
@@ -141,6 +174,16 @@ impl Name {
         self.to_string(alloc)
     }
 
+    /// Puts out the same text, fork by fork. It takes no memory.
+    pub fn put<K: Sink>(&self, buffer: &mut SinkBuffer, sink: &mut K) -> Result<(), WriteFault>
+        ensures counts { K.faults sink.old ≤ K.faults sink.new }
+        ensures fault { OnErr result (HasRisen (K.faults sink.old) (K.faults sink.new)) }
+        ensures streams { Streams (K.gone sink.old) (K.gone sink.new) buffer.old (name_text self.now) buffer.new result }
+    {
+        buffer.put(sink, b"0")?;
+        put_branches(&self.branches, buffer, sink)
+    }
+
     /// Takes the last fork off, its ticket and its child's number, so that the parent's name is left. The
     /// root's name has none, and stays.
     pub fn pop(&mut self) -> Option<(u32, u32)>
@@ -169,6 +212,22 @@ impl Name {
             _ => false,
         }
     }
+}
+
+/// Puts out forks in text, one after another.
+fn put_branches<K: Sink>(
+    branches: &[Branch],
+    buffer: &mut SinkBuffer,
+    sink: &mut K,
+) -> Result<(), WriteFault>
+    ensures counts { K.faults sink.old ≤ K.faults sink.new }
+    ensures fault { OnErr result (HasRisen (K.faults sink.old) (K.faults sink.new)) }
+    ensures streams { Streams (K.gone sink.old) (K.gone sink.new) buffer.old (flat_map branch_text branches.now) buffer.new result }
+{
+    'branches: for branch in branches {
+        branch.put(buffer, sink)?;
+    }
+    Ok(())
 }
 
 /// What is left of a path beyond a way, where it goes that way.

@@ -1,15 +1,15 @@
 //! The report of a machine that has ended, with what its log tells.
 
-ghost use Rattle.std.specs.Prelude.{◌≡◌, ◌+◌, ◌≤◌, ◌++◌, length, map, vec_len, vec_capacity, IfOk, OnOk, OnErr, IsErrOf, string_bytes};
+ghost use Rattle.std.specs.Prelude.{◌≡◌, ◌+◌, ◌≤◌, ◌++◌, length, vec_len, vec_capacity, OnOk, OnErr};
 ghost use Rattle.io_edge.specs.Outside.{HasRisen, appended, IsPrefixGone};
-ghost use Rattle.run_report.specs.Lines.{heading, text_of};
+ghost use Rattle.io_edge.specs.Streamed.{Streams};
+ghost use Rattle.run_report.specs.Lines.{text_of};
 ghost use Rattle.run_report.specs.Report.{lines_of, report_of};
 
-use crate::line::{MachineLine, put_machine};
+use crate::line::MachineLine;
 use crate::{Line, Name};
 use forest_model::Ending;
-use io_edge::{Sink, WriteFault};
-use std::alloc::{AllocError, Global};
+use io_edge::{Sink, SinkBuffer, WriteFault};
 use std::marker::Model;
 use thiserror::Error;
 
@@ -89,20 +89,6 @@ pub enum ReportError {
     /// The sink had a fault.
     #[error("the report could not be put out whole")]
     Sink,
-    /// Want of memory, before anything was put out.
-    #[error("want of memory")]
-    Memory,
-}
-
-impl From<AllocError> for ReportError {
-    ghost use Rattle.std.specs.Prelude.{◌≡◌};
-    ghost use Rattle.run_report.specs.declared.report.ReportError.TheVariants.{Memory};
-
-    ghost from_gives = { λ _ e. e ≡ Memory };
-
-    fn from(_error: AllocError) -> ReportError {
-        ReportError::Memory
-    }
 }
 
 impl From<WriteFault> for ReportError {
@@ -116,48 +102,35 @@ impl From<WriteFault> for ReportError {
     }
 }
 
-/// Writes the report of a machine and its log. After a fault of the sink a prefix of the report is out. All
-/// memory is taken before anything is put out.
+/// Writes the report of a machine and its log, piece by piece as it walks them. After a fault of the sink a
+/// prefix of the report is out. It takes no memory.
 #[tactic(auto, unfolding(crate::specs::Report::lines_of))]
-pub fn report_into<K: Sink>(
-    alloc: Global,
-    outcome: &Outcome,
-    sink: &mut K,
-) -> Result<(), ReportError>
+pub fn report_into<K: Sink>(outcome: &Outcome, sink: &mut K) -> Result<(), ReportError>
     ensures counts { K.faults sink.old ≤ K.faults sink.new }
     ensures ok { OnOk result (K.gone sink.new ≡ appended (K.gone sink.old) (report_of outcome.now)) }
-    ensures sink { IsErrOf result ReportError.Sink → HasRisen (K.faults sink.old) (K.faults sink.new) }
+    ensures sink { OnErr result (HasRisen (K.faults sink.old) (K.faults sink.new)) }
     ensures prefix { IsPrefixGone (K.gone sink.old) (K.gone sink.new) (report_of outcome.now) }
-    ensures memory { IsErrOf result ReportError.Memory → sink.new ≡ sink.old }
 {
-    let own = outcome.own.heading(alloc)?;
-    let headings = headings(alloc, &outcome.log)?;
-    put_machine(sink, own.as_bytes(), &outcome.own.output)?;
-    put_lines(sink, &headings, &outcome.log)?;
+    let mut buffer = SinkBuffer::new();
+    outcome.own.put(&mut buffer, sink)?;
+    put_lines(&outcome.log, &mut buffer, sink)?;
+    buffer.flush(sink)?;
     Ok(())
 }
 
-/// The headings of lines, in order.
-fn headings(alloc: Global, lines: &[Line]) -> Result<Vec<String>, AllocError>
-    ensures { IfOk result (λ headings. map string_bytes headings.items ≡ map heading lines.now) }
-{
-    let mut headings = Vec::with_capacity(alloc, lines.len())?;
-    'lines: for line in lines {
-        headings.push(line.heading(alloc)?)?;
-    }
-    Ok(headings)
-}
-
-/// Puts out lines in order, whose headings are at hand.
-fn put_lines<K: Sink>(sink: &mut K, headings: &[String], lines: &[Line]) -> Result<(), WriteFault>
-    requires { map string_bytes headings.now ≡ map heading lines.now }
+/// Puts out lines in order.
+#[tactic(auto, unfolding(crate::specs::Lines::text_of))]
+fn put_lines<K: Sink>(
+    lines: &[Line],
+    buffer: &mut SinkBuffer,
+    sink: &mut K,
+) -> Result<(), WriteFault>
     ensures counts { K.faults sink.old ≤ K.faults sink.new }
-    ensures ok { OnOk result (K.gone sink.new ≡ appended (K.gone sink.old) (text_of lines.now)) }
     ensures fault { OnErr result (HasRisen (K.faults sink.old) (K.faults sink.new)) }
-    ensures prefix { IsPrefixGone (K.gone sink.old) (K.gone sink.new) (text_of lines.now) }
+    ensures streams { Streams (K.gone sink.old) (K.gone sink.new) buffer.old (text_of lines.now) buffer.new result }
 {
-    'lines: for (i, line) in lines.iter().enumerate() {
-        line.put(headings[i].as_bytes(), sink)?;
+    'lines: for line in lines {
+        line.put(buffer, sink)?;
     }
     Ok(())
 }

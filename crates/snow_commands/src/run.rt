@@ -32,10 +32,9 @@ pub fn run_and_report<R: AllocGlobal + Wait, S: Shelf, K: Sink>(
     ensures silent { IsSilent result (sink.new ≡ sink.old) }
 {
     let outcome = run_guest(rt, guest, shelf)?;
-    match report_into(rt.alloc(), &outcome, sink) {
+    match report_into(&outcome, sink) {
         Ok(()) => Ok(()),
         Err(ReportError::Sink) => Err(Stop::WriteFault),
-        Err(ReportError::Memory) => Err(Stop::Memory),
     }
 }
 

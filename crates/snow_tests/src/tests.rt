@@ -192,13 +192,13 @@ fn stops_at_each_load(rt: HostRuntime) -> Result<(), Fail> {
     Ok(())
 }
 
-/// Expects code 5, and the pieces of the report of two children that were out before this put.
+/// Expects code 5, and of the report of two children the ten bytes of each put before this one.
 fn compare_cut<R: Abort>(rt: &R, found: &Status, sink: &MemSink, fails: u64)
     requires least { 1 ≤ fails }
     requires most { fails ≤ 11 }
 {
     assert_eq!(rt; found.code, 5);
-    assert!(rt; sink.bytes().len() as u64 <= 10 * (fails - 1));
+    assert_eq!(rt; sink.bytes().len() as u64, 10 * (fails - 1));
     assert!(rt; TWO_CHILDREN_REPORT.starts_with(sink.bytes()));
 }
 
@@ -220,7 +220,7 @@ fn stops_at_put<R: AllocGlobal + Wait + Abort>(
     Ok(())
 }
 
-// The report of 110 bytes goes in pieces of at most ten.
+// The report of 110 bytes goes out ten by ten.
 #[test]
 fn stops_at_each_put(rt: HostRuntime) -> Result<(), Fail> {
     let image = elf_of(rt.alloc(), RAM_BASE, &TWO_CHILDREN)?;
