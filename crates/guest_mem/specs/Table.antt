@@ -3,8 +3,7 @@ use Rattle.std.specs.Prelude.{ℕ, ◌*◌, Bool, true, false, List, length, map
 use Rattle.std.specs.List.{range_with_len}
 use Rattle.page_frames.specs.declared.page.TheConstants.{PAGE_SIZE}
 use Rattle.page_frames.specs.declared.entry.Entry.{Entry}
-use Rattle.page_frames.specs.declared.entry.Entry.TheVariants.{Held, Blank}
-use Rattle.page_frames.specs.Tables.{entry_at, entry_bytes}
+use Rattle.page_frames.specs.declared.entry.Entry.TheVariants.{Held, Blank, Absent}
 
 abbrev pub boot_entry : List ℕ → Bool → Entry
 boot_entry bytes true = Held bytes
@@ -17,9 +16,9 @@ page_of memory page = take PAGE_SIZE (drop (PAGE_SIZE * page) memory)
 abbrev pub boot_table : List ℕ → List Bool → List Entry
 boot_table ram segments = map (λ page. boot_entry (page_of ram page) (slice_index_or segments page false)) (range_with_len 0 (length segments))
 
-abbrev pub clone_entry : Entry → Bool → Entry
-clone_entry entry true = Blank
-clone_entry entry false = Held (entry_bytes entry)
+abbrev pub clone_entry : Bool → Entry
+clone_entry true = Blank
+clone_entry false = Absent
 
-abbrev pub clone_table : List Entry → List Bool → List Entry
-clone_table entries blank = map (λ page. clone_entry (entry_at entries page) (slice_index_or blank page false)) (range_with_len 0 (length blank))
+abbrev pub clone_table : List Bool → List Entry
+clone_table blank = map clone_entry blank
