@@ -4,7 +4,7 @@ use Rattle.std.proofs.lemmas.Slice.Zip.{zip_turn, zip_end}
 use Rattle.page_frames.specs.declared.page.TheConstants.{PAGE_SIZE}
 use Rattle.guest_mem.specs.Table.{boot_entry, page_of}
 use Rattle.guest_mem.proofs.Making.{table_more, get_or-first_chunks}
-use Rattle.guest_mem.proofs.table.boot_table.Goals as goal
+use Rattle.guest_mem.proofs.table.boot_entries.Goals as goal
 
 pub loop-bytes-preserved : goal.loop-bytes-preserved
 loop-bytes-preserved c =
