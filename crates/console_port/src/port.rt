@@ -159,7 +159,8 @@ impl ConsolePort {
         if self.is_latched() || !self.has_input() {
             return 0;
         }
-        let byte = self.input()[self.place as usize];
+        let place = self.place as usize;
+        let byte = self.input()[place];
         self.place += 1;
         byte
     }
