@@ -20,6 +20,11 @@ module _ {T : Type 0} where
       let rest = length-leaves (count - LEAF_ENTRIES) leaves cut.2 in
       omega (arith, cut.0, rest)
 
+  -- how many leaves the list has
+  pub counted-leaves : (count : ℕ) (leaves : List (List T)) → IsCut count leaves → (list : List T) → joined leaves ≡ list → length leaves ≡ leaf_count (length list)
+  counted-leaves count leaves cut list is =
+      length-leaves count leaves cut ∙ ap leaf_count (sym (length-joined count leaves cut) ∙ ap length is)
+
   -- the leaf in which an entry lies
   pub leaf_below : (count : ℕ) (leaves : List (List T)) (k r : ℕ) → IsCut count leaves → LEAF_ENTRIES * k + r < count → k < length leaves
   leaf_below count [] k r cut inside = absurd (omega arith)
