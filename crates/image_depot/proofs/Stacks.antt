@@ -1,14 +1,14 @@
 -- Tables that lie one over the other, and the pages and words of the contents that they keep.
-use Rattle.std.proofs.Common.{◌≡◌, ℕ, ◌+◌, ◌*◌, ◌/◌, ◌%◌, ◌<◌, ◌≤◌, true, false, List, [], ◌∷◌, length, take, drop, get_or, refl, ap, sym, ◌∙◌, subst, arith}
+use Rattle.std.proofs.Common.{◌≡◌, ℕ, ◌+◌, ◌*◌, ◌/◌, ◌<◌, ◌≤◌, true, false, List, [], ◌∷◌, length, take, drop, get_or, refl, ap, sym, ◌∙◌, subst, arith}
 use Rattle.std.proofs.lemmas.Bool.{both_ways}
-use Rattle.std.proofs.lemmas.List.{ext_get_or, get_or-take, get_or-drop, length-drop, length-take-le, drop_more}
-use Rattle.byteorder.specs.Endian.{little_from}
+use Rattle.std.proofs.lemmas.List.{ext_get_or, get_or-take, get_or-drop, length-drop, length-take-le, drop_more, get_or_default}
+use Rattle.flat_memory.specs.Flat.{word_at}
 use Rattle.page_frames.specs.declared.page.TheConstants.{PAGE_SIZE}
 use Rattle.page_frames.specs.declared.entry.Entry.{Entry}
 use Rattle.page_frames.specs.declared.entry.Entry.TheVariants.{Absent}
 use Rattle.page_frames.specs.Tables.{is_own, entry_at, entry_bytes, stacked}
 use Rattle.page_frames.proofs.Memory.{length-laid_over, byte_of_own, byte_of_other, little_from_same}
-use Rattle.image_depot.specs.Image.{own_table, IsOver, IsStack}
+use Rattle.image_depot.specs.Image.{own_table, IsStack}
 
 pub length-stacked : (tables : List (List Entry)) → length (stacked tables) ≡ PAGE_SIZE * length (own_table tables)
 length-stacked [] = omega arith
@@ -42,26 +42,33 @@ module _ (page : ℕ) (tables left : List (List Entry)) (table : List Entry) (be
   pub page_in_next : page < length table
   page_in_next = subst (λ ts. page < length (own_table ts)) is_next known.there
 
-  -- the next table has no entry of its own for the page
-  pub IsLeft-more : is_own (entry_at table page) ≡ false → IsLeft page tables behind
-  IsLeft-more other =
-      let stack : IsStack (table ∷ behind) = subst IsStack is_next known.stack in
-      let below = below_stack table behind page stack page_in_next other in
-      record {
-        stack = below.0;
-        there = subst (λ n. page < n) (sym below.1) page_in_next;
-        bytes = λ at inside.
-            known.bytes at inside
-            ∙ ap (λ ts. get_or (stacked ts) (PAGE_SIZE * page + at) 0) is_next
-            ∙ byte_of_other table (stacked behind) page at page_in_next inside other;
-      }
+  -- the entry of the page in the next table
+  module _ (entries : List Entry) (entry : Entry) (is_table : entries ≡ table) (read : entry ≡ get_or entries page entry) where
+    is_entry : entry_at table page ≡ entry
+    is_entry = get_or_default table page Absent entry page_in_next ∙ ap (λ t. get_or t page entry) (sym is_table) ∙ sym read
 
-  -- it has one
-  pub bytes_of_next : is_own (entry_at table page) ≡ true → (at : ℕ) → at < PAGE_SIZE → get_or (stacked tables) (PAGE_SIZE * page + at) 0 ≡ get_or (entry_bytes (entry_at table page)) at 0
-  bytes_of_next own at inside =
-      known.bytes at inside
-      ∙ ap (λ ts. get_or (stacked ts) (PAGE_SIZE * page + at) 0) is_next
-      ∙ byte_of_own table (stacked behind) page at page_in_next inside own
+    -- it is not one of its own
+    pub IsLeft-more : is_own entry ≡ false → IsLeft page tables behind
+    IsLeft-more absent =
+        let other : is_own (entry_at table page) ≡ false = ap is_own is_entry ∙ absent in
+        let stack : IsStack (table ∷ behind) = subst IsStack is_next known.stack in
+        let below = below_stack table behind page stack page_in_next other in
+        record {
+          stack = below.0;
+          there = subst (λ n. page < n) (sym below.1) page_in_next;
+          bytes = λ at inside.
+              known.bytes at inside
+              ∙ ap (λ ts. get_or (stacked ts) (PAGE_SIZE * page + at) 0) is_next
+              ∙ byte_of_other table (stacked behind) page at page_in_next inside other;
+        }
+
+    -- it is one of its own
+    pub bytes_of_next : is_own entry ≡ true → (at : ℕ) → at < PAGE_SIZE → get_or (stacked tables) (PAGE_SIZE * page + at) 0 ≡ get_or (entry_bytes entry) at 0
+    bytes_of_next own at inside =
+        known.bytes at inside
+        ∙ ap (λ ts. get_or (stacked ts) (PAGE_SIZE * page + at) 0) is_next
+        ∙ byte_of_own table (stacked behind) page at page_in_next inside (ap is_own is_entry ∙ own)
+        ∙ ap (λ e. get_or (entry_bytes e) at 0) is_entry
 
 -- all tables are left at first
 pub IsLeft-all : (page : ℕ) (tables : List (List Entry)) → IsStack tables → page < length (own_table tables) → IsLeft page tables tables
@@ -78,9 +85,9 @@ left_next tables i table there read = drop_more tables i table there ∙ ap (λ 
 -- ---- a page of contents that has these bytes
 
 module _ (contents bytes : List ℕ) (page : ℕ) (same : (at : ℕ) → at < PAGE_SIZE → get_or contents (PAGE_SIZE * page + at) 0 ≡ get_or bytes at 0) where
-  pub number_of_page : (at n : ℕ) → at + n ≤ PAGE_SIZE → little_from at n bytes ≡ little_from (PAGE_SIZE * page + at) n contents
-  number_of_page at n within =
-      sym (little_from_same n (PAGE_SIZE * page + at) at contents bytes
+  pub word_of_page : (at : ℕ) → at + 4 ≤ PAGE_SIZE → word_at bytes at ≡ word_at contents (PAGE_SIZE * page + at)
+  word_of_page at within =
+      sym (little_from_same 4 (PAGE_SIZE * page + at) at contents bytes
       (λ k inside. ap (λ p. get_or contents p 0) (omega arith) ∙ same (at + k) (omega arith)))
 
   pub bytes_of_page : length bytes ≡ PAGE_SIZE → PAGE_SIZE * page + PAGE_SIZE ≤ length contents → bytes ≡ take PAGE_SIZE (drop (PAGE_SIZE * page) contents)

@@ -61,7 +61,7 @@ impl Parcel {
         ensures there { self.now.page < page_count (image_of self.now.key) }
         ensures whole { length (page_bytes (image_of self.now.key) self.now.page) ≡ PAGE_SIZE }
     {
-        let _ = (self.key.number(), self.page);
+        let _ = (self.key.number(), self.page());
         match decode_frame(&self.bytes) {
             Some(frame) => frame.bytes,
             None => unreachable!(),

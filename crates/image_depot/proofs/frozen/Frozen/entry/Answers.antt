@@ -1,7 +1,6 @@
 use Rattle.std.proofs.Common.{◌≡◌, ◌+◌, ◌*◌, length, get_or, ap, sym, ◌∙◌, arith}
 use Rattle.page_frames.specs.declared.page.TheConstants.{PAGE_SIZE}
 use Rattle.page_frames.specs.Tables.{stacked}
-use Rattle.image_depot.specs.Image.{own_table}
 use Rattle.image_depot.proofs.Stacks.{length-stacked, page_count-stacked}
 use Rattle.image_depot.proofs.frozen.Frozen.entry.Goals as goal
 
