@@ -1,10 +1,10 @@
 -- Absent pages that are fetched from an image, and RAM of which every page is here.
-use Rattle.std.proofs.Common.{◌≡◌, ℕ, ◌+◌, ◌*◌, ◌/◌, ◌%◌, ◌<◌, Bool, true, false, List, [], ◌++◌, length, map, get_or, take, drop, replicate, None, Some, refl, sym, ap, ◌∙◌, subst, arith}
+use Rattle.std.proofs.Common.{◌≡◌, ℕ, ◌+◌, ◌*◌, ◌/◌, ◌%◌, ◌<◌, Bool, true, false, List, [], ◌∷◌, ◌++◌, length, map, get_or, take, drop, replicate, None, Some, refl, sym, ap, ◌∙◌, subst, arith}
 use Rattle.std.specs.Prelude.{IsTrue}
 use Rattle.std.specs.List.{All, range_with_len}
 use Rattle.std.proofs.lemmas.Bool.{both_ways}
-use Rattle.std.proofs.lemmas.List.{length-map, get_or-map, ext_get_or, get_or-take, get_or-drop, get_or-replicate, length-replicate}
-use Rattle.std.proofs.lemmas.List.FromFn.{length-map-range_with_len, get_or-map-range_with_len}
+use Rattle.std.proofs.lemmas.List.{length-map, get_or-map, ext_get_or, get_or-take, get_or-drop, get_or-replicate, get_or_read, length-replicate}
+use Rattle.std.proofs.lemmas.List.FromFn.{length-map-range_with_len, get_or-map-range_with_len, map-range_with_len_more}
 use Rattle.std.proofs.lemmas.List.Elements.{All-get_or, All-append, All-take, All-drop, All-replicate, All-map}
 use Rattle.std.proofs.lemmas.Option.{slice_get_within, get_or_from_slice_get}
 use Rattle.elf_load.specs.Image.{Image}
@@ -36,6 +36,24 @@ fetched_blank : (entry : Entry) (below : List ℕ) (page : ℕ) → is_blank (fe
 fetched_blank (Held bytes) below page = refl
 fetched_blank Blank below page = refl
 fetched_blank Absent below page = refl
+
+-- an entry that has no page of its own
+pub fetched_absent : (entry : Entry) (below : List ℕ) (page : ℕ) → is_own entry ≡ false → Held (page_of below page) ≡ fetched_entry entry below page
+fetched_absent (Held bytes) below page absent = cc
+fetched_absent Blank below page absent = cc
+fetched_absent Absent below page absent = refl
+
+-- the entries of the first pages
+abbrev pub fetched_front : List Entry → List ℕ → ℕ → List Entry
+fetched_front entries below pages = map (λ page. fetched_entry (entry_at entries page) below page) (range_with_len 0 pages)
+
+pub fetched_more : (entries front : List Entry) (below : List ℕ) (page : ℕ) (read entry : Entry) → page < length entries → front ≡ fetched_front entries below page
+    → read ≡ get_or entries page read → entry ≡ fetched_entry read below page → front ++ entry ∷ [] ≡ fetched_front entries below (page + 1)
+fetched_more entries front below page read entry there so_far is_read is =
+    let next : entry ≡ fetched_entry (entry_at entries page) below page = is ∙ ap (λ e. fetched_entry e below page) (get_or_read entries page read there is_read Absent) in
+    ap (λ es. es ++ entry ∷ []) so_far
+    ∙ ap (λ e. fetched_front entries below page ++ e ∷ []) next
+    ∙ sym (map-range_with_len_more (λ page. fetched_entry (entry_at entries page) below page) 0 page page (omega arith))
 
 -- ---- a table
 
