@@ -1,5 +1,5 @@
 -- Absent pages that are fetched from an image, and RAM of which every page is here.
-use Rattle.std.proofs.Common.{◌≡◌, ℕ, ◌+◌, ◌*◌, ◌/◌, ◌%◌, ◌<◌, Bool, true, false, List, [], ◌∷◌, ◌++◌, length, map, get_or, take, drop, replicate, None, Some, refl, sym, ap, ◌∙◌, subst, arith}
+use Rattle.std.proofs.Common.{◌≡◌, ℕ, ◌+◌, ◌*◌, ◌/◌, ◌%◌, ◌<◌, Bool, true, false, List, [], ◌∷◌, ◌++◌, length, map, get_or, take, drop, replicate, Option, None, Some, refl, sym, ap, ◌∙◌, subst, arith}
 use Rattle.std.specs.Prelude.{IsTrue}
 use Rattle.std.specs.List.{All, range_with_len}
 use Rattle.std.proofs.lemmas.Bool.{both_ways}
@@ -13,9 +13,9 @@ use Rattle.page_frames.specs.declared.entry.Entry.{Entry}
 use Rattle.page_frames.specs.declared.entry.Entry.TheVariants.{Held, Blank, Absent}
 use Rattle.page_frames.specs.Tables.{entry_at, byte_over, laid_over, is_own, is_blank}
 use Rattle.page_frames.proofs.Memory.{length-laid_over, get_or-laid_over, laid_over_is}
-use Rattle.image_depot.specs.Image.{IsWhole}
+use Rattle.image_depot.specs.Image.{FrozenImage, IsWhole}
 use Rattle.image_depot.specs.Key.{Key, image_of}
-use Rattle.guest_mem.specs.Ram.{Ram, IsAbsent, HasEveryPage, ram_of, at_boot, zeroed, fetched}
+use Rattle.guest_mem.specs.Ram.{Ram, IsAbsent, IsBased, IsTable, HasEveryPage, ram_of, at_boot, zeroed, fetched}
 use Rattle.guest_mem.specs.Table.{page_of, fetched_entry, fetched_table}
 use Rattle.guest_mem.proofs.Pages.{same_ram}
 
@@ -122,6 +122,27 @@ here_whole entries whole =
 
 pub ram_of_whole : (entries : List Entry) → IsWhole entries → ram_of entries None ≡ fetched (ram_of entries None)
 ram_of_whole entries whole = same_ram _ _ _ _ _ _ None refl (here_whole entries whole) refl
+
+module _ (entries : List Entry) (key : Option Key) where
+  pub fetched_alone : key ≡ None → IsBased entries key → ram_of entries key ≡ fetched (ram_of entries key)
+  fetched_alone no_key based =
+      subst (λ o. ram_of entries o ≡ fetched (ram_of entries o)) (sym no_key) (ram_of_whole entries (subst (λ (o : Option Key). IsBased entries o) no_key based))
+
+  module _ (k : Key) (image : FrozenImage) (is_key : key ≡ Some k) (is_image : image ≡ image_of k) where
+    pub fetched_over : ram_of (fetched_table entries image.contents) key ≡ fetched (ram_of entries key)
+    fetched_over =
+        ap (λ (i : FrozenImage). ram_of (fetched_table entries i.contents) key) is_image
+        ∙ subst (λ o. ram_of (fetched_table entries (image_of k).contents) o ≡ fetched (ram_of entries o)) (sym is_key) (ram_of_fetched entries k)
+
+    pub IsTable-fetched : IsTable entries key → IsTable (fetched_table entries image.contents) key
+    IsTable-fetched table =
+        let size = length-fetched entries image.contents in
+        let based = subst (λ (o : Option Key). IsBased entries o) is_key table.based in
+        record {
+          least = omega (arith, table.least);
+          most = omega (arith, table.most);
+          based = subst (λ (o : Option Key). IsBased (fetched_table entries image.contents) o) (sym is_key) (size ∙ based);
+        }
 
 -- ---- RAM of which every page is here
 

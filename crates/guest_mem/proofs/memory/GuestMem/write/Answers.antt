@@ -45,5 +45,15 @@ returns-in_default-clause-err c =
 
 pub returns-clause-ok : goal.returns-clause-ok
 returns-clause-ok c =
+    let entries = c.self.inside.entries in
+    let key = c.self.inside.key in
+    let bytes = c.args.bytes.now in
     let inside = subst (λ ram. c.args.at < length ram.reads) (sym c.self.view_is) c.requires.inside in
-    let own : is_own c.get.result.now ≡ true = sym c.is_own.ensures ∙ c.if-not-is_own.false in ?
+    let own : is_own c.get.result.now ≡ true = sym c.is_own.ensures ∙ c.if-not-is_own.false in
+    let own_entry = ap is_own (sym (is_entry entries (memory_below key) c.args.at (length bytes) inside c.requires.in_page c.get.result.now c.get.ensures)) ∙ own in (
+      ap (λ table. ram_of table key) c.in-Ok.ensures.ok
+          ∙ ram_of_store entries key c.args.at bytes inside c.requires.in_page own_entry c.in-Ok.ensures.whole
+          ∙ ap (λ ram. stored ram c.args.at bytes) c.self.view_is,
+      ap (λ ram. slice_get ram.here (c.args.at / PAGE_SIZE)) (sym c.self.view_is)
+          ∙ is_here entries (memory_below key) c.args.at (length bytes) inside c.requires.in_page c.get.result.now c.get.ensures true own,
+    )
