@@ -188,10 +188,11 @@ made_whole blank table page all made =
 pub flags_more : (table : List Entry) (flags : List Bool) (page : ℕ) (flag : Bool) → page < length table → flags ≡ take page (map is_blank table) → flag ≡ is_blank (entry_at table page)
     → flags ++ flag ∷ [] ≡ take (page + 1) (map is_blank table)
 flags_more table flags page flag there so_far is =
+    let next : suc page ≡ page + 1 = omega arith in
     ap (λ front. front ++ flag ∷ []) so_far
     ∙ ap (λ f. take page (map is_blank table) ++ f ∷ []) (is ∙ sym (get_or-map is_blank table page Absent false there))
     ∙ sym (take-suc (map is_blank table) page false (omega (arith, length-map table is_blank)))
-    ∙ ap (λ n. take n (map is_blank table)) (omega arith)
+    ∙ ap (λ n. take n (map is_blank table)) next
 
 kept_byte : (is_blank : Bool) (byte : ℕ) → (is_blank ≡ true → byte ≡ 0) → (if is_blank then 0 else byte) ≡ byte
 kept_byte true byte none = sym (none refl)

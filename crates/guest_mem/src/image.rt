@@ -4,12 +4,12 @@ ghost use Rattle.std.specs.Prelude.{◌≡◌, ◌+◌, ◌/◌, ◌<◌, ◌≤
 ghost use Rattle.vm_descriptor.specs.Descriptor.{IsRam as HasMap};
 ghost use Rattle.image_depot.specs.Image.{page_count};
 ghost use Rattle.image_depot.specs.Key.{image_of, IsKeyOf};
-ghost use Rattle.guest_mem.specs.Ram.{IsRamOf, cloned};
+ghost use Rattle.guest_mem.specs.Ram.{IsRamOf, HasEveryPage, cloned, fetched};
 ghost use Rattle.guest_mem.specs.Answers.{Arrives};
 
 use crate::answers::Arrived;
 use crate::memory::GuestMem;
-use crate::table::clone_table;
+use crate::table::{clone_table, fetched_table};
 use console_port::Input;
 use cow_disk::FrozenDisk;
 use image_depot::{Depot, Frozen, ImageKey, Parcel};
@@ -131,5 +131,20 @@ impl GuestMem {
         let held = Entry::Held(Page::from_slice(alloc, content)?);
         self.entries.set(page as usize, held)?;
         Ok(Arrived::Got(page))
+    }
+
+    /// Brings all absent pages here, as the image of the key has them. It shares the pages that the image
+    /// holds.
+    pub fn fetch_all(&mut self, alloc: Global, depot: &Depot) -> Result<(), AllocError>
+        requires { IsRamOf depot.now self.old }
+        ensures ok { OnOk result (self.new ≡ fetched self.old) }
+        ensures every_page { OnOk result (HasEveryPage self.new) }
+        ensures err { OnErr result (self.new ≡ self.old) }
+    {
+        let Some(key) = &self.key else {
+            return Ok(());
+        };
+        self.entries = fetched_table(alloc, &self.entries, depot.frozen(key))?;
+        Ok(())
     }
 }

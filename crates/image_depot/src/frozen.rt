@@ -8,7 +8,7 @@ use crate::table::Table;
 use console_port::{Input, MAX_INPUT};
 use cow_disk::FrozenDisk;
 use elf_load::MAX_PAGES;
-use page_frames::{Entry, PAGE_SIZE, PageTable};
+use page_frames::{Entry, PAGE_SIZE, Page, PageTable};
 use std::alloc::{AllocError, Global};
 use std::marker::Model;
 
@@ -137,6 +137,14 @@ impl Frozen {
         self.entry(page).bytes()
     }
 
+    /// A page as a page of its own, which the image shares where it holds it.
+    pub fn shared_page(&self, alloc: Global, page: u32) -> Result<Page, AllocError>
+        requires { page < page_count self.now }
+        ensures { IfOk result (λ shared. shared ≡ page_bytes self.now page) }
+    {
+        page_of(alloc, self.entry(page))
+    }
+
     /// The entry of a page in the first table that has one of its own.
     #[inline]
     fn entry(&self, page: u32) -> &Entry
@@ -147,5 +155,18 @@ impl Frozen {
             → slice_index self.now.contents (PAGE_SIZE * page + at) ≡ slice_index (entry_bytes result.now) at }
     {
         first_own(&self.tables, page as usize)
+    }
+}
+
+/// The page of a table's own as a page of its own. A page that is held is shared.
+fn page_of(alloc: Global, entry: &Entry) -> Result<Page, AllocError>
+    requires { IsTrue (is_own entry.now) }
+    ensures value { IfOk result (λ page. page ≡ entry_bytes entry.now) }
+    ensures whole { length (entry_bytes entry.now) ≡ PAGE_SIZE }
+{
+    let bytes = entry.bytes();
+    match entry {
+        Entry::Held(page) => page.share(),
+        _ => Page::from_slice(alloc, bytes),
     }
 }

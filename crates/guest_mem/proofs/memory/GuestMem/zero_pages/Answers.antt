@@ -18,7 +18,8 @@ invariant_of-self-2 c =
     let first = c.args.first in
     let count = c.args.count in
     let inside = subst (λ ram. first + count ≤ length ram.here) (sym c.self.view_is) c.requires in
-    let written = c.in_ok-fill.ensures.ok ∙ ap (λ n. splice entries first (first + count) (replicate n Blank)) (omega arith) in
+    let counted : first + count - first ≡ count = omega arith in
+    let written = c.in_ok-fill.ensures.ok ∙ ap (λ n. splice entries first (first + count) (replicate n Blank)) counted in
     subst (λ table. IsTable table c.self.inside.key) (sym written) (IsTable-run entries c.self.inside.key first count (omega (arith, length-map entries is_own)) c.self.invariant)
 
 pub returns-clause-ok : goal.returns-clause-ok
@@ -27,7 +28,8 @@ returns-clause-ok c =
     let first = c.args.first in
     let count = c.args.count in
     let inside = subst (λ ram. first + count ≤ length ram.here) (sym c.self.view_is) c.requires in
-    let written = c.in_ok-fill.ensures.ok ∙ ap (λ n. splice entries first (first + count) (replicate n Blank)) (omega arith) in
+    let counted : first + count - first ≡ count = omega arith in
+    let written = c.in_ok-fill.ensures.ok ∙ ap (λ n. splice entries first (first + count) (replicate n Blank)) counted in
     ap (λ table. ram_of table c.self.inside.key) written
     ∙ ram_of_run entries c.self.inside.key first count (omega (arith, length-map entries is_own))
     ∙ ap (λ ram. zeroed ram first count) c.self.view_is
