@@ -21,11 +21,11 @@ use Rattle.guest_mem.proofs.Pages.{same_ram}
 
 -- ---- one entry
 
-fetched_byte : (entry : Entry) (below : List ℕ) (page at : ℕ) → at < PAGE_SIZE
-    → byte_over (fetched_entry entry below page) at (get_or below (PAGE_SIZE * page + at) 0) ≡ byte_over entry at (get_or below (PAGE_SIZE * page + at) 0)
-fetched_byte (Held bytes) below page at inside = refl
-fetched_byte Blank below page at inside = refl
-fetched_byte Absent below page at inside = get_or-take PAGE_SIZE (drop (PAGE_SIZE * page) below) at 0 inside ∙ get_or-drop (PAGE_SIZE * page) below at 0
+fetched_byte : (entry : Entry) (below : List ℕ) (page at other : ℕ) → at < PAGE_SIZE
+    → byte_over (fetched_entry entry below page) at other ≡ byte_over entry at (get_or below (PAGE_SIZE * page + at) 0)
+fetched_byte (Held bytes) below page at other inside = refl
+fetched_byte Blank below page at other inside = refl
+fetched_byte Absent below page at other inside = get_or-take PAGE_SIZE (drop (PAGE_SIZE * page) below) at 0 inside ∙ get_or-drop (PAGE_SIZE * page) below at 0
 
 fetched_own : (entry : Entry) (below : List ℕ) (page : ℕ) → is_own (fetched_entry entry below page) ≡ true
 fetched_own (Held bytes) below page = refl
@@ -74,17 +74,17 @@ module _ (entries : List Entry) (below : List ℕ) where
   length_of_flags : (f : Entry → Bool) → length (map f (fetched_table entries below)) ≡ length entries
   length_of_flags f = length-map (fetched_table entries below) f ∙ length-fetched
 
-  fetched_reads : laid_over (fetched_table entries below) below ≡ laid_over entries below
+  fetched_reads : laid_over (fetched_table entries below) [] ≡ laid_over entries below
   fetched_reads =
-      laid_over_is (fetched_table entries below) below (laid_over entries below)
+      laid_over_is (fetched_table entries below) [] (laid_over entries below)
       (length-laid_over entries below ∙ ap (λ n. PAGE_SIZE * n) (sym length-fetched))
       (λ i inside.
       let within : i < PAGE_SIZE * length entries = subst (λ n. i < PAGE_SIZE * n) length-fetched inside in
       let is_place : PAGE_SIZE * (i / PAGE_SIZE) + i % PAGE_SIZE ≡ i = omega arith in
-      ap (λ e. byte_over e (i % PAGE_SIZE) (get_or below i 0)) (entry_at-fetched (i / PAGE_SIZE) (omega arith))
-      ∙ subst (λ j. byte_over (fetched_entry (entry_at entries (i / PAGE_SIZE)) below (i / PAGE_SIZE)) (i % PAGE_SIZE) (get_or below j 0)
+      ap (λ e. byte_over e (i % PAGE_SIZE) 0) (entry_at-fetched (i / PAGE_SIZE) (omega arith))
+      ∙ subst (λ j. byte_over (fetched_entry (entry_at entries (i / PAGE_SIZE)) below (i / PAGE_SIZE)) (i % PAGE_SIZE) 0
           ≡ byte_over (entry_at entries (i / PAGE_SIZE)) (i % PAGE_SIZE) (get_or below j 0)) is_place
-      (fetched_byte (entry_at entries (i / PAGE_SIZE)) below (i / PAGE_SIZE) (i % PAGE_SIZE) (omega arith))
+      (fetched_byte (entry_at entries (i / PAGE_SIZE)) below (i / PAGE_SIZE) (i % PAGE_SIZE) 0 (omega arith))
       ∙ sym (get_or-laid_over entries below i within))
 
   fetched_here : map is_own (fetched_table entries below) ≡ replicate (length (map is_own entries)) true
@@ -105,10 +105,10 @@ module _ (entries : List Entry) (below : List ℕ) where
       ∙ sym (get_or-map is_blank entries page Absent false there))
 
 -- the absent pages of a guest that has a key
-pub ram_of_fetched : (entries : List Entry) (key : Key) → ram_of (fetched_table entries (image_of key).contents) (Some key) ≡ fetched (ram_of entries (Some key))
+pub ram_of_fetched : (entries : List Entry) (key : Key) → ram_of (fetched_table entries (image_of key).contents) None ≡ fetched (ram_of entries (Some key))
 ram_of_fetched entries key =
     let below = (image_of key).contents in
-    same_ram _ _ _ _ _ _ (Some key) (fetched_reads entries below) (fetched_here entries below) (fetched_blanks entries below)
+    same_ram _ _ _ _ _ _ None (fetched_reads entries below) (fetched_here entries below) (fetched_blanks entries below)
 
 -- a guest without a key has no absent page
 pub here_whole : (entries : List Entry) → IsWhole entries → map is_own entries ≡ replicate (length (map is_own entries)) true
@@ -129,20 +129,21 @@ module _ (entries : List Entry) (key : Option Key) where
       subst (λ o. ram_of entries o ≡ fetched (ram_of entries o)) (sym no_key) (ram_of_whole entries (subst (λ (o : Option Key). IsBased entries o) no_key based))
 
   module _ (k : Key) (image : FrozenImage) (is_key : key ≡ Some k) (is_image : image ≡ image_of k) where
-    pub fetched_over : ram_of (fetched_table entries image.contents) key ≡ fetched (ram_of entries key)
+    pub fetched_over : ram_of (fetched_table entries image.contents) None ≡ fetched (ram_of entries key)
     fetched_over =
-        ap (λ (i : FrozenImage). ram_of (fetched_table entries i.contents) key) is_image
-        ∙ subst (λ o. ram_of (fetched_table entries (image_of k).contents) o ≡ fetched (ram_of entries o)) (sym is_key) (ram_of_fetched entries k)
+        ap (λ (i : FrozenImage). ram_of (fetched_table entries i.contents) None) is_image
+        ∙ subst (λ o. ram_of (fetched_table entries (image_of k).contents) None ≡ fetched (ram_of entries o)) (sym is_key) (ram_of_fetched entries k)
 
-    pub IsTable-fetched : IsTable entries key → IsTable (fetched_table entries image.contents) key
-    IsTable-fetched table =
-        let size = length-fetched entries image.contents in
-        let based = subst (λ (o : Option Key). IsBased entries o) is_key table.based in
-        record {
-          least = omega (arith, table.least);
-          most = omega (arith, table.most);
-          based = subst (λ (o : Option Key). IsBased (fetched_table entries image.contents) o) (sym is_key) (size ∙ based);
-        }
+  pub IsTable-fetched : (below : List ℕ) → IsTable entries key → IsTable (fetched_table entries below) None
+  IsTable-fetched below table =
+      let size = length-fetched entries below in
+      record {
+        least = omega (arith, table.least);
+        most = omega (arith, table.most);
+        based =
+            All-map (λ entry. is_own entry ≡ true) (λ page. fetched_entry (entry_at entries page) below page) (range_with_len 0 (length entries))
+            (λ page default inside. fetched_own (entry_at entries (get_or (range_with_len 0 (length entries)) page default)) below _);
+      }
 
 -- ---- RAM of which every page is here
 

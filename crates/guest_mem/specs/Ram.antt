@@ -71,9 +71,9 @@ arrived ram page = record ram { here = slice_set ram.here page true }
 abbrev pub HasEveryPage : Ram → Type 0
 HasEveryPage ram = All (λ is_here. IsTrue is_here) ram.here
 
--- all absent pages have come. They read as they did
+-- all absent pages have come, and the image is needed no more. They read as they did
 abbrev pub fetched : Ram → Ram
-fetched ram = record ram { here = replicate (length ram.here) true }
+fetched ram = record ram { here = replicate (length ram.here) true; key = None }
 
 -- the reply carries a page of the image that has the absent pages
 abbrev pub IsOfImage : Option Key → Reply → Type 0

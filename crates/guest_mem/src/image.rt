@@ -133,8 +133,8 @@ impl GuestMem {
         Ok(Arrived::Got(page))
     }
 
-    /// Brings all absent pages here, as the image of the key has them. It shares the pages that the image
-    /// holds.
+    /// Brings all absent pages here, as the image of the key has them, and lets the key go. It shares the
+    /// pages that the image holds.
     pub fn fetch_all(&mut self, alloc: Global, depot: &Depot) -> Result<(), AllocError>
         requires { IsRamOf depot.now self.old }
         ensures ok { OnOk result (self.new ≡ fetched self.old) }
@@ -144,7 +144,8 @@ impl GuestMem {
         let Some(key) = &self.key else {
             return Ok(());
         };
-        self.entries = fetched_table(alloc, &self.entries, depot.frozen(key))?;
+        let entries = fetched_table(alloc, &self.entries, depot.frozen(key))?;
+        *self = GuestMem { entries, key: None };
         Ok(())
     }
 }
