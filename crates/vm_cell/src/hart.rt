@@ -63,6 +63,7 @@ pub struct Hart {
 
 impl Model for Hart {
     ghost use Rattle.std.specs.Prelude.{◌≡◌, None};
+    ghost use Rattle.guest_mem.specs.Ram.{HasEveryPage};
     ghost use Rattle.forest_model.specs.State.{State};
     ghost use Rattle.vm_cell.specs.Hart.{IsHart, ports_of};
 
@@ -70,8 +71,8 @@ impl Model for Hart {
 
     ghost view = { λ h. record { registers = h.registers; pc = h.pc; csrs = h.csrs; reservation = h.reservation; ram = h.memory.reads; ports = ports_of h.ports } };
 
-    // Every page is here: a memory that has no image lacks none.
-    ghost invariant = { λ h. IsHart (record { registers = h.registers; pc = h.pc; csrs = h.csrs; reservation = h.reservation; ram = h.memory.reads; ports = ports_of h.ports }) × (h.memory.key ≡ None) };
+    // Every page is here, and needs no image.
+    ghost invariant = { λ h. IsHart (record { registers = h.registers; pc = h.pc; csrs = h.csrs; reservation = h.reservation; ram = h.memory.reads; ports = ports_of h.ports }) × (h.memory.key ≡ None) × HasEveryPage h.memory };
 }
 
 impl Hart {

@@ -93,7 +93,7 @@ impl Hart {
         let disk = image.disk().open()?;
         let input = image.input().share()?;
         let mut memory = GuestMem::clone_of(alloc, key.again()?, descriptor)?;
-        memory.detach(alloc, depot)?;
+        memory.fetch_all(alloc, depot)?;
         Ok(Hart {
             registers: with_zero(&descriptor.registers),
             pc: descriptor.pc,
