@@ -1,7 +1,6 @@
 -- Absent pages that are fetched from an image, and RAM of which every page is here.
 use Rattle.std.proofs.Common.{◌≡◌, ℕ, ◌+◌, ◌*◌, ◌/◌, ◌%◌, ◌<◌, Bool, true, false, List, [], ◌∷◌, ◌++◌, length, map, get_or, take, drop, replicate, Option, None, Some, refl, sym, ap, ◌∙◌, subst, arith}
-use Rattle.std.specs.Prelude.{IsTrue}
-use Rattle.std.specs.List.{All, range_with_len}
+use Rattle.std.specs.List.{range_with_len}
 use Rattle.std.proofs.lemmas.Bool.{both_ways}
 use Rattle.std.proofs.lemmas.List.{length-map, get_or-map, ext_get_or, get_or-take, get_or-drop, get_or-replicate, get_or_read, length-replicate}
 use Rattle.std.proofs.lemmas.List.FromFn.{length-map-range_with_len, get_or-map-range_with_len, map-range_with_len_more}
@@ -83,7 +82,7 @@ module _ (entries : List Entry) (below : List ℕ) where
       let is_place : PAGE_SIZE * (i / PAGE_SIZE) + i % PAGE_SIZE ≡ i = omega arith in
       ap (λ e. byte_over e (i % PAGE_SIZE) (get_or below i 0)) (entry_at-fetched (i / PAGE_SIZE) (omega arith))
       ∙ subst (λ j. byte_over (fetched_entry (entry_at entries (i / PAGE_SIZE)) below (i / PAGE_SIZE)) (i % PAGE_SIZE) (get_or below j 0)
-          ≡ byte_over (entry_at entries (i / PAGE_SIZE)) (i % PAGE_SIZE) (get_or below j 0)) is_place
+      ≡ byte_over (entry_at entries (i / PAGE_SIZE)) (i % PAGE_SIZE) (get_or below j 0)) is_place
       (fetched_byte (entry_at entries (i / PAGE_SIZE)) below (i / PAGE_SIZE) (i % PAGE_SIZE) (omega arith))
       ∙ sym (get_or-laid_over entries below i within))
 
