@@ -1,19 +1,17 @@
 -- The RAM of a booted guest, and of a clone.
-use Rattle.std.proofs.Common.{◌≡◌, ℕ, zero, suc, ◌+◌, ◌*◌, ◌/◌, ◌%◌, ◌<◌, ◌≤◌, ◌⊎◌, inl, inr, Bool, true, false, List, [], ◌∷◌, ◌++◌, length, length-append, map, get_or, take, drop, replicate, Some, None, refl, sym, ap, ◌∙◌, subst, arith}
+use Rattle.std.proofs.Common.{◌≡◌, ℕ, zero, suc, ◌+◌, ◌*◌, ◌/◌, ◌%◌, ◌<◌, ◌≤◌, Bool, true, false, List, [], ◌∷◌, ◌++◌, length, length-append, map, get_or, take, drop, Some, None, refl, sym, ap, ◌∙◌, subst, arith}
 use Rattle.std.specs.Prelude.{not, if◌then◌else◌}
 use Rattle.std.specs.List.{range_with_len}
-use Rattle.std.proofs.Math.ListN.{set, length-set}
 use Rattle.std.proofs.Math.Seq.{take-suc}
-use Rattle.std.proofs.lemmas.Bool.{cases_lt}
 use Rattle.std.specs.Simd.{first_chunks}
-use Rattle.std.proofs.lemmas.List.{length-map, get_or-map, ext_get_or, get_or-take, get_or-drop, drop-drop, get_or-replicate, length-replicate, get_or-set_same, get_or-set_other}
+use Rattle.std.proofs.lemmas.List.{length-map, get_or-map, ext_get_or, get_or-take, get_or-drop, drop-drop}
 use Rattle.std.proofs.lemmas.List.FromFn.{length-map-range_with_len, get_or-map-range_with_len, map-range_with_len_more}
 use Rattle.std.proofs.lemmas.List.Elements.{All-from_get_or}
 use Rattle.std.proofs.lemmas.Option.{slice_get-get_or}
 use Rattle.elf_load.specs.Image.{IsZeroOutside}
 use Rattle.page_frames.specs.declared.page.TheConstants.{PAGE_SIZE}
 use Rattle.page_frames.specs.declared.entry.Entry.{Entry}
-use Rattle.page_frames.specs.declared.entry.Entry.TheVariants.{Held, Blank, Absent}
+use Rattle.page_frames.specs.declared.entry.Entry.TheVariants.{Absent}
 use Rattle.page_frames.specs.Tables.{paged, entry_at, byte_over, laid_over, is_own, is_blank}
 use Rattle.page_frames.proofs.Memory.{length-paged, get_or-paged, paged_is, laid_over_is}
 use Rattle.image_depot.specs.Image.{IsWhole}
@@ -142,40 +140,6 @@ pub record IsMade (blank : List Bool) (table : List Entry) (page : ℕ) : Type 0
   pub size : length table ≡ length blank
   pub made : (k : ℕ) → k < page → entry_at table k ≡ clone_entry (get_or blank k false)
   pub rest : (k : ℕ) → page ≤ k → k < length blank → entry_at table k ≡ Absent
-
-pub made_none : (blank : List Bool) → IsMade blank (replicate (length blank) Absent) 0
-made_none blank = record {
-  size = length-replicate (length blank) Absent;
-  made = λ k before. absurd (omega arith);
-  rest = λ k from there. get_or-replicate (length blank) k Absent Absent there;
-}
-
-module _ (blank : List Bool) (table : List Entry) (page : ℕ) (there : page < length blank) (so_far : IsMade blank table page) where
-  pub made_blank : get_or blank page false ≡ true → IsMade blank (set table page Blank) (page + 1)
-  made_blank set_here = record {
-    size = length-set table page Blank ∙ so_far.size;
-    made = λ k before. elim (cases_lt k page) [
-      | inl earlier ↦ get_or-set_other table page k Blank Absent (λ same. omega arith) ∙ so_far.made k earlier
-      | inr from ↦
-          let here : k ≡ page = omega arith in
-          ap (λ i. entry_at (set table page Blank) i) here ∙ get_or-set_same table page Blank Absent (omega (arith, so_far.size))
-          ∙ ap clone_entry (sym set_here) ∙ ap (λ i. clone_entry (get_or blank i false)) (sym here)
-    ];
-    rest = λ k from inside. get_or-set_other table page k Blank Absent (λ same. omega arith) ∙ so_far.rest k (omega arith) inside;
-  }
-
-  pub made_absent : get_or blank page false ≡ false → IsMade blank table (page + 1)
-  made_absent unset = record {
-    size = so_far.size;
-    made = λ k before. elim (cases_lt k page) [
-      | inl earlier ↦ so_far.made k earlier
-      | inr from ↦
-          let here : k ≡ page = omega arith in
-          ap (λ i. entry_at table i) here ∙ so_far.rest page (omega arith) there
-          ∙ ap clone_entry (sym unset) ∙ ap (λ i. clone_entry (get_or blank i false)) (sym here)
-    ];
-    rest = λ k from inside. so_far.rest k (omega arith) inside;
-  }
 
 pub made_whole : (blank : List Bool) (table : List Entry) (page : ℕ) → length blank ≤ page → IsMade blank table page → table ≡ clone_table blank
 made_whole blank table page all made =

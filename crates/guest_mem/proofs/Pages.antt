@@ -2,11 +2,11 @@
 use Rattle.std.proofs.Common.{◌≡◌, ℕ, zero, suc, ◌+◌, ◌-◌, ◌*◌, ◌/◌, ◌%◌, ◌<◌, ◌≤◌, ◌⊎◌, inl, inr, Bool, true, false, List, [], ◌∷◌, ◌++◌, length, map, get_or, take, drop, replicate, Option, Some, None, refl, sym, ap, ◌∙◌, subst, length-append, arith}
 use Rattle.std.specs.Prelude.{slice_get}
 use Rattle.std.specs.List.{splice}
-use Rattle.std.proofs.Math.ListN.{set, length-set}
+use Rattle.std.proofs.Math.ListN.{set}
 use Rattle.std.proofs.Math.Seq.{map-set_same}
 use Rattle.std.proofs.lemmas.Bool.{cases_lt, both_ways}
 use Rattle.std.proofs.lemmas.List.{length-map, map-set, get_or-map, get_or_past, get_or_default, get_or-take, get_or-drop, get_or_append_left, get_or-append_right, get_or-replicate, length-replicate, length-take-le, length-drop, map-append, take-map, drop-map}
-use Rattle.std.proofs.lemmas.List.Elements.{All-set, All-get_or, All-from_get_or}
+use Rattle.std.proofs.lemmas.List.Elements.{All-get_or, All-from_get_or}
 use Rattle.std.proofs.lemmas.Option.{slice_get_within, slice_get-get_or, get_or_from_slice_get}
 use Rattle.byteorder.specs.Endian.{little_from}
 use Rattle.flat_memory.specs.Flat.{put_bytes, zeros}
@@ -18,8 +18,8 @@ use Rattle.page_frames.specs.declared.entry.Entry.{Entry}
 use Rattle.page_frames.specs.declared.entry.Entry.TheVariants.{Held, Blank, Absent}
 use Rattle.page_frames.specs.Tables.{entry_at, entry_bytes, byte_over, laid_over, is_own, own_pages, is_blank, blank_pages}
 use Rattle.page_frames.proofs.Memory.{length-laid_over, get_or-laid_over, laid_over_is, laid_over-set_same, number_of_own, number_of_other, byte_of_other, write_in_page}
-use Rattle.image_depot.specs.Image.{page_count, IsWhole}
-use Rattle.image_depot.specs.Key.{Key, image_of}
+use Rattle.image_depot.specs.Image.{IsWhole}
+use Rattle.image_depot.specs.Key.{Key}
 use Rattle.guest_mem.specs.Ram.{Ram, IsRam, IsTable, IsBased, HasAbsent, AreZero, memory_below, ram_of, stored, arrived, zeroed, with_set}
 
 pub same_ram : (reads reads' : List ℕ) (here here' blank blank' : List Bool) (key : Option Key) → reads ≡ reads' → here ≡ here' → blank ≡ blank'
@@ -110,18 +110,6 @@ module _ (entries : List Entry) (below : List ℕ) (at width : ℕ) (inside : at
   load_other other =
       sym (number_of_other entries below (at / PAGE_SIZE) (at % PAGE_SIZE) width (page_there entries below at inside) within (ap is_own (sym is_entry) ∙ other))
       ∙ ap (λ i. little_from i width (laid_over entries below)) (omega arith)
-
-based_set : (entries : List Entry) (key : Option Key) (page : ℕ) (entry : Entry) → is_own entry ≡ true → IsBased entries key → IsBased (set entries page entry) key
-based_set entries (Some key) page entry own based = length-set entries page entry ∙ based
-based_set entries None page entry own based = All-set (λ entry. is_own entry ≡ true) entries page entry own based
-
--- an entry with a page of its own, put for another
-pub IsTable-set : (entries : List Entry) (key : Option Key) (page : ℕ) (entry : Entry) → is_own entry ≡ true → IsTable entries key → IsTable (set entries page entry) key
-IsTable-set entries key page entry own table = record {
-  least = omega (arith, table.least, length-set entries page entry);
-  most = omega (arith, table.most, length-set entries page entry);
-  based = based_set entries key page entry own table.based;
-}
 
 -- a store to a page that is here
 pub ram_of_store : (entries : List Entry) (key : Option Key) (at : ℕ) (bytes : List ℕ) → at < length (laid_over entries (memory_below key))

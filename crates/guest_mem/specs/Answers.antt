@@ -1,6 +1,5 @@
 -- What loads, stores and arrivals answer.
-use Rattle.std.specs.Prelude.{◌≡◌, ℕ, ◌/◌}
-use Rattle.page_frames.specs.declared.page.TheConstants.{PAGE_SIZE}
+use Rattle.std.specs.Prelude.{◌≡◌, ℕ}
 use Rattle.image_depot.specs.Reply.{Reply}
 use Rattle.guest_mem.specs.declared.answers.StoreError.{StoreError}
 use Rattle.guest_mem.specs.declared.answers.StoreError.TheVariants.{Absent, Memory}

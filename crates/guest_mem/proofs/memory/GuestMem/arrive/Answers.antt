@@ -1,7 +1,5 @@
-use Rattle.std.proofs.Common.{◌≡◌, ◌<◌, false, Option, get_or, sym, ap, ◌∙◌, subst}
+use Rattle.std.proofs.Common.{◌≡◌, false, Option, get_or, sym, ap, ◌∙◌, subst}
 use Rattle.std.specs.Prelude.{slice_get}
-use Rattle.std.proofs.Math.ListN.{set}
-use Rattle.page_frames.specs.declared.entry.Entry.TheVariants.{Held}
 use Rattle.page_frames.specs.Tables.{own_pages}
 use Rattle.image_depot.specs.Key.{Key, image_of, number_of}
 use Rattle.guest_mem.specs.Ram.{IsOfImage, ram_of, arrived}

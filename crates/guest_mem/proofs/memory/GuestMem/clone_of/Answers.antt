@@ -1,6 +1,5 @@
 use Rattle.std.proofs.Common.{◌≡◌, length, Some, ap, ◌∙◌, arith}
 use Rattle.std.proofs.lemmas.List.{length-map}
-use Rattle.image_depot.specs.Key.{image_of}
 use Rattle.guest_mem.specs.Ram.{ram_of, cloned}
 use Rattle.guest_mem.specs.Table.{clone_entry}
 use Rattle.guest_mem.proofs.Making.{ram_of_clone}

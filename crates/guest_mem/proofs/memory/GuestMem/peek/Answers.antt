@@ -1,14 +1,11 @@
-use Rattle.std.proofs.Common.{◌≡◌, ◌+◌, ◌*◌, ◌%◌, ◌/◌, ◌<◌, ◌≤◌, true, false, Some, None, length, sym, ap, ◌∙◌, subst, arith}
+use Rattle.std.proofs.Common.{◌≡◌, ◌+◌, ◌*◌, ◌%◌, ◌/◌, ◌<◌, true, false, length, sym, ap, ◌∙◌, subst, arith}
 use Rattle.std.proofs.lemmas.Bool.{both_ways}
-use Rattle.std.proofs.lemmas.List.Elements.{All-get_or}
 use Rattle.flat_memory.specs.Flat.{word_at}
 use Rattle.page_frames.specs.declared.page.TheConstants.{PAGE_SIZE}
-use Rattle.page_frames.specs.declared.entry.Entry.{Entry}
-use Rattle.page_frames.specs.declared.entry.Entry.TheVariants.{Absent}
 use Rattle.page_frames.specs.Tables.{is_own}
 use Rattle.image_depot.specs.Image.{page_word}
 use Rattle.guest_mem.specs.Ram.{memory_below}
-use Rattle.guest_mem.proofs.Pages.{page_there, is_entry, load_own, load_other}
+use Rattle.guest_mem.proofs.Pages.{page_there, load_own, load_other}
 use Rattle.guest_mem.proofs.Images.{page_in_image, own_without_key}
 use Rattle.guest_mem.proofs.memory.GuestMem.peek.Goals as goal
 
