@@ -1,6 +1,7 @@
 ghost use Rattle.std.specs.Prelude.{◌≡◌, ◌≤◌, ◌<◌, ◌↔◌, [], length, Some, None, IsErr, IfOk, OnOk, OnErr, IsErrOf, IsSomeAnd};
 ghost use Rattle.console_port.specs.Console.{console_load, console_store, data_load, has_input, is_latched};
 
+use crate::Input;
 use crate::registers::{
     CONSOLE_DATA, CONSOLE_LINE_CONTROL, CONSOLE_LINE_STATUS, CONSOLE_SIZE, DATA_READY,
     DIVISOR_LATCH, TRANSMITTER_IDLE,
@@ -23,7 +24,7 @@ pub struct ConsoleFields {
 /// The console: a list of bytes that come in, with a place in it, and a list of bytes that go out.
 #[derive(Drop)]
 pub struct ConsolePort {
-    input: Vec<u8>,
+    input: Input,
     place: u32,
     output: Vec<u8>,
     line_control: u8,
@@ -34,9 +35,9 @@ impl Model for ConsolePort {
 
     ghost Value = { ConsoleRegisters };
 
-    ghost view = { λ p. record { input = p.input.items; place = p.place; output = p.output.items; line_control = p.line_control } };
+    ghost view = { λ p. record { input = p.input; place = p.place; output = p.output.items; line_control = p.line_control } };
 
-    ghost invariant = { λ p. IsConsole (record { input = p.input.items; place = p.place; output = p.output.items; line_control = p.line_control }) };
+    ghost invariant = { λ p. IsConsole (record { input = p.input; place = p.place; output = p.output.items; line_control = p.line_control }) };
 }
 
 impl ConsolePort {
@@ -49,18 +50,18 @@ impl ConsolePort {
             place: 0,
             line_control: 0,
         };
-        Ok(ConsolePort::of_fields(fields, Vec::from_slice(alloc, input)?))
+        let input = Input::new(alloc, Vec::from_slice(alloc, input)?)?;
+        Ok(ConsolePort::of_fields(alloc, fields, input))
     }
 
     /// A console with these registers and this input, and no output.
-    pub fn of_fields(fields: ConsoleFields, input: Vec<u8>) -> ConsolePort
-        requires input_fits { length input.items ≤ MAX_INPUT }
-        requires place_fits { fields.place ≤ MAX_INPUT }
-        ensures { result ≡ record { input = input.items; place = fields.place; output = []; line_control = fields.line_control } }
+    pub fn of_fields(alloc: Global, fields: ConsoleFields, input: Input) -> ConsolePort
+        requires { fields.place ≤ MAX_INPUT }
+        ensures { result ≡ record { input = input; place = fields.place; output = []; line_control = fields.line_control } }
     {
         ConsolePort {
             place: fields.place,
-            output: Vec::new(*input.allocator()),
+            output: Vec::new(alloc),
             line_control: fields.line_control,
             input,
         }
@@ -82,7 +83,14 @@ impl ConsolePort {
         ensures value { result.now ≡ self.now.input }
         ensures fits { length result.now ≤ MAX_INPUT }
     {
-        &self.input
+        self.input.bytes()
+    }
+
+    /// The same, shared. It costs one handle.
+    pub fn share_input(&self) -> Result<Input, AllocError>
+        ensures { IfOk result (λ input. input ≡ self.now.input) }
+    {
+        self.input.share()
     }
 
     /// What has been put out.
@@ -151,7 +159,8 @@ impl ConsolePort {
         if self.is_latched() || !self.has_input() {
             return 0;
         }
-        let byte = self.input[self.place as usize];
+        let place = self.place as usize;
+        let byte = self.input()[place];
         self.place += 1;
         byte
     }
@@ -159,7 +168,7 @@ impl ConsolePort {
     fn has_input(&self) -> bool
         ensures { result ≡ has_input self.now }
     {
-        (self.place as usize) < self.input.len()
+        (self.place as usize) < self.input().len()
     }
 
     #[tactic(auto, using(std::proofs::lemmas::Nat::Bits::and_pow))]

@@ -32,6 +32,9 @@ each_store P f offset width word first second select command =
     (either Q (eqb offset FORK_JOIN_SELECT) _ None select tt))))
     tt
 
+no_zero : (first count : ℕ) {P : Type 0} → effect.Done ≡ effect.Zero first count → P
+no_zero first count is = cc
+
 no_call : (c : Call) {P : Type 0} → effect.Done ≡ effect.Call c → P
 no_call c is = cc
 
@@ -60,6 +63,14 @@ module _ (f : ForkRegisters) where
   call_answered command c (asked.Exit value) met is = absurd cc
   call_answered command c (asked.Zero first count) met is = absurd cc
 
+  zero_answered : (first count : ℕ) (a : Asked) → effect_of a ≡ effect.Zero first count → answered a f ≡ f
+  zero_answered first count (asked.Refused word) is = no_zero first count is
+  zero_answered first count asked.NewTicket is = no_zero first count is
+  zero_answered first count (asked.Discard number) is = no_zero first count is
+  zero_answered first count (asked.Call c) is = refl
+  zero_answered first count (asked.Exit value) is = refl
+  zero_answered first count (asked.Zero from size) is = refl
+
   pub holding_stored : (offset width word : ℕ) → IsRising f.tickets → IfSome (fork_store f offset width word) (λ s. holding s.fork ≡ holding f)
   holding_stored offset width word rising =
       each_store (λ s. holding s.fork ≡ holding f) f offset width word refl refl refl (holding_answered rising (fork_command f word))
@@ -74,3 +85,8 @@ module _ (f : ForkRegisters) where
   call_stored offset width word c =
       each_store (λ s. s.effect ≡ effect.Call c → (s.fork ≡ f) × IsMakeable f c) f offset width word
       (λ is. no_call c is) (λ is. no_call c is) (λ is. no_call c is) (call_answered word c (fork_command f word) (answerable f word))
+
+  pub zero_stored : (offset width word first count : ℕ) → IfSome (fork_store f offset width word) (λ s. s.effect ≡ effect.Zero first count → s.fork ≡ f)
+  zero_stored offset width word first count =
+      each_store (λ s. s.effect ≡ effect.Zero first count → s.fork ≡ f) f offset width word
+      (λ is. no_zero first count is) (λ is. no_zero first count is) (λ is. no_zero first count is) (zero_answered first count (fork_command f word))

@@ -1,2 +1,4 @@
 pub mod Pages
 pub mod Making
+pub mod Images
+pub mod Fetching

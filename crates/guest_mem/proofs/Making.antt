@@ -1,20 +1,22 @@
 -- The RAM of a booted guest, and of a clone.
-use Rattle.std.proofs.Common.{◌≡◌, ℕ, zero, suc, ◌+◌, ◌*◌, ◌/◌, ◌%◌, ◌<◌, Bool, true, false, List, [], ◌∷◌, ◌++◌, length, length-append, map, get_or, take, drop, Some, refl, sym, ap, ◌∙◌, subst, arith}
+use Rattle.std.proofs.Common.{◌≡◌, ℕ, zero, suc, ◌+◌, ◌*◌, ◌/◌, ◌%◌, ◌<◌, ◌≤◌, Bool, true, false, List, [], ◌∷◌, ◌++◌, length, length-append, map, get_or, take, drop, Some, None, refl, sym, ap, ◌∙◌, subst, arith}
 use Rattle.std.specs.Prelude.{not, if◌then◌else◌}
 use Rattle.std.specs.List.{range_with_len}
+use Rattle.std.proofs.Math.Seq.{take-suc}
 use Rattle.std.specs.Simd.{first_chunks}
-use Rattle.std.proofs.lemmas.List.{length-map, get_or-map, get_or_default, ext_get_or, get_or-take, get_or-drop, map-id, drop-drop}
+use Rattle.std.proofs.lemmas.List.{length-map, get_or-map, ext_get_or, get_or-take, get_or-drop, drop-drop}
 use Rattle.std.proofs.lemmas.List.FromFn.{length-map-range_with_len, get_or-map-range_with_len, map-range_with_len_more}
+use Rattle.std.proofs.lemmas.List.Elements.{All-from_get_or}
 use Rattle.std.proofs.lemmas.Option.{slice_get-get_or}
 use Rattle.elf_load.specs.Image.{IsZeroOutside}
 use Rattle.page_frames.specs.declared.page.TheConstants.{PAGE_SIZE}
 use Rattle.page_frames.specs.declared.entry.Entry.{Entry}
-use Rattle.page_frames.specs.declared.entry.Entry.TheVariants.{Blank}
-use Rattle.page_frames.specs.Tables.{paged, entry_at, entry_bytes, flat_bytes, is_blank}
-use Rattle.flat_memory.proofs.Zeros.{get_or-zeros}
-use Rattle.page_frames.proofs.Memory.{length-paged, get_or-paged, paged_is, flat_bytes_is, byte_of_page}
-use Rattle.image_depot.specs.Image.{own_table}
-use Rattle.guest_mem.specs.Ram.{Ram, IsRam, AreZero, is_here, ram_of, at_boot, cleared, cloned}
+use Rattle.page_frames.specs.declared.entry.Entry.TheVariants.{Absent}
+use Rattle.page_frames.specs.Tables.{paged, entry_at, byte_over, laid_over, is_own, is_blank}
+use Rattle.page_frames.proofs.Memory.{length-paged, get_or-paged, paged_is, laid_over_is}
+use Rattle.image_depot.specs.Image.{IsWhole}
+use Rattle.image_depot.specs.Key.{Key, image_of}
+use Rattle.guest_mem.specs.Ram.{Ram, IsRam, AreZero, ram_of, at_boot, cleared, cloned}
 use Rattle.guest_mem.specs.Table.{boot_entry, page_of, boot_table, clone_entry, clone_table}
 use Rattle.guest_mem.proofs.Pages.{same_ram}
 
@@ -51,84 +53,110 @@ flags_of_table f entry_of g flags same =
     ext_get_or false _ _ (sizes ∙ sym (length-map flags g))
     (λ page below.
     let there : page < length flags = subst (λ n. page < n) sizes below in
-    get_or-map f (map entry_of (range_with_len 0 (length flags))) page Blank false (omega (arith, length-map-range_with_len entry_of 0 (length flags)))
-    ∙ ap f (get_or-map-range_with_len entry_of 0 (length flags) page page Blank there (omega arith))
+    get_or-map f (map entry_of (range_with_len 0 (length flags))) page Absent false (omega (arith, length-map-range_with_len entry_of 0 (length flags)))
+    ∙ ap f (get_or-map-range_with_len entry_of 0 (length flags) page page Absent there (omega arith))
     ∙ same page ∙ sym (get_or-map g flags page false false there))
 
 -- ---- at boot
 
-boot_byte : (ram : List ℕ) (page at : ℕ) (is_held : Bool) → at < PAGE_SIZE → (is_held ≡ false → get_or ram (PAGE_SIZE * page + at) 0 ≡ 0)
-    → get_or (entry_bytes (boot_entry (page_of ram page) is_held)) at 0 ≡ get_or ram (PAGE_SIZE * page + at) 0
-boot_byte ram page at true below zero_outside = get_or-take PAGE_SIZE (drop (PAGE_SIZE * page) ram) at 0 below ∙ get_or-drop (PAGE_SIZE * page) ram at 0
-boot_byte ram page at false below zero_outside = get_or-zeros PAGE_SIZE at ∙ sym (zero_outside refl)
+boot_byte : (ram : List ℕ) (page at below : ℕ) (is_held : Bool) → at < PAGE_SIZE → (is_held ≡ false → get_or ram (PAGE_SIZE * page + at) 0 ≡ 0)
+    → byte_over (boot_entry (page_of ram page) is_held) at below ≡ get_or ram (PAGE_SIZE * page + at) 0
+boot_byte ram page at below true inside zero_outside = get_or-take PAGE_SIZE (drop (PAGE_SIZE * page) ram) at 0 inside ∙ get_or-drop (PAGE_SIZE * page) ram at 0
+boot_byte ram page at below false inside zero_outside = sym (zero_outside refl)
 
-boot_is_here : (bytes : List ℕ) (is_held : Bool) → is_here (boot_entry bytes is_held) ≡ true
-boot_is_here bytes true = refl
-boot_is_here bytes false = refl
+boot_is_own : (bytes : List ℕ) (is_held : Bool) → is_own (boot_entry bytes is_held) ≡ true
+boot_is_own bytes true = refl
+boot_is_own bytes false = refl
 
 boot_is_blank : (bytes : List ℕ) (is_held : Bool) → is_blank (boot_entry bytes is_held) ≡ not is_held
 boot_is_blank bytes true = refl
 boot_is_blank bytes false = refl
 
-boot_bytes : (ram : List ℕ) (segments : List Bool) → PAGE_SIZE * length segments ≡ length ram → IsZeroOutside segments ram → flat_bytes (boot_table ram segments) ≡ ram
+pub length-boot_table : (ram : List ℕ) (segments : List Bool) → length (boot_table ram segments) ≡ length segments
+length-boot_table ram segments = length_of_table (λ (page : ℕ). boot_entry (page_of ram page) (get_or segments page false)) (length segments)
+
+pub IsWhole-boot_table : (ram : List ℕ) (segments : List Bool) → IsWhole (boot_table ram segments)
+IsWhole-boot_table ram segments =
+    All-from_get_or (λ entry. is_own entry ≡ true) (boot_table ram segments) Absent
+    (λ page inside.
+    let there : page < length segments = subst (λ n. page < n) (length-boot_table ram segments) inside in
+    ap is_own (get_or-map-range_with_len (λ (page : ℕ). boot_entry (page_of ram page) (get_or segments page false)) 0 (length segments) page page Absent there (omega arith))
+    ∙ boot_is_own (page_of ram page) (get_or segments page false))
+
+boot_bytes : (ram : List ℕ) (segments : List Bool) → PAGE_SIZE * length segments ≡ length ram → IsZeroOutside segments ram → laid_over (boot_table ram segments) [] ≡ ram
 boot_bytes ram segments sizes zero_outside =
     let entry_of = λ (page : ℕ). boot_entry (page_of ram page) (get_or segments page false) in
-    let size : length (boot_table ram segments) ≡ length segments = length-map-range_with_len entry_of 0 (length segments) in
-    flat_bytes_is (boot_table ram segments) ram (sym sizes ∙ ap (λ n. PAGE_SIZE * n) (sym size))
+    let size : length (boot_table ram segments) ≡ length segments = length-boot_table ram segments in
+    laid_over_is (boot_table ram segments) [] ram (sym sizes ∙ ap (λ n. PAGE_SIZE * n) (sym size))
     (λ i within.
     let there : i / PAGE_SIZE < length segments = omega arith in
-    ap (λ e. get_or (entry_bytes e) (i % PAGE_SIZE) 0) (get_or-map-range_with_len entry_of 0 (length segments) (i / PAGE_SIZE) (i / PAGE_SIZE) Blank there (omega arith))
-    ∙ boot_byte ram (i / PAGE_SIZE) (i % PAGE_SIZE) (get_or segments (i / PAGE_SIZE) false) (omega arith)
+    ap (λ e. byte_over e (i % PAGE_SIZE) (get_or [] i 0)) (get_or-map-range_with_len entry_of 0 (length segments) (i / PAGE_SIZE) (i / PAGE_SIZE) Absent there (omega arith))
+    ∙ boot_byte ram (i / PAGE_SIZE) (i % PAGE_SIZE) (get_or [] i 0) (get_or segments (i / PAGE_SIZE) false) (omega arith)
     (λ unset. ap (λ j. get_or ram j 0) (omega arith) ∙ zero_outside i (slice_get-get_or segments (i / PAGE_SIZE) false there ∙ ap Some unset))
     ∙ ap (λ j. get_or ram j 0) (omega arith))
 
 pub ram_of_boot : (ram : List ℕ) (entry : ℕ) (segments : List Bool) → PAGE_SIZE * length segments ≡ length ram → IsZeroOutside segments ram
-    → ram_of (boot_table ram segments) ≡ at_boot (record { ram = ram; entry = entry; segments = segments })
+    → ram_of (boot_table ram segments) None ≡ at_boot (record { ram = ram; entry = entry; segments = segments })
 ram_of_boot ram entry segments sizes zero_outside =
     let entry_of = λ (page : ℕ). boot_entry (page_of ram page) (get_or segments page false) in
-    same_ram _ _ _ _ _ _ (boot_bytes ram segments sizes zero_outside)
-    (flags_of_table is_here entry_of (λ falls. true) segments (λ page. boot_is_here (page_of ram page) (get_or segments page false)))
+    same_ram _ _ _ _ _ _ None (boot_bytes ram segments sizes zero_outside)
+    (flags_of_table is_own entry_of (λ falls. true) segments (λ page. boot_is_own (page_of ram page) (get_or segments page false)))
     (flags_of_table is_blank entry_of not segments (λ page. boot_is_blank (page_of ram page) (get_or segments page false)))
 
 -- ---- clones
 
-clone_byte : (entry : Entry) (is_blank : Bool) (at : ℕ) → get_or (entry_bytes (clone_entry entry is_blank)) at 0 ≡ (if is_blank then 0 else get_or (entry_bytes entry) at 0)
-clone_byte entry true at = get_or-zeros PAGE_SIZE at
-clone_byte entry false at = refl
+clone_byte : (is_blank : Bool) (at below : ℕ) → byte_over (clone_entry is_blank) at below ≡ (if is_blank then 0 else below)
+clone_byte true at below = refl
+clone_byte false at below = refl
 
-clone_is_here : (entry : Entry) (blank : Bool) → is_here (clone_entry entry blank) ≡ true
-clone_is_here entry true = refl
-clone_is_here entry false = refl
+clone_own : (blank : List Bool) → map is_own (clone_table blank) ≡ blank
+clone_own [] = refl
+clone_own (true ∷ blank) = ap (λ flags. true ∷ flags) (clone_own blank)
+clone_own (false ∷ blank) = ap (λ flags. false ∷ flags) (clone_own blank)
 
-clone_is_blank : (entry : Entry) (blank : Bool) → is_blank (clone_entry entry blank) ≡ blank
-clone_is_blank entry true = refl
-clone_is_blank entry false = refl
+clone_blank : (blank : List Bool) → map is_blank (clone_table blank) ≡ blank
+clone_blank [] = refl
+clone_blank (true ∷ blank) = ap (λ flags. true ∷ flags) (clone_blank blank)
+clone_blank (false ∷ blank) = ap (λ flags. false ∷ flags) (clone_blank blank)
 
-clone_bytes : (entries : List Entry) (blank : List Bool) → length entries ≡ length blank → flat_bytes (clone_table entries blank) ≡ cleared blank (flat_bytes entries)
+clone_bytes : (blank : List Bool) (below : List ℕ) → laid_over (clone_table blank) below ≡ cleared blank below
 unfolding cleared
-clone_bytes entries blank sizes =
-    let entry_of = λ (page : ℕ). clone_entry (entry_at entries page) (get_or blank page false) in
-    let byte = λ (page at : ℕ). if get_or blank page false then 0 else get_or (flat_bytes entries) (PAGE_SIZE * page + at) 0 in
-    let size : length (clone_table entries blank) ≡ length blank = length-map-range_with_len entry_of 0 (length blank) in
-    flat_bytes_is (clone_table entries blank) (paged (length blank) byte) (length-paged (length blank) byte ∙ ap (λ n. PAGE_SIZE * n) (sym size))
+clone_bytes blank below =
+    let byte = λ (page at : ℕ). if get_or blank page false then 0 else get_or below (PAGE_SIZE * page + at) 0 in
+    let size : length (clone_table blank) ≡ length blank = length-map blank clone_entry in
+    laid_over_is (clone_table blank) below (paged (length blank) byte) (length-paged (length blank) byte ∙ ap (λ n. PAGE_SIZE * n) (sym size))
     (λ i within.
     let there : i / PAGE_SIZE < length blank = omega arith in
-    ap (λ e. get_or (entry_bytes e) (i % PAGE_SIZE) 0) (get_or-map-range_with_len entry_of 0 (length blank) (i / PAGE_SIZE) (i / PAGE_SIZE) Blank there (omega arith))
-    ∙ clone_byte (entry_at entries (i / PAGE_SIZE)) (get_or blank (i / PAGE_SIZE) false) (i % PAGE_SIZE)
-    ∙ ap (λ b. if get_or blank (i / PAGE_SIZE) false then 0 else b) (sym (byte_of_page entries (i / PAGE_SIZE) (i % PAGE_SIZE) (omega arith) (omega arith)))
+    ap (λ e. byte_over e (i % PAGE_SIZE) (get_or below i 0)) (get_or-map clone_entry blank (i / PAGE_SIZE) false Absent there)
+    ∙ clone_byte (get_or blank (i / PAGE_SIZE) false) (i % PAGE_SIZE) (get_or below i 0)
+    ∙ ap (λ j. if get_or blank (i / PAGE_SIZE) false then 0 else get_or below j 0) (omega arith)
     ∙ sym (get_or-paged (length blank) byte i (omega arith)))
 
-pub ram_of_clone : (entries : List Entry) (blank : List Bool) → length entries ≡ length blank → ram_of (clone_table entries blank) ≡ cloned (flat_bytes entries) blank
-ram_of_clone entries blank sizes =
-    let entry_of = λ (page : ℕ). clone_entry (entry_at entries page) (get_or blank page false) in
-    same_ram _ _ _ _ _ _ (clone_bytes entries blank sizes)
-    (flags_of_table is_here entry_of (λ _. true) blank (λ page. clone_is_here (entry_at entries page) (get_or blank page false)))
-    (flags_of_table is_blank entry_of (λ flag. flag) blank (λ page. clone_is_blank (entry_at entries page) (get_or blank page false)) ∙ map-id blank)
+pub ram_of_clone : (blank : List Bool) (key : Key) → ram_of (clone_table blank) (Some key) ≡ cloned key blank
+ram_of_clone blank key = same_ram _ _ _ _ _ _ (Some key) (clone_bytes blank (image_of key).contents) (clone_own blank) (clone_blank blank)
 
--- the bytes of an image's own table
-pub bytes_of_own : (tables : List (List Entry)) (entries : List Entry) (contents : List ℕ) → 0 < length tables → entries ≡ get_or tables 0 entries
-    → flat_bytes (own_table tables) ≡ contents → flat_bytes entries ≡ contents
-bytes_of_own tables entries contents own read bytes = ap flat_bytes (read ∙ get_or_default tables 0 entries [] own) ∙ bytes
+-- the table of a clone is made up to a page
+pub record IsMade (blank : List Bool) (table : List Entry) (page : ℕ) : Type 0 where
+  pub size : length table ≡ length blank
+  pub made : (k : ℕ) → k < page → entry_at table k ≡ clone_entry (get_or blank k false)
+  pub rest : (k : ℕ) → page ≤ k → k < length blank → entry_at table k ≡ Absent
+
+pub made_whole : (blank : List Bool) (table : List Entry) (page : ℕ) → length blank ≤ page → IsMade blank table page → table ≡ clone_table blank
+made_whole blank table page all made =
+    ext_get_or Absent table (clone_table blank) (made.size ∙ sym (length-map blank clone_entry))
+    (λ k inside.
+    let there : k < length blank = omega (arith, made.size) in
+    made.made k (omega arith) ∙ sym (get_or-map clone_entry blank k false Absent there))
+
+-- one more flag, of the entry of a page
+pub flags_more : (table : List Entry) (flags : List Bool) (page : ℕ) (flag : Bool) → page < length table → flags ≡ take page (map is_blank table) → flag ≡ is_blank (entry_at table page)
+    → flags ++ flag ∷ [] ≡ take (page + 1) (map is_blank table)
+flags_more table flags page flag there so_far is =
+    let next : suc page ≡ page + 1 = omega arith in
+    ap (λ front. front ++ flag ∷ []) so_far
+    ∙ ap (λ f. take page (map is_blank table) ++ f ∷ []) (is ∙ sym (get_or-map is_blank table page Absent false there))
+    ∙ sym (take-suc (map is_blank table) page false (omega (arith, length-map table is_blank)))
+    ∙ ap (λ n. take n (map is_blank table)) next
 
 kept_byte : (is_blank : Bool) (byte : ℕ) → (is_blank ≡ true → byte ≡ 0) → (if is_blank then 0 else byte) ≡ byte
 kept_byte true byte none = sym (none refl)
@@ -145,3 +173,6 @@ cleared_same blank memory size are_zero =
 
 pub cleared_frozen : (ram : Ram) → IsRam ram → cleared ram.blank ram.reads ≡ ram.reads
 cleared_frozen ram valid = cleared_same ram.blank ram.reads (valid.whole_pages ∙ ap (λ n. PAGE_SIZE * n) (sym valid.flagged)) valid.zero
+
+pub cloned_frozen : (ram : Ram) (key : Key) → IsRam ram → (image_of key).contents ≡ ram.reads → (cloned key ram.blank).reads ≡ ram.reads
+cloned_frozen ram key valid frozen = ap (cleared ram.blank) frozen ∙ cleared_frozen ram valid

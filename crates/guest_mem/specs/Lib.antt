@@ -1,2 +1,3 @@
 pub mod Ram
 pub mod Table
+pub mod Answers

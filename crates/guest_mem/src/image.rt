@@ -1,56 +1,151 @@
-//! Images of RAM, and the RAM of clones.
+//! Images of RAM, the RAM of clones, and pages that come to them.
 
-ghost use Rattle.std.specs.Prelude.{◌≡◌, ◌≤◌, length, IfOk};
+ghost use Rattle.std.specs.Prelude.{◌≡◌, ◌+◌, ◌/◌, ◌<◌, ◌≤◌, length, IfOk, OnOk, OnErr};
 ghost use Rattle.vm_descriptor.specs.Descriptor.{IsRam as HasMap};
 ghost use Rattle.image_depot.specs.Image.{page_count};
 ghost use Rattle.image_depot.specs.Key.{image_of, IsKeyOf};
-ghost use Rattle.guest_mem.specs.Ram.{cloned};
+ghost use Rattle.guest_mem.specs.Ram.{IsRamOf, HasEveryPage, cloned, fetched};
+ghost use Rattle.guest_mem.specs.Answers.{Arrives};
 
+use crate::answers::Arrived;
 use crate::memory::GuestMem;
-use crate::table::clone_table;
-use console_port::MAX_INPUT;
+use crate::table::{clone_table, fetched_table};
+use console_port::Input;
 use cow_disk::FrozenDisk;
-use image_depot::{Depot, Frozen, ImageKey};
-use page_frames::share_entries;
+use image_depot::{Depot, Frozen, ImageKey, Parcel};
+use page_frames::{Entry, Page};
+use shared_leaves::Steps;
 use std::alloc::{AllocError, Global};
+use std::marker::Brand;
+use std::sync::ledger::{Blank, Ledger};
 use vm_descriptor::Descriptor;
 
 impl GuestMem {
-    /// The RAM of a clone, which starts with the image that the depot has of its parent. It costs one
-    /// handle a page.
+    /// The RAM of a clone, which starts with the image of its parent. Its blank pages alone are here.
     pub fn clone_of(
         alloc: Global,
-        key: &ImageKey,
+        key: ImageKey,
         descriptor: &Descriptor,
-        depot: &Depot,
     ) -> Result<GuestMem, AllocError>
-        requires of_depot { IsKeyOf depot.now key.now }
         requires one_bit_a_page { HasMap descriptor.now }
-        requires pages_of_image { descriptor.now.pages ≡ page_count (image_of key.now) }
-        ensures { IfOk result (λ memory. memory ≡ cloned (image_of key.now).contents descriptor.now.blank) }
+        requires pages_of_image { descriptor.now.pages ≡ page_count (image_of key) }
+        ensures { IfOk result (λ memory. memory ≡ cloned key descriptor.now.blank) }
     {
-        let image = depot.frozen(key);
         Ok(GuestMem {
-            entries: clone_table(alloc, image.tables()[0].entries(), descriptor.blank.flags())?,
+            entries: clone_table(alloc, descriptor.blank.flags())?,
+            key: Some(key),
         })
     }
 
-    /// An image of this RAM as it is now, with a disk and an input. It costs one handle a page, and
-    /// copies none.
+    /// An image of this RAM as it is now, with a disk and an input. It copies no page and no byte of
+    /// the input.
     pub fn freeze(
         &self,
         alloc: Global,
+        depot: &Depot,
         disk: FrozenDisk,
-        input: &[u8],
+        input: Input,
     ) -> Result<Frozen, AllocError>
-        requires { length input.now ≤ MAX_INPUT }
+        requires { IsRamOf depot.now self.now }
         ensures { IfOk result (λ image. image ≡ record {
           contents = self.now.reads;
           disk = disk;
-          input = input.now;
+          input = input;
         }) }
     {
-        let entries = share_entries(alloc, &self.entries)?;
-        Frozen::new(alloc, entries, disk, Vec::from_slice(alloc, input)?)
+        self.freeze_of_ledger::<Brand>(alloc, depot, disk, input, Blank::new(1))
+    }
+
+    /// The same with a counter of its own.
+    fn freeze_of_ledger<L: Ledger>(
+        &self,
+        alloc: Global,
+        depot: &Depot,
+        disk: FrozenDisk,
+        input: Input,
+        blank: Blank,
+    ) -> Result<Frozen, AllocError>
+        requires name { blank.name ≡ L.name }
+        requires parts { blank.parts ≡ L.parts }
+        requires some { 0 < blank.parts }
+        requires ram { IsRamOf depot.now self.now }
+        ensures { IfOk result (λ image. image ≡ record {
+          contents = self.now.reads;
+          disk = disk;
+          input = input;
+        }) }
+    {
+        self.freeze_counted(alloc, depot, disk, input, &mut Steps::<L>::new(blank))
+    }
+
+    /// The same, which counts its steps. A step is a handle on a leaf of this RAM's page table. The handles
+    /// on the tables of the image of the key are not counted.
+    pub fn freeze_counted<L: Ledger>(
+        &self,
+        alloc: Global,
+        depot: &Depot,
+        disk: FrozenDisk,
+        input: Input,
+        steps: &mut Steps<L>,
+    ) -> Result<Frozen, AllocError>
+        requires { IsRamOf depot.now self.now }
+        ensures value { IfOk result (λ image. image ≡ record {
+          contents = self.now.reads;
+          disk = disk;
+          input = input;
+        }) }
+        ensures cost { OnOk result (steps.new ≡ steps.old + (length self.now.here + 63) / 64) }
+        ensures most { steps.new ≤ steps.old + (length self.now.here + 63) / 64 }
+    {
+        let entries = self.entries.share_counted(steps)?;
+        match &self.key {
+            Some(key) => Frozen::over(alloc, depot.frozen(key), entries, disk, input),
+            None => Frozen::new(alloc, entries, disk, input),
+        }
+    }
+
+    /// Takes a page that was sent, where it is absent and one of the image that this RAM started with.
+    pub fn arrive(
+        &mut self,
+        alloc: Global,
+        depot: &Depot,
+        parcel: &Parcel,
+    ) -> Result<Arrived, AllocError>
+        requires ram { IsRamOf depot.now self.old }
+        requires parcel { IsKeyOf depot.now parcel.now.key }
+        ensures ok { IfOk result (Arrives self.old parcel.now self.new) }
+        ensures err { OnErr result (self.new ≡ self.old) }
+    {
+        let page = parcel.page();
+        let Some(key) = &self.key else {
+            return Ok(Arrived::Had(page));
+        };
+        if key.number() != parcel.key().number() {
+            return Ok(Arrived::Had(page));
+        }
+        depot.agree(key, parcel.key());
+        let content = parcel.content();
+        if self.is_here(page) {
+            return Ok(Arrived::Had(page));
+        }
+        let held = Entry::Held(Page::from_slice(alloc, content)?);
+        self.entries.set(page as usize, held)?;
+        Ok(Arrived::Got(page))
+    }
+
+    /// Brings all absent pages here, as the image of the key has them, and lets the key go. It shares the
+    /// pages that the image holds.
+    pub fn fetch_all(&mut self, alloc: Global, depot: &Depot) -> Result<(), AllocError>
+        requires { IsRamOf depot.now self.old }
+        ensures ok { OnOk result (self.new ≡ fetched self.old) }
+        ensures every_page { OnOk result (HasEveryPage self.new) }
+        ensures err { OnErr result (self.new ≡ self.old) }
+    {
+        let Some(key) = &self.key else {
+            return Ok(());
+        };
+        let entries = fetched_table(alloc, &self.entries, depot.frozen(key))?;
+        *self = GuestMem { entries, key: None };
+        Ok(())
     }
 }

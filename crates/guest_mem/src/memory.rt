@@ -1,19 +1,25 @@
-ghost use Rattle.std.specs.Prelude.{◌≡◌, ◌⊎◌, ◌+◌, ◌*◌, ◌%◌, ◌<◌, ◌≤◌, false, length, slice_index_or, OnOk, OnErr, IfOk};
+ghost use Rattle.std.specs.Prelude.{◌≡◌, ◌⊎◌, ◌+◌, ◌*◌, ◌/◌, ◌%◌, ◌<◌, ◌≤◌, false, length, slice_index_or, MatchResult, OnOk, OnErr, IfOk, IfErr};
+ghost use Rattle.std.specs.Option.{option_copied};
 ghost use Rattle.byteorder.specs.Endian.{little_from, little_bytes};
 ghost use Rattle.flat_memory.specs.Flat.{word_at, put_bytes};
-ghost use Rattle.guest_mem.specs.Ram.{IsRam, at_boot, stored, zeroed};
+ghost use Rattle.guest_mem.specs.Ram.{IsAbsent, IsHere, IsRam, IsRamOf, at_boot, stored, zeroed};
+ghost use Rattle.guest_mem.specs.Answers.{IsRefused};
 
-use crate::table::{blank_flags, boot_table, make_blank};
+use crate::answers::{Absent, StoreError};
+use crate::table::{blank_flags, boot_table, write_page};
 use elf_load::{Loaded, MAX_PAGES, MIN_PAGES};
-use page_frames::{Entry, PAGE_SIZE, Page};
+use image_depot::{Depot, ImageKey};
+use page_frames::{Entry, PAGE_SIZE, Page, PageTable};
 use std::alloc::{AllocError, Global};
 use std::marker::Model;
 use vm_descriptor::PageMap;
 
-/// The RAM of a guest. Its pages are shared with images and other guests until they are written.
+/// The RAM of a guest. Its pages are shared with images and other guests until they are written, and
+/// those that are absent are in the image of its key.
 #[derive(Drop)]
 pub struct GuestMem {
-    pub(crate) entries: Vec<Entry>,
+    pub(crate) entries: PageTable,
+    pub(crate) key: Option<ImageKey>,
 }
 
 impl Model for GuestMem {
@@ -21,9 +27,9 @@ impl Model for GuestMem {
 
     ghost Value = { Ram };
 
-    ghost view = { λ m. ram_of m.entries.items };
+    ghost view = { λ m. ram_of m.entries m.key };
 
-    ghost invariant = { λ m. IsTable m.entries.items };
+    ghost invariant = { λ m. IsTable m.entries m.key };
 }
 
 impl GuestMem {
@@ -33,6 +39,7 @@ impl GuestMem {
     {
         Ok(GuestMem {
             entries: boot_table(alloc, image.ram(), image.segments())?,
+            key: None,
         })
     }
 
@@ -56,30 +63,42 @@ impl GuestMem {
         self.entries.len() as u32
     }
 
+    /// The key to the image that has the absent pages. A guest that was booted has none.
+    #[inline]
+    pub fn key(&self) -> Option<&ImageKey>
+        ensures { option_copied result ≡ self.now.key }
+    {
+        self.key.as_ref()
+    }
+
     /// The number in the `width` bytes from an offset in RAM on, the lowest first. The width is 1, 2
     /// or 4, and the offset a multiple of it.
     #[inline(always)]
-    pub fn load(&self, at: u32, width: u32) -> u32
+    pub fn load(&self, at: u32, width: u32) -> Result<u32, Absent>
         requires width { (width ≡ 1) ⊎ ((width ≡ 2) ⊎ (width ≡ 4)) }
         requires aligned { at % width ≡ 0 }
         requires inside { at < length self.now.reads }
-        ensures { result ≡ little_from at width self.now.reads }
+        ensures { MatchResult result
+            (λ number. (number ≡ little_from at width self.now.reads) × IsHere self.now (at / PAGE_SIZE))
+            (λ absent. (absent.page ≡ at / PAGE_SIZE) × IsAbsent self.now (at / PAGE_SIZE)) }
     {
-        match &self.entries[at as usize / PAGE_SIZE] {
-            Entry::Held(page) => number_in(page, at % PAGE_SIZE as u32, width),
-            Entry::Blank => 0,
+        let page = at / PAGE_SIZE as u32;
+        match self.entries.get(page as usize) {
+            Entry::Held(held) => Ok(number_in(held, at % PAGE_SIZE as u32, width)),
+            Entry::Blank => Ok(0),
+            Entry::Absent => Err(Absent { page }),
         }
     }
 
     /// Stores the low `width` bytes of a word from an offset in RAM on. The width is 1, 2 or 4, and
     /// the offset a multiple of it.
     #[inline(always)]
-    pub fn store(&mut self, at: u32, width: u32, word: u32) -> Result<(), AllocError>
+    pub fn store(&mut self, at: u32, width: u32, word: u32) -> Result<(), StoreError>
         requires width { (width ≡ 1) ⊎ ((width ≡ 2) ⊎ (width ≡ 4)) }
         requires aligned { at % width ≡ 0 }
         requires inside { at < length self.old.reads }
-        ensures ok { OnOk result (self.new ≡ stored self.old at (little_bytes width word)) }
-        ensures err { OnErr result (self.new ≡ self.old) }
+        ensures ok { OnOk result ((self.new ≡ stored self.old at (little_bytes width word)) × IsHere self.old (at / PAGE_SIZE)) }
+        ensures err { IfErr result (λ error. (self.new ≡ self.old) × IsRefused self.old (at / PAGE_SIZE) error) }
     {
         let [a, b, c, d] = word.to_le_bytes();
         match width {
@@ -91,35 +110,52 @@ impl GuestMem {
 
     /// Writes bytes that lie in one page.
     #[inline(always)]
-    fn write(&mut self, at: u32, bytes: &[u8]) -> Result<(), AllocError>
+    fn write(&mut self, at: u32, bytes: &[u8]) -> Result<(), StoreError>
         requires in_page { at % PAGE_SIZE + length bytes.now ≤ PAGE_SIZE }
         requires inside { at < length self.old.reads }
-        ensures ok { OnOk result (self.new ≡ stored self.old at bytes.now) }
-        ensures err { OnErr result (self.new ≡ self.old) }
+        ensures ok { OnOk result ((self.new ≡ stored self.old at bytes.now) × IsHere self.old (at / PAGE_SIZE)) }
+        ensures err { IfErr result (λ error. (self.new ≡ self.old) × IsRefused self.old (at / PAGE_SIZE) error) }
     {
-        let alloc = *self.entries.allocator();
-        let entry = &mut self.entries[at as usize / PAGE_SIZE];
-        entry.write(alloc, at % PAGE_SIZE as u32, bytes)?;
+        let page = at / PAGE_SIZE as u32;
+        if !self.entries.get(page as usize).is_own() {
+            return Err(StoreError::Absent(Absent { page }));
+        }
+        let place = at % PAGE_SIZE as u32;
+        let Ok(()) = write_page(&mut self.entries, page as usize, place, bytes) else {
+            return Err(StoreError::Memory);
+        };
         Ok(())
     }
 
-    /// Makes `count` pages blank, from page `first` on.
-    pub fn zero_pages(&mut self, first: u32, count: u32)
+    /// Makes `count` pages blank, from page `first` on. It costs one handle a leaf.
+    pub fn zero_pages(&mut self, first: u32, count: u32) -> Result<(), AllocError>
         requires { first + count ≤ length self.old.here }
-        ensures { self.new ≡ zeroed self.old first count }
+        ensures ok { OnOk result (self.new ≡ zeroed self.old first count) }
+        ensures err { OnErr result (self.new ≡ self.old) }
     {
         let first = first as usize;
-        make_blank(&mut self.entries[first..first + count as usize]);
+        let end = first + count as usize;
+        self.entries.fill(first, end, &Entry::Blank)?;
+        Ok(())
     }
 
-    /// The word at an offset in RAM, which is a multiple of 4.
+    /// The word at an offset in RAM, which is a multiple of 4. A page that is absent is read in the
+    /// image of the key.
     #[inline]
-    pub fn peek(&self, at: u32) -> u32
+    pub fn peek(&self, depot: &Depot, at: u32) -> u32
+        requires of_depot { IsRamOf depot.now self.now }
         requires aligned { at % 4 ≡ 0 }
         requires inside { at < length self.now.reads }
         ensures { result ≡ word_at self.now.reads at }
     {
-        self.load(at, 4)
+        let page = at / PAGE_SIZE as u32;
+        let place = at % PAGE_SIZE as u32;
+        let entry = self.entries.get(page as usize);
+        if entry.is_own() {
+            return entry.word(place);
+        }
+        let Some(key) = &self.key else { unreachable!() };
+        depot.frozen(key).word(page, place)
     }
 
     /// Whether a page is here.
@@ -128,7 +164,7 @@ impl GuestMem {
         requires { page < length self.now.here }
         ensures { result ≡ slice_index_or self.now.here page false }
     {
-        matches!(self.entries[page as usize], Entry::Held(_) | Entry::Blank)
+        self.entries.get(page as usize).is_own()
     }
 
     /// For each page, whether it is blank.

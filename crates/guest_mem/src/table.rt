@@ -1,14 +1,25 @@
-//! Page tables of images and clones, and runs of blank pages.
+//! Page tables that are made anew, and writes to their pages.
 
-ghost use Rattle.std.specs.Prelude.{◌≡◌, ◌*◌, length, replicate, IfOk};
-ghost use Rattle.page_frames.specs.Tables.{is_blank, blank_pages};
-ghost use Rattle.guest_mem.specs.Table.{boot_entry, boot_table, clone_entry, clone_table};
+ghost use Rattle.std.specs.Prelude.{◌≡◌, ◌+◌, ◌*◌, ◌<◌, ◌≤◌, length, slice_set, IsTrue, IfOk, OnOk, OnErr};
+ghost use Rattle.flat_memory.specs.Flat.{put_bytes};
+ghost use Rattle.page_frames.specs.Tables.{blank_pages, entry_at, entry_bytes, is_own};
+ghost use Rattle.image_depot.specs.Image.{page_count};
+ghost use Rattle.guest_mem.specs.Table.{boot_entry, boot_table, clone_table, fetched_entry, fetched_table};
 
-use page_frames::{Entry, PAGE_SIZE, Page};
+use image_depot::Frozen;
+use page_frames::{Entry, PAGE_SIZE, Page, PageTable};
+use shared_leaves::SharedList;
 use std::alloc::{AllocError, Global};
 
 /// The table of RAM with these bytes, of which those pages are held that are flagged.
-pub fn boot_table(alloc: Global, ram: &[u8], segments: &[bool]) -> Result<Vec<Entry>, AllocError>
+pub fn boot_table(alloc: Global, ram: &[u8], segments: &[bool]) -> Result<PageTable, AllocError>
+    requires { length ram.now ≡ PAGE_SIZE * length segments.now }
+    ensures { IfOk result (λ table. table ≡ boot_table ram.now segments.now) }
+{
+    SharedList::from_vec(alloc, boot_entries(alloc, ram, segments)?)
+}
+
+fn boot_entries(alloc: Global, ram: &[u8], segments: &[bool]) -> Result<Vec<Entry>, AllocError>
     requires { length ram.now ≡ PAGE_SIZE * length segments.now }
     ensures { IfOk result (λ table. table.items ≡ boot_table ram.now segments.now) }
 {
@@ -30,52 +41,91 @@ fn boot_entry(alloc: Global, bytes: &[u8; PAGE_SIZE], is_held: bool) -> Result<E
     }
 }
 
-/// The table of a clone with these pages, but for the flagged ones, which are blank.
-pub fn clone_table(
-    alloc: Global,
-    entries: &[Entry],
-    blank: &[bool],
-) -> Result<Vec<Entry>, AllocError>
-    requires { length entries.now ≡ length blank.now }
-    ensures { IfOk result (λ table. table.items ≡ clone_table entries.now blank.now) }
+/// The table of a clone, whose pages are absent but for the flagged ones, which are blank. It costs one
+/// handle a leaf, the entries of one leaf for each in which a page is blank, and one entry a blank page.
+pub fn clone_table(alloc: Global, blank: &[bool]) -> Result<PageTable, AllocError>
+    ensures { IfOk result (λ table. table ≡ clone_table blank.now) }
 {
-    let mut table = Vec::with_capacity(alloc, entries.len())?;
-    for (entry, is_blank) in entries.iter().zip(blank) {
-        table.push(clone_entry(alloc, entry, *is_blank)?)?;
+    let mut table = SharedList::repeated(alloc, &Entry::Absent, blank.len())?;
+    for (page, is_blank) in blank.iter().enumerate() {
+        if *is_blank {
+            table.set(page, Entry::Blank)?;
+        }
     }
     Ok(table)
 }
 
-fn clone_entry(alloc: Global, entry: &Entry, is_blank: bool) -> Result<Entry, AllocError>
-    ensures { IfOk result (λ copy. copy ≡ clone_entry entry.now is_blank) }
+/// The table with each absent page held, as an image has it. It shares the pages that the image holds.
+pub fn fetched_table(
+    alloc: Global,
+    table: &PageTable,
+    image: &Frozen,
+) -> Result<PageTable, AllocError>
+    requires { length table.now ≡ page_count image.now }
+    ensures { IfOk result (λ fetched. fetched ≡ fetched_table table.now image.now.contents) }
 {
-    if is_blank {
-        return Ok(Entry::Blank);
-    }
-    match entry {
-        Entry::Held(page) => Ok(Entry::Held(page.share()?)),
-        Entry::Blank => Ok(Entry::Held(Page::zeroed(alloc)?)),
-    }
+    SharedList::from_vec(alloc, fetched_entries(alloc, table, image)?)
 }
 
-/// Makes all entries blank.
-pub fn make_blank(entries: &mut [Entry])
-    ensures { entries.new ≡ replicate (length entries.old) Entry.Blank }
+fn fetched_entries(
+    alloc: Global,
+    table: &PageTable,
+    image: &Frozen,
+) -> Result<Vec<Entry>, AllocError>
+    requires { length table.now ≡ page_count image.now }
+    ensures { IfOk result (λ fetched. fetched.items ≡ fetched_table table.now image.now.contents) }
 {
-    for entry in entries {
-        *entry = Entry::Blank;
+    let mut fetched = Vec::with_capacity(alloc, table.len())?;
+    for page in 0..image.pages() {
+        fetched.push(fetched_entry(alloc, table.get(page as usize), image, page)?)?;
     }
+    Ok(fetched)
+}
+
+fn fetched_entry(
+    alloc: Global,
+    entry: &Entry,
+    image: &Frozen,
+    page: u32,
+) -> Result<Entry, AllocError>
+    requires { page < page_count image.now }
+    ensures { IfOk result (λ fetched. fetched ≡ fetched_entry entry.now image.now.contents page) }
+{
+    if entry.is_own() {
+        return entry.clone();
+    }
+    Ok(Entry::Held(image.shared_page(alloc, page)?))
 }
 
 /// For each entry, whether it is blank.
-pub fn blank_flags(alloc: Global, entries: &[Entry]) -> Result<Vec<bool>, AllocError>
-    ensures { IfOk result (λ flags. flags.items ≡ blank_pages entries.now) }
+pub fn blank_flags(alloc: Global, table: &PageTable) -> Result<Vec<bool>, AllocError>
+    ensures { IfOk result (λ flags. flags.items ≡ blank_pages table.now) }
 {
-    entries.iter().map(|entry| is_blank(entry)).collect(alloc)
+    let mut flags = Vec::with_capacity(alloc, table.len())?;
+    for page in 0..table.len() {
+        flags.push(table.get(page).is_blank())?;
+    }
+    Ok(flags)
 }
 
-fn is_blank(entry: &Entry) -> bool
-    ensures { result ≡ is_blank entry.now }
+/// Writes bytes over those from a place of a table's own page on. Its leaf is copied first where another
+/// table shares it, and the page where another entry does.
+#[inline(always)]
+pub fn write_page(
+    table: &mut PageTable,
+    page: usize,
+    at: u32,
+    bytes: &[u8],
+) -> Result<(), AllocError>
+    requires there { page < length table.old }
+    requires own { IsTrue (is_own (entry_at table.old page)) }
+    requires within { at + length bytes.now ≤ PAGE_SIZE }
+    ensures ok { OnOk result (table.new ≡ slice_set table.old page (Entry.Held (put_bytes (entry_bytes (entry_at table.old page)) at bytes.now))) }
+    ensures whole { OnOk result (length (entry_bytes (entry_at table.old page)) ≡ PAGE_SIZE) }
+    ensures err { OnErr result (table.new ≡ table.old) }
 {
-    matches!(entry, Entry::Blank)
+    let alloc = table.allocator();
+    let entry = table.entry_mut(page)?;
+    entry.write(alloc, at, bytes)?;
+    Ok(())
 }

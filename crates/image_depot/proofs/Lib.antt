@@ -1,1 +1,1 @@
-mod Contents
+mod Stacks

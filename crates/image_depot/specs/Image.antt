@@ -1,10 +1,10 @@
 -- A frozen image: the memory, the disk and the input of a machine at one moment.
-use Rattle.std.specs.Prelude.{ℕ, ◌*◌, ◌+◌, ◌/◌, ◌<◌, ◌≤◌, List, [], length, slice_index_or}
+use Rattle.std.specs.Prelude.{◌≡◌, ℕ, ◌*◌, ◌+◌, ◌/◌, ◌≤◌, List, [], ◌∷◌, length, slice_index_or, IsTrue}
+use Rattle.std.specs.List.{All}
 use Rattle.flat_memory.specs.Flat.{word_at}
 use Rattle.page_frames.specs.declared.page.TheConstants.{PAGE_SIZE}
 use Rattle.page_frames.specs.declared.entry.Entry.{Entry}
-use Rattle.page_frames.specs.Tables.{flat_bytes}
-use Rattle.console_port.specs.declared.port.TheConstants.{MAX_INPUT}
+use Rattle.page_frames.specs.Tables.{is_own, stacked}
 use Rattle.elf_load.specs.declared.image.TheConstants.{MAX_PAGES}
 
 pub record FrozenImage : Type 0 where
@@ -27,16 +27,29 @@ page_word image page at = word_at image.contents (PAGE_SIZE * page + at)
 abbrev pub own_table : List (List Entry) → List Entry
 own_table tables = slice_index_or tables 0 []
 
+-- the table has an entry of its own for every page
+abbrev pub IsWhole : List Entry → Type 0
+IsWhole table = All (λ entry. IsTrue (is_own entry)) table
+
+-- a table lies over others of its length, of which the last is whole
+abbrev pub IsOver : List Entry → List (List Entry) → Type 0
+IsOver table [] = IsWhole table
+IsOver table (next ∷ tables) = (length next ≡ length table) × IsOver next tables
+
+-- tables that lie one over the other, so that each page is in one of them
+abbrev pub IsStack : List (List Entry) → Type 0
+IsStack [] = ⊥
+IsStack (table ∷ tables) = IsOver table tables
+
 -- the image that is kept by tables, with a disk and an input
 abbrev pub image_of_tables : List (List Entry) → List ℕ → List ℕ → FrozenImage
 image_of_tables tables disk input = record {
-  contents = flat_bytes (own_table tables);
+  contents = stacked tables;
   disk = disk;
   input = input;
 }
 
--- what holds of every frozen image
-pub record IsFrozen (tables : List (List Entry)) (input : List ℕ) : Type 0 where
-  pub own : 0 < length tables
+-- what holds of the tables of every frozen image
+pub record IsFrozen (tables : List (List Entry)) : Type 0 where
+  pub stack : IsStack tables
   pub pages_fit : length (own_table tables) ≤ MAX_PAGES
-  pub input_fits : length input ≤ MAX_INPUT

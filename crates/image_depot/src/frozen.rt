@@ -1,13 +1,14 @@
-ghost use Rattle.std.specs.Prelude.{◌≡◌, ◌+◌, ◌*◌, ◌%◌, ◌<◌, ◌≤◌, [], ◌∷◌, length, IfOk};
-ghost use Rattle.image_depot.specs.Image.{image_of_tables, own_table, page_count, page_word};
+ghost use Rattle.std.specs.Prelude.{◌≡◌, ℕ, ◌+◌, ◌*◌, ◌%◌, ◌<◌, ◌≤◌, [], ◌∷◌, length, slice_index, IsTrue, IfOk};
+ghost use Rattle.image_depot.specs.Image.{image_of_tables, own_table, page_count, page_word, IsStack, IsWhole};
 ghost use Rattle.image_depot.specs.Reply.{page_bytes};
-ghost use Rattle.page_frames.specs.Tables.{flat_bytes};
+ghost use Rattle.page_frames.specs.Tables.{entry_bytes, is_own, laid_over, stacked};
 
+use crate::stack::{first_own, stack_on};
 use crate::table::Table;
-use console_port::MAX_INPUT;
+use console_port::{Input, MAX_INPUT};
 use cow_disk::FrozenDisk;
 use elf_load::MAX_PAGES;
-use page_frames::{Entry, PAGE_SIZE};
+use page_frames::{Entry, PAGE_SIZE, Page, PageTable};
 use std::alloc::{AllocError, Global};
 use std::marker::Model;
 
@@ -15,10 +16,10 @@ use std::marker::Model;
 /// stays as it is.
 #[derive(Drop)]
 pub struct Frozen {
-    // Its own table is the first.
+    // Its own table is the first, and behind it are those of the image that it is over.
     tables: Vec<Table>,
     disk: FrozenDisk,
-    input: Vec<u8>,
+    input: Input,
 }
 
 impl Model for Frozen {
@@ -26,22 +27,22 @@ impl Model for Frozen {
 
     ghost Value = { FrozenImage };
 
-    ghost view = { λ f. image_of_tables f.tables.items f.disk f.input.items };
+    ghost view = { λ f. image_of_tables f.tables.items f.disk f.input };
 
-    ghost invariant = { λ f. IsFrozen f.tables.items f.input.items };
+    ghost invariant = { λ f. IsFrozen f.tables.items };
 }
 
 impl Frozen {
     /// The image with these entries of pages, this disk and this input.
     pub fn new(
         alloc: Global,
-        entries: Vec<Entry>,
+        entries: PageTable,
         disk: FrozenDisk,
-        input: Vec<u8>,
+        input: Input,
     ) -> Result<Frozen, AllocError>
-        requires pages_fit { length entries.items ≤ MAX_PAGES }
-        requires input_fits { length input.items ≤ MAX_INPUT }
-        ensures { IfOk result (λ frozen. frozen ≡ image_of_tables (entries.items ∷ []) disk input.items) }
+        requires whole { IsWhole entries }
+        requires pages_fit { length entries ≤ MAX_PAGES }
+        ensures { IfOk result (λ frozen. frozen ≡ image_of_tables (entries ∷ []) disk input) }
     {
         let table = Table::new(alloc, entries)?;
         Ok(Frozen {
@@ -51,21 +52,49 @@ impl Frozen {
         })
     }
 
-    /// The page tables that keep the contents of the pages, of which the first decides.
+    /// The same over another image, which has the pages that have no entry of their own. It costs one
+    /// handle for each table of that image.
+    pub fn over(
+        alloc: Global,
+        base: &Frozen,
+        entries: PageTable,
+        disk: FrozenDisk,
+        input: Input,
+    ) -> Result<Frozen, AllocError>
+        requires { length entries ≡ page_count base.now }
+        ensures { IfOk result (λ frozen. frozen ≡ record {
+          contents = laid_over entries base.now.contents;
+          disk = disk;
+          input = input;
+        }) }
+    {
+        let table = Table::new(alloc, entries)?;
+        Ok(Frozen {
+            tables: stack_on(alloc, table, &base.tables)?,
+            disk,
+            input,
+        })
+    }
+
+    /// The page tables that keep the contents of the pages: for each page the first that has an entry
+    /// of its own decides, and the last has one for every page.
     #[inline]
     pub fn tables(&self) -> &[Table]
         ensures own { 0 < length result.now }
-        ensures contents { flat_bytes (own_table result.now) ≡ self.now.contents }
+        ensures stack { IsStack result.now }
+        ensures contents { stacked result.now ≡ self.now.contents }
     {
         &self.tables
     }
 
     /// All bytes that come in.
     #[inline]
-    pub fn input(&self) -> &[u8]
+    pub fn input(&self) -> &Input
         ensures value { result.now ≡ self.now.input }
         ensures fits { length result.now ≤ MAX_INPUT }
     {
+        // The call tells that they fit.
+        let _ = self.input.bytes();
         &self.input
     }
 
@@ -83,7 +112,7 @@ impl Frozen {
         ensures whole { PAGE_SIZE * result ≡ length self.now.contents }
         ensures most { result ≤ MAX_PAGES }
     {
-        self.entries().len() as u32
+        self.tables[0].entries().len() as u32
     }
 
     /// The word at a place of a page, which is a multiple of 4.
@@ -94,7 +123,7 @@ impl Frozen {
         requires aligned { at % 4 ≡ 0 }
         ensures { result ≡ page_word self.now page at }
     {
-        self.entries()[page as usize].word(at)
+        self.entry(page).word(at)
     }
 
     /// The bytes of a page.
@@ -104,15 +133,39 @@ impl Frozen {
         ensures value { result.now ≡ page_bytes self.now page }
         ensures whole { length (page_bytes self.now page) ≡ PAGE_SIZE }
     {
-        self.entries()[page as usize].bytes()
+        self.entry(page).bytes()
     }
 
-    /// The entries of its own table.
-    #[inline]
-    fn entries(&self) -> &[Entry]
-        ensures contents { flat_bytes result.now ≡ self.now.contents }
-        ensures fits { length result.now ≤ MAX_PAGES }
+    /// A page as a page of its own, which the image shares where it holds it.
+    pub fn shared_page(&self, alloc: Global, page: u32) -> Result<Page, AllocError>
+        requires { page < page_count self.now }
+        ensures { IfOk result (λ shared. shared ≡ page_bytes self.now page) }
     {
-        self.tables[0].entries()
+        page_of(alloc, self.entry(page))
+    }
+
+    /// The entry of a page in the first table that has one of its own.
+    #[inline]
+    fn entry(&self, page: u32) -> &Entry
+        requires { page < page_count self.now }
+        ensures own { IsTrue (is_own result.now) }
+        ensures there { PAGE_SIZE * page + PAGE_SIZE ≤ length self.now.contents }
+        ensures bytes { (at : ℕ) → at < PAGE_SIZE
+            → slice_index self.now.contents (PAGE_SIZE * page + at) ≡ slice_index (entry_bytes result.now) at }
+    {
+        first_own(&self.tables, page as usize)
+    }
+}
+
+/// The page of a table's own as a page of its own. A page that is held is shared.
+fn page_of(alloc: Global, entry: &Entry) -> Result<Page, AllocError>
+    requires { IsTrue (is_own entry.now) }
+    ensures value { IfOk result (λ page. page ≡ entry_bytes entry.now) }
+    ensures whole { length (entry_bytes entry.now) ≡ PAGE_SIZE }
+{
+    let bytes = entry.bytes();
+    match entry {
+        Entry::Held(page) => page.share(),
+        _ => Page::from_slice(alloc, bytes),
     }
 }

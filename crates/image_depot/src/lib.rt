@@ -7,6 +7,7 @@ mod frozen;
 mod key;
 mod parcel;
 mod sent;
+mod stack;
 mod table;
 
 pub use depot::Depot;

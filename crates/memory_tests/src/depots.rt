@@ -4,9 +4,10 @@
 ghost use Rattle.std.specs.Prelude.{◌≤◌, IfSome};
 ghost use Rattle.image_depot.specs.Key.{IsKeyOf};
 
+use console_port::Input;
 use cow_disk::{Disk, DiskError};
 use image_depot::{Depot, Frozen, ImageKey};
-use page_frames::{Entry, PAGE_SIZE, Page};
+use page_frames::{Entry, PAGE_SIZE, Page, PageTable};
 use std::alloc::{AllocError, Global};
 use std::sync::Wait;
 use std::test::Fail;
@@ -22,7 +23,8 @@ pub fn image_of(alloc: Global, byte: u8) -> Result<Frozen, DiskError> {
         Entry::Held(Page::from_slice(alloc, &[byte ^ 1; PAGE_SIZE])?),
     ]?;
     let disk = Disk::from_bytes(alloc, &[byte; 512])?.freeze()?;
-    let input = vec![in alloc; byte; 2]?;
+    let entries = PageTable::from_vec(alloc, entries)?;
+    let input = Input::new(alloc, vec![in alloc; byte; 2]?)?;
     Ok(Frozen::new(alloc, entries, disk, input)?)
 }
 
@@ -51,7 +53,11 @@ fn parts_of<'a>(depot: &'a Depot, key: &ImageKey) -> (u32, &'a [u8], usize)
     requires { IsKeyOf depot.now key.now }
 {
     let image = depot.frozen(key);
-    (depot.pages(key), image.input(), image.tables().len())
+    (
+        depot.pages(key),
+        image.input().bytes(),
+        image.tables().len(),
+    )
 }
 
 #[test]
@@ -107,8 +113,10 @@ fn first_word(depot: &Depot, key: &ImageKey) -> Option<u32>
 /// The image of one page, with no disk and no input.
 fn image_of_page(alloc: Global, page: &Page) -> Result<Frozen, DiskError> {
     let entries = vec![in alloc; Entry::Held(page.share()?)]?;
+    let entries = PageTable::from_vec(alloc, entries)?;
     let disk = Disk::from_bytes(alloc, &[])?.freeze()?;
-    Ok(Frozen::new(alloc, entries, disk, Vec::new(alloc))?)
+    let input = Input::new(alloc, Vec::new(alloc))?;
+    Ok(Frozen::new(alloc, entries, disk, input)?)
 }
 
 #[test]
@@ -179,7 +187,7 @@ fn kept(rt: &impl Wait, depot: &Depot, image: Frozen) -> Result<ImageKey, AllocE
 fn moves_between_threads(rt: HostRuntime) -> Result<(), Fail> {
     let image = image_of(rt.alloc(), 0xaa)?;
     let depot = Depot::new(rt.alloc())?;
-    let (depot, length) = thread::join(&rt, move || depot, move || image.input().len());
+    let (depot, length) = thread::join(&rt, move || depot, move || image.input().bytes().len());
     assert_eq!(rt; length, 2);
     kept(&rt, &depot, image_of(rt.alloc(), 0xbb)?)?;
     Ok(())

@@ -1,15 +1,16 @@
 //! The RAM of guests: that calls succeed, that guests really share their pages until they write them, and that
 //! they move between threads.
 
-ghost use Rattle.std.specs.Prelude.{◌≡◌, ◌≤◌, IfOk};
+ghost use Rattle.std.specs.Prelude.{◌≡◌, ◌≤◌, IfOk, OnOk};
 ghost use Rattle.image_depot.specs.Key.{IsKeyOf};
+ghost use Rattle.guest_mem.specs.Ram.{IsRamOf};
 
 use crate::process::resident_bytes;
 use block_port::{BlockFields, Status};
-use console_port::ConsoleFields;
+use console_port::{ConsoleFields, Input};
 use cow_disk::Disk;
 use elf_load::{ImageError, MAX_PAGES, MIN_PAGES, RAM_BASE, load_elf};
-use guest_mem::GuestMem;
+use guest_mem::{Arrived, GuestMem};
 use image_depot::{Depot, ImageKey};
 use rv_asm::elf_of;
 use rv_traps::Csrs;
@@ -37,13 +38,15 @@ fn store(memory: &mut GuestMem, at: u32, width: u32, word: u32) -> Result<(), Fa
     if !matches!(width, 1 | 2 | 4) || at % width != 0 || at >= memory.size() {
         return Err("no such store".into());
     }
-    Ok(memory.store(at, width, word)?)
+    memory
+        .store(at, width, word)
+        .map_err(|_| "the page is absent, or memory is wanting".into())
 }
 
 /// The number in the `width` bytes from an offset, if there is one.
 fn load(memory: &GuestMem, at: u32, width: u32) -> Option<u32> {
     if matches!(width, 1 | 2 | 4) && at % width == 0 && at < memory.size() {
-        Some(memory.load(at, width))
+        memory.load(at, width).ok()
     } else {
         None
     }
@@ -89,23 +92,60 @@ fn frozen<R: Wait>(
     memory: &GuestMem,
     depot: &Depot,
 ) -> Result<ImageKey, AllocError>
+    requires { IsRamOf depot.now memory.now }
     ensures { IfOk result (λ key. IsKeyOf depot.now key) }
 {
     let disk = Disk::from_bytes(alloc, &[])
         .map_err(|_| AllocError)?
         .freeze()?;
-    depot.freeze(rt, memory.freeze(alloc, disk, b"in")?)
+    let input = Input::new(alloc, Vec::from_slice(alloc, b"in")?)?;
+    depot.freeze(rt, memory.freeze(alloc, depot, disk, input)?)
 }
 
-/// A clone that starts with an image, with these blank pages.
-fn clone_of(alloc: Global, key: &ImageKey, blank: PageMap, depot: &Depot) -> Result<GuestMem, Fail>
+/// A clone that starts with an image, with these blank pages, and nothing else here.
+fn bare_clone(
+    alloc: Global,
+    key: &ImageKey,
+    blank: PageMap,
+    depot: &Depot,
+) -> Result<GuestMem, Fail>
     requires { IsKeyOf depot.now key.now }
+    ensures { IfOk result (λ memory. IsRamOf depot.now memory) }
 {
     let descriptor = descriptor_of(depot.pages(key), blank);
     if !descriptor.is_in_range() {
         return Err("another image".into());
     }
-    Ok(GuestMem::clone_of(alloc, key, &descriptor, depot)?)
+    Ok(GuestMem::clone_of(alloc, key.again()?, &descriptor)?)
+}
+
+/// Sends a page of an image to a guest, and says what came of it.
+fn send(
+    alloc: Global,
+    memory: &mut GuestMem,
+    key: &ImageKey,
+    page: u32,
+    depot: &Depot,
+) -> Result<Arrived, Fail>
+    requires key { IsKeyOf depot.now key.now }
+    requires ram { IsRamOf depot.now memory.old }
+    ensures { OnOk result (IsRamOf depot.now memory.new) }
+{
+    if page >= depot.pages(key) {
+        return Err("no such page".into());
+    }
+    Ok(memory.arrive(alloc, depot, &depot.answer(key, page)?)?)
+}
+
+/// The same with the first two pages, which were sent to it.
+fn clone_of(alloc: Global, key: &ImageKey, blank: PageMap, depot: &Depot) -> Result<GuestMem, Fail>
+    requires { IsKeyOf depot.now key.now }
+    ensures { IfOk result (λ memory. IsRamOf depot.now memory) }
+{
+    let mut memory = bare_clone(alloc, key, blank, depot)?;
+    send(alloc, &mut memory, key, 0, depot)?;
+    send(alloc, &mut memory, key, 1, depot)?;
+    Ok(memory)
 }
 
 /// Stores 16 bytes around the border of two pages.
@@ -180,7 +220,7 @@ fn zero_and_store(memory: &mut GuestMem) -> Result<(), Fail> {
     let end = memory.size();
     store(memory, end - 1, 1, 0x11)?;
     if memory.pages() == 1024 {
-        memory.zero_pages(1, 1023);
+        memory.zero_pages(1, 1023)?;
     }
     store(memory, 2 * SECOND, 4, 0x22)
 }
@@ -295,7 +335,7 @@ fn an_image_stays_as_it_was_frozen(rt: HostRuntime) -> Result<(), Fail> {
     store_two(&mut parent, 1)?;
     words_of_clones(rt.alloc(), &parent, &key, &depot)?;
     let late = three_words(&clone_of(rt.alloc(), &key, blank, &depot)?);
-    let input = depot.frozen(&key).input();
+    let input = depot.frozen(&key).input().bytes();
     assert_eq!(rt;
         (late, two_words(&depot, &key), input),
         (
@@ -348,6 +388,42 @@ fn a_thousand_clones_share_an_image(rt: HostRuntime) -> Result<(), Fail> {
     let taken = resident_bytes(&rt)?.saturating_sub(before);
     assert_eq!(rt; as_stored(&clones), 1000);
     assert!(rt; taken < 6 << 20, "{taken} bytes");
+    Ok(())
+}
+
+/// What comes of pages that are sent to a clone: one that is absent, the same again, and one that was
+/// made blank meanwhile; and the words of the first two.
+fn sent_twice(
+    alloc: Global,
+    key: &ImageKey,
+    blank: PageMap,
+    depot: &Depot,
+) -> Result<([Arrived; 3], [Option<u32>; 3]), Fail>
+    requires { IsKeyOf depot.now key.now }
+{
+    let mut memory = bare_clone(alloc, key, blank, depot)?;
+    let first = send(alloc, &mut memory, key, 1, depot)?;
+    store(&mut memory, SECOND, 4, 7)?;
+    let again = send(alloc, &mut memory, key, 1, depot)?;
+    memory.zero_pages(0, 1)?;
+    let blanked = send(alloc, &mut memory, key, 0, depot)?;
+    Ok(([first, again, blanked], three_words(&memory)))
+}
+
+#[test]
+fn a_page_that_is_here_does_not_come_again(rt: HostRuntime) -> Result<(), Fail> {
+    let depot = Depot::new(rt.alloc())?;
+    let mut parent = booted(rt.alloc(), 16)?;
+    store_two(&mut parent, 1)?;
+    let key = frozen(&rt, rt.alloc(), &parent, &depot)?;
+    let sent = sent_twice(rt.alloc(), &key, parent.blank(rt.alloc())?, &depot)?;
+    assert_eq!(rt;
+        sent,
+        (
+            [Arrived::Got(1), Arrived::Had(1), Arrived::Had(0)],
+            [Some(0), Some(7), Some(0xaaaa_aaaa)]
+        )
+    );
     Ok(())
 }
 

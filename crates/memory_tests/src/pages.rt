@@ -1,7 +1,7 @@
 //! Pages: that calls succeed, that pages are shared until they are written, and that they move between
 //! threads.
 
-use page_frames::{Entry, PAGE_SIZE, Page, share_entries};
+use page_frames::{Entry, PAGE_SIZE, Page, PageTable};
 use std::alloc::{AllocError, Global};
 use std::test::Fail;
 use std::thread;
@@ -55,38 +55,53 @@ fn a_page_shared_three_ways_is_written_in_each(rt: HostRuntime) -> Result<(), Fa
     Ok(())
 }
 
-/// Writes two bytes in each entry.
-fn write_each(alloc: Global, entries: &mut [Entry]) -> Result<(), AllocError> {
-    for entry in entries {
-        entry.write(alloc, 4, &[0x11, 0x22])?;
+/// Writes two bytes in each page of a table's own.
+fn write_each(table: &mut PageTable) -> Result<(), AllocError> {
+    let alloc = table.allocator();
+    for page in 0..table.len() {
+        if page < table.len() {
+            let entry = table.entry_mut(page)?;
+            if entry.is_own() {
+                entry.write(alloc, 4, &[0x11, 0x22])?;
+            }
+        }
     }
     Ok(())
 }
 
-/// Two words of the first two entries, if there are two.
-fn words_of(entries: &[Entry]) -> Option<[u32; 4]> {
-    let [first, second] = entries else {
+/// The second and third word of a page of a table's own.
+fn words_of(table: &PageTable, page: usize) -> Option<[u32; 2]> {
+    if page >= table.len() {
         return None;
-    };
-    Some([first.word(4), first.word(8), second.word(4), second.word(8)])
+    }
+    let entry = table.get(page);
+    if !entry.is_own() {
+        return None;
+    }
+    Some([entry.word(4), entry.word(8)])
+}
+
+/// The same of the first three pages.
+fn three_pages(table: &PageTable) -> [Option<[u32; 2]>; 3] {
+    [0, 1, 2].map(|page| words_of(table, page))
 }
 
 #[test]
 fn a_shared_table_is_written_apart(rt: HostRuntime) -> Result<(), Fail> {
-    let table = vec![in rt.alloc(); Entry::Held(page_of(rt.alloc(), 0xaa)?), Entry::Blank]?;
-    let mut shared = share_entries(rt.alloc(), &table)?;
-    write_each(rt.alloc(), &mut shared)?;
+    let page = page_of(rt.alloc(), 0xaa)?;
+    let entries = vec![in rt.alloc(); Entry::Held(page), Entry::Blank, Entry::Absent]?;
+    let table = PageTable::from_vec(rt.alloc(), entries)?;
+    let mut shared = table.share()?;
+    write_each(&mut shared)?;
     assert_eq!(rt;
-        (words_of(&table), words_of(&shared)),
+        (three_pages(&table), three_pages(&shared)),
         (
-            Some([0xaaaa_aaaa, 0xaaaa_aaaa, 0, 0]),
-            Some([0xaaaa_2211, 0xaaaa_aaaa, 0x2211, 0])
+            [Some([0xaaaa_aaaa, 0xaaaa_aaaa]), Some([0, 0]), None],
+            [Some([0xaaaa_2211, 0xaaaa_aaaa]), Some([0x2211, 0]), None],
         )
     );
-    assert!(rt;
-        matches!(table.get(1), Some(Entry::Blank)),
-        "a blank page is held"
-    );
+    let is_blank = table.len() > 1 && table.get(1).is_blank();
+    assert!(rt; is_blank, "a blank page is held");
     Ok(())
 }
 

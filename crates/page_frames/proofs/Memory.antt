@@ -1,8 +1,8 @@
 -- The memory of a page table, byte by byte.
-use Rattle.std.proofs.Common.{◌≡◌, ◌≢◌, ℕ, zero, suc, ◌+◌, ◌-◌, ◌*◌, ◌/◌, ◌%◌, ◌<◌, ◌≤◌, ◌⊎◌, inl, inr, List, length, take, drop, get_or, refl, sym, ap, ◌∙◌, subst, arith}
+use Rattle.std.proofs.Common.{◌≡◌, ◌≢◌, ℕ, zero, suc, ◌+◌, ◌-◌, ◌*◌, ◌/◌, ◌%◌, ◌<◌, ◌≤◌, ◌⊎◌, inl, inr, true, false, List, length, get_or, refl, sym, ap, ◌∙◌, subst, arith}
 use Rattle.std.proofs.Math.ListN.{set, length-set}
 use Rattle.std.proofs.lemmas.Bool.{cases_lt}
-use Rattle.std.proofs.lemmas.List.{ext_get_or, get_or-drop, get_or-set_same, get_or-set_other, get_or-take, length-drop, length-take-le}
+use Rattle.std.proofs.lemmas.List.{ext_get_or, get_or-set_same, get_or-set_other}
 use Rattle.std.proofs.lemmas.List.FromFn.{length-map-range_with_len, get_or-map-range_with_len}
 use Rattle.byteorder.specs.Endian.{little_from}
 use Rattle.flat_memory.specs.Flat.{put_bytes, zeros}
@@ -10,8 +10,8 @@ use Rattle.flat_memory.proofs.Zeros.{get_or-zeros}
 use Rattle.flat_memory.proofs.Bytes.{get_or-put_bytes, get_or-put_bytes_outside, length-put_bytes}
 use Rattle.page_frames.specs.declared.page.TheConstants.{PAGE_SIZE}
 use Rattle.page_frames.specs.declared.entry.Entry.{Entry}
-use Rattle.page_frames.specs.declared.entry.Entry.TheVariants.{Blank}
-use Rattle.page_frames.specs.Tables.{paged, entry_bytes, entry_at, flat_bytes}
+use Rattle.page_frames.specs.declared.entry.Entry.TheVariants.{Held, Blank, Absent}
+use Rattle.page_frames.specs.Tables.{paged, entry_bytes, entry_at, is_own, byte_over, laid_over}
 
 -- ---- zeros
 
@@ -49,122 +49,161 @@ little_from_same (suc n) i j xs ys same =
 
 -- ---- the memory of a table
 
-pub length-flat_bytes : (entries : List Entry) → length (flat_bytes entries) ≡ PAGE_SIZE * length entries
-unfolding flat_bytes
-length-flat_bytes entries = length-paged (length entries) (λ page at. get_or (entry_bytes (entry_at entries page)) at 0)
+pub length-laid_over : (entries : List Entry) (below : List ℕ) → length (laid_over entries below) ≡ PAGE_SIZE * length entries
+unfolding laid_over
+length-laid_over entries below = length-paged (length entries) (λ page at. byte_over (entry_at entries page) at (get_or below (PAGE_SIZE * page + at) 0))
 
-pub get_or-flat_bytes : (entries : List Entry) (at : ℕ) → at < PAGE_SIZE * length entries
-    → get_or (flat_bytes entries) at 0 ≡ get_or (entry_bytes (entry_at entries (at / PAGE_SIZE))) (at % PAGE_SIZE) 0
-unfolding flat_bytes
-get_or-flat_bytes entries at below = get_or-paged (length entries) (λ page at. get_or (entry_bytes (entry_at entries page)) at 0) at below
+-- a table's own page has its own bytes
+byte_over_own : (entry : Entry) (at below : ℕ) → is_own entry ≡ true → byte_over entry at below ≡ get_or (entry_bytes entry) at 0
+byte_over_own (Held page) at below own = refl
+byte_over_own Blank at below own = sym (get_or-zeros PAGE_SIZE at)
+byte_over_own Absent at below own = cc
 
-pub flat_bytes_is : (entries : List Entry) (memory : List ℕ) → length memory ≡ PAGE_SIZE * length entries
-    → ((at : ℕ) → at < PAGE_SIZE * length entries → get_or (entry_bytes (entry_at entries (at / PAGE_SIZE))) (at % PAGE_SIZE) 0 ≡ get_or memory at 0)
-    → flat_bytes entries ≡ memory
-unfolding flat_bytes
-flat_bytes_is entries memory size same = paged_is (length entries) (λ page at. get_or (entry_bytes (entry_at entries page)) at 0) memory size same
+byte_over_other : (entry : Entry) (at below : ℕ) → is_own entry ≡ false → byte_over entry at below ≡ below
+byte_over_other (Held page) at below other = cc
+byte_over_other Blank at below other = cc
+byte_over_other Absent at below other = refl
 
-pub byte_of_page : (entries : List Entry) (page at : ℕ) → page < length entries → at < PAGE_SIZE
-    → get_or (flat_bytes entries) (PAGE_SIZE * page + at) 0 ≡ get_or (entry_bytes (entry_at entries page)) at 0
-byte_of_page entries page at there below =
-    let is_page : (PAGE_SIZE * page + at) / PAGE_SIZE ≡ page = omega arith in
-    let is_place : (PAGE_SIZE * page + at) % PAGE_SIZE ≡ at = omega arith in
-    get_or-flat_bytes entries (PAGE_SIZE * page + at) (omega arith)
-    ∙ ap (λ p. get_or (entry_bytes (entry_at entries p)) ((PAGE_SIZE * page + at) % PAGE_SIZE) 0) is_page
-    ∙ ap (λ k. get_or (entry_bytes (entry_at entries page)) k 0) is_place
+module _ (entries : List Entry) (below : List ℕ) where
+  pub get_or-laid_over : (at : ℕ) → at < PAGE_SIZE * length entries
+      → get_or (laid_over entries below) at 0 ≡ byte_over (entry_at entries (at / PAGE_SIZE)) (at % PAGE_SIZE) (get_or below at 0)
+  unfolding laid_over
+  get_or-laid_over at inside =
+      let is_place : PAGE_SIZE * (at / PAGE_SIZE) + at % PAGE_SIZE ≡ at = omega arith in
+      get_or-paged (length entries) (λ page at. byte_over (entry_at entries page) at (get_or below (PAGE_SIZE * page + at) 0)) at inside
+      ∙ ap (λ i. byte_over (entry_at entries (at / PAGE_SIZE)) (at % PAGE_SIZE) (get_or below i 0)) is_place
 
--- a number that lies in one page
-pub number_of_page : (entries : List Entry) (page at n : ℕ) → page < length entries → at + n ≤ PAGE_SIZE
-    → little_from (PAGE_SIZE * page + at) n (flat_bytes entries) ≡ little_from at n (entry_bytes (entry_at entries page))
-number_of_page entries page at n there within =
-    little_from_same n (PAGE_SIZE * page + at) at (flat_bytes entries) (entry_bytes (entry_at entries page))
-    (λ k below. ap (λ p. get_or (flat_bytes entries) p 0) (omega arith) ∙ byte_of_page entries page (at + k) there (omega arith))
+  pub laid_over_is : (memory : List ℕ) → length memory ≡ PAGE_SIZE * length entries
+      → ((at : ℕ) → at < PAGE_SIZE * length entries → byte_over (entry_at entries (at / PAGE_SIZE)) (at % PAGE_SIZE) (get_or below at 0) ≡ get_or memory at 0)
+      → laid_over entries below ≡ memory
+  laid_over_is memory size same =
+      let sizes : length (laid_over entries below) ≡ length memory = length-laid_over entries below ∙ sym size in
+      ext_get_or 0 (laid_over entries below) memory sizes
+      (λ at inside. let within : at < PAGE_SIZE * length entries = subst (λ n. at < n) (length-laid_over entries below) inside in get_or-laid_over at within ∙ same at within)
 
--- the bytes of one page
-pub bytes_of_page : (entries : List Entry) (page : ℕ) → page < length entries → length (entry_bytes (entry_at entries page)) ≡ PAGE_SIZE
-    → take PAGE_SIZE (drop (PAGE_SIZE * page) (flat_bytes entries)) ≡ entry_bytes (entry_at entries page)
-bytes_of_page entries page there whole =
-    let left = drop (PAGE_SIZE * page) (flat_bytes entries) in
-    let enough : PAGE_SIZE ≤ length left = omega (arith, length-flat_bytes entries, length-drop (PAGE_SIZE * page) (flat_bytes entries)) in
-    let size : length (take PAGE_SIZE left) ≡ PAGE_SIZE = length-take-le PAGE_SIZE left enough in
-    ext_get_or 0 (take PAGE_SIZE left) (entry_bytes (entry_at entries page)) (size ∙ sym whole)
-    (λ at below. let within : at < PAGE_SIZE = subst (λ n. at < n) size below in
-    get_or-take PAGE_SIZE left at 0 within ∙ get_or-drop (PAGE_SIZE * page) (flat_bytes entries) at 0 ∙ byte_of_page entries page at there within)
+  byte_of_page : (page at : ℕ) → page < length entries → at < PAGE_SIZE
+      → get_or (laid_over entries below) (PAGE_SIZE * page + at) 0 ≡ byte_over (entry_at entries page) at (get_or below (PAGE_SIZE * page + at) 0)
+  byte_of_page page at there inside =
+      let is_page : (PAGE_SIZE * page + at) / PAGE_SIZE ≡ page = omega arith in
+      let is_place : (PAGE_SIZE * page + at) % PAGE_SIZE ≡ at = omega arith in
+      get_or-laid_over (PAGE_SIZE * page + at) (omega arith)
+      ∙ ap (λ p. byte_over (entry_at entries p) ((PAGE_SIZE * page + at) % PAGE_SIZE) (get_or below (PAGE_SIZE * page + at) 0)) is_page
+      ∙ ap (λ k. byte_over (entry_at entries page) k (get_or below (PAGE_SIZE * page + at) 0)) is_place
 
--- ---- writes
+  pub byte_of_own : (page at : ℕ) → page < length entries → at < PAGE_SIZE → is_own (entry_at entries page) ≡ true
+      → get_or (laid_over entries below) (PAGE_SIZE * page + at) 0 ≡ get_or (entry_bytes (entry_at entries page)) at 0
+  byte_of_own page at there inside own = byte_of_page page at there inside ∙ byte_over_own (entry_at entries page) at (get_or below (PAGE_SIZE * page + at) 0) own
 
--- an entry that is put for one of a page
-module _ (entries : List Entry) (page : ℕ) (there : page < length entries) (entry : Entry) where
-  pub same_page : entry_at (set entries page entry) page ≡ entry
-  same_page = get_or-set_same entries page entry Blank there
+  pub byte_of_other : (page at : ℕ) → page < length entries → at < PAGE_SIZE → is_own (entry_at entries page) ≡ false
+      → get_or (laid_over entries below) (PAGE_SIZE * page + at) 0 ≡ get_or below (PAGE_SIZE * page + at) 0
+  byte_of_other page at there inside other = byte_of_page page at there inside ∙ byte_over_other (entry_at entries page) at (get_or below (PAGE_SIZE * page + at) 0) other
 
-  -- bytes that are written in the page
-  module _ (at : ℕ) (bytes : List ℕ) (whole : length (entry_bytes (entry_at entries page)) ≡ PAGE_SIZE) (within : at + length bytes ≤ PAGE_SIZE)
-      (written : entry_bytes entry ≡ put_bytes (entry_bytes (entry_at entries page)) at bytes) where
-    start : ℕ
-    start = PAGE_SIZE * page + at
+  -- a number that lies in one page
+  pub number_of_own : (page at n : ℕ) → page < length entries → at + n ≤ PAGE_SIZE → is_own (entry_at entries page) ≡ true
+      → little_from (PAGE_SIZE * page + at) n (laid_over entries below) ≡ little_from at n (entry_bytes (entry_at entries page))
+  number_of_own page at n there within own =
+      little_from_same n (PAGE_SIZE * page + at) at (laid_over entries below) (entry_bytes (entry_at entries page))
+      (λ k inside. ap (λ p. get_or (laid_over entries below) p 0) (omega arith) ∙ byte_of_own page (at + k) there (omega arith) own)
 
-    unwritten : (k : ℕ) → k < PAGE_SIZE → (k < at) ⊎ (at + length bytes ≤ k)
-        → get_or (put_bytes (entry_bytes (entry_at entries page)) at bytes) k 0 ≡ get_or (put_bytes (flat_bytes entries) start bytes) (PAGE_SIZE * page + k) 0
-    unfolding start
-    unwritten k below outside =
-        let size = length-flat_bytes entries in
-        let beside : (PAGE_SIZE * page + k < start) ⊎ (start + length bytes ≤ PAGE_SIZE * page + k) =
-        elim outside [ inl before ↦ inl (omega arith) | inr after ↦ inr (omega arith) ] in
-        get_or-put_bytes_outside (entry_bytes (entry_at entries page)) bytes at k (omega arith) outside
-        ∙ sym (byte_of_page entries page k there below)
-        ∙ sym (get_or-put_bytes_outside (flat_bytes entries) bytes start (PAGE_SIZE * page + k) (omega arith) beside)
+  pub number_of_other : (page at n : ℕ) → page < length entries → at + n ≤ PAGE_SIZE → is_own (entry_at entries page) ≡ false
+      → little_from (PAGE_SIZE * page + at) n (laid_over entries below) ≡ little_from (PAGE_SIZE * page + at) n below
+  number_of_other page at n there within other =
+      little_from_same n (PAGE_SIZE * page + at) (PAGE_SIZE * page + at) (laid_over entries below) below
+      (λ k inside.
+      ap (λ p. get_or (laid_over entries below) p 0) (omega arith) ∙ byte_of_other page (at + k) there (omega arith) other ∙ ap (λ p. get_or below p 0) (omega arith))
 
-    is_written : (k : ℕ) → at ≤ k → k < at + length bytes
-        → get_or (put_bytes (entry_bytes (entry_at entries page)) at bytes) k 0 ≡ get_or (put_bytes (flat_bytes entries) start bytes) (PAGE_SIZE * page + k) 0
-    unfolding start
-    is_written k from below =
-        let size = length-flat_bytes entries in
-        ap (λ i. get_or (put_bytes (entry_bytes (entry_at entries page)) at bytes) i 0) (omega arith)
-        ∙ get_or-put_bytes (entry_bytes (entry_at entries page)) bytes at (k - at) (omega arith) (omega arith)
-        ∙ sym (get_or-put_bytes (flat_bytes entries) bytes start (k - at) (omega arith) (omega arith))
-        ∙ ap (λ i. get_or (put_bytes (flat_bytes entries) start bytes) i 0) (omega arith)
+-- ---- one entry put for another
 
-    in_page : (k : ℕ) → k < PAGE_SIZE → get_or (entry_bytes entry) k 0 ≡ get_or (put_bytes (flat_bytes entries) start bytes) (PAGE_SIZE * page + k) 0
-    in_page k below = ap (λ page. get_or page k 0) written ∙ elim (cases_lt k at) [
-      | inl before ↦ unwritten k below (inl before)
-      | inr from ↦ elim (cases_lt k (at + length bytes)) [
-        | inl before_end ↦ is_written k from before_end
-        | inr after ↦ unwritten k below (inr after)
-      ]
-    ]
+module _ (entries : List Entry) (below : List ℕ) (page : ℕ) (there : page < length entries) (entry : Entry) where
+  same_page : entry_at (set entries page entry) page ≡ entry
+  same_page = get_or-set_same entries page entry Absent there
 
+  -- a memory that has the bytes of the new entry in the page, and those of the table elsewhere
+  module _ (memory : List ℕ) (size : length memory ≡ PAGE_SIZE * length entries)
+      (in_page : (at : ℕ) → at < PAGE_SIZE → byte_over entry at (get_or below (PAGE_SIZE * page + at) 0) ≡ get_or memory (PAGE_SIZE * page + at) 0)
+      (outside : (i : ℕ) → i < PAGE_SIZE * length entries → (i < PAGE_SIZE * page) ⊎ (PAGE_SIZE * page + PAGE_SIZE ≤ i) → get_or (laid_over entries below) i 0 ≡ get_or memory i 0) where
     in_other : (i : ℕ) → i < PAGE_SIZE * length entries → (i < PAGE_SIZE * page) ⊎ (PAGE_SIZE * page + PAGE_SIZE ≤ i)
-        → get_or (entry_bytes (entry_at (set entries page entry) (i / PAGE_SIZE))) (i % PAGE_SIZE) 0 ≡ get_or (put_bytes (flat_bytes entries) start bytes) i 0
-    unfolding start
-    in_other i below outside =
-        let size = length-flat_bytes entries in
-        let other : i / PAGE_SIZE ≢ page = elim outside [ inl before ↦ λ same. omega arith | inr after ↦ λ same. omega arith ] in
-        let beside : (i < start) ⊎ (start + length bytes ≤ i) = elim outside [ inl before ↦ inl (omega arith) | inr after ↦ inr (omega arith) ] in
-        ap (λ e. get_or (entry_bytes e) (i % PAGE_SIZE) 0) (get_or-set_other entries page (i / PAGE_SIZE) entry Blank other)
-        ∙ sym (get_or-flat_bytes entries i below)
-        ∙ sym (get_or-put_bytes_outside (flat_bytes entries) bytes start i (omega arith) beside)
+        → byte_over (entry_at (set entries page entry) (i / PAGE_SIZE)) (i % PAGE_SIZE) (get_or below i 0) ≡ get_or memory i 0
+    in_other i within beside =
+        let other : i / PAGE_SIZE ≢ page = elim beside [ inl before ↦ λ same. omega arith | inr after ↦ λ same. omega arith ] in
+        ap (λ e. byte_over e (i % PAGE_SIZE) (get_or below i 0)) (get_or-set_other entries page (i / PAGE_SIZE) entry Absent other)
+        ∙ sym (get_or-laid_over entries below i within) ∙ outside i within beside
 
     at_place : (i : ℕ) → i < PAGE_SIZE * length entries
-        → get_or (entry_bytes (entry_at (set entries page entry) (i / PAGE_SIZE))) (i % PAGE_SIZE) 0 ≡ get_or (put_bytes (flat_bytes entries) start bytes) i 0
-    at_place i below = elim (cases_lt i (PAGE_SIZE * page)) [
-      | inl before ↦ in_other i below (inl before)
+        → byte_over (entry_at (set entries page entry) (i / PAGE_SIZE)) (i % PAGE_SIZE) (get_or below i 0) ≡ get_or memory i 0
+    at_place i within = elim (cases_lt i (PAGE_SIZE * page)) [
+      | inl before ↦ in_other i within (inl before)
       | inr from ↦ elim (cases_lt i (PAGE_SIZE * page + PAGE_SIZE)) [
         | inl before_end ↦
             let is_page : i / PAGE_SIZE ≡ page = omega arith in
-            ap (λ p. get_or (entry_bytes (entry_at (set entries page entry) p)) (i % PAGE_SIZE) 0) is_page
-            ∙ ap (λ e. get_or (entry_bytes e) (i % PAGE_SIZE) 0) same_page
-            ∙ in_page (i % PAGE_SIZE) (omega arith)
-            ∙ ap (λ j. get_or (put_bytes (flat_bytes entries) start bytes) j 0) (omega arith)
-        | inr after ↦ in_other i below (inr after)
+            let is_place : PAGE_SIZE * page + i % PAGE_SIZE ≡ i = omega arith in
+            let below_page : i % PAGE_SIZE < PAGE_SIZE = omega arith in
+            ap (λ p. byte_over (entry_at (set entries page entry) p) (i % PAGE_SIZE) (get_or below i 0)) is_page
+            ∙ ap (λ e. byte_over e (i % PAGE_SIZE) (get_or below i 0)) same_page
+            ∙ ap (λ j. byte_over entry (i % PAGE_SIZE) (get_or below j 0)) (sym is_place)
+            ∙ in_page (i % PAGE_SIZE) below_page
+            ∙ ap (λ j. get_or memory j 0) is_place
+        | inr after ↦ in_other i within (inr after)
       ]
     ]
 
-    pub write_in_page : flat_bytes (set entries page entry) ≡ put_bytes (flat_bytes entries) (PAGE_SIZE * page + at) bytes
-    unfolding start
-    write_in_page =
+    pub laid_over-set : laid_over (set entries page entry) below ≡ memory
+    laid_over-set =
         let sizes : length (set entries page entry) ≡ length entries = length-set entries page entry in
-        let fits : start + length bytes ≤ length (flat_bytes entries) = omega (arith, length-flat_bytes entries) in
-        flat_bytes_is (set entries page entry) (put_bytes (flat_bytes entries) start bytes)
-        (length-put_bytes (flat_bytes entries) bytes start fits ∙ length-flat_bytes entries ∙ ap (λ n. PAGE_SIZE * n) (sym sizes))
-        (λ i below. at_place i (subst (λ n. i < PAGE_SIZE * n) sizes below))
+        laid_over_is (set entries page entry) below memory (size ∙ ap (λ n. PAGE_SIZE * n) (sym sizes))
+        (λ i inside. at_place i (subst (λ n. i < PAGE_SIZE * n) sizes inside))
+
+  -- the memory stays as it is where the new entry has the bytes that the page had
+  pub laid_over-set_same : ((at : ℕ) → at < PAGE_SIZE → byte_over entry at (get_or below (PAGE_SIZE * page + at) 0) ≡ get_or (laid_over entries below) (PAGE_SIZE * page + at) 0)
+      → laid_over (set entries page entry) below ≡ laid_over entries below
+  laid_over-set_same same = laid_over-set (laid_over entries below) (length-laid_over entries below) same (λ i within beside. refl)
+
+-- ---- writes
+
+-- bytes that are written in a page of the table's own
+module _ (entries : List Entry) (below : List ℕ) (page : ℕ) (there : page < length entries) (own : is_own (entry_at entries page) ≡ true)
+    (at : ℕ) (bytes : List ℕ) (whole : length (entry_bytes (entry_at entries page)) ≡ PAGE_SIZE) (within : at + length bytes ≤ PAGE_SIZE) where
+  start : ℕ
+  start = PAGE_SIZE * page + at
+
+  unwritten : (k : ℕ) → k < PAGE_SIZE → (k < at) ⊎ (at + length bytes ≤ k)
+      → get_or (put_bytes (entry_bytes (entry_at entries page)) at bytes) k 0 ≡ get_or (put_bytes (laid_over entries below) start bytes) (PAGE_SIZE * page + k) 0
+  unfolding start
+  unwritten k inside outside =
+      let size = length-laid_over entries below in
+      let beside : (PAGE_SIZE * page + k < start) ⊎ (start + length bytes ≤ PAGE_SIZE * page + k) =
+      elim outside [ inl before ↦ inl (omega arith) | inr after ↦ inr (omega arith) ] in
+      get_or-put_bytes_outside (entry_bytes (entry_at entries page)) bytes at k (omega arith) outside
+      ∙ sym (byte_of_own entries below page k there inside own)
+      ∙ sym (get_or-put_bytes_outside (laid_over entries below) bytes start (PAGE_SIZE * page + k) (omega arith) beside)
+
+  is_written : (k : ℕ) → at ≤ k → k < at + length bytes
+      → get_or (put_bytes (entry_bytes (entry_at entries page)) at bytes) k 0 ≡ get_or (put_bytes (laid_over entries below) start bytes) (PAGE_SIZE * page + k) 0
+  unfolding start
+  is_written k from inside =
+      let size = length-laid_over entries below in
+      ap (λ i. get_or (put_bytes (entry_bytes (entry_at entries page)) at bytes) i 0) (omega arith)
+      ∙ get_or-put_bytes (entry_bytes (entry_at entries page)) bytes at (k - at) (omega arith) (omega arith)
+      ∙ sym (get_or-put_bytes (laid_over entries below) bytes start (k - at) (omega arith) (omega arith))
+      ∙ ap (λ i. get_or (put_bytes (laid_over entries below) start bytes) i 0) (omega arith)
+
+  in_page : (k : ℕ) → k < PAGE_SIZE → get_or (put_bytes (entry_bytes (entry_at entries page)) at bytes) k 0 ≡ get_or (put_bytes (laid_over entries below) start bytes) (PAGE_SIZE * page + k) 0
+  in_page k inside = elim (cases_lt k at) [
+    | inl before ↦ unwritten k inside (inl before)
+    | inr from ↦ elim (cases_lt k (at + length bytes)) [
+      | inl before_end ↦ is_written k from before_end
+      | inr after ↦ unwritten k inside (inr after)
+    ]
+  ]
+
+  pub write_in_page : laid_over (set entries page (Held (put_bytes (entry_bytes (entry_at entries page)) at bytes))) below ≡ put_bytes (laid_over entries below) (PAGE_SIZE * page + at) bytes
+  unfolding start
+  write_in_page =
+      let size = length-laid_over entries below in
+      let fits : start + length bytes ≤ length (laid_over entries below) = omega arith in
+      laid_over-set entries below page there (Held (put_bytes (entry_bytes (entry_at entries page)) at bytes)) (put_bytes (laid_over entries below) start bytes)
+      (length-put_bytes (laid_over entries below) bytes start fits ∙ size)
+      in_page
+      (λ i inside beside.
+      let outside : (i < start) ⊎ (start + length bytes ≤ i) = elim beside [ inl before ↦ inl (omega arith) | inr after ↦ inr (omega arith) ] in
+      sym (get_or-put_bytes_outside (laid_over entries below) bytes start i (omega arith) outside))

@@ -1,8 +1,9 @@
-ghost use Rattle.std.specs.Prelude.{◌≡◌, ◌+◌, ◌≤◌, length, OnOk, OnErr, IfOk};
+ghost use Rattle.std.specs.Prelude.{◌≡◌, ◌+◌, ◌≤◌, length, IsTrue, OnOk, OnErr};
 ghost use Rattle.flat_memory.specs.Flat.{word_at, put_bytes, zeros};
-ghost use Rattle.page_frames.specs.Tables.{entry_bytes};
+ghost use Rattle.page_frames.specs.Tables.{entry_bytes, is_blank, is_own};
 
 use crate::page::{PAGE_SIZE, Page};
+use shared_leaves::{Handle, SharedList};
 use std::alloc::{AllocError, Global};
 
 /// What a page table says of a page.
@@ -12,7 +13,12 @@ pub enum Entry {
     Held(Page),
     /// A page of zeros, for which no memory is taken.
     Blank,
+    /// None of the table's own: the page is as in the memory below the table.
+    Absent,
 }
+
+/// A page table, with an entry for each page. Other tables share its leaves until they write them.
+pub type PageTable = SharedList<Entry>;
 
 impl Clone for Entry {
     ghost use Rattle.std.specs.Prelude.{◌≡◌};
@@ -24,40 +30,66 @@ impl Clone for Entry {
         match self {
             Entry::Held(page) => Ok(Entry::Held(page.share()?)),
             Entry::Blank => Ok(Entry::Blank),
+            Entry::Absent => Ok(Entry::Absent),
         }
     }
 }
 
+impl Handle for Entry {
+    ghost clone_is_equal = { λ entry copy same. same };
+}
+
 impl Entry {
-    /// All bytes of the page.
+    /// Whether the table has a page of its own here.
+    #[inline(always)]
+    pub fn is_own(&self) -> bool
+        ensures { result ≡ is_own self.now }
+    {
+        !matches!(self, Entry::Absent)
+    }
+
+    /// Whether the page is one of zeros for which no memory is taken.
+    #[inline(always)]
+    pub fn is_blank(&self) -> bool
+        ensures { result ≡ is_blank self.now }
+    {
+        matches!(self, Entry::Blank)
+    }
+
+    /// All bytes of the table's own page.
     #[inline]
     pub fn bytes(&self) -> &[u8; PAGE_SIZE]
+        requires { IsTrue (is_own self.now) }
         ensures value { result.now ≡ entry_bytes self.now }
         ensures whole { length (entry_bytes self.now) ≡ PAGE_SIZE }
     {
         match self {
             Entry::Held(page) => page.bytes(),
             Entry::Blank => &[0; PAGE_SIZE],
+            Entry::Absent => unreachable!(),
         }
     }
 
-    /// The 32-bit number in the four bytes from a place of the page on.
+    /// The 32-bit number in the four bytes from a place of the table's own page on.
     #[inline]
     pub fn word(&self, at: u32) -> u32
-        requires { at + 4 ≤ PAGE_SIZE }
+        requires own { IsTrue (is_own self.now) }
+        requires within { at + 4 ≤ PAGE_SIZE }
         ensures { result ≡ word_at (entry_bytes self.now) at }
     {
         match self {
             Entry::Held(page) => page.word(at),
             Entry::Blank => 0,
+            Entry::Absent => unreachable!(),
         }
     }
 
-    /// Writes bytes over those from a place of the page on. The entry then holds a page, which no
-    /// other entry shares.
+    /// Writes bytes over those from a place of the table's own page on. The entry then holds a page,
+    /// which no other entry shares.
     #[inline(always)]
     pub fn write(&mut self, alloc: Global, at: u32, bytes: &[u8]) -> Result<(), AllocError>
-        requires { at + length bytes.now ≤ PAGE_SIZE }
+        requires own { IsTrue (is_own self.old) }
+        requires within { at + length bytes.now ≤ PAGE_SIZE }
         ensures ok { OnOk result (self.new ≡ Entry.Held (put_bytes (entry_bytes self.old) at bytes.now)) }
         ensures err { OnErr result (self.new ≡ self.old) }
         ensures whole { length (entry_bytes self.old) ≡ PAGE_SIZE }
@@ -65,6 +97,7 @@ impl Entry {
         match self {
             Entry::Held(page) => page.write(at, bytes),
             Entry::Blank => self.fill(alloc, at, bytes),
+            Entry::Absent => unreachable!(),
         }
     }
 
@@ -83,15 +116,4 @@ impl Entry {
         *self = Entry::Held(page);
         Ok(())
     }
-}
-
-/// A table with the same entries, which shares all pages. It costs one handle a page.
-pub fn share_entries(alloc: Global, entries: &[Entry]) -> Result<Vec<Entry>, AllocError>
-    ensures { IfOk result (λ table. table.items ≡ entries.now) }
-{
-    let mut table = Vec::with_capacity(alloc, entries.len())?;
-    for entry in entries {
-        table.push(entry.clone()?)?;
-    }
-    Ok(table)
 }

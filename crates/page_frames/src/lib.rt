@@ -5,5 +5,5 @@ mod entry;
 pub mod laws;
 mod page;
 
-pub use entry::{Entry, share_entries};
+pub use entry::{Entry, PageTable};
 pub use page::{PAGE_SIZE, Page};

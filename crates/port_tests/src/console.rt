@@ -92,12 +92,12 @@ fn keeps_its_input(rt: &impl Abort, port: &mut ConsolePort, fields: ConsoleField
 
 #[test]
 fn a_latched_console_keeps_its_input(rt: HostRuntime) -> Result<(), Fail> {
-    let input = b"YZ".to_vec(rt.alloc())?;
+    let input = Input::new(rt.alloc(), b"YZ".to_vec(rt.alloc())?)?;
     let fields = ConsoleFields {
         place: 1,
         line_control: 0x83,
     };
-    let mut port = ConsolePort::of_fields(fields, input);
+    let mut port = ConsolePort::of_fields(rt.alloc(), fields, input);
     keeps_its_input(&rt, &mut port, fields);
     Ok(())
 }

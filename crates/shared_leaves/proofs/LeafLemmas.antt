@@ -5,7 +5,7 @@ use Rattle.std.proofs.Math.ListN.{set, get_or-append}
 use Rattle.std.proofs.Math.Seq.{take-append-add, drop-append-add}
 use Rattle.std.proofs.lemmas.List.{append-nil, drop_at, drop-drop, get_or-append-add, get_or_read, length-drop, length-replicate, length-set, length-take-le, replicate-append-replicate, set-append_left, set-append_right, set-get_or, set_split, take-append-drop, take_at}
 use Rattle.shared_leaves.specs.declared.leaf.TheConstants.{LEAF_ENTRIES}
-use Rattle.shared_leaves.specs.Leaves.{joined, IsCut}
+use Rattle.shared_leaves.specs.Leaves.{joined, IsCut, leaf_count}
 
 module _ {T : Type 0} where
   pub length-joined : (count : ℕ) (leaves : List (List T)) → IsCut count leaves → length (joined leaves) ≡ count
@@ -13,6 +13,17 @@ module _ {T : Type 0} where
   length-joined count (leaf ∷ leaves) cut =
       let rest = length-joined (count - LEAF_ENTRIES) leaves cut.2 in
       omega (arith, length-append leaf (joined leaves), cut.0, cut.1, rest)
+
+  pub length-leaves : (count : ℕ) (leaves : List (List T)) → IsCut count leaves → length leaves ≡ leaf_count count
+  length-leaves count [] cut = omega (arith, cut)
+  length-leaves count (leaf ∷ leaves) cut =
+      let rest = length-leaves (count - LEAF_ENTRIES) leaves cut.2 in
+      omega (arith, cut.0, rest)
+
+  -- how many leaves the list has
+  pub counted-leaves : (count : ℕ) (leaves : List (List T)) → IsCut count leaves → (list : List T) → joined leaves ≡ list → length leaves ≡ leaf_count (length list)
+  counted-leaves count leaves cut list is =
+      length-leaves count leaves cut ∙ ap leaf_count (sym (length-joined count leaves cut) ∙ ap length is)
 
   -- the leaf in which an entry lies
   pub leaf_below : (count : ℕ) (leaves : List (List T)) (k r : ℕ) → IsCut count leaves → LEAF_ENTRIES * k + r < count → k < length leaves

@@ -6,6 +6,8 @@ mod handle;
 mod leaf;
 mod list;
 mod make;
+mod steps;
 
 pub use handle::Handle;
 pub use list::SharedList;
+pub use steps::Steps;

@@ -1,11 +1,14 @@
-ghost use Rattle.std.specs.Prelude.{◌≡◌, ◌<◌, length, slice_index_or, slice_set, IfOk, OnOk, OnErr};
+ghost use Rattle.std.specs.Prelude.{◌≡◌, ◌+◌, ◌<◌, ◌≤◌, length, slice_index_or, slice_set, IfOk, OnOk, OnErr};
 ghost use Rattle.std.specs.Borrow.{sem};
+ghost use Rattle.shared_leaves.specs.Leaves.{leaf_count};
 ghost use Rattle.shared_leaves.specs.Lends.{list_lends};
 
 use crate::handle::Handle;
 use crate::leaf::{LEAF_ENTRIES, Leaf};
+use crate::steps::Steps;
 use std::alloc::{AllocError, Global};
 use std::marker::Model;
+use std::sync::ledger::Ledger;
 
 /// A list whose leaves other lists share until they write them.
 #[derive(Drop)]
@@ -83,10 +86,43 @@ impl<T: Handle> SharedList<T> {
         Ok(())
     }
 
+    /// The same list once more. It costs one handle a leaf, and each is a step.
+    pub fn share_counted<L: Ledger>(
+        &self,
+        steps: &mut Steps<L>,
+    ) -> Result<SharedList<T>, AllocError>
+        ensures value { IfOk result (λ shared. shared ≡ self.now) }
+        ensures cost { OnOk result (steps.new ≡ steps.old + leaf_count (length self.now)) }
+        ensures most { steps.new ≤ steps.old + leaf_count (length self.now) }
+    {
+        Ok(SharedList {
+            leaves: share_leaves(self.allocator(), &self.leaves, steps)?,
+            len: self.len,
+        })
+    }
+
     /// The same list once more. It costs one handle a leaf.
     pub fn share(&self) -> Result<SharedList<T>, AllocError>
         ensures { IfOk result (λ shared. shared ≡ self.now) }
     {
         self.clone()
     }
+}
+
+/// Handles on these leaves. Each is a step.
+fn share_leaves<T: Handle, L: Ledger>(
+    alloc: Global,
+    leaves: &[Leaf<T>],
+    steps: &mut Steps<L>,
+) -> Result<Vec<Leaf<T>>, AllocError>
+    ensures value { IfOk result (λ shared. shared.items ≡ leaves.now) }
+    ensures cost { OnOk result (steps.new ≡ steps.old + length leaves.now) }
+    ensures most { steps.new ≤ steps.old + length leaves.now }
+{
+    let mut shared = Vec::with_capacity(alloc, leaves.len())?;
+    for leaf in leaves {
+        steps.tick();
+        shared.push(leaf.clone()?)?;
+    }
+    Ok(shared)
 }

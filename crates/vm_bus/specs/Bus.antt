@@ -93,13 +93,13 @@ bus_store b address width word =
     else (if nat_lt address FORK_BASE then option_map (λ k. record { bus = record b { block = k }; effect = Done }) (block_store b.block (address - BLOCK_BASE) width word)
     else fork_stored b (address - FORK_BASE) width word)))
 
--- a store that is a call changes nothing yet, and the call can be made
+-- a store that is a call or ZERO changes nothing yet, since the machine makes it. The call can be made
 abbrev pub Waits : BusRegisters → BusRegisters → Effect → Type 0
 Waits old new Done = Unit {0}
 Waits old new TimeWritten = Unit {0}
 Waits old new (Call call) = (new ≡ old) × IsMakeable old.fork call
 Waits old new (Exit value) = Unit {0}
-Waits old new (Zero first count) = Unit {0}
+Waits old new (Zero first count) = new ≡ old
 
 -- Memory is wanted where a byte goes to the output, a sector is written, or a ticket is granted.
 abbrev pub WantsMemory : BusRegisters → ℕ → ℕ → ℕ → Type 0

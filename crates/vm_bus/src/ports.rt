@@ -9,7 +9,7 @@ ghost use Rattle.vm_bus.specs.Bus.{at_start, bus_load, bus_store, fields_of, for
 
 use crate::addresses::{BLOCK_BASE, CONSOLE_BASE, FORK_BASE, TIMER_BASE};
 use block_port::{BlockFields, BlockPort};
-use console_port::{ConsoleFields, ConsolePort};
+use console_port::{ConsoleFields, ConsolePort, Input};
 use cow_disk::Disk;
 use fork_port::refusals::TICKETS_END;
 use fork_port::registers::{FORK_COMMAND, TICKET_COMMAND};
@@ -66,6 +66,13 @@ impl Ports {
         ensures fits { length result.now ≤ MAX_INPUT }
     {
         self.console.input()
+    }
+
+    /// The same, shared. It costs one handle.
+    pub fn share_input(&self) -> Result<Input, AllocError>
+        ensures { IfOk result (λ input. input ≡ self.now.console.input) }
+    {
+        self.console.share_input()
     }
 
     /// What the console has put out.
@@ -219,10 +226,9 @@ impl Ports {
     }
 
     /// Ports with these registers, this disk and this input, and no output, tickets and join results.
-    pub fn of_fields(alloc: Global, fields: PortFields, disk: Disk, input: Vec<u8>) -> Ports
-        requires input_fits { length input.items ≤ MAX_INPUT }
-        requires place_fits { fields.console.place ≤ MAX_INPUT }
-        ensures { result ≡ ports_of_fields fields disk input.items }
+    pub fn of_fields(alloc: Global, fields: PortFields, disk: Disk, input: Input) -> Ports
+        requires { fields.console.place ≤ MAX_INPUT }
+        ensures { result ≡ ports_of_fields fields disk input }
     {
         let PortFields {
             timer,
@@ -232,7 +238,7 @@ impl Ports {
         } = fields;
         Ports {
             timer: TimerPort::of_fields(timer),
-            console: ConsolePort::of_fields(console, input),
+            console: ConsolePort::of_fields(alloc, console, input),
             block: BlockPort::of_fields(block, disk),
             fork: ForkPort::of_fields(alloc, fork),
         }

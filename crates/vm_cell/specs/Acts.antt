@@ -2,6 +2,8 @@
 use Rattle.std.specs.Prelude.{◌≡◌, ℕ, ◌-◌, ◌<◌, ◌⊎◌, true, false, length, Result, Ok, Err, IsSomeAnd}
 use Rattle.std.specs.declared.alloc.AllocError.{AllocError}
 use Rattle.block_port.specs.Block.{WritesSector}
+use Rattle.fork_port.specs.declared.commands.Effect.{Effect}
+use Rattle.fork_port.specs.declared.commands.Effect.TheVariants.{Zero}
 use Rattle.fork_port.specs.Commands.{IsMakeable}
 use Rattle.fork_port.specs.Fork.{GrantsTicket}
 use Rattle.rv_decode.specs.declared.kinds.Group.{Group}
@@ -29,11 +31,18 @@ Acts old new action (Ok (Exited value)) = action ≡ exit value new
 Acts old new action (Ok (Asked call)) = (action ≡ ask call (at_next_instruction old)) × (new ≡ old) × IsMakeable old.ports.fork call
 Acts old new action (Err e) = new ≡ old
 
--- a store to a port puts out a byte, writes a sector of the disk, or grants a ticket
+-- the effect of a store is ZERO
+abbrev pub Zeroes : Effect → Type 0
+Zeroes (Zero first count) = Unit {0}
+Zeroes _ = ⊥
+
+-- a store to a port puts out a byte, writes a sector of the disk, grants a ticket, or zeroes pages, whose
+-- entries may be shared
 abbrev pub PortGrows : PortRegisters → ℕ → ℕ → ℕ → Type 0
 PortGrows ports address width word =
     IsSomeAnd (port_store ports address width word) (λ stored. length ports.console.output < length stored.ports.console.output)
-    ⊎ (WritesSector ports.block (address - BLOCK_BASE) width word ⊎ GrantsTicket ports.fork (address - FORK_BASE) width word)
+    ⊎ (WritesSector ports.block (address - BLOCK_BASE) width word ⊎ (GrantsTicket ports.fork (address - FORK_BASE) width word
+    ⊎ IsSomeAnd (port_store ports address width word) (λ stored. Zeroes stored.effect)))
 
 -- an access of `width` bytes is aligned and of RAM. A write may want memory for its page, since it
 -- copies one that is shared, and one of zeros has no bytes of its own

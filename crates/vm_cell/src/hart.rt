@@ -1,5 +1,8 @@
-ghost use Rattle.std.specs.Prelude.{◌≡◌, ◌<◌, ◌-◌, ◌≤◌, ◌↔◌, ◌∷◌, length, drop, IsNone, IfOk, IfSome, OnErr, Ok, None, true, false};
+ghost use Rattle.std.specs.Prelude.{◌≡◌, ◌<◌, ◌-◌, ◌≤◌, ◌%◌, ◌↔◌, ◌∷◌, length, drop, IsNone, IfOk, IfSome, OnOk, OnErr, Ok, None, true, false};
+ghost use Rattle.byteorder.specs.Endian.{little_bytes};
+ghost use Rattle.flat_memory.specs.Flat.{put_bytes, word_at};
 ghost use Rattle.console_port.specs.declared.port.TheConstants.{MAX_INPUT};
+ghost use Rattle.rv_exec.specs.Memory.{IsWidth};
 ghost use Rattle.rv_traps.specs.Registers.{at_reset};
 ghost use Rattle.forest_model.specs.Ports.{ports_at_start};
 ghost use Rattle.forest_model.specs.State.{is_in_ram, register, with_register};
@@ -17,7 +20,7 @@ use forest_model::cause::{
 };
 use fork_port::Call;
 use fork_port::refusals::TICKETS_END;
-use guest_mem::GuestMem;
+use guest_mem::{GuestMem, StoreError};
 use rv_decode::{Group, Instr, decode};
 use rv_traps::{Csrs, Wrote};
 use std::alloc::{AllocError, Global};
@@ -59,6 +62,8 @@ pub struct Hart {
 }
 
 impl Model for Hart {
+    ghost use Rattle.std.specs.Prelude.{◌≡◌, None};
+    ghost use Rattle.guest_mem.specs.Ram.{HasEveryPage};
     ghost use Rattle.forest_model.specs.State.{State};
     ghost use Rattle.vm_cell.specs.Hart.{IsHart, ports_of};
 
@@ -66,7 +71,8 @@ impl Model for Hart {
 
     ghost view = { λ h. record { registers = h.registers; pc = h.pc; csrs = h.csrs; reservation = h.reservation; ram = h.memory.reads; ports = ports_of h.ports } };
 
-    ghost invariant = { λ h. IsHart (record { registers = h.registers; pc = h.pc; csrs = h.csrs; reservation = h.reservation; ram = h.memory.reads; ports = ports_of h.ports }) };
+    // Every page is here, and needs no image.
+    ghost invariant = { λ h. IsHart (record { registers = h.registers; pc = h.pc; csrs = h.csrs; reservation = h.reservation; ram = h.memory.reads; ports = ports_of h.ports }) × (h.memory.key ≡ None) × HasEveryPage h.memory };
 }
 
 impl Hart {
@@ -145,7 +151,7 @@ impl Hart {
             return None;
         }
         let offset = self.ram_offset(address)?;
-        Some(self.memory.peek(offset))
+        Some(self.word(offset))
     }
 
     /// The pc, and then x1 to x31.
@@ -169,7 +175,7 @@ impl Hart {
         let Some(offset) = self.ram_offset(self.pc) else {
             return Ok(trapped(INSTRUCTION_ACCESS_FAULT, self.pc));
         };
-        let word = self.memory.peek(offset);
+        let word = self.word(offset);
         match decode(word) {
             Some(instr) => self.execute(instr, word),
             None => Ok(trapped(ILLEGAL_INSTRUCTION, word)),
@@ -257,6 +263,35 @@ impl Hart {
             Some(offset)
         } else {
             None
+        }
+    }
+
+    /// The word at an offset in RAM, which is a multiple of 4.
+    #[inline(always)]
+    fn word(&self, offset: u32) -> u32
+        requires aligned { offset % 4 ≡ 0 }
+        requires inside { offset < length self.now.ram }
+        ensures { result ≡ word_at self.now.ram offset }
+    {
+        match self.memory.load(offset, 4) {
+            Ok(word) => word,
+            Err(_) => unreachable!(),
+        }
+    }
+
+    /// Stores the low `width` bytes of a word from an offset in RAM on, which is a multiple of the width.
+    #[inline(always)]
+    fn store_at(&mut self, offset: u32, width: u32, word: u32) -> Result<(), AllocError>
+        requires width { IsWidth width }
+        requires aligned { offset % width ≡ 0 }
+        requires inside { offset < length self.old.ram }
+        ensures ok { OnOk result (self.new ≡ record self.old { ram = put_bytes self.old.ram offset (little_bytes width word) }) }
+        ensures err { OnErr result (self.new ≡ self.old) }
+    {
+        match self.memory.store(offset, width, word) {
+            Ok(()) => Ok(()),
+            Err(StoreError::Memory) => Err(AllocError),
+            Err(StoreError::Absent(_)) => unreachable!(),
         }
     }
 

@@ -31,7 +31,7 @@ impl Hart {
         let Some(offset) = self.ram_offset(address) else {
             return trapped(LOAD_ACCESS_FAULT, address);
         };
-        let word = self.memory.peek(offset);
+        let word = self.word(offset);
         self.reservation = Some(address);
         self.retire_with(instr, word)
     }
@@ -104,7 +104,7 @@ impl Hart {
         requires inside { offset < length self.old.ram }
         ensures { Acts self.old self.new (amo_at true instr address self.old) result }
     {
-        let old = self.memory.peek(offset);
+        let old = self.word(offset);
         let source = self.register(instr.rs2());
         self.write_word(address, offset, amo_value(instr.kind(), old, source))?;
         Ok(self.retire_with(instr, old))
@@ -119,6 +119,6 @@ impl Hart {
         ensures ok { OnOk result (self.new ≡ with_bytes address (to_le_bytes w32 word) self.old) }
         ensures err { OnErr result (self.new ≡ self.old) }
     {
-        self.memory.store(offset, 4, word)
+        self.store_at(offset, 4, word)
     }
 }

@@ -26,7 +26,7 @@ impl Hart {
         let Some(offset) = self.ram_offset(self.pc) else {
             return None;
         };
-        match decode(self.memory.peek(offset)) {
+        match decode(self.word(offset)) {
             Some(instr) => self.call_of(instr),
             None => None,
         }

@@ -1,6 +1,6 @@
 //! Loads and stores.
 
-ghost use Rattle.std.specs.Prelude.{◌≡◌, ◌<◌, Ok, OnErr};
+ghost use Rattle.std.specs.Prelude.{◌≡◌, ◌<◌, Ok, OnErr, OnOk};
 ghost use Rattle.rv_decode.specs.declared.kinds.Group.TheVariants as group;
 ghost use Rattle.rv_decode.specs.Kinds.{group_of};
 ghost use Rattle.byteorder.specs.Endian.{little_bytes};
@@ -60,7 +60,9 @@ impl Hart {
         let Some(offset) = self.ram_offset(address) else {
             return self.load_from_port(instr, address, width);
         };
-        let number = self.memory.load(offset, width);
+        let Ok(number) = self.memory.load(offset, width) else {
+            unreachable!()
+        };
         self.retire_with(instr, load_value(instr.kind(), number))
     }
 
@@ -108,7 +110,7 @@ impl Hart {
         }
         match self.ram_offset(address) {
             Some(offset) => {
-                self.memory.store(offset, width, word)?;
+                self.store_at(offset, width, word)?;
                 Ok(self.retire())
             }
             None => self.store_to_port(address, width, word),
@@ -134,9 +136,8 @@ impl Hart {
                 Ok(Acted::Exited(value))
             }
             Ok(Effect::Zero(first, count)) => {
-                self.retire();
-                self.zero(first, count);
-                Ok(Acted::Retired(Written::Nothing))
+                self.zero(first, count)?;
+                Ok(self.retire())
             }
             Err(PortError::Fault) => Ok(trapped(STORE_ACCESS_FAULT, address)),
             Err(PortError::Memory) => Err(AllocError),
@@ -144,15 +145,17 @@ impl Hart {
     }
 
     /// Makes pages read as zeros, or tells that they are not pages of RAM.
-    fn zero(&mut self, first: u32, count: u32)
-        ensures { self.new ≡ zeroed (is_page_range first count self.old.ram) first count self.old }
+    fn zero(&mut self, first: u32, count: u32) -> Result<(), AllocError>
+        ensures ok { OnOk result (self.new ≡ zeroed (is_page_range first count self.old.ram) first count self.old) }
+        ensures err { OnErr result (self.new ≡ self.old) }
     {
         let end = u64::from(first) + u64::from(count);
         if count != 0 && end <= u64::from(self.memory.pages()) {
-            self.memory.zero_pages(first, count);
+            self.memory.zero_pages(first, count)?;
             self.ports.refuse(0);
         } else {
             self.ports.refuse(BAD_ARGUMENT);
         }
+        Ok(())
     }
 }

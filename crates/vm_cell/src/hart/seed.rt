@@ -20,11 +20,12 @@ use vm_descriptor::{Descriptor, MAX_CLONES, MAX_LIMIT, MAX_SHARE};
 
 impl Hart {
     /// An image of the memory, the disk and the input. It copies no page and no sector.
-    pub fn freeze(&self, alloc: Global) -> Result<Frozen, AllocError>
+    pub fn freeze(&self, alloc: Global, depot: &Depot) -> Result<Frozen, AllocError>
         ensures { IfOk result (λ image. image ≡ image_left self.now) }
     {
-        self.memory
-            .freeze(alloc, self.disk().freeze()?, self.input())
+        let disk = self.disk().freeze()?;
+        let input = self.ports.share_input()?;
+        self.memory.freeze(alloc, depot, disk, input)
     }
 
     /// What child `k`, with this share, of the CLONE that is the coming step starts with, beside the image
@@ -90,13 +91,15 @@ impl Hart {
     {
         let image = depot.frozen(key);
         let disk = image.disk().open()?;
-        let input = Vec::from_slice(alloc, image.input())?;
+        let input = image.input().share()?;
+        let mut memory = GuestMem::clone_of(alloc, key.again()?, descriptor)?;
+        memory.fetch_all(alloc, depot)?;
         Ok(Hart {
             registers: with_zero(&descriptor.registers),
             pc: descriptor.pc,
             csrs: Csrs::of_fields(descriptor.csrs),
             reservation: descriptor.reservation,
-            memory: GuestMem::clone_of(alloc, key, descriptor, depot)?,
+            memory,
             ports: Ports::of_fields(alloc, port_fields(descriptor), disk, input),
         })
     }

@@ -62,7 +62,7 @@ impl Vm {
         ensures seeds { IfOk result (λ brood. AreSeeds self.old brood.key brood.seeds.items) }
     {
         let ticket = self.cloned_ticket();
-        let key = depot.freeze(rt, self.hart.freeze(alloc)?)?;
+        let key = depot.freeze(rt, self.hart.freeze(alloc, depot)?)?;
         let seeds = self.seeds(alloc, ticket, &key)?;
         self.hart.fork(ticket);
         count_step(&mut self.steps, self.limit, &mut self.ending);

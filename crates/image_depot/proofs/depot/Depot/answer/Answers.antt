@@ -1,5 +1,4 @@
-use Rattle.std.proofs.Common.{◌≡◌, length, ap, sym, ◌∙◌}
-use Rattle.page_frames.specs.declared.page.TheConstants.{PAGE_SIZE}
+use Rattle.std.proofs.Common.{length, ap, sym, ◌∙◌}
 use Rattle.image_depot.specs.Key.{Key, image_of}
 use Rattle.image_depot.specs.Reply.{page_bytes}
 use Rattle.image_depot.proofs.depot.Depot.answer.Goals as goal

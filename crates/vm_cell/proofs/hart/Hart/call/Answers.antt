@@ -11,7 +11,9 @@ pub returns-in-Some-decode : goal.returns-in-Some-decode
 returns-in-Some-decode c =
     let taken = ap (takes_interrupt c.self.inside.csrs) (sym c.is_timer_due.ensures) ∙ sym c.interrupt.ensures ∙ c.if-interrupt.false in
     let inside = c.in-Some.ensures.inside in
-    let word = ap (λ at. word_at c.self.inside.memory.reads at) (sym inside.2) ∙ sym c.peek.ensures in
+    let read : word_at c.self.inside.memory.reads c.in-Some.offset ≡ c.word.result =
+    subst (λ (s : State). word_at s.ram c.in-Some.offset ≡ c.word.result) (sym c.self.view_is) (sym c.word.ensures) in
+    let word = ap (λ at. word_at c.self.inside.memory.reads at) (sym inside.2) ∙ read in
     let instr = ap decoded word ∙ sym c.decode.ensures ∙ c.in-Some-decode.is in
     fetched-asks c.args.self.now c.in-Some-decode.instr c.call_of.result
     (subst (λ (s : State). takes_interrupt s.csrs (is_timer_due s) ≡ false) c.self.view_is taken)
