@@ -10,7 +10,7 @@ use block_port::{BlockFields, Status};
 use console_port::{ConsoleFields, Input};
 use cow_disk::Disk;
 use elf_load::{ImageError, MAX_PAGES, MIN_PAGES, RAM_BASE, load_elf};
-use guest_mem::{Arrived, GuestMem};
+use guest_mem::{Absent, Arrived, GuestMem, StoreError};
 use image_depot::{Depot, ImageKey};
 use rv_asm::elf_of;
 use rv_traps::Csrs;
@@ -137,14 +137,13 @@ fn send(
     Ok(memory.arrive(alloc, depot, &depot.answer(key, page)?)?)
 }
 
-/// The same with the first two pages, which were sent to it.
+/// A clone that starts with an image, with these blank pages, and shares all others with the image.
 fn clone_of(alloc: Global, key: &ImageKey, blank: PageMap, depot: &Depot) -> Result<GuestMem, Fail>
     requires { IsKeyOf depot.now key.now }
     ensures { IfOk result (λ memory. IsRamOf depot.now memory) }
 {
     let mut memory = bare_clone(alloc, key, blank, depot)?;
-    send(alloc, &mut memory, key, 0, depot)?;
-    send(alloc, &mut memory, key, 1, depot)?;
+    memory.fetch_all(alloc, depot)?;
     Ok(memory)
 }
 
@@ -424,6 +423,76 @@ fn a_page_that_is_here_does_not_come_again(rt: HostRuntime) -> Result<(), Fail> 
             [Some(0), Some(7), Some(0xaaaa_aaaa)]
         )
     );
+    Ok(())
+}
+
+/// What comes of a store to an absent page of a clone, and of loads of it before and after it is made
+/// blank.
+fn absent_then_blank(
+    alloc: Global,
+    key: &ImageKey,
+    blank: PageMap,
+    depot: &Depot,
+) -> Result<(Option<StoreError>, [Option<u32>; 2]), Fail>
+    requires { IsKeyOf depot.now key.now }
+{
+    let mut memory = bare_clone(alloc, key, blank, depot)?;
+    if memory.size() <= SECOND {
+        return Err("no second page".into());
+    }
+    let refused = memory.store(SECOND, 4, 1).err();
+    let before = load(&memory, SECOND, 4);
+    memory.zero_pages(1, 1)?;
+    Ok((refused, [before, load(&memory, SECOND, 4)]))
+}
+
+#[test]
+fn an_absent_page_is_refused_until_it_is_blank(rt: HostRuntime) -> Result<(), Fail> {
+    let depot = Depot::new(rt.alloc())?;
+    let parent = booted(rt.alloc(), 128)?;
+    let key = frozen(&rt, rt.alloc(), &parent, &depot)?;
+    let came = absent_then_blank(rt.alloc(), &key, parent.blank(rt.alloc())?, &depot)?;
+    let absent = StoreError::Absent(Absent { page: 1 });
+    assert_eq!(rt; came, (Some(absent), [None, Some(0)]));
+    Ok(())
+}
+
+/// The second page of a grandchild, peeked while it is absent and loaded once it has come. Its parent, of
+/// which it is a clone, has stored to the first page alone.
+fn of_grandchild<R: Wait>(
+    rt: &R,
+    alloc: Global,
+    key: &ImageKey,
+    blank: PageMap,
+    depot: &Depot,
+) -> Result<(u32, Arrived, [Option<u32>; 3]), Fail>
+    requires { IsKeyOf depot.now key.now }
+{
+    let mut child = bare_clone(alloc, key, blank, depot)?;
+    store(&mut child, 0, 4, 5)?;
+    let key = frozen(rt, alloc, &child, depot)?;
+    let mut grandchild = bare_clone(alloc, &key, child.blank(alloc)?, depot)?;
+    if grandchild.size() <= SECOND {
+        return Err("no second page".into());
+    }
+    let peeked = grandchild.peek(depot, SECOND);
+    let came = send(alloc, &mut grandchild, &key, 1, depot)?;
+    send(alloc, &mut grandchild, &key, 0, depot)?;
+    Ok((peeked, came, three_words(&grandchild)))
+}
+
+#[test]
+fn a_page_comes_from_an_image_below(rt: HostRuntime) -> Result<(), Fail> {
+    let depot = Depot::new(rt.alloc())?;
+    for pages in [16, 64, 65, 128, 1024] {
+        let mut parent = booted(rt.alloc(), pages)?;
+        let key = frozen(&rt, rt.alloc(), &parent, &depot)?;
+        let blank = parent.blank(rt.alloc())?;
+        store_two(&mut parent, 9)?;
+        let read = of_grandchild(&rt, rt.alloc(), &key, blank, &depot)?;
+        let words = [Some(5), Some(0xaaaa_aaaa), Some(0xaaaa_aaaa)];
+        assert_eq!(rt; read, (0xaaaa_aaaa, Arrived::Got(1), words), "{pages}");
+    }
     Ok(())
 }
 
