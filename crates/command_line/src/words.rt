@@ -2,9 +2,9 @@
 
 ghost use Rattle.std.specs.Prelude.{◌≡◌, ◌≤◌, false, codes, IfOk, IfSome, option_map};
 ghost use Rattle.clap.specs.declared.Command.TheViews.{out-Command};
-ghost use Rattle.clap.specs.Words.{app_of, first_of, found_of, rows_of, subcommand_rows_of};
+ghost use Rattle.clap.specs.Words.{app_of, first_of, found_of, rows_of, subcommand_rows_of, with_rule};
 ghost use Rattle.command_line.specs.Commands.{meaning};
-ghost use Rattle.command_line.specs.Words.{command_of, drive_app, drive_with, guest_of, meant, number_of, run, run_app, snow_app, texts, value_of, with_files, with_numbers};
+ghost use Rattle.command_line.specs.Words.{argument_rule, command_of, drive_app, drive_with, guest_of, meant, number_of, option_rule, run, run_app, snow_app, texts, value_of, with_files, with_numbers};
 
 use clap::error::ErrorKind;
 use clap::{Arg, ArgMatches};
@@ -139,7 +139,7 @@ fn run_command<'a>(alloc: Global) -> Result<clap::Command<'a>, AllocError>
     ensures app { IfOk result (λ command. app_of command ≡ run_app) }
     ensures local { IfOk result (λ command. (out-Command command).has_globals ≡ false) }
 {
-    let command = clap::Command::new(alloc, "run").arg(Arg::new(alloc, "IMAGE").required(true))?;
+    let command = with_argument(alloc, clap::Command::new(alloc, "run"), "IMAGE")?;
     numbers_added(alloc, files_added(alloc, command)?)
 }
 
@@ -147,9 +147,8 @@ fn drive_command<'a>(alloc: Global) -> Result<clap::Command<'a>, AllocError>
     ensures app { IfOk result (λ command. app_of command ≡ drive_app) }
     ensures local { IfOk result (λ command. (out-Command command).has_globals ≡ false) }
 {
-    let command = clap::Command::new(alloc, "drive")
-        .arg(Arg::new(alloc, "IMAGE").required(true))?
-        .arg(Arg::new(alloc, "SCRIPT").required(true))?;
+    let command = with_argument(alloc, clap::Command::new(alloc, "drive"), "IMAGE")?;
+    let command = with_argument(alloc, command, "SCRIPT")?;
     numbers_added(alloc, files_added(alloc, command)?)
 }
 
@@ -161,9 +160,8 @@ fn files_added<'a>(
     ensures app { IfOk result (λ added. app_of added ≡ with_files (app_of command.entry)) }
     ensures local { IfOk result (λ added. (out-Command command.entry).has_globals ≡ false → (out-Command added).has_globals ≡ false) }
 {
-    command
-        .arg(Arg::new(alloc, "disk").long("disk"))?
-        .arg(Arg::new(alloc, "input").long("input"))
+    let command = with_option(alloc, command, "disk")?;
+    with_option(alloc, command, "input")
 }
 
 /// A command with the options that are numbers.
@@ -174,10 +172,33 @@ fn numbers_added<'a>(
     ensures app { IfOk result (λ added. app_of added ≡ with_numbers (app_of command.entry)) }
     ensures local { IfOk result (λ added. (out-Command command.entry).has_globals ≡ false → (out-Command added).has_globals ≡ false) }
 {
-    command
-        .arg(Arg::new(alloc, "ram").long("ram"))?
-        .arg(Arg::new(alloc, "limit").long("limit"))?
-        .arg(Arg::new(alloc, "clones").long("clones"))
+    let command = with_option(alloc, command, "ram")?;
+    let command = with_option(alloc, command, "limit")?;
+    with_option(alloc, command, "clones")
+}
+
+/// A command with an argument that has to be given.
+fn with_argument<'a>(
+    alloc: Global,
+    command: clap::Command<'a>,
+    name: &'a str,
+) -> Result<clap::Command<'a>, AllocError>
+    ensures app { IfOk result (λ added. app_of added ≡ with_rule (app_of command.entry) (argument_rule name.entry.now)) }
+    ensures local { IfOk result (λ added. (out-Command command.entry).has_globals ≡ false → (out-Command added).has_globals ≡ false) }
+{
+    command.arg(Arg::new(alloc, name).required(true))
+}
+
+/// A command with an option `--name` that takes a value.
+fn with_option<'a>(
+    alloc: Global,
+    command: clap::Command<'a>,
+    name: &'a str,
+) -> Result<clap::Command<'a>, AllocError>
+    ensures app { IfOk result (λ added. app_of added ≡ with_rule (app_of command.entry) (option_rule name.entry.now)) }
+    ensures local { IfOk result (λ added. (out-Command command.entry).has_globals ≡ false → (out-Command added).has_globals ≡ false) }
+{
+    command.arg(Arg::new(alloc, name).long(name))
 }
 
 /// The subcommand that was found, with its values.
