@@ -1,5 +1,5 @@
 -- The pieces of a line are its text, and lines one after another are a report.
-use Rattle.std.proofs.Common.{codes, ◌≡◌, ℕ, List, [], ◌∷◌, ◌++◌, length, refl, ap₂}
+use Rattle.std.proofs.Common.{codes, ◌≡◌, ℕ, List, [], ◌++◌, length, ap₂}
 use Rattle.std.specs.Fmt.{decimal}
 use Rattle.run_report.specs.declared.line.MachineLine.{MachineLine}
 use Rattle.run_report.specs.Said.{line_of_machine}
