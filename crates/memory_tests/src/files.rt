@@ -138,6 +138,11 @@ fn loads_segments_in_any_order(rt: HostRuntime) -> Result<(), Fail> {
     Ok(())
 }
 
+/// Why a file is not loaded, if it is not.
+fn refusal(alloc: Global, file: &[u8]) -> Option<ImageError> {
+    load_elf(alloc, file, 16).err()
+}
+
 /// A program header for each of 65,534 bytes, the last byte of RAM first.
 fn most_headers(alloc: Global) -> Result<Vec<ProgramHeader>, AllocError> {
     let mut headers = Vec::new(alloc);
@@ -156,6 +161,38 @@ fn loads_as_many_segments_as_there_may_be(rt: HostRuntime) -> Result<(), Fail> {
         ram_at(&loaded, 0xfffc, 3),
         Some([0x7f, 0x7f, 0].as_slice())
     );
+    Ok(())
+}
+
+/// Why a file of 65,534 segments of one byte, a zero, is not loaded, if it is not. They lie one behind
+/// the other from the start of RAM on, but for the last, which lies at `last`.
+fn refusal_of_most(alloc: Global, last: u32) -> Result<Option<ImageError>, AllocError> {
+    let mut headers: Vec<ProgramHeader> = Vec::new(alloc);
+    for address in 0x8000_0000..0x8000_fffd {
+        headers.push([1, 0, address, 0, 1])?;
+    }
+    headers.push([1, 0, last, 0, 1])?;
+    let image = image_of(alloc, 0x8000_0000, &headers, &[])?;
+    Ok(refusal(alloc, &image))
+}
+
+/// Where the last of those segments lies, and the rule that the file then breaks, if it breaks one.
+static LAST_OF_MOST: [(u32, Option<u32>); 7] = [
+    (0x8000_fffd, None),
+    (0x8000_ffff, None),
+    (0x8000_0000, Some(11)),
+    (0x8000_8000, Some(11)),
+    (0x8000_fffc, Some(11)),
+    (0x7fff_ffff, Some(10)),
+    (0x8001_0000, Some(10)),
+];
+
+#[test]
+fn tells_one_overlap_among_as_many_segments_as_there_may_be(rt: HostRuntime) -> Result<(), Fail> {
+    for (last, rule) in LAST_OF_MOST.iter() {
+        let refused = refusal_of_most(rt.alloc(), *last)?;
+        assert_eq!(rt; refused, rule.map(ImageError::Refused), "{last:#x}");
+    }
     Ok(())
 }
 
@@ -196,11 +233,6 @@ static BROKEN: [(usize, &[(usize, u32)], u32); 29] = [
     (136, &[(64, 0), (88, 133)], 9),
     (136, &[(24, 1), (96, 0x8000_000f)], 11),
 ];
-
-/// Why a file is not loaded, if it is not.
-fn refusal(alloc: Global, file: &[u8]) -> Option<ImageError> {
-    load_elf(alloc, file, 16).err()
-}
 
 #[test]
 fn refuses_by_the_first_rule_that_is_broken(rt: HostRuntime) -> Result<(), Fail> {
