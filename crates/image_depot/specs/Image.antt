@@ -5,7 +5,6 @@ use Rattle.flat_memory.specs.Flat.{word_at}
 use Rattle.page_frames.specs.declared.page.TheConstants.{PAGE_SIZE}
 use Rattle.page_frames.specs.declared.entry.Entry.{Entry}
 use Rattle.page_frames.specs.Tables.{is_own, stacked}
-use Rattle.console_port.specs.declared.port.TheConstants.{MAX_INPUT}
 use Rattle.elf_load.specs.declared.image.TheConstants.{MAX_PAGES}
 
 pub record FrozenImage : Type 0 where
@@ -50,8 +49,7 @@ image_of_tables tables disk input = record {
   input = input;
 }
 
--- what holds of every frozen image
-pub record IsFrozen (tables : List (List Entry)) (input : List ℕ) : Type 0 where
+-- what holds of the tables of every frozen image
+pub record IsFrozen (tables : List (List Entry)) : Type 0 where
   pub stack : IsStack tables
   pub pages_fit : length (own_table tables) ≤ MAX_PAGES
-  pub input_fits : length input ≤ MAX_INPUT

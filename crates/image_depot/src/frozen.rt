@@ -29,7 +29,7 @@ impl Model for Frozen {
 
     ghost view = { λ f. image_of_tables f.tables.items f.disk f.input };
 
-    ghost invariant = { λ f. IsFrozen f.tables.items f.input };
+    ghost invariant = { λ f. IsFrozen f.tables.items };
 }
 
 impl Frozen {
@@ -44,7 +44,6 @@ impl Frozen {
         requires pages_fit { length entries ≤ MAX_PAGES }
         ensures { IfOk result (λ frozen. frozen ≡ image_of_tables (entries ∷ []) disk input) }
     {
-        let _ = input.bytes();
         let table = Table::new(alloc, entries)?;
         Ok(Frozen {
             tables: vec![in alloc; table]?,
@@ -69,7 +68,6 @@ impl Frozen {
           input = input;
         }) }
     {
-        let _ = input.bytes();
         let table = Table::new(alloc, entries)?;
         Ok(Frozen {
             tables: stack_on(alloc, table, &base.tables)?,
@@ -95,6 +93,7 @@ impl Frozen {
         ensures value { result.now ≡ self.now.input }
         ensures fits { length result.now ≤ MAX_INPUT }
     {
+        // The call tells that they fit.
         let _ = self.input.bytes();
         &self.input
     }

@@ -61,6 +61,7 @@ impl Parcel {
         ensures there { self.now.page < page_count (image_of self.now.key) }
         ensures whole { length (page_bytes (image_of self.now.key) self.now.page) ≡ PAGE_SIZE }
     {
+        // The calls tell that both numbers have 32 bits.
         let _ = (self.key.number(), self.page());
         match decode_frame(&self.bytes) {
             Some(frame) => frame.bytes,

@@ -1,6 +1,10 @@
+ghost use Rattle.std.specs.Prelude.{◌≡◌, ◌+◌, ◌<◌, length, OnOk};
+
 use crate::token::Token;
-use shared_leaves::SharedList;
+use shared_leaves::{SharedList, Steps};
 use std::alloc::{AllocError, Global};
+use std::marker::Brand;
+use std::sync::ledger::{Blank, Ledger};
 use std::test::Fail;
 use std::thread;
 
@@ -58,6 +62,30 @@ fn fill(
         list.fill(first, end, &token)?;
     }
     Ok(token.owners() - 1)
+}
+
+/// Shares a list, and tells how many steps that takes at some lengths.
+fn share_in_steps<L: Ledger>(
+    list: &SharedList<Token>,
+    steps: &mut Steps<L>,
+) -> Result<SharedList<Token>, AllocError>
+    ensures one_leaf { length list.now ≡ 64 → OnOk result (steps.new ≡ steps.old + 1) }
+    ensures an_entry_more { length list.now ≡ 65 → OnOk result (steps.new ≡ steps.old + 2) }
+    ensures many { length list.now ≡ 1024 → OnOk result (steps.new ≡ steps.old + 16) }
+{
+    list.share_counted(steps)
+}
+
+/// The same with a counter of its own.
+fn share_of_ledger<L: Ledger>(
+    list: &SharedList<Token>,
+    blank: Blank,
+) -> Result<SharedList<Token>, AllocError>
+    requires name { blank.name ≡ L.name }
+    requires parts { blank.parts ≡ L.parts }
+    requires some { 0 < blank.parts }
+{
+    share_in_steps(list, &mut Steps::<L>::new(blank))
 }
 
 // Sizes at the ends of leaves.
@@ -135,6 +163,14 @@ fn equal_entries_are_one_leaf(rt: HostRuntime) -> Result<(), Fail> {
         (lists[0].len(), lists[1].len(), token.owners()),
         (0, 1024, 1 + 64)
     );
+    Ok(())
+}
+
+#[test]
+fn a_counted_share_is_equal(rt: HostRuntime) -> Result<(), Fail> {
+    let list = counted(rt.alloc(), 1024)?;
+    let copy = share_of_ledger::<Brand>(&list, Blank::new(1))?;
+    assert!(rt; is_counted(&copy, 1024));
     Ok(())
 }
 

@@ -13,7 +13,6 @@ invariant_of-result c =
     record {
       stack = subst IsStack (sym made) (IsStack-more c.args.entries base c.base.invariant.stack size);
       pages_fit = omega (arith, size, ap (λ tables. length (own_table tables)) made, c.base.invariant.pages_fit);
-      input_fits = omega (arith, c.bytes.ensures.fits, ap length c.bytes.ensures.value);
     }
 
 pub returns : goal.returns
