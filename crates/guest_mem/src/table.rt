@@ -11,7 +11,7 @@ use page_frames::{Entry, PAGE_SIZE, Page, PageTable};
 use shared_leaves::SharedList;
 use std::alloc::{AllocError, Global};
 
-/// The pages of a run from which on it is filled at once.
+/// A run of so many pages is long: it may have a whole leaf in it.
 const LONG_RUN: usize = 64;
 
 /// The table of RAM with these bytes, of which those pages are held that are flagged.
@@ -44,8 +44,8 @@ fn boot_entry(alloc: Global, bytes: &[u8; PAGE_SIZE], is_held: bool) -> Result<E
     }
 }
 
-/// The table of a clone, whose pages are absent but for the flagged ones, which are blank. It costs one
-/// handle a leaf, and the entries of a leaf alone in which some pages are flagged and some are not.
+/// The table of a clone, whose pages are absent but for the flagged ones, which are blank. All whole
+/// leaves of absent pages are one, and so are those of a long run of blank ones.
 pub fn clone_table(alloc: Global, blank: &[bool]) -> Result<PageTable, AllocError>
     ensures { IfOk result (λ table. table ≡ clone_table blank.now) }
 {
@@ -76,8 +76,8 @@ fn end_of_run(flags: &[bool], first: usize) -> usize
     flags.len()
 }
 
-/// Makes a run of pages blank. A run that may have a whole leaf in it is filled at once, which costs a handle
-/// for each leaf of the table, and a shorter one page by page.
+/// Makes a run of pages blank. A long run is filled at once, which costs a handle for each leaf of the
+/// table, and a shorter one page by page.
 fn make_blank(table: &mut PageTable, first: usize, end: usize) -> Result<(), AllocError>
     requires order { first ≤ end }
     requires inside { end ≤ length table.old }
