@@ -1,5 +1,5 @@
 -- How the tables of a booted guest, of a clone and of a guest whose absent pages have come are made, page by page.
-use Rattle.std.specs.Prelude.{ℕ, ◌*◌, Bool, true, false, List, length, map, take, drop, slice_index_or}
+use Rattle.std.specs.Prelude.{◌≡◌, ℕ, ◌*◌, ◌<◌, ◌≤◌, Bool, true, false, List, length, map, take, drop, slice_index_or}
 use Rattle.std.specs.List.{range_with_len}
 use Rattle.page_frames.specs.declared.page.TheConstants.{PAGE_SIZE}
 use Rattle.page_frames.specs.declared.entry.Entry.{Entry}
@@ -32,3 +32,14 @@ clone_entry false = Absent
 
 abbrev pub clone_table : List Bool → List Entry
 clone_table blank = map clone_entry blank
+
+-- equal flags from a place up to another
+abbrev pub IsRun : List Bool → ℕ → ℕ → Type 0
+IsRun flags first end = (k : ℕ) → first ≤ k → k < end → slice_index_or flags k false ≡ slice_index_or flags first false
+
+-- a table after the pages from one up to another were made blank
+pub record IsBlanked (old new : List Entry) (first end : ℕ) : Type 0 where
+  pub size : length new ≡ length old
+  pub blank : (k : ℕ) → first ≤ k → k < end → entry_at new k ≡ Blank
+  pub before : (k : ℕ) → k < first → entry_at new k ≡ entry_at old k
+  pub behind : (k : ℕ) → end ≤ k → entry_at new k ≡ entry_at old k

@@ -1,14 +1,14 @@
 //! The RAM of guests: that calls succeed, that guests really share their pages until they write them, and that
 //! they move between threads.
 
-ghost use Rattle.std.specs.Prelude.{◌≡◌, ◌≤◌, IfOk, OnOk};
+ghost use Rattle.std.specs.Prelude.{◌≡◌, ◌≤◌, None, IfOk, OnOk};
 ghost use Rattle.image_depot.specs.Key.{IsKeyOf};
 ghost use Rattle.guest_mem.specs.Ram.{IsRamOf};
 
 use crate::process::resident_bytes;
 use block_port::{BlockFields, Status};
 use console_port::{ConsoleFields, Input};
-use cow_disk::Disk;
+use cow_disk::{Disk, FrozenDisk};
 use elf_load::{ImageError, MAX_PAGES, MIN_PAGES, RAM_BASE, load_elf};
 use guest_mem::{Absent, Arrived, GuestMem, StoreError};
 use image_depot::{Depot, ImageKey};
@@ -25,22 +25,26 @@ use vm_descriptor::{Descriptor, PageMap};
 const SECOND: u32 = 4096;
 
 /// The RAM of so many pages, with the byte 0xaa all over the second.
-fn booted(alloc: Global, pages: u32) -> Result<GuestMem, ImageError>
+pub fn booted(alloc: Global, pages: u32) -> Result<GuestMem, ImageError>
     requires least { MIN_PAGES ≤ pages }
     requires most { pages ≤ MAX_PAGES }
+    ensures { IfOk result (λ memory. memory.key ≡ None) }
 {
     let image = elf_of(alloc, RAM_BASE + SECOND, &[0xaaaa_aaaa; 1024])?;
     Ok(GuestMem::booted(alloc, &load_elf(alloc, &image, pages)?)?)
 }
 
 /// Stores the low bytes of a word.
-fn store(memory: &mut GuestMem, at: u32, width: u32, word: u32) -> Result<(), Fail> {
+fn store(memory: &mut GuestMem, at: u32, width: u32, word: u32) -> Result<(), Fail>
+    ensures { memory.new.key ≡ memory.old.key }
+{
     if !matches!(width, 1 | 2 | 4) || at % width != 0 || at >= memory.size() {
         return Err("no such store".into());
     }
-    memory
-        .store(at, width, word)
-        .map_err(|_| "the page is absent, or memory is wanting".into())
+    match memory.store(at, width, word) {
+        Ok(()) => Ok(()),
+        Err(_) => Err("the page is absent, or memory is wanting".into()),
+    }
 }
 
 /// The number in the `width` bytes from an offset, if there is one.
@@ -85,6 +89,14 @@ fn descriptor_of(pages: u32, blank: PageMap) -> Descriptor
     }
 }
 
+/// A disk without sectors, and an input.
+pub fn disk_and_input(alloc: Global) -> Result<(FrozenDisk, Input), AllocError> {
+    let disk = Disk::from_bytes(alloc, &[])
+        .map_err(|_| AllocError)?
+        .freeze()?;
+    Ok((disk, Input::new(alloc, Vec::from_slice(alloc, b"in")?)?))
+}
+
 /// The key to an image of this memory.
 fn frozen<R: Wait>(
     rt: &R,
@@ -95,10 +107,7 @@ fn frozen<R: Wait>(
     requires { IsRamOf depot.now memory.now }
     ensures { IfOk result (λ key. IsKeyOf depot.now key) }
 {
-    let disk = Disk::from_bytes(alloc, &[])
-        .map_err(|_| AllocError)?
-        .freeze()?;
-    let input = Input::new(alloc, Vec::from_slice(alloc, b"in")?)?;
+    let (disk, input) = disk_and_input(alloc)?;
     depot.freeze(rt, memory.freeze(alloc, depot, disk, input)?)
 }
 
@@ -250,7 +259,9 @@ fn zeroed_pages_are_blank_until_they_are_stored_to(rt: HostRuntime) -> Result<()
 }
 
 /// Stores to the first word of the first two pages.
-fn store_two(memory: &mut GuestMem, word: u32) -> Result<(), Fail> {
+fn store_two(memory: &mut GuestMem, word: u32) -> Result<(), Fail>
+    ensures { memory.new.key ≡ memory.old.key }
+{
     store(memory, 0, 4, word)?;
     store(memory, SECOND, 4, word)
 }
@@ -457,28 +468,54 @@ fn an_absent_page_is_refused_until_it_is_blank(rt: HostRuntime) -> Result<(), Fa
     Ok(())
 }
 
-/// The second page of a grandchild, peeked while it is absent and loaded once it has come. Its parent, of
-/// which it is a clone, has stored to the first page alone.
+/// A clone that starts with an image and stores a word to its first page, which is blank.
+fn stored_child(
+    alloc: Global,
+    key: &ImageKey,
+    blank: PageMap,
+    depot: &Depot,
+) -> Result<GuestMem, Fail>
+    requires { IsKeyOf depot.now key.now }
+    ensures { IfOk result (λ memory. IsRamOf depot.now memory) }
+{
+    let mut child = bare_clone(alloc, key, blank, depot)?;
+    store(&mut child, 0, 4, 5)?;
+    Ok(child)
+}
+
+/// The second page of a clone, peeked while it is absent; and the words of the first two, once they came.
+fn peeked_and_sent(
+    alloc: Global,
+    memory: &mut GuestMem,
+    key: &ImageKey,
+    depot: &Depot,
+) -> Result<(u32, [Option<u32>; 3]), Fail>
+    requires key { IsKeyOf depot.now key.now }
+    requires ram { IsRamOf depot.now memory.old }
+{
+    if memory.size() <= SECOND {
+        return Err("no second page".into());
+    }
+    let peeked = memory.peek(depot, SECOND);
+    send(alloc, memory, key, 0, depot)?;
+    send(alloc, memory, key, 1, depot)?;
+    Ok((peeked, three_words(memory)))
+}
+
+/// The same of a grandchild, of whose pages its parent has stored to the first alone.
 fn of_grandchild<R: Wait>(
     rt: &R,
     alloc: Global,
     key: &ImageKey,
     blank: PageMap,
     depot: &Depot,
-) -> Result<(u32, Arrived, [Option<u32>; 3]), Fail>
+) -> Result<(u32, [Option<u32>; 3]), Fail>
     requires { IsKeyOf depot.now key.now }
 {
-    let mut child = bare_clone(alloc, key, blank, depot)?;
-    store(&mut child, 0, 4, 5)?;
+    let child = stored_child(alloc, key, blank, depot)?;
     let key = frozen(rt, alloc, &child, depot)?;
     let mut grandchild = bare_clone(alloc, &key, child.blank(alloc)?, depot)?;
-    if grandchild.size() <= SECOND {
-        return Err("no second page".into());
-    }
-    let peeked = grandchild.peek(depot, SECOND);
-    let came = send(alloc, &mut grandchild, &key, 1, depot)?;
-    send(alloc, &mut grandchild, &key, 0, depot)?;
-    Ok((peeked, came, three_words(&grandchild)))
+    peeked_and_sent(alloc, &mut grandchild, &key, depot)
 }
 
 #[test]
@@ -491,7 +528,7 @@ fn a_page_comes_from_an_image_below(rt: HostRuntime) -> Result<(), Fail> {
         store_two(&mut parent, 9)?;
         let read = of_grandchild(&rt, rt.alloc(), &key, blank, &depot)?;
         let words = [Some(5), Some(0xaaaa_aaaa), Some(0xaaaa_aaaa)];
-        assert_eq!(rt; read, (0xaaaa_aaaa, Arrived::Got(1), words), "{pages}");
+        assert_eq!(rt; read, (0xaaaa_aaaa, words), "{pages}");
     }
     Ok(())
 }

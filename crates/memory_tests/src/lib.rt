@@ -16,6 +16,8 @@ mod files;
 #[cfg(test)]
 mod frames;
 #[cfg(test)]
+mod freezes;
+#[cfg(test)]
 mod guests;
 #[cfg(test)]
 mod numbers;

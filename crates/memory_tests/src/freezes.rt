@@ -1,0 +1,63 @@
+//! The steps of a freeze, as literal numbers.
+
+ghost use Rattle.std.specs.Prelude.{◌≡◌, ◌+◌, ◌<◌, length, OnOk};
+ghost use Rattle.guest_mem.specs.Ram.{IsRamOf};
+
+use crate::guests::{booted, disk_and_input};
+use guest_mem::GuestMem;
+use image_depot::{Depot, Frozen};
+use shared_leaves::Steps;
+use std::alloc::{AllocError, Global};
+use std::marker::Brand;
+use std::sync::ledger::{Blank, Ledger};
+use std::test::Fail;
+
+/// Freezes a guest, and tells how many steps that takes at some sizes.
+fn freeze_in_steps<L: Ledger>(
+    alloc: Global,
+    memory: &GuestMem,
+    depot: &Depot,
+    steps: &mut Steps<L>,
+) -> Result<Frozen, AllocError>
+    requires { IsRamOf depot.now memory.now }
+    ensures one_leaf { length memory.now.here ≡ 64 → OnOk result (steps.new ≡ steps.old + 1) }
+    ensures a_page_more { length memory.now.here ≡ 65 → OnOk result (steps.new ≡ steps.old + 2) }
+    ensures many { length memory.now.here ≡ 1024 → OnOk result (steps.new ≡ steps.old + 16) }
+{
+    let (disk, input) = disk_and_input(alloc)?;
+    memory.freeze_counted(alloc, depot, disk, input, steps)
+}
+
+/// The same with a counter of its own.
+fn freeze_of_ledger<L: Ledger>(
+    alloc: Global,
+    memory: &GuestMem,
+    depot: &Depot,
+    blank: Blank,
+) -> Result<Frozen, AllocError>
+    requires name { blank.name ≡ L.name }
+    requires parts { blank.parts ≡ L.parts }
+    requires some { 0 < blank.parts }
+    requires ram { IsRamOf depot.now memory.now }
+{
+    freeze_in_steps(alloc, memory, depot, &mut Steps::<L>::new(blank))
+}
+
+/// The pages of an image of a booted guest of so many pages, and the first word of its second page.
+fn frozen_of(alloc: Global, pages: u32, depot: &Depot) -> Result<(u32, Option<u32>), Fail> {
+    let memory = booted(alloc, pages)?;
+    let image = freeze_of_ledger::<Brand>(alloc, &memory, depot, Blank::new(1))?;
+    let word = (image.pages() > 1).then(|| image.word(1, 0));
+    Ok((image.pages(), word))
+}
+
+#[test]
+fn a_counted_freeze_has_every_page(rt: HostRuntime) -> Result<(), Fail> {
+    let depot = Depot::new(rt.alloc())?;
+    let sizes = [16, 64, 65, 128, 1024];
+    for pages in sizes.iter() {
+        let frozen = frozen_of(rt.alloc(), *pages, &depot)?;
+        assert_eq!(rt; frozen, (*pages, Some(0xaaaa_aaaa)));
+    }
+    Ok(())
+}
