@@ -1,6 +1,6 @@
 //! Short pieces are gathered on their way to a sink.
 
-ghost use Rattle.std.specs.Prelude.{◌≡◌, ◌≤◌, [], ◌++◌, OnOk, OnErr};
+ghost use Rattle.std.specs.Prelude.{◌≡◌, ◌+◌, ◌≤◌, [], length, OnOk, OnErr};
 ghost use Rattle.std.specs.Fmt.{decimal};
 ghost use Rattle.io_edge.specs.Outside.{HasRisen, appended, IsPrefixGone};
 ghost use Rattle.io_edge.specs.Streamed.{Streams};
@@ -44,6 +44,7 @@ impl SinkBuffer {
         ensures counts { K.faults sink.old ≤ K.faults sink.new }
         ensures fault { OnErr result (HasRisen (K.faults sink.old) (K.faults sink.new)) }
         ensures streams { Streams (K.gone sink.old) (K.gone sink.new) self.old piece.now self.new result }
+        ensures gathers { length self.old + length piece.now ≤ BUFFER_SIZE → sink.new ≡ sink.old }
     {
         match self.waiting.try_extend_from_slice(piece) {
             Ok(()) => Ok(()),
