@@ -82,7 +82,7 @@ module _ (entries : List Entry) (below : List ℕ) where
       let is_place : PAGE_SIZE * (i / PAGE_SIZE) + i % PAGE_SIZE ≡ i = omega arith in
       ap (λ e. byte_over e (i % PAGE_SIZE) 0) (entry_at-fetched (i / PAGE_SIZE) (omega arith))
       ∙ subst (λ j. byte_over (fetched_entry (entry_at entries (i / PAGE_SIZE)) below (i / PAGE_SIZE)) (i % PAGE_SIZE) 0
-          ≡ byte_over (entry_at entries (i / PAGE_SIZE)) (i % PAGE_SIZE) (get_or below j 0)) is_place
+      ≡ byte_over (entry_at entries (i / PAGE_SIZE)) (i % PAGE_SIZE) (get_or below j 0)) is_place
       (fetched_byte (entry_at entries (i / PAGE_SIZE)) below (i / PAGE_SIZE) (i % PAGE_SIZE) 0 (omega arith))
       ∙ sym (get_or-laid_over entries below i within))
 

@@ -11,8 +11,7 @@ invariant_of-result c =
     let in_range = c.requires.of_image.in_range in
     let size : length c.fetch_all.new.self.reads ≡ PAGE_SIZE * d.pages =
     ap (λ (ram : Ram). length ram.reads) (c.in_ok-fetch_all.ensures.ok ∙ ap fetched (c.in_ok-memory.ensures ∙ ap (λ key. cloned key d.blank) c.in_ok-again.ensures))
-    ∙ length-cleared d.blank (image_of c.args.key.now).contents ∙ ap (λ n. PAGE_SIZE * n) in_range.ram.one_bit_a_page in
-    (
+    ∙ length-cleared d.blank (image_of c.args.key.now).contents ∙ ap (λ n. PAGE_SIZE * n) in_range.ram.one_bit_a_page in (
       record {
         zero_register = ap (λ registers. get_or registers 0 0) c.with_zero.ensures;
         aligned = in_range.pc;
