@@ -3,7 +3,7 @@
 ghost use Rattle.std.specs.Prelude.{◌≡◌, ◌+◌, ◌<◌, length, OnOk};
 ghost use Rattle.guest_mem.specs.Ram.{IsRamOf};
 
-use crate::guests::{booted, disk_and_input};
+use crate::guests::{booted_of, disk_and_input};
 use guest_mem::GuestMem;
 use image_depot::{Depot, Frozen};
 use shared_leaves::Steps;
@@ -45,7 +45,7 @@ fn freeze_of_ledger<L: Ledger>(
 
 /// The pages of an image of a booted guest of so many pages, and the first word of its second page.
 fn frozen_of(alloc: Global, pages: u32, depot: &Depot) -> Result<(u32, Option<u32>), Fail> {
-    let memory = booted(alloc, pages)?;
+    let memory = booted_of(alloc, pages)?;
     let image = freeze_of_ledger::<Brand>(alloc, &memory, depot, Blank::new(1))?;
     let word = (image.pages() > 1).then(|| image.word(1, 0));
     Ok((image.pages(), word))

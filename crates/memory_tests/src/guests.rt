@@ -25,13 +25,24 @@ use vm_descriptor::{Descriptor, PageMap};
 const SECOND: u32 = 4096;
 
 /// The RAM of so many pages, with the byte 0xaa all over the second.
-pub fn booted(alloc: Global, pages: u32) -> Result<GuestMem, ImageError>
+fn booted(alloc: Global, pages: u32) -> Result<GuestMem, ImageError>
     requires least { MIN_PAGES ≤ pages }
     requires most { pages ≤ MAX_PAGES }
     ensures { IfOk result (λ memory. memory.key ≡ None) }
 {
     let image = elf_of(alloc, RAM_BASE + SECOND, &[0xaaaa_aaaa; 1024])?;
     Ok(GuestMem::booted(alloc, &load_elf(alloc, &image, pages)?)?)
+}
+
+/// The same, if there are machines of so many pages.
+pub fn booted_of(alloc: Global, pages: u32) -> Result<GuestMem, Fail>
+    ensures { IfOk result (λ memory. memory.key ≡ None) }
+{
+    if (MIN_PAGES..=MAX_PAGES).contains(&pages) {
+        Ok(booted(alloc, pages)?)
+    } else {
+        Err("no such size".into())
+    }
 }
 
 /// Stores the low bytes of a word.
@@ -522,7 +533,7 @@ fn of_grandchild<R: Wait>(
 fn a_page_comes_from_an_image_below(rt: HostRuntime) -> Result<(), Fail> {
     let depot = Depot::new(rt.alloc())?;
     for pages in [16, 64, 65, 128, 1024] {
-        let mut parent = booted(rt.alloc(), pages)?;
+        let mut parent = booted_of(rt.alloc(), pages)?;
         let key = frozen(&rt, rt.alloc(), &parent, &depot)?;
         let blank = parent.blank(rt.alloc())?;
         store_two(&mut parent, 9)?;
