@@ -1,6 +1,6 @@
 //! The console.
 
-use console_port::{ConsoleFields, ConsolePort};
+use console_port::{ConsoleFields, ConsolePort, Input};
 use port_error::{Fault, PortError};
 use std::process::Abort;
 use std::test::Fail;
