@@ -1,5 +1,5 @@
 -- Lines of a script over a world of machines.
-use Rattle.std.proofs.Common.{◌≡◌, ℕ, ◌<◌, get_or, refl, sym, ap, ap₂, ◌∙◌, subst, append_assoc, append-nil, List, [], ◌∷◌, ◌++◌, length, take, drop, ◌+◌, Option, Some, None, Ok, Err}
+use Rattle.std.proofs.Common.{◌≡◌, ℕ, ◌<◌, get_or, refl, sym, ap, ap₂, ◌∙◌, subst, append_assoc, append-nil, List, [], ◌∷◌, ◌++◌, length, take, drop, ◌+◌, replicate, false, Option, Some, None, Result, Ok, Err}
 use Rattle.std.proofs.Math.Seq.{take-append-add, take-append_seam, take-length}
 use Rattle.std.proofs.lemmas.Grind.{flat_map-append}
 use Rattle.std.proofs.lemmas.List.{map_more, take-append-drop, take-map}
@@ -8,23 +8,25 @@ use Rattle.std.specs.declared.alloc.AllocError.{AllocError}
 use Rattle.image_depot.specs.Key.{Shelves}
 use Rattle.forest_tree.specs.Tree.{Tree, Path, machine}
 use Rattle.forest_tree.specs.Settle.{settle_all}
+use Rattle.forest_history.specs.World.{is_at_home}
 use Rattle.forest_model.specs.Machine.{Machine}
 use Rattle.forest_model.specs.Forest.{machines}
 use Rattle.vm_cell.specs.Shown.{peeked, shown_registers}
 use Rattle.world_core.specs.declared.world.World.{World}
 use Rattle.world_core.specs.Answers.{TakesNamed}
 use Rattle.world_core.specs.Lent.{Lent}
+use Rattle.drive_script.specs.declared.answer.Answer.{Answer}
 use Rattle.drive_script.specs.declared.answer.Answer.TheVariants.{NoMachine, Word, Registers}
 use Rattle.drive_script.specs.Driven.{DrivesLine, HasMachines, HasMade}
 use Rattle.drive_script.specs.declared.line.Line.{Line as Read}
 use Rattle.drive_script.specs.Lines.{line_read, lines_read}
-use Rattle.drive_script.specs.Script.{Line, peek, regs}
+use Rattle.drive_script.specs.Script.{Line, step, peek, regs}
 use Rattle.drive_script.specs.Steps.{after_steps, live_at}
 use Rattle.drive_script.specs.Told.{name_in, steps_of, after_line, after_script, steps_of_script, answer, answer_by, told, told_line, told_text}
 use Rattle.drive_script.specs.Turned.{HasBack, HasLent}
 use Rattle.drive_script.proofs.Lined.{script-steps}
 use Rattle.drive_script.proofs.Lent.{lent-live, lent-machine, named-kept, named-lent, named-none, own-tree}
-use Rattle.drive_script.proofs.Steps.{after-none, all-both}
+use Rattle.drive_script.proofs.Steps.{after-none, all-both, made-none as no-step-made, nobody-rests}
 
 -- no step was made
 none-made : (steps : List Path) (t : Tree Machine) → settle_all machines (take 0 steps) t ≡ t
@@ -67,6 +69,29 @@ looks-at-none depot w new t line h still named =
 pub looks-not : (depot : Shelves) (w new : World) (t : Tree Machine) (line : Line) (h : HasMachines depot w t) (e f : AllocError)
     → TakesNamed depot h.forest (name_in line) (Err e) new → DrivesLine depot line t (Err f) new
 looks-not depot w new t line h e f stands = made-none depot new (steps_of line t) t (named-kept depot w new t (name_in line) h stands)
+
+-- a line whose name is not looked for, since no machine has so many forks
+no-steps : (line : Line) (t : Tree Machine) → live_at machines (name_in line) t ≡ None → steps_of line t ≡ []
+no-steps (step path most) t none = ap (λ n. replicate n path) (no-step-made machines most path t (nobody-rests machines path t none))
+no-steps (peek path address) t none = refl
+no-steps (regs path) t none = refl
+
+pub not-looked-for : (depot : Shelves) (w : World) (t : Tree Machine) (line : Line) → HasMachines depot w t → live_at machines (name_in line) t ≡ None
+    → DrivesLine depot line t (Ok NoMachine) w
+not-looked-for depot w t line h none = (
+  sym (ap (answer_by line t) none),
+  subst (HasMachines depot w) (sym (ap (λ paths. settle_all machines paths t) (no-steps line t none) ∙ stays t)) h,
+)
+
+-- a line, by what it does with its name put together
+pub by-name : (depot : Shelves) (w : World) (t : Tree Machine) (line : Line) (of : Path → Line) (name path : Path) (r : Result Answer AllocError)
+    → line ≡ of path → name_in (of path) ≡ path → name ≡ name_in line → DrivesLine depot (of name) t r w → DrivesLine depot line t r w
+by-name depot w t line of name path r is at named h = subst (λ l. DrivesLine depot l t r w) (ap of (named ∙ ap name_in is ∙ at) ∙ sym is) h
+
+-- no live machine has a name of so many forks
+pub too-far : (depot : Shelves) (w : World) (t : Tree Machine) (name : Path) (h : HasMachines depot w t) → is_at_home machines name h.forest.tree ≡ false
+    → live_at machines name t ≡ None
+too-far depot w t name h away = (named-none depot w w t name h (away, h.stands)).0
 
 -- a machine that was taken and given back, with no step between
 pub record Looked (depot : Shelves) (t : Tree Machine) (name : Path) (now : Machine) (w : World) : Type 0 where

@@ -1,5 +1,5 @@
 -- A machine on lease from a world that has all other machines of a tree at home.
-use Rattle.std.proofs.Common.{rules, ◌≡◌, ℕ, ◌+◌, ◌&&◌, ◌||◌, not, Bool, true, false, refl, sym, ap, ◌∙◌, subst, arith, Option, Some, None, IsSome, IfSome, MatchOption, IsSomeAnd, is_some, option_map, option_and_then, Ok}
+use Rattle.std.proofs.Common.{◌≡◌, ℕ, ◌+◌, ◌&&◌, ◌||◌, not, Bool, true, false, refl, sym, ap, ◌∙◌, subst, arith, Option, Some, None, IfSome, MatchOption, IsSomeAnd, is_some, option_map, option_and_then, Ok}
 use Rattle.std.proofs.lemmas.Bool.{and_parts, not-true}
 use Rattle.image_depot.specs.Key.{Shelves}
 use Rattle.fork_port.specs.declared.commands.Call.{Call}
@@ -9,7 +9,6 @@ use Rattle.forest_tree.specs.Settle.{has_ended, rests, settled_by, settled, wait
 use Rattle.forest_tree.specs.Projection.{map_tree}
 use Rattle.forest_tree.proofs.Projected.{subtree-map}
 use Rattle.forest_tree.proofs.Rests.{lives-none}
-use Rattle.forest_tree.proofs.Run.{is-some}
 use Rattle.forest_history.specs.Places.{Place, asleep, home, out, parked, Spot, placed, bare, spots, advanced, may_run, steps}
 use Rattle.forest_history.specs.World.{holds, is_at_home, is_at_home_at, is_out_at, lives_at_home}
 use Rattle.forest_history.specs.Rows.{How, gave, ended, forked, joined, killed, waited, took, spent, Spends, IfThere, Allows, does}
@@ -19,14 +18,16 @@ use Rattle.forest_history.proofs.Spots.{machine-placed}
 use Rattle.forest_model.specs.Machine as model
 use Rattle.forest_model.specs.Machine.{Machine}
 use Rattle.forest_model.specs.Forest.{machines, tree_call}
+use Rattle.forest_model.specs.Paged.{stalled_at}
+use Rattle.vm_cell.specs.Keyed.{KeyedMachine, paged}
 use Rattle.vm_cell.specs.Standing.{standing_call}
 use Rattle.world_core.specs.declared.world.World.{World}
 use Rattle.world_core.specs.declared.world.Placed.{Placed}
 use Rattle.world_core.specs.declared.world.Placed.TheVariants.{Done, Parked, Dropped, Memory}
-use Rattle.world_core.specs.Lent.{Lent}
+use Rattle.world_core.specs.Lent.{Lent, vm_of}
 use Rattle.world_core.specs.World.{Forest, StandsFor}
 use Rattle.world_core.specs.Answers as answers
-use Rattle.world_core.specs.Answers.{Answers, Goes, HandedOut, HandedOutIn, IsHandedOut, IsOutAs, MayWait, MayWant, Starts, TakesNamed, home_by, stands_waiting}
+use Rattle.world_core.specs.Answers.{Answers, Goes, HandedOut, HandedOutIn, IsHandedOut, IsOutAs, MayWait, MayWant, Starts, TakesNamed, home_by, stands_waiting, stands_waiting_of}
 use Rattle.world_core.proofs.Steps.{advanced-is, standing}
 use Rattle.drive_script.specs.Driven.{HasMachines}
 use Rattle.drive_script.specs.Steps.{steps_made, after_steps, live_at, if_lives}
@@ -92,11 +93,12 @@ unfolding machines
 may-live now (node old broods log) goes = lives-none now.ending (goes-lives (is_some now.ending) (waits machines (node now broods log)) goes).0
 
 -- the call at which it stands, made
-call-then : (now : Machine) (a : Tree Machine) (c : Call) → standing_call now ≡ Some c → rests machines (Some (ran_to now a)) ≡ false
-    → IsLiveOrLimit (machine (step machines (ran_to now a))).ending
+call-then : (v : KeyedMachine) (a : Tree Machine) (c : Call) → standing_call v ≡ Some c → rests machines (Some (ran_to v.machine a)) ≡ false
+    → IsLiveOrLimit (machine (step machines (ran_to v.machine a))).ending
 unfolding machines
-call-then now (node old broods log) c stands goes =
-    let is = standing now c stands in
+call-then v (node old broods log) c stands goes =
+    let now : Machine = v.machine in
+    let is = standing v c stands in
     let same : settled machines now broods log ≡ node now broods log = ran-live now (node old broods log) is.0 in
     subst (λ (x : Tree Machine). IsLiveOrLimit (machine (step machines x)).ending) (sym same)
     (call-limit now broods log (tree_call c) is.0 is.1
@@ -158,12 +160,14 @@ module _ (depot : Shelves) (w : World) (t : Tree Machine) (lease : Lent) (h : Ha
   pub lent-shown : (P : Tree Machine → Type 0) → IsSomeAnd (subtree lease.name t) P → P own-tree
   lent-shown P shown = subst (λ o. IsSomeAnd o P) lent-at shown
 
-  -- whether it waits as it stands
-  pub lent-waits : (waiting : Bool) → MatchOption (subtree lease.name taken.tree) (waiting ≡ false) (λ a. waiting ≡ stands_waiting (answers.with_machine lease.now a))
+  -- whether it waits as it stands, where its next step stalls at no page
+  pub lent-waits : stalled_at (paged (vm_of lease)) ≡ None → (waiting : Bool)
+      → MatchOption (subtree lease.name taken.tree) (waiting ≡ false) (λ a. waiting ≡ stands_waiting_of (vm_of lease) a)
       → waiting ≡ not (is_some lease.now.ending) && waits machines (with_machine lease.now own-tree)
   unfolding spots machines
-  lent-waits waiting shown =
-      subst (λ o. MatchOption o (waiting ≡ false) (λ a. waiting ≡ stands_waiting (answers.with_machine lease.now a))) out-there shown
+  lent-waits here waiting shown =
+      subst (λ o. MatchOption o (waiting ≡ false) (λ a. waiting ≡ stands_waiting_of (vm_of lease) a)) out-there shown
+      ∙ ap (λ o. not (is_some o) && stands_waiting (answers.with_machine lease.now (placed out at-home.at))) here
       ∙ now-waits lease.now at-home.at
 
   -- ---- what a row makes
@@ -231,14 +235,14 @@ module _ (depot : Shelves) (w : World) (t : Tree Machine) (lease : Lent) (h : Ha
         (after-both machines lease.ran 1 lease.name t ∙ after-first machines 0 lease.name before ∙ after-none machines lease.name (settle machines lease.name before))
         ∙ step-at machines lease.name before (steps machines lease.ran own-tree) there-after
 
-    went-on : calls how ≡ 1 → (c : Call) → standing_call lease.now ≡ Some c → HasRun depot lease.name (lease.ran + 1) t new
+    went-on : calls how ≡ 1 → (c : Call) → standing_call (vm_of lease) ≡ Some c → HasRun depot lease.name (lease.ran + 1) t new
     went-on one c stands =
         let same : lease.ran + calls how ≡ lease.ran + 1 = omega (arith, one) in
         record {
           made = more-made machines lease.ran lease.name t all-made (ap (rests machines) there-after ∙ goes-now one);
           there = subst (λ o. IsSomeAnd o (λ (a : Tree Machine). IsLiveOrLimit (machine a).ending)) (sym there-next)
               (subst (λ (x : Tree Machine). IsLiveOrLimit (machine (step machines x)).ending) (sym comes-to)
-              (call-then lease.now own-tree c stands (ap (λ x. rests machines (Some x)) (sym comes-to) ∙ goes-now one)));
+              (call-then (vm_of lease) own-tree c stands (ap (λ x. rests machines (Some x)) (sym comes-to) ∙ goes-now one)));
           has = subst (λ n. HasMachines depot new (after_steps machines n lease.name t)) same has-after;
         }
 
@@ -259,7 +263,7 @@ module _ (depot : Shelves) (w : World) (t : Tree Machine) (lease : Lent) (h : Ha
       by None a = back-by gave refl (λ x. x) (λ x. x) placed new a
       by (Some ending) a = back-by ended refl (λ x. x) (λ x. x) placed new a
 
-  pub call-made : (c : Call) → standing_call lease.now ≡ Some c → (new : World) → AnswersCall depot taken lease Done new
+  pub call-made : (c : Call) → standing_call (vm_of lease) ≡ Some c → (new : World) → AnswersCall depot taken lease Done new
       → HasRun depot lease.name (lease.ran + 1) t new
   call-made c stands new a = went-on a.0 new a.2 (is-one a.0 a.1) c stands
 
@@ -267,7 +271,7 @@ module _ (depot : Shelves) (w : World) (t : Tree Machine) (lease : Lent) (h : Ha
   unfolding does
   call-kept back new a = (
     a.2.1,
-    record { forest = h.forest; whole = h.whole; same = h.same; lives = h.lives; start = h.start; now = h.now; stands = a.2.2.after },
+    record { forest = h.forest; whole = h.whole; same = h.same; lives = h.lives; start = h.start; now = h.now; of_depot = h.of_depot; stands = a.2.2.after },
   )
 
   pub call-dropped : (new : World) → AnswersCall depot taken lease Dropped new → ⊥
@@ -331,5 +335,6 @@ module _ (depot : Shelves) (w new : World) (t : Tree Machine) (name : Path) (h :
     lives = ap (λ n. is_at_home machines n h.forest.tree) taken_some.1 ∙ taken_some.0;
     start = taken_some.2.start;
     now = taken_some.2.now ∙ sym (ap (λ k. model.after_steps k lease.start) taken_some.2.ran ∙ after-zero lease.start);
-    stands = subst (λ n. StandsFor depot new (does machines (took n) h.forest)) (sym taken_some.1) taken_some.3;
+    of_depot = taken_some.3;
+    stands = subst (λ n. StandsFor depot new (does machines (took n) h.forest)) (sym taken_some.1) taken_some.4;
   }

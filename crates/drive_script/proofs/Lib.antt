@@ -16,6 +16,7 @@ mod Driving
 mod Stepping
 pub mod Started
 mod WrittenNames
+mod NameTexts
 mod WrittenWords
 mod WrittenLines
 mod Digits

@@ -20,7 +20,7 @@ module _ (depot : Shelves) (w new : World) (f : Forest) (h : StandsFor depot w f
   pub named-reason : (name : Path) (r : Result (Option Lent) AllocError) → TakesNamed depot f name r new → reason_of new ≡ reason_of w
   unfolding does
   named-reason name (Ok None) taken = same-reason f taken.1 refl
-  named-reason name (Ok (Some lease)) taken = same-reason (does machines (took name) f) taken.3 refl
+  named-reason name (Ok (Some lease)) taken = same-reason (does machines (took name) f) taken.4 refl
   named-reason name (Err e) taken = same-reason f taken refl
 
   -- as one comes back

@@ -1,12 +1,11 @@
 -- The turns of one line of steps, one after another.
-use Rattle.std.proofs.Common.{◌≡◌, ◌≢◌, ℕ, ◌+◌, ◌-◌, ◌<◌, ◌≤◌, ◌⊎◌, ◌||◌, inl, inr, Bool, true, refl, sym, ap, ◌∙◌, subst, arith, add-zero, append-nil, [], ◌++◌, replicate, Option, Some, None, IsSomeAnd, is_some, option_and_then, Result, Ok, Err}
+use Rattle.std.proofs.Common.{◌≡◌, ◌≢◌, ℕ, ◌+◌, ◌-◌, ◌<◌, ◌≤◌, ◌⊎◌, inl, inr, refl, sym, ap, ◌∙◌, subst, arith, add-zero, append-nil, [], ◌++◌, replicate, Option, Some, None, IsSomeAnd, option_and_then, Result, Ok, Err}
 use Rattle.std.specs.declared.alloc.AllocError.{AllocError}
 use Rattle.std.proofs.lemmas.List.{replicate-append-replicate}
 use Rattle.image_depot.specs.Key.{Shelves}
 use Rattle.fork_port.specs.declared.ending.Ending.{Ending}
 use Rattle.fork_port.specs.declared.ending.Ending.TheVariants.{Exit, Limit}
 use Rattle.forest_tree.specs.Tree.{Tree, Path, machine, subtree}
-use Rattle.forest_tree.specs.Settle.{rests, waits}
 use Rattle.forest_tree.proofs.Run.{is-some}
 use Rattle.forest_model.specs.Machine.{Machine}
 use Rattle.forest_model.specs.Forest.{machines}
@@ -24,7 +23,7 @@ use Rattle.drive_script.specs.Told.{answer, answer_by, ran, ran_by}
 use Rattle.drive_script.specs.Turned.{HasRun, HasStopped, IsLiveOrLimit, Lives, Turns}
 use Rattle.drive_script.proofs.Driving.{made-within}
 use Rattle.drive_script.proofs.Runs.{why-ended}
-use Rattle.drive_script.proofs.Steps.{after-both, after-none, made-all, made-at-most, made-none, made-zero}
+use Rattle.drive_script.proofs.Steps.{after-both, after-none, made-all, made-at-most, made-none, made-zero, nobody-rests}
 
 -- so many steps were made, and none before the first turn
 abbrev pub Stepping : Shelves → Path → Tree Machine → ℕ → World → Type 0
@@ -133,19 +132,8 @@ module _ (depot : Shelves) (name : Path) (t : Tree Machine) (made : ℕ) (w : Wo
           )
 
       -- no live machine has the name
-      none-rests : live_at machines name after-made ≡ None → rests machines (subtree name after-made) ≡ true
-      none-rests none = by (subtree name after-made) none
-        where
-          by-ending : (e : Option Ending) (a : Tree Machine) (waiting : Bool) → if_lives machines e a ≡ None → is_some e || waiting ≡ true
-          by-ending None a waiting h = absurd (cc)
-          by-ending (Some ending) a waiting h = refl
-
-          by : (o : Option (Tree Machine)) → option_and_then (λ a. if_lives machines (machines.ending (machine a)) a) o ≡ None → rests machines o ≡ true
-          by None h = refl
-          by (Some a) h = by-ending (machines.ending (machine a)) a (waits machines a) h
-
       no-more : live_at machines name after-made ≡ None → steps_made machines most name t ≡ made
-      no-more none = all-made ∙ ap (λ n. made + n) (made-none machines (most - made) name after-made (none-rests none)) ∙ add-zero made
+      no-more none = all-made ∙ ap (λ n. made + n) (made-none machines (most - made) name after-made (nobody-rests machines name after-made none)) ∙ add-zero made
 
       -- before the first step
       pub stepping-none : r ≡ turn.NoMachine → made ≡ 0 → DrivesLine depot (step name most) t (Ok NoMachine) new

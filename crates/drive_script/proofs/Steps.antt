@@ -1,13 +1,13 @@
 -- How many steps a machine makes, and where it stops.
-use Rattle.std.proofs.Common.{◌≡◌, ℕ, zero, suc, ◌+◌, ◌-◌, ◌<◌, ◌≤◌, ◌⊎◌, ◌||◌, not, inl, inr, take, replicate, Bool, true, false, cond, refl, sym, ap, ap₂, ◌∙◌, arith, List, [], ◌∷◌, ◌++◌, Option, Some, None, is_some}
+use Rattle.std.proofs.Common.{◌≡◌, ℕ, zero, suc, ◌+◌, ◌-◌, ◌<◌, ◌≤◌, ◌⊎◌, ◌||◌, not, inl, inr, take, replicate, Bool, true, false, cond, refl, sym, ap, ap₂, ◌∙◌, arith, List, [], ◌∷◌, ◌++◌, Option, Some, None, is_some, option_and_then}
 use Rattle.std.proofs.lemmas.List.{take-replicate}
 use Rattle.forest_tree.specs.Operations.{Call, clone, join, kill, Operations}
-use Rattle.forest_tree.specs.Tree.{Tree, Broods, brood_of, Path, subtree}
-use Rattle.forest_tree.specs.Settle.{have_ended, waits_by, rests, settle, settle_all}
+use Rattle.forest_tree.specs.Tree.{Tree, Broods, brood_of, machine, Path, subtree}
+use Rattle.forest_tree.specs.Settle.{have_ended, waits, waits_by, rests, settle, settle_all}
 use Rattle.fork_port.specs.declared.ending.Ending.{Ending}
 use Rattle.drive_script.specs.declared.answer.Why.{Why}
 use Rattle.drive_script.specs.declared.answer.Why.TheVariants.{Waits, MayGoOn}
-use Rattle.drive_script.specs.Steps.{steps_made, after_steps, why_by}
+use Rattle.drive_script.specs.Steps.{steps_made, after_steps, if_lives, live_at, why_by}
 
 module _ {M E : Type 0} (o : Operations M E) where
   -- a machine that rests makes no step, and another makes one and goes on
@@ -15,6 +15,18 @@ module _ {M E : Type 0} (o : Operations M E) where
   unfolding steps_made
   made-none zero path t h = refl
   made-none (suc most) path t h = ap (λ b. cond b 0 (suc (steps_made o most path (settle o path t)))) h
+
+  -- and one that does not live rests
+  ended-rests : (e : Option E) (t : Tree M) (waiting : Bool) → if_lives o e t ≡ None → is_some e || waiting ≡ true
+  ended-rests None t waiting h = absurd (cc)
+  ended-rests (Some ending) t waiting h = refl
+
+  dead-rests : (t : Option (Tree M)) → option_and_then (λ a. if_lives o (o.ending (machine a)) a) t ≡ None → rests o t ≡ true
+  dead-rests None h = refl
+  dead-rests (Some a) h = ended-rests (o.ending (machine a)) a (waits o a) h
+
+  pub nobody-rests : (path : Path) (t : Tree M) → live_at o path t ≡ None → rests o (subtree path t) ≡ true
+  nobody-rests path t h = dead-rests (subtree path t) h
 
   pub made-more : (most : ℕ) (path : Path) (t : Tree M) → rests o (subtree path t) ≡ false → steps_made o (suc most) path t ≡ suc (steps_made o most path (settle o path t))
   unfolding steps_made

@@ -8,20 +8,21 @@ use Rattle.forest_tree.specs.Settle.{has_ended, rests, settled, waits}
 use Rattle.forest_tree.proofs.Settle.{machine-settled}
 use Rattle.forest_tree.proofs.Run.{is-some}
 use Rattle.forest_model.specs.Machine as model
-use Rattle.forest_model.specs.Machine.{Machine, next}
+use Rattle.forest_model.specs.Machine.{Machine}
 use Rattle.forest_model.specs.Forest.{machines}
 use Rattle.forest_model.proofs.Finish.{after_steps-add}
 use Rattle.forest_history.specs.World.{is_at_home}
 use Rattle.forest_history.specs.Rows.{took, does}
-use Rattle.vm_cell.specs.Standing.{asked_call, standing_from, standing_call}
-use Rattle.vm_cell.specs.Steps.{Stands}
+use Rattle.forest_model.specs.Paged.{stalled_at}
+use Rattle.vm_cell.specs.Keyed.{KeyedMachine, IsOfDepot, paged}
+use Rattle.vm_cell.specs.Standing.{standing_call}
 use Rattle.vm_cell.specs.declared.vm.Stepped.{Stepped}
 use Rattle.vm_cell.specs.declared.vm.Stepped.TheVariants as stepped
 use Rattle.world_core.specs.declared.world.World.{World}
-use Rattle.world_core.specs.Lent.{Lent}
+use Rattle.world_core.specs.Lent.{Lent, IsSameLease, StandsWhole, vm_of}
 use Rattle.world_core.specs.World.{StandsFor}
-use Rattle.world_core.specs.Answers as answers
-use Rattle.world_core.specs.Answers.{stands_waiting}
+use Rattle.world_core.specs.Answers.{stands_waiting_of}
+use Rattle.world_core.proofs.Fetching.{stands-ended}
 use Rattle.world_core.proofs.Steps.{standing}
 use Rattle.drive_script.specs.declared.answer.Why.{Why}
 use Rattle.drive_script.specs.declared.turn.Turn.TheVariants.{Stopped, Called}
@@ -33,28 +34,29 @@ use Rattle.drive_script.proofs.Runs.{why-settled}
 use Rattle.drive_script.proofs.Steps.{first-made, made-stops}
 
 -- a lease that ran on
-pub lent-on : (depot : Shelves) (w : World) (t : Tree Machine) (lease later : Lent) → later.name ≡ lease.name → later.start ≡ lease.start
+pub lent-on : (depot : Shelves) (w : World) (t : Tree Machine) (lease later : Lent) → IsSameLease lease later
     → later.now ≡ model.after_steps later.ran later.start → HasLent depot w t lease → HasLent depot w t later
-lent-on depot w t lease later name start now h = record {
+lent-on depot w t lease later same now h = record {
   forest = h.forest;
   whole = h.whole;
   same = h.same;
-  lives = ap (λ n. is_at_home machines n h.forest.tree) name ∙ h.lives;
-  start = subst (λ n. IfSome (subtree n h.forest.tree) (λ a. (machine a).machine ≡ later.start)) (sym name)
-      (subst (λ m. IfSome (subtree lease.name h.forest.tree) (λ a. (machine a).machine ≡ m)) (sym start) h.start);
+  lives = ap (λ n. is_at_home machines n h.forest.tree) same.name ∙ h.lives;
+  start = subst (λ n. IfSome (subtree n h.forest.tree) (λ a. (machine a).machine ≡ later.start)) (sym same.name)
+      (subst (λ m. IfSome (subtree lease.name h.forest.tree) (λ a. (machine a).machine ≡ m)) (sym same.start) h.start);
   now = now;
-  stands = subst (λ n. StandsFor depot w (does machines (took n) h.forest)) (sym name) h.stands;
+  of_depot = subst (IsOfDepot depot) (sym same.key) h.of_depot;
+  stands = subst (λ n. StandsFor depot w (does machines (took n) h.forest)) (sym same.name) h.stands;
 }
 
-pub lent-ran : (depot : Shelves) (w : World) (t : Tree Machine) (lease later : Lent) (steps : ℕ) → (later.name ≡ lease.name) × (later.start ≡ lease.start)
+pub lent-ran : (depot : Shelves) (w : World) (t : Tree Machine) (lease later : Lent) (steps : ℕ) → IsSameLease lease later
     → later.ran ≡ lease.ran + steps → later.now ≡ model.after_steps steps lease.now → HasLent depot w t lease → HasLent depot w t later
 lent-ran depot w t lease later steps same ran now h =
-    lent-on depot w t lease later same.0 same.1
+    lent-on depot w t lease later same
     (now ∙ ap (model.after_steps steps) h.now ∙ sym (after_steps-add lease.ran steps lease.start)
-    ∙ ap₂ (λ k m. model.after_steps k m) (sym ran) (sym same.1))
+    ∙ ap₂ (λ k m. model.after_steps k m) (sym ran) (sym same.start))
     h
 
-pub lent-failed : (depot : Shelves) (w : World) (t : Tree Machine) (lease later : Lent) → (later.name ≡ lease.name) × (later.start ≡ lease.start)
+pub lent-failed : (depot : Shelves) (w : World) (t : Tree Machine) (lease later : Lent) → IsSameLease lease later
     → lease.ran ≤ later.ran → later.now ≡ model.after_steps (later.ran - lease.ran) lease.now → HasLent depot w t lease → HasLent depot w t later
 lent-failed depot w t lease later same more now h = lent-ran depot w t lease later (later.ran - lease.ran) same (omega (arith, more)) now h
 
@@ -86,18 +88,10 @@ goes-by : (ending : Option Ending) (waiting : Bool) → ending ≡ None → fals
 goes-by None waiting lives h = sym h
 goes-by (Some ending) waiting lives h = absurd (cc)
 
-call-goes : (now : Machine) (a : Tree Machine) (c : Call) → standing_call now ≡ Some c
-    → false ≡ not (is_some now.ending) && waits machines (with_machine now a) → rests machines (Some (with_machine now a)) ≡ false
+call-goes : (v : KeyedMachine) (a : Tree Machine) (c : Call) → standing_call v ≡ Some c
+    → false ≡ not (is_some v.machine.ending) && waits machines (with_machine v.machine a) → rests machines (Some (with_machine v.machine a)) ≡ false
 unfolding machines
-call-goes now (node old broods log) c stands h = goes-by now.ending (waits machines (node now broods log)) (standing now c stands).0 h
-
--- one that stands at no call, and did not stop for want of steps, has ended
-turn-ends : (m : Machine) (reason : Stepped) → reason ≢ stepped.Went → Stands m reason → standing_call m ≡ None → IsSome m.ending
-unfolding standing_call
-turn-ends m stepped.Went enough stands none = absurd (enough refl)
-turn-ends m (stepped.Call c) enough stands none =
-    let some : Some c ≡ None = sym (ap asked_call stands.1) ∙ sym (ap (λ ending. standing_from ending (next m)) stands.0) ∙ none in absurd (cc)
-turn-ends m (stepped.Ended ending) enough stands none = subst IsSome (sym stands) refl
+call-goes v (node old broods log) c stands h = goes-by v.machine.ending (waits machines (node v.machine broods log)) (standing v c stands).0 h
 
 why-ran : (now : Machine) (a : Tree Machine) → why machines (ran_to now a) ≡ why machines (with_machine now a)
 why-ran now (node old broods log) = why-settled machines now broods log
@@ -112,12 +106,13 @@ module _ (depot : Shelves) (w : World) (t : Tree Machine) (lease : Lent) (h : Ha
   lent-lives = subst IsSome (sym (lent-live depot w t lease h)) refl
 
   -- it makes its call
-  pub may-call : IsSome (standing_call lease.now) → MatchOption (subtree lease.name (taken depot w t lease h).tree) (false ≡ false) (λ a. false ≡ stands_waiting (answers.with_machine lease.now a))
+  pub may-call : stalled_at (paged (vm_of lease)) ≡ None → IsSome (standing_call (vm_of lease))
+      → MatchOption (subtree lease.name (taken depot w t lease h).tree) (false ≡ false) (λ a. false ≡ stands_waiting_of (vm_of lease) a)
       → MayGo t lease
-  may-call some waits_not =
-      let call = is-some (standing_call lease.now) some in
+  may-call here some waits_not =
+      let call = is-some (standing_call (vm_of lease)) some in
       lent-shows depot w t lease h (λ a. rests machines (Some (with_machine lease.now a)) ≡ false)
-      (call-goes lease.now (own-tree depot w t lease h) call.0 call.1 (lent-waits depot w t lease h false waits_not))
+      (call-goes (vm_of lease) (own-tree depot w t lease h) call.0 call.1 (lent-waits depot w t lease h here false waits_not))
 
   pub turn-called : (most steps : ℕ) (new : World) → lease.ran ≡ steps → steps < most → HasRun depot lease.name (lease.ran + 1) t new
       → Turns depot lease.name most t (Ok (Called (steps + 1))) new
@@ -159,9 +154,11 @@ module _ (depot : Shelves) (w : World) (t : Tree Machine) (lease : Lent) (h : Ha
     )
 
   -- why it made no call
-  pub stops-waiting : MatchOption (subtree lease.name (taken depot w t lease h).tree) (true ≡ false) (λ a. true ≡ stands_waiting (answers.with_machine lease.now a))
+  pub stops-waiting : stalled_at (paged (vm_of lease)) ≡ None
+      → MatchOption (subtree lease.name (taken depot w t lease h).tree) (true ≡ false) (λ a. true ≡ stands_waiting_of (vm_of lease) a)
       → rests machines (Some now-tree) ≡ true
-  stops-waiting waits_there = waits-rests lease.now (own-tree depot w t lease h) (lent-waits depot w t lease h true waits_there)
+  stops-waiting here waits_there = waits-rests lease.now (own-tree depot w t lease h) (lent-waits depot w t lease h here true waits_there)
 
-  pub stops-ended : (reason : Stepped) → reason ≢ stepped.Went → Stands lease.now reason → standing_call lease.now ≡ None → rests machines (Some now-tree) ≡ true
-  stops-ended reason enough stands none = ended-rests lease.now (own-tree depot w t lease h) (turn-ends lease.now reason enough stands none)
+  pub stops-ended : (reason : Stepped) → reason ≢ stepped.Went → StandsWhole (vm_of lease) reason → standing_call (vm_of lease) ≡ None
+      → rests machines (Some now-tree) ≡ true
+  stops-ended reason enough stands none = ended-rests lease.now (own-tree depot w t lease h) (stands-ended (vm_of lease) reason enough stands none)

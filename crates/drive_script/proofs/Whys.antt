@@ -1,5 +1,5 @@
 -- Why a machine on lease stops, by what is read of it.
-use Rattle.std.proofs.Common.{◌≡◌, ℕ, ◌&&◌, not, Bool, true, false, refl, sym, ap, Option, Some, None, is_some}
+use Rattle.std.proofs.Common.{◌≡◌, ℕ, ◌&&◌, not, Bool, true, false, refl, sym, ap, ◌∙◌, Option, Some, None, is_some}
 use Rattle.fork_port.specs.declared.commands.Call.{Call}
 use Rattle.fork_port.specs.declared.commands.Call.TheVariants.{Clone, Join, Kill}
 use Rattle.fork_port.specs.declared.ending.Ending.{Ending}
@@ -7,7 +7,9 @@ use Rattle.forest_tree.specs.Tree.{Tree, node, Broods}
 use Rattle.forest_tree.specs.Settle.{waits_by, waits}
 use Rattle.forest_model.specs.Machine.{Machine, Next, exception, timer_interrupt, plain, call, next}
 use Rattle.forest_model.specs.Forest.{call_of, machines}
-use Rattle.vm_cell.specs.Standing.{standing_from, standing_call}
+use Rattle.forest_model.specs.Paged.{stalled_at}
+use Rattle.vm_cell.specs.Keyed.{KeyedMachine, paged}
+use Rattle.vm_cell.specs.Standing.{standing_by, standing_from, standing_call}
 use Rattle.world_core.specs.Answers.{join_ticket}
 use Rattle.world_core.proofs.Steps.{standing}
 use Rattle.drive_script.specs.declared.answer.Why.TheVariants.{Ended, Waits, MayGoOn}
@@ -40,7 +42,10 @@ stands-at (Some (Clone t)) ticket h = absurd (cc)
 stands-at (Some (Join t)) ticket h = ap (λ n. Some (Join n)) (cc)
 stands-at (Some (Kill t)) ticket h = absurd (cc)
 
-module _ (now : Machine) (a : Tree Machine) where
+module _ (v : KeyedMachine) (a : Tree Machine) where
+  abbrev now : Machine
+  now = v.machine
+
   pub ends : (ending : Ending) → now.ending ≡ Some ending → Ended ending ≡ why machines (with_machine now a)
   unfolding machines
   ends ending over = by a
@@ -55,19 +60,20 @@ module _ (now : Machine) (a : Tree Machine) where
       by : (b : Tree Machine) → waits machines (with_machine now b) ≡ false → MayGoOn ≡ why machines (with_machine now b)
       by (node old broods log) not_waiting = sym (why-goes machines (node now broods log) lives not_waiting)
 
-  pub waits-at : (ticket : ℕ) → Some ticket ≡ join_ticket (standing_call now) → true ≡ not (is_some now.ending) && waits machines (with_machine now a)
+  pub waits-at : (ticket : ℕ) → Some ticket ≡ join_ticket (standing_call v) → true ≡ not (is_some now.ending) && waits machines (with_machine now a)
       → Waits ticket ≡ why machines (with_machine now a)
   unfolding machines
   waits-at ticket joins waiting = by a (waits-true now.ending (waits machines (with_machine now a)) waiting)
     where
       by : (b : Tree Machine) → waits machines (with_machine now b) ≡ true → Waits ticket ≡ why machines (with_machine now b)
       by (node old broods log) waiting_there =
-          let is = standing now (Join ticket) (stands-at (standing_call now) ticket joins) in
+          let is = standing v (Join ticket) (stands-at (standing_call v) ticket joins) in
           sym (why-waits machines (node now broods log) ticket is.0 is.1 waiting_there)
 
-  pub goes-by : now.ending ≡ None → None ≡ join_ticket (standing_call now) → MayGoOn ≡ why machines (with_machine now a)
+  pub goes-by : stalled_at (paged v) ≡ None → now.ending ≡ None → None ≡ join_ticket (standing_call v) → MayGoOn ≡ why machines (with_machine now a)
   unfolding machines standing_call
-  goes-by lives joins = by a
+  goes-by here lives joins = by a
     where
       by : (b : Tree Machine) → MayGoOn ≡ why machines (with_machine now b)
-      by (node old broods log) = sym (why-goes machines (node now broods log) lives (joins-by now.ending (next now) broods joins lives))
+      by (node old broods log) = sym (why-goes machines (node now broods log) lives (joins-by now.ending (next now) broods
+          (joins ∙ ap (λ waited. join_ticket (standing_by waited now.ending (next now))) here) lives))

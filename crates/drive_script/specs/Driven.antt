@@ -1,5 +1,5 @@
 -- What a script makes of a world of machines.
-use Rattle.std.specs.Prelude.{◌≡◌, ℕ, List, take, Vec, Result, Ok, Err}
+use Rattle.std.specs.Prelude.{◌≡◌, ℕ, List, take, Vec, Option, Some, None, Result, Ok, Err}
 use Rattle.std.specs.declared.alloc.AllocError.{AllocError}
 use Rattle.std.specs.declared.alloc.Global.{Global}
 use Rattle.image_depot.specs.Key.{Shelves}
@@ -13,6 +13,7 @@ use Rattle.world_core.specs.declared.world.World.{World}
 use Rattle.world_core.specs.World.{Forest, StandsFor}
 use Rattle.drive_script.specs.declared.answer.Answer.{Answer}
 use Rattle.drive_script.specs.Script.{Line}
+use Rattle.drive_script.specs.Steps.{live_at}
 use Rattle.drive_script.specs.Told.{after_line, after_script, answer, steps_of, steps_of_script, told_text}
 
 -- the world has these machines, and none of them is on lease
@@ -37,3 +38,9 @@ Drives depot lines t (Err e) w = HasMade depot (steps_of_script lines t) t w
 abbrev pub DrivesLine : Shelves → Line → Tree Machine → Result Answer AllocError → World → Type 0
 DrivesLine depot line t (Ok a) w = (a ≡ answer line t) × HasMachines depot w (after_line line t)
 DrivesLine depot line t (Err e) w = HasMade depot (steps_of line t) t w
+
+-- the name of a line is put together, or no live machine has it
+abbrev pub IsNameIn : Path → Tree Machine → Result (Option Path) AllocError → Type 0
+IsNameIn path t (Ok None) = live_at machines path t ≡ None
+IsNameIn path t (Ok (Some name)) = name ≡ path
+IsNameIn path t (Err e) = Unit {0}

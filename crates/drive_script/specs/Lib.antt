@@ -1,4 +1,5 @@
 pub mod Script
+pub mod NameTexts
 pub mod Lines
 pub mod Steps
 pub mod Told

@@ -15,7 +15,7 @@ use Rattle.forest_model.specs.Machine.{Machine}
 use Rattle.forest_model.specs.Forest.{machines}
 use Rattle.world_core.specs.declared.world.World.{World}
 use Rattle.world_core.specs.declared.world.Placed.{Placed}
-use Rattle.world_core.specs.Answers.{Answers}
+use Rattle.world_core.specs.Answers.{Answers, IsLentOf}
 use Rattle.world_core.specs.Lent.{Lent}
 use Rattle.world_core.specs.World.{Forest, StandsFor}
 use Rattle.drive_script.specs.declared.answer.Why.{Why}
@@ -35,6 +35,7 @@ pub record HasLent (depot : Shelves) (w : World) (t : Tree Machine) (lease : Len
   pub lives : is_at_home machines lease.name forest.tree ≡ true
   pub start : IfSome (subtree lease.name forest.tree) (λ a. (machine a).machine ≡ lease.start)
   pub now : lease.now ≡ model.after_steps lease.ran lease.start
+  pub of_depot : IsLentOf depot lease
   pub stands : StandsFor depot w (does machines (took lease.name) forest)
 
 -- the tree with its machine as it stands on lease

@@ -1,15 +1,17 @@
 //! A world of machines that is driven by a script.
 
 ghost use Rattle.std.specs.Prelude.{◌≡◌};
+ghost use Rattle.image_depot.specs.Key.{Shelves};
 ghost use Rattle.forest_tree.specs.Tree.{Tree};
 ghost use Rattle.forest_model.specs.Machine.{Machine};
 ghost use Rattle.world_core.specs.World.{reason_of};
-ghost use Rattle.drive_script.specs.Driven.{Drives, DrivesLine, HasMachines};
+ghost use Rattle.drive_script.specs.Driven.{Drives, DrivesLine, HasMachines, IsNameIn};
 ghost use Rattle.drive_script.specs.Lines.{line_read};
 ghost use Rattle.drive_script.specs.Script.{peek, regs, step};
 
 use crate::answer::{Answer, Why};
 use crate::line::Line;
+use crate::name::NameText;
 use crate::script::Script;
 use crate::turn::{Turn, give_back, take_turn};
 use fork_port::Ending;
@@ -55,11 +57,24 @@ fn answer_line<R: Wait>(
     ensures drives { (t : Tree Machine) → HasMachines depot.now world.old t → DrivesLine depot.now (line_read line.now) t result world.new }
     ensures reason { reason_of world.new ≡ reason_of world.old }
 {
+    let Some(name) = name_for(alloc, world, line.name())? else {
+        return Ok(Answer::NoMachine);
+    };
     match line {
-        Line::Step { name, most } => step(rt, alloc, world, name, u64::from(*most), depot),
-        Line::Peek { name, address } => peek(alloc, world, name, *address, depot),
-        Line::Regs { name } => regs(alloc, world, name, depot),
+        Line::Step { most, .. } => step(rt, alloc, world, &name, u64::from(*most), depot),
+        Line::Peek { address, .. } => peek(alloc, world, &name, *address, depot),
+        Line::Regs { .. } => regs(alloc, world, &name, depot),
     }
+}
+
+/// The name of a line put together, or nothing where no machine has a name of so many forks.
+fn name_for(alloc: Global, world: &World, name: &NameText) -> Result<Option<Name>, AllocError>
+    ensures { (depot : Shelves) (t : Tree Machine) → HasMachines depot world.now t → IsNameIn name.now t result }
+{
+    if !world.reaches(name.depth()) {
+        return Ok(None);
+    }
+    Ok(Some(name.name(alloc)?))
 }
 
 /// Lets a machine make at most so many steps.
@@ -112,7 +127,7 @@ fn peek(
     let Some(lease) = world.take_named(alloc, name, depot)? else {
         return Ok(Answer::NoMachine);
     };
-    let word = lease.peek(address);
+    let word = lease.peek(depot, address);
     give_back(world, lease);
     Ok(Answer::Word(word))
 }

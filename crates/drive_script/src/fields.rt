@@ -1,11 +1,9 @@
 //! The fields of a line.
 
-ghost use Rattle.std.specs.Prelude.{◌≡◌, ◌∷◌, ◌<◌, length, IfOk, IfSome, MatchOption, option_map};
-ghost use Rattle.drive_script.specs.Script.{address_of, fields_beyond, fork_before, forks_of, has_leading_zero, is_decimal, name_of, number_of, number_within, one_of, parts, parts_beyond, two_of};
+ghost use Rattle.std.specs.Prelude.{◌≡◌, ◌∷◌, ◌<◌, length, IfSome, MatchOption, option_map};
+ghost use Rattle.drive_script.specs.Script.{address_of, fields_beyond, fork_before, forks_of, has_leading_zero, is_decimal, number_of, number_within, one_of, parts, parts_beyond, two_of};
 
 use hex::FromHex;
-use run_report::Name;
-use std::alloc::{AllocError, Global};
 use std::str;
 
 /// Stands between lines.
@@ -103,28 +101,9 @@ pub(crate) fn two_fields(fields: Option<&[u8]>) -> Option<(&[u8], &[u8])>
     Some((one, other))
 }
 
-/// The name of a machine: `0`, and then `.t.k` for each fork on the way to it.
-pub(crate) fn name_of(alloc: Global, text: &[u8]) -> Result<Option<Name>, AllocError>
-    ensures { IfOk result (λ name. name ≡ name_of text.now) }
-{
-    let (root, mut forks) = cut(text, DOT);
-    if root != b"0".as_slice() {
-        return Ok(None);
-    }
-    let mut name = Name::root(alloc);
-    'forks: while let Some(text) = forks {
-        let Some((ticket, child, rest)) = fork_of(text) else {
-            return Ok(None);
-        };
-        name = name.child(alloc, ticket, child)?;
-        forks = rest;
-    }
-    Ok(Some(name))
-}
-
 /// The first fork of these, and the forks behind it if there are some.
 #[tactic(auto, unfolding(crate::specs::Script::forks_of))]
-fn fork_of(text: &[u8]) -> Option<(u32, u32, Option<&[u8]>)>
+pub(crate) fn fork_of(text: &[u8]) -> Option<(u32, u32, Option<&[u8]>)>
     ensures forks { MatchOption result (forks_of (parts DOT text.now) ≡ None)
         (λ fork. forks_of (parts DOT text.now)
         ≡ fork_before (Some fork.0) (Some fork.1) (forks_of (parts_beyond DOT (option_map (λ rest. rest.now) fork.2)))) }

@@ -8,10 +8,12 @@ mod error;
 mod fields;
 pub mod laws;
 mod line;
+mod name;
 mod script;
 mod turn;
 
 pub use driver::drive;
 pub use error::ScriptError;
 pub use line::{Line, MAX_STEPS};
+pub use name::NameText;
 pub use script::{MAX_SCRIPT, Script, read_script};

@@ -6,8 +6,8 @@ ghost use Rattle.drive_script.specs.Told.{name_in};
 ghost use Rattle.drive_script.specs.Script.{IsLineRefused, IsNameRefused, fields_beyond, line_of, name_of, one_of, peek_with, regs_with, step_with, two_of, word_of};
 
 use crate::error::{BAD_ADDRESS, BAD_NAME, BAD_NUMBER, LineError, UNKNOWN_WORD, WRONG_FIELDS};
-use crate::fields::{SPACE, address_of, cut, name_of, number_within, one_field, two_fields};
-use run_report::Name;
+use crate::fields::{SPACE, address_of, cut, number_within, one_field, two_fields};
+use crate::name::NameText;
 use std::alloc::Global;
 
 /// The most steps that a line may ask for.
@@ -17,16 +17,16 @@ pub const MAX_STEPS: u32 = 1_000_000_000;
 #[derive(Drop)]
 pub enum Line {
     /// `step N K`: at most so many steps.
-    Step { name: Name, most: u32 },
+    Step { name: NameText, most: u32 },
     /// `peek N ADDR`: the word of RAM at an address.
-    Peek { name: Name, address: u32 },
+    Peek { name: NameText, address: u32 },
     /// `regs N`: the pc and the registers.
-    Regs { name: Name },
+    Regs { name: NameText },
 }
 
 impl Line {
     /// The name of the machine.
-    pub fn name(&self) -> &Name
+    pub fn name(&self) -> &NameText
         ensures { result.now ≡ name_in (line_read self.now) }
     {
         match self {
@@ -104,9 +104,9 @@ fn read_regs(alloc: Global, fields: Option<&[u8]>) -> Result<Line, LineError>
 }
 
 /// The field that names a machine, read.
-fn read_name(alloc: Global, text: &[u8]) -> Result<Name, LineError>
+fn read_name(alloc: Global, text: &[u8]) -> Result<NameText, LineError>
     ensures reads { IfOk result (λ name. name_of text.now ≡ Some name) }
     ensures refuses { IfErr result (IsNameRefused (name_of text.now)) }
 {
-    name_of(alloc, text)?.ok_or(LineError::Refused(BAD_NAME))
+    NameText::read(alloc, text)?.ok_or(LineError::Refused(BAD_NAME))
 }

@@ -1,13 +1,16 @@
 //! A machine's turn: it is taken, runs up to its next call and comes back.
 
-ghost use Rattle.std.specs.Prelude.{◌≡◌, ◌+◌, IsSome, IsSomeAnd, MatchResult};
+ghost use Rattle.std.specs.Prelude.{◌≡◌, ◌+◌, None, IsSome, IsSomeAnd, MatchResult};
 ghost use Rattle.image_depot.specs.Key.{Shelves};
 ghost use Rattle.forest_tree.specs.Tree.{Tree, subtree};
 ghost use Rattle.forest_model.specs.Machine.{Machine};
 ghost use Rattle.forest_model.specs.Forest.{machines};
+ghost use Rattle.forest_model.specs.Paged.{stalled_at};
+ghost use Rattle.vm_cell.specs.Keyed.{paged};
 ghost use Rattle.vm_cell.specs.Standing.{standing_call};
+ghost use Rattle.world_core.specs.Lent.{vm_of};
 ghost use Rattle.world_core.specs.World.{Forest, StandsFor, reason_of};
-ghost use Rattle.world_core.specs.Answers.{IsHandedOut};
+ghost use Rattle.world_core.specs.Answers.{IsHandedOut, IsLentOf};
 ghost use Rattle.drive_script.specs.Driven.{HasMachines};
 ghost use Rattle.drive_script.specs.Steps.{why};
 ghost use Rattle.drive_script.specs.Turned.{AnswersCall, HasBack, HasRun, HasLent, MayGo, Turns, with_machine};
@@ -64,7 +67,7 @@ fn run_turn<R: Wait>(
     ensures turns { (t : Tree Machine) → HasLent depot.now world.old t lease → Turns depot.now lease.name most t result world.new }
     ensures reason { reason_of world.new ≡ reason_of world.old }
 {
-    let Ok(ran) = lease.run(most) else {
+    let Ok(ran) = lease.run_fetching(alloc, depot, most) else {
         give_back(world, lease);
         return Err(AllocError);
     };
@@ -82,8 +85,9 @@ fn run_turn<R: Wait>(
     })
 }
 
-/// Why the machine on lease stops where it stands.
+/// Why the machine on lease stops where it stands, which is not at an absent page.
 fn why_it_stops(world: &World, lease: &Lease) -> Why
+    requires { stalled_at (paged (vm_of lease.now)) ≡ None }
     ensures { (depot : Shelves) (t : Tree Machine) → HasLent depot world.now t lease.now
         → IsSomeAnd (subtree lease.now.name t) (λ a. result ≡ why machines (with_machine lease.now.now a)) }
 {
@@ -122,7 +126,7 @@ fn make_call<R: Wait>(
     depot: &Depot,
 ) -> Result<(), AllocError>
     requires lent { (t : Tree Machine) × HasLent depot.now world.old t lease × MayGo t lease }
-    requires call { IsSome (standing_call lease.now) }
+    requires call { IsSome (standing_call (vm_of lease)) }
     ensures made { (t : Tree Machine) → HasLent depot.now world.old t lease
         → MatchResult result (λ _. HasRun depot.now lease.name (lease.ran + 1) t world.new) (λ _. HasBack depot.now world.new t lease) }
     ensures reason { reason_of world.new ≡ reason_of world.old }
@@ -146,8 +150,8 @@ fn try_call<R: Wait>(
     depot: &Depot,
 ) -> Placed
     requires lent { (t : Tree Machine) × HasLent depot.now world.old t lease }
-    requires call { IsSome (standing_call lease.now) }
-    ensures { (f : Forest) → StandsFor depot.now world.old f → IsHandedOut f lease → AnswersCall depot.now f lease result world.new }
+    requires call { IsSome (standing_call (vm_of lease)) }
+    ensures { (f : Forest) → StandsFor depot.now world.old f → IsHandedOut f lease → IsLentOf depot.now lease → AnswersCall depot.now f lease result world.new }
 {
     match lease.call() {
         Some(Call::Clone(_)) => world.fork(rt, alloc, lease, depot),

@@ -1,12 +1,12 @@
 -- What an instruction does to the fork port: nothing, or what one store to it does.
-use Rattle.std.proofs.Common.{◌≡◌, ℕ, ◌%◌, List, length, Bool, true, false, cond, eqb, Option, Some, None, refl, sym, subst}
+use Rattle.std.proofs.Common.{◌≡◌, ℕ, ◌%◌, List, Bool, true, false, cond, eqb, Option, Some, None, refl, sym, subst}
 use Rattle.std.specs.Option.{IfSome}
 use Rattle.rv_decode.specs.Instruction.{Instruction}
 use Rattle.rv_decode.specs.Table.{decoded}
 use Rattle.rv_decode.specs.declared.kinds.Group.{Group}
 use Rattle.rv_decode.specs.declared.kinds.Group.TheVariants.{LoadUpper, AddUpper, Jump, JumpRegister, Branch, Load, Store, ComputeImmediate, Compute, Nothing, EnvironmentCall, Breakpoint, TrapReturn, Csr, LoadReserved, StoreConditional, Amo}
 use Rattle.rv_decode.specs.Kinds.{group_of}
-use Rattle.rv_exec.specs.Memory.{load_width}
+use Rattle.rv_exec.specs.Memory.{load_width, store_width}
 use Rattle.rv_traps.specs.Trap.{takes_interrupt}
 use Rattle.rv_traps.specs.declared.registers.CsrRegisters.{CsrRegisters}
 use Rattle.console_port.specs.Console.{ConsoleRegisters, ConsoleLoaded, console_load, console_store}
@@ -23,12 +23,13 @@ use Rattle.fork_port.specs.Commands.{IsMakeable}
 use Rattle.fork_port.specs.Fork.{ForkStored, fork_load, fork_store}
 use Rattle.fork_port.proofs.StoreLemmas.{call_stored}
 use Rattle.forest_model.specs.Ports.{PortRegisters, Read, Stored, Place, at_console, at_timer, at_block, at_fork, at_no_port, place_of, console_read, plain_read, load_at, port_load, console_stored, timer_stored, block_stored, fork_stored, store_at, port_store}
-use Rattle.forest_model.specs.State.{State, is_in_ram, is_timer_due, at_next_instruction}
+use Rattle.forest_model.specs.State.{State, is_timer_due, at_next_instruction}
 use Rattle.forest_model.specs.Action.{Action, trap, interrupt, retire, exit, ask, rs1, rs2}
 use Rattle.forest_model.specs.Compute.{load_upper, add_upper, compute_immediate, compute}
 use Rattle.forest_model.specs.Control.{aligned_jump, jump, jump_register, branch_by, branch, relative, linked}
-use Rattle.forest_model.specs.Memory.{data_address, is_aligned, read_action, place_load, aligned_load, load, is_page_range, zeroed, effect_action, port_action, place_store, aligned_store, store_action, stored_bytes, store}
-use Rattle.forest_model.specs.Atomic.{is_reserved, reserve_at, aligned_reserve, load_reserved, conditional_action, conditional_at, aligned_conditional, store_conditional, amo_at, aligned_amo, amo}
+use Rattle.forest_model.specs.Access.{Reached, faulted, of_ram, of_port, reached, fetch_access}
+use Rattle.forest_model.specs.Memory.{data_address, read_action, load_by, load_access, load, is_page_range, zeroed, effect_action, port_action, store_by, store_access, store_action, stored_bytes, store}
+use Rattle.forest_model.specs.Atomic.{is_reserved, reserve_by, reserve_access, load_reserved, conditional_action, conditional_by, conditional_access, store_conditional, amo_by, amo_access, amo}
 use Rattle.forest_model.specs.System.{operation_of, reads, writes, written_action, write_action, old_action, old_value, csr_access, trap_return}
 use Rattle.forest_model.specs.Execute.{action, action_by, execute_group, execute, decoded_action, fetched, fetch_action}
 use Rattle.forest_model.specs.Machine.{Machine, advance, advance_from, applied}
@@ -131,28 +132,22 @@ module _ (P : ForkRegisters → Type 0) where
     Follows-port_action (Some stored) address h =
         Follows-effect_action stored.effect (at_next_instruction (record s { ports = stored.ports })) h.0 h.1
 
-    Follows-place_store : (in_ram : Bool) (address : ℕ) (bytes : List ℕ) (word : ℕ) → Follows (place_store in_ram address bytes word s)
-    Follows-place_store true address bytes word = kept.before
-    Follows-place_store false address bytes word =
-        Follows-port_action (port_store s.ports address (length bytes) word) address (IsStored-port_store s.ports address (length bytes) word kept)
-
-    Follows-aligned_store : (aligned : Bool) (address : ℕ) (bytes : List ℕ) (word : ℕ) → Follows (aligned_store aligned address bytes word s)
-    Follows-aligned_store false address bytes word = tt
-    Follows-aligned_store true address bytes word = Follows-place_store (is_in_ram s.ram address) address bytes word
+    Follows-store_by : (r : Reached) (address width : ℕ) (bytes : List ℕ) (word : ℕ) → Follows (store_by r address width bytes word s)
+    Follows-store_by (faulted cause) address width bytes word = tt
+    Follows-store_by (of_ram page) address width bytes word = kept.before
+    Follows-store_by of_port address width bytes word =
+        Follows-port_action (port_store s.ports address width word) address (IsStored-port_store s.ports address width word kept)
 
     Follows-read_action : (answer : Option Read) (i : Instruction) (address : ℕ) → IfSome answer (λ read. read.ports.fork ≡ fork_of s)
         → Follows (read_action answer i address s)
     Follows-read_action None i address e = tt
     Follows-read_action (Some read) i address e = subst P (sym e) kept.before
 
-    Follows-place_load : (in_ram : Bool) (i : Instruction) (address : ℕ) → Follows (place_load in_ram i address s)
-    Follows-place_load true i address = kept.before
-    Follows-place_load false i address =
+    Follows-load_by : (r : Reached) (i : Instruction) (address : ℕ) → Follows (load_by r i address s)
+    Follows-load_by (faulted cause) i address = tt
+    Follows-load_by (of_ram page) i address = kept.before
+    Follows-load_by of_port i address =
         Follows-read_action (port_load s.ports address (load_width i.kind)) i address (fork-port_load s.ports address (load_width i.kind))
-
-    Follows-aligned_load : (aligned : Bool) (i : Instruction) (address : ℕ) → Follows (aligned_load aligned i address s)
-    Follows-aligned_load false i address = tt
-    Follows-aligned_load true i address = Follows-place_load (is_in_ram s.ram address) i address
 
     Follows-aligned_jump : (aligned : Bool) (target : ℕ) (new : State) → P (fork_of new) → Follows (aligned_jump aligned target new)
     Follows-aligned_jump false target new p = tt
@@ -162,33 +157,24 @@ module _ (P : ForkRegisters → Type 0) where
     Follows-branch_by false i = kept.before
     Follows-branch_by true i = Follows-aligned_jump (eqb (relative i s % 4) 0) (relative i s) s kept.before
 
-    Follows-reserve_at : (in_ram : Bool) (i : Instruction) (address : ℕ) → Follows (reserve_at in_ram i address s)
-    Follows-reserve_at false i address = tt
-    Follows-reserve_at true i address = kept.before
-
-    Follows-aligned_reserve : (aligned : Bool) (i : Instruction) (address : ℕ) → Follows (aligned_reserve aligned i address s)
-    Follows-aligned_reserve false i address = tt
-    Follows-aligned_reserve true i address = Follows-reserve_at (is_in_ram s.ram address) i address
+    Follows-reserve_by : (r : Reached) (i : Instruction) (address : ℕ) → Follows (reserve_by r i address s)
+    Follows-reserve_by (faulted cause) i address = tt
+    Follows-reserve_by (of_ram page) i address = kept.before
+    Follows-reserve_by of_port i address = tt
 
     Follows-conditional_action : (reserved : Bool) (i : Instruction) (address : ℕ) → Follows (conditional_action reserved i address s)
     Follows-conditional_action false i address = kept.before
     Follows-conditional_action true i address = kept.before
 
-    Follows-conditional_at : (in_ram : Bool) (i : Instruction) (address : ℕ) → Follows (conditional_at in_ram i address s)
-    Follows-conditional_at false i address = tt
-    Follows-conditional_at true i address = Follows-conditional_action (is_reserved s.reservation address) i address
+    Follows-conditional_by : (r : Reached) (i : Instruction) (address : ℕ) → Follows (conditional_by r i address s)
+    Follows-conditional_by (faulted cause) i address = tt
+    Follows-conditional_by (of_ram page) i address = Follows-conditional_action (is_reserved s.reservation address) i address
+    Follows-conditional_by of_port i address = tt
 
-    Follows-aligned_conditional : (aligned : Bool) (i : Instruction) (address : ℕ) → Follows (aligned_conditional aligned i address s)
-    Follows-aligned_conditional false i address = tt
-    Follows-aligned_conditional true i address = Follows-conditional_at (is_in_ram s.ram address) i address
-
-    Follows-amo_at : (in_ram : Bool) (i : Instruction) (address : ℕ) → Follows (amo_at in_ram i address s)
-    Follows-amo_at false i address = tt
-    Follows-amo_at true i address = kept.before
-
-    Follows-aligned_amo : (aligned : Bool) (i : Instruction) (address : ℕ) → Follows (aligned_amo aligned i address s)
-    Follows-aligned_amo false i address = tt
-    Follows-aligned_amo true i address = Follows-amo_at (is_in_ram s.ram address) i address
+    Follows-amo_by : (r : Reached) (i : Instruction) (address : ℕ) → Follows (amo_by r i address s)
+    Follows-amo_by (faulted cause) i address = tt
+    Follows-amo_by (of_ram page) i address = kept.before
+    Follows-amo_by of_port i address = tt
 
     Follows-written_action : (csrs : Option CsrRegisters) (old : ℕ) (i : Instruction) (word : ℕ) → Follows (written_action csrs old i word s)
     Follows-written_action None old i word = tt
@@ -209,9 +195,9 @@ module _ (P : ForkRegisters → Type 0) where
     Follows-execute_group Jump i word = Follows-aligned_jump (eqb (relative i s % 4) 0) (relative i s) (linked i s) kept.before
     Follows-execute_group JumpRegister i word = Follows-aligned_jump _ _ (linked i s) kept.before
     Follows-execute_group Branch i word = Follows-branch_by _ i
-    Follows-execute_group Load i word = Follows-aligned_load (is_aligned (data_address i s) (load_width i.kind)) i (data_address i s)
+    Follows-execute_group Load i word = Follows-load_by (reached (load_access i s) s) i (data_address i s)
     Follows-execute_group Store i word =
-        Follows-aligned_store (is_aligned (data_address i s) (length (stored_bytes i s))) (data_address i s) (stored_bytes i s) (rs2 i s)
+        Follows-store_by (reached (store_access i s) s) (data_address i s) (store_width i.kind) (stored_bytes i s) (rs2 i s)
     Follows-execute_group ComputeImmediate i word = kept.before
     Follows-execute_group Compute i word = kept.before
     Follows-execute_group Nothing i word = kept.before
@@ -219,22 +205,23 @@ module _ (P : ForkRegisters → Type 0) where
     Follows-execute_group Breakpoint i word = tt
     Follows-execute_group TrapReturn i word = kept.before
     Follows-execute_group Csr i word = Follows-old_action (old_value (reads (operation_of i.kind) i) i s) i word
-    Follows-execute_group LoadReserved i word = Follows-aligned_reserve (is_aligned (rs1 i s) 4) i (rs1 i s)
-    Follows-execute_group StoreConditional i word = Follows-aligned_conditional (is_aligned (rs1 i s) 4) i (rs1 i s)
-    Follows-execute_group Amo i word = Follows-aligned_amo (is_aligned (rs1 i s) 4) i (rs1 i s)
+    Follows-execute_group LoadReserved i word = Follows-reserve_by (reached (reserve_access i s) s) i (rs1 i s)
+    Follows-execute_group StoreConditional i word = Follows-conditional_by (reached (conditional_access i s) s) i (rs1 i s)
+    Follows-execute_group Amo i word = Follows-amo_by (reached (amo_access i s) s) i (rs1 i s)
 
     Follows-decoded : (decoded : Option Instruction) (word : ℕ) → Follows (decoded_action decoded word s)
     unfolding execute
     Follows-decoded None word = tt
     Follows-decoded (Some i) word = Follows-execute_group (group_of i.kind) i word
 
-    Follows-fetch : (in_ram : Bool) → Follows (fetch_action in_ram s)
-    Follows-fetch false = tt
-    Follows-fetch true = Follows-decoded (decoded (fetched s)) (fetched s)
+    Follows-fetch : (r : Reached) → Follows (fetch_action r s)
+    Follows-fetch (faulted cause) = tt
+    Follows-fetch (of_ram page) = Follows-decoded (decoded (fetched s)) (fetched s)
+    Follows-fetch of_port = tt
 
     Follows-by : (taken : Bool) → Follows (action_by taken s)
     Follows-by true = tt
-    Follows-by false = Follows-fetch (is_in_ram s.ram s.pc)
+    Follows-by false = Follows-fetch (reached (fetch_access s) s)
 
     pub action-ported : Ported (fork_of s) (action s)
     unfolding action

@@ -1,3 +1,4 @@
+pub mod Accesses
 pub mod Finish
 pub mod Zero
 pub mod Touch
@@ -6,3 +7,5 @@ pub mod Numbers
 pub mod Calls
 pub mod Rules
 pub mod Alone
+pub mod Paged
+pub mod Absent

@@ -17,23 +17,27 @@ use Rattle.rv_decode.specs.declared.kinds.Kind.TheVariants.{Sb, Sh, Sw}
 use Rattle.rv_decode.specs.declared.kinds.Group.{Group}
 use Rattle.rv_decode.specs.declared.kinds.Group.TheVariants.{LoadUpper, AddUpper, Jump, JumpRegister, Branch, Load, Store, ComputeImmediate, Compute, Nothing, EnvironmentCall, Breakpoint, TrapReturn, Csr, LoadReserved, StoreConditional, Amo}
 use Rattle.rv_decode.specs.Kinds.{group_of}
-use Rattle.rv_exec.specs.Memory.{load_width, store_bytes}
+use Rattle.rv_exec.specs.Memory.{IsWidth, load_width, store_bytes, store_width}
 use Rattle.fork_port.specs.declared.ending.Ending.{Ending}
 use Rattle.fork_port.specs.declared.commands.Effect.{Effect}
 use Rattle.fork_port.specs.declared.commands.Effect.TheVariants.{Done, TimeWritten, Exit, Call, Zero}
 use Rattle.forest_model.specs.Ports.{Read, Stored, port_load, port_store}
+use Rattle.forest_model.specs.declared.access.Access.{Access}
+use Rattle.forest_model.specs.declared.access.Direction.TheVariants as access
 use Rattle.forest_model.specs.State.{State, is_in_ram, is_timer_due, at_next_instruction}
 use Rattle.forest_model.specs.Action.{Action, trap, interrupt, retire, exit, ask, rs1, rs2}
 use Rattle.forest_model.specs.Compute.{load_upper, add_upper, compute_immediate, compute}
 use Rattle.forest_model.specs.Control.{aligned_jump, jump, jump_register, branch_by, branch, relative, linked}
-use Rattle.forest_model.specs.Memory.{data_address, is_aligned, read_action, place_load, aligned_load, load, is_page_range, zeroed, effect_action, port_action, place_store, aligned_store, store_action, stored_bytes, store}
-use Rattle.forest_model.specs.Atomic.{is_reserved, reserve_at, aligned_reserve, load_reserved, conditional_action, conditional_at, aligned_conditional, store_conditional, amo_at, aligned_amo, amo}
+use Rattle.forest_model.specs.Access.{Reached, faulted, of_ram, of_port, reached, page_for, page_of, page_needed, fetch_access}
+use Rattle.forest_model.specs.Memory.{data_address, read_action, load_by, load_access, load, is_page_range, zeroed, effect_action, port_action, store_by, to_store, store_access, store_action, stored_bytes, store}
+use Rattle.forest_model.specs.Atomic.{is_reserved, reserve_by, reserve_access, load_reserved, conditional_action, conditional_by, conditional_access, store_conditional, amo_by, amo_access, amo}
 use Rattle.rv_traps.specs.Trap.{takes_interrupt}
 use Rattle.rv_traps.specs.declared.registers.CsrRegisters.{CsrRegisters}
 use Rattle.forest_model.specs.System.{operation_of, reads, writes, written_action, write_action, old_action, old_value, csr_access, trap_return}
 use Rattle.forest_model.specs.Execute.{action, action_by, execute_group, execute, decoded_action, fetched, fetch_action}
 use Rattle.forest_model.specs.Machine.{Machine, advance, advance_from, applied}
-use Rattle.forest_model.specs.Touch.{page_of, access_page, data_page, code_and_data, touch_decoded, touch_fetch, touch_step, touch_from, touch, IsZeroedBy, IsZeroedByStore, IsZeroed}
+use Rattle.forest_model.specs.Touch.{access_by, access_of, data_page, code_and_data, touch_decoded, touch_fetch, touch_step, touch_from, touch, IsZeroedBy, IsZeroedByStore, IsZeroed}
+use Rattle.forest_model.proofs.Accesses.{of_ram-is, page_of-begins, begins-reached}
 use Rattle.forest_model.proofs.Finish.{IsSome-ended}
 use Rattle.forest_model.proofs.Zero.{zeroed-leaves}
 
@@ -66,42 +70,9 @@ IsPages-two ram page other begins begins_too differ =
       none_twice = AllPairs-cons (λ a b. a ≢ b) page (other ∷ []) (All-cons (λ b. page ≢ b) other [] differ (All-nil (λ b. page ≢ b))) one.none_twice;
     }
 
--- the page of an address in RAM begins in RAM
-page_of-begins : (ram : List ℕ) (address : ℕ) → is_in_ram ram address ≡ true → PAGE_SIZE * page_of address < length ram
-page_of-begins ram address in_ram = grind (arith, nat_tests)
-
-begins-access_page : (ram : List ℕ) (address : ℕ) (aligned in_ram : Bool) → is_in_ram ram address ≡ in_ram
-    → IfSome (cond (aligned && in_ram) (Some (page_of address)) None) (λ page. PAGE_SIZE * page < length ram)
-begins-access_page ram address false in_ram e = tt
-begins-access_page ram address true false e = tt
-begins-access_page ram address true true e = page_of-begins ram address e
-
-begins-access : (ram : List ℕ) (address width : ℕ) → IfSome (access_page address width ram) (λ page. PAGE_SIZE * page < length ram)
-begins-access ram address width = begins-access_page ram address (eqb (address % width) 0) (is_in_ram ram address) refl
-
-begins-if : (reserved : Bool) (ram : List ℕ) (address : ℕ)
-    → IfSome (cond reserved (access_page address 4 ram) None) (λ page. PAGE_SIZE * page < length ram)
-begins-if false ram address = tt
-begins-if true ram address = begins-access ram address 4
-
-begins-data_page : (group : Group) (i : Instruction) (s : State) → IfSome (data_page group i s) (λ page. PAGE_SIZE * page < length s.ram)
-begins-data_page LoadUpper i s = tt
-begins-data_page AddUpper i s = tt
-begins-data_page Jump i s = tt
-begins-data_page JumpRegister i s = tt
-begins-data_page Branch i s = tt
-begins-data_page Load i s = begins-access s.ram (data_address i s) (load_width i.kind)
-begins-data_page Store i s = begins-access s.ram (data_address i s) (length (stored_bytes i s))
-begins-data_page ComputeImmediate i s = tt
-begins-data_page Compute i s = tt
-begins-data_page Nothing i s = tt
-begins-data_page EnvironmentCall i s = tt
-begins-data_page Breakpoint i s = tt
-begins-data_page TrapReturn i s = tt
-begins-data_page Csr i s = tt
-begins-data_page LoadReserved i s = begins-access s.ram (rs1 i s) 4
-begins-data_page StoreConditional i s = begins-if (is_reserved s.reservation (rs1 i s)) s.ram (rs1 i s)
-begins-data_page Amo i s = begins-access s.ram (rs1 i s) 4
+begins-data_page : (asked : Option Access) (s : State) → IfSome (data_page asked s) (λ page. PAGE_SIZE * page < length s.ram)
+begins-data_page None s = tt
+begins-data_page (Some a) s = begins-reached a s
 
 IsPages-both : (ram : List ℕ) (code page : ℕ) (same : Bool) → eqb page code ≡ same → PAGE_SIZE * code < length ram → PAGE_SIZE * page < length ram
     → IsPages ram (cond same (code ∷ []) (code ∷ page ∷ []))
@@ -116,16 +87,17 @@ IsPages-code_and_data ram code (Some page) begins begins_too = IsPages-both ram 
 IsPages-decoded : (i : Option Instruction) (s : State) → is_in_ram s.ram s.pc ≡ true → IsPages s.ram (touch_decoded i s)
 IsPages-decoded None s in_ram = IsPages-one s.ram (page_of s.pc) (page_of-begins s.ram s.pc in_ram)
 IsPages-decoded (Some i) s in_ram =
-    IsPages-code_and_data s.ram (page_of s.pc) (data_page (group_of i.kind) i s)
-    (page_of-begins s.ram s.pc in_ram) (begins-data_page (group_of i.kind) i s)
+    IsPages-code_and_data s.ram (page_of s.pc) (data_page (access_of i s) s)
+    (page_of-begins s.ram s.pc in_ram) (begins-data_page (access_of i s) s)
 
-IsPages-fetch : (in_ram : Bool) (s : State) → is_in_ram s.ram s.pc ≡ in_ram → IsPages s.ram (touch_fetch in_ram s)
-IsPages-fetch false s e = IsPages-nil s.ram
-IsPages-fetch true s e = IsPages-decoded (decoded (fetched s)) s e
+IsPages-fetch : (r : Reached) (s : State) → reached (fetch_access s) s ≡ r → IsPages s.ram (touch_fetch r s)
+IsPages-fetch (faulted cause) s e = IsPages-nil s.ram
+IsPages-fetch (of_ram page) s e = IsPages-decoded (decoded (fetched s)) s (of_ram-is (fetch_access s) s page e).in_ram
+IsPages-fetch of_port s e = IsPages-nil s.ram
 
 IsPages-step : (taken : Bool) (s : State) → IsPages s.ram (touch_step taken s)
 IsPages-step true s = IsPages-nil s.ram
-IsPages-step false s = IsPages-fetch (is_in_ram s.ram s.pc) s refl
+IsPages-step false s = IsPages-fetch (reached (fetch_access s) s) s refl
 
 IsPages-from : (ending : Option Ending) (s : State) → IsPages s.ram (touch_from ending s)
 IsPages-from None s = IsPages-step (takes_interrupt s.csrs (is_timer_due s)) s
@@ -161,7 +133,7 @@ abbrev Leaves : ℕ → State → Action → Type 0
 Leaves at s action = get_or (ram_after action s) at 0 ≡ get_or s.ram at 0
 
 -- a page other than that of an aligned store has none of its bytes
-outside : (width at address : ℕ) → (width ≡ 1) ⊎ ((width ≡ 2) ⊎ (width ≡ 4)) → address % width ≡ 0 → RAM_BASE ≤ address → at / PAGE_SIZE ≢ page_of address
+outside : (width at address : ℕ) → IsWidth width → address % width ≡ 0 → RAM_BASE ≤ address → at / PAGE_SIZE ≢ page_of address
     → (at < address - RAM_BASE) ⊎ (address - RAM_BASE + width ≤ at)
 outside width at address (inl one) aligned from_base other = grind arith
 outside width at address (inr (inl two)) aligned from_base other =
@@ -172,12 +144,13 @@ outside width at address (inr (inr four)) aligned from_base other =
     grind arith
 
 -- bytes that an aligned store puts into RAM leave each byte outside the page of the store
-Leaves-put_bytes : (at address : ℕ) (bytes : List ℕ) (s : State) → is_in_ram s.ram address ≡ true
-    → (length bytes ≡ 1) ⊎ ((length bytes ≡ 2) ⊎ (length bytes ≡ 4)) → address % length bytes ≡ 0 → at / PAGE_SIZE ≢ page_of address
+Leaves-put_bytes : (at address width : ℕ) (bytes : List ℕ) (s : State) → is_in_ram s.ram address ≡ true
+    → length bytes ≡ width → IsWidth width → address % width ≡ 0 → at / PAGE_SIZE ≢ page_of address
     → get_or (put_bytes s.ram (address - RAM_BASE) bytes) at 0 ≡ get_or s.ram at 0
-Leaves-put_bytes at address bytes s e widths aligned other =
+Leaves-put_bytes at address width bytes s e same widths aligned other =
+    let apart : (at < address - RAM_BASE) ⊎ (address - RAM_BASE + width ≤ at) = outside width at address widths aligned (grind (arith, nat_tests)) other in
     get_or-put_bytes_outside s.ram bytes (address - RAM_BASE) at (grind (arith, nat_tests))
-    (outside (length bytes) at address widths aligned (grind (arith, nat_tests)) other)
+    (subst (λ n. (at < address - RAM_BASE) ⊎ (address - RAM_BASE + n ≤ at)) (sym same) apart)
 
 Leaves-zeroed : (at : ℕ) (in_range : Bool) (first count : ℕ) (s : State) → is_page_range first count s.ram ≡ in_range
     → (IsZeroedBy (Zero first count) (at / PAGE_SIZE) → ⊥) → get_or (zeroed in_range first count s).ram at 0 ≡ get_or s.ram at 0
@@ -206,35 +179,25 @@ Leaves-port_action at (Some stored) address s other =
 abbrev IsElsewhere : ℕ → Option ℕ → Type 0
 IsElsewhere at page = (p : ℕ) → page ≡ Some p → at / PAGE_SIZE ≢ p
 
-Leaves-place_store : (at : ℕ) (in_ram : Bool) (address : ℕ) (bytes : List ℕ) (word : ℕ) (s : State) → is_in_ram s.ram address ≡ in_ram
-    → (length bytes ≡ 1) ⊎ ((length bytes ≡ 2) ⊎ (length bytes ≡ 4)) → address % length bytes ≡ 0
-    → IsElsewhere at (cond in_ram (Some (page_of address)) None) → IsUnzeroed at (port_store s.ports address (length bytes) word)
-    → Leaves at s (place_store in_ram address bytes word s)
-Leaves-place_store at false address bytes word s e widths aligned other unzeroed =
-    Leaves-port_action at (port_store s.ports address (length bytes) word) address s unzeroed
-Leaves-place_store at true address bytes word s e widths aligned other unzeroed =
-    Leaves-put_bytes at address bytes s e widths aligned (other (page_of address) refl)
-
-Leaves-aligned_store : (at : ℕ) (aligned : Bool) (address : ℕ) (bytes : List ℕ) (word : ℕ) (s : State) → eqb (address % length bytes) 0 ≡ aligned
-    → (length bytes ≡ 1) ⊎ ((length bytes ≡ 2) ⊎ (length bytes ≡ 4))
-    → IsElsewhere at (cond (aligned && is_in_ram s.ram address) (Some (page_of address)) None)
-    → IsUnzeroed at (port_store s.ports address (length bytes) word) → Leaves at s (aligned_store aligned address bytes word s)
-Leaves-aligned_store at false address bytes word s e widths other unzeroed = refl
-Leaves-aligned_store at true address bytes word s e widths other unzeroed =
-    Leaves-place_store at (is_in_ram s.ram address) address bytes word s refl widths (eqb-true (address % length bytes) 0 e) other unzeroed
+Leaves-store_by : (at : ℕ) (r : Reached) (address width : ℕ) (bytes : List ℕ) (word : ℕ) (s : State) → reached (to_store address width) s ≡ r
+    → length bytes ≡ width → IsWidth width → IsElsewhere at (page_needed r) → IsUnzeroed at (port_store s.ports address width word)
+    → Leaves at s (store_by r address width bytes word s)
+Leaves-store_by at (faulted cause) address width bytes word s e same widths other unzeroed = refl
+Leaves-store_by at (of_ram page) address width bytes word s e same widths other unzeroed =
+    let is = of_ram-is (to_store address width) s page e in
+    Leaves-put_bytes at address width bytes s is.in_ram same widths (eqb-true (address % width) 0 is.aligned) (other (page_of address) is.needs)
+Leaves-store_by at of_port address width bytes word s e same widths other unzeroed =
+    Leaves-port_action at (port_store s.ports address width word) address s unzeroed
 
 -- no load changes RAM
 Leaves-read_action : (at : ℕ) (answer : Option Read) (i : Instruction) (address : ℕ) (s : State) → Leaves at s (read_action answer i address s)
 Leaves-read_action at None i address s = refl
 Leaves-read_action at (Some read) i address s = refl
 
-Leaves-place_load : (at : ℕ) (in_ram : Bool) (i : Instruction) (address : ℕ) (s : State) → Leaves at s (place_load in_ram i address s)
-Leaves-place_load at true i address s = refl
-Leaves-place_load at false i address s = Leaves-read_action at (port_load s.ports address (load_width i.kind)) i address s
-
-Leaves-aligned_load : (at : ℕ) (aligned : Bool) (i : Instruction) (address : ℕ) (s : State) → Leaves at s (aligned_load aligned i address s)
-Leaves-aligned_load at false i address s = refl
-Leaves-aligned_load at true i address s = Leaves-place_load at (is_in_ram s.ram address) i address s
+Leaves-load_by : (at : ℕ) (r : Reached) (i : Instruction) (address : ℕ) (s : State) → Leaves at s (load_by r i address s)
+Leaves-load_by at (faulted cause) i address s = refl
+Leaves-load_by at (of_ram page) i address s = refl
+Leaves-load_by at of_port i address s = Leaves-read_action at (port_load s.ports address (load_width i.kind)) i address s
 
 Leaves-aligned_jump : (at : ℕ) (aligned : Bool) (target : ℕ) (new s : State) → get_or new.ram at 0 ≡ get_or s.ram at 0 → Leaves at s (aligned_jump aligned target new)
 Leaves-aligned_jump at false target new s e = refl
@@ -244,52 +207,41 @@ Leaves-branch_by : (at : ℕ) (taken : Bool) (i : Instruction) (s : State) → L
 Leaves-branch_by at false i s = refl
 Leaves-branch_by at true i s = Leaves-aligned_jump at (eqb (relative i s % 4) 0) (relative i s) s s refl
 
-Leaves-reserve_at : (at : ℕ) (in_ram : Bool) (i : Instruction) (address : ℕ) (s : State) → Leaves at s (reserve_at in_ram i address s)
-Leaves-reserve_at at false i address s = refl
-Leaves-reserve_at at true i address s = refl
-
-Leaves-aligned_reserve : (at : ℕ) (aligned : Bool) (i : Instruction) (address : ℕ) (s : State) → Leaves at s (aligned_reserve aligned i address s)
-Leaves-aligned_reserve at false i address s = refl
-Leaves-aligned_reserve at true i address s = Leaves-reserve_at at (is_in_ram s.ram address) i address s
+Leaves-reserve_by : (at : ℕ) (r : Reached) (i : Instruction) (address : ℕ) (s : State) → Leaves at s (reserve_by r i address s)
+Leaves-reserve_by at (faulted cause) i address s = refl
+Leaves-reserve_by at (of_ram page) i address s = refl
+Leaves-reserve_by at of_port i address s = refl
 
 Leaves-conditional_action : (at : ℕ) (reserved : Bool) (i : Instruction) (address : ℕ) (s : State) → is_in_ram s.ram address ≡ true → address % 4 ≡ 0
-    → IsElsewhere at (cond reserved (Some (page_of address)) None) → Leaves at s (conditional_action reserved i address s)
+    → IsElsewhere at (page_for (access.Conditional reserved) (page_of address)) → Leaves at s (conditional_action reserved i address s)
 Leaves-conditional_action at false i address s e aligned other = refl
 Leaves-conditional_action at true i address s e aligned other =
-    Leaves-put_bytes at address (to_le_bytes w32 (rs2 i s)) s e (inr (inr refl)) aligned (other (page_of address) refl)
+    Leaves-put_bytes at address 4 (to_le_bytes w32 (rs2 i s)) s e refl (inr (inr refl)) aligned (other (page_of address) refl)
 
-Leaves-conditional_at : (at : ℕ) (in_ram : Bool) (i : Instruction) (address : ℕ) (s : State) → is_in_ram s.ram address ≡ in_ram → address % 4 ≡ 0
-    → IsElsewhere at (cond (is_reserved s.reservation address) (cond in_ram (Some (page_of address)) None) None)
-    → Leaves at s (conditional_at in_ram i address s)
-Leaves-conditional_at at false i address s e aligned other = refl
-Leaves-conditional_at at true i address s e aligned other =
-    Leaves-conditional_action at (is_reserved s.reservation address) i address s e aligned other
+Leaves-conditional_by : (at : ℕ) (r : Reached) (i : Instruction) (s : State) → reached (conditional_access i s) s ≡ r
+    → IsElsewhere at (page_needed r) → Leaves at s (conditional_by r i (rs1 i s) s)
+Leaves-conditional_by at (faulted cause) i s e other = refl
+Leaves-conditional_by at (of_ram page) i s e other =
+    let is = of_ram-is (conditional_access i s) s page e in
+    Leaves-conditional_action at (is_reserved s.reservation (rs1 i s)) i (rs1 i s) s is.in_ram (eqb-true (rs1 i s % 4) 0 is.aligned)
+    (λ p same. other p (is.needs ∙ same))
+Leaves-conditional_by at of_port i s e other = refl
 
-Leaves-aligned_conditional : (at : ℕ) (aligned : Bool) (i : Instruction) (address : ℕ) (s : State) → eqb (address % 4) 0 ≡ aligned
-    → IsElsewhere at (cond (is_reserved s.reservation address) (cond (aligned && is_in_ram s.ram address) (Some (page_of address)) None) None)
-    → Leaves at s (aligned_conditional aligned i address s)
-Leaves-aligned_conditional at false i address s e other = refl
-Leaves-aligned_conditional at true i address s e other =
-    Leaves-conditional_at at (is_in_ram s.ram address) i address s refl (eqb-true (address % 4) 0 e) other
+Leaves-amo_by : (at : ℕ) (r : Reached) (i : Instruction) (s : State) → reached (amo_access i s) s ≡ r
+    → IsElsewhere at (page_needed r) → Leaves at s (amo_by r i (rs1 i s) s)
+Leaves-amo_by at (faulted cause) i s e other = refl
+Leaves-amo_by at (of_ram page) i s e other =
+    let is = of_ram-is (amo_access i s) s page e in
+    Leaves-put_bytes at (rs1 i s) 4 (to_le_bytes w32 _) s is.in_ram refl (inr (inr refl)) (eqb-true (rs1 i s % 4) 0 is.aligned)
+    (other (page_of (rs1 i s)) is.needs)
+Leaves-amo_by at of_port i s e other = refl
 
-Leaves-amo_at : (at : ℕ) (in_ram : Bool) (i : Instruction) (address : ℕ) (s : State) → is_in_ram s.ram address ≡ in_ram → address % 4 ≡ 0
-    → IsElsewhere at (cond in_ram (Some (page_of address)) None) → Leaves at s (amo_at in_ram i address s)
-Leaves-amo_at at false i address s e aligned other = refl
-Leaves-amo_at at true i address s e aligned other =
-    Leaves-put_bytes at address (to_le_bytes w32 _) s e (inr (inr refl)) aligned (other (page_of address) refl)
-
-Leaves-aligned_amo : (at : ℕ) (aligned : Bool) (i : Instruction) (address : ℕ) (s : State) → eqb (address % 4) 0 ≡ aligned
-    → IsElsewhere at (cond (aligned && is_in_ram s.ram address) (Some (page_of address)) None) → Leaves at s (aligned_amo aligned i address s)
-Leaves-aligned_amo at false i address s e other = refl
-Leaves-aligned_amo at true i address s e other = Leaves-amo_at at (is_in_ram s.ram address) i address s refl (eqb-true (address % 4) 0 e) other
-
-store_lengths : (kind : Kind) (value : ℕ) → group_of kind ≡ Store
-    → (length (store_bytes kind value) ≡ 1) ⊎ ((length (store_bytes kind value) ≡ 2) ⊎ (length (store_bytes kind value) ≡ 4))
+store_widths : (kind : Kind) (value : ℕ) → group_of kind ≡ Store → (length (store_bytes kind value) ≡ store_width kind) × IsWidth (store_width kind)
 unfolding group_of
-store_lengths Sb value h = inl refl
-store_lengths Sh value h = inr (inl refl)
-store_lengths Sw value h = inr (inr refl)
-store_lengths _ value h = absurd (cc)
+store_widths Sb value h = (refl, inl refl)
+store_widths Sh value h = (refl, inr (inl refl))
+store_widths Sw value h = (refl, inr (inr refl))
+store_widths _ value h = absurd (cc)
 
 -- no access to a control and status register changes RAM
 Leaves-written_action : (at : ℕ) (csrs : Option CsrRegisters) (old : ℕ) (i : Instruction) (word : ℕ) (s : State) → Leaves at s (written_action csrs old i word s)
@@ -304,22 +256,19 @@ Leaves-old_action : (at : ℕ) (old : Option ℕ) (i : Instruction) (word : ℕ)
 Leaves-old_action at None i word s = refl
 Leaves-old_action at (Some old) i word s = Leaves-write_action at (writes (operation_of i.kind) i) old i word s
 
-length-stored_bytes : (i : Instruction) (s : State) → group_of i.kind ≡ Store
-    → (length (stored_bytes i s) ≡ 1) ⊎ ((length (stored_bytes i s) ≡ 2) ⊎ (length (stored_bytes i s) ≡ 4))
-length-stored_bytes i s h = store_lengths i.kind (rs2 i s) h
-
 Leaves-execute_group : (at : ℕ) (group : Group) (i : Instruction) (word : ℕ) (s : State) → group_of i.kind ≡ group
-    → IsElsewhere at (data_page group i s) → (IsZeroedByStore i (at / PAGE_SIZE) s → ⊥) → Leaves at s (execute_group group i word s)
+    → IsElsewhere at (data_page (access_by group i s) s) → (IsZeroedByStore i (at / PAGE_SIZE) s → ⊥) → Leaves at s (execute_group group i word s)
 unfolding load_upper add_upper compute_immediate compute jump jump_register branch load store store_action load_reserved store_conditional amo csr_access trap_return
 Leaves-execute_group at LoadUpper i word s e other unzeroed = refl
 Leaves-execute_group at AddUpper i word s e other unzeroed = refl
 Leaves-execute_group at Jump i word s e other unzeroed = Leaves-aligned_jump at (eqb (relative i s % 4) 0) (relative i s) (linked i s) s refl
 Leaves-execute_group at JumpRegister i word s e other unzeroed = Leaves-aligned_jump at _ _ (linked i s) s refl
 Leaves-execute_group at Branch i word s e other unzeroed = Leaves-branch_by at _ i s
-Leaves-execute_group at Load i word s e other unzeroed = Leaves-aligned_load at (is_aligned (data_address i s) (load_width i.kind)) i (data_address i s) s
+Leaves-execute_group at Load i word s e other unzeroed = Leaves-load_by at (reached (load_access i s) s) i (data_address i s) s
 Leaves-execute_group at Store i word s e other unzeroed =
-    Leaves-aligned_store at (is_aligned (data_address i s) (length (stored_bytes i s))) (data_address i s) (stored_bytes i s) (rs2 i s) s refl
-    (length-stored_bytes i s e) other (λ zeroed. unzeroed (e, zeroed))
+    let widths = store_widths i.kind (rs2 i s) e in
+    Leaves-store_by at (reached (store_access i s) s) (data_address i s) (store_width i.kind) (stored_bytes i s) (rs2 i s) s refl
+    widths.0 widths.1 other (λ zeroed. unzeroed (e, zeroed))
 Leaves-execute_group at ComputeImmediate i word s e other unzeroed = refl
 Leaves-execute_group at Compute i word s e other unzeroed = refl
 Leaves-execute_group at Nothing i word s e other unzeroed = refl
@@ -327,9 +276,9 @@ Leaves-execute_group at EnvironmentCall i word s e other unzeroed = refl
 Leaves-execute_group at Breakpoint i word s e other unzeroed = refl
 Leaves-execute_group at TrapReturn i word s e other unzeroed = refl
 Leaves-execute_group at Csr i word s e other unzeroed = Leaves-old_action at (old_value (reads (operation_of i.kind) i) i s) i word s
-Leaves-execute_group at LoadReserved i word s e other unzeroed = Leaves-aligned_reserve at (is_aligned (rs1 i s) 4) i (rs1 i s) s
-Leaves-execute_group at StoreConditional i word s e other unzeroed = Leaves-aligned_conditional at (is_aligned (rs1 i s) 4) i (rs1 i s) s refl other
-Leaves-execute_group at Amo i word s e other unzeroed = Leaves-aligned_amo at (is_aligned (rs1 i s) 4) i (rs1 i s) s refl other
+Leaves-execute_group at LoadReserved i word s e other unzeroed = Leaves-reserve_by at (reached (reserve_access i s) s) i (rs1 i s) s
+Leaves-execute_group at StoreConditional i word s e other unzeroed = Leaves-conditional_by at (reached (conditional_access i s) s) i s refl other
+Leaves-execute_group at Amo i word s e other unzeroed = Leaves-amo_by at (reached (amo_access i s) s) i s refl other
 
 Contains-both : (code page : ℕ) (same : Bool) → eqb page code ≡ same → Contains (cond same (code ∷ []) (code ∷ page ∷ [])) page
 Contains-both code page true e = (0, omega arith, sym (eqb-true page code e))
@@ -346,16 +295,17 @@ Leaves-decoded at (Some i) word s not_touched unzeroed =
     let listed : Contains (code_and_data code (Some page)) page = Contains-both code page (eqb page code) refl in
     not_touched (subst (λ p. Contains (code_and_data code p) (at / PAGE_SIZE)) (sym e) (subst (Contains (code_and_data code (Some page))) (sym same) listed))) unzeroed
 
-Leaves-fetch : (at : ℕ) (in_ram : Bool) (s : State) → (Contains (touch_fetch in_ram s) (at / PAGE_SIZE) → ⊥) → (IsZeroed s (at / PAGE_SIZE) → ⊥)
-    → Leaves at s (fetch_action in_ram s)
+Leaves-fetch : (at : ℕ) (r : Reached) (s : State) → (Contains (touch_fetch r s) (at / PAGE_SIZE) → ⊥) → (IsZeroed s (at / PAGE_SIZE) → ⊥)
+    → Leaves at s (fetch_action r s)
 unfolding IsZeroed
-Leaves-fetch at false s not_touched unzeroed = refl
-Leaves-fetch at true s not_touched unzeroed = Leaves-decoded at (decoded (fetched s)) (fetched s) s not_touched unzeroed
+Leaves-fetch at (faulted cause) s not_touched unzeroed = refl
+Leaves-fetch at (of_ram page) s not_touched unzeroed = Leaves-decoded at (decoded (fetched s)) (fetched s) s not_touched unzeroed
+Leaves-fetch at of_port s not_touched unzeroed = refl
 
 Leaves-by : (at : ℕ) (taken : Bool) (s : State) → (Contains (touch_step taken s) (at / PAGE_SIZE) → ⊥) → (IsZeroed s (at / PAGE_SIZE) → ⊥)
     → Leaves at s (action_by taken s)
 Leaves-by at true s not_touched unzeroed = refl
-Leaves-by at false s not_touched unzeroed = Leaves-fetch at (is_in_ram s.ram s.pc) s not_touched unzeroed
+Leaves-by at false s not_touched unzeroed = Leaves-fetch at (reached (fetch_access s) s) s not_touched unzeroed
 
 Leaves-action : (at : ℕ) (s : State) → (Contains (touch_from None s) (at / PAGE_SIZE) → ⊥) → (IsZeroed s (at / PAGE_SIZE) → ⊥) → Leaves at s (action s)
 unfolding action

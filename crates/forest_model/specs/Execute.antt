@@ -10,8 +10,9 @@ use Rattle.rv_decode.specs.Instruction.{Instruction}
 use Rattle.rv_decode.specs.Table.{decoded}
 use Rattle.rv_traps.specs.Trap.{takes_interrupt}
 use Rattle.forest_model.specs.declared.cause.TheConstants.{INSTRUCTION_ACCESS_FAULT, ILLEGAL_INSTRUCTION, BREAKPOINT, ENVIRONMENT_CALL}
-use Rattle.forest_model.specs.State.{State, is_in_ram, is_timer_due}
+use Rattle.forest_model.specs.State.{State, is_timer_due}
 use Rattle.forest_model.specs.Action.{Action, trap, interrupt, retire_next}
+use Rattle.forest_model.specs.Access.{Reached, faulted, of_ram, of_port, reached, fetch_access}
 use Rattle.forest_model.specs.Compute.{load_upper, add_upper, compute_immediate, compute}
 use Rattle.forest_model.specs.Control.{jump, jump_register, branch}
 use Rattle.forest_model.specs.Memory.{load, store}
@@ -49,14 +50,29 @@ decoded_action (Some i) word s = execute i word s
 abbrev pub fetched : State → ℕ
 fetched s = word_at s.ram (s.pc - RAM_BASE)
 
-abbrev pub fetch_action : Bool → State → Action
-fetch_action false s = trap INSTRUCTION_ACCESS_FAULT s.pc
-fetch_action true s = decoded_action (decoded (fetched s)) (fetched s) s
+-- by what its fetch comes to. No port has one
+abbrev pub fetch_action : Reached → State → Action
+fetch_action (faulted cause) s = trap cause s.pc
+fetch_action (of_ram page) s = decoded_action (decoded (fetched s)) (fetched s) s
+fetch_action of_port s = trap INSTRUCTION_ACCESS_FAULT s.pc
 
 abbrev pub action_by : Bool → State → Action
 action_by true s = interrupt
-action_by false s = fetch_action (is_in_ram s.ram s.pc) s
+action_by false s = fetch_action (reached (fetch_access s) s) s
 
 -- the coming step: the interrupt comes before all else
 unfoldable pub action : State → Action
 action s = action_by (takes_interrupt s.csrs (is_timer_due s)) s
+
+-- the instruction that the coming step executes, if it comes to one
+abbrev pub instruction_at : Reached → State → Option Instruction
+instruction_at (faulted cause) s = None
+instruction_at (of_ram page) s = decoded (fetched s)
+instruction_at of_port s = None
+
+abbrev pub instruction_by : Bool → State → Option Instruction
+instruction_by true s = None
+instruction_by false s = instruction_at (reached (fetch_access s) s) s
+
+unfoldable pub coming_instruction : State → Option Instruction
+coming_instruction s = instruction_by (takes_interrupt s.csrs (is_timer_due s)) s

@@ -1,28 +1,27 @@
--- Loads and stores: an address that is a multiple of the width goes to RAM, or else to a port.
+-- Loads and stores, which RAM gives, or else a port.
 -- RISC-V Unprivileged ISA 20191213, section 2.6
 use Rattle.std.specs.Prelude.{ℕ, ◌+◌, ◌-◌, ◌*◌, ◌/◌, ◌%◌, ◌^◌, ◌==◌, ◌&&◌, not, nat_le, Bool, true, false, List, length, Option, Some, None}
 use Rattle.elf_load.specs.declared.image.TheConstants.{RAM_BASE, PAGE_SIZE}
 use Rattle.byteorder.specs.Endian.{little_from}
 use Rattle.flat_memory.specs.Flat.{put_bytes, zeros}
 use Rattle.rv_decode.specs.Instruction.{Instruction}
-use Rattle.rv_exec.specs.Memory.{load_value, load_width, store_bytes}
+use Rattle.rv_exec.specs.Memory.{load_value, load_width, store_bytes, store_width}
 use Rattle.forest_model.specs.declared.Written.TheVariants.{Nothing, Time}
-use Rattle.forest_model.specs.declared.cause.TheConstants.{LOAD_ADDRESS_MISALIGNED, LOAD_ACCESS_FAULT, STORE_ADDRESS_MISALIGNED, STORE_ACCESS_FAULT}
+use Rattle.forest_model.specs.declared.access.Access.{Access}
+use Rattle.forest_model.specs.declared.access.Direction.TheVariants as access
+use Rattle.forest_model.specs.declared.cause.TheConstants.{LOAD_ACCESS_FAULT, STORE_ACCESS_FAULT}
 use Rattle.fork_port.specs.declared.commands.Effect.{Effect}
 use Rattle.fork_port.specs.declared.commands.Effect.TheVariants.{Done, TimeWritten, Exit, Call, Zero}
 use Rattle.fork_port.specs.declared.refusals.TheConstants.{BAD_ARGUMENT}
 use Rattle.fork_port.specs.Registers.{ForkRegisters, refused}
 use Rattle.forest_model.specs.Ports.{Read, Stored, port_load, port_store}
-use Rattle.forest_model.specs.State.{State, is_in_ram, at_next_instruction}
+use Rattle.forest_model.specs.State.{State, at_next_instruction}
 use Rattle.forest_model.specs.Action.{Action, trap, retire, exit, ask, retire_next, with_rd, rs1, rs2, immediate}
+use Rattle.forest_model.specs.Access.{Reached, faulted, of_ram, of_port, reached}
 
 -- the address of a load or a store
 abbrev pub data_address : Instruction → State → ℕ
 data_address i s = (rs1 i s + immediate i) % 2 ^ 32
-
--- an access is aligned where its address is a multiple of its width
-abbrev pub is_aligned : ℕ → ℕ → Bool
-is_aligned address width = address % width == 0
 
 -- the number in the `width` bytes of RAM at an address, the lowest first
 abbrev pub ram_number : ℕ → ℕ → State → ℕ
@@ -33,17 +32,21 @@ abbrev pub read_action : Option Read → Instruction → ℕ → State → Actio
 read_action None i address s = trap LOAD_ACCESS_FAULT address
 read_action (Some read) i address s = retire_next (with_rd i (load_value i.kind read.value) (record s { ports = read.ports }))
 
-abbrev pub place_load : Bool → Instruction → ℕ → State → Action
-place_load true i address s =
+abbrev pub load_by : Reached → Instruction → ℕ → State → Action
+load_by (faulted cause) i address s = trap cause address
+load_by (of_ram page) i address s =
     retire_next (with_rd i (load_value i.kind (ram_number address (load_width i.kind) s)) s)
-place_load false i address s = read_action (port_load s.ports address (load_width i.kind)) i address s
+load_by of_port i address s = read_action (port_load s.ports address (load_width i.kind)) i address s
 
-abbrev pub aligned_load : Bool → Instruction → ℕ → State → Action
-aligned_load false i address s = trap LOAD_ADDRESS_MISALIGNED address
-aligned_load true i address s = place_load (is_in_ram s.ram address) i address s
+-- a load of so many bytes
+abbrev pub to_load : ℕ → ℕ → Access
+to_load address width = record { address = address; width = width; direction = access.Load }
+
+abbrev pub load_access : Instruction → State → Access
+load_access i s = to_load (data_address i s) (load_width i.kind)
 
 unfoldable pub load : Instruction → State → Action
-load i s = aligned_load (is_aligned (data_address i s) (load_width i.kind)) i (data_address i s) s
+load i s = load_by (reached (load_access i s) s) i (data_address i s) s
 
 -- the state with these registers of the fork port
 abbrev pub with_fork : ForkRegisters → State → State
@@ -76,21 +79,24 @@ port_action (Some stored) address s = effect_action stored.effect (at_next_instr
 abbrev pub with_bytes : ℕ → List ℕ → State → State
 with_bytes address bytes s = record s { ram = put_bytes s.ram (address - RAM_BASE) bytes }
 
-abbrev pub place_store : Bool → ℕ → List ℕ → ℕ → State → Action
-place_store true address bytes word s = retire_next (with_bytes address bytes s)
-place_store false address bytes word s = port_action (port_store s.ports address (length bytes) word) address s
+abbrev pub store_by : Reached → ℕ → ℕ → List ℕ → ℕ → State → Action
+store_by (faulted cause) address width bytes word s = trap cause address
+store_by (of_ram page) address width bytes word s = retire_next (with_bytes address bytes s)
+store_by of_port address width bytes word s = port_action (port_store s.ports address width word) address s
 
-abbrev pub aligned_store : Bool → ℕ → List ℕ → ℕ → State → Action
-aligned_store false address bytes word s = trap STORE_ADDRESS_MISALIGNED address
-aligned_store true address bytes word s = place_store (is_in_ram s.ram address) address bytes word s
+-- a store of the low bytes of a word, so many
+abbrev pub to_store : ℕ → ℕ → Access
+to_store address width = record { address = address; width = width; direction = access.Store }
 
--- a store of the low bytes of a word
-unfoldable pub store_action : ℕ → List ℕ → ℕ → State → Action
-store_action address bytes word s = aligned_store (is_aligned address (length bytes)) address bytes word s
+unfoldable pub store_action : ℕ → ℕ → List ℕ → ℕ → State → Action
+store_action address width bytes word s = store_by (reached (to_store address width) s) address width bytes word s
 
 -- the bytes that a store writes, the low ones of rs2
 abbrev pub stored_bytes : Instruction → State → List ℕ
 stored_bytes i s = store_bytes i.kind (rs2 i s)
 
+abbrev pub store_access : Instruction → State → Access
+store_access i s = to_store (data_address i s) (store_width i.kind)
+
 unfoldable pub store : Instruction → State → Action
-store i s = store_action (data_address i s) (stored_bytes i s) (rs2 i s) s
+store i s = store_action (data_address i s) (store_width i.kind) (stored_bytes i s) (rs2 i s) s

@@ -1,11 +1,14 @@
 //! Laws of the definitions, each the contract of a function that does nothing.
 
-ghost use Rattle.std.specs.Prelude.{◌≡◌, ◌≢◌, ◌==◌, if◌then◌else◌, ℕ, Bool, true, false, ◌+◌, ◌*◌, ◌/◌, ◌^◌, ◌<◌, ◌≤◌, List, [], length, slice_index, Some, None, IsSome, All, AllPairs, Contains};
+ghost use Rattle.std.specs.Prelude.{◌≡◌, ◌≢◌, ◌==◌, if◌then◌else◌, ℕ, Bool, true, false, ◌+◌, ◌*◌, ◌/◌, ◌^◌, ◌<◌, ◌≤◌, List, [], length, slice_get, slice_index, slice_index_or, Some, None, IsSome, All, AllPairs, Contains};
 ghost use Rattle.elf_load.specs.Image.{Image};
 ghost use Rattle.rv_traps.specs.Trap.{takes_interrupt};
 ghost use Rattle.fork_port.specs.Registers.{ticket_found, refused};
 ghost use Rattle.fork_port.specs.Children as fork;
 ghost use Rattle.forest_tree.specs.Operations.{clone, join, kill, IsMachine};
+ghost use Rattle.forest_tree.specs.Tree.{Tree};
+ghost use Rattle.forest_tree.specs.Finish as tree;
+ghost use Rattle.forest_tree.specs.Projection.{map_tree, Projects};
 ghost use Rattle.forest_tree.specs.Settle.{alone};
 ghost use Rattle.forest_tree.specs.Sound.{IsSound};
 ghost use Rattle.forest_model.specs.State.{State, is_timer_due};
@@ -16,6 +19,7 @@ ghost use Rattle.forest_model.specs.Machine.{Machine, IsWithinLimit, exception, 
 ghost use Rattle.forest_model.specs.Calls.{as_in_parent, child, fork_of, forked, after_join, after_kill, share_of};
 ghost use Rattle.forest_model.specs.Forest.{IsChildless, booted, call_of, finish, machines, port_of};
 ghost use Rattle.forest_model.specs.Touch.{IsZeroed, touch};
+ghost use Rattle.forest_model.specs.Paged.{Paged, Pages, absent_count, advanced_by, paged_machines, pages_arrived, stalled_at};
 
 use crate::{Ending, Options, Written};
 use elf_load::PAGE_SIZE;
@@ -137,4 +141,29 @@ pub fn touched_pages()
 pub fn writes_touched_pages()
     ensures { (m : Machine) (at : ℕ) → ¬ Contains (touch m) (at / PAGE_SIZE) → ¬ IsZeroed m.state (at / PAGE_SIZE)
         → slice_index (advance m).state.ram at ≡ slice_index m.state.ram at }
+{}
+
+/// What is known of a machine's pages changes nothing that the machine does: seen without it, machines of which
+/// some pages may be absent are machines, and so are their steps and their forests. They keep the rules.
+pub fn absent_pages_add_nothing()
+    ensures projects { Projects paged_machines machines (λ (p : Paged). p.machine) }
+    ensures rules { IsMachine paged_machines }
+    ensures steps { (n : ℕ) (p : Paged) → (advanced_by n p).machine ≡ after_steps n p.machine }
+    ensures finish { (t : Tree Paged) → finish (map_tree (λ (p : Paged). p.machine) t) ≡ map_tree (λ (p : Paged). p.machine) (tree.finish paged_machines t) }
+{}
+
+/// The page at which a machine stops is one that its next step touches and that is not here. A machine that has
+/// ended stops at none.
+pub fn stalls_are_of_touched_pages()
+    ensures touched { (p : Paged) (page : ℕ) → stalled_at p ≡ Some page → Contains (touch p.machine) page }
+    ensures absent { (p : Paged) (page : ℕ) → stalled_at p ≡ Some page → slice_index_or p.pages.here page false ≡ false }
+    ensures ended { (p : Paged) → IsSome p.machine.ending → stalled_at p ≡ None }
+{}
+
+/// A page that comes leaves one absent page fewer, and no step makes a page absent. So a machine stalls at most as often
+/// as it has absent pages, if each page that it waits for comes.
+pub fn absent_pages_run_out()
+    ensures arrival { (pages : Pages) (page : ℕ) → slice_get pages.here page ≡ Some false
+        → absent_count (pages_arrived page pages).here + 1 ≡ absent_count pages.here }
+    ensures steps { (n : ℕ) (p : Paged) → absent_count (advanced_by n p).pages.here ≤ absent_count p.pages.here }
 {}

@@ -2,10 +2,12 @@
 //! what it does, and the machine run to its end. The code of the crates above is proved equal to it.
 #![tactic(auto)]
 
+mod access;
 pub mod cause;
 pub mod laws;
 pub mod port_map;
 
+pub use access::{Access, Direction};
 pub use fork_port::Ending;
 use rv_traps::Wrote;
 

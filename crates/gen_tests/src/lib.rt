@@ -1,6 +1,8 @@
-//! Tests of generated guests by public calls. They stand here and not in `guest_gen`, since a crate with tests
-//! is proved twice, and this one has nothing else.
+//! Tests of what seeds give, guests and the fates of replies, by public calls. They stand here, since a crate with
+//! tests is proved twice, and this one has nothing else.
 #![tactic(auto)]
 
+#[cfg(test)]
+mod fates;
 #[cfg(test)]
 mod guests;

@@ -3,7 +3,7 @@ use Rattle.std.proofs.Common.{ℕ, zero, suc, ◌*◌, ◌%◌, ◌≤◌, lengt
 use Rattle.std.proofs.lemmas.Bool.Decides.{nat_tests}
 use Rattle.std.proofs.lemmas.List.{length-map}
 use Rattle.rv_asm.specs.Encode.{encoded}
-use Rattle.guest_gen.specs.Draws.{next, drawn}
+use Rattle.seed_draws.specs.Draws.{next, drawn}
 use Rattle.guest_gen.specs.Blocks.{memory_block, zero_block, disk_block, console_block, block_of, block, blocks, after_blocks}
 use Rattle.guest_gen.specs.Levels.{numbered, fork, forked, kill, join, value, values, exit, last_part, middle_part, forking_level, after_level, last_level}
 use Rattle.guest_gen.specs.Guest.{start, instructions, words}

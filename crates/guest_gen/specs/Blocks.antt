@@ -1,7 +1,7 @@
 -- Blocks: a few instructions each, of one of four kinds, with numbers that are drawn.
 use Rattle.std.specs.Prelude.{ℕ, zero, suc, ◌+◌, ◌*◌, ◌%◌, ◌==◌, if◌then◌else◌, List, [], ◌∷◌, ◌++◌}
 use Rattle.rv_decode.specs.Instruction.{Instruction}
-use Rattle.guest_gen.specs.Draws.{next, drawn}
+use Rattle.seed_draws.specs.Draws.{next, drawn}
 use Rattle.guest_gen.specs.Assembly.{lui, addi, add, lw, sw, sb}
 
 abbrev pub Code : Type 0

@@ -1,4 +1,3 @@
-pub mod Draws
 pub mod Assembly
 pub mod Blocks
 pub mod Levels

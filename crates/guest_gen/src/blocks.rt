@@ -6,8 +6,8 @@ ghost use Rattle.std.specs.Prelude.{◌≡◌, ◌<◌, ◌++◌, OnOk};
 ghost use Rattle.guest_gen.specs.Blocks.{memory_block, zero_block, disk_block, console_block, block_of, after_block_of, block, after_block, blocks, after_blocks};
 
 use crate::assembly::{add, addi, lui, lw, sb, sw};
-use crate::draws::Draws;
 use rv_decode::Instr;
+use seed_draws::Draws;
 use std::alloc::AllocError;
 
 /// Writes a word of a page behind the code, reads it and adds it to the sum.

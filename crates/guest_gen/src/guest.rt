@@ -3,11 +3,11 @@ ghost use Rattle.rv_asm.specs.Encode.{encoded};
 ghost use Rattle.guest_gen.specs.Guest.{start, instructions, guest};
 
 use crate::assembly::{addi, lui};
-use crate::draws::Draws;
 use crate::levels::{numbered, push_forking_level, push_last_level};
 use elf_load::RAM_BASE;
 use rv_asm::{elf_of, encode};
 use rv_decode::Instr;
+use seed_draws::Draws;
 use std::alloc::{AllocError, Global};
 
 /// The image of the guest of a seed: an executable with one segment at the start of RAM, which is entered at

@@ -7,8 +7,8 @@ ghost use Rattle.guest_gen.specs.Levels.{numbered, fork, forked, kill, join, val
 
 use crate::assembly::{add, addi, beq, jal, lw, sw};
 use crate::blocks::push_blocks;
-use crate::draws::Draws;
 use rv_decode::Instr;
+use seed_draws::Draws;
 use std::alloc::{AllocError, Global};
 
 /// The blocks before the first fork of a level, or of a level that does not fork.

@@ -5,7 +5,6 @@
 
 mod assembly;
 mod blocks;
-mod draws;
 mod guest;
 pub mod laws;
 mod levels;

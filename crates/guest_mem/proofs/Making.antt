@@ -1,5 +1,5 @@
 -- The RAM of a booted guest, and of a clone.
-use Rattle.std.proofs.Common.{◌≡◌, ℕ, zero, suc, ◌+◌, ◌*◌, ◌/◌, ◌%◌, ◌<◌, ◌≤◌, Bool, true, false, List, [], ◌∷◌, ◌++◌, length, length-append, map, get_or, take, drop, Some, None, refl, sym, ap, ◌∙◌, subst, arith}
+use Rattle.std.proofs.Common.{◌≡◌, ℕ, zero, suc, ◌+◌, ◌*◌, ◌/◌, ◌%◌, ◌<◌, Bool, true, false, List, [], ◌∷◌, ◌++◌, length, length-append, map, get_or, take, drop, Some, None, refl, sym, ap, ◌∙◌, subst, arith}
 use Rattle.std.specs.Prelude.{not, if◌then◌else◌}
 use Rattle.std.specs.List.{range_with_len}
 use Rattle.std.proofs.Math.Seq.{take-suc}
@@ -11,13 +11,14 @@ use Rattle.std.proofs.lemmas.Option.{slice_get-get_or}
 use Rattle.elf_load.specs.Image.{IsZeroOutside}
 use Rattle.page_frames.specs.declared.page.TheConstants.{PAGE_SIZE}
 use Rattle.page_frames.specs.declared.entry.Entry.{Entry}
-use Rattle.page_frames.specs.declared.entry.Entry.TheVariants.{Absent}
+use Rattle.page_frames.specs.declared.entry.Entry.TheVariants.{Blank, Absent}
 use Rattle.page_frames.specs.Tables.{paged, entry_at, byte_over, laid_over, is_own, is_blank}
 use Rattle.page_frames.proofs.Memory.{length-paged, get_or-paged, paged_is, laid_over_is}
 use Rattle.image_depot.specs.Image.{IsWhole}
 use Rattle.image_depot.specs.Key.{Key, image_of}
 use Rattle.guest_mem.specs.Ram.{Ram, IsRam, AreZero, ram_of, at_boot, cleared, cloned}
-use Rattle.guest_mem.specs.Table.{boot_entry, page_of, boot_table, clone_entry, clone_table}
+use Rattle.shared_leaves.specs.Choices.{choice}
+use Rattle.guest_mem.specs.Table.{boot_entry, page_of, boot_table, clone_table}
 use Rattle.guest_mem.proofs.Pages.{same_ram}
 
 -- ---- tables that are made page by page
@@ -105,7 +106,7 @@ ram_of_boot ram entry segments sizes zero_outside =
 
 -- ---- clones
 
-clone_byte : (is_blank : Bool) (at below : ℕ) → byte_over (clone_entry is_blank) at below ≡ (if is_blank then 0 else below)
+clone_byte : (is_blank : Bool) (at below : ℕ) → byte_over (choice Blank Absent is_blank) at below ≡ (if is_blank then 0 else below)
 clone_byte true at below = refl
 clone_byte false at below = refl
 
@@ -123,30 +124,17 @@ clone_bytes : (blank : List Bool) (below : List ℕ) → laid_over (clone_table 
 unfolding cleared
 clone_bytes blank below =
     let byte = λ (page at : ℕ). if get_or blank page false then 0 else get_or below (PAGE_SIZE * page + at) 0 in
-    let size : length (clone_table blank) ≡ length blank = length-map blank clone_entry in
+    let size : length (clone_table blank) ≡ length blank = length-map blank (choice Blank Absent) in
     laid_over_is (clone_table blank) below (paged (length blank) byte) (length-paged (length blank) byte ∙ ap (λ n. PAGE_SIZE * n) (sym size))
     (λ i within.
     let there : i / PAGE_SIZE < length blank = omega arith in
-    ap (λ e. byte_over e (i % PAGE_SIZE) (get_or below i 0)) (get_or-map clone_entry blank (i / PAGE_SIZE) false Absent there)
+    ap (λ e. byte_over e (i % PAGE_SIZE) (get_or below i 0)) (get_or-map (choice Blank Absent) blank (i / PAGE_SIZE) false Absent there)
     ∙ clone_byte (get_or blank (i / PAGE_SIZE) false) (i % PAGE_SIZE) (get_or below i 0)
     ∙ ap (λ j. if get_or blank (i / PAGE_SIZE) false then 0 else get_or below j 0) (omega arith)
     ∙ sym (get_or-paged (length blank) byte i (omega arith)))
 
 pub ram_of_clone : (blank : List Bool) (key : Key) → ram_of (clone_table blank) (Some key) ≡ cloned key blank
 ram_of_clone blank key = same_ram _ _ _ _ _ _ (Some key) (clone_bytes blank (image_of key).contents) (clone_own blank) (clone_blank blank)
-
--- the table of a clone is made up to a page
-pub record IsMade (blank : List Bool) (table : List Entry) (page : ℕ) : Type 0 where
-  pub size : length table ≡ length blank
-  pub made : (k : ℕ) → k < page → entry_at table k ≡ clone_entry (get_or blank k false)
-  pub rest : (k : ℕ) → page ≤ k → k < length blank → entry_at table k ≡ Absent
-
-pub made_whole : (blank : List Bool) (table : List Entry) (page : ℕ) → length blank ≤ page → IsMade blank table page → table ≡ clone_table blank
-made_whole blank table page all made =
-    ext_get_or Absent table (clone_table blank) (made.size ∙ sym (length-map blank clone_entry))
-    (λ k inside.
-    let there : k < length blank = omega (arith, made.size) in
-    made.made k (omega arith) ∙ sym (get_or-map clone_entry blank k false Absent there))
 
 -- one more flag, of the entry of a page
 pub flags_more : (table : List Entry) (flags : List Bool) (page : ℕ) (flag : Bool) → page < length table → flags ≡ take page (map is_blank table) → flag ≡ is_blank (entry_at table page)

@@ -1,10 +1,11 @@
 -- How the tables of a booted guest, of a clone and of a guest whose absent pages have come are made, page by page.
-use Rattle.std.specs.Prelude.{◌≡◌, ℕ, ◌*◌, ◌<◌, ◌≤◌, Bool, true, false, List, length, map, take, drop, slice_index_or}
+use Rattle.std.specs.Prelude.{ℕ, ◌*◌, Bool, true, false, List, length, map, take, drop, slice_index_or}
 use Rattle.std.specs.List.{range_with_len}
 use Rattle.page_frames.specs.declared.page.TheConstants.{PAGE_SIZE}
 use Rattle.page_frames.specs.declared.entry.Entry.{Entry}
 use Rattle.page_frames.specs.declared.entry.Entry.TheVariants.{Held, Blank, Absent}
 use Rattle.page_frames.specs.Tables.{entry_at}
+use Rattle.shared_leaves.specs.Choices.{chosen}
 
 abbrev pub boot_entry : List ℕ → Bool → Entry
 boot_entry bytes true = Held bytes
@@ -26,20 +27,6 @@ fetched_entry Absent below page = Held (page_of below page)
 abbrev pub fetched_table : List Entry → List ℕ → List Entry
 fetched_table entries below = map (λ page. fetched_entry (entry_at entries page) below page) (range_with_len 0 (length entries))
 
-abbrev pub clone_entry : Bool → Entry
-clone_entry true = Blank
-clone_entry false = Absent
-
+-- a clone's pages are absent but for the flagged ones, which are blank
 abbrev pub clone_table : List Bool → List Entry
-clone_table blank = map clone_entry blank
-
--- equal flags from a place up to another
-abbrev pub IsRun : List Bool → ℕ → ℕ → Type 0
-IsRun flags first end = (k : ℕ) → first ≤ k → k < end → slice_index_or flags k false ≡ slice_index_or flags first false
-
--- a table after the pages from one up to another were made blank
-pub record IsBlanked (old new : List Entry) (first end : ℕ) : Type 0 where
-  pub size : length new ≡ length old
-  pub blank : (k : ℕ) → first ≤ k → k < end → entry_at new k ≡ Blank
-  pub before : (k : ℕ) → k < first → entry_at new k ≡ entry_at old k
-  pub behind : (k : ℕ) → end ≤ k → entry_at new k ≡ entry_at old k
+clone_table blank = chosen Blank Absent blank

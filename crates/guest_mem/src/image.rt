@@ -1,6 +1,7 @@
 //! Images of RAM, the RAM of clones, and pages that come to them.
 
 ghost use Rattle.std.specs.Prelude.{◌≡◌, ◌+◌, ◌/◌, ◌<◌, ◌≤◌, length, IfOk, OnOk, OnErr};
+ghost use Rattle.shared_leaves.specs.Choices.{choice_steps};
 ghost use Rattle.vm_descriptor.specs.Descriptor.{IsRam as HasMap};
 ghost use Rattle.image_depot.specs.Image.{page_count};
 ghost use Rattle.image_depot.specs.Key.{image_of, IsKeyOf};
@@ -9,12 +10,12 @@ ghost use Rattle.guest_mem.specs.Answers.{Arrives};
 
 use crate::answers::Arrived;
 use crate::memory::GuestMem;
-use crate::table::{clone_table, fetched_table};
+use crate::table::fetched_table;
 use console_port::Input;
 use cow_disk::FrozenDisk;
 use image_depot::{Depot, Frozen, ImageKey, Parcel};
 use page_frames::{Entry, Page};
-use shared_leaves::Steps;
+use shared_leaves::{SharedList, Steps};
 use std::alloc::{AllocError, Global};
 use std::marker::Brand;
 use std::sync::ledger::{Blank, Ledger};
@@ -31,8 +32,50 @@ impl GuestMem {
         requires pages_of_image { descriptor.now.pages ≡ page_count (image_of key) }
         ensures { IfOk result (λ memory. memory ≡ cloned key descriptor.now.blank) }
     {
+        GuestMem::clone_of_ledger::<Brand>(alloc, key, descriptor, Blank::new(1))
+    }
+
+    /// The same with a counter of its own.
+    fn clone_of_ledger<L: Ledger>(
+        alloc: Global,
+        key: ImageKey,
+        descriptor: &Descriptor,
+        blank: Blank,
+    ) -> Result<GuestMem, AllocError>
+        requires name { blank.name ≡ L.name }
+        requires parts { blank.parts ≡ L.parts }
+        requires some { 0 < blank.parts }
+        requires one_bit_a_page { HasMap descriptor.now }
+        requires pages_of_image { descriptor.now.pages ≡ page_count (image_of key) }
+        ensures { IfOk result (λ memory. memory ≡ cloned key descriptor.now.blank) }
+    {
+        GuestMem::clone_counted(alloc, key, descriptor, &mut Steps::<L>::new(blank))
+    }
+
+    /// The same, which counts its steps. A step is a handle on a leaf of the new page table, or an entry
+    /// that is written into one. So it costs leaves and not pages where few pages are blank
+    /// (`clone_costs_leaves`).
+    pub fn clone_counted<L: Ledger>(
+        alloc: Global,
+        key: ImageKey,
+        descriptor: &Descriptor,
+        steps: &mut Steps<L>,
+    ) -> Result<GuestMem, AllocError>
+        requires one_bit_a_page { HasMap descriptor.now }
+        requires pages_of_image { descriptor.now.pages ≡ page_count (image_of key) }
+        ensures value { IfOk result (λ memory. memory ≡ cloned key descriptor.now.blank) }
+        ensures cost { OnOk result (steps.new ≡ steps.old + choice_steps descriptor.now.blank) }
+        ensures most { steps.new ≤ steps.old + choice_steps descriptor.now.blank }
+    {
+        let blank = descriptor.blank.flags();
         Ok(GuestMem {
-            entries: clone_table(alloc, descriptor.blank.flags())?,
+            entries: SharedList::chosen_counted(
+                alloc,
+                blank,
+                &Entry::Blank,
+                &Entry::Absent,
+                steps,
+            )?,
             key: Some(key),
         })
     }

@@ -4,15 +4,12 @@ ghost use Rattle.std.specs.Prelude.{◌≡◌, ◌+◌, ◌*◌, ◌<◌, ◌≤
 ghost use Rattle.flat_memory.specs.Flat.{put_bytes};
 ghost use Rattle.page_frames.specs.Tables.{blank_pages, entry_at, entry_bytes, is_own};
 ghost use Rattle.image_depot.specs.Image.{page_count};
-ghost use Rattle.guest_mem.specs.Table.{boot_entry, boot_table, clone_table, fetched_entry, fetched_table, IsBlanked, IsRun};
+ghost use Rattle.guest_mem.specs.Table.{boot_entry, boot_table, fetched_entry, fetched_table};
 
 use image_depot::Frozen;
 use page_frames::{Entry, PAGE_SIZE, Page, PageTable};
 use shared_leaves::SharedList;
 use std::alloc::{AllocError, Global};
-
-/// A run of so many pages is long: it may have a whole leaf in it.
-const LONG_RUN: usize = 64;
 
 /// The table of RAM with these bytes, of which those pages are held that are flagged.
 pub fn boot_table(alloc: Global, ram: &[u8], segments: &[bool]) -> Result<PageTable, AllocError>
@@ -42,54 +39,6 @@ fn boot_entry(alloc: Global, bytes: &[u8; PAGE_SIZE], is_held: bool) -> Result<E
     } else {
         Ok(Entry::Blank)
     }
-}
-
-/// The table of a clone, whose pages are absent but for the flagged ones, which are blank. All whole
-/// leaves of absent pages are one, and so are those of a long run of blank ones.
-pub fn clone_table(alloc: Global, blank: &[bool]) -> Result<PageTable, AllocError>
-    ensures { IfOk result (λ table. table ≡ clone_table blank.now) }
-{
-    let mut table = SharedList::repeated(alloc, &Entry::Absent, blank.len())?;
-    let mut page = 0;
-    while page < blank.len() {
-        let first = page;
-        page = end_of_run(blank, first);
-        if blank[first] {
-            make_blank(&mut table, first, page)?;
-        }
-    }
-    Ok(table)
-}
-
-/// Where the run of equal flags ends that begins at a place.
-fn end_of_run(flags: &[bool], first: usize) -> usize
-    requires { first < length flags.now }
-    ensures some { first < result }
-    ensures inside { result ≤ length flags.now }
-    ensures equal { IsRun flags.now first result }
-{
-    for page in first + 1..flags.len() {
-        if flags[page] != flags[first] {
-            return page;
-        }
-    }
-    flags.len()
-}
-
-/// Makes a run of pages blank. A long run is filled at once, which costs a handle for each leaf of the
-/// table, and a shorter one page by page.
-fn make_blank(table: &mut PageTable, first: usize, end: usize) -> Result<(), AllocError>
-    requires order { first ≤ end }
-    requires inside { end ≤ length table.old }
-    ensures { OnOk result (IsBlanked table.old table.new first end) }
-{
-    if end - first >= LONG_RUN {
-        return table.fill(first, end, &Entry::Blank);
-    }
-    for page in first..end {
-        table.set(page, Entry::Blank)?;
-    }
-    Ok(())
 }
 
 /// The table with each absent page held, as an image has it. It shares the pages that the image holds.

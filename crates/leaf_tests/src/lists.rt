@@ -1,4 +1,4 @@
-ghost use Rattle.std.specs.Prelude.{◌≡◌, ◌+◌, ◌<◌, length, OnOk};
+ghost use Rattle.std.specs.Prelude.{◌≡◌, ◌+◌, ◌<◌, true, false, [], ◌∷◌, length, replicate, OnOk};
 
 use crate::token::Token;
 use shared_leaves::{SharedList, Steps};
@@ -88,6 +88,38 @@ fn share_of_ledger<L: Ledger>(
     share_in_steps(list, &mut Steps::<L>::new(blank))
 }
 
+/// Makes a list of two tokens, and tells how many steps that takes by some flags.
+fn choose_in_steps<L: Ledger>(
+    alloc: Global,
+    flags: &[bool],
+    set: &Token,
+    unset: &Token,
+    steps: &mut Steps<L>,
+) -> Result<SharedList<Token>, AllocError>
+    ensures none { flags.now ≡ [] → OnOk result (steps.new ≡ steps.old) }
+    ensures one_leaf { flags.now ≡ replicate 64 false → OnOk result (steps.new ≡ steps.old + 65) }
+    ensures an_entry_more { flags.now ≡ replicate 65 false → OnOk result (steps.new ≡ steps.old + 66) }
+    ensures many { flags.now ≡ replicate 1024 false → OnOk result (steps.new ≡ steps.old + 80) }
+    ensures one_set { flags.now ≡ true ∷ replicate 1023 false → OnOk result (steps.new ≡ steps.old + 143) }
+{
+    SharedList::chosen_counted(alloc, flags, set, unset, steps)
+}
+
+/// The same with a counter of its own.
+fn choose_of_ledger<L: Ledger>(
+    alloc: Global,
+    flags: &[bool],
+    set: &Token,
+    unset: &Token,
+    blank: Blank,
+) -> Result<SharedList<Token>, AllocError>
+    requires name { blank.name ≡ L.name }
+    requires parts { blank.parts ≡ L.parts }
+    requires some { 0 < blank.parts }
+{
+    choose_in_steps(alloc, flags, set, unset, &mut Steps::<L>::new(blank))
+}
+
 // Sizes at the ends of leaves.
 static SIZES: [u32; 8] = [0, 1, 63, 64, 65, 128, 130, 1024];
 
@@ -152,17 +184,17 @@ fn a_run_shares_its_whole_leaves(rt: HostRuntime) -> Result<(), Fail> {
     Ok(())
 }
 
+// Three whole leaves of the one number are one, and the entries of the leaf with both are apart.
 #[test]
 fn equal_entries_are_one_leaf(rt: HostRuntime) -> Result<(), Fail> {
-    let token = Token::new(rt.alloc(), 7)?;
-    let lists = [
-        SharedList::repeated(rt.alloc(), &token, 0)?,
-        SharedList::repeated(rt.alloc(), &token, 1024)?,
-    ];
-    assert_eq!(rt;
-        (lists[0].len(), lists[1].len(), token.owners()),
-        (0, 1024, 1 + 64)
-    );
+    let (set, unset) = (Token::new(rt.alloc(), 7)?, Token::new(rt.alloc(), 8)?);
+    let mut flags = [false; 257];
+    flags[100] = true;
+    let list = choose_of_ledger::<Brand>(rt.alloc(), &flags, &set, &unset, Blank::new(1))?;
+    let at = [0, 63, 64, 100, 127, 255, 256].map(|i| held_at(&list, i));
+    let holders = (8, 1 + 64 + 63 + 1);
+    let held = [holders, holders, holders, (7, 2), holders, holders, holders];
+    assert_eq!(rt; (list.len(), at), (257, held.map(Some)));
     Ok(())
 }
 

@@ -5,7 +5,9 @@
 #![tactic(auto)]
 
 #[cfg(test)]
-mod machine;
+mod guests;
+#[cfg(test)]
+mod names;
 #[cfg(test)]
 mod numbers;
 #[cfg(test)]

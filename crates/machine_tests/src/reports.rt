@@ -33,9 +33,9 @@ fn names_are_keys(rt: HostRuntime) -> Result<(), Fail> {
 }
 
 fn are_keys(rt: &impl Abort, alloc: Global, map: &mut BTreeMap<Name, u32>) -> Result<(), Fail> {
-    let root = Name::root(alloc);
+    let root = Name::root(alloc)?;
     let child = root.child(alloc, 1, 2)?;
-    assert_eq!(rt; got_after(map, child.copy(alloc)?, &child)?, Some(1));
+    assert_eq!(rt; got_after(map, child.copy()?, &child)?, Some(1));
     let other = root.child(alloc, 1, 3)?;
     assert_eq!(rt; got_after(map, root, &other)?, None);
     Ok(())
@@ -44,7 +44,7 @@ fn are_keys(rt: &impl Abort, alloc: Global, map: &mut BTreeMap<Name, u32>) -> Re
 #[test]
 fn names_have_texts(rt: HostRuntime) -> Result<(), Fail> {
     let alloc = rt.alloc();
-    let root = Name::root(alloc);
+    let root = Name::root(alloc)?;
     let child = root.child(alloc, 1, 2)?;
     let mut grandchild = child.child(alloc, 30, 4_294_967_295)?;
     has_text(&rt, alloc, &root, "0")?;
@@ -90,7 +90,7 @@ fn silent(name: Name, ending: Ending, steps: u64, log: Vec<Line>, alloc: Global)
 /// A log of a killed ticket.
 fn log_of(alloc: Global, name: &Name, ticket: u32, killed: u32) -> Result<Vec<Line>, AllocError> {
     let mut log = Vec::new(alloc);
-    log.push(Line::ticket(name.copy(alloc)?, ticket, killed))?;
+    log.push(Line::ticket(name.copy()?, ticket, killed))?;
     Ok(log)
 }
 
@@ -104,7 +104,7 @@ fn join(log: &mut Vec<Line>, child: Outcome) -> Result<(), AllocError> {
 #[test]
 fn one_machine_puts_out_its_bytes(rt: HostRuntime) -> Result<(), Fail> {
     let alloc = rt.alloc();
-    let name = Name::root(alloc).child(alloc, 1, 2)?;
+    let name = Name::root(alloc)?.child(alloc, 1, 2)?;
     let output = Vec::from_slice(alloc, b"A")?;
     let outcome = Outcome::new(name, Ending::Limit, 10, output, Vec::new(alloc));
     is_reported(
@@ -120,7 +120,7 @@ static VALUES: [(u32, u32); 2] = [(1, 41), (2, 42)];
 
 /// The family of a root and two children.
 fn family(alloc: Global) -> Result<Outcome, AllocError> {
-    let root = Name::root(alloc);
+    let root = Name::root(alloc)?;
     let mut log = Vec::new(alloc);
     for (index, value) in VALUES.iter() {
         let name = root.child(alloc, 1, *index)?;
@@ -172,7 +172,7 @@ fn is_told(
     steps: u64,
     text: &[u8],
 ) -> Result<(), Fail> {
-    let root = Name::root(alloc);
+    let root = Name::root(alloc)?;
     let log = log_of(alloc, &root, 1, 2)?;
     let outcome = silent(root, ending, steps, log, alloc);
     is_reported(rt, alloc, &outcome, text)
@@ -187,13 +187,13 @@ fn two_levels(alloc: Global, child: Name) -> Result<Outcome, AllocError> {
         &mut middle,
         silent(grandchild, Ending::Exit(17), 29, last, alloc),
     )?;
-    middle.push(Line::ticket(child.copy(alloc)?, 2, 1))?;
+    middle.push(Line::ticket(child.copy()?, 2, 1))?;
     Ok(silent(child, Ending::Limit, 35, middle, alloc))
 }
 
 /// Those, and the root, which has killed one before.
 fn three_levels(alloc: Global) -> Result<Outcome, AllocError> {
-    let root = Name::root(alloc);
+    let root = Name::root(alloc)?;
     let mut first = log_of(alloc, &root, 3, 5)?;
     join(&mut first, two_levels(alloc, root.child(alloc, 1, 1)?)?)?;
     Ok(silent(root, Ending::Exit(17), 26, first, alloc))
@@ -211,11 +211,14 @@ fn three_levels_with_killed_tickets(rt: HostRuntime) -> Result<(), Fail> {
     )
 }
 
+/// The room of a sink for a report.
+const ROOM: usize = 1 << 20;
+
 /// The sink after a report was put out on it, which takes so many bytes a put, and has a fault at this one.
 fn put_out(alloc: Global, outcome: &Outcome, most: usize, fails: u64) -> Result<MemSink, Fail>
     requires { 1 ≤ most }
 {
-    let mut sink = MemSink::new(alloc, most, 1 << 16, vec![in alloc; fails]?)?;
+    let mut sink = MemSink::new(alloc, most, ROOM, vec![in alloc; fails]?)?;
     let _ = report_into(outcome, &mut sink);
     Ok(sink)
 }
@@ -267,10 +270,10 @@ fn a_fault_leaves_a_prefix(rt: HostRuntime) -> Result<(), Fail> {
 
 /// A machine that killed a ticket of two children a thousand times: a line of 32 bytes, and a thousand of 20.
 fn many_lines(alloc: Global) -> Result<Outcome, AllocError> {
-    let root = Name::root(alloc);
+    let root = Name::root(alloc)?;
     let mut log = Vec::new(alloc);
     for _ in 0..1000 {
-        log.push(Line::ticket(root.copy(alloc)?, 1, 2))?;
+        log.push(Line::ticket(root.copy()?, 1, 2))?;
     }
     Ok(silent(root, Ending::Limit, 10, log, alloc))
 }
@@ -293,7 +296,7 @@ fn long_output(alloc: Global) -> Result<(Outcome, Vec<u8>), AllocError> {
     text.extend_from_slice(&output)?;
     text.push(b'\n')?;
     let outcome = Outcome::new(
-        Name::root(alloc),
+        Name::root(alloc)?,
         Ending::Limit,
         10,
         output,
@@ -312,6 +315,42 @@ fn a_long_output_goes_out_as_it_lies(rt: HostRuntime) -> Result<(), Fail> {
     for (fails, length, calls) in LONG_CUTS.iter() {
         let sink = put_out(rt.alloc(), &outcome, 1 << 16, *fails)?;
         is_cut(&rt, &sink, &text, *length, *calls);
+    }
+    Ok(())
+}
+
+/// How deep the chain is whose report is cut.
+const DEEP: u32 = 512;
+
+/// A root that has joined a chain of machines, each of which had one child.
+fn chain(alloc: Global) -> Result<Outcome, AllocError> {
+    let mut log = Vec::new(alloc);
+    let mut name = Name::root(alloc)?;
+    for _ in 0..DEEP {
+        name = name.child(alloc, 1, 1)?;
+        let child = silent(name.copy()?, Ending::Exit(0), 19, Vec::new(alloc), alloc);
+        join(&mut log, child)?;
+    }
+    Ok(silent(Name::root(alloc)?, Ending::Exit(0), 19, log, alloc))
+}
+
+/// The put that failed is the last, and what is out is a prefix of the report.
+fn is_cut_at(rt: &impl Abort, sink: &MemSink, whole: &MemSink, fails: u64) {
+    assert_eq!(rt; sink.calls(), fails);
+    assert!(rt;
+        sink.bytes().len() < whole.bytes().len() && whole.bytes().starts_with(sink.bytes())
+    );
+}
+
+/// Its report fills the buffer many times, and a put ends anywhere in a name.
+#[test]
+fn a_deep_report_is_cut_at_each_put(rt: HostRuntime) -> Result<(), Fail> {
+    let outcome = chain(rt.alloc())?;
+    let whole = put_out(rt.alloc(), &outcome, ROOM, 0)?;
+    assert!(rt; whole.calls() > 60);
+    for before in 0..whole.calls() {
+        let sink = put_out(rt.alloc(), &outcome, ROOM, before + 1)?;
+        is_cut_at(&rt, &sink, &whole, before + 1);
     }
     Ok(())
 }

@@ -5,7 +5,7 @@ ghost use Rattle.forest_tree.specs.Tree.{Tree};
 ghost use Rattle.forest_model.specs.Machine.{Machine};
 ghost use Rattle.drive_script.specs.Driven.{HasMachines};
 
-use crate::machine::{TWO_CHILDREN, booted};
+use crate::guests::{TWO_CHILDREN, booted};
 use crate::scripts::read;
 use drive_script::drive;
 use image_depot::Depot;
@@ -24,11 +24,13 @@ fn started(alloc: Global, depot: &Depot) -> Result<World, Fail>
     Ok(world)
 }
 
-/// What a family does line by line, and what it writes.
-static SCRIPT: &[u8] = b"step 0 12\nstep 0.1.2 9\nstep 0 9\nstep 0.1.1 6\nstep 0 7\nstep 0 1\n";
+/// What a family does line by line, and what it writes. Two names are of no machine: one has more forks than any,
+/// and one is of a child that the ticket does not have.
+static SCRIPT: &[u8] =
+    b"step 0 12\nstep 0.1.1.1.1.1.1 5\nstep 0.1.3 5\nstep 0.1.2 9\nstep 0 9\nstep 0.1.1 6\nstep 0 7\nstep 0 1\n";
 
 static TOLD: &[u8] =
-    b"0 ran 12 ok\n0.1.2 ran 6 exit 42\n0 ran 2 wait 1\n0.1.1 ran 6 exit 41\n0 ran 7 exit 41\n0 none\n";
+    b"0 ran 12 ok\n0.1.1.1.1.1.1 none\n0.1.3 none\n0.1.2 ran 6 exit 42\n0 ran 2 wait 1\n0.1.1 ran 6 exit 41\n0 ran 7 exit 41\n0 none\n";
 
 #[test]
 fn a_script_drives_a_family(rt: HostRuntime) -> Result<(), Fail> {

@@ -1,29 +1,16 @@
-//! Tests of public calls on disks, pages, images of programs, frames, descriptors, depots and the RAM of
-//! guests, of what no clause says: that those which may want memory succeed where there is some, that
-//! pages and sectors are really shared, that values move between threads, and which numbers the
-//! definitions' constants are. They stand here and not in the crates of the calls, since a crate with
-//! tests is proved twice, and this one has nothing else.
+//! Tests of public calls on disks, pages and the RAM of guests, of what no clause says: that those which may
+//! want memory succeed where there is some, that pages and sectors are really shared, and that values move
+//! between threads. They stand here and not in the crates of the calls, since a crate with tests is proved
+//! twice, and this one has nothing else.
 #![tactic(auto)]
 
 #[cfg(test)]
-mod depots;
-#[cfg(test)]
-mod descriptors;
-#[cfg(test)]
 mod disks;
-#[cfg(test)]
-mod files;
-#[cfg(test)]
-mod frames;
 #[cfg(test)]
 mod freezes;
 #[cfg(test)]
 mod guests;
 #[cfg(test)]
-mod numbers;
-#[cfg(test)]
 mod pages;
-#[cfg(test)]
-mod parcels;
 #[cfg(test)]
 mod process;

@@ -20,6 +20,12 @@ pub enum Entry {
 /// A page table, with an entry for each page. Other tables share its leaves until they write them.
 pub type PageTable = SharedList<Entry>;
 
+impl Default for Entry {
+    fn default() -> Entry {
+        Entry::Absent
+    }
+}
+
 impl Clone for Entry {
     ghost use Rattle.std.specs.Prelude.{◌≡◌};
 
@@ -36,7 +42,11 @@ impl Clone for Entry {
 }
 
 impl Handle for Entry {
+    ghost use Rattle.std.proofs.Common.{lit<};
+
     ghost clone_is_equal = { λ entry copy same. same };
+
+    ghost is_small = { (lit< tt, lit< tt) };
 }
 
 impl Entry {

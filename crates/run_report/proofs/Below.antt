@@ -1,50 +1,76 @@
--- A path goes a way where its first forks are those of the way.
-use Rattle.std.proofs.Common.{◌≡◌, ◌<◌, ◌≤◌, ◌&&◌, eqb, Bool, true, false, cond, refl, sym, ap, ap₂, ◌∙◌, [], ◌∷◌, length, take, drop, Some, None, arith}
-use Rattle.std.specs.Ordering.{nat_cmp, eq_by_cmp}
-use Rattle.std.specs.Cmp.{unsigned_tied, tied_then}
-use Rattle.std.specs.Cmp.Lexicographic.{pointwise}
-use Rattle.forest_tree.specs.Tree.{Branch, Path, beyond}
-use Rattle.run_report.specs.NameOrder.{branch_cmp}
+-- What is left of a path beyond a way.
+use Rattle.std.proofs.Common.{◌≡◌, ◌<◌, ◌≤◌, ◌+◌, ◌&&◌, ◌==◌, eqb, eqb-true, eq-eqb, ℕ, Bool, true, false, cond, is_some, refl, sym, ap, ap₂, ◌∙◌, [], ◌∷◌, ◌++◌, length, take, drop, get_or, take-append-drop, take_at, Option, Some, None, arith}
+use Rattle.std.specs.Ordering.{is_ne}
+use Rattle.std.proofs.lemmas.List.{drop_more}
+use Rattle.forest_tree.specs.Tree.{Branch, Path, beyond, goes_on}
+use Rattle.run_report.specs.Name.{begins_with, next_of}
+use Rattle.run_report.specs.NameOrder.{back_cmp}
+use Rattle.run_report.proofs.NameMaps.{back-itself}
 
-same-fork : (a b : Branch) → eq_by_cmp branch_cmp b a ≡ (eqb b.ticket a.ticket && eqb b.child a.child)
-unfolding branch_cmp
-same-fork a b =
-    sym (tied_then (nat_cmp b.ticket a.ticket) (nat_cmp b.child a.child))
-    ∙ ap₂ (λ s t. s && t) (unsigned_tied b.ticket a.ticket) (unsigned_tied b.child a.child)
-
-both : {X : Type 0} (s t : Bool) (x y : X) → cond s (cond t x y) y ≡ cond (s && t) x y
-both true t x y = refl
-both false t x y = refl
-
-either : {X : Type 0} (t : Bool) (x : X) → cond t x x ≡ x
-either true x = refl
-either false x = refl
-
-pub beyond-short : (way path : Path) → length path < length way → beyond way path ≡ None
+pub beyond-append : (way rest : Path) → beyond way (way ++ rest) ≡ Some rest
 unfolding beyond
-beyond-short [] path h = absurd (omega (arith, h))
-beyond-short (a ∷ way) [] h = refl
-beyond-short (a ∷ way) (b ∷ path) h =
-    ap (λ rest. cond (eqb b.ticket a.ticket && eqb b.child a.child) rest None) (beyond-short way path (omega (arith, h)))
-    ∙ either (eqb b.ticket a.ticket && eqb b.child a.child) None
+beyond-append [] rest = refl
+beyond-append (a ∷ way) rest =
+    ap₂ (λ s t. cond (s && t) (beyond way (way ++ rest)) None) (eq-eqb a.ticket a.ticket refl) (eq-eqb a.child a.child refl) ∙ beyond-append way rest
 
-beyond-tested : (way path : Path) → length way ≤ length path
-    → beyond way path ≡ cond (pointwise (eq_by_cmp branch_cmp) (take (length way) path) way) (Some (drop (length way) path)) None
+pub beyond-is : (way path rest : Path) → beyond way path ≡ Some rest → path ≡ way ++ rest
 unfolding beyond
-beyond-tested [] path h = refl
-beyond-tested (a ∷ way) [] h = absurd (omega (arith, h))
-beyond-tested (a ∷ way) (b ∷ path) h =
-    ap (λ rest. cond (eqb b.ticket a.ticket && eqb b.child a.child) rest None) (beyond-tested way path (omega (arith, h)))
-    ∙ both (eqb b.ticket a.ticket && eqb b.child a.child) (pointwise (eq_by_cmp branch_cmp) (take (length way) path) way) (Some (drop (length way) path)) None
-    ∙ ap (λ same. cond (same && pointwise (eq_by_cmp branch_cmp) (take (length way) path) way) (Some (drop (length way) path)) None) (sym (same-fork a b))
+beyond-is [] path rest e = cc
+beyond-is (a ∷ way) [] rest e = absurd (cc)
+beyond-is (a ∷ way) (b ∷ path) rest e = by (eqb b.ticket a.ticket) (eqb b.child a.child) refl refl e (beyond-is way path rest)
+  where
+    by : (s t : Bool) → eqb b.ticket a.ticket ≡ s → eqb b.child a.child ≡ t → cond (s && t) (beyond way path) None ≡ Some rest
+        → (beyond way path ≡ Some rest → path ≡ way ++ rest) → b ∷ path ≡ a ∷ (way ++ rest)
+    by true true s t e down =
+        let fork : ℕ → ℕ → Branch = λ ticket child. record { ticket = ticket; child = child } in
+        ap₂ (λ x xs. x ∷ xs) (ap₂ fork (eqb-true b.ticket a.ticket s) (eqb-true b.child a.child t)) (down e)
+    by true false s t e down = absurd (cc)
+    by false t s u e down = absurd (cc)
 
--- the first forks of a path are those of the way, or are not, as a test of the two tells
-pub goes-so : (way path front rest : Path) → length way ≤ length path → front ≡ take (length way) path → rest ≡ drop (length way) path
-    → pointwise (eq_by_cmp branch_cmp) front way ≡ true → Some rest ≡ beyond way path
-goes-so way path front rest h front-is rest-is same =
-    ap Some rest-is ∙ sym (beyond-tested way path h ∙ ap (λ t. cond t (Some (drop (length way) path)) None) (ap (λ xs. pointwise (eq_by_cmp branch_cmp) xs way) (sym front-is) ∙ same))
+kept : (same : Bool) (rest : Option Path) → next_of rest ≡ None → next_of (cond same rest None) ≡ None
+kept true rest h = h
+kept false rest h = refl
 
-pub goes-otherwise : (way path front : Path) → length way ≤ length path → front ≡ take (length way) path
-    → pointwise (eq_by_cmp branch_cmp) front way ≡ false → None ≡ beyond way path
-goes-otherwise way path front h front-is same =
-    sym (beyond-tested way path h ∙ ap (λ t. cond t (Some (drop (length way) path)) None) (ap (λ xs. pointwise (eq_by_cmp branch_cmp) xs way) (sym front-is) ∙ same))
+-- no fork is left of a path that is no longer than the way
+pub next-short : (way path : Path) → length path ≤ length way → next_of (beyond way path) ≡ None
+unfolding beyond
+next-short [] [] h = refl
+next-short [] (b ∷ path) h = absurd (omega (arith, h))
+next-short (a ∷ way) [] h = refl
+next-short (a ∷ way) (b ∷ path) h = kept (eqb b.ticket a.ticket && eqb b.child a.child) (beyond way path) (next-short way path (omega (arith, h)))
+
+-- of a longer one that begins with the way, the fork behind that is the first
+pub next-there : (way path : Path) (x : Branch) → length way < length path → take (length way) path ≡ way → x ≡ get_or path (length way) x
+    → Some x ≡ next_of (beyond way path)
+next-there way path x longer begins is =
+    let whole : path ≡ way ++ (x ∷ drop (length way + 1) path) =
+    sym (take-append-drop (length way) path)
+    ∙ ap₂ (λ front back. front ++ back) begins (drop_more path (length way) x longer ∙ ap (λ e. e ∷ drop (length way + 1) path) (sym is)) in
+    sym (ap next_of (ap (beyond way) whole ∙ beyond-append way (x ∷ drop (length way + 1) path)))
+
+-- nothing is left where it begins otherwise
+pub next-apart : (way path : Path) → is_ne (back_cmp (take (length way) path) way) ≡ true → None ≡ next_of (beyond way path)
+next-apart way path apart = by (beyond way path) refl
+  where
+    by : (o : Option Path) → beyond way path ≡ o → None ≡ next_of (beyond way path)
+    by None e = sym (ap next_of e)
+    by (Some rest) e =
+        let same : take (length way) path ≡ way = ap (take (length way)) (beyond-is way path rest e) ∙ take_at way rest (length way) refl in
+        let no : true ≡ false = sym apart ∙ ap is_ne (ap (λ front. back_cmp front way) same ∙ back-itself way) in
+        absurd (cc)
+
+-- what the first fork tells of a path beyond a way
+pub begins-so : (ticket : ℕ) (left : Option Path) (next : Branch) → Some next ≡ next_of left → (next.ticket == ticket) ≡ begins_with ticket left
+begins-so ticket None next h = absurd (cc)
+begins-so ticket (Some []) next h = absurd (cc)
+begins-so ticket (Some (b ∷ rest)) next h = let same : next ≡ b = cc in ap (λ (x : Branch). x.ticket == ticket) same
+
+pub begins-not : (ticket : ℕ) (left : Option Path) → None ≡ next_of left → false ≡ begins_with ticket left
+begins-not ticket None h = refl
+begins-not ticket (Some []) h = refl
+begins-not ticket (Some (b ∷ rest)) h = absurd (cc)
+
+pub goes-on : (left : Option Path) → is_some (next_of left) ≡ goes_on left
+goes-on None = refl
+goes-on (Some []) = refl
+goes-on (Some (b ∷ rest)) = refl

@@ -1,5 +1,7 @@
 pub mod Begin
+pub mod Below
 pub mod NameMaps
 pub mod Seen
-mod Below
+mod Back
+mod Names
 mod Pieces

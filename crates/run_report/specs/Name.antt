@@ -16,6 +16,12 @@ name_text path = codes "0" ++ flat_map branch_text path
 abbrev pub child_path : Path → ℕ → ℕ → Path
 child_path path t k = path ++ record { ticket = t; child = k } ∷ []
 
+-- the first fork of what is left of a path
+abbrev pub next_of : Option Path → Option Branch
+next_of None = None
+next_of (Some []) = None
+next_of (Some (b ∷ rest)) = Some b
+
 -- what is left of a path begins with a child of ticket t
 abbrev pub begins_with : ℕ → Option Path → Bool
 begins_with t None = false

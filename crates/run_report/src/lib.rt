@@ -7,5 +7,5 @@ mod name;
 mod report;
 
 pub use line::Line;
-pub use name::Name;
+pub use name::{Branch, Name};
 pub use report::{Outcome, ReportError, report_into};

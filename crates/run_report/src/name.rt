@@ -1,26 +1,28 @@
 //! Names of machines, which are keys of maps too.
 
-ghost use Rattle.std.specs.Prelude.{◌≡◌, ℕ, ◌+◌, ◌≤◌, [], ◌∷◌, ◌++◌, drop, length, IfOk, MatchOption, OnErr, string_bytes};
+ghost use Rattle.std.specs.Prelude.{◌≡◌, ◌≤◌, [], drop, length, take, IfOk, MatchOption, OnErr, string_bytes};
 ghost use Rattle.std.specs.List.{flat_map};
-ghost use Rattle.std.specs.Option.{option_map};
-ghost use Rattle.forest_tree.specs.Tree.{Path, beyond, is_below};
+ghost use Rattle.forest_tree.specs.Tree.{beyond, is_below};
 ghost use Rattle.io_edge.specs.Outside.{HasRisen};
 ghost use Rattle.io_edge.specs.Streamed.{Streams};
-ghost use Rattle.run_report.specs.Name.{begins_with, branch_text, child_path, name_text};
+ghost use Rattle.run_report.specs.Name.{begins_with, branch_text, child_path, name_text, next_of};
+ghost use Rattle.run_report.specs.NameOrder.{back_cmp};
 
 use io_edge::{Sink, SinkBuffer, WriteFault};
 use itoa::write_digits;
+use shared_leaves::{Handle, SharedList};
 use std::alloc::{AllocError, Global};
 use std::cmp::Ordering;
 use std::fmt;
 use std::marker::Model;
+use std::sync::Arc;
 
 /// The bytes of the longest fork in text: two points, and two numbers of ten digits.
 const BRANCH_LENGTH: usize = 22;
 
 /// A fork on the way to a machine: the ticket, and which child of the ticket it is.
-#[derive(Clone, Copy)]
-struct Branch {
+#[derive(Copy)]
+pub struct Branch {
     ticket: u32,
     child: u32,
 }
@@ -35,8 +37,32 @@ impl Model for Branch {
     ghost inverse = { λ v. record { ticket = v.ticket; child = v.child } };
 }
 
+impl Default for Branch {
+    fn default() -> Branch {
+        Branch::new(0, 0)
+    }
+}
+
+impl Clone for Branch {
+    ghost use Rattle.std.specs.Prelude.{◌≡◌};
+
+    ghost is_clone = { λ branch copy. copy ≡ branch };
+
+    fn clone(&self) -> Result<Branch, AllocError> {
+        Ok(*self)
+    }
+}
+
+impl Handle for Branch {
+    ghost use Rattle.std.proofs.Common.{lit<};
+
+    ghost clone_is_equal = { λ branch copy same. same };
+
+    ghost is_small = { (lit< tt, lit< tt) };
+}
+
 impl Branch {
-    fn new(ticket: u32, child: u32) -> Branch
+    pub fn new(ticket: u32, child: u32) -> Branch
         ensures { result ≡ record { ticket = ticket; child = child } }
     {
         Branch { ticket, child }
@@ -123,48 +149,79 @@ impl Ord for Branch {
 }
 
 /// The name of a machine: for each fork on the way to it from the root, the ticket and which child of
-/// the ticket it is. The root's name has none. Names are in the order of a family's tree: a machine comes
-/// before its children, and these by ticket and by number.
+/// the ticket it is. The root's name has none. A copy of a name, and the name of a parent, share the forks
+/// with it; a child's name shares them but for the last few. Names are in the order of their numbers of
+/// forks, and by the last forks where these are as many.
 #[derive(Drop)]
 pub struct Name {
-    branches: Vec<Branch>,
+    /// The forks of this name, and maybe others behind them.
+    branches: Arc<SharedList<Branch>>,
+    /// How many of them are of this name.
+    depth: usize,
 }
 
 impl Model for Name {
+    ghost use Rattle.std.specs.Prelude.{◌≤◌, length, take};
+    ghost use Rattle.std.specs.Arc.{arc_value};
     ghost use Rattle.forest_tree.specs.Tree.{Path};
 
     ghost Value = { Path };
 
-    ghost view = { λ n. n.branches.items };
+    ghost view = { λ n. take n.depth (arc_value n.branches) };
+
+    ghost invariant = { λ n. n.depth ≤ length (arc_value n.branches) };
 }
 
 impl Name {
     /// The name of the machine that was booted.
-    pub fn root(alloc: Global) -> Name
-        ensures { result ≡ [] }
+    pub fn root(alloc: Global) -> Result<Name, AllocError>
+        ensures { IfOk result (λ name. name ≡ []) }
     {
-        Name {
-            branches: Vec::new(alloc),
-        }
+        Name::of_list(alloc, SharedList::new(alloc))
     }
 
-    /// The name of a child of this machine.
+    /// The name that has these forks, from the root on.
+    pub fn from_branches(alloc: Global, branches: Vec<Branch>) -> Result<Name, AllocError>
+        ensures { IfOk result (λ name. name ≡ branches.items) }
+    {
+        Name::of_list(alloc, SharedList::from_vec(alloc, branches)?)
+    }
+
+    /// The name that has all forks of a list.
+    fn of_list(alloc: Global, branches: SharedList<Branch>) -> Result<Name, AllocError>
+        ensures { IfOk result (λ name. name ≡ branches) }
+    {
+        let depth = branches.len();
+        Ok(Name {
+            branches: Arc::new(alloc, branches)?,
+            depth,
+        })
+    }
+
+    /// The name of a child of this machine. It costs a handle for each 64 forks of this name, and copies of
+    /// the forks behind these, which are less than 64.
     pub fn child(&self, alloc: Global, ticket: u32, index: u32) -> Result<Name, AllocError>
         ensures { IfOk result (λ name. name ≡ child_path self.now ticket index) }
     {
-        let mut branches = Vec::with_capacity(alloc, self.branches.len() + 1)?;
-        branches.extend_from_slice(&self.branches)?;
-        branches.push(Branch::new(ticket, index))?;
-        Ok(Name { branches })
+        let last = Branch::new(ticket, index);
+        Name::of_list(alloc, self.branches.followed_by(self.depth, last)?)
     }
 
-    /// The same name once more.
-    pub fn copy(&self, alloc: Global) -> Result<Name, AllocError>
+    /// The same name once more. It costs one handle.
+    pub fn copy(&self) -> Result<Name, AllocError>
         ensures { IfOk result (λ name. name ≡ self.now) }
     {
         Ok(Name {
-            branches: Vec::from_slice(alloc, &self.branches)?,
+            branches: Arc::try_clone(&self.branches)?,
+            depth: self.depth,
         })
+    }
+
+    /// How many forks it has.
+    pub fn depth(&self) -> usize
+        ensures { result ≡ length self.now }
+    {
+        self.depth
     }
 
     /// The name in text: `0` for the root, and for each fork `.`, the ticket, `.` and the child's number.
@@ -181,15 +238,19 @@ impl Name {
         ensures streams { Streams (K.gone sink.old) (K.gone sink.new) buffer.old (name_text self.now) buffer.new result }
     {
         buffer.put(sink, b"0")?;
-        put_branches(&self.branches, buffer, sink)
+        put_first(&self.branches, self.depth, buffer, sink)
     }
 
     /// Takes the last fork off, its ticket and its child's number, so that the parent's name is left. The
-    /// root's name has none, and stays.
+    /// root's name has none, and stays. It takes no memory.
     pub fn pop(&mut self) -> Option<(u32, u32)>
         ensures { MatchOption result ((self.old ≡ []) × (self.new ≡ [])) (λ last. self.old ≡ child_path self.new last.0 last.1) }
     {
-        let last = self.branches.pop()?;
+        if self.depth == 0 {
+            return None;
+        }
+        let last = *self.branches.get(self.depth - 1);
+        self.depth -= 1;
         Some((last.ticket, last.child))
     }
 
@@ -197,9 +258,9 @@ impl Name {
     pub fn is_below(&self, name: &Name, ticket: u32) -> bool
         ensures { result ≡ begins_with ticket (beyond name.now self.now) }
     {
-        match rest_beyond(&self.branches, &name.branches) {
-            Some([first, ..]) => first.ticket == ticket,
-            _ => false,
+        match self.next_beyond(name) {
+            Some(next) => next.ticket == ticket,
+            None => false,
         }
     }
 
@@ -207,38 +268,77 @@ impl Name {
     pub fn is_below_all(&self, name: &Name) -> bool
         ensures { result ≡ is_below name.now self.now }
     {
-        match rest_beyond(&self.branches, &name.branches) {
-            Some([_, ..]) => true,
-            _ => false,
+        self.next_beyond(name).is_some()
+    }
+
+    /// The first fork by which this name goes on from another, if it does.
+    fn next_beyond(&self, name: &Name) -> Option<Branch>
+        ensures { result ≡ next_of (beyond name.now self.now) }
+    {
+        if self.depth <= name.depth {
+            return None;
         }
+        if cmp_back(&self.branches, &name.branches, name.depth).is_ne() {
+            return None;
+        }
+        Some(*self.branches.get(name.depth))
     }
 }
 
-/// Puts out forks in text, one after another.
-fn put_branches<K: Sink>(
-    branches: &[Branch],
+/// Puts out the first forks of a list in text, one after another.
+fn put_first<K: Sink>(
+    branches: &SharedList<Branch>,
+    count: usize,
     buffer: &mut SinkBuffer,
     sink: &mut K,
 ) -> Result<(), WriteFault>
+    requires { count ≤ length branches.now }
     ensures counts { K.faults sink.old ≤ K.faults sink.new }
     ensures fault { OnErr result (HasRisen (K.faults sink.old) (K.faults sink.new)) }
-    ensures streams { Streams (K.gone sink.old) (K.gone sink.new) buffer.old (flat_map branch_text branches.now) buffer.new result }
+    ensures streams { Streams (K.gone sink.old) (K.gone sink.new) buffer.old (flat_map branch_text (take count branches.now)) buffer.new result }
 {
-    'branches: for branch in branches {
-        branch.put(buffer, sink)?;
+    'branches: for at in 0..count {
+        branches.get(at).put(buffer, sink)?;
     }
     Ok(())
 }
 
-/// What is left of a path beyond a way, where it goes that way.
-fn rest_beyond<'a>(path: &'a [Branch], way: &[Branch]) -> Option<&'a [Branch]>
-    ensures { option_map (λ rest. rest.now) result ≡ beyond way.now path.now }
+/// How the first forks of two lists compare, as many as `count` tells, from the last of them back.
+fn cmp_back(left: &SharedList<Branch>, right: &SharedList<Branch>, count: usize) -> Ordering
+    requires left { count ≤ length left.now }
+    requires right { count ≤ length right.now }
+    ensures { result ≡ back_cmp (take count left.now) (take count right.now) }
 {
-    if path.len() < way.len() {
-        return None;
+    let mut rest = count;
+    'runs: while rest > 0 {
+        let ours = left.run_before(rest);
+        let theirs = right.run_before(rest);
+        let len = ours.len().min(theirs.len());
+        let (_, ours) = ours.split_at(ours.len() - len);
+        let (_, theirs) = theirs.split_at(theirs.len() - len);
+        let order = cmp_run_back(ours, theirs);
+        if order.is_ne() {
+            return order;
+        }
+        rest -= len;
     }
-    let (front, rest) = path.split_at(way.len());
-    if front == way { Some(rest) } else { None }
+    Ordering::Equal
+}
+
+/// How two runs of as many forks compare, from the last of them back.
+fn cmp_run_back(left: &[Branch], right: &[Branch]) -> Ordering
+    requires { length left.now ≡ length right.now }
+    ensures { result ≡ back_cmp left.now right.now }
+{
+    let mut rest = left.len();
+    'branches: while rest > 0 {
+        rest -= 1;
+        let order = left[rest].cmp(&right[rest]);
+        if order.is_ne() {
+            return order;
+        }
+    }
+    Ordering::Equal
 }
 
 impl PartialEq for Name {
@@ -289,7 +389,11 @@ impl Ord for Name {
 
     #[tactic(auto, unfolding(crate::specs::NameOrder::path_cmp))]
     fn cmp(&self, other: &Name) -> Ordering {
-        self.branches.cmp(&other.branches)
+        let order = self.depth.cmp(&other.depth);
+        if order.is_ne() {
+            return order;
+        }
+        cmp_back(&self.branches, &other.branches, self.depth)
     }
 }
 
@@ -301,7 +405,8 @@ impl fmt::Display for Name {
 
     fn fmt<W: fmt::Write>(&self, f: &mut fmt::Formatter<W>) -> fmt::Result {
         write!(f, "0")?;
-        for branch in &self.branches {
+        'branches: for at in 0..self.depth {
+            let branch = self.branches.get(at);
             let ticket = branch.ticket;
             let child = branch.child;
             write!(f, ".{ticket}.{child}")?;

@@ -1,9 +1,9 @@
 -- Reads and writes of a list that is cut into leaves.
-use Rattle.std.proofs.Common.{◌≡◌, ℕ, zero, suc, ◌+◌, ◌-◌, ◌*◌, ◌/◌, ◌%◌, ◌<◌, ◌≤◌, List, [], ◌∷◌, ◌++◌, length, take, drop, get_or, replicate, sym, ap, ◌∙◌, subst, append_assoc, length-append, arith}
+use Rattle.std.proofs.Common.{◌≡◌, ℕ, zero, suc, ◌+◌, ◌-◌, ◌*◌, ◌/◌, ◌%◌, ◌<◌, ◌≤◌, List, [], ◌∷◌, ◌++◌, length, take, drop, get_or, replicate, sym, ap, ap₂, ◌∙◌, subst, append_assoc, length-append, get_or-drop, take-add, take_all, arith, refl}
 use Rattle.std.specs.List.{splice}
 use Rattle.std.proofs.Math.ListN.{set, get_or-append}
 use Rattle.std.proofs.Math.Seq.{take-append-add, drop-append-add}
-use Rattle.std.proofs.lemmas.List.{append-nil, drop_at, drop-drop, get_or-append-add, get_or_read, length-drop, length-replicate, length-set, length-take-le, replicate-append-replicate, set-append_left, set-append_right, set-get_or, set_split, take-append-drop, take_at}
+use Rattle.std.proofs.lemmas.List.{append-nil, drop_at, drop-drop, get_or-append-add, get_or_read, length-drop, length-replicate, length-set, length-take-le, replicate-append-replicate, set-append_left, set-append_right, set-get_or, set_split, take-append-drop, take_at, take_more}
 use Rattle.shared_leaves.specs.declared.leaf.TheConstants.{LEAF_ENTRIES}
 use Rattle.shared_leaves.specs.Leaves.{joined, IsCut, leaf_count}
 
@@ -72,6 +72,59 @@ module _ {T : Type 0} where
   pub joined-push : (leaves : List (List T)) (leaf : List T) → joined (leaves ++ leaf ∷ []) ≡ joined leaves ++ leaf
   joined-push [] leaf = append-nil leaf
   joined-push (l ∷ leaves) leaf = ap (λ rest. l ++ rest) (joined-push leaves leaf) ∙ sym (append_assoc l (joined leaves) leaf)
+
+  -- the first leaf has the first entries
+  take-joined : (count : ℕ) (leaf : List T) (leaves : List (List T)) → IsCut count (leaf ∷ leaves) → take LEAF_ENTRIES (leaf ++ joined leaves) ≡ leaf
+  take-joined count leaf [] cut = ap (take LEAF_ENTRIES) (append-nil leaf) ∙ take_all LEAF_ENTRIES leaf (omega (arith, cut.1))
+  take-joined count leaf (next ∷ leaves) cut = take_at leaf (joined (next ∷ leaves)) LEAF_ENTRIES (omega (arith, cut.1, cut.2.0))
+
+  -- the entries of leaf k
+  pub get_or-leaves : (count : ℕ) (leaves : List (List T)) (k : ℕ) → IsCut count leaves → LEAF_ENTRIES * k < count
+      → get_or leaves k [] ≡ take LEAF_ENTRIES (drop (LEAF_ENTRIES * k) (joined leaves))
+  get_or-leaves count [] k cut inside = absurd (omega (arith, cut))
+  get_or-leaves count (leaf ∷ leaves) zero cut inside = sym (take-joined count leaf leaves cut)
+  get_or-leaves count (leaf ∷ leaves) (suc k) cut inside =
+      let place : LEAF_ENTRIES * suc k ≡ length leaf + LEAF_ENTRIES * k = omega (arith, cut.1) in
+      get_or-leaves (count - LEAF_ENTRIES) leaves k cut.2 (omega arith)
+      ∙ sym (ap (take LEAF_ENTRIES) (ap (λ n. drop n (leaf ++ joined leaves)) place ∙ drop-append-add leaf (joined leaves) (LEAF_ENTRIES * k)))
+
+  -- the first leaves, which are full
+  pub IsCut-take : (count : ℕ) (leaves : List (List T)) (k : ℕ) → IsCut count leaves → LEAF_ENTRIES * k ≤ count → IsCut (LEAF_ENTRIES * k) (take k leaves)
+  IsCut-take count leaves zero cut inside = omega arith
+  IsCut-take count [] (suc k) cut inside = absurd (omega (arith, cut))
+  IsCut-take count (leaf ∷ leaves) (suc k) cut inside =
+      let rest = IsCut-take (count - LEAF_ENTRIES) leaves k cut.2 (omega arith) in
+      let counted : LEAF_ENTRIES * k ≡ LEAF_ENTRIES * suc k - LEAF_ENTRIES = omega arith in
+      (omega arith, omega (arith, cut.1), subst (λ n. IsCut n (take k leaves)) counted rest)
+
+  pub joined-take : (count : ℕ) (leaves : List (List T)) (k : ℕ) → IsCut count leaves → LEAF_ENTRIES * k ≤ count
+      → joined (take k leaves) ≡ take (LEAF_ENTRIES * k) (joined leaves)
+  joined-take count leaves zero cut inside = refl
+  joined-take count [] (suc k) cut inside = absurd (omega (arith, cut))
+  joined-take count (leaf ∷ leaves) (suc k) cut inside =
+      let start : LEAF_ENTRIES * suc k ≡ length leaf + LEAF_ENTRIES * k = omega (arith, cut.1) in
+      ap (λ rest. leaf ++ rest) (joined-take (count - LEAF_ENTRIES) leaves k cut.2 (omega arith))
+      ∙ sym (ap (λ n. take n (leaf ++ joined leaves)) start ∙ take-append-add leaf (joined leaves) (LEAF_ENTRIES * k))
+
+  -- entries from a place on behind those before it
+  pub followed : (xs list copies : List T) (entry : T) (begin count : ℕ) → begin ≤ count → list ≡ take begin xs → copies ≡ take (count - begin) (drop begin xs)
+      → list ++ (copies ++ entry ∷ []) ≡ take count xs ++ entry ∷ []
+  followed xs list copies entry begin count order front back =
+      let whole : begin + (count - begin) ≡ count = omega arith in
+      sym (append_assoc list copies (entry ∷ []))
+      ∙ ap (λ all. all ++ entry ∷ []) (ap₂ (λ a b. a ++ b) front back ∙ sym (take-add begin (count - begin) xs) ∙ ap (λ n. take n xs) whole)
+
+  -- one entry more
+  pub copied-more : (xs old copies : List T) (x : T) (first at : ℕ) → first ≤ at → at < length xs → x ≡ get_or xs at x → copies ≡ old ++ take (at - first) (drop first xs)
+      → copies ++ x ∷ [] ≡ old ++ take (at + 1 - first) (drop first xs)
+  copied-more xs old copies x first at order inside is before =
+      let next : at - first + 1 ≡ at + 1 - first = omega arith in
+      let place : first + (at - first) ≡ at = omega arith in
+      let long : at - first < length (drop first xs) = omega (arith, length-drop first xs) in
+      let read : get_or (drop first xs) (at - first) x ≡ x = get_or-drop first xs (at - first) x ∙ ap (λ n. get_or xs n x) place ∙ sym is in
+      ap (λ front. front ++ x ∷ []) before ∙ append_assoc old (take (at - first) (drop first xs)) (x ∷ [])
+      ∙ ap (λ run. old ++ run)
+      (sym (ap (λ n. take n (drop first xs)) (sym next) ∙ take_more (drop first xs) (at - first) x long ∙ ap (λ e. take (at - first) (drop first xs) ++ e ∷ []) read))
 
   -- a leaf behind full ones
   pub IsCut-push : (count : ℕ) (leaves : List (List T)) (leaf : List T) → IsCut count leaves → count % LEAF_ENTRIES ≡ 0 → 0 < length leaf → length leaf ≤ LEAF_ENTRIES

@@ -1,1 +1,3 @@
 pub mod LeafLemmas
+pub mod ChoiceLemmas
+pub mod StepLemmas

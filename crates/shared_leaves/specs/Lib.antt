@@ -1,2 +1,4 @@
+pub mod Room
 pub mod Leaves
 pub mod Lends
+pub mod Choices

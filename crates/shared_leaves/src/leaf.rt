@@ -1,8 +1,11 @@
 ghost use Rattle.std.specs.Prelude.{◌≡◌, ◌<◌, length, slice_index_or, IfOk};
 ghost use Rattle.std.specs.Borrow.{sem};
+ghost use Rattle.arrayvec.specs.ArrayVec.{array_vec_len};
+ghost use Rattle.arrayvec.specs.Lends.{lends_item};
 ghost use Rattle.shared_leaves.specs.Lends.{leaf_lends};
 
 use crate::handle::Handle;
+use arrayvec::ArrayVec;
 use std::alloc::{AllocError, Global};
 use std::marker::Model;
 use std::sync::Arc;
@@ -10,13 +13,15 @@ use std::sync::Arc;
 /// The entries of a leaf. Only the last leaf of a list may have fewer.
 pub const LEAF_ENTRIES: usize = 64;
 
-/// Entries in a row, which a leaf and its clones share until one of them is written.
+/// Entries in a row, which a leaf and its clones share until one of them is written. They lie in the
+/// shared allocation itself: behind a pointer of their own they would cost each read a load more. So a leaf
+/// takes the room of 64 entries, however few it has.
 #[derive(Drop)]
-pub struct Leaf<T> {
-    entries: Arc<Vec<T>>,
+pub struct Leaf<T: Handle> {
+    entries: Arc<ArrayVec<T, LEAF_ENTRIES>>,
 }
 
-impl<T> Model for Leaf<T> {
+impl<T: Handle> Model for Leaf<T> {
     ghost use Rattle.std.specs.Prelude.{List};
     ghost use Rattle.std.specs.Arc.{arc_value};
 
@@ -25,7 +30,7 @@ impl<T> Model for Leaf<T> {
     ghost view = { λ l. (arc_value l.entries).items };
 }
 
-impl<T: Drop> Clone for Leaf<T> {
+impl<T: Handle> Clone for Leaf<T> {
     ghost use Rattle.std.specs.Prelude.{◌≡◌};
 
     ghost is_clone = { λ leaf copy. copy ≡ leaf };
@@ -39,7 +44,7 @@ impl<T: Drop> Clone for Leaf<T> {
 
 impl<T: Handle> Leaf<T> {
     /// The leaf that has these entries.
-    pub fn new(alloc: Global, entries: Vec<T>) -> Result<Leaf<T>, AllocError>
+    pub fn new(alloc: Global, entries: ArrayVec<T, LEAF_ENTRIES>) -> Result<Leaf<T>, AllocError>
         ensures { IfOk result (λ leaf. leaf ≡ entries.items) }
     {
         Ok(Leaf {
@@ -54,6 +59,14 @@ impl<T: Handle> Leaf<T> {
         self.entries.len()
     }
 
+    /// The entries in a row.
+    #[inline(always)]
+    pub fn entries(&self) -> &[T]
+        ensures { result.now ≡ self.now }
+    {
+        &self.entries
+    }
+
     /// The entry at a place.
     #[inline(always)]
     pub fn get(&self, i: usize) -> &T
@@ -65,38 +78,50 @@ impl<T: Handle> Leaf<T> {
 
     /// The entry at a place, to be written. The entries are copied first where a clone shares them.
     #[inline(always)]
-    pub fn entry_mut(&mut self, i: usize) -> Result<&mut T, AllocError>
+    pub fn entry_mut(&mut self, alloc: Global, i: usize) -> Result<&mut T, AllocError>
         requires { i < length self.old }
-        ensures* writes_back { sem 𝓛 (leaf_lends T.row self.entry i result) }
+        ensures* writes_back { sem 𝓛 (leaf_lends T.row T.Clone T.Default self.entry i result) }
         ensures value { IfOk result (λ entry. entry.now ≡ slice_index_or self.old i entry.now) }
     {
-        self.unshare()?;
+        self.unshare(alloc)?;
         let Some(entries) = Arc::get_mut(&mut self.entries) else {
             return Err(AllocError);
         };
-        Ok(&mut entries[i])
+        Ok(item_mut(entries, i))
     }
 
     /// Gives this leaf entries of its own where a clone shares them.
     #[inline(always)]
-    fn unshare(&mut self) -> Result<(), AllocError>
+    fn unshare(&mut self, alloc: Global) -> Result<(), AllocError>
         ensures { self.new ≡ self.old }
     {
         if Arc::strong_count(&self.entries) == 1 {
             return Ok(());
         }
-        self.copy()
+        self.copy(alloc)
     }
 
     /// Copies the entries. It is apart and never inlined, so that a write to a leaf that has one owner
     /// is short.
     #[cold]
     #[inline(never)]
-    fn copy(&mut self) -> Result<(), AllocError>
+    fn copy(&mut self, alloc: Global) -> Result<(), AllocError>
         ensures { self.new ≡ self.old }
     {
-        let alloc = *self.entries.allocator();
-        *self = Leaf::new(alloc, Vec::from_clones(alloc, &self.entries)?)?;
+        *self = Leaf::new(alloc, ArrayVec::clone(&self.entries)?)?;
         Ok(())
+    }
+}
+
+/// The item at a place, to be written.
+#[inline(always)]
+fn item_mut<T, const CAP: usize, A>(items: &mut ArrayVec<T, CAP, A>, i: usize) -> &mut T
+    requires { i < array_vec_len items.old }
+    ensures* writes_back { sem 𝓛 (lends_item T.row CAP.row A.row items.entry i result) }
+    ensures value { result.now ≡ slice_index_or items.old.items i result.now }
+{
+    match items.get_mut(i) {
+        Some(item) => item,
+        None => unreachable!(),
     }
 }

@@ -2,12 +2,15 @@
 //! until they write them. Contracts see one flat list.
 #![tactic(auto)]
 
+mod choice;
 mod handle;
+pub mod laws;
 mod leaf;
 mod list;
 mod make;
 mod steps;
 
 pub use handle::Handle;
+pub use leaf::LEAF_ENTRIES;
 pub use list::SharedList;
 pub use steps::Steps;

@@ -1,4 +1,4 @@
-ghost use Rattle.std.specs.Prelude.{◌≡◌, ◌+◌, ◌<◌, ◌≤◌, length, slice_index_or, slice_set, IfOk, OnOk, OnErr};
+ghost use Rattle.std.specs.Prelude.{◌≡◌, ◌+◌, ◌-◌, ◌*◌, ◌<◌, ◌≤◌, drop, length, slice_index_or, slice_set, take, IfOk, OnOk, OnErr};
 ghost use Rattle.std.specs.Borrow.{sem};
 ghost use Rattle.shared_leaves.specs.Leaves.{leaf_count};
 ghost use Rattle.shared_leaves.specs.Lends.{list_lends};
@@ -12,12 +12,12 @@ use std::sync::ledger::Ledger;
 
 /// A list whose leaves other lists share until they write them.
 #[derive(Drop)]
-pub struct SharedList<T> {
+pub struct SharedList<T: Handle> {
     pub(crate) leaves: Vec<Leaf<T>>,
     pub(crate) len: usize,
 }
 
-impl<T> Model for SharedList<T> {
+impl<T: Handle> Model for SharedList<T> {
     ghost use Rattle.std.specs.Prelude.{List};
     ghost use Rattle.shared_leaves.specs.Leaves.{joined, IsCut};
 
@@ -28,7 +28,7 @@ impl<T> Model for SharedList<T> {
     ghost invariant = { λ l. IsCut l.len l.leaves.items };
 }
 
-impl<T: Drop> Clone for SharedList<T> {
+impl<T: Handle> Clone for SharedList<T> {
     ghost use Rattle.std.specs.Prelude.{◌≡◌};
 
     ghost is_clone = { λ list copy. copy ≡ list };
@@ -65,15 +65,39 @@ impl<T: Handle> SharedList<T> {
         self.leaves[i / LEAF_ENTRIES].get(i % LEAF_ENTRIES)
     }
 
+    /// Entries in a row that end before a place, as many as lie together: one at least.
+    #[inline(always)]
+    pub fn run_before(&self, end: usize) -> &[T]
+        requires some { 0 < end }
+        requires inside { end ≤ length self.now }
+        ensures run { result.now ≡ take (length result.now) (drop (end - length result.now) self.now) }
+        ensures some { 0 < length result.now }
+        ensures most { length result.now ≤ end }
+    {
+        let leaf = (end - 1) / LEAF_ENTRIES;
+        let (run, _) = self.leaf(leaf).split_at(end - LEAF_ENTRIES * leaf);
+        run
+    }
+
+    /// The entries of a leaf: 64, and maybe fewer in the last leaf.
+    #[inline(always)]
+    fn leaf(&self, n: usize) -> &[T]
+        requires { LEAF_ENTRIES * n < length self.now }
+        ensures { result.now ≡ take LEAF_ENTRIES (drop (LEAF_ENTRIES * n) self.now) }
+    {
+        self.leaves[n].entries()
+    }
+
     /// The entry at a place, to be written in its place. Its leaf is copied first where another list
     /// shares it.
     #[inline(always)]
     pub fn entry_mut(&mut self, i: usize) -> Result<&mut T, AllocError>
         requires { i < length self.old }
-        ensures* writes_back { sem 𝓛 (list_lends T.row self.entry i result) }
+        ensures* writes_back { sem 𝓛 (list_lends T.row T.Clone T.Default self.entry i result) }
         ensures value { IfOk result (λ entry. entry.now ≡ slice_index_or self.old i entry.now) }
     {
-        self.leaves[i / LEAF_ENTRIES].entry_mut(i % LEAF_ENTRIES)
+        let alloc = self.allocator();
+        self.leaves[i / LEAF_ENTRIES].entry_mut(alloc, i % LEAF_ENTRIES)
     }
 
     /// Writes the entry at a place. Its leaf is copied first where another list shares it.

@@ -1,12 +1,14 @@
 //! Lists that are made, and runs of equal entries.
 
-ghost use Rattle.std.specs.Prelude.{◌≡◌, ◌+◌, ◌-◌, ◌*◌, ◌%◌, ◌^◌, ◌<◌, ◌≤◌, [], ◌++◌, length, min, replicate, IfOk, OnOk, OnErr};
+ghost use Rattle.std.specs.Prelude.{◌≡◌, ◌+◌, ◌-◌, ◌*◌, ◌%◌, ◌^◌, ◌<◌, ◌≤◌, [], ◌∷◌, ◌++◌, drop, length, min, replicate, take, IfOk, OnOk, OnErr};
 ghost use Rattle.std.specs.List.{splice};
 ghost use Rattle.std.specs.Vec.Iter.{into_iter_items};
+ghost use Rattle.arrayvec.specs.ArrayVec.{array_vec_len};
 
 use crate::handle::Handle;
 use crate::leaf::{LEAF_ENTRIES, Leaf};
 use crate::list::SharedList;
+use arrayvec::ArrayVec;
 use std::alloc::{AllocError, Global};
 use std::vec;
 
@@ -28,30 +30,64 @@ impl<T: Handle> SharedList<T> {
         let mut list = SharedList::new(alloc);
         let mut left = entries.into_iter();
         while left.len() > 0 {
-            list.push_leaf(Leaf::new(alloc, next_entries(alloc, &mut left)?)?)?;
+            list.push_leaf(Leaf::new(alloc, next_entries(&mut left))?)?;
         }
         Ok(list)
     }
 
-    /// The list of so many equal entries. It costs one handle a leaf, since all full leaves are one.
-    pub fn repeated(alloc: Global, entry: &T, count: usize) -> Result<SharedList<T>, AllocError>
-        ensures { IfOk result (λ list. list ≡ replicate count entry.now) }
+    /// The first entries, as many as `count` tells, and another behind them. The full leaves of these are
+    /// shared: it costs one handle for each, and the copies of the entries behind them.
+    pub fn followed_by(&self, count: usize, entry: T) -> Result<SharedList<T>, AllocError>
+        requires { count ≤ length self.now }
+        ensures { IfOk result (λ list. list ≡ take count self.now ++ entry ∷ []) }
     {
-        let mut list = SharedList::new(alloc);
-        let full = equal_entries(alloc, entry, LEAF_ENTRIES)?;
-        while count - list.len() >= LEAF_ENTRIES {
-            list.push_leaf(full.clone()?)?;
+        // One more could not be counted.
+        if count == usize::MAX {
+            return Err(AllocError);
         }
-        let rest = count - list.len();
-        if rest == 0 {
-            return Ok(list);
-        }
-        list.push_leaf(equal_entries(alloc, entry, rest)?)?;
+        let alloc = self.allocator();
+        let begin = count - count % LEAF_ENTRIES;
+        let mut list = self.first_leaves(begin)?;
+        let mut last = ArrayVec::new();
+        self.copy_into(begin, count, &mut last)?;
+        last.push(entry);
+        list.push_leaf(Leaf::new(alloc, last)?)?;
         Ok(list)
+    }
+
+    /// The first entries, as many as `len` tells, which fill their leaves.
+    fn first_leaves(&self, len: usize) -> Result<SharedList<T>, AllocError>
+        requires full { len % LEAF_ENTRIES ≡ 0 }
+        requires inside { len ≤ length self.now }
+        ensures { IfOk result (λ list. list ≡ take len self.now) }
+    {
+        let count = len / LEAF_ENTRIES;
+        let (first, _) = self.leaves.split_at(count);
+        let mut leaves = Vec::with_capacity(self.allocator(), count + 1)?;
+        share_into(first, &mut leaves)?;
+        Ok(SharedList { leaves, len })
+    }
+
+    /// Copies the entries from one place up to another behind others.
+    fn copy_into(
+        &self,
+        first: usize,
+        end: usize,
+        copies: &mut ArrayVec<T, LEAF_ENTRIES>,
+    ) -> Result<(), AllocError>
+        requires order { first ≤ end }
+        requires inside { end ≤ length self.now }
+        requires room { array_vec_len copies.old + (end - first) ≤ LEAF_ENTRIES }
+        ensures { OnOk result (copies.new.items ≡ copies.old.items ++ take (end - first) (drop first self.now)) }
+    {
+        'places: for at in first..end {
+            copies.push(self.get(at).clone()?);
+        }
+        Ok(())
     }
 
     /// Puts a leaf behind the others, which are full.
-    fn push_leaf(&mut self, leaf: Leaf<T>) -> Result<(), AllocError>
+    pub(crate) fn push_leaf(&mut self, leaf: Leaf<T>) -> Result<(), AllocError>
         requires full { length self.old % LEAF_ENTRIES ≡ 0 }
         requires some { 0 < length leaf }
         requires most { length leaf ≤ LEAF_ENTRIES }
@@ -108,22 +144,37 @@ impl<T: Handle> SharedList<T> {
     }
 }
 
+/// Handles on these leaves, behind others.
+fn share_into<T: Handle>(leaves: &[Leaf<T>], shared: &mut Vec<Leaf<T>>) -> Result<(), AllocError>
+    ensures { OnOk result (shared.new.items ≡ shared.old.items ++ leaves.now) }
+{
+    'leaves: for leaf in leaves {
+        shared.push(leaf.clone()?)?;
+    }
+    Ok(())
+}
+
 /// A leaf of so many equal entries.
 fn equal_entries<T: Handle>(alloc: Global, entry: &T, count: usize) -> Result<Leaf<T>, AllocError>
+    requires { count ≤ LEAF_ENTRIES }
     ensures { IfOk result (λ leaf. leaf ≡ replicate count entry.now) }
 {
-    Leaf::new(alloc, vec![in alloc; entry.clone()?; count]?)
+    let mut entries = ArrayVec::new();
+    'entries: while entries.len() < count {
+        entries.push(entry.clone()?);
+    }
+    Leaf::new(alloc, entries)
 }
 
 /// The first of the entries that are left, as many as a leaf has.
-fn next_entries<T: Handle>(alloc: Global, left: &mut vec::IntoIter<T>) -> Result<Vec<T>, AllocError>
-    ensures parts { IfOk result (λ leaf. into_iter_items left.old ≡ leaf.items ++ into_iter_items left.new) }
-    ensures most { IfOk result (λ leaf. length leaf.items ≡ min LEAF_ENTRIES (length (into_iter_items left.old))) }
+fn next_entries<T: Handle>(left: &mut vec::IntoIter<T>) -> ArrayVec<T, LEAF_ENTRIES>
+    ensures parts { into_iter_items left.old ≡ result.items ++ into_iter_items left.new }
+    ensures most { length result.items ≡ min LEAF_ENTRIES (length (into_iter_items left.old)) }
 {
-    let mut leaf = Vec::with_capacity(alloc, LEAF_ENTRIES)?;
-    while leaf.len() < LEAF_ENTRIES {
+    let mut leaf = ArrayVec::new();
+    'entries: while !leaf.is_full() {
         let Some(entry) = left.next() else { break };
-        leaf.push(entry)?;
+        leaf.push(entry);
     }
-    Ok(leaf)
+    leaf
 }

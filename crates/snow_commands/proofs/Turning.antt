@@ -18,33 +18,25 @@ use Rattle.forest_history.specs.Rows.{How, over, stopped, idle, took, spent, All
 use Rattle.forest_history.proofs.Changes.{at_path-here}
 use Rattle.forest_history.proofs.Ends.{over-ends}
 use Rattle.forest_history.proofs.Whole.{some-ready, start-home}
-use Rattle.forest_model.specs.Machine.{Machine, boot, next}
+use Rattle.forest_model.specs.Machine.{Machine, boot}
 use Rattle.forest_model.specs.Forest.{finish, machines, port_of}
-use Rattle.vm_cell.specs.Standing.{standing_call, standing_from, asked_call}
-use Rattle.vm_cell.specs.Steps.{Stands}
-use Rattle.vm_cell.specs.declared.vm.Stepped.{Stepped}
-use Rattle.vm_cell.specs.declared.vm.Stepped.TheVariants.{Went, Call, Ended}
+use Rattle.vm_cell.specs.Keyed.{KeyedMachine, IsOfDepot}
 use Rattle.world_core.specs.declared.world.World.{World}
 use Rattle.world_core.specs.declared.world.Placed.{Placed}
 use Rattle.world_core.specs.declared.world.Placed.TheVariants.{Done, Parked, Dropped, Memory}
-use Rattle.world_core.specs.Lent.{Lent}
+use Rattle.world_core.specs.Lent.{Lent, IsSameLease}
 use Rattle.world_core.specs.World.{Forest, StandsFor}
 use Rattle.world_core.specs.declared.reason.Reason.{Reason}
-use Rattle.world_core.specs.Answers.{Answers, Goes, HandedOut, IsHandedOut, IsOutAs, Starts}
+use Rattle.world_core.specs.Answers.{Answers, Goes, HandedOut, IsHandedOut, IsLentOf, IsOutAs, Starts}
 use Rattle.snow_commands.specs.Turned.{Answered, ComesTo, HasEnded, HasFamily, IsOutIn, IsPlaced, IsThereAs, Turned}
 use Rattle.snow_commands.proofs.Ended.{family-report, turned, turned-whole, turned-halted, turned-end}
 
--- a machine that stands at no call after steps enough has ended
-pub turn-ends : (m : Machine) (why : Stepped) → why ≢ Went → Stands m why → standing_call m ≡ None → IsSome m.ending
-unfolding standing_call
-turn-ends m Went enough stands none = absurd (enough refl)
-turn-ends m (Call c) enough stands none =
-    let some : Some c ≡ None = sym (ap asked_call stands.1) ∙ sym (ap (λ ending. standing_from ending (next m)) stands.0) ∙ none in absurd (cc)
-turn-ends m (Ended ending) enough stands none = subst IsSome (sym stands) refl
+pub out-same : (f : Forest) (a b : Lent) → IsSameLease a b → IsOutIn f a → IsOutIn f b
+out-same f a b same h =
+    subst (λ s. IsThereAs s (subtree b.name f.tree)) (sym same.start) (subst (λ n. IsThereAs a.start (subtree n f.tree)) (sym same.name) h)
 
-pub out-same : (f : Forest) (a b : Lent) → b.name ≡ a.name → b.start ≡ a.start → IsOutIn f a → IsOutIn f b
-out-same f a b name start h =
-    subst (λ s. IsThereAs s (subtree b.name f.tree)) (sym start) (subst (λ n. IsThereAs a.start (subtree n f.tree)) (sym name) h)
+pub lent-same : (depot : Shelves) (a b : Lent) → IsSameLease a b → IsLentOf depot a → IsLentOf depot b
+lent-same depot a b same h = subst (IsOfDepot depot) (sym same.key) h
 
 out-as : (start : Machine) (t : Option (Tree (Spot Machine))) → IsThereAs start t → IsOutAs start t
 out-as start None h = absurd h
@@ -72,9 +64,10 @@ dropped-not depot f lease answer new h there e = dropped-by depot f h.0 lease an
 
 -- a machine that was kept for want of memory is on lease still
 pub kept-handed : (depot : Shelves) (f : Forest) (lease back : Lent) (new : World) → Answered depot f lease (Memory back) new → IsOutIn f lease
-    → HandedOut new back
+    → IsLentOf depot lease → HandedOut new back
 unfolding does
-kept-handed depot f lease back new a there = (depot, (f, a.1.2.after, subst (IsHandedOut f) (sym a.1.1) (out-handed f lease there)))
+kept-handed depot f lease back new a there of_depot =
+    (depot, (f, a.1.2.after, subst (IsHandedOut f) (sym a.1.1) (out-handed f lease there), subst (IsLentOf depot) (sym a.1.1) of_depot))
 
 turned-by : (depot : Shelves) (f : Forest) (how : How) (lease : Lent) (answer : Placed) (new : World) → Answers depot f how lease answer new → IsPlaced answer
     → Turned depot f lease new

@@ -11,7 +11,7 @@ use Rattle.forest_model.specs.Forest.{finish, machines}
 use Rattle.world_core.specs.declared.world.World.{World}
 use Rattle.world_core.specs.declared.world.Placed.{Placed}
 use Rattle.world_core.specs.declared.world.Placed.TheVariants.{Done, Parked, Dropped, Memory}
-use Rattle.world_core.specs.Answers.{Answers}
+use Rattle.world_core.specs.Answers.{Answers, IsLentOf}
 use Rattle.world_core.specs.Lent.{Lent}
 use Rattle.world_core.specs.Shows.{forest}
 use Rattle.world_core.specs.World.{Forest, StandsFor}
@@ -45,7 +45,7 @@ abbrev pub IsOutIn : Forest → Lent → Type 0
 IsOutIn f lease = IsThereAs lease.start (subtree lease.name f.tree)
 
 abbrev pub IsOut : Shelves → World → Lent → Type 0
-IsOut depot w lease = (f : Forest) × StandsFor depot w f × IsOutIn f lease
+IsOut depot w lease = (f : Forest) × StandsFor depot w f × IsOutIn f lease × IsLentOf depot lease
 
 -- the machine came back after its own steps, and made its call
 pub record Turned (depot : Shelves) (f : Forest) (lease : Lent) (new : World) : Type 0 where

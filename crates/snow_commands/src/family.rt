@@ -6,14 +6,15 @@ ghost use Rattle.forest_model.specs.Forest.{finish};
 ghost use Rattle.forest_model.specs.Machine.{Machine};
 ghost use Rattle.run_report.specs.Report.{report, report_of};
 ghost use Rattle.vm_cell.specs.Standing.{standing_call};
-ghost use Rattle.world_core.specs.Answers.{HandedOut};
+ghost use Rattle.world_core.specs.Answers.{HandedOut, HandedOutIn};
+ghost use Rattle.world_core.specs.Lent.{IsSameLease, vm_of};
 ghost use Rattle.world_core.specs.World.{Forest, StandsFor};
 ghost use Rattle.snow_commands.specs.Turned.{Answered, HasEnded, HasFamily, IsOut, IsOutIn, IsPlaced, Turned};
 
 use fork_port::Call;
 use image_depot::Depot;
 use run_report::Outcome;
-use std::alloc::AllocError;
+use std::alloc::{AllocError, Global};
 use std::sync::Wait;
 use world_core::{Lease, Placed, Taken, World};
 
@@ -65,7 +66,7 @@ fn run_turn<R: AllocGlobal + Wait>(
     requires { IsOut depot.now world.old lease }
     ensures { OnOk result ((f : Forest) → StandsFor depot.now world.old f → IsOutIn f lease → Turned depot.now f lease world.new) }
 {
-    let lease = run_on(world, lease)?;
+    let lease = run_on(rt.alloc(), world, lease, depot)?;
     match make_call(rt, world, lease, depot) {
         Placed::Done | Placed::Parked => Ok(()),
         Placed::Memory(lease) => {
@@ -76,15 +77,20 @@ fn run_turn<R: AllocGlobal + Wait>(
     }
 }
 
-/// Runs a machine up to its end or to a call.
-fn run_on(world: &mut World, lease: Lease) -> Result<Lease, AllocError>
-    requires { HandedOut world.old lease }
-    ensures same { IfOk result (λ ran. (ran.name ≡ lease.name) × (ran.start ≡ lease.start)) }
-    ensures stands { IfOk result (λ ran. standing_call ran.now ≡ None → IsSome ran.now.ending) }
+/// Runs a machine up to its end or to a call. Each page at which it stalls comes from its image.
+fn run_on(
+    alloc: Global,
+    world: &mut World,
+    lease: Lease,
+    depot: &Depot,
+) -> Result<Lease, AllocError>
+    requires { HandedOutIn depot.now world.old lease }
+    ensures same { IfOk result (IsSameLease lease) }
+    ensures stands { IfOk result (λ ran. standing_call (vm_of ran) ≡ None → IsSome ran.now.ending) }
     ensures world { OnOk result (world.new ≡ world.old) }
 {
     let mut lease = lease;
-    match lease.run(lease.limit()) {
+    match lease.run_fetching(alloc, depot, lease.limit()) {
         Ok(_) => Ok(lease),
         Err(error) => {
             give_back(world, lease);
@@ -101,7 +107,7 @@ fn make_call<R: AllocGlobal + Wait>(
     depot: &Depot,
 ) -> Placed
     requires out { IsOut depot.now world.old lease }
-    requires ended { standing_call lease.now ≡ None → IsSome lease.now.ending }
+    requires ended { standing_call (vm_of lease) ≡ None → IsSome lease.now.ending }
     ensures { (f : Forest) → StandsFor depot.now world.old f → IsOutIn f lease → Answered depot.now f lease result world.new }
 {
     match lease.call() {

@@ -1,4 +1,4 @@
-ghost use Rattle.std.specs.Prelude.{◌≡◌, ◌+◌, ◌<◌, ◌≤◌, ◌↔◌, true, false, length, Some, None, Err, IfOk, IsErr, IsSome, IsSomeAnd, OnErr, OnOk, IsErrOf, option_map};
+ghost use Rattle.std.specs.Prelude.{◌≡◌, ◌+◌, ◌%◌, ◌^◌, ◌<◌, ◌≤◌, ◌↔◌, true, false, length, Some, None, Err, IfOk, IsErr, IsSome, IsSomeAnd, OnErr, OnOk, IsErrOf, option_map};
 ghost use Rattle.console_port.specs.declared.port.TheConstants.{MAX_INPUT};
 ghost use Rattle.timer_port.specs.Timer.{is_due, timer_counted};
 ghost use Rattle.fork_port.specs.Commands.{fork_command};
@@ -116,6 +116,26 @@ impl Ports {
         ensures { self.new ≡ record self.old { timer = timer_counted self.old.timer wrote_mtime } }
     {
         self.timer.count(wrote_mtime);
+    }
+
+    /// What the timer holds.
+    #[inline]
+    pub fn timer(&self) -> TimerRegisters
+        ensures { result ≡ self.now.timer }
+    {
+        self.timer.fields()
+    }
+
+    /// Counts so many steps in mtime, none of which wrote a half of it.
+    #[inline]
+    pub fn count_times(&mut self, steps: u64)
+        ensures { self.new ≡ record self.old { timer = record self.old.timer { mtime = (self.old.timer.mtime + steps) % 2 ^ 64 } } }
+    {
+        let TimerRegisters { mtime, mtimecmp } = self.timer.fields();
+        self.timer = TimerPort::of_fields(TimerRegisters {
+            mtime: mtime.wrapping_add(steps),
+            mtimecmp,
+        });
     }
 
     /// Loads `width` bytes from the port that `address` is of.

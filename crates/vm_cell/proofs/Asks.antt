@@ -1,5 +1,5 @@
 -- Which call the coming step is: none but a store of a word to the fork port's command is one.
-use Rattle.std.proofs.Common.{◌≡◌, ℕ, ◌+◌, ◌-◌, ◌%◌, ◌⊎◌, inl, inr, List, length, Bool, true, false, cond, eqb, Option, Some, None, refl, sym, ap, ◌∙◌, subst, arith}
+use Rattle.std.proofs.Common.{◌≡◌, ℕ, ◌+◌, ◌-◌, ◌%◌, ◌⊎◌, inl, inr, List, Bool, true, false, cond, eqb, Option, Some, None, refl, sym, ap, ◌∙◌, subst, arith}
 use Rattle.std.specs.Option.{IfSome, option_map}
 use Rattle.std.proofs.lemmas.Bool.Decides.{nat_tests}
 use Rattle.rv_decode.specs.Instruction.{Instruction}
@@ -8,7 +8,7 @@ use Rattle.rv_decode.specs.declared.kinds.Kind.TheVariants.{Sb, Sh, Sw}
 use Rattle.rv_decode.specs.declared.kinds.Group.{Group}
 use Rattle.rv_decode.specs.declared.kinds.Group.TheVariants.{LoadUpper, AddUpper, Jump, JumpRegister, Branch, Load, Store, ComputeImmediate, Compute, Nothing, EnvironmentCall, Breakpoint, TrapReturn, Csr, LoadReserved, StoreConditional, Amo}
 use Rattle.rv_decode.specs.Kinds.{group_of}
-use Rattle.rv_exec.specs.Memory.{load_width, store_bytes}
+use Rattle.rv_exec.specs.Memory.{load_width, store_width}
 use Rattle.rv_decode.specs.Table.{decoded}
 use Rattle.rv_traps.specs.Trap.{takes_interrupt}
 use Rattle.rv_traps.specs.declared.registers.CsrRegisters.{CsrRegisters}
@@ -30,15 +30,18 @@ use Rattle.fork_port.specs.Fork.{ForkStored, carried_out, fork_store}
 use Rattle.fork_port.proofs.TicketLemmas.{either}
 use Rattle.forest_model.specs.declared.port_map.TheConstants.{CONSOLE_BASE, TIMER_BASE, TIMER_SIZE, BLOCK_BASE, FORK_BASE}
 use Rattle.forest_model.specs.Ports.{PortRegisters, Read, Stored, Place, at_console, at_timer, at_block, at_fork, at_no_port, is_within, place_of, port_load, console_stored, timer_stored, block_stored, fork_stored, store_at, port_store}
-use Rattle.forest_model.specs.State.{State, is_in_ram, is_timer_due, at_next_instruction}
+use Rattle.forest_model.specs.State.{State, is_timer_due, at_next_instruction}
 use Rattle.forest_model.specs.Action.{Action, rs1, rs2}
 use Rattle.forest_model.specs.Compute.{load_upper, add_upper, compute_immediate, compute}
 use Rattle.forest_model.specs.Control.{aligned_jump, jump, jump_register, branch_by, branch, relative, linked}
-use Rattle.forest_model.specs.Memory.{data_address, is_aligned, read_action, place_load, aligned_load, load, effect_action, port_action, place_store, aligned_store, store_action, stored_bytes, store}
-use Rattle.forest_model.specs.Atomic.{is_reserved, reserve_at, aligned_reserve, load_reserved, conditional_action, conditional_at, aligned_conditional, store_conditional, amo_at, aligned_amo, amo}
+use Rattle.forest_model.specs.Access.{Reached, faulted, of_ram, of_port, reached, page_needed, fetch_access}
+use Rattle.forest_model.specs.Memory.{data_address, read_action, load_by, load_access, load, effect_action, port_action, store_by, store_access, store_action, stored_bytes, store}
+use Rattle.forest_model.specs.Atomic.{is_reserved, reserve_by, reserve_access, load_reserved, conditional_action, conditional_by, conditional_access, store_conditional, amo_by, amo_access, amo}
 use Rattle.forest_model.specs.System.{operation_of, reads, writes, written_action, write_action, old_action, old_value, csr_access, trap_return}
-use Rattle.forest_model.specs.Execute.{action, action_by, decoded_action, execute_group, execute, fetch_action, fetched}
+use Rattle.forest_model.specs.Execute.{action, action_by, coming_instruction, decoded_action, execute_group, execute, fetch_action, fetched, instruction_at, instruction_by}
 use Rattle.forest_model.specs.Machine.{next_of}
+use Rattle.forest_model.specs.Touch.{access_by, access_of, data_page}
+use Rattle.forest_model.specs.Paged.{no_change, change_by, change_from, change_of, change_of_access, change_reached, change_stored}
 use Rattle.vm_cell.specs.Standing.{asked_call, call_asked, AsksFor}
 
 abbrev NoCall : Action → Type 0
@@ -139,29 +142,25 @@ elsewhere-address width address e =
     (either P (is_within BLOCK_BASE BLOCK_SIZE address) _ _ tt
     (by_test P (is_within FORK_BASE FORK_SIZE address) (at_fork (address - FORK_BASE)) at_no_port (λ inside. inr (offset-other address e inside)) tt)))
 
-other-place_store : (in_ram : Bool) (address : ℕ) (bytes : List ℕ) (word : ℕ) (s : State) → IsElsewhere (length bytes) (place_of address)
-    → NoCall (place_store in_ram address bytes word s)
+other-store_by : (r : Reached) (address width : ℕ) (bytes : List ℕ) (word : ℕ) (s : State) → IsElsewhere width (place_of address)
+    → NoCall (store_by r address width bytes word s)
 unfolding port_store
-other-place_store true address bytes word s h = refl
-other-place_store false address bytes word s h =
-    other-port (port_store s.ports address (length bytes) word) address s (other-at (place_of address) s.ports (length bytes) word h)
+other-store_by (faulted cause) address width bytes word s h = refl
+other-store_by (of_ram page) address width bytes word s h = refl
+other-store_by of_port address width bytes word s h =
+    other-port (port_store s.ports address width word) address s (other-at (place_of address) s.ports width word h)
 
-other-aligned_store : (aligned : Bool) (address : ℕ) (bytes : List ℕ) (word : ℕ) (s : State) → IsElsewhere (length bytes) (place_of address)
-    → NoCall (aligned_store aligned address bytes word s)
-other-aligned_store false address bytes word s h = refl
-other-aligned_store true address bytes word s h = other-place_store (is_in_ram s.ram address) address bytes word s h
-
-other-store : (i : Instruction) (s : State) → IsElsewhere (length (stored_bytes i s)) (place_of (data_address i s)) → NoCall (store i s)
+other-store : (i : Instruction) (s : State) → IsElsewhere (store_width i.kind) (place_of (data_address i s)) → NoCall (store i s)
 unfolding store store_action
 other-store i s h =
-    other-aligned_store (is_aligned (data_address i s) (length (stored_bytes i s))) (data_address i s) (stored_bytes i s) (rs2 i s) s h
+    other-store_by (reached (store_access i s) s) (data_address i s) (store_width i.kind) (stored_bytes i s) (rs2 i s) s h
 
-narrow : (kind : Kind) (value : ℕ) → group_of kind ≡ Store → (kind ≡ Sw → ⊥) → eqb (length (store_bytes kind value)) 4 ≡ false
+narrow : (kind : Kind) → group_of kind ≡ Store → (kind ≡ Sw → ⊥) → eqb (store_width kind) 4 ≡ false
 unfolding group_of
-narrow Sb value h other = refl
-narrow Sh value h other = refl
-narrow Sw value h other = absurd (other refl)
-narrow _ value h other = absurd (cc)
+narrow Sb h other = refl
+narrow Sh h other = refl
+narrow Sw h other = absurd (other refl)
+narrow _ h other = absurd (cc)
 
 -- ---- all other instructions
 
@@ -169,13 +168,10 @@ none-read_action : (answer : Option Read) (i : Instruction) (address : ℕ) (s :
 none-read_action None i address s = refl
 none-read_action (Some read) i address s = refl
 
-none-place_load : (in_ram : Bool) (i : Instruction) (address : ℕ) (s : State) → NoCall (place_load in_ram i address s)
-none-place_load true i address s = refl
-none-place_load false i address s = none-read_action (port_load s.ports address (load_width i.kind)) i address s
-
-none-aligned_load : (aligned : Bool) (i : Instruction) (address : ℕ) (s : State) → NoCall (aligned_load aligned i address s)
-none-aligned_load false i address s = refl
-none-aligned_load true i address s = none-place_load (is_in_ram s.ram address) i address s
+none-load_by : (r : Reached) (i : Instruction) (address : ℕ) (s : State) → NoCall (load_by r i address s)
+none-load_by (faulted cause) i address s = refl
+none-load_by (of_ram page) i address s = refl
+none-load_by of_port i address s = none-read_action (port_load s.ports address (load_width i.kind)) i address s
 
 none-aligned_jump : (aligned : Bool) (target : ℕ) (new : State) → NoCall (aligned_jump aligned target new)
 none-aligned_jump false target new = refl
@@ -185,33 +181,24 @@ none-branch_by : (taken : Bool) (i : Instruction) (s : State) → NoCall (branch
 none-branch_by false i s = refl
 none-branch_by true i s = none-aligned_jump (eqb (relative i s % 4) 0) (relative i s) s
 
-none-reserve_at : (in_ram : Bool) (i : Instruction) (address : ℕ) (s : State) → NoCall (reserve_at in_ram i address s)
-none-reserve_at false i address s = refl
-none-reserve_at true i address s = refl
-
-none-aligned_reserve : (aligned : Bool) (i : Instruction) (address : ℕ) (s : State) → NoCall (aligned_reserve aligned i address s)
-none-aligned_reserve false i address s = refl
-none-aligned_reserve true i address s = none-reserve_at (is_in_ram s.ram address) i address s
+none-reserve_by : (r : Reached) (i : Instruction) (address : ℕ) (s : State) → NoCall (reserve_by r i address s)
+none-reserve_by (faulted cause) i address s = refl
+none-reserve_by (of_ram page) i address s = refl
+none-reserve_by of_port i address s = refl
 
 none-conditional_action : (reserved : Bool) (i : Instruction) (address : ℕ) (s : State) → NoCall (conditional_action reserved i address s)
 none-conditional_action false i address s = refl
 none-conditional_action true i address s = refl
 
-none-conditional_at : (in_ram : Bool) (i : Instruction) (address : ℕ) (s : State) → NoCall (conditional_at in_ram i address s)
-none-conditional_at false i address s = refl
-none-conditional_at true i address s = none-conditional_action (is_reserved s.reservation address) i address s
+none-conditional_by : (r : Reached) (i : Instruction) (address : ℕ) (s : State) → NoCall (conditional_by r i address s)
+none-conditional_by (faulted cause) i address s = refl
+none-conditional_by (of_ram page) i address s = none-conditional_action (is_reserved s.reservation address) i address s
+none-conditional_by of_port i address s = refl
 
-none-aligned_conditional : (aligned : Bool) (i : Instruction) (address : ℕ) (s : State) → NoCall (aligned_conditional aligned i address s)
-none-aligned_conditional false i address s = refl
-none-aligned_conditional true i address s = none-conditional_at (is_in_ram s.ram address) i address s
-
-none-amo_at : (in_ram : Bool) (i : Instruction) (address : ℕ) (s : State) → NoCall (amo_at in_ram i address s)
-none-amo_at false i address s = refl
-none-amo_at true i address s = refl
-
-none-aligned_amo : (aligned : Bool) (i : Instruction) (address : ℕ) (s : State) → NoCall (aligned_amo aligned i address s)
-none-aligned_amo false i address s = refl
-none-aligned_amo true i address s = none-amo_at (is_in_ram s.ram address) i address s
+none-amo_by : (r : Reached) (i : Instruction) (address : ℕ) (s : State) → NoCall (amo_by r i address s)
+none-amo_by (faulted cause) i address s = refl
+none-amo_by (of_ram page) i address s = refl
+none-amo_by of_port i address s = refl
 
 none-written_action : (csrs : Option CsrRegisters) (old : ℕ) (i : Instruction) (word : ℕ) (s : State) → NoCall (written_action csrs old i word s)
 none-written_action None old i word s = refl
@@ -233,9 +220,9 @@ none-execute_group AddUpper i word s e other = refl
 none-execute_group Jump i word s e other = none-aligned_jump (eqb (relative i s % 4) 0) (relative i s) (linked i s)
 none-execute_group JumpRegister i word s e other = none-aligned_jump _ _ (linked i s)
 none-execute_group Branch i word s e other = none-branch_by _ i s
-none-execute_group Load i word s e other = none-aligned_load (is_aligned (data_address i s) (load_width i.kind)) i (data_address i s) s
+none-execute_group Load i word s e other = none-load_by (reached (load_access i s) s) i (data_address i s) s
 none-execute_group Store i word s e other =
-    other-store i s (elsewhere-narrow (length (stored_bytes i s)) (place_of (data_address i s)) (narrow i.kind (rs2 i s) e other))
+    other-store i s (elsewhere-narrow (store_width i.kind) (place_of (data_address i s)) (narrow i.kind e other))
 none-execute_group ComputeImmediate i word s e other = refl
 none-execute_group Compute i word s e other = refl
 none-execute_group Nothing i word s e other = refl
@@ -243,9 +230,9 @@ none-execute_group EnvironmentCall i word s e other = refl
 none-execute_group Breakpoint i word s e other = refl
 none-execute_group TrapReturn i word s e other = refl
 none-execute_group Csr i word s e other = none-old_action (old_value (reads (operation_of i.kind) i) i s) i word s
-none-execute_group LoadReserved i word s e other = none-aligned_reserve (is_aligned (rs1 i s) 4) i (rs1 i s) s
-none-execute_group StoreConditional i word s e other = none-aligned_conditional (is_aligned (rs1 i s) 4) i (rs1 i s) s
-none-execute_group Amo i word s e other = none-aligned_amo (is_aligned (rs1 i s) 4) i (rs1 i s) s
+none-execute_group LoadReserved i word s e other = none-reserve_by (reached (reserve_access i s) s) i (rs1 i s) s
+none-execute_group StoreConditional i word s e other = none-conditional_by (reached (conditional_access i s) s) i (rs1 i s) s
+none-execute_group Amo i word s e other = none-amo_by (reached (amo_access i s) s) i (rs1 i s) s
 
 -- ---- what the coming instruction is
 
@@ -266,7 +253,7 @@ pub no-command : (i : Instruction) (word : ℕ) (s : State) → i.kind ≡ Sw �
     → asked_call (next_of (execute i word s)) ≡ None
 no-command i word s is other =
     ap (λ a. asked_call (next_of a)) (word-stored i word s is)
-    ∙ other-store i s (elsewhere-address (length (stored_bytes i s)) (data_address i s) (differ (data_address i s) (FORK_BASE + FORK_COMMAND) other))
+    ∙ other-store i s (elsewhere-address (store_width i.kind) (data_address i s) (differ (data_address i s) (FORK_BASE + FORK_COMMAND) other))
 
 -- what a command asks for, of which a call waits
 commanded : (a : Asked) (s : State)
@@ -278,16 +265,10 @@ commanded (asked.Call c) s = refl
 commanded (asked.Exit value) s = refl
 commanded (asked.Zero first count) s = refl
 
-store-commands : (bytes : List ℕ) (word : ℕ) (s : State) → length bytes ≡ 4
-    → store_action (FORK_BASE + FORK_COMMAND) bytes word s
+store-commands : (bytes : List ℕ) (word : ℕ) (s : State) → store_action (FORK_BASE + FORK_COMMAND) 4 bytes word s
     ≡ effect_action (effect_of (fork_command s.ports.fork word)) (at_next_instruction (record s { ports = record s.ports { fork = answered (fork_command s.ports.fork word) s.ports.fork } }))
-unfolding store_action port_store fork_store
-store-commands bytes word s e =
-    ap (λ n. aligned_store (is_aligned (FORK_BASE + FORK_COMMAND) n) (FORK_BASE + FORK_COMMAND) bytes word s) e
-    ∙ ap (λ n. port_action (port_store s.ports (FORK_BASE + FORK_COMMAND) n word) (FORK_BASE + FORK_COMMAND) s) e
-
-width-Sw : (kind : Kind) (value : ℕ) → kind ≡ Sw → length (store_bytes kind value) ≡ 4
-width-Sw kind value is = ap (λ k. length (store_bytes k value)) is
+unfolding store_action reached port_store fork_store
+store-commands bytes word s = refl
 
 -- a store of a word to the command
 pub command : (i : Instruction) (word : ℕ) (s : State) → i.kind ≡ Sw → data_address i s ≡ FORK_BASE + FORK_COMMAND
@@ -295,15 +276,114 @@ pub command : (i : Instruction) (word : ℕ) (s : State) → i.kind ≡ Sw → d
 unfolding store
 command i word s is here =
     let same = word-stored i word s is
-    ∙ ap (λ address. store_action address (stored_bytes i s) (rs2 i s) s) here
-    ∙ store-commands (stored_bytes i s) (rs2 i s) s (width-Sw i.kind (rs2 i s) is) in
+    ∙ ap (λ address. store_action address (store_width i.kind) (stored_bytes i s) (rs2 i s) s) here
+    ∙ ap (λ kind. store_action (FORK_BASE + FORK_COMMAND) (store_width kind) (stored_bytes i s) (rs2 i s) s) is
+    ∙ store-commands (stored_bytes i s) (rs2 i s) s in
     subst (λ a. AsksFor a s (call_asked (fork_command s.ports.fork (rs2 i s)))) (sym same) (commanded (fork_command s.ports.fork (rs2 i s)) s)
 
--- the step that executes an instruction
-pub fetched-asks : (s : State) (i : Instruction) (c : Option Call) → takes_interrupt s.csrs (is_timer_due s) ≡ false → is_in_ram s.ram s.pc ≡ true
-    → decoded (fetched s) ≡ Some i → ((word : ℕ) → AsksFor (execute i word s) s c) → AsksFor (action s) s c
-unfolding action
-fetched-asks s i c taken inside is h =
-    let same : action s ≡ execute i (fetched s) s =
-    ap (λ b. action_by b s) taken ∙ ap (λ b. fetch_action b s) inside ∙ ap (λ d. decoded_action d (fetched s) s) is in
-    subst (λ a. AsksFor a s c) (sym same) (h (fetched s))
+-- ---- a call needs no page of data
+
+call-stored : (r : Reached) (address width : ℕ) (bytes : List ℕ) (word : ℕ) (s : State) (c : Call)
+    → asked_call (next_of (store_by r address width bytes word s)) ≡ Some c → page_needed r ≡ None
+call-stored (faulted cause) address width bytes word s c is = refl
+call-stored (of_ram page) address width bytes word s c is = absurd (cc)
+call-stored of_port address width bytes word s c is = refl
+
+call-by : (group : Group) (i : Instruction) (word : ℕ) (s : State) (c : Call) → asked_call (next_of (execute_group group i word s)) ≡ Some c
+    → data_page (access_by group i s) s ≡ None
+unfolding load store store_action load_reserved store_conditional amo
+call-by Load i word s c is = let none = none-load_by (reached (load_access i s) s) i (data_address i s) s in absurd (cc)
+call-by Store i word s c is =
+    call-stored (reached (store_access i s) s) (data_address i s) (store_width i.kind) (stored_bytes i s) (rs2 i s) s c is
+call-by LoadReserved i word s c is = let none = none-reserve_by (reached (reserve_access i s) s) i (rs1 i s) s in absurd (cc)
+call-by StoreConditional i word s c is = let none = none-conditional_by (reached (conditional_access i s) s) i (rs1 i s) s in absurd (cc)
+call-by Amo i word s c is = let none = none-amo_by (reached (amo_access i s) s) i (rs1 i s) s in absurd (cc)
+call-by LoadUpper i word s c is = refl
+call-by AddUpper i word s c is = refl
+call-by Jump i word s c is = refl
+call-by JumpRegister i word s c is = refl
+call-by Branch i word s c is = refl
+call-by ComputeImmediate i word s c is = refl
+call-by Compute i word s c is = refl
+call-by Nothing i word s c is = refl
+call-by EnvironmentCall i word s c is = refl
+call-by Breakpoint i word s c is = refl
+call-by TrapReturn i word s c is = refl
+call-by Csr i word s c is = refl
+
+pub call-needs-none : (i : Instruction) (word : ℕ) (s : State) (c : Call) → asked_call (next_of (execute i word s)) ≡ Some c
+    → data_page (access_of i s) s ≡ None
+unfolding execute
+call-needs-none i word s c is = call-by (group_of i.kind) i word s c is
+
+-- ---- nor does it change any
+
+effect-changes : (e : Effect) (new s : State) (c : Call) → asked_call (next_of (effect_action e new)) ≡ Some c → change_by e s ≡ no_change
+effect-changes effect.Done new s c is = refl
+effect-changes effect.TimeWritten new s c is = refl
+effect-changes (effect.Exit value) new s c is = refl
+effect-changes (effect.Call call) new s c is = refl
+effect-changes (effect.Zero first count) new s c is = absurd (cc)
+
+port-changes : (stored : Option Stored) (address : ℕ) (s : State) (c : Call) → asked_call (next_of (port_action stored address s)) ≡ Some c
+    → change_stored stored s ≡ no_change
+port-changes None address s c is = refl
+port-changes (Some stored) address s c is = effect-changes stored.effect (at_next_instruction (record s { ports = stored.ports })) s c is
+
+store-changes : (r : Reached) (i : Instruction) (s : State) (c : Call)
+    → asked_call (next_of (store_by r (data_address i s) (store_width i.kind) (stored_bytes i s) (rs2 i s) s)) ≡ Some c
+    → change_reached r (store_access i s) (rs2 i s) s ≡ no_change
+store-changes (faulted cause) i s c is = refl
+store-changes (of_ram page) i s c is = absurd (cc)
+store-changes of_port i s c is = port-changes (port_store s.ports (data_address i s) (store_width i.kind) (rs2 i s)) (data_address i s) s c is
+
+load-changes : (r : Reached) (i : Instruction) (s : State) → change_reached r (load_access i s) (rs2 i s) s ≡ no_change
+load-changes (faulted cause) i s = refl
+load-changes (of_ram page) i s = refl
+load-changes of_port i s = refl
+
+reserve-changes : (r : Reached) (i : Instruction) (s : State) → change_reached r (reserve_access i s) (rs2 i s) s ≡ no_change
+reserve-changes (faulted cause) i s = refl
+reserve-changes (of_ram page) i s = refl
+reserve-changes of_port i s = refl
+
+group-changes : (group : Group) (i : Instruction) (word : ℕ) (s : State) (c : Call) → asked_call (next_of (execute_group group i word s)) ≡ Some c
+    → change_of_access (access_by group i s) (rs2 i s) s ≡ no_change
+unfolding store store_action store_conditional amo
+group-changes Load i word s c is = load-changes (reached (load_access i s) s) i s
+group-changes Store i word s c is = store-changes (reached (store_access i s) s) i s c is
+group-changes LoadReserved i word s c is = reserve-changes (reached (reserve_access i s) s) i s
+group-changes StoreConditional i word s c is =
+    let none = none-conditional_by (reached (conditional_access i s) s) i (rs1 i s) s in absurd (cc)
+group-changes Amo i word s c is = let none = none-amo_by (reached (amo_access i s) s) i (rs1 i s) s in absurd (cc)
+group-changes LoadUpper i word s c is = refl
+group-changes AddUpper i word s c is = refl
+group-changes Jump i word s c is = refl
+group-changes JumpRegister i word s c is = refl
+group-changes Branch i word s c is = refl
+group-changes ComputeImmediate i word s c is = refl
+group-changes Compute i word s c is = refl
+group-changes Nothing i word s c is = refl
+group-changes EnvironmentCall i word s c is = refl
+group-changes Breakpoint i word s c is = refl
+group-changes TrapReturn i word s c is = refl
+group-changes Csr i word s c is = refl
+
+module _ (s : State) (c : Call) where
+  decoded-changes : (i : Option Instruction) (word : ℕ) → asked_call (next_of (decoded_action i word s)) ≡ Some c → change_of i s ≡ no_change
+  unfolding execute
+  decoded-changes None word is = refl
+  decoded-changes (Some i) word is = group-changes (group_of i.kind) i word s c is
+
+  fetch-changes : (r : Reached) → asked_call (next_of (fetch_action r s)) ≡ Some c → change_of (instruction_at r s) s ≡ no_change
+  fetch-changes (faulted cause) is = refl
+  fetch-changes (of_ram page) is = decoded-changes (decoded (fetched s)) (fetched s) is
+  fetch-changes of_port is = refl
+
+  step-changes : (taken : Bool) → asked_call (next_of (action_by taken s)) ≡ Some c → change_of (instruction_by taken s) s ≡ no_change
+  step-changes true is = refl
+  step-changes false is = fetch-changes (reached (fetch_access s) s) is
+
+  pub call-changes : asked_call (next_of (action s)) ≡ Some c → change_from None s ≡ no_change
+  unfolding action coming_instruction
+  call-changes is = step-changes (takes_interrupt s.csrs (is_timer_due s)) is

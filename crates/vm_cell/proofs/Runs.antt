@@ -1,10 +1,8 @@
 -- A run so far, and what its end says.
-use Rattle.std.proofs.Common.{◌≡◌, ℕ, ◌+◌, ◌<◌, ◌≤◌, Bool, true, false, cond, eqb, Option, Some, None, refl, sym, ap, ◌∙◌, subst, arith, add-one, add-zero, []}
+use Rattle.std.proofs.Common.{◌≡◌, ℕ, zero, suc, ◌+◌, ◌-◌, ◌<◌, ◌≤◌, inl, inr, Bool, true, false, cond, eqb, Option, Some, None, refl, sym, ap, ◌∙◌, subst, arith, add-one, add-zero, suc-add, zero-add}
+use Rattle.std.proofs.lemmas.Bool.{cases_lt}
 use Rattle.std.proofs.lemmas.Bool.Decides.{nat_tests}
 use Rattle.std.specs.Option.{IfSome}
-use Rattle.std.specs.List.{AllByRecursion}
-use Rattle.fork_port.specs.declared.tickets.Ticket.{Ticket}
-use Rattle.fork_port.specs.Tickets.{held, IsRising}
 use Rattle.fork_port.specs.Registers.{ForkRegisters, holding}
 use Rattle.fork_port.specs.Children.{IsAccounted}
 use Rattle.fork_port.specs.Fork.{ForkStored, fork_store}
@@ -17,30 +15,81 @@ use Rattle.forest_model.specs.declared.Written.{Written}
 use Rattle.forest_model.specs.State.{State}
 use Rattle.forest_model.specs.Action.{Action, retire, exit}
 use Rattle.forest_model.specs.Execute.{action}
-use Rattle.forest_model.specs.Machine.{Machine, IsWithinLimit, applied, advance, after_steps}
+use Rattle.forest_model.specs.Machine.{Machine, IsWithinLimit, applied, advance}
+use Rattle.forest_model.specs.Paged.{Paged, advanced, advanced_by}
 use Rattle.forest_model.specs.Forest.{port_of}
 use Rattle.forest_model.proofs.Numbers.{next-advance}
-use Rattle.vm_cell.specs.Steps.{IsCounted, IsFunded}
-use Rattle.forest_model.proofs.Finish.{after_steps-suc, limit-after_steps}
+use Rattle.forest_model.proofs.Finish.{limit-after_steps}
+use Rattle.forest_model.proofs.Paged.{advanced_by-suc, machine-advanced_by}
+use Rattle.vm_cell.specs.Keyed.{KeyedMachine, keyed, paged}
+use Rattle.vm_cell.specs.Steps.{GoesOn, IsCounted, IsFree, IsFreeFor, IsFunded, IsRun, moved, moved_by}
+use Rattle.vm_cell.specs.declared.vm.Stepped.{Stepped}
+use Rattle.vm_cell.specs.declared.vm.Stepped.TheVariants.{Went, Stall, Call, Ended}
 
--- `made` steps lead from old to new, and each was made by a live machine
-pub record IsRun (old new : Machine) (made : ℕ) : Type 0 where
-  pub steps : new ≡ after_steps made old
-  pub counted : new.steps ≡ old.steps + made
+pub IsRun-none : (v : KeyedMachine) → IsRun v v 0
+unfolding advanced_by
+IsRun-none v = record { steps = refl; counted = sym (add-zero v.machine.steps); free = λ k below. absurd (omega arith) }
 
-pub IsRun-advance : (old mid new : Machine) (made : ℕ) → IsRun old mid made → new ≡ advance mid → new.steps ≡ mid.steps + 1 → IsRun old new (made + 1)
-IsRun-advance old mid new made run step counted = record {
-  steps = step ∙ ap advance run.steps ∙ sym (after_steps-suc made old) ∙ ap (λ n. after_steps n old) (sym (add-one made));
+pub IsRun-advance : (old mid new : KeyedMachine) (made : ℕ) → IsRun old mid made → IsFree mid → new ≡ moved mid
+    → new.machine.steps ≡ mid.machine.steps + 1 → IsRun old new (made + 1)
+IsRun-advance old mid new made run is_free step counted = record {
+  steps = step ∙ ap moved run.steps ∙ ap (keyed old.key) (sym (advanced_by-suc made (paged old))) ∙ ap (λ n. moved_by n old) (sym (add-one made));
   counted = let before = run.counted in omega arith;
+  free = λ k below. elim (cases_lt k made) [
+    | inl before ↦ run.free k before
+    | inr after ↦
+        let last : k ≡ made = omega arith in
+        subst (λ n. IsFree (moved_by n old)) (sym last) (subst IsFree run.steps is_free)
+  ];
 }
 
+advanced_by-add : (a b : ℕ) (p : Paged) → advanced_by (a + b) p ≡ advanced_by b (advanced_by a p)
+unfolding advanced_by
+advanced_by-add zero b p = ap (λ n. advanced_by n p) (zero-add b)
+advanced_by-add (suc a) b p = ap (λ n. advanced_by n p) (suc-add a b) ∙ advanced_by-add a b (advanced p)
+
+-- a run after another
+pub IsRun-join : (old mid new : KeyedMachine) (a b : ℕ) → IsRun old mid a → IsRun mid new b → IsRun old new (a + b)
+IsRun-join old mid new a b first second =
+    let joined : (k : ℕ) → moved_by k mid ≡ moved_by (a + k) old =
+    λ k. ap (moved_by k) first.steps ∙ ap (keyed old.key) (sym (advanced_by-add a k (paged old))) in
+    record {
+      steps = second.steps ∙ joined b;
+      counted = omega (arith, first.counted, second.counted);
+      free = λ k below. elim (cases_lt k a) [
+        | inl before ↦ first.free k before
+        | inr after ↦
+            let place : a + (k - a) ≡ k = omega arith in
+            subst (λ n. IsFree (moved_by n old)) place (subst IsFree (joined (k - a)) (second.free (k - a) (omega (arith, below, after))))
+      ];
+    }
+
+-- it ends at a step that is not made, and changes nothing
+pub not-made : (old new : KeyedMachine) (why : Stepped) → GoesOn old new (Some why) → new ≡ old
+not-made old new Went goes = absurd goes
+not-made old new (Stall page) goes = goes.1
+not-made old new (Call call) goes = goes.2
+not-made old new (Ended ending) goes = absurd goes
+
+module _ (old mid new : KeyedMachine) (made : ℕ) (run : IsRun old mid made) (is : new ≡ mid) where
+  made-counted : made ≡ new.machine.steps - old.machine.steps
+  made-counted =
+      let counted : new.machine.steps ≡ old.machine.steps + made = ap (λ (v : KeyedMachine). v.machine.steps) is ∙ run.counted in omega arith
+
+  pub stopped-steps : new ≡ moved_by (new.machine.steps - old.machine.steps) old
+  stopped-steps = is ∙ run.steps ∙ ap (λ n. moved_by n old) made-counted
+
+  pub stopped-free : IsFreeFor (new.machine.steps - old.machine.steps) old
+  stopped-free = subst (λ n. IsFreeFor n old) made-counted run.free
+
 -- a run of as many steps as the limit allows does not leave a machine that lives
-pub enough_made : (old new : Machine) (made most : ℕ) → IsRun old new made → IsWithinLimit new → new.ending ≡ None → made ≡ most
-    → old.limit ≤ old.steps + most → ⊥
+pub enough_made : (old new : KeyedMachine) (made most : ℕ) → IsRun old new made → IsWithinLimit new.machine → new.machine.ending ≡ None → made ≡ most
+    → old.machine.limit ≤ old.machine.steps + most → ⊥
 enough_made old new made most run within live all enough =
-    let limit : new.limit ≡ old.limit = ap (λ (m : Machine). m.limit) run.steps ∙ limit-after_steps made old in
-    let counted : new.steps ≡ old.steps + made = run.counted in
-    let below : new.steps < new.limit = within live in
+    let limit : new.machine.limit ≡ old.machine.limit =
+    ap (λ (v : KeyedMachine). v.machine.limit) run.steps ∙ ap (λ (m : Machine). m.limit) (machine-advanced_by made (paged old)) ∙ limit-after_steps made old.machine in
+    let counted : new.machine.steps ≡ old.machine.steps + made = run.counted in
+    let below : new.machine.steps < new.machine.limit = within live in
     omega arith
 
 -- a step gives a number to a ticket at most
@@ -78,21 +127,6 @@ funded_retired s new written funded is = subst (Ported IsFunded s.ports.fork) is
 
 pub funded_exited : (s new : State) (value : ℕ) → IsFunded s.ports.fork → action s ≡ exit value new → IsFunded new.ports.fork
 funded_exited s new value funded is = subst (Ported IsFunded s.ports.fork) is (action-ported IsFunded s (funded-kept s.ports.fork funded))
-
--- a port without tickets
-pub funded_without : (f : ForkRegisters) → f.tickets ≡ [] → f.opening ≡ f.allot → f.allot ≤ MAX_CLONES → IsFunded f
-funded_without f none same few = record {
-  accounted = record {
-    balanced = record {
-      kept = ap (λ tickets. f.allot + held tickets) none ∙ add-zero f.allot ∙ sym same;
-      fits = omega (arith, same);
-      below = subst (AllByRecursion (λ (ticket : Ticket). ticket.number < f.next_ticket)) (sym none) tt;
-      for_children = subst (AllByRecursion (λ (ticket : Ticket). 0 < ticket.children)) (sym none) tt;
-    };
-    rising = subst IsRising (sym none) tt;
-  };
-  most = let holds = ap (λ tickets. f.allot + held tickets) none in omega (arith, holds);
-}
 
 -- ---- the counts of a machine after a step
 

@@ -1,9 +1,6 @@
 -- What a machine leaves for its children wakes as they are.
-use Rattle.std.proofs.Common.{◌≡◌, ℕ, ◌+◌, ◌*◌, ◌/◌, ◌<◌, inl, inr, Bool, List, [], ◌∷◌, ◌++◌, length, drop, get_or, Option, Some, None, refl, sym, ap, ◌∙◌, subst, arith}
+use Rattle.std.proofs.Common.{◌≡◌, ℕ, ◌+◌, ◌*◌, ◌/◌, ◌≤◌, Bool, List, ◌∷◌, length, drop, Option, Some, None, refl, sym, ap, ◌∙◌, arith}
 use Rattle.std.specs.Option.{IfSome}
-use Rattle.std.proofs.lemmas.Bool.{cases_lt}
-use Rattle.std.proofs.lemmas.List.{get_or_append_left, get_or_push}
-use Rattle.std.proofs.Math.ListN.{length-append}
 use Rattle.elf_load.specs.declared.image.TheConstants.{PAGE_SIZE}
 use Rattle.fork_port.specs.declared.commands.Call.TheVariants.{Clone}
 use Rattle.fork_port.specs.declared.tickets.Ticket.{Ticket}
@@ -12,7 +9,8 @@ use Rattle.fork_port.specs.Children.{after_clone}
 use Rattle.port_rules.specs.Rules.{grant_of}
 use Rattle.page_frames.proofs.Memory.{length-paged}
 use Rattle.vm_descriptor.specs.declared.descriptor.Descriptor.{Descriptor}
-use Rattle.vm_descriptor.specs.Descriptor.{IsInRange, IsRamWord}
+use Rattle.vm_descriptor.specs.declared.descriptor.TheConstants.{MAX_CLONES}
+use Rattle.vm_descriptor.specs.Descriptor.{IsInRange, IsRamWord, numbered}
 use Rattle.image_depot.specs.Image.{FrozenImage}
 use Rattle.image_depot.specs.Key.{Key, number_of, image_of}
 use Rattle.guest_mem.specs.Ram.{Ram, IsRam, cleared}
@@ -21,9 +19,11 @@ use Rattle.forest_model.specs.State.{State}
 use Rattle.forest_model.specs.Machine.{Machine, limited}
 use Rattle.forest_model.specs.Calls.{born, child, child_by, share_of}
 use Rattle.forest_model.specs.Forest.{machines}
+use Rattle.forest_model.specs.Paged.{pages_at_birth}
 use Rattle.vm_cell.specs.Hart.{IsWordOf}
 use Rattle.vm_cell.specs.Standing.{IsAsked, made}
-use Rattle.vm_cell.specs.Woken.{AreSeeds, IsBlankMap, IsSeed, image_left, seed_of, woken}
+use Rattle.vm_cell.specs.Keyed.{KeyedMachine}
+use Rattle.vm_cell.specs.Woken.{IsBlankMap, IsSeed, image_left, seed_of, woken, woken_machine}
 
 -- ---- the hart of a clone
 
@@ -39,18 +39,6 @@ reserved (Some address) pages size e h = record {
   from_base = h.from_base;
   below_end = let below = h.below_end in omega arith;
 }
-
-pub reservable : (reservation : Option ℕ) (pages size : ℕ) → size ≡ PAGE_SIZE * pages → IfSome reservation (IsWordOf size) → IfSome reservation (IsRamWord pages)
-reservable None pages size e h = tt
-reservable (Some address) pages size e h = record {
-  aligned = h.aligned;
-  from_base = h.from_base;
-  below_end = let below = h.below_end in omega arith;
-}
-
-pub zero_first : (registers : List ℕ) → 0 < length registers → get_or registers 0 0 ≡ 0 → 0 ∷ drop 1 registers ≡ registers
-zero_first [] some zero = absurd (omega arith)
-zero_first (x ∷ rest) some zero = ap (λ y. y ∷ rest) (sym zero)
 
 pub blank_map : (ram : Ram) → IsRam ram → IsBlankMap ram.reads ram.blank
 blank_map ram is_ram = record {
@@ -68,7 +56,10 @@ granted_share : (m : Machine) (t : ℕ) → (machines.grant m t).share ≡ share
 unfolding machines
 granted_share m t = shared (ticket_found m.state.ports.fork t)
 
-module _ (m : Machine) (t k : ℕ) (asked : IsAsked m (Clone t)) where
+module _ (v : KeyedMachine) (t k : ℕ) (asked : IsAsked v.machine (Clone t)) where
+  abbrev m : Machine
+  m = v.machine
+
   abbrev parent : State
   parent = made (after_clone m.state.ports.fork t) m.state
 
@@ -83,40 +74,40 @@ module _ (m : Machine) (t k : ℕ) (asked : IsAsked m (Clone t)) where
 
   wakes : (image share : ℕ) (blank : List Bool) → 0 ∷ drop 1 m.state.registers ≡ m.state.registers → cleared blank m.state.ram ≡ m.state.ram
       → share ≡ (machines.grant m t).share
-      → woken (seed_of (made m.state.ports.fork m.state) image k share (m.steps + 1) m.limit blank) (image_left m.state) ≡ child m k
-  unfolding woken
+      → woken_machine (seed_of (made m.state.ports.fork m.state) image k share (m.steps + 1) m.limit blank) (image_left m.state) ≡ child m k
   wakes image share blank zero clear same =
       ap (λ registers. as_child registers (cleared blank m.state.ram) share) zero
       ∙ ap (λ ram. as_child m.state.registers ram share) clear
       ∙ ap (as_child m.state.registers m.state.ram) (same ∙ granted_share m t)
       ∙ sym child_made
 
+  abbrev seeded : ℕ → ℕ → Descriptor
+  seeded image share = seed_of (made m.state.ports.fork m.state) image k share (m.steps + 1) m.limit v.pages.blank
+
   pub is_seed : (key : Key) (image share : ℕ) (seed : Descriptor) → image_of key ≡ image_left m.state → image ≡ number_of key
       → share ≡ (machines.grant m t).share → 0 ∷ drop 1 m.state.registers ≡ m.state.registers
-      → seed ≡ seed_of (made m.state.ports.fork m.state) image k share (m.steps + 1) m.limit seed.blank → IsBlankMap m.state.ram seed.blank → IsInRange seed
-      → IsSeed m k key seed
+      → seed ≡ seeded image share → IsBlankMap m.state.ram v.pages.blank → IsInRange seed → IsSeed v k key seed
+  unfolding woken
   is_seed key image share seed left number same zero is blank in_range = record {
     of_image = record {
       in_range = in_range;
       number = ap (λ (d : Descriptor). d.image) is ∙ number;
       pages = ap (λ (d : Descriptor). d.pages) is ∙ ap (λ (i : FrozenImage). length i.contents / PAGE_SIZE) (sym left);
     };
-    wakes = ap (λ d. woken d (image_of key)) is
-        ∙ ap (woken (seed_of (made m.state.ports.fork m.state) image k share (m.steps + 1) m.limit seed.blank)) left
-        ∙ wakes image share seed.blank zero blank.zero same;
+    wakes = ap (λ d. woken d key) is
+        ∙ ap (λ machine. record { machine = machine; pages = pages_at_birth v.pages; key = Some key })
+        (ap (woken_machine (seeded image share)) left ∙ wakes image share v.pages.blank zero blank.zero same);
   }
 
--- ---- the seeds in order
+-- ---- the same by its number
 
-pub seeds_more : (m : Machine) (key : Key) (seeds new : List Descriptor) (seed : Descriptor) (count : ℕ) → new ≡ seeds ++ seed ∷ [] → length seeds ≡ count
-    → AreSeeds m key seeds → IsSeed m (count + 1) key seed → (length new ≡ count + 1) × AreSeeds m key new
-seeds_more m key seeds new seed count pushed size all one =
-    let more = length-append seeds (seed ∷ []) in
-    let at : AreSeeds m key (seeds ++ seed ∷ []) = (λ i default within.
-    elim (cases_lt i (length seeds)) [
-      | inl before ↦ subst (IsSeed m (i + 1) key) (sym (get_or_append_left seeds (seed ∷ []) default i before)) (all i default before)
-      | inr after ↦
-          let last : i ≡ count = omega arith in
-          subst (IsSeed m (i + 1) key) (sym (get_or_push seeds seed default i (size ∙ sym last))) (subst (λ n. IsSeed m (n + 1) key seed) (sym last) one)
-    ]) in
-    (ap length pushed ∙ more ∙ ap (λ n. n + 1) size, subst (AreSeeds m key) (sym pushed) at)
+pub in_range_numbered : (k : ℕ) (d : Descriptor) → 1 ≤ k → k ≤ MAX_CLONES → IsInRange d → IsInRange (numbered k d)
+in_range_numbered k d first last h = record {
+  ram = record { least = h.ram.least; most = h.ram.most; one_bit_a_page = h.ram.one_bit_a_page };
+  clone = record { first = first; last = last; share = h.clone.share };
+  pc = h.pc;
+  csrs = h.csrs;
+  limit = record { least = h.limit.least; most = h.limit.most; steps = h.limit.steps };
+  reservation = h.reservation;
+  place = h.place;
+}

@@ -1,12 +1,13 @@
 -- The call that a machine stands at, and the machine after it.
-use Rattle.std.proofs.Common.{◌≡◌, ℕ, ◌+◌, ◌≤◌, List, Bool, true, false, eqb, cond, Option, Some, None, IsSome, IsSomeAnd, refl, sym, ap, ◌∙◌, arith, mul-le-mul_right}
+use Rattle.std.proofs.Common.{◌≡◌, ℕ, ◌+◌, ◌<◌, ◌≤◌, inl, inr, List, [], ◌∷◌, Bool, true, false, eqb, cond, Option, Some, None, IsSome, IsSomeAnd, refl, sym, ap, ◌∙◌, subst, arith, mul-le-mul_right}
 use Rattle.std.specs.Option.{IfSome, is_some, option_map}
+use Rattle.std.specs.List.{AllByRecursion}
 use Rattle.fork_port.specs.declared.commands.Call.{Call}
 use Rattle.fork_port.specs.declared.commands.Call.TheVariants.{Clone, Join, Kill}
 use Rattle.fork_port.specs.declared.ending.Ending.{Ending}
 use Rattle.fork_port.specs.declared.ending.Ending.TheVariants.{Limit}
 use Rattle.fork_port.specs.declared.tickets.Ticket.{Ticket}
-use Rattle.fork_port.specs.Tickets.{held}
+use Rattle.fork_port.specs.Tickets.{has_number, held, ticket_of}
 use Rattle.fork_port.specs.Registers.{ForkRegisters, HasTicket, ticket_found, ticket_told}
 use Rattle.fork_port.proofs.TicketLemmas.{held_without}
 use Rattle.port_rules.specs.Rules.{grant_of}
@@ -19,25 +20,49 @@ use Rattle.forest_model.specs.Execute.{action}
 use Rattle.forest_model.specs.Machine.{Machine, Next, exception, timer_interrupt, plain, call, next_of, next, limited}
 use Rattle.forest_model.specs.Calls.{forked_by, forked, joined_by, after_join, killed_by, after_kill}
 use Rattle.forest_model.specs.Forest.{call_of, machines, port_of}
+use Rattle.forest_model.specs.Touch.{touch, touch_from}
+use Rattle.forest_model.specs.Paged.{first_absent, stalled_at}
 use Rattle.forest_model.proofs.Calls.{clone-asks, join-asks, kill-asks}
 use Rattle.vm_descriptor.specs.declared.descriptor.TheConstants.{MAX_CLONES, MAX_SHARE}
-use Rattle.vm_cell.specs.Standing.{asked_call, standing_from, standing_call, AsksFor, IsAsked, made}
-use Rattle.vm_cell.specs.Steps.{IsFunded}
+use Rattle.vm_cell.specs.Keyed.{KeyedMachine, KeyedState, hart_in, machine_of, paged}
+use Rattle.vm_cell.specs.Acts.{waits_for}
+use Rattle.vm_cell.specs.Standing.{asked_call, standing_from, standing_by, standing_call, AsksNext, IsAsked, made}
+use Rattle.vm_cell.specs.Steps.{IsFunded, Stands}
+use Rattle.vm_cell.specs.declared.vm.Stepped.TheVariants as stepped
 
 -- ---- what the hart answers, of the machine
 
-pub is_standing : (m : Machine) (c : Option Call) → m.ending ≡ None → AsksFor (action m.state) m.state c → c ≡ standing_call m
-unfolding standing_call
-is_standing m None live h = sym h ∙ ap (λ ending. standing_from ending (next m)) (sym live)
-is_standing m (Some c) live h = ap (λ a. asked_call (next_of a)) (sym h) ∙ ap (λ ending. standing_from ending (next m)) (sym live)
+pub stalls_live : (v : KeyedMachine) → v.machine.ending ≡ None → stalled_at (paged v) ≡ waits_for (hart_in v)
+unfolding touch
+stalls_live v live = ap (λ ending. first_absent v.pages.here (touch_from ending v.machine.state)) live
 
-pub ended_stands : (m : Machine) → IsSome m.ending → None ≡ standing_call m
+none_by_wait : (waited : Option ℕ) (ending : Option Ending) (step : Next) → IsSome waited → None ≡ standing_by waited ending step
+none_by_wait None ending step h = absurd (cc)
+none_by_wait (Some page) ending step h = refl
+
+none_by_step : (waited : Option ℕ) (ending : Option Ending) (step : Next) → ending ≡ None → asked_call step ≡ None → None ≡ standing_by waited ending step
+none_by_step None ending step live h = sym h ∙ ap (λ e. standing_from e step) (sym live)
+none_by_step (Some page) ending step live h = refl
+
+pub is_standing : (v : KeyedMachine) (c : Option Call) → v.machine.ending ≡ None → AsksNext (hart_in v) c → c ≡ standing_call v
 unfolding standing_call
-ended_stands m h = by m.ending h
+is_standing v None live h = elim h [
+  | inl waits ↦ none_by_wait (stalled_at (paged v)) v.machine.ending (next v.machine) (subst IsSome (sym (stalls_live v live)) waits)
+  | inr none ↦ none_by_step (stalled_at (paged v)) v.machine.ending (next v.machine) live none
+]
+is_standing v (Some c) live h =
+    ap (λ a. asked_call (next_of a)) (sym h.1)
+    ∙ ap (λ ending. standing_from ending (next v.machine)) (sym live)
+    ∙ ap (λ waited. standing_by waited v.machine.ending (next v.machine)) (sym (stalls_live v live ∙ h.0))
+
+pub ended_stands : (v : KeyedMachine) → IsSome v.machine.ending → None ≡ standing_call v
+unfolding standing_call
+ended_stands v h = by (stalled_at (paged v)) v.machine.ending h
   where
-    by : (ending : Option Ending) → IsSome ending → None ≡ standing_from ending (next m)
-    by None h = absurd (cc)
-    by (Some ending) h = refl
+    by : (waited : Option ℕ) (ending : Option Ending) → IsSome ending → None ≡ standing_by waited ending (next v.machine)
+    by waited None h = absurd (cc)
+    by None (Some ending) h = refl
+    by (Some page) (Some ending) h = refl
 
 is_asked_by : (m : Machine) (c : Call) → m.ending ≡ None → action m.state ≡ ask c (at_next_instruction m.state) → IsAsked m c
 is_asked_by m (Clone t) live is =
@@ -47,9 +72,9 @@ is_asked_by m (Join t) live is =
 is_asked_by m (Kill t) live is =
     record { live = live; is = is; makeable = (kill-asks m t (ap (λ a. call_of (next_of a)) is)).makeable }
 
-pub is_asked : (m : Machine) (c : Option Call) → m.ending ≡ None → AsksFor (action m.state) m.state c → IfSome c (IsAsked m)
-is_asked m None live h = tt
-is_asked m (Some c) live h = is_asked_by m c live h
+pub is_asked : (v : KeyedMachine) (c : Option Call) → v.machine.ending ≡ None → AsksNext (hart_in v) c → IfSome c (IsAsked v.machine)
+is_asked v None live h = tt
+is_asked v (Some c) live h = is_asked_by v.machine c live h.1
 
 -- ---- where a machine stands
 
@@ -59,9 +84,17 @@ no_call_of timer_interrupt e = refl
 no_call_of plain e = refl
 no_call_of (call c) e = absurd (cc)
 
-pub stands_at_none : (m : Machine) → m.ending ≡ None → standing_call m ≡ None → call_of (next m) ≡ None
-unfolding standing_call
-stands_at_none m live e = no_call_of (next m) (ap (λ ending. standing_from ending (next m)) (sym live) ∙ e)
+pub stands_stalled : (v : KeyedMachine) (page : ℕ) → v.machine.ending ≡ None → waits_for (hart_in v) ≡ Some page → Stands v (stepped.Stall page)
+stands_stalled v page live waits = (live, stalls_live v live ∙ waits)
+
+pub stands_called : (v : KeyedMachine) (c : Call) → v.machine.ending ≡ None → waits_for (hart_in v) ≡ None → AsksNext (hart_in v) (Some c) → Stands v (stepped.Call c)
+stands_called v c live here asks = (live, stalls_live v live ∙ here, ap next_of asks.1)
+
+pub stands_free : (v : KeyedMachine) → v.machine.ending ≡ None → waits_for (hart_in v) ≡ None → AsksNext (hart_in v) None → Stands v stepped.Went
+stands_free v live here asks = elim asks [
+  | inl waits ↦ let waits_too = subst IsSome here waits in absurd (cc)
+  | inr none ↦ record { live = live; here = stalls_live v live ∙ here; own = no_call_of (next v.machine) none }
+]
 
 -- ---- the machine after a call
 
@@ -77,13 +110,6 @@ joined_made m t endings asked = ap (λ a. joined_by a m endings) asked.is
 pub forked_made : (m : Machine) (t : ℕ) → IsAsked m (Clone t) → forked m ≡ limited (made (fork.after_clone m.state.ports.fork t) m.state) m
 unfolding forked
 forked_made m t asked = ap (λ a. forked_by a m) asked.is
-
-pub ticket_there : (f : ForkRegisters) (t : ℕ) (is_cloned : Bool) → HasTicket f t is_cloned → IsSome (ticket_found f t)
-ticket_there f t is_cloned h = by (ticket_found f t) h
-  where
-    by : (found : Option Ticket) → IsSomeAnd found (λ (ticket : Ticket). ticket.is_cloned ≡ is_cloned) → IsSome found
-    by None h = absurd h
-    by (Some ticket) h = refl
 
 -- ---- its fork port
 
@@ -131,18 +157,10 @@ told_share : (found : Option Ticket) (told : ℕ × ℕ × Bool) → option_map 
 told_share None told e = absurd (cc)
 told_share (Some ticket) told e = let same : ticket_told ticket ≡ told = cc in ap (λ (t : ℕ × ℕ × Bool). t.1) same
 
-told_none : (found : Option Ticket) → option_map ticket_told found ≡ None → (grant_of found).children ≡ 0
-told_none None e = refl
-told_none (Some ticket) e = absurd (cc)
-
 module _ (m : Machine) (t : ℕ) where
   pub granted_told : (told : ℕ × ℕ × Bool) → option_map ticket_told (ticket_found (port_of m) t) ≡ Some told → (machines.grant m t).children ≡ told.0
   unfolding machines
   granted_told told e = told_grant (ticket_found (port_of m) t) told e
-
-  pub granted_none : option_map ticket_told (ticket_found (port_of m) t) ≡ None → (machines.grant m t).children ≡ 0
-  unfolding machines
-  granted_none e = told_none (ticket_found (port_of m) t) e
 
   pub granted_fits : IsFunded (port_of m) → (machines.grant m t).children ≤ MAX_CLONES
   unfolding machines
@@ -172,31 +190,51 @@ pub lives : (ending : Option Ending) → is_some ending ≡ false → ending ≡
 lives None h = refl
 lives (Some ending) h = absurd (cc)
 
-pub after_call : (m : Machine) (f : ForkRegisters) (state : State) (steps : ℕ) (ending : Option Ending) → m.ending ≡ None → state ≡ made f m.state
-    → steps ≡ m.steps + 1 → ending ≡ cond (eqb (m.steps + 1) m.limit) (Some Limit) m.ending
-    → record { state = state; steps = steps; limit = m.limit; ending = ending } ≡ limited (made f m.state) m
-after_call m f state steps ending live is counted ends =
-    ap (λ (s : State). record { state = s; steps = steps; limit = m.limit; ending = ending }) is
-    ∙ ap (λ n. record { state = made f m.state; steps = n; limit = m.limit; ending = ending }) counted
-    ∙ ap (λ e. record { state = made f m.state; steps = m.steps + 1; limit = m.limit; ending = e }) (ends ∙ ap (cond (eqb (m.steps + 1) m.limit) (Some Limit)) live)
+-- the machine after a step that is counted, and leaves its hart so
+pub after_count : (m : Machine) (before hart : KeyedState) (s : State) (steps : ℕ) (ending : Option Ending) → m.ending ≡ None
+    → hart ≡ record before { state = s } → steps ≡ m.steps + 1 → ending ≡ cond (eqb (m.steps + 1) m.limit) (Some Limit) m.ending
+    → machine_of hart steps m.limit ending ≡ record { machine = limited s m; pages = before.pages; key = before.key }
+after_count m before hart s steps ending live is counted ends =
+    let after : KeyedState = record before { state = s } in
+    ap (λ h. machine_of h steps m.limit ending) is
+    ∙ ap (λ n. machine_of after n m.limit ending) counted
+    ∙ ap (machine_of after (m.steps + 1) m.limit) (ends ∙ ap (cond (eqb (m.steps + 1) m.limit) (Some Limit)) live)
 
 -- ---- the call of a machine
 
-pub asked_stands : (m : Machine) (c : Call) → IsAsked m c → Some c ≡ standing_call m
-asked_stands m c asked = is_standing m (Some c) asked.live asked.is
+-- the call that stands is the one that is asked for
+stands_as : (waited : Option ℕ) (ending : Option Ending) (step : Next) (asked stands : Call) → step ≡ call asked
+    → standing_by waited ending step ≡ Some stands → asked ≡ stands
+stands_as (Some page) ending step asked stands is h = absurd (cc)
+stands_as None (Some end) step asked stands is h = absurd (cc)
+stands_as None None step asked stands is h = let both : Some asked ≡ Some stands = sym (ap asked_call is) ∙ h in cc
 
-pub same_ticket : (m : Machine) (t u : ℕ) → IsAsked m (Clone t) → standing_call m ≡ Some (Clone u) → t ≡ u
-same_ticket m t u asked is = let both = asked_stands m (Clone t) asked ∙ is in cc
+pub same_ticket : (v : KeyedMachine) (t u : ℕ) → IsAsked v.machine (Clone t) → standing_call v ≡ Some (Clone u) → t ≡ u
+unfolding standing_call
+same_ticket v t u asked is =
+    let both = stands_as (stalled_at (paged v)) v.machine.ending (next v.machine) (Clone t) (Clone u) (ap next_of asked.is) is in cc
+
+-- a ticket is for at least one child
+for_some_by : (found : Bool) (x ticket : Ticket) (rest : Option Ticket) → 0 < x.children → (rest ≡ Some ticket → 0 < ticket.children)
+    → cond found (Some x) rest ≡ Some ticket → 0 < ticket.children
+for_some_by true x ticket rest some later is = let same : x ≡ ticket = cc in subst (λ (t : Ticket). 0 < t.children) same some
+for_some_by false x ticket rest some later is = later is
+
+for_some : (tickets : List Ticket) (number : ℕ) (ticket : Ticket) → AllByRecursion (λ (t : Ticket). 0 < t.children) tickets
+    → ticket_of tickets number ≡ Some ticket → 0 < ticket.children
+for_some [] number ticket all is = absurd (cc)
+for_some (x ∷ xs) number ticket all is = for_some_by (has_number number x) x ticket (ticket_of xs number) all.0 (for_some xs number ticket all.1) is
 
 module _ (m : Machine) (t : ℕ) where
   -- each child of a ticket has less than the ticket's price
-  pub share_fits : IsFunded (port_of m) → 1 ≤ (machines.grant m t).children → (machines.grant m t).share ≤ MAX_SHARE
+  pub share_fits : IsFunded (port_of m) → (machines.grant m t).share ≤ MAX_SHARE
   unfolding machines
   share_fits funded = by (ticket_found (port_of m) t) refl
     where
-      by : (found : Option Ticket) → ticket_found (port_of m) t ≡ found → 1 ≤ (grant_of found).children → (grant_of found).share ≤ MAX_SHARE
-      by None e some = omega arith
-      by (Some ticket) e some =
+      by : (found : Option Ticket) → ticket_found (port_of m) t ≡ found → (grant_of found).share ≤ MAX_SHARE
+      by None e = omega arith
+      by (Some ticket) e =
+          let some : 1 ≤ ticket.children = for_some (port_of m).tickets t ticket funded.accounted.balanced.for_children e in
           let held_with = held_without (port_of m).tickets t ticket funded.accounted.rising e in
           let most : (port_of m).allot + held (port_of m).tickets ≤ MAX_CLONES = funded.most in
           let price = mul-le-mul_right (1 + ticket.share) some in

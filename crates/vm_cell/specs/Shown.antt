@@ -3,7 +3,7 @@ use Rattle.std.specs.Prelude.{ℕ, ◌-◌, ◌&&◌, if◌then◌else◌, List,
 use Rattle.flat_memory.specs.Flat.{word_at}
 use Rattle.elf_load.specs.declared.image.TheConstants.{RAM_BASE}
 use Rattle.forest_model.specs.State.{State, is_in_ram}
-use Rattle.forest_model.specs.Memory.{is_aligned}
+use Rattle.forest_model.specs.Access.{is_aligned}
 
 -- the word at an address, which is none where that is no multiple of 4 in RAM
 abbrev pub peeked : State → ℕ → Option ℕ

@@ -1,5 +1,5 @@
 -- The call that a machine stands at, and what is wanted of those that make it.
-use Rattle.std.specs.Prelude.{◌≡◌, true, List, length, Option, Some, None}
+use Rattle.std.specs.Prelude.{◌≡◌, ◌⊎◌, ℕ, true, List, length, Option, Some, None, IsSome}
 use Rattle.fork_port.specs.declared.commands.Call.{Call}
 use Rattle.fork_port.specs.declared.commands.Call.TheVariants.{Clone, Join, Kill}
 use Rattle.fork_port.specs.declared.commands.Asked.{Asked}
@@ -14,6 +14,9 @@ use Rattle.forest_model.specs.State.{State, at_next_instruction}
 use Rattle.forest_model.specs.Action.{Action, ask}
 use Rattle.forest_model.specs.Machine.{Machine, Next, exception, timer_interrupt, plain, call, next_of, next, count}
 use Rattle.forest_model.specs.Forest.{machines}
+use Rattle.forest_model.specs.Paged.{stalled_at}
+use Rattle.vm_cell.specs.Keyed.{KeyedMachine, KeyedState, paged}
+use Rattle.vm_cell.specs.Acts.{waits_for}
 
 -- the call that a step is, if it is one
 abbrev pub asked_call : Next → Option Call
@@ -26,9 +29,14 @@ abbrev pub standing_from : Option Ending → Next → Option Call
 standing_from None step = asked_call step
 standing_from (Some ending) step = None
 
--- the call that the next step of a machine that lives is, if it is one
-unfoldable pub standing_call : Machine → Option Call
-standing_call m = standing_from m.ending (next m)
+-- none where the step waits for a page
+abbrev pub standing_by : Option ℕ → Option Ending → Next → Option Call
+standing_by None ending step = standing_from ending step
+standing_by (Some page) ending step = None
+
+-- the call that the next step of a machine that lives and waits for no page is, if it is one
+unfoldable pub standing_call : KeyedMachine → Option Call
+standing_call v = standing_by (stalled_at (paged v)) v.machine.ending (next v.machine)
 
 -- the call among what commands ask for
 abbrev pub call_asked : Asked → Option Call
@@ -43,6 +51,11 @@ call_asked (asked.Zero first count) = None
 abbrev pub AsksFor : Action → State → Option Call → Type 0
 AsksFor action s None = asked_call (next_of action) ≡ None
 AsksFor action s (Some c) = action ≡ ask c (at_next_instruction s)
+
+-- the coming step of a hart is this call, and it waits for no page; or it is no call, or waits for one
+abbrev pub AsksNext : KeyedState → Option Call → Type 0
+AsksNext h None = IsSome (waits_for h) ⊎ (asked_call (next_of (action h.state)) ≡ None)
+AsksNext h (Some c) = (waits_for h ≡ None) × (action h.state ≡ ask c (at_next_instruction h.state))
 
 -- a machine lives, its next step is this call, and its ticket is there
 pub record IsAsked (m : Machine) (c : Call) : Type 0 where

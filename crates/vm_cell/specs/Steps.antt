@@ -1,37 +1,68 @@
 -- How the answers of a machine's calls tell where it stands.
 use Rattle.std.specs.Prelude.{◌≡◌, ℕ, ◌+◌, ◌<◌, ◌≤◌, Option, Some, None}
-use Rattle.fork_port.specs.declared.commands.Call.{Call as Asked}
 use Rattle.fork_port.specs.declared.ending.Ending.{Ending}
 use Rattle.fork_port.specs.Registers.{ForkRegisters, holding}
 use Rattle.fork_port.specs.Children.{IsAccounted}
 use Rattle.vm_descriptor.specs.declared.descriptor.TheConstants.{MAX_CLONES, MAX_LIMIT}
-use Rattle.forest_model.specs.Machine.{Machine, call, next, advance}
+use Rattle.forest_model.specs.Machine.{call, next}
 use Rattle.forest_model.specs.Forest.{call_of}
+use Rattle.forest_model.specs.Paged.{advanced, advanced_by, stalled_at}
+use Rattle.vm_cell.specs.Keyed.{KeyedMachine, keyed, paged}
 use Rattle.vm_cell.specs.declared.vm.Stepped.{Stepped}
-use Rattle.vm_cell.specs.declared.vm.Stepped.TheVariants.{Went, Call, Ended}
+use Rattle.vm_cell.specs.declared.vm.Stepped.TheVariants.{Went, Stall, Call, Ended}
 
--- a machine that lives makes one step, or is to make a call
-abbrev pub GoesOn : Machine → Machine → Option Asked → Type 0
-GoesOn old new None = (new ≡ advance old) × (new.steps ≡ old.steps + 1) × (call_of (next old) ≡ None)
-GoesOn old new (Some c) = (new ≡ old) × (next old ≡ call c)
+-- the machine after a step that does not wait, and after so many
+abbrev pub moved : KeyedMachine → KeyedMachine
+moved v = keyed v.key (advanced (paged v))
+
+abbrev pub moved_by : ℕ → KeyedMachine → KeyedMachine
+moved_by n v = keyed v.key (advanced_by n (paged v))
+
+-- a machine lives, the pages that its next step touches are here, and the step is its own
+pub record IsFree (v : KeyedMachine) : Type 0 where
+  pub live : v.machine.ending ≡ None
+  pub here : stalled_at (paged v) ≡ None
+  pub own : call_of (next v.machine) ≡ None
+
+-- so are the steps that it makes, so many
+abbrev pub IsFreeFor : ℕ → KeyedMachine → Type 0
+IsFreeFor n v = (k : ℕ) → k < n → IsFree (moved_by k v)
+
+-- `made` steps lead from old to new, and each was one of a machine that was free to make it
+pub record IsRun (old new : KeyedMachine) (made : ℕ) : Type 0 where
+  pub steps : new ≡ moved_by made old
+  pub counted : new.machine.steps ≡ old.machine.steps + made
+  pub free : IsFreeFor made old
+
+-- what keeps a machine that lives from its next step, if anything does
+abbrev pub GoesOn : KeyedMachine → KeyedMachine → Option Stepped → Type 0
+GoesOn old new None = IsFree old × (new ≡ moved old) × (new.machine.steps ≡ old.machine.steps + 1)
+GoesOn old new (Some Went) = ⊥
+GoesOn old new (Some (Stall page)) = (stalled_at (paged old) ≡ Some page) × (new ≡ old)
+GoesOn old new (Some (Call c)) = (stalled_at (paged old) ≡ None) × (next old.machine ≡ call c) × (new ≡ old)
+GoesOn old new (Some (Ended ending)) = ⊥
 
 -- the answer of a step
-abbrev pub Steps : Machine → Machine → Stepped → Type 0
-Steps old new Went = (old.ending ≡ None) × (call_of (next old) ≡ None) × (new ≡ advance old) × (new.ending ≡ None)
-Steps old new (Call c) = (old.ending ≡ None) × (next old ≡ call c) × (new ≡ old)
-Steps old new (Ended ending) = (new ≡ advance old) × (new.ending ≡ Some ending)
+abbrev pub Steps : KeyedMachine → KeyedMachine → Stepped → Type 0
+Steps old new Went = IsFree old × (new ≡ moved old) × (new.machine.ending ≡ None)
+Steps old new (Stall page) = (old.machine.ending ≡ None) × (stalled_at (paged old) ≡ Some page) × (new ≡ old)
+Steps old new (Call c) =
+    (old.machine.ending ≡ None) × (stalled_at (paged old) ≡ None) × (next old.machine ≡ call c) × (new ≡ old)
+Steps old new (Ended ending) = (stalled_at (paged old) ≡ None) × (new ≡ moved old) × (new.machine.ending ≡ Some ending)
 
 -- the answer after a step: the machine lives, or has ended
-abbrev pub IsAfterStep : Machine → Stepped → Type 0
-IsAfterStep m Went = m.ending ≡ None
-IsAfterStep m (Call c) = ⊥
-IsAfterStep m (Ended ending) = m.ending ≡ Some ending
+abbrev pub IsAfterStep : KeyedMachine → Stepped → Type 0
+IsAfterStep v Went = v.machine.ending ≡ None
+IsAfterStep v (Stall page) = ⊥
+IsAfterStep v (Call c) = ⊥
+IsAfterStep v (Ended ending) = v.machine.ending ≡ Some ending
 
--- the answer of a run: the machine that it leaves lives and is to make no call, is to make one, or has ended
-abbrev pub Stands : Machine → Stepped → Type 0
-Stands m Went = (m.ending ≡ None) × (call_of (next m) ≡ None)
-Stands m (Call c) = (m.ending ≡ None) × (next m ≡ call c)
-Stands m (Ended ending) = m.ending ≡ Some ending
+-- the answer of a run: where the machine stands that it leaves, with a look at its next step
+abbrev pub Stands : KeyedMachine → Stepped → Type 0
+Stands v Went = IsFree v
+Stands v (Stall page) = (v.machine.ending ≡ None) × (stalled_at (paged v) ≡ Some page)
+Stands v (Call c) = (v.machine.ending ≡ None) × (stalled_at (paged v) ≡ None) × (next v.machine ≡ call c)
+Stands v (Ended ending) = v.machine.ending ≡ Some ending
 
 -- what holds of the fork port of every machine: its tickets are paid for, and for at most so many children
 pub record IsFunded (fork : ForkRegisters) : Type 0 where

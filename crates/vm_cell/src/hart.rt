@@ -1,43 +1,56 @@
-ghost use Rattle.std.specs.Prelude.{◌≡◌, ◌<◌, ◌-◌, ◌≤◌, ◌%◌, ◌↔◌, ◌∷◌, length, drop, IsNone, IfOk, IfSome, OnOk, OnErr, Ok, None, true, false};
+ghost use Rattle.std.specs.Prelude.{◌≡◌, ◌<◌, ◌≤◌, ◌*◌, ◌/◌, ◌%◌, ◌∷◌, length, drop, slice_index_or, IfOk, IsSomeAnd, OnOk, OnErr, Some, None, false};
+ghost use Rattle.std.specs.Option.{option_copied};
 ghost use Rattle.byteorder.specs.Endian.{little_bytes};
 ghost use Rattle.flat_memory.specs.Flat.{put_bytes, word_at};
+ghost use Rattle.elf_load.specs.declared.image.TheConstants.{PAGE_SIZE};
+ghost use Rattle.image_depot.specs.Key.{IsKeyOf};
 ghost use Rattle.console_port.specs.declared.port.TheConstants.{MAX_INPUT};
+ghost use Rattle.rv_decode.specs.Table.{decoded};
 ghost use Rattle.rv_exec.specs.Memory.{IsWidth};
 ghost use Rattle.rv_traps.specs.Registers.{at_reset};
 ghost use Rattle.forest_model.specs.Ports.{ports_at_start};
-ghost use Rattle.forest_model.specs.State.{is_in_ram, register, with_register};
-ghost use Rattle.forest_model.specs.Action.{retire_next, with_rd};
-ghost use Rattle.forest_model.specs.Execute.{action, execute};
+ghost use Rattle.forest_model.specs.State.{at_next_instruction, register, with_register};
+ghost use Rattle.forest_model.specs.Action.{with_rd};
 ghost use Rattle.forest_model.specs.Machine.{registers_at_start, trapped, count};
-ghost use Rattle.vm_cell.specs.Acts.{Acts, Grows, InstructionGrows};
+ghost use Rattle.forest_model.specs.Paged.{pages_at_boot};
+ghost use Rattle.vm_cell.specs.Acts.{ActsBy, ActsNext, Grows, InstructionGrows, IsPut};
+ghost use Rattle.vm_cell.specs.Keyed.{Arrives, HasImage, IsHere, IsOfDepot};
 ghost use Rattle.vm_cell.specs.Shown.{peeked, shown_registers};
 
 use cow_disk::Disk;
-use elf_load::{Loaded, RAM_BASE};
+use elf_load::Loaded;
 use forest_model::Written;
 use forest_model::cause::{
     BREAKPOINT, ENVIRONMENT_CALL, ILLEGAL_INSTRUCTION, INSTRUCTION_ACCESS_FAULT,
 };
 use fork_port::Call;
 use fork_port::refusals::TICKETS_END;
-use guest_mem::{GuestMem, StoreError};
+use guest_mem::{Arrived, GuestMem, StoreError};
+use image_depot::{Depot, ImageKey, Parcel};
 use rv_decode::{Group, Instr, decode};
 use rv_traps::{Csrs, Wrote};
 use std::alloc::{AllocError, Global};
 use std::marker::Model;
 use vm_bus::Ports;
 
+mod access;
 mod atomic;
 mod call;
 mod compute;
 mod control;
+mod decoder;
 mod memory;
+mod plain;
 mod seed;
 mod system;
+
+use access::Reach;
 
 /// What a step came to.
 #[derive(Clone, Copy)]
 pub enum Acted {
+    /// The step waits for this page, which is absent. Nothing has changed.
+    Stalled(u32),
     /// An exception, with its cause and value. Nothing else has changed.
     Trapped { cause: u32, value: u32 },
     /// The timer interrupt comes before the instruction. Nothing has changed.
@@ -62,17 +75,14 @@ pub struct Hart {
 }
 
 impl Model for Hart {
-    ghost use Rattle.std.specs.Prelude.{◌≡◌, None};
-    ghost use Rattle.guest_mem.specs.Ram.{HasEveryPage};
-    ghost use Rattle.forest_model.specs.State.{State};
-    ghost use Rattle.vm_cell.specs.Hart.{IsHart, ports_of};
+    ghost use Rattle.vm_cell.specs.Hart.{IsHart, hart_of};
+    ghost use Rattle.vm_cell.specs.Keyed.{KeyedState};
 
-    ghost Value = { State };
+    ghost Value = { KeyedState };
 
-    ghost view = { λ h. record { registers = h.registers; pc = h.pc; csrs = h.csrs; reservation = h.reservation; ram = h.memory.reads; ports = ports_of h.ports } };
+    ghost view = { λ h. hart_of h.registers h.pc h.csrs h.reservation h.memory h.ports };
 
-    // Every page is here, and needs no image.
-    ghost invariant = { λ h. IsHart (record { registers = h.registers; pc = h.pc; csrs = h.csrs; reservation = h.reservation; ram = h.memory.reads; ports = ports_of h.ports }) × (h.memory.key ≡ None) × HasEveryPage h.memory };
+    ghost invariant = { λ h. IsHart (hart_of h.registers h.pc h.csrs h.reservation h.memory h.ports).state };
 }
 
 impl Hart {
@@ -88,12 +98,16 @@ impl Hart {
     ) -> Result<Hart, AllocError>
         requires { length input.now ≤ MAX_INPUT }
         ensures { IfOk result (λ hart. hart ≡ record {
-          registers = registers_at_start;
-          pc = image.now.entry;
-          csrs = at_reset;
-          reservation = None;
-          ram = image.now.ram;
-          ports = ports_at_start disk input.now allot;
+          state = record {
+            registers = registers_at_start;
+            pc = image.now.entry;
+            csrs = at_reset;
+            reservation = None;
+            ram = image.now.ram;
+            ports = ports_at_start disk input.now allot;
+          };
+          pages = pages_at_boot image.now;
+          key = None;
         }) }
     {
         Ok(Hart {
@@ -108,7 +122,7 @@ impl Hart {
 
     /// The whole input, read or not.
     pub fn input(&self) -> &[u8]
-        ensures value { result.now ≡ self.now.ports.console.input }
+        ensures value { result.now ≡ self.now.state.ports.console.input }
         ensures fits { length result.now ≤ MAX_INPUT }
     {
         self.ports.input()
@@ -116,21 +130,21 @@ impl Hart {
 
     /// The disk.
     pub fn disk(&self) -> &Disk
-        ensures { result.now ≡ self.now.ports.block.disk }
+        ensures { result.now ≡ self.now.state.ports.block.disk }
     {
         self.ports.disk()
     }
 
     /// The console's output.
     pub fn output(&self) -> &[u8]
-        ensures { result.now ≡ self.now.ports.console.output }
+        ensures { result.now ≡ self.now.state.ports.console.output }
     {
         self.ports.output()
     }
 
     /// The console's output, of a hart that is needed no more.
     pub fn into_output(self) -> Vec<u8>
-        ensures { result.items ≡ self.ports.console.output }
+        ensures { result.items ≡ self.state.ports.console.output }
     {
         let Hart {
             registers: _,
@@ -143,39 +157,96 @@ impl Hart {
         ports.into_output()
     }
 
-    /// The word at an address, or `None` where that is no multiple of 4 in RAM.
-    pub fn peek(&self, address: u32) -> Option<u32>
-        ensures { result ≡ peeked self.now address }
+    /// The word at an address as it would read, or `None` where that is no multiple of 4 in RAM.
+    pub fn peek(&self, depot: &Depot, address: u32) -> Option<u32>
+        requires { IsOfDepot depot.now self.now.key }
+        ensures { result ≡ peeked self.now.state address }
     {
         if address % 4 != 0 {
             return None;
         }
         let offset = self.ram_offset(address)?;
-        Some(self.word(offset))
+        Some(self.memory.peek(depot, offset))
     }
 
     /// The pc, and then x1 to x31.
     pub fn shown_registers(&self) -> [u32; 32]
-        ensures { result ≡ shown_registers self.now }
+        ensures { result ≡ shown_registers self.now.state }
     {
         with_pc(&self.registers, self.pc)
     }
 
-    /// Makes the coming step.
+    /// The key to the image that has the absent pages, if there is one.
+    pub fn key(&self) -> Option<&ImageKey>
+        ensures value { option_copied result ≡ self.now.key }
+        ensures absent { HasImage self.now.key self.now.pages }
+    {
+        // The call tells that the image has the absent pages.
+        let _ = self.memory.pages();
+        self.memory.key()
+    }
+
+    /// The pages of RAM.
+    pub fn pages(&self) -> u32
+        ensures value { result ≡ length self.now.pages.here }
+        ensures whole { length self.now.state.ram ≡ PAGE_SIZE * length self.now.pages.here }
+    {
+        self.memory.pages()
+    }
+
+    /// Whether a page is here.
+    pub fn is_here(&self, page: u32) -> bool
+        requires { page < length self.now.pages.here }
+        ensures { result ≡ slice_index_or self.now.pages.here page false }
+    {
+        self.memory.is_here(page)
+    }
+
+    /// Takes a page that was sent, where it is absent and one of the image of the key.
+    pub fn arrive(
+        &mut self,
+        alloc: Global,
+        depot: &Depot,
+        parcel: &Parcel,
+    ) -> Result<Arrived, AllocError>
+        requires hart { IsOfDepot depot.now self.old.key }
+        requires parcel { IsKeyOf depot.now parcel.now.key }
+        ensures arrives { IfOk result (Arrives self.old.key self.old.pages parcel.now self.new.pages) }
+        ensures rest { (self.new.state ≡ self.old.state) × (self.new.key ≡ self.old.key) }
+        ensures err { OnErr result (self.new ≡ self.old) }
+    {
+        self.memory.arrive(alloc, depot, parcel)
+    }
+
+    /// Makes the coming step, unless it waits for a page.
     #[inline]
     #[tactic(auto, unfolding(forest_model::specs::Execute::action, crate::specs::Acts::Grows))]
     pub fn act(&mut self) -> Result<Acted, AllocError>
-        requires { self.old.ports.fork.next_ticket < TICKETS_END }
-        ensures acts { Acts self.old self.new (action self.old) result }
-        ensures memory { OnErr result (Grows self.old) }
+        requires { self.old.state.ports.fork.next_ticket < TICKETS_END }
+        ensures acts { ActsNext self.old self.new result }
+        ensures memory { OnErr result (Grows self.old.state) }
     {
-        if self.csrs.interrupt(self.ports.is_timer_due()) {
+        if self.takes_interrupt() {
             return Ok(Acted::Interrupted);
         }
-        let Some(offset) = self.ram_offset(self.pc) else {
-            return Ok(trapped(INSTRUCTION_ACCESS_FAULT, self.pc));
-        };
-        let word = self.word(offset);
+        match self.fetch() {
+            Reach::Faulted(cause) => Ok(trapped(cause, self.pc)),
+            Reach::Absent(page) => Ok(Acted::Stalled(page)),
+            Reach::Ram(offset) => {
+                let word = self.fetched(offset);
+                self.execute_word(word)
+            }
+            Reach::Port => Ok(trapped(INSTRUCTION_ACCESS_FAULT, self.pc)),
+        }
+    }
+
+    /// Executes the instruction at the pc, which is this word.
+    #[inline(always)]
+    fn execute_word(&mut self, word: u32) -> Result<Acted, AllocError>
+        requires { self.old.state.ports.fork.next_ticket < TICKETS_END }
+        ensures acts { ActsBy self.old self.new (decoded word) word result }
+        ensures memory { OnErr result (IsSomeAnd (decoded word) (λ instr. InstructionGrows instr self.old.state)) }
+    {
         match decode(word) {
             Some(instr) => self.execute(instr, word),
             None => Ok(trapped(ILLEGAL_INSTRUCTION, word)),
@@ -184,7 +255,7 @@ impl Hart {
 
     /// Takes a trap.
     pub fn take_trap(&mut self, cause: u32, value: u32)
-        ensures { self.new ≡ trapped cause value self.old }
+        ensures { self.new ≡ record self.old { state = trapped cause value self.old.state } }
     {
         self.pc = self.csrs.enter(cause, value, self.pc);
         self.reservation = None;
@@ -193,7 +264,7 @@ impl Hart {
     /// Counts a step, which retired an instruction or did not, and wrote this of the counters.
     #[inline]
     pub fn count(&mut self, retired: bool, written: Written)
-        ensures { self.new ≡ count retired written self.old }
+        ensures { self.new ≡ record self.old { state = count retired written self.old.state } }
     {
         let (half, is_time) = match written {
             Written::Nothing => (Wrote::Nothing, false),
@@ -205,12 +276,12 @@ impl Hart {
     }
 
     /// Executes an instruction at the pc, which `word` encodes.
-    #[inline]
+    #[inline(always)]
     #[tactic(auto, unfolding(forest_model::specs::Execute::execute))]
     fn execute(&mut self, instr: Instr, word: u32) -> Result<Acted, AllocError>
-        requires { self.old.ports.fork.next_ticket < TICKETS_END }
-        ensures acts { Acts self.old self.new (execute instr word self.old) result }
-        ensures memory { OnErr result (InstructionGrows instr self.old) }
+        requires { self.old.state.ports.fork.next_ticket < TICKETS_END }
+        ensures acts { ActsBy self.old self.new (Some instr) word result }
+        ensures memory { OnErr result (InstructionGrows instr self.old.state) }
     {
         match instr.kind().group() {
             Group::LoadUpper => Ok(self.load_upper(instr)),
@@ -236,7 +307,8 @@ impl Hart {
     /// Retires, with a value for rd.
     #[inline]
     fn retire_with(&mut self, instr: Instr, value: u32) -> Acted
-        ensures { Acts self.old self.new (retire_next (with_rd instr value self.old)) (Ok result) }
+        ensures answer { result ≡ Acted.Retired Written.Nothing }
+        ensures new { self.new ≡ record self.old { state = at_next_instruction (with_rd instr value self.old.state) } }
     {
         self.set_register(instr.rd(), value);
         self.retire()
@@ -245,33 +317,20 @@ impl Hart {
     /// Retires: the next instruction follows.
     #[inline]
     fn retire(&mut self) -> Acted
-        ensures { Acts self.old self.new (retire_next self.old) (Ok result) }
+        ensures answer { result ≡ Acted.Retired Written.Nothing }
+        ensures new { self.new ≡ record self.old { state = at_next_instruction self.old.state } }
     {
         self.pc = self.pc.wrapping_add(4);
         Acted::Retired(Written::Nothing)
     }
 
-    /// The offset of an address in RAM, or `None` where it is not in RAM.
-    #[inline]
-    fn ram_offset(&self, address: u32) -> Option<u32>
-        ensures outside { IsNone result ↔ (is_in_ram self.now.ram address ≡ false) }
-        ensures inside { IfSome result (λ offset. (is_in_ram self.now.ram address ≡ true) × (RAM_BASE ≤ address) × (offset ≡ address - RAM_BASE) × (offset < length self.now.ram)) }
-    {
-        // Below RAM it wraps to an offset behind RAM.
-        let offset = address.wrapping_sub(RAM_BASE);
-        if offset < self.memory.size() {
-            Some(offset)
-        } else {
-            None
-        }
-    }
-
-    /// The word at an offset in RAM, which is a multiple of 4.
+    /// The word at an offset in RAM, which is a multiple of 4. Its page is here.
     #[inline(always)]
     fn word(&self, offset: u32) -> u32
         requires aligned { offset % 4 ≡ 0 }
-        requires inside { offset < length self.now.ram }
-        ensures { result ≡ word_at self.now.ram offset }
+        requires inside { offset < length self.now.state.ram }
+        requires here { IsHere self.now.pages (offset / PAGE_SIZE) }
+        ensures { result ≡ word_at self.now.state.ram offset }
     {
         match self.memory.load(offset, 4) {
             Ok(word) => word,
@@ -279,13 +338,16 @@ impl Hart {
         }
     }
 
-    /// Stores the low `width` bytes of a word from an offset in RAM on, which is a multiple of the width.
+    /// Stores the low `width` bytes of a word from an offset in RAM on, which is a multiple of the width. The page is
+    /// here.
     #[inline(always)]
     fn store_at(&mut self, offset: u32, width: u32, word: u32) -> Result<(), AllocError>
         requires width { IsWidth width }
         requires aligned { offset % width ≡ 0 }
-        requires inside { offset < length self.old.ram }
-        ensures ok { OnOk result (self.new ≡ record self.old { ram = put_bytes self.old.ram offset (little_bytes width word) }) }
+        requires inside { offset < length self.old.state.ram }
+        requires here { IsHere self.old.pages (offset / PAGE_SIZE) }
+        ensures ok { OnOk result (IsPut self.old self.new (offset / PAGE_SIZE)
+            (record self.old.state { ram = put_bytes self.old.state.ram offset (little_bytes width word) })) }
         ensures err { OnErr result (self.new ≡ self.old) }
     {
         match self.memory.store(offset, width, word) {
@@ -298,7 +360,7 @@ impl Hart {
     #[inline]
     fn register(&self, number: u32) -> u32
         requires { number < 32 }
-        ensures { result ≡ register self.now.registers number }
+        ensures { result ≡ register self.now.state.registers number }
     {
         self.registers[number as usize]
     }
@@ -306,7 +368,7 @@ impl Hart {
     #[inline]
     fn set_register(&mut self, number: u32, value: u32)
         requires { number < 32 }
-        ensures { self.new ≡ record self.old { registers = with_register self.old.registers number value } }
+        ensures { self.new ≡ record self.old { state = record self.old.state { registers = with_register self.old.state.registers number value } } }
     {
         if number != 0 {
             self.registers[number as usize] = value;

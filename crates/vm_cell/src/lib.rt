@@ -4,4 +4,5 @@
 mod hart;
 mod vm;
 
+pub use guest_mem::Arrived;
 pub use vm::{Brood, Ran, Stepped, Vm};

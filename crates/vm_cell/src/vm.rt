@@ -1,16 +1,23 @@
-ghost use Rattle.std.specs.Prelude.{◌≡◌, ◌≢◌, ◌+◌, ◌-◌, ◌≤◌, ◌<◌, ◌==◌, if◌then◌else◌, true, length, None, Some, IfOk, OnErr};
+ghost use Rattle.std.specs.Prelude.{◌≡◌, ◌≢◌, ◌+◌, ◌-◌, ◌*◌, ◌≤◌, ◌<◌, ◌==◌, if◌then◌else◌, true, false, length, slice_index_or, None, Some, IfOk, OnErr};
+ghost use Rattle.std.specs.Option.{option_copied};
 ghost use Rattle.console_port.specs.declared.port.TheConstants.{MAX_INPUT};
+ghost use Rattle.elf_load.specs.declared.image.TheConstants.{PAGE_SIZE};
+ghost use Rattle.image_depot.specs.Key.{IsKeyOf};
 ghost use Rattle.forest_model.specs.Forest.{machines};
-ghost use Rattle.forest_model.specs.Machine.{IsWithinLimit, after_steps, boot};
+ghost use Rattle.forest_model.specs.Machine.{IsWithinLimit, boot};
+ghost use Rattle.forest_model.specs.Paged.{pages_at_boot, stalled_at};
 ghost use Rattle.vm_cell.specs.Acts.{Grows};
+ghost use Rattle.vm_cell.specs.Keyed.{Arrives, HasImage, IsOfDepot, paged};
 ghost use Rattle.vm_cell.specs.Shown.{peeked, shown_registers};
-ghost use Rattle.vm_cell.specs.Steps.{GoesOn, IsAfterStep, Stands, Steps};
+ghost use Rattle.vm_cell.specs.Steps.{GoesOn, IsAfterStep, IsFreeFor, IsRun, Stands, Steps, moved_by};
 
 use crate::hart::{Acted, Hart};
 use cow_disk::Disk;
 use elf_load::Loaded;
 use forest_model::{Ending, Options, Written};
 use fork_port::Call;
+use guest_mem::Arrived;
+use image_depot::{Depot, ImageKey, Parcel};
 use rv_traps::TIMER_INTERRUPT;
 use std::alloc::{AllocError, Global};
 use std::marker::Model;
@@ -19,11 +26,16 @@ mod fork;
 
 pub use fork::Brood;
 
+/// After a try that made no plain step so many steps go without one: where one traps, the next often traps too.
+const PAUSE: u32 = 8;
+
 /// Where a machine stands after a step.
 #[derive(Clone, Copy, Debug, PartialEq, Eq)]
 pub enum Stepped {
     /// The step was made, and the machine lives.
     Went,
+    /// The next step waits for this page: the first that it touches and that is absent. It was not made.
+    Stall(u32),
     /// The next step is a call, which the machine is to make. It was not made.
     Call(Call),
     /// The step ended the machine, or it had ended before.
@@ -37,7 +49,7 @@ pub struct Ran {
     pub why: Stepped,
 }
 
-/// One machine.
+/// One machine, of which some pages may be absent.
 #[derive(Drop)]
 pub struct Vm {
     hart: Hart,
@@ -47,18 +59,18 @@ pub struct Vm {
 }
 
 impl Model for Vm {
-    ghost use Rattle.forest_model.specs.Machine.{Machine};
+    ghost use Rattle.vm_cell.specs.Keyed.{KeyedMachine, machine_of};
     ghost use Rattle.vm_cell.specs.Steps.{IsCounted};
 
-    ghost Value = { Machine };
+    ghost Value = { KeyedMachine };
 
-    ghost view = { λ v. record { state = v.hart; steps = v.steps; limit = v.limit; ending = v.ending } };
+    ghost view = { λ v. machine_of v.hart v.steps v.limit v.ending };
 
-    ghost invariant = { λ v. IsCounted v.steps v.limit v.ending v.hart.ports.fork };
+    ghost invariant = { λ v. IsCounted v.steps v.limit v.ending v.hart.state.ports.fork };
 }
 
 impl Vm {
-    /// The machine that starts from an image, with this disk and this input.
+    /// The machine that starts from an image, with this disk and this input. All its pages are here.
     #[tactic(auto, unfolding(forest_model::specs::Machine::boot))]
     pub fn boot(
         alloc: Global,
@@ -71,7 +83,7 @@ impl Vm {
         requires least { 1 ≤ options.limit }
         requires most { options.limit ≤ 1_000_000_000 }
         requires allot { options.allot ≤ 4096 }
-        ensures { IfOk result (λ vm. vm ≡ boot image.now disk input.now options) }
+        ensures { IfOk result (λ vm. vm ≡ record { machine = boot image.now disk input.now options; pages = pages_at_boot image.now; key = None }) }
     {
         Ok(Vm {
             hart: Hart::new(alloc, image, disk, input, options.allot)?,
@@ -83,51 +95,52 @@ impl Vm {
 
     /// How many steps the machine has made.
     pub fn steps(&self) -> u64
-        ensures { result ≡ self.now.steps }
+        ensures { result ≡ self.now.machine.steps }
     {
         self.steps
     }
 
     /// The most steps that the machine may make.
     pub fn limit(&self) -> u64
-        ensures { result ≡ self.now.limit }
+        ensures { result ≡ self.now.machine.limit }
     {
         self.limit
     }
 
     /// How the machine has ended, or `None` while it lives.
     pub fn ended(&self) -> Option<Ending>
-        ensures ending { result ≡ self.now.ending }
+        ensures ending { result ≡ self.now.machine.ending }
         // What a forest asks of every machine.
-        ensures good { machines.is_good self.now ≡ true }
+        ensures good { machines.is_good self.now.machine ≡ true }
     {
         self.ending
     }
 
-    /// The word of RAM at an address, or `None` where the address is no multiple of 4 in RAM.
-    pub fn peek(&self, address: u32) -> Option<u32>
-        ensures { result ≡ peeked self.now.state address }
+    /// The word of RAM at an address as it would read, or `None` where the address is no multiple of 4 in RAM.
+    pub fn peek(&self, depot: &Depot, address: u32) -> Option<u32>
+        requires { IsOfDepot depot.now self.now.key }
+        ensures { result ≡ peeked self.now.machine.state address }
     {
-        self.hart.peek(address)
+        self.hart.peek(depot, address)
     }
 
     /// The pc, and then the registers x1 to x31.
     pub fn regs(&self) -> [u32; 32]
-        ensures { result ≡ shown_registers self.now.state }
+        ensures { result ≡ shown_registers self.now.machine.state }
     {
         self.hart.shown_registers()
     }
 
     /// What the machine has put out on its console.
     pub fn output(&self) -> &[u8]
-        ensures { result.now ≡ self.now.state.ports.console.output }
+        ensures { result.now ≡ self.now.machine.state.ports.console.output }
     {
         self.hart.output()
     }
 
     /// The same, of a machine that is needed no more.
     pub fn into_output(self) -> Vec<u8>
-        ensures { result.items ≡ self.state.ports.console.output }
+        ensures { result.items ≡ self.machine.state.ports.console.output }
     {
         let Vm {
             hart,
@@ -138,47 +151,102 @@ impl Vm {
         hart.into_output()
     }
 
-    /// Makes one step, if the machine lives and the step is no call.
+    /// The key to the image that has the absent pages. A machine that was booted has none, and wants nothing.
+    pub fn key(&self) -> Option<&ImageKey>
+        ensures value { option_copied result ≡ self.now.key }
+        ensures absent { HasImage self.now.key self.now.pages }
+    {
+        self.hart.key()
+    }
+
+    /// The page at which the next step stalls, if it stalls.
+    pub fn wanted(&self) -> Option<u32>
+        ensures { result ≡ stalled_at (paged self.now) }
+    {
+        if self.ending.is_some() {
+            return None;
+        }
+        self.hart.wanted()
+    }
+
+    /// The pages of RAM.
+    pub fn pages(&self) -> u32
+        ensures value { result ≡ length self.now.pages.here }
+        ensures whole { length self.now.machine.state.ram ≡ PAGE_SIZE * length self.now.pages.here }
+    {
+        self.hart.pages()
+    }
+
+    /// Whether a page is here. One that is not is absent.
+    pub fn is_here(&self, page: u32) -> bool
+        requires { page < length self.now.pages.here }
+        ensures { result ≡ slice_index_or self.now.pages.here page false }
+    {
+        self.hart.is_here(page)
+    }
+
+    /// Takes a page that was sent, where it is absent and one of the image of the key. Nothing else changes.
+    pub fn arrive(
+        &mut self,
+        alloc: Global,
+        depot: &Depot,
+        parcel: &Parcel,
+    ) -> Result<Arrived, AllocError>
+        requires of_depot { IsOfDepot depot.now self.old.key }
+        requires parcel { IsKeyOf depot.now parcel.now.key }
+        ensures arrives { IfOk result (Arrives self.old.key self.old.pages parcel.now self.new.pages) }
+        ensures rest { (self.new.machine ≡ self.old.machine) × (self.new.key ≡ self.old.key) }
+        ensures err { OnErr result (self.new ≡ self.old) }
+    {
+        self.hart.arrive(alloc, depot, parcel)
+    }
+
+    /// Makes one step, if the machine lives, the pages that the step touches are here, and it is no call.
     #[inline]
     #[tactic(auto, unfolding(forest_model::specs::Machine::advance))]
     pub fn step(&mut self) -> Result<Stepped, AllocError>
         ensures steps { IfOk result (λ stepped. Steps self.old self.new stepped) }
+        ensures key { self.new.key ≡ self.old.key }
         ensures err { OnErr result (self.new ≡ self.old) }
         // Memory is wanted only for a page of RAM, a byte of output or a sector of the disk that is
         // written, and for a ticket.
-        ensures memory { OnErr result ((self.old.ending ≡ None) × Grows self.old.state) }
+        ensures memory { OnErr result ((self.old.machine.ending ≡ None) × (stalled_at (paged self.old) ≡ None) × Grows self.old.machine.state) }
     {
         if let Some(ending) = self.ending {
             return Ok(Stepped::Ended(ending));
         }
-        if let Some(call) = self.step_live()? {
-            return Ok(Stepped::Call(call));
+        if let Some(stop) = self.step_live()? {
+            return Ok(stop);
         }
         Ok(self.standing())
     }
 
-    /// Makes at most `most` steps, until the machine ends or is to make a call, and looks at the step after
+    /// Makes at most `most` steps, until the machine ends, stalls or is to make a call, and looks at the step after
     /// them. After an `Err` the steps before it stand.
     pub fn run(&mut self, most: u64) -> Result<Ran, AllocError>
-        ensures steps { IfOk result (λ ran. self.new ≡ after_steps ran.steps self.old) }
-        ensures each_made { IfOk result (λ ran. self.new.steps ≡ self.old.steps + ran.steps) }
+        ensures steps { IfOk result (λ ran. self.new ≡ moved_by ran.steps self.old) }
+        ensures free { IfOk result (λ ran. IsFreeFor ran.steps self.old) }
+        ensures each_made { IfOk result (λ ran. self.new.machine.steps ≡ self.old.machine.steps + ran.steps) }
         ensures stands { IfOk result (λ ran. Stands self.new ran.why) }
         ensures most { IfOk result (λ ran. ran.steps ≤ most) }
         ensures all_made { IfOk result (λ ran. ran.why ≡ Stepped.Went → ran.steps ≡ most) }
-        ensures enough { IfOk result (λ ran. self.old.limit ≤ self.old.steps + most → ran.why ≢ Stepped.Went) }
-        ensures err { OnErr result (self.new ≡ after_steps (self.new.steps - self.old.steps) self.old) }
-        ensures err_steps { OnErr result (self.old.steps ≤ self.new.steps) }
-        ensures err_most { OnErr result (self.new.steps < self.old.steps + most) }
-        ensures err_live { OnErr result (self.new.ending ≡ None) }
-        ensures err_memory { OnErr result (Grows self.new.state) }
+        ensures enough { IfOk result (λ ran. self.old.machine.limit ≤ self.old.machine.steps + most → ran.why ≢ Stepped.Went) }
+        ensures err { OnErr result (self.new ≡ moved_by (self.new.machine.steps - self.old.machine.steps) self.old) }
+        ensures err_free { OnErr result (IsFreeFor (self.new.machine.steps - self.old.machine.steps) self.old) }
+        ensures err_steps { OnErr result (self.old.machine.steps ≤ self.new.machine.steps) }
+        ensures err_most { OnErr result (self.new.machine.steps < self.old.machine.steps + most) }
+        ensures err_live { OnErr result (self.new.machine.ending ≡ None) }
+        ensures err_here { OnErr result (stalled_at (paged self.new) ≡ None) }
+        ensures err_memory { OnErr result (Grows self.new.machine.state) }
     {
         let mut steps = 0;
+        let mut pause = 0;
         while steps < most && self.ending.is_none() {
-            if let Some(call) = self.step_live()? {
-                return Ok(Ran {
-                    steps,
-                    why: Stepped::Call(call),
-                });
+            let made = self.make_plain(room(pause, most - steps - 1));
+            pause = pause_after(pause, made);
+            steps += made;
+            if let Some(why) = self.step_live()? {
+                return Ok(Ran { steps, why });
             }
             steps += 1;
         }
@@ -188,38 +256,56 @@ impl Vm {
         })
     }
 
-    /// Makes one step of a machine that lives, or answers the call that it is.
+    /// Makes the plain steps that come, at most `most`, of a machine that lives, and answers how many. It lives on.
+    #[inline]
+    fn make_plain(&mut self, most: u64) -> u64
+        requires { self.old.machine.ending ≡ None }
+        ensures run { IsRun self.old self.new result }
+        ensures most { result ≤ most }
+        ensures live { self.new.machine.ending ≡ None }
+    {
+        let made = self.hart.make_plain(most.min(self.limit - self.steps - 1));
+        self.steps += made;
+        made
+    }
+
+    /// Makes one step of a machine that lives, or answers what keeps it from that: a page or a call.
     #[inline]
     #[tactic(auto, unfolding(forest_model::specs::Machine::advance))]
-    fn step_live(&mut self) -> Result<Option<Call>, AllocError>
-        requires { self.old.ending ≡ None }
-        ensures goes { IfOk result (λ call. GoesOn self.old self.new call) }
+    fn step_live(&mut self) -> Result<Option<Stepped>, AllocError>
+        requires { self.old.machine.ending ≡ None }
+        ensures goes { IfOk result (λ stop. GoesOn self.old self.new stop) }
         ensures err { OnErr result (self.new ≡ self.old) }
-        ensures memory { OnErr result (Grows self.old.state) }
+        ensures here { OnErr result (stalled_at (paged self.old) ≡ None) }
+        ensures memory { OnErr result (Grows self.old.machine.state) }
     {
         match self.hart.act()? {
+            Acted::Stalled(page) => Ok(Some(Stepped::Stall(page))),
             Acted::Trapped { cause, value } => {
                 self.hart.take_trap(cause, value);
                 self.hart.count(false, Written::Nothing);
                 count_step(&mut self.steps, self.limit, &mut self.ending);
+                Ok(None)
             }
             Acted::Interrupted => {
                 self.hart.take_trap(TIMER_INTERRUPT, 0);
                 self.hart.count(false, Written::Nothing);
                 count_step(&mut self.steps, self.limit, &mut self.ending);
+                Ok(None)
             }
             Acted::Retired(written) => {
                 self.hart.count(true, written);
                 count_step(&mut self.steps, self.limit, &mut self.ending);
+                Ok(None)
             }
             Acted::Exited(value) => {
                 self.hart.count(true, Written::Nothing);
                 self.steps += 1;
                 self.ending = Some(Ending::Exit(value));
+                Ok(None)
             }
-            Acted::Asked(call) => return Ok(Some(call)),
+            Acted::Asked(call) => Ok(Some(Stepped::Call(call))),
         }
-        Ok(None)
     }
 
     /// Where the machine stands after a step, with no look at the next one.
@@ -236,17 +322,37 @@ impl Vm {
     /// Where the machine stands, with a look at the next step.
     fn standing_now(&self) -> Stepped
         ensures stands { Stands self.now result }
-        ensures within { IsWithinLimit self.now }
-        ensures counted { self.now.steps ≤ self.now.limit }
+        ensures within { IsWithinLimit self.now.machine }
+        ensures counted { self.now.machine.steps ≤ self.now.machine.limit }
     {
         if let Some(ending) = self.ending {
             return Stepped::Ended(ending);
         }
-        match self.call() {
+        if let Some(page) = self.hart.wanted() {
+            return Stepped::Stall(page);
+        }
+        match self.hart.call() {
             Some(call) => Stepped::Call(call),
             None => Stepped::Went,
         }
     }
+}
+
+/// How many plain steps are tried, of so many: none in a pause.
+#[inline]
+fn room(pause: u32, most: u64) -> u64
+    ensures { result ≤ most }
+{
+    if pause == 0 { most } else { 0 }
+}
+
+/// How many steps go without a try at plain ones, after a try that made so many.
+#[inline]
+fn pause_after(pause: u32, made: u64) -> u32 {
+    if pause > 0 {
+        return pause - 1;
+    }
+    if made == 0 { PAUSE } else { 0 }
 }
 
 /// Counts a step of a machine that lives, which ends it where it reaches the limit.

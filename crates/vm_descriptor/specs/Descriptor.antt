@@ -39,3 +39,7 @@ pub record IsInRange (d : Descriptor) : Type 0 where
   pub limit : IsWithinLimit d
   pub reservation : IfSome d.reservation (IsRamWord d.pages)
   pub place : d.console.place ≤ MAX_INPUT
+
+-- the same descriptor of another clone of its ticket
+abbrev pub numbered : ℕ → Descriptor → Descriptor
+numbered k d = record d { clone_id = k }

@@ -4,6 +4,7 @@
 mod bytes;
 mod descriptor;
 mod error;
+mod fits;
 pub mod laws;
 mod page_map;
 mod read;

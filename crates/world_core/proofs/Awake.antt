@@ -15,6 +15,7 @@ use Rattle.image_depot.specs.Key.{Shelves, Key}
 use Rattle.run_report.specs.Name.{child_path}
 use Rattle.run_report.specs.NameOrder.{path_cmp}
 use Rattle.vm_descriptor.specs.declared.descriptor.Descriptor.{Descriptor}
+use Rattle.vm_descriptor.specs.Descriptor.{numbered}
 use Rattle.vm_cell.specs.declared.vm.fork.Brood.{Brood as Young}
 use Rattle.world_core.specs.declared.cell.Brood.{Brood}
 use Rattle.world_core.specs.declared.cell.Cell.{Cell}
@@ -72,13 +73,13 @@ slotted-born : (depot : Shelves) (path : Path) (ticket k : ℕ) (young : Option 
 slotted-born depot path ticket k None slots trees a h found = absurd h
 slotted-born depot path ticket zero (Some young) slots trees a h found = absurd (not-first trees a found)
 slotted-born depot path ticket (suc j) (Some young) slots trees a h found =
-    let has = slot-of path ticket young.key 1 young.seeds.items slots trees j a h.1 found in
+    let has = slot-of path ticket young.key 1 young.seed slots trees j a h.1 found in
     let same : 1 + j ≡ suc j = omega arith in
     record {
       key = young.key;
-      seed = has.seed;
+      seed = numbered (suc j) young.seed;
       slot = has.slot;
-      shows = subst (λ n. SlotShows (child_path path ticket n) young.key has.seed has.slot a) same has.shows;
+      shows = subst (λ n. SlotShows (child_path path ticket n) young.key (numbered n young.seed) has.slot a) same has.shows;
     }
 
 none-there : (k : ℕ) (trees : Trees (Spot Machine)) (a : Tree (Spot Machine)) → trees ≡ no_tree → child_at k trees ≡ Some a → ⊥

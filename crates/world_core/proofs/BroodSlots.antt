@@ -1,7 +1,6 @@
 -- What the slots of a brood tell of the children that they show.
-use Rattle.std.proofs.Common.{◌≡◌, ℕ, zero, suc, ◌+◌, ◌<◌, Bool, true, false, cond, List, [], ◌∷◌, ◌++◌, length, get_or, replicate, Option, Some, None, is_some, refl, sym, ap, ◌∙◌, subst, arith}
+use Rattle.std.proofs.Common.{◌≡◌, ℕ, zero, suc, ◌+◌, ◌<◌, ◌≤◌, Bool, true, false, cond, List, [], ◌∷◌, ◌++◌, replicate, Option, Some, None, is_some, refl, sym, ap, ◌∙◌, subst, arith}
 use Rattle.std.proofs.lemmas.Bool.{and_parts}
-use Rattle.image_depot.specs.Key.{Shelves}
 use Rattle.fork_port.specs.declared.ending.Ending.{Ending}
 use Rattle.forest_tree.specs.Tree.{Tree, Trees, no_tree, tree, machine, Path}
 use Rattle.forest_tree.specs.Settle.{alone, has_ended, have_ended, with_ending, endings, children_from, children}
@@ -11,9 +10,11 @@ use Rattle.forest_model.specs.Machine.{Machine}
 use Rattle.forest_model.specs.Calls.{forked, child}
 use Rattle.forest_model.specs.Forest.{machines}
 use Rattle.forest_model.proofs.Calls.{child-as-parent}
-use Rattle.image_depot.specs.Key.{Shelves, Key, IsKeyOf}
+use Rattle.image_depot.specs.Key.{Shelves, Key, IsKeyOf, image_of}
 use Rattle.vm_descriptor.specs.declared.descriptor.Descriptor.{Descriptor}
-use Rattle.vm_cell.specs.Woken.{AreSeeds, IsSeed}
+use Rattle.vm_descriptor.specs.Descriptor.{numbered}
+use Rattle.vm_cell.specs.Keyed.{KeyedMachine}
+use Rattle.vm_cell.specs.Woken.{AreSeeds, IsSeed, woken, woken_machine}
 use Rattle.vm_cell.specs.declared.vm.fork.Brood.{Brood as Young}
 use Rattle.run_report.specs.Lines.{Line, lines, trees_lines}
 use Rattle.run_report.specs.Name.{child_path}
@@ -39,43 +40,39 @@ slot_lines_are path key seed Awake t h ended = let lives = h.lives in absurd (cc
 slot_lines_are path key seed (Ended outcome) t h ended = h.1
 
 module _ (path : Path) (ticket : ℕ) (key : Key) where
-  shown_endings : (k : ℕ) (seeds : List Descriptor) (slots : List Slot) (trees : Trees (Spot Machine)) → SlotsShow path ticket key k seeds slots trees
+  shown_endings : (k : ℕ) (seed : Descriptor) (slots : List Slot) (trees : Trees (Spot Machine)) → SlotsShow path ticket key k seed slots trees
       → have_ended forest trees ≡ true → slot_endings slots ≡ endings forest trees
   unfolding SlotsShow have_ended endings
-  shown_endings k [] [] no_tree h all = refl
-  shown_endings k [] [] (tree t rest) h all = absurd h
-  shown_endings k [] (slot ∷ slots) trees h all = absurd h
-  shown_endings k (seed ∷ seeds) [] trees h all = absurd h
-  shown_endings k (seed ∷ seeds) (slot ∷ slots) no_tree h all = absurd h
-  shown_endings k (seed ∷ seeds) (slot ∷ slots) (tree t rest) h all =
+  shown_endings k seed [] no_tree h all = refl
+  shown_endings k seed [] (tree t rest) h all = absurd h
+  shown_endings k seed (slot ∷ slots) no_tree h all = absurd h
+  shown_endings k seed (slot ∷ slots) (tree t rest) h all =
       let both = and_parts (has_ended forest t) (have_ended forest rest) all in
-      ap (λ (es : List Ending). endings_in slot ++ es) (shown_endings (suc k) seeds slots rest h.1 both.1)
-      ∙ ended_slot (child_path path ticket k) key seed slot t h.0 both.0 (endings forest rest)
+      ap (λ (es : List Ending). endings_in slot ++ es) (shown_endings (suc k) seed slots rest h.1 both.1)
+      ∙ ended_slot (child_path path ticket k) key (numbered k seed) slot t h.0 both.0 (endings forest rest)
 
-  shown_lines : (k : ℕ) (seeds : List Descriptor) (slots : List Slot) (trees : Trees (Spot Machine)) → SlotsShow path ticket key k seeds slots trees
+  shown_lines : (k : ℕ) (seed : Descriptor) (slots : List Slot) (trees : Trees (Spot Machine)) → SlotsShow path ticket key k seed slots trees
       → have_ended forest trees ≡ true → slot_lines slots ≡ trees_lines told_spot path ticket k trees
   unfolding SlotsShow have_ended lines
-  shown_lines k [] [] no_tree h all = refl
-  shown_lines k [] [] (tree t rest) h all = absurd h
-  shown_lines k [] (slot ∷ slots) trees h all = absurd h
-  shown_lines k (seed ∷ seeds) [] trees h all = absurd h
-  shown_lines k (seed ∷ seeds) (slot ∷ slots) no_tree h all = absurd h
-  shown_lines k (seed ∷ seeds) (slot ∷ slots) (tree t rest) h all =
+  shown_lines k seed [] no_tree h all = refl
+  shown_lines k seed [] (tree t rest) h all = absurd h
+  shown_lines k seed (slot ∷ slots) no_tree h all = absurd h
+  shown_lines k seed (slot ∷ slots) (tree t rest) h all =
       let both = and_parts (has_ended forest t) (have_ended forest rest) all in
-      ap (λ (ls : List Line). lines_in slot ++ ls) (shown_lines (suc k) seeds slots rest h.1 both.1)
-      ∙ ap (λ (ls : List Line). ls ++ trees_lines told_spot path ticket (suc k) rest) (slot_lines_are (child_path path ticket k) key seed slot t h.0 both.0)
+      ap (λ (ls : List Line). lines_in slot ++ ls) (shown_lines (suc k) seed slots rest h.1 both.1)
+      ∙ ap (λ (ls : List Line). ls ++ trees_lines told_spot path ticket (suc k) rest) (slot_lines_are (child_path path ticket k) key (numbered k seed) slot t h.0 both.0)
 
 -- the same of a brood
 module _ (depot : Shelves) (path : Path) (ticket : ℕ) where
   born_endings : (young : Option Young) (slots : List Slot) (trees : Trees (Spot Machine)) → BornShows depot path ticket young slots trees
       → have_ended forest trees ≡ true → slot_endings slots ≡ endings forest trees
   born_endings None slots trees h all = absurd h
-  born_endings (Some young) slots trees h all = shown_endings path ticket young.key 1 young.seeds.items slots trees h.1 all
+  born_endings (Some young) slots trees h all = shown_endings path ticket young.key 1 young.seed slots trees h.1 all
 
   born_lines : (young : Option Young) (slots : List Slot) (trees : Trees (Spot Machine)) → BornShows depot path ticket young slots trees
       → have_ended forest trees ≡ true → slot_lines slots ≡ trees_lines told_spot path ticket 1 trees
   born_lines None slots trees h all = absurd h
-  born_lines (Some young) slots trees h all = shown_lines path ticket young.key 1 young.seeds.items slots trees h.1 all
+  born_lines (Some young) slots trees h all = shown_lines path ticket young.key 1 young.seed slots trees h.1 all
 
   pub brood_endings : (b : Brood) (trees : Trees (Spot Machine)) → BroodShows depot path ticket b trees → have_ended forest trees ≡ true
       → slot_endings b.slots.items ≡ endings forest trees
@@ -86,6 +83,10 @@ module _ (depot : Shelves) (path : Path) (ticket : ℕ) where
   brood_lines b trees h all = born_lines b.young b.slots.items trees h.born all
 
 -- ---- children that are born
+
+woken-machine : (d : Descriptor) (key : Key) → (woken d key).machine ≡ woken_machine d (image_of key)
+unfolding woken
+woken-machine d key = refl
 
 child_ending : (m : Machine) (k : ℕ) → (child m k).ending ≡ (forked m).ending
 child_ending m k = ap (λ (n : Machine). n.ending) (child-as-parent m k)
@@ -102,36 +103,36 @@ living_children s lives (suc n) k =
     let more : 1 + living forest (children_from forest s (suc k) n) ≡ suc n = omega arith in
     ap (λ (ended : Bool). cond ended 0 1 + living forest (children_from forest s (suc k) n)) (child_lives s lives k) ∙ more
 
-module _ (path : Path) (ticket : ℕ) (key : Key) (s : Spot Machine) (lives : forest.ending (forest.forked s) ≡ None) where
-  born_shows : (n k : ℕ) (seeds : List Descriptor) → length seeds ≡ n
-      → ((i : ℕ) (default : Descriptor) → i < n → IsSeed s.machine (i + k) key (get_or seeds i default))
-      → SlotsShow path ticket key k seeds (replicate n Asleep) (children_from forest s k n)
+module _ (path : Path) (ticket : ℕ) (v : KeyedMachine) (key : Key) (seed : Descriptor) (s : Spot Machine) (is : s.machine ≡ v.machine)
+    (lives : forest.ending (forest.forked s) ≡ None) where
+  -- so many children, from child k on
+  born_shows : (n k : ℕ) → ((j : ℕ) → k ≤ j → j < n + k → IsSeed v j key (numbered j seed))
+      → SlotsShow path ticket key k seed (replicate n Asleep) (children_from forest s k n)
   unfolding SlotsShow children_from spots machines
-  born_shows zero k [] size h = tt
-  born_shows zero k (seed ∷ seeds) size h = absurd (omega arith)
-  born_shows (suc n) k [] size h = absurd (omega arith)
-  born_shows (suc n) k (seed ∷ seeds) size h =
-      let first : IsSeed s.machine k key seed = (let same : 0 + k ≡ k = omega arith in subst (λ j. IsSeed s.machine j key seed) same (h 0 seed (omega arith))) in (
+  born_shows zero k h = tt
+  born_shows (suc n) k h =
+      let first : IsSeed v k key (numbered k seed) = h k (omega arith) (omega arith) in
+      let wakes : child s.machine k ≡ woken_machine (numbered k seed) (image_of key) =
+      ap (λ m. child m k) is ∙ ap (λ (w : KeyedMachine). w.machine) (sym first.wakes) ∙ woken-machine (numbered k seed) key in (
         record {
           of_image = first.of_image;
-          born = ap (λ (m : Machine). alone forest (record { machine = m; place = asleep })) (sym first.wakes);
+          born = ap (λ (m : Machine). alone forest (record { machine = m; place = asleep })) wakes;
           lives = child_lives s lives k;
         },
-        born_shows n (suc k) seeds (omega arith)
-            (λ i default within. let same : suc i + k ≡ i + suc k = omega arith in
-            subst (λ j. IsSeed s.machine j key (get_or seeds i default)) same (h (suc i) default (omega arith))),
+        born_shows n (suc k) (λ j from below. h j (omega arith) (omega arith)),
       )
 
-pub brood_born : (depot : Shelves) (path : Path) (ticket : ℕ) (s : Spot Machine) (b : Brood) (young : Young) → forest.ending (forest.forked s) ≡ None
+pub brood_born : (depot : Shelves) (path : Path) (ticket : ℕ) (v : KeyedMachine) (s : Spot Machine) (b : Brood) (young : Young) → s.machine ≡ v.machine
+    → forest.ending (forest.forked s) ≡ None
     → b.young ≡ Some young → b.slots.items ≡ replicate (forest.grant s ticket).children Asleep → b.live ≡ (forest.grant s ticket).children
-    → IsKeyOf depot young.key → length young.seeds.items ≡ (forest.grant s ticket).children → AreSeeds s.machine young.key young.seeds.items
+    → IsKeyOf depot young.key → AreSeeds v young.key (forest.grant s ticket).children young.seed
     → BroodShows depot path ticket b (children forest s ticket)
-brood_born depot path ticket s b young lives is slots live key size seeds =
+brood_born depot path ticket v s b young same lives is slots live key seeds =
     let n = (forest.grant s ticket).children in
     record {
       live = live ∙ sym (living_children s lives n 1);
       born =
           subst (λ (o : Option Young). BornShows depot path ticket o b.slots.items (children forest s ticket)) (sym is)
           (subst (λ (items : List Slot). BornShows depot path ticket (Some young) items (children forest s ticket)) (sym slots)
-          (key, born_shows path ticket young.key s lives n 1 young.seeds.items size (λ i default within. seeds i default (subst (λ m. i < m) (sym size) within))));
+          (key, born_shows path ticket v young.key young.seed s same lives n 1 (λ j from below. seeds j from (omega arith))));
     }

@@ -4,6 +4,7 @@ use Rattle.std.specs.BTreeMap.{btree_map_len, get, is_at}
 use Rattle.std.specs.Ordering.{is_eq, nat_cmp}
 use Rattle.std.proofs.lemmas.Bool.Decides.{nat_tests}
 use Rattle.std.proofs.Math.ListN.{length-replicate}
+use Rattle.fork_port.specs.declared.commands.Call as port
 use Rattle.fork_port.specs.declared.commands.Call.TheVariants as fork
 use Rattle.fork_port.specs.declared.ending.Ending.{Ending}
 use Rattle.forest_tree.specs.Operations.{Call, clone, join, kill, Grant, is_cloned, Makes, IsStep, IsMachine}
@@ -19,7 +20,8 @@ use Rattle.forest_model.specs.Forest.{machines}
 use Rattle.forest_model.proofs.Rules.{machines-rules}
 use Rattle.image_depot.specs.Key.{Shelves, IsKeyOf}
 use Rattle.vm_descriptor.specs.declared.descriptor.TheConstants.{MAX_CLONES}
-use Rattle.vm_cell.specs.Standing.{IsJoin, standing_call}
+use Rattle.vm_cell.specs.Standing.{IsJoin}
+use Rattle.vm_cell.specs.Keyed.{KeyedMachine}
 use Rattle.vm_cell.specs.Woken.{AreSeeds}
 use Rattle.vm_cell.specs.declared.vm.fork.Brood.{Brood as Young}
 use Rattle.run_report.specs.Lines.{Line, ticket_line, lines, log_lines}
@@ -172,22 +174,21 @@ module _ (depot : Shelves) (path : Path) (vm : Machine) (ticket : ℕ) (c : Cell
       ∙ size-cloned forest rules ticket s broods log m.lives (rules.join_is_cloned s ticket m) at.sound
       ∙ ap (λ (g : Grant). g.children) (granted s at.is)
 
-  pub is_join : (endings : List Ending) → standing_call vm ≡ Some (fork.Join ticket) → length endings ≡ (machines.grant vm ticket).children
-      → IsJoin vm endings (standing_call vm)
-  is_join endings stands size = subst (IsJoin vm endings) (sym stands) size
+  pub is_join : (endings : List Ending) (next : Option port.Call) → next ≡ Some (fork.Join ticket) → length endings ≡ (machines.grant vm ticket).children
+      → IsJoin vm endings next
+  is_join endings next stands size = subst (IsJoin vm endings) (sym stands) size
 
 -- ---- CLONE
 
 -- what is to hold of the brood that is put in
-pub record IsBorn (depot : Shelves) (path : Path) (vm : Machine) (ticket : ℕ) (b : Brood) (left : Young) : Type 0 where
+pub record IsBorn (depot : Shelves) (path : Path) (vm : KeyedMachine) (ticket : ℕ) (b : Brood) (left : Young) : Type 0 where
   pub name : b.name ≡ path
   pub young : b.young ≡ Some left
-  pub slots : b.slots.items ≡ replicate (machines.grant vm ticket).children Asleep
-  pub live : b.live ≡ (machines.grant vm ticket).children
-  pub few : (machines.grant vm ticket).children ≤ MAX_CLONES
+  pub slots : b.slots.items ≡ replicate (machines.grant vm.machine ticket).children Asleep
+  pub live : b.live ≡ (machines.grant vm.machine ticket).children
+  pub few : (machines.grant vm.machine ticket).children ≤ MAX_CLONES
   pub key : IsKeyOf depot left.key
-  pub size : length left.seeds.items ≡ (machines.grant vm ticket).children
-  pub seeds : AreSeeds vm left.key left.seeds.items
+  pub seeds : AreSeeds vm left.key (machines.grant vm.machine ticket).children left.seed
 
 come_tally : (path : Path) (before after : ℕ) (o : Option Brood) (b : Brood) (same cloned : Bool) → (same || cloned ≡ true → after ≡ before) → (same ≡ true → IsTallied path before b)
     → TallyAt path before o cloned → TallyAt path after (cond same (Some b) o) (same || cloned)
@@ -220,9 +221,12 @@ pub cond_twice : (b : Bool) (x y z : Option Brood) → cond b x (cond b y z) ≡
 cond_twice true x y z = refl
 cond_twice false x y z = refl
 
-module _ (depot : Shelves) (path : Path) (vm : Machine) (ticket : ℕ) (c new : Cell) (room : vec_len new.log + btree_map_len new.broods ≤ vec_capacity new.log)
+module _ (depot : Shelves) (path : Path) (keyed : KeyedMachine) (ticket : ℕ) (c new : Cell) (room : vec_len new.log + btree_map_len new.broods ≤ vec_capacity new.log)
     (same_log : new.log.items ≡ c.log.items) where
-  pub forked_after : (b : Brood) (young : Young) (t : Tree (Spot Machine)) → IsBorn depot path vm ticket b young
+  abbrev vm : Machine
+  vm = keyed.machine
+
+  pub forked_after : (b : Brood) (young : Young) (t : Tree (Spot Machine)) → IsBorn depot path keyed ticket b young
       → ((u : ℕ) → get nat_cmp new.broods u ≡ cond (is_at (nat_cmp ticket) u) (Some b) (get nat_cmp c.broods u))
       → Holds depot path c t → StandsAt vm (clone ticket) t → HoldsAfter depot path new (forked_tree ticket t)
   unfolding brood_of
@@ -252,9 +256,9 @@ module _ (depot : Shelves) (path : Path) (vm : Machine) (ticket : ℕ) (c new : 
         tallies,
         λ lives.
             let shows : BroodShows depot path ticket b kids =
-            brood_born depot path ticket s b young (lives-none (forest.ending n) lives) born.young
-            (born.slots ∙ ap (λ k. replicate k Asleep) count) (born.live ∙ count) born.key (born.size ∙ count)
-            (subst (λ (v : Machine). AreSeeds v young.key young.seeds.items) (sym at.is) born.seeds) in
+            brood_born depot path ticket keyed s b young at.is (lives-none (forest.ending n) lives) born.young
+            (born.slots ∙ ap (λ k. replicate k Asleep) count) (born.live ∙ count) born.key
+            (subst (λ k. AreSeeds keyed young.key k young.seed) count born.seeds) in
             record {
               tallies = tallies;
               broods = λ u.

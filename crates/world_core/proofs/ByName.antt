@@ -19,10 +19,11 @@ use Rattle.world_core.specs.declared.cell.Cell.{Cell}
 use Rattle.world_core.specs.Shows.{forest, CellShows, Shows}
 use Rattle.world_core.specs.declared.world.World.{World}
 use Rattle.run_report.specs.Report.{Ended as Report}
-use Rattle.world_core.specs.Lent.{Lent}
+use Rattle.vm_cell.specs.Keyed.{KeyedMachine, IsOfDepot}
+use Rattle.world_core.specs.Lent.{Lent, lent_as}
 use Rattle.world_core.specs.Waiting.{IsListed}
 use Rattle.world_core.specs.World.{Forest, IsDue, ShowsTree, StandsFor}
-use Rattle.world_core.specs.Answers.{Starts, TakesNamed}
+use Rattle.world_core.specs.Answers.{IsLentOf, Starts, TakesNamed}
 use Rattle.world_core.specs.Popped.{ShowsCells, sleeps, is_listed_in}
 use Rattle.world_core.proofs.Awake.{never-both, ended-broods}
 use Rattle.world_core.proofs.Changes.{parent-awake}
@@ -120,29 +121,30 @@ module _ (depot : Shelves) (w : World) (f : Forest) (name : Path) (h : StandsFor
         )
 
     -- it is handed out
-    pub named-taken : (lease : Lent) (m : Machine) → lease ≡ record { name = name; start = m; ran = 0; now = m } → d.is_listed ≡ c.is_listed
+    pub named-taken : (lease : Lent) (v : KeyedMachine) → lease ≡ lent_as name v.machine 0 v → d.is_listed ≡ c.is_listed
         → ((t : Tree (Spot Machine)) → CellShows depot name c t
-        → (lives_at_home machines t ≡ true) × (m ≡ (machine t).machine) × CellShows depot name d (placed out t))
-        → (is_at_home machines name f.tree ≡ true) × (lease.name ≡ name) × Starts f lease
+        → (lives_at_home machines t ≡ true) × (v.machine ≡ (machine t).machine) × IsOfDepot depot v.key × CellShows depot name d (placed out t))
+        → (is_at_home machines name f.tree ≡ true) × (lease.name ≡ name) × Starts f lease × IsLentOf depot lease
         × StandsFor depot (record w { cells = cells }) (does machines (took name) f)
-    named-taken lease m is listed lent =
+    named-taken lease v is listed lent =
         let lends = lent named-shown.0 named-shown.2 in
         let here : get path_cmp cells name ≡ Some d = written-here w.cells cells name d written (some-is c (get path_cmp w.cells name) found) in
         let apart_from : (n : Path) → name ≢ n → get path_cmp cells n ≡ get path_cmp w.cells n
         = written-apart w.cells cells name d written (some-is c (get path_cmp w.cells name) found) in
-        let starts : Starts f (record { name = name; start = m; ran = 0; now = m }) = record {
+        let starts : Starts f (lent_as name v.machine 0 v) = record {
           ran = refl;
           now = refl;
-          start = subst (λ o. IfSome o (λ (t : Tree (Spot Machine)). (machine t).machine ≡ m)) (sym named-shown.1) (sym lends.1);
+          start = subst (λ o. IfSome o (λ (t : Tree (Spot Machine)). (machine t).machine ≡ v.machine)) (sym named-shown.1) (sym lends.1);
         } in (
           ap (holds machines (lives_at_home machines)) named-shown.1 ∙ lends.0,
           ap (λ (l : Lent). l.name) is,
           subst (Starts f) (sym is) starts,
+          subst (IsLentOf depot) (sym is) lends.2,
           taken-as depot w (record w { cells = cells }) f name named-shown.0 h going named-shown.1
               (cells-taken depot w.cells cells f.tree named-shown.0 name named-shown.1 before-named (λ n other one. apart_from n other)
-              (subst (λ o. Shows depot name o (Some (placed out named-shown.0))) (sym here) lends.2)
+              (subst (λ o. Shows depot name o (Some (placed out named-shown.0))) (sym here) lends.3)
               (λ n x none e.
-              parent-awake (placed out) depot name n f.tree named-shown.0 x (get path_cmp cells n) none e named-shown.1 named-shown.2.awake lends.2.awake
+              parent-awake (placed out) depot name n f.tree named-shown.0 x (get path_cmp cells n) none e named-shown.1 named-shown.2.awake lends.3.awake
               (subst (λ o. Shows depot n o (subtree n f.tree)) (sym (apart_from n (apart-outside name n none))) (before-named.shows n))))
               (λ n other. ap is_some (apart_from n (λ same. other (sym same))))
               (λ n. elim (same-or-apart name n) [
@@ -176,19 +178,20 @@ module _ (depot : Shelves) (w : World) (f : Forest) (name : Path) (h : StandsFor
       -- it is not the first from itself on
       -- it wakes
       pub named-woken : (v : World) (lease : Lent) → sleeps parent ticket index f.tree ≡ true → lease.name ≡ child_path parent ticket index → lease.ran ≡ 0
-          → lease.now ≡ lease.start → IfSome (subtree lease.name f.tree) (λ a. (machine a).machine ≡ lease.start)
+          → lease.now ≡ lease.start → IsLentOf depot lease → IfSome (subtree lease.name f.tree) (λ a. (machine a).machine ≡ lease.start)
           → ShowsCells depot v.cells (at_path (placed out) (child_path parent ticket index) f.tree)
           → ((n : Path) → is_listed_in (get path_cmp v.cells n) ≡ is_listed_in (get path_cmp w.cells n))
           → ((n : Path) → n ≢ child_path parent ticket index → is_some (get path_cmp v.cells n) ≡ is_some (get path_cmp w.cells n))
           → v.ready ≡ w.ready → v.halted ≡ w.halted → v.outcome ≡ w.outcome
-          → (is_at_home machines name f.tree ≡ true) × (lease.name ≡ name) × Starts f lease × StandsFor depot v (does machines (took name) f)
-      named-woken v lease sleeping named_so ran now start cells listed others ready halted outcome =
+          → (is_at_home machines name f.tree ≡ true) × (lease.name ≡ name) × Starts f lease × IsLentOf depot lease × StandsFor depot v (does machines (took name) f)
+      named-woken v lease sleeping named_so ran now of_depot start cells listed others ready halted outcome =
           let there = wakes-there (subtree (child_path parent ticket index) f.tree) sleeping in
           let at : subtree name f.tree ≡ Some there.0 = ap (λ n. subtree n f.tree) named ∙ there.1 in
           let parts = wakes-is there.0 (ap wakes (sym there.1) ∙ sleeping) in (
             ap (holds machines (lives_at_home machines)) at ∙ asleep-home (has_ended forest there.0) (machine there.0).place parts.0 parts.1,
             named_so ∙ sym named,
             record { ran = ran; now = now; start = start },
+            of_depot,
             taken-as depot w v f name there.0 h going at (subst (λ n. ShowsCells depot v.cells (at_path (placed out) n f.tree)) (sym named) cells)
                 (λ n other. others n (λ same. other (same ∙ sym named))) listed ready halted outcome,
           )

@@ -22,7 +22,7 @@ use Rattle.run_report.specs.NameOrder.{path_cmp}
 use Rattle.vm_cell.specs.Standing.{standing_call}
 use Rattle.world_core.specs.declared.cell.Cell.{Cell}
 use Rattle.world_core.specs.declared.world.World.{World}
-use Rattle.world_core.specs.Lent.{Lent, IsLent}
+use Rattle.world_core.specs.Lent.{Lent, IsLent, vm_of}
 use Rattle.world_core.specs.Waiting.{Waiting, IsListed, IsCovered}
 use Rattle.world_core.specs.Shows.{forest, IsAwake, Holds, HoldsAfter, Shows, StandsAt, forked_tree}
 use Rattle.world_core.specs.World.{Forest, IsDue, StandsFor}
@@ -257,7 +257,7 @@ module _ (depot : Shelves) (w : World) (f : Forest) (lease : Lent) (ticket : ℕ
 -- ---- what CLONE makes of a world
 
 module _ (depot : Shelves) (w : World) (f : Forest) (lease : Lent) (ticket : ℕ) (c : Cell) (h : StandsFor depot w f) (out_as : IsHandedOut f lease)
-    (lent : IsLent lease.start lease.ran lease.now) (at : Some (Clone ticket) ≡ standing_call lease.now) (found : Some c ≡ get path_cmp w.cells lease.name) where
+    (lent : IsLent lease.start lease.ran lease.now) (at : Some (Clone ticket) ≡ standing_call (vm_of lease)) (found : Some c ≡ get path_cmp w.cells lease.name) where
   pub fork-kept : (cells : BTreeMap Path Cell) (d : Cell) (given : Path) (vm : Machine) → given ≡ lease.name → vm ≡ lease.now
       → WritesThrough path_cmp (path_cmp lease.name) w.cells d cells → d.state ≡ c.state → d.is_listed ≡ c.is_listed
       → ((t : Tree (Spot Machine)) → Holds depot given c t → StandsAt vm (clone ticket) t → Holds depot given d t)

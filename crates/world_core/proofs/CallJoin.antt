@@ -23,12 +23,13 @@ use Rattle.forest_model.specs.Machine.{Machine}
 use Rattle.forest_model.specs.Calls.{after_join}
 use Rattle.forest_model.specs.Forest.{machines}
 use Rattle.run_report.specs.NameOrder.{path_cmp}
+use Rattle.vm_cell.specs.Keyed.{KeyedMachine, IsOfDepot}
 use Rattle.vm_cell.specs.Standing.{standing_call}
 use Rattle.world_core.specs.declared.cell.Cell.{Cell}
 use Rattle.world_core.specs.declared.cell.State.TheVariants.{Parked}
 use Rattle.world_core.specs.declared.turns.Turn.{Turn}
 use Rattle.world_core.specs.declared.world.World.{World}
-use Rattle.world_core.specs.Lent.{Lent, IsLent}
+use Rattle.world_core.specs.Lent.{Lent, IsLent, vm_of}
 use Rattle.world_core.specs.Waiting.{IsListed, IsCovered}
 use Rattle.world_core.specs.Turns.{turn_of, turns_from}
 use Rattle.world_core.specs.Shows.{forest, IsAwake, Holds, HoldsAfter, Shows, StandsAt, joined_tree}
@@ -157,13 +158,13 @@ module _ (depot : Shelves) (w : World) (f : Forest) (lease : Lent) (ticket : ℕ
         by false o none = refl
 
   -- it waits
-  parked-stands : (v : World) (d : Cell) (vm : Box Machine Global) (turn : Box Turn Global) → have_ended forest (brood_of ticket broods) ≡ false → v.ready ≡ w.ready
+  parked-stands : (v : World) (d : Cell) (vm : Box KeyedMachine Global) (turn : Box Turn Global) → have_ended forest (brood_of ticket broods) ≡ false → v.ready ≡ w.ready
       → v.halted ≡ w.halted → v.outcome ≡ w.outcome → get path_cmp v.cells lease.name ≡ Some d
       → ((q : Path) → lease.name ≢ q → get path_cmp v.cells q ≡ get path_cmp w.cells q)
-      → d ≡ record c { state = Parked ticket vm turn } → vm.value ≡ lease.now → turns_from turn.value ≡ turn_of turn.value ∷ []
+      → d ≡ record c { state = Parked ticket vm turn } → vm.value.machine ≡ lease.now → IsOfDepot depot vm.value.key → turns_from turn.value ≡ turn_of turn.value ∷ []
       → turn_of turn.value ≡ record { name = lease.name; children = None }
       → Goes depot f (spent waited lease.name lease.ran) v
-  parked-stands v d vm turn lives ready halted outcome found others same now alone named =
+  parked-stands v d vm turn lives ready halted outcome found others same now of_depot alone named =
       let u : Tree (Spot Machine) = node (lent_out lease.now) broods log in
       let waiting : waits forest u ≡ true = join-waits ∙ ap not lives in
       let waiting_there : waits forest (placed parked u) ≡ true = waits-placed parked u ∙ waiting in
@@ -180,6 +181,7 @@ module _ (depot : Shelves) (w : World) (f : Forest) (lease : Lent) (ticket : ℕ
       (subst (λ o. Shows depot lease.name o (Some (placed parked u))) (sym (found ∙ ap Some same)) (record {
         awake = after;
         state = (now, refl, waiting_there, h.at.at_call, alone, named);
+        of_depot = of_depot;
         holds = holds-placed depot lease.name c (Parked ticket vm turn) c.is_listed parked u h.holds;
       }))
       (λ yes. let no : false ≡ true = sym (ap (λ (is : Bool). not (has_ended forest (placed parked u)) && not is) waiting_there ∙ none-and (not (has_ended forest (placed parked u)))) ∙ yes in absurd (cc))
@@ -192,20 +194,20 @@ module _ (depot : Shelves) (w : World) (f : Forest) (lease : Lent) (ticket : ℕ
 -- ---- what JOIN makes of a world
 
 module _ (depot : Shelves) (w : World) (f : Forest) (lease : Lent) (ticket : ℕ) (c : Cell) (h : StandsFor depot w f) (out_as : IsHandedOut f lease)
-    (lent : IsLent lease.start lease.ran lease.now) (at : Some (Join ticket) ≡ standing_call lease.now) (found : Some c ≡ get path_cmp w.cells lease.name) where
-  pub join-parked : (cells : BTreeMap Path Cell) (vm : Box Machine Global) (turn : Box Turn Global)
+    (lent : IsLent lease.start lease.ran lease.now) (at : Some (Join ticket) ≡ standing_call (vm_of lease)) (found : Some c ≡ get path_cmp w.cells lease.name) where
+  pub join-parked : (cells : BTreeMap Path Cell) (vm : Box KeyedMachine Global) (turn : Box Turn Global)
       → ((depot : Shelves) (path : Path) (t : Tree (Spot Machine)) → Holds depot path c t → true ≡ not (have_ended forest (brood_of ticket (broods_of t))))
       → WritesThrough path_cmp (path_cmp lease.name) w.cells (record c { state = Parked ticket vm turn }) cells
-      → vm.value ≡ lease.now → turns_from turn.value ≡ turn_of turn.value ∷ [] → (turn_of turn.value).children ≡ None → (turn_of turn.value).name ≡ lease.name
+      → vm.value.machine ≡ lease.now → IsOfDepot depot vm.value.key → turns_from turn.value ≡ turn_of turn.value ∷ [] → (turn_of turn.value).children ≡ None → (turn_of turn.value).name ≡ lease.name
       → Goes depot f (spent waited lease.name lease.ran) (record w { cells = cells })
-  join-parked cells vm turn waiting written now alone one name_is =
+  join-parked cells vm turn waiting written now of_depot alone one name_is =
       let is = found-here depot w f lease (Join ticket) c h out_as lent at found in
       let u : Tree (Spot Machine) = node (lent_out lease.now) is.broods is.log in
       let d : Cell = record c { state = Parked ticket vm turn } in
       let some = some-is c (get path_cmp w.cells lease.name) found in
       parked-stands depot w f lease ticket is.broods is.log c is.stands (record w { cells = cells }) d vm turn
       (not-true (have_ended forest (brood_of ticket is.broods)) (sym (waiting depot lease.name u is.stands.holds))) refl refl refl
-      (written-here w.cells cells lease.name d written some) (written-apart w.cells cells lease.name d written some) refl now alone
+      (written-here w.cells cells lease.name d written some) (written-apart w.cells cells lease.name d written some) refl now of_depot alone
       (ap₂ (λ (name : Path) children. record { name = name; children = children }) name_is one)
 
   module _ (ready : (depot : Shelves) (path : Path) (t : Tree (Spot Machine)) → Holds depot path c t → false ≡ not (have_ended forest (brood_of ticket (broods_of t)))) where

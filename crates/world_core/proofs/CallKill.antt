@@ -25,12 +25,12 @@ use Rattle.run_report.proofs.NameMaps.{yes-same}
 use Rattle.vm_cell.specs.Standing.{standing_call}
 use Rattle.world_core.specs.declared.cell.Cell.{Cell}
 use Rattle.world_core.specs.declared.world.World.{World}
-use Rattle.world_core.specs.Lent.{Lent, IsLent}
+use Rattle.world_core.specs.Lent.{Lent, IsLent, vm_of}
 use Rattle.world_core.specs.Shows.{forest, Holds, HoldsAfter, StandsAt, killed_tree}
 use Rattle.world_core.specs.World.{Forest, StandsFor}
 use Rattle.world_core.specs.Between.{IsBetween, settled_tree}
 use Rattle.world_core.specs.Answers.{IsHandedOut}
-use Rattle.world_core.proofs.Changes.{beyond-append}
+use Rattle.run_report.proofs.Below.{beyond-append}
 use Rattle.world_core.proofs.Returns.{apart-below, apart-outside, some-is, written-here, written-apart}
 use Rattle.world_core.proofs.Steps.{forest-rules}
 use Rattle.world_core.proofs.Calling.{lent_out, StandsHere, lives-out, spent-sound, spent-goes, whole-gone, gone-between, found-here, Called}
@@ -101,7 +101,7 @@ module _ (depot : Shelves) (w v : World) (f : Forest) (lease : Lent) (ticket : �
   killed-machine = refl
 
 pub kill-called : (depot : Shelves) (w : World) (f : Forest) (lease : Lent) (ticket : ℕ) (c d : Cell) (cells swept : BTreeMap Path Cell) (name sweep : Path) (vm after : Machine)
-    → StandsFor depot w f → IsHandedOut f lease → IsLent lease.start lease.ran lease.now → Some (Kill ticket) ≡ standing_call lease.now
+    → StandsFor depot w f → IsHandedOut f lease → IsLent lease.start lease.ran lease.now → Some (Kill ticket) ≡ standing_call (vm_of lease)
     → Some c ≡ get path_cmp w.cells lease.name → name ≡ lease.name → sweep ≡ lease.name → vm ≡ lease.now → WritesThrough path_cmp (path_cmp lease.name) w.cells d cells
     → ((q : Path) → get path_cmp swept q ≡ cond (begins_with ticket (beyond sweep q)) None (get path_cmp cells q)) → d.is_listed ≡ c.is_listed
     → ((t : Tree (Spot Machine)) (depot : Shelves) (path : Path) → Holds depot path c t → StandsAt vm (kill ticket) t → HoldsAfter depot path d (killed_tree ticket t))

@@ -23,17 +23,18 @@ use Rattle.forest_model.specs.Machine.{Machine}
 use Rattle.forest_model.specs.Forest.{machines, tree_call}
 use Rattle.forest_model.proofs.Rules.{machines-rules}
 use Rattle.run_report.specs.NameOrder.{path_cmp}
+use Rattle.vm_cell.specs.Keyed.{KeyedMachine, IsOfDepot}
 use Rattle.vm_cell.specs.Standing.{standing_call}
 use Rattle.world_core.specs.declared.cell.Cell.{Cell}
 use Rattle.world_core.specs.declared.cell.State.{State}
 use Rattle.world_core.specs.declared.reason.Reason.{Reason}
 use Rattle.world_core.specs.declared.world.World.{World}
-use Rattle.world_core.specs.Lent.{Lent, IsLent}
+use Rattle.world_core.specs.Lent.{Lent, IsLent, vm_of}
 use Rattle.world_core.specs.Waiting.{Waiting, IsListed}
-use Rattle.world_core.specs.Shows.{forest, IsAwake, Holds, HoldsAfter, StateShows, Shows, StandsAt, ended_tree}
+use Rattle.world_core.specs.Shows.{forest, IsAwake, Holds, HoldsAfter, StateShows, IsStateOf, Shows, StandsAt, ended_tree}
 use Rattle.world_core.specs.World.{Forest, IsDue, ShowsTree, StandsFor}
 use Rattle.world_core.specs.Between.{IsWhole, IsBetween, with_tree, settled_tree}
-use Rattle.world_core.specs.Answers.{Goes, IsHandedOut}
+use Rattle.world_core.specs.Answers.{Goes, IsHandedOut, IsLentOf}
 use Rattle.world_core.proofs.Changes.{Lies, here, below, parent, above, apart, lies}
 use Rattle.world_core.proofs.Returns.{IsOutHere, Handed, gone, there, handed, same-or-apart}
 use Rattle.world_core.proofs.Steps.{forest-rules, Holds-same, lease-runs, lease-comes, lease-same, lease-steps, standing}
@@ -105,10 +106,10 @@ unfolding spots machines
 lives-out m lives = lives
 
 pub stood : (depot : Shelves) (w : World) (f : Forest) (lease : Lent) (call : port.Call) (broods : Broods (Spot Machine)) (log : Log (Spot Machine)) (c : Cell)
-    → StandsFor depot w f → IsLent lease.start lease.ran lease.now → standing_call lease.now ≡ Some call
+    → StandsFor depot w f → IsLent lease.start lease.ran lease.now → standing_call (vm_of lease) ≡ Some call
     → IsOutHere depot w f lease.name (node (lent_out lease.start) broods log) c → StandsHere depot w f lease (tree_call call) broods log c
 stood depot w f lease call broods log c stands lent at is =
-    let calls = standing lease.now call at in
+    let calls = standing (vm_of lease) call at in
     let before : Tree (Spot Machine) = node (lent_out lease.start) broods log in
     let sound : IsSound forest before = subtree-sound forest lease.name f.tree before stands.sound is.there in
     let run : steps forest lease.ran before ≡ node (lent_out lease.now) broods log =
@@ -317,6 +318,7 @@ same-stands depot w f cells name t c d h is found others state listed held = rec
         (subst (Shows depot name (Some d)) (sym is.there) (record {
           awake = is.shows.awake;
           state = subst (λ (st : State). StateShows name st (machine t) (waits forest t)) (sym state) is.shows.state;
+          of_depot = subst (IsStateOf depot) (sym state) is.shows.of_depot;
           holds = held;
         }))
 
@@ -386,7 +388,7 @@ pub record Found (depot : Shelves) (w : World) (f : Forest) (lease : Lent) (next
   pub stands : StandsHere depot w f lease next broods log c
 
 pub found-here : (depot : Shelves) (w : World) (f : Forest) (lease : Lent) (call : port.Call) (c : Cell) → StandsFor depot w f → IsHandedOut f lease
-    → IsLent lease.start lease.ran lease.now → Some call ≡ standing_call lease.now → Some c ≡ get path_cmp w.cells lease.name
+    → IsLent lease.start lease.ran lease.now → Some call ≡ standing_call (vm_of lease) → Some c ≡ get path_cmp w.cells lease.name
     → Found depot w f lease (tree_call call) c
 found-here depot w f lease call c h out_as lent at found = by (handed depot w f lease h out_as)
   where
@@ -432,6 +434,11 @@ settled-lives (node s broods log) vm is e =
 pub lives-by : (a : Tree (Spot Machine)) (vm : Machine) → (machine a).machine ≡ vm → None ≡ vm.ending → has_ended forest a ≡ false
 unfolding spots machines
 lives-by (node s broods log) vm is e = ap is_some (ap (λ (m : Machine). m.ending) is ∙ sym e)
+
+-- ---- a machine whose absent pages are where they were
+
+pub same-image : (depot : Shelves) (v : KeyedMachine) (lease : Lent) → v.key ≡ lease.key → IsLentOf depot lease → IsOfDepot depot v.key
+same-image depot v lease same of_depot = subst (IsOfDepot depot) (sym same) of_depot
 
 -- ---- a result that is an error, or is not
 

@@ -1,5 +1,5 @@
 -- What a change of one machine leaves of what a world shows.
-use Rattle.std.proofs.Common.{◌≡◌, ℕ, zero, suc, ◌&&◌, eqb, eqb-true, Bool, true, false, cond, refl, sym, ap, ap₂, ◌∙◌, subst, arith, List, [], ◌∷◌, ◌++◌, Option, Some, None, is_some, option_and_then, option_map}
+use Rattle.std.proofs.Common.{◌≡◌, ℕ, zero, suc, ◌&&◌, eqb, eqb-true, Bool, true, false, cond, refl, sym, ap, ◌∙◌, subst, arith, List, [], ◌∷◌, ◌++◌, Option, Some, None, is_some, option_and_then, option_map}
 use Rattle.std.specs.BTreeMap.{get}
 use Rattle.std.specs.Ordering.{nat_cmp}
 use Rattle.std.proofs.lemmas.List.{append-nil}
@@ -8,7 +8,6 @@ use Rattle.fork_port.specs.declared.ending.Ending.{Ending}
 use Rattle.forest_tree.specs.Operations.{is_cloned}
 use Rattle.forest_tree.specs.Tree.{Tree, node, Trees, no_tree, tree, Broods, Log, machine, broods_of, at_child, child_at, brood_of, at_brood, Branch, Path, subtree, beyond, goes_on}
 use Rattle.forest_tree.specs.Settle.{alone, has_ended, waits}
-use Rattle.forest_tree.proofs.Broods.{eqb-same}
 use Rattle.forest_tree.proofs.Places.{some-same, brood_of-at, at_child-none, subtree-parts}
 use Rattle.forest_history.specs.Places.{at_path, at_beyond, Spot, spots}
 use Rattle.forest_history.specs.World.{is_asleep_at}
@@ -19,9 +18,11 @@ use Rattle.forest_model.specs.Machine.{Machine}
 use Rattle.forest_model.specs.Forest.{machines}
 use Rattle.image_depot.specs.Key.{Shelves, Key}
 use Rattle.vm_descriptor.specs.declared.descriptor.Descriptor.{Descriptor}
+use Rattle.vm_descriptor.specs.Descriptor.{numbered}
 use Rattle.vm_cell.specs.declared.vm.fork.Brood.{Brood as Young}
 use Rattle.run_report.specs.Lines.{lines}
 use Rattle.run_report.specs.Name.{child_path}
+use Rattle.run_report.proofs.Below.{beyond-is}
 use Rattle.world_core.specs.declared.cell.Brood.{Brood}
 use Rattle.world_core.specs.declared.cell.Cell.{Cell}
 use Rattle.world_core.specs.declared.cell.Slot.{Slot}
@@ -29,26 +30,6 @@ use Rattle.world_core.specs.declared.cell.Slot.TheVariants.{Asleep, Awake, Ended
 use Rattle.world_core.specs.Shows.{forest, told_spot, IsAwake, sleeper, SlotShows, SlotsShow, BornShows, BroodAt, StateShows, Holds, CellShows, IsNoCell, Shows}
 
 -- ---- names, by where they lie
-
-pub beyond-append : (way rest : Path) → beyond way (way ++ rest) ≡ Some rest
-unfolding beyond
-beyond-append [] rest = refl
-beyond-append (a ∷ way) rest =
-    ap₂ (λ s t. cond (s && t) (beyond way (way ++ rest)) None) (eqb-same a.ticket) (eqb-same a.child) ∙ beyond-append way rest
-
-pub beyond-is : (way path rest : Path) → beyond way path ≡ Some rest → path ≡ way ++ rest
-unfolding beyond
-beyond-is [] path rest e = some-same path rest e
-beyond-is (a ∷ way) [] rest e = absurd (cc)
-beyond-is (a ∷ way) (b ∷ path) rest e = by (eqb b.ticket a.ticket) (eqb b.child a.child) refl refl e (beyond-is way path rest)
-  where
-    by : (s t : Bool) → eqb b.ticket a.ticket ≡ s → eqb b.child a.child ≡ t → cond (s && t) (beyond way path) None ≡ Some rest
-        → (beyond way path ≡ Some rest → path ≡ way ++ rest) → b ∷ path ≡ a ∷ (way ++ rest)
-    by true true s t e down =
-        let fork : ℕ → ℕ → Branch = λ ticket child. record { ticket = ticket; child = child } in
-        ap₂ (λ x xs. x ∷ xs) (ap₂ fork (eqb-true b.ticket a.ticket s) (eqb-true b.child a.child t)) (down e)
-    by true false s t e down = absurd (cc)
-    by false t s u e down = absurd (cc)
 
 -- a name goes on from another by one fork
 abbrev pub is_one : Option Path → Bool
@@ -131,19 +112,17 @@ module _ (g : Tree (Spot Machine) → Tree (Spot Machine)) where
   abbrev KeepsAt : ℕ → Trees (Spot Machine) → Type 0
   KeepsAt k trees = (a : Tree (Spot Machine)) → child_at k trees ≡ Some a → KeepsSlot g a
 
-  slots-kept : (path : Path) (ticket : ℕ) (key : Key) (j k : ℕ) (seeds : List Descriptor) (slots : List Slot) (trees : Trees (Spot Machine))
-      → KeepsAt k trees → SlotsShow path ticket key j seeds slots trees → SlotsShow path ticket key j seeds slots (at_child g k trees)
+  slots-kept : (path : Path) (ticket : ℕ) (key : Key) (j k : ℕ) (seed : Descriptor) (slots : List Slot) (trees : Trees (Spot Machine))
+      → KeepsAt k trees → SlotsShow path ticket key j seed slots trees → SlotsShow path ticket key j seed slots (at_child g k trees)
   unfolding SlotsShow at_child child_at
-  slots-kept path ticket key j k [] [] no_tree keeps h = tt
-  slots-kept path ticket key j k [] [] (tree t rest) keeps h = absurd h
-  slots-kept path ticket key j k [] (slot ∷ slots) trees keeps h = absurd h
-  slots-kept path ticket key j k (seed ∷ seeds) [] trees keeps h = absurd h
-  slots-kept path ticket key j k (seed ∷ seeds) (slot ∷ slots) no_tree keeps h = absurd h
-  slots-kept path ticket key j zero (seed ∷ seeds) (slot ∷ slots) (tree t rest) keeps h = h
-  slots-kept path ticket key j (suc zero) (seed ∷ seeds) (slot ∷ slots) (tree t rest) keeps h =
-      ((keeps t refl).slot (child_path path ticket j) key seed slot h.0, h.1)
-  slots-kept path ticket key j (suc (suc k)) (seed ∷ seeds) (slot ∷ slots) (tree t rest) keeps h =
-      (h.0, slots-kept path ticket key (suc j) (suc k) seeds slots rest keeps h.1)
+  slots-kept path ticket key j k seed [] no_tree keeps h = tt
+  slots-kept path ticket key j k seed [] (tree t rest) keeps h = absurd h
+  slots-kept path ticket key j k seed (slot ∷ slots) no_tree keeps h = absurd h
+  slots-kept path ticket key j zero seed (slot ∷ slots) (tree t rest) keeps h = h
+  slots-kept path ticket key j (suc zero) seed (slot ∷ slots) (tree t rest) keeps h =
+      ((keeps t refl).slot (child_path path ticket j) key (numbered j seed) slot h.0, h.1)
+  slots-kept path ticket key j (suc (suc k)) seed (slot ∷ slots) (tree t rest) keeps h =
+      (h.0, slots-kept path ticket key (suc j) (suc k) seed slots rest keeps h.1)
 
   living-by : (k : ℕ) (trees : Trees (Spot Machine)) (c : Option (Tree (Spot Machine))) → child_at k trees ≡ c → KeepsAt k trees
       → living forest (at_child g k trees) ≡ living forest trees
@@ -157,7 +136,7 @@ module _ (g : Tree (Spot Machine) → Tree (Spot Machine)) where
       → BornShows depot path ticket young slots trees → BornShows depot path ticket young slots (at_child g k trees)
   born-kept depot path ticket k None slots trees keeps h = absurd h
   born-kept depot path ticket k (Some young) slots trees keeps h =
-      (h.0, slots-kept path ticket young.key 1 k young.seeds.items slots trees keeps h.1)
+      (h.0, slots-kept path ticket young.key 1 k young.seed slots trees keeps h.1)
 
   brood-kept : (depot : Shelves) (path : Path) (ticket k : ℕ) (b : Option Brood) (is : Bool) (trees : Trees (Spot Machine)) → KeepsAt k trees
       → BroodAt depot path ticket b is trees → BroodAt depot path ticket b is (at_child g k trees)
@@ -219,6 +198,7 @@ module _ (f : Tree (Spot Machine) → Tree (Spot Machine)) where
   cell-kept depot path c x rest (node s broods log) keeps waiting h = record {
     awake = record { lives = h.awake.lives; awake = h.awake.awake };
     state = subst (StateShows path c.state s) (sym waiting) h.state;
+    of_depot = h.of_depot;
     holds = holds-kept (at_path f rest) depot path c x s broods log keeps h.holds;
   }
 

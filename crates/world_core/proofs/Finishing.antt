@@ -24,7 +24,8 @@ use Rattle.world_core.specs.Waiting.{IsListed}
 use Rattle.world_core.specs.Shows.{forest, told_spot, TallyAt, Tallies, HoldsAfter, IsAwake, CellShows, Shows, child_of, ended_tree}
 use Rattle.world_core.specs.World.{Forest, IsDue, StandsFor}
 use Rattle.world_core.specs.Between.{HasLeft, IsBetween, IsLeaving, IsWhole, TakesOut, with_tree}
-use Rattle.world_core.proofs.Changes.{beyond-append, Lies, here, below, parent, above, apart, lies, child-there, beyond-parent}
+use Rattle.run_report.proofs.Below.{beyond-append}
+use Rattle.world_core.proofs.Changes.{Lies, here, below, parent, above, apart, lies, child-there, beyond-parent}
 use Rattle.world_core.proofs.Returns.{there-is, no-cell}
 use Rattle.world_core.proofs.Leaving.{left-ended, parent-shows}
 use Rattle.world_core.proofs.Awake.{child-below, awake-cell, awake-there}

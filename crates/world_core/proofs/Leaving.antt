@@ -25,7 +25,8 @@ use Rattle.world_core.specs.Waiting.{Waiting, IsListed, IsCovered}
 use Rattle.world_core.specs.Shows.{forest, IsAwake, CellShows, Shows, with_child, child_of}
 use Rattle.world_core.specs.World.{Forest, IsDue, ShowsTree, StandsFor}
 use Rattle.world_core.specs.Between.{HasLeft, IsLeaving, TakesOut, with_tree}
-use Rattle.world_core.proofs.Changes.{beyond-append, beyond-is, is_one, child-there, outside, shows-changed, beyond-parent}
+use Rattle.run_report.proofs.Below.{beyond-append, beyond-is}
+use Rattle.world_core.proofs.Changes.{is_one, child-there, outside, shows-changed, beyond-parent}
 use Rattle.world_core.proofs.Ready.{ready-changed}
 use Rattle.world_core.proofs.Returns.{apart-below, apart-outside, same-or-apart, some-is, there-is, written-here, written-apart}
 

@@ -1,5 +1,6 @@
 pub mod TurnLists
 pub mod Steps
+pub mod Fetching
 pub mod Changes
 pub mod AtPlaces
 pub mod Ready
@@ -20,6 +21,7 @@ pub mod Waking
 pub mod TurnOfChildren
 pub mod TurnByTurn
 pub mod ByName
+pub mod Depths
 pub mod Leaving
 pub mod Finishing
 mod LogKilled

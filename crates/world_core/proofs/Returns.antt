@@ -19,6 +19,7 @@ use Rattle.forest_model.specs.Machine.{Machine}
 use Rattle.forest_model.specs.Forest.{machines}
 use Rattle.run_report.specs.NameOrder.{path_cmp}
 use Rattle.run_report.specs.Report.{Ended}
+use Rattle.vm_cell.specs.Keyed.{KeyedMachine, IsOfDepot}
 use Rattle.world_core.specs.declared.reason.Reason.{Reason}
 use Rattle.world_core.specs.declared.cell.Cell.{Cell}
 use Rattle.world_core.specs.declared.cell.State.TheVariants.{Home}
@@ -29,7 +30,8 @@ use Rattle.world_core.specs.Lent.{Lent}
 use Rattle.world_core.specs.Answers.{IsOutAs, IsHandedOut}
 use Rattle.world_core.specs.World.{Forest, IsDue, ShowsLive, ShowsTree, StandsFor}
 use Rattle.world_core.specs.Between.{IsBetween, with_tree}
-use Rattle.world_core.proofs.Changes.{beyond-append, Lies, here, below, parent, above, apart, lies, parent-awake, shows-changed}
+use Rattle.run_report.proofs.Below.{beyond-append}
+use Rattle.world_core.proofs.Changes.{Lies, here, below, parent, above, apart, lies, parent-awake, shows-changed}
 use Rattle.world_core.proofs.Ready.{parent-ready, ready-changed}
 use Rattle.world_core.proofs.AtPlaces.{holds-placed, lives-placed}
 use Rattle.run_report.proofs.NameMaps.{updated-here, updated-apart}
@@ -189,13 +191,13 @@ pub below-placed : (place : Place) (t : Tree (Spot Machine)) (x : Branch) (rest 
 unfolding subtree
 below-placed place (node s broods log) x rest = refl
 
-pub home-stands : (depot : Shelves) (w : World) (f : Forest) (name : Path) (a : Tree (Spot Machine)) (vm : Box Machine Global) (cells : BTreeMap Path Cell)
-    (list : List Waiting) (c : Cell) (listed : Bool) → IsBetween depot w f name a → (machine a).machine ≡ vm.value → has_ended forest a ≡ false
+pub home-stands : (depot : Shelves) (w : World) (f : Forest) (name : Path) (a : Tree (Spot Machine)) (vm : Box KeyedMachine Global) (cells : BTreeMap Path Cell)
+    (list : List Waiting) (c : Cell) (listed : Bool) → IsBetween depot w f name a → (machine a).machine ≡ vm.value.machine → IsOfDepot depot vm.value.key → has_ended forest a ≡ false
     → IsSound forest (with_tree name (placed home a) f).tree → get path_cmp w.cells name ≡ Some c
     → get path_cmp cells name ≡ Some (record c { state = Home vm; is_listed = listed }) → ((n : Path) → name ≢ n → get path_cmp cells n ≡ get path_cmp w.cells n)
     → IsListed name list → ((n : Path) → IsListed n w.ready → IsListed n list) → ((n : Path) → IsCovered n w.ready → IsCovered n list)
     → StandsFor depot (record w { cells = cells; ready = list }) (with_tree name (placed home a) f)
-home-stands depot w f name a vm cells list c listed between same lives sound found now others first more covers =
+home-stands depot w f name a vm cells list c listed between same of_depot lives sound found now others first more covers =
     let after : IsAwake (placed home a) = record {
       lives = lives-placed home a ∙ lives;
       awake = ap is_asleep_at (place-placed home a);
@@ -206,6 +208,7 @@ home-stands depot w f name a vm cells list c listed between same lives sound fou
     (record {
       awake = after;
       state = (sym (machine-placed home a ∙ same), inl (place-placed home a));
+      of_depot = of_depot;
       holds = holds-placed depot name c (Home vm) listed home a (holds.1 lives);
     }))
     (λ ready. first)
@@ -215,16 +218,16 @@ pub some-is : {A : Type 0} (a : A) (o : Option A) → Some a ≡ o → IsSome o
 some-is a None e = absurd (cc)
 some-is a (Some b) e = refl
 
-pub home-written : (depot : Shelves) (w : World) (f : Forest) (name : Path) (a : Tree (Spot Machine)) (vm : Box Machine Global) (cells : BTreeMap Path Cell)
-    (list : List Waiting) (c : Cell) (listed : Bool) → IsBetween depot w f name a → (machine a).machine ≡ vm.value → has_ended forest a ≡ false
+pub home-written : (depot : Shelves) (w : World) (f : Forest) (name : Path) (a : Tree (Spot Machine)) (vm : Box KeyedMachine Global) (cells : BTreeMap Path Cell)
+    (list : List Waiting) (c : Cell) (listed : Bool) → IsBetween depot w f name a → (machine a).machine ≡ vm.value.machine → IsOfDepot depot vm.value.key → has_ended forest a ≡ false
     → IsSound forest (with_tree name (placed home a) f).tree → Some c ≡ get path_cmp w.cells name
     → WritesThrough path_cmp (path_cmp name) w.cells (record c { state = Home vm; is_listed = listed }) cells
     → IsListed name list → ((n : Path) → IsListed n w.ready → IsListed n list) → ((n : Path) → IsCovered n w.ready → IsCovered n list)
     → StandsFor depot (record w { cells = cells; ready = list }) (with_tree name (placed home a) f)
-home-written depot w f name a vm cells list c listed between same lives sound found written first more covers =
+home-written depot w f name a vm cells list c listed between same of_depot lives sound found written first more covers =
     let after : Cell = record c { state = Home vm; is_listed = listed } in
     let some = some-is c (get path_cmp w.cells name) found in
-    home-stands depot w f name a vm cells list c listed between same lives sound (sym found) (written-here w.cells cells name after written some)
+    home-stands depot w f name a vm cells list c listed between same of_depot lives sound (sym found) (written-here w.cells cells name after written some)
     (written-apart w.cells cells name after written some) first more covers
 
 -- ---- a machine on lease

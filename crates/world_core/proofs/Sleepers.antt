@@ -14,6 +14,7 @@ use Rattle.image_depot.specs.Key.{Key}
 use Rattle.run_report.specs.Name.{child_path}
 use Rattle.run_report.specs.NameOrder.{path_cmp}
 use Rattle.vm_descriptor.specs.declared.descriptor.Descriptor.{Descriptor}
+use Rattle.vm_descriptor.specs.Descriptor.{numbered}
 use Rattle.vm_cell.specs.declared.vm.fork.Brood.{Brood as Young}
 use Rattle.world_core.specs.declared.cell.Brood.{Brood}
 use Rattle.world_core.specs.declared.cell.Cell.{Cell}
@@ -95,36 +96,32 @@ module _ (depot : Shelves) (cells : BTreeMap Path Cell) (t : Tree (Spot Machine)
           ]
 
 -- what a slot that is asleep or not is of
-slot-sleeps : (path : Path) (ticket : ℕ) (key : Key) (k : ℕ) (seeds : List Descriptor) (slots : List Slot) (trees : Trees (Spot Machine)) (j : ℕ)
-    → SlotsShow path ticket key k seeds slots trees → slice_get slots j ≡ Some Asleep → wakes (child_at (suc j) trees) ≡ true
+slot-sleeps : (path : Path) (ticket : ℕ) (key : Key) (k : ℕ) (seed : Descriptor) (slots : List Slot) (trees : Trees (Spot Machine)) (j : ℕ)
+    → SlotsShow path ticket key k seed slots trees → slice_get slots j ≡ Some Asleep → wakes (child_at (suc j) trees) ≡ true
 unfolding SlotsShow child_at
-slot-sleeps path ticket key k [] [] no_tree j h there = absurd (cc)
-slot-sleeps path ticket key k [] [] (tree t rest) j h there = absurd h
-slot-sleeps path ticket key k [] (slot ∷ slots) trees j h there = absurd h
-slot-sleeps path ticket key k (seed ∷ seeds) [] trees j h there = absurd h
-slot-sleeps path ticket key k (seed ∷ seeds) (slot ∷ slots) no_tree j h there = absurd h
-slot-sleeps path ticket key k (seed ∷ seeds) (slot ∷ slots) (tree t rest) zero h there =
-    wakes-slot (child_path path ticket k) key seed slot t h.0 ∙ ap (λ s. is_asleep_slot (Some s)) (some-same slot Asleep there)
-slot-sleeps path ticket key k (seed ∷ seeds) (slot ∷ slots) (tree t rest) (suc j) h there =
-    slot-sleeps path ticket key (suc k) seeds slots rest j h.1 there
+slot-sleeps path ticket key k seed [] no_tree j h there = absurd (cc)
+slot-sleeps path ticket key k seed [] (tree t rest) j h there = absurd h
+slot-sleeps path ticket key k seed (slot ∷ slots) no_tree j h there = absurd h
+slot-sleeps path ticket key k seed (slot ∷ slots) (tree t rest) zero h there =
+    wakes-slot (child_path path ticket k) key (numbered k seed) slot t h.0 ∙ ap (λ s. is_asleep_slot (Some s)) (some-same slot Asleep there)
+slot-sleeps path ticket key k seed (slot ∷ slots) (tree t rest) (suc j) h there =
+    slot-sleeps path ticket key (suc k) seed slots rest j h.1 there
 
-slot-wakes : (path : Path) (ticket : ℕ) (key : Key) (k : ℕ) (seeds : List Descriptor) (slots : List Slot) (trees : Trees (Spot Machine)) (j : ℕ)
-    → SlotsShow path ticket key k seeds slots trees → IsNotAsleep (slice_get slots j) → wakes (child_at (suc j) trees) ≡ false
+slot-wakes : (path : Path) (ticket : ℕ) (key : Key) (k : ℕ) (seed : Descriptor) (slots : List Slot) (trees : Trees (Spot Machine)) (j : ℕ)
+    → SlotsShow path ticket key k seed slots trees → IsNotAsleep (slice_get slots j) → wakes (child_at (suc j) trees) ≡ false
 unfolding SlotsShow child_at
-slot-wakes path ticket key k [] [] no_tree j h there = refl
-slot-wakes path ticket key k [] [] (tree t rest) j h there = absurd h
-slot-wakes path ticket key k [] (slot ∷ slots) trees j h there = absurd h
-slot-wakes path ticket key k (seed ∷ seeds) [] trees j h there = absurd h
-slot-wakes path ticket key k (seed ∷ seeds) (slot ∷ slots) no_tree j h there = absurd h
-slot-wakes path ticket key k (seed ∷ seeds) (slot ∷ slots) (tree t rest) zero h there =
-    wakes-slot (child_path path ticket k) key seed slot t h.0 ∙ by slot there
+slot-wakes path ticket key k seed [] no_tree j h there = refl
+slot-wakes path ticket key k seed [] (tree t rest) j h there = absurd h
+slot-wakes path ticket key k seed (slot ∷ slots) no_tree j h there = absurd h
+slot-wakes path ticket key k seed (slot ∷ slots) (tree t rest) zero h there =
+    wakes-slot (child_path path ticket k) key (numbered k seed) slot t h.0 ∙ by slot there
   where
     by : (slot : Slot) → IsNotAsleep (Some slot) → is_asleep_slot (Some slot) ≡ false
     by Asleep there = absurd there
     by Awake there = refl
     by (Ended outcome) there = refl
-slot-wakes path ticket key k (seed ∷ seeds) (slot ∷ slots) (tree t rest) (suc j) h there =
-    slot-wakes path ticket key (suc k) seeds slots rest j h.1 there
+slot-wakes path ticket key k seed (slot ∷ slots) (tree t rest) (suc j) h there =
+    slot-wakes path ticket key (suc k) seed slots rest j h.1 there
 
 not-zero : (trees : Trees (Spot Machine)) → wakes (child_at 0 trees) ≡ false
 unfolding child_at
@@ -137,7 +134,7 @@ born-sleeps depot path ticket k None slots trees h one there = absurd h
 born-sleeps depot path ticket zero (Some young) slots trees h one there = absurd (omega arith)
 born-sleeps depot path ticket (suc j) (Some young) slots trees h one there =
     let same : suc j - 1 ≡ j = omega arith in
-    slot-sleeps path ticket young.key 1 young.seeds.items slots trees j h.1 (ap (slice_get slots) (sym same) ∙ there)
+    slot-sleeps path ticket young.key 1 young.seed slots trees j h.1 (ap (slice_get slots) (sym same) ∙ there)
 
 born-wakes : (depot : Shelves) (path : Path) (ticket k : ℕ) (young : Option Young) (slots : List Slot) (trees : Trees (Spot Machine))
     → BornShows depot path ticket young slots trees → (1 ≤ k → IsNotAsleep (slot_at k slots)) → wakes (child_at k trees) ≡ false
@@ -145,7 +142,7 @@ born-wakes depot path ticket k None slots trees h there = absurd h
 born-wakes depot path ticket zero (Some young) slots trees h there = not-zero trees
 born-wakes depot path ticket (suc j) (Some young) slots trees h there =
     let same : suc j - 1 ≡ j = omega arith in
-    slot-wakes path ticket young.key 1 young.seeds.items slots trees j h.1 (subst (λ i. IsNotAsleep (slice_get slots i)) same (there (omega arith)))
+    slot-wakes path ticket young.key 1 young.seed slots trees j h.1 (subst (λ i. IsNotAsleep (slice_get slots i)) same (there (omega arith)))
 
 -- a child's slot tells whether it is still a descriptor
 born-slot : (depot : Shelves) (path : Path) (ticket k : ℕ) (young : Option Young) (slots : List Slot) (trees : Trees (Spot Machine))

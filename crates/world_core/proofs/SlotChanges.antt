@@ -1,17 +1,23 @@
 -- A child of a cell's machine, and the cell once that child has changed.
-use Rattle.std.proofs.Common.{◌≡◌, ℕ, zero, suc, ◌+◌, ◌-◌, ◌<◌, ◌≤◌, true, false, length, List, Option, Some, None, is_some, slice_get, vec_len, sym, ap, ◌∙◌, subst, arith}
+use Rattle.std.proofs.Common.{◌≡◌, ℕ, zero, suc, ◌+◌, ◌-◌, ◌<◌, ◌≤◌, true, false, length, List, Option, Some, None, is_some, vec_len, sym, ap, ◌∙◌, subst, arith}
 use Rattle.std.proofs.lemmas.Option.{slice_get_within}
 use Rattle.std.specs.Ordering.{nat_cmp}
 use Rattle.std.specs.BTreeMap.{get}
 use Rattle.forest_tree.specs.Tree.{Tree, Trees, machine, broods_of, brood_of, child_at, Path}
 use Rattle.forest_tree.specs.Settle.{has_ended}
+use Rattle.forest_tree.proofs.Places.{some-same}
 use Rattle.forest_history.specs.Places.{Spot, spots}
 use Rattle.forest_history.specs.World.{is_asleep_at}
 use Rattle.forest_model.specs.Machine.{Machine}
 use Rattle.forest_model.specs.Forest.{machines}
 use Rattle.image_depot.specs.Key.{Shelves, Key, IsKeyOf, image_of}
 use Rattle.vm_descriptor.specs.declared.descriptor.Descriptor.{Descriptor}
-use Rattle.vm_cell.specs.Woken.{IsOfImage, woken}
+use Rattle.vm_descriptor.specs.Descriptor.{numbered}
+use Rattle.std.specs.Result.{IfOk}
+use Rattle.std.specs.Prelude.{Result, Ok, Err}
+use Rattle.std.specs.declared.alloc.AllocError.{AllocError}
+use Rattle.vm_cell.specs.Keyed.{KeyedMachine, IsOfDepot}
+use Rattle.vm_cell.specs.Woken.{woken, woken_machine}
 use Rattle.vm_cell.specs.declared.vm.fork.Brood.{Brood as Young}
 use Rattle.run_report.specs.Name.{child_path}
 use Rattle.world_core.specs.declared.cell.Brood.{Brood}
@@ -33,21 +39,21 @@ no-brood-no-child depot path c t a ticket index h found none =
 pub record IsChildSlot (depot : Shelves) (path : Path) (ticket index : ℕ) (young : Young) (slots : List Slot) (a : Tree (Spot Machine)) : Type 0 where
   pub first : 1 ≤ index
   pub key : IsKeyOf depot young.key
-  pub has : HasSlot path ticket young.key 1 (index - 1) young.seeds.items slots a
+  pub has : HasSlot path ticket young.key 1 (index - 1) young.seed slots a
 
-slot-at : (path : Path) (ticket index : ℕ) (key : Key) (seeds : List Descriptor) (slots : List Slot) (trees : Trees (Spot Machine)) (a : Tree (Spot Machine))
-    → SlotsShow path ticket key 1 seeds slots trees → child_at index trees ≡ Some a
-    → (1 ≤ index) × HasSlot path ticket key 1 (index - 1) seeds slots a
-slot-at path ticket zero key seeds slots trees a h found = absurd (not-first trees a found)
-slot-at path ticket (suc j) key seeds slots trees a h found =
-    (omega arith, subst (λ i. HasSlot path ticket key 1 i seeds slots a) (omega arith) (slot-of path ticket key 1 seeds slots trees j a h found))
+slot-at : (path : Path) (ticket index : ℕ) (key : Key) (seed : Descriptor) (slots : List Slot) (trees : Trees (Spot Machine)) (a : Tree (Spot Machine))
+    → SlotsShow path ticket key 1 seed slots trees → child_at index trees ≡ Some a
+    → (1 ≤ index) × HasSlot path ticket key 1 (index - 1) seed slots a
+slot-at path ticket zero key seed slots trees a h found = absurd (not-first trees a found)
+slot-at path ticket (suc j) key seed slots trees a h found =
+    (omega arith, subst (λ i. HasSlot path ticket key 1 i seed slots a) (omega arith) (slot-of path ticket key 1 seed slots trees j a h found))
 
 child-slot-by : (depot : Shelves) (path : Path) (ticket index : ℕ) (born : Option Young) (young : Young) (slots : List Slot) (trees : Trees (Spot Machine))
     (a : Tree (Spot Machine)) → BornShows depot path ticket born slots trees → born ≡ Some young → child_at index trees ≡ Some a
     → IsChildSlot depot path ticket index young slots a
 child-slot-by depot path ticket index born young slots trees a h is found =
     let shown : BornShows depot path ticket (Some young) slots trees = subst (λ y. BornShows depot path ticket y slots trees) is h in
-    let at = slot-at path ticket index young.key young.seeds.items slots trees a shown.1 found in
+    let at = slot-at path ticket index young.key young.seed slots trees a shown.1 found in
     record { first = at.0; key = shown.0; has = at.1 }
 
 pub child-slot : (depot : Shelves) (path : Path) (c : Cell) (t a : Tree (Spot Machine)) (ticket index : ℕ) (b : Brood) (young : Young) → Holds depot path c t
@@ -61,7 +67,7 @@ place-by : (depot : Shelves) (path : Path) (ticket index : ℕ) (born : Option Y
     → BornShows depot path ticket born slots trees → child_at index trees ≡ Some a → (1 ≤ index) × (index - 1 < length slots)
 place-by depot path ticket index None slots trees a h found = absurd h
 place-by depot path ticket index (Some young) slots trees a h found =
-    let at = slot-at path ticket index young.key young.seeds.items slots trees a h.1 found in
+    let at = slot-at path ticket index young.key young.seed slots trees a h.1 found in
     (at.0, slice_get_within slots (index - 1) at.1.slot at.1.slot_at)
 
 pub child-place : (depot : Shelves) (path : Path) (c : Cell) (t a : Tree (Spot Machine)) (ticket index : ℕ) (b : Brood) → Holds depot path c t
@@ -81,27 +87,30 @@ sleeps-by path key seed (Ended outcome) a h asleep lives = let no : true ≡ fal
 pub record IsSleepersSeed (depot : Shelves) (index : ℕ) (young : Young) (a : Tree (Spot Machine)) : Type 0 where
   pub first : 1 ≤ index
   pub key : IsKeyOf depot young.key
-  pub seed : Descriptor
-  pub seed_at : slice_get young.seeds.items (index - 1) ≡ Some seed
-  pub sleeps : Sleeps young.key seed a
+  pub sleeps : Sleeps young.key (numbered index young.seed) a
 
 pub sleepers-seed : (depot : Shelves) (path : Path) (c : Cell) (t a : Tree (Spot Machine)) (ticket index : ℕ) (b : Brood) (young : Young) → Holds depot path c t
     → child_of ticket index t ≡ Some a → is_asleep_at (machine a).place ≡ true → has_ended forest a ≡ false → get nat_cmp c.broods ticket ≡ Some b
     → b.young ≡ Some young → IsSleepersSeed depot index young a
 sleepers-seed depot path c t a ticket index b young h found asleep lives some is =
-    let at = child-slot depot path c t a ticket index b young h found some is in record {
+    let at = child-slot depot path c t a ticket index b young h found some is in
+    let first : 1 ≤ index = at.first in
+    let same : 1 + (index - 1) ≡ index = omega arith in
+    record {
       first = at.first;
       key = at.key;
-      seed = at.has.seed;
-      seed_at = at.has.seed_at;
-      sleeps = sleeps-by (child_path path ticket (1 + (index - 1))) young.key at.has.seed at.has.slot a at.has.shows asleep lives;
+      sleeps = subst (λ n. Sleeps young.key (numbered n young.seed) a) same
+          (sleeps-by (child_path path ticket (1 + (index - 1))) young.key (numbered (1 + (index - 1)) young.seed) at.has.slot a at.has.shows asleep lives);
     }
 
--- the machine that the seed wakes to
-pub wakes-to : (depot : Shelves) (index : ℕ) (young : Young) (a : Tree (Spot Machine)) (seed : Descriptor) → IsSleepersSeed depot index young a
-    → slice_get young.seeds.items (index - 1) ≡ Some seed → IsOfImage young.key seed × ((machine a).machine ≡ woken seed (image_of young.key))
-wakes-to depot index young a seed h at =
-    let same : h.seed ≡ seed = cc (h.seed_at, at) in (
-      subst (IsOfImage young.key) same h.sleeps.of_image,
-      subst (λ s. (machine a).machine ≡ woken s (image_of young.key)) same (ap (λ (u : Tree (Spot Machine)). (machine u).machine) h.sleeps.born),
-    )
+-- the machine that the seed wakes to, by its number
+pub wakes-to : (depot : Shelves) (index : ℕ) (young : Young) (a : Tree (Spot Machine)) (seed : Descriptor) (r : Result KeyedMachine AllocError)
+    → IsSleepersSeed depot index young a → seed ≡ numbered index young.seed → IfOk r (λ v. v ≡ woken seed young.key)
+    → IfOk r (λ v. (v.machine ≡ (machine a).machine) × IsOfDepot depot v.key)
+unfolding woken
+wakes-to depot index young a seed (Ok v) h is wakes = (
+  ap (λ (w : KeyedMachine). w.machine) wakes ∙ ap (λ d. woken_machine d (image_of young.key)) is
+      ∙ sym (ap (λ (u : Tree (Spot Machine)). (machine u).machine) h.sleeps.born),
+  subst (λ (w : KeyedMachine). IsOfDepot depot w.key) (sym wakes) (λ key is_key. subst (IsKeyOf depot) (some-same young.key key is_key) h.key),
+)
+wakes-to depot index young a seed (Err e) h is wakes = tt

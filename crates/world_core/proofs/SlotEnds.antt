@@ -21,7 +21,7 @@ use Rattle.world_core.specs.declared.cell.Cell.{Cell}
 use Rattle.world_core.specs.declared.cell.State.{State}
 use Rattle.world_core.specs.declared.cell.State.TheVariants.{Home, Parked, Out}
 use Rattle.world_core.specs.declared.cell.Slot.TheVariants.{Awake, Ended}
-use Rattle.world_core.specs.Shows.{forest, told_spot, IsAwake, StateShows, Holds, CellShows, child_of, with_child}
+use Rattle.world_core.specs.Shows.{forest, told_spot, IsAwake, StateShows, IsStateOf, Holds, CellShows, child_of, with_child}
 use Rattle.world_core.specs.Unparked.{unparked, is_parked_for}
 use Rattle.world_core.proofs.SlotPlaces.{awake-placed, both, ready-home}
 use Rattle.world_core.proofs.SlotWaits.{one-held, has-life, goes-on, waits-elsewhere, waits-here, waits-still}
@@ -37,6 +37,7 @@ wakes-shows depot path ticket index c broods old (node s trees log) a h found li
     let still : has_ended forest (placed out a) ≡ false = lives-placed out a ∙ lives in record {
       awake = record { lives = h.awake.lives; awake = h.awake.awake };
       state = subst (StateShows path c.state s) (sym (waits-still ticket index a (placed out a) trees found lives (forest.call s) still)) h.state;
+      of_depot = h.of_depot;
       holds = holds-with depot path ticket index a (placed out a) Awake (λ key seed. awake-placed out refl a lives) c broods old old.live
           (node s trees log) h.holds found some
           (written c.broods broods ticket (brood_with old index Awake old.live) w (subst IsSome (sym some) refl))
@@ -209,8 +210,19 @@ ended-shows depot path ticket index c broods old outcome t a b h found is told s
   awake = awake-with ticket index b t h.awake;
   state = state-kept-at path ticket index c.state t a b found is.lives
       (subst (λ n. 1 ≤ n) (left-live depot path ticket index c old outcome t a b h found is told some) more) h.state;
+  of_depot = h.of_depot;
   holds = holds-ended depot path ticket index c old outcome t a b h found is told some broods w said;
 }
+
+-- a machine that waits no more has its pages where it had them
+unparked-of : (depot : Shelves) (ticket : ℕ) (state : State) → IsStateOf depot state → IsStateOf depot (unparked ticket state)
+unparked-of depot ticket (Home vm) h = h
+unparked-of depot ticket (Parked waited vm turn) h = by (eqb waited ticket)
+  where
+    by : (same : Bool) → IsStateOf depot (cond same (Home vm) (Parked waited vm turn))
+    by true = h
+    by false = h
+unparked-of depot ticket (Out start) h = h
 
 -- and where none does, it waits no more
 pub ended-unparks : (depot : Shelves) (path : Path) (ticket index : ℕ) (c d : Cell) (broods : BTreeMap ℕ Brood) (old : Brood) (outcome : Line)
@@ -224,6 +236,7 @@ ended-unparks depot path ticket index c d broods old outcome t a b h found is to
   state = subst (λ st. StateShows path st (machine (with_child ticket index b t)) (waits forest (with_child ticket index b t))) (sym state)
       (state-unparked-at path ticket index c.state t a b found is.lives
       (sym (left-live depot path ticket index c old outcome t a b h found is told some) ∙ none) h.state);
+  of_depot = subst (IsStateOf depot) (sym state) (unparked-of depot ticket c.state h.of_depot);
   holds = holds-same depot path (record c { broods = broods }) d (with_child ticket index b t) same_broods same_log
       (holds-ended depot path ticket index c old outcome t a b h found is told some broods w said);
 }

@@ -17,6 +17,7 @@ use Rattle.forest_history.proofs.Lives.{one-child}
 use Rattle.forest_model.specs.Machine.{Machine}
 use Rattle.image_depot.specs.Key.{Shelves, Key}
 use Rattle.vm_descriptor.specs.declared.descriptor.Descriptor.{Descriptor}
+use Rattle.vm_descriptor.specs.Descriptor.{numbered}
 use Rattle.vm_cell.specs.declared.vm.fork.Brood.{Brood as Young}
 use Rattle.run_report.specs.Name.{child_path}
 use Rattle.world_core.specs.declared.cell.Brood.{Brood}
@@ -53,15 +54,15 @@ written old new ticket b h some =
 abbrev pub brood_with : Brood → ℕ → Slot → ℕ → Brood
 brood_with b index slot live = record { name = b.name; young = b.young; slots = with_item b.slots (index - 1) slot; live = live }
 
-slots-with : (path : Path) (ticket index : ℕ) (key : Key) (a b : Tree (Spot Machine)) (slot : Slot) (seeds : List Descriptor) (slots : List Slot)
+slots-with : (path : Path) (ticket index : ℕ) (key : Key) (a b : Tree (Spot Machine)) (slot : Slot) (seed : Descriptor) (slots : List Slot)
     (trees : Trees (Spot Machine)) → ((seed : Descriptor) → SlotShows (child_path path ticket index) key seed slot b)
-    → SlotsShow path ticket key 1 seeds slots trees → child_at index trees ≡ Some a
-    → SlotsShow path ticket key 1 seeds (slice_set slots (index - 1) slot) (at_child (λ a. b) index trees)
-slots-with path ticket zero key a b slot seeds slots trees shows h found = absurd (not-first trees a found)
-slots-with path ticket (suc j) key a b slot seeds slots trees shows h found =
+    → SlotsShow path ticket key 1 seed slots trees → child_at index trees ≡ Some a
+    → SlotsShow path ticket key 1 seed (slice_set slots (index - 1) slot) (at_child (λ a. b) index trees)
+slots-with path ticket zero key a b slot seed slots trees shows h found = absurd (not-first trees a found)
+slots-with path ticket (suc j) key a b slot seed slots trees shows h found =
     let same : j ≡ suc j - 1 = omega arith in let next : suc j ≡ 1 + j = omega arith in
-    subst (λ i. SlotsShow path ticket key 1 seeds (slice_set slots i slot) (at_child (λ a. b) (suc j) trees)) same
-    (with-slot path ticket key 1 seeds slots trees j b slot h (λ seed. subst (λ i. SlotShows (child_path path ticket i) key seed slot b) next (shows seed)))
+    subst (λ i. SlotsShow path ticket key 1 seed (slice_set slots i slot) (at_child (λ a. b) (suc j) trees)) same
+    (with-slot path ticket key 1 seed slots trees j b slot h (subst (λ i. SlotShows (child_path path ticket i) key (numbered i seed) slot b) next (shows (numbered (suc j) seed))))
 
 module _ (depot : Shelves) (path : Path) (ticket index : ℕ) (a b : Tree (Spot Machine)) (slot : Slot)
     (shows : (key : Key) (seed : Descriptor) → SlotShows (child_path path ticket index) key seed slot b) where
@@ -69,7 +70,7 @@ module _ (depot : Shelves) (path : Path) (ticket index : ℕ) (a b : Tree (Spot 
       → child_at index trees ≡ Some a → BornShows depot path ticket young (slice_set slots (index - 1) slot) (at_child (λ a. b) index trees)
   born-with None slots trees h found = absurd h
   born-with (Some young) slots trees h found =
-      (h.0, slots-with path ticket index young.key a b slot young.seeds.items slots trees (shows young.key) h.1 found)
+      (h.0, slots-with path ticket index young.key a b slot young.seed slots trees (shows young.key) h.1 found)
 
   brood-with : (old : Brood) (live : ℕ) (trees : Trees (Spot Machine)) → child_at index trees ≡ Some a → live + life forest a ≡ old.live + life forest b
       → BroodShows depot path ticket old trees → BroodShows depot path ticket (brood_with old index slot live) (at_child (λ a. b) index trees)

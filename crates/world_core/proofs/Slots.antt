@@ -6,61 +6,52 @@ use Rattle.forest_history.specs.Places.{Spot}
 use Rattle.forest_model.specs.Machine.{Machine}
 use Rattle.image_depot.specs.Key.{Key}
 use Rattle.vm_descriptor.specs.declared.descriptor.Descriptor.{Descriptor}
+use Rattle.vm_descriptor.specs.Descriptor.{numbered}
 use Rattle.run_report.specs.Name.{child_path}
 use Rattle.world_core.specs.declared.cell.Slot.{Slot}
 use Rattle.world_core.specs.Shows.{SlotShows, SlotsShow}
 
--- a child has a seed and a slot at its place
-pub record HasSlot (path : Path) (ticket : ℕ) (key : Key) (k j : ℕ) (seeds : List Descriptor) (slots : List Slot) (a : Tree (Spot Machine)) : Type 0 where
-  pub seed : Descriptor
+-- a child has a slot at its place, and is born of the seed by its number
+pub record HasSlot (path : Path) (ticket : ℕ) (key : Key) (k j : ℕ) (seed : Descriptor) (slots : List Slot) (a : Tree (Spot Machine)) : Type 0 where
   pub slot : Slot
-  pub seed_at : slice_get seeds j ≡ Some seed
   pub slot_at : slice_get slots j ≡ Some slot
-  pub shows : SlotShows (child_path path ticket (k + j)) key seed slot a
+  pub shows : SlotShows (child_path path ticket (k + j)) key (numbered (k + j) seed) slot a
 
 module _ (path : Path) (ticket : ℕ) (key : Key) where
-  cast-shows : (seed : Descriptor) (slot : Slot) (a : Tree (Spot Machine)) (n m : ℕ) → n ≡ m → SlotShows (child_path path ticket n) key seed slot a
-      → SlotShows (child_path path ticket m) key seed slot a
-  cast-shows seed slot a n m e h = subst (λ i. SlotShows (child_path path ticket i) key seed slot a) e h
+  cast-shows : (seed : Descriptor) (slot : Slot) (a : Tree (Spot Machine)) (n m : ℕ) → n ≡ m → SlotShows (child_path path ticket n) key (numbered n seed) slot a
+      → SlotShows (child_path path ticket m) key (numbered m seed) slot a
+  cast-shows seed slot a n m e h = subst (λ i. SlotShows (child_path path ticket i) key (numbered i seed) slot a) e h
 
-  pub slot-of : (k : ℕ) (seeds : List Descriptor) (slots : List Slot) (trees : Trees (Spot Machine)) (j : ℕ) (a : Tree (Spot Machine))
-      → SlotsShow path ticket key k seeds slots trees → child_at (suc j) trees ≡ Some a → HasSlot path ticket key k j seeds slots a
+  pub slot-of : (k : ℕ) (seed : Descriptor) (slots : List Slot) (trees : Trees (Spot Machine)) (j : ℕ) (a : Tree (Spot Machine))
+      → SlotsShow path ticket key k seed slots trees → child_at (suc j) trees ≡ Some a → HasSlot path ticket key k j seed slots a
   unfolding SlotsShow child_at
-  slot-of k seeds slots no_tree j a h found = absurd (cc)
-  slot-of k [] [] (tree t rest) j a h found = absurd h
-  slot-of k [] (slot ∷ slots) (tree t rest) j a h found = absurd h
-  slot-of k (seed ∷ seeds) [] (tree t rest) j a h found = absurd h
-  slot-of k (seed ∷ seeds) (slot ∷ slots) (tree t rest) zero a h found = record {
-    seed = seed;
+  slot-of k seed slots no_tree j a h found = absurd (cc)
+  slot-of k seed [] (tree t rest) j a h found = absurd h
+  slot-of k seed (slot ∷ slots) (tree t rest) zero a h found = record {
     slot = slot;
-    seed_at = refl;
     slot_at = refl;
-    shows = cast-shows seed slot a k (k + 0) (omega arith) (subst (SlotShows (child_path path ticket k) key seed slot) (some-same t a found) h.0);
+    shows = cast-shows seed slot a k (k + 0) (omega arith) (subst (SlotShows (child_path path ticket k) key (numbered k seed) slot) (some-same t a found) h.0);
   }
-  slot-of k (seed ∷ seeds) (slot ∷ slots) (tree t rest) (suc j) a h found =
-      let later = slot-of (suc k) seeds slots rest j a h.1 found in
+  slot-of k seed (slot ∷ slots) (tree t rest) (suc j) a h found =
+      let later = slot-of (suc k) seed slots rest j a h.1 found in
       record {
-        seed = later.seed;
         slot = later.slot;
-        seed_at = later.seed_at;
         slot_at = later.slot_at;
-        shows = cast-shows later.seed later.slot a (suc k + j) (k + suc j) (omega arith) later.shows;
+        shows = cast-shows seed later.slot a (suc k + j) (k + suc j) (omega arith) later.shows;
       }
 
   -- a child in another slot
-  pub with-slot : (k : ℕ) (seeds : List Descriptor) (slots : List Slot) (trees : Trees (Spot Machine)) (j : ℕ) (b : Tree (Spot Machine)) (slot : Slot)
-      → SlotsShow path ticket key k seeds slots trees → ((seed : Descriptor) → SlotShows (child_path path ticket (k + j)) key seed slot b)
-      → SlotsShow path ticket key k seeds (slice_set slots j slot) (at_child (λ a. b) (suc j) trees)
+  pub with-slot : (k : ℕ) (seed : Descriptor) (slots : List Slot) (trees : Trees (Spot Machine)) (j : ℕ) (b : Tree (Spot Machine)) (slot : Slot)
+      → SlotsShow path ticket key k seed slots trees → SlotShows (child_path path ticket (k + j)) key (numbered (k + j) seed) slot b
+      → SlotsShow path ticket key k seed (slice_set slots j slot) (at_child (λ a. b) (suc j) trees)
   unfolding SlotsShow at_child
-  with-slot k [] [] no_tree j b slot h shows = tt
-  with-slot k [] [] (tree t rest) j b slot h shows = absurd h
-  with-slot k [] (old ∷ slots) trees j b slot h shows = absurd h
-  with-slot k (seed ∷ seeds) [] trees j b slot h shows = absurd h
-  with-slot k (seed ∷ seeds) (old ∷ slots) no_tree j b slot h shows = absurd h
-  with-slot k (seed ∷ seeds) (old ∷ slots) (tree t rest) zero b slot h shows =
-      (cast-shows seed slot b (k + 0) k (omega arith) (shows seed), h.1)
-  with-slot k (seed ∷ seeds) (old ∷ slots) (tree t rest) (suc j) b slot h shows =
-      (h.0, with-slot (suc k) seeds slots rest j b slot h.1 (λ s. cast-shows s slot b (k + suc j) (suc k + j) (omega arith) (shows s)))
+  with-slot k seed [] no_tree j b slot h shows = tt
+  with-slot k seed [] (tree t rest) j b slot h shows = absurd h
+  with-slot k seed (old ∷ slots) no_tree j b slot h shows = absurd h
+  with-slot k seed (old ∷ slots) (tree t rest) zero b slot h shows =
+      (cast-shows seed slot b (k + 0) k (omega arith) shows, h.1)
+  with-slot k seed (old ∷ slots) (tree t rest) (suc j) b slot h shows =
+      (h.0, with-slot (suc k) seed slots rest j b slot h.1 (cast-shows seed slot b (k + suc j) (suc k + j) (omega arith) shows))
 
 -- a child's number is one at least
 pub not-first : (trees : Trees (Spot Machine)) (a : Tree (Spot Machine)) → child_at 0 trees ≡ Some a → ⊥

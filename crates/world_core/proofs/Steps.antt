@@ -16,14 +16,16 @@ use Rattle.forest_history.specs.Places.{out, Spot, spots, advanced, may_run, ste
 use Rattle.forest_history.proofs.Changes.{steps-own}
 use Rattle.forest_history.proofs.Spots.{machine-spots}
 use Rattle.forest_model.specs.Machine.{Machine, Next, exception, timer_interrupt, plain, call, next, advance, after_steps}
+use Rattle.forest_model.specs.Paged.{stalled_at}
 use Rattle.forest_model.specs.Forest.{call_of, machines, tree_call}
 use Rattle.forest_model.proofs.Finish.{cases-ending, advance-ended, steps-advance, waits-advance}
 use Rattle.forest_model.proofs.Rules.{machines-rules}
-use Rattle.vm_cell.specs.Standing.{standing_from, standing_call}
+use Rattle.vm_cell.specs.Keyed.{KeyedMachine, paged}
+use Rattle.vm_cell.specs.Standing.{standing_by, standing_from, standing_call}
 use Rattle.world_core.specs.declared.cell.Brood.{Brood}
 use Rattle.world_core.specs.declared.cell.Cell.{Cell}
 use Rattle.world_core.specs.Lent.{IsLent}
-use Rattle.world_core.specs.Answers.{join_ticket, stands_waiting, with_machine}
+use Rattle.world_core.specs.Answers.{join_ticket, stands_waiting_of}
 use Rattle.world_core.specs.Shows.{forest, BroodAt, TallyAt, Tallies, Holds}
 
 -- a value is there, or not
@@ -172,43 +174,51 @@ module _ (start now : Machine) (ran : ℕ) (lent : IsLent start ran now) where
       steps-own forest ran (lent_out start) broods log lives lease-runs-out ∙ ap (λ s. settled forest s broods log) lease-comes-out
 
 -- the call that a machine stands at
-standing-by : (ending : Option Ending) (step : Next) (c : Call) → standing_from ending step ≡ Some c → (ending ≡ None) × (call_of step ≡ Some (tree_call c))
-standing-by None (exception cause value) c e = absurd (cc)
-standing-by None timer_interrupt c e = absurd (cc)
-standing-by None plain c e = absurd (cc)
-standing-by None (call d) c e = let same : d ≡ c = cc in (refl, ap (λ k. Some (tree_call k)) same)
-standing-by (Some ending) step c e = absurd (cc)
+stands-from : (ending : Option Ending) (step : Next) (c : Call) → standing_from ending step ≡ Some c → (ending ≡ None) × (call_of step ≡ Some (tree_call c))
+stands-from None (exception cause value) c e = absurd (cc)
+stands-from None timer_interrupt c e = absurd (cc)
+stands-from None plain c e = absurd (cc)
+stands-from None (call d) c e = let same : d ≡ c = cc in (refl, ap (λ k. Some (tree_call k)) same)
+stands-from (Some ending) step c e = absurd (cc)
 
-pub standing : (vm : Machine) (c : Call) → standing_call vm ≡ Some c → (vm.ending ≡ None) × (machines.call vm ≡ Some (tree_call c))
+stands-by : (waited : Option ℕ) (ending : Option Ending) (step : Next) (c : Call) → standing_by waited ending step ≡ Some c
+    → (ending ≡ None) × (call_of step ≡ Some (tree_call c))
+stands-by None ending step c e = stands-from ending step c e
+stands-by (Some page) ending step c e = absurd (cc)
+
+pub standing : (v : KeyedMachine) (c : Call) → standing_call v ≡ Some c → (v.machine.ending ≡ None) × (machines.call v.machine ≡ Some (tree_call c))
 unfolding standing_call machines
-standing vm c e = standing-by vm.ending (next vm) c e
+standing v c e = stands-by (stalled_at (paged v)) v.machine.ending (next v.machine) c e
 
 -- a machine that stands at the JOIN of a ticket waits where a child of it lives, and at no other call
-waits-by : (ending : Option Ending) (step : Next) (broods : Broods (Spot Machine)) (ticket : ℕ) → Some ticket ≡ join_ticket (standing_from ending step)
-    → not (have_ended forest (brood_of ticket broods)) ≡ (not (is_some ending) && waits_by forest (call_of step) broods)
-waits-by None (exception cause value) broods ticket e = absurd (cc)
-waits-by None timer_interrupt broods ticket e = absurd (cc)
-waits-by None plain broods ticket e = absurd (cc)
-waits-by None (call (Clone t)) broods ticket e = absurd (cc)
-waits-by None (call (Join t)) broods ticket e = ap (λ k. not (have_ended forest (brood_of k broods))) (some-same ticket t e)
-waits-by None (call (Kill t)) broods ticket e = absurd (cc)
-waits-by (Some ending) step broods ticket e = absurd (cc)
+waits-by : (waited : Option ℕ) (ending : Option Ending) (step : Next) (broods : Broods (Spot Machine)) (ticket : ℕ)
+    → Some ticket ≡ join_ticket (standing_by waited ending step)
+    → not (have_ended forest (brood_of ticket broods)) ≡ (not (is_some waited) && (not (is_some ending) && waits_by forest (call_of step) broods))
+waits-by None None (exception cause value) broods ticket e = absurd (cc)
+waits-by None None timer_interrupt broods ticket e = absurd (cc)
+waits-by None None plain broods ticket e = absurd (cc)
+waits-by None None (call (Clone t)) broods ticket e = absurd (cc)
+waits-by None None (call (Join t)) broods ticket e = ap (λ k. not (have_ended forest (brood_of k broods))) (some-same ticket t e)
+waits-by None None (call (Kill t)) broods ticket e = absurd (cc)
+waits-by None (Some ending) step broods ticket e = absurd (cc)
+waits-by (Some page) ending step broods ticket e = absurd (cc)
 
-waits-by-none : (ending : Option Ending) (step : Next) (broods : Broods (Spot Machine)) → None ≡ join_ticket (standing_from ending step)
-    → false ≡ (not (is_some ending) && waits_by forest (call_of step) broods)
-waits-by-none None (exception cause value) broods e = refl
-waits-by-none None timer_interrupt broods e = refl
-waits-by-none None plain broods e = refl
-waits-by-none None (call (Clone t)) broods e = refl
-waits-by-none None (call (Join t)) broods e = absurd (cc)
-waits-by-none None (call (Kill t)) broods e = refl
-waits-by-none (Some ending) step broods e = refl
+waits-by-none : (waited : Option ℕ) (ending : Option Ending) (step : Next) (broods : Broods (Spot Machine)) → None ≡ join_ticket (standing_by waited ending step)
+    → false ≡ (not (is_some waited) && (not (is_some ending) && waits_by forest (call_of step) broods))
+waits-by-none None None (exception cause value) broods e = refl
+waits-by-none None None timer_interrupt broods e = refl
+waits-by-none None None plain broods e = refl
+waits-by-none None None (call (Clone t)) broods e = refl
+waits-by-none None None (call (Join t)) broods e = absurd (cc)
+waits-by-none None None (call (Kill t)) broods e = refl
+waits-by-none None (Some ending) step broods e = refl
+waits-by-none (Some page) ending step broods e = refl
 
-pub waits-join : (now : Machine) (t : Tree (Spot Machine)) (ticket : ℕ) → Some ticket ≡ join_ticket (standing_call now)
-    → not (have_ended forest (brood_of ticket (broods_of t))) ≡ stands_waiting (with_machine now t)
+pub waits-join : (v : KeyedMachine) (t : Tree (Spot Machine)) (ticket : ℕ) → Some ticket ≡ join_ticket (standing_call v)
+    → not (have_ended forest (brood_of ticket (broods_of t))) ≡ stands_waiting_of v t
 unfolding standing_call spots machines
-waits-join now (node s broods log) ticket e = waits-by now.ending (next now) broods ticket e
+waits-join v (node s broods log) ticket e = waits-by (stalled_at (paged v)) v.machine.ending (next v.machine) broods ticket e
 
-pub waits-none : (now : Machine) (t : Tree (Spot Machine)) → None ≡ join_ticket (standing_call now) → false ≡ stands_waiting (with_machine now t)
+pub waits-none : (v : KeyedMachine) (t : Tree (Spot Machine)) → None ≡ join_ticket (standing_call v) → false ≡ stands_waiting_of v t
 unfolding standing_call spots machines
-waits-none now (node s broods log) e = waits-by-none now.ending (next now) broods e
+waits-none v (node s broods log) e = waits-by-none (stalled_at (paged v)) v.machine.ending (next v.machine) broods e

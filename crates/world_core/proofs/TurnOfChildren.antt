@@ -22,7 +22,7 @@ use Rattle.world_core.specs.Lent.{Lent}
 use Rattle.world_core.specs.Turns.{turns_from, turns_of, turn_of}
 use Rattle.world_core.specs.Waiting.{Waiting, CoversBy, IsListed, IsCovered}
 use Rattle.world_core.specs.World.{Forest, IsDue, ShowsLive, ShowsTree, StandsFor}
-use Rattle.world_core.specs.Answers.{Goes, Starts}
+use Rattle.world_core.specs.Answers.{Goes, IsLentOf, Starts}
 use Rattle.world_core.specs.Popped.{ShowsCells, IsFirstAsleep, is_listed_in, with_turn}
 use Rattle.world_core.proofs.TurnLists.{turns_from_roll, turns_from_out, turn_of_roll}
 use Rattle.world_core.proofs.Sleepers.{wakes, wakes-there, dead-not}
@@ -141,14 +141,14 @@ module _ (depot : Shelves) (turn : Waiting) (ticket first : ℕ) (w : World) (f 
     due-later n now (Some c) e listed = listed-later n listed
 
     -- the child is handed out
-    pub child-taken : (lease : Lent) → lease.name ≡ child_path turn.name ticket index → lease.ran ≡ 0 → lease.now ≡ lease.start
+    pub child-taken : (lease : Lent) → lease.name ≡ child_path turn.name ticket index → lease.ran ≡ 0 → lease.now ≡ lease.start → IsLentOf depot lease
         → IfSome (subtree lease.name f.tree) (λ a. (machine a).machine ≡ lease.start)
         → ShowsCells depot v.cells (at_path (placed out) (child_path turn.name ticket index) f.tree)
         → ((n : Path) → is_listed_in (get path_cmp v.cells n) ≡ is_listed_in (get path_cmp w.cells n))
         → ((n : Path) → n ≢ child_path turn.name ticket index → is_some (get path_cmp v.cells n) ≡ is_some (get path_cmp w.cells n))
         → v.halted ≡ w.halted → v.outcome ≡ w.outcome → w.halted ≡ None
-        → Goes depot f (took lease.name) v × Starts f lease
-    child-taken lease name ran now start cells listed others halted outcome unhalted =
+        → Goes depot f (took lease.name) v × Starts f lease × IsLentOf depot lease
+    child-taken lease name ran now of_depot start cells listed others halted outcome unhalted =
         let path : Path = child_path turn.name ticket index in
         let there = wakes-there (subtree path f.tree) found.1 in (
           subst (λ n. Goes depot f (took n) v) (sym name)
@@ -164,6 +164,7 @@ module _ (depot : Shelves) (turn : Waiting) (ticket first : ℕ) (w : World) (f 
                     (λ is_now. listed-later n (listed-in (get path_cmp w.cells n) (shows-children.listed n) (sym (listed n) ∙ is_now))));
               }),
           record { ran = ran; now = now; start = start },
+          of_depot,
         )
 
     -- there is no room for it

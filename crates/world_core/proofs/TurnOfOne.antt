@@ -15,7 +15,9 @@ use Rattle.world_core.specs.Shows.{CellShows, Shows}
 use Rattle.world_core.specs.declared.world.World.{World}
 use Rattle.world_core.specs.Waiting.{Waiting, IsListed}
 use Rattle.world_core.specs.World.{Forest, IsDue, ShowsLive, StandsFor}
-use Rattle.world_core.specs.Answers.{Goes, Starts}
+use Rattle.vm_cell.specs.Keyed.{KeyedMachine, IsOfDepot}
+use Rattle.world_core.specs.Lent.{lent_as}
+use Rattle.world_core.specs.Answers.{Goes, IsLentOf, Starts}
 use Rattle.world_core.specs.Popped.{ShowsCells, is_listed_in, with_turn}
 use Rattle.world_core.proofs.Changes.{parent-awake}
 use Rattle.world_core.proofs.Returns.{apart-outside, written-here, written-apart, some-is}
@@ -29,6 +31,7 @@ pub relisted : (depot : Shelves) (path : Path) (c : Cell) (listed : Bool) (t : T
 relisted depot path c listed t h = record {
   awake = record { lives = h.awake.lives; awake = h.awake.awake };
   state = h.state;
+  of_depot = h.of_depot;
   holds = record { tallies = record { log = h.holds.tallies.log; room = h.holds.tallies.room; broods = h.holds.tallies.broods }; broods = h.holds.broods };
 }
 
@@ -74,11 +77,12 @@ module _ (depot : Shelves) (turn : Waiting) (w : World) (f : Forest) (one : turn
         (ap is_listed_in now-here ∙ ap (λ (e : Cell). e.is_listed) idle.1)
 
     -- it is handed out
-    pub awake-taken : (m : Machine) → w.halted ≡ None → d.is_listed ≡ false
+    pub awake-taken : (v : KeyedMachine) → w.halted ≡ None → d.is_listed ≡ false
         → ((t : Tree (Spot Machine)) → CellShows depot turn.name (record c { is_listed = false }) t
-        → (lives_ready machines t ≡ true) × (m ≡ (machine t).machine) × CellShows depot turn.name d (placed out t))
-        → Goes depot f (took turn.name) (record w { cells = cells }) × Starts f (record { name = turn.name; start = m; ran = 0; now = m })
-    awake-taken m unhalted unlisted lent =
+        → (lives_ready machines t ≡ true) × (v.machine ≡ (machine t).machine) × IsOfDepot depot v.key × CellShows depot turn.name d (placed out t))
+        → Goes depot f (took turn.name) (record w { cells = cells }) × Starts f (lent_as turn.name v.machine 0 v)
+        × IsLentOf depot (lent_as turn.name v.machine 0 v)
+    awake-taken v unhalted unlisted lent =
         let taken_as = lent shown.0 (relisted depot turn.name c false shown.0 shown.2) in
         let before : ShowsCells depot w.cells f.tree = record { sound = h.sound; root = shows-turn.root; shows = shows-turn.cells } in
         let after : World = record w { cells = cells } in (
@@ -86,9 +90,9 @@ module _ (depot : Shelves) (turn : Waiting) (w : World) (f : Forest) (one : turn
             allowed = allows-took f turn.name shows-turn.root.lives (sym h.halted ∙ unhalted) (ap (holds machines (lives_ready machines)) shown.1 ∙ taken_as.0);
             after = taken depot after f turn.name shown.0 shown.1
                 (cells-taken depot w.cells cells f.tree shown.0 turn.name shown.1 before (λ n other one. now-apart n other)
-                (subst (λ o. Shows depot turn.name o (Some (placed out shown.0))) (sym now-here) taken_as.2)
+                (subst (λ o. Shows depot turn.name o (Some (placed out shown.0))) (sym now-here) taken_as.3)
                 (λ n x none e.
-                parent-awake (placed out) depot turn.name n f.tree shown.0 x (get path_cmp cells n) none e shown.1 shown.2.awake taken_as.2.awake
+                parent-awake (placed out) depot turn.name n f.tree shown.0 x (get path_cmp cells n) none e shown.1 shown.2.awake taken_as.3.awake
                 (subst (λ o. Shows depot n o (subtree n f.tree)) (sym (now-apart n (apart-outside turn.name n none))) (shows-turn.cells n))))
                 h.halted going
                 (λ n other ready. due-apart depot turn w after f one h going going refl refl now-apart n other (shows-turn.ready n ready))
@@ -101,6 +105,7 @@ module _ (depot : Shelves) (turn : Waiting) (w : World) (f : Forest) (one : turn
           record {
             ran = refl;
             now = refl;
-            start = subst (λ o. IfSome o (λ (t : Tree (Spot Machine)). (machine t).machine ≡ m)) (sym shown.1) (sym taken_as.1);
+            start = subst (λ o. IfSome o (λ (t : Tree (Spot Machine)). (machine t).machine ≡ v.machine)) (sym shown.1) (sym taken_as.1);
           },
+          taken_as.2,
         )

@@ -25,7 +25,8 @@ use Rattle.world_core.specs.declared.cell.Slot.TheVariants.{Asleep, Awake, Ended
 use Rattle.world_core.specs.Shows.{forest, SlotShows, BroodAt, StateShows, CellShows, Shows, child_of, with_child}
 use Rattle.world_core.specs.Popped.{ShowsCells, sleeps, is_listed_in}
 use Rattle.world_core.proofs.Awake.{child-below, slotted}
-use Rattle.world_core.proofs.Changes.{beyond-append, beyond-is, child_by, is_one, outside, beyond-parent}
+use Rattle.run_report.proofs.Below.{beyond-append, beyond-is}
+use Rattle.world_core.proofs.Changes.{child_by, is_one, outside, beyond-parent}
 use Rattle.world_core.proofs.Returns.{apart-below, same-or-apart, written-here, written-apart, some-is}
 use Rattle.world_core.proofs.Sleepers.{wakes, sleeps-by, wakes-is, wakes-slot, none-sleeps, cell-shows}
 use Rattle.world_core.proofs.TurnOut.{unlisted}
@@ -67,6 +68,7 @@ cell-alike : (depot : Shelves) (path : Path) (c : Cell) (s : Spot Machine) (befo
 cell-alike depot path c s before after log same h = record {
   awake = record { lives = h.awake.lives; awake = h.awake.awake };
   state = subst (StateShows path c.state s) (waits-alike (forest.call s) before after same) h.state;
+  of_depot = h.of_depot;
   holds = record {
     tallies = record { log = h.holds.tallies.log; room = h.holds.tallies.room; broods = h.holds.tallies.broods };
     broods = λ u. subst (BroodAt depot path u (get nat_cmp c.broods u) (is_cloned forest s u)) (same u) (h.holds.broods u);

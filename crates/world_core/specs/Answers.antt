@@ -1,5 +1,5 @@
 -- What the calls of a world answer, and what the world stands for after them.
-use Rattle.std.specs.Prelude.{◌≡◌, ℕ, Option, Some, None, Bool, true, false, not, ◌&&◌, IfSome, Result, Ok, Err}
+use Rattle.std.specs.Prelude.{◌≡◌, ℕ, Option, Some, None, Bool, true, false, not, ◌&&◌, is_some, IfSome, Result, Ok, Err}
 use Rattle.image_depot.specs.Key.{Shelves}
 use Rattle.std.specs.declared.alloc.AllocError.{AllocError}
 use Rattle.fork_port.specs.declared.commands.Call.{Call}
@@ -18,6 +18,8 @@ use Rattle.world_core.specs.declared.world.Placed.{Placed}
 use Rattle.world_core.specs.declared.world.Placed.TheVariants.{Done, Parked, Dropped, Memory}
 use Rattle.world_core.specs.declared.world.Taken.{Taken}
 use Rattle.world_core.specs.declared.world.Taken.TheVariants as taken
+use Rattle.forest_model.specs.Paged.{stalled_at}
+use Rattle.vm_cell.specs.Keyed.{IsOfDepot, KeyedMachine, paged}
 use Rattle.world_core.specs.Lent.{Lent}
 use Rattle.world_core.specs.Shows.{forest}
 use Rattle.world_core.specs.World.{Forest, StandsFor}
@@ -35,9 +37,13 @@ IsOutAs start (Some t) = machine t ≡ record { machine = start; place = out }
 abbrev pub IsHandedOut : Forest → Lent → Type 0
 IsHandedOut f lease = IsOutAs lease.start (subtree lease.name f.tree)
 
+-- the absent pages of its machine, if it has some, are in an image of this depot
+abbrev pub IsLentOf : Shelves → Lent → Type 0
+IsLentOf depot lease = IsOfDepot depot lease.key
+
 -- the world handed out the lease: so it is in a forest that the world stands for, with its images in this depot
 abbrev pub HandedOutIn : Shelves → World → Lent → Type 0
-HandedOutIn depot w lease = (f : Forest) × StandsFor depot w f × IsHandedOut f lease
+HandedOutIn depot w lease = (f : Forest) × StandsFor depot w f × IsHandedOut f lease × IsLentOf depot lease
 
 -- the same, in any depot
 abbrev pub HandedOut : World → Lent → Type 0
@@ -97,14 +103,14 @@ abbrev pub Takes : Shelves → Forest → Taken → World → Type 0
 Takes depot f taken.Over new = Goes depot f over new
 Takes depot f (taken.Stopped reason) new = Goes depot f (stopped reason) new
 Takes depot f taken.Idle new = Goes depot f idle new
-Takes depot f (taken.Took lease) new = Goes depot f (took lease.name) new × Starts f lease
+Takes depot f (taken.Took lease) new = Goes depot f (took lease.name) new × Starts f lease × IsLentOf depot lease
 Takes depot f taken.Memory new = Goes depot f nothing new
 
 -- the answer of `take_named`, which takes a machine that waits too
 abbrev pub TakesNamed : Shelves → Forest → Path → Result (Option Lent) AllocError → World → Type 0
 TakesNamed depot f name (Ok None) new = (is_at_home machines name f.tree ≡ false) × StandsFor depot new f
 TakesNamed depot f name (Ok (Some lease)) new =
-    (is_at_home machines name f.tree ≡ true) × (lease.name ≡ name) × Starts f lease × StandsFor depot new (does machines (took name) f)
+    (is_at_home machines name f.tree ≡ true) × (lease.name ≡ name) × Starts f lease × IsLentOf depot lease × StandsFor depot new (does machines (took name) f)
 TakesNamed depot f name (Err e) new = StandsFor depot new f
 
 -- the tree with its machine as it stands now
@@ -114,3 +120,7 @@ with_machine m (node s broods log) = node (record s { machine = m }) broods log
 -- its machine stands at the JOIN of a ticket of which a child lives
 abbrev pub stands_waiting : Tree (Spot Machine) → Bool
 stands_waiting t = not (has_ended forest t) && waits forest t
+
+-- so does this one in its place: one whose next step stalls stands at no call
+abbrev pub stands_waiting_of : KeyedMachine → Tree (Spot Machine) → Bool
+stands_waiting_of v t = not (is_some (stalled_at (paged v))) && stands_waiting (with_machine v.machine t)

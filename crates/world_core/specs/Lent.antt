@@ -1,7 +1,13 @@
 -- A machine on lease.
-use Rattle.std.specs.Prelude.{◌≡◌, ℕ, ◌+◌}
+use Rattle.std.specs.Prelude.{◌≡◌, ℕ, ◌+◌, Option}
 use Rattle.forest_tree.specs.Tree.{Path}
 use Rattle.forest_model.specs.Machine.{Machine, after_steps}
+use Rattle.image_depot.specs.Key.{Key}
+use Rattle.forest_model.specs.Paged.{Pages}
+use Rattle.vm_cell.specs.Keyed.{KeyedMachine}
+use Rattle.vm_cell.specs.declared.vm.Stepped.{Stepped}
+use Rattle.vm_cell.specs.declared.vm.Stepped.TheVariants.{Went, Stall, Call, Ended}
+use Rattle.vm_cell.specs.Steps.{Stands}
 
 pub record Lent : Type 0 where
   pub name : Path
@@ -10,8 +16,33 @@ pub record Lent : Type 0 where
   -- the steps that it has made since
   pub ran : ℕ
   pub now : Machine
+  -- what is known of its pages now. What was known when it was taken is not kept: a page may come at any time
+  pub pages : Pages
+  -- the key to the image that has those that are absent
+  pub key : Option Key
+
+-- the machine as the code has it
+abbrev pub vm_of : Lent → KeyedMachine
+vm_of lease = record { machine = lease.now; pages = lease.pages; key = lease.key }
+
+-- a lease of this machine
+abbrev pub lent_as : Path → Machine → ℕ → KeyedMachine → Lent
+lent_as name start ran vm = record { name = name; start = start; ran = ran; now = vm.machine; pages = vm.pages; key = vm.key }
 
 -- what holds of every lease: the machine has made these steps, all of them its own
 pub record IsLent (start : Machine) (ran : ℕ) (now : Machine) : Type 0 where
   pub after : now ≡ after_steps ran start
   pub each_made : now.steps ≡ start.steps + ran
+
+-- the machine of the lease is the one that was taken, and has the same image
+pub record IsSameLease (old new : Lent) : Type 0 where
+  pub name : new.name ≡ old.name
+  pub start : new.start ≡ old.start
+  pub key : new.key ≡ old.key
+
+-- the answer of a run that stalls at no page
+abbrev pub StandsWhole : KeyedMachine → Stepped → Type 0
+StandsWhole v Went = Stands v Went
+StandsWhole v (Stall page) = ⊥
+StandsWhole v (Call c) = Stands v (Call c)
+StandsWhole v (Ended ending) = Stands v (Ended ending)

@@ -14,8 +14,10 @@ use Rattle.forest_model.specs.Machine.{Machine}
 use Rattle.forest_model.specs.Forest.{machines}
 use Rattle.image_depot.specs.Key.{Shelves, Key, IsKeyOf, image_of}
 use Rattle.vm_descriptor.specs.declared.descriptor.Descriptor.{Descriptor}
+use Rattle.vm_descriptor.specs.Descriptor.{numbered}
 use Rattle.vm_descriptor.specs.declared.descriptor.TheConstants.{MAX_CLONES}
-use Rattle.vm_cell.specs.Woken.{IsOfImage, woken}
+use Rattle.vm_cell.specs.Keyed.{IsOfDepot}
+use Rattle.vm_cell.specs.Woken.{IsOfImage, woken_machine}
 use Rattle.run_report.specs.Lines.{Told, lines, log_lines}
 use Rattle.run_report.specs.Name.{child_path}
 use Rattle.run_report.specs.Report.{lines_of, told}
@@ -42,7 +44,7 @@ pub record IsAwake (t : Tree (Spot Machine)) : Type 0 where
   pub awake : is_asleep_at (machine t).place ≡ false
 
 abbrev pub sleeper : Key → Descriptor → Spot Machine
-sleeper key seed = record { machine = woken seed (image_of key); place = asleep }
+sleeper key seed = record { machine = woken_machine seed (image_of key); place = asleep }
 
 -- a child that is still a descriptor, which is of the brood's image
 pub record Sleeps (key : Key) (seed : Descriptor) (t : Tree (Spot Machine)) : Type 0 where
@@ -56,21 +58,19 @@ SlotShows path key seed Asleep t = Sleeps key seed t
 SlotShows path key seed Awake t = IsAwake t
 SlotShows path key seed (Ended outcome) t = (told_spot.ending (machine t) ≡ Some outcome.ending) × (lines_of outcome ≡ lines told_spot path t)
 
--- the slots show the children of a ticket, from child k on
-unfoldable pub SlotsShow : Path → ℕ → Key → ℕ → List Descriptor → List Slot → Trees (Spot Machine) → Type 0
-SlotsShow path ticket key k [] [] no_tree = Unit {0}
-SlotsShow path ticket key k [] [] (tree t rest) = ⊥
-SlotsShow path ticket key k [] (slot ∷ slots) trees = ⊥
-SlotsShow path ticket key k (seed ∷ seeds) [] trees = ⊥
-SlotsShow path ticket key k (seed ∷ seeds) (slot ∷ slots) no_tree = ⊥
-SlotsShow path ticket key k (seed ∷ seeds) (slot ∷ slots) (tree t rest) =
-    SlotShows (child_path path ticket k) key seed slot t × SlotsShow path ticket key (suc k) seeds slots rest
+-- the slots show the children of a ticket, from child k on, each born of the seed by its number
+unfoldable pub SlotsShow : Path → ℕ → Key → ℕ → Descriptor → List Slot → Trees (Spot Machine) → Type 0
+SlotsShow path ticket key k seed [] no_tree = Unit {0}
+SlotsShow path ticket key k seed [] (tree t rest) = ⊥
+SlotsShow path ticket key k seed (slot ∷ slots) no_tree = ⊥
+SlotsShow path ticket key k seed (slot ∷ slots) (tree t rest) =
+    SlotShows (child_path path ticket k) key (numbered k seed) slot t × SlotsShow path ticket key (suc k) seed slots rest
 
 -- what the fork of a brood left for its children
 abbrev pub BornShows : Shelves → Path → ℕ → Option Young → List Slot → Trees (Spot Machine) → Type 0
 BornShows depot path ticket None slots trees = ⊥
 BornShows depot path ticket (Some young) slots trees =
-    IsKeyOf depot young.key × SlotsShow path ticket young.key 1 young.seeds.items slots trees
+    IsKeyOf depot young.key × SlotsShow path ticket young.key 1 young.seed slots trees
 
 -- a brood shows the children of a ticket of the machine at a path
 pub record BroodShows (depot : Shelves) (path : Path) (ticket : ℕ) (b : Brood) (trees : Trees (Spot Machine)) : Type 0 where
@@ -86,11 +86,17 @@ BroodAt depot path ticket (Some b) true trees = BroodShows depot path ticket b t
 
 -- where a machine is, which waits or not
 abbrev pub StateShows : Path → State → Spot Machine → Bool → Type 0
-StateShows path (Home vm) s is_waiting = (vm.value ≡ s.machine) × ((s.place ≡ home) ⊎ ((s.place ≡ parked) × (is_waiting ≡ false)))
+StateShows path (Home vm) s is_waiting = (vm.value.machine ≡ s.machine) × ((s.place ≡ home) ⊎ ((s.place ≡ parked) × (is_waiting ≡ false)))
 StateShows path (Parked ticket vm turn) s is_waiting =
-    (vm.value ≡ s.machine) × (s.place ≡ parked) × (is_waiting ≡ true) × (machines.call s.machine ≡ Some (join ticket))
+    (vm.value.machine ≡ s.machine) × (s.place ≡ parked) × (is_waiting ≡ true) × (machines.call s.machine ≡ Some (join ticket))
     × (turns_from turn.value ≡ turn_of turn.value ∷ []) × (turn_of turn.value ≡ record { name = path; children = None })
-StateShows path (Out start) s is_waiting = (start.value ≡ s.machine) × (s.place ≡ out)
+StateShows path (Out start) s is_waiting = (start.value.machine ≡ s.machine) × (s.place ≡ out)
+
+-- the absent pages of a machine at home, if it has some, are in an image of this depot
+abbrev pub IsStateOf : Shelves → State → Type 0
+IsStateOf depot (Home vm) = IsOfDepot depot vm.value.key
+IsStateOf depot (Parked ticket vm turn) = IsOfDepot depot vm.value.key
+IsStateOf depot (Out start) = Unit {0}
 
 -- what is known of a brood where its machine has ended: what its line of the log tells
 pub record IsTallied (path : Path) (count : ℕ) (b : Brood) : Type 0 where
@@ -119,6 +125,7 @@ pub record Holds (depot : Shelves) (path : Path) (c : Cell) (t : Tree (Spot Mach
 pub record CellShows (depot : Shelves) (path : Path) (c : Cell) (t : Tree (Spot Machine)) : Type 0 where
   pub awake : IsAwake t
   pub state : StateShows path c.state (machine t) (waits forest t)
+  pub of_depot : IsStateOf depot c.state
   pub holds : Holds depot path c t
 
 -- a machine that is no cell's: it has ended, and is not on lease, or is still a descriptor

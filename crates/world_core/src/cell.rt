@@ -12,6 +12,7 @@ ghost use Rattle.forest_model.specs.Machine.{Machine};
 ghost use Rattle.run_report.specs.Lines.{lines};
 ghost use Rattle.run_report.specs.Name.{child_path};
 ghost use Rattle.run_report.specs.Report.{lines_of};
+ghost use Rattle.vm_cell.specs.Keyed.{IsOfDepot};
 ghost use Rattle.vm_cell.specs.Standing.{IsClone, IsJoin, IsKill, standing_call};
 ghost use Rattle.vm_descriptor.specs.declared.descriptor.TheConstants.{MAX_CLONES};
 ghost use Rattle.world_core.specs.Turns.{turn_of, turns_from};
@@ -82,8 +83,8 @@ pub(crate) enum Slot {
 impl Cell {
     /// The cell of a machine that is handed out as it wakes.
     pub(crate) fn of_lent(alloc: Global, vm: &Vm) -> Cell
-        ensures shows { (depot : Shelves) (path : Path) → vm.now.ending ≡ None → ((ticket : ℕ) → is_cloned machines vm.now ticket ≡ false)
-            → CellShows depot path result (alone forest (record { machine = vm.now; place = out })) }
+        ensures shows { (depot : Shelves) (path : Path) → vm.now.machine.ending ≡ None → ((ticket : ℕ) → is_cloned machines vm.now.machine ticket ≡ false)
+            → CellShows depot path result (alone forest (record { machine = vm.now.machine; place = out })) }
         ensures listed { result.is_listed ≡ false }
     {
         Cell {
@@ -96,8 +97,8 @@ impl Cell {
 
     /// The cell of a machine that is at home from its start on, and whose turn is listed.
     pub(crate) fn of_root(alloc: Global, vm: Box<Vm>) -> Cell
-        ensures shows { (depot : Shelves) (path : Path) → vm.value.ending ≡ None → ((ticket : ℕ) → is_cloned machines vm.value ticket ≡ false)
-            → CellShows depot path result (alone forest (record { machine = vm.value; place = home })) }
+        ensures shows { (depot : Shelves) (path : Path) → vm.value.machine.ending ≡ None → IsOfDepot depot vm.value.key → ((ticket : ℕ) → is_cloned machines vm.value.machine ticket ≡ false)
+            → CellShows depot path result (alone forest (record { machine = vm.value.machine; place = home })) }
         ensures listed { result.is_listed ≡ true }
     {
         Cell {
@@ -123,7 +124,7 @@ impl Cell {
     pub(crate) fn lend(&mut self) -> Option<Box<Vm>>
         ensures shows { (depot : Shelves) (path : Path) (t : Tree (Spot Machine)) → CellShows depot path self.old t
             → MatchOption result ((lives_ready machines t ≡ false) × (self.new ≡ self.old))
-            (λ vm. (lives_ready machines t ≡ true) × (vm.value ≡ (machine t).machine) × CellShows depot path self.new (placed out t)) }
+            (λ vm. (lives_ready machines t ≡ true) × (vm.value.machine ≡ (machine t).machine) × IsOfDepot depot vm.value.key × CellShows depot path self.new (placed out t)) }
         ensures place { self.new.is_listed ≡ self.old.is_listed }
     {
         if let State::Home(vm) = &self.state {
@@ -140,7 +141,7 @@ impl Cell {
     pub(crate) fn lend_named(&mut self) -> Option<Box<Vm>>
         ensures shows { (depot : Shelves) (path : Path) (t : Tree (Spot Machine)) → CellShows depot path self.old t
             → MatchOption result ((lives_at_home machines t ≡ false) × (self.new ≡ self.old))
-            (λ vm. (lives_at_home machines t ≡ true) × (vm.value ≡ (machine t).machine) × CellShows depot path self.new (placed out t)) }
+            (λ vm. (lives_at_home machines t ≡ true) × (vm.value.machine ≡ (machine t).machine) × IsOfDepot depot vm.value.key × CellShows depot path self.new (placed out t)) }
         ensures place { self.new.is_listed ≡ self.old.is_listed }
     {
         if let State::Parked(_, vm, _) = &self.state {
@@ -153,7 +154,7 @@ impl Cell {
         self.lend()
     }
 
-    /// The machine of a child that is still a descriptor, woken.
+    /// The machine of a child that is still a descriptor, woken from the descriptor's bytes.
     pub(crate) fn woken(
         &self,
         alloc: Global,
@@ -165,7 +166,7 @@ impl Cell {
             × (has_ended forest a ≡ false) }
         ensures { (path : Path) (t a : Tree (Spot Machine)) → Holds depot.now path self.now t → child_of ticket index t ≡ Some a
             → is_asleep_at (machine a).place ≡ true → has_ended forest a ≡ false
-            → IfOk result (λ vm. vm ≡ (machine a).machine) }
+            → IfOk result (λ vm. (vm.machine ≡ (machine a).machine) × IsOfDepot depot.now vm.key) }
     {
         let Some(brood) = self.broods.get(&ticket) else {
             unreachable!();
@@ -173,8 +174,8 @@ impl Cell {
         let Some(young) = &brood.young else {
             unreachable!();
         };
-        let seed = &young.seeds[index as usize - 1];
-        Vm::wake(alloc, seed, &young.key, depot)
+        let seed = young.seed.through_bytes(alloc, index)?;
+        Vm::wake(alloc, &seed, &young.key, depot)
     }
 
     /// A child has a cell of its own from now on.

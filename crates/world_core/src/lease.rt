@@ -1,20 +1,26 @@
-ghost use Rattle.std.specs.Prelude.{◌≡◌, ◌≢◌, ◌≤◌, ◌<◌, ◌+◌, ◌-◌, ◌∷◌, [], IfOk, OnErr, None};
-ghost use Rattle.forest_model.specs.Machine.{after_steps};
+ghost use Rattle.std.specs.Prelude.{◌≡◌, ◌≢◌, ◌≤◌, ◌<◌, ◌+◌, ◌-◌, ◌∷◌, [], length, slice_index_or, false, IfOk, OnErr, OnOk, None};
+ghost use Rattle.std.specs.Option.{option_copied};
+ghost use Rattle.image_depot.specs.Key.{IsKeyOf};
+ghost use Rattle.forest_model.specs.Paged.{absent_count, stalled_at};
 ghost use Rattle.vm_cell.specs.Acts.{Grows};
+ghost use Rattle.forest_model.specs.Machine.{after_steps};
+ghost use Rattle.vm_cell.specs.Keyed.{Arrives, HasImage, IsOfDepot, paged};
 ghost use Rattle.vm_cell.specs.Shown.{peeked, shown_registers};
 ghost use Rattle.vm_cell.specs.Standing.{standing_call};
-ghost use Rattle.vm_cell.specs.Steps.{Stands};
+ghost use Rattle.vm_cell.specs.Steps.{IsFreeFor, Stands, moved_by};
 ghost use Rattle.world_core.specs.Answers.{join_ticket};
+ghost use Rattle.world_core.specs.Lent.{IsSameLease, StandsWhole, lent_as, vm_of};
 ghost use Rattle.world_core.specs.Turns.{turn_of, turns_from};
 
 use crate::turns::Turn;
 use forest_model::Ending;
 use fork_port::Call;
+use image_depot::{Depot, ImageKey, Parcel};
 use run_report::Name;
-use std::alloc::AllocError;
+use std::alloc::{AllocError, Global};
 use std::marker::Model;
 use std::snapshot::Snapshot;
-use vm_cell::{Ran, Stepped, Vm};
+use vm_cell::{Arrived, Ran, Stepped, Vm};
 
 /// A machine on lease. It runs by itself, and nothing else runs it meanwhile. A lease cannot be let go: it is
 /// spent by the world that handed it out, in `give`, `end`, `fork`, `join` or `kill`.
@@ -27,14 +33,14 @@ pub struct Lease {
 
 impl Model for Lease {
     ghost use Rattle.std.specs.Prelude.{◌≡◌, ◌∷◌, [], None};
-    ghost use Rattle.world_core.specs.Lent.{Lent, IsLent};
+    ghost use Rattle.world_core.specs.Lent.{Lent, IsLent, lent_as};
     ghost use Rattle.world_core.specs.Turns.{turn_of, turns_from};
 
     ghost Value = { Lent };
 
-    ghost view = { λ l. record { name = (turn_of l.turn.value).name; start = l.start.value; ran = l.ran; now = l.vm.value } };
+    ghost view = { λ l. lent_as (turn_of l.turn.value).name l.start.value.machine l.ran l.vm.value };
 
-    ghost invariant = { λ l. IsLent l.start.value l.ran l.vm.value × (turns_from l.turn.value ≡ turn_of l.turn.value ∷ []) × ((turn_of l.turn.value).children ≡ None) };
+    ghost invariant = { λ l. IsLent l.start.value.machine l.ran l.vm.value.machine × (turns_from l.turn.value ≡ turn_of l.turn.value ∷ []) × ((turn_of l.turn.value).children ≡ None) };
 }
 
 impl Lease {
@@ -43,7 +49,7 @@ impl Lease {
     pub(crate) fn new(turn: Box<Turn>, vm: Box<Vm>) -> Lease
         requires alone { turns_from turn.value ≡ turn_of turn.value ∷ [] }
         requires one { (turn_of turn.value).children ≡ None }
-        ensures { result ≡ record { name = (turn_of turn.value).name; start = vm.value; ran = 0; now = vm.value } }
+        ensures { result ≡ lent_as (turn_of turn.value).name vm.value.machine 0 vm.value }
     {
         let start = Snapshot::of(&*vm);
         Lease {
@@ -87,14 +93,14 @@ impl Lease {
 
     /// The call that the machine is to make next, if it is to make one.
     pub fn call(&self) -> Option<Call>
-        ensures { result ≡ standing_call self.now.now }
+        ensures { result ≡ standing_call (vm_of self.now) }
     {
         self.vm.call()
     }
 
     /// The ticket of the JOIN that the machine is to make next, if it is to make one.
     pub fn joins(&self) -> Option<u32>
-        ensures { result ≡ join_ticket (standing_call self.now.now) }
+        ensures { result ≡ join_ticket (standing_call (vm_of self.now)) }
     {
         match self.vm.call() {
             Some(Call::Join(ticket)) => Some(ticket),
@@ -109,11 +115,59 @@ impl Lease {
         self.vm.limit()
     }
 
-    /// The word of RAM at an address, or `None` where the address is no multiple of 4 in RAM.
-    pub fn peek(&self, address: u32) -> Option<u32>
+    /// The word of RAM at an address as it would read, or `None` where the address is no multiple of 4 in RAM.
+    pub fn peek(&self, depot: &Depot, address: u32) -> Option<u32>
+        requires { IsOfDepot depot.now self.now.key }
         ensures { result ≡ peeked self.now.now.state address }
     {
-        self.vm.peek(address)
+        self.vm.peek(depot, address)
+    }
+
+    /// The key to the image that has the absent pages. A machine that was booted has none, and wants nothing.
+    pub fn key(&self) -> Option<&ImageKey>
+        ensures value { option_copied result ≡ self.now.key }
+        ensures absent { HasImage self.now.key self.now.pages }
+    {
+        self.vm.key()
+    }
+
+    /// The page at which the next step stalls, if it stalls.
+    pub fn wanted(&self) -> Option<u32>
+        ensures { result ≡ stalled_at (paged (vm_of self.now)) }
+    {
+        self.vm.wanted()
+    }
+
+    /// The pages of RAM.
+    pub fn pages(&self) -> u32
+        ensures { result ≡ length self.now.pages.here }
+    {
+        self.vm.pages()
+    }
+
+    /// Whether a page is here. One that is not is absent.
+    pub fn is_here(&self, page: u32) -> bool
+        requires { page < length self.now.pages.here }
+        ensures { result ≡ slice_index_or self.now.pages.here page false }
+    {
+        self.vm.is_here(page)
+    }
+
+    /// Takes a page that was sent, where it is absent and one of the image of the key. Nothing else changes.
+    pub fn arrive(
+        &mut self,
+        alloc: Global,
+        depot: &Depot,
+        parcel: &Parcel,
+    ) -> Result<Arrived, AllocError>
+        requires of_depot { IsOfDepot depot.now self.old.key }
+        requires parcel { IsKeyOf depot.now parcel.now.key }
+        ensures same { IsSameLease self.old self.new × (self.new.ran ≡ self.old.ran) }
+        ensures arrives { IfOk result (Arrives self.old.key self.old.pages parcel.now self.new.pages) }
+        ensures rest { self.new.now ≡ self.old.now }
+        ensures err { OnErr result (self.new ≡ self.old) }
+    {
+        self.vm.arrive(alloc, depot, parcel)
     }
 
     /// The pc, and then the registers x1 to x31.
@@ -123,19 +177,22 @@ impl Lease {
         self.vm.regs()
     }
 
-    /// Makes at most `most` steps, until the machine ends or is to make a call. After an `Err` the steps
+    /// Makes at most `most` steps, until the machine ends, stalls or is to make a call. After an `Err` the steps
     /// before it stand, and `ran` tells them.
     pub fn run(&mut self, most: u64) -> Result<Ran, AllocError>
-        ensures same { (self.new.name ≡ self.old.name) × (self.new.start ≡ self.old.start) }
-        ensures now { IfOk result (λ ran. (self.new.ran ≡ self.old.ran + ran.steps) × (self.new.now ≡ after_steps ran.steps self.old.now)) }
-        ensures stands { IfOk result (λ ran. Stands self.new.now ran.why) }
+        ensures same { IsSameLease self.old self.new }
+        ensures now { IfOk result (λ ran. (self.new.ran ≡ self.old.ran + ran.steps) × (vm_of self.new ≡ moved_by ran.steps (vm_of self.old))) }
+        ensures free { IfOk result (λ ran. IsFreeFor ran.steps (vm_of self.old)) }
+        ensures stands { IfOk result (λ ran. Stands (vm_of self.new) ran.why) }
         ensures most { IfOk result (λ ran. ran.steps ≤ most) }
+        ensures each_made { IfOk result (λ ran. self.new.now.steps ≡ self.old.now.steps + ran.steps) }
         ensures all_made { IfOk result (λ ran. ran.why ≡ Stepped.Went → ran.steps ≡ most) }
         ensures enough { IfOk result (λ ran. self.old.now.limit ≤ self.old.now.steps + most → ran.why ≢ Stepped.Went) }
-        ensures err { OnErr result (self.new.now ≡ after_steps (self.new.ran - self.old.ran) self.old.now) }
+        ensures err { OnErr result (vm_of self.new ≡ moved_by (self.new.ran - self.old.ran) (vm_of self.old)) }
         ensures err_ran { OnErr result (self.old.ran ≤ self.new.ran) }
         ensures err_most { OnErr result (self.new.ran < self.old.ran + most) }
         ensures err_live { OnErr result (self.new.now.ending ≡ None) }
+        ensures err_here { OnErr result (stalled_at (paged (vm_of self.new)) ≡ None) }
         // Memory is wanted only where the coming step takes some.
         ensures err_memory { OnErr result (Grows self.new.now.state) }
     {
@@ -143,5 +200,57 @@ impl Lease {
         let ran = self.vm.run(most);
         self.ran += self.vm.steps() - before;
         ran
+    }
+
+    /// The same, where each page at which the machine stalls is brought from its image: so it stalls at none.
+    pub fn run_fetching(
+        &mut self,
+        alloc: Global,
+        depot: &Depot,
+        most: u64,
+    ) -> Result<Ran, AllocError>
+        requires { IsOfDepot depot.now self.old.key }
+        ensures same { IsSameLease self.old self.new }
+        ensures now { IfOk result (λ ran. (self.new.ran ≡ self.old.ran + ran.steps) × (self.new.now ≡ after_steps ran.steps self.old.now)) }
+        ensures stands { IfOk result (λ ran. StandsWhole (vm_of self.new) ran.why) }
+        ensures here { OnOk result (stalled_at (paged (vm_of self.new)) ≡ None) }
+        ensures most { IfOk result (λ ran. ran.steps ≤ most) }
+        ensures all_made { IfOk result (λ ran. ran.why ≡ Stepped.Went → ran.steps ≡ most) }
+        ensures enough { IfOk result (λ ran. self.old.now.limit ≤ self.old.now.steps + most → ran.why ≢ Stepped.Went) }
+        ensures err { OnErr result (self.new.now ≡ after_steps (self.new.ran - self.old.ran) self.old.now) }
+        ensures err_ran { OnErr result (self.old.ran ≤ self.new.ran) }
+        ensures err_most { OnErr result (self.new.ran ≤ self.old.ran + most) }
+        ensures err_live { OnErr result (self.new.now.ending ≡ None) }
+    {
+        let mut steps = 0;
+        loop {
+            let ran = self.run(most - steps)?;
+            steps += ran.steps;
+            let Stepped::Stall(page) = ran.why else {
+                return Ok(Ran {
+                    steps,
+                    why: ran.why,
+                });
+            };
+            self.fetch(alloc, depot, page)?;
+        }
+    }
+
+    /// Brings the page at which the next step stalls from the image that has it.
+    fn fetch(&mut self, alloc: Global, depot: &Depot, page: u32) -> Result<(), AllocError>
+        requires of_depot { IsOfDepot depot.now self.old.key }
+        requires stalled { stalled_at (paged (vm_of self.old)) ≡ Some page }
+        ensures same { IsSameLease self.old self.new × (self.new.ran ≡ self.old.ran) }
+        ensures rest { self.new.now ≡ self.old.now }
+        ensures fewer { OnOk result (absent_count self.new.pages.here < absent_count self.old.pages.here) }
+    {
+        // The call tells that RAM has no other page, and a step touches none but those of RAM.
+        let _ = self.vm.pages();
+        let Some(key) = self.key() else {
+            unreachable!();
+        };
+        let parcel = depot.answer(key, page)?;
+        self.arrive(alloc, depot, &parcel)?;
+        Ok(())
     }
 }

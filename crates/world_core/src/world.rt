@@ -1,11 +1,11 @@
-ghost use Rattle.std.specs.Prelude.{◌≡◌, [], ◌∷◌, None, Some, true, false, IfOk, IfSome, IsSome, IsSomeAnd, MatchOption};
+ghost use Rattle.std.specs.Prelude.{◌≡◌, [], ◌∷◌, length, None, Some, true, false, IfOk, IfSome, IsSome, IsSomeAnd, MatchOption};
 ghost use Rattle.std.specs.BTreeMap.{get};
 ghost use Rattle.image_depot.specs.Key.{Shelves};
 ghost use Rattle.forest_tree.specs.Settle.{has_ended};
 ghost use Rattle.forest_tree.specs.Sound.{IsSound};
 ghost use Rattle.forest_tree.specs.Tree.{Path, Tree, machine, subtree};
 ghost use Rattle.forest_history.specs.Places.{Spot, home, placed};
-ghost use Rattle.forest_history.specs.World.{world_of};
+ghost use Rattle.forest_history.specs.World.{is_at_home, world_of};
 ghost use Rattle.forest_history.specs.Rows.{gave, ended, halted, does};
 ghost use Rattle.forest_model.specs.Forest.{machines, port_of};
 ghost use Rattle.forest_model.specs.Machine.{Machine};
@@ -13,11 +13,13 @@ ghost use Rattle.run_report.specs.Lines.{lines};
 ghost use Rattle.run_report.specs.Name.{child_path};
 ghost use Rattle.run_report.specs.NameOrder.{path_cmp};
 ghost use Rattle.run_report.specs.Report.{lines_of};
+ghost use Rattle.vm_cell.specs.Keyed.{IsOfDepot};
+ghost use Rattle.world_core.specs.Lent.{vm_of};
 ghost use Rattle.world_core.specs.Turns.{turns_from, turn_of};
 ghost use Rattle.world_core.specs.Shows.{CellShows, IsAwake, child_of, forest, told_spot, ended_tree};
 ghost use Rattle.world_core.specs.World.{Forest, StandsFor};
 ghost use Rattle.world_core.specs.Between.{HasLeft, IsBetween, IsLeaving, IsSameWorld, TakesOut, with_tree};
-ghost use Rattle.world_core.specs.Answers.{Answers, HandedOut, IsHandedOut, home_by, stands_waiting, with_machine};
+ghost use Rattle.world_core.specs.Answers.{Answers, HandedOut, IsHandedOut, IsLentOf, home_by, stands_waiting_of};
 
 use crate::cell::{Cell, State};
 use crate::lease::Lease;
@@ -72,49 +74,50 @@ pub struct World {
 }
 
 impl World {
-    /// The world of one machine, which has no ticket.
+    /// The world of one machine, which has no ticket, and which has no absent page.
     pub fn new(alloc: Global, vm: Vm, depot: &Depot) -> Result<World, AllocError>
-        requires no_ticket { (port_of vm).tickets ≡ [] }
-        ensures { IfOk result (λ world. StandsFor depot.now world (world_of machines vm)) }
+        requires no_ticket { (port_of vm.machine).tickets ≡ [] }
+        requires every_page { vm.key ≡ None }
+        ensures { IfOk result (λ world. StandsFor depot.now world (world_of machines vm.machine)) }
     {
         let _ = depot;
         match vm.ended() {
-            Some(ending) => Ok(World::of_ended(alloc, vm, ending)),
+            Some(ending) => World::of_ended(alloc, vm, ending),
             None => World::of_live(alloc, vm),
         }
     }
 
     /// The world of a machine that has ended.
-    fn of_ended(alloc: Global, vm: Vm, ending: Ending) -> World
-        requires ended { vm.ending ≡ Some ending }
-        requires no_ticket { (port_of vm).tickets ≡ [] }
-        requires good { machines.is_good vm ≡ true }
-        ensures { (depot : Shelves) → StandsFor depot result (world_of machines vm) }
+    fn of_ended(alloc: Global, vm: Vm, ending: Ending) -> Result<World, AllocError>
+        requires ended { vm.machine.ending ≡ Some ending }
+        requires no_ticket { (port_of vm.machine).tickets ≡ [] }
+        requires good { machines.is_good vm.machine ≡ true }
+        ensures { IfOk result (λ world. (depot : Shelves) → StandsFor depot world (world_of machines vm.machine)) }
     {
+        let root = Name::root(alloc)?;
         let steps = vm.steps();
         let log = Vec::new(alloc);
-        World {
+        Ok(World {
             cells: BTreeMap::new(alloc),
             ready: Turns::new(),
             halted: None,
-            outcome: Some(Outcome::new(Name::root(alloc), ending, steps, vm.into_output(), log)),
-        }
+            outcome: Some(Outcome::new(root, ending, steps, vm.into_output(), log)),
+        })
     }
 
     /// The world of a machine that lives. It is ready.
     fn of_live(alloc: Global, vm: Vm) -> Result<World, AllocError>
-        requires lives { vm.ending ≡ None }
-        requires no_ticket { (port_of vm).tickets ≡ [] }
-        requires good { machines.is_good vm ≡ true }
-        ensures { IfOk result (λ world. (depot : Shelves) → StandsFor depot world (world_of machines vm)) }
+        requires lives { vm.machine.ending ≡ None }
+        requires no_ticket { (port_of vm.machine).tickets ≡ [] }
+        requires every_page { vm.key ≡ None }
+        requires good { machines.is_good vm.machine ≡ true }
+        ensures { IfOk result (λ world. (depot : Shelves) → StandsFor depot world (world_of machines vm.machine)) }
     {
+        let root = Name::root(alloc)?;
         let mut ready = Turns::new();
-        ready.push(Turn::of_machine(alloc, Name::root(alloc))?);
+        ready.push(Turn::of_machine(alloc, root.copy()?)?);
         let mut cells = BTreeMap::new(alloc);
-        cells.insert(
-            Name::root(alloc),
-            Cell::of_root(alloc, Box::new(alloc, vm)?),
-        )?;
+        cells.insert(root, Cell::of_root(alloc, Box::new(alloc, vm)?))?;
         Ok(World {
             cells,
             ready,
@@ -126,7 +129,7 @@ impl World {
     /// Takes a machine back. It takes no memory.
     pub fn give(&mut self, lease: Lease) -> Placed
         requires { HandedOut self.old lease }
-        ensures { (depot : Shelves) (f : Forest) → StandsFor depot self.old f → IsHandedOut f lease
+        ensures { (depot : Shelves) (f : Forest) → StandsFor depot self.old f → IsHandedOut f lease → IsLentOf depot lease
             → Answers depot f (home_by lease.now.ending) lease result self.new }
     {
         if lease.ended().is_some() {
@@ -145,7 +148,7 @@ impl World {
     pub fn end(&mut self, lease: Lease) -> Placed
         requires lent { HandedOut self.old lease }
         requires ended { IsSome lease.now.ending }
-        ensures { (depot : Shelves) (f : Forest) → StandsFor depot self.old f → IsHandedOut f lease
+        ensures { (depot : Shelves) (f : Forest) → StandsFor depot self.old f → IsHandedOut f lease → IsLentOf depot lease
             → Answers depot f ended lease result self.new }
     {
         let Lease {
@@ -194,11 +197,24 @@ impl World {
         outcome
     }
 
+    /// Whether a machine may be at home whose name has so many forks. Where it answers no, none is. It looks at
+    /// the longest name of a machine that is awake: a child that is still a descriptor has one fork more than its
+    /// parent, which is awake.
+    pub fn reaches(&self, depth: usize) -> bool
+        ensures { (depot : Shelves) (f : Forest) → StandsFor depot self.now f → result ≡ false
+            → (name : Path) → length name ≡ depth → is_at_home machines name f.tree ≡ false }
+    {
+        let Some((longest, _)) = self.cells.last_key_value() else {
+            return false;
+        };
+        depth.saturating_sub(longest.depth()) <= 1
+    }
+
     /// Whether the machine on lease stands at the JOIN of a ticket of which a child lives. A machine whose name
     /// is gone does not.
     pub fn waits(&self, lease: &Lease) -> bool
         ensures { (depot : Shelves) (f : Forest) → StandsFor depot self.now f → IsHandedOut f lease.now
-            → MatchOption (subtree lease.now.name f.tree) (result ≡ false) (λ t. result ≡ stands_waiting (with_machine lease.now.now t)) }
+            → MatchOption (subtree lease.now.name f.tree) (result ≡ false) (λ t. result ≡ stands_waiting_of (vm_of lease.now) t) }
     {
         let Some(ticket) = lease.joins() else {
             return false;
@@ -215,7 +231,7 @@ impl World {
         requires one { (turn_of turn.value).children ≡ None }
         ensures gone { get path_cmp self.old.cells (turn_of turn.value).name ≡ None → (result ≡ Placed.Dropped) × IsSameWorld self.old self.new }
         ensures home { (depot : Shelves) (f : Forest) (a : Tree (Spot Machine)) → IsBetween depot self.old f (turn_of turn.value).name a
-            → (machine a).machine ≡ vm.value → has_ended forest a ≡ false
+            → (machine a).machine ≡ vm.value.machine → IsOfDepot depot vm.value.key → has_ended forest a ≡ false
             → IsSound forest (with_tree (turn_of turn.value).name (placed home a) f).tree
             → (result ≡ Placed.Done) × StandsFor depot self.new (with_tree (turn_of turn.value).name (placed home a) f) }
     {
@@ -233,13 +249,13 @@ impl World {
     /// Puts what a machine left that has ended into its parent's brood, or keeps it where it is the root's.
     /// Its descendants are dropped.
     fn finish(&mut self, turn: Box<Turn>, vm: Box<Vm>, ending: Ending) -> Placed
-        requires ended { vm.value.ending ≡ Some ending }
+        requires ended { vm.value.machine.ending ≡ Some ending }
         requires between { IfSome (get path_cmp self.old.cells (turn_of turn.value).name)
             (λ c. (depot : Shelves) × (f : Forest) × (a : Tree (Spot Machine)) × IsBetween depot self.old f (turn_of turn.value).name a
-            × ((machine a).machine ≡ vm.value)) }
+            × ((machine a).machine ≡ vm.value.machine)) }
         ensures gone { get path_cmp self.old.cells (turn_of turn.value).name ≡ None → (result ≡ Placed.Dropped) × IsSameWorld self.old self.new }
         ensures finished { (depot : Shelves) (f : Forest) (a : Tree (Spot Machine)) → IsBetween depot self.old f (turn_of turn.value).name a
-            → (machine a).machine ≡ vm.value
+            → (machine a).machine ≡ vm.value.machine
             → IsSound forest (with_tree (turn_of turn.value).name (placed home (ended_tree a)) f).tree
             → (result ≡ Placed.Done) × StandsFor depot self.new (with_tree (turn_of turn.value).name (placed home (ended_tree a)) f) }
     {

@@ -1,18 +1,24 @@
 //! Words that are loaded, computed with and stored in one step.
 
-ghost use Rattle.std.specs.Prelude.{◌≡◌, ◌-◌, ◌%◌, ◌<◌, length, Ok, OnOk, OnErr, true};
+ghost use Rattle.std.specs.Prelude.{◌≡◌, ◌-◌, ◌/◌, ◌%◌, ◌<◌, if◌then◌else◌, length, Some, None, Ok, OnOk, OnErr, true};
 ghost use Rattle.std.specs.Int.{to_le_bytes, w32};
+ghost use Rattle.elf_load.specs.declared.image.TheConstants.{PAGE_SIZE};
 ghost use Rattle.rv_decode.specs.declared.kinds.Group.TheVariants as group;
 ghost use Rattle.rv_decode.specs.Kinds.{group_of};
+ghost use Rattle.forest_model.specs.Action.{rs2};
 ghost use Rattle.forest_model.specs.Memory.{with_bytes};
-ghost use Rattle.forest_model.specs.Atomic.{is_reserved, load_reserved, conditional_action, store_conditional, amo_at, amo};
-ghost use Rattle.vm_cell.specs.Acts.{Acts, InstructionGrows};
+ghost use Rattle.forest_model.specs.Atomic.{load_reserved, reserve_access, conditional_access, conditional_action, store_conditional, amo, amo_access, amo_by};
+ghost use Rattle.forest_model.specs.Access.{of_ram};
+ghost use Rattle.forest_model.specs.Paged.{no_change, puts, change_of_access};
+ghost use Rattle.forest_model.specs.Touch.{data_page};
+ghost use Rattle.vm_cell.specs.Acts.{Acts, InstructionGrows, IsPut};
+ghost use Rattle.vm_cell.specs.Keyed.{IsHere};
 
+use super::access::{Reach, word_access};
 use super::{Acted, Hart, trapped};
 use elf_load::RAM_BASE;
-use forest_model::cause::{
-    LOAD_ACCESS_FAULT, LOAD_ADDRESS_MISALIGNED, STORE_ACCESS_FAULT, STORE_ADDRESS_MISALIGNED,
-};
+use forest_model::Direction;
+use forest_model::cause::{LOAD_ACCESS_FAULT, STORE_ACCESS_FAULT};
 use rv_decode::Instr;
 use rv_exec::amo_value;
 use std::alloc::AllocError;
@@ -22,18 +28,19 @@ impl Hart {
     #[inline]
     #[tactic(auto, unfolding(forest_model::specs::Atomic::load_reserved))]
     pub(super) fn load_reserved(&mut self, instr: Instr) -> Acted
-        ensures { Acts self.old self.new (load_reserved instr self.old) (Ok result) }
+        ensures { Acts self.old self.new (data_page (Some (reserve_access instr self.old.state)) self.old.state) no_change (load_reserved instr self.old.state) (Ok result) }
     {
         let address = self.register(instr.rs1());
-        if address % 4 != 0 {
-            return trapped(LOAD_ADDRESS_MISALIGNED, address);
+        match self.reach(word_access(address, Direction::Reserve)) {
+            Reach::Faulted(cause) => trapped(cause, address),
+            Reach::Absent(page) => Acted::Stalled(page),
+            Reach::Ram(offset) => {
+                let word = self.word(offset);
+                self.reservation = Some(address);
+                self.retire_with(instr, word)
+            }
+            Reach::Port => trapped(LOAD_ACCESS_FAULT, address),
         }
-        let Some(offset) = self.ram_offset(address) else {
-            return trapped(LOAD_ACCESS_FAULT, address);
-        };
-        let word = self.word(offset);
-        self.reservation = Some(address);
-        self.retire_with(instr, word)
     }
 
     /// SC.
@@ -41,34 +48,37 @@ impl Hart {
     #[tactic(auto, unfolding(forest_model::specs::Atomic::store_conditional))]
     pub(super) fn store_conditional(&mut self, instr: Instr) -> Result<Acted, AllocError>
         requires { group_of instr.kind ≡ group.StoreConditional }
-        ensures acts { Acts self.old self.new (store_conditional instr self.old) result }
-        ensures memory { OnErr result (InstructionGrows instr self.old) }
+        ensures acts { Acts self.old self.new (data_page (Some (conditional_access instr self.old.state)) self.old.state)
+            (change_of_access (Some (conditional_access instr self.old.state)) (rs2 instr self.old.state) self.old.state) (store_conditional instr self.old.state) result }
+        ensures memory { OnErr result (InstructionGrows instr self.old.state) }
     {
         let address = self.register(instr.rs1());
-        if address % 4 != 0 {
-            return Ok(trapped(STORE_ADDRESS_MISALIGNED, address));
-        }
-        match self.ram_offset(address) {
-            Some(offset) => self.store_where_reserved(instr, address, offset),
-            None => Ok(trapped(STORE_ACCESS_FAULT, address)),
+        let is_reserved = self.is_reserved(address);
+        match self.reach(word_access(address, Direction::Conditional(is_reserved))) {
+            Reach::Faulted(cause) => Ok(trapped(cause, address)),
+            Reach::Absent(page) => Ok(Acted::Stalled(page)),
+            Reach::Ram(offset) => self.store_if(instr, address, offset, is_reserved),
+            Reach::Port => Ok(trapped(STORE_ACCESS_FAULT, address)),
         }
     }
 
-    /// Stores rs2 at an address in RAM, if it is the one that is reserved.
+    /// Stores rs2 at an address in RAM, if it is the one that is reserved. Nothing is reserved then.
     #[inline]
-    fn store_where_reserved(
+    fn store_if(
         &mut self,
         instr: Instr,
         address: u32,
         offset: u32,
+        is_reserved: bool,
     ) -> Result<Acted, AllocError>
         requires offset { offset ≡ address - RAM_BASE }
         requires aligned { offset % 4 ≡ 0 }
-        requires inside { offset < length self.old.ram }
-        ensures acts { Acts self.old self.new (conditional_action (is_reserved self.old.reservation address) instr address self.old) result }
-        ensures memory { OnErr result (is_reserved self.old.reservation address ≡ true) }
+        requires inside { offset < length self.old.state.ram }
+        requires here { is_reserved ≡ true → IsHere self.old.pages (offset / PAGE_SIZE) }
+        ensures acts { Acts self.old self.new None (if is_reserved then puts (offset / PAGE_SIZE) else no_change)
+            (conditional_action is_reserved instr address self.old.state) result }
+        ensures memory { OnErr result (is_reserved ≡ true) }
     {
-        let is_reserved = self.reservation == Some(address);
         if is_reserved {
             let word = self.register(instr.rs2());
             self.write_word(address, offset, word)?;
@@ -82,16 +92,16 @@ impl Hart {
     #[tactic(auto, unfolding(forest_model::specs::Atomic::amo))]
     pub(super) fn amo(&mut self, instr: Instr) -> Result<Acted, AllocError>
         requires { group_of instr.kind ≡ group.Amo }
-        ensures acts { Acts self.old self.new (amo instr self.old) result }
-        ensures memory { OnErr result (InstructionGrows instr self.old) }
+        ensures acts { Acts self.old self.new (data_page (Some (amo_access instr self.old.state)) self.old.state)
+            (change_of_access (Some (amo_access instr self.old.state)) (rs2 instr self.old.state) self.old.state) (amo instr self.old.state) result }
+        ensures memory { OnErr result (InstructionGrows instr self.old.state) }
     {
         let address = self.register(instr.rs1());
-        if address % 4 != 0 {
-            return Ok(trapped(STORE_ADDRESS_MISALIGNED, address));
-        }
-        match self.ram_offset(address) {
-            Some(offset) => self.update(instr, address, offset),
-            None => Ok(trapped(STORE_ACCESS_FAULT, address)),
+        match self.reach(word_access(address, Direction::Update)) {
+            Reach::Faulted(cause) => Ok(trapped(cause, address)),
+            Reach::Absent(page) => Ok(Acted::Stalled(page)),
+            Reach::Ram(offset) => self.update(instr, address, offset),
+            Reach::Port => Ok(trapped(STORE_ACCESS_FAULT, address)),
         }
     }
 
@@ -101,8 +111,9 @@ impl Hart {
         requires group { group_of instr.kind ≡ group.Amo }
         requires offset { offset ≡ address - RAM_BASE }
         requires aligned { offset % 4 ≡ 0 }
-        requires inside { offset < length self.old.ram }
-        ensures { Acts self.old self.new (amo_at true instr address self.old) result }
+        requires inside { offset < length self.old.state.ram }
+        requires here { IsHere self.old.pages (offset / PAGE_SIZE) }
+        ensures { Acts self.old self.new None (puts (offset / PAGE_SIZE)) (amo_by (of_ram (Some (offset / PAGE_SIZE))) instr address self.old.state) result }
     {
         let old = self.word(offset);
         let source = self.register(instr.rs2());
@@ -110,13 +121,14 @@ impl Hart {
         Ok(self.retire_with(instr, old))
     }
 
-    /// Writes a word at an address in RAM.
+    /// Writes a word at an address in RAM whose page is here.
     #[inline]
     fn write_word(&mut self, address: u32, offset: u32, word: u32) -> Result<(), AllocError>
         requires offset { offset ≡ address - RAM_BASE }
         requires aligned { offset % 4 ≡ 0 }
-        requires inside { offset < length self.old.ram }
-        ensures ok { OnOk result (self.new ≡ with_bytes address (to_le_bytes w32 word) self.old) }
+        requires inside { offset < length self.old.state.ram }
+        requires here { IsHere self.old.pages (offset / PAGE_SIZE) }
+        ensures ok { OnOk result (IsPut self.old self.new (offset / PAGE_SIZE) (with_bytes address (to_le_bytes w32 word) self.old.state)) }
         ensures err { OnErr result (self.new ≡ self.old) }
     {
         self.store_at(offset, 4, word)

@@ -3,10 +3,11 @@
 ghost use Rattle.std.specs.Prelude.{◌≡◌, ℕ, true, false, length, option_map, IsSome, IsSomeAnd, OnOk, OnErr};
 ghost use Rattle.fork_port.specs.Children.{after_clone, after_join, after_kill};
 ghost use Rattle.fork_port.specs.Registers.{HasTicket, ticket_found, ticket_told};
-ghost use Rattle.forest_model.specs.Execute.{action, execute};
-ghost use Rattle.vm_cell.specs.Standing.{AsksFor, call_asked, made};
+ghost use Rattle.forest_model.specs.Execute.{execute};
+ghost use Rattle.vm_cell.specs.Standing.{AsksFor, AsksNext, call_asked, made};
 
 use super::Hart;
+use super::access::Reach;
 use forest_model::Written;
 use forest_model::port_map::FORK_BASE;
 use fork_port::registers::FORK_COMMAND;
@@ -15,26 +16,23 @@ use rv_decode::{Instr, Kind, decode};
 use std::alloc::AllocError;
 
 impl Hart {
-    /// The call that the coming step is, if it is one.
+    /// The call that the coming step is, if it is one and waits for no page.
     #[tactic(auto, unfolding(forest_model::specs::Execute::action))]
     pub fn call(&self) -> Option<Call>
-        ensures { AsksFor (action self.now) self.now result }
+        ensures { AsksNext self.now result }
     {
-        if self.csrs.interrupt(self.ports.is_timer_due()) {
+        if self.takes_interrupt() {
             return None;
         }
-        let Some(offset) = self.ram_offset(self.pc) else {
-            return None;
-        };
-        match decode(self.word(offset)) {
-            Some(instr) => self.call_of(instr),
-            None => None,
+        match self.fetch() {
+            Reach::Ram(offset) => self.call_of(decode(self.fetched(offset))?),
+            Reach::Faulted(_) | Reach::Absent(_) | Reach::Port => None,
         }
     }
 
     /// The call that an instruction at the pc is: a store of a word to the fork port's command.
     fn call_of(&self, instr: Instr) -> Option<Call>
-        ensures { (word : ℕ) → AsksFor (execute instr word self.now) self.now result }
+        ensures { (word : ℕ) → AsksFor (execute instr word self.now.state) self.now.state result }
     {
         match instr.kind() {
             Kind::Sw => self.call_stored(instr),
@@ -44,7 +42,7 @@ impl Hart {
 
     fn call_stored(&self, instr: Instr) -> Option<Call>
         requires { instr.kind ≡ Kind.Sw }
-        ensures { (word : ℕ) → AsksFor (execute instr word self.now) self.now result }
+        ensures { (word : ℕ) → AsksFor (execute instr word self.now.state) self.now.state result }
     {
         if self.data_address(instr) != FORK_BASE + FORK_COMMAND {
             return None;
@@ -54,15 +52,15 @@ impl Hart {
 
     /// How many children a ticket is for, the share of each, and whether they were made.
     pub fn find(&self, ticket: u32) -> Option<(u32, u32, bool)>
-        ensures { result ≡ option_map ticket_told (ticket_found self.now.ports.fork ticket) }
+        ensures { result ≡ option_map ticket_told (ticket_found self.now.state.ports.fork ticket) }
     {
         self.ports.find(ticket)
     }
 
     /// Makes CLONE, which retires and is counted.
     pub fn fork(&mut self, ticket: u32)
-        requires { HasTicket self.old.ports.fork ticket false }
-        ensures { self.new ≡ made (after_clone self.old.ports.fork ticket) self.old }
+        requires { HasTicket self.old.state.ports.fork ticket false }
+        ensures { self.new ≡ record self.old { state = made (after_clone self.old.state.ports.fork ticket) self.old.state } }
     {
         self.ports.cloned(ticket);
         self.retire_call();
@@ -70,9 +68,9 @@ impl Hart {
 
     /// Makes JOIN, which retires and is counted.
     pub fn join(&mut self, ticket: u32, endings: &[Ending]) -> Result<(), AllocError>
-        requires there { HasTicket self.old.ports.fork ticket true }
-        requires all { IsSomeAnd (ticket_found self.old.ports.fork ticket) (λ ticket. length endings.now ≡ ticket.children) }
-        ensures ok { OnOk result (self.new ≡ made (after_join self.old.ports.fork ticket endings.now) self.old) }
+        requires there { HasTicket self.old.state.ports.fork ticket true }
+        requires all { IsSomeAnd (ticket_found self.old.state.ports.fork ticket) (λ ticket. length endings.now ≡ ticket.children) }
+        ensures ok { OnOk result (self.new ≡ record self.old { state = made (after_join self.old.state.ports.fork ticket endings.now) self.old.state }) }
         ensures err { OnErr result (self.new ≡ self.old) }
     {
         self.ports.joined(ticket, endings)?;
@@ -82,8 +80,8 @@ impl Hart {
 
     /// Makes KILL, which retires and is counted.
     pub fn kill(&mut self, ticket: u32)
-        requires { IsSome (ticket_found self.old.ports.fork ticket) }
-        ensures { self.new ≡ made (after_kill self.old.ports.fork ticket) self.old }
+        requires { IsSome (ticket_found self.old.state.ports.fork ticket) }
+        ensures { self.new ≡ record self.old { state = made (after_kill self.old.state.ports.fork ticket) self.old.state } }
     {
         self.ports.killed(ticket);
         self.retire_call();
@@ -91,7 +89,7 @@ impl Hart {
 
     /// The instruction of a call retires, and is counted.
     fn retire_call(&mut self)
-        ensures { self.new ≡ made self.old.ports.fork self.old }
+        ensures { self.new ≡ record self.old { state = made self.old.state.ports.fork self.old.state } }
     {
         self.pc = self.pc.wrapping_add(4);
         self.count(true, Written::Nothing);

@@ -1,10 +1,10 @@
 //! Jumps and branches.
 
-ghost use Rattle.std.specs.Prelude.{◌≡◌, Ok};
+ghost use Rattle.std.specs.Prelude.{◌≡◌};
 ghost use Rattle.rv_decode.specs.declared.kinds.Group.TheVariants as group;
 ghost use Rattle.rv_decode.specs.Kinds.{group_of};
 ghost use Rattle.forest_model.specs.Control.{jump_to, relative, linked, jump, jump_register, branch};
-ghost use Rattle.vm_cell.specs.Acts.{Acts};
+ghost use Rattle.vm_cell.specs.Acts.{ActsAlone};
 
 use super::{Acted, Hart, trapped};
 use forest_model::Written;
@@ -16,7 +16,7 @@ impl Hart {
     #[inline]
     #[tactic(auto, unfolding(forest_model::specs::Control::jump))]
     pub(super) fn jump(&mut self, instr: Instr) -> Acted
-        ensures { Acts self.old self.new (jump instr self.old) (Ok result) }
+        ensures { ActsAlone self.old self.new (jump instr self.old.state) result }
     {
         let target = self.relative(instr);
         self.link_and_jump(instr, target)
@@ -25,7 +25,7 @@ impl Hart {
     #[inline]
     #[tactic(auto, unfolding(forest_model::specs::Control::jump_register))]
     pub(super) fn jump_register(&mut self, instr: Instr) -> Acted
-        ensures { Acts self.old self.new (jump_register instr self.old) (Ok result) }
+        ensures { ActsAlone self.old self.new (jump_register instr self.old.state) result }
     {
         let address = self
             .register(instr.rs1())
@@ -37,7 +37,7 @@ impl Hart {
     #[tactic(auto, unfolding(forest_model::specs::Control::branch))]
     pub(super) fn branch(&mut self, instr: Instr) -> Acted
         requires { group_of instr.kind ≡ group.Branch }
-        ensures { Acts self.old self.new (branch instr self.old) (Ok result) }
+        ensures { ActsAlone self.old self.new (branch instr self.old.state) result }
     {
         let a = self.register(instr.rs1());
         let b = self.register(instr.rs2());
@@ -51,7 +51,7 @@ impl Hart {
     /// The pc plus the immediate.
     #[inline]
     fn relative(&self, instr: Instr) -> u32
-        ensures { result ≡ relative instr self.now }
+        ensures { result ≡ relative instr self.now.state }
     {
         self.pc.wrapping_add(instr.imm().cast_unsigned())
     }
@@ -59,7 +59,7 @@ impl Hart {
     /// Jumps, with the address of the next instruction for rd.
     #[inline]
     fn link_and_jump(&mut self, instr: Instr, target: u32) -> Acted
-        ensures { Acts self.old self.new (jump_to target (linked instr self.old)) (Ok result) }
+        ensures { ActsAlone self.old self.new (jump_to target (linked instr self.old.state)) result }
     {
         if target % 4 != 0 {
             return trapped(INSTRUCTION_ADDRESS_MISALIGNED, target);
@@ -72,7 +72,7 @@ impl Hart {
 
     #[inline]
     fn jump_to(&mut self, target: u32) -> Acted
-        ensures { Acts self.old self.new (jump_to target self.old) (Ok result) }
+        ensures { ActsAlone self.old self.new (jump_to target self.old.state) result }
     {
         if target % 4 != 0 {
             return trapped(INSTRUCTION_ADDRESS_MISALIGNED, target);

@@ -1,19 +1,22 @@
 //! Loads and stores.
 
-ghost use Rattle.std.specs.Prelude.{◌≡◌, ◌<◌, Ok, OnErr, OnOk};
+ghost use Rattle.std.specs.Prelude.{◌≡◌, ◌<◌, if◌then◌else◌, Some, None, Ok, OnErr, OnOk};
 ghost use Rattle.rv_decode.specs.declared.kinds.Group.TheVariants as group;
 ghost use Rattle.rv_decode.specs.Kinds.{group_of};
 ghost use Rattle.byteorder.specs.Endian.{little_bytes};
+ghost use Rattle.forest_model.specs.Access.{reached};
+ghost use Rattle.forest_model.specs.Action.{rs2};
 ghost use Rattle.forest_model.specs.Ports.{port_load, port_store};
-ghost use Rattle.forest_model.specs.Memory.{data_address, is_aligned, aligned_load, read_action, load, store, store_action, port_action, is_page_range, zeroed};
+ghost use Rattle.forest_model.specs.Memory.{data_address, load_access, load_by, read_action, load, store, store_access, store_action, to_load, to_store, port_action, is_page_range, zeroed};
+ghost use Rattle.forest_model.specs.Paged.{no_change, zeroes, change_of_access, change_stored, pages_after};
+ghost use Rattle.forest_model.specs.Touch.{data_page};
 ghost use Rattle.rv_exec.specs.Memory.{IsWidth, load_width};
-ghost use Rattle.vm_cell.specs.Acts.{Acts, InstructionGrows, StoreGrows, PortGrows};
+ghost use Rattle.vm_cell.specs.Acts.{Acts, AccessGrows, InstructionGrows, PortGrows};
 
+use super::access::Reach;
 use super::{Acted, Hart, trapped};
-use forest_model::Written;
-use forest_model::cause::{
-    LOAD_ACCESS_FAULT, LOAD_ADDRESS_MISALIGNED, STORE_ACCESS_FAULT, STORE_ADDRESS_MISALIGNED,
-};
+use forest_model::cause::{LOAD_ACCESS_FAULT, STORE_ACCESS_FAULT};
+use forest_model::{Access, Direction, Written};
 use fork_port::refusals::{BAD_ARGUMENT, TICKETS_END};
 use port_error::PortError;
 use rv_decode::{Instr, Kind};
@@ -25,7 +28,7 @@ impl Hart {
     /// The address of a load or a store.
     #[inline]
     pub(super) fn data_address(&self, instr: Instr) -> u32
-        ensures { result ≡ data_address instr self.now }
+        ensures { result ≡ data_address instr self.now.state }
     {
         self.register(instr.rs1())
             .wrapping_add(instr.imm().cast_unsigned())
@@ -35,7 +38,7 @@ impl Hart {
     #[tactic(auto, unfolding(forest_model::specs::Memory::load, rv_decode::specs::Kinds::group_of))]
     pub(super) fn load(&mut self, instr: Instr) -> Acted
         requires { group_of instr.kind ≡ group.Load }
-        ensures { Acts self.old self.new (load instr self.old) (Ok result) }
+        ensures { Acts self.old self.new (data_page (Some (load_access instr self.old.state)) self.old.state) no_change (load instr self.old.state) (Ok result) }
     {
         let address = self.data_address(instr);
         match instr.kind() {
@@ -52,25 +55,32 @@ impl Hart {
         requires group { group_of instr.kind ≡ group.Load }
         requires width { width ≡ load_width instr.kind }
         requires widths { IsWidth width }
-        ensures { Acts self.old self.new (aligned_load (is_aligned address width) instr address self.old) (Ok result) }
+        ensures { Acts self.old self.new (data_page (Some (to_load address width)) self.old.state) no_change
+            (load_by (reached (to_load address width) self.old.state) instr address self.old.state) (Ok result) }
     {
-        if address % width != 0 {
-            return trapped(LOAD_ADDRESS_MISALIGNED, address);
+        let access = Access {
+            address,
+            width,
+            direction: Direction::Load,
+        };
+        match self.reach(access) {
+            Reach::Faulted(cause) => trapped(cause, address),
+            Reach::Absent(page) => Acted::Stalled(page),
+            Reach::Ram(offset) => {
+                let Ok(number) = self.memory.load(offset, width) else {
+                    unreachable!()
+                };
+                self.retire_with(instr, load_value(instr.kind(), number))
+            }
+            Reach::Port => self.load_from_port(instr, address, width),
         }
-        let Some(offset) = self.ram_offset(address) else {
-            return self.load_from_port(instr, address, width);
-        };
-        let Ok(number) = self.memory.load(offset, width) else {
-            unreachable!()
-        };
-        self.retire_with(instr, load_value(instr.kind(), number))
     }
 
     /// Loads the `width` bytes from a port.
     #[tactic(auto, using(crate::proofs::PortChoice::same_load))]
     fn load_from_port(&mut self, instr: Instr, address: u32, width: u32) -> Acted
         requires group { group_of instr.kind ≡ group.Load }
-        ensures { Acts self.old self.new (read_action (port_load self.old.ports address width) instr address self.old) (Ok result) }
+        ensures { Acts self.old self.new None no_change (read_action (port_load self.old.state.ports address width) instr address self.old.state) (Ok result) }
     {
         match self.ports.load(address, width) {
             Ok(number) => self.retire_with(instr, load_value(instr.kind(), number)),
@@ -82,9 +92,10 @@ impl Hart {
     #[tactic(auto, unfolding(forest_model::specs::Memory::store, rv_decode::specs::Kinds::group_of))]
     pub(super) fn store(&mut self, instr: Instr) -> Result<Acted, AllocError>
         requires group { group_of instr.kind ≡ group.Store }
-        requires tickets { self.old.ports.fork.next_ticket < TICKETS_END }
-        ensures acts { Acts self.old self.new (store instr self.old) result }
-        ensures memory { OnErr result (InstructionGrows instr self.old) }
+        requires tickets { self.old.state.ports.fork.next_ticket < TICKETS_END }
+        ensures acts { Acts self.old self.new (data_page (Some (store_access instr self.old.state)) self.old.state)
+            (change_of_access (Some (store_access instr self.old.state)) (rs2 instr self.old.state) self.old.state) (store instr self.old.state) result }
+        ensures memory { OnErr result (InstructionGrows instr self.old.state) }
     {
         let address = self.data_address(instr);
         let word = self.register(instr.rs2());
@@ -101,28 +112,35 @@ impl Hart {
     #[tactic(auto, unfolding(forest_model::specs::Memory::store_action))]
     fn store_to(&mut self, address: u32, width: u32, word: u32) -> Result<Acted, AllocError>
         requires width { IsWidth width }
-        requires tickets { self.old.ports.fork.next_ticket < TICKETS_END }
-        ensures acts { Acts self.old self.new (store_action address (little_bytes width word) word self.old) result }
-        ensures memory { OnErr result (StoreGrows address width word self.old) }
+        requires tickets { self.old.state.ports.fork.next_ticket < TICKETS_END }
+        ensures acts { Acts self.old self.new (data_page (Some (to_store address width)) self.old.state)
+            (change_of_access (Some (to_store address width)) word self.old.state)
+            (store_action address width (little_bytes width word) word self.old.state) result }
+        ensures memory { OnErr result (AccessGrows word self.old.state (to_store address width)) }
     {
-        if address % width != 0 {
-            return Ok(trapped(STORE_ADDRESS_MISALIGNED, address));
-        }
-        match self.ram_offset(address) {
-            Some(offset) => {
+        let access = Access {
+            address,
+            width,
+            direction: Direction::Store,
+        };
+        match self.reach(access) {
+            Reach::Faulted(cause) => Ok(trapped(cause, address)),
+            Reach::Absent(page) => Ok(Acted::Stalled(page)),
+            Reach::Ram(offset) => {
                 self.store_at(offset, width, word)?;
                 Ok(self.retire())
             }
-            None => self.store_to_port(address, width, word),
+            Reach::Port => self.store_to_port(address, width, word),
         }
     }
 
     /// Stores the low `width` bytes of `word` to a port.
     #[tactic(auto, using(crate::proofs::PortChoice::same_store))]
     fn store_to_port(&mut self, address: u32, width: u32, word: u32) -> Result<Acted, AllocError>
-        requires { self.old.ports.fork.next_ticket < TICKETS_END }
-        ensures acts { Acts self.old self.new (port_action (port_store self.old.ports address width word) address self.old) result }
-        ensures memory { OnErr result (PortGrows self.old.ports address width word) }
+        requires { self.old.state.ports.fork.next_ticket < TICKETS_END }
+        ensures acts { Acts self.old self.new None (change_stored (port_store self.old.state.ports address width word) self.old.state)
+            (port_action (port_store self.old.state.ports address width word) address self.old.state) result }
+        ensures memory { OnErr result (PortGrows self.old.state.ports address width word) }
     {
         match self.ports.store(address, width, word) {
             Ok(Effect::Done) => Ok(self.retire()),
@@ -146,7 +164,9 @@ impl Hart {
 
     /// Makes pages read as zeros, or tells that they are not pages of RAM.
     fn zero(&mut self, first: u32, count: u32) -> Result<(), AllocError>
-        ensures ok { OnOk result (self.new ≡ zeroed (is_page_range first count self.old.ram) first count self.old) }
+        ensures ok { OnOk result (self.new.state ≡ zeroed (is_page_range first count self.old.state.ram) first count self.old.state) }
+        ensures pages { OnOk result (self.new.pages ≡ pages_after (if is_page_range first count self.old.state.ram then zeroes first count else no_change) self.old.pages) }
+        ensures key { self.new.key ≡ self.old.key }
         ensures err { OnErr result (self.new ≡ self.old) }
     {
         let end = u64::from(first) + u64::from(count);

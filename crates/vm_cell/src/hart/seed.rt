@@ -4,9 +4,10 @@ ghost use Rattle.std.specs.Prelude.{◌≡◌, ◌≤◌, ◌∷◌, true, false
 ghost use Rattle.rv_traps.specs.Counters.{counted as csrs_counted};
 ghost use Rattle.timer_port.specs.Timer.{timer_counted};
 ghost use Rattle.vm_descriptor.specs.Descriptor.{IsInRange};
-ghost use Rattle.image_depot.specs.Key.{image_of, IsKeyOf};
+ghost use Rattle.image_depot.specs.Key.{IsKeyOf};
 ghost use Rattle.vm_cell.specs.Standing.{made};
-ghost use Rattle.vm_cell.specs.Woken.{IsBlankMap, IsOfImage, image_left, port_fields, seed_of, woken_state};
+ghost use Rattle.vm_cell.specs.Keyed.{IsOfDepot};
+ghost use Rattle.vm_cell.specs.Woken.{IsBlankMap, IsOfImage, image_left, port_fields, seed_of, woken_hart};
 
 use super::Hart;
 use fork_port::ForkFields;
@@ -21,33 +22,32 @@ use vm_descriptor::{Descriptor, MAX_CLONES, MAX_LIMIT, MAX_SHARE};
 impl Hart {
     /// An image of the memory, the disk and the input. It copies no page and no sector.
     pub fn freeze(&self, alloc: Global, depot: &Depot) -> Result<Frozen, AllocError>
-        ensures { IfOk result (λ image. image ≡ image_left self.now) }
+        requires { IsOfDepot depot.now self.now.key }
+        ensures { IfOk result (λ image. image ≡ image_left self.now.state) }
     {
         let disk = self.disk().freeze()?;
         let input = self.ports.share_input()?;
         self.memory.freeze(alloc, depot, disk, input)
     }
 
-    /// What child `k`, with this share, of the CLONE that is the coming step starts with, beside the image
-    /// of this number. Its machine has made so many steps, of so many.
+    /// What child 1, with this share, of the CLONE that is the coming step starts with, beside the image
+    /// of this number. Its machine has made so many steps, of so many. The other children differ in their
+    /// number alone.
     pub fn seed(
         &self,
         alloc: Global,
         image: u32,
-        k: u32,
         share: u32,
         steps: u64,
         limit: u64,
     ) -> Result<Descriptor, AllocError>
-        requires first { 1 ≤ k }
-        requires last { k ≤ MAX_CLONES }
         requires share { share ≤ MAX_SHARE }
         requires least { 1 ≤ limit }
         requires most { limit ≤ MAX_LIMIT }
         requires steps { steps ≤ limit }
-        ensures value { IfOk result (λ seed. seed ≡ seed_of (made self.now.ports.fork self.now) image k share steps limit seed.blank) }
-        ensures registers { 0 ∷ drop 1 self.now.registers ≡ self.now.registers }
-        ensures blank { IfOk result (λ seed. IsBlankMap self.now.ram seed.blank) }
+        ensures value { IfOk result (λ seed. seed ≡ seed_of (made self.now.state.ports.fork self.now.state) image 1 share steps limit self.now.pages.blank) }
+        ensures registers { 0 ∷ drop 1 self.now.state.registers ≡ self.now.state.registers }
+        ensures blank { IsBlankMap self.now.state.ram self.now.pages.blank }
         ensures in_range { IfOk result (λ seed. IsInRange seed) }
     {
         let PortFields {
@@ -59,7 +59,7 @@ impl Hart {
         Ok(Descriptor {
             image,
             pages: self.memory.pages(),
-            clone_id: k,
+            clone_id: 1,
             share,
             pc: self.pc.wrapping_add(4),
             registers: after_zero(&self.registers),
@@ -78,7 +78,7 @@ impl Hart {
         })
     }
 
-    /// The hart that a descriptor and its image stand for.
+    /// The hart that a descriptor and the key to its image stand for. Its blank pages alone are here.
     pub fn woken(
         alloc: Global,
         descriptor: &Descriptor,
@@ -87,19 +87,17 @@ impl Hart {
     ) -> Result<Hart, AllocError>
         requires of_depot { IsKeyOf depot.now key.now }
         requires of_image { IsOfImage key.now descriptor.now }
-        ensures { IfOk result (λ hart. hart ≡ woken_state descriptor.now (image_of key.now)) }
+        ensures { IfOk result (λ hart. hart ≡ woken_hart descriptor.now key.now) }
     {
         let image = depot.frozen(key);
         let disk = image.disk().open()?;
         let input = image.input().share()?;
-        let mut memory = GuestMem::clone_of(alloc, key.again()?, descriptor)?;
-        memory.fetch_all(alloc, depot)?;
         Ok(Hart {
             registers: with_zero(&descriptor.registers),
             pc: descriptor.pc,
             csrs: Csrs::of_fields(descriptor.csrs),
             reservation: descriptor.reservation,
-            memory,
+            memory: GuestMem::clone_of(alloc, key.again()?, descriptor)?,
             ports: Ports::of_fields(alloc, port_fields(descriptor), disk, input),
         })
     }

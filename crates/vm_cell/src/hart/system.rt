@@ -1,8 +1,8 @@
 //! Accesses to control and status registers, and the return from a trap.
 
-ghost use Rattle.std.specs.Prelude.{◌≡◌, Ok};
+ghost use Rattle.std.specs.Prelude.{◌≡◌};
 ghost use Rattle.forest_model.specs.System.{operand, operation_of, csr_value, reads, writes, write_action, csr_access, trap_return};
-ghost use Rattle.vm_cell.specs.Acts.{Acts};
+ghost use Rattle.vm_cell.specs.Acts.{ActsAlone};
 
 use super::{Acted, Hart, trapped};
 use forest_model::cause::ILLEGAL_INSTRUCTION;
@@ -14,7 +14,7 @@ impl Hart {
     /// MRET.
     #[tactic(auto, unfolding(forest_model::specs::System::trap_return))]
     pub(super) fn trap_return(&mut self) -> Acted
-        ensures { Acts self.old self.new (trap_return self.old) (Ok result) }
+        ensures { ActsAlone self.old self.new (trap_return self.old.state) result }
     {
         self.pc = self.csrs.mret();
         Acted::Retired(Written::Nothing)
@@ -23,7 +23,7 @@ impl Hart {
     /// Reads and writes a CSR, as `word` encodes.
     #[tactic(auto, unfolding(forest_model::specs::System::csr_access))]
     pub(super) fn csr_access(&mut self, instr: Instr, word: u32) -> Acted
-        ensures { Acts self.old self.new (csr_access instr word self.old) (Ok result) }
+        ensures { ActsAlone self.old self.new (csr_access instr word self.old.state) result }
     {
         let number = instr.imm().cast_unsigned();
         let old = if reads(operation(instr.kind()), instr) {
@@ -39,7 +39,7 @@ impl Hart {
 
     /// Gives rd the value before, and writes the one after, if there is one.
     fn csr_write(&mut self, instr: Instr, word: u32, old: u32) -> Acted
-        ensures { Acts self.old self.new (write_action (writes (operation_of instr.kind) instr) old instr word self.old) (Ok result) }
+        ensures { ActsAlone self.old self.new (write_action (writes (operation_of instr.kind) instr) old instr word self.old.state) result }
     {
         let operation = operation(instr.kind());
         if !writes(operation, instr) {
@@ -56,7 +56,7 @@ impl Hart {
 
     /// The operand: a register, or the field itself.
     fn operand(&self, instr: Instr) -> u32
-        ensures { result ≡ operand instr.kind instr self.now }
+        ensures { result ≡ operand instr.kind instr self.now.state }
     {
         match instr.kind() {
             Kind::Csrrwi | Kind::Csrrsi | Kind::Csrrci => instr.rs1(),

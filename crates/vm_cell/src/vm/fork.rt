@@ -1,11 +1,12 @@
 //! The calls of a machine, which concern its children: CLONE, JOIN and KILL.
 
-ghost use Rattle.std.specs.Prelude.{◌≡◌, ◌≤◌, ◌==◌, if◌then◌else◌, ℕ, Some, None, IfSome, IfOk, OnOk, OnErr, length, vec_len};
+ghost use Rattle.std.specs.Prelude.{◌≡◌, ◌≤◌, ◌==◌, if◌then◌else◌, ℕ, Some, None, IfSome, IfOk, OnOk, OnErr, length};
 ghost use Rattle.image_depot.specs.Key.{IsKeyOf, image_of};
 ghost use Rattle.forest_model.specs.Calls.{after_join, after_kill, forked};
 ghost use Rattle.forest_model.specs.Forest.{machines};
+ghost use Rattle.vm_cell.specs.Keyed.{IsOfDepot};
 ghost use Rattle.vm_cell.specs.Standing.{IsAsked, IsClone, IsJoin, IsKill, standing_call};
-ghost use Rattle.vm_cell.specs.Woken.{AreSeeds, IsOfImage, IsSeed, image_left, woken};
+ghost use Rattle.vm_cell.specs.Woken.{AreSeeds, IsOfImage, image_left, woken};
 
 use super::{Vm, count_step};
 use crate::hart::Hart;
@@ -21,15 +22,15 @@ use vm_descriptor::{Descriptor, MAX_CLONES};
 pub struct Brood {
     /// The key to the image that all of them start with.
     pub key: ImageKey,
-    /// What each of them starts with beside it, of child 1 first.
-    pub seeds: Vec<Descriptor>,
+    /// What child 1 starts with beside it. The others differ in their number alone.
+    pub seed: Descriptor,
 }
 
 impl Vm {
     /// The call that `step` would answer, if it would answer one. It takes no memory.
     pub fn call(&self) -> Option<Call>
         ensures value { result ≡ standing_call self.now }
-        ensures asked { IfSome result (IsAsked self.now) }
+        ensures asked { IfSome result (IsAsked self.now.machine) }
     {
         if self.ending.is_some() {
             return None;
@@ -39,84 +40,55 @@ impl Vm {
 
     /// How many children a ticket was granted, which is 0 where there is no such ticket.
     pub fn granted(&self, ticket: u32) -> u32
-        ensures value { result ≡ (machines.grant self.now ticket).children }
+        ensures value { result ≡ (machines.grant self.now.machine ticket).children }
         ensures most { result ≤ MAX_CLONES }
     {
         self.grant(ticket).0
     }
 
     /// Makes the CLONE that is the next step: the machine goes on, and each of its children starts with
-    /// its seed and the image of the brood's key. It may wait for another thread that keeps an image.
+    /// the seed by its number and the image of the brood's key. It may wait for another thread that keeps an image.
     pub fn freeze_child<R: Wait>(
         &mut self,
         rt: &R,
         alloc: Global,
         depot: &Depot,
     ) -> Result<Brood, AllocError>
-        requires { IsClone (standing_call self.old) }
-        ensures made { OnOk result (self.new ≡ forked self.old) }
+        requires of_depot { IsOfDepot depot.now self.old.key }
+        requires clone { IsClone (standing_call self.old) }
+        ensures made { OnOk result (self.new ≡ record self.old { machine = forked self.old.machine }) }
         ensures err { OnErr result (self.new ≡ self.old) }
         ensures here { IfOk result (λ brood. IsKeyOf depot.now brood.key) }
-        ensures one_each { IfOk result (λ brood. (ticket : ℕ) → standing_call self.old ≡ Some (Call.Clone ticket)
-            → vec_len brood.seeds ≡ (machines.grant self.old ticket).children) }
-        ensures seeds { IfOk result (λ brood. AreSeeds self.old brood.key brood.seeds.items) }
+        ensures seeds { IfOk result (λ brood. (ticket : ℕ) → standing_call self.old ≡ Some (Call.Clone ticket)
+            → AreSeeds self.old brood.key (machines.grant self.old.machine ticket).children brood.seed) }
     {
         let ticket = self.cloned_ticket();
         let key = depot.freeze(rt, self.hart.freeze(alloc, depot)?)?;
-        let seeds = self.seeds(alloc, ticket, &key)?;
+        let seed = self.seed(alloc, ticket, &key)?;
         self.hart.fork(ticket);
         count_step(&mut self.steps, self.limit, &mut self.ending);
-        Ok(Brood { key, seeds })
+        Ok(Brood { key, seed })
     }
 
-    /// What the children of the CLONE that is the next step start with, beside the image of a key.
-    fn seeds(
-        &self,
-        alloc: Global,
-        ticket: u32,
-        key: &ImageKey,
-    ) -> Result<Vec<Descriptor>, AllocError>
-        requires asked { IsAsked self.now (Call.Clone ticket) }
-        requires image { image_of key.now ≡ image_left self.now.state }
-        ensures one_each { IfOk result (λ seeds. vec_len seeds ≡ (machines.grant self.now ticket).children) }
-        ensures seeds { IfOk result (λ seeds. AreSeeds self.now key.now seeds.items) }
+    /// What child 1 of the CLONE that is the next step starts with, beside the image of a key.
+    fn seed(&self, alloc: Global, ticket: u32, key: &ImageKey) -> Result<Descriptor, AllocError>
+        requires asked { IsAsked self.now.machine (Call.Clone ticket) }
+        requires image { image_of key.now ≡ image_left self.now.machine.state }
+        ensures { IfOk result (λ seed. AreSeeds self.now key.now (machines.grant self.now.machine ticket).children seed) }
     {
-        let (children, share) = self.grant(ticket);
-        let mut seeds = Vec::with_capacity(alloc, children as usize)?;
-        for k in 0..children {
-            seeds.push(self.seed(alloc, ticket, k + 1, share, key)?)?;
-        }
-        Ok(seeds)
-    }
-
-    /// What child `k` starts with, beside the image of a key.
-    fn seed(
-        &self,
-        alloc: Global,
-        ticket: u32,
-        k: u32,
-        share: u32,
-        key: &ImageKey,
-    ) -> Result<Descriptor, AllocError>
-        requires asked { IsAsked self.now (Call.Clone ticket) }
-        requires image { image_of key.now ≡ image_left self.now.state }
-        requires first { 1 ≤ k }
-        requires last { k ≤ (machines.grant self.now ticket).children }
-        requires share { share ≡ (machines.grant self.now ticket).share }
-        ensures { IfOk result (λ seed. IsSeed self.now k key.now seed) }
-    {
+        let (_, share) = self.grant(ticket);
         let steps = self.steps + 1;
         let seed = self
             .hart
-            .seed(alloc, key.number(), k, share, steps, self.limit)?;
+            .seed(alloc, key.number(), share, steps, self.limit)?;
         Ok(seed)
     }
 
     /// How many children a ticket was granted, and the share of each.
     #[tactic(auto, unfolding(forest_model::specs::Forest::machines))]
     fn grant(&self, ticket: u32) -> (u32, u32)
-        ensures children { result.0 ≡ (machines.grant self.now ticket).children }
-        ensures share { result.1 ≡ (machines.grant self.now ticket).share }
+        ensures children { result.0 ≡ (machines.grant self.now.machine ticket).children }
+        ensures share { result.1 ≡ (machines.grant self.now.machine ticket).share }
         ensures most { result.0 ≤ MAX_CLONES }
     {
         match self.hart.find(ticket) {
@@ -125,8 +97,8 @@ impl Vm {
         }
     }
 
-    /// The machine of a descriptor, which is of the image of a key. It shares the image's pages and
-    /// sectors until it writes them.
+    /// The machine of a descriptor, which is of the image of a key. Its blank pages alone are here, and it shares
+    /// the image's sectors until it writes them.
     #[tactic(auto, unfolding(crate::specs::Woken::woken))]
     pub fn wake(
         alloc: Global,
@@ -136,7 +108,7 @@ impl Vm {
     ) -> Result<Vm, AllocError>
         requires of_depot { IsKeyOf depot.now key.now }
         requires of_image { IsOfImage key.now descriptor.now }
-        ensures { IfOk result (λ vm. vm ≡ woken descriptor.now (image_of key.now)) }
+        ensures { IfOk result (λ vm. vm ≡ woken descriptor.now key.now) }
     {
         Ok(Vm {
             hart: Hart::woken(alloc, descriptor, key, depot)?,
@@ -148,8 +120,8 @@ impl Vm {
 
     /// Makes the JOIN that is the next step. The ticket's children have ended so, in order.
     pub fn joined(&mut self, endings: &[Ending]) -> Result<(), AllocError>
-        requires { IsJoin self.old endings.now (standing_call self.old) }
-        ensures ok { OnOk result (self.new ≡ after_join self.old endings.now) }
+        requires { IsJoin self.old.machine endings.now (standing_call self.old) }
+        ensures ok { OnOk result (self.new ≡ record self.old { machine = after_join self.old.machine endings.now }) }
         ensures err { OnErr result (self.new ≡ self.old) }
     {
         let ticket = self.joined_ticket(endings);
@@ -161,7 +133,7 @@ impl Vm {
     /// Makes the KILL that is the next step. It takes no memory.
     pub fn killed(&mut self)
         requires { IsKill (standing_call self.old) }
-        ensures { self.new ≡ after_kill self.old }
+        ensures { self.new ≡ record self.old { machine = after_kill self.old.machine } }
     {
         let ticket = self.killed_ticket();
         self.hart.kill(ticket);
@@ -171,7 +143,7 @@ impl Vm {
     /// The ticket of the CLONE that is the next step.
     fn cloned_ticket(&self) -> u32
         requires { IsClone (standing_call self.now) }
-        ensures { IsAsked self.now (Call.Clone result) }
+        ensures { IsAsked self.now.machine (Call.Clone result) }
     {
         match self.call() {
             Some(Call::Clone(ticket)) => ticket,
@@ -182,7 +154,7 @@ impl Vm {
     /// The ticket of the KILL that is the next step.
     fn killed_ticket(&self) -> u32
         requires { IsKill (standing_call self.now) }
-        ensures { IsAsked self.now (Call.Kill result) }
+        ensures { IsAsked self.now.machine (Call.Kill result) }
     {
         match self.call() {
             Some(Call::Kill(ticket)) => ticket,
@@ -192,9 +164,9 @@ impl Vm {
 
     /// The ticket of the JOIN that is the next step.
     fn joined_ticket(&self, endings: &[Ending]) -> u32
-        requires { IsJoin self.now endings.now (standing_call self.now) }
-        ensures asked { IsAsked self.now (Call.Join result) }
-        ensures all { length endings.now ≡ (machines.grant self.now result).children }
+        requires { IsJoin self.now.machine endings.now (standing_call self.now) }
+        ensures asked { IsAsked self.now.machine (Call.Join result) }
+        ensures all { length endings.now ≡ (machines.grant self.now.machine result).children }
     {
         match self.call() {
             Some(Call::Join(ticket)) => ticket,

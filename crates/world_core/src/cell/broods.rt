@@ -22,7 +22,7 @@ impl Brood {
             slots.push(Slot::Asleep)?;
         }
         Ok(Brood {
-            name: name.copy(alloc)?,
+            name: name.copy()?,
             young: None,
             slots,
             live: children,

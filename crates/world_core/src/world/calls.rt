@@ -8,12 +8,14 @@ ghost use Rattle.forest_history.specs.Rows.{forked, joined, killed};
 ghost use Rattle.forest_model.specs.Machine.{Machine};
 ghost use Rattle.run_report.specs.Name.{begins_with};
 ghost use Rattle.run_report.specs.NameOrder.{path_cmp};
+ghost use Rattle.vm_cell.specs.Keyed.{IsOfDepot};
 ghost use Rattle.vm_cell.specs.Standing.{IsClone, IsKill, standing_call};
 ghost use Rattle.world_core.specs.Between.{IsBetween, settled_tree, with_tree};
+ghost use Rattle.world_core.specs.Lent.{vm_of};
 ghost use Rattle.world_core.specs.Shows.{forest};
 ghost use Rattle.world_core.specs.Turns.{turn_of, turns_from};
 ghost use Rattle.world_core.specs.World.{Forest, StandsFor};
-ghost use Rattle.world_core.specs.Answers.{Answers, HandedOut, HandedOutIn, IsHandedOut, IsJoinCall};
+ghost use Rattle.world_core.specs.Answers.{Answers, HandedOut, HandedOutIn, IsHandedOut, IsJoinCall, IsLentOf};
 
 use crate::cell::{Cell, State};
 use crate::lease::Lease;
@@ -31,8 +33,8 @@ impl World {
     /// Makes the CLONE at which a machine stands. Its children are ready then.
     pub fn fork<R: Wait>(&mut self, rt: &R, alloc: Global, lease: Lease, depot: &Depot) -> Placed
         requires lent { HandedOutIn depot.now self.old lease }
-        requires clone { IsClone (standing_call lease.now) }
-        ensures { (f : Forest) → StandsFor depot.now self.old f → IsHandedOut f lease
+        requires clone { IsClone (standing_call (vm_of lease)) }
+        ensures { (f : Forest) → StandsFor depot.now self.old f → IsHandedOut f lease → IsLentOf depot.now lease
             → Answers depot.now f forked lease result self.new }
     {
         let Some(Call::Clone(ticket)) = lease.call() else {
@@ -42,7 +44,7 @@ impl World {
             lease.discard();
             return Placed::Dropped;
         };
-        let Ok(name) = lease.name().copy(alloc) else {
+        let Ok(name) = lease.name().copy() else {
             return Placed::Memory(lease);
         };
         let Ok(children) = Turn::of_children(alloc, name, ticket) else {
@@ -72,8 +74,8 @@ impl World {
     /// Makes the JOIN at which a machine stands, or parks the machine where a child of the ticket lives.
     pub fn join(&mut self, alloc: Global, lease: Lease) -> Placed
         requires lent { HandedOut self.old lease }
-        requires join { IsJoinCall (standing_call lease.now) }
-        ensures { (depot : Shelves) (f : Forest) → StandsFor depot self.old f → IsHandedOut f lease
+        requires join { IsJoinCall (standing_call (vm_of lease)) }
+        ensures { (depot : Shelves) (f : Forest) → StandsFor depot self.old f → IsHandedOut f lease → IsLentOf depot lease
             → Answers depot f joined lease result self.new }
     {
         let Some(Call::Join(ticket)) = lease.call() else {
@@ -108,8 +110,8 @@ impl World {
     /// takes no memory.
     pub fn kill(&mut self, lease: Lease) -> Placed
         requires lent { HandedOut self.old lease }
-        requires kill { IsKill (standing_call lease.now) }
-        ensures { (depot : Shelves) (f : Forest) → StandsFor depot self.old f → IsHandedOut f lease
+        requires kill { IsKill (standing_call (vm_of lease)) }
+        ensures { (depot : Shelves) (f : Forest) → StandsFor depot self.old f → IsHandedOut f lease → IsLentOf depot lease
             → Answers depot f killed lease result self.new }
     {
         let Some(Call::Kill(ticket)) = lease.call() else {
@@ -135,9 +137,9 @@ impl World {
         requires alone { turns_from turn.value ≡ turn_of turn.value ∷ [] }
         requires one { (turn_of turn.value).children ≡ None }
         requires between { (depot : Shelves) × (f : Forest) × (a : Tree (Spot Machine)) × IsBetween depot self.old f (turn_of turn.value).name a
-            × ((machine a).machine ≡ vm.value) }
+            × ((machine a).machine ≡ vm.value.machine) × IsOfDepot depot vm.value.key }
         ensures { (depot : Shelves) (f : Forest) (a : Tree (Spot Machine)) → IsBetween depot self.old f (turn_of turn.value).name a
-            → (machine a).machine ≡ vm.value
+            → (machine a).machine ≡ vm.value.machine → IsOfDepot depot vm.value.key
             → IsSound forest (with_tree (turn_of turn.value).name (placed home (settled_tree a)) f).tree
             → (result ≡ Placed.Done) × StandsFor depot self.new (with_tree (turn_of turn.value).name (placed home (settled_tree a)) f) }
     {

@@ -8,7 +8,7 @@ ghost use Rattle.run_report.specs.Name.{child_path};
 ghost use Rattle.run_report.specs.NameOrder.{path_cmp};
 ghost use Rattle.world_core.specs.Turns.{turn_of, turns_from};
 ghost use Rattle.world_core.specs.World.{Forest, StandsFor, IsWorld};
-ghost use Rattle.world_core.specs.Answers.{Takes, TakesNamed};
+ghost use Rattle.world_core.specs.Answers.{IsLentOf, Takes, TakesNamed};
 ghost use Rattle.world_core.specs.Popped.{TakesBy, ShowsCells, IsFirstAsleep, is_listed_in, sleeps, with_turn};
 
 use crate::cell::Cell;
@@ -115,13 +115,13 @@ impl World {
             return Ok(None);
         }
         if let Some(cell) = self.cells.get_mut(name) {
-            let turn = Turn::of_machine(alloc, name.copy(alloc)?)?;
+            let turn = Turn::of_machine(alloc, name.copy()?)?;
             let Some(vm) = cell.lend_named() else {
                 return Ok(None);
             };
             return Ok(Some(Lease::new(turn, vm)));
         }
-        let mut parent = name.copy(alloc)?;
+        let mut parent = name.copy()?;
         let Some((ticket, index)) = parent.pop() else {
             unreachable!();
         };
@@ -166,7 +166,7 @@ impl World {
         index: u32,
     ) -> Result<Lease, AllocError>
         requires { (t : Tree (Spot Machine)) × ShowsCells depot.now self.old.cells t × (sleeps parent.now ticket index t ≡ true) }
-        ensures lease { IfOk result (λ lease. (lease.name ≡ child_path parent.now ticket index) × (lease.ran ≡ 0) × (lease.now ≡ lease.start)) }
+        ensures lease { IfOk result (λ lease. (lease.name ≡ child_path parent.now ticket index) × (lease.ran ≡ 0) × (lease.now ≡ lease.start) × IsLentOf depot.now lease) }
         ensures start { (t : Tree (Spot Machine)) → ShowsCells depot.now self.old.cells t → sleeps parent.now ticket index t ≡ true
             → IfOk result (λ lease. IfSome (subtree lease.name t) (λ a. (machine a).machine ≡ lease.start)) }
         ensures cells { (t : Tree (Spot Machine)) → ShowsCells depot.now self.old.cells t → sleeps parent.now ticket index t ≡ true
@@ -177,7 +177,7 @@ impl World {
         ensures rest { (self.new.ready ≡ self.old.ready) × (self.new.halted ≡ self.old.halted) × (self.new.outcome ≡ self.old.outcome) }
     {
         let name = parent.child(alloc, ticket, index)?;
-        let turn = Turn::of_machine(alloc, name.copy(alloc)?)?;
+        let turn = Turn::of_machine(alloc, name.copy()?)?;
         let Some(cell) = self.cells.get(parent) else {
             unreachable!();
         };

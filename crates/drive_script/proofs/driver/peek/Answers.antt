@@ -17,6 +17,12 @@ returns-in_err-lease-clause-drives c t h =
     (looks-not c.args.depot.now c.args.world.now c.take_named.new.self t (peek c.args.name.now c.args.address) h c.in_err-lease.field-0.0 exit.0
     (c.in_err-lease.ensures h.forest h.stands))
 
+pub peek-word-requires : goal.peek-word-requires
+peek-word-requires c =
+    let h = c.requires.1 in
+    (subst (λ (o : Option Lent). TakesNamed c.args.depot.now h.forest c.args.name.now (Ok o) c.take_named.new.self) c.in-Some.is
+    (c.in_ok-lease.ensures h.forest h.stands)).3
+
 pub returns-in_default-clause-drives : goal.returns-in_default-clause-drives
 returns-in_default-clause-drives c t h =
     looks-at-none c.args.depot.now c.args.world.now c.take_named.new.self t (peek c.args.name.now c.args.address) h refl

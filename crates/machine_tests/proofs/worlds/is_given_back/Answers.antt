@@ -27,7 +27,7 @@ handed f lease starts =
 handed-out : (depot : Shelves) (f : Forest) (r : Taken) (lease : Lent) (new : World) → r ≡ taken.Took lease → Takes depot f r new → HandedOut new lease
 handed-out depot f r lease new is takes =
     let took_so = subst (λ (t : Taken). Takes depot f t new) is takes in
-    (depot, (does machines (took lease.name) f, took_so.0.after, handed f lease took_so.1))
+    (depot, (does machines (took lease.name) f, took_so.0.after, handed f lease took_so.1, took_so.2))
 
 wants-none : (ending : Option Ending) → MayWant (home_by ending) → ⊥
 wants-none None h = h
@@ -43,4 +43,4 @@ pub unreachable-requires : goal.unreachable-requires
 unreachable-requires c =
     let h = c.requires.1 in
     let out_so = handed-out c.args.depot.now h.forest c.take.result c.in-Took.lease c.take.new.self c.in-Took.is (c.take.ensures h.forest h.stands) in
-    wants-none c.in-Took.lease.now.ending (c.in-Memory-give.ensures out_so.0 out_so.1.0 out_so.1.1 out_so.1.2).0
+    wants-none c.in-Took.lease.now.ending (c.in-Memory-give.ensures out_so.0 out_so.1.0 out_so.1.1 out_so.1.2 out_so.1.3).0

@@ -29,7 +29,7 @@ run_turn-requires g c =
     let h = c.loop.invariant.2 c.requires.0 c.requires.1 in
     let f = h.has.here.forest in
     let taken = subst (λ (r : Taken). Takes c.args.depot.now f r c.take.new.self) c.in-Took.is (c.take.ensures f h.has.here.stands) in
-    (does machines (took c.in-Took.lease.name) f, taken.0.after, taken-out f c.in-Took.lease taken.0.allowed taken.1)
+    (does machines (took c.in-Took.lease.name) f, taken.0.after, taken-out f c.in-Took.lease taken.0.allowed taken.1, taken.2)
 
 pub loop-preserved : goal.loop-preserved
 loop-preserved g c = (

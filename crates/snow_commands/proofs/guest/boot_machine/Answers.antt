@@ -1,6 +1,7 @@
 use Rattle.std.proofs.Common.{ap, ◌∙◌}
 use Rattle.std.proofs.lemmas.Result.{IfOk-weaker}
-use Rattle.forest_model.specs.Machine.{Machine, boot}
+use Rattle.vm_cell.specs.Keyed.{KeyedMachine}
+use Rattle.forest_model.specs.Machine.{boot}
 use Rattle.forest_model.specs.Forest.{port_of}
 use Rattle.snow_commands.proofs.Turning.{boot-ticketless, booted-family}
 use Rattle.snow_commands.proofs.guest.boot_machine.Goals as goal
@@ -8,12 +9,14 @@ use Rattle.snow_commands.proofs.guest.boot_machine.Goals as goal
 pub new-requires : goal.new-requires
 new-requires c = record {
   no_ticket =
-      ap (λ (m : Machine). (port_of m).tickets) c.in_ok-vm.ensures ∙ boot-ticketless c.args.image.now c.args.disk c.args.input.now c.args.options;
+      ap (λ (v : KeyedMachine). (port_of v.machine).tickets) c.in_ok-vm.ensures ∙ boot-ticketless c.args.image.now c.args.disk c.args.input.now c.args.options;
+  every_page = ap (λ (v : KeyedMachine). v.key) c.in_ok-vm.ensures;
 }
 
 pub returns : goal.returns
 returns c =
     IfOk-weaker c.new.result _ _
     (λ world stands.
-    booted-family c.args.depot.now world c.in_ok-vm.vm (boot c.args.image.now c.args.disk c.args.input.now c.args.options) stands c.in_ok-vm.ensures)
+    booted-family c.args.depot.now world c.in_ok-vm.vm.machine (boot c.args.image.now c.args.disk c.args.input.now c.args.options) stands
+    (ap (λ (v : KeyedMachine). v.machine) c.in_ok-vm.ensures))
     c.new.ensures

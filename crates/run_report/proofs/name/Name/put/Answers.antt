@@ -1,4 +1,4 @@
-use Rattle.std.proofs.Common.{◌∙◌, sym}
+use Rattle.std.proofs.Common.{◌∙◌, sym, ap, take}
 use Rattle.std.specs.List.{flat_map}
 use Rattle.std.proofs.lemmas.Result.{err_from_is_err_and}
 use Rattle.io_edge.proofs.Streaming.{stops, then}
@@ -12,4 +12,4 @@ returns-in_err-put-clause-streams g c =
 
 pub returns-clause-streams : goal.returns-clause-streams
 returns-clause-streams g c =
-    rw (sym (c.deref.ensures.value ∙ c.self.view_is)) (then c.in_ok-put.ensures.streams c.put_branches.ensures.streams)
+    rw (sym (ap (take c.self.inside.depth) c.deref.ensures ∙ c.self.view_is)) (then c.in_ok-put.ensures.streams c.put_first.ensures.streams)

@@ -1,9 +1,26 @@
-use Rattle.std.proofs.Common.{◌≡◌, None, subst, sym}
-use Rattle.forest_model.specs.Machine.{Machine}
-use Rattle.vm_cell.proofs.Standing.{stands_at_none}
+use Rattle.std.proofs.Common.{◌∙◌, subst, sym}
+use Rattle.vm_cell.specs.Keyed.{KeyedMachine, machine_of}
+use Rattle.vm_cell.specs.Steps.{Stands}
+use Rattle.vm_cell.specs.declared.vm.Stepped.TheVariants.{Call, Stall, Went}
+use Rattle.vm_cell.proofs.Standing.{stands_called, stands_free, stands_stalled}
 use Rattle.vm_cell.proofs.vm.Vm.standing_now.Goals as goal
+
+pub returns-in-Some-wanted-clause-stands : goal.returns-in-Some-wanted-clause-stands
+returns-in-Some-wanted-clause-stands c =
+    let v : KeyedMachine = machine_of c.self.inside.hart c.self.inside.steps c.self.inside.limit c.self.inside.ending in
+    let waits = sym c.wanted.ensures ∙ c.in-Some-wanted.is in
+    subst (λ (n : KeyedMachine). Stands n (Stall c.in-Some-wanted.page)) c.self.view_is
+    (stands_stalled v c.in-Some-wanted.page c.in_default.is waits)
+
+pub returns-in-Some-call-clause-stands : goal.returns-in-Some-call-clause-stands
+returns-in-Some-call-clause-stands c =
+    let v : KeyedMachine = machine_of c.self.inside.hart c.self.inside.steps c.self.inside.limit c.self.inside.ending in
+    let here = sym c.wanted.ensures ∙ c.in_default-wanted.is in
+    subst (λ (n : KeyedMachine). Stands n (Call c.in-Some-call.call)) c.self.view_is
+    (stands_called v c.in-Some-call.call c.in_default.is here c.in-Some-call.ensures)
 
 pub returns-in-None-clause-stands : goal.returns-in-None-clause-stands
 returns-in-None-clause-stands c =
-    let live : c.args.self.now.ending ≡ None = subst (λ (m : Machine). m.ending ≡ None) c.self.view_is c.in_default.is in
-    (live, stands_at_none c.args.self.now live (sym c.in-None.ensures.value))
+    let v : KeyedMachine = machine_of c.self.inside.hart c.self.inside.steps c.self.inside.limit c.self.inside.ending in
+    let here = sym c.wanted.ensures ∙ c.in_default-wanted.is in
+    subst (λ (n : KeyedMachine). Stands n Went) c.self.view_is (stands_free v c.in_default.is here c.in-None.ensures)

@@ -1,16 +1,71 @@
-use Rattle.std.proofs.Common.{ap}
-use Rattle.forest_model.specs.State.{State}
+use Rattle.std.proofs.Common.{◌≡◌, ◌+◌, None, Some, rules, ap, ◌∙◌, subst}
+use Rattle.fork_port.specs.declared.ending.Ending.TheVariants.{Exit}
+use Rattle.forest_model.specs.Paged.{stalled_at}
+use Rattle.vm_cell.specs.Acts.{waits_for}
+use Rattle.vm_cell.specs.Keyed.{KeyedMachine, KeyedState, hart_in, machine_of, paged}
+use Rattle.vm_cell.specs.Steps.{GoesOn}
+use Rattle.vm_cell.specs.declared.vm.Stepped.TheVariants.{Call, Stall}
 use Rattle.vm_cell.proofs.Runs.{rises_retired, rises_exited, funded_retired, funded_exited, counted_step, counted_exit}
+use Rattle.vm_cell.proofs.Standing.{stalls_live}
+use Rattle.vm_cell.proofs.Stepping.{goes_asked, goes_exited, goes_interrupted, goes_retired, goes_stalled, goes_trapped}
 use Rattle.vm_cell.proofs.vm.Vm.step_live.Goals as goal
 
 pub invariant_of-self-in-Retired : goal.invariant_of-self-in-Retired
 invariant_of-self-in-Retired c =
-    let retired = rw c.in-Retired.is at c.in_ok-cause.ensures.acts in
+    let retired = rw c.in-Retired.is at c.in_ok-page.ensures.acts in
     counted_step _ _ _ _ _ _ _ _ c.self.invariant (rw (← c.self.view_is) at c.requires) c.count_step-in-Retired.ensures.counted c.count_step-in-Retired.ensures.ends
-    (ap (λ (s : State). s.ports.fork) c.count-in-Retired.ensures) (rises_retired _ _ _ retired) (funded_retired _ _ _ c.self.invariant.funded retired)
+    (ap (λ (h : KeyedState). h.state.ports.fork) c.count-in-Retired.ensures) (rises_retired _ _ _ retired.1.tells) (funded_retired _ _ _ c.self.invariant.funded retired.1.tells)
 
 pub invariant_of-self-in-Exited : goal.invariant_of-self-in-Exited
 invariant_of-self-in-Exited c =
-    let exited = rw c.in-Exited.is at c.in_ok-cause.ensures.acts in
+    let exited = rw c.in-Exited.is at c.in_ok-page.ensures.acts in
     counted_exit _ _ _ _ _ _ _ c.self.invariant (rw (← c.self.view_is) at c.requires)
-    (ap (λ (s : State). s.ports.fork) c.count-in-Exited.ensures) (rises_exited _ _ _ exited) (funded_exited _ _ _ c.self.invariant.funded exited)
+    (ap (λ (h : KeyedState). h.state.ports.fork) c.count-in-Exited.ensures) (rises_exited _ _ _ exited.1.tells) (funded_exited _ _ _ c.self.invariant.funded exited.1.tells)
+
+pub returns-in_err-page-clause-here : goal.returns-in_err-page-clause-here
+returns-in_err-page-clause-here c =
+    let acts = subst (λ (n : KeyedMachine). waits_for (hart_in n) ≡ None) c.self.view_is c.in_err-page.ensures.acts.0 in
+    let here : stalled_at (paged c.args.self.now) ≡ None = stalls_live c.args.self.now c.requires ∙ acts in
+    search rules
+
+pub returns-in-Stalled-clause-goes : goal.returns-in-Stalled-clause-goes
+returns-in-Stalled-clause-goes c =
+    let v : KeyedMachine = machine_of c.self.inside.hart c.self.inside.steps c.self.inside.limit c.self.inside.ending in
+    let acts = rw c.in-Stalled.is at c.in_ok-page.ensures.acts in
+    subst (λ (n : KeyedMachine). GoesOn n (machine_of c.act.new.self c.self.inside.steps c.self.inside.limit c.self.inside.ending) (Some (Stall c.in-Stalled.page))) c.self.view_is
+    (goes_stalled v c.act.new.self (rw (← c.self.view_is) at c.requires) c.in-Stalled.page acts)
+
+pub returns-in-Trapped-clause-goes : goal.returns-in-Trapped-clause-goes
+returns-in-Trapped-clause-goes c =
+    let v : KeyedMachine = machine_of c.self.inside.hart c.self.inside.steps c.self.inside.limit c.self.inside.ending in
+    let acts = rw c.in-Trapped.is at c.in_ok-page.ensures.acts in
+    subst (λ (n : KeyedMachine). GoesOn n (machine_of c.count.new.self c.count_step.new.steps c.self.inside.limit c.count_step.new.ending) None) c.self.view_is
+    (goes_trapped v c.act.new.self (rw (← c.self.view_is) at c.requires) _ _ _ c.count_step.ensures.counted c.count_step.ensures.ends c.in-Trapped.cause c.in-Trapped.value _ acts c.take_trap.ensures c.count.ensures)
+
+pub returns-in-Interrupted-clause-goes : goal.returns-in-Interrupted-clause-goes
+returns-in-Interrupted-clause-goes c =
+    let v : KeyedMachine = machine_of c.self.inside.hart c.self.inside.steps c.self.inside.limit c.self.inside.ending in
+    let acts = rw c.in-Interrupted.is at c.in_ok-page.ensures.acts in
+    subst (λ (n : KeyedMachine). GoesOn n (machine_of c.count-in-Interrupted.new.self c.count_step-in-Interrupted.new.steps c.self.inside.limit c.count_step-in-Interrupted.new.ending) None) c.self.view_is
+    (goes_interrupted v c.act.new.self (rw (← c.self.view_is) at c.requires) _ _ _ c.count_step-in-Interrupted.ensures.counted c.count_step-in-Interrupted.ensures.ends _ acts c.take_trap-in-Interrupted.ensures c.count-in-Interrupted.ensures)
+
+pub returns-in-Retired-clause-goes : goal.returns-in-Retired-clause-goes
+returns-in-Retired-clause-goes c =
+    let v : KeyedMachine = machine_of c.self.inside.hart c.self.inside.steps c.self.inside.limit c.self.inside.ending in
+    let acts = rw c.in-Retired.is at c.in_ok-page.ensures.acts in
+    subst (λ (n : KeyedMachine). GoesOn n (machine_of c.count-in-Retired.new.self c.count_step-in-Retired.new.steps c.self.inside.limit c.count_step-in-Retired.new.ending) None) c.self.view_is
+    (goes_retired v c.act.new.self (rw (← c.self.view_is) at c.requires) _ _ _ c.count_step-in-Retired.ensures.counted c.count_step-in-Retired.ensures.ends c.in-Retired.written acts c.count-in-Retired.ensures)
+
+pub returns-in-Exited-clause-goes : goal.returns-in-Exited-clause-goes
+returns-in-Exited-clause-goes c =
+    let v : KeyedMachine = machine_of c.self.inside.hart c.self.inside.steps c.self.inside.limit c.self.inside.ending in
+    let acts = rw c.in-Exited.is at c.in_ok-page.ensures.acts in
+    subst (λ (n : KeyedMachine). GoesOn n (machine_of c.count-in-Exited.new.self (c.self.inside.steps + 1) c.self.inside.limit (Some (Exit c.in-Exited.value))) None) c.self.view_is
+    (goes_exited v c.act.new.self (rw (← c.self.view_is) at c.requires) c.in-Exited.value _ acts c.count-in-Exited.ensures)
+
+pub returns-in-Asked-clause-goes : goal.returns-in-Asked-clause-goes
+returns-in-Asked-clause-goes c =
+    let v : KeyedMachine = machine_of c.self.inside.hart c.self.inside.steps c.self.inside.limit c.self.inside.ending in
+    let acts = rw c.in-Asked.is at c.in_ok-page.ensures.acts in
+    subst (λ (n : KeyedMachine). GoesOn n (machine_of c.act.new.self c.self.inside.steps c.self.inside.limit c.self.inside.ending) (Some (Call c.in-Asked.call))) c.self.view_is
+    (goes_asked v c.act.new.self (rw (← c.self.view_is) at c.requires) c.in-Asked.call acts)

@@ -34,8 +34,7 @@ returns-in-Some-clause-holds g c = λ t h at.
       live = ap (λ (x : Brood). x.live) is ∙ c.in_ok-brood.ensures.live ∙ c.granted-children.ensures.value;
       few = omega (arith, c.granted-children.ensures.value, c.granted-children.ensures.most);
       key = c.in-Ok.ensures.here;
-      size = sym young.seeds.ok.0 ∙ c.in-Ok.ensures.one_each ticket c.requires;
-      seeds = c.in-Ok.ensures.seeds;
+      seeds = c.in-Ok.ensures.seeds ticket c.requires.clones;
     })
     (λ u. (written.3 there).0 u ∙ ap (λ (o : Option Brood). cond (is_at (nat_cmp ticket) u) (Some b) o) (c.in_ok-insert.ensures.updates.0 u)
     ∙ cond_twice (is_at (nat_cmp ticket) u) (Some b) (Some put) (get nat_cmp old.broods u)) h at

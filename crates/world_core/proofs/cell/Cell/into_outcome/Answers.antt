@@ -10,5 +10,5 @@ pub returns-clause-lines : goal.returns-clause-lines
 unfolding lines_of
 returns-clause-lines c = λ t tallies sound is ended.
     ap lines_of c.new.ensures
-    ∙ outcome_lines c.args.name c.args.self t c.args.vm c.args.ending c.steps-steps.result c.into_output.result.items c.log_killed.new.log.items
+    ∙ outcome_lines c.args.name c.args.self t c.args.vm.machine c.args.ending c.steps-steps.result c.into_output.result.items c.log_killed.new.log.items
     tallies sound c.log_killed.ensures.ordered c.log_killed.ensures.lines is ended c.steps-steps.ensures c.into_output.ensures

@@ -4,9 +4,10 @@ use Rattle.world_core.proofs.SlotBegins.{alone-awake, alone-holds}
 use Rattle.world_core.proofs.cell.Cell.of_root.Goals as goal
 
 pub returns-clause-shows : goal.returns-clause-shows
-returns-clause-shows c depot path lives none = record {
-  awake = alone-awake c.args.vm.value home lives refl;
+returns-clause-shows c depot path lives of_depot none = record {
+  awake = alone-awake c.args.vm.value.machine home lives refl;
   state = (refl, inl refl);
-  holds = alone-holds depot path _ c.args.vm.value home
+  of_depot = of_depot;
+  holds = alone-holds depot path _ c.args.vm.value.machine home
       (record { no_brood = c.new.ensures.empty; no_line = c.new-2.ensures.items; no_length = c.new-2.ensures.len }) none;
 }

@@ -2,6 +2,9 @@ use Rattle.std.proofs.Common.{◌≡◌, ℕ, ◌+◌, ◌-◌, ◌≤◌, Resul
 use Rattle.std.specs.declared.alloc.AllocError.{AllocError}
 use Rattle.forest_model.specs.Machine.{Machine, after_steps}
 use Rattle.forest_model.proofs.Finish.{after_steps-add}
+use Rattle.forest_model.proofs.Paged.{machine-advanced_by}
+use Rattle.vm_cell.specs.Keyed.{KeyedMachine, paged}
+use Rattle.vm_cell.specs.Steps.{moved_by}
 use Rattle.vm_cell.specs.declared.vm.Ran.{Ran}
 use Rattle.world_core.specs.Lent.{IsLent}
 use Rattle.world_core.proofs.lease.Lease.run.Goals as goal
@@ -17,21 +20,30 @@ lent-longer start old new ran more lent after made =
     } in
     subst (λ n. IsLent start (ran + n) new) (sym are) sum
 
-lent-by : (start old new : Machine) (ran : ℕ) (r : Result Ran AllocError) → IsLent start ran old
-    → IfOk r (λ ran. new ≡ after_steps ran.steps old) → IfOk r (λ ran. new.steps ≡ old.steps + ran.steps)
-    → OnErr r (new ≡ after_steps (new.steps - old.steps) old) → OnErr r (old.steps ≤ new.steps)
-    → IsLent start (ran + (new.steps - old.steps)) new
-lent-by start old new ran (Ok r) lent steps made err most = lent-longer start old new ran r.steps lent steps made
-lent-by start old new ran (Err e) lent steps made err most = lent-longer start old new ran (new.steps - old.steps) lent err (omega arith)
+-- a run of the machine with its pages is a run of the machine
+machine-moved : (n : ℕ) (old new : KeyedMachine) → new ≡ moved_by n old → new.machine ≡ after_steps n old.machine
+machine-moved n old new is = ap (λ (v : KeyedMachine). v.machine) is ∙ machine-advanced_by n (paged old)
+
+lent-by : (start : Machine) (old new : KeyedMachine) (ran : ℕ) (r : Result Ran AllocError) → IsLent start ran old.machine
+    → IfOk r (λ ran. new ≡ moved_by ran.steps old) → IfOk r (λ ran. new.machine.steps ≡ old.machine.steps + ran.steps)
+    → OnErr r (new ≡ moved_by (new.machine.steps - old.machine.steps) old) → OnErr r (old.machine.steps ≤ new.machine.steps)
+    → IsLent start (ran + (new.machine.steps - old.machine.steps)) new.machine
+lent-by start old new ran (Ok r) lent steps made err most =
+    lent-longer start old.machine new.machine ran r.steps lent (machine-moved r.steps old new steps) made
+lent-by start old new ran (Err e) lent steps made err most =
+    let more = new.machine.steps - old.machine.steps in
+    lent-longer start old.machine new.machine ran more lent (machine-moved more old new err) (omega arith)
 
 pub invariant_of-self : goal.invariant_of-self
 invariant_of-self c =
+    let start = c.self.inside.start.value.machine in
     let old = c.deref_mut.result.now in let new = c.run-ran.new.self in
-    let held : IsLent c.self.inside.start.value c.self.inside.ran old =
-    subst (λ m. IsLent c.self.inside.start.value c.self.inside.ran m) (sym c.deref_mut.ensures.value) c.self.invariant.0 in
-    let before : c.steps-before.result ≡ old.steps = c.steps-before.ensures ∙ ap (λ m. m.steps) (c.deref.ensures ∙ sym c.deref_mut.ensures.value) in
-    let after : c.steps.result ≡ new.steps = c.steps.ensures ∙ ap (λ m. m.steps) c.deref-2.ensures in
-    let more : c.steps.result - c.steps-before.result ≡ new.steps - old.steps = ap₂ (λ a b. a - b) after before in
-    let lent = lent-by c.self.inside.start.value old new c.self.inside.ran c.run-ran.result held c.run-ran.ensures.steps c.run-ran.ensures.each_made
+    let held : IsLent start c.self.inside.ran old.machine =
+    subst (λ (v : KeyedMachine). IsLent start c.self.inside.ran v.machine) (sym c.deref_mut.ensures.value) c.self.invariant.0 in
+    let before : c.steps-before.result ≡ old.machine.steps =
+    c.steps-before.ensures ∙ ap (λ (v : KeyedMachine). v.machine.steps) (c.deref.ensures ∙ sym c.deref_mut.ensures.value) in
+    let after : c.steps.result ≡ new.machine.steps = c.steps.ensures ∙ ap (λ (v : KeyedMachine). v.machine.steps) c.deref-2.ensures in
+    let more : c.steps.result - c.steps-before.result ≡ new.machine.steps - old.machine.steps = ap₂ (λ a b. a - b) after before in
+    let lent = lent-by start old new c.self.inside.ran c.run-ran.result held c.run-ran.ensures.steps c.run-ran.ensures.each_made
     c.run-ran.ensures.err c.run-ran.ensures.err_steps in
-    (subst (λ n. IsLent c.self.inside.start.value (c.self.inside.ran + n) new) (sym more) lent, c.self.invariant.1, c.self.invariant.2)
+    (subst (λ n. IsLent start (c.self.inside.ran + n) new.machine) (sym more) lent, c.self.invariant.1, c.self.invariant.2)

@@ -17,7 +17,7 @@ use Rattle.world_core.proofs.world.World.home.Goals as goal
 use Rattle.world_core.proofs.world.World.home.Goals.{then-not-cell, else-not-cell}
 
 pub returns-clause-home : goal.returns-clause-home
-returns-clause-home c depot f a between same lives sound =
+returns-clause-home c depot f a between same of_depot lives sound =
     let name : Path = (turn_of c.args.turn.value).name in
     let found = c.in-Some.ensures.value ∙ ap (λ t. get_by (path_cmp (out-Turn t).name) c.args.self.now.cells) c.deref.ensures in
     let after : Bool → Cell = λ listed. record c.in-Some.cell.now { state = Home c.args.vm; is_listed = listed } in
@@ -28,7 +28,7 @@ returns-clause-home c depot f a between same lives sound =
         | then-not-cell w ↦
             subst (λ v. StandsFor depot v (with_tree name (placed home a) f)) (sym w.self-is)
             (home-written depot c.args.self.now f name a c.args.vm (c.get_mut.follows.lender (after true)) w.push.new.self c.in-Some.cell.now true
-            between same lives sound found (written (after true))
+            between same of_depot lives sound found (written (after true))
             (subst (IsListed name) (sym w.push.ensures)
             (IsListed-first name (turn_of c.args.turn.value) c.args.self.now.ready (ap (λ o. record { name = name; children = o }) c.requires.one)))
             (λ n is. subst (IsListed n) (sym w.push.ensures) (IsListed-more n (turn_of c.args.turn.value) c.args.self.now.ready is))
@@ -37,7 +37,7 @@ returns-clause-home c depot f a between same lives sound =
             let was : Bool = c.in-Some.cell.now.is_listed in
             subst (λ v. StandsFor depot v (with_tree name (placed home a) f)) (sym w.self-is)
             (home-written depot c.args.self.now f name a c.args.vm (c.get_mut.follows.lender (after was)) c.args.self.now.ready c.in-Some.cell.now was
-            between same lives sound found (written (after was))
+            between same of_depot lives sound found (written (after was))
             (subst (λ o. IfSome o (λ (cell : Cell). cell.is_listed ≡ true → IsListed name c.args.self.now.ready)) (sym found) (between.listed name) w.if-not-cell.false)
             (λ n is. is) (λ n is. is))
       ],

@@ -4,26 +4,26 @@ use Rattle.forest_tree.specs.Settle.{endings}
 use Rattle.forest_tree.specs.Tree.{brood_of, broods_of}
 use Rattle.forest_history.specs.Rows.{joined}
 use Rattle.forest_model.specs.Calls.{after_join}
-use Rattle.forest_model.specs.Machine.{Machine}
+use Rattle.vm_cell.specs.Keyed.{KeyedMachine}
 use Rattle.run_report.specs.NameOrder.{path_cmp}
 use Rattle.world_core.specs.declared.cell.Cell.{Cell}
 use Rattle.world_core.specs.declared.cell.State.TheVariants.{Parked}
-use Rattle.world_core.specs.Lent.{Lent, IsLent}
+use Rattle.world_core.specs.Lent.{Lent, IsLent, lent_as}
 use Rattle.world_core.specs.Turns.{turn_of}
 use Rattle.world_core.specs.Shows.{forest, Holds, HoldsAfter, joined_tree}
-use Rattle.world_core.specs.Answers.{Answers}
-use Rattle.world_core.proofs.Calling.{gone-here, at-ok, at-err}
+use Rattle.world_core.specs.Answers.{Answers, IsLentOf}
+use Rattle.world_core.proofs.Calling.{gone-here, at-ok, at-err, same-image}
 use Rattle.world_core.proofs.CallJoin.{join-parked, join-asked, join-kept, join-called}
 use Rattle.world_core.proofs.world.World.join.Goals as goal
 
 pub returns-in_default-get_mut : goal.returns-in_default-get_mut
-returns-in_default-get_mut c depot f stands out_as =
+returns-in_default-get_mut c depot f stands out_as of_depot =
     gone-here depot c.args.self.now _ f c.args.lease stands out_as
     (c.in_default-get_mut.ensures.value ∙ ap (λ n. get_by (path_cmp n) c.args.self.now.cells) c.name.ensures)
     (ap (λ cells. record c.args.self.now { cells = cells }) c.get_mut.follows.holds-at-none)
 
 pub returns-then-waits : goal.returns-then-waits
-returns-then-waits c depot f stands out_as =
+returns-then-waits c depot f stands out_as of_depot =
     let parked : Cell = record c.in-Some.cell.now { state = Parked c.in-Some-Join.ticket c.lease.inside.vm c.lease.inside.turn } in (
       tt,
       join-parked depot c.args.self.now f c.args.lease c.in-Some-Join.ticket c.in-Some.cell.now stands out_as
@@ -32,7 +32,7 @@ returns-then-waits c depot f stands out_as =
           (c.get_mut.follows.lender parked) c.lease.inside.vm c.lease.inside.turn (λ depot path t holds. sym c.if-waits.true ∙ c.waits.ensures depot path t holds)
           (subst (λ n. WritesThrough path_cmp (path_cmp n) c.args.self.now.cells parked (c.get_mut.follows.lender parked)) c.name.ensures
           (c.get_mut.follows.holds parked))
-          (ap (λ (l : Lent). l.now) c.lease.view_is) c.lease.invariant.1 c.lease.invariant.2 (ap (λ (l : Lent). l.name) c.lease.view_is),
+          (ap (λ (l : Lent). l.now) c.lease.view_is) (subst (IsLentOf depot) (sym c.lease.view_is) of_depot) c.lease.invariant.1 c.lease.invariant.2 (ap (λ (l : Lent). l.name) c.lease.view_is),
     )
 
 pub join-requires-clause-ended : goal.join-requires-clause-ended
@@ -41,13 +41,13 @@ join-requires-clause-ended c =
     join-asked lent.0 c.args.self.now lent.1.0 c.args.lease c.in-Some-Join.ticket c.in-Some.cell.now lent.1.1 lent.1.2
     (subst (λ (l : Lent). IsLent l.start l.ran l.now) c.lease.view_is c.lease.invariant.0) (ap Some (sym c.in-Some-Join.field-0-is) ∙ c.in-Some-Join.ensures)
     (c.in-Some.ensures.value ∙ ap (λ n. get_by (path_cmp n) c.args.self.now.cells) c.name.ensures)
-    (λ depot path t holds. sym c.if-waits.false ∙ c.waits.ensures depot path t holds) c.deref_mut.result.now (c.deref_mut.ensures.value ∙ ap (λ (l : Lent). l.now) c.lease.view_is)
+    (λ depot path t holds. sym c.if-waits.false ∙ c.waits.ensures depot path t holds) c.deref_mut.result.now.machine (ap (λ (v : KeyedMachine). v.machine) c.deref_mut.ensures.value ∙ ap (λ (l : Lent). l.now) c.lease.view_is)
 
 pub returns-then-is_err : goal.returns-then-is_err
-returns-then-is_err c depot f stands out_as =
+returns-then-is_err c depot f stands out_as of_depot =
     let failed = sym c.is_err.ensures.value ∙ c.if-is_err.true in
     let inside = c.lease.inside in
-    let lease_of : Machine → Lent = λ m. record { name = (turn_of inside.turn.value).name; start = inside.start.value; ran = inside.ran; now = m } in (
+    let lease_of : KeyedMachine → Lent = λ v. lent_as (turn_of inside.turn.value).name inside.start.value.machine inside.ran v in (
       tt,
       ap lease_of (at-err (c.join.new.vm ≡ c.deref_mut.result.now) c.join.result failed c.join.ensures.err ∙ c.deref_mut.ensures.value) ∙ c.lease.view_is,
       join-kept depot c.args.self.now f c.args.lease c.in-Some-Join.ticket c.in-Some.cell.now stands out_as
@@ -66,30 +66,40 @@ place-requires-clause-between c =
     let k = join-called lent.0 c.args.self.now lent.1.0 c.args.lease c.in-Some-Join.ticket c.in-Some.cell.now lent.1.1 lent.1.2
     (subst (λ (l : Lent). IsLent l.start l.ran l.now) c.lease.view_is c.lease.invariant.0) (ap Some (sym c.in-Some-Join.field-0-is) ∙ c.in-Some-Join.ensures)
     (c.in-Some.ensures.value ∙ ap (λ n. get_by (path_cmp n) c.args.self.now.cells) c.name.ensures)
-    (λ depot path t holds. sym c.if-waits.false ∙ c.waits.ensures depot path t holds) (c.get_mut.follows.lender c.join.new.self) c.join.new.self _ c.deref_mut.result.now c.join.new.vm
-    (ap (λ (l : Lent). l.name) c.lease.view_is) (c.deref_mut.ensures.value ∙ ap (λ (l : Lent). l.now) c.lease.view_is)
+    (λ depot path t holds. sym c.if-waits.false ∙ c.waits.ensures depot path t holds) (c.get_mut.follows.lender c.join.new.self) c.join.new.self _ c.deref_mut.result.now.machine c.join.new.vm.machine
+    (ap (λ (l : Lent). l.name) c.lease.view_is) (ap (λ (v : KeyedMachine). v.machine) c.deref_mut.ensures.value ∙ ap (λ (l : Lent). l.now) c.lease.view_is)
     (subst (λ n. WritesThrough path_cmp (path_cmp n) c.args.self.now.cells c.join.new.self (c.get_mut.follows.lender c.join.new.self)) c.name.ensures
     (c.get_mut.follows.holds c.join.new.self))
     c.join.ensures.place.1
-    (λ t depot path holds at all. at-ok
-    ((c.join.new.vm ≡ after_join c.deref_mut.result.now (endings forest (brood_of c.in-Some-Join.ticket (broods_of t))))
+    (λ t depot path holds at all. let did = at-ok
+    ((c.join.new.vm ≡ record c.deref_mut.result.now { machine = after_join c.deref_mut.result.now.machine (endings forest (brood_of c.in-Some-Join.ticket (broods_of t))) })
     × HoldsAfter depot path c.join.new.self (joined_tree c.in-Some-Join.ticket t)) c.join.result
-    (sym c.is_err.ensures.value ∙ c.if-is_err.false) (c.join.ensures.ok t depot path holds at all)) in
-    (lent.0, lent.1.0, k.tree, k.between, k.is)
+    (sym c.is_err.ensures.value ∙ c.if-is_err.false) (c.join.ensures.ok t depot path holds at all) in (ap (λ (v : KeyedMachine). v.machine) did.0, did.1)) in (
+      lent.0,
+      lent.1.0,
+      k.tree,
+      k.between,
+      k.is,
+      same-image lent.0 c.join.new.vm c.args.lease
+          (c.join.ensures.key ∙ ap (λ (v : KeyedMachine). v.key) c.deref_mut.ensures.value ∙ ap (λ (l : Lent). l.key) c.lease.view_is) lent.1.3,
+    )
 
 pub returns : goal.returns
-returns c depot f stands out_as =
+returns c depot f stands out_as of_depot =
     let k = join-called depot c.args.self.now f c.args.lease c.in-Some-Join.ticket c.in-Some.cell.now stands out_as
     (subst (λ (l : Lent). IsLent l.start l.ran l.now) c.lease.view_is c.lease.invariant.0) (ap Some (sym c.in-Some-Join.field-0-is) ∙ c.in-Some-Join.ensures)
     (c.in-Some.ensures.value ∙ ap (λ n. get_by (path_cmp n) c.args.self.now.cells) c.name.ensures)
-    (λ depot path t holds. sym c.if-waits.false ∙ c.waits.ensures depot path t holds) (c.get_mut.follows.lender c.join.new.self) c.join.new.self _ c.deref_mut.result.now c.join.new.vm
-    (ap (λ (l : Lent). l.name) c.lease.view_is) (c.deref_mut.ensures.value ∙ ap (λ (l : Lent). l.now) c.lease.view_is)
+    (λ depot path t holds. sym c.if-waits.false ∙ c.waits.ensures depot path t holds) (c.get_mut.follows.lender c.join.new.self) c.join.new.self _ c.deref_mut.result.now.machine c.join.new.vm.machine
+    (ap (λ (l : Lent). l.name) c.lease.view_is) (ap (λ (v : KeyedMachine). v.machine) c.deref_mut.ensures.value ∙ ap (λ (l : Lent). l.now) c.lease.view_is)
     (subst (λ n. WritesThrough path_cmp (path_cmp n) c.args.self.now.cells c.join.new.self (c.get_mut.follows.lender c.join.new.self)) c.name.ensures
     (c.get_mut.follows.holds c.join.new.self))
     c.join.ensures.place.1
-    (λ t depot path holds at all. at-ok
-    ((c.join.new.vm ≡ after_join c.deref_mut.result.now (endings forest (brood_of c.in-Some-Join.ticket (broods_of t))))
+    (λ t depot path holds at all. let did = at-ok
+    ((c.join.new.vm ≡ record c.deref_mut.result.now { machine = after_join c.deref_mut.result.now.machine (endings forest (brood_of c.in-Some-Join.ticket (broods_of t))) })
     × HoldsAfter depot path c.join.new.self (joined_tree c.in-Some-Join.ticket t)) c.join.result
-    (sym c.is_err.ensures.value ∙ c.if-is_err.false) (c.join.ensures.ok t depot path holds at all)) in
-    let p = c.place.ensures depot f k.tree k.between k.is k.sound in
+    (sym c.is_err.ensures.value ∙ c.if-is_err.false) (c.join.ensures.ok t depot path holds at all) in (ap (λ (v : KeyedMachine). v.machine) did.0, did.1)) in
+    let p = c.place.ensures depot f k.tree k.between k.is
+    (same-image depot c.join.new.vm c.args.lease
+    (c.join.ensures.key ∙ ap (λ (v : KeyedMachine). v.key) c.deref_mut.ensures.value ∙ ap (λ (l : Lent). l.key) c.lease.view_is) of_depot)
+    k.sound in
     subst (λ r. Answers depot f joined c.args.lease r c.place.new.self) (sym p.0) (k.goes c.place.new.self p.1)

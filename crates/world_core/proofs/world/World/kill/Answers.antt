@@ -6,17 +6,18 @@ use Rattle.forest_tree.specs.Tree.{Tree, node}
 use Rattle.forest_history.specs.Places.{Spot}
 use Rattle.forest_history.specs.Rows.{killed}
 use Rattle.forest_model.specs.Machine.{Machine}
+use Rattle.vm_cell.specs.Keyed.{KeyedMachine}
 use Rattle.run_report.specs.NameOrder.{path_cmp}
 use Rattle.world_core.specs.Lent.{Lent, IsLent}
 use Rattle.world_core.specs.Turns.{turn_of}
 use Rattle.world_core.specs.Shows.{StandsAt}
 use Rattle.world_core.specs.Answers.{Answers}
-use Rattle.world_core.proofs.Calling.{found-here, gone-here, lent_out}
+use Rattle.world_core.proofs.Calling.{found-here, gone-here, lent_out, same-image}
 use Rattle.world_core.proofs.CallKill.{kill-called}
 use Rattle.world_core.proofs.world.World.kill.Goals as goal
 
 pub returns-in_default-get_mut : goal.returns-in_default-get_mut
-returns-in_default-get_mut c depot f stands out_as =
+returns-in_default-get_mut c depot f stands out_as of_depot =
     gone-here depot c.args.self.now _ f c.args.lease stands out_as
     (c.in_default-get_mut.ensures.value ∙ ap (λ n. get_by (path_cmp n) c.args.self.now.cells) c.name.ensures)
     (ap (λ cells. record c.args.self.now { cells = cells }) c.get_mut.follows.holds-at-none)
@@ -32,33 +33,43 @@ kill-requires-clause-holds c =
       c.args.lease.name,
       t,
       h.stands.holds,
-      subst (λ m. StandsAt m (kill c.in-Some-Kill.ticket) t) (sym (c.deref_mut.ensures.value ∙ ap (λ (l : Lent). l.now) c.lease.view_is)) h.stands.at,
+      subst (λ m. StandsAt m (kill c.in-Some-Kill.ticket) t) (sym (ap (λ (v : KeyedMachine). v.machine) c.deref_mut.ensures.value ∙ ap (λ (l : Lent). l.now) c.lease.view_is)) h.stands.at,
     )
 
 pub place-requires-clause-between : goal.place-requires-clause-between
 place-requires-clause-between c =
     let lent = c.requires.lent in
     let k = kill-called lent.0 c.args.self.now lent.1.0 c.args.lease c.in-Some-Kill.ticket c.in-Some.cell.now c.kill.new.self (c.get_mut.follows.lender c.kill.new.self)
-    c.drop_below.new.cells _ _ c.deref_mut.result.now c.kill.new.vm lent.1.1 lent.1.2
+    c.drop_below.new.cells _ _ c.deref_mut.result.now.machine c.kill.new.vm.machine lent.1.1 lent.1.2
     (subst (λ (l : Lent). IsLent l.start l.ran l.now) c.lease.view_is c.lease.invariant.0) (ap Some (sym c.in-Some-Kill.field-0-is) ∙ c.in-Some-Kill.ensures)
     (c.in-Some.ensures.value ∙ ap (λ n. get_by (path_cmp n) c.args.self.now.cells) c.name.ensures) (ap (λ (l : Lent). l.name) c.lease.view_is)
     (ap (λ t. (turn_of t).name) c.deref.ensures ∙ ap (λ (l : Lent). l.name) c.lease.view_is)
-    (c.deref_mut.ensures.value ∙ ap (λ (l : Lent). l.now) c.lease.view_is)
+    (ap (λ (v : KeyedMachine). v.machine) c.deref_mut.ensures.value ∙ ap (λ (l : Lent). l.now) c.lease.view_is)
     (subst (λ n. WritesThrough path_cmp (path_cmp n) c.args.self.now.cells c.kill.new.self (c.get_mut.follows.lender c.kill.new.self)) c.name.ensures
     (c.get_mut.follows.holds c.kill.new.self))
-    c.drop_below.ensures c.kill.ensures.place.1 c.kill.ensures.after c.kill.ensures.vm in
-    (lent.0, lent.1.0, k.tree, k.between, k.is)
+    c.drop_below.ensures c.kill.ensures.place.1 c.kill.ensures.after (ap (λ (v : KeyedMachine). v.machine) c.kill.ensures.vm) in (
+      lent.0,
+      lent.1.0,
+      k.tree,
+      k.between,
+      k.is,
+      same-image lent.0 c.kill.new.vm c.args.lease
+          (ap (λ (v : KeyedMachine). v.key) (c.kill.ensures.vm) ∙ ap (λ (v : KeyedMachine). v.key) c.deref_mut.ensures.value ∙ ap (λ (l : Lent). l.key) c.lease.view_is) lent.1.3,
+    )
 
 pub returns : goal.returns
-returns c depot f stands out_as =
+returns c depot f stands out_as of_depot =
     let k = kill-called depot c.args.self.now f c.args.lease c.in-Some-Kill.ticket c.in-Some.cell.now c.kill.new.self (c.get_mut.follows.lender c.kill.new.self)
-    c.drop_below.new.cells _ _ c.deref_mut.result.now c.kill.new.vm stands out_as
+    c.drop_below.new.cells _ _ c.deref_mut.result.now.machine c.kill.new.vm.machine stands out_as
     (subst (λ (l : Lent). IsLent l.start l.ran l.now) c.lease.view_is c.lease.invariant.0) (ap Some (sym c.in-Some-Kill.field-0-is) ∙ c.in-Some-Kill.ensures)
     (c.in-Some.ensures.value ∙ ap (λ n. get_by (path_cmp n) c.args.self.now.cells) c.name.ensures) (ap (λ (l : Lent). l.name) c.lease.view_is)
     (ap (λ t. (turn_of t).name) c.deref.ensures ∙ ap (λ (l : Lent). l.name) c.lease.view_is)
-    (c.deref_mut.ensures.value ∙ ap (λ (l : Lent). l.now) c.lease.view_is)
+    (ap (λ (v : KeyedMachine). v.machine) c.deref_mut.ensures.value ∙ ap (λ (l : Lent). l.now) c.lease.view_is)
     (subst (λ n. WritesThrough path_cmp (path_cmp n) c.args.self.now.cells c.kill.new.self (c.get_mut.follows.lender c.kill.new.self)) c.name.ensures
     (c.get_mut.follows.holds c.kill.new.self))
-    c.drop_below.ensures c.kill.ensures.place.1 c.kill.ensures.after c.kill.ensures.vm in
-    let p = c.place.ensures depot f k.tree k.between k.is k.sound in
+    c.drop_below.ensures c.kill.ensures.place.1 c.kill.ensures.after (ap (λ (v : KeyedMachine). v.machine) c.kill.ensures.vm) in
+    let p = c.place.ensures depot f k.tree k.between k.is
+    (same-image depot c.kill.new.vm c.args.lease
+    (ap (λ (v : KeyedMachine). v.key) (c.kill.ensures.vm) ∙ ap (λ (v : KeyedMachine). v.key) c.deref_mut.ensures.value ∙ ap (λ (l : Lent). l.key) c.lease.view_is) of_depot)
+    k.sound in
     subst (λ r. Answers depot f killed c.args.lease r c.place.new.self) (sym p.0) (k.goes c.place.new.self p.1)

@@ -8,8 +8,8 @@ use Rattle.world_core.proofs.world.World.of_ended.Goals as goal
 
 pub returns : goal.returns
 returns c = λ depot.
-    let vm = c.args.vm in
+    let vm = c.args.vm.machine in
     let named : Ended = record { name = []; ending = c.args.ending; steps = vm.steps; output = vm.state.ports.console.output; log = [] } in
-    let outcome : c.new-3.result ≡ named = cc (c.new-3.ensures, c.root.ensures, c.steps-steps.ensures, c.into_output.ensures, c.new-log.ensures.items) in
+    let outcome : c.new-3.result ≡ named = cc (c.new-3.ensures, c.in_ok-root.ensures, c.steps-steps.ensures, c.into_output.ensures, c.new-log.ensures.items) in
     end-stands depot vm c.args.ending c.new-3.result c.new.result c.new-2.result c.requires.ended c.requires.no_ticket c.requires.good
     (λ name. ap (lookup (is_at (path_cmp name))) c.new.ensures.empty) outcome

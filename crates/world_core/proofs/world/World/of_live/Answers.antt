@@ -1,10 +1,11 @@
-use Rattle.std.proofs.Common.{◌≡◌, [], ◌∷◌, Some, None, ap, ap₂, ◌∙◌, subst}
+use Rattle.std.proofs.Common.{◌≡◌, [], ◌∷◌, Some, None, sym, ap, ap₂, ◌∙◌, subst}
 use Rattle.std.specs.BTreeMap.{Updates, is_at}
 use Rattle.std.specs.Map.{lookup}
 use Rattle.forest_tree.specs.Tree.{Path}
 use Rattle.forest_tree.specs.Settle.{alone}
 use Rattle.forest_history.specs.Places.{home}
 use Rattle.run_report.specs.NameOrder.{path_cmp}
+use Rattle.vm_cell.specs.Keyed.{KeyedMachine, IsOfDepot}
 use Rattle.world_core.specs.Turns.{turn_of}
 use Rattle.world_core.specs.Waiting.{Waiting}
 use Rattle.world_core.specs.Shows.{forest, CellShows}
@@ -13,16 +14,18 @@ use Rattle.world_core.proofs.world.World.of_live.Goals as goal
 
 pub returns : goal.returns
 returns c = λ depot.
-    let vm = c.args.vm in
-    let boxed : c.in_ok-new.field-0.value ≡ vm = c.in_ok-new.ensures.ok in
+    let vm = c.args.vm.machine in
+    let boxed : c.in_ok-new.field-0.value ≡ c.args.vm = c.in_ok-new.ensures.ok in
+    let same : c.in_ok-new.field-0.value.machine ≡ vm = ap (λ (v : KeyedMachine). v.machine) boxed in
+    let of_depot : IsOfDepot depot c.in_ok-new.field-0.value.key = λ key some. let no : None ≡ Some key = sym (ap (λ (v : KeyedMachine). v.key) boxed ∙ c.requires.every_page) ∙ some in absurd (cc) in
     let turn : turn_of c.in_ok-of_machine.field-0.value ≡ record { name = []; children = None } =
-    c.in_ok-of_machine.ensures.value ∙ ap (λ (name : Path). record { name = name; children = None }) c.root.ensures in
+    c.in_ok-of_machine.ensures.value ∙ ap (λ (name : Path). record { name = name; children = None }) (c.in_ok-copy.ensures ∙ c.in_ok-root.ensures) in
     let list : c.push.new.self ≡ record { name = []; children = None } ∷ [] = c.push.ensures ∙ ap₂ (λ (w : Waiting) rest. w ∷ rest) turn c.new-ready.ensures in
     let inserted : Updates path_cmp c.new-cells.result c.insert.new.self [] (Some c.of_root.result) =
-    subst (λ name. Updates path_cmp c.new-cells.result c.insert.new.self name (Some c.of_root.result)) c.root-2.ensures c.in_ok-insert.ensures.updates in
+    subst (λ name. Updates path_cmp c.new-cells.result c.insert.new.self name (Some c.of_root.result)) (c.root-2.view_is ∙ c.in_ok-root.ensures) c.in_ok-insert.ensures.updates in
     let shows : CellShows depot [] c.of_root.result (alone forest (record { machine = vm; place = home })) =
-    subst (λ m. CellShows depot [] c.of_root.result (alone forest (record { machine = m; place = home }))) boxed
-    (c.of_root.ensures.shows depot [] (ap (λ m. m.ending) boxed ∙ c.requires.lives)
-    (none-cloned c.in_ok-new.field-0.value (ap (λ m. m.state.ports.fork.tickets) boxed ∙ c.requires.no_ticket))) in
+    subst (λ m. CellShows depot [] c.of_root.result (alone forest (record { machine = m; place = home }))) same
+    (c.of_root.ensures.shows depot [] (ap (λ m. m.ending) same ∙ c.requires.lives) of_depot
+    (none-cloned c.in_ok-new.field-0.value.machine (ap (λ m. m.state.ports.fork.tickets) same ∙ c.requires.no_ticket))) in
     start-stands depot vm c.new-cells.result c.insert.new.self c.push.new.self c.of_root.result c.requires.lives c.requires.no_ticket c.requires.good
     (λ name. ap (lookup (is_at (path_cmp name))) c.new-cells.ensures.empty) inserted shows list

@@ -11,17 +11,17 @@ use Rattle.world_core.proofs.Calling.{settled-ended, settled-lives, lives-by}
 use Rattle.world_core.proofs.world.World.place.Goals as goal
 
 pub returns-in-Some : goal.returns-in-Some
-returns-in-Some c depot f a between same sound =
+returns-in-Some c depot f a between same of_depot sound =
     let name : Path = (turn_of c.args.turn.value).name in
-    let is = settled-ended a c.args.vm.value c.in-Some.ending same (c.in-Some.ensures.ending ∙ ap (λ m. m.ending) c.deref.ensures) in
+    let is = settled-ended a c.args.vm.value.machine c.in-Some.ending same (c.in-Some.ensures.ending ∙ ap (λ v. v.machine.ending) c.deref.ensures) in
     subst (λ t. (c.finish.result ≡ Done) × StandsFor depot c.finish.new.self (with_tree name (placed home t) f)) is
     (c.finish.ensures.finished depot f a between same (subst (λ t. IsSound forest (with_tree name (placed home t) f).tree) (sym is) sound))
 
 pub returns-in-None : goal.returns-in-None
-returns-in-None c depot f a between same sound =
+returns-in-None c depot f a between same of_depot sound =
     let name : Path = (turn_of c.args.turn.value).name in
-    let none = c.in-None.ensures.ending ∙ ap (λ m. m.ending) c.deref.ensures in
-    let is = settled-lives a c.args.vm.value same none in
+    let none = c.in-None.ensures.ending ∙ ap (λ v. v.machine.ending) c.deref.ensures in
+    let is = settled-lives a c.args.vm.value.machine same none in
     subst (λ t. (c.home.result ≡ Done) × StandsFor depot c.home.new.self (with_tree name (placed home t) f)) is
-    (c.home.ensures.home depot f a between same (lives-by a c.args.vm.value same none)
+    (c.home.ensures.home depot f a between same of_depot (lives-by a c.args.vm.value.machine same none)
     (subst (λ t. IsSound forest (with_tree name (placed home t) f).tree) (sym is) sound))

@@ -66,7 +66,7 @@ returns-in-Ok-clause-takes c = λ f h.
     let rest = c.wake-woken.ensures.rest in
     let ready : after.ready ≡ turn_of (roll-Turn x) ∷ c.args.self.now.ready = c.push.ensures ∙ ap (λ turns. turn_of (roll-Turn x) ∷ turns) rest.0 in
     child-taken depot turn ticket c.args.first c.args.self.now f c.requires.children h c.requires.going.0 index found after (turn_of (roll-Turn x)) later ready
-    c.in-Ok.lease (woke.lease.0 ∙ ap (λ p. child_path p ticket index) same) woke.lease.1 woke.lease.2 (woke.start f.tree before asleep)
+    c.in-Ok.lease (woke.lease.0 ∙ ap (λ p. child_path p ticket index) same) woke.lease.1 woke.lease.2 woke.lease.3 (woke.start f.tree before asleep)
     (subst (λ p. ShowsCells depot after.cells (at_path (placed out) (child_path p ticket index) f.tree)) same (woke.cells f.tree before asleep))
     c.wake-woken.ensures.listed
     (subst (λ p. (n : Path) → n ≢ child_path p ticket index → is_some (get path_cmp after.cells n) ≡ is_some (get path_cmp c.args.self.now.cells n)) same

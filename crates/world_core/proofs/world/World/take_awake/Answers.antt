@@ -7,7 +7,7 @@ use Rattle.world_core.specs.declared.turns.Turn.{out-Turn}
 use Rattle.world_core.specs.declared.world.World.{World}
 use Rattle.world_core.specs.Lent.{Lent}
 use Rattle.world_core.specs.Turns.{turn_of}
-use Rattle.world_core.specs.Answers.{Goes, Starts}
+use Rattle.world_core.specs.Answers.{Goes, IsLentOf, Starts}
 use Rattle.world_core.specs.Popped.{TakesBy}
 use Rattle.world_core.proofs.TurnOfOne.{awake-gone, awake-idle, awake-taken}
 use Rattle.world_core.proofs.world.World.take_awake.Goals as goal
@@ -38,7 +38,7 @@ returns-clause-takes c = λ depot f h.
     let name : Path = (turn_of c.args.turn.value).name in
     let cells = c.get_mut.follows.lender c.lend.new.self in
     let after : World = record c.args.self.now { cells = cells } in
-    subst (λ (lease : Lent). Goes depot f (took lease.name) after × Starts f lease) (sym c.new.ensures)
+    subst (λ (lease : Lent). Goes depot f (took lease.name) after × Starts f lease × IsLentOf depot lease) (sym c.new.ensures)
     (awake-taken depot (turn_of c.args.turn.value) c.args.self.now f c.requires.one h c.requires.going.0 c.in_ok-cell.cell.now
     (c.in_ok-cell.ensures.value ∙ ap (λ t. get_by (path_cmp (out-Turn t).name) c.args.self.now.cells) c.deref.ensures) cells c.lend.new.self
     (subst (λ t. WritesThrough path_cmp (path_cmp (out-Turn t).name) c.args.self.now.cells c.lend.new.self cells) c.deref.ensures

@@ -7,6 +7,7 @@ use Rattle.run_report.specs.NameOrder.{path_cmp}
 use Rattle.world_core.specs.declared.world.World.{World}
 use Rattle.world_core.specs.Waiting.{Waiting}
 use Rattle.world_core.specs.Popped.{ShowsCells, sleeps}
+use Rattle.world_core.specs.Lent.{lent_as}
 use Rattle.world_core.specs.Turns.{turn_of}
 use Rattle.world_core.specs.World.{StandsFor}
 use Rattle.world_core.proofs.ByName.{over-nobody, stands-same, rewritten, named-error, named-idle, named-taken, root-cell, before-named, no_cell-home, named-woken}
@@ -41,13 +42,12 @@ returns-in_default-lend_named c = λ f h.
 pub returns-in-Some : goal.returns-in-Some
 returns-in-Some c = λ f h.
     let lent = c.lend_named.new.self in
-    let m = c.in-Some-lend_named.vm.value in
+    let v = c.in-Some-lend_named.vm.value in
     let name : (turn_of c.in_ok-turn.turn.value).name ≡ c.args.name.now
     = ap (λ (w : Waiting). w.name) c.in_ok-turn.ensures.value ∙ c.in_ok-copy.ensures in
-    let is : c.new.result ≡ record { name = c.args.name.now; start = m; ran = 0; now = m }
-    = c.new.ensures ∙ ap (λ n. record { name = n; start = m; ran = 0; now = m }) name in
+    let is : c.new.result ≡ lent_as c.args.name.now v.machine 0 v = c.new.ensures ∙ ap (λ n. lent_as n v.machine 0 v) name in
     named-taken c.args.depot.now c.args.self.now f c.args.name.now h (lives-none c.args.self.now.outcome (sym c.if-is_some.ensures)) c.in-Some.cell.now
-    c.in-Some.ensures.value (c.get_mut.follows.lender lent) lent (c.get_mut.follows.holds lent) c.new.result m is c.in-Some-lend_named.ensures.place
+    c.in-Some.ensures.value (c.get_mut.follows.lender lent) lent (c.get_mut.follows.holds lent) c.new.result v is c.in-Some-lend_named.ensures.place
     (c.in-Some-lend_named.ensures.shows c.args.depot.now c.args.name.now)
 
 pub unreachable-requires : goal.unreachable-requires
@@ -96,4 +96,4 @@ returns c = λ f h.
     = sym (c.is_asleep.ensures depot f.tree before) ∙ c.if-not-is_asleep.false in
     let woke = c.in_ok-wake.ensures in
     named-woken depot w f c.args.name.now stands going none parent ticket index named c.wake.new.self c.in_ok-wake.field-0 asleep woke.lease.0 woke.lease.1
-    woke.lease.2 (woke.start f.tree before asleep) (woke.cells f.tree before asleep) woke.listed woke.others woke.rest.0 woke.rest.1 woke.rest.2
+    woke.lease.2 woke.lease.3 (woke.start f.tree before asleep) (woke.cells f.tree before asleep) woke.listed woke.others woke.rest.0 woke.rest.1 woke.rest.2

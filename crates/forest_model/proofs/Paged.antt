@@ -1,0 +1,86 @@
+-- A machine of which some pages may be absent, seen as the machine with every page; and the page at which it stops.
+use Rattle.std.proofs.Common.{◌≡◌, ◌≢◌, ℕ, zero, suc, ◌<◌, ◌*◌, Bool, true, false, cond, List, [], ◌∷◌, length, get_or, Option, Some, None, IsSome, IsTrue, refl, sym, ap, ◌∙◌, subst, arith}
+use Rattle.std.specs.List.{All, Contains}
+use Rattle.elf_load.specs.declared.image.TheConstants.{PAGE_SIZE}
+use Rattle.forest_tree.specs.Operations.{IsMachine}
+use Rattle.forest_tree.specs.Tree.{Tree}
+use Rattle.forest_tree.specs.Finish as tree
+use Rattle.forest_tree.specs.Projection.{map_tree, Projects}
+use Rattle.forest_tree.proofs.Projected.{IsMachine-projected, finish-map}
+use Rattle.forest_model.specs.Machine.{Machine, after_steps}
+use Rattle.forest_model.specs.Forest.{machines, finish}
+use Rattle.forest_model.specs.Touch.{touch}
+use Rattle.forest_model.specs.Paged.{Paged, Pages, advanced, advanced_by, first_absent, paged_machines, stalled_at}
+use Rattle.forest_model.proofs.Rules.{machines-rules}
+use Rattle.forest_model.proofs.Touch.{touch-IsSome}
+
+-- ---- the machine with every page
+
+abbrev inner : Paged → Machine
+inner p = p.machine
+
+pub paged-projects : Projects paged_machines machines inner
+unfolding paged_machines machines
+paged-projects = record {
+  ending = λ p. refl;
+  call = λ p. refl;
+  left = λ p. refl;
+  holding = λ p. refl;
+  cloned = λ p. refl;
+  grant = λ p t. refl;
+  may_clone = λ p t. refl;
+  is_good = λ p. refl;
+  advance = λ p. refl;
+  forked = λ p. refl;
+  child = λ p k. refl;
+  after_join = λ p endings. refl;
+  after_kill = λ p. refl;
+}
+
+pub paged-rules : IsMachine paged_machines
+paged-rules = IsMachine-projected paged_machines machines inner paged-projects machines-rules
+
+pub paged-finish : (t : Tree Paged) → finish (map_tree inner t) ≡ map_tree inner (tree.finish paged_machines t)
+paged-finish t = finish-map paged_machines machines inner paged-projects t
+
+pub machine-advanced_by : (n : ℕ) (p : Paged) → (advanced_by n p).machine ≡ after_steps n p.machine
+unfolding advanced_by after_steps
+machine-advanced_by zero p = refl
+machine-advanced_by (suc n) p = machine-advanced_by n (advanced p)
+
+pub advanced_by-suc : (n : ℕ) (p : Paged) → advanced_by (suc n) p ≡ advanced (advanced_by n p)
+unfolding advanced_by
+advanced_by-suc zero p = refl
+advanced_by-suc (suc n) p = advanced_by-suc n (advanced p)
+
+-- ---- the page at which it stops
+
+-- the page is one of these, and is not here
+pub record IsAbsentOf (here : List Bool) (pages : List ℕ) (page : ℕ) : Type 0 where
+  pub listed : Contains pages page
+  pub absent : get_or here page false ≡ false
+
+listed-later : (first : ℕ) (rest : List ℕ) (page : ℕ) → Contains rest page → Contains (first ∷ rest) page
+listed-later first rest page h = (suc h.0, omega (arith, h.1), h.2)
+
+first_absent-by : (is_here : Bool) (here : List Bool) (first : ℕ) (rest : List ℕ) (page : ℕ) → get_or here first false ≡ is_here
+    → ((p : ℕ) → first_absent here rest ≡ Some p → IsAbsentOf here rest p)
+    → cond is_here (first_absent here rest) (Some first) ≡ Some page → IsAbsentOf here (first ∷ rest) page
+first_absent-by true here first rest page e later is =
+    let h = later page is in record { listed = listed-later first rest page h.listed; absent = h.absent }
+first_absent-by false here first rest page e later is =
+    let same : first ≡ page = cc in
+    record { listed = (0, omega arith, same); absent = subst (λ p. get_or here p false ≡ false) same e }
+
+first_absent-is : (here : List Bool) (pages : List ℕ) (page : ℕ) → first_absent here pages ≡ Some page → IsAbsentOf here pages page
+unfolding first_absent
+first_absent-is here [] page is = absurd (cc)
+first_absent-is here (first ∷ rest) page is =
+    first_absent-by (get_or here first false) here first rest page refl (first_absent-is here rest) is
+
+pub stalled-is : (p : Paged) (page : ℕ) → stalled_at p ≡ Some page → IsAbsentOf p.pages.here (touch p.machine) page
+stalled-is p page is = first_absent-is p.pages.here (touch p.machine) page is
+
+pub ended-stalls : (p : Paged) → IsSome p.machine.ending → stalled_at p ≡ None
+unfolding first_absent
+ended-stalls p h = ap (first_absent p.pages.here) (touch-IsSome p.machine h)

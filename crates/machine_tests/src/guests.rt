@@ -1,0 +1,39 @@
+//! Guests of a few words.
+
+ghost use Rattle.std.specs.Prelude.{◌≡◌, ◌≤◌, [], length, IfOk, None};
+ghost use Rattle.forest_model.specs.Forest.{port_of};
+
+use cow_disk::Disk;
+use elf_load::{RAM_BASE, load_elf};
+use forest_model::Options;
+use rv_asm::elf_of;
+use std::alloc::Global;
+use std::test::Fail;
+use vm_cell::Vm;
+
+// Two children that exit with 40 and their number, whom the parent joins, to exit with the value of the
+// first.
+pub(crate) static TWO_CHILDREN: [u32; 25] = [
+    0x100022b7, 0x00200313, 0x0062a023, 0x0002a223, 0x00100313, 0x0062a423, 0x00c2a383, 0x0072a023,
+    0x00200313, 0x0062a423, 0x0102a403, 0x02041463, 0x00300313, 0x0072a023, 0x0062a423, 0x00100313,
+    0x0062ac23, 0x0202a303, 0x0062a023, 0x00500313, 0x0062a423, 0x02840313, 0x0062a023, 0x00500313,
+    0x0062a423,
+];
+
+// A machine of these words with so many pages, that makes at most 1,000,000 steps and may have two clones.
+#[tactic(auto, unfolding(forest_model::specs::Machine::boot))]
+pub(crate) fn booted(alloc: Global, words: &[u32], pages: u32) -> Result<Vm, Fail>
+    requires words { length words.now ≤ 64 }
+    requires least { 16 ≤ pages }
+    requires most { pages ≤ 1024 }
+    ensures no_ticket { IfOk result (λ vm. (port_of vm.machine).tickets ≡ []) }
+    ensures no_image { IfOk result (λ vm. vm.key ≡ None) }
+{
+    let image = load_elf(alloc, &elf_of(alloc, RAM_BASE, words)?, pages)?;
+    let disk = Disk::from_bytes(alloc, b"")?;
+    let options = Options {
+        limit: 1_000_000,
+        allot: 2,
+    };
+    Ok(Vm::boot(alloc, &image, disk, b"", options)?)
+}

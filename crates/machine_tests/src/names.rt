@@ -1,0 +1,127 @@
+//! What no clause says of names: that they are made where there is memory, and how some compare.
+
+use run_report::{Branch, Name};
+use std::alloc::{AllocError, Global};
+use std::cmp::Ordering;
+use std::process::Abort;
+use std::test::Fail;
+
+/// The name with these forks, each a ticket and a child's number.
+fn named(alloc: Global, forks: &[(u32, u32)]) -> Result<Name, AllocError> {
+    let mut name = Name::root(alloc)?;
+    for (ticket, child) in forks {
+        name = name.child(alloc, *ticket, *child)?;
+    }
+    Ok(name)
+}
+
+/// The forks of two names, of which the first comes first, and their texts.
+static IN_ORDER: [(&[(u32, u32)], &str, &[(u32, u32)], &str); 8] = [
+    (&[], "0", &[(1, 1)], "0.1.1"),
+    (&[(1, 1)], "0.1.1", &[(1, 2)], "0.1.2"),
+    (&[(1, 9)], "0.1.9", &[(2, 1)], "0.2.1"),
+    (&[(1, 11)], "0.1.11", &[(11, 1)], "0.11.1"),
+    // A name with fewer forks comes first, whatever they are.
+    (&[(9, 9)], "0.9.9", &[(1, 1), (1, 1)], "0.1.1.1.1"),
+    (&[(1, 1)], "0.1.1", &[(1, 1), (1, 1)], "0.1.1.1.1"),
+    // The last forks decide first.
+    (
+        &[(2, 1), (1, 1)],
+        "0.2.1.1.1",
+        &[(1, 1), (1, 2)],
+        "0.1.1.1.2",
+    ),
+    (
+        &[(1, 1), (1, 1)],
+        "0.1.1.1.1",
+        &[(2, 1), (1, 1)],
+        "0.2.1.1.1",
+    ),
+];
+
+fn are_in_order(rt: &impl Abort, first: &Name, second: &Name) {
+    assert_eq!(rt; first.cmp(second), Ordering::Less);
+    assert_eq!(rt; second.cmp(first), Ordering::Greater);
+    assert!(rt; first == first && first != second);
+}
+
+fn has_text(rt: &impl Abort, alloc: Global, name: &Name, text: &str) -> Result<(), Fail> {
+    assert_eq!(rt; name.text(alloc)?.as_str(), text);
+    Ok(())
+}
+
+#[test]
+fn names_are_in_order(rt: HostRuntime) -> Result<(), Fail> {
+    let alloc = rt.alloc();
+    for (first, first_text, second, second_text) in IN_ORDER.iter() {
+        let first = named(alloc, first)?;
+        let second = named(alloc, second)?;
+        are_in_order(&rt, &first, &second);
+        has_text(&rt, alloc, &first, first_text)?;
+        has_text(&rt, alloc, &second, second_text)?;
+    }
+    Ok(())
+}
+
+/// How many forks the longest name has that a family can have.
+const DEEPEST: usize = 4096;
+
+/// The name of so many forks, each the first child of ticket 1 but the one at a place, of ticket 2.
+fn deep(alloc: Global, place: usize) -> Result<Name, AllocError> {
+    let mut branches = Vec::with_capacity(alloc, DEEPEST)?;
+    for at in 0..DEEPEST {
+        let ticket = if at == place { 2 } else { 1 };
+        branches.push(Branch::new(ticket, 1))?;
+    }
+    Name::from_branches(alloc, branches)
+}
+
+/// The same with no such place, made child by child.
+fn chain(alloc: Global) -> Result<Name, AllocError> {
+    let mut name = Name::root(alloc)?;
+    for _ in 0..DEEPEST {
+        name = name.child(alloc, 1, 1)?;
+    }
+    Ok(name)
+}
+
+/// The first, a middle and the last place, and those beside the ends of the runs in which names are kept.
+static PLACES: [usize; 9] = [0, 1, 63, 64, 65, 2048, 4031, 4032, 4095];
+
+#[test]
+fn deep_names_differ_in_one_fork(rt: HostRuntime) -> Result<(), Fail> {
+    let alloc = rt.alloc();
+    let name = chain(alloc)?;
+    for place in PLACES.iter() {
+        let other = deep(alloc, *place)?;
+        are_in_order(&rt, &name, &other);
+    }
+    let same = deep(alloc, DEEPEST)?;
+    assert!(rt; same == name);
+    Ok(())
+}
+
+/// A parent's name, and its child's made anew.
+fn goes_back_and_on(rt: &impl Abort, alloc: Global, name: &Name) -> Result<(), Fail> {
+    let mut parent = name.copy()?;
+    assert_eq!(rt; parent.pop(), Some((1, 1)));
+    assert_eq!(rt; (parent.depth(), name.depth()), (DEEPEST - 1, DEEPEST));
+    are_in_order(rt, &parent, name);
+    let child = parent.child(alloc, 1, 1)?;
+    assert!(rt; &child == name);
+    let told = [
+        name.is_below_all(&parent),
+        name.is_below(&parent, 1),
+        name.is_below(&parent, 2),
+        parent.is_below_all(name),
+    ];
+    assert_eq!(rt; told, [true, true, false, false]);
+    Ok(())
+}
+
+#[test]
+fn deep_names_go_back_and_on(rt: HostRuntime) -> Result<(), Fail> {
+    let alloc = rt.alloc();
+    let name = chain(alloc)?;
+    goes_back_and_on(&rt, alloc, &name)
+}

@@ -1,0 +1,16 @@
+use Rattle.std.proofs.Common.{◌≡◌, ◌+◌, ◌<◌, None, ap, sym, ◌∙◌, subst, arith}
+use Rattle.vm_cell.specs.Keyed.{KeyedMachine, machine_of}
+use Rattle.vm_cell.specs.Steps.{IsRun}
+use Rattle.vm_cell.proofs.vm.Vm.make_plain.Goals as goal
+
+pub returns-clause-run : goal.returns-clause-run
+returns-clause-run c =
+    let hart = c.self.inside.hart in
+    let steps = c.self.inside.steps in
+    let limit = c.self.inside.limit in
+    let made = c.make_plain-made.result in
+    let live : c.self.inside.ending ≡ None = ap (λ (v : KeyedMachine). v.machine.ending) c.self.view_is ∙ c.requires in
+    let below : steps + made < limit = omega (arith, c.self.invariant.live live, c.make_plain-made.ensures.most) in
+    subst (λ v. IsRun v (machine_of c.make_plain-made.new.self (steps + made) limit c.self.inside.ending) made) c.self.view_is
+    (subst (λ e. IsRun (machine_of hart steps limit e) (machine_of c.make_plain-made.new.self (steps + made) limit e) made) (sym live)
+    (c.make_plain-made.ensures.made steps limit below))

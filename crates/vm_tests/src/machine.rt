@@ -1,0 +1,288 @@
+//! One machine: that calls succeed. What whole guests come to is tested by the command line.
+
+ghost use Rattle.std.specs.Prelude.{◌≡◌, ◌≤◌, ◌%◌, [], length, IfOk, None};
+ghost use Rattle.image_depot.specs.Key.{IsKeyOf};
+ghost use Rattle.forest_model.specs.Forest.{port_of};
+ghost use Rattle.vm_cell.specs.Keyed.{IsOfDepot};
+ghost use Rattle.vm_cell.specs.Woken.{AreOfImage};
+
+use crate::absent::bring;
+use cow_disk::Disk;
+use elf_load::{RAM_BASE, load_elf};
+use forest_model::{Ending, Options};
+use fork_port::Call;
+use image_depot::Depot;
+use rv_asm::elf_of;
+use std::alloc::Global;
+use std::process::Abort;
+use std::sync::Wait;
+use std::test::Fail;
+use vm_cell::{Brood, Stepped, Vm};
+use vm_descriptor::{DescError, Descriptor};
+
+// A machine of these words with so many pages, that makes at most 1,000,000 steps and may have two clones.
+fn booted(alloc: Global, words: &[u32], pages: u32) -> Result<Vm, Fail>
+    requires words { length words.now ≤ 64 }
+    requires least { 16 ≤ pages }
+    requires most { pages ≤ 1024 }
+    ensures no_ticket { IfOk result (λ vm. (port_of vm.machine).tickets ≡ []) }
+    ensures no_image { IfOk result (λ vm. vm.key ≡ None) }
+{
+    booted_at(alloc, RAM_BASE, words, pages)
+}
+
+// The same with the words from a base on.
+#[tactic(auto, unfolding(forest_model::specs::Machine::boot))]
+pub(crate) fn booted_at(alloc: Global, base: u32, words: &[u32], pages: u32) -> Result<Vm, Fail>
+    requires base { base % 4 ≡ 0 }
+    requires words { length words.now ≤ 64 }
+    requires least { 16 ≤ pages }
+    requires most { pages ≤ 1024 }
+    ensures no_ticket { IfOk result (λ vm. (port_of vm.machine).tickets ≡ []) }
+    ensures no_image { IfOk result (λ vm. vm.key ≡ None) }
+{
+    let image = load_elf(alloc, &elf_of(alloc, base, words)?, pages)?;
+    let disk = Disk::from_bytes(alloc, b"")?;
+    let options = Options {
+        limit: 1_000_000,
+        allot: 2,
+    };
+    Ok(Vm::boot(alloc, &image, disk, b"", options)?)
+}
+
+static EXIT_SEVEN: [u32; 5] = [0x100022b7, 0x00700313, 0x0062a023, 0x00500313, 0x0062a423];
+
+#[test]
+fn shows_words_and_registers(rt: HostRuntime) -> Result<(), Fail> {
+    let depot = Depot::new(rt.alloc())?;
+    let mut vm = booted(rt.alloc(), &EXIT_SEVEN, 64)?;
+    vm.run(2)?;
+    shows(&rt, &vm, &depot);
+    Ok(())
+}
+
+fn shows(rt: &impl Abort, vm: &Vm, depot: &Depot)
+    requires { IsOfDepot depot.now vm.now.key }
+{
+    let words = [
+        vm.peek(depot, 0x8000_0004),
+        vm.peek(depot, 0x8003_fffc),
+        vm.peek(depot, 0x8000_0002),
+        vm.peek(depot, 0x8004_0000),
+    ];
+    assert_eq!(rt; words, [Some(0x0070_0313), Some(0), None, None]);
+    // x5 is the fork port, and x6 the value to exit with
+    let mut registers = [0; 32];
+    registers[0] = 0x8000_0008;
+    registers[5] = 0x1000_2000;
+    registers[6] = 7;
+    assert_eq!(rt; vm.regs(), registers);
+}
+
+#[test]
+fn stops_and_goes_on(rt: HostRuntime) -> Result<(), Fail> {
+    let mut vm = booted(rt.alloc(), &EXIT_SEVEN, 64)?;
+    goes_on(&rt, &mut vm)
+}
+
+fn goes_on(rt: &impl Abort, vm: &mut Vm) -> Result<(), Fail> {
+    let ran = vm.run(3)?;
+    let stepped = [vm.step()?, vm.step()?, vm.step()?];
+    let last = vm.run(3)?;
+    assert_eq!(rt; (ran.steps, ran.why), (3, Stepped::Went));
+    let ended = Stepped::Ended(Ending::Exit(7));
+    assert_eq!(rt; stepped, [Stepped::Went, ended, ended]);
+    assert_eq!(rt; (last.steps, vm.steps()), (0, 5));
+    Ok(())
+}
+
+// Two children that exit with 40 and their number, whom the parent joins, to exit with the value of the
+// first.
+static TWO_CHILDREN: [u32; 25] = [
+    0x100022b7, 0x00200313, 0x0062a023, 0x0002a223, 0x00100313, 0x0062a423, 0x00c2a383, 0x0072a023,
+    0x00200313, 0x0062a423, 0x0102a403, 0x02041463, 0x00300313, 0x0072a023, 0x0062a423, 0x00100313,
+    0x0062ac23, 0x0202a303, 0x0062a023, 0x00500313, 0x0062a423, 0x02840313, 0x0062a023, 0x00500313,
+    0x0062a423,
+];
+
+// Makes the CLONE that a machine stands at, of a ticket for so many children.
+pub(crate) fn fork<R: Wait>(
+    rt: &R,
+    alloc: Global,
+    vm: &mut Vm,
+    children: u32,
+    depot: &Depot,
+) -> Result<Brood, Fail>
+    requires { IsOfDepot depot.now vm.old.key }
+    ensures here { IfOk result (λ brood. IsKeyOf depot.now brood.key) }
+    ensures seeds { IfOk result (λ brood. AreOfImage brood.key children brood.seed) }
+{
+    match vm.call() {
+        Some(Call::Clone(ticket)) if vm.granted(ticket) == children => {
+            Ok(vm.freeze_child(rt, alloc, depot)?)
+        }
+        _ => Err("no CLONE".into()),
+    }
+}
+
+// How the two children of a brood end.
+fn ends_of(alloc: Global, brood: &Brood, depot: &Depot) -> Result<Vec<Ending>, Fail>
+    requires here { IsKeyOf depot.now brood.now.key }
+    requires seeds { AreOfImage brood.now.key 2 brood.now.seed }
+{
+    let first = end_of(alloc, brood, 1, depot)?;
+    let second = end_of(alloc, brood, 2, depot)?;
+    Ok(vec![in alloc; first, second]?)
+}
+
+// How a child of a brood of two ends.
+fn end_of(alloc: Global, brood: &Brood, number: u32, depot: &Depot) -> Result<Ending, Fail>
+    requires here { IsKeyOf depot.now brood.now.key }
+    requires seeds { AreOfImage brood.now.key 2 brood.now.seed }
+    requires first { 1 ≤ number }
+    requires last { number ≤ 2 }
+{
+    let seed = brood.seed.through_bytes(alloc, number)?;
+    let mut child = Vm::wake(alloc, &seed, &brood.key, depot)?;
+    run_fetching(alloc, &mut child, depot)?;
+    Ok(child.ended().ok_or("a child lives")?)
+}
+
+// Runs a clone to its end, which the page of its code is enough for.
+fn run_fetching(alloc: Global, child: &mut Vm, depot: &Depot) -> Result<(), Fail>
+    requires { IsOfDepot depot.now child.old.key }
+{
+    bring(alloc, child, depot, 0)?;
+    child.run(1000)?;
+    Ok(())
+}
+
+// Makes the JOIN that a machine stands at.
+fn join(vm: &mut Vm, endings: &[Ending]) -> Result<(), Fail> {
+    match vm.call() {
+        Some(Call::Join(ticket)) if endings.len() == vm.granted(ticket) as usize => {
+            Ok(vm.joined(endings)?)
+        }
+        _ => Err("no such JOIN".into()),
+    }
+}
+
+#[test]
+fn a_parent_joins_its_children(rt: HostRuntime) -> Result<(), Fail> {
+    let depot = Depot::new(rt.alloc())?;
+    let mut vm = booted(rt.alloc(), &TWO_CHILDREN, 64)?;
+    joins_its_children(&rt, rt.alloc(), &mut vm, &depot)
+}
+
+fn joins_its_children<R: Abort + Wait>(
+    rt: &R,
+    alloc: Global,
+    vm: &mut Vm,
+    depot: &Depot,
+) -> Result<(), Fail>
+    requires { IsOfDepot depot.now vm.old.key }
+{
+    assert_eq!(rt; vm.run(1000)?.why, Stepped::Call(Call::Clone(1)));
+    let brood = fork(rt, alloc, vm, 2, depot)?;
+    let endings = ends_of(alloc, &brood, depot)?;
+    ends_with_the_first(rt, vm, &endings)
+}
+
+fn ends_with_the_first(rt: &impl Abort, vm: &mut Vm, endings: &[Ending]) -> Result<(), Fail> {
+    assert_eq!(rt; endings, [Ending::Exit(41), Ending::Exit(42)].as_slice());
+    assert_eq!(rt; vm.run(1000)?.why, Stepped::Call(Call::Join(1)));
+    join(vm, endings)?;
+    assert_eq!(rt; vm.run(1000)?.why, Stepped::Ended(Ending::Exit(41)));
+    assert_eq!(rt; vm.steps(), 21);
+    Ok(())
+}
+
+/// Bytes of the descriptor of the first child, by their places.
+static FIRST_CHILD: [(usize, &[u8]); 10] = [
+    (0, b"SFD1"),
+    (12, b"\x01\0\0\0\0\0\0\0\x28\0\0\x80"),
+    (40, b"\0\x20\0\x10\x02\0\0\0\x01\0\0\0"),
+    (148, b"\0\x18\0\0"),
+    (200, b"\xff\xff\xff\xff\xff\xff\xff\xff"),
+    (208, b"\x0a\0\0\0\0\0\0\0\x40\x42\x0f\0\0\0\0\0"),
+    (224, b"\0\0\0\0\0\0\0\0"),
+    (248, b"\x01\0\0\0"),
+    (260, b"\x02\0\0\0"),
+    (776, b"\xfe\xff"),
+];
+
+/// Changes of those bytes, each a place and a byte, and the reason for which they are refused.
+static REFUSED: [(usize, u8, u32); 5] = [
+    (0, 0, 2),
+    (8, 0x0f, 3),
+    (8, 0x11, 4),
+    (12, 0, 5),
+    (20, 0x29, 5),
+];
+
+// Whether bytes are refused so.
+fn is_refused(alloc: Global, bytes: &[u8], number: u32) -> bool {
+    match Descriptor::decode(alloc, bytes) {
+        Err(error) => error == DescError::Refused(number),
+        Ok(_) => false,
+    }
+}
+
+/// The bytes of the descriptor of the first child.
+fn first_child<R: Wait>(rt: &R, alloc: Global, vm: &mut Vm, depot: &Depot) -> Result<Vec<u8>, Fail>
+    requires { IsOfDepot depot.now vm.old.key }
+{
+    vm.run(1000)?;
+    let brood = fork(rt, alloc, vm, 2, depot)?;
+    Ok(brood.seed.encode(alloc)?)
+}
+
+#[test]
+fn a_descriptor_goes_through_its_bytes(rt: HostRuntime) -> Result<(), Fail> {
+    let depot = Depot::new(rt.alloc())?;
+    let mut vm = booted(rt.alloc(), &TWO_CHILDREN, 16)?;
+    let mut bytes = first_child(&rt, rt.alloc(), &mut vm, &depot)?;
+    goes_through(&rt, rt.alloc(), &bytes)?;
+    is_refused_where_changed(&rt, rt.alloc(), &bytes)?;
+    is_refused_where_longer(&rt, rt.alloc(), &mut bytes)
+}
+
+fn goes_through(rt: &impl Abort, alloc: Global, bytes: &[u8]) -> Result<(), Fail> {
+    assert_eq!(rt; bytes.len(), 778);
+    for (at, part) in FIRST_CHILD.iter() {
+        assert!(rt;
+            bytes.split_at(*at.min(&bytes.len())).1.starts_with(part),
+            "at {at}"
+        );
+    }
+    let again = Descriptor::decode(alloc, bytes)?.encode(alloc)?;
+    assert_eq!(rt; again.as_slice(), bytes);
+    Ok(())
+}
+
+fn is_refused_where_changed(rt: &impl Abort, alloc: Global, bytes: &[u8]) -> Result<(), Fail> {
+    assert!(rt; is_refused(alloc, bytes.split_at(775.min(bytes.len())).0, 1));
+    assert!(rt; is_refused(alloc, bytes.split_at(777.min(bytes.len())).0, 4));
+    for (at, byte, number) in REFUSED.iter() {
+        let mut changed = Vec::from_slice(alloc, bytes)?;
+        if let Some(old) = changed.get_mut(*at) {
+            *old = *byte;
+        }
+        assert!(rt; is_refused(alloc, &changed, *number), "at {at}");
+    }
+    Ok(())
+}
+
+fn is_refused_where_longer(
+    rt: &impl Abort,
+    alloc: Global,
+    bytes: &mut Vec<u8>,
+) -> Result<(), Fail> {
+    bytes.push(0xff)?;
+    assert!(rt; is_refused(alloc, bytes, 4));
+    if let Some(pages) = bytes.get_mut(8) {
+        *pages = 20;
+    }
+    assert!(rt; is_refused(alloc, bytes, 6));
+    Ok(())
+}

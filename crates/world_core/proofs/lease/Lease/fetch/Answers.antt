@@ -1,0 +1,26 @@
+use Rattle.std.proofs.Common.{sym, ap, ◌∙◌}
+use Rattle.vm_cell.specs.Keyed.{paged}
+use Rattle.world_core.specs.Lent.{vm_of}
+use Rattle.world_core.proofs.Fetching.{arrived-fewer, stalled-absent, stalled-has_image, stalled-in_image, whole-of}
+use Rattle.world_core.proofs.lease.Lease.fetch.Goals as goal
+
+pub unreachable-requires : goal.unreachable-requires
+unreachable-requires c =
+    let lease = c.args.self.now in
+    stalled-has_image lease.key (paged (vm_of lease)) c.args.page (sym c.in_default.ensures.value) c.in_default.ensures.absent c.requires.stalled
+    (whole-of c.deref.result.now lease (c.deref.ensures ∙ ap vm_of c.self.view_is) c.pages.ensures.whole)
+
+pub answer-requires-clause-there : goal.answer-requires-clause-there
+answer-requires-clause-there c =
+    let lease = c.args.self.now in
+    stalled-in_image lease.key c.in-Some.key.now (paged (vm_of lease)) c.args.page (sym c.in-Some.ensures.value) c.in-Some.ensures.absent c.requires.stalled
+    (whole-of c.deref.result.now lease (c.deref.ensures ∙ ap vm_of c.self.view_is) c.pages.ensures.whole)
+
+pub returns-clause-fewer : goal.returns-clause-fewer
+returns-clause-fewer c =
+    let lease = c.args.self.now in
+    arrived-fewer lease.key c.in-Some.key.now lease.pages c.arrive.new.self.pages c.args.page c.in_ok-parcel.parcel c.in_ok-arrive.field-0
+    (sym c.in-Some.ensures.value) c.in_ok-parcel.ensures
+    (stalled-absent (paged (vm_of lease)) c.args.page c.requires.stalled
+    (whole-of c.deref.result.now lease (c.deref.ensures ∙ ap vm_of c.self.view_is) c.pages.ensures.whole))
+    c.in_ok-arrive.ensures.arrives
