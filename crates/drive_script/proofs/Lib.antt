@@ -5,6 +5,8 @@ mod Names
 mod Scripts
 mod Steps
 mod OneMachine
+mod Arrivals
+mod Sending
 mod Lined
 mod Runs
 mod Limits
@@ -14,6 +16,7 @@ mod Reasons
 mod Turning
 mod Driving
 mod Stepping
+mod Bringing
 pub mod Started
 mod WrittenNames
 mod NameTexts

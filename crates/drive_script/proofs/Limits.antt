@@ -14,6 +14,7 @@ use Rattle.forest_model.specs.Execute.{action}
 use Rattle.forest_model.specs.Calls.{forked_by, forked, joined_by, after_join, killed_by, after_kill}
 use Rattle.forest_model.specs.Machine.{Machine}
 use Rattle.forest_model.specs.Forest.{machines}
+use Rattle.forest_model.specs.Paged.{Paged, paged_machines}
 use Rattle.drive_script.specs.Turned.{IsLiveOrLimit}
 
 at-limit : (b : Bool) → IsLiveOrLimit (cond b (Some Limit) None)
@@ -36,20 +37,21 @@ killed-limit : (a : Action) (m : Machine) → m.ending ≡ None → IsLiveOrLimi
 killed-limit (ask (Kill t) s) m lives = at-limit _
 killed-limit _ m lives = lives-on m.ending lives
 
-settled-limit : (t : Tree Machine) (m : Machine) (broods : Broods Machine) (log : Log Machine) → t ≡ settled machines m broods log
-    → IsLiveOrLimit m.ending → IsLiveOrLimit (machine t).ending
-settled-limit t m broods log is h =
-    subst (λ (n : Machine). IsLiveOrLimit n.ending) (sym (ap machine is ∙ machine-settled machines m broods log)) h
+settled-limit : (t : Tree Paged) (p : Paged) (broods : Broods Paged) (log : Log Paged) → t ≡ settled paged_machines p broods log
+    → IsLiveOrLimit p.machine.ending → IsLiveOrLimit (machine t).machine.ending
+settled-limit t p broods log is h =
+    subst (λ (q : Paged). IsLiveOrLimit q.machine.ending) (sym (ap machine is ∙ machine-settled paged_machines p broods log)) h
 
-pub call-limit : (m : Machine) (broods : Broods Machine) (log : Log Machine) (c : Call) → machines.ending m ≡ None → machines.call m ≡ Some c
-    → waits machines (node m broods log) ≡ false → IsLiveOrLimit (machine (step machines (node m broods log))).ending
-unfolding machines forked after_join after_kill
-call-limit m broods log (clone t) lives call ready =
-    settled-limit (step machines (node m broods log)) (forked m) (brood t (children machines m t) broods) log
-    (step-clone machines m broods log t lives call) (forked-limit (action m.state) m lives)
-call-limit m broods log (join t) lives call ready =
-    settled-limit (step machines (node m broods log)) (after_join m (endings machines (brood_of t broods))) (without t broods) (joined log t (brood_of t broods))
-    (step-join machines m broods log t lives call ready) (joined-limit (action m.state) m (endings machines (brood_of t broods)) lives)
-call-limit m broods log (kill t) lives call ready =
-    settled-limit (step machines (node m broods log)) (after_kill m) (without t broods) (killed log t (machines.grant m t).children)
-    (step-lives machines m broods log (Some (kill t)) lives call) (killed-limit (action m.state) m lives)
+pub call-limit : (p : Paged) (broods : Broods Paged) (log : Log Paged) (c : Call) → paged_machines.ending p ≡ None → paged_machines.call p ≡ Some c
+    → waits paged_machines (node p broods log) ≡ false → IsLiveOrLimit (machine (step paged_machines (node p broods log))).machine.ending
+unfolding paged_machines machines forked after_join after_kill
+call-limit p broods log (clone t) lives call ready =
+    settled-limit (step paged_machines (node p broods log)) (paged_machines.forked p) (brood t (children paged_machines p t) broods) log
+    (step-clone paged_machines p broods log t lives call) (forked-limit (action p.machine.state) p.machine lives)
+call-limit p broods log (join t) lives call ready =
+    settled-limit (step paged_machines (node p broods log)) (paged_machines.after_join p (endings paged_machines (brood_of t broods))) (without t broods)
+    (joined log t (brood_of t broods))
+    (step-join paged_machines p broods log t lives call ready) (joined-limit (action p.machine.state) p.machine (endings paged_machines (brood_of t broods)) lives)
+call-limit p broods log (kill t) lives call ready =
+    settled-limit (step paged_machines (node p broods log)) (paged_machines.after_kill p) (without t broods) (killed log t (paged_machines.grant p t).children)
+    (step-lives paged_machines p broods log (Some (kill t)) lives call) (killed-limit (action p.machine.state) p.machine lives)

@@ -1,15 +1,16 @@
--- Lines of scripts, as steps.
+-- Lines of scripts, by what they make of a forest.
 use Rattle.std.proofs.Common.{◌≡◌, ◌≢◌, ℕ, zero, suc, ◌+◌, ◌<◌, ◌≤◌, ◌||◌, not, cond, Bool, true, false, refl, sym, ap, ap₂, ◌∙◌, subst, arith, inl, inr, List, [], ◌∷◌, ◌++◌, length, replicate, Option, Some, None, IsSome, is_some, option_map}
 use Rattle.std.proofs.lemmas.Bool.{cases_lt, and_parts}
 use Rattle.std.proofs.lemmas.List.{length-replicate}
 use Rattle.std.specs.Prelude.{slice_get}
 use Rattle.forest_tree.specs.Operations.{join}
-use Rattle.forest_tree.specs.Tree.{Tree, node, Trees, no_tree, tree, Broods, Log, Branch, Path, machine, log_of, size, child_at, brood_of, without, joined, subtree, beyond, beyond_all, is_below}
+use Rattle.forest_tree.specs.Tree.{Tree, node, Trees, no_tree, tree, Broods, Log, Branch, Path, machine, log_of, size, child_at, brood_of, without, joined, subtree, beyond, beyond_all, goes_on, is_below}
 use Rattle.forest_tree.specs.Settle.{have_ended, endings, own_steps, waits, rests, step, settle, settle_all}
 use Rattle.forest_tree.specs.Sound.{IsSound}
 use Rattle.forest_tree.proofs.Calls.{step-join, ready-ended, endings-at}
 use Rattle.forest_tree.proofs.Settle.{length-endings, machine-settled}
 use Rattle.forest_tree.proofs.Places.{some-same, subtree-sound}
+use Rattle.forest_tree.proofs.Projected.{settle_all-map}
 use Rattle.forest_tree.proofs.Rests.{settle-here}
 use Rattle.forest_tree.proofs.Schedules.{settle_all-keeps, finish-settle_all}
 use Rattle.forest_tree.proofs.Names.{left-own, settle_all-at}
@@ -17,180 +18,261 @@ use Rattle.forest_history.specs.Places.{at_path, steps}
 use Rattle.forest_history.proofs.Changes.{at_path-here, settle_all-changes}
 use Rattle.forest_model.specs.Machine.{Machine}
 use Rattle.forest_model.specs.Forest.{finish, machines, port_of}
+use Rattle.forest_model.specs.Paged.{Paged, paged_machines, stalled_at}
 use Rattle.forest_model.proofs.Calls.{values-joined}
+use Rattle.forest_model.proofs.Paged.{paged-projects, paged-rules}
 use Rattle.forest_model.proofs.Rules.{machines-rules}
+use Rattle.run_report.proofs.Below.{beyond-append}
 use Rattle.drive_script.specs.Script as script
 use Rattle.drive_script.specs.declared.answer.Answer.TheVariants.{Ran}
 use Rattle.drive_script.specs.declared.answer.Why.TheVariants.{MayGoOn}
-use Rattle.drive_script.specs.Steps.{steps_made, after_steps, why, live_at, Drops}
-use Rattle.drive_script.specs.Told.{ran, ran_by, name_in, steps_of, after_line, after_script, steps_of_script, answer, answer_by}
-use Rattle.drive_script.proofs.Steps.{all-both, after-both, after-first, after-none, made-at-most, made-both, made-each, made-more, made-short, rests-why}
+use Rattle.drive_script.specs.Replies.{Siblings, Replies, are_same, reply_to, siblings_of, with_reply}
+use Rattle.drive_script.specs.Steps.{after_steps, stops, why, live_at, Drops}
+use Rattle.drive_script.specs.Told.{Driven, made_at, whole, asked, pushed, given, ran, ran_by, name_in, steps_of, after_line, after_script, steps_of_script, answer, answer_by}
+use Rattle.drive_script.proofs.Arrivals.{apart-arrival, below-arrival, logs-arrival, others-arrival, whole-arrival}
+use Rattle.drive_script.proofs.Sending.{are-same}
+use Rattle.drive_script.proofs.Steps.{all-both, after-both, after-first, after-none, made-at-most, made-both, made-each, made-more, made-short, stops-why}
 use Rattle.drive_script.proofs.OneMachine.{apart-stays, below-stays, gone-steps, logs-stay, others-stay}
 
--- how many steps a line makes
-abbrev pub count_of : script.Line → Tree Machine → ℕ
-count_of (script.step path most) t = steps_made machines most path t
-count_of (script.peek path address) t = 0
-count_of (script.regs path) t = 0
+no-step : (t : Tree Machine) → settle_all machines [] t ≡ t
+unfolding settle_all
+no-step t = refl
 
-as-steps : (line : script.Line) (t : Tree Machine) → after_line line t ≡ after_steps machines (count_of line t) (name_in line) t
-as-steps (script.step path most) t = refl
-as-steps (script.peek path address) t = refl
-as-steps (script.regs path) t = refl
-
-counted : (line : script.Line) (t : Tree Machine) → length (steps_of line t) ≡ count_of line t
-counted (script.step path most) t = length-replicate (steps_made machines most path t) path
-counted (script.peek path address) t = refl
-counted (script.regs path) t = refl
+-- a line makes its steps of the machines with every page
+pub line-steps : (line : script.Line) (s : Driven) → whole (after_line line s).tree ≡ settle_all machines (steps_of line s.tree) (whole s.tree)
+line-steps (script.step path most) s =
+    sym (settle_all-map paged_machines machines (λ (p : Paged). p.machine) paged-projects (replicate (made_at most path s.tree) path) s.tree)
+line-steps (script.ask path) s = sym (no-step (whole s.tree))
+line-steps (script.push path page) s = sym (no-step (whole s.tree))
+line-steps (script.give path place) s = whole-arrival path (given path place s) s.tree ∙ sym (no-step (whole s.tree))
+line-steps (script.peek path address) s = sym (no-step (whole s.tree))
+line-steps (script.regs path) s = sym (no-step (whole s.tree))
 
 -- ---- one machine
 
-pub others : (line : script.Line) (at : Path) (t : Tree Machine) → at ≢ name_in line → is_below (name_in line) at ≡ false
-    → option_map machine (subtree at (after_line line t)) ≡ option_map machine (subtree at t)
-others line at t other apart =
-    ap (λ u. option_map machine (subtree at u)) (as-steps line t) ∙ others-stay machines (count_of line t) (name_in line) at t other apart
+pub others : (line : script.Line) (at : Path) (s : Driven) → at ≢ name_in line → is_below (name_in line) at ≡ false
+    → option_map machine (subtree at (after_line line s).tree) ≡ option_map machine (subtree at s.tree)
+others (script.step path most) at s other apart = others-stay paged_machines (made_at most path s.tree) path at s.tree other apart
+others (script.ask path) at s other apart = refl
+others (script.push path page) at s other apart = refl
+others (script.give path place) at s other apart = others-arrival path (given path place s) at s.tree other apart
+others (script.peek path address) at s other apart = refl
+others (script.regs path) at s other apart = refl
 
-pub logs : (line : script.Line) (at : Path) (t : Tree Machine) → at ≢ name_in line → is_below (name_in line) at ≡ false
-    → option_map log_of (subtree at (after_line line t)) ≡ option_map log_of (subtree at t)
-logs line at t other apart =
-    ap (λ u. option_map log_of (subtree at u)) (as-steps line t) ∙ logs-stay machines (count_of line t) (name_in line) at t other apart
+pub logs : (line : script.Line) (at : Path) (s : Driven) → at ≢ name_in line → is_below (name_in line) at ≡ false
+    → option_map log_of (subtree at (after_line line s).tree) ≡ option_map log_of (subtree at s.tree)
+logs (script.step path most) at s other apart = logs-stay paged_machines (made_at most path s.tree) path at s.tree other apart
+logs (script.ask path) at s other apart = refl
+logs (script.push path page) at s other apart = refl
+logs (script.give path place) at s other apart = logs-arrival path (given path place s) at s.tree other apart
+logs (script.peek path address) at s other apart = refl
+logs (script.regs path) at s other apart = refl
 
-pub apart : (line : script.Line) (at : Path) (t : Tree Machine) → is_below (name_in line) at ≡ false → beyond at (name_in line) ≡ None
-    → subtree at (after_line line t) ≡ subtree at t
-apart line at t under off = ap (subtree at) (as-steps line t) ∙ apart-stays machines (count_of line t) (name_in line) at t under off
+pub apart : (line : script.Line) (at : Path) (s : Driven) → is_below (name_in line) at ≡ false → beyond at (name_in line) ≡ None
+    → subtree at (after_line line s).tree ≡ subtree at s.tree
+apart (script.step path most) at s under off = apart-stays paged_machines (made_at most path s.tree) path at s.tree under off
+apart (script.ask path) at s under off = refl
+apart (script.push path page) at s under off = refl
+apart (script.give path place) at s under off = apart-arrival path (given path place s) at s.tree under off
+apart (script.peek path address) at s under off = refl
+apart (script.regs path) at s under off = refl
 
-pub below : (line : script.Line) (at : Path) (t a b : Tree Machine) → IsSound machines t → is_below (name_in line) at ≡ true
-    → subtree at t ≡ Some a → subtree at (after_line line t) ≡ Some b → b ≡ a
-below line at t a b h under here there =
-    below-stays machines machines-rules (count_of line t) (name_in line) at t a b h under here (sym (ap (subtree at) (as-steps line t)) ∙ there)
+pub below : (line : script.Line) (at : Path) (s : Driven) (a b : Tree Paged) → IsSound paged_machines s.tree → is_below (name_in line) at ≡ true
+    → subtree at s.tree ≡ Some a → subtree at (after_line line s).tree ≡ Some b → b ≡ a
+below (script.step path most) at s a b h under here there = below-stays paged_machines paged-rules (made_at most path s.tree) path at s.tree a b h under here there
+below (script.ask path) at s a b h under here there = some-same b a (sym there ∙ here)
+below (script.push path page) at s a b h under here there = some-same b a (sym there ∙ here)
+below (script.give path place) at s a b h under here there =
+    some-same b a (sym there ∙ below-arrival path (given path place s) at s.tree under ∙ here)
+below (script.peek path address) at s a b h under here there = some-same b a (sym there ∙ here)
+below (script.regs path) at s a b h under here there = some-same b a (sym there ∙ here)
 
-pub gone : (line : script.Line) (b : Branch) (rest : Path) (t a : Tree Machine) → IsSound machines t
-    → subtree (name_in line ++ (b ∷ rest)) t ≡ Some a → subtree (name_in line ++ (b ∷ rest)) (after_line line t) ≡ None
-    → (n : ℕ) × (n < length (steps_of line t)) × (x : Tree Machine)
-    × (subtree (name_in line) (after_steps machines n (name_in line) t) ≡ Some x) × Drops machines b.ticket x
-gone line b rest t a h here there =
-    let is = gone-steps machines machines-rules (count_of line t) (name_in line) b rest t a h here (sym (ap (subtree (name_in line ++ (b ∷ rest))) (as-steps line t)) ∙ there) in
-    let as_many = counted line t in
+some-none : (c : Option (Tree Paged)) (a : Tree Paged) → c ≡ Some a → c ≡ None → ⊥
+some-none c a some none = cc
+
+-- a path that goes on is below
+goes-below : (path : Path) (b : Branch) (rest : Path) → is_below path (path ++ (b ∷ rest)) ≡ true
+goes-below path b rest = ap goes_on (beyond-append path (b ∷ rest))
+
+pub gone : (line : script.Line) (b : Branch) (rest : Path) (s : Driven) (a : Tree Paged) → IsSound paged_machines s.tree
+    → subtree (name_in line ++ (b ∷ rest)) s.tree ≡ Some a → subtree (name_in line ++ (b ∷ rest)) (after_line line s).tree ≡ None
+    → (n : ℕ) × (n < length (steps_of line s.tree)) × (x : Tree Paged)
+    × (subtree (name_in line) (after_steps paged_machines n (name_in line) s.tree) ≡ Some x) × Drops paged_machines b.ticket x
+gone (script.step path most) b rest s a h here there =
+    let is = gone-steps paged_machines paged-rules (made_at most path s.tree) path b rest s.tree a h here there in
+    let as_many = length-replicate (made_at most path s.tree) path in
     (is.0, omega (arith, is.1, as_many), is.2, is.3, is.4)
+gone (script.ask path) b rest s a h here there = absurd (some-none _ a here there)
+gone (script.push path page) b rest s a h here there = absurd (some-none _ a here there)
+gone (script.give path place) b rest s a h here there =
+    absurd (some-none _ a (below-arrival path (given path place s) (path ++ (b ∷ rest)) s.tree (goes-below path b rest) ∙ here) there)
+gone (script.peek path address) b rest s a h here there = absurd (some-none _ a here there)
+gone (script.regs path) b rest s a h here there = absurd (some-none _ a here there)
 
 -- ---- steps
 
-pub pieces : (first more : ℕ) (path : Path) (t : Tree Machine)
-    → after_line (script.step path (first + more)) t ≡ after_line (script.step path more) (after_line (script.step path first) t)
-pieces first more path t =
-    ap (λ n. after_steps machines n path t) (made-both machines first more path t)
-    ∙ after-both machines (steps_made machines first path t) (steps_made machines more path (after_line (script.step path first) t)) path t
+pub pieces : (first more : ℕ) (path : Path) (s : Driven)
+    → after_line (script.step path (first + more)) s ≡ after_line (script.step path more) (after_line (script.step path first) s)
+pieces first more path s =
+    let with_tree : Tree Paged → Driven = λ t. record s { tree = t } in
+    ap with_tree
+    (ap (λ n. after_steps paged_machines n path s.tree) (made-both paged_machines stalled_at first more path s.tree)
+    ∙ after-both paged_machines (made_at first path s.tree) (made_at more path (after_line (script.step path first) s).tree) path s.tree)
 
 -- the machine alone, step by step
-alone-at : (n : ℕ) (path : Path) (t a : Tree Machine) → subtree path t ≡ Some a → subtree path (after_steps machines n path t) ≡ Some (after_steps machines n [] a)
+alone-at : (n : ℕ) (path : Path) (t a : Tree Paged) → subtree path t ≡ Some a → subtree path (after_steps paged_machines n path t) ≡ Some (after_steps paged_machines n [] a)
 unfolding at_path
 alone-at n path t a here =
-    ap (subtree path) (settle_all-changes machines n path t) ∙ at_path-here (steps machines n) path t ∙ ap (option_map (steps machines n)) here
-    ∙ ap Some (sym (settle_all-changes machines n [] a))
+    ap (subtree path) (settle_all-changes paged_machines n path t) ∙ at_path-here (steps paged_machines n) path t ∙ ap (option_map (steps paged_machines n)) here
+    ∙ ap Some (sym (settle_all-changes paged_machines n [] a))
 
 one-own : (rest : Bool) (n : ℕ) → rest ≡ false → (cond (not rest) 1 0) + n ≡ suc n
 one-own true n h = cc h
 one-own false n h = omega arith
 
-own-all : (n : ℕ) (a : Tree Machine) → ((k : ℕ) → k < n → rests machines (Some (after_steps machines k [] a)) ≡ false) → own_steps machines (replicate n []) a ≡ n
+own-all : (n : ℕ) (a : Tree Paged) → ((k : ℕ) → k < n → rests paged_machines (Some (after_steps paged_machines k [] a)) ≡ false) → own_steps paged_machines (replicate n []) a ≡ n
 unfolding own_steps
 own-all zero a h = refl
 own-all (suc n) a h =
-    let first : rests machines (Some a) ≡ false = ap (λ x. rests machines (Some x)) (sym (after-none machines [] a)) ∙ h 0 (omega arith) in
-    let later = own-all n (settle machines [] a) (λ k below. ap (λ x. rests machines (Some x)) (sym (after-first machines k [] a)) ∙ h (suc k) (omega (arith, below))) in
-    ap (λ k. (cond (not (rests machines (Some a))) 1 0) + k) later ∙ one-own (rests machines (Some a)) n first
+    let first : rests paged_machines (Some a) ≡ false = ap (λ x. rests paged_machines (Some x)) (sym (after-none paged_machines [] a)) ∙ h 0 (omega arith) in
+    let later = own-all n (settle paged_machines [] a) (λ k below. ap (λ x. rests paged_machines (Some x)) (sym (after-first paged_machines k [] a)) ∙ h (suc k) (omega (arith, below))) in
+    ap (λ k. (cond (not (rests paged_machines (Some a))) 1 0) + k) later ∙ one-own (rests paged_machines (Some a)) n first
 
-pub counts : (most : ℕ) (path : Path) (t a b : Tree Machine) → IsSound machines t → subtree path t ≡ Some a
-    → subtree path (after_line (script.step path most) t) ≡ Some b → machines.left (machine a) ≡ steps_made machines most path t + machines.left (machine b)
-counts most path t a b h here there =
-    let made = steps_made machines most path t in
-    let is : b ≡ after_steps machines made [] a = some-same b (after_steps machines made [] a) (sym there ∙ alone-at made path t a here) in
-    let own = own-all made a (λ k below. ap (rests machines) (sym (alone-at k path t a here)) ∙ made-each machines most k path t below) in
-    left-own machines machines-rules (replicate made []) a (subtree-sound machines path t a h here)
-    ∙ ap₂ (λ n x. n + machines.left (machine x)) own (sym is)
+-- a machine that goes on does not rest
+goes-not : (rest stalled : Bool) → rest || stalled ≡ false → rest ≡ false
+goes-not true stalled h = absurd (cc)
+goes-not false stalled h = refl
 
-answered-by : (count made : ℕ) (c : Option (Tree Machine)) → ran_by count c ≡ Ran made MayGoOn
-    → (count ≡ made) × ((x : Tree Machine) × (c ≡ Some x) × (why machines x ≡ MayGoOn))
+goes-here : (x : Tree Paged) → stops paged_machines stalled_at (Some x) ≡ false → rests paged_machines (Some x) ≡ false
+goes-here x h = goes-not (rests paged_machines (Some x)) (is_some (stalled_at (machine x))) h
+
+pub counts : (most : ℕ) (path : Path) (s : Driven) (a b : Tree Paged) → IsSound paged_machines s.tree → subtree path s.tree ≡ Some a
+    → subtree path (after_line (script.step path most) s).tree ≡ Some b
+    → paged_machines.left (machine a) ≡ made_at most path s.tree + paged_machines.left (machine b)
+counts most path s a b h here there =
+    let made = made_at most path s.tree in
+    let is : b ≡ after_steps paged_machines made [] a = some-same b (after_steps paged_machines made [] a) (sym there ∙ alone-at made path s.tree a here) in
+    let own = own-all made a (λ k below. goes-here (after_steps paged_machines k [] a)
+    (ap (stops paged_machines stalled_at) (sym (alone-at k path s.tree a here)) ∙ made-each paged_machines stalled_at most k path s.tree below)) in
+    left-own paged_machines paged-rules (replicate made []) a (subtree-sound paged_machines path s.tree a h here)
+    ∙ ap₂ (λ n x. n + paged_machines.left (machine x)) own (sym is)
+
+answered-by : (count made : ℕ) (c : Option (Tree Paged)) → ran_by count c ≡ Ran made MayGoOn
+    → (count ≡ made) × ((x : Tree Paged) × (c ≡ Some x) × (why paged_machines stalled_at x ≡ MayGoOn))
 answered-by count made None h = cc h
 answered-by count made (Some x) h = (cc h, (x, refl, cc h))
 
-rests-ended : (x : Tree Machine) → rests machines (Some x) ≡ true → why machines x ≡ MayGoOn → ⊥
-rests-ended (node m broods log) h k = rests-why machines (machines.ending m) (machines.call m) broods h k
+not-ok : (x : Tree Paged) → stops paged_machines stalled_at (Some x) ≡ true → why paged_machines stalled_at x ≡ MayGoOn → ⊥
+not-ok (node m broods log) h k = stops-why paged_machines (paged_machines.ending m) (stalled_at m) (paged_machines.call m) broods h k
 
-ok-by : (most made : ℕ) (path : Path) (t : Tree Machine) → ran path (steps_made machines most path t) t ≡ Ran made MayGoOn → made ≡ most
+ok-by : (most made : ℕ) (path : Path) (t : Tree Paged) → ran path (made_at most path t) t ≡ Ran made MayGoOn → made ≡ most
 ok-by most made path t h =
-    let is = answered-by (steps_made machines most path t) made (subtree path (after_line (script.step path most) t)) h in
-    let at_most = made-at-most machines most path t in
-    all (steps_made machines most path t) is.0 at_most
-    (λ fewer. rests-ended is.1.0 (ap (rests machines) (sym is.1.1) ∙ made-short machines most path t fewer) is.1.2)
+    let is = answered-by (made_at most path t) made (subtree path (after_steps paged_machines (made_at most path t) path t)) h in
+    let at_most = made-at-most paged_machines stalled_at most path t in
+    all (made_at most path t) is.0 at_most
+    (λ fewer. not-ok is.1.0 (ap (stops paged_machines stalled_at) (sym is.1.1) ∙ made-short paged_machines stalled_at most path t fewer) is.1.2)
   where
     all : (n : ℕ) → n ≡ made → n ≤ most → (n < most → ⊥) → made ≡ most
     all n e within not_fewer = elim (cases_lt n most) [ inl fewer ↦ absurd (not_fewer fewer) | inr past ↦ omega arith ]
 
-pub ok : (most made : ℕ) (path : Path) (t : Tree Machine) → answer (script.step path most) t ≡ Ran made MayGoOn → made ≡ most
-ok most made path t h = by (live_at machines path t) h
+pub ok : (most made : ℕ) (path : Path) (s : Driven) → answer (script.step path most) s ≡ Ran made MayGoOn → made ≡ most
+ok most made path s h = by (live_at paged_machines path s.tree) h
   where
-    by : (c : Option (Tree Machine)) → answer_by (script.step path most) t c ≡ Ran made MayGoOn → made ≡ most
+    by : (c : Option (Tree Paged)) → answer_by (script.step path most) s c ≡ Ran made MayGoOn → made ≡ most
     by None k = cc k
-    by (Some a) k = ok-by most made path t k
+    by (Some a) k = ok-by most made path s.tree k
 
 -- ---- joins
 
-child-ended : (trees : Trees Machine) → have_ended machines trees ≡ true → (i : ℕ) (child : Tree Machine) → child_at (suc i) trees ≡ Some child
-    → IsSome (machines.ending (machine child))
+child-ended : (trees : Trees Paged) → have_ended paged_machines trees ≡ true → (i : ℕ) (child : Tree Paged) → child_at (suc i) trees ≡ Some child
+    → IsSome (paged_machines.ending (machine child))
 unfolding have_ended child_at
 child-ended no_tree h i child e = cc e
-child-ended (tree t rest) h zero child e = subst (λ x. IsSome (machines.ending (machine x))) (some-same t child e) (and_parts (is_some (machines.ending (machine t))) (have_ended machines rest) h).0
-child-ended (tree t rest) h (suc i) child e = child-ended rest (and_parts (is_some (machines.ending (machine t))) (have_ended machines rest) h).1 i child e
+child-ended (tree t rest) h zero child e =
+    subst (λ x. IsSome (paged_machines.ending (machine x))) (some-same t child e) (and_parts (is_some (paged_machines.ending (machine t))) (have_ended paged_machines rest) h).0
+child-ended (tree t rest) h (suc i) child e = child-ended rest (and_parts (is_some (paged_machines.ending (machine t))) (have_ended paged_machines rest) h).1 i child e
 
-moves : (t : Tree Machine) (path : Path) (a : Tree Machine) → subtree path t ≡ Some a → rests machines (Some a) ≡ false
-    → after_line (script.step path 1) t ≡ settle machines path t
+moves : (t : Tree Paged) (path : Path) (a : Tree Paged) → subtree path t ≡ Some a → stops paged_machines stalled_at (Some a) ≡ false
+    → after_steps paged_machines (made_at 1 path t) path t ≡ settle paged_machines path t
 moves t path a here goes =
-    let one = made-more machines 0 path t (ap (rests machines) here ∙ goes) in
-    let none_more = made-at-most machines 0 path (settle machines path t) in
-    let made : steps_made machines 1 path t ≡ 1 = omega (arith, one, none_more) in
-    ap (λ n. after_steps machines n path t) made ∙ after-first machines 0 path t ∙ after-none machines path (settle machines path t)
+    let one = made-more paged_machines stalled_at 0 path t (ap (stops paged_machines stalled_at) here ∙ goes) in
+    let none_more = made-at-most paged_machines stalled_at 0 path (settle paged_machines path t) in
+    let made : made_at 1 path t ≡ 1 = omega (arith, one, none_more) in
+    ap (λ n. after_steps paged_machines n path t) made ∙ after-first paged_machines 0 path t ∙ after-none paged_machines path (settle paged_machines path t)
 
-pub join-made : (path : Path) (t : Tree Machine) (m : Machine) (broods : Broods Machine) (log : Log Machine) (ticket : ℕ)
-    → subtree path t ≡ Some (node m broods log) → m.ending ≡ None → machines.call m ≡ Some (join ticket) → waits machines (node m broods log) ≡ false
-    → (x : Tree Machine) × (subtree path (after_line (script.step path 1) t) ≡ Some x) × (length (port_of (machine x)).joined ≡ size (brood_of ticket broods))
-    × ((i : ℕ) (child : Tree Machine) → child_at (suc i) (brood_of ticket broods) ≡ Some child
-    → (slice_get (port_of (machine x)).joined i ≡ (machine child).ending) × IsSome (machine child).ending)
-unfolding machines
-join-made path t m broods log ticket here lives call ready =
+pub join-made : (path : Path) (s : Driven) (p : Paged) (broods : Broods Paged) (log : Log Paged) (ticket : ℕ)
+    → subtree path s.tree ≡ Some (node p broods log) → p.machine.ending ≡ None → stalled_at p ≡ None → machines.call p.machine ≡ Some (join ticket)
+    → waits paged_machines (node p broods log) ≡ false
+    → (x : Tree Paged) × (subtree path (after_line (script.step path 1) s).tree ≡ Some x) × (length (port_of (machine x).machine).joined ≡ size (brood_of ticket broods))
+    × ((i : ℕ) (child : Tree Paged) → child_at (suc i) (brood_of ticket broods) ≡ Some child
+    → (slice_get (port_of (machine x).machine).joined i ≡ (machine child).machine.ending) × IsSome (machine child).machine.ending)
+unfolding paged_machines machines
+join-made path s p broods log ticket there lives here call ready =
     let trees = brood_of ticket broods in
-    let all = ready-ended machines m broods log ticket call ready in
-    let goes : rests machines (Some (node m broods log)) ≡ false = ap (λ e. is_some e || waits machines (node m broods log)) lives ∙ ready in
-    let now = ap machine (step-join machines m broods log ticket lives call ready)
-    ∙ machine-settled machines (machines.after_join m (endings machines trees)) (without ticket broods) (joined log ticket trees) in
-    let values = ap (λ n. (port_of n).joined) now ∙ values-joined m ticket (endings machines trees) call in (
-      step machines (node m broods log),
-      ap (subtree path) (moves t path (node m broods log) here goes) ∙ settle-here machines machines-rules path t (node m broods log) here,
-      ap length values ∙ length-endings machines trees all,
-      λ i child e. (ap (λ es. slice_get es i) values ∙ endings-at machines trees all i child e, child-ended trees all i child e),
+    let all = ready-ended paged_machines p broods log ticket call ready in
+    let goes : stops paged_machines stalled_at (Some (node p broods log)) ≡ false =
+    ap₂ (λ e page. (is_some e || waits paged_machines (node p broods log)) || is_some page) lives here ∙ ap (λ b. b || false) ready in
+    let now = ap machine (step-join paged_machines p broods log ticket lives call ready)
+    ∙ machine-settled paged_machines (paged_machines.after_join p (endings paged_machines trees)) (without ticket broods) (joined log ticket trees) in
+    let values = ap (λ (q : Paged). (port_of q.machine).joined) now ∙ values-joined p.machine ticket (endings paged_machines trees) call in (
+      step paged_machines (node p broods log),
+      ap (subtree path) (moves s.tree path (node p broods log) there goes) ∙ settle-here paged_machines paged-rules path s.tree (node p broods log) there,
+      ap length values ∙ length-endings paged_machines trees all,
+      λ i child e. (ap (λ es. slice_get es i) values ∙ endings-at paged_machines trees all i child e, child-ended trees all i child e),
     )
 
 -- ---- scripts
 
-pub script-steps : (lines : List script.Line) (t : Tree Machine) → after_script lines t ≡ settle_all machines (steps_of_script lines t) t
+pub script-steps : (lines : List script.Line) (s : Driven)
+    → whole (after_script lines s).tree ≡ settle_all machines (steps_of_script lines s) (whole s.tree)
 unfolding after_script steps_of_script settle_all
-script-steps [] t = refl
-script-steps (line ∷ rest) t = script-steps rest (after_line line t) ∙ sym (all-both machines (steps_of line t) (steps_of_script rest (after_line line t)) t)
+script-steps [] s = refl
+script-steps (line ∷ rest) s =
+    let next = after_line line s in
+    script-steps rest next ∙ ap (settle_all machines (steps_of_script rest next)) (line-steps line s)
+    ∙ sym (all-both machines (steps_of line s.tree) (steps_of_script rest next) (whole s.tree))
 
-pub script-sound : (lines : List script.Line) (t : Tree Machine) → IsSound machines t → IsSound machines (after_script lines t)
-script-sound lines t h = subst (IsSound machines) (sym (script-steps lines t)) (settle_all-keeps machines machines-rules (steps_of_script lines t) t h).sound
+pub script-sound : (lines : List script.Line) (s : Driven) → IsSound machines (whole s.tree) → IsSound machines (whole (after_script lines s).tree)
+script-sound lines s h = subst (IsSound machines) (sym (script-steps lines s)) (settle_all-keeps machines machines-rules (steps_of_script lines s) (whole s.tree) h).sound
 
-pub script-end : (lines : List script.Line) (t : Tree Machine) → IsSound machines t → finish (after_script lines t) ≡ finish t
-script-end lines t h = ap finish (script-steps lines t) ∙ finish-settle_all machines machines-rules (steps_of_script lines t) t h
+pub script-end : (lines : List script.Line) (s : Driven) → IsSound machines (whole s.tree) → finish (whole (after_script lines s).tree) ≡ finish (whole s.tree)
+script-end lines s h = ap finish (script-steps lines s) ∙ finish-settle_all machines machines-rules (steps_of_script lines s) (whole s.tree) h
 
-pub script-alone : (lines : List script.Line) (at : Path) (t a b : Tree Machine) → IsSound machines t
-    → subtree at t ≡ Some a → subtree at (after_script lines t) ≡ Some b → b ≡ settle_all machines (beyond_all at (steps_of_script lines t)) a
-script-alone lines at t a b h here there =
-    settle_all-at machines machines-rules at (steps_of_script lines t) t a b h here (sym (ap (subtree at) (script-steps lines t)) ∙ there)
+pub script-alone : (lines : List script.Line) (at : Path) (s : Driven) (a b : Tree Machine) → IsSound machines (whole s.tree)
+    → subtree at (whole s.tree) ≡ Some a → subtree at (whole (after_script lines s).tree) ≡ Some b → b ≡ settle_all machines (beyond_all at (steps_of_script lines s)) a
+script-alone lines at s a b h here there =
+    settle_all-at machines machines-rules at (steps_of_script lines s) (whole s.tree) a b h here (sym (ap (subtree at) (script-steps lines s)) ∙ there)
 
-pub script-counts : (lines : List script.Line) (at : Path) (t a b : Tree Machine) → IsSound machines t
-    → subtree at t ≡ Some a → subtree at (after_script lines t) ≡ Some b
-    → machines.left (machine a) ≡ own_steps machines (beyond_all at (steps_of_script lines t)) a + machines.left (machine b)
-script-counts lines at t a b h here there =
-    left-own machines machines-rules (beyond_all at (steps_of_script lines t)) a (subtree-sound machines at t a h here)
-    ∙ ap (λ x. own_steps machines (beyond_all at (steps_of_script lines t)) a + machines.left (machine x)) (sym (script-alone lines at t a b h here there))
+pub script-counts : (lines : List script.Line) (at : Path) (s : Driven) (a b : Tree Machine) → IsSound machines (whole s.tree)
+    → subtree at (whole s.tree) ≡ Some a → subtree at (whole (after_script lines s).tree) ≡ Some b
+    → machines.left (machine a) ≡ own_steps machines (beyond_all at (steps_of_script lines s)) a + machines.left (machine b)
+script-counts lines at s a b h here there =
+    left-own machines machines-rules (beyond_all at (steps_of_script lines s)) a (subtree-sound machines at (whole s.tree) a h here)
+    ∙ ap (λ x. own_steps machines (beyond_all at (steps_of_script lines s)) a + machines.left (machine x)) (sym (script-alone lines at s a b h here there))
+
+-- ---- replies
+
+-- only the list of the siblings that a reply is sent to changes
+other-list : (reply : Option (Siblings × ℕ)) (to : Siblings) (sent : Replies) → ((to-them : Siblings) (page : ℕ) → reply ≡ Some (to-them, page) → to-them ≢ to)
+    → with_reply reply sent to ≡ sent to
+other-list None to sent apart = refl
+other-list (Some reply) to sent apart = by (are_same reply.0 to) refl
+  where
+    by : (same : Bool) → are_same reply.0 to ≡ same → cond same (sent to ++ reply.1 ∷ []) (sent to) ≡ sent to
+    by true e = absurd (apart reply.0 reply.1 refl (are-same reply.0 to e))
+    by false e = refl
+
+reply-siblings : (of : Option Siblings) (page : Option ℕ) (to : Siblings) (n : ℕ) → reply_to of page ≡ Some (to, n) → of ≡ Some to
+reply-siblings None page to n h = absurd (cc)
+reply-siblings (Some s) None to n h = absurd (cc)
+reply-siblings (Some s) (Some p) to n h = ap (option_map (λ (x : Siblings × ℕ). x.0)) h
+
+pub lists : (line : script.Line) (to : Siblings) (s : Driven) → siblings_of (name_in line) ≢ Some to → (after_line line s).sent to ≡ s.sent to
+lists (script.step path most) to s apart = refl
+lists (script.ask path) to s apart =
+    other-list (asked path s) to s.sent (λ them page is same. apart (reply-siblings (siblings_of path) _ them page is ∙ ap Some same))
+lists (script.push path page) to s apart =
+    other-list (pushed path page s) to s.sent (λ them n is same. apart (reply-siblings (siblings_of path) _ them n is ∙ ap Some same))
+lists (script.give path place) to s apart = refl
+lists (script.peek path address) to s apart = refl
+lists (script.regs path) to s apart = refl

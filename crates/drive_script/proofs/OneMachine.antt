@@ -63,19 +63,19 @@ beyond-all-none at path (suc n) h = ap (λ first. with_path first (beyond_all at
 -- ---- machines that are not below
 
 module _ {M : Type 0} where
-  apart-by : (f : Tree M → Tree M) (rest : Option Path) (c : Option (Tree M)) → rest ≡ None → option_map (at_beyond f rest) c ≡ c
+  pub apart-by : (f : Tree M → Tree M) (rest : Option Path) (c : Option (Tree M)) → rest ≡ None → option_map (at_beyond f rest) c ≡ c
   apart-by f None None h = refl
   apart-by f None (Some t) h = refl
   apart-by f (Some rest) c h = cc h
 
-  machine-by : (f : Tree M → Tree M) (rest : Option Path) (c : Option (Tree M)) → rest ≢ Some [] → option_map machine (option_map (at_beyond f rest) c) ≡ option_map machine c
+  pub machine-by : (f : Tree M → Tree M) (rest : Option Path) (c : Option (Tree M)) → rest ≢ Some [] → option_map machine (option_map (at_beyond f rest) c) ≡ option_map machine c
   machine-by f None None h = refl
   machine-by f None (Some t) h = refl
   machine-by f (Some []) c h = absurd (h refl)
   machine-by f (Some (b ∷ rest)) None h = refl
   machine-by f (Some (b ∷ rest)) (Some t) h = ap Some (at_path-machine f b rest t)
 
-  log-by : (f : Tree M → Tree M) (rest : Option Path) (c : Option (Tree M)) → rest ≢ Some [] → option_map log_of (option_map (at_beyond f rest) c) ≡ option_map log_of c
+  pub log-by : (f : Tree M → Tree M) (rest : Option Path) (c : Option (Tree M)) → rest ≢ Some [] → option_map log_of (option_map (at_beyond f rest) c) ≡ option_map log_of c
   log-by f None None h = refl
   log-by f None (Some t) h = refl
   log-by f (Some []) c h = absurd (h refl)

@@ -4,7 +4,7 @@ use Rattle.std.specs.declared.alloc.AllocError.{AllocError}
 use Rattle.image_depot.specs.Key.{Shelves}
 use Rattle.forest_tree.specs.Tree.{Path}
 use Rattle.forest_history.specs.Rows.{How, waited, took, spent, dropped, kept, does}
-use Rattle.forest_model.specs.Forest.{machines}
+use Rattle.forest_model.specs.Paged.{paged_machines}
 use Rattle.world_core.specs.declared.world.World.{World}
 use Rattle.world_core.specs.declared.world.Placed.{Placed}
 use Rattle.world_core.specs.declared.world.Placed.TheVariants.{Done, Parked, Dropped, Memory}
@@ -20,13 +20,13 @@ module _ (depot : Shelves) (w new : World) (f : Forest) (h : StandsFor depot w f
   pub named-reason : (name : Path) (r : Result (Option Lent) AllocError) → TakesNamed depot f name r new → reason_of new ≡ reason_of w
   unfolding does
   named-reason name (Ok None) taken = same-reason f taken.1 refl
-  named-reason name (Ok (Some lease)) taken = same-reason (does machines (took name) f) taken.4 refl
+  named-reason name (Ok (Some lease)) taken = same-reason (does paged_machines (took name) f) taken.4 refl
   named-reason name (Err e) taken = same-reason f taken refl
 
   -- as one comes back
   pub answered-reason : (how : How) (lease : Lent) (placed : Placed) → Answers depot f how lease placed new → reason_of new ≡ reason_of w
   unfolding does
-  answered-reason how lease Done goes = same-reason (does machines (spent how lease.name lease.ran) f) goes.after refl
-  answered-reason how lease Parked goes = same-reason (does machines (spent waited lease.name lease.ran) f) goes.1.after refl
-  answered-reason how lease Dropped goes = same-reason (does machines (dropped lease.name) f) goes.after refl
-  answered-reason how lease (Memory back) goes = same-reason (does machines (kept lease.name lease.ran) f) goes.2.after refl
+  answered-reason how lease Done goes = same-reason (does paged_machines (spent how lease.name lease.ran) f) goes.after refl
+  answered-reason how lease Parked goes = same-reason (does paged_machines (spent waited lease.name lease.ran) f) goes.1.after refl
+  answered-reason how lease Dropped goes = same-reason (does paged_machines (dropped lease.name) f) goes.after refl
+  answered-reason how lease (Memory back) goes = same-reason (does paged_machines (kept lease.name lease.ran) f) goes.2.after refl

@@ -1,5 +1,5 @@
 -- What rows of a world make of the tree of whole machines, and how many steps of a machine they are.
-use Rattle.std.proofs.Common.{◌≡◌, ℕ, zero, suc, ◌+◌, ◌&&◌, ◌||◌, not, eqb, Bool, true, false, cond, refl, sym, ap, ap₂, ◌∙◌, arith, [], replicate, Option, Some, None, option_map, is_some}
+use Rattle.std.proofs.Common.{◌≡◌, ℕ, zero, suc, ◌+◌, ◌<◌, ◌&&◌, ◌||◌, not, eqb, Bool, true, false, cond, refl, sym, ap, ap₂, ◌∙◌, arith, [], replicate, Option, Some, None, option_map, is_some}
 use Rattle.std.proofs.lemmas.Bool.{and_parts, not-true}
 use Rattle.forest_tree.specs.Operations.{Call, clone, join, kill, Operations}
 use Rattle.forest_tree.specs.Tree.{Tree, node, Trees, no_tree, tree, Broods, no_brood, brood, Log, Path, machine, brood_of, subtree}
@@ -16,8 +16,8 @@ use Rattle.forest_history.proofs.Ends.{at_path-map}
 use Rattle.forest_history.proofs.Spots.{projects}
 use Rattle.fork_port.specs.declared.ending.Ending.{Ending}
 use Rattle.drive_script.specs.declared.answer.Why.{Why}
-use Rattle.drive_script.specs.declared.answer.Why.TheVariants.{Ended, Waits, MayGoOn}
-use Rattle.drive_script.specs.Steps.{steps_made, after_steps, why_at, why_by, why}
+use Rattle.drive_script.specs.declared.answer.Why.TheVariants.{Ended, Stalls, Waits, MayGoOn}
+use Rattle.drive_script.specs.Steps.{steps_made, stops, after_steps, why_at, why_by, why}
 use Rattle.drive_script.proofs.Steps.{after-both, after-first, after-none, made-both, made-more, made-zero}
 
 -- how many steps a row adds to those that the machine made by itself
@@ -105,14 +105,6 @@ module _ {M E : Type 0} (o : Operations M E) where
         later = then.1;
       }
 
-  -- it makes all of them
-  pub run-made : (k : ℕ) (name : Path) (t a : Tree M) → subtree name t ≡ Some a → may_run o k (machine a) ≡ true → steps_made o k name t ≡ k
-  run-made zero name t a here own = made-zero o name t
-  run-made (suc k) name t a here own =
-      let one = own-step k a own in
-      made-more o k name t (ap (rests o) here ∙ one.goes)
-      ∙ ap suc (run-made k name (settle o name t) (step o a) (step-at name t a here) (ap (may_run o k) one.is ∙ one.later))
-
   -- and stands then where they lead
   pub run-machine : (k : ℕ) (a : Tree M) → may_run o k (machine a) ≡ true → machine (steps o k a) ≡ advanced o k (machine a)
   unfolding steps advanced
@@ -120,15 +112,6 @@ module _ {M E : Type 0} (o : Operations M E) where
   run-machine (suc k) a own =
       let one = own-step k a own in
       run-machine k (step o a) (ap (may_run o k) one.is ∙ one.later) ∙ ap (advanced o k) one.is
-
-  -- one more is made where it does not rest
-  pub more-made : (k : ℕ) (name : Path) (t : Tree M) → steps_made o k name t ≡ k → rests o (subtree name (after_steps o k name t)) ≡ false
-      → steps_made o (k + 1) name t ≡ k + 1
-  more-made k name t made goes =
-      let is : after_steps o (steps_made o k name t) name t ≡ after_steps o k name t = ap (λ n. after_steps o n name t) made in
-      made-both o k 1 name t
-      ∙ ap₂ (λ n u. n + steps_made o 1 name u) made is
-      ∙ ap (λ n. k + n) (made-more o 0 name (after_steps o k name t) goes ∙ ap suc (made-zero o name (settle o name (after_steps o k name t))))
 
   -- ---- whether a machine waits
 
@@ -191,31 +174,61 @@ module _ {M E : Type 0} (o : Operations M E) where
       by killed one may = kill-goes (o.ending n) (o.call n) broods may
       by waited one may = absurd (omega (arith, one))
 
-module _ {M : Type 0} (o : Operations M Ending) where
+module _ {M E : Type 0} (o : Operations M E) (stall : M → Option ℕ) where
+  -- a machine that does not rest and waits for no page goes on
+  pub goes-on : (a : Tree M) → rests o (Some a) ≡ false → stall (machine a) ≡ None → stops o stall (Some a) ≡ false
+  goes-on a goes here = ap₂ (λ rest page. rest || is_some page) goes here
+
+  -- its own steps are made, where it waits for a page at none of them
+  pub run-made : (k : ℕ) (name : Path) (t a : Tree M) → subtree name t ≡ Some a → may_run o k (machine a) ≡ true
+      → ((j : ℕ) → j < k → stall (advanced o j (machine a)) ≡ None) → steps_made o stall k name t ≡ k
+  unfolding advanced
+  run-made zero name t a there own here = made-zero o stall name t
+  run-made (suc k) name t a there own here =
+      let one = own-step o k a own in
+      made-more o stall k name t (ap (stops o stall) there ∙ goes-on a one.goes (here 0 (omega arith)))
+      ∙ ap suc (run-made k name (settle o name t) (step o a) (step-at o name t a there) (ap (may_run o k) one.is ∙ one.later)
+      (λ j below. ap (λ m. stall (advanced o j m)) one.is ∙ here (suc j) (omega (arith, below))))
+
+  -- one more is made where it does not stop
+  pub more-made : (k : ℕ) (name : Path) (t : Tree M) → steps_made o stall k name t ≡ k → stops o stall (subtree name (after_steps o k name t)) ≡ false
+      → steps_made o stall (k + 1) name t ≡ k + 1
+  more-made k name t made goes =
+      let is : after_steps o (steps_made o stall k name t) name t ≡ after_steps o k name t = ap (λ n. after_steps o n name t) made in
+      made-both o stall k 1 name t
+      ∙ ap₂ (λ n u. n + steps_made o stall 1 name u) made is
+      ∙ ap (λ n. k + n) (made-more o stall 0 name (after_steps o k name t) goes ∙ ap suc (made-zero o stall name (settle o name (after_steps o k name t))))
+
+module _ {M : Type 0} (o : Operations M Ending) (stall : M → Option ℕ) where
   -- ---- why a machine stops
 
   -- a machine that ends drops its children, and stops for its end with them or without
   why-settled-by : (e : Option Ending) (m : M) (broods : Broods M) (log : Log M) → o.ending m ≡ e
-      → why o (settled_by o e m broods log) ≡ why_by o e (o.call m) broods
-  why-settled-by None m broods log is = ap (λ e. why_by o e (o.call m) broods) is
-  why-settled-by (Some ending) m broods log is = ap (λ e. why_by o e (o.call m) no_brood) is
+      → why o stall (settled_by o e m broods log) ≡ why_by o e (stall m) (o.call m) broods
+  why-settled-by None m broods log is = ap (λ e. why_by o e (stall m) (o.call m) broods) is
+  why-settled-by (Some ending) m broods log is = ap (λ e. why_by o e (stall m) (o.call m) no_brood) is
 
-  pub why-settled : (m : M) (broods : Broods M) (log : Log M) → why o (settled o m broods log) ≡ why o (node m broods log)
+  pub why-settled : (m : M) (broods : Broods M) (log : Log M) → why o stall (settled o m broods log) ≡ why o stall (node m broods log)
   why-settled m broods log = why-settled-by (o.ending m) m broods log refl
 
-  pub why-ended : (t : Tree M) (ending : Ending) → o.ending (machine t) ≡ Some ending → why o t ≡ Ended ending
-  why-ended (node m broods log) ending over = ap (λ e. why_by o e (o.call m) broods) over
+  pub why-ended : (t : Tree M) (ending : Ending) → o.ending (machine t) ≡ Some ending → why o stall t ≡ Ended ending
+  why-ended (node m broods log) ending over = ap (λ e. why_by o e (stall m) (o.call m) broods) over
 
-  pub why-waits : (t : Tree M) (ticket : ℕ) → o.ending (machine t) ≡ None → o.call (machine t) ≡ Some (join ticket) → waits o t ≡ true → why o t ≡ Waits ticket
-  why-waits (node m broods log) ticket lives call waiting =
-      ap₂ (λ e c. why_by o e c broods) lives call ∙ by (have_ended o (brood_of ticket broods)) (ap (λ c. waits_by o c broods) (sym call) ∙ waiting)
+  pub why-stalls : (t : Tree M) (page : ℕ) → o.ending (machine t) ≡ None → stall (machine t) ≡ Some page → why o stall t ≡ Stalls page
+  why-stalls (node m broods log) page lives waits_for = ap₂ (λ e p. why_by o e p (o.call m) broods) lives waits_for
+
+  pub why-waits : (t : Tree M) (ticket : ℕ) → o.ending (machine t) ≡ None → stall (machine t) ≡ None → o.call (machine t) ≡ Some (join ticket)
+      → waits o t ≡ true → why o stall t ≡ Waits ticket
+  why-waits (node m broods log) ticket lives here call waiting =
+      ap₂ (λ e p. why_by o e p (o.call m) broods) lives here ∙ ap (λ c. why_at o c broods) call
+      ∙ by (have_ended o (brood_of ticket broods)) (ap (λ c. waits_by o c broods) (sym call) ∙ waiting)
     where
       by : (all : Bool) → not all ≡ true → ◌≡◌ {A = Why} (cond all MayGoOn (Waits ticket)) (Waits ticket)
       by true h = absurd (cc)
       by false h = refl
 
-  pub why-goes : (t : Tree M) → o.ending (machine t) ≡ None → waits o t ≡ false → why o t ≡ MayGoOn
-  why-goes (node m broods log) lives ready = ap (λ e. why_by o e (o.call m) broods) lives ∙ by (o.call m) ready
+  pub why-goes : (t : Tree M) → o.ending (machine t) ≡ None → stall (machine t) ≡ None → waits o t ≡ false → why o stall t ≡ MayGoOn
+  why-goes (node m broods log) lives here ready = ap₂ (λ e p. why_by o e p (o.call m) broods) lives here ∙ by (o.call m) ready
     where
       ready-join : (ticket : ℕ) (all : Bool) → not all ≡ false → ◌≡◌ {A = Why} (cond all MayGoOn (Waits ticket)) MayGoOn
       ready-join ticket true h = refl

@@ -6,22 +6,21 @@ use Rattle.forest_tree.specs.Settle.{alone}
 use Rattle.forest_history.specs.Places.{bare}
 use Rattle.forest_history.specs.World.{world_of}
 use Rattle.forest_history.proofs.Whole.{start-home}
-use Rattle.forest_model.specs.Machine.{Machine}
-use Rattle.forest_model.specs.Forest.{machines}
+use Rattle.forest_model.specs.Paged.{Paged, paged_machines}
 use Rattle.world_core.specs.declared.reason.Reason.{Reason}
 use Rattle.world_core.specs.declared.world.World.{World}
 use Rattle.world_core.specs.World.{StandsFor}
 use Rattle.drive_script.specs.Driven.{HasMachines}
 
-bare-alone : (m : Machine) → bare (world_of machines {R = Reason} m).tree ≡ alone machines m
+bare-alone : (p : Paged) → bare (world_of paged_machines {R = Reason} p).tree ≡ alone paged_machines p
 unfolding map_tree
-bare-alone m = refl
+bare-alone p = refl
 
 -- it has this machine alone
-pub started : (depot : Shelves) (w : World) (m : Machine) → StandsFor depot w (world_of machines m) → HasMachines depot w (alone machines m)
-started depot w m stands = record {
-  forest = world_of machines m;
+pub started : (depot : Shelves) (w : World) (p : Paged) → StandsFor depot w (world_of paged_machines p) → HasMachines depot w (alone paged_machines p)
+started depot w p stands = record {
+  forest = world_of paged_machines p;
   stands = stands;
-  whole = start-home machines Reason m;
-  same = bare-alone m;
+  whole = start-home paged_machines Reason p;
+  same = bare-alone p;
 }

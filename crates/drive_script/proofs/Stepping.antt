@@ -1,5 +1,5 @@
 -- The turns of one line of steps, one after another.
-use Rattle.std.proofs.Common.{◌≡◌, ◌≢◌, ℕ, ◌+◌, ◌-◌, ◌<◌, ◌≤◌, ◌⊎◌, inl, inr, refl, sym, ap, ◌∙◌, subst, arith, add-zero, append-nil, [], ◌++◌, replicate, Option, Some, None, IsSomeAnd, option_and_then, Result, Ok, Err}
+use Rattle.std.proofs.Common.{◌≡◌, ◌≢◌, ℕ, ◌+◌, ◌-◌, ◌<◌, ◌≤◌, ◌⊎◌, inl, inr, refl, sym, ap, ◌∙◌, subst, arith, add-zero, ◌++◌, replicate, Option, Some, None, IsSomeAnd, option_and_then, Result, Ok, Err}
 use Rattle.std.specs.declared.alloc.AllocError.{AllocError}
 use Rattle.std.proofs.lemmas.List.{replicate-append-replicate}
 use Rattle.image_depot.specs.Key.{Shelves}
@@ -9,6 +9,7 @@ use Rattle.forest_tree.specs.Tree.{Tree, Path, machine, subtree}
 use Rattle.forest_tree.proofs.Run.{is-some}
 use Rattle.forest_model.specs.Machine.{Machine}
 use Rattle.forest_model.specs.Forest.{machines}
+use Rattle.forest_model.specs.Paged.{Paged, paged_machines, stalled_at}
 use Rattle.world_core.specs.declared.world.World.{World}
 use Rattle.world_core.proofs.Returns.{there-is}
 use Rattle.drive_script.specs.declared.answer.Answer.TheVariants.{NoMachine, Ran}
@@ -18,24 +19,27 @@ use Rattle.drive_script.specs.declared.turn.Turn.{Turn}
 use Rattle.drive_script.specs.declared.turn.Turn.TheVariants as turn
 use Rattle.drive_script.specs.Driven.{HasMachines, HasMade, DrivesLine}
 use Rattle.drive_script.specs.Script.{step}
-use Rattle.drive_script.specs.Steps.{steps_made, after_steps, if_lives, live_at, why}
-use Rattle.drive_script.specs.Told.{answer, answer_by, ran, ran_by}
+use Rattle.drive_script.specs.Steps.{after_steps, if_lives, live_at, why}
+use Rattle.drive_script.specs.Told.{Driven, made_at, answer, answer_by, ran, ran_by}
 use Rattle.drive_script.specs.Turned.{HasRun, HasStopped, IsLiveOrLimit, Lives, Turns}
-use Rattle.drive_script.proofs.Driving.{made-within}
+use Rattle.drive_script.proofs.Driving.{made-behind}
 use Rattle.drive_script.proofs.Runs.{why-ended}
-use Rattle.drive_script.proofs.Steps.{after-both, after-none, made-all, made-at-most, made-none, made-zero, nobody-rests}
+use Rattle.drive_script.proofs.Steps.{after-both, after-none, made-all, made-at-most, made-none, made-zero, nobody-stops}
 
 -- so many steps were made, and none before the first turn
-abbrev pub Stepping : Shelves → Path → Tree Machine → ℕ → World → Type 0
+abbrev pub Stepping : Shelves → Path → Tree Paged → ℕ → World → Type 0
 Stepping depot name t made w = ((made ≡ 0) × HasMachines depot w t) ⊎ (Lives name t × HasRun depot name made t w)
 
-module _ (depot : Shelves) (name : Path) (t : Tree Machine) (made : ℕ) (w : World) (h : Stepping depot name t made w) where
+module _ (depot : Shelves) (name : Path) (s : Driven) (made : ℕ) (w : World) (h : Stepping depot name s.tree made w) where
+  abbrev t : Tree Paged
+  t = s.tree
+
   -- where the steps lead
-  abbrev pub after-made : Tree Machine
-  after-made = after_steps machines made name t
+  abbrev pub after-made : Tree Paged
+  after-made = after_steps paged_machines made name t
 
   nothing-yet : made ≡ 0 → after-made ≡ t
-  nothing-yet none = ap (λ n. after_steps machines n name t) none ∙ after-none machines name t
+  nothing-yet none = ap (λ n. after_steps paged_machines n name t) none ∙ after-none paged_machines name t
 
   pub stepping-has : HasMachines depot w after-made
   stepping-has = by h
@@ -44,11 +48,11 @@ module _ (depot : Shelves) (name : Path) (t : Tree Machine) (made : ℕ) (w : Wo
       by (inl first) = subst (HasMachines depot w) (sym (nothing-yet first.0)) first.1
       by (inr run) = run.1.has
 
-  stepping-made : steps_made machines made name t ≡ made
+  stepping-made : made_at made name t ≡ made
   stepping-made = by h
     where
-      by : Stepping depot name t made w → steps_made machines made name t ≡ made
-      by (inl first) = ap (λ n. steps_made machines n name t) first.0 ∙ made-zero machines name t ∙ sym first.0
+      by : Stepping depot name t made w → made_at made name t ≡ made
+      by (inl first) = ap (λ n. made_at n name t) first.0 ∙ made-zero paged_machines stalled_at name t ∙ sym first.0
       by (inr run) = run.1.made
 
   stepping-lives : Lives name after-made → Lives name t
@@ -58,33 +62,32 @@ module _ (depot : Shelves) (name : Path) (t : Tree Machine) (made : ℕ) (w : Wo
       by (inl first) = subst (Lives name) (nothing-yet first.0) lives
       by (inr run) = run.0
 
-  after-more : (steps : ℕ) → after_steps machines (made + steps) name t ≡ after_steps machines steps name after-made
-  after-more steps = after-both machines made steps name t
+  after-more : (steps : ℕ) → after_steps paged_machines (made + steps) name t ≡ after_steps paged_machines steps name after-made
+  after-more steps = after-both paged_machines made steps name t
 
   -- ---- the next turn
 
   module _ (most : ℕ) (within : made ≤ most) (new : World) where
     -- what is known of its answer
     abbrev pub TurnsNext : Result Turn AllocError → Type 0
-    TurnsNext r = (u : Tree Machine) → HasMachines depot w u → Turns depot name (most - made) u r new
+    TurnsNext r = (u : Tree Paged) → HasMachines depot w u → Turns depot name (most - made) u r new
 
-    all-made : steps_made machines most name t ≡ made + steps_made machines (most - made) name after-made
-    all-made = made-all machines made most name t within stepping-made
+    all-made : made_at most name t ≡ made + made_at (most - made) name after-made
+    all-made = made-all paged_machines stalled_at made most name t within stepping-made
 
-    answer-made : (steps : ℕ) (a : Tree Machine) → Lives name t → steps_made machines most name t ≡ steps
-        → subtree name (after_steps machines steps name t) ≡ Some a → answer (step name most) t ≡ Ran steps (why machines a)
+    answer-made : (steps : ℕ) (a : Tree Paged) → Lives name t → made_at most name t ≡ steps
+        → subtree name (after_steps paged_machines steps name t) ≡ Some a → answer (step name most) s ≡ Ran steps (why paged_machines stalled_at a)
     answer-made steps a lives is there =
-        ap (answer_by (step name most) t) (is-some (live_at machines name t) lives).1
+        ap (answer_by (step name most) s) (is-some (live_at paged_machines name t) lives).1
         ∙ ap (λ n. ran name n t) is ∙ ap (ran_by steps) there
 
     -- memory was wanting
-    pub stepping-failed : (e f : AllocError) → TurnsNext (Err e) → DrivesLine depot (step name most) t (Err f) new
+    pub stepping-failed : (e f : AllocError) → TurnsNext (Err e) → DrivesLine depot (step name most) s (Err f) new
     stepping-failed e f turns =
-        let left = replicate (steps_made machines (most - made) name after-made) name in
-        let all : replicate made name ++ (left ++ []) ≡ replicate (steps_made machines most name t) name =
-        ap (λ more. replicate made name ++ more) (append-nil left) ∙ replicate-append-replicate made (steps_made machines (most - made) name after-made) name
-        ∙ ap (λ n. replicate n name) (sym all-made) in
-        subst (λ steps. HasMade depot steps t new) all (made-within depot new (replicate made name) left [] t (turns after-made stepping-has))
+        let next = turns after-made stepping-has in
+        let all : replicate made name ++ replicate (made_at (most - made) name after-made) name ≡ replicate (made_at most name t) name =
+        replicate-append-replicate made (made_at (most - made) name after-made) name ∙ ap (λ n. replicate n name) (sym all-made) in
+        inl (subst (λ steps. HasMade depot steps t new) all (made-behind depot new (replicate made name) (replicate (made_at (most - made) name after-made) name) t next))
 
     module _ (r : Turn) (turns : TurnsNext (Ok r)) where
       turned : (s : Turn) → r ≡ s → Turns depot name (most - made) after-made (Ok s) new
@@ -103,12 +106,12 @@ module _ (depot : Shelves) (name : Path) (t : Tree Machine) (made : ℕ) (w : Wo
           let called = turned (turn.Called steps) is in
           let run : HasRun depot name steps after-made new = called.3 in
           let left : made + steps - made ≡ steps = omega arith in
-          let all = made-all machines made (made + steps) name t (omega arith) stepping-made in
+          let all = made-all paged_machines stalled_at made (made + steps) name t (omega arith) stepping-made in
           inr (
             stepping-lives called.0,
             record {
-              made = all ∙ ap (λ n. made + steps_made machines n name after-made) left ∙ ap (λ n. made + n) run.made;
-              there = subst (λ (u : Tree Machine). IsSomeAnd (subtree name u) (λ a. IsLiveOrLimit (machine a).ending)) (sym (after-more steps)) run.there;
+              made = all ∙ ap (λ n. made + made_at n name after-made) left ∙ ap (λ n. made + n) run.made;
+              there = subst (λ (u : Tree Paged). IsSomeAnd (subtree name u) (λ a. IsLiveOrLimit (machine a).machine.ending)) (sym (after-more steps)) run.there;
               has = subst (HasMachines depot new) (sym (after-more steps)) run.has;
             },
           )
@@ -118,49 +121,49 @@ module _ (depot : Shelves) (name : Path) (t : Tree Machine) (made : ℕ) (w : Wo
       stopped-within steps reason is =
           let stopped : HasStopped depot name (most - made) after-made steps reason new = (turned (turn.Stopped steps reason) is).1 in
           let count = stopped.made in
-          let few = made-at-most machines (most - made) name after-made in
+          let few = made-at-most paged_machines stalled_at (most - made) name after-made in
           omega (arith, count, few)
 
-      pub stepping-stopped : (steps : ℕ) (reason : Why) → r ≡ turn.Stopped steps reason → DrivesLine depot (step name most) t (Ok (Ran (made + steps) reason)) new
+      pub stepping-stopped : (steps : ℕ) (reason : Why) → r ≡ turn.Stopped steps reason → DrivesLine depot (step name most) s (Ok (Ran (made + steps) reason)) new
       stepping-stopped steps reason is =
           let last = turned (turn.Stopped steps reason) is in
           let stopped : HasStopped depot name (most - made) after-made steps reason new = last.1 in
-          let count : steps_made machines most name t ≡ made + steps = all-made ∙ ap (λ n. made + n) stopped.made in
-          let at = there-is (subtree name (after_steps machines steps name after-made)) (λ a. why machines a ≡ reason) stopped.there in (
+          let count : made_at most name t ≡ made + steps = all-made ∙ ap (λ n. made + n) stopped.made in
+          let at = there-is (subtree name (after_steps paged_machines steps name after-made)) (λ a. why paged_machines stalled_at a ≡ reason) stopped.there in (
             sym (answer-made (made + steps) at.0 (stepping-lives last.0) count (ap (subtree name) (after-more steps) ∙ at.1) ∙ ap (Ran (made + steps)) at.2),
-            subst (HasMachines depot new) (sym (ap (λ n. after_steps machines n name t) count ∙ after-more steps)) stopped.has,
+            subst (HasMachines depot new) (sym (ap (λ n. after_steps paged_machines n name t) count ∙ after-more steps)) stopped.has,
           )
 
       -- no live machine has the name
-      no-more : live_at machines name after-made ≡ None → steps_made machines most name t ≡ made
-      no-more none = all-made ∙ ap (λ n. made + n) (made-none machines (most - made) name after-made (nobody-rests machines name after-made none)) ∙ add-zero made
+      no-more : live_at paged_machines name after-made ≡ None → made_at most name t ≡ made
+      no-more none = all-made ∙ ap (λ n. made + n) (made-none paged_machines stalled_at (most - made) name after-made (nobody-stops paged_machines stalled_at name after-made none)) ∙ add-zero made
 
       -- before the first step
-      pub stepping-none : r ≡ turn.NoMachine → made ≡ 0 → DrivesLine depot (step name most) t (Ok NoMachine) new
+      pub stepping-none : r ≡ turn.NoMachine → made ≡ 0 → DrivesLine depot (step name most) s (Ok NoMachine) new
       stepping-none is first =
           let last = turned turn.NoMachine is in (
-            sym (ap (answer_by (step name most) t) (ap (live_at machines name) (sym (nothing-yet first)) ∙ last.0)),
-            subst (HasMachines depot new) (ap (λ n. after_steps machines n name t) (sym (no-more last.0))) last.1,
+            sym (ap (answer_by (step name most) s) (ap (live_at paged_machines name) (sym (nothing-yet first)) ∙ last.0)),
+            subst (HasMachines depot new) (ap (λ n. after_steps paged_machines n name t) (sym (no-more last.0))) last.1,
           )
 
       -- after a call
-      limit-by : (e : Option Ending) (a : Tree Machine) → if_lives machines e a ≡ None → IsLiveOrLimit e → e ≡ Some Limit
+      limit-by : (e : Option Ending) (a : Tree Paged) → if_lives paged_machines e a ≡ None → IsLiveOrLimit e → e ≡ Some Limit
       limit-by None a none live = absurd (cc)
       limit-by (Some (Exit value)) a none live = absurd live
       limit-by (Some Limit) a none live = refl
 
-      pub stepping-limit : r ≡ turn.NoMachine → made ≢ 0 → DrivesLine depot (step name most) t (Ok (Ran made (Ended Limit))) new
-      unfolding machines
+      pub stepping-limit : r ≡ turn.NoMachine → made ≢ 0 → DrivesLine depot (step name most) s (Ok (Ran made (Ended Limit))) new
+      unfolding paged_machines machines
       stepping-limit is some = by h (turned turn.NoMachine is)
         where
           by : Stepping depot name t made w → Turns depot name (most - made) after-made (Ok turn.NoMachine) new
-              → DrivesLine depot (step name most) t (Ok (Ran made (Ended Limit))) new
+              → DrivesLine depot (step name most) s (Ok (Ran made (Ended Limit))) new
           by (inl first) last = absurd (some first.0)
           by (inr run) last =
-              let at = there-is (subtree name after-made) (λ (a : Tree Machine). IsLiveOrLimit (machine a).ending) run.1.there in
-              let none : if_lives machines (machines.ending (machine at.0)) at.0 ≡ None =
-              sym (ap (option_and_then (λ a. if_lives machines (machines.ending (machine a)) a)) at.1) ∙ last.0 in
-              let over = why-ended machines at.0 Limit (limit-by (machines.ending (machine at.0)) at.0 none at.2) in (
+              let at = there-is (subtree name after-made) (λ (a : Tree Paged). IsLiveOrLimit (machine a).machine.ending) run.1.there in
+              let none : if_lives paged_machines (paged_machines.ending (machine at.0)) at.0 ≡ None =
+              sym (ap (option_and_then (λ a. if_lives paged_machines (paged_machines.ending (machine a)) a)) at.1) ∙ last.0 in
+              let over = why-ended paged_machines stalled_at at.0 Limit (limit-by (paged_machines.ending (machine at.0)) at.0 none at.2) in (
                 sym (answer-made made at.0 run.0 (no-more last.0) at.1 ∙ ap (Ran made) over),
-                subst (HasMachines depot new) (ap (λ n. after_steps machines n name t) (sym (no-more last.0))) last.1,
+                subst (HasMachines depot new) (ap (λ n. after_steps paged_machines n name t) (sym (no-more last.0))) last.1,
               )

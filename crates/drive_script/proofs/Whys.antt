@@ -5,17 +5,17 @@ use Rattle.fork_port.specs.declared.commands.Call.TheVariants.{Clone, Join, Kill
 use Rattle.fork_port.specs.declared.ending.Ending.{Ending}
 use Rattle.forest_tree.specs.Tree.{Tree, node, Broods}
 use Rattle.forest_tree.specs.Settle.{waits_by, waits}
-use Rattle.forest_model.specs.Machine.{Machine, Next, exception, timer_interrupt, plain, call, next}
+use Rattle.forest_model.specs.Machine.{Next, exception, timer_interrupt, plain, call, next}
 use Rattle.forest_model.specs.Forest.{call_of, machines}
-use Rattle.forest_model.specs.Paged.{stalled_at}
+use Rattle.forest_model.specs.Paged.{Paged, paged_machines, stalled_at}
 use Rattle.vm_cell.specs.Keyed.{KeyedMachine, paged}
 use Rattle.vm_cell.specs.Standing.{standing_by, standing_from, standing_call}
 use Rattle.world_core.specs.Answers.{join_ticket}
 use Rattle.world_core.proofs.Steps.{standing}
-use Rattle.drive_script.specs.declared.answer.Why.TheVariants.{Ended, Waits, MayGoOn}
+use Rattle.drive_script.specs.declared.answer.Why.TheVariants.{Ended, Stalls, Waits, MayGoOn}
 use Rattle.drive_script.specs.Steps.{why}
 use Rattle.drive_script.specs.Turned.{with_machine}
-use Rattle.drive_script.proofs.Runs.{why-ended, why-goes, why-waits}
+use Rattle.drive_script.proofs.Runs.{why-ended, why-goes, why-stalls, why-waits}
 
 waits-true : (ending : Option Ending) (waiting : Bool) → true ≡ not (is_some ending) && waiting → waiting ≡ true
 waits-true None waiting h = sym h
@@ -26,8 +26,8 @@ waits-false None waiting lives h = sym h
 waits-false (Some ending) waiting lives h = absurd (cc)
 
 -- it waits at a JOIN alone
-joins-by : (ending : Option Ending) (step : Next) (broods : Broods Machine) → None ≡ join_ticket (standing_from ending step) → ending ≡ None
-    → waits_by machines (call_of step) broods ≡ false
+joins-by : (ending : Option Ending) (step : Next) (broods : Broods Paged) → None ≡ join_ticket (standing_from ending step) → ending ≡ None
+    → waits_by paged_machines (call_of step) broods ≡ false
 joins-by None (exception cause value) broods h lives = refl
 joins-by None timer_interrupt broods h lives = refl
 joins-by None plain broods h lives = refl
@@ -42,38 +42,47 @@ stands-at (Some (Clone t)) ticket h = absurd (cc)
 stands-at (Some (Join t)) ticket h = ap (λ n. Some (Join n)) (cc)
 stands-at (Some (Kill t)) ticket h = absurd (cc)
 
-module _ (v : KeyedMachine) (a : Tree Machine) where
-  abbrev now : Machine
-  now = v.machine
+module _ (v : KeyedMachine) (a : Tree Paged) where
+  abbrev pub now : Paged
+  now = paged v
 
-  pub ends : (ending : Ending) → now.ending ≡ Some ending → Ended ending ≡ why machines (with_machine now a)
-  unfolding machines
+  pub ends : (ending : Ending) → v.machine.ending ≡ Some ending → Ended ending ≡ why paged_machines stalled_at (with_machine now a)
+  unfolding paged_machines machines
   ends ending over = by a
     where
-      by : (b : Tree Machine) → Ended ending ≡ why machines (with_machine now b)
-      by (node old broods log) = sym (why-ended machines (node now broods log) ending over)
+      by : (b : Tree Paged) → Ended ending ≡ why paged_machines stalled_at (with_machine now b)
+      by (node old broods log) = sym (why-ended paged_machines stalled_at (node now broods log) ending over)
 
-  pub goes : now.ending ≡ None → false ≡ not (is_some now.ending) && waits machines (with_machine now a) → MayGoOn ≡ why machines (with_machine now a)
-  unfolding machines
-  goes lives ready = by a (waits-false now.ending (waits machines (with_machine now a)) lives ready)
+  pub stalls : (page : ℕ) → v.machine.ending ≡ None → stalled_at now ≡ Some page → Stalls page ≡ why paged_machines stalled_at (with_machine now a)
+  unfolding paged_machines machines
+  stalls page lives waits_for = by a
     where
-      by : (b : Tree Machine) → waits machines (with_machine now b) ≡ false → MayGoOn ≡ why machines (with_machine now b)
-      by (node old broods log) not_waiting = sym (why-goes machines (node now broods log) lives not_waiting)
+      by : (b : Tree Paged) → Stalls page ≡ why paged_machines stalled_at (with_machine now b)
+      by (node old broods log) = sym (why-stalls paged_machines stalled_at (node now broods log) page lives waits_for)
 
-  pub waits-at : (ticket : ℕ) → Some ticket ≡ join_ticket (standing_call v) → true ≡ not (is_some now.ending) && waits machines (with_machine now a)
-      → Waits ticket ≡ why machines (with_machine now a)
-  unfolding machines
-  waits-at ticket joins waiting = by a (waits-true now.ending (waits machines (with_machine now a)) waiting)
+  pub goes : v.machine.ending ≡ None → stalled_at now ≡ None → false ≡ not (is_some v.machine.ending) && waits paged_machines (with_machine now a)
+      → MayGoOn ≡ why paged_machines stalled_at (with_machine now a)
+  unfolding paged_machines machines
+  goes lives here ready = by a (waits-false v.machine.ending (waits paged_machines (with_machine now a)) lives ready)
     where
-      by : (b : Tree Machine) → waits machines (with_machine now b) ≡ true → Waits ticket ≡ why machines (with_machine now b)
+      by : (b : Tree Paged) → waits paged_machines (with_machine now b) ≡ false → MayGoOn ≡ why paged_machines stalled_at (with_machine now b)
+      by (node old broods log) not_waiting = sym (why-goes paged_machines stalled_at (node now broods log) lives here not_waiting)
+
+  pub waits-at : (ticket : ℕ) → stalled_at now ≡ None → Some ticket ≡ join_ticket (standing_call v)
+      → true ≡ not (is_some v.machine.ending) && waits paged_machines (with_machine now a)
+      → Waits ticket ≡ why paged_machines stalled_at (with_machine now a)
+  unfolding paged_machines machines
+  waits-at ticket here joins waiting = by a (waits-true v.machine.ending (waits paged_machines (with_machine now a)) waiting)
+    where
+      by : (b : Tree Paged) → waits paged_machines (with_machine now b) ≡ true → Waits ticket ≡ why paged_machines stalled_at (with_machine now b)
       by (node old broods log) waiting_there =
           let is = standing v (Join ticket) (stands-at (standing_call v) ticket joins) in
-          sym (why-waits machines (node now broods log) ticket is.0 is.1 waiting_there)
+          sym (why-waits paged_machines stalled_at (node now broods log) ticket is.0 here is.1 waiting_there)
 
-  pub goes-by : stalled_at (paged v) ≡ None → now.ending ≡ None → None ≡ join_ticket (standing_call v) → MayGoOn ≡ why machines (with_machine now a)
-  unfolding machines standing_call
+  pub goes-by : stalled_at now ≡ None → v.machine.ending ≡ None → None ≡ join_ticket (standing_call v) → MayGoOn ≡ why paged_machines stalled_at (with_machine now a)
+  unfolding paged_machines machines standing_call
   goes-by here lives joins = by a
     where
-      by : (b : Tree Machine) → MayGoOn ≡ why machines (with_machine now b)
-      by (node old broods log) = sym (why-goes machines (node now broods log) lives (joins-by now.ending (next now) broods
-          (joins ∙ ap (λ waited. join_ticket (standing_by waited now.ending (next now))) here) lives))
+      by : (b : Tree Paged) → MayGoOn ≡ why paged_machines stalled_at (with_machine now b)
+      by (node old broods log) = sym (why-goes paged_machines stalled_at (node now broods log) lives here (joins-by v.machine.ending (next v.machine) broods
+          (joins ∙ ap (λ waited. join_ticket (standing_by waited v.machine.ending (next v.machine))) here) lives))

@@ -1,5 +1,5 @@
 -- Lines and scripts are read as they are written.
-use Rattle.std.proofs.Common.{◌≡◌, ℕ, ◌+◌, ◌<◌, ◌≤◌, nat_lt, Bool, true, false, cond, refl, sym, ap, ap₂, ◌∙◌, subst, arith, List, [], ◌∷◌, ◌++◌, length, get_or, codes, Option, Some, None, Result, Ok, Err}
+use Rattle.std.proofs.Common.{◌≡◌, ℕ, ◌+◌, ◌^◌, ◌<◌, ◌≤◌, nat_lt, Bool, true, false, cond, refl, sym, ap, ap₂, ◌∙◌, subst, arith, List, [], ◌∷◌, ◌++◌, length, get_or, codes, Option, Some, None, Result, Ok, Err}
 use borrow.Author.Tests.{ltb-true}
 use Rattle.std.proofs.lemmas.List.Elements.{All-append, All-nil}
 use Rattle.std.proofs.lemmas.List.Splits.{join_with_byte-slice_split}
@@ -11,9 +11,10 @@ use Rattle.std.specs.Str.{bytes_eq}
 use Rattle.forest_tree.specs.Tree.{Branch, Path}
 use Rattle.run_report.specs.Name.{branch_text, name_text}
 use Rattle.drive_script.specs.declared.line.Word.{Word}
-use Rattle.drive_script.specs.declared.line.Word.TheVariants.{Step, Peek, Regs}
-use Rattle.drive_script.specs.declared.line.TheConstants.{MAX_STEPS}
-use Rattle.drive_script.specs.Script.{Line, step, peek, regs, address_of, fields, line_before, line_by, line_of, lines_from, name_of, number_within, one_of, parts, peek_by, peek_with, regs_by, regs_with, script, step_by, step_with, two_of, with_word, word_of}
+use Rattle.drive_script.specs.declared.line.Word.TheVariants.{Step, Ask, Push, Give, Peek, Regs}
+use Rattle.drive_script.specs.declared.error.TheConstants.{BAD_ADDRESS, BAD_NUMBER}
+use Rattle.drive_script.specs.declared.line.TheConstants.{MAX_PAGE, MAX_PLACE, MAX_STEPS}
+use Rattle.drive_script.specs.Script.{Line, step, ask, push, give, peek, regs, address_of, addressed, fields, line_before, line_by, line_named, line_of, line_valued, lines_from, name_of, named, named_by, number_within, numbered, one_of, parts, script, two_of, valued_by, with_word, word_of}
 use Rattle.drive_script.specs.Told.{word_text}
 use Rattle.drive_script.specs.Written.{AreForks, AreInForm, IsFork, IsInForm, IsTextOf, line_text, script_text}
 use Rattle.drive_script.proofs.Scripts.{after_lines, after-nothing, lines_from-more}
@@ -57,37 +58,63 @@ two-fields : (word name : List ℕ) → All (λ x. 45 < x) word → All (λ x. 4
 two-fields word name a b =
     parts-first 32 word name (free-above 45 32 word (omega arith) a) ∙ ap (λ more. word ∷ more) (parts-last 32 name (free-above 45 32 name (omega arith) b))
 
+line-numbered : (word : List ℕ) (make : Path → ℕ → Line) (path : Path) (most n : ℕ) → All (λ x. 45 < x) word → AreForks path → n ≤ most → most < 2 ^ 32
+    → ((texts : List (List ℕ)) → line_by (word ∷ texts) ≡ line_valued make (numbered most (two_of texts)))
+    → line_by (fields (word ++ (32 ∷ (name_text path ++ (32 ∷ decimal n))))) ≡ Ok (make path n)
+line-numbered word make path most n free forks within small is =
+    let number = weaker 45 47 (decimal n) (omega arith) (decimal-above n (omega (arith, within, small))) in
+    ap line_by (three-fields word (name_text path) (decimal n) free (name-above path forks) number)
+    ∙ is (name_text path ∷ (decimal n ∷ []))
+    ∙ ap₂ (λ a b. line_valued make (valued_by BAD_NUMBER a b)) (name-written path forks) (within-decimal 0 most n (omega arith) within (omega (arith, within, small)))
+
+line-only-named : (word : List ℕ) (make : Path → Line) (path : Path) → All (λ x. 45 < x) word → AreForks path
+    → ((texts : List (List ℕ)) → line_by (word ∷ texts) ≡ line_named make (named (one_of texts)))
+    → line_by (fields (word ++ (32 ∷ name_text path))) ≡ Ok (make path)
+line-only-named word make path free forks is =
+    ap line_by (two-fields word (name_text path) free (name-above path forks))
+    ∙ is (name_text path ∷ [])
+    ∙ ap (λ a. line_named make (named_by a)) (name-written path forks)
+
 line-written : (line : Line) → IsInForm line → line_of (line_text line) ≡ Ok line
 unfolding line_of
-line-written (step path most) is =
-    let number = weaker 45 47 (decimal most) (omega arith) (decimal-above most (omega (arith, is.1))) in
-    ap line_by (three-fields (codes "step") (name_text path) (decimal most) (above-test 45 (codes "step") refl) (name-above path is.0) number)
-    ∙ ap₂ step_by (name-written path is.0) (within-decimal 0 MAX_STEPS most (omega arith) is.1 (omega (arith, is.1)))
+line-written (step path most) is = line-numbered (codes "step") step path MAX_STEPS most (above-test 45 (codes "step") refl) is.0 is.1 (omega arith) (λ texts. refl)
+line-written (ask path) is = line-only-named (codes "ask") ask path (above-test 45 (codes "ask") refl) is (λ texts. refl)
+line-written (push path page) is = line-numbered (codes "push") push path MAX_PAGE page (above-test 45 (codes "push") refl) is.0 is.1 (omega arith) (λ texts. refl)
+line-written (give path place) is = line-numbered (codes "give") give path MAX_PLACE place (above-test 45 (codes "give") refl) is.0 is.1 (omega arith) (λ texts. refl)
 line-written (peek path address) is =
     let digits = weaker 45 47 (word_text address) (omega arith) (word-above address) in
     ap line_by (three-fields (codes "peek") (name_text path) (word_text address) (above-test 45 (codes "peek") refl) (name-above path is.0) digits)
-    ∙ ap₂ peek_by (name-written path is.0) (word-written address is.1)
-line-written (regs path) is =
-    ap line_by (two-fields (codes "regs") (name_text path) (above-test 45 (codes "regs") refl) (name-above path is))
-    ∙ ap regs_by (name-written path is)
+    ∙ ap₂ (λ a b. line_valued peek (valued_by BAD_ADDRESS a b)) (name-written path is.0) (word-written address is.1)
+line-written (regs path) is = line-only-named (codes "regs") regs path (above-test 45 (codes "regs") refl) is (λ texts. refl)
 
 -- ---- scripts
 
+numbered-above : (word : List ℕ) (path : Path) (n : ℕ) → All (λ x. 31 < x) word → AreForks path → n < 2 ^ 32
+    → All (λ x. 31 < x) (word ++ (name_text path ++ (codes " " ++ decimal n)))
+numbered-above word path n free forks small =
+    All-append (λ x. 31 < x) word (name_text path ++ (codes " " ++ decimal n)) free
+    (All-append (λ x. 31 < x) (name_text path) (codes " " ++ decimal n) (weaker 31 45 (name_text path) (omega arith) (name-above path forks))
+    (All-append (λ x. 31 < x) (codes " ") (decimal n) (above-test 31 (codes " ") refl) (weaker 31 47 (decimal n) (omega arith) (decimal-above n small))))
+
+named-above : (word : List ℕ) (path : Path) → All (λ x. 31 < x) word → AreForks path → All (λ x. 31 < x) (word ++ name_text path)
+named-above word path free forks = All-append (λ x. 31 < x) word (name_text path) free (weaker 31 45 (name_text path) (omega arith) (name-above path forks))
+
 line-above : (line : Line) → IsInForm line → All (λ x. 31 < x) (line_text line)
-line-above (step path most) is =
-    All-append (λ x. 31 < x) (codes "step ") (name_text path ++ (codes " " ++ decimal most)) (above-test 31 (codes "step ") refl)
-    (All-append (λ x. 31 < x) (name_text path) (codes " " ++ decimal most) (weaker 31 45 (name_text path) (omega arith) (name-above path is.0))
-    (All-append (λ x. 31 < x) (codes " ") (decimal most) (above-test 31 (codes " ") refl)
-    (weaker 31 47 (decimal most) (omega arith) (decimal-above most (omega (arith, is.1))))))
+line-above (step path most) is = numbered-above (codes "step ") path most (above-test 31 (codes "step ") refl) is.0 (omega (arith, is.1))
+line-above (ask path) is = named-above (codes "ask ") path (above-test 31 (codes "ask ") refl) is
+line-above (push path page) is = numbered-above (codes "push ") path page (above-test 31 (codes "push ") refl) is.0 (omega (arith, is.1))
+line-above (give path place) is = numbered-above (codes "give ") path place (above-test 31 (codes "give ") refl) is.0 (omega (arith, is.1))
 line-above (peek path address) is =
     All-append (λ x. 31 < x) (codes "peek ") (name_text path ++ (codes " " ++ word_text address)) (above-test 31 (codes "peek ") refl)
     (All-append (λ x. 31 < x) (name_text path) (codes " " ++ word_text address) (weaker 31 45 (name_text path) (omega arith) (name-above path is.0))
     (All-append (λ x. 31 < x) (codes " ") (word_text address) (above-test 31 (codes " ") refl) (weaker 31 47 (word_text address) (omega arith) (word-above address))))
-line-above (regs path) is =
-    All-append (λ x. 31 < x) (codes "regs ") (name_text path) (above-test 31 (codes "regs ") refl) (weaker 31 45 (name_text path) (omega arith) (name-above path is))
+line-above (regs path) is = named-above (codes "regs ") path (above-test 31 (codes "regs ") refl) is
 
 line-long : (line : Line) → 0 < length (line_text line)
 line-long (step path most) = omega arith
+line-long (ask path) = omega arith
+line-long (push path page) = omega arith
+line-long (give path place) = omega arith
 line-long (peek path address) = omega arith
 line-long (regs path) = omega arith
 
@@ -106,37 +133,41 @@ script-written lines is = texts-read 1 lines is
 
 -- ---- the texts of lines
 
-step-parts : (a : Option Path) (b : Option ℕ) (line : Line) → step_by a b ≡ Ok line → (path : Path) × (most : ℕ) × (a ≡ Some path) × (b ≡ Some most) × (step path most ≡ line)
-step-parts None b line h = cc h
-step-parts (Some path) None line h = cc h
-step-parts (Some path) (Some most) line h = (path, most, refl, refl, cc h)
+valued-parts : (kind : ℕ) (make : Path → ℕ → Line) (a : Option Path) (b : Option ℕ) (line : Line) → line_valued make (valued_by kind a b) ≡ Ok line
+    → (path : Path) × (value : ℕ) × (a ≡ Some path) × (b ≡ Some value) × (make path value ≡ line)
+valued-parts kind make None b line h = cc h
+valued-parts kind make (Some path) None line h = cc h
+valued-parts kind make (Some path) (Some value) line h = (path, value, refl, refl, cc h)
 
-peek-parts : (a : Option Path) (b : Option ℕ) (line : Line) → peek_by a b ≡ Ok line → (path : Path) × (address : ℕ) × (a ≡ Some path) × (b ≡ Some address) × (peek path address ≡ line)
-peek-parts None b line h = cc h
-peek-parts (Some path) None line h = cc h
-peek-parts (Some path) (Some address) line h = (path, address, refl, refl, cc h)
-
-regs-parts : (a : Option Path) (line : Line) → regs_by a ≡ Ok line → (path : Path) × (a ≡ Some path) × (regs path ≡ line)
-regs-parts None line h = cc h
-regs-parts (Some path) line h = (path, refl, cc h)
+named-parts : (make : Path → Line) (a : Option Path) (line : Line) → line_named make (named_by a) ≡ Ok line → (path : Path) × (a ≡ Some path) × (make path ≡ line)
+named-parts make None line h = cc h
+named-parts make (Some path) line h = (path, refl, cc h)
 
 abbrev spelling : Word → List ℕ
 spelling Step = codes "step"
+spelling Ask = codes "ask"
+spelling Push = codes "push"
+spelling Give = codes "give"
 spelling Peek = codes "peek"
 spelling Regs = codes "regs"
 
-word-by : (word : List ℕ) (is_step is_peek is_regs : Bool) (w : Word) → (is_step ≡ true → word ≡ codes "step")
-    → (is_peek ≡ true → word ≡ codes "peek") → (is_regs ≡ true → word ≡ codes "regs")
-    → cond is_step (Some Step) (cond is_peek (Some Peek) (cond is_regs (Some Regs) None)) ≡ Some w → word ≡ spelling w
-word-by word true is_peek is_regs w a b c h = (let is : Step ≡ w = cc h in subst (λ v. word ≡ spelling v) is (a refl))
-word-by word false true is_regs w a b c h = (let is : Peek ≡ w = cc h in subst (λ v. word ≡ spelling v) is (b refl))
-word-by word false false true w a b c h = (let is : Regs ≡ w = cc h in subst (λ v. word ≡ spelling v) is (c refl))
-word-by word false false false w a b c h = cc h
+-- the first of some words that a text is
+first-word : (word : List ℕ) (is : Bool) (v w : Word) (rest : Option Word) → (is ≡ true → word ≡ spelling v) → (rest ≡ Some w → word ≡ spelling w)
+    → cond is (Some v) rest ≡ Some w → word ≡ spelling w
+first-word word true v w rest a b h = (let same : v ≡ w = cc h in subst (λ u. word ≡ spelling u) same (a refl))
+first-word word false v w rest a b h = b h
+
+no-word : (word : List ℕ) (w : Word) → None ≡ Some w → word ≡ spelling w
+no-word word w h = cc h
 
 word-is : (word : List ℕ) (w : Word) → word_of word ≡ Some w → word ≡ spelling w
-word-is word w h =
-    word-by word (bytes_eq word (codes "step")) (bytes_eq word (codes "peek")) (bytes_eq word (codes "regs")) w
-    (bytes_eq-Decides word (codes "step")).0 (bytes_eq-Decides word (codes "peek")).0 (bytes_eq-Decides word (codes "regs")).0 h
+word-is word w =
+    first-word word (bytes_eq word (codes "step")) Step w _ (bytes_eq-Decides word (codes "step")).0
+    (first-word word (bytes_eq word (codes "ask")) Ask w _ (bytes_eq-Decides word (codes "ask")).0
+    (first-word word (bytes_eq word (codes "push")) Push w _ (bytes_eq-Decides word (codes "push")).0
+    (first-word word (bytes_eq word (codes "give")) Give w _ (bytes_eq-Decides word (codes "give")).0
+    (first-word word (bytes_eq word (codes "peek")) Peek w _ (bytes_eq-Decides word (codes "peek")).0
+    (first-word word (bytes_eq word (codes "regs")) Regs w None (bytes_eq-Decides word (codes "regs")).0 (no-word word w))))))
 
 -- what a text tells of the line that it is
 abbrev pub IsRead : List ℕ → Line → Type 0
@@ -145,42 +176,49 @@ IsRead text line = IsInForm line × IsTextOf text line
 abbrev joined : List (List ℕ) → List ℕ
 joined texts = join_with_byte 32 texts
 
-step-read : (word : List ℕ) (texts : List (List ℕ)) (line : Line) → word ≡ codes "step" → step_with (two_of texts) ≡ Ok line → IsRead (joined (word ∷ texts)) line
-step-read word [] line w h = cc h
-step-read word (name ∷ []) line w h = cc h
-step-read word (name ∷ (last ∷ (more ∷ rest))) line w h = cc h
-step-read word (name ∷ (last ∷ [])) line w h =
-    let is = step-parts (name_of name) (number_within 0 MAX_STEPS last) line h in
+numbered-read : (spelled : List ℕ) (make : Path → ℕ → Line) (most : ℕ) (word : List ℕ) (texts : List (List ℕ)) (line : Line)
+    → ((path : Path) (n : ℕ) (text : List ℕ) → AreForks path → n ≤ most → text ≡ spelled ++ (32 ∷ (name_text path ++ (32 ∷ decimal n))) → IsRead text (make path n))
+    → word ≡ spelled → line_valued make (numbered most (two_of texts)) ≡ Ok line → IsRead (joined (word ∷ texts)) line
+numbered-read spelled make most word [] line read w h = cc h
+numbered-read spelled make most word (name ∷ []) line read w h = cc h
+numbered-read spelled make most word (name ∷ (last ∷ (more ∷ rest))) line read w h = cc h
+numbered-read spelled make most word (name ∷ (last ∷ [])) line read w h =
+    let is = valued-parts BAD_NUMBER make (name_of name) (number_within 0 most last) line h in
     let named = name-spelled name is.0 is.2 in
-    let numbered = within-spelled 0 MAX_STEPS last is.1 is.3 in
-    let text = ap₂ (λ a b. a ++ (32 ∷ b)) w (ap₂ (λ a b. a ++ (32 ∷ b)) named.0 numbered.0) in
-    subst (IsRead (joined (word ∷ (name ∷ (last ∷ []))))) is.4 ((named.1, numbered.3), text)
+    let number = within-spelled 0 most last is.1 is.3 in
+    let text = ap₂ (λ a b. a ++ (32 ∷ b)) w (ap₂ (λ a b. a ++ (32 ∷ b)) named.0 number.0) in
+    subst (IsRead (joined (word ∷ (name ∷ (last ∷ []))))) is.4 (read is.0 is.1 _ named.1 number.3 text)
 
-peek-read : (word : List ℕ) (texts : List (List ℕ)) (line : Line) → word ≡ codes "peek" → peek_with (two_of texts) ≡ Ok line → IsRead (joined (word ∷ texts)) line
+peek-read : (word : List ℕ) (texts : List (List ℕ)) (line : Line) → word ≡ codes "peek" → line_valued peek (addressed (two_of texts)) ≡ Ok line → IsRead (joined (word ∷ texts)) line
 peek-read word [] line w h = cc h
 peek-read word (name ∷ []) line w h = cc h
 peek-read word (name ∷ (last ∷ (more ∷ rest))) line w h = cc h
 peek-read word (name ∷ (last ∷ [])) line w h =
-    let is = peek-parts (name_of name) (address_of last) line h in
+    let is = valued-parts BAD_ADDRESS peek (name_of name) (address_of last) line h in
     let named = name-spelled name is.0 is.2 in
-    let addressed = word-spelled last is.1 is.3 in
+    let address = word-spelled last is.1 is.3 in
     let text = ap₂ (λ a b. a ++ (32 ∷ (b ++ (32 ∷ last)))) w named.0 in
-    subst (IsRead (joined (word ∷ (name ∷ (last ∷ []))))) is.4 ((named.1, addressed.1), (last, text, addressed.0))
+    subst (IsRead (joined (word ∷ (name ∷ (last ∷ []))))) is.4 ((named.1, address.1), (last, text, address.0))
 
-regs-read : (word : List ℕ) (texts : List (List ℕ)) (line : Line) → word ≡ codes "regs" → regs_with (one_of texts) ≡ Ok line → IsRead (joined (word ∷ texts)) line
-regs-read word [] line w h = cc h
-regs-read word (name ∷ (more ∷ rest)) line w h = cc h
-regs-read word (name ∷ []) line w h =
-    let is = regs-parts (name_of name) line h in
+named-read : (spelled : List ℕ) (make : Path → Line) (word : List ℕ) (texts : List (List ℕ)) (line : Line)
+    → ((path : Path) (text : List ℕ) → AreForks path → text ≡ spelled ++ (32 ∷ name_text path) → IsRead text (make path))
+    → word ≡ spelled → line_named make (named (one_of texts)) ≡ Ok line → IsRead (joined (word ∷ texts)) line
+named-read spelled make word [] line read w h = cc h
+named-read spelled make word (name ∷ (more ∷ rest)) line read w h = cc h
+named-read spelled make word (name ∷ []) line read w h =
+    let is = named-parts make (name_of name) line h in
     let named = name-spelled name is.0 is.1 in
     let text = ap₂ (λ a b. a ++ (32 ∷ b)) w named.0 in
-    subst (IsRead (joined (word ∷ (name ∷ [])))) is.2 (named.1, text)
+    subst (IsRead (joined (word ∷ (name ∷ [])))) is.2 (read is.0 _ named.1 text)
 
 worded-read : (word : List ℕ) (texts : List (List ℕ)) (line : Line) (w : Option Word) → word_of word ≡ w → with_word w texts ≡ Ok line → IsRead (joined (word ∷ texts)) line
 worded-read word texts line None e h = cc h
-worded-read word texts line (Some Step) e h = step-read word texts line (word-is word Step e) h
+worded-read word texts line (Some Step) e h = numbered-read (codes "step") step MAX_STEPS word texts line (λ path n text forks within is. ((forks, within), is)) (word-is word Step e) h
+worded-read word texts line (Some Ask) e h = named-read (codes "ask") ask word texts line (λ path text forks is. (forks, is)) (word-is word Ask e) h
+worded-read word texts line (Some Push) e h = numbered-read (codes "push") push MAX_PAGE word texts line (λ path n text forks within is. ((forks, within), is)) (word-is word Push e) h
+worded-read word texts line (Some Give) e h = numbered-read (codes "give") give MAX_PLACE word texts line (λ path n text forks within is. ((forks, within), is)) (word-is word Give e) h
 worded-read word texts line (Some Peek) e h = peek-read word texts line (word-is word Peek e) h
-worded-read word texts line (Some Regs) e h = regs-read word texts line (word-is word Regs e) h
+worded-read word texts line (Some Regs) e h = named-read (codes "regs") regs word texts line (λ path text forks is. (forks, is)) (word-is word Regs e) h
 
 fields-read : (texts : List (List ℕ)) (line : Line) → line_by texts ≡ Ok line → IsRead (joined texts) line
 fields-read [] line h = cc h

@@ -1,5 +1,6 @@
 -- What a script makes of a world of machines.
-use Rattle.std.specs.Prelude.{◌≡◌, ℕ, List, take, Vec, Option, Some, None, Result, Ok, Err}
+use Rattle.std.specs.Prelude.{◌≡◌, ◌⊎◌, ℕ, List, [], ◌∷◌, ◌++◌, take, Vec, Option, Some, None, Result, Ok, Err}
+use Rattle.std.specs.BTreeMap.{BTreeMap, get}
 use Rattle.std.specs.declared.alloc.AllocError.{AllocError}
 use Rattle.std.specs.declared.alloc.Global.{Global}
 use Rattle.image_depot.specs.Key.{Shelves}
@@ -7,40 +8,70 @@ use Rattle.forest_tree.specs.Tree.{Tree, Path}
 use Rattle.forest_tree.specs.Settle.{settle_all}
 use Rattle.forest_history.specs.Places.{bare}
 use Rattle.forest_history.specs.World.{IsWhole}
-use Rattle.forest_model.specs.Machine.{Machine}
-use Rattle.forest_model.specs.Forest.{machines}
+use Rattle.forest_model.specs.Paged.{Paged, paged_machines}
+use Rattle.run_report.specs.Name.{child_path}
+use Rattle.run_report.specs.NameOrder.{path_cmp}
 use Rattle.world_core.specs.declared.world.World.{World}
 use Rattle.world_core.specs.World.{Forest, StandsFor}
 use Rattle.drive_script.specs.declared.answer.Answer.{Answer}
 use Rattle.drive_script.specs.Script.{Line}
+use Rattle.drive_script.specs.Replies.{Siblings, Replies}
 use Rattle.drive_script.specs.Steps.{live_at}
-use Rattle.drive_script.specs.Told.{after_line, after_script, answer, steps_of, steps_of_script, told_text}
+use Rattle.drive_script.specs.Told.{Driven, after_line, after_script, answer, begun, steps_of, told_text}
 
 -- the world has these machines, and none of them is on lease
-pub record HasMachines (depot : Shelves) (w : World) (t : Tree Machine) : Type 0 where
+pub record HasMachines (depot : Shelves) (w : World) (t : Tree Paged) : Type 0 where
   -- with a place for each
   pub forest : Forest
   pub stands : StandsFor depot w forest
-  pub whole : IsWhole machines forest.tree
+  pub whole : IsWhole paged_machines forest.tree
   pub same : bare forest.tree ≡ t
 
 -- of these steps so many were made, the first ones
-pub record HasMade (depot : Shelves) (steps : List Path) (t : Tree Machine) (w : World) : Type 0 where
+pub record HasMade (depot : Shelves) (steps : List Path) (t : Tree Paged) (w : World) : Type 0 where
   pub made : ℕ
-  pub has : HasMachines depot w (settle_all machines (take made steps) t)
+  pub has : HasMachines depot w (settle_all paged_machines (take made steps) t)
+
+-- ---- what was sent
+
+-- the siblings of a machine, by the name of the first of them
+abbrev pub first_of : Siblings → Path
+first_of to = child_path to.parent to.ticket 1
+
+abbrev pub pages_in : Option (Vec ℕ Global) → List ℕ
+pages_in None = []
+pages_in (Some pages) = pages.items
+
+-- the lists hold what was sent to each
+abbrev pub Keeps : BTreeMap Path (Vec ℕ Global) → Replies → Type 0
+Keeps lists sent = (to : Siblings) → pages_in (get path_cmp lists (first_of to)) ≡ sent to
+
+-- ---- lines and scripts
+
+-- memory was wanting in a line: the first of its steps were made, or all that it makes of the forest
+abbrev pub BreaksOff : Shelves → Line → Driven → World → Type 0
+BreaksOff depot line s w = HasMade depot (steps_of line s.tree) s.tree w ⊎ HasMachines depot w (after_line line s).tree
+
+-- a line, and its answer
+abbrev pub DrivesLine : Shelves → Line → Driven → Result Answer AllocError → World → Type 0
+DrivesLine depot line s (Ok a) w = (a ≡ answer line s) × HasMachines depot w (after_line line s).tree
+DrivesLine depot line s (Err e) w = BreaksOff depot line s w
+
+-- memory was wanting in one of the lines, and those before it are done
+pub record HasBrokenOff (depot : Shelves) (lines : List Line) (s : Driven) (w : World) : Type 0 where
+  pub done : List Line
+  pub line : Line
+  pub rest : List Line
+  pub all : lines ≡ done ++ (line ∷ rest)
+  pub breaks : BreaksOff depot line (after_script done s) w
 
 -- the script is done and this is its text, or memory was wanting on the way
-abbrev pub Drives : Shelves → List Line → Tree Machine → Result (Vec ℕ Global) AllocError → World → Type 0
-Drives depot lines t (Ok text) w = (text.items ≡ told_text lines t) × HasMachines depot w (after_script lines t)
-Drives depot lines t (Err e) w = HasMade depot (steps_of_script lines t) t w
-
--- the same of one line, and its answer
-abbrev pub DrivesLine : Shelves → Line → Tree Machine → Result Answer AllocError → World → Type 0
-DrivesLine depot line t (Ok a) w = (a ≡ answer line t) × HasMachines depot w (after_line line t)
-DrivesLine depot line t (Err e) w = HasMade depot (steps_of line t) t w
+abbrev pub Drives : Shelves → List Line → Tree Paged → Result (Vec ℕ Global) AllocError → World → Type 0
+Drives depot lines t (Ok text) w = (text.items ≡ told_text lines t) × HasMachines depot w (after_script lines (begun t)).tree
+Drives depot lines t (Err e) w = HasBrokenOff depot lines (begun t) w
 
 -- the name of a line is put together, or no live machine has it
-abbrev pub IsNameIn : Path → Tree Machine → Result (Option Path) AllocError → Type 0
-IsNameIn path t (Ok None) = live_at machines path t ≡ None
+abbrev pub IsNameIn : Path → Tree Paged → Result (Option Path) AllocError → Type 0
+IsNameIn path t (Ok None) = live_at paged_machines path t ≡ None
 IsNameIn path t (Ok (Some name)) = name ≡ path
 IsNameIn path t (Err e) = Unit {0}

@@ -2,10 +2,13 @@
 use Rattle.std.specs.Prelude.{List, map}
 use Rattle.drive_script.specs.declared.line.Line.{Line as Read}
 use Rattle.drive_script.specs.declared.line.Line.TheVariants as read
-use Rattle.drive_script.specs.Script.{Line, step, peek, regs}
+use Rattle.drive_script.specs.Script.{Line, step, ask, push, give, peek, regs}
 
 abbrev pub line_read : Read → Line
 line_read (read.Step name most) = step name most
+line_read (read.Ask name) = ask name
+line_read (read.Push name page) = push name page
+line_read (read.Give name place) = give name place
 line_read (read.Peek name address) = peek name address
 line_read (read.Regs name) = regs name
 

@@ -11,14 +11,20 @@ use Rattle.drive_script.specs.declared.error.ScriptError.{ScriptError}
 use Rattle.drive_script.specs.declared.error.ScriptError.TheVariants.{Refused, Memory}
 use Rattle.drive_script.specs.declared.error.TheConstants.{UNKNOWN_WORD, WRONG_FIELDS, BAD_NAME, BAD_NUMBER, BAD_ADDRESS}
 use Rattle.drive_script.specs.declared.fields.TheConstants.{DOT, NEWLINE, SPACE, ZERO}
-use Rattle.drive_script.specs.declared.line.TheConstants.{MAX_STEPS}
+use Rattle.drive_script.specs.declared.line.TheConstants.{MAX_PAGE, MAX_PLACE, MAX_STEPS}
 use Rattle.drive_script.specs.declared.line.Word.{Word}
-use Rattle.drive_script.specs.declared.line.Word.TheVariants.{Step, Peek, Regs}
+use Rattle.drive_script.specs.declared.line.Word.TheVariants.{Step, Ask, Push, Give, Peek, Regs}
 
 -- a line, by the path to the machine that it names
 pub data Line : Type 0 where
   -- at most so many steps
   step : Path → ℕ → Line
+  -- a reply with the page that the next step waits for is sent to the children of the same ticket
+  ask : Path → Line
+  -- a reply with any page is
+  push : Path → ℕ → Line
+  -- the reply at a place among those that were sent arrives
+  give : Path → ℕ → Line
   -- the word at an address
   peek : Path → ℕ → Line
   -- the registers
@@ -90,24 +96,23 @@ fields_beyond text = parts_beyond SPACE text
 abbrev pub word_of : List ℕ → Option Word
 word_of text =
     if bytes_eq text (codes "step") then Some Step
+    else if bytes_eq text (codes "ask") then Some Ask
+    else if bytes_eq text (codes "push") then Some Push
+    else if bytes_eq text (codes "give") then Some Give
     else if bytes_eq text (codes "peek") then Some Peek
     else if bytes_eq text (codes "regs") then Some Regs
     else None
 
--- the line of its fields, or the kind of the first that is not in form
-abbrev pub step_by : Option Path → Option ℕ → Result Line ℕ
-step_by None most = Err BAD_NAME
-step_by (Some path) None = Err BAD_NUMBER
-step_by (Some path) (Some most) = Ok (step path most)
+-- what its fields are, or the kind of the first that is not in form
+abbrev pub named_by : Option Path → Result Path ℕ
+named_by None = Err BAD_NAME
+named_by (Some path) = Ok path
 
-abbrev pub peek_by : Option Path → Option ℕ → Result Line ℕ
-peek_by None address = Err BAD_NAME
-peek_by (Some path) None = Err BAD_ADDRESS
-peek_by (Some path) (Some address) = Ok (peek path address)
-
-abbrev pub regs_by : Option Path → Result Line ℕ
-regs_by None = Err BAD_NAME
-regs_by (Some path) = Ok (regs path)
+-- the second field is a number or an address, and else this is its kind
+abbrev pub valued_by : ℕ → Option Path → Option ℕ → Result (Path × ℕ) ℕ
+valued_by kind None value = Err BAD_NAME
+valued_by kind (Some path) None = Err kind
+valued_by kind (Some path) (Some value) = Ok (path, value)
 
 -- the only text of some, and the only two
 abbrev pub one_of : List (List ℕ) → Option (List ℕ)
@@ -118,25 +123,38 @@ abbrev pub two_of : List (List ℕ) → Option (List ℕ × List ℕ)
 two_of (one ∷ (other ∷ [])) = Some (one, other)
 two_of _ = None
 
--- `step N K`
-abbrev pub step_with : Option (List ℕ × List ℕ) → Result Line ℕ
-step_with None = Err WRONG_FIELDS
-step_with (Some two) = step_by (name_of two.0) (number_within 0 MAX_STEPS two.1)
+-- a name
+abbrev pub named : Option (List ℕ) → Result Path ℕ
+named None = Err WRONG_FIELDS
+named (Some one) = named_by (name_of one)
 
--- `peek N ADDR`
-abbrev pub peek_with : Option (List ℕ × List ℕ) → Result Line ℕ
-peek_with None = Err WRONG_FIELDS
-peek_with (Some two) = peek_by (name_of two.0) (address_of two.1)
+-- a name and a number up to the most
+abbrev pub numbered : ℕ → Option (List ℕ × List ℕ) → Result (Path × ℕ) ℕ
+numbered most None = Err WRONG_FIELDS
+numbered most (Some two) = valued_by BAD_NUMBER (name_of two.0) (number_within 0 most two.1)
 
--- `regs N`
-abbrev pub regs_with : Option (List ℕ) → Result Line ℕ
-regs_with None = Err WRONG_FIELDS
-regs_with (Some one) = regs_by (name_of one)
+-- a name and an address
+abbrev pub addressed : Option (List ℕ × List ℕ) → Result (Path × ℕ) ℕ
+addressed None = Err WRONG_FIELDS
+addressed (Some two) = valued_by BAD_ADDRESS (name_of two.0) (address_of two.1)
 
+-- the line of what was read
+abbrev pub line_named : (Path → Line) → Result Path ℕ → Result Line ℕ
+line_named make (Err kind) = Err kind
+line_named make (Ok path) = Ok (make path)
+
+abbrev pub line_valued : (Path → ℕ → Line) → Result (Path × ℕ) ℕ → Result Line ℕ
+line_valued make (Err kind) = Err kind
+line_valued make (Ok two) = Ok (make two.0 two.1)
+
+-- `step N K`, `ask N`, `push N P`, `give N I`, `peek N ADDR`, `regs N`
 abbrev pub with_fields : Word → List (List ℕ) → Result Line ℕ
-with_fields Step fields = step_with (two_of fields)
-with_fields Peek fields = peek_with (two_of fields)
-with_fields Regs fields = regs_with (one_of fields)
+with_fields Step fields = line_valued step (numbered MAX_STEPS (two_of fields))
+with_fields Ask fields = line_named ask (named (one_of fields))
+with_fields Push fields = line_valued push (numbered MAX_PAGE (two_of fields))
+with_fields Give fields = line_valued give (numbered MAX_PLACE (two_of fields))
+with_fields Peek fields = line_valued peek (addressed (two_of fields))
+with_fields Regs fields = line_named regs (named (one_of fields))
 
 abbrev pub with_word : Option Word → List (List ℕ) → Result Line ℕ
 with_word None fields = Err UNKNOWN_WORD
@@ -175,8 +193,8 @@ abbrev pub IsRefused : List ℕ → ScriptError → Type 0
 IsRefused text (Refused number kind) = script text ≡ Err (number, kind)
 IsRefused text Memory = ⊤
 
--- the same of a line
-abbrev pub IsLineRefused : Result Line ℕ → LineError → Type 0
+-- the same of a line, and of its fields
+abbrev pub IsLineRefused : {X : Type 0} → Result X ℕ → LineError → Type 0
 IsLineRefused read (line.Refused kind) = read ≡ Err kind
 IsLineRefused read line.Memory = ⊤
 

@@ -1,18 +1,13 @@
 -- The steps of one machine of a tree, and why it stops.
-use Rattle.std.specs.Prelude.{◌≡◌, ℕ, zero, suc, true, if◌then◌else◌, replicate, Option, Some, None, IsSome, option_and_then}
+use Rattle.std.specs.Prelude.{◌≡◌, ℕ, zero, suc, ◌||◌, Bool, true, if◌then◌else◌, replicate, Option, Some, None, IsSome, is_some, option_and_then}
 use Rattle.forest_tree.specs.Operations.{Call, clone, join, kill, Operations}
 use Rattle.forest_tree.specs.Tree.{Tree, node, Broods, machine, broods_of, brood_of, Path, subtree}
 use Rattle.forest_tree.specs.Settle.{have_ended, rests, step, settle, settle_all}
 use Rattle.fork_port.specs.declared.ending.Ending.{Ending}
 use Rattle.drive_script.specs.declared.answer.Why.{Why}
-use Rattle.drive_script.specs.declared.answer.Why.TheVariants.{Ended, Waits, MayGoOn}
+use Rattle.drive_script.specs.declared.answer.Why.TheVariants.{Ended, Stalls, Waits, MayGoOn}
 
 module _ {M E : Type 0} (o : Operations M E) where
-  -- of at most so many steps of the machine at a path, those that it makes: it stops where it has ended or waits
-  unfoldable pub steps_made : ℕ → Path → Tree M → ℕ
-  steps_made zero path t = 0
-  steps_made (suc most) path t = if rests o (subtree path t) then 0 else suc (steps_made most path (settle o path t))
-
   -- the tree after so many steps of the machine at a path
   abbrev pub after_steps : ℕ → Path → Tree M → Tree M
   after_steps count path t = settle_all o (replicate count path) t
@@ -25,6 +20,18 @@ module _ {M E : Type 0} (o : Operations M E) where
   abbrev pub live_at : Path → Tree M → Option (Tree M)
   live_at path t = option_and_then (λ a. if_lives (o.ending (machine a)) a) (subtree path t)
 
+-- `stall` tells the page that the next step of a machine waits for, if it waits for one
+module _ {M E : Type 0} (o : Operations M E) (stall : M → Option ℕ) where
+  -- the next step is not made: the machine has ended, waits for a child or waits for a page, or none is there
+  abbrev pub stops : Option (Tree M) → Bool
+  stops None = true
+  stops (Some t) = rests o (Some t) || is_some (stall (machine t))
+
+  -- of at most so many steps of the machine at a path, those that it makes before it stops
+  unfoldable pub steps_made : ℕ → Path → Tree M → ℕ
+  steps_made zero path t = 0
+  steps_made (suc most) path t = if stops (subtree path t) then 0 else suc (steps_made most path (settle o path t))
+
 module _ {M : Type 0} (o : Operations M Ending) where
   -- why a live machine stops that makes this call next, or none: its join waits while a child of the ticket lives
   abbrev pub why_at : Option Call → Broods M → Why
@@ -33,13 +40,15 @@ module _ {M : Type 0} (o : Operations M Ending) where
   why_at (Some (join ticket)) broods = if have_ended o (brood_of ticket broods) then MayGoOn else Waits ticket
   why_at (Some (kill ticket)) broods = MayGoOn
 
-  abbrev pub why_by : Option Ending → Option Call → Broods M → Why
-  why_by None call broods = why_at call broods
-  why_by (Some ending) call broods = Ended ending
+  -- the first that holds: it has ended, waits for this page, or waits for a child
+  abbrev pub why_by : Option Ending → Option ℕ → Option Call → Broods M → Why
+  why_by (Some ending) page call broods = Ended ending
+  why_by None (Some page) call broods = Stalls page
+  why_by None None call broods = why_at call broods
 
-  -- why the machine at the root stops where it stands
-  abbrev pub why : Tree M → Why
-  why (node m broods log) = why_by (o.ending m) (o.call m) broods
+-- why the machine at the root stops where it stands
+abbrev pub why : {M : Type 0} → Operations M Ending → (M → Option ℕ) → Tree M → Why
+why o stall (node m broods log) = why_by o (o.ending m) (stall m) (o.call m) broods
 
 -- the next step of the machine at the root drops the children of a ticket, or takes them where all have ended
 pub data Drops {M E : Type 0} (o : Operations M E) (ticket : ℕ) (t : Tree M) : Type 0 where

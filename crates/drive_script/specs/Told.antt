@@ -1,77 +1,146 @@
 -- What the lines of a script make of a forest of whole machines, and what they answer.
-use Rattle.std.specs.Prelude.{ℕ, zero, suc, ◌/◌, ◌%◌, List, [], ◌∷◌, ◌++◌, codes, replicate, slice_index, Option, Some, None}
+use Rattle.std.specs.Prelude.{ℕ, zero, suc, ◌/◌, ◌%◌, nat_lt, if◌then◌else◌, List, [], ◌∷◌, ◌++◌, codes, length, replicate, slice_get, slice_index, Option, Some, None, option_and_then}
 use Rattle.std.specs.Fmt.{decimal}
 use Rattle.std.specs.List.{flat_map}
+use Rattle.guest_mem.specs.declared.answers.Arrived.{Arrived}
+use Rattle.guest_mem.specs.declared.answers.Arrived.TheVariants.{Got, Had}
 use Rattle.forest_tree.specs.Tree.{Tree, machine, Path, subtree}
 use Rattle.forest_tree.specs.Settle.{settle_all}
+use Rattle.forest_tree.specs.Projection.{map_tree}
 use Rattle.forest_model.specs.Machine.{Machine}
-use Rattle.forest_model.specs.Forest.{machines}
+use Rattle.forest_model.specs.Paged.{Paged, paged_machines, stalled_at}
 use Rattle.run_report.specs.Lines.{ending_text}
 use Rattle.run_report.specs.Name.{name_text}
 use Rattle.vm_cell.specs.Shown.{peeked, shown_registers}
-use Rattle.drive_script.specs.Script.{Line, step, peek, regs}
+use Rattle.drive_script.specs.Script.{Line, step, ask, push, give, peek, regs}
 use Rattle.drive_script.specs.declared.answer.Answer.{Answer}
-use Rattle.drive_script.specs.declared.answer.Answer.TheVariants.{NoMachine, Ran, Word, Registers}
+use Rattle.drive_script.specs.declared.answer.Answer.TheVariants.{NoMachine, Ran, Ask, Push, Give, Word, Registers}
+use Rattle.drive_script.specs.declared.answer.Sent.{Sent}
 use Rattle.drive_script.specs.declared.answer.Why.{Why}
-use Rattle.drive_script.specs.declared.answer.Why.TheVariants.{Ended, Waits, MayGoOn}
+use Rattle.drive_script.specs.declared.answer.Why.TheVariants.{Ended, Stalls, Waits, MayGoOn}
+use Rattle.drive_script.specs.Replies.{Siblings, Replies, siblings_of, none_sent, reply_to, with_reply, place_of, page_at, coming, with_arrival}
 use Rattle.drive_script.specs.Steps.{steps_made, after_steps, why, live_at}
 
 abbrev pub name_in : Line → Path
 name_in (step path most) = path
+name_in (ask path) = path
+name_in (push path page) = path
+name_in (give path place) = path
 name_in (peek path address) = path
 name_in (regs path) = path
 
 -- ---- the forest
 
+-- what a script has come to: the forest, with what is known of the pages of each machine, and the replies that
+-- were sent
+pub record Driven : Type 0 where
+  pub tree : Tree Paged
+  pub sent : Replies
+
+-- before its first line
+abbrev pub begun : Tree Paged → Driven
+begun t = record { tree = t; sent = none_sent }
+
+-- the machines with every page
+abbrev pub whole : Tree Paged → Tree Machine
+whole t = map_tree (λ (p : Paged). p.machine) t
+
+abbrev pub made_at : ℕ → Path → Tree Paged → ℕ
+made_at most path t = steps_made paged_machines stalled_at most path t
+
 -- the steps that a line makes. Only `step` makes some
-abbrev pub steps_of : Line → Tree Machine → List Path
-steps_of (step path most) t = replicate (steps_made machines most path t) path
+abbrev pub steps_of : Line → Tree Paged → List Path
+steps_of (step path most) t = replicate (made_at most path t) path
+steps_of (ask path) t = []
+steps_of (push path page) t = []
+steps_of (give path place) t = []
 steps_of (peek path address) t = []
 steps_of (regs path) t = []
 
--- the forest after a line
-abbrev pub after_line : Line → Tree Machine → Tree Machine
-after_line line t = settle_all machines (steps_of line t) t
+-- the page that `ask` sends: the one that the machine waits for
+abbrev pub asked_of : Tree Paged → Option ℕ
+asked_of a = stalled_at (machine a)
+
+-- and the one that `push` sends, which is any of RAM
+abbrev pub pushed_of : ℕ → Tree Paged → Option ℕ
+pushed_of page a = if nat_lt page (length (machine a).pages.here) then Some page else None
+
+-- the replies that these lines send, where a live machine has the name
+abbrev pub asked : Path → Driven → Option (Siblings × ℕ)
+asked path s = reply_to (siblings_of path) (option_and_then asked_of (live_at paged_machines path s.tree))
+
+abbrev pub pushed : Path → ℕ → Driven → Option (Siblings × ℕ)
+pushed path page s = reply_to (siblings_of path) (option_and_then (pushed_of page) (live_at paged_machines path s.tree))
+
+-- what comes of a page that was sent, where it comes to a live machine
+abbrev pub arrived_at : Option ℕ → Option (Tree Paged) → Option Arrived
+arrived_at None a = None
+arrived_at (Some page) None = None
+arrived_at (Some page) (Some a) = coming (slice_get (machine a).pages.here page) page
+
+-- `give`: the reply at a place of those that were sent to the machine and its siblings arrives
+abbrev pub given : Path → ℕ → Driven → Option Arrived
+given path place s = arrived_at (page_at (siblings_of path) place s.sent) (live_at paged_machines path s.tree)
+
+-- what the script comes to by a line
+abbrev pub after_line : Line → Driven → Driven
+after_line (step path most) s = record s { tree = after_steps paged_machines (made_at most path s.tree) path s.tree }
+after_line (ask path) s = record s { sent = with_reply (asked path s) s.sent }
+after_line (push path page) s = record s { sent = with_reply (pushed path page s) s.sent }
+after_line (give path place) s = record s { tree = with_arrival path (given path place s) s.tree }
+after_line (peek path address) s = s
+after_line (regs path) s = s
 
 -- the same after a script
-unfoldable pub after_script : List Line → Tree Machine → Tree Machine
-after_script [] t = t
-after_script (line ∷ rest) t = after_script rest (after_line line t)
+unfoldable pub after_script : List Line → Driven → Driven
+after_script [] s = s
+after_script (line ∷ rest) s = after_script rest (after_line line s)
 
-unfoldable pub steps_of_script : List Line → Tree Machine → List Path
-steps_of_script [] t = []
-steps_of_script (line ∷ rest) t = steps_of line t ++ steps_of_script rest (after_line line t)
+unfoldable pub steps_of_script : List Line → Driven → List Path
+steps_of_script [] s = []
+steps_of_script (line ∷ rest) s = steps_of line s.tree ++ steps_of_script rest (after_line line s)
 
 -- ---- the answers
 
 -- the answer of `step`, by the tree in which the machine stopped
-abbrev pub ran_by : ℕ → Option (Tree Machine) → Answer
+abbrev pub ran_by : ℕ → Option (Tree Paged) → Answer
 ran_by steps None = NoMachine
-ran_by steps (Some a) = Ran steps (why machines a)
+ran_by steps (Some a) = Ran steps (why paged_machines stalled_at a)
 
 -- the same after so many steps
-abbrev pub ran : Path → ℕ → Tree Machine → Answer
-ran path steps t = ran_by steps (subtree path (after_steps machines steps path t))
+abbrev pub ran : Path → ℕ → Tree Paged → Answer
+ran path steps t = ran_by steps (subtree path (after_steps paged_machines steps path t))
 
 -- the answer of a line, by the tree of the live machine that it names
-abbrev pub answer_of : Line → Tree Machine → Tree Machine → Answer
-answer_of (step path most) t a = ran path (steps_made machines most path t) t
-answer_of (peek path address) t a = Word (peeked (machine a).state address)
-answer_of (regs path) t a = Registers (shown_registers (machine a).state)
+abbrev pub answer_of : Line → Driven → Tree Paged → Answer
+answer_of (step path most) s a = ran path (made_at most path s.tree) s.tree
+answer_of (ask path) s a = Ask (place_of (reply_to (siblings_of path) (asked_of a)) s.sent)
+answer_of (push path page) s a = Push (place_of (reply_to (siblings_of path) (pushed_of page a)) s.sent)
+answer_of (give path place) s a = Give (arrived_at (page_at (siblings_of path) place s.sent) (Some a))
+answer_of (peek path address) s a = Word (peeked (machine a).machine.state address)
+answer_of (regs path) s a = Registers (shown_registers (machine a).machine.state)
 
--- the same, where one lives
-abbrev pub answer_by : Line → Tree Machine → Option (Tree Machine) → Answer
-answer_by line t None = NoMachine
-answer_by line t (Some a) = answer_of line t a
+-- where none lives
+abbrev pub unanswered : Line → Answer
+unanswered (step path most) = NoMachine
+unanswered (ask path) = Ask None
+unanswered (push path page) = Push None
+unanswered (give path place) = Give None
+unanswered (peek path address) = NoMachine
+unanswered (regs path) = NoMachine
 
--- the answer of a line to a forest
-abbrev pub answer : Line → Tree Machine → Answer
-answer line t = answer_by line t (live_at machines (name_in line) t)
+abbrev pub answer_by : Line → Driven → Option (Tree Paged) → Answer
+answer_by line s None = unanswered line
+answer_by line s (Some a) = answer_of line s a
+
+-- the answer of a line
+abbrev pub answer : Line → Driven → Answer
+answer line s = answer_by line s (live_at paged_machines (name_in line) s.tree)
 
 -- the answers of a script, line by line, each with the machine that it is of
-unfoldable pub told : List Line → Tree Machine → List (Path × Answer)
-told [] t = []
-told (line ∷ rest) t = (name_in line, answer line t) ∷ told rest (after_line line t)
+unfoldable pub told : List Line → Driven → List (Path × Answer)
+told [] s = []
+told (line ∷ rest) s = (name_in line, answer line s) ∷ told rest (after_line line s)
 
 -- ---- the text
 
@@ -86,8 +155,22 @@ word_text n = hexadecimal 8 n
 
 abbrev pub why_text : Why → List ℕ
 why_text (Ended ending) = ending_text ending
+why_text (Stalls page) = codes "stall " ++ decimal page
 why_text (Waits ticket) = codes "wait " ++ decimal ticket
 why_text MayGoOn = codes "ok"
+
+abbrev pub sent_text : Sent → List ℕ
+sent_text s = decimal s.page ++ (codes " " ++ decimal s.place)
+
+-- a page and its place, if a reply was sent
+abbrev pub sent_or_none : Option Sent → List ℕ
+sent_or_none None = codes "none"
+sent_or_none (Some s) = sent_text s
+
+abbrev pub arrived_text : Option Arrived → List ℕ
+arrived_text None = codes "give none"
+arrived_text (Some (Got page)) = codes "got " ++ decimal page
+arrived_text (Some (Had page)) = codes "had " ++ decimal page
 
 abbrev pub value_text : Option ℕ → List ℕ
 value_text None = codes "none"
@@ -99,6 +182,9 @@ register_text n = codes " " ++ word_text n
 unfoldable pub answer_text : Answer → List ℕ
 answer_text NoMachine = codes "none"
 answer_text (Ran steps why) = codes "ran " ++ (decimal steps ++ (codes " " ++ why_text why))
+answer_text (Ask sent) = codes "ask " ++ sent_or_none sent
+answer_text (Push sent) = codes "push " ++ sent_or_none sent
+answer_text (Give arrived) = arrived_text arrived
 answer_text (Word value) = codes "word " ++ value_text value
 answer_text (Registers values) = codes "regs" ++ flat_map register_text values
 
@@ -106,6 +192,6 @@ answer_text (Registers values) = codes "regs" ++ flat_map register_text values
 abbrev pub told_line : Path × Answer → List ℕ
 told_line (path, answer) = name_text path ++ (codes " " ++ (answer_text answer ++ codes "\n"))
 
--- what a script writes
-unfoldable pub told_text : List Line → Tree Machine → List ℕ
-told_text lines t = flat_map told_line (told lines t)
+-- what a script writes of a forest
+unfoldable pub told_text : List Line → Tree Paged → List ℕ
+told_text lines t = flat_map told_line (told lines (begun t))

@@ -4,12 +4,15 @@ use Rattle.std.specs.Char.{to_ascii_lowercase}
 use Rattle.std.specs.Fmt.{decimal}
 use Rattle.forest_tree.specs.Tree.{Branch, Path}
 use Rattle.run_report.specs.Name.{name_text}
-use Rattle.drive_script.specs.declared.line.TheConstants.{MAX_STEPS}
-use Rattle.drive_script.specs.Script.{Line, step, peek, regs}
+use Rattle.drive_script.specs.declared.line.TheConstants.{MAX_PAGE, MAX_PLACE, MAX_STEPS}
+use Rattle.drive_script.specs.Script.{Line, step, ask, push, give, peek, regs}
 use Rattle.drive_script.specs.Told.{word_text}
 
 abbrev pub line_text : Line → List ℕ
 line_text (step path most) = codes "step " ++ (name_text path ++ (codes " " ++ decimal most))
+line_text (ask path) = codes "ask " ++ name_text path
+line_text (push path page) = codes "push " ++ (name_text path ++ (codes " " ++ decimal page))
+line_text (give path place) = codes "give " ++ (name_text path ++ (codes " " ++ decimal place))
 line_text (peek path address) = codes "peek " ++ (name_text path ++ (codes " " ++ word_text address))
 line_text (regs path) = codes "regs " ++ name_text path
 
@@ -30,6 +33,9 @@ AreForks (b ∷ rest) = IsFork b × AreForks rest
 
 abbrev pub IsInForm : Line → Type 0
 IsInForm (step path most) = AreForks path × (most ≤ MAX_STEPS)
+IsInForm (ask path) = AreForks path
+IsInForm (push path page) = AreForks path × (page ≤ MAX_PAGE)
+IsInForm (give path place) = AreForks path × (place ≤ MAX_PLACE)
 IsInForm (peek path address) = AreForks path × (address < 2 ^ 32)
 IsInForm (regs path) = AreForks path
 
@@ -40,6 +46,9 @@ AreInForm (line ∷ rest) = IsInForm line × AreInForm rest
 -- the text is that of the line, but that the digits of an address may be of either case
 abbrev pub IsTextOf : List ℕ → Line → Type 0
 IsTextOf text (step path most) = text ≡ line_text (step path most)
+IsTextOf text (ask path) = text ≡ line_text (ask path)
+IsTextOf text (push path page) = text ≡ line_text (push path page)
+IsTextOf text (give path place) = text ≡ line_text (give path place)
 IsTextOf text (peek path address) =
     (digits : List ℕ) × (text ≡ codes "peek " ++ (name_text path ++ (codes " " ++ digits))) × (map to_ascii_lowercase digits ≡ word_text address)
 IsTextOf text (regs path) = text ≡ line_text (regs path)

@@ -3,16 +3,19 @@
 ghost use Rattle.std.specs.Prelude.{◌++◌, Some, codes};
 ghost use Rattle.std.specs.Fmt.{WritesOnOk};
 ghost use Rattle.std.specs.List.{flat_map};
-ghost use Rattle.drive_script.specs.Told.{answer_text, register_text, why_text, word_text};
+ghost use Rattle.drive_script.specs.Told.{answer_text, register_text, sent_text, why_text, word_text};
 
 use fork_port::Ending;
 use std::{fmt, str};
+use vm_cell::Arrived;
 
 /// Why a machine stops.
 #[derive(Clone, Copy)]
 pub(crate) enum Why {
     /// It has ended.
     Ended(Ending),
+    /// Its next step touches this page, which is not here.
+    Stalls(u32),
     /// Its next step is the JOIN of this ticket, of which a child lives.
     Waits(u32),
     /// All steps that were asked for are made. It may go on.
@@ -26,9 +29,26 @@ impl fmt::Display for Why {
         match self {
             Why::Ended(Ending::Exit(value)) => write!(f, "exit {value}"),
             Why::Ended(Ending::Limit) => write!(f, "limit"),
+            Why::Stalls(page) => write!(f, "stall {page}"),
             Why::Waits(ticket) => write!(f, "wait {ticket}"),
             Why::MayGoOn => write!(f, "ok"),
         }
+    }
+}
+
+/// A reply that was sent: its page, and its place among those that were sent to the same machines, from 0.
+#[derive(Clone, Copy)]
+pub(crate) struct Sent {
+    pub(crate) page: u32,
+    pub(crate) place: usize,
+}
+
+impl fmt::Display for Sent {
+    ghost output = { λ sent. Some (sent_text sent) };
+
+    fn fmt<W: fmt::Write>(&self, f: &mut fmt::Formatter<W>) -> fmt::Result {
+        let Sent { page, place } = *self;
+        write!(f, "{page} {place}")
     }
 }
 
@@ -39,6 +59,12 @@ pub(crate) enum Answer {
     NoMachine,
     /// It made so many steps.
     Ran { steps: u64, why: Why },
+    /// The reply that was sent with the page at which it stalls, if one was.
+    Ask(Option<Sent>),
+    /// The reply that was sent with a page, if one was.
+    Push(Option<Sent>),
+    /// What came of the reply at a place, if there is one.
+    Give(Option<Arrived>),
     /// The word at an address, if one is there.
     Word(Option<u32>),
     /// The pc, and then the registers x1 to x31.
@@ -53,6 +79,13 @@ impl fmt::Display for Answer {
         match self {
             Answer::NoMachine => write!(f, "none"),
             Answer::Ran { steps, why } => write!(f, "ran {steps} {why}"),
+            Answer::Ask(None) => write!(f, "ask none"),
+            Answer::Ask(Some(sent)) => write!(f, "ask {sent}"),
+            Answer::Push(None) => write!(f, "push none"),
+            Answer::Push(Some(sent)) => write!(f, "push {sent}"),
+            Answer::Give(None) => write!(f, "give none"),
+            Answer::Give(Some(Arrived::Got(page))) => write!(f, "got {page}"),
+            Answer::Give(Some(Arrived::Had(page))) => write!(f, "had {page}"),
             Answer::Word(None) => write!(f, "word none"),
             Answer::Word(Some(word)) => {
                 let word = HexWord(*word);

@@ -1,19 +1,21 @@
 //! A world of machines that is driven by a script.
 
-ghost use Rattle.std.specs.Prelude.{◌≡◌};
+ghost use Rattle.std.specs.Prelude.{◌≡◌, nat_lt, if◌then◌else◌, Some, None, IfOk};
 ghost use Rattle.image_depot.specs.Key.{Shelves};
 ghost use Rattle.forest_tree.specs.Tree.{Tree};
-ghost use Rattle.forest_model.specs.Machine.{Machine};
+ghost use Rattle.forest_model.specs.Paged.{Paged};
 ghost use Rattle.world_core.specs.World.{reason_of};
-ghost use Rattle.drive_script.specs.Driven.{Drives, DrivesLine, HasMachines, IsNameIn};
+ghost use Rattle.drive_script.specs.Driven.{Drives, DrivesLine, HasMachines, IsNameIn, Keeps};
 ghost use Rattle.drive_script.specs.Lines.{line_read};
-ghost use Rattle.drive_script.specs.Script.{peek, regs, step};
+ghost use Rattle.drive_script.specs.Script.{ask, give, peek, push, regs, step};
+ghost use Rattle.drive_script.specs.Told.{Driven, after_line, unanswered};
 
 use crate::answer::{Answer, Why};
 use crate::line::Line;
 use crate::name::NameText;
+use crate::replies::Replies;
 use crate::script::Script;
-use crate::turn::{Turn, give_back, take_turn};
+use crate::turn::{Turn, bring, give_back, take_turn};
 use fork_port::Ending;
 use image_depot::Depot;
 use run_report::Name;
@@ -24,7 +26,7 @@ use world_core::World;
 
 /// Does what the lines of a script say, one after another, and gives the text that they write. No machine is
 /// on lease, before and after. Where memory is wanting the lines before that are done, and of the line at which
-/// it was wanting the steps that were made. The world's reason to stop stays.
+/// it was wanting the steps that were made, or the page that came. The world's reason to stop stays.
 pub fn drive<R: Wait>(
     rt: &R,
     alloc: Global,
@@ -32,14 +34,15 @@ pub fn drive<R: Wait>(
     world: &mut World,
     depot: &Depot,
 ) -> Result<Vec<u8>, AllocError>
-    requires { (t : Tree Machine) × HasMachines depot.now world.old t }
-    ensures drives { (t : Tree Machine) → HasMachines depot.now world.old t → Drives depot.now script.now t result world.new }
+    requires { (t : Tree Paged) × HasMachines depot.now world.old t }
+    ensures drives { (t : Tree Paged) → HasMachines depot.now world.old t → Drives depot.now script.now t result world.new }
     ensures reason { reason_of world.new ≡ reason_of world.old }
 {
     let mut text = String::new(alloc);
+    let mut replies = Replies::new(alloc);
     'lines: for line in script.lines() {
         let name = line.name();
-        let answer = answer_line(rt, alloc, world, line, depot)?;
+        let answer = answer_line(rt, alloc, world, &mut replies, line, depot)?;
         write!(text, "{name} {answer}\n")?;
     }
     Ok(text.into_bytes())
@@ -50,26 +53,45 @@ fn answer_line<R: Wait>(
     rt: &R,
     alloc: Global,
     world: &mut World,
+    replies: &mut Replies,
     line: &Line,
     depot: &Depot,
 ) -> Result<Answer, AllocError>
-    requires { (t : Tree Machine) × HasMachines depot.now world.old t }
-    ensures drives { (t : Tree Machine) → HasMachines depot.now world.old t → DrivesLine depot.now (line_read line.now) t result world.new }
+    requires { (t : Tree Paged) × HasMachines depot.now world.old t }
+    ensures drives { (s : Driven) → HasMachines depot.now world.old s.tree → Keeps replies.old.lists s.sent
+        → DrivesLine depot.now (line_read line.now) s result world.new }
+    ensures keeps { (s : Driven) → HasMachines depot.now world.old s.tree → Keeps replies.old.lists s.sent
+        → IfOk result (λ answer. Keeps replies.new.lists (after_line (line_read line.now) s).sent) }
     ensures reason { reason_of world.new ≡ reason_of world.old }
 {
     let Some(name) = name_for(alloc, world, line.name())? else {
-        return Ok(Answer::NoMachine);
+        return Ok(not_answered(line));
     };
     match line {
         Line::Step { most, .. } => step(rt, alloc, world, &name, u64::from(*most), depot),
+        Line::Ask { .. } => ask(alloc, world, replies, &name, depot),
+        Line::Push { page, .. } => push(alloc, world, replies, &name, *page, depot),
+        Line::Give { place, .. } => give(alloc, world, replies, &name, *place, depot),
         Line::Peek { address, .. } => peek(alloc, world, &name, *address, depot),
         Line::Regs { .. } => regs(alloc, world, &name, depot),
     }
 }
 
+/// What a line answers where no live machine has its name.
+fn not_answered(line: &Line) -> Answer
+    ensures { result ≡ unanswered (line_read line.now) }
+{
+    match line {
+        Line::Ask { .. } => Answer::Ask(None),
+        Line::Push { .. } => Answer::Push(None),
+        Line::Give { .. } => Answer::Give(None),
+        Line::Step { .. } | Line::Peek { .. } | Line::Regs { .. } => Answer::NoMachine,
+    }
+}
+
 /// The name of a line put together, or nothing where no machine has a name of so many forks.
 fn name_for(alloc: Global, world: &World, name: &NameText) -> Result<Option<Name>, AllocError>
-    ensures { (depot : Shelves) (t : Tree Machine) → HasMachines depot world.now t → IsNameIn name.now t result }
+    ensures { (depot : Shelves) (t : Tree Paged) → HasMachines depot world.now t → IsNameIn name.now t result }
 {
     if !world.reaches(name.depth()) {
         return Ok(None);
@@ -86,8 +108,8 @@ fn step<R: Wait>(
     most: u64,
     depot: &Depot,
 ) -> Result<Answer, AllocError>
-    requires { (t : Tree Machine) × HasMachines depot.now world.old t }
-    ensures drives { (t : Tree Machine) → HasMachines depot.now world.old t → DrivesLine depot.now (step name.now most) t result world.new }
+    requires { (t : Tree Paged) × HasMachines depot.now world.old t }
+    ensures drives { (s : Driven) → HasMachines depot.now world.old s.tree → DrivesLine depot.now (step name.now most) s result world.new }
     ensures reason { reason_of world.new ≡ reason_of world.old }
 {
     let mut made = 0;
@@ -112,6 +134,82 @@ fn step<R: Wait>(
     }
 }
 
+/// Sends a reply with the page at which a machine stalls.
+fn ask(
+    alloc: Global,
+    world: &mut World,
+    replies: &mut Replies,
+    name: &Name,
+    depot: &Depot,
+) -> Result<Answer, AllocError>
+    requires { (t : Tree Paged) × HasMachines depot.now world.old t }
+    ensures drives { (s : Driven) → HasMachines depot.now world.old s.tree → Keeps replies.old.lists s.sent → DrivesLine depot.now (ask name.now) s result world.new }
+    ensures keeps { (s : Driven) → HasMachines depot.now world.old s.tree → Keeps replies.old.lists s.sent
+        → IfOk result (λ answer. Keeps replies.new.lists (after_line (ask name.now) s).sent) }
+    ensures reason { reason_of world.new ≡ reason_of world.old }
+{
+    let Some(lease) = world.take_named(alloc, name, depot)? else {
+        return Ok(Answer::Ask(None));
+    };
+    let page = lease.wanted();
+    give_back(world, lease);
+    Ok(Answer::Ask(replies.send(alloc, name, page)?))
+}
+
+/// Sends a reply with a page, if RAM has it.
+fn push(
+    alloc: Global,
+    world: &mut World,
+    replies: &mut Replies,
+    name: &Name,
+    page: u32,
+    depot: &Depot,
+) -> Result<Answer, AllocError>
+    requires { (t : Tree Paged) × HasMachines depot.now world.old t }
+    ensures drives { (s : Driven) → HasMachines depot.now world.old s.tree → Keeps replies.old.lists s.sent → DrivesLine depot.now (push name.now page) s result world.new }
+    ensures keeps { (s : Driven) → HasMachines depot.now world.old s.tree → Keeps replies.old.lists s.sent
+        → IfOk result (λ answer. Keeps replies.new.lists (after_line (push name.now page) s).sent) }
+    ensures reason { reason_of world.new ≡ reason_of world.old }
+{
+    let Some(lease) = world.take_named(alloc, name, depot)? else {
+        return Ok(Answer::Push(None));
+    };
+    let page = page_below(page, lease.pages());
+    give_back(world, lease);
+    Ok(Answer::Push(replies.send(alloc, name, page)?))
+}
+
+/// A page, if it is one of so many.
+fn page_below(page: u32, pages: u32) -> Option<u32>
+    ensures { result ≡ (if nat_lt page pages then Some page else None) }
+{
+    if page < pages { Some(page) } else { None }
+}
+
+/// Lets the reply at a place arrive at a machine.
+fn give(
+    alloc: Global,
+    world: &mut World,
+    replies: &Replies,
+    name: &Name,
+    place: u32,
+    depot: &Depot,
+) -> Result<Answer, AllocError>
+    requires { (t : Tree Paged) × HasMachines depot.now world.old t }
+    ensures drives { (s : Driven) → HasMachines depot.now world.old s.tree → Keeps replies.now.lists s.sent → DrivesLine depot.now (give name.now place) s result world.new }
+    ensures reason { reason_of world.new ≡ reason_of world.old }
+{
+    let Some(page) = replies.page_at(alloc, name, place)? else {
+        return Ok(Answer::Give(None));
+    };
+    let Some(mut lease) = world.take_named(alloc, name, depot)? else {
+        return Ok(Answer::Give(None));
+    };
+    let arrived = bring(alloc, &mut lease, depot, page);
+    give_back(world, lease);
+    Ok(Answer::Give(arrived?))
+}
+
 /// Reads a word of a machine's RAM.
 fn peek(
     alloc: Global,
@@ -120,8 +218,8 @@ fn peek(
     address: u32,
     depot: &Depot,
 ) -> Result<Answer, AllocError>
-    requires { (t : Tree Machine) × HasMachines depot.now world.old t }
-    ensures drives { (t : Tree Machine) → HasMachines depot.now world.old t → DrivesLine depot.now (peek name.now address) t result world.new }
+    requires { (t : Tree Paged) × HasMachines depot.now world.old t }
+    ensures drives { (s : Driven) → HasMachines depot.now world.old s.tree → DrivesLine depot.now (peek name.now address) s result world.new }
     ensures reason { reason_of world.new ≡ reason_of world.old }
 {
     let Some(lease) = world.take_named(alloc, name, depot)? else {
@@ -134,8 +232,8 @@ fn peek(
 
 /// Reads a machine's pc and its registers.
 fn regs(alloc: Global, world: &mut World, name: &Name, depot: &Depot) -> Result<Answer, AllocError>
-    requires { (t : Tree Machine) × HasMachines depot.now world.old t }
-    ensures drives { (t : Tree Machine) → HasMachines depot.now world.old t → DrivesLine depot.now (regs name.now) t result world.new }
+    requires { (t : Tree Paged) × HasMachines depot.now world.old t }
+    ensures drives { (s : Driven) → HasMachines depot.now world.old s.tree → DrivesLine depot.now (regs name.now) s result world.new }
     ensures reason { reason_of world.new ≡ reason_of world.old }
 {
     let Some(lease) = world.take_named(alloc, name, depot)? else {

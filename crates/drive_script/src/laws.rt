@@ -5,17 +5,19 @@ ghost use Rattle.std.specs.Char.{to_ascii_lowercase};
 ghost use Rattle.std.specs.Fmt.{decimal};
 ghost use Rattle.forest_tree.specs.Operations.{join};
 ghost use Rattle.forest_tree.specs.Tree.{Tree, node, Broods, Log, Branch, Path, machine, log_of, size, child_at, brood_of, subtree, beyond, beyond_all, is_below};
-ghost use Rattle.forest_tree.specs.Settle.{own_steps, rests, settle_all, waits};
+ghost use Rattle.forest_tree.specs.Settle.{own_steps, settle_all, waits};
 ghost use Rattle.forest_tree.specs.Sound.{IsSound};
 ghost use Rattle.forest_model.specs.Machine.{Machine};
 ghost use Rattle.forest_model.specs.Forest.{finish, machines, port_of};
+ghost use Rattle.forest_model.specs.Paged.{Paged, paged_machines, stalled_at};
 ghost use Rattle.run_report.specs.Name.{name_text};
-ghost use Rattle.drive_script.specs.Script.{Line, address_of, line_of, name_of, number_within, script, step};
+ghost use Rattle.drive_script.specs.Script.{Line, address_of, ask, give, line_of, name_of, number_within, push, script, step};
 ghost use Rattle.drive_script.specs.declared.answer.Answer.TheVariants.{Ran};
 ghost use Rattle.drive_script.specs.declared.answer.Why.TheVariants.{MayGoOn};
-ghost use Rattle.drive_script.specs.Steps.{steps_made, after_steps, Drops};
+ghost use Rattle.drive_script.specs.Replies.{Siblings, siblings_of};
+ghost use Rattle.drive_script.specs.Steps.{after_steps, stops, Drops};
 ghost use Rattle.drive_script.specs.Written.{AreForks, AreInForm, IsTextOf, script_text};
-ghost use Rattle.drive_script.specs.Told.{name_in, steps_of, after_line, after_script, steps_of_script, answer, word_text};
+ghost use Rattle.drive_script.specs.Told.{Driven, made_at, whole, name_in, steps_of, after_line, after_script, steps_of_script, answer, word_text};
 
 /// Numbers, names and addresses have one text each, but that the digits of an address may be of either case.
 pub fn fields_have_one_text()
@@ -39,64 +41,76 @@ pub fn scripts_are_read_as_written()
 /// A line about one machine changes no other. What is not below it keeps its machine and its log, and what it
 /// is not below either stays as it is. What is below it and still there is as it was. What is not there any
 /// more was dropped by a step of the line: a kill of its ticket or an end, or a join that took it with all
-/// children of the ticket, which had ended.
+/// children of the ticket, which had ended. And what was sent to others than the machine and its siblings stays.
 pub fn lines_change_one_machine()
-    ensures others { (line : Line) (at : Path) (t : Tree Machine) → at ≢ name_in line → is_below (name_in line) at ≡ false
-        → option_map machine (subtree at (after_line line t)) ≡ option_map machine (subtree at t) }
-    ensures logs { (line : Line) (at : Path) (t : Tree Machine) → at ≢ name_in line → is_below (name_in line) at ≡ false
-        → option_map log_of (subtree at (after_line line t)) ≡ option_map log_of (subtree at t) }
-    ensures apart { (line : Line) (at : Path) (t : Tree Machine) → is_below (name_in line) at ≡ false → beyond at (name_in line) ≡ None
-        → subtree at (after_line line t) ≡ subtree at t }
-    ensures below { (line : Line) (at : Path) (t a b : Tree Machine) → IsSound machines t → is_below (name_in line) at ≡ true
-        → subtree at t ≡ Some a → subtree at (after_line line t) ≡ Some b → b ≡ a }
-    ensures gone { (line : Line) (b : Branch) (rest : Path) (t a : Tree Machine) → IsSound machines t
-        → subtree (name_in line ++ (b ∷ rest)) t ≡ Some a → subtree (name_in line ++ (b ∷ rest)) (after_line line t) ≡ None
-        → (n : ℕ) × (n < length (steps_of line t)) × (x : Tree Machine)
-        × (subtree (name_in line) (after_steps machines n (name_in line) t) ≡ Some x) × Drops machines b.ticket x }
+    ensures others { (line : Line) (at : Path) (s : Driven) → at ≢ name_in line → is_below (name_in line) at ≡ false
+        → option_map machine (subtree at (after_line line s).tree) ≡ option_map machine (subtree at s.tree) }
+    ensures logs { (line : Line) (at : Path) (s : Driven) → at ≢ name_in line → is_below (name_in line) at ≡ false
+        → option_map log_of (subtree at (after_line line s).tree) ≡ option_map log_of (subtree at s.tree) }
+    ensures apart { (line : Line) (at : Path) (s : Driven) → is_below (name_in line) at ≡ false → beyond at (name_in line) ≡ None
+        → subtree at (after_line line s).tree ≡ subtree at s.tree }
+    ensures below { (line : Line) (at : Path) (s : Driven) (a b : Tree Paged) → IsSound paged_machines s.tree → is_below (name_in line) at ≡ true
+        → subtree at s.tree ≡ Some a → subtree at (after_line line s).tree ≡ Some b → b ≡ a }
+    ensures gone { (line : Line) (b : Branch) (rest : Path) (s : Driven) (a : Tree Paged) → IsSound paged_machines s.tree
+        → subtree (name_in line ++ (b ∷ rest)) s.tree ≡ Some a → subtree (name_in line ++ (b ∷ rest)) (after_line line s).tree ≡ None
+        → (n : ℕ) × (n < length (steps_of line s.tree)) × (x : Tree Paged)
+        × (subtree (name_in line) (after_steps paged_machines n (name_in line) s.tree) ≡ Some x) × Drops paged_machines b.ticket x }
+    ensures lists { (line : Line) (to : Siblings) (s : Driven) → siblings_of (name_in line) ≢ Some to → (after_line line s).sent to ≡ s.sent to }
 {}
 
 /// A line of steps is one line of the first of them and then one of the others.
 pub fn steps_in_pieces()
-    ensures made { (first more : ℕ) (path : Path) (t : Tree Machine)
-        → steps_made machines (first + more) path t ≡ steps_made machines first path t + steps_made machines more path (after_line (step path first) t) }
-    ensures after { (first more : ℕ) (path : Path) (t : Tree Machine)
-        → after_line (step path (first + more)) t ≡ after_line (step path more) (after_line (step path first) t) }
+    ensures made { (first more : ℕ) (path : Path) (s : Driven)
+        → made_at (first + more) path s.tree ≡ made_at first path s.tree + made_at more path (after_line (step path first) s).tree }
+    ensures after { (first more : ℕ) (path : Path) (s : Driven)
+        → after_line (step path (first + more)) s ≡ after_line (step path more) (after_line (step path first) s) }
 {}
 
-/// A machine makes at most as many steps as a line asks for, lives and does not wait before each of them, and
-/// makes fewer only where it has then ended or waits: `ok` is answered after all of them. It has counted just
-/// these.
+/// A machine makes at most as many steps as a line asks for. Before each of them it lives, waits for no child and
+/// touches no page that is not here, and it makes fewer only where one of these then fails: `ok` is answered after
+/// all of them. It has counted just these.
 pub fn steps_stop_short()
-    ensures at_most { (most : ℕ) (path : Path) (t : Tree Machine) → steps_made machines most path t ≤ most }
-    ensures each { (most n : ℕ) (path : Path) (t : Tree Machine) → n < steps_made machines most path t
-        → rests machines (subtree path (after_steps machines n path t)) ≡ false }
-    ensures short { (most : ℕ) (path : Path) (t : Tree Machine) → steps_made machines most path t < most
-        → rests machines (subtree path (after_line (step path most) t)) ≡ true }
-    ensures counted { (most : ℕ) (path : Path) (t a b : Tree Machine) → IsSound machines t → subtree path t ≡ Some a
-        → subtree path (after_line (step path most) t) ≡ Some b → machines.left (machine a) ≡ steps_made machines most path t + machines.left (machine b) }
-    ensures ok { (most made : ℕ) (path : Path) (t : Tree Machine) → answer (step path most) t ≡ Ran made MayGoOn → made ≡ most }
+    ensures at_most { (most : ℕ) (path : Path) (t : Tree Paged) → made_at most path t ≤ most }
+    ensures each { (most n : ℕ) (path : Path) (t : Tree Paged) → n < made_at most path t
+        → stops paged_machines stalled_at (subtree path (after_steps paged_machines n path t)) ≡ false }
+    ensures short { (most : ℕ) (path : Path) (s : Driven) → made_at most path s.tree < most
+        → stops paged_machines stalled_at (subtree path (after_line (step path most) s).tree) ≡ true }
+    ensures counted { (most : ℕ) (path : Path) (s : Driven) (a b : Tree Paged) → IsSound paged_machines s.tree → subtree path s.tree ≡ Some a
+        → subtree path (after_line (step path most) s).tree ≡ Some b
+        → paged_machines.left (machine a) ≡ made_at most path s.tree + paged_machines.left (machine b) }
+    ensures ok { (most made : ℕ) (path : Path) (s : Driven) → answer (step path most) s ≡ Ran made MayGoOn → made ≡ most }
 {}
 
-/// Where a machine stands at a join that does not wait, a line of one step makes the join: what it stores is how
-/// the children of the ticket ended, in their order, and all of them had ended.
+/// Where a machine stands at a join that does not wait, and the pages that it touches are here, a line of one step
+/// makes the join: what it stores is how the children of the ticket ended, in their order, and all of them had ended.
 pub fn joins_store_endings()
-    ensures { (path : Path) (t : Tree Machine) (m : Machine) (broods : Broods Machine) (log : Log Machine) (ticket : ℕ)
-        → subtree path t ≡ Some (node m broods log) → m.ending ≡ None → machines.call m ≡ Some (join ticket) → waits machines (node m broods log) ≡ false
-        → (x : Tree Machine) × (subtree path (after_line (step path 1) t) ≡ Some x) × (length (port_of (machine x)).joined ≡ size (brood_of ticket broods))
-        × ((i : ℕ) (child : Tree Machine) → child_at (suc i) (brood_of ticket broods) ≡ Some child
-        → (slice_get (port_of (machine x)).joined i ≡ (machine child).ending) × IsSome (machine child).ending) }
+    ensures { (path : Path) (s : Driven) (p : Paged) (broods : Broods Paged) (log : Log Paged) (ticket : ℕ)
+        → subtree path s.tree ≡ Some (node p broods log) → p.machine.ending ≡ None → stalled_at p ≡ None → machines.call p.machine ≡ Some (join ticket)
+        → waits paged_machines (node p broods log) ≡ false
+        → (x : Tree Paged) × (subtree path (after_line (step path 1) s).tree ≡ Some x) × (length (port_of (machine x).machine).joined ≡ size (brood_of ticket broods))
+        × ((i : ℕ) (child : Tree Paged) → child_at (suc i) (brood_of ticket broods) ≡ Some child
+        → (slice_get (port_of (machine x).machine).joined i ≡ (machine child).machine.ending) × IsSome (machine child).machine.ending) }
 {}
 
-/// A script makes steps alone. So it keeps a forest sound, and leaves the end that the forest comes to. What
-/// becomes of a machine with all below it is what the steps at its place and below make of it alone, in their
-/// order, and as many of them are its own as it has counted.
+/// Asking, pushing and giving change no byte that a machine reads, nor anything else of the machines: of a forest
+/// a reply changes at most what is known of the pages of the machine that it comes to.
+pub fn replies_change_no_machine()
+    ensures ask { (path : Path) (s : Driven) → (after_line (ask path) s).tree ≡ s.tree }
+    ensures push { (path : Path) (page : ℕ) (s : Driven) → (after_line (push path page) s).tree ≡ s.tree }
+    ensures give { (path : Path) (place : ℕ) (s : Driven) → whole (after_line (give path place) s).tree ≡ whole s.tree }
+{}
+
+/// A script makes steps alone of the machines with every page. So it keeps a forest sound, and leaves the end that
+/// the forest comes to. What becomes of a machine with all below it is what the steps at its place and below make
+/// of it alone, in their order, and as many of them are its own as it has counted.
 pub fn scripts_are_steps()
-    ensures steps { (lines : List Line) (t : Tree Machine) → after_script lines t ≡ settle_all machines (steps_of_script lines t) t }
-    ensures sound { (lines : List Line) (t : Tree Machine) → IsSound machines t → IsSound machines (after_script lines t) }
-    ensures end { (lines : List Line) (t : Tree Machine) → IsSound machines t → finish (after_script lines t) ≡ finish t }
-    ensures alone { (lines : List Line) (at : Path) (t a b : Tree Machine) → IsSound machines t
-        → subtree at t ≡ Some a → subtree at (after_script lines t) ≡ Some b → b ≡ settle_all machines (beyond_all at (steps_of_script lines t)) a }
-    ensures counted { (lines : List Line) (at : Path) (t a b : Tree Machine) → IsSound machines t
-        → subtree at t ≡ Some a → subtree at (after_script lines t) ≡ Some b
-        → machines.left (machine a) ≡ own_steps machines (beyond_all at (steps_of_script lines t)) a + machines.left (machine b) }
+    ensures steps { (lines : List Line) (s : Driven) → whole (after_script lines s).tree ≡ settle_all machines (steps_of_script lines s) (whole s.tree) }
+    ensures sound { (lines : List Line) (s : Driven) → IsSound machines (whole s.tree) → IsSound machines (whole (after_script lines s).tree) }
+    ensures end { (lines : List Line) (s : Driven) → IsSound machines (whole s.tree) → finish (whole (after_script lines s).tree) ≡ finish (whole s.tree) }
+    ensures alone { (lines : List Line) (at : Path) (s : Driven) (a b : Tree Machine) → IsSound machines (whole s.tree)
+        → subtree at (whole s.tree) ≡ Some a → subtree at (whole (after_script lines s).tree) ≡ Some b
+        → b ≡ settle_all machines (beyond_all at (steps_of_script lines s)) a }
+    ensures counted { (lines : List Line) (at : Path) (s : Driven) (a b : Tree Machine) → IsSound machines (whole s.tree)
+        → subtree at (whole s.tree) ≡ Some a → subtree at (whole (after_script lines s).tree) ≡ Some b
+        → machines.left (machine a) ≡ own_steps machines (beyond_all at (steps_of_script lines s)) a + machines.left (machine b) }
 {}

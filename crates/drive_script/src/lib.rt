@@ -9,11 +9,12 @@ mod fields;
 pub mod laws;
 mod line;
 mod name;
+mod replies;
 mod script;
 mod turn;
 
 pub use driver::drive;
 pub use error::ScriptError;
-pub use line::{Line, MAX_STEPS};
+pub use line::{Line, MAX_PAGE, MAX_PLACE, MAX_STEPS};
 pub use name::NameText;
 pub use script::{MAX_SCRIPT, Script, read_script};

@@ -3,17 +3,16 @@
 ghost use Rattle.std.specs.Prelude.{◌≡◌, ◌+◌, None, IsSome, IsSomeAnd, MatchResult};
 ghost use Rattle.image_depot.specs.Key.{Shelves};
 ghost use Rattle.forest_tree.specs.Tree.{Tree, subtree};
-ghost use Rattle.forest_model.specs.Machine.{Machine};
-ghost use Rattle.forest_model.specs.Forest.{machines};
-ghost use Rattle.forest_model.specs.Paged.{stalled_at};
-ghost use Rattle.vm_cell.specs.Keyed.{paged};
+ghost use Rattle.forest_model.specs.Paged.{Paged, paged_machines, stalled_at};
+ghost use Rattle.vm_cell.specs.Keyed.{IsOfDepot};
 ghost use Rattle.vm_cell.specs.Standing.{standing_call};
-ghost use Rattle.world_core.specs.Lent.{vm_of};
+ghost use Rattle.world_core.specs.Lent.{vm_of, now_of};
 ghost use Rattle.world_core.specs.World.{Forest, StandsFor, reason_of};
+ghost use Rattle.world_core.specs.declared.world.World.{World};
 ghost use Rattle.world_core.specs.Answers.{IsHandedOut, IsLentOf};
 ghost use Rattle.drive_script.specs.Driven.{HasMachines};
 ghost use Rattle.drive_script.specs.Steps.{why};
-ghost use Rattle.drive_script.specs.Turned.{AnswersCall, HasBack, HasRun, HasLent, MayGo, Turns, with_machine};
+ghost use Rattle.drive_script.specs.Turned.{AnswersCall, Brings, HasBack, HasRun, HasLent, MayGo, Turns, with_machine};
 
 use crate::answer::Why;
 use fork_port::Call;
@@ -21,6 +20,7 @@ use image_depot::Depot;
 use run_report::Name;
 use std::alloc::{AllocError, Global};
 use std::sync::Wait;
+use vm_cell::Arrived;
 use world_core::{Lease, Placed, World};
 
 /// What a machine did in its turn.
@@ -43,8 +43,8 @@ pub(crate) fn take_turn<R: Wait>(
     most: u64,
     depot: &Depot,
 ) -> Result<Turn, AllocError>
-    requires { (t : Tree Machine) × HasMachines depot.now world.old t }
-    ensures turns { (t : Tree Machine) → HasMachines depot.now world.old t → Turns depot.now name.now most t result world.new }
+    requires { (t : Tree Paged) × HasMachines depot.now world.old t }
+    ensures turns { (t : Tree Paged) → HasMachines depot.now world.old t → Turns depot.now name.now most t result world.new }
     ensures reason { reason_of world.new ≡ reason_of world.old }
 {
     match world.take_named(alloc, name, depot)? {
@@ -53,7 +53,8 @@ pub(crate) fn take_turn<R: Wait>(
     }
 }
 
-/// Runs a machine up to its end or its next call. Where steps are left it makes the call, unless it waits.
+/// Runs a machine up to its end, to a page that is not here or to its next call. Where steps are left it makes the
+/// call, unless it waits.
 fn run_turn<R: Wait>(
     rt: &R,
     alloc: Global,
@@ -62,12 +63,12 @@ fn run_turn<R: Wait>(
     most: u64,
     depot: &Depot,
 ) -> Result<Turn, AllocError>
-    requires lent { (t : Tree Machine) × HasLent depot.now world.old t lease }
+    requires lent { (t : Tree Paged) × HasLent depot.now world.old t lease }
     requires new { lease.ran ≡ 0 }
-    ensures turns { (t : Tree Machine) → HasLent depot.now world.old t lease → Turns depot.now lease.name most t result world.new }
+    ensures turns { (t : Tree Paged) → HasLent depot.now world.old t lease → Turns depot.now lease.name most t result world.new }
     ensures reason { reason_of world.new ≡ reason_of world.old }
 {
-    let Ok(ran) = lease.run_fetching(alloc, depot, most) else {
+    let Ok(ran) = lease.run(most) else {
         give_back(world, lease);
         return Err(AllocError);
     };
@@ -85,14 +86,16 @@ fn run_turn<R: Wait>(
     })
 }
 
-/// Why the machine on lease stops where it stands, which is not at an absent page.
+/// Why the machine on lease stops where it stands.
 fn why_it_stops(world: &World, lease: &Lease) -> Why
-    requires { stalled_at (paged (vm_of lease.now)) ≡ None }
-    ensures { (depot : Shelves) (t : Tree Machine) → HasLent depot world.now t lease.now
-        → IsSomeAnd (subtree lease.now.name t) (λ a. result ≡ why machines (with_machine lease.now.now a)) }
+    ensures { (depot : Shelves) (t : Tree Paged) → HasLent depot world.now t lease.now
+        → IsSomeAnd (subtree lease.now.name t) (λ a. result ≡ why paged_machines stalled_at (with_machine (now_of lease.now) a)) }
 {
     if let Some(ending) = lease.ended() {
         return Why::Ended(ending);
+    }
+    if let Some(page) = lease.wanted() {
+        return Why::Stalls(page);
     }
     let Some(ticket) = lease.joins() else {
         return Why::MayGoOn;
@@ -104,10 +107,34 @@ fn why_it_stops(world: &World, lease: &Lease) -> Why
     }
 }
 
+/// Lets the page of a reply come to a machine that has made no step, if RAM has it. The reply is made here: no
+/// image ever changes, so that it is the one that was sent.
+pub(crate) fn bring(
+    alloc: Global,
+    lease: &mut Lease,
+    depot: &Depot,
+    page: u32,
+) -> Result<Option<Arrived>, AllocError>
+    requires of_depot { IsOfDepot depot.now lease.old.key }
+    requires new { lease.old.ran ≡ 0 }
+    ensures { (w : World) (t : Tree Paged) → HasLent depot.now w t lease.old → Brings depot.now w t page lease.old result lease.new }
+{
+    if page >= lease.pages() {
+        return Ok(None);
+    }
+    let Some(key) = lease.key() else {
+        // A machine that was booted has every page.
+        return Ok(Some(Arrived::Had(page)));
+    };
+    let parcel = depot.answer(key, page)?;
+    let arrived = lease.arrive(alloc, depot, &parcel)?;
+    Ok(Some(arrived))
+}
+
 /// Gives a machine back that makes no call.
 pub(crate) fn give_back(world: &mut World, lease: Lease)
-    requires { (depot : Shelves) × (t : Tree Machine) × HasLent depot world.old t lease }
-    ensures back { (depot : Shelves) (t : Tree Machine) → HasLent depot world.old t lease → HasBack depot world.new t lease }
+    requires { (depot : Shelves) × (t : Tree Paged) × HasLent depot world.old t lease }
+    ensures back { (depot : Shelves) (t : Tree Paged) → HasLent depot world.old t lease → HasBack depot world.new t lease }
     ensures reason { reason_of world.new ≡ reason_of world.old }
 {
     match world.give(lease) {
@@ -125,9 +152,9 @@ fn make_call<R: Wait>(
     lease: Lease,
     depot: &Depot,
 ) -> Result<(), AllocError>
-    requires lent { (t : Tree Machine) × HasLent depot.now world.old t lease × MayGo t lease }
+    requires lent { (t : Tree Paged) × HasLent depot.now world.old t lease × MayGo t lease }
     requires call { IsSome (standing_call (vm_of lease)) }
-    ensures made { (t : Tree Machine) → HasLent depot.now world.old t lease
+    ensures made { (t : Tree Paged) → HasLent depot.now world.old t lease
         → MatchResult result (λ _. HasRun depot.now lease.name (lease.ran + 1) t world.new) (λ _. HasBack depot.now world.new t lease) }
     ensures reason { reason_of world.new ≡ reason_of world.old }
 {
@@ -149,7 +176,7 @@ fn try_call<R: Wait>(
     lease: Lease,
     depot: &Depot,
 ) -> Placed
-    requires lent { (t : Tree Machine) × HasLent depot.now world.old t lease }
+    requires lent { (t : Tree Paged) × HasLent depot.now world.old t lease }
     requires call { IsSome (standing_call (vm_of lease)) }
     ensures { (f : Forest) → StandsFor depot.now world.old f → IsHandedOut f lease → IsLentOf depot.now lease → AnswersCall depot.now f lease result world.new }
 {

@@ -1,8 +1,8 @@
--- No step makes a page absent, and an arrival leaves one absent page fewer.
-use Rattle.std.proofs.Common.{◌≡◌, ℕ, zero, suc, ◌+◌, ◌≤◌, Bool, true, false, cond, List, [], ◌∷◌, ◌++◌, take, drop, replicate, set, Option, Some, None, refl, sym, ap, ◌∙◌, subst, arith}
+-- No step makes a page absent, and an arrival leaves one absent page fewer. It is the same before a step as after it.
+use Rattle.std.proofs.Common.{◌≡◌, ℕ, zero, suc, ◌+◌, ◌≤◌, Bool, true, false, cond, List, [], ◌∷◌, ◌++◌, take, drop, replicate, set, Option, Some, None, refl, sym, ap, ◌∙◌, subst, arith, suc-add, zero-add}
 use Rattle.std.specs.Prelude.{slice_get}
 use Rattle.std.proofs.lemmas.List.{drop-drop}
-use Rattle.forest_model.specs.Paged.{Change, no_change, puts, zeroes, Pages, Paged, absent_count, advanced, advanced_by, change, pages_after, with_set}
+use Rattle.forest_model.specs.Paged.{Change, no_change, puts, zeroes, Pages, Paged, absent_count, advanced, advanced_by, change, pages_after, pages_arrived, with_set}
 
 absent-append : (xs ys : List Bool) → absent_count (xs ++ ys) ≡ absent_count xs + absent_count ys
 unfolding absent_count
@@ -59,3 +59,51 @@ unfolding absent_count
 absent-arrived [] page is = absurd (cc)
 absent-arrived (x ∷ rest) zero is = one-fewer x rest (cc)
 absent-arrived (x ∷ rest) (suc page) is = let later = absent-arrived rest page is in omega arith
+
+-- ---- a page that comes before a step, or after it
+
+drop-none : (n : ℕ) → ◌≡◌ {A = List Bool} (drop n []) []
+drop-none zero = refl
+drop-none (suc n) = refl
+
+set-zeroed : (count page : ℕ) (flags : List Bool) → replicate count true ++ drop count (set flags page true) ≡ set (replicate count true ++ drop count flags) page true
+set-zeroed zero page flags = refl
+set-zeroed (suc n) zero [] = refl
+set-zeroed (suc n) (suc page) [] =
+    ap (λ (xs : List Bool). true ∷ xs)
+    (ap (λ xs. replicate n true ++ xs) (sym (drop-none n)) ∙ set-zeroed n page [] ∙ ap (λ xs. set (replicate n true ++ xs) page true) (drop-none n))
+set-zeroed (suc n) zero (x ∷ rest) = refl
+set-zeroed (suc n) (suc page) (x ∷ rest) = ap (λ (xs : List Bool). true ∷ xs) (set-zeroed n page rest)
+
+with_set-later : (x : Bool) (rest : List Bool) (first count : ℕ) → with_set (x ∷ rest) (suc first) count ≡ x ∷ with_set rest first count
+with_set-later x rest first count = ap (λ n. x ∷ (take first rest ++ (replicate count true ++ drop n (x ∷ rest)))) (suc-add first count)
+
+set-with_set : (flags : List Bool) (first count page : ℕ) → with_set (set flags page true) first count ≡ set (with_set flags first count) page true
+set-with_set flags zero count page =
+    ap (λ n. replicate count true ++ drop n (set flags page true)) (zero-add count)
+    ∙ set-zeroed count page flags
+    ∙ ap (λ n. set (replicate count true ++ drop n flags) page true) (sym (zero-add count))
+set-with_set [] (suc first) count page =
+    ap (λ xs. replicate count true ++ xs) (drop-none (suc first + count) ∙ sym (drop-none count))
+    ∙ set-zeroed count page []
+    ∙ ap (λ xs. set (replicate count true ++ xs) page true) (drop-none count ∙ sym (drop-none (suc first + count)))
+set-with_set (x ∷ rest) (suc first) count zero =
+    with_set-later true rest first count ∙ sym (ap (λ xs. set xs zero true) (with_set-later x rest first count))
+set-with_set (x ∷ rest) (suc first) count (suc page) =
+    with_set-later x (set rest page true) first count
+    ∙ ap (λ (xs : List Bool). x ∷ xs) (set-with_set rest first count page)
+    ∙ sym (ap (λ xs. set xs (suc page) true) (with_set-later x rest first count))
+
+arrived-after : (c : Change) (page : ℕ) (pages : Pages) → pages_after c (pages_arrived page pages) ≡ pages_arrived page (pages_after c pages)
+arrived-after no_change page pages = refl
+arrived-after (puts at) page pages = refl
+arrived-after (zeroes first count) page pages =
+    ap (λ (here : List Bool). record { here = here; blank = with_set pages.blank first count }) (set-with_set pages.here first count page)
+
+pub arrived-advanced_by : (n page : ℕ) (p : Paged)
+    → advanced_by n (record p { pages = pages_arrived page p.pages }) ≡ record (advanced_by n p) { pages = pages_arrived page (advanced_by n p).pages }
+unfolding advanced_by
+arrived-advanced_by zero page p = refl
+arrived-advanced_by (suc n) page p =
+    ap (λ (pages : Pages). advanced_by n (record { machine = (advanced p).machine; pages = pages })) (arrived-after (change p.machine) page p.pages)
+    ∙ arrived-advanced_by n page (advanced p)

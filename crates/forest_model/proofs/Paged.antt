@@ -1,5 +1,5 @@
 -- A machine of which some pages may be absent, seen as the machine with every page; and the page at which it stops.
-use Rattle.std.proofs.Common.{◌≡◌, ◌≢◌, ℕ, zero, suc, ◌<◌, ◌*◌, Bool, true, false, cond, List, [], ◌∷◌, length, get_or, Option, Some, None, IsSome, IsTrue, refl, sym, ap, ◌∙◌, subst, arith}
+use Rattle.std.proofs.Common.{◌≡◌, ◌≢◌, ℕ, zero, suc, ◌+◌, ◌<◌, ◌*◌, Bool, true, false, cond, List, [], ◌∷◌, length, get_or, Option, Some, None, IsSome, IsTrue, refl, sym, ap, ◌∙◌, subst, arith, suc-add, zero-add}
 use Rattle.std.specs.List.{All, Contains}
 use Rattle.elf_load.specs.declared.image.TheConstants.{PAGE_SIZE}
 use Rattle.forest_tree.specs.Operations.{IsMachine}
@@ -52,6 +52,11 @@ pub advanced_by-suc : (n : ℕ) (p : Paged) → advanced_by (suc n) p ≡ advanc
 unfolding advanced_by
 advanced_by-suc zero p = refl
 advanced_by-suc (suc n) p = advanced_by-suc n (advanced p)
+
+pub advanced_by-add : (a b : ℕ) (p : Paged) → advanced_by (a + b) p ≡ advanced_by b (advanced_by a p)
+unfolding advanced_by
+advanced_by-add zero b p = ap (λ n. advanced_by n p) (zero-add b)
+advanced_by-add (suc a) b p = ap (λ n. advanced_by n p) (suc-add a b) ∙ advanced_by-add a b (advanced p)
 
 -- ---- the page at which it stops
 

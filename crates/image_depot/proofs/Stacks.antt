@@ -1,14 +1,15 @@
 -- Tables that lie one over the other, and the pages and words of the contents that they keep.
-use Rattle.std.proofs.Common.{◌≡◌, ℕ, ◌+◌, ◌*◌, ◌/◌, ◌<◌, ◌≤◌, true, false, List, [], ◌∷◌, length, take, drop, get_or, refl, ap, sym, ◌∙◌, subst, arith}
-use Rattle.std.proofs.lemmas.Bool.{both_ways}
-use Rattle.std.proofs.lemmas.List.{ext_get_or, get_or-take, get_or-drop, length-drop, length-take-le, drop_more, get_or_default}
+use Rattle.std.proofs.Common.{◌≡◌, ℕ, ◌+◌, ◌*◌, ◌/◌, ◌%◌, ◌<◌, ◌≤◌, true, false, inl, inr, List, [], ◌∷◌, length, take, drop, get_or, refl, ap, sym, ◌∙◌, subst, arith}
+use Rattle.std.proofs.lemmas.Bool.{both_ways, cases_lt}
+use Rattle.std.proofs.lemmas.List.{ext_get_or, get_or-take, get_or-drop, length-drop, length-take-le, drop_more, get_or_default, get_or_read}
+use Rattle.std.proofs.lemmas.List.Elements.{All-from_get_or}
 use Rattle.flat_memory.specs.Flat.{word_at}
 use Rattle.page_frames.specs.declared.page.TheConstants.{PAGE_SIZE}
 use Rattle.page_frames.specs.declared.entry.Entry.{Entry}
 use Rattle.page_frames.specs.declared.entry.Entry.TheVariants.{Absent}
-use Rattle.page_frames.specs.Tables.{is_own, entry_at, entry_bytes, stacked}
+use Rattle.page_frames.specs.Tables.{is_own, entry_at, entry_bytes, laid_over, stacked}
 use Rattle.page_frames.proofs.Memory.{length-laid_over, byte_of_own, byte_of_other, little_from_same}
-use Rattle.image_depot.specs.Image.{own_table, IsStack}
+use Rattle.image_depot.specs.Image.{own_table, IsStack, IsWhole}
 
 pub length-stacked : (tables : List (List Entry)) → length (stacked tables) ≡ PAGE_SIZE * length (own_table tables)
 length-stacked [] = omega arith
@@ -25,6 +26,22 @@ stack_there (table ∷ tables) stack = omega arith
 pub IsStack-more : (table : List Entry) (tables : List (List Entry)) → IsStack tables → length table ≡ length (own_table tables) → IsStack (table ∷ tables)
 IsStack-more table [] stack size = absurd stack
 IsStack-more table (next ∷ tables) stack size = (sym size, stack)
+
+-- a whole table has all of its memory, whatever is below it
+pub whole_alone : (table : List Entry) (below : List ℕ) → IsWhole table → stacked (table ∷ []) ≡ laid_over table below
+whole_alone table below whole =
+    ext_get_or 0 (laid_over table []) (laid_over table below) (length-laid_over table [] ∙ sym (length-laid_over table below))
+    (λ at inside.
+    let within : at < PAGE_SIZE * length table = subst (λ n. at < n) (length-laid_over table []) inside in
+    let page = at / PAGE_SIZE in
+    let place = at % PAGE_SIZE in
+    let is_place : PAGE_SIZE * page + place ≡ at = omega arith in
+    let there : page < length table = omega (arith, within) in
+    let own : is_own (entry_at table page) ≡ true = whole page Absent there in
+    ap (λ i. get_or (laid_over table []) i 0) (sym is_place)
+    ∙ byte_of_own table [] page place there (omega arith) own
+    ∙ sym (byte_of_own table below page place there (omega arith) own)
+    ∙ ap (λ i. get_or (laid_over table below) i 0) is_place)
 
 -- below a table that has no entry of its own for a page there is a stack of its length
 below_stack : (table : List Entry) (tables : List (List Entry)) (page : ℕ) → IsStack (table ∷ tables) → page < length table → is_own (entry_at table page) ≡ false
@@ -98,3 +115,22 @@ module _ (contents bytes : List ℕ) (page : ℕ) (same : (at : ℕ) → at < PA
       sym (ext_get_or 0 (take PAGE_SIZE left) bytes (size ∙ sym whole)
       (λ at below. let within : at < PAGE_SIZE = subst (λ n. at < n) size below in
       get_or-take PAGE_SIZE left at 0 within ∙ get_or-drop (PAGE_SIZE * page) contents at 0 ∙ same at within))
+
+-- ---- whether a table is whole, page by page
+
+own_by : (table : List Entry) (page : ℕ) (entry : Entry) → page < length table → entry ≡ get_or table page entry → is_own (entry_at table page) ≡ is_own entry
+own_by table page entry there read = sym (ap is_own (get_or_read table page entry there read Absent))
+
+pub own_more : (table : List Entry) (page : ℕ) (entry : Entry) → page < length table → entry ≡ get_or table page entry → is_own entry ≡ true
+    → ((i : ℕ) → i < page → is_own (entry_at table i) ≡ true) → (i : ℕ) → i < page + 1 → is_own (entry_at table i) ≡ true
+own_more table page entry there read own before i inside = elim (cases_lt i page) [
+  | inl below ↦ before i below
+  | inr from ↦ ap (λ k. is_own (entry_at table k)) (let last : i ≡ page = omega (arith, inside, from) in last) ∙ own_by table page entry there read ∙ own
+]
+
+pub whole_of : (table : List Entry) (end : ℕ) → length table ≤ end → ((i : ℕ) → i < end → is_own (entry_at table i) ≡ true) → IsWhole table
+whole_of table end past each =
+    All-from_get_or (λ entry. is_own entry ≡ true) table Absent (λ i there. each i (omega (arith, past, there)))
+
+pub none_whole : (table : List Entry) (page : ℕ) (entry : Entry) → page < length table → entry ≡ get_or table page entry → is_own entry ≡ false → IsWhole table → ⊥
+none_whole table page entry there read other whole = both_ways _ (own_by table page entry there read ∙ other) (whole page Absent there)

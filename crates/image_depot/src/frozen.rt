@@ -3,7 +3,7 @@ ghost use Rattle.image_depot.specs.Image.{image_of_tables, own_table, page_count
 ghost use Rattle.image_depot.specs.Reply.{page_bytes};
 ghost use Rattle.page_frames.specs.Tables.{entry_bytes, is_own, laid_over, stacked};
 
-use crate::stack::{first_own, stack_on};
+use crate::stack::{first_own, is_whole, stack_on};
 use crate::table::Table;
 use console_port::{Input, MAX_INPUT};
 use cow_disk::FrozenDisk;
@@ -52,9 +52,32 @@ impl Frozen {
         })
     }
 
-    /// The same over another image, which has the pages that have no entry of their own. It costs one
-    /// handle for each table of that image.
+    /// The same over another image, which has the pages that have no entry of their own. Where each page has one,
+    /// nothing of that image is kept, and else it costs one handle for each of its tables.
     pub fn over(
+        alloc: Global,
+        base: &Frozen,
+        entries: PageTable,
+        disk: FrozenDisk,
+        input: Input,
+    ) -> Result<Frozen, AllocError>
+        requires { length entries ≡ page_count base.now }
+        ensures { IfOk result (λ frozen. frozen ≡ record {
+          contents = laid_over entries base.now.contents;
+          disk = disk;
+          input = input;
+        }) }
+    {
+        if is_whole(&entries) {
+            // The call tells that they are not too many.
+            let _ = base.pages();
+            return Frozen::new(alloc, entries, disk, input);
+        }
+        Frozen::stacked_over(alloc, base, entries, disk, input)
+    }
+
+    /// The same with all tables of that image behind these entries.
+    fn stacked_over(
         alloc: Global,
         base: &Frozen,
         entries: PageTable,

@@ -1,11 +1,11 @@
 //! Page tables of which each lies over those behind it.
 
-ghost use Rattle.std.specs.Prelude.{◌≡◌, ℕ, ◌+◌, ◌*◌, ◌<◌, ◌∷◌, length, slice_index, IsTrue, IfOk};
-ghost use Rattle.image_depot.specs.Image.{own_table, IsStack};
+ghost use Rattle.std.specs.Prelude.{◌≡◌, ◌↔◌, ℕ, ◌+◌, ◌*◌, ◌<◌, ◌∷◌, length, slice_index, IsTrue, IfOk};
+ghost use Rattle.image_depot.specs.Image.{own_table, IsStack, IsWhole};
 ghost use Rattle.page_frames.specs.Tables.{entry_bytes, is_own, stacked};
 
 use crate::table::Table;
-use page_frames::{Entry, PAGE_SIZE};
+use page_frames::{Entry, PAGE_SIZE, PageTable};
 use std::alloc::{AllocError, Global};
 
 /// A table, and behind it these. It costs one handle a table.
@@ -35,4 +35,16 @@ pub fn first_own(tables: &[Table], page: usize) -> &Entry
         }
     }
     unreachable!()
+}
+
+/// Whether a table has an entry of its own for every page.
+pub fn is_whole(table: &PageTable) -> bool
+    ensures { IsTrue result ↔ IsWhole table.now }
+{
+    for page in 0..table.len() {
+        if !table.get(page).is_own() {
+            return false;
+        }
+    }
+    true
 }

@@ -8,7 +8,8 @@ use console_port::Input;
 use cow_disk::{Disk, DiskError};
 use image_depot::{Depot, Frozen, ImageKey};
 use page_frames::{Entry, PAGE_SIZE, Page, PageTable};
-use std::alloc::{AllocError, Global};
+use std::alloc::Global;
+use std::process::Abort;
 use std::sync::Wait;
 use std::test::Fail;
 use std::thread;
@@ -87,16 +88,20 @@ fn freeze_and_read<R: Wait>(
     Ok(([first.number(), second.number()], read))
 }
 
-#[test]
-fn lends_what_was_frozen(rt: HostRuntime) -> Result<(), Fail> {
-    let depot = Depot::new(rt.alloc())?;
-    let found = freeze_and_read(&rt, rt.alloc(), &depot)?;
+fn is_lent<R: Abort + Wait>(rt: &R, alloc: Global, depot: &Depot) -> Result<(), Fail> {
+    let found = freeze_and_read(rt, alloc, depot)?;
     let words = [
         Some([0x1010_1010, 0x1010_1010, 0, 0x1111_1111]),
         Some([0x2020_2020, 0x2020_2020, 0, 0x2121_2121]),
     ];
     assert_eq!(rt; found, ([0, 1], (words, [0x10, 0x20])));
     Ok(())
+}
+
+#[test]
+fn lends_what_was_frozen(rt: HostRuntime) -> Result<(), Fail> {
+    let depot = Depot::new(rt.alloc())?;
+    is_lent(&rt, rt.alloc(), &depot)
 }
 
 /// Freezes the image of a byte, and lends its parts by a key that is the same once more.
@@ -110,18 +115,22 @@ fn freeze_and_lend<'a, R: Wait>(
     Ok(parts_of(depot, &key))
 }
 
-#[test]
-fn lends_the_parts_of_an_image(rt: HostRuntime) -> Result<(), Fail> {
-    let depot = Depot::new(rt.alloc())?;
+fn parts_are_lent<R: Abort + Wait>(rt: &R, alloc: Global, depot: &Depot) -> Result<(), Fail> {
     let parts = [
-        freeze_and_lend(&rt, rt.alloc(), &depot, 0x10)?,
-        freeze_and_lend(&rt, rt.alloc(), &depot, 0x20)?,
+        freeze_and_lend(rt, alloc, depot, 0x10)?,
+        freeze_and_lend(rt, alloc, depot, 0x20)?,
     ];
     assert_eq!(rt;
         parts,
         [(3, [0x10; 2].as_slice(), 1), (3, [0x20; 2].as_slice(), 1),]
     );
     Ok(())
+}
+
+#[test]
+fn lends_the_parts_of_an_image(rt: HostRuntime) -> Result<(), Fail> {
+    let depot = Depot::new(rt.alloc())?;
+    parts_are_lent(&rt, rt.alloc(), &depot)
 }
 
 /// The first word of an image, if it has a page.
@@ -143,17 +152,29 @@ fn image_of_page(alloc: Global, page: &Page) -> Result<Frozen, DiskError> {
     Ok(Frozen::new(alloc, entries, disk, input)?)
 }
 
+/// The first word of the image of a page that is written after the image was frozen, and of the page.
+fn words_after_write<R: Wait>(
+    rt: &R,
+    alloc: Global,
+    page: &mut Page,
+    depot: &Depot,
+) -> Result<(Option<u32>, u32), Fail> {
+    let key = depot.freeze(rt, image_of_page(alloc, page)?)?;
+    page.write(0, &[0x11])?;
+    Ok((first_word(depot, &key), page.word(0)))
+}
+
+fn shows_in_no_image<R: Abort + Wait>(rt: &R, alloc: Global, depot: &Depot) -> Result<(), Fail> {
+    let mut page = Page::from_slice(alloc, &[0xaa; PAGE_SIZE])?;
+    let words = words_after_write(rt, alloc, &mut page, depot)?;
+    assert_eq!(rt; words, (Some(0xaaaa_aaaa), 0xaaaa_aa11));
+    Ok(())
+}
+
 #[test]
 fn a_write_to_a_page_shows_in_no_image(rt: HostRuntime) -> Result<(), Fail> {
-    let mut page = Page::from_slice(rt.alloc(), &[0xaa; PAGE_SIZE])?;
     let depot = Depot::new(rt.alloc())?;
-    let key = depot.freeze(&rt, image_of_page(rt.alloc(), &page)?)?;
-    page.write(0, &[0x11])?;
-    assert_eq!(rt;
-        (first_word(&depot, &key), page.word(0)),
-        (Some(0xaaaa_aaaa), 0xaaaa_aa11)
-    );
-    Ok(())
+    shows_in_no_image(&rt, rt.alloc(), &depot)
 }
 
 /// Freezes an image of each of a hundred bytes, and gives the key to the last. `None` where an image
@@ -188,31 +209,71 @@ fn freeze_in_two_threads<R: Threads + Wait + Sync>(
     Some((first?, second?))
 }
 
-#[test]
-fn threads_freeze_and_read_side_by_side(rt: HostRuntime) -> Result<(), Fail> {
-    let depot = Depot::new(rt.alloc())?;
-    let (first, second) = freeze_in_two_threads(&rt, rt.alloc(), &depot).ok_or(
-        "an image has changed",
-    )?;
+/// One thread reads the image of the second key, while another has the first key and tells its number.
+fn read_in_two_threads<R: Threads>(
+    rt: &R,
+    depot: &Depot,
+    first: ImageKey,
+    second: &ImageKey,
+) -> (Option<u32>, u32)
+    requires { IsKeyOf depot.now second.now }
+{
+    thread::join(rt, || first_word(depot, second), move || first.number())
+}
+
+// Each thread reads the image that the other has frozen.
+fn is_read_by_the_other<R: Abort + Threads>(
+    rt: &R,
+    depot: &Depot,
+    first: ImageKey,
+    second: &ImageKey,
+)
+    requires { IsKeyOf depot.now second.now }
+{
     assert_ne!(rt; first.number(), second.number());
-    // Each thread reads the image that the other has frozen.
-    let (one, other) = thread::join(&rt, || first_word(&depot, &second), move || first.number());
+    let (one, other) = read_in_two_threads(rt, depot, first, second);
     assert_eq!(rt; one, Some(0xc8c8_c8c8));
     assert!(rt; other < 202);
+}
+
+fn freeze_and_read_in_threads<R: Abort + Threads + Wait + Sync>(
+    rt: &R,
+    alloc: Global,
+    depot: &Depot,
+) -> Result<(), Fail> {
+    let Some((first, second)) = freeze_in_two_threads(rt, alloc, depot) else {
+        return Err("an image has changed".into());
+    };
+    is_read_by_the_other(rt, depot, first, &second);
     Ok(())
 }
 
-/// The key of an image that is kept in the depot.
-fn kept(rt: &impl Wait, depot: &Depot, image: Frozen) -> Result<ImageKey, AllocError> {
-    depot.freeze(rt, image)
+#[test]
+fn threads_freeze_and_read_side_by_side(rt: HostRuntime) -> Result<(), Fail> {
+    let depot = Depot::new(rt.alloc())?;
+    freeze_and_read_in_threads(&rt, rt.alloc(), &depot)
+}
+
+/// A depot and an image that each go through a thread of their own: the depot, and the length of the image's
+/// input.
+fn moved<R: Threads>(rt: &R, depot: Depot, image: Frozen) -> (Depot, usize) {
+    thread::join(rt, move || depot, move || image.input().bytes().len())
+}
+
+fn depot_and_length<R: Threads>(rt: &R, alloc: Global) -> Result<(Depot, usize), Fail> {
+    let image = image_of(alloc, 0xaa)?;
+    Ok(moved(rt, Depot::new(alloc)?, image))
+}
+
+/// The depot still keeps images.
+fn keeps<R: Wait>(rt: &R, alloc: Global, depot: &Depot) -> Result<(), Fail> {
+    depot.freeze(rt, image_of(alloc, 0xbb)?)?;
+    Ok(())
 }
 
 #[test]
 fn moves_between_threads(rt: HostRuntime) -> Result<(), Fail> {
-    let image = image_of(rt.alloc(), 0xaa)?;
-    let depot = Depot::new(rt.alloc())?;
-    let (depot, length) = thread::join(&rt, move || depot, move || image.input().bytes().len());
+    let (depot, length) = depot_and_length(&rt, rt.alloc())?;
     assert_eq!(rt; length, 2);
-    kept(&rt, &depot, image_of(rt.alloc(), 0xbb)?)?;
-    Ok(())
+    keeps(&rt, rt.alloc(), &depot)
 }

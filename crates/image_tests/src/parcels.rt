@@ -1,12 +1,14 @@
 //! Parcels: that calls succeed, that a reply carries its page, that what was pushed is there, and that
 //! threads push and read side by side.
 
-ghost use Rattle.std.specs.Prelude.{◌≡◌, IfSome};
+ghost use Rattle.std.specs.Prelude.{◌≡◌, IfOk, IfSome};
 ghost use Rattle.image_depot.specs.Key.{IsKeyOf};
 ghost use Rattle.image_depot.specs.Reply.{IsSentOf};
 
 use crate::depots::image_of;
 use image_depot::{Depot, ImageKey, Parcel, Sent};
+use std::alloc::Global;
+use std::process::Abort;
 use std::sync::Wait;
 use std::test::Fail;
 use std::thread;
@@ -47,15 +49,34 @@ fn are_replies(depot: &Depot, key: &ImageKey, byte: u8) -> Option<[bool; 3]>
     ])
 }
 
+/// The key to the image of a byte.
+fn frozen<R: Wait>(rt: &R, alloc: Global, depot: &Depot, byte: u8) -> Result<ImageKey, Fail>
+    ensures { IfOk result (λ key. IsKeyOf depot.now key) }
+{
+    Ok(depot.freeze(rt, image_of(alloc, byte)?)?)
+}
+
+/// The number of the image that the reply for its last page tells.
+fn number_told(depot: &Depot, key: &ImageKey) -> Option<u32>
+    requires { IsKeyOf depot.now key.now }
+{
+    answered(depot, key, 2).map(|parcel| parcel.key().number())
+}
+
+fn carries_its_page<R: Abort + Wait>(rt: &R, alloc: Global, depot: &Depot) -> Result<(), Fail> {
+    frozen(rt, alloc, depot, 0x10)?;
+    let key = frozen(rt, alloc, depot, 0x20)?;
+    assert_eq!(rt;
+        (are_replies(depot, &key, 0x20), number_told(depot, &key)),
+        (Some([true; 3]), Some(1))
+    );
+    Ok(())
+}
+
 #[test]
 fn a_reply_carries_its_page(rt: HostRuntime) -> Result<(), Fail> {
     let depot = Depot::new(rt.alloc())?;
-    depot.freeze(&rt, image_of(rt.alloc(), 0x10)?)?;
-    let key = depot.freeze(&rt, image_of(rt.alloc(), 0x20)?)?;
-    let replies = are_replies(&depot, &key, 0x20);
-    let number = answered(&depot, &key, 2).map(|parcel| parcel.key().number());
-    assert_eq!(rt; (replies, number), (Some([true; 3]), Some(1)));
-    Ok(())
+    carries_its_page(&rt, rt.alloc(), &depot)
 }
 
 /// Pushes the reply that carries a page of an image.
@@ -66,31 +87,63 @@ fn pushed<R: Wait>(rt: &R, depot: &Depot, key: &ImageKey, page: u32) -> Option<S
     depot.push(rt, answered(depot, key, page)?).ok()
 }
 
-/// The numbers of the image and of the page of a parcel that was pushed, and the last byte that it has.
-fn told(depot: &Depot, sent: &Sent) -> (u32, u32, Option<u8>)
+/// The numbers of the image and of the page of a parcel, and the last byte that it has.
+type Told = (u32, u32, Option<u8>);
+
+/// The same of a parcel that was pushed.
+fn told(depot: &Depot, sent: &Sent) -> Told
     requires { IsSentOf depot.now sent.now }
 {
     let last = depot.sent(sent).bytes().last();
     (sent.image(), sent.page(), last.copied())
 }
 
-#[test]
-fn what_was_pushed_is_there(rt: HostRuntime) -> Result<(), Fail> {
-    let depot = Depot::new(rt.alloc())?;
-    let key = depot.freeze(&rt, image_of(rt.alloc(), 0x30)?)?;
-    let first = pushed(&rt, &depot, &key, 2).ok_or("not pushed")?;
-    let second = pushed(&rt, &depot, &key, 0).ok_or("not pushed")?;
+/// What is told of a parcel that was pushed, of the one of the first page, which is pushed now, and of the
+/// other once more.
+fn told_after_another<R: Wait>(
+    rt: &R,
+    depot: &Depot,
+    key: &ImageKey,
+    first: &Sent,
+) -> Result<[Told; 3], Fail>
+    requires key { IsKeyOf depot.now key.now }
+    requires sent { IsSentOf depot.now first.now }
+{
+    let Some(second) = pushed(rt, depot, key, 0) else {
+        return Err("not pushed".into());
+    };
     let again = first.again()?;
-    let all = [
-        told(&depot, &first),
-        told(&depot, &second),
-        told(&depot, &again),
-    ];
+    Ok([
+        told(depot, first),
+        told(depot, &second),
+        told(depot, &again),
+    ])
+}
+
+/// The same, of the last page first.
+fn told_of_two<R: Wait>(rt: &R, depot: &Depot, key: &ImageKey) -> Result<[Told; 3], Fail>
+    requires { IsKeyOf depot.now key.now }
+{
+    let Some(first) = pushed(rt, depot, key, 2) else {
+        return Err("not pushed".into());
+    };
+    told_after_another(rt, depot, key, &first)
+}
+
+fn is_there<R: Abort + Wait>(rt: &R, alloc: Global, depot: &Depot) -> Result<(), Fail> {
+    let key = frozen(rt, alloc, depot, 0x30)?;
+    let all = told_of_two(rt, depot, &key)?;
     assert_eq!(rt;
         all,
         [(0, 2, Some(0x31)), (0, 0, Some(0x30)), (0, 2, Some(0x31))]
     );
     Ok(())
+}
+
+#[test]
+fn what_was_pushed_is_there(rt: HostRuntime) -> Result<(), Fail> {
+    let depot = Depot::new(rt.alloc())?;
+    is_there(&rt, rt.alloc(), &depot)
 }
 
 /// Pushes a page of an image a hundred times, and reads what was pushed each time. `None` where it is
@@ -125,24 +178,84 @@ fn push_in_two_threads<R: Threads + Wait + Sync>(
     Some((first?, second?))
 }
 
+/// Each of two threads reads what the other has pushed.
+fn read_in_two_threads<R: Threads>(
+    rt: &R,
+    depot: &Depot,
+    first: &Sent,
+    second: &Sent,
+) -> (Told, Told)
+    requires first { IsSentOf depot.now first.now }
+    requires second { IsSentOf depot.now second.now }
+{
+    thread::join(rt, || told(depot, second), || told(depot, first))
+}
+
+fn pushed_and_read<R: Threads + Wait + Sync>(
+    rt: &R,
+    depot: &Depot,
+    key: &ImageKey,
+) -> Result<(Told, Told), Fail>
+    requires { IsKeyOf depot.now key.now }
+{
+    let Some((first, second)) = push_in_two_threads(rt, depot, key) else {
+        return Err("a reply is not there".into());
+    };
+    Ok(read_in_two_threads(rt, depot, &first, &second))
+}
+
+fn push_and_read_in_threads<R: Abort + Threads + Wait + Sync>(
+    rt: &R,
+    alloc: Global,
+    depot: &Depot,
+) -> Result<(), Fail> {
+    let key = frozen(rt, alloc, depot, 0x40)?;
+    let read = pushed_and_read(rt, depot, &key)?;
+    assert_eq!(rt; read, ((0, 2, Some(0x41)), (0, 0, Some(0x40))));
+    Ok(())
+}
+
 #[test]
 fn threads_push_and_read_side_by_side(rt: HostRuntime) -> Result<(), Fail> {
     let depot = Depot::new(rt.alloc())?;
-    let key = depot.freeze(&rt, image_of(rt.alloc(), 0x40)?)?;
-    let (first, second) = push_in_two_threads(&rt, &depot, &key).ok_or("a reply is not there")?;
-    // Each thread reads what the other has pushed.
-    let (one, other) = thread::join(&rt, || told(&depot, &second), || told(&depot, &first));
-    assert_eq!(rt; (one, other), ((0, 2, Some(0x41)), (0, 0, Some(0x40))));
+    push_and_read_in_threads(&rt, rt.alloc(), &depot)
+}
+
+/// A parcel and one that was pushed go to a thread each, which tell the length of the one and the page of
+/// the other.
+fn moved<R: Threads>(rt: &R, parcel: Parcel, sent: Sent) -> (usize, u32) {
+    thread::join(rt, move || parcel.bytes().len(), move || sent.page())
+}
+
+fn length_and_page<R: Threads + Wait>(
+    rt: &R,
+    depot: &Depot,
+    key: &ImageKey,
+) -> Result<(usize, u32), Fail>
+    requires { IsKeyOf depot.now key.now }
+{
+    let Some(parcel) = answered(depot, key, 0) else {
+        return Err("no reply".into());
+    };
+    let Some(sent) = pushed(rt, depot, key, 2) else {
+        return Err("not pushed".into());
+    };
+    Ok(moved(rt, parcel, sent))
+}
+
+fn parcels_move<R: Abort + Threads + Wait>(
+    rt: &R,
+    alloc: Global,
+    depot: &Depot,
+) -> Result<(), Fail> {
+    let key = frozen(rt, alloc, depot, 0x50)?;
+    let told = length_and_page(rt, depot, &key)?;
+    assert_eq!(rt; told, (4108, 2));
     Ok(())
 }
 
 #[test]
 fn moves_between_threads(rt: HostRuntime) -> Result<(), Fail> {
     let depot = Depot::new(rt.alloc())?;
-    let key = depot.freeze(&rt, image_of(rt.alloc(), 0x50)?)?;
-    let parcel = answered(&depot, &key, 0).ok_or("no reply")?;
-    let sent = pushed(&rt, &depot, &key, 2).ok_or("not pushed")?;
-    let (length, page) = thread::join(&rt, move || parcel.bytes().len(), move || sent.page());
-    assert_eq!(rt; (length, page), (4108, 2));
-    Ok(())
+    parcels_move(&rt, rt.alloc(), &depot)
 }

@@ -1,7 +1,7 @@
 //! The numbers that stand behind the names of constants.
 
 use console_port::MAX_INPUT;
-use drive_script::{MAX_SCRIPT, MAX_STEPS};
+use drive_script::{MAX_PAGE, MAX_PLACE, MAX_SCRIPT, MAX_STEPS};
 use elf_load::{MAX_PAGES, MIN_PAGES, PAGE_SIZE, RAM_BASE};
 use forest_model::cause::{
     BREAKPOINT, ENVIRONMENT_CALL, ILLEGAL_INSTRUCTION, INSTRUCTION_ACCESS_FAULT,
@@ -36,14 +36,16 @@ static CAUSES: [(u32, u32); 10] = [
     (TIMER_INTERRUPT, 0x8000_0007),
 ];
 
-/// The least pages of a guest and the most, its most clones, the greatest share, and the most steps of a line of
-/// a script.
-static LIMITS: [(u32, u32); 5] = [
+/// The least pages of a guest and the most, its most clones, the greatest share, and the most steps, the greatest
+/// page and the greatest place of a line of a script.
+static LIMITS: [(u32, u32); 7] = [
     (MIN_PAGES, 16),
     (MAX_PAGES, 1024),
     (MAX_CLONES, 4096),
     (MAX_SHARE, 4095),
     (MAX_STEPS, 1_000_000_000),
+    (MAX_PAGE, 4_294_967_295),
+    (MAX_PLACE, 4_294_967_295),
 ];
 
 /// The bytes of a page, and the most of an input and of a script.

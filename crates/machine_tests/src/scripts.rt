@@ -23,13 +23,16 @@ fn said(alloc: Global, script: &Script) -> Result<String, AllocError> {
 fn said_of(alloc: Global, line: &Line) -> Result<String, AllocError> {
     match line {
         Line::Step { name, most } => format!(in alloc; "step {name} {most}\n"),
+        Line::Ask { name } => format!(in alloc; "ask {name}\n"),
+        Line::Push { name, page } => format!(in alloc; "push {name} {page}\n"),
+        Line::Give { name, place } => format!(in alloc; "give {name} {place}\n"),
         Line::Peek { name, address } => format!(in alloc; "peek {name} {address:08x}\n"),
         Line::Regs { name } => format!(in alloc; "regs {name}\n"),
     }
 }
 
 /// Scripts, and what their lines say.
-static IN_FORM: [(&[u8], &str); 8] = [
+static IN_FORM: [(&[u8], &str); 9] = [
     (b"", ""),
     (b"\n\n\n", ""),
     (b"step 0 0", "step 0 0\n"),
@@ -38,6 +41,10 @@ static IN_FORM: [(&[u8], &str); 8] = [
     (
         b"peek 0 FFFFFFFF\npeek 0 00000000",
         "peek 0 ffffffff\npeek 0 00000000\n",
+    ),
+    (
+        b"ask 0.1.1\npush 0.1.1 4294967295\ngive 0.1.2 0",
+        "ask 0.1.1\npush 0.1.1 4294967295\ngive 0.1.2 0\n",
     ),
     (b"regs 0.1.2.30.4294967295\n", "regs 0.1.2.30.4294967295\n"),
     (b"\nregs 0\n\nstep 0.10.9 12\n", "regs 0\nstep 0.10.9 12\n"),
@@ -63,7 +70,7 @@ fn is_refused(rt: &impl Abort, alloc: Global, text: &[u8], line: u32, kind: u32)
 
 /// Texts that are no scripts, the first line that is not in form, and the kind of what is found there: 1 an unknown
 /// word, 2 a wrong number of fields, 3 a bad name, 4 a bad number, 5 a bad address.
-static REFUSED: [(&[u8], u32, u32); 55] = [
+static REFUSED: [(&[u8], u32, u32); 61] = [
     (b"jump 0", 1, 1),
     (b"jump", 1, 1),
     (b" step 0 1", 1, 1),
@@ -79,6 +86,9 @@ static REFUSED: [(&[u8], u32, u32); 55] = [
     (b"peek 0", 1, 2),
     (b"peek 0 80000000 0", 1, 2),
     (b"regs", 1, 2),
+    (b"ask", 1, 2),
+    (b"ask 0 0", 1, 2),
+    (b"push 0", 1, 2),
     (b"regs 0 0", 1, 2),
     (b"step 00 1", 1, 3),
     (b"step 1 1", 1, 3),
@@ -105,6 +115,9 @@ static REFUSED: [(&[u8], u32, u32); 55] = [
     (b"step 0 1000000001", 1, 4),
     (b"step 0 4294967296", 1, 4),
     (b"step 0 99999999999999999999999999999999", 1, 4),
+    (b"push 0 4294967296", 1, 4),
+    (b"give 0 00", 1, 4),
+    (b"give 0.1 00", 1, 3),
     (b"peek 0 8000", 1, 5),
     (b"peek 0 8000000", 1, 5),
     (b"peek 0 800000000", 1, 5),

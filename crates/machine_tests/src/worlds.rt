@@ -2,7 +2,7 @@
 
 ghost use Rattle.std.specs.Prelude.{IfOk};
 ghost use Rattle.forest_tree.specs.Tree.{Tree};
-ghost use Rattle.forest_model.specs.Machine.{Machine};
+ghost use Rattle.forest_model.specs.Paged.{Paged};
 ghost use Rattle.drive_script.specs.Driven.{HasMachines};
 
 use crate::guests::{TWO_CHILDREN, booted};
@@ -17,7 +17,7 @@ use world_core::{Placed, Taken, World};
 
 // The world of the machine of two children.
 fn started(alloc: Global, depot: &Depot) -> Result<World, Fail>
-    ensures { IfOk result (λ world. (t : Tree Machine) × HasMachines depot.now world t) }
+    ensures { IfOk result (λ world. (t : Tree Paged) × HasMachines depot.now world t) }
 {
     let vm = booted(alloc, &TWO_CHILDREN, 16)?;
     let world = World::new(alloc, vm, depot)?;
@@ -27,10 +27,10 @@ fn started(alloc: Global, depot: &Depot) -> Result<World, Fail>
 /// What a family does line by line, and what it writes. Two names are of no machine: one has more forks than any,
 /// and one is of a child that the ticket does not have.
 static SCRIPT: &[u8] =
-    b"step 0 12\nstep 0.1.1.1.1.1.1 5\nstep 0.1.3 5\nstep 0.1.2 9\nstep 0 9\nstep 0.1.1 6\nstep 0 7\nstep 0 1\n";
+    b"step 0 12\nstep 0.1.1.1.1.1.1 5\nstep 0.1.3 5\nask 0.1.2\npush 0.1.1 9\ngive 0.1.2 0\nstep 0.1.2 9\nstep 0 9\nstep 0.1.1 6\ngive 0.1.1 0\ngive 0.1.1 0\nstep 0.1.1 6\nstep 0 7\nstep 0 1\n";
 
 static TOLD: &[u8] =
-    b"0 ran 12 ok\n0.1.1.1.1.1.1 none\n0.1.3 none\n0.1.2 ran 6 exit 42\n0 ran 2 wait 1\n0.1.1 ran 6 exit 41\n0 ran 7 exit 41\n0 none\n";
+    b"0 ran 12 ok\n0.1.1.1.1.1.1 none\n0.1.3 none\n0.1.2 ask 0 0\n0.1.1 push 9 1\n0.1.2 got 0\n0.1.2 ran 6 exit 42\n0 ran 2 wait 1\n0.1.1 ran 0 stall 0\n0.1.1 got 0\n0.1.1 had 0\n0.1.1 ran 6 exit 41\n0 ran 7 exit 41\n0 none\n";
 
 #[test]
 fn a_script_drives_a_family(rt: HostRuntime) -> Result<(), Fail> {
@@ -45,7 +45,7 @@ fn is_driven<R: Abort + Wait>(
     world: &mut World,
     depot: &Depot,
 ) -> Result<(), Fail>
-    requires { (t : Tree Machine) × HasMachines depot.now world.old t }
+    requires { (t : Tree Paged) × HasMachines depot.now world.old t }
 {
     let script = read(rt, alloc, SCRIPT)?;
     let told = drive(rt, alloc, &script, world, depot)?;
@@ -63,7 +63,7 @@ fn a_machine_is_taken_and_given_back(rt: HostRuntime) -> Result<(), Fail> {
 
 // Whether a machine is taken, and comes back.
 fn is_given_back(alloc: Global, world: &mut World, depot: &Depot) -> Result<bool, AllocError>
-    requires { (t : Tree Machine) × HasMachines depot.now world.old t }
+    requires { (t : Tree Paged) × HasMachines depot.now world.old t }
 {
     let lease = match world.take(alloc, depot) {
         Taken::Took(lease) => lease,

@@ -11,10 +11,12 @@ use console_port::{ConsoleFields, Input};
 use cow_disk::{Disk, FrozenDisk};
 use elf_load::{ImageError, MAX_PAGES, MIN_PAGES, RAM_BASE, load_elf};
 use guest_mem::{Absent, Arrived, GuestMem, StoreError};
-use image_depot::{Depot, ImageKey};
+use image_depot::{Depot, Frozen, ImageKey};
 use rv_asm::elf_of;
 use rv_traps::Csrs;
 use std::alloc::{AllocError, Global};
+use std::process::Abort;
+use std::rt::Files;
 use std::sync::Wait;
 use std::test::Fail;
 use std::thread;
@@ -24,13 +26,16 @@ use vm_descriptor::{Descriptor, PageMap};
 /// The offset of the second page.
 const SECOND: u32 = 4096;
 
+/// The words of the second page.
+static WORDS: [u32; 1024] = [0xaaaa_aaaa; 1024];
+
 /// The RAM of so many pages, with the byte 0xaa all over the second.
 fn booted(alloc: Global, pages: u32) -> Result<GuestMem, ImageError>
     requires least { MIN_PAGES ≤ pages }
     requires most { pages ≤ MAX_PAGES }
     ensures { IfOk result (λ memory. memory.key ≡ None) }
 {
-    let image = elf_of(alloc, RAM_BASE + SECOND, &[0xaaaa_aaaa; 1024])?;
+    let image = elf_of(alloc, RAM_BASE + SECOND, &WORDS)?;
     Ok(GuestMem::booted(alloc, &load_elf(alloc, &image, pages)?)?)
 }
 
@@ -67,6 +72,15 @@ fn load(memory: &GuestMem, at: u32, width: u32) -> Option<u32> {
     }
 }
 
+/// The block port of a machine that starts.
+fn block_fields() -> BlockFields {
+    BlockFields {
+        sector: 0,
+        status: Status::Done,
+        buffer: [0; 512],
+    }
+}
+
 /// The descriptor of a clone of so many pages, with these that are blank.
 fn descriptor_of(pages: u32, blank: PageMap) -> Descriptor
     ensures { result.pages ≡ pages }
@@ -87,11 +101,7 @@ fn descriptor_of(pages: u32, blank: PageMap) -> Descriptor
             place: 0,
             line_control: 0,
         },
-        block: BlockFields {
-            sector: 0,
-            status: Status::Done,
-            buffer: [0; 512],
-        },
+        block: block_fields(),
         argument_0: 0,
         argument_1: 0,
         join_select: 0,
@@ -108,6 +118,21 @@ pub fn disk_and_input(alloc: Global) -> Result<(FrozenDisk, Input), AllocError> 
     Ok((disk, Input::new(alloc, Vec::from_slice(alloc, b"in")?)?))
 }
 
+/// An image of this memory.
+fn image_of(alloc: Global, memory: &GuestMem, depot: &Depot) -> Result<Frozen, AllocError>
+    requires { IsRamOf depot.now memory.now }
+{
+    let (disk, input) = disk_and_input(alloc)?;
+    memory.freeze(alloc, depot, disk, input)
+}
+
+/// The key to an image that is kept.
+fn kept<R: Wait>(rt: &R, depot: &Depot, image: Frozen) -> Result<ImageKey, AllocError>
+    ensures { IfOk result (λ key. IsKeyOf depot.now key) }
+{
+    depot.freeze(rt, image)
+}
+
 /// The key to an image of this memory.
 fn frozen<R: Wait>(
     rt: &R,
@@ -118,8 +143,21 @@ fn frozen<R: Wait>(
     requires { IsRamOf depot.now memory.now }
     ensures { IfOk result (λ key. IsKeyOf depot.now key) }
 {
-    let (disk, input) = disk_and_input(alloc)?;
-    depot.freeze(rt, memory.freeze(alloc, depot, disk, input)?)
+    kept(rt, depot, image_of(alloc, memory, depot)?)
+}
+
+/// The key to an image of this memory, and its blank pages.
+fn frozen_and_blank<R: Wait>(
+    rt: &R,
+    alloc: Global,
+    memory: &GuestMem,
+    depot: &Depot,
+) -> Result<(ImageKey, PageMap), Fail>
+    requires { IsRamOf depot.now memory.now }
+    ensures { IfOk result (λ frozen. IsKeyOf depot.now frozen.0) }
+{
+    let blank = memory.blank(alloc)?;
+    Ok((frozen(rt, alloc, memory, depot)?, blank))
 }
 
 /// A clone that starts with an image, with these blank pages, and nothing else here.
@@ -157,14 +195,32 @@ fn send(
     Ok(memory.arrive(alloc, depot, &depot.answer(key, page)?)?)
 }
 
+/// Brings all pages here, from the image of the key, which is then let go.
+fn fetch(alloc: Global, memory: &mut GuestMem, depot: &Depot) -> Result<(), AllocError>
+    requires { IsRamOf depot.now memory.old }
+    ensures { OnOk result (memory.new.key ≡ None) }
+{
+    memory.fetch_all(alloc, depot)
+}
+
 /// A clone that starts with an image, with these blank pages, and shares all others with the image.
 fn clone_of(alloc: Global, key: &ImageKey, blank: PageMap, depot: &Depot) -> Result<GuestMem, Fail>
     requires { IsKeyOf depot.now key.now }
-    ensures { IfOk result (λ memory. IsRamOf depot.now memory) }
+    ensures { IfOk result (λ memory. memory.key ≡ None) }
 {
     let mut memory = bare_clone(alloc, key, blank, depot)?;
-    memory.fetch_all(alloc, depot)?;
+    fetch(alloc, &mut memory, depot)?;
     Ok(memory)
+}
+
+/// Makes a page blank.
+fn make_blank(memory: &mut GuestMem, page: u32) -> Result<(), Fail>
+    ensures { memory.new.key ≡ memory.old.key }
+{
+    if page >= memory.pages() {
+        return Err("no such page".into());
+    }
+    Ok(memory.zero_pages(page, 1)?)
 }
 
 /// Stores 16 bytes around the border of two pages.
@@ -234,7 +290,7 @@ fn stores_so_many_bytes(rt: HostRuntime) -> Result<(), Fail> {
     Ok(())
 }
 
-/// Makes all pages blank but the first, and then stores to the third.
+/// Stores to the last byte, makes all pages blank but the first, and then stores to the third.
 fn zero_and_store(memory: &mut GuestMem) -> Result<(), Fail> {
     let end = memory.size();
     store(memory, end - 1, 1, 0x11)?;
@@ -242,6 +298,15 @@ fn zero_and_store(memory: &mut GuestMem) -> Result<(), Fail> {
         memory.zero_pages(1, 1023)?;
     }
     store(memory, 2 * SECOND, 4, 0x22)
+}
+
+/// The first word of the second page, the last word of the last, and the first of the third.
+fn words_of_zeroed(memory: &GuestMem) -> [Option<u32>; 3] {
+    [
+        load(memory, SECOND, 4),
+        load(memory, 1024 * SECOND - 4, 4),
+        load(memory, 2 * SECOND, 4),
+    ]
 }
 
 /// The pages that are not blank.
@@ -258,14 +323,15 @@ fn held_pages(alloc: Global, memory: &GuestMem) -> Result<Vec<usize>, AllocError
 fn zeroed_pages_are_blank_until_they_are_stored_to(rt: HostRuntime) -> Result<(), Fail> {
     let mut memory = booted(rt.alloc(), 1024)?;
     zero_and_store(&mut memory)?;
-    let words = [
-        load(&memory, SECOND, 4),
-        load(&memory, 1024 * SECOND - 4, 4),
-        load(&memory, 2 * SECOND, 4),
-    ];
-    let held = held_pages(rt.alloc(), &memory)?;
-    assert_eq!(rt; words, [Some(0), Some(0), Some(0x22)]);
-    assert_eq!(rt; held.as_slice(), [2].as_slice());
+    are_zeroed(&rt, rt.alloc(), &memory)
+}
+
+fn are_zeroed(rt: &impl Abort, alloc: Global, memory: &GuestMem) -> Result<(), Fail> {
+    let held = held_pages(alloc, memory)?;
+    assert_eq!(rt;
+        (words_of_zeroed(memory), held.as_slice()),
+        ([Some(0), Some(0), Some(0x22)], [2].as_slice())
+    );
     Ok(())
 }
 
@@ -286,15 +352,24 @@ fn three_words(memory: &GuestMem) -> [Option<u32>; 3] {
     ]
 }
 
-/// The first word of the first two pages of an image.
-fn two_words(depot: &Depot, key: &ImageKey) -> Option<[u32; 2]>
+/// The first word of a page of an image, if there is one.
+fn first_word(image: &Frozen, page: u32) -> Option<u32> {
+    if page < image.pages() {
+        Some(image.word(page, 0))
+    } else {
+        None
+    }
+}
+
+/// The first words of the first two pages of an image, and whether it has its input.
+fn parts_of(depot: &Depot, key: &ImageKey) -> ([Option<u32>; 2], bool)
     requires { IsKeyOf depot.now key.now }
 {
-    if depot.pages(key) < 2 {
-        return None;
-    }
     let image = depot.frozen(key);
-    Some([image.word(0, 0), image.word(1, 0)])
+    (
+        [first_word(image, 0), first_word(image, 1)],
+        image.input().bytes() == b"in".as_slice(),
+    )
 }
 
 /// A clone that starts with an image, with the blank pages of its parent, and stores a word to two pages.
@@ -312,6 +387,21 @@ fn stored_clone(
     Ok(clone)
 }
 
+/// The words of this clone and of a second one, which is made and stores before this one does.
+fn words_of_both(
+    alloc: Global,
+    first: &mut GuestMem,
+    parent: &GuestMem,
+    key: &ImageKey,
+    depot: &Depot,
+) -> Result<[[Option<u32>; 3]; 2], Fail>
+    requires { IsKeyOf depot.now key.now }
+{
+    let second = stored_clone(alloc, parent, key, depot, 3)?;
+    store_two(first, 2)?;
+    Ok([three_words(first), three_words(&second)])
+}
+
 /// The words of two clones that store after a freeze. The second starts before the first is done.
 fn words_of_clones(
     alloc: Global,
@@ -322,20 +412,43 @@ fn words_of_clones(
     requires { IsKeyOf depot.now key.now }
 {
     let mut first = clone_of(alloc, key, parent.blank(alloc)?, depot)?;
-    let second = stored_clone(alloc, parent, key, depot, 3)?;
-    store_two(&mut first, 2)?;
-    Ok([three_words(&first), three_words(&second)])
+    words_of_both(alloc, &mut first, parent, key, depot)
 }
 
-#[test]
-fn a_store_after_a_freeze_shows_in_one_guest(rt: HostRuntime) -> Result<(), Fail> {
-    let depot = Depot::new(rt.alloc())?;
-    let mut parent = booted(rt.alloc(), 16)?;
-    let key = frozen(&rt, rt.alloc(), &parent, &depot)?;
-    store_two(&mut parent, 1)?;
-    let clones = words_of_clones(rt.alloc(), &parent, &key, &depot)?;
+/// Freezes a guest, which then stores 1 to two pages. The words of two clones of that image that store 2
+/// and 3.
+fn words_of_children<R: Wait>(
+    rt: &R,
+    alloc: Global,
+    parent: &mut GuestMem,
+    depot: &Depot,
+) -> Result<[[Option<u32>; 3]; 2], Fail>
+    requires { IsRamOf depot.now parent.old }
+{
+    let key = frozen(rt, alloc, parent, depot)?;
+    store_two(parent, 1)?;
+    words_of_clones(alloc, parent, &key, depot)
+}
+
+/// The words of a guest that is frozen and stores then, and those of its clones.
+fn words_of_family<R: Wait>(
+    rt: &R,
+    alloc: Global,
+    depot: &Depot,
+) -> Result<([Option<u32>; 3], [[Option<u32>; 3]; 2]), Fail> {
+    let mut parent = booted(alloc, 16)?;
+    let clones = words_of_children(rt, alloc, &mut parent, depot)?;
+    Ok((three_words(&parent), clones))
+}
+
+fn stores_show_in_one_guest<R: Abort + Wait>(
+    rt: &R,
+    alloc: Global,
+    depot: &Depot,
+) -> Result<(), Fail> {
+    let words = words_of_family(rt, alloc, depot)?;
     assert_eq!(rt;
-        (three_words(&parent), clones),
+        words,
         (
             [Some(1), Some(1), Some(0xaaaa_aaaa)],
             [
@@ -348,27 +461,84 @@ fn a_store_after_a_freeze_shows_in_one_guest(rt: HostRuntime) -> Result<(), Fail
 }
 
 #[test]
-fn an_image_stays_as_it_was_frozen(rt: HostRuntime) -> Result<(), Fail> {
+fn a_store_after_a_freeze_shows_in_one_guest(rt: HostRuntime) -> Result<(), Fail> {
     let depot = Depot::new(rt.alloc())?;
-    let mut parent = booted(rt.alloc(), 16)?;
-    let key = frozen(&rt, rt.alloc(), &parent, &depot)?;
-    let blank = parent.blank(rt.alloc())?;
-    store_two(&mut parent, 1)?;
-    words_of_clones(rt.alloc(), &parent, &key, &depot)?;
-    let late = three_words(&clone_of(rt.alloc(), &key, blank, &depot)?);
-    let input = depot.frozen(&key).input().bytes();
+    stores_show_in_one_guest(&rt, rt.alloc(), &depot)
+}
+
+/// The words of a clone that is made after a guest and two other clones of the image have stored.
+fn words_of_late_clone(
+    alloc: Global,
+    parent: &mut GuestMem,
+    key: &ImageKey,
+    blank: PageMap,
+    depot: &Depot,
+) -> Result<[Option<u32>; 3], Fail>
+    requires { IsKeyOf depot.now key.now }
+{
+    store_two(parent, 1)?;
+    words_of_clones(alloc, parent, key, depot)?;
+    let late = clone_of(alloc, key, blank, depot)?;
+    Ok(three_words(&late))
+}
+
+/// The words of that clone, and then the first words of the image; and whether the image has its input.
+type Late = ([Option<u32>; 3], [Option<u32>; 2], bool);
+
+fn late_of<R: Wait>(
+    rt: &R,
+    alloc: Global,
+    parent: &mut GuestMem,
+    depot: &Depot,
+) -> Result<Late, Fail>
+    requires { IsRamOf depot.now parent.old }
+{
+    let (key, blank) = frozen_and_blank(rt, alloc, parent, depot)?;
+    let late = words_of_late_clone(alloc, parent, &key, blank, depot)?;
+    let (words, has_input) = parts_of(depot, &key);
+    Ok((late, words, has_input))
+}
+
+fn late_of_booted<R: Wait>(rt: &R, alloc: Global, depot: &Depot) -> Result<Late, Fail> {
+    let mut parent = booted(alloc, 16)?;
+    late_of(rt, alloc, &mut parent, depot)
+}
+
+fn stays_as_it_was<R: Abort + Wait>(rt: &R, alloc: Global, depot: &Depot) -> Result<(), Fail> {
+    let late = late_of_booted(rt, alloc, depot)?;
     assert_eq!(rt;
-        (late, two_words(&depot, &key), input),
+        late,
         (
             [Some(0), Some(0xaaaa_aaaa), Some(0xaaaa_aaaa)],
-            Some([0, 0xaaaa_aaaa]),
-            b"in".as_slice()
+            [Some(0), Some(0xaaaa_aaaa)],
+            true
         )
     );
     Ok(())
 }
 
-/// So many clones, each with a page of its own.
+#[test]
+fn an_image_stays_as_it_was_frozen(rt: HostRuntime) -> Result<(), Fail> {
+    let depot = Depot::new(rt.alloc())?;
+    stays_as_it_was(&rt, rt.alloc(), &depot)
+}
+
+/// A clone with a word of its own in the second page.
+fn written_clone(
+    alloc: Global,
+    parent: &GuestMem,
+    key: &ImageKey,
+    depot: &Depot,
+    word: u32,
+) -> Result<GuestMem, Fail>
+    requires { IsKeyOf depot.now key.now }
+{
+    let mut clone = clone_of(alloc, key, parent.blank(alloc)?, depot)?;
+    store(&mut clone, SECOND, 4, word)?;
+    Ok(clone)
+}
+
+/// A thousand clones, each with a page of its own.
 fn written_clones(
     alloc: Global,
     parent: &GuestMem,
@@ -379,9 +549,7 @@ fn written_clones(
 {
     let mut clones = Vec::new(alloc);
     for n in 0..1000 {
-        let mut clone = clone_of(alloc, key, parent.blank(alloc)?, depot)?;
-        store(&mut clone, SECOND, 4, n)?;
-        clones.push(clone)?;
+        clones.push(written_clone(alloc, parent, key, depot, n)?)?;
     }
     Ok(clones)
 }
@@ -398,22 +566,81 @@ fn as_stored(clones: &[GuestMem]) -> usize {
     count
 }
 
+/// How many of a thousand clones have their own word, and how many bytes they take.
+fn count_and_bytes(
+    rt: &(impl Files + Alloc),
+    alloc: Global,
+    parent: &GuestMem,
+    key: &ImageKey,
+    depot: &Depot,
+) -> Result<(usize, u64), Fail>
+    requires { IsKeyOf depot.now key.now }
+{
+    let before = resident_bytes(rt)?;
+    let clones = written_clones(alloc, parent, key, depot)?;
+    let taken = resident_bytes(rt)?.saturating_sub(before);
+    Ok((as_stored(&clones), taken))
+}
+
+fn count_and_bytes_of<R: Alloc + Files + Wait>(
+    rt: &R,
+    alloc: Global,
+    parent: &GuestMem,
+    depot: &Depot,
+) -> Result<(usize, u64), Fail>
+    requires { IsRamOf depot.now parent.now }
+{
+    let key = frozen(rt, alloc, parent, depot)?;
+    count_and_bytes(rt, alloc, parent, &key, depot)
+}
+
+fn count_and_bytes_of_booted<R: Alloc + Files + Wait>(
+    rt: &R,
+    alloc: Global,
+    depot: &Depot,
+) -> Result<(usize, u64), Fail> {
+    let parent = booted(alloc, 16)?;
+    count_and_bytes_of(rt, alloc, &parent, depot)
+}
+
 // A thousand whole copies take 64 megabytes, and a thousand tables and pages five.
-#[test]
-fn a_thousand_clones_share_an_image(rt: HostRuntime) -> Result<(), Fail> {
-    let depot = Depot::new(rt.alloc())?;
-    let parent = booted(rt.alloc(), 16)?;
-    let key = frozen(&rt, rt.alloc(), &parent, &depot)?;
-    let before = resident_bytes(&rt)?;
-    let clones = written_clones(rt.alloc(), &parent, &key, &depot)?;
-    let taken = resident_bytes(&rt)?.saturating_sub(before);
-    assert_eq!(rt; as_stored(&clones), 1000);
+fn share_an_image<R: Abort + Alloc + Files + Wait>(
+    rt: &R,
+    alloc: Global,
+    depot: &Depot,
+) -> Result<(), Fail> {
+    let (count, taken) = count_and_bytes_of_booted(rt, alloc, depot)?;
+    assert_eq!(rt; count, 1000);
     assert!(rt; taken < 6 << 20, "{taken} bytes");
     Ok(())
 }
 
-/// What comes of pages that are sent to a clone: one that is absent, the same again, and one that was
+#[test]
+fn a_thousand_clones_share_an_image(rt: HostRuntime) -> Result<(), Fail> {
+    let depot = Depot::new(rt.alloc())?;
+    share_an_image(&rt, rt.alloc(), &depot)
+}
+
+/// What comes of pages that are sent to a guest: one that is absent, the same again, and one that was
 /// made blank meanwhile; and the words of the first two.
+fn send_twice(
+    alloc: Global,
+    memory: &mut GuestMem,
+    key: &ImageKey,
+    depot: &Depot,
+) -> Result<([Arrived; 3], [Option<u32>; 3]), Fail>
+    requires key { IsKeyOf depot.now key.now }
+    requires ram { IsRamOf depot.now memory.old }
+{
+    let first = send(alloc, memory, key, 1, depot)?;
+    store(memory, SECOND, 4, 7)?;
+    let again = send(alloc, memory, key, 1, depot)?;
+    make_blank(memory, 0)?;
+    let blanked = send(alloc, memory, key, 0, depot)?;
+    Ok(([first, again, blanked], three_words(memory)))
+}
+
+/// The same of a clone.
 fn sent_twice(
     alloc: Global,
     key: &ImageKey,
@@ -423,21 +650,25 @@ fn sent_twice(
     requires { IsKeyOf depot.now key.now }
 {
     let mut memory = bare_clone(alloc, key, blank, depot)?;
-    let first = send(alloc, &mut memory, key, 1, depot)?;
-    store(&mut memory, SECOND, 4, 7)?;
-    let again = send(alloc, &mut memory, key, 1, depot)?;
-    memory.zero_pages(0, 1)?;
-    let blanked = send(alloc, &mut memory, key, 0, depot)?;
-    Ok(([first, again, blanked], three_words(&memory)))
+    send_twice(alloc, &mut memory, key, depot)
 }
 
-#[test]
-fn a_page_that_is_here_does_not_come_again(rt: HostRuntime) -> Result<(), Fail> {
-    let depot = Depot::new(rt.alloc())?;
-    let mut parent = booted(rt.alloc(), 16)?;
+/// The key to an image of a guest that has stored to two pages, and its blank pages.
+fn image_of_stored<R: Wait>(
+    rt: &R,
+    alloc: Global,
+    depot: &Depot,
+) -> Result<(ImageKey, PageMap), Fail>
+    ensures { IfOk result (λ frozen. IsKeyOf depot.now frozen.0) }
+{
+    let mut parent = booted(alloc, 16)?;
     store_two(&mut parent, 1)?;
-    let key = frozen(&rt, rt.alloc(), &parent, &depot)?;
-    let sent = sent_twice(rt.alloc(), &key, parent.blank(rt.alloc())?, &depot)?;
+    frozen_and_blank(rt, alloc, &parent, depot)
+}
+
+fn does_not_come_again<R: Abort + Wait>(rt: &R, alloc: Global, depot: &Depot) -> Result<(), Fail> {
+    let (key, blank) = image_of_stored(rt, alloc, depot)?;
+    let sent = sent_twice(alloc, &key, blank, depot)?;
     assert_eq!(rt;
         sent,
         (
@@ -448,35 +679,61 @@ fn a_page_that_is_here_does_not_come_again(rt: HostRuntime) -> Result<(), Fail> 
     Ok(())
 }
 
-/// What comes of a store to an absent page of a clone, and of loads of it before and after it is made
-/// blank.
-fn absent_then_blank(
-    alloc: Global,
-    key: &ImageKey,
-    blank: PageMap,
-    depot: &Depot,
-) -> Result<(Option<StoreError>, [Option<u32>; 2]), Fail>
-    requires { IsKeyOf depot.now key.now }
-{
-    let mut memory = bare_clone(alloc, key, blank, depot)?;
+#[test]
+fn a_page_that_is_here_does_not_come_again(rt: HostRuntime) -> Result<(), Fail> {
+    let depot = Depot::new(rt.alloc())?;
+    does_not_come_again(&rt, rt.alloc(), &depot)
+}
+
+/// Why a store to the second page is refused, if it is.
+fn refusal(memory: &mut GuestMem) -> Option<StoreError> {
     if memory.size() <= SECOND {
-        return Err("no second page".into());
+        return None;
     }
-    let refused = memory.store(SECOND, 4, 1).err();
-    let before = load(&memory, SECOND, 4);
-    memory.zero_pages(1, 1)?;
-    Ok((refused, [before, load(&memory, SECOND, 4)]))
+    memory.store(SECOND, 4, 1).err()
+}
+
+/// A store to the second page, which is absent, is refused, and the page is not loaded until it is blank.
+fn is_refused_until_it_is_blank(rt: &impl Abort, memory: &mut GuestMem) -> Result<(), Fail> {
+    let absent = StoreError::Absent(Absent { page: 1 });
+    assert_eq!(rt; refusal(memory), Some(absent));
+    let before = load(memory, SECOND, 4);
+    make_blank(memory, 1)?;
+    assert_eq!(rt; [before, load(memory, SECOND, 4)], [None, Some(0)]);
+    Ok(())
+}
+
+/// The key to an image of a guest of 128 pages, and its blank pages.
+fn image_of_booted<R: Wait>(
+    rt: &R,
+    alloc: Global,
+    depot: &Depot,
+) -> Result<(ImageKey, PageMap), Fail>
+    ensures { IfOk result (λ frozen. IsKeyOf depot.now frozen.0) }
+{
+    let parent = booted(alloc, 128)?;
+    frozen_and_blank(rt, alloc, &parent, depot)
+}
+
+/// A clone of that guest, of which the blank pages alone are here.
+fn clone_of_booted<R: Wait>(rt: &R, alloc: Global, depot: &Depot) -> Result<GuestMem, Fail> {
+    let (key, blank) = image_of_booted(rt, alloc, depot)?;
+    bare_clone(alloc, &key, blank, depot)
+}
+
+fn absent_page_is_refused<R: Abort + Wait>(
+    rt: &R,
+    alloc: Global,
+    depot: &Depot,
+) -> Result<(), Fail> {
+    let mut clone = clone_of_booted(rt, alloc, depot)?;
+    is_refused_until_it_is_blank(rt, &mut clone)
 }
 
 #[test]
 fn an_absent_page_is_refused_until_it_is_blank(rt: HostRuntime) -> Result<(), Fail> {
     let depot = Depot::new(rt.alloc())?;
-    let parent = booted(rt.alloc(), 128)?;
-    let key = frozen(&rt, rt.alloc(), &parent, &depot)?;
-    let came = absent_then_blank(rt.alloc(), &key, parent.blank(rt.alloc())?, &depot)?;
-    let absent = StoreError::Absent(Absent { page: 1 });
-    assert_eq!(rt; came, (Some(absent), [None, Some(0)]));
-    Ok(())
+    absent_page_is_refused(&rt, rt.alloc(), &depot)
 }
 
 /// A clone that starts with an image and stores a word to its first page, which is blank.
@@ -513,6 +770,34 @@ fn peeked_and_sent(
     Ok((peeked, three_words(memory)))
 }
 
+/// The same of a clone that is made for it.
+fn of_clone(
+    alloc: Global,
+    key: &ImageKey,
+    blank: PageMap,
+    depot: &Depot,
+) -> Result<(u32, [Option<u32>; 3]), Fail>
+    requires { IsKeyOf depot.now key.now }
+{
+    let mut clone = bare_clone(alloc, key, blank, depot)?;
+    peeked_and_sent(alloc, &mut clone, key, depot)
+}
+
+/// The key to an image of a clone that has stored to its first page alone, and its blank pages.
+fn image_of_child<R: Wait>(
+    rt: &R,
+    alloc: Global,
+    key: &ImageKey,
+    blank: PageMap,
+    depot: &Depot,
+) -> Result<(ImageKey, PageMap), Fail>
+    requires { IsKeyOf depot.now key.now }
+    ensures { IfOk result (λ frozen. IsKeyOf depot.now frozen.0) }
+{
+    let child = stored_child(alloc, key, blank, depot)?;
+    frozen_and_blank(rt, alloc, &child, depot)
+}
+
 /// The same of a grandchild, of whose pages its parent has stored to the first alone.
 fn of_grandchild<R: Wait>(
     rt: &R,
@@ -523,25 +808,50 @@ fn of_grandchild<R: Wait>(
 ) -> Result<(u32, [Option<u32>; 3]), Fail>
     requires { IsKeyOf depot.now key.now }
 {
-    let child = stored_child(alloc, key, blank, depot)?;
-    let key = frozen(rt, alloc, &child, depot)?;
-    let mut grandchild = bare_clone(alloc, &key, child.blank(alloc)?, depot)?;
-    peeked_and_sent(alloc, &mut grandchild, &key, depot)
+    let (key, blank) = image_of_child(rt, alloc, key, blank, depot)?;
+    of_clone(alloc, &key, blank, depot)
+}
+
+/// The same of a grandchild of a guest that stores after it was frozen.
+fn of_family<R: Wait>(
+    rt: &R,
+    alloc: Global,
+    parent: &mut GuestMem,
+    depot: &Depot,
+) -> Result<(u32, [Option<u32>; 3]), Fail>
+    requires { IsRamOf depot.now parent.old }
+{
+    let (key, blank) = frozen_and_blank(rt, alloc, parent, depot)?;
+    store_two(parent, 9)?;
+    of_grandchild(rt, alloc, &key, blank, depot)
+}
+
+/// The same of guests of so many pages.
+fn of_size<R: Wait>(
+    rt: &R,
+    alloc: Global,
+    pages: u32,
+    depot: &Depot,
+) -> Result<(u32, [Option<u32>; 3]), Fail> {
+    let mut parent = booted_of(alloc, pages)?;
+    of_family(rt, alloc, &mut parent, depot)
+}
+
+static SIZES: [u32; 5] = [16, 64, 65, 128, 1024];
+
+fn comes_from_below<R: Abort + Wait>(rt: &R, alloc: Global, depot: &Depot) -> Result<(), Fail> {
+    for pages in SIZES.iter() {
+        let read = of_size(rt, alloc, *pages, depot)?;
+        let words = [Some(5), Some(0xaaaa_aaaa), Some(0xaaaa_aaaa)];
+        assert_eq!(rt; read, (0xaaaa_aaaa, words), "{pages}");
+    }
+    Ok(())
 }
 
 #[test]
 fn a_page_comes_from_an_image_below(rt: HostRuntime) -> Result<(), Fail> {
     let depot = Depot::new(rt.alloc())?;
-    for pages in [16, 64, 65, 128, 1024] {
-        let mut parent = booted_of(rt.alloc(), pages)?;
-        let key = frozen(&rt, rt.alloc(), &parent, &depot)?;
-        let blank = parent.blank(rt.alloc())?;
-        store_two(&mut parent, 9)?;
-        let read = of_grandchild(&rt, rt.alloc(), &key, blank, &depot)?;
-        let words = [Some(5), Some(0xaaaa_aaaa), Some(0xaaaa_aaaa)];
-        assert_eq!(rt; read, (0xaaaa_aaaa, words), "{pages}");
-    }
-    Ok(())
+    comes_from_below(&rt, rt.alloc(), &depot)
 }
 
 #[test]

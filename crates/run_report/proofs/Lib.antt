@@ -5,3 +5,4 @@ pub mod Seen
 mod Back
 mod Names
 mod Pieces
+mod Same

@@ -1,6 +1,6 @@
 //! Names of machines, which are keys of maps too.
 
-ghost use Rattle.std.specs.Prelude.{◌≡◌, ◌≤◌, [], drop, length, take, IfOk, MatchOption, OnErr, string_bytes};
+ghost use Rattle.std.specs.Prelude.{◌≡◌, ◌<◌, ◌≤◌, [], drop, length, take, IfOk, IsTrue, MatchOption, OnErr, string_bytes};
 ghost use Rattle.std.specs.List.{flat_map};
 ghost use Rattle.forest_tree.specs.Tree.{beyond, is_below};
 ghost use Rattle.io_edge.specs.Outside.{HasRisen};
@@ -74,10 +74,29 @@ impl Branch {
         ensures fault { OnErr result (HasRisen (K.faults sink.old) (K.faults sink.new)) }
         ensures streams { Streams (K.gone sink.old) (K.gone sink.new) buffer.old (branch_text self.now) buffer.new result }
     {
+        if self.ticket < 10 && self.child < 10 {
+            return buffer.put(sink, &self.short_text());
+        }
         let mut text = [0; BRANCH_LENGTH];
         let begin = self.write(&mut text);
         let (_, text) = text.split_at(begin);
         buffer.put(sink, text)
+    }
+
+    /// The fork in text, where both of its numbers have one digit.
+    #[inline]
+    #[tactic(auto, using(std::proofs::lemmas::Fmt::decimal_digit))]
+    fn short_text(&self) -> [u8; 4]
+        requires ticket { self.now.ticket < 10 }
+        requires child { self.now.child < 10 }
+        ensures { result ≡ branch_text self.now }
+    {
+        [
+            b'.',
+            b'0' + self.ticket as u8,
+            b'.',
+            b'0' + self.child as u8,
+        ]
     }
 
     /// Writes the fork in text to the end of the bytes, and tells where it begins.
@@ -330,6 +349,10 @@ fn cmp_run_back(left: &[Branch], right: &[Branch]) -> Ordering
     requires { length left.now ≡ length right.now }
     ensures { result ≡ back_cmp left.now right.now }
 {
+    // Names are mostly compared with equal ones.
+    if are_same(left, right) {
+        return Ordering::Equal;
+    }
     let mut rest = left.len();
     'branches: while rest > 0 {
         rest -= 1;
@@ -339,6 +362,20 @@ fn cmp_run_back(left: &[Branch], right: &[Branch]) -> Ordering
         }
     }
     Ordering::Equal
+}
+
+/// Whether two runs of as many forks are the same. It looks at all of them, so that several are compared at once.
+#[inline]
+fn are_same(left: &[Branch], right: &[Branch]) -> bool
+    requires { length left.now ≡ length right.now }
+    ensures { IsTrue result → left.now ≡ right.now }
+{
+    let mut difference = 0;
+    'branches: for at in 0..left.len() {
+        let (ours, theirs) = (left[at], right[at]);
+        difference |= (ours.ticket ^ theirs.ticket) | (ours.child ^ theirs.child);
+    }
+    difference == 0
 }
 
 impl PartialEq for Name {

@@ -1,33 +1,31 @@
 -- What the parts of a command tell of the whole.
-use Rattle.std.proofs.Common.{◌≡◌, ℕ, ◌≤◌, inl, inr, Bool, true, false, cond, List, Option, Result, Ok, Err, subst, arith}
+use Rattle.std.proofs.Common.{◌≡◌, ℕ, ◌≤◌, Bool, true, false, cond, List, Option, Result, Ok, Err, subst, arith}
 use Rattle.std.specs.Option.{option_map}
 use Rattle.elf_load.specs.Image.{Image}
 use Rattle.elf_load.specs.Elf.{loaded}
-use Rattle.forest_tree.specs.Tree.{Tree}
-use Rattle.forest_model.specs.Machine.{Machine}
 use Rattle.drive_script.specs.Script.{Line, script}
 use Rattle.drive_script.specs.declared.script.TheConstants.{MAX_SCRIPT}
 use Rattle.command_line.specs.Words.{GuestValues}
 use Rattle.guest_files.specs.declared.stop.TheConstants.{INPUT_LOAD, SCRIPT_LOAD}
 use Rattle.guest_files.specs.declared.stop.Stop.{Stop}
-use Rattle.guest_files.specs.Reads.{Files, Refusal, Guest, disk_not_sectors, script_too_long, and_then, guest_read}
+use Rattle.guest_files.specs.Reads.{Files, Guest, disk_not_sectors, script_too_long, guest_read}
 use Rattle.guest_files.specs.Parts.{last_load, Stops, Gives, Makes}
 use Rattle.guest_files.proofs.PartLemmas.{Gave, after, continues, file-load, makes, stops}
-use Rattle.snow_commands.specs.Text.{script_read, loaded_from, guest_booted, run_with, run_text, lines_of, told_by, drive_with, drive_from, drive_text}
+use Rattle.snow_commands.specs.Text.{known_family, script_read, image_from, guest_image, run_with, run_text, lines_of, told_by, drive_with, drive_from, drive_text}
 
 -- ---- the last load before what comes of the files
 
-by_sectors : (final : ℕ) (whole : Bool) (t : Tree Machine) → final ≤ last_load final (cond whole (Ok t) (Err disk_not_sectors))
-by_sectors final true t = omega arith
-by_sectors final false t = omega arith
+by_sectors : (final : ℕ) (whole : Bool) (image : Image) → final ≤ last_load final (cond whole (Ok image) (Err disk_not_sectors))
+by_sectors final true image = omega arith
+by_sectors final false image = omega arith
 
-by_loaded : (final : ℕ) (values : GuestValues) (guest : Guest) (r : Result Image ℕ) → final ≤ last_load final (loaded_from values guest r)
-by_loaded final values guest (Err number) = omega arith
-by_loaded final values guest (Ok image) = by_sectors final _ _
+by_loaded : (final : ℕ) (guest : Guest) (r : Result Image ℕ) → final ≤ last_load final (image_from guest r)
+by_loaded final guest (Err number) = omega arith
+by_loaded final guest (Ok image) = by_sectors final _ image
 
-booted-after : (final : ℕ) (values : GuestValues) (guest : Guest) → final ≤ last_load final (guest_booted values guest)
-unfolding guest_booted
-booted-after final values guest = by_loaded final values guest (loaded guest.image values.pages)
+image-after : (final : ℕ) (values : GuestValues) (guest : Guest) → final ≤ last_load final (guest_image values guest)
+unfolding guest_image
+image-after final values guest = by_loaded final guest (loaded guest.image values.pages)
 
 by_lines : (final : ℕ) (r : Result (List Line) (ℕ × ℕ)) → final ≤ last_load final (lines_of r)
 by_lines final (Ok lines) = omega arith
@@ -35,12 +33,12 @@ by_lines final (Err refusal) = omega arith
 
 -- what the files hold is looked at after all loads
 run-after : (values : GuestValues) (guest : Guest) → INPUT_LOAD ≤ last_load INPUT_LOAD (run_with values guest)
-run-after values guest = after INPUT_LOAD INPUT_LOAD (guest_booted values guest) _ (booted-after INPUT_LOAD values guest) (λ t. omega arith)
+run-after values guest = after INPUT_LOAD INPUT_LOAD (guest_image values guest) _ (image-after INPUT_LOAD values guest) (λ image. omega arith)
 
 drive-after : (values : GuestValues) (guest : Guest) (text : List ℕ) → SCRIPT_LOAD ≤ last_load SCRIPT_LOAD (drive_with values guest text)
 drive-after values guest text =
-    after SCRIPT_LOAD SCRIPT_LOAD (guest_booted values guest) (told_by text) (booted-after SCRIPT_LOAD values guest)
-    (λ t. after SCRIPT_LOAD SCRIPT_LOAD (lines_of (script text)) _ (by_lines SCRIPT_LOAD (script text)) (λ lines. omega arith))
+    after SCRIPT_LOAD SCRIPT_LOAD (guest_image values guest) (λ image. told_by text (known_family values guest image)) (image-after SCRIPT_LOAD values guest)
+    (λ image. after SCRIPT_LOAD SCRIPT_LOAD (lines_of (script text)) _ (by_lines SCRIPT_LOAD (script text)) (λ lines. omega arith))
 
 guest-after : (values : GuestValues) (name : List ℕ) (files : Files) (guest : Guest) → INPUT_LOAD ≤ last_load SCRIPT_LOAD (drive_from values name files guest)
 unfolding script_read

@@ -3,12 +3,17 @@
 use Rattle.std.specs.Prelude.{ℕ, ◌%◌, ◌==◌, if◌then◌else◌, List, length, Option, Some, None, Result, Ok, Err}
 use Rattle.cow_disk.specs.declared.disk.TheConstants.{SECTOR_SIZE}
 use Rattle.elf_load.specs.Image.{Image}
+use Rattle.image_depot.specs.Key.{Shelves}
+use Rattle.world_core.specs.declared.world.World.{World}
 use Rattle.elf_load.specs.Elf.{loaded}
 use Rattle.forest_tree.specs.Tree.{Tree}
+use Rattle.forest_tree.specs.Settle.{alone}
 use Rattle.forest_model.specs.declared.Options.{Options}
 use Rattle.forest_model.specs.Forest.{booted, finish}
 use Rattle.forest_model.specs.Machine.{Machine}
+use Rattle.forest_model.specs.Paged.{Paged, paged_machines}
 use Rattle.run_report.specs.Report.{report}
+use Rattle.snow_commands.specs.Turned.{HasFamily, booted_paged}
 use Rattle.drive_script.specs.Script.{Line, script}
 use Rattle.drive_script.specs.Told.{told_text}
 use Rattle.drive_script.specs.declared.script.TheConstants.{MAX_SCRIPT}
@@ -24,23 +29,34 @@ script_read name files = file_read SCRIPT_LOAD MAX_SCRIPT script_too_long (files
 abbrev pub options_of : GuestValues → Options
 options_of values = record { limit = values.limit; allot = values.clones }
 
-abbrev pub booted_from : GuestValues → Guest → Image → Result (Tree Machine) Refusal
-booted_from values guest image =
-    if length guest.disk % SECTOR_SIZE == 0 then Ok (booted image guest.disk guest.input (options_of values)) else Err disk_not_sectors
+abbrev pub family_of : GuestValues → Guest → Image → Tree Machine
+family_of values guest image = booted image guest.disk guest.input (options_of values)
+
+-- the same, with what is known of the pages
+abbrev pub known_family : GuestValues → Guest → Image → Tree Paged
+known_family values guest image = alone paged_machines (booted_paged image guest.disk guest.input (options_of values))
+
+-- the image that it is booted from, with a disk of whole sectors
+abbrev pub image_beside : Guest → Image → Result Image Refusal
+image_beside guest image = if length guest.disk % SECTOR_SIZE == 0 then Ok image else Err disk_not_sectors
 
 -- of what the loader makes of the image, or the number of its refusal
-abbrev pub loaded_from : GuestValues → Guest → Result Image ℕ → Result (Tree Machine) Refusal
-loaded_from values guest (Err number) = Err (image_refused number)
-loaded_from values guest (Ok image) = booted_from values guest image
+abbrev pub image_from : Guest → Result Image ℕ → Result Image Refusal
+image_from guest (Err number) = Err (image_refused number)
+image_from guest (Ok image) = image_beside guest image
 
-unfoldable pub guest_booted : GuestValues → Guest → Result (Tree Machine) Refusal
-guest_booted values guest = loaded_from values guest (loaded guest.image values.pages)
+unfoldable pub guest_image : GuestValues → Guest → Result Image Refusal
+guest_image values guest = image_from guest (loaded guest.image values.pages)
+
+-- the world has the family that is booted from this image, and none is on lease
+abbrev pub IsBooted : Shelves → GuestValues → Guest → World → Image → Type 0
+IsBooted depot values guest w image = HasFamily depot w (known_family values guest image)
 
 -- ---- the texts
 
 -- `run`: the report of the family, run to its end
 abbrev pub run_with : GuestValues → Guest → Result (List ℕ) Refusal
-run_with values guest = and_then (λ t. Ok (report (finish t))) (guest_booted values guest)
+run_with values guest = and_then (λ image. Ok (report (finish (family_of values guest image)))) (guest_image values guest)
 
 unfoldable pub run_text : GuestValues → Files → Result (List ℕ) Refusal
 run_text values files = and_then (run_with values) (guest_read values files)
@@ -50,11 +66,11 @@ abbrev pub lines_of : Result (List Line) (ℕ × ℕ) → Result (List Line) Ref
 lines_of (Ok lines) = Ok lines
 lines_of (Err refusal) = Err (script_refused refusal.0 refusal.1)
 
-abbrev pub told_by : List ℕ → Tree Machine → Result (List ℕ) Refusal
+abbrev pub told_by : List ℕ → Tree Paged → Result (List ℕ) Refusal
 told_by text t = and_then (λ lines. Ok (told_text lines t)) (lines_of (script text))
 
 abbrev pub drive_with : GuestValues → Guest → List ℕ → Result (List ℕ) Refusal
-drive_with values guest text = and_then (told_by text) (guest_booted values guest)
+drive_with values guest text = and_then (λ image. told_by text (known_family values guest image)) (guest_image values guest)
 
 abbrev pub drive_from : GuestValues → List ℕ → Files → Guest → Result (List ℕ) Refusal
 drive_from values name files guest = and_then (drive_with values guest) (script_read name files)

@@ -3,13 +3,14 @@
 ghost use Rattle.std.specs.Prelude.{◌≡◌, ◌≢◌, None, IsSome, IfOk, OnOk};
 ghost use Rattle.forest_tree.specs.Tree.{Tree};
 ghost use Rattle.forest_model.specs.Forest.{finish};
-ghost use Rattle.forest_model.specs.Machine.{Machine};
+ghost use Rattle.forest_model.specs.Paged.{Paged};
 ghost use Rattle.run_report.specs.Report.{report, report_of};
 ghost use Rattle.vm_cell.specs.Standing.{standing_call};
-ghost use Rattle.world_core.specs.Answers.{HandedOut, HandedOutIn};
+ghost use Rattle.world_core.specs.Answers.{HandedOut, HandedOutIn, IsHandedOut};
+ghost use Rattle.world_core.specs.Arrived.{StillHandedOut};
 ghost use Rattle.world_core.specs.Lent.{IsSameLease, vm_of};
 ghost use Rattle.world_core.specs.World.{Forest, StandsFor};
-ghost use Rattle.snow_commands.specs.Turned.{Answered, HasEnded, HasFamily, IsOut, IsOutIn, IsPlaced, Turned};
+ghost use Rattle.snow_commands.specs.Turned.{Answered, HasEnded, HasFamily, IsOut, IsOutIn, IsPlaced, Turned, machines_of};
 
 use fork_port::Call;
 use image_depot::Depot;
@@ -24,8 +25,8 @@ pub fn run_to_end<R: AllocGlobal + Wait>(
     world: World,
     depot: &Depot,
 ) -> Result<Outcome, AllocError>
-    requires { (t : Tree Machine) × HasFamily depot.now world t }
-    ensures { IfOk result (λ outcome. (t : Tree Machine) → HasFamily depot.now world t → report_of outcome ≡ report (finish t)) }
+    requires { (t : Tree Paged) × HasFamily depot.now world t }
+    ensures { IfOk result (λ outcome. (t : Tree Paged) → HasFamily depot.now world t → report_of outcome ≡ report (finish (machines_of t))) }
 {
     let mut world = world;
     run_family(rt, &mut world, depot)?;
@@ -41,8 +42,8 @@ fn run_family<R: AllocGlobal + Wait>(
     world: &mut World,
     depot: &Depot,
 ) -> Result<(), AllocError>
-    requires { (t : Tree Machine) × HasFamily depot.now world.old t }
-    ensures { OnOk result ((t : Tree Machine) → HasFamily depot.now world.old t → HasEnded depot.now world.new (finish t)) }
+    requires { (t : Tree Paged) × HasFamily depot.now world.old t }
+    ensures { OnOk result ((t : Tree Paged) → HasFamily depot.now world.old t → HasEnded depot.now world.new (finish (machines_of t))) }
 {
     for _ in rt.forever() {
         let lease = match world.take(rt.alloc(), depot) {
@@ -86,6 +87,7 @@ fn run_on(
 ) -> Result<Lease, AllocError>
     requires { HandedOutIn depot.now world.old lease }
     ensures same { IfOk result (IsSameLease lease) }
+    ensures handed { (f : Forest) → StandsFor depot.now world.old f → IsHandedOut f lease → IfOk result (StillHandedOut depot.now world.old f) }
     ensures stands { IfOk result (λ ran. standing_call (vm_of ran) ≡ None → IsSome ran.now.ending) }
     ensures world { OnOk result (world.new ≡ world.old) }
 {

@@ -1,10 +1,11 @@
 //! The machine of a guest whose files are read is booted.
 
 ghost use Rattle.std.specs.Prelude.{◌≡◌, ◌≤◌, length, IfOk};
-ghost use Rattle.forest_model.specs.Forest.{booted};
+ghost use Rattle.forest_model.specs.Paged.{paged_machines};
+ghost use Rattle.forest_tree.specs.Settle.{alone};
 ghost use Rattle.guest_files.specs.Parts.{Makes};
-ghost use Rattle.snow_commands.specs.Text.{booted_from, guest_booted};
-ghost use Rattle.snow_commands.specs.Turned.{HasFamily};
+ghost use Rattle.snow_commands.specs.Text.{IsBooted, guest_image, image_beside};
+ghost use Rattle.snow_commands.specs.Turned.{HasFamily, booted_paged};
 
 use command_line::{GuestWords, LEAST_LIMIT, MOST_CLONES, MOST_LIMIT};
 use console_port::MAX_INPUT;
@@ -18,14 +19,14 @@ use vm_cell::Vm;
 use world_core::World;
 
 /// Boots the machine of a guest. The images of its family will be in the depot.
-#[tactic(auto, unfolding(crate::specs::Text::guest_booted))]
+#[tactic(auto, unfolding(crate::specs::Text::guest_image))]
 pub fn boot(
     alloc: Global,
     guest: &GuestWords<'_>,
     files: &GuestFiles,
     depot: &Depot,
 ) -> Result<World, Stop>
-    ensures { Makes (guest_booted guest.now files.now) (HasFamily depot.now) result }
+    ensures { Makes (guest_image guest.now files.now) (IsBooted depot.now guest.now files.now) result }
 {
     match load_elf(alloc, files.image(), guest.pages()) {
         Ok(image) => boot_image(alloc, guest, files, &image, depot),
@@ -42,7 +43,7 @@ fn boot_image(
     image: &Loaded,
     depot: &Depot,
 ) -> Result<World, Stop>
-    ensures { Makes (booted_from guest.now files.now image.now) (HasFamily depot.now) result }
+    ensures { Makes (image_beside files.now image.now) (IsBooted depot.now guest.now files.now) result }
 {
     let disk = match Disk::from_bytes(alloc, files.disk()) {
         Ok(disk) => disk,
@@ -71,7 +72,7 @@ fn boot_machine(
     requires least { LEAST_LIMIT ≤ options.limit }
     requires most { options.limit ≤ MOST_LIMIT }
     requires clones { options.allot ≤ MOST_CLONES }
-    ensures { IfOk result (λ world. HasFamily depot.now world (booted image.now disk input.now options)) }
+    ensures { IfOk result (λ world. HasFamily depot.now world (alone paged_machines (booted_paged image.now disk input.now options))) }
 {
     let vm = Vm::boot(alloc, image, disk, input, options)?;
     World::new(alloc, vm, depot)

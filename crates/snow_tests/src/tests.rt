@@ -129,9 +129,10 @@ fn writes_reports(rt: HostRuntime) -> Result<(), Fail> {
 
 #[test]
 fn writes_what_scripts_tell(rt: HostRuntime) -> Result<(), Fail> {
-    let script: &[u8] = b"step 0 12\nstep 0.1.1 6\nstep 0 9\nstep 0.1.2 9\nstep 0 7\nstep 0 1\n";
+    let script: &[u8] =
+        b"step 0 12\nstep 0.1.1 6\nask 0.1.1\ngive 0.1.2 0\nstep 0.1.2 9\nstep 0 9\ngive 0.1.1 0\nstep 0.1.1 6\nstep 0 7\nstep 0 1\n";
     let told: &[u8] =
-        b"0 ran 12 ok\n0.1.1 ran 6 exit 41\n0 ran 2 wait 1\n0.1.2 ran 6 exit 42\n0 ran 7 exit 41\n0 none\n";
+        b"0 ran 12 ok\n0.1.1 ran 0 stall 0\n0.1.1 ask 0 0\n0.1.2 got 0\n0.1.2 ran 6 exit 42\n0 ran 2 wait 1\n0.1.1 got 0\n0.1.1 ran 6 exit 41\n0 ran 7 exit 41\n0 none\n";
     let words = "drive guest script --clones 2 --ram 16";
     writes(&rt, words, &TWO_CHILDREN, script, told)
 }

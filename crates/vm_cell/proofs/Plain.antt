@@ -1,5 +1,6 @@
 -- Plain steps: what they neither read nor write, and how they are counted.
-use Rattle.std.proofs.Common.{◌≡◌, ◌≢◌, ℕ, zero, suc, ◌+◌, ◌-◌, ◌%◌, ◌^◌, ◌<◌, ◌≤◌, Bool, true, false, nat_le, cond, eqb, Some, None, Ok, refl, sym, ap, ◌∙◌, subst, arith, add-one, add-zero}
+use Rattle.std.proofs.Common.{◌≡◌, ◌≢◌, ℕ, zero, suc, ◌+◌, ◌-◌, ◌%◌, ◌^◌, ◌<◌, ◌≤◌, Bool, true, false, nat_le, cond, eqb, List, Option, is_some, IsNone, Some, None, Ok, refl, sym, ap, ◌∙◌, subst, arith, add-one, add-zero}
+use Rattle.std.specs.Prelude.{MatchBool}
 use Rattle.rv_decode.specs.Instruction.{Instruction}
 use Rattle.rv_decode.specs.Table.{decoded}
 use Rattle.rv_decode.specs.Kinds.{group_of}
@@ -7,7 +8,7 @@ use Rattle.rv_decode.specs.declared.kinds.Group.{Group}
 use Rattle.rv_decode.specs.declared.kinds.Group.TheVariants.{LoadUpper, AddUpper, Jump, JumpRegister, Branch, Load, Store, ComputeImmediate, Compute, EnvironmentCall, Breakpoint, TrapReturn, Csr, LoadReserved, StoreConditional, Amo}
 use Rattle.rv_decode.specs.declared.kinds.Group.TheVariants as group
 use Rattle.rv_exec.specs.Branch.{branch_taken}
-use Rattle.rv_exec.specs.Memory.{store_width}
+use Rattle.rv_exec.specs.Memory.{load_value, load_width, store_width}
 use Rattle.rv_traps.specs.declared.registers.CsrRegisters.{CsrRegisters}
 use Rattle.rv_traps.specs.Counters.{counted}
 use Rattle.rv_traps.specs.declared.counter.Wrote.TheVariants as counter
@@ -18,23 +19,24 @@ use Rattle.forest_model.specs.declared.Written.{Written}
 use Rattle.forest_model.specs.declared.Written.TheVariants.{Nothing, Counter, Time}
 use Rattle.forest_model.specs.declared.access.Access.{Access}
 use Rattle.forest_model.specs.Ports.{PortRegisters}
-use Rattle.forest_model.specs.State.{State, is_in_ram}
-use Rattle.forest_model.specs.Action.{Action, trap, interrupt, retire, exit, ask, rs1, rs2, immediate}
-use Rattle.forest_model.specs.Access.{Reached, faulted, of_ram, of_port, is_aligned_for, page_needed, reached, reached_by, reached_in, fetch_access}
+use Rattle.forest_model.specs.State.{State, at_next_instruction, is_in_ram}
+use Rattle.forest_model.proofs.Accesses.{reached-ram}
+use Rattle.forest_model.specs.Action.{Action, trap, interrupt, retire, exit, ask, retire_next, rs1, rs2, immediate, with_rd}
+use Rattle.forest_model.specs.Access.{Reached, faulted, of_ram, of_port, is_aligned_for, page_needed, page_of, reached, reached_by, reached_in, fetch_access}
 use Rattle.forest_model.specs.Compute.{load_upper, add_upper, compute_immediate, compute}
 use Rattle.forest_model.specs.Control.{aligned_jump, branch, branch_by, jump, jump_register, even, linked, relative}
-use Rattle.forest_model.specs.Memory.{data_address, load, load_access, load_by, store, store_access, store_action, store_by, stored_bytes}
+use Rattle.forest_model.specs.Memory.{data_address, load, load_access, load_by, ram_number, store, store_access, store_action, store_by, stored_bytes, with_bytes}
 use Rattle.forest_model.specs.Execute.{execute, execute_group, fetched}
 use Rattle.forest_model.specs.Machine.{count}
 use Rattle.fork_port.specs.declared.ending.Ending.TheVariants.{Limit}
 use Rattle.std.proofs.lemmas.Bool.Decides.{nat_tests}
 use Rattle.forest_model.specs.Touch.{access_by, data_page}
-use Rattle.forest_model.specs.Paged.{Change, no_change, change_of, change_of_access, change_reached, pages_after}
+use Rattle.forest_model.specs.Paged.{Change, no_change, change_of, change_of_access, change_reached, pages_after, puts}
 use Rattle.vm_cell.specs.declared.hart.Acted.{Acted}
 use Rattle.vm_cell.specs.declared.hart.Acted.TheVariants.{Stalled, Trapped, Interrupted, Retired, Exited, Asked}
-use Rattle.vm_cell.specs.Acts.{ActsBy, IsMet, ReachesRam}
-use Rattle.vm_cell.specs.Keyed.{KeyedMachine, KeyedState, machine_of}
-use Rattle.vm_cell.specs.Plain.{AreMade, IsPlain, IsPlainIn, IsPlainStep, IsQuiet, IsStretch, counted_since, recounted, retired_by, timed_by, with_counters}
+use Rattle.vm_cell.specs.Acts.{Acts, ActsBy, IsMet, ReachesRam}
+use Rattle.vm_cell.specs.Keyed.{IsHere, KeyedMachine, KeyedState, machine_of}
+use Rattle.vm_cell.specs.Plain.{ActsPlainly, AreMade, IsPlain, IsPlainIn, IsPlainStep, IsQuiet, IsStretch, counted_since, recounted, retired_by, timed_by, with_counters}
 use Rattle.vm_cell.specs.Steps.{IsRun}
 use Rattle.vm_cell.proofs.Acting.{next-acts}
 use Rattle.vm_cell.proofs.Runs.{IsRun-advance, IsRun-join, IsRun-none}
@@ -43,7 +45,7 @@ use Rattle.vm_cell.proofs.Stepping.{goes_retired}
 -- ---- counters and time have no part in what a plain instruction does
 
 -- an access that is not one of a port
-abbrev IsNoPort : Reached → Type 0
+abbrev pub IsNoPort : Reached → Type 0
 IsNoPort (faulted cause) = Unit {0}
 IsNoPort (of_ram page) = Unit {0}
 IsNoPort of_port = ⊥
@@ -52,7 +54,7 @@ in-ram : (a : Access) (s : State) → is_in_ram s.ram a.address ≡ true → (al
 in-ram a s inside false = tt
 in-ram a s inside true = subst (λ b. IsNoPort (reached_in b a)) (sym inside) tt
 
-no-port : (a : Access) (s : State) → is_in_ram s.ram a.address ≡ true → IsNoPort (reached a s)
+pub no-port : (a : Access) (s : State) → is_in_ram s.ram a.address ≡ true → IsNoPort (reached a s)
 unfolding reached
 no-port a s inside = in-ram a s inside (is_aligned_for a.direction a.address a.width)
 
@@ -278,6 +280,69 @@ module _ (old new : KeyedState) (i : Instruction) (word : ℕ) (plain : IsPlain 
       absurd (differs (ap Retired (told-retired old.state new.state (execute i word old.state) (change_of (Some i) old.state) written is-plain acts.tells)))
   plain-none (Exited value) acts differs = absurd (subst (λ a. IsPlainAction old.state a (change_of (Some i) old.state)) acts.tells is-plain)
   plain-none (Asked call) acts differs = absurd (subst (λ a. IsPlainAction old.state a (change_of (Some i) old.state)) acts.tells.0 is-plain)
+
+by-retired : (old new : KeyedState) (i : Instruction) (acted : Acted) (is_retired : Bool) → IsPlain i old.state
+    → ((word : ℕ) → ActsBy old new (Some i) word (Ok acted)) → MatchBool is_retired (acted ≡ Retired Nothing) (acted ≢ Retired Nothing)
+    → MatchBool is_retired (ActsPlainly old new i) (new ≡ old)
+by-retired old new i acted true plain acts told = (plain, λ word. subst (λ a. ActsBy old new (Some i) word (Ok a)) told (acts word))
+by-retired old new i acted false plain acts told = plain-none old new i 0 plain acted (acts 0) told
+
+-- what an instruction of a group answers, of one that may be plain
+pub group-acts : (g : Group) (old new : KeyedState) (i : Instruction) (acted : Acted) (is_retired : Bool) → group_of i.kind ≡ g → IsPlainIn g i old.state
+    → ((word : ℕ) → Acts old new (data_page (access_by g i old.state) old.state) (change_of_access (access_by g i old.state) (rs2 i old.state) old.state)
+    (execute_group g i word old.state) (Ok acted))
+    → MatchBool is_retired (acted ≡ Retired Nothing) (acted ≢ Retired Nothing) → MatchBool is_retired (ActsPlainly old new i) (new ≡ old)
+unfolding execute
+group-acts g old new i acted is_retired is plain acts told =
+    by-retired old new i acted is_retired (subst (λ h. IsPlainIn h i old.state) (sym is) plain)
+    (λ word. subst (λ h. Acts old new (data_page (access_by h i old.state) old.state) (change_of_access (access_by h i old.state) (rs2 i old.state) old.state)
+    (execute_group h i word old.state) (Ok acted)) (sym is) (acts word)) told
+
+-- a load from a page that is here, and a store to one
+module _ (old new : KeyedState) (i : Instruction) (inside : is_in_ram old.state.ram (data_address i old.state) ≡ true)
+    (here : IsHere old.pages (page_of (data_address i old.state))) where
+  pub loads-here : (number : ℕ) → group_of i.kind ≡ Load → data_address i old.state % load_width i.kind ≡ 0
+      → number ≡ ram_number (data_address i old.state) (load_width i.kind) old.state
+      → new ≡ record old { state = at_next_instruction (with_rd i (load_value i.kind number) old.state) } → ActsPlainly old new i
+  unfolding load
+  loads-here number is aligned reads becomes =
+      let s : State = old.state in
+      let r : reached (load_access i s) s ≡ of_ram (Some (page_of (data_address i s))) = reached-ram (load_access i s) s (ap (λ n. eqb n 0) aligned) inside in
+      group-acts Load old new i (Retired Nothing) true is inside
+      (λ word. record {
+        met = subst (λ x. IsMet (page_needed x) old) (sym r) here;
+        tells =
+            ap (λ x. load_by x i (data_address i s) s) r
+            ∙ ap (λ n. retire_next (with_rd i (load_value i.kind n) s)) (sym reads)
+            ∙ ap (λ (h : KeyedState). retire Nothing h.state) (sym becomes);
+        changed = (
+          ap (λ (h : KeyedState). h.pages) becomes ∙ ap (λ x. pages_after (change_reached x (load_access i s) (rs2 i s) s) old.pages) (sym r),
+          ap (λ (h : KeyedState). h.key) becomes,
+        );
+      }) refl
+
+  pub stores-here : (bytes : List ℕ) → group_of i.kind ≡ Store → data_address i old.state % store_width i.kind ≡ 0 → bytes ≡ stored_bytes i old.state
+      → new ≡ record {
+        state = at_next_instruction (with_bytes (data_address i old.state) bytes old.state);
+        pages = pages_after (puts (page_of (data_address i old.state))) old.pages;
+        key = old.key;
+      } → ActsPlainly old new i
+  unfolding store store_action
+  stores-here bytes is aligned same becomes =
+      let s : State = old.state in
+      let r : reached (store_access i s) s ≡ of_ram (Some (page_of (data_address i s))) = reached-ram (store_access i s) s (ap (λ n. eqb n 0) aligned) inside in
+      group-acts Store old new i (Retired Nothing) true is inside
+      (λ word. record {
+        met = subst (λ x. IsMet (page_needed x) old) (sym r) here;
+        tells =
+            ap (λ x. store_by x (data_address i s) (store_width i.kind) (stored_bytes i s) (rs2 i s) s) r
+            ∙ ap (λ b. retire_next (with_bytes (data_address i s) b s)) (sym same)
+            ∙ ap (λ (h : KeyedState). retire Nothing h.state) (sym becomes);
+        changed = (
+          ap (λ (h : KeyedState). h.pages) becomes ∙ ap (λ x. pages_after (change_reached x (store_access i s) (rs2 i s) s) old.pages) (sym r),
+          ap (λ (h : KeyedState). h.key) becomes,
+        );
+      }) refl
 
 -- ---- stretches of plain steps
 

@@ -22,7 +22,9 @@ use Rattle.forest_model.proofs.Numbers.{next-advance}
 use Rattle.forest_model.proofs.Finish.{limit-after_steps}
 use Rattle.forest_model.proofs.Paged.{advanced_by-suc, machine-advanced_by}
 use Rattle.vm_cell.specs.Keyed.{KeyedMachine, keyed, paged}
+use Rattle.vm_cell.specs.Parts.{IsCut, IsPart, Stops}
 use Rattle.vm_cell.specs.Steps.{GoesOn, IsCounted, IsFree, IsFreeFor, IsFunded, IsRun, moved, moved_by}
+use Rattle.vm_cell.specs.declared.vm.Part.{Part}
 use Rattle.vm_cell.specs.declared.vm.Stepped.{Stepped}
 use Rattle.vm_cell.specs.declared.vm.Stepped.TheVariants.{Went, Stall, Call, Ended}
 
@@ -76,11 +78,21 @@ module _ (old mid new : KeyedMachine) (made : ℕ) (run : IsRun old mid made) (i
   made-counted =
       let counted : new.machine.steps ≡ old.machine.steps + made = ap (λ (v : KeyedMachine). v.machine.steps) is ∙ run.counted in omega arith
 
+  pub stopped-run : IsRun old new (new.machine.steps - old.machine.steps)
+  stopped-run = subst (IsRun old new) made-counted (subst (λ v. IsRun old v made) (sym is) run)
+
   pub stopped-steps : new ≡ moved_by (new.machine.steps - old.machine.steps) old
   stopped-steps = is ∙ run.steps ∙ ap (λ n. moved_by n old) made-counted
 
   pub stopped-free : IsFreeFor (new.machine.steps - old.machine.steps) old
   stopped-free = subst (λ n. IsFreeFor n old) made-counted run.free
+
+-- where it stops
+pub stops-there : (old new : KeyedMachine) (why : Stepped) → old.machine.ending ≡ None → GoesOn old new (Some why) → Stops new why
+stops-there old new Went live goes = absurd goes
+stops-there old new (Stall page) live goes = subst (λ v. Stops v (Stall page)) (sym goes.1) (live, goes.0)
+stops-there old new (Call call) live goes = subst (λ v. Stops v (Call call)) (sym goes.2) (live, goes.0, goes.1)
+stops-there old new (Ended ending) live goes = absurd goes
 
 -- a run of as many steps as the limit allows does not leave a machine that lives
 pub enough_made : (old new : KeyedMachine) (made most : ℕ) → IsRun old new made → IsWithinLimit new.machine → new.machine.ending ≡ None → made ≡ most
@@ -91,6 +103,50 @@ enough_made old new made most run within live all enough =
     let counted : new.machine.steps ≡ old.machine.steps + made = run.counted in
     let below : new.machine.steps < new.machine.limit = within live in
     omega arith
+
+-- ---- parts of a run
+
+-- a first part that made all that the run was to make, or was stopped
+pub part-alone : (most few : ℕ) (old new : KeyedMachine) (part : Part) → few ≤ most → (part.stop ≡ None → part.steps ≡ few → few ≡ most) → IsPart few old new part → IsPart most old new part
+part-alone most few old new part less whole is =
+    let within : part.steps ≤ few = is.within in
+    record {
+      run = is.run;
+      within = omega (arith, within, less);
+      stops = is.stops;
+      all = λ none live. let made : part.steps ≡ few = is.all none live in made ∙ whole none made;
+    }
+
+pub parts-join : (most : ℕ) (old mid new : KeyedMachine) (first rest part : Part) → IsRun old mid first.steps → first.steps ≤ most → IsPart (most - first.steps) mid new rest
+    → part.steps ≡ first.steps + rest.steps → part.stop ≡ rest.stop → IsPart most old new part
+parts-join most old mid new first rest part run less is steps stop =
+    let within : rest.steps ≤ most - first.steps = is.within in
+    record {
+      run = subst (IsRun old new) (sym steps) (IsRun-join old mid new first.steps rest.steps run is.run);
+      within = omega (arith, steps, within, less);
+      stops = subst (λ s. IfSome s (Stops new)) (sym stop) is.stops;
+      all = λ none live. let made : rest.steps ≡ most - first.steps = is.all (sym stop ∙ none) live in omega (arith, steps, made, less);
+    }
+
+pub cut-less : (most few : ℕ) (old new : KeyedMachine) → few ≤ most → IsCut few old new → IsCut most old new
+cut-less most few old new less is =
+    let within : new.machine.steps < old.machine.steps + few = is.within in
+    record { run = is.run; from = is.from; within = omega (arith, within, less); live = is.live; here = is.here; memory = is.memory }
+
+pub cut-later : (most made : ℕ) (old mid new : KeyedMachine) → IsRun old mid made → made ≤ most → IsCut (most - made) mid new → IsCut most old new
+cut-later most made old mid new run less is =
+    let counted : mid.machine.steps ≡ old.machine.steps + made = run.counted in
+    let from : mid.machine.steps ≤ new.machine.steps = is.from in
+    let within : new.machine.steps < mid.machine.steps + (most - made) = is.within in
+    let all : made + (new.machine.steps - mid.machine.steps) ≡ new.machine.steps - old.machine.steps = omega (arith, counted, from) in
+    record {
+      run = subst (IsRun old new) all (IsRun-join old mid new made (new.machine.steps - mid.machine.steps) run is.run);
+      from = omega (arith, counted, from);
+      within = omega (arith, counted, within, less);
+      live = is.live;
+      here = is.here;
+      memory = is.memory;
+    }
 
 -- a step gives a number to a ticket at most
 pub rises_retired : (s new : State) (written : Written) → action s ≡ retire written new → new.ports.fork.next_ticket ≤ s.ports.fork.next_ticket + 1

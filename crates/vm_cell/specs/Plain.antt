@@ -1,5 +1,5 @@
 -- Plain steps. Each retires an instruction that looks at no counter and reaches no port, so they are counted together.
-use Rattle.std.specs.Prelude.{◌≡◌, ℕ, zero, suc, ◌+◌, ◌<◌, true, false, None, Ok}
+use Rattle.std.specs.Prelude.{◌≡◌, ℕ, zero, suc, ◌+◌, ◌<◌, true, false, None, Some, Ok}
 use Rattle.rv_decode.specs.declared.kinds.Group.{Group}
 use Rattle.rv_decode.specs.declared.kinds.Group.TheVariants as group
 use Rattle.rv_decode.specs.Kinds.{group_of}
@@ -13,7 +13,7 @@ use Rattle.timer_port.specs.Timer.{is_due, timer_counted}
 use Rattle.forest_model.specs.declared.Written.TheVariants.{Nothing}
 use Rattle.forest_model.specs.Memory.{data_address}
 use Rattle.forest_model.specs.State.{State, is_in_ram}
-use Rattle.vm_cell.specs.Acts.{ActsNext}
+use Rattle.vm_cell.specs.Acts.{ActsBy, ActsNext}
 use Rattle.vm_cell.specs.Keyed.{KeyedState, machine_of}
 use Rattle.vm_cell.specs.Steps.{IsRun}
 use Rattle.vm_cell.specs.declared.hart.Acted.TheVariants.{Retired}
@@ -69,6 +69,10 @@ IsPlainIn group.Amo i s = ⊥
 
 abbrev pub IsPlain : Instruction → State → Type 0
 IsPlain i s = IsPlainIn (group_of i.kind) i s
+
+-- an instruction is plain and retires, with any word that says it
+abbrev pub ActsPlainly : KeyedState → KeyedState → Instruction → Type 0
+ActsPlainly old new i = IsPlain i old.state × ((word : ℕ) → ActsBy old new (Some i) word (Ok (Retired Nothing)))
 
 -- ---- plain steps
 

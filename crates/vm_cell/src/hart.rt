@@ -38,13 +38,15 @@ mod atomic;
 mod call;
 mod compute;
 mod control;
-mod decoder;
+mod kept;
 mod memory;
 mod plain;
 mod seed;
+mod slot;
 mod system;
 
 use access::Reach;
+pub use slot::Slot;
 
 /// What a step came to.
 #[derive(Clone, Copy)]

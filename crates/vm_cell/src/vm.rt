@@ -7,11 +7,13 @@ ghost use Rattle.forest_model.specs.Forest.{machines};
 ghost use Rattle.forest_model.specs.Machine.{IsWithinLimit, boot};
 ghost use Rattle.forest_model.specs.Paged.{pages_at_boot, stalled_at};
 ghost use Rattle.vm_cell.specs.Acts.{Grows};
-ghost use Rattle.vm_cell.specs.Keyed.{Arrives, HasImage, IsOfDepot, paged};
+ghost use Rattle.vm_cell.specs.Kept.{Keeps};
+ghost use Rattle.vm_cell.specs.Keyed.{Arrives, HasImage, IsOfDepot, hart_in, paged};
+ghost use Rattle.vm_cell.specs.Parts.{IsCut, IsPart};
 ghost use Rattle.vm_cell.specs.Shown.{peeked, shown_registers};
 ghost use Rattle.vm_cell.specs.Steps.{GoesOn, IsAfterStep, IsFreeFor, IsRun, Stands, Steps, moved_by};
 
-use crate::hart::{Acted, Hart};
+use crate::hart::{Acted, Hart, Slot};
 use cow_disk::Disk;
 use elf_load::Loaded;
 use forest_model::{Ending, Options, Written};
@@ -25,6 +27,12 @@ use std::marker::Model;
 mod fork;
 
 pub use fork::Brood;
+
+/// So many steps of a run are made with one slot, since many take a microsecond to make.
+const FEW: u64 = 256;
+
+/// The slots of a long run. It is a power of 2, so that they are used alike.
+const SLOTS: usize = 512;
 
 /// After a try that made no plain step so many steps go without one: where one traps, the next often traps too.
 const PAUSE: u32 = 8;
@@ -47,6 +55,13 @@ pub enum Stepped {
 pub struct Ran {
     pub steps: u64,
     pub why: Stepped,
+}
+
+/// What a part of a run came to: how many steps were made, and the page or the call that stopped it, if one did.
+#[derive(Clone, Copy)]
+struct Part {
+    steps: u64,
+    stop: Option<Stepped>,
 }
 
 /// One machine, of which some pages may be absent.
@@ -239,32 +254,110 @@ impl Vm {
         ensures err_here { OnErr result (stalled_at (paged self.new) ≡ None) }
         ensures err_memory { OnErr result (Grows self.new.machine.state) }
     {
-        let mut steps = 0;
-        let mut pause = 0;
-        while steps < most && self.ending.is_none() {
-            let made = self.make_plain(room(pause, most - steps - 1));
-            pause = pause_after(pause, made);
-            steps += made;
-            if let Some(why) = self.step_live()? {
-                return Ok(Ran { steps, why });
-            }
-            steps += 1;
+        let part = self.run_parts(most)?;
+        if let Some(why) = part.stop {
+            return Ok(Ran {
+                steps: part.steps,
+                why,
+            });
         }
         Ok(Ran {
-            steps,
+            steps: part.steps,
             why: self.standing_now(),
         })
     }
 
-    /// Makes the plain steps that come, at most `most`, of a machine that lives, and answers how many. It lives on.
-    #[inline]
-    fn make_plain(&mut self, most: u64) -> u64
-        requires { self.old.machine.ending ≡ None }
+    /// Makes at most `most` steps, and looks at no step after them.
+    fn run_parts(&mut self, most: u64) -> Result<Part, AllocError>
+        ensures ok { IfOk result (IsPart most self.old self.new) }
+        ensures err { OnErr result (IsCut most self.old self.new) }
+    {
+        let first = self.run_few(most.min(FEW))?;
+        if first.stop.is_some() {
+            return Ok(first);
+        }
+        if first.steps < FEW {
+            return Ok(first);
+        }
+        let rest = self.run_many(most - first.steps)?;
+        Ok(Part {
+            steps: first.steps + rest.steps,
+            stop: rest.stop,
+        })
+    }
+
+    fn run_few(&mut self, most: u64) -> Result<Part, AllocError>
+        ensures ok { IfOk result (IsPart most self.old self.new) }
+        ensures err { OnErr result (IsCut most self.old self.new) }
+    {
+        self.run_with(&mut [Slot::empty()], most)
+    }
+
+    /// The same with many slots. It is apart and never inlined, so that a short run does not pay for them.
+    #[inline(never)]
+    fn run_many(&mut self, most: u64) -> Result<Part, AllocError>
+        ensures ok { IfOk result (IsPart most self.old self.new) }
+        ensures err { OnErr result (IsCut most self.old self.new) }
+    {
+        self.run_with(&mut [Slot::empty(); SLOTS], most)
+    }
+
+    /// The same with slots. Those that keep something for an epoch do so for plain steps, so each step that is made by
+    /// itself begins an epoch.
+    #[inline(never)]
+    fn run_with(&mut self, slots: &mut [Slot], most: u64) -> Result<Part, AllocError>
+        requires some { 0 < length slots.old }
+        requires keeps { Keeps (hart_in self.old) self.old.machine.steps slots.old }
+        ensures ok { IfOk result (IsPart most self.old self.new) }
+        ensures err { OnErr result (IsCut most self.old self.new) }
+    {
+        let mut steps = 0;
+        let mut pause = 0;
+        while steps < most && self.ending.is_none() {
+            let made = self.try_plain(slots, pause, most - steps - 1);
+            pause = pause_after(pause, made);
+            steps += made;
+            if let Some(why) = self.step_live()? {
+                let stop = Some(why);
+                return Ok(Part { steps, stop });
+            }
+            steps += 1;
+        }
+        Ok(Part { steps, stop: None })
+    }
+
+    /// Makes plain steps, or none in a pause.
+    #[inline(always)]
+    fn try_plain(&mut self, slots: &mut [Slot], pause: u32, most: u64) -> u64
+        requires live { self.old.machine.ending ≡ None }
+        requires some { 0 < length slots.old }
+        requires keeps { Keeps (hart_in self.old) self.old.machine.steps slots.old }
         ensures run { IsRun self.old self.new result }
         ensures most { result ≤ most }
         ensures live { self.new.machine.ending ≡ None }
+        ensures keeps { Keeps (hart_in self.new) self.old.machine.steps slots.new }
+        ensures same_length { length slots.new ≡ length slots.old }
     {
-        let made = self.hart.make_plain(most.min(self.limit - self.steps - 1));
+        if pause > 0 {
+            return 0;
+        }
+        self.make_plain(slots, most)
+    }
+
+    /// Makes the plain steps that come, at most `most`, of a machine that lives, and answers how many. It lives on.
+    #[inline(always)]
+    fn make_plain(&mut self, slots: &mut [Slot], most: u64) -> u64
+        requires live { self.old.machine.ending ≡ None }
+        requires some { 0 < length slots.old }
+        requires keeps { Keeps (hart_in self.old) self.old.machine.steps slots.old }
+        ensures run { IsRun self.old self.new result }
+        ensures most { result ≤ most }
+        ensures live { self.new.machine.ending ≡ None }
+        ensures keeps { Keeps (hart_in self.new) self.old.machine.steps slots.new }
+        ensures same_length { length slots.new ≡ length slots.old }
+    {
+        let most = most.min(self.limit - self.steps - 1);
+        let made = self.hart.make_plain(slots, self.steps as u32, most);
         self.steps += made;
         made
     }
@@ -336,14 +429,6 @@ impl Vm {
             None => Stepped::Went,
         }
     }
-}
-
-/// How many plain steps are tried, of so many: none in a pause.
-#[inline]
-fn room(pause: u32, most: u64) -> u64
-    ensures { result ≤ most }
-{
-    if pause == 0 { most } else { 0 }
 }
 
 /// How many steps go without a try at plain ones, after a try that made so many.

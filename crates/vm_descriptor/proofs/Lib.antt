@@ -5,6 +5,7 @@ mod Maps
 mod DecodedInRange
 mod DescribedBack
 mod FlagsRead
+mod Kept
 mod MapLast
 mod MapSpelled
 mod Bits

@@ -257,3 +257,8 @@ pub record Fits (d : Descriptor) : Type 0 where
   pub join_select : d.join_select < 2 ^ 32
   pub granted : d.granted < 2 ^ 32
   pub map : length d.blank ≡ d.pages
+
+-- bytes that are kept are those of the descriptor that they are read as
+pub record IsKept (bytes : List ℕ) : Type 0 where
+  pub fits : Fits (read bytes)
+  pub spelled : described (read bytes) ≡ bytes

@@ -2,11 +2,9 @@
 
 ghost use Rattle.std.specs.Prelude.{◌≡◌, ◌≤◌, ◌<◌, ◌^◌, ◌++◌, length, IfOk, OnOk};
 ghost use Rattle.std.specs.List.{flat_map};
-ghost use Rattle.vm_descriptor.specs.Descriptor.{IsInRange, numbered};
 ghost use Rattle.vm_descriptor.specs.Described.{before_buffer, described, double, map_bytes, number_of_bits, reservation_bytes, word};
 
 use crate::descriptor::Descriptor;
-use crate::error::DescError;
 use flat_memory::push_words;
 use rv_traps::CsrRegisters;
 use std::alloc::{AllocError, Global};
@@ -16,48 +14,27 @@ pub const HEADER_SIZE: usize = 776;
 
 impl Descriptor {
     /// The bytes of a descriptor.
+    #[tactic(auto, using(std::proofs::lemmas::List::append_assoc), unfolding(crate::specs::Described::described))]
     pub fn encode(&self, alloc: Global) -> Result<Vec<u8>, AllocError>
         ensures { IfOk result (λ bytes. bytes.items ≡ described self.now) }
     {
-        self.encode_as(alloc, self.clone_id)
-    }
-
-    /// The bytes of the same descriptor of another clone, by its number.
-    #[tactic(auto, using(std::proofs::lemmas::List::append_assoc), unfolding(crate::specs::Described::described))]
-    fn encode_as(&self, alloc: Global, clone_id: u32) -> Result<Vec<u8>, AllocError>
-        ensures { IfOk result (λ bytes. bytes.items ≡ described (numbered clone_id self.now)) }
-    {
         let flags = self.blank.flags();
         let mut bytes = Vec::with_capacity(alloc, HEADER_SIZE + flags.len() / 8 + 1)?;
-        self.push_fields(&mut bytes, clone_id)?;
+        self.push_fields(&mut bytes)?;
         bytes.extend_from_slice(&self.block.buffer)?;
         push_map(&mut bytes, flags)?;
         Ok(bytes)
     }
 
-    /// The same descriptor of another clone, by its number, as it comes back from its bytes.
-    pub fn through_bytes(&self, alloc: Global, clone_id: u32) -> Result<Descriptor, AllocError>
-        requires { IsInRange (numbered clone_id self.now) }
-        ensures { IfOk result (λ descriptor. descriptor ≡ numbered clone_id self.now) }
-    {
-        self.fits();
-        let bytes = self.encode_as(alloc, clone_id)?;
-        match Descriptor::decode(alloc, &bytes) {
-            Ok(descriptor) => Ok(descriptor),
-            Err(DescError::Memory) => Err(AllocError),
-            Err(DescError::Refused(_)) => unreachable!(),
-        }
-    }
-
     /// Adds the fields before the buffer.
     #[tactic(auto, using(std::proofs::lemmas::List::append_assoc))]
-    fn push_fields(&self, bytes: &mut Vec<u8>, clone_id: u32) -> Result<(), AllocError>
-        ensures { OnOk result (bytes.new.items ≡ bytes.old.items ++ before_buffer (numbered clone_id self.now)) }
+    fn push_fields(&self, bytes: &mut Vec<u8>) -> Result<(), AllocError>
+        ensures { OnOk result (bytes.new.items ≡ bytes.old.items ++ before_buffer self.now) }
     {
         bytes.extend_from_slice(b"SFD1")?;
         push_words(
             bytes,
-            &[self.image, self.pages, clone_id, self.share, self.pc],
+            &[self.image, self.pages, self.clone_id, self.share, self.pc],
         )?;
         push_words(bytes, &self.registers)?;
         push_csrs(bytes, &self.csrs)?;

@@ -9,7 +9,9 @@ pub mod laws;
 mod page_map;
 mod read;
 mod refusal;
+mod seed;
 
 pub use descriptor::{Descriptor, MAX_CLONES, MAX_LIMIT, MAX_SHARE};
 pub use error::DescError;
 pub use page_map::PageMap;
+pub use seed::Seed;

@@ -155,12 +155,32 @@ fn read_flags(alloc: Global, count: u32, map: &[u8]) -> Result<Vec<bool>, AllocE
 fn push_bits(flags: &mut Vec<bool>, byte: u8, count: u32) -> Result<(), AllocError>
     ensures { OnOk result (flags.new.items ≡ flags.old.items ++ bits_of count byte) }
 {
+    if count == 8 {
+        return flags.extend_from_slice(&eight_bits(byte));
+    }
     let mut left = byte;
     for _ in 0..count {
         flags.push(left % 2 == 1)?;
         left /= 2;
     }
     Ok(())
+}
+
+/// The bits of a byte, the lowest first.
+#[tactic(auto, unfolding(crate::specs::Described::bits_of))]
+fn eight_bits(byte: u8) -> [bool; 8]
+    ensures { result ≡ bits_of 8 byte }
+{
+    [
+        byte % 2 == 1,
+        byte / 2 % 2 == 1,
+        byte / 2 / 2 % 2 == 1,
+        byte / 2 / 2 / 2 % 2 == 1,
+        byte / 2 / 2 / 2 / 2 % 2 == 1,
+        byte / 2 / 2 / 2 / 2 / 2 % 2 == 1,
+        byte / 2 / 2 / 2 / 2 / 2 / 2 % 2 == 1,
+        byte / 2 / 2 / 2 / 2 / 2 / 2 / 2 % 2 == 1,
+    ]
 }
 
 /// How many of so many flags stand in the next byte.

@@ -2,7 +2,9 @@
 //! once these have come.
 
 ghost use Rattle.std.specs.Prelude.{◌≡◌, ◌≤◌, ◌%◌, length, IfOk, OnOk};
+ghost use Rattle.image_depot.specs.Key.{IsKeyOf};
 ghost use Rattle.vm_cell.specs.Keyed.{IsOfDepot};
+ghost use Rattle.vm_cell.specs.Woken.{AreOfImage};
 
 use crate::machine::{booted_at, fork};
 use elf_load::RAM_BASE;
@@ -12,7 +14,35 @@ use std::alloc::Global;
 use std::process::Abort;
 use std::sync::Wait;
 use std::test::Fail;
-use vm_cell::{Arrived, Stepped, Vm};
+use vm_cell::{Arrived, Brood, Stepped, Vm};
+
+// The CLONE of one child that the machine of these words makes, from a base on.
+fn brood_of<R: Wait>(
+    rt: &R,
+    alloc: Global,
+    base: u32,
+    words: &[u32],
+    depot: &Depot,
+) -> Result<Brood, Fail>
+    requires base { base % 4 ≡ 0 }
+    requires words { length words.now ≤ 64 }
+    ensures here { IfOk result (λ brood. IsKeyOf depot.now brood.key) }
+    ensures seeds { IfOk result (λ brood. AreOfImage brood.key 1 brood.seed) }
+{
+    let mut vm = booted_at(alloc, base, words, 16)?;
+    vm.run(1000)?;
+    fork(rt, alloc, &mut vm, 1, depot)
+}
+
+// The child of a brood of one.
+fn first_of(alloc: Global, brood: &Brood, depot: &Depot) -> Result<Vm, Fail>
+    requires here { IsKeyOf depot.now brood.now.key }
+    requires seeds { AreOfImage brood.now.key 1 brood.now.seed }
+    ensures { IfOk result (λ vm. IsOfDepot depot.now vm.key) }
+{
+    let seed = brood.seed.through_bytes(alloc, 1)?;
+    Ok(Vm::wake(alloc, &seed, &brood.key, depot)?)
+}
 
 // The first child of the machine of these words, from a base on, which forks.
 fn child_of<R: Wait>(
@@ -26,11 +56,8 @@ fn child_of<R: Wait>(
     requires words { length words.now ≤ 64 }
     ensures { IfOk result (λ vm. IsOfDepot depot.now vm.key) }
 {
-    let mut vm = booted_at(alloc, base, words, 16)?;
-    vm.run(1000)?;
-    let brood = fork(rt, alloc, &mut vm, 1, depot)?;
-    let seed = brood.seed.through_bytes(alloc, 1)?;
-    Ok(Vm::wake(alloc, &seed, &brood.key, depot)?)
+    let brood = brood_of(rt, alloc, base, words, depot)?;
+    first_of(alloc, &brood, depot)
 }
 
 // Brings a page to a clone, from its image.
@@ -73,11 +100,19 @@ static LOADS: [u32; 16] = [
 #[test]
 fn the_code_page_is_wanted_before_that_of_the_data(rt: HostRuntime) -> Result<(), Fail> {
     let depot = Depot::new(rt.alloc())?;
-    let mut child = child_of(&rt, rt.alloc(), RAM_BASE, &LOADS, &depot)?;
-    waits_for_code_and_data(&rt, rt.alloc(), &mut child, &depot)
+    waits_for_code_and_data(&rt, rt.alloc(), &depot)
 }
 
-fn waits_for_code_and_data(
+fn waits_for_code_and_data<R: Abort + Wait>(
+    rt: &R,
+    alloc: Global,
+    depot: &Depot,
+) -> Result<(), Fail> {
+    let mut child = child_of(rt, alloc, RAM_BASE, &LOADS, depot)?;
+    waits_for_one_then_the_other(rt, alloc, &mut child, depot)
+}
+
+fn waits_for_one_then_the_other(
     rt: &impl Abort,
     alloc: Global,
     child: &mut Vm,
@@ -85,14 +120,34 @@ fn waits_for_code_and_data(
 ) -> Result<(), Fail>
     requires { IsOfDepot depot.now child.old.key }
 {
-    assert_eq!(rt; child.wanted(), Some(0));
-    assert_eq!(rt; child.peek(depot, 0x8000_1000), Some(17));
-    assert_eq!(rt; bring(alloc, child, depot, 0)?, Arrived::Got(0));
-    assert_eq!(rt; bring(alloc, child, depot, 0)?, Arrived::Had(0));
-    assert_eq!(rt; child.step()?, Stepped::Stall(1));
-    assert_eq!(rt; stalls_of(alloc, child, depot)?.as_slice(), [1].as_slice());
-    assert_eq!(rt; child.ended(), Some(Ending::Exit(17)));
+    wants_the_code(rt, child, depot);
+    gets_the_code_once(rt, alloc, child, depot)?;
+    waits_for(rt, alloc, child, depot, &[1], 17)?;
     assert_eq!(rt; child.steps(), 16);
+    Ok(())
+}
+
+// Which page a clone wants that starts, and a word of another page, which is absent too.
+fn wants_the_code(rt: &impl Abort, child: &Vm, depot: &Depot)
+    requires { IsOfDepot depot.now child.now.key }
+{
+    let found = (child.wanted(), child.peek(depot, 0x8000_1000));
+    assert_eq!(rt; found, (Some(0), Some(17)));
+}
+
+fn gets_the_code_once(
+    rt: &impl Abort,
+    alloc: Global,
+    child: &mut Vm,
+    depot: &Depot,
+) -> Result<(), Fail>
+    requires { IsOfDepot depot.now child.old.key }
+    ensures { OnOk result (child.new.key ≡ child.old.key) }
+{
+    let first = bring(alloc, child, depot, 0)?;
+    let again = bring(alloc, child, depot, 0)?;
+    assert_eq!(rt; [first, again], [Arrived::Got(0), Arrived::Had(0)]);
+    assert_eq!(rt; child.step()?, Stepped::Stall(1));
     Ok(())
 }
 
@@ -105,8 +160,32 @@ static LOADS_AT_THE_BORDER: [u32; 16] = [
 #[test]
 fn a_page_that_is_left_behind_is_not_wanted(rt: HostRuntime) -> Result<(), Fail> {
     let depot = Depot::new(rt.alloc())?;
-    let mut child = child_of(&rt, rt.alloc(), 0x8000_0fd0, &LOADS_AT_THE_BORDER, &depot)?;
-    waits_for(&rt, rt.alloc(), &mut child, &depot, &[1, 2], 17)
+    child_waits_for(
+        &rt,
+        rt.alloc(),
+        &depot,
+        0x8000_0fd0,
+        &LOADS_AT_THE_BORDER,
+        &[1, 2],
+        17,
+    )
+}
+
+// The first child of the machine of these words, from a base on, waits for these pages, and exits with a value.
+fn child_waits_for<R: Abort + Wait>(
+    rt: &R,
+    alloc: Global,
+    depot: &Depot,
+    base: u32,
+    words: &[u32],
+    pages: &[u32],
+    value: u32,
+) -> Result<(), Fail>
+    requires base { base % 4 ≡ 0 }
+    requires words { length words.now ≤ 64 }
+{
+    let mut child = child_of(rt, alloc, base, words, depot)?;
+    waits_for(rt, alloc, &mut child, depot, pages, value)
 }
 
 fn waits_for(
@@ -119,8 +198,11 @@ fn waits_for(
 ) -> Result<(), Fail>
     requires { IsOfDepot depot.now child.old.key }
 {
-    assert_eq!(rt; stalls_of(alloc, child, depot)?.as_slice(), pages);
-    assert_eq!(rt; child.ended(), Some(Ending::Exit(value)));
+    let stalls = stalls_of(alloc, child, depot)?;
+    assert_eq!(rt;
+        (stalls.as_slice(), child.ended()),
+        (pages, Some(Ending::Exit(value)))
+    );
     Ok(())
 }
 
@@ -133,8 +215,7 @@ static FAILING_SC: [u32; 16] = [
 #[test]
 fn an_sc_that_fails_wants_no_page(rt: HostRuntime) -> Result<(), Fail> {
     let depot = Depot::new(rt.alloc())?;
-    let mut child = child_of(&rt, rt.alloc(), RAM_BASE, &FAILING_SC, &depot)?;
-    waits_for(&rt, rt.alloc(), &mut child, &depot, &[0], 1)
+    child_waits_for(&rt, rt.alloc(), &depot, RAM_BASE, &FAILING_SC, &[0], 1)
 }
 
 // The child loads a word of page 1 from an address that is no multiple of 4, and traps to address 0.
@@ -146,10 +227,28 @@ static MISALIGNED_LOAD: [u32; 13] = [
 #[test]
 fn an_access_that_traps_wants_no_page(rt: HostRuntime) -> Result<(), Fail> {
     let depot = Depot::new(rt.alloc())?;
-    let mut child = child_of(&rt, rt.alloc(), RAM_BASE, &MISALIGNED_LOAD, &depot)?;
-    assert_eq!(rt; bring(rt.alloc(), &mut child, &depot, 0)?, Arrived::Got(0));
-    assert_eq!(rt; child.step()?, Stepped::Went);
-    assert_eq!(rt; child.wanted(), None);
+    traps_with_the_code_alone(&rt, rt.alloc(), &depot)
+}
+
+fn traps_with_the_code_alone<R: Abort + Wait>(
+    rt: &R,
+    alloc: Global,
+    depot: &Depot,
+) -> Result<(), Fail> {
+    let mut child = child_of(rt, alloc, RAM_BASE, &MISALIGNED_LOAD, depot)?;
+    goes_once(rt, alloc, &mut child, depot)
+}
+
+// Gets the page of its code and makes a step, and wants no page then.
+fn goes_once(rt: &impl Abort, alloc: Global, child: &mut Vm, depot: &Depot) -> Result<(), Fail>
+    requires { IsOfDepot depot.now child.old.key }
+{
+    let got = bring(alloc, child, depot, 0)?;
+    let went = child.step()?;
+    assert_eq!(rt;
+        (got, went, child.wanted()),
+        (Arrived::Got(0), Stepped::Went, None)
+    );
     Ok(())
 }
 
@@ -164,8 +263,7 @@ static ZEROED_PAGE: [u32; 28] = [
 #[test]
 fn a_page_that_is_zeroed_is_not_wanted(rt: HostRuntime) -> Result<(), Fail> {
     let depot = Depot::new(rt.alloc())?;
-    let mut child = child_of(&rt, rt.alloc(), RAM_BASE, &ZEROED_PAGE, &depot)?;
-    waits_for(&rt, rt.alloc(), &mut child, &depot, &[0], 0)
+    child_waits_for(&rt, rt.alloc(), &depot, RAM_BASE, &ZEROED_PAGE, &[0], 0)
 }
 
 // The timer is due when the child is born, and the handler is in page 2.
@@ -178,9 +276,20 @@ static TIMER_AT_FORK: [u32; 19] = [
 #[test]
 fn an_interrupt_wants_no_page(rt: HostRuntime) -> Result<(), Fail> {
     let depot = Depot::new(rt.alloc())?;
-    let mut child = child_of(&rt, rt.alloc(), RAM_BASE, &TIMER_AT_FORK, &depot)?;
-    assert_eq!(rt; child.wanted(), None);
-    assert_eq!(rt; child.step()?, Stepped::Went);
-    assert_eq!(rt; child.step()?, Stepped::Stall(2));
+    is_interrupted(&rt, rt.alloc(), &depot)
+}
+
+fn is_interrupted<R: Abort + Wait>(rt: &R, alloc: Global, depot: &Depot) -> Result<(), Fail> {
+    let mut child = child_of(rt, alloc, RAM_BASE, &TIMER_AT_FORK, depot)?;
+    goes_and_stalls(rt, &mut child)
+}
+
+fn goes_and_stalls(rt: &impl Abort, child: &mut Vm) -> Result<(), Fail> {
+    let wanted = child.wanted();
+    let stepped = [child.step()?, child.step()?];
+    assert_eq!(rt;
+        (wanted, stepped),
+        (None, [Stepped::Went, Stepped::Stall(2)])
+    );
     Ok(())
 }

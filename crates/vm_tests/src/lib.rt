@@ -7,3 +7,5 @@
 mod absent;
 #[cfg(test)]
 mod machine;
+#[cfg(test)]
+mod stretches;

@@ -55,10 +55,22 @@ static EXIT_SEVEN: [u32; 5] = [0x100022b7, 0x00700313, 0x0062a023, 0x00500313, 0
 #[test]
 fn shows_words_and_registers(rt: HostRuntime) -> Result<(), Fail> {
     let depot = Depot::new(rt.alloc())?;
-    let mut vm = booted(rt.alloc(), &EXIT_SEVEN, 64)?;
-    vm.run(2)?;
-    shows(&rt, &vm, &depot);
+    shows_after_two_steps(&rt, rt.alloc(), &depot)
+}
+
+fn shows_after_two_steps(rt: &impl Abort, alloc: Global, depot: &Depot) -> Result<(), Fail> {
+    let vm = booted_and_run(alloc)?;
+    shows(rt, &vm, depot);
     Ok(())
+}
+
+// The machine that exits with 7, after two steps.
+fn booted_and_run(alloc: Global) -> Result<Vm, Fail>
+    ensures { IfOk result (λ vm. vm.key ≡ None) }
+{
+    let mut vm = booted(alloc, &EXIT_SEVEN, 64)?;
+    vm.run(2)?;
+    Ok(vm)
 }
 
 fn shows(rt: &impl Abort, vm: &Vm, depot: &Depot)
@@ -126,13 +138,26 @@ pub(crate) fn fork<R: Wait>(
 }
 
 // How the two children of a brood end.
-fn ends_of(alloc: Global, brood: &Brood, depot: &Depot) -> Result<Vec<Ending>, Fail>
+fn ends_of(alloc: Global, brood: &Brood, depot: &Depot) -> Result<[Ending; 2], Fail>
     requires here { IsKeyOf depot.now brood.now.key }
     requires seeds { AreOfImage brood.now.key 2 brood.now.seed }
 {
-    let first = end_of(alloc, brood, 1, depot)?;
-    let second = end_of(alloc, brood, 2, depot)?;
-    Ok(vec![in alloc; first, second]?)
+    Ok([
+        end_of(alloc, brood, 1, depot)?,
+        end_of(alloc, brood, 2, depot)?,
+    ])
+}
+
+// A child of a brood of two.
+fn child_of(alloc: Global, brood: &Brood, number: u32, depot: &Depot) -> Result<Vm, Fail>
+    requires here { IsKeyOf depot.now brood.now.key }
+    requires seeds { AreOfImage brood.now.key 2 brood.now.seed }
+    requires first { 1 ≤ number }
+    requires last { number ≤ 2 }
+    ensures { IfOk result (λ vm. IsOfDepot depot.now vm.key) }
+{
+    let seed = brood.seed.through_bytes(alloc, number)?;
+    Ok(Vm::wake(alloc, &seed, &brood.key, depot)?)
 }
 
 // How a child of a brood of two ends.
@@ -142,19 +167,17 @@ fn end_of(alloc: Global, brood: &Brood, number: u32, depot: &Depot) -> Result<En
     requires first { 1 ≤ number }
     requires last { number ≤ 2 }
 {
-    let seed = brood.seed.through_bytes(alloc, number)?;
-    let mut child = Vm::wake(alloc, &seed, &brood.key, depot)?;
-    run_fetching(alloc, &mut child, depot)?;
-    Ok(child.ended().ok_or("a child lives")?)
+    let mut child = child_of(alloc, brood, number, depot)?;
+    run_fetching(alloc, &mut child, depot)
 }
 
-// Runs a clone to its end, which the page of its code is enough for.
-fn run_fetching(alloc: Global, child: &mut Vm, depot: &Depot) -> Result<(), Fail>
+// Runs a clone to its end, which the page of its code is enough for. How it ends.
+fn run_fetching(alloc: Global, child: &mut Vm, depot: &Depot) -> Result<Ending, Fail>
     requires { IsOfDepot depot.now child.old.key }
 {
     bring(alloc, child, depot, 0)?;
     child.run(1000)?;
-    Ok(())
+    Ok(child.ended().ok_or("a child lives")?)
 }
 
 // Makes the JOIN that a machine stands at.
@@ -170,11 +193,16 @@ fn join(vm: &mut Vm, endings: &[Ending]) -> Result<(), Fail> {
 #[test]
 fn a_parent_joins_its_children(rt: HostRuntime) -> Result<(), Fail> {
     let depot = Depot::new(rt.alloc())?;
-    let mut vm = booted(rt.alloc(), &TWO_CHILDREN, 64)?;
-    joins_its_children(&rt, rt.alloc(), &mut vm, &depot)
+    joins_its_children(&rt, rt.alloc(), &depot)
 }
 
-fn joins_its_children<R: Abort + Wait>(
+fn joins_its_children<R: Abort + Wait>(rt: &R, alloc: Global, depot: &Depot) -> Result<(), Fail> {
+    let mut vm = booted(alloc, &TWO_CHILDREN, 64)?;
+    joins_both(rt, alloc, &mut vm, depot)
+}
+
+// Runs a machine to its CLONE, both children to their ends, and the machine then to its own.
+fn joins_both<R: Abort + Wait>(
     rt: &R,
     alloc: Global,
     vm: &mut Vm,
@@ -182,18 +210,44 @@ fn joins_its_children<R: Abort + Wait>(
 ) -> Result<(), Fail>
     requires { IsOfDepot depot.now vm.old.key }
 {
-    assert_eq!(rt; vm.run(1000)?.why, Stepped::Call(Call::Clone(1)));
-    let brood = fork(rt, alloc, vm, 2, depot)?;
-    let endings = ends_of(alloc, &brood, depot)?;
+    let first = vm.run(1000)?.why;
+    let endings = ends_of_both(rt, alloc, vm, depot)?;
+    assert_eq!(rt;
+        (first, endings),
+        (
+            Stepped::Call(Call::Clone(1)),
+            [Ending::Exit(41), Ending::Exit(42)]
+        )
+    );
     ends_with_the_first(rt, vm, &endings)
 }
 
+fn ends_of_both<R: Wait>(
+    rt: &R,
+    alloc: Global,
+    vm: &mut Vm,
+    depot: &Depot,
+) -> Result<[Ending; 2], Fail>
+    requires { IsOfDepot depot.now vm.old.key }
+{
+    let brood = fork(rt, alloc, vm, 2, depot)?;
+    ends_of(alloc, &brood, depot)
+}
+
 fn ends_with_the_first(rt: &impl Abort, vm: &mut Vm, endings: &[Ending]) -> Result<(), Fail> {
-    assert_eq!(rt; endings, [Ending::Exit(41), Ending::Exit(42)].as_slice());
-    assert_eq!(rt; vm.run(1000)?.why, Stepped::Call(Call::Join(1)));
+    let joins = vm.run(1000)?.why;
     join(vm, endings)?;
-    assert_eq!(rt; vm.run(1000)?.why, Stepped::Ended(Ending::Exit(41)));
-    assert_eq!(rt; vm.steps(), 21);
+    let ended = vm.run(1000)?.why;
+    assert_eq!(rt;
+        ([joins, ended], vm.steps()),
+        (
+            [
+                Stepped::Call(Call::Join(1)),
+                Stepped::Ended(Ending::Exit(41))
+            ],
+            21
+        )
+    );
     Ok(())
 }
 
@@ -228,23 +282,32 @@ fn is_refused(alloc: Global, bytes: &[u8], number: u32) -> bool {
     }
 }
 
-/// The bytes of the descriptor of the first child.
-fn first_child<R: Wait>(rt: &R, alloc: Global, vm: &mut Vm, depot: &Depot) -> Result<Vec<u8>, Fail>
+/// The bytes of the descriptor of the first child of a machine that stands at its CLONE.
+fn seed_of<R: Wait>(rt: &R, alloc: Global, vm: &mut Vm, depot: &Depot) -> Result<Vec<u8>, Fail>
     requires { IsOfDepot depot.now vm.old.key }
 {
-    vm.run(1000)?;
     let brood = fork(rt, alloc, vm, 2, depot)?;
-    Ok(brood.seed.encode(alloc)?)
+    Ok(Vec::from_slice(alloc, brood.seed.bytes())?)
+}
+
+/// The same of the machine with two children.
+fn first_child<R: Wait>(rt: &R, alloc: Global, depot: &Depot) -> Result<Vec<u8>, Fail> {
+    let mut vm = booted(alloc, &TWO_CHILDREN, 16)?;
+    vm.run(1000)?;
+    seed_of(rt, alloc, &mut vm, depot)
 }
 
 #[test]
 fn a_descriptor_goes_through_its_bytes(rt: HostRuntime) -> Result<(), Fail> {
     let depot = Depot::new(rt.alloc())?;
-    let mut vm = booted(rt.alloc(), &TWO_CHILDREN, 16)?;
-    let mut bytes = first_child(&rt, rt.alloc(), &mut vm, &depot)?;
-    goes_through(&rt, rt.alloc(), &bytes)?;
-    is_refused_where_changed(&rt, rt.alloc(), &bytes)?;
-    is_refused_where_longer(&rt, rt.alloc(), &mut bytes)
+    let mut bytes = first_child(&rt, rt.alloc(), &depot)?;
+    is_read_or_refused(&rt, rt.alloc(), &mut bytes)
+}
+
+fn is_read_or_refused(rt: &impl Abort, alloc: Global, bytes: &mut Vec<u8>) -> Result<(), Fail> {
+    goes_through(rt, alloc, bytes)?;
+    is_refused_where_changed(rt, alloc, bytes)?;
+    is_refused_where_longer(rt, alloc, bytes)
 }
 
 fn goes_through(rt: &impl Abort, alloc: Global, bytes: &[u8]) -> Result<(), Fail> {

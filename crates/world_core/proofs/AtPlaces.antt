@@ -4,13 +4,13 @@ use Rattle.image_depot.specs.Key.{Shelves}
 use Rattle.forest_tree.specs.Tree.{Tree, node, Path}
 use Rattle.forest_tree.specs.Settle.{has_ended}
 use Rattle.forest_history.specs.Places.{Place, Spot, placed, spots}
-use Rattle.forest_model.specs.Machine.{Machine}
+use Rattle.forest_model.specs.Paged.{Paged}
 use Rattle.world_core.specs.declared.cell.Cell.{Cell}
 use Rattle.world_core.specs.declared.cell.State.{State}
 use Rattle.world_core.specs.Shows.{forest, Holds}
 
 -- what a cell holds is of its broods and its log, and not of the place of its machine
-pub holds-placed : (depot : Shelves) (path : Path) (c : Cell) (state : State) (listed : Bool) (place : Place) (t : Tree (Spot Machine)) → Holds depot path c t
+pub holds-placed : (depot : Shelves) (path : Path) (c : Cell) (state : State) (listed : Bool) (place : Place) (t : Tree (Spot Paged)) → Holds depot path c t
     → Holds depot path (record c { state = state; is_listed = listed }) (placed place t)
 unfolding spots
 holds-placed depot path c state listed place (node s broods log) h = record {
@@ -18,6 +18,6 @@ holds-placed depot path c state listed place (node s broods log) h = record {
   broods = h.broods;
 }
 
-pub lives-placed : (place : Place) (t : Tree (Spot Machine)) → has_ended forest (placed place t) ≡ has_ended forest t
+pub lives-placed : (place : Place) (t : Tree (Spot Paged)) → has_ended forest (placed place t) ≡ has_ended forest t
 unfolding spots
 lives-placed place (node s broods log) = refl

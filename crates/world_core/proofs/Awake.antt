@@ -9,8 +9,8 @@ use Rattle.forest_tree.specs.Sound.{IsSound}
 use Rattle.forest_tree.proofs.Places.{some-same, subtree-parts, subtree-sound}
 use Rattle.forest_tree.proofs.Settle.{root-sound}
 use Rattle.forest_history.specs.Places.{Spot, spots}
-use Rattle.forest_model.specs.Machine.{Machine}
 use Rattle.forest_model.specs.Forest.{machines}
+use Rattle.forest_model.specs.Paged.{Paged, paged_machines}
 use Rattle.image_depot.specs.Key.{Shelves, Key}
 use Rattle.run_report.specs.Name.{child_path}
 use Rattle.run_report.specs.NameOrder.{path_cmp}
@@ -26,49 +26,49 @@ use Rattle.world_core.proofs.Slots.{slot-of, not-first}
 use Rattle.world_core.proofs.SlotWaits.{none-held, one-held}
 use Rattle.world_core.proofs.Changes.{child_by, one-below}
 
-pub child-below : (parent : Path) (ticket k : ℕ) (t : Tree (Spot Machine)) (p : Option (Tree (Spot Machine))) → subtree parent t ≡ p
+pub child-below : (parent : Path) (ticket k : ℕ) (t : Tree (Spot Paged)) (p : Option (Tree (Spot Paged))) → subtree parent t ≡ p
     → subtree (child_path parent ticket k) t ≡ option_and_then (λ u. child_of ticket k u) p
 child-below parent ticket k t p there =
     let b : Branch = record { ticket = ticket; child = k } in
     subtree-parts parent (b ∷ []) t ∙ ap (option_and_then (subtree (b ∷ []))) there ∙ by b p
   where
-    by : (b : Branch) (p : Option (Tree (Spot Machine))) → option_and_then (subtree (b ∷ [])) p ≡ option_and_then (λ u. child_by b u) p
+    by : (b : Branch) (p : Option (Tree (Spot Paged))) → option_and_then (subtree (b ∷ [])) p ≡ option_and_then (λ u. child_by b u) p
     by b None = refl
     by b (Some u) = one-below b u
 
 -- an ended machine, as its slot tells
-pub slot-ended : (ending : Ending) (a : Tree (Spot Machine)) → told_spot.ending (machine a) ≡ Some ending → has_ended forest a ≡ true
-unfolding spots machines
+pub slot-ended : (ending : Ending) (a : Tree (Spot Paged)) → told_spot.ending (machine a) ≡ Some ending → has_ended forest a ≡ true
+unfolding spots paged_machines machines
 slot-ended ending a h = ap is_some h
 
-pub never-both : (a : Tree (Spot Machine)) → IsAwake a → IsNoCell a → ⊥
+pub never-both : (a : Tree (Spot Paged)) → IsAwake a → IsNoCell a → ⊥
 never-both a awake (inl ended) = let no : true ≡ false = sym ended.0 ∙ awake.lives in cc
 never-both a awake (inr there) = let no : true ≡ false = sym there ∙ awake.awake in cc
 
 -- a machine that lives awake has a cell
-pub awake-cell : (depot : Shelves) (path : Path) (c : Option Cell) (a : Tree (Spot Machine)) → IsAwake a → Shows depot path c (Some a)
+pub awake-cell : (depot : Shelves) (path : Path) (c : Option Cell) (a : Tree (Spot Paged)) → IsAwake a → Shows depot path c (Some a)
     → (cell : Cell) × (c ≡ Some cell) × CellShows depot path cell a
 awake-cell depot path None a awake h = absurd (never-both a awake h)
 awake-cell depot path (Some cell) a awake h = (cell, refl, h)
 
 -- a machine has a slot in its parent's brood
-pub record IsSlotted (path : Path) (a : Tree (Spot Machine)) : Type 0 where
+pub record IsSlotted (path : Path) (a : Tree (Spot Paged)) : Type 0 where
   pub key : Key
   pub seed : Descriptor
   pub slot : Slot
   pub shows : SlotShows path key seed slot a
 
-pub ended-broods : (a : Tree (Spot Machine)) → IsSound forest a → has_ended forest a ≡ true → broods_of a ≡ no_brood
+pub ended-broods : (a : Tree (Spot Paged)) → IsSound forest a → has_ended forest a ≡ true → broods_of a ≡ no_brood
 ended-broods (node s broods log) sound ended = (root-sound forest s broods log sound).ended ended
 
-slotted-kind : (path : Path) (key : Key) (seed : Descriptor) (slot : Slot) (a : Tree (Spot Machine)) → SlotShows path key seed slot a → IsSound forest a
+slotted-kind : (path : Path) (key : Key) (seed : Descriptor) (slot : Slot) (a : Tree (Spot Paged)) → SlotShows path key seed slot a → IsSound forest a
     → IsAwake a ⊎ (broods_of a ≡ no_brood)
 slotted-kind path key seed Asleep a h sound = inr (ap broods_of h.born)
 slotted-kind path key seed Awake a h sound = inl h
 slotted-kind path key seed (Ended outcome) a h sound = inr (ended-broods a sound (slot-ended outcome.ending a h.0))
 
 -- the child of a machine that has a cell
-slotted-born : (depot : Shelves) (path : Path) (ticket k : ℕ) (young : Option Young) (slots : List Slot) (trees : Trees (Spot Machine)) (a : Tree (Spot Machine))
+slotted-born : (depot : Shelves) (path : Path) (ticket k : ℕ) (young : Option Young) (slots : List Slot) (trees : Trees (Spot Paged)) (a : Tree (Spot Paged))
     → BornShows depot path ticket young slots trees → child_at k trees ≡ Some a → IsSlotted (child_path path ticket k) a
 slotted-born depot path ticket k None slots trees a h found = absurd h
 slotted-born depot path ticket zero (Some young) slots trees a h found = absurd (not-first trees a found)
@@ -82,11 +82,11 @@ slotted-born depot path ticket (suc j) (Some young) slots trees a h found =
       shows = subst (λ n. SlotShows (child_path path ticket n) young.key (numbered n young.seed) has.slot a) same has.shows;
     }
 
-none-there : (k : ℕ) (trees : Trees (Spot Machine)) (a : Tree (Spot Machine)) → trees ≡ no_tree → child_at k trees ≡ Some a → ⊥
+none-there : (k : ℕ) (trees : Trees (Spot Paged)) (a : Tree (Spot Paged)) → trees ≡ no_tree → child_at k trees ≡ Some a → ⊥
 unfolding child_at
 none-there k trees a none found = let no : None ≡ Some a = sym (ap (child_at k) none) ∙ found in cc
 
-pub slotted : (depot : Shelves) (path : Path) (c : Cell) (ticket k : ℕ) (t a : Tree (Spot Machine)) → Holds depot path c t → child_of ticket k t ≡ Some a
+pub slotted : (depot : Shelves) (path : Path) (c : Cell) (ticket k : ℕ) (t a : Tree (Spot Paged)) → Holds depot path c t → child_of ticket k t ≡ Some a
     → IsSlotted (child_path path ticket k) a
 slotted depot path c ticket k t a h found = by (get nat_cmp c.broods ticket) refl
   where
@@ -95,7 +95,7 @@ slotted depot path c ticket k t a h found = by (get nat_cmp c.broods ticket) ref
     by (Some b) e =
         slotted-born depot path ticket k b.young b.slots.items (brood_of ticket (broods_of t)) a (one-held depot path c t h ticket b e).born found
 
-none-below : (path : Path) (a p : Tree (Spot Machine)) → broods_of a ≡ no_brood → subtree path a ≡ Some p → broods_of p ≡ no_brood
+none-below : (path : Path) (a p : Tree (Spot Paged)) → broods_of a ≡ no_brood → subtree path a ≡ Some p → broods_of p ≡ no_brood
 unfolding subtree brood_of child_at
 none-below [] a p none there = ap broods_of (sym (some-same a p there)) ∙ none
 none-below (b ∷ path) a p none there =
@@ -103,17 +103,17 @@ none-below (b ∷ path) a p none there =
     absurd (cc)
 
 -- a tree of which each machine above a name is shown
-module _ (depot : Shelves) (cells : BTreeMap Path Cell) (t : Tree (Spot Machine)) (sound : IsSound forest t) (name : Path)
+module _ (depot : Shelves) (cells : BTreeMap Path Cell) (t : Tree (Spot Paged)) (sound : IsSound forest t) (name : Path)
     (shows : (way : Path) (b : Branch) (rest : Path) → name ≡ way ++ (b ∷ rest) → Shows depot way (get path_cmp cells way) (subtree way t)) where
-  awake-below : (path way : Path) (u p : Tree (Spot Machine)) → name ≡ way ++ path → subtree way t ≡ Some u → IsAwake u → subtree path u ≡ Some p
+  awake-below : (path way : Path) (u p : Tree (Spot Paged)) → name ≡ way ++ path → subtree way t ≡ Some u → IsAwake u → subtree path u ≡ Some p
       → IsAwake p ⊎ (broods_of p ≡ no_brood)
   unfolding subtree
   awake-below [] way u p is at awake there = inl (subst IsAwake (some-same u p there) awake)
   awake-below (b ∷ path) way u p is at awake there =
       by (child_by b u) refl there (λ a found lives rest. awake-below path (way ++ b ∷ []) a p (is ∙ sym (append_assoc way (b ∷ []) path)) found lives rest)
     where
-      by : (c : Option (Tree (Spot Machine))) → child_by b u ≡ c → option_and_then (subtree path) c ≡ Some p
-          → ((a : Tree (Spot Machine)) → subtree (way ++ b ∷ []) t ≡ Some a → IsAwake a → subtree path a ≡ Some p → IsAwake p ⊎ (broods_of p ≡ no_brood))
+      by : (c : Option (Tree (Spot Paged))) → child_by b u ≡ c → option_and_then (subtree path) c ≡ Some p
+          → ((a : Tree (Spot Paged)) → subtree (way ++ b ∷ []) t ≡ Some a → IsAwake a → subtree path a ≡ Some p → IsAwake p ⊎ (broods_of p ≡ no_brood))
           → IsAwake p ⊎ (broods_of p ≡ no_brood)
       by None e rest down = absurd (cc)
       by (Some a) e rest down =
@@ -126,6 +126,6 @@ module _ (depot : Shelves) (cells : BTreeMap Path Cell) (t : Tree (Spot Machine)
           ]
 
   -- the machine of the name is awake, or has no children
-  pub awake-there : (p : Tree (Spot Machine)) → IsAwake t → subtree name t ≡ Some p → IsAwake p ⊎ (broods_of p ≡ no_brood)
+  pub awake-there : (p : Tree (Spot Paged)) → IsAwake t → subtree name t ≡ Some p → IsAwake p ⊎ (broods_of p ≡ no_brood)
   unfolding subtree
   awake-there p root there = awake-below name [] t p refl refl root there

@@ -11,8 +11,8 @@ use Rattle.fork_port.specs.declared.ending.Ending.{Ending}
 use Rattle.forest_history.specs.Places.{home, Spot, spots}
 use Rattle.forest_history.specs.World.{world_of, holds, is_ready, lives_ready}
 use Rattle.forest_history.proofs.Ends.{start-whole}
-use Rattle.forest_model.specs.Machine.{Machine}
 use Rattle.forest_model.specs.Forest.{machines, port_of}
+use Rattle.forest_model.specs.Paged.{Paged, paged_machines}
 use Rattle.run_report.specs.Lines.{machine_line, lines, own_lines_by}
 use Rattle.run_report.specs.NameOrder.{path_cmp}
 use Rattle.run_report.specs.Report.{Ended, lines_of}
@@ -26,28 +26,28 @@ use Rattle.world_core.specs.World.{IsDue, StandsFor}
 use Rattle.world_core.proofs.Ready.{IsListed-first}
 
 -- a machine without tickets has cloned none
-no-ticket : (vm : Machine) → (port_of vm).tickets ≡ [] → machines.cloned vm ≡ []
-unfolding machines cloned_numbers
+no-ticket : (vm : Paged) → (port_of vm.machine).tickets ≡ [] → paged_machines.cloned vm ≡ []
+unfolding paged_machines machines cloned_numbers
 no-ticket vm none = ap cloned_numbers none
 
-pub none-cloned : (vm : Machine) → (port_of vm).tickets ≡ [] → (ticket : ℕ) → is_cloned machines vm ticket ≡ false
+pub none-cloned : (vm : Paged) → (port_of vm.machine).tickets ≡ [] → (ticket : ℕ) → is_cloned paged_machines vm ticket ≡ false
 unfolding is_among
 none-cloned vm none ticket = ap (is_among ticket) (no-ticket vm none)
 
 -- ---- a machine that has ended
 
-own-line : (vm : Machine) (ending : Ending) → vm.ending ≡ Some ending
-    → lines told_spot [] (alone forest (record { machine = vm; place = home })) ≡ machine_line [] ending vm.steps vm.state.ports.console.output ∷ []
+own-line : (vm : Paged) (ending : Ending) → vm.machine.ending ≡ Some ending
+    → lines told_spot [] (alone forest (record { machine = vm; place = home })) ≡ machine_line [] ending vm.machine.steps vm.machine.state.ports.console.output ∷ []
 unfolding lines
 own-line vm ending over = ap (λ e. own_lines_by told_spot e [] (record { machine = vm; place = home }) ++ []) over
 
-pub end-stands : (depot : Shelves) (vm : Machine) (ending : Ending) (outcome : Ended) (cells : BTreeMap Path Cell) (list : List Waiting)
-    → vm.ending ≡ Some ending → (port_of vm).tickets ≡ [] → machines.is_good vm ≡ true → ((name : Path) → get path_cmp cells name ≡ None)
-    → outcome ≡ record { name = []; ending = ending; steps = vm.steps; output = vm.state.ports.console.output; log = [] }
-    → StandsFor depot (record { cells = cells; ready = list; halted = None; outcome = Some outcome }) (world_of machines vm)
-unfolding spots machines lines_of
+pub end-stands : (depot : Shelves) (vm : Paged) (ending : Ending) (outcome : Ended) (cells : BTreeMap Path Cell) (list : List Waiting)
+    → vm.machine.ending ≡ Some ending → (port_of vm.machine).tickets ≡ [] → machines.is_good vm.machine ≡ true → ((name : Path) → get path_cmp cells name ≡ None)
+    → outcome ≡ record { name = []; ending = ending; steps = vm.machine.steps; output = vm.machine.state.ports.console.output; log = [] }
+    → StandsFor depot (record { cells = cells; ready = list; halted = None; outcome = Some outcome }) (world_of paged_machines vm)
+unfolding spots paged_machines machines lines_of
 end-stands depot vm ending outcome cells list over none good empty is = record {
-  sound = start-whole machines Reason vm good (no-ticket vm none);
+  sound = start-whole paged_machines Reason vm good (no-ticket vm none);
   halted = refl;
   tree = record {
     ended = ap is_some over;
@@ -59,8 +59,8 @@ end-stands depot vm ending outcome cells list over none good empty is = record {
 
 -- ---- a machine that lives
 
-module _ (depot : Shelves) (vm : Machine) (old cells : BTreeMap Path Cell) (list : List Waiting) (cell : Cell) where
-  abbrev first : Tree (Spot Machine)
+module _ (depot : Shelves) (vm : Paged) (old cells : BTreeMap Path Cell) (list : List Waiting) (cell : Cell) where
+  abbrev first : Tree (Spot Paged)
   first = alone forest (record { machine = vm; place = home })
 
   abbrev start : World
@@ -73,12 +73,12 @@ module _ (depot : Shelves) (vm : Machine) (old cells : BTreeMap Path Cell) (list
   root-apart : (x : Branch) (rest : Path) → [] ≢ x ∷ rest
   root-apart x rest e = cc
 
-  pub start-stands : vm.ending ≡ None → (port_of vm).tickets ≡ [] → machines.is_good vm ≡ true → ((name : Path) → get path_cmp old name ≡ None)
+  pub start-stands : vm.machine.ending ≡ None → (port_of vm.machine).tickets ≡ [] → machines.is_good vm.machine ≡ true → ((name : Path) → get path_cmp old name ≡ None)
       → Updates path_cmp old cells [] (Some cell) → CellShows depot [] cell first → list ≡ record { name = []; children = None } ∷ []
-      → StandsFor depot start (world_of machines vm)
-  unfolding subtree
+      → StandsFor depot start (world_of paged_machines vm)
+  unfolding subtree paged_machines
   start-stands lives none good empty inserted shows listed = record {
-    sound = start-whole machines Reason vm good (no-ticket vm none);
+    sound = start-whole paged_machines Reason vm good (no-ticket vm none);
     halted = refl;
     tree = record {
       root = shows.awake;
@@ -103,10 +103,10 @@ module _ (depot : Shelves) (vm : Machine) (old cells : BTreeMap Path Cell) (list
           subst (λ o. Shows depot (x ∷ rest) o (subtree (x ∷ rest) first)) (sym (gone_is x rest))
           (subst (Shows depot (x ∷ rest) None) (sym (none-below x rest)) tt)
 
-      due : (name : Path) → is_ready machines name first ≡ true → IsDue (get path_cmp cells name) name list
+      due : (name : Path) → is_ready paged_machines name first ≡ true → IsDue (get path_cmp cells name) name list
       due [] ready = subst (λ o. IsDue o [] list) (sym here_is) named
       due (x ∷ rest) ready =
-          let no : false ≡ true = sym (ap (holds machines (lives_ready machines)) (none-below x rest)) ∙ ready in absurd (cc)
+          let no : false ≡ true = sym (ap (holds paged_machines (lives_ready paged_machines)) (none-below x rest)) ∙ ready in absurd (cc)
 
       turn : (name : Path) → IfSome (get path_cmp cells name) (λ (c : Cell). c.is_listed ≡ true → IsListed name list)
       turn [] = subst (λ o. IfSome o (λ (c : Cell). c.is_listed ≡ true → IsListed [] list)) (sym here_is) (λ is. named)

@@ -10,11 +10,12 @@ use Rattle.forest_model.specs.Machine.{Machine}
 use Rattle.forest_model.specs.Calls.{forked, child}
 use Rattle.forest_model.specs.Forest.{machines}
 use Rattle.forest_model.proofs.Calls.{child-as-parent}
+use Rattle.forest_model.specs.Paged.{Paged, paged_machines}
 use Rattle.image_depot.specs.Key.{Shelves, Key, IsKeyOf, image_of}
 use Rattle.vm_descriptor.specs.declared.descriptor.Descriptor.{Descriptor}
 use Rattle.vm_descriptor.specs.Descriptor.{numbered}
-use Rattle.vm_cell.specs.Keyed.{KeyedMachine}
-use Rattle.vm_cell.specs.Woken.{AreSeeds, IsSeed, woken, woken_machine}
+use Rattle.vm_cell.specs.Keyed.{KeyedMachine, paged}
+use Rattle.vm_cell.specs.Woken.{AreSeeds, IsSeed, woken, woken_machine, woken_pages}
 use Rattle.vm_cell.specs.declared.vm.fork.Brood.{Brood as Young}
 use Rattle.run_report.specs.Lines.{Line, lines, trees_lines}
 use Rattle.run_report.specs.Name.{child_path}
@@ -26,21 +27,21 @@ use Rattle.world_core.specs.Shows.{forest, told_spot, SlotShows, SlotsShow, Born
 
 -- ---- children that have all ended
 
-ended_slot : (path : Path) (key : Key) (seed : Descriptor) (slot : Slot) (t : Tree (Spot Machine)) → SlotShows path key seed slot t → has_ended forest t ≡ true
+ended_slot : (path : Path) (key : Key) (seed : Descriptor) (slot : Slot) (t : Tree (Spot Paged)) → SlotShows path key seed slot t → has_ended forest t ≡ true
     → (rest : List Ending) → endings_in slot ++ rest ≡ with_ending forest (forest.ending (machine t)) rest
-unfolding spots machines
+unfolding spots paged_machines machines
 ended_slot path key seed Asleep t h ended rest = let lives = h.lives in absurd (cc)
 ended_slot path key seed Awake t h ended rest = let lives = h.lives in absurd (cc)
 ended_slot path key seed (Ended outcome) t h ended rest = ap (λ (e : Option Ending). with_ending forest e rest) (sym h.0)
 
-slot_lines_are : (path : Path) (key : Key) (seed : Descriptor) (slot : Slot) (t : Tree (Spot Machine)) → SlotShows path key seed slot t → has_ended forest t ≡ true
+slot_lines_are : (path : Path) (key : Key) (seed : Descriptor) (slot : Slot) (t : Tree (Spot Paged)) → SlotShows path key seed slot t → has_ended forest t ≡ true
     → lines_in slot ≡ lines told_spot path t
 slot_lines_are path key seed Asleep t h ended = let lives = h.lives in absurd (cc)
 slot_lines_are path key seed Awake t h ended = let lives = h.lives in absurd (cc)
 slot_lines_are path key seed (Ended outcome) t h ended = h.1
 
 module _ (path : Path) (ticket : ℕ) (key : Key) where
-  shown_endings : (k : ℕ) (seed : Descriptor) (slots : List Slot) (trees : Trees (Spot Machine)) → SlotsShow path ticket key k seed slots trees
+  shown_endings : (k : ℕ) (seed : Descriptor) (slots : List Slot) (trees : Trees (Spot Paged)) → SlotsShow path ticket key k seed slots trees
       → have_ended forest trees ≡ true → slot_endings slots ≡ endings forest trees
   unfolding SlotsShow have_ended endings
   shown_endings k seed [] no_tree h all = refl
@@ -51,7 +52,7 @@ module _ (path : Path) (ticket : ℕ) (key : Key) where
       ap (λ (es : List Ending). endings_in slot ++ es) (shown_endings (suc k) seed slots rest h.1 both.1)
       ∙ ended_slot (child_path path ticket k) key (numbered k seed) slot t h.0 both.0 (endings forest rest)
 
-  shown_lines : (k : ℕ) (seed : Descriptor) (slots : List Slot) (trees : Trees (Spot Machine)) → SlotsShow path ticket key k seed slots trees
+  shown_lines : (k : ℕ) (seed : Descriptor) (slots : List Slot) (trees : Trees (Spot Paged)) → SlotsShow path ticket key k seed slots trees
       → have_ended forest trees ≡ true → slot_lines slots ≡ trees_lines told_spot path ticket k trees
   unfolding SlotsShow have_ended lines
   shown_lines k seed [] no_tree h all = refl
@@ -64,38 +65,38 @@ module _ (path : Path) (ticket : ℕ) (key : Key) where
 
 -- the same of a brood
 module _ (depot : Shelves) (path : Path) (ticket : ℕ) where
-  born_endings : (young : Option Young) (slots : List Slot) (trees : Trees (Spot Machine)) → BornShows depot path ticket young slots trees
+  born_endings : (young : Option Young) (slots : List Slot) (trees : Trees (Spot Paged)) → BornShows depot path ticket young slots trees
       → have_ended forest trees ≡ true → slot_endings slots ≡ endings forest trees
   born_endings None slots trees h all = absurd h
   born_endings (Some young) slots trees h all = shown_endings path ticket young.key 1 young.seed slots trees h.1 all
 
-  born_lines : (young : Option Young) (slots : List Slot) (trees : Trees (Spot Machine)) → BornShows depot path ticket young slots trees
+  born_lines : (young : Option Young) (slots : List Slot) (trees : Trees (Spot Paged)) → BornShows depot path ticket young slots trees
       → have_ended forest trees ≡ true → slot_lines slots ≡ trees_lines told_spot path ticket 1 trees
   born_lines None slots trees h all = absurd h
   born_lines (Some young) slots trees h all = shown_lines path ticket young.key 1 young.seed slots trees h.1 all
 
-  pub brood_endings : (b : Brood) (trees : Trees (Spot Machine)) → BroodShows depot path ticket b trees → have_ended forest trees ≡ true
+  pub brood_endings : (b : Brood) (trees : Trees (Spot Paged)) → BroodShows depot path ticket b trees → have_ended forest trees ≡ true
       → slot_endings b.slots.items ≡ endings forest trees
   brood_endings b trees h all = born_endings b.young b.slots.items trees h.born all
 
-  pub brood_lines : (b : Brood) (trees : Trees (Spot Machine)) → BroodShows depot path ticket b trees → have_ended forest trees ≡ true
+  pub brood_lines : (b : Brood) (trees : Trees (Spot Paged)) → BroodShows depot path ticket b trees → have_ended forest trees ≡ true
       → slot_lines b.slots.items ≡ trees_lines told_spot path ticket 1 trees
   brood_lines b trees h all = born_lines b.young b.slots.items trees h.born all
 
 -- ---- children that are born
 
-woken-machine : (d : Descriptor) (key : Key) → (woken d key).machine ≡ woken_machine d (image_of key)
+woken-paged : (d : Descriptor) (key : Key) → paged (woken d key) ≡ record { machine = woken_machine d (image_of key); pages = woken_pages d }
 unfolding woken
-woken-machine d key = refl
+woken-paged d key = refl
 
 child_ending : (m : Machine) (k : ℕ) → (child m k).ending ≡ (forked m).ending
 child_ending m k = ap (λ (n : Machine). n.ending) (child-as-parent m k)
 
-child_lives : (s : Spot Machine) → forest.ending (forest.forked s) ≡ None → (k : ℕ) → has_ended forest (alone forest (forest.child s k)) ≡ false
-unfolding spots machines
-child_lives s lives k = ap is_some (child_ending s.machine k ∙ lives)
+child_lives : (s : Spot Paged) → forest.ending (forest.forked s) ≡ None → (k : ℕ) → has_ended forest (alone forest (forest.child s k)) ≡ false
+unfolding spots paged_machines machines
+child_lives s lives k = ap is_some (child_ending s.machine.machine k ∙ lives)
 
-living_children : (s : Spot Machine) → forest.ending (forest.forked s) ≡ None → (n k : ℕ) → living forest (children_from forest s k n) ≡ n
+living_children : (s : Spot Paged) → forest.ending (forest.forked s) ≡ None → (n k : ℕ) → living forest (children_from forest s k n) ≡ n
 unfolding living children_from
 living_children s lives zero k = refl
 living_children s lives (suc n) k =
@@ -103,26 +104,26 @@ living_children s lives (suc n) k =
     let more : 1 + living forest (children_from forest s (suc k) n) ≡ suc n = omega arith in
     ap (λ (ended : Bool). cond ended 0 1 + living forest (children_from forest s (suc k) n)) (child_lives s lives k) ∙ more
 
-module _ (path : Path) (ticket : ℕ) (v : KeyedMachine) (key : Key) (seed : Descriptor) (s : Spot Machine) (is : s.machine ≡ v.machine)
+module _ (path : Path) (ticket : ℕ) (v : KeyedMachine) (key : Key) (seed : Descriptor) (s : Spot Paged) (is : s.machine ≡ paged v)
     (lives : forest.ending (forest.forked s) ≡ None) where
   -- so many children, from child k on
   born_shows : (n k : ℕ) → ((j : ℕ) → k ≤ j → j < n + k → IsSeed v j key (numbered j seed))
       → SlotsShow path ticket key k seed (replicate n Asleep) (children_from forest s k n)
-  unfolding SlotsShow children_from spots machines
+  unfolding SlotsShow children_from spots paged_machines machines
   born_shows zero k h = tt
   born_shows (suc n) k h =
       let first : IsSeed v k key (numbered k seed) = h k (omega arith) (omega arith) in
-      let wakes : child s.machine k ≡ woken_machine (numbered k seed) (image_of key) =
-      ap (λ m. child m k) is ∙ ap (λ (w : KeyedMachine). w.machine) (sym first.wakes) ∙ woken-machine (numbered k seed) key in (
+      let wakes : paged_machines.child s.machine k ≡ record { machine = woken_machine (numbered k seed) (image_of key); pages = woken_pages (numbered k seed) } =
+      ap (λ p. paged_machines.child p k) is ∙ ap paged (sym first.wakes) ∙ woken-paged (numbered k seed) key in (
         record {
           of_image = first.of_image;
-          born = ap (λ (m : Machine). alone forest (record { machine = m; place = asleep })) wakes;
+          born = ap (λ (p : Paged). alone forest (record { machine = p; place = asleep })) wakes;
           lives = child_lives s lives k;
         },
         born_shows n (suc k) (λ j from below. h j (omega arith) (omega arith)),
       )
 
-pub brood_born : (depot : Shelves) (path : Path) (ticket : ℕ) (v : KeyedMachine) (s : Spot Machine) (b : Brood) (young : Young) → s.machine ≡ v.machine
+pub brood_born : (depot : Shelves) (path : Path) (ticket : ℕ) (v : KeyedMachine) (s : Spot Paged) (b : Brood) (young : Young) → s.machine ≡ paged v
     → forest.ending (forest.forked s) ≡ None
     → b.young ≡ Some young → b.slots.items ≡ replicate (forest.grant s ticket).children Asleep → b.live ≡ (forest.grant s ticket).children
     → IsKeyOf depot young.key → AreSeeds v young.key (forest.grant s ticket).children young.seed

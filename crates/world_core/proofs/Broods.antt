@@ -15,13 +15,13 @@ use Rattle.forest_tree.proofs.Rests.{lives-none}
 use Rattle.forest_tree.proofs.Places.{brood_of-without}
 use Rattle.forest_history.specs.Places.{Spot, spots}
 use Rattle.forest_history.proofs.Spots.{machine-spots}
-use Rattle.forest_model.specs.Machine.{Machine}
 use Rattle.forest_model.specs.Forest.{machines}
-use Rattle.forest_model.proofs.Rules.{machines-rules}
+use Rattle.forest_model.proofs.Paged.{paged-rules}
+use Rattle.forest_model.specs.Paged.{Paged, paged_machines}
 use Rattle.image_depot.specs.Key.{Shelves, IsKeyOf}
 use Rattle.vm_descriptor.specs.declared.descriptor.TheConstants.{MAX_CLONES}
 use Rattle.vm_cell.specs.Standing.{IsJoin}
-use Rattle.vm_cell.specs.Keyed.{KeyedMachine}
+use Rattle.vm_cell.specs.Keyed.{KeyedMachine, paged}
 use Rattle.vm_cell.specs.Woken.{AreSeeds}
 use Rattle.vm_cell.specs.declared.vm.fork.Brood.{Brood as Young}
 use Rattle.run_report.specs.Lines.{Line, ticket_line, lines, log_lines}
@@ -36,15 +36,15 @@ use Rattle.world_core.proofs.BroodSlots.{brood_born, brood_endings, brood_lines}
 -- ---- machines at their places
 
 rules : IsMachine forest
-rules = machine-spots machines machines-rules
+rules = machine-spots paged_machines paged-rules
 
-module _ (vm : Machine) (next : Call) where
-  makes : (t : Tree (Spot Machine)) → StandsAt vm next t → Makes forest (machine t) (Some next)
-  unfolding spots machines
+module _ (vm : Paged) (next : Call) where
+  makes : (t : Tree (Spot Paged)) → StandsAt vm next t → Makes forest (machine t) (Some next)
+  unfolding spots paged_machines machines
   makes (node s broods log) at = record {
     good = (root-sound forest s broods log at.sound).good;
-    lives = ap (λ (m : Machine). m.ending) at.is ∙ at.lives;
-    call = ap machines.call at.is ∙ at.at_call;
+    lives = ap (λ (p : Paged). p.machine.ending) at.is ∙ at.lives;
+    call = ap paged_machines.call at.is ∙ at.at_call;
   }
 
 -- ---- the brood of a cloned ticket
@@ -55,7 +55,7 @@ tallied path count o b cloned found is h = subst (λ (p : Option Brood). TallyAt
 untallied : (path : Path) (count : ℕ) (o : Option Brood) (cloned : Bool) → o ≡ None → cloned ≡ true → TallyAt path count o cloned → ⊥
 untallied path count o cloned found is h = subst (λ (p : Option Brood). TallyAt path count p true) found (subst (TallyAt path count o) is h)
 
-shown : (depot : Shelves) (path : Path) (u : ℕ) (o : Option Brood) (b : Brood) (cloned : Bool) (trees : Trees (Spot Machine)) → o ≡ Some b → cloned ≡ true
+shown : (depot : Shelves) (path : Path) (u : ℕ) (o : Option Brood) (b : Brood) (cloned : Bool) (trees : Trees (Spot Paged)) → o ≡ Some b → cloned ≡ true
     → BroodAt depot path u o cloned trees → BroodShows depot path u b trees
 shown depot path u o b cloned trees found is h =
     subst (λ (p : Option Brood). BroodAt depot path u p true trees) found (subst (λ (c : Bool). BroodAt depot path u o c trees) is h)
@@ -74,13 +74,13 @@ gone_tally path before after o false true counts h = subst (λ n. TallyAt path n
 gone_tally path before after None false false counts h = tt
 gone_tally path before after (Some b) false false counts h = absurd h
 
-gone_brood : (depot : Shelves) (path : Path) (u : ℕ) (o : Option Brood) (same cloned : Bool) (trees : Trees (Spot Machine)) → BroodAt depot path u o cloned trees
+gone_brood : (depot : Shelves) (path : Path) (u : ℕ) (o : Option Brood) (same cloned : Bool) (trees : Trees (Spot Paged)) → BroodAt depot path u o cloned trees
     → BroodAt depot path u (cond same None o) (not same && cloned) (cond same no_tree trees)
 gone_brood depot path u o true cloned trees h = refl
 gone_brood depot path u o false cloned trees h = h
 
 -- the machine n comes from s, and one ticket is gone
-module _ (ticket : ℕ) (s n : Spot Machine) (step : IsStep forest s n (λ u. not (eqb ticket u) && is_cloned forest s u)) (c new : Cell)
+module _ (ticket : ℕ) (s n : Spot Paged) (step : IsStep forest s n (λ u. not (eqb ticket u) && is_cloned forest s u)) (c new : Cell)
     (updates : (u : ℕ) → get nat_cmp new.broods u ≡ cond (is_at (nat_cmp ticket) u) None (get nat_cmp c.broods u)) where
   looked_up : (u : ℕ) → get nat_cmp new.broods u ≡ cond (eqb ticket u) None (get nat_cmp c.broods u)
   looked_up u = updates u ∙ ap (λ (b : Bool). cond b None (get nat_cmp c.broods u)) (same_number ticket u)
@@ -93,7 +93,7 @@ module _ (ticket : ℕ) (s n : Spot Machine) (step : IsStep forest s n (λ u. no
       (gone_tally path (forest.grant s u).children (forest.grant n u).children (get nat_cmp c.broods u) (eqb ticket u) (is_cloned forest s u)
       (λ is. ap (λ (g : Grant). g.children) (step.grants u (step.tickets u ∙ is))) (h u)))
 
-  gone_broods : (depot : Shelves) (path : Path) (broods : Broods (Spot Machine))
+  gone_broods : (depot : Shelves) (path : Path) (broods : Broods (Spot Paged))
       → ((u : ℕ) → BroodAt depot path u (get nat_cmp c.broods u) (is_cloned forest s u) (brood_of u broods))
       → (u : ℕ) → BroodAt depot path u (get nat_cmp new.broods u) (is_cloned forest n u) (brood_of u (without ticket broods))
   gone_broods depot path broods h u =
@@ -104,10 +104,10 @@ module _ (ticket : ℕ) (s n : Spot Machine) (step : IsStep forest s n (λ u. no
 
 -- ---- KILL
 
-module _ (depot : Shelves) (path : Path) (vm : Machine) (ticket : ℕ) (c new : Cell) (b : Brood) (found : get nat_cmp c.broods ticket ≡ Some b)
+module _ (depot : Shelves) (path : Path) (vm : Paged) (ticket : ℕ) (c new : Cell) (b : Brood) (found : get nat_cmp c.broods ticket ≡ Some b)
     (updates : (u : ℕ) → get nat_cmp new.broods u ≡ cond (is_at (nat_cmp ticket) u) None (get nat_cmp c.broods u))
     (room : vec_len new.log + btree_map_len new.broods ≤ vec_capacity new.log) where
-  pub killed_after : (t : Tree (Spot Machine)) → new.log.items ≡ c.log.items ++ ticket_line b.name ticket (vec_len b.slots) ∷ []
+  pub killed_after : (t : Tree (Spot Paged)) → new.log.items ≡ c.log.items ++ ticket_line b.name ticket (vec_len b.slots) ∷ []
       → Holds depot path c t → StandsAt vm (kill ticket) t → HoldsAfter depot path new (killed_tree ticket t)
   unfolding lines
   killed_after (node s broods log) told h at =
@@ -125,7 +125,7 @@ module _ (depot : Shelves) (path : Path) (vm : Machine) (ticket : ℕ) (c new : 
       } in
       (tallies, λ lives. record { tallies = tallies; broods = gone_broods ticket s n step c new updates depot path broods h.broods })
 
-  pub joined_after : (t : Tree (Spot Machine)) → new.log.items ≡ c.log.items ++ slot_lines b.slots.items → have_ended forest (brood_of ticket (broods_of t)) ≡ true
+  pub joined_after : (t : Tree (Spot Paged)) → new.log.items ≡ c.log.items ++ slot_lines b.slots.items → have_ended forest (brood_of ticket (broods_of t)) ≡ true
       → Holds depot path c t → StandsAt vm (join ticket) t → HoldsAfter depot path new (joined_tree ticket t)
   unfolding lines
   joined_after (node s broods log) told all h at =
@@ -142,19 +142,19 @@ module _ (depot : Shelves) (path : Path) (vm : Machine) (ticket : ℕ) (c new : 
       } in
       (tallies, λ lives. record { tallies = tallies; broods = gone_broods ticket s n step c new updates depot path broods h.broods })
 
-module _ (depot : Shelves) (path : Path) (vm : Machine) (ticket : ℕ) (c : Cell) where
+module _ (depot : Shelves) (path : Path) (vm : Paged) (ticket : ℕ) (c : Cell) where
   -- a machine that kills or joins a ticket has a brood of it
-  pub killed_there : (t : Tree (Spot Machine)) → get nat_cmp c.broods ticket ≡ None → Holds depot path c t → StandsAt vm (kill ticket) t → ⊥
+  pub killed_there : (t : Tree (Spot Paged)) → get nat_cmp c.broods ticket ≡ None → Holds depot path c t → StandsAt vm (kill ticket) t → ⊥
   killed_there (node s broods log) none h at =
       untallied path (forest.grant s ticket).children (get nat_cmp c.broods ticket) (is_cloned forest s ticket) none
       (rules.kill_is_cloned s ticket (makes vm (kill ticket) (node s broods log) at)) (h.tallies.broods ticket)
 
-  pub joined_there : (t : Tree (Spot Machine)) → get nat_cmp c.broods ticket ≡ None → Holds depot path c t → StandsAt vm (join ticket) t → ⊥
+  pub joined_there : (t : Tree (Spot Paged)) → get nat_cmp c.broods ticket ≡ None → Holds depot path c t → StandsAt vm (join ticket) t → ⊥
   joined_there (node s broods log) none h at =
       untallied path (forest.grant s ticket).children (get nat_cmp c.broods ticket) (is_cloned forest s ticket) none
       (rules.join_is_cloned s ticket (makes vm (join ticket) (node s broods log) at)) (h.tallies.broods ticket)
 
-  pub joined_endings : (t : Tree (Spot Machine)) (b : Brood) → get nat_cmp c.broods ticket ≡ Some b → Holds depot path c t → StandsAt vm (join ticket) t
+  pub joined_endings : (t : Tree (Spot Paged)) (b : Brood) → get nat_cmp c.broods ticket ≡ Some b → Holds depot path c t → StandsAt vm (join ticket) t
       → have_ended forest (brood_of ticket (broods_of t)) ≡ true → slot_endings b.slots.items ≡ endings forest (brood_of ticket (broods_of t))
   joined_endings (node s broods log) b found h at all =
       let m = makes vm (join ticket) (node s broods log) at in
@@ -162,21 +162,22 @@ module _ (depot : Shelves) (path : Path) (vm : Machine) (ticket : ℕ) (c : Cell
       brood_endings depot path ticket b trees
       (shown depot path ticket (get nat_cmp c.broods ticket) b (is_cloned forest s ticket) trees found (rules.join_is_cloned s ticket m) (h.broods ticket)) all
 
-  granted : (s : Spot Machine) → s.machine ≡ vm → forest.grant s ticket ≡ machines.grant vm ticket
+  granted : (s : Spot Paged) → s.machine ≡ vm → forest.grant s ticket ≡ paged_machines.grant vm ticket
   unfolding spots
-  granted s is = ap (λ (m : Machine). machines.grant m ticket) is
+  granted s is = ap (λ (p : Paged). paged_machines.grant p ticket) is
 
-  pub as_many : (t : Tree (Spot Machine)) → StandsAt vm (join ticket) t → have_ended forest (brood_of ticket (broods_of t)) ≡ true
-      → length (endings forest (brood_of ticket (broods_of t))) ≡ (machines.grant vm ticket).children
+  pub as_many : (t : Tree (Spot Paged)) → StandsAt vm (join ticket) t → have_ended forest (brood_of ticket (broods_of t)) ≡ true
+      → length (endings forest (brood_of ticket (broods_of t))) ≡ (machines.grant vm.machine ticket).children
+  unfolding paged_machines
   as_many (node s broods log) at all =
       let m = makes vm (join ticket) (node s broods log) at in
       length-endings forest (brood_of ticket broods) all
       ∙ size-cloned forest rules ticket s broods log m.lives (rules.join_is_cloned s ticket m) at.sound
       ∙ ap (λ (g : Grant). g.children) (granted s at.is)
 
-  pub is_join : (endings : List Ending) (next : Option port.Call) → next ≡ Some (fork.Join ticket) → length endings ≡ (machines.grant vm ticket).children
-      → IsJoin vm endings next
-  is_join endings next stands size = subst (IsJoin vm endings) (sym stands) size
+  pub is_join : (endings : List Ending) (next : Option port.Call) → next ≡ Some (fork.Join ticket) → length endings ≡ (machines.grant vm.machine ticket).children
+      → IsJoin vm.machine endings next
+  is_join endings next stands size = subst (IsJoin vm.machine endings) (sym stands) size
 
 -- ---- CLONE
 
@@ -197,7 +198,7 @@ come_tally path before after o b false true counts one h = subst (λ n. TallyAt 
 come_tally path before after None b false false counts one h = tt
 come_tally path before after (Some other) b false false counts one h = absurd h
 
-come_brood : (depot : Shelves) (path : Path) (u : ℕ) (o : Option Brood) (b : Brood) (same cloned : Bool) (kids trees : Trees (Spot Machine))
+come_brood : (depot : Shelves) (path : Path) (u : ℕ) (o : Option Brood) (b : Brood) (same cloned : Bool) (kids trees : Trees (Spot Paged))
     → (same ≡ true → BroodShows depot path u b kids) → BroodAt depot path u o cloned trees
     → BroodAt depot path u (cond same (Some b) o) (same || cloned) (cond same kids trees)
 come_brood depot path u o b true cloned kids trees one h = one refl
@@ -209,7 +210,7 @@ kept_tally path count o true true none h = let no : true ≡ false = none refl i
 kept_tally path count o true false none h = tt
 kept_tally path count o false cloned none h = h
 
-kept_brood : (depot : Shelves) (path : Path) (u : ℕ) (o : Option Brood) (same cloned : Bool) (trees : Trees (Spot Machine)) → (same ≡ true → cloned ≡ false)
+kept_brood : (depot : Shelves) (path : Path) (u : ℕ) (o : Option Brood) (same cloned : Bool) (trees : Trees (Spot Paged)) → (same ≡ true → cloned ≡ false)
     → BroodAt depot path u o cloned trees → BroodAt depot path u (cond same None o) cloned trees
 kept_brood depot path u o true true trees none h = let no : true ≡ false = none refl in absurd (cc)
 kept_brood depot path u None true false trees none h = h
@@ -223,13 +224,13 @@ cond_twice false x y z = refl
 
 module _ (depot : Shelves) (path : Path) (keyed : KeyedMachine) (ticket : ℕ) (c new : Cell) (room : vec_len new.log + btree_map_len new.broods ≤ vec_capacity new.log)
     (same_log : new.log.items ≡ c.log.items) where
-  abbrev vm : Machine
-  vm = keyed.machine
+  abbrev vm : Paged
+  vm = paged keyed
 
-  pub forked_after : (b : Brood) (young : Young) (t : Tree (Spot Machine)) → IsBorn depot path keyed ticket b young
+  pub forked_after : (b : Brood) (young : Young) (t : Tree (Spot Paged)) → IsBorn depot path keyed ticket b young
       → ((u : ℕ) → get nat_cmp new.broods u ≡ cond (is_at (nat_cmp ticket) u) (Some b) (get nat_cmp c.broods u))
       → Holds depot path c t → StandsAt vm (clone ticket) t → HoldsAfter depot path new (forked_tree ticket t)
-  unfolding brood_of
+  unfolding brood_of paged_machines
   forked_after b young (node s broods log) born updates h at =
       let m = makes vm (clone ticket) (node s broods log) at in
       let step = rules.forked s ticket m in
@@ -237,10 +238,10 @@ module _ (depot : Shelves) (path : Path) (keyed : KeyedMachine) (ticket : ℕ) (
       let kids = children forest s ticket in
       let looked : (u : ℕ) → get nat_cmp new.broods u ≡ cond (eqb ticket u) (Some b) (get nat_cmp c.broods u) =
       λ u. updates u ∙ ap (λ (x : Bool). cond x (Some b) (get nat_cmp c.broods u)) (same_number ticket u) in
-      let count : (machines.grant vm ticket).children ≡ (forest.grant s ticket).children =
+      let count : (machines.grant vm.machine ticket).children ≡ (forest.grant s ticket).children =
       ap (λ (g : Grant). g.children) (sym (granted depot path vm ticket c s at.is)) in
-      let size : vec_len b.slots ≡ (machines.grant vm ticket).children =
-      b.slots.ok.0 ∙ ap (λ (slots : List Slot). length slots) born.slots ∙ length-replicate (machines.grant vm ticket).children Asleep in
+      let size : vec_len b.slots ≡ (machines.grant vm.machine ticket).children =
+      b.slots.ok.0 ∙ ap (λ (slots : List Slot). length slots) born.slots ∙ length-replicate (machines.grant vm.machine ticket).children Asleep in
       let one : IsTallied path (forest.grant s ticket).children b = record { name = born.name; size = size ∙ count; few = omega (arith, size, born.few) } in
       let tallies : Tallies path new (forked_tree ticket (node s broods log)) = record {
         log = same_log ∙ h.tallies.log;
@@ -270,7 +271,7 @@ module _ (depot : Shelves) (path : Path) (keyed : KeyedMachine) (ticket : ℕ) (
       )
 
   -- the brood that was put in is taken out again
-  pub kept : (t : Tree (Spot Machine)) → ((u : ℕ) → get nat_cmp new.broods u ≡ cond (is_at (nat_cmp ticket) u) None (get nat_cmp c.broods u))
+  pub kept : (t : Tree (Spot Paged)) → ((u : ℕ) → get nat_cmp new.broods u ≡ cond (is_at (nat_cmp ticket) u) None (get nat_cmp c.broods u))
       → Holds depot path c t → StandsAt vm (clone ticket) t → Holds depot path new t
   kept (node s broods log) updates h at =
       let m = makes vm (clone ticket) (node s broods log) at in

@@ -11,16 +11,15 @@ use Rattle.forest_tree.specs.Sound.{IsSound}
 use Rattle.forest_history.specs.Places.{at_path, Place, asleep, home, out, parked, Spot, placed}
 use Rattle.forest_history.specs.World.{is_asleep_at, is_ready_at, is_at_home_at, lives_at_home, holds, is_at_home}
 use Rattle.forest_history.specs.Rows.{took, does}
-use Rattle.forest_model.specs.Machine.{Machine}
-use Rattle.forest_model.specs.Forest.{machines}
+use Rattle.forest_model.specs.Paged.{Paged, paged_machines}
 use Rattle.run_report.specs.Name.{child_path}
 use Rattle.run_report.specs.NameOrder.{path_cmp}
 use Rattle.world_core.specs.declared.cell.Cell.{Cell}
 use Rattle.world_core.specs.Shows.{forest, CellShows, Shows}
 use Rattle.world_core.specs.declared.world.World.{World}
 use Rattle.run_report.specs.Report.{Ended as Report}
-use Rattle.vm_cell.specs.Keyed.{KeyedMachine, IsOfDepot}
-use Rattle.world_core.specs.Lent.{Lent, lent_as}
+use Rattle.vm_cell.specs.Keyed.{KeyedMachine, IsOfDepot, paged}
+use Rattle.world_core.specs.Lent.{Lent, lent_as, now_of}
 use Rattle.world_core.specs.Waiting.{IsListed}
 use Rattle.world_core.specs.World.{Forest, IsDue, ShowsTree, StandsFor}
 use Rattle.world_core.specs.Answers.{IsLentOf, Starts, TakesNamed}
@@ -49,14 +48,14 @@ asleep-home false out lives there = absurd (cc)
 asleep-home false parked lives there = absurd (cc)
 
 -- none lives where the root has ended
-ended-nobody : (name : Path) (t : Tree (Spot Machine)) → IsSound forest t → has_ended forest t ≡ true → is_at_home machines name t ≡ false
+ended-nobody : (name : Path) (t : Tree (Spot Paged)) → IsSound forest t → has_ended forest t ≡ true → is_at_home paged_machines name t ≡ false
 unfolding subtree brood_of child_at
 ended-nobody [] t sound ended = dead-not (has_ended forest t) (is_at_home_at (machine t).place) ended
 ended-nobody (b ∷ rest) t sound ended =
-    ap (λ broods. holds machines (lives_at_home machines) (option_and_then (subtree rest) (child_at b.child (brood_of b.ticket broods)))) (ended-broods t sound ended)
+    ap (λ broods. holds paged_machines (lives_at_home paged_machines) (option_and_then (subtree rest) (child_at b.child (brood_of b.ticket broods)))) (ended-broods t sound ended)
 
 pub over-nobody : (depot : Shelves) (w : World) (f : Forest) (name : Path) → StandsFor depot w f → is_some w.outcome ≡ true
-    → is_at_home machines name f.tree ≡ false
+    → is_at_home paged_machines name f.tree ≡ false
 over-nobody depot w f name h some = ended-nobody name f.tree h.sound (by w.outcome h.tree some)
   where
     by : (o : Option Report) → ShowsTree o depot w f.tree → is_some o ≡ true → has_ended forest f.tree ≡ true
@@ -86,11 +85,11 @@ named-error depot f name (Ok lease) new err h = absurd (cc)
 named-error depot f name (Err e) new err h = h
 
 -- what becomes of a forest from which a machine was taken that has a turn where it had one
-pub taken-as : (depot : Shelves) (w v : World) (f : Forest) (name : Path) (a : Tree (Spot Machine)) → StandsFor depot w f → w.outcome ≡ None
+pub taken-as : (depot : Shelves) (w v : World) (f : Forest) (name : Path) (a : Tree (Spot Paged)) → StandsFor depot w f → w.outcome ≡ None
     → subtree name f.tree ≡ Some a → ShowsCells depot v.cells (at_path (placed out) name f.tree)
     → ((n : Path) → n ≢ name → is_some (get path_cmp v.cells n) ≡ is_some (get path_cmp w.cells n))
     → ((n : Path) → is_listed_in (get path_cmp v.cells n) ≡ is_listed_in (get path_cmp w.cells n))
-    → v.ready ≡ w.ready → v.halted ≡ w.halted → v.outcome ≡ w.outcome → StandsFor depot v (does machines (took name) f)
+    → v.ready ≡ w.ready → v.halted ≡ w.halted → v.outcome ≡ w.outcome → StandsFor depot v (does paged_machines (took name) f)
 taken-as depot w v f name a h going there cells others listed ready halted outcome =
     let shown = shows-live depot w f h going in
     taken depot v f name a there cells (halted ∙ h.halted) (outcome ∙ going)
@@ -107,25 +106,25 @@ module _ (depot : Shelves) (w : World) (f : Forest) (name : Path) (h : StandsFor
 
   module _ (c : Cell) (found : Some c ≡ get path_cmp w.cells name) (cells : BTreeMap Path Cell) (d : Cell)
       (written : WritesThrough path_cmp (path_cmp name) w.cells d cells) where
-    named-shown : (t : Tree (Spot Machine)) × (subtree name f.tree ≡ Some t) × CellShows depot name c t
+    named-shown : (t : Tree (Spot Paged)) × (subtree name f.tree ≡ Some t) × CellShows depot name c t
     named-shown = cell-shows depot name (get path_cmp w.cells name) c (subtree name f.tree) (sym found) (before-named.shows name)
 
     -- it is on lease
-    pub named-idle : ((t : Tree (Spot Machine)) → CellShows depot name c t → (lives_at_home machines t ≡ false) × (d ≡ c))
-        → (is_at_home machines name f.tree ≡ false) × StandsFor depot (record w { cells = cells }) f
+    pub named-idle : ((t : Tree (Spot Paged)) → CellShows depot name c t → (lives_at_home paged_machines t ≡ false) × (d ≡ c))
+        → (is_at_home paged_machines name f.tree ≡ false) × StandsFor depot (record w { cells = cells }) f
     named-idle lent =
         let idle = lent named-shown.0 named-shown.2 in (
-          ap (holds machines (lives_at_home machines)) named-shown.1 ∙ idle.0,
+          ap (holds paged_machines (lives_at_home paged_machines)) named-shown.1 ∙ idle.0,
           stands-same depot w (record w { cells = cells }) f
               (rewritten w.cells cells name c found (subst (λ e. WritesThrough path_cmp (path_cmp name) w.cells e cells) idle.1 written)) refl refl refl h,
         )
 
     -- it is handed out
     pub named-taken : (lease : Lent) (v : KeyedMachine) → lease ≡ lent_as name v.machine 0 v → d.is_listed ≡ c.is_listed
-        → ((t : Tree (Spot Machine)) → CellShows depot name c t
-        → (lives_at_home machines t ≡ true) × (v.machine ≡ (machine t).machine) × IsOfDepot depot v.key × CellShows depot name d (placed out t))
-        → (is_at_home machines name f.tree ≡ true) × (lease.name ≡ name) × Starts f lease × IsLentOf depot lease
-        × StandsFor depot (record w { cells = cells }) (does machines (took name) f)
+        → ((t : Tree (Spot Paged)) → CellShows depot name c t
+        → (lives_at_home paged_machines t ≡ true) × (paged v ≡ (machine t).machine) × IsOfDepot depot v.key × CellShows depot name d (placed out t))
+        → (is_at_home paged_machines name f.tree ≡ true) × (lease.name ≡ name) × Starts f lease × IsLentOf depot lease
+        × StandsFor depot (record w { cells = cells }) (does paged_machines (took name) f)
     named-taken lease v is listed lent =
         let lends = lent named-shown.0 named-shown.2 in
         let here : get path_cmp cells name ≡ Some d = written-here w.cells cells name d written (some-is c (get path_cmp w.cells name) found) in
@@ -134,9 +133,9 @@ module _ (depot : Shelves) (w : World) (f : Forest) (name : Path) (h : StandsFor
         let starts : Starts f (lent_as name v.machine 0 v) = record {
           ran = refl;
           now = refl;
-          start = subst (λ o. IfSome o (λ (t : Tree (Spot Machine)). (machine t).machine ≡ v.machine)) (sym named-shown.1) (sym lends.1);
+          start = subst (λ o. IfSome o (λ (t : Tree (Spot Paged)). (machine t).machine ≡ paged v)) (sym named-shown.1) (sym lends.1);
         } in (
-          ap (holds machines (lives_at_home machines)) named-shown.1 ∙ lends.0,
+          ap (holds paged_machines (lives_at_home paged_machines)) named-shown.1 ∙ lends.0,
           ap (λ (l : Lent). l.name) is,
           subst (Starts f) (sym is) starts,
           subst (IsLentOf depot) (sym is) lends.2,
@@ -165,12 +164,12 @@ module _ (depot : Shelves) (w : World) (f : Forest) (name : Path) (h : StandsFor
         (subst (λ c. Shows depot [] c (Some f.tree)) (ap (get path_cmp w.cells) (sym root) ∙ sym none) (before-named.shows []))
 
     module _ (parent : Path) (ticket index : ℕ) (named : name ≡ child_path parent ticket index) where
-      pub no_cell-home : sleeps parent ticket index f.tree ≡ false → is_at_home machines name f.tree ≡ false
+      pub no_cell-home : sleeps parent ticket index f.tree ≡ false → is_at_home paged_machines name f.tree ≡ false
       no_cell-home awake =
           by (subtree name f.tree) (subst (λ c. Shows depot name c (subtree name f.tree)) (sym none) (before-named.shows name))
           (ap (λ n. wakes (subtree n f.tree)) named ∙ awake)
         where
-          by : (u : Option (Tree (Spot Machine))) → Shows depot name None u → wakes u ≡ false → holds machines (lives_at_home machines) u ≡ false
+          by : (u : Option (Tree (Spot Paged))) → Shows depot name None u → wakes u ≡ false → holds paged_machines (lives_at_home paged_machines) u ≡ false
           by None shown awake = refl
           by (Some a) (inl ended) awake = dead-not (has_ended forest a) (is_at_home_at (machine a).place) ended.0
           by (Some a) (inr there) awake = asleep-dead (has_ended forest a) (waits forest a) (machine a).place there awake
@@ -178,17 +177,17 @@ module _ (depot : Shelves) (w : World) (f : Forest) (name : Path) (h : StandsFor
       -- it is not the first from itself on
       -- it wakes
       pub named-woken : (v : World) (lease : Lent) → sleeps parent ticket index f.tree ≡ true → lease.name ≡ child_path parent ticket index → lease.ran ≡ 0
-          → lease.now ≡ lease.start → IsLentOf depot lease → IfSome (subtree lease.name f.tree) (λ a. (machine a).machine ≡ lease.start)
+          → lease.now ≡ lease.start → IsLentOf depot lease → IfSome (subtree lease.name f.tree) (λ a. (machine a).machine ≡ now_of lease)
           → ShowsCells depot v.cells (at_path (placed out) (child_path parent ticket index) f.tree)
           → ((n : Path) → is_listed_in (get path_cmp v.cells n) ≡ is_listed_in (get path_cmp w.cells n))
           → ((n : Path) → n ≢ child_path parent ticket index → is_some (get path_cmp v.cells n) ≡ is_some (get path_cmp w.cells n))
           → v.ready ≡ w.ready → v.halted ≡ w.halted → v.outcome ≡ w.outcome
-          → (is_at_home machines name f.tree ≡ true) × (lease.name ≡ name) × Starts f lease × IsLentOf depot lease × StandsFor depot v (does machines (took name) f)
+          → (is_at_home paged_machines name f.tree ≡ true) × (lease.name ≡ name) × Starts f lease × IsLentOf depot lease × StandsFor depot v (does paged_machines (took name) f)
       named-woken v lease sleeping named_so ran now of_depot start cells listed others ready halted outcome =
           let there = wakes-there (subtree (child_path parent ticket index) f.tree) sleeping in
           let at : subtree name f.tree ≡ Some there.0 = ap (λ n. subtree n f.tree) named ∙ there.1 in
           let parts = wakes-is there.0 (ap wakes (sym there.1) ∙ sleeping) in (
-            ap (holds machines (lives_at_home machines)) at ∙ asleep-home (has_ended forest there.0) (machine there.0).place parts.0 parts.1,
+            ap (holds paged_machines (lives_at_home paged_machines)) at ∙ asleep-home (has_ended forest there.0) (machine there.0).place parts.0 parts.1,
             named_so ∙ sym named,
             record { ran = ran; now = now; start = start },
             of_depot,

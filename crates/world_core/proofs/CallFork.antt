@@ -15,14 +15,14 @@ use Rattle.forest_tree.proofs.Settle.{root-sound, clone-is-new}
 use Rattle.forest_history.specs.Places.{home, Spot, placed, spots}
 use Rattle.forest_history.specs.World.{is_asleep_at, holds, is_ready, lives_ready}
 use Rattle.forest_history.specs.Rows.{forked, joined, kept, is_clone, may_spend, spend}
-use Rattle.forest_model.specs.Machine.{Machine}
 use Rattle.forest_model.specs.Calls.{forked as after_fork}
 use Rattle.forest_model.specs.Forest.{machines}
+use Rattle.forest_model.specs.Paged.{Paged, paged_machines}
 use Rattle.run_report.specs.NameOrder.{path_cmp}
 use Rattle.vm_cell.specs.Standing.{standing_call}
 use Rattle.world_core.specs.declared.cell.Cell.{Cell}
 use Rattle.world_core.specs.declared.world.World.{World}
-use Rattle.world_core.specs.Lent.{Lent, IsLent, vm_of}
+use Rattle.world_core.specs.Lent.{Lent, IsLent, vm_of, now_of}
 use Rattle.world_core.specs.Waiting.{Waiting, IsListed, IsCovered}
 use Rattle.world_core.specs.Shows.{forest, IsAwake, Holds, HoldsAfter, Shows, StandsAt, forked_tree}
 use Rattle.world_core.specs.World.{Forest, IsDue, StandsFor}
@@ -36,31 +36,31 @@ use Rattle.world_core.proofs.Calling.{lent_out, StandsHere, lives-out, spent-sou
 -- ---- children that are born
 
 -- asleep, and alone
-record IsBorn (k : ℕ) (a : Tree (Spot Machine)) : Type 0 where
+record IsBorn (k : ℕ) (a : Tree (Spot Paged)) : Type 0 where
   first : 1 ≤ k
   asleep_now : is_asleep_at (machine a).place ≡ true
   alone_now : broods_of a ≡ no_brood
 
-born-later : (k : ℕ) (a : Tree (Spot Machine)) → IsBorn (suc k) a → IsBorn (suc (suc k)) a
+born-later : (k : ℕ) (a : Tree (Spot Paged)) → IsBorn (suc k) a → IsBorn (suc (suc k)) a
 born-later k a h = record { first = omega arith; asleep_now = h.asleep_now; alone_now = h.alone_now }
 
-born : (s : Spot Machine) (n j k : ℕ) (a : Tree (Spot Machine)) → child_at k (children_from forest s j n) ≡ Some a → IsBorn k a
+born : (s : Spot Paged) (n j k : ℕ) (a : Tree (Spot Paged)) → child_at k (children_from forest s j n) ≡ Some a → IsBorn k a
 unfolding child_at children_from spots
 born s zero j k a found = absurd (cc)
 born s (suc n) j zero a found = absurd (cc)
 born s (suc n) j (suc zero) a found = record {
   first = omega arith;
-  asleep_now = ap (λ (t : Tree (Spot Machine)). is_asleep_at (machine t).place) (sym (some-same _ a found));
+  asleep_now = ap (λ (t : Tree (Spot Paged)). is_asleep_at (machine t).place) (sym (some-same _ a found));
   alone_now = ap broods_of (sym (some-same _ a found));
 }
 born s (suc n) j (suc (suc k)) a found = born-later k a (born s n (suc j) (suc k) a found)
 
-none-beneath : (a : Tree (Spot Machine)) (y : Branch) (rest : Path) → broods_of a ≡ no_brood → subtree (y ∷ rest) a ≡ None
+none-beneath : (a : Tree (Spot Paged)) (y : Branch) (rest : Path) → broods_of a ≡ no_brood → subtree (y ∷ rest) a ≡ None
 unfolding subtree brood_of child_at
-none-beneath (node s broods log) y rest none = ap (λ (b : Broods (Spot Machine)). option_and_then (subtree rest) (child_at y.child (brood_of y.ticket b))) none
+none-beneath (node s broods log) y rest none = ap (λ (b : Broods (Spot Paged)). option_and_then (subtree rest) (child_at y.child (brood_of y.ticket b))) none
 
 -- below a child
-born-shows : (depot : Shelves) (name : Path) (k : ℕ) (rest : Path) (u : Option (Tree (Spot Machine))) → ((a : Tree (Spot Machine)) → u ≡ Some a → IsBorn k a)
+born-shows : (depot : Shelves) (name : Path) (k : ℕ) (rest : Path) (u : Option (Tree (Spot Paged))) → ((a : Tree (Spot Paged)) → u ≡ Some a → IsBorn k a)
     → Shows depot name None (option_and_then (subtree rest) u)
 unfolding subtree
 born-shows depot name k rest None h = tt
@@ -68,13 +68,13 @@ born-shows depot name k [] (Some a) h = inr (h a refl).asleep_now
 born-shows depot name k (y ∷ ys) (Some a) h = subst (Shows depot name None) (sym (none-beneath a y ys (h a refl).alone_now)) tt
 
 -- a machine that is ready there is the child
-born-ready : (k : ℕ) (rest : Path) (u : Option (Tree (Spot Machine))) → ((a : Tree (Spot Machine)) → u ≡ Some a → IsBorn k a)
-    → holds machines (lives_ready machines) (option_and_then (subtree rest) u) ≡ true → (rest ≡ []) × (1 ≤ k)
+born-ready : (k : ℕ) (rest : Path) (u : Option (Tree (Spot Paged))) → ((a : Tree (Spot Paged)) → u ≡ Some a → IsBorn k a)
+    → holds paged_machines (lives_ready paged_machines) (option_and_then (subtree rest) u) ≡ true → (rest ≡ []) × (1 ≤ k)
 unfolding subtree
 born-ready k rest None h ready = absurd (cc)
 born-ready k [] (Some a) h ready = (refl, (h a refl).first)
 born-ready k (y ∷ ys) (Some a) h ready =
-    let no : false ≡ true = sym (ap (holds machines (lives_ready machines)) (none-beneath a y ys (h a refl).alone_now)) ∙ ready in absurd (cc)
+    let no : false ≡ true = sym (ap (holds paged_machines (lives_ready paged_machines)) (none-beneath a y ys (h a refl).alone_now)) ∙ ready in absurd (cc)
 
 -- a turn of children covers them
 covers-child : (name : Path) (ticket : ℕ) (x : Branch) (rest : Path) (list : List Waiting) → ticket ≡ x.ticket → rest ≡ [] → 1 ≤ x.child
@@ -95,7 +95,7 @@ listed-later None q turn list h = tt
 listed-later (Some c) q turn list h = λ yes. IsListed-more q turn list (h yes)
 
 -- the machine and its broods after the step
-whole-new : (ticket : ℕ) (s n : Spot Machine) (kids : Trees (Spot Machine)) (broods : Broods (Spot Machine)) (log : Log (Spot Machine)) → IsSound forest (node s broods log)
+whole-new : (ticket : ℕ) (s n : Spot Paged) (kids : Trees (Spot Paged)) (broods : Broods (Spot Paged)) (log : Log (Spot Paged)) → IsSound forest (node s broods log)
     → forest.ending s ≡ None → is_cloned forest s ticket ≡ false → IsStep forest s n (λ u. (eqb ticket u) || is_cloned forest s u)
     → IsWhole (node n (brood ticket kids broods) log)
 unfolding broods_with
@@ -113,7 +113,7 @@ whole-new ticket s n kids broods log sound lives fresh step = record {
     by false true n e none = omega arith
     by false false n e none = omega arith
 
-new-below : (ticket : ℕ) (s n : Spot Machine) (kids : Trees (Spot Machine)) (broods : Broods (Spot Machine)) (log : Log (Spot Machine)) (x : Branch) (rest : Path)
+new-below : (ticket : ℕ) (s n : Spot Paged) (kids : Trees (Spot Paged)) (broods : Broods (Spot Paged)) (log : Log (Spot Paged)) (x : Branch) (rest : Path)
     → subtree (x ∷ rest) (node n (brood ticket kids broods) log)
     ≡ cond (eqb ticket x.ticket) (option_and_then (subtree rest) (child_at x.child kids)) (subtree (x ∷ rest) (node s broods log))
 unfolding subtree brood_of
@@ -125,47 +125,47 @@ new-below ticket s n kids broods log x rest = by (eqb ticket x.ticket)
     by false = refl
 
 -- nothing was there
-unborn-below : (s : Spot Machine) (broods : Broods (Spot Machine)) (log : Log (Spot Machine)) (x : Branch) (rest : Path) → broods_with x.ticket broods ≡ 0
+unborn-below : (s : Spot Paged) (broods : Broods (Spot Paged)) (log : Log (Spot Paged)) (x : Branch) (rest : Path) → broods_with x.ticket broods ≡ 0
     → subtree (x ∷ rest) (node s broods log) ≡ None
 unfolding subtree child_at
 unborn-below s broods log x rest none = ap (λ trees. option_and_then (subtree rest) (child_at x.child trees)) (brood_of-none x.ticket broods none)
 
 -- ---- a machine that stands at a CLONE
 
-module _ (depot : Shelves) (w : World) (f : Forest) (lease : Lent) (ticket : ℕ) (broods : Broods (Spot Machine)) (log : Log (Spot Machine)) (c : Cell)
-    (h : StandsHere depot w f lease (clone ticket) broods log c) where
-  makes-clone : Makes forest (lent_out lease.now) (Some (clone ticket))
+module _ (depot : Shelves) (w : World) (f : Forest) (lease : Lent) (ticket : ℕ) (start : Paged) (broods : Broods (Spot Paged)) (log : Log (Spot Paged)) (c : Cell)
+    (h : StandsHere depot w f lease (clone ticket) start broods log c) where
+  makes-clone : Makes forest (lent_out (now_of lease)) (Some (clone ticket))
   unfolding spots
   makes-clone = record {
-    good = (root-sound forest (lent_out lease.now) broods log h.at.sound).good;
-    lives = lives-out lease.now h.at.lives;
+    good = (root-sound forest (lent_out (now_of lease)) broods log h.at.sound).good;
+    lives = lives-out (now_of lease) h.at.lives;
     call = h.at.at_call;
   }
 
-  forked-may : (is : Bool) → may_spend machines forked lease.now is ≡ true
-  unfolding machines
+  forked-may : (is : Bool) → may_spend paged_machines forked (now_of lease) is ≡ true
+  unfolding paged_machines machines
   forked-may is = ap₂ (λ ending call. not (is_some ending) && is_clone call) h.at.lives h.at.at_call
 
-  forked-keeps : may_spend machines forked lease.now false || may_spend machines joined lease.now (waits forest (node (lent_out lease.now) broods log)) ≡ true
-  forked-keeps = ap (λ b. b || may_spend machines joined lease.now (waits forest (node (lent_out lease.now) broods log))) (forked-may false)
+  forked-keeps : may_spend paged_machines forked (now_of lease) false || may_spend paged_machines joined (now_of lease) (waits forest (node (lent_out (now_of lease)) broods log)) ≡ true
+  forked-keeps = ap (λ b. b || may_spend paged_machines joined (now_of lease) (waits forest (node (lent_out (now_of lease)) broods log))) (forked-may false)
 
-  forked-spend : spend machines forked (node (lent_out lease.now) broods log) ≡ placed home (settled_tree (forked_tree ticket (node (lent_out lease.now) broods log)))
-  forked-spend = ap (placed home) (step-clone forest (lent_out lease.now) broods log ticket makes-clone.lives makes-clone.call)
+  forked-spend : spend paged_machines forked (node (lent_out (now_of lease)) broods log) ≡ placed home (settled_tree (forked_tree ticket (node (lent_out (now_of lease)) broods log)))
+  forked-spend = ap (placed home) (step-clone forest (lent_out (now_of lease)) broods log ticket makes-clone.lives makes-clone.call)
 
-  forked-machine : (machine (forked_tree ticket (node (lent_out lease.now) broods log))).machine ≡ after_fork lease.now
-  unfolding spots machines
+  forked-machine : (machine (forked_tree ticket (node (lent_out (now_of lease)) broods log))).machine ≡ record (now_of lease) { machine = after_fork lease.now }
+  unfolding spots paged_machines machines
   forked-machine = refl
 
   -- the ticket is not cloned yet
-  fresh : is_cloned forest (lent_out lease.now) ticket ≡ false
-  fresh = clone-is-new forest forest-rules (lent_out lease.now) ticket makes-clone
+  fresh : is_cloned forest (lent_out (now_of lease)) ticket ≡ false
+  fresh = clone-is-new forest forest-rules (lent_out (now_of lease)) ticket makes-clone
 
   none-there : (x : Branch) (rest : Path) → eqb ticket x.ticket ≡ true → get path_cmp w.cells (lease.name ++ x ∷ rest) ≡ None
   none-there x rest same =
-      let count = (root-sound forest (lent_out lease.now) broods log h.at.sound).one_each makes-clone.lives x.ticket in
-      let none : broods_with x.ticket broods ≡ 0 = count ∙ ap one_if (ap (is_cloned forest (lent_out lease.now)) (sym (eqb-true ticket x.ticket same)) ∙ fresh) in
+      let count = (root-sound forest (lent_out (now_of lease)) broods log h.at.sound).one_each makes-clone.lives x.ticket in
+      let none : broods_with x.ticket broods ≡ 0 = count ∙ ap one_if (ap (is_cloned forest (lent_out (now_of lease))) (sym (eqb-true ticket x.ticket same)) ∙ fresh) in
       none-shown depot (lease.name ++ x ∷ rest) (get path_cmp w.cells (lease.name ++ x ∷ rest)) (subtree (lease.name ++ x ∷ rest) f.tree)
-      (below-name lease.name f.tree (node (lent_out lease.start) broods log) x rest h.is.there ∙ unborn-below (lent_out lease.start) broods log x rest none)
+      (below-name lease.name f.tree (node (lent_out start) broods log) x rest h.is.there ∙ unborn-below (lent_out start) broods log x rest none)
       (h.is.live.cells (lease.name ++ x ∷ rest))
 
   module _ (v : World) (d : Cell) (ready : v.ready ≡ record { name = lease.name; children = Some (ticket, 1) } ∷ w.ready) (found : get path_cmp v.cells lease.name ≡ Some d)
@@ -173,45 +173,45 @@ module _ (depot : Shelves) (w : World) (f : Forest) (lease : Lent) (ticket : ℕ
     abbrev turn : Waiting
     turn = record { name = lease.name; children = Some (ticket, 1) }
 
-    abbrev kids : Trees (Spot Machine)
-    kids = children forest (lent_out lease.now) ticket
+    abbrev kids : Trees (Spot Paged)
+    kids = children forest (lent_out (now_of lease)) ticket
 
-    abbrev new_tree : Tree (Spot Machine)
-    new_tree = forked_tree ticket (node (lent_out lease.now) broods log)
+    abbrev new_tree : Tree (Spot Paged)
+    new_tree = forked_tree ticket (node (lent_out (now_of lease)) broods log)
 
-    kid-born : (k : ℕ) (a : Tree (Spot Machine)) → child_at k kids ≡ Some a → IsBorn k a
-    kid-born k a is = born (lent_out lease.now) (forest.grant (lent_out lease.now) ticket).children 1 k a is
+    kid-born : (k : ℕ) (a : Tree (Spot Paged)) → child_at k kids ≡ Some a → IsBorn k a
+    kid-born k a is = born (lent_out (now_of lease)) (forest.grant (lent_out (now_of lease)) ticket).children 1 k a is
 
     new-shows : (x : Branch) (rest : Path) → Shows depot (lease.name ++ x ∷ rest) (get path_cmp v.cells (lease.name ++ x ∷ rest)) (subtree (x ∷ rest) new_tree)
     new-shows x rest =
         subst (Shows depot (lease.name ++ x ∷ rest) (get path_cmp v.cells (lease.name ++ x ∷ rest)))
-        (sym (new-below ticket (lent_out lease.start) (forest.forked (lent_out lease.now)) kids broods log x rest))
+        (sym (new-below ticket (lent_out start) (forest.forked (lent_out (now_of lease))) kids broods log x rest))
         (subst (λ o. Shows depot (lease.name ++ x ∷ rest) o
-        (cond (eqb ticket x.ticket) (option_and_then (subtree rest) (child_at x.child kids)) (subtree (x ∷ rest) (node (lent_out lease.start) broods log))))
+        (cond (eqb ticket x.ticket) (option_and_then (subtree rest) (child_at x.child kids)) (subtree (x ∷ rest) (node (lent_out start) broods log))))
         (sym (others (lease.name ++ x ∷ rest) (apart-below lease.name x rest)))
         (by (eqb ticket x.ticket) (none-there x rest)))
       where
         by : (same : Bool) → (same ≡ true → get path_cmp w.cells (lease.name ++ x ∷ rest) ≡ None)
             → Shows depot (lease.name ++ x ∷ rest) (get path_cmp w.cells (lease.name ++ x ∷ rest))
-            (cond same (option_and_then (subtree rest) (child_at x.child kids)) (subtree (x ∷ rest) (node (lent_out lease.start) broods log)))
+            (cond same (option_and_then (subtree rest) (child_at x.child kids)) (subtree (x ∷ rest) (node (lent_out start) broods log)))
         by true none =
             subst (λ o. Shows depot (lease.name ++ x ∷ rest) o (option_and_then (subtree rest) (child_at x.child kids))) (sym (none refl))
             (born-shows depot (lease.name ++ x ∷ rest) x.child rest (child_at x.child kids) (λ a is. kid-born x.child a is))
         by false none =
             subst (Shows depot (lease.name ++ x ∷ rest) (get path_cmp w.cells (lease.name ++ x ∷ rest)))
-            (below-name lease.name f.tree (node (lent_out lease.start) broods log) x rest h.is.there) (h.is.live.cells (lease.name ++ x ∷ rest))
+            (below-name lease.name f.tree (node (lent_out start) broods log) x rest h.is.there) (h.is.live.cells (lease.name ++ x ∷ rest))
 
-    new-ready : (x : Branch) (rest : Path) → is_ready machines (x ∷ rest) new_tree ≡ true
+    new-ready : (x : Branch) (rest : Path) → is_ready paged_machines (x ∷ rest) new_tree ≡ true
         → IsDue (get path_cmp v.cells (lease.name ++ x ∷ rest)) (lease.name ++ x ∷ rest) v.ready
     new-ready x rest is =
         subst (IsDue (get path_cmp v.cells (lease.name ++ x ∷ rest)) (lease.name ++ x ∷ rest)) (sym ready)
         (subst (λ o. IsDue o (lease.name ++ x ∷ rest) (turn ∷ w.ready)) (sym (others (lease.name ++ x ∷ rest) (apart-below lease.name x rest)))
         (by (eqb ticket x.ticket) refl
-        (ap (holds machines (lives_ready machines)) (sym (new-below ticket (lent_out lease.start) (forest.forked (lent_out lease.now)) kids broods log x rest)) ∙ is)))
+        (ap (holds paged_machines (lives_ready paged_machines)) (sym (new-below ticket (lent_out start) (forest.forked (lent_out (now_of lease))) kids broods log x rest)) ∙ is)))
       where
         by : (same : Bool) → eqb ticket x.ticket ≡ same
-            → holds machines (lives_ready machines)
-            (cond same (option_and_then (subtree rest) (child_at x.child kids)) (subtree (x ∷ rest) (node (lent_out lease.start) broods log))) ≡ true
+            → holds paged_machines (lives_ready paged_machines)
+            (cond same (option_and_then (subtree rest) (child_at x.child kids)) (subtree (x ∷ rest) (node (lent_out start) broods log))) ≡ true
             → IsDue (get path_cmp w.cells (lease.name ++ x ∷ rest)) (lease.name ++ x ∷ rest) (turn ∷ w.ready)
         by true same now =
             let is_child = born-ready x.child rest (child_at x.child kids) (λ a is. kid-born x.child a is) now in
@@ -220,7 +220,7 @@ module _ (depot : Shelves) (w : World) (f : Forest) (lease : Lent) (ticket : ℕ
         by false same now =
             due-later (get path_cmp w.cells (lease.name ++ x ∷ rest)) (lease.name ++ x ∷ rest) turn w.ready
             (h.is.live.ready (lease.name ++ x ∷ rest)
-            (ap (holds machines (lives_ready machines)) (below-name lease.name f.tree (node (lent_out lease.start) broods log) x rest h.is.there) ∙ now))
+            (ap (holds paged_machines (lives_ready paged_machines)) (below-name lease.name f.tree (node (lent_out start) broods log) x rest h.is.there) ∙ now))
 
     new-listed : d.is_listed ≡ c.is_listed → (q : Path) → IfSome (get path_cmp v.cells q) (λ (cell : Cell). cell.is_listed ≡ true → IsListed q v.ready)
     new-listed same q =
@@ -241,8 +241,8 @@ module _ (depot : Shelves) (w : World) (f : Forest) (lease : Lent) (ticket : ℕ
       going = outcome ∙ h.is.going;
       root = h.is.live.root;
       there = subst (λ o. IsSomeAnd o IsAwake) (sym h.is.there) h.is.shows.awake;
-      whole = whole-new ticket (lent_out lease.now) (forest.forked (lent_out lease.now)) kids broods log h.at.sound makes-clone.lives fresh
-          (forest-rules.forked (lent_out lease.now) ticket makes-clone);
+      whole = whole-new ticket (lent_out (now_of lease)) (forest.forked (lent_out (now_of lease))) kids broods log h.at.sound makes-clone.lives fresh
+          (forest-rules.forked (lent_out (now_of lease)) ticket makes-clone);
       cell = subst (λ o. IsSomeAnd o (λ cell. HoldsAfter depot lease.name cell new_tree)) (sym found) after_it;
       below = new-shows;
       ready_below = new-ready;
@@ -258,46 +258,46 @@ module _ (depot : Shelves) (w : World) (f : Forest) (lease : Lent) (ticket : ℕ
 
 module _ (depot : Shelves) (w : World) (f : Forest) (lease : Lent) (ticket : ℕ) (c : Cell) (h : StandsFor depot w f) (out_as : IsHandedOut f lease)
     (lent : IsLent lease.start lease.ran lease.now) (at : Some (Clone ticket) ≡ standing_call (vm_of lease)) (found : Some c ≡ get path_cmp w.cells lease.name) where
-  pub fork-kept : (cells : BTreeMap Path Cell) (d : Cell) (given : Path) (vm : Machine) → given ≡ lease.name → vm ≡ lease.now
+  pub fork-kept : (cells : BTreeMap Path Cell) (d : Cell) (given : Path) (vm : Paged) → given ≡ lease.name → vm ≡ now_of lease
       → WritesThrough path_cmp (path_cmp lease.name) w.cells d cells → d.state ≡ c.state → d.is_listed ≡ c.is_listed
-      → ((t : Tree (Spot Machine)) → Holds depot given c t → StandsAt vm (clone ticket) t → Holds depot given d t)
+      → ((t : Tree (Spot Paged)) → Holds depot given c t → StandsAt vm (clone ticket) t → Holds depot given d t)
       → Goes depot f (kept lease.name lease.ran) (record w { cells = cells })
   fork-kept cells d given vm given_is vm_is written state listed still =
       let is = found-here depot w f lease (Clone ticket) c h out_as lent at found in
       let some = some-is c (get path_cmp w.cells lease.name) found in
-      let u : Tree (Spot Machine) = node (lent_out lease.now) is.broods is.log in
-      let t : Tree (Spot Machine) = node (lent_out lease.start) is.broods is.log in
-      let still_as = subst (λ n. (t : Tree (Spot Machine)) → Holds depot n c t → StandsAt vm (clone ticket) t → Holds depot n d t) given_is still in
+      let u : Tree (Spot Paged) = node (lent_out (now_of lease)) is.broods is.log in
+      let t : Tree (Spot Paged) = node (lent_out is.start) is.broods is.log in
+      let still_as = subst (λ n. (t : Tree (Spot Paged)) → Holds depot n c t → StandsAt vm (clone ticket) t → Holds depot n d t) given_is still in
       let held = still_as u is.stands.holds (subst (λ m. StandsAt m (clone ticket) u) (sym vm_is) is.stands.at) in
-      let good = (root-sound forest (lent_out lease.start) is.broods is.log
+      let good = (root-sound forest (lent_out is.start) is.broods is.log
       (subtree-sound forest lease.name f.tree t is.stands.sound is.stands.is.there)).good in
-      kept-goes depot w f lease (clone ticket) is.broods is.log c is.stands (forked-keeps depot w f lease ticket is.broods is.log c is.stands)
+      kept-goes depot w f lease (clone ticket) is.start is.broods is.log c is.stands (forked-keeps depot w f lease ticket is.start is.broods is.log c is.stands)
       (record w { cells = cells })
       (same-stands depot w f cells lease.name t c d h is.stands.is (written-here w.cells cells lease.name d written some)
       (written-apart w.cells cells lease.name d written some) state listed
-      (Holds-same depot lease.name d (lent_out lease.now) (lent_out lease.start) is.broods is.log
-      (SameTickets-back (lent_out lease.start) (lent_out lease.now) good (lease-same lease.start lease.now lease.ran lent good)) held))
+      (Holds-same depot lease.name d (lent_out (now_of lease)) (lent_out is.start) is.broods is.log
+      (SameTickets-back (lent_out is.start) (lent_out (now_of lease)) good (lease-same is.start (now_of lease) lease.ran is.stands.has good)) held))
 
-  pub fork-called : (cells : BTreeMap Path Cell) (d : Cell) (list : List Waiting) (name given : Path) (vm after : Machine) → name ≡ lease.name → given ≡ lease.name
-      → vm ≡ lease.now → WritesThrough path_cmp (path_cmp lease.name) w.cells d cells
-      → list ≡ record { name = lease.name; children = Some (ticket, 1) } ∷ w.ready → d.is_listed ≡ c.is_listed → after ≡ after_fork vm
-      → ((t : Tree (Spot Machine)) → Holds depot given c t → StandsAt vm (clone ticket) t → HoldsAfter depot given d (forked_tree ticket t))
+  pub fork-called : (cells : BTreeMap Path Cell) (d : Cell) (list : List Waiting) (name given : Path) (vm after : Paged) → name ≡ lease.name → given ≡ lease.name
+      → vm ≡ now_of lease → WritesThrough path_cmp (path_cmp lease.name) w.cells d cells
+      → list ≡ record { name = lease.name; children = Some (ticket, 1) } ∷ w.ready → d.is_listed ≡ c.is_listed → after ≡ record vm { machine = after_fork vm.machine }
+      → ((t : Tree (Spot Paged)) → Holds depot given c t → StandsAt vm (clone ticket) t → HoldsAfter depot given d (forked_tree ticket t))
       → Called depot (record w { cells = cells; ready = list }) f lease forked name after
   fork-called cells d list name given vm after name_is given_is vm_is written ready listed made holds_after =
       let is = found-here depot w f lease (Clone ticket) c h out_as lent at found in
       let s = is.stands in
       let v : World = record w { cells = cells; ready = list } in
-      let u : Tree (Spot Machine) = node (lent_out lease.now) is.broods is.log in
+      let u : Tree (Spot Paged) = node (lent_out (now_of lease)) is.broods is.log in
       let some = some-is c (get path_cmp w.cells lease.name) found in
-      let after_as = subst (λ n. (t : Tree (Spot Machine)) → Holds depot n c t → StandsAt vm (clone ticket) t → HoldsAfter depot n d (forked_tree ticket t)) given_is holds_after in
-      let becomes = forked-spend depot w f lease ticket is.broods is.log c s in
+      let after_as = subst (λ n. (t : Tree (Spot Paged)) → Holds depot n c t → StandsAt vm (clone ticket) t → HoldsAfter depot n d (forked_tree ticket t)) given_is holds_after in
+      let becomes = forked-spend depot w f lease ticket is.start is.broods is.log c s in
       subst (λ n. Called depot v f lease forked n after) (sym name_is) (record {
         tree = forked_tree ticket u;
-        between = forked-between depot w f lease ticket is.broods is.log c s v d ready (written-here w.cells cells lease.name d written some)
+        between = forked-between depot w f lease ticket is.start is.broods is.log c s v d ready (written-here w.cells cells lease.name d written some)
             (written-apart w.cells cells lease.name d written some) refl refl listed
             (after_as u s.holds (subst (λ m. StandsAt m (clone ticket) u) (sym vm_is) s.at));
-        is = forked-machine depot w f lease ticket is.broods is.log c s ∙ ap after_fork (sym vm_is) ∙ sym made;
-        sound = spent-sound depot w f lease (clone ticket) is.broods is.log c s forked (placed home (settled_tree (forked_tree ticket u))) becomes;
-        goes = spent-goes depot w f lease (clone ticket) is.broods is.log c s forked (placed home (settled_tree (forked_tree ticket u))) becomes
-            (forked-may depot w f lease ticket is.broods is.log c s (waits forest u));
+        is = forked-machine depot w f lease ticket is.start is.broods is.log c s ∙ ap (λ (p : Paged). record p { machine = after_fork p.machine }) (sym vm_is) ∙ sym made;
+        sound = spent-sound depot w f lease (clone ticket) is.start is.broods is.log c s forked (placed home (settled_tree (forked_tree ticket u))) becomes;
+        goes = spent-goes depot w f lease (clone ticket) is.start is.broods is.log c s forked (placed home (settled_tree (forked_tree ticket u))) becomes
+            (forked-may depot w f lease ticket is.start is.broods is.log c s (waits forest u));
       })

@@ -19,17 +19,17 @@ use Rattle.forest_history.specs.Places.{Place, home, parked, Spot, placed, spots
 use Rattle.forest_history.specs.World.{is_asleep_at}
 use Rattle.forest_history.specs.Rows.{forked, joined, waited, spent, kept, is_join, is_clone, may_spend, spend}
 use Rattle.forest_history.proofs.Spots.{place-placed}
-use Rattle.forest_model.specs.Machine.{Machine}
 use Rattle.forest_model.specs.Calls.{after_join}
 use Rattle.forest_model.specs.Forest.{machines}
+use Rattle.forest_model.specs.Paged.{Paged, paged_machines}
 use Rattle.run_report.specs.NameOrder.{path_cmp}
-use Rattle.vm_cell.specs.Keyed.{KeyedMachine, IsOfDepot}
+use Rattle.vm_cell.specs.Keyed.{KeyedMachine, IsOfDepot, paged}
 use Rattle.vm_cell.specs.Standing.{standing_call}
 use Rattle.world_core.specs.declared.cell.Cell.{Cell}
 use Rattle.world_core.specs.declared.cell.State.TheVariants.{Parked}
 use Rattle.world_core.specs.declared.turns.Turn.{Turn}
 use Rattle.world_core.specs.declared.world.World.{World}
-use Rattle.world_core.specs.Lent.{Lent, IsLent, vm_of}
+use Rattle.world_core.specs.Lent.{Lent, IsLent, vm_of, now_of}
 use Rattle.world_core.specs.Waiting.{IsListed, IsCovered}
 use Rattle.world_core.specs.Turns.{turn_of, turns_from}
 use Rattle.world_core.specs.Shows.{forest, IsAwake, Holds, HoldsAfter, Shows, StandsAt, joined_tree}
@@ -43,7 +43,7 @@ use Rattle.world_core.proofs.AtPlaces.{holds-placed, lives-placed}
 
 -- ---- children that have all ended have no cells
 
-ended-child : (k : ℕ) (trees : Trees (Spot Machine)) (a : Tree (Spot Machine)) → have_ended forest trees ≡ true → child_at k trees ≡ Some a → has_ended forest a ≡ true
+ended-child : (k : ℕ) (trees : Trees (Spot Paged)) (a : Tree (Spot Paged)) → have_ended forest trees ≡ true → child_at k trees ≡ Some a → has_ended forest a ≡ true
 unfolding have_ended child_at
 ended-child k no_tree a all found = absurd (cc)
 ended-child zero (tree t rest) a all found = absurd (cc)
@@ -52,7 +52,7 @@ ended-child (suc zero) (tree t rest) a all found =
 ended-child (suc (suc k)) (tree t rest) a all found =
     ended-child (suc k) rest a (and_parts (has_ended forest t) (have_ended forest rest) all).1 found
 
-ended-shown : (depot : Shelves) (name : Path) (c : Option Cell) (u : Option (Tree (Spot Machine))) (a : Tree (Spot Machine)) → u ≡ Some a → has_ended forest a ≡ true
+ended-shown : (depot : Shelves) (name : Path) (c : Option Cell) (u : Option (Tree (Spot Paged))) (a : Tree (Spot Paged)) → u ≡ Some a → has_ended forest a ≡ true
     → Shows depot name c u → c ≡ None
 ended-shown depot name None u a is ended h = refl
 ended-shown depot name (Some c) None a is ended h = absurd h
@@ -60,94 +60,94 @@ ended-shown depot name (Some c) (Some t) a is ended h =
     let no : true ≡ false = sym ended ∙ ap (has_ended forest) (sym (some-same t a is)) ∙ h.awake.lives in absurd (cc)
 
 -- a tree below one that has ended
-ended-below : (a : Tree (Spot Machine)) (y : Branch) (rest : Path) → IsSound forest a → has_ended forest a ≡ true → subtree (y ∷ rest) a ≡ None
+ended-below : (a : Tree (Spot Paged)) (y : Branch) (rest : Path) → IsSound forest a → has_ended forest a ≡ true → subtree (y ∷ rest) a ≡ None
 unfolding subtree brood_of child_at
 ended-below (node s broods log) y rest sound ended =
     let none = (root-sound forest s broods log sound).ended ended in
-    ap (λ (b : Broods (Spot Machine)). option_and_then (subtree rest) (child_at y.child (brood_of y.ticket b))) none
+    ap (λ (b : Broods (Spot Paged)). option_and_then (subtree rest) (child_at y.child (brood_of y.ticket b))) none
 
 -- the names of the ticket's children, and below
-no-child-cell : (depot : Shelves) (name : Path) (c : Option Cell) (s : Spot Machine) (broods : Broods (Spot Machine)) (log : Log (Spot Machine)) (x : Branch) (rest : Path)
+no-child-cell : (depot : Shelves) (name : Path) (c : Option Cell) (s : Spot Paged) (broods : Broods (Spot Paged)) (log : Log (Spot Paged)) (x : Branch) (rest : Path)
     → IsSound forest (node s broods log) → have_ended forest (brood_of x.ticket broods) ≡ true
     → Shows depot name c (subtree (x ∷ rest) (node s broods log)) → c ≡ None
 unfolding subtree
 no-child-cell depot name c s broods log x rest sound all h = by (child_at x.child (brood_of x.ticket broods)) refl rest h
   where
-    by : (k : Option (Tree (Spot Machine))) → child_at x.child (brood_of x.ticket broods) ≡ k → (rest : Path) → Shows depot name c (option_and_then (subtree rest) k) → c ≡ None
+    by : (k : Option (Tree (Spot Paged))) → child_at x.child (brood_of x.ticket broods) ≡ k → (rest : Path) → Shows depot name c (option_and_then (subtree rest) k) → c ≡ None
     by None e rest h = none-shown depot name c None refl h
     by (Some a) e [] h = ended-shown depot name c (Some a) a refl (ended-child x.child (brood_of x.ticket broods) a all e) h
     by (Some a) e (y ∷ ys) h =
         none-shown depot name c (subtree (y ∷ ys) a)
         (ended-below a y ys (below-at forest s broods log x.ticket x.child a sound e) (ended-child x.child (brood_of x.ticket broods) a all e)) h
 
-waits-placed : (place : Place) (t : Tree (Spot Machine)) → waits forest (placed place t) ≡ waits forest t
+waits-placed : (place : Place) (t : Tree (Spot Paged)) → waits forest (placed place t) ≡ waits forest t
 unfolding spots
 waits-placed place (node s broods log) = refl
 
 -- ---- a machine that stands at a JOIN
 
-module _ (depot : Shelves) (w : World) (f : Forest) (lease : Lent) (ticket : ℕ) (broods : Broods (Spot Machine)) (log : Log (Spot Machine)) (c : Cell)
-    (h : StandsHere depot w f lease (join ticket) broods log c) where
-  makes-join : Makes forest (lent_out lease.now) (Some (join ticket))
+module _ (depot : Shelves) (w : World) (f : Forest) (lease : Lent) (ticket : ℕ) (start : Paged) (broods : Broods (Spot Paged)) (log : Log (Spot Paged)) (c : Cell)
+    (h : StandsHere depot w f lease (join ticket) start broods log c) where
+  makes-join : Makes forest (lent_out (now_of lease)) (Some (join ticket))
   unfolding spots
   makes-join = record {
-    good = (root-sound forest (lent_out lease.now) broods log h.at.sound).good;
-    lives = lives-out lease.now h.at.lives;
+    good = (root-sound forest (lent_out (now_of lease)) broods log h.at.sound).good;
+    lives = lives-out (now_of lease) h.at.lives;
     call = h.at.at_call;
   }
 
   -- whether it waits
-  join-waits : waits forest (node (lent_out lease.now) broods log) ≡ not (have_ended forest (brood_of ticket broods))
+  join-waits : waits forest (node (lent_out (now_of lease)) broods log) ≡ not (have_ended forest (brood_of ticket broods))
   join-waits = ap (λ next. waits_by forest next broods) makes-join.call
 
-  stands-join : (is : Bool) → may_spend machines joined lease.now is ≡ not is
-  unfolding machines
+  stands-join : (is : Bool) → may_spend paged_machines joined (now_of lease) is ≡ not is
+  unfolding paged_machines machines
   stands-join is = ap₂ (λ ending call. (not (is_some ending) && is_join call) && not is) h.at.lives h.at.at_call
 
-  waits-join : (is : Bool) → may_spend machines waited lease.now is ≡ is
-  unfolding machines
+  waits-join : (is : Bool) → may_spend paged_machines waited (now_of lease) is ≡ is
+  unfolding paged_machines machines
   waits-join is = ap₂ (λ ending call. (not (is_some ending) && is_join call) && is) h.at.lives h.at.at_call
 
-  forks-never : may_spend machines forked lease.now false ≡ false
-  unfolding machines
+  forks-never : may_spend paged_machines forked (now_of lease) false ≡ false
+  unfolding paged_machines machines
   forks-never = ap₂ (λ ending call. not (is_some ending) && is_clone call) h.at.lives h.at.at_call
 
   -- it need not wait
   module _ (all : have_ended forest (brood_of ticket broods) ≡ true) where
-    ready-now : waits forest (node (lent_out lease.now) broods log) ≡ false
+    ready-now : waits forest (node (lent_out (now_of lease)) broods log) ≡ false
     ready-now = join-waits ∙ ap not all
 
-    joined-may : may_spend machines joined lease.now (waits forest (node (lent_out lease.now) broods log)) ≡ true
-    joined-may = stands-join (waits forest (node (lent_out lease.now) broods log)) ∙ ap not ready-now
+    joined-may : may_spend paged_machines joined (now_of lease) (waits forest (node (lent_out (now_of lease)) broods log)) ≡ true
+    joined-may = stands-join (waits forest (node (lent_out (now_of lease)) broods log)) ∙ ap not ready-now
 
-    joined-keeps : may_spend machines forked lease.now false || may_spend machines joined lease.now (waits forest (node (lent_out lease.now) broods log)) ≡ true
+    joined-keeps : may_spend paged_machines forked (now_of lease) false || may_spend paged_machines joined (now_of lease) (waits forest (node (lent_out (now_of lease)) broods log)) ≡ true
     joined-keeps = ap₂ (λ a b. a || b) forks-never joined-may
 
-    joined-spend : spend machines joined (node (lent_out lease.now) broods log) ≡ placed home (settled_tree (joined_tree ticket (node (lent_out lease.now) broods log)))
-    joined-spend = ap (placed home) (step-join forest (lent_out lease.now) broods log ticket makes-join.lives makes-join.call ready-now)
+    joined-spend : spend paged_machines joined (node (lent_out (now_of lease)) broods log) ≡ placed home (settled_tree (joined_tree ticket (node (lent_out (now_of lease)) broods log)))
+    joined-spend = ap (placed home) (step-join forest (lent_out (now_of lease)) broods log ticket makes-join.lives makes-join.call ready-now)
 
-    joined-machine : (machine (joined_tree ticket (node (lent_out lease.now) broods log))).machine ≡ after_join lease.now (endings forest (brood_of ticket broods))
-    unfolding spots machines
+    joined-machine : (machine (joined_tree ticket (node (lent_out (now_of lease)) broods log))).machine ≡ record (now_of lease) { machine = after_join lease.now (endings forest (brood_of ticket broods)) }
+    unfolding spots paged_machines machines
     joined-machine = refl
 
     -- no child has a cell
     pub none-waits : (x : Branch) (rest : Path) → eqb ticket x.ticket ≡ true → get path_cmp w.cells (lease.name ++ x ∷ rest) ≡ None
     none-waits x rest same =
-        no-child-cell depot (lease.name ++ x ∷ rest) (get path_cmp w.cells (lease.name ++ x ∷ rest)) (lent_out lease.start) broods log x rest
-        (subtree-sound forest lease.name f.tree (node (lent_out lease.start) broods log) h.sound h.is.there)
+        no-child-cell depot (lease.name ++ x ∷ rest) (get path_cmp w.cells (lease.name ++ x ∷ rest)) (lent_out start) broods log x rest
+        (subtree-sound forest lease.name f.tree (node (lent_out start) broods log) h.sound h.is.there)
         (subst (λ t. have_ended forest (brood_of t broods) ≡ true) (eqb-true ticket x.ticket same) all)
         (subst (Shows depot (lease.name ++ x ∷ rest) (get path_cmp w.cells (lease.name ++ x ∷ rest)))
-        (below-name lease.name f.tree (node (lent_out lease.start) broods log) x rest h.is.there) (h.is.live.cells (lease.name ++ x ∷ rest)))
+        (below-name lease.name f.tree (node (lent_out start) broods log) x rest h.is.there) (h.is.live.cells (lease.name ++ x ∷ rest)))
 
     joined-between : (v : World) (d : Cell) → v.ready ≡ w.ready → v.halted ≡ w.halted → v.outcome ≡ w.outcome → get path_cmp v.cells lease.name ≡ Some d
         → ((q : Path) → lease.name ≢ q → get path_cmp v.cells q ≡ get path_cmp w.cells q) → d.is_listed ≡ c.is_listed
-        → HoldsAfter depot lease.name d (joined_tree ticket (node (lent_out lease.now) broods log))
-        → IsBetween depot v f lease.name (joined_tree ticket (node (lent_out lease.now) broods log))
+        → HoldsAfter depot lease.name d (joined_tree ticket (node (lent_out (now_of lease)) broods log))
+        → IsBetween depot v f lease.name (joined_tree ticket (node (lent_out (now_of lease)) broods log))
     joined-between v d ready halted outcome found others same after_it =
-        let s = lent_out lease.now in
+        let s = lent_out (now_of lease) in
         let trees = brood_of ticket broods in
         let n = forest.after_join s (endings forest trees) in
-        gone-between depot w v f lease.name ticket (lent_out lease.start) n broods log (over log ticket trees) c d h.is ready found
+        gone-between depot w v f lease.name ticket (lent_out start) n broods log (over log ticket trees) c d h.is ready found
         (λ q none. others q (apart-outside lease.name q none))
         (λ x rest. others (lease.name ++ x ∷ rest) (apart-below lease.name x rest) ∙ by (eqb ticket x.ticket) (get path_cmp w.cells (lease.name ++ x ∷ rest)) (none-waits x rest)) h.sound
         (whole-gone ticket s n broods log (over log ticket trees) h.at.sound makes-join.lives (join-step forest forest-rules ticket s broods log all makes-join h.at.sound))
@@ -161,22 +161,22 @@ module _ (depot : Shelves) (w : World) (f : Forest) (lease : Lent) (ticket : ℕ
   parked-stands : (v : World) (d : Cell) (vm : Box KeyedMachine Global) (turn : Box Turn Global) → have_ended forest (brood_of ticket broods) ≡ false → v.ready ≡ w.ready
       → v.halted ≡ w.halted → v.outcome ≡ w.outcome → get path_cmp v.cells lease.name ≡ Some d
       → ((q : Path) → lease.name ≢ q → get path_cmp v.cells q ≡ get path_cmp w.cells q)
-      → d ≡ record c { state = Parked ticket vm turn } → vm.value.machine ≡ lease.now → IsOfDepot depot vm.value.key → turns_from turn.value ≡ turn_of turn.value ∷ []
+      → d ≡ record c { state = Parked ticket vm turn } → paged vm.value ≡ now_of lease → IsOfDepot depot vm.value.key → turns_from turn.value ≡ turn_of turn.value ∷ []
       → turn_of turn.value ≡ record { name = lease.name; children = None }
       → Goes depot f (spent waited lease.name lease.ran) v
   parked-stands v d vm turn lives ready halted outcome found others same now of_depot alone named =
-      let u : Tree (Spot Machine) = node (lent_out lease.now) broods log in
+      let u : Tree (Spot Paged) = node (lent_out (now_of lease)) broods log in
       let waiting : waits forest u ≡ true = join-waits ∙ ap not lives in
       let waiting_there : waits forest (placed parked u) ≡ true = waits-placed parked u ∙ waiting in
       let after : IsAwake (placed parked u) = record {
         lives = lives-placed parked u ∙ ap is_some makes-join.lives;
         awake = ap is_asleep_at (place-placed parked u);
       } in
-      let sound = spent-sound depot w f lease (join ticket) broods log c h waited (placed parked u) refl in
+      let sound = spent-sound depot w f lease (join ticket) start broods log c h waited (placed parked u) refl in
       let kept_turn = λ (yes : c.is_listed ≡ true). subst (IsListed lease.name) (sym ready)
       (subst (λ o. IfSome o (λ (cell : Cell). cell.is_listed ≡ true → IsListed lease.name w.ready)) h.is.cell (h.is.live.listed lease.name) yes) in
-      spent-goes depot w f lease (join ticket) broods log c h waited (placed parked u) refl (waits-join (waits forest u) ∙ waiting) v
-      (between-stands depot w v f lease.name u (placed parked u) (still-between depot w f lease (join ticket) broods log c h) others
+      spent-goes depot w f lease (join ticket) start broods log c h waited (placed parked u) refl (waits-join (waits forest u) ∙ waiting) v
+      (between-stands depot w v f lease.name u (placed parked u) (still-between depot w f lease (join ticket) start broods log c h) others
       (λ q is. subst (IsListed q) (sym ready) is) (λ q is. subst (IsCovered q) (sym ready) is) (below-placed parked u) sound after halted outcome
       (subst (λ o. Shows depot lease.name o (Some (placed parked u))) (sym (found ∙ ap Some same)) (record {
         awake = after;
@@ -196,67 +196,67 @@ module _ (depot : Shelves) (w : World) (f : Forest) (lease : Lent) (ticket : ℕ
 module _ (depot : Shelves) (w : World) (f : Forest) (lease : Lent) (ticket : ℕ) (c : Cell) (h : StandsFor depot w f) (out_as : IsHandedOut f lease)
     (lent : IsLent lease.start lease.ran lease.now) (at : Some (Join ticket) ≡ standing_call (vm_of lease)) (found : Some c ≡ get path_cmp w.cells lease.name) where
   pub join-parked : (cells : BTreeMap Path Cell) (vm : Box KeyedMachine Global) (turn : Box Turn Global)
-      → ((depot : Shelves) (path : Path) (t : Tree (Spot Machine)) → Holds depot path c t → true ≡ not (have_ended forest (brood_of ticket (broods_of t))))
+      → ((depot : Shelves) (path : Path) (t : Tree (Spot Paged)) → Holds depot path c t → true ≡ not (have_ended forest (brood_of ticket (broods_of t))))
       → WritesThrough path_cmp (path_cmp lease.name) w.cells (record c { state = Parked ticket vm turn }) cells
-      → vm.value.machine ≡ lease.now → IsOfDepot depot vm.value.key → turns_from turn.value ≡ turn_of turn.value ∷ [] → (turn_of turn.value).children ≡ None → (turn_of turn.value).name ≡ lease.name
+      → paged vm.value ≡ now_of lease → IsOfDepot depot vm.value.key → turns_from turn.value ≡ turn_of turn.value ∷ [] → (turn_of turn.value).children ≡ None → (turn_of turn.value).name ≡ lease.name
       → Goes depot f (spent waited lease.name lease.ran) (record w { cells = cells })
   join-parked cells vm turn waiting written now of_depot alone one name_is =
       let is = found-here depot w f lease (Join ticket) c h out_as lent at found in
-      let u : Tree (Spot Machine) = node (lent_out lease.now) is.broods is.log in
+      let u : Tree (Spot Paged) = node (lent_out (now_of lease)) is.broods is.log in
       let d : Cell = record c { state = Parked ticket vm turn } in
       let some = some-is c (get path_cmp w.cells lease.name) found in
-      parked-stands depot w f lease ticket is.broods is.log c is.stands (record w { cells = cells }) d vm turn
+      parked-stands depot w f lease ticket is.start is.broods is.log c is.stands (record w { cells = cells }) d vm turn
       (not-true (have_ended forest (brood_of ticket is.broods)) (sym (waiting depot lease.name u is.stands.holds))) refl refl refl
       (written-here w.cells cells lease.name d written some) (written-apart w.cells cells lease.name d written some) refl now of_depot alone
       (ap₂ (λ (name : Path) children. record { name = name; children = children }) name_is one)
 
-  module _ (ready : (depot : Shelves) (path : Path) (t : Tree (Spot Machine)) → Holds depot path c t → false ≡ not (have_ended forest (brood_of ticket (broods_of t)))) where
-    all-ended : (t : Tree (Spot Machine)) → Holds depot lease.name c t → have_ended forest (brood_of ticket (broods_of t)) ≡ true
+  module _ (ready : (depot : Shelves) (path : Path) (t : Tree (Spot Paged)) → Holds depot path c t → false ≡ not (have_ended forest (brood_of ticket (broods_of t)))) where
+    all-ended : (t : Tree (Spot Paged)) → Holds depot lease.name c t → have_ended forest (brood_of ticket (broods_of t)) ≡ true
     all-ended t holds = not-false (have_ended forest (brood_of ticket (broods_of t))) (sym (ready depot lease.name t holds))
 
-    pub join-asked : (vm : Machine) → vm ≡ lease.now
-        → (depot : Shelves) × (path : Path) × (t : Tree (Spot Machine)) × Holds depot path c t × StandsAt vm (join ticket) t
+    pub join-asked : (vm : Paged) → vm ≡ now_of lease
+        → (depot : Shelves) × (path : Path) × (t : Tree (Spot Paged)) × Holds depot path c t × StandsAt vm (join ticket) t
         × (have_ended forest (brood_of ticket (broods_of t)) ≡ true)
     join-asked vm vm_is =
         let is = found-here depot w f lease (Join ticket) c h out_as lent at found in
-        let u : Tree (Spot Machine) = node (lent_out lease.now) is.broods is.log in
+        let u : Tree (Spot Paged) = node (lent_out (now_of lease)) is.broods is.log in
         (depot, lease.name, u, is.stands.holds, subst (λ m. StandsAt m (join ticket) u) (sym vm_is) is.stands.at, all-ended u is.stands.holds)
 
     pub join-kept : (cells : BTreeMap Path Cell) (d : Cell) → WritesThrough path_cmp (path_cmp lease.name) w.cells d cells → d.state ≡ c.state → d.is_listed ≡ c.is_listed
-        → ((t : Tree (Spot Machine)) (depot : Shelves) (path : Path) → Holds depot path c t → Holds depot path d t)
+        → ((t : Tree (Spot Paged)) (depot : Shelves) (path : Path) → Holds depot path c t → Holds depot path d t)
         → Goes depot f (kept lease.name lease.ran) (record w { cells = cells })
     join-kept cells d written state listed still =
         let is = found-here depot w f lease (Join ticket) c h out_as lent at found in
         let some = some-is c (get path_cmp w.cells lease.name) found in
-        let u : Tree (Spot Machine) = node (lent_out lease.now) is.broods is.log in
-        let t : Tree (Spot Machine) = node (lent_out lease.start) is.broods is.log in
-        kept-goes depot w f lease (join ticket) is.broods is.log c is.stands
-        (joined-keeps depot w f lease ticket is.broods is.log c is.stands (all-ended u is.stands.holds)) (record w { cells = cells })
+        let u : Tree (Spot Paged) = node (lent_out (now_of lease)) is.broods is.log in
+        let t : Tree (Spot Paged) = node (lent_out is.start) is.broods is.log in
+        kept-goes depot w f lease (join ticket) is.start is.broods is.log c is.stands
+        (joined-keeps depot w f lease ticket is.start is.broods is.log c is.stands (all-ended u is.stands.holds)) (record w { cells = cells })
         (same-stands depot w f cells lease.name t c d h is.stands.is (written-here w.cells cells lease.name d written some)
         (written-apart w.cells cells lease.name d written some) state listed (still t depot lease.name is.stands.is.shows.holds))
 
-    pub join-called : (cells : BTreeMap Path Cell) (d : Cell) (name : Path) (vm after : Machine) → name ≡ lease.name → vm ≡ lease.now
+    pub join-called : (cells : BTreeMap Path Cell) (d : Cell) (name : Path) (vm after : Paged) → name ≡ lease.name → vm ≡ now_of lease
         → WritesThrough path_cmp (path_cmp lease.name) w.cells d cells → d.is_listed ≡ c.is_listed
-        → ((t : Tree (Spot Machine)) (depot : Shelves) (path : Path) → Holds depot path c t → StandsAt vm (join ticket) t
+        → ((t : Tree (Spot Paged)) (depot : Shelves) (path : Path) → Holds depot path c t → StandsAt vm (join ticket) t
         → have_ended forest (brood_of ticket (broods_of t)) ≡ true
-        → (after ≡ after_join vm (endings forest (brood_of ticket (broods_of t)))) × HoldsAfter depot path d (joined_tree ticket t))
+        → (after ≡ record vm { machine = after_join vm.machine (endings forest (brood_of ticket (broods_of t))) }) × HoldsAfter depot path d (joined_tree ticket t))
         → Called depot (record w { cells = cells }) f lease joined name after
     join-called cells d name vm after name_is vm_is written listed made =
         let is = found-here depot w f lease (Join ticket) c h out_as lent at found in
         let s = is.stands in
         let v : World = record w { cells = cells } in
-        let u : Tree (Spot Machine) = node (lent_out lease.now) is.broods is.log in
+        let u : Tree (Spot Paged) = node (lent_out (now_of lease)) is.broods is.log in
         let some = some-is c (get path_cmp w.cells lease.name) found in
         let all = all-ended u s.holds in
         let does = made u depot lease.name s.holds (subst (λ m. StandsAt m (join ticket) u) (sym vm_is) s.at) all in
-        let becomes = joined-spend depot w f lease ticket is.broods is.log c s all in
+        let becomes = joined-spend depot w f lease ticket is.start is.broods is.log c s all in
         subst (λ n. Called depot v f lease joined n after) (sym name_is) (record {
           tree = joined_tree ticket u;
-          between = joined-between depot w f lease ticket is.broods is.log c s all v d refl refl refl (written-here w.cells cells lease.name d written some)
+          between = joined-between depot w f lease ticket is.start is.broods is.log c s all v d refl refl refl (written-here w.cells cells lease.name d written some)
               (written-apart w.cells cells lease.name d written some) listed does.1;
-          is = joined-machine depot w f lease ticket is.broods is.log c s all
-              ∙ ap (λ (m : Machine). after_join m (endings forest (brood_of ticket is.broods))) (sym vm_is) ∙ sym does.0;
-          sound = spent-sound depot w f lease (join ticket) is.broods is.log c s joined (placed home (settled_tree (joined_tree ticket u))) becomes;
-          goes = spent-goes depot w f lease (join ticket) is.broods is.log c s joined (placed home (settled_tree (joined_tree ticket u))) becomes
-              (joined-may depot w f lease ticket is.broods is.log c s all);
+          is = joined-machine depot w f lease ticket is.start is.broods is.log c s all
+              ∙ ap (λ (p : Paged). record p { machine = after_join p.machine (endings forest (brood_of ticket is.broods)) }) (sym vm_is) ∙ sym does.0;
+          sound = spent-sound depot w f lease (join ticket) is.start is.broods is.log c s joined (placed home (settled_tree (joined_tree ticket u))) becomes;
+          goes = spent-goes depot w f lease (join ticket) is.start is.broods is.log c s joined (placed home (settled_tree (joined_tree ticket u))) becomes
+              (joined-may depot w f lease ticket is.start is.broods is.log c s all);
         })

@@ -16,16 +16,16 @@ use Rattle.forest_tree.proofs.Settle.{root-sound}
 use Rattle.forest_tree.proofs.Broods.{eqb-sym}
 use Rattle.forest_history.specs.Places.{home, Spot, placed, spots}
 use Rattle.forest_history.specs.Rows.{killed, is_kill, may_spend, spend}
-use Rattle.forest_model.specs.Machine.{Machine}
 use Rattle.forest_model.specs.Calls.{after_kill}
 use Rattle.forest_model.specs.Forest.{machines}
+use Rattle.forest_model.specs.Paged.{Paged, paged_machines}
 use Rattle.run_report.specs.Name.{begins_with}
 use Rattle.run_report.specs.NameOrder.{path_cmp}
 use Rattle.run_report.proofs.NameMaps.{yes-same}
 use Rattle.vm_cell.specs.Standing.{standing_call}
 use Rattle.world_core.specs.declared.cell.Cell.{Cell}
 use Rattle.world_core.specs.declared.world.World.{World}
-use Rattle.world_core.specs.Lent.{Lent, IsLent, vm_of}
+use Rattle.world_core.specs.Lent.{Lent, IsLent, vm_of, now_of}
 use Rattle.world_core.specs.Shows.{forest, Holds, HoldsAfter, StandsAt, killed_tree}
 use Rattle.world_core.specs.World.{Forest, StandsFor}
 use Rattle.world_core.specs.Between.{IsBetween, settled_tree}
@@ -65,65 +65,65 @@ module _ (before cells swept : BTreeMap Path Cell) (name : Path) (ticket : ℕ) 
       looked (name ++ x ∷ rest) (Some (x ∷ rest)) (beyond-append name (x ∷ rest))
       ∙ ap₂ (λ same (o : Option Cell). cond same None o) (eqb-sym x.ticket ticket) (others (name ++ x ∷ rest) (apart-below name x rest))
 
-module _ (depot : Shelves) (w v : World) (f : Forest) (lease : Lent) (ticket : ℕ) (broods : Broods (Spot Machine)) (log : Log (Spot Machine)) (c d : Cell)
-    (h : StandsHere depot w f lease (kill ticket) broods log c) where
-  makes-kill : Makes forest (lent_out lease.now) (Some (kill ticket))
+module _ (depot : Shelves) (w v : World) (f : Forest) (lease : Lent) (ticket : ℕ) (start : Paged) (broods : Broods (Spot Paged)) (log : Log (Spot Paged)) (c d : Cell)
+    (h : StandsHere depot w f lease (kill ticket) start broods log c) where
+  makes-kill : Makes forest (lent_out (now_of lease)) (Some (kill ticket))
   unfolding spots
   makes-kill = record {
-    good = (root-sound forest (lent_out lease.now) broods log h.at.sound).good;
-    lives = lives-out lease.now h.at.lives;
+    good = (root-sound forest (lent_out (now_of lease)) broods log h.at.sound).good;
+    lives = lives-out (now_of lease) h.at.lives;
     call = h.at.at_call;
   }
 
   pub killed-between : v.ready ≡ w.ready → v.halted ≡ w.halted → v.outcome ≡ w.outcome → get path_cmp v.cells lease.name ≡ Some d → d.is_listed ≡ c.is_listed
       → ((q : Path) → beyond lease.name q ≡ None → get path_cmp v.cells q ≡ get path_cmp w.cells q)
       → ((x : Branch) (rest : Path) → get path_cmp v.cells (lease.name ++ x ∷ rest) ≡ cond (eqb ticket x.ticket) None (get path_cmp w.cells (lease.name ++ x ∷ rest)))
-      → HoldsAfter depot lease.name d (killed_tree ticket (node (lent_out lease.now) broods log))
-      → IsBetween depot v f lease.name (killed_tree ticket (node (lent_out lease.now) broods log))
+      → HoldsAfter depot lease.name d (killed_tree ticket (node (lent_out (now_of lease)) broods log))
+      → IsBetween depot v f lease.name (killed_tree ticket (node (lent_out (now_of lease)) broods log))
   killed-between ready halted outcome found same elsewhere swept after_it =
-      let s = lent_out lease.now in
+      let s = lent_out (now_of lease) in
       let count : ℕ = (forest.grant s ticket).children in
-      gone-between depot w v f lease.name ticket (lent_out lease.start) (forest.after_kill s) broods log (dead log ticket count) c d h.is ready found elsewhere swept h.sound
-      (whole-gone ticket s (forest.after_kill s) broods log (dead log ticket count) h.at.sound (lives-out lease.now h.at.lives) (forest-rules.after_kill s ticket makes-kill))
+      gone-between depot w v f lease.name ticket (lent_out start) (forest.after_kill s) broods log (dead log ticket count) c d h.is ready found elsewhere swept h.sound
+      (whole-gone ticket s (forest.after_kill s) broods log (dead log ticket count) h.at.sound (lives-out (now_of lease) h.at.lives) (forest-rules.after_kill s ticket makes-kill))
       after_it same (halted ∙ h.halted) outcome
 
-  pub killed-spend : spend machines killed (node (lent_out lease.now) broods log) ≡ placed home (settled_tree (killed_tree ticket (node (lent_out lease.now) broods log)))
+  pub killed-spend : spend paged_machines killed (node (lent_out (now_of lease)) broods log) ≡ placed home (settled_tree (killed_tree ticket (node (lent_out (now_of lease)) broods log)))
   unfolding spots
   killed-spend =
-      ap (placed home) (step-lives forest (lent_out lease.now) broods log (Some (kill ticket)) (lives-out lease.now h.at.lives) h.at.at_call)
+      ap (placed home) (step-lives forest (lent_out (now_of lease)) broods log (Some (kill ticket)) (lives-out (now_of lease) h.at.lives) h.at.at_call)
 
-  pub killed-may : (waiting : Bool) → may_spend machines killed lease.now waiting ≡ true
-  unfolding machines
+  pub killed-may : (waiting : Bool) → may_spend paged_machines killed (now_of lease) waiting ≡ true
+  unfolding paged_machines machines
   killed-may waiting = ap₂ (λ ending call. not (is_some ending) && is_kill call) h.at.lives h.at.at_call
 
-  pub killed-machine : (machine (killed_tree ticket (node (lent_out lease.now) broods log))).machine ≡ after_kill lease.now
-  unfolding spots machines
+  pub killed-machine : (machine (killed_tree ticket (node (lent_out (now_of lease)) broods log))).machine ≡ record (now_of lease) { machine = after_kill lease.now }
+  unfolding spots paged_machines machines
   killed-machine = refl
 
-pub kill-called : (depot : Shelves) (w : World) (f : Forest) (lease : Lent) (ticket : ℕ) (c d : Cell) (cells swept : BTreeMap Path Cell) (name sweep : Path) (vm after : Machine)
+pub kill-called : (depot : Shelves) (w : World) (f : Forest) (lease : Lent) (ticket : ℕ) (c d : Cell) (cells swept : BTreeMap Path Cell) (name sweep : Path) (vm after : Paged)
     → StandsFor depot w f → IsHandedOut f lease → IsLent lease.start lease.ran lease.now → Some (Kill ticket) ≡ standing_call (vm_of lease)
-    → Some c ≡ get path_cmp w.cells lease.name → name ≡ lease.name → sweep ≡ lease.name → vm ≡ lease.now → WritesThrough path_cmp (path_cmp lease.name) w.cells d cells
+    → Some c ≡ get path_cmp w.cells lease.name → name ≡ lease.name → sweep ≡ lease.name → vm ≡ now_of lease → WritesThrough path_cmp (path_cmp lease.name) w.cells d cells
     → ((q : Path) → get path_cmp swept q ≡ cond (begins_with ticket (beyond sweep q)) None (get path_cmp cells q)) → d.is_listed ≡ c.is_listed
-    → ((t : Tree (Spot Machine)) (depot : Shelves) (path : Path) → Holds depot path c t → StandsAt vm (kill ticket) t → HoldsAfter depot path d (killed_tree ticket t))
-    → after ≡ after_kill vm → Called depot (record w { cells = swept }) f lease killed name after
+    → ((t : Tree (Spot Paged)) (depot : Shelves) (path : Path) → Holds depot path c t → StandsAt vm (kill ticket) t → HoldsAfter depot path d (killed_tree ticket t))
+    → after ≡ record vm { machine = after_kill vm.machine } → Called depot (record w { cells = swept }) f lease killed name after
 kill-called depot w f lease ticket c d cells swept name sweep vm after h out_as lent at found name_is sweep_is vm_is written kept listed holds_after made =
     let here_is = found-here depot w f lease (Kill ticket) c h out_as lent at found in
     let s = here_is.stands in
     let v : World = record w { cells = swept } in
-    let u : Tree (Spot Machine) = node (lent_out lease.now) here_is.broods here_is.log in
+    let u : Tree (Spot Paged) = node (lent_out (now_of lease)) here_is.broods here_is.log in
     let some = some-is c (get path_cmp w.cells lease.name) found in
     let put = written-here w.cells cells lease.name d written some in
     let others = written-apart w.cells cells lease.name d written some in
     let kept_as = subst (λ n. (q : Path) → get path_cmp swept q ≡ cond (begins_with ticket (beyond n q)) None (get path_cmp cells q)) sweep_is kept in
     let after_it = holds_after u depot lease.name s.holds (subst (λ m. StandsAt m (kill ticket) u) (sym vm_is) s.at) in
-    let becomes = killed-spend depot w v f lease ticket here_is.broods here_is.log c d s in
+    let becomes = killed-spend depot w v f lease ticket here_is.start here_is.broods here_is.log c d s in
     subst (λ n. Called depot v f lease killed n after) (sym name_is) (record {
       tree = killed_tree ticket u;
-      between = killed-between depot w v f lease ticket here_is.broods here_is.log c d s refl refl refl
+      between = killed-between depot w v f lease ticket here_is.start here_is.broods here_is.log c d s refl refl refl
           (sweep-here w.cells cells swept lease.name ticket d put others kept_as) listed
           (sweep-outside w.cells cells swept lease.name ticket d put others kept_as) (sweep-below w.cells cells swept lease.name ticket d put others kept_as) after_it;
-      is = killed-machine depot w v f lease ticket here_is.broods here_is.log c d s ∙ ap after_kill (sym vm_is) ∙ sym made;
-      sound = spent-sound depot w f lease (kill ticket) here_is.broods here_is.log c s killed (placed home (settled_tree (killed_tree ticket u))) becomes;
-      goes = spent-goes depot w f lease (kill ticket) here_is.broods here_is.log c s killed (placed home (settled_tree (killed_tree ticket u))) becomes
-          (killed-may depot w v f lease ticket here_is.broods here_is.log c d s (waits forest u));
+      is = killed-machine depot w v f lease ticket here_is.start here_is.broods here_is.log c d s ∙ ap (λ (p : Paged). record p { machine = after_kill p.machine }) (sym vm_is) ∙ sym made;
+      sound = spent-sound depot w f lease (kill ticket) here_is.start here_is.broods here_is.log c s killed (placed home (settled_tree (killed_tree ticket u))) becomes;
+      goes = spent-goes depot w f lease (kill ticket) here_is.start here_is.broods here_is.log c s killed (placed home (settled_tree (killed_tree ticket u))) becomes
+          (killed-may depot w v f lease ticket here_is.start here_is.broods here_is.log c d s (waits forest u));
     })

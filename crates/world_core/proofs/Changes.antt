@@ -14,8 +14,8 @@ use Rattle.forest_history.specs.World.{is_asleep_at}
 use Rattle.forest_history.specs.Children.{life, living}
 use Rattle.forest_history.proofs.Changes.{at_path-within, at_path-here, at_path-elsewhere}
 use Rattle.forest_history.proofs.Lives.{one-child, no-child, waits-deep, waits-child}
-use Rattle.forest_model.specs.Machine.{Machine}
 use Rattle.forest_model.specs.Forest.{machines}
+use Rattle.forest_model.specs.Paged.{Paged, paged_machines}
 use Rattle.image_depot.specs.Key.{Shelves, Key}
 use Rattle.vm_descriptor.specs.declared.descriptor.Descriptor.{Descriptor}
 use Rattle.vm_descriptor.specs.Descriptor.{numbered}
@@ -74,12 +74,12 @@ lies name n = lies-by name n (beyond name n) refl
 -- ---- what a cell shows, where a tree below is changed
 
 -- the child is changed, and its slot still shows it
-pub record KeepsSlot (g : Tree (Spot Machine) → Tree (Spot Machine)) (a : Tree (Spot Machine)) : Type 0 where
+pub record KeepsSlot (g : Tree (Spot Paged) → Tree (Spot Paged)) (a : Tree (Spot Paged)) : Type 0 where
   pub slot : (path : Path) (key : Key) (seed : Descriptor) (slot : Slot) → SlotShows path key seed slot a → SlotShows path key seed slot (g a)
   pub ended : has_ended forest (g a) ≡ has_ended forest a
 
 -- a change that is deeper
-pub keeps-deep : (f : Tree (Spot Machine) → Tree (Spot Machine)) (y : Branch) (rest : Path) (a : Tree (Spot Machine)) → KeepsSlot (at_path f (y ∷ rest)) a
+pub keeps-deep : (f : Tree (Spot Paged) → Tree (Spot Paged)) (y : Branch) (rest : Path) (a : Tree (Spot Paged)) → KeepsSlot (at_path f (y ∷ rest)) a
 unfolding at_path at_brood lines
 keeps-deep f y rest (node s broods log) = record { slot = by; ended = refl }
   where
@@ -94,8 +94,8 @@ keeps-deep f y rest (node s broods log) = record { slot = by; ended = refl }
     by path key seed (Ended outcome) h = h
 
 -- a change of a child that is awake before and after
-pub keeps-awake : (f : Tree (Spot Machine) → Tree (Spot Machine)) (a : Tree (Spot Machine)) → IsAwake a → IsAwake (f a) → KeepsSlot f a
-unfolding spots machines
+pub keeps-awake : (f : Tree (Spot Paged) → Tree (Spot Paged)) (a : Tree (Spot Paged)) → IsAwake a → IsAwake (f a) → KeepsSlot f a
+unfolding spots paged_machines machines
 keeps-awake f a before after = record { slot = by; ended = after.lives ∙ sym before.lives }
   where
     never : (ending : Ending) → told_spot.ending (machine a) ≡ Some ending → ⊥
@@ -103,16 +103,16 @@ keeps-awake f a before after = record { slot = by; ended = after.lives ∙ sym b
 
     by : (path : Path) (key : Key) (seed : Descriptor) (slot : Slot) → SlotShows path key seed slot a → SlotShows path key seed slot (f a)
     by path key seed Asleep h =
-        let no : true ≡ false = sym (ap (λ (t : Tree (Spot Machine)). is_asleep_at (machine t).place) h.born) ∙ before.awake in absurd (cc)
+        let no : true ≡ false = sym (ap (λ (t : Tree (Spot Paged)). is_asleep_at (machine t).place) h.born) ∙ before.awake in absurd (cc)
     by path key seed Awake h = after
     by path key seed (Ended outcome) h = absurd (never outcome.ending h.0)
 
 -- slots and broods
-module _ (g : Tree (Spot Machine) → Tree (Spot Machine)) where
-  abbrev KeepsAt : ℕ → Trees (Spot Machine) → Type 0
-  KeepsAt k trees = (a : Tree (Spot Machine)) → child_at k trees ≡ Some a → KeepsSlot g a
+module _ (g : Tree (Spot Paged) → Tree (Spot Paged)) where
+  abbrev KeepsAt : ℕ → Trees (Spot Paged) → Type 0
+  KeepsAt k trees = (a : Tree (Spot Paged)) → child_at k trees ≡ Some a → KeepsSlot g a
 
-  slots-kept : (path : Path) (ticket : ℕ) (key : Key) (j k : ℕ) (seed : Descriptor) (slots : List Slot) (trees : Trees (Spot Machine))
+  slots-kept : (path : Path) (ticket : ℕ) (key : Key) (j k : ℕ) (seed : Descriptor) (slots : List Slot) (trees : Trees (Spot Paged))
       → KeepsAt k trees → SlotsShow path ticket key j seed slots trees → SlotsShow path ticket key j seed slots (at_child g k trees)
   unfolding SlotsShow at_child child_at
   slots-kept path ticket key j k seed [] no_tree keeps h = tt
@@ -124,7 +124,7 @@ module _ (g : Tree (Spot Machine) → Tree (Spot Machine)) where
   slots-kept path ticket key j (suc (suc k)) seed (slot ∷ slots) (tree t rest) keeps h =
       (h.0, slots-kept path ticket key (suc j) (suc k) seed slots rest keeps h.1)
 
-  living-by : (k : ℕ) (trees : Trees (Spot Machine)) (c : Option (Tree (Spot Machine))) → child_at k trees ≡ c → KeepsAt k trees
+  living-by : (k : ℕ) (trees : Trees (Spot Paged)) (c : Option (Tree (Spot Paged))) → child_at k trees ≡ c → KeepsAt k trees
       → living forest (at_child g k trees) ≡ living forest trees
   living-by k trees None e keeps = ap (living forest) (no-child forest g k trees e)
   living-by k trees (Some a) e keeps =
@@ -132,13 +132,13 @@ module _ (g : Tree (Spot Machine) → Tree (Spot Machine)) where
       let counts = one-child forest g k trees a e in
       omega (arith, same, counts)
 
-  born-kept : (depot : Shelves) (path : Path) (ticket k : ℕ) (young : Option Young) (slots : List Slot) (trees : Trees (Spot Machine)) → KeepsAt k trees
+  born-kept : (depot : Shelves) (path : Path) (ticket k : ℕ) (young : Option Young) (slots : List Slot) (trees : Trees (Spot Paged)) → KeepsAt k trees
       → BornShows depot path ticket young slots trees → BornShows depot path ticket young slots (at_child g k trees)
   born-kept depot path ticket k None slots trees keeps h = absurd h
   born-kept depot path ticket k (Some young) slots trees keeps h =
       (h.0, slots-kept path ticket young.key 1 k young.seed slots trees keeps h.1)
 
-  brood-kept : (depot : Shelves) (path : Path) (ticket k : ℕ) (b : Option Brood) (is : Bool) (trees : Trees (Spot Machine)) → KeepsAt k trees
+  brood-kept : (depot : Shelves) (path : Path) (ticket k : ℕ) (b : Option Brood) (is : Bool) (trees : Trees (Spot Paged)) → KeepsAt k trees
       → BroodAt depot path ticket b is trees → BroodAt depot path ticket b is (at_child g k trees)
   unfolding at_child
   brood-kept depot path ticket k None false trees keeps h = ap (at_child g k) h
@@ -149,7 +149,7 @@ module _ (g : Tree (Spot Machine) → Tree (Spot Machine)) where
     born = born-kept depot path ticket k b.young b.slots.items trees keeps h.born;
   }
 
-  brood-by : (depot : Shelves) (path : Path) (x : Branch) (ticket : ℕ) (b : Option Brood) (is : Bool) (broods : Broods (Spot Machine)) (same : Bool)
+  brood-by : (depot : Shelves) (path : Path) (x : Branch) (ticket : ℕ) (b : Option Brood) (is : Bool) (broods : Broods (Spot Paged)) (same : Bool)
       → eqb x.ticket ticket ≡ same → KeepsAt x.child (brood_of x.ticket broods) → BroodAt depot path ticket b is (brood_of ticket broods)
       → BroodAt depot path ticket b is (cond same (at_child g x.child (brood_of ticket broods)) (brood_of ticket broods))
   brood-by depot path x ticket b is broods false e keeps h = h
@@ -157,7 +157,7 @@ module _ (g : Tree (Spot Machine) → Tree (Spot Machine)) where
       brood-kept depot path ticket x.child b is (brood_of ticket broods)
       (subst (λ u. KeepsAt x.child (brood_of u broods)) (eqb-true x.ticket ticket e) keeps) h
 
-  pub holds-kept : (depot : Shelves) (path : Path) (c : Cell) (x : Branch) (s : Spot Machine) (broods : Broods (Spot Machine)) (log : Log (Spot Machine))
+  pub holds-kept : (depot : Shelves) (path : Path) (c : Cell) (x : Branch) (s : Spot Paged) (broods : Broods (Spot Paged)) (log : Log (Spot Paged))
       → KeepsAt x.child (brood_of x.ticket broods) → Holds depot path c (node s broods log)
       → Holds depot path c (node s (at_brood (at_child g x.child) x.ticket broods) log)
   holds-kept depot path c x s broods log keeps h = record {
@@ -169,19 +169,19 @@ module _ (g : Tree (Spot Machine) → Tree (Spot Machine)) where
   }
 
 -- the tree of the child at a fork
-abbrev pub child_by : Branch → Tree (Spot Machine) → Option (Tree (Spot Machine))
+abbrev pub child_by : Branch → Tree (Spot Paged) → Option (Tree (Spot Paged))
 child_by x t = child_at x.child (brood_of x.ticket (broods_of t))
 
-pub one-below : (x : Branch) (t : Tree (Spot Machine)) → subtree (x ∷ []) t ≡ child_by x t
+pub one-below : (x : Branch) (t : Tree (Spot Paged)) → subtree (x ∷ []) t ≡ child_by x t
 unfolding subtree
 one-below x t = by (child_by x t)
   where
-    by : (c : Option (Tree (Spot Machine))) → option_and_then (subtree []) c ≡ c
+    by : (c : Option (Tree (Spot Paged))) → option_and_then (subtree []) c ≡ c
     by None = refl
     by (Some a) = refl
 
 -- the tree of a child's name is the child
-pub child-there : (name n : Path) (t a u : Tree (Spot Machine)) (x : Branch) → beyond n name ≡ Some (x ∷ []) → subtree name t ≡ Some a
+pub child-there : (name n : Path) (t a u : Tree (Spot Paged)) (x : Branch) → beyond n name ≡ Some (x ∷ []) → subtree name t ≡ Some a
     → subtree n t ≡ Some u → child_by x u ≡ Some a
 child-there name n t a u x e there at =
     sym (one-below x u)
@@ -190,9 +190,9 @@ child-there name n t a u x e there at =
     ∙ ap (λ m. subtree m t) (sym (beyond-is n name (x ∷ []) e))
     ∙ there
 
-module _ (f : Tree (Spot Machine) → Tree (Spot Machine)) where
-  pub cell-kept : (depot : Shelves) (path : Path) (c : Cell) (x : Branch) (rest : Path) (t : Tree (Spot Machine))
-      → ((a : Tree (Spot Machine)) → child_by x t ≡ Some a → KeepsSlot (at_path f rest) a) → waits forest (at_path f (x ∷ rest) t) ≡ waits forest t
+module _ (f : Tree (Spot Paged) → Tree (Spot Paged)) where
+  pub cell-kept : (depot : Shelves) (path : Path) (c : Cell) (x : Branch) (rest : Path) (t : Tree (Spot Paged))
+      → ((a : Tree (Spot Paged)) → child_by x t ≡ Some a → KeepsSlot (at_path f rest) a) → waits forest (at_path f (x ∷ rest) t) ≡ waits forest t
       → CellShows depot path c t → CellShows depot path c (at_path f (x ∷ rest) t)
   unfolding at_path
   cell-kept depot path c x rest (node s broods log) keeps waiting h = record {
@@ -202,34 +202,34 @@ module _ (f : Tree (Spot Machine) → Tree (Spot Machine)) where
     holds = holds-kept (at_path f rest) depot path c x s broods log keeps h.holds;
   }
 
-  pub no_cell-kept : (x : Branch) (rest : Path) (t : Tree (Spot Machine)) → IsNoCell t → IsNoCell (at_path f (x ∷ rest) t)
+  pub no_cell-kept : (x : Branch) (rest : Path) (t : Tree (Spot Paged)) → IsNoCell t → IsNoCell (at_path f (x ∷ rest) t)
   unfolding at_path
   no_cell-kept x rest (node s broods log) h = h
 
-  shows-kept : (depot : Shelves) (path : Path) (c : Option Cell) (x : Branch) (rest : Path) (u : Option (Tree (Spot Machine)))
-      → ((t a : Tree (Spot Machine)) → u ≡ Some t → child_by x t ≡ Some a → KeepsSlot (at_path f rest) a)
-      → ((t : Tree (Spot Machine)) → u ≡ Some t → waits forest (at_path f (x ∷ rest) t) ≡ waits forest t)
+  shows-kept : (depot : Shelves) (path : Path) (c : Option Cell) (x : Branch) (rest : Path) (u : Option (Tree (Spot Paged)))
+      → ((t a : Tree (Spot Paged)) → u ≡ Some t → child_by x t ≡ Some a → KeepsSlot (at_path f rest) a)
+      → ((t : Tree (Spot Paged)) → u ≡ Some t → waits forest (at_path f (x ∷ rest) t) ≡ waits forest t)
       → Shows depot path c u → Shows depot path c (option_map (at_path f (x ∷ rest)) u)
   shows-kept depot path None x rest None keeps waiting h = tt
   shows-kept depot path None x rest (Some t) keeps waiting h = no_cell-kept x rest t h
   shows-kept depot path (Some c) x rest None keeps waiting h = absurd h
   shows-kept depot path (Some c) x rest (Some t) keeps waiting h = cell-kept depot path c x rest t (λ a. keeps t a refl) (waiting t refl) h
 
-  pub none-beyond : (u : Option (Tree (Spot Machine))) → option_map (at_beyond f None) u ≡ u
+  pub none-beyond : (u : Option (Tree (Spot Paged))) → option_map (at_beyond f None) u ≡ u
   none-beyond None = refl
   none-beyond (Some t) = refl
 
   -- the tree at a name that is not below the change
-  pub outside : (name n : Path) (t : Tree (Spot Machine)) (way : Option Path) → beyond name n ≡ None → beyond n name ≡ way
+  pub outside : (name n : Path) (t : Tree (Spot Paged)) (way : Option Path) → beyond name n ≡ None → beyond n name ≡ way
       → subtree n (at_path f name t) ≡ option_map (at_beyond f way) (subtree n t)
   outside name n t way none e =
       at_path-elsewhere f name n t (ap goes_on none) ∙ ap (λ w. option_map (at_beyond f w) (subtree n t)) e
 
-  pub outside-apart : (name n : Path) (t : Tree (Spot Machine)) → beyond name n ≡ None → beyond n name ≡ None → subtree n (at_path f name t) ≡ subtree n t
+  pub outside-apart : (name n : Path) (t : Tree (Spot Paged)) → beyond name n ≡ None → beyond n name ≡ None → subtree n (at_path f name t) ≡ subtree n t
   outside-apart name n t none e = outside name n t None none e ∙ none-beyond (subtree n t)
 
   -- the way to a tree that is awake before and after
-  pub parent-awake : (depot : Shelves) (name n : Path) (t a : Tree (Spot Machine)) (x : Branch) (c : Option Cell) → beyond name n ≡ None
+  pub parent-awake : (depot : Shelves) (name n : Path) (t a : Tree (Spot Paged)) (x : Branch) (c : Option Cell) → beyond name n ≡ None
       → beyond n name ≡ Some (x ∷ []) → subtree name t ≡ Some a → IsAwake a → IsAwake (f a) → Shows depot n c (subtree n t)
       → Shows depot n c (subtree n (at_path f name t))
   unfolding at_path
@@ -243,7 +243,7 @@ module _ (f : Tree (Spot Machine) → Tree (Spot Machine)) where
       h)
 
   -- what each name shows after a change, where those at it and below it show what it makes, and its parent is seen to
-  pub shows-changed : (depot : Shelves) (name : Path) (t a : Tree (Spot Machine)) (cells : Path → Option Cell) → subtree name t ≡ Some a
+  pub shows-changed : (depot : Shelves) (name : Path) (t a : Tree (Spot Paged)) (cells : Path → Option Cell) → subtree name t ≡ Some a
       → Shows depot name (cells name) (Some (f a))
       → ((x : Branch) (rest : Path) → Shows depot (name ++ (x ∷ rest)) (cells (name ++ (x ∷ rest))) (subtree (x ∷ rest) (f a)))
       → ((n : Path) → beyond name n ≡ None → is_one (beyond n name) ≡ false → Shows depot n (cells n) (subtree n t))

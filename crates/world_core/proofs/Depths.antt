@@ -6,7 +6,7 @@ use Rattle.std.specs.Map.{lookup}
 use Rattle.image_depot.specs.Key.{Shelves}
 use Rattle.forest_tree.specs.Tree.{Path}
 use Rattle.forest_history.specs.World.{is_at_home}
-use Rattle.forest_model.specs.Forest.{machines}
+use Rattle.forest_model.specs.Paged.{paged_machines}
 use Rattle.run_report.specs.Name.{child_path}
 use Rattle.run_report.specs.NameOrder.{path_cmp}
 use Rattle.run_report.specs.Report.{Ended as Report}
@@ -54,10 +54,10 @@ none-left cells name empty = ap (lookup (is_at (path_cmp name))) empty
 module _ (depot : Shelves) (w : World) (f : Forest) (h : StandsFor depot w f) where
   -- no live machine is at home that has no cell, and whose parent has none
   pub far-nobody : (name : Path) → get path_cmp w.cells name ≡ None → ((parent : Path) → length name ≡ length parent + 1 → get path_cmp w.cells parent ≡ None)
-      → is_at_home machines name f.tree ≡ false
+      → is_at_home paged_machines name f.tree ≡ false
   far-nobody name none above = by w.outcome refl
     where
-      by : (o : Option Report) → w.outcome ≡ o → is_at_home machines name f.tree ≡ false
+      by : (o : Option Report) → w.outcome ≡ o → is_at_home paged_machines name f.tree ≡ false
       by (Some outcome) e = over-nobody depot w f name h (ap is_some e)
       by None e = elim (cases name refl) [
         | inl root ↦ absurd (root-cell depot w f name h e (sym none) root)
@@ -73,12 +73,12 @@ module _ (depot : Shelves) (w : World) (f : Forest) (h : StandsFor depot w f) wh
           cases (b ∷ rest) e = inr (omega (arith, ap length e))
 
   -- the longest name of a machine that is awake tells
-  pub too-deep : (longest name : Path) → IsUpperBound path_cmp w.cells longest → length longest + 1 < length name → is_at_home machines name f.tree ≡ false
+  pub too-deep : (longest name : Path) → IsUpperBound path_cmp w.cells longest → length longest + 1 < length name → is_at_home paged_machines name f.tree ≡ false
   too-deep longest name bound longer =
       far-nobody name (beyond-longest w.cells longest name bound (omega arith))
       (λ parent counted. beyond-longest w.cells longest parent bound (omega arith))
 
-  pub none-awake : (name : Path) → (0 < btree_map_len w.cells → ⊥) → is_at_home machines name f.tree ≡ false
+  pub none-awake : (name : Path) → (0 < btree_map_len w.cells → ⊥) → is_at_home paged_machines name f.tree ≡ false
   none-awake name none =
       let empty = no-entries w.cells.entries none in
       far-nobody name (none-left w.cells name empty) (λ parent counted. none-left w.cells parent empty)

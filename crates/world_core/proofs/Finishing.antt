@@ -12,8 +12,8 @@ use Rattle.forest_tree.specs.Tree.{Tree, node, Trees, no_tree, Broods, no_brood,
 use Rattle.forest_tree.specs.Sound.{IsSound}
 use Rattle.forest_tree.proofs.Places.{brood_of-none}
 use Rattle.forest_history.specs.Places.{at_path, Place, home, Spot, put, placed, spots}
-use Rattle.forest_model.specs.Machine.{Machine}
 use Rattle.forest_model.specs.Forest.{machines}
+use Rattle.forest_model.specs.Paged.{Paged, paged_machines}
 use Rattle.run_report.specs.NameOrder.{path_cmp}
 use Rattle.run_report.specs.Lines.{own_lines_by, lines, log_lines}
 use Rattle.run_report.specs.Report.{Ended, lines_of}
@@ -42,7 +42,7 @@ untallied path count None false e h = refl
 untallied path count None true e h = absurd h
 untallied path count (Some b) is e h = absurd (cc)
 
-childless : (path : Path) (c : Cell) (a : Tree (Spot Machine)) → btree_map_len c.broods ≡ 0 → Tallies path c a → IsWhole a → (x : Branch) (rest : Path)
+childless : (path : Path) (c : Cell) (a : Tree (Spot Paged)) → btree_map_len c.broods ≡ 0 → Tallies path c a → IsWhole a → (x : Branch) (rest : Path)
     → subtree (x ∷ rest) a ≡ None
 unfolding subtree child_at
 childless path c (node s broods log) none h whole x rest =
@@ -50,9 +50,9 @@ childless path c (node s broods log) none h whole x rest =
     untallied path (forest.grant s x.ticket).children (get nat_cmp c.broods x.ticket) (is_cloned forest s x.ticket)
     (none-in (is_at (nat_cmp x.ticket)) c.broods.entries none) (h.broods x.ticket) in
     let empty : brood_of x.ticket broods ≡ no_tree = brood_of-none x.ticket broods (whole.one_each x.ticket ∙ ap (λ (b : Bool). cond b 1 0) fresh) in
-    ap (λ (trees : Trees (Spot Machine)). option_and_then (subtree rest) (child_at x.child trees)) empty
+    ap (λ (trees : Trees (Spot Paged)). option_and_then (subtree rest) (child_at x.child trees)) empty
 
-module _ (depot : Shelves) (w : World) (f : Forest) (name : Path) (a : Tree (Spot Machine)) (between : IsBetween depot w f name a) (cells : BTreeMap Path Cell)
+module _ (depot : Shelves) (w : World) (f : Forest) (name : Path) (a : Tree (Spot Paged)) (between : IsBetween depot w f name a) (cells : BTreeMap Path Cell)
     (c : Cell) (taken : TakesOut w.cells cells name c) where
   pub taken-holds : HoldsAfter depot name c a
   taken-holds = subst (λ o. IsSomeAnd o (λ cell. HoldsAfter depot name cell a)) taken.was between.cell
@@ -98,39 +98,39 @@ module _ (depot : Shelves) (w : World) (f : Forest) (name : Path) (a : Tree (Spo
       by n (apart none e) = outer n none
 
 -- its lines are the same at every place
-own-placed : (e : Option Ending) (path : Path) (place : Place) (s : Spot Machine) → own_lines_by told_spot e path (put place s) ≡ own_lines_by told_spot e path s
+own-placed : (e : Option Ending) (path : Path) (place : Place) (s : Spot Paged) → own_lines_by told_spot e path (put place s) ≡ own_lines_by told_spot e path s
 own-placed None path place s = refl
 own-placed (Some ending) path place s = refl
 
-lines-placed : (path : Path) (place : Place) (t : Tree (Spot Machine)) → lines told_spot path (placed place t) ≡ lines told_spot path t
+lines-placed : (path : Path) (place : Place) (t : Tree (Spot Paged)) → lines told_spot path (placed place t) ≡ lines told_spot path t
 unfolding lines
 lines-placed path place (node s broods log) = ap (λ own. own ++ log_lines told_spot path log) (own-placed (told_spot.ending s) path place s)
 
 -- the machine that has ended, alone with its log
-abbrev pub left_tree : Tree (Spot Machine) → Tree (Spot Machine)
+abbrev pub left_tree : Tree (Spot Paged) → Tree (Spot Paged)
 left_tree (node s broods log) = node s no_brood log
 
-module _ (depot : Shelves) (path : Path) (c : Cell) (a : Tree (Spot Machine)) (vm : Machine) (ending : Ending) (same : (machine a).machine ≡ vm)
-    (over : vm.ending ≡ Some ending) where
+module _ (depot : Shelves) (path : Path) (c : Cell) (a : Tree (Spot Paged)) (vm : Paged) (ending : Ending) (same : (machine a).machine ≡ vm)
+    (over : vm.machine.ending ≡ Some ending) where
   pub left-tallies : HoldsAfter depot path c a → Tallies path c (left_tree a)
   left-tallies h = by a h.0
     where
-      by : (t : Tree (Spot Machine)) → Tallies path c t → Tallies path c (left_tree t)
+      by : (t : Tree (Spot Paged)) → Tallies path c t → Tallies path c (left_tree t)
       by (node s broods log) k = record { log = k.log; room = k.room; broods = k.broods }
 
   pub left-sound : IsWhole a → IsSound forest (left_tree a)
-  unfolding IsSound spots machines
+  unfolding IsSound spots paged_machines machines
   left-sound whole = by a same whole.good
     where
       some-none : (o : Option Ending) → o ≡ Some ending → o ≡ None → ⊥
       some-none o e none = let no : Some ending ≡ None = sym e ∙ none in cc
 
-      by : (t : Tree (Spot Machine)) → (machine t).machine ≡ vm → forest.is_good (machine t) ≡ true → IsSound forest (left_tree t)
+      by : (t : Tree (Spot Paged)) → (machine t).machine ≡ vm → forest.is_good (machine t) ≡ true → IsSound forest (left_tree t)
       by (node s broods log) is good = (
         record {
           good = good;
           ended = λ has. refl;
-          one_each = λ lives t. absurd (some-none s.machine.ending (ap (λ (m : Machine). m.ending) is ∙ over) lives);
+          one_each = λ lives t. absurd (some-none s.machine.machine.ending (ap (λ (p : Paged). p.machine.ending) is ∙ over) lives);
         },
         tt,
       )
@@ -138,39 +138,39 @@ module _ (depot : Shelves) (path : Path) (c : Cell) (a : Tree (Spot Machine)) (v
   pub left-machine : (machine (left_tree a)).machine ≡ vm
   left-machine = by a same
     where
-      by : (t : Tree (Spot Machine)) → (machine t).machine ≡ vm → (machine (left_tree t)).machine ≡ vm
+      by : (t : Tree (Spot Paged)) → (machine t).machine ≡ vm → (machine (left_tree t)).machine ≡ vm
       by (node s broods log) is = is
 
   pub has-left : (outcome : Ended) → outcome.ending ≡ ending → lines_of outcome ≡ lines told_spot path (ended_tree (left_tree a))
       → HasLeft path (placed home (ended_tree a)) outcome
   has-left outcome ends told_so = by a same told_so
     where
-      by : (t : Tree (Spot Machine)) → (machine t).machine ≡ vm → lines_of outcome ≡ lines told_spot path (ended_tree (left_tree t))
+      by : (t : Tree (Spot Paged)) → (machine t).machine ≡ vm → lines_of outcome ≡ lines told_spot path (ended_tree (left_tree t))
           → HasLeft path (placed home (ended_tree t)) outcome
       by (node s broods log) is so = record {
-        ending = ap (λ (m : Machine). m.ending) is ∙ over ∙ ap Some (sym ends);
+        ending = ap (λ (p : Paged). p.machine.ending) is ∙ over ∙ ap Some (sym ends);
         home = refl;
         alone = refl;
         lines = so ∙ sym (lines-placed path home (ended_tree (node s broods log)));
       }
 
   -- what is wanted of the cell, and what comes of it, where it has the name in a key
-  pub outcome-wanted : HoldsAfter depot path c a → IsWhole a → (key : Path) → key ≡ path → (t : Tree (Spot Machine)) × Tallies key c t × IsSound forest t
+  pub outcome-wanted : HoldsAfter depot path c a → IsWhole a → (key : Path) → key ≡ path → (t : Tree (Spot Paged)) × Tallies key c t × IsSound forest t
   outcome-wanted holds whole key is = (left_tree a, subst (λ k. Tallies k c (left_tree a)) (sym is) (left-tallies holds), left-sound whole)
 
-  pub left-by : HoldsAfter depot path c a → IsWhole a → (key : Path) → key ≡ path → (moved : Machine) → moved ≡ vm → (outcome : Ended) → outcome.ending ≡ ending
-      → ((t : Tree (Spot Machine)) → Tallies key c t → IsSound forest t → (machine t).machine ≡ moved → moved.ending ≡ Some ending
+  pub left-by : HoldsAfter depot path c a → IsWhole a → (key : Path) → key ≡ path → (moved : Paged) → moved ≡ vm → (outcome : Ended) → outcome.ending ≡ ending
+      → ((t : Tree (Spot Paged)) → Tallies key c t → IsSound forest t → (machine t).machine ≡ moved → moved.machine.ending ≡ Some ending
       → lines_of outcome ≡ lines told_spot key (ended_tree t))
       → HasLeft path (placed home (ended_tree a)) outcome
   left-by holds whole key is moved moved_is outcome ends told_so =
       has-left outcome ends
       (told_so (left_tree a) (subst (λ k. Tallies k c (left_tree a)) (sym is) (left-tallies holds)) (left-sound whole) (left-machine ∙ sym moved_is)
-      (ap (λ (m : Machine). m.ending) moved_is ∙ over)
+      (ap (λ (p : Paged). p.machine.ending) moved_is ∙ over)
       ∙ ap (λ k. lines told_spot k (ended_tree (left_tree a))) is)
 
-barren : (x : Branch) (p : Tree (Spot Machine)) → broods_of p ≡ no_brood → child_of x.ticket x.child p ≡ None
+barren : (x : Branch) (p : Tree (Spot Paged)) → broods_of p ≡ no_brood → child_of x.ticket x.child p ≡ None
 unfolding brood_of child_at
-barren x p none = ap (λ (broods : Broods (Spot Machine)). child_at x.child (brood_of x.ticket broods)) none
+barren x p none = ap (λ (broods : Broods (Spot Paged)). child_at x.child (brood_of x.ticket broods)) none
 
 -- the parent of a machine that was awake has a cell
 parent-cell : (depot : Shelves) (w : World) (f : Forest) (parent : Path) (x : Branch) → IsLeaving depot w f (parent ++ (x ∷ []))
@@ -183,7 +183,7 @@ parent-cell depot w f way x leaving =
         leaving.elsewhere n
         (ap (λ m. beyond (m ++ (x ∷ [])) n) e ∙ ap (λ m. beyond m n) (append_assoc n (b ∷ rest) (x ∷ [])) ∙ beyond-parent n b (rest ++ (x ∷ [])))
 
-    by : (a : Tree (Spot Machine)) → subtree (way ++ (x ∷ [])) f.tree ≡ Some a → (p : Option (Tree (Spot Machine))) → subtree way f.tree ≡ p
+    by : (a : Tree (Spot Paged)) → subtree (way ++ (x ∷ [])) f.tree ≡ Some a → (p : Option (Tree (Spot Paged))) → subtree way f.tree ≡ p
         → (c : Cell) × (get path_cmp w.cells way ≡ Some c)
     by a there None e = let no : None ≡ Some a = sym (child-below way x.ticket x.child f.tree None e) ∙ there in absurd (cc)
     by a there (Some p) e = elim (awake-there depot w.cells f.tree leaving.sound way above_it p leaving.root e) [
@@ -197,16 +197,16 @@ parent-cell depot w f way x leaving =
 
 -- what is wanted of the parent's cell
 pub parent-known : (depot : Shelves) (w : World) (f : Forest) (parent : Path) (x : Branch) → IsLeaving depot w f (parent ++ (x ∷ []))
-    → IsSomeAnd (get path_cmp w.cells parent) (λ (c : Cell). (depot : Shelves) × (t a : Tree (Spot Machine))
+    → IsSomeAnd (get path_cmp w.cells parent) (λ (c : Cell). (depot : Shelves) × (t a : Tree (Spot Paged))
     × CellShows depot parent c t × (child_of x.ticket x.child t ≡ Some a) × IsAwake a)
 parent-known depot w f way x leaving =
     let cell = parent-cell depot w f way x leaving in
     let is = parent-shows depot w f way x cell.0 leaving cell.1 in
-    subst (λ o. IsSomeAnd o (λ (c : Cell). (depot : Shelves) × (t a : Tree (Spot Machine)) × CellShows depot way c t × (child_of x.ticket x.child t ≡ Some a) × IsAwake a))
+    subst (λ o. IsSomeAnd o (λ (c : Cell). (depot : Shelves) × (t a : Tree (Spot Paged)) × CellShows depot way c t × (child_of x.ticket x.child t ≡ Some a) × IsAwake a))
     (sym cell.1) (depot, is.0, is.1, is.3, is.4, is.5)
 
 -- the root has left
-pub root-leaves : (depot : Shelves) (w : World) (f : Forest) (b : Tree (Spot Machine)) (outcome : Ended) (name : Path) → name ≡ [] → IsLeaving depot w f name
+pub root-leaves : (depot : Shelves) (w : World) (f : Forest) (b : Tree (Spot Paged)) (outcome : Ended) (name : Path) → name ≡ [] → IsLeaving depot w f name
     → HasLeft name b outcome → IsSound forest (with_tree name b f).tree → StandsFor depot (record w { outcome = Some outcome }) (with_tree name b f)
 unfolding at_path
 root-leaves depot w f b outcome [] e leaving left sound = record {

@@ -14,8 +14,8 @@ use Rattle.forest_tree.specs.Sound.{IsSound}
 use Rattle.forest_history.specs.Places.{at_path, Spot, spots}
 use Rattle.forest_history.specs.World.{is_asleep_at, is_ready_at, lives_ready, holds, is_ready}
 use Rattle.forest_history.proofs.Changes.{at_path-machine}
-use Rattle.forest_model.specs.Machine.{Machine}
 use Rattle.forest_model.specs.Forest.{machines}
+use Rattle.forest_model.specs.Paged.{Paged, paged_machines}
 use Rattle.run_report.specs.Report.{Ended}
 use Rattle.run_report.specs.NameOrder.{path_cmp}
 use Rattle.run_report.proofs.NameMaps.{updated-here, updated-apart, yes-same}
@@ -90,41 +90,41 @@ same-parent (a ∷ way) (b ∷ path) x y e =
 
 -- ---- a machine that has left
 
-pub left-ended : (path : Path) (b : Tree (Spot Machine)) (outcome : Ended) → HasLeft path b outcome → has_ended forest b ≡ true
-unfolding spots machines
+pub left-ended : (path : Path) (b : Tree (Spot Paged)) (outcome : Ended) → HasLeft path b outcome → has_ended forest b ≡ true
+unfolding spots paged_machines machines
 left-ended path b outcome left = ap is_some left.ending
 
-pub left-below : (path : Path) (b : Tree (Spot Machine)) (outcome : Ended) → HasLeft path b outcome → (x : Branch) (rest : Path) → subtree (x ∷ rest) b ≡ None
+pub left-below : (path : Path) (b : Tree (Spot Paged)) (outcome : Ended) → HasLeft path b outcome → (x : Branch) (rest : Path) → subtree (x ∷ rest) b ≡ None
 unfolding subtree brood_of child_at
-left-below path b outcome left x rest = ap (λ (broods : Broods (Spot Machine)). option_and_then (subtree rest) (child_at x.child (brood_of x.ticket broods))) left.alone
+left-below path b outcome left x rest = ap (λ (broods : Broods (Spot Paged)). option_and_then (subtree rest) (child_at x.child (brood_of x.ticket broods))) left.alone
 
-never-ready : (b : Tree (Spot Machine)) → has_ended forest b ≡ true → lives_ready machines b ≡ true → ⊥
+never-ready : (b : Tree (Spot Paged)) → has_ended forest b ≡ true → lives_ready paged_machines b ≡ true → ⊥
 never-ready b over ready =
     let no : false ≡ true = sym (ap (λ ended. not ended && is_ready_at (machine b).place (waits forest b)) over) ∙ ready in cc
 
-with-child : (x : Branch) (b t : Tree (Spot Machine)) → at_path (λ a. b) (x ∷ []) t ≡ with_child x.ticket x.child b t
+with-child : (x : Branch) (b t : Tree (Spot Paged)) → at_path (λ a. b) (x ∷ []) t ≡ with_child x.ticket x.child b t
 unfolding at_path
 with-child x b (node s broods log) = refl
 
-root-stays : (parent : Path) (x : Branch) (t b : Tree (Spot Machine)) → IsAwake t → IsAwake (at_path (λ a. b) (parent ++ (x ∷ [])) t)
+root-stays : (parent : Path) (x : Branch) (t b : Tree (Spot Paged)) → IsAwake t → IsAwake (at_path (λ a. b) (parent ++ (x ∷ [])) t)
 root-stays [] x t b h = stays [] x t b h
   where
-    stays : (rest : Path) (y : Branch) (u c : Tree (Spot Machine)) → IsAwake u → IsAwake (at_path (λ a. c) (y ∷ rest) u)
+    stays : (rest : Path) (y : Branch) (u c : Tree (Spot Paged)) → IsAwake u → IsAwake (at_path (λ a. c) (y ∷ rest) u)
     stays rest y u c h = record {
-      lives = ap (λ (s : Spot Machine). is_some (forest.ending s)) (at_path-machine (λ a. c) y rest u) ∙ h.lives;
-      awake = ap (λ (s : Spot Machine). is_asleep_at s.place) (at_path-machine (λ a. c) y rest u) ∙ h.awake;
+      lives = ap (λ (s : Spot Paged). is_some (forest.ending s)) (at_path-machine (λ a. c) y rest u) ∙ h.lives;
+      awake = ap (λ (s : Spot Paged). is_asleep_at s.place) (at_path-machine (λ a. c) y rest u) ∙ h.awake;
     }
 root-stays (y ∷ parent) x t b h = record {
-  lives = ap (λ (s : Spot Machine). is_some (forest.ending s)) (at_path-machine (λ a. b) y (parent ++ (x ∷ [])) t) ∙ h.lives;
-  awake = ap (λ (s : Spot Machine). is_asleep_at s.place) (at_path-machine (λ a. b) y (parent ++ (x ∷ [])) t) ∙ h.awake;
+  lives = ap (λ (s : Spot Paged). is_some (forest.ending s)) (at_path-machine (λ a. b) y (parent ++ (x ∷ [])) t) ∙ h.lives;
+  awake = ap (λ (s : Spot Paged). is_asleep_at s.place) (at_path-machine (λ a. b) y (parent ++ (x ∷ [])) t) ∙ h.awake;
 }
 
-module _ (depot : Shelves) (w : World) (f : Forest) (parent : Path) (x : Branch) (b : Tree (Spot Machine)) (outcome : Ended)
+module _ (depot : Shelves) (w : World) (f : Forest) (parent : Path) (x : Branch) (b : Tree (Spot Paged)) (outcome : Ended)
     (leaving : IsLeaving depot w f (parent ++ (x ∷ []))) (left : HasLeft (parent ++ (x ∷ [])) b outcome) where
   abbrev name : Path
   name = parent ++ (x ∷ [])
 
-  abbrev after : Tree (Spot Machine)
+  abbrev after : Tree (Spot Paged)
   after = (with_tree name b f).tree
 
   name-apart : parent ≢ name
@@ -134,7 +134,7 @@ module _ (depot : Shelves) (w : World) (f : Forest) (parent : Path) (x : Branch)
       → ((n : Path) → parent ≢ n → get path_cmp v.cells n ≡ get path_cmp w.cells n)
       → ((n : Path) → IsListed n w.ready → IsListed n v.ready) → ((n : Path) → IsCovered n w.ready → IsCovered n v.ready)
       → Shows depot parent (get path_cmp v.cells parent) (subtree parent after)
-      → (is_ready machines parent after ≡ true → IsDue (get path_cmp v.cells parent) parent v.ready)
+      → (is_ready paged_machines parent after ≡ true → IsDue (get path_cmp v.cells parent) parent v.ready)
       → IfSome (get path_cmp v.cells parent) (λ (c : Cell). c.is_listed ≡ true → IsListed parent v.ready)
       → StandsFor depot v (with_tree name b f)
   leave-stands v sound halted outcome_same others more covers shows ready listed =
@@ -148,10 +148,10 @@ module _ (depot : Shelves) (w : World) (f : Forest) (parent : Path) (x : Branch)
           ready = ready-changed (λ t. b) (λ n. IsDue (get path_cmp v.cells n) n v.ready) name f.tree is.0 is.1
               (λ yes. absurd (never-ready b (left-ended name b outcome left) yes))
               (λ y rest yes.
-              let none : false ≡ true = sym (ap (holds machines (lives_ready machines)) (left-below name b outcome left y rest)) ∙ yes in absurd (cc))
+              let none : false ≡ true = sym (ap (holds paged_machines (lives_ready paged_machines)) (left-below name b outcome left y rest)) ∙ yes in absurd (cc))
               (λ n none one yes. due n (outer-apart n one) (leaving.ready n none yes))
               (λ n y none e yes. subst (λ m. IsDue (get path_cmp v.cells m) m v.ready) (sym (above-is n y e))
-              (ready (ap (λ m. is_ready machines m after) (sym (above-is n y e)) ∙ yes)));
+              (ready (ap (λ m. is_ready paged_machines m after) (sym (above-is n y e)) ∙ yes)));
           listed = λ n. elim (same-or-apart parent n) [
             | inl e ↦ subst (λ m. IfSome (get path_cmp v.cells m) (λ (c : Cell). c.is_listed ≡ true → IsListed m v.ready)) (sym e) listed
             | inr other ↦
@@ -208,10 +208,10 @@ module _ (depot : Shelves) (w : World) (f : Forest) (parent : Path) (x : Branch)
   parent-after = outside (λ t. b) name parent f.tree (Some (x ∷ [])) parent-outside (beyond-append parent (x ∷ []))
 
   -- the parent's cell has changed
-  pub leave-some : (v : World) (p : Tree (Spot Machine)) (d : Cell) → subtree parent f.tree ≡ Some p → get path_cmp v.cells parent ≡ Some d
+  pub leave-some : (v : World) (p : Tree (Spot Paged)) (d : Cell) → subtree parent f.tree ≡ Some p → get path_cmp v.cells parent ≡ Some d
       → CellShows depot parent d (with_child x.ticket x.child b p)
-      → (lives_ready machines (with_child x.ticket x.child b p) ≡ true → (lives_ready machines p ≡ true) ⊎ (d.is_listed ≡ true))
-      → (lives_ready machines p ≡ true → IsDue (get path_cmp w.cells parent) parent w.ready → IsListed parent v.ready)
+      → (lives_ready paged_machines (with_child x.ticket x.child b p) ≡ true → (lives_ready paged_machines p ≡ true) ⊎ (d.is_listed ≡ true))
+      → (lives_ready paged_machines p ≡ true → IsDue (get path_cmp w.cells parent) parent w.ready → IsListed parent v.ready)
       → (d.is_listed ≡ true → IsListed parent v.ready) → IsSound forest after → v.halted ≡ w.halted → v.outcome ≡ w.outcome
       → ((n : Path) → parent ≢ n → get path_cmp v.cells n ≡ get path_cmp w.cells n)
       → ((n : Path) → IsListed n w.ready → IsListed n v.ready) → ((n : Path) → IsCovered n w.ready → IsCovered n v.ready)
@@ -223,25 +223,25 @@ module _ (depot : Shelves) (w : World) (f : Forest) (parent : Path) (x : Branch)
       (subst (λ c. Shows depot parent c (subtree parent after)) (sym now) (subst (Shows depot parent (Some d)) (sym tree_is) shows))
       (λ yes.
       subst (λ c. IsDue c parent v.ready) (sym now)
-      (by (ready (ap (holds machines (lives_ready machines)) (sym tree_is) ∙ yes))))
+      (by (ready (ap (holds paged_machines (lives_ready paged_machines)) (sym tree_is) ∙ yes))))
       (subst (λ o. IfSome o (λ (c : Cell). c.is_listed ≡ true → IsListed parent v.ready)) (sym now) listed)
     where
-      by : (lives_ready machines p ≡ true) ⊎ (d.is_listed ≡ true) → IsListed parent v.ready
-      by (inl was) = due was (leaving.ready parent parent-outside (ap (holds machines (lives_ready machines)) there ∙ was))
+      by : (lives_ready paged_machines p ≡ true) ⊎ (d.is_listed ≡ true) → IsListed parent v.ready
+      by (inl was) = due was (leaving.ready parent parent-outside (ap (holds paged_machines (lives_ready paged_machines)) there ∙ was))
       by (inr is) = listed is
 
 -- the parent's cell, and the child that it shows
 pub parent-shows : (depot : Shelves) (w : World) (f : Forest) (parent : Path) (x : Branch) (c : Cell) → IsLeaving depot w f (parent ++ (x ∷ []))
     → get path_cmp w.cells parent ≡ Some c
-    → (p t : Tree (Spot Machine)) × (subtree parent f.tree ≡ Some p) × CellShows depot parent c p × (child_of x.ticket x.child p ≡ Some t) × IsAwake t
+    → (p t : Tree (Spot Paged)) × (subtree parent f.tree ≡ Some p) × CellShows depot parent c p × (child_of x.ticket x.child p ≡ Some t) × IsAwake t
 parent-shows depot w f parent x c leaving found =
     let is = there-is (subtree (parent ++ (x ∷ [])) f.tree) IsAwake leaving.there in
     by is.0 is.1 is.2 (subtree parent f.tree) refl
     (subst (λ o. Shows depot parent o (subtree parent f.tree)) found (leaving.elsewhere parent (beyond-parent parent x [])))
   where
-    by : (t : Tree (Spot Machine)) → subtree (parent ++ (x ∷ [])) f.tree ≡ Some t → IsAwake t → (u : Option (Tree (Spot Machine))) → subtree parent f.tree ≡ u
+    by : (t : Tree (Spot Paged)) → subtree (parent ++ (x ∷ [])) f.tree ≡ Some t → IsAwake t → (u : Option (Tree (Spot Paged))) → subtree parent f.tree ≡ u
         → Shows depot parent (Some c) u
-        → (p t : Tree (Spot Machine)) × (subtree parent f.tree ≡ Some p) × CellShows depot parent c p × (child_of x.ticket x.child p ≡ Some t) × IsAwake t
+        → (p t : Tree (Spot Paged)) × (subtree parent f.tree ≡ Some p) × CellShows depot parent c p × (child_of x.ticket x.child p ≡ Some t) × IsAwake t
     by t there awake None e h = absurd h
     by t there awake (Some p) e h = (p, t, e, h, child-there (parent ++ (x ∷ [])) parent f.tree t p x (beyond-append parent (x ∷ [])) there e, awake)
 
@@ -250,16 +250,16 @@ if-some-is None a P e h = absurd (cc)
 if-some-is (Some b) a P e h = subst P (sym (some-same a b e)) h
 
 -- the world once the parent's cell knows of the end
-pub end-child : (depot : Shelves) (w : World) (f : Forest) (parent : Path) (x : Branch) (b : Tree (Spot Machine)) (outcome : Ended)
+pub end-child : (depot : Shelves) (w : World) (f : Forest) (parent : Path) (x : Branch) (b : Tree (Spot Paged)) (outcome : Ended)
     → IsLeaving depot w f (parent ++ (x ∷ [])) → HasLeft (parent ++ (x ∷ [])) b outcome → IsSound forest (with_tree (parent ++ (x ∷ [])) b f).tree
     → (c d : Cell) (cells : BTreeMap Path Cell) (list : List Waiting)
     → Some c ≡ get path_cmp w.cells parent → WritesThrough path_cmp (path_cmp parent) w.cells d cells
-    → ((p a : Tree (Spot Machine)) → CellShows depot parent c p → child_of x.ticket x.child p ≡ Some a → IsAwake a
+    → ((p a : Tree (Spot Paged)) → CellShows depot parent c p → child_of x.ticket x.child p ≡ Some a → IsAwake a
     → CellShows depot parent d (with_child x.ticket x.child b p))
-    → ((p a : Tree (Spot Machine)) → CellShows depot parent c p → child_of x.ticket x.child p ≡ Some a → IsAwake a
-    → lives_ready machines (with_child x.ticket x.child b p) ≡ true → (lives_ready machines p ≡ true) ⊎ (d.is_listed ≡ true))
+    → ((p a : Tree (Spot Paged)) → CellShows depot parent c p → child_of x.ticket x.child p ≡ Some a → IsAwake a
+    → lives_ready paged_machines (with_child x.ticket x.child b p) ≡ true → (lives_ready paged_machines p ≡ true) ⊎ (d.is_listed ≡ true))
     → ((n : Path) → IsListed n w.ready → IsListed n list) → ((n : Path) → IsCovered n w.ready → IsCovered n list)
-    → ((p : Tree (Spot Machine)) → CellShows depot parent c p → d.is_listed ≡ true → IsListed parent list)
+    → ((p : Tree (Spot Paged)) → CellShows depot parent c p → d.is_listed ≡ true → IsListed parent list)
     → StandsFor depot (record w { cells = cells; ready = list }) (with_tree (parent ++ (x ∷ [])) b f)
 end-child depot w f parent x b outcome leaving left sound c d cells list found written shows ready more covers listed =
     let is = parent-shows depot w f parent x c leaving (sym found) in

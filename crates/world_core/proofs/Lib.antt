@@ -33,3 +33,4 @@ mod CallJoin
 mod CallFork
 pub mod Giving
 pub mod Beginning
+pub mod Arriving

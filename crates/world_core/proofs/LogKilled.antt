@@ -24,8 +24,8 @@ use Rattle.forest_tree.specs.Sound.{IsSound}
 use Rattle.forest_tree.proofs.Settle.{root-sound}
 use Rattle.forest_tree.proofs.Broods.{eqb-same}
 use Rattle.forest_history.specs.Places.{Spot, spots}
-use Rattle.forest_model.specs.Machine.{Machine}
 use Rattle.forest_model.specs.Forest.{machines, port_of}
+use Rattle.forest_model.specs.Paged.{Paged, paged_machines}
 use Rattle.run_report.specs.Lines.{Line, machine_line, ticket_line, own_lines_by, lines, log_lines}
 use Rattle.world_core.specs.declared.cell.Brood.{Brood}
 use Rattle.world_core.specs.declared.cell.Cell.{Cell}
@@ -37,7 +37,7 @@ use Rattle.world_core.specs.Shows.{TallyAt, IsTallied, Tallies, forest, told_spo
 abbrev pub ticket_lines : Path → (ℕ → ℕ) → List ℕ → List Line
 ticket_lines path count tickets = map (λ (ticket : ℕ). ticket_line path ticket (count ticket)) tickets
 
-lines_killed : (path : Path) (s : Spot Machine) (tickets : List ℕ) (log : Log (Spot Machine))
+lines_killed : (path : Path) (s : Spot Paged) (tickets : List ℕ) (log : Log (Spot Paged))
     → log_lines told_spot path (log_killed forest s tickets log) ≡ log_lines told_spot path log ++ ticket_lines path (λ t. (forest.grant s t).children) tickets
 unfolding log_killed lines
 lines_killed path s [] log = sym (append-nil (log_lines told_spot path log))
@@ -172,17 +172,17 @@ sorted_cloned (x ∷ xs) rising = by x.is_cloned (above_cloned x.number xs risin
     by true first rest = (first, rest)
     by false first rest = rest
 
-accounted : (s : Spot Machine) → forest.is_good s ≡ true → is_accounted (port_of s.machine) ≡ true
-unfolding spots machines
-accounted s good = (and_parts (is_accounted (port_of s.machine)) (is_some s.machine.ending || ltb s.machine.steps s.machine.limit) good).0
+accounted : (s : Spot Paged) → forest.is_good s ≡ true → is_accounted (port_of s.machine.machine) ≡ true
+unfolding spots paged_machines machines
+accounted s good = (and_parts (is_accounted (port_of s.machine.machine)) (is_some s.machine.machine.ending || ltb s.machine.machine.steps s.machine.machine.limit) good).0
 
-good_sorted : (s : Spot Machine) → forest.is_good s ≡ true → IsStrictlySortedBy nat_cmp (forest.cloned s)
-unfolding spots machines
-good_sorted s good = sorted_cloned (port_of s.machine).tickets (accounted-is (port_of s.machine) (accounted s good)).rising
+good_sorted : (s : Spot Paged) → forest.is_good s ≡ true → IsStrictlySortedBy nat_cmp (forest.cloned s)
+unfolding spots paged_machines machines
+good_sorted s good = sorted_cloned (port_of s.machine.machine).tickets (accounted-is (port_of s.machine.machine) (accounted s good)).rising
 
 -- ---- what a machine leaves that has ended
 
-pub ended_lines : (path : Path) (c : Cell) (t : Tree (Spot Machine)) → Tallies path c t → IsSound forest t → IsOrdered nat_cmp c.broods
+pub ended_lines : (path : Path) (c : Cell) (t : Tree (Spot Paged)) → Tallies path c t → IsSound forest t → IsOrdered nat_cmp c.broods
     → log_lines told_spot path (log_of (ended_tree t)) ≡ c.log.items ++ map killed_line c.broods.entries
 ended_lines path c (node s broods log) h sound ordered =
     let count : ℕ → ℕ = λ t. (forest.grant s t).children in
@@ -196,21 +196,21 @@ tally_fits path count None among h = tt
 tally_fits path count (Some b) false h = absurd h
 tally_fits path count (Some b) true h = omega (arith, h.few)
 
-pub broods_fit : (path : Path) (c : Cell) (t : Tree (Spot Machine)) → Tallies path c t → (number : ℕ) → IfSome (get nat_cmp c.broods number) (λ b. vec_len b.slots < 2 ^ 32)
+pub broods_fit : (path : Path) (c : Cell) (t : Tree (Spot Paged)) → Tallies path c t → (number : ℕ) → IfSome (get nat_cmp c.broods number) (λ b. vec_len b.slots < 2 ^ 32)
 broods_fit path c t h number =
     tally_fits path (forest.grant (machine t) number).children (get nat_cmp c.broods number) (is_cloned forest (machine t) number) (h.broods number)
 
-own_line : (path : Path) (s : Spot Machine) (vm : Machine) (ending : Ending) (steps : ℕ) (output : List ℕ) → s.machine ≡ vm → vm.ending ≡ Some ending
-    → steps ≡ vm.steps → output ≡ vm.state.ports.console.output
+own_line : (path : Path) (s : Spot Paged) (vm : Paged) (ending : Ending) (steps : ℕ) (output : List ℕ) → s.machine ≡ vm → vm.machine.ending ≡ Some ending
+    → steps ≡ vm.machine.steps → output ≡ vm.machine.state.ports.console.output
     → machine_line path ending steps output ∷ [] ≡ own_lines_by told_spot (told_spot.ending s) path s
 own_line path s vm ending steps output is ended made put =
-    ap (λ (n : ℕ). machine_line path ending n output ∷ []) (made ∙ ap (λ (m : Machine). m.steps) (sym is))
-    ∙ ap (λ (bytes : List ℕ). machine_line path ending s.machine.steps bytes ∷ []) (put ∙ ap (λ (m : Machine). m.state.ports.console.output) (sym is))
-    ∙ ap (λ (e : Option Ending). own_lines_by told_spot e path s) (sym (ap (λ (m : Machine). m.ending) is ∙ ended))
+    ap (λ (n : ℕ). machine_line path ending n output ∷ []) (made ∙ ap (λ (p : Paged). p.machine.steps) (sym is))
+    ∙ ap (λ (bytes : List ℕ). machine_line path ending s.machine.machine.steps bytes ∷ []) (put ∙ ap (λ (p : Paged). p.machine.state.ports.console.output) (sym is))
+    ∙ ap (λ (e : Option Ending). own_lines_by told_spot e path s) (sym (ap (λ (p : Paged). p.machine.ending) is ∙ ended))
 
-pub outcome_lines : (path : Path) (c : Cell) (t : Tree (Spot Machine)) (vm : Machine) (ending : Ending) (steps : ℕ) (output : List ℕ) (log : List Line)
+pub outcome_lines : (path : Path) (c : Cell) (t : Tree (Spot Paged)) (vm : Paged) (ending : Ending) (steps : ℕ) (output : List ℕ) (log : List Line)
     → Tallies path c t → IsSound forest t → IsOrdered nat_cmp c.broods → log ≡ c.log.items ++ map killed_line c.broods.entries
-    → (machine t).machine ≡ vm → vm.ending ≡ Some ending → steps ≡ vm.steps → output ≡ vm.state.ports.console.output
+    → (machine t).machine ≡ vm → vm.machine.ending ≡ Some ending → steps ≡ vm.machine.steps → output ≡ vm.machine.state.ports.console.output
     → machine_line path ending steps output ∷ log ≡ lines told_spot path (ended_tree t)
 unfolding lines
 outcome_lines path c (node s broods log') vm ending steps output log h sound ordered told is ended made put =

@@ -6,8 +6,7 @@ use Rattle.forest_history.specs.Places.{at_path, Spot}
 use Rattle.forest_history.specs.World.{is_ready_at, lives_ready, holds, is_ready}
 use Rattle.forest_history.proofs.Changes.{at_path-within, at_path-here, at_path-machine}
 use Rattle.forest_history.proofs.Lives.{waits-deep, waits-child}
-use Rattle.forest_model.specs.Machine.{Machine}
-use Rattle.forest_model.specs.Forest.{machines}
+use Rattle.forest_model.specs.Paged.{Paged, paged_machines}
 use Rattle.world_core.specs.Waiting.{Waiting, IsListed, IsCovered}
 use Rattle.world_core.specs.Shows.{forest}
 use Rattle.world_core.proofs.Changes.{is_one, Lies, here, below, parent, above, apart, lies, child-there, outside, outside-apart}
@@ -26,43 +25,43 @@ pub IsListed-first : (n : Path) (w : Waiting) (list : List Waiting) → w ≡ re
 unfolding IsListed
 IsListed-first n w list e = subst (λ v. IsListed n (v ∷ list)) (sym e) (inl refl)
 
-module _ (f : Tree (Spot Machine) → Tree (Spot Machine)) where
-  lives_ready-kept : (x : Branch) (rest : Path) (t : Tree (Spot Machine)) → waits forest (at_path f (x ∷ rest) t) ≡ waits forest t
-      → lives_ready machines (at_path f (x ∷ rest) t) ≡ lives_ready machines t
+module _ (f : Tree (Spot Paged) → Tree (Spot Paged)) where
+  lives_ready-kept : (x : Branch) (rest : Path) (t : Tree (Spot Paged)) → waits forest (at_path f (x ∷ rest) t) ≡ waits forest t
+      → lives_ready paged_machines (at_path f (x ∷ rest) t) ≡ lives_ready paged_machines t
   lives_ready-kept x rest t waiting =
-      ap₂ (λ (s : Spot Machine) is_waiting. not (is_some (forest.ending s)) && is_ready_at s.place is_waiting) (at_path-machine f x rest t) waiting
+      ap₂ (λ (s : Spot Paged) is_waiting. not (is_some (forest.ending s)) && is_ready_at s.place is_waiting) (at_path-machine f x rest t) waiting
 
-  holds-kept : (x : Branch) (rest : Path) (u : Option (Tree (Spot Machine)))
-      → ((t : Tree (Spot Machine)) → u ≡ Some t → waits forest (at_path f (x ∷ rest) t) ≡ waits forest t)
-      → holds machines (lives_ready machines) (option_map (at_path f (x ∷ rest)) u) ≡ holds machines (lives_ready machines) u
+  holds-kept : (x : Branch) (rest : Path) (u : Option (Tree (Spot Paged)))
+      → ((t : Tree (Spot Paged)) → u ≡ Some t → waits forest (at_path f (x ∷ rest) t) ≡ waits forest t)
+      → holds paged_machines (lives_ready paged_machines) (option_map (at_path f (x ∷ rest)) u) ≡ holds paged_machines (lives_ready paged_machines) u
   holds-kept x rest None waiting = refl
   holds-kept x rest (Some t) waiting = lives_ready-kept x rest t (waiting t refl)
 
   -- the parent of a machine that has ended before and after, or neither
-  pub parent-ready : (name n : Path) (t a : Tree (Spot Machine)) (x : Branch) → beyond name n ≡ None → beyond n name ≡ Some (x ∷ []) → subtree name t ≡ Some a
-      → has_ended forest (f a) ≡ has_ended forest a → is_ready machines n (at_path f name t) ≡ is_ready machines n t
+  pub parent-ready : (name n : Path) (t a : Tree (Spot Paged)) (x : Branch) → beyond name n ≡ None → beyond n name ≡ Some (x ∷ []) → subtree name t ≡ Some a
+      → has_ended forest (f a) ≡ has_ended forest a → is_ready paged_machines n (at_path f name t) ≡ is_ready paged_machines n t
   parent-ready name n t a x none e there same =
-      ap (holds machines (lives_ready machines)) (outside f name n t (Some (x ∷ [])) none e)
+      ap (holds paged_machines (lives_ready paged_machines)) (outside f name n t (Some (x ∷ [])) none e)
       ∙ holds-kept x [] (subtree n t) (λ u at. waits-child forest f x u a (child-there name n t a u x e there at) same)
 
   -- what holds of each that is ready after a change
-  pub ready-changed : (P : Path → Type 0) (name : Path) (t a : Tree (Spot Machine)) → subtree name t ≡ Some a
-      → (lives_ready machines (f a) ≡ true → P name)
-      → ((x : Branch) (rest : Path) → is_ready machines (x ∷ rest) (f a) ≡ true → P (name ++ (x ∷ rest)))
-      → ((n : Path) → beyond name n ≡ None → is_one (beyond n name) ≡ false → is_ready machines n t ≡ true → P n)
-      → ((n : Path) (x : Branch) → beyond name n ≡ None → beyond n name ≡ Some (x ∷ []) → is_ready machines n (at_path f name t) ≡ true → P n)
-      → (n : Path) → is_ready machines n (at_path f name t) ≡ true → P n
+  pub ready-changed : (P : Path → Type 0) (name : Path) (t a : Tree (Spot Paged)) → subtree name t ≡ Some a
+      → (lives_ready paged_machines (f a) ≡ true → P name)
+      → ((x : Branch) (rest : Path) → is_ready paged_machines (x ∷ rest) (f a) ≡ true → P (name ++ (x ∷ rest)))
+      → ((n : Path) → beyond name n ≡ None → is_one (beyond n name) ≡ false → is_ready paged_machines n t ≡ true → P n)
+      → ((n : Path) (x : Branch) → beyond name n ≡ None → beyond n name ≡ Some (x ∷ []) → is_ready paged_machines n (at_path f name t) ≡ true → P n)
+      → (n : Path) → is_ready paged_machines n (at_path f name t) ≡ true → P n
   ready-changed P name t a there at_it below_it outer above_it n ready = by (lies name n)
     where
       by : Lies name n → P n
       by (here e) =
           subst P (sym e)
           (at_it
-          (ap (holds machines (lives_ready machines)) (sym (ap (λ m. subtree m (at_path f name t)) e ∙ at_path-here f name t ∙ ap (option_map f) there)) ∙ ready))
+          (ap (holds paged_machines (lives_ready paged_machines)) (sym (ap (λ m. subtree m (at_path f name t)) e ∙ at_path-here f name t ∙ ap (option_map f) there)) ∙ ready))
       by (below x rest e) =
           subst P (sym e)
           (below_it x rest
-          (ap (holds machines (lives_ready machines))
+          (ap (holds paged_machines (lives_ready paged_machines))
           (sym
           (ap (λ m. subtree m (at_path f name t)) e
           ∙ at_path-within f name (x ∷ rest) t
@@ -72,7 +71,7 @@ module _ (f : Tree (Spot Machine) → Tree (Spot Machine)) where
       by (above x y rest none e) =
           outer n none (ap is_one e)
           (sym
-          (ap (holds machines (lives_ready machines)) (outside f name n t (Some (x ∷ (y ∷ rest))) none e)
+          (ap (holds paged_machines (lives_ready paged_machines)) (outside f name n t (Some (x ∷ (y ∷ rest))) none e)
           ∙ holds-kept x (y ∷ rest) (subtree n t) (λ u at. waits-deep forest f x y rest u))
           ∙ ready)
-      by (apart none e) = outer n none (ap is_one e) (sym (ap (holds machines (lives_ready machines)) (outside-apart f name n t none e)) ∙ ready)
+      by (apart none e) = outer n none (ap is_one e) (sym (ap (holds paged_machines (lives_ready paged_machines)) (outside-apart f name n t none e)) ∙ ready)

@@ -15,11 +15,10 @@ use Rattle.forest_history.specs.Places.{at_path, Place, asleep, home, out, parke
 use Rattle.forest_history.specs.World.{holds, is_asleep_at, is_out_at, is_ready, lives_ready}
 use Rattle.forest_history.specs.Rows.{first_reason}
 use Rattle.forest_history.proofs.Spots.{machine-placed, place-placed}
-use Rattle.forest_model.specs.Machine.{Machine}
-use Rattle.forest_model.specs.Forest.{machines}
+use Rattle.forest_model.specs.Paged.{Paged, paged_machines}
 use Rattle.run_report.specs.NameOrder.{path_cmp}
 use Rattle.run_report.specs.Report.{Ended}
-use Rattle.vm_cell.specs.Keyed.{KeyedMachine, IsOfDepot}
+use Rattle.vm_cell.specs.Keyed.{KeyedMachine, IsOfDepot, paged}
 use Rattle.world_core.specs.declared.reason.Reason.{Reason}
 use Rattle.world_core.specs.declared.cell.Cell.{Cell}
 use Rattle.world_core.specs.declared.cell.State.TheVariants.{Home}
@@ -38,7 +37,7 @@ use Rattle.run_report.proofs.NameMaps.{updated-here, updated-apart}
 
 -- the same cells and the same list show the same
 module _ (depot : Shelves) (w v : World) (cells : (name : Path) → get path_cmp v.cells name ≡ get path_cmp w.cells name) (ready : v.ready ≡ w.ready) where
-  pub shows-same : (outcome : Option Ended) (t : Tree (Spot Machine)) → ShowsTree outcome depot w t → ShowsTree outcome depot v t
+  pub shows-same : (outcome : Option Ended) (t : Tree (Spot Paged)) → ShowsTree outcome depot w t → ShowsTree outcome depot v t
   shows-same None t h = record {
     root = h.root;
     cells = λ name. subst (λ c. Shows depot name c (subtree name t)) (sym (cells name)) (h.cells name);
@@ -113,19 +112,19 @@ pub there-is : {A : Type 0} (o : Option A) (P : A → Type 0) → IsSomeAnd o P 
 there-is None P h = absurd h
 there-is (Some a) P h = (a, refl, h)
 
-root-awake : (name : Path) (t b : Tree (Spot Machine)) → IsAwake t → IsAwake b → IsAwake (at_path (λ a. b) name t)
+root-awake : (name : Path) (t b : Tree (Spot Paged)) → IsAwake t → IsAwake b → IsAwake (at_path (λ a. b) name t)
 unfolding at_path
 root-awake [] t b h after = after
 root-awake (x ∷ rest) (node s broods log) b h after = record { lives = h.lives; awake = h.awake }
 
 -- a machine that is awake and lives has a cell, and so is due by its own turn
-has-cell : (depot : Shelves) (name : Path) (c : Option Cell) (b : Tree (Spot Machine)) → IsAwake b → Shows depot name c (Some b)
+has-cell : (depot : Shelves) (name : Path) (c : Option Cell) (b : Tree (Spot Paged)) → IsAwake b → Shows depot name c (Some b)
     → (list : List Waiting) → IsListed name list → IsDue c name list
 has-cell depot name None b awake (inl over) list h = let no : true ≡ false = sym over.0 ∙ awake.lives in absurd (cc)
 has-cell depot name None b awake (inr sleeps) list h = let no : true ≡ false = sym sleeps ∙ awake.awake in absurd (cc)
 has-cell depot name (Some c) b awake shows list h = h
 
-module _ (depot : Shelves) (w v : World) (f : Forest) (name : Path) (a b : Tree (Spot Machine)) (between : IsBetween depot w f name a)
+module _ (depot : Shelves) (w v : World) (f : Forest) (name : Path) (a b : Tree (Spot Paged)) (between : IsBetween depot w f name a)
     (others : (n : Path) → name ≢ n → get path_cmp v.cells n ≡ get path_cmp w.cells n)
     (more : (n : Path) → IsListed n w.ready → IsListed n v.ready) (covers : (n : Path) → IsCovered n w.ready → IsCovered n v.ready)
     (same : (x : Branch) (rest : Path) → subtree (x ∷ rest) b ≡ subtree (x ∷ rest) a) where
@@ -144,11 +143,11 @@ module _ (depot : Shelves) (w v : World) (f : Forest) (name : Path) (a b : Tree 
       subst (Shows depot (name ++ (x ∷ rest)) (get path_cmp v.cells (name ++ (x ∷ rest)))) (sym (same x rest))
       (subst (λ c. Shows depot (name ++ (x ∷ rest)) c (subtree (x ∷ rest) a)) (sym (others (name ++ (x ∷ rest)) (apart-below name x rest))) (between.below x rest))
 
-  below-ready : (x : Branch) (rest : Path) → is_ready machines (x ∷ rest) b ≡ true
+  below-ready : (x : Branch) (rest : Path) → is_ready paged_machines (x ∷ rest) b ≡ true
       → IsDue (get path_cmp v.cells (name ++ (x ∷ rest))) (name ++ (x ∷ rest)) v.ready
   below-ready x rest is =
       due-more (name ++ (x ∷ rest)) (apart-below name x rest)
-      (between.ready_below x rest (ap (holds machines (lives_ready machines)) (sym (same x rest)) ∙ is))
+      (between.ready_below x rest (ap (holds paged_machines (lives_ready paged_machines)) (sym (same x rest)) ∙ is))
 
   all-listed : IfSome (get path_cmp v.cells name) (λ (c : Cell). c.is_listed ≡ true → IsListed name v.ready) → (n : Path)
       → IfSome (get path_cmp v.cells n) (λ (c : Cell). c.is_listed ≡ true → IsListed n v.ready)
@@ -166,7 +165,7 @@ module _ (depot : Shelves) (w v : World) (f : Forest) (name : Path) (a b : Tree 
 
   -- the machine lives
   pub between-stands : IsSound forest (with_tree name b f).tree → IsAwake b → v.halted ≡ w.halted → v.outcome ≡ w.outcome
-      → Shows depot name (get path_cmp v.cells name) (Some b) → (lives_ready machines b ≡ true → IsListed name v.ready)
+      → Shows depot name (get path_cmp v.cells name) (Some b) → (lives_ready paged_machines b ≡ true → IsListed name v.ready)
       → IfSome (get path_cmp v.cells name) (λ (c : Cell). c.is_listed ≡ true → IsListed name v.ready)
       → StandsFor depot v (with_tree name b f)
   between-stands sound after halted outcome at ready listed =
@@ -187,12 +186,12 @@ module _ (depot : Shelves) (w v : World) (f : Forest) (name : Path) (a b : Tree 
         });
       }
 
-pub below-placed : (place : Place) (t : Tree (Spot Machine)) (x : Branch) (rest : Path) → subtree (x ∷ rest) (placed place t) ≡ subtree (x ∷ rest) t
+pub below-placed : (place : Place) (t : Tree (Spot Paged)) (x : Branch) (rest : Path) → subtree (x ∷ rest) (placed place t) ≡ subtree (x ∷ rest) t
 unfolding subtree
 below-placed place (node s broods log) x rest = refl
 
-pub home-stands : (depot : Shelves) (w : World) (f : Forest) (name : Path) (a : Tree (Spot Machine)) (vm : Box KeyedMachine Global) (cells : BTreeMap Path Cell)
-    (list : List Waiting) (c : Cell) (listed : Bool) → IsBetween depot w f name a → (machine a).machine ≡ vm.value.machine → IsOfDepot depot vm.value.key → has_ended forest a ≡ false
+pub home-stands : (depot : Shelves) (w : World) (f : Forest) (name : Path) (a : Tree (Spot Paged)) (vm : Box KeyedMachine Global) (cells : BTreeMap Path Cell)
+    (list : List Waiting) (c : Cell) (listed : Bool) → IsBetween depot w f name a → (machine a).machine ≡ paged vm.value → IsOfDepot depot vm.value.key → has_ended forest a ≡ false
     → IsSound forest (with_tree name (placed home a) f).tree → get path_cmp w.cells name ≡ Some c
     → get path_cmp cells name ≡ Some (record c { state = Home vm; is_listed = listed }) → ((n : Path) → name ≢ n → get path_cmp cells n ≡ get path_cmp w.cells n)
     → IsListed name list → ((n : Path) → IsListed n w.ready → IsListed n list) → ((n : Path) → IsCovered n w.ready → IsCovered n list)
@@ -218,8 +217,8 @@ pub some-is : {A : Type 0} (a : A) (o : Option A) → Some a ≡ o → IsSome o
 some-is a None e = absurd (cc)
 some-is a (Some b) e = refl
 
-pub home-written : (depot : Shelves) (w : World) (f : Forest) (name : Path) (a : Tree (Spot Machine)) (vm : Box KeyedMachine Global) (cells : BTreeMap Path Cell)
-    (list : List Waiting) (c : Cell) (listed : Bool) → IsBetween depot w f name a → (machine a).machine ≡ vm.value.machine → IsOfDepot depot vm.value.key → has_ended forest a ≡ false
+pub home-written : (depot : Shelves) (w : World) (f : Forest) (name : Path) (a : Tree (Spot Paged)) (vm : Box KeyedMachine Global) (cells : BTreeMap Path Cell)
+    (list : List Waiting) (c : Cell) (listed : Bool) → IsBetween depot w f name a → (machine a).machine ≡ paged vm.value → IsOfDepot depot vm.value.key → has_ended forest a ≡ false
     → IsSound forest (with_tree name (placed home a) f).tree → Some c ≡ get path_cmp w.cells name
     → WritesThrough path_cmp (path_cmp name) w.cells (record c { state = Home vm; is_listed = listed }) cells
     → IsListed name list → ((n : Path) → IsListed n w.ready → IsListed n list) → ((n : Path) → IsCovered n w.ready → IsCovered n list)
@@ -239,31 +238,31 @@ not-both out away sleeps = absurd (cc)
 not-both parked away sleeps = absurd (cc)
 
 -- the machine of this name is out, and its cell shows it
-pub record IsOutHere (depot : Shelves) (w : World) (f : Forest) (name : Path) (t : Tree (Spot Machine)) (c : Cell) : Type 0 where
+pub record IsOutHere (depot : Shelves) (w : World) (f : Forest) (name : Path) (t : Tree (Spot Paged)) (c : Cell) : Type 0 where
   pub there : subtree name f.tree ≡ Some t
   pub cell : get path_cmp w.cells name ≡ Some c
   pub shows : CellShows depot name c t
   pub going : w.outcome ≡ None
   pub live : ShowsLive depot w f.tree
 
-ended-below : (t a : Tree (Spot Machine)) (name : Path) → IsSound forest t → has_ended forest t ≡ true → is_out_at (machine t).place ≡ false
+ended-below : (t a : Tree (Spot Paged)) (name : Path) → IsSound forest t → has_ended forest t ≡ true → is_out_at (machine t).place ≡ false
     → subtree name t ≡ Some a → is_out_at (machine a).place ≡ true → ⊥
 unfolding subtree brood_of child_at
 ended-below t a [] sound over inside at away =
-    let no : false ≡ true = sym inside ∙ ap (λ (u : Tree (Spot Machine)). is_out_at (machine u).place) (some-same t a at) ∙ away in cc
+    let no : false ≡ true = sym inside ∙ ap (λ (u : Tree (Spot Paged)). is_out_at (machine u).place) (some-same t a at) ∙ away in cc
 ended-below (node s broods log) a (x ∷ rest) sound over inside at away =
     let none = (root-sound forest s broods log sound).ended over in
-    let no : None ≡ Some a = sym (ap (λ (b : Broods (Spot Machine)). option_and_then (subtree rest) (child_at x.child (brood_of x.ticket b))) none) ∙ at in
+    let no : None ≡ Some a = sym (ap (λ (b : Broods (Spot Paged)). option_and_then (subtree rest) (child_at x.child (brood_of x.ticket b))) none) ∙ at in
     cc
 
-shown-out : (depot : Shelves) (w : World) (f : Forest) (name : Path) (t : Tree (Spot Machine)) (c : Option Cell) → get path_cmp w.cells name ≡ c
+shown-out : (depot : Shelves) (w : World) (f : Forest) (name : Path) (t : Tree (Spot Paged)) (c : Option Cell) → get path_cmp w.cells name ≡ c
     → subtree name f.tree ≡ Some t → is_out_at (machine t).place ≡ true → w.outcome ≡ None → ShowsLive depot w f.tree → Shows depot name c (Some t)
     → (cell : Cell) × IsOutHere depot w f name t cell
 shown-out depot w f name t None e at away going live (inl over) = let no : false ≡ true = sym over.1 ∙ away in absurd (cc)
 shown-out depot w f name t None e at away going live (inr sleeps) = absurd (not-both (machine t).place away sleeps)
 shown-out depot w f name t (Some c) e at away going live h = (c, record { there = at; cell = e; shows = h; going = going; live = live })
 
-pub out-here : (depot : Shelves) (w : World) (f : Forest) (name : Path) (t : Tree (Spot Machine)) → StandsFor depot w f → subtree name f.tree ≡ Some t
+pub out-here : (depot : Shelves) (w : World) (f : Forest) (name : Path) (t : Tree (Spot Paged)) → StandsFor depot w f → subtree name f.tree ≡ Some t
     → is_out_at (machine t).place ≡ true → (cell : Cell) × IsOutHere depot w f name t cell
 out-here depot w f name t h at away = by w.outcome refl h.tree
   where
@@ -287,29 +286,33 @@ gone-cell depot w f name h lost = by w.outcome h.tree
 -- what the name of a lease stands for: nothing, or the machine as it was handed out
 pub data Handed (depot : Shelves) (w : World) (f : Forest) (lease : Lent) : Type 0 where
   gone : subtree lease.name f.tree ≡ None → get path_cmp w.cells lease.name ≡ None → Handed depot w f lease
-  there : (broods : Broods (Spot Machine)) (log : Log (Spot Machine)) (c : Cell)
-      → IsOutHere depot w f lease.name (node (record { machine = lease.start; place = out }) broods log) c → Handed depot w f lease
+  there : (start : Paged) (broods : Broods (Spot Paged)) (log : Log (Spot Paged)) (c : Cell)
+      → IsOutAs lease (node (record { machine = start; place = out }) broods log)
+      → IsOutHere depot w f lease.name (node (record { machine = start; place = out }) broods log) c → Handed depot w f lease
 
 pub handed : (depot : Shelves) (w : World) (f : Forest) (lease : Lent) → StandsFor depot w f → IsHandedOut f lease → Handed depot w f lease
 handed depot w f lease h out_as = by (subtree lease.name f.tree) refl out_as
   where
-    by : (u : Option (Tree (Spot Machine))) → subtree lease.name f.tree ≡ u → IsOutAs lease.start u → Handed depot w f lease
+    by : (u : Option (Tree (Spot Paged))) → subtree lease.name f.tree ≡ u → IfSome u (IsOutAs lease) → Handed depot w f lease
     by None e is = gone e (gone-cell depot w f lease.name h e)
     by (Some (node s broods log)) e is =
-        let same : subtree lease.name f.tree ≡ Some (node (record { machine = lease.start; place = out }) broods log) = e ∙ ap (λ (m : Spot Machine). Some (node m broods log)) is in
-        let found = out-here depot w f lease.name (node (record { machine = lease.start; place = out }) broods log) h same refl in
-        there broods log found.0 found.1
+        let start : Paged = s.machine in
+        let t : Tree (Spot Paged) = node (record { machine = start; place = out }) broods log in
+        let same : subtree lease.name f.tree ≡ Some t =
+        e ∙ ap (λ place. Some (node (record { machine = start; place = place }) broods log)) is.is_out in
+        let found = out-here depot w f lease.name t h same refl in
+        there start broods log found.0 (record { is_out = refl; start = is.start; pages = is.pages }) found.1
 
 -- this holds where the name is gone, and that of the machine that is out, if it is there
-pub match-handed : (depot : Shelves) (w : World) (f : Forest) (lease : Lent) (Q : Type 0) (P : Tree (Spot Machine) → Type 0) → StandsFor depot w f
+pub match-handed : (depot : Shelves) (w : World) (f : Forest) (lease : Lent) (Q : Type 0) (P : Tree (Spot Paged) → Type 0) → StandsFor depot w f
     → IsHandedOut f lease
     → (get path_cmp w.cells lease.name ≡ None → Q)
-    → ((broods : Broods (Spot Machine)) (log : Log (Spot Machine)) (c : Cell)
-    → IsOutHere depot w f lease.name (node (record { machine = lease.start; place = out }) broods log) c
-    → P (node (record { machine = lease.start; place = out }) broods log))
+    → ((start : Paged) (broods : Broods (Spot Paged)) (log : Log (Spot Paged)) (c : Cell)
+    → IsOutHere depot w f lease.name (node (record { machine = start; place = out }) broods log) c
+    → P (node (record { machine = start; place = out }) broods log))
     → MatchOption (subtree lease.name f.tree) Q P
 match-handed depot w f lease Q P h out_as gone_so each = by (handed depot w f lease h out_as)
   where
     by : Handed depot w f lease → MatchOption (subtree lease.name f.tree) Q P
     by (gone none cell) = subst (λ u. MatchOption u Q P) (sym none) (gone_so cell)
-    by (there broods log c is) = subst (λ u. MatchOption u Q P) (sym is.there) (each broods log c is)
+    by (there start broods log c is_as is) = subst (λ u. MatchOption u Q P) (sym is.there) (each start broods log c is)

@@ -8,8 +8,7 @@ use Rattle.forest_tree.specs.Settle.{has_ended, waits}
 use Rattle.forest_tree.proofs.Places.{some-same}
 use Rattle.forest_history.specs.Places.{Place, asleep, home, out, parked, Spot}
 use Rattle.forest_history.specs.World.{is_asleep_at, is_ready_at, lives_ready, holds}
-use Rattle.forest_model.specs.Machine.{Machine}
-use Rattle.forest_model.specs.Forest.{machines}
+use Rattle.forest_model.specs.Paged.{Paged, paged_machines}
 use Rattle.image_depot.specs.Key.{Key}
 use Rattle.run_report.specs.Name.{child_path}
 use Rattle.run_report.specs.NameOrder.{path_cmp}
@@ -26,10 +25,10 @@ use Rattle.world_core.proofs.Awake.{child-below, slot-ended, never-both, awake-t
 use Rattle.world_core.proofs.SlotWaits.{none-held, one-held}
 
 -- ready, and still a descriptor
-abbrev pub wakes : Option (Tree (Spot Machine)) → Bool
-wakes u = holds machines (lives_ready machines) u && holds machines (λ a. is_asleep_at (machine a).place) u
+abbrev pub wakes : Option (Tree (Spot Paged)) → Bool
+wakes u = holds paged_machines (lives_ready paged_machines) u && holds paged_machines (λ a. is_asleep_at (machine a).place) u
 
-pub sleeps-by : (parent : Path) (ticket k : ℕ) (t p : Tree (Spot Machine)) → subtree parent t ≡ Some p → sleeps parent ticket k t ≡ wakes (child_of ticket k p)
+pub sleeps-by : (parent : Path) (ticket k : ℕ) (t p : Tree (Spot Paged)) → subtree parent t ≡ Some p → sleeps parent ticket k t ≡ wakes (child_of ticket k p)
 sleeps-by parent ticket k t p there = ap wakes (child-below parent ticket k t (Some p) there)
 
 -- what has ended is nothing else
@@ -61,32 +60,32 @@ wakes-awake : (ready there : Bool) → there ≡ false → ready && there ≡ fa
 wakes-awake true there h = h
 wakes-awake false there h = refl
 
-pub wakes-is : (a : Tree (Spot Machine)) → wakes (Some a) ≡ true → (has_ended forest a ≡ false) × (is_asleep_at (machine a).place ≡ true)
+pub wakes-is : (a : Tree (Spot Paged)) → wakes (Some a) ≡ true → (has_ended forest a ≡ false) × (is_asleep_at (machine a).place ≡ true)
 wakes-is a h = wakes-parts (has_ended forest a) (waits forest a) (machine a).place h
 
-pub wakes-there : (u : Option (Tree (Spot Machine))) → wakes u ≡ true → (a : Tree (Spot Machine)) × (u ≡ Some a)
+pub wakes-there : (u : Option (Tree (Spot Paged))) → wakes u ≡ true → (a : Tree (Spot Paged)) × (u ≡ Some a)
 wakes-there None wake = absurd (cc)
 wakes-there (Some a) wake = (a, refl)
 
 -- a tree by its slot
-pub wakes-slot : (path : Path) (key : Key) (seed : Descriptor) (slot : Slot) (a : Tree (Spot Machine)) → SlotShows path key seed slot a
+pub wakes-slot : (path : Path) (key : Key) (seed : Descriptor) (slot : Slot) (a : Tree (Spot Paged)) → SlotShows path key seed slot a
     → wakes (Some a) ≡ is_asleep_slot (Some slot)
 wakes-slot path key seed Asleep a h =
-    wakes-yes (has_ended forest a) (waits forest a) (machine a).place h.lives (ap (λ (u : Tree (Spot Machine)). is_asleep_at (machine u).place) h.born)
-wakes-slot path key seed Awake a h = wakes-awake (lives_ready machines a) (is_asleep_at (machine a).place) h.awake
+    wakes-yes (has_ended forest a) (waits forest a) (machine a).place h.lives (ap (λ (u : Tree (Spot Paged)). is_asleep_at (machine u).place) h.born)
+wakes-slot path key seed Awake a h = wakes-awake (lives_ready paged_machines a) (is_asleep_at (machine a).place) h.awake
 wakes-slot path key seed (Ended outcome) a h =
     wakes-ended (has_ended forest a) (is_ready_at (machine a).place (waits forest a)) (is_asleep_at (machine a).place) (slot-ended outcome.ending a h.0)
 
-childless : (ticket k : ℕ) (p : Tree (Spot Machine)) → broods_of p ≡ no_brood → wakes (child_of ticket k p) ≡ false
+childless : (ticket k : ℕ) (p : Tree (Spot Paged)) → broods_of p ≡ no_brood → wakes (child_of ticket k p) ≡ false
 unfolding brood_of child_at
 childless ticket k p empty = ap (λ broods. wakes (child_at k (brood_of ticket broods))) empty
 
-module _ (depot : Shelves) (cells : BTreeMap Path Cell) (t : Tree (Spot Machine)) (h : ShowsCells depot cells t) where
+module _ (depot : Shelves) (cells : BTreeMap Path Cell) (t : Tree (Spot Paged)) (h : ShowsCells depot cells t) where
   pub none-sleeps : (parent : Path) (ticket k : ℕ) → get path_cmp cells parent ≡ None → sleeps parent ticket k t ≡ false
   unfolding subtree
   none-sleeps parent ticket k none = by (subtree parent t) refl
     where
-      by : (u : Option (Tree (Spot Machine))) → subtree parent t ≡ u → sleeps parent ticket k t ≡ false
+      by : (u : Option (Tree (Spot Paged))) → subtree parent t ≡ u → sleeps parent ticket k t ≡ false
       by None e = ap wakes (child-below parent ticket k t None e)
       by (Some p) e =
           let no_cell : IsNoCell p = subst (λ c. Shows depot parent c (Some p)) none (subst (Shows depot parent (get path_cmp cells parent)) e (h.shows parent)) in
@@ -96,7 +95,7 @@ module _ (depot : Shelves) (cells : BTreeMap Path Cell) (t : Tree (Spot Machine)
           ]
 
 -- what a slot that is asleep or not is of
-slot-sleeps : (path : Path) (ticket : ℕ) (key : Key) (k : ℕ) (seed : Descriptor) (slots : List Slot) (trees : Trees (Spot Machine)) (j : ℕ)
+slot-sleeps : (path : Path) (ticket : ℕ) (key : Key) (k : ℕ) (seed : Descriptor) (slots : List Slot) (trees : Trees (Spot Paged)) (j : ℕ)
     → SlotsShow path ticket key k seed slots trees → slice_get slots j ≡ Some Asleep → wakes (child_at (suc j) trees) ≡ true
 unfolding SlotsShow child_at
 slot-sleeps path ticket key k seed [] no_tree j h there = absurd (cc)
@@ -107,7 +106,7 @@ slot-sleeps path ticket key k seed (slot ∷ slots) (tree t rest) zero h there =
 slot-sleeps path ticket key k seed (slot ∷ slots) (tree t rest) (suc j) h there =
     slot-sleeps path ticket key (suc k) seed slots rest j h.1 there
 
-slot-wakes : (path : Path) (ticket : ℕ) (key : Key) (k : ℕ) (seed : Descriptor) (slots : List Slot) (trees : Trees (Spot Machine)) (j : ℕ)
+slot-wakes : (path : Path) (ticket : ℕ) (key : Key) (k : ℕ) (seed : Descriptor) (slots : List Slot) (trees : Trees (Spot Paged)) (j : ℕ)
     → SlotsShow path ticket key k seed slots trees → IsNotAsleep (slice_get slots j) → wakes (child_at (suc j) trees) ≡ false
 unfolding SlotsShow child_at
 slot-wakes path ticket key k seed [] no_tree j h there = refl
@@ -123,12 +122,12 @@ slot-wakes path ticket key k seed (slot ∷ slots) (tree t rest) zero h there =
 slot-wakes path ticket key k seed (slot ∷ slots) (tree t rest) (suc j) h there =
     slot-wakes path ticket key (suc k) seed slots rest j h.1 there
 
-not-zero : (trees : Trees (Spot Machine)) → wakes (child_at 0 trees) ≡ false
+not-zero : (trees : Trees (Spot Paged)) → wakes (child_at 0 trees) ≡ false
 unfolding child_at
 not-zero no_tree = refl
 not-zero (tree t rest) = refl
 
-born-sleeps : (depot : Shelves) (path : Path) (ticket k : ℕ) (young : Option Young) (slots : List Slot) (trees : Trees (Spot Machine))
+born-sleeps : (depot : Shelves) (path : Path) (ticket k : ℕ) (young : Option Young) (slots : List Slot) (trees : Trees (Spot Paged))
     → BornShows depot path ticket young slots trees → 1 ≤ k → slot_at k slots ≡ Some Asleep → wakes (child_at k trees) ≡ true
 born-sleeps depot path ticket k None slots trees h one there = absurd h
 born-sleeps depot path ticket zero (Some young) slots trees h one there = absurd (omega arith)
@@ -136,7 +135,7 @@ born-sleeps depot path ticket (suc j) (Some young) slots trees h one there =
     let same : suc j - 1 ≡ j = omega arith in
     slot-sleeps path ticket young.key 1 young.seed slots trees j h.1 (ap (slice_get slots) (sym same) ∙ there)
 
-born-wakes : (depot : Shelves) (path : Path) (ticket k : ℕ) (young : Option Young) (slots : List Slot) (trees : Trees (Spot Machine))
+born-wakes : (depot : Shelves) (path : Path) (ticket k : ℕ) (young : Option Young) (slots : List Slot) (trees : Trees (Spot Paged))
     → BornShows depot path ticket young slots trees → (1 ≤ k → IsNotAsleep (slot_at k slots)) → wakes (child_at k trees) ≡ false
 born-wakes depot path ticket k None slots trees h there = absurd h
 born-wakes depot path ticket zero (Some young) slots trees h there = not-zero trees
@@ -145,7 +144,7 @@ born-wakes depot path ticket (suc j) (Some young) slots trees h there =
     slot-wakes path ticket young.key 1 young.seed slots trees j h.1 (subst (λ i. IsNotAsleep (slice_get slots i)) same (there (omega arith)))
 
 -- a child's slot tells whether it is still a descriptor
-born-slot : (depot : Shelves) (path : Path) (ticket k : ℕ) (young : Option Young) (slots : List Slot) (trees : Trees (Spot Machine))
+born-slot : (depot : Shelves) (path : Path) (ticket k : ℕ) (young : Option Young) (slots : List Slot) (trees : Trees (Spot Paged))
     → BornShows depot path ticket young slots trees → ltb 0 k && is_asleep_slot (slot_at k slots) ≡ wakes (child_at k trees)
 born-slot depot path ticket zero young slots trees h = sym (not-zero trees)
 born-slot depot path ticket (suc j) young slots trees h =
@@ -158,13 +157,13 @@ born-slot depot path ticket (suc j) young slots trees h =
     by (Some (Ended outcome)) e = ap is_asleep_slot e ∙ sym (born-wakes depot path ticket (suc j) young slots trees h (λ one. subst IsNotAsleep (sym e) tt))
 
 -- the cell, where there is one, shows the machine of its name
-pub cell-shows : (depot : Shelves) (path : Path) (c : Option Cell) (cell : Cell) (u : Option (Tree (Spot Machine))) → c ≡ Some cell → Shows depot path c u
-    → (t : Tree (Spot Machine)) × (u ≡ Some t) × CellShows depot path cell t
+pub cell-shows : (depot : Shelves) (path : Path) (c : Option Cell) (cell : Cell) (u : Option (Tree (Spot Paged))) → c ≡ Some cell → Shows depot path c u
+    → (t : Tree (Spot Paged)) × (u ≡ Some t) × CellShows depot path cell t
 cell-shows depot path None cell u e h = absurd (cc)
 cell-shows depot path (Some c) cell None e h = absurd h
 cell-shows depot path (Some c) cell (Some t) e h = (t, refl, subst (λ d. CellShows depot path d t) (some-same c cell e) h)
 
-module _ (depot : Shelves) (cells : BTreeMap Path Cell) (t : Tree (Spot Machine)) (h : ShowsCells depot cells t) (parent : Path) (ticket first : ℕ) where
+module _ (depot : Shelves) (cells : BTreeMap Path Cell) (t : Tree (Spot Paged)) (h : ShowsCells depot cells t) (parent : Path) (ticket first : ℕ) where
   pub first-no_cell : get path_cmp cells parent ≡ None → IsFirstAsleep parent ticket first t None
   first-no_cell none = λ k le. none-sleeps depot cells t h parent ticket k none
 
@@ -190,7 +189,7 @@ module _ (depot : Shelves) (cells : BTreeMap Path Cell) (t : Tree (Spot Machine)
       → IsFirstAsleep parent ticket first t r
   first-in c b from r some held start found =
       let shown = cell-shows depot parent (get path_cmp cells parent) c (subtree parent t) some (h.shows parent) in
-      let trees : Trees (Spot Machine) = brood_of ticket (broods_of shown.0) in
+      let trees : Trees (Spot Paged) = brood_of ticket (broods_of shown.0) in
       let born = (one-held depot parent c shown.0 shown.2.holds ticket b held).born in
       by r found
       (λ k. sleeps-by parent ticket k t shown.0 shown.1)

@@ -9,8 +9,8 @@ use Rattle.forest_tree.specs.Tree.{no_tree, brood_of, Path}
 use Rattle.forest_tree.specs.Settle.{alone}
 use Rattle.forest_history.specs.Places.{Place, spots}
 use Rattle.forest_history.specs.World.{is_asleep_at}
-use Rattle.forest_model.specs.Machine.{Machine}
 use Rattle.forest_model.specs.Forest.{machines}
+use Rattle.forest_model.specs.Paged.{paged_machines, Paged}
 use Rattle.run_report.specs.Lines.{log_lines}
 use Rattle.world_core.specs.declared.cell.Cell.{Cell}
 use Rattle.world_core.specs.Shows.{forest, IsAwake, BroodAt, TallyAt, Holds}
@@ -24,7 +24,7 @@ pub record IsEmptyCell (c : Cell) : Type 0 where
 none-got : (c : Cell) (ticket : ℕ) → IsEmptyCell c → get nat_cmp c.broods ticket ≡ None
 none-got c ticket h = ap (lookup (is_at (nat_cmp ticket))) h.no_brood
 
-pub alone-holds : (depot : Shelves) (path : Path) (c : Cell) (m : Machine) (place : Place) → IsEmptyCell c → ((ticket : ℕ) → is_cloned machines m ticket ≡ false)
+pub alone-holds : (depot : Shelves) (path : Path) (c : Cell) (m : Paged) (place : Place) → IsEmptyCell c → ((ticket : ℕ) → is_cloned paged_machines m ticket ≡ false)
     → Holds depot path c (alone forest (record { machine = m; place = place }))
 unfolding spots log_lines brood_of
 alone-holds depot path c m place h none = record {
@@ -32,14 +32,14 @@ alone-holds depot path c m place h none = record {
     log = h.no_line;
     room = let n : btree_map_len c.broods ≡ 0 = ap length h.no_brood in omega (arith, h.no_length);
     broods = λ ticket.
-        subst (λ b. TallyAt path (machines.grant m ticket).children b (is_cloned machines m ticket)) (sym (none-got c ticket h))
-        (subst (TallyAt path (machines.grant m ticket).children None) (sym (none ticket)) tt);
+        subst (λ b. TallyAt path (paged_machines.grant m ticket).children b (is_cloned paged_machines m ticket)) (sym (none-got c ticket h))
+        (subst (TallyAt path (paged_machines.grant m ticket).children None) (sym (none ticket)) tt);
   };
   broods = λ ticket.
-      subst (λ b. BroodAt depot path ticket b (is_cloned machines m ticket) no_tree) (sym (none-got c ticket h))
+      subst (λ b. BroodAt depot path ticket b (is_cloned paged_machines m ticket) no_tree) (sym (none-got c ticket h))
       (subst (λ cloned. BroodAt depot path ticket None cloned no_tree) (sym (none ticket)) refl);
 }
 
-pub alone-awake : (m : Machine) (place : Place) → m.ending ≡ None → is_asleep_at place ≡ false → IsAwake (alone forest (record { machine = m; place = place }))
-unfolding spots machines
+pub alone-awake : (m : Paged) (place : Place) → m.machine.ending ≡ None → is_asleep_at place ≡ false → IsAwake (alone forest (record { machine = m; place = place }))
+unfolding spots paged_machines machines
 alone-awake m place lives awake = record { lives = ap is_some lives; awake = awake }

@@ -8,16 +8,16 @@ use Rattle.forest_tree.specs.Settle.{has_ended}
 use Rattle.forest_tree.proofs.Places.{some-same}
 use Rattle.forest_history.specs.Places.{Spot, spots}
 use Rattle.forest_history.specs.World.{is_asleep_at}
-use Rattle.forest_model.specs.Machine.{Machine}
 use Rattle.forest_model.specs.Forest.{machines}
-use Rattle.image_depot.specs.Key.{Shelves, Key, IsKeyOf, image_of}
+use Rattle.forest_model.specs.Paged.{Paged, paged_machines}
+use Rattle.image_depot.specs.Key.{Shelves, Key, IsKeyOf}
 use Rattle.vm_descriptor.specs.declared.descriptor.Descriptor.{Descriptor}
 use Rattle.vm_descriptor.specs.Descriptor.{numbered}
 use Rattle.std.specs.Result.{IfOk}
 use Rattle.std.specs.Prelude.{Result, Ok, Err}
 use Rattle.std.specs.declared.alloc.AllocError.{AllocError}
-use Rattle.vm_cell.specs.Keyed.{KeyedMachine, IsOfDepot}
-use Rattle.vm_cell.specs.Woken.{woken, woken_machine}
+use Rattle.vm_cell.specs.Keyed.{KeyedMachine, IsOfDepot, paged}
+use Rattle.vm_cell.specs.Woken.{woken}
 use Rattle.vm_cell.specs.declared.vm.fork.Brood.{Brood as Young}
 use Rattle.run_report.specs.Name.{child_path}
 use Rattle.world_core.specs.declared.cell.Brood.{Brood}
@@ -29,67 +29,67 @@ use Rattle.world_core.proofs.Slots.{HasSlot, slot-of, not-first}
 use Rattle.world_core.proofs.SlotWaits.{none-held, one-held}
 
 -- where a ticket has a child, its cell has a brood
-pub no-brood-no-child : (depot : Shelves) (path : Path) (c : Cell) (t a : Tree (Spot Machine)) (ticket index : ℕ) → Holds depot path c t
+pub no-brood-no-child : (depot : Shelves) (path : Path) (c : Cell) (t a : Tree (Spot Paged)) (ticket index : ℕ) → Holds depot path c t
     → child_of ticket index t ≡ Some a → get nat_cmp c.broods ticket ≡ None → ⊥
 unfolding child_at
 no-brood-no-child depot path c t a ticket index h found none =
     let gone : child_of ticket index t ≡ None = ap (child_at index) (none-held depot path c t h ticket none) in cc
 
 -- the slot of child `index`
-pub record IsChildSlot (depot : Shelves) (path : Path) (ticket index : ℕ) (young : Young) (slots : List Slot) (a : Tree (Spot Machine)) : Type 0 where
+pub record IsChildSlot (depot : Shelves) (path : Path) (ticket index : ℕ) (young : Young) (slots : List Slot) (a : Tree (Spot Paged)) : Type 0 where
   pub first : 1 ≤ index
   pub key : IsKeyOf depot young.key
   pub has : HasSlot path ticket young.key 1 (index - 1) young.seed slots a
 
-slot-at : (path : Path) (ticket index : ℕ) (key : Key) (seed : Descriptor) (slots : List Slot) (trees : Trees (Spot Machine)) (a : Tree (Spot Machine))
+slot-at : (path : Path) (ticket index : ℕ) (key : Key) (seed : Descriptor) (slots : List Slot) (trees : Trees (Spot Paged)) (a : Tree (Spot Paged))
     → SlotsShow path ticket key 1 seed slots trees → child_at index trees ≡ Some a
     → (1 ≤ index) × HasSlot path ticket key 1 (index - 1) seed slots a
 slot-at path ticket zero key seed slots trees a h found = absurd (not-first trees a found)
 slot-at path ticket (suc j) key seed slots trees a h found =
     (omega arith, subst (λ i. HasSlot path ticket key 1 i seed slots a) (omega arith) (slot-of path ticket key 1 seed slots trees j a h found))
 
-child-slot-by : (depot : Shelves) (path : Path) (ticket index : ℕ) (born : Option Young) (young : Young) (slots : List Slot) (trees : Trees (Spot Machine))
-    (a : Tree (Spot Machine)) → BornShows depot path ticket born slots trees → born ≡ Some young → child_at index trees ≡ Some a
+child-slot-by : (depot : Shelves) (path : Path) (ticket index : ℕ) (born : Option Young) (young : Young) (slots : List Slot) (trees : Trees (Spot Paged))
+    (a : Tree (Spot Paged)) → BornShows depot path ticket born slots trees → born ≡ Some young → child_at index trees ≡ Some a
     → IsChildSlot depot path ticket index young slots a
 child-slot-by depot path ticket index born young slots trees a h is found =
     let shown : BornShows depot path ticket (Some young) slots trees = subst (λ y. BornShows depot path ticket y slots trees) is h in
     let at = slot-at path ticket index young.key young.seed slots trees a shown.1 found in
     record { first = at.0; key = shown.0; has = at.1 }
 
-pub child-slot : (depot : Shelves) (path : Path) (c : Cell) (t a : Tree (Spot Machine)) (ticket index : ℕ) (b : Brood) (young : Young) → Holds depot path c t
+pub child-slot : (depot : Shelves) (path : Path) (c : Cell) (t a : Tree (Spot Paged)) (ticket index : ℕ) (b : Brood) (young : Young) → Holds depot path c t
     → child_of ticket index t ≡ Some a → get nat_cmp c.broods ticket ≡ Some b → b.young ≡ Some young
     → IsChildSlot depot path ticket index young b.slots.items a
 child-slot depot path c t a ticket index b young h found some is =
     child-slot-by depot path ticket index b.young young b.slots.items (brood_of ticket (broods_of t)) a (one-held depot path c t h ticket b some).born is found
 
 -- the place of a child among the slots
-place-by : (depot : Shelves) (path : Path) (ticket index : ℕ) (born : Option Young) (slots : List Slot) (trees : Trees (Spot Machine)) (a : Tree (Spot Machine))
+place-by : (depot : Shelves) (path : Path) (ticket index : ℕ) (born : Option Young) (slots : List Slot) (trees : Trees (Spot Paged)) (a : Tree (Spot Paged))
     → BornShows depot path ticket born slots trees → child_at index trees ≡ Some a → (1 ≤ index) × (index - 1 < length slots)
 place-by depot path ticket index None slots trees a h found = absurd h
 place-by depot path ticket index (Some young) slots trees a h found =
     let at = slot-at path ticket index young.key young.seed slots trees a h.1 found in
     (at.0, slice_get_within slots (index - 1) at.1.slot at.1.slot_at)
 
-pub child-place : (depot : Shelves) (path : Path) (c : Cell) (t a : Tree (Spot Machine)) (ticket index : ℕ) (b : Brood) → Holds depot path c t
+pub child-place : (depot : Shelves) (path : Path) (c : Cell) (t a : Tree (Spot Paged)) (ticket index : ℕ) (b : Brood) → Holds depot path c t
     → child_of ticket index t ≡ Some a → get nat_cmp c.broods ticket ≡ Some b → (1 ≤ index) × (index - 1 < vec_len b.slots)
 child-place depot path c t a ticket index b h found some =
     let at = place-by depot path ticket index b.young b.slots.items (brood_of ticket (broods_of t)) a (one-held depot path c t h ticket b some).born found in
     (at.0, subst (λ n. index - 1 < n) (sym b.slots.ok.0) at.1)
 
 -- the seed of a child that is still a descriptor
-sleeps-by : (path : Path) (key : Key) (seed : Descriptor) (slot : Slot) (a : Tree (Spot Machine)) → SlotShows path key seed slot a
+sleeps-by : (path : Path) (key : Key) (seed : Descriptor) (slot : Slot) (a : Tree (Spot Paged)) → SlotShows path key seed slot a
     → is_asleep_at (machine a).place ≡ true → has_ended forest a ≡ false → Sleeps key seed a
-unfolding spots machines
+unfolding spots paged_machines machines
 sleeps-by path key seed Asleep a h asleep lives = h
 sleeps-by path key seed Awake a h asleep lives = let no : true ≡ false = sym asleep ∙ h.awake in absurd (cc)
 sleeps-by path key seed (Ended outcome) a h asleep lives = let no : true ≡ false = sym (ap is_some h.0) ∙ lives in absurd (cc)
 
-pub record IsSleepersSeed (depot : Shelves) (index : ℕ) (young : Young) (a : Tree (Spot Machine)) : Type 0 where
+pub record IsSleepersSeed (depot : Shelves) (index : ℕ) (young : Young) (a : Tree (Spot Paged)) : Type 0 where
   pub first : 1 ≤ index
   pub key : IsKeyOf depot young.key
   pub sleeps : Sleeps young.key (numbered index young.seed) a
 
-pub sleepers-seed : (depot : Shelves) (path : Path) (c : Cell) (t a : Tree (Spot Machine)) (ticket index : ℕ) (b : Brood) (young : Young) → Holds depot path c t
+pub sleepers-seed : (depot : Shelves) (path : Path) (c : Cell) (t a : Tree (Spot Paged)) (ticket index : ℕ) (b : Brood) (young : Young) → Holds depot path c t
     → child_of ticket index t ≡ Some a → is_asleep_at (machine a).place ≡ true → has_ended forest a ≡ false → get nat_cmp c.broods ticket ≡ Some b
     → b.young ≡ Some young → IsSleepersSeed depot index young a
 sleepers-seed depot path c t a ticket index b young h found asleep lives some is =
@@ -104,13 +104,13 @@ sleepers-seed depot path c t a ticket index b young h found asleep lives some is
     }
 
 -- the machine that the seed wakes to, by its number
-pub wakes-to : (depot : Shelves) (index : ℕ) (young : Young) (a : Tree (Spot Machine)) (seed : Descriptor) (r : Result KeyedMachine AllocError)
+pub wakes-to : (depot : Shelves) (index : ℕ) (young : Young) (a : Tree (Spot Paged)) (seed : Descriptor) (r : Result KeyedMachine AllocError)
     → IsSleepersSeed depot index young a → seed ≡ numbered index young.seed → IfOk r (λ v. v ≡ woken seed young.key)
-    → IfOk r (λ v. (v.machine ≡ (machine a).machine) × IsOfDepot depot v.key)
+    → IfOk r (λ v. (paged v ≡ (machine a).machine) × IsOfDepot depot v.key)
 unfolding woken
 wakes-to depot index young a seed (Ok v) h is wakes = (
-  ap (λ (w : KeyedMachine). w.machine) wakes ∙ ap (λ d. woken_machine d (image_of young.key)) is
-      ∙ sym (ap (λ (u : Tree (Spot Machine)). (machine u).machine) h.sleeps.born),
+  ap paged wakes ∙ ap (λ d. paged (woken d young.key)) is
+      ∙ sym (ap (λ (u : Tree (Spot Paged)). (machine u).machine) h.sleeps.born),
   subst (λ (w : KeyedMachine). IsOfDepot depot w.key) (sym wakes) (λ key is_key. subst (IsKeyOf depot) (some-same young.key key is_key) h.key),
 )
 wakes-to depot index young a seed (Err e) h is wakes = tt

@@ -11,8 +11,8 @@ use Rattle.forest_history.specs.Places.{home, out, parked, Spot, placed, spots}
 use Rattle.forest_history.specs.World.{is_ready_at, lives_ready}
 use Rattle.forest_history.specs.Children.{life, living}
 use Rattle.forest_history.proofs.Lives.{one-child}
-use Rattle.forest_model.specs.Machine.{Machine}
 use Rattle.forest_model.specs.Forest.{machines}
+use Rattle.forest_model.specs.Paged.{Paged, paged_machines}
 use Rattle.run_report.specs.Name.{child_path}
 use Rattle.run_report.specs.Lines.{lines}
 use Rattle.run_report.specs.Report.{Ended as Line, lines_of}
@@ -29,7 +29,7 @@ use Rattle.world_core.proofs.SlotSteps.{brood_with, written, holds-with}
 use Rattle.world_core.proofs.AtPlaces.{lives-placed}
 
 -- a child has a cell of its own from now on
-pub wakes-shows : (depot : Shelves) (path : Path) (ticket index : ℕ) (c : Cell) (broods : BTreeMap ℕ Brood) (old : Brood) (t a : Tree (Spot Machine))
+pub wakes-shows : (depot : Shelves) (path : Path) (ticket index : ℕ) (c : Cell) (broods : BTreeMap ℕ Brood) (old : Brood) (t a : Tree (Spot Paged))
     → CellShows depot path c t → child_of ticket index t ≡ Some a → has_ended forest a ≡ false → get nat_cmp c.broods ticket ≡ Some old
     → WritesThrough nat_cmp (nat_cmp ticket) c.broods (brood_with old index Awake old.live) broods
     → CellShows depot path (record c { broods = broods }) (with_child ticket index (placed out a) t)
@@ -45,7 +45,7 @@ wakes-shows depot path ticket index c broods old (node s trees log) a h found li
     }
 
 -- the broods and the log are the same
-holds-same : (depot : Shelves) (path : Path) (c d : Cell) (t : Tree (Spot Machine)) → d.broods ≡ c.broods → d.log ≡ c.log → Holds depot path c t
+holds-same : (depot : Shelves) (path : Path) (c d : Cell) (t : Tree (Spot Paged)) → d.broods ≡ c.broods → d.log ≡ c.log → Holds depot path c t
     → Holds depot path d t
 holds-same depot path c d t same_broods same_log h =
     let held : Holds depot path (record d { broods = c.broods; log = c.log }) t = record {
@@ -64,7 +64,7 @@ swap-false t u e = ne_eqb t u (λ same. eqb-false u t e (sym same))
 swap-true : (t u : ℕ) → eqb u t ≡ true → eqb t u ≡ true
 swap-true t u e = eq-eqb t u (sym (eqb-true u t e))
 
-module _ (path : Path) (ticket index : ℕ) (s : Spot Machine) (before : Broods (Spot Machine)) (a b : Tree (Spot Machine))
+module _ (path : Path) (ticket index : ℕ) (s : Spot Paged) (before : Broods (Spot Paged)) (a b : Tree (Spot Paged))
     (found : child_at index (brood_of ticket before) ≡ Some a) (lives : has_ended forest a ≡ false) where
   abbrev waited : Bool
   waited = waits_by forest (forest.call s) before
@@ -135,12 +135,12 @@ module _ (path : Path) (ticket index : ℕ) (s : Spot Machine) (before : Broods 
           ∙ ap not (waits-elsewhere ticket index a b before found lives (forest.call s) u h.3 (swap-false ticket u e) ∙ h.2)) is)
   ready-unparked (Out start) ended on h is = absurd (not-ready waiting ended (ap (λ p. is_ready_at p waiting) h.1) is)
 
-ended-told : (b : Tree (Spot Machine)) (outcome : Line) → told_spot.ending (machine b) ≡ Some outcome.ending → has_ended forest b ≡ true
-unfolding spots machines
+ended-told : (b : Tree (Spot Paged)) (outcome : Line) → told_spot.ending (machine b) ≡ Some outcome.ending → has_ended forest b ≡ true
+unfolding spots paged_machines machines
 ended-told b outcome told = ap is_some told
 
 -- a child that lives is one of those that do
-pub some-live : (depot : Shelves) (path : Path) (ticket index : ℕ) (c : Cell) (old : Brood) (t a : Tree (Spot Machine)) → Holds depot path c t
+pub some-live : (depot : Shelves) (path : Path) (ticket index : ℕ) (c : Cell) (old : Brood) (t a : Tree (Spot Paged)) → Holds depot path c t
     → child_of ticket index t ≡ Some a → IsAwake a → get nat_cmp c.broods ticket ≡ Some old → 1 ≤ old.live
 some-live depot path ticket index c old t a h found is some =
     let one : life forest a ≡ 1 = ap (λ ended. cond ended 0 1) is.lives in
@@ -148,7 +148,7 @@ some-live depot path ticket index c old t a h found is some =
     omega (arith, one, most, (one-held depot path c t h ticket old some).live)
 
 -- a child has ended
-module _ (depot : Shelves) (path : Path) (ticket index : ℕ) (c : Cell) (old : Brood) (outcome : Line) (t a b : Tree (Spot Machine))
+module _ (depot : Shelves) (path : Path) (ticket index : ℕ) (c : Cell) (old : Brood) (outcome : Line) (t a b : Tree (Spot Paged))
     (h : CellShows depot path c t) (found : child_of ticket index t ≡ Some a) (is : IsAwake a) (told : told_spot.ending (machine b) ≡ Some outcome.ending)
     (some : get nat_cmp c.broods ticket ≡ Some old) where
   one-before : life forest a ≡ 1
@@ -171,37 +171,37 @@ module _ (depot : Shelves) (path : Path) (ticket index : ℕ) (c : Cell) (old : 
       (written c.broods broods ticket (brood_with old index (Ended outcome) (old.live - 1)) w (subst IsSome (sym some) refl))
       (omega (arith, one-before, none-after, some-live depot path ticket index c old t a h.holds found is some))
 
-abbrev live_then : ℕ → ℕ → Tree (Spot Machine) → Tree (Spot Machine) → ℕ
+abbrev live_then : ℕ → ℕ → Tree (Spot Paged) → Tree (Spot Paged) → ℕ
 live_then ticket index b t = living forest (at_child (λ a. b) index (brood_of ticket (broods_of t)))
 
-awake-with : (ticket index : ℕ) (b t : Tree (Spot Machine)) → IsAwake t → IsAwake (with_child ticket index b t)
+awake-with : (ticket index : ℕ) (b t : Tree (Spot Paged)) → IsAwake t → IsAwake (with_child ticket index b t)
 awake-with ticket index b (node s trees log) h = record { lives = h.lives; awake = h.awake }
 
-state-kept-at : (path : Path) (ticket index : ℕ) (state : State) (t a b : Tree (Spot Machine)) → child_of ticket index t ≡ Some a → has_ended forest a ≡ false
+state-kept-at : (path : Path) (ticket index : ℕ) (state : State) (t a b : Tree (Spot Paged)) → child_of ticket index t ≡ Some a → has_ended forest a ≡ false
     → 1 ≤ live_then ticket index b t → StateShows path state (machine t) (waits forest t)
     → StateShows path state (machine (with_child ticket index b t)) (waits forest (with_child ticket index b t))
 state-kept-at path ticket index state (node s trees log) a b found lives some h = state-kept path ticket index s trees a b found lives state some h
 
-state-unparked-at : (path : Path) (ticket index : ℕ) (state : State) (t a b : Tree (Spot Machine)) → child_of ticket index t ≡ Some a → has_ended forest a ≡ false
+state-unparked-at : (path : Path) (ticket index : ℕ) (state : State) (t a b : Tree (Spot Paged)) → child_of ticket index t ≡ Some a → has_ended forest a ≡ false
     → live_then ticket index b t ≡ 0 → StateShows path state (machine t) (waits forest t)
     → StateShows path (unparked ticket state) (machine (with_child ticket index b t)) (waits forest (with_child ticket index b t))
 state-unparked-at path ticket index state (node s trees log) a b found lives none h = state-unparked path ticket index s trees a b found lives state none h
 
-ready-kept-at : (path : Path) (ticket index : ℕ) (state : State) (t a b : Tree (Spot Machine)) → child_of ticket index t ≡ Some a → has_ended forest a ≡ false
+ready-kept-at : (path : Path) (ticket index : ℕ) (state : State) (t a b : Tree (Spot Paged)) → child_of ticket index t ≡ Some a → has_ended forest a ≡ false
     → has_ended forest t ≡ false → 1 ≤ live_then ticket index b t → StateShows path state (machine t) (waits forest t)
-    → lives_ready machines (with_child ticket index b t) ≡ true → lives_ready machines t ≡ true
+    → lives_ready paged_machines (with_child ticket index b t) ≡ true → lives_ready paged_machines t ≡ true
 ready-kept-at path ticket index state (node s trees log) a b found lives on some h ready =
     ready-kept path ticket index s trees a b found lives state (is_some (forest.ending s)) some on h ready
 
-ready-unparked-at : (path : Path) (ticket index : ℕ) (state : State) (t a b : Tree (Spot Machine)) → child_of ticket index t ≡ Some a
+ready-unparked-at : (path : Path) (ticket index : ℕ) (state : State) (t a b : Tree (Spot Paged)) → child_of ticket index t ≡ Some a
     → has_ended forest a ≡ false → has_ended forest t ≡ false → StateShows path state (machine t) (waits forest t)
-    → lives_ready machines (with_child ticket index b t) ≡ true → (lives_ready machines t ≡ true) ⊎ (is_parked_for ticket state ≡ true)
+    → lives_ready paged_machines (with_child ticket index b t) ≡ true → (lives_ready paged_machines t ≡ true) ⊎ (is_parked_for ticket state ≡ true)
 ready-unparked-at path ticket index state (node s trees log) a b found lives on h ready =
     ready-unparked path ticket index s trees a b found lives state (is_some (forest.ending s)) on h ready
 
 -- while some child of the ticket lives, the machine is where it was
 pub ended-shows : (depot : Shelves) (path : Path) (ticket index : ℕ) (c : Cell) (broods : BTreeMap ℕ Brood) (old : Brood) (outcome : Line)
-    (t a b : Tree (Spot Machine)) → CellShows depot path c t → child_of ticket index t ≡ Some a → IsAwake a
+    (t a b : Tree (Spot Paged)) → CellShows depot path c t → child_of ticket index t ≡ Some a → IsAwake a
     → told_spot.ending (machine b) ≡ Some outcome.ending → lines_of outcome ≡ lines told_spot (child_path path ticket index) b
     → get nat_cmp c.broods ticket ≡ Some old
     → WritesThrough nat_cmp (nat_cmp ticket) c.broods (brood_with old index (Ended outcome) (old.live - 1)) broods → 1 ≤ old.live - 1
@@ -226,7 +226,7 @@ unparked-of depot ticket (Out start) h = h
 
 -- and where none does, it waits no more
 pub ended-unparks : (depot : Shelves) (path : Path) (ticket index : ℕ) (c d : Cell) (broods : BTreeMap ℕ Brood) (old : Brood) (outcome : Line)
-    (t a b : Tree (Spot Machine)) → CellShows depot path c t → child_of ticket index t ≡ Some a → IsAwake a
+    (t a b : Tree (Spot Paged)) → CellShows depot path c t → child_of ticket index t ≡ Some a → IsAwake a
     → told_spot.ending (machine b) ≡ Some outcome.ending → lines_of outcome ≡ lines told_spot (child_path path ticket index) b
     → get nat_cmp c.broods ticket ≡ Some old
     → WritesThrough nat_cmp (nat_cmp ticket) c.broods (brood_with old index (Ended outcome) (old.live - 1)) broods → old.live - 1 ≡ 0
@@ -242,17 +242,17 @@ ended-unparks depot path ticket index c d broods old outcome t a b h found is to
 }
 
 -- what is ready then was, while some child lives
-pub ended-ready : (depot : Shelves) (path : Path) (ticket index : ℕ) (c : Cell) (old : Brood) (outcome : Line) (t a b : Tree (Spot Machine))
+pub ended-ready : (depot : Shelves) (path : Path) (ticket index : ℕ) (c : Cell) (old : Brood) (outcome : Line) (t a b : Tree (Spot Paged))
     → CellShows depot path c t → child_of ticket index t ≡ Some a → IsAwake a → told_spot.ending (machine b) ≡ Some outcome.ending
-    → get nat_cmp c.broods ticket ≡ Some old → 1 ≤ old.live - 1 → lives_ready machines (with_child ticket index b t) ≡ true → lives_ready machines t ≡ true
+    → get nat_cmp c.broods ticket ≡ Some old → 1 ≤ old.live - 1 → lives_ready paged_machines (with_child ticket index b t) ≡ true → lives_ready paged_machines t ≡ true
 ended-ready depot path ticket index c old outcome t a b h found is told some more ready =
     ready-kept-at path ticket index c.state t a b found is.lives h.awake.lives
     (subst (λ n. 1 ≤ n) (left-live depot path ticket index c old outcome t a b h found is told some) more) h.state ready
 
 -- and else what is ready then was, or is listed now
-pub unparked-ready : (depot : Shelves) (path : Path) (ticket index : ℕ) (c d : Cell) (t a b : Tree (Spot Machine)) → CellShows depot path c t
+pub unparked-ready : (depot : Shelves) (path : Path) (ticket index : ℕ) (c d : Cell) (t a b : Tree (Spot Paged)) → CellShows depot path c t
     → child_of ticket index t ≡ Some a → IsAwake a → (is_parked_for ticket c.state ≡ true → d.is_listed ≡ true)
-    → lives_ready machines (with_child ticket index b t) ≡ true → (lives_ready machines t ≡ true) ⊎ (d.is_listed ≡ true)
+    → lives_ready paged_machines (with_child ticket index b t) ≡ true → (lives_ready paged_machines t ≡ true) ⊎ (d.is_listed ≡ true)
 unparked-ready depot path ticket index c d t a b h found is listed ready =
     elim (ready-unparked-at path ticket index c.state t a b found is.lives h.awake.lives h.state ready) [
       | inl was ↦ inl was

@@ -14,7 +14,7 @@ use Rattle.forest_tree.proofs.Places.{brood_of-at, at_child-none}
 use Rattle.forest_history.specs.Places.{Spot}
 use Rattle.forest_history.specs.Children.{life, living}
 use Rattle.forest_history.proofs.Lives.{one-child}
-use Rattle.forest_model.specs.Machine.{Machine}
+use Rattle.forest_model.specs.Paged.{Paged}
 use Rattle.image_depot.specs.Key.{Shelves, Key}
 use Rattle.vm_descriptor.specs.declared.descriptor.Descriptor.{Descriptor}
 use Rattle.vm_descriptor.specs.Descriptor.{numbered}
@@ -54,8 +54,8 @@ written old new ticket b h some =
 abbrev pub brood_with : Brood → ℕ → Slot → ℕ → Brood
 brood_with b index slot live = record { name = b.name; young = b.young; slots = with_item b.slots (index - 1) slot; live = live }
 
-slots-with : (path : Path) (ticket index : ℕ) (key : Key) (a b : Tree (Spot Machine)) (slot : Slot) (seed : Descriptor) (slots : List Slot)
-    (trees : Trees (Spot Machine)) → ((seed : Descriptor) → SlotShows (child_path path ticket index) key seed slot b)
+slots-with : (path : Path) (ticket index : ℕ) (key : Key) (a b : Tree (Spot Paged)) (slot : Slot) (seed : Descriptor) (slots : List Slot)
+    (trees : Trees (Spot Paged)) → ((seed : Descriptor) → SlotShows (child_path path ticket index) key seed slot b)
     → SlotsShow path ticket key 1 seed slots trees → child_at index trees ≡ Some a
     → SlotsShow path ticket key 1 seed (slice_set slots (index - 1) slot) (at_child (λ a. b) index trees)
 slots-with path ticket zero key a b slot seed slots trees shows h found = absurd (not-first trees a found)
@@ -64,15 +64,15 @@ slots-with path ticket (suc j) key a b slot seed slots trees shows h found =
     subst (λ i. SlotsShow path ticket key 1 seed (slice_set slots i slot) (at_child (λ a. b) (suc j) trees)) same
     (with-slot path ticket key 1 seed slots trees j b slot h (subst (λ i. SlotShows (child_path path ticket i) key (numbered i seed) slot b) next (shows (numbered (suc j) seed))))
 
-module _ (depot : Shelves) (path : Path) (ticket index : ℕ) (a b : Tree (Spot Machine)) (slot : Slot)
+module _ (depot : Shelves) (path : Path) (ticket index : ℕ) (a b : Tree (Spot Paged)) (slot : Slot)
     (shows : (key : Key) (seed : Descriptor) → SlotShows (child_path path ticket index) key seed slot b) where
-  born-with : (young : Option Young) (slots : List Slot) (trees : Trees (Spot Machine)) → BornShows depot path ticket young slots trees
+  born-with : (young : Option Young) (slots : List Slot) (trees : Trees (Spot Paged)) → BornShows depot path ticket young slots trees
       → child_at index trees ≡ Some a → BornShows depot path ticket young (slice_set slots (index - 1) slot) (at_child (λ a. b) index trees)
   born-with None slots trees h found = absurd h
   born-with (Some young) slots trees h found =
       (h.0, slots-with path ticket index young.key a b slot young.seed slots trees (shows young.key) h.1 found)
 
-  brood-with : (old : Brood) (live : ℕ) (trees : Trees (Spot Machine)) → child_at index trees ≡ Some a → live + life forest a ≡ old.live + life forest b
+  brood-with : (old : Brood) (live : ℕ) (trees : Trees (Spot Paged)) → child_at index trees ≡ Some a → live + life forest a ≡ old.live + life forest b
       → BroodShows depot path ticket old trees → BroodShows depot path ticket (brood_with old index slot live) (at_child (λ a. b) index trees)
   brood-with old live trees found lives h = record {
     live = let one : living forest (at_child (λ a. b) index trees) + life forest a ≡ living forest trees + life forest b =
@@ -81,7 +81,7 @@ module _ (depot : Shelves) (path : Path) (ticket index : ℕ) (a b : Tree (Spot 
     born = born-with old.young old.slots.items trees h.born found;
   }
 
-  brood-at-with : (old : Brood) (live : ℕ) (cloned : Bool) (trees : Trees (Spot Machine)) → child_at index trees ≡ Some a
+  brood-at-with : (old : Brood) (live : ℕ) (cloned : Bool) (trees : Trees (Spot Paged)) → child_at index trees ≡ Some a
       → live + life forest a ≡ old.live + life forest b → BroodAt depot path ticket (Some old) cloned trees
       → BroodAt depot path ticket (Some (brood_with old index slot live)) cloned (at_child (λ a. b) index trees)
   brood-at-with old live true trees found lives h = brood-with old live trees found lives h
@@ -92,7 +92,7 @@ module _ (depot : Shelves) (path : Path) (ticket index : ℕ) (a b : Tree (Spot 
   tally-with old live count true h = record { name = h.name; size = h.size; few = h.few }
   tally-with old live count false h = absurd h
 
-  pub holds-with : (c : Cell) (broods : BTreeMap ℕ Brood) (old : Brood) (live : ℕ) (t : Tree (Spot Machine)) → Holds depot path c t
+  pub holds-with : (c : Cell) (broods : BTreeMap ℕ Brood) (old : Brood) (live : ℕ) (t : Tree (Spot Paged)) → Holds depot path c t
       → child_of ticket index t ≡ Some a → get nat_cmp c.broods ticket ≡ Some old → IsWritten c.broods broods ticket (brood_with old index slot live)
       → live + life forest a ≡ old.live + life forest b → Holds depot path (record c { broods = broods }) (with_child ticket index b t)
   holds-with c broods old live (node s trees log) h found some w lives = record {

@@ -6,7 +6,7 @@ use Rattle.forest_tree.specs.Tree.{Path}
 use Rattle.forest_tree.specs.Settle.{has_ended}
 use Rattle.forest_history.specs.World.{is_ready}
 use Rattle.forest_history.specs.Rows.{over, stopped, idle, Allows, does}
-use Rattle.forest_model.specs.Forest.{machines}
+use Rattle.forest_model.specs.Paged.{paged_machines}
 use Rattle.run_report.specs.NameOrder.{path_cmp}
 use Rattle.world_core.specs.declared.cell.Cell.{Cell}
 use Rattle.world_core.specs.Shows.{forest}
@@ -58,7 +58,7 @@ idle-goes depot w turns f h going unhalted empty empty_then =
     record {
       allowed = (
         (shown.root.lives, sym h.halted ∙ unhalted),
-        λ name. never-due (is_ready machines name f.tree)
+        λ name. never-due (is_ready paged_machines name f.tree)
             (λ ready. none-due (get path_cmp w.cells name) name (subst (IsDue (get path_cmp w.cells name) name) empty (shown.ready name ready))),
       );
       after = subst (λ turns. StandsFor depot (record w { ready = turns }) f) (empty ∙ sym empty_then) h;

@@ -10,15 +10,14 @@ use Rattle.forest_tree.specs.Settle.{has_ended, waits}
 use Rattle.forest_history.specs.Places.{at_path, out, Spot, placed}
 use Rattle.forest_history.specs.World.{is_asleep_at, is_ready_at, lives_ready, holds, is_ready}
 use Rattle.forest_history.specs.Rows.{took, nothing, Allows, does}
-use Rattle.forest_model.specs.Machine.{Machine}
-use Rattle.forest_model.specs.Forest.{machines}
+use Rattle.forest_model.specs.Paged.{Paged, paged_machines}
 use Rattle.run_report.specs.Name.{child_path}
 use Rattle.run_report.specs.NameOrder.{path_cmp}
 use Rattle.world_core.specs.declared.cell.Cell.{Cell}
 use Rattle.world_core.specs.Shows.{forest, Shows}
 use Rattle.world_core.specs.declared.turns.Turn.{Turn, Turn-F, out-Turn, roll-Turn}
 use Rattle.world_core.specs.declared.world.World.{World}
-use Rattle.world_core.specs.Lent.{Lent}
+use Rattle.world_core.specs.Lent.{Lent, now_of}
 use Rattle.world_core.specs.Turns.{turns_from, turns_of, turn_of}
 use Rattle.world_core.specs.Waiting.{Waiting, CoversBy, IsListed, IsCovered}
 use Rattle.world_core.specs.World.{Forest, IsDue, ShowsLive, ShowsTree, StandsFor}
@@ -43,11 +42,11 @@ children_turn t children single =
     rest-none w (v ∷ rest) e = absurd (cc)
 
 -- a machine that has no cell and is ready is still a descriptor
-ready-asleep : (depot : Shelves) (n : Path) (u : Option (Tree (Spot Machine))) → Shows depot n None u → holds machines (lives_ready machines) u ≡ true → wakes u ≡ true
+ready-asleep : (depot : Shelves) (n : Path) (u : Option (Tree (Spot Paged))) → Shows depot n None u → holds paged_machines (lives_ready paged_machines) u ≡ true → wakes u ≡ true
 ready-asleep depot n None h ready = absurd (cc)
 ready-asleep depot n (Some a) (inl ended) ready =
     let no : false ≡ true = sym (dead-not (has_ended forest a) (is_ready_at (machine a).place (waits forest a)) ended.0) ∙ ready in absurd (cc)
-ready-asleep depot n (Some a) (inr there) ready = both (lives_ready machines a) (is_asleep_at (machine a).place) ready there
+ready-asleep depot n (Some a) (inr there) ready = both (lives_ready paged_machines a) (is_asleep_at (machine a).place) ready there
   where
     both : (p q : Bool) → p ≡ true → q ≡ true → p && q ≡ true
     both true true e f = refl
@@ -77,7 +76,7 @@ module _ (depot : Shelves) (turn : Waiting) (ticket first : ℕ) (w : World) (f 
   pub before-children : ShowsCells depot w.cells f.tree
   before-children = record { sound = h.sound; root = shows-children.root; shows = shows-children.cells }
 
-  asleep-due : (n : Path) → get path_cmp w.cells n ≡ None → is_ready machines n f.tree ≡ true → wakes (subtree n f.tree) ≡ true
+  asleep-due : (n : Path) → get path_cmp w.cells n ≡ None → is_ready paged_machines n f.tree ≡ true → wakes (subtree n f.tree) ≡ true
   asleep-due n none ready = ready-asleep depot n (subtree n f.tree) (subst (λ c. Shows depot n c (subtree n f.tree)) none (shows-children.cells n)) ready
 
   not-own : (n : Path) → IsListed n (turn ∷ w.ready) → IsListed n w.ready
@@ -105,7 +104,7 @@ module _ (depot : Shelves) (turn : Waiting) (ticket first : ℕ) (w : World) (f 
     });
   }
     where
-      due : (n : Path) → is_ready machines n f.tree ≡ true → (c : Option Cell) → get path_cmp w.cells n ≡ c → IsDue c n (turn ∷ w.ready) → IsDue c n w.ready
+      due : (n : Path) → is_ready paged_machines n f.tree ≡ true → (c : Option Cell) → get path_cmp w.cells n ≡ c → IsDue c n (turn ∷ w.ready) → IsDue c n w.ready
       due n ready None e covered = elim (covered-by n covered) [
         | inl by ↦
             let no : true ≡ false = sym (asleep-due n e ready) ∙ ap (λ m. wakes (subtree m f.tree)) by.2 ∙ none by.0 by.1 in absurd (cc)
@@ -128,7 +127,7 @@ module _ (depot : Shelves) (turn : Waiting) (ticket first : ℕ) (w : World) (f 
     unfolding IsCovered
     covered-later n rest = subst (IsCovered n) (sym ready) (inr rest)
 
-    due-later : (n : Path) → is_ready machines n f.tree ≡ true → (c : Option Cell) → get path_cmp w.cells n ≡ c → IsDue c n (turn ∷ w.ready) → IsDue c n v.ready
+    due-later : (n : Path) → is_ready paged_machines n f.tree ≡ true → (c : Option Cell) → get path_cmp w.cells n ≡ c → IsDue c n (turn ∷ w.ready) → IsDue c n v.ready
     due-later n now None e covered = elim (covered-by n covered) [
       | inl by ↦ from by.0 by.1 by.2 (leb_tells index by.0)
       | inr rest ↦ covered-later n rest
@@ -142,7 +141,7 @@ module _ (depot : Shelves) (turn : Waiting) (ticket first : ℕ) (w : World) (f 
 
     -- the child is handed out
     pub child-taken : (lease : Lent) → lease.name ≡ child_path turn.name ticket index → lease.ran ≡ 0 → lease.now ≡ lease.start → IsLentOf depot lease
-        → IfSome (subtree lease.name f.tree) (λ a. (machine a).machine ≡ lease.start)
+        → IfSome (subtree lease.name f.tree) (λ a. (machine a).machine ≡ now_of lease)
         → ShowsCells depot v.cells (at_path (placed out) (child_path turn.name ticket index) f.tree)
         → ((n : Path) → is_listed_in (get path_cmp v.cells n) ≡ is_listed_in (get path_cmp w.cells n))
         → ((n : Path) → n ≢ child_path turn.name ticket index → is_some (get path_cmp v.cells n) ≡ is_some (get path_cmp w.cells n))
@@ -154,7 +153,7 @@ module _ (depot : Shelves) (turn : Waiting) (ticket first : ℕ) (w : World) (f 
           subst (λ n. Goes depot f (took n) v) (sym name)
               (record {
                 allowed = allows-took f path shows-children.root.lives (sym h.halted ∙ unhalted)
-                    (and_parts (holds machines (lives_ready machines) (subtree path f.tree)) (holds machines (λ a. is_asleep_at (machine a).place) (subtree path f.tree)) found.1).0;
+                    (and_parts (holds paged_machines (lives_ready paged_machines) (subtree path f.tree)) (holds paged_machines (λ a. is_asleep_at (machine a).place) (subtree path f.tree)) found.1).0;
                 after = taken depot v f path there.0 there.1 cells (halted ∙ h.halted) (outcome ∙ going)
                     (λ n other ready_then.
                     due-alike (get path_cmp w.cells n) (get path_cmp v.cells n) n v.ready (others n (λ same. other (sym same)))

@@ -7,15 +7,14 @@ use Rattle.forest_tree.specs.Tree.{Tree, machine, Path, subtree}
 use Rattle.forest_history.specs.Places.{out, Spot, placed}
 use Rattle.forest_history.specs.World.{lives_ready, holds}
 use Rattle.forest_history.specs.Rows.{took}
-use Rattle.forest_model.specs.Machine.{Machine}
-use Rattle.forest_model.specs.Forest.{machines}
+use Rattle.forest_model.specs.Paged.{Paged, paged_machines}
 use Rattle.run_report.specs.NameOrder.{path_cmp}
 use Rattle.world_core.specs.declared.cell.Cell.{Cell}
 use Rattle.world_core.specs.Shows.{CellShows, Shows}
 use Rattle.world_core.specs.declared.world.World.{World}
 use Rattle.world_core.specs.Waiting.{Waiting, IsListed}
 use Rattle.world_core.specs.World.{Forest, IsDue, ShowsLive, StandsFor}
-use Rattle.vm_cell.specs.Keyed.{KeyedMachine, IsOfDepot}
+use Rattle.vm_cell.specs.Keyed.{KeyedMachine, IsOfDepot, paged}
 use Rattle.world_core.specs.Lent.{lent_as}
 use Rattle.world_core.specs.Answers.{Goes, IsLentOf, Starts}
 use Rattle.world_core.specs.Popped.{ShowsCells, is_listed_in, with_turn}
@@ -26,7 +25,7 @@ use Rattle.world_core.proofs.TurnOut.{covered-rest, due-apart, listed-apart, unl
 use Rattle.world_core.proofs.TakenOut.{cells-taken, taken, allows-took}
 
 -- a cell shows the same where its turn is listed or not
-pub relisted : (depot : Shelves) (path : Path) (c : Cell) (listed : Bool) (t : Tree (Spot Machine)) → CellShows depot path c t
+pub relisted : (depot : Shelves) (path : Path) (c : Cell) (listed : Bool) (t : Tree (Spot Paged)) → CellShows depot path c t
     → CellShows depot path (record c { is_listed = listed }) t
 relisted depot path c listed t h = record {
   awake = record { lives = h.awake.lives; awake = h.awake.awake };
@@ -60,12 +59,12 @@ module _ (depot : Shelves) (turn : Waiting) (w : World) (f : Forest) (one : turn
     now-apart : (n : Path) → turn.name ≢ n → get path_cmp cells n ≡ get path_cmp w.cells n
     now-apart = written-apart w.cells cells turn.name d written (some-is c (get path_cmp w.cells turn.name) found)
 
-    shown : (t : Tree (Spot Machine)) × (subtree turn.name f.tree ≡ Some t) × CellShows depot turn.name c t
+    shown : (t : Tree (Spot Paged)) × (subtree turn.name f.tree ≡ Some t) × CellShows depot turn.name c t
     shown = cell-shows depot turn.name (get path_cmp w.cells turn.name) c (subtree turn.name f.tree) (sym found) (shows-turn.cells turn.name)
 
     -- it is not ready
-    pub awake-idle : ((t : Tree (Spot Machine)) → CellShows depot turn.name (record c { is_listed = false }) t
-        → (lives_ready machines t ≡ false) × (d ≡ record c { is_listed = false })) → StandsFor depot (record w { cells = cells }) f
+    pub awake-idle : ((t : Tree (Spot Paged)) → CellShows depot turn.name (record c { is_listed = false }) t
+        → (lives_ready paged_machines t ≡ false) × (d ≡ record c { is_listed = false })) → StandsFor depot (record w { cells = cells }) f
     awake-idle lent =
         let still = relisted depot turn.name c false shown.0 shown.2 in
         let idle = lent shown.0 still in
@@ -73,13 +72,13 @@ module _ (depot : Shelves) (turn : Waiting) (w : World) (f : Forest) (one : turn
         (subst (λ o. Shows depot turn.name o (subtree turn.name f.tree)) (sym now-here)
         (subst (Shows depot turn.name (Some d)) (sym shown.1) (subst (λ e. CellShows depot turn.name e shown.0) (sym idle.1) still)))
         (λ ready.
-        let no : true ≡ false = sym ready ∙ ap (holds machines (lives_ready machines)) shown.1 ∙ idle.0 in absurd (cc))
+        let no : true ≡ false = sym ready ∙ ap (holds paged_machines (lives_ready paged_machines)) shown.1 ∙ idle.0 in absurd (cc))
         (ap is_listed_in now-here ∙ ap (λ (e : Cell). e.is_listed) idle.1)
 
     -- it is handed out
     pub awake-taken : (v : KeyedMachine) → w.halted ≡ None → d.is_listed ≡ false
-        → ((t : Tree (Spot Machine)) → CellShows depot turn.name (record c { is_listed = false }) t
-        → (lives_ready machines t ≡ true) × (v.machine ≡ (machine t).machine) × IsOfDepot depot v.key × CellShows depot turn.name d (placed out t))
+        → ((t : Tree (Spot Paged)) → CellShows depot turn.name (record c { is_listed = false }) t
+        → (lives_ready paged_machines t ≡ true) × (paged v ≡ (machine t).machine) × IsOfDepot depot v.key × CellShows depot turn.name d (placed out t))
         → Goes depot f (took turn.name) (record w { cells = cells }) × Starts f (lent_as turn.name v.machine 0 v)
         × IsLentOf depot (lent_as turn.name v.machine 0 v)
     awake-taken v unhalted unlisted lent =
@@ -87,7 +86,7 @@ module _ (depot : Shelves) (turn : Waiting) (w : World) (f : Forest) (one : turn
         let before : ShowsCells depot w.cells f.tree = record { sound = h.sound; root = shows-turn.root; shows = shows-turn.cells } in
         let after : World = record w { cells = cells } in (
           record {
-            allowed = allows-took f turn.name shows-turn.root.lives (sym h.halted ∙ unhalted) (ap (holds machines (lives_ready machines)) shown.1 ∙ taken_as.0);
+            allowed = allows-took f turn.name shows-turn.root.lives (sym h.halted ∙ unhalted) (ap (holds paged_machines (lives_ready paged_machines)) shown.1 ∙ taken_as.0);
             after = taken depot after f turn.name shown.0 shown.1
                 (cells-taken depot w.cells cells f.tree shown.0 turn.name shown.1 before (λ n other one. now-apart n other)
                 (subst (λ o. Shows depot turn.name o (Some (placed out shown.0))) (sym now-here) taken_as.3)
@@ -105,7 +104,7 @@ module _ (depot : Shelves) (turn : Waiting) (w : World) (f : Forest) (one : turn
           record {
             ran = refl;
             now = refl;
-            start = subst (λ o. IfSome o (λ (t : Tree (Spot Machine)). (machine t).machine ≡ v.machine)) (sym shown.1) (sym taken_as.1);
+            start = subst (λ o. IfSome o (λ (t : Tree (Spot Paged)). (machine t).machine ≡ paged v)) (sym shown.1) (sym taken_as.1);
           },
           taken_as.2,
         )

@@ -5,7 +5,7 @@ use Rattle.std.specs.BTreeMap.{get}
 use Rattle.image_depot.specs.Key.{Shelves}
 use Rattle.forest_tree.specs.Tree.{Path, subtree}
 use Rattle.forest_history.specs.World.{is_ready}
-use Rattle.forest_model.specs.Forest.{machines}
+use Rattle.forest_model.specs.Paged.{paged_machines}
 use Rattle.run_report.specs.NameOrder.{path_cmp}
 use Rattle.world_core.specs.declared.cell.Cell.{Cell}
 use Rattle.world_core.specs.Shows.{Shows}
@@ -70,7 +70,7 @@ module _ (depot : Shelves) (turn : Waiting) (w v : World) (f : Forest) (one : tu
 
   -- none is taken
   pub popped : Shows depot turn.name (get path_cmp v.cells turn.name) (subtree turn.name f.tree)
-      → (is_ready machines turn.name f.tree ≡ true → IsDue (get path_cmp v.cells turn.name) turn.name v.ready)
+      → (is_ready paged_machines turn.name f.tree ≡ true → IsDue (get path_cmp v.cells turn.name) turn.name v.ready)
       → is_listed_in (get path_cmp v.cells turn.name) ≡ false → StandsFor depot v f
   popped at due none = record {
     sound = h.sound;
@@ -79,7 +79,7 @@ module _ (depot : Shelves) (turn : Waiting) (w v : World) (f : Forest) (one : tu
       root = shows-before.root;
       cells = all-apart {P = λ n. Shows depot n (get path_cmp v.cells n) (subtree n f.tree)} at
           (λ n other. subst (λ c. Shows depot n c (subtree n f.tree)) (sym (others n other)) (shows-before.cells n));
-      ready = all-apart {P = λ n. is_ready machines n f.tree ≡ true → IsDue (get path_cmp v.cells n) n v.ready} due
+      ready = all-apart {P = λ n. is_ready paged_machines n f.tree ≡ true → IsDue (get path_cmp v.cells n) n v.ready} due
           (λ n other is. due-apart n other (shows-before.ready n is));
       listed = all-apart {P = λ n. IfSome (get path_cmp v.cells n) (λ (c : Cell). c.is_listed ≡ true → IsListed n v.ready)} (unlisted turn.name none) listed-apart;
     });

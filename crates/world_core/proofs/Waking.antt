@@ -12,8 +12,8 @@ use Rattle.forest_tree.proofs.Rests.{lives-none}
 use Rattle.forest_tree.proofs.Settle.{root-sound}
 use Rattle.forest_history.specs.Places.{at_path, at_beyond, out, Spot, placed, spots}
 use Rattle.forest_history.specs.World.{is_asleep_at}
-use Rattle.forest_model.specs.Machine.{Machine}
 use Rattle.forest_model.specs.Forest.{machines}
+use Rattle.forest_model.specs.Paged.{Paged, paged_machines}
 use Rattle.image_depot.specs.Key.{Key}
 use Rattle.run_report.specs.Name.{child_path}
 use Rattle.run_report.specs.NameOrder.{path_cmp}
@@ -46,7 +46,7 @@ last-same (a ∷ m) (b ∷ n) x y e =
     (ap₂ (λ z zs. z ∷ zs) first rest.0, rest.1)
 
 -- changes that agree at the child
-at_child-agree : (f g : Tree (Spot Machine) → Tree (Spot Machine)) (k : ℕ) (trees : Trees (Spot Machine)) (a : Tree (Spot Machine)) → child_at k trees ≡ Some a → f a ≡ g a
+at_child-agree : (f g : Tree (Spot Paged) → Tree (Spot Paged)) (k : ℕ) (trees : Trees (Spot Paged)) (a : Tree (Spot Paged)) → child_at k trees ≡ Some a → f a ≡ g a
     → at_child f k trees ≡ at_child g k trees
 unfolding child_at at_child
 at_child-agree f g k no_tree a found same = refl
@@ -55,7 +55,7 @@ at_child-agree f g (suc zero) (tree t rest) a found same =
     ap (λ u. tree u rest) (subst (λ u. f u ≡ g u) (sym (some-same t a found)) same)
 at_child-agree f g (suc (suc k)) (tree t rest) a found same = ap (tree t) (at_child-agree f g (suc k) rest a found same)
 
-waits-alike : (next : Option Call) (before after : Broods (Spot Machine)) → ((u : ℕ) → brood_of u before ≡ brood_of u after)
+waits-alike : (next : Option Call) (before after : Broods (Spot Paged)) → ((u : ℕ) → brood_of u before ≡ brood_of u after)
     → waits_by forest next before ≡ waits_by forest next after
 waits-alike None before after same = refl
 waits-alike (Some (clone t)) before after same = refl
@@ -63,7 +63,7 @@ waits-alike (Some (join t)) before after same = ap (λ trees. not (have_ended fo
 waits-alike (Some (kill t)) before after same = refl
 
 -- a cell shows the broods ticket by ticket
-cell-alike : (depot : Shelves) (path : Path) (c : Cell) (s : Spot Machine) (before after : Broods (Spot Machine)) (log : Log (Spot Machine))
+cell-alike : (depot : Shelves) (path : Path) (c : Cell) (s : Spot Paged) (before after : Broods (Spot Paged)) (log : Log (Spot Paged))
     → ((u : ℕ) → brood_of u before ≡ brood_of u after) → CellShows depot path c (node s before log) → CellShows depot path c (node s after log)
 cell-alike depot path c s before after log same h = record {
   awake = record { lives = h.awake.lives; awake = h.awake.awake };
@@ -76,7 +76,7 @@ cell-alike depot path c s before after log same h = record {
 }
 
 -- a change at a child's name is another child
-pub with-child-path : (depot : Shelves) (path : Path) (c : Cell) (f : Tree (Spot Machine) → Tree (Spot Machine)) (b : Branch) (t a : Tree (Spot Machine))
+pub with-child-path : (depot : Shelves) (path : Path) (c : Cell) (f : Tree (Spot Paged) → Tree (Spot Paged)) (b : Branch) (t a : Tree (Spot Paged))
     → child_by b t ≡ Some a → CellShows depot path c (with_child b.ticket b.child (f a) t) → CellShows depot path c (at_path f (b ∷ []) t)
 unfolding at_path
 with-child-path depot path c f b (node s broods log) a found h =
@@ -94,16 +94,16 @@ with-child-path depot path c f b (node s broods log) a found h =
         at_child-agree (λ v. f a) (at_path f []) b.child (brood_of u broods) a (ap (λ i. child_at b.child (brood_of i broods)) (sym (eqb-true b.ticket u e)) ∙ found) refl
 
 -- a child that is still a descriptor is as it was born
-born-alone : (path : Path) (key : Key) (seed : Descriptor) (slot : Slot) (a : Tree (Spot Machine)) → SlotShows path key seed slot a → wakes (Some a) ≡ true
+born-alone : (path : Path) (key : Key) (seed : Descriptor) (slot : Slot) (a : Tree (Spot Paged)) → SlotShows path key seed slot a → wakes (Some a) ≡ true
     → a ≡ alone forest (machine a)
-born-alone path key seed Asleep a h is = h.born ∙ sym (ap (λ (u : Tree (Spot Machine)). alone forest (machine u)) h.born)
+born-alone path key seed Asleep a h is = h.born ∙ sym (ap (λ (u : Tree (Spot Paged)). alone forest (machine u)) h.born)
 born-alone path key seed Awake a h is = let no : true ≡ false = sym is ∙ wakes-slot path key seed Awake a h in absurd (cc)
 born-alone path key seed (Ended outcome) a h is = let no : true ≡ false = sym is ∙ wakes-slot path key seed (Ended outcome) a h in absurd (cc)
 
 -- a child of a ticket that is still a descriptor, and its parent
-pub record IsSleeper (depot : Shelves) (parent : Path) (ticket index : ℕ) (t : Tree (Spot Machine)) (c : Cell) : Type 0 where
-  pub above : Tree (Spot Machine)
-  pub child : Tree (Spot Machine)
+pub record IsSleeper (depot : Shelves) (parent : Path) (ticket index : ℕ) (t : Tree (Spot Paged)) (c : Cell) : Type 0 where
+  pub above : Tree (Spot Paged)
+  pub child : Tree (Spot Paged)
   pub at : subtree parent t ≡ Some above
   pub shows : CellShows depot parent c above
   pub is_child : child_of ticket index above ≡ Some child
@@ -112,7 +112,7 @@ pub record IsSleeper (depot : Shelves) (parent : Path) (ticket index : ℕ) (t :
   pub lives : has_ended forest child ≡ false
   pub born : child ≡ alone forest (machine child)
 
-module _ (depot : Shelves) (cells : BTreeMap Path Cell) (parent : Path) (ticket index : ℕ) (t : Tree (Spot Machine)) (h : ShowsCells depot cells t)
+module _ (depot : Shelves) (cells : BTreeMap Path Cell) (parent : Path) (ticket index : ℕ) (t : Tree (Spot Paged)) (h : ShowsCells depot cells t)
     (is : sleeps parent ticket index t ≡ true) where
   pub parent-there : None ≡ get path_cmp cells parent → ⊥
   parent-there none = let no : true ≡ false = sym is ∙ none-sleeps depot cells t h parent ticket index (sym none) in cc
@@ -122,7 +122,7 @@ module _ (depot : Shelves) (cells : BTreeMap Path Cell) (parent : Path) (ticket 
       let shown = cell-shows depot parent (get path_cmp cells parent) c (subtree parent t) (sym found) (h.shows parent) in
       by shown.0 shown.1 shown.2 (child_of ticket index shown.0) refl (sym (sleeps-by parent ticket index t shown.0 shown.1) ∙ is)
     where
-      by : (p : Tree (Spot Machine)) → subtree parent t ≡ Some p → CellShows depot parent c p → (u : Option (Tree (Spot Machine))) → child_of ticket index p ≡ u
+      by : (p : Tree (Spot Paged)) → subtree parent t ≡ Some p → CellShows depot parent c p → (u : Option (Tree (Spot Paged))) → child_of ticket index p ≡ u
           → wakes u ≡ true → IsSleeper depot parent ticket index t c
       by p at shows None e wake = absurd (cc)
       by p at shows (Some a) e wake =
@@ -140,11 +140,11 @@ module _ (depot : Shelves) (cells : BTreeMap Path Cell) (parent : Path) (ticket 
             born = born-alone (child_path parent ticket index) slot.key slot.seed slot.slot a slot.shows wake;
           }
 
-lives-ending : (s : Spot Machine) → is_some (forest.ending s) ≡ false → s.machine.ending ≡ None
-unfolding spots machines
-lives-ending s lives = lives-none s.machine.ending lives
+lives-ending : (s : Spot Paged) → is_some (forest.ending s) ≡ false → s.machine.machine.ending ≡ None
+unfolding spots paged_machines machines
+lives-ending s lives = lives-none s.machine.machine.ending lives
 
-none-cloned : (s : Spot Machine) → IsSound forest (alone forest s) → is_some (forest.ending s) ≡ false → (ticket : ℕ) → is_cloned machines s.machine ticket ≡ false
+none-cloned : (s : Spot Paged) → IsSound forest (alone forest s) → is_some (forest.ending s) ≡ false → (ticket : ℕ) → is_cloned paged_machines s.machine ticket ≡ false
 unfolding broods_with spots
 none-cloned s sound lives ticket =
     by (is_cloned forest s ticket) ((root-sound forest s no_brood no_entry sound).one_each (lives-none (forest.ending s) lives) ticket)
@@ -154,15 +154,15 @@ none-cloned s sound lives ticket =
     by false e = refl
 
 -- the cell of the machine that has woken
-pub lent-shows : (depot : Shelves) (cells : BTreeMap Path Cell) (parent : Path) (ticket index : ℕ) (t : Tree (Spot Machine)) (c e : Cell) (m : Machine)
+pub lent-shows : (depot : Shelves) (cells : BTreeMap Path Cell) (parent : Path) (ticket index : ℕ) (t : Tree (Spot Paged)) (c e : Cell) (m : Paged)
     → ShowsCells depot cells t → (s : IsSleeper depot parent ticket index t c) → m ≡ (machine s.child).machine
-    → ((d : Shelves) (path : Path) → m.ending ≡ None → ((u : ℕ) → is_cloned machines m u ≡ false) → CellShows d path e (alone forest (record { machine = m; place = out })))
+    → ((d : Shelves) (path : Path) → m.machine.ending ≡ None → ((u : ℕ) → is_cloned paged_machines m u ≡ false) → CellShows d path e (alone forest (record { machine = m; place = out })))
     → CellShows depot (child_path parent ticket index) e (placed out s.child)
 lent-shows depot cells parent ticket index t c e m h s same shows =
     let sound : IsSound forest s.child = subtree-sound forest (child_path parent ticket index) t s.child h.sound s.there in
-    let first : m.ending ≡ None = ap (λ (n : Machine). n.ending) same ∙ lives-ending (machine s.child) s.lives in
-    let none : (u : ℕ) → is_cloned machines m u ≡ false
-    = λ u. ap (λ n. is_cloned machines n u) same ∙ none-cloned (machine s.child) (subst (IsSound forest) s.born sound) s.lives u in
+    let first : m.machine.ending ≡ None = ap (λ (n : Paged). n.machine.ending) same ∙ lives-ending (machine s.child) s.lives in
+    let none : (u : ℕ) → is_cloned paged_machines m u ≡ false
+    = λ u. ap (λ n. is_cloned paged_machines n u) same ∙ none-cloned (machine s.child) (subst (IsSound forest) s.born sound) s.lives u in
     let is : placed out s.child ≡ alone forest (record { machine = m; place = out })
     = ap (placed out) s.born ∙ ap (λ n. alone forest (record { machine = n; place = out })) (sym same) in
     subst (CellShows depot (child_path parent ticket index) e) (sym is) (shows depot (child_path parent ticket index) first none)
@@ -211,7 +211,7 @@ module _ (cells mid : BTreeMap Path Cell) (parent : Path) (ticket index : ℕ) (
       ]
     ]
 
-    pub woken-cells : (depot : Shelves) (t : Tree (Spot Machine)) → ShowsCells depot cells t → (s : IsSleeper depot parent ticket index t c)
+    pub woken-cells : (depot : Shelves) (t : Tree (Spot Paged)) → ShowsCells depot cells t → (s : IsSleeper depot parent ticket index t c)
         → CellShows depot (child_path parent ticket index) e (placed out s.child) → CellShows depot parent d (with_child ticket index (placed out s.child) s.above)
         → ShowsCells depot new (at_path (placed out) (child_path parent ticket index) t)
     woken-cells depot t h s lent waked =
@@ -233,12 +233,12 @@ module _ (cells mid : BTreeMap Path Cell) (parent : Path) (ticket index : ℕ) (
         (with-child-path depot parent d (placed out) b s.above s.child s.is_child waked))))
 
 -- the machine that woke
-pub woken-machine : (m : Machine) (o : Option (Tree (Spot Machine))) (a b : Tree (Spot Machine)) → m ≡ (machine a).machine → o ≡ Some a → o ≡ Some b
+pub woken-machine : (m : Paged) (o : Option (Tree (Spot Paged))) (a b : Tree (Spot Paged)) → m ≡ (machine a).machine → o ≡ Some a → o ≡ Some b
     → m ≡ (machine b).machine
-woken-machine m o a b woke one other = woke ∙ ap (λ (t : Tree (Spot Machine)). (machine t).machine) (some-same a b (sym one ∙ other))
+woken-machine m o a b woke one other = woke ∙ ap (λ (t : Tree (Spot Paged)). (machine t).machine) (some-same a b (sym one ∙ other))
 
 -- a machine that is still a descriptor has no cell
-pub sleeper-no_cell : (depot : Shelves) (cells : BTreeMap Path Cell) (parent : Path) (ticket index : ℕ) (t : Tree (Spot Machine)) (c : Cell) → ShowsCells depot cells t
+pub sleeper-no_cell : (depot : Shelves) (cells : BTreeMap Path Cell) (parent : Path) (ticket index : ℕ) (t : Tree (Spot Paged)) (c : Cell) → ShowsCells depot cells t
     → IsSleeper depot parent ticket index t c → get path_cmp cells (child_path parent ticket index) ≡ None
 sleeper-no_cell depot cells parent ticket index t c h s =
     by (get path_cmp cells (child_path parent ticket index))

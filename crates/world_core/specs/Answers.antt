@@ -10,32 +10,34 @@ use Rattle.forest_tree.specs.Settle.{has_ended, waits}
 use Rattle.forest_history.specs.Places.{out, Spot}
 use Rattle.forest_history.specs.World.{is_at_home}
 use Rattle.forest_history.specs.Rows.{How, gave, ended, forked, joined, killed, waited, Row, over, stopped, idle, took, nothing, spent, dropped, kept, Allows, does}
-use Rattle.forest_model.specs.Machine.{Machine}
-use Rattle.forest_model.specs.Forest.{machines}
 use Rattle.world_core.specs.declared.reason.Reason.{Reason}
 use Rattle.world_core.specs.declared.world.World.{World}
 use Rattle.world_core.specs.declared.world.Placed.{Placed}
 use Rattle.world_core.specs.declared.world.Placed.TheVariants.{Done, Parked, Dropped, Memory}
 use Rattle.world_core.specs.declared.world.Taken.{Taken}
 use Rattle.world_core.specs.declared.world.Taken.TheVariants as taken
-use Rattle.forest_model.specs.Paged.{stalled_at}
+use Rattle.forest_model.specs.Paged.{stalled_at, paged_machines, Paged, advanced_by}
+use Rattle.std.specs.Option.{IfSome}
 use Rattle.vm_cell.specs.Keyed.{IsOfDepot, KeyedMachine, paged}
-use Rattle.world_core.specs.Lent.{Lent}
+use Rattle.world_core.specs.Lent.{Lent, now_of}
 use Rattle.world_core.specs.Shows.{forest}
 use Rattle.world_core.specs.World.{Forest, StandsFor}
 
 -- the call is this row of the forest, and the world stands for what the row makes of it
 pub record Goes (depot : Shelves) (f : Forest) (row : Row Reason) (new : World) : Type 0 where
-  pub allowed : Allows machines row f
-  pub after : StandsFor depot new (does machines row f)
+  pub allowed : Allows paged_machines row f
+  pub after : StandsFor depot new (does paged_machines row f)
 
--- the forest's machine of this name is out as it is on this lease, or the name is gone
-abbrev pub IsOutAs : Machine → Option (Tree (Spot Machine)) → Type 0
-IsOutAs start None = Unit {0}
-IsOutAs start (Some t) = machine t ≡ record { machine = start; place = out }
+-- the forest's machine is out, as it was when it was taken, with the pages that the steps on this lease lead to what
+-- is known of them now
+pub record IsOutAs (lease : Lent) (t : Tree (Spot Paged)) : Type 0 where
+  pub is_out : (machine t).place ≡ out
+  pub start : (machine t).machine.machine ≡ lease.start
+  pub pages : (advanced_by lease.ran (machine t).machine).pages ≡ lease.pages
 
+-- the machine of this name is out so, or the name is gone
 abbrev pub IsHandedOut : Forest → Lent → Type 0
-IsHandedOut f lease = IsOutAs lease.start (subtree lease.name f.tree)
+IsHandedOut f lease = IfSome (subtree lease.name f.tree) (IsOutAs lease)
 
 -- the absent pages of its machine, if it has some, are in an image of this depot
 abbrev pub IsLentOf : Shelves → Lent → Type 0
@@ -96,7 +98,7 @@ home_by (Some ending) = ended
 pub record Starts (f : Forest) (lease : Lent) : Type 0 where
   pub ran : lease.ran ≡ 0
   pub now : lease.now ≡ lease.start
-  pub start : IfSome (subtree lease.name f.tree) (λ t. (machine t).machine ≡ lease.start)
+  pub start : IfSome (subtree lease.name f.tree) (λ t. (machine t).machine ≡ now_of lease)
 
 -- the answer of `take`
 abbrev pub Takes : Shelves → Forest → Taken → World → Type 0
@@ -108,19 +110,19 @@ Takes depot f taken.Memory new = Goes depot f nothing new
 
 -- the answer of `take_named`, which takes a machine that waits too
 abbrev pub TakesNamed : Shelves → Forest → Path → Result (Option Lent) AllocError → World → Type 0
-TakesNamed depot f name (Ok None) new = (is_at_home machines name f.tree ≡ false) × StandsFor depot new f
+TakesNamed depot f name (Ok None) new = (is_at_home paged_machines name f.tree ≡ false) × StandsFor depot new f
 TakesNamed depot f name (Ok (Some lease)) new =
-    (is_at_home machines name f.tree ≡ true) × (lease.name ≡ name) × Starts f lease × IsLentOf depot lease × StandsFor depot new (does machines (took name) f)
+    (is_at_home paged_machines name f.tree ≡ true) × (lease.name ≡ name) × Starts f lease × IsLentOf depot lease × StandsFor depot new (does paged_machines (took name) f)
 TakesNamed depot f name (Err e) new = StandsFor depot new f
 
 -- the tree with its machine as it stands now
-abbrev pub with_machine : Machine → Tree (Spot Machine) → Tree (Spot Machine)
+abbrev pub with_machine : Paged → Tree (Spot Paged) → Tree (Spot Paged)
 with_machine m (node s broods log) = node (record s { machine = m }) broods log
 
 -- its machine stands at the JOIN of a ticket of which a child lives
-abbrev pub stands_waiting : Tree (Spot Machine) → Bool
+abbrev pub stands_waiting : Tree (Spot Paged) → Bool
 stands_waiting t = not (has_ended forest t) && waits forest t
 
 -- so does this one in its place: one whose next step stalls stands at no call
-abbrev pub stands_waiting_of : KeyedMachine → Tree (Spot Machine) → Bool
-stands_waiting_of v t = not (is_some (stalled_at (paged v))) && stands_waiting (with_machine v.machine t)
+abbrev pub stands_waiting_of : KeyedMachine → Tree (Spot Paged) → Bool
+stands_waiting_of v t = not (is_some (stalled_at (paged v))) && stands_waiting (with_machine (paged v) t)

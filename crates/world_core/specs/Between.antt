@@ -8,8 +8,8 @@ use Rattle.forest_tree.specs.Settle.{settled}
 use Rattle.forest_tree.specs.Sound.{IsSound}
 use Rattle.forest_history.specs.Places.{at_path, Spot}
 use Rattle.forest_history.specs.World.{is_ready, is_out_at}
-use Rattle.forest_model.specs.Machine.{Machine}
-use Rattle.forest_model.specs.Forest.{machines}
+use Rattle.forest_model.specs.Paged.{Paged, paged_machines}
+use Rattle.std.specs.Option.{IfSome}
 use Rattle.run_report.specs.NameOrder.{path_cmp}
 use Rattle.run_report.specs.Lines.{lines}
 use Rattle.run_report.specs.Report.{Ended, lines_of}
@@ -27,13 +27,13 @@ pub record IsSameWorld (old new : World) : Type 0 where
   pub outcome : new.outcome ≡ old.outcome
 
 -- a machine with its broods, of which there is one for each of its cloned tickets, where it has ended too
-pub record IsWhole (t : Tree (Spot Machine)) : Type 0 where
+pub record IsWhole (t : Tree (Spot Paged)) : Type 0 where
   pub good : forest.is_good (machine t) ≡ true
   pub one_each : (ticket : ℕ) → broods_with ticket (broods_of t) ≡ (if is_cloned forest (machine t) ticket then 1 else 0)
 
 -- the world stands for a forest but for the machine of this name, whose cell holds the tree `a` in place of its own
 -- there, and whose descendants are those of `a`
-pub record IsBetween (depot : Shelves) (w : World) (f : Forest) (name : Path) (a : Tree (Spot Machine)) : Type 0 where
+pub record IsBetween (depot : Shelves) (w : World) (f : Forest) (name : Path) (a : Tree (Spot Paged)) : Type 0 where
   pub sound : IsSound forest f.tree
   pub halted : w.halted ≡ f.halted
   pub going : w.outcome ≡ None
@@ -43,10 +43,10 @@ pub record IsBetween (depot : Shelves) (w : World) (f : Forest) (name : Path) (a
   pub cell : IsSomeAnd (get path_cmp w.cells name) (λ c. HoldsAfter depot name c a)
   pub below : (x : Branch) (rest : Path)
       → Shows depot (name ++ x ∷ rest) (get path_cmp w.cells (name ++ x ∷ rest)) (subtree (x ∷ rest) a)
-  pub ready_below : (x : Branch) (rest : Path) → is_ready machines (x ∷ rest) a ≡ true
+  pub ready_below : (x : Branch) (rest : Path) → is_ready paged_machines (x ∷ rest) a ≡ true
       → IsDue (get path_cmp w.cells (name ++ x ∷ rest)) (name ++ x ∷ rest) w.ready
   pub elsewhere : (n : Path) → beyond name n ≡ None → Shows depot n (get path_cmp w.cells n) (subtree n f.tree)
-  pub ready : (n : Path) → beyond name n ≡ None → is_ready machines n f.tree ≡ true → IsDue (get path_cmp w.cells n) n w.ready
+  pub ready : (n : Path) → beyond name n ≡ None → is_ready paged_machines n f.tree ≡ true → IsDue (get path_cmp w.cells n) n w.ready
   pub listed : (n : Path) → IfSome (get path_cmp w.cells n) (λ c. c.is_listed ≡ true → IsListed n w.ready)
 
 -- the world stands for a forest but for the machine of this name, which is gone from it with its descendants
@@ -58,11 +58,11 @@ pub record IsLeaving (depot : Shelves) (w : World) (f : Forest) (name : Path) : 
   pub there : IsSomeAnd (subtree name f.tree) IsAwake
   pub gone : (rest : Path) → get path_cmp w.cells (name ++ rest) ≡ None
   pub elsewhere : (n : Path) → beyond name n ≡ None → Shows depot n (get path_cmp w.cells n) (subtree n f.tree)
-  pub ready : (n : Path) → beyond name n ≡ None → is_ready machines n f.tree ≡ true → IsDue (get path_cmp w.cells n) n w.ready
+  pub ready : (n : Path) → beyond name n ≡ None → is_ready paged_machines n f.tree ≡ true → IsDue (get path_cmp w.cells n) n w.ready
   pub listed : (n : Path) → IfSome (get path_cmp w.cells n) (λ c. c.is_listed ≡ true → IsListed n w.ready)
 
 -- what a machine left that has ended, and is the tree `b` at this path then
-pub record HasLeft (path : Path) (b : Tree (Spot Machine)) (outcome : Ended) : Type 0 where
+pub record HasLeft (path : Path) (b : Tree (Spot Paged)) (outcome : Ended) : Type 0 where
   pub ending : told_spot.ending (machine b) ≡ Some outcome.ending
   pub home : is_out_at (machine b).place ≡ false
   pub alone : broods_of b ≡ no_brood
@@ -77,9 +77,9 @@ pub record TakesOut (old new : BTreeMap Path Cell) (name : Path) (c : Cell) : Ty
   pub elsewhere : (n : Path) → beyond name n ≡ None → get path_cmp new n ≡ get path_cmp old n
 
 -- the forest with another tree at a name
-abbrev pub with_tree : Path → Tree (Spot Machine) → Forest → Forest
+abbrev pub with_tree : Path → Tree (Spot Paged) → Forest → Forest
 with_tree name b f = record f { tree = at_path (λ a. b) name f.tree }
 
 -- where its machine has ended, its broods are dropped
-abbrev pub settled_tree : Tree (Spot Machine) → Tree (Spot Machine)
+abbrev pub settled_tree : Tree (Spot Paged) → Tree (Spot Paged)
 settled_tree (node s broods log) = settled forest s broods log

@@ -3,8 +3,8 @@ use Rattle.std.specs.Prelude.{◌≡◌, ℕ, ◌+◌, Option}
 use Rattle.forest_tree.specs.Tree.{Path}
 use Rattle.forest_model.specs.Machine.{Machine, after_steps}
 use Rattle.image_depot.specs.Key.{Key}
-use Rattle.forest_model.specs.Paged.{Pages}
-use Rattle.vm_cell.specs.Keyed.{KeyedMachine}
+use Rattle.forest_model.specs.Paged.{Pages, Paged}
+use Rattle.vm_cell.specs.Keyed.{KeyedMachine, paged}
 use Rattle.vm_cell.specs.declared.vm.Stepped.{Stepped}
 use Rattle.vm_cell.specs.declared.vm.Stepped.TheVariants.{Went, Stall, Call, Ended}
 use Rattle.vm_cell.specs.Steps.{Stands}
@@ -24,6 +24,10 @@ pub record Lent : Type 0 where
 -- the machine as the code has it
 abbrev pub vm_of : Lent → KeyedMachine
 vm_of lease = record { machine = lease.now; pages = lease.pages; key = lease.key }
+
+-- the machine as it stands, with what is known of its pages
+abbrev pub now_of : Lent → Paged
+now_of lease = paged (vm_of lease)
 
 -- a lease of this machine
 abbrev pub lent_as : Path → Machine → ℕ → KeyedMachine → Lent

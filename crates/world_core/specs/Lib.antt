@@ -6,5 +6,6 @@ pub mod Shows
 pub mod Unparked
 pub mod World
 pub mod Answers
+pub mod Arrived
 pub mod Between
 pub mod Popped

@@ -6,8 +6,7 @@ use Rattle.forest_tree.specs.Tree.{Tree, Path, subtree}
 use Rattle.forest_tree.specs.Sound.{IsSound}
 use Rattle.forest_history.specs.Places.{Spot}
 use Rattle.forest_history.specs.World.{is_to_wake}
-use Rattle.forest_model.specs.Machine.{Machine}
-use Rattle.forest_model.specs.Forest.{machines}
+use Rattle.forest_model.specs.Paged.{Paged, paged_machines}
 use Rattle.run_report.specs.Name.{child_path}
 use Rattle.run_report.specs.NameOrder.{path_cmp}
 use Rattle.world_core.specs.declared.cell.Cell.{Cell}
@@ -28,17 +27,17 @@ TakesBy depot f None new = StandsFor depot new f
 TakesBy depot f (Some taken) new = Takes depot f taken new
 
 -- each machine of a forest whose root lives is shown by its cell
-pub record ShowsCells (depot : Shelves) (cells : BTreeMap Path Cell) (t : Tree (Spot Machine)) : Type 0 where
+pub record ShowsCells (depot : Shelves) (cells : BTreeMap Path Cell) (t : Tree (Spot Paged)) : Type 0 where
   pub sound : IsSound forest t
   pub root : IsAwake t
   pub shows : (name : Path) → Shows depot name (get path_cmp cells name) (subtree name t)
 
 -- the machine is ready, and still a descriptor
-abbrev pub sleeps : Path → ℕ → ℕ → Tree (Spot Machine) → Bool
-sleeps parent ticket k t = is_to_wake machines (child_path parent ticket k) t
+abbrev pub sleeps : Path → ℕ → ℕ → Tree (Spot Paged) → Bool
+sleeps parent ticket k t = is_to_wake paged_machines (child_path parent ticket k) t
 
 -- the first child of a ticket, from one on, that is still a descriptor
-abbrev pub IsFirstAsleep : Path → ℕ → ℕ → Tree (Spot Machine) → Option ℕ → Type 0
+abbrev pub IsFirstAsleep : Path → ℕ → ℕ → Tree (Spot Paged) → Option ℕ → Type 0
 IsFirstAsleep parent ticket first t None = (k : ℕ) → first ≤ k → sleeps parent ticket k t ≡ false
 IsFirstAsleep parent ticket first t (Some index) =
     (first ≤ index) × (sleeps parent ticket index t ≡ true) × ((k : ℕ) → first ≤ k → k < index → sleeps parent ticket k t ≡ false)

@@ -8,8 +8,8 @@ use Rattle.forest_tree.specs.Sound.{IsSound}
 use Rattle.forest_history.specs.Places.{Spot}
 use Rattle.forest_history.specs.World as history
 use Rattle.forest_history.specs.World.{is_ready, is_out_at}
-use Rattle.forest_model.specs.Machine.{Machine}
-use Rattle.forest_model.specs.Forest.{machines}
+use Rattle.forest_model.specs.Paged.{Paged, paged_machines}
+use Rattle.std.specs.Option.{IfSome}
 use Rattle.run_report.specs.NameOrder.{path_cmp}
 use Rattle.run_report.specs.Lines.{lines}
 use Rattle.run_report.specs.Report.{Ended, lines_of}
@@ -21,7 +21,7 @@ use Rattle.world_core.specs.Shows.{forest, told_spot, IsAwake, Shows}
 
 -- a forest of machines, each at its place, and the first reason to stop
 abbrev pub Forest : Type 0
-Forest = history.World Machine Reason
+Forest = history.World Paged Reason
 
 -- a machine that is ready has a turn: its own where it has a cell, and else one with the children of its ticket
 abbrev pub IsDue : Option Cell → Path → List Waiting → Type 0
@@ -30,20 +30,20 @@ IsDue (Some c) name turns = IsListed name turns
 
 -- the forest is shown: its outcome where the root has ended, and else each machine by its cell, and each that
 -- is ready by a turn
-pub record ShowsLive (depot : Shelves) (w : World) (t : Tree (Spot Machine)) : Type 0 where
+pub record ShowsLive (depot : Shelves) (w : World) (t : Tree (Spot Paged)) : Type 0 where
   pub root : IsAwake t
   pub cells : (name : Path) → Shows depot name (get path_cmp w.cells name) (subtree name t)
-  pub ready : (name : Path) → is_ready machines name t ≡ true → IsDue (get path_cmp w.cells name) name w.ready
+  pub ready : (name : Path) → is_ready paged_machines name t ≡ true → IsDue (get path_cmp w.cells name) name w.ready
   pub listed : (name : Path) → IfSome (get path_cmp w.cells name) (λ c. c.is_listed ≡ true → IsListed name w.ready)
 
 -- the root has ended and is not on lease, and no cell is left
-pub record ShowsEnd (outcome : Ended) (w : World) (t : Tree (Spot Machine)) : Type 0 where
+pub record ShowsEnd (outcome : Ended) (w : World) (t : Tree (Spot Paged)) : Type 0 where
   pub ended : has_ended forest t ≡ true
   pub home : is_out_at (machine t).place ≡ false
   pub lines : lines_of outcome ≡ lines told_spot [] t
   pub cells : (name : Path) → get path_cmp w.cells name ≡ None
 
-abbrev pub ShowsTree : Option Ended → Shelves → World → Tree (Spot Machine) → Type 0
+abbrev pub ShowsTree : Option Ended → Shelves → World → Tree (Spot Paged) → Type 0
 ShowsTree None depot w t = ShowsLive depot w t
 ShowsTree (Some outcome) depot w t = ShowsEnd outcome w t
 

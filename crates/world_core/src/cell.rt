@@ -7,12 +7,11 @@ ghost use Rattle.forest_tree.specs.Sound.{IsSound};
 ghost use Rattle.forest_history.specs.Places.{Spot, home, out, placed};
 ghost use Rattle.forest_history.specs.World.{is_asleep_at, lives_ready, lives_at_home};
 ghost use Rattle.forest_model.specs.Calls.{after_join, after_kill, forked};
-ghost use Rattle.forest_model.specs.Forest.{machines};
-ghost use Rattle.forest_model.specs.Machine.{Machine};
+ghost use Rattle.forest_model.specs.Paged.{Paged, paged_machines};
 ghost use Rattle.run_report.specs.Lines.{lines};
 ghost use Rattle.run_report.specs.Name.{child_path};
 ghost use Rattle.run_report.specs.Report.{lines_of};
-ghost use Rattle.vm_cell.specs.Keyed.{IsOfDepot};
+ghost use Rattle.vm_cell.specs.Keyed.{IsOfDepot, paged};
 ghost use Rattle.vm_cell.specs.Standing.{IsClone, IsJoin, IsKill, standing_call};
 ghost use Rattle.vm_descriptor.specs.declared.descriptor.TheConstants.{MAX_CLONES};
 ghost use Rattle.world_core.specs.Turns.{turn_of, turns_from};
@@ -83,8 +82,8 @@ pub(crate) enum Slot {
 impl Cell {
     /// The cell of a machine that is handed out as it wakes.
     pub(crate) fn of_lent(alloc: Global, vm: &Vm) -> Cell
-        ensures shows { (depot : Shelves) (path : Path) → vm.now.machine.ending ≡ None → ((ticket : ℕ) → is_cloned machines vm.now.machine ticket ≡ false)
-            → CellShows depot path result (alone forest (record { machine = vm.now.machine; place = out })) }
+        ensures shows { (depot : Shelves) (path : Path) → vm.now.machine.ending ≡ None → ((ticket : ℕ) → is_cloned paged_machines (paged vm.now) ticket ≡ false)
+            → CellShows depot path result (alone forest (record { machine = paged vm.now; place = out })) }
         ensures listed { result.is_listed ≡ false }
     {
         Cell {
@@ -97,8 +96,8 @@ impl Cell {
 
     /// The cell of a machine that is at home from its start on, and whose turn is listed.
     pub(crate) fn of_root(alloc: Global, vm: Box<Vm>) -> Cell
-        ensures shows { (depot : Shelves) (path : Path) → vm.value.machine.ending ≡ None → IsOfDepot depot vm.value.key → ((ticket : ℕ) → is_cloned machines vm.value.machine ticket ≡ false)
-            → CellShows depot path result (alone forest (record { machine = vm.value.machine; place = home })) }
+        ensures shows { (depot : Shelves) (path : Path) → vm.value.machine.ending ≡ None → IsOfDepot depot vm.value.key → ((ticket : ℕ) → is_cloned paged_machines (paged vm.value) ticket ≡ false)
+            → CellShows depot path result (alone forest (record { machine = paged vm.value; place = home })) }
         ensures listed { result.is_listed ≡ true }
     {
         Cell {
@@ -111,7 +110,7 @@ impl Cell {
 
     /// Whether a child of the ticket lives.
     pub(crate) fn waits(&self, ticket: u32) -> bool
-        ensures { (depot : Shelves) (path : Path) (t : Tree (Spot Machine)) → Holds depot path self.now t
+        ensures { (depot : Shelves) (path : Path) (t : Tree (Spot Paged)) → Holds depot path self.now t
             → result ≡ not (have_ended forest (brood_of ticket (broods_of t))) }
     {
         match self.broods.get(&ticket) {
@@ -122,9 +121,9 @@ impl Cell {
 
     /// Hands out the machine, if it is at home and does not wait.
     pub(crate) fn lend(&mut self) -> Option<Box<Vm>>
-        ensures shows { (depot : Shelves) (path : Path) (t : Tree (Spot Machine)) → CellShows depot path self.old t
-            → MatchOption result ((lives_ready machines t ≡ false) × (self.new ≡ self.old))
-            (λ vm. (lives_ready machines t ≡ true) × (vm.value.machine ≡ (machine t).machine) × IsOfDepot depot vm.value.key × CellShows depot path self.new (placed out t)) }
+        ensures shows { (depot : Shelves) (path : Path) (t : Tree (Spot Paged)) → CellShows depot path self.old t
+            → MatchOption result ((lives_ready paged_machines t ≡ false) × (self.new ≡ self.old))
+            (λ vm. (lives_ready paged_machines t ≡ true) × (paged vm.value ≡ (machine t).machine) × IsOfDepot depot vm.value.key × CellShows depot path self.new (placed out t)) }
         ensures place { self.new.is_listed ≡ self.old.is_listed }
     {
         if let State::Home(vm) = &self.state {
@@ -139,9 +138,9 @@ impl Cell {
 
     /// Hands out the machine, if it is at home, where it waits too.
     pub(crate) fn lend_named(&mut self) -> Option<Box<Vm>>
-        ensures shows { (depot : Shelves) (path : Path) (t : Tree (Spot Machine)) → CellShows depot path self.old t
-            → MatchOption result ((lives_at_home machines t ≡ false) × (self.new ≡ self.old))
-            (λ vm. (lives_at_home machines t ≡ true) × (vm.value.machine ≡ (machine t).machine) × IsOfDepot depot vm.value.key × CellShows depot path self.new (placed out t)) }
+        ensures shows { (depot : Shelves) (path : Path) (t : Tree (Spot Paged)) → CellShows depot path self.old t
+            → MatchOption result ((lives_at_home paged_machines t ≡ false) × (self.new ≡ self.old))
+            (λ vm. (lives_at_home paged_machines t ≡ true) × (paged vm.value ≡ (machine t).machine) × IsOfDepot depot vm.value.key × CellShows depot path self.new (placed out t)) }
         ensures place { self.new.is_listed ≡ self.old.is_listed }
     {
         if let State::Parked(_, vm, _) = &self.state {
@@ -162,11 +161,11 @@ impl Cell {
         ticket: u32,
         index: u32,
     ) -> Result<Vm, AllocError>
-        requires { (path : Path) × (t a : Tree (Spot Machine)) × Holds depot.now path self.now t × (child_of ticket index t ≡ Some a) × (is_asleep_at (machine a).place ≡ true)
+        requires { (path : Path) × (t a : Tree (Spot Paged)) × Holds depot.now path self.now t × (child_of ticket index t ≡ Some a) × (is_asleep_at (machine a).place ≡ true)
             × (has_ended forest a ≡ false) }
-        ensures { (path : Path) (t a : Tree (Spot Machine)) → Holds depot.now path self.now t → child_of ticket index t ≡ Some a
+        ensures { (path : Path) (t a : Tree (Spot Paged)) → Holds depot.now path self.now t → child_of ticket index t ≡ Some a
             → is_asleep_at (machine a).place ≡ true → has_ended forest a ≡ false
-            → IfOk result (λ vm. (vm.machine ≡ (machine a).machine) × IsOfDepot depot.now vm.key) }
+            → IfOk result (λ vm. (paged vm ≡ (machine a).machine) × IsOfDepot depot.now vm.key) }
     {
         let Some(brood) = self.broods.get(&ticket) else {
             unreachable!();
@@ -180,9 +179,9 @@ impl Cell {
 
     /// A child has a cell of its own from now on.
     pub(crate) fn child_wakes(&mut self, ticket: u32, index: u32)
-        requires { (depot : Shelves) × (path : Path) × (t a : Tree (Spot Machine)) × Holds depot path self.old t × (child_of ticket index t ≡ Some a) × (is_asleep_at (machine a).place ≡ true)
+        requires { (depot : Shelves) × (path : Path) × (t a : Tree (Spot Paged)) × Holds depot path self.old t × (child_of ticket index t ≡ Some a) × (is_asleep_at (machine a).place ≡ true)
             × (has_ended forest a ≡ false) }
-        ensures shows { (depot : Shelves) (path : Path) (t a : Tree (Spot Machine)) → CellShows depot path self.old t → child_of ticket index t ≡ Some a
+        ensures shows { (depot : Shelves) (path : Path) (t a : Tree (Spot Paged)) → CellShows depot path self.old t → child_of ticket index t ≡ Some a
             → is_asleep_at (machine a).place ≡ true → has_ended forest a ≡ false
             → CellShows depot path self.new (with_child ticket index (placed out a) t) }
         ensures place { self.new.is_listed ≡ self.old.is_listed }
@@ -200,16 +199,16 @@ impl Cell {
         index: u32,
         outcome: Outcome,
     ) -> Option<Box<Turn>>
-        requires { (depot : Shelves) × (path : Path) × (t a : Tree (Spot Machine)) × CellShows depot path self.old t × (child_of ticket index t ≡ Some a) × IsAwake a }
-        ensures shows { (depot : Shelves) (path : Path) (t a b : Tree (Spot Machine)) → CellShows depot path self.old t
+        requires { (depot : Shelves) × (path : Path) × (t a : Tree (Spot Paged)) × CellShows depot path self.old t × (child_of ticket index t ≡ Some a) × IsAwake a }
+        ensures shows { (depot : Shelves) (path : Path) (t a b : Tree (Spot Paged)) → CellShows depot path self.old t
             → child_of ticket index t ≡ Some a → IsAwake a → (told_spot.ending (machine b) ≡ Some outcome.ending)
             → (lines_of outcome ≡ lines told_spot (child_path path ticket index) b) → CellShows depot path self.new (with_child ticket index b t) }
-        ensures turn { (depot : Shelves) (path : Path) (t : Tree (Spot Machine)) → CellShows depot path self.old t
+        ensures turn { (depot : Shelves) (path : Path) (t : Tree (Spot Paged)) → CellShows depot path self.old t
             → IfSome result (λ turn. (turns_from turn.value ≡ turn_of turn.value ∷ []) × (turn_of turn.value ≡ record { name = path; children = None })) }
         ensures listed { MatchOption result (self.new.is_listed ≡ self.old.is_listed) (λ turn. self.new.is_listed ≡ true) }
-        ensures ready { (depot : Shelves) (path : Path) (t a b : Tree (Spot Machine)) → CellShows depot path self.old t → child_of ticket index t ≡ Some a → IsAwake a
-            → (told_spot.ending (machine b) ≡ Some outcome.ending) → lives_ready machines (with_child ticket index b t) ≡ true
-            → (lives_ready machines t ≡ true) ⊎ (self.new.is_listed ≡ true) }
+        ensures ready { (depot : Shelves) (path : Path) (t a b : Tree (Spot Paged)) → CellShows depot path self.old t → child_of ticket index t ≡ Some a → IsAwake a
+            → (told_spot.ending (machine b) ≡ Some outcome.ending) → lives_ready paged_machines (with_child ticket index b t) ≡ true
+            → (lives_ready paged_machines t ≡ true) ⊎ (self.new.is_listed ≡ true) }
     {
         let Some(brood) = self.broods.get_mut(&ticket) else {
             unreachable!();

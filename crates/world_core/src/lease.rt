@@ -8,9 +8,12 @@ ghost use Rattle.vm_cell.specs.Keyed.{Arrives, HasImage, IsOfDepot, paged};
 ghost use Rattle.vm_cell.specs.Shown.{peeked, shown_registers};
 ghost use Rattle.vm_cell.specs.Standing.{standing_call};
 ghost use Rattle.vm_cell.specs.Steps.{IsFreeFor, Stands, moved_by};
-ghost use Rattle.world_core.specs.Answers.{join_ticket};
+ghost use Rattle.world_core.specs.Answers.{IsHandedOut, join_ticket};
+ghost use Rattle.world_core.specs.Arrived.{StillHandedOut, after_arrival};
 ghost use Rattle.world_core.specs.Lent.{IsSameLease, StandsWhole, lent_as, vm_of};
 ghost use Rattle.world_core.specs.Turns.{turn_of, turns_from};
+ghost use Rattle.world_core.specs.World.{Forest, StandsFor};
+ghost use Rattle.world_core.specs.declared.world.World.{World};
 
 use crate::turns::Turn;
 use forest_model::Ending;
@@ -166,6 +169,9 @@ impl Lease {
         ensures arrives { IfOk result (Arrives self.old.key self.old.pages parcel.now self.new.pages) }
         ensures rest { self.new.now ≡ self.old.now }
         ensures err { OnErr result (self.new ≡ self.old) }
+        // A world stands for the forest in which the page is here.
+        ensures handed { (w : World) (f : Forest) → StandsFor depot.now w f → IsHandedOut f self.old
+            → IfOk result (λ arrived. StandsFor depot.now w (after_arrival self.old.name arrived f) × IsHandedOut (after_arrival self.old.name arrived f) self.new) }
     {
         self.vm.arrive(alloc, depot, parcel)
     }
@@ -189,12 +195,14 @@ impl Lease {
         ensures all_made { IfOk result (λ ran. ran.why ≡ Stepped.Went → ran.steps ≡ most) }
         ensures enough { IfOk result (λ ran. self.old.now.limit ≤ self.old.now.steps + most → ran.why ≢ Stepped.Went) }
         ensures err { OnErr result (vm_of self.new ≡ moved_by (self.new.ran - self.old.ran) (vm_of self.old)) }
+        ensures err_free { OnErr result (IsFreeFor (self.new.ran - self.old.ran) (vm_of self.old)) }
         ensures err_ran { OnErr result (self.old.ran ≤ self.new.ran) }
         ensures err_most { OnErr result (self.new.ran < self.old.ran + most) }
         ensures err_live { OnErr result (self.new.now.ending ≡ None) }
         ensures err_here { OnErr result (stalled_at (paged (vm_of self.new)) ≡ None) }
         // Memory is wanted only where the coming step takes some.
         ensures err_memory { OnErr result (Grows self.new.now.state) }
+        ensures handed { (f : Forest) → IsHandedOut f self.old → IsHandedOut f self.new }
     {
         let before = self.vm.steps();
         let ran = self.vm.run(most);
@@ -221,6 +229,7 @@ impl Lease {
         ensures err_ran { OnErr result (self.old.ran ≤ self.new.ran) }
         ensures err_most { OnErr result (self.new.ran ≤ self.old.ran + most) }
         ensures err_live { OnErr result (self.new.now.ending ≡ None) }
+        ensures handed { (w : World) (f : Forest) → StandsFor depot.now w f → IsHandedOut f self.old → StillHandedOut depot.now w f self.new }
     {
         let mut steps = 0;
         loop {
@@ -243,6 +252,7 @@ impl Lease {
         ensures same { IsSameLease self.old self.new × (self.new.ran ≡ self.old.ran) }
         ensures rest { self.new.now ≡ self.old.now }
         ensures fewer { OnOk result (absent_count self.new.pages.here < absent_count self.old.pages.here) }
+        ensures handed { (w : World) (f : Forest) → StandsFor depot.now w f → IsHandedOut f self.old → StillHandedOut depot.now w f self.new }
     {
         // The call tells that RAM has no other page, and a step touches none but those of RAM.
         let _ = self.vm.pages();

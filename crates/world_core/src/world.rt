@@ -8,12 +8,12 @@ ghost use Rattle.forest_history.specs.Places.{Spot, home, placed};
 ghost use Rattle.forest_history.specs.World.{is_at_home, world_of};
 ghost use Rattle.forest_history.specs.Rows.{gave, ended, halted, does};
 ghost use Rattle.forest_model.specs.Forest.{machines, port_of};
-ghost use Rattle.forest_model.specs.Machine.{Machine};
+ghost use Rattle.forest_model.specs.Paged.{Paged, paged_machines};
 ghost use Rattle.run_report.specs.Lines.{lines};
 ghost use Rattle.run_report.specs.Name.{child_path};
 ghost use Rattle.run_report.specs.NameOrder.{path_cmp};
 ghost use Rattle.run_report.specs.Report.{lines_of};
-ghost use Rattle.vm_cell.specs.Keyed.{IsOfDepot};
+ghost use Rattle.vm_cell.specs.Keyed.{IsOfDepot, paged};
 ghost use Rattle.world_core.specs.Lent.{vm_of};
 ghost use Rattle.world_core.specs.Turns.{turns_from, turn_of};
 ghost use Rattle.world_core.specs.Shows.{CellShows, IsAwake, child_of, forest, told_spot, ended_tree};
@@ -78,7 +78,7 @@ impl World {
     pub fn new(alloc: Global, vm: Vm, depot: &Depot) -> Result<World, AllocError>
         requires no_ticket { (port_of vm.machine).tickets ≡ [] }
         requires every_page { vm.key ≡ None }
-        ensures { IfOk result (λ world. StandsFor depot.now world (world_of machines vm.machine)) }
+        ensures { IfOk result (λ world. StandsFor depot.now world (world_of paged_machines (paged vm))) }
     {
         let _ = depot;
         match vm.ended() {
@@ -92,7 +92,7 @@ impl World {
         requires ended { vm.machine.ending ≡ Some ending }
         requires no_ticket { (port_of vm.machine).tickets ≡ [] }
         requires good { machines.is_good vm.machine ≡ true }
-        ensures { IfOk result (λ world. (depot : Shelves) → StandsFor depot world (world_of machines vm.machine)) }
+        ensures { IfOk result (λ world. (depot : Shelves) → StandsFor depot world (world_of paged_machines (paged vm))) }
     {
         let root = Name::root(alloc)?;
         let steps = vm.steps();
@@ -111,7 +111,7 @@ impl World {
         requires no_ticket { (port_of vm.machine).tickets ≡ [] }
         requires every_page { vm.key ≡ None }
         requires good { machines.is_good vm.machine ≡ true }
-        ensures { IfOk result (λ world. (depot : Shelves) → StandsFor depot world (world_of machines vm.machine)) }
+        ensures { IfOk result (λ world. (depot : Shelves) → StandsFor depot world (world_of paged_machines (paged vm))) }
     {
         let root = Name::root(alloc)?;
         let mut ready = Turns::new();
@@ -166,7 +166,7 @@ impl World {
     /// No machine is handed out from now on, for the first reason that is given.
     pub fn stop(&mut self, reason: Reason)
         ensures { (depot : Shelves) (f : Forest) → StandsFor depot self.old f
-            → StandsFor depot self.new (does machines (halted reason) f) }
+            → StandsFor depot self.new (does paged_machines (halted reason) f) }
     {
         if self.halted.is_none() {
             self.halted = Some(reason);
@@ -202,7 +202,7 @@ impl World {
     /// parent, which is awake.
     pub fn reaches(&self, depth: usize) -> bool
         ensures { (depot : Shelves) (f : Forest) → StandsFor depot self.now f → result ≡ false
-            → (name : Path) → length name ≡ depth → is_at_home machines name f.tree ≡ false }
+            → (name : Path) → length name ≡ depth → is_at_home paged_machines name f.tree ≡ false }
     {
         let Some((longest, _)) = self.cells.last_key_value() else {
             return false;
@@ -230,8 +230,8 @@ impl World {
         requires alone { turns_from turn.value ≡ turn_of turn.value ∷ [] }
         requires one { (turn_of turn.value).children ≡ None }
         ensures gone { get path_cmp self.old.cells (turn_of turn.value).name ≡ None → (result ≡ Placed.Dropped) × IsSameWorld self.old self.new }
-        ensures home { (depot : Shelves) (f : Forest) (a : Tree (Spot Machine)) → IsBetween depot self.old f (turn_of turn.value).name a
-            → (machine a).machine ≡ vm.value.machine → IsOfDepot depot vm.value.key → has_ended forest a ≡ false
+        ensures home { (depot : Shelves) (f : Forest) (a : Tree (Spot Paged)) → IsBetween depot self.old f (turn_of turn.value).name a
+            → (machine a).machine ≡ paged vm.value → IsOfDepot depot vm.value.key → has_ended forest a ≡ false
             → IsSound forest (with_tree (turn_of turn.value).name (placed home a) f).tree
             → (result ≡ Placed.Done) × StandsFor depot self.new (with_tree (turn_of turn.value).name (placed home a) f) }
     {
@@ -251,11 +251,11 @@ impl World {
     fn finish(&mut self, turn: Box<Turn>, vm: Box<Vm>, ending: Ending) -> Placed
         requires ended { vm.value.machine.ending ≡ Some ending }
         requires between { IfSome (get path_cmp self.old.cells (turn_of turn.value).name)
-            (λ c. (depot : Shelves) × (f : Forest) × (a : Tree (Spot Machine)) × IsBetween depot self.old f (turn_of turn.value).name a
-            × ((machine a).machine ≡ vm.value.machine)) }
+            (λ c. (depot : Shelves) × (f : Forest) × (a : Tree (Spot Paged)) × IsBetween depot self.old f (turn_of turn.value).name a
+            × ((machine a).machine ≡ paged vm.value)) }
         ensures gone { get path_cmp self.old.cells (turn_of turn.value).name ≡ None → (result ≡ Placed.Dropped) × IsSameWorld self.old self.new }
-        ensures finished { (depot : Shelves) (f : Forest) (a : Tree (Spot Machine)) → IsBetween depot self.old f (turn_of turn.value).name a
-            → (machine a).machine ≡ vm.value.machine
+        ensures finished { (depot : Shelves) (f : Forest) (a : Tree (Spot Paged)) → IsBetween depot self.old f (turn_of turn.value).name a
+            → (machine a).machine ≡ paged vm.value
             → IsSound forest (with_tree (turn_of turn.value).name (placed home (ended_tree a)) f).tree
             → (result ≡ Placed.Done) × StandsFor depot self.new (with_tree (turn_of turn.value).name (placed home (ended_tree a)) f) }
     {
@@ -273,9 +273,9 @@ impl World {
 
     /// Tells a machine how a child of it has ended. It may be ready then.
     fn end_child(&mut self, parent: &Name, ticket: u32, index: u32, outcome: Outcome)
-        requires { IsSomeAnd (get path_cmp self.old.cells parent.now) (λ c. (depot : Shelves) × (t a : Tree (Spot Machine))
+        requires { IsSomeAnd (get path_cmp self.old.cells parent.now) (λ c. (depot : Shelves) × (t a : Tree (Spot Paged))
             × CellShows depot parent.now c t × (child_of ticket index t ≡ Some a) × IsAwake a) }
-        ensures { (depot : Shelves) (f : Forest) (b : Tree (Spot Machine)) → IsLeaving depot self.old f (child_path parent.now ticket index)
+        ensures { (depot : Shelves) (f : Forest) (b : Tree (Spot Paged)) → IsLeaving depot self.old f (child_path parent.now ticket index)
             → HasLeft (child_path parent.now ticket index) b outcome → IsSound forest (with_tree (child_path parent.now ticket index) b f).tree
             → StandsFor depot self.new (with_tree (child_path parent.now ticket index) b f) }
     {

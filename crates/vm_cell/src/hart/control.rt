@@ -9,11 +9,11 @@ ghost use Rattle.vm_cell.specs.Acts.{ActsAlone};
 use super::{Acted, Hart, trapped};
 use forest_model::Written;
 use forest_model::cause::INSTRUCTION_ADDRESS_MISALIGNED;
-use rv_decode::Instr;
+use rv_decode::{Instr, Kind};
 use rv_exec::branch_taken;
 
 impl Hart {
-    #[inline]
+    #[inline(always)]
     #[tactic(auto, unfolding(forest_model::specs::Control::jump))]
     pub(super) fn jump(&mut self, instr: Instr) -> Acted
         ensures { ActsAlone self.old self.new (jump instr self.old.state) result }
@@ -22,7 +22,7 @@ impl Hart {
         self.link_and_jump(instr, target)
     }
 
-    #[inline]
+    #[inline(always)]
     #[tactic(auto, unfolding(forest_model::specs::Control::jump_register))]
     pub(super) fn jump_register(&mut self, instr: Instr) -> Acted
         ensures { ActsAlone self.old self.new (jump_register instr self.old.state) result }
@@ -33,15 +33,34 @@ impl Hart {
         self.link_and_jump(instr, address - address % 2)
     }
 
-    #[inline]
-    #[tactic(auto, unfolding(forest_model::specs::Control::branch))]
+    #[inline(always)]
+    #[tactic(auto, unfolding(rv_decode::specs::Kinds::group_of))]
     pub(super) fn branch(&mut self, instr: Instr) -> Acted
         requires { group_of instr.kind ≡ group.Branch }
         ensures { ActsAlone self.old self.new (branch instr self.old.state) result }
     {
+        match instr.kind() {
+            Kind::Beq => self.branch_as(instr, Kind::Beq),
+            Kind::Bne => self.branch_as(instr, Kind::Bne),
+            Kind::Blt => self.branch_as(instr, Kind::Blt),
+            Kind::Bge => self.branch_as(instr, Kind::Bge),
+            Kind::Bltu => self.branch_as(instr, Kind::Bltu),
+            Kind::Bgeu => self.branch_as(instr, Kind::Bgeu),
+            _ => unreachable!(),
+        }
+    }
+
+    /// The same for a kind that is known where this is inlined, so that its test is one comparison there.
+    #[inline(always)]
+    #[tactic(auto, unfolding(forest_model::specs::Control::branch))]
+    fn branch_as(&mut self, instr: Instr, kind: Kind) -> Acted
+        requires kind { kind ≡ instr.kind }
+        requires group { group_of kind ≡ group.Branch }
+        ensures { ActsAlone self.old self.new (branch instr self.old.state) result }
+    {
         let a = self.register(instr.rs1());
         let b = self.register(instr.rs2());
-        if !branch_taken(instr.kind(), a, b) {
+        if !branch_taken(kind, a, b) {
             return self.retire();
         }
         let target = self.relative(instr);
@@ -49,7 +68,7 @@ impl Hart {
     }
 
     /// The pc plus the immediate.
-    #[inline]
+    #[inline(always)]
     fn relative(&self, instr: Instr) -> u32
         ensures { result ≡ relative instr self.now.state }
     {
@@ -57,7 +76,7 @@ impl Hart {
     }
 
     /// Jumps, with the address of the next instruction for rd.
-    #[inline]
+    #[inline(always)]
     fn link_and_jump(&mut self, instr: Instr, target: u32) -> Acted
         ensures { ActsAlone self.old self.new (jump_to target (linked instr self.old.state)) result }
     {
@@ -70,7 +89,7 @@ impl Hart {
         Acted::Retired(Written::Nothing)
     }
 
-    #[inline]
+    #[inline(always)]
     fn jump_to(&mut self, target: u32) -> Acted
         ensures { ActsAlone self.old self.new (jump_to target self.old.state) result }
     {

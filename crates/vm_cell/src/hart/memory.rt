@@ -1,6 +1,6 @@
 //! Loads and stores.
 
-ghost use Rattle.std.specs.Prelude.{◌≡◌, ◌<◌, if◌then◌else◌, Some, None, Ok, OnErr, OnOk};
+ghost use Rattle.std.specs.Prelude.{◌≡◌, ◌/◌, ◌%◌, ◌<◌, if◌then◌else◌, length, MatchBool, Some, None, Ok, OnErr, OnOk};
 ghost use Rattle.rv_decode.specs.declared.kinds.Group.TheVariants as group;
 ghost use Rattle.rv_decode.specs.Kinds.{group_of};
 ghost use Rattle.byteorder.specs.Endian.{little_bytes};
@@ -10,8 +10,12 @@ ghost use Rattle.forest_model.specs.Ports.{port_load, port_store};
 ghost use Rattle.forest_model.specs.Memory.{data_address, load_access, load_by, read_action, load, store, store_access, store_action, to_load, to_store, port_action, is_page_range, zeroed};
 ghost use Rattle.forest_model.specs.Paged.{no_change, zeroes, change_of_access, change_stored, pages_after};
 ghost use Rattle.forest_model.specs.Touch.{data_page};
-ghost use Rattle.rv_exec.specs.Memory.{IsWidth, load_width};
-ghost use Rattle.vm_cell.specs.Acts.{Acts, AccessGrows, InstructionGrows, PortGrows};
+ghost use Rattle.rv_exec.specs.Memory.{IsWidth, load_width, store_width};
+ghost use Rattle.elf_load.specs.declared.image.TheConstants.{PAGE_SIZE};
+ghost use Rattle.flat_memory.specs.Flat.{put_bytes};
+ghost use Rattle.vm_cell.specs.Acts.{Acts, AccessGrows, InstructionGrows, IsPut, PortGrows};
+ghost use Rattle.vm_cell.specs.Keyed.{IsHere};
+ghost use Rattle.vm_cell.specs.Plain.{ActsPlainly};
 
 use super::access::Reach;
 use super::{Acted, Hart, trapped};
@@ -34,7 +38,7 @@ impl Hart {
             .wrapping_add(instr.imm().cast_unsigned())
     }
 
-    #[inline]
+    #[inline(always)]
     #[tactic(auto, unfolding(forest_model::specs::Memory::load, rv_decode::specs::Kinds::group_of))]
     pub(super) fn load(&mut self, instr: Instr) -> Acted
         requires { group_of instr.kind ≡ group.Load }
@@ -42,16 +46,20 @@ impl Hart {
     {
         let address = self.data_address(instr);
         match instr.kind() {
-            Kind::Lb | Kind::Lbu => self.load_from(instr, address, 1),
-            Kind::Lh | Kind::Lhu => self.load_from(instr, address, 2),
-            Kind::Lw => self.load_from(instr, address, 4),
+            Kind::Lb => self.load_from(instr, Kind::Lb, address, 1),
+            Kind::Lh => self.load_from(instr, Kind::Lh, address, 2),
+            Kind::Lw => self.load_from(instr, Kind::Lw, address, 4),
+            Kind::Lbu => self.load_from(instr, Kind::Lbu, address, 1),
+            Kind::Lhu => self.load_from(instr, Kind::Lhu, address, 2),
             _ => unreachable!(),
         }
     }
 
-    /// Loads the `width` bytes from `address`.
+    /// Loads the `width` bytes from `address`. The kind is known where this is inlined, so that `load_value` is one
+    /// operation there.
     #[inline(always)]
-    fn load_from(&mut self, instr: Instr, address: u32, width: u32) -> Acted
+    fn load_from(&mut self, instr: Instr, kind: Kind, address: u32, width: u32) -> Acted
+        requires kind { kind ≡ instr.kind }
         requires group { group_of instr.kind ≡ group.Load }
         requires width { width ≡ load_width instr.kind }
         requires widths { IsWidth width }
@@ -70,7 +78,7 @@ impl Hart {
                 let Ok(number) = self.memory.load(offset, width) else {
                     unreachable!()
                 };
-                self.retire_with(instr, load_value(instr.kind(), number))
+                self.retire_with(instr, load_value(kind, number))
             }
             Reach::Port => self.load_from_port(instr, address, width),
         }
@@ -88,7 +96,7 @@ impl Hart {
         }
     }
 
-    #[inline]
+    #[inline(always)]
     #[tactic(auto, unfolding(forest_model::specs::Memory::store, rv_decode::specs::Kinds::group_of))]
     pub(super) fn store(&mut self, instr: Instr) -> Result<Acted, AllocError>
         requires group { group_of instr.kind ≡ group.Store }
@@ -159,6 +167,99 @@ impl Hart {
             }
             Err(PortError::Fault) => Ok(trapped(STORE_ACCESS_FAULT, address)),
             Err(PortError::Memory) => Err(AllocError),
+        }
+    }
+
+    /// Loads from RAM, from a page that is here. Else nothing changes. One look-up tells both.
+    #[inline(always)]
+    #[tactic(auto, unfolding(rv_decode::specs::Kinds::group_of))]
+    pub(super) fn load_plainly(&mut self, instr: Instr) -> bool
+        requires { group_of instr.kind ≡ group.Load }
+        ensures { MatchBool result (ActsPlainly self.old self.new instr) (self.new ≡ self.old) }
+    {
+        match instr.kind() {
+            Kind::Lb => self.load_here(instr, Kind::Lb, 1),
+            Kind::Lh => self.load_here(instr, Kind::Lh, 2),
+            Kind::Lw => self.load_here(instr, Kind::Lw, 4),
+            Kind::Lbu => self.load_here(instr, Kind::Lbu, 1),
+            Kind::Lhu => self.load_here(instr, Kind::Lhu, 2),
+            _ => unreachable!(),
+        }
+    }
+
+    #[inline(always)]
+    fn load_here(&mut self, instr: Instr, kind: Kind, width: u32) -> bool
+        requires kind { kind ≡ instr.kind }
+        requires group { group_of instr.kind ≡ group.Load }
+        requires width { width ≡ load_width instr.kind }
+        requires widths { IsWidth width }
+        ensures { MatchBool result (ActsPlainly self.old self.new instr) (self.new ≡ self.old) }
+    {
+        let address = self.data_address(instr);
+        if address % width != 0 {
+            return false;
+        }
+        let Some(offset) = self.ram_offset(address) else {
+            return false;
+        };
+        let Ok(number) = self.memory.load(offset, width) else {
+            return false;
+        };
+        self.retire_with(instr, load_value(kind, number));
+        true
+    }
+
+    /// Stores to RAM, to a page that is here. Else nothing changes. One look-up tells both.
+    #[inline(always)]
+    #[tactic(auto, unfolding(rv_decode::specs::Kinds::group_of))]
+    pub(super) fn store_plainly(&mut self, instr: Instr) -> bool
+        requires { group_of instr.kind ≡ group.Store }
+        ensures { MatchBool result (ActsPlainly self.old self.new instr) (self.new ≡ self.old) }
+    {
+        match instr.kind() {
+            Kind::Sb => self.store_here(instr, 1),
+            Kind::Sh => self.store_here(instr, 2),
+            Kind::Sw => self.store_here(instr, 4),
+            _ => unreachable!(),
+        }
+    }
+
+    #[inline(always)]
+    fn store_here(&mut self, instr: Instr, width: u32) -> bool
+        requires group { group_of instr.kind ≡ group.Store }
+        requires width { width ≡ store_width instr.kind }
+        requires widths { IsWidth width }
+        ensures { MatchBool result (ActsPlainly self.old self.new instr) (self.new ≡ self.old) }
+    {
+        let address = self.data_address(instr);
+        if address % width != 0 {
+            return false;
+        }
+        let Some(offset) = self.ram_offset(address) else {
+            return false;
+        };
+        let word = self.register(instr.rs2());
+        if !self.put_here(offset, width, word) {
+            return false;
+        }
+        self.retire();
+        true
+    }
+
+    /// Puts the low `width` bytes of a word at an offset in RAM, if its page is here and memory is not wanting.
+    #[inline(always)]
+    fn put_here(&mut self, offset: u32, width: u32, word: u32) -> bool
+        requires width { IsWidth width }
+        requires aligned { offset % width ≡ 0 }
+        requires inside { offset < length self.old.state.ram }
+        ensures { MatchBool result
+            (IsHere self.old.pages (offset / PAGE_SIZE) × IsPut self.old self.new (offset / PAGE_SIZE)
+            (record self.old.state { ram = put_bytes self.old.state.ram offset (little_bytes width word) }))
+            (self.new ≡ self.old) }
+    {
+        match self.memory.store(offset, width, word) {
+            Ok(()) => true,
+            Err(_) => false,
         }
     }
 

@@ -1,59 +1,36 @@
 //! Plain steps, which are counted together: each retires an instruction that looks at no counter and reaches no port.
 
-ghost use Rattle.std.specs.Prelude.{◌≡◌, ◌≢◌, ◌≤◌, ◌<◌, MatchBool, IsTrue, Some, Ok};
+ghost use Rattle.std.specs.Prelude.{◌≡◌, ◌≢◌, ◌≤◌, ◌<◌, length, MatchBool};
 ghost use Rattle.forest_model.specs.declared.Written.TheVariants.{Nothing};
-ghost use Rattle.rv_decode.specs.Table.{decoded};
-ghost use Rattle.vm_cell.specs.Acts.{ActsBy};
-ghost use Rattle.vm_cell.specs.Plain.{AreMade, IsPlain, IsPlainStep, IsQuiet, IsStretch, counted_since};
+ghost use Rattle.forest_model.specs.Action.{retire_next};
+ghost use Rattle.rv_decode.specs.declared.kinds.Group.TheVariants as group;
+ghost use Rattle.rv_decode.specs.Kinds.{group_of};
+ghost use Rattle.vm_cell.specs.Acts.{ActsAlone};
+ghost use Rattle.vm_cell.specs.Kept.{Keeps};
+ghost use Rattle.vm_cell.specs.Plain.{ActsPlainly, AreMade, IsPlainStep, IsQuiet, IsStretch, counted_since};
 
-use super::access::Reach;
-use super::decoder::{Anew, Decoder, Memo};
-use super::{Acted, Hart};
+use super::{Acted, Hart, Slot};
 use forest_model::Written;
 use fork_port::refusals::TICKETS_END;
 use rv_decode::{Group, Instr};
 use rv_traps::{CsrRegisters, Csrs};
 
-/// So many plain steps are made with no memo of words, which takes a microsecond to make.
-const FEW: u64 = 256;
-
 impl Hart {
-    /// Makes the plain steps that come, at most `most`, and answers how many. They are counted. A memo of words pays
-    /// only where many steps come.
-    pub fn make_plain(&mut self, most: u64) -> u64
-        requires { self.old.state.ports.fork.next_ticket < TICKETS_END }
-        ensures made { AreMade result self.old self.new }
-        ensures most { result ≤ most }
-        ensures fork { self.new.state.ports.fork ≡ self.old.state.ports.fork }
-    {
-        let first = self.make_stretch(&mut Anew, most.min(FEW));
-        if first < FEW {
-            return first;
-        }
-        first + self.make_remembering(most - first)
-    }
-
-    /// The same with a memo of words. It is apart and never inlined, so that a short run does not pay for the memo.
-    #[inline(never)]
-    fn make_remembering(&mut self, most: u64) -> u64
-        requires { self.old.state.ports.fork.next_ticket < TICKETS_END }
-        ensures made { AreMade result self.old self.new }
-        ensures most { result ≤ most }
-        ensures fork { self.new.state.ports.fork ≡ self.old.state.ports.fork }
-    {
-        self.make_stretch(&mut Memo::new(), most)
-    }
-
-    /// The same with a decoder.
+    /// Makes the plain steps that come, at most `most`, and answers how many. They are counted. What the slots keep at
+    /// this epoch holds before and after.
     #[inline(always)]
-    fn make_stretch<D: Decoder>(&mut self, decoder: &mut D, most: u64) -> u64
-        requires { self.old.state.ports.fork.next_ticket < TICKETS_END }
+    pub fn make_plain(&mut self, slots: &mut [Slot], epoch: u32, most: u64) -> u64
+        requires tickets { self.old.state.ports.fork.next_ticket < TICKETS_END }
+        requires some { 0 < length slots.old }
+        requires keeps { Keeps self.old epoch slots.old }
         ensures made { AreMade result self.old self.new }
         ensures most { result ≤ most }
         ensures fork { self.new.state.ports.fork ≡ self.old.state.ports.fork }
+        ensures keeps { Keeps self.new epoch slots.new }
+        ensures same_length { length slots.new ≡ length slots.old }
     {
         let most = most.min(self.quiet_steps());
-        let made = self.plain_steps(decoder, most);
+        let made = self.plain_steps(slots, epoch, most);
         self.count_many(made);
         made
     }
@@ -72,13 +49,17 @@ impl Hart {
 
     /// Makes the plain steps that come, at most `most`, and answers how many. They are not counted yet.
     #[inline(always)]
-    fn plain_steps<D: Decoder>(&mut self, decoder: &mut D, most: u64) -> u64
-        requires { self.old.state.ports.fork.next_ticket < TICKETS_END }
+    fn plain_steps(&mut self, slots: &mut [Slot], epoch: u32, most: u64) -> u64
+        requires tickets { self.old.state.ports.fork.next_ticket < TICKETS_END }
+        requires some { 0 < length slots.old }
+        requires keeps { Keeps self.old epoch slots.old }
         ensures stretch { IsStretch result self.old self.new }
         ensures most { result ≤ most }
+        ensures keeps { Keeps self.new epoch slots.new }
+        ensures same_length { length slots.new ≡ length slots.old }
     {
         let mut made = 0;
-        while made < most && self.step_plainly(decoder) {
+        while made < most && self.step_plainly(slots, epoch) {
             made += 1;
         }
         made
@@ -86,52 +67,40 @@ impl Hart {
 
     /// Makes the coming step if it is plain, with no look at the interrupt. Else nothing changes.
     #[inline(always)]
-    fn step_plainly<D: Decoder>(&mut self, decoder: &mut D) -> bool
-        requires { self.old.state.ports.fork.next_ticket < TICKETS_END }
-        ensures { MatchBool result (IsPlainStep self.old self.new) (self.new ≡ self.old) }
+    fn step_plainly(&mut self, slots: &mut [Slot], epoch: u32) -> bool
+        requires tickets { self.old.state.ports.fork.next_ticket < TICKETS_END }
+        requires some { 0 < length slots.old }
+        requires keeps { Keeps self.old epoch slots.old }
+        ensures made { MatchBool result (IsPlainStep self.old self.new) (self.new ≡ self.old) }
+        ensures keeps { Keeps self.new epoch slots.new }
+        ensures same_length { length slots.new ≡ length slots.old }
     {
-        let Reach::Ram(offset) = self.fetch() else {
+        // The call tells that RAM has whole words.
+        let _ = self.memory.size();
+        let Some(instr) = self.coming(slots, epoch) else {
             return false;
         };
-        let word = self.fetched(offset);
-        match decoder.decode(word) {
-            Some(instr) => self.act_plainly(instr, word),
-            None => false,
-        }
+        self.forget_stored(slots, instr);
+        self.act_plainly(instr)
     }
 
-    /// Executes an instruction, which `word` encodes, if it is plain and retires. Else nothing changes.
+    /// Executes an instruction at the pc, if it is plain and retires. Else nothing changes.
     #[inline(always)]
-    fn act_plainly(&mut self, instr: Instr, word: u32) -> bool
+    fn act_plainly(&mut self, instr: Instr) -> bool
         requires { self.old.state.ports.fork.next_ticket < TICKETS_END }
-        ensures { MatchBool result
-            (IsPlain instr self.old.state × ActsBy self.old self.new (Some instr) word (Ok (Acted.Retired Nothing)))
-            (self.new ≡ self.old) }
-    {
-        if !self.is_plain(instr) {
-            return false;
-        }
-        match self.execute(instr, word) {
-            Ok(acted) => is_retired(acted),
-            Err(_) => false,
-        }
-    }
-
-    /// Whether an instruction is plain: it is neither of the system nor atomic, and what it loads or stores is in RAM.
-    #[inline(always)]
-    fn is_plain(&self, instr: Instr) -> bool
-        ensures { IsTrue result → IsPlain instr self.now.state }
+        ensures { MatchBool result (ActsPlainly self.old self.new instr) (self.new ≡ self.old) }
     {
         match instr.kind().group() {
-            Group::Load | Group::Store => self.ram_offset(self.data_address(instr)).is_some(),
-            Group::LoadUpper
-            | Group::AddUpper
-            | Group::Jump
-            | Group::JumpRegister
-            | Group::Branch
-            | Group::ComputeImmediate
-            | Group::Compute
-            | Group::Nothing => true,
+            Group::LoadUpper => is_retired(self.load_upper(instr)),
+            Group::AddUpper => is_retired(self.add_upper(instr)),
+            Group::Jump => is_retired(self.jump(instr)),
+            Group::JumpRegister => is_retired(self.jump_register(instr)),
+            Group::Branch => is_retired(self.branch(instr)),
+            Group::Load => self.load_plainly(instr),
+            Group::Store => self.store_plainly(instr),
+            Group::ComputeImmediate => is_retired(self.compute_immediate(instr)),
+            Group::Compute => is_retired(self.compute(instr)),
+            Group::Nothing => is_retired(self.retire_alone()),
             Group::EnvironmentCall
             | Group::Breakpoint
             | Group::TrapReturn
@@ -140,6 +109,14 @@ impl Hart {
             | Group::StoreConditional
             | Group::Amo => false,
         }
+    }
+
+    /// Retires.
+    #[inline(always)]
+    fn retire_alone(&mut self) -> Acted
+        ensures { ActsAlone self.old self.new (retire_next self.old.state) result }
+    {
+        self.retire()
     }
 
     /// Counts so many steps, each of which retired an instruction and wrote no counter.

@@ -15,15 +15,15 @@ use fork_port::Call;
 use image_depot::{Depot, ImageKey};
 use std::alloc::{AllocError, Global};
 use std::sync::Wait;
-use vm_descriptor::{Descriptor, MAX_CLONES};
+use vm_descriptor::{Descriptor, MAX_CLONES, Seed};
 
 /// What a machine leaves for its children, when it makes a CLONE.
 #[derive(Drop)]
 pub struct Brood {
     /// The key to the image that all of them start with.
     pub key: ImageKey,
-    /// What child 1 starts with beside it. The others differ in their number alone.
-    pub seed: Descriptor,
+    /// What child 1 starts with beside it, as bytes. The others differ in their number alone.
+    pub seed: Seed,
 }
 
 impl Vm {
@@ -71,7 +71,7 @@ impl Vm {
     }
 
     /// What child 1 of the CLONE that is the next step starts with, beside the image of a key.
-    fn seed(&self, alloc: Global, ticket: u32, key: &ImageKey) -> Result<Descriptor, AllocError>
+    fn seed(&self, alloc: Global, ticket: u32, key: &ImageKey) -> Result<Seed, AllocError>
         requires asked { IsAsked self.now.machine (Call.Clone ticket) }
         requires image { image_of key.now ≡ image_left self.now.machine.state }
         ensures { IfOk result (λ seed. AreSeeds self.now key.now (machines.grant self.now.machine ticket).children seed) }
@@ -81,7 +81,7 @@ impl Vm {
         let seed = self
             .hart
             .seed(alloc, key.number(), share, steps, self.limit)?;
-        Ok(seed)
+        Seed::new(alloc, &seed)
     }
 
     /// How many children a ticket was granted, and the share of each.

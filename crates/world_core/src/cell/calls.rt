@@ -10,10 +10,10 @@ ghost use Rattle.forest_tree.specs.Settle.{endings, have_ended};
 ghost use Rattle.forest_tree.specs.Sound.{IsSound};
 ghost use Rattle.forest_history.specs.Places.{Spot};
 ghost use Rattle.forest_model.specs.Calls.{after_join, after_kill, forked};
-ghost use Rattle.forest_model.specs.Machine.{Machine};
+ghost use Rattle.forest_model.specs.Paged.{Paged};
 ghost use Rattle.run_report.specs.Lines.{lines};
 ghost use Rattle.run_report.specs.Report.{lines_of};
-ghost use Rattle.vm_cell.specs.Keyed.{IsOfDepot};
+ghost use Rattle.vm_cell.specs.Keyed.{IsOfDepot, paged};
 ghost use Rattle.vm_cell.specs.Standing.{standing_call};
 ghost use Rattle.world_core.specs.Broods.{killed_line};
 ghost use Rattle.world_core.specs.Shows.{Holds, HoldsAfter, StandsAt, Tallies, ended_tree, forest, forked_tree, joined_tree, killed_tree, told_spot};
@@ -43,9 +43,9 @@ impl Cell {
         requires clones { standing_call vm.old ≡ Some (Call.Clone ticket) }
         ensures ok { OnOk result (vm.new ≡ record vm.old { machine = forked vm.old.machine }) }
         ensures err { OnErr result (vm.new ≡ vm.old) }
-        ensures holds { OnOk result ((t : Tree (Spot Machine)) → Holds depot.now name.now self.old t → StandsAt vm.old.machine (clone ticket) t
+        ensures holds { OnOk result ((t : Tree (Spot Paged)) → Holds depot.now name.now self.old t → StandsAt (paged vm.old) (clone ticket) t
             → HoldsAfter depot.now name.now self.new (forked_tree ticket t)) }
-        ensures still { OnErr result ((t : Tree (Spot Machine)) → Holds depot.now name.now self.old t → StandsAt vm.old.machine (clone ticket) t
+        ensures still { OnErr result ((t : Tree (Spot Paged)) → Holds depot.now name.now self.old t → StandsAt (paged vm.old) (clone ticket) t
             → Holds depot.now name.now self.new t) }
         ensures place { (self.new.state ≡ self.old.state) × (self.new.is_listed ≡ self.old.is_listed) }
     {
@@ -71,15 +71,15 @@ impl Cell {
     /// Makes the JOIN that the machine stands at, whose children have all ended.
     pub(crate) fn join(&mut self, alloc: Global, vm: &mut Vm, ticket: u32) -> Result<(), AllocError>
         requires joins { standing_call vm.old ≡ Some (Call.Join ticket) }
-        requires ended { (depot : Shelves) × (path : Path) × (t : Tree (Spot Machine)) × Holds depot path self.old t × StandsAt vm.old.machine (join ticket) t
+        requires ended { (depot : Shelves) × (path : Path) × (t : Tree (Spot Paged)) × Holds depot path self.old t × StandsAt (paged vm.old) (join ticket) t
             × (have_ended forest (brood_of ticket (broods_of t)) ≡ true) }
-        ensures ok { (t : Tree (Spot Machine)) (depot : Shelves) (path : Path) → Holds depot path self.old t → StandsAt vm.old.machine (join ticket) t
+        ensures ok { (t : Tree (Spot Paged)) (depot : Shelves) (path : Path) → Holds depot path self.old t → StandsAt (paged vm.old) (join ticket) t
             → have_ended forest (brood_of ticket (broods_of t)) ≡ true
             → OnOk result ((vm.new ≡ record vm.old { machine = after_join vm.old.machine (endings forest (brood_of ticket (broods_of t))) })
             × HoldsAfter depot path self.new (joined_tree ticket t)) }
         ensures err { OnErr result (vm.new ≡ vm.old) }
         ensures key { vm.new.key ≡ vm.old.key }
-        ensures still { (t : Tree (Spot Machine)) (depot : Shelves) (path : Path) → Holds depot path self.old t → OnErr result (Holds depot path self.new t) }
+        ensures still { (t : Tree (Spot Paged)) (depot : Shelves) (path : Path) → Holds depot path self.old t → OnErr result (Holds depot path self.new t) }
         ensures place { (self.new.state ≡ self.old.state) × (self.new.is_listed ≡ self.old.is_listed) }
     {
         let Some(brood) = self.broods.get(&ticket) else {
@@ -99,9 +99,9 @@ impl Cell {
     /// Makes the KILL that the machine stands at.
     pub(crate) fn kill(&mut self, vm: &mut Vm, ticket: u32)
         requires kills { standing_call vm.old ≡ Some (Call.Kill ticket) }
-        requires holds { (depot : Shelves) × (path : Path) × (t : Tree (Spot Machine)) × Holds depot path self.old t × StandsAt vm.old.machine (kill ticket) t }
+        requires holds { (depot : Shelves) × (path : Path) × (t : Tree (Spot Paged)) × Holds depot path self.old t × StandsAt (paged vm.old) (kill ticket) t }
         ensures vm { vm.new ≡ record vm.old { machine = after_kill vm.old.machine } }
-        ensures after { (t : Tree (Spot Machine)) (depot : Shelves) (path : Path) → Holds depot path self.old t → StandsAt vm.old.machine (kill ticket) t
+        ensures after { (t : Tree (Spot Paged)) (depot : Shelves) (path : Path) → Holds depot path self.old t → StandsAt (paged vm.old) (kill ticket) t
             → HoldsAfter depot path self.new (killed_tree ticket t) }
         ensures place { (self.new.state ≡ self.old.state) × (self.new.is_listed ≡ self.old.is_listed) }
     {
@@ -114,9 +114,9 @@ impl Cell {
 
     /// What a machine that has ended leaves. The tickets that it had cloned are killed.
     pub(crate) fn into_outcome(self, name: Name, vm: Vm, ending: Ending) -> Outcome
-        requires { (t : Tree (Spot Machine)) × Tallies name self t × IsSound forest t }
+        requires { (t : Tree (Spot Paged)) × Tallies name self t × IsSound forest t }
         ensures ending { result.ending ≡ ending }
-        ensures lines { (t : Tree (Spot Machine)) → Tallies name self t → IsSound forest t → (machine t).machine ≡ vm.machine → vm.machine.ending ≡ Some ending
+        ensures lines { (t : Tree (Spot Paged)) → Tallies name self t → IsSound forest t → (machine t).machine ≡ paged vm → vm.machine.ending ≡ Some ending
             → lines_of result ≡ lines told_spot name (ended_tree t) }
     {
         let Cell {

@@ -5,10 +5,10 @@ ghost use Rattle.forest_tree.specs.Sound.{IsSound};
 ghost use Rattle.forest_tree.specs.Tree.{Path, Tree, beyond, machine};
 ghost use Rattle.forest_history.specs.Places.{Spot, home, placed};
 ghost use Rattle.forest_history.specs.Rows.{forked, joined, killed};
-ghost use Rattle.forest_model.specs.Machine.{Machine};
+ghost use Rattle.forest_model.specs.Paged.{Paged};
 ghost use Rattle.run_report.specs.Name.{begins_with};
 ghost use Rattle.run_report.specs.NameOrder.{path_cmp};
-ghost use Rattle.vm_cell.specs.Keyed.{IsOfDepot};
+ghost use Rattle.vm_cell.specs.Keyed.{IsOfDepot, paged};
 ghost use Rattle.vm_cell.specs.Standing.{IsClone, IsKill, standing_call};
 ghost use Rattle.world_core.specs.Between.{IsBetween, settled_tree, with_tree};
 ghost use Rattle.world_core.specs.Lent.{vm_of};
@@ -136,10 +136,10 @@ impl World {
     fn place(&mut self, turn: Box<Turn>, vm: Box<Vm>) -> Placed
         requires alone { turns_from turn.value ≡ turn_of turn.value ∷ [] }
         requires one { (turn_of turn.value).children ≡ None }
-        requires between { (depot : Shelves) × (f : Forest) × (a : Tree (Spot Machine)) × IsBetween depot self.old f (turn_of turn.value).name a
-            × ((machine a).machine ≡ vm.value.machine) × IsOfDepot depot vm.value.key }
-        ensures { (depot : Shelves) (f : Forest) (a : Tree (Spot Machine)) → IsBetween depot self.old f (turn_of turn.value).name a
-            → (machine a).machine ≡ vm.value.machine → IsOfDepot depot vm.value.key
+        requires between { (depot : Shelves) × (f : Forest) × (a : Tree (Spot Paged)) × IsBetween depot self.old f (turn_of turn.value).name a
+            × ((machine a).machine ≡ paged vm.value) × IsOfDepot depot vm.value.key }
+        ensures { (depot : Shelves) (f : Forest) (a : Tree (Spot Paged)) → IsBetween depot self.old f (turn_of turn.value).name a
+            → (machine a).machine ≡ paged vm.value → IsOfDepot depot vm.value.key
             → IsSound forest (with_tree (turn_of turn.value).name (placed home (settled_tree a)) f).tree
             → (result ≡ Placed.Done) × StandsFor depot self.new (with_tree (turn_of turn.value).name (placed home (settled_tree a)) f) }
     {

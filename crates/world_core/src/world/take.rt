@@ -3,7 +3,8 @@ ghost use Rattle.std.specs.BTreeMap.{BTreeMap, get};
 ghost use Rattle.image_depot.specs.Key.{Shelves};
 ghost use Rattle.forest_tree.specs.Tree.{Tree, Path, machine, subtree};
 ghost use Rattle.forest_history.specs.Places.{Spot, at_path, out, placed};
-ghost use Rattle.forest_model.specs.Machine.{Machine};
+ghost use Rattle.forest_model.specs.Paged.{Paged};
+ghost use Rattle.world_core.specs.Lent.{now_of};
 ghost use Rattle.run_report.specs.Name.{child_path};
 ghost use Rattle.run_report.specs.NameOrder.{path_cmp};
 ghost use Rattle.world_core.specs.Turns.{turn_of, turns_from};
@@ -133,7 +134,7 @@ impl World {
 
     /// Whether a child is still a descriptor.
     fn is_asleep(&self, parent: &Name, ticket: u32, index: u32) -> bool
-        ensures { (depot : Shelves) (t : Tree (Spot Machine)) → ShowsCells depot self.now.cells t → result ≡ sleeps parent.now ticket index t }
+        ensures { (depot : Shelves) (t : Tree (Spot Paged)) → ShowsCells depot self.now.cells t → result ≡ sleeps parent.now ticket index t }
     {
         let Some(cell) = self.cells.get(parent) else {
             return false;
@@ -146,8 +147,8 @@ impl World {
 
     /// The first child of a ticket, from one on, that is still a descriptor.
     fn asleep_from(&self, parent: &Name, ticket: u32, first: u32) -> Option<u32>
-        requires { (depot : Shelves) × (t : Tree (Spot Machine)) × ShowsCells depot self.now.cells t }
-        ensures { (depot : Shelves) (t : Tree (Spot Machine)) → ShowsCells depot self.now.cells t
+        requires { (depot : Shelves) × (t : Tree (Spot Paged)) × ShowsCells depot self.now.cells t }
+        ensures { (depot : Shelves) (t : Tree (Spot Paged)) → ShowsCells depot self.now.cells t
             → IsFirstAsleep parent.now ticket first t result }
     {
         let cell = self.cells.get(parent)?;
@@ -165,11 +166,11 @@ impl World {
         ticket: u32,
         index: u32,
     ) -> Result<Lease, AllocError>
-        requires { (t : Tree (Spot Machine)) × ShowsCells depot.now self.old.cells t × (sleeps parent.now ticket index t ≡ true) }
+        requires { (t : Tree (Spot Paged)) × ShowsCells depot.now self.old.cells t × (sleeps parent.now ticket index t ≡ true) }
         ensures lease { IfOk result (λ lease. (lease.name ≡ child_path parent.now ticket index) × (lease.ran ≡ 0) × (lease.now ≡ lease.start) × IsLentOf depot.now lease) }
-        ensures start { (t : Tree (Spot Machine)) → ShowsCells depot.now self.old.cells t → sleeps parent.now ticket index t ≡ true
-            → IfOk result (λ lease. IfSome (subtree lease.name t) (λ a. (machine a).machine ≡ lease.start)) }
-        ensures cells { (t : Tree (Spot Machine)) → ShowsCells depot.now self.old.cells t → sleeps parent.now ticket index t ≡ true
+        ensures start { (t : Tree (Spot Paged)) → ShowsCells depot.now self.old.cells t → sleeps parent.now ticket index t ≡ true
+            → IfOk result (λ lease. IfSome (subtree lease.name t) (λ a. (machine a).machine ≡ now_of lease)) }
+        ensures cells { (t : Tree (Spot Paged)) → ShowsCells depot.now self.old.cells t → sleeps parent.now ticket index t ≡ true
             → OnOk result (ShowsCells depot.now self.new.cells (at_path (placed out) (child_path parent.now ticket index) t)) }
         ensures same { OnErr result ((name : Path) → get path_cmp self.new.cells name ≡ get path_cmp self.old.cells name) }
         ensures listed { (name : Path) → is_listed_in (get path_cmp self.new.cells name) ≡ is_listed_in (get path_cmp self.old.cells name) }

@@ -2,34 +2,35 @@ use Rattle.std.proofs.Common.{Option, Result, Ok, refl, sym, ◌∙◌, subst}
 use Rattle.std.proofs.lemmas.Result.{err_from_is_err_and}
 use Rattle.std.specs.declared.alloc.AllocError.{AllocError}
 use Rattle.world_core.specs.Answers.{TakesNamed}
-use Rattle.world_core.specs.Lent.{Lent}
+use Rattle.world_core.specs.Lent.{Lent, now_of}
 use Rattle.drive_script.specs.declared.answer.Answer.{Answer}
 use Rattle.drive_script.specs.Driven.{DrivesLine}
 use Rattle.drive_script.specs.Script.{regs}
 use Rattle.drive_script.proofs.Driving.{looked, looks-at-none, looks-not, shows}
+use Rattle.drive_script.proofs.Lent.{named-lent}
 use Rattle.drive_script.proofs.Reasons.{named-reason}
 use Rattle.drive_script.proofs.driver.regs.Goals as goal
 
 pub returns-in_err-lease-clause-drives : goal.returns-in_err-lease-clause-drives
-returns-in_err-lease-clause-drives c t h =
+returns-in_err-lease-clause-drives c s h =
     let exit = err_from_is_err_and c.from_residual.result c.from_residual.ensures.1 in
-    subst (λ (r : Result Answer AllocError). DrivesLine c.args.depot.now (regs c.args.name.now) t r c.take_named.new.self) (sym exit.1)
-    (looks-not c.args.depot.now c.args.world.now c.take_named.new.self t (regs c.args.name.now) h c.in_err-lease.field-0.0 exit.0
+    subst (λ (r : Result Answer AllocError). DrivesLine c.args.depot.now (regs c.args.name.now) s r c.take_named.new.self) (sym exit.1)
+    (looks-not c.args.depot.now c.args.world.now c.take_named.new.self (regs c.args.name.now) s h c.in_err-lease.field-0.0 exit.0
     (c.in_err-lease.ensures h.forest h.stands))
 
 pub returns-in_default-clause-drives : goal.returns-in_default-clause-drives
-returns-in_default-clause-drives c t h =
-    looks-at-none c.args.depot.now c.args.world.now c.take_named.new.self t (regs c.args.name.now) h refl
+returns-in_default-clause-drives c s h =
+    looks-at-none c.args.depot.now c.args.world.now c.take_named.new.self (regs c.args.name.now) s h
     (subst (λ (o : Option Lent). TakesNamed c.args.depot.now h.forest c.args.name.now (Ok o) c.take_named.new.self) c.in_default.is
     (c.in_ok-lease.ensures h.forest h.stands))
 
 pub returns-clause-drives : goal.returns-clause-drives
-returns-clause-drives c t h =
+returns-clause-drives c s h =
     let depot = c.args.depot.now in
-    shows depot c.give_back.new.world t c.args.name.now c.regs-values.result c.in-Some.lease.now c.regs-values.ensures
-    (looked depot c.args.world.now c.take_named.new.self c.give_back.new.world t c.args.name.now h c.in-Some.lease
+    shows depot c.give_back.new.world s c.args.name.now c.regs-values.result (now_of c.in-Some.lease) c.regs-values.ensures
+    (looked depot c.args.world.now c.take_named.new.self c.give_back.new.world s.tree c.args.name.now h c.in-Some.lease
     (subst (λ (o : Option Lent). TakesNamed depot h.forest c.args.name.now (Ok o) c.take_named.new.self) c.in-Some.is (c.in_ok-lease.ensures h.forest h.stands))
-    (c.give_back.ensures.back depot t))
+    (c.give_back.ensures.back depot s.tree))
 
 pub returns-in_err-lease-clause-reason : goal.returns-in_err-lease-clause-reason
 returns-in_err-lease-clause-reason c =
@@ -48,3 +49,13 @@ returns-clause-reason c =
     let h = c.requires.1 in
     c.give_back.ensures.reason ∙ named-reason c.args.depot.now c.args.world.now c.take_named.new.self h.forest h.stands c.args.name.now c.take_named.result
     (c.take_named.ensures h.forest h.stands)
+
+pub give_back-requires : goal.give_back-requires
+give_back-requires c =
+    let h = c.requires.1 in (
+      c.args.depot.now,
+      c.requires.0,
+      named-lent c.args.depot.now c.args.world.now c.take_named.new.self c.requires.0 c.args.name.now h c.in-Some.lease
+          (subst (λ (o : Option Lent). TakesNamed c.args.depot.now h.forest c.args.name.now (Ok o) c.take_named.new.self) c.in-Some.is
+          (c.in_ok-lease.ensures h.forest h.stands)),
+    )

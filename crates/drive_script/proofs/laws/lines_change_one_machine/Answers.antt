@@ -1,4 +1,4 @@
-use Rattle.drive_script.proofs.Lined.{apart, below, gone, logs, others}
+use Rattle.drive_script.proofs.Lined.{apart, below, gone, lists, logs, others}
 use Rattle.drive_script.proofs.laws.lines_change_one_machine.Goals as goal
 
 pub returns : goal.returns
@@ -8,4 +8,5 @@ returns c = record {
   apart = apart;
   below = below;
   gone = gone;
+  lists = lists;
 }

@@ -1,4 +1,4 @@
-use Rattle.std.proofs.Common.{rules, ◌≡◌, ◌+◌, false, MatchOption, IsSome, Result, Ok, Err, sym, ◌∙◌, subst, arith, inl, inr, Bool}
+use Rattle.std.proofs.Common.{rules, ◌≡◌, ◌+◌, false, MatchOption, IsSome, is_some, Result, Ok, Err, sym, ap, ◌∙◌, subst, arith, inl, inr, Bool}
 use Rattle.forest_tree.specs.Tree.{subtree}
 use Rattle.forest_tree.proofs.Rests.{lives-none}
 use Rattle.vm_cell.specs.Standing.{standing_call}
@@ -9,7 +9,7 @@ use Rattle.drive_script.specs.declared.turn.Turn.{Turn}
 use Rattle.drive_script.specs.declared.turn.Turn.TheVariants.{Stopped, Called}
 use Rattle.drive_script.specs.Turned.{Turns}
 use Rattle.std.proofs.lemmas.Result.{err_from_is_err_and}
-use Rattle.drive_script.proofs.Lent.{lent-handed, taken}
+use Rattle.drive_script.proofs.Lent.{lent-handed, stands-here, taken}
 use Rattle.drive_script.proofs.Turning.{lent-failed, lent-ran, may-call, stops-ended, stops-waiting, turn-called, turn-failed, turn-stopped}
 use Rattle.drive_script.proofs.turn.run_turn.Goals as goal
 use Rattle.drive_script.proofs.turn.run_turn.Goals.{else-ran-most-via-then-ran-most+then-is_some+else-not-waits, else-ran-most-via-then-ran-most+else-is_some, else-ran-most-via-else-ran-most}
@@ -18,15 +18,15 @@ pub give_back-requires : goal.give_back-requires
 give_back-requires g c = (
   c.args.depot.now,
   c.requires.lent.0,
-  lent-failed c.args.depot.now c.args.world.now c.requires.lent.0 c.args.lease c.run_fetching.new.self c.in_default.ensures.same c.in_default.ensures.err_ran
-      c.in_default.ensures.err c.requires.lent.1,
+  lent-failed c.args.depot.now c.args.world.now c.requires.lent.0 c.args.lease c.run.new.self c.in_default.ensures.same c.in_default.ensures.err_ran
+      c.in_default.ensures.err c.in_default.ensures.err_free c.requires.lent.1,
 )
 
 pub returns-in_default-clause-turns : goal.returns-in_default-clause-turns
 returns-in_default-clause-turns g c t h =
     let depot = c.args.depot.now in
-    let later = c.run_fetching.new.self in
-    let lent = lent-failed depot c.args.world.now t c.args.lease later c.in_default.ensures.same c.in_default.ensures.err_ran c.in_default.ensures.err h in
+    let later = c.run.new.self in
+    let lent = lent-failed depot c.args.world.now t c.args.lease later c.in_default.ensures.same c.in_default.ensures.err_ran c.in_default.ensures.err c.in_default.ensures.err_free h in
     let few = c.in_default.ensures.err_most in
     let none = c.requires.new in
     subst (λ name. Turns depot name c.args.most t (Err c.in_default.field-0) c.give_back.new.world) c.in_default.ensures.same.name
@@ -36,14 +36,14 @@ pub make_call-requires-clause-lent : goal.make_call-requires-clause-lent
 make_call-requires-clause-lent g c =
     let depot = c.args.depot.now in
     let t = c.requires.lent.0 in
-    let later = c.run_fetching.new.self in
+    let later = c.run.new.self in
     let lent = lent-ran depot c.args.world.now t c.args.lease later c.in-Ok.ran.steps c.in-Ok.ensures.same c.in-Ok.ensures.now.0 c.in-Ok.ensures.now.1
-    c.requires.lent.1 in
+    c.in-Ok.ensures.free c.requires.lent.1 in
     let some : IsSome (standing_call (vm_of later)) = search rules in
     let waits = c.waits.ensures depot (taken depot c.args.world.now t later lent) lent.stands (lent-handed depot c.args.world.now t later lent) in (
       t,
       lent,
-      may-call depot c.args.world.now t later lent c.in-Ok.ensures.here some
+      may-call depot c.args.world.now t later lent (stands-here (vm_of later) some) some
           (subst (λ (b : Bool). MatchOption (subtree later.name (taken depot c.args.world.now t later lent).tree) (b ≡ false) (λ a. b ≡ stands_waiting_of (vm_of later) a))
           c.if-not-waits.true waits),
     )
@@ -51,8 +51,8 @@ make_call-requires-clause-lent g c =
 pub returns-in_err-make_call-clause-turns : goal.returns-in_err-make_call-clause-turns
 returns-in_err-make_call-clause-turns g c t h =
     let depot = c.args.depot.now in
-    let later = c.run_fetching.new.self in
-    let lent = lent-ran depot c.args.world.now t c.args.lease later c.in-Ok.ran.steps c.in-Ok.ensures.same c.in-Ok.ensures.now.0 c.in-Ok.ensures.now.1 h in
+    let later = c.run.new.self in
+    let lent = lent-ran depot c.args.world.now t c.args.lease later c.in-Ok.ran.steps c.in-Ok.ensures.same c.in-Ok.ensures.now.0 c.in-Ok.ensures.now.1 c.in-Ok.ensures.free h in
     let ran = c.in-Ok.ensures.now.0 in
     let within = c.in-Ok.ensures.most in
     let none = c.requires.new in
@@ -64,8 +64,8 @@ returns-in_err-make_call-clause-turns g c t h =
 pub returns-then-not-waits-clause-turns : goal.returns-then-not-waits-clause-turns
 returns-then-not-waits-clause-turns g c t h =
     let depot = c.args.depot.now in
-    let later = c.run_fetching.new.self in
-    let lent = lent-ran depot c.args.world.now t c.args.lease later c.in-Ok.ran.steps c.in-Ok.ensures.same c.in-Ok.ensures.now.0 c.in-Ok.ensures.now.1 h in
+    let later = c.run.new.self in
+    let lent = lent-ran depot c.args.world.now t c.args.lease later c.in-Ok.ran.steps c.in-Ok.ensures.same c.in-Ok.ensures.now.0 c.in-Ok.ensures.now.1 c.in-Ok.ensures.free h in
     let ran = c.in-Ok.ensures.now.0 in
     let below = c.if-ran-most.true in
     let none = c.requires.new in
@@ -77,22 +77,22 @@ pub give_back-requires-2 : goal.give_back-requires-2
 give_back-requires-2 g c = (
   c.args.depot.now,
   c.requires.lent.0,
-  lent-ran c.args.depot.now c.args.world.now c.requires.lent.0 c.args.lease c.run_fetching.new.self c.in-Ok.ran.steps c.in-Ok.ensures.same c.in-Ok.ensures.now.0
-      c.in-Ok.ensures.now.1 c.requires.lent.1,
+  lent-ran c.args.depot.now c.args.world.now c.requires.lent.0 c.args.lease c.run.new.self c.in-Ok.ran.steps c.in-Ok.ensures.same c.in-Ok.ensures.now.0
+      c.in-Ok.ensures.now.1 c.in-Ok.ensures.free c.requires.lent.1,
 )
 
 pub returns-clause-turns : goal.returns-clause-turns
 returns-clause-turns g c t h =
     let depot = c.args.depot.now in
-    let later = c.run_fetching.new.self in
-    let lent = lent-ran depot c.args.world.now t c.args.lease later c.in-Ok.ran.steps c.in-Ok.ensures.same c.in-Ok.ensures.now.0 c.in-Ok.ensures.now.1 h in
+    let later = c.run.new.self in
+    let lent = lent-ran depot c.args.world.now t c.args.lease later c.in-Ok.ran.steps c.in-Ok.ensures.same c.in-Ok.ensures.now.0 c.in-Ok.ensures.now.1 c.in-Ok.ensures.free h in
     let ran = c.in-Ok.ensures.now.0 in
     let none = c.requires.new in
     subst (λ name. Turns depot name c.args.most t (Ok (Stopped c.in-Ok.ran.steps c.why_it_stops-why.result)) c.give_back-2.new.world) c.in-Ok.ensures.same.name
     (turn-stopped depot c.args.world.now t later lent c.give_back-2.new.world (c.give_back-2.ensures.back depot t lent) c.args.most c.in-Ok.ran.steps
     c.why_it_stops-why.result (omega (arith, ran, none)) c.in-Ok.ensures.most (c.why_it_stops-why.ensures depot t lent)
     (elim c.else-ran-most.branch [
-      | else-ran-most-via-then-ran-most+then-is_some+else-not-waits w ↦ inr (stops-waiting depot c.args.world.now t later lent c.in-Ok.ensures.here
+      | else-ran-most-via-then-ran-most+then-is_some+else-not-waits w ↦ inr (stops-waiting depot c.args.world.now t later lent (stands-here (vm_of later) (sym (ap is_some w.call.ensures) ∙ sym w.if-is_some.ensures))
           (subst (λ (b : Bool). MatchOption (subtree later.name (taken depot c.args.world.now t later lent).tree) (b ≡ false) (λ a. b ≡ stands_waiting_of (vm_of later) a))
           w.if-not-waits.false
           (w.waits.ensures depot (taken depot c.args.world.now t later lent) lent.stands (lent-handed depot c.args.world.now t later lent))))

@@ -1,10 +1,9 @@
 use Rattle.std.proofs.Common.{Option, Result, Ok, sym, ◌∙◌, subst, replicate}
 use Rattle.std.proofs.lemmas.Result.{err_from_is_err_and}
 use Rattle.std.specs.declared.alloc.AllocError.{AllocError}
-use Rattle.forest_model.specs.Forest.{machines}
 use Rattle.world_core.specs.Lent.{Lent}
 use Rattle.world_core.specs.Answers.{TakesNamed}
-use Rattle.drive_script.specs.Steps.{steps_made}
+use Rattle.drive_script.specs.Told.{made_at}
 use Rattle.drive_script.specs.declared.turn.Turn.{Turn}
 use Rattle.drive_script.specs.Turned.{Turns}
 use Rattle.drive_script.proofs.Driving.{made-none}
@@ -16,7 +15,7 @@ pub returns-in_err-lease-clause-turns : goal.returns-in_err-lease-clause-turns
 returns-in_err-lease-clause-turns g c t h =
     let exit = err_from_is_err_and c.from_residual.result c.from_residual.ensures.1 in
     subst (λ (r : Result Turn AllocError). Turns c.args.depot.now c.args.name.now c.args.most t r c.take_named.new.self) (sym exit.1)
-    (made-none c.args.depot.now c.take_named.new.self (replicate (steps_made machines c.args.most c.args.name.now t) c.args.name.now) t
+    (made-none c.args.depot.now c.take_named.new.self (replicate (made_at c.args.most c.args.name.now t) c.args.name.now) t
     (named-kept c.args.depot.now c.args.world.now c.take_named.new.self t c.args.name.now h (c.in_err-lease.ensures h.forest h.stands)))
 
 pub returns-in-Some-clause-turns : goal.returns-in-Some-clause-turns
@@ -49,3 +48,12 @@ returns-in-None-clause-reason g c =
     let h = c.requires.1 in
     named-reason c.args.depot.now c.args.world.now c.take_named.new.self h.forest h.stands c.args.name.now c.take_named.result
     (c.take_named.ensures h.forest h.stands)
+
+pub run_turn-requires-clause-lent : goal.run_turn-requires-clause-lent
+run_turn-requires-clause-lent g c =
+    let h = c.requires.1 in (
+      c.requires.0,
+      named-lent c.args.depot.now c.args.world.now c.take_named.new.self c.requires.0 c.args.name.now h c.in-Some.lease
+          (subst (λ (o : Option Lent). TakesNamed c.args.depot.now h.forest c.args.name.now (Ok o) c.take_named.new.self) c.in-Some.is
+          (c.in_ok-lease.ensures h.forest h.stands)),
+    )

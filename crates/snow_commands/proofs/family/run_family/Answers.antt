@@ -1,8 +1,9 @@
 use Rattle.std.proofs.Common.{subst, inl, inr}
-use Rattle.forest_model.specs.Forest.{machines}
+use Rattle.forest_model.specs.Paged.{paged_machines}
 use Rattle.forest_history.specs.Rows.{took, does}
 use Rattle.world_core.specs.Answers.{Takes}
 use Rattle.world_core.specs.declared.world.Taken.{Taken}
+use Rattle.snow_commands.specs.Turned.{machines_of}
 use Rattle.snow_commands.proofs.Turning.{over-comes, not-idle, not-stopped, taken-out, turn-comes}
 use Rattle.snow_commands.proofs.family.run_family.Goals as goal
 
@@ -10,7 +11,7 @@ pub returns-in-Over : goal.returns-in-Over
 returns-in-Over g c t has =
     let h = c.loop.invariant.2 t has in
     let f = h.has.here.forest in
-    over-comes c.args.depot.now t c.loop.world c.take.new.self h
+    over-comes c.args.depot.now (machines_of t) c.loop.world c.take.new.self h
     (subst (λ (r : Taken). Takes c.args.depot.now f r c.take.new.self) c.in-Over.is (c.take.ensures f h.has.here.stands))
 
 pub unreachable-requires : goal.unreachable-requires
@@ -29,7 +30,7 @@ run_turn-requires g c =
     let h = c.loop.invariant.2 c.requires.0 c.requires.1 in
     let f = h.has.here.forest in
     let taken = subst (λ (r : Taken). Takes c.args.depot.now f r c.take.new.self) c.in-Took.is (c.take.ensures f h.has.here.stands) in
-    (does machines (took c.in-Took.lease.name) f, taken.0.after, taken-out f c.in-Took.lease taken.0.allowed taken.1, taken.2)
+    (does paged_machines (took c.in-Took.lease.name) f, taken.0.after, taken-out f c.in-Took.lease taken.0.allowed taken.1, taken.2)
 
 pub loop-preserved : goal.loop-preserved
 loop-preserved g c = (
@@ -39,8 +40,8 @@ loop-preserved g c = (
       let h = c.loop.invariant.2 t has in
       let f = h.has.here.forest in
       let taken = subst (λ (r : Taken). Takes c.args.depot.now f r c.take.new.self) c.in-Took.is (c.take.ensures f h.has.here.stands) in
-      turn-comes c.args.depot.now t c.loop.world c.run_turn.new.world c.in-Took.lease h
-      (c.in_ok-run_turn.ensures (does machines (took c.in-Took.lease.name) f) taken.0.after
+      turn-comes c.args.depot.now (machines_of t) c.loop.world c.run_turn.new.world c.in-Took.lease h
+      (c.in_ok-run_turn.ensures (does paged_machines (took c.in-Took.lease.name) f) taken.0.after
       (taken-out f c.in-Took.lease taken.0.allowed taken.1)),
 )
 

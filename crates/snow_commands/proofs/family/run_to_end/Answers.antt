@@ -1,4 +1,5 @@
 use Rattle.forest_model.specs.Forest.{finish}
+use Rattle.snow_commands.specs.Turned.{machines_of}
 use Rattle.snow_commands.proofs.Turning.{finished-not, ended-report}
 use Rattle.snow_commands.proofs.family.run_to_end.Goals as goal
 
@@ -10,5 +11,5 @@ unreachable-requires g c =
 pub returns : goal.returns
 returns g c t has =
     let ended = c.in_ok-run_family.ensures t has in
-    ended-report c.args.depot.now c.run_family.new.world (finish t) c.into_finished.result c.in-Some.outcome ended
+    ended-report c.args.depot.now c.run_family.new.world (finish (machines_of t)) c.into_finished.result c.in-Some.outcome ended
     (c.into_finished.ensures c.args.depot.now ended.last ended.stands) c.in-Some.is

@@ -1,8 +1,8 @@
 use Rattle.std.proofs.Common.{ap, ◌∙◌}
 use Rattle.std.proofs.lemmas.Result.{IfOk-weaker}
-use Rattle.vm_cell.specs.Keyed.{KeyedMachine}
-use Rattle.forest_model.specs.Machine.{boot}
+use Rattle.vm_cell.specs.Keyed.{KeyedMachine, paged}
 use Rattle.forest_model.specs.Forest.{port_of}
+use Rattle.snow_commands.specs.Turned.{booted_paged}
 use Rattle.snow_commands.proofs.Turning.{boot-ticketless, booted-family}
 use Rattle.snow_commands.proofs.guest.boot_machine.Goals as goal
 
@@ -17,6 +17,6 @@ pub returns : goal.returns
 returns c =
     IfOk-weaker c.new.result _ _
     (λ world stands.
-    booted-family c.args.depot.now world c.in_ok-vm.vm.machine (boot c.args.image.now c.args.disk c.args.input.now c.args.options) stands
-    (ap (λ (v : KeyedMachine). v.machine) c.in_ok-vm.ensures))
+    booted-family c.args.depot.now world (paged c.in_ok-vm.vm) (booted_paged c.args.image.now c.args.disk c.args.input.now c.args.options) stands
+    (ap paged c.in_ok-vm.ensures))
     c.new.ensures

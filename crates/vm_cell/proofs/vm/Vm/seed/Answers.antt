@@ -1,6 +1,8 @@
 use Rattle.std.proofs.Common.{◌≡◌, ◌≤◌, ap, subst, sym, arith}
+use Rattle.std.proofs.lemmas.Result.{IfOk-weaker}
 use Rattle.fork_port.specs.declared.commands.Call.TheVariants.{Clone}
 use Rattle.vm_descriptor.specs.declared.descriptor.TheConstants.{MAX_CLONES, MAX_SHARE}
+use Rattle.vm_descriptor.specs.declared.descriptor.Descriptor.{Descriptor}
 use Rattle.vm_descriptor.specs.Descriptor.{numbered}
 use Rattle.image_depot.specs.Key.{image_of}
 use Rattle.forest_model.specs.Forest.{machines}
@@ -26,8 +28,14 @@ returns c =
     let asked = subst (λ (n : KeyedMachine). IsAsked n.machine (Clone t)) (sym c.self.view_is) c.requires.asked in
     let left = subst (λ (n : KeyedMachine). image_of c.args.key.now ≡ image_left n.machine.state) (sym c.self.view_is) c.requires.image in
     let same = subst (λ (n : KeyedMachine). c.grant-share.result.1 ≡ (machines.grant n.machine t).share) (sym c.self.view_is) c.grant-share.ensures.share in
-    subst (λ (n : KeyedMachine). AreSeeds n c.args.key.now (machines.grant n.machine t).children seed) c.self.view_is (λ k first last.
+    IfOk-weaker c.new.result _ _
+    (λ kept is. subst (λ (d : Descriptor). AreSeeds c.args.self.now c.args.key.now (machines.grant c.args.self.now.machine t).children d) (sym is)
+    (subst (λ (n : KeyedMachine). AreSeeds n c.args.key.now (machines.grant n.machine t).children seed) c.self.view_is (λ k first last.
     let few : k ≤ MAX_CLONES = let fits = granted_fits v.machine t c.self.invariant.funded in omega (arith, last, fits) in
     is_seed v t k asked c.args.key.now c.number.result c.grant-share.result.1 (numbered k seed) left c.number.ensures same
     c.in_ok-seed.ensures.registers (ap (numbered k) c.in_ok-seed.ensures.value) c.in_ok-seed.ensures.blank
-    (in_range_numbered k seed first few c.in_ok-seed.ensures.in_range))
+    (in_range_numbered k seed first few c.in_ok-seed.ensures.in_range))))
+    c.new.ensures
+
+pub new-requires : goal.new-requires
+new-requires c = c.in_ok-seed.ensures.in_range.ram.one_bit_a_page

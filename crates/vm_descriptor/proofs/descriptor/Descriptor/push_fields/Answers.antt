@@ -16,7 +16,7 @@ returns c =
     let counters = flat_map double (d.csrs.mcycle ∷ d.csrs.minstret ∷ d.timer.mtime ∷ d.timer.mtimecmp ∷ d.steps ∷ d.limit ∷ []) in
     let csrs = flat_map word (d.csrs.mstatus ∷ d.csrs.mie ∷ d.csrs.mtvec ∷ d.csrs.mscratch ∷ d.csrs.mepc ∷ d.csrs.mcause ∷ d.csrs.mtval ∷ []) in
     let registers = flat_map word d.registers in
-    let first = flat_map word (d.image ∷ d.pages ∷ c.args.clone_id ∷ d.share ∷ d.pc ∷ []) in
+    let first = flat_map word (d.image ∷ d.pages ∷ d.clone_id ∷ d.share ∷ d.pc ∷ []) in
     onto c.args.bytes.now.items (codes "SFD1") (first ++ (registers ++ (csrs ++ (counters ++ (reserved ++ ports))))) c.in_ok-extend_from_slice.ensures.items
     (onto _ first (registers ++ (csrs ++ (counters ++ (reserved ++ ports)))) c.in_ok-push_words.ensures
     (onto _ registers (csrs ++ (counters ++ (reserved ++ ports))) c.in_ok-push_words-2.ensures

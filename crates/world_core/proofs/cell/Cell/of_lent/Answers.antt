@@ -1,14 +1,14 @@
 use Rattle.std.proofs.Common.{refl, ap}
 use Rattle.forest_history.specs.Places.{out}
-use Rattle.vm_cell.specs.Keyed.{KeyedMachine}
+use Rattle.vm_cell.specs.Keyed.{KeyedMachine, paged}
 use Rattle.world_core.proofs.SlotBegins.{alone-awake, alone-holds}
 use Rattle.world_core.proofs.cell.Cell.of_lent.Goals as goal
 
 pub returns-clause-shows : goal.returns-clause-shows
 returns-clause-shows c depot path lives none = record {
-  awake = alone-awake c.args.vm.now.machine out lives refl;
+  awake = alone-awake (paged c.args.vm.now) out lives refl;
   state = (ap (λ (v : KeyedMachine). v.machine) c.of.ensures, refl);
   of_depot = tt;
-  holds = alone-holds depot path _ c.args.vm.now.machine out
+  holds = alone-holds depot path _ (paged c.args.vm.now) out
       (record { no_brood = c.new.ensures.empty; no_line = c.new-2.ensures.items; no_length = c.new-2.ensures.len }) none;
 }

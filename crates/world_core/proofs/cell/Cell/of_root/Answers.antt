@@ -1,13 +1,14 @@
 use Rattle.std.proofs.Common.{refl, inl}
 use Rattle.forest_history.specs.Places.{home}
+use Rattle.vm_cell.specs.Keyed.{paged}
 use Rattle.world_core.proofs.SlotBegins.{alone-awake, alone-holds}
 use Rattle.world_core.proofs.cell.Cell.of_root.Goals as goal
 
 pub returns-clause-shows : goal.returns-clause-shows
 returns-clause-shows c depot path lives of_depot none = record {
-  awake = alone-awake c.args.vm.value.machine home lives refl;
+  awake = alone-awake (paged c.args.vm.value) home lives refl;
   state = (refl, inl refl);
   of_depot = of_depot;
-  holds = alone-holds depot path _ c.args.vm.value.machine home
+  holds = alone-holds depot path _ (paged c.args.vm.value) home
       (record { no_brood = c.new.ensures.empty; no_line = c.new-2.ensures.items; no_length = c.new-2.ensures.len }) none;
 }

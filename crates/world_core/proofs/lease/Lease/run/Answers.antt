@@ -1,4 +1,4 @@
-use Rattle.std.proofs.Common.{◌≡◌, ℕ, ◌+◌, ◌-◌, ◌≤◌, Result, Ok, Err, IfOk, OnErr, sym, ap, ap₂, ◌∙◌, subst, arith}
+use Rattle.std.proofs.Common.{◌≡◌, ℕ, ◌+◌, ◌-◌, ◌≤◌, Result, Ok, Err, IfOk, OnErr, refl, sym, ap, ap₂, ◌∙◌, subst, arith}
 use Rattle.std.specs.declared.alloc.AllocError.{AllocError}
 use Rattle.forest_model.specs.Machine.{Machine, after_steps}
 use Rattle.forest_model.proofs.Finish.{after_steps-add}
@@ -6,7 +6,10 @@ use Rattle.forest_model.proofs.Paged.{machine-advanced_by}
 use Rattle.vm_cell.specs.Keyed.{KeyedMachine, paged}
 use Rattle.vm_cell.specs.Steps.{moved_by}
 use Rattle.vm_cell.specs.declared.vm.Ran.{Ran}
-use Rattle.world_core.specs.Lent.{IsLent}
+use Rattle.world_core.specs.Answers.{IsHandedOut}
+use Rattle.world_core.specs.Lent.{Lent, IsLent, lent_as}
+use Rattle.world_core.specs.Turns.{turn_of}
+use Rattle.world_core.proofs.Arriving.{handed-run}
 use Rattle.world_core.proofs.lease.Lease.run.Goals as goal
 
 -- the machine has made so many more steps
@@ -47,3 +50,30 @@ invariant_of-self c =
     let lent = lent-by start old new c.self.inside.ran c.run-ran.result held c.run-ran.ensures.steps c.run-ran.ensures.each_made
     c.run-ran.ensures.err c.run-ran.ensures.err_steps in
     (subst (λ n. IsLent start (c.self.inside.ran + n) new.machine) (sym more) lent, c.self.invariant.1, c.self.invariant.2)
+
+-- it has made those that its count tells
+moved-since : (since : ℕ) (old mid new : KeyedMachine) (r : Result Ran AllocError) → mid ≡ old → since ≡ new.machine.steps - mid.machine.steps
+    → IfOk r (λ ran. new ≡ moved_by ran.steps mid) → IfOk r (λ ran. new.machine.steps ≡ mid.machine.steps + ran.steps)
+    → OnErr r (new ≡ moved_by (new.machine.steps - mid.machine.steps) mid) → new ≡ moved_by since old
+moved-since since old mid new (Ok r) first last steps made failed =
+    let more : r.steps ≡ since = omega (arith, last) in
+    steps ∙ ap₂ moved_by more first
+moved-since since old mid new (Err e) first last steps made failed = failed ∙ ap₂ moved_by (sym last) first
+
+pub returns-clause-handed : goal.returns-clause-handed
+returns-clause-handed c = λ f out_as.
+    let inside = c.self.inside in
+    let start = inside.start.value.machine in
+    let name = (turn_of inside.turn.value).name in
+    let old : Lent = lent_as name start inside.ran inside.vm.value in
+    let mid = c.deref_mut.result.now in
+    let new = c.run-ran.new.self in
+    let before : c.steps-before.result ≡ mid.machine.steps =
+    c.steps-before.ensures ∙ ap (λ (v : KeyedMachine). v.machine.steps) (c.deref.ensures ∙ sym c.deref_mut.ensures.value) in
+    let after : c.steps.result ≡ new.machine.steps = c.steps.ensures ∙ ap (λ (v : KeyedMachine). v.machine.steps) c.deref-2.ensures in
+    let since : ℕ = c.steps.result - c.steps-before.result in
+    let moved : new ≡ moved_by since inside.vm.value =
+    moved-since since inside.vm.value mid new c.run-ran.result c.deref_mut.ensures.value (ap₂ (λ a b. a - b) after before)
+    c.run-ran.ensures.steps c.run-ran.ensures.each_made c.run-ran.ensures.err in
+    handed-run f old (lent_as name start (inside.ran + since) new) since (record { name = refl; start = refl; key = ap (λ (v : KeyedMachine). v.key) moved })
+    c.self.invariant.0 refl moved (subst (IsHandedOut f) (sym c.self.view_is) out_as)

@@ -1,5 +1,6 @@
 use Rattle.std.proofs.Common.{◌+◌, Result, Ok, Err, OnErr, arith}
 use Rattle.world_core.specs.Lent.{StandsWhole, vm_of}
+use Rattle.world_core.proofs.Arriving.{still-none, still-run, still-then}
 use Rattle.world_core.proofs.Fetching.{IsFetched, fetched-enough, fetched-failed, fetched-fewer, fetched-none, fetched-now, fetched-page, fetched-run, whole-here, whole-stands}
 use Rattle.world_core.proofs.lease.Lease.run_fetching.Goals as goal
 
@@ -8,7 +9,11 @@ on_err (Ok t) p = tt
 on_err (Err e) p = p
 
 pub loop-ran-init : goal.loop-ran-init
-loop-ran-init c = record { fetched = fetched-none c.args.self.now; most = omega arith }
+loop-ran-init c = record {
+  fetched = fetched-none c.args.self.now;
+  most = omega arith;
+  handed = λ w f stands out_as. still-none c.args.depot.now w f c.args.self.now stands out_as;
+}
 
 pub returns-in_err-ran-clause-err : goal.returns-in_err-ran-clause-err
 returns-in_err-ran-clause-err c =
@@ -37,6 +42,8 @@ returns-in_default c =
       err_ran = tt;
       err_most = tt;
       err_live = tt;
+      handed = λ w f stands out_as.
+          still-run c.args.depot.now w f c.loop-ran.self c.run.new.self c.run.ensures.same.name c.run.ensures.handed (before.handed w f stands out_as);
     }
 
 pub loop-ran-smaller : goal.loop-ran-smaller
@@ -53,6 +60,10 @@ loop-ran-preserved c =
           (fetched-run c.args.self.now c.loop-ran.self c.run.new.self steps c.in_ok-ran.ran.steps before.fetched e.same e.now.0 e.now.1 e.each_made)
           c.fetch.ensures.same.0 c.fetch.ensures.same.1 c.fetch.ensures.rest;
       most = omega (arith, before.most, e.most);
+      handed = λ w f stands out_as.
+          still-then c.args.depot.now w f c.run.new.self c.fetch.new.self c.fetch.ensures.same.0.name
+          (still-run c.args.depot.now w f c.loop-ran.self c.run.new.self c.run.ensures.same.name c.run.ensures.handed (before.handed w f stands out_as))
+          (c.fetch.ensures.handed w);
     }
 
 pub returns-in_err-fetch-clause-err : goal.returns-in_err-fetch-clause-err
@@ -64,3 +75,13 @@ returns-in_err-fetch-clause-err c =
     (fetched-page c.args.self.now c.run.new.self c.fetch.new.self (steps + c.in_ok-ran.ran.steps)
     (fetched-run c.args.self.now c.loop-ran.self c.run.new.self steps c.in_ok-ran.ran.steps c.loop-ran.invariant.fetched e.same e.now.0 e.now.1 e.each_made)
     c.fetch.ensures.same.0 c.fetch.ensures.same.1 c.fetch.ensures.rest))
+
+pub returns-in_err-ran-clause-handed : goal.returns-in_err-ran-clause-handed
+returns-in_err-ran-clause-handed c = λ w f stands out_as.
+    still-run c.args.depot.now w f c.loop-ran.self c.run.new.self c.run.ensures.same.name c.run.ensures.handed (c.loop-ran.invariant.handed w f stands out_as)
+
+pub returns-in_err-fetch-clause-handed : goal.returns-in_err-fetch-clause-handed
+returns-in_err-fetch-clause-handed c = λ w f stands out_as.
+    still-then c.args.depot.now w f c.run.new.self c.fetch.new.self c.fetch.ensures.same.0.name
+    (still-run c.args.depot.now w f c.loop-ran.self c.run.new.self c.run.ensures.same.name c.run.ensures.handed (c.loop-ran.invariant.handed w f stands out_as))
+    (c.fetch.ensures.handed w)

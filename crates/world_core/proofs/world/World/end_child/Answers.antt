@@ -4,7 +4,7 @@ use Rattle.std.specs.Option.{IsSomeAnd}
 use Rattle.image_depot.specs.Key.{Shelves}
 use Rattle.forest_tree.specs.Tree.{Tree, Branch}
 use Rattle.forest_history.specs.Places.{Spot}
-use Rattle.forest_model.specs.Machine.{Machine}
+use Rattle.forest_model.specs.Paged.{Paged}
 use Rattle.run_report.specs.Name.{child_path}
 use Rattle.run_report.specs.NameOrder.{path_cmp}
 use Rattle.world_core.specs.declared.cell.Cell.{Cell}
@@ -20,7 +20,7 @@ use Rattle.world_core.proofs.world.World.end_child.Goals as goal
 pub push-requires : goal.push-requires
 push-requires c =
     let parent = c.args.parent.now in
-    let Known : Cell → Type 0 = λ cell. (depot : Shelves) × (t a : Tree (Spot Machine))
+    let Known : Cell → Type 0 = λ cell. (depot : Shelves) × (t a : Tree (Spot Paged))
     × CellShows depot parent cell t × (child_of c.args.ticket c.args.index t ≡ Some a) × IsAwake a in
     let known = subst (λ o. IsSomeAnd o Known) (sym c.in-Some.ensures.value) c.requires in
     (c.in-Some-child_ended.ensures.turn known.0 parent known.1 known.3).0

@@ -5,9 +5,9 @@ use Rattle.image_depot.specs.Key.{Shelves}
 use Rattle.forest_tree.specs.Tree.{Tree, Branch, Path, machine}
 use Rattle.forest_tree.specs.Sound.{IsSound}
 use Rattle.forest_history.specs.Places.{Spot, home, placed}
-use Rattle.forest_model.specs.Machine.{Machine}
+use Rattle.forest_model.specs.Paged.{Paged}
 use Rattle.run_report.specs.Name.{child_path}
-use Rattle.vm_cell.specs.Keyed.{KeyedMachine}
+use Rattle.vm_cell.specs.Keyed.{paged}
 use Rattle.run_report.specs.NameOrder.{path_cmp}
 use Rattle.world_core.specs.declared.cell.Cell.{Cell}
 use Rattle.world_core.specs.declared.turns.Turn.{out-Turn}
@@ -26,10 +26,10 @@ taken-by : (old new : BTreeMap Path Cell) (name made : Path) (cell : Cell) → m
 taken-by old new name made cell e h = subst (λ n. TakesOut old new n cell) e h
 
 -- some forest with which the world is in the middle of the call
-abbrev Known : World → Path → Machine → Type 0
-Known w name vm = (depot : Shelves) × (f : Forest) × (a : Tree (Spot Machine)) × IsBetween depot w f name a × ((machine a).machine ≡ vm)
+abbrev Known : World → Path → Paged → Type 0
+Known w name vm = (depot : Shelves) × (f : Forest) × (a : Tree (Spot Paged)) × IsBetween depot w f name a × ((machine a).machine ≡ vm)
 
-known-by : (w : World) (new : BTreeMap Path Cell) (name : Path) (vm : Machine) (cell : Cell) → TakesOut w.cells new name cell
+known-by : (w : World) (new : BTreeMap Path Cell) (name : Path) (vm : Paged) (cell : Cell) → TakesOut w.cells new name cell
     → IfSome (get path_cmp w.cells name) (λ (c : Cell). Known w name vm) → Known w name vm
 known-by w new name vm cell taken h = if-some-is (get path_cmp w.cells name) cell (λ (c : Cell). Known w name vm) (sym taken.was) h
 
@@ -40,8 +40,8 @@ into_outcome-outcome-requires c =
     let cell = c.in-Some.cell in
     let named = c.into_name-name.ensures ∙ ap (λ t. (out-Turn t).name) c.into_inner.ensures in
     let taken = taken-by w.cells c.take_out.new.cells name c.into_name-name.result cell named c.in-Some.ensures.1 in
-    let k = known-by w c.take_out.new.cells name c.args.vm.value.machine cell taken c.requires.between in
-    outcome-wanted k.0 name cell k.2 c.args.vm.value.machine c.args.ending k.4 c.requires.ended
+    let k = known-by w c.take_out.new.cells name (paged c.args.vm.value) cell taken c.requires.between in
+    outcome-wanted k.0 name cell k.2 (paged c.args.vm.value) c.args.ending k.4 c.requires.ended
     (taken-holds k.0 w k.1 name k.2 k.3 c.take_out.new.cells cell taken) k.3.whole c.in-Some.key (c.in-Some.ensures.0 ∙ named)
 
 pub end_child-requires : goal.end_child-requires
@@ -51,7 +51,7 @@ end_child-requires c =
     let cell = c.in-Some.cell in
     let named = c.into_name-name.ensures ∙ ap (λ t. (out-Turn t).name) c.into_inner.ensures in
     let taken = taken-by w.cells c.take_out.new.cells name c.into_name-name.result cell named c.in-Some.ensures.1 in
-    let k = known-by w c.take_out.new.cells name c.args.vm.value.machine cell taken c.requires.between in
+    let k = known-by w c.take_out.new.cells name (paged c.args.vm.value) cell taken c.requires.between in
     let x : Branch = record { ticket = c.in-Some-pop.ticket; child = c.in-Some-pop.index } in
     let left : World = record w { cells = c.take_out.new.cells } in
     parent-known k.0 left k.1 c.pop.new.self x
@@ -62,14 +62,14 @@ returns-clause-finished c depot f a between same sound =
     let w = c.args.self.now in
     let name = (turn_of c.args.turn.value).name in
     let cell = c.in-Some.cell in
-    let b : Tree (Spot Machine) = placed home (ended_tree a) in
+    let b : Tree (Spot Paged) = placed home (ended_tree a) in
     let named = c.into_name-name.ensures ∙ ap (λ t. (out-Turn t).name) c.into_inner.ensures in
     let taken = taken-by w.cells c.take_out.new.cells name c.into_name-name.result cell named c.in-Some.ensures.1 in
     let leaving = between-leaves depot w f name a between c.take_out.new.cells cell taken in
     let outcome = c.into_outcome-outcome.result in
-    let left = left-by depot name cell a c.args.vm.value.machine c.args.ending same c.requires.ended
+    let left = left-by depot name cell a (paged c.args.vm.value) c.args.ending same c.requires.ended
     (taken-holds depot w f name a between c.take_out.new.cells cell taken) between.whole c.in-Some.key (c.in-Some.ensures.0 ∙ named)
-    c.into_inner-2.result.machine (ap (λ (v : KeyedMachine). v.machine) c.into_inner-2.ensures) outcome c.into_outcome-outcome.ensures.ending c.into_outcome-outcome.ensures.lines in (
+    (paged c.into_inner-2.result) (ap paged c.into_inner-2.ensures) outcome c.into_outcome-outcome.ensures.ending c.into_outcome-outcome.ensures.lines in (
       refl,
       elim c.match-pop.branch [
         | in-Some-pop v ↦

@@ -5,10 +5,10 @@ use Rattle.forest_tree.specs.Tree.{Tree, Path}
 use Rattle.forest_history.specs.Places.{Spot}
 use Rattle.forest_history.specs.Rows as rows
 use Rattle.forest_model.specs.Calls.{forked}
-use Rattle.forest_model.specs.Machine.{Machine}
-use Rattle.vm_cell.specs.Keyed.{KeyedMachine}
+use Rattle.forest_model.specs.Paged.{Paged}
+use Rattle.vm_cell.specs.Keyed.{KeyedMachine, paged}
 use Rattle.run_report.specs.NameOrder.{path_cmp}
-use Rattle.world_core.specs.Lent.{Lent, IsLent, lent_as}
+use Rattle.world_core.specs.Lent.{Lent, IsLent, lent_as, now_of}
 use Rattle.world_core.specs.Waiting.{Waiting}
 use Rattle.world_core.specs.Turns.{turn_of}
 use Rattle.world_core.specs.Shows.{Holds, HoldsAfter, StandsAt, forked_tree}
@@ -29,7 +29,7 @@ returns-in_default-copy g c f stands out_as of_depot = (
   refl,
   fork-kept c.args.depot.now c.args.self.now f c.args.lease c.in-Some-Clone.ticket c.in-Some.cell.now stands out_as
       (subst (λ (l : Lent). IsLent l.start l.ran l.now) c.lease.view_is c.lease.invariant.0) (ap Some (sym c.in-Some-Clone.field-0-is) ∙ c.in-Some-Clone.ensures)
-      (c.in-Some.ensures.value ∙ ap (λ n. get_by (path_cmp n) c.args.self.now.cells) c.name.ensures) (c.get_mut.follows.lender c.in-Some.cell.now) c.in-Some.cell.now c.args.lease.name c.args.lease.now refl refl
+      (c.in-Some.ensures.value ∙ ap (λ n. get_by (path_cmp n) c.args.self.now.cells) c.name.ensures) (c.get_mut.follows.lender c.in-Some.cell.now) c.in-Some.cell.now c.args.lease.name (now_of c.args.lease) refl refl
       (subst (λ n. WritesThrough path_cmp (path_cmp n) c.args.self.now.cells c.in-Some.cell.now (c.get_mut.follows.lender c.in-Some.cell.now)) c.name.ensures
       (c.get_mut.follows.holds c.in-Some.cell.now))
       refl refl (λ t holds at. holds),
@@ -41,7 +41,7 @@ returns-in_default-of_children g c f stands out_as of_depot = (
   refl,
   fork-kept c.args.depot.now c.args.self.now f c.args.lease c.in-Some-Clone.ticket c.in-Some.cell.now stands out_as
       (subst (λ (l : Lent). IsLent l.start l.ran l.now) c.lease.view_is c.lease.invariant.0) (ap Some (sym c.in-Some-Clone.field-0-is) ∙ c.in-Some-Clone.ensures)
-      (c.in-Some.ensures.value ∙ ap (λ n. get_by (path_cmp n) c.args.self.now.cells) c.name.ensures) (c.get_mut.follows.lender c.in-Some.cell.now) c.in-Some.cell.now c.args.lease.name c.args.lease.now refl refl
+      (c.in-Some.ensures.value ∙ ap (λ n. get_by (path_cmp n) c.args.self.now.cells) c.name.ensures) (c.get_mut.follows.lender c.in-Some.cell.now) c.in-Some.cell.now c.args.lease.name (now_of c.args.lease) refl refl
       (subst (λ n. WritesThrough path_cmp (path_cmp n) c.args.self.now.cells c.in-Some.cell.now (c.get_mut.follows.lender c.in-Some.cell.now)) c.name.ensures
       (c.get_mut.follows.holds c.in-Some.cell.now))
       refl refl (λ t holds at. holds),
@@ -57,13 +57,13 @@ returns-then-is_err g c f stands out_as of_depot =
       fork-kept c.args.depot.now c.args.self.now f c.args.lease c.in-Some-Clone.ticket c.in-Some.cell.now stands out_as
           (subst (λ (l : Lent). IsLent l.start l.ran l.now) c.lease.view_is c.lease.invariant.0) (ap Some (sym c.in-Some-Clone.field-0-is) ∙ c.in-Some-Clone.ensures)
           (c.in-Some.ensures.value ∙ ap (λ n. get_by (path_cmp n) c.args.self.now.cells) c.name.ensures)
-          (c.get_mut.follows.lender c.fork.new.self) c.fork.new.self _ c.deref_mut.result.now.machine
-          (ap (λ t. (turn_of t).name) c.deref.ensures ∙ ap (λ (l : Lent). l.name) c.lease.view_is) (ap (λ (v : KeyedMachine). v.machine) c.deref_mut.ensures.value ∙ ap (λ (l : Lent). l.now) c.lease.view_is)
+          (c.get_mut.follows.lender c.fork.new.self) c.fork.new.self _ (paged c.deref_mut.result.now)
+          (ap (λ t. (turn_of t).name) c.deref.ensures ∙ ap (λ (l : Lent). l.name) c.lease.view_is) (ap paged c.deref_mut.ensures.value ∙ ap now_of c.lease.view_is)
           (subst (λ n. WritesThrough path_cmp (path_cmp n) c.args.self.now.cells c.fork.new.self (c.get_mut.follows.lender c.fork.new.self)) c.name.ensures
           (c.get_mut.follows.holds c.fork.new.self))
           c.fork.ensures.place.0 c.fork.ensures.place.1
-          (at-err ((t : Tree (Spot Machine)) → Holds c.args.depot.now (turn_of c.deref.result.now).name c.in-Some.cell.now t
-          → StandsAt c.deref_mut.result.now.machine (clone c.in-Some-Clone.ticket) t
+          (at-err ((t : Tree (Spot Paged)) → Holds c.args.depot.now (turn_of c.deref.result.now).name c.in-Some.cell.now t
+          → StandsAt (paged c.deref_mut.result.now) (clone c.in-Some-Clone.ticket) t
           → Holds c.args.depot.now (turn_of c.deref.result.now).name c.fork.new.self t) c.fork.result failed c.fork.ensures.still),
     )
 
@@ -75,15 +75,15 @@ place-requires-clause-between g c =
     let k = fork-called c.args.depot.now c.args.self.now lent.0 c.args.lease c.in-Some-Clone.ticket c.in-Some.cell.now lent.1 lent.2
     (subst (λ (l : Lent). IsLent l.start l.ran l.now) c.lease.view_is c.lease.invariant.0) (ap Some (sym c.in-Some-Clone.field-0-is) ∙ c.in-Some-Clone.ensures)
     (c.in-Some.ensures.value ∙ ap (λ n. get_by (path_cmp n) c.args.self.now.cells) c.name.ensures)
-    (c.get_mut.follows.lender c.fork.new.self) c.fork.new.self c.push.new.self _ _ c.deref_mut.result.now.machine c.fork.new.vm.machine
-    (ap (λ (l : Lent). l.name) c.lease.view_is) (ap (λ t. (turn_of t).name) c.deref.ensures ∙ ap (λ (l : Lent). l.name) c.lease.view_is) (ap (λ (v : KeyedMachine). v.machine) c.deref_mut.ensures.value ∙ ap (λ (l : Lent). l.now) c.lease.view_is)
+    (c.get_mut.follows.lender c.fork.new.self) c.fork.new.self c.push.new.self _ _ (paged c.deref_mut.result.now) (paged c.fork.new.vm)
+    (ap (λ (l : Lent). l.name) c.lease.view_is) (ap (λ t. (turn_of t).name) c.deref.ensures ∙ ap (λ (l : Lent). l.name) c.lease.view_is) (ap paged c.deref_mut.ensures.value ∙ ap now_of c.lease.view_is)
     (subst (λ n. WritesThrough path_cmp (path_cmp n) c.args.self.now.cells c.fork.new.self (c.get_mut.follows.lender c.fork.new.self)) c.name.ensures
     (c.get_mut.follows.holds c.fork.new.self))
     (c.push.ensures ∙ ap (λ turn. turn ∷ c.args.self.now.ready) (c.in-Ok-of_children.ensures.value
     ∙ ap turn_at (c.in-Ok.ensures ∙ c.name-2.ensures)))
-    c.fork.ensures.place.1 (ap (λ (v : KeyedMachine). v.machine) (at-ok (c.fork.new.vm ≡ record c.deref_mut.result.now { machine = forked c.deref_mut.result.now.machine }) c.fork.result made c.fork.ensures.ok))
-    (at-ok ((t : Tree (Spot Machine)) → Holds c.args.depot.now (turn_of c.deref.result.now).name c.in-Some.cell.now t
-    → StandsAt c.deref_mut.result.now.machine (clone c.in-Some-Clone.ticket) t
+    c.fork.ensures.place.1 (ap paged (at-ok (c.fork.new.vm ≡ record c.deref_mut.result.now { machine = forked c.deref_mut.result.now.machine }) c.fork.result made c.fork.ensures.ok))
+    (at-ok ((t : Tree (Spot Paged)) → Holds c.args.depot.now (turn_of c.deref.result.now).name c.in-Some.cell.now t
+    → StandsAt (paged c.deref_mut.result.now) (clone c.in-Some-Clone.ticket) t
     → HoldsAfter c.args.depot.now (turn_of c.deref.result.now).name c.fork.new.self (forked_tree c.in-Some-Clone.ticket t)) c.fork.result made c.fork.ensures.holds) in (
       c.args.depot.now,
       lent.0,
@@ -102,15 +102,15 @@ returns g c f stands out_as of_depot =
     let k = fork-called c.args.depot.now c.args.self.now f c.args.lease c.in-Some-Clone.ticket c.in-Some.cell.now stands out_as
     (subst (λ (l : Lent). IsLent l.start l.ran l.now) c.lease.view_is c.lease.invariant.0) (ap Some (sym c.in-Some-Clone.field-0-is) ∙ c.in-Some-Clone.ensures)
     (c.in-Some.ensures.value ∙ ap (λ n. get_by (path_cmp n) c.args.self.now.cells) c.name.ensures)
-    (c.get_mut.follows.lender c.fork.new.self) c.fork.new.self c.push.new.self _ _ c.deref_mut.result.now.machine c.fork.new.vm.machine
-    (ap (λ (l : Lent). l.name) c.lease.view_is) (ap (λ t. (turn_of t).name) c.deref.ensures ∙ ap (λ (l : Lent). l.name) c.lease.view_is) (ap (λ (v : KeyedMachine). v.machine) c.deref_mut.ensures.value ∙ ap (λ (l : Lent). l.now) c.lease.view_is)
+    (c.get_mut.follows.lender c.fork.new.self) c.fork.new.self c.push.new.self _ _ (paged c.deref_mut.result.now) (paged c.fork.new.vm)
+    (ap (λ (l : Lent). l.name) c.lease.view_is) (ap (λ t. (turn_of t).name) c.deref.ensures ∙ ap (λ (l : Lent). l.name) c.lease.view_is) (ap paged c.deref_mut.ensures.value ∙ ap now_of c.lease.view_is)
     (subst (λ n. WritesThrough path_cmp (path_cmp n) c.args.self.now.cells c.fork.new.self (c.get_mut.follows.lender c.fork.new.self)) c.name.ensures
     (c.get_mut.follows.holds c.fork.new.self))
     (c.push.ensures ∙ ap (λ turn. turn ∷ c.args.self.now.ready) (c.in-Ok-of_children.ensures.value
     ∙ ap turn_at (c.in-Ok.ensures ∙ c.name-2.ensures)))
-    c.fork.ensures.place.1 (ap (λ (v : KeyedMachine). v.machine) (at-ok (c.fork.new.vm ≡ record c.deref_mut.result.now { machine = forked c.deref_mut.result.now.machine }) c.fork.result made c.fork.ensures.ok))
-    (at-ok ((t : Tree (Spot Machine)) → Holds c.args.depot.now (turn_of c.deref.result.now).name c.in-Some.cell.now t
-    → StandsAt c.deref_mut.result.now.machine (clone c.in-Some-Clone.ticket) t
+    c.fork.ensures.place.1 (ap paged (at-ok (c.fork.new.vm ≡ record c.deref_mut.result.now { machine = forked c.deref_mut.result.now.machine }) c.fork.result made c.fork.ensures.ok))
+    (at-ok ((t : Tree (Spot Paged)) → Holds c.args.depot.now (turn_of c.deref.result.now).name c.in-Some.cell.now t
+    → StandsAt (paged c.deref_mut.result.now) (clone c.in-Some-Clone.ticket) t
     → HoldsAfter c.args.depot.now (turn_of c.deref.result.now).name c.fork.new.self (forked_tree c.in-Some-Clone.ticket t)) c.fork.result made c.fork.ensures.holds) in
     let p = c.place.ensures c.args.depot.now f k.tree k.between k.is
     (same-image c.args.depot.now c.fork.new.vm c.args.lease

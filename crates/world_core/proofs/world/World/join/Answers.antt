@@ -4,11 +4,11 @@ use Rattle.forest_tree.specs.Settle.{endings}
 use Rattle.forest_tree.specs.Tree.{brood_of, broods_of}
 use Rattle.forest_history.specs.Rows.{joined}
 use Rattle.forest_model.specs.Calls.{after_join}
-use Rattle.vm_cell.specs.Keyed.{KeyedMachine}
+use Rattle.vm_cell.specs.Keyed.{KeyedMachine, paged}
 use Rattle.run_report.specs.NameOrder.{path_cmp}
 use Rattle.world_core.specs.declared.cell.Cell.{Cell}
 use Rattle.world_core.specs.declared.cell.State.TheVariants.{Parked}
-use Rattle.world_core.specs.Lent.{Lent, IsLent, lent_as}
+use Rattle.world_core.specs.Lent.{Lent, IsLent, lent_as, now_of}
 use Rattle.world_core.specs.Turns.{turn_of}
 use Rattle.world_core.specs.Shows.{forest, Holds, HoldsAfter, joined_tree}
 use Rattle.world_core.specs.Answers.{Answers, IsLentOf}
@@ -32,7 +32,7 @@ returns-then-waits c depot f stands out_as of_depot =
           (c.get_mut.follows.lender parked) c.lease.inside.vm c.lease.inside.turn (λ depot path t holds. sym c.if-waits.true ∙ c.waits.ensures depot path t holds)
           (subst (λ n. WritesThrough path_cmp (path_cmp n) c.args.self.now.cells parked (c.get_mut.follows.lender parked)) c.name.ensures
           (c.get_mut.follows.holds parked))
-          (ap (λ (l : Lent). l.now) c.lease.view_is) (subst (IsLentOf depot) (sym c.lease.view_is) of_depot) c.lease.invariant.1 c.lease.invariant.2 (ap (λ (l : Lent). l.name) c.lease.view_is),
+          (ap now_of c.lease.view_is) (subst (IsLentOf depot) (sym c.lease.view_is) of_depot) c.lease.invariant.1 c.lease.invariant.2 (ap (λ (l : Lent). l.name) c.lease.view_is),
     )
 
 pub join-requires-clause-ended : goal.join-requires-clause-ended
@@ -41,7 +41,7 @@ join-requires-clause-ended c =
     join-asked lent.0 c.args.self.now lent.1.0 c.args.lease c.in-Some-Join.ticket c.in-Some.cell.now lent.1.1 lent.1.2
     (subst (λ (l : Lent). IsLent l.start l.ran l.now) c.lease.view_is c.lease.invariant.0) (ap Some (sym c.in-Some-Join.field-0-is) ∙ c.in-Some-Join.ensures)
     (c.in-Some.ensures.value ∙ ap (λ n. get_by (path_cmp n) c.args.self.now.cells) c.name.ensures)
-    (λ depot path t holds. sym c.if-waits.false ∙ c.waits.ensures depot path t holds) c.deref_mut.result.now.machine (ap (λ (v : KeyedMachine). v.machine) c.deref_mut.ensures.value ∙ ap (λ (l : Lent). l.now) c.lease.view_is)
+    (λ depot path t holds. sym c.if-waits.false ∙ c.waits.ensures depot path t holds) (paged c.deref_mut.result.now) (ap paged c.deref_mut.ensures.value ∙ ap now_of c.lease.view_is)
 
 pub returns-then-is_err : goal.returns-then-is_err
 returns-then-is_err c depot f stands out_as of_depot =
@@ -66,15 +66,15 @@ place-requires-clause-between c =
     let k = join-called lent.0 c.args.self.now lent.1.0 c.args.lease c.in-Some-Join.ticket c.in-Some.cell.now lent.1.1 lent.1.2
     (subst (λ (l : Lent). IsLent l.start l.ran l.now) c.lease.view_is c.lease.invariant.0) (ap Some (sym c.in-Some-Join.field-0-is) ∙ c.in-Some-Join.ensures)
     (c.in-Some.ensures.value ∙ ap (λ n. get_by (path_cmp n) c.args.self.now.cells) c.name.ensures)
-    (λ depot path t holds. sym c.if-waits.false ∙ c.waits.ensures depot path t holds) (c.get_mut.follows.lender c.join.new.self) c.join.new.self _ c.deref_mut.result.now.machine c.join.new.vm.machine
-    (ap (λ (l : Lent). l.name) c.lease.view_is) (ap (λ (v : KeyedMachine). v.machine) c.deref_mut.ensures.value ∙ ap (λ (l : Lent). l.now) c.lease.view_is)
+    (λ depot path t holds. sym c.if-waits.false ∙ c.waits.ensures depot path t holds) (c.get_mut.follows.lender c.join.new.self) c.join.new.self _ (paged c.deref_mut.result.now) (paged c.join.new.vm)
+    (ap (λ (l : Lent). l.name) c.lease.view_is) (ap paged c.deref_mut.ensures.value ∙ ap now_of c.lease.view_is)
     (subst (λ n. WritesThrough path_cmp (path_cmp n) c.args.self.now.cells c.join.new.self (c.get_mut.follows.lender c.join.new.self)) c.name.ensures
     (c.get_mut.follows.holds c.join.new.self))
     c.join.ensures.place.1
     (λ t depot path holds at all. let did = at-ok
     ((c.join.new.vm ≡ record c.deref_mut.result.now { machine = after_join c.deref_mut.result.now.machine (endings forest (brood_of c.in-Some-Join.ticket (broods_of t))) })
     × HoldsAfter depot path c.join.new.self (joined_tree c.in-Some-Join.ticket t)) c.join.result
-    (sym c.is_err.ensures.value ∙ c.if-is_err.false) (c.join.ensures.ok t depot path holds at all) in (ap (λ (v : KeyedMachine). v.machine) did.0, did.1)) in (
+    (sym c.is_err.ensures.value ∙ c.if-is_err.false) (c.join.ensures.ok t depot path holds at all) in (ap paged did.0, did.1)) in (
       lent.0,
       lent.1.0,
       k.tree,
@@ -89,15 +89,15 @@ returns c depot f stands out_as of_depot =
     let k = join-called depot c.args.self.now f c.args.lease c.in-Some-Join.ticket c.in-Some.cell.now stands out_as
     (subst (λ (l : Lent). IsLent l.start l.ran l.now) c.lease.view_is c.lease.invariant.0) (ap Some (sym c.in-Some-Join.field-0-is) ∙ c.in-Some-Join.ensures)
     (c.in-Some.ensures.value ∙ ap (λ n. get_by (path_cmp n) c.args.self.now.cells) c.name.ensures)
-    (λ depot path t holds. sym c.if-waits.false ∙ c.waits.ensures depot path t holds) (c.get_mut.follows.lender c.join.new.self) c.join.new.self _ c.deref_mut.result.now.machine c.join.new.vm.machine
-    (ap (λ (l : Lent). l.name) c.lease.view_is) (ap (λ (v : KeyedMachine). v.machine) c.deref_mut.ensures.value ∙ ap (λ (l : Lent). l.now) c.lease.view_is)
+    (λ depot path t holds. sym c.if-waits.false ∙ c.waits.ensures depot path t holds) (c.get_mut.follows.lender c.join.new.self) c.join.new.self _ (paged c.deref_mut.result.now) (paged c.join.new.vm)
+    (ap (λ (l : Lent). l.name) c.lease.view_is) (ap paged c.deref_mut.ensures.value ∙ ap now_of c.lease.view_is)
     (subst (λ n. WritesThrough path_cmp (path_cmp n) c.args.self.now.cells c.join.new.self (c.get_mut.follows.lender c.join.new.self)) c.name.ensures
     (c.get_mut.follows.holds c.join.new.self))
     c.join.ensures.place.1
     (λ t depot path holds at all. let did = at-ok
     ((c.join.new.vm ≡ record c.deref_mut.result.now { machine = after_join c.deref_mut.result.now.machine (endings forest (brood_of c.in-Some-Join.ticket (broods_of t))) })
     × HoldsAfter depot path c.join.new.self (joined_tree c.in-Some-Join.ticket t)) c.join.result
-    (sym c.is_err.ensures.value ∙ c.if-is_err.false) (c.join.ensures.ok t depot path holds at all) in (ap (λ (v : KeyedMachine). v.machine) did.0, did.1)) in
+    (sym c.is_err.ensures.value ∙ c.if-is_err.false) (c.join.ensures.ok t depot path holds at all) in (ap paged did.0, did.1)) in
     let p = c.place.ensures depot f k.tree k.between k.is
     (same-image depot c.join.new.vm c.args.lease
     (c.join.ensures.key ∙ ap (λ (v : KeyedMachine). v.key) c.deref_mut.ensures.value ∙ ap (λ (l : Lent). l.key) c.lease.view_is) of_depot)

@@ -5,10 +5,10 @@ use Rattle.forest_tree.specs.Operations.{kill}
 use Rattle.forest_tree.specs.Tree.{Tree, node}
 use Rattle.forest_history.specs.Places.{Spot}
 use Rattle.forest_history.specs.Rows.{killed}
-use Rattle.forest_model.specs.Machine.{Machine}
-use Rattle.vm_cell.specs.Keyed.{KeyedMachine}
+use Rattle.forest_model.specs.Paged.{Paged}
+use Rattle.vm_cell.specs.Keyed.{KeyedMachine, paged}
 use Rattle.run_report.specs.NameOrder.{path_cmp}
-use Rattle.world_core.specs.Lent.{Lent, IsLent}
+use Rattle.world_core.specs.Lent.{Lent, IsLent, now_of}
 use Rattle.world_core.specs.Turns.{turn_of}
 use Rattle.world_core.specs.Shows.{StandsAt}
 use Rattle.world_core.specs.Answers.{Answers}
@@ -28,26 +28,26 @@ kill-requires-clause-holds c =
     let h = found-here lent.0 c.args.self.now lent.1.0 c.args.lease (Kill c.in-Some-Kill.ticket) c.in-Some.cell.now lent.1.1 lent.1.2
     (subst (λ (l : Lent). IsLent l.start l.ran l.now) c.lease.view_is c.lease.invariant.0) (ap Some (sym c.in-Some-Kill.field-0-is) ∙ c.in-Some-Kill.ensures)
     (c.in-Some.ensures.value ∙ ap (λ n. get_by (path_cmp n) c.args.self.now.cells) c.name.ensures) in
-    let t : Tree (Spot Machine) = node (lent_out c.args.lease.now) h.broods h.log in (
+    let t : Tree (Spot Paged) = node (lent_out (now_of c.args.lease)) h.broods h.log in (
       lent.0,
       c.args.lease.name,
       t,
       h.stands.holds,
-      subst (λ m. StandsAt m (kill c.in-Some-Kill.ticket) t) (sym (ap (λ (v : KeyedMachine). v.machine) c.deref_mut.ensures.value ∙ ap (λ (l : Lent). l.now) c.lease.view_is)) h.stands.at,
+      subst (λ m. StandsAt m (kill c.in-Some-Kill.ticket) t) (sym (ap paged c.deref_mut.ensures.value ∙ ap now_of c.lease.view_is)) h.stands.at,
     )
 
 pub place-requires-clause-between : goal.place-requires-clause-between
 place-requires-clause-between c =
     let lent = c.requires.lent in
     let k = kill-called lent.0 c.args.self.now lent.1.0 c.args.lease c.in-Some-Kill.ticket c.in-Some.cell.now c.kill.new.self (c.get_mut.follows.lender c.kill.new.self)
-    c.drop_below.new.cells _ _ c.deref_mut.result.now.machine c.kill.new.vm.machine lent.1.1 lent.1.2
+    c.drop_below.new.cells _ _ (paged c.deref_mut.result.now) (paged c.kill.new.vm) lent.1.1 lent.1.2
     (subst (λ (l : Lent). IsLent l.start l.ran l.now) c.lease.view_is c.lease.invariant.0) (ap Some (sym c.in-Some-Kill.field-0-is) ∙ c.in-Some-Kill.ensures)
     (c.in-Some.ensures.value ∙ ap (λ n. get_by (path_cmp n) c.args.self.now.cells) c.name.ensures) (ap (λ (l : Lent). l.name) c.lease.view_is)
     (ap (λ t. (turn_of t).name) c.deref.ensures ∙ ap (λ (l : Lent). l.name) c.lease.view_is)
-    (ap (λ (v : KeyedMachine). v.machine) c.deref_mut.ensures.value ∙ ap (λ (l : Lent). l.now) c.lease.view_is)
+    (ap paged c.deref_mut.ensures.value ∙ ap now_of c.lease.view_is)
     (subst (λ n. WritesThrough path_cmp (path_cmp n) c.args.self.now.cells c.kill.new.self (c.get_mut.follows.lender c.kill.new.self)) c.name.ensures
     (c.get_mut.follows.holds c.kill.new.self))
-    c.drop_below.ensures c.kill.ensures.place.1 c.kill.ensures.after (ap (λ (v : KeyedMachine). v.machine) c.kill.ensures.vm) in (
+    c.drop_below.ensures c.kill.ensures.place.1 c.kill.ensures.after (ap paged c.kill.ensures.vm) in (
       lent.0,
       lent.1.0,
       k.tree,
@@ -60,14 +60,14 @@ place-requires-clause-between c =
 pub returns : goal.returns
 returns c depot f stands out_as of_depot =
     let k = kill-called depot c.args.self.now f c.args.lease c.in-Some-Kill.ticket c.in-Some.cell.now c.kill.new.self (c.get_mut.follows.lender c.kill.new.self)
-    c.drop_below.new.cells _ _ c.deref_mut.result.now.machine c.kill.new.vm.machine stands out_as
+    c.drop_below.new.cells _ _ (paged c.deref_mut.result.now) (paged c.kill.new.vm) stands out_as
     (subst (λ (l : Lent). IsLent l.start l.ran l.now) c.lease.view_is c.lease.invariant.0) (ap Some (sym c.in-Some-Kill.field-0-is) ∙ c.in-Some-Kill.ensures)
     (c.in-Some.ensures.value ∙ ap (λ n. get_by (path_cmp n) c.args.self.now.cells) c.name.ensures) (ap (λ (l : Lent). l.name) c.lease.view_is)
     (ap (λ t. (turn_of t).name) c.deref.ensures ∙ ap (λ (l : Lent). l.name) c.lease.view_is)
-    (ap (λ (v : KeyedMachine). v.machine) c.deref_mut.ensures.value ∙ ap (λ (l : Lent). l.now) c.lease.view_is)
+    (ap paged c.deref_mut.ensures.value ∙ ap now_of c.lease.view_is)
     (subst (λ n. WritesThrough path_cmp (path_cmp n) c.args.self.now.cells c.kill.new.self (c.get_mut.follows.lender c.kill.new.self)) c.name.ensures
     (c.get_mut.follows.holds c.kill.new.self))
-    c.drop_below.ensures c.kill.ensures.place.1 c.kill.ensures.after (ap (λ (v : KeyedMachine). v.machine) c.kill.ensures.vm) in
+    c.drop_below.ensures c.kill.ensures.place.1 c.kill.ensures.after (ap paged c.kill.ensures.vm) in
     let p = c.place.ensures depot f k.tree k.between k.is
     (same-image depot c.kill.new.vm c.args.lease
     (ap (λ (v : KeyedMachine). v.key) (c.kill.ensures.vm) ∙ ap (λ (v : KeyedMachine). v.key) c.deref_mut.ensures.value ∙ ap (λ (l : Lent). l.key) c.lease.view_is) of_depot)

@@ -4,8 +4,9 @@ use Rattle.std.specs.Map.{lookup}
 use Rattle.forest_tree.specs.Tree.{Path}
 use Rattle.forest_tree.specs.Settle.{alone}
 use Rattle.forest_history.specs.Places.{home}
+use Rattle.forest_model.specs.Paged.{Paged}
 use Rattle.run_report.specs.NameOrder.{path_cmp}
-use Rattle.vm_cell.specs.Keyed.{KeyedMachine, IsOfDepot}
+use Rattle.vm_cell.specs.Keyed.{KeyedMachine, IsOfDepot, paged}
 use Rattle.world_core.specs.Turns.{turn_of}
 use Rattle.world_core.specs.Waiting.{Waiting}
 use Rattle.world_core.specs.Shows.{forest, CellShows}
@@ -14,9 +15,9 @@ use Rattle.world_core.proofs.world.World.of_live.Goals as goal
 
 pub returns : goal.returns
 returns c = λ depot.
-    let vm = c.args.vm.machine in
+    let vm = paged c.args.vm in
     let boxed : c.in_ok-new.field-0.value ≡ c.args.vm = c.in_ok-new.ensures.ok in
-    let same : c.in_ok-new.field-0.value.machine ≡ vm = ap (λ (v : KeyedMachine). v.machine) boxed in
+    let same : paged c.in_ok-new.field-0.value ≡ vm = ap paged boxed in
     let of_depot : IsOfDepot depot c.in_ok-new.field-0.value.key = λ key some. let no : None ≡ Some key = sym (ap (λ (v : KeyedMachine). v.key) boxed ∙ c.requires.every_page) ∙ some in absurd (cc) in
     let turn : turn_of c.in_ok-of_machine.field-0.value ≡ record { name = []; children = None } =
     c.in_ok-of_machine.ensures.value ∙ ap (λ (name : Path). record { name = name; children = None }) (c.in_ok-copy.ensures ∙ c.in_ok-root.ensures) in
@@ -25,7 +26,7 @@ returns c = λ depot.
     subst (λ name. Updates path_cmp c.new-cells.result c.insert.new.self name (Some c.of_root.result)) (c.root-2.view_is ∙ c.in_ok-root.ensures) c.in_ok-insert.ensures.updates in
     let shows : CellShows depot [] c.of_root.result (alone forest (record { machine = vm; place = home })) =
     subst (λ m. CellShows depot [] c.of_root.result (alone forest (record { machine = m; place = home }))) same
-    (c.of_root.ensures.shows depot [] (ap (λ m. m.ending) same ∙ c.requires.lives) of_depot
-    (none-cloned c.in_ok-new.field-0.value.machine (ap (λ m. m.state.ports.fork.tickets) same ∙ c.requires.no_ticket))) in
+    (c.of_root.ensures.shows depot [] (ap (λ (p : Paged). p.machine.ending) same ∙ c.requires.lives) of_depot
+    (none-cloned (paged c.in_ok-new.field-0.value) (ap (λ (p : Paged). p.machine.state.ports.fork.tickets) same ∙ c.requires.no_ticket))) in
     start-stands depot vm c.new-cells.result c.insert.new.self c.push.new.self c.of_root.result c.requires.lives c.requires.no_ticket c.requires.good
     (λ name. ap (lookup (is_at (path_cmp name))) c.new-cells.ensures.empty) inserted shows list

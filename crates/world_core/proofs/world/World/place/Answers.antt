@@ -2,6 +2,7 @@ use Rattle.std.proofs.Common.{◌≡◌, sym, ap, ◌∙◌, subst}
 use Rattle.forest_tree.specs.Sound.{IsSound}
 use Rattle.forest_tree.specs.Tree.{Path}
 use Rattle.forest_history.specs.Places.{home, placed}
+use Rattle.vm_cell.specs.Keyed.{paged}
 use Rattle.world_core.specs.declared.world.Placed.TheVariants.{Done}
 use Rattle.world_core.specs.Turns.{turn_of}
 use Rattle.world_core.specs.Shows.{forest}
@@ -13,7 +14,7 @@ use Rattle.world_core.proofs.world.World.place.Goals as goal
 pub returns-in-Some : goal.returns-in-Some
 returns-in-Some c depot f a between same of_depot sound =
     let name : Path = (turn_of c.args.turn.value).name in
-    let is = settled-ended a c.args.vm.value.machine c.in-Some.ending same (c.in-Some.ensures.ending ∙ ap (λ v. v.machine.ending) c.deref.ensures) in
+    let is = settled-ended a (paged c.args.vm.value) c.in-Some.ending same (c.in-Some.ensures.ending ∙ ap (λ v. v.machine.ending) c.deref.ensures) in
     subst (λ t. (c.finish.result ≡ Done) × StandsFor depot c.finish.new.self (with_tree name (placed home t) f)) is
     (c.finish.ensures.finished depot f a between same (subst (λ t. IsSound forest (with_tree name (placed home t) f).tree) (sym is) sound))
 
@@ -21,7 +22,7 @@ pub returns-in-None : goal.returns-in-None
 returns-in-None c depot f a between same of_depot sound =
     let name : Path = (turn_of c.args.turn.value).name in
     let none = c.in-None.ensures.ending ∙ ap (λ v. v.machine.ending) c.deref.ensures in
-    let is = settled-lives a c.args.vm.value.machine same none in
+    let is = settled-lives a (paged c.args.vm.value) same none in
     subst (λ t. (c.home.result ≡ Done) × StandsFor depot c.home.new.self (with_tree name (placed home t) f)) is
-    (c.home.ensures.home depot f a between same of_depot (lives-by a c.args.vm.value.machine same none)
+    (c.home.ensures.home depot f a between same of_depot (lives-by a (paged c.args.vm.value) same none)
     (subst (λ t. IsSound forest (with_tree name (placed home t) f).tree) (sym is) sound))

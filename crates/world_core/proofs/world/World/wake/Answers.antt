@@ -3,11 +3,11 @@ use Rattle.std.specs.Option.{IfSome}
 use Rattle.std.specs.BTreeMap.{Updates, WritesThrough, get}
 use Rattle.forest_tree.specs.Tree.{Tree, Path, machine, subtree}
 use Rattle.forest_history.specs.Places.{Spot, out, placed}
-use Rattle.forest_model.specs.Machine.{Machine}
+use Rattle.forest_model.specs.Paged.{Paged}
 use Rattle.run_report.specs.Name.{child_path}
 use Rattle.run_report.specs.NameOrder.{path_cmp}
-use Rattle.vm_cell.specs.Keyed.{KeyedMachine, IsOfDepot}
-use Rattle.world_core.specs.Lent.{Lent, lent_as}
+use Rattle.vm_cell.specs.Keyed.{KeyedMachine, IsOfDepot, paged}
+use Rattle.world_core.specs.Lent.{Lent, lent_as, now_of}
 use Rattle.world_core.specs.Answers.{IsLentOf}
 use Rattle.world_core.specs.Shows.{CellShows, with_child}
 use Rattle.world_core.specs.Waiting.{Waiting}
@@ -52,16 +52,16 @@ pub returns-clause-start : goal.returns-clause-start
 returns-clause-start c = λ t h is.
     let path : Path = child_path c.args.parent.now c.args.ticket c.args.index in
     let s = sleeper-of c.args.depot.now c.args.self.now.cells c.args.parent.now c.args.ticket c.args.index t h is c.in-Some.cell.now c.in-Some.ensures.value in
-    let woke : c.in_ok-vm.vm.machine ≡ (machine s.child).machine = (c.in_ok-vm.ensures c.args.parent.now s.above s.child s.shows.holds s.is_child s.asleep s.lives).0 in
+    let woke : paged c.in_ok-vm.vm ≡ (machine s.child).machine = (c.in_ok-vm.ensures c.args.parent.now s.above s.child s.shows.holds s.is_child s.asleep s.lives).0 in
     let lent : c.new-2.result
     ≡ lent_as (turn_of c.in_ok-turn.turn.value).name c.in_ok-vm-2.vm.value.machine 0 c.in_ok-vm-2.vm.value = c.new-2.ensures in
     let turn : turn_of c.in_ok-turn.turn.value ≡ record { name = c.in_ok-copy.field-0; children = None } = c.in_ok-turn.ensures.value in
     let copied : c.in_ok-copy.field-0 ≡ c.in_ok-name.name = c.in_ok-copy.ensures in
     let named : (turn_of c.in_ok-turn.turn.value).name ≡ path = ap (λ (w : Waiting). w.name) turn ∙ copied ∙ c.in_ok-name.ensures in
-    let same : (machine s.child).machine ≡ c.in_ok-vm-2.vm.value.machine = sym woke ∙ sym (ap (λ (v : KeyedMachine). v.machine) c.in_ok-vm-2.ensures.ok) in
-    subst (λ (l : Lent). IfSome (subtree l.name t) (λ (a : Tree (Spot Machine)). (machine a).machine ≡ l.start)) (sym lent)
-    (subst (λ n. IfSome (subtree n t) (λ (a : Tree (Spot Machine)). (machine a).machine ≡ c.in_ok-vm-2.vm.value.machine)) (sym named)
-    (subst (λ o. IfSome o (λ (a : Tree (Spot Machine)). (machine a).machine ≡ c.in_ok-vm-2.vm.value.machine)) (sym s.there) same))
+    let same : (machine s.child).machine ≡ paged c.in_ok-vm-2.vm.value = sym woke ∙ sym (ap paged c.in_ok-vm-2.ensures.ok) in
+    subst (λ (l : Lent). IfSome (subtree l.name t) (λ (a : Tree (Spot Paged)). (machine a).machine ≡ now_of l)) (sym lent)
+    (subst (λ n. IfSome (subtree n t) (λ (a : Tree (Spot Paged)). (machine a).machine ≡ paged c.in_ok-vm-2.vm.value)) (sym named)
+    (subst (λ o. IfSome o (λ (a : Tree (Spot Paged)). (machine a).machine ≡ paged c.in_ok-vm-2.vm.value)) (sym s.there) same))
 
 pub returns-clause-cells : goal.returns-clause-cells
 returns-clause-cells c = λ t h is.
@@ -76,12 +76,12 @@ returns-clause-cells c = λ t h is.
     let old = old-parent cells mid c.args.parent.now c.args.ticket c.args.index c.in_ok-name.name c.of_lent.result cell c.in_ok-name.ensures inserted found in
     let s = sleeper-of c.args.depot.now cells c.args.parent.now c.args.ticket c.args.index t h is cell old in
     let first = sleeper-of c.args.depot.now cells c.args.parent.now c.args.ticket c.args.index t h is c.in-Some.cell.now c.in-Some.ensures.value in
-    let woke : c.in_ok-vm.vm.machine ≡ (machine first.child).machine
+    let woke : paged c.in_ok-vm.vm ≡ (machine first.child).machine
     = (c.in_ok-vm.ensures c.args.parent.now first.above first.child first.shows.holds first.is_child first.asleep first.lives).0 in
-    let same : c.deref.result.now.machine ≡ (machine s.child).machine
-    = ap (λ (v : KeyedMachine). v.machine) (c.deref.ensures ∙ c.in_ok-vm-2.ensures.ok)
-    ∙ woken-machine c.in_ok-vm.vm.machine (subtree path t) first.child s.child woke first.there s.there in
-    let lent = lent-shows c.args.depot.now cells c.args.parent.now c.args.ticket c.args.index t cell c.of_lent.result c.deref.result.now.machine h s same
+    let same : paged c.deref.result.now ≡ (machine s.child).machine
+    = ap paged (c.deref.ensures ∙ c.in_ok-vm-2.ensures.ok)
+    ∙ woken-machine (paged c.in_ok-vm.vm) (subtree path t) first.child s.child woke first.there s.there in
+    let lent = lent-shows c.args.depot.now cells c.args.parent.now c.args.ticket c.args.index t cell c.of_lent.result (paged c.deref.result.now) h s same
     c.of_lent.ensures.shows in
     let parent : CellShows c.args.depot.now c.args.parent.now waked (with_child c.args.ticket c.args.index (placed out s.child) s.above)
     = c.child_wakes.ensures.shows c.args.depot.now c.args.parent.now s.above s.child s.shows s.is_child s.asleep s.lives in

@@ -1,0 +1,77 @@
+-- A page that comes changes nothing of a forest but what is known of the pages of its machine.
+use Rattle.std.proofs.Common.{◌≡◌, ◌≢◌, ℕ, Bool, true, false, refl, sym, ap, ◌∙◌, List, [], ◌∷◌, ◌++◌, Option, Some, None, option_map, option_and_then}
+use Rattle.guest_mem.specs.declared.answers.Arrived.{Arrived}
+use Rattle.guest_mem.specs.declared.answers.Arrived.TheVariants.{Got, Had}
+use Rattle.forest_tree.specs.Tree.{Tree, node, Branch, Path, machine, log_of, subtree, beyond, goes_on, is_below}
+use Rattle.forest_tree.specs.Projection.{map_tree}
+use Rattle.forest_tree.proofs.Places.{subtree-parts}
+use Rattle.forest_history.specs.Places.{at_path}
+use Rattle.forest_history.proofs.Changes.{at_path-elsewhere, at_path-leaves, at_path-within}
+use Rattle.forest_history.proofs.Ends.{at_path-map}
+use Rattle.forest_model.specs.Paged.{Paged}
+use Rattle.run_report.proofs.Below.{beyond-is}
+use Rattle.drive_script.specs.Replies.{tree_with, with_arrival}
+use Rattle.drive_script.specs.Told.{whole}
+use Rattle.drive_script.proofs.OneMachine.{apart-by, beyond-itself, log-by, machine-by}
+
+whole-with : (page : ℕ) (t : Tree Paged) → whole (tree_with page t) ≡ whole t
+unfolding map_tree
+whole-with page (node p broods log) = refl
+
+-- the machines with every page stay
+pub whole-arrival : (path : Path) (arrived : Option Arrived) (t : Tree Paged) → whole (with_arrival path arrived t) ≡ whole t
+whole-arrival path None t = refl
+whole-arrival path (Some (Had page)) t = refl
+whole-arrival path (Some (Got page)) t =
+    at_path-map (λ (p : Paged). p.machine) (tree_with page) (λ u. u) (λ u. whole-with page u) path t ∙ at_path-leaves (λ u. u) (λ u. refl) path (whole t)
+
+-- and all that is not of the machine
+pub others-arrival : (path : Path) (arrived : Option Arrived) (at : Path) (t : Tree Paged) → at ≢ path → is_below path at ≡ false
+    → option_map machine (subtree at (with_arrival path arrived t)) ≡ option_map machine (subtree at t)
+others-arrival path None at t other apart = refl
+others-arrival path (Some (Had page)) at t other apart = refl
+others-arrival path (Some (Got page)) at t other apart =
+    ap (option_map machine) (at_path-elsewhere (tree_with page) path at t apart)
+    ∙ machine-by (tree_with page) (beyond at path) (subtree at t) (λ h. other (beyond-itself at path h))
+
+pub logs-arrival : (path : Path) (arrived : Option Arrived) (at : Path) (t : Tree Paged) → at ≢ path → is_below path at ≡ false
+    → option_map log_of (subtree at (with_arrival path arrived t)) ≡ option_map log_of (subtree at t)
+logs-arrival path None at t other apart = refl
+logs-arrival path (Some (Had page)) at t other apart = refl
+logs-arrival path (Some (Got page)) at t other apart =
+    ap (option_map log_of) (at_path-elsewhere (tree_with page) path at t apart)
+    ∙ log-by (tree_with page) (beyond at path) (subtree at t) (λ h. other (beyond-itself at path h))
+
+pub apart-arrival : (path : Path) (arrived : Option Arrived) (at : Path) (t : Tree Paged) → is_below path at ≡ false → beyond at path ≡ None
+    → subtree at (with_arrival path arrived t) ≡ subtree at t
+apart-arrival path None at t below apart = refl
+apart-arrival path (Some (Had page)) at t below apart = refl
+apart-arrival path (Some (Got page)) at t below apart =
+    at_path-elsewhere (tree_with page) path at t below ∙ apart-by (tree_with page) (beyond at path) (subtree at t) apart
+
+below-with : (page : ℕ) (b : Branch) (rest : Path) (a : Tree Paged) → subtree (b ∷ rest) (tree_with page a) ≡ subtree (b ∷ rest) a
+unfolding subtree
+below-with page b rest (node p broods log) = refl
+
+within-with : (page : ℕ) (b : Branch) (rest : Path) (c : Option (Tree Paged))
+    → option_and_then (λ a. subtree (b ∷ rest) (tree_with page a)) c ≡ option_and_then (subtree (b ∷ rest)) c
+within-with page b rest None = refl
+within-with page b rest (Some a) = below-with page b rest a
+
+below-got : (page : ℕ) (path : Path) (b : Branch) (rest : Path) (t : Tree Paged)
+    → subtree (path ++ (b ∷ rest)) (at_path (tree_with page) path t) ≡ subtree (path ++ (b ∷ rest)) t
+below-got page path b rest t =
+    at_path-within (tree_with page) path (b ∷ rest) t ∙ within-with page b rest (subtree path t) ∙ sym (subtree-parts path (b ∷ rest) t)
+
+pub below-arrival : (path : Path) (arrived : Option Arrived) (at : Path) (t : Tree Paged) → is_below path at ≡ true
+    → subtree at (with_arrival path arrived t) ≡ subtree at t
+below-arrival path None at t below = refl
+below-arrival path (Some (Had page)) at t below = refl
+below-arrival path (Some (Got page)) at t below = by (beyond path at) refl below
+  where
+    by : (left : Option Path) → beyond path at ≡ left → goes_on left ≡ true → subtree at (at_path (tree_with page) path t) ≡ subtree at t
+    by None e h = absurd (cc)
+    by (Some []) e h = absurd (cc)
+    by (Some (b ∷ rest)) e h =
+        let is : at ≡ path ++ (b ∷ rest) = beyond-is path at (b ∷ rest) e in
+        ap (λ p. subtree p (at_path (tree_with page) path t)) is ∙ below-got page path b rest t ∙ sym (ap (λ p. subtree p t) is)

@@ -1,0 +1,12 @@
+use Rattle.std.proofs.Common.{◌≡◌, ◌-◌, ◌≤◌, length}
+use Rattle.vm_cell.specs.Kept.{Keeps}
+use Rattle.vm_cell.specs.Keyed.{hart_in}
+use Rattle.vm_cell.specs.Steps.{IsRun}
+use Rattle.vm_cell.proofs.vm.Vm.run_with.Given as goal
+
+abbrev pub invariant-loop-steps : goal.invariant-loop-steps
+invariant-loop-steps l =
+    IsRun l.fn.self l.self l.steps × (l.steps ≤ l.fn.most) × Keeps (hart_in l.self) l.self.machine.steps l.slots × (length l.slots ≡ length l.fn.slots)
+
+abbrev pub decreases-loop-steps : goal.decreases-loop-steps
+decreases-loop-steps l = l.most - l.steps

@@ -1,0 +1,55 @@
+-- Instructions that are kept by their place in RAM. What a slot keeps is so for one epoch. Within it RAM changes by
+-- plain steps alone, whose stores forget the slot of the word that they write.
+use Rattle.std.specs.Prelude.{◌≡◌, ◌≢◌, ℕ, ◌-◌, ◌/◌, ◌<◌, ◌≤◌, ◌%◌, true, List, length, slice_get, slice_index_or, Some}
+use Rattle.std.specs.Int.Bits.{bit_and}
+use Rattle.std.specs.List.{HoldsAt}
+use Rattle.elf_load.specs.declared.image.TheConstants.{RAM_BASE, PAGE_SIZE}
+use Rattle.flat_memory.specs.Flat.{word_at}
+use Rattle.rv_decode.specs.declared.kinds.Group.{Group}
+use Rattle.rv_decode.specs.declared.kinds.Group.TheVariants as group
+use Rattle.rv_decode.specs.Instruction.{Instruction}
+use Rattle.rv_decode.specs.Table.{decoded}
+use Rattle.forest_model.specs.State.{is_in_ram}
+use Rattle.vm_cell.specs.Keyed.{KeyedState}
+use Rattle.vm_cell.specs.declared.hart.slot.Slot.{Slot}
+use Rattle.vm_cell.specs.declared.hart.slot.TheConstants.{NOWHERE}
+
+-- the number of the slot, of so many, of the word that has the byte at an address
+abbrev pub slot_of : ℕ → ℕ → ℕ
+slot_of address count = bit_and (address / 4) (count - 1)
+
+-- the word at an address that is in RAM, of a page that is here
+pub record IsWord (h : KeyedState) (address word : ℕ) : Type 0 where
+  pub in_ram : is_in_ram h.state.ram address ≡ true
+  pub here : slice_get h.pages.here ((address - RAM_BASE) / PAGE_SIZE) ≡ Some true
+  pub is : word_at h.state.ram (address - RAM_BASE) ≡ word
+
+-- a slot of this epoch is the one of its address, and has the word there
+pub record IsFilled (h : KeyedState) (count number : ℕ) (slot : Slot) : Type 0 where
+  pub place : slot_of slot.address count ≡ number
+  pub word : IsWord h slot.address slot.word
+
+pub record IsKept (h : KeyedState) (epoch count number : ℕ) (slot : Slot) : Type 0 where
+  pub past : slot.epoch ≤ epoch
+  pub filled : slot.epoch ≡ epoch → slot.address % 4 ≡ 0 → IsFilled h count number slot
+
+abbrev pub Keeps : KeyedState → ℕ → List Slot → Type 0
+Keeps h epoch slots = (k : ℕ) (d : Slot) → k < length slots → IsKept h epoch (length slots) k (slice_index_or slots k d)
+
+-- the coming instruction is one of RAM, which the word at pc says
+pub record Comes (h : KeyedState) (i : Instruction) : Type 0 where
+  pub word : ℕ
+  pub is : IsWord h h.state.pc word
+  pub says : decoded word ≡ Some i
+
+-- the slot of this number keeps nothing more, and the others what they kept
+pub record Forgets (number : ℕ) (old new : List Slot) : Type 0 where
+  pub same_length : length new ≡ length old
+  pub there : HoldsAt (λ slot. slot.address ≡ NOWHERE) new number
+  pub others : (k : ℕ) (d : Slot) → k ≢ number → slice_index_or new k d ≡ slice_index_or old k d
+  pub past : (d : Slot) → (slice_index_or new number d).epoch ≡ (slice_index_or old number d).epoch
+
+-- before a store
+abbrev pub ForgetsStored : Group → ℕ → List Slot → List Slot → Type 0
+ForgetsStored group.Store number old new = Forgets number old new
+ForgetsStored _ number old new = new ≡ old

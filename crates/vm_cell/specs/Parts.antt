@@ -1,0 +1,32 @@
+-- The parts that a run is made in.
+use Rattle.std.specs.Prelude.{◌≡◌, ℕ, ◌+◌, ◌-◌, ◌<◌, ◌≤◌, None, IfSome}
+use Rattle.forest_model.specs.Paged.{stalled_at}
+use Rattle.vm_cell.specs.Acts.{Grows}
+use Rattle.vm_cell.specs.Keyed.{KeyedMachine, paged}
+use Rattle.vm_cell.specs.Steps.{IsRun, Stands}
+use Rattle.vm_cell.specs.declared.vm.Part.{Part}
+use Rattle.vm_cell.specs.declared.vm.Stepped.{Stepped}
+use Rattle.vm_cell.specs.declared.vm.Stepped.TheVariants.{Went, Stall, Call, Ended}
+
+-- a live machine stops there
+abbrev pub Stops : KeyedMachine → Stepped → Type 0
+Stops v Went = ⊥
+Stops v (Stall page) = Stands v (Stall page)
+Stops v (Call c) = Stands v (Call c)
+Stops v (Ended ending) = ⊥
+
+-- it was to make so many steps: it makes fewer only where it stops or the machine ends
+pub record IsPart (most : ℕ) (old new : KeyedMachine) (part : Part) : Type 0 where
+  pub run : IsRun old new part.steps
+  pub within : part.steps ≤ most
+  pub stops : IfSome part.stop (Stops new)
+  pub all : part.stop ≡ None → new.machine.ending ≡ None → part.steps ≡ most
+
+-- memory was wanting before so many were made
+pub record IsCut (most : ℕ) (old new : KeyedMachine) : Type 0 where
+  pub run : IsRun old new (new.machine.steps - old.machine.steps)
+  pub from : old.machine.steps ≤ new.machine.steps
+  pub within : new.machine.steps < old.machine.steps + most
+  pub live : new.machine.ending ≡ None
+  pub here : stalled_at (paged new) ≡ None
+  pub memory : Grows new.machine.state

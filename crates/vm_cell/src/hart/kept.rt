@@ -1,0 +1,96 @@
+//! Instructions that are kept by their place in RAM.
+
+ghost use Rattle.std.specs.Prelude.{◌≡◌, ◌<◌, length, Some, IfSome};
+ghost use Rattle.rv_decode.specs.Table.{decoded};
+ghost use Rattle.rv_decode.specs.Kinds.{group_of};
+ghost use Rattle.forest_model.specs.Access.{fetch_access};
+ghost use Rattle.forest_model.specs.Execute.{fetched};
+ghost use Rattle.forest_model.specs.Memory.{data_address};
+ghost use Rattle.vm_cell.specs.Acts.{ReachesRam};
+ghost use Rattle.vm_cell.specs.Kept.{Comes, Forgets, ForgetsStored, Keeps, slot_of};
+
+use super::Hart;
+use super::access::Reach;
+use super::slot::{NOWHERE, Slot};
+use rv_decode::{Group, Instr};
+
+impl Hart {
+    /// The coming instruction, where its fetch reaches RAM and its word encodes one. It is in its slot, or is put
+    /// there.
+    #[inline(always)]
+    pub(super) fn coming(&self, slots: &mut [Slot], epoch: u32) -> Option<Instr>
+        requires some { 0 < length slots.old }
+        requires keeps { Keeps self.now epoch slots.old }
+        ensures comes { IfSome result (Comes self.now) }
+        ensures keeps { Keeps self.now epoch slots.new }
+        ensures same_length { length slots.new ≡ length slots.old }
+    {
+        // Every pc is a multiple of 4.
+        let _ = &self.pc;
+        let number = slot_of(self.pc, slots.len());
+        let slot = slots[number];
+        if slot.address == self.pc && slot.epoch == epoch {
+            return Some(slot.instr);
+        }
+        self.look_up(slots, number, epoch)
+    }
+
+    /// The same where the slot of this number keeps something else. It is apart and never inlined, so that the
+    /// loop of steps is short.
+    #[inline(never)]
+    fn look_up(&self, slots: &mut [Slot], number: usize, epoch: u32) -> Option<Instr>
+        requires some { 0 < length slots.old }
+        requires number { number ≡ slot_of self.now.state.pc (length slots.old) }
+        requires keeps { Keeps self.now epoch slots.old }
+        ensures comes { IfSome result (Comes self.now) }
+        ensures keeps { Keeps self.now epoch slots.new }
+        ensures same_length { length slots.new ≡ length slots.old }
+    {
+        let Reach::Ram(offset) = self.fetch() else {
+            return None;
+        };
+        let word = self.fetched(offset);
+        let instr = slots[number].decode(word)?;
+        slots[number] = Slot {
+            address: self.pc,
+            epoch,
+            word,
+            instr,
+        };
+        Some(instr)
+    }
+
+    /// Forgets what is kept of the word that an instruction stores to, if it is a store.
+    #[inline(always)]
+    pub(super) fn forget_stored(&self, slots: &mut [Slot], instr: Instr)
+        requires { 0 < length slots.old }
+        ensures forgets { ForgetsStored (group_of instr.kind) (slot_of (data_address instr self.now.state) (length slots.old)) slots.old slots.new }
+        ensures same_length { length slots.new ≡ length slots.old }
+    {
+        let Group::Store = instr.kind().group() else {
+            return;
+        };
+        forget(slots, self.data_address(instr));
+    }
+}
+
+/// Forgets what is kept of the word that has the byte at an address.
+#[inline(always)]
+fn forget(slots: &mut [Slot], address: u32)
+    requires { 0 < length slots.old }
+    ensures { Forgets (slot_of address (length slots.old)) slots.old slots.new }
+{
+    let number = slot_of(address, slots.len());
+    slots[number].address = NOWHERE;
+}
+
+/// The number of the slot, of so many, of the word that has the byte at an address.
+#[inline(always)]
+#[tactic(auto, using(std::proofs::lemmas::Nat::and_le_r))]
+fn slot_of(address: u32, count: usize) -> usize
+    requires { 0 < count }
+    ensures value { result ≡ slot_of address count }
+    ensures inside { result < count }
+{
+    (address / 4) as usize & (count - 1)
+}

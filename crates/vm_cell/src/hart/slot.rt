@@ -1,0 +1,51 @@
+//! What is kept of an instruction.
+
+ghost use Rattle.std.specs.Prelude.{◌≡◌, Some};
+ghost use Rattle.rv_decode.specs.Table.{decoded};
+
+use rv_decode::{Instr, decode};
+
+/// No instruction has this address: each is a multiple of 4.
+pub(super) const NOWHERE: u32 = 1;
+
+/// A word that encodes an instruction: the one that does nothing.
+const NOP: u32 = 0x13;
+
+/// An address, the word that was there at an epoch, and the instruction that it encodes.
+#[derive(Clone, Copy)]
+pub struct Slot {
+    pub(super) address: u32,
+    pub(super) epoch: u32,
+    pub(super) word: u32,
+    pub(super) instr: Instr,
+    ghost is_decoded: { decoded word ≡ Some instr },
+}
+
+impl Slot {
+    /// A slot that keeps nothing.
+    pub fn empty() -> Slot
+        ensures address { result.address ≡ NOWHERE }
+        ensures epoch { result.epoch ≡ 0 }
+    {
+        let Some(instr) = decode(NOP) else {
+            unreachable!()
+        };
+        Slot {
+            address: NOWHERE,
+            epoch: 0,
+            word: NOP,
+            instr,
+        }
+    }
+
+    /// The instruction that a word encodes, or `None` where it encodes none. It is known where the slot has the word.
+    #[inline(always)]
+    pub(super) fn decode(&self, word: u32) -> Option<Instr>
+        ensures { result ≡ decoded word }
+    {
+        if self.word == word {
+            return Some(self.instr);
+        }
+        decode(word)
+    }
+}

@@ -1,0 +1,77 @@
+//! What the clones of a ticket start with, as bytes.
+
+ghost use Rattle.std.specs.Prelude.{◌≡◌, length, IfOk};
+ghost use Rattle.vm_descriptor.specs.Descriptor.{IsInRange, numbered};
+ghost use Rattle.vm_descriptor.specs.Described.{described, Fits};
+
+use crate::descriptor::Descriptor;
+use crate::error::DescError;
+use flat_memory::write_bytes;
+use std::alloc::{AllocError, Global};
+use std::marker::Model;
+
+/// Where the number of the clone stands in the bytes of a descriptor.
+const CLONE_ID_PLACE: usize = 12;
+
+/// What the clones of a ticket start with, as the bytes of the descriptor of one of them: the others differ in
+/// their number alone. Contracts see that descriptor.
+#[derive(Drop)]
+pub struct Seed {
+    bytes: Vec<u8>,
+}
+
+impl Model for Seed {
+    ghost use Rattle.vm_descriptor.specs.declared.descriptor.Descriptor.{Descriptor};
+    ghost use Rattle.vm_descriptor.specs.Described.{read, IsKept};
+
+    ghost Value = { Descriptor };
+
+    ghost view = { λ s. read s.bytes.items };
+
+    ghost invariant = { λ s. IsKept s.bytes.items };
+}
+
+impl Seed {
+    /// The seed of the clones of which one has this descriptor. It takes memory once, for the bytes.
+    #[tactic(auto, using(crate::proofs::Kept::kept, crate::proofs::Kept::read_kept))]
+    pub fn new(alloc: Global, descriptor: &Descriptor) -> Result<Seed, AllocError>
+        requires { length descriptor.now.blank ≡ descriptor.now.pages }
+        ensures { IfOk result (λ seed. seed ≡ descriptor.now) }
+    {
+        descriptor.fits();
+        Ok(Seed {
+            bytes: descriptor.encode(alloc)?,
+        })
+    }
+
+    /// The bytes of that descriptor. It takes no memory.
+    pub fn bytes(&self) -> &[u8]
+        ensures { result.now ≡ described self.now }
+    {
+        &self.bytes
+    }
+
+    /// The descriptor of a clone, by its number, as it comes back from its bytes.
+    pub fn through_bytes(&self, alloc: Global, clone_id: u32) -> Result<Descriptor, AllocError>
+        requires { IsInRange (numbered clone_id self.now) }
+        ensures { IfOk result (λ descriptor. descriptor ≡ numbered clone_id self.now) }
+    {
+        let bytes = self.bytes_as(alloc, clone_id)?;
+        match Descriptor::decode(alloc, &bytes) {
+            Ok(descriptor) => Ok(descriptor),
+            Err(DescError::Memory) => Err(AllocError),
+            Err(DescError::Refused(_)) => unreachable!(),
+        }
+    }
+
+    /// The bytes of the descriptor of a clone, by its number: the number is put in, and the other bytes stay.
+    #[tactic(auto, using(crate::proofs::Kept::kept_there))]
+    fn bytes_as(&self, alloc: Global, clone_id: u32) -> Result<Vec<u8>, AllocError>
+        ensures value { IfOk result (λ bytes. bytes.items ≡ described (numbered clone_id self.now)) }
+        ensures fits { Fits (numbered clone_id self.now) }
+    {
+        let mut bytes = Vec::from_slice(alloc, &self.bytes)?;
+        write_bytes(&mut bytes, CLONE_ID_PLACE, &clone_id.to_le_bytes());
+        Ok(bytes)
+    }
+}

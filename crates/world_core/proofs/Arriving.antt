@@ -1,0 +1,387 @@
+-- What a world stands for where a page comes to a machine on lease, and while the machine makes steps.
+use Rattle.std.proofs.Common.{◌≡◌, ℕ, ◌+◌, Bool, true, false, Result, Ok, Err, IfOk, OnErr, ◌-◌, ◌≤◌, arith, refl, sym, ap, ◌∙◌, subst, inl, inr, ◌⊎◌, [], ◌∷◌, ◌++◌, Option, Some, None, option_map}
+use Rattle.std.specs.Option.{IfSome}
+use Rattle.std.specs.BTreeMap.{get}
+use Rattle.std.specs.declared.alloc.AllocError.{AllocError}
+use Rattle.image_depot.specs.Key.{Shelves, Key}
+use Rattle.image_depot.specs.Reply.{Reply}
+use Rattle.guest_mem.specs.declared.answers.Arrived.{Arrived}
+use Rattle.guest_mem.specs.declared.answers.Arrived.TheVariants.{Got, Had}
+use Rattle.forest_tree.specs.Tree.{Tree, node, Broods, Log, machine, Branch, Path, subtree}
+use Rattle.forest_tree.specs.Settle.{waits}
+use Rattle.forest_tree.specs.Sound.{IsSound}
+use Rattle.forest_tree.specs.Projection.{map_tree}
+use Rattle.forest_tree.proofs.Settle.{KeepsTo, root-sound}
+use Rattle.forest_tree.proofs.Places.{subtree-sound}
+use Rattle.forest_tree.proofs.Projected.{subtree-map}
+use Rattle.forest_history.specs.Places.{at_path, home, out, parked, placed, bare, Spot, spots}
+use Rattle.forest_history.specs.World.{IsWhole, holds, is_out, is_out_at, lives_ready}
+use Rattle.forest_history.specs.Rows.{took, does}
+use Rattle.forest_history.proofs.Changes.{at_path-agree, at_path-here, at_path-leaves, at_path-twice}
+use Rattle.forest_history.proofs.Ends.{at_path-keeps, at_path-map}
+use Rattle.forest_model.specs.Machine.{Machine}
+use Rattle.forest_model.specs.Forest.{machines}
+use Rattle.forest_model.specs.Paged.{Paged, Pages, advanced_by, paged_machines, pages_arrived}
+use Rattle.forest_model.proofs.Absent.{arrived-advanced_by}
+use Rattle.forest_model.proofs.Paged.{advanced_by-add}
+use Rattle.run_report.specs.NameOrder.{path_cmp}
+use Rattle.vm_cell.specs.Keyed.{Arrives, KeyedMachine}
+use Rattle.vm_cell.specs.Steps.{moved_by}
+use Rattle.vm_cell.specs.declared.vm.Ran.{Ran}
+use Rattle.world_core.specs.declared.cell.Cell.{Cell}
+use Rattle.world_core.specs.declared.cell.State.{State}
+use Rattle.world_core.specs.declared.cell.State.TheVariants.{Home, Parked, Out}
+use Rattle.world_core.specs.declared.world.World.{World}
+use Rattle.world_core.specs.Lent.{Lent, IsLent, IsSameLease, now_of, vm_of}
+use Rattle.world_core.specs.Shows.{forest, CellShows, IsAwake, Shows, StateShows}
+use Rattle.world_core.specs.World.{Forest, IsDue, ShowsTree, StandsFor}
+use Rattle.world_core.specs.Answers.{IsHandedOut, IsOutAs, Starts}
+use Rattle.world_core.specs.Arrived.{StillHandedOut, after_arrival, flagged, with_arrived, with_flags}
+use Rattle.world_core.proofs.Calling.{at_path-gone, below-name, lent_out}
+use Rattle.world_core.proofs.Changes.{parent-awake, shows-changed}
+use Rattle.world_core.proofs.Ready.{parent-ready, ready-changed}
+use Rattle.world_core.proofs.Returns.{Handed, IsOutHere, gone, handed, there}
+use Rattle.world_core.proofs.Steps.{Holds-same, SameTickets, forest-rules, has-run}
+
+not-home : (waiting : Bool) → (out ≡ home) ⊎ ((out ≡ parked) × (waiting ≡ false)) → ⊥
+not-home waiting (inl at) = cc
+not-home waiting (inr at) = let no : out ≡ parked = at.0 in cc
+
+-- ---- other flags of one machine
+
+module _ (flags : Pages → Pages) where
+  flagged-keeps : (t : Tree (Spot Paged)) → IsSound forest t → KeepsTo forest t (flagged flags t)
+  unfolding IsSound spots paged_machines
+  flagged-keeps (node s broods log) h =
+      record { sound = (record { good = h.0.good; ended = h.0.ended; one_each = h.0.one_each }, h.1); holding = refl }
+
+  flagged-sound : (name : Path) (t : Tree (Spot Paged)) → IsSound forest t → IsSound forest (at_path (flagged flags) name t)
+  flagged-sound name t sound = (at_path-keeps forest forest-rules (flagged flags) (λ u h. flagged-keeps u h) name t sound).sound
+
+  flagged-awake : (a : Tree (Spot Paged)) → IsAwake a → IsAwake (flagged flags a)
+  unfolding spots paged_machines
+  flagged-awake (node s broods log) h = record { lives = h.lives; awake = h.awake }
+
+  flagged-root : (name : Path) (t : Tree (Spot Paged)) → IsAwake t → IsAwake (at_path (flagged flags) name t)
+  unfolding at_path
+  flagged-root [] t h = flagged-awake t h
+  flagged-root (x ∷ rest) (node s broods log) h = record { lives = h.lives; awake = h.awake }
+
+  flagged-below : (a : Tree (Spot Paged)) (x : Branch) (rest : Path) → subtree (x ∷ rest) (flagged flags a) ≡ subtree (x ∷ rest) a
+  unfolding subtree
+  flagged-below (node s broods log) x rest = refl
+
+  flagged-ready : (a : Tree (Spot Paged)) → lives_ready paged_machines (flagged flags a) ≡ lives_ready paged_machines a
+  unfolding spots paged_machines
+  flagged-ready (node s broods log) = refl
+
+  -- nothing is told of the flags of a machine that is out
+  out-state : (path : Path) (state : State) (p : Paged) (waiting then : Bool) → StateShows path state (lent_out p) waiting
+      → StateShows path state (lent_out (record p { pages = flags p.pages })) then
+  out-state path (Home vm) p waiting then h = absurd (not-home waiting h.1)
+  out-state path (Parked ticket vm turn) p waiting then h = let no : out ≡ parked = h.1 in absurd (cc)
+  out-state path (Out start) p waiting then h = h
+
+  same-tickets : (p : Paged) → forest.is_good (lent_out p) ≡ true → SameTickets (lent_out p) (lent_out (record p { pages = flags p.pages }))
+  unfolding spots paged_machines
+  same-tickets p good = record { good = good; cloned = λ t. refl; grants = λ t is. refl }
+
+  module _ (depot : Shelves) (w : World) (f : Forest) (name : Path) (h : StandsFor depot w f) where
+    module _ (start : Paged) (broods : Broods (Spot Paged)) (log : Log (Spot Paged)) (c : Cell)
+        (is : IsOutHere depot w f name (node (lent_out start) broods log) c) where
+      abbrev a : Tree (Spot Paged)
+      a = node (lent_out start) broods log
+
+      flagged-cell : CellShows depot name c (flagged flags a)
+      flagged-cell =
+          let sound = subtree-sound forest name f.tree a h.sound is.there in
+          let n : Paged = record start { pages = flags start.pages } in
+          record {
+            awake = flagged-awake a is.shows.awake;
+            state = out-state name c.state start (waits forest a) (waits forest (flagged flags a)) is.shows.state;
+            of_depot = is.shows.of_depot;
+            holds = Holds-same depot name c (lent_out start) (lent_out n) broods log (same-tickets start (root-sound forest (lent_out start) broods log sound).good)
+                is.shows.holds;
+          }
+
+      flagged-shows : (n : Path) → Shows depot n (get path_cmp w.cells n) (subtree n (at_path (flagged flags) name f.tree))
+      flagged-shows =
+          shows-changed (flagged flags) depot name f.tree a (get path_cmp w.cells) is.there
+          (subst (λ o. Shows depot name o (Some (flagged flags a))) (sym is.cell) flagged-cell)
+          (λ x rest.
+          subst (Shows depot (name ++ (x ∷ rest)) (get path_cmp w.cells (name ++ (x ∷ rest))))
+          (below-name name f.tree a x rest is.there ∙ sym (flagged-below a x rest)) (is.live.cells (name ++ (x ∷ rest))))
+          (λ n none one. is.live.cells n)
+          (λ n x none e.
+          parent-awake (flagged flags) depot name n f.tree a x (get path_cmp w.cells n) none e is.there is.shows.awake (flagged-awake a is.shows.awake)
+          (is.live.cells n))
+
+      flagged-due : (n : Path) → holds paged_machines (lives_ready paged_machines) (subtree n (at_path (flagged flags) name f.tree)) ≡ true
+          → IsDue (get path_cmp w.cells n) n w.ready
+      flagged-due =
+          ready-changed (flagged flags) (λ n. IsDue (get path_cmp w.cells n) n w.ready) name f.tree a is.there
+          (λ ready.
+          is.live.ready name (ap (holds paged_machines (lives_ready paged_machines)) is.there ∙ sym (flagged-ready a) ∙ ready))
+          (λ x rest ready.
+          is.live.ready (name ++ (x ∷ rest))
+          (ap (holds paged_machines (lives_ready paged_machines)) (below-name name f.tree a x rest is.there ∙ sym (flagged-below a x rest)) ∙ ready))
+          (λ n none one ready. is.live.ready n ready)
+          (λ n x none e ready.
+          is.live.ready n
+          (sym (parent-ready (flagged flags) name n f.tree a x none e is.there ((flagged-awake a is.shows.awake).lives ∙ sym is.shows.awake.lives)) ∙ ready))
+
+      flagged-there : StandsFor depot w (with_flags name flags f)
+      flagged-there = record {
+        sound = flagged-sound name f.tree h.sound;
+        halted = h.halted;
+        tree = subst (λ o. ShowsTree o depot w (at_path (flagged flags) name f.tree)) (sym is.going) (record {
+          root = flagged-root name f.tree is.live.root;
+          cells = flagged-shows;
+          ready = flagged-due;
+          listed = is.live.listed;
+        });
+      }
+
+    flagged-gone : subtree name f.tree ≡ None → StandsFor depot w (with_flags name flags f)
+    flagged-gone none =
+        subst (λ t. StandsFor depot w (record f { tree = t })) (sym (at_path-gone forest (flagged flags) name f.tree h.sound none)) h
+
+-- a world tells no flags of a machine on lease
+pub flags-stand : (flags : Pages → Pages) (depot : Shelves) (w : World) (f : Forest) (lease : Lent) → StandsFor depot w f → IsHandedOut f lease
+    → StandsFor depot w (with_flags lease.name flags f)
+flags-stand flags depot w f lease h out_as = by (handed depot w f lease h out_as)
+  where
+    by : Handed depot w f lease → StandsFor depot w (with_flags lease.name flags f)
+    by (gone none cell) = flagged-gone flags depot w f lease.name h none
+    by (there start broods log c is_as is) = flagged-there flags depot w f lease.name h start broods log c is
+
+pub flags-sound : (name : Path) (flags : Pages → Pages) (f : Forest) → IsSound forest f.tree → IsSound forest (with_flags name flags f).tree
+flags-sound name flags f sound = flagged-sound flags name f.tree sound
+
+-- ---- the machine that is out, with other flags
+
+out-flagged : (flags : Pages → Pages) (old new : Lent) → new.start ≡ old.start
+    → ((p : Paged) → (advanced_by old.ran p).pages ≡ old.pages → (advanced_by new.ran (record p { pages = flags p.pages })).pages ≡ new.pages)
+    → (t : Option (Tree (Spot Paged))) → IfSome t (IsOutAs old) → IfSome (option_map (flagged flags) t) (IsOutAs new)
+out-flagged flags old new start pages None h = tt
+out-flagged flags old new start pages (Some (node s broods log)) h =
+    record { is_out = h.is_out; start = h.start ∙ sym start; pages = pages s.machine h.pages }
+
+handed-flagged : (flags : Pages → Pages) (f : Forest) (old new : Lent) → new.name ≡ old.name → new.start ≡ old.start
+    → ((p : Paged) → (advanced_by old.ran p).pages ≡ old.pages → (advanced_by new.ran (record p { pages = flags p.pages })).pages ≡ new.pages)
+    → IsHandedOut f old → IsHandedOut (with_flags old.name flags f) new
+handed-flagged flags f old new name start pages h =
+    subst (λ n. IfSome (subtree n (at_path (flagged flags) old.name f.tree)) (IsOutAs new)) (sym name)
+    (subst (λ o. IfSome o (IsOutAs new)) (sym (at_path-here (flagged flags) old.name f.tree))
+    (out-flagged flags old new start pages (subtree old.name f.tree) h))
+
+-- a page has come
+pub handed-arrived : (f : Forest) (page : ℕ) (old new : Lent) → new.name ≡ old.name → new.start ≡ old.start → new.ran ≡ old.ran
+    → new.pages ≡ pages_arrived page old.pages → IsHandedOut f old → IsHandedOut (with_arrived old.name page f) new
+handed-arrived f page old new name start ran pages h =
+    handed-flagged (pages_arrived page) f old new name start
+    (λ p same.
+    ap (λ n. (advanced_by n (record p { pages = pages_arrived page p.pages })).pages) ran
+    ∙ ap (λ (q : Paged). q.pages) (arrived-advanced_by old.ran page p)
+    ∙ ap (pages_arrived page) same ∙ sym pages)
+    h
+
+-- where it is out so on one lease, it is on the other
+some-out : (old new : Lent) → ((t : Tree (Spot Paged)) → IsOutAs old t → IsOutAs new t) → (t : Option (Tree (Spot Paged))) → IfSome t (IsOutAs old)
+    → IfSome t (IsOutAs new)
+some-out old new each None h = tt
+some-out old new each (Some t) h = each t h
+
+handed-as : (f : Forest) (old new : Lent) → new.name ≡ old.name → ((t : Tree (Spot Paged)) → IsOutAs old t → IsOutAs new t) → IsHandedOut f old
+    → IsHandedOut f new
+handed-as f old new name each h =
+    subst (λ n. IfSome (subtree n f.tree) (IsOutAs new)) (sym name) (some-out old new each (subtree old.name f.tree) h)
+
+-- nothing has changed
+handed-same : (f : Forest) (old new : Lent) → new.name ≡ old.name → new.start ≡ old.start → new.ran ≡ old.ran → new.pages ≡ old.pages
+    → IsHandedOut f old → IsHandedOut f new
+handed-same f old new name start ran pages h =
+    handed-as f old new name
+    (λ t is. record {
+      is_out = is.is_out;
+      start = is.start ∙ sym start;
+      pages = ap (λ n. (advanced_by n (machine t).machine).pages) ran ∙ is.pages ∙ sym pages;
+    })
+    h
+
+-- it has made more steps
+pub handed-run : (f : Forest) (old new : Lent) (more : ℕ) → IsSameLease old new → IsLent old.start old.ran old.now → new.ran ≡ old.ran + more
+    → vm_of new ≡ moved_by more (vm_of old) → IsHandedOut f old → IsHandedOut f new
+handed-run f old new more same lent ran now h =
+    handed-as f old new same.name
+    (λ t is. let p = (machine t).machine in
+    record {
+      is_out = is.is_out;
+      start = is.start ∙ sym same.start;
+      pages =
+          ap (λ n. (advanced_by n p).pages) ran
+          ∙ ap (λ (q : Paged). q.pages) (advanced_by-add old.ran more p ∙ ap (advanced_by more) (has-run old t lent is).after)
+          ∙ ap (λ (v : KeyedMachine). v.pages) (sym now);
+    })
+    h
+
+-- the same of a run, which may want memory after some of its steps
+handed-ran : (f : Forest) (old new : Lent) (r : Result Ran AllocError) → IsSameLease old new → IsLent old.start old.ran old.now
+    → IfOk r (λ ran. (new.ran ≡ old.ran + ran.steps) × (vm_of new ≡ moved_by ran.steps (vm_of old)))
+    → OnErr r (vm_of new ≡ moved_by (new.ran - old.ran) (vm_of old)) → OnErr r (old.ran ≤ new.ran) → IsHandedOut f old → IsHandedOut f new
+handed-ran f old new (Ok ran) same lent made failed more h = handed-run f old new ran.steps same lent made.0 made.1 h
+handed-ran f old new (Err e) same lent made failed more h = handed-run f old new (new.ran - old.ran) same lent (omega (arith, more)) failed h
+
+-- the answer of an arrival
+pub arrives : (depot : Shelves) (w : World) (f : Forest) (old new : Lent) (key : Option Key) (reply : Reply) (answer : Arrived) → new.name ≡ old.name
+    → new.start ≡ old.start → new.ran ≡ old.ran → Arrives key old.pages reply new.pages answer → StandsFor depot w f → IsHandedOut f old
+    → StandsFor depot w (after_arrival old.name answer f) × IsHandedOut (after_arrival old.name answer f) new
+arrives depot w f old new key reply (Got page) name start ran h stands out_as =
+    (flags-stand (pages_arrived page) depot w f old stands out_as, handed-arrived f page old new name start ran h.3 out_as)
+arrives depot w f old new key reply (Had page) name start ran h stands out_as =
+    (stands, handed-same f old new name start ran h.1 out_as)
+
+pub arrives-ok : (depot : Shelves) (w : World) (f : Forest) (old new : Lent) (key : Option Key) (reply : Reply) (r : Result Arrived AllocError)
+    → new.name ≡ old.name → new.start ≡ old.start → new.ran ≡ old.ran → IfOk r (Arrives key old.pages reply new.pages) → StandsFor depot w f
+    → IsHandedOut f old
+    → IfOk r (λ answer. StandsFor depot w (after_arrival old.name answer f) × IsHandedOut (after_arrival old.name answer f) new)
+arrives-ok depot w f old new key reply (Ok answer) name start ran h stands out_as =
+    arrives depot w f old new key reply answer name start ran h stands out_as
+arrives-ok depot w f old new key reply (Err e) name start ran h stands out_as = tt
+
+-- ---- a machine that was taken
+
+taken-as : (lease : Lent) → lease.ran ≡ 0 → lease.now ≡ lease.start → (t : Option (Tree (Spot Paged))) → IfSome t (λ a. (machine a).machine ≡ now_of lease)
+    → IfSome (option_map (placed out) t) (IsOutAs lease)
+unfolding advanced_by
+taken-as lease ran now None h = tt
+taken-as lease ran now (Some (node s broods log)) h = record {
+  is_out = refl;
+  start = ap (λ (p : Paged). p.machine) h ∙ now;
+  pages = ap (λ n. (advanced_by n s.machine).pages) ran ∙ ap (λ (p : Paged). p.pages) h;
+}
+
+pub taken-handed : (f : Forest) (lease : Lent) → Starts f lease → IsHandedOut (does paged_machines (took lease.name) f) lease
+unfolding does
+taken-handed f lease starts =
+    subst (λ o. IfSome o (IsOutAs lease)) (sym (at_path-here (placed out) lease.name f.tree))
+    (taken-as lease starts.ran starts.now (subtree lease.name f.tree) starts.start)
+
+-- ---- pages that come, one after another
+
+flagged-same : (a : Tree (Spot Paged)) → flagged (λ pages. pages) a ≡ a
+flagged-same (node s broods log) = refl
+
+flagged-twice : (one other : Pages → Pages) (a : Tree (Spot Paged)) → flagged other (flagged one a) ≡ flagged (λ pages. other (one pages)) a
+flagged-twice one other (node s broods log) = refl
+
+flags-same : (name : Path) (f : Forest) → with_flags name (λ pages. pages) f ≡ f
+flags-same name f = ap (λ t. record f { tree = t }) (at_path-leaves (flagged (λ pages. pages)) flagged-same name f.tree)
+
+flags-twice : (name : Path) (one other : Pages → Pages) (f : Forest)
+    → with_flags name other (with_flags name one f) ≡ with_flags name (λ pages. other (one pages)) f
+flags-twice name one other f =
+    ap (λ t. record f { tree = t })
+    (at_path-twice (flagged one) (flagged other) name f.tree
+    ∙ at_path-agree (λ a. flagged other (flagged one a)) (flagged (λ pages. other (one pages))) (flagged-twice one other) name f.tree)
+
+pub still-none : (depot : Shelves) (w : World) (f : Forest) (lease : Lent) → StandsFor depot w f → IsHandedOut f lease → StillHandedOut depot w f lease
+still-none depot w f lease h out_as = record {
+  flags = λ pages. pages;
+  stands = subst (StandsFor depot w) (sym (flags-same lease.name f)) h;
+  handed = subst (λ g. IsHandedOut g lease) (sym (flags-same lease.name f)) out_as;
+}
+
+pub still-then : (depot : Shelves) (w : World) (f : Forest) (mid new : Lent) → new.name ≡ mid.name → StillHandedOut depot w f mid
+    → ((g : Forest) → StandsFor depot w g → IsHandedOut g mid → StillHandedOut depot w g new) → StillHandedOut depot w f new
+still-then depot w f mid new name first then =
+    let next = then (with_flags mid.name first.flags f) first.stands first.handed in
+    let same : with_flags new.name next.flags (with_flags mid.name first.flags f) ≡ with_flags new.name (λ pages. next.flags (first.flags pages)) f =
+    ap (λ n. with_flags new.name next.flags (with_flags n first.flags f)) (sym name) ∙ flags-twice new.name first.flags next.flags f in
+    record {
+      flags = λ pages. next.flags (first.flags pages);
+      stands = subst (StandsFor depot w) same next.stands;
+      handed = subst (λ g. IsHandedOut g new) same next.handed;
+    }
+
+pub still-run : (depot : Shelves) (w : World) (f : Forest) (mid new : Lent) → new.name ≡ mid.name → ((g : Forest) → IsHandedOut g mid → IsHandedOut g new)
+    → StillHandedOut depot w f mid → StillHandedOut depot w f new
+still-run depot w f mid new name run h =
+    still-then depot w f mid new name h (λ g stands out_as. still-none depot w g new stands (run g out_as))
+
+pub still-arrived : (depot : Shelves) (w : World) (f : Forest) (old new : Lent) (answer : Arrived) → new.name ≡ old.name
+    → StandsFor depot w (after_arrival old.name answer f) × IsHandedOut (after_arrival old.name answer f) new → StillHandedOut depot w f new
+still-arrived depot w f old new (Got page) name h = record {
+  flags = pages_arrived page;
+  stands = subst (λ n. StandsFor depot w (with_arrived n page f)) (sym name) h.0;
+  handed = subst (λ n. IsHandedOut (with_arrived n page f) new) (sym name) h.1;
+}
+still-arrived depot w f old new (Had page) name h = still-none depot w f new h.0 h.1
+
+-- ---- what other flags leave as it was
+
+-- the same machine, whatever is known of its pages
+abbrev pub every_page : Spot Paged → Spot Machine
+every_page s = record { machine = s.machine.machine; place = s.place }
+
+module _ (name : Path) (flags : Pages → Pages) (f : Forest) where
+  flagged-every : (t : Tree (Spot Paged)) → map_tree every_page (flagged flags t) ≡ map_tree every_page t
+  unfolding map_tree
+  flagged-every (node s broods log) = refl
+
+  pub flags-family : map_tree every_page (with_flags name flags f).tree ≡ map_tree every_page f.tree
+  flags-family =
+      at_path-map every_page (flagged flags) (λ u. u) flagged-every name f.tree
+      ∙ at_path-leaves (λ (u : Tree (Spot Machine)). u) (λ u. refl) name (map_tree every_page f.tree)
+
+  -- the machine is handed out before or after
+  pub flags-taken : with_flags name flags (does paged_machines (took name) f) ≡ does paged_machines (took name) (with_flags name flags f)
+  unfolding does
+  flags-taken =
+      ap (λ t. record f { tree = t })
+      (at_path-twice (placed out) (flagged flags) name f.tree
+      ∙ at_path-agree (λ a. flagged flags (placed out a)) (λ a. placed out (flagged flags a)) same name f.tree
+      ∙ sym (at_path-twice (flagged flags) (placed out) name f.tree))
+    where
+      same : (a : Tree (Spot Paged)) → flagged flags (placed out a) ≡ placed out (flagged flags a)
+      same (node s broods log) = refl
+
+-- whether a machine is out is told of the family
+abbrev out-of : Tree (Spot Machine) → Bool
+out-of a = is_out_at (machine a).place
+
+seen-out : (u : Option (Tree (Spot Paged))) → holds machines out-of (option_map (map_tree every_page) u) ≡ holds paged_machines (λ a. is_out_at (machine a).place) u
+unfolding map_tree
+seen-out None = refl
+seen-out (Some (node s broods log)) = refl
+
+away-seen : (n : Path) (t : Tree (Spot Paged)) → holds machines out-of (subtree n (map_tree every_page t)) ≡ is_out paged_machines n t
+away-seen n t = ap (holds machines out-of) (subtree-map every_page n t) ∙ seen-out (subtree n t)
+
+pub flags-whole : (name : Path) (flags : Pages → Pages) (f : Forest) → IsWhole paged_machines f.tree → IsWhole paged_machines (with_flags name flags f).tree
+flags-whole name flags f whole n =
+    sym (away-seen n (with_flags name flags f).tree)
+    ∙ ap (λ t. holds machines out-of (subtree n t)) (flags-family name flags f)
+    ∙ away-seen n f.tree ∙ whole n
+
+-- the machines without their places, and then without their pages
+abbrev pub bare_flagged : (Pages → Pages) → Tree Paged → Tree Paged
+bare_flagged flags (node p broods log) = node (record p { pages = flags p.pages }) broods log
+
+bare-flags : (flags : Pages → Pages) (t : Tree (Spot Paged)) → bare (flagged flags t) ≡ bare_flagged flags (bare t)
+unfolding map_tree
+bare-flags flags (node s broods log) = refl
+
+bare-machines : (flags : Pages → Pages) (u : Tree Paged) → map_tree (λ (p : Paged). p.machine) (bare_flagged flags u) ≡ map_tree (λ p. p.machine) u
+unfolding map_tree
+bare-machines flags (node p broods log) = refl
+
+pub flags-bare : (name : Path) (flags : Pages → Pages) (f : Forest)
+    → bare (with_flags name flags f).tree ≡ at_path (bare_flagged flags) name (bare f.tree)
+flags-bare name flags f = at_path-map (λ (s : Spot Paged). s.machine) (flagged flags) (bare_flagged flags) (bare-flags flags) name f.tree
+
+pub flags-machines : (name : Path) (flags : Pages → Pages) (t : Tree Paged)
+    → map_tree (λ p. p.machine) (at_path (bare_flagged flags) name t) ≡ map_tree (λ p. p.machine) t
+flags-machines name flags t =
+    at_path-map (λ (p : Paged). p.machine) (bare_flagged flags) (λ u. u) (bare-machines flags) name t
+    ∙ at_path-leaves (λ (u : Tree Machine). u) (λ u. refl) name (map_tree (λ p. p.machine) t)
