@@ -284,7 +284,7 @@ module _ (ram bytes : List ℕ) (address width : ℕ) (size : length bytes ≡ w
 -- ---- what is kept after it
 
 -- where RAM and the pages that are here stay
-kept-same : (old new : KeyedState) (epoch : ℕ) (slots : List Slot) → new.state.ram ≡ old.state.ram → new.pages.here ≡ old.pages.here → Keeps old epoch slots → Keeps new epoch slots
+pub kept-same : (old new : KeyedState) (epoch : ℕ) (slots : List Slot) → new.state.ram ≡ old.state.ram → new.pages.here ≡ old.pages.here → Keeps old epoch slots → Keeps new epoch slots
 kept-same old new epoch slots ram here keeps k d below =
     let kept = keeps k d below in
     record {

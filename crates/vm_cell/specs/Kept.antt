@@ -9,7 +9,12 @@ use Rattle.rv_decode.specs.declared.kinds.Group.{Group}
 use Rattle.rv_decode.specs.declared.kinds.Group.TheVariants as group
 use Rattle.rv_decode.specs.Instruction.{Instruction}
 use Rattle.rv_decode.specs.Table.{decoded}
-use Rattle.forest_model.specs.State.{is_in_ram}
+use Rattle.rv_decode.specs.Kinds.{group_of}
+use Rattle.console_port.specs.declared.registers.TheConstants.{CONSOLE_SIZE}
+use Rattle.forest_model.specs.declared.port_map.TheConstants.{CONSOLE_BASE}
+use Rattle.forest_model.specs.Memory.{data_address}
+use Rattle.forest_model.specs.Ports.{is_within}
+use Rattle.forest_model.specs.State.{State, is_in_ram}
 use Rattle.vm_cell.specs.Keyed.{KeyedState}
 use Rattle.vm_cell.specs.declared.hart.slot.Slot.{Slot}
 use Rattle.vm_cell.specs.declared.hart.slot.TheConstants.{NOWHERE}
@@ -53,3 +58,15 @@ pub record Forgets (number : ℕ) (old new : List Slot) : Type 0 where
 abbrev pub ForgetsStored : Group → ℕ → List Slot → List Slot → Type 0
 ForgetsStored group.Store number old new = Forgets number old new
 ForgetsStored _ number old new = new ≡ old
+
+-- an instruction that leaves RAM, and the pages that are here: an access to a CSR, or a store to the console
+abbrev pub IsAside : Group → Instruction → State → Type 0
+IsAside group.Csr i s = Unit {0}
+IsAside group.Store i s = is_within CONSOLE_BASE CONSOLE_SIZE (data_address i s) ≡ true
+IsAside _ i s = ⊥
+
+-- so is the coming one
+pub record ComesAside (h : KeyedState) : Type 0 where
+  pub instr : Instruction
+  pub comes : Comes h instr
+  pub aside : IsAside (group_of instr.kind) instr h.state

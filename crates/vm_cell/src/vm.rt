@@ -1,4 +1,4 @@
-ghost use Rattle.std.specs.Prelude.{◌≡◌, ◌≢◌, ◌+◌, ◌-◌, ◌*◌, ◌≤◌, ◌<◌, ◌==◌, if◌then◌else◌, true, false, length, slice_index_or, None, Some, IfOk, OnErr};
+ghost use Rattle.std.specs.Prelude.{◌≡◌, ◌≢◌, ◌+◌, ◌-◌, ◌*◌, ◌≤◌, ◌<◌, ◌==◌, if◌then◌else◌, MatchBool, IsTrue, true, false, length, slice_index_or, None, Some, IfOk, OnErr};
 ghost use Rattle.std.specs.Option.{option_copied};
 ghost use Rattle.console_port.specs.declared.port.TheConstants.{MAX_INPUT};
 ghost use Rattle.elf_load.specs.declared.image.TheConstants.{PAGE_SIZE};
@@ -7,7 +7,7 @@ ghost use Rattle.forest_model.specs.Forest.{machines};
 ghost use Rattle.forest_model.specs.Machine.{IsWithinLimit, boot};
 ghost use Rattle.forest_model.specs.Paged.{pages_at_boot, stalled_at};
 ghost use Rattle.vm_cell.specs.Acts.{Grows};
-ghost use Rattle.vm_cell.specs.Kept.{Keeps};
+ghost use Rattle.vm_cell.specs.Kept.{ComesAside, Keeps};
 ghost use Rattle.vm_cell.specs.Keyed.{Arrives, HasImage, IsOfDepot, hart_in, paged};
 ghost use Rattle.vm_cell.specs.Parts.{IsCut, IsPart};
 ghost use Rattle.vm_cell.specs.Shown.{peeked, shown_registers};
@@ -34,8 +34,9 @@ const FEW: u64 = 256;
 /// The slots of a long run. It is a power of 2, so that they are used alike.
 const SLOTS: usize = 512;
 
-/// After a try that made no plain step so many steps go without one: where one traps, the next often traps too.
-const PAUSE: u32 = 8;
+/// After a try that made no plain step, and a step that did not leave RAM, so many steps go without one: where one traps,
+/// the next often traps too.
+const PAUSE: u32 = 16;
 
 /// Where a machine stands after a step.
 #[derive(Clone, Copy, Debug, PartialEq, Eq)]
@@ -302,8 +303,8 @@ impl Vm {
         self.run_with(&mut [Slot::empty(); SLOTS], most)
     }
 
-    /// The same with slots. Those that keep something for an epoch do so for plain steps, so each step that is made by
-    /// itself begins an epoch.
+    /// The same with slots. What they keep for an epoch holds while plain steps are made, so a step that is made by itself
+    /// begins an epoch, unless it leaves RAM as it is.
     #[inline(never)]
     fn run_with(&mut self, slots: &mut [Slot], most: u64) -> Result<Part, AllocError>
         requires some { 0 < length slots.old }
@@ -313,51 +314,78 @@ impl Vm {
     {
         let mut steps = 0;
         let mut pause = 0;
+        let mut epoch = self.epoch_after(false, 0);
         while steps < most && self.ending.is_none() {
-            let made = self.try_plain(slots, pause, most - steps - 1);
-            pause = pause_after(pause, made);
+            let made = self.try_plain(slots, epoch, pause, most - steps - 1);
             steps += made;
+            let is_left = self.leaves_ram(slots, epoch, pause);
+            pause = pause_after(pause, made, is_left);
             if let Some(why) = self.step_live()? {
                 let stop = Some(why);
                 return Ok(Part { steps, stop });
             }
             steps += 1;
+            epoch = self.epoch_after(is_left, epoch);
         }
         Ok(Part { steps, stop: None })
     }
 
     /// Makes plain steps, or none in a pause.
     #[inline(always)]
-    fn try_plain(&mut self, slots: &mut [Slot], pause: u32, most: u64) -> u64
+    fn try_plain(&mut self, slots: &mut [Slot], epoch: u32, pause: u32, most: u64) -> u64
         requires live { self.old.machine.ending ≡ None }
         requires some { 0 < length slots.old }
-        requires keeps { Keeps (hart_in self.old) self.old.machine.steps slots.old }
+        requires keeps { Keeps (hart_in self.old) epoch slots.old }
         ensures run { IsRun self.old self.new result }
         ensures most { result ≤ most }
         ensures live { self.new.machine.ending ≡ None }
-        ensures keeps { Keeps (hart_in self.new) self.old.machine.steps slots.new }
+        ensures keeps { Keeps (hart_in self.new) epoch slots.new }
         ensures same_length { length slots.new ≡ length slots.old }
     {
         if pause > 0 {
             return 0;
         }
-        self.make_plain(slots, most)
+        self.make_plain(slots, epoch, most)
+    }
+
+    /// The epoch after a step that is made by itself: the same where RAM was left as it was, and else the count of steps,
+    /// which is above all epochs before.
+    #[inline(always)]
+    fn epoch_after(&self, is_left: bool, epoch: u32) -> u32
+        ensures { MatchBool is_left (result ≡ epoch) (result ≡ self.now.machine.steps) }
+    {
+        if is_left { epoch } else { self.steps as u32 }
+    }
+
+    /// Whether the coming step leaves RAM as it is, and which pages are here. In a pause that is not looked at.
+    #[inline(always)]
+    fn leaves_ram(&self, slots: &mut [Slot], epoch: u32, pause: u32) -> bool
+        requires some { 0 < length slots.old }
+        requires keeps { Keeps (hart_in self.now) epoch slots.old }
+        ensures told { IsTrue result → ComesAside (hart_in self.now) }
+        ensures keeps { Keeps (hart_in self.now) epoch slots.new }
+        ensures same_length { length slots.new ≡ length slots.old }
+    {
+        if pause > 0 {
+            return false;
+        }
+        self.hart.leaves_ram(slots, epoch)
     }
 
     /// Makes the plain steps that come, at most `most`, of a machine that lives, and answers how many. It lives on.
     #[inline(always)]
-    fn make_plain(&mut self, slots: &mut [Slot], most: u64) -> u64
+    fn make_plain(&mut self, slots: &mut [Slot], epoch: u32, most: u64) -> u64
         requires live { self.old.machine.ending ≡ None }
         requires some { 0 < length slots.old }
-        requires keeps { Keeps (hart_in self.old) self.old.machine.steps slots.old }
+        requires keeps { Keeps (hart_in self.old) epoch slots.old }
         ensures run { IsRun self.old self.new result }
         ensures most { result ≤ most }
         ensures live { self.new.machine.ending ≡ None }
-        ensures keeps { Keeps (hart_in self.new) self.old.machine.steps slots.new }
+        ensures keeps { Keeps (hart_in self.new) epoch slots.new }
         ensures same_length { length slots.new ≡ length slots.old }
     {
         let most = most.min(self.limit - self.steps - 1);
-        let made = self.hart.make_plain(slots, self.steps as u32, most);
+        let made = self.hart.make_plain(slots, epoch, most);
         self.steps += made;
         made
     }
@@ -431,13 +459,13 @@ impl Vm {
     }
 }
 
-/// How many steps go without a try at plain ones, after a try that made so many.
+/// How many steps go without a try at plain ones, after a try that made so many and a step that left RAM or may not have.
 #[inline]
-fn pause_after(pause: u32, made: u64) -> u32 {
+fn pause_after(pause: u32, made: u64, is_left: bool) -> u32 {
     if pause > 0 {
         return pause - 1;
     }
-    if made == 0 { PAUSE } else { 0 }
+    if made > 0 || is_left { 0 } else { PAUSE }
 }
 
 /// Counts a step of a machine that lives, which ends it where it reaches the limit.

@@ -1,17 +1,20 @@
 //! Instructions that are kept by their place in RAM.
 
-ghost use Rattle.std.specs.Prelude.{◌≡◌, ◌<◌, length, Some, IfSome};
+ghost use Rattle.std.specs.Prelude.{◌≡◌, ◌<◌, length, IfSome, IsTrue};
 ghost use Rattle.rv_decode.specs.Table.{decoded};
 ghost use Rattle.rv_decode.specs.Kinds.{group_of};
 ghost use Rattle.forest_model.specs.Access.{fetch_access};
 ghost use Rattle.forest_model.specs.Execute.{fetched};
 ghost use Rattle.forest_model.specs.Memory.{data_address};
 ghost use Rattle.vm_cell.specs.Acts.{ReachesRam};
-ghost use Rattle.vm_cell.specs.Kept.{Comes, Forgets, ForgetsStored, Keeps, slot_of};
+ghost use Rattle.forest_model.specs.Ports.{is_within};
+ghost use Rattle.vm_cell.specs.Kept.{Comes, ComesAside, IsAside, Forgets, ForgetsStored, Keeps, slot_of};
 
 use super::Hart;
 use super::access::Reach;
 use super::slot::{NOWHERE, Slot};
+use console_port::registers::CONSOLE_SIZE;
+use forest_model::port_map::CONSOLE_BASE;
 use rv_decode::{Group, Instr};
 
 impl Hart {
@@ -60,6 +63,33 @@ impl Hart {
         Some(instr)
     }
 
+    /// Whether the coming step leaves RAM as it is, and which pages are here. It may do so where the answer is no.
+    #[inline(always)]
+    pub fn leaves_ram(&self, slots: &mut [Slot], epoch: u32) -> bool
+        requires some { 0 < length slots.old }
+        requires keeps { Keeps self.now epoch slots.old }
+        ensures told { IsTrue result → ComesAside self.now }
+        ensures keeps { Keeps self.now epoch slots.new }
+        ensures same_length { length slots.new ≡ length slots.old }
+    {
+        match self.coming(slots, epoch) {
+            Some(instr) => self.is_aside(instr),
+            None => false,
+        }
+    }
+
+    /// Whether an instruction is an access to a CSR or a store to the console.
+    #[inline(always)]
+    fn is_aside(&self, instr: Instr) -> bool
+        ensures { IsTrue result → IsAside (group_of instr.kind) instr self.now.state }
+    {
+        match instr.kind().group() {
+            Group::Csr => true,
+            Group::Store => is_of_console(self.data_address(instr)),
+            _ => false,
+        }
+    }
+
     /// Forgets what is kept of the word that an instruction stores to, if it is a store.
     #[inline(always)]
     pub(super) fn forget_stored(&self, slots: &mut [Slot], instr: Instr)
@@ -72,6 +102,14 @@ impl Hart {
         };
         forget(slots, self.data_address(instr));
     }
+}
+
+/// Whether an address is one of the console.
+#[inline(always)]
+fn is_of_console(address: u32) -> bool
+    ensures { result ≡ is_within CONSOLE_BASE CONSOLE_SIZE address }
+{
+    CONSOLE_BASE <= address && address < CONSOLE_BASE + CONSOLE_SIZE
 }
 
 /// Forgets what is kept of the word that has the byte at an address.

@@ -4,12 +4,9 @@ use Rattle.vm_cell.specs.Keyed.{KeyedMachine, hart_in, machine_of}
 use Rattle.vm_cell.specs.Steps.{IsRun}
 use Rattle.vm_cell.proofs.vm.Vm.make_plain.Goals as goal
 
-pub overflow_cast-self-inside : goal.overflow_cast-self-inside
-overflow_cast-self-inside c = omega (arith, c.self.invariant.within, c.self.invariant.most)
-
 pub make_plain-made-requires-clause-keeps : goal.make_plain-made-requires-clause-keeps
 make_plain-made-requires-clause-keeps c =
-    subst (λ (v : KeyedMachine). Keeps (hart_in v) v.machine.steps c.args.slots.now) (sym c.self.view_is) c.requires.keeps
+    subst (λ (v : KeyedMachine). Keeps (hart_in v) c.args.epoch c.args.slots.now) (sym c.self.view_is) c.requires.keeps
 
 pub returns-clause-run : goal.returns-clause-run
 returns-clause-run c =
@@ -22,7 +19,3 @@ returns-clause-run c =
     subst (λ v. IsRun v (machine_of c.make_plain-made.new.self (steps + made) limit c.self.inside.ending) made) c.self.view_is
     (subst (λ e. IsRun (machine_of hart steps limit e) (machine_of c.make_plain-made.new.self (steps + made) limit e) made) (sym live)
     (c.make_plain-made.ensures.made steps limit below))
-
-pub returns-clause-keeps : goal.returns-clause-keeps
-returns-clause-keeps c =
-    subst (λ (v : KeyedMachine). Keeps c.make_plain-made.new.self v.machine.steps c.make_plain-made.new.slots) c.self.view_is c.make_plain-made.ensures.keeps
