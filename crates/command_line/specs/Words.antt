@@ -1,11 +1,11 @@
 -- What the words of a command line mean, by the matches of the parser `clap`.
-use Rattle.std.specs.Prelude.{ℕ, ◌^◌, ◌&&◌, true, nat_le, nat_lt, if◌then◌else◌, List, [], ◌∷◌, length, map, codes, Option, Some, None, option_map, string_bytes, String}
+use Rattle.std.specs.Prelude.{ℕ, ◌^◌, ◌&&◌, true, nat_le, nat_lt, if◌then◌else◌, List, [], ◌∷◌, length, map, codes, Option, Some, None, string_bytes, String}
 use Rattle.std.specs.Str.{all_ascii_digits, bytes_eq}
 use Rattle.std.specs.Str.Parse.{digits_value, without_leading_plus}
 use Rattle.std.specs.declared.alloc.Global.{Global}
 use Rattle.clap.specs.Words.{App, Kinds, Row, Rule, fault_of, first_of, new_app, new_rule, subcommand_of, with_rule, with_subcommand}
 use Rattle.elf_load.specs.declared.image.TheConstants.{MIN_PAGES, MAX_PAGES}
-use Rattle.command_line.specs.declared.words.TheConstants.{DEFAULT_PAGES, LEAST_LIMIT, MOST_LIMIT, DEFAULT_LIMIT, MOST_CLONES, DEFAULT_CLONES}
+use Rattle.command_line.specs.declared.words.TheConstants.{DEFAULT_PAGES, LEAST_LIMIT, MOST_LIMIT, DEFAULT_LIMIT, MOST_CLONES, DEFAULT_CLONES, DEFAULT_SEED, MOST_AHEAD, DEFAULT_AHEAD}
 
 -- what a guest is made of and what it may do: the names of its image, of its disk and of its input, its pages of RAM,
 -- the most steps of a machine, and how many clones its family may have
@@ -17,9 +17,14 @@ pub record GuestValues : Type 0 where
   pub limit : ℕ
   pub clones : ℕ
 
+-- how the pages of clones come to them: the seed of the wires, and how many pages are asked for beside one that is wanted
+pub record WireValues : Type 0 where
+  pub seed : ℕ
+  pub ahead : ℕ
+
 pub data Command : Type 0 where
-  -- the guest's family is run to its end
-  run : GuestValues → Command
+  -- the guest's family is run to its end, over wires
+  run : GuestValues → WireValues → Command
   -- it is driven by the script of this name
   drive : GuestValues → List ℕ → Command
 
@@ -41,9 +46,13 @@ abbrev pub with_numbers : App → App
 with_numbers app =
     with_rule (with_rule (with_rule app (option_rule (codes "ram"))) (option_rule (codes "limit"))) (option_rule (codes "clones"))
 
+-- `[--wire SEED] [--ahead N]`
+abbrev pub with_wire : App → App
+with_wire app = with_rule (with_rule app (option_rule (codes "wire"))) (option_rule (codes "ahead"))
+
 -- `run IMAGE ..`
 abbrev pub run_app : App
-run_app = with_numbers (with_files (with_rule (new_app (codes "run")) (argument_rule (codes "IMAGE"))))
+run_app = with_wire (with_numbers (with_files (with_rule (new_app (codes "run")) (argument_rule (codes "IMAGE")))))
 
 -- `drive IMAGE SCRIPT ..`
 abbrev pub drive_app : App
@@ -99,13 +108,28 @@ guest_of rows =
     (value_of LEAST_LIMIT MOST_LIMIT DEFAULT_LIMIT (first_of (codes "limit") rows))
     (value_of 0 MOST_CLONES DEFAULT_CLONES (first_of (codes "clones") rows))
 
+abbrev pub wire_with : Option ℕ → Option ℕ → Option WireValues
+wire_with (Some seed) (Some ahead) = Some (record { seed = seed; ahead = ahead })
+wire_with _ _ = None
+
+-- a seed is any number that reads
+abbrev pub wire_of : List Row → Option WireValues
+wire_of rows =
+    wire_with
+    (value_of 0 4294967295 DEFAULT_SEED (first_of (codes "wire") rows))
+    (value_of 0 MOST_AHEAD DEFAULT_AHEAD (first_of (codes "ahead") rows))
+
+abbrev pub run_with : Option GuestValues → Option WireValues → Option Command
+run_with (Some guest) (Some wire) = Some (run guest wire)
+run_with _ _ = None
+
 abbrev pub drive_with : Option GuestValues → Option (List ℕ) → Option Command
 drive_with (Some guest) (Some script) = Some (drive guest script)
 drive_with _ _ = None
 
 abbrev pub command_by : List ℕ → List Row → Option Command
 command_by name rows =
-    if bytes_eq name (codes "run") then option_map run (guest_of rows)
+    if bytes_eq name (codes "run") then run_with (guest_of rows) (wire_of rows)
     else if bytes_eq name (codes "drive") then drive_with (guest_of rows) (first_of (codes "SCRIPT") rows)
     else None
 

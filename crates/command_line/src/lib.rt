@@ -4,6 +4,6 @@
 mod words;
 
 pub use words::{
-    Command, DEFAULT_CLONES, DEFAULT_LIMIT, DEFAULT_PAGES, GuestWords, LEAST_LIMIT, MOST_CLONES,
-    MOST_LIMIT, command_asked,
+    Command, DEFAULT_AHEAD, DEFAULT_CLONES, DEFAULT_LIMIT, DEFAULT_PAGES, DEFAULT_SEED, GuestWords,
+    LEAST_LIMIT, MOST_AHEAD, MOST_CLONES, MOST_LIMIT, WireWords, command_asked,
 };

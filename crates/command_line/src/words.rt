@@ -4,7 +4,7 @@ ghost use Rattle.std.specs.Prelude.{◌≡◌, ◌≤◌, false, codes, IfOk, If
 ghost use Rattle.clap.specs.declared.Command.TheViews.{out-Command};
 ghost use Rattle.clap.specs.Words.{app_of, first_of, found_of, rows_of, subcommand_rows_of, with_rule};
 ghost use Rattle.command_line.specs.Commands.{meaning};
-ghost use Rattle.command_line.specs.Words.{argument_rule, command_of, drive_app, drive_with, guest_of, meant, number_of, option_rule, run, run_app, snow_app, texts, value_of, with_files, with_numbers};
+ghost use Rattle.command_line.specs.Words.{argument_rule, command_of, drive_app, drive_with, guest_of, meant, number_of, option_rule, run_app, run_with, snow_app, texts, value_of, wire_of, with_files, with_numbers, with_wire};
 
 use clap::error::ErrorKind;
 use clap::{Arg, ArgMatches};
@@ -30,11 +30,20 @@ pub const MOST_CLONES: u32 = 4096;
 /// The clones of a family where `--clones` is not given.
 pub const DEFAULT_CLONES: u32 = 0;
 
+/// The most pages that `--ahead` may ask for beside one that is wanted.
+pub const MOST_AHEAD: u32 = 16;
+
+/// The pages that are asked for beside one that is wanted where `--ahead` is not given.
+pub const DEFAULT_AHEAD: u32 = 0;
+
+/// The seed of the wires where `--wire` is not given.
+pub const DEFAULT_SEED: u32 = 0;
+
 /// What the words ask for.
 #[derive(Drop)]
 pub enum Command<'a> {
     /// `run IMAGE`: the family of a guest is run to its end.
-    Run(GuestWords<'a>),
+    Run(GuestWords<'a>, WireWords),
     /// `drive IMAGE SCRIPT`: it is driven by the script of this name.
     Drive(GuestWords<'a>, &'a str),
 }
@@ -112,6 +121,42 @@ impl GuestWords<'_> {
     }
 }
 
+/// What the words say of how the pages of clones come to them.
+#[derive(Drop)]
+pub struct WireWords {
+    seed: u32,
+    ahead: u32,
+}
+
+impl Model for WireWords {
+    ghost use Rattle.std.specs.Prelude.{◌≤◌};
+    ghost use Rattle.command_line.specs.declared.words.TheConstants.{MOST_AHEAD};
+    ghost use Rattle.command_line.specs.Words.{WireValues};
+
+    ghost Value = { WireValues };
+
+    ghost view = { λ w. record { seed = w.seed; ahead = w.ahead } };
+
+    ghost invariant = { λ w. w.ahead ≤ MOST_AHEAD };
+}
+
+impl WireWords {
+    /// The seed of the wires.
+    pub fn seed(&self) -> u32
+        ensures { result ≡ self.now.seed }
+    {
+        self.seed
+    }
+
+    /// How many pages are asked for beside one that is wanted.
+    pub fn ahead(&self) -> u32
+        ensures value { result ≡ self.now.ahead }
+        ensures most { result ≤ MOST_AHEAD }
+    {
+        self.ahead
+    }
+}
+
 /// What the words ask for, or `None` exactly where they have no meaning.
 pub fn command_asked(alloc: Global, words: &[String]) -> Result<Option<Command<'_>>, AllocError>
     ensures { IfOk result (λ asked. option_map meaning asked ≡ meant (texts words.now)) }
@@ -140,7 +185,8 @@ fn run_command<'a>(alloc: Global) -> Result<clap::Command<'a>, AllocError>
     ensures local { IfOk result (λ command. (out-Command command).has_globals ≡ false) }
 {
     let command = with_argument(alloc, clap::Command::new(alloc, "run"), "IMAGE")?;
-    numbers_added(alloc, files_added(alloc, command)?)
+    let command = numbers_added(alloc, files_added(alloc, command)?)?;
+    wire_added(alloc, command)
 }
 
 fn drive_command<'a>(alloc: Global) -> Result<clap::Command<'a>, AllocError>
@@ -175,6 +221,18 @@ fn numbers_added<'a>(
     let command = with_option(alloc, command, "ram")?;
     let command = with_option(alloc, command, "limit")?;
     with_option(alloc, command, "clones")
+}
+
+/// A command with the options that say how pages come.
+fn wire_added<'a>(
+    alloc: Global,
+    command: clap::Command<'a>,
+) -> Result<clap::Command<'a>, AllocError>
+    ensures app { IfOk result (λ added. app_of added ≡ with_wire (app_of command.entry)) }
+    ensures local { IfOk result (λ added. (out-Command command.entry).has_globals ≡ false → (out-Command added).has_globals ≡ false) }
+{
+    let command = with_option(alloc, command, "wire")?;
+    with_option(alloc, command, "ahead")
 }
 
 /// A command with an argument that has to be given.
@@ -214,9 +272,11 @@ fn command_found<'a>(matches: &ArgMatches<'a>) -> Option<Command<'a>>
 
 /// The values of `run`.
 fn run_of<'a>(found: &ArgMatches<'a>) -> Option<Command<'a>>
-    ensures { option_map meaning result ≡ option_map run (guest_of (rows_of (found_of found.now))) }
+    ensures { option_map meaning result ≡ run_with (guest_of (rows_of (found_of found.now))) (wire_of (rows_of (found_of found.now))) }
 {
-    Some(Command::Run(guest_of(found)?))
+    let guest = guest_of(found)?;
+    let wire = wire_of(found)?;
+    Some(Command::Run(guest, wire))
 }
 
 /// The values of `drive`.
@@ -246,6 +306,15 @@ fn guest_of<'a>(found: &ArgMatches<'a>) -> Option<GuestWords<'a>>
         limit: u64::from(limit),
         clones,
     })
+}
+
+/// What is said of how pages come.
+fn wire_of(found: &ArgMatches<'_>) -> Option<WireWords>
+    ensures { result ≡ wire_of (rows_of (found_of found.now)) }
+{
+    let seed = value_of(found, "wire", 0, u32::MAX, DEFAULT_SEED)?;
+    let ahead = value_of(found, "ahead", 0, MOST_AHEAD, DEFAULT_AHEAD)?;
+    Some(WireWords { seed, ahead })
 }
 
 /// The value of an option: a number within its limits, or the default where the option is not given.

@@ -5,8 +5,8 @@ use Rattle.std.proofs.lemmas.Option.{slice_get-get_or, slice_get_past}
 use Rattle.std.specs.declared.alloc.AllocError.{AllocError}
 use Rattle.image_depot.specs.Key.{Shelves, Key, number_of}
 use Rattle.image_depot.specs.Reply.{Reply}
-use Rattle.guest_mem.specs.declared.answers.Arrived.{Arrived}
-use Rattle.guest_mem.specs.declared.answers.Arrived.TheVariants.{Got, Had}
+use Rattle.image_depot.specs.declared.arrived.Arrived.{Arrived}
+use Rattle.image_depot.specs.declared.arrived.Arrived.TheVariants.{Got, Had}
 use Rattle.guest_mem.specs.Ram.{IsOfImage}
 use Rattle.forest_tree.specs.Tree.{Tree, node, Path, machine, subtree}
 use Rattle.forest_tree.specs.Settle.{settle_all}

@@ -2,8 +2,8 @@
 use Rattle.std.specs.Prelude.{ℕ, zero, suc, ◌/◌, ◌%◌, nat_lt, if◌then◌else◌, List, [], ◌∷◌, ◌++◌, codes, length, replicate, slice_get, slice_index, Option, Some, None, option_and_then}
 use Rattle.std.specs.Fmt.{decimal}
 use Rattle.std.specs.List.{flat_map}
-use Rattle.guest_mem.specs.declared.answers.Arrived.{Arrived}
-use Rattle.guest_mem.specs.declared.answers.Arrived.TheVariants.{Got, Had}
+use Rattle.image_depot.specs.declared.arrived.Arrived.{Arrived}
+use Rattle.image_depot.specs.declared.arrived.Arrived.TheVariants.{Got, Had}
 use Rattle.forest_tree.specs.Tree.{Tree, machine, Path, subtree}
 use Rattle.forest_tree.specs.Settle.{settle_all}
 use Rattle.forest_tree.specs.Projection.{map_tree}

@@ -3,7 +3,7 @@
 use Rattle.std.specs.Prelude.{◌≡◌, true, false, ℕ, ◌<◌, ◌≤◌, Option, Some, None, IsSome, IfSome, IsSomeAnd, slice_get, Result, Ok, Err, replicate}
 use Rattle.std.specs.declared.alloc.AllocError.{AllocError}
 use Rattle.image_depot.specs.Key.{Shelves}
-use Rattle.guest_mem.specs.declared.answers.Arrived.{Arrived}
+use Rattle.image_depot.specs.declared.arrived.Arrived.{Arrived}
 use Rattle.fork_port.specs.declared.ending.Ending.{Ending}
 use Rattle.fork_port.specs.declared.ending.Ending.TheVariants.{Exit, Limit}
 use Rattle.forest_tree.specs.Tree.{Tree, node, Path, machine, subtree}

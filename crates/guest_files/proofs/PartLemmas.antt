@@ -10,7 +10,7 @@ use Rattle.io_edge.specs.Asked.{Asked, asked_after}
 use Rattle.command_line.specs.Words.{GuestValues}
 use Rattle.guest_files.specs.declared.stop.TheConstants.{IMAGE_MOST, DISK_MOST, IMAGE_LOAD, DISK_LOAD, INPUT_LOAD}
 use Rattle.guest_files.specs.declared.stop.Stop.{Stop}
-use Rattle.guest_files.specs.declared.stop.Stop.TheVariants.{ReadFault, ImageRefused, DataRefused, ScriptRefused, WriteFault, Memory}
+use Rattle.guest_files.specs.declared.stop.Stop.TheVariants.{ReadFault, ImageRefused, DataRefused, ScriptRefused, WriteFault, Wire, Memory}
 use Rattle.guest_files.specs.Reads.{Files, Refusal, no_meaning, no_file, image_too_long, image_refused, disk_too_long, disk_not_sectors, input_too_long, script_too_long, script_refused, and_then, file_read, option_read, image_read, disk_read, input_read, guest_read, Guest, with_disk, with_image}
 use Rattle.guest_files.specs.Parts.{IsImageRefusal, IsDataRefusal, IsScriptRefusal, last_load_before, last_load, AreAsked, counted, IsFaultOf, Stops, Gives, Makes}
 
@@ -57,6 +57,7 @@ stops part whole P Q files read rest (ImageRefused number) later beyond to h = t
 stops part whole P Q files read rest (DataRefused number) later beyond to h = told-refused (IsDataRefusal number) files read rest h
 stops part whole P Q files read rest (ScriptRefused line kind) later beyond to h = told-refused (IsScriptRefusal line kind) files read rest h
 stops part whole P Q files read rest WriteFault later beyond to h = h
+stops part whole P Q files read rest Wire later beyond to h = h
 stops part whole P Q files read rest Memory later beyond to h = h
 
 -- where a part gives a value, the whole is what comes of it
@@ -78,6 +79,7 @@ more-faults final P Q told shows (Err (ImageRefused number)) to h = h
 more-faults final P Q told shows (Err (DataRefused number)) to h = h
 more-faults final P Q told shows (Err (ScriptRefused line kind)) to h = h
 more-faults final P Q told shows (Err WriteFault) to h = h
+more-faults final P Q told shows (Err Wire) to h = h
 more-faults final P Q told shows (Err Memory) to h = h
 
 -- the whole, over the files, where a part gave a value
@@ -103,6 +105,7 @@ makes final Q (Some told) r shows (Err (DataRefused number)) h = h
 makes final Q None r shows (Err (ScriptRefused line kind)) h = tt
 makes final Q (Some told) r shows (Err (ScriptRefused line kind)) h = h
 makes final Q files r shows (Err WriteFault) h = absurd h
+makes final Q files r shows (Err Wire) h = absurd h
 makes final Q files r shows (Err Memory) h = tt
 
 -- where such a part stops, the whole does
@@ -113,6 +116,7 @@ makes-not r rest (ImageRefused number) h = refused (IsImageRefusal number) r res
 makes-not r rest (DataRefused number) h = refused (IsDataRefusal number) r rest h
 makes-not r rest (ScriptRefused line kind) h = refused (IsScriptRefusal line kind) r rest h
 makes-not r rest WriteFault h = h
+makes-not r rest Wire h = h
 makes-not r rest Memory h = h
 
 -- ---- files

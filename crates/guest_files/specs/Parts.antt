@@ -4,7 +4,7 @@ use Rattle.io_edge.specs.Outside.{next_count}
 use Rattle.io_edge.specs.Asked.{Asked}
 use Rattle.guest_files.specs.declared.stop.TheConstants.{TOO_LONG, DISK_TOO_LONG, DISK_NOT_SECTORS, INPUT_TOO_LONG, SCRIPT_TOO_LONG, IMAGE_LOAD, DISK_LOAD, INPUT_LOAD, SCRIPT_LOAD}
 use Rattle.guest_files.specs.declared.stop.Stop.{Stop}
-use Rattle.guest_files.specs.declared.stop.Stop.TheVariants.{ReadFault, ImageRefused, DataRefused, ScriptRefused, WriteFault, Memory}
+use Rattle.guest_files.specs.declared.stop.Stop.TheVariants.{ReadFault, ImageRefused, DataRefused, ScriptRefused, WriteFault, Wire, Memory}
 use Rattle.command_line.specs.Words.{Command, GuestValues, run, drive}
 use Rattle.guest_files.specs.Reads.{Refusal, no_meaning, no_file, image_too_long, image_refused, disk_too_long, disk_not_sectors, input_too_long, script_too_long, script_refused}
 
@@ -46,7 +46,7 @@ IsGuestLoad values load =
 
 -- a command asks for it
 abbrev pub IsLoadOf : Command → ℕ → Type 0
-IsLoadOf (run values) load = IsGuestLoad values load
+IsLoadOf (run values wire) load = IsGuestLoad values load
 IsLoadOf (drive values script) load = IsGuestLoad values load ⊎ (load ≡ SCRIPT_LOAD)
 
 -- the load of a name, where it is given
@@ -60,7 +60,7 @@ guest_loads values = IMAGE_LOAD ∷ (load_if DISK_LOAD values.disk ++ load_if IN
 
 -- those that a command asks for
 abbrev pub loads_of : Command → List ℕ
-loads_of (run values) = guest_loads values
+loads_of (run values wire) = guest_loads values
 loads_of (drive values script) = guest_loads values ++ (SCRIPT_LOAD ∷ [])
 
 -- a count after these loads
@@ -82,7 +82,7 @@ pub record IsFaultOf (loads : List ℕ) (load : ℕ) (old new : Asked) : Type 0 
 
 -- the last load that a command may ask for
 abbrev pub final_load : Command → ℕ
-final_load (run values) = INPUT_LOAD
+final_load (run values wire) = INPUT_LOAD
 final_load (drive values script) = SCRIPT_LOAD
 
 -- the last load that is made before a refusal is known, where this is the last of all. What the files hold is looked at
@@ -117,6 +117,7 @@ Stops final had_fault told (ImageRefused number) = IfSome told (λ r. IsErrAnd r
 Stops final had_fault told (DataRefused number) = IfSome told (λ r. IsErrAnd r (IsDataRefusal number))
 Stops final had_fault told (ScriptRefused line kind) = IfSome told (λ r. IsErrAnd r (IsScriptRefusal line kind))
 Stops final had_fault told WriteFault = ⊥
+Stops final had_fault told Wire = ⊥
 Stops final had_fault told Memory = Unit {0}
 
 -- a part gives a value that shows what is told, or stops for a reason

@@ -52,6 +52,8 @@ pub enum Stop {
     ScriptRefused { line: u32, kind: u32 },
     /// The sink had a fault.
     WriteFault,
+    /// A wire gave no reply for too long.
+    Wire,
     /// Want of memory.
     Memory,
 }

@@ -1,10 +1,10 @@
 -- What loads, stores and arrivals answer.
 use Rattle.std.specs.Prelude.{◌≡◌, ℕ}
+use Rattle.image_depot.specs.declared.arrived.Arrived.{Arrived}
+use Rattle.image_depot.specs.declared.arrived.Arrived.TheVariants.{Got, Had}
 use Rattle.image_depot.specs.Reply.{Reply}
 use Rattle.guest_mem.specs.declared.answers.StoreError.{StoreError}
 use Rattle.guest_mem.specs.declared.answers.StoreError.TheVariants.{Absent, Memory}
-use Rattle.guest_mem.specs.declared.answers.Arrived.{Arrived}
-use Rattle.guest_mem.specs.declared.answers.Arrived.TheVariants.{Got, Had}
 use Rattle.guest_mem.specs.Ram.{Ram, IsHere, IsAbsent, IsOfImage, arrived}
 
 -- a store to a page is refused just where the page is absent. Memory is wanting only where it is here

@@ -9,8 +9,8 @@ use Rattle.page_frames.specs.declared.page.TheConstants.{PAGE_SIZE}
 use Rattle.page_frames.specs.declared.entry.Entry.{Entry}
 use Rattle.page_frames.specs.Tables.{paged, laid_over, own_pages, blank_pages}
 use Rattle.image_depot.specs.Image.{page_count, IsWhole}
-use Rattle.image_depot.specs.Key.{Shelves, Key, IsKeyOf, image_of, number_of}
-use Rattle.image_depot.specs.Reply.{Reply}
+use Rattle.image_depot.specs.Key.{Shelves, Key, IsKeyOf, image_of}
+pub use Rattle.image_depot.specs.Receiver.{HasAbsent, IsOfImage}
 
 pub record Ram : Type 0 where
   -- its bytes: an absent page reads as the image of the key has it
@@ -75,11 +75,6 @@ HasEveryPage ram = All (λ is_here. IsTrue is_here) ram.here
 abbrev pub fetched : Ram → Ram
 fetched ram = record ram { here = replicate (length ram.here) true; key = None }
 
--- the reply carries a page of the image that has the absent pages
-abbrev pub IsOfImage : Option Key → Reply → Type 0
-IsOfImage (Some key) reply = number_of key ≡ number_of reply.key
-IsOfImage None reply = ⊥
-
 -- the memory with zeros in the blank pages
 unfoldable pub cleared : List Bool → List ℕ → List ℕ
 cleared blank memory = paged (length blank) (λ page at. if slice_index_or blank page false then 0 else slice_index memory (PAGE_SIZE * page + at))
@@ -91,11 +86,6 @@ cloned key blank = record { reads = cleared blank (image_of key).contents; here 
 -- blank pages read as zeros
 abbrev pub AreZero : List Bool → List ℕ → Type 0
 AreZero blank reads = (at : ℕ) → slice_get blank (at / PAGE_SIZE) ≡ Some true → slice_index reads at ≡ 0
-
--- every page that is not here is one of the image
-abbrev pub HasAbsent : Option Key → List Bool → Type 0
-HasAbsent (Some key) here = page_count (image_of key) ≡ length here
-HasAbsent None here = (page : ℕ) → slice_get here page ≡ Some false → ⊥
 
 -- what holds of the RAM of every guest
 pub record IsRam (ram : Ram) : Type 0 where

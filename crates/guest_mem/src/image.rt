@@ -8,12 +8,11 @@ ghost use Rattle.image_depot.specs.Key.{image_of, IsKeyOf};
 ghost use Rattle.guest_mem.specs.Ram.{IsRamOf, HasEveryPage, cloned, fetched};
 ghost use Rattle.guest_mem.specs.Answers.{Arrives};
 
-use crate::answers::Arrived;
 use crate::memory::GuestMem;
 use crate::table::fetched_table;
 use console_port::Input;
 use cow_disk::FrozenDisk;
-use image_depot::{Depot, Frozen, ImageKey, Parcel};
+use image_depot::{Arrived, Depot, Frozen, ImageKey, Parcel};
 use page_frames::{Entry, Page};
 use shared_leaves::{SharedList, Steps};
 use std::alloc::{AllocError, Global};

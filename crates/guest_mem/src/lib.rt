@@ -8,5 +8,6 @@ pub mod laws;
 mod memory;
 mod table;
 
-pub use answers::{Absent, Arrived, StoreError};
+pub use answers::{Absent, StoreError};
+pub use image_depot::Arrived;
 pub use memory::GuestMem;

@@ -1,3 +1,4 @@
 pub mod Image
 pub mod Key
+pub mod Receiver
 pub mod Reply

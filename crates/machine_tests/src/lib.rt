@@ -17,4 +17,6 @@ mod reports;
 #[cfg(test)]
 mod scripts;
 #[cfg(test)]
+mod told;
+#[cfg(test)]
 mod worlds;

@@ -1,16 +1,21 @@
 -- What the parts of a command tell of the whole.
-use Rattle.std.proofs.Common.{◌≡◌, ℕ, ◌≤◌, Bool, true, false, cond, List, Option, Result, Ok, Err, subst, arith}
+use Rattle.std.proofs.Common.{◌≡◌, ℕ, ◌<◌, ◌≤◌, inl, Bool, true, false, cond, List, [], ◌∷◌, length, set, Option, Some, None, Result, Ok, Err, subst, arith}
 use Rattle.std.specs.Option.{option_map}
+use Rattle.std.specs.Result.{IsOkAnd}
 use Rattle.elf_load.specs.Image.{Image}
 use Rattle.elf_load.specs.Elf.{loaded}
 use Rattle.drive_script.specs.Script.{Line, script}
 use Rattle.drive_script.specs.declared.script.TheConstants.{MAX_SCRIPT}
-use Rattle.command_line.specs.Words.{GuestValues}
+use Rattle.command_line.specs.Words.{GuestValues, WireValues, run}
+use Rattle.wire_fates.specs.declared.fate.TheConstants.{LONGEST_STREAK}
 use Rattle.guest_files.specs.declared.stop.TheConstants.{INPUT_LOAD, SCRIPT_LOAD}
 use Rattle.guest_files.specs.declared.stop.Stop.{Stop}
-use Rattle.guest_files.specs.Reads.{Files, Guest, disk_not_sectors, script_too_long, guest_read}
-use Rattle.guest_files.specs.Parts.{last_load, Stops, Gives, Makes}
-use Rattle.guest_files.proofs.PartLemmas.{Gave, after, continues, file-load, makes, stops}
+use Rattle.guest_files.specs.declared.stop.Stop.TheVariants.{ReadFault, ImageRefused, DataRefused, ScriptRefused, WriteFault, Wire, Memory}
+use Rattle.guest_files.specs.Reads.{Files, Guest, Refusal, disk_not_sectors, script_too_long, guest_read}
+use Rattle.guest_files.specs.Parts.{IsGuestLoad, last_load, Stops, Gives, Makes}
+use Rattle.snow_commands.specs.Lost.{IsOneLost}
+use Rattle.guest_files.proofs.PartLemmas.{Gave, after, continues, file-load, given, makes, stops}
+use Rattle.snow_commands.specs.Writes.{GivesOver, IsTold, MakesOver, Writes}
 use Rattle.snow_commands.specs.Text.{known_family, script_read, image_from, guest_image, run_with, run_text, lines_of, told_by, drive_with, drive_from, drive_text}
 
 -- ---- the last load before what comes of the files
@@ -61,6 +66,55 @@ unfolding run_text
 run-gives values files P guest shows result gave h =
     continues INPUT_LOAD P P files (guest_read values) (λ told. run_with values) guest shows result gave (λ load was. was)
     (makes INPUT_LOAD P files (run_with values guest) shows result h)
+
+-- a reason to stop that is no lost wire
+pub over-stops : {A B : Type 0} (lost : Type 0) (final : ℕ) (P : ℕ → Type 0) (told : Option (Result B Refusal)) (shows : A → B → Type 0) (stop : Stop)
+    → Stops final P told stop → GivesOver lost final P told shows (Err stop)
+over-stops lost final P told shows (ReadFault load) h = h
+over-stops lost final P told shows (ImageRefused number) h = h
+over-stops lost final P told shows (DataRefused number) h = h
+over-stops lost final P told shows (ScriptRefused line kind) h = h
+over-stops lost final P told shows WriteFault h = h
+over-stops lost final P told shows Wire h = absurd h
+over-stops lost final P told shows Memory h = h
+
+told-on : (values : GuestValues) (files : Option Files) (guest : Guest) → Gave (guest_read values) files guest → IsTold (Some (run_with values guest))
+    → IsTold (option_map (run_text values) files)
+unfolding run_text
+told-on values None guest gave h = tt
+told-on values (Some told) guest gave h =
+    given (λ x. guest ≡ x) (λ r. IsOkAnd r (λ bytes. Unit {0})) (guest_read values told) (run_with values) gave
+    (λ x same. subst (λ z. IsOkAnd (run_with values z) (λ bytes. Unit {0})) same h)
+
+pub over-gives : {V : Type 0} (lost : Type 0) (values : GuestValues) (files : Option Files) (P : ℕ → Type 0) (guest : Guest) (shows : V → List ℕ → Type 0)
+    (result : Result V Stop) → Gave (guest_read values) files guest → MakesOver lost (run_with values guest) shows result
+    → GivesOver lost INPUT_LOAD P (option_map (run_text values) files) shows result
+over-gives lost values files P guest shows (Ok value) gave h = run-gives values files P guest shows (Ok value) gave h
+over-gives lost values files P guest shows (Err (ReadFault load)) gave h = absurd h.0
+over-gives lost values files P guest shows (Err (ImageRefused number)) gave h = run-gives values files P guest shows (Err (ImageRefused number)) gave h
+over-gives lost values files P guest shows (Err (DataRefused number)) gave h = run-gives values files P guest shows (Err (DataRefused number)) gave h
+over-gives lost values files P guest shows (Err (ScriptRefused line kind)) gave h = run-gives values files P guest shows (Err (ScriptRefused line kind)) gave h
+over-gives lost values files P guest shows (Err WriteFault) gave h = absurd h
+over-gives lost values files P guest shows (Err Wire) gave h = (h.0, told-on values files guest gave h.1)
+over-gives lost values files P guest shows (Err Memory) gave h = tt
+
+-- how a run that stopped has ended
+pub run-writes : {V : Type 0} (lost other : Type 0) (values : GuestValues) (over : WireValues) (files : Option Files) (fault : ℕ → Type 0) (write_fault : Type 0)
+    (old new : Option (List ℕ)) (shows : V → List ℕ → Type 0) (stop : Stop) → (lost → other)
+    → GivesOver lost INPUT_LOAD (λ load. IsGuestLoad values load × fault load) (option_map (run_text values) files) shows (Err stop)
+    → Writes (run values over) files fault write_fault other old new (Err stop)
+run-writes lost other values over files fault write_fault old new shows (ReadFault load) to h = h
+run-writes lost other values over files fault write_fault old new shows (ImageRefused number) to h = h
+run-writes lost other values over files fault write_fault old new shows (DataRefused number) to h = h
+run-writes lost other values over files fault write_fault old new shows (ScriptRefused line kind) to h = h
+run-writes lost other values over files fault write_fault old new shows WriteFault to h = absurd h
+run-writes lost other values over files fault write_fault old new shows Wire to h = (to h.0, h.1)
+run-writes lost other values over files fault write_fault old new shows Memory to h = h
+
+pub first-lost : {W : Type 0} (streak : W → ℕ) (wires : List W) (wire : W) → 0 < length wires → streak wire ≡ LONGEST_STREAK
+    → IsOneLost streak (set wires 0 wire)
+first-lost streak [] wire some lost = absurd (omega (arith, some))
+first-lost streak (w ∷ wires) wire some lost = inl lost
 
 -- ---- `drive`
 

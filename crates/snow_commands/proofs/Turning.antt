@@ -63,6 +63,12 @@ out-still depot w f a b same there h =
     (subst (λ n. IsSomeAnd (subtree n f.tree) (IsOutAs a)) (sym same.name) there)
     (subst (λ o. IfSome o (IsOutAs b)) here h.handed))
 
+-- in a world that stands for the same
+pub still-in : (depot : Shelves) (old new : World) (f : Forest) (lease : Lent) → StillHandedOut depot old f lease
+    → ((d : Shelves) (g : Forest) → StandsFor d old g → StandsFor d new g) → StillHandedOut depot new f lease
+still-in depot old new f lease h stands =
+    record { flags = h.flags; stands = stands depot (with_flags lease.name h.flags f) h.stands; handed = h.handed }
+
 gone-not : (P : Tree (Spot Paged) → Type 0) (t : Option (Tree (Spot Paged))) → t ≡ None → IsSomeAnd t P → ⊥
 gone-not P None gone h = h
 gone-not P (Some t) gone h = cc
@@ -224,3 +230,15 @@ pub family-told : (values : GuestValues) (guest : Guest) (depot : Shelves) (w : 
 unfolding map_tree
 family-told values guest depot w (Ok made) told has ran = ran (known_family values guest made) has
 family-told values guest depot w (Err refusal) told has ran = absurd has
+
+-- there is something to tell of it
+pub family-there : (values : GuestValues) (guest : Guest) (depot : Shelves) (w : World) (image : Result Image Refusal) → IsOkAnd image (IsBooted depot values guest w)
+    → IsOkAnd (and_then (λ made. Ok (report (finish (family_of values guest made)))) image) (λ text. Unit {0})
+family-there values guest depot w (Ok made) has = tt
+family-there values guest depot w (Err refusal) has = absurd has
+
+-- it has a family
+pub family-of : (values : GuestValues) (guest : Guest) (depot : Shelves) (w : World) (image : Result Image Refusal) → IsOkAnd image (IsBooted depot values guest w)
+    → (t : Tree Paged) × HasFamily depot w t
+family-of values guest depot w (Ok made) has = (known_family values guest made, has)
+family-of values guest depot w (Err refusal) has = absurd has

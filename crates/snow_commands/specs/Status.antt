@@ -55,19 +55,20 @@ abbrev pub IsFaultCode : Option Command → Result (List ℕ) Refusal → Status
 IsFaultCode command text s read_fault = (s.code ≡ 1) × IsLoadReached command text s.first × read_fault
 
 -- the code that the text, or the lack of one, calls for. A fault of the shelf may come before it, a
--- fault of the sink after it, and want of memory at any time
-abbrev pub CallsFor : Option Command → Result (List ℕ) Refusal → Status → Type 0 → Type 0 → Type 0
-CallsFor command (Ok bytes) s read_fault write_fault =
-    (s.code ≡ 0) ⊎ ((s.code ≡ 6) ⊎ (IsFaultCode command (Ok bytes) s read_fault ⊎ ((s.code ≡ 5) × write_fault)))
-CallsFor command (Err refusal) s read_fault write_fault =
+-- fault of the sink after it, and want of memory at any time; and a family may lose its wire
+abbrev pub CallsFor : Option Command → Result (List ℕ) Refusal → Status → Type 0 → Type 0 → Type 0 → Type 0
+CallsFor command (Ok bytes) s read_fault write_fault lost =
+    (s.code ≡ 0) ⊎ ((s.code ≡ 6) ⊎ (IsFaultCode command (Ok bytes) s read_fault ⊎ (((s.code ≡ 5) × write_fault) ⊎ ((s.code ≡ 7) × lost))))
+CallsFor command (Err refusal) s read_fault write_fault lost =
     IsRefusalCode refusal s ⊎ ((s.code ≡ 6) ⊎ IsFaultCode command (Err refusal) s read_fault)
 
-abbrev pub Completes : Status → Option Files → List (List ℕ) → Type 0 → Type 0 → Type 0
-Completes s files words read_fault write_fault = IfSome files (λ told. CallsFor (meant words) (text words told) s read_fault write_fault)
+abbrev pub Completes : Status → Option Files → List (List ℕ) → Type 0 → Type 0 → Type 0 → Type 0
+Completes s files words read_fault write_fault lost =
+    IfSome files (λ told. CallsFor (meant words) (text words told) s read_fault write_fault lost)
 
 -- the codes, each with its numbers: codes 1, 3 and 4 have one, and code 8 has two
 abbrev pub IsStatus : Status → Type 0
 IsStatus s =
     (s.code ≡ 8)
     ⊎ ((((s.code ≡ 1) ⊎ ((s.code ≡ 3) ⊎ (s.code ≡ 4))) × (s.second ≡ 0))
-    ⊎ (((s.code ≡ 0) ⊎ ((s.code ≡ 2) ⊎ ((s.code ≡ 5) ⊎ (s.code ≡ 6)))) × (s.first ≡ 0) × (s.second ≡ 0)))
+    ⊎ (((s.code ≡ 0) ⊎ ((s.code ≡ 2) ⊎ ((s.code ≡ 5) ⊎ ((s.code ≡ 6) ⊎ (s.code ≡ 7))))) × (s.first ≡ 0) × (s.second ≡ 0)))

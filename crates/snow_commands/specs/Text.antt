@@ -80,7 +80,7 @@ drive_text values name files = and_then (drive_from values name files) (guest_re
 
 abbrev pub command_text : Option Command → Files → Result (List ℕ) Refusal
 command_text None files = Err no_meaning
-command_text (Some (run values)) files = run_text values files
+command_text (Some (run values over)) files = run_text values files
 command_text (Some (drive values name)) files = drive_text values name files
 
 -- the text that these words write over these files

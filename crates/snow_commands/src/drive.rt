@@ -28,7 +28,7 @@ pub fn drive_and_write<R: AllocGlobal + Wait, S: Shelf, K: Sink>(
 ) -> Result<(), Stop>
     ensures writes { Writes (drive guest.now script.now) (S.files shelf.old)
         (λ load. HasRisen (S.faults shelf.old) (S.faults shelf.new) × IsFaultOf (loads_of (drive guest.now script.now)) load (S.asked shelf.old) (S.asked shelf.new))
-        (HasRisen (K.faults sink.old) (K.faults sink.new))
+        (HasRisen (K.faults sink.old) (K.faults sink.new)) ⊥
         (K.gone sink.old) (K.gone sink.new) result }
     ensures silent { IsSilent result (sink.new ≡ sink.old) }
 {

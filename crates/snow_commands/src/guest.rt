@@ -1,10 +1,11 @@
 //! The machine of a guest whose files are read is booted.
 
-ghost use Rattle.std.specs.Prelude.{◌≡◌, ◌≤◌, length, IfOk};
+ghost use Rattle.std.specs.Prelude.{◌≡◌, ◌≤◌, [], length, IfOk};
 ghost use Rattle.forest_model.specs.Paged.{paged_machines};
 ghost use Rattle.forest_tree.specs.Settle.{alone};
 ghost use Rattle.guest_files.specs.Parts.{Makes};
 ghost use Rattle.snow_commands.specs.Text.{IsBooted, guest_image, image_beside};
+ghost use Rattle.world_core.specs.Told.{told_of};
 ghost use Rattle.snow_commands.specs.Turned.{HasFamily, booted_paged};
 
 use command_line::{GuestWords, LEAST_LIMIT, MOST_CLONES, MOST_LIMIT};
@@ -26,7 +27,8 @@ pub fn boot(
     files: &GuestFiles,
     depot: &Depot,
 ) -> Result<World, Stop>
-    ensures { Makes (guest_image guest.now files.now) (IsBooted depot.now guest.now files.now) result }
+    ensures makes { Makes (guest_image guest.now files.now) (IsBooted depot.now guest.now files.now) result }
+    ensures told { IfOk result (λ world. told_of world ≡ []) }
 {
     match load_elf(alloc, files.image(), guest.pages()) {
         Ok(image) => boot_image(alloc, guest, files, &image, depot),
@@ -43,7 +45,8 @@ fn boot_image(
     image: &Loaded,
     depot: &Depot,
 ) -> Result<World, Stop>
-    ensures { Makes (image_beside files.now image.now) (IsBooted depot.now guest.now files.now) result }
+    ensures makes { Makes (image_beside files.now image.now) (IsBooted depot.now guest.now files.now) result }
+    ensures told { IfOk result (λ world. told_of world ≡ []) }
 {
     let disk = match Disk::from_bytes(alloc, files.disk()) {
         Ok(disk) => disk,
@@ -72,7 +75,8 @@ fn boot_machine(
     requires least { LEAST_LIMIT ≤ options.limit }
     requires most { options.limit ≤ MOST_LIMIT }
     requires clones { options.allot ≤ MOST_CLONES }
-    ensures { IfOk result (λ world. HasFamily depot.now world (alone paged_machines (booted_paged image.now disk input.now options))) }
+    ensures family { IfOk result (λ world. HasFamily depot.now world (alone paged_machines (booted_paged image.now disk input.now options))) }
+    ensures told { IfOk result (λ world. told_of world ≡ []) }
 {
     let vm = Vm::boot(alloc, image, disk, input, options)?;
     World::new(alloc, vm, depot)

@@ -5,6 +5,7 @@ mod drive;
 mod family;
 mod guest;
 mod program;
+mod replies;
 mod run;
 
-pub use program::{Status, snow};
+pub use program::{MOST_WIRES, Status, snow};

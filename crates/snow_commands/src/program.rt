@@ -1,10 +1,11 @@
 //! What the program does with its words.
 
-ghost use Rattle.std.specs.Prelude.{◌≡◌, ◌↔◌, None};
+ghost use Rattle.std.specs.Prelude.{◌≡◌, ◌↔◌, ◌<◌, ◌≤◌, None, vec_len};
 ghost use Rattle.io_edge.specs.Outside.{HasRisen};
 ghost use Rattle.command_line.specs.Commands.{meaning};
 ghost use Rattle.command_line.specs.Words.{meant, texts};
 ghost use Rattle.guest_files.specs.Parts.{IsDataRefusal, IsFaultOf, IsImageRefusal, IsScriptRefusal, loads_of};
+ghost use Rattle.snow_commands.specs.Lost.{IsLost, IsLostIn};
 ghost use Rattle.snow_commands.specs.Writes.{IsSilent, Writes};
 ghost use Rattle.snow_commands.specs.Status.{IsWritten, IsPrefixOut, IsRefused, IsFaultAsked, IsLoadAsked, IsReached, Completes, IsStatus};
 
@@ -15,13 +16,17 @@ use guest_files::Stop;
 use io_edge::{Shelf, Sink};
 use std::alloc::AllocError;
 use std::sync::Wait;
+use wire_fates::Wire;
+
+/// The most wires that `snow` takes.
+pub const MOST_WIRES: usize = 64;
 
 /// How a call of `snow` ended. `first` and `second` are 0 where the code gives them no meaning.
 #[derive(Clone, Copy, Debug, PartialEq)]
 pub struct Status {
     /// 0 done, 1 a file could not be read, 2 the words have no meaning, 3 the image is refused, 4 the
-    /// disk or the input is refused, 5 the text could not be written whole, 6 want of memory, 8 the
-    /// script is refused.
+    /// disk or the input is refused, 5 the text could not be written whole, 6 want of memory, 7 a
+    /// wire gave no reply for too long, 8 the script is refused.
     pub code: u8,
     /// Of code 1 which load failed: 1 the image, 2 the disk, 3 the input, 4 the script; of codes 3 and 4
     /// the number of the refusal; of code 8 the line that is refused, or 0 where the script is too long.
@@ -67,13 +72,18 @@ impl Status {
     }
 }
 
-/// Does what the words ask for, which leave out the program's own name.
-pub fn snow<R: AllocGlobal + Wait, S: Shelf, K: Sink>(
+/// Does what the words ask for, which leave out the program's own name. The pages of clones come over the first of
+/// the wires.
+pub fn snow<R: AllocGlobal + Wait, S: Shelf, K: Sink, W: Wire>(
     rt: &R,
     words: &[String],
     shelf: &mut S,
     sink: &mut K,
+    wires: &mut Vec<W>,
 ) -> Status
+    requires some { 0 < vec_len wires.old }
+    requires most { vec_len wires.old ≤ MOST_WIRES }
+    // Whatever the wires do with replies:
     // 0: the sink has gained the text of the words. That is of `run` the report of the family of the
     // machine that is booted from the image, with its disk and its input, run to its end; and of `drive`
     // what the script tells of that family, line by line.
@@ -98,12 +108,16 @@ pub fn snow<R: AllocGlobal + Wait, S: Shelf, K: Sink>(
     ensures write_fault { result.code ≡ 5 → HasRisen (K.faults sink.old) (K.faults sink.new) }
     ensures prefix { result.code ≡ 5 → IsPrefixOut (S.files shelf.old) (texts words.now) (K.gone sink.old) (K.gone sink.new) }
 
-    // On every other code the sink has been given nothing.
+    // 7: only where a family that may fork is run, and a wire has given no reply for 64 fates.
+    ensures wire_lost { result.code ≡ 7 → IsLost (meant (texts words.now)) W.streak wires.new.items }
+
+    // On every code but 0 and 5 the sink has been given nothing.
     ensures silent { ¬ (result.code ≡ 0) → ¬ (result.code ≡ 5) → sink.new ≡ sink.old }
 
-    // The words and the files decide the code, but for faults and for want of memory, which is 6.
+    // The words and the files decide the code, but for faults, lost wires, and want of memory, which is 6.
     ensures complete { Completes result (S.files shelf.old) (texts words.now)
-        (HasRisen (S.faults shelf.old) (S.faults shelf.new)) (HasRisen (K.faults sink.old) (K.faults sink.new)) }
+        (HasRisen (S.faults shelf.old) (S.faults shelf.new)) (HasRisen (K.faults sink.old) (K.faults sink.new))
+        (IsLost (meant (texts words.now)) W.streak wires.new.items) }
     ensures status { IsStatus result }
 {
     let command = match command_asked(rt.alloc(), words) {
@@ -111,32 +125,35 @@ pub fn snow<R: AllocGlobal + Wait, S: Shelf, K: Sink>(
         Ok(None) => return Status::USAGE,
         Err(AllocError) => return Status::OUT_OF_MEMORY,
     };
-    match write_text(rt, &command, shelf, sink) {
+    match write_text(rt, &command, shelf, sink, wires) {
         Ok(()) => Status::new(0, 0),
         Err(Stop::ReadFault(load)) => Status::new(1, load),
         Err(Stop::ImageRefused(number)) => Status::new(3, number),
         Err(Stop::DataRefused(number)) => Status::new(4, number),
         Err(Stop::ScriptRefused { line, kind }) => Status::of_script(line, kind),
         Err(Stop::WriteFault) => Status::new(5, 0),
+        Err(Stop::Wire) => Status::new(7, 0),
         Err(Stop::Memory) => Status::OUT_OF_MEMORY,
     }
 }
 
 /// Writes the text of a command.
-fn write_text<R: AllocGlobal + Wait, S: Shelf, K: Sink>(
+fn write_text<R: AllocGlobal + Wait, S: Shelf, K: Sink, W: Wire>(
     rt: &R,
     command: &Command<'_>,
     shelf: &mut S,
     sink: &mut K,
+    wires: &mut Vec<W>,
 ) -> Result<(), Stop>
+    requires { 0 < vec_len wires.old }
     ensures writes { Writes (meaning command.now) (S.files shelf.old)
         (λ load. HasRisen (S.faults shelf.old) (S.faults shelf.new) × IsFaultOf (loads_of (meaning command.now)) load (S.asked shelf.old) (S.asked shelf.new))
-        (HasRisen (K.faults sink.old) (K.faults sink.new))
+        (HasRisen (K.faults sink.old) (K.faults sink.new)) (IsLostIn (meaning command.now) W.streak wires.new.items)
         (K.gone sink.old) (K.gone sink.new) result }
     ensures silent { IsSilent result (sink.new ≡ sink.old) }
 {
     match command {
-        Command::Run(guest) => run_and_report(rt, guest, shelf, sink),
+        Command::Run(guest, over) => run_and_report(rt, guest, over, shelf, sink, wires),
         Command::Drive(guest, script) => drive_and_write(rt, guest, script, shelf, sink),
     }
 }

@@ -1,12 +1,14 @@
 //! The numbers that stand behind the names of constants.
 
 use command_line::{
-    DEFAULT_CLONES, DEFAULT_LIMIT, DEFAULT_PAGES, LEAST_LIMIT, MOST_CLONES, MOST_LIMIT,
+    DEFAULT_AHEAD, DEFAULT_CLONES, DEFAULT_LIMIT, DEFAULT_PAGES, DEFAULT_SEED, LEAST_LIMIT,
+    MOST_AHEAD, MOST_CLONES, MOST_LIMIT,
 };
 use guest_files::{
     DISK_LOAD, DISK_MOST, DISK_NOT_SECTORS, DISK_TOO_LONG, IMAGE_LOAD, IMAGE_MOST, INPUT_LOAD,
     INPUT_TOO_LONG, SCRIPT_LOAD, SCRIPT_TOO_LONG, TOO_LONG,
 };
+use snow_commands::MOST_WIRES;
 use std::test::Fail;
 
 /// The loads.
@@ -27,17 +29,24 @@ static REFUSALS: [(u32, u32); 5] = [
 ];
 
 /// What an option is that is not given, and its limits.
-static OPTIONS: [(u32, u32); 6] = [
+static OPTIONS: [(u32, u32); 9] = [
     (DEFAULT_PAGES, 64),
     (DEFAULT_LIMIT, 1_000_000),
     (LEAST_LIMIT, 1),
     (MOST_LIMIT, 1_000_000_000),
     (DEFAULT_CLONES, 0),
     (MOST_CLONES, 4096),
+    (DEFAULT_SEED, 0),
+    (DEFAULT_AHEAD, 0),
+    (MOST_AHEAD, 16),
 ];
 
-/// The most bytes of an image and of a disk.
-static SIZES: [(usize, usize); 2] = [(IMAGE_MOST, 16_777_216), (DISK_MOST, 4_194_304)];
+/// The most bytes of an image and of a disk, and the most wires.
+static SIZES: [(usize, usize); 3] = [
+    (IMAGE_MOST, 16_777_216),
+    (DISK_MOST, 4_194_304),
+    (MOST_WIRES, 64),
+];
 
 #[test]
 fn constants_are_these(rt: HostRuntime) -> Result<(), Fail> {

@@ -1,7 +1,7 @@
 //! What no clause says: the texts of two guests, and the codes at their causes. Whole guests, options and real
 //! files are tested by the command line.
 
-ghost use Rattle.std.specs.Prelude.{◌≤◌, length};
+ghost use Rattle.std.specs.Prelude.{◌≡◌, ◌≤◌, IfOk, length, vec_len};
 
 use elf_load::RAM_BASE;
 use io_edge::{MemShelf, MemSink};
@@ -11,6 +11,7 @@ use std::alloc::{AllocError, Global};
 use std::process::Abort;
 use std::sync::Wait;
 use std::test::Fail;
+use wire_fates::{Fate, Scripted};
 
 /// The words of the guest that ends with the value 7. Its image has 104 bytes.
 static EXIT_SEVEN: [u32; 5] = [0x100022b7, 0x00700313, 0x0062a023, 0x00500313, 0x0062a423];
@@ -62,6 +63,27 @@ fn shelf_of(
     Ok(MemShelf::new(files, vec![in alloc; fails]?))
 }
 
+/// A wire that gives so many replies, then tells a fate so many times, and then gives again.
+fn wires_of(
+    alloc: Global,
+    gives: usize,
+    fate: Fate,
+    times: usize,
+) -> Result<Vec<Scripted>, AllocError>
+    ensures { IfOk result (λ wires. vec_len wires ≡ 1) }
+{
+    let mut fates = Vec::new(alloc);
+    for _ in 0..gives {
+        fates.push(Fate::Give(0))?;
+    }
+    for _ in 0..times {
+        fates.push(fate)?;
+    }
+    let mut wires = Vec::new(alloc);
+    wires.push(Scripted::new(fates))?;
+    Ok(wires)
+}
+
 /// Compares an answer and what is out with what is wanted.
 fn compare<R: Abort>(
     rt: &R,
@@ -90,7 +112,8 @@ fn answers<R: AllocGlobal + Wait + Abort>(
     let words = words_of(alloc, line)?;
     let mut shelf = shelf_of(alloc, image, script, fails)?;
     let mut sink = MemSink::new(alloc, 7, 1000, Vec::new(alloc))?;
-    let found = snow(rt, &words, &mut shelf, &mut sink);
+    let mut wires = wires_of(alloc, 0, Fate::Give(0), 0)?;
+    let found = snow(rt, &words, &mut shelf, &mut sink, &mut wires);
     compare(rt, line, &found, &sink, status, out);
     Ok(())
 }
@@ -138,13 +161,15 @@ fn writes_what_scripts_tell(rt: HostRuntime) -> Result<(), Fail> {
 }
 
 /// Command lines, how many bytes of the image are there, the script, and the code with its two numbers.
-static REFUSALS: [(&str, usize, &[u8], u8, u32, u32); 14] = [
+static REFUSALS: [(&str, usize, &[u8], u8, u32, u32); 16] = [
     ("fly guest", 104, b"", 2, 0, 0),
     ("run guest script", 104, b"", 2, 0, 0),
     ("drive guest", 104, b"", 2, 0, 0),
     ("run --help", 104, b"", 2, 0, 0),
     ("run guest --ram 15", 104, b"", 2, 0, 0),
     ("run guest --clones 4097", 104, b"", 2, 0, 0),
+    ("run guest --ahead 17", 104, b"", 2, 0, 0),
+    ("drive guest script --wire 1", 104, b"", 2, 0, 0),
     ("run other", 104, b"", 1, 1, 0),
     ("run guest", 103, b"", 3, 9, 0),
     ("run guest --disk guest", 104, b"", 4, 2, 0),
@@ -193,6 +218,51 @@ fn stops_at_each_load(rt: HostRuntime) -> Result<(), Fail> {
     Ok(())
 }
 
+/// Command lines, what the wire of a family does, and the code. The second child of two hears the page that the first
+/// fetched.
+static WIRES: [(&str, usize, Fate, usize, u8); 5] = [
+    ("run guest --clones 1", 0, Fate::Lose(0), 64, 7),
+    ("run guest --clones 0", 0, Fate::Lose(0), 64, 0),
+    ("run guest --clones 1", 0, Fate::Lose(0), 63, 0),
+    ("run guest --clones 1", 0, Fate::Again(0), 64, 0),
+    ("run guest --clones 2", 1, Fate::Lose(0), 64, 0),
+];
+
+/// Compares the code of a run with what is wanted. Something is out just where it is 0.
+fn compare_code<R: Abort>(rt: &R, line: &str, found: &Status, sink: &MemSink, code: u8) {
+    assert_eq!(rt; found.code, code, "{line}");
+    assert_eq!(rt; sink.bytes().is_empty(), code != 0, "{line}");
+}
+
+/// Runs two children over a wire.
+fn runs_over<R: AllocGlobal + Wait + Abort>(
+    rt: &R,
+    line: &str,
+    image: &[u8],
+    wires: &mut Vec<Scripted>,
+    code: u8,
+) -> Result<(), Fail>
+    requires { vec_len wires.old ≡ 1 }
+{
+    let alloc = rt.alloc();
+    let words = words_of(alloc, line)?;
+    let mut shelf = shelf_of(alloc, image, b"", 0)?;
+    let mut sink = MemSink::new(alloc, 7, 1000, Vec::new(alloc))?;
+    let found = snow(rt, &words, &mut shelf, &mut sink, wires);
+    compare_code(rt, line, &found, &sink, code);
+    Ok(())
+}
+
+#[test]
+fn loses_its_wire(rt: HostRuntime) -> Result<(), Fail> {
+    let image = elf_of(rt.alloc(), RAM_BASE, &TWO_CHILDREN)?;
+    for (line, gives, fate, times, code) in WIRES.iter() {
+        let mut wires = wires_of(rt.alloc(), *gives, *fate, *times)?;
+        runs_over(&rt, line, &image, &mut wires, *code)?;
+    }
+    Ok(())
+}
+
 /// Expects code 5, and of the report of two children the ten bytes of each put before this one.
 fn compare_cut<R: Abort>(rt: &R, found: &Status, sink: &MemSink, fails: u64)
     requires least { 1 ≤ fails }
@@ -216,7 +286,8 @@ fn stops_at_put<R: AllocGlobal + Wait + Abort>(
     let alloc = rt.alloc();
     let mut shelf = shelf_of(alloc, image, b"", 0)?;
     let mut sink = MemSink::new(alloc, 10, 1000, vec![in alloc; fails]?)?;
-    let found = snow(rt, words, &mut shelf, &mut sink);
+    let mut wires = wires_of(alloc, 0, Fate::Give(0), 0)?;
+    let found = snow(rt, words, &mut shelf, &mut sink, &mut wires);
     compare_cut(rt, &found, &sink, fails);
     Ok(())
 }

@@ -5,8 +5,8 @@ use Rattle.std.specs.Option.{ForSome}
 use Rattle.fork_port.specs.declared.ending.Ending.{Ending}
 use Rattle.image_depot.specs.Key.{Shelves, Key, IsKeyOf}
 use Rattle.image_depot.specs.Reply.{Reply}
-use Rattle.guest_mem.specs.declared.answers.Arrived.{Arrived}
-use Rattle.guest_mem.specs.declared.answers.Arrived.TheVariants.{Got, Had}
+use Rattle.image_depot.specs.declared.arrived.Arrived.{Arrived}
+use Rattle.image_depot.specs.declared.arrived.Arrived.TheVariants.{Got, Had}
 use Rattle.guest_mem.specs.Ram.{Ram, HasAbsent, IsOfImage}
 use Rattle.forest_model.specs.State.{State}
 use Rattle.forest_model.specs.Machine.{Machine}

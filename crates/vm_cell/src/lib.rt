@@ -2,6 +2,7 @@
 #![tactic(auto)]
 
 mod hart;
+mod receiver;
 mod vm;
 
 pub use guest_mem::Arrived;

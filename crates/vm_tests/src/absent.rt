@@ -45,7 +45,7 @@ fn first_of(alloc: Global, brood: &Brood, depot: &Depot) -> Result<Vm, Fail>
 }
 
 // The first child of the machine of these words, from a base on, which forks.
-fn child_of<R: Wait>(
+pub(crate) fn child_of<R: Wait>(
     rt: &R,
     alloc: Global,
     base: u32,

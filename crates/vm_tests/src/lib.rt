@@ -6,6 +6,8 @@
 #[cfg(test)]
 mod absent;
 #[cfg(test)]
+mod fetched;
+#[cfg(test)]
 mod machine;
 #[cfg(test)]
 mod stretches;

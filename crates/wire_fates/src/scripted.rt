@@ -52,6 +52,8 @@ impl Scripted {
 impl Wire for Scripted {
     ghost streak = { λ w. w.streak };
 
+    ghost tells = { λ old waiting fate new. (fate ≡ scripted old waiting) × (new ≡ after_scripted old waiting) };
+
     /// The list goes on where it stands.
     fn seed(&mut self, _seed: u32)
         ensures { self.new ≡ record self.old { streak = 0 } }

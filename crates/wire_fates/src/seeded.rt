@@ -46,6 +46,8 @@ impl Seeded {
 impl Wire for Seeded {
     ghost streak = { λ w. w.streak };
 
+    ghost tells = { λ old waiting fate new. (fate ≡ seeded old waiting) × (new ≡ after_seeded old waiting) };
+
     /// The wire of this seed.
     fn seed(&mut self, seed: u32)
         ensures { self.new ≡ record { seed = seed; state = seed; streak = 0 } }

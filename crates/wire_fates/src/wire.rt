@@ -1,4 +1,5 @@
 ghost use Rattle.std.specs.Prelude.{◌≡◌, ℕ, ◌<◌, ◌≤◌};
+ghost use Rattle.wire_fates.specs.declared.fate.Fate.{Fate};
 ghost use Rattle.wire_fates.specs.Fates.{IsAmong, streak_after};
 
 use crate::fate::{Fate, LONGEST_STREAK};
@@ -8,6 +9,9 @@ pub trait Wire {
     /// How many fates it has told since it last gave a reply, 64 at most.
     ghost streak: { Self → ℕ };
 
+    /// Of so many replies that wait, it may tell this fate, and this is what it is then.
+    ghost tells: { Self → ℕ → Fate → Self → Type 0 };
+
     /// Starts anew, with what this number stands for.
     fn seed(&mut self, seed: u32)
         ensures { streak self.new ≡ 0 };
@@ -15,6 +19,7 @@ pub trait Wire {
     /// The next fate, of one of the replies that wait.
     fn next(&mut self, waiting: usize) -> Fate
         requires { 0 < waiting }
+        ensures tells { tells self.old waiting result self.new }
         ensures among { IsAmong waiting result }
         ensures streak { streak self.new ≡ streak_after result (streak self.old) };
 

@@ -5,8 +5,8 @@ use Rattle.std.specs.BTreeMap.{get}
 use Rattle.std.specs.declared.alloc.AllocError.{AllocError}
 use Rattle.image_depot.specs.Key.{Shelves, Key}
 use Rattle.image_depot.specs.Reply.{Reply}
-use Rattle.guest_mem.specs.declared.answers.Arrived.{Arrived}
-use Rattle.guest_mem.specs.declared.answers.Arrived.TheVariants.{Got, Had}
+use Rattle.image_depot.specs.declared.arrived.Arrived.{Arrived}
+use Rattle.image_depot.specs.declared.arrived.Arrived.TheVariants.{Got, Had}
 use Rattle.forest_tree.specs.Tree.{Tree, node, Broods, Log, machine, Branch, Path, subtree}
 use Rattle.forest_tree.specs.Settle.{waits}
 use Rattle.forest_tree.specs.Sound.{IsSound}
@@ -198,7 +198,7 @@ handed-as f old new name each h =
     subst (λ n. IfSome (subtree n f.tree) (IsOutAs new)) (sym name) (some-out old new each (subtree old.name f.tree) h)
 
 -- nothing has changed
-handed-same : (f : Forest) (old new : Lent) → new.name ≡ old.name → new.start ≡ old.start → new.ran ≡ old.ran → new.pages ≡ old.pages
+pub handed-same : (f : Forest) (old new : Lent) → new.name ≡ old.name → new.start ≡ old.start → new.ran ≡ old.ran → new.pages ≡ old.pages
     → IsHandedOut f old → IsHandedOut f new
 handed-same f old new name start ran pages h =
     handed-as f old new name

@@ -1,8 +1,10 @@
 -- The world of one machine.
 use Rattle.std.proofs.Common.{◌≡◌, ◌≢◌, ℕ, true, false, refl, sym, ap, ◌∙◌, subst, List, [], ◌∷◌, ◌++◌, Some, None, is_some}
+use Rattle.std.specs.Global.{Vec}
 use Rattle.std.specs.Option.{IfSome}
 use Rattle.std.specs.BTreeMap.{BTreeMap, Updates, get}
 use Rattle.image_depot.specs.Key.{Shelves}
+use Rattle.image_depot.specs.Reply.{Delivery}
 use Rattle.port_rules.specs.Rules.{cloned_numbers}
 use Rattle.forest_tree.specs.Operations.{is_among, is_cloned}
 use Rattle.forest_tree.specs.Tree.{Tree, child_at, brood_of, Branch, Path, subtree}
@@ -41,12 +43,12 @@ own-line : (vm : Paged) (ending : Ending) → vm.machine.ending ≡ Some ending
 unfolding lines
 own-line vm ending over = ap (λ e. own_lines_by told_spot e [] (record { machine = vm; place = home }) ++ []) over
 
-pub end-stands : (depot : Shelves) (vm : Paged) (ending : Ending) (outcome : Ended) (cells : BTreeMap Path Cell) (list : List Waiting)
+pub end-stands : (depot : Shelves) (vm : Paged) (ending : Ending) (outcome : Ended) (cells : BTreeMap Path Cell) (list : List Waiting) (told : Vec Delivery)
     → vm.machine.ending ≡ Some ending → (port_of vm.machine).tickets ≡ [] → machines.is_good vm.machine ≡ true → ((name : Path) → get path_cmp cells name ≡ None)
     → outcome ≡ record { name = []; ending = ending; steps = vm.machine.steps; output = vm.machine.state.ports.console.output; log = [] }
-    → StandsFor depot (record { cells = cells; ready = list; halted = None; outcome = Some outcome }) (world_of paged_machines vm)
+    → StandsFor depot (record { cells = cells; ready = list; halted = None; told = told; outcome = Some outcome }) (world_of paged_machines vm)
 unfolding spots paged_machines machines lines_of
-end-stands depot vm ending outcome cells list over none good empty is = record {
+end-stands depot vm ending outcome cells list told over none good empty is = record {
   sound = start-whole paged_machines Reason vm good (no-ticket vm none);
   halted = refl;
   tree = record {
@@ -59,12 +61,12 @@ end-stands depot vm ending outcome cells list over none good empty is = record {
 
 -- ---- a machine that lives
 
-module _ (depot : Shelves) (vm : Paged) (old cells : BTreeMap Path Cell) (list : List Waiting) (cell : Cell) where
+module _ (depot : Shelves) (vm : Paged) (old cells : BTreeMap Path Cell) (list : List Waiting) (cell : Cell) (told : Vec Delivery) where
   abbrev first : Tree (Spot Paged)
   first = alone forest (record { machine = vm; place = home })
 
   abbrev start : World
-  start = record { cells = cells; ready = list; halted = None; outcome = None }
+  start = record { cells = cells; ready = list; halted = None; told = told; outcome = None }
 
   none-below : (x : Branch) (rest : Path) → subtree (x ∷ rest) first ≡ None
   unfolding subtree brood_of child_at

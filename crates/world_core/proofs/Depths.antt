@@ -1,10 +1,11 @@
 -- Names that are too long for a machine of a world.
-use Rattle.std.proofs.Common.{◌≡◌, ℕ, ◌+◌, ◌<◌, true, false, refl, sym, ap, ◌∙◌, ◌⊎◌, inl, inr, List, [], ◌∷◌, length, length-append, is_some, IsSome, Option, Some, None, arith}
+use Rattle.std.proofs.Common.{◌≡◌, ℕ, ◌+◌, ◌<◌, true, false, refl, sym, ap, ◌∙◌, ◌⊎◌, inl, inr, List, [], ◌∷◌, length, length-append, is_some, IsSome, Option, Some, None, subst, ◌≤◌, arith}
+use Rattle.std.specs.Prelude.{IsSomeAnd}
 use Rattle.std.specs.Ordering.{is_lt}
 use Rattle.std.specs.BTreeMap.{BTreeMap, IsUpperBound, btree_map_len, get, is_at}
 use Rattle.std.specs.Map.{lookup}
 use Rattle.image_depot.specs.Key.{Shelves}
-use Rattle.forest_tree.specs.Tree.{Path}
+use Rattle.forest_tree.specs.Tree.{Path, subtree}
 use Rattle.forest_history.specs.World.{is_at_home}
 use Rattle.forest_model.specs.Paged.{paged_machines}
 use Rattle.run_report.specs.Name.{child_path}
@@ -13,9 +14,10 @@ use Rattle.run_report.specs.Report.{Ended as Report}
 use Rattle.run_report.proofs.NameMaps.{shorter-first}
 use Rattle.world_core.specs.declared.cell.Cell.{Cell}
 use Rattle.world_core.specs.declared.world.World.{World}
-use Rattle.world_core.specs.World.{Forest, StandsFor}
+use Rattle.world_core.specs.Shows.{IsAwake}
+use Rattle.world_core.specs.World.{Forest, IsReached, ShowsTree, StandsFor}
 use Rattle.world_core.proofs.ByName.{before-named, no_cell-home, over-nobody, root-cell}
-use Rattle.world_core.proofs.Sleepers.{none-sleeps}
+use Rattle.world_core.proofs.Sleepers.{cell-shows, none-sleeps}
 
 -- a path that is not the root's is that of a child
 pub record IsChild (name : Path) : Type 0 where
@@ -82,3 +84,19 @@ module _ (depot : Shelves) (w : World) (f : Forest) (h : StandsFor depot w f) wh
   none-awake name none =
       let empty = no-entries w.cells.entries none in
       far-nobody name (none-left w.cells name empty) (λ parent counted. none-left w.cells parent empty)
+
+  -- a machine that has a cell is awake
+  awake-there : (name : Path) (c : Cell) → get path_cmp w.cells name ≡ Some c → IsSomeAnd (subtree name f.tree) IsAwake
+  awake-there name c found = by w.outcome refl
+    where
+      by : (o : Option Report) → w.outcome ≡ o → IsSomeAnd (subtree name f.tree) IsAwake
+      by (Some outcome) e =
+          let shown = subst (λ o. ShowsTree o depot w f.tree) e h.tree in
+          let none : get path_cmp w.cells name ≡ None = shown.cells name in
+          absurd (cc)
+      by None e =
+          let shown = cell-shows depot name (get path_cmp w.cells name) c (subtree name f.tree) found ((before-named depot w f name h e).shows name) in
+          subst (λ o. IsSomeAnd o IsAwake) (sym shown.1) shown.2.awake
+
+  pub reached : (longest : Path) (c : Cell) (depth : ℕ) → get path_cmp w.cells longest ≡ Some c → depth ≤ length longest + 1 → IsReached depth f
+  reached longest c depth found near = record { name = longest; near = near; awake = awake-there longest c found }

@@ -1,13 +1,12 @@
 -- A run that has each page at which it stalls brought, so far.
 use Rattle.std.proofs.Common.{◌≡◌, ◌≢◌, ℕ, ◌+◌, ◌-◌, ◌*◌, ◌<◌, ◌≤◌, true, false, length, set, slice_get, Option, Some, None, IsSome, refl, sym, ap, ◌∙◌, subst, arith}
 use Rattle.std.proofs.lemmas.List.Elements.{All-contains}
-use Rattle.std.proofs.lemmas.Option.{slice_get_read}
 use Rattle.elf_load.specs.declared.image.TheConstants.{PAGE_SIZE}
 use Rattle.image_depot.specs.Key.{Key, image_of, number_of}
 use Rattle.image_depot.specs.Image.{page_count}
 use Rattle.image_depot.specs.Reply.{Reply}
-use Rattle.guest_mem.specs.declared.answers.Arrived.{Arrived}
-use Rattle.guest_mem.specs.declared.answers.Arrived.TheVariants.{Got, Had}
+use Rattle.image_depot.specs.declared.arrived.Arrived.{Arrived}
+use Rattle.image_depot.specs.declared.arrived.Arrived.TheVariants.{Got, Had}
 use Rattle.guest_mem.specs.Ram.{IsOfImage}
 use Rattle.forest_model.specs.Machine.{Machine, after_steps, next}
 use Rattle.forest_model.specs.Touch.{touch}
@@ -21,19 +20,12 @@ use Rattle.vm_cell.specs.Standing.{asked_call, standing_by, standing_from, stand
 use Rattle.vm_cell.specs.Steps.{Stands, moved_by}
 use Rattle.vm_cell.specs.declared.vm.Stepped.{Stepped}
 use Rattle.vm_cell.specs.declared.vm.Stepped.TheVariants.{Went, Stall, Call, Ended}
+use Rattle.vm_cell.proofs.Receiving.{stalled-absent}
 use Rattle.world_core.specs.Lent.{Lent, IsSameLease, StandsWhole, vm_of}
 
 -- ---- the page at which a machine stalls
 
--- it is one of RAM, and absent
-pub stalled-absent : (p : Paged) (page : ℕ) → stalled_at p ≡ Some page → length p.machine.state.ram ≡ PAGE_SIZE * length p.pages.here
-    → slice_get p.pages.here page ≡ Some false
-stalled-absent p page is whole =
-    let at = stalled-is p page is in
-    let begins : PAGE_SIZE * page < length p.machine.state.ram = All-contains (λ n. PAGE_SIZE * n < length p.machine.state.ram) (touch p.machine) page (IsPages-touch p.machine).of_ram at.listed in
-    slice_get_read p.pages.here (length p.pages.here) page false refl (omega arith) (sym at.absent)
-
--- so its image has it
+-- its image has it
 pub stalled-in_image : (key : Option Key) (k : Key) (p : Paged) (page : ℕ) → key ≡ Some k → HasImage key p.pages → stalled_at p ≡ Some page
     → length p.machine.state.ram ≡ PAGE_SIZE * length p.pages.here → page < page_count (image_of k)
 stalled-in_image key k p page some has is whole =

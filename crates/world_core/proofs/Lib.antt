@@ -1,5 +1,6 @@
 pub mod TurnLists
 pub mod Steps
+pub mod Receiving
 pub mod Fetching
 pub mod Changes
 pub mod AtPlaces
@@ -34,3 +35,4 @@ mod CallFork
 pub mod Giving
 pub mod Beginning
 pub mod Arriving
+pub mod FetchedOver

@@ -14,6 +14,7 @@ use Rattle.world_core.specs.declared.world.World.{World}
 use Rattle.world_core.specs.declared.reason.Reason.{Reason}
 use Rattle.run_report.specs.Report.{Ended as Report}
 use Rattle.world_core.specs.Waiting.{Waiting, IsListed, IsCovered}
+use Rattle.world_core.specs.Told.{told_of}
 use Rattle.world_core.specs.World.{Forest, IsDue, ShowsLive, ShowsTree, StandsFor}
 use Rattle.world_core.specs.Answers.{Goes}
 use Rattle.world_core.specs.Popped.{with_turn}
@@ -22,6 +23,7 @@ use Rattle.world_core.specs.Popped.{with_turn}
 pub record IsTaking (depot : Shelves) (first now : World) : Type 0 where
   pub going : now.outcome ≡ None
   pub unhalted : now.halted ≡ None
+  pub told : told_of now ≡ told_of first
   pub stands : (f : Forest) → StandsFor depot first f → StandsFor depot now f
 
 pub with-popped : (depot : Shelves) (w : World) (turn : Waiting) (rest : List Waiting) (f : Forest) → w.ready ≡ turn ∷ rest → StandsFor depot w f
@@ -71,9 +73,10 @@ idle-goes depot w turns f h going unhalted empty empty_then =
 -- a turn gave nothing
 pub goes-on : (depot : Shelves) (first w v : World) (turn : Waiting) (rest : List Waiting) → IsTaking depot first w → w.ready ≡ turn ∷ rest
     → ((f : Forest) → StandsFor depot (with_turn turn (record w { ready = rest })) f → StandsFor depot v f) → v.outcome ≡ None → v.halted ≡ None
-    → IsTaking depot first v
-goes-on depot first w v turn rest h e after going unhalted = record {
+    → told_of v ≡ told_of w → IsTaking depot first v
+goes-on depot first w v turn rest h e after going unhalted told = record {
   going = going;
   unhalted = unhalted;
+  told = told ∙ h.told;
   stands = λ f before. after f (with-popped depot w turn rest f e (h.stands f before));
 }

@@ -9,3 +9,5 @@ pub mod Answers
 pub mod Arrived
 pub mod Between
 pub mod Popped
+pub mod Received
+pub mod Told

@@ -1,5 +1,5 @@
 -- What a world of the code stands for.
-use Rattle.std.specs.Prelude.{◌≡◌, true, false, [], List, Option, Some, None, IfSome}
+use Rattle.std.specs.Prelude.{◌≡◌, ℕ, ◌+◌, ◌≤◌, true, false, [], List, length, Option, Some, None, IfSome, IsSomeAnd}
 use Rattle.std.specs.BTreeMap.{get}
 use Rattle.image_depot.specs.Key.{Shelves}
 use Rattle.forest_tree.specs.Tree.{Tree, Path, machine, subtree}
@@ -60,3 +60,9 @@ reason_of w = w.halted
 -- it stands for some forest
 abbrev pub IsWorld : Shelves → World → Type 0
 IsWorld depot w = (f : Forest) × StandsFor depot w f
+
+-- a machine of the forest is awake whose name has so many forks, or all but one of them, or more
+pub record IsReached (depth : ℕ) (f : Forest) : Type 0 where
+  pub name : Path
+  pub near : depth ≤ length name + 1
+  pub awake : IsSomeAnd (subtree name f.tree) IsAwake

@@ -25,6 +25,8 @@ use std::marker::Model;
 use std::snapshot::Snapshot;
 use vm_cell::{Arrived, Ran, Stepped, Vm};
 
+mod over;
+
 /// A machine on lease. It runs by itself, and nothing else runs it meanwhile. A lease cannot be let go: it is
 /// spent by the world that handed it out, in `give`, `end`, `fork`, `join` or `kill`.
 pub struct Lease {

@@ -5,6 +5,7 @@
 mod cell;
 mod lease;
 mod reason;
+mod receiver;
 mod turns;
 mod world;
 

@@ -15,9 +15,10 @@ ghost use Rattle.run_report.specs.NameOrder.{path_cmp};
 ghost use Rattle.run_report.specs.Report.{lines_of};
 ghost use Rattle.vm_cell.specs.Keyed.{IsOfDepot, paged};
 ghost use Rattle.world_core.specs.Lent.{vm_of};
+ghost use Rattle.world_core.specs.Told.{told_of};
 ghost use Rattle.world_core.specs.Turns.{turns_from, turn_of};
 ghost use Rattle.world_core.specs.Shows.{CellShows, IsAwake, child_of, forest, told_spot, ended_tree};
-ghost use Rattle.world_core.specs.World.{Forest, StandsFor};
+ghost use Rattle.world_core.specs.World.{Forest, IsReached, StandsFor};
 ghost use Rattle.world_core.specs.Between.{HasLeft, IsBetween, IsLeaving, IsSameWorld, TakesOut, with_tree};
 ghost use Rattle.world_core.specs.Answers.{Answers, HandedOut, IsHandedOut, IsLentOf, home_by, stands_waiting_of};
 
@@ -26,7 +27,7 @@ use crate::lease::Lease;
 use crate::reason::Reason;
 use crate::turns::{Turn, Turns};
 use forest_model::Ending;
-use image_depot::Depot;
+use image_depot::{Depot, Sent};
 use run_report::{Name, Outcome};
 use std::alloc::{AllocError, Global};
 use std::collections::BTreeMap;
@@ -34,6 +35,7 @@ use vm_cell::Vm;
 
 mod calls;
 mod take;
+mod told;
 
 /// What `take` hands out.
 pub enum Taken {
@@ -69,6 +71,8 @@ pub struct World {
     /// Those that are ready, and maybe some that are no longer.
     pub(crate) ready: Turns,
     pub(crate) halted: Option<Reason>,
+    /// The replies that were told, for others to hear.
+    pub(crate) told: Vec<Sent>,
     /// How the root has ended, with all that the family did.
     pub(crate) outcome: Option<Outcome>,
 }
@@ -78,7 +82,8 @@ impl World {
     pub fn new(alloc: Global, vm: Vm, depot: &Depot) -> Result<World, AllocError>
         requires no_ticket { (port_of vm.machine).tickets ≡ [] }
         requires every_page { vm.key ≡ None }
-        ensures { IfOk result (λ world. StandsFor depot.now world (world_of paged_machines (paged vm))) }
+        ensures stands { IfOk result (λ world. StandsFor depot.now world (world_of paged_machines (paged vm))) }
+        ensures told { IfOk result (λ world. told_of world ≡ []) }
     {
         let _ = depot;
         match vm.ended() {
@@ -92,15 +97,18 @@ impl World {
         requires ended { vm.machine.ending ≡ Some ending }
         requires no_ticket { (port_of vm.machine).tickets ≡ [] }
         requires good { machines.is_good vm.machine ≡ true }
-        ensures { IfOk result (λ world. (depot : Shelves) → StandsFor depot world (world_of paged_machines (paged vm))) }
+        ensures stands { IfOk result (λ world. (depot : Shelves) → StandsFor depot world (world_of paged_machines (paged vm))) }
+        ensures told { IfOk result (λ world. told_of world ≡ []) }
     {
         let root = Name::root(alloc)?;
         let steps = vm.steps();
         let log = Vec::new(alloc);
+        let told = Vec::new(alloc);
         Ok(World {
             cells: BTreeMap::new(alloc),
             ready: Turns::new(),
             halted: None,
+            told,
             outcome: Some(Outcome::new(root, ending, steps, vm.into_output(), log)),
         })
     }
@@ -111,17 +119,20 @@ impl World {
         requires no_ticket { (port_of vm.machine).tickets ≡ [] }
         requires every_page { vm.key ≡ None }
         requires good { machines.is_good vm.machine ≡ true }
-        ensures { IfOk result (λ world. (depot : Shelves) → StandsFor depot world (world_of paged_machines (paged vm))) }
+        ensures stands { IfOk result (λ world. (depot : Shelves) → StandsFor depot world (world_of paged_machines (paged vm))) }
+        ensures told { IfOk result (λ world. told_of world ≡ []) }
     {
         let root = Name::root(alloc)?;
         let mut ready = Turns::new();
         ready.push(Turn::of_machine(alloc, root.copy()?)?);
+        let told = Vec::new(alloc);
         let mut cells = BTreeMap::new(alloc);
         cells.insert(root, Cell::of_root(alloc, Box::new(alloc, vm)?))?;
         Ok(World {
             cells,
             ready,
             halted: None,
+            told,
             outcome: None,
         })
     }
@@ -129,8 +140,9 @@ impl World {
     /// Takes a machine back. It takes no memory.
     pub fn give(&mut self, lease: Lease) -> Placed
         requires { HandedOut self.old lease }
-        ensures { (depot : Shelves) (f : Forest) → StandsFor depot self.old f → IsHandedOut f lease → IsLentOf depot lease
+        ensures answers { (depot : Shelves) (f : Forest) → StandsFor depot self.old f → IsHandedOut f lease → IsLentOf depot lease
             → Answers depot f (home_by lease.now.ending) lease result self.new }
+        ensures told { told_of self.new ≡ told_of self.old }
     {
         if lease.ended().is_some() {
             return self.end(lease);
@@ -148,8 +160,9 @@ impl World {
     pub fn end(&mut self, lease: Lease) -> Placed
         requires lent { HandedOut self.old lease }
         requires ended { IsSome lease.now.ending }
-        ensures { (depot : Shelves) (f : Forest) → StandsFor depot self.old f → IsHandedOut f lease → IsLentOf depot lease
+        ensures answers { (depot : Shelves) (f : Forest) → StandsFor depot self.old f → IsHandedOut f lease → IsLentOf depot lease
             → Answers depot f ended lease result self.new }
+        ensures told { told_of self.new ≡ told_of self.old }
     {
         let Lease {
             turn,
@@ -165,8 +178,9 @@ impl World {
 
     /// No machine is handed out from now on, for the first reason that is given.
     pub fn stop(&mut self, reason: Reason)
-        ensures { (depot : Shelves) (f : Forest) → StandsFor depot self.old f
+        ensures stands { (depot : Shelves) (f : Forest) → StandsFor depot self.old f
             → StandsFor depot self.new (does paged_machines (halted reason) f) }
+        ensures told { told_of self.new ≡ told_of self.old }
     {
         if self.halted.is_none() {
             self.halted = Some(reason);
@@ -192,17 +206,20 @@ impl World {
             cells: _,
             ready: _,
             halted: _,
+            told: _,
             outcome,
         } = self;
         outcome
     }
 
-    /// Whether a machine may be at home whose name has so many forks. Where it answers no, none is. It looks at
+    /// Whether a machine may be at home whose name has so many forks. Where it answers no, none is, and where it
+    /// answers yes, one is awake whose name has as many, or all but one of them, or more. It looks at
     /// the longest name of a machine that is awake: a child that is still a descriptor has one fork more than its
     /// parent, which is awake.
     pub fn reaches(&self, depth: usize) -> bool
-        ensures { (depot : Shelves) (f : Forest) → StandsFor depot self.now f → result ≡ false
+        ensures far { (depot : Shelves) (f : Forest) → StandsFor depot self.now f → result ≡ false
             → (name : Path) → length name ≡ depth → is_at_home paged_machines name f.tree ≡ false }
+        ensures near { (depot : Shelves) (f : Forest) → StandsFor depot self.now f → result ≡ true → IsReached depth f }
     {
         let Some((longest, _)) = self.cells.last_key_value() else {
             return false;
@@ -234,6 +251,7 @@ impl World {
             → (machine a).machine ≡ paged vm.value → IsOfDepot depot vm.value.key → has_ended forest a ≡ false
             → IsSound forest (with_tree (turn_of turn.value).name (placed home a) f).tree
             → (result ≡ Placed.Done) × StandsFor depot self.new (with_tree (turn_of turn.value).name (placed home a) f) }
+        ensures told { told_of self.new ≡ told_of self.old }
     {
         let Some(cell) = self.cells.get_mut(&turn.name) else {
             return Placed::Dropped;
@@ -258,6 +276,7 @@ impl World {
             → (machine a).machine ≡ paged vm.value
             → IsSound forest (with_tree (turn_of turn.value).name (placed home (ended_tree a)) f).tree
             → (result ≡ Placed.Done) × StandsFor depot self.new (with_tree (turn_of turn.value).name (placed home (ended_tree a)) f) }
+        ensures told { told_of self.new ≡ told_of self.old }
     {
         let mut name = Box::into_inner(turn).into_name();
         let Some((key, cell)) = take_out(&mut self.cells, &name) else {
@@ -275,9 +294,10 @@ impl World {
     fn end_child(&mut self, parent: &Name, ticket: u32, index: u32, outcome: Outcome)
         requires { IsSomeAnd (get path_cmp self.old.cells parent.now) (λ c. (depot : Shelves) × (t a : Tree (Spot Paged))
             × CellShows depot parent.now c t × (child_of ticket index t ≡ Some a) × IsAwake a) }
-        ensures { (depot : Shelves) (f : Forest) (b : Tree (Spot Paged)) → IsLeaving depot self.old f (child_path parent.now ticket index)
+        ensures stands { (depot : Shelves) (f : Forest) (b : Tree (Spot Paged)) → IsLeaving depot self.old f (child_path parent.now ticket index)
             → HasLeft (child_path parent.now ticket index) b outcome → IsSound forest (with_tree (child_path parent.now ticket index) b f).tree
             → StandsFor depot self.new (with_tree (child_path parent.now ticket index) b f) }
+        ensures told { told_of self.new ≡ told_of self.old }
     {
         let Some(cell) = self.cells.get_mut(parent) else {
             unreachable!();

@@ -13,6 +13,7 @@ ghost use Rattle.vm_cell.specs.Standing.{IsClone, IsKill, standing_call};
 ghost use Rattle.world_core.specs.Between.{IsBetween, settled_tree, with_tree};
 ghost use Rattle.world_core.specs.Lent.{vm_of};
 ghost use Rattle.world_core.specs.Shows.{forest};
+ghost use Rattle.world_core.specs.Told.{told_of};
 ghost use Rattle.world_core.specs.Turns.{turn_of, turns_from};
 ghost use Rattle.world_core.specs.World.{Forest, StandsFor};
 ghost use Rattle.world_core.specs.Answers.{Answers, HandedOut, HandedOutIn, IsHandedOut, IsJoinCall, IsLentOf};
@@ -34,8 +35,9 @@ impl World {
     pub fn fork<R: Wait>(&mut self, rt: &R, alloc: Global, lease: Lease, depot: &Depot) -> Placed
         requires lent { HandedOutIn depot.now self.old lease }
         requires clone { IsClone (standing_call (vm_of lease)) }
-        ensures { (f : Forest) → StandsFor depot.now self.old f → IsHandedOut f lease → IsLentOf depot.now lease
+        ensures answers { (f : Forest) → StandsFor depot.now self.old f → IsHandedOut f lease → IsLentOf depot.now lease
             → Answers depot.now f forked lease result self.new }
+        ensures told { told_of self.new ≡ told_of self.old }
     {
         let Some(Call::Clone(ticket)) = lease.call() else {
             unreachable!();
@@ -75,8 +77,9 @@ impl World {
     pub fn join(&mut self, alloc: Global, lease: Lease) -> Placed
         requires lent { HandedOut self.old lease }
         requires join { IsJoinCall (standing_call (vm_of lease)) }
-        ensures { (depot : Shelves) (f : Forest) → StandsFor depot self.old f → IsHandedOut f lease → IsLentOf depot lease
+        ensures answers { (depot : Shelves) (f : Forest) → StandsFor depot self.old f → IsHandedOut f lease → IsLentOf depot lease
             → Answers depot f joined lease result self.new }
+        ensures told { told_of self.new ≡ told_of self.old }
     {
         let Some(Call::Join(ticket)) = lease.call() else {
             unreachable!();
@@ -111,8 +114,9 @@ impl World {
     pub fn kill(&mut self, lease: Lease) -> Placed
         requires lent { HandedOut self.old lease }
         requires kill { IsKill (standing_call (vm_of lease)) }
-        ensures { (depot : Shelves) (f : Forest) → StandsFor depot self.old f → IsHandedOut f lease → IsLentOf depot lease
+        ensures answers { (depot : Shelves) (f : Forest) → StandsFor depot self.old f → IsHandedOut f lease → IsLentOf depot lease
             → Answers depot f killed lease result self.new }
+        ensures told { told_of self.new ≡ told_of self.old }
     {
         let Some(Call::Kill(ticket)) = lease.call() else {
             unreachable!();
@@ -138,10 +142,11 @@ impl World {
         requires one { (turn_of turn.value).children ≡ None }
         requires between { (depot : Shelves) × (f : Forest) × (a : Tree (Spot Paged)) × IsBetween depot self.old f (turn_of turn.value).name a
             × ((machine a).machine ≡ paged vm.value) × IsOfDepot depot vm.value.key }
-        ensures { (depot : Shelves) (f : Forest) (a : Tree (Spot Paged)) → IsBetween depot self.old f (turn_of turn.value).name a
+        ensures placed { (depot : Shelves) (f : Forest) (a : Tree (Spot Paged)) → IsBetween depot self.old f (turn_of turn.value).name a
             → (machine a).machine ≡ paged vm.value → IsOfDepot depot vm.value.key
             → IsSound forest (with_tree (turn_of turn.value).name (placed home (settled_tree a)) f).tree
             → (result ≡ Placed.Done) × StandsFor depot self.new (with_tree (turn_of turn.value).name (placed home (settled_tree a)) f) }
+        ensures told { told_of self.new ≡ told_of self.old }
     {
         match vm.ended() {
             Some(ending) => self.finish(turn, vm, ending),

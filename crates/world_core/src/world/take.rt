@@ -7,6 +7,7 @@ ghost use Rattle.forest_model.specs.Paged.{Paged};
 ghost use Rattle.world_core.specs.Lent.{now_of};
 ghost use Rattle.run_report.specs.Name.{child_path};
 ghost use Rattle.run_report.specs.NameOrder.{path_cmp};
+ghost use Rattle.world_core.specs.Told.{told_of};
 ghost use Rattle.world_core.specs.Turns.{turn_of, turns_from};
 ghost use Rattle.world_core.specs.World.{Forest, StandsFor, IsWorld};
 ghost use Rattle.world_core.specs.Answers.{IsLentOf, Takes, TakesNamed};
@@ -25,7 +26,8 @@ impl World {
     /// Hands out a machine that is ready. Memory is wanted only where it is still a descriptor.
     pub fn take(&mut self, alloc: Global, depot: &Depot) -> Taken
         requires { IsWorld depot.now self.old }
-        ensures { (f : Forest) → StandsFor depot.now self.old f → Takes depot.now f result self.new }
+        ensures takes { (f : Forest) → StandsFor depot.now self.old f → Takes depot.now f result self.new }
+        ensures told { told_of self.new ≡ told_of self.old }
     {
         if self.outcome.is_some() {
             return Taken::Over;
@@ -50,6 +52,7 @@ impl World {
             → TakesBy depot.now f result self.new }
         ensures going { (self.new.outcome ≡ None) × (self.new.halted ≡ None) }
         ensures turns { IfNone result (self.new.ready ≡ self.old.ready) }
+        ensures told { told_of self.new ≡ told_of self.old }
     {
         match turn.children {
             None => self.take_awake(turn),
@@ -66,6 +69,7 @@ impl World {
             → TakesBy depot f result self.new }
         ensures going { (self.new.outcome ≡ None) × (self.new.halted ≡ None) }
         ensures turns { self.new.ready ≡ self.old.ready }
+        ensures told { told_of self.new ≡ told_of self.old }
     {
         let cell = self.cells.get_mut(&turn.name)?;
         cell.is_listed = false;
@@ -90,6 +94,7 @@ impl World {
             → TakesBy depot.now f result self.new }
         ensures going { (self.new.outcome ≡ None) × (self.new.halted ≡ None) }
         ensures turns { IfNone result (self.new.ready ≡ self.old.ready) }
+        ensures told { told_of self.new ≡ told_of self.old }
     {
         let index = self.asleep_from(&turn.name, ticket, first)?;
         let woken = self.wake(alloc, depot, &turn.name, ticket, index);
@@ -110,7 +115,8 @@ impl World {
         depot: &Depot,
     ) -> Result<Option<Lease>, AllocError>
         requires { IsWorld depot.now self.old }
-        ensures { (f : Forest) → StandsFor depot.now self.old f → TakesNamed depot.now f name.now result self.new }
+        ensures takes { (f : Forest) → StandsFor depot.now self.old f → TakesNamed depot.now f name.now result self.new }
+        ensures told { told_of self.new ≡ told_of self.old }
     {
         if self.outcome.is_some() {
             return Ok(None);
@@ -176,6 +182,7 @@ impl World {
         ensures listed { (name : Path) → is_listed_in (get path_cmp self.new.cells name) ≡ is_listed_in (get path_cmp self.old.cells name) }
         ensures others { (name : Path) → name ≢ child_path parent.now ticket index → is_some (get path_cmp self.new.cells name) ≡ is_some (get path_cmp self.old.cells name) }
         ensures rest { (self.new.ready ≡ self.old.ready) × (self.new.halted ≡ self.old.halted) × (self.new.outcome ≡ self.old.outcome) }
+        ensures told { told_of self.new ≡ told_of self.old }
     {
         let name = parent.child(alloc, ticket, index)?;
         let turn = Turn::of_machine(alloc, name.copy()?)?;

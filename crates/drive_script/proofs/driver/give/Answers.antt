@@ -27,13 +27,13 @@ returns-in_err-lease-clause-drives c s h keeps =
     let exit = err_from_is_err_and c.from_residual-in_err-lease.result c.from_residual-in_err-lease.ensures.1 in
     subst (λ (r : Result Answer AllocError). DrivesLine c.args.depot.now (give c.args.name.now c.args.place) s r c.take_named.new.self) (sym exit.1)
     (looks-not c.args.depot.now c.args.world.now c.take_named.new.self (give c.args.name.now c.args.place) s h c.in_err-lease.field-0.0 exit.0
-    (c.in_err-lease.ensures h.forest h.stands))
+    (c.in_err-lease.ensures.takes h.forest h.stands))
 
 pub returns-in_default-2-clause-drives : goal.returns-in_default-2-clause-drives
 returns-in_default-2-clause-drives c s h keeps =
     looks-at-none c.args.depot.now c.args.world.now c.take_named.new.self (give c.args.name.now c.args.place) s h
     (subst (λ (o : Option Lent). TakesNamed c.args.depot.now h.forest c.args.name.now (Ok o) c.take_named.new.self) c.in_default-2.is
-    (c.in_ok-lease.ensures h.forest h.stands))
+    (c.in_ok-lease.ensures.takes h.forest h.stands))
 
 pub give_back-requires : goal.give_back-requires
 give_back-requires c =
@@ -41,7 +41,7 @@ give_back-requires c =
     let mid = c.take_named.new.self in
     let h = c.requires.1 in
     let held = named-lent depot c.args.world.now mid c.requires.0 c.args.name.now h c.in-Some-2.lease
-    (subst (λ (o : Option Lent). TakesNamed depot h.forest c.args.name.now (Ok o) mid) c.in-Some-2.is (c.in_ok-lease.ensures h.forest h.stands)) in
+    (subst (λ (o : Option Lent). TakesNamed depot h.forest c.args.name.now (Ok o) mid) c.in-Some-2.is (c.in_ok-lease.ensures.takes h.forest h.stands)) in
     let there = brings-lent depot mid c.requires.0 c.in-Some.page c.in-Some-2.lease c.bring-arrived.new.lease c.bring-arrived.result held
     (c.bring-arrived.ensures mid c.requires.0 held) in
     (depot, there.0, there.1)
@@ -50,7 +50,7 @@ pub returns-in_err-arrived-clause-drives : goal.returns-in_err-arrived-clause-dr
 returns-in_err-arrived-clause-drives c s h keeps =
     let depot = c.args.depot.now in
     let mid = c.take_named.new.self in
-    let named = subst (λ (o : Option Lent). TakesNamed depot h.forest c.args.name.now (Ok o) mid) c.in-Some-2.is (c.in_ok-lease.ensures h.forest h.stands) in
+    let named = subst (λ (o : Option Lent). TakesNamed depot h.forest c.args.name.now (Ok o) mid) c.in-Some-2.is (c.in_ok-lease.ensures.takes h.forest h.stands) in
     let held = named-lent depot c.args.world.now mid s.tree c.args.name.now h c.in-Some-2.lease named in
     let exit = err_from_is_err_and c.from_residual-in_err-arrived.result c.from_residual-in_err-arrived.ensures.1 in
     subst (λ (r : Result Answer AllocError). DrivesLine depot (give c.args.name.now c.args.place) s r c.give_back.new.world) (sym exit.1)
@@ -61,7 +61,7 @@ pub returns-clause-drives : goal.returns-clause-drives
 returns-clause-drives c s h keeps =
     let depot = c.args.depot.now in
     let mid = c.take_named.new.self in
-    let named = subst (λ (o : Option Lent). TakesNamed depot h.forest c.args.name.now (Ok o) mid) c.in-Some-2.is (c.in_ok-lease.ensures h.forest h.stands) in
+    let named = subst (λ (o : Option Lent). TakesNamed depot h.forest c.args.name.now (Ok o) mid) c.in-Some-2.is (c.in_ok-lease.ensures.takes h.forest h.stands) in
     let held = named-lent depot c.args.world.now mid s.tree c.args.name.now h c.in-Some-2.lease named in
     gives-so depot c.args.world.now mid c.give_back.new.world s c.args.name.now c.args.place c.in-Some.page h c.in-Some-2.lease c.bring-arrived.new.lease named
     (λ u. c.give_back.ensures.back depot u) c.in_ok-arrived.field-0 (sym c.in-Some.is ∙ c.in_ok-page.ensures s.sent keeps) (c.in_ok-arrived.ensures mid s.tree held)
@@ -70,22 +70,22 @@ pub returns-in_err-lease-clause-reason : goal.returns-in_err-lease-clause-reason
 returns-in_err-lease-clause-reason c =
     let h = c.requires.1 in
     named-reason c.args.depot.now c.args.world.now c.take_named.new.self h.forest h.stands c.args.name.now c.take_named.result
-    (c.take_named.ensures h.forest h.stands)
+    (c.take_named.ensures.takes h.forest h.stands)
 
 pub returns-in_default-2-clause-reason : goal.returns-in_default-2-clause-reason
 returns-in_default-2-clause-reason c =
     let h = c.requires.1 in
     named-reason c.args.depot.now c.args.world.now c.take_named.new.self h.forest h.stands c.args.name.now c.take_named.result
-    (c.take_named.ensures h.forest h.stands)
+    (c.take_named.ensures.takes h.forest h.stands)
 
 pub returns-in_err-arrived-clause-reason : goal.returns-in_err-arrived-clause-reason
 returns-in_err-arrived-clause-reason c =
     let h = c.requires.1 in
     c.give_back.ensures.reason ∙ named-reason c.args.depot.now c.args.world.now c.take_named.new.self h.forest h.stands c.args.name.now c.take_named.result
-    (c.take_named.ensures h.forest h.stands)
+    (c.take_named.ensures.takes h.forest h.stands)
 
 pub returns-clause-reason : goal.returns-clause-reason
 returns-clause-reason c =
     let h = c.requires.1 in
     c.give_back.ensures.reason ∙ named-reason c.args.depot.now c.args.world.now c.take_named.new.self h.forest h.stands c.args.name.now c.take_named.result
-    (c.take_named.ensures h.forest h.stands)
+    (c.take_named.ensures.takes h.forest h.stands)

@@ -16,39 +16,39 @@ returns-in_err-lease-clause-drives c s h =
     let exit = err_from_is_err_and c.from_residual.result c.from_residual.ensures.1 in
     subst (λ (r : Result Answer AllocError). DrivesLine c.args.depot.now (regs c.args.name.now) s r c.take_named.new.self) (sym exit.1)
     (looks-not c.args.depot.now c.args.world.now c.take_named.new.self (regs c.args.name.now) s h c.in_err-lease.field-0.0 exit.0
-    (c.in_err-lease.ensures h.forest h.stands))
+    (c.in_err-lease.ensures.takes h.forest h.stands))
 
 pub returns-in_default-clause-drives : goal.returns-in_default-clause-drives
 returns-in_default-clause-drives c s h =
     looks-at-none c.args.depot.now c.args.world.now c.take_named.new.self (regs c.args.name.now) s h
     (subst (λ (o : Option Lent). TakesNamed c.args.depot.now h.forest c.args.name.now (Ok o) c.take_named.new.self) c.in_default.is
-    (c.in_ok-lease.ensures h.forest h.stands))
+    (c.in_ok-lease.ensures.takes h.forest h.stands))
 
 pub returns-clause-drives : goal.returns-clause-drives
 returns-clause-drives c s h =
     let depot = c.args.depot.now in
     shows depot c.give_back.new.world s c.args.name.now c.regs-values.result (now_of c.in-Some.lease) c.regs-values.ensures
     (looked depot c.args.world.now c.take_named.new.self c.give_back.new.world s.tree c.args.name.now h c.in-Some.lease
-    (subst (λ (o : Option Lent). TakesNamed depot h.forest c.args.name.now (Ok o) c.take_named.new.self) c.in-Some.is (c.in_ok-lease.ensures h.forest h.stands))
+    (subst (λ (o : Option Lent). TakesNamed depot h.forest c.args.name.now (Ok o) c.take_named.new.self) c.in-Some.is (c.in_ok-lease.ensures.takes h.forest h.stands))
     (c.give_back.ensures.back depot s.tree))
 
 pub returns-in_err-lease-clause-reason : goal.returns-in_err-lease-clause-reason
 returns-in_err-lease-clause-reason c =
     let h = c.requires.1 in
     named-reason c.args.depot.now c.args.world.now c.take_named.new.self h.forest h.stands c.args.name.now c.take_named.result
-    (c.take_named.ensures h.forest h.stands)
+    (c.take_named.ensures.takes h.forest h.stands)
 
 pub returns-in_default-clause-reason : goal.returns-in_default-clause-reason
 returns-in_default-clause-reason c =
     let h = c.requires.1 in
     named-reason c.args.depot.now c.args.world.now c.take_named.new.self h.forest h.stands c.args.name.now c.take_named.result
-    (c.take_named.ensures h.forest h.stands)
+    (c.take_named.ensures.takes h.forest h.stands)
 
 pub returns-clause-reason : goal.returns-clause-reason
 returns-clause-reason c =
     let h = c.requires.1 in
     c.give_back.ensures.reason ∙ named-reason c.args.depot.now c.args.world.now c.take_named.new.self h.forest h.stands c.args.name.now c.take_named.result
-    (c.take_named.ensures h.forest h.stands)
+    (c.take_named.ensures.takes h.forest h.stands)
 
 pub give_back-requires : goal.give_back-requires
 give_back-requires c =
@@ -57,5 +57,5 @@ give_back-requires c =
       c.requires.0,
       named-lent c.args.depot.now c.args.world.now c.take_named.new.self c.requires.0 c.args.name.now h c.in-Some.lease
           (subst (λ (o : Option Lent). TakesNamed c.args.depot.now h.forest c.args.name.now (Ok o) c.take_named.new.self) c.in-Some.is
-          (c.in_ok-lease.ensures h.forest h.stands)),
+          (c.in_ok-lease.ensures.takes h.forest h.stands)),
     )

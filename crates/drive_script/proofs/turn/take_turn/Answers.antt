@@ -16,12 +16,12 @@ returns-in_err-lease-clause-turns g c t h =
     let exit = err_from_is_err_and c.from_residual.result c.from_residual.ensures.1 in
     subst (λ (r : Result Turn AllocError). Turns c.args.depot.now c.args.name.now c.args.most t r c.take_named.new.self) (sym exit.1)
     (made-none c.args.depot.now c.take_named.new.self (replicate (made_at c.args.most c.args.name.now t) c.args.name.now) t
-    (named-kept c.args.depot.now c.args.world.now c.take_named.new.self t c.args.name.now h (c.in_err-lease.ensures h.forest h.stands)))
+    (named-kept c.args.depot.now c.args.world.now c.take_named.new.self t c.args.name.now h (c.in_err-lease.ensures.takes h.forest h.stands)))
 
 pub returns-in-Some-clause-turns : goal.returns-in-Some-clause-turns
 returns-in-Some-clause-turns g c t h =
     let named = subst (λ (o : Option Lent). TakesNamed c.args.depot.now h.forest c.args.name.now (Ok o) c.take_named.new.self) c.in-Some.is
-    (c.in_ok-lease.ensures h.forest h.stands) in
+    (c.in_ok-lease.ensures.takes h.forest h.stands) in
     let lent = named-lent c.args.depot.now c.args.world.now c.take_named.new.self t c.args.name.now h c.in-Some.lease named in
     subst (λ name. Turns c.args.depot.now name c.args.most t c.run_turn.result c.run_turn.new.world) named.1 (c.run_turn.ensures.turns t lent)
 
@@ -29,25 +29,25 @@ pub returns-in-None-clause-turns : goal.returns-in-None-clause-turns
 returns-in-None-clause-turns g c t h =
     named-none c.args.depot.now c.args.world.now c.take_named.new.self t c.args.name.now h
     (subst (λ (o : Option Lent). TakesNamed c.args.depot.now h.forest c.args.name.now (Ok o) c.take_named.new.self) c.in-None.is
-    (c.in_ok-lease.ensures h.forest h.stands))
+    (c.in_ok-lease.ensures.takes h.forest h.stands))
 
 pub returns-in_err-lease-clause-reason : goal.returns-in_err-lease-clause-reason
 returns-in_err-lease-clause-reason g c =
     let h = c.requires.1 in
     named-reason c.args.depot.now c.args.world.now c.take_named.new.self h.forest h.stands c.args.name.now c.take_named.result
-    (c.take_named.ensures h.forest h.stands)
+    (c.take_named.ensures.takes h.forest h.stands)
 
 pub returns-in-Some-clause-reason : goal.returns-in-Some-clause-reason
 returns-in-Some-clause-reason g c =
     let h = c.requires.1 in
     c.run_turn.ensures.reason ∙ named-reason c.args.depot.now c.args.world.now c.take_named.new.self h.forest h.stands c.args.name.now c.take_named.result
-    (c.take_named.ensures h.forest h.stands)
+    (c.take_named.ensures.takes h.forest h.stands)
 
 pub returns-in-None-clause-reason : goal.returns-in-None-clause-reason
 returns-in-None-clause-reason g c =
     let h = c.requires.1 in
     named-reason c.args.depot.now c.args.world.now c.take_named.new.self h.forest h.stands c.args.name.now c.take_named.result
-    (c.take_named.ensures h.forest h.stands)
+    (c.take_named.ensures.takes h.forest h.stands)
 
 pub run_turn-requires-clause-lent : goal.run_turn-requires-clause-lent
 run_turn-requires-clause-lent g c =
@@ -55,5 +55,5 @@ run_turn-requires-clause-lent g c =
       c.requires.0,
       named-lent c.args.depot.now c.args.world.now c.take_named.new.self c.requires.0 c.args.name.now h c.in-Some.lease
           (subst (λ (o : Option Lent). TakesNamed c.args.depot.now h.forest c.args.name.now (Ok o) c.take_named.new.self) c.in-Some.is
-          (c.in_ok-lease.ensures h.forest h.stands)),
+          (c.in_ok-lease.ensures.takes h.forest h.stands)),
     )

@@ -25,10 +25,10 @@ pub take-requires : goal.take-requires
 take-requires c = let h = c.requires.1 in (h.forest, h.stands)
 
 pub give-requires : goal.give-requires
-give-requires c = let h = c.requires.1 in handed-out c.args.depot.now h.forest c.take.result c.in-Took.lease c.take.new.self c.in-Took.is (c.take.ensures h.forest h.stands)
+give-requires c = let h = c.requires.1 in handed-out c.args.depot.now h.forest c.take.result c.in-Took.lease c.take.new.self c.in-Took.is (c.take.ensures.takes h.forest h.stands)
 
 pub unreachable-requires : goal.unreachable-requires
 unreachable-requires c =
     let h = c.requires.1 in
-    let out_so = handed-out c.args.depot.now h.forest c.take.result c.in-Took.lease c.take.new.self c.in-Took.is (c.take.ensures h.forest h.stands) in
-    wants-none c.in-Took.lease.now.ending (c.in-Memory-give.ensures out_so.0 out_so.1.0 out_so.1.1 out_so.1.2 out_so.1.3).0
+    let out_so = handed-out c.args.depot.now h.forest c.take.result c.in-Took.lease c.take.new.self c.in-Took.is (c.take.ensures.takes h.forest h.stands) in
+    wants-none c.in-Took.lease.now.ending (c.in-Memory-give.ensures.answers out_so.0 out_so.1.0 out_so.1.1 out_so.1.2 out_so.1.3).0

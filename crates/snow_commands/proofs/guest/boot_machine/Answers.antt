@@ -13,10 +13,10 @@ new-requires c = record {
   every_page = ap (λ (v : KeyedMachine). v.key) c.in_ok-vm.ensures;
 }
 
-pub returns : goal.returns
-returns c =
+pub returns-clause-family : goal.returns-clause-family
+returns-clause-family c =
     IfOk-weaker c.new.result _ _
     (λ world stands.
     booted-family c.args.depot.now world (paged c.in_ok-vm.vm) (booted_paged c.args.image.now c.args.disk c.args.input.now c.args.options) stands
     (ap paged c.in_ok-vm.ensures))
-    c.new.ensures
+    c.new.ensures.stands

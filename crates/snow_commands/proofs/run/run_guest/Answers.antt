@@ -1,12 +1,18 @@
+use Rattle.std.proofs.Common.{◌≡◌, ℕ, ◌<◌, List}
 use Rattle.std.proofs.lemmas.Result.{err_from_is_err_and}
-use Rattle.snow_commands.proofs.TextLemmas.{run-stops, run-gives}
+use Rattle.wire_fates.specs.declared.fate.TheConstants.{LONGEST_STREAK}
+use Rattle.guest_files.specs.declared.stop.TheConstants.{INPUT_LOAD}
+use Rattle.run_report.specs.Report.{Ended as Outcome, report_of}
+use Rattle.snow_commands.proofs.TextLemmas.{over-gives, over-stops, run-stops}
 use Rattle.snow_commands.proofs.run.run_guest.Goals as goal
 
 pub returns-in_err-files : goal.returns-in_err-files
 returns-in_err-files g c =
     let p = err_from_is_err_and c.from_residual.result c.from_residual.ensures.1 in
-    rw (p.1, p.2) (run-stops c.args.guest.now (g.S.Shelf.files c.args.shelf.now) _ c.in_err-files.field-0.0 c.in_err-files.ensures.gives)
+    rw (p.1, p.2)
+    (over-stops ((0 < c.args.guest.now.clones) × (g.W.Wire.streak c.args.wire.now ≡ LONGEST_STREAK)) INPUT_LOAD _ _ (λ (outcome : Outcome) (told : List ℕ). report_of outcome ≡ told) c.in_err-files.field-0.0
+    (run-stops c.args.guest.now (g.S.Shelf.files c.args.shelf.now) _ c.in_err-files.field-0.0 c.in_err-files.ensures.gives))
 
 pub returns : goal.returns
 returns g c =
-    run-gives c.args.guest.now (g.S.Shelf.files c.args.shelf.now) _ c.in_ok-files.files _ c.run_files.result c.in_ok-files.ensures.gives c.run_files.ensures
+    over-gives _ c.args.guest.now (g.S.Shelf.files c.args.shelf.now) _ c.in_ok-files.files _ c.run_files.result c.in_ok-files.ensures.gives c.run_files.ensures

@@ -3,7 +3,8 @@ use Rattle.vm_cell.specs.Keyed.{paged}
 use Rattle.world_core.specs.Arrived.{StillHandedOut}
 use Rattle.world_core.specs.Lent.{vm_of}
 use Rattle.world_core.proofs.Arriving.{still-arrived, still-none}
-use Rattle.world_core.proofs.Fetching.{arrived-fewer, stalled-absent, stalled-has_image, stalled-in_image, whole-of}
+use Rattle.vm_cell.proofs.Receiving.{stalled-absent}
+use Rattle.world_core.proofs.Fetching.{arrived-fewer, stalled-has_image, stalled-in_image, whole-of}
 use Rattle.world_core.proofs.lease.Lease.fetch.Goals as goal
 
 pub unreachable-requires : goal.unreachable-requires

@@ -12,8 +12,8 @@ finish-requires-clause-between c =
     let lease : Lent = lent_as (turn_of i.turn.value).name i.start.value.machine i.ran i.vm.value in
     back-wanted c.args.self.now lease c.lease.invariant.0 (subst (HandedOut c.args.self.now) (sym c.lease.view_is) c.requires.lent)
 
-pub returns : goal.returns
-returns c depot f stands out_as of_depot =
+pub returns-clause-answers : goal.returns-clause-answers
+returns-clause-answers c depot f stands out_as of_depot =
     let i = c.lease.inside in
     let lease : Lent = lent_as (turn_of i.turn.value).name i.start.value.machine i.ran i.vm.value in
     subst (λ l. Answers depot f ended l c.finish.result c.finish.new.self) c.lease.view_is

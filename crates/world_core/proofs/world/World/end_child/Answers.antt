@@ -25,8 +25,8 @@ push-requires c =
     let known = subst (λ o. IsSomeAnd o Known) (sym c.in-Some.ensures.value) c.requires in
     (c.in-Some-child_ended.ensures.turn known.0 parent known.1 known.3).0
 
-pub returns-in-Some-child_ended : goal.returns-in-Some-child_ended
-returns-in-Some-child_ended c depot f b leaving left sound =
+pub returns-in-Some-child_ended-clause-stands : goal.returns-in-Some-child_ended-clause-stands
+returns-in-Some-child_ended-clause-stands c depot f b leaving left sound =
     let x : Branch = record { ticket = c.args.ticket; child = c.args.index } in
     let parent = c.args.parent.now in
     let turn = c.in-Some-child_ended.turn in
@@ -39,8 +39,8 @@ returns-in-Some-child_ended c depot f b leaving left sound =
     (λ n. IsListed-more n (turn_of turn.value) c.args.self.now.ready) (λ n. IsCovered-more n (turn_of turn.value) c.args.self.now.ready)
     (λ p shows is. IsListed-first parent (turn_of turn.value) c.args.self.now.ready (c.in-Some-child_ended.ensures.turn depot parent p shows).1))
 
-pub returns-in_default-child_ended : goal.returns-in_default-child_ended
-returns-in_default-child_ended c depot f b leaving left sound =
+pub returns-in_default-child_ended-clause-stands : goal.returns-in_default-child_ended-clause-stands
+returns-in_default-child_ended-clause-stands c depot f b leaving left sound =
     let x : Branch = record { ticket = c.args.ticket; child = c.args.index } in
     let parent = c.args.parent.now in
     end-child depot c.args.self.now f parent x b c.args.outcome leaving left sound c.in-Some.cell.now c.child_ended.new.self

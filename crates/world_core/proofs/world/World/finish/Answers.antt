@@ -77,7 +77,7 @@ returns-clause-finished c depot f a between same sound =
             let at : name ≡ path = sym named ∙ v.in-Some-pop.ensures in
             subst (λ new. StandsFor depot new (with_tree name b f)) (sym v.self-is)
             (subst (λ n. StandsFor depot v.end_child.new.self (with_tree n b f)) (sym at)
-            (v.end_child.ensures depot f b (subst (IsLeaving depot (record w { cells = c.take_out.new.cells }) f) at leaving) (subst (λ n. HasLeft n b outcome) at left)
+            (v.end_child.ensures.stands depot f b (subst (IsLeaving depot (record w { cells = c.take_out.new.cells }) f) at leaving) (subst (λ n. HasLeft n b outcome) at left)
             (subst (λ n. IsSound forest (with_tree n b f).tree) at sound)))
         | in-None+in-Some-1 v ↦
             subst (λ new. StandsFor depot new (with_tree name b f)) (sym v.self-is)

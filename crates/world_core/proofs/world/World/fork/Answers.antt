@@ -17,14 +17,14 @@ use Rattle.world_core.proofs.Calling.{gone-here, at-ok, at-err, same-image}
 use Rattle.world_core.proofs.CallFork.{fork-kept, fork-called}
 use Rattle.world_core.proofs.world.World.fork.Goals as goal
 
-pub returns-in_default-get_mut : goal.returns-in_default-get_mut
-returns-in_default-get_mut g c f stands out_as of_depot =
+pub returns-in_default-get_mut-clause-answers : goal.returns-in_default-get_mut-clause-answers
+returns-in_default-get_mut-clause-answers g c f stands out_as of_depot =
     gone-here c.args.depot.now c.args.self.now _ f c.args.lease stands out_as
     (c.in_default-get_mut.ensures.value ∙ ap (λ n. get_by (path_cmp n) c.args.self.now.cells) c.name.ensures)
     (ap (λ cells. record c.args.self.now { cells = cells }) c.get_mut.follows.holds-at-none)
 
-pub returns-in_default-copy : goal.returns-in_default-copy
-returns-in_default-copy g c f stands out_as of_depot = (
+pub returns-in_default-copy-clause-answers : goal.returns-in_default-copy-clause-answers
+returns-in_default-copy-clause-answers g c f stands out_as of_depot = (
   tt,
   refl,
   fork-kept c.args.depot.now c.args.self.now f c.args.lease c.in-Some-Clone.ticket c.in-Some.cell.now stands out_as
@@ -35,8 +35,8 @@ returns-in_default-copy g c f stands out_as of_depot = (
       refl refl (λ t holds at. holds),
 )
 
-pub returns-in_default-of_children : goal.returns-in_default-of_children
-returns-in_default-of_children g c f stands out_as of_depot = (
+pub returns-in_default-of_children-clause-answers : goal.returns-in_default-of_children-clause-answers
+returns-in_default-of_children-clause-answers g c f stands out_as of_depot = (
   tt,
   refl,
   fork-kept c.args.depot.now c.args.self.now f c.args.lease c.in-Some-Clone.ticket c.in-Some.cell.now stands out_as
@@ -47,8 +47,8 @@ returns-in_default-of_children g c f stands out_as of_depot = (
       refl refl (λ t holds at. holds),
 )
 
-pub returns-then-is_err : goal.returns-then-is_err
-returns-then-is_err g c f stands out_as of_depot =
+pub returns-then-is_err-clause-answers : goal.returns-then-is_err-clause-answers
+returns-then-is_err-clause-answers g c f stands out_as of_depot =
     let failed = sym c.is_err.ensures.value ∙ c.if-is_err.true in
     let inside = c.lease.inside in
     let lease_of : KeyedMachine → Lent = λ v. lent_as (turn_of inside.turn.value).name inside.start.value.machine inside.ran v in (
@@ -95,8 +95,8 @@ place-requires-clause-between g c =
           ∙ ap (λ (v : KeyedMachine). v.key) c.deref_mut.ensures.value ∙ ap (λ (l : Lent). l.key) c.lease.view_is) lent.3,
     )
 
-pub returns : goal.returns
-returns g c f stands out_as of_depot =
+pub returns-clause-answers : goal.returns-clause-answers
+returns-clause-answers g c f stands out_as of_depot =
     let turn_at : Path → Waiting = λ n. record { name = n; children = Some (c.in-Some-Clone.ticket, 1) } in
     let made = sym c.is_err.ensures.value ∙ c.if-is_err.false in
     let k = fork-called c.args.depot.now c.args.self.now f c.args.lease c.in-Some-Clone.ticket c.in-Some.cell.now stands out_as
@@ -112,7 +112,7 @@ returns g c f stands out_as of_depot =
     (at-ok ((t : Tree (Spot Paged)) → Holds c.args.depot.now (turn_of c.deref.result.now).name c.in-Some.cell.now t
     → StandsAt (paged c.deref_mut.result.now) (clone c.in-Some-Clone.ticket) t
     → HoldsAfter c.args.depot.now (turn_of c.deref.result.now).name c.fork.new.self (forked_tree c.in-Some-Clone.ticket t)) c.fork.result made c.fork.ensures.holds) in
-    let p = c.place.ensures c.args.depot.now f k.tree k.between k.is
+    let p = c.place.ensures.placed c.args.depot.now f k.tree k.between k.is
     (same-image c.args.depot.now c.fork.new.vm c.args.lease
     (ap (λ (v : KeyedMachine). v.key) (at-ok (c.fork.new.vm ≡ record c.deref_mut.result.now { machine = forked c.deref_mut.result.now.machine }) c.fork.result made c.fork.ensures.ok)
     ∙ ap (λ (v : KeyedMachine). v.key) c.deref_mut.ensures.value ∙ ap (λ (l : Lent). l.key) c.lease.view_is) of_depot)

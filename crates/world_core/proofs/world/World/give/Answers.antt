@@ -6,8 +6,8 @@ use Rattle.world_core.specs.Answers.{Answers, IsHandedOut, IsLentOf, home_by}
 use Rattle.world_core.proofs.Giving.{gave-answers}
 use Rattle.world_core.proofs.world.World.give.Goals as goal
 
-pub returns : goal.returns
-returns c depot f stands out_as of_depot =
+pub returns-clause-answers : goal.returns-clause-answers
+returns-clause-answers c depot f stands out_as of_depot =
     let i = c.lease.inside in
     let lease : Lent = lent_as (turn_of i.turn.value).name i.start.value.machine i.ran i.vm.value in
     let lives : c.args.lease.now.ending ≡ None = lives-none c.args.lease.now.ending (ap is_some (sym c.ended.ensures) ∙ sym c.if-is_some.ensures) in

@@ -16,14 +16,14 @@ use Rattle.world_core.proofs.Calling.{gone-here, at-ok, at-err, same-image}
 use Rattle.world_core.proofs.CallJoin.{join-parked, join-asked, join-kept, join-called}
 use Rattle.world_core.proofs.world.World.join.Goals as goal
 
-pub returns-in_default-get_mut : goal.returns-in_default-get_mut
-returns-in_default-get_mut c depot f stands out_as of_depot =
+pub returns-in_default-get_mut-clause-answers : goal.returns-in_default-get_mut-clause-answers
+returns-in_default-get_mut-clause-answers c depot f stands out_as of_depot =
     gone-here depot c.args.self.now _ f c.args.lease stands out_as
     (c.in_default-get_mut.ensures.value ∙ ap (λ n. get_by (path_cmp n) c.args.self.now.cells) c.name.ensures)
     (ap (λ cells. record c.args.self.now { cells = cells }) c.get_mut.follows.holds-at-none)
 
-pub returns-then-waits : goal.returns-then-waits
-returns-then-waits c depot f stands out_as of_depot =
+pub returns-then-waits-clause-answers : goal.returns-then-waits-clause-answers
+returns-then-waits-clause-answers c depot f stands out_as of_depot =
     let parked : Cell = record c.in-Some.cell.now { state = Parked c.in-Some-Join.ticket c.lease.inside.vm c.lease.inside.turn } in (
       tt,
       join-parked depot c.args.self.now f c.args.lease c.in-Some-Join.ticket c.in-Some.cell.now stands out_as
@@ -43,8 +43,8 @@ join-requires-clause-ended c =
     (c.in-Some.ensures.value ∙ ap (λ n. get_by (path_cmp n) c.args.self.now.cells) c.name.ensures)
     (λ depot path t holds. sym c.if-waits.false ∙ c.waits.ensures depot path t holds) (paged c.deref_mut.result.now) (ap paged c.deref_mut.ensures.value ∙ ap now_of c.lease.view_is)
 
-pub returns-then-is_err : goal.returns-then-is_err
-returns-then-is_err c depot f stands out_as of_depot =
+pub returns-then-is_err-clause-answers : goal.returns-then-is_err-clause-answers
+returns-then-is_err-clause-answers c depot f stands out_as of_depot =
     let failed = sym c.is_err.ensures.value ∙ c.if-is_err.true in
     let inside = c.lease.inside in
     let lease_of : KeyedMachine → Lent = λ v. lent_as (turn_of inside.turn.value).name inside.start.value.machine inside.ran v in (
@@ -84,8 +84,8 @@ place-requires-clause-between c =
           (c.join.ensures.key ∙ ap (λ (v : KeyedMachine). v.key) c.deref_mut.ensures.value ∙ ap (λ (l : Lent). l.key) c.lease.view_is) lent.1.3,
     )
 
-pub returns : goal.returns
-returns c depot f stands out_as of_depot =
+pub returns-clause-answers : goal.returns-clause-answers
+returns-clause-answers c depot f stands out_as of_depot =
     let k = join-called depot c.args.self.now f c.args.lease c.in-Some-Join.ticket c.in-Some.cell.now stands out_as
     (subst (λ (l : Lent). IsLent l.start l.ran l.now) c.lease.view_is c.lease.invariant.0) (ap Some (sym c.in-Some-Join.field-0-is) ∙ c.in-Some-Join.ensures)
     (c.in-Some.ensures.value ∙ ap (λ n. get_by (path_cmp n) c.args.self.now.cells) c.name.ensures)
@@ -98,7 +98,7 @@ returns c depot f stands out_as of_depot =
     ((c.join.new.vm ≡ record c.deref_mut.result.now { machine = after_join c.deref_mut.result.now.machine (endings forest (brood_of c.in-Some-Join.ticket (broods_of t))) })
     × HoldsAfter depot path c.join.new.self (joined_tree c.in-Some-Join.ticket t)) c.join.result
     (sym c.is_err.ensures.value ∙ c.if-is_err.false) (c.join.ensures.ok t depot path holds at all) in (ap paged did.0, did.1)) in
-    let p = c.place.ensures depot f k.tree k.between k.is
+    let p = c.place.ensures.placed depot f k.tree k.between k.is
     (same-image depot c.join.new.vm c.args.lease
     (c.join.ensures.key ∙ ap (λ (v : KeyedMachine). v.key) c.deref_mut.ensures.value ∙ ap (λ (l : Lent). l.key) c.lease.view_is) of_depot)
     k.sound in

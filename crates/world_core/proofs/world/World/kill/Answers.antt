@@ -16,8 +16,8 @@ use Rattle.world_core.proofs.Calling.{found-here, gone-here, lent_out, same-imag
 use Rattle.world_core.proofs.CallKill.{kill-called}
 use Rattle.world_core.proofs.world.World.kill.Goals as goal
 
-pub returns-in_default-get_mut : goal.returns-in_default-get_mut
-returns-in_default-get_mut c depot f stands out_as of_depot =
+pub returns-in_default-get_mut-clause-answers : goal.returns-in_default-get_mut-clause-answers
+returns-in_default-get_mut-clause-answers c depot f stands out_as of_depot =
     gone-here depot c.args.self.now _ f c.args.lease stands out_as
     (c.in_default-get_mut.ensures.value ∙ ap (λ n. get_by (path_cmp n) c.args.self.now.cells) c.name.ensures)
     (ap (λ cells. record c.args.self.now { cells = cells }) c.get_mut.follows.holds-at-none)
@@ -57,8 +57,8 @@ place-requires-clause-between c =
           (ap (λ (v : KeyedMachine). v.key) (c.kill.ensures.vm) ∙ ap (λ (v : KeyedMachine). v.key) c.deref_mut.ensures.value ∙ ap (λ (l : Lent). l.key) c.lease.view_is) lent.1.3,
     )
 
-pub returns : goal.returns
-returns c depot f stands out_as of_depot =
+pub returns-clause-answers : goal.returns-clause-answers
+returns-clause-answers c depot f stands out_as of_depot =
     let k = kill-called depot c.args.self.now f c.args.lease c.in-Some-Kill.ticket c.in-Some.cell.now c.kill.new.self (c.get_mut.follows.lender c.kill.new.self)
     c.drop_below.new.cells _ _ (paged c.deref_mut.result.now) (paged c.kill.new.vm) stands out_as
     (subst (λ (l : Lent). IsLent l.start l.ran l.now) c.lease.view_is c.lease.invariant.0) (ap Some (sym c.in-Some-Kill.field-0-is) ∙ c.in-Some-Kill.ensures)
@@ -68,7 +68,7 @@ returns c depot f stands out_as of_depot =
     (subst (λ n. WritesThrough path_cmp (path_cmp n) c.args.self.now.cells c.kill.new.self (c.get_mut.follows.lender c.kill.new.self)) c.name.ensures
     (c.get_mut.follows.holds c.kill.new.self))
     c.drop_below.ensures c.kill.ensures.place.1 c.kill.ensures.after (ap paged c.kill.ensures.vm) in
-    let p = c.place.ensures depot f k.tree k.between k.is
+    let p = c.place.ensures.placed depot f k.tree k.between k.is
     (same-image depot c.kill.new.vm c.args.lease
     (ap (λ (v : KeyedMachine). v.key) (c.kill.ensures.vm) ∙ ap (λ (v : KeyedMachine). v.key) c.deref_mut.ensures.value ∙ ap (λ (l : Lent). l.key) c.lease.view_is) of_depot)
     k.sound in

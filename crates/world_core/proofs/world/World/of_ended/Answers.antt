@@ -7,10 +7,10 @@ use Rattle.world_core.proofs.Beginning.{end-stands}
 use Rattle.world_core.proofs.world.World.of_ended.Goals as goal
 use Rattle.vm_cell.specs.Keyed.{paged}
 
-pub returns : goal.returns
-returns c = λ depot.
+pub returns-clause-stands : goal.returns-clause-stands
+returns-clause-stands c = λ depot.
     let vm = paged c.args.vm in
     let named : Ended = record { name = []; ending = c.args.ending; steps = vm.machine.steps; output = vm.machine.state.ports.console.output; log = [] } in
     let outcome : c.new-3.result ≡ named = cc (c.new-3.ensures, c.in_ok-root.ensures, c.steps-steps.ensures, c.into_output.ensures, c.new-log.ensures.items) in
-    end-stands depot vm c.args.ending c.new-3.result c.new.result c.new-2.result c.requires.ended c.requires.no_ticket c.requires.good
+    end-stands depot vm c.args.ending c.new-3.result c.new.result c.new-2.result c.new-told.result c.requires.ended c.requires.no_ticket c.requires.good
     (λ name. ap (lookup (is_at (path_cmp name))) c.new.ensures.empty) outcome

@@ -13,8 +13,8 @@ use Rattle.world_core.specs.Shows.{forest, CellShows}
 use Rattle.world_core.proofs.Beginning.{none-cloned, start-stands}
 use Rattle.world_core.proofs.world.World.of_live.Goals as goal
 
-pub returns : goal.returns
-returns c = λ depot.
+pub returns-clause-stands : goal.returns-clause-stands
+returns-clause-stands c = λ depot.
     let vm = paged c.args.vm in
     let boxed : c.in_ok-new.field-0.value ≡ c.args.vm = c.in_ok-new.ensures.ok in
     let same : paged c.in_ok-new.field-0.value ≡ vm = ap paged boxed in
@@ -28,5 +28,5 @@ returns c = λ depot.
     subst (λ m. CellShows depot [] c.of_root.result (alone forest (record { machine = m; place = home }))) same
     (c.of_root.ensures.shows depot [] (ap (λ (p : Paged). p.machine.ending) same ∙ c.requires.lives) of_depot
     (none-cloned (paged c.in_ok-new.field-0.value) (ap (λ (p : Paged). p.machine.state.ports.fork.tickets) same ∙ c.requires.no_ticket))) in
-    start-stands depot vm c.new-cells.result c.insert.new.self c.push.new.self c.of_root.result c.requires.lives c.requires.no_ticket c.requires.good
+    start-stands depot vm c.new-cells.result c.insert.new.self c.push.new.self c.of_root.result c.new-told.result c.requires.lives c.requires.no_ticket c.requires.good
     (λ name. ap (lookup (is_at (path_cmp name))) c.new-cells.ensures.empty) inserted shows list

@@ -1,21 +1,22 @@
-use Rattle.std.proofs.Common.{◌≡◌, suc, ◌<◌, length, sym, ap, subst, arith}
+use Rattle.std.proofs.Common.{◌≡◌, suc, ◌<◌, length, refl, sym, ap, subst, arith}
 use Rattle.forest_tree.proofs.Rests.{lives-none}
 use Rattle.std.specs.Option.{IfNone}
 use Rattle.world_core.specs.Turns.{turn_of}
 use Rattle.world_core.proofs.TurnByTurn.{over-goes, stopped-goes, idle-goes, with-popped, goes-on}
 use Rattle.world_core.proofs.world.World.take.Goals as goal
 
-pub returns-then-is_some : goal.returns-then-is_some
-returns-then-is_some c = λ f h. over-goes c.args.depot.now c.args.self.now f h (sym c.if-is_some.ensures)
+pub returns-then-is_some-clause-takes : goal.returns-then-is_some-clause-takes
+returns-then-is_some-clause-takes c = λ f h. over-goes c.args.depot.now c.args.self.now f h (sym c.if-is_some.ensures)
 
-pub returns-in-Some : goal.returns-in-Some
-returns-in-Some c = λ f h.
+pub returns-in-Some-clause-takes : goal.returns-in-Some-clause-takes
+returns-in-Some-clause-takes c = λ f h.
     stopped-goes c.args.depot.now c.args.self.now f c.in-Some.reason h (lives-none c.args.self.now.outcome (sym c.if-is_some.ensures)) c.in-Some.is
 
 pub loop-turn-init : goal.loop-turn-init
 loop-turn-init c = record {
   going = lives-none c.args.self.now.outcome (sym c.if-is_some.ensures);
   unhalted = c.in_default.is;
+  told = refl;
   stands = λ f h. h;
 }
 
@@ -30,8 +31,8 @@ take_by-requires-clause-world c =
 pub take_by-requires-clause-going : goal.take_by-requires-clause-going
 take_by-requires-clause-going c = (c.loop-turn.invariant.going, c.loop-turn.invariant.unhalted)
 
-pub returns-in-Some-take_by : goal.returns-in-Some-take_by
-returns-in-Some-take_by c = λ f h.
+pub returns-in-Some-take_by-clause-takes : goal.returns-in-Some-take_by-clause-takes
+returns-in-Some-take_by-clause-takes c = λ f h.
     c.in-Some-take_by.ensures.takes f
     (with-popped c.args.depot.now c.loop-turn.self (turn_of c.in-Some-pop.turn.value) c.pop.new.self f c.in-Some-pop.ensures.first
     (c.loop-turn.invariant.stands f h))
@@ -48,10 +49,10 @@ loop-turn-smaller c =
 pub loop-turn-preserved : goal.loop-turn-preserved
 loop-turn-preserved c =
     goes-on c.args.depot.now c.args.self.now c.loop-turn.self c.take_by.new.self (turn_of c.in-Some-pop.turn.value) c.pop.new.self c.loop-turn.invariant
-    c.in-Some-pop.ensures.first c.in_default-take_by.ensures.takes c.take_by.ensures.going.0 c.take_by.ensures.going.1
+    c.in-Some-pop.ensures.first c.in_default-take_by.ensures.takes c.take_by.ensures.going.0 c.take_by.ensures.going.1 c.take_by.ensures.told
 
-pub returns : goal.returns
-returns c = λ f h.
+pub returns-clause-takes : goal.returns-clause-takes
+returns-clause-takes c = λ f h.
     let left = c.in_default-pop.ensures.first in
     idle-goes c.args.depot.now c.loop-turn.self c.pop.new.self f (c.loop-turn.invariant.stands f h) c.loop-turn.invariant.going c.loop-turn.invariant.unhalted
     left.0 left.1

@@ -13,34 +13,34 @@ use Rattle.world_core.specs.World.{StandsFor}
 use Rattle.world_core.proofs.ByName.{over-nobody, stands-same, rewritten, named-error, named-idle, named-taken, root-cell, before-named, no_cell-home, named-woken}
 use Rattle.world_core.proofs.world.World.take_named.Goals as goal
 
-pub returns-then-is_some : goal.returns-then-is_some
-returns-then-is_some c = λ f h. (over-nobody c.args.depot.now c.args.self.now f c.args.name.now h (sym c.if-is_some.ensures), h)
+pub returns-then-is_some-clause-takes : goal.returns-then-is_some-clause-takes
+returns-then-is_some-clause-takes c = λ f h. (over-nobody c.args.depot.now c.args.self.now f c.args.name.now h (sym c.if-is_some.ensures), h)
 
-pub returns-in_err-copy : goal.returns-in_err-copy
-returns-in_err-copy c = λ f h.
+pub returns-in_err-copy-clause-takes : goal.returns-in_err-copy-clause-takes
+returns-in_err-copy-clause-takes c = λ f h.
     let cell = c.in-Some.cell.now in
     let new = c.get_mut.follows.lender cell in
     named-error c.args.depot.now f c.args.name.now c.from_residual.result (record c.args.self.now { cells = new }) c.from_residual.ensures.0
     (stands-same c.args.depot.now c.args.self.now (record c.args.self.now { cells = new }) f
     (rewritten c.args.self.now.cells new c.args.name.now cell c.in-Some.ensures.value (c.get_mut.follows.holds cell)) refl refl refl h)
 
-pub returns-in_err-turn : goal.returns-in_err-turn
-returns-in_err-turn c = λ f h.
+pub returns-in_err-turn-clause-takes : goal.returns-in_err-turn-clause-takes
+returns-in_err-turn-clause-takes c = λ f h.
     let cell = c.in-Some.cell.now in
     let new = c.get_mut.follows.lender cell in
     named-error c.args.depot.now f c.args.name.now c.from_residual-in_err-turn.result (record c.args.self.now { cells = new }) c.from_residual-in_err-turn.ensures.0
     (stands-same c.args.depot.now c.args.self.now (record c.args.self.now { cells = new }) f
     (rewritten c.args.self.now.cells new c.args.name.now cell c.in-Some.ensures.value (c.get_mut.follows.holds cell)) refl refl refl h)
 
-pub returns-in_default-lend_named : goal.returns-in_default-lend_named
-returns-in_default-lend_named c = λ f h.
+pub returns-in_default-lend_named-clause-takes : goal.returns-in_default-lend_named-clause-takes
+returns-in_default-lend_named-clause-takes c = λ f h.
     let lent = c.lend_named.new.self in
     named-idle c.args.depot.now c.args.self.now f c.args.name.now h (lives-none c.args.self.now.outcome (sym c.if-is_some.ensures)) c.in-Some.cell.now
     c.in-Some.ensures.value (c.get_mut.follows.lender lent) lent (c.get_mut.follows.holds lent)
     (c.in_default-lend_named.ensures.shows c.args.depot.now c.args.name.now)
 
-pub returns-in-Some : goal.returns-in-Some
-returns-in-Some c = λ f h.
+pub returns-in-Some-clause-takes : goal.returns-in-Some-clause-takes
+returns-in-Some-clause-takes c = λ f h.
     let lent = c.lend_named.new.self in
     let v = c.in-Some-lend_named.vm.value in
     let name : (turn_of c.in_ok-turn.turn.value).name ≡ c.args.name.now
@@ -56,8 +56,8 @@ unreachable-requires c =
     root-cell c.args.depot.now c.args.self.now r.0 c.args.name.now r.1 (lives-none c.args.self.now.outcome (sym c.if-is_some.ensures)) c.in_default.ensures.value
     (sym c.in_ok-parent.ensures ∙ c.in_default-pop.ensures.0)
 
-pub returns-then-not-is_asleep : goal.returns-then-not-is_asleep
-returns-then-not-is_asleep c = λ f h.
+pub returns-then-not-is_asleep-clause-takes : goal.returns-then-not-is_asleep-clause-takes
+returns-then-not-is_asleep-clause-takes c = λ f h.
     let depot = c.args.depot.now in
     let same = sym c.get_mut.follows.holds-at-none in
     let going = lives-none c.args.self.now.outcome (sym c.if-is_some.ensures) in
@@ -79,8 +79,8 @@ wake-requires c =
       sym (c.is_asleep.ensures depot r.0.tree before) ∙ c.if-not-is_asleep.false,
     )
 
-pub returns : goal.returns
-returns c = λ f h.
+pub returns-clause-takes : goal.returns-clause-takes
+returns-clause-takes c = λ f h.
     let depot = c.args.depot.now in
     let parent : Path = c.pop.new.self in
     let ticket : ℕ = c.in-Some-pop.ticket in

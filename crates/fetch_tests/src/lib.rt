@@ -1,0 +1,7 @@
+//! Tests of the public calls of `host_fetch`.
+#![tactic(auto)]
+
+#[cfg(test)]
+mod fetches;
+#[cfg(test)]
+mod guest;

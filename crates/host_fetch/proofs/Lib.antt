@@ -1,0 +1,4 @@
+pub mod Asking
+pub mod Failing
+pub mod Loop
+pub mod Hearing

@@ -1,0 +1,27 @@
+use Rattle.std.proofs.Common.{◌≡◌, ◌+◌, ◌-◌, ◌<◌, [], ◌∷◌, ◌++◌, length, take, sym, ap, ◌∙◌, subst, arith, length-append}
+use Rattle.std.specs.List.{All}
+use Rattle.std.proofs.lemmas.List.Elements.{All-push}
+use Rattle.host_fetch.specs.Asked.{absent_among, first_asked}
+use Rattle.host_fetch.proofs.Asking.{found_absent, found_here}
+use Rattle.host_fetch.proofs.ask.first_asked.Goals as goal
+
+pub loop-next-preserved-then-is_here : goal.loop-next-preserved-then-is_here
+loop-next-preserved-then-is_here g c = record {
+  there = c.loop-next.invariant.there;
+  most = c.loop-next.invariant.most;
+  is = found_here _ c.loop-next.next c.args.pages _ c.loop-next.asked.items _ c.loop-next-test.true (sym c.is_here.ensures ∙ c.if-is_here.true) c.loop-next.invariant.is;
+}
+
+pub loop-next-preserved : goal.loop-next-preserved
+loop-next-preserved g c =
+    let here = g.T.Receiver.here c.args.receiver.now in
+    let next = c.loop-next.next in
+    let pages = c.args.pages in
+    let items = c.in_ok-push-2.ensures.items in
+    let room : length c.loop-next.asked.items < c.args.ahead + 1 = omega (arith, c.if-len-ahead.false, c.len.ensures, c.loop-next.asked.ok.0) in
+    record {
+      there = subst (All (λ each. each < pages)) (sym items) (All-push (λ each. each < pages) c.loop-next.asked.items next c.loop-next.invariant.there c.loop-next-test.true);
+      most = omega (arith, room, ap length items, length-append c.loop-next.asked.items (next ∷ []));
+      is = subst (λ l. l ++ take (c.args.ahead + 1 - length l) (absent_among here (next + 1) (pages - (next + 1))) ≡ first_asked here c.args.page c.args.ahead) (sym items)
+          (found_absent here next pages (c.args.ahead + 1) c.loop-next.asked.items _ c.loop-next-test.true (sym c.is_here.ensures ∙ c.if-is_here.false) room c.loop-next.invariant.is);
+    }

@@ -1,0 +1,9 @@
+use Rattle.host_fetch.proofs.Asking.{grown_kept}
+use Rattle.host_fetch.proofs.Failing.{finishes_wire}
+use Rattle.host_fetch.proofs.fetch_page.fetch.Goals as goal
+
+pub returns-clause-wire : goal.returns-clause-wire
+returns-clause-wire g c = finishes_wire _ _ _ _ _ _ _ _ c.fetch_page.result c.fetch_page.ensures.fetches.2
+
+pub returns-clause-kept : goal.returns-clause-kept
+returns-clause-kept g c = λ kept. grown_kept _ _ _ _ _ c.fetch_page.ensures.fetches.1 kept

@@ -1,0 +1,106 @@
+ghost use Rattle.std.specs.Prelude.{◌≡◌, ℕ, ◌≤◌, List, length, None, Some, Ok, IfErr, OnOk};
+ghost use Rattle.std.specs.List.{All};
+ghost use Rattle.std.specs.Option.{ForSome};
+ghost use Rattle.image_depot.specs.Image.{page_count};
+ghost use Rattle.image_depot.specs.Key.{IsKeyOf, image_of};
+ghost use Rattle.image_depot.specs.Receiver.{IsAbsent, IsHere};
+ghost use Rattle.image_depot.specs.Reply.{IsSentOf};
+ghost use Rattle.host_fetch.specs.Asked.{HasGrown, first_asked};
+ghost use Rattle.host_fetch.specs.Fetch.{Finishes, Grows, begun};
+
+use crate::ask::{ask_again, ask_first, first_asked};
+use crate::deliver::deliver;
+use crate::error::FetchError;
+use image_depot::{Depot, ImageKey, Receiver, Sent};
+use std::alloc::Global;
+use std::sync::Wait;
+use wire_fates::{LONGEST_STREAK, Wire};
+
+/// The most pages that a fetch asks for beside the wanted one.
+pub const MAX_AHEAD: u32 = 16;
+
+/// Brings the page that a receiver wants, if it wants one. It asks for this page and for the next `ahead` higher ones
+/// that are absent, and the wire tells what becomes of the replies. Where the reply with the wanted page is lost, it
+/// asks for it again. All replies are pushed, and told in `pushed`. The wire has failed where its streak is the
+/// longest after a fate, and the page is not here.
+pub fn fetch<R: Wait, T: Receiver, W: Wire>(
+    rt: &R,
+    alloc: Global,
+    receiver: &mut T,
+    depot: &Depot,
+    wire: &mut W,
+    ahead: u32,
+    pushed: &mut Vec<Sent>,
+) -> Result<(), FetchError>
+    requires ahead { ahead ≤ MAX_AHEAD }
+    requires of_depot { ForSome (T.key receiver.old) (IsKeyOf depot.now) }
+    ensures none { T.wanted receiver.old ≡ None → (result ≡ Ok tt) × (receiver.new ≡ receiver.old) × (wire.new ≡ wire.old) × (pushed.new.items ≡ pushed.old.items) }
+    ensures here { OnOk result (ForSome (T.wanted receiver.old) (IsHere (T.here receiver.new))) }
+    ensures fetches { ForSome (T.wanted receiver.old) (λ page. ForSome (T.key receiver.old) (λ key. (asked : List ℕ)
+        × HasGrown depot.now key asked pushed.old.items pushed.new.items
+        × Finishes W.tells W.streak page wire.old (begun (T.here receiver.old) (first_asked (T.here receiver.old) page ahead)) wire.new (T.here receiver.new) asked result)) }
+    ensures wire { IfErr result (λ error. error ≡ FetchError.Wire → W.streak wire.new ≡ LONGEST_STREAK) }
+    ensures kept { All (IsSentOf depot.now) pushed.old.items → All (IsSentOf depot.now) pushed.new.items }
+    ensures key { T.key receiver.new ≡ T.key receiver.old }
+    ensures rest { T.rest receiver.new ≡ T.rest receiver.old }
+    ensures grows { Grows (T.here receiver.old) (T.here receiver.new) }
+{
+    let Some(page) = receiver.wanted() else {
+        return Ok(());
+    };
+    let Some(key) = receiver.key() else {
+        unreachable!()
+    };
+    let Ok(key) = key.again() else {
+        return Err(FetchError::Memory);
+    };
+    fetch_page(rt, alloc, receiver, depot, wire, &key, page, ahead, pushed)
+}
+
+/// Brings a page that is absent.
+fn fetch_page<R: Wait, T: Receiver, W: Wire>(
+    rt: &R,
+    alloc: Global,
+    receiver: &mut T,
+    depot: &Depot,
+    wire: &mut W,
+    key: &ImageKey,
+    page: u32,
+    ahead: u32,
+    pushed: &mut Vec<Sent>,
+) -> Result<(), FetchError>
+    requires ahead { ahead ≤ MAX_AHEAD }
+    requires of_depot { IsKeyOf depot.now key.now }
+    requires of_image { T.key receiver.old ≡ Some key.now }
+    requires pages { page_count (image_of key.now) ≡ length (T.here receiver.old) }
+    requires absent { IsAbsent (T.here receiver.old) page }
+    ensures fetches { (asked : List ℕ)
+        × HasGrown depot.now key.now asked pushed.old.items pushed.new.items
+        × Finishes W.tells W.streak page wire.old (begun (T.here receiver.old) (first_asked (T.here receiver.old) page ahead)) wire.new (T.here receiver.new) asked result }
+    ensures key { T.key receiver.new ≡ T.key receiver.old }
+    ensures rest { T.rest receiver.new ≡ T.rest receiver.old }
+    ensures grows { Grows (T.here receiver.old) (T.here receiver.new) }
+{
+    let pages = depot.pages(key);
+    let Ok(asked) = first_asked(alloc, receiver, pages, page, ahead) else {
+        return Err(FetchError::Memory);
+    };
+    let Ok(mut waiting) = ask_first(rt, alloc, depot, key, &asked, pushed) else {
+        return Err(FetchError::Memory);
+    };
+    loop {
+        let fate = wire.next(waiting.len());
+        let Ok(()) = deliver(alloc, receiver, depot, &mut waiting, fate) else {
+            return Err(FetchError::Memory);
+        };
+        if receiver.is_here(page) {
+            return Ok(());
+        }
+        if wire.streak() == LONGEST_STREAK {
+            return Err(FetchError::Wire);
+        }
+        let Ok(()) = ask_again(rt, depot, key, page, &mut waiting, pushed) else {
+            return Err(FetchError::Memory);
+        };
+    }
+}
