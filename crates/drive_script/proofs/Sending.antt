@@ -1,18 +1,18 @@
 -- What was sent to siblings, as the driver keeps it.
-use Rattle.std.proofs.Common.{◌≡◌, ◌≢◌, ℕ, ◌==◌, ◌&&◌, eqb-true, eq-eqb, Bool, true, false, cond, refl, sym, ap, ap₂, ◌∙◌, subst, append-nil, List, [], ◌∷◌, ◌++◌, length, Vec, Option, Some, None, option_map}
+use Rattle.std.proofs.Common.{◌≡◌, ◌≢◌, ℕ, ◌==◌, ◌&&◌, eqb-true, eq-eqb, Bool, true, false, cond, refl, sym, ap, ap₂, ◌∙◌, subst, List, [], ◌∷◌, ◌++◌, length, Vec, Option, Some, None, option_map}
 use Rattle.std.specs.BTreeMap.{BTreeMap, Updates, get}
 use Rattle.std.specs.declared.alloc.Global.{Global}
 use Rattle.std.proofs.lemmas.Bool.{and_parts}
-use Rattle.forest_tree.specs.Tree.{Path, beyond}
+use Rattle.forest_tree.specs.Tree.{Path}
 use Rattle.forest_tree.proofs.Places.{some-same}
+use Rattle.forest_history.specs.Histories.{is_same_path}
+use Rattle.forest_history.proofs.Held.{same-self, same-is}
 use Rattle.run_report.specs.Name.{child_path}
 use Rattle.run_report.specs.NameOrder.{path_cmp}
-use Rattle.run_report.proofs.Below.{beyond-append}
 use Rattle.run_report.proofs.NameMaps.{updated-apart, updated-here}
 use Rattle.drive_script.specs.declared.answer.Sent.{Sent}
 use Rattle.drive_script.specs.Driven.{Keeps, first_of, pages_in}
-use Rattle.drive_script.specs.Replies.{Siblings, Replies, are_same, is_nothing_left, page_at, place_of, reply_to, siblings_below, siblings_of, with_reply}
-use Rattle.drive_script.proofs.OneMachine.{beyond-itself}
+use Rattle.drive_script.specs.Replies.{Siblings, Replies, are_same, page_at, place_of, reply_to, siblings_below, siblings_of, with_reply}
 
 -- ---- siblings
 
@@ -25,22 +25,14 @@ pub siblings-root : (path : Path) → path ≡ [] → siblings_of path ≡ None
 unfolding siblings_of
 siblings-root path is = ap siblings_of is
 
-nothing-left : (left : Option Path) → is_nothing_left left ≡ true → left ≡ Some []
-nothing-left None h = absurd (cc)
-nothing-left (Some []) h = refl
-nothing-left (Some (b ∷ rest)) h = absurd (cc)
-
 pub are-same : (a b : Siblings) → are_same a b ≡ true → a ≡ b
 are-same a b h =
-    let parts = and_parts (is_nothing_left (beyond a.parent b.parent)) (a.ticket == b.ticket) h in
+    let parts = and_parts (is_same_path a.parent b.parent) (a.ticket == b.ticket) h in
     let make : Path → ℕ → Siblings = λ parent ticket. record { parent = parent; ticket = ticket } in
-    ap₂ make (beyond-itself a.parent b.parent (nothing-left (beyond a.parent b.parent) parts.0)) (eqb-true a.ticket b.ticket parts.1)
-
-itself : (path : Path) → beyond path path ≡ Some []
-itself path = ap (beyond path) (sym (append-nil path)) ∙ beyond-append path []
+    ap₂ make (same-is a.parent b.parent parts.0) (eqb-true a.ticket b.ticket parts.1)
 
 same-itself : (a : Siblings) → are_same a a ≡ true
-same-itself a = ap₂ (λ left ticket. is_nothing_left left && ticket) (itself a.parent) (eq-eqb a.ticket a.ticket refl)
+same-itself a = ap₂ (λ parent ticket. parent && ticket) (same-self a.parent) (eq-eqb a.ticket a.ticket refl)
 
 true-not : (b : Bool) → b ≡ true → b ≡ false → ⊥
 true-not b is not_so = cc

@@ -2,8 +2,9 @@
 use Rattle.std.specs.Prelude.{ℕ, ◌==◌, ◌&&◌, Bool, true, false, if◌then◌else◌, List, [], ◌∷◌, ◌++◌, length, slice_get, Option, Some, None}
 use Rattle.image_depot.specs.declared.arrived.Arrived.{Arrived}
 use Rattle.image_depot.specs.declared.arrived.Arrived.TheVariants.{Got, Had}
-use Rattle.forest_tree.specs.Tree.{Tree, node, Branch, Path, beyond}
+use Rattle.forest_tree.specs.Tree.{Tree, node, Branch, Path}
 use Rattle.forest_history.specs.Places.{at_path}
+use Rattle.forest_history.specs.Histories.{is_same_path}
 use Rattle.forest_model.specs.Paged.{Paged, pages_arrived}
 use Rattle.drive_script.specs.declared.answer.Sent.{Sent}
 
@@ -23,13 +24,8 @@ unfoldable pub siblings_of : Path → Option Siblings
 siblings_of [] = None
 siblings_of (b ∷ rest) = siblings_below b (siblings_of rest)
 
-abbrev pub is_nothing_left : Option Path → Bool
-is_nothing_left None = false
-is_nothing_left (Some []) = true
-is_nothing_left (Some (b ∷ rest)) = false
-
 abbrev pub are_same : Siblings → Siblings → Bool
-are_same a b = is_nothing_left (beyond a.parent b.parent) && a.ticket == b.ticket
+are_same a b = is_same_path a.parent b.parent && a.ticket == b.ticket
 
 -- ---- what is sent
 

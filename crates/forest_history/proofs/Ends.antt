@@ -119,7 +119,7 @@ module _ {M E : Type 0} (o : Operations M E) where
     bare-hold share (tree t rest) h = (bare-holding t ∙ h.0, bare-sound t h.1, bare-hold share rest h.2)
 
   -- another place changes no machine
-  bare-placed : (place : Place) (t : Tree (Spot M)) → bare (placed place t) ≡ bare t
+  pub bare-placed : (place : Place) (t : Tree (Spot M)) → bare (placed place t) ≡ bare t
   unfolding map_tree
   bare-placed place (node s broods log) = refl
 

@@ -5,3 +5,8 @@ pub mod Ends
 pub mod Whole
 pub mod Weigh
 pub mod Turns
+pub mod Seen
+pub mod Histories
+pub mod Held
+pub mod Moves
+pub mod Leases

@@ -3,3 +3,5 @@ pub mod World
 pub mod Rows
 pub mod Weight
 pub mod Children
+pub mod Histories
+pub mod Seen

@@ -1,16 +1,18 @@
 //! Laws of the definitions, each the contract of a function that does nothing. They hold for all machines
 //! that keep the rules.
 
-ghost use Rattle.std.specs.Prelude.{◌≡◌, ◌≢◌, ◌+◌, ◌<◌, ◌==◌, ℕ, zero, suc, true, false, List, [], ◌∷◌, ◌++◌, replicate, Option, Some, None, option_and_then, option_map};
+ghost use Rattle.std.specs.Prelude.{◌≡◌, ◌≢◌, ◌+◌, ◌<◌, ◌==◌, ℕ, zero, suc, true, false, List, [], ◌∷◌, ◌++◌, replicate, Option, Some, None, IsSome, IfSome, option_and_then, option_map, All};
 ghost use Rattle.forest_tree.specs.Operations.{Operations, IsMachine};
 ghost use Rattle.forest_tree.specs.Tree.{Tree, node, Trees, Broods, Log, machine, log_of, broods_of, brood_of, child_at, at_child, Branch, Path, subtree, beyond, is_below};
 ghost use Rattle.forest_tree.specs.Settle.{has_ended, have_ended, waits, settled, step, settle, settle_all};
 ghost use Rattle.forest_tree.specs.Sound.{IsSound};
 ghost use Rattle.forest_tree.specs.Finish.{finish};
-ghost use Rattle.forest_tree.specs.Projection.{Projects};
-ghost use Rattle.forest_history.specs.Places.{at_path, at_beyond, Spot, bare, spots, advanced, may_run, steps};
+ghost use Rattle.forest_tree.specs.Projection.{map_tree, Projects};
+ghost use Rattle.forest_history.specs.Places.{at_path, at_beyond, out, Spot, bare, spots, advanced, may_run, steps};
 ghost use Rattle.forest_history.specs.World.{World, is_ready, IsWhole, world_of};
 ghost use Rattle.forest_history.specs.Rows.{How, gave, Row, took, spent, Allows, does};
+ghost use Rattle.forest_history.specs.Seen.{spot_seen, seen};
+ghost use Rattle.forest_history.specs.Histories.{Seat, Entry, History, Holding, Record, holding, record_of, replay, IsLegal};
 ghost use Rattle.forest_history.specs.Children.{life, living};
 ghost use Rattle.forest_history.specs.Weight.{weight};
 
@@ -83,4 +85,56 @@ pub fn turns_run_out<M, E, R>()
     ensures less { (o : Operations M E) → IsMachine o → (how : How) (name : Path) (k : ℕ) (w : World M R) → IsSound (spots o) w.tree
         → Allows o (took name) w → how ≢ gave → Allows o (spent how name k) (does o (took name) w)
         → weight o (does o (spent how name k) (does o (took name) w)).tree < weight o w.tree }
+{}
+
+/// A row of machines with more inside is that row of what is seen of them: it may come there too, and does
+/// there what is seen of what it does.
+pub fn rows_project<M, N, E, R>()
+    ensures allowed { (o : Operations M E) (p : Operations N E) (f : M → N) → Projects o p f → (row : Row R) (w : World M R)
+        → Allows o row w → Allows p row (seen f w) }
+    ensures after { (o : Operations M E) (p : Operations N E) (f : M → N) → Projects o p f → (row : Row R) (w : World M R)
+        → seen f (does o row w) ≡ does p row (seen f w) }
+    ensures there { (f : M → N) (name : Path) (w : World M R) → subtree name (seen f w).tree ≡ option_map (map_tree (spot_seen f)) (subtree name w.tree) }
+    ensures start { (o : Operations M E) (p : Operations N E) (f : M → N) (m : M) → seen f (world_of o {R = R} m) ≡ world_of p {R = R} (f m) }
+{}
+
+/// A history and then more of it are one history. What is on record after it is what the later part makes of
+/// the record after the earlier, and it is legal where both parts are, each from where it begins.
+pub fn histories_go_on<M, E, R>()
+    ensures after { (o : Operations M E) (before more : History R) (r : Record M R) → replay o (before ++ more) r ≡ replay o more (replay o before r) }
+    ensures apart { (o : Operations M E) (before more : History R) (r : Record M R) → IsLegal o (before ++ more) r
+        → IsLegal o before r × IsLegal o more (replay o before r) }
+    ensures together { (o : Operations M E) (before more : History R) (r : Record M R) → IsLegal o before r → IsLegal o more (replay o before r)
+        → IsLegal o (before ++ more) r }
+{}
+
+/// A legal history leads from a sound forest to a sound one, which comes to the same end.
+pub fn histories_keep_the_end<M, E, R>()
+    ensures sound { (o : Operations M E) → IsMachine o → (history : History R) (w : World M R) → IsSound (spots o) w.tree
+        → IsLegal o history (record_of w) → IsSound (spots o) (replay o history (record_of w)).world.tree }
+    ensures end { (o : Operations M E) → IsMachine o → (history : History R) (w : World M R) → IsSound (spots o) w.tree
+        → IsLegal o history (record_of w) → finish o (bare (replay o history (record_of w)).world.tree) ≡ finish o (bare w.tree) }
+{}
+
+/// A machine that a seat holds is out, and as that seat found it, or it is no more in the tree.
+pub fn leases_stay_as_taken<M, E, R>()
+    ensures { (o : Operations M E) → IsMachine o → (history : History R) (w : World M R) → IsSound (spots o) w.tree
+        → IsLegal o history (record_of w) → (name : Path) (x : Holding M) → holding name (replay o history (record_of w)).holdings ≡ Some x
+        → IfSome (subtree name (replay o history (record_of w)).world.tree) (λ t. ((machine t).place ≡ out) × ((machine t).machine ≡ x.found)) }
+{}
+
+/// What a seat holds, it holds still after entries of others.
+pub fn others_keep_what_is_held<M, E, R>()
+    ensures { (o : Operations M E) → IsMachine o → (seat : Seat) (before between : History R) (w : World M R) → IsSound (spots o) w.tree
+        → IsLegal o (before ++ between) (record_of w) → All (λ (e : Seat × Entry R). e.0 ≢ seat) between
+        → (name : Path) (x : Holding M) → holding name (replay o before (record_of w)).holdings ≡ Some x → x.seat ≡ seat
+        → holding name (replay o (before ++ between) (record_of w)).holdings ≡ Some x }
+{}
+
+/// A machine that was there and has left the tree does not come back, and no other has its name.
+pub fn names_do_not_come_back<M, E, R>()
+    ensures { (o : Operations M E) → IsMachine o → (name : Path) (before between more : History R) (w : World M R) → IsSound (spots o) w.tree
+        → IsLegal o (before ++ (between ++ more)) (record_of w) → IsSome (subtree name (replay o before (record_of w)).world.tree)
+        → subtree name (replay o (before ++ between) (record_of w)).world.tree ≡ None
+        → subtree name (replay o (before ++ (between ++ more)) (record_of w)).world.tree ≡ None }
 {}

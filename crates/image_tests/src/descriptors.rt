@@ -6,6 +6,7 @@ use console_port::ConsoleFields;
 use flat_memory::write_bytes;
 use rv_traps::{CsrRegisters, Csrs};
 use std::alloc::{AllocError, Global};
+use std::process::Abort;
 use std::test::Fail;
 use std::thread;
 use timer_port::{TimerPort, TimerRegisters};
@@ -202,26 +203,47 @@ fn again(alloc: Global, bytes: &[u8]) -> Result<Vec<u8>, DescError> {
     Ok(descriptor.encode(alloc)?)
 }
 
-#[test]
-fn fields_stand_at_their_places(rt: HostRuntime) -> Result<(), Fail> {
-    let first = first_child(rt.alloc())?.encode(rt.alloc())?;
-    let numbered = numbered(rt.alloc())?.encode(rt.alloc())?;
+/// The bytes of the first child.
+fn first_bytes(alloc: Global) -> Result<Vec<u8>, AllocError> {
+    let descriptor = first_child(alloc)?;
+    descriptor.encode(alloc)
+}
+
+/// The bytes of the descriptor whose fields all differ.
+fn numbered_bytes(alloc: Global) -> Result<Vec<u8>, AllocError> {
+    let descriptor = numbered(alloc)?;
+    descriptor.encode(alloc)
+}
+
+fn are_placed(rt: &impl Abort, first: &[u8], numbered: &[u8]) {
     let found = [
-        misplaced(&first, &FIRST_CHILD),
-        misplaced(&numbered, &NUMBERED),
+        misplaced(first, &FIRST_CHILD),
+        misplaced(numbered, &NUMBERED),
     ];
     assert_eq!(rt;
         (first.len(), numbered.len(), found),
         (778, 779, [None, None])
     );
+}
+
+#[test]
+fn fields_stand_at_their_places(rt: HostRuntime) -> Result<(), Fail> {
+    let first = first_bytes(rt.alloc())?;
+    let numbered = numbered_bytes(rt.alloc())?;
+    are_placed(&rt, &first, &numbered);
+    Ok(())
+}
+
+fn is_read(rt: &impl Abort, alloc: Global, bytes: &[u8]) -> Result<(), Fail> {
+    let spelled = again(alloc, bytes)?;
+    assert_eq!(rt; spelled.as_slice(), bytes);
     Ok(())
 }
 
 #[test]
 fn what_was_encoded_is_read(rt: HostRuntime) -> Result<(), Fail> {
-    let bytes = numbered(rt.alloc())?.encode(rt.alloc())?;
-    assert_eq!(rt; again(rt.alloc(), &bytes)?.as_slice(), bytes.as_slice());
-    Ok(())
+    let bytes = numbered_bytes(rt.alloc())?;
+    is_read(&rt, rt.alloc(), &bytes)
 }
 
 /// Of the first child's bytes a length, words at places of them, and the reason why they are refused, or
@@ -317,17 +339,29 @@ fn mistold(
     rows: &[(usize, &[(usize, u32)], u32)],
 ) -> Result<Option<usize>, AllocError> {
     for (row, (length, changes, number)) in rows.iter().enumerate() {
-        if reason(alloc, &changed(alloc, bytes, *length, changes)?) != Some(*number) {
+        if reason_of_changed(alloc, bytes, *length, changes)? != Some(*number) {
             return Ok(Some(row));
         }
     }
     Ok(None)
 }
 
+/// The reason why changed bytes are refused, or 0.
+fn reason_of_changed(
+    alloc: Global,
+    bytes: &[u8],
+    length: usize,
+    changes: &[(usize, u32)],
+) -> Result<Option<u32>, AllocError> {
+    let bytes = changed(alloc, bytes, length, changes)?;
+    Ok(reason(alloc, &bytes))
+}
+
 #[test]
 fn refuses_by_the_first_reason(rt: HostRuntime) -> Result<(), Fail> {
-    let bytes = first_child(rt.alloc())?.encode(rt.alloc())?;
-    assert_eq!(rt; mistold(rt.alloc(), &bytes, &CHANGES)?, None);
+    let bytes = first_bytes(rt.alloc())?;
+    let row = mistold(rt.alloc(), &bytes, &CHANGES)?;
+    assert_eq!(rt; row, None);
     Ok(())
 }
 
@@ -342,33 +376,52 @@ static SPARE: [(usize, &[(usize, u32)], u32); 5] = [
 
 #[test]
 fn refuses_a_second_spelling(rt: HostRuntime) -> Result<(), Fail> {
-    let bytes = numbered(rt.alloc())?.encode(rt.alloc())?;
-    assert_eq!(rt; mistold(rt.alloc(), &bytes, &SPARE)?, None);
+    let bytes = numbered_bytes(rt.alloc())?;
+    let row = mistold(rt.alloc(), &bytes, &SPARE)?;
+    assert_eq!(rt; row, None);
     Ok(())
+}
+
+/// The bytes of the first child of a machine of the most pages.
+fn bytes_of_most(alloc: Global) -> Result<Vec<u8>, AllocError> {
+    let mut descriptor = first_child(alloc)?;
+    descriptor.pages = 1024;
+    descriptor.blank = map_of(alloc, 1024, 1023)?;
+    descriptor.encode(alloc)
+}
+
+fn ends_with_the_map(rt: &impl Abort, alloc: Global, bytes: &[u8]) {
+    let tail = misplaced(bytes, &[(776, b"\xff\xff"), (902, b"\xff\x7f")]);
+    assert_eq!(rt;
+        (bytes.len(), tail, reason(alloc, bytes)),
+        (904, None, Some(0))
+    );
 }
 
 #[test]
 fn takes_a_map_of_the_most_pages(rt: HostRuntime) -> Result<(), Fail> {
-    let mut descriptor = first_child(rt.alloc())?;
-    descriptor.pages = 1024;
-    descriptor.blank = map_of(rt.alloc(), 1024, 1023)?;
-    let bytes = descriptor.encode(rt.alloc())?;
-    let tail = misplaced(&bytes, &[(776, b"\xff\xff"), (902, b"\xff\x7f")]);
-    assert_eq!(rt;
-        (bytes.len(), tail, reason(rt.alloc(), &bytes)),
-        (904, None, Some(0))
-    );
+    let bytes = bytes_of_most(rt.alloc())?;
+    ends_with_the_map(&rt, rt.alloc(), &bytes);
     Ok(())
+}
+
+/// How many flags there are, and how many of them are set.
+fn counts(flags: &[bool]) -> (usize, usize) {
+    let blank = flags.iter().filter(|is_blank| **is_blank).count();
+    (flags.len(), blank)
+}
+
+fn are_equal(rt: &impl Abort, map: &PageMap, copy: &PageMap) {
+    assert_eq!(rt; copy.flags(), map.flags());
 }
 
 #[test]
 fn a_map_is_copied(rt: HostRuntime) -> Result<(), Fail> {
     let map = map_of(rt.alloc(), 16, 0)?;
     let copy = map.clone()?;
-    assert_eq!(rt; copy.flags(), map.flags());
+    are_equal(&rt, &map, &copy);
     let flags = copy.into_vec();
-    let blank = flags.iter().filter(|is_blank| **is_blank).count();
-    assert_eq!(rt; (flags.len(), blank), (16, 15));
+    assert_eq!(rt; counts(&flags), (16, 15));
     Ok(())
 }
 

@@ -3,6 +3,7 @@
 use elf_load::{ImageError, Loaded, load_elf};
 use flat_memory::write_bytes;
 use std::alloc::{AllocError, Global};
+use std::process::Abort;
 use std::test::Fail;
 
 /// The image of a program that exits with 7.
@@ -43,6 +44,31 @@ fn push_header(image: &mut Vec<u8>, header: &ProgramHeader) -> Result<(), AllocE
     Ok(())
 }
 
+/// Adds the header of an executable with so many program headers.
+fn push_file_header(image: &mut Vec<u8>, entry: u32, count: u16) -> Result<(), AllocError> {
+    image.extend_from_slice(
+        b"\x7fELF\x01\x01\x01\xff\xff\xff\xff\xff\xff\xff\xff\xff\x02\0\xf3\0\x01\0\0\0",
+    )?;
+    image.extend_from_slice(&entry.to_le_bytes())?;
+    image.extend_from_slice(b"\x34\0\0\0\xff\xff\xff\xff\xff\xff\xff\xff\xff\xff\x20\0")?;
+    image.extend_from_slice(&count.to_le_bytes())?;
+    image.extend_from_slice(b"\xff\xff\xff\xff\xff\xff")
+}
+
+/// Adds an executable with these program headers and then these bytes.
+fn push_image(
+    image: &mut Vec<u8>,
+    entry: u32,
+    headers: &[ProgramHeader],
+    bytes: &[u8],
+) -> Result<(), AllocError> {
+    push_file_header(image, entry, u16::try_from(headers.len()).unwrap_or(0))?;
+    for header in headers {
+        push_header(image, header)?;
+    }
+    image.extend_from_slice(bytes)
+}
+
 /// An executable with these program headers and then these bytes. The fields that a loader does not read
 /// are all ones.
 fn image_of(
@@ -51,19 +77,8 @@ fn image_of(
     headers: &[ProgramHeader],
     bytes: &[u8],
 ) -> Result<Vec<u8>, AllocError> {
-    let count = u16::try_from(headers.len()).unwrap_or(0);
     let mut image = Vec::new(alloc);
-    image.extend_from_slice(
-        b"\x7fELF\x01\x01\x01\xff\xff\xff\xff\xff\xff\xff\xff\xff\x02\0\xf3\0\x01\0\0\0",
-    )?;
-    image.extend_from_slice(&entry.to_le_bytes())?;
-    image.extend_from_slice(b"\x34\0\0\0\xff\xff\xff\xff\xff\xff\xff\xff\xff\xff\x20\0")?;
-    image.extend_from_slice(&count.to_le_bytes())?;
-    image.extend_from_slice(b"\xff\xff\xff\xff\xff\xff")?;
-    for header in headers {
-        push_header(&mut image, header)?;
-    }
-    image.extend_from_slice(bytes)?;
+    push_image(&mut image, entry, headers, bytes)?;
     Ok(image)
 }
 
@@ -94,15 +109,21 @@ fn first_flags(loaded: &Loaded, count: usize) -> Option<&[bool]> {
     loaded.segments().get(..count)
 }
 
+fn is_exit_seven(rt: &impl Abort, loaded: &Loaded) {
+    assert_eq!(rt; (loaded.entry(), loaded.pages()), (0x8000_0000, 64));
+    assert_eq!(rt;
+        (ram_at(loaded, 0, 5), first_flags(loaded, 2)),
+        (
+            Some([0xb7, 0x22, 0x00, 0x10, 0x13].as_slice()),
+            Some([true, false].as_slice())
+        )
+    );
+}
+
 #[test]
 fn loads_exit_seven(rt: HostRuntime) -> Result<(), Fail> {
     let loaded = load_elf(rt.alloc(), &EXIT_SEVEN, 64)?;
-    assert_eq!(rt; (loaded.entry(), loaded.pages()), (0x8000_0000, 64));
-    assert_eq!(rt;
-        ram_at(&loaded, 0, 5),
-        Some([0xb7, 0x22, 0x00, 0x10, 0x13].as_slice())
-    );
-    assert_eq!(rt; first_flags(&loaded, 2), Some([true, false].as_slice()));
+    is_exit_seven(&rt, &loaded);
     Ok(())
 }
 
@@ -123,18 +144,30 @@ fn are_placed(loaded: &Loaded) -> [bool; 3] {
     ]
 }
 
+fn is_in_order(rt: &impl Abort, loaded: &Loaded) {
+    let flags = [true, true, true, true, false];
+    assert_eq!(rt;
+        (loaded.entry(), are_placed(loaded), first_flags(loaded, 5)),
+        (0x8000_1000, [true; 3], Some(flags.as_slice()))
+    );
+}
+
+/// An image with these program headers and then these bytes is loaded.
+fn loaded_of(
+    alloc: Global,
+    entry: u32,
+    headers: &[ProgramHeader],
+    bytes: &[u8],
+) -> Result<Loaded, Fail> {
+    let image = image_of(alloc, entry, headers, bytes)?;
+    Ok(load_elf(alloc, &image, 16)?)
+}
+
 #[test]
 fn loads_segments_in_any_order(rt: HostRuntime) -> Result<(), Fail> {
-    let image = image_of(rt.alloc(), 0x8000_1000, &ANY_ORDER, &[1, 2, 3, 4, 5, 6])?;
-    let loaded = load_elf(rt.alloc(), &image, 16)?;
-    assert_eq!(rt;
-        (loaded.entry(), are_placed(&loaded)),
-        (0x8000_1000, [true; 3])
-    );
-    assert_eq!(rt;
-        first_flags(&loaded, 5),
-        Some([true, true, true, true, false].as_slice())
-    );
+    let bytes = [1, 2, 3, 4, 5, 6];
+    let loaded = loaded_of(rt.alloc(), 0x8000_1000, &ANY_ORDER, &bytes)?;
+    is_in_order(&rt, &loaded);
     Ok(())
 }
 
@@ -152,11 +185,15 @@ fn most_headers(alloc: Global) -> Result<Vec<ProgramHeader>, AllocError> {
     Ok(headers)
 }
 
+/// What the file of these is loaded as.
+fn loaded_of_most(alloc: Global) -> Result<Loaded, Fail> {
+    let headers = most_headers(alloc)?;
+    loaded_of(alloc, 0x8000_0000, &headers, &[])
+}
+
 #[test]
 fn loads_as_many_segments_as_there_may_be(rt: HostRuntime) -> Result<(), Fail> {
-    let headers = most_headers(rt.alloc())?;
-    let image = image_of(rt.alloc(), 0x8000_0000, &headers, &[])?;
-    let loaded = load_elf(rt.alloc(), &image, 16)?;
+    let loaded = loaded_of_most(rt.alloc())?;
     assert_eq!(rt;
         ram_at(&loaded, 0xfffc, 3),
         Some([0x7f, 0x7f, 0].as_slice())
@@ -167,13 +204,19 @@ fn loads_as_many_segments_as_there_may_be(rt: HostRuntime) -> Result<(), Fail> {
 /// Why a file of 65,534 segments of one byte, a zero, is not loaded, if it is not. They lie one behind
 /// the other from the start of RAM on, but for the last, which lies at `last`.
 fn refusal_of_most(alloc: Global, last: u32) -> Result<Option<ImageError>, AllocError> {
-    let mut headers: Vec<ProgramHeader> = Vec::new(alloc);
+    let headers = headers_of_zeros(alloc, last)?;
+    let image = image_of(alloc, 0x8000_0000, &headers, &[])?;
+    Ok(refusal(alloc, &image))
+}
+
+/// The program headers of that file.
+fn headers_of_zeros(alloc: Global, last: u32) -> Result<Vec<ProgramHeader>, AllocError> {
+    let mut headers = Vec::new(alloc);
     for address in 0x8000_0000..0x8000_fffd {
         headers.push([1, 0, address, 0, 1])?;
     }
     headers.push([1, 0, last, 0, 1])?;
-    let image = image_of(alloc, 0x8000_0000, &headers, &[])?;
-    Ok(refusal(alloc, &image))
+    Ok(headers)
 }
 
 /// Where the last of those segments lies, and the rule that the file then breaks, if it breaks one.
@@ -234,17 +277,32 @@ static BROKEN: [(usize, &[(usize, u32)], u32); 29] = [
     (136, &[(24, 1), (96, 0x8000_000f)], 11),
 ];
 
-#[test]
-fn refuses_by_the_first_rule_that_is_broken(rt: HostRuntime) -> Result<(), Fail> {
-    let image = image_of(rt.alloc(), 0x8000_0000, &TWO_SEGMENTS, &[0; 20])?;
-    assert_eq!(rt; refusal(rt.alloc(), &image), None);
+/// Why the first `length` bytes of an image, with other words at some places, are not loaded, if they are not.
+fn refusal_of_changed(
+    alloc: Global,
+    image: &[u8],
+    length: usize,
+    changes: &[(usize, u32)],
+) -> Result<Option<ImageError>, AllocError> {
+    let file = changed(alloc, image, length, changes)?;
+    Ok(refusal(alloc, &file))
+}
+
+fn is_refused_by_each_rule(rt: &impl Abort, alloc: Global, image: &[u8]) -> Result<(), Fail> {
+    assert_eq!(rt; refusal(alloc, image), None);
     for (length, changes, rule) in BROKEN.iter() {
-        let file = changed(rt.alloc(), &image, *length, changes)?;
+        let refused = refusal_of_changed(alloc, image, *length, changes)?;
         assert_eq!(rt;
-            refusal(rt.alloc(), &file),
+            refused,
             Some(ImageError::Refused(*rule)),
             "{changes:?} at {length} bytes"
         );
     }
     Ok(())
+}
+
+#[test]
+fn refuses_by_the_first_rule_that_is_broken(rt: HostRuntime) -> Result<(), Fail> {
+    let image = image_of(rt.alloc(), 0x8000_0000, &TWO_SEGMENTS, &[0; 20])?;
+    is_refused_by_each_rule(&rt, rt.alloc(), &image)
 }

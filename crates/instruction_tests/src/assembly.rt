@@ -65,29 +65,38 @@ fn branch_to(
     program.branch_to(branch, label)
 }
 
-fn add_line(rt: &impl Abort, program: &mut Program, line: Line) -> Result<(), AsmError> {
+/// The kind of a line's instruction, and its rd, rs1, rs2 and immediate, which is 0 where a label gives it.
+fn fields_of(line: Line) -> Option<(Kind, u32, u32, u32, i32)> {
     match line {
         Line::Upper(kind, rd, upper) => {
             let imm = (upper & 0xf_ffff) << 12;
-            program.push(instruction(rt, kind, rd, 0, 0, imm.cast_signed()))
+            Some((kind, rd, 0, 0, imm.cast_signed()))
         }
-        Line::Registers(kind, rd, rs1, rs2) => {
-            program.push(instruction(rt, kind, rd, rs1, rs2, 0))
-        }
-        Line::Immediate(kind, rd, rs1, imm) => {
-            program.push(instruction(rt, kind, rd, rs1, 0, imm))
-        }
-        Line::Load(kind, rd, imm, rs1) => program.push(instruction(rt, kind, rd, rs1, 0, imm)),
-        Line::Csr(kind, rd, imm, rs1) => program.push(instruction(rt, kind, rd, rs1, 0, imm)),
-        Line::Store(kind, rs2, imm, rs1) => program.push(instruction(rt, kind, 0, rs1, rs2, imm)),
-        Line::Bare(kind) => program.push(instruction(rt, kind, 0, 0, 0, 0)),
-        Line::Branch(kind, rs1, rs2, label) => {
-            branch_to(rt, program, instruction(rt, kind, 0, rs1, rs2, 0), label)
-        }
-        Line::Jump(rd, label) => {
-            branch_to(rt, program, instruction(rt, Kind::Jal, rd, 0, 0, 0), label)
-        }
+        Line::Registers(kind, rd, rs1, rs2) => Some((kind, rd, rs1, rs2, 0)),
+        Line::Immediate(kind, rd, rs1, imm) => Some((kind, rd, rs1, 0, imm)),
+        Line::Load(kind, rd, imm, rs1) => Some((kind, rd, rs1, 0, imm)),
+        Line::Csr(kind, rd, imm, rs1) => Some((kind, rd, rs1, 0, imm)),
+        Line::Store(kind, rs2, imm, rs1) => Some((kind, 0, rs1, rs2, imm)),
+        Line::Bare(kind) => Some((kind, 0, 0, 0, 0)),
+        Line::Branch(kind, rs1, rs2, _) => Some((kind, 0, rs1, rs2, 0)),
+        Line::Jump(rd, _) => Some((Kind::Jal, rd, 0, 0, 0)),
+        Line::Label(_) => None,
+    }
+}
+
+/// The instruction of a line.
+fn instruction_of(rt: &impl Abort, line: Line) -> Instr {
+    let (kind, rd, rs1, rs2, imm) = fields_of(line).expect(rt, "a line with an instruction");
+    instruction(rt, kind, rd, rs1, rs2, imm)
+}
+
+fn add_line(rt: &impl Abort, program: &mut Program, line: Line) -> Result<(), AsmError> {
+    match line {
         Line::Label(label) => program.place_label(label),
+        Line::Branch(_, _, _, label) | Line::Jump(_, label) => {
+            branch_to(rt, program, instruction_of(rt, line), label)
+        }
+        _ => program.push(instruction_of(rt, line)),
     }
 }
 

@@ -4,7 +4,7 @@ ghost use Rattle.std.specs.Prelude.{◌≡◌, ◌≤◌, [], length, IfOk, None
 ghost use Rattle.forest_model.specs.Forest.{port_of};
 
 use cow_disk::Disk;
-use elf_load::{RAM_BASE, load_elf};
+use elf_load::{Loaded, RAM_BASE, load_elf};
 use forest_model::Options;
 use rv_asm::elf_of;
 use std::alloc::Global;
@@ -20,8 +20,31 @@ pub(crate) static TWO_CHILDREN: [u32; 25] = [
     0x0062a423,
 ];
 
-// A machine of these words with so many pages, that makes at most 1,000,000 steps and may have two clones.
+// The machine of an image, that makes at most 1,000,000 steps and may have two clones.
 #[tactic(auto, unfolding(forest_model::specs::Machine::boot))]
+fn booted_of(alloc: Global, image: &Loaded) -> Result<Vm, Fail>
+    ensures no_ticket { IfOk result (λ vm. (port_of vm.machine).tickets ≡ []) }
+    ensures no_image { IfOk result (λ vm. vm.key ≡ None) }
+{
+    let disk = Disk::from_bytes(alloc, b"")?;
+    let options = Options {
+        limit: 1_000_000,
+        allot: 2,
+    };
+    Ok(Vm::boot(alloc, image, disk, b"", options)?)
+}
+
+// The image of these words in RAM of so many pages.
+fn loaded(alloc: Global, words: &[u32], pages: u32) -> Result<Loaded, Fail>
+    requires words { length words.now ≤ 64 }
+    requires least { 16 ≤ pages }
+    requires most { pages ≤ 1024 }
+{
+    let file = elf_of(alloc, RAM_BASE, words)?;
+    Ok(load_elf(alloc, &file, pages)?)
+}
+
+// The machine of these words with so many pages.
 pub(crate) fn booted(alloc: Global, words: &[u32], pages: u32) -> Result<Vm, Fail>
     requires words { length words.now ≤ 64 }
     requires least { 16 ≤ pages }
@@ -29,11 +52,6 @@ pub(crate) fn booted(alloc: Global, words: &[u32], pages: u32) -> Result<Vm, Fai
     ensures no_ticket { IfOk result (λ vm. (port_of vm.machine).tickets ≡ []) }
     ensures no_image { IfOk result (λ vm. vm.key ≡ None) }
 {
-    let image = load_elf(alloc, &elf_of(alloc, RAM_BASE, words)?, pages)?;
-    let disk = Disk::from_bytes(alloc, b"")?;
-    let options = Options {
-        limit: 1_000_000,
-        allot: 2,
-    };
-    Ok(Vm::boot(alloc, &image, disk, b"", options)?)
+    let image = loaded(alloc, words, pages)?;
+    booted_of(alloc, &image)
 }

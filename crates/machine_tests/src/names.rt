@@ -50,15 +50,26 @@ fn has_text(rt: &impl Abort, alloc: Global, name: &Name, text: &str) -> Result<(
     Ok(())
 }
 
+fn are_named(
+    rt: &impl Abort,
+    alloc: Global,
+    first: &Name,
+    first_text: &str,
+    second: &Name,
+    second_text: &str,
+) -> Result<(), Fail> {
+    are_in_order(rt, first, second);
+    has_text(rt, alloc, first, first_text)?;
+    has_text(rt, alloc, second, second_text)
+}
+
 #[test]
 fn names_are_in_order(rt: HostRuntime) -> Result<(), Fail> {
     let alloc = rt.alloc();
     for (first, first_text, second, second_text) in IN_ORDER.iter() {
         let first = named(alloc, first)?;
         let second = named(alloc, second)?;
-        are_in_order(&rt, &first, &second);
-        has_text(&rt, alloc, &first, first_text)?;
-        has_text(&rt, alloc, &second, second_text)?;
+        are_named(&rt, alloc, &first, first_text, &second, second_text)?;
     }
     Ok(())
 }
@@ -92,31 +103,63 @@ static PLACES: [usize; 9] = [0, 1, 63, 64, 65, 2048, 4031, 4032, 4095];
 fn deep_names_differ_in_one_fork(rt: HostRuntime) -> Result<(), Fail> {
     let alloc = rt.alloc();
     let name = chain(alloc)?;
+    differs_at_each_place(&rt, alloc, &name)
+}
+
+/// The name differs from those with another fork at a place, and from the one with no such place it does not.
+fn differs_at_each_place(rt: &impl Abort, alloc: Global, name: &Name) -> Result<(), Fail> {
     for place in PLACES.iter() {
-        let other = deep(alloc, *place)?;
-        are_in_order(&rt, &name, &other);
+        differs_at(rt, alloc, name, *place)?;
     }
-    let same = deep(alloc, DEEPEST)?;
-    assert!(rt; same == name);
+    let is_same = is_deep(alloc, name)?;
+    assert!(rt; is_same);
     Ok(())
+}
+
+fn differs_at(rt: &impl Abort, alloc: Global, name: &Name, place: usize) -> Result<(), Fail> {
+    let other = deep(alloc, place)?;
+    are_in_order(rt, name, &other);
+    Ok(())
+}
+
+/// Whether a name is the one of so many forks that are alike.
+fn is_deep(alloc: Global, name: &Name) -> Result<bool, AllocError> {
+    let same = deep(alloc, DEEPEST)?;
+    Ok(&same == name)
 }
 
 /// A parent's name, and its child's made anew.
 fn goes_back_and_on(rt: &impl Abort, alloc: Global, name: &Name) -> Result<(), Fail> {
     let mut parent = name.copy()?;
-    assert_eq!(rt; parent.pop(), Some((1, 1)));
-    assert_eq!(rt; (parent.depth(), name.depth()), (DEEPEST - 1, DEEPEST));
-    are_in_order(rt, &parent, name);
-    let child = parent.child(alloc, 1, 1)?;
-    assert!(rt; &child == name);
+    let last = parent.pop();
+    is_parent(rt, &parent, name, last);
+    let is_child = has_child(alloc, &parent, name)?;
+    assert!(rt; is_child);
+    Ok(())
+}
+
+fn is_parent(rt: &impl Abort, parent: &Name, name: &Name, last: Option<(u32, u32)>) {
+    are_in_order(rt, parent, name);
     let told = [
-        name.is_below_all(&parent),
-        name.is_below(&parent, 1),
-        name.is_below(&parent, 2),
+        name.is_below_all(parent),
+        name.is_below(parent, 1),
+        name.is_below(parent, 2),
         parent.is_below_all(name),
     ];
-    assert_eq!(rt; told, [true, true, false, false]);
-    Ok(())
+    assert_eq!(rt;
+        (last, [parent.depth(), name.depth()], told),
+        (
+            Some((1, 1)),
+            [DEEPEST - 1, DEEPEST],
+            [true, true, false, false]
+        )
+    );
+}
+
+/// Whether a name is that of a parent's child.
+fn has_child(alloc: Global, parent: &Name, name: &Name) -> Result<bool, AllocError> {
+    let child = parent.child(alloc, 1, 1)?;
+    Ok(&child == name)
 }
 
 #[test]

@@ -3,7 +3,7 @@
 use io_edge::{
     FileShelf, MemShelf, MemSink, Shelf, ShelfError, Sink, StdSink, WriteFault, put_all,
 };
-use std::alloc::Global;
+use std::alloc::{AllocError, Global};
 use std::fs;
 use std::process::Abort;
 use std::test::Fail;
@@ -34,21 +34,31 @@ fn is_missing<S: Shelf>(rt: &impl Abort, alloc: Global, shelf: &mut S) {
 
 #[test]
 fn reads_and_writes_memory(rt: HostRuntime) -> Result<(), Fail> {
-    let alloc = rt.alloc();
-    let file = (
-        String::from_str(alloc, "name")?,
-        Vec::from_slice(alloc, b"12345")?,
-    );
-    let mut shelf = MemShelf::new(vec![in alloc; file]?, Vec::new(alloc));
-    let bytes = shelf.load(alloc, "name", 5)?;
-    fills_a_sink(&rt, alloc, &bytes)
+    let bytes = loaded(rt.alloc())?;
+    fills_a_sink(&rt, rt.alloc(), &bytes)
+}
+
+/// A shelf with one file.
+fn shelf_of(alloc: Global) -> Result<MemShelf, AllocError> {
+    let name = String::from_str(alloc, "name")?;
+    let file = (name, Vec::from_slice(alloc, b"12345")?);
+    let files = vec![in alloc; file]?;
+    Ok(MemShelf::new(files, Vec::new(alloc)))
+}
+
+/// The bytes of its file.
+fn loaded(alloc: Global) -> Result<Vec<u8>, Fail> {
+    let mut shelf = shelf_of(alloc)?;
+    Ok(shelf.load(alloc, "name", 5)?)
 }
 
 /// A sink takes bytes while it has room.
 fn fills_a_sink(rt: &impl Abort, alloc: Global, bytes: &[u8]) -> Result<(), Fail> {
     let mut sink = MemSink::new(alloc, 2, 8, Vec::new(alloc))?;
     let puts = [put_all(&mut sink, bytes), put_all(&mut sink, bytes)];
-    assert_eq!(rt; puts, [Ok(()), Err(WriteFault)]);
-    assert_eq!(rt; sink.bytes(), b"12345123".as_slice());
+    assert_eq!(rt;
+        (puts, sink.bytes()),
+        ([Ok(()), Err(WriteFault)], b"12345123".as_slice())
+    );
     Ok(())
 }

@@ -47,10 +47,20 @@ fn names_have_texts(rt: HostRuntime) -> Result<(), Fail> {
     let root = Name::root(alloc)?;
     let child = root.child(alloc, 1, 2)?;
     let mut grandchild = child.child(alloc, 30, 4_294_967_295)?;
-    has_text(&rt, alloc, &root, "0")?;
-    has_text(&rt, alloc, &grandchild, "0.1.2.30.4294967295")?;
-    tells_what_is_below(&rt, &root, &child, &grandchild);
-    goes_back(&rt, &child, &mut grandchild);
+    have_texts(&rt, alloc, &root, &child, &mut grandchild)
+}
+
+fn have_texts(
+    rt: &impl Abort,
+    alloc: Global,
+    root: &Name,
+    child: &Name,
+    grandchild: &mut Name,
+) -> Result<(), Fail> {
+    has_text(rt, alloc, root, "0")?;
+    has_text(rt, alloc, grandchild, "0.1.2.30.4294967295")?;
+    tells_what_is_below(rt, root, child, grandchild);
+    goes_back(rt, child, grandchild);
     Ok(())
 }
 
@@ -118,17 +128,25 @@ fn one_machine_puts_out_its_bytes(rt: HostRuntime) -> Result<(), Fail> {
 /// What the children of the family end with, by their number.
 static VALUES: [(u32, u32); 2] = [(1, 41), (2, 42)];
 
+/// A child of the family, by its number.
+fn child_of(alloc: Global, root: &Name, index: u32, value: u32) -> Result<Outcome, AllocError> {
+    let name = root.child(alloc, 1, index)?;
+    Ok(silent(name, Ending::Exit(value), 16, Vec::new(alloc), alloc))
+}
+
+/// The log of the root of the family.
+fn log_of_children(alloc: Global, root: &Name) -> Result<Vec<Line>, AllocError> {
+    let mut log = Vec::new(alloc);
+    for (index, value) in VALUES.iter() {
+        join(&mut log, child_of(alloc, root, *index, *value)?)?;
+    }
+    Ok(log)
+}
+
 /// The family of a root and two children.
 fn family(alloc: Global) -> Result<Outcome, AllocError> {
     let root = Name::root(alloc)?;
-    let mut log = Vec::new(alloc);
-    for (index, value) in VALUES.iter() {
-        let name = root.child(alloc, 1, *index)?;
-        join(
-            &mut log,
-            silent(name, Ending::Exit(*value), 16, Vec::new(alloc), alloc),
-        )?;
-    }
+    let log = log_of_children(alloc, &root)?;
     Ok(silent(root, Ending::Exit(41), 21, log, alloc))
 }
 
@@ -178,25 +196,37 @@ fn is_told(
     is_reported(rt, alloc, &outcome, text)
 }
 
-/// A grandchild that has killed a ticket, and its parent, which has too.
-fn two_levels(alloc: Global, child: Name) -> Result<Outcome, AllocError> {
-    let grandchild = child.child(alloc, 1, 1)?;
-    let last = log_of(alloc, &grandchild, 7, 3)?;
-    let mut middle = Vec::new(alloc);
-    join(
-        &mut middle,
-        silent(grandchild, Ending::Exit(17), 29, last, alloc),
-    )?;
-    middle.push(Line::ticket(child.copy()?, 2, 1))?;
-    Ok(silent(child, Ending::Limit, 35, middle, alloc))
+/// A grandchild that has killed a ticket.
+fn grandchild_of(alloc: Global, child: &Name) -> Result<Outcome, AllocError> {
+    let name = child.child(alloc, 1, 1)?;
+    let log = log_of(alloc, &name, 7, 3)?;
+    Ok(silent(name, Ending::Exit(17), 29, log, alloc))
 }
 
-/// Those, and the root, which has killed one before.
+/// The log of its parent, which has killed one too.
+fn log_of_two_levels(alloc: Global, child: &Name) -> Result<Vec<Line>, AllocError> {
+    let mut log = Vec::new(alloc);
+    join(&mut log, grandchild_of(alloc, child)?)?;
+    log.push(Line::ticket(child.copy()?, 2, 1))?;
+    Ok(log)
+}
+
+fn two_levels(alloc: Global, child: Name) -> Result<Outcome, AllocError> {
+    let log = log_of_two_levels(alloc, &child)?;
+    Ok(silent(child, Ending::Limit, 35, log, alloc))
+}
+
+/// The log of the root of those, which has killed one before.
+fn log_of_three_levels(alloc: Global, root: &Name) -> Result<Vec<Line>, AllocError> {
+    let mut log = log_of(alloc, root, 3, 5)?;
+    join(&mut log, two_levels(alloc, root.child(alloc, 1, 1)?)?)?;
+    Ok(log)
+}
+
 fn three_levels(alloc: Global) -> Result<Outcome, AllocError> {
     let root = Name::root(alloc)?;
-    let mut first = log_of(alloc, &root, 3, 5)?;
-    join(&mut first, two_levels(alloc, root.child(alloc, 1, 1)?)?)?;
-    Ok(silent(root, Ending::Exit(17), 26, first, alloc))
+    let log = log_of_three_levels(alloc, &root)?;
+    Ok(silent(root, Ending::Exit(17), 26, log, alloc))
 }
 
 #[test]
@@ -271,11 +301,16 @@ fn a_fault_leaves_a_prefix(rt: HostRuntime) -> Result<(), Fail> {
 /// A machine that killed a ticket of two children a thousand times: a line of 32 bytes, and a thousand of 20.
 fn many_lines(alloc: Global) -> Result<Outcome, AllocError> {
     let root = Name::root(alloc)?;
+    let log = log_of_many(alloc, &root)?;
+    Ok(silent(root, Ending::Limit, 10, log, alloc))
+}
+
+fn log_of_many(alloc: Global, root: &Name) -> Result<Vec<Line>, AllocError> {
     let mut log = Vec::new(alloc);
     for _ in 0..1000 {
         log.push(Line::ticket(root.copy()?, 1, 2))?;
     }
-    Ok(silent(root, Ending::Limit, 10, log, alloc))
+    Ok(log)
 }
 
 #[test]
@@ -292,17 +327,18 @@ static LONG: &[u8] = b"machine 0 limit steps 10 out 10000\n";
 /// That machine, and its report.
 fn long_output(alloc: Global) -> Result<(Outcome, Vec<u8>), AllocError> {
     let output = vec![in alloc; b'A'; 10_000]?;
-    let mut text = Vec::from_slice(alloc, LONG)?;
-    text.extend_from_slice(&output)?;
-    text.push(b'\n')?;
-    let outcome = Outcome::new(
-        Name::root(alloc)?,
-        Ending::Limit,
-        10,
-        output,
-        Vec::new(alloc),
-    );
+    let text = long_text(alloc, &output)?;
+    let root = Name::root(alloc)?;
+    let outcome = Outcome::new(root, Ending::Limit, 10, output, Vec::new(alloc));
     Ok((outcome, text))
+}
+
+/// The report of that machine with this output.
+fn long_text(alloc: Global, output: &[u8]) -> Result<Vec<u8>, AllocError> {
+    let mut text = Vec::from_slice(alloc, LONG)?;
+    text.extend_from_slice(output)?;
+    text.push(b'\n')?;
+    Ok(text)
 }
 
 /// Which put fails, and how many bytes of that report are out after how many puts: the line, the output as it
@@ -325,13 +361,23 @@ const DEEP: u32 = 512;
 /// A root that has joined a chain of machines, each of which had one child.
 fn chain(alloc: Global) -> Result<Outcome, AllocError> {
     let mut log = Vec::new(alloc);
+    add_chain(alloc, &mut log)?;
+    Ok(silent(Name::root(alloc)?, Ending::Exit(0), 19, log, alloc))
+}
+
+/// Adds the lines of the machines below the root.
+fn add_chain(alloc: Global, log: &mut Vec<Line>) -> Result<(), AllocError> {
     let mut name = Name::root(alloc)?;
     for _ in 0..DEEP {
         name = name.child(alloc, 1, 1)?;
-        let child = silent(name.copy()?, Ending::Exit(0), 19, Vec::new(alloc), alloc);
-        join(&mut log, child)?;
+        join(log, ended(alloc, &name)?)?;
     }
-    Ok(silent(Name::root(alloc)?, Ending::Exit(0), 19, log, alloc))
+    Ok(())
+}
+
+/// A machine of the chain that has ended.
+fn ended(alloc: Global, name: &Name) -> Result<Outcome, AllocError> {
+    Ok(silent(name.copy()?, Ending::Exit(0), 19, Vec::new(alloc), alloc))
 }
 
 /// The put that failed is the last, and what is out is a prefix of the report.
@@ -347,10 +393,19 @@ fn is_cut_at(rt: &impl Abort, sink: &MemSink, whole: &MemSink, fails: u64) {
 fn a_deep_report_is_cut_at_each_put(rt: HostRuntime) -> Result<(), Fail> {
     let outcome = chain(rt.alloc())?;
     let whole = put_out(rt.alloc(), &outcome, ROOM, 0)?;
+    is_cut_at_each(&rt, rt.alloc(), &outcome, &whole)
+}
+
+fn is_cut_at_each(
+    rt: &impl Abort,
+    alloc: Global,
+    outcome: &Outcome,
+    whole: &MemSink,
+) -> Result<(), Fail> {
     assert!(rt; whole.calls() > 60);
     for before in 0..whole.calls() {
-        let sink = put_out(rt.alloc(), &outcome, ROOM, before + 1)?;
-        is_cut_at(&rt, &sink, &whole, before + 1);
+        let sink = put_out(alloc, outcome, ROOM, before + 1)?;
+        is_cut_at(rt, &sink, whole, before + 1);
     }
     Ok(())
 }

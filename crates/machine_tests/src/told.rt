@@ -1,22 +1,41 @@
 //! Replies that a world is told, and that others hear.
 
+ghost use Rattle.std.specs.Prelude.{IfOk};
+ghost use Rattle.image_depot.specs.Key.{IsKeyOf};
+ghost use Rattle.vm_cell.specs.Keyed.{IsOfDepot};
+
 use crate::guests::{TWO_CHILDREN, booted};
 use fork_port::Call;
 use image_depot::{Depot, Sent};
-use std::alloc::Global;
+use std::alloc::{AllocError, Global};
 use std::process::Abort;
 use std::sync::Wait;
 use std::test::Fail;
+use vm_cell::{Brood, Vm};
 use world_core::World;
 
 // The reply with page 0 of what the machine of two children leaves for them.
 fn reply<R: Wait>(rt: &R, alloc: Global, depot: &Depot) -> Result<Sent, Fail> {
     let mut vm = booted(alloc, &TWO_CHILDREN, 16)?;
     vm.run(1000)?;
-    let Some(Call::Clone(_)) = vm.call() else {
-        return Err("no clone".into());
-    };
-    let brood = vm.freeze_child(rt, alloc, depot)?;
+    let brood = brood_of(rt, alloc, &mut vm, depot)?;
+    pushed(rt, &brood, depot)
+}
+
+// The CLONE at which a machine stands.
+fn brood_of<R: Wait>(rt: &R, alloc: Global, vm: &mut Vm, depot: &Depot) -> Result<Brood, Fail>
+    requires { IsOfDepot depot.now vm.old.key }
+    ensures { IfOk result (λ brood. IsKeyOf depot.now brood.key) }
+{
+    match vm.call() {
+        Some(Call::Clone(_)) => Ok(vm.freeze_child(rt, alloc, depot)?),
+        _ => Err("no clone".into()),
+    }
+}
+
+fn pushed<R: Wait>(rt: &R, brood: &Brood, depot: &Depot) -> Result<Sent, Fail>
+    requires { IsKeyOf depot.now brood.now.key }
+{
     if depot.pages(&brood.key) == 0 {
         return Err("no page".into());
     }
@@ -27,19 +46,28 @@ fn reply<R: Wait>(rt: &R, alloc: Global, depot: &Depot) -> Result<Sent, Fail> {
 #[test]
 fn a_reply_that_is_told_is_heard(rt: HostRuntime) -> Result<(), Fail> {
     let depot = Depot::new(rt.alloc())?;
-    let sent = reply(&rt, rt.alloc(), &depot)?;
-    let mut world = World::new(rt.alloc(), booted(rt.alloc(), &TWO_CHILDREN, 16)?, &depot)?;
-    is_heard(&rt, &mut world, sent)
+    is_told_and_heard(&rt, rt.alloc(), &depot)
+}
+
+fn is_told_and_heard<R: Abort + Wait>(rt: &R, alloc: Global, depot: &Depot) -> Result<(), Fail> {
+    let mut world = World::new(alloc, booted(alloc, &TWO_CHILDREN, 16)?, depot)?;
+    let sent = reply(rt, alloc, depot)?;
+    is_heard(rt, &mut world, sent)
 }
 
 fn is_heard(rt: &impl Abort, world: &mut World, sent: Sent) -> Result<(), Fail> {
     let told = (sent.image(), sent.page());
-    assert!(rt; world.hear(0)?.is_none());
+    let before = heard_at(world, 0)?;
     world.tell(sent)?;
-    let Some(heard) = world.hear(0)? else {
-        return Err("not heard".into());
-    };
-    assert_eq!(rt; (heard.image(), heard.page()), told);
-    assert!(rt; world.hear(1)?.is_none());
+    let after = [heard_at(world, 0)?, heard_at(world, 1)?];
+    assert_eq!(rt; (before, after), (None, [Some(told), None]));
     Ok(())
+}
+
+// The numbers of the image and of the page of the reply at a place.
+fn heard_at(world: &World, at: usize) -> Result<Option<(u32, u32)>, AllocError> {
+    match world.hear(at)? {
+        Some(sent) => Ok(Some((sent.image(), sent.page()))),
+        None => Ok(None),
+    }
 }

@@ -3,6 +3,7 @@
 use crate::process::resident_bytes;
 use cow_disk::{BadSector, Disk, DiskError, FrozenDisk};
 use std::alloc::Global;
+use std::rt::Files;
 use std::test::Fail;
 use std::thread;
 
@@ -62,13 +63,30 @@ fn bytes_around(written: &Disk, other: &Disk, frozen: &FrozenDisk) -> Result<[u8
 
 #[test]
 fn a_write_shows_in_one_disk(rt: HostRuntime) -> Result<(), Fail> {
-    let frozen = disk_of(rt.alloc(), 0xaa, 1024)?.freeze()?;
-    let mut first = frozen.open()?;
-    let second = frozen.share()?.open()?;
-    write_twice(&mut first)?;
-    let bytes = bytes_around(&first, &second, &frozen)?;
+    let frozen = frozen_of(rt.alloc(), 1024)?;
+    let bytes = bytes_after_write(&frozen)?;
     assert_eq!(rt; bytes, [0xaa, 0x22, 0xaa, 0xaa, 0x22]);
     Ok(())
+}
+
+/// A frozen disk of so many bytes 0xaa.
+fn frozen_of(alloc: Global, length: usize) -> Result<FrozenDisk, DiskError> {
+    let disk = disk_of(alloc, 0xaa, length)?;
+    Ok(disk.freeze()?)
+}
+
+/// A disk that is opened from a handle on a frozen one.
+fn opened_from_share(frozen: &FrozenDisk) -> Result<Disk, Fail> {
+    let shared = frozen.share()?;
+    Ok(shared.open()?)
+}
+
+/// Those bytes of a disk that is written, beside another.
+fn bytes_after_write(frozen: &FrozenDisk) -> Result<[u8; 5], Fail> {
+    let mut first = frozen.open()?;
+    let second = opened_from_share(frozen)?;
+    write_twice(&mut first)?;
+    bytes_around(&first, &second, frozen)
 }
 
 #[test]
@@ -110,18 +128,28 @@ fn as_written(disks: &[Disk]) -> Result<usize, BadSector> {
 // A whole copy takes four megabytes a disk, and a copy of handles to all sectors 64 kilobytes.
 #[test]
 fn a_thousand_disks_share_the_longest(rt: HostRuntime) -> Result<(), Fail> {
-    let frozen = disk_of(rt.alloc(), 0xaa, LONGEST)?.freeze()?;
-    let before = resident_bytes(&rt)?;
-    let disks = written_disks(rt.alloc(), &frozen, 1000)?;
-    let taken = resident_bytes(&rt)?.saturating_sub(before);
-    assert_eq!(rt; as_written(&disks)?, 1000);
+    let frozen = frozen_of(rt.alloc(), LONGEST)?;
+    let (count, taken) = count_and_bytes(&rt, rt.alloc(), &frozen)?;
+    assert_eq!(rt; count, 1000);
     assert!(rt; taken < 6 << 20, "{taken} bytes");
     Ok(())
 }
 
+/// How many of a thousand disks have their own sector, and how many bytes they take.
+fn count_and_bytes(
+    rt: &(impl Files + Alloc),
+    alloc: Global,
+    frozen: &FrozenDisk,
+) -> Result<(usize, u64), Fail> {
+    let before = resident_bytes(rt)?;
+    let disks = written_disks(alloc, frozen, 1000)?;
+    let taken = resident_bytes(rt)?.saturating_sub(before);
+    Ok((as_written(&disks)?, taken))
+}
+
 #[test]
 fn moves_between_threads(rt: HostRuntime) -> Result<(), Fail> {
-    let frozen = disk_of(rt.alloc(), 0xaa, 512)?.freeze()?;
+    let frozen = frozen_of(rt.alloc(), 512)?;
     let disk = frozen.open()?;
     let (opened, byte) = thread::join(&rt, || frozen.open(), move || byte_of(&disk, 0));
     let bytes = (byte_of(&opened?, 0)?, byte?);

@@ -250,14 +250,14 @@ static AROUND_THE_BORDER: [(u32, u32, u32); 11] = [
 fn loads_what_was_stored_around_a_page_border(rt: HostRuntime) -> Result<(), Fail> {
     let mut memory = booted(rt.alloc(), 16)?;
     store_around_the_border(&mut memory)?;
-    for (at, width, want) in AROUND_THE_BORDER.iter() {
-        assert_eq!(rt;
-            load(&memory, *at, *width),
-            Some(*want),
-            "{width} from {at}"
-        );
-    }
+    has_the_border(&rt, &memory);
     Ok(())
+}
+
+fn has_the_border(rt: &impl Abort, memory: &GuestMem) {
+    for (at, width, want) in AROUND_THE_BORDER.iter() {
+        assert_eq!(rt; load(memory, *at, *width), Some(*want), "{width} from {at}");
+    }
 }
 
 /// The two words at the border of the pages, after a store of so many bytes at an offset.

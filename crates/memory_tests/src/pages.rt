@@ -3,6 +3,7 @@
 
 use page_frames::{Entry, PAGE_SIZE, Page, PageTable};
 use std::alloc::{AllocError, Global};
+use std::process::Abort;
 use std::test::Fail;
 use std::thread;
 
@@ -21,6 +22,11 @@ fn write_ends(page: &mut Page) -> Result<(), AllocError> {
 fn reads_what_is_written(rt: HostRuntime) -> Result<(), Fail> {
     let mut page = Page::zeroed(rt.alloc())?;
     write_ends(&mut page)?;
+    is_read(&rt, &page);
+    Ok(())
+}
+
+fn is_read(rt: &impl Abort, page: &Page) {
     let words = [page.word(0), page.word(4092)];
     let halves = [page.half(1), page.half(4094)];
     let bytes = [page.byte(0), page.byte(4095), page.byte(4091)];
@@ -32,7 +38,6 @@ fn reads_what_is_written(rt: HostRuntime) -> Result<(), Fail> {
             [0x11, 0x77, 0]
         )
     );
-    Ok(())
 }
 
 /// The first two bytes and the last of each of three pages.
@@ -45,14 +50,21 @@ fn a_page_shared_three_ways_is_written_in_each(rt: HostRuntime) -> Result<(), Fa
     let mut first = page_of(rt.alloc(), 0xaa)?;
     let mut second = first.share()?;
     let mut third = second.share()?;
+    let ends = ends_of_written(&mut first, &mut second, &mut third)?;
+    assert_eq!(rt; ends, [[1, 0xaa, 0xaa], [0xaa, 0xaa, 2], [3, 4, 0xaa]]);
+    Ok(())
+}
+
+/// The ends of three pages that are each written.
+fn ends_of_written(
+    first: &mut Page,
+    second: &mut Page,
+    third: &mut Page,
+) -> Result<[[u8; 3]; 3], AllocError> {
     first.write(0, &[1])?;
     second.write(4095, &[2])?;
     third.write(0, &[3, 4])?;
-    assert_eq!(rt;
-        ends_of([&first, &second, &third]),
-        [[1, 0xaa, 0xaa], [0xaa, 0xaa, 2], [3, 4, 0xaa]]
-    );
-    Ok(())
+    Ok(ends_of([&*first, &*second, &*third]))
 }
 
 /// Writes two bytes in each page of a table's own.
@@ -88,13 +100,23 @@ fn three_pages(table: &PageTable) -> [Option<[u32; 2]>; 3] {
 
 #[test]
 fn a_shared_table_is_written_apart(rt: HostRuntime) -> Result<(), Fail> {
-    let page = page_of(rt.alloc(), 0xaa)?;
-    let entries = vec![in rt.alloc(); Entry::Held(page), Entry::Blank, Entry::Absent]?;
-    let table = PageTable::from_vec(rt.alloc(), entries)?;
+    let table = table_of(rt.alloc())?;
     let mut shared = table.share()?;
     write_each(&mut shared)?;
+    are_apart(&rt, &table, &shared);
+    Ok(())
+}
+
+/// A table of a held page, a blank one and an absent one.
+fn table_of(alloc: Global) -> Result<PageTable, AllocError> {
+    let page = page_of(alloc, 0xaa)?;
+    let entries = vec![in alloc; Entry::Held(page), Entry::Blank, Entry::Absent]?;
+    PageTable::from_vec(alloc, entries)
+}
+
+fn are_apart(rt: &impl Abort, table: &PageTable, shared: &PageTable) {
     assert_eq!(rt;
-        (three_pages(&table), three_pages(&shared)),
+        (three_pages(table), three_pages(shared)),
         (
             [Some([0xaaaa_aaaa, 0xaaaa_aaaa]), Some([0, 0]), None],
             [Some([0xaaaa_2211, 0xaaaa_aaaa]), Some([0x2211, 0]), None],
@@ -102,7 +124,6 @@ fn a_shared_table_is_written_apart(rt: HostRuntime) -> Result<(), Fail> {
     );
     let is_blank = table.len() > 1 && table.get(1).is_blank();
     assert!(rt; is_blank, "a blank page is held");
-    Ok(())
 }
 
 #[test]

@@ -119,14 +119,16 @@ fn write_word(port: &mut BlockPort) -> Result<(), PortError> {
 }
 
 fn writes_alone(rt: &impl Abort, first: &mut BlockPort, second: &mut BlockPort) {
-    assert_eq!(rt; write_word(first), Ok(()));
+    let written = write_word(first);
+    let words = [first_word(first), first_word(second)];
+    let loads = [first.load(0x204, 4), first.load(8, 1)];
     assert_eq!(rt;
-        (first_word(first), first_word(second)),
-        (Ok(0x11223344), Ok(0xaaaa_aaaa))
-    );
-    assert_eq!(rt;
-        (first.load(0x204, 4), first.load(8, 1)),
-        (Ok(0), Err(Fault))
+        (written, words, loads),
+        (
+            Ok(()),
+            [Ok(0x11223344), Ok(0xaaaa_aaaa)],
+            [Ok(0), Err(Fault)]
+        )
     );
 }
 
@@ -136,13 +138,20 @@ fn opened_word(frozen: &FrozenDisk) -> Result<u32, Fail> {
     Ok(first_word(&mut port)?)
 }
 
+/// Writes behind one of two ports over this disk.
+fn is_written_behind_one(rt: &impl Abort, frozen: &FrozenDisk) -> Result<(), Fail> {
+    let mut first = BlockPort::new(frozen.open()?);
+    let mut second = BlockPort::new(frozen.open()?);
+    writes_alone(rt, &mut first, &mut second);
+    Ok(())
+}
+
 #[test]
 fn a_write_shows_behind_one_port(rt: HostRuntime) -> Result<(), Fail> {
     let frozen = frozen_disk(rt.alloc())?;
-    let mut first = BlockPort::new(frozen.open()?);
-    let mut second = BlockPort::new(frozen.open()?);
-    writes_alone(&rt, &mut first, &mut second);
-    assert_eq!(rt; opened_word(&frozen)?, 0xaaaa_aaaa);
+    is_written_behind_one(&rt, &frozen)?;
+    let word = opened_word(&frozen)?;
+    assert_eq!(rt; word, 0xaaaa_aaaa);
     Ok(())
 }
 
@@ -155,19 +164,27 @@ fn asks_for_no_sector(port: &mut BlockPort) -> Result<(), PortError> {
 
 fn are_equal(rt: &impl Abort, port: &BlockPort, same: &mut BlockPort) {
     let fields = port.fields();
-    assert_eq!(rt;
-        (fields.sector, fields.status, fields.buffer[4]),
-        (9, Status::BadSector, 0x44)
-    );
     assert_eq!(rt; same.fields(), fields);
-    assert_eq!(rt; registers(same), Ok([9, 1, 1, 0, 0]));
+    assert_eq!(rt;
+        (
+            (fields.sector, fields.status, fields.buffer[4]),
+            registers(same)
+        ),
+        ((9, Status::BadSector, 0x44), Ok([9, 1, 1, 0, 0]))
+    );
+}
+
+/// A port of the same fields over a disk that is opened now.
+fn same_port(port: &BlockPort) -> Result<BlockPort, Fail> {
+    let frozen = port.disk().freeze()?;
+    Ok(BlockPort::of_fields(port.fields(), frozen.open()?))
 }
 
 #[test]
 fn fields_make_an_equal_port(rt: HostRuntime) -> Result<(), Fail> {
     let mut port = port_at_start(rt.alloc())?;
     asks_for_no_sector(&mut port)?;
-    let mut same = BlockPort::of_fields(port.fields(), port.disk().freeze()?.open()?);
+    let mut same = same_port(&port)?;
     are_equal(&rt, &port, &mut same);
     Ok(())
 }

@@ -55,15 +55,17 @@ static LOADS: [(u32, u32, Result<u32, Fault>); 38] = [
     (0xffff_ffff, 1, Err(Fault)),
 ];
 
+/// What a load gives a machine that starts.
+fn load_at_start(alloc: Global, address: u32, width: u32) -> Result<Result<u32, Fault>, Fail> {
+    let mut ports = ports_at_start(alloc)?;
+    Ok(ports.load(address, width))
+}
+
 #[test]
 fn loads_at_each_port_s_edges(rt: HostRuntime) -> Result<(), Fail> {
     for &(address, width, want) in LOADS.iter() {
-        let mut ports = ports_at_start(rt.alloc())?;
-        assert_eq!(rt;
-            ports.load(address, width),
-            want,
-            "{address:08x} of {width}"
-        );
+        let found = load_at_start(rt.alloc(), address, width)?;
+        assert_eq!(rt; found, want, "{address:08x} of {width}");
     }
     Ok(())
 }
@@ -106,52 +108,91 @@ static STORES: [(u32, u32, Result<Effect, PortError>); 34] = [
     (0xffff_ffff, 1, Err(PortError::Fault)),
 ];
 
+/// What a store of 5 does to a machine that starts.
+fn store_at_start(
+    alloc: Global,
+    address: u32,
+    width: u32,
+) -> Result<Result<Effect, PortError>, Fail> {
+    let mut ports = ports_at_start(alloc)?;
+    Ok(ports.store(address, width, 5))
+}
+
 #[test]
 fn stores_at_each_port_s_edges(rt: HostRuntime) -> Result<(), Fail> {
     for &(address, width, want) in STORES.iter() {
-        let mut ports = ports_at_start(rt.alloc())?;
-        assert_eq!(rt;
-            ports.store(address, width, 5),
-            want,
-            "{address:08x} of {width}"
-        );
+        let found = store_at_start(rt.alloc(), address, width)?;
+        assert_eq!(rt; found, want, "{address:08x} of {width}");
     }
     Ok(())
 }
 
+/// Whether the timer is due. A step is counted then.
+fn is_due_and_counts(ports: &mut Ports) -> bool {
+    let is_due = ports.is_timer_due();
+    ports.count_time(false);
+    is_due
+}
+
 /// mtimecmp becomes 2, and mtime counts to it.
 fn times(rt: &impl Abort, ports: &mut Ports) {
-    assert_eq!(rt; ports.store(0x0200_4004, 4, 0), Ok(Effect::Done));
-    assert_eq!(rt; ports.store(0x0200_4000, 4, 2), Ok(Effect::Done));
-    for due in [false, false, true] {
-        assert_eq!(rt; ports.is_timer_due(), due);
-        ports.count_time(false);
-    }
+    let stores = [
+        ports.store(0x0200_4004, 4, 0),
+        ports.store(0x0200_4000, 4, 2),
+    ];
+    assert_eq!(rt; stores, [Ok(Effect::Done), Ok(Effect::Done)]);
+    let due = [
+        is_due_and_counts(ports),
+        is_due_and_counts(ports),
+        is_due_and_counts(ports),
+    ];
     ports.count_time(true);
-    assert_eq!(rt; ports.load(0x0200_bff8, 4), Ok(3));
+    let time = ports.load(0x0200_bff8, 4);
+    assert_eq!(rt; (due, time), ([false, false, true], Ok(3)));
 }
 
 fn puts_out_and_exits(rt: &impl Abort, ports: &mut Ports) {
-    assert_eq!(rt; ports.store(0x1000_0000, 1, 0x141), Ok(Effect::Done));
-    assert_eq!(rt; ports.store(0x1000_2000, 4, 9), Ok(Effect::Done));
-    assert_eq!(rt; ports.store(0x1000_2008, 4, 5), Ok(Effect::Exit(9)));
+    let stores = [
+        ports.store(0x1000_0000, 1, 0x141),
+        ports.store(0x1000_2000, 4, 9),
+        ports.store(0x1000_2008, 4, 5),
+    ];
+    assert_eq!(rt;
+        stores,
+        [Ok(Effect::Done), Ok(Effect::Done), Ok(Effect::Exit(9))]
+    );
 }
 
 /// Sector 0 goes to the buffer, whose first word is then another.
 fn changes_the_disk(rt: &impl Abort, ports: &mut Ports) {
-    assert_eq!(rt; ports.store(0x1000_1004, 4, 1), Ok(Effect::Done));
-    assert_eq!(rt; ports.load(0x1000_1200, 4), Ok(0xaaaa_aaaa));
-    assert_eq!(rt; ports.store(0x1000_1200, 4, 7), Ok(Effect::Done));
-    assert_eq!(rt; ports.store(0x1000_1004, 4, 2), Ok(Effect::Done));
-    assert_eq!(rt; ports.load(0x1000_1200, 4), Ok(7));
+    let read = ports.store(0x1000_1004, 4, 1);
+    let before = ports.load(0x1000_1200, 4);
+    let stores = [
+        read,
+        ports.store(0x1000_1200, 4, 7),
+        ports.store(0x1000_1004, 4, 2),
+    ];
+    let words = [before, ports.load(0x1000_1200, 4)];
+    assert_eq!(rt;
+        (stores, words),
+        (
+            [Ok(Effect::Done), Ok(Effect::Done), Ok(Effect::Done)],
+            [Ok(0xaaaa_aaaa), Ok(7)]
+        )
+    );
 }
 
 fn keeps(rt: &impl Abort, ports: &Ports) {
     let mut sector = [0; 512];
-    assert_eq!(rt; ports.disk().read_sector(0, &mut sector), Ok(()));
-    assert_eq!(rt; (sector[0], sector[1], sector[4]), (7, 0, 0xaa));
-    assert_eq!(rt; ports.input(), b"Z".as_slice());
-    assert_eq!(rt; ports.output(), b"A".as_slice());
+    let read = ports.disk().read_sector(0, &mut sector);
+    assert_eq!(rt;
+        (read, [sector[0], sector[1], sector[4]]),
+        (Ok(()), [7, 0, 0xaa])
+    );
+    assert_eq!(rt;
+        [ports.input(), ports.output()],
+        [b"Z".as_slice(), b"A".as_slice()]
+    );
 }
 
 #[test]

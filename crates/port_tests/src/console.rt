@@ -1,7 +1,10 @@
 //! The console.
 
+ghost use Rattle.std.specs.Prelude.{◌≤◌, length};
+
 use console_port::{ConsoleFields, ConsolePort, Input};
 use port_error::{Fault, PortError};
+use std::alloc::Global;
 use std::process::Abort;
 use std::test::Fail;
 use std::thread;
@@ -66,27 +69,32 @@ fn loads_and_stores_by_the_table(rt: HostRuntime) -> Result<(), Fail> {
 
 fn starts_with(rt: &impl Abort, port: &mut ConsolePort, read: [u32; 8]) {
     let fields = port.fields();
-    assert_eq!(rt; (fields.place, fields.line_control), (0, 0));
-    assert_eq!(rt; registers(port), Ok(read));
+    assert_eq!(rt;
+        ((fields.place, fields.line_control), registers(port)),
+        ((0, 0), Ok(read))
+    );
+}
+
+/// What is read of a port that starts with this input.
+fn is_read_of(rt: &impl Abort, alloc: Global, input: &[u8], read: [u32; 8]) -> Result<(), Fail>
+    requires { length input.now ≤ 65536 }
+{
+    let mut port = ConsolePort::new(alloc, input)?;
+    starts_with(rt, &mut port, read);
+    Ok(())
 }
 
 #[test]
 fn starts_with_registers_of_zeros(rt: HostRuntime) -> Result<(), Fail> {
-    let mut without_input = ConsolePort::new(rt.alloc(), b"")?;
-    starts_with(&rt, &mut without_input, [0, 0, 0x60, 0, 0, 0, 0, 0]);
-    let mut with_input = ConsolePort::new(rt.alloc(), b"Z")?;
-    starts_with(&rt, &mut with_input, [0, 0, 0x61, 0, 0, 0, 0, 0x5a]);
-    Ok(())
+    is_read_of(&rt, rt.alloc(), b"", [0, 0, 0x60, 0, 0, 0, 0, 0])?;
+    is_read_of(&rt, rt.alloc(), b"Z", [0, 0, 0x61, 0, 0, 0, 0, 0x5a])
 }
 
 fn keeps_its_input(rt: &impl Abort, port: &mut ConsolePort, fields: ConsoleFields) {
-    assert_eq!(rt; (port.load(0, 1), port.load(5, 1)), (Ok(0), Ok(0x61)));
-    assert_eq!(rt; port.fields(), fields);
-    assert_eq!(rt;
-        (port.store(3, 1, 0x03), port.load(0, 1)),
-        (Ok(()), Ok(0x5a))
-    );
-    assert_eq!(rt; port.fields().place, 2);
+    let latched = [port.load(0, 1), port.load(5, 1)];
+    assert_eq!(rt; (latched, port.fields()), ([Ok(0), Ok(0x61)], fields));
+    let read = (port.store(3, 1, 0x03), port.load(0, 1));
+    assert_eq!(rt; (read, port.fields().place), ((Ok(()), Ok(0x5a)), 2));
     assert_eq!(rt; port.input(), b"YZ".as_slice());
 }
 

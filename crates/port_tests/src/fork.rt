@@ -99,23 +99,34 @@ fn takes_words_at_its_registers(rt: HostRuntime) {
     }
 }
 
+/// RESULT, GRANTED and ALLOT after a command, and ticket 1.
+type Told = (
+    Result<u32, PortError>,
+    Result<(u32, u32), Fault>,
+    Option<(u32, u32, bool)>,
+);
+
+fn told_of(port: &mut ForkPort, command: u32, first: u32, second: u32, endings: &[Ending]) -> Told {
+    let result = run(port, command, first, second, endings);
+    (result, amounts(port), port.find(1))
+}
+
 fn is_granted_cloned_and_joined(rt: &impl Abort, port: &mut ForkPort) {
-    assert_eq!(rt; registers(port), Ok([0, 0, 0, 0, 7, 0, 0, 0, 0]));
+    let start = registers(port);
+    assert_eq!(rt; start, Ok([0, 0, 0, 0, 7, 0, 0, 0, 0]));
+    let told = [
+        told_of(port, TICKET, 4, 2, &[]),
+        told_of(port, CLONE, 1, 0, &[]),
+        told_of(port, JOIN, 1, 0, &[Ending::Exit(5), Ending::Limit]),
+    ];
     assert_eq!(rt;
-        (run(port, TICKET, 4, 2, &[]), amounts(port)),
-        (Ok(1), Ok((2, 1)))
+        told,
+        [
+            (Ok(1), Ok((2, 1)), Some((2, 2, false))),
+            (Ok(0), Ok((2, 1)), Some((2, 2, true))),
+            (Ok(2), Ok((2, 7)), None),
+        ]
     );
-    assert_eq!(rt; port.find(1), Some((2, 2, false)));
-    assert_eq!(rt;
-        (run(port, CLONE, 1, 0, &[]), port.find(1)),
-        (Ok(0), Some((2, 2, true)))
-    );
-    let endings = [Ending::Exit(5), Ending::Limit];
-    assert_eq!(rt;
-        (run(port, JOIN, 1, 0, &endings), amounts(port)),
-        (Ok(2), Ok((2, 7)))
-    );
-    assert_eq!(rt; port.find(1), None);
 }
 
 /// A child of the last join, and then JKIND and JVALUE.
@@ -190,10 +201,19 @@ fn ask_of_the_machine(port: &mut ForkPort) -> Result<(Effect, Effect, u32), Port
 fn commands_by_the_table(rt: HostRuntime) {
     let mut port = ForkPort::new(rt.alloc(), 7);
     does_commands(&rt, &mut port);
-    let asked = ask_of_the_machine(&mut port);
-    assert_eq!(rt; asked, Ok((Effect::Exit(9), Effect::Zero(9, 2), 0)));
+    asks_and_is_refused(&rt, &mut port);
+}
+
+fn asks_and_is_refused(rt: &impl Abort, port: &mut ForkPort) {
+    let asked = ask_of_the_machine(port);
     port.refuse(0xffff_fffc);
-    assert_eq!(rt; port.load(12, 4), Ok(0xffff_fffc));
+    assert_eq!(rt;
+        (asked, port.load(12, 4)),
+        (
+            Ok((Effect::Exit(9), Effect::Zero(9, 2), 0)),
+            Ok(0xffff_fffc)
+        )
+    );
 }
 
 /// The children that are asked for and their share, and then GRANTED and ALLOT.
@@ -206,20 +226,19 @@ static GREATEST: [(u32, u32, u32, u32); 4] = [
 
 fn gives_and_takes(rt: &impl Abort, port: &mut ForkPort, row: (u32, u32, u32, u32)) {
     let (children, share, granted, allot) = row;
-    let ticket = (run(port, TICKET, children, share, &[]), amounts(port));
-    assert_eq!(rt;
+    let ticket = run(port, TICKET, children, share, &[]);
+    let taken = amounts(port);
+    let results = [
         ticket,
-        (Ok(1), Ok((granted, allot))),
-        "{children} with {share}"
-    );
-    let killed = (
         run(port, CLONE, 1, 0, &[]),
         run(port, KILL, 1, 0, &[]),
-        amounts(port),
-    );
+    ];
     assert_eq!(rt;
-        killed,
-        (Ok(0), Ok(granted), Ok((granted, 0xffff_ffff))),
+        (results, [taken, amounts(port)]),
+        (
+            [Ok(1), Ok(0), Ok(granted)],
+            [Ok((granted, allot)), Ok((granted, 0xffff_ffff))]
+        ),
         "{children} with {share}"
     );
 }
@@ -233,11 +252,13 @@ fn the_greatest_tickets(rt: HostRuntime) {
 }
 
 fn makes_a_child(rt: &impl Abort, port: &mut ForkPort, share: u32) {
-    let ticket = (run(port, TICKET, 1, share, &[]), amounts(port));
-    assert_eq!(rt; ticket, (Ok(1), Ok((1, 0))));
+    let ticket = run(port, TICKET, 1, share, &[]);
+    let taken = amounts(port);
+    let results = [ticket, run(port, CLONE, 1, 8, &[])];
+    let stored = port.store(24, 4, 1);
     assert_eq!(rt;
-        (run(port, CLONE, 1, 8, &[]), port.store(24, 4, 1)),
-        (Ok(0), Ok(Effect::Done))
+        (results, taken, stored),
+        ([Ok(1), Ok(0)], Ok((1, 0)), Ok(Effect::Done))
     );
 }
 
@@ -253,10 +274,10 @@ fn is_a_child(rt: &impl Abort, child: &mut ForkPort, share: u32) {
         next_ticket: 1,
     };
     assert_eq!(rt; child.fields(), want);
-    assert_eq!(rt; amounts(child), Ok((1, share)));
+    let joined = join_result(child, 1);
     assert_eq!(rt;
-        (child.tickets().len(), join_result(child, 1)),
-        (0, Ok((0, 0)))
+        (amounts(child), joined, child.tickets().len()),
+        (Ok((1, share)), Ok((0, 0)), 0)
     );
 }
 
@@ -279,12 +300,19 @@ fn is_of_fields(rt: &impl Abort, port: &mut ForkPort, fields: ForkFields) {
 #[test]
 fn fields_make_a_port_without_tickets(rt: HostRuntime) {
     let mut port = ForkPort::new(rt.alloc(), 9);
-    let stored = (run(&mut port, TICKET, 2, 1, &[]), port.store(24, 4, 3));
-    assert_eq!(rt; stored, (Ok(1), Ok(Effect::Done)));
-    let fields = port.fields();
-    assert_eq!(rt; (fields.result, fields.granted, fields.allot), (1, 2, 5));
+    let fields = fields_after_a_ticket(&rt, &mut port);
     let mut same = ForkPort::of_fields(rt.alloc(), fields);
     is_of_fields(&rt, &mut same, fields);
+}
+
+fn fields_after_a_ticket(rt: &impl Abort, port: &mut ForkPort) -> ForkFields {
+    let stored = (run(port, TICKET, 2, 1, &[]), port.store(24, 4, 3));
+    let fields = port.fields();
+    assert_eq!(rt;
+        (stored, [fields.result, fields.granted, fields.allot]),
+        ((Ok(1), Ok(Effect::Done)), [1, 2, 5])
+    );
+    fields
 }
 
 #[test]

@@ -2,10 +2,13 @@
 
 ghost use Rattle.std.specs.Prelude.{◌≡◌, ◌≤◌, [], ◌∷◌, length, vec_len, IfOk};
 ghost use Rattle.std.specs.Option.{option_map};
+ghost use Rattle.drive_script.specs.Driven.{HasMachines};
 ghost use Rattle.drive_script.specs.Script.{script};
+ghost use Rattle.forest_tree.specs.Tree.{Tree};
+ghost use Rattle.forest_model.specs.Paged.{Paged};
 ghost use Rattle.io_edge.specs.Outside.{HasRisen};
 ghost use Rattle.command_line.specs.Words.{drive};
-ghost use Rattle.snow_commands.specs.Text.{drive_text, drive_with, lines_of, script_read};
+ghost use Rattle.snow_commands.specs.Text.{drive_text, drive_with, lines_of, script_read, told_by};
 ghost use Rattle.guest_files.specs.Parts.{Gives, IsFaultOf, IsLoadOf, Makes, loads_of};
 ghost use Rattle.snow_commands.specs.Writes.{IsSilent, Writes};
 
@@ -17,6 +20,7 @@ use image_depot::Depot;
 use io_edge::{Shelf, Sink, WriteFault, put_all};
 use std::alloc::Global;
 use std::sync::Wait;
+use world_core::World;
 
 /// Drives a guest's family by a script and writes what the script tells.
 pub fn drive_and_write<R: AllocGlobal + Wait, S: Shelf, K: Sink>(
@@ -82,9 +86,37 @@ fn drive_files<R: AllocGlobal + Wait>(
     ensures { Makes (drive_with guest.now files.now text.now) (λ text told. text.items ≡ told) result }
 {
     let depot = Depot::new(rt.alloc())?;
-    let mut world = boot(rt.alloc(), guest, files, &depot)?;
+    drive_booted(rt, guest, files, text, &depot)
+}
+
+/// The same, with a depot for the images of the family.
+fn drive_booted<R: AllocGlobal + Wait>(
+    rt: &R,
+    guest: &GuestWords<'_>,
+    files: &GuestFiles,
+    text: &[u8],
+    depot: &Depot,
+) -> Result<Vec<u8>, Stop>
+    requires { length text.now ≤ MAX_SCRIPT }
+    ensures { Makes (drive_with guest.now files.now text.now) (λ text told. text.items ≡ told) result }
+{
+    let mut world = boot(rt.alloc(), guest, files, depot)?;
+    drive_world(rt, text, &mut world, depot)
+}
+
+/// What the lines of a script tell of the family of a world.
+fn drive_world<R: AllocGlobal + Wait>(
+    rt: &R,
+    text: &[u8],
+    world: &mut World,
+    depot: &Depot,
+) -> Result<Vec<u8>, Stop>
+    requires most { length text.now ≤ MAX_SCRIPT }
+    requires family { (t : Tree Paged) × HasMachines depot.now world.old t }
+    ensures { (t : Tree Paged) → HasMachines depot.now world.old t → Makes (told_by text.now t) (λ text told. text.items ≡ told) result }
+{
     let script = script_of(rt.alloc(), text)?;
-    let told = drive(rt, rt.alloc(), &script, &mut world, &depot)?;
+    let told = drive(rt, rt.alloc(), &script, world, depot)?;
     Ok(told)
 }
 

@@ -92,8 +92,24 @@ fn run_files<R: AllocGlobal + Wait, W: Wire>(
         (λ outcome told. report_of outcome ≡ told) result }
 {
     let depot = Depot::new(rt.alloc())?;
-    let world = boot(rt.alloc(), guest, files, &depot)?;
-    match run_world(rt, guest.clones(), world, &depot, wire, ahead) {
+    run_booted(rt, guest, files, &depot, wire, ahead)
+}
+
+/// The same, with a depot for the images of the family.
+fn run_booted<R: AllocGlobal + Wait, W: Wire>(
+    rt: &R,
+    guest: &GuestWords<'_>,
+    files: &GuestFiles,
+    depot: &Depot,
+    wire: &mut W,
+    ahead: u32,
+) -> Result<Outcome, Stop>
+    requires { ahead ≤ MOST_AHEAD }
+    ensures { MakesOver ((0 < guest.now.clones) × (W.streak wire.new ≡ LONGEST_STREAK)) (run_with guest.now files.now)
+        (λ outcome told. report_of outcome ≡ told) result }
+{
+    let world = boot(rt.alloc(), guest, files, depot)?;
+    match run_world(rt, guest.clones(), world, depot, wire, ahead) {
         Ok(outcome) => Ok(outcome),
         Err(FetchError::Wire) => Err(Stop::Wire),
         Err(FetchError::Memory) => Err(Stop::Memory),

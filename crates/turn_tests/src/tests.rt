@@ -1,5 +1,7 @@
 //! Tests of turns in threads.
-use crate::{Tally, TallyTurns, eight_workers, split_three_deep, two_workers};
+use crate::depth::split_three_deep;
+use crate::tally::{Tally, TallyTurns};
+use crate::workers::{eight_workers, two_workers};
 use std::test::Fail;
 use turn_board::split_beside;
 

@@ -16,11 +16,12 @@ use Rattle.forest_model.specs.State.{State}
 use Rattle.forest_model.specs.Action.{Action, retire, exit}
 use Rattle.forest_model.specs.Execute.{action}
 use Rattle.forest_model.specs.Machine.{Machine, IsWithinLimit, applied, advance}
-use Rattle.forest_model.specs.Paged.{Paged, advanced, advanced_by}
+use Rattle.forest_model.specs.Paged.{Paged, advanced, advanced_by, stalled_at}
 use Rattle.forest_model.specs.Forest.{port_of}
 use Rattle.forest_model.proofs.Numbers.{next-advance}
 use Rattle.forest_model.proofs.Finish.{limit-after_steps}
 use Rattle.forest_model.proofs.Paged.{advanced_by-suc, machine-advanced_by}
+use Rattle.vm_cell.specs.Acts.{Grows}
 use Rattle.vm_cell.specs.Keyed.{KeyedMachine, keyed, paged}
 use Rattle.vm_cell.specs.Parts.{IsCut, IsPart, Stops}
 use Rattle.vm_cell.specs.Steps.{GoesOn, IsCounted, IsFree, IsFreeFor, IsFunded, IsRun, moved, moved_by}
@@ -49,6 +50,14 @@ advanced_by-add : (a b : ℕ) (p : Paged) → advanced_by (a + b) p ≡ advanced
 unfolding advanced_by
 advanced_by-add zero b p = ap (λ n. advanced_by n p) (zero-add b)
 advanced_by-add (suc a) b p = ap (λ n. advanced_by n p) (suc-add a b) ∙ advanced_by-add a b (advanced p)
+
+moved-none : (made : ℕ) (v : KeyedMachine) → made ≡ 0 → moved_by made v ≡ v
+unfolding advanced_by
+moved-none made v none = ap (λ n. moved_by n v) none
+
+pub moved-once : (v : KeyedMachine) → moved_by 1 v ≡ moved v
+unfolding advanced_by
+moved-once v = refl
 
 -- a run after another
 pub IsRun-join : (old mid new : KeyedMachine) (a b : ℕ) → IsRun old mid a → IsRun mid new b → IsRun old new (a + b)
@@ -117,16 +126,51 @@ part-alone most few old new part less whole is =
       all = λ none live. let made : part.steps ≡ few = is.all none live in made ∙ whole none made;
     }
 
-pub parts-join : (most : ℕ) (old mid new : KeyedMachine) (first rest part : Part) → IsRun old mid first.steps → first.steps ≤ most → IsPart (most - first.steps) mid new rest
-    → part.steps ≡ first.steps + rest.steps → part.stop ≡ rest.stop → IsPart most old new part
-parts-join most old mid new first rest part run less is steps stop =
-    let within : rest.steps ≤ most - first.steps = is.within in
+-- a step that is not made ends a part
+pub part-stopped : (most made : ℕ) (old mid new : KeyedMachine) (why : Stepped) (part : Part) → IsRun old mid made → made ≤ most → mid.machine.ending ≡ None → GoesOn mid new (Some why)
+    → part.steps ≡ made → part.stop ≡ Some why → IsPart most old new part
+part-stopped most made old mid new why part run within live goes steps stop = record {
+  run = subst (IsRun old new) (sym steps) (subst (λ v. IsRun old v made) (sym (not-made mid new why goes)) run);
+  within = omega (arith, steps, within);
+  stops = subst (λ s. IfSome s (Stops new)) (sym stop) (stops-there mid new why live goes);
+  all = λ none alive. absurd (cc);
+}
+
+-- memory is wanting for the next step
+pub cut-here : (most made : ℕ) (old mid new : KeyedMachine) → IsRun old mid made → new ≡ mid → made < most → mid.machine.ending ≡ None → stalled_at (paged mid) ≡ None → Grows mid.machine.state
+    → IsCut most old new
+cut-here most made old mid new run same before live here memory =
+    let counted : new.machine.steps ≡ old.machine.steps + made = ap (λ (v : KeyedMachine). v.machine.steps) same ∙ run.counted in
     record {
-      run = subst (IsRun old new) (sym steps) (IsRun-join old mid new first.steps rest.steps run is.run);
+      run = stopped-run old mid new made run same;
+      from = omega (arith, counted);
+      within = omega (arith, counted, before);
+      live = ap (λ (v : KeyedMachine). v.machine.ending) same ∙ live;
+      here = subst (λ (v : KeyedMachine). stalled_at (paged v) ≡ None) (sym same) here;
+      memory = subst (λ (v : KeyedMachine). Grows v.machine.state) (sym same) memory;
+    }
+
+pub parts-join : (most made : ℕ) (old mid new : KeyedMachine) (rest part : Part) → IsRun old mid made → made ≤ most → IsPart (most - made) mid new rest
+    → part.steps ≡ made + rest.steps → part.stop ≡ rest.stop → IsPart most old new part
+parts-join most made old mid new rest part run less is steps stop =
+    let within : rest.steps ≤ most - made = is.within in
+    record {
+      run = subst (IsRun old new) (sym steps) (IsRun-join old mid new made rest.steps run is.run);
       within = omega (arith, steps, within, less);
       stops = subst (λ s. IfSome s (Stops new)) (sym stop) is.stops;
-      all = λ none live. let made : rest.steps ≡ most - first.steps = is.all (sym stop ∙ none) live in omega (arith, steps, made, less);
+      all = λ none live. let rests : rest.steps ≡ most - made = is.all (sym stop ∙ none) live in omega (arith, steps, rests, less);
     }
+
+-- a part that nothing stopped made a step, if it was to make any
+pub part-moves : (most : ℕ) (old new : KeyedMachine) (part : Part) → 1 ≤ most → old.machine.ending ≡ None → part.stop ≡ None → IsPart most old new part → 1 ≤ part.steps
+part-moves most old new part some live none is = elim (cases_lt 0 part.steps) [
+  | inl moves ↦ omega (arith, moves)
+  | inr still ↦
+      let made : part.steps ≡ 0 = omega (arith, still) in
+      let same : new ≡ old = is.run.steps ∙ moved-none part.steps old made in
+      let all : part.steps ≡ most = is.all none (ap (λ (v : KeyedMachine). v.machine.ending) same ∙ live) in
+      omega (arith, all, some, made)
+]
 
 pub cut-less : (most few : ℕ) (old new : KeyedMachine) → few ≤ most → IsCut few old new → IsCut most old new
 cut-less most few old new less is =

@@ -28,15 +28,17 @@ mod fork;
 
 pub use fork::Brood;
 
-/// So many steps of a run are made with one slot, since many take a microsecond to make.
-const FEW: u64 = 256;
+/// So many steps of a run are made with no slots, which take as long to make as some tens of steps.
+const FEW: u64 = 128;
 
 /// The slots of a long run. It is a power of 2, so that they are used alike.
 const SLOTS: usize = 512;
 
-/// After a try that made no plain step, and a step that did not leave RAM, so many steps go without one: where one traps,
-/// the next often traps too.
-const PAUSE: u32 = 16;
+/// The most steps that are made with no try at plain ones. It is odd, so that a try comes at another place of a short loop.
+const LONGEST_PAUSE: u64 = 255;
+
+/// In a pause as long as this no step is looked at before it is made.
+const LONG_PAUSE: u64 = 16;
 
 /// Where a machine stands after a step.
 #[derive(Clone, Copy, Debug, PartialEq, Eq)]
@@ -273,7 +275,7 @@ impl Vm {
         ensures ok { IfOk result (IsPart most self.old self.new) }
         ensures err { OnErr result (IsCut most self.old self.new) }
     {
-        let first = self.run_few(most.min(FEW))?;
+        let first = self.step_some(most.min(FEW))?;
         if first.stop.is_some() {
             return Ok(first);
         }
@@ -287,14 +289,25 @@ impl Vm {
         })
     }
 
-    fn run_few(&mut self, most: u64) -> Result<Part, AllocError>
+    /// The same, with each step made by itself. Runs call `step_live` here alone, so it is inlined, and the loop has nothing
+    /// beside it.
+    #[inline(never)]
+    fn step_some(&mut self, most: u64) -> Result<Part, AllocError>
         ensures ok { IfOk result (IsPart most self.old self.new) }
         ensures err { OnErr result (IsCut most self.old self.new) }
     {
-        self.run_with(&mut [Slot::empty()], most)
+        let mut steps = 0;
+        while steps < most && self.ending.is_none() {
+            if let Some(why) = self.step_live()? {
+                let stop = Some(why);
+                return Ok(Part { steps, stop });
+            }
+            steps += 1;
+        }
+        Ok(Part { steps, stop: None })
     }
 
-    /// The same with many slots. It is apart and never inlined, so that a short run does not pay for them.
+    /// The same with slots. It is apart and never inlined, so that a short run does not pay for them.
     #[inline(never)]
     fn run_many(&mut self, most: u64) -> Result<Part, AllocError>
         ensures ok { IfOk result (IsPart most self.old self.new) }
@@ -303,8 +316,8 @@ impl Vm {
         self.run_with(&mut [Slot::empty(); SLOTS], most)
     }
 
-    /// The same with slots. What they keep for an epoch holds while plain steps are made, so a step that is made by itself
-    /// begins an epoch, unless it leaves RAM as it is.
+    /// What the slots keep for an epoch holds while plain steps are made, so steps that are made by themselves begin an
+    /// epoch, unless it is one that leaves RAM as it is.
     #[inline(never)]
     fn run_with(&mut self, slots: &mut [Slot], most: u64) -> Result<Part, AllocError>
         requires some { 0 < length slots.old }
@@ -313,42 +326,26 @@ impl Vm {
         ensures err { OnErr result (IsCut most self.old self.new) }
     {
         let mut steps = 0;
-        let mut pause = 0;
+        let mut pause = 1;
         let mut epoch = self.epoch_after(false, 0);
         while steps < most && self.ending.is_none() {
-            let made = self.try_plain(slots, epoch, pause, most - steps - 1);
+            let made = self.make_plain(slots, epoch, most - steps - 1);
             steps += made;
+            pause = pause_after(pause, made);
             let is_left = self.leaves_ram(slots, epoch, pause);
-            pause = pause_after(pause, made, is_left);
-            if let Some(why) = self.step_live()? {
-                let stop = Some(why);
+            let count = count_alone(is_left, pause, most - steps);
+            let part = self.step_some(count)?;
+            steps += part.steps;
+            if part.stop.is_some() {
+                let stop = part.stop;
                 return Ok(Part { steps, stop });
             }
-            steps += 1;
             epoch = self.epoch_after(is_left, epoch);
         }
         Ok(Part { steps, stop: None })
     }
 
-    /// Makes plain steps, or none in a pause.
-    #[inline(always)]
-    fn try_plain(&mut self, slots: &mut [Slot], epoch: u32, pause: u32, most: u64) -> u64
-        requires live { self.old.machine.ending ≡ None }
-        requires some { 0 < length slots.old }
-        requires keeps { Keeps (hart_in self.old) epoch slots.old }
-        ensures run { IsRun self.old self.new result }
-        ensures most { result ≤ most }
-        ensures live { self.new.machine.ending ≡ None }
-        ensures keeps { Keeps (hart_in self.new) epoch slots.new }
-        ensures same_length { length slots.new ≡ length slots.old }
-    {
-        if pause > 0 {
-            return 0;
-        }
-        self.make_plain(slots, epoch, most)
-    }
-
-    /// The epoch after a step that is made by itself: the same where RAM was left as it was, and else the count of steps,
+    /// The epoch after steps that are made by themselves: the same where RAM was left as it was, and else the count of steps,
     /// which is above all epochs before.
     #[inline(always)]
     fn epoch_after(&self, is_left: bool, epoch: u32) -> u32
@@ -357,16 +354,16 @@ impl Vm {
         if is_left { epoch } else { self.steps as u32 }
     }
 
-    /// Whether the coming step leaves RAM as it is, and which pages are here. In a pause that is not looked at.
+    /// Whether the coming step leaves RAM as it is, and which pages are here. Before a long pause that is not looked at.
     #[inline(always)]
-    fn leaves_ram(&self, slots: &mut [Slot], epoch: u32, pause: u32) -> bool
+    fn leaves_ram(&self, slots: &mut [Slot], epoch: u32, pause: u64) -> bool
         requires some { 0 < length slots.old }
         requires keeps { Keeps (hart_in self.now) epoch slots.old }
         ensures told { IsTrue result → ComesAside (hart_in self.now) }
         ensures keeps { Keeps (hart_in self.now) epoch slots.new }
         ensures same_length { length slots.new ≡ length slots.old }
     {
-        if pause > 0 {
+        if pause >= LONG_PAUSE {
             return false;
         }
         self.hart.leaves_ram(slots, epoch)
@@ -459,13 +456,33 @@ impl Vm {
     }
 }
 
-/// How many steps go without a try at plain ones, after a try that made so many and a step that left RAM or may not have.
-#[inline]
-fn pause_after(pause: u32, made: u64, is_left: bool) -> u32 {
-    if pause > 0 {
-        return pause - 1;
+/// How many steps are to be made by themselves after a try at plain ones that made so many. Where one step traps, the next
+/// often traps too, so after tries that were not worth their while, one upon the other, it is more and more.
+#[inline(always)]
+fn pause_after(pause: u64, made: u64) -> u64
+    ensures { 1 ≤ result }
+{
+    if made > 1 {
+        return 1;
     }
-    if made > 0 || is_left { 0 } else { PAUSE }
+    if pause < LONGEST_PAUSE {
+        2 * pause + 1
+    } else {
+        pause
+    }
+}
+
+/// How many of the steps that are left are made by themselves: one where it leaves RAM as it is, and else those of the
+/// pause.
+#[inline(always)]
+fn count_alone(is_left: bool, pause: u64, left: u64) -> u64
+    requires pause { 1 ≤ pause }
+    requires left { 1 ≤ left }
+    ensures some { 1 ≤ result }
+    ensures within { result ≤ left }
+    ensures one { IsTrue is_left → result ≡ 1 }
+{
+    if is_left { 1 } else { pause.min(left) }
 }
 
 /// Counts a step of a machine that lives, which ends it where it reaches the limit.

@@ -8,12 +8,12 @@ ghost use Rattle.vm_cell.specs.Woken.{AreOfImage};
 
 use crate::absent::bring;
 use cow_disk::Disk;
-use elf_load::{RAM_BASE, load_elf};
+use elf_load::{Loaded, RAM_BASE, load_elf};
 use forest_model::{Ending, Options};
 use fork_port::Call;
 use image_depot::Depot;
 use rv_asm::elf_of;
-use std::alloc::Global;
+use std::alloc::{AllocError, Global};
 use std::process::Abort;
 use std::sync::Wait;
 use std::test::Fail;
@@ -31,8 +31,32 @@ fn booted(alloc: Global, words: &[u32], pages: u32) -> Result<Vm, Fail>
     booted_at(alloc, RAM_BASE, words, pages)
 }
 
-// The same with the words from a base on.
+// The image of these words from a base on, in RAM of so many pages.
+pub(crate) fn loaded_at(alloc: Global, base: u32, words: &[u32], pages: u32) -> Result<Loaded, Fail>
+    requires base { base % 4 ≡ 0 }
+    requires words { length words.now ≤ 64 }
+    requires least { 16 ≤ pages }
+    requires most { pages ≤ 1024 }
+{
+    let file = elf_of(alloc, base, words)?;
+    Ok(load_elf(alloc, &file, pages)?)
+}
+
+// The machine of an image, that makes at most 1,000,000 steps and may have two clones.
 #[tactic(auto, unfolding(forest_model::specs::Machine::boot))]
+fn booted_of(alloc: Global, image: &Loaded) -> Result<Vm, Fail>
+    ensures no_ticket { IfOk result (λ vm. (port_of vm.machine).tickets ≡ []) }
+    ensures no_image { IfOk result (λ vm. vm.key ≡ None) }
+{
+    let disk = Disk::from_bytes(alloc, b"")?;
+    let options = Options {
+        limit: 1_000_000,
+        allot: 2,
+    };
+    Ok(Vm::boot(alloc, image, disk, b"", options)?)
+}
+
+// The machine of these words, from a base on.
 pub(crate) fn booted_at(alloc: Global, base: u32, words: &[u32], pages: u32) -> Result<Vm, Fail>
     requires base { base % 4 ≡ 0 }
     requires words { length words.now ≤ 64 }
@@ -41,13 +65,8 @@ pub(crate) fn booted_at(alloc: Global, base: u32, words: &[u32], pages: u32) -> 
     ensures no_ticket { IfOk result (λ vm. (port_of vm.machine).tickets ≡ []) }
     ensures no_image { IfOk result (λ vm. vm.key ≡ None) }
 {
-    let image = load_elf(alloc, &elf_of(alloc, base, words)?, pages)?;
-    let disk = Disk::from_bytes(alloc, b"")?;
-    let options = Options {
-        limit: 1_000_000,
-        allot: 2,
-    };
-    Ok(Vm::boot(alloc, &image, disk, b"", options)?)
+    let image = loaded_at(alloc, base, words, pages)?;
+    booted_of(alloc, &image)
 }
 
 static EXIT_SEVEN: [u32; 5] = [0x100022b7, 0x00700313, 0x0062a023, 0x00500313, 0x0062a423];
@@ -101,10 +120,11 @@ fn goes_on(rt: &impl Abort, vm: &mut Vm) -> Result<(), Fail> {
     let ran = vm.run(3)?;
     let stepped = [vm.step()?, vm.step()?, vm.step()?];
     let last = vm.run(3)?;
-    assert_eq!(rt; (ran.steps, ran.why), (3, Stepped::Went));
     let ended = Stepped::Ended(Ending::Exit(7));
-    assert_eq!(rt; stepped, [Stepped::Went, ended, ended]);
-    assert_eq!(rt; (last.steps, vm.steps()), (0, 5));
+    assert_eq!(rt;
+        ([ran.steps, last.steps, vm.steps()], ran.why, stepped),
+        ([3, 0, 5], Stepped::Went, [Stepped::Went, ended, ended])
+    );
     Ok(())
 }
 
@@ -310,28 +330,58 @@ fn is_read_or_refused(rt: &impl Abort, alloc: Global, bytes: &mut Vec<u8>) -> Re
     is_refused_where_longer(rt, alloc, bytes)
 }
 
-fn goes_through(rt: &impl Abort, alloc: Global, bytes: &[u8]) -> Result<(), Fail> {
-    assert_eq!(rt; bytes.len(), 778);
+// The first place at which bytes do not stand as the table tells, if there is one.
+fn misplaced(bytes: &[u8]) -> Option<usize> {
     for (at, part) in FIRST_CHILD.iter() {
-        assert!(rt;
-            bytes.split_at(*at.min(&bytes.len())).1.starts_with(part),
-            "at {at}"
-        );
+        if !bytes.split_at(*at.min(&bytes.len())).1.starts_with(part) {
+            return Some(*at);
+        }
     }
-    let again = Descriptor::decode(alloc, bytes)?.encode(alloc)?;
+    None
+}
+
+// The bytes of what bytes are read as.
+fn spelled(alloc: Global, bytes: &[u8]) -> Result<Vec<u8>, DescError> {
+    let descriptor = Descriptor::decode(alloc, bytes)?;
+    Ok(descriptor.encode(alloc)?)
+}
+
+fn goes_through(rt: &impl Abort, alloc: Global, bytes: &[u8]) -> Result<(), Fail> {
+    assert_eq!(rt; (bytes.len(), misplaced(bytes)), (778, None));
+    let again = spelled(alloc, bytes)?;
     assert_eq!(rt; again.as_slice(), bytes);
     Ok(())
 }
 
+// Whether the first so many bytes are refused so.
+fn is_refused_cut(alloc: Global, bytes: &[u8], length: usize, number: u32) -> bool {
+    is_refused(alloc, bytes.split_at(length.min(bytes.len())).0, number)
+}
+
+// Whether bytes with another byte at a place are refused so.
+fn is_refused_with(
+    alloc: Global,
+    bytes: &[u8],
+    at: usize,
+    byte: u8,
+    number: u32,
+) -> Result<bool, AllocError> {
+    let mut changed = Vec::from_slice(alloc, bytes)?;
+    if let Some(old) = changed.get_mut(at) {
+        *old = byte;
+    }
+    Ok(is_refused(alloc, &changed, number))
+}
+
 fn is_refused_where_changed(rt: &impl Abort, alloc: Global, bytes: &[u8]) -> Result<(), Fail> {
-    assert!(rt; is_refused(alloc, bytes.split_at(775.min(bytes.len())).0, 1));
-    assert!(rt; is_refused(alloc, bytes.split_at(777.min(bytes.len())).0, 4));
+    let cut = [
+        is_refused_cut(alloc, bytes, 775, 1),
+        is_refused_cut(alloc, bytes, 777, 4),
+    ];
+    assert_eq!(rt; cut, [true; 2]);
     for (at, byte, number) in REFUSED.iter() {
-        let mut changed = Vec::from_slice(alloc, bytes)?;
-        if let Some(old) = changed.get_mut(*at) {
-            *old = *byte;
-        }
-        assert!(rt; is_refused(alloc, &changed, *number), "at {at}");
+        let refused = is_refused_with(alloc, bytes, *at, *byte, *number)?;
+        assert!(rt; refused, "at {at}");
     }
     Ok(())
 }
@@ -342,10 +392,10 @@ fn is_refused_where_longer(
     bytes: &mut Vec<u8>,
 ) -> Result<(), Fail> {
     bytes.push(0xff)?;
-    assert!(rt; is_refused(alloc, bytes, 4));
+    let longer = is_refused(alloc, bytes, 4);
     if let Some(pages) = bytes.get_mut(8) {
         *pages = 20;
     }
-    assert!(rt; is_refused(alloc, bytes, 6));
+    assert_eq!(rt; [longer, is_refused(alloc, bytes, 6)], [true; 2]);
     Ok(())
 }

@@ -3,10 +3,10 @@
 
 ghost use Rattle.std.specs.Prelude.{◌≤◌, length};
 
+use crate::machine::loaded_at;
 use cow_disk::Disk;
-use elf_load::{RAM_BASE, load_elf};
+use elf_load::{Loaded, RAM_BASE};
 use forest_model::Options;
-use rv_asm::elf_of;
 use std::alloc::Global;
 use std::process::Abort;
 use std::test::Fail;
@@ -295,8 +295,16 @@ fn booted(alloc: Global, words: &[u32], limit: u64) -> Result<Vm, Fail>
     requires least { 1 ≤ limit }
     requires most { limit ≤ 1_000_000 }
 {
-    let image = load_elf(alloc, &elf_of(alloc, RAM_BASE, words)?, 16)?;
+    let image = loaded_at(alloc, RAM_BASE, words, 16)?;
+    booted_with(alloc, &image, limit)
+}
+
+// The machine of an image with a limit.
+fn booted_with(alloc: Global, image: &Loaded, limit: u64) -> Result<Vm, Fail>
+    requires least { 1 ≤ limit }
+    requires most { limit ≤ 1_000_000 }
+{
     let disk = Disk::from_bytes(alloc, b"")?;
     let options = Options { limit, allot: 0 };
-    Ok(Vm::boot(alloc, &image, disk, b"", options)?)
+    Ok(Vm::boot(alloc, image, disk, b"", options)?)
 }
