@@ -1,5 +1,5 @@
 -- What was sent to siblings, as the driver keeps it.
-use Rattle.std.proofs.Common.{◌≡◌, ◌≢◌, ℕ, ◌==◌, ◌&&◌, eqb-true, eq-eqb, Bool, true, false, cond, refl, sym, ap, ap₂, ◌∙◌, subst, List, [], ◌∷◌, ◌++◌, length, Vec, Option, Some, None, option_map}
+use Rattle.std.proofs.Common.{◌≡◌, ◌≢◌, ℕ, ◌==◌, ◌&&◌, eqb-true, eq-eqb, Bool, true, false, cond, refl, sym, ap, ap₂, ◌∙◌, subst, [], ◌∷◌, ◌++◌, length, Vec, Option, Some, None, option_map}
 use Rattle.std.specs.BTreeMap.{BTreeMap, Updates, get}
 use Rattle.std.specs.declared.alloc.Global.{Global}
 use Rattle.std.proofs.lemmas.Bool.{and_parts}

@@ -1,8 +1,9 @@
 -- What slots keep, from one plain step to the next.
-use Rattle.std.proofs.Common.{◌≡◌, ◌≢◌, ℕ, ◌+◌, ◌-◌, ◌/◌, ◌%◌, ◌^◌, ◌<◌, ◌≤◌, ◌⊎◌, inl, inr, Bool, true, false, eqb, List, length, get_or, replicate, Some, is_some, refl, sym, ap, ◌∙◌, subst, arith}
+use Rattle.std.proofs.Common.{◌≡◌, ◌≢◌, ℕ, ◌+◌, ◌-◌, ◌*◌, ◌/◌, ◌%◌, ◌^◌, ◌<◌, ◌≤◌, ◌⊎◌, inl, inr, Bool, true, false, eqb, List, length, get_or, replicate, Some, is_some, refl, sym, ap, ◌∙◌, subst, arith}
 use Rattle.std.proofs.Math.ListN.{set}
 use Rattle.std.proofs.lemmas.Bool.{cases_eq, eqb-true}
 use Rattle.std.proofs.lemmas.Bool.Decides.{nat_tests}
+use Rattle.std.proofs.lemmas.Nat.{and_le_l, and_le_r, and_mod, and_shr}
 use Rattle.std.proofs.lemmas.List.{get_or-replicate, get_or-set_other, get_or-set_same, length-replicate, length-set}
 use Rattle.std.specs.Int.Bits.{bit_and}
 use Rattle.std.specs.Prelude.{◌&&◌, MatchBool, nat_le, nat_lt, slice_get}
@@ -39,6 +40,25 @@ use Rattle.vm_cell.specs.declared.hart.slot.TheConstants.{NOP, NOWHERE}
 use Rattle.vm_cell.proofs.Plain.{IsNoPort, no-port, plain-step}
 
 -- ---- slots
+
+-- the number of a slot
+pub masked : (address last : ℕ) → address < 2 ^ 32 → bit_and address (last * 4 % 2 ^ 64) / 4 ≡ bit_and (address / 4) last
+masked address last small =
+    let quotient : last * 4 % 2 ^ 64 / 4 ≡ last % 2 ^ 62 = omega arith in
+    let whole : address / 4 % 2 ^ 62 ≡ address / 4 = omega (arith, small) in
+    let least = and_le_l (address / 4) last in
+    let inside : bit_and (address / 4) last % 2 ^ 62 ≡ bit_and (address / 4) last = omega (arith, small, least) in
+    and_shr address (last * 4 % 2 ^ 64) 2
+    ∙ ap (bit_and (address / 4)) quotient
+    ∙ ap (λ q. bit_and q (last % 2 ^ 62)) (sym whole)
+    ∙ sym (and_mod (address / 4) last 62)
+    ∙ inside
+
+pub masked_inside : (address count : ℕ) → address < 2 ^ 32 → 0 < count → bit_and address ((count - 1) * 4 % 2 ^ 64) / 4 < count
+masked_inside address count small some =
+    let is = masked address (count - 1) small in
+    let most = and_le_r (address / 4) (count - 1) in
+    omega (arith, is, most, some)
 
 -- the word that an empty slot has encodes an instruction
 pub nop-decodes : is_some (decoded NOP) ≡ true

@@ -27,7 +27,7 @@ use fork_port::Call;
 use fork_port::refusals::TICKETS_END;
 use guest_mem::{Arrived, GuestMem, StoreError};
 use image_depot::{Depot, ImageKey, Parcel};
-use rv_decode::{Group, Instr, decode};
+use rv_decode::{Group, decode};
 use rv_traps::{Csrs, Wrote};
 use std::alloc::{AllocError, Global};
 use std::marker::Model;
@@ -38,6 +38,7 @@ mod atomic;
 mod call;
 mod compute;
 mod control;
+mod fields;
 mod kept;
 mod memory;
 mod plain;
@@ -46,6 +47,7 @@ mod slot;
 mod system;
 
 use access::Reach;
+pub use fields::Fields;
 pub use slot::Slot;
 
 /// What a step came to.
@@ -250,7 +252,7 @@ impl Hart {
         ensures memory { OnErr result (IsSomeAnd (decoded word) (λ instr. InstructionGrows instr self.old.state)) }
     {
         match decode(word) {
-            Some(instr) => self.execute(instr, word),
+            Some(instr) => self.execute(&Fields::of(instr), word),
             None => Ok(trapped(ILLEGAL_INSTRUCTION, word)),
         }
     }
@@ -280,10 +282,10 @@ impl Hart {
     /// Executes an instruction at the pc, which `word` encodes.
     #[inline(always)]
     #[tactic(auto, unfolding(forest_model::specs::Execute::execute))]
-    fn execute(&mut self, instr: Instr, word: u32) -> Result<Acted, AllocError>
+    fn execute(&mut self, instr: &Fields, word: u32) -> Result<Acted, AllocError>
         requires { self.old.state.ports.fork.next_ticket < TICKETS_END }
-        ensures acts { ActsBy self.old self.new (Some instr) word result }
-        ensures memory { OnErr result (InstructionGrows instr self.old.state) }
+        ensures acts { ActsBy self.old self.new (Some instr.now) word result }
+        ensures memory { OnErr result (InstructionGrows instr.now self.old.state) }
     {
         match instr.kind().group() {
             Group::LoadUpper => Ok(self.load_upper(instr)),
@@ -308,9 +310,9 @@ impl Hart {
 
     /// Retires, with a value for rd.
     #[inline]
-    fn retire_with(&mut self, instr: Instr, value: u32) -> Acted
+    fn retire_with(&mut self, instr: &Fields, value: u32) -> Acted
         ensures answer { result ≡ Acted.Retired Written.Nothing }
-        ensures new { self.new ≡ record self.old { state = at_next_instruction (with_rd instr value self.old.state) } }
+        ensures new { self.new ≡ record self.old { state = at_next_instruction (with_rd instr.now value self.old.state) } }
     {
         self.set_register(instr.rd(), value);
         self.retire()

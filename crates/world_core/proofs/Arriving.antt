@@ -1,5 +1,5 @@
 -- What a world stands for where a page comes to a machine on lease, and while the machine makes steps.
-use Rattle.std.proofs.Common.{◌≡◌, ℕ, ◌+◌, Bool, true, false, Result, Ok, Err, IfOk, OnErr, ◌-◌, ◌≤◌, arith, refl, sym, ap, ◌∙◌, subst, inl, inr, ◌⊎◌, [], ◌∷◌, ◌++◌, Option, Some, None, option_map}
+use Rattle.std.proofs.Common.{◌≡◌, ℕ, ◌+◌, Bool, true, false, Result, Ok, Err, IfOk, OnErr, refl, sym, ap, ap₂, ◌∙◌, subst, inl, inr, ◌⊎◌, [], ◌∷◌, ◌++◌, Option, Some, None, option_map}
 use Rattle.std.specs.Option.{IfSome}
 use Rattle.std.specs.BTreeMap.{get}
 use Rattle.std.specs.declared.alloc.AllocError.{AllocError}
@@ -19,29 +19,28 @@ use Rattle.forest_history.specs.World.{IsWhole, holds, is_out, is_out_at, lives_
 use Rattle.forest_history.specs.Rows.{took, does}
 use Rattle.forest_history.proofs.Changes.{at_path-agree, at_path-here, at_path-leaves, at_path-twice}
 use Rattle.forest_history.proofs.Ends.{at_path-keeps, at_path-map}
-use Rattle.forest_model.specs.Machine.{Machine}
+use Rattle.forest_model.specs.Machine.{Machine, after_steps}
 use Rattle.forest_model.specs.Forest.{machines}
 use Rattle.forest_model.specs.Paged.{Paged, Pages, advanced_by, paged_machines, pages_arrived}
 use Rattle.forest_model.proofs.Absent.{arrived-advanced_by}
-use Rattle.forest_model.proofs.Paged.{advanced_by-add}
+use Rattle.forest_model.proofs.Paged.{advanced_by-add, machine-advanced_by}
 use Rattle.run_report.specs.NameOrder.{path_cmp}
 use Rattle.vm_cell.specs.Keyed.{Arrives, KeyedMachine}
 use Rattle.vm_cell.specs.Steps.{moved_by}
-use Rattle.vm_cell.specs.declared.vm.Ran.{Ran}
 use Rattle.world_core.specs.declared.cell.Cell.{Cell}
 use Rattle.world_core.specs.declared.cell.State.{State}
 use Rattle.world_core.specs.declared.cell.State.TheVariants.{Home, Parked, Out}
 use Rattle.world_core.specs.declared.world.World.{World}
-use Rattle.world_core.specs.Lent.{Lent, IsLent, IsSameLease, now_of, vm_of}
+use Rattle.world_core.specs.Lent.{Lent, HasLed, IsLent, IsSameLease, lent_as, now_of, vm_of}
 use Rattle.world_core.specs.Shows.{forest, CellShows, IsAwake, Shows, StateShows}
 use Rattle.world_core.specs.World.{Forest, IsDue, ShowsTree, StandsFor}
-use Rattle.world_core.specs.Answers.{IsHandedOut, IsOutAs, Starts}
+use Rattle.world_core.specs.Answers.{IsHandedOut, IsOutAs, IsOutFrom, IsOutSince, Starts}
 use Rattle.world_core.specs.Arrived.{StillHandedOut, after_arrival, flagged, with_arrived, with_flags}
 use Rattle.world_core.proofs.Calling.{at_path-gone, below-name, lent_out}
 use Rattle.world_core.proofs.Changes.{parent-awake, shows-changed}
 use Rattle.world_core.proofs.Ready.{parent-ready, ready-changed}
-use Rattle.world_core.proofs.Returns.{Handed, IsOutHere, gone, handed, there}
-use Rattle.world_core.proofs.Steps.{Holds-same, SameTickets, forest-rules, has-run}
+use Rattle.world_core.proofs.Returns.{IsOutHere, out-here}
+use Rattle.world_core.proofs.Steps.{Holds-same, Paged-same, SameTickets, forest-rules}
 
 not-home : (waiting : Bool) → (out ≡ home) ⊎ ((out ≡ parked) × (waiting ≡ false)) → ⊥
 not-home waiting (inl at) = cc
@@ -146,14 +145,27 @@ module _ (flags : Pages → Pages) where
     flagged-gone none =
         subst (λ t. StandsFor depot w (record f { tree = t })) (sym (at_path-gone forest (flagged flags) name f.tree h.sound none)) h
 
--- a world tells no flags of a machine on lease
+-- a world tells no flags of a machine that is out
+pub flags-free : (flags : Pages → Pages) (depot : Shelves) (w : World) (f : Forest) (name : Path) → StandsFor depot w f
+    → IfSome (subtree name f.tree) (λ t. (machine t).place ≡ out) → StandsFor depot w (with_flags name flags f)
+flags-free flags depot w f name h away = by (subtree name f.tree) refl away
+  where
+    by : (u : Option (Tree (Spot Paged))) → subtree name f.tree ≡ u → IfSome u (λ t. (machine t).place ≡ out) → StandsFor depot w (with_flags name flags f)
+    by None none is = flagged-gone flags depot w f name h none
+    by (Some (node s broods log)) e is =
+        let at : subtree name f.tree ≡ Some (node (lent_out s.machine) broods log) =
+        e ∙ ap (λ place. Some (node (record { machine = s.machine; place = place }) broods log)) is in
+        let found = out-here depot w f name (node (lent_out s.machine) broods log) h at refl in
+        flagged-there flags depot w f name h s.machine broods log found.0 found.1
+
+-- nor of one on lease
 pub flags-stand : (flags : Pages → Pages) (depot : Shelves) (w : World) (f : Forest) (lease : Lent) → StandsFor depot w f → IsHandedOut f lease
     → StandsFor depot w (with_flags lease.name flags f)
-flags-stand flags depot w f lease h out_as = by (handed depot w f lease h out_as)
+flags-stand flags depot w f lease h out_as = flags-free flags depot w f lease.name h (away (subtree lease.name f.tree) out_as)
   where
-    by : Handed depot w f lease → StandsFor depot w (with_flags lease.name flags f)
-    by (gone none cell) = flagged-gone flags depot w f lease.name h none
-    by (there start broods log c is_as is) = flagged-there flags depot w f lease.name h start broods log c is
+    away : (u : Option (Tree (Spot Paged))) → IfSome u (IsOutAs lease) → IfSome u (λ t. (machine t).place ≡ out)
+    away None is = tt
+    away (Some t) is = is.is_out
 
 pub flags-sound : (name : Path) (flags : Pages → Pages) (f : Forest) → IsSound forest f.tree → IsSound forest (with_flags name flags f).tree
 flags-sound name flags f sound = flagged-sound flags name f.tree sound
@@ -175,16 +187,18 @@ handed-flagged flags f old new name start pages h =
     (subst (λ o. IfSome o (IsOutAs new)) (sym (at_path-here (flagged flags) old.name f.tree))
     (out-flagged flags old new start pages (subtree old.name f.tree) h))
 
+pages-arrived : (page : ℕ) (old new : Lent) (p : Paged) → new.ran ≡ old.ran → new.pages ≡ pages_arrived page old.pages
+    → (advanced_by old.ran p).pages ≡ old.pages → (advanced_by new.ran (record p { pages = pages_arrived page p.pages })).pages ≡ new.pages
+pages-arrived page old new p ran pages same =
+    ap (λ n. (advanced_by n (record p { pages = pages_arrived page p.pages })).pages) ran
+    ∙ ap (λ (q : Paged). q.pages) (arrived-advanced_by old.ran page p)
+    ∙ ap (pages_arrived page) same ∙ sym pages
+
 -- a page has come
 pub handed-arrived : (f : Forest) (page : ℕ) (old new : Lent) → new.name ≡ old.name → new.start ≡ old.start → new.ran ≡ old.ran
     → new.pages ≡ pages_arrived page old.pages → IsHandedOut f old → IsHandedOut (with_arrived old.name page f) new
 handed-arrived f page old new name start ran pages h =
-    handed-flagged (pages_arrived page) f old new name start
-    (λ p same.
-    ap (λ n. (advanced_by n (record p { pages = pages_arrived page p.pages })).pages) ran
-    ∙ ap (λ (q : Paged). q.pages) (arrived-advanced_by old.ran page p)
-    ∙ ap (pages_arrived page) same ∙ sym pages)
-    h
+    handed-flagged (pages_arrived page) f old new name start (λ p same. pages-arrived page old new p ran pages same) h
 
 -- where it is out so on one lease, it is on the other
 some-out : (old new : Lent) → ((t : Tree (Spot Paged)) → IsOutAs old t → IsOutAs new t) → (t : Option (Tree (Spot Paged))) → IfSome t (IsOutAs old)
@@ -209,28 +223,26 @@ handed-same f old new name start ran pages h =
     })
     h
 
+pages-run : (old new : Lent) (more : ℕ) (p : Paged) → p.machine ≡ old.start → IsLent old.start old.ran old.now → new.ran ≡ old.ran + more
+    → vm_of new ≡ moved_by more (vm_of old) → (advanced_by old.ran p).pages ≡ old.pages → (advanced_by new.ran p).pages ≡ new.pages
+pages-run old new more p start lent ran now same =
+    let after : advanced_by old.ran p ≡ now_of old =
+    Paged-same (advanced_by old.ran p) (now_of old) (machine-advanced_by old.ran p ∙ ap (after_steps old.ran) start ∙ sym lent.after) same in
+    ap (λ n. (advanced_by n p).pages) ran
+    ∙ ap (λ (q : Paged). q.pages) (advanced_by-add old.ran more p ∙ ap (advanced_by more) after)
+    ∙ ap (λ (v : KeyedMachine). v.pages) (sym now)
+
 -- it has made more steps
 pub handed-run : (f : Forest) (old new : Lent) (more : ℕ) → IsSameLease old new → IsLent old.start old.ran old.now → new.ran ≡ old.ran + more
     → vm_of new ≡ moved_by more (vm_of old) → IsHandedOut f old → IsHandedOut f new
 handed-run f old new more same lent ran now h =
     handed-as f old new same.name
-    (λ t is. let p = (machine t).machine in
-    record {
+    (λ t is. record {
       is_out = is.is_out;
       start = is.start ∙ sym same.start;
-      pages =
-          ap (λ n. (advanced_by n p).pages) ran
-          ∙ ap (λ (q : Paged). q.pages) (advanced_by-add old.ran more p ∙ ap (advanced_by more) (has-run old t lent is).after)
-          ∙ ap (λ (v : KeyedMachine). v.pages) (sym now);
+      pages = pages-run old new more (machine t).machine is.start lent ran now is.pages;
     })
     h
-
--- the same of a run, which may want memory after some of its steps
-handed-ran : (f : Forest) (old new : Lent) (r : Result Ran AllocError) → IsSameLease old new → IsLent old.start old.ran old.now
-    → IfOk r (λ ran. (new.ran ≡ old.ran + ran.steps) × (vm_of new ≡ moved_by ran.steps (vm_of old)))
-    → OnErr r (vm_of new ≡ moved_by (new.ran - old.ran) (vm_of old)) → OnErr r (old.ran ≤ new.ran) → IsHandedOut f old → IsHandedOut f new
-handed-ran f old new (Ok ran) same lent made failed more h = handed-run f old new ran.steps same lent made.0 made.1 h
-handed-ran f old new (Err e) same lent made failed more h = handed-run f old new (new.ran - old.ran) same lent (omega (arith, more)) failed h
 
 -- the answer of an arrival
 pub arrives : (depot : Shelves) (w : World) (f : Forest) (old new : Lent) (key : Option Key) (reply : Reply) (answer : Arrived) → new.name ≡ old.name
@@ -248,6 +260,66 @@ pub arrives-ok : (depot : Shelves) (w : World) (f : Forest) (old new : Lent) (ke
 arrives-ok depot w f old new key reply (Ok answer) name start ran h stands out_as =
     arrives depot w f old new key reply answer name start ran h stands out_as
 arrives-ok depot w f old new key reply (Err e) name start ran h stands out_as = tt
+
+-- ---- what the steps on a lease have led to
+
+-- none was made yet
+pub led-none : (name : Path) (v : KeyedMachine) → HasLed (lent_as name v.machine 0 v)
+unfolding advanced_by
+led-none name v = (v.pages, refl)
+
+pub led-run : (old new : Lent) (more : ℕ) → new.start ≡ old.start → IsLent old.start old.ran old.now → new.ran ≡ old.ran + more
+    → vm_of new ≡ moved_by more (vm_of old) → HasLed old → HasLed new
+led-run old new more start lent ran now led = (
+  led.0,
+  ap (λ (m : Machine). (advanced_by new.ran (record { machine = m; pages = led.0 })).pages) start
+      ∙ pages-run old new more (record { machine = old.start; pages = led.0 }) refl lent ran now led.1,
+)
+
+led-same : (old new : Lent) → new.start ≡ old.start → new.ran ≡ old.ran → new.pages ≡ old.pages → HasLed old → HasLed new
+led-same old new start ran pages led =
+    (led.0, ap₂ (λ (n : ℕ) (m : Machine). (advanced_by n (record { machine = m; pages = led.0 })).pages) ran start ∙ led.1 ∙ sym pages)
+
+led-arrived : (page : ℕ) (old new : Lent) → new.start ≡ old.start → new.ran ≡ old.ran → new.pages ≡ pages_arrived page old.pages → HasLed old → HasLed new
+led-arrived page old new start ran pages led = (
+  pages_arrived page led.0,
+  ap (λ (m : Machine). (advanced_by new.ran (record { machine = m; pages = pages_arrived page led.0 })).pages) start
+      ∙ pages-arrived page old new (record { machine = old.start; pages = led.0 }) ran pages led.1,
+)
+
+-- a page came, or memory was wanting
+pub led-arrives : (old new : Lent) (key : Option Key) (reply : Reply) (r : Result Arrived AllocError) → new.start ≡ old.start → new.ran ≡ old.ran
+    → IfOk r (Arrives key old.pages reply new.pages) → OnErr r (vm_of new ≡ vm_of old) → HasLed old → HasLed new
+led-arrives old new key reply (Ok (Got page)) start ran come failed led = led-arrived page old new start ran come.3 led
+led-arrives old new key reply (Ok (Had page)) start ran come failed led = led-same old new start ran come.1 led
+led-arrives old new key reply (Err e) start ran come failed led = led-same old new start ran (ap (λ (v : KeyedMachine). v.pages) failed) led
+
+-- a machine that is out so, is out
+since-out : (lease : Lent) (u : Option (Tree (Spot Paged))) → IfSome u (IsOutFrom lease) → IfSome u (λ t. (machine t).place ≡ out)
+since-out lease None is = tt
+since-out lease (Some t) is = is.0
+
+-- with the flags from which its steps led there, it is handed out
+out-led : (lease : Lent) (led : HasLed lease) (u : Option (Tree (Spot Paged))) → IfSome u (IsOutFrom lease)
+    → IfSome (option_map (flagged (λ _. led.0)) u) (IsOutAs lease)
+out-led lease led None is = tt
+out-led lease led (Some (node s broods log)) is = record {
+  is_out = is.0;
+  start = is.1;
+  pages = ap (λ (m : Machine). (advanced_by lease.ran (record { machine = m; pages = led.0 })).pages) is.1 ∙ led.1;
+}
+
+pub handed-as-led : (f : Forest) (lease : Lent) (led : HasLed lease) → IsOutSince f lease → IsHandedOut (with_flags lease.name (λ _. led.0) f) lease
+handed-as-led f lease led h =
+    subst (λ o. IfSome o (IsOutAs lease)) (sym (at_path-here (flagged (λ _. led.0)) lease.name f.tree)) (out-led lease led (subtree lease.name f.tree) h)
+
+pub still-led : (depot : Shelves) (w : World) (f : Forest) (lease : Lent) → HasLed lease → StandsFor depot w f → IsOutSince f lease
+    → StillHandedOut depot w f lease
+still-led depot w f lease led stands h = record {
+  flags = λ _. led.0;
+  stands = flags-free (λ _. led.0) depot w f lease.name stands (since-out lease (subtree lease.name f.tree) h);
+  handed = handed-as-led f lease led h;
+}
 
 -- ---- a machine that was taken
 

@@ -21,7 +21,7 @@ use Rattle.world_core.specs.declared.cell.Brood.{Brood}
 use Rattle.world_core.specs.declared.cell.Cell.{Cell}
 use Rattle.world_core.specs.declared.cell.Slot.{Slot}
 use Rattle.world_core.specs.declared.cell.Slot.TheVariants.{Asleep, Awake, Ended}
-use Rattle.world_core.specs.Shows.{forest, told_spot, IsAwake, SlotShows, BornShows, Holds, CellShows, IsNoCell, Shows, child_of}
+use Rattle.world_core.specs.Shows.{forest, told_spot, IsAwake, SlotShows, SlotsShow, BornShows, Holds, CellShows, IsNoCell, Shows, child_of}
 use Rattle.world_core.proofs.Slots.{slot-of, not-first}
 use Rattle.world_core.proofs.SlotWaits.{none-held, one-held}
 use Rattle.world_core.proofs.Changes.{child_by, one-below}
@@ -68,19 +68,23 @@ slotted-kind path key seed Awake a h sound = inl h
 slotted-kind path key seed (Ended outcome) a h sound = inr (ended-broods a sound (slot-ended outcome.ending a h.0))
 
 -- the child of a machine that has a cell
-slotted-born : (depot : Shelves) (path : Path) (ticket k : ℕ) (young : Option Young) (slots : List Slot) (trees : Trees (Spot Paged)) (a : Tree (Spot Paged))
-    → BornShows depot path ticket young slots trees → child_at k trees ≡ Some a → IsSlotted (child_path path ticket k) a
-slotted-born depot path ticket k None slots trees a h found = absurd h
-slotted-born depot path ticket zero (Some young) slots trees a h found = absurd (not-first trees a found)
-slotted-born depot path ticket (suc j) (Some young) slots trees a h found =
-    let has = slot-of path ticket young.key 1 young.seed slots trees j a h.1 found in
+slotted-shown : (path : Path) (ticket k : ℕ) (key : Key) (seed : Descriptor) (slots : List Slot) (trees : Trees (Spot Paged)) (a : Tree (Spot Paged))
+    → SlotsShow path ticket key 1 seed slots trees → child_at k trees ≡ Some a → IsSlotted (child_path path ticket k) a
+slotted-shown path ticket zero key seed slots trees a h found = absurd (not-first trees a found)
+slotted-shown path ticket (suc j) key seed slots trees a h found =
+    let has = slot-of path ticket key 1 seed slots trees j a h found in
     let same : 1 + j ≡ suc j = omega arith in
     record {
-      key = young.key;
-      seed = numbered (suc j) young.seed;
+      key = key;
+      seed = numbered (suc j) seed;
       slot = has.slot;
-      shows = subst (λ n. SlotShows (child_path path ticket n) young.key (numbered n young.seed) has.slot a) same has.shows;
+      shows = subst (λ n. SlotShows (child_path path ticket n) key (numbered n seed) has.slot a) same has.shows;
     }
+
+slotted-born : (depot : Shelves) (path : Path) (ticket k : ℕ) (young : Option Young) (slots : List Slot) (trees : Trees (Spot Paged)) (a : Tree (Spot Paged))
+    → BornShows depot path ticket young slots trees → child_at k trees ≡ Some a → IsSlotted (child_path path ticket k) a
+slotted-born depot path ticket k None slots trees a h found = slotted-shown path ticket k h.0 h.1 slots trees a h.3 found
+slotted-born depot path ticket k (Some young) slots trees a h found = slotted-shown path ticket k young.key young.seed slots trees a h.1 found
 
 none-there : (k : ℕ) (trees : Trees (Spot Paged)) (a : Tree (Spot Paged)) → trees ≡ no_tree → child_at k trees ≡ Some a → ⊥
 unfolding child_at

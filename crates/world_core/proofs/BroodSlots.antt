@@ -67,12 +67,12 @@ module _ (path : Path) (ticket : ℕ) (key : Key) where
 module _ (depot : Shelves) (path : Path) (ticket : ℕ) where
   born_endings : (young : Option Young) (slots : List Slot) (trees : Trees (Spot Paged)) → BornShows depot path ticket young slots trees
       → have_ended forest trees ≡ true → slot_endings slots ≡ endings forest trees
-  born_endings None slots trees h all = absurd h
+  born_endings None slots trees h all = shown_endings path ticket h.0 1 h.1 slots trees h.3 all
   born_endings (Some young) slots trees h all = shown_endings path ticket young.key 1 young.seed slots trees h.1 all
 
   born_lines : (young : Option Young) (slots : List Slot) (trees : Trees (Spot Paged)) → BornShows depot path ticket young slots trees
       → have_ended forest trees ≡ true → slot_lines slots ≡ trees_lines told_spot path ticket 1 trees
-  born_lines None slots trees h all = absurd h
+  born_lines None slots trees h all = shown_lines path ticket h.0 1 h.1 slots trees h.3 all
   born_lines (Some young) slots trees h all = shown_lines path ticket young.key 1 young.seed slots trees h.1 all
 
   pub brood_endings : (b : Brood) (trees : Trees (Spot Paged)) → BroodShows depot path ticket b trees → have_ended forest trees ≡ true

@@ -134,7 +134,8 @@ module _ (g : Tree (Spot Paged) → Tree (Spot Paged)) where
 
   born-kept : (depot : Shelves) (path : Path) (ticket k : ℕ) (young : Option Young) (slots : List Slot) (trees : Trees (Spot Paged)) → KeepsAt k trees
       → BornShows depot path ticket young slots trees → BornShows depot path ticket young slots (at_child g k trees)
-  born-kept depot path ticket k None slots trees keeps h = absurd h
+  born-kept depot path ticket k None slots trees keeps h =
+      (h.0, h.1, h.2, slots-kept path ticket h.0 1 k h.1 slots trees keeps h.3)
   born-kept depot path ticket k (Some young) slots trees keeps h =
       (h.0, slots-kept path ticket young.key 1 k young.seed slots trees keeps h.1)
 

@@ -36,3 +36,4 @@ pub mod Giving
 pub mod Beginning
 pub mod Arriving
 pub mod FetchedOver
+pub mod Crosses

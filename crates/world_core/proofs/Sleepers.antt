@@ -129,19 +129,23 @@ not-zero (tree t rest) = refl
 
 born-sleeps : (depot : Shelves) (path : Path) (ticket k : ℕ) (young : Option Young) (slots : List Slot) (trees : Trees (Spot Paged))
     → BornShows depot path ticket young slots trees → 1 ≤ k → slot_at k slots ≡ Some Asleep → wakes (child_at k trees) ≡ true
-born-sleeps depot path ticket k None slots trees h one there = absurd h
+born-sleeps depot path ticket k None slots trees h one there = absurd (subst IsNotAsleep there (h.2 (k - 1)))
 born-sleeps depot path ticket zero (Some young) slots trees h one there = absurd (omega arith)
 born-sleeps depot path ticket (suc j) (Some young) slots trees h one there =
     let same : suc j - 1 ≡ j = omega arith in
     slot-sleeps path ticket young.key 1 young.seed slots trees j h.1 (ap (slice_get slots) (sym same) ∙ there)
 
+shown-wakes : (path : Path) (ticket k : ℕ) (key : Key) (seed : Descriptor) (slots : List Slot) (trees : Trees (Spot Paged))
+    → SlotsShow path ticket key 1 seed slots trees → (1 ≤ k → IsNotAsleep (slot_at k slots)) → wakes (child_at k trees) ≡ false
+shown-wakes path ticket zero key seed slots trees h there = not-zero trees
+shown-wakes path ticket (suc j) key seed slots trees h there =
+    let same : suc j - 1 ≡ j = omega arith in
+    slot-wakes path ticket key 1 seed slots trees j h (subst (λ i. IsNotAsleep (slice_get slots i)) same (there (omega arith)))
+
 born-wakes : (depot : Shelves) (path : Path) (ticket k : ℕ) (young : Option Young) (slots : List Slot) (trees : Trees (Spot Paged))
     → BornShows depot path ticket young slots trees → (1 ≤ k → IsNotAsleep (slot_at k slots)) → wakes (child_at k trees) ≡ false
-born-wakes depot path ticket k None slots trees h there = absurd h
-born-wakes depot path ticket zero (Some young) slots trees h there = not-zero trees
-born-wakes depot path ticket (suc j) (Some young) slots trees h there =
-    let same : suc j - 1 ≡ j = omega arith in
-    slot-wakes path ticket young.key 1 young.seed slots trees j h.1 (subst (λ i. IsNotAsleep (slice_get slots i)) same (there (omega arith)))
+born-wakes depot path ticket k None slots trees h there = shown-wakes path ticket k h.0 h.1 slots trees h.3 there
+born-wakes depot path ticket k (Some young) slots trees h there = shown-wakes path ticket k young.key young.seed slots trees h.1 there
 
 -- a child's slot tells whether it is still a descriptor
 born-slot : (depot : Shelves) (path : Path) (ticket k : ℕ) (young : Option Young) (slots : List Slot) (trees : Trees (Spot Paged))

@@ -1,8 +1,9 @@
 -- A child of a cell's machine, and the cell once that child has changed.
-use Rattle.std.proofs.Common.{◌≡◌, ℕ, zero, suc, ◌+◌, ◌-◌, ◌<◌, ◌≤◌, true, false, length, List, Option, Some, None, is_some, vec_len, sym, ap, ◌∙◌, subst, arith}
+use Rattle.std.proofs.Common.{◌≡◌, ℕ, zero, suc, ◌+◌, ◌-◌, ◌<◌, ◌≤◌, Bool, true, false, length, List, Option, Some, None, is_some, MatchOption, slice_get, vec_len, sym, ap, ◌∙◌, subst, arith}
 use Rattle.std.proofs.lemmas.Option.{slice_get_within}
 use Rattle.std.specs.Ordering.{nat_cmp}
 use Rattle.std.specs.BTreeMap.{get}
+use Rattle.forest_tree.specs.Operations.{is_cloned}
 use Rattle.forest_tree.specs.Tree.{Tree, Trees, machine, broods_of, brood_of, child_at, Path}
 use Rattle.forest_tree.specs.Settle.{has_ended}
 use Rattle.forest_tree.proofs.Places.{some-same}
@@ -12,6 +13,7 @@ use Rattle.forest_model.specs.Forest.{machines}
 use Rattle.forest_model.specs.Paged.{Paged, paged_machines}
 use Rattle.image_depot.specs.Key.{Shelves, Key, IsKeyOf}
 use Rattle.vm_descriptor.specs.declared.descriptor.Descriptor.{Descriptor}
+use Rattle.vm_descriptor.specs.declared.descriptor.TheConstants.{MAX_CLONES}
 use Rattle.vm_descriptor.specs.Descriptor.{numbered}
 use Rattle.std.specs.Result.{IfOk}
 use Rattle.std.specs.Prelude.{Result, Ok, Err}
@@ -24,7 +26,7 @@ use Rattle.world_core.specs.declared.cell.Brood.{Brood}
 use Rattle.world_core.specs.declared.cell.Cell.{Cell}
 use Rattle.world_core.specs.declared.cell.Slot.{Slot}
 use Rattle.world_core.specs.declared.cell.Slot.TheVariants.{Asleep, Awake, Ended}
-use Rattle.world_core.specs.Shows.{forest, Sleeps, SlotShows, SlotsShow, BornShows, Holds, child_of}
+use Rattle.world_core.specs.Shows.{forest, Sleeps, SlotShows, SlotsShow, IsNotAsleep, AreAwake, BornShows, IsTallied, TallyAt, Holds, child_of, slot_at}
 use Rattle.world_core.proofs.Slots.{HasSlot, slot-of, not-first}
 use Rattle.world_core.proofs.SlotWaits.{none-held, one-held}
 
@@ -63,18 +65,34 @@ child-slot depot path c t a ticket index b young h found some is =
     child-slot-by depot path ticket index b.young young b.slots.items (brood_of ticket (broods_of t)) a (one-held depot path c t h ticket b some).born is found
 
 -- the place of a child among the slots
+place-shown : (path : Path) (ticket index : ℕ) (key : Key) (seed : Descriptor) (slots : List Slot) (trees : Trees (Spot Paged)) (a : Tree (Spot Paged))
+    → SlotsShow path ticket key 1 seed slots trees → child_at index trees ≡ Some a → (1 ≤ index) × (index - 1 < length slots)
+place-shown path ticket index key seed slots trees a h found =
+    let at = slot-at path ticket index key seed slots trees a h found in
+    (at.0, slice_get_within slots (index - 1) at.1.slot at.1.slot_at)
+
 place-by : (depot : Shelves) (path : Path) (ticket index : ℕ) (born : Option Young) (slots : List Slot) (trees : Trees (Spot Paged)) (a : Tree (Spot Paged))
     → BornShows depot path ticket born slots trees → child_at index trees ≡ Some a → (1 ≤ index) × (index - 1 < length slots)
-place-by depot path ticket index None slots trees a h found = absurd h
-place-by depot path ticket index (Some young) slots trees a h found =
-    let at = slot-at path ticket index young.key young.seed slots trees a h.1 found in
-    (at.0, slice_get_within slots (index - 1) at.1.slot at.1.slot_at)
+place-by depot path ticket index None slots trees a h found = place-shown path ticket index h.0 h.1 slots trees a h.3 found
+place-by depot path ticket index (Some young) slots trees a h found = place-shown path ticket index young.key young.seed slots trees a h.1 found
 
 pub child-place : (depot : Shelves) (path : Path) (c : Cell) (t a : Tree (Spot Paged)) (ticket index : ℕ) (b : Brood) → Holds depot path c t
     → child_of ticket index t ≡ Some a → get nat_cmp c.broods ticket ≡ Some b → (1 ≤ index) × (index - 1 < vec_len b.slots)
 child-place depot path c t a ticket index b h found some =
     let at = place-by depot path ticket index b.young b.slots.items (brood_of ticket (broods_of t)) a (one-held depot path c t h ticket b some).born found in
     (at.0, subst (λ n. index - 1 < n) (sym b.slots.ok.0) at.1)
+
+-- a brood has no more slots than a ticket may have children
+tallied : (path : Path) (count : ℕ) (b : Brood) (cloned : Bool) → TallyAt path count (Some b) cloned → IsTallied path count b
+tallied path count b true h = h
+tallied path count b false h = absurd h
+
+pub few-slots : (depot : Shelves) (path : Path) (c : Cell) (t : Tree (Spot Paged)) (ticket : ℕ) (b : Brood) → Holds depot path c t
+    → get nat_cmp c.broods ticket ≡ Some b → vec_len b.slots ≤ MAX_CLONES
+few-slots depot path c t ticket b h some =
+    let count = (forest.grant (machine t) ticket).children in
+    (tallied path count b (is_cloned forest (machine t) ticket)
+    (subst (λ o. TallyAt path count o (is_cloned forest (machine t) ticket)) some (h.tallies.broods ticket))).few
 
 -- the seed of a child that is still a descriptor
 sleeps-by : (path : Path) (key : Key) (seed : Descriptor) (slot : Slot) (a : Tree (Spot Paged)) → SlotShows path key seed slot a
@@ -83,6 +101,30 @@ unfolding spots paged_machines machines
 sleeps-by path key seed Asleep a h asleep lives = h
 sleeps-by path key seed Awake a h asleep lives = let no : true ≡ false = sym asleep ∙ h.awake in absurd (cc)
 sleeps-by path key seed (Ended outcome) a h asleep lives = let no : true ≡ false = sym (ap is_some h.0) ∙ lives in absurd (cc)
+
+-- no slot from the first on is of a descriptor
+pub all-awake : (slots : List Slot) (P : ℕ → Type 0) (r : Option ℕ) → is_some r ≡ false
+    → MatchOption r ((k : ℕ) → 1 ≤ k → IsNotAsleep (slot_at k slots)) P → AreAwake slots
+all-awake slots P None none h k = subst (λ i. IsNotAsleep (slice_get slots i)) (omega arith) (h (suc k) (omega arith))
+all-awake slots P (Some index) none h k = let no : true ≡ false = none in absurd (cc)
+
+-- where nothing is left for the children, none of them is a descriptor
+never-awake : (path : Path) (key : Key) (seed : Descriptor) (slot : Slot) (a : Tree (Spot Paged)) → SlotShows path key seed slot a → IsNotAsleep (Some slot)
+    → is_asleep_at (machine a).place ≡ true → has_ended forest a ≡ false → ⊥
+unfolding spots paged_machines machines
+never-awake path key seed Asleep a h awake asleep lives = awake
+never-awake path key seed Awake a h awake asleep lives = let no : true ≡ false = sym asleep ∙ h.awake in cc
+never-awake path key seed (Ended outcome) a h awake asleep lives = let no : true ≡ false = sym (ap is_some h.0) ∙ lives in cc
+
+pub none-left : (depot : Shelves) (path : Path) (c : Cell) (t a : Tree (Spot Paged)) (ticket index : ℕ) (b : Brood) → Holds depot path c t
+    → child_of ticket index t ≡ Some a → is_asleep_at (machine a).place ≡ true → has_ended forest a ≡ false → get nat_cmp c.broods ticket ≡ Some b
+    → b.young ≡ None → ⊥
+none-left depot path c t a ticket index b h found asleep lives some none =
+    let trees : Trees (Spot Paged) = brood_of ticket (broods_of t) in
+    let shown = subst (λ y. BornShows depot path ticket y b.slots.items trees) none (one-held depot path c t h ticket b some).born in
+    let at = slot-at path ticket index shown.0 shown.1 b.slots.items trees a shown.3 found in
+    never-awake (child_path path ticket (1 + (index - 1))) shown.0 (numbered (1 + (index - 1)) shown.1) at.1.slot a at.1.shows
+    (subst IsNotAsleep at.1.slot_at (shown.2 (index - 1))) asleep lives
 
 pub record IsSleepersSeed (depot : Shelves) (index : ℕ) (young : Young) (a : Tree (Spot Paged)) : Type 0 where
   pub first : 1 ≤ index

@@ -154,7 +154,7 @@ pub record HasRun (start : Paged) (ran : ℕ) (now : Paged) : Type 0 where
   pub after : advanced_by ran start ≡ now
   pub each_made : now.machine.steps ≡ start.machine.steps + ran
 
-Paged-same : (p q : Paged) → p.machine ≡ q.machine → p.pages ≡ q.pages → p ≡ q
+pub Paged-same : (p q : Paged) → p.machine ≡ q.machine → p.pages ≡ q.pages → p ≡ q
 Paged-same p q machine pages = ap₂ (λ (m : Machine) (known : Pages). record { machine = m; pages = known }) machine pages
 
 -- so has that of a lease

@@ -35,7 +35,15 @@ pub record IsOutAs (lease : Lent) (t : Tree (Spot Paged)) : Type 0 where
   pub start : (machine t).machine.machine ≡ lease.start
   pub pages : (advanced_by lease.ran (machine t).machine).pages ≡ lease.pages
 
+-- the forest's machine is out, as it was when it was taken, whatever was known of its pages
+abbrev pub IsOutFrom : Lent → Tree (Spot Paged) → Type 0
+IsOutFrom lease t = ((machine t).place ≡ out) × ((machine t).machine.machine ≡ lease.start)
+
 -- the machine of this name is out so, or the name is gone
+abbrev pub IsOutSince : Forest → Lent → Type 0
+IsOutSince f lease = IfSome (subtree lease.name f.tree) (IsOutFrom lease)
+
+-- the same, with such pages
 abbrev pub IsHandedOut : Forest → Lent → Type 0
 IsHandedOut f lease = IfSome (subtree lease.name f.tree) (IsOutAs lease)
 

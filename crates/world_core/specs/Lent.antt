@@ -3,7 +3,7 @@ use Rattle.std.specs.Prelude.{◌≡◌, ℕ, ◌+◌, Option}
 use Rattle.forest_tree.specs.Tree.{Path}
 use Rattle.forest_model.specs.Machine.{Machine, after_steps}
 use Rattle.image_depot.specs.Key.{Key}
-use Rattle.forest_model.specs.Paged.{Pages, Paged}
+use Rattle.forest_model.specs.Paged.{Pages, Paged, advanced_by}
 use Rattle.vm_cell.specs.Keyed.{KeyedMachine, paged}
 use Rattle.vm_cell.specs.declared.vm.Stepped.{Stepped}
 use Rattle.vm_cell.specs.declared.vm.Stepped.TheVariants.{Went, Stall, Call, Ended}
@@ -37,6 +37,10 @@ lent_as name start ran vm = record { name = name; start = start; ran = ran; now 
 pub record IsLent (start : Machine) (ran : ℕ) (now : Machine) : Type 0 where
   pub after : now ≡ after_steps ran start
   pub each_made : now.steps ≡ start.steps + ran
+
+-- from something that was known of the machine's pages when it was taken, its steps led to what is known of them now
+abbrev pub HasLed : Lent → Type 0
+HasLed lease = (pages : Pages) × ((advanced_by lease.ran (record { machine = lease.start; pages = pages })).pages ≡ lease.pages)
 
 -- the machine of the lease is the one that was taken, and has the same image
 pub record IsSameLease (old new : Lent) : Type 0 where

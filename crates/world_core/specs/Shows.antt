@@ -65,11 +65,27 @@ SlotsShow path ticket key k seed (slot ∷ slots) no_tree = ⊥
 SlotsShow path ticket key k seed (slot ∷ slots) (tree t rest) =
     SlotShows (child_path path ticket k) key (numbered k seed) slot t × SlotsShow path ticket key (suc k) seed slots rest
 
--- what the fork of a brood left for its children
+-- a slot is of no child that is still a descriptor
+abbrev pub IsNotAsleep : Option Slot → Type 0
+IsNotAsleep None = Unit {0}
+IsNotAsleep (Some Asleep) = ⊥
+IsNotAsleep (Some Awake) = Unit {0}
+IsNotAsleep (Some (Ended outcome)) = Unit {0}
+
+-- none of them is still a descriptor
+abbrev pub AreAwake : List Slot → Type 0
+AreAwake slots = (k : ℕ) → IsNotAsleep (slice_get slots k)
+
+-- what the fork of a brood left for its children, which is kept as long as one of them is still a descriptor
 abbrev pub BornShows : Shelves → Path → ℕ → Option Young → List Slot → Trees (Spot Paged) → Type 0
-BornShows depot path ticket None slots trees = ⊥
+BornShows depot path ticket None slots trees =
+    (key : Key) × (seed : Descriptor) × AreAwake slots × SlotsShow path ticket key 1 seed slots trees
 BornShows depot path ticket (Some young) slots trees =
     IsKeyOf depot young.key × SlotsShow path ticket young.key 1 young.seed slots trees
+
+-- it is kept, or let go where none of them is
+abbrev pub IsLeft : Option Young → List Slot → Option Young → Type 0
+IsLeft old slots young = (young ≡ old) ⊎ ((young ≡ None) × AreAwake slots)
 
 -- a brood shows the children of a ticket of the machine at a path
 pub record BroodShows (depot : Shelves) (path : Path) (ticket : ℕ) (b : Brood) (trees : Trees (Spot Paged)) : Type 0 where
@@ -182,9 +198,3 @@ is_asleep_slot None = false
 is_asleep_slot (Some Asleep) = true
 is_asleep_slot (Some Awake) = false
 is_asleep_slot (Some (Ended outcome)) = false
-
-abbrev pub IsNotAsleep : Option Slot → Type 0
-IsNotAsleep None = Unit {0}
-IsNotAsleep (Some Asleep) = ⊥
-IsNotAsleep (Some Awake) = Unit {0}
-IsNotAsleep (Some (Ended outcome)) = Unit {0}

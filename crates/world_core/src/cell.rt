@@ -16,7 +16,7 @@ ghost use Rattle.vm_cell.specs.Standing.{IsClone, IsJoin, IsKill, standing_call}
 ghost use Rattle.vm_descriptor.specs.declared.descriptor.TheConstants.{MAX_CLONES};
 ghost use Rattle.world_core.specs.Turns.{turn_of, turns_from};
 ghost use Rattle.world_core.specs.Unparked.{unparked, is_parked_for, kept_turn};
-ghost use Rattle.world_core.specs.Shows.{CellShows, Holds, HoldsAfter, IsAwake, IsNotAsleep, StandsAt, Tallies, child_of, is_asleep_slot, slot_at, ended_tree, forest, forked_tree, joined_tree, killed_tree, told_spot, with_child};
+ghost use Rattle.world_core.specs.Shows.{CellShows, Holds, HoldsAfter, IsAwake, IsLeft, IsNotAsleep, StandsAt, Tallies, child_of, is_asleep_slot, slot_at, ended_tree, forest, forked_tree, joined_tree, killed_tree, told_spot, with_child};
 
 use crate::turns::Turn;
 use forest_model::Ending;
@@ -190,6 +190,7 @@ impl Cell {
             unreachable!();
         };
         brood.slots[index as usize - 1] = Slot::Awake;
+        brood.let_go();
     }
 
     /// A child of the machine has ended. The machine's turn comes back where it waited for that.
@@ -254,6 +255,20 @@ impl Brood {
         ensures { result ≡ nat_lt 0 index && is_asleep_slot (slot_at index self.now.slots.items) }
     {
         index > 0 && matches!(self.slots.get(index as usize - 1), Some(Slot::Asleep))
+    }
+
+    /// Lets go of what the children start with, where none of them is a descriptor any more. Most wake in their order, so
+    /// while the last has not, there is no look at the others.
+    fn let_go(&mut self)
+        requires few { vec_len self.old.slots ≤ MAX_CLONES }
+        ensures young { IsLeft self.old.young self.old.slots.items self.new.young }
+        ensures rest { self.new ≡ record self.old { young = self.new.young } }
+    {
+        let last = self.slots.len() as u32;
+        if self.is_asleep(last) || self.asleep_from(1).is_some() {
+            return;
+        }
+        self.young = None;
     }
 
     /// The first child, from one on, that is still a descriptor.

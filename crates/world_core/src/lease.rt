@@ -1,6 +1,6 @@
 ghost use Rattle.std.specs.Prelude.{◌≡◌, ◌≢◌, ◌≤◌, ◌<◌, ◌+◌, ◌-◌, ◌∷◌, [], length, slice_index_or, false, IfOk, OnErr, OnOk, None};
 ghost use Rattle.std.specs.Option.{option_copied};
-ghost use Rattle.image_depot.specs.Key.{IsKeyOf};
+ghost use Rattle.image_depot.specs.Key.{IsKeyOf, Shelves};
 ghost use Rattle.forest_model.specs.Paged.{absent_count, stalled_at};
 ghost use Rattle.vm_cell.specs.Acts.{Grows};
 ghost use Rattle.forest_model.specs.Machine.{after_steps};
@@ -8,9 +8,9 @@ ghost use Rattle.vm_cell.specs.Keyed.{Arrives, HasImage, IsOfDepot, paged};
 ghost use Rattle.vm_cell.specs.Shown.{peeked, shown_registers};
 ghost use Rattle.vm_cell.specs.Standing.{standing_call};
 ghost use Rattle.vm_cell.specs.Steps.{IsFreeFor, Stands, moved_by};
-ghost use Rattle.world_core.specs.Answers.{IsHandedOut, join_ticket};
+ghost use Rattle.world_core.specs.Answers.{IsHandedOut, IsOutSince, join_ticket};
 ghost use Rattle.world_core.specs.Arrived.{StillHandedOut, after_arrival};
-ghost use Rattle.world_core.specs.Lent.{IsSameLease, StandsWhole, lent_as, vm_of};
+ghost use Rattle.world_core.specs.Lent.{HasLed, IsSameLease, StandsWhole, lent_as, vm_of};
 ghost use Rattle.world_core.specs.Turns.{turn_of, turns_from};
 ghost use Rattle.world_core.specs.World.{Forest, StandsFor};
 ghost use Rattle.world_core.specs.declared.world.World.{World};
@@ -38,19 +38,19 @@ pub struct Lease {
 
 impl Model for Lease {
     ghost use Rattle.std.specs.Prelude.{◌≡◌, ◌∷◌, [], None};
-    ghost use Rattle.world_core.specs.Lent.{Lent, IsLent, lent_as};
+    ghost use Rattle.world_core.specs.Lent.{Lent, IsLent, HasLed, lent_as};
     ghost use Rattle.world_core.specs.Turns.{turn_of, turns_from};
 
     ghost Value = { Lent };
 
     ghost view = { λ l. lent_as (turn_of l.turn.value).name l.start.value.machine l.ran l.vm.value };
 
-    ghost invariant = { λ l. IsLent l.start.value.machine l.ran l.vm.value.machine × (turns_from l.turn.value ≡ turn_of l.turn.value ∷ []) × ((turn_of l.turn.value).children ≡ None) };
+    ghost invariant = { λ l. IsLent l.start.value.machine l.ran l.vm.value.machine × (turns_from l.turn.value ≡ turn_of l.turn.value ∷ []) × ((turn_of l.turn.value).children ≡ None)
+        × HasLed (lent_as (turn_of l.turn.value).name l.start.value.machine l.ran l.vm.value) };
 }
 
 impl Lease {
     /// A machine that is handed out, with the turn of its name.
-    #[tactic(auto, unfolding(forest_model::specs::Machine::after_steps))]
     pub(crate) fn new(turn: Box<Turn>, vm: Box<Vm>) -> Lease
         requires alone { turns_from turn.value ≡ turn_of turn.value ∷ [] }
         requires one { (turn_of turn.value).children ≡ None }
@@ -82,9 +82,12 @@ impl Lease {
         &self.turn.name
     }
 
-    /// The steps that the machine has made since it was handed out.
+    /// The steps that the machine has made since it was handed out. They led to what is known of its pages.
     pub fn ran(&self) -> u64
-        ensures { result ≡ self.now.ran }
+        ensures value { result ≡ self.now.ran }
+        ensures led { HasLed self.now }
+        // Where the machine is out since then, the lease was handed out in the forest with other flags of its pages alone.
+        ensures handed { (depot : Shelves) (w : World) (f : Forest) → StandsFor depot w f → IsOutSince f self.now → StillHandedOut depot w f self.now }
     {
         self.ran
     }

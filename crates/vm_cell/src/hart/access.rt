@@ -11,7 +11,7 @@ ghost use Rattle.rv_traps.specs.Trap.{takes_interrupt};
 ghost use Rattle.vm_cell.specs.Acts.{IsOutside, Reaches, ReachesRam, waits_for};
 ghost use Rattle.vm_cell.specs.Keyed.{IsAbsent, IsHere};
 
-use super::Hart;
+use super::{Fields, Hart};
 use elf_load::{PAGE_SIZE, RAM_BASE};
 use forest_model::cause::{
     INSTRUCTION_ACCESS_FAULT, INSTRUCTION_ADDRESS_MISALIGNED, LOAD_ACCESS_FAULT,
@@ -124,12 +124,12 @@ impl Hart {
     {
         match instr.kind().group() {
             Group::Load => Some(Access {
-                address: self.data_address(instr),
+                address: self.data_address(&Fields::of(instr)),
                 width: load_width(instr.kind()),
                 direction: Direction::Load,
             }),
             Group::Store => Some(Access {
-                address: self.data_address(instr),
+                address: self.data_address(&Fields::of(instr)),
                 width: store_width(instr.kind()),
                 direction: Direction::Store,
             }),

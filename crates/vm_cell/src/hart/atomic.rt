@@ -15,11 +15,10 @@ ghost use Rattle.vm_cell.specs.Acts.{Acts, InstructionGrows, IsPut};
 ghost use Rattle.vm_cell.specs.Keyed.{IsHere};
 
 use super::access::{Reach, word_access};
-use super::{Acted, Hart, trapped};
+use super::{Acted, Fields, Hart, trapped};
 use elf_load::RAM_BASE;
 use forest_model::Direction;
 use forest_model::cause::{LOAD_ACCESS_FAULT, STORE_ACCESS_FAULT};
-use rv_decode::Instr;
 use rv_exec::amo_value;
 use std::alloc::AllocError;
 
@@ -27,8 +26,8 @@ impl Hart {
     /// LR.
     #[inline]
     #[tactic(auto, unfolding(forest_model::specs::Atomic::load_reserved))]
-    pub(super) fn load_reserved(&mut self, instr: Instr) -> Acted
-        ensures { Acts self.old self.new (data_page (Some (reserve_access instr self.old.state)) self.old.state) no_change (load_reserved instr self.old.state) (Ok result) }
+    pub(super) fn load_reserved(&mut self, instr: &Fields) -> Acted
+        ensures { Acts self.old self.new (data_page (Some (reserve_access instr.now self.old.state)) self.old.state) no_change (load_reserved instr.now self.old.state) (Ok result) }
     {
         let address = self.register(instr.rs1());
         match self.reach(word_access(address, Direction::Reserve)) {
@@ -46,11 +45,11 @@ impl Hart {
     /// SC.
     #[inline]
     #[tactic(auto, unfolding(forest_model::specs::Atomic::store_conditional))]
-    pub(super) fn store_conditional(&mut self, instr: Instr) -> Result<Acted, AllocError>
-        requires { group_of instr.kind ≡ group.StoreConditional }
-        ensures acts { Acts self.old self.new (data_page (Some (conditional_access instr self.old.state)) self.old.state)
-            (change_of_access (Some (conditional_access instr self.old.state)) (rs2 instr self.old.state) self.old.state) (store_conditional instr self.old.state) result }
-        ensures memory { OnErr result (InstructionGrows instr self.old.state) }
+    pub(super) fn store_conditional(&mut self, instr: &Fields) -> Result<Acted, AllocError>
+        requires { group_of instr.now.kind ≡ group.StoreConditional }
+        ensures acts { Acts self.old self.new (data_page (Some (conditional_access instr.now self.old.state)) self.old.state)
+            (change_of_access (Some (conditional_access instr.now self.old.state)) (rs2 instr.now self.old.state) self.old.state) (store_conditional instr.now self.old.state) result }
+        ensures memory { OnErr result (InstructionGrows instr.now self.old.state) }
     {
         let address = self.register(instr.rs1());
         let is_reserved = self.is_reserved(address);
@@ -66,7 +65,7 @@ impl Hart {
     #[inline]
     fn store_if(
         &mut self,
-        instr: Instr,
+        instr: &Fields,
         address: u32,
         offset: u32,
         is_reserved: bool,
@@ -76,7 +75,7 @@ impl Hart {
         requires inside { offset < length self.old.state.ram }
         requires here { is_reserved ≡ true → IsHere self.old.pages (offset / PAGE_SIZE) }
         ensures acts { Acts self.old self.new None (if is_reserved then puts (offset / PAGE_SIZE) else no_change)
-            (conditional_action is_reserved instr address self.old.state) result }
+            (conditional_action is_reserved instr.now address self.old.state) result }
         ensures memory { OnErr result (is_reserved ≡ true) }
     {
         if is_reserved {
@@ -90,11 +89,11 @@ impl Hart {
     /// The atomic memory operations.
     #[inline]
     #[tactic(auto, unfolding(forest_model::specs::Atomic::amo))]
-    pub(super) fn amo(&mut self, instr: Instr) -> Result<Acted, AllocError>
-        requires { group_of instr.kind ≡ group.Amo }
-        ensures acts { Acts self.old self.new (data_page (Some (amo_access instr self.old.state)) self.old.state)
-            (change_of_access (Some (amo_access instr self.old.state)) (rs2 instr self.old.state) self.old.state) (amo instr self.old.state) result }
-        ensures memory { OnErr result (InstructionGrows instr self.old.state) }
+    pub(super) fn amo(&mut self, instr: &Fields) -> Result<Acted, AllocError>
+        requires { group_of instr.now.kind ≡ group.Amo }
+        ensures acts { Acts self.old self.new (data_page (Some (amo_access instr.now self.old.state)) self.old.state)
+            (change_of_access (Some (amo_access instr.now self.old.state)) (rs2 instr.now self.old.state) self.old.state) (amo instr.now self.old.state) result }
+        ensures memory { OnErr result (InstructionGrows instr.now self.old.state) }
     {
         let address = self.register(instr.rs1());
         match self.reach(word_access(address, Direction::Update)) {
@@ -107,13 +106,13 @@ impl Hart {
 
     /// Gives rd the word at an address in RAM, and puts there what the kind makes of it and rs2.
     #[inline]
-    fn update(&mut self, instr: Instr, address: u32, offset: u32) -> Result<Acted, AllocError>
-        requires group { group_of instr.kind ≡ group.Amo }
+    fn update(&mut self, instr: &Fields, address: u32, offset: u32) -> Result<Acted, AllocError>
+        requires group { group_of instr.now.kind ≡ group.Amo }
         requires offset { offset ≡ address - RAM_BASE }
         requires aligned { offset % 4 ≡ 0 }
         requires inside { offset < length self.old.state.ram }
         requires here { IsHere self.old.pages (offset / PAGE_SIZE) }
-        ensures { Acts self.old self.new None (puts (offset / PAGE_SIZE)) (amo_by (of_ram (Some (offset / PAGE_SIZE))) instr address self.old.state) result }
+        ensures { Acts self.old self.new None (puts (offset / PAGE_SIZE)) (amo_by (of_ram (Some (offset / PAGE_SIZE))) instr.now address self.old.state) result }
     {
         let old = self.word(offset);
         let source = self.register(instr.rs2());

@@ -6,8 +6,8 @@ ghost use Rattle.fork_port.specs.Registers.{HasTicket, ticket_found, ticket_told
 ghost use Rattle.forest_model.specs.Execute.{execute};
 ghost use Rattle.vm_cell.specs.Standing.{AsksFor, AsksNext, call_asked, made};
 
-use super::Hart;
 use super::access::Reach;
+use super::{Fields, Hart};
 use forest_model::Written;
 use forest_model::port_map::FORK_BASE;
 use fork_port::registers::FORK_COMMAND;
@@ -44,7 +44,7 @@ impl Hart {
         requires { instr.kind ≡ Kind.Sw }
         ensures { (word : ℕ) → AsksFor (execute instr word self.now.state) self.now.state result }
     {
-        if self.data_address(instr) != FORK_BASE + FORK_COMMAND {
+        if self.data_address(&Fields::of(instr)) != FORK_BASE + FORK_COMMAND {
             return None;
         }
         call_in(self.ports.asked(self.register(instr.rs2())))

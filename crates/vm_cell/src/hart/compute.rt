@@ -6,23 +6,23 @@ ghost use Rattle.rv_decode.specs.Kinds.{group_of};
 ghost use Rattle.forest_model.specs.Compute.{load_upper, add_upper, compute_immediate, compute};
 ghost use Rattle.vm_cell.specs.Acts.{ActsAlone};
 
-use super::{Acted, Hart};
-use rv_decode::{Instr, Kind};
+use super::{Acted, Fields, Hart};
+use rv_decode::Kind;
 use rv_exec::alu;
 
 impl Hart {
     #[inline(always)]
     #[tactic(auto, unfolding(forest_model::specs::Compute::load_upper))]
-    pub(super) fn load_upper(&mut self, instr: Instr) -> Acted
-        ensures { ActsAlone self.old self.new (load_upper instr self.old.state) result }
+    pub(super) fn load_upper(&mut self, instr: &Fields) -> Acted
+        ensures { ActsAlone self.old self.new (load_upper instr.now self.old.state) result }
     {
         self.retire_with(instr, instr.imm().cast_unsigned())
     }
 
     #[inline(always)]
     #[tactic(auto, unfolding(forest_model::specs::Compute::add_upper))]
-    pub(super) fn add_upper(&mut self, instr: Instr) -> Acted
-        ensures { ActsAlone self.old self.new (add_upper instr self.old.state) result }
+    pub(super) fn add_upper(&mut self, instr: &Fields) -> Acted
+        ensures { ActsAlone self.old self.new (add_upper instr.now self.old.state) result }
     {
         let value = self.pc.wrapping_add(instr.imm().cast_unsigned());
         self.retire_with(instr, value)
@@ -30,9 +30,9 @@ impl Hart {
 
     #[inline(always)]
     #[tactic(auto, unfolding(rv_decode::specs::Kinds::group_of))]
-    pub(super) fn compute_immediate(&mut self, instr: Instr) -> Acted
-        requires { group_of instr.kind ≡ group.ComputeImmediate }
-        ensures { ActsAlone self.old self.new (compute_immediate instr self.old.state) result }
+    pub(super) fn compute_immediate(&mut self, instr: &Fields) -> Acted
+        requires { group_of instr.now.kind ≡ group.ComputeImmediate }
+        ensures { ActsAlone self.old self.new (compute_immediate instr.now self.old.state) result }
     {
         match instr.kind() {
             Kind::Addi => self.compute_immediate_as(instr, Kind::Addi),
@@ -51,10 +51,10 @@ impl Hart {
     /// The same for a kind that is known where this is inlined, so that `alu` is one operation there.
     #[inline(always)]
     #[tactic(auto, unfolding(forest_model::specs::Compute::compute_immediate))]
-    fn compute_immediate_as(&mut self, instr: Instr, kind: Kind) -> Acted
-        requires kind { kind ≡ instr.kind }
+    pub(super) fn compute_immediate_as(&mut self, instr: &Fields, kind: Kind) -> Acted
+        requires kind { kind ≡ instr.now.kind }
         requires group { group_of kind ≡ group.ComputeImmediate }
-        ensures { ActsAlone self.old self.new (compute_immediate instr self.old.state) result }
+        ensures { ActsAlone self.old self.new (compute_immediate instr.now self.old.state) result }
     {
         let a = self.register(instr.rs1());
         let b = instr.imm().cast_unsigned();
@@ -63,9 +63,9 @@ impl Hart {
 
     #[inline(always)]
     #[tactic(auto, unfolding(rv_decode::specs::Kinds::group_of))]
-    pub(super) fn compute(&mut self, instr: Instr) -> Acted
-        requires { group_of instr.kind ≡ group.Compute }
-        ensures { ActsAlone self.old self.new (compute instr self.old.state) result }
+    pub(super) fn compute(&mut self, instr: &Fields) -> Acted
+        requires { group_of instr.now.kind ≡ group.Compute }
+        ensures { ActsAlone self.old self.new (compute instr.now self.old.state) result }
     {
         match instr.kind() {
             Kind::Add => self.compute_as(instr, Kind::Add),
@@ -93,10 +93,10 @@ impl Hart {
     /// The same for a kind that is known where this is inlined.
     #[inline(always)]
     #[tactic(auto, unfolding(forest_model::specs::Compute::compute))]
-    fn compute_as(&mut self, instr: Instr, kind: Kind) -> Acted
-        requires kind { kind ≡ instr.kind }
+    pub(super) fn compute_as(&mut self, instr: &Fields, kind: Kind) -> Acted
+        requires kind { kind ≡ instr.now.kind }
         requires group { group_of kind ≡ group.Compute }
-        ensures { ActsAlone self.old self.new (compute instr self.old.state) result }
+        ensures { ActsAlone self.old self.new (compute instr.now self.old.state) result }
     {
         let a = self.register(instr.rs1());
         let b = self.register(instr.rs2());

@@ -6,17 +6,17 @@ ghost use Rattle.rv_decode.specs.Kinds.{group_of};
 ghost use Rattle.forest_model.specs.Control.{jump_to, relative, linked, jump, jump_register, branch};
 ghost use Rattle.vm_cell.specs.Acts.{ActsAlone};
 
-use super::{Acted, Hart, trapped};
+use super::{Acted, Fields, Hart, trapped};
 use forest_model::Written;
 use forest_model::cause::INSTRUCTION_ADDRESS_MISALIGNED;
-use rv_decode::{Instr, Kind};
+use rv_decode::Kind;
 use rv_exec::branch_taken;
 
 impl Hart {
     #[inline(always)]
     #[tactic(auto, unfolding(forest_model::specs::Control::jump))]
-    pub(super) fn jump(&mut self, instr: Instr) -> Acted
-        ensures { ActsAlone self.old self.new (jump instr self.old.state) result }
+    pub(super) fn jump(&mut self, instr: &Fields) -> Acted
+        ensures { ActsAlone self.old self.new (jump instr.now self.old.state) result }
     {
         let target = self.relative(instr);
         self.link_and_jump(instr, target)
@@ -24,8 +24,8 @@ impl Hart {
 
     #[inline(always)]
     #[tactic(auto, unfolding(forest_model::specs::Control::jump_register))]
-    pub(super) fn jump_register(&mut self, instr: Instr) -> Acted
-        ensures { ActsAlone self.old self.new (jump_register instr self.old.state) result }
+    pub(super) fn jump_register(&mut self, instr: &Fields) -> Acted
+        ensures { ActsAlone self.old self.new (jump_register instr.now self.old.state) result }
     {
         let address = self
             .register(instr.rs1())
@@ -35,9 +35,9 @@ impl Hart {
 
     #[inline(always)]
     #[tactic(auto, unfolding(rv_decode::specs::Kinds::group_of))]
-    pub(super) fn branch(&mut self, instr: Instr) -> Acted
-        requires { group_of instr.kind ≡ group.Branch }
-        ensures { ActsAlone self.old self.new (branch instr self.old.state) result }
+    pub(super) fn branch(&mut self, instr: &Fields) -> Acted
+        requires { group_of instr.now.kind ≡ group.Branch }
+        ensures { ActsAlone self.old self.new (branch instr.now self.old.state) result }
     {
         match instr.kind() {
             Kind::Beq => self.branch_as(instr, Kind::Beq),
@@ -53,10 +53,10 @@ impl Hart {
     /// The same for a kind that is known where this is inlined, so that its test is one comparison there.
     #[inline(always)]
     #[tactic(auto, unfolding(forest_model::specs::Control::branch))]
-    fn branch_as(&mut self, instr: Instr, kind: Kind) -> Acted
-        requires kind { kind ≡ instr.kind }
+    pub(super) fn branch_as(&mut self, instr: &Fields, kind: Kind) -> Acted
+        requires kind { kind ≡ instr.now.kind }
         requires group { group_of kind ≡ group.Branch }
-        ensures { ActsAlone self.old self.new (branch instr self.old.state) result }
+        ensures { ActsAlone self.old self.new (branch instr.now self.old.state) result }
     {
         let a = self.register(instr.rs1());
         let b = self.register(instr.rs2());
@@ -69,16 +69,16 @@ impl Hart {
 
     /// The pc plus the immediate.
     #[inline(always)]
-    fn relative(&self, instr: Instr) -> u32
-        ensures { result ≡ relative instr self.now.state }
+    fn relative(&self, instr: &Fields) -> u32
+        ensures { result ≡ relative instr.now self.now.state }
     {
         self.pc.wrapping_add(instr.imm().cast_unsigned())
     }
 
     /// Jumps, with the address of the next instruction for rd.
     #[inline(always)]
-    fn link_and_jump(&mut self, instr: Instr, target: u32) -> Acted
-        ensures { ActsAlone self.old self.new (jump_to target (linked instr self.old.state)) result }
+    fn link_and_jump(&mut self, instr: &Fields, target: u32) -> Acted
+        ensures { ActsAlone self.old self.new (jump_to target (linked instr.now self.old.state)) result }
     {
         if target % 4 != 0 {
             return trapped(INSTRUCTION_ADDRESS_MISALIGNED, target);

@@ -8,59 +8,72 @@ ghost use Rattle.forest_model.specs.Execute.{fetched};
 ghost use Rattle.forest_model.specs.Memory.{data_address};
 ghost use Rattle.vm_cell.specs.Acts.{ReachesRam};
 ghost use Rattle.forest_model.specs.Ports.{is_within};
-ghost use Rattle.vm_cell.specs.Kept.{Comes, ComesAside, IsAside, Forgets, ForgetsStored, Keeps, slot_of};
+ghost use Rattle.vm_cell.specs.Kept.{Comes, ComesAside, IsAside, Forgets, Keeps, slot_of};
 
-use super::Hart;
 use super::access::Reach;
 use super::slot::{NOWHERE, Slot};
+use super::{Fields, Hart};
 use console_port::registers::CONSOLE_SIZE;
 use forest_model::port_map::CONSOLE_BASE;
-use rv_decode::{Group, Instr};
+use rv_decode::Group;
 
 impl Hart {
+    /// The coming instruction, where its slot keeps it.
+    #[inline(always)]
+    fn kept(&self, slots: &[Slot], epoch: u32) -> Option<Fields>
+        requires some { 0 < length slots.now }
+        requires keeps { Keeps self.now epoch slots.now }
+        ensures { IfSome result (Comes self.now) }
+    {
+        // Every pc is a multiple of 4.
+        let _ = &self.pc;
+        let slot = slots[slot_of(self.pc, slots.len())];
+        if slot.address == self.pc && slot.epoch == epoch {
+            return Some(slot.instr);
+        }
+        None
+    }
+
     /// The coming instruction, where its fetch reaches RAM and its word encodes one. It is in its slot, or is put
     /// there.
     #[inline(always)]
-    pub(super) fn coming(&self, slots: &mut [Slot], epoch: u32) -> Option<Instr>
+    pub(super) fn coming(&self, slots: &mut [Slot], epoch: u32) -> Option<Fields>
         requires some { 0 < length slots.old }
         requires keeps { Keeps self.now epoch slots.old }
         ensures comes { IfSome result (Comes self.now) }
         ensures keeps { Keeps self.now epoch slots.new }
         ensures same_length { length slots.new ≡ length slots.old }
     {
-        // Every pc is a multiple of 4.
-        let _ = &self.pc;
-        let number = slot_of(self.pc, slots.len());
-        let slot = slots[number];
-        if slot.address == self.pc && slot.epoch == epoch {
-            return Some(slot.instr);
+        if let Some(instr) = self.kept(slots, epoch) {
+            return Some(instr);
         }
-        self.look_up(slots, number, epoch)
+        self.look_up(slots, epoch);
+        self.kept(slots, epoch)
     }
 
-    /// The same where the slot of this number keeps something else. It is apart and never inlined, so that the
-    /// loop of steps is short.
+    /// Puts the coming instruction into its slot, where its fetch reaches RAM and its word encodes one. It is apart and
+    /// never inlined, and its answer is read in the slot, so that the loop of steps is short.
     #[inline(never)]
-    fn look_up(&self, slots: &mut [Slot], number: usize, epoch: u32) -> Option<Instr>
+    fn look_up(&self, slots: &mut [Slot], epoch: u32)
         requires some { 0 < length slots.old }
-        requires number { number ≡ slot_of self.now.state.pc (length slots.old) }
         requires keeps { Keeps self.now epoch slots.old }
-        ensures comes { IfSome result (Comes self.now) }
         ensures keeps { Keeps self.now epoch slots.new }
         ensures same_length { length slots.new ≡ length slots.old }
     {
         let Reach::Ram(offset) = self.fetch() else {
-            return None;
+            return;
         };
         let word = self.fetched(offset);
-        let instr = slots[number].decode(word)?;
+        let number = slot_of(self.pc, slots.len());
+        let Some(instr) = slots[number].decode(word) else {
+            return;
+        };
         slots[number] = Slot {
             address: self.pc,
             epoch,
             word,
             instr,
         };
-        Some(instr)
     }
 
     /// Whether the coming step leaves RAM as it is, and which pages are here. It may do so where the answer is no.
@@ -73,34 +86,21 @@ impl Hart {
         ensures same_length { length slots.new ≡ length slots.old }
     {
         match self.coming(slots, epoch) {
-            Some(instr) => self.is_aside(instr),
+            Some(instr) => self.is_aside(&instr),
             None => false,
         }
     }
 
     /// Whether an instruction is an access to a CSR or a store to the console.
     #[inline(always)]
-    fn is_aside(&self, instr: Instr) -> bool
-        ensures { IsTrue result → IsAside (group_of instr.kind) instr self.now.state }
+    fn is_aside(&self, instr: &Fields) -> bool
+        ensures { IsTrue result → IsAside (group_of instr.now.kind) instr.now self.now.state }
     {
         match instr.kind().group() {
             Group::Csr => true,
             Group::Store => is_of_console(self.data_address(instr)),
             _ => false,
         }
-    }
-
-    /// Forgets what is kept of the word that an instruction stores to, if it is a store.
-    #[inline(always)]
-    pub(super) fn forget_stored(&self, slots: &mut [Slot], instr: Instr)
-        requires { 0 < length slots.old }
-        ensures forgets { ForgetsStored (group_of instr.kind) (slot_of (data_address instr self.now.state) (length slots.old)) slots.old slots.new }
-        ensures same_length { length slots.new ≡ length slots.old }
-    {
-        let Group::Store = instr.kind().group() else {
-            return;
-        };
-        forget(slots, self.data_address(instr));
     }
 }
 
@@ -114,7 +114,7 @@ fn is_of_console(address: u32) -> bool
 
 /// Forgets what is kept of the word that has the byte at an address.
 #[inline(always)]
-fn forget(slots: &mut [Slot], address: u32)
+pub(super) fn forget(slots: &mut [Slot], address: u32)
     requires { 0 < length slots.old }
     ensures { Forgets (slot_of address (length slots.old)) slots.old slots.new }
 {
@@ -122,13 +122,14 @@ fn forget(slots: &mut [Slot], address: u32)
     slots[number].address = NOWHERE;
 }
 
-/// The number of the slot, of so many, of the word that has the byte at an address.
+/// The number of the slot, of so many, of the word that has the byte at an address. It is masked before it is divided,
+/// since the place of a slot is its number times a power of 2.
 #[inline(always)]
-#[tactic(auto, using(std::proofs::lemmas::Nat::and_le_r))]
+#[tactic(auto, using(crate::proofs::Kept::masked, crate::proofs::Kept::masked_inside))]
 fn slot_of(address: u32, count: usize) -> usize
     requires { 0 < count }
     ensures value { result ≡ slot_of address count }
     ensures inside { result < count }
 {
-    (address / 4) as usize & (count - 1)
+    (address as usize & (count - 1).wrapping_mul(4)) / 4
 }

@@ -14,16 +14,18 @@ ghost use Rattle.rv_exec.specs.Memory.{IsWidth, load_width, store_width};
 ghost use Rattle.elf_load.specs.declared.image.TheConstants.{PAGE_SIZE};
 ghost use Rattle.flat_memory.specs.Flat.{put_bytes};
 ghost use Rattle.vm_cell.specs.Acts.{Acts, AccessGrows, InstructionGrows, IsPut, PortGrows};
+ghost use Rattle.vm_cell.specs.Kept.{ForgetsStored, slot_of};
 ghost use Rattle.vm_cell.specs.Keyed.{IsHere};
 ghost use Rattle.vm_cell.specs.Plain.{ActsPlainly};
 
 use super::access::Reach;
-use super::{Acted, Hart, trapped};
+use super::kept::forget;
+use super::{Acted, Fields, Hart, Slot, trapped};
 use forest_model::cause::{LOAD_ACCESS_FAULT, STORE_ACCESS_FAULT};
 use forest_model::{Access, Direction, Written};
 use fork_port::refusals::{BAD_ARGUMENT, TICKETS_END};
 use port_error::PortError;
-use rv_decode::{Instr, Kind};
+use rv_decode::Kind;
 use rv_exec::load_value;
 use std::alloc::AllocError;
 use vm_bus::Effect;
@@ -31,8 +33,8 @@ use vm_bus::Effect;
 impl Hart {
     /// The address of a load or a store.
     #[inline]
-    pub(super) fn data_address(&self, instr: Instr) -> u32
-        ensures { result ≡ data_address instr self.now.state }
+    pub(super) fn data_address(&self, instr: &Fields) -> u32
+        ensures { result ≡ data_address instr.now self.now.state }
     {
         self.register(instr.rs1())
             .wrapping_add(instr.imm().cast_unsigned())
@@ -40,9 +42,9 @@ impl Hart {
 
     #[inline(always)]
     #[tactic(auto, unfolding(forest_model::specs::Memory::load, rv_decode::specs::Kinds::group_of))]
-    pub(super) fn load(&mut self, instr: Instr) -> Acted
-        requires { group_of instr.kind ≡ group.Load }
-        ensures { Acts self.old self.new (data_page (Some (load_access instr self.old.state)) self.old.state) no_change (load instr self.old.state) (Ok result) }
+    pub(super) fn load(&mut self, instr: &Fields) -> Acted
+        requires { group_of instr.now.kind ≡ group.Load }
+        ensures { Acts self.old self.new (data_page (Some (load_access instr.now self.old.state)) self.old.state) no_change (load instr.now self.old.state) (Ok result) }
     {
         let address = self.data_address(instr);
         match instr.kind() {
@@ -58,13 +60,13 @@ impl Hart {
     /// Loads the `width` bytes from `address`. The kind is known where this is inlined, so that `load_value` is one
     /// operation there.
     #[inline(always)]
-    fn load_from(&mut self, instr: Instr, kind: Kind, address: u32, width: u32) -> Acted
-        requires kind { kind ≡ instr.kind }
-        requires group { group_of instr.kind ≡ group.Load }
-        requires width { width ≡ load_width instr.kind }
+    fn load_from(&mut self, instr: &Fields, kind: Kind, address: u32, width: u32) -> Acted
+        requires kind { kind ≡ instr.now.kind }
+        requires group { group_of instr.now.kind ≡ group.Load }
+        requires width { width ≡ load_width instr.now.kind }
         requires widths { IsWidth width }
         ensures { Acts self.old self.new (data_page (Some (to_load address width)) self.old.state) no_change
-            (load_by (reached (to_load address width) self.old.state) instr address self.old.state) (Ok result) }
+            (load_by (reached (to_load address width) self.old.state) instr.now address self.old.state) (Ok result) }
     {
         let access = Access {
             address,
@@ -86,9 +88,9 @@ impl Hart {
 
     /// Loads the `width` bytes from a port.
     #[tactic(auto, using(crate::proofs::PortChoice::same_load))]
-    fn load_from_port(&mut self, instr: Instr, address: u32, width: u32) -> Acted
-        requires group { group_of instr.kind ≡ group.Load }
-        ensures { Acts self.old self.new None no_change (read_action (port_load self.old.state.ports address width) instr address self.old.state) (Ok result) }
+    fn load_from_port(&mut self, instr: &Fields, address: u32, width: u32) -> Acted
+        requires group { group_of instr.now.kind ≡ group.Load }
+        ensures { Acts self.old self.new None no_change (read_action (port_load self.old.state.ports address width) instr.now address self.old.state) (Ok result) }
     {
         match self.ports.load(address, width) {
             Ok(number) => self.retire_with(instr, load_value(instr.kind(), number)),
@@ -98,12 +100,12 @@ impl Hart {
 
     #[inline(always)]
     #[tactic(auto, unfolding(forest_model::specs::Memory::store, rv_decode::specs::Kinds::group_of))]
-    pub(super) fn store(&mut self, instr: Instr) -> Result<Acted, AllocError>
-        requires group { group_of instr.kind ≡ group.Store }
+    pub(super) fn store(&mut self, instr: &Fields) -> Result<Acted, AllocError>
+        requires group { group_of instr.now.kind ≡ group.Store }
         requires tickets { self.old.state.ports.fork.next_ticket < TICKETS_END }
-        ensures acts { Acts self.old self.new (data_page (Some (store_access instr self.old.state)) self.old.state)
-            (change_of_access (Some (store_access instr self.old.state)) (rs2 instr self.old.state) self.old.state) (store instr self.old.state) result }
-        ensures memory { OnErr result (InstructionGrows instr self.old.state) }
+        ensures acts { Acts self.old self.new (data_page (Some (store_access instr.now self.old.state)) self.old.state)
+            (change_of_access (Some (store_access instr.now self.old.state)) (rs2 instr.now self.old.state) self.old.state) (store instr.now self.old.state) result }
+        ensures memory { OnErr result (InstructionGrows instr.now self.old.state) }
     {
         let address = self.data_address(instr);
         let word = self.register(instr.rs2());
@@ -172,28 +174,12 @@ impl Hart {
 
     /// Loads from RAM, from a page that is here. Else nothing changes. One look-up tells both.
     #[inline(always)]
-    #[tactic(auto, unfolding(rv_decode::specs::Kinds::group_of))]
-    pub(super) fn load_plainly(&mut self, instr: Instr) -> bool
-        requires { group_of instr.kind ≡ group.Load }
-        ensures { MatchBool result (ActsPlainly self.old self.new instr) (self.new ≡ self.old) }
-    {
-        match instr.kind() {
-            Kind::Lb => self.load_here(instr, Kind::Lb, 1),
-            Kind::Lh => self.load_here(instr, Kind::Lh, 2),
-            Kind::Lw => self.load_here(instr, Kind::Lw, 4),
-            Kind::Lbu => self.load_here(instr, Kind::Lbu, 1),
-            Kind::Lhu => self.load_here(instr, Kind::Lhu, 2),
-            _ => unreachable!(),
-        }
-    }
-
-    #[inline(always)]
-    fn load_here(&mut self, instr: Instr, kind: Kind, width: u32) -> bool
-        requires kind { kind ≡ instr.kind }
-        requires group { group_of instr.kind ≡ group.Load }
-        requires width { width ≡ load_width instr.kind }
+    pub(super) fn load_plainly(&mut self, instr: &Fields, kind: Kind, width: u32) -> bool
+        requires kind { kind ≡ instr.now.kind }
+        requires group { group_of kind ≡ group.Load }
+        requires width { width ≡ load_width kind }
         requires widths { IsWidth width }
-        ensures { MatchBool result (ActsPlainly self.old self.new instr) (self.new ≡ self.old) }
+        ensures { MatchBool result (ActsPlainly self.old self.new instr.now) (self.new ≡ self.old) }
     {
         let address = self.data_address(instr);
         if address % width != 0 {
@@ -209,27 +195,36 @@ impl Hart {
         true
     }
 
-    /// Stores to RAM, to a page that is here. Else nothing changes. One look-up tells both.
+    /// Forgets what is kept of the word that an instruction stores to, and stores to RAM, to a page that is here. Else
+    /// the hart stays. One look-up tells both.
     #[inline(always)]
-    #[tactic(auto, unfolding(rv_decode::specs::Kinds::group_of))]
-    pub(super) fn store_plainly(&mut self, instr: Instr) -> bool
-        requires { group_of instr.kind ≡ group.Store }
-        ensures { MatchBool result (ActsPlainly self.old self.new instr) (self.new ≡ self.old) }
+    pub(super) fn store_plainly(
+        &mut self,
+        slots: &mut [Slot],
+        instr: &Fields,
+        kind: Kind,
+        width: u32,
+    ) -> bool
+        requires some { 0 < length slots.old }
+        requires kind { kind ≡ instr.now.kind }
+        requires group { group_of kind ≡ group.Store }
+        requires width { width ≡ store_width kind }
+        requires widths { IsWidth width }
+        ensures acts { MatchBool result (ActsPlainly self.old self.new instr.now) (self.new ≡ self.old) }
+        ensures forgets { ForgetsStored (group_of kind) (slot_of (data_address instr.now self.old.state) (length slots.old)) slots.old slots.new }
+        ensures same_length { length slots.new ≡ length slots.old }
     {
-        match instr.kind() {
-            Kind::Sb => self.store_here(instr, 1),
-            Kind::Sh => self.store_here(instr, 2),
-            Kind::Sw => self.store_here(instr, 4),
-            _ => unreachable!(),
-        }
+        forget(slots, self.data_address(instr));
+        self.store_here(instr, kind, width)
     }
 
     #[inline(always)]
-    fn store_here(&mut self, instr: Instr, width: u32) -> bool
-        requires group { group_of instr.kind ≡ group.Store }
-        requires width { width ≡ store_width instr.kind }
+    fn store_here(&mut self, instr: &Fields, kind: Kind, width: u32) -> bool
+        requires kind { kind ≡ instr.now.kind }
+        requires group { group_of kind ≡ group.Store }
+        requires width { width ≡ store_width kind }
         requires widths { IsWidth width }
-        ensures { MatchBool result (ActsPlainly self.old self.new instr) (self.new ≡ self.old) }
+        ensures { MatchBool result (ActsPlainly self.old self.new instr.now) (self.new ≡ self.old) }
     {
         let address = self.data_address(instr);
         if address % width != 0 {

@@ -1,18 +1,19 @@
 //! Plain steps, which are counted together: each retires an instruction that looks at no counter and reaches no port.
 
-ghost use Rattle.std.specs.Prelude.{◌≡◌, ◌≢◌, ◌≤◌, ◌<◌, length, MatchBool};
+ghost use Rattle.std.specs.Prelude.{◌≡◌, ◌≢◌, ◌%◌, ◌≤◌, ◌<◌, ℕ, length, MatchBool};
 ghost use Rattle.forest_model.specs.declared.Written.TheVariants.{Nothing};
 ghost use Rattle.forest_model.specs.Action.{retire_next};
+ghost use Rattle.forest_model.specs.Memory.{data_address};
 ghost use Rattle.rv_decode.specs.declared.kinds.Group.TheVariants as group;
 ghost use Rattle.rv_decode.specs.Kinds.{group_of};
 ghost use Rattle.vm_cell.specs.Acts.{ActsAlone};
-ghost use Rattle.vm_cell.specs.Kept.{Keeps};
+ghost use Rattle.vm_cell.specs.Kept.{Comes, ForgetsStored, Keeps, slot_of};
 ghost use Rattle.vm_cell.specs.Plain.{ActsPlainly, AreMade, IsPlainStep, IsQuiet, IsStretch, counted_since};
 
-use super::{Acted, Hart, Slot};
+use super::{Acted, Fields, Hart, Slot};
 use forest_model::Written;
 use fork_port::refusals::TICKETS_END;
-use rv_decode::{Group, Instr};
+use rv_decode::Kind;
 use rv_traps::{CsrRegisters, Csrs};
 
 impl Hart {
@@ -47,10 +48,10 @@ impl Hart {
         timer.mtimecmp.saturating_sub(timer.mtime)
     }
 
-    /// Makes the plain steps that come, at most `most`, and answers how many. They are not counted yet.
-    #[inline(always)]
+    /// Makes the plain steps that come, at most `most`, and answers how many. They are not counted yet. It is apart and
+    /// never inlined, so that its loop has the processor's registers for itself.
+    #[inline(never)]
     fn plain_steps(&mut self, slots: &mut [Slot], epoch: u32, most: u64) -> u64
-        requires tickets { self.old.state.ports.fork.next_ticket < TICKETS_END }
         requires some { 0 < length slots.old }
         requires keeps { Keeps self.old epoch slots.old }
         ensures stretch { IsStretch result self.old self.new }
@@ -68,47 +69,181 @@ impl Hart {
     /// Makes the coming step if it is plain, with no look at the interrupt. Else nothing changes.
     #[inline(always)]
     fn step_plainly(&mut self, slots: &mut [Slot], epoch: u32) -> bool
-        requires tickets { self.old.state.ports.fork.next_ticket < TICKETS_END }
         requires some { 0 < length slots.old }
         requires keeps { Keeps self.old epoch slots.old }
         ensures made { MatchBool result (IsPlainStep self.old self.new) (self.new ≡ self.old) }
         ensures keeps { Keeps self.new epoch slots.new }
         ensures same_length { length slots.new ≡ length slots.old }
     {
-        // The call tells that RAM has whole words.
-        let _ = self.memory.size();
         let Some(instr) = self.coming(slots, epoch) else {
             return false;
         };
-        self.forget_stored(slots, instr);
-        self.act_plainly(instr)
+        self.step_by(slots, &instr)
     }
 
-    /// Executes an instruction at the pc, if it is plain and retires. Else nothing changes.
+    /// Makes the coming step, of this instruction, if it is plain. Else nothing changes.
     #[inline(always)]
-    fn act_plainly(&mut self, instr: Instr) -> bool
-        requires { self.old.state.ports.fork.next_ticket < TICKETS_END }
-        ensures { MatchBool result (ActsPlainly self.old self.new instr) (self.new ≡ self.old) }
+    fn step_by(&mut self, slots: &mut [Slot], instr: &Fields) -> bool
+        requires some { 0 < length slots.old }
+        requires comes { Comes self.old instr.now }
+        ensures made { MatchBool result (IsPlainStep self.old self.new) (self.new ≡ self.old) }
+        ensures keeps { (epoch : ℕ) → Keeps self.old epoch slots.old → Keeps self.new epoch slots.new }
+        ensures same_length { length slots.new ≡ length slots.old }
     {
-        match instr.kind().group() {
-            Group::LoadUpper => is_retired(self.load_upper(instr)),
-            Group::AddUpper => is_retired(self.add_upper(instr)),
-            Group::Jump => is_retired(self.jump(instr)),
-            Group::JumpRegister => is_retired(self.jump_register(instr)),
-            Group::Branch => is_retired(self.branch(instr)),
-            Group::Load => self.load_plainly(instr),
-            Group::Store => self.store_plainly(instr),
-            Group::ComputeImmediate => is_retired(self.compute_immediate(instr)),
-            Group::Compute => is_retired(self.compute(instr)),
-            Group::Nothing => is_retired(self.retire_alone()),
-            Group::EnvironmentCall
-            | Group::Breakpoint
-            | Group::TrapReturn
-            | Group::Csr
-            | Group::LoadReserved
-            | Group::StoreConditional
-            | Group::Amo => false,
+        self.has_whole_words();
+        self.act_plainly(slots, instr, instr.kind())
+    }
+
+    /// RAM has whole words. It is apart, so that no step reads the size for it.
+    #[inline]
+    fn has_whole_words(&self)
+        ensures { length self.now.state.ram % 4 ≡ 0 }
+    {
+        let _ = self.memory.size();
+    }
+
+    /// Executes an instruction at the pc, if it is plain and retires. Else the hart stays. What is kept of a word that
+    /// it stores to is forgotten. Each kind has an arm of its own, so that one jump leads to what it does.
+    #[inline(always)]
+    #[tactic(auto, unfolding(rv_decode::specs::Kinds::group_of))]
+    fn act_plainly(&mut self, slots: &mut [Slot], instr: &Fields, kind: Kind) -> bool
+        requires some { 0 < length slots.old }
+        requires kind { kind ≡ instr.now.kind }
+        ensures acts { MatchBool result (ActsPlainly self.old self.new instr.now) (self.new ≡ self.old) }
+        ensures forgets { ForgetsStored (group_of kind) (slot_of (data_address instr.now self.old.state) (length slots.old)) slots.old slots.new }
+        ensures same_length { length slots.new ≡ length slots.old }
+    {
+        match kind {
+            Kind::Lui => self.load_upper_plainly(instr, Kind::Lui),
+            Kind::Auipc => self.add_upper_plainly(instr, Kind::Auipc),
+            Kind::Jal => self.jump_plainly(instr, Kind::Jal),
+            Kind::Jalr => self.jump_register_plainly(instr, Kind::Jalr),
+            Kind::Beq => self.branch_plainly(instr, Kind::Beq),
+            Kind::Bne => self.branch_plainly(instr, Kind::Bne),
+            Kind::Blt => self.branch_plainly(instr, Kind::Blt),
+            Kind::Bge => self.branch_plainly(instr, Kind::Bge),
+            Kind::Bltu => self.branch_plainly(instr, Kind::Bltu),
+            Kind::Bgeu => self.branch_plainly(instr, Kind::Bgeu),
+            Kind::Lb => self.load_plainly(instr, Kind::Lb, 1),
+            Kind::Lh => self.load_plainly(instr, Kind::Lh, 2),
+            Kind::Lw => self.load_plainly(instr, Kind::Lw, 4),
+            Kind::Lbu => self.load_plainly(instr, Kind::Lbu, 1),
+            Kind::Lhu => self.load_plainly(instr, Kind::Lhu, 2),
+            Kind::Sb => self.store_plainly(slots, instr, Kind::Sb, 1),
+            Kind::Sh => self.store_plainly(slots, instr, Kind::Sh, 2),
+            Kind::Sw => self.store_plainly(slots, instr, Kind::Sw, 4),
+            Kind::Addi => self.compute_immediate_plainly(instr, Kind::Addi),
+            Kind::Slti => self.compute_immediate_plainly(instr, Kind::Slti),
+            Kind::Sltiu => self.compute_immediate_plainly(instr, Kind::Sltiu),
+            Kind::Xori => self.compute_immediate_plainly(instr, Kind::Xori),
+            Kind::Ori => self.compute_immediate_plainly(instr, Kind::Ori),
+            Kind::Andi => self.compute_immediate_plainly(instr, Kind::Andi),
+            Kind::Slli => self.compute_immediate_plainly(instr, Kind::Slli),
+            Kind::Srli => self.compute_immediate_plainly(instr, Kind::Srli),
+            Kind::Srai => self.compute_immediate_plainly(instr, Kind::Srai),
+            Kind::Add => self.compute_plainly(instr, Kind::Add),
+            Kind::Sub => self.compute_plainly(instr, Kind::Sub),
+            Kind::Sll => self.compute_plainly(instr, Kind::Sll),
+            Kind::Slt => self.compute_plainly(instr, Kind::Slt),
+            Kind::Sltu => self.compute_plainly(instr, Kind::Sltu),
+            Kind::Xor => self.compute_plainly(instr, Kind::Xor),
+            Kind::Srl => self.compute_plainly(instr, Kind::Srl),
+            Kind::Sra => self.compute_plainly(instr, Kind::Sra),
+            Kind::Or => self.compute_plainly(instr, Kind::Or),
+            Kind::And => self.compute_plainly(instr, Kind::And),
+            Kind::Mul => self.compute_plainly(instr, Kind::Mul),
+            Kind::Mulh => self.compute_plainly(instr, Kind::Mulh),
+            Kind::Mulhsu => self.compute_plainly(instr, Kind::Mulhsu),
+            Kind::Mulhu => self.compute_plainly(instr, Kind::Mulhu),
+            Kind::Div => self.compute_plainly(instr, Kind::Div),
+            Kind::Divu => self.compute_plainly(instr, Kind::Divu),
+            Kind::Rem => self.compute_plainly(instr, Kind::Rem),
+            Kind::Remu => self.compute_plainly(instr, Kind::Remu),
+            Kind::Fence => self.retire_plainly(instr, Kind::Fence),
+            Kind::FenceI => self.retire_plainly(instr, Kind::FenceI),
+            Kind::Wfi => self.retire_plainly(instr, Kind::Wfi),
+            _ => false,
         }
+    }
+
+    /// LUI, as a plain step.
+    #[inline(always)]
+    fn load_upper_plainly(&mut self, instr: &Fields, kind: Kind) -> bool
+        requires kind { kind ≡ instr.now.kind }
+        requires group { group_of kind ≡ group.LoadUpper }
+        ensures { MatchBool result (ActsPlainly self.old self.new instr.now) (self.new ≡ self.old) }
+    {
+        is_retired(self.load_upper(instr))
+    }
+
+    /// AUIPC, as a plain step.
+    #[inline(always)]
+    fn add_upper_plainly(&mut self, instr: &Fields, kind: Kind) -> bool
+        requires kind { kind ≡ instr.now.kind }
+        requires group { group_of kind ≡ group.AddUpper }
+        ensures { MatchBool result (ActsPlainly self.old self.new instr.now) (self.new ≡ self.old) }
+    {
+        is_retired(self.add_upper(instr))
+    }
+
+    /// JAL, as a plain step.
+    #[inline(always)]
+    fn jump_plainly(&mut self, instr: &Fields, kind: Kind) -> bool
+        requires kind { kind ≡ instr.now.kind }
+        requires group { group_of kind ≡ group.Jump }
+        ensures { MatchBool result (ActsPlainly self.old self.new instr.now) (self.new ≡ self.old) }
+    {
+        is_retired(self.jump(instr))
+    }
+
+    /// JALR, as a plain step.
+    #[inline(always)]
+    fn jump_register_plainly(&mut self, instr: &Fields, kind: Kind) -> bool
+        requires kind { kind ≡ instr.now.kind }
+        requires group { group_of kind ≡ group.JumpRegister }
+        ensures { MatchBool result (ActsPlainly self.old self.new instr.now) (self.new ≡ self.old) }
+    {
+        is_retired(self.jump_register(instr))
+    }
+
+    /// A branch, as a plain step.
+    #[inline(always)]
+    fn branch_plainly(&mut self, instr: &Fields, kind: Kind) -> bool
+        requires kind { kind ≡ instr.now.kind }
+        requires group { group_of kind ≡ group.Branch }
+        ensures { MatchBool result (ActsPlainly self.old self.new instr.now) (self.new ≡ self.old) }
+    {
+        is_retired(self.branch_as(instr, kind))
+    }
+
+    /// A computation from a register and the immediate, as a plain step.
+    #[inline(always)]
+    fn compute_immediate_plainly(&mut self, instr: &Fields, kind: Kind) -> bool
+        requires kind { kind ≡ instr.now.kind }
+        requires group { group_of kind ≡ group.ComputeImmediate }
+        ensures { MatchBool result (ActsPlainly self.old self.new instr.now) (self.new ≡ self.old) }
+    {
+        is_retired(self.compute_immediate_as(instr, kind))
+    }
+
+    /// A computation from two registers, as a plain step.
+    #[inline(always)]
+    fn compute_plainly(&mut self, instr: &Fields, kind: Kind) -> bool
+        requires kind { kind ≡ instr.now.kind }
+        requires group { group_of kind ≡ group.Compute }
+        ensures { MatchBool result (ActsPlainly self.old self.new instr.now) (self.new ≡ self.old) }
+    {
+        is_retired(self.compute_as(instr, kind))
+    }
+
+    /// What changes nothing else, as a plain step.
+    #[inline(always)]
+    fn retire_plainly(&mut self, instr: &Fields, kind: Kind) -> bool
+        requires kind { kind ≡ instr.now.kind }
+        requires group { group_of kind ≡ group.Nothing }
+        ensures { MatchBool result (ActsPlainly self.old self.new instr.now) (self.new ≡ self.old) }
+    {
+        is_retired(self.retire_alone())
     }
 
     /// Retires.

@@ -3,7 +3,8 @@
 ghost use Rattle.std.specs.Prelude.{◌≡◌, Some};
 ghost use Rattle.rv_decode.specs.Table.{decoded};
 
-use rv_decode::{Instr, decode};
+use super::Fields;
+use rv_decode::decode;
 
 /// No instruction has this address: each is a multiple of 4.
 pub(super) const NOWHERE: u32 = 1;
@@ -17,7 +18,7 @@ pub struct Slot {
     pub(super) address: u32,
     pub(super) epoch: u32,
     pub(super) word: u32,
-    pub(super) instr: Instr,
+    pub(super) instr: Fields,
     ghost is_decoded: { decoded word ≡ Some instr },
 }
 
@@ -34,18 +35,21 @@ impl Slot {
             address: NOWHERE,
             epoch: 0,
             word: NOP,
-            instr,
+            instr: Fields::of(instr),
         }
     }
 
     /// The instruction that a word encodes, or `None` where it encodes none. It is known where the slot has the word.
     #[inline(always)]
-    pub(super) fn decode(&self, word: u32) -> Option<Instr>
+    pub(super) fn decode(&self, word: u32) -> Option<Fields>
         ensures { result ≡ decoded word }
     {
         if self.word == word {
             return Some(self.instr);
         }
-        decode(word)
+        match decode(word) {
+            Some(instr) => Some(Fields::of(instr)),
+            None => None,
+        }
     }
 }

@@ -4,10 +4,10 @@ ghost use Rattle.std.specs.Prelude.{◌≡◌};
 ghost use Rattle.forest_model.specs.System.{operand, operation_of, csr_value, reads, writes, write_action, csr_access, trap_return};
 ghost use Rattle.vm_cell.specs.Acts.{ActsAlone};
 
-use super::{Acted, Hart, trapped};
+use super::{Acted, Fields, Hart, trapped};
 use forest_model::cause::ILLEGAL_INSTRUCTION;
 use forest_model::{CsrOperation, Written};
-use rv_decode::{Instr, Kind};
+use rv_decode::Kind;
 use rv_traps::Wrote;
 
 impl Hart {
@@ -22,8 +22,8 @@ impl Hart {
 
     /// Reads and writes a CSR, as `word` encodes.
     #[tactic(auto, unfolding(forest_model::specs::System::csr_access))]
-    pub(super) fn csr_access(&mut self, instr: Instr, word: u32) -> Acted
-        ensures { ActsAlone self.old self.new (csr_access instr word self.old.state) result }
+    pub(super) fn csr_access(&mut self, instr: &Fields, word: u32) -> Acted
+        ensures { ActsAlone self.old self.new (csr_access instr.now word self.old.state) result }
     {
         let number = instr.imm().cast_unsigned();
         let old = if reads(operation(instr.kind()), instr) {
@@ -38,8 +38,8 @@ impl Hart {
     }
 
     /// Gives rd the value before, and writes the one after, if there is one.
-    fn csr_write(&mut self, instr: Instr, word: u32, old: u32) -> Acted
-        ensures { ActsAlone self.old self.new (write_action (writes (operation_of instr.kind) instr) old instr word self.old.state) result }
+    fn csr_write(&mut self, instr: &Fields, word: u32, old: u32) -> Acted
+        ensures { ActsAlone self.old self.new (write_action (writes (operation_of instr.now.kind) instr.now) old instr.now word self.old.state) result }
     {
         let operation = operation(instr.kind());
         if !writes(operation, instr) {
@@ -55,8 +55,8 @@ impl Hart {
     }
 
     /// The operand: a register, or the field itself.
-    fn operand(&self, instr: Instr) -> u32
-        ensures { result ≡ operand instr.kind instr self.now.state }
+    fn operand(&self, instr: &Fields) -> u32
+        ensures { result ≡ operand instr.now.kind instr.now self.now.state }
     {
         match instr.kind() {
             Kind::Csrrwi | Kind::Csrrsi | Kind::Csrrci => instr.rs1(),
@@ -88,15 +88,15 @@ fn csr_value(operation: CsrOperation, old: u32, operand: u32) -> u32
 }
 
 /// Whether the register is read: a write that gives its value to nobody does not read.
-fn reads(operation: CsrOperation, instr: Instr) -> bool
-    ensures { result ≡ reads operation instr }
+fn reads(operation: CsrOperation, instr: &Fields) -> bool
+    ensures { result ≡ reads operation instr.now }
 {
     operation != CsrOperation::Write || instr.rd() != 0
 }
 
 /// Whether the register is written: bits are set or cleared where the field rs1 is not 0.
-fn writes(operation: CsrOperation, instr: Instr) -> bool
-    ensures { result ≡ writes operation instr }
+fn writes(operation: CsrOperation, instr: &Fields) -> bool
+    ensures { result ≡ writes operation instr.now }
 {
     operation == CsrOperation::Write || instr.rs1() != 0
 }

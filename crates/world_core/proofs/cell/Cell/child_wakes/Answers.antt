@@ -1,5 +1,7 @@
-use Rattle.std.proofs.Common.{sym}
-use Rattle.world_core.proofs.SlotChanges.{no-brood-no-child, child-place}
+use Rattle.std.proofs.Common.{sym, subst}
+use Rattle.std.specs.BTreeMap.{WritesThrough}
+use Rattle.std.specs.Ordering.{nat_cmp}
+use Rattle.world_core.proofs.SlotChanges.{no-brood-no-child, child-place, few-slots}
 use Rattle.world_core.proofs.SlotEnds.{wakes-shows}
 use Rattle.world_core.proofs.cell.Cell.child_wakes.Goals as goal
 
@@ -20,4 +22,14 @@ index_mut-requires c =
 
 pub returns-clause-shows : goal.returns-clause-shows
 returns-clause-shows c depot path t a h found asleep lives =
-    wakes-shows depot path c.args.ticket c.args.index c.args.self.now _ c.in-Some.brood.now t a h found lives (sym c.in-Some.ensures.value) (c.get_mut.follows.holds _)
+    let broods = c.get_mut.follows.lender c.let_go.new.self in
+    wakes-shows depot path c.args.ticket c.args.index c.args.self.now broods c.in-Some.brood.now c.let_go.new.self.young t a h found lives
+    (sym c.in-Some.ensures.value)
+    (subst (λ b. WritesThrough nat_cmp (nat_cmp c.args.ticket) c.args.self.now.broods b broods) c.let_go.ensures.rest
+    (c.get_mut.follows.holds c.let_go.new.self))
+    c.let_go.ensures.young
+
+pub let_go-requires : goal.let_go-requires
+let_go-requires c =
+    let r = c.requires in
+    record { few = few-slots r.0 r.1 c.args.self.now r.2 c.args.ticket c.in-Some.brood.now r.4 (sym c.in-Some.ensures.value) }

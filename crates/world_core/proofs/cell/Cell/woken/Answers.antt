@@ -1,12 +1,18 @@
 use Rattle.std.proofs.Common.{sym, subst}
 use Rattle.vm_cell.specs.Woken.{IsOfImage}
-use Rattle.world_core.proofs.SlotChanges.{no-brood-no-child, sleepers-seed, wakes-to}
+use Rattle.world_core.proofs.SlotChanges.{no-brood-no-child, none-left, sleepers-seed, wakes-to}
 use Rattle.world_core.proofs.cell.Cell.woken.Goals as goal
 
 pub unreachable-requires : goal.unreachable-requires
 unreachable-requires c =
     let r = c.requires in
     no-brood-no-child c.args.depot.now r.0 c.args.self.now r.1 r.2 c.args.ticket c.args.index r.3 r.4 (sym c.in_default.ensures.value)
+
+pub unreachable-requires-in_default-young : goal.unreachable-requires-in_default-young
+unreachable-requires-in_default-young c =
+    let r = c.requires in
+    none-left c.args.depot.now r.0 c.args.self.now r.1 r.2 c.args.ticket c.args.index c.in-Some.brood.now r.3 r.4 r.5 r.6 (sym c.in-Some.ensures.value)
+    c.in_default-young.is
 
 pub through_bytes-requires : goal.through_bytes-requires
 through_bytes-requires c =

@@ -9,7 +9,7 @@ use Rattle.vm_cell.specs.declared.vm.Ran.{Ran}
 use Rattle.world_core.specs.Answers.{IsHandedOut}
 use Rattle.world_core.specs.Lent.{Lent, IsLent, lent_as}
 use Rattle.world_core.specs.Turns.{turn_of}
-use Rattle.world_core.proofs.Arriving.{handed-run}
+use Rattle.world_core.proofs.Arriving.{handed-run, led-run}
 use Rattle.world_core.proofs.lease.Lease.run.Goals as goal
 
 -- the machine has made so many more steps
@@ -37,6 +37,15 @@ lent-by start old new ran (Err e) lent steps made err most =
     let more = new.machine.steps - old.machine.steps in
     lent-longer start old.machine new.machine ran more lent (machine-moved more old new err) (omega arith)
 
+-- it has made those that its count tells
+moved-since : (since : ℕ) (old mid new : KeyedMachine) (r : Result Ran AllocError) → mid ≡ old → since ≡ new.machine.steps - mid.machine.steps
+    → IfOk r (λ ran. new ≡ moved_by ran.steps mid) → IfOk r (λ ran. new.machine.steps ≡ mid.machine.steps + ran.steps)
+    → OnErr r (new ≡ moved_by (new.machine.steps - mid.machine.steps) mid) → new ≡ moved_by since old
+moved-since since old mid new (Ok r) first last steps made failed =
+    let more : r.steps ≡ since = omega (arith, last) in
+    steps ∙ ap₂ moved_by more first
+moved-since since old mid new (Err e) first last steps made failed = failed ∙ ap₂ moved_by (sym last) first
+
 pub invariant_of-self : goal.invariant_of-self
 invariant_of-self c =
     let start = c.self.inside.start.value.machine in
@@ -49,16 +58,14 @@ invariant_of-self c =
     let more : c.steps.result - c.steps-before.result ≡ new.machine.steps - old.machine.steps = ap₂ (λ a b. a - b) after before in
     let lent = lent-by start old new c.self.inside.ran c.run-ran.result held c.run-ran.ensures.steps c.run-ran.ensures.each_made
     c.run-ran.ensures.err c.run-ran.ensures.err_steps in
-    (subst (λ n. IsLent start (c.self.inside.ran + n) new.machine) (sym more) lent, c.self.invariant.1, c.self.invariant.2)
-
--- it has made those that its count tells
-moved-since : (since : ℕ) (old mid new : KeyedMachine) (r : Result Ran AllocError) → mid ≡ old → since ≡ new.machine.steps - mid.machine.steps
-    → IfOk r (λ ran. new ≡ moved_by ran.steps mid) → IfOk r (λ ran. new.machine.steps ≡ mid.machine.steps + ran.steps)
-    → OnErr r (new ≡ moved_by (new.machine.steps - mid.machine.steps) mid) → new ≡ moved_by since old
-moved-since since old mid new (Ok r) first last steps made failed =
-    let more : r.steps ≡ since = omega (arith, last) in
-    steps ∙ ap₂ moved_by more first
-moved-since since old mid new (Err e) first last steps made failed = failed ∙ ap₂ moved_by (sym last) first
+    let since : ℕ = c.steps.result - c.steps-before.result in
+    let moved : new ≡ moved_by since c.self.inside.vm.value =
+    moved-since since c.self.inside.vm.value old new c.run-ran.result c.deref_mut.ensures.value more c.run-ran.ensures.steps c.run-ran.ensures.each_made
+    c.run-ran.ensures.err in
+    let lease_of : ℕ → KeyedMachine → Lent = λ ran v. lent_as (turn_of c.self.inside.turn.value).name start ran v in
+    let led = led-run (lease_of c.self.inside.ran c.self.inside.vm.value) (lease_of (c.self.inside.ran + since) new) since refl c.self.invariant.0 refl moved
+    c.self.invariant.3 in
+    (subst (λ n. IsLent start (c.self.inside.ran + n) new.machine) (sym more) lent, c.self.invariant.1, c.self.invariant.2, led)
 
 pub returns-clause-handed : goal.returns-clause-handed
 returns-clause-handed c = λ f out_as.

@@ -1,4 +1,5 @@
-use Rattle.std.proofs.Common.{◌≡◌, ℕ, ◌-◌, ◌/◌, ◌%◌, Some, true, ap, ◌∙◌, subst}
+use Rattle.std.proofs.Common.{◌≡◌, ℕ, ◌-◌, ◌/◌, ◌%◌, Some, true, sym, ap, ◌∙◌, subst}
+use Rattle.rv_decode.specs.Kinds.{group_of}
 use Rattle.std.specs.Prelude.{slice_get}
 use Rattle.byteorder.specs.Endian.{little_from}
 use Rattle.elf_load.specs.declared.image.TheConstants.{RAM_BASE, PAGE_SIZE}
@@ -8,21 +9,21 @@ use Rattle.forest_model.specs.Action.{with_rd}
 use Rattle.forest_model.specs.Memory.{data_address}
 use Rattle.vm_cell.specs.Keyed.{KeyedState}
 use Rattle.vm_cell.proofs.Plain.{loads-here}
-use Rattle.vm_cell.proofs.hart.Hart.load_here.Goals as goal
+use Rattle.vm_cell.proofs.hart.Hart.load_plainly.Goals as goal
 
 pub returns : goal.returns
 returns c =
     let old : KeyedState = c.args.self.now in
-    let i = c.args.instr in
+    let i = c.args.instr.now in
     let offset = c.in-Some.offset in
-    let named : ℕ = data_address c.args.instr c.args.self.now.state in
+    let named : ℕ = data_address c.args.instr.now c.args.self.now.state in
     let same : c.data_address-address.result ≡ named = c.data_address-address.ensures in
     let place : offset ≡ named - RAM_BASE = c.in-Some.ensures.inside.2 ∙ ap (λ a. a - RAM_BASE) same in
     let page = subst (λ (h : KeyedState). slice_get h.pages.here (offset / PAGE_SIZE) ≡ Some true) c.self.view_is c.in-Ok.ensures.1 in
     loads-here old c.retire_with.new.self i (subst (λ a. is_in_ram old.state.ram a ≡ true) same c.in-Some.ensures.inside.0)
-    (subst (λ o. slice_get old.pages.here (o / PAGE_SIZE) ≡ Some true) place page) c.in-Ok.number c.requires.group
-    (subst (λ w. named % w ≡ 0) c.requires.width (subst (λ a. a % c.args.width ≡ 0) same c.if-address-width-ne0.false))
+    (subst (λ o. slice_get old.pages.here (o / PAGE_SIZE) ≡ Some true) place page) c.in-Ok.number (ap group_of (sym c.requires.kind) ∙ c.requires.group)
+    (subst (λ w. named % w ≡ 0) (c.requires.width ∙ ap load_width c.requires.kind) (subst (λ a. a % c.args.width ≡ 0) same c.if-address-width-ne0.false))
     (c.in-Ok.ensures.0 ∙ ap (λ (h : KeyedState). little_from offset c.args.width h.state.ram) c.self.view_is
-    ∙ ap (λ o. little_from o c.args.width old.state.ram) place ∙ ap (λ w. little_from (named - RAM_BASE) w old.state.ram) c.requires.width)
+    ∙ ap (λ o. little_from o c.args.width old.state.ram) place ∙ ap (λ w. little_from (named - RAM_BASE) w old.state.ram) (c.requires.width ∙ ap load_width c.requires.kind))
     (c.retire_with.ensures.new ∙ ap (λ v. record old { state = at_next_instruction (with_rd i v old.state) })
     (c.load_value.ensures ∙ ap (λ k. load_value k c.in-Ok.number) c.requires.kind))

@@ -1,0 +1,254 @@
+-- What a turn of a seat is to its pass.
+use Rattle.std.proofs.Common.{◌≡◌, ℕ, List, [], ◌∷◌, ◌++◌, map, refl, sym, ap, ap₂, ◌∙◌, subst, ◌⊎◌, inl, inr}
+use Rattle.std.proofs.lemmas.List.{map-append}
+use Rattle.forest_tree.specs.Tree.{Path}
+use Rattle.forest_history.specs.Histories.{Entry, History, IsLegal, Record, Seat, holding, replay}
+use Rattle.forest_model.specs.Machine.{Machine}
+use Rattle.forest_history.specs.World as history
+use Rattle.forest_model.specs.Forest.{machines}
+use Rattle.atomic_table.specs.Seated.{TableId}
+use Rattle.turn_board.specs.History as notes
+use Rattle.turn_board.specs.History.{entries_by, StartsWith}
+use Rattle.turn_board.specs.Calls as turn
+use Rattle.turn_board.specs.Calls.{IsSeat, IsTurn, Enters, Leaves}
+use Rattle.world_core.specs.declared.reason.Reason.{Reason}
+use Rattle.world_core.specs.declared.world.World.{World}
+use Rattle.fork_board.specs.declared.note.Note.{Note}
+use Rattle.fork_board.specs.declared.note.Opening.{Opening}
+use Rattle.fork_board.specs.Notes.{entries, entry_of}
+use Rattle.fork_board.specs.Follows.{Follows, opening_record, record_at}
+use Rattle.fork_board.specs.Passes.{BoardValue, FreeAfter, HoldsNone, IsFree, PassValue, Makes, Joins, Closes}
+use Rattle.fork_board.specs.Visits.{Place, Passed, Visits, pass_of}
+use Rattle.fork_board.proofs.Entries.{by-map, entered_as, none-between}
+use Rattle.fork_board.proofs.Records.{Free, free-after, free-more, free-own, record-more}
+
+-- what lies under the lock, as `Kept` says it
+abbrev pub kept : Opening → notes.History Note → World → Type 0
+kept opening log w = Follows opening (entries log) w
+
+pub entries-append : (log more : notes.History Note) → entries (log ++ more) ≡ entries log ++ entries more
+entries-append log more = map-append (entered_as entry_of) log more
+
+entries-by : (seat : List ℕ) (log : notes.History Note) → entries_by seat (entries log) ≡ entries (entries_by seat log)
+entries-by seat log = by-map entry_of seat log
+
+-- the entries of its number in what a seat has seen are its own
+own-entries : (seat : List ℕ) (seen mine : notes.History Note) → entries_by seat seen ≡ mine → entries_by seat (entries seen) ≡ entries mine
+own-entries seat seen mine own = entries-by seat seen ∙ ap entries own
+
+no-others : (seat : List ℕ) (rest : notes.History Note) → entries_by seat rest ≡ [] → entries_by seat (entries rest) ≡ []
+no-others seat rest none = entries-by seat rest ∙ ap entries none
+
+module _ (board : BoardValue) where
+  -- the seat's turn has come
+  pub entered : (old new : Place) (w : World) → IsSeat board.table board.opening old → IsTurn board.table board.opening new
+      → Enters kept board.opening old new w → Visits (pass_of board old) (pass_of board new) w
+  entered old new w seat at e = record {
+    same_board = refl;
+    same_number = e.same_seat;
+    same_splits = e.same_splits;
+    same_mine = ap entries e.same_mine;
+    between = entries e.later.0;
+    seen = ap entries e.later.1 ∙ entries-append old.me.0.seen e.later.0;
+    others =
+        no-others old.me.0.seat e.later.0
+        (none-between old.me.0.seat old.me.0.seen e.later.0 old.me.0.mine seat.own
+        (ap (entries_by old.me.0.seat) (sym e.later.1) ∙ ap (λ s. entries_by s new.me.0.seen) (sym e.same_seat) ∙ at.own ∙ e.same_mine));
+    follows = e.stands_for;
+  }
+
+  -- it has passed
+  pub passed : (now new : Place) (note : Note) → IsSeat board.table board.opening new → Leaves now new note
+      → Passed (pass_of board now) (pass_of board new) note
+  passed now new note seat l = record {
+    same_board = refl;
+    same_number = l.same_seat;
+    same_splits = l.same_splits;
+    seen = ap entries l.seen ∙ entries-append now.me.0.seen ((now.me.0.seat, note) ∷ []);
+    mine = ap entries l.mine ∙ entries-append now.me.0.mine ((now.me.0.seat, note) ∷ []);
+    own = own-entries new.me.0.seat new.me.0.seen new.me.0.mine seat.own;
+  }
+
+  -- two have joined
+  pub joined : (seat other new : Place) → IsSeat board.table board.opening seat → IsSeat board.table board.opening new → turn.Joins seat other new
+      → Joins (pass_of board seat) (pass_of board other) (pass_of board new)
+  joined seat other new is now j = record {
+    same_board = refl;
+    same_number = j.same_seat;
+    same_splits = j.same_splits;
+    same_mine = ap entries j.same_mine;
+    either = either j.either;
+    seen = later seat.me.0.seen j.seen;
+    others = later other.me.0.seen j.told;
+    free = free;
+  }
+    where
+      none : entries_by seat.me.0.seat (entries j.seen.0) ≡ []
+      none =
+          no-others seat.me.0.seat j.seen.0
+          (none-between seat.me.0.seat seat.me.0.seen j.seen.0 seat.me.0.mine is.own
+          (ap (entries_by seat.me.0.seat) (sym j.seen.1) ∙ ap (λ s. entries_by s new.me.0.seen) (sym j.same_seat) ∙ now.own ∙ j.same_mine))
+
+      free : (name : Path) → IsFree (pass_of board seat) name → IsFree (pass_of board new) name
+      free name h =
+          subst (λ s. Free s name (record_at board.opening (entries new.me.0.seen)).holdings) (sym j.same_seat)
+          (subst (λ l. Free seat.me.0.seat name (record_at board.opening l).holdings)
+          (sym (ap entries j.seen.1 ∙ entries-append seat.me.0.seen j.seen.0))
+          (free-more seat.me.0.seat name board.opening (entries seat.me.0.seen) (entries j.seen.0) none h))
+
+      either : (new.me.0.seen ≡ seat.me.0.seen) ⊎ (new.me.0.seen ≡ other.me.0.seen)
+          → (entries new.me.0.seen ≡ entries seat.me.0.seen) ⊎ (entries new.me.0.seen ≡ entries other.me.0.seen)
+      either (inl e) = inl (ap entries e)
+      either (inr e) = inr (ap entries e)
+
+      later : (part : notes.History Note) → StartsWith new.me.0.seen part → (rest : History Reason) × (entries new.me.0.seen ≡ entries part ++ rest)
+      later part s = (entries s.0, ap entries s.1 ∙ entries-append part s.0)
+
+  -- the lock has ended
+  pub closed : (seat : Place) (w : World) → turn.Closes kept board.opening seat w → Closes (pass_of board seat) w
+  closed seat w c = record {
+    log = entries c.log;
+    between = entries c.later.0;
+    later = ap entries c.later.1 ∙ entries-append seat.me.0.seen c.later.0;
+    own = own-entries seat.me.0.seat c.log seat.me.0.mine c.own;
+    follows = c.stands_for;
+  }
+
+-- ---- a turn from its start to its end
+
+-- the pass has made an entry more, which is the note's
+pub noted : (pass now new : PassValue) (w : World) (note : Note) (entry : Entry Reason) → Visits pass now w → Passed now new note → entry_of note ≡ entry
+    → IsLegal machines (now.seen ++ (now.number, entry_of note) ∷ []) (opening_record now.board.opening) → Makes pass new entry
+noted pass now new w note entry v p is legal = record {
+  same_board = p.same_board ∙ v.same_board;
+  same_number = p.same_number ∙ v.same_number;
+  same_splits = p.same_splits ∙ v.same_splits;
+  between = v.between;
+  seen = p.seen ∙ ap₂ (λ l e. l ++ e ∷ []) v.seen last;
+  others = v.others;
+  mine = p.mine ∙ ap₂ (λ l e. l ++ e ∷ []) v.same_mine last;
+  own = p.own;
+  legal =
+      subst (λ (b : BoardValue). IsLegal machines new.seen (opening_record b.opening)) v.same_board
+      (subst (λ l. IsLegal machines l (opening_record now.board.opening)) (sym p.seen) legal);
+  free = free;
+}
+  where
+    before : (name : Path) → IsFree pass name → Free now.number name (record_at now.board.opening now.seen).holdings
+    before name h =
+        subst (λ l. Free now.number name (record_at now.board.opening l).holdings) (sym v.seen)
+        (free-more now.number name now.board.opening pass.seen v.between (subst (λ s. entries_by s v.between ≡ []) (sym v.same_number) v.others)
+        (subst (λ s. Free s name (record_at now.board.opening pass.seen).holdings) (sym v.same_number)
+        (subst (λ (b : BoardValue). Free pass.number name (record_at b.opening pass.seen).holdings) (sym v.same_board) h)))
+
+    behind : (name : Path) → FreeAfter entry name (IsFree pass name)
+        → Free now.number name (record_at now.board.opening (now.seen ++ (now.number, entry) ∷ [])).holdings
+    behind name h =
+        subst (λ (r : Record Machine Reason). Free now.number name r.holdings) (sym (record-more now.board.opening now.seen now.number entry))
+        (free-own now.number name entry (record_at now.board.opening now.seen)
+        (free-after now.number name entry (IsFree pass name) (Free now.number name (record_at now.board.opening now.seen).holdings) (before name) h))
+
+    free : (name : Path) → FreeAfter entry name (IsFree pass name) → IsFree new name
+    free name h =
+        subst (λ (b : BoardValue). Free new.number name (record_at b.opening new.seen).holdings) (sym p.same_board)
+        (subst (λ s. Free s name (record_at now.board.opening new.seen).holdings) (sym p.same_number)
+        (subst (λ l. Free now.number name (record_at now.board.opening l).holdings)
+        (sym (p.seen ∙ ap (λ e. now.seen ++ (now.number, e) ∷ []) is)) (behind name h)))
+
+    last : ◌≡◌ {A = Seat × Entry Reason} (now.number, entry_of note) (pass.number, entry)
+    last = ap₂ (λ s (e : Entry Reason). (s, e)) v.same_number is
+
+-- a pass that has made no entry holds nothing
+none-first : (opening : Opening) (seat : Seat) (name : Path) → Free seat name (record_at opening []).holdings
+unfolding replay holding
+none-first opening seat name = tt
+
+pub none-held : (board : BoardValue) (seat : Place) → IsSeat board.table board.opening seat → seat.me.0.mine ≡ [] → HoldsNone (pass_of board seat)
+none-held board seat is none name =
+    free-more seat.me.0.seat name board.opening [] (entries seat.me.0.seen)
+    (own-entries seat.me.0.seat seat.me.0.seen seat.me.0.mine is.own ∙ ap entries none) (none-first board.opening seat.me.0.seat name)
+
+-- ---- what is under the lock, and what contracts see
+
+module _ (P : TableId → Opening → Type 0) (board : BoardValue) (table : TableId) (opening key : Opening)
+    (is : ◌≡◌ {A = BoardValue} (record { table = table; opening = opening }) board) (same : key ≡ opening) where
+  pub at-lock : P board.table board.opening → P table key
+  at-lock h = subst (P table) (sym same) (subst (λ (b : BoardValue). P b.table b.opening) (sym is) h)
+
+  pub at-board : P table key → P board.table board.opening
+  at-board h = subst (λ (b : BoardValue). P b.table b.opening) is (subst (P table) same h)
+
+-- a seat of a lock, told by what the pass has of it
+pub own-seat : (table : TableId) (key about : Opening) (seat : Place) → IsSeat table key seat → about ≡ key → IsSeat seat.table_id about seat
+own-seat table key about seat h same = subst (λ t. IsSeat t about seat) (sym h.here) (subst (λ o. IsSeat table o seat) (sym same) h)
+
+pub seen-as : (board : BoardValue) (table : TableId) (about : Opening) (seat : Place) → seat.table_id ≡ table
+    → ◌≡◌ {A = BoardValue} (record { table = table; opening = about }) board
+    → pass_of (record { table = seat.table_id; opening = about }) seat ≡ pass_of board seat
+seen-as board table about seat here is =
+    ap (λ (b : BoardValue). pass_of b seat) (ap (λ t. record { table = t; opening = about }) here ∙ is)
+
+-- the pass is that of its seat at the board
+module _ (board : BoardValue) (pass : PassValue) (about : Opening) (seat : Place)
+    (is : pass_of (record { table = seat.table_id; opening = about }) seat ≡ pass) (same : pass.board ≡ board) where
+  board-is : ◌≡◌ {A = BoardValue} (record { table = seat.table_id; opening = about }) board
+  board-is = ap (λ (p : PassValue). p.board) is ∙ same
+
+  pub seat-at : IsSeat seat.table_id about seat → IsSeat board.table board.opening seat
+  seat-at h = subst (λ (b : BoardValue). IsSeat b.table b.opening seat) board-is h
+
+  pub pass-at : pass_of board seat ≡ pass
+  pass-at = ap (λ (b : BoardValue). pass_of b seat) (sym board-is) ∙ is
+
+  pub about-is : about ≡ board.opening
+  about-is = ap (λ (b : BoardValue). b.opening) board-is
+
+  -- the lock's board is this one
+  module _ (table : TableId) (opening key : Opening) (lock : ◌≡◌ {A = BoardValue} (record { table = table; opening = opening }) board)
+      (fixed : key ≡ opening) where
+    pub seat-in : IsSeat seat.table_id about seat → IsSeat table key seat
+    seat-in h = at-lock (λ t o. IsSeat t o seat) board table opening key lock fixed (seat-at h)
+
+    pub turn-at : (new : Place) → IsTurn table key new → IsTurn board.table board.opening new
+    turn-at new h = at-board (λ t o. IsTurn t o new) board table opening key lock fixed h
+
+    pub visits-at : (new : Place) (w : World) → IsSeat seat.table_id about seat → IsTurn table key new → Enters kept key seat new w
+        → Visits pass (pass_of board new) w
+    visits-at new w h turn enters =
+        subst (λ p. Visits p (pass_of board new) w) pass-at
+        (entered board seat new w (seat-at h) (turn-at new turn)
+        (at-board (λ t o. Enters kept o seat new w) board table opening key lock fixed enters))
+
+    pub closed-at : (w : World) → turn.Closes kept key seat w → Closes pass w
+    closed-at w c =
+        subst (λ p. Closes p w) pass-at (closed board seat w (at-board (λ t o. turn.Closes kept o seat w) board table opening key lock fixed c))
+
+-- the pass of a seat whose turn has passed, or to which another was joined
+module _ (board : BoardValue) (table : TableId) (opening key : Opening)
+    (lock : ◌≡◌ {A = BoardValue} (record { table = table; opening = opening }) board) (fixed : key ≡ opening) where
+  fixed-here : key ≡ board.opening
+  fixed-here = fixed ∙ ap (λ (b : BoardValue). b.opening) lock
+
+  here-at : (about : Opening) (seat : Place) → IsSeat table key seat → about ≡ board.opening
+      → pass_of board seat ≡ pass_of (record { table = seat.table_id; opening = about }) seat
+  here-at about seat is same =
+      sym (seen-as board table about seat is.here (ap (λ o. record { table = table; opening = o }) (same ∙ sym (ap (λ (b : BoardValue). b.opening) lock)) ∙ lock))
+
+  pub passed-at : (now : Place) (about : Opening) → about ≡ board.opening → (new : Place) (note : Note) → IsSeat table key new → Leaves now new note
+      → Passed (pass_of board now) (pass_of (record { table = new.table_id; opening = about }) new) note
+  passed-at now about same new note is leaves =
+      subst (λ p. Passed (pass_of board now) p note) (here-at about new is same)
+      (passed board now new note (at-board (λ t o. IsSeat t o new) board table opening key lock fixed is) leaves)
+
+pub joined-at : (board : BoardValue) (pass : PassValue) (about : Opening) (seat : Place)
+    → pass_of (record { table = seat.table_id; opening = about }) seat ≡ pass → pass.board ≡ board → (table : TableId) (opening key : Opening)
+    → ◌≡◌ {A = BoardValue} (record { table = table; opening = opening }) board → key ≡ opening
+    → (other : PassValue) (whose : Opening) (second : Place) → pass_of (record { table = second.table_id; opening = whose }) second ≡ other
+    → other.board ≡ board → (new : Place) → IsSeat seat.table_id about seat → IsSeat table key new → turn.Joins seat second new
+    → Joins pass other (pass_of (record { table = new.table_id; opening = about }) new)
+joined-at board pass about seat is same table opening key lock fixed other whose second was here new mine now j =
+    subst (λ q. Joins pass other q) (here-at board table opening key lock fixed about new now (about-is board pass about seat is same))
+    (subst (λ p. Joins p other (pass_of board new)) (pass-at board pass about seat is same)
+    (subst (λ o. Joins (pass_of board seat) o (pass_of board new)) (pass-at board other whose second was here)
+    (joined board seat second new (seat-at board pass about seat is same mine)
+    (at-board (λ t o. IsSeat t o new) board table opening key lock fixed now) j)))

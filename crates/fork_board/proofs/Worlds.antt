@@ -1,0 +1,241 @@
+-- A world that follows a history, and makes an entry more.
+use Rattle.std.proofs.Common.{◌≡◌, ℕ, List, [], ◌∷◌, ◌++◌, map, Bool, true, false, Option, Some, None, option_map, refl, sym, ap, ap₂, ◌∙◌, subst, cond}
+use Rattle.std.specs.Option.{IfSome}
+use Rattle.std.specs.Prelude.{IsSomeAnd}
+use Rattle.std.specs.List.{All}
+use Rattle.std.proofs.lemmas.List.Elements.{All-nil}
+use Rattle.image_depot.specs.Key.{Shelves}
+use Rattle.image_depot.specs.Reply.{IsSentOf}
+use Rattle.forest_tree.specs.Tree.{Tree, broods_with, node, machine, Path, subtree}
+use Rattle.forest_tree.specs.Projection.{map_tree}
+use Rattle.forest_tree.specs.Sound.{AreSound, IsSound}
+use Rattle.forest_tree.proofs.Projected.{subtree-map}
+use Rattle.forest_history.specs.Places.{Spot, out, spots}
+use Rattle.forest_history.specs.World as history
+use Rattle.forest_history.specs.World.{holds, lives_ready, world_of}
+use Rattle.forest_history.specs.Rows.{How, Row, dropped, kept, over, stopped, idle, took, nothing, spent, waited, halted, Allows, does}
+use Rattle.forest_history.specs.Seen.{spot_seen}
+use Rattle.forest_history.specs.Histories.{Entry, row, History, Holding, HandsBack, IsHeldBy, IsLegal, Permits, Record, Seat, holding, record_after, replay, with_taken}
+use Rattle.forest_model.specs.Forest.{machines}
+use Rattle.forest_model.specs.Machine.{Machine}
+use Rattle.forest_model.specs.Paged.{Paged, Pages, paged_machines}
+use Rattle.vm_cell.specs.Keyed.{KeyedMachine, paged}
+use Rattle.world_core.specs.declared.reason.Reason.{Reason}
+use Rattle.world_core.specs.declared.world.World.{World}
+use Rattle.world_core.specs.declared.world.Placed.{Placed}
+use Rattle.world_core.specs.declared.world.Placed.TheVariants as placed
+use Rattle.world_core.specs.declared.world.Taken.{Taken}
+use Rattle.world_core.specs.declared.world.Taken.TheVariants as taken
+use Rattle.world_core.specs.Answers as core
+use Rattle.world_core.specs.Answers.{Answers, Goes, HandedOut, HandedOutIn, IsHandedOut, IsLentOf, MayWait, MayWant, Starts}
+use Rattle.world_core.specs.Answers.{IsOutSince}
+use Rattle.world_core.specs.Arrived.{StillHandedOut, with_flags}
+use Rattle.world_core.specs.Lent.{Lent, now_of}
+use Rattle.world_core.specs.Told.{AreKept, told_of}
+use Rattle.world_core.specs.World.{Forest, StandsFor}
+use Rattle.world_core.proofs.Arriving.{flags-family}
+use Rattle.fork_board.specs.declared.note.Opening.{Opening}
+use Rattle.fork_board.specs.Answers.{IsTaken, Places, Takes}
+use Rattle.fork_board.specs.Follows.{Follows, IsWorldOf, depot_of, family_of, opening_record, pair_of, record_at}
+use Rattle.fork_board.specs.Notes.{placed_entry, taken_entry}
+use Rattle.fork_board.specs.Passes.{BoardValue, IsHeld, PassValue}
+use Rattle.fork_board.proofs.Records.{allows-family, does-family, kept-holdings, legal-more, out-as-taken, permits-row, record-more, same-path}
+
+-- ---- one entry more
+
+stands-row : (depot : Shelves) (seat : Seat) (x : Row Reason) (f : Forest) (old new : World) (r : Record Machine Reason) → family_of f ≡ r.world
+    → IsWorldOf depot r old → Goes depot f x new → told_of new ≡ told_of old → IsWorldOf depot (record_after machines seat (row x) r) new
+unfolding record_after
+stands-row depot seat x f old new r family was goes told = record {
+  forest = does paged_machines x f;
+  stands = goes.after;
+  family = does-family x f ∙ ap (does machines x) family;
+  replies = ap (map pair_of) told ∙ was.replies;
+  kept = subst (All (IsSentOf depot)) (sym told) was.kept;
+}
+
+module _ (opening : Opening) (log : History Reason) (seat : Seat) where
+  -- the entry may come, and the world stands for what is on record after it
+  pub follows-more : (entry : Entry Reason) (old new : World) → Follows opening log old → Permits machines seat entry (record_at opening log)
+      → IsWorldOf (depot_of opening) (record_after machines seat entry (record_at opening log)) new → Follows opening (log ++ (seat, entry) ∷ []) new
+  follows-more entry old new h permits is = record {
+    start = h.start;
+    legal = legal-more opening log seat entry h.legal permits;
+    world = subst (λ r. IsWorldOf (depot_of opening) r new) (sym (record-more opening log seat entry)) is;
+  }
+
+  -- the entry is a row of the forest
+  pub follows-row : (x : Row Reason) (f : Forest) (old new : World) → Follows opening log old → family_of f ≡ (record_at opening log).world
+      → HandsBack seat x (record_at opening log).holdings → Goes (depot_of opening) f x new → told_of new ≡ told_of old
+      → Follows opening (log ++ (seat, row x) ∷ []) new
+  follows-row x f old new h family hands goes told =
+      follows-more (row x) old new h
+      (permits-row seat x (record_at opening log) (subst (Allows machines x) family (allows-family x f goes.allowed)) hands)
+      (stands-row (depot_of opening) seat x f old new (record_at opening log) family h.world goes told)
+
+-- ---- a machine on lease
+
+-- the world handed out the lease, in a forest that differs from that on record in what is known of pages alone
+pub record IsLentOut (opening : Opening) (log : History Reason) (w : World) (lease : Lent) : Type 0 where
+  pub forest : Forest
+  pub stands : StandsFor (depot_of opening) w forest
+  pub handed : IsHandedOut forest lease
+  pub family : family_of forest ≡ (record_at opening log).world
+
+abbrev pub IsHeldAt : Opening → History Reason → Seat → Lent → Type 0
+IsHeldAt opening log seat lease = holding lease.name (record_at opening log).holdings ≡ Some (record { name = lease.name; seat = seat; found = lease.start })
+
+-- a forest that shows the machine as it was taken
+out-seen : (start : Machine) (u : Option (Tree (Spot Paged)))
+    → IfSome (option_map (map_tree (spot_seen (λ (p : Paged). p.machine))) u) (λ (t : Tree (Spot Machine)). ((machine t).place ≡ out) × ((machine t).machine ≡ start))
+    → IfSome u (λ t. ((machine t).place ≡ out) × ((machine t).machine.machine ≡ start))
+unfolding map_tree
+out-seen start None h = tt
+out-seen start (Some (node s broods log)) h = h
+
+out-since : (f : Forest) (lease : Lent) (w : Tree (Spot Machine)) → (family_of f).tree ≡ w
+    → IfSome (subtree lease.name w) (λ (t : Tree (Spot Machine)). ((machine t).place ≡ out) × ((machine t).machine ≡ lease.start)) → IsOutSince f lease
+out-since f lease w same h =
+    out-seen lease.start (subtree lease.name f.tree)
+    (subst (λ u. IfSome u (λ (t : Tree (Spot Machine)). ((machine t).place ≡ out) × ((machine t).machine ≡ lease.start)))
+    (ap (subtree lease.name) (sym same) ∙ subtree-map (spot_seen (λ (p : Paged). p.machine)) lease.name f.tree) h)
+
+same-family : (name : Path) (flags : Pages → Pages) (f : Forest) → family_of (with_flags name flags f) ≡ family_of f
+same-family name flags f = ap (λ t. record { tree = t; halted = f.halted }) (flags-family name flags f)
+
+module _ (opening : Opening) (log : History Reason) (w : World) (lease : Lent) (seat : Seat) (h : Follows opening log w) where
+  pub lent-out : IsHeldAt opening log seat lease
+      → ((depot : Shelves) (v : World) (f : Forest) → StandsFor depot v f → IsOutSince f lease → StillHandedOut depot v f lease)
+      → IsLentOut opening log w lease
+  lent-out held led =
+      let is = h.world in
+      let still = led (depot_of opening) w is.forest is.stands
+      (out-since is.forest lease (record_at opening log).world.tree (ap (λ (v : history.World Machine Reason). v.tree) is.family)
+      (out-as-taken opening log h.start h.legal lease.name (record { name = lease.name; seat = seat; found = lease.start }) held)) in
+      record {
+        forest = with_flags lease.name still.flags is.forest;
+        stands = still.stands;
+        handed = still.handed;
+        family = same-family lease.name still.flags is.forest ∙ is.family;
+      }
+
+  pub held-by : IsHeldAt opening log seat lease → IsHeldBy seat lease.name (record_at opening log).holdings
+  held-by held = subst (λ o. IsSomeAnd o (λ (x : Holding Machine). x.seat ≡ seat)) (sym held) refl
+
+  -- it came back
+  pub follows-placed : (how : How) (lent : IsLentOut opening log w lease) (answer : Placed) (new : World) → IsHeldAt opening log seat lease
+      → Answers (depot_of opening) lent.forest how lease answer new → told_of new ≡ told_of w
+      → Follows opening (log ++ (seat, placed_entry how lease.name lease.ran answer) ∷ []) new
+  follows-placed how lent placed.Done new held a told =
+      follows-row opening log seat (spent how lease.name lease.ran) lent.forest w new h lent.family (held-by held) a told
+  follows-placed how lent placed.Parked new held a told =
+      follows-row opening log seat (spent waited lease.name lease.ran) lent.forest w new h lent.family (held-by held) a.1 told
+  follows-placed how lent placed.Dropped new held a told =
+      follows-row opening log seat (dropped lease.name) lent.forest w new h lent.family (held-by held) a told
+  follows-placed how lent (placed.Memory back) new held a told =
+      follows-row opening log seat (kept lease.name lease.ran) lent.forest w new h lent.family (held-by held) a.2 told
+
+-- what a pass is seen to hold after its entry
+held-still : (new : PassValue) (opening : Opening) (log : History Reason) (seat : Seat) (entry : Entry Reason) (lease : Lent)
+    → new.board.opening ≡ opening → new.number ≡ seat → new.seen ≡ log ++ (seat, entry) ∷ [] → IsHeldAt opening (log ++ (seat, entry) ∷ []) seat lease
+    → IsHeld new lease
+held-still new opening log seat entry lease same number seen held =
+    ap₂ (λ o l. holding lease.name (record_at o l).holdings) same seen ∙ held
+    ∙ ap (λ s. Some (record { name = lease.name; seat = s; found = lease.start })) (sym number)
+
+-- where memory is wanting, the pass holds the machine still
+pub places : (how : How) (lease : Lent) (depot : Shelves) (f : Forest) (now new : PassValue) (answer : Placed) (w : World)
+    → IsHeldAt now.board.opening now.seen now.number lease → new.board ≡ now.board → new.number ≡ now.number
+    → new.seen ≡ now.seen ++ (now.number, placed_entry how lease.name lease.ran answer) ∷ [] → Answers depot f how lease answer w
+    → Places how lease new answer
+places how lease depot f now new placed.Done w held board number seen a = tt
+places how lease depot f now new placed.Parked w held board number seen a = a.0
+places how lease depot f now new placed.Dropped w held board number seen a = tt
+places how lease depot f now new (placed.Memory back) w held board number seen a = (
+  a.0,
+  a.1,
+  held-still new now.board.opening now.seen now.number (row (kept lease.name lease.ran)) lease (ap (λ (b : BoardValue). b.opening) board) number seen
+      (ap (holding lease.name) (kept-holdings now.board.opening now.seen now.number lease.name lease.ran) ∙ held),
+)
+
+-- ---- a machine is taken
+
+module _ (opening : Opening) (log : History Reason) (seat : Seat) where
+  taken-from : (lease : Lent) (u : Option (Tree (Spot Paged))) (held : List (Holding Machine)) → lease.now ≡ lease.start
+      → holds paged_machines (lives_ready paged_machines) u ≡ true → IfSome u (λ t. (machine t).machine ≡ now_of lease)
+      → holding lease.name (with_taken seat lease.name (option_map (map_tree (spot_seen (λ (p : Paged). p.machine))) u) held)
+      ≡ Some (record { name = lease.name; seat = seat; found = lease.start })
+  unfolding map_tree holding
+  taken-from lease None held now ready start = absurd (cc)
+  taken-from lease (Some (node s broods l)) held now ready start =
+      let was : Holding Machine = record { name = lease.name; seat = seat; found = s.machine.machine } in
+      ap (λ b. cond b (Some was) (holding lease.name held)) (same-path lease.name)
+      ∙ ap (λ m. Some (record { name = lease.name; seat = seat; found = m })) (ap (λ (p : Paged). p.machine) start ∙ now)
+
+  taken-after : (f : Forest) (lease : Lent) (r : Record Machine Reason) → family_of f ≡ r.world
+      → holds paged_machines (lives_ready paged_machines) (subtree lease.name f.tree) ≡ true → Starts f lease
+      → holding lease.name (record_after machines seat (row (took lease.name)) r).holdings
+      ≡ Some (record { name = lease.name; seat = seat; found = lease.start })
+  unfolding record_after
+  taken-after f lease r same ready starts =
+      ap (λ u. holding lease.name (with_taken seat lease.name u r.holdings))
+      (ap (λ (v : history.World Machine Reason). subtree lease.name v.tree) (sym same) ∙ subtree-map (spot_seen (λ (p : Paged). p.machine)) lease.name f.tree)
+      ∙ taken-from lease (subtree lease.name f.tree) r.holdings starts.now ready starts.start
+
+  -- the seat holds it then
+  taken-held : (f : Forest) (lease : Lent) → family_of f ≡ (record_at opening log).world → Allows paged_machines (took lease.name) f → Starts f lease
+      → IsHeldAt opening (log ++ (seat, row (took lease.name)) ∷ []) seat lease
+  unfolding Allows
+  taken-held f lease family allowed starts =
+      ap (λ (r : Record Machine Reason). holding lease.name r.holdings) (record-more opening log seat (row (took lease.name)))
+      ∙ taken-after f lease (record_at opening log) family allowed.1 starts
+
+  pub follows-taken : (old new : World) (h : Follows opening log old) (answer : Taken) → core.Takes (depot_of opening) h.world.forest answer new
+      → told_of new ≡ told_of old → Follows opening (log ++ (seat, taken_entry answer) ∷ []) new
+  follows-taken old new h taken.Over a told = follows-row opening log seat over h.world.forest old new h h.world.family tt a told
+  follows-taken old new h (taken.Stopped reason) a told = follows-row opening log seat (stopped reason) h.world.forest old new h h.world.family tt a told
+  follows-taken old new h taken.Idle a told = follows-row opening log seat idle h.world.forest old new h h.world.family tt a told
+  follows-taken old new h (taken.Took lease) a told = follows-row opening log seat (took lease.name) h.world.forest old new h h.world.family tt a.0 told
+  follows-taken old new h taken.Memory a told = follows-row opening log seat nothing h.world.forest old new h h.world.family tt a told
+
+pub takes : (now new : PassValue) (old w : World) (h : Follows now.board.opening now.seen old) (answer : Taken) → new.board ≡ now.board
+    → new.number ≡ now.number → new.seen ≡ now.seen ++ (now.number, taken_entry answer) ∷ []
+    → core.Takes (depot_of now.board.opening) h.world.forest answer w → Takes new answer
+takes now new old w h taken.Over board number seen a = tt
+takes now new old w h (taken.Stopped reason) board number seen a = tt
+takes now new old w h taken.Idle board number seen a = tt
+takes now new old w h (taken.Took lease) board number seen a = record {
+  ran = a.1.ran;
+  now = a.1.now;
+  of_depot = subst (λ (b : BoardValue). IsLentOf (depot_of b.opening) lease) (sym board) a.2;
+  held =
+      held-still new now.board.opening now.seen now.number (row (took lease.name)) lease (ap (λ (b : BoardValue). b.opening) board) number seen
+      (taken-held now.board.opening now.seen now.number h.world.forest lease h.world.family a.0.allowed a.1);
+}
+takes now new old w h taken.Memory board number seen a = tt
+
+-- ---- the world as it was made
+
+sound-first : (p : Paged) → IsSound (spots paged_machines) (world_of paged_machines {R = Reason} p).tree
+    → IsSound (spots machines) (world_of machines {R = Reason} p.machine).tree
+unfolding IsSound AreSound broods_with spots paged_machines
+sound-first p h = (record { good = h.0.good; ended = λ e. refl; one_each = h.0.one_each }, tt)
+
+same-first : (p : Paged) → family_of (world_of paged_machines p) ≡ world_of machines p.machine
+unfolding map_tree
+same-first p = refl
+
+pub begins : (opening : Opening) (w : World) → StandsFor (depot_of opening) w (world_of paged_machines (paged opening.first.value)) → told_of w ≡ []
+    → Follows opening [] w
+unfolding replay IsLegal
+begins opening w h none = record {
+  start = sound-first (paged opening.first.value) h.sound;
+  legal = tt;
+  world = record {
+    forest = world_of paged_machines (paged opening.first.value);
+    stands = h;
+    family = same-first (paged opening.first.value);
+    replies = ap (map pair_of) none;
+    kept = subst (All (IsSentOf (depot_of opening))) (sym none) (All-nil (IsSentOf (depot_of opening)));
+  };
+}

@@ -1,0 +1,34 @@
+use Rattle.std.proofs.Common.{refl, ap, ap₂, sym, subst, ◌∙◌}
+use Rattle.forest_history.specs.Rows.{joined, spent}
+use Rattle.forest_history.specs.Histories.{row}
+use Rattle.fork_board.specs.declared.note.Note.TheVariants as note
+use Rattle.fork_board.specs.Visits.{pass_of}
+use Rattle.fork_board.proofs.Returning.{Comes, comes, follows-back, handed, returned}
+use Rattle.fork_board.proofs.board.Board.join.Goals as goal
+use Rattle.fork_board.specs.Follows.{depot_of}
+
+pub join-placed-requires-clause-lent : goal.join-placed-requires-clause-lent
+join-placed-requires-clause-lent g c =
+    let now = pass_of c.args.self.now c.enter-visit.result.turn.seat in
+    let w = c.enter-visit.result.turn.value in
+    handed c.args.pass now w c.args.lease (comes c.args.pass now w c.args.lease c.enter-visit.ensures.visits c.requires.held c.ran-ran.ensures.handed c.requires.of_depot)
+
+pub leave-requires-clause-follows : goal.leave-requires-clause-follows
+leave-requires-clause-follows g c =
+    let now = pass_of c.args.self.now c.enter-visit.result.turn.seat in
+    let w = c.enter-visit.result.turn.value in
+    let at = comes c.args.pass now w c.args.lease c.enter-visit.ensures.visits c.requires.held c.ran-ran.ensures.handed c.requires.of_depot in
+    follows-back c.args.pass now w c.args.lease at joined c.join-placed.result c.join-placed.new.self c.of-name.result.value c.ran-ran.result
+    (note.Joined c.of.result c.ran-ran.result) c.placed_note-note.result (c.of-name.ensures ∙ c.name.ensures) c.ran-ran.ensures.value
+    (ap₂ (λ n k. row (spent joined n k)) (c.of.ensures ∙ c.name-2.ensures) c.ran-ran.ensures.value) c.placed_note-note.ensures (c.join-placed.ensures.answers (depot_of c.args.self.now.opening) at.out.forest at.out.stands at.out.handed at.of_depot) c.join-placed.ensures.told
+
+pub returns : goal.returns
+returns g c =
+    let now = pass_of c.args.self.now c.enter-visit.result.turn.seat in
+    let w = c.enter-visit.result.turn.value in
+    let at = comes c.args.pass now w c.args.lease c.enter-visit.ensures.visits c.requires.held c.ran-ran.ensures.handed c.requires.of_depot in
+    let both =
+    returned c.args.pass now w c.args.lease at joined c.join-placed.result c.join-placed.new.self c.of-name.result.value c.ran-ran.result
+    (note.Joined c.of.result c.ran-ran.result) c.placed_note-note.result (c.of-name.ensures ∙ c.name.ensures) c.ran-ran.ensures.value
+    (ap₂ (λ n k. row (spent joined n k)) (c.of.ensures ∙ c.name-2.ensures) c.ran-ran.ensures.value) c.placed_note-note.ensures (c.join-placed.ensures.answers (depot_of c.args.self.now.opening) at.out.forest at.out.stands at.out.handed at.of_depot) c.join-placed.ensures.told c.leave.result c.leave.ensures in
+    record { makes = both.0; places = both.1 }

@@ -1,0 +1,5 @@
+pub mod Notes
+pub mod Follows
+pub mod Passes
+pub mod Visits
+pub mod Answers

@@ -1,0 +1,96 @@
+-- What contracts see of a board and of its passes.
+use Rattle.std.specs.Prelude.{◌≡◌, ◌≢◌, ◌⊎◌, ℕ, [], ◌∷◌, ◌++◌, Some}
+use Rattle.std.specs.Option.{IfSome}
+use Rattle.atomic_table.specs.Seated.{TableId}
+use Rattle.forest_tree.specs.Tree.{Path}
+use Rattle.forest_history.specs.Histories.{Entry, row, told, heard, mute, deaf, History, IsLegal, Record, Seat, holding}
+use Rattle.forest_history.specs.Rows.{over, stopped, idle, took, nothing, spent, dropped, kept, halted}
+use Rattle.forest_model.specs.Forest.{machines}
+use Rattle.forest_model.specs.Machine.{Machine}
+use Rattle.turn_board.specs.History.{entries_by}
+use Rattle.world_core.specs.declared.reason.Reason.{Reason}
+use Rattle.world_core.specs.declared.world.World.{World}
+use Rattle.world_core.specs.Lent.{Lent}
+use Rattle.fork_board.specs.declared.note.Opening.{Opening}
+use Rattle.fork_board.specs.Follows.{Follows, opening_record, record_at}
+
+-- which board it is, and what was fixed when it was made
+pub record BoardValue : Type 0 where
+  pub table : TableId
+  pub opening : Opening
+
+pub record PassValue : Type 0 where
+  pub board : BoardValue
+  -- the number of its seat
+  pub number : Seat
+  -- how many passes were split off from it
+  pub splits : ℕ
+  -- the history as far as it has seen it
+  pub seen : History Reason
+  -- the entries that it made
+  pub mine : History Reason
+
+-- what is on record after all that the pass has seen
+abbrev pub seen_record : PassValue → Record Machine Reason
+seen_record pass = record_at pass.board.opening pass.seen
+
+-- the pass has taken the machine of the lease, and holds it
+abbrev pub IsHeld : PassValue → Lent → Type 0
+IsHeld pass lease = holding lease.name (seen_record pass).holdings ≡ Some (record { name = lease.name; seat = pass.number; found = lease.start })
+
+-- the pass does not hold the machine of this name
+abbrev pub IsFree : PassValue → Path → Type 0
+IsFree pass name = IfSome (holding name (seen_record pass).holdings) (λ h. h.seat ≢ pass.number)
+
+-- the pass holds no machine
+abbrev pub HoldsNone : PassValue → Type 0
+HoldsNone pass = (name : Path) → IsFree pass name
+
+-- who makes the entry holds no machine of this name behind it: it held none before, or hands it back
+abbrev pub FreeAfter : Entry Reason → Path → Type 0 → Type 0
+FreeAfter (row over) name before = before
+FreeAfter (row (stopped reason)) name before = before
+FreeAfter (row idle) name before = before
+FreeAfter (row (took other)) name before = (other ≢ name) × before
+FreeAfter (row nothing) name before = before
+FreeAfter (row (spent how other k)) name before = (other ≡ name) ⊎ before
+FreeAfter (row (dropped other)) name before = (other ≡ name) ⊎ before
+FreeAfter (row (kept other k)) name before = before
+FreeAfter (row (halted reason)) name before = before
+FreeAfter (told image page) name before = before
+FreeAfter (heard place) name before = before
+FreeAfter mute name before = before
+FreeAfter (deaf place) name before = before
+
+-- the history has one entry more of the pass behind those that others made since, and is legal with it
+pub record Makes (old new : PassValue) (entry : Entry Reason) : Type 0 where
+  pub same_board : new.board ≡ old.board
+  pub same_number : new.number ≡ old.number
+  pub same_splits : new.splits ≡ old.splits
+  pub between : History Reason
+  pub seen : new.seen ≡ (old.seen ++ between) ++ (old.number, entry) ∷ []
+  -- none of those in between is the pass's own
+  pub others : entries_by old.number between ≡ []
+  pub mine : new.mine ≡ old.mine ++ (old.number, entry) ∷ []
+  pub own : entries_by new.number new.seen ≡ new.mine
+  pub legal : IsLegal machines new.seen (opening_record old.board.opening)
+  pub free : (name : Path) → FreeAfter entry name (IsFree old name) → IsFree new name
+
+-- the pass has seen the longer of what two had seen, of which the other is the beginning
+pub record Joins (pass other new : PassValue) : Type 0 where
+  pub same_board : new.board ≡ pass.board
+  pub same_number : new.number ≡ pass.number
+  pub same_splits : new.splits ≡ pass.splits
+  pub same_mine : new.mine ≡ pass.mine
+  pub either : (new.seen ≡ pass.seen) ⊎ (new.seen ≡ other.seen)
+  pub seen : (rest : History Reason) × (new.seen ≡ pass.seen ++ rest)
+  pub others : (rest : History Reason) × (new.seen ≡ other.seen ++ rest)
+  pub free : (name : Path) → IsFree pass name → IsFree new name
+
+-- the whole history begins with what the pass had seen, and has no more entries of its number. The world follows it
+pub record Closes (pass : PassValue) (w : World) : Type 0 where
+  pub log : History Reason
+  pub between : History Reason
+  pub later : log ≡ pass.seen ++ between
+  pub own : entries_by pass.number log ≡ pass.mine
+  pub follows : Follows pass.board.opening log w

@@ -1,0 +1,49 @@
+//! What is written of a call, and what is fixed when a board is made. Of both, contracts alone speak.
+
+use image_depot::Depot;
+use run_report::Name;
+use std::snapshot::Snapshot;
+use vm_cell::Vm;
+use world_core::Reason;
+
+/// What is fixed when a board is made: the machine of which its world was made, and the depot of its images. It has no
+/// bytes.
+#[derive(Drop)]
+pub struct Opening {
+    pub first: Snapshot<Vm>,
+    pub depot: Snapshot<Depot>,
+}
+
+/// What is written of a call. Machines are told by their names, and with them the steps that they had made.
+#[derive(Drop)]
+pub enum Note {
+    /// The root had ended.
+    Over,
+    /// The world was stopped for this reason.
+    Stopped(Reason),
+    /// No machine was ready.
+    Idle,
+    Took(Snapshot<Name>),
+    /// Want of memory to wake a machine.
+    Nothing,
+    Gave(Snapshot<Name>, u64),
+    Ended(Snapshot<Name>, u64),
+    Forked(Snapshot<Name>, u64),
+    Joined(Snapshot<Name>, u64),
+    Killed(Snapshot<Name>, u64),
+    /// Its join waits.
+    Parked(Snapshot<Name>, u64),
+    /// The name was gone.
+    Dropped(Snapshot<Name>),
+    /// Want of memory: the lease stays with the seat.
+    Kept(Snapshot<Name>, u64),
+    Halted(Reason),
+    /// A reply was told: the number of its image, and its page.
+    Told(u32, u32),
+    /// The reply at a place was heard, or that none is there.
+    Heard(usize),
+    /// Want of memory to tell a reply.
+    Mute,
+    /// Want of memory to hear the reply at a place.
+    Deaf(usize),
+}

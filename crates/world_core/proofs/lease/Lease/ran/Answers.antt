@@ -1,0 +1,10 @@
+use Rattle.std.proofs.Common.{subst}
+use Rattle.world_core.specs.Lent.{HasLed}
+use Rattle.world_core.proofs.Arriving.{still-led}
+use Rattle.world_core.proofs.lease.Lease.ran.Goals as goal
+
+pub returns-clause-led : goal.returns-clause-led
+returns-clause-led c = subst HasLed c.self.view_is c.self.invariant.3
+
+pub returns-clause-handed : goal.returns-clause-handed
+returns-clause-handed c depot w f stands since = still-led depot w f c.args.self.now (subst HasLed c.self.view_is c.self.invariant.3) stands since
