@@ -5,3 +5,4 @@ pub mod Worlds
 pub mod Returning
 pub mod Delivered
 pub mod Taking
+pub mod Crosses
