@@ -1,11 +1,11 @@
 -- What the words of a command line mean, by the matches of the parser `clap`.
-use Rattle.std.specs.Prelude.{ℕ, ◌^◌, ◌&&◌, true, nat_le, nat_lt, if◌then◌else◌, List, [], ◌∷◌, length, map, codes, Option, Some, None, string_bytes, String}
+use Rattle.std.specs.Prelude.{ℕ, ◌^◌, ◌&&◌, true, nat_le, nat_lt, if◌then◌else◌, List, [], ◌∷◌, length, map, codes, Option, Some, None, option_and_then, string_bytes, String}
 use Rattle.std.specs.Str.{all_ascii_digits, bytes_eq}
 use Rattle.std.specs.Str.Parse.{digits_value, without_leading_plus}
 use Rattle.std.specs.declared.alloc.Global.{Global}
 use Rattle.clap.specs.Words.{App, Kinds, Row, Rule, fault_of, first_of, new_app, new_rule, subcommand_of, with_rule, with_subcommand}
 use Rattle.elf_load.specs.declared.image.TheConstants.{MIN_PAGES, MAX_PAGES}
-use Rattle.command_line.specs.declared.words.TheConstants.{DEFAULT_PAGES, LEAST_LIMIT, MOST_LIMIT, DEFAULT_LIMIT, MOST_CLONES, DEFAULT_CLONES, DEFAULT_SEED, MOST_AHEAD, DEFAULT_AHEAD}
+use Rattle.command_line.specs.declared.words.TheConstants.{DEFAULT_PAGES, LEAST_LIMIT, MOST_LIMIT, DEFAULT_LIMIT, MOST_CLONES, DEFAULT_CLONES, DEFAULT_SEED, MOST_AHEAD, DEFAULT_AHEAD, LEAST_WORKERS, MOST_WORKERS, DEFAULT_WORKERS, LEAST_SLICE, MOST_SLICE, DEFAULT_SLICE, GENERATED_CLONES, GENERATED_AHEAD}
 
 -- what a guest is made of and what it may do: the names of its image, of its disk and of its input, its pages of RAM,
 -- the most steps of a machine, and how many clones its family may have
@@ -17,16 +17,34 @@ pub record GuestValues : Type 0 where
   pub limit : ℕ
   pub clones : ℕ
 
--- how the pages of clones come to them: the seed of the wires, and how many pages are asked for beside one that is wanted
-pub record WireValues : Type 0 where
+-- how its family is run: the seed of the wires, how many pages are asked for beside one that is wanted, the workers, and
+-- after how many steps of a machine a worker looks first whether another has none
+pub record RunValues : Type 0 where
   pub seed : ℕ
   pub ahead : ℕ
+  pub workers : ℕ
+  pub slice : ℕ
+
+-- a guest that is drawn from a seed, and the workers that run its family
+pub record GeneratedValues : Type 0 where
+  pub seed : ℕ
+  pub workers : ℕ
+
+-- what a generated guest is given, which has no files
+abbrev pub generated_guest : GuestValues
+generated_guest = record { image = []; disk = None; input = None; pages = DEFAULT_PAGES; limit = DEFAULT_LIMIT; clones = GENERATED_CLONES }
+
+-- and how its family is run, by so many workers
+abbrev pub generated_how : ℕ → RunValues
+generated_how workers = record { seed = DEFAULT_SEED; ahead = GENERATED_AHEAD; workers = workers; slice = DEFAULT_SLICE }
 
 pub data Command : Type 0 where
-  -- the guest's family is run to its end, over wires
-  run : GuestValues → WireValues → Command
+  -- the guest's family is run to its end
+  run : GuestValues → RunValues → Command
   -- it is driven by the script of this name
   drive : GuestValues → List ℕ → Command
+  -- the family of the guest of a seed is run to its end
+  generated : GeneratedValues → Command
 
 -- ---- the command line
 
@@ -50,14 +68,27 @@ with_numbers app =
 abbrev pub with_wire : App → App
 with_wire app = with_rule (with_rule app (option_rule (codes "wire"))) (option_rule (codes "ahead"))
 
+-- `[--workers N]`
+abbrev pub with_workers : App → App
+with_workers app = with_rule app (option_rule (codes "workers"))
+
+-- `[--slice N]`
+abbrev pub with_slice : App → App
+with_slice app = with_rule app (option_rule (codes "slice"))
+
 -- `run IMAGE ..`
 abbrev pub run_app : App
-run_app = with_wire (with_numbers (with_files (with_rule (new_app (codes "run")) (argument_rule (codes "IMAGE")))))
+run_app =
+    with_slice (with_workers (with_wire (with_numbers (with_files (with_rule (new_app (codes "run")) (argument_rule (codes "IMAGE")))))))
 
 -- `drive IMAGE SCRIPT ..`
 abbrev pub drive_app : App
 drive_app =
     with_numbers (with_files (with_rule (with_rule (new_app (codes "drive")) (argument_rule (codes "IMAGE"))) (argument_rule (codes "SCRIPT"))))
+
+-- `self SEED ..`
+abbrev pub generated_app : App
+generated_app = with_workers (with_rule (new_app (codes "self")) (argument_rule (codes "SEED")))
 
 -- the first word is not the program's own name
 abbrev pub without_own_name : App → App
@@ -65,7 +96,8 @@ without_own_name app = record app { top = record app.top { no_binary_name = true
 
 -- the whole of it
 abbrev pub snow_app : App
-snow_app = with_subcommand (with_subcommand (without_own_name (new_app (codes "snow"))) run_app.top) drive_app.top
+snow_app =
+    with_subcommand (with_subcommand (with_subcommand (without_own_name (new_app (codes "snow"))) run_app.top) drive_app.top) generated_app.top
 
 -- why the parser may refuse the words: nothing where it takes them. A request for help is refused too
 unfoldable pub refusals : List (List ℕ) → Kinds
@@ -108,29 +140,40 @@ guest_of rows =
     (value_of LEAST_LIMIT MOST_LIMIT DEFAULT_LIMIT (first_of (codes "limit") rows))
     (value_of 0 MOST_CLONES DEFAULT_CLONES (first_of (codes "clones") rows))
 
-abbrev pub wire_with : Option ℕ → Option ℕ → Option WireValues
-wire_with (Some seed) (Some ahead) = Some (record { seed = seed; ahead = ahead })
-wire_with _ _ = None
+-- how many workers there are to be
+abbrev pub workers_of : List Row → Option ℕ
+workers_of rows = value_of LEAST_WORKERS MOST_WORKERS DEFAULT_WORKERS (first_of (codes "workers") rows)
+
+abbrev pub how_with : Option ℕ → Option ℕ → Option ℕ → Option ℕ → Option RunValues
+how_with (Some seed) (Some ahead) (Some workers) (Some slice) = Some (record { seed = seed; ahead = ahead; workers = workers; slice = slice })
+how_with _ _ _ _ = None
 
 -- a seed is any number that reads
-abbrev pub wire_of : List Row → Option WireValues
-wire_of rows =
-    wire_with
+abbrev pub how_of : List Row → Option RunValues
+how_of rows =
+    how_with
     (value_of 0 4294967295 DEFAULT_SEED (first_of (codes "wire") rows))
     (value_of 0 MOST_AHEAD DEFAULT_AHEAD (first_of (codes "ahead") rows))
+    (workers_of rows)
+    (value_of LEAST_SLICE MOST_SLICE DEFAULT_SLICE (first_of (codes "slice") rows))
 
-abbrev pub run_with : Option GuestValues → Option WireValues → Option Command
-run_with (Some guest) (Some wire) = Some (run guest wire)
+abbrev pub run_with : Option GuestValues → Option RunValues → Option Command
+run_with (Some guest) (Some how) = Some (run guest how)
 run_with _ _ = None
 
 abbrev pub drive_with : Option GuestValues → Option (List ℕ) → Option Command
 drive_with (Some guest) (Some script) = Some (drive guest script)
 drive_with _ _ = None
 
+abbrev pub generated_with : Option ℕ → Option ℕ → Option Command
+generated_with (Some seed) (Some workers) = Some (generated (record { seed = seed; workers = workers }))
+generated_with _ _ = None
+
 abbrev pub command_by : List ℕ → List Row → Option Command
 command_by name rows =
-    if bytes_eq name (codes "run") then run_with (guest_of rows) (wire_of rows)
+    if bytes_eq name (codes "run") then run_with (guest_of rows) (how_of rows)
     else if bytes_eq name (codes "drive") then drive_with (guest_of rows) (first_of (codes "SCRIPT") rows)
+    else if bytes_eq name (codes "self") then generated_with (option_and_then number_of (first_of (codes "SEED") rows)) (workers_of rows)
     else None
 
 abbrev pub command_of : Option (List ℕ × List Row) → Option Command

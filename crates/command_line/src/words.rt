@@ -1,10 +1,10 @@
 //! What the words of the command line ask for.
 
-ghost use Rattle.std.specs.Prelude.{◌≡◌, ◌≤◌, false, codes, IfOk, IfSome, option_map};
+ghost use Rattle.std.specs.Prelude.{◌≡◌, ◌≤◌, false, codes, IfOk, IfSome, option_and_then, option_map};
 ghost use Rattle.clap.specs.declared.Command.TheViews.{out-Command};
 ghost use Rattle.clap.specs.Words.{app_of, first_of, found_of, rows_of, subcommand_rows_of, with_rule};
 ghost use Rattle.command_line.specs.Commands.{meaning};
-ghost use Rattle.command_line.specs.Words.{argument_rule, command_of, drive_app, drive_with, guest_of, meant, number_of, option_rule, run_app, run_with, snow_app, texts, value_of, wire_of, with_files, with_numbers, with_wire};
+ghost use Rattle.command_line.specs.Words.{argument_rule, command_of, drive_app, drive_with, generated_app, generated_guest, generated_how, generated_with, guest_of, how_of, meant, number_of, option_rule, run_app, run_with, snow_app, texts, value_of, with_files, with_numbers, with_slice, with_wire, with_workers, workers_of};
 
 use clap::error::ErrorKind;
 use clap::{Arg, ArgMatches};
@@ -39,13 +39,39 @@ pub const DEFAULT_AHEAD: u32 = 0;
 /// The seed of the wires where `--wire` is not given.
 pub const DEFAULT_SEED: u32 = 0;
 
+/// The fewest workers that `--workers` may ask for.
+pub const LEAST_WORKERS: u32 = 1;
+
+/// The most workers that `--workers` may ask for.
+pub const MOST_WORKERS: u32 = 64;
+
+/// The workers where `--workers` is not given.
+pub const DEFAULT_WORKERS: u32 = 1;
+
+/// The fewest steps that `--slice` may say.
+pub const LEAST_SLICE: u32 = 1;
+
+/// The most steps that `--slice` may say.
+pub const MOST_SLICE: u32 = 1_000_000;
+
+/// The steps of a slice where `--slice` is not given.
+pub const DEFAULT_SLICE: u32 = 1000;
+
+/// The clones of the family of a generated guest.
+pub const GENERATED_CLONES: u32 = 72;
+
+/// The pages that are asked for beside one that is wanted where a generated guest is run.
+pub const GENERATED_AHEAD: u32 = 4;
+
 /// What the words ask for.
 #[derive(Drop)]
 pub enum Command<'a> {
     /// `run IMAGE`: the family of a guest is run to its end.
-    Run(GuestWords<'a>, WireWords),
+    Run(GuestWords<'a>, RunWords),
     /// `drive IMAGE SCRIPT`: it is driven by the script of this name.
     Drive(GuestWords<'a>, &'a str),
+    /// `self SEED`: the family of the guest of this seed is run to its end.
+    Generated(GeneratedWords),
 }
 
 /// What the words say of a guest.
@@ -121,26 +147,28 @@ impl GuestWords<'_> {
     }
 }
 
-/// What the words say of how the pages of clones come to them.
+/// What the words say of how a family is run.
 #[derive(Drop)]
-pub struct WireWords {
+pub struct RunWords {
     seed: u32,
     ahead: u32,
+    workers: u32,
+    slice: u64,
 }
 
-impl Model for WireWords {
+impl Model for RunWords {
     ghost use Rattle.std.specs.Prelude.{◌≤◌};
-    ghost use Rattle.command_line.specs.declared.words.TheConstants.{MOST_AHEAD};
-    ghost use Rattle.command_line.specs.Words.{WireValues};
+    ghost use Rattle.command_line.specs.declared.words.TheConstants.{LEAST_SLICE, LEAST_WORKERS, MOST_AHEAD, MOST_SLICE, MOST_WORKERS};
+    ghost use Rattle.command_line.specs.Words.{RunValues};
 
-    ghost Value = { WireValues };
+    ghost Value = { RunValues };
 
-    ghost view = { λ w. record { seed = w.seed; ahead = w.ahead } };
+    ghost view = { λ r. record { seed = r.seed; ahead = r.ahead; workers = r.workers; slice = r.slice } };
 
-    ghost invariant = { λ w. w.ahead ≤ MOST_AHEAD };
+    ghost invariant = { λ r. (r.ahead ≤ MOST_AHEAD) × (LEAST_WORKERS ≤ r.workers) × (r.workers ≤ MOST_WORKERS) × (LEAST_SLICE ≤ r.slice) × (r.slice ≤ MOST_SLICE) };
 }
 
-impl WireWords {
+impl RunWords {
     /// The seed of the wires.
     pub fn seed(&self) -> u32
         ensures { result ≡ self.now.seed }
@@ -154,6 +182,87 @@ impl WireWords {
         ensures most { result ≤ MOST_AHEAD }
     {
         self.ahead
+    }
+
+    /// How many workers there are to be.
+    pub fn workers(&self) -> u32
+        ensures value { result ≡ self.now.workers }
+        ensures least { LEAST_WORKERS ≤ result }
+        ensures most { result ≤ MOST_WORKERS }
+    {
+        self.workers
+    }
+
+    /// After how many steps of a machine a worker looks first whether another has none.
+    pub fn slice(&self) -> u64
+        ensures value { result ≡ self.now.slice }
+        ensures least { LEAST_SLICE ≤ result }
+        ensures most { result ≤ MOST_SLICE }
+    {
+        self.slice
+    }
+}
+
+/// What the words say of a guest that is drawn from a seed.
+#[derive(Drop)]
+pub struct GeneratedWords {
+    seed: u32,
+    workers: u32,
+}
+
+impl Model for GeneratedWords {
+    ghost use Rattle.std.specs.Prelude.{◌≤◌};
+    ghost use Rattle.command_line.specs.declared.words.TheConstants.{LEAST_WORKERS, MOST_WORKERS};
+    ghost use Rattle.command_line.specs.Words.{GeneratedValues};
+
+    ghost Value = { GeneratedValues };
+
+    ghost view = { λ g. record { seed = g.seed; workers = g.workers } };
+
+    ghost invariant = { λ g. (LEAST_WORKERS ≤ g.workers) × (g.workers ≤ MOST_WORKERS) };
+}
+
+impl GeneratedWords {
+    /// The seed of the guest.
+    pub fn seed(&self) -> u32
+        ensures { result ≡ self.now.seed }
+    {
+        self.seed
+    }
+
+    /// What the guest is given. It has no files, and so no names.
+    pub fn guest(&self) -> GuestWords<'static>
+        ensures { result ≡ generated_guest }
+    {
+        GuestWords {
+            image: "",
+            disk: None,
+            input: None,
+            pages: DEFAULT_PAGES,
+            limit: DEFAULT_LIMIT as u64,
+            clones: GENERATED_CLONES,
+        }
+    }
+
+    /// How its family is run.
+    pub fn how(&self) -> RunWords
+        ensures { result ≡ generated_how self.now.workers }
+    {
+        RunWords {
+            seed: DEFAULT_SEED,
+            ahead: GENERATED_AHEAD,
+            workers: self.workers,
+            slice: DEFAULT_SLICE as u64,
+        }
+    }
+
+    /// How many workers there are to be.
+    pub fn workers(&self) -> u32
+        ensures value { result ≡ self.now.workers }
+        ensures least { LEAST_WORKERS ≤ result }
+        ensures most { result ≤ MOST_WORKERS }
+    {
+        self.workers
     }
 }
 
@@ -177,7 +286,8 @@ fn snow_command<'a>(alloc: Global) -> Result<clap::Command<'a>, AllocError>
     clap::Command::new(alloc, "snow")
         .no_binary_name(true)
         .subcommand(run_command(alloc)?)?
-        .subcommand(drive_command(alloc)?)
+        .subcommand(drive_command(alloc)?)?
+        .subcommand(generated_command(alloc)?)
 }
 
 fn run_command<'a>(alloc: Global) -> Result<clap::Command<'a>, AllocError>
@@ -186,7 +296,8 @@ fn run_command<'a>(alloc: Global) -> Result<clap::Command<'a>, AllocError>
 {
     let command = with_argument(alloc, clap::Command::new(alloc, "run"), "IMAGE")?;
     let command = numbers_added(alloc, files_added(alloc, command)?)?;
-    wire_added(alloc, command)
+    let command = workers_added(alloc, wire_added(alloc, command)?)?;
+    slice_added(alloc, command)
 }
 
 fn drive_command<'a>(alloc: Global) -> Result<clap::Command<'a>, AllocError>
@@ -196,6 +307,14 @@ fn drive_command<'a>(alloc: Global) -> Result<clap::Command<'a>, AllocError>
     let command = with_argument(alloc, clap::Command::new(alloc, "drive"), "IMAGE")?;
     let command = with_argument(alloc, command, "SCRIPT")?;
     numbers_added(alloc, files_added(alloc, command)?)
+}
+
+fn generated_command<'a>(alloc: Global) -> Result<clap::Command<'a>, AllocError>
+    ensures app { IfOk result (λ command. app_of command ≡ generated_app) }
+    ensures local { IfOk result (λ command. (out-Command command).has_globals ≡ false) }
+{
+    let command = with_argument(alloc, clap::Command::new(alloc, "self"), "SEED")?;
+    workers_added(alloc, command)
 }
 
 /// A command with the options that name files of its guest.
@@ -235,6 +354,28 @@ fn wire_added<'a>(
     with_option(alloc, command, "ahead")
 }
 
+/// A command with the option that says how many workers there are.
+fn workers_added<'a>(
+    alloc: Global,
+    command: clap::Command<'a>,
+) -> Result<clap::Command<'a>, AllocError>
+    ensures app { IfOk result (λ added. app_of added ≡ with_workers (app_of command.entry)) }
+    ensures local { IfOk result (λ added. (out-Command command.entry).has_globals ≡ false → (out-Command added).has_globals ≡ false) }
+{
+    with_option(alloc, command, "workers")
+}
+
+/// A command with the option that says how long a slice is.
+fn slice_added<'a>(
+    alloc: Global,
+    command: clap::Command<'a>,
+) -> Result<clap::Command<'a>, AllocError>
+    ensures app { IfOk result (λ added. app_of added ≡ with_slice (app_of command.entry)) }
+    ensures local { IfOk result (λ added. (out-Command command.entry).has_globals ≡ false → (out-Command added).has_globals ≡ false) }
+{
+    with_option(alloc, command, "slice")
+}
+
 /// A command with an argument that has to be given.
 fn with_argument<'a>(
     alloc: Global,
@@ -266,17 +407,18 @@ fn command_found<'a>(matches: &ArgMatches<'a>) -> Option<Command<'a>>
     match matches.subcommand() {
         Some((name, found)) if name == "run" => run_of(found),
         Some((name, found)) if name == "drive" => drive_of(found),
+        Some((name, found)) if name == "self" => generated_of(found),
         _ => None,
     }
 }
 
 /// The values of `run`.
 fn run_of<'a>(found: &ArgMatches<'a>) -> Option<Command<'a>>
-    ensures { option_map meaning result ≡ run_with (guest_of (rows_of (found_of found.now))) (wire_of (rows_of (found_of found.now))) }
+    ensures { option_map meaning result ≡ run_with (guest_of (rows_of (found_of found.now))) (how_of (rows_of (found_of found.now))) }
 {
     let guest = guest_of(found)?;
-    let wire = wire_of(found)?;
-    Some(Command::Run(guest, wire))
+    let how = how_of(found)?;
+    Some(Command::Run(guest, how))
 }
 
 /// The values of `drive`.
@@ -286,6 +428,15 @@ fn drive_of<'a>(found: &ArgMatches<'a>) -> Option<Command<'a>>
     let guest = guest_of(found)?;
     let script = text_of(found, "SCRIPT")?;
     Some(Command::Drive(guest, script))
+}
+
+/// The values of `self`.
+fn generated_of<'a>(found: &ArgMatches<'a>) -> Option<Command<'a>>
+    ensures { option_map meaning result ≡ generated_with (option_and_then number_of (first_of (codes "SEED") (rows_of (found_of found.now)))) (workers_of (rows_of (found_of found.now))) }
+{
+    let seed = number_of(text_of(found, "SEED")?)?;
+    let workers = workers_of(found)?;
+    Some(Command::Generated(GeneratedWords { seed, workers }))
 }
 
 /// What is said of a guest.
@@ -308,13 +459,35 @@ fn guest_of<'a>(found: &ArgMatches<'a>) -> Option<GuestWords<'a>>
     })
 }
 
-/// What is said of how pages come.
-fn wire_of(found: &ArgMatches<'_>) -> Option<WireWords>
-    ensures { result ≡ wire_of (rows_of (found_of found.now)) }
+/// What is said of how a family is run.
+fn how_of(found: &ArgMatches<'_>) -> Option<RunWords>
+    ensures { result ≡ how_of (rows_of (found_of found.now)) }
 {
     let seed = value_of(found, "wire", 0, u32::MAX, DEFAULT_SEED)?;
     let ahead = value_of(found, "ahead", 0, MOST_AHEAD, DEFAULT_AHEAD)?;
-    Some(WireWords { seed, ahead })
+    let workers = workers_of(found)?;
+    let slice = value_of(found, "slice", LEAST_SLICE, MOST_SLICE, DEFAULT_SLICE)?;
+    Some(RunWords {
+        seed,
+        ahead,
+        workers,
+        slice: u64::from(slice),
+    })
+}
+
+/// How many workers are asked for.
+fn workers_of(found: &ArgMatches<'_>) -> Option<u32>
+    ensures value { result ≡ workers_of (rows_of (found_of found.now)) }
+    ensures least { IfSome result (λ n. LEAST_WORKERS ≤ n) }
+    ensures most { IfSome result (λ n. n ≤ MOST_WORKERS) }
+{
+    value_of(
+        found,
+        "workers",
+        LEAST_WORKERS,
+        MOST_WORKERS,
+        DEFAULT_WORKERS,
+    )
 }
 
 /// The value of an option: a number within its limits, or the default where the option is not given.

@@ -131,11 +131,6 @@ unfolding spots paged_machines machines map_tree
 now-waits now (node s broods log) =
     ap (λ b. not (is_some now.machine.ending) && b) (sym (waits-bare paged_machines (node (record { machine = now; place = out }) broods log)))
 
--- a machine that makes no call comes back without memory
-pub home-wants-none : (ending : Option Ending) → MayWant (home_by ending) → ⊥
-home-wants-none None h = h
-home-wants-none (Some ending) h = h
-
 module _ (depot : Shelves) (w : World) (t : Tree Paged) (lease : Lent) (h : HasLent depot w t lease) where
   abbrev pub taken : Forest
   taken = does paged_machines (took lease.name) h.forest

@@ -92,12 +92,16 @@ get-map (x ∷ xs) (suc i) = get-map xs i
 pub hears : (now new : PassValue) (w : World) (h : Follows now.board.opening now.seen w) (place : ℕ) (r : Result (Option Delivery) AllocError)
     → new.board ≡ now.board → new.seen ≡ now.seen ++ (now.number, heard_entry place r) ∷ []
     → IfOk r (λ sent. sent ≡ slice_get (told_of w) place)
-    → ((depot : Shelves) → AreKept depot w → IfOk r (λ sent. ForSome sent (IsSentOf depot))) → Hears new place r
-hears now new w h place (Ok sent) board seen value kept = record {
-  value =
-      ap (option_map pair_of) value ∙ get-map (told_of w) place ∙ ap (λ l. slice_get l place) h.world.replies
-      ∙ ap (λ l. slice_get l place) (sym (told-then now.board.opening now.seen now.number place))
-      ∙ sym (ap₂ (λ (b : BoardValue) l. slice_get (record_at b.opening l).told place) board seen);
+    → ((depot : Shelves) → AreKept depot w → IfOk r (λ sent. ForSome sent (IsSentOf depot))) → length (told_of w) < 18446744073709551616
+    → Hears new place r
+hears now new w h place (Ok sent) board seen value kept few = record {
+  value = ap (option_map pair_of) value ∙ get-map (told_of w) place ∙ ap (λ l. slice_get l place) all;
+  few = subst (λ n. n < 18446744073709551616) (sym (length-map (told_of w) pair_of) ∙ ap length all) few;
   kept = subst (λ (b : BoardValue). ForSome sent (IsSentOf (depot_of b.opening))) (sym board) (kept (depot_of now.board.opening) h.world.kept);
 }
-hears now new w h place (Err e) board seen value kept = tt
+  where
+    all : map pair_of (told_of w) ≡ (record_at new.board.opening new.seen).told
+    all =
+        h.world.replies ∙ sym (told-then now.board.opening now.seen now.number place)
+        ∙ sym (ap₂ (λ (b : BoardValue) l. (record_at b.opening l).told) board seen)
+hears now new w h place (Err e) board seen value kept few = tt

@@ -6,3 +6,4 @@ pub mod Returning
 pub mod Delivered
 pub mod Taking
 pub mod Crosses
+pub mod Holding

@@ -1,26 +1,28 @@
 -- What a turn of a seat is to its pass.
-use Rattle.std.proofs.Common.{◌≡◌, ℕ, List, [], ◌∷◌, ◌++◌, map, refl, sym, ap, ap₂, ◌∙◌, subst, ◌⊎◌, inl, inr}
+use Rattle.std.proofs.Common.{◌≡◌, ◌≢◌, ℕ, ◌≤◌, List, [], ◌∷◌, ◌++◌, Some, length, length-append, refl, sym, ap, ap₂, ◌∙◌, subst, ◌⊎◌, inl, inr, arith}
 use Rattle.std.proofs.lemmas.List.{map-append}
 use Rattle.forest_tree.specs.Tree.{Path}
-use Rattle.forest_history.specs.Histories.{Entry, History, IsLegal, Record, Seat, holding, replay}
+use Rattle.forest_history.specs.Histories.{Entry, History, Holding, IsLegal, Record, Seat, holding, replay}
 use Rattle.forest_model.specs.Machine.{Machine}
-use Rattle.forest_history.specs.World as history
 use Rattle.forest_model.specs.Forest.{machines}
 use Rattle.atomic_table.specs.Seated.{TableId}
 use Rattle.turn_board.specs.History as notes
 use Rattle.turn_board.specs.History.{entries_by, StartsWith}
+use Rattle.turn_board.proofs.Entries.{entries_by-push_other}
 use Rattle.turn_board.specs.Calls as turn
-use Rattle.turn_board.specs.Calls.{IsSeat, IsTurn, Enters, Leaves}
+use Rattle.turn_board.specs.Calls.{IsSeat, IsTurn, Enters}
 use Rattle.world_core.specs.declared.reason.Reason.{Reason}
 use Rattle.world_core.specs.declared.world.World.{World}
+use Rattle.world_core.specs.Lent.{Lent}
 use Rattle.fork_board.specs.declared.note.Note.{Note}
 use Rattle.fork_board.specs.declared.note.Opening.{Opening}
 use Rattle.fork_board.specs.Notes.{entries, entry_of}
 use Rattle.fork_board.specs.Follows.{Follows, opening_record, record_at}
-use Rattle.fork_board.specs.Passes.{BoardValue, FreeAfter, HoldsNone, IsFree, PassValue, Makes, Joins, Closes}
+use Rattle.fork_board.specs.Passes.{BoardValue, FreeAfter, HoldsNone, IsFree, IsHeld, Leaves, PassValue, Makes, Joins, Closes}
 use Rattle.fork_board.specs.Visits.{Place, Passed, Visits, pass_of}
 use Rattle.fork_board.proofs.Entries.{by-map, entered_as, none-between}
-use Rattle.fork_board.proofs.Records.{Free, free-after, free-more, free-own, record-more}
+use Rattle.fork_board.proofs.Records.{Free, free-after, free-more, free-own, held-own, others-keep, record-more}
+use Rattle.fork_board.proofs.Worlds.{IsHeldAt, held-still}
 
 -- what lies under the lock, as `Kept` says it
 abbrev pub kept : Opening → notes.History Note → World → Type 0
@@ -54,11 +56,12 @@ module _ (board : BoardValue) where
         no-others old.me.0.seat e.later.0
         (none-between old.me.0.seat old.me.0.seen e.later.0 old.me.0.mine seat.own
         (ap (entries_by old.me.0.seat) (sym e.later.1) ∙ ap (λ s. entries_by s new.me.0.seen) (sym e.same_seat) ∙ at.own ∙ e.same_mine));
+    unmade = λ k below le. no-others (new.me.0.seat ++ k ∷ below) new.me.0.seen (e.unmade k below le);
     follows = e.stands_for;
   }
 
   -- it has passed
-  pub passed : (now new : Place) (note : Note) → IsSeat board.table board.opening new → Leaves now new note
+  pub passed : (now new : Place) (note : Note) → IsSeat board.table board.opening new → turn.Leaves now new note
       → Passed (pass_of board now) (pass_of board new) note
   passed now new note seat l = record {
     same_board = refl;
@@ -111,10 +114,28 @@ module _ (board : BoardValue) where
     between = entries c.later.0;
     later = ap entries c.later.1 ∙ entries-append seat.me.0.seen c.later.0;
     own = own-entries seat.me.0.seat c.log seat.me.0.mine c.own;
+    unmade = λ k below le. no-others (seat.me.0.seat ++ k ∷ below) c.log (c.unmade k below le);
     follows = c.stands_for;
   }
 
 -- ---- a turn from its start to its end
+
+unlike-below : (seat : Seat) (k : ℕ) (below : Seat) → seat ≢ seat ++ k ∷ below
+unlike-below seat k below same = let longer = ap length same in absurd (omega (arith, length-append seat (k ∷ below)))
+
+-- what others did meanwhile leaves it with the pass
+pub held-now : (pass now : PassValue) (w : World) (lease : Lent) → Visits pass now w → IsHeld pass lease
+    → IsHeldAt now.board.opening now.seen now.number lease
+held-now pass now w lease v held =
+    let opening = now.board.opening in
+    let x : Holding Machine = record { name = lease.name; seat = pass.number; found = lease.start } in
+    let first : holding lease.name (record_at opening pass.seen).holdings ≡ Some x =
+    ap (λ (b : BoardValue). holding lease.name (record_at b.opening pass.seen).holdings) v.same_board ∙ held in
+    let legal : IsLegal machines (pass.seen ++ v.between) (opening_record opening) =
+    subst (λ l. IsLegal machines l (opening_record opening)) v.seen v.follows.legal in
+    ap (λ l. holding lease.name (record_at opening l).holdings) v.seen
+    ∙ others-keep opening pass.seen v.follows.start v.between lease.name x legal v.others first
+    ∙ ap (λ s. Some (record { name = lease.name; seat = s; found = lease.start })) (sym v.same_number)
 
 -- the pass has made an entry more, which is the note's
 pub noted : (pass now new : PassValue) (w : World) (note : Note) (entry : Entry Reason) → Visits pass now w → Passed now new note → entry_of note ≡ entry
@@ -128,12 +149,20 @@ noted pass now new w note entry v p is legal = record {
   others = v.others;
   mine = p.mine ∙ ap₂ (λ l e. l ++ e ∷ []) v.same_mine last;
   own = p.own;
+  unmade = unmade;
   legal =
       subst (λ (b : BoardValue). IsLegal machines new.seen (opening_record b.opening)) v.same_board
       (subst (λ l. IsLegal machines l (opening_record now.board.opening)) (sym p.seen) legal);
   free = free;
+  held = held;
 }
   where
+    unmade : (k : ℕ) (below : Seat) → new.splits ≤ k → entries_by (new.number ++ k ∷ below) new.seen ≡ []
+    unmade k below le =
+        ap₂ (λ s l. entries_by (s ++ k ∷ below) l) p.same_number p.seen
+        ∙ entries_by-push_other (now.number ++ k ∷ below) now.number now.seen (entry_of note) (unlike-below now.number k below)
+        ∙ v.unmade k below (subst (λ n. n ≤ k) p.same_splits le)
+
     before : (name : Path) → IsFree pass name → Free now.number name (record_at now.board.opening now.seen).holdings
     before name h =
         subst (λ l. Free now.number name (record_at now.board.opening l).holdings) (sym v.seen)
@@ -154,6 +183,13 @@ noted pass now new w note entry v p is legal = record {
         (subst (λ s. Free s name (record_at now.board.opening new.seen).holdings) (sym p.same_number)
         (subst (λ l. Free now.number name (record_at now.board.opening l).holdings)
         (sym (p.seen ∙ ap (λ e. now.seen ++ (now.number, e) ∷ []) is)) (behind name h)))
+
+    held : (lease : Lent) → IsHeld pass lease → Leaves entry lease.name → IsHeld new lease
+    held lease h leaves =
+        held-still new now.board.opening now.seen now.number entry lease (ap (λ (b : BoardValue). b.opening) p.same_board) p.same_number
+        (p.seen ∙ ap (λ e. now.seen ++ (now.number, e) ∷ []) is)
+        (ap (λ (r : Record Machine Reason). holding lease.name r.holdings) (record-more now.board.opening now.seen now.number entry)
+        ∙ held-own now.number lease.name entry (record_at now.board.opening now.seen) leaves ∙ held-now pass now w lease v h)
 
     last : ◌≡◌ {A = Seat × Entry Reason} (now.number, entry_of note) (pass.number, entry)
     last = ap₂ (λ s (e : Entry Reason). (s, e)) v.same_number is
@@ -234,7 +270,7 @@ module _ (board : BoardValue) (table : TableId) (opening key : Opening)
   here-at about seat is same =
       sym (seen-as board table about seat is.here (ap (λ o. record { table = table; opening = o }) (same ∙ sym (ap (λ (b : BoardValue). b.opening) lock)) ∙ lock))
 
-  pub passed-at : (now : Place) (about : Opening) → about ≡ board.opening → (new : Place) (note : Note) → IsSeat table key new → Leaves now new note
+  pub passed-at : (now : Place) (about : Opening) → about ≡ board.opening → (new : Place) (note : Note) → IsSeat table key new → turn.Leaves now new note
       → Passed (pass_of board now) (pass_of (record { table = new.table_id; opening = about }) new) note
   passed-at now about same new note is leaves =
       subst (λ p. Passed (pass_of board now) p note) (here-at about new is same)

@@ -8,7 +8,7 @@ use Rattle.forest_tree.specs.Sound.{IsSound}
 use Rattle.forest_history.specs.Places.{Spot, out, spots}
 use Rattle.forest_history.specs.World as history
 use Rattle.forest_history.specs.World.{world_of}
-use Rattle.forest_history.specs.Rows.{How, Row, over, stopped, idle, took, nothing, spent, dropped, kept, halted, Allows, does}
+use Rattle.forest_history.specs.Rows.{Row, over, stopped, idle, took, nothing, spent, dropped, kept, halted, Allows, does}
 use Rattle.forest_history.specs.Histories.{Entry, row, told, heard, mute, deaf, History, Holding, HandsBack, IsLegal, Permits, Record, Seat, holding, holdings_after, is_same_path, record_after, replay, with_taken, without_name}
 use Rattle.forest_history.proofs.Held.{same-is, same-self, without-other, without-same}
 use Rattle.forest_history.proofs.Histories as histories
@@ -26,7 +26,7 @@ use Rattle.world_core.specs.declared.reason.Reason.{Reason}
 use Rattle.world_core.specs.World.{Forest}
 use Rattle.fork_board.specs.declared.note.Opening.{Opening}
 use Rattle.fork_board.specs.Follows.{family_of, opening_record, record_at}
-use Rattle.fork_board.specs.Passes.{FreeAfter}
+use Rattle.fork_board.specs.Passes.{FreeAfter, Leaves}
 
 -- ---- one entry
 
@@ -220,3 +220,43 @@ module _ (seat : Seat) (name : Path) where
   free-more opening log between none h =
       subst (λ (r : Record Machine Reason). Free seat name r.holdings) (sym (histories.replay-append machines log between (opening_record opening)))
       (free-others between (record_at opening log) (others-made seat between none) h)
+
+-- ---- what a seat holds
+
+-- an entry of a seat that leaves a machine where it is leaves it with who holds it
+module _ (seat : Seat) (name : Path) where
+  unlike : (other : Path) → other ≢ name → is_same_path other name ≡ false
+  unlike other apart = by (is_same_path other name) refl
+    where
+      by : (same : Bool) → is_same_path other name ≡ same → same ≡ false
+      by true e = absurd (apart (same-is other name e))
+      by false e = refl
+
+  held-taken : (other : Path) (t : Option (Tree (Spot Machine))) (held : List (Holding Machine)) → other ≢ name
+      → holding name (with_taken seat other t held) ≡ holding name held
+  unfolding holding
+  held-taken other None held apart = refl
+  held-taken other (Some t) held apart =
+      let was : Holding Machine = record { name = other; seat = seat; found = (machine t).machine } in
+      ap (λ same. cond same (Some was) (holding name held)) (unlike other apart)
+
+  held-row : (x : Row Reason) (w : history.World Machine Reason) (held : List (Holding Machine)) → Leaves (row x) name
+      → holding name (holdings_after seat x w held) ≡ holding name held
+  held-row over w held h = refl
+  held-row (stopped r) w held h = refl
+  held-row idle w held h = refl
+  held-row (took other) w held h = held-taken other (subtree other w.tree) held h
+  held-row nothing w held h = refl
+  held-row (spent how other k) w held h = without-other other name held (unlike other h)
+  held-row (dropped other) w held h = without-other other name held (unlike other h)
+  held-row (kept other k) w held h = refl
+  held-row (halted r) w held h = refl
+
+  pub held-own : (e : Entry Reason) (r : Record Machine Reason) → Leaves e name
+      → holding name (record_after machines seat e r).holdings ≡ holding name r.holdings
+  unfolding record_after
+  held-own (row x) r h = held-row x r.world r.holdings h
+  held-own (told image page) r h = refl
+  held-own (heard place) r h = refl
+  held-own mute r h = refl
+  held-own (deaf place) r h = refl

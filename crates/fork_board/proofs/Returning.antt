@@ -1,30 +1,27 @@
 -- A lease that comes back in a turn of its pass.
-use Rattle.std.proofs.Common.{◌≡◌, ℕ, [], ◌∷◌, ◌++◌, Some, refl, sym, ap, ap₂, ◌∙◌, subst}
+use Rattle.std.proofs.Common.{◌≡◌, ℕ, [], ◌∷◌, ◌++◌, Some, sym, ap, ap₂, ◌∙◌, subst}
 use Rattle.image_depot.specs.Key.{Shelves}
 use Rattle.forest_tree.specs.Tree.{Path}
 use Rattle.forest_history.specs.Rows.{How, spent}
-use Rattle.forest_history.specs.Histories.{Entry, row, History, Holding, IsLegal, Seat, holding}
-use Rattle.forest_model.specs.Forest.{machines}
+use Rattle.forest_history.specs.Histories.{Entry, row, Holding, holding}
 use Rattle.forest_model.specs.Machine.{Machine}
 use Rattle.world_core.specs.declared.reason.Reason.{Reason}
 use Rattle.world_core.specs.declared.world.World.{World}
 use Rattle.world_core.specs.declared.world.Placed.{Placed}
-use Rattle.world_core.specs.Answers.{Answers, HandedOut, HandedOutIn, IsHandedOut, IsLentOf}
+use Rattle.world_core.specs.Answers.{Answers, HandedOut, HandedOutIn, IsLentOf}
 use Rattle.world_core.specs.Answers.{IsOutSince}
 use Rattle.world_core.specs.Arrived.{StillHandedOut}
 use Rattle.world_core.specs.Lent.{IsSameLease, Lent}
 use Rattle.world_core.specs.Told.{told_of}
 use Rattle.world_core.specs.World.{Forest, StandsFor}
 use Rattle.fork_board.specs.declared.note.Note.{Note}
-use Rattle.fork_board.specs.declared.note.Opening.{Opening}
 use Rattle.fork_board.specs.Answers.{Places}
-use Rattle.fork_board.specs.Follows.{Follows, depot_of, opening_record, record_at}
+use Rattle.fork_board.specs.Follows.{Follows, depot_of}
 use Rattle.fork_board.specs.Notes.{entry_of, placed_entry}
-use Rattle.fork_board.specs.Passes.{BoardValue, IsHeld, Makes, PassValue, seen_record}
+use Rattle.fork_board.specs.Passes.{IsHeld, Makes, PassValue, seen_record}
 use Rattle.fork_board.specs.Visits.{Passed, Visits}
-use Rattle.fork_board.proofs.Records.{others-keep}
 use Rattle.fork_board.proofs.Worlds.{IsHeldAt, IsLentOut, follows-placed, lent-out, places}
-use Rattle.fork_board.proofs.Passing.{noted}
+use Rattle.fork_board.proofs.Passing.{held-now, noted}
 
 -- what `Lease::ran` says of a lease
 abbrev pub HasLedThere : Lent → Type 0
@@ -42,20 +39,6 @@ pub record Comes (pass now : PassValue) (w : World) (lease : Lent) : Type 0 wher
   pub held : IsHeldAt now.board.opening now.seen now.number lease
   pub out : IsLentOut now.board.opening now.seen w lease
   pub of_depot : IsLentOf (depot_of now.board.opening) lease
-
--- what others did meanwhile leaves it with the pass
-held-now : (pass now : PassValue) (w : World) (lease : Lent) → Visits pass now w → IsHeld pass lease
-    → IsHeldAt now.board.opening now.seen now.number lease
-held-now pass now w lease v held =
-    let opening = now.board.opening in
-    let x : Holding Machine = record { name = lease.name; seat = pass.number; found = lease.start } in
-    let first : holding lease.name (record_at opening pass.seen).holdings ≡ Some x =
-    ap (λ (b : BoardValue). holding lease.name (record_at b.opening pass.seen).holdings) v.same_board ∙ held in
-    let legal : IsLegal machines (pass.seen ++ v.between) (opening_record opening) =
-    subst (λ l. IsLegal machines l (opening_record opening)) v.seen v.follows.legal in
-    ap (λ l. holding lease.name (record_at opening l).holdings) v.seen
-    ∙ others-keep opening pass.seen v.follows.start v.between lease.name x legal v.others first
-    ∙ ap (λ s. Some (record { name = lease.name; seat = s; found = lease.start })) (sym v.same_number)
 
 pub comes : (pass now : PassValue) (w : World) (lease : Lent) → Visits pass now w → IsHeld pass lease → HasLedThere lease
     → IsLentOf (depot_of now.board.opening) lease → Comes pass now w lease

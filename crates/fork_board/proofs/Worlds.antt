@@ -136,7 +136,7 @@ module _ (opening : Opening) (log : History Reason) (w : World) (lease : Lent) (
       follows-row opening log seat (kept lease.name lease.ran) lent.forest w new h lent.family (held-by held) a.2 told
 
 -- what a pass is seen to hold after its entry
-held-still : (new : PassValue) (opening : Opening) (log : History Reason) (seat : Seat) (entry : Entry Reason) (lease : Lent)
+pub held-still : (new : PassValue) (opening : Opening) (log : History Reason) (seat : Seat) (entry : Entry Reason) (lease : Lent)
     → new.board.opening ≡ opening → new.number ≡ seat → new.seen ≡ log ++ (seat, entry) ∷ [] → IsHeldAt opening (log ++ (seat, entry) ∷ []) seat lease
     → IsHeld new lease
 held-still new opening log seat entry lease same number seen held =

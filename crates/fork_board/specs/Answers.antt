@@ -1,5 +1,5 @@
 -- What comes with the answers of a board.
-use Rattle.std.specs.Prelude.{◌≡◌, ℕ, Option, Some, None, Result, Ok, Err, option_map, slice_get}
+use Rattle.std.specs.Prelude.{◌≡◌, ℕ, ◌<◌, length, Option, Some, None, Result, Ok, Err, option_map, slice_get}
 use Rattle.forest_history.specs.Rows.{How}
 use Rattle.image_depot.specs.Reply.{Delivery, IsSentOf}
 use Rattle.std.specs.Option.{ForSome}
@@ -39,6 +39,8 @@ Places how lease new (placed.Memory back) = MayWant how × (back ≡ lease) × I
 pub record IsHeard (new : PassValue) (place : ℕ) (sent : Option Delivery) : Type 0 where
   pub value : option_map pair_of sent ≡ slice_get (seen_record new).told place
   pub kept : ForSome sent (IsSentOf (depot_of new.board.opening))
+  -- their count is one that a place can have
+  pub few : length (seen_record new).told < 18446744073709551616
 
 abbrev pub Hears : PassValue → ℕ → Result (Option Delivery) AllocError → Type 0
 Hears new place (Ok sent) = IsHeard new place sent

@@ -3,3 +3,4 @@ pub mod Follows
 pub mod Passes
 pub mod Visits
 pub mod Answers
+pub mod Holds

@@ -1,5 +1,5 @@
 -- What contracts see of a board and of its passes.
-use Rattle.std.specs.Prelude.{◌≡◌, ◌≢◌, ◌⊎◌, ℕ, [], ◌∷◌, ◌++◌, Some}
+use Rattle.std.specs.Prelude.{◌≡◌, ◌≢◌, ◌⊎◌, ℕ, ◌≤◌, [], ◌∷◌, ◌++◌, Some}
 use Rattle.std.specs.Option.{IfSome}
 use Rattle.atomic_table.specs.Seated.{TableId}
 use Rattle.forest_tree.specs.Tree.{Path}
@@ -62,6 +62,22 @@ FreeAfter (heard place) name before = before
 FreeAfter mute name before = before
 FreeAfter (deaf place) name before = before
 
+-- who makes the entry neither takes the machine of this name nor hands it back
+abbrev pub Leaves : Entry Reason → Path → Type 0
+Leaves (row over) name = Unit {0}
+Leaves (row (stopped reason)) name = Unit {0}
+Leaves (row idle) name = Unit {0}
+Leaves (row (took other)) name = other ≢ name
+Leaves (row nothing) name = Unit {0}
+Leaves (row (spent how other k)) name = other ≢ name
+Leaves (row (dropped other)) name = other ≢ name
+Leaves (row (kept other k)) name = Unit {0}
+Leaves (row (halted reason)) name = Unit {0}
+Leaves (told image page) name = Unit {0}
+Leaves (heard place) name = Unit {0}
+Leaves mute name = Unit {0}
+Leaves (deaf place) name = Unit {0}
+
 -- the history has one entry more of the pass behind those that others made since, and is legal with it
 pub record Makes (old new : PassValue) (entry : Entry Reason) : Type 0 where
   pub same_board : new.board ≡ old.board
@@ -73,8 +89,11 @@ pub record Makes (old new : PassValue) (entry : Entry Reason) : Type 0 where
   pub others : entries_by old.number between ≡ []
   pub mine : new.mine ≡ old.mine ++ (old.number, entry) ∷ []
   pub own : entries_by new.number new.seen ≡ new.mine
+  -- no pass that is yet to be split off from it has made an entry, nor has one that would be split off from such
+  pub unmade : (k : ℕ) (below : Seat) → new.splits ≤ k → entries_by (new.number ++ k ∷ below) new.seen ≡ []
   pub legal : IsLegal machines new.seen (opening_record old.board.opening)
   pub free : (name : Path) → FreeAfter entry name (IsFree old name) → IsFree new name
+  pub held : (lease : Lent) → IsHeld old lease → Leaves entry lease.name → IsHeld new lease
 
 -- the pass has seen the longer of what two had seen, of which the other is the beginning
 pub record Joins (pass other new : PassValue) : Type 0 where
@@ -93,4 +112,5 @@ pub record Closes (pass : PassValue) (w : World) : Type 0 where
   pub between : History Reason
   pub later : log ≡ pass.seen ++ between
   pub own : entries_by pass.number log ≡ pass.mine
+  pub unmade : (k : ℕ) (below : Seat) → pass.splits ≤ k → entries_by (pass.number ++ k ∷ below) log ≡ []
   pub follows : Follows pass.board.opening log w

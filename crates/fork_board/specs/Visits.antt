@@ -1,5 +1,5 @@
 -- A turn of a pass, between its start and its end.
-use Rattle.std.specs.Prelude.{◌≡◌, ℕ, [], ◌∷◌, ◌++◌}
+use Rattle.std.specs.Prelude.{◌≡◌, ℕ, ◌≤◌, List, [], ◌∷◌, ◌++◌}
 use Rattle.forest_history.specs.Histories.{History}
 use Rattle.atomic_table.specs.declared.shared.Seat.{Seat}
 use Rattle.turn_board.specs.declared.view.Content.{Content}
@@ -36,6 +36,7 @@ pub record Visits (pass now : PassValue) (w : World) : Type 0 where
   pub between : History Reason
   pub seen : now.seen ≡ pass.seen ++ between
   pub others : entries_by pass.number between ≡ []
+  pub unmade : (k : ℕ) (below : List ℕ) → now.splits ≤ k → entries_by (now.number ++ k ∷ below) now.seen ≡ []
   pub follows : Follows now.board.opening now.seen w
 
 -- the turn has passed with one entry more

@@ -68,7 +68,7 @@ impl Board {
         (self.leave(visit, &note), placed)
     }
 
-    /// Makes the CLONE at which a machine stands.
+    /// Makes the CLONE at which a machine stands. The children are made ready before the turn, which is short.
     pub fn fork<R: Wait>(
         &self,
         rt: &R,
@@ -88,8 +88,9 @@ impl Board {
         let name = Snapshot::of(lease.name());
         let ran = lease.ran();
         let done = Note::Forked(Snapshot::of(lease.name()), ran);
+        let litter = lease.litter(rt, alloc, depot);
         let mut visit = self.enter(rt, pass);
-        let placed = visit.turn.value.fork(rt, alloc, lease, depot);
+        let placed = visit.turn.value.bear(lease, litter);
         let note = placed_note(done, name, ran, &placed);
         (self.leave(visit, &note), placed)
     }

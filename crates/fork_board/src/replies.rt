@@ -40,6 +40,8 @@ impl Board {
         ensures hears { Hears result.0 place result.1 }
     {
         let visit = self.enter(rt, pass);
+        // The call tells that a `usize` can count them.
+        let _ = visit.turn.value.told();
         let heard = visit.turn.value.hear(place);
         let note = heard_note(place, &heard);
         (self.leave(visit, &note), heard)

@@ -5,7 +5,7 @@ use Rattle.io_edge.specs.Asked.{Asked}
 use Rattle.guest_files.specs.declared.stop.TheConstants.{TOO_LONG, DISK_TOO_LONG, DISK_NOT_SECTORS, INPUT_TOO_LONG, SCRIPT_TOO_LONG, IMAGE_LOAD, DISK_LOAD, INPUT_LOAD, SCRIPT_LOAD}
 use Rattle.guest_files.specs.declared.stop.Stop.{Stop}
 use Rattle.guest_files.specs.declared.stop.Stop.TheVariants.{ReadFault, ImageRefused, DataRefused, ScriptRefused, WriteFault, Wire, Memory}
-use Rattle.command_line.specs.Words.{Command, GuestValues, run, drive}
+use Rattle.command_line.specs.Words.{Command, GuestValues, run, drive, generated}
 use Rattle.guest_files.specs.Reads.{Refusal, no_meaning, no_file, image_too_long, image_refused, disk_too_long, disk_not_sectors, input_too_long, script_too_long, script_refused}
 
 -- ---- refusals
@@ -46,8 +46,9 @@ IsGuestLoad values load =
 
 -- a command asks for it
 abbrev pub IsLoadOf : Command → ℕ → Type 0
-IsLoadOf (run values wire) load = IsGuestLoad values load
+IsLoadOf (run values how) load = IsGuestLoad values load
 IsLoadOf (drive values script) load = IsGuestLoad values load ⊎ (load ≡ SCRIPT_LOAD)
+IsLoadOf (generated values) load = ⊥
 
 -- the load of a name, where it is given
 abbrev pub load_if : ℕ → Option (List ℕ) → List ℕ
@@ -60,8 +61,9 @@ guest_loads values = IMAGE_LOAD ∷ (load_if DISK_LOAD values.disk ++ load_if IN
 
 -- those that a command asks for
 abbrev pub loads_of : Command → List ℕ
-loads_of (run values wire) = guest_loads values
+loads_of (run values how) = guest_loads values
 loads_of (drive values script) = guest_loads values ++ (SCRIPT_LOAD ∷ [])
+loads_of (generated values) = []
 
 -- a count after these loads
 abbrev pub counted : List ℕ → ℕ → ℕ
@@ -80,10 +82,11 @@ pub record IsFaultOf (loads : List ℕ) (load : ℕ) (old new : Asked) : Type 0 
   pub asked : AreAsked (before ++ (load ∷ [])) old new
   pub fault : new.last_fault ≡ new.loads
 
--- the last load that a command may ask for
+-- the last load that a command may ask for, or 0 where it asks for none
 abbrev pub final_load : Command → ℕ
-final_load (run values wire) = INPUT_LOAD
+final_load (run values how) = INPUT_LOAD
 final_load (drive values script) = SCRIPT_LOAD
+final_load (generated values) = 0
 
 -- the last load that is made before a refusal is known, where this is the last of all. What the files hold is looked at
 -- once all are read

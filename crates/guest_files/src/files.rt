@@ -38,6 +38,15 @@ impl Model for GuestFiles {
 }
 
 impl GuestFiles {
+    /// The files of a guest that is not read.
+    pub fn new(image: Vec<u8>, disk: Vec<u8>, input: Vec<u8>) -> GuestFiles
+        requires disk { vec_len disk ≤ DISK_MOST }
+        requires input { vec_len input ≤ MAX_INPUT }
+        ensures { result ≡ record { image = image.items; disk = disk.items; input = input.items } }
+    {
+        GuestFiles { image, disk, input }
+    }
+
     /// The bytes of the image.
     pub fn image(&self) -> &[u8]
         ensures { result.now ≡ self.now.image }

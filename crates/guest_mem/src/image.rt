@@ -13,7 +13,7 @@ use crate::table::fetched_table;
 use console_port::Input;
 use cow_disk::FrozenDisk;
 use image_depot::{Arrived, Depot, Frozen, ImageKey, Parcel};
-use page_frames::{Entry, Page};
+use page_frames::Entry;
 use shared_leaves::{SharedList, Steps};
 use std::alloc::{AllocError, Global};
 use std::marker::Brand;
@@ -146,7 +146,8 @@ impl GuestMem {
         }
     }
 
-    /// Takes a page that was sent, where it is absent and one of the image that this RAM started with.
+    /// Takes a page that was sent, where it is absent and one of the image that this RAM started with. The bytes of the
+    /// reply are those of the image's page, so the page is shared with the image where that holds it, and not copied.
     pub fn arrive(
         &mut self,
         alloc: Global,
@@ -166,11 +167,12 @@ impl GuestMem {
             return Ok(Arrived::Had(page));
         }
         depot.agree(key, parcel.key());
-        let content = parcel.content();
+        // The call tells that the image has the page.
+        let _ = parcel.bytes();
         if self.is_here(page) {
             return Ok(Arrived::Had(page));
         }
-        let held = Entry::Held(Page::from_slice(alloc, content)?);
+        let held = Entry::Held(depot.frozen(key).shared_page(alloc, page)?);
         self.entries.set(page as usize, held)?;
         Ok(Arrived::Got(page))
     }

@@ -1,5 +1,5 @@
 -- Replies that were heard.
-use Rattle.std.proofs.Common.{◌≡◌, ℕ, Bool, true, false, cond, List, [], ◌∷◌, slice_set, Option, Some, None, Result, Ok, Err, IfOk, IfSome, OnErr, refl, sym, ap, ◌∙◌, subst}
+use Rattle.std.proofs.Common.{◌≡◌, ◌≢◌, ℕ, Bool, true, false, cond, List, [], ◌∷◌, slice_set, Option, Some, None, Result, Ok, Err, IfOk, IfSome, OnErr, refl, sym, ap, ap₂, ◌∙◌, subst}
 use Rattle.std.specs.BTreeMap.{insert_entry, is_at}
 use Rattle.std.specs.List.{All}
 use Rattle.std.specs.Option.{option_map}
@@ -51,6 +51,16 @@ equal-is : (o : Ordering) → is_eq o ≡ true → o ≡ Equal
 equal-is Less e = cc
 equal-is Equal e = refl
 equal-is Greater e = cc
+
+apart-by : (b : Bool) (place other : Place) → is_at (place_cmp place) other ≡ b → other ≢ place → b ≡ false
+apart-by false place other is differ = refl
+apart-by true place other is differ =
+    let same = same-place place other (equal-is (place_cmp place other) is) in
+    absurd (differ (ap₂ (λ (image page : ℕ). let at : Place = (image, page) in at) (sym same.0) (sym same.1)))
+
+-- no other place is found for a place
+pub apart : (place other : Place) → other ≢ place → is_at (place_cmp place) other ≡ false
+apart place other differ = apart-by (is_at (place_cmp place) other) place other refl differ
 
 found-by : (b : Bool) (image page : ℕ) (e : Place × Delivery) (es : Replies) (sent : Delivery) → is_at (place_cmp (image, page)) e.0 ≡ b → IsAtItsPlace e
     → (found es image page ≡ Some sent → (sent_image sent ≡ image) × (sent_page sent ≡ page)) → cond b (Some e.1) (found es image page) ≡ Some sent

@@ -1,11 +1,11 @@
-ghost use Rattle.std.specs.Prelude.{◌≡◌, ◌≤◌, true, false, IfErr, IfOk, OnErr, OnOk};
+ghost use Rattle.std.specs.Prelude.{◌≡◌, ◌≤◌, true, false, is_some, IfErr, IfOk, OnErr, OnOk};
 ghost use Rattle.std.specs.List.{All};
 ghost use Rattle.std.specs.Option.{ForSome};
 ghost use Rattle.image_depot.specs.Key.{IsKeyOf};
 ghost use Rattle.image_depot.specs.Receiver.{IsHere};
 ghost use Rattle.image_depot.specs.Reply.{IsSentOf};
 ghost use Rattle.host_fetch.specs.Fetch.{Grows};
-ghost use Rattle.host_fetch.specs.Heard.{AreHeardOf};
+ghost use Rattle.host_fetch.specs.Heard.{AreHeardOf, found_for};
 
 use crate::error::FetchError;
 use crate::fetch_page::{MAX_AHEAD, fetch};
@@ -47,7 +47,7 @@ pub fn bring<R: Wait, T: Receiver, W: Wire>(
 }
 
 /// Gives a receiver the page that it wants, where a reply with it was heard, and tells whether it did.
-fn offer<T: Receiver>(
+pub fn offer<T: Receiver>(
     alloc: Global,
     receiver: &mut T,
     depot: &Depot,
@@ -55,6 +55,7 @@ fn offer<T: Receiver>(
 ) -> Result<bool, AllocError>
     requires of_depot { ForSome (T.key receiver.old) (IsKeyOf depot.now) }
     requires heard { AreHeardOf depot.now heard.now }
+    ensures value { IfOk result (λ is_here. is_here ≡ is_some (found_for (T.wanted receiver.old) (T.key receiver.old) heard.now)) }
     ensures here { IfOk result (λ is_here. is_here ≡ true → ForSome (T.wanted receiver.old) (IsHere (T.here receiver.new))) }
     ensures not { IfOk result (λ is_here. is_here ≡ false → receiver.new ≡ receiver.old) }
     ensures err { OnErr result (receiver.new ≡ receiver.old) }

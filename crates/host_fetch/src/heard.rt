@@ -2,7 +2,7 @@ ghost use Rattle.std.specs.Prelude.{◌≡◌, [], Some, IfOk, IfSome, OnErr, On
 ghost use Rattle.std.specs.Option.{option_copied};
 ghost use Rattle.image_depot.specs.Key.{Shelves};
 ghost use Rattle.image_depot.specs.Reply.{IsSentOf, sent_image, sent_page};
-ghost use Rattle.host_fetch.specs.Heard.{AreHeardOf, found};
+ghost use Rattle.host_fetch.specs.Heard.{AreHeardOf, KeepsOthers, found};
 
 use image_depot::Sent;
 use std::alloc::{AllocError, Global};
@@ -37,9 +37,11 @@ impl Heard {
         }
     }
 
-    /// Takes in a reply, which is found from now on, in place of an earlier one with the same page.
+    /// Takes in a reply, which is found from now on, in place of an earlier one with the same page. All others are
+    /// found as before.
     pub fn hear(&mut self, sent: Sent) -> Result<(), AllocError>
         ensures found { OnOk result (found self.new (sent_image sent) (sent_page sent) ≡ Some sent) }
+        ensures others { OnOk result (KeepsOthers sent self.old self.new) }
         ensures kept { (depot : Shelves) → IsSentOf depot sent → AreHeardOf depot self.old → AreHeardOf depot self.new }
         ensures err { OnErr result (self.new ≡ self.old) }
     {

@@ -8,7 +8,7 @@ mod error;
 mod fetch_page;
 mod heard;
 
-pub use bring_page::bring;
+pub use bring_page::{bring, offer};
 pub use error::FetchError;
 pub use fetch_page::{MAX_AHEAD, fetch};
 pub use heard::Heard;

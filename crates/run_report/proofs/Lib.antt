@@ -6,3 +6,4 @@ mod Back
 mod Names
 mod Pieces
 mod Same
+mod Sums

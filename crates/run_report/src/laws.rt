@@ -9,6 +9,7 @@ ghost use Rattle.forest_model.specs.Machine.{Machine};
 ghost use Rattle.run_report.specs.Lines.{Told, TellsSame, lines, log_lines, machine_line, trees_lines};
 ghost use Rattle.run_report.specs.NameOrder.{path_cmp};
 ghost use Rattle.run_report.specs.Report.{report, report_of, told};
+ghost use Rattle.run_report.specs.Summary.{summary, summary_of};
 
 /// Two names compare equal exactly where they are the same.
 pub fn equal_names_are_the_same()
@@ -42,4 +43,11 @@ pub fn report_is_of_the_root()
     ensures { (m : Machine) (broods : Broods Machine) (log : Log Machine) (ending : Ending) → m.ending ≡ Some ending
         → report (node m broods log)
         ≡ report_of (record { name = []; ending = ending; steps = m.steps; output = m.state.ports.console.output; log = log_lines told [] log }) }
+{}
+
+/// So is its summary.
+pub fn summary_is_of_the_root()
+    ensures { (seed : ℕ) (m : Machine) (broods : Broods Machine) (log : Log Machine) (ending : Ending) → m.ending ≡ Some ending
+        → summary seed (node m broods log)
+        ≡ summary_of seed (record { name = []; ending = ending; steps = m.steps; output = m.state.ports.console.output; log = log_lines told [] log }) }
 {}

@@ -5,7 +5,9 @@ pub mod laws;
 mod line;
 mod name;
 mod report;
+mod summary;
 
 pub use line::Line;
 pub use name::{Branch, Name};
 pub use report::{Outcome, ReportError, report_into};
+pub use summary::summary_into;

@@ -1,13 +1,15 @@
 //! The lines of a report.
 
-ghost use Rattle.std.specs.Prelude.{◌≡◌, ◌≤◌, ◌++◌, OnErr};
+ghost use Rattle.std.specs.Prelude.{◌≡◌, ℕ, ◌+◌, ◌-◌, ◌^◌, ◌≤◌, ◌++◌, OnErr};
 ghost use Rattle.std.specs.List.{flat_map};
 ghost use Rattle.io_edge.specs.Outside.{HasRisen};
 ghost use Rattle.io_edge.specs.Streamed.{Streams};
 ghost use Rattle.run_report.specs.Lines.{ending_text, line_text, ticket_line};
 ghost use Rattle.run_report.specs.Said.{line_of_machine, line_of_ticket, piece_text};
+ghost use Rattle.run_report.specs.Summary.{IsWithin, with_line};
 
 use crate::Name;
+use crate::summary::Summary;
 use forest_model::Ending;
 use io_edge::{Sink, SinkBuffer, WriteFault};
 use std::marker::Model;
@@ -52,10 +54,10 @@ impl MachineLine {
 
 /// What a report says of a killed ticket.
 #[derive(Drop)]
-struct TicketLine {
-    name: Name,
-    ticket: u32,
-    killed: u32,
+pub(crate) struct TicketLine {
+    pub(crate) name: Name,
+    pub(crate) ticket: u32,
+    pub(crate) killed: u32,
 }
 
 impl TicketLine {
@@ -124,6 +126,18 @@ impl Line {
         }
     }
 
+    /// Adds the line to what others come to.
+    pub(crate) fn add_to(&self, summary: &mut Summary)
+        requires { IsWithin (2 ^ 128 - 2 ^ 64) summary.old }
+        ensures added { summary.new ≡ with_line self.now summary.old }
+        ensures within { (most : ℕ) → IsWithin most summary.old → IsWithin (most + 2 ^ 64) summary.new }
+    {
+        match &self.said {
+            Said::Machine(line) => summary.add_machine(line),
+            Said::Ticket(line) => summary.add_ticket(line),
+        }
+    }
+
     /// Puts the line out, with the output of a machine behind it.
     pub(crate) fn put<K: Sink>(
         &self,
@@ -143,11 +157,12 @@ impl Line {
 
 /// A piece of a line.
 #[derive(Clone, Copy)]
-enum Piece<'a> {
+pub(crate) enum Piece<'a> {
     Text(&'a [u8]),
     Named(&'a Name),
     Ended(Ending),
     Number(u64),
+    Sum(u128),
 }
 
 impl Piece<'_> {
@@ -162,12 +177,13 @@ impl Piece<'_> {
             Piece::Named(name) => name.put(buffer, sink),
             Piece::Ended(ending) => put_ending(*ending, buffer, sink),
             Piece::Number(number) => buffer.put_number(sink, *number),
+            Piece::Sum(sum) => buffer.put(sink, itoa::Buffer::new().format(*sum).as_bytes()),
         }
     }
 }
 
 /// Puts out pieces, one after another.
-fn put_pieces<K: Sink>(
+pub(crate) fn put_pieces<K: Sink>(
     pieces: &[Piece<'_>],
     buffer: &mut SinkBuffer,
     sink: &mut K,

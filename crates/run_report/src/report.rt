@@ -5,8 +5,10 @@ ghost use Rattle.io_edge.specs.Outside.{HasRisen, appended, IsPrefixGone};
 ghost use Rattle.io_edge.specs.Streamed.{Streams};
 ghost use Rattle.run_report.specs.Lines.{text_of};
 ghost use Rattle.run_report.specs.Report.{lines_of, report_of};
+ghost use Rattle.run_report.specs.Summary.{summed};
 
 use crate::line::MachineLine;
+use crate::summary::Summary;
 use crate::{Line, Name};
 use forest_model::Ending;
 use io_edge::{Sink, SinkBuffer, WriteFault};
@@ -64,6 +66,16 @@ impl Outcome {
         ensures { result ≡ length (lines_of self.now) }
     {
         self.log.len() + 1
+    }
+
+    /// What all lines come to.
+    #[tactic(auto, unfolding(crate::specs::Report::lines_of))]
+    pub(crate) fn summary(&self) -> Summary
+        ensures { result ≡ summed (lines_of self.now) }
+    {
+        let mut summary = Summary::of_lines(&self.log);
+        summary.add_machine(&self.own);
+        summary
     }
 
     /// Moves all lines, its own first, to the end of another log, which has room for them.

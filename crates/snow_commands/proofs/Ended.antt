@@ -1,60 +1,96 @@
--- A forest whose machines run one after another, up to its end.
-use Rattle.std.proofs.Common.{◌≡◌, ℕ, [], refl, sym, ap, ◌∙◌}
-use Rattle.forest_tree.specs.Tree.{Tree, Path}
-use Rattle.forest_tree.specs.Sound.{IsSound}
-use Rattle.forest_history.specs.Places.{Spot, bare}
-use Rattle.forest_history.specs.World.{World, IsWhole}
-use Rattle.forest_history.specs.Rows.{How, took, spent, does}
-use Rattle.forest_history.proofs.Ends.{does-sound, does-leaves}
-use Rattle.forest_history.proofs.Whole.{turn-home}
+-- What is told of a family whose root has ended.
+use Rattle.std.proofs.Common.{◌≡◌, true, false, [], Option, Some, None, MatchOption, refl, sym, ap, ◌∙◌}
+use Rattle.forest_tree.specs.Tree.{Tree, node}
+use Rattle.forest_tree.specs.Settle.{alone, has_ended}
+use Rattle.forest_tree.specs.Projection.{map_tree}
+use Rattle.forest_history.specs.Places.{Spot, bare, spots}
+use Rattle.forest_history.specs.Seen.{spot_seen}
+use Rattle.forest_history.specs.World as history
+use Rattle.forest_history.specs.World.{world_of}
+use Rattle.forest_history.specs.Histories.{History}
+use Rattle.forest_history.proofs.Ends.{over-ends}
+use Rattle.forest_history.proofs.Histories.{replay-leaves, replay-sound}
 use Rattle.forest_model.specs.Machine.{Machine}
-use Rattle.forest_model.specs.Forest.{finish}
+use Rattle.forest_model.specs.Forest.{finish, machines}
 use Rattle.forest_model.specs.Paged.{Paged, paged_machines}
-use Rattle.forest_model.proofs.Paged.{paged-finish, paged-rules}
-use Rattle.run_report.specs.Lines.{Told, TellsSame, lines, text_of}
-use Rattle.run_report.specs.Report.{Ended, lines_of, report, report_of, told}
+use Rattle.forest_model.proofs.Rules.{machines-rules}
+use Rattle.run_report.specs.Lines.{Told, TellsSame, lines}
+use Rattle.run_report.specs.Report.{Ended as Outcome, lines_of, told}
 use Rattle.run_report.proofs.Seen.{lines-map}
 use Rattle.world_core.specs.Shows.{forest, told_spot}
-use Rattle.snow_commands.specs.Turned.{machines_of}
+use Rattle.world_core.specs.declared.reason.Reason.{Reason}
+use Rattle.world_core.specs.declared.world.World.{World}
+use Rattle.world_core.specs.World.{Forest}
+use Rattle.fork_board.specs.declared.note.Opening.{Opening}
+use Rattle.fork_board.specs.Follows.{Follows, family_of, opening_record, record_at}
+use Rattle.fork_board.specs.Passes.{Closes, PassValue}
+use Rattle.host_workers.specs.Finishes.{is_over}
+use Rattle.host_workers.proofs.Over.{over-later}
 
--- the forest after a turn of the machine of that name
-abbrev pub turned : {R : Type 0} → How → Path → ℕ → World Paged R → World Paged R
-turned how name k f = does paged_machines (spent how name k) (does paged_machines (took name) f)
+-- a machine tells the same at its place, and whatever is known of its pages
+abbrev told_place : Told (Spot Machine)
+told_place = record { ending = λ s. told.ending s.machine; steps = λ s. told.steps s.machine; output = λ s. told.output s.machine }
 
-pub turned-whole : {R : Type 0} (how : How) (name : Path) (k : ℕ) (f : World Paged R) → IsWhole paged_machines f.tree
-    → IsWhole paged_machines (turned how name k f).tree
-turned-whole how name k f whole = turn-home paged_machines how name k f whole
+tells-seen : TellsSame told_spot told_place (spot_seen (λ (p : Paged). p.machine))
+tells-seen = record { ending = λ s. refl; steps = λ s. refl; output = λ s. refl }
 
-pub turned-end : {R : Type 0} (how : How) (name : Path) (k : ℕ) (f : World Paged R) → IsSound forest f.tree
-    → finish (machines_of (bare (turned how name k f).tree)) ≡ finish (machines_of (bare f.tree))
-turned-end how name k f sound =
-    paged-finish (bare (turned how name k f).tree)
-    ∙ ap machines_of
-    (does-leaves paged_machines paged-rules (spent how name k) (does paged_machines (took name) f) (does-sound paged_machines paged-rules (took name) f sound)
-    ∙ does-leaves paged_machines paged-rules (took name) f sound)
-    ∙ sym (paged-finish (bare f.tree))
+tells-bare : TellsSame told_place told (λ s. s.machine)
+tells-bare = record { ending = λ s. refl; steps = λ s. refl; output = λ s. refl }
 
-pub turned-halted : {R : Type 0} (how : How) (name : Path) (k : ℕ) (f : World Paged R) → (turned how name k f).halted ≡ f.halted
-unfolding does
-turned-halted how name k f = refl
+family-lines : (f : Forest) → lines told_spot [] f.tree ≡ lines told [] (bare (family_of f).tree)
+family-lines f =
+    sym (lines-map told_spot told_place (spot_seen (λ (p : Paged). p.machine)) tells-seen [] f.tree)
+    ∙ sym (lines-map told_place told (λ s. s.machine) tells-bare [] (family_of f).tree)
 
--- a machine tells the same at its place, and with what is known of its pages
-abbrev told_paged : Told Paged
-told_paged = record { ending = λ p. told.ending p.machine; steps = λ p. told.steps p.machine; output = λ p. told.output p.machine }
+-- so does its root end
+ended-seen : (t : Tree (Spot Paged)) → has_ended (spots machines) (map_tree (spot_seen (λ (p : Paged). p.machine)) t) ≡ has_ended forest t
+unfolding map_tree machines paged_machines spots
+ended-seen (node s broods log) = refl
 
-tells-same : TellsSame told_spot told_paged (λ s. s.machine)
-tells-same = record { ending = λ s. refl; steps = λ s. refl; output = λ s. refl }
+first-bare : (m : Machine) → bare (world_of machines {R = Reason} m).tree ≡ alone machines m
+unfolding map_tree
+first-bare m = refl
 
-tells-paged : TellsSame told_paged told (λ p. p.machine)
-tells-paged = record { ending = λ p. refl; steps = λ p. refl; output = λ p. refl }
+-- a root that has ended after what a pass had seen has ended after the whole history of the board
+pub closed-over : (pass : PassValue) (w : World) (h : Closes pass w) → is_over pass ≡ true
+    → has_ended (spots machines) (record_at pass.board.opening h.log).world.tree ≡ true
+closed-over pass w h over = over-later pass (record pass { seen = h.log }) h.between refl h.later h.follows.legal over
 
--- the lines of a forest are the report of its machines
-pub family-report : (t : Tree (Spot Paged)) (machines : Tree Machine) (outcome : Ended) → machines_of (bare t) ≡ machines
-    → lines_of outcome ≡ lines told_spot [] t → report_of outcome ≡ report machines
-unfolding report
-family-report t machines outcome same shown =
-    ap text_of
-    (shown
-    ∙ sym (lines-map told_spot told_paged (λ s. s.machine) tells-same [] t)
-    ∙ sym (lines-map told_paged told (λ p. p.machine) tells-paged [] (bare t)))
-    ∙ ap report same
+-- ---- after a history at whose end the root has ended
+
+module _ (opening : Opening) (log : History Reason) (w : World) (h : Follows opening log w)
+    (over : has_ended (spots machines) (record_at opening log).world.tree ≡ true) where
+  -- the family is at its end
+  at-end : bare (record_at opening log).world.tree ≡ finish (alone machines opening.first.value.machine)
+  at-end =
+      let first = opening_record opening in
+      sym (over-ends machines (record_at opening log).world.tree (replay-sound machines machines-rules log first h.start) over)
+      ∙ replay-leaves machines machines-rules log first h.start
+      ∙ ap finish (first-bare opening.first.value.machine)
+
+  root-ended : has_ended forest h.world.forest.tree ≡ true
+  root-ended =
+      sym (ended-seen h.world.forest.tree)
+      ∙ ap (λ (v : history.World Machine Reason). has_ended (spots machines) v.tree) h.world.family ∙ over
+
+  abbrev Finished : Option Outcome → Type 0
+  Finished r = MatchOption r (has_ended forest h.world.forest.tree ≡ false)
+      (λ o. (has_ended forest h.world.forest.tree ≡ true) × (lines_of o ≡ lines told_spot [] h.world.forest.tree))
+
+  pub finished-not : (r : Option Outcome) → Finished r → r ≡ None → ⊥
+  finished-not None none e = let no : false ≡ true = sym none ∙ root-ended in cc
+  finished-not (Some outcome) shown e = cc
+
+  some-same : (a b : Outcome) → Some a ≡ Some b → a ≡ b
+  some-same a b e = cc
+
+  finished-lines : (r : Option Outcome) (outcome : Outcome) → Finished r → r ≡ Some outcome → lines_of outcome ≡ lines told_spot [] h.world.forest.tree
+  finished-lines None outcome shown e = cc
+  finished-lines (Some o) outcome shown e = sym (ap lines_of (some-same o outcome e)) ∙ shown.1
+
+  pub ended-lines : (r : Option Outcome) (outcome : Outcome) → Finished r → r ≡ Some outcome
+      → lines_of outcome ≡ lines told [] (finish (alone machines opening.first.value.machine))
+  ended-lines r outcome shown e =
+      finished-lines r outcome shown e ∙ family-lines h.world.forest
+      ∙ ap (lines told [])
+      (ap (λ (v : history.World Machine Reason). bare v.tree) h.world.family ∙ at-end)

@@ -1,3 +1,5 @@
+mod Made
 mod TextLemmas
+mod Booted
 mod Ended
-mod Turning
+mod First

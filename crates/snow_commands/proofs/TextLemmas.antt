@@ -1,21 +1,21 @@
 -- What the parts of a command tell of the whole.
-use Rattle.std.proofs.Common.{◌≡◌, ℕ, ◌<◌, ◌≤◌, inl, Bool, true, false, cond, List, [], ◌∷◌, length, set, Option, Some, None, Result, Ok, Err, subst, arith}
+use Rattle.std.proofs.Common.{◌≡◌, ℕ, ◌+◌, ◌-◌, ◌≤◌, inl, inr, Bool, true, false, cond, List, [], ◌∷◌, ◌++◌, length, take, Option, Some, None, Result, Ok, Err, sym, ap₂, ◌∙◌, subst, arith}
+use Rattle.std.proofs.Math.Seq.{take-append-add}
 use Rattle.std.specs.Option.{option_map}
 use Rattle.std.specs.Result.{IsOkAnd}
 use Rattle.elf_load.specs.Image.{Image}
 use Rattle.elf_load.specs.Elf.{loaded}
 use Rattle.drive_script.specs.Script.{Line, script}
 use Rattle.drive_script.specs.declared.script.TheConstants.{MAX_SCRIPT}
-use Rattle.command_line.specs.Words.{GuestValues, WireValues, run}
-use Rattle.wire_fates.specs.declared.fate.TheConstants.{LONGEST_STREAK}
+use Rattle.command_line.specs.Words.{GuestValues}
 use Rattle.guest_files.specs.declared.stop.TheConstants.{INPUT_LOAD, SCRIPT_LOAD}
 use Rattle.guest_files.specs.declared.stop.Stop.{Stop}
 use Rattle.guest_files.specs.declared.stop.Stop.TheVariants.{ReadFault, ImageRefused, DataRefused, ScriptRefused, WriteFault, Wire, Memory}
 use Rattle.guest_files.specs.Reads.{Files, Guest, Refusal, disk_not_sectors, script_too_long, guest_read}
-use Rattle.guest_files.specs.Parts.{IsGuestLoad, last_load, Stops, Gives, Makes}
-use Rattle.snow_commands.specs.Lost.{IsOneLost}
+use Rattle.guest_files.specs.Parts.{last_load, Stops, Gives, Makes}
+use Rattle.host_workers.specs.Lost.{IsOneLost}
 use Rattle.guest_files.proofs.PartLemmas.{Gave, after, continues, file-load, given, makes, stops}
-use Rattle.snow_commands.specs.Writes.{GivesOver, IsTold, MakesOver, Writes}
+use Rattle.snow_commands.specs.Writes.{GivesOver, IsTold, MakesOver}
 use Rattle.snow_commands.specs.Text.{known_family, script_read, image_from, guest_image, run_with, run_text, lines_of, told_by, drive_with, drive_from, drive_text}
 
 -- ---- the last load before what comes of the files
@@ -98,23 +98,18 @@ over-gives lost values files P guest shows (Err WriteFault) gave h = absurd h
 over-gives lost values files P guest shows (Err Wire) gave h = (h.0, told-on values files guest gave h.1)
 over-gives lost values files P guest shows (Err Memory) gave h = tt
 
--- how a run that stopped has ended
-pub run-writes : {V : Type 0} (lost other : Type 0) (values : GuestValues) (over : WireValues) (files : Option Files) (fault : ℕ → Type 0) (write_fault : Type 0)
-    (old new : Option (List ℕ)) (shows : V → List ℕ → Type 0) (stop : Stop) → (lost → other)
-    → GivesOver lost INPUT_LOAD (λ load. IsGuestLoad values load × fault load) (option_map (run_text values) files) shows (Err stop)
-    → Writes (run values over) files fault write_fault other old new (Err stop)
-run-writes lost other values over files fault write_fault old new shows (ReadFault load) to h = h
-run-writes lost other values over files fault write_fault old new shows (ImageRefused number) to h = h
-run-writes lost other values over files fault write_fault old new shows (DataRefused number) to h = h
-run-writes lost other values over files fault write_fault old new shows (ScriptRefused line kind) to h = h
-run-writes lost other values over files fault write_fault old new shows WriteFault to h = absurd h
-run-writes lost other values over files fault write_fault old new shows Wire to h = (to h.0, h.1)
-run-writes lost other values over files fault write_fault old new shows Memory to h = h
+-- a wire of the first of them
+lost-first : {W : Type 0} (streak : W → ℕ) (part rest : List W) → IsOneLost streak part → IsOneLost streak (part ++ rest)
+lost-first streak [] rest lost = absurd lost
+lost-first streak (wire ∷ part) rest (inl lost) = inl lost
+lost-first streak (wire ∷ part) rest (inr later) = inr (lost-first streak part rest later)
 
-pub first-lost : {W : Type 0} (streak : W → ℕ) (wires : List W) (wire : W) → 0 < length wires → streak wire ≡ LONGEST_STREAK
-    → IsOneLost streak (set wires 0 wire)
-first-lost streak [] wire some lost = absurd (omega (arith, some))
-first-lost streak (w ∷ wires) wire some lost = inl lost
+pub part-lost : {W : Type 0} (streak : W → ℕ) (part rest all : List W) (n : ℕ) → all ≡ part ++ rest → length part ≤ n → IsOneLost streak part
+    → IsOneLost streak (take n all)
+part-lost streak part rest all n is few lost =
+    let count : n ≡ length part + (n - length part) = omega (arith, few) in
+    subst (IsOneLost streak) (sym (ap₂ take count is ∙ take-append-add part rest (n - length part)))
+    (lost-first streak part (take (n - length part) rest) lost)
 
 -- ---- `drive`
 

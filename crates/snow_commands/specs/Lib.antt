@@ -1,5 +1,4 @@
 pub mod Text
 pub mod Writes
 pub mod Status
-pub mod Turned
 pub mod Lost

@@ -1,17 +1,13 @@
--- Wires that are lost: they have given no reply for the longest time that is counted.
-use Rattle.std.specs.Prelude.{◌≡◌, ◌⊎◌, ℕ, ◌<◌, List, [], ◌∷◌, Option, Some, None}
-use Rattle.command_line.specs.Words.{Command, run, drive}
-use Rattle.wire_fates.specs.declared.fate.TheConstants.{LONGEST_STREAK}
+-- Which commands may lose a wire.
+use Rattle.std.specs.Prelude.{ℕ, ◌<◌, List, Option, Some, None}
+use Rattle.command_line.specs.Words.{Command, run, drive, generated}
+use Rattle.host_workers.specs.Lost.{IsOneLost}
 
--- one of these wires is lost
-abbrev pub IsOneLost : {W : Type 0} → (W → ℕ) → List W → Type 0
-IsOneLost streak [] = ⊥
-IsOneLost streak (wire ∷ wires) = (streak wire ≡ LONGEST_STREAK) ⊎ IsOneLost streak wires
-
--- one of the wires of a command is, which takes one only to run a family that may fork
+-- one of the wires of a command is lost, which takes some only to run a family that may fork
 abbrev pub IsLostIn : {W : Type 0} → Command → (W → ℕ) → List W → Type 0
-IsLostIn (run values over) streak wires = (0 < values.clones) × IsOneLost streak wires
+IsLostIn (run values how) streak wires = (0 < values.clones) × IsOneLost streak wires
 IsLostIn (drive values script) streak wires = ⊥
+IsLostIn (generated values) streak wires = IsOneLost streak wires
 
 -- the same, of what the words mean
 abbrev pub IsLost : {W : Type 0} → Option Command → (W → ℕ) → List W → Type 0

@@ -2,7 +2,7 @@
 use Rattle.std.specs.Prelude.{◌≡◌, ℕ, ◌≤◌, ◌⊎◌, List, Option, Some, None, Result, Ok, Err, IfSome, IsOkAnd, IsErrAnd}
 use Rattle.io_edge.specs.Outside.{appended, IsPrefixGone}
 use Rattle.io_edge.specs.Asked.{Asked}
-use Rattle.command_line.specs.Words.{Command, meant}
+use Rattle.command_line.specs.Words.{Command, generated, meant}
 use Rattle.guest_files.specs.Reads.{Files, Refusal, no_meaning, no_file, image_too_long, image_refused, disk_too_long, disk_not_sectors, input_too_long, script_too_long, script_refused}
 use Rattle.snow_commands.specs.Text.{text}
 use Rattle.guest_files.specs.Parts.{IsImageRefusal, IsDataRefusal, IsScriptRefusal, IsFaultOf, IsLoadOf, final_load, last_load, loads_of}
@@ -65,6 +65,11 @@ CallsFor command (Err refusal) s read_fault write_fault lost =
 abbrev pub Completes : Status → Option Files → List (List ℕ) → Type 0 → Type 0 → Type 0 → Type 0
 Completes s files words read_fault write_fault lost =
     IfSome files (λ told. CallsFor (meant words) (text words told) s read_fault write_fault lost)
+
+-- `self` is asked for: a guest that no file holds, and so none is asked of the shelf and none is refused
+abbrev pub IsFileless : Option Command → Status → Type 0 → Type 0
+IsFileless (Some (generated values)) s same = same × ((s.code ≡ 0) ⊎ ((s.code ≡ 5) ⊎ ((s.code ≡ 6) ⊎ (s.code ≡ 7))))
+IsFileless command s same = Unit {0}
 
 -- the codes, each with its numbers: codes 1, 3 and 4 have one, and code 8 has two
 abbrev pub IsStatus : Status → Type 0

@@ -1,6 +1,7 @@
 -- The text that a command line writes: the report of the family of the machine that is booted from the image, with its
--- disk and its input, run to its end; or what a script tells of that family.
-use Rattle.std.specs.Prelude.{ℕ, ◌%◌, ◌==◌, if◌then◌else◌, List, length, Option, Some, None, Result, Ok, Err}
+-- disk and its input, run to its end; what a script tells of that family; or what the report of a generated guest comes to.
+use Rattle.std.specs.Prelude.{◌≡◌, ℕ, ◌*◌, ◌%◌, ◌==◌, if◌then◌else◌, List, [], length, Option, Some, None, Result, Ok, Err}
+use Rattle.std.specs.declared.snapshot.Snapshot.{Snapshot}
 use Rattle.cow_disk.specs.declared.disk.TheConstants.{SECTOR_SIZE}
 use Rattle.elf_load.specs.Image.{Image}
 use Rattle.image_depot.specs.Key.{Shelves}
@@ -10,14 +11,21 @@ use Rattle.forest_tree.specs.Tree.{Tree}
 use Rattle.forest_tree.specs.Settle.{alone}
 use Rattle.forest_model.specs.declared.Options.{Options}
 use Rattle.forest_model.specs.Forest.{booted, finish}
-use Rattle.forest_model.specs.Machine.{Machine}
-use Rattle.forest_model.specs.Paged.{Paged, paged_machines}
-use Rattle.run_report.specs.Report.{report}
-use Rattle.snow_commands.specs.Turned.{HasFamily, booted_paged}
+use Rattle.forest_history.specs.World.{world_of}
+use Rattle.forest_model.specs.Machine.{Machine, boot}
+use Rattle.forest_model.specs.Paged.{Paged, pages_at_boot, paged_machines}
+use Rattle.vm_cell.specs.Keyed.{KeyedMachine, paged}
+use Rattle.world_core.specs.World.{StandsFor}
+use Rattle.run_report.specs.Lines.{lines}
+use Rattle.run_report.specs.Report.{Ended as Outcome, lines_of as outcome_lines, report, told}
+use Rattle.run_report.specs.Summary.{summary}
+use Rattle.flat_memory.specs.Flat.{zeros}
+use Rattle.guest_gen.specs.Guest.{guest as guest_image_of}
+use Rattle.snow_commands.specs.declared.generated.TheConstants.{SECTORS}
 use Rattle.drive_script.specs.Script.{Line, script}
 use Rattle.drive_script.specs.Told.{told_text}
 use Rattle.drive_script.specs.declared.script.TheConstants.{MAX_SCRIPT}
-use Rattle.command_line.specs.Words.{Command, GuestValues, run, drive, meant}
+use Rattle.command_line.specs.Words.{Command, GeneratedValues, GuestValues, run, drive, generated, generated_guest, meant}
 use Rattle.guest_files.specs.declared.stop.TheConstants.{SCRIPT_LOAD}
 use Rattle.guest_files.specs.Reads.{Refusal, no_meaning, image_refused, disk_not_sectors, script_too_long, script_refused, and_then, Files, file_read, Guest, guest_read}
 
@@ -32,9 +40,16 @@ options_of values = record { limit = values.limit; allot = values.clones }
 abbrev pub family_of : GuestValues → Guest → Image → Tree Machine
 family_of values guest image = booted image guest.disk guest.input (options_of values)
 
--- the same, with what is known of the pages
+-- the machine that is booted, with what is known of its pages
+abbrev pub booted_paged : Image → List ℕ → List ℕ → Options → Paged
+booted_paged image disk input options = record { machine = boot image disk input options; pages = pages_at_boot image }
+
+abbrev pub known_guest : GuestValues → Guest → Image → Paged
+known_guest values guest image = booted_paged image guest.disk guest.input (options_of values)
+
+-- the family, with what is known of the pages
 abbrev pub known_family : GuestValues → Guest → Image → Tree Paged
-known_family values guest image = alone paged_machines (booted_paged image guest.disk guest.input (options_of values))
+known_family values guest image = alone paged_machines (known_guest values guest image)
 
 -- the image that it is booted from, with a disk of whole sectors
 abbrev pub image_beside : Guest → Image → Result Image Refusal
@@ -48,15 +63,28 @@ image_from guest (Ok image) = image_beside guest image
 unfoldable pub guest_image : GuestValues → Guest → Result Image Refusal
 guest_image values guest = image_from guest (loaded guest.image values.pages)
 
--- the world has the family that is booted from this image, and none is on lease
-abbrev pub IsBooted : Shelves → GuestValues → Guest → World → Image → Type 0
-IsBooted depot values guest w image = HasFamily depot w (known_family values guest image)
+-- the world is of this machine alone, as it was made, with the machine as it was then
+pub record IsOfMachine (depot : Shelves) (p : Paged) (made : World × Snapshot KeyedMachine) : Type 0 where
+  pub stands : StandsFor depot made.0 (world_of paged_machines (paged made.1.value))
+  pub is : paged made.1.value ≡ p
+
+-- the world is of the machine that is booted from this image
+abbrev pub IsBooted : Shelves → GuestValues → Guest → World × Snapshot KeyedMachine → Image → Type 0
+IsBooted depot values guest made image = IsOfMachine depot (known_guest values guest image) made
+
+-- an outcome has the lines of the family of the machine that is booted from this image, run to its end
+abbrev pub HasLines : GuestValues → Guest → Outcome → Image → Type 0
+HasLines values guest outcome image = outcome_lines outcome ≡ lines told [] (finish (family_of values guest image))
 
 -- ---- the texts
 
--- `run`: the report of the family, run to its end
+-- what is told of the family, run to its end
+abbrev pub family_text : (Tree Machine → List ℕ) → GuestValues → Guest → Result (List ℕ) Refusal
+family_text tell values guest = and_then (λ image. Ok (tell (finish (family_of values guest image)))) (guest_image values guest)
+
+-- `run`: the report
 abbrev pub run_with : GuestValues → Guest → Result (List ℕ) Refusal
-run_with values guest = and_then (λ image. Ok (report (finish (family_of values guest image)))) (guest_image values guest)
+run_with values guest = family_text report values guest
 
 unfoldable pub run_text : GuestValues → Files → Result (List ℕ) Refusal
 run_text values files = and_then (run_with values) (guest_read values files)
@@ -78,10 +106,18 @@ drive_from values name files guest = and_then (drive_with values guest) (script_
 unfoldable pub drive_text : GuestValues → List ℕ → Files → Result (List ℕ) Refusal
 drive_text values name files = and_then (drive_from values name files) (guest_read values files)
 
+-- `self`: what the report of the guest of a seed comes to. The guest is generated, and so are the zeros of its disk
+unfoldable pub generated_files : ℕ → Guest
+generated_files seed = record { image = guest_image_of seed; disk = zeros (SECTOR_SIZE * SECTORS); input = [] }
+
+unfoldable pub generated_text : GeneratedValues → Result (List ℕ) Refusal
+generated_text values = family_text (summary values.seed) generated_guest (generated_files values.seed)
+
 abbrev pub command_text : Option Command → Files → Result (List ℕ) Refusal
 command_text None files = Err no_meaning
-command_text (Some (run values over)) files = run_text values files
+command_text (Some (run values how)) files = run_text values files
 command_text (Some (drive values name)) files = drive_text values name files
+command_text (Some (generated values)) files = generated_text values
 
 -- the text that these words write over these files
 abbrev pub text : List (List ℕ) → Files → Result (List ℕ) Refusal

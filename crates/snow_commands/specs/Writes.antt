@@ -1,9 +1,9 @@
 -- How a command ends.
 use Rattle.std.specs.Prelude.{◌≡◌, ℕ, List, Option, Some, Result, Ok, Err, IfSome, IsOkAnd, option_map}
 use Rattle.io_edge.specs.Outside.{appended, IsPrefixGone}
-use Rattle.command_line.specs.Words.{Command}
+use Rattle.command_line.specs.Words.{Command, generated}
 use Rattle.guest_files.specs.declared.stop.Stop.{Stop}
-use Rattle.guest_files.specs.declared.stop.Stop.TheVariants.{WriteFault, Wire}
+use Rattle.guest_files.specs.declared.stop.Stop.TheVariants.{WriteFault, Wire, Memory}
 use Rattle.guest_files.specs.Reads.{Files, Refusal}
 use Rattle.guest_files.specs.Parts.{IsLoadOf, Stops, final_load}
 use Rattle.snow_commands.specs.Text.{command_text}
@@ -32,6 +32,28 @@ Writes command files read_fault write_fault lost old new (Err WriteFault) =
 Writes command files read_fault write_fault lost old new (Err Wire) = lost × IsTold (option_map (command_text (Some command)) files)
 Writes command files read_fault write_fault lost old new (Err stop) =
     Stops (final_load command) (λ load. IsLoadOf command load × read_fault load) (option_map (command_text (Some command)) files) stop
+
+-- a command that asks the shelf for nothing has put its text out, or a prefix of it up to a fault of the sink, or a wire
+-- was lost or memory wanting. It stops for no other reason
+abbrev pub WritesFileless : Result (List ℕ) Refusal → Type 0 → Type 0 → Option (List ℕ) → Option (List ℕ) → Result Unit Stop → Type 0
+WritesFileless text write_fault lost old new (Ok done) = IsOkAnd text (λ bytes. new ≡ appended old bytes)
+WritesFileless text write_fault lost old new (Err WriteFault) = write_fault × IsOkAnd text (IsPrefixGone old new)
+WritesFileless text write_fault lost old new (Err Wire) = lost × IsOkAnd text (λ bytes. Unit {0})
+WritesFileless text write_fault lost old new (Err Memory) = Unit {0}
+WritesFileless text write_fault lost old new (Err stop) = ⊥
+
+-- no file stopped a command
+abbrev pub IsUnrefused : Result Unit Stop → Type 0
+IsUnrefused (Ok done) = Unit {0}
+IsUnrefused (Err WriteFault) = Unit {0}
+IsUnrefused (Err Wire) = Unit {0}
+IsUnrefused (Err Memory) = Unit {0}
+IsUnrefused (Err stop) = ⊥
+
+-- `self`
+abbrev pub IsGenerated : Command → Type 0
+IsGenerated (generated values) = Unit {0}
+IsGenerated command = ⊥
 
 -- nothing was put out
 abbrev pub IsSilent : Result Unit Stop → Type 0 → Type 0

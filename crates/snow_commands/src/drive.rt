@@ -100,7 +100,7 @@ fn drive_booted<R: AllocGlobal + Wait>(
     requires { length text.now ≤ MAX_SCRIPT }
     ensures { Makes (drive_with guest.now files.now text.now) (λ text told. text.items ≡ told) result }
 {
-    let mut world = boot(rt.alloc(), guest, files, depot)?;
+    let (mut world, _) = boot(rt.alloc(), guest, files, depot)?;
     drive_world(rt, text, &mut world, depot)
 }
 

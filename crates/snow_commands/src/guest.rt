@@ -1,12 +1,9 @@
 //! The machine of a guest whose files are read is booted.
 
 ghost use Rattle.std.specs.Prelude.{◌≡◌, ◌≤◌, [], length, IfOk};
-ghost use Rattle.forest_model.specs.Paged.{paged_machines};
-ghost use Rattle.forest_tree.specs.Settle.{alone};
 ghost use Rattle.guest_files.specs.Parts.{Makes};
-ghost use Rattle.snow_commands.specs.Text.{IsBooted, guest_image, image_beside};
+ghost use Rattle.snow_commands.specs.Text.{IsBooted, IsOfMachine, booted_paged, guest_image, image_beside};
 ghost use Rattle.world_core.specs.Told.{told_of};
-ghost use Rattle.snow_commands.specs.Turned.{HasFamily, booted_paged};
 
 use command_line::{GuestWords, LEAST_LIMIT, MOST_CLONES, MOST_LIMIT};
 use console_port::MAX_INPUT;
@@ -16,19 +13,21 @@ use forest_model::Options;
 use guest_files::{DISK_NOT_SECTORS, GuestFiles, Stop};
 use image_depot::Depot;
 use std::alloc::{AllocError, Global};
+use std::snapshot::Snapshot;
 use vm_cell::Vm;
 use world_core::World;
 
-/// Boots the machine of a guest. The images of its family will be in the depot.
+/// Boots the machine of a guest, and gives a world of it, and the machine as it was then. The images of its family will
+/// be in the depot.
 #[tactic(auto, unfolding(crate::specs::Text::guest_image))]
 pub fn boot(
     alloc: Global,
     guest: &GuestWords<'_>,
     files: &GuestFiles,
     depot: &Depot,
-) -> Result<World, Stop>
+) -> Result<(World, Snapshot<Vm>), Stop>
     ensures makes { Makes (guest_image guest.now files.now) (IsBooted depot.now guest.now files.now) result }
-    ensures told { IfOk result (λ world. told_of world ≡ []) }
+    ensures told { IfOk result (λ made. told_of made.0 ≡ []) }
 {
     match load_elf(alloc, files.image(), guest.pages()) {
         Ok(image) => boot_image(alloc, guest, files, &image, depot),
@@ -44,9 +43,9 @@ fn boot_image(
     files: &GuestFiles,
     image: &Loaded,
     depot: &Depot,
-) -> Result<World, Stop>
+) -> Result<(World, Snapshot<Vm>), Stop>
     ensures makes { Makes (image_beside files.now image.now) (IsBooted depot.now guest.now files.now) result }
-    ensures told { IfOk result (λ world. told_of world ≡ []) }
+    ensures told { IfOk result (λ made. told_of made.0 ≡ []) }
 {
     let disk = match Disk::from_bytes(alloc, files.disk()) {
         Ok(disk) => disk,
@@ -58,8 +57,8 @@ fn boot_image(
         limit: guest.limit(),
         allot: guest.clones(),
     };
-    let world = boot_machine(alloc, image, disk, files.input(), options, depot)?;
-    Ok(world)
+    let made = boot_machine(alloc, image, disk, files.input(), options, depot)?;
+    Ok(made)
 }
 
 /// Boots a machine, which is then the only one of a world.
@@ -70,14 +69,16 @@ fn boot_machine(
     input: &[u8],
     options: Options,
     depot: &Depot,
-) -> Result<World, AllocError>
+) -> Result<(World, Snapshot<Vm>), AllocError>
     requires input { length input.now ≤ MAX_INPUT }
     requires least { LEAST_LIMIT ≤ options.limit }
     requires most { options.limit ≤ MOST_LIMIT }
     requires clones { options.allot ≤ MOST_CLONES }
-    ensures family { IfOk result (λ world. HasFamily depot.now world (alone paged_machines (booted_paged image.now disk input.now options))) }
-    ensures told { IfOk result (λ world. told_of world ≡ []) }
+    ensures booted { IfOk result (IsOfMachine depot.now (booted_paged image.now disk input.now options)) }
+    ensures told { IfOk result (λ made. told_of made.0 ≡ []) }
 {
     let vm = Vm::boot(alloc, image, disk, input, options)?;
-    World::new(alloc, vm, depot)
+    let first = Snapshot::of(&vm);
+    let world = World::new(alloc, vm, depot)?;
+    Ok((world, first))
 }

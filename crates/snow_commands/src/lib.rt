@@ -3,9 +3,9 @@
 
 mod drive;
 mod family;
+mod generated;
 mod guest;
 mod program;
-mod replies;
 mod run;
 
 pub use program::{MOST_WIRES, Status, snow};

@@ -6,16 +6,19 @@ ghost use Rattle.command_line.specs.Commands.{meaning};
 ghost use Rattle.command_line.specs.Words.{meant, texts};
 ghost use Rattle.guest_files.specs.Parts.{IsDataRefusal, IsFaultOf, IsImageRefusal, IsScriptRefusal, loads_of};
 ghost use Rattle.snow_commands.specs.Lost.{IsLost, IsLostIn};
-ghost use Rattle.snow_commands.specs.Writes.{IsSilent, Writes};
-ghost use Rattle.snow_commands.specs.Status.{IsWritten, IsPrefixOut, IsRefused, IsFaultAsked, IsLoadAsked, IsReached, Completes, IsStatus};
+ghost use Rattle.snow_commands.specs.Writes.{IsGenerated, IsSilent, IsUnrefused, Writes};
+ghost use Rattle.snow_commands.specs.Status.{IsFileless, IsWritten, IsPrefixOut, IsRefused, IsFaultAsked, IsLoadAsked, IsReached, Completes, IsStatus};
 
 use crate::drive::drive_and_write;
+use crate::generated::run_and_sum_up;
 use crate::run::run_and_report;
 use command_line::{Command, command_asked};
 use guest_files::Stop;
+use host_workers::Gate;
 use io_edge::{Shelf, Sink};
 use std::alloc::AllocError;
 use std::sync::Wait;
+use std::thread::Threads;
 use wire_fates::Wire;
 
 /// The most wires that `snow` takes.
@@ -72,15 +75,15 @@ impl Status {
     }
 }
 
-/// Does what the words ask for, which leave out the program's own name. The pages of clones come over the first of
-/// the wires.
-pub fn snow<R: AllocGlobal + Wait, S: Shelf, K: Sink, W: Wire>(
-    rt: &R,
-    words: &[String],
-    shelf: &mut S,
-    sink: &mut K,
-    wires: &mut Vec<W>,
-) -> Status
+/// Does what the words ask for, which leave out the program's own name. A family is run by as many workers as they ask
+/// for, but by no more than there are wires, of which each worker has one. The workers call the gate.
+pub fn snow<
+    R: AllocGlobal + Threads + Wait + Sync,
+    S: Shelf,
+    K: Sink,
+    W: Wire + Send,
+    G: Gate + Sync,
+>(rt: &R, words: &[String], shelf: &mut S, sink: &mut K, wires: &mut Vec<W>, gate: &G) -> Status
     requires some { 0 < vec_len wires.old }
     requires most { vec_len wires.old ≤ MOST_WIRES }
     // Whatever the wires do with replies:
@@ -111,6 +114,9 @@ pub fn snow<R: AllocGlobal + Wait, S: Shelf, K: Sink, W: Wire>(
     // 7: only where a family that may fork is run, and a wire has given no reply for 64 fates.
     ensures wire_lost { result.code ≡ 7 → IsLost (meant (texts words.now)) W.streak wires.new.items }
 
+    // `self` asks the shelf for nothing, and no file makes it stop.
+    ensures fileless { IsFileless (meant (texts words.now)) result (shelf.new ≡ shelf.old) }
+
     // On every code but 0 and 5 the sink has been given nothing.
     ensures silent { ¬ (result.code ≡ 0) → ¬ (result.code ≡ 5) → sink.new ≡ sink.old }
 
@@ -125,7 +131,7 @@ pub fn snow<R: AllocGlobal + Wait, S: Shelf, K: Sink, W: Wire>(
         Ok(None) => return Status::USAGE,
         Err(AllocError) => return Status::OUT_OF_MEMORY,
     };
-    match write_text(rt, &command, shelf, sink, wires) {
+    match write_text(rt, &command, shelf, sink, wires, gate) {
         Ok(()) => Status::new(0, 0),
         Err(Stop::ReadFault(load)) => Status::new(1, load),
         Err(Stop::ImageRefused(number)) => Status::new(3, number),
@@ -138,22 +144,32 @@ pub fn snow<R: AllocGlobal + Wait, S: Shelf, K: Sink, W: Wire>(
 }
 
 /// Writes the text of a command.
-fn write_text<R: AllocGlobal + Wait, S: Shelf, K: Sink, W: Wire>(
+fn write_text<
+    R: AllocGlobal + Threads + Wait + Sync,
+    S: Shelf,
+    K: Sink,
+    W: Wire + Send,
+    G: Gate + Sync,
+>(
     rt: &R,
     command: &Command<'_>,
     shelf: &mut S,
     sink: &mut K,
     wires: &mut Vec<W>,
+    gate: &G,
 ) -> Result<(), Stop>
-    requires { 0 < vec_len wires.old }
+    requires some { 0 < vec_len wires.old }
+    requires most { vec_len wires.old ≤ MOST_WIRES }
     ensures writes { Writes (meaning command.now) (S.files shelf.old)
         (λ load. HasRisen (S.faults shelf.old) (S.faults shelf.new) × IsFaultOf (loads_of (meaning command.now)) load (S.asked shelf.old) (S.asked shelf.new))
         (HasRisen (K.faults sink.old) (K.faults sink.new)) (IsLostIn (meaning command.now) W.streak wires.new.items)
         (K.gone sink.old) (K.gone sink.new) result }
+    ensures fileless { IsGenerated (meaning command.now) → (shelf.new ≡ shelf.old) × IsUnrefused result }
     ensures silent { IsSilent result (sink.new ≡ sink.old) }
 {
     match command {
-        Command::Run(guest, over) => run_and_report(rt, guest, over, shelf, sink, wires),
+        Command::Run(guest, how) => run_and_report(rt, guest, how, shelf, sink, wires, gate),
         Command::Drive(guest, script) => drive_and_write(rt, guest, script, shelf, sink),
+        Command::Generated(words) => run_and_sum_up(rt, words, sink, wires, gate),
     }
 }

@@ -1,8 +1,9 @@
 //! The numbers that stand behind the names of constants.
 
 use command_line::{
-    DEFAULT_AHEAD, DEFAULT_CLONES, DEFAULT_LIMIT, DEFAULT_PAGES, DEFAULT_SEED, LEAST_LIMIT,
-    MOST_AHEAD, MOST_CLONES, MOST_LIMIT,
+    DEFAULT_AHEAD, DEFAULT_CLONES, DEFAULT_LIMIT, DEFAULT_PAGES, DEFAULT_SEED, DEFAULT_SLICE,
+    DEFAULT_WORKERS, LEAST_LIMIT, LEAST_SLICE, LEAST_WORKERS, MOST_AHEAD, MOST_CLONES, MOST_LIMIT,
+    MOST_SLICE, MOST_WORKERS,
 };
 use guest_files::{
     DISK_LOAD, DISK_MOST, DISK_NOT_SECTORS, DISK_TOO_LONG, IMAGE_LOAD, IMAGE_MOST, INPUT_LOAD,
@@ -29,7 +30,7 @@ static REFUSALS: [(u32, u32); 5] = [
 ];
 
 /// What an option is that is not given, and its limits.
-static OPTIONS: [(u32, u32); 9] = [
+static OPTIONS: [(u32, u32); 15] = [
     (DEFAULT_PAGES, 64),
     (DEFAULT_LIMIT, 1_000_000),
     (LEAST_LIMIT, 1),
@@ -39,6 +40,12 @@ static OPTIONS: [(u32, u32); 9] = [
     (DEFAULT_SEED, 0),
     (DEFAULT_AHEAD, 0),
     (MOST_AHEAD, 16),
+    (DEFAULT_WORKERS, 1),
+    (LEAST_WORKERS, 1),
+    (MOST_WORKERS, 64),
+    (DEFAULT_SLICE, 1000),
+    (LEAST_SLICE, 1),
+    (MOST_SLICE, 1_000_000),
 ];
 
 /// The most bytes of an image and of a disk, and the most wires.

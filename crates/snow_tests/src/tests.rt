@@ -1,16 +1,18 @@
 //! What no clause says: the texts of two guests, and the codes at their causes. Whole guests, options and real
 //! files are tested by the command line.
 
-ghost use Rattle.std.specs.Prelude.{◌≡◌, ◌≤◌, IfOk, length, vec_len};
+ghost use Rattle.std.specs.Prelude.{◌≤◌, length};
 
 use elf_load::RAM_BASE;
+use host_workers::OpenGate;
 use io_edge::{MemShelf, MemSink};
 use rv_asm::elf_of;
-use snow_commands::{Status, snow};
+use snow_commands::{MOST_WIRES, Status, snow};
 use std::alloc::{AllocError, Global};
 use std::process::Abort;
 use std::sync::Wait;
 use std::test::Fail;
+use std::thread::Threads;
 use wire_fates::{Fate, Scripted};
 
 /// The words of the guest that ends with the value 7. Its image has 104 bytes.
@@ -30,7 +32,7 @@ static TWO_CHILDREN_REPORT: &[u8] =
     b"machine 0 exit 41 steps 21 out 0\n\nmachine 0.1.1 exit 41 steps 16 out 0\n\nmachine 0.1.2 exit 42 steps 16 out 0\n\n";
 
 /// The words of a command line.
-fn words_of(alloc: Global, line: &str) -> Result<Vec<String>, AllocError> {
+pub(crate) fn words_of(alloc: Global, line: &str) -> Result<Vec<String>, AllocError> {
     let mut words = Vec::new(alloc);
     for word in line.split(' ') {
         words.push(String::from_str(alloc, word)?)?;
@@ -64,14 +66,7 @@ fn shelf_of(
 }
 
 /// A wire that gives so many replies, then tells a fate so many times, and then gives again.
-fn wires_of(
-    alloc: Global,
-    gives: usize,
-    fate: Fate,
-    times: usize,
-) -> Result<Vec<Scripted>, AllocError>
-    ensures { IfOk result (λ wires. vec_len wires ≡ 1) }
-{
+fn wire_of(alloc: Global, gives: usize, fate: Fate, times: usize) -> Result<Scripted, AllocError> {
     let mut fates = Vec::new(alloc);
     for _ in 0..gives {
         fates.push(Fate::Give(0))?;
@@ -79,8 +74,21 @@ fn wires_of(
     for _ in 0..times {
         fates.push(fate)?;
     }
+    Ok(Scripted::new(fates))
+}
+
+/// So many of these wires.
+fn wires_of(
+    alloc: Global,
+    count: usize,
+    gives: usize,
+    fate: Fate,
+    times: usize,
+) -> Result<Vec<Scripted>, AllocError> {
     let mut wires = Vec::new(alloc);
-    wires.push(Scripted::new(fates))?;
+    for _ in 0..count {
+        wires.push(wire_of(alloc, gives, fate, times)?)?;
+    }
     Ok(wires)
 }
 
@@ -98,20 +106,20 @@ fn compare<R: Abort>(
 }
 
 /// What a command line answers.
-fn answer_of<R: AllocGlobal + Wait>(
+fn answer_of<R: AllocGlobal + Threads + Wait + Sync + Abort>(
     rt: &R,
     words: &[String],
     shelf: &mut MemShelf,
     sink: &mut MemSink,
     wires: &mut Vec<Scripted>,
-) -> Status
-    requires { vec_len wires.old ≡ 1 }
-{
-    snow(rt, words, shelf, sink, wires)
+) -> Status {
+    let count = wires.len();
+    assert!(rt; 1 <= count && count <= MOST_WIRES);
+    snow(rt, words, shelf, sink, wires, &OpenGate)
 }
 
 /// Runs a command line over files, and compares what it answers and what is out.
-fn answers_over<R: AllocGlobal + Wait + Abort>(
+fn answers_over<R: AllocGlobal + Threads + Wait + Sync + Abort>(
     rt: &R,
     line: &str,
     words: &[String],
@@ -121,14 +129,14 @@ fn answers_over<R: AllocGlobal + Wait + Abort>(
 ) -> Result<(), Fail> {
     let alloc = rt.alloc();
     let mut sink = MemSink::new(alloc, 7, 1000, Vec::new(alloc))?;
-    let mut wires = wires_of(alloc, 0, Fate::Give(0), 0)?;
+    let mut wires = wires_of(alloc, 8, 0, Fate::Give(0), 0)?;
     let found = answer_of(rt, words, shelf, &mut sink, &mut wires);
     compare(rt, line, &found, &sink, status, out);
     Ok(())
 }
 
 /// The same over an image and a script, with a shelf whose load of this number fails.
-fn answers<R: AllocGlobal + Wait + Abort>(
+fn answers<R: AllocGlobal + Threads + Wait + Sync + Abort>(
     rt: &R,
     line: &str,
     image: &[u8],
@@ -143,7 +151,7 @@ fn answers<R: AllocGlobal + Wait + Abort>(
 }
 
 /// Expects that a command line writes this over the image of these words and a script.
-fn writes<R: AllocGlobal + Wait + Abort>(
+fn writes<R: AllocGlobal + Threads + Wait + Sync + Abort>(
     rt: &R,
     line: &str,
     guest: &[u32],
@@ -171,6 +179,13 @@ fn writes_reports(rt: HostRuntime) -> Result<(), Fail> {
         &TWO_CHILDREN,
         b"",
         TWO_CHILDREN_REPORT,
+    )?;
+    writes(
+        &rt,
+        "run guest --clones 2 --workers 8 --slice 1",
+        &TWO_CHILDREN,
+        b"",
+        TWO_CHILDREN_REPORT,
     )
 }
 
@@ -185,7 +200,7 @@ fn writes_what_scripts_tell(rt: HostRuntime) -> Result<(), Fail> {
 }
 
 /// Command lines, how many bytes of the image are there, the script, and the code with its two numbers.
-static REFUSALS: [(&str, usize, &[u8], u8, u32, u32); 16] = [
+static REFUSALS: [(&str, usize, &[u8], u8, u32, u32); 19] = [
     ("fly guest", 104, b"", 2, 0, 0),
     ("run guest script", 104, b"", 2, 0, 0),
     ("drive guest", 104, b"", 2, 0, 0),
@@ -193,6 +208,9 @@ static REFUSALS: [(&str, usize, &[u8], u8, u32, u32); 16] = [
     ("run guest --ram 15", 104, b"", 2, 0, 0),
     ("run guest --clones 4097", 104, b"", 2, 0, 0),
     ("run guest --ahead 17", 104, b"", 2, 0, 0),
+    ("run guest --workers 65", 104, b"", 2, 0, 0),
+    ("run guest --slice 0", 104, b"", 2, 0, 0),
+    ("self 4294967296", 104, b"", 2, 0, 0),
     ("drive guest script --wire 1", 104, b"", 2, 0, 0),
     ("run other", 104, b"", 1, 1, 0),
     ("run guest", 103, b"", 3, 9, 0),
@@ -242,13 +260,45 @@ fn stops_at_each_load(rt: HostRuntime) -> Result<(), Fail> {
     Ok(())
 }
 
-/// Command lines, what the wire of a family does, and the code. The second child of two hears the page that the first
-/// fetched.
-static WIRES: [(&str, usize, Fate, usize, u8); 4] = [
-    ("run guest --clones 1", 0, Fate::Lose(0), 64, 7),
-    ("run guest --clones 0", 0, Fate::Lose(0), 64, 0),
-    ("run guest --clones 1", 0, Fate::Again(0), 64, 0),
-    ("run guest --clones 2", 1, Fate::Lose(0), 64, 0),
+/// Command lines, how many wires there are and what each of them does, and the code. The second child of two hears the
+/// page that the first fetched, or fetches it over a wire that has given none.
+static WIRES: [(&str, usize, usize, Fate, usize, u8); 8] = [
+    ("run guest --clones 1", 1, 0, Fate::Lose(0), 64, 7),
+    ("run guest --clones 0", 1, 0, Fate::Lose(0), 64, 0),
+    ("run guest --clones 1", 1, 0, Fate::Again(0), 64, 0),
+    ("run guest --clones 2", 1, 1, Fate::Lose(0), 64, 0),
+    (
+        "run guest --clones 1 --workers 8",
+        8,
+        0,
+        Fate::Lose(0),
+        64,
+        7,
+    ),
+    (
+        "run guest --clones 0 --workers 8",
+        8,
+        0,
+        Fate::Lose(0),
+        64,
+        0,
+    ),
+    (
+        "run guest --clones 2 --workers 8",
+        8,
+        1,
+        Fate::Lose(0),
+        64,
+        0,
+    ),
+    (
+        "run guest --clones 2 --workers 64",
+        1,
+        1,
+        Fate::Lose(0),
+        64,
+        0,
+    ),
 ];
 
 /// Compares the code of a run with what is wanted. Something is out just where it is 0.
@@ -258,16 +308,14 @@ fn compare_code<R: Abort>(rt: &R, line: &str, found: &Status, sink: &MemSink, co
 }
 
 /// Runs a command line over files and a wire, and compares its code.
-fn code_over<R: AllocGlobal + Wait + Abort>(
+fn code_over<R: AllocGlobal + Threads + Wait + Sync + Abort>(
     rt: &R,
     line: &str,
     words: &[String],
     shelf: &mut MemShelf,
     wires: &mut Vec<Scripted>,
     code: u8,
-) -> Result<(), Fail>
-    requires { vec_len wires.old ≡ 1 }
-{
+) -> Result<(), Fail> {
     let alloc = rt.alloc();
     let mut sink = MemSink::new(alloc, 7, 1000, Vec::new(alloc))?;
     let found = answer_of(rt, words, shelf, &mut sink, wires);
@@ -276,15 +324,13 @@ fn code_over<R: AllocGlobal + Wait + Abort>(
 }
 
 /// Runs two children over a wire.
-fn runs_over<R: AllocGlobal + Wait + Abort>(
+fn runs_over<R: AllocGlobal + Threads + Wait + Sync + Abort>(
     rt: &R,
     line: &str,
     image: &[u8],
     wires: &mut Vec<Scripted>,
     code: u8,
-) -> Result<(), Fail>
-    requires { vec_len wires.old ≡ 1 }
-{
+) -> Result<(), Fail> {
     let words = words_of(rt.alloc(), line)?;
     let mut shelf = shelf_of(rt.alloc(), image, b"", 0)?;
     code_over(rt, line, &words, &mut shelf, wires, code)
@@ -293,8 +339,8 @@ fn runs_over<R: AllocGlobal + Wait + Abort>(
 #[test]
 fn loses_its_wire(rt: HostRuntime) -> Result<(), Fail> {
     let image = elf_of(rt.alloc(), RAM_BASE, &TWO_CHILDREN)?;
-    for (line, gives, fate, times, code) in WIRES.iter() {
-        let mut wires = wires_of(rt.alloc(), *gives, *fate, *times)?;
+    for (line, count, gives, fate, times, code) in WIRES.iter() {
+        let mut wires = wires_of(rt.alloc(), *count, *gives, *fate, *times)?;
         runs_over(&rt, line, &image, &mut wires, *code)?;
     }
     Ok(())
@@ -305,7 +351,7 @@ fn loses_its_wire(rt: HostRuntime) -> Result<(), Fail> {
 fn bears_losses(rt: HostRuntime) -> Result<(), Fail> {
     let image = elf_of(rt.alloc(), RAM_BASE, &TWO_CHILDREN)?;
     for times in 0..64 {
-        let mut wires = wires_of(rt.alloc(), 0, Fate::Lose(0), times)?;
+        let mut wires = wires_of(rt.alloc(), 1, 0, Fate::Lose(0), times)?;
         runs_over(&rt, "run guest --clones 1", &image, &mut wires, 0)?;
     }
     Ok(())
@@ -322,7 +368,7 @@ fn compare_cut<R: Abort>(rt: &R, found: &Status, sink: &MemSink, fails: u64)
 }
 
 /// Runs a guest of two children from a shelf over a sink whose put of this number fails.
-fn stops_over<R: AllocGlobal + Wait + Abort>(
+fn stops_over<R: AllocGlobal + Threads + Wait + Sync + Abort>(
     rt: &R,
     words: &[String],
     shelf: &mut MemShelf,
@@ -333,14 +379,14 @@ fn stops_over<R: AllocGlobal + Wait + Abort>(
 {
     let alloc = rt.alloc();
     let mut sink = MemSink::new(alloc, 10, 1000, vec![in alloc; fails]?)?;
-    let mut wires = wires_of(alloc, 0, Fate::Give(0), 0)?;
+    let mut wires = wires_of(alloc, 8, 0, Fate::Give(0), 0)?;
     let found = answer_of(rt, words, shelf, &mut sink, &mut wires);
     compare_cut(rt, &found, &sink, fails);
     Ok(())
 }
 
 /// The same from an image.
-fn stops_at_put<R: AllocGlobal + Wait + Abort>(
+fn stops_at_put<R: AllocGlobal + Threads + Wait + Sync + Abort>(
     rt: &R,
     words: &[String],
     image: &[u8],

@@ -18,7 +18,7 @@ use Rattle.turn_board.specs.History.{History, longer}
 use Rattle.turn_board.specs.Rule.{content, count_if, IsLive, room_of, drawn_of, newcomer, parent, child, informed, spent, IsNamed, HasDrawn, Fits, Unlike, Home, Turning}
 use Rattle.turn_board.specs.Steps.{drawn_view, served_view, learned_view, passed_view, drew, looked, passed, learned}
 use Rattle.turn_board.proofs.Views.{total_set, total_push, total_le, set_at, each_set, each_push, pairs_set, pairs_push}
-use Rattle.turn_board.proofs.Names.{not_true, has_new, has_old, has_not, had, had_not, above_self, same_child, room_split, room_pos}
+use Rattle.turn_board.proofs.Names.{not_true, has_new, has_old, has_not, had, had_not, unmade_below, above_self, same_child, room_split, room_pos}
 use Rattle.turn_board.proofs.Entries.{begins_self, begins_longer, longer_is, entries_by-push_same, entries_by-push_other, none_before, same_between}
 
 off : {P : Type 0} (b : Bool) → b ≡ false → b ≡ true → P
@@ -192,7 +192,7 @@ module _ {A N T : Type 0} (stands : A → History N → T → Type 0) (key : A) 
         here.2,
         comes s h id v c (content (Some here.0) here.1) at is few,
         (
-          (λ e lt. record { log = h.log; value = here.0; note = here.1; is = refl; later = f.sees.seen_is; few = few; own = f.sees.mine_is live; stands_for = λ a knew. subst (λ k. stands k h.log here.0) (sym (f.named.about_is a knew)) here.3 }),
+          (λ e lt. record { log = h.log; value = here.0; note = here.1; is = refl; later = f.sees.seen_is; few = few; own = f.sees.mine_is live; unmade = λ k below le. h.fresh (v.seat ++ k ∷ below) (unmade_below h.made h.rooted below v.seat k (f.named.unmade live k le)); stands_for = λ a knew. subst (λ k. stands k h.log here.0) (sym (f.named.about_is a knew)) here.3 }),
           (λ many. let lots = many (is ∙ ap Some (sym found)) in absurd (omega arith)),
         ),
       ))

@@ -1,5 +1,5 @@
 -- Numbers of seats: which are made, and how many may yet be.
-use Rattle.std.proofs.Common.{◌≡◌, ◌≢◌, ◌⊎◌, ℕ, zero, suc, ◌+◌, ◌<◌, ◌≤◌, List, [], ◌∷◌, ◌++◌, length, Bool, true, false, refl, sym, ap, ◌∙◌, subst, inl, inr, arith}
+use Rattle.std.proofs.Common.{◌≡◌, ◌≢◌, ◌⊎◌, ℕ, zero, suc, ◌+◌, ◌<◌, ◌≤◌, List, [], ◌∷◌, ◌++◌, length, Bool, true, false, true≢false, refl, sym, ap, ◌∙◌, subst, inl, inr, arith, append_assoc}
 use Rattle.std.specs.Prelude.{◌||◌}
 use Rattle.std.proofs.lemmas.List.{length_push, same_from_push}
 use Rattle.std.proofs.lemmas.Slice.Eq.{bytes_eq-Decides}
@@ -46,6 +46,15 @@ had_not made s t none = (
 
 pub above_self : (s : List ℕ) (k : ℕ) → s ++ k ∷ [] ≢ s
 above_self s k e = let longer = ap length e in absurd (omega (arith, length_push s k))
+
+-- nor is a seat made that would be split off from one that is not
+pub unmade_below : (made : List (List ℕ)) → ((seat : List ℕ) (k : ℕ) → has_seat made (seat ++ k ∷ []) ≡ true → has_seat made seat ≡ true)
+    → (below seat : List ℕ) (k : ℕ) → has_seat made (seat ++ k ∷ []) ≡ false → has_seat made (seat ++ k ∷ below) ≡ false
+unmade_below made rooted [] seat k none = none
+unmade_below made rooted (j ∷ below) seat k none =
+    ap (has_seat made) (sym (append_assoc seat (k ∷ []) (j ∷ below)))
+    ∙ unmade_below made rooted below (seat ++ k ∷ []) j
+    (not_true (has_seat made ((seat ++ k ∷ []) ++ j ∷ [])) (λ has. true≢false (sym (rooted (seat ++ k ∷ []) j has) ∙ none)))
 
 pub same_child : (s t : List ℕ) (j k : ℕ) → s ++ j ∷ [] ≡ t ++ k ∷ [] → (s ≡ t) × (j ≡ k)
 same_child s t j k e = same_from_push s t j k e

@@ -1,5 +1,5 @@
 -- What the calls of a turn lock require and ensure of its seats.
-use Rattle.std.specs.Prelude.{◌≡◌, ◌⊎◌, ℕ, ◌<◌, [], ◌∷◌, ◌++◌, length, true, false, Some, None}
+use Rattle.std.specs.Prelude.{◌≡◌, ◌⊎◌, ℕ, ◌<◌, ◌≤◌, List, [], ◌∷◌, ◌++◌, length, true, false, Some, None}
 use Rattle.atomic_table.specs.declared.shared.Seat.{Seat}
 use Rattle.atomic_table.specs.Seated.{TableId}
 use Rattle.turn_board.specs.declared.view.Content.{Content}
@@ -46,6 +46,8 @@ module _ {A N T : Type 0} where
     pub same_splits : new.me.0.splits ≡ old.me.0.splits
     pub same_mine : new.me.0.mine ≡ old.me.0.mine
     pub later : StartsWith new.me.0.seen old.me.0.seen
+    -- no seat that is yet to be split off from it has an entry, nor has one that would be split off from such
+    pub unmade : (k : ℕ) (below : List ℕ) → new.me.0.splits ≤ k → entries_by (new.me.0.seat ++ k ∷ below) new.me.0.seen ≡ []
     -- no turn comes after 2^63 others
     pub few : length new.me.0.seen < 9223372036854775808
     pub stands_for : stands about new.me.0.seen value
@@ -71,4 +73,5 @@ module _ {A N T : Type 0} where
     pub log : History N
     pub later : StartsWith log seat.me.0.seen
     pub own : entries_by seat.me.0.seat log ≡ seat.me.0.mine
+    pub unmade : (k : ℕ) (below : List ℕ) → seat.me.0.splits ≤ k → entries_by (seat.me.0.seat ++ k ∷ below) log ≡ []
     pub stands_for : stands about log value

@@ -1,5 +1,5 @@
 -- What each step on a word tells the seat that makes it: of the seat before, the number found, and the seat after.
-use Rattle.std.specs.Prelude.{◌≡◌, ℕ, ◌<◌, ◌≤◌, [], ◌∷◌, ◌++◌, length, true, false, Option, Some, None}
+use Rattle.std.specs.Prelude.{◌≡◌, ℕ, ◌<◌, ◌≤◌, List, [], ◌∷◌, ◌++◌, length, true, false, Option, Some, None}
 use Rattle.atomic_table.specs.Table.{Me, Step, rest}
 use Rattle.std.specs.declared.snapshot.Snapshot.{Snapshot}
 use Rattle.turn_board.specs.declared.view.Content.{Content}
@@ -34,6 +34,7 @@ module _ {A N : Type 0} where
       pub later : StartsWith log v.0.seen
       pub few : length log < 9223372036854775808
       pub own : entries_by v.0.seat log ≡ v.0.mine
+      pub unmade : (k : ℕ) (below : List ℕ) → v.0.splits ≤ k → entries_by (v.0.seat ++ k ∷ below) log ≡ []
       pub stands_for : (a : A) → v.0.about ≡ Some a → stands a log value
 
     -- where the number found is the seat's, and no number from which on none comes, its turn has come; else nothing changes

@@ -14,7 +14,7 @@ use Rattle.forest_tree.specs.Projection.{map_tree}
 use Rattle.forest_tree.proofs.Settle.{KeepsTo, root-sound}
 use Rattle.forest_tree.proofs.Places.{subtree-sound}
 use Rattle.forest_tree.proofs.Projected.{subtree-map}
-use Rattle.forest_history.specs.Places.{at_path, home, out, parked, placed, bare, Spot, spots}
+use Rattle.forest_history.specs.Places.{at_path, home, out, parked, placed, Spot, spots}
 use Rattle.forest_history.specs.World.{IsWhole, holds, is_out, is_out_at, lives_ready}
 use Rattle.forest_history.specs.Rows.{took, does}
 use Rattle.forest_history.proofs.Changes.{at_path-agree, at_path-here, at_path-leaves, at_path-twice}
@@ -166,9 +166,6 @@ flags-stand flags depot w f lease h out_as = flags-free flags depot w f lease.na
     away : (u : Option (Tree (Spot Paged))) → IfSome u (IsOutAs lease) → IfSome u (λ t. (machine t).place ≡ out)
     away None is = tt
     away (Some t) is = is.is_out
-
-pub flags-sound : (name : Path) (flags : Pages → Pages) (f : Forest) → IsSound forest f.tree → IsSound forest (with_flags name flags f).tree
-flags-sound name flags f sound = flagged-sound flags name f.tree sound
 
 -- ---- the machine that is out, with other flags
 
@@ -339,57 +336,6 @@ taken-handed f lease starts =
     subst (λ o. IfSome o (IsOutAs lease)) (sym (at_path-here (placed out) lease.name f.tree))
     (taken-as lease starts.ran starts.now (subtree lease.name f.tree) starts.start)
 
--- ---- pages that come, one after another
-
-flagged-same : (a : Tree (Spot Paged)) → flagged (λ pages. pages) a ≡ a
-flagged-same (node s broods log) = refl
-
-flagged-twice : (one other : Pages → Pages) (a : Tree (Spot Paged)) → flagged other (flagged one a) ≡ flagged (λ pages. other (one pages)) a
-flagged-twice one other (node s broods log) = refl
-
-flags-same : (name : Path) (f : Forest) → with_flags name (λ pages. pages) f ≡ f
-flags-same name f = ap (λ t. record f { tree = t }) (at_path-leaves (flagged (λ pages. pages)) flagged-same name f.tree)
-
-flags-twice : (name : Path) (one other : Pages → Pages) (f : Forest)
-    → with_flags name other (with_flags name one f) ≡ with_flags name (λ pages. other (one pages)) f
-flags-twice name one other f =
-    ap (λ t. record f { tree = t })
-    (at_path-twice (flagged one) (flagged other) name f.tree
-    ∙ at_path-agree (λ a. flagged other (flagged one a)) (flagged (λ pages. other (one pages))) (flagged-twice one other) name f.tree)
-
-pub still-none : (depot : Shelves) (w : World) (f : Forest) (lease : Lent) → StandsFor depot w f → IsHandedOut f lease → StillHandedOut depot w f lease
-still-none depot w f lease h out_as = record {
-  flags = λ pages. pages;
-  stands = subst (StandsFor depot w) (sym (flags-same lease.name f)) h;
-  handed = subst (λ g. IsHandedOut g lease) (sym (flags-same lease.name f)) out_as;
-}
-
-pub still-then : (depot : Shelves) (w : World) (f : Forest) (mid new : Lent) → new.name ≡ mid.name → StillHandedOut depot w f mid
-    → ((g : Forest) → StandsFor depot w g → IsHandedOut g mid → StillHandedOut depot w g new) → StillHandedOut depot w f new
-still-then depot w f mid new name first then =
-    let next = then (with_flags mid.name first.flags f) first.stands first.handed in
-    let same : with_flags new.name next.flags (with_flags mid.name first.flags f) ≡ with_flags new.name (λ pages. next.flags (first.flags pages)) f =
-    ap (λ n. with_flags new.name next.flags (with_flags n first.flags f)) (sym name) ∙ flags-twice new.name first.flags next.flags f in
-    record {
-      flags = λ pages. next.flags (first.flags pages);
-      stands = subst (StandsFor depot w) same next.stands;
-      handed = subst (λ g. IsHandedOut g new) same next.handed;
-    }
-
-pub still-run : (depot : Shelves) (w : World) (f : Forest) (mid new : Lent) → new.name ≡ mid.name → ((g : Forest) → IsHandedOut g mid → IsHandedOut g new)
-    → StillHandedOut depot w f mid → StillHandedOut depot w f new
-still-run depot w f mid new name run h =
-    still-then depot w f mid new name h (λ g stands out_as. still-none depot w g new stands (run g out_as))
-
-pub still-arrived : (depot : Shelves) (w : World) (f : Forest) (old new : Lent) (answer : Arrived) → new.name ≡ old.name
-    → StandsFor depot w (after_arrival old.name answer f) × IsHandedOut (after_arrival old.name answer f) new → StillHandedOut depot w f new
-still-arrived depot w f old new (Got page) name h = record {
-  flags = pages_arrived page;
-  stands = subst (λ n. StandsFor depot w (with_arrived n page f)) (sym name) h.0;
-  handed = subst (λ n. IsHandedOut (with_arrived n page f) new) (sym name) h.1;
-}
-still-arrived depot w f old new (Had page) name h = still-none depot w f new h.0 h.1
-
 -- ---- what other flags leave as it was
 
 -- the same machine, whatever is known of its pages
@@ -435,25 +381,3 @@ flags-whole name flags f whole n =
     sym (away-seen n (with_flags name flags f).tree)
     ∙ ap (λ t. holds machines out-of (subtree n t)) (flags-family name flags f)
     ∙ away-seen n f.tree ∙ whole n
-
--- the machines without their places, and then without their pages
-abbrev pub bare_flagged : (Pages → Pages) → Tree Paged → Tree Paged
-bare_flagged flags (node p broods log) = node (record p { pages = flags p.pages }) broods log
-
-bare-flags : (flags : Pages → Pages) (t : Tree (Spot Paged)) → bare (flagged flags t) ≡ bare_flagged flags (bare t)
-unfolding map_tree
-bare-flags flags (node s broods log) = refl
-
-bare-machines : (flags : Pages → Pages) (u : Tree Paged) → map_tree (λ (p : Paged). p.machine) (bare_flagged flags u) ≡ map_tree (λ p. p.machine) u
-unfolding map_tree
-bare-machines flags (node p broods log) = refl
-
-pub flags-bare : (name : Path) (flags : Pages → Pages) (f : Forest)
-    → bare (with_flags name flags f).tree ≡ at_path (bare_flagged flags) name (bare f.tree)
-flags-bare name flags f = at_path-map (λ (s : Spot Paged). s.machine) (flagged flags) (bare_flagged flags) (bare-flags flags) name f.tree
-
-pub flags-machines : (name : Path) (flags : Pages → Pages) (t : Tree Paged)
-    → map_tree (λ p. p.machine) (at_path (bare_flagged flags) name t) ≡ map_tree (λ p. p.machine) t
-flags-machines name flags t =
-    at_path-map (λ (p : Paged). p.machine) (bare_flagged flags) (λ u. u) (bare-machines flags) name t
-    ∙ at_path-leaves (λ (u : Tree Machine). u) (λ u. refl) name (map_tree (λ p. p.machine) t)

@@ -10,7 +10,7 @@ use Rattle.fork_port.specs.declared.ending.Ending.{Ending}
 use Rattle.forest_tree.specs.Operations.{Call, clone, join, kill, Grant, is_cloned, Makes, IsStep, IsMachine}
 use Rattle.forest_tree.specs.Tree.{Tree, node, Trees, no_tree, Broods, machine, broods_of, brood_of, without, Path}
 use Rattle.forest_tree.specs.Settle.{have_ended, endings, children}
-use Rattle.forest_tree.proofs.Settle.{root-sound, clone-is-new, join-step, size-cloned, length-endings}
+use Rattle.forest_tree.proofs.Settle.{root-sound, join-step, size-cloned, length-endings}
 use Rattle.forest_tree.proofs.Rests.{lives-none}
 use Rattle.forest_tree.proofs.Places.{brood_of-without}
 use Rattle.forest_history.specs.Places.{Spot, spots}
@@ -18,8 +18,7 @@ use Rattle.forest_history.proofs.Spots.{machine-spots}
 use Rattle.forest_model.specs.Forest.{machines}
 use Rattle.forest_model.proofs.Paged.{paged-rules}
 use Rattle.forest_model.specs.Paged.{Paged, paged_machines}
-use Rattle.image_depot.specs.Key.{Shelves, IsKeyOf}
-use Rattle.vm_descriptor.specs.declared.descriptor.TheConstants.{MAX_CLONES}
+use Rattle.image_depot.specs.Key.{Shelves}
 use Rattle.vm_cell.specs.Standing.{IsJoin}
 use Rattle.vm_cell.specs.Keyed.{KeyedMachine, paged}
 use Rattle.vm_cell.specs.Woken.{AreSeeds}
@@ -30,6 +29,7 @@ use Rattle.world_core.specs.declared.cell.Cell.{Cell}
 use Rattle.world_core.specs.declared.cell.Slot.{Slot}
 use Rattle.world_core.specs.declared.cell.Slot.TheVariants.{Asleep}
 use Rattle.world_core.specs.Broods.{slot_endings, slot_lines}
+use Rattle.world_core.specs.Litter.{IsNewBrood}
 use Rattle.world_core.specs.Shows.{forest, told_spot, BroodAt, BroodShows, TallyAt, IsTallied, Tallies, Holds, HoldsAfter, StandsAt, killed_tree, joined_tree, forked_tree}
 use Rattle.world_core.proofs.BroodSlots.{brood_born, brood_endings, brood_lines}
 
@@ -181,16 +181,6 @@ module _ (depot : Shelves) (path : Path) (vm : Paged) (ticket : ℕ) (c : Cell) 
 
 -- ---- CLONE
 
--- what is to hold of the brood that is put in
-pub record IsBorn (depot : Shelves) (path : Path) (vm : KeyedMachine) (ticket : ℕ) (b : Brood) (left : Young) : Type 0 where
-  pub name : b.name ≡ path
-  pub young : b.young ≡ Some left
-  pub slots : b.slots.items ≡ replicate (machines.grant vm.machine ticket).children Asleep
-  pub live : b.live ≡ (machines.grant vm.machine ticket).children
-  pub few : (machines.grant vm.machine ticket).children ≤ MAX_CLONES
-  pub key : IsKeyOf depot left.key
-  pub seeds : AreSeeds vm left.key (machines.grant vm.machine ticket).children left.seed
-
 come_tally : (path : Path) (before after : ℕ) (o : Option Brood) (b : Brood) (same cloned : Bool) → (same || cloned ≡ true → after ≡ before) → (same ≡ true → IsTallied path before b)
     → TallyAt path before o cloned → TallyAt path after (cond same (Some b) o) (same || cloned)
 come_tally path before after o b true cloned counts one h = subst (λ n. IsTallied path n b) (sym (counts refl)) (one refl)
@@ -204,30 +194,12 @@ come_brood : (depot : Shelves) (path : Path) (u : ℕ) (o : Option Brood) (b : B
 come_brood depot path u o b true cloned kids trees one h = one refl
 come_brood depot path u o b false cloned kids trees one h = h
 
-kept_tally : (path : Path) (count : ℕ) (o : Option Brood) (same cloned : Bool) → (same ≡ true → cloned ≡ false) → TallyAt path count o cloned
-    → TallyAt path count (cond same None o) cloned
-kept_tally path count o true true none h = let no : true ≡ false = none refl in absurd (cc)
-kept_tally path count o true false none h = tt
-kept_tally path count o false cloned none h = h
-
-kept_brood : (depot : Shelves) (path : Path) (u : ℕ) (o : Option Brood) (same cloned : Bool) (trees : Trees (Spot Paged)) → (same ≡ true → cloned ≡ false)
-    → BroodAt depot path u o cloned trees → BroodAt depot path u (cond same None o) cloned trees
-kept_brood depot path u o true true trees none h = let no : true ≡ false = none refl in absurd (cc)
-kept_brood depot path u None true false trees none h = h
-kept_brood depot path u (Some b) true false trees none h = absurd h
-kept_brood depot path u o false cloned trees none h = h
-
--- the second of two changes at one place stands
-pub cond_twice : (b : Bool) (x y z : Option Brood) → cond b x (cond b y z) ≡ cond b x z
-cond_twice true x y z = refl
-cond_twice false x y z = refl
-
 module _ (depot : Shelves) (path : Path) (keyed : KeyedMachine) (ticket : ℕ) (c new : Cell) (room : vec_len new.log + btree_map_len new.broods ≤ vec_capacity new.log)
     (same_log : new.log.items ≡ c.log.items) where
   abbrev vm : Paged
   vm = paged keyed
 
-  pub forked_after : (b : Brood) (young : Young) (t : Tree (Spot Paged)) → IsBorn depot path keyed ticket b young
+  pub forked_after : (b : Brood) (young : Young) (t : Tree (Spot Paged)) → IsNewBrood depot path keyed ticket b young
       → ((u : ℕ) → get nat_cmp new.broods u ≡ cond (is_at (nat_cmp ticket) u) (Some b) (get nat_cmp c.broods u))
       → Holds depot path c t → StandsAt vm (clone ticket) t → HoldsAfter depot path new (forked_tree ticket t)
   unfolding brood_of paged_machines
@@ -269,25 +241,3 @@ module _ (depot : Shelves) (path : Path) (keyed : KeyedMachine) (ticket : ℕ) (
                   (λ same. subst (λ v. BroodShows depot path v b kids) (eqb-true ticket u same) shows) (h.broods u)));
             },
       )
-
-  -- the brood that was put in is taken out again
-  pub kept : (t : Tree (Spot Paged)) → ((u : ℕ) → get nat_cmp new.broods u ≡ cond (is_at (nat_cmp ticket) u) None (get nat_cmp c.broods u))
-      → Holds depot path c t → StandsAt vm (clone ticket) t → Holds depot path new t
-  kept (node s broods log) updates h at =
-      let m = makes vm (clone ticket) (node s broods log) at in
-      let fresh = clone-is-new forest rules s ticket m in
-      let none : (u : ℕ) → eqb ticket u ≡ true → is_cloned forest s u ≡ false = λ u same. ap (is_cloned forest s) (sym (eqb-true ticket u same)) ∙ fresh in
-      let looked : (u : ℕ) → get nat_cmp new.broods u ≡ cond (eqb ticket u) None (get nat_cmp c.broods u) =
-      λ u. updates u ∙ ap (λ (x : Bool). cond x None (get nat_cmp c.broods u)) (same_number ticket u) in
-      record {
-        tallies = record {
-          log = same_log ∙ h.tallies.log;
-          room = room;
-          broods = λ u.
-              subst (λ (o : Option Brood). TallyAt path (forest.grant s u).children o (is_cloned forest s u)) (sym (looked u))
-              (kept_tally path (forest.grant s u).children (get nat_cmp c.broods u) (eqb ticket u) (is_cloned forest s u) (none u) (h.tallies.broods u));
-        };
-        broods = λ u.
-            subst (λ (o : Option Brood). BroodAt depot path u o (is_cloned forest s u) (brood_of u broods)) (sym (looked u))
-            (kept_brood depot path u (get nat_cmp c.broods u) (eqb ticket u) (is_cloned forest s u) (brood_of u broods) (none u) (h.broods u));
-      }

@@ -1,9 +1,10 @@
 -- A world after a CLONE.
-use Rattle.std.proofs.Common.{◌≡◌, ◌≢◌, ◌⊎◌, ℕ, zero, suc, ◌+◌, ◌≤◌, ◌&&◌, ◌||◌, not, eqb, eqb-true, Bool, true, false, cond, refl, sym, ap, ap₂, ◌∙◌, subst, inl, inr, arith, List, [], ◌∷◌, ◌++◌, Option, Some, None, is_some, option_and_then}
+use Rattle.std.proofs.Common.{◌≡◌, ◌≢◌, ◌⊎◌, ℕ, zero, suc, ◌+◌, ◌≤◌, ◌&&◌, ◌||◌, not, eqb, eqb-true, Bool, true, false, cond, refl, sym, ap, ap₂, ◌∙◌, subst, inl, inr, arith, List, [], ◌∷◌, ◌++◌, replicate, Option, Some, None, is_some, option_and_then}
 use Rattle.std.specs.Option.{IfSome, IsSomeAnd}
 use Rattle.std.specs.BTreeMap.{BTreeMap, WritesThrough, get}
 use Rattle.image_depot.specs.Key.{Shelves}
-use Rattle.fork_port.specs.declared.commands.Call.TheVariants.{Clone}
+use Rattle.fork_port.specs.declared.commands.Call.{Call}
+use Rattle.fork_port.specs.declared.commands.Call.TheVariants.{Clone, Join, Kill}
 use Rattle.forest_tree.specs.Operations.{clone, is_cloned, Makes, IsStep}
 use Rattle.forest_tree.specs.Tree.{Tree, node, Trees, Broods, no_brood, brood, Log, machine, broods_of, child_at, brood_of, broods_with, Branch, Path, subtree}
 use Rattle.forest_tree.specs.Settle.{children_from, children, waits}
@@ -19,10 +20,16 @@ use Rattle.forest_model.specs.Calls.{forked as after_fork}
 use Rattle.forest_model.specs.Forest.{machines}
 use Rattle.forest_model.specs.Paged.{Paged, paged_machines}
 use Rattle.run_report.specs.NameOrder.{path_cmp}
-use Rattle.vm_cell.specs.Standing.{standing_call}
+use Rattle.vm_cell.specs.Keyed.{KeyedMachine}
+use Rattle.vm_cell.specs.Standing.{IsClone, standing_call}
+use Rattle.vm_cell.specs.Woken.{AreSeeds}
+use Rattle.vm_descriptor.specs.declared.descriptor.TheConstants.{MAX_CLONES}
+use Rattle.world_core.specs.declared.cell.Brood.{Brood}
 use Rattle.world_core.specs.declared.cell.Cell.{Cell}
+use Rattle.world_core.specs.declared.cell.Slot.TheVariants.{Asleep}
 use Rattle.world_core.specs.declared.world.World.{World}
 use Rattle.world_core.specs.Lent.{Lent, IsLent, vm_of, now_of}
+use Rattle.world_core.specs.Litter.{Unborn, IsLitterOf, IsLitterIn, IsBroodOf, IsNewBrood}
 use Rattle.world_core.specs.Waiting.{Waiting, IsListed, IsCovered}
 use Rattle.world_core.specs.Shows.{forest, IsAwake, Holds, HoldsAfter, Shows, StandsAt, forked_tree}
 use Rattle.world_core.specs.World.{Forest, IsDue, StandsFor}
@@ -258,17 +265,14 @@ module _ (depot : Shelves) (w : World) (f : Forest) (lease : Lent) (ticket : ℕ
 
 module _ (depot : Shelves) (w : World) (f : Forest) (lease : Lent) (ticket : ℕ) (c : Cell) (h : StandsFor depot w f) (out_as : IsHandedOut f lease)
     (lent : IsLent lease.start lease.ran lease.now) (at : Some (Clone ticket) ≡ standing_call (vm_of lease)) (found : Some c ≡ get path_cmp w.cells lease.name) where
-  pub fork-kept : (cells : BTreeMap Path Cell) (d : Cell) (given : Path) (vm : Paged) → given ≡ lease.name → vm ≡ now_of lease
-      → WritesThrough path_cmp (path_cmp lease.name) w.cells d cells → d.state ≡ c.state → d.is_listed ≡ c.is_listed
-      → ((t : Tree (Spot Paged)) → Holds depot given c t → StandsAt vm (clone ticket) t → Holds depot given d t)
+  pub fork-kept : (cells : BTreeMap Path Cell) (d : Cell) → WritesThrough path_cmp (path_cmp lease.name) w.cells d cells → d.state ≡ c.state → d.is_listed ≡ c.is_listed
+      → ((t : Tree (Spot Paged)) → Holds depot lease.name c t → Holds depot lease.name d t)
       → Goes depot f (kept lease.name lease.ran) (record w { cells = cells })
-  fork-kept cells d given vm given_is vm_is written state listed still =
+  fork-kept cells d written state listed still =
       let is = found-here depot w f lease (Clone ticket) c h out_as lent at found in
       let some = some-is c (get path_cmp w.cells lease.name) found in
       let u : Tree (Spot Paged) = node (lent_out (now_of lease)) is.broods is.log in
       let t : Tree (Spot Paged) = node (lent_out is.start) is.broods is.log in
-      let still_as = subst (λ n. (t : Tree (Spot Paged)) → Holds depot n c t → StandsAt vm (clone ticket) t → Holds depot n d t) given_is still in
-      let held = still_as u is.stands.holds (subst (λ m. StandsAt m (clone ticket) u) (sym vm_is) is.stands.at) in
       let good = (root-sound forest (lent_out is.start) is.broods is.log
       (subtree-sound forest lease.name f.tree t is.stands.sound is.stands.is.there)).good in
       kept-goes depot w f lease (clone ticket) is.start is.broods is.log c is.stands (forked-keeps depot w f lease ticket is.start is.broods is.log c is.stands)
@@ -276,28 +280,53 @@ module _ (depot : Shelves) (w : World) (f : Forest) (lease : Lent) (ticket : ℕ
       (same-stands depot w f cells lease.name t c d h is.stands.is (written-here w.cells cells lease.name d written some)
       (written-apart w.cells cells lease.name d written some) state listed
       (Holds-same depot lease.name d (lent_out (now_of lease)) (lent_out is.start) is.broods is.log
-      (SameTickets-back (lent_out is.start) (lent_out (now_of lease)) good (lease-same is.start (now_of lease) lease.ran is.stands.has good)) held))
+      (SameTickets-back (lent_out is.start) (lent_out (now_of lease)) good (lease-same is.start (now_of lease) lease.ran is.stands.has good))
+      (still u is.stands.holds)))
 
-  pub fork-called : (cells : BTreeMap Path Cell) (d : Cell) (list : List Waiting) (name given : Path) (vm after : Paged) → name ≡ lease.name → given ≡ lease.name
+  pub fork-called : (cells : BTreeMap Path Cell) (d : Cell) (list : List Waiting) (name : Path) (vm after : Paged) → name ≡ lease.name
       → vm ≡ now_of lease → WritesThrough path_cmp (path_cmp lease.name) w.cells d cells
       → list ≡ record { name = lease.name; children = Some (ticket, 1) } ∷ w.ready → d.is_listed ≡ c.is_listed → after ≡ record vm { machine = after_fork vm.machine }
-      → ((t : Tree (Spot Paged)) → Holds depot given c t → StandsAt vm (clone ticket) t → HoldsAfter depot given d (forked_tree ticket t))
+      → ((t : Tree (Spot Paged)) → Holds depot lease.name c t → StandsAt vm (clone ticket) t → HoldsAfter depot lease.name d (forked_tree ticket t))
       → Called depot (record w { cells = cells; ready = list }) f lease forked name after
-  fork-called cells d list name given vm after name_is given_is vm_is written ready listed made holds_after =
+  fork-called cells d list name vm after name_is vm_is written ready listed made holds_after =
       let is = found-here depot w f lease (Clone ticket) c h out_as lent at found in
       let s = is.stands in
       let v : World = record w { cells = cells; ready = list } in
       let u : Tree (Spot Paged) = node (lent_out (now_of lease)) is.broods is.log in
       let some = some-is c (get path_cmp w.cells lease.name) found in
-      let after_as = subst (λ n. (t : Tree (Spot Paged)) → Holds depot n c t → StandsAt vm (clone ticket) t → HoldsAfter depot n d (forked_tree ticket t)) given_is holds_after in
       let becomes = forked-spend depot w f lease ticket is.start is.broods is.log c s in
       subst (λ n. Called depot v f lease forked n after) (sym name_is) (record {
         tree = forked_tree ticket u;
         between = forked-between depot w f lease ticket is.start is.broods is.log c s v d ready (written-here w.cells cells lease.name d written some)
             (written-apart w.cells cells lease.name d written some) refl refl listed
-            (after_as u s.holds (subst (λ m. StandsAt m (clone ticket) u) (sym vm_is) s.at));
+            (holds_after u s.holds (subst (λ m. StandsAt m (clone ticket) u) (sym vm_is) s.at));
         is = forked-machine depot w f lease ticket is.start is.broods is.log c s ∙ ap (λ (p : Paged). record p { machine = after_fork p.machine }) (sym vm_is) ∙ sym made;
         sound = spent-sound depot w f lease (clone ticket) is.start is.broods is.log c s forked (placed home (settled_tree (forked_tree ticket u))) becomes;
         goes = spent-goes depot w f lease (clone ticket) is.start is.broods is.log c s forked (placed home (settled_tree (forked_tree ticket u))) becomes
             (forked-may depot w f lease ticket is.start is.broods is.log c s (waits forest u));
       })
+
+-- ---- a litter that was made for the CLONE
+
+pub stands-clone : (next : Option Call) → IsClone next → (ticket : ℕ) × (Some (Clone ticket) ≡ next)
+stands-clone (Some (Clone ticket)) h = (ticket, refl)
+stands-clone (Some (Join ticket)) h = absurd h
+stands-clone (Some (Kill ticket)) h = absurd h
+stands-clone None h = absurd h
+
+module _ (lease : Lent) (litter : Unborn) (ticket : ℕ) (vm : KeyedMachine) (of : IsLitterOf lease litter) (number : ticket ≡ litter.ticket) (same : vm ≡ vm_of lease) where
+  pub litter-stands : standing_call vm ≡ Some (Clone ticket)
+  litter-stands = ap standing_call same ∙ of.clone ∙ ap (λ t. let call : Call = Clone t in Some call) (sym number)
+
+  pub litter-born : (depot : Shelves) (b : Brood) → IsLitterIn depot litter → IsBroodOf litter b → IsNewBrood depot lease.name vm ticket b litter.left
+  litter-born depot b here is =
+      subst (λ v. IsNewBrood depot lease.name v ticket b litter.left) (sym same)
+      (subst (λ t. IsNewBrood depot lease.name (vm_of lease) t b litter.left) (sym number) (record {
+        name = is.name ∙ of.name;
+        young = is.young;
+        slots = is.slots ∙ ap (λ n. replicate n Asleep) of.children;
+        live = is.live ∙ of.children;
+        few = subst (λ n. n ≤ MAX_CLONES) of.children is.few;
+        key = here;
+        seeds = subst (λ n. AreSeeds (vm_of lease) litter.left.key n litter.left.seed) of.children of.seeds;
+      }))

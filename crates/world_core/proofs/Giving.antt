@@ -27,7 +27,7 @@ use Rattle.world_core.specs.Lent.{Lent, IsLent, now_of}
 use Rattle.world_core.specs.Shows.{forest, IsAwake, HoldsAfter, Shows, ended_tree}
 use Rattle.world_core.specs.World.{Forest, ShowsTree, StandsFor}
 use Rattle.world_core.specs.Between.{IsBetween, IsSameWorld, with_tree}
-use Rattle.world_core.specs.Answers.{Answers, Goes, HandedOut, IsHandedOut}
+use Rattle.world_core.specs.Answers.{Answers, Goes, HandedOut, IsHandedOut, MayWant, home_by}
 use Rattle.world_core.proofs.Calling.{at_path-there, lent_out}
 use Rattle.world_core.proofs.Returns.{IsOutHere, Handed, gone, there, handed, shows-same}
 use Rattle.world_core.proofs.Steps.{SameTickets, Tallies-same, Holds-same, lease-runs, lease-comes, lease-same, lease-steps, has-run, HasRun}
@@ -193,3 +193,8 @@ module _ (depot : Shelves) (w : World) (f : Forest) (lease : Lent) (lent : IsLen
           (back-sound depot w f lease start ran stands broods log c is ended _ b) in
           subst (λ r. Answers depot f ended lease r new) (sym done.0)
           (back-goes depot w f lease start ran stands broods log c is ended _ b (may-end depot w f lease start ran stands broods log c is ending over) new done.1)
+
+-- a machine that makes no call comes back without memory
+pub home-wants-none : (ending : Option Ending) → MayWant (home_by ending) → ⊥
+home-wants-none None h = h
+home-wants-none (Some ending) h = h

@@ -1,7 +1,6 @@
 pub mod TurnLists
 pub mod Steps
 pub mod Receiving
-pub mod Fetching
 pub mod Changes
 pub mod AtPlaces
 pub mod Ready
@@ -35,5 +34,4 @@ mod CallFork
 pub mod Giving
 pub mod Beginning
 pub mod Arriving
-pub mod FetchedOver
 pub mod Crosses

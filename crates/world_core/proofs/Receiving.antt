@@ -1,6 +1,7 @@
 -- A page comes to a machine on lease.
-use Rattle.std.proofs.Common.{◌≡◌, ◌⊎◌, ℕ, Some, Result, Ok, Err, IfOk, OnErr, ap, ap₂, ◌∙◌}
+use Rattle.std.proofs.Common.{◌≡◌, ◌⊎◌, ℕ, ◌*◌, length, Some, Result, Ok, Err, IfOk, OnErr, ap, ap₂, ◌∙◌, subst}
 use Rattle.std.specs.declared.alloc.AllocError.{AllocError}
+use Rattle.elf_load.specs.declared.image.TheConstants.{PAGE_SIZE}
 use Rattle.image_depot.specs.declared.arrived.Arrived.{Arrived}
 use Rattle.image_depot.specs.Reply.{Reply}
 use Rattle.forest_tree.specs.Tree.{Path}
@@ -31,3 +32,8 @@ pub rest-arrived : (old new : Lent) (reply : Reply) (r : Result Arrived AllocErr
 rest-arrived old new reply r same ran now h err =
     same-as new.name old.name new.start old.start new.ran old.ran _ _ same.name same.start ran
     (vm.rest-arrived (vm_of old) (vm_of new) reply r now same.key h (vm-err old new r err))
+
+-- a lease has as many pages as its machine's RAM
+pub whole-of : (v : KeyedMachine) (lease : Lent) → v ≡ vm_of lease → length v.machine.state.ram ≡ PAGE_SIZE * length v.pages.here
+    → length lease.now.state.ram ≡ PAGE_SIZE * length lease.pages.here
+whole-of v lease same whole = subst (λ (u : KeyedMachine). length u.machine.state.ram ≡ PAGE_SIZE * length u.pages.here) same whole

@@ -65,12 +65,12 @@ slots-with path ticket (suc j) key a b slot seed slots trees shows h found =
     (with-slot path ticket key 1 seed slots trees j b slot h (subst (λ i. SlotShows (child_path path ticket i) key (numbered i seed) slot b) next (shows (numbered (suc j) seed))))
 
 -- slots that are awake, with another that is
-awake-with : (slots : List Slot) (at : ℕ) (slot : Slot) → IsNotAsleep (Some slot) → AreAwake slots → AreAwake (slice_set slots at slot)
-awake-with [] at slot awake h k = h k
-awake-with (first ∷ slots) zero slot awake h zero = awake
-awake-with (first ∷ slots) zero slot awake h (suc k) = h (suc k)
-awake-with (first ∷ slots) (suc at) slot awake h zero = h zero
-awake-with (first ∷ slots) (suc at) slot awake h (suc k) = awake-with slots at slot awake (λ j. h (suc j)) k
+AreAwake-with : (slots : List Slot) (at : ℕ) (slot : Slot) → IsNotAsleep (Some slot) → AreAwake slots → AreAwake (slice_set slots at slot)
+AreAwake-with [] at slot awake h k = h k
+AreAwake-with (first ∷ slots) zero slot awake h zero = awake
+AreAwake-with (first ∷ slots) zero slot awake h (suc k) = h (suc k)
+AreAwake-with (first ∷ slots) (suc at) slot awake h zero = h zero
+AreAwake-with (first ∷ slots) (suc at) slot awake h (suc k) = AreAwake-with slots at slot awake (λ j. h (suc j)) k
 
 -- where none is a descriptor any more, nothing need be left for them
 born-gone : (depot : Shelves) (path : Path) (ticket : ℕ) (old : Option Young) (slots : List Slot) (trees : Trees (Spot Paged)) → AreAwake slots
@@ -91,7 +91,7 @@ module _ (depot : Shelves) (path : Path) (ticket index : ℕ) (a b : Tree (Spot 
   born-with None slots trees h found = (
     h.0,
     h.1,
-    awake-with slots (index - 1) slot awake h.2,
+    AreAwake-with slots (index - 1) slot awake h.2,
     slots-with path ticket index h.0 a b slot h.1 slots trees (shows h.0) h.3 found,
   )
   born-with (Some young) slots trees h found =

@@ -5,9 +5,6 @@ use Rattle.forest_model.specs.Machine.{Machine, after_steps}
 use Rattle.image_depot.specs.Key.{Key}
 use Rattle.forest_model.specs.Paged.{Pages, Paged, advanced_by}
 use Rattle.vm_cell.specs.Keyed.{KeyedMachine, paged}
-use Rattle.vm_cell.specs.declared.vm.Stepped.{Stepped}
-use Rattle.vm_cell.specs.declared.vm.Stepped.TheVariants.{Went, Stall, Call, Ended}
-use Rattle.vm_cell.specs.Steps.{Stands}
 
 pub record Lent : Type 0 where
   pub name : Path
@@ -47,10 +44,3 @@ pub record IsSameLease (old new : Lent) : Type 0 where
   pub name : new.name ≡ old.name
   pub start : new.start ≡ old.start
   pub key : new.key ≡ old.key
-
--- the answer of a run that stalls at no page
-abbrev pub StandsWhole : KeyedMachine → Stepped → Type 0
-StandsWhole v Went = Stands v Went
-StandsWhole v (Stall page) = ⊥
-StandsWhole v (Call c) = Stands v (Call c)
-StandsWhole v (Ended ending) = Stands v (Ended ending)

@@ -1,6 +1,7 @@
 pub mod Lent
 pub mod Waiting
 pub mod Turns
+pub mod Litter
 pub mod Broods
 pub mod Shows
 pub mod Unparked

@@ -61,7 +61,7 @@ pub(crate) enum State {
 pub(crate) struct Brood {
     /// The name of their parent, for the line of the log where the ticket is killed.
     pub(crate) name: Name,
-    /// What they start with, once the parent has forked.
+    /// What they start with, as long as one of them is still a descriptor.
     pub(crate) young: Option<Young>,
     /// One for each of them, in order.
     pub(crate) slots: Vec<Slot>,

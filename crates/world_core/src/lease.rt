@@ -1,16 +1,15 @@
-ghost use Rattle.std.specs.Prelude.{◌≡◌, ◌≢◌, ◌≤◌, ◌<◌, ◌+◌, ◌-◌, ◌∷◌, [], length, slice_index_or, false, IfOk, OnErr, OnOk, None};
+ghost use Rattle.std.specs.Prelude.{◌≡◌, ◌≢◌, ◌≤◌, ◌<◌, ◌+◌, ◌-◌, ◌∷◌, [], length, slice_index_or, false, IfOk, OnErr, None};
 ghost use Rattle.std.specs.Option.{option_copied};
 ghost use Rattle.image_depot.specs.Key.{IsKeyOf, Shelves};
-ghost use Rattle.forest_model.specs.Paged.{absent_count, stalled_at};
+ghost use Rattle.forest_model.specs.Paged.{stalled_at};
 ghost use Rattle.vm_cell.specs.Acts.{Grows};
-ghost use Rattle.forest_model.specs.Machine.{after_steps};
 ghost use Rattle.vm_cell.specs.Keyed.{Arrives, HasImage, IsOfDepot, paged};
 ghost use Rattle.vm_cell.specs.Shown.{peeked, shown_registers};
 ghost use Rattle.vm_cell.specs.Standing.{standing_call};
 ghost use Rattle.vm_cell.specs.Steps.{IsFreeFor, Stands, moved_by};
 ghost use Rattle.world_core.specs.Answers.{IsHandedOut, IsOutSince, join_ticket};
 ghost use Rattle.world_core.specs.Arrived.{StillHandedOut, after_arrival};
-ghost use Rattle.world_core.specs.Lent.{HasLed, IsSameLease, StandsWhole, lent_as, vm_of};
+ghost use Rattle.world_core.specs.Lent.{HasLed, IsSameLease, lent_as, vm_of};
 ghost use Rattle.world_core.specs.Turns.{turn_of, turns_from};
 ghost use Rattle.world_core.specs.World.{Forest, StandsFor};
 ghost use Rattle.world_core.specs.declared.world.World.{World};
@@ -24,8 +23,6 @@ use std::alloc::{AllocError, Global};
 use std::marker::Model;
 use std::snapshot::Snapshot;
 use vm_cell::{Arrived, Ran, Stepped, Vm};
-
-mod over;
 
 /// A machine on lease. It runs by itself, and nothing else runs it meanwhile. A lease cannot be let go: it is
 /// spent by the world that handed it out, in `give`, `end`, `fork`, `join` or `kill`.
@@ -213,59 +210,5 @@ impl Lease {
         let ran = self.vm.run(most);
         self.ran += self.vm.steps() - before;
         ran
-    }
-
-    /// The same, where each page at which the machine stalls is brought from its image: so it stalls at none.
-    pub fn run_fetching(
-        &mut self,
-        alloc: Global,
-        depot: &Depot,
-        most: u64,
-    ) -> Result<Ran, AllocError>
-        requires { IsOfDepot depot.now self.old.key }
-        ensures same { IsSameLease self.old self.new }
-        ensures now { IfOk result (λ ran. (self.new.ran ≡ self.old.ran + ran.steps) × (self.new.now ≡ after_steps ran.steps self.old.now)) }
-        ensures stands { IfOk result (λ ran. StandsWhole (vm_of self.new) ran.why) }
-        ensures here { OnOk result (stalled_at (paged (vm_of self.new)) ≡ None) }
-        ensures most { IfOk result (λ ran. ran.steps ≤ most) }
-        ensures all_made { IfOk result (λ ran. ran.why ≡ Stepped.Went → ran.steps ≡ most) }
-        ensures enough { IfOk result (λ ran. self.old.now.limit ≤ self.old.now.steps + most → ran.why ≢ Stepped.Went) }
-        ensures err { OnErr result (self.new.now ≡ after_steps (self.new.ran - self.old.ran) self.old.now) }
-        ensures err_ran { OnErr result (self.old.ran ≤ self.new.ran) }
-        ensures err_most { OnErr result (self.new.ran ≤ self.old.ran + most) }
-        ensures err_live { OnErr result (self.new.now.ending ≡ None) }
-        ensures handed { (w : World) (f : Forest) → StandsFor depot.now w f → IsHandedOut f self.old → StillHandedOut depot.now w f self.new }
-    {
-        let mut steps = 0;
-        loop {
-            let ran = self.run(most - steps)?;
-            steps += ran.steps;
-            let Stepped::Stall(page) = ran.why else {
-                return Ok(Ran {
-                    steps,
-                    why: ran.why,
-                });
-            };
-            self.fetch(alloc, depot, page)?;
-        }
-    }
-
-    /// Brings the page at which the next step stalls from the image that has it.
-    fn fetch(&mut self, alloc: Global, depot: &Depot, page: u32) -> Result<(), AllocError>
-        requires of_depot { IsOfDepot depot.now self.old.key }
-        requires stalled { stalled_at (paged (vm_of self.old)) ≡ Some page }
-        ensures same { IsSameLease self.old self.new × (self.new.ran ≡ self.old.ran) }
-        ensures rest { self.new.now ≡ self.old.now }
-        ensures fewer { OnOk result (absent_count self.new.pages.here < absent_count self.old.pages.here) }
-        ensures handed { (w : World) (f : Forest) → StandsFor depot.now w f → IsHandedOut f self.old → StillHandedOut depot.now w f self.new }
-    {
-        // The call tells that RAM has no other page, and a step touches none but those of RAM.
-        let _ = self.vm.pages();
-        let Some(key) = self.key() else {
-            unreachable!();
-        };
-        let parcel = depot.answer(key, page)?;
-        self.arrive(alloc, depot, &parcel)?;
-        Ok(())
     }
 }

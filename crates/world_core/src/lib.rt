@@ -4,11 +4,13 @@
 
 mod cell;
 mod lease;
+mod litter;
 mod reason;
 mod receiver;
 mod turns;
 mod world;
 
 pub use lease::Lease;
+pub use litter::Litter;
 pub use reason::Reason;
 pub use world::{Placed, Taken, World};

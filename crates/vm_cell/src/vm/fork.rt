@@ -62,12 +62,39 @@ impl Vm {
         ensures seeds { IfOk result (λ brood. (ticket : ℕ) → standing_call self.old ≡ Some (Call.Clone ticket)
             → AreSeeds self.old brood.key (machines.grant self.old.machine ticket).children brood.seed) }
     {
+        let brood = self.child_left(rt, alloc, depot)?;
+        self.cloned();
+        Ok(brood)
+    }
+
+    /// What the CLONE that is the next step leaves for the children. The machine stays as it is, so this may be done
+    /// long before the CLONE is made. It may wait for another thread that keeps an image.
+    pub fn child_left<R: Wait>(
+        &self,
+        rt: &R,
+        alloc: Global,
+        depot: &Depot,
+    ) -> Result<Brood, AllocError>
+        requires of_depot { IsOfDepot depot.now self.now.key }
+        requires clone { IsClone (standing_call self.now) }
+        ensures here { IfOk result (λ brood. IsKeyOf depot.now brood.key) }
+        ensures seeds { IfOk result (λ brood. (ticket : ℕ) → standing_call self.now ≡ Some (Call.Clone ticket)
+            → AreSeeds self.now brood.key (machines.grant self.now.machine ticket).children brood.seed) }
+    {
         let ticket = self.cloned_ticket();
         let key = depot.freeze(rt, self.hart.freeze(alloc, depot)?)?;
         let seed = self.seed(alloc, ticket, &key)?;
+        Ok(Brood { key, seed })
+    }
+
+    /// Makes the CLONE that is the next step. It takes no memory.
+    pub fn cloned(&mut self)
+        requires { IsClone (standing_call self.old) }
+        ensures { self.new ≡ record self.old { machine = forked self.old.machine } }
+    {
+        let ticket = self.cloned_ticket();
         self.hart.fork(ticket);
         count_step(&mut self.steps, self.limit, &mut self.ending);
-        Ok(Brood { key, seed })
     }
 
     /// What child 1 of the CLONE that is the next step starts with, beside the image of a key.

@@ -1,34 +1,15 @@
-//! Broods, before their children are born and once they are done with.
+//! Broods, once their children are done with.
 
-ghost use Rattle.std.specs.Prelude.{◌≡◌, ◌+◌, ◌≤◌, ◌<◌, ◌^◌, ◌++◌, None, IfOk, length, min, replicate, vec_capacity, vec_len};
+ghost use Rattle.std.specs.Prelude.{◌≡◌, ◌+◌, ◌≤◌, ◌<◌, ◌^◌, ◌++◌, IfOk, length, min, vec_capacity, vec_len};
 ghost use Rattle.run_report.specs.Lines.{ticket_line};
 ghost use Rattle.world_core.specs.Broods.{slot_endings, slot_lines};
 
 use crate::cell::{Brood, Slot};
 use forest_model::Ending;
-use run_report::{Line, Name};
+use run_report::Line;
 use std::alloc::{AllocError, Global};
 
 impl Brood {
-    /// The children of a ticket of the machine of that name, before they are born.
-    pub(super) fn unborn(alloc: Global, name: &Name, children: u32) -> Result<Brood, AllocError>
-        ensures name { IfOk result (λ brood. brood.name ≡ name.now) }
-        ensures young { IfOk result (λ brood. brood.young ≡ None) }
-        ensures slots { IfOk result (λ brood. brood.slots.items ≡ replicate children Slot.Asleep) }
-        ensures live { IfOk result (λ brood. brood.live ≡ children) }
-    {
-        let mut slots = Vec::with_capacity(alloc, children as usize)?;
-        for _ in 0..children {
-            slots.push(Slot::Asleep)?;
-        }
-        Ok(Brood {
-            name: name.copy()?,
-            young: None,
-            slots,
-            live: children,
-        })
-    }
-
     /// How the children ended that have, in order.
     pub(super) fn endings(&self, alloc: Global) -> Result<Vec<Ending>, AllocError>
         ensures { IfOk result (λ endings. endings.items ≡ slot_endings self.now.slots.items) }

@@ -13,59 +13,36 @@ ghost use Rattle.forest_model.specs.Calls.{after_join, after_kill, forked};
 ghost use Rattle.forest_model.specs.Paged.{Paged};
 ghost use Rattle.run_report.specs.Lines.{lines};
 ghost use Rattle.run_report.specs.Report.{lines_of};
-ghost use Rattle.vm_cell.specs.Keyed.{IsOfDepot, paged};
+ghost use Rattle.vm_cell.specs.Keyed.{paged};
 ghost use Rattle.vm_cell.specs.Standing.{standing_call};
+ghost use Rattle.vm_cell.specs.declared.vm.fork.Brood.{Brood as Young};
 ghost use Rattle.world_core.specs.Broods.{killed_line};
+ghost use Rattle.world_core.specs.Litter.{IsNewBrood};
 ghost use Rattle.world_core.specs.Shows.{Holds, HoldsAfter, StandsAt, Tallies, ended_tree, forest, forked_tree, joined_tree, killed_tree, told_spot};
 
 use crate::cell::{Brood, Cell};
 use forest_model::Ending;
 use fork_port::Call;
-use image_depot::Depot;
 use run_report::{Line, Name, Outcome};
 use std::alloc::{AllocError, Global};
 use std::collections::BTreeMap;
-use std::sync::Wait;
 use vm_cell::Vm;
 
 impl Cell {
-    /// Makes the CLONE that the machine stands at.
-    pub(crate) fn fork<R: Wait>(
-        &mut self,
-        rt: &R,
-        alloc: Global,
-        vm: &mut Vm,
-        name: &Name,
-        ticket: u32,
-        depot: &Depot,
-    ) -> Result<(), AllocError>
-        requires of_depot { IsOfDepot depot.now vm.old.key }
+    /// Makes the CLONE that the machine stands at, with the brood of its ticket.
+    pub(crate) fn fork(&mut self, vm: &mut Vm, ticket: u32, brood: Brood) -> Result<(), AllocError>
         requires clones { standing_call vm.old ≡ Some (Call.Clone ticket) }
         ensures ok { OnOk result (vm.new ≡ record vm.old { machine = forked vm.old.machine }) }
         ensures err { OnErr result (vm.new ≡ vm.old) }
-        ensures holds { OnOk result ((t : Tree (Spot Paged)) → Holds depot.now name.now self.old t → StandsAt (paged vm.old) (clone ticket) t
-            → HoldsAfter depot.now name.now self.new (forked_tree ticket t)) }
-        ensures still { OnErr result ((t : Tree (Spot Paged)) → Holds depot.now name.now self.old t → StandsAt (paged vm.old) (clone ticket) t
-            → Holds depot.now name.now self.new t) }
+        ensures holds { OnOk result ((depot : Shelves) (path : Path) (left : Young) → IsNewBrood depot path vm.old ticket brood left
+            → (t : Tree (Spot Paged)) → Holds depot path self.old t → StandsAt (paged vm.old) (clone ticket) t → HoldsAfter depot path self.new (forked_tree ticket t)) }
+        ensures still { OnErr result ((depot : Shelves) (path : Path) (t : Tree (Spot Paged)) → Holds depot path self.old t → Holds depot path self.new t) }
         ensures place { (self.new.state ≡ self.old.state) × (self.new.is_listed ≡ self.old.is_listed) }
     {
-        let children = vm.granted(ticket);
         self.log.reserve(self.broods.len() + 1)?;
-        let brood = Brood::unborn(alloc, name, children)?;
         self.broods.insert(ticket, brood)?;
-        match vm.freeze_child(rt, alloc, depot) {
-            Ok(young) => {
-                let Some(brood) = self.broods.get_mut(&ticket) else {
-                    unreachable!();
-                };
-                brood.young = Some(young);
-                Ok(())
-            }
-            Err(error) => {
-                self.broods.remove(&ticket);
-                Err(error)
-            }
-        }
+        vm.cloned();
+        Ok(())
     }
 
     /// Makes the JOIN that the machine stands at, whose children have all ended.

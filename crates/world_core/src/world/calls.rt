@@ -1,4 +1,4 @@
-ghost use Rattle.std.specs.Prelude.{◌≡◌, [], ◌∷◌, None, if◌then◌else◌};
+ghost use Rattle.std.specs.Prelude.{◌≡◌, [], ◌∷◌, None, IfOk, if◌then◌else◌};
 ghost use Rattle.std.specs.BTreeMap.{get};
 ghost use Rattle.image_depot.specs.Key.{Shelves};
 ghost use Rattle.forest_tree.specs.Sound.{IsSound};
@@ -12,6 +12,7 @@ ghost use Rattle.vm_cell.specs.Keyed.{IsOfDepot, paged};
 ghost use Rattle.vm_cell.specs.Standing.{IsClone, IsKill, standing_call};
 ghost use Rattle.world_core.specs.Between.{IsBetween, settled_tree, with_tree};
 ghost use Rattle.world_core.specs.Lent.{vm_of};
+ghost use Rattle.world_core.specs.Litter.{IsLitterIn, IsLitterOf};
 ghost use Rattle.world_core.specs.Shows.{forest};
 ghost use Rattle.world_core.specs.Told.{told_of};
 ghost use Rattle.world_core.specs.Turns.{turn_of, turns_from};
@@ -20,12 +21,13 @@ ghost use Rattle.world_core.specs.Answers.{Answers, HandedOut, HandedOutIn, IsHa
 
 use crate::cell::{Cell, State};
 use crate::lease::Lease;
+use crate::litter::Litter;
 use crate::turns::Turn;
 use crate::world::{Placed, World};
 use fork_port::Call;
 use image_depot::Depot;
 use run_report::Name;
-use std::alloc::Global;
+use std::alloc::{AllocError, Global};
 use std::collections::BTreeMap;
 use std::sync::Wait;
 use vm_cell::Vm;
@@ -39,29 +41,40 @@ impl World {
             → Answers depot.now f forked lease result self.new }
         ensures told { told_of self.new ≡ told_of self.old }
     {
-        let Some(Call::Clone(ticket)) = lease.call() else {
-            unreachable!();
-        };
+        // Nothing is kept in the depot for a name that is gone.
+        if !self.cells.contains_key(lease.name()) {
+            lease.discard();
+            return Placed::Dropped;
+        }
+        let litter = lease.litter(rt, alloc, depot);
+        self.bear(lease, litter)
+    }
+
+    /// Makes the CLONE at which a machine stands, with the children that were made ready for it. Where memory was
+    /// wanting for them, the lease comes back. This is short, and waits for nobody.
+    pub fn bear(&mut self, lease: Lease, litter: Result<Litter, AllocError>) -> Placed
+        requires lent { (depot : Shelves) × HandedOutIn depot self.old lease × IfOk litter (IsLitterIn depot) }
+        requires clone { IsClone (standing_call (vm_of lease)) }
+        requires litter { IfOk litter (IsLitterOf lease) }
+        ensures answers { (depot : Shelves) (f : Forest) → StandsFor depot self.old f → IsHandedOut f lease → IsLentOf depot lease
+            → IfOk litter (IsLitterIn depot) → Answers depot f forked lease result self.new }
+        ensures told { told_of self.new ≡ told_of self.old }
+    {
         let Some(cell) = self.cells.get_mut(lease.name()) else {
             lease.discard();
             return Placed::Dropped;
         };
-        let Ok(name) = lease.name().copy() else {
+        let Ok(litter) = litter else {
             return Placed::Memory(lease);
         };
-        let Ok(children) = Turn::of_children(alloc, name, ticket) else {
-            return Placed::Memory(lease);
-        };
+        let (ticket, brood, children) = litter.into_brood();
         let Lease {
             turn,
             mut vm,
             ran,
             start,
         } = lease;
-        if cell
-            .fork(rt, alloc, &mut vm, &turn.name, ticket, depot)
-            .is_err()
-        {
+        if cell.fork(&mut vm, ticket, brood).is_err() {
             return Placed::Memory(Lease {
                 turn,
                 vm,

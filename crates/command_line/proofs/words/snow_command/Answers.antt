@@ -11,5 +11,7 @@ returns c =
     let run = ap (λ (app : App). app.top) c.in_ok-run_command.ensures.app in
     let drive = ap (λ (app : App). app.top) c.in_ok-drive_command.ensures.app in
     let first = c.in_ok-subcommand.ensures.shape c.in_ok-run_command.ensures.local ∙ ap₂ with_subcommand top run in
-    IfOk-weaker c.subcommand-2.result _ _ (λ command adds. adds.shape c.in_ok-drive_command.ensures.local ∙ ap₂ with_subcommand first drive)
-    c.subcommand-2.ensures
+    let second = c.in_ok-subcommand-2.ensures.shape c.in_ok-drive_command.ensures.local ∙ ap₂ with_subcommand first drive in
+    IfOk-weaker c.subcommand-3.result _ _
+    (λ command adds. adds.shape c.in_ok-generated_command.ensures.local ∙ ap₂ with_subcommand second (ap (λ (app : App). app.top) c.in_ok-generated_command.ensures.app))
+    c.subcommand-3.ensures

@@ -1,5 +1,6 @@
 use Rattle.world_core.specs.Answers.{home_by}
-use Rattle.drive_script.proofs.Lent.{given-back, home-wants-none, lent-handed, taken}
+use Rattle.world_core.proofs.Giving.{home-wants-none}
+use Rattle.drive_script.proofs.Lent.{given-back, lent-handed, taken}
 use Rattle.drive_script.proofs.Reasons.{answered-reason}
 use Rattle.drive_script.proofs.turn.give_back.Goals as goal
 

@@ -1,15 +1,21 @@
-use Rattle.forest_model.specs.Forest.{finish}
-use Rattle.snow_commands.specs.Turned.{machines_of}
-use Rattle.snow_commands.proofs.Turning.{finished-not, ended-report}
+use Rattle.std.proofs.Common.{[], ap, ◌∙◌}
+use Rattle.forest_tree.specs.Settle.{alone}
+use Rattle.forest_model.specs.Forest.{finish, machines}
+use Rattle.run_report.specs.Lines.{lines}
+use Rattle.run_report.specs.Report.{told}
+use Rattle.vm_cell.specs.Keyed.{KeyedMachine}
+use Rattle.fork_board.specs.Passes.{BoardValue, PassValue}
+use Rattle.host_workers.specs.declared.finish.Finish.TheVariants.{Stopped}
+use Rattle.snow_commands.proofs.First.{first-blames}
 use Rattle.snow_commands.proofs.family.run_to_end.Goals as goal
 
-pub unreachable-requires : goal.unreachable-requires
-unreachable-requires g c =
-    let ended = c.in_ok-run_family.ensures.ended c.requires.family.0 c.requires.family.1 in
-    finished-not c.into_finished.result ended.last.tree (c.into_finished.ensures c.args.depot.now ended.last ended.stands) ended.ended c.in-None.is
+pub returns-in-Over-clause-lines : goal.returns-in-Over-clause-lines
+returns-in-Over-clause-lines g c =
+    c.outcome_of.ensures
+    ∙ ap (λ (b : BoardValue). lines told [] (finish (alone machines b.opening.first.value.machine)))
+    (c.run_hosts-pass.ensures.worked.same_board ∙ ap (λ (p : PassValue). p.board) c.in-Ok.ensures.pass)
+    ∙ ap (λ (v : KeyedMachine). lines told [] (finish (alone machines v.machine))) c.in-Ok.ensures.opening.0
 
-pub returns-clause-report : goal.returns-clause-report
-returns-clause-report g c = λ t has.
-    let ended = c.in_ok-run_family.ensures.ended t has in
-    ended-report c.args.depot.now c.run_family.new.world (finish (machines_of t)) c.into_finished.result c.in-Some.outcome ended
-    (c.into_finished.ensures c.args.depot.now ended.last ended.stands) c.in-Some.is
+pub returns-in-Stopped-clause-wire : goal.returns-in-Stopped-clause-wire
+returns-in-Stopped-clause-wire g c = λ wire.
+    first-blames c.in-Ok.board c.in-Ok.pass c.run_hosts-pass.result.0 c.in-Ok.ensures.pass (c.run_hosts-pass.ensures.wire (c.in-Stopped.is ∙ ap Stopped wire))

@@ -1,4 +1,4 @@
-use Rattle.std.proofs.Common.{refl}
+use Rattle.std.proofs.Common.{◌<◌, subst, arith}
 use Rattle.fork_board.specs.Notes.{heard_entry}
 use Rattle.fork_board.specs.Visits.{pass_of}
 use Rattle.fork_board.proofs.Delivered.{hears}
@@ -27,5 +27,5 @@ returns g c =
     record {
       makes = made c.args.pass now w v entry n is w on c.leave.result left;
       hears = hears now c.leave.result w v.follows c.args.place r left.same_board (seen-then c.args.pass now w v entry n is w on c.leave.result left)
-          c.hear-heard.ensures.value c.hear-heard.ensures.kept;
+          c.hear-heard.ensures.value c.hear-heard.ensures.kept (subst (λ n. n < 18446744073709551616) c.told.ensures (omega arith));
     }

@@ -2,7 +2,7 @@ use Rattle.std.proofs.Common.{ap, ◌∙◌}
 use Rattle.vm_cell.specs.Keyed.{paged}
 use Rattle.vm_cell.proofs.Receiving.{wanted-absent}
 use Rattle.world_core.specs.Lent.{vm_of}
-use Rattle.world_core.proofs.Fetching.{whole-of}
+use Rattle.world_core.proofs.Receiving.{whole-of}
 use Rattle.world_core.proofs.receiver.LeaseReceiver.wanted.Goals as goal
 
 pub returns-clause-absent : goal.returns-clause-absent

@@ -1,0 +1,229 @@
+-- What several workers know, when their passes are joined.
+use Rattle.std.proofs.Common.{◌≡◌, ◌≢◌, ◌⊎◌, inl, inr, ℕ, zero, suc, ◌+◌, ◌≤◌, Bool, true, false, List, [], ◌∷◌, ◌++◌, append_assoc, Option, Some, None, option_map, IsSome, IsSomeAnd, refl, sym, ap, ap₂, ◌∙◌, subst, arith}
+use Rattle.std.proofs.lemmas.Bool.{cases_eq}
+use Rattle.std.proofs.lemmas.Slice.Eq.{bytes_eq-Decides}
+use Rattle.forest_history.specs.Histories.{History, IsLegal, Seat}
+use Rattle.forest_model.specs.Forest.{machines}
+use Rattle.turn_board.specs.Seats.{is_seat}
+use Rattle.turn_board.proofs.Names.{same_is}
+use Rattle.world_core.specs.declared.reason.Reason.{Reason}
+use Rattle.world_core.specs.declared.reason.Reason.TheVariants as reason
+use Rattle.fork_board.specs.Follows.{opening_record}
+use Rattle.fork_board.specs.Passes.{BoardValue, HoldsNone, Joins, PassValue, seen_record}
+use Rattle.host_workers.specs.Finishes.{Finishes, IsForeign, IsStopped, IsStoppedElsewhere, Worked, WorkedAll, first_stop, is_over}
+use Rattle.host_workers.specs.Lost.{IsLost, IsOneLost}
+use Rattle.host_workers.specs.Spread.{BlamesOne, WorkAll, Works, child, finish_of, parent}
+use Rattle.host_workers.specs.Stays.{Blames}
+use Rattle.host_workers.specs.declared.finish.Finish.{Finish}
+use Rattle.host_workers.specs.declared.finish.Finish.TheVariants.{Over, Stopped}
+use Rattle.host_workers.proofs.Over.{over-later, over-same}
+use Rattle.host_workers.proofs.Stops.{seen-halted, stops-by, stops-on}
+
+-- ---- who stopped the world
+
+abbrev stop-of : Seat → Reason → Seat × Reason
+stop-of seat r = (seat, r)
+
+-- the first stop that a pass has seen, for this reason
+abbrev StopFor : PassValue → Reason → Type 0
+StopFor pass r = (stop : Seat × Reason) × ((first_stop pass.seen ≡ Some stop) × (stop.1 ≡ r))
+
+stop-for : (pass : PassValue) (r : Reason) → (seen_record pass).world.halted ≡ Some r → StopFor pass r
+stop-for pass r halted = at (first_stop pass.seen) refl (sym (seen-halted pass) ∙ halted)
+  where
+    at : (o : Option (Seat × Reason)) → first_stop pass.seen ≡ o → option_map (λ s. s.1) o ≡ Some r → StopFor pass r
+    at None is e = absurd (cc)
+    at (Some stop) is e = (stop, (is, cc))
+
+halted-for : (pass : PassValue) (stop : Seat × Reason) → first_stop pass.seen ≡ Some stop → (seen_record pass).world.halted ≡ Some stop.1
+halted-for pass stop is = seen-halted pass ∙ ap (option_map (λ s. s.1)) is
+
+-- a pass that has seen more
+module _ (old new : PassValue) (more : History Reason) (seen : new.seen ≡ old.seen ++ more) where
+  stop-later : (stop : Seat × Reason) → first_stop old.seen ≡ Some stop → first_stop new.seen ≡ Some stop
+  stop-later stop is = ap first_stop seen ∙ stops-on old.seen more stop is
+
+  halted-later : (r : Reason) → (seen_record old).world.halted ≡ Some r → (seen_record new).world.halted ≡ Some r
+  halted-later r halted =
+      let s : StopFor old r = stop-for old r halted in
+      halted-for new s.0 (stop-later s.0 s.1.0) ∙ ap Some s.1.1
+
+same-or-other : (a b : Seat) → (a ≡ b) ⊎ (a ≢ b)
+same-or-other a b = by (is_seat a b) refl
+  where
+    by : (same : Bool) → is_seat a b ≡ same → (a ≡ b) ⊎ (a ≢ b)
+    by true is = inl ((bytes_eq-Decides a b).0 is)
+    by false is = inr (λ same. let yes : true ≡ false = sym (same_is a) ∙ ap (is_seat a) same ∙ is in absurd (cc))
+
+-- whom the end of one worker's work blames
+worker-blames : {W : Type 0} (streak : W → ℕ) (wire : W) (old new : PassValue) → Worked old new → Blames streak wire old new → (stop : Seat × Reason)
+    → first_stop new.seen ≡ Some stop → stop.1 ≡ reason.Wire → IsLost streak wire ⊎ (IsStopped old ⊎ IsForeign old stop.0)
+worker-blames streak wire old new w blames stop is for_wire = by (same-or-other stop.0 new.number)
+  where
+    its-own : IsLost streak wire ⊎ IsStopped old → IsLost streak wire ⊎ (IsStopped old ⊎ IsForeign old stop.0)
+    its-own (inl lost) = inl lost
+    its-own (inr stopped) = inr (inl stopped)
+
+    apart : (k : ℕ) (below : Seat) → old.splits ≤ k → stop.0 ≢ old.number ++ k ∷ below
+    apart k below most same =
+        stops-by (new.number ++ k ∷ below) new.seen stop
+        (w.unmade k below (subst (λ n. n ≤ k) (sym w.same_splits) most)) is
+        (same ∙ ap (λ n. n ++ k ∷ below) (sym w.same_number))
+
+    by : (stop.0 ≡ new.number) ⊎ (stop.0 ≢ new.number) → IsLost streak wire ⊎ (IsStopped old ⊎ IsForeign old stop.0)
+    by (inl own) =
+        its-own (blames (is ∙ ap Some (ap₂ stop-of own for_wire)))
+    by (inr other) = inr (inr (record { not_own = λ same. other (same ∙ sym w.same_number); not_below = apart }))
+
+elsewhere : (old new : PassValue) (stop : Seat × Reason) → first_stop new.seen ≡ Some stop → IsForeign old stop.0 → IsStoppedElsewhere old new
+elsewhere old new stop is foreign = subst (λ o. IsSomeAnd o (λ s. IsForeign old s.0)) (sym is) foreign
+
+-- a seat that is foreign to a pass and to one that was split off from it was so before
+both-foreign : (pass : PassValue) (seat : Seat) → IsForeign (child pass) seat → IsForeign (parent pass) seat → IsForeign pass seat
+both-foreign pass seat below beside = record {
+  not_own = beside.not_own;
+  not_below = λ k rest most. by k rest most (cases_eq k pass.splits);
+}
+  where
+    in-child : (k : ℕ) (rest : Seat) → k ≡ pass.splits → seat ≢ pass.number ++ k ∷ rest
+    in-child k [] same is = below.not_own (is ∙ ap (λ n. pass.number ++ n ∷ []) same)
+    in-child k (n ∷ rest) same is =
+        below.not_below n rest (omega arith)
+        (is ∙ ap (λ m. pass.number ++ m ∷ n ∷ rest) same ∙ sym (append_assoc pass.number (pass.splits ∷ []) (n ∷ rest)))
+
+    by : (k : ℕ) (rest : Seat) → pass.splits ≤ k → (k ≡ pass.splits) ⊎ (k ≡ pass.splits → ⊥) → seat ≢ pass.number ++ k ∷ rest
+    by k rest most (inl same) = in-child k rest same
+    by k rest most (inr other) = beside.not_below k rest (omega (arith, most, other))
+
+-- ---- one worker alone
+
+pub alone-works : {W : Type 0} (streak : W → ℕ) (wire : W) (old new : PassValue) (finish : Finish) → Works streak wire old new finish
+    → WorkAll streak (wire ∷ []) old new finish
+alone-works streak wire old new finish w = record {
+  worked = record {
+    same_board = w.worked.same_board;
+    same_number = w.worked.same_number;
+    rest = w.worked.rest;
+    seen = w.worked.seen;
+    legal = w.worked.legal;
+  };
+  none = w.none;
+  end = w.end;
+  blames = λ is. blames is;
+}
+  where
+    to : (stop : Seat × Reason) → first_stop new.seen ≡ Some stop → IsLost streak wire ⊎ (IsStopped old ⊎ IsForeign old stop.0)
+        → IsOneLost streak (wire ∷ []) ⊎ (IsStopped old ⊎ IsStoppedElsewhere old new)
+    to stop is (inl lost) = inl (inl lost)
+    to stop is (inr (inl stopped)) = inr (inl stopped)
+    to stop is (inr (inr foreign)) = inr (inr (elsewhere old new stop is foreign))
+
+    blames : finish ≡ Stopped reason.Wire → IsOneLost streak (wire ∷ []) ⊎ (IsStopped old ⊎ IsStoppedElsewhere old new)
+    blames same =
+        let end : Finishes new (Stopped reason.Wire) = subst (Finishes new) same w.end in
+        let s : StopFor new reason.Wire = stop-for new reason.Wire end.1 in
+        to s.0 s.1.0 (worker-blames streak wire old new w.worked w.blames s.0 s.1.0 s.1.1)
+
+-- ---- a worker, and others beside it
+
+module _ {W : Type 0} (streak : W → ℕ) (wire : W) (wires : List W) (pass first rest new : PassValue) (f g : Finish)
+    (one : Works streak wire (child pass) first f) (others : WorkAll streak wires (parent pass) rest g) (j : Joins rest first new) where
+  board : new.board ≡ pass.board
+  board = j.same_board ∙ others.worked.same_board
+
+  legal : IsLegal machines new.seen (opening_record pass.board.opening)
+  legal = by j.either
+    where
+      by : (new.seen ≡ rest.seen) ⊎ (new.seen ≡ first.seen) → IsLegal machines new.seen (opening_record pass.board.opening)
+      by (inl same) = subst (λ l. IsLegal machines l (opening_record pass.board.opening)) (sym same) others.worked.legal
+      by (inr same) = subst (λ l. IsLegal machines l (opening_record pass.board.opening)) (sym same) one.worked.legal
+
+  worked-all : WorkedAll pass new
+  worked-all = record {
+    same_board = board;
+    same_number = j.same_number ∙ others.worked.same_number;
+    rest = others.worked.rest ++ j.seen.0;
+    seen = j.seen.1 ∙ ap (λ l. l ++ j.seen.0) others.worked.seen ∙ append_assoc pass.seen others.worked.rest j.seen.0;
+    legal = legal;
+  }
+
+  first-board : new.board ≡ first.board
+  first-board = board ∙ sym one.worked.same_board
+
+  over-first : is_over first ≡ true → is_over new ≡ true
+  over-first = over-later first new j.others.0 first-board j.others.1
+      (subst (λ (b : BoardValue). IsLegal machines new.seen (opening_record b.opening)) (sym one.worked.same_board) legal)
+
+  over-rest : is_over rest ≡ true → is_over new ≡ true
+  over-rest = over-later rest new j.seen.0 j.same_board j.seen.1
+      (subst (λ (b : BoardValue). IsLegal machines new.seen (opening_record b.opening)) (sym others.worked.same_board) legal)
+
+  lives : is_over first ≡ false → is_over rest ≡ false → is_over new ≡ false
+  lives here there = by j.either
+    where
+      by : (new.seen ≡ rest.seen) ⊎ (new.seen ≡ first.seen) → is_over new ≡ false
+      by (inl same) = over-same rest new j.same_board same ∙ there
+      by (inr same) = over-same first new first-board same ∙ here
+
+  ends : (a b : Finish) → Finishes first a → Finishes rest b → Finishes new (finish_of a b)
+  ends Over b here there = over-first here
+  ends (Stopped r) Over here there = over-rest there
+  ends (Stopped r) (Stopped s) here there = (lives here.0 there.0, halted-later rest new j.seen.0 j.seen.1 s there.1)
+
+  abbrev Blamed : Type 0
+  Blamed = IsOneLost streak (wire ∷ wires) ⊎ (IsStopped pass ⊎ IsStoppedElsewhere pass new)
+
+  by-both : (stop : Seat × Reason) → first_stop new.seen ≡ Some stop → first_stop rest.seen ≡ Some stop
+      → IsLost streak wire ⊎ (IsStopped (child pass) ⊎ IsForeign (child pass) stop.0)
+      → IsOneLost streak wires ⊎ (IsStopped (parent pass) ⊎ IsStoppedElsewhere (parent pass) rest) → Blamed
+  by-both stop is there (inl lost) beside = inl (inl lost)
+  by-both stop is there (inr (inl stopped)) beside = inr (inl stopped)
+  by-both stop is there (inr (inr foreign)) (inl lost) = inl (inr lost)
+  by-both stop is there (inr (inr foreign)) (inr (inl stopped)) = inr (inl stopped)
+  by-both stop is there (inr (inr foreign)) (inr (inr beside)) =
+      inr (inr (elsewhere pass new stop is
+      (both-foreign pass stop.0 foreign (subst (λ o. IsSomeAnd o (λ s. IsForeign (parent pass) s.0)) there beside))))
+
+  blames-both : (r : Reason) → Finishes first (Stopped r) → Finishes rest (Stopped reason.Wire)
+      → BlamesOne streak wires (parent pass) rest (Stopped reason.Wire) → Blamed
+  blames-both r here there beside =
+      let s : StopFor first r = stop-for first r here.1 in
+      let t : StopFor rest reason.Wire = stop-for rest reason.Wire there.1 in
+      let after-first : first_stop new.seen ≡ Some s.0 = stop-later first new j.others.0 j.others.1 s.0 s.1.0 in
+      let after-rest : first_stop new.seen ≡ Some t.0 = stop-later rest new j.seen.0 j.seen.1 t.0 t.1.0 in
+      by-both t.0 after-rest t.1.0
+      (worker-blames streak wire (child pass) first one.worked one.blames t.0 (s.1.0 ∙ sym after-first ∙ after-rest) t.1.1)
+      (beside refl)
+
+  blames-all : (a b : Finish) → Finishes first a → Finishes rest b → BlamesOne streak wires (parent pass) rest b
+      → BlamesOne streak (wire ∷ wires) pass new (finish_of a b)
+  blames-all Over b here there beside e = absurd (cc)
+  blames-all (Stopped r) b here there beside e =
+      blames-both r here (subst (Finishes rest) e there) (subst (BlamesOne streak wires (parent pass) rest) e beside)
+
+  pub both-work : WorkAll streak (wire ∷ wires) pass new (finish_of f g)
+  both-work = record {
+    worked = worked-all;
+    none = λ name. j.free name (others.none name);
+    end = ends f g one.end others.end;
+    blames = blames-all f g one.end others.end others.blames;
+  }
+
+-- ---- a pass that is the first of its board and has seen nothing
+
+pub nobody-foreign : (pass : PassValue) (seat : Seat) → pass.number ≡ [] → pass.splits ≡ 0 → IsForeign pass seat → ⊥
+nobody-foreign pass [] first unsplit foreign = foreign.not_own (sym first)
+nobody-foreign pass (k ∷ below) first unsplit foreign =
+    foreign.not_below k below (omega (arith, unsplit)) (ap (λ n. n ++ k ∷ below) (sym first))
+
+pub nobody-elsewhere : (pass new : PassValue) → pass.number ≡ [] → pass.splits ≡ 0 → IsStoppedElsewhere pass new → ⊥
+nobody-elsewhere pass new first unsplit h = at (first_stop new.seen) h
+  where
+    at : (o : Option (Seat × Reason)) → IsSomeAnd o (λ s. IsForeign pass s.0) → ⊥
+    at None none = none
+    at (Some stop) foreign = nobody-foreign pass stop.0 first unsplit foreign
+
+pub nothing-stopped : (pass : PassValue) → pass.seen ≡ [] → IsStopped pass → ⊥
+unfolding first_stop
+nothing-stopped pass none stopped =
+    let no : false ≡ true = subst (λ (l : History Reason). IsSome (first_stop l)) none stopped in cc

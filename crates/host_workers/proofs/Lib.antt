@@ -1,0 +1,7 @@
+pub mod Stops
+pub mod Working
+pub mod Ending
+pub mod Hearing
+pub mod Over
+pub mod Joining
+pub mod Crosses

@@ -1,0 +1,341 @@
+-- What a pass keeps from entry to entry, and whom it blames.
+use Rattle.std.proofs.Common.{◌≡◌, ◌≢◌, ◌⊎◌, inl, inr, ℕ, [], ◌∷◌, ◌++◌, append_assoc, append-nil, Option, Some, None, Result, Ok, Err, refl, sym, ap, ◌∙◌, subst}
+use Rattle.std.specs.Prelude.{is_some, IsSome}
+use Rattle.std.specs.declared.alloc.AllocError.{AllocError}
+use Rattle.image_depot.specs.Reply.{Delivery}
+use Rattle.forest_tree.specs.Tree.{Path}
+use Rattle.forest_history.specs.Rows.{How, halted}
+use Rattle.forest_history.specs.Histories.{Entry, row, History, IsLegal, Seat}
+use Rattle.forest_model.specs.Forest.{machines}
+use Rattle.vm_cell.specs.Keyed.{IsOfDepot}
+use Rattle.world_core.specs.declared.reason.Reason.{Reason}
+use Rattle.world_core.specs.declared.reason.Reason.TheVariants as reason
+use Rattle.world_core.specs.declared.world.Placed.{Placed}
+use Rattle.world_core.specs.declared.world.Placed.TheVariants.{Done, Parked, Dropped, Memory}
+use Rattle.world_core.specs.declared.world.Taken.{Taken}
+use Rattle.world_core.specs.declared.world.Taken.TheVariants as taken
+use Rattle.world_core.specs.Answers.{IsLentOf}
+use Rattle.world_core.specs.Lent.{IsSameLease, Lent}
+use Rattle.world_core.specs.Received.{lent_without_here}
+use Rattle.fork_board.specs.Follows.{depot_of, opening_record}
+use Rattle.fork_board.specs.Holds.{HoldsOne}
+use Rattle.fork_board.specs.Notes.{heard_entry, placed_entry, taken_entry, told_entry}
+use Rattle.fork_board.specs.Passes.{BoardValue, FreeAfter, IsFree, Leaves, Makes, PassValue}
+use Rattle.fork_board.proofs.Returning.{held-same}
+use Rattle.host_workers.specs.Finishes.{IsStopped, IsStoppedBy, Worked, first_stop, reason_of, stop_or}
+use Rattle.host_workers.specs.Lost.{IsLost}
+use Rattle.host_fetch.specs.declared.error.FetchError.{FetchError}
+use Rattle.host_fetch.specs.declared.error.FetchError.TheVariants as fault
+use Rattle.host_workers.specs.Stays.{Blames, Spares, Stays, reason_for}
+use Rattle.host_workers.proofs.Stops.{stops-by, stops-later, stops-on}
+
+-- ---- what entries leave as it was
+
+pub silent-taken : (answer : Taken) → reason_of (taken_entry answer) ≡ None
+silent-taken taken.Over = refl
+silent-taken (taken.Stopped r) = refl
+silent-taken taken.Idle = refl
+silent-taken (taken.Took lease) = refl
+silent-taken taken.Memory = refl
+
+pub silent-placed : (how : How) (name : Path) (ran : ℕ) (placed : Placed) → reason_of (placed_entry how name ran placed) ≡ None
+silent-placed how name ran Done = refl
+silent-placed how name ran Parked = refl
+silent-placed how name ran Dropped = refl
+silent-placed how name ran (Memory lease) = refl
+
+silent-told : (image page : ℕ) (answer : Result (Unit {0}) AllocError) → reason_of (told_entry image page answer) ≡ None
+silent-told image page (Ok u) = refl
+silent-told image page (Err e) = refl
+
+leaves-told : (image page : ℕ) (answer : Result (Unit {0}) AllocError) (name : Path) → Leaves (told_entry image page answer) name
+leaves-told image page (Ok u) name = tt
+leaves-told image page (Err e) name = tt
+
+free-told : (image page : ℕ) (answer : Result (Unit {0}) AllocError) (name : Path) (before : Type 0) → before
+    → FreeAfter (told_entry image page answer) name before
+free-told image page (Ok u) name before h = h
+free-told image page (Err e) name before h = h
+
+silent-heard : (place : ℕ) (answer : Result (Option Delivery) AllocError) → reason_of (heard_entry place answer) ≡ None
+silent-heard place (Ok sent) = refl
+silent-heard place (Err e) = refl
+
+leaves-heard : (place : ℕ) (answer : Result (Option Delivery) AllocError) (name : Path) → Leaves (heard_entry place answer) name
+leaves-heard place (Ok sent) name = tt
+leaves-heard place (Err e) name = tt
+
+free-heard : (place : ℕ) (answer : Result (Option Delivery) AllocError) (name : Path) (before : Type 0) → before
+    → FreeAfter (heard_entry place answer) name before
+free-heard place (Ok sent) name before h = h
+free-heard place (Err e) name before h = h
+
+-- ---- a pass that holds what it held
+
+pub stays-none : (pass : PassValue) → Stays pass pass
+stays-none pass = record {
+  same_board = refl;
+  same_number = refl;
+  same_splits = refl;
+  rest = [];
+  seen = sym (append-nil pass.seen);
+  held = λ lease h. h;
+  free = λ name h. h;
+}
+
+pub stays-more : (first then last : PassValue) → Stays first then → Stays then last → Stays first last
+stays-more first then last a b = record {
+  same_board = b.same_board ∙ a.same_board;
+  same_number = b.same_number ∙ a.same_number;
+  same_splits = b.same_splits ∙ a.same_splits;
+  rest = a.rest ++ b.rest;
+  seen = b.seen ∙ ap (λ l. l ++ b.rest) a.seen ∙ append_assoc first.seen a.rest b.rest;
+  held = λ lease h. b.held lease (a.held lease h);
+  free = λ name h. b.free name (a.free name h);
+}
+
+stays-one : (old new : PassValue) (entry : Entry Reason) → Makes old new entry → ((name : Path) → Leaves entry name)
+    → ((name : Path) → IsFree old name → FreeAfter entry name (IsFree old name)) → Stays old new
+stays-one old new entry m leaves free = record {
+  same_board = m.same_board;
+  same_number = m.same_number;
+  same_splits = m.same_splits;
+  rest = m.between ++ (old.number, entry) ∷ [];
+  seen = m.seen ∙ append_assoc old.seen m.between ((old.number, entry) ∷ []);
+  held = λ lease h. m.held lease h (leaves lease.name);
+  free = λ name h. m.free name (free name h);
+}
+
+pub stays-told : (old new : PassValue) (image page : ℕ) (answer : Result (Unit {0}) AllocError) → Makes old new (told_entry image page answer)
+    → Stays old new
+stays-told old new image page answer m =
+    stays-one old new (told_entry image page answer) m (leaves-told image page answer) (λ name h. free-told image page answer name (IsFree old name) h)
+
+pub stays-heard : (old new : PassValue) (place : ℕ) (answer : Result (Option Delivery) AllocError) → Makes old new (heard_entry place answer) → Stays old new
+stays-heard old new place answer m =
+    stays-one old new (heard_entry place answer) m (leaves-heard place answer) (λ name h. free-heard place answer name (IsFree old name) h)
+
+pub stays-halted : (old new : PassValue) (r : Reason) → Makes old new (row (halted r)) → Stays old new
+stays-halted old new r m = stays-one old new (row (halted r)) m (λ name. tt) (λ name h. h)
+
+-- the machine that it holds, on the same lease
+pub holds-on : (old new : PassValue) (a b : Lent) → Stays old new → IsSameLease a b → HoldsOne old a → HoldsOne new b
+holds-on old new a b stays same one = record {
+  held = held-same new a b same (stays.held a one.held);
+  of_depot =
+      subst (λ (v : BoardValue). IsLentOf (depot_of v.opening) b) (sym stays.same_board)
+      (subst (IsOfDepot (depot_of old.board.opening)) (sym same.key) one.of_depot);
+  others = λ name apart. stays.free name (one.others name (λ e. apart (same.name ∙ e)));
+}
+
+-- ---- a lease on the same machine
+
+pub same-none : (lease : Lent) → IsSameLease lease lease
+same-none lease = record { name = refl; start = refl; key = refl }
+
+pub same-then : (a b c : Lent) → IsSameLease a b → IsSameLease b c → IsSameLease a c
+same-then a b c first then = record {
+  name = then.name ∙ first.name;
+  start = then.start ∙ first.start;
+  key = then.key ∙ first.key;
+}
+
+-- a page has come
+pub same-fetched : (old new : Lent) → lent_without_here new ≡ lent_without_here old → IsSameLease old new
+same-fetched old new rest = record {
+  name = ap (λ (l : Lent). l.name) rest;
+  start = ap (λ (l : Lent). l.start) rest;
+  key = ap (λ (l : Lent). l.key) rest;
+}
+
+-- ---- a pass that has worked
+
+pub worked-one : (old new : PassValue) (entry : Entry Reason) → Makes old new entry → Worked old new
+worked-one old new entry m = record {
+  same_board = m.same_board;
+  same_number = m.same_number;
+  same_splits = m.same_splits;
+  rest = m.between ++ (old.number, entry) ∷ [];
+  seen = m.seen ∙ append_assoc old.seen m.between ((old.number, entry) ∷ []);
+  own = m.own;
+  unmade = m.unmade;
+  legal = m.legal;
+}
+
+-- the last that it did was work
+worked-last : (first then last : PassValue) → then.board ≡ first.board → then.number ≡ first.number → then.splits ≡ first.splits
+    → (rest : History Reason) → then.seen ≡ first.seen ++ rest → Worked then last → Worked first last
+worked-last first then last board number splits rest seen w = record {
+  same_board = w.same_board ∙ board;
+  same_number = w.same_number ∙ number;
+  same_splits = w.same_splits ∙ splits;
+  rest = rest ++ w.rest;
+  seen = w.seen ∙ ap (λ l. l ++ w.rest) seen ∙ append_assoc first.seen rest w.rest;
+  own = w.own;
+  unmade = w.unmade;
+  legal = subst (λ (v : BoardValue). IsLegal machines last.seen (opening_record v.opening)) board w.legal;
+}
+
+pub stays-worked : (first then last : PassValue) → Stays first then → Worked then last → Worked first last
+stays-worked first then last a w = worked-last first then last a.same_board a.same_number a.same_splits a.rest a.seen w
+
+pub worked-more : (first then last : PassValue) → Worked first then → Worked then last → Worked first last
+worked-more first then last a w = worked-last first then last a.same_board a.same_number a.same_splits a.rest a.seen w
+
+-- a pass that may have worked
+pub worked-board : (first then : PassValue) → (then ≡ first) ⊎ Worked first then → then.board ≡ first.board
+worked-board first then (inl same) = ap (λ (p : PassValue). p.board) same
+worked-board first then (inr w) = w.same_board
+
+pub worked-then : (first then last : PassValue) → (then ≡ first) ⊎ Worked first then → Worked then last → Worked first last
+worked-then first then last (inl same) w = subst (λ p. Worked p last) same w
+worked-then first then last (inr before) w = worked-more first then last before w
+
+-- ---- who stops the world
+
+pub some-is : {A : Type 0} (o : Option A) → IsSome o → (x : A) × (o ≡ Some x)
+some-is None h = absurd (cc)
+some-is (Some x) h = (x, refl)
+
+is-some : {A : Type 0} (o : Option A) (x : A) → o ≡ Some x → IsSome o
+is-some o x e = ap is_some e
+
+module _ (old new : PassValue) (rest : History Reason) (seen : new.seen ≡ old.seen ++ rest) where
+  -- a world that was stopped stays so, by the same seat and for the same reason
+  pub stopped-later : IsStopped old → IsStopped new
+  stopped-later h = let s = some-is (first_stop old.seen) h in is-some (first_stop new.seen) s.0 (ap first_stop seen ∙ stops-on old.seen rest s.0 s.1)
+
+  stopped-back : (seat : Seat) (r : Reason) → IsStoppedBy seat r new → IsStopped old → IsStoppedBy seat r old
+  stopped-back seat r by h =
+      let s = some-is (first_stop old.seen) h in s.1 ∙ sym (ap first_stop seen ∙ stops-on old.seen rest s.0 s.1) ∙ by
+
+  own-back : new.number ≡ old.number → IsStoppedBy new.number reason.Wire new → IsStopped old → IsStoppedBy old.number reason.Wire old
+  own-back same by h = subst (λ s. IsStoppedBy s reason.Wire old) same (stopped-back new.number reason.Wire by h)
+
+pub spares-none : (pass : PassValue) → Spares pass pass
+spares-none pass h = is-some (first_stop pass.seen) (pass.number, reason.Wire) h
+
+module _ (first then last : PassValue) (same : last.number ≡ then.number) (rest : History Reason) (seen : last.seen ≡ then.seen ++ rest)
+    (before : Spares first then) where
+  pub spares-more : Spares then last → Spares first last
+  spares-more spares by = before (own-back then last rest seen same by (spares by))
+
+  pub blames-more : {W : Type 0} (streak : W → ℕ) (wire : W) → Blames streak wire then last → Blames streak wire first last
+  blames-more streak wire blames by = at (blames by)
+    where
+      at : IsLost streak wire ⊎ IsStopped then → IsLost streak wire ⊎ IsStopped first
+      at (inl lost) = inl lost
+      at (inr stopped) = inr (before (own-back then last rest seen same by stopped))
+
+-- the same, after what the pass has done since
+pub spares-stays : (first then last : PassValue) → Stays then last → Spares first then → Spares then last → Spares first last
+spares-stays first then last s before spares = spares-more first then last s.same_number s.rest s.seen before spares
+
+pub spares-worked : (first then last : PassValue) → Worked then last → Spares first then → Spares then last → Spares first last
+spares-worked first then last w before spares = spares-more first then last w.same_number w.rest w.seen before spares
+
+pub blames-worked : {W : Type 0} (streak : W → ℕ) (wire : W) (first then last : PassValue) → Worked then last → Spares first then
+    → Blames streak wire then last → Blames streak wire first last
+blames-worked streak wire first then last w before blames = blames-more first then last w.same_number w.rest w.seen before streak wire blames
+
+-- the wire stays as it was in a world that was stopped
+pub blames-on : {W : Type 0} (streak : W → ℕ) (old new : W) (first then last : PassValue) → Blames streak old first then → Worked then last
+    → (IsStopped then → new ≡ old) → Blames streak new then last → Blames streak new first last
+blames-on streak old new first then last before w still blames by = at (blames by)
+  where
+    through : IsStopped then → IsLost streak old ⊎ IsStopped first → IsLost streak new ⊎ IsStopped first
+    through stopped (inl lost) = inl (subst (IsLost streak) (sym (still stopped)) lost)
+    through stopped (inr h) = inr h
+
+    at : IsLost streak new ⊎ IsStopped then → IsLost streak new ⊎ IsStopped first
+    at (inl lost) = inl lost
+    at (inr stopped) = through stopped (before (own-back then last w.rest w.seen w.same_number by stopped))
+
+module _ (old new : PassValue) (entry : Entry Reason) (m : Makes old new entry) where
+  last-stop : first_stop ((old.number, entry) ∷ []) ≡ stop_or old.number (reason_of entry) None
+  unfolding first_stop
+  last-stop = refl
+
+  -- an entry that does not stop the world for a wire
+  spares-one : (reason_of entry ≡ Some reason.Wire → ⊥) → Spares old new
+  spares-one not by = before (first_stop old.seen) refl
+    where
+      its-own : (r : Option Reason) → reason_of entry ≡ r → stop_or old.number r None ≡ Some (new.number, reason.Wire) → ⊥
+      its-own None is e = absurd (cc)
+      its-own (Some r) is e =
+          let both : ◌≡◌ {A = Option (Seat × Reason)} (Some (old.number, r)) (Some (new.number, reason.Wire)) = e in
+          let pair : ◌≡◌ {A = Seat × Reason} (old.number, r) (new.number, reason.Wire) = cc in
+          not (is ∙ ap (λ (p : Seat × Reason). Some p.1) pair)
+
+      others : (o : Option (Seat × Reason)) → first_stop m.between ≡ o
+          → first_stop (m.between ++ (old.number, entry) ∷ []) ≡ Some (new.number, reason.Wire) → ⊥
+      others (Some x) is e =
+          let both : ◌≡◌ {A = Option (Seat × Reason)} (Some x) (Some (new.number, reason.Wire)) =
+          sym (stops-on m.between ((old.number, entry) ∷ []) x is) ∙ e in
+          let pair : ◌≡◌ {A = Seat × Reason} x (new.number, reason.Wire) = cc in
+          stops-by old.number m.between x m.others is (ap (λ (p : Seat × Reason). p.0) pair ∙ m.same_number)
+      others None is e = its-own (reason_of entry) refl (sym last-stop ∙ sym (stops-later m.between ((old.number, entry) ∷ []) is) ∙ e)
+
+      before : (o : Option (Seat × Reason)) → first_stop old.seen ≡ o → IsStopped old
+      before (Some x) is = is-some (first_stop old.seen) x is
+      before None is =
+          absurd (others (first_stop m.between) refl
+          (sym (stops-later old.seen (m.between ++ (old.number, entry) ∷ []) is)
+          ∙ ap first_stop (sym (m.seen ∙ append_assoc old.seen m.between ((old.number, entry) ∷ []))) ∙ by))
+
+  pub spares-silent : reason_of entry ≡ None → Spares old new
+  spares-silent silent = spares-one (λ is. let no : None ≡ Some reason.Wire = sym silent ∙ is in absurd (cc))
+
+pub spares-told : (old new : PassValue) (image page : ℕ) (answer : Result (Unit {0}) AllocError) → Makes old new (told_entry image page answer)
+    → Spares old new
+spares-told old new image page answer m = spares-silent old new (told_entry image page answer) m (silent-told image page answer)
+
+pub spares-heard : (old new : PassValue) (place : ℕ) (answer : Result (Option Delivery) AllocError) → Makes old new (heard_entry place answer) → Spares old new
+spares-heard old new place answer m = spares-silent old new (heard_entry place answer) m (silent-heard place answer)
+
+pub spares-halted : (old new : PassValue) (r : Reason) → Makes old new (row (halted r)) → r ≢ reason.Wire → Spares old new
+spares-halted old new r m unlike = spares-one old new (row (halted r)) m (λ is. unlike (let same : Some r ≡ Some reason.Wire = is in cc))
+
+pub spares-placed : (old new : PassValue) (how : How) (name : Path) (ran : ℕ) (placed : Placed) → Makes old new (placed_entry how name ran placed)
+    → Spares old new
+spares-placed old new how name ran placed m = spares-silent old new (placed_entry how name ran placed) m (silent-placed how name ran placed)
+
+pub spares-taken : (old new : PassValue) (answer : Taken) → Makes old new (taken_entry answer) → Spares old new
+spares-taken old new answer m = spares-silent old new (taken_entry answer) m (silent-taken answer)
+
+-- a machine was given back that could not be run on
+pub blames-given-up : {W : Type 0} (streak : W → ℕ) (wire : W) (first mid last : PassValue) (error : FetchError) (r : Reason) → r ≡ reason_for error
+    → (error ≡ fault.Wire → IsLost streak wire) → Spares first mid → Worked mid last → (r ≢ reason.Wire → Spares mid last) → Blames streak wire first last
+blames-given-up streak wire first mid last fault.Wire r is lost before w spares by = inl (lost refl)
+blames-given-up streak wire first mid last fault.Memory r is lost before w spares by =
+    inr (spares-worked first mid last w before (spares (λ same. let no : reason.Memory ≡ reason.Wire = sym is ∙ same in cc)) by)
+
+-- whoever stops a world has seen it stopped
+pub halted-stops : (old new : PassValue) (r : Reason) → Makes old new (row (halted r)) → IsStopped new
+halted-stops old new r m = at (first_stop (old.seen ++ m.between)) refl
+  where
+    whole : (x : Seat × Reason) → first_stop ((old.seen ++ m.between) ++ (old.number, row (halted r)) ∷ []) ≡ Some x → IsStopped new
+    whole x is = is-some (first_stop new.seen) x (ap first_stop m.seen ∙ is)
+
+    at : (o : Option (Seat × Reason)) → first_stop (old.seen ++ m.between) ≡ o → IsStopped new
+    at (Some x) is = whole x (stops-on (old.seen ++ m.between) ((old.number, row (halted r)) ∷ []) x is)
+    at None is = whole (old.number, r) (stops-later (old.seen ++ m.between) ((old.number, row (halted r)) ∷ []) is ∙ last-stop old new (row (halted r)) m)
+
+-- ---- a reply is told or heard, after what was done before
+
+pub told-then : (first old new : PassValue) (image page : ℕ) (answer : Result (Unit {0}) AllocError) → Stays first old × Spares first old
+    → Makes old new (told_entry image page answer) → Stays first new × Spares first new
+told-then first old new image page answer h m =
+    let s = stays-told old new image page answer m in
+    (stays-more first old new h.0 s, spares-stays first old new s h.1 (spares-told old new image page answer m))
+
+pub heard-then : (first old new : PassValue) (place : ℕ) (answer : Result (Option Delivery) AllocError) → Stays first old × Spares first old
+    → Makes old new (heard_entry place answer) → Stays first new × Spares first new
+heard-then first old new place answer h m =
+    let s = stays-heard old new place answer m in
+    (stays-more first old new h.0 s, spares-stays first old new s h.1 (spares-heard old new place answer m))
+
+-- two parts of it, one after the other
+pub both-then : (first then last : PassValue) → Stays first then × Spares first then → Stays then last × Spares then last
+    → Stays first last × Spares first last
+both-then first then last a b = (stays-more first then last a.0 b.0, spares-stays first then last b.0 a.1 b.1)

@@ -1,0 +1,59 @@
+use Rattle.std.proofs.Common.{inl, inr, refl, sym, subst, ◌∙◌}
+use Rattle.std.specs.List.{All}
+use Rattle.std.specs.Map.{values_of}
+use Rattle.std.proofs.lemmas.List.Elements.{All-nil}
+use Rattle.image_depot.specs.Reply.{IsSentOf}
+use Rattle.host_fetch.specs.Heard.{AreHeardOf, Replies}
+use Rattle.host_workers.specs.declared.replies.Hearing.{Hearing}
+use Rattle.host_workers.proofs.Working.{blames-on, spares-none, worked-board, worked-then}
+use Rattle.host_workers.proofs.worker.work.Goals as goal
+
+pub loop-init : goal.loop-init
+loop-init g c = record {
+  goes = tt;
+  ends = tt;
+  worked = inl refl;
+  none = c.requires.none;
+  heard = subst (λ (es : Replies). All (IsSentOf c.args.depot.now) (values_of es)) (sym c.new-worker.ensures) (All-nil (IsSentOf c.args.depot.now));
+  wire = λ by. inr (spares-none c.args.pass by);
+}
+
+pub turn-after-requires-clause-board : goal.turn-after-requires-clause-board
+turn-after-requires-clause-board g c = worked-board c.args.pass c.loop.pass c.loop.invariant.worked ∙ c.requires.board
+
+pub returns-in-Finished-clause-worked : goal.returns-in-Finished-clause-worked
+returns-in-Finished-clause-worked g c =
+    worked-then c.args.pass c.loop.pass c.turn-after.result.0 c.loop.invariant.worked c.turn-after.ensures.worked
+
+pub returns-in-Finished-clause-wire : goal.returns-in-Finished-clause-wire
+returns-in-Finished-clause-wire g c =
+    let e = c.turn-after.ensures in
+    blames-on g.W.Wire.streak c.loop.wire c.turn-after.new.wire c.args.pass c.loop.pass c.turn-after.result.0 c.loop.invariant.wire e.worked e.stopped e.wire
+
+pub loop-preserved-in-Idle : goal.loop-preserved-in-Idle
+loop-preserved-in-Idle g c =
+    let e = c.turn-after.ensures in
+    let was = c.loop.invariant in
+    let new = c.turn-after.result.0 in
+    record {
+      goes = tt;
+      ends = tt;
+      worked = inr (worked-then c.args.pass c.loop.pass new was.worked e.worked);
+      none = e.none;
+      heard = subst (λ (h : Hearing). AreHeardOf c.args.depot.now h.heard) (sym c.rest.ensures) e.heard;
+      wire = blames-on g.W.Wire.streak c.loop.wire c.turn-after.new.wire c.args.pass c.loop.pass new was.wire e.worked e.stopped e.wire;
+    }
+
+pub loop-preserved : goal.loop-preserved
+loop-preserved g c =
+    let e = c.turn-after.ensures in
+    let was = c.loop.invariant in
+    let new = c.turn-after.result.0 in
+    record {
+      goes = tt;
+      ends = tt;
+      worked = inr (worked-then c.args.pass c.loop.pass new was.worked e.worked);
+      none = e.none;
+      heard = e.heard;
+      wire = blames-on g.W.Wire.streak c.loop.wire c.turn-after.new.wire c.args.pass c.loop.pass new was.wire e.worked e.stopped e.wire;
+    }

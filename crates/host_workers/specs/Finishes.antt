@@ -1,0 +1,94 @@
+-- How the work on a board ends: the root has ended, or the world was stopped; and which pass stopped it.
+use Rattle.std.specs.Prelude.{◌≡◌, ◌≢◌, ℕ, ◌≤◌, Bool, true, false, [], ◌∷◌, ◌++◌, Option, Some, None, IsSome, IsSomeAnd}
+use Rattle.forest_tree.specs.Settle.{has_ended}
+use Rattle.forest_history.specs.Places.{spots}
+use Rattle.forest_history.specs.Rows.{Row, over, stopped, idle, took, nothing, spent, dropped, kept, halted}
+use Rattle.forest_history.specs.Histories.{Entry, row, told, heard, mute, deaf, History, IsLegal, Seat}
+use Rattle.forest_model.specs.Forest.{machines}
+use Rattle.turn_board.specs.History.{entries_by}
+use Rattle.world_core.specs.declared.reason.Reason.{Reason}
+use Rattle.fork_board.specs.Follows.{opening_record}
+use Rattle.fork_board.specs.Passes.{PassValue, seen_record}
+use Rattle.host_workers.specs.declared.finish.Finish.{Finish}
+use Rattle.host_workers.specs.declared.finish.Finish.TheVariants as finish
+
+-- ---- the end
+
+-- the root has ended, after all that the pass has seen
+abbrev pub is_over : PassValue → Bool
+is_over pass = has_ended (spots machines) (seen_record pass).world.tree
+
+-- the answer of the work: the root has ended, or it lives, and this is the first reason to stop
+abbrev pub Finishes : PassValue → Finish → Type 0
+Finishes pass finish.Over = is_over pass ≡ true
+Finishes pass (finish.Stopped reason) = (is_over pass ≡ false) × ((seen_record pass).world.halted ≡ Some reason)
+
+-- ---- who stopped the world
+
+-- the reason to stop that an entry gives, if it gives one
+abbrev pub reason_of_row : {R : Type 0} → Row R → Option R
+reason_of_row over = None
+reason_of_row (stopped reason) = None
+reason_of_row idle = None
+reason_of_row (took name) = None
+reason_of_row nothing = None
+reason_of_row (spent how name k) = None
+reason_of_row (dropped name) = None
+reason_of_row (kept name k) = None
+reason_of_row (halted reason) = Some reason
+
+abbrev pub reason_of : {R : Type 0} → Entry R → Option R
+reason_of (row x) = reason_of_row x
+reason_of (told image page) = None
+reason_of (heard place) = None
+reason_of mute = None
+reason_of (deaf place) = None
+
+-- the reason of this seat, or what was given later
+abbrev pub stop_or : {R : Type 0} → Seat → Option R → Option (Seat × R) → Option (Seat × R)
+stop_or seat None later = later
+stop_or seat (Some reason) later = Some (seat, reason)
+
+-- the first reason to stop in a history, with the seat that gave it
+unfoldable pub first_stop : {R : Type 0} → History R → Option (Seat × R)
+first_stop [] = None
+first_stop (e ∷ rest) = stop_or e.0 (reason_of e.1) (first_stop rest)
+
+-- the pass has seen that the world was stopped
+abbrev pub IsStopped : PassValue → Type 0
+IsStopped pass = IsSome (first_stop pass.seen)
+
+-- the pass has seen that the world was stopped first by this seat, and for this reason
+abbrev pub IsStoppedBy : Seat → Reason → PassValue → Type 0
+IsStoppedBy seat reason pass = first_stop pass.seen ≡ Some (seat, reason)
+
+-- the seat is not the pass's, and is of no pass that is yet to be split off from it, nor of one that is split off from such
+pub record IsForeign (pass : PassValue) (seat : Seat) : Type 0 where
+  pub not_own : seat ≢ pass.number
+  pub not_below : (k : ℕ) (below : Seat) → pass.splits ≤ k → seat ≢ pass.number ++ k ∷ below
+
+-- in what a later pass has seen, the world was stopped first by a seat that is foreign to the pass
+abbrev pub IsStoppedElsewhere : PassValue → PassValue → Type 0
+IsStoppedElsewhere pass later = IsSomeAnd (first_stop later.seen) (λ stop. IsForeign pass stop.0)
+
+-- ---- the work of a pass
+
+-- the pass has made entries, and has seen those of others. Its number and what was split off from it are as they were
+pub record Worked (old new : PassValue) : Type 0 where
+  pub same_board : new.board ≡ old.board
+  pub same_number : new.number ≡ old.number
+  pub same_splits : new.splits ≡ old.splits
+  pub rest : History Reason
+  pub seen : new.seen ≡ old.seen ++ rest
+  pub own : entries_by new.number new.seen ≡ new.mine
+  -- no pass that is yet to be split off from it has made an entry, nor has one that would be split off from such
+  pub unmade : (k : ℕ) (below : Seat) → new.splits ≤ k → entries_by (new.number ++ k ∷ below) new.seen ≡ []
+  pub legal : IsLegal machines new.seen (opening_record old.board.opening)
+
+-- the pass and those that were split off from it have made entries
+pub record WorkedAll (old new : PassValue) : Type 0 where
+  pub same_board : new.board ≡ old.board
+  pub same_number : new.number ≡ old.number
+  pub rest : History Reason
+  pub seen : new.seen ≡ old.seen ++ rest
+  pub legal : IsLegal machines new.seen (opening_record old.board.opening)

@@ -1,0 +1,4 @@
+pub mod Lost
+pub mod Finishes
+pub mod Stays
+pub mod Spread

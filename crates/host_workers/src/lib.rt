@@ -1,0 +1,16 @@
+//! Workers that run one family on one board: each has a wire, and a thread of its own where there can be one.
+#![tactic(auto)]
+
+mod finish;
+mod gate;
+mod handover;
+mod hosts;
+mod idlers;
+mod pace;
+mod replies;
+mod stretch;
+mod worker;
+
+pub use finish::Finish;
+pub use gate::{Gate, OpenGate, Point};
+pub use hosts::{MAX_WORKERS, run_hosts};

@@ -1,0 +1,33 @@
+//! How long a worker runs a machine before it looks up.
+
+/// The most slices that are run at once.
+const MOST_SLICES: u64 = 64;
+
+/// The steps of a worker's next stretch: a slice at first, and twice as many after each that its machine made whole.
+#[derive(Drop)]
+pub(crate) struct Pace {
+    slice: u64,
+    steps: u64,
+}
+
+impl Pace {
+    pub(crate) fn new(slice: u64) -> Pace {
+        Pace {
+            slice,
+            steps: slice,
+        }
+    }
+
+    pub(crate) fn steps(&self) -> u64 {
+        self.steps
+    }
+
+    pub(crate) fn lengthen(&mut self) {
+        let most = self.slice.saturating_mul(MOST_SLICES);
+        self.steps = self.steps.saturating_mul(2).min(most);
+    }
+
+    pub(crate) fn begin_anew(&mut self) {
+        self.steps = self.slice;
+    }
+}

@@ -1,0 +1,86 @@
+//! The command `self`: the family of a guest that is generated from a seed is run to its end.
+
+ghost use Rattle.std.specs.Prelude.{◌≡◌, ◌*◌, ◌<◌, ◌≤◌, vec_len, IfOk};
+ghost use Rattle.cow_disk.specs.declared.disk.TheConstants.{SECTOR_SIZE};
+ghost use Rattle.flat_memory.specs.Flat.{zeros};
+ghost use Rattle.io_edge.specs.Outside.{HasRisen};
+ghost use Rattle.host_workers.specs.Lost.{IsOneLost};
+ghost use Rattle.run_report.specs.Summary.{summary_of};
+ghost use Rattle.snow_commands.specs.Text.{generated_files, generated_text};
+ghost use Rattle.snow_commands.specs.Writes.{IsSilent, MakesOver, WritesFileless};
+
+use crate::program::MOST_WIRES;
+use crate::run::run_files;
+use command_line::GeneratedWords;
+use cow_disk::SECTOR_SIZE;
+use guest_files::{GuestFiles, Stop};
+use guest_gen::guest_of;
+use host_workers::Gate;
+use io_edge::Sink;
+use run_report::{Outcome, ReportError, summary_into};
+use std::alloc::{AllocError, Global};
+use std::sync::Wait;
+use std::thread::Threads;
+use wire_fates::Wire;
+
+/// The sectors of the disk of a generated guest.
+pub const SECTORS: usize = 16;
+
+/// Runs the family of the guest of a seed to its end, and writes what its report comes to.
+pub fn run_and_sum_up<
+    R: AllocGlobal + Threads + Wait + Sync,
+    K: Sink,
+    W: Wire + Send,
+    G: Gate + Sync,
+>(rt: &R, words: &GeneratedWords, sink: &mut K, wires: &mut Vec<W>, gate: &G) -> Result<(), Stop>
+    requires some { 0 < vec_len wires.old }
+    requires most { vec_len wires.old ≤ MOST_WIRES }
+    ensures writes { WritesFileless (generated_text words.now) (HasRisen (K.faults sink.old) (K.faults sink.new))
+        (IsOneLost W.streak wires.new.items) (K.gone sink.old) (K.gone sink.new) result }
+    ensures silent { IsSilent result (sink.new ≡ sink.old) }
+{
+    let outcome = match run_generated(rt, words, wires, gate) {
+        Ok(outcome) => outcome,
+        Err(stop) => return Err(stop),
+    };
+    match summary_into(&outcome, words.seed(), sink) {
+        Ok(()) => Ok(()),
+        Err(ReportError::Sink) => Err(Stop::WriteFault),
+    }
+}
+
+/// Runs the family of the guest of a seed to its end.
+fn run_generated<R: AllocGlobal + Threads + Wait + Sync, W: Wire + Send, G: Gate + Sync>(
+    rt: &R,
+    words: &GeneratedWords,
+    wires: &mut Vec<W>,
+    gate: &G,
+) -> Result<Outcome, Stop>
+    requires some { 0 < vec_len wires.old }
+    requires most { vec_len wires.old ≤ MOST_WIRES }
+    ensures { MakesOver (IsOneLost W.streak wires.new.items) (generated_text words.now)
+        (λ outcome text. summary_of words.now.seed outcome ≡ text) result }
+{
+    let files = generated_files(rt.alloc(), words.seed())?;
+    run_files(rt, &words.guest(), &files, &words.how(), wires, gate)
+}
+
+/// The image of the guest of a seed, and its disk.
+#[tactic(auto, unfolding(crate::specs::Text::generated_files))]
+fn generated_files(alloc: Global, seed: u32) -> Result<GuestFiles, AllocError>
+    ensures { IfOk result (λ files. files ≡ generated_files seed) }
+{
+    let image = guest_of(alloc, seed)?;
+    let disk = zero_sectors(alloc, SECTORS)?;
+    Ok(GuestFiles::new(image, disk, Vec::new(alloc)))
+}
+
+/// So many sectors of zeros.
+#[tactic(auto, unfolding(flat_memory::specs::Flat::zeros))]
+fn zero_sectors(alloc: Global, count: usize) -> Result<Vec<u8>, AllocError>
+    requires { count ≤ SECTORS }
+    ensures zeros { IfOk result (λ bytes. bytes.items ≡ zeros (SECTOR_SIZE * count)) }
+    ensures len { IfOk result (λ bytes. vec_len bytes ≡ SECTOR_SIZE * count) }
+{
+    Vec::from_elem(alloc, 0, SECTOR_SIZE * count)
+}
