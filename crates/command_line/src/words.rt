@@ -153,7 +153,7 @@ pub struct RunWords {
     seed: u32,
     ahead: u32,
     workers: u32,
-    slice: u64,
+    slice: u32,
 }
 
 impl Model for RunWords {
@@ -194,7 +194,7 @@ impl RunWords {
     }
 
     /// After how many steps of a machine a worker looks first whether another has none.
-    pub fn slice(&self) -> u64
+    pub fn slice(&self) -> u32
         ensures value { result ≡ self.now.slice }
         ensures least { LEAST_SLICE ≤ result }
         ensures most { result ≤ MOST_SLICE }
@@ -252,7 +252,7 @@ impl GeneratedWords {
             seed: DEFAULT_SEED,
             ahead: GENERATED_AHEAD,
             workers: self.workers,
-            slice: DEFAULT_SLICE as u64,
+            slice: DEFAULT_SLICE,
         }
     }
 
@@ -471,7 +471,7 @@ fn how_of(found: &ArgMatches<'_>) -> Option<RunWords>
         seed,
         ahead,
         workers,
-        slice: u64::from(slice),
+        slice,
     })
 }
 

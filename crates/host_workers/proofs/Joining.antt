@@ -1,16 +1,16 @@
 -- What several workers know, when their passes are joined.
-use Rattle.std.proofs.Common.{◌≡◌, ◌≢◌, ◌⊎◌, inl, inr, ℕ, zero, suc, ◌+◌, ◌≤◌, Bool, true, false, List, [], ◌∷◌, ◌++◌, append_assoc, Option, Some, None, option_map, IsSome, IsSomeAnd, refl, sym, ap, ap₂, ◌∙◌, subst, arith}
+use Rattle.std.proofs.Common.{◌≡◌, ◌≢◌, ◌⊎◌, inl, inr, ℕ, zero, suc, ◌+◌, ◌<◌, ◌≤◌, Bool, true, false, List, [], ◌∷◌, ◌++◌, append_assoc, length, Option, Some, None, option_map, IsSomeAnd, refl, sym, ap, ap₂, ◌∙◌, subst, arith}
 use Rattle.std.proofs.lemmas.Bool.{cases_eq}
 use Rattle.std.proofs.lemmas.Slice.Eq.{bytes_eq-Decides}
-use Rattle.forest_history.specs.Histories.{History, IsLegal, Seat}
+use Rattle.forest_history.specs.Histories.{row, History, IsLegal, Seat}
 use Rattle.forest_model.specs.Forest.{machines}
 use Rattle.turn_board.specs.Seats.{is_seat}
 use Rattle.turn_board.proofs.Names.{same_is}
 use Rattle.world_core.specs.declared.reason.Reason.{Reason}
 use Rattle.world_core.specs.declared.reason.Reason.TheVariants as reason
 use Rattle.fork_board.specs.Follows.{opening_record}
-use Rattle.fork_board.specs.Passes.{BoardValue, HoldsNone, Joins, PassValue, seen_record}
-use Rattle.host_workers.specs.Finishes.{Finishes, IsForeign, IsStopped, IsStoppedElsewhere, Worked, WorkedAll, first_stop, is_over}
+use Rattle.fork_board.specs.Passes.{BoardValue, Joins, PassValue, seen_record}
+use Rattle.host_workers.specs.Finishes.{AreDone, Finishes, IsDone, IsForeign, IsStopped, IsStoppedElsewhere, Worked, WorkedAll, end_row, first_stop, is_over}
 use Rattle.host_workers.specs.Lost.{IsLost, IsOneLost}
 use Rattle.host_workers.specs.Spread.{BlamesOne, WorkAll, Works, child, finish_of, parent}
 use Rattle.host_workers.specs.Stays.{Blames}
@@ -95,6 +95,25 @@ both-foreign pass seat below beside = record {
     by k rest most (inl same) = in-child k rest same
     by k rest most (inr other) = beside.not_below k rest (omega (arith, most, other))
 
+-- ---- who is done
+
+-- who was done is so in a longer history
+done-later : (seat : Seat) (log more whole : History Reason) → whole ≡ log ++ more → IsDone seat log → IsDone seat whole
+done-later seat log more whole seen d = record {
+  end = d.end;
+  before = d.before;
+  after = d.after ++ more;
+  is = seen ∙ ap (λ l. l ++ more) d.is ∙ append_assoc d.before ((seat, row (end_row d.end)) ∷ d.after) more;
+}
+
+-- one worker, over one wire
+alone-done : (old new : PassValue) → Worked old new → IsDone new.number new.seen → AreDone 1 old new
+alone-done old new w done = record {
+  splits = ap (λ n. n + 1) w.same_splits;
+  own = subst (λ n. IsDone n new.seen) w.same_number done;
+  others = λ k below. absurd (omega (arith, below));
+}
+
 -- ---- one worker alone
 
 pub alone-works : {W : Type 0} (streak : W → ℕ) (wire : W) (old new : PassValue) (finish : Finish) → Works streak wire old new finish
@@ -109,6 +128,7 @@ alone-works streak wire old new finish w = record {
   };
   none = w.none;
   end = w.end;
+  done = alone-done old new w.worked w.done;
   blames = λ is. blames is;
 }
   where
@@ -170,6 +190,31 @@ module _ {W : Type 0} (streak : W → ℕ) (wire : W) (wires : List W) (pass fir
   ends (Stopped r) Over here there = over-rest there
   ends (Stopped r) (Stopped s) here there = (lives here.0 there.0, halted-later rest new j.seen.0 j.seen.1 s there.1)
 
+  -- the first is the one that was split off just before, and the rest were split off after it
+  done-each : (k : ℕ) → k + 1 < length (wire ∷ wires) → IsDone (pass.number ++ (pass.splits + k) ∷ []) new.seen
+  done-each zero below =
+      let at : pass.splits + 0 ≡ pass.splits = omega arith in
+      subst (λ n. IsDone (pass.number ++ n ∷ []) new.seen) (sym at)
+      (done-later (pass.number ++ pass.splits ∷ []) first.seen j.others.0 new.seen j.others.1
+      (subst (λ n. IsDone n first.seen) one.worked.same_number one.done))
+  done-each (suc k) below =
+      let at : pass.splits + suc k ≡ (pass.splits + 1) + k = omega arith in
+      subst (λ n. IsDone (pass.number ++ n ∷ []) new.seen) (sym at)
+      (done-later (pass.number ++ ((pass.splits + 1) + k) ∷ []) rest.seen j.seen.0 new.seen j.seen.1
+      (others.done.others k (omega (arith, below))))
+
+  splits-all : new.splits + 1 ≡ pass.splits + length (wire ∷ wires)
+  splits-all =
+      let after : rest.splits + 1 ≡ (pass.splits + 1) + length wires = others.done.splits in
+      omega (arith, j.same_splits, after)
+
+  done-all : AreDone (length (wire ∷ wires)) pass new
+  done-all = record {
+    splits = splits-all;
+    own = done-later pass.number rest.seen j.seen.0 new.seen j.seen.1 others.done.own;
+    others = done-each;
+  }
+
   abbrev Blamed : Type 0
   Blamed = IsOneLost streak (wire ∷ wires) ⊎ (IsStopped pass ⊎ IsStoppedElsewhere pass new)
 
@@ -206,24 +251,6 @@ module _ {W : Type 0} (streak : W → ℕ) (wire : W) (wires : List W) (pass fir
     worked = worked-all;
     none = λ name. j.free name (others.none name);
     end = ends f g one.end others.end;
+    done = done-all;
     blames = blames-all f g one.end others.end others.blames;
   }
-
--- ---- a pass that is the first of its board and has seen nothing
-
-pub nobody-foreign : (pass : PassValue) (seat : Seat) → pass.number ≡ [] → pass.splits ≡ 0 → IsForeign pass seat → ⊥
-nobody-foreign pass [] first unsplit foreign = foreign.not_own (sym first)
-nobody-foreign pass (k ∷ below) first unsplit foreign =
-    foreign.not_below k below (omega (arith, unsplit)) (ap (λ n. n ++ k ∷ below) (sym first))
-
-pub nobody-elsewhere : (pass new : PassValue) → pass.number ≡ [] → pass.splits ≡ 0 → IsStoppedElsewhere pass new → ⊥
-nobody-elsewhere pass new first unsplit h = at (first_stop new.seen) h
-  where
-    at : (o : Option (Seat × Reason)) → IsSomeAnd o (λ s. IsForeign pass s.0) → ⊥
-    at None none = none
-    at (Some stop) foreign = nobody-foreign pass stop.0 first unsplit foreign
-
-pub nothing-stopped : (pass : PassValue) → pass.seen ≡ [] → IsStopped pass → ⊥
-unfolding first_stop
-nothing-stopped pass none stopped =
-    let no : false ≡ true = subst (λ (l : History Reason). IsSome (first_stop l)) none stopped in cc

@@ -1,8 +1,8 @@
 -- A root that has ended stays so, whatever comes after.
-use Rattle.std.proofs.Common.{◌≡◌, ℕ, zero, suc, ◌&&◌, not, Bool, true, false, true≢false, [], ◌∷◌, ◌++◌, is_some, sym, ap, ap₂, ◌∙◌, subst}
+use Rattle.std.proofs.Common.{◌≡◌, ℕ, zero, suc, ◌&&◌, not, Bool, true, true≢false, [], ◌∷◌, ◌++◌, is_some, sym, ap, ap₂, ◌∙◌, subst}
 use Rattle.std.proofs.lemmas.Bool.{and_parts}
 use Rattle.forest_tree.specs.Operations.{Operations}
-use Rattle.forest_tree.specs.Tree.{Tree, node, Path, machine, subtree}
+use Rattle.forest_tree.specs.Tree.{Tree, node, Path, subtree}
 use Rattle.forest_tree.specs.Settle.{has_ended}
 use Rattle.forest_history.specs.Places.{Spot, advanced, at_path, may_run, spots, steps}
 use Rattle.forest_history.specs.World.{World}

@@ -1,5 +1,5 @@
 -- How the work on a board ends: the root has ended, or the world was stopped; and which pass stopped it.
-use Rattle.std.specs.Prelude.{◌≡◌, ◌≢◌, ℕ, ◌≤◌, Bool, true, false, [], ◌∷◌, ◌++◌, Option, Some, None, IsSome, IsSomeAnd}
+use Rattle.std.specs.Prelude.{◌≡◌, ◌≢◌, ℕ, ◌+◌, ◌<◌, ◌≤◌, Bool, true, false, [], ◌∷◌, ◌++◌, Option, Some, None, IsSome, IsSomeAnd}
 use Rattle.forest_tree.specs.Settle.{has_ended}
 use Rattle.forest_history.specs.Places.{spots}
 use Rattle.forest_history.specs.Rows.{Row, over, stopped, idle, took, nothing, spent, dropped, kept, halted}
@@ -92,3 +92,23 @@ pub record WorkedAll (old new : PassValue) : Type 0 where
   pub rest : History Reason
   pub seen : new.seen ≡ old.seen ++ rest
   pub legal : IsLegal machines new.seen (opening_record old.board.opening)
+
+-- ---- how many have worked
+
+-- the row of an end that was found
+abbrev pub end_row : Finish → Row Reason
+end_row finish.Over = over
+end_row (finish.Stopped reason) = stopped reason
+
+-- in this history a seat has found that there is nothing more to be done
+pub record IsDone (seat : Seat) (log : History Reason) : Type 0 where
+  pub end : Finish
+  pub before : History Reason
+  pub after : History Reason
+  pub is : log ≡ before ++ (seat, row (end_row end)) ∷ after
+
+-- so many have worked until they found that: the pass itself, and all others, which were split off from it one after another
+pub record AreDone (count : ℕ) (old new : PassValue) : Type 0 where
+  pub splits : new.splits + 1 ≡ old.splits + count
+  pub own : IsDone old.number new.seen
+  pub others : (k : ℕ) → k + 1 < count → IsDone (old.number ++ (old.splits + k) ∷ []) new.seen

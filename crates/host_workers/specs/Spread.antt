@@ -4,7 +4,7 @@ use Rattle.image_depot.specs.Key.{Shelves}
 use Rattle.world_core.specs.declared.reason.Reason.TheVariants as reason
 use Rattle.fork_board.specs.Follows.{depot_of}
 use Rattle.fork_board.specs.Passes.{BoardValue, HoldsNone, PassValue}
-use Rattle.host_workers.specs.Finishes.{Finishes, IsStopped, IsStoppedElsewhere, Worked, WorkedAll}
+use Rattle.host_workers.specs.Finishes.{AreDone, Finishes, IsDone, IsStopped, IsStoppedElsewhere, Worked, WorkedAll}
 use Rattle.host_workers.specs.Lost.{IsOneLost}
 use Rattle.host_workers.specs.Stays.{Blames}
 use Rattle.host_workers.specs.declared.finish.Finish.{Finish}
@@ -39,6 +39,7 @@ pub record Works {W : Type 0} (streak : W → ℕ) (wire : W) (old new : PassVal
   pub worked : Worked old new
   pub none : HoldsNone new
   pub end : Finishes new finish
+  pub done : IsDone new.number new.seen
   pub blames : Blames streak wire old new
 
 -- where the world was stopped for a wire, one of these wires is lost, or it was stopped before, or by another
@@ -51,6 +52,7 @@ pub record WorkAll {W : Type 0} (streak : W → ℕ) (wires : List W) (old new :
   pub worked : WorkedAll old new
   pub none : HoldsNone new
   pub end : Finishes new finish
+  pub done : AreDone (length wires) old new
   pub blames : BlamesOne streak wires old new finish
 
 -- the same of a pass that a thread was to take, and of what it answers

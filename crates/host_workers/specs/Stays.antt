@@ -49,6 +49,12 @@ Turns pass (Finished finish) = Finishes pass finish
 Turns pass Idle = Unit {0}
 Turns pass Ran = Unit {0}
 
+-- where there is nothing more to be done
+abbrev pub IfFinished : Turned → Type 0 → Type 0
+IfFinished (Finished finish) P = P
+IfFinished Idle P = Unit {0}
+IfFinished Ran P = Unit {0}
+
 -- the pass has given back this machine, into a world that it had seen to be stopped
 pub record GoesBackStopped (lease : Lent) (new : PassValue) : Type 0 where
   pub before : PassValue

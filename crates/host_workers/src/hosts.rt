@@ -4,7 +4,7 @@ ghost use Rattle.std.specs.Prelude.{◌≡◌, ◌⊎◌, ◌+◌, ◌<◌, ◌�
 ghost use Rattle.std.specs.Thread.{IsSend, IsSync};
 ghost use Rattle.fork_board.specs.Follows.{depot_of};
 ghost use Rattle.fork_board.specs.Passes.{HoldsNone};
-ghost use Rattle.host_workers.specs.Finishes.{Finishes, IsStopped, IsStoppedElsewhere, WorkedAll};
+ghost use Rattle.host_workers.specs.Finishes.{AreDone, Finishes, IsStopped, IsStoppedElsewhere, WorkedAll};
 ghost use Rattle.host_workers.specs.Lost.{IsOneLost};
 ghost use Rattle.host_workers.specs.Spread.{IfTaken, IsReady, IsReadyFor, WorkAll, Works, finish_of};
 
@@ -45,7 +45,7 @@ pub fn run_hosts<R: AllocGlobal + Threads + Wait + Sync, W: Wire + Send, G: Gate
     depot: &Depot,
     wires: &mut [W],
     gate: &G,
-    slice: u64,
+    slice: u32,
     ahead: u32,
 ) -> (Pass, Finish)
     requires board { pass.board ≡ board.now }
@@ -58,6 +58,7 @@ pub fn run_hosts<R: AllocGlobal + Threads + Wait + Sync, W: Wire + Send, G: Gate
     ensures worked { WorkedAll pass result.0 }
     ensures none { HoldsNone result.0 }
     ensures finish { Finishes result.0 result.1 }
+    ensures done { AreDone (length wires.new) pass result.0 }
     ensures wire { result.1 ≡ Finish.Stopped Reason.Wire → IsOneLost W.streak wires.new ⊎ (IsStopped pass ⊎ IsStoppedElsewhere pass result.0) }
     ensures len { length wires.new ≡ length wires.old }
 {
@@ -65,7 +66,7 @@ pub fn run_hosts<R: AllocGlobal + Threads + Wait + Sync, W: Wire + Send, G: Gate
         gate,
         idlers: Idlers::new(),
         alloc: rt.alloc(),
-        slice,
+        slice: u64::from(slice),
         ahead,
     };
     spread(rt, &crew, board, pass, depot, wires, 0)

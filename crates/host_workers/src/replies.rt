@@ -6,6 +6,7 @@ ghost use Rattle.image_depot.specs.Reply.{IsSentOf};
 ghost use Rattle.host_fetch.specs.Heard.{AreHeardOf};
 ghost use Rattle.fork_board.specs.Follows.{depot_of};
 ghost use Rattle.fork_board.specs.Passes.{seen_record};
+ghost use Rattle.host_workers.specs.Hears.{AreFound, StayFound};
 ghost use Rattle.host_workers.specs.Stays.{Spares, Stays};
 
 use fork_board::{Board, Pass};
@@ -44,6 +45,8 @@ impl Hearing {
         ensures stays { Stays pass result.0 }
         ensures spares { Spares pass result.0 }
         ensures last { OnOk result.1 (slice_get (seen_record result.0).told self.new.next ≡ None) }
+        ensures all { AreFound (seen_record result.0).told self.old.next self.new.next self.new.heard }
+        ensures found { StayFound self.old.heard self.new.heard }
         ensures heard { AreHeardOf (depot_of board.now.opening) self.old.heard → AreHeardOf (depot_of board.now.opening) self.new.heard }
     {
         let mut pass = pass;

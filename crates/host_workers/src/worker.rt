@@ -6,9 +6,9 @@ ghost use Rattle.host_fetch.specs.declared.fetch_page.TheConstants.{MAX_AHEAD};
 ghost use Rattle.fork_board.specs.Follows.{depot_of};
 ghost use Rattle.fork_board.specs.Holds.{HoldsOne, HoldsPlaced};
 ghost use Rattle.fork_board.specs.Passes.{HoldsNone};
-ghost use Rattle.host_workers.specs.Finishes.{Finishes, IsStopped, IsStoppedBy, Worked};
+ghost use Rattle.host_workers.specs.Finishes.{Finishes, IsDone, IsStopped, IsStoppedBy, Worked};
 ghost use Rattle.host_workers.specs.Lost.{IsLost};
-ghost use Rattle.host_workers.specs.Stays.{Blames, GoesBackStopped, Spares, Turns, reason_for};
+ghost use Rattle.host_workers.specs.Stays.{Blames, GoesBackStopped, IfFinished, Spares, Turns, reason_for};
 
 use crate::finish::Finish;
 use crate::gate::{Gate, Point};
@@ -68,6 +68,7 @@ pub(crate) fn work<R: Wait, W: Wire, G: Gate>(
     ensures worked { Worked pass result.0 }
     ensures none { HoldsNone result.0 }
     ensures finish { Finishes result.0 result.1 }
+    ensures done { IsDone result.0.number result.0.seen }
     ensures wire { IsStoppedBy result.0.number Reason.Wire result.0 → IsLost W.streak wire.new ⊎ IsStopped pass }
 {
     let mut worker = Worker::new(alloc, number, slice, ahead);
@@ -133,6 +134,7 @@ impl Worker {
         ensures worked { Worked pass result.0 }
         ensures none { HoldsNone result.0 }
         ensures turns { Turns result.0 result.1 }
+        ensures done { IfFinished result.1 (IsDone result.0.number result.0.seen) }
         ensures heard { AreHeardOf depot.now self.new.hearing.heard }
         ensures wire { Blames W.streak wire.new pass result.0 }
         ensures stopped { IsStopped pass → wire.new ≡ wire.old }

@@ -35,7 +35,7 @@ pub fn run_to_end<R: AllocGlobal + Threads + Wait + Sync, W: Wire + Send, G: Gat
     depot: &Depot,
     wires: &mut [W],
     gate: &G,
-    slice: u64,
+    slice: u32,
     ahead: u32,
 ) -> Result<Outcome, Reason>
     requires stands { StandsFor depot.now world (world_of paged_machines (paged first.value)) }

@@ -5,6 +5,8 @@
 #[cfg(test)]
 mod generated;
 #[cfg(test)]
+mod hostile;
+#[cfg(test)]
 mod numbers;
 #[cfg(test)]
 mod tests;

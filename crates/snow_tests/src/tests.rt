@@ -16,7 +16,9 @@ use std::thread::Threads;
 use wire_fates::{Fate, Scripted};
 
 /// The words of the guest that ends with the value 7. Its image has 104 bytes.
-static EXIT_SEVEN: [u32; 5] = [0x100022b7, 0x00700313, 0x0062a023, 0x00500313, 0x0062a423];
+pub(crate) static EXIT_SEVEN: [u32; 5] = [
+    0x100022b7, 0x00700313, 0x0062a023, 0x00500313, 0x0062a423,
+];
 
 /// The words of the guest that makes two children, where it gets a ticket for them. It joins them and
 /// exits with the value of the first.
@@ -136,7 +138,7 @@ fn answers_over<R: AllocGlobal + Threads + Wait + Sync + Abort>(
 }
 
 /// The same over an image and a script, with a shelf whose load of this number fails.
-fn answers<R: AllocGlobal + Threads + Wait + Sync + Abort>(
+pub(crate) fn answers<R: AllocGlobal + Threads + Wait + Sync + Abort>(
     rt: &R,
     line: &str,
     image: &[u8],
@@ -200,7 +202,7 @@ fn writes_what_scripts_tell(rt: HostRuntime) -> Result<(), Fail> {
 }
 
 /// Command lines, how many bytes of the image are there, the script, and the code with its two numbers.
-static REFUSALS: [(&str, usize, &[u8], u8, u32, u32); 19] = [
+static REFUSALS: [(&str, usize, &[u8], u8, u32, u32); 21] = [
     ("fly guest", 104, b"", 2, 0, 0),
     ("run guest script", 104, b"", 2, 0, 0),
     ("drive guest", 104, b"", 2, 0, 0),
@@ -213,6 +215,8 @@ static REFUSALS: [(&str, usize, &[u8], u8, u32, u32); 19] = [
     ("self 4294967296", 104, b"", 2, 0, 0),
     ("drive guest script --wire 1", 104, b"", 2, 0, 0),
     ("run other", 104, b"", 1, 1, 0),
+    ("run guest --disk other", 104, b"", 1, 2, 0),
+    ("run guest --input other", 104, b"", 1, 3, 0),
     ("run guest", 103, b"", 3, 9, 0),
     ("run guest --disk guest", 104, b"", 4, 2, 0),
     ("drive guest other --disk disk", 0, b"", 1, 4, 0),
@@ -245,24 +249,60 @@ fn refuses_by_cause(rt: HostRuntime) -> Result<(), Fail> {
     Ok(())
 }
 
-// Each load that `drive` makes, in order.
+/// Expects that `drive` over an image and a script stops at its load of this number, which fails.
+fn stops_at_load<R: AllocGlobal + Threads + Wait + Sync + Abort>(
+    rt: &R,
+    image: &[u8],
+    script: &[u8],
+    load: u32,
+) -> Result<(), Fail> {
+    let line = "drive guest script --disk disk --input input";
+    let status = Status {
+        code: 1,
+        first: load,
+        second: 0,
+    };
+    answers(rt, line, image, script, u64::from(load), &status, b"")
+}
+
+// Each load that `drive` makes, in order: where all that is read is in form, and where nothing is.
 #[test]
 fn stops_at_each_load(rt: HostRuntime) -> Result<(), Fail> {
-    let line = "drive guest script --disk disk --input input";
+    let image = elf_of(rt.alloc(), RAM_BASE, &EXIT_SEVEN)?;
     for load in 1..=4u32 {
-        let status = Status {
-            code: 1,
-            first: load,
-            second: 0,
-        };
-        answers(&rt, line, b"", b"", u64::from(load), &status, b"")?;
+        stops_at_load(&rt, &image, b"step 0 1\n", load)?;
+        stops_at_load(&rt, b"", b"", load)?;
     }
     Ok(())
 }
 
 /// Command lines, how many wires there are and what each of them does, and the code. The second child of two hears the
 /// page that the first fetched, or fetches it over a wire that has given none.
-static WIRES: [(&str, usize, usize, Fate, usize, u8); 8] = [
+static WIRES: [(&str, usize, usize, Fate, usize, u8); 11] = [
+    (
+        "run guest --clones 1 --workers 1",
+        1,
+        0,
+        Fate::Lose(0),
+        64,
+        7,
+    ),
+    (
+        "run guest --clones 1 --workers 1",
+        1,
+        0,
+        Fate::Again(0),
+        64,
+        0,
+    ),
+    (
+        "run guest --clones 2 --workers 2",
+        2,
+        0,
+        Fate::Lose(0),
+        64,
+        7,
+    ),
     ("run guest --clones 1", 1, 0, Fate::Lose(0), 64, 7),
     ("run guest --clones 0", 1, 0, Fate::Lose(0), 64, 0),
     ("run guest --clones 1", 1, 0, Fate::Again(0), 64, 0),
@@ -352,7 +392,13 @@ fn bears_losses(rt: HostRuntime) -> Result<(), Fail> {
     let image = elf_of(rt.alloc(), RAM_BASE, &TWO_CHILDREN)?;
     for times in 0..64 {
         let mut wires = wires_of(rt.alloc(), 1, 0, Fate::Lose(0), times)?;
-        runs_over(&rt, "run guest --clones 1", &image, &mut wires, 0)?;
+        runs_over(
+            &rt,
+            "run guest --clones 1 --workers 1",
+            &image,
+            &mut wires,
+            0,
+        )?;
     }
     Ok(())
 }

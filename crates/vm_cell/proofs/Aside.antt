@@ -1,7 +1,6 @@
 -- Steps that leave RAM, and the pages that are here.
 use Rattle.std.proofs.Common.{◌≡◌, ℕ, ◌-◌, Bool, true, false, cond, List, Option, Some, None, refl, sym, ap, ◌∙◌, subst, arith}
 use Rattle.std.proofs.lemmas.Bool.Decides.{nat_tests}
-use Rattle.elf_load.specs.declared.image.TheConstants.{RAM_BASE}
 use Rattle.console_port.specs.Console.{ConsoleRegisters}
 use Rattle.rv_decode.specs.Instruction.{Instruction}
 use Rattle.rv_decode.specs.Table.{decoded}
@@ -20,14 +19,14 @@ use Rattle.forest_model.specs.State.{State, is_in_ram, is_timer_due}
 use Rattle.forest_model.specs.Action.{Action, trap, interrupt, retire, exit, ask, immediate, rs2}
 use Rattle.forest_model.specs.Access.{Reached, faulted, of_ram, of_port, page_of, reached, reached_in, fetch_access}
 use Rattle.forest_model.specs.Memory.{data_address, port_action, store, store_access, store_action, store_by, stored_bytes}
-use Rattle.forest_model.specs.Ports.{Place, PortRegisters, Stored, at_console, console_stored, is_within, place_of, port_store, store_at}
+use Rattle.forest_model.specs.Ports.{Place, PortRegisters, at_console, console_stored, is_within, place_of, port_store, store_at}
 use Rattle.forest_model.specs.System.{csr_access, csr_value, old_action, old_value, operand, operation_of, reads, write_action, writes, written_action}
 use Rattle.forest_model.specs.Execute.{action, action_by, coming_instruction, decoded_action, execute, execute_group, fetch_action, fetched, instruction_at, instruction_by}
 use Rattle.forest_model.specs.Machine.{Machine, advance, advance_from, applied}
 use Rattle.forest_model.specs.Touch.{access_by}
 use Rattle.forest_model.specs.Paged.{Change, Pages, change, change_from, change_of, change_of_access, change_reached, change_stored, pages_after}
 use Rattle.forest_model.proofs.Accesses.{of_ram-is}
-use Rattle.vm_cell.specs.Kept.{Comes, ComesAside, IsAside, Keeps}
+use Rattle.vm_cell.specs.Kept.{ComesAside, IsAside, Keeps}
 use Rattle.vm_cell.specs.Keyed.{KeyedMachine, KeyedState, hart_in}
 use Rattle.vm_cell.specs.Steps.{moved}
 use Rattle.vm_cell.specs.declared.hart.slot.Slot.{Slot}

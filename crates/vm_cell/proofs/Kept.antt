@@ -1,12 +1,12 @@
 -- What slots keep, from one plain step to the next.
-use Rattle.std.proofs.Common.{◌≡◌, ◌≢◌, ℕ, ◌+◌, ◌-◌, ◌*◌, ◌/◌, ◌%◌, ◌^◌, ◌<◌, ◌≤◌, ◌⊎◌, inl, inr, Bool, true, false, eqb, List, length, get_or, replicate, Some, is_some, refl, sym, ap, ◌∙◌, subst, arith}
+use Rattle.std.proofs.Common.{◌≡◌, ◌≢◌, ℕ, ◌+◌, ◌-◌, ◌*◌, ◌/◌, ◌%◌, ◌^◌, ◌<◌, ◌≤◌, ◌⊎◌, inl, inr, Bool, true, false, eqb, List, length, get_or, replicate, Option, None, Some, is_some, refl, sym, ap, ◌∙◌, subst, arith}
 use Rattle.std.proofs.Math.ListN.{set}
 use Rattle.std.proofs.lemmas.Bool.{cases_eq, eqb-true}
 use Rattle.std.proofs.lemmas.Bool.Decides.{nat_tests}
 use Rattle.std.proofs.lemmas.Nat.{and_le_l, and_le_r, and_mod, and_shr}
 use Rattle.std.proofs.lemmas.List.{get_or-replicate, get_or-set_other, get_or-set_same, length-replicate, length-set}
 use Rattle.std.specs.Int.Bits.{bit_and}
-use Rattle.std.specs.Prelude.{◌&&◌, MatchBool, nat_le, nat_lt, slice_get}
+use Rattle.std.specs.Prelude.{◌&&◌, HoldsAt, MatchBool, nat_le, nat_lt, slice_get}
 use Rattle.elf_load.specs.declared.image.TheConstants.{RAM_BASE, PAGE_SIZE}
 use Rattle.flat_memory.specs.Flat.{put_bytes, word_at}
 use Rattle.flat_memory.proofs.Bytes.{get_or-put_bytes_outside, length-put_bytes}
@@ -32,7 +32,7 @@ use Rattle.forest_model.specs.Touch.{access_by}
 use Rattle.forest_model.specs.Paged.{Change, Pages, change_of_access, change_reached, pages_after}
 use Rattle.forest_model.proofs.Accesses.{of_ram-is}
 use Rattle.vm_cell.specs.Acts.{ReachesRam}
-use Rattle.vm_cell.specs.Kept.{Comes, Forgets, ForgetsStored, IsKept, IsWord, Keeps, slot_of}
+use Rattle.vm_cell.specs.Kept.{Comes, Forgets, ForgetsAt, IsComing, IsKept, IsWord, Keeps, place_of, slot_of, stored_at}
 use Rattle.vm_cell.specs.Keyed.{KeyedState}
 use Rattle.vm_cell.specs.Plain.{ActsPlainly, IsPlainIn, IsPlainStep}
 use Rattle.vm_cell.specs.declared.hart.slot.Slot.{Slot}
@@ -66,23 +66,23 @@ unfolding decoded kind_of_word rows
 nop-decodes = refl
 
 -- a slot that keeps nothing
-pub keeps-nothing : (h : KeyedState) (epoch count number : ℕ) (slot : Slot) → slot.address ≡ NOWHERE → slot.epoch ≤ epoch → IsKept h epoch count number slot
-keeps-nothing h epoch count number slot nowhere past = record {
-  past = past;
-  filled = λ now aligned. let odd : NOWHERE % 4 ≡ 0 = subst (λ a. a % 4 ≡ 0) nowhere aligned in absurd (omega arith);
+pub keeps-nothing : (h : KeyedState) (epoch count number : ℕ) (slot : Slot) → decoded slot.word ≡ Some slot.instr → slot.place ≡ NOWHERE → IsKept h epoch count number slot
+keeps-nothing h epoch count number slot says nowhere = record {
+  says = says;
+  past = omega (arith, nowhere);
+  filled = λ address now aligned. absurd (omega (arith, nowhere, now, aligned));
 }
 
-pub keeps-replicate : (h : KeyedState) (epoch n : ℕ) (slot : Slot) → slot.address ≡ NOWHERE → slot.epoch ≡ 0 → Keeps h epoch (replicate n slot)
-keeps-replicate h epoch n slot nowhere first k d below =
+pub keeps-replicate : (h : KeyedState) (epoch n : ℕ) (slot : Slot) → decoded slot.word ≡ Some slot.instr → slot.place ≡ NOWHERE → Keeps h epoch (replicate n slot)
+keeps-replicate h epoch n slot says nowhere k d below =
     let inside : k < n = subst (λ m. k < m) (length-replicate n slot) below in
-    subst (IsKept h epoch (length (replicate n slot)) k) (sym (get_or-replicate n k slot d inside))
-    (keeps-nothing h epoch (length (replicate n slot)) k slot nowhere (omega (arith, first)))
+    subst (IsKept h epoch (length (replicate n slot)) k) (sym (get_or-replicate n k slot d inside)) (keeps-nothing h epoch (length (replicate n slot)) k slot says nowhere)
 
 -- nothing is kept for a later epoch
 pub keeps-later : (h later : KeyedState) (epoch next : ℕ) (slots : List Slot) → epoch < next → Keeps h epoch slots → Keeps later next slots
 keeps-later h later epoch next slots after keeps k d below =
     let past = (keeps k d below).past in
-    record { past = omega (arith, past, after); filled = λ now aligned. absurd (omega (arith, past, after, now)) }
+    record { says = (keeps k d below).says; past = omega (arith, past, after); filled = λ address now aligned. absurd (omega (arith, past, after, now)) }
 
 -- another slot in the place of one
 pub keeps-set : (h : KeyedState) (epoch n : ℕ) (slots : List Slot) (slot : Slot) → Keeps h epoch slots → n < length slots → IsKept h epoch (length slots) n slot
@@ -96,33 +96,13 @@ keeps-set h epoch n slots slot keeps inside kept k d below =
       | inr other ↦ subst (IsKept h epoch (length slots) k) (sym (get_or-set_other slots n k slot d other)) (keeps k d (subst (λ m. k < m) same below))
     ])
 
-pub forgets-set : (n : ℕ) (slots : List Slot) (slot : Slot) → n < length slots → slot.address ≡ NOWHERE
-    → ((d : Slot) → slot.epoch ≡ (get_or slots n d).epoch) → Forgets n slots (set slots n slot)
-forgets-set n slots slot inside nowhere past = record {
+pub forgets-set : (n : ℕ) (slots : List Slot) (slot : Slot) → n < length slots → ((d : Slot) → slot ≡ record (get_or slots n d) { place = NOWHERE })
+    → Forgets n slots (set slots n slot)
+forgets-set n slots slot inside is = record {
   same_length = length-set slots n slot;
-  there = λ d. ap (λ (s : Slot). s.address) (get_or-set_same slots n slot d inside) ∙ nowhere;
+  there = λ d. get_or-set_same slots n slot d inside ∙ is d;
   others = λ k d other. get_or-set_other slots n k slot d other;
-  past = λ d. ap (λ (s : Slot). s.epoch) (get_or-set_same slots n slot d inside) ∙ past d;
 }
-
-pub not-stored : (g : Group) (number : ℕ) (slots : List Slot) → g ≢ Store → ForgetsStored g number slots slots
-not-stored LoadUpper number slots other = refl
-not-stored AddUpper number slots other = refl
-not-stored Jump number slots other = refl
-not-stored JumpRegister number slots other = refl
-not-stored Branch number slots other = refl
-not-stored Load number slots other = refl
-not-stored Store number slots other = absurd (other refl)
-not-stored ComputeImmediate number slots other = refl
-not-stored Compute number slots other = refl
-not-stored group.Nothing number slots other = refl
-not-stored EnvironmentCall number slots other = refl
-not-stored Breakpoint number slots other = refl
-not-stored TrapReturn number slots other = refl
-not-stored Csr number slots other = refl
-not-stored LoadReserved number slots other = refl
-not-stored StoreConditional number slots other = refl
-not-stored Amo number slots other = refl
 
 -- forgetting loses nothing else
 forgets-keeps : (h : KeyedState) (epoch number : ℕ) (old new : List Slot) → Keeps h epoch old → Forgets number old new → Keeps h epoch new
@@ -130,32 +110,17 @@ forgets-keeps h epoch number old new keeps forgets k d below =
     let inside : k < length old = subst (λ m. k < m) forgets.same_length below in
     elim (cases_eq k number) [
       | inl is ↦
-          let nowhere : (get_or new k d).address ≡ NOWHERE = subst (λ j. (get_or new j d).address ≡ NOWHERE) (sym is) (forgets.there d) in
-          let epochs : (get_or new k d).epoch ≡ (get_or old k d).epoch = subst (λ j. (get_or new j d).epoch ≡ (get_or old j d).epoch) (sym is) (forgets.past d) in
-          let past : (get_or old k d).epoch ≤ epoch = (keeps k d inside).past in
-          keeps-nothing h epoch (length new) k (get_or new k d) nowhere (omega (arith, epochs, past))
+          let same : get_or new k d ≡ record (get_or old k d) { place = NOWHERE } =
+          subst (λ j. get_or new j d ≡ record (get_or old j d) { place = NOWHERE }) (sym is) (forgets.there d) in
+          let kept = keeps k d inside in
+          subst (IsKept h epoch (length new) k) (sym same) (keeps-nothing h epoch (length new) k (record (get_or old k d) { place = NOWHERE }) kept.says refl)
       | inr other ↦ subst (λ m. IsKept h epoch m k (get_or new k d)) (sym forgets.same_length)
           (subst (IsKept h epoch (length old) k) (sym (forgets.others k d other)) (keeps k d inside))
     ]
 
-pub stored-keeps : (h : KeyedState) (epoch : ℕ) (g : Group) (number : ℕ) (old new : List Slot) → Keeps h epoch old → ForgetsStored g number old new → Keeps h epoch new
-stored-keeps h epoch LoadUpper number old new keeps is = subst (Keeps h epoch) (sym is) keeps
-stored-keeps h epoch AddUpper number old new keeps is = subst (Keeps h epoch) (sym is) keeps
-stored-keeps h epoch Jump number old new keeps is = subst (Keeps h epoch) (sym is) keeps
-stored-keeps h epoch JumpRegister number old new keeps is = subst (Keeps h epoch) (sym is) keeps
-stored-keeps h epoch Branch number old new keeps is = subst (Keeps h epoch) (sym is) keeps
-stored-keeps h epoch Load number old new keeps is = subst (Keeps h epoch) (sym is) keeps
-stored-keeps h epoch Store number old new keeps is = forgets-keeps h epoch number old new keeps is
-stored-keeps h epoch ComputeImmediate number old new keeps is = subst (Keeps h epoch) (sym is) keeps
-stored-keeps h epoch Compute number old new keeps is = subst (Keeps h epoch) (sym is) keeps
-stored-keeps h epoch group.Nothing number old new keeps is = subst (Keeps h epoch) (sym is) keeps
-stored-keeps h epoch EnvironmentCall number old new keeps is = subst (Keeps h epoch) (sym is) keeps
-stored-keeps h epoch Breakpoint number old new keeps is = subst (Keeps h epoch) (sym is) keeps
-stored-keeps h epoch TrapReturn number old new keeps is = subst (Keeps h epoch) (sym is) keeps
-stored-keeps h epoch Csr number old new keeps is = subst (Keeps h epoch) (sym is) keeps
-stored-keeps h epoch LoadReserved number old new keeps is = subst (Keeps h epoch) (sym is) keeps
-stored-keeps h epoch StoreConditional number old new keeps is = subst (Keeps h epoch) (sym is) keeps
-stored-keeps h epoch Amo number old new keeps is = subst (Keeps h epoch) (sym is) keeps
+forgot-keeps : (h : KeyedState) (epoch : ℕ) (stored : Option ℕ) (old new : List Slot) → Keeps h epoch old → ForgetsAt stored old new → Keeps h epoch new
+forgot-keeps h epoch None old new keeps is = subst (Keeps h epoch) (sym is) keeps
+forgot-keeps h epoch (Some address) old new keeps is = forgets-keeps h epoch (slot_of address (length old)) old new keeps is
 
 -- ---- RAM after a plain instruction
 
@@ -308,15 +273,16 @@ pub kept-same : (old new : KeyedState) (epoch : ℕ) (slots : List Slot) → new
 kept-same old new epoch slots ram here keeps k d below =
     let kept = keeps k d below in
     record {
+      says = kept.says;
       past = kept.past;
-      filled = λ now aligned.
-          let filled = kept.filled now aligned in
+      filled = λ at now aligned.
+          let filled = kept.filled at now aligned in
           record {
             place = filled.place;
             word = record {
-              in_ram = subst (λ r. is_in_ram r (get_or slots k d).address ≡ true) (sym ram) filled.word.in_ram;
-              here = subst (λ p. slice_get p (((get_or slots k d).address - RAM_BASE) / PAGE_SIZE) ≡ Some true) (sym here) filled.word.here;
-              is = subst (λ r. word_at r ((get_or slots k d).address - RAM_BASE) ≡ (get_or slots k d).word) (sym ram) filled.word.is;
+              in_ram = subst (λ r. is_in_ram r at ≡ true) (sym ram) filled.word.in_ram;
+              here = subst (λ p. slice_get p ((at - RAM_BASE) / PAGE_SIZE) ≡ Some true) (sym here) filled.word.here;
+              is = subst (λ r. word_at r (at - RAM_BASE) ≡ (get_or slots k d).word) (sym ram) filled.word.is;
             };
           };
     }
@@ -327,30 +293,29 @@ in-as-long ram other at same inside = subst (λ n. (nat_le RAM_BASE at && nat_lt
 -- after a store of bytes of a word that no slot keeps
 kept-store : (old new : KeyedState) (epoch address width : ℕ) (slots : List Slot) (bytes : List ℕ) → new.state.ram ≡ put_bytes old.state.ram (address - RAM_BASE) bytes
     → new.pages.here ≡ old.pages.here → length bytes ≡ width → IsWidth width → address % width ≡ 0 → is_in_ram old.state.ram address ≡ true → length old.state.ram % 4 ≡ 0
-    → ((d : Slot) → (get_or slots (slot_of address (length slots)) d).address ≡ NOWHERE) → Keeps old epoch slots → Keeps new epoch slots
+    → ((d : Slot) → (get_or slots (slot_of address (length slots)) d).place ≡ NOWHERE) → Keeps old epoch slots → Keeps new epoch slots
 kept-store old new epoch address width slots bytes ram here size is_width aligned inside whole forgotten keeps k d below =
     let kept = keeps k d below in
     record {
+      says = kept.says;
       past = kept.past;
-      filled = λ now quartered.
-          let filled = kept.filled now quartered in
-          let slot : Slot = get_or slots k d in
-          let other : slot.address / 4 ≢ address / 4 =
+      filled = λ at now quartered.
+          let filled = kept.filled at now quartered in
+          let other : at / 4 ≢ address / 4 =
           λ same.
           let number : slot_of address (length slots) ≡ k = ap (λ q. bit_and q (length slots - 1)) (sym same) ∙ filled.place in
-          let nowhere : slot.address ≡ NOWHERE = subst (λ j. (get_or slots j d).address ≡ NOWHERE) number (forgotten d) in
-          let odd : NOWHERE % 4 ≡ 0 = subst (λ a. a % 4 ≡ 0) nowhere quartered in
-          omega arith in
+          let nowhere : (get_or slots k d).place ≡ NOWHERE = subst (λ j. (get_or slots j d).place ≡ NOWHERE) number (forgotten d) in
+          omega (arith, nowhere, now, quartered) in
           let lengths : length new.state.ram ≡ length old.state.ram =
           ap length ram ∙ same-length old.state.ram bytes address width size is_width aligned inside whole in
           record {
             place = filled.place;
             word = record {
-              in_ram = in-as-long old.state.ram new.state.ram slot.address lengths filled.word.in_ram;
-              here = subst (λ p. slice_get p ((slot.address - RAM_BASE) / PAGE_SIZE) ≡ Some true) (sym here) filled.word.here;
+              in_ram = in-as-long old.state.ram new.state.ram at lengths filled.word.in_ram;
+              here = subst (λ p. slice_get p ((at - RAM_BASE) / PAGE_SIZE) ≡ Some true) (sym here) filled.word.here;
               is =
-                  ap (λ r. word_at r (slot.address - RAM_BASE)) ram
-                  ∙ same-word old.state.ram bytes address width size is_width aligned inside whole slot.address quartered other filled.word.in_ram
+                  ap (λ r. word_at r (at - RAM_BASE)) ram
+                  ∙ same-word old.state.ram bytes address width size is_width aligned inside whole at quartered other filled.word.in_ram
                   ∙ filled.word.is;
             };
           };
@@ -359,7 +324,7 @@ kept-store old new epoch address width slots bytes ram here size is_width aligne
 module _ (old new : KeyedState) (i : Instruction) (epoch : ℕ) (before slots : List Slot) where
   -- by its group
   kept-by : (g : Group) → group_of i.kind ≡ g → length old.state.ram % 4 ≡ 0 → IsPlainIn g i old.state → RamAfter g i old.state new.state → new.pages.here ≡ old.pages.here
-      → ForgetsStored g (slot_of (data_address i old.state) (length before)) before slots → Keeps old epoch before → Keeps new epoch slots
+      → ForgetsAt (stored_at g i old.state) before slots → Keeps old epoch before → Keeps new epoch slots
   kept-by LoadUpper g whole h ram here is keeps = kept-same old new epoch slots ram here (subst (Keeps old epoch) (sym is) keeps)
   kept-by AddUpper g whole h ram here is keeps = kept-same old new epoch slots ram here (subst (Keeps old epoch) (sym is) keeps)
   kept-by Jump g whole h ram here is keeps = kept-same old new epoch slots ram here (subst (Keeps old epoch) (sym is) keeps)
@@ -370,7 +335,7 @@ module _ (old new : KeyedState) (i : Instruction) (epoch : ℕ) (before slots : 
       let stored = widths i.kind (rs2 i old.state) g in
       let address : ℕ = data_address i old.state in
       kept-store old new epoch address (store_width i.kind) slots (stored_bytes i old.state) ram.0 here stored.0 stored.1 ram.1 h whole
-      (subst (λ n. (d : Slot) → (get_or slots (slot_of address n) d).address ≡ NOWHERE) (sym is.same_length) is.there)
+      (subst (λ n. (d : Slot) → (get_or slots (slot_of address n) d).place ≡ NOWHERE) (sym is.same_length) (λ d. ap (λ (s : Slot). s.place) (is.there d)))
       (forgets-keeps old epoch (slot_of address (length before)) before slots keeps is)
   kept-by ComputeImmediate g whole h ram here is keeps = kept-same old new epoch slots ram here (subst (Keeps old epoch) (sym is) keeps)
   kept-by Compute g whole h ram here is keeps = kept-same old new epoch slots ram here (subst (Keeps old epoch) (sym is) keeps)
@@ -383,7 +348,7 @@ module _ (old new : KeyedState) (i : Instruction) (epoch : ℕ) (before slots : 
   kept-by StoreConditional g whole h ram here is keeps = absurd h
   kept-by Amo g whole h ram here is keeps = absurd h
 
-  pub acted-keeps : length old.state.ram % 4 ≡ 0 → ActsPlainly old new i → ForgetsStored (group_of i.kind) (slot_of (data_address i old.state) (length before)) before slots
+  pub acted-keeps : length old.state.ram % 4 ≡ 0 → ActsPlainly old new i → ForgetsAt (stored_at (group_of i.kind) i old.state) before slots
       → Keeps old epoch before → Keeps new epoch slots
   unfolding execute
   acted-keeps whole acts stored keeps =
@@ -420,20 +385,32 @@ reaches-word h word offset reaches is =
     }
 
 -- what a slot keeps of the coming instruction
-pub comes-found : (h : KeyedState) (epoch count number : ℕ) (slot : Slot) → IsKept h epoch count number slot → slot.address ≡ h.state.pc → slot.epoch ≡ epoch → h.state.pc % 4 ≡ 0
+pub comes-found : (h : KeyedState) (epoch count number : ℕ) (slot : Slot) → IsKept h epoch count number slot → slot.place ≡ place_of h.state.pc epoch → h.state.pc % 4 ≡ 0
     → Comes h slot.instr
-comes-found h epoch count number slot kept at now aligned =
-    let filled = kept.filled now (subst (λ a. a % 4 ≡ 0) (sym at) aligned) in
-    record { word = slot.word; is = subst (λ a. IsWord h a slot.word) at filled.word; says = slot.is_decoded }
+comes-found h epoch count number slot kept at aligned = record { word = slot.word; is = (kept.filled h.state.pc at aligned).word; says = kept.says }
 
-pub kept-put : (h : KeyedState) (epoch count number word : ℕ) (slot : Slot) → slot.address ≡ h.state.pc → slot.epoch ≡ epoch → slot.word ≡ word
-    → number ≡ slot_of h.state.pc count → IsWord h h.state.pc word → IsKept h epoch count number slot
-kept-put h epoch count number word slot at now same place is = record {
-  past = omega (arith, now);
-  filled = λ _ aligned. record {
-    place = ap (λ a. slot_of a count) at ∙ sym place;
-    word = subst (λ a. IsWord h a slot.word) (sym at) (subst (IsWord h h.state.pc) (sym same) is);
-  };
+pub says-at : (h : KeyedState) (epoch n : ℕ) (slots : List Slot) (d : Slot) → Keeps h epoch slots → n < length slots → decoded (get_or slots n d).word ≡ Some (get_or slots n d).instr
+says-at h epoch n slots d keeps inside = (keeps n d inside).says
+
+-- the slot of the coming instruction
+pub coming-found : (h : KeyedState) (epoch n : ℕ) (slots : List Slot) → Keeps h epoch slots → n < length slots → h.state.pc % 4 ≡ 0
+    → HoldsAt (λ slot. slot.place ≡ place_of h.state.pc epoch) slots n → IsComing h slots n
+coming-found h epoch n slots keeps inside aligned at = record {
+  inside = inside;
+  there = λ d. comes-found h epoch (length slots) n (get_or slots n d) (keeps n d inside) (at d) aligned;
+}
+
+pub kept-put : (h : KeyedState) (epoch count number word : ℕ) (slot : Slot) → decoded slot.word ≡ Some slot.instr → slot.place ≡ place_of h.state.pc epoch → slot.word ≡ word
+    → h.state.pc < 4294967296 → number ≡ slot_of h.state.pc count → IsWord h h.state.pc word → IsKept h epoch count number slot
+kept-put h epoch count number word slot says at same small place is = record {
+  says = says;
+  past = omega (arith, at, small);
+  filled = λ address now aligned.
+      let here : h.state.pc ≡ address = omega (arith, at, now) in
+      record {
+        place = ap (λ a. slot_of a count) (sym here) ∙ sym place;
+        word = subst (λ a. IsWord h a slot.word) here (subst (IsWord h h.state.pc) (sym same) is);
+      };
 }
 
 pub step-made : (old new : KeyedState) (i : Instruction) (is_made : Bool) → Comes old i → MatchBool is_made (ActsPlainly old new i) (new ≡ old)
@@ -443,9 +420,11 @@ step-made old new i true comes told =
 step-made old new i false comes told = told
 
 pub step-keeps : (old new : KeyedState) (i : Instruction) (epoch : ℕ) (before slots : List Slot) (is_made : Bool) → length old.state.ram % 4 ≡ 0
-    → MatchBool is_made (ActsPlainly old new i) (new ≡ old)
-    → ForgetsStored (group_of i.kind) (slot_of (data_address i old.state) (length before)) before slots → Keeps old epoch before → Keeps new epoch slots
+    → MatchBool is_made (ActsPlainly old new i) (new ≡ old) → ForgetsAt (stored_at (group_of i.kind) i old.state) before slots → Keeps old epoch before → Keeps new epoch slots
 step-keeps old new i epoch before slots true whole told stored keeps = acted-keeps old new i epoch before slots whole told stored keeps
 step-keeps old new i epoch before slots false whole told stored keeps =
-    subst (λ h. Keeps h epoch slots) (sym told)
-    (stored-keeps old epoch (group_of i.kind) (slot_of (data_address i old.state) (length before)) before slots keeps stored)
+    subst (λ h. Keeps h epoch slots) (sym told) (forgot-keeps old epoch (stored_at (group_of i.kind) i old.state) before slots keeps stored)
+
+pub forgot-length : (stored : Option ℕ) (old new : List Slot) → ForgetsAt stored old new → length new ≡ length old
+forgot-length None old new is = ap length is
+forgot-length (Some address) old new is = is.same_length

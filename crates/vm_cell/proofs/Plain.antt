@@ -1,5 +1,5 @@
 -- Plain steps: what they neither read nor write, and how they are counted.
-use Rattle.std.proofs.Common.{◌≡◌, ◌≢◌, ℕ, zero, suc, ◌+◌, ◌-◌, ◌%◌, ◌^◌, ◌<◌, ◌≤◌, Bool, true, false, nat_le, cond, eqb, List, Option, is_some, IsNone, Some, None, Ok, refl, sym, ap, ◌∙◌, subst, arith, add-one, add-zero}
+use Rattle.std.proofs.Common.{◌≡◌, ◌≢◌, ℕ, zero, suc, ◌+◌, ◌-◌, ◌%◌, ◌^◌, ◌<◌, ◌≤◌, Bool, true, false, nat_le, cond, eqb, List, Some, None, Ok, refl, sym, ap, ◌∙◌, subst, arith, add-one, add-zero}
 use Rattle.std.specs.Prelude.{MatchBool}
 use Rattle.rv_decode.specs.Instruction.{Instruction}
 use Rattle.rv_decode.specs.Table.{decoded}

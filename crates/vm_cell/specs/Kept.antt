@@ -1,6 +1,6 @@
 -- Instructions that are kept by their place in RAM. What a slot keeps is so for one epoch. Within it RAM changes by
 -- plain steps alone, whose stores forget the slot of the word that they write.
-use Rattle.std.specs.Prelude.{◌≡◌, ◌≢◌, ℕ, ◌-◌, ◌/◌, ◌<◌, ◌≤◌, ◌%◌, true, List, length, slice_get, slice_index_or, Some}
+use Rattle.std.specs.Prelude.{◌≡◌, ◌≢◌, ℕ, suc, ◌+◌, ◌-◌, ◌*◌, ◌/◌, ◌<◌, ◌%◌, true, List, length, slice_get, slice_index_or, Option, None, Some}
 use Rattle.std.specs.Int.Bits.{bit_and}
 use Rattle.std.specs.List.{HoldsAt}
 use Rattle.elf_load.specs.declared.image.TheConstants.{RAM_BASE, PAGE_SIZE}
@@ -29,14 +29,20 @@ pub record IsWord (h : KeyedState) (address word : ℕ) : Type 0 where
   pub here : slice_get h.pages.here ((address - RAM_BASE) / PAGE_SIZE) ≡ Some true
   pub is : word_at h.state.ram (address - RAM_BASE) ≡ word
 
--- a slot of this epoch is the one of its address, and has the word there
-pub record IsFilled (h : KeyedState) (count number : ℕ) (slot : Slot) : Type 0 where
-  pub place : slot_of slot.address count ≡ number
-  pub word : IsWord h slot.address slot.word
+-- an address at an epoch
+abbrev pub place_of : ℕ → ℕ → ℕ
+place_of address epoch = epoch * 4294967296 + address
 
+-- the slot of this number is the one of an address, which has this word
+pub record IsFilled (h : KeyedState) (count number address held : ℕ) : Type 0 where
+  pub place : slot_of address count ≡ number
+  pub word : IsWord h address held
+
+-- the place of a slot is of no later epoch, and where it is an address at this one, the slot is filled
 pub record IsKept (h : KeyedState) (epoch count number : ℕ) (slot : Slot) : Type 0 where
-  pub past : slot.epoch ≤ epoch
-  pub filled : slot.epoch ≡ epoch → slot.address % 4 ≡ 0 → IsFilled h count number slot
+  pub says : decoded slot.word ≡ Some slot.instr
+  pub past : slot.place < place_of 0 (suc epoch)
+  pub filled : (address : ℕ) → slot.place ≡ place_of address epoch → address % 4 ≡ 0 → IsFilled h count number address slot.word
 
 abbrev pub Keeps : KeyedState → ℕ → List Slot → Type 0
 Keeps h epoch slots = (k : ℕ) (d : Slot) → k < length slots → IsKept h epoch (length slots) k (slice_index_or slots k d)
@@ -47,17 +53,26 @@ pub record Comes (h : KeyedState) (i : Instruction) : Type 0 where
   pub is : IsWord h h.state.pc word
   pub says : decoded word ≡ Some i
 
+-- the slot of this number keeps the coming instruction
+pub record IsComing (h : KeyedState) (slots : List Slot) (number : ℕ) : Type 0 where
+  pub inside : number < length slots
+  pub there : HoldsAt (λ slot. Comes h slot.instr) slots number
+
 -- the slot of this number keeps nothing more, and the others what they kept
 pub record Forgets (number : ℕ) (old new : List Slot) : Type 0 where
   pub same_length : length new ≡ length old
-  pub there : HoldsAt (λ slot. slot.address ≡ NOWHERE) new number
+  pub there : (d : Slot) → slice_index_or new number d ≡ record (slice_index_or old number d) { place = NOWHERE }
   pub others : (k : ℕ) (d : Slot) → k ≢ number → slice_index_or new k d ≡ slice_index_or old k d
-  pub past : (d : Slot) → (slice_index_or new number d).epoch ≡ (slice_index_or old number d).epoch
 
--- before a store
-abbrev pub ForgetsStored : Group → ℕ → List Slot → List Slot → Type 0
-ForgetsStored group.Store number old new = Forgets number old new
-ForgetsStored _ number old new = new ≡ old
+-- so is what is kept of the word at an address, if there is one
+abbrev pub ForgetsAt : Option ℕ → List Slot → List Slot → Type 0
+ForgetsAt None old new = new ≡ old
+ForgetsAt (Some address) old new = Forgets (slot_of address (length old)) old new
+
+-- the address that an instruction of a group stores to, if it is a store
+abbrev pub stored_at : Group → Instruction → State → Option ℕ
+stored_at group.Store i s = Some (data_address i s)
+stored_at _ i s = None
 
 -- an instruction that leaves RAM, and the pages that are here: an access to a CSR, or a store to the console
 abbrev pub IsAside : Group → Instruction → State → Type 0

@@ -314,8 +314,11 @@ impl Hart {
         ensures answer { result ≡ Acted.Retired Written.Nothing }
         ensures new { self.new ≡ record self.old { state = at_next_instruction (with_rd instr.now value self.old.state) } }
     {
+        let next = self.pc.wrapping_add(4);
         self.set_register(instr.rd(), value);
-        self.retire()
+        // It is stored last, so that the coming step need not read it.
+        self.pc = next;
+        Acted::Retired(Written::Nothing)
     }
 
     /// Retires: the next instruction follows.

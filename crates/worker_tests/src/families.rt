@@ -6,7 +6,7 @@ ghost use Rattle.forest_model.specs.Forest.{port_of};
 use crate::guests::booted;
 use fork_board::{Board, split_beside};
 use host_workers::{Finish, Gate, MAX_WORKERS, OpenGate, run_hosts};
-use image_depot::Depot;
+use image_depot::{Depot, Sent};
 use run_report::Outcome;
 use std::alloc::{AllocError, Global};
 use std::marker::{Send, Sync};
@@ -35,7 +35,7 @@ fn ended_in<R: AllocGlobal + Threads + Wait + Sync, W: Wire + Send, G: Gate + Sy
     depot: &Depot,
     wires: &mut [W],
     gate: &G,
-    slice: u64,
+    slice: u32,
 ) -> Result<Ended, AllocError>
     requires no_ticket { (port_of vm.machine).tickets ≡ [] }
     requires no_image { vm.key ≡ None }
@@ -58,7 +58,7 @@ pub fn end_over<R: AllocGlobal + Threads + Wait + Sync, W: Wire + Send, G: Gate 
     clones: u32,
     wires: &mut [W],
     gate: &G,
-    slice: u64,
+    slice: u32,
 ) -> Result<Ended, Fail>
     requires words { length words.now ≤ 64 }
     requires clones { clones ≤ 4096 }
@@ -88,7 +88,7 @@ pub fn end_by<R: AllocGlobal + Threads + Wait + Sync>(
     words: &[u32],
     clones: u32,
     workers: u32,
-    slice: u64,
+    slice: u32,
 ) -> Result<Ended, Fail>
     requires words { length words.now ≤ 64 }
     requires clones { clones ≤ 4096 }
@@ -137,4 +137,34 @@ pub fn is_left<R: Threads + Wait + Sync>(
         board.join_pass(second, fourth),
     );
     Ok(board.close(rt, pass).into_finished().is_none())
+}
+
+/// The numbers of the image and of the page of a reply that was heard.
+fn numbers_of(heard: Result<Option<Sent>, AllocError>) -> Result<Option<(u32, u32)>, AllocError> {
+    match heard? {
+        Some(sent) => Ok(Some((sent.image(), sent.page()))),
+        None => Ok(None),
+    }
+}
+
+/// What a board answers of the first reply before a worker runs the family of a machine, and of the first two after.
+pub fn heard_of<R: AllocGlobal + Threads + Wait + Sync>(
+    rt: &R,
+    vm: Vm,
+    depot: &Depot,
+) -> Result<[Option<(u32, u32)>; 3], AllocError>
+    requires no_ticket { (port_of vm.machine).tickets ≡ [] }
+    requires no_image { vm.key ≡ None }
+{
+    let first = Snapshot::of(&vm);
+    let world = World::new(rt.alloc(), vm, depot)?;
+    let (board, pass) = Board::new(rt.alloc(), world, first, depot)?;
+    let (pass, other) = board.split(pass);
+    let (pass, before) = board.hear(rt, pass, 0);
+    let mut wires = [Seeded::new()];
+    let (other, _) = run_hosts(rt, &board, other, depot, &mut wires, &OpenGate, 1000, 0);
+    let (other, told) = board.hear(rt, other, 0);
+    let (_, beyond) = board.hear(rt, other, 1);
+    let _ = board.close(rt, pass);
+    Ok([numbers_of(before)?, numbers_of(told)?, numbers_of(beyond)?])
 }

@@ -3,7 +3,7 @@
 ghost use Rattle.std.specs.Prelude.{◌≤◌, length};
 ghost use Rattle.std.specs.List.{All};
 
-use crate::families::{Ended, end_by, is_left, is_stopped};
+use crate::families::{Ended, end_by, heard_of, is_left, is_stopped};
 use crate::guests::{
     GRANDCHILD, KILL_BUSY_CHILDREN, KILL_THEN_JOIN, LONG_CHAIN, THOUSAND_CHILDREN, TWO_CHILDREN,
     booted,
@@ -23,7 +23,7 @@ use std::thread::Threads;
 const ROOM: usize = 1 << 20;
 
 /// The steps of a worker's first stretch.
-static SLICES: [u64; 4] = [1, 3, 1_000, 1_000_000];
+static SLICES: [u32; 4] = [1, 3, 1_000, 1_000_000];
 
 /// An outcome is reported so.
 fn is_reported(rt: &impl Abort, alloc: Global, outcome: &Outcome, text: &[u8]) -> Result<(), Fail> {
@@ -33,7 +33,13 @@ fn is_reported(rt: &impl Abort, alloc: Global, outcome: &Outcome, text: &[u8]) -
     Ok(())
 }
 
-fn ends_with(rt: &impl Abort, alloc: Global, ended: &Ended, text: &[u8]) -> Result<(), Fail> {
+/// A family came to an end, which is reported so.
+pub(crate) fn ends_with(
+    rt: &impl Abort,
+    alloc: Global,
+    ended: &Ended,
+    text: &[u8],
+) -> Result<(), Fail> {
     match &ended.outcome {
         Some(outcome) => is_reported(rt, alloc, outcome, text),
         None => Err("the root lives".into()),
@@ -46,7 +52,7 @@ fn family_ends_with<R: AllocGlobal + Threads + Wait + Abort + Sync>(
     words: &[u32],
     clones: u32,
     workers: u32,
-    slice: u64,
+    slice: u32,
     text: &[u8],
 ) -> Result<(), Fail>
     requires words { length words.now ≤ 64 }
@@ -87,6 +93,7 @@ fn all_end_with<R: AllocGlobal + Threads + Wait + Abort + Sync>(
 {
     workers_end_with(rt, words, clones, 1, text)?;
     workers_end_with(rt, words, clones, 2, text)?;
+    workers_end_with(rt, words, clones, 3, text)?;
     workers_end_with(rt, words, clones, 4, text)?;
     workers_end_with(rt, words, clones, 8, text)?;
     workers_end_with(rt, words, clones, 64, text)
@@ -104,6 +111,7 @@ fn some_end_with<R: AllocGlobal + Threads + Wait + Abort + Sync>(
 {
     family_ends_with(rt, words, clones, 1, 1, text)?;
     family_ends_with(rt, words, clones, 2, 1, text)?;
+    family_ends_with(rt, words, clones, 3, 3, text)?;
     family_ends_with(rt, words, clones, 4, 3, text)?;
     family_ends_with(rt, words, clones, 8, 1_000, text)?;
     family_ends_with(rt, words, clones, 64, 1_000_000, text)
@@ -139,6 +147,16 @@ fn kill_then_join(rt: HostRuntime) -> Result<(), Fail> {
 #[test]
 fn kill_busy_children(rt: HostRuntime) -> Result<(), Fail> {
     all_end_with(&rt, &KILL_BUSY_CHILDREN, 2, texts::KILL_THEN_JOIN)
+}
+
+// The one child wants its first page, and no other is asked for.
+#[test]
+fn a_reply_that_is_told_is_heard(rt: HostRuntime) -> Result<(), Fail> {
+    let depot = Depot::new(rt.alloc())?;
+    let vm = booted(rt.alloc(), &TWO_CHILDREN, 1)?;
+    let heard = heard_of(&rt, vm, &depot)?;
+    assert_eq!(rt; heard, [None, Some((0, 0)), None]);
+    Ok(())
 }
 
 #[test]

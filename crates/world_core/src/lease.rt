@@ -1,6 +1,7 @@
 ghost use Rattle.std.specs.Prelude.{◌≡◌, ◌≢◌, ◌≤◌, ◌<◌, ◌+◌, ◌-◌, ◌∷◌, [], length, slice_index_or, false, IfOk, OnErr, None};
 ghost use Rattle.std.specs.Option.{option_copied};
 ghost use Rattle.image_depot.specs.Key.{IsKeyOf, Shelves};
+ghost use Rattle.forest_model.specs.Machine.{after_steps};
 ghost use Rattle.forest_model.specs.Paged.{stalled_at};
 ghost use Rattle.vm_cell.specs.Acts.{Grows};
 ghost use Rattle.vm_cell.specs.Keyed.{Arrives, HasImage, IsOfDepot, paged};
@@ -25,7 +26,7 @@ use std::snapshot::Snapshot;
 use vm_cell::{Arrived, Ran, Stepped, Vm};
 
 /// A machine on lease. It runs by itself, and nothing else runs it meanwhile. A lease cannot be let go: it is
-/// spent by the world that handed it out, in `give`, `end`, `fork`, `join` or `kill`.
+/// spent by the world that handed it out, in `give`, `end`, `fork`, `bear`, `join` or `kill`.
 pub struct Lease {
     pub(crate) turn: Box<Turn>,
     pub(crate) vm: Box<Vm>,
@@ -79,9 +80,11 @@ impl Lease {
         &self.turn.name
     }
 
-    /// The steps that the machine has made since it was handed out. They led to what is known of its pages.
+    /// The steps that the machine has made since it was handed out. They led to what it is, and to what is known of its
+    /// pages.
     pub fn ran(&self) -> u64
         ensures value { result ≡ self.now.ran }
+        ensures after { self.now.now ≡ after_steps self.now.ran self.now.start }
         ensures led { HasLed self.now }
         // Where the machine is out since then, the lease was handed out in the forest with other flags of its pages alone.
         ensures handed { (depot : Shelves) (w : World) (f : Forest) → StandsFor depot w f → IsOutSince f self.now → StillHandedOut depot w f self.now }

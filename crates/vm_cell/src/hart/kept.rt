@@ -8,51 +8,49 @@ ghost use Rattle.forest_model.specs.Execute.{fetched};
 ghost use Rattle.forest_model.specs.Memory.{data_address};
 ghost use Rattle.vm_cell.specs.Acts.{ReachesRam};
 ghost use Rattle.forest_model.specs.Ports.{is_within};
-ghost use Rattle.vm_cell.specs.Kept.{Comes, ComesAside, IsAside, Forgets, Keeps, slot_of};
+ghost use Rattle.vm_cell.specs.Kept.{ComesAside, Forgets, IsAside, IsComing, Keeps, place_of, slot_of};
 
 use super::access::Reach;
-use super::slot::{NOWHERE, Slot};
+use super::slot::{NOWHERE, Slot, place_of};
 use super::{Fields, Hart};
 use console_port::registers::CONSOLE_SIZE;
 use forest_model::port_map::CONSOLE_BASE;
 use rv_decode::Group;
 
 impl Hart {
-    /// The coming instruction, where its slot keeps it.
+    /// Whether a slot keeps the coming instruction.
     #[inline(always)]
-    fn kept(&self, slots: &[Slot], epoch: u32) -> Option<Fields>
-        requires some { 0 < length slots.now }
-        requires keeps { Keeps self.now epoch slots.now }
-        ensures { IfSome result (Comes self.now) }
+    fn is_kept(&self, slot: &Slot, epoch: u32) -> bool
+        ensures { IsTrue result → slot.now.place ≡ place_of self.now.state.pc epoch }
+    {
+        slot.place == place_of(self.pc, epoch)
+    }
+
+    /// The number of the slot that keeps the coming instruction, where its fetch reaches RAM and its word encodes one. It is
+    /// there, or is put there.
+    #[inline(always)]
+    pub(super) fn coming(&self, slots: &mut [Slot], epoch: u32) -> Option<usize>
+        requires some { 0 < length slots.old }
+        requires keeps { Keeps self.now epoch slots.old }
+        ensures comes { IfSome result (IsComing self.now slots.new) }
+        ensures keeps { Keeps self.now epoch slots.new }
+        ensures same_length { length slots.new ≡ length slots.old }
     {
         // Every pc is a multiple of 4.
-        let _ = &self.pc;
-        let slot = slots[slot_of(self.pc, slots.len())];
-        if slot.address == self.pc && slot.epoch == epoch {
-            return Some(slot.instr);
+        let number = slot_of(self.pc, slots.len());
+        if self.is_kept(&slots[number], epoch) {
+            return Some(number);
+        }
+        self.look_up(slots, epoch);
+        if self.is_kept(&slots[number], epoch) {
+            return Some(number);
         }
         None
     }
 
-    /// The coming instruction, where its fetch reaches RAM and its word encodes one. It is in its slot, or is put
-    /// there.
-    #[inline(always)]
-    pub(super) fn coming(&self, slots: &mut [Slot], epoch: u32) -> Option<Fields>
-        requires some { 0 < length slots.old }
-        requires keeps { Keeps self.now epoch slots.old }
-        ensures comes { IfSome result (Comes self.now) }
-        ensures keeps { Keeps self.now epoch slots.new }
-        ensures same_length { length slots.new ≡ length slots.old }
-    {
-        if let Some(instr) = self.kept(slots, epoch) {
-            return Some(instr);
-        }
-        self.look_up(slots, epoch);
-        self.kept(slots, epoch)
-    }
-
     /// Puts the coming instruction into its slot, where its fetch reaches RAM and its word encodes one. It is apart and
     /// never inlined, and its answer is read in the slot, so that the loop of steps is short.
+    #[cold]
     #[inline(never)]
     fn look_up(&self, slots: &mut [Slot], epoch: u32)
         requires some { 0 < length slots.old }
@@ -69,8 +67,7 @@ impl Hart {
             return;
         };
         slots[number] = Slot {
-            address: self.pc,
-            epoch,
+            place: place_of(self.pc, epoch),
             word,
             instr,
         };
@@ -86,7 +83,7 @@ impl Hart {
         ensures same_length { length slots.new ≡ length slots.old }
     {
         match self.coming(slots, epoch) {
-            Some(instr) => self.is_aside(&instr),
+            Some(number) => self.is_aside(&slots[number].instr),
             None => false,
         }
     }
@@ -119,7 +116,7 @@ pub(super) fn forget(slots: &mut [Slot], address: u32)
     ensures { Forgets (slot_of address (length slots.old)) slots.old slots.new }
 {
     let number = slot_of(address, slots.len());
-    slots[number].address = NOWHERE;
+    slots[number].place = NOWHERE;
 }
 
 /// The number of the slot, of so many, of the word that has the byte at an address. It is masked before it is divided,

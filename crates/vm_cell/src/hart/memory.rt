@@ -14,13 +14,11 @@ ghost use Rattle.rv_exec.specs.Memory.{IsWidth, load_width, store_width};
 ghost use Rattle.elf_load.specs.declared.image.TheConstants.{PAGE_SIZE};
 ghost use Rattle.flat_memory.specs.Flat.{put_bytes};
 ghost use Rattle.vm_cell.specs.Acts.{Acts, AccessGrows, InstructionGrows, IsPut, PortGrows};
-ghost use Rattle.vm_cell.specs.Kept.{ForgetsStored, slot_of};
 ghost use Rattle.vm_cell.specs.Keyed.{IsHere};
 ghost use Rattle.vm_cell.specs.Plain.{ActsPlainly};
 
 use super::access::Reach;
-use super::kept::forget;
-use super::{Acted, Fields, Hart, Slot, trapped};
+use super::{Acted, Fields, Hart, trapped};
 use forest_model::cause::{LOAD_ACCESS_FAULT, STORE_ACCESS_FAULT};
 use forest_model::{Access, Direction, Written};
 use fork_port::refusals::{BAD_ARGUMENT, TICKETS_END};
@@ -195,31 +193,9 @@ impl Hart {
         true
     }
 
-    /// Forgets what is kept of the word that an instruction stores to, and stores to RAM, to a page that is here. Else
-    /// the hart stays. One look-up tells both.
+    /// Stores to RAM, to a page that is here. Else the hart stays. One look-up tells both.
     #[inline(always)]
-    pub(super) fn store_plainly(
-        &mut self,
-        slots: &mut [Slot],
-        instr: &Fields,
-        kind: Kind,
-        width: u32,
-    ) -> bool
-        requires some { 0 < length slots.old }
-        requires kind { kind ≡ instr.now.kind }
-        requires group { group_of kind ≡ group.Store }
-        requires width { width ≡ store_width kind }
-        requires widths { IsWidth width }
-        ensures acts { MatchBool result (ActsPlainly self.old self.new instr.now) (self.new ≡ self.old) }
-        ensures forgets { ForgetsStored (group_of kind) (slot_of (data_address instr.now self.old.state) (length slots.old)) slots.old slots.new }
-        ensures same_length { length slots.new ≡ length slots.old }
-    {
-        forget(slots, self.data_address(instr));
-        self.store_here(instr, kind, width)
-    }
-
-    #[inline(always)]
-    fn store_here(&mut self, instr: &Fields, kind: Kind, width: u32) -> bool
+    pub(super) fn store_here(&mut self, instr: &Fields, kind: Kind, width: u32) -> bool
         requires kind { kind ≡ instr.now.kind }
         requires group { group_of kind ≡ group.Store }
         requires width { width ≡ store_width kind }

@@ -1,20 +1,32 @@
 //! Plain steps, which are counted together: each retires an instruction that looks at no counter and reaches no port.
 
-ghost use Rattle.std.specs.Prelude.{◌≡◌, ◌≢◌, ◌%◌, ◌≤◌, ◌<◌, ℕ, length, MatchBool};
+ghost use Rattle.std.specs.Prelude.{◌≡◌, ◌≢◌, ◌%◌, ◌≤◌, ◌<◌, ℕ, length, MatchBool, None, Some};
+ghost use Rattle.rv_exec.specs.Memory.{IsWidth, store_width};
 ghost use Rattle.forest_model.specs.declared.Written.TheVariants.{Nothing};
 ghost use Rattle.forest_model.specs.Action.{retire_next};
 ghost use Rattle.forest_model.specs.Memory.{data_address};
 ghost use Rattle.rv_decode.specs.declared.kinds.Group.TheVariants as group;
 ghost use Rattle.rv_decode.specs.Kinds.{group_of};
 ghost use Rattle.vm_cell.specs.Acts.{ActsAlone};
-ghost use Rattle.vm_cell.specs.Kept.{Comes, ForgetsStored, Keeps, slot_of};
+ghost use Rattle.vm_cell.specs.Kept.{ForgetsAt, IsComing, Keeps, stored_at};
 ghost use Rattle.vm_cell.specs.Plain.{ActsPlainly, AreMade, IsPlainStep, IsQuiet, IsStretch, counted_since};
 
+use super::kept::forget;
 use super::{Acted, Fields, Hart, Slot};
 use forest_model::Written;
 use fork_port::refusals::TICKETS_END;
 use rv_decode::Kind;
 use rv_traps::{CsrRegisters, Csrs};
+
+/// What came of a try at a plain step.
+#[derive(Clone, Copy)]
+struct Tried {
+    is_made: bool,
+    /// The address that is stored to, if it is a store.
+    stored: Option<u32>,
+    /// The pc after it.
+    next: u32,
+}
 
 impl Hart {
     /// Makes the plain steps that come, at most `most`, and answers how many. They are counted. What the slots keep at
@@ -59,11 +71,11 @@ impl Hart {
         ensures keeps { Keeps self.new epoch slots.new }
         ensures same_length { length slots.new ≡ length slots.old }
     {
-        let mut made = 0;
-        while made < most && self.step_plainly(slots, epoch) {
-            made += 1;
+        let mut left = most;
+        while left > 0 && self.step_plainly(slots, epoch) {
+            left -= 1;
         }
-        made
+        most - left
     }
 
     /// Makes the coming step if it is plain, with no look at the interrupt. Else nothing changes.
@@ -75,23 +87,41 @@ impl Hart {
         ensures keeps { Keeps self.new epoch slots.new }
         ensures same_length { length slots.new ≡ length slots.old }
     {
-        let Some(instr) = self.coming(slots, epoch) else {
+        let Some(number) = self.coming(slots, epoch) else {
             return false;
         };
-        self.step_by(slots, &instr)
+        self.step_by(slots, number)
     }
 
-    /// Makes the coming step, of this instruction, if it is plain. Else nothing changes.
+    /// Makes the coming step, whose instruction is in the slot of this number, if it is plain. Else nothing changes. What
+    /// is kept of a word that it stores to is forgotten.
     #[inline(always)]
-    fn step_by(&mut self, slots: &mut [Slot], instr: &Fields) -> bool
-        requires some { 0 < length slots.old }
-        requires comes { Comes self.old instr.now }
+    fn step_by(&mut self, slots: &mut [Slot], number: usize) -> bool
+        requires coming { IsComing self.old slots.old number }
         ensures made { MatchBool result (IsPlainStep self.old self.new) (self.new ≡ self.old) }
         ensures keeps { (epoch : ℕ) → Keeps self.old epoch slots.old → Keeps self.new epoch slots.new }
         ensures same_length { length slots.new ≡ length slots.old }
     {
         self.has_whole_words();
-        self.act_plainly(slots, instr, instr.kind())
+        let instr = &slots[number].instr;
+        let tried = self.act_plainly(instr, instr.kind());
+        self.forget_stored(slots, tried);
+        tried.is_made
+    }
+
+    /// Forgets what is kept of a word that was stored to. The pc is stored once more after it, since the loop of steps has
+    /// in a register what was stored last.
+    #[inline(always)]
+    fn forget_stored(&mut self, slots: &mut [Slot], tried: Tried)
+        requires some { 0 < length slots.old }
+        requires next { tried.next ≡ self.old.state.pc }
+        ensures same { self.new ≡ self.old }
+        ensures forgets { ForgetsAt tried.stored slots.old slots.new }
+    {
+        if let Some(address) = tried.stored {
+            forget(slots, address);
+            self.pc = tried.next;
+        }
     }
 
     /// RAM has whole words. It is apart, so that no step reads the size for it.
@@ -102,67 +132,95 @@ impl Hart {
         let _ = self.memory.size();
     }
 
-    /// Executes an instruction at the pc, if it is plain and retires. Else the hart stays. What is kept of a word that
-    /// it stores to is forgotten. Each kind has an arm of its own, so that one jump leads to what it does.
+    /// Executes an instruction at the pc, if it is plain and retires. Else the hart stays. Each kind has an arm of its own,
+    /// so that one jump leads to what it does.
     #[inline(always)]
     #[tactic(auto, unfolding(rv_decode::specs::Kinds::group_of))]
-    fn act_plainly(&mut self, slots: &mut [Slot], instr: &Fields, kind: Kind) -> bool
-        requires some { 0 < length slots.old }
+    fn act_plainly(&mut self, instr: &Fields, kind: Kind) -> Tried
         requires kind { kind ≡ instr.now.kind }
-        ensures acts { MatchBool result (ActsPlainly self.old self.new instr.now) (self.new ≡ self.old) }
-        ensures forgets { ForgetsStored (group_of kind) (slot_of (data_address instr.now self.old.state) (length slots.old)) slots.old slots.new }
-        ensures same_length { length slots.new ≡ length slots.old }
+        ensures acts { MatchBool result.is_made (ActsPlainly self.old self.new instr.now) (self.new ≡ self.old) }
+        ensures stored { result.stored ≡ stored_at (group_of kind) instr.now self.old.state }
+        ensures next { result.next ≡ self.new.state.pc }
     {
         match kind {
-            Kind::Lui => self.load_upper_plainly(instr, Kind::Lui),
-            Kind::Auipc => self.add_upper_plainly(instr, Kind::Auipc),
-            Kind::Jal => self.jump_plainly(instr, Kind::Jal),
-            Kind::Jalr => self.jump_register_plainly(instr, Kind::Jalr),
-            Kind::Beq => self.branch_plainly(instr, Kind::Beq),
-            Kind::Bne => self.branch_plainly(instr, Kind::Bne),
-            Kind::Blt => self.branch_plainly(instr, Kind::Blt),
-            Kind::Bge => self.branch_plainly(instr, Kind::Bge),
-            Kind::Bltu => self.branch_plainly(instr, Kind::Bltu),
-            Kind::Bgeu => self.branch_plainly(instr, Kind::Bgeu),
-            Kind::Lb => self.load_plainly(instr, Kind::Lb, 1),
-            Kind::Lh => self.load_plainly(instr, Kind::Lh, 2),
-            Kind::Lw => self.load_plainly(instr, Kind::Lw, 4),
-            Kind::Lbu => self.load_plainly(instr, Kind::Lbu, 1),
-            Kind::Lhu => self.load_plainly(instr, Kind::Lhu, 2),
-            Kind::Sb => self.store_plainly(slots, instr, Kind::Sb, 1),
-            Kind::Sh => self.store_plainly(slots, instr, Kind::Sh, 2),
-            Kind::Sw => self.store_plainly(slots, instr, Kind::Sw, 4),
-            Kind::Addi => self.compute_immediate_plainly(instr, Kind::Addi),
-            Kind::Slti => self.compute_immediate_plainly(instr, Kind::Slti),
-            Kind::Sltiu => self.compute_immediate_plainly(instr, Kind::Sltiu),
-            Kind::Xori => self.compute_immediate_plainly(instr, Kind::Xori),
-            Kind::Ori => self.compute_immediate_plainly(instr, Kind::Ori),
-            Kind::Andi => self.compute_immediate_plainly(instr, Kind::Andi),
-            Kind::Slli => self.compute_immediate_plainly(instr, Kind::Slli),
-            Kind::Srli => self.compute_immediate_plainly(instr, Kind::Srli),
-            Kind::Srai => self.compute_immediate_plainly(instr, Kind::Srai),
-            Kind::Add => self.compute_plainly(instr, Kind::Add),
-            Kind::Sub => self.compute_plainly(instr, Kind::Sub),
-            Kind::Sll => self.compute_plainly(instr, Kind::Sll),
-            Kind::Slt => self.compute_plainly(instr, Kind::Slt),
-            Kind::Sltu => self.compute_plainly(instr, Kind::Sltu),
-            Kind::Xor => self.compute_plainly(instr, Kind::Xor),
-            Kind::Srl => self.compute_plainly(instr, Kind::Srl),
-            Kind::Sra => self.compute_plainly(instr, Kind::Sra),
-            Kind::Or => self.compute_plainly(instr, Kind::Or),
-            Kind::And => self.compute_plainly(instr, Kind::And),
-            Kind::Mul => self.compute_plainly(instr, Kind::Mul),
-            Kind::Mulh => self.compute_plainly(instr, Kind::Mulh),
-            Kind::Mulhsu => self.compute_plainly(instr, Kind::Mulhsu),
-            Kind::Mulhu => self.compute_plainly(instr, Kind::Mulhu),
-            Kind::Div => self.compute_plainly(instr, Kind::Div),
-            Kind::Divu => self.compute_plainly(instr, Kind::Divu),
-            Kind::Rem => self.compute_plainly(instr, Kind::Rem),
-            Kind::Remu => self.compute_plainly(instr, Kind::Remu),
-            Kind::Fence => self.retire_plainly(instr, Kind::Fence),
-            Kind::FenceI => self.retire_plainly(instr, Kind::FenceI),
-            Kind::Wfi => self.retire_plainly(instr, Kind::Wfi),
-            _ => false,
+            Kind::Lui => beside(self.load_upper_plainly(instr, Kind::Lui), self.pc),
+            Kind::Auipc => beside(self.add_upper_plainly(instr, Kind::Auipc), self.pc),
+            Kind::Jal => beside(self.jump_plainly(instr, Kind::Jal), self.pc),
+            Kind::Jalr => beside(self.jump_register_plainly(instr, Kind::Jalr), self.pc),
+            Kind::Beq => beside(self.branch_plainly(instr, Kind::Beq), self.pc),
+            Kind::Bne => beside(self.branch_plainly(instr, Kind::Bne), self.pc),
+            Kind::Blt => beside(self.branch_plainly(instr, Kind::Blt), self.pc),
+            Kind::Bge => beside(self.branch_plainly(instr, Kind::Bge), self.pc),
+            Kind::Bltu => beside(self.branch_plainly(instr, Kind::Bltu), self.pc),
+            Kind::Bgeu => beside(self.branch_plainly(instr, Kind::Bgeu), self.pc),
+            Kind::Lb => beside(self.load_plainly(instr, Kind::Lb, 1), self.pc),
+            Kind::Lh => beside(self.load_plainly(instr, Kind::Lh, 2), self.pc),
+            Kind::Lw => beside(self.load_plainly(instr, Kind::Lw, 4), self.pc),
+            Kind::Lbu => beside(self.load_plainly(instr, Kind::Lbu, 1), self.pc),
+            Kind::Lhu => beside(self.load_plainly(instr, Kind::Lhu, 2), self.pc),
+            Kind::Addi => beside(self.compute_immediate_plainly(instr, Kind::Addi), self.pc),
+            Kind::Slti => beside(self.compute_immediate_plainly(instr, Kind::Slti), self.pc),
+            Kind::Sltiu => beside(self.compute_immediate_plainly(instr, Kind::Sltiu), self.pc),
+            Kind::Xori => beside(self.compute_immediate_plainly(instr, Kind::Xori), self.pc),
+            Kind::Ori => beside(self.compute_immediate_plainly(instr, Kind::Ori), self.pc),
+            Kind::Andi => beside(self.compute_immediate_plainly(instr, Kind::Andi), self.pc),
+            Kind::Slli => beside(self.compute_immediate_plainly(instr, Kind::Slli), self.pc),
+            Kind::Srli => beside(self.compute_immediate_plainly(instr, Kind::Srli), self.pc),
+            Kind::Srai => beside(self.compute_immediate_plainly(instr, Kind::Srai), self.pc),
+            Kind::Add => beside(self.compute_plainly(instr, Kind::Add), self.pc),
+            Kind::Sub => beside(self.compute_plainly(instr, Kind::Sub), self.pc),
+            Kind::Sll => beside(self.compute_plainly(instr, Kind::Sll), self.pc),
+            Kind::Slt => beside(self.compute_plainly(instr, Kind::Slt), self.pc),
+            Kind::Sltu => beside(self.compute_plainly(instr, Kind::Sltu), self.pc),
+            Kind::Xor => beside(self.compute_plainly(instr, Kind::Xor), self.pc),
+            Kind::Srl => beside(self.compute_plainly(instr, Kind::Srl), self.pc),
+            Kind::Sra => beside(self.compute_plainly(instr, Kind::Sra), self.pc),
+            Kind::Or => beside(self.compute_plainly(instr, Kind::Or), self.pc),
+            Kind::And => beside(self.compute_plainly(instr, Kind::And), self.pc),
+            Kind::Mul => beside(self.compute_plainly(instr, Kind::Mul), self.pc),
+            Kind::Mulh => beside(self.compute_plainly(instr, Kind::Mulh), self.pc),
+            Kind::Mulhsu => beside(self.compute_plainly(instr, Kind::Mulhsu), self.pc),
+            Kind::Mulhu => beside(self.compute_plainly(instr, Kind::Mulhu), self.pc),
+            Kind::Div => beside(self.compute_plainly(instr, Kind::Div), self.pc),
+            Kind::Divu => beside(self.compute_plainly(instr, Kind::Divu), self.pc),
+            Kind::Rem => beside(self.compute_plainly(instr, Kind::Rem), self.pc),
+            Kind::Remu => beside(self.compute_plainly(instr, Kind::Remu), self.pc),
+            Kind::Fence => beside(self.retire_plainly(instr, Kind::Fence), self.pc),
+            Kind::FenceI => beside(self.retire_plainly(instr, Kind::FenceI), self.pc),
+            Kind::Wfi => beside(self.retire_plainly(instr, Kind::Wfi), self.pc),
+            // None is left out, so that no test of the kind goes before the jump.
+            Kind::Sb => self.store_plainly(instr, Kind::Sb, 1),
+            Kind::Sh => self.store_plainly(instr, Kind::Sh, 2),
+            Kind::Sw => self.store_plainly(instr, Kind::Sw, 4),
+            Kind::Ecall | Kind::Ebreak | Kind::Mret => beside(false, self.pc),
+            Kind::Csrrw | Kind::Csrrs | Kind::Csrrc => beside(false, self.pc),
+            Kind::Csrrwi | Kind::Csrrsi | Kind::Csrrci => beside(false, self.pc),
+            Kind::LrW | Kind::ScW | Kind::AmoswapW | Kind::AmoaddW => beside(false, self.pc),
+            Kind::AmoxorW | Kind::AmoandW | Kind::AmoorW => beside(false, self.pc),
+            Kind::AmominW | Kind::AmomaxW | Kind::AmominuW | Kind::AmomaxuW => beside(
+                false, self.pc,
+            ),
+        }
+    }
+
+    /// A store, as a plain step. It tells to which address, also where it is not made.
+    #[inline(always)]
+    fn store_plainly(&mut self, instr: &Fields, kind: Kind, width: u32) -> Tried
+        requires kind { kind ≡ instr.now.kind }
+        requires group { group_of kind ≡ group.Store }
+        requires width { width ≡ store_width kind }
+        requires widths { IsWidth width }
+        ensures acts { MatchBool result.is_made (ActsPlainly self.old self.new instr.now) (self.new ≡ self.old) }
+        ensures stored { result.stored ≡ Some (data_address instr.now self.old.state) }
+        ensures next { result.next ≡ self.new.state.pc }
+    {
+        let stored = Some(self.data_address(instr));
+        let is_made = self.store_here(instr, kind, width);
+        let next = self.pc;
+        Tried {
+            is_made,
+            stored,
+            next,
         }
     }
 
@@ -268,6 +326,18 @@ impl Hart {
             ..fields
         });
         self.ports.count_times(steps);
+    }
+}
+
+/// What is known of a try at an instruction that is no store.
+#[inline(always)]
+fn beside(is_made: bool, next: u32) -> Tried
+    ensures { result ≡ record { is_made = is_made; stored = None; next = next } }
+{
+    Tried {
+        is_made,
+        stored: None,
+        next,
     }
 }
 

@@ -2,38 +2,45 @@
 
 ghost use Rattle.std.specs.Prelude.{◌≡◌, Some};
 ghost use Rattle.rv_decode.specs.Table.{decoded};
+ghost use Rattle.vm_cell.specs.Kept.{place_of};
 
 use super::Fields;
 use rv_decode::decode;
 
-/// No instruction has this address: each is a multiple of 4.
-pub(super) const NOWHERE: u32 = 1;
+/// No instruction has this place: each address is a multiple of 4.
+pub(super) const NOWHERE: u64 = 1;
 
 /// A word that encodes an instruction: the one that does nothing.
 const NOP: u32 = 0x13;
 
-/// An address, the word that was there at an epoch, and the instruction that it encodes.
+/// A place, the word that was there, and the instruction that it encodes. A place is an address at an epoch: one number,
+/// so that one comparison tells both.
 #[derive(Clone, Copy)]
 pub struct Slot {
-    pub(super) address: u32,
-    pub(super) epoch: u32,
+    pub(super) place: u64,
     pub(super) word: u32,
     pub(super) instr: Fields,
-    ghost is_decoded: { decoded word ≡ Some instr },
+}
+
+/// An address at an epoch.
+#[inline(always)]
+pub(super) fn place_of(address: u32, epoch: u32) -> u64
+    ensures { result ≡ place_of address epoch }
+{
+    u64::from(epoch) * 0x1_0000_0000 + u64::from(address)
 }
 
 impl Slot {
     /// A slot that keeps nothing.
     pub fn empty() -> Slot
-        ensures address { result.address ≡ NOWHERE }
-        ensures epoch { result.epoch ≡ 0 }
+        ensures place { result.place ≡ NOWHERE }
+        ensures says { decoded result.word ≡ Some result.instr }
     {
         let Some(instr) = decode(NOP) else {
             unreachable!()
         };
         Slot {
-            address: NOWHERE,
-            epoch: 0,
+            place: NOWHERE,
             word: NOP,
             instr: Fields::of(instr),
         }
@@ -42,6 +49,7 @@ impl Slot {
     /// The instruction that a word encodes, or `None` where it encodes none. It is known where the slot has the word.
     #[inline(always)]
     pub(super) fn decode(&self, word: u32) -> Option<Fields>
+        requires { decoded self.now.word ≡ Some self.now.instr }
         ensures { result ≡ decoded word }
     {
         if self.word == word {

@@ -1,5 +1,7 @@
 use Rattle.host_fetch.specs.Heard.{AreHeardOf}
 use Rattle.fork_board.specs.Follows.{depot_of}
+use Rattle.fork_board.specs.Passes.{seen_record}
+use Rattle.host_workers.specs.Hears.{AreFound, StayFound}
 use Rattle.host_workers.specs.Stays.{Spares, Stays}
 use Rattle.host_workers.proofs.replies.Hearing.listen.Given as goal
 
@@ -10,4 +12,6 @@ invariant-loop g l = record {
   stays : Stays l.initial.pass l.pass;
   spares : Spares l.initial.pass l.pass;
   heard : AreHeardOf (depot_of l.board.opening) l.initial.self.heard → AreHeardOf (depot_of l.board.opening) l.self.heard;
+  all : AreFound (seen_record l.pass).told l.initial.self.next l.self.next l.self.heard;
+  found : StayFound l.initial.self.heard l.self.heard;
 }

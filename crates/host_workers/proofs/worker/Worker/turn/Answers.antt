@@ -5,7 +5,8 @@ use Rattle.world_core.specs.declared.reason.Reason.TheVariants as reason
 use Rattle.world_core.specs.declared.world.Taken.{Taken}
 use Rattle.fork_board.specs.Notes.{taken_entry}
 use Rattle.fork_board.specs.Passes.{Makes}
-use Rattle.host_workers.proofs.Ending.{ends-over, ends-stopped, taken-going}
+use Rattle.host_workers.specs.declared.finish.Finish.TheVariants.{Over, Stopped}
+use Rattle.host_workers.proofs.Ending.{done-last, ends-over, ends-stopped, taken-going}
 use Rattle.host_workers.proofs.Working.{blames-worked, spares-halted, spares-taken, spares-worked, stopped-later, worked-one}
 use Rattle.host_workers.proofs.worker.Worker.turn.Goals as goal
 
@@ -13,6 +14,11 @@ pub returns-in-Over-clause-turns : goal.returns-in-Over-clause-turns
 returns-in-Over-clause-turns g c =
     let r = c.take-pass.result in
     ends-over c.args.pass r.0 (subst (λ (t : Taken). Makes c.args.pass r.0 (taken_entry t)) c.in-Over.is c.take-pass.ensures.makes)
+
+pub returns-in-Over-clause-done : goal.returns-in-Over-clause-done
+returns-in-Over-clause-done g c =
+    let r = c.take-pass.result in
+    done-last c.args.pass r.0 Over (subst (λ (t : Taken). Makes c.args.pass r.0 (taken_entry t)) c.in-Over.is c.take-pass.ensures.makes)
 
 pub returns-in-Over-clause-wire : goal.returns-in-Over-clause-wire
 returns-in-Over-clause-wire g c = λ by.
@@ -22,6 +28,12 @@ pub returns-in-Stopped-clause-turns : goal.returns-in-Stopped-clause-turns
 returns-in-Stopped-clause-turns g c =
     let r = c.take-pass.result in
     ends-stopped c.args.pass r.0 c.in-Stopped.reason
+    (subst (λ (t : Taken). Makes c.args.pass r.0 (taken_entry t)) c.in-Stopped.is c.take-pass.ensures.makes)
+
+pub returns-in-Stopped-clause-done : goal.returns-in-Stopped-clause-done
+returns-in-Stopped-clause-done g c =
+    let r = c.take-pass.result in
+    done-last c.args.pass r.0 (Stopped c.in-Stopped.reason)
     (subst (λ (t : Taken). Makes c.args.pass r.0 (taken_entry t)) c.in-Stopped.is c.take-pass.ensures.makes)
 
 pub returns-in-Stopped-clause-wire : goal.returns-in-Stopped-clause-wire

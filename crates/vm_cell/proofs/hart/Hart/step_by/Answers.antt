@@ -1,15 +1,27 @@
-use Rattle.std.proofs.Common.{length, ap, subst}
+use Rattle.std.proofs.Common.{◌≡◌, sym, ap, ◌∙◌, subst}
+use Rattle.std.specs.Prelude.{MatchBool, slice_index_or}
 use Rattle.rv_decode.specs.Kinds.{group_of}
-use Rattle.forest_model.specs.Memory.{data_address}
-use Rattle.vm_cell.specs.Kept.{ForgetsStored, slot_of}
-use Rattle.vm_cell.proofs.Kept.{step-made, step-keeps}
+use Rattle.rv_decode.specs.Instruction.{Instruction}
+use Rattle.vm_cell.specs.Kept.{ForgetsAt, Keeps, stored_at}
+use Rattle.vm_cell.specs.Keyed.{KeyedState}
+use Rattle.vm_cell.specs.Plain.{IsPlainStep}
+use Rattle.vm_cell.proofs.Kept.{forgot-length, step-made, step-keeps}
 use Rattle.vm_cell.proofs.hart.Hart.step_by.Goals as goal
 
 pub returns-clause-made : goal.returns-clause-made
-returns-clause-made c = step-made c.args.self.now c.act_plainly.new.self c.args.instr.now c.act_plainly.result c.requires.comes c.act_plainly.ensures.acts
+returns-clause-made c =
+    let tried = c.act_plainly-tried.result in
+    subst (λ (h : KeyedState). MatchBool tried.is_made (IsPlainStep c.args.self.now h) (h ≡ c.args.self.now)) (sym c.forget_stored.ensures.same)
+    (step-made c.args.self.now c.act_plainly-tried.new.self _ tried.is_made (c.requires.coming.there c.index-slots-number.result) c.act_plainly-tried.ensures.acts)
 
 pub returns-clause-keeps : goal.returns-clause-keeps
 returns-clause-keeps c = λ epoch keeps.
-    let forgets = subst (λ g. ForgetsStored g (slot_of (data_address c.args.instr.now c.args.self.now.state) (length c.args.slots.now)) c.args.slots.now c.act_plainly.new.slots)
-    (ap group_of c.kind.ensures) c.act_plainly.ensures.forgets in
-    step-keeps c.args.self.now c.act_plainly.new.self c.args.instr.now epoch _ _ c.act_plainly.result c.has_whole_words.ensures c.act_plainly.ensures.acts forgets keeps
+    let i : Instruction = (slice_index_or c.args.slots.now c.args.number c.index-slots-number.result).instr in
+    subst (λ (h : KeyedState). Keeps h epoch c.forget_stored.new.slots) (sym c.forget_stored.ensures.same)
+    (step-keeps c.args.self.now c.act_plainly-tried.new.self i epoch c.args.slots.now c.forget_stored.new.slots c.act_plainly-tried.result.is_made c.has_whole_words.ensures
+    c.act_plainly-tried.ensures.acts
+    (subst (λ stored. ForgetsAt stored c.args.slots.now c.forget_stored.new.slots)
+    (c.act_plainly-tried.ensures.stored ∙ ap (λ k. stored_at (group_of k) i c.args.self.now.state) c.kind.ensures) c.forget_stored.ensures.forgets) keeps)
+
+pub returns-clause-same_length : goal.returns-clause-same_length
+returns-clause-same_length c = forgot-length c.act_plainly-tried.result.stored c.args.slots.now c.forget_stored.new.slots c.forget_stored.ensures.forgets
