@@ -1,15 +1,21 @@
 -- What the clauses of `parse` and of the parser of the words tell of what the words mean.
-use Rattle.std.proofs.Common.{◌≡◌, ◌≢◌, ℕ, ◌<◌, ◌^◌, ◌⊎◌, inl, inr, Bool, true, false, ◌||◌, cond, List, [], ◌∷◌, Option, Some, None, Result, Ok, Err, refl, sym, ap, ◌∙◌, subst}
-use Rattle.std.specs.Result.{OkIff, result_ok}
+use Rattle.std.proofs.Common.{◌≡◌, ◌≢◌, ℕ, ◌+◌, ◌<◌, ◌^◌, ◌⊎◌, inl, inr, Bool, true, false, ◌||◌, cond, List, [], ◌∷◌, get_or, length, take, Option, Some, None, Result, Ok, Err, refl, sym, ap, ◌∙◌, subst}
+use Rattle.std.specs.Borrow.{Bor}
+use Rattle.std.specs.List.{fold}
+use Rattle.std.specs.Result.{IfOk, IsOkAnd, OkIff, result_ok}
 use Rattle.std.specs.Str.{all_ascii_digits}
 use Rattle.std.specs.Str.Parse.{IsNumeral, ParsesUnsigned, digits_value, without_leading_plus}
 use Rattle.std.proofs.lemmas.Str.Parse.{IsNumeralModel, numerals_by_value, tells_all_ascii_digits}
+use Rattle.std.proofs.lemmas.List.Sums.{fold_more}
 use Rattle.std.proofs.lemmas.Bool.{and_from, and_parts, lt-ltb, ltb-true}
-use Rattle.clap.specs.Words.{App, HasMatchesOf, IsAmong, Kinds, Row, fault_of, is_simple, is_simple_and_free, subcommand_rows_of}
+use Rattle.clap.specs.Words.{AddsArg, App, HasMatchesOf, IsAmong, Kinds, Row, Rule, app_of, fault_of, is_simple, is_simple_and_free, new_rule, rule_of, subcommand_rows_of, with_rule, with_subcommand}
+use Rattle.clap.specs.declared.Arg.{Arg}
+use Rattle.clap.specs.declared.Command.{Command}
+use Rattle.clap.specs.declared.Command.TheViews.{out-Command}
 use Rattle.clap.specs.declared.error.kind.ErrorKind.{ErrorKind}
 use Rattle.clap.specs.declared.error.kind.ErrorKind.TheVariants.{OutOfMemory}
 use Rattle.clap.specs.declared.parser.matches.ArgMatches.{ArgMatches}
-use Rattle.command_line.specs.Words.{command_of, found, meant, meant_by, number_of, refusals, snow_app}
+use Rattle.command_line.specs.Words.{argument_rule, command_of, found, meant, meant_by, number_of, option_rule, refusals, snow_app}
 
 -- ---- numbers
 
@@ -45,6 +51,39 @@ simple_and_free = refl
 -- a command with one more argument, neither of them global
 pub not-global : (a b g : Bool) → b ≡ (a || g) → a ≡ false → g ≡ false → b ≡ false
 not-global a b g added old new = added ∙ ap (λ v. v || g) old ∙ new
+
+-- and that argument's rule is its last
+pub rule-added : (old : Command) (a : Arg) (rule : Rule) (new : Command) → AddsArg old a new → a.global ≡ false → rule_of a ≡ rule
+    → app_of new ≡ with_rule (app_of old) rule
+rule-added old a rule new adds local is = adds.shape local ∙ ap (with_rule (app_of old)) is
+
+-- an argument that has to be given
+pub made-required : (old new : Arg) (id : List ℕ) → new ≡ record old { required = true } → old.global ≡ false → rule_of old ≡ new_rule id
+    → (new.global ≡ false) × (rule_of new ≡ argument_rule id)
+made-required old new id is local of_old =
+    (ap (λ (a : Arg). a.global) is ∙ local, ap rule_of is ∙ ap (λ (r : Rule). record r { required = true }) of_old)
+
+-- an option `--name`
+pub made-long : (old new : Arg) (name : Bor (List ℕ)) → new ≡ record old { long = Some name } → old.global ≡ false → rule_of old ≡ new_rule name.now
+    → (new.global ≡ false) × (rule_of new ≡ option_rule name.now)
+made-long old new name is local of_old =
+    (ap (λ (a : Arg). a.global) is ∙ local, ap rule_of is ∙ ap (λ (r : Rule). record r { long = Some name.now }) of_old)
+
+-- one option more
+pub option-more : (names : List (Bor (List ℕ))) (first old new : App) (at : ℕ) (d : Bor (List ℕ)) → at < length names
+    → old ≡ fold (λ app name. with_rule app (option_rule name.now)) first (take at names)
+    → new ≡ with_rule old (option_rule (get_or names at d).now)
+    → new ≡ fold (λ app name. with_rule app (option_rule name.now)) first (take (at + 1) names)
+option-more names first old new at d inside so_far is =
+    is ∙ ap (λ (app : App). with_rule app (option_rule (get_or names at d).now)) so_far
+    ∙ sym (fold_more (λ (app : App) (name : Bor (List ℕ)). with_rule app (option_rule name.now)) first names at d inside)
+
+-- a subcommand that could be made, whose own parser is known
+pub subcommand-known : {E : Type 0} (made : Result Command E) (old new known : App)
+    → IsOkAnd made (λ sub. (out-Command sub).has_globals ≡ false → new ≡ with_subcommand old (app_of sub).top) → IfOk made (λ sub. app_of sub ≡ known)
+    → IfOk made (λ sub. (out-Command sub).has_globals ≡ false) → new ≡ with_subcommand old known.top
+subcommand-known (Ok sub) old new known adds is local = adds local ∙ ap (λ (app : App). with_subcommand old app.top) is
+subcommand-known (Err e) old new known adds is local = absurd adds
 
 -- words that the parser takes mean what the subcommand that was found says
 pub meant-taken : (app : App) (words : List (List ℕ)) (m : ArgMatches) → app ≡ snow_app

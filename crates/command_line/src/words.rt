@@ -1,8 +1,9 @@
 //! What the words of the command line ask for.
 
-ghost use Rattle.std.specs.Prelude.{◌≡◌, ◌≤◌, false, codes, IfOk, IfSome, option_and_then, option_map};
+ghost use Rattle.std.specs.Prelude.{◌≡◌, ◌≤◌, false, codes, IfOk, IfSome, IsOkAnd, option_and_then, option_map};
+ghost use Rattle.std.specs.List.{fold};
 ghost use Rattle.clap.specs.declared.Command.TheViews.{out-Command};
-ghost use Rattle.clap.specs.Words.{app_of, first_of, found_of, rows_of, subcommand_rows_of, with_rule};
+ghost use Rattle.clap.specs.Words.{app_of, first_of, found_of, rows_of, subcommand_rows_of, with_rule, with_subcommand};
 ghost use Rattle.command_line.specs.Commands.{meaning};
 ghost use Rattle.command_line.specs.Words.{argument_rule, command_of, drive_app, drive_with, generated_app, generated_guest, generated_how, generated_with, guest_of, how_of, meant, number_of, option_rule, run_app, run_with, snow_app, texts, value_of, with_files, with_numbers, with_slice, with_wire, with_workers, workers_of};
 
@@ -283,11 +284,21 @@ pub fn command_asked(alloc: Global, words: &[String]) -> Result<Option<Command<'
 fn snow_command<'a>(alloc: Global) -> Result<clap::Command<'a>, AllocError>
     ensures { IfOk result (λ command. app_of command ≡ snow_app) }
 {
-    clap::Command::new(alloc, "snow")
-        .no_binary_name(true)
-        .subcommand(run_command(alloc)?)?
-        .subcommand(drive_command(alloc)?)?
-        .subcommand(generated_command(alloc)?)
+    let command = clap::Command::new(alloc, "snow").no_binary_name(true);
+    let command = with_made(command, run_command(alloc))?;
+    let command = with_made(command, drive_command(alloc))?;
+    with_made(command, generated_command(alloc))
+}
+
+/// A command with a subcommand, where that could be made.
+fn with_made<'a>(
+    command: clap::Command<'a>,
+    made: Result<clap::Command<'a>, AllocError>,
+) -> Result<clap::Command<'a>, AllocError>
+    ensures { IfOk result (λ added. IsOkAnd made.entry (λ subcommand. (out-Command subcommand).has_globals ≡ false
+        → app_of added ≡ with_subcommand (app_of command.entry) (app_of subcommand).top)) }
+{
+    command.subcommand(made?)
 }
 
 fn run_command<'a>(alloc: Global) -> Result<clap::Command<'a>, AllocError>
@@ -295,9 +306,7 @@ fn run_command<'a>(alloc: Global) -> Result<clap::Command<'a>, AllocError>
     ensures local { IfOk result (λ command. (out-Command command).has_globals ≡ false) }
 {
     let command = with_argument(alloc, clap::Command::new(alloc, "run"), "IMAGE")?;
-    let command = numbers_added(alloc, files_added(alloc, command)?)?;
-    let command = workers_added(alloc, wire_added(alloc, command)?)?;
-    slice_added(alloc, command)
+    run_options_added(alloc, guest_options_added(alloc, command)?)
 }
 
 fn drive_command<'a>(alloc: Global) -> Result<clap::Command<'a>, AllocError>
@@ -305,8 +314,7 @@ fn drive_command<'a>(alloc: Global) -> Result<clap::Command<'a>, AllocError>
     ensures local { IfOk result (λ command. (out-Command command).has_globals ≡ false) }
 {
     let command = with_argument(alloc, clap::Command::new(alloc, "drive"), "IMAGE")?;
-    let command = with_argument(alloc, command, "SCRIPT")?;
-    numbers_added(alloc, files_added(alloc, command)?)
+    guest_options_added(alloc, with_argument(alloc, command, "SCRIPT")?)
 }
 
 fn generated_command<'a>(alloc: Global) -> Result<clap::Command<'a>, AllocError>
@@ -314,66 +322,44 @@ fn generated_command<'a>(alloc: Global) -> Result<clap::Command<'a>, AllocError>
     ensures local { IfOk result (λ command. (out-Command command).has_globals ≡ false) }
 {
     let command = with_argument(alloc, clap::Command::new(alloc, "self"), "SEED")?;
-    workers_added(alloc, command)
-}
-
-/// A command with the options that name files of its guest.
-fn files_added<'a>(
-    alloc: Global,
-    command: clap::Command<'a>,
-) -> Result<clap::Command<'a>, AllocError>
-    ensures app { IfOk result (λ added. app_of added ≡ with_files (app_of command.entry)) }
-    ensures local { IfOk result (λ added. (out-Command command.entry).has_globals ≡ false → (out-Command added).has_globals ≡ false) }
-{
-    let command = with_option(alloc, command, "disk")?;
-    with_option(alloc, command, "input")
-}
-
-/// A command with the options that are numbers.
-fn numbers_added<'a>(
-    alloc: Global,
-    command: clap::Command<'a>,
-) -> Result<clap::Command<'a>, AllocError>
-    ensures app { IfOk result (λ added. app_of added ≡ with_numbers (app_of command.entry)) }
-    ensures local { IfOk result (λ added. (out-Command command.entry).has_globals ≡ false → (out-Command added).has_globals ≡ false) }
-{
-    let command = with_option(alloc, command, "ram")?;
-    let command = with_option(alloc, command, "limit")?;
-    with_option(alloc, command, "clones")
-}
-
-/// A command with the options that say how pages come.
-fn wire_added<'a>(
-    alloc: Global,
-    command: clap::Command<'a>,
-) -> Result<clap::Command<'a>, AllocError>
-    ensures app { IfOk result (λ added. app_of added ≡ with_wire (app_of command.entry)) }
-    ensures local { IfOk result (λ added. (out-Command command.entry).has_globals ≡ false → (out-Command added).has_globals ≡ false) }
-{
-    let command = with_option(alloc, command, "wire")?;
-    with_option(alloc, command, "ahead")
-}
-
-/// A command with the option that says how many workers there are.
-fn workers_added<'a>(
-    alloc: Global,
-    command: clap::Command<'a>,
-) -> Result<clap::Command<'a>, AllocError>
-    ensures app { IfOk result (λ added. app_of added ≡ with_workers (app_of command.entry)) }
-    ensures local { IfOk result (λ added. (out-Command command.entry).has_globals ≡ false → (out-Command added).has_globals ≡ false) }
-{
     with_option(alloc, command, "workers")
 }
 
-/// A command with the option that says how long a slice is.
-fn slice_added<'a>(
+/// A command with the options that say of a guest what it is given: the names of its files, and its numbers.
+fn guest_options_added<'a>(
     alloc: Global,
     command: clap::Command<'a>,
 ) -> Result<clap::Command<'a>, AllocError>
-    ensures app { IfOk result (λ added. app_of added ≡ with_slice (app_of command.entry)) }
+    ensures app { IfOk result (λ added. app_of added ≡ with_numbers (with_files (app_of command.entry))) }
     ensures local { IfOk result (λ added. (out-Command command.entry).has_globals ≡ false → (out-Command added).has_globals ≡ false) }
 {
-    with_option(alloc, command, "slice")
+    with_options(alloc, command, &["disk", "input", "ram", "limit", "clones"])
+}
+
+/// A command with the options that say how a family is run: how pages come, by how many workers, and in how long slices.
+fn run_options_added<'a>(
+    alloc: Global,
+    command: clap::Command<'a>,
+) -> Result<clap::Command<'a>, AllocError>
+    ensures app { IfOk result (λ added. app_of added ≡ with_slice (with_workers (with_wire (app_of command.entry)))) }
+    ensures local { IfOk result (λ added. (out-Command command.entry).has_globals ≡ false → (out-Command added).has_globals ≡ false) }
+{
+    with_options(alloc, command, &["wire", "ahead", "workers", "slice"])
+}
+
+/// A command with options of these names, in their order.
+fn with_options<'a>(
+    alloc: Global,
+    mut command: clap::Command<'a>,
+    names: &[&'a str],
+) -> Result<clap::Command<'a>, AllocError>
+    ensures app { IfOk result (λ added. app_of added ≡ fold (λ app name. with_rule app (option_rule name.now)) (app_of command.entry) names.entry.now) }
+    ensures local { IfOk result (λ added. (out-Command command.entry).has_globals ≡ false → (out-Command added).has_globals ≡ false) }
+{
+    'names: for name in names {
+        command = with_option(alloc, command, *name)?;
+    }
+    Ok(command)
 }
 
 /// A command with an argument that has to be given.

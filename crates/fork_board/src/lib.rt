@@ -4,12 +4,10 @@
 
 mod board;
 mod calls;
-mod crossing;
 mod kept;
 mod note;
 mod notes;
 mod replies;
 
 pub use board::{Board, Pass};
-pub use crossing::split_beside;
 pub use note::{Note, Opening};

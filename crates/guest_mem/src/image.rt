@@ -53,7 +53,7 @@ impl GuestMem {
 
     /// The same, which counts its steps. A step is a handle on a leaf of the new page table, or an entry
     /// that is written into one. So it costs leaves and not pages where few pages are blank
-    /// (`clone_costs_leaves`).
+    /// (`choices_cost_leaves` of `shared_leaves`).
     pub fn clone_counted<L: Ledger>(
         alloc: Global,
         key: ImageKey,

@@ -2,13 +2,13 @@
 #![tactic(auto)]
 
 mod ask;
-mod bring_page;
 mod deliver;
 mod error;
 mod fetch_page;
 mod heard;
+mod offer_page;
 
-pub use bring_page::{bring, offer};
 pub use error::FetchError;
 pub use fetch_page::{MAX_AHEAD, fetch};
 pub use heard::Heard;
+pub use offer_page::offer;

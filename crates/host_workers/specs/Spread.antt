@@ -1,12 +1,12 @@
 -- Work that is spread over passes which were split off from one.
-use Rattle.std.specs.Prelude.{◌≡◌, ◌⊎◌, ℕ, ◌+◌, ◌<◌, ◌≤◌, List, length, [], ◌∷◌, ◌++◌, Option, Some, None}
-use Rattle.image_depot.specs.Key.{Shelves}
+use Rattle.std.specs.Prelude.{◌≡◌, ◌⊎◌, ℕ, zero, suc, ◌+◌, List, length, [], ◌∷◌, ◌++◌}
 use Rattle.world_core.specs.declared.reason.Reason.TheVariants as reason
-use Rattle.fork_board.specs.Follows.{depot_of}
 use Rattle.fork_board.specs.Passes.{BoardValue, HoldsNone, PassValue}
 use Rattle.host_workers.specs.Finishes.{AreDone, Finishes, IsDone, IsStopped, IsStoppedElsewhere, Worked, WorkedAll}
 use Rattle.host_workers.specs.Lost.{IsOneLost}
 use Rattle.host_workers.specs.Stays.{Blames}
+use Rattle.host_workers.specs.declared.crew.Shift.{Shift}
+use Rattle.host_workers.specs.declared.crew.Shift.TheVariants.{Due, Begun, Done}
 use Rattle.host_workers.specs.declared.finish.Finish.{Finish}
 use Rattle.host_workers.specs.declared.finish.Finish.TheVariants.{Over, Stopped}
 
@@ -22,17 +22,23 @@ abbrev pub finish_of : Finish → Finish → Finish
 finish_of Over second = Over
 finish_of (Stopped r) second = second
 
+-- ---- shifts
+
+-- the shifts of so many workers and one more: each but the last has a pass that is split off, one after another
+unfoldable pub shifts_of : PassValue → ℕ → List Shift
+shifts_of pass zero = Due pass ∷ []
+shifts_of pass (suc k) = Due (child pass) ∷ shifts_of (parent pass) k
+
 -- the pass is of this board, and holds no machine
-pub record IsReady (board : BoardValue) (depot : Shelves) (pass : PassValue) : Type 0 where
+pub record IsReady (board : BoardValue) (pass : PassValue) : Type 0 where
   pub of_board : pass.board ≡ board
-  pub of_depot : depot_of board.opening ≡ depot
   pub none : HoldsNone pass
 
--- so many workers may share it, and each but the last splits a pass off
-pub record IsReadyFor (board : BoardValue) (depot : Shelves) (count : ℕ) (pass : PassValue) : Type 0 where
-  pub ready : IsReady board depot pass
-  pub parts : length pass.number < 3
-  pub splits : pass.splits + count ≤ 65535
+-- the worker is to work, with a pass that is ready
+abbrev pub IsDue : BoardValue → Shift → Type 0
+IsDue board (Due pass) = IsReady board pass
+IsDue board Begun = ⊥
+IsDue board (Done pass finish) = ⊥
 
 -- one worker has worked over this wire
 pub record Works {W : Type 0} (streak : W → ℕ) (wire : W) (old new : PassValue) (finish : Finish) : Type 0 where
@@ -41,6 +47,25 @@ pub record Works {W : Type 0} (streak : W → ℕ) (wire : W) (old new : PassVal
   pub end : Finishes new finish
   pub done : IsDone new.number new.seen
   pub blames : Blames streak wire old new
+
+-- a worker that was to work has done so, over this wire
+abbrev pub HasWorked : {W : Type 0} → (W → ℕ) → W → Shift → Shift → Type 0
+HasWorked streak wire (Due old) (Done new finish) = Works streak wire old new finish
+HasWorked streak wire (Due old) (Due new) = ⊥
+HasWorked streak wire (Due old) Begun = ⊥
+HasWorked streak wire Begun new = ⊥
+HasWorked streak wire (Done old end) new = ⊥
+
+-- the same of each of them, over a wire of its own
+unfoldable pub HaveWorked : {W : Type 0} → (W → ℕ) → List W → List Shift → List Shift → Type 0
+HaveWorked streak [] [] [] = Unit {0}
+HaveWorked streak (wire ∷ wires) (old ∷ olds) (new ∷ news) = HasWorked streak wire old new × HaveWorked streak wires olds news
+HaveWorked streak [] [] (new ∷ news) = ⊥
+HaveWorked streak [] (old ∷ olds) news = ⊥
+HaveWorked streak (wire ∷ wires) [] news = ⊥
+HaveWorked streak (wire ∷ wires) (old ∷ olds) [] = ⊥
+
+-- ---- all of them
 
 -- where the world was stopped for a wire, one of these wires is lost, or it was stopped before, or by another
 abbrev pub BlamesOne : {W : Type 0} → (W → ℕ) → List W → PassValue → PassValue → Finish → Type 0
@@ -54,8 +79,3 @@ pub record WorkAll {W : Type 0} (streak : W → ℕ) (wires : List W) (old new :
   pub end : Finishes new finish
   pub done : AreDone (length wires) old new
   pub blames : BlamesOne streak wires old new finish
-
--- the same of a pass that a thread was to take, and of what it answers
-abbrev pub IfTaken : (PassValue → Type 0) → Option PassValue → Type 0
-IfTaken P None = ⊥
-IfTaken P (Some pass) = P pass

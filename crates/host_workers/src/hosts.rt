@@ -1,22 +1,25 @@
 //! All workers of a board, one to a wire.
 
-ghost use Rattle.std.specs.Prelude.{◌≡◌, ◌⊎◌, ◌+◌, ◌<◌, ◌≤◌, length};
+ghost use Rattle.std.specs.Prelude.{◌≡◌, ◌⊎◌, ℕ, ◌+◌, ◌<◌, ◌≤◌, length};
+ghost use Rattle.std.specs.List.{All};
 ghost use Rattle.std.specs.Thread.{IsSend, IsSync};
 ghost use Rattle.fork_board.specs.Follows.{depot_of};
-ghost use Rattle.fork_board.specs.Passes.{HoldsNone};
+ghost use Rattle.fork_board.specs.Passes.{HoldsNone, PassValue};
 ghost use Rattle.host_workers.specs.Finishes.{AreDone, Finishes, IsStopped, IsStoppedElsewhere, WorkedAll};
 ghost use Rattle.host_workers.specs.Lost.{IsOneLost};
-ghost use Rattle.host_workers.specs.Spread.{IfTaken, IsReady, IsReadyFor, WorkAll, Works, finish_of};
+ghost use Rattle.host_workers.specs.Spread.{HasWorked, HaveWorked, IsDue, WorkAll, finish_of, shifts_of};
 
+use crate::crew::{Crew, Shift};
 use crate::finish::Finish;
 use crate::gate::Gate;
-use crate::handover::{Crew, Handover};
 use crate::idlers::Idlers;
 use crate::worker::work;
+use arrayvec::ArrayVec;
 use fork_board::{Board, Pass};
 use host_fetch::MAX_AHEAD;
 use image_depot::Depot;
 use std::marker::{Send, Sync};
+use std::mem;
 use std::sync::Wait;
 use std::thread::{Threads, join_mut};
 use wire_fates::Wire;
@@ -69,27 +72,140 @@ pub fn run_hosts<R: AllocGlobal + Threads + Wait + Sync, W: Wire + Send, G: Gate
         slice: u64::from(slice),
         ahead,
     };
-    spread(rt, &crew, board, pass, depot, wires, 0)
+    let mut dealt = deal(board, pass, wires.len());
+    let shifts = dealt.as_mut_slice();
+    work_all(rt, &crew, board, depot, 0, shifts, wires);
+    gather(board, shifts, wires)
 }
 
-/// Lets one worker work, with the pass that it is handed.
+/// The shifts of so many workers. Each of these but the last has a pass that is split off.
+fn deal(board: &Board, pass: Pass, count: usize) -> ArrayVec<Shift, MAX_WORKERS>
+    requires board { pass.board ≡ board.now }
+    requires parts { length pass.number < 3 }
+    requires splits { pass.splits + count ≤ 65535 }
+    requires none { HoldsNone pass }
+    requires count { (1 ≤ count) × (count ≤ MAX_WORKERS) }
+    ensures shifts { (k : ℕ) → count ≡ k + 1 → result.items ≡ shifts_of pass k }
+    ensures due { All (IsDue board.now) result.items }
+    ensures len { length result.items ≡ count }
+{
+    let mut pass = pass;
+    let mut shifts = ArrayVec::new();
+    for _ in 1..count {
+        let (rest, split) = board.split(pass);
+        shifts.push(Shift::Due(split));
+        pass = rest;
+    }
+    shifts.push(Shift::Due(pass));
+    shifts
+}
+
+/// Lets the workers work, each in its shift and over its wire. They are halved again and again, and one half goes to a
+/// new thread, if there can be one: so the stack grows as the logarithm of their number. The first worker has the
+/// number, and those after it the next ones.
+#[cycle(halves)]
+fn work_all<R: Threads + Wait + Sync, W: Wire + Send, G: Gate + Sync>(
+    rt: &R,
+    crew: &Crew<G>,
+    board: &Board,
+    depot: &Depot,
+    number: u32,
+    shifts: &mut [Shift],
+    wires: &mut [W],
+)
+    requires due { All (IsDue board.now) shifts.old }
+    requires each { length shifts.old ≡ length wires.old }
+    requires some { 1 ≤ length wires.old }
+    requires depot { depot_of board.now.opening ≡ depot.now }
+    requires few { number + length wires.old ≤ MAX_WORKERS }
+    requires ahead { crew.now.ahead ≤ MAX_AHEAD }
+    ensures worked { HaveWorked W.streak wires.new shifts.old shifts.new }
+    ensures len { length wires.new ≡ length wires.old }
+{
+    if wires.len() == 1 {
+        work_in(
+            rt,
+            crew,
+            board,
+            depot,
+            number,
+            &mut shifts[0],
+            &mut wires[0],
+        );
+        return;
+    }
+    let half = wires.len() / 2;
+    let (here, there) = wires.split_at_mut(half);
+    let (first, second) = shifts.split_at_mut(half);
+    work_halves(
+        rt,
+        crew,
+        board,
+        depot,
+        number,
+        first,
+        here,
+        number + half as u32,
+        second,
+        there,
+    );
+}
+
+/// Two halves, one beside the other. A function of its own, so that what the closures require is what it is given.
+#[cycle(halves)]
+fn work_halves<R: Threads + Wait + Sync, W: Wire + Send, G: Gate + Sync>(
+    rt: &R,
+    crew: &Crew<G>,
+    board: &Board,
+    depot: &Depot,
+    low: u32,
+    first: &mut [Shift],
+    here: &mut [W],
+    high: u32,
+    second: &mut [Shift],
+    there: &mut [W],
+)
+    requires crosses { IsSync R.row × IsSend W.row × IsSync G.row }
+    requires first { All (IsDue board.now) first.old × (length first.old ≡ length here.old) × (1 ≤ length here.old) }
+    requires second { All (IsDue board.now) second.old × (length second.old ≡ length there.old) × (1 ≤ length there.old) }
+    requires depot { depot_of board.now.opening ≡ depot.now }
+    requires few { (low + length here.old ≤ MAX_WORKERS) × (high + length there.old ≤ MAX_WORKERS) }
+    requires ahead { crew.now.ahead ≤ MAX_AHEAD }
+    ensures first { HaveWorked W.streak here.new first.old first.new × (length here.new ≡ length here.old) }
+    ensures second { HaveWorked W.streak there.new second.old second.new × (length there.new ≡ length there.old) }
+{
+    let mut front = move ||
+        requires { IsSync R.row × IsSend W.row × IsSync G.row × (crew.now.ahead ≤ MAX_AHEAD) × (depot_of board.now.opening ≡ depot.now)
+            × All (IsDue board.now) first.now × (length first.now ≡ length here.now) × (1 ≤ length here.now) × (low + length here.now ≤ MAX_WORKERS) }
+        ensures { HaveWorked W.streak here.exit.now first.entry.now first.exit.now × (length here.exit.now ≡ length here.entry.now) }
+    { work_all(rt, crew, board, depot, low, first, here) };
+    let mut back = move ||
+        requires { IsSync R.row × IsSend W.row × IsSync G.row × (crew.now.ahead ≤ MAX_AHEAD) × (depot_of board.now.opening ≡ depot.now)
+            × All (IsDue board.now) second.now × (length second.now ≡ length there.now) × (1 ≤ length there.now) × (high + length there.now ≤ MAX_WORKERS) }
+        ensures { HaveWorked W.streak there.exit.now second.entry.now second.exit.now × (length there.exit.now ≡ length there.entry.now) }
+    { work_all(rt, crew, board, depot, high, second, there) };
+    join_mut(rt, &mut front, &mut back);
+}
+
+/// Lets one worker work.
 fn work_in<R: Wait, W: Wire, G: Gate>(
     rt: &R,
     crew: &Crew<G>,
     board: &Board,
-    handed: &mut Handover,
     depot: &Depot,
+    number: u32,
+    shift: &mut Shift,
     wire: &mut W,
-) -> (Pass, Finish)
-    requires ready { IfTaken (IsReady board.now depot.now) handed.old }
+)
+    requires due { IsDue board.now shift.old }
+    requires depot { depot_of board.now.opening ≡ depot.now }
     requires ahead { crew.now.ahead ≤ MAX_AHEAD }
-    ensures { IfTaken (λ p. Works W.streak wire.new p result.0 result.1) handed.old }
+    ensures { HasWorked W.streak wire.new shift.old shift.new }
 {
-    let number = handed.number();
-    let Some(pass) = handed.take() else {
+    let Shift::Due(pass) = mem::replace(shift, Shift::Begun) else {
         unreachable!()
     };
-    work(
+    let (pass, finish) = work(
         rt,
         crew.alloc,
         board,
@@ -101,98 +217,32 @@ fn work_in<R: Wait, W: Wire, G: Gate>(
         number,
         crew.slice,
         crew.ahead,
-    )
+    );
+    *shift = Shift::Done(pass, finish);
 }
 
-/// One worker in a thread of its own, if there can be one, and what else there is to do.
-fn both<R: Threads + Wait + Sync, W: Wire + Send, G: Gate + Sync, H: FnMut() -> (Pass, Finish)>(
-    rt: &R,
-    crew: &Crew<G>,
-    board: &Board,
-    first: &mut Handover,
-    depot: &Depot,
-    wire: &mut W,
-    rest: &mut H,
-) -> ((Pass, Finish), (Pass, Finish))
-    requires first { IfTaken (IsReady board.now depot.now) first.old }
-    requires ahead { crew.now.ahead ≤ MAX_AHEAD }
-    requires rest { H.pre rest.old }
-    ensures first { IfTaken (λ p. Works W.streak wire.new p result.0.0 result.0.1) first.old }
-    ensures rest { H.step rest.old result.1 rest.new }
+/// Joins the passes of all workers again, and tells how their work ended.
+#[cycle(gather)]
+fn gather<W: Wire>(board: &Board, shifts: &mut [Shift], wires: &[W]) -> (Pass, Finish)
+    requires some { 1 ≤ length wires.now }
+    requires each { length shifts.old ≡ length wires.now }
+    requires worked { (pass : PassValue) × (k : ℕ) × (pass.board ≡ board.now) × (length wires.now ≡ k + 1)
+        × HaveWorked W.streak wires.now (shifts_of pass k) shifts.old }
+    ensures { (pass : PassValue) (k : ℕ) → length wires.now ≡ k + 1 → HaveWorked W.streak wires.now (shifts_of pass k) shifts.old
+        → WorkAll W.streak wires.now pass result.0 result.1 }
 {
-    let mut one = move || -> (Pass, Finish)
-        requires { (crew.now.ahead ≤ MAX_AHEAD) × IfTaken (IsReady board.now depot.now) first.now }
-        ensures { IfTaken (λ p. Works W.streak wire.exit.now p result.0 result.1) first.entry.now }
-    { work_in(rt, crew, board, first, depot, wire) };
-    join_mut(rt, &mut one, rest)
-}
-
-/// The first worker has the number, and those after it the next ones.
-#[cycle(spine)]
-fn spread<R: Threads + Wait + Sync, W: Wire + Send, G: Gate + Sync>(
-    rt: &R,
-    crew: &Crew<G>,
-    board: &Board,
-    pass: Pass,
-    depot: &Depot,
-    wires: &mut [W],
-    number: u32,
-) -> (Pass, Finish)
-    requires ready { IsReadyFor board.now depot.now (length wires.old) pass }
-    requires wires { 1 ≤ length wires.old }
-    requires few { number + length wires.old ≤ MAX_WORKERS }
-    requires ahead { crew.now.ahead ≤ MAX_AHEAD }
-    ensures works { WorkAll W.streak wires.new pass result.0 result.1 }
-    ensures len { length wires.new ≡ length wires.old }
-{
-    let Some((wire, others)) = wires.split_first_mut() else {
+    let Some((shift, shifts)) = shifts.split_first_mut() else {
         unreachable!()
     };
-    if others.is_empty() {
-        let mut last = Handover::new(pass, number);
-        return work_in(rt, crew, board, &mut last, depot, wire);
-    }
-    let (pass, split) = board.split(pass);
-    let mut first = Handover::new(split, number);
-    let mut rest = Some(pass);
-    let ((split, one), (pass, all)) = beside(
-        rt, crew, board, &mut first, &mut rest, depot, wire, others, number,
-    );
-    (board.join_pass(pass, split), finish_of(one, all))
-}
-
-/// One worker, and others beside it, each with a pass that it takes. A function of its own, so that what the closure
-/// requires is what it is given.
-#[cycle(spine)]
-fn beside<R: Threads + Wait + Sync, W: Wire + Send, G: Gate + Sync>(
-    rt: &R,
-    crew: &Crew<G>,
-    board: &Board,
-    first: &mut Handover,
-    rest: &mut Option<Pass>,
-    depot: &Depot,
-    wire: &mut W,
-    others: &mut [W],
-    number: u32,
-) -> ((Pass, Finish), (Pass, Finish))
-    requires others { 1 ≤ length others.old }
-    requires few { number + 1 + length others.old ≤ MAX_WORKERS }
-    requires ahead { crew.now.ahead ≤ MAX_AHEAD }
-    requires first { IfTaken (IsReady board.now depot.now) first.old }
-    requires rest { IfTaken (IsReadyFor board.now depot.now (length others.old)) rest.old }
-    ensures first { IfTaken (λ p. Works W.streak wire.new p result.0.0 result.0.1) first.old }
-    ensures rest { IfTaken (λ p. WorkAll W.streak others.new p result.1.0 result.1.1) rest.old }
-    ensures len { length others.new ≡ length others.old }
-{
-    let mut all = move || -> (Pass, Finish)
-        requires { IsSync R.row × IsSend W.row × IsSync G.row × (1 ≤ length others.now) × (number + 1 + length others.now ≤ MAX_WORKERS)
-            × (crew.now.ahead ≤ MAX_AHEAD) × IfTaken (IsReadyFor board.now depot.now (length others.now)) rest.now }
-        ensures { (length others.exit.now ≡ length others.entry.now) × IfTaken (λ p. WorkAll W.streak others.exit.now p result.0 result.1) rest.entry.now }
-    {
-        let Some(pass) = rest.take() else {
-            unreachable!()
-        };
-        spread(rt, crew, board, pass, depot, others, number + 1)
+    let Some((_, wires)) = wires.split_first() else {
+        unreachable!()
     };
-    both(rt, crew, board, first, depot, wire, &mut all)
+    let Shift::Done(split, one) = mem::replace(shift, Shift::Begun) else {
+        unreachable!()
+    };
+    if wires.is_empty() {
+        return (split, one);
+    }
+    let (pass, all) = gather(board, shifts, wires);
+    (board.join_pass(pass, split), finish_of(one, all))
 }

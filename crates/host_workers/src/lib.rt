@@ -1,9 +1,9 @@
 //! Workers that run one family on one board: each has a wire, and a thread of its own where there can be one.
 #![tactic(auto)]
 
+mod crew;
 mod finish;
 mod gate;
-mod handover;
 mod hosts;
 mod idlers;
 mod pace;

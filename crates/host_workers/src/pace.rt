@@ -1,7 +1,7 @@
 //! How long a worker runs a machine before it looks up.
 
 /// The most slices that are run at once.
-const MOST_SLICES: u64 = 64;
+const MOST_SLICES: u64 = 256;
 
 /// The steps of a worker's next stretch: a slice at first, and twice as many after each that its machine made whole.
 #[derive(Drop)]

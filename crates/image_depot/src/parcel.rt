@@ -5,7 +5,6 @@ ghost use Rattle.image_depot.specs.Key.{image_of, number_of};
 ghost use Rattle.image_depot.specs.Reply.{page_bytes, reply_bytes};
 
 use crate::key::ImageKey;
-use fetch_proto::decode_frame;
 use page_frames::PAGE_SIZE;
 use std::marker::Model;
 
@@ -53,20 +52,6 @@ impl Parcel {
         ensures { result ≡ self.now.page }
     {
         self.page
-    }
-
-    /// The bytes of the page, as they lie in the frame. It takes no memory.
-    pub fn content(&self) -> &[u8; PAGE_SIZE]
-        ensures value { result.now ≡ page_bytes (image_of self.now.key) self.now.page }
-        ensures there { self.now.page < page_count (image_of self.now.key) }
-        ensures whole { length (page_bytes (image_of self.now.key) self.now.page) ≡ PAGE_SIZE }
-    {
-        // The calls tell that both numbers have 32 bits.
-        let _ = (self.key.number(), self.page());
-        match decode_frame(&self.bytes) {
-            Some(frame) => frame.bytes,
-            None => unreachable!(),
-        }
     }
 
     pub(crate) fn of_reply(key: ImageKey, page: u32, bytes: Vec<u8>) -> Parcel

@@ -1,32 +1,54 @@
 //! Depots: that calls succeed, that images share the pages that they were made of, and that threads
 //! freeze and read images of one depot side by side.
 
-ghost use Rattle.std.specs.Prelude.{◌≤◌, IfSome};
+ghost use Rattle.std.specs.Prelude.{◌≡◌, ◌≤◌, length, IfOk, IfSome};
+ghost use Rattle.image_depot.specs.Image.{IsWhole};
 ghost use Rattle.image_depot.specs.Key.{IsKeyOf};
 
 use console_port::Input;
-use cow_disk::{Disk, DiskError};
+use cow_disk::{Disk, DiskError, FrozenDisk};
 use image_depot::{Depot, Frozen, ImageKey};
 use page_frames::{Entry, PAGE_SIZE, Page, PageTable};
-use std::alloc::Global;
+use std::alloc::{AllocError, Global};
 use std::process::Abort;
 use std::sync::Wait;
 use std::test::Fail;
 use std::thread;
 use std::thread::Threads;
 
+/// A page of these bytes, a blank page and a page of one more.
+fn entries_of(alloc: Global, byte: u8) -> Result<PageTable, AllocError>
+    ensures whole { IfOk result (λ entries. IsWhole entries) }
+    ensures three { IfOk result (λ entries. length entries ≡ 3) }
+{
+    let first = Entry::Held(Page::from_slice(alloc, &[byte; PAGE_SIZE])?);
+    let last = Entry::Held(Page::from_slice(alloc, &[byte ^ 1; PAGE_SIZE])?);
+    PageTable::from_vec(alloc, vec![in alloc; first, Entry::Blank, last]?)
+}
+
+/// The disk of these bytes.
+fn disk_of(alloc: Global, bytes: &[u8]) -> Result<FrozenDisk, DiskError> {
+    Ok(Disk::from_bytes(alloc, bytes)?.freeze()?)
+}
+
 /// The image of a page of these bytes, a blank page and a page of one more, with a disk and an input
 /// of this byte.
-pub fn image_of(alloc: Global, byte: u8) -> Result<Frozen, DiskError> {
-    let entries = vec![in alloc;
-        Entry::Held(Page::from_slice(alloc, &[byte; PAGE_SIZE])?),
-        Entry::Blank,
-        Entry::Held(Page::from_slice(alloc, &[byte ^ 1; PAGE_SIZE])?),
-    ]?;
-    let disk = Disk::from_bytes(alloc, &[byte; 512])?.freeze()?;
-    let entries = PageTable::from_vec(alloc, entries)?;
+fn image_of(alloc: Global, byte: u8) -> Result<Frozen, DiskError> {
+    let disk = disk_of(alloc, &[byte; 512])?;
     let input = Input::new(alloc, vec![in alloc; byte; 2]?)?;
-    Ok(Frozen::new(alloc, entries, disk, input)?)
+    Ok(Frozen::new(alloc, entries_of(alloc, byte)?, disk, input)?)
+}
+
+/// The key to the image of a byte.
+pub fn frozen<R: Wait>(
+    rt: &R,
+    alloc: Global,
+    depot: &Depot,
+    byte: u8,
+) -> Result<ImageKey, DiskError>
+    ensures { IfOk result (λ key. IsKeyOf depot.now key) }
+{
+    Ok(depot.freeze(rt, image_of(alloc, byte)?)?)
 }
 
 /// Words of all three pages of an image, if it has as many.
@@ -61,47 +83,45 @@ fn parts_of<'a>(depot: &'a Depot, key: &ImageKey) -> (u32, &'a [u8], usize)
     )
 }
 
-/// What is read of two images: words of their pages, and the last byte of their disks.
-type Read = ([Option<[u32; 4]>; 2], [u8; 2]);
+/// What is read of two images: their numbers, words of their pages, and the last byte of their disks.
+type Read = ([u32; 2], [Option<[u32; 4]>; 2], [u8; 2]);
 
 /// What is read of the images of two keys.
 fn read_of(depot: &Depot, first: &ImageKey, second: &ImageKey) -> Result<Read, Fail>
     requires first { IsKeyOf depot.now first.now }
     requires second { IsKeyOf depot.now second.now }
 {
+    let numbers = [first.number(), second.number()];
     let (first, second) = (depot.frozen(first), depot.frozen(second));
     Ok((
+        numbers,
         [words_of(first), words_of(second)],
         [disk_byte(first)?, disk_byte(second)?],
     ))
 }
 
-/// Freezes two images, and tells their numbers and what is read of them.
-fn freeze_and_read<R: Wait>(
-    rt: &R,
-    alloc: Global,
-    depot: &Depot,
-) -> Result<([u32; 2], Read), Fail> {
-    let first = depot.freeze(rt, image_of(alloc, 0x10)?)?;
-    let second = depot.freeze(rt, image_of(alloc, 0x20)?)?;
-    let read = read_of(depot, &first, &second)?;
-    Ok(([first.number(), second.number()], read))
+/// Freezes two images, and tells what is read of them.
+fn freeze_and_read<R: Wait>(rt: &R, alloc: Global, depot: &Depot) -> Result<Read, Fail> {
+    let first = frozen(rt, alloc, depot, 0x10)?;
+    let second = frozen(rt, alloc, depot, 0x20)?;
+    read_of(depot, &first, &second)
 }
 
-fn is_lent<R: Abort + Wait>(rt: &R, alloc: Global, depot: &Depot) -> Result<(), Fail> {
-    let found = freeze_and_read(rt, alloc, depot)?;
-    let words = [
-        Some([0x1010_1010, 0x1010_1010, 0, 0x1111_1111]),
-        Some([0x2020_2020, 0x2020_2020, 0, 0x2121_2121]),
-    ];
-    assert_eq!(rt; found, ([0, 1], (words, [0x10, 0x20])));
-    Ok(())
+/// The same in a depot of its own.
+fn read_in_depot<R: Wait>(rt: &R, alloc: Global) -> Result<Read, Fail> {
+    let depot = Depot::new(alloc)?;
+    freeze_and_read(rt, alloc, &depot)
 }
 
 #[test]
 fn lends_what_was_frozen(rt: HostRuntime) -> Result<(), Fail> {
-    let depot = Depot::new(rt.alloc())?;
-    is_lent(&rt, rt.alloc(), &depot)
+    let read = read_in_depot(&rt, rt.alloc())?;
+    let words = [
+        Some([0x1010_1010, 0x1010_1010, 0, 0x1111_1111]),
+        Some([0x2020_2020, 0x2020_2020, 0, 0x2121_2121]),
+    ];
+    assert_eq!(rt; read, ([0, 1], words, [0x10, 0x20]));
+    Ok(())
 }
 
 /// Freezes the image of a byte, and lends its parts by a key that is the same once more.
@@ -111,19 +131,19 @@ fn freeze_and_lend<'a, R: Wait>(
     depot: &'a Depot,
     byte: u8,
 ) -> Result<(u32, &'a [u8], usize), Fail> {
-    let key = depot.freeze(rt, image_of(alloc, byte)?)?.again()?;
+    let key = frozen(rt, alloc, depot, byte)?.again()?;
     Ok(parts_of(depot, &key))
 }
 
+fn are_parts(rt: &impl Abort, parts: (u32, &[u8], usize), byte: u8) {
+    assert_eq!(rt; parts, (3, [byte; 2].as_slice(), 1));
+}
+
 fn parts_are_lent<R: Abort + Wait>(rt: &R, alloc: Global, depot: &Depot) -> Result<(), Fail> {
-    let parts = [
-        freeze_and_lend(rt, alloc, depot, 0x10)?,
-        freeze_and_lend(rt, alloc, depot, 0x20)?,
-    ];
-    assert_eq!(rt;
-        parts,
-        [(3, [0x10; 2].as_slice(), 1), (3, [0x20; 2].as_slice(), 1),]
-    );
+    let first = freeze_and_lend(rt, alloc, depot, 0x10)?;
+    let second = freeze_and_lend(rt, alloc, depot, 0x20)?;
+    are_parts(rt, first, 0x10);
+    are_parts(rt, second, 0x20);
     Ok(())
 }
 
@@ -145,11 +165,18 @@ fn first_word(depot: &Depot, key: &ImageKey) -> Option<u32>
 
 /// The image of one page, with no disk and no input.
 fn image_of_page(alloc: Global, page: &Page) -> Result<Frozen, DiskError> {
-    let entries = vec![in alloc; Entry::Held(page.share()?)]?;
-    let entries = PageTable::from_vec(alloc, entries)?;
-    let disk = Disk::from_bytes(alloc, &[])?.freeze()?;
+    let disk = disk_of(alloc, &[])?;
     let input = Input::new(alloc, Vec::new(alloc))?;
-    Ok(Frozen::new(alloc, entries, disk, input)?)
+    Ok(Frozen::new(alloc, entries_of_page(alloc, page)?, disk, input)?)
+}
+
+/// One page alone.
+fn entries_of_page(alloc: Global, page: &Page) -> Result<PageTable, AllocError>
+    ensures whole { IfOk result (λ entries. IsWhole entries) }
+    ensures one { IfOk result (λ entries. length entries ≡ 1) }
+{
+    let page = Entry::Held(page.share()?);
+    PageTable::from_vec(alloc, vec![in alloc; page]?)
 }
 
 /// The first word of the image of a page that is written after the image was frozen, and of the page.
@@ -164,17 +191,27 @@ fn words_after_write<R: Wait>(
     Ok((first_word(depot, &key), page.word(0)))
 }
 
-fn shows_in_no_image<R: Abort + Wait>(rt: &R, alloc: Global, depot: &Depot) -> Result<(), Fail> {
+/// The same in a depot of its own.
+fn words_in_depot<R: Wait>(
+    rt: &R,
+    alloc: Global,
+    page: &mut Page,
+) -> Result<(Option<u32>, u32), Fail> {
+    let depot = Depot::new(alloc)?;
+    words_after_write(rt, alloc, page, &depot)
+}
+
+/// The same of a page of bytes 0xaa.
+fn words_of_written<R: Wait>(rt: &R, alloc: Global) -> Result<(Option<u32>, u32), Fail> {
     let mut page = Page::from_slice(alloc, &[0xaa; PAGE_SIZE])?;
-    let words = words_after_write(rt, alloc, &mut page, depot)?;
-    assert_eq!(rt; words, (Some(0xaaaa_aaaa), 0xaaaa_aa11));
-    Ok(())
+    words_in_depot(rt, alloc, &mut page)
 }
 
 #[test]
 fn a_write_to_a_page_shows_in_no_image(rt: HostRuntime) -> Result<(), Fail> {
-    let depot = Depot::new(rt.alloc())?;
-    shows_in_no_image(&rt, rt.alloc(), &depot)
+    let words = words_of_written(&rt, rt.alloc())?;
+    assert_eq!(rt; words, (Some(0xaaaa_aaaa), 0xaaaa_aa11));
+    Ok(())
 }
 
 /// Freezes an image of each of a hundred bytes, and gives the key to the last. `None` where an image
@@ -183,9 +220,9 @@ fn freeze_hundred<R: Wait>(rt: &R, alloc: Global, depot: &Depot, first: u8) -> O
     requires { first ≤ 100 }
     ensures { IfSome result (λ key. IsKeyOf depot.now key) }
 {
-    let mut last = depot.freeze(rt, image_of(alloc, first).ok()?).ok()?;
+    let mut last = frozen(rt, alloc, depot, first).ok()?;
     for byte in first..first + 100 {
-        let next = depot.freeze(rt, image_of(alloc, byte + 1).ok()?).ok()?;
+        let next = frozen(rt, alloc, depot, byte + 1).ok()?;
         if first_word(depot, &last) != Some(u32::from(byte) * 0x0101_0101) {
             return None;
         }
@@ -221,37 +258,54 @@ fn read_in_two_threads<R: Threads>(
     thread::join(rt, || first_word(depot, second), move || first.number())
 }
 
+/// The numbers of two images, and what is read of them in two threads: a word of the second, and the number of
+/// the first.
+type ReadInThreads = ([u32; 2], (Option<u32>, u32));
+
 // Each thread reads the image that the other has frozen.
-fn is_read_by_the_other<R: Abort + Threads>(
+fn read_by_the_other<R: Threads>(
     rt: &R,
     depot: &Depot,
     first: ImageKey,
     second: &ImageKey,
-)
+) -> ReadInThreads
     requires { IsKeyOf depot.now second.now }
 {
-    assert_ne!(rt; first.number(), second.number());
-    let (one, other) = read_in_two_threads(rt, depot, first, second);
-    assert_eq!(rt; one, Some(0xc8c8_c8c8));
-    assert!(rt; other < 202);
+    let numbers = [first.number(), second.number()];
+    (numbers, read_in_two_threads(rt, depot, first, second))
 }
 
-fn freeze_and_read_in_threads<R: Abort + Threads + Wait + Sync>(
+fn freeze_and_read_in_threads<R: Threads + Wait + Sync>(
     rt: &R,
     alloc: Global,
     depot: &Depot,
-) -> Result<(), Fail> {
+) -> Result<ReadInThreads, Fail> {
     let Some((first, second)) = freeze_in_two_threads(rt, alloc, depot) else {
         return Err("an image has changed".into());
     };
-    is_read_by_the_other(rt, depot, first, &second);
-    Ok(())
+    Ok(read_by_the_other(rt, depot, first, &second))
+}
+
+/// The same in a depot of its own.
+fn read_in_threads_in_depot<R: Threads + Wait + Sync>(
+    rt: &R,
+    alloc: Global,
+) -> Result<ReadInThreads, Fail> {
+    let depot = Depot::new(alloc)?;
+    freeze_and_read_in_threads(rt, alloc, &depot)
+}
+
+fn are_read(rt: &impl Abort, read: ReadInThreads) {
+    let ([first, second], (word, number)) = read;
+    assert_ne!(rt; first, second);
+    assert_eq!(rt; word, Some(0xc8c8_c8c8));
+    assert!(rt; number < 202);
 }
 
 #[test]
 fn threads_freeze_and_read_side_by_side(rt: HostRuntime) -> Result<(), Fail> {
-    let depot = Depot::new(rt.alloc())?;
-    freeze_and_read_in_threads(&rt, rt.alloc(), &depot)
+    are_read(&rt, read_in_threads_in_depot(&rt, rt.alloc())?);
+    Ok(())
 }
 
 /// A depot and an image that each go through a thread of their own: the depot, and the length of the image's
@@ -265,15 +319,16 @@ fn depot_and_length<R: Threads>(rt: &R, alloc: Global) -> Result<(Depot, usize),
     Ok(moved(rt, Depot::new(alloc)?, image))
 }
 
-/// The depot still keeps images.
-fn keeps<R: Wait>(rt: &R, alloc: Global, depot: &Depot) -> Result<(), Fail> {
-    depot.freeze(rt, image_of(alloc, 0xbb)?)?;
-    Ok(())
+/// That length, where the depot still keeps images.
+fn length_of_moved<R: Threads + Wait>(rt: &R, alloc: Global) -> Result<usize, Fail> {
+    let (depot, length) = depot_and_length(rt, alloc)?;
+    frozen(rt, alloc, &depot, 0xbb)?;
+    Ok(length)
 }
 
 #[test]
 fn moves_between_threads(rt: HostRuntime) -> Result<(), Fail> {
-    let (depot, length) = depot_and_length(&rt, rt.alloc())?;
+    let length = length_of_moved(&rt, rt.alloc())?;
     assert_eq!(rt; length, 2);
-    keeps(&rt, rt.alloc(), &depot)
+    Ok(())
 }

@@ -1,14 +1,15 @@
 //! Descriptors: that calls succeed, where each field stands in the bytes, and bytes for each reason why
 //! there are none.
 
+use crate::changes::changed;
 use block_port::{BlockFields, Status};
 use console_port::ConsoleFields;
-use flat_memory::write_bytes;
 use rv_traps::{CsrRegisters, Csrs};
 use std::alloc::{AllocError, Global};
 use std::process::Abort;
 use std::test::Fail;
 use std::thread;
+use std::thread::Threads;
 use timer_port::{TimerPort, TimerRegisters};
 use vm_descriptor::{DescError, Descriptor, PageMap};
 
@@ -187,20 +188,30 @@ static NUMBERED: [(usize, &[u8]); 24] = [
 /// The first place at which bytes do not stand as a table tells, if there is one.
 fn misplaced(bytes: &[u8], rows: &[(usize, &[u8])]) -> Option<usize> {
     for (at, part) in rows {
-        if !bytes.split_at(*at.min(&bytes.len())).1.starts_with(part) {
+        if !stands_at(bytes, *at, part) {
             return Some(*at);
         }
     }
     None
 }
 
-/// The bytes of what bytes are read as.
-fn again(alloc: Global, bytes: &[u8]) -> Result<Vec<u8>, DescError> {
-    let descriptor = Descriptor::decode(alloc, bytes)?;
+/// Whether a part of bytes stands at a place.
+fn stands_at(bytes: &[u8], at: usize, part: &[u8]) -> bool {
+    bytes.split_at(at.min(bytes.len())).1.starts_with(part)
+}
+
+/// The bytes of a descriptor that is in range.
+fn bytes_in_range(alloc: Global, descriptor: &Descriptor) -> Result<Vec<u8>, DescError> {
     if !descriptor.is_in_range() {
         return Err(DescError::Refused(0));
     }
     Ok(descriptor.encode(alloc)?)
+}
+
+/// The bytes of what bytes are read as.
+fn again(alloc: Global, bytes: &[u8]) -> Result<Vec<u8>, DescError> {
+    let descriptor = Descriptor::decode(alloc, bytes)?;
+    bytes_in_range(alloc, &descriptor)
 }
 
 /// The bytes of the first child.
@@ -215,28 +226,26 @@ fn numbered_bytes(alloc: Global) -> Result<Vec<u8>, AllocError> {
     descriptor.encode(alloc)
 }
 
-fn are_placed(rt: &impl Abort, first: &[u8], numbered: &[u8]) {
-    let found = [
-        misplaced(first, &FIRST_CHILD),
-        misplaced(numbered, &NUMBERED),
-    ];
-    assert_eq!(rt;
-        (first.len(), numbered.len(), found),
-        (778, 779, [None, None])
-    );
+fn are_placed(rt: &impl Abort, bytes: &[u8], rows: &[(usize, &[u8])], length: usize) {
+    assert_eq!(rt; (bytes.len(), misplaced(bytes, rows)), (length, None));
 }
 
 #[test]
-fn fields_stand_at_their_places(rt: HostRuntime) -> Result<(), Fail> {
+fn fields_stand_at_their_places(rt: HostRuntime) -> Result<(), AllocError> {
     let first = first_bytes(rt.alloc())?;
+    are_placed(&rt, &first, &FIRST_CHILD, 778);
     let numbered = numbered_bytes(rt.alloc())?;
-    are_placed(&rt, &first, &numbered);
+    are_placed(&rt, &numbered, &NUMBERED, 779);
     Ok(())
+}
+
+fn is_spelled(rt: &impl Abort, spelled: &[u8], bytes: &[u8]) {
+    assert_eq!(rt; spelled, bytes);
 }
 
 fn is_read(rt: &impl Abort, alloc: Global, bytes: &[u8]) -> Result<(), Fail> {
     let spelled = again(alloc, bytes)?;
-    assert_eq!(rt; spelled.as_slice(), bytes);
+    is_spelled(rt, &spelled, bytes);
     Ok(())
 }
 
@@ -306,23 +315,6 @@ static CHANGES: [(usize, &[(usize, u32)], u32); 55] = [
     (778, &[(208, 1_000_000_000), (216, 1_000_000_000)], 0),
 ];
 
-/// The first `length` bytes, or zeros behind them, with other words at some places.
-fn changed(
-    alloc: Global,
-    bytes: &[u8],
-    length: usize,
-    changes: &[(usize, u32)],
-) -> Result<Vec<u8>, AllocError> {
-    let mut changed = Vec::from_slice(alloc, bytes)?;
-    changed.resize(length, 0)?;
-    for (at, word) in changes {
-        if *at < changed.len() && changed.len() - at >= 4 {
-            write_bytes(&mut changed, *at, &word.to_le_bytes());
-        }
-    }
-    Ok(changed)
-}
-
 /// The reason why bytes are refused, or 0 where they are taken and spelled as they were.
 fn reason(alloc: Global, bytes: &[u8]) -> Option<u32> {
     match again(alloc, bytes) {
@@ -357,12 +349,22 @@ fn reason_of_changed(
     Ok(reason(alloc, &bytes))
 }
 
-#[test]
-fn refuses_by_the_first_reason(rt: HostRuntime) -> Result<(), Fail> {
-    let bytes = first_bytes(rt.alloc())?;
-    let row = mistold(rt.alloc(), &bytes, &CHANGES)?;
+/// A table tells the reasons why changed bytes are refused.
+fn are_told(
+    rt: &impl Abort,
+    alloc: Global,
+    bytes: &[u8],
+    rows: &[(usize, &[(usize, u32)], u32)],
+) -> Result<(), AllocError> {
+    let row = mistold(alloc, bytes, rows)?;
     assert_eq!(rt; row, None);
     Ok(())
+}
+
+#[test]
+fn refuses_by_the_first_reason(rt: HostRuntime) -> Result<(), AllocError> {
+    let bytes = first_bytes(rt.alloc())?;
+    are_told(&rt, rt.alloc(), &bytes, &CHANGES)
 }
 
 /// Bytes of the descriptor with 20 pages and three bytes of map, of which the last half byte is spare.
@@ -375,11 +377,9 @@ static SPARE: [(usize, &[(usize, u32)], u32); 5] = [
 ];
 
 #[test]
-fn refuses_a_second_spelling(rt: HostRuntime) -> Result<(), Fail> {
+fn refuses_a_second_spelling(rt: HostRuntime) -> Result<(), AllocError> {
     let bytes = numbered_bytes(rt.alloc())?;
-    let row = mistold(rt.alloc(), &bytes, &SPARE)?;
-    assert_eq!(rt; row, None);
-    Ok(())
+    are_told(&rt, rt.alloc(), &bytes, &SPARE)
 }
 
 /// The bytes of the first child of a machine of the most pages.
@@ -390,24 +390,29 @@ fn bytes_of_most(alloc: Global) -> Result<Vec<u8>, AllocError> {
     descriptor.encode(alloc)
 }
 
-fn ends_with_the_map(rt: &impl Abort, alloc: Global, bytes: &[u8]) {
-    let tail = misplaced(bytes, &[(776, b"\xff\xff"), (902, b"\xff\x7f")]);
-    assert_eq!(rt;
-        (bytes.len(), tail, reason(alloc, bytes)),
-        (904, None, Some(0))
-    );
+/// Ends of the map of the most pages, by their places.
+static MOST: [(usize, &[u8]); 2] = [(776, b"\xff\xff"), (902, b"\xff\x7f")];
+
+fn is_taken(rt: &impl Abort, alloc: Global, bytes: &[u8]) {
+    assert_eq!(rt; reason(alloc, bytes), Some(0));
 }
 
 #[test]
-fn takes_a_map_of_the_most_pages(rt: HostRuntime) -> Result<(), Fail> {
+fn takes_a_map_of_the_most_pages(rt: HostRuntime) -> Result<(), AllocError> {
     let bytes = bytes_of_most(rt.alloc())?;
-    ends_with_the_map(&rt, rt.alloc(), &bytes);
+    are_placed(&rt, &bytes, &MOST, 904);
+    is_taken(&rt, rt.alloc(), &bytes);
     Ok(())
 }
 
 /// How many flags there are, and how many of them are set.
 fn counts(flags: &[bool]) -> (usize, usize) {
-    let blank = flags.iter().filter(|is_blank| **is_blank).count();
+    let mut blank = 0;
+    for is_blank in flags {
+        if *is_blank {
+            blank += 1;
+        }
+    }
     (flags.len(), blank)
 }
 
@@ -415,20 +420,28 @@ fn are_equal(rt: &impl Abort, map: &PageMap, copy: &PageMap) {
     assert_eq!(rt; copy.flags(), map.flags());
 }
 
-#[test]
-fn a_map_is_copied(rt: HostRuntime) -> Result<(), Fail> {
-    let map = map_of(rt.alloc(), 16, 0)?;
-    let copy = map.clone()?;
-    are_equal(&rt, &map, &copy);
-    let flags = copy.into_vec();
-    assert_eq!(rt; counts(&flags), (16, 15));
-    Ok(())
+fn have_one_held(rt: &impl Abort, flags: &[bool]) {
+    assert_eq!(rt; counts(flags), (16, 15));
 }
 
 #[test]
-fn moves_between_threads(rt: HostRuntime) -> Result<(), Fail> {
-    let descriptor = first_child(rt.alloc())?;
-    let (in_range, _) = thread::join(&rt, move || descriptor.is_in_range(), || ());
+fn a_map_is_copied(rt: HostRuntime) -> Result<(), AllocError> {
+    let map = map_of(rt.alloc(), 16, 0)?;
+    let copy = map.clone()?;
+    are_equal(&rt, &map, &copy);
+    have_one_held(&rt, copy.flags());
+    Ok(())
+}
+
+/// Whether a descriptor is in range, which is told in a thread.
+fn is_moved_in_range<R: Threads>(rt: &R, descriptor: Descriptor) -> bool {
+    let (in_range, _) = thread::join(rt, move || descriptor.is_in_range(), || ());
+    in_range
+}
+
+#[test]
+fn moves_between_threads(rt: HostRuntime) -> Result<(), AllocError> {
+    let in_range = is_moved_in_range(&rt, first_child(rt.alloc())?);
     assert!(rt; in_range);
     Ok(())
 }

@@ -1,7 +1,7 @@
 //! Images of programs: that they are loaded where there is memory, and a file for each rule.
 
+use crate::changes::changed;
 use elf_load::{ImageError, Loaded, load_elf};
-use flat_memory::write_bytes;
 use std::alloc::{AllocError, Global};
 use std::process::Abort;
 use std::test::Fail;
@@ -44,12 +44,17 @@ fn push_header(image: &mut Vec<u8>, header: &ProgramHeader) -> Result<(), AllocE
     Ok(())
 }
 
-/// Adds the header of an executable with so many program headers.
-fn push_file_header(image: &mut Vec<u8>, entry: u32, count: u16) -> Result<(), AllocError> {
+/// Adds the start of the header of an executable.
+fn push_start(image: &mut Vec<u8>, entry: u32) -> Result<(), AllocError> {
     image.extend_from_slice(
         b"\x7fELF\x01\x01\x01\xff\xff\xff\xff\xff\xff\xff\xff\xff\x02\0\xf3\0\x01\0\0\0",
     )?;
-    image.extend_from_slice(&entry.to_le_bytes())?;
+    image.extend_from_slice(&entry.to_le_bytes())
+}
+
+/// Adds the header of an executable with so many program headers.
+fn push_file_header(image: &mut Vec<u8>, entry: u32, count: u16) -> Result<(), AllocError> {
+    push_start(image, entry)?;
     image.extend_from_slice(b"\x34\0\0\0\xff\xff\xff\xff\xff\xff\xff\xff\xff\xff\x20\0")?;
     image.extend_from_slice(&count.to_le_bytes())?;
     image.extend_from_slice(b"\xff\xff\xff\xff\xff\xff")
@@ -82,23 +87,6 @@ fn image_of(
     Ok(image)
 }
 
-/// The first `length` bytes of an image, with other words at some places.
-fn changed(
-    alloc: Global,
-    image: &[u8],
-    length: usize,
-    changes: &[(usize, u32)],
-) -> Result<Vec<u8>, AllocError> {
-    let mut changed = Vec::from_slice(alloc, image)?;
-    changed.truncate(length);
-    for (at, word) in changes {
-        if *at < changed.len() && changed.len() - at >= 4 {
-            write_bytes(&mut changed, *at, &word.to_le_bytes());
-        }
-    }
-    Ok(changed)
-}
-
 /// So many bytes of RAM from an offset on, if there are as many.
 fn ram_at(loaded: &Loaded, at: usize, count: usize) -> Option<&[u8]> {
     loaded.ram().get(at..)?.get(..count)
@@ -109,15 +97,20 @@ fn first_flags(loaded: &Loaded, count: usize) -> Option<&[bool]> {
     loaded.segments().get(..count)
 }
 
+/// These bytes of RAM lie at an offset.
+fn has_bytes(rt: &impl Abort, loaded: &Loaded, at: usize, bytes: &[u8]) {
+    assert_eq!(rt; ram_at(loaded, at, bytes.len()), Some(bytes), "{at:#x}");
+}
+
+/// The first pages have these flags.
+fn has_flags(rt: &impl Abort, loaded: &Loaded, flags: &[bool]) {
+    assert_eq!(rt; first_flags(loaded, flags.len()), Some(flags));
+}
+
 fn is_exit_seven(rt: &impl Abort, loaded: &Loaded) {
     assert_eq!(rt; (loaded.entry(), loaded.pages()), (0x8000_0000, 64));
-    assert_eq!(rt;
-        (ram_at(loaded, 0, 5), first_flags(loaded, 2)),
-        (
-            Some([0xb7, 0x22, 0x00, 0x10, 0x13].as_slice()),
-            Some([true, false].as_slice())
-        )
-    );
+    has_bytes(rt, loaded, 0, &[0xb7, 0x22, 0x00, 0x10, 0x13]);
+    has_flags(rt, loaded, &[true, false]);
 }
 
 #[test]
@@ -135,21 +128,17 @@ static ANY_ORDER: [ProgramHeader; 5] = [
     [1, 217, 0x8000_1000, 1, 0x1000],
 ];
 
-/// Whether the bytes lie at the borders of those segments as the headers tell.
-fn are_placed(loaded: &Loaded) -> [bool; 3] {
-    [
-        ram_at(loaded, 0, 5) == Some([3, 4, 5, 0, 0].as_slice()),
-        ram_at(loaded, 0xfff, 3) == Some([0, 6, 0].as_slice()),
-        ram_at(loaded, 0x2ffd, 5) == Some([0, 1, 2, 0, 0].as_slice()),
-    ]
+/// The bytes lie at the borders of those segments as the headers tell.
+fn are_placed(rt: &impl Abort, loaded: &Loaded) {
+    has_bytes(rt, loaded, 0, &[3, 4, 5, 0, 0]);
+    has_bytes(rt, loaded, 0xfff, &[0, 6, 0]);
+    has_bytes(rt, loaded, 0x2ffd, &[0, 1, 2, 0, 0]);
 }
 
 fn is_in_order(rt: &impl Abort, loaded: &Loaded) {
-    let flags = [true, true, true, true, false];
-    assert_eq!(rt;
-        (loaded.entry(), are_placed(loaded), first_flags(loaded, 5)),
-        (0x8000_1000, [true; 3], Some(flags.as_slice()))
-    );
+    assert_eq!(rt; loaded.entry(), 0x8000_1000);
+    are_placed(rt, loaded);
+    has_flags(rt, loaded, &[true, true, true, true, false]);
 }
 
 /// An image with these program headers and then these bytes is loaded.
@@ -194,10 +183,7 @@ fn loaded_of_most(alloc: Global) -> Result<Loaded, Fail> {
 #[test]
 fn loads_as_many_segments_as_there_may_be(rt: HostRuntime) -> Result<(), Fail> {
     let loaded = loaded_of_most(rt.alloc())?;
-    assert_eq!(rt;
-        ram_at(&loaded, 0xfffc, 3),
-        Some([0x7f, 0x7f, 0].as_slice())
-    );
+    has_bytes(&rt, &loaded, 0xfffc, &[0x7f, 0x7f, 0]);
     Ok(())
 }
 
@@ -230,11 +216,16 @@ static LAST_OF_MOST: [(u32, Option<u32>); 7] = [
     (0x8001_0000, Some(10)),
 ];
 
+fn is_told(rt: &impl Abort, alloc: Global, last: u32, rule: Option<u32>) -> Result<(), AllocError> {
+    let refused = refusal_of_most(alloc, last)?;
+    assert_eq!(rt; refused, rule.map(ImageError::Refused), "{last:#x}");
+    Ok(())
+}
+
 #[test]
 fn tells_one_overlap_among_as_many_segments_as_there_may_be(rt: HostRuntime) -> Result<(), Fail> {
     for (last, rule) in LAST_OF_MOST.iter() {
-        let refused = refusal_of_most(rt.alloc(), *last)?;
-        assert_eq!(rt; refused, rule.map(ImageError::Refused), "{last:#x}");
+        is_told(&rt, rt.alloc(), *last, *rule)?;
     }
     Ok(())
 }
@@ -288,21 +279,36 @@ fn refusal_of_changed(
     Ok(refusal(alloc, &file))
 }
 
-fn is_refused_by_each_rule(rt: &impl Abort, alloc: Global, image: &[u8]) -> Result<(), Fail> {
-    assert_eq!(rt; refusal(alloc, image), None);
-    for (length, changes, rule) in BROKEN.iter() {
-        let refused = refusal_of_changed(alloc, image, *length, changes)?;
-        assert_eq!(rt;
-            refused,
-            Some(ImageError::Refused(*rule)),
-            "{changes:?} at {length} bytes"
-        );
+fn is_refused(
+    rt: &impl Abort,
+    alloc: Global,
+    image: &[u8],
+    row: &(usize, &[(usize, u32)], u32),
+) -> Result<(), AllocError> {
+    let (length, changes, rule) = *row;
+    let refused = refusal_of_changed(alloc, image, length, changes)?;
+    assert_eq!(rt;
+        refused,
+        Some(ImageError::Refused(rule)),
+        "{changes:?} at {length} bytes"
+    );
+    Ok(())
+}
+
+fn is_refused_by_each_rule(rt: &impl Abort, alloc: Global, image: &[u8]) -> Result<(), AllocError> {
+    for row in BROKEN.iter() {
+        is_refused(rt, alloc, image, row)?;
     }
     Ok(())
 }
 
+fn is_loaded(rt: &impl Abort, alloc: Global, image: &[u8]) {
+    assert_eq!(rt; refusal(alloc, image), None);
+}
+
 #[test]
-fn refuses_by_the_first_rule_that_is_broken(rt: HostRuntime) -> Result<(), Fail> {
+fn refuses_by_the_first_rule_that_is_broken(rt: HostRuntime) -> Result<(), AllocError> {
     let image = image_of(rt.alloc(), 0x8000_0000, &TWO_SEGMENTS, &[0; 20])?;
+    is_loaded(&rt, rt.alloc(), &image);
     is_refused_by_each_rule(&rt, rt.alloc(), &image)
 }

@@ -10,6 +10,14 @@ use vm_descriptor::{MAX_CLONES, MAX_LIMIT, MAX_SHARE};
 #[test]
 fn limits_are_those_of_the_formats(rt: HostRuntime) {
     let counts = [MIN_PAGES, MAX_PAGES, MAX_SECTORS, MAX_CLONES, MAX_SHARE];
+    assert_eq!(rt;
+        (counts, RAM_BASE, MAX_LIMIT),
+        ([16, 1024, 8192, 4096, 4095], 0x8000_0000, 1_000_000_000)
+    );
+}
+
+#[test]
+fn sizes_are_those_of_the_formats(rt: HostRuntime) {
     let sizes = [
         elf_load::PAGE_SIZE,
         PAGE_SIZE,
@@ -17,7 +25,5 @@ fn limits_are_those_of_the_formats(rt: HostRuntime) {
         FRAME_SIZE,
         MAX_INPUT,
     ];
-    assert_eq!(rt; counts, [16, 1024, 8192, 4096, 4095]);
     assert_eq!(rt; sizes, [4096, 4096, 512, 4108, 65_536]);
-    assert_eq!(rt; (RAM_BASE, MAX_LIMIT), (0x8000_0000, 1_000_000_000));
 }

@@ -1,11 +1,11 @@
 //! Parcels: that calls succeed, that a reply carries its page, that what was pushed is there, and that
 //! threads push and read side by side.
 
-ghost use Rattle.std.specs.Prelude.{◌≡◌, IfOk, IfSome};
+ghost use Rattle.std.specs.Prelude.{◌≡◌, IfSome};
 ghost use Rattle.image_depot.specs.Key.{IsKeyOf};
 ghost use Rattle.image_depot.specs.Reply.{IsSentOf};
 
-use crate::depots::image_of;
+use crate::depots::frozen;
 use image_depot::{Depot, ImageKey, Parcel, Sent};
 use std::alloc::Global;
 use std::process::Abort;
@@ -35,25 +35,23 @@ fn is_reply(bytes: &[u8], start: &[u8; 12], byte: u8) -> bool {
     }
 }
 
+/// Whether the reply for a page of an image begins so and has a page of this byte.
+fn answers(depot: &Depot, key: &ImageKey, page: u32, start: &[u8; 12], byte: u8) -> Option<bool>
+    requires { IsKeyOf depot.now key.now }
+{
+    let reply = answered(depot, key, page)?;
+    Some(is_reply(reply.bytes(), start, byte))
+}
+
 /// Whether the replies for all three pages of an image are as they are to be.
 fn are_replies(depot: &Depot, key: &ImageKey, byte: u8) -> Option<[bool; 3]>
     requires { IsKeyOf depot.now key.now }
 {
-    let first = answered(depot, key, 0)?;
-    let blank = answered(depot, key, 1)?;
-    let last = answered(depot, key, 2)?;
     Some([
-        is_reply(first.bytes(), b"SFR1\x01\0\0\0\0\0\0\0", byte),
-        is_reply(blank.bytes(), b"SFR1\x01\0\0\0\x01\0\0\0", 0),
-        is_reply(last.bytes(), b"SFR1\x01\0\0\0\x02\0\0\0", byte ^ 1),
+        answers(depot, key, 0, b"SFR1\x01\0\0\0\0\0\0\0", byte)?,
+        answers(depot, key, 1, b"SFR1\x01\0\0\0\x01\0\0\0", 0)?,
+        answers(depot, key, 2, b"SFR1\x01\0\0\0\x02\0\0\0", byte ^ 1)?,
     ])
-}
-
-/// The key to the image of a byte.
-fn frozen<R: Wait>(rt: &R, alloc: Global, depot: &Depot, byte: u8) -> Result<ImageKey, Fail>
-    ensures { IfOk result (λ key. IsKeyOf depot.now key) }
-{
-    Ok(depot.freeze(rt, image_of(alloc, byte)?)?)
 }
 
 /// The number of the image that the reply for its last page tells.
@@ -63,20 +61,26 @@ fn number_told(depot: &Depot, key: &ImageKey) -> Option<u32>
     answered(depot, key, 2).map(|parcel| parcel.key().number())
 }
 
-fn carries_its_page<R: Abort + Wait>(rt: &R, alloc: Global, depot: &Depot) -> Result<(), Fail> {
+/// Whether the replies for the pages of the second of two images are so, and the number that the last tells.
+type Carried = (Option<[bool; 3]>, Option<u32>);
+
+fn carried<R: Wait>(rt: &R, alloc: Global, depot: &Depot) -> Result<Carried, Fail> {
     frozen(rt, alloc, depot, 0x10)?;
     let key = frozen(rt, alloc, depot, 0x20)?;
-    assert_eq!(rt;
-        (are_replies(depot, &key, 0x20), number_told(depot, &key)),
-        (Some([true; 3]), Some(1))
-    );
-    Ok(())
+    Ok((are_replies(depot, &key, 0x20), number_told(depot, &key)))
+}
+
+/// The same in a depot of its own.
+fn carried_in_depot<R: Wait>(rt: &R, alloc: Global) -> Result<Carried, Fail> {
+    let depot = Depot::new(alloc)?;
+    carried(rt, alloc, &depot)
 }
 
 #[test]
 fn a_reply_carries_its_page(rt: HostRuntime) -> Result<(), Fail> {
-    let depot = Depot::new(rt.alloc())?;
-    carries_its_page(&rt, rt.alloc(), &depot)
+    let carried = carried_in_depot(&rt, rt.alloc())?;
+    assert_eq!(rt; carried, (Some([true; 3]), Some(1)));
+    Ok(())
 }
 
 /// Pushes the reply that carries a page of an image.
@@ -130,20 +134,26 @@ fn told_of_two<R: Wait>(rt: &R, depot: &Depot, key: &ImageKey) -> Result<[Told; 
     told_after_another(rt, depot, key, &first)
 }
 
-fn is_there<R: Abort + Wait>(rt: &R, alloc: Global, depot: &Depot) -> Result<(), Fail> {
+/// The same of an image that is frozen for it.
+fn told_of_frozen<R: Wait>(rt: &R, alloc: Global, depot: &Depot) -> Result<[Told; 3], Fail> {
     let key = frozen(rt, alloc, depot, 0x30)?;
-    let all = told_of_two(rt, depot, &key)?;
+    told_of_two(rt, depot, &key)
+}
+
+/// The same in a depot of its own.
+fn told_in_depot<R: Wait>(rt: &R, alloc: Global) -> Result<[Told; 3], Fail> {
+    let depot = Depot::new(alloc)?;
+    told_of_frozen(rt, alloc, &depot)
+}
+
+#[test]
+fn what_was_pushed_is_there(rt: HostRuntime) -> Result<(), Fail> {
+    let all = told_in_depot(&rt, rt.alloc())?;
     assert_eq!(rt;
         all,
         [(0, 2, Some(0x31)), (0, 0, Some(0x30)), (0, 2, Some(0x31))]
     );
     Ok(())
-}
-
-#[test]
-fn what_was_pushed_is_there(rt: HostRuntime) -> Result<(), Fail> {
-    let depot = Depot::new(rt.alloc())?;
-    is_there(&rt, rt.alloc(), &depot)
 }
 
 /// Pushes a page of an image a hundred times, and reads what was pushed each time. `None` where it is
@@ -204,21 +214,26 @@ fn pushed_and_read<R: Threads + Wait + Sync>(
     Ok(read_in_two_threads(rt, depot, &first, &second))
 }
 
-fn push_and_read_in_threads<R: Abort + Threads + Wait + Sync>(
+fn push_and_read_in_threads<R: Threads + Wait + Sync>(
     rt: &R,
     alloc: Global,
     depot: &Depot,
-) -> Result<(), Fail> {
+) -> Result<(Told, Told), Fail> {
     let key = frozen(rt, alloc, depot, 0x40)?;
-    let read = pushed_and_read(rt, depot, &key)?;
-    assert_eq!(rt; read, ((0, 2, Some(0x41)), (0, 0, Some(0x40))));
-    Ok(())
+    pushed_and_read(rt, depot, &key)
+}
+
+/// The same in a depot of its own.
+fn read_in_depot<R: Threads + Wait + Sync>(rt: &R, alloc: Global) -> Result<(Told, Told), Fail> {
+    let depot = Depot::new(alloc)?;
+    push_and_read_in_threads(rt, alloc, &depot)
 }
 
 #[test]
 fn threads_push_and_read_side_by_side(rt: HostRuntime) -> Result<(), Fail> {
-    let depot = Depot::new(rt.alloc())?;
-    push_and_read_in_threads(&rt, rt.alloc(), &depot)
+    let read = read_in_depot(&rt, rt.alloc())?;
+    assert_eq!(rt; read, ((0, 2, Some(0x41)), (0, 0, Some(0x40))));
+    Ok(())
 }
 
 /// A parcel and one that was pushed go to a thread each, which tell the length of the one and the page of
@@ -243,19 +258,27 @@ fn length_and_page<R: Threads + Wait>(
     Ok(moved(rt, parcel, sent))
 }
 
-fn parcels_move<R: Abort + Threads + Wait>(
+fn length_and_page_of_frozen<R: Threads + Wait>(
     rt: &R,
     alloc: Global,
     depot: &Depot,
-) -> Result<(), Fail> {
+) -> Result<(usize, u32), Fail> {
     let key = frozen(rt, alloc, depot, 0x50)?;
-    let told = length_and_page(rt, depot, &key)?;
-    assert_eq!(rt; told, (4108, 2));
-    Ok(())
+    length_and_page(rt, depot, &key)
+}
+
+/// The same in a depot of its own.
+fn length_and_page_in_depot<R: Threads + Wait>(
+    rt: &R,
+    alloc: Global,
+) -> Result<(usize, u32), Fail> {
+    let depot = Depot::new(alloc)?;
+    length_and_page_of_frozen(rt, alloc, &depot)
 }
 
 #[test]
 fn moves_between_threads(rt: HostRuntime) -> Result<(), Fail> {
-    let depot = Depot::new(rt.alloc())?;
-    parcels_move(&rt, rt.alloc(), &depot)
+    let told = length_and_page_in_depot(&rt, rt.alloc())?;
+    assert_eq!(rt; told, (4108, 2));
+    Ok(())
 }

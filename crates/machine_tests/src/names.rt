@@ -45,8 +45,14 @@ fn are_in_order(rt: &impl Abort, first: &Name, second: &Name) {
     assert!(rt; first == first && first != second);
 }
 
-fn has_text(rt: &impl Abort, alloc: Global, name: &Name, text: &str) -> Result<(), Fail> {
-    assert_eq!(rt; name.text(alloc)?.as_str(), text);
+pub(crate) fn has_text(
+    rt: &impl Abort,
+    alloc: Global,
+    name: &Name,
+    text: &str,
+) -> Result<(), Fail> {
+    let found = name.text(alloc)?;
+    assert_eq!(rt; found.as_str(), text);
     Ok(())
 }
 

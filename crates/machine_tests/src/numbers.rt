@@ -10,7 +10,7 @@ use forest_model::cause::{
 };
 use forest_model::port_map::{BLOCK_BASE, CONSOLE_BASE, FORK_BASE, TIMER_BASE};
 use rv_traps::TIMER_INTERRUPT;
-use std::test::Fail;
+use std::process::Abort;
 use vm_descriptor::{MAX_CLONES, MAX_LIMIT, MAX_SHARE};
 
 /// Where RAM and the ports begin.
@@ -55,16 +55,23 @@ static SIZES: [(usize, usize); 3] = [
     (MAX_SCRIPT, 1_048_576),
 ];
 
-#[test]
-fn constants_are_these(rt: HostRuntime) -> Result<(), Fail> {
-    for table in [ADDRESSES.as_slice(), CAUSES.as_slice(), LIMITS.as_slice()] {
-        for (is, number) in table.iter() {
-            assert_eq!(rt; is, number);
-        }
+fn are_these(rt: &impl Abort, table: &[(u32, u32)]) {
+    for (is, number) in table {
+        assert_eq!(rt; is, number);
     }
+}
+
+fn sizes_are_these(rt: &impl Abort) {
     for (is, number) in SIZES.iter() {
         assert_eq!(rt; is, number);
     }
+}
+
+#[test]
+fn constants_are_these(rt: HostRuntime) {
+    are_these(&rt, &ADDRESSES);
+    are_these(&rt, &CAUSES);
+    are_these(&rt, &LIMITS);
+    sizes_are_these(&rt);
     assert_eq!(rt; MAX_LIMIT, 1_000_000_000);
-    Ok(())
 }

@@ -6,30 +6,54 @@ use io_edge::{
 use std::alloc::{AllocError, Global};
 use std::fs;
 use std::process::Abort;
+use std::rt::Files;
 use std::test::Fail;
 
 #[test]
 fn reads_and_writes_the_real_outside(rt: HostRuntime) -> Result<(), Fail> {
-    fs::write(&rt, "machine_tests-file", b"12345".as_slice())?;
-    reads_a_file(&rt, rt.alloc(), &mut FileShelf::new(&rt))?;
-    fs::remove_file(&rt, "machine_tests-file")?;
-    is_missing(&rt, rt.alloc(), &mut FileShelf::new(&rt));
-    assert_eq!(rt; StdSink::new(&rt).put(b"snow"), Ok(4));
+    reads_what_is_written(&rt, rt.alloc())?;
+    puts_four(&rt, &mut StdSink::new(&rt));
     Ok(())
+}
+
+fn reads_what_is_written<R: Abort + Files>(rt: &R, alloc: Global) -> Result<(), Fail> {
+    fs::write(rt, "machine_tests-file", b"12345".as_slice())?;
+    reads_a_file(rt, alloc, &mut FileShelf::new(rt))?;
+    fs::remove_file(rt, "machine_tests-file")?;
+    is_missing(rt, alloc, &mut FileShelf::new(rt));
+    Ok(())
+}
+
+fn puts_four<S: Sink>(rt: &impl Abort, sink: &mut S) {
+    assert_eq!(rt; sink.put(b"snow"), Ok(4));
 }
 
 /// The file is read whole, or not at all.
 fn reads_a_file<S: Shelf>(rt: &impl Abort, alloc: Global, shelf: &mut S) -> Result<(), Fail> {
-    let bytes = shelf.load(alloc, "machine_tests-file", 5)?;
-    assert_eq!(rt; bytes.as_slice(), b"12345".as_slice());
-    let cut = shelf.load(alloc, "machine_tests-file", 4).err();
-    assert_eq!(rt; cut, Some(ShelfError::TooLong));
+    is_read(rt, alloc, shelf)?;
+    is_refused(rt, alloc, shelf, 4, ShelfError::TooLong);
     Ok(())
 }
 
+fn is_read<S: Shelf>(rt: &impl Abort, alloc: Global, shelf: &mut S) -> Result<(), Fail> {
+    let bytes = shelf.load(alloc, "machine_tests-file", 5)?;
+    assert_eq!(rt; bytes.as_slice(), b"12345".as_slice());
+    Ok(())
+}
+
+fn is_refused<S: Shelf>(
+    rt: &impl Abort,
+    alloc: Global,
+    shelf: &mut S,
+    most: usize,
+    error: ShelfError,
+) {
+    let refused = shelf.load(alloc, "machine_tests-file", most).err();
+    assert_eq!(rt; refused, Some(error));
+}
+
 fn is_missing<S: Shelf>(rt: &impl Abort, alloc: Global, shelf: &mut S) {
-    let missing = shelf.load(alloc, "machine_tests-file", 5).err();
-    assert_eq!(rt; missing, Some(ShelfError::Fault));
+    is_refused(rt, alloc, shelf, 5, ShelfError::Fault);
 }
 
 #[test]

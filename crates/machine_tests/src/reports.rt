@@ -5,6 +5,7 @@ ghost use Rattle.std.specs.Option.{option_copied};
 ghost use Rattle.std.specs.BTreeMap.{get};
 ghost use Rattle.run_report.specs.NameOrder.{path_cmp};
 
+use crate::names::has_text;
 use forest_model::Ending;
 use io_edge::MemSink;
 use run_report::{Line, Name, Outcome, report_into};
@@ -33,12 +34,23 @@ fn names_are_keys(rt: HostRuntime) -> Result<(), Fail> {
 }
 
 fn are_keys(rt: &impl Abort, alloc: Global, map: &mut BTreeMap<Name, u32>) -> Result<(), Fail> {
-    let root = Name::root(alloc)?;
-    let child = root.child(alloc, 1, 2)?;
-    assert_eq!(rt; got_after(map, child.copy()?, &child)?, Some(1));
-    let other = root.child(alloc, 1, 3)?;
-    assert_eq!(rt; got_after(map, root, &other)?, None);
+    let there = got_there(alloc, map)?;
+    let beside = got_beside(alloc, map)?;
+    assert_eq!(rt; [there, beside], [Some(1), None]);
     Ok(())
+}
+
+/// What a map has at a name after 1 was put there.
+fn got_there(alloc: Global, map: &mut BTreeMap<Name, u32>) -> Result<Option<u32>, Fail> {
+    let child = Name::root(alloc)?.child(alloc, 1, 2)?;
+    Ok(got_after(map, child.copy()?, &child)?)
+}
+
+/// What a map has at a name after 1 was put at the root's.
+fn got_beside(alloc: Global, map: &mut BTreeMap<Name, u32>) -> Result<Option<u32>, Fail> {
+    let root = Name::root(alloc)?;
+    let other = root.child(alloc, 1, 3)?;
+    Ok(got_after(map, root, &other)?)
 }
 
 #[test]
@@ -61,11 +73,6 @@ fn have_texts(
     has_text(rt, alloc, grandchild, "0.1.2.30.4294967295")?;
     tells_what_is_below(rt, root, child, grandchild);
     goes_back(rt, child, grandchild);
-    Ok(())
-}
-
-fn has_text(rt: &impl Abort, alloc: Global, name: &Name, text: &str) -> Result<(), Fail> {
-    assert_eq!(rt; name.text(alloc)?.as_str(), text);
     Ok(())
 }
 
@@ -290,10 +297,14 @@ static CUTS: [(usize, u64, usize, u64); 18] = [
 #[test]
 fn a_fault_leaves_a_prefix(rt: HostRuntime) -> Result<(), Fail> {
     let outcome = family(rt.alloc())?;
+    is_cut_at_each_fault(&rt, rt.alloc(), &outcome)
+}
+
+fn is_cut_at_each_fault(rt: &impl Abort, alloc: Global, outcome: &Outcome) -> Result<(), Fail> {
     for (most, fails, length, calls) in CUTS.iter() {
         assert!(rt; *most > 0);
-        let sink = put_out(rt.alloc(), &outcome, *most, *fails)?;
-        is_cut(&rt, &sink, FAMILY, *length, *calls);
+        let sink = put_out(alloc, outcome, *most, *fails)?;
+        is_cut(rt, &sink, FAMILY, *length, *calls);
     }
     Ok(())
 }
@@ -315,10 +326,20 @@ fn log_of_many(alloc: Global, root: &Name) -> Result<Vec<Line>, AllocError> {
 
 #[test]
 fn many_lines_go_out_in_few_puts(rt: HostRuntime) -> Result<(), Fail> {
-    let outcome = many_lines(rt.alloc())?;
-    let sink = put_out(rt.alloc(), &outcome, 1 << 16, 0)?;
-    assert_eq!(rt; (sink.bytes().len(), sink.calls()), (20_032, 3));
+    let put = bytes_and_puts_of_many(rt.alloc())?;
+    assert_eq!(rt; put, (20_032, 3));
     Ok(())
+}
+
+/// How many bytes of that report are out, after how many puts.
+fn bytes_and_puts_of_many(alloc: Global) -> Result<(usize, u64), Fail> {
+    let outcome = many_lines(alloc)?;
+    bytes_and_puts(alloc, &outcome)
+}
+
+fn bytes_and_puts(alloc: Global, outcome: &Outcome) -> Result<(usize, u64), Fail> {
+    let sink = put_out(alloc, outcome, 1 << 16, 0)?;
+    Ok((sink.bytes().len(), sink.calls()))
 }
 
 /// The line of a machine that put out ten thousand bytes.

@@ -52,11 +52,20 @@ static IN_FORM: [(&[u8], &str); 9] = [
 
 #[test]
 fn scripts_in_form(rt: HostRuntime) -> Result<(), Fail> {
-    let alloc = rt.alloc();
     for (text, lines) in IN_FORM.iter() {
-        let script = read(&rt, alloc, text)?;
-        assert_eq!(rt; said(alloc, &script)?.as_str(), *lines);
+        says(&rt, rt.alloc(), text, lines)?;
     }
+    Ok(())
+}
+
+fn says(rt: &impl Abort, alloc: Global, text: &[u8], lines: &str) -> Result<(), Fail> {
+    let script = read(rt, alloc, text)?;
+    lines_say(rt, alloc, &script, lines)
+}
+
+fn lines_say(rt: &impl Abort, alloc: Global, script: &Script, lines: &str) -> Result<(), Fail> {
+    let said = said(alloc, script)?;
+    assert_eq!(rt; said.as_str(), lines);
     Ok(())
 }
 
@@ -137,15 +146,24 @@ static REFUSED: [(&[u8], u32, u32); 61] = [
 #[test]
 fn texts_that_are_no_scripts(rt: HostRuntime) {
     for (text, line, kind) in REFUSED.iter() {
-        assert!(rt; is_refused(&rt, rt.alloc(), text, *line, *kind), "{text:?}");
+        is_no_script(&rt, rt.alloc(), text, *line, *kind);
     }
+}
+
+fn is_no_script(rt: &impl Abort, alloc: Global, text: &[u8], line: u32, kind: u32) {
+    assert!(rt; is_refused(rt, alloc, text, line, kind), "{text:?}");
 }
 
 #[test]
 fn the_longest_script(rt: HostRuntime) -> Result<(), Fail> {
-    let alloc = rt.alloc();
+    let text = longest(rt.alloc())?;
+    assert!(rt; is_refused(&rt, rt.alloc(), &text, 1_048_571, 1));
+    Ok(())
+}
+
+/// A script of the greatest length, whose last line alone is not in form.
+fn longest(alloc: Global) -> Result<Vec<u8>, AllocError> {
     let mut text = vec![in alloc; b'\n'; 1_048_570]?;
     text.extend_from_slice(b"jump 0")?;
-    assert!(rt; is_refused(&rt, alloc, &text, 1_048_571, 1));
-    Ok(())
+    Ok(text)
 }

@@ -5,6 +5,7 @@ ghost use Rattle.image_depot.specs.Key.{IsKeyOf};
 ghost use Rattle.vm_cell.specs.Keyed.{IsOfDepot};
 
 use crate::guests::{TWO_CHILDREN, booted};
+use crate::worlds::{Deed, does};
 use fork_port::Call;
 use image_depot::{Depot, Sent};
 use std::alloc::{AllocError, Global};
@@ -17,8 +18,15 @@ use world_core::World;
 // The reply with page 0 of what the machine of two children leaves for them.
 fn reply<R: Wait>(rt: &R, alloc: Global, depot: &Depot) -> Result<Sent, Fail> {
     let mut vm = booted(alloc, &TWO_CHILDREN, 16)?;
+    reply_of(rt, alloc, &mut vm, depot)
+}
+
+// The same of a machine that comes to a CLONE.
+fn reply_of<R: Wait>(rt: &R, alloc: Global, vm: &mut Vm, depot: &Depot) -> Result<Sent, Fail>
+    requires { IsOfDepot depot.now vm.old.key }
+{
     vm.run(1000)?;
-    let brood = brood_of(rt, alloc, &mut vm, depot)?;
+    let brood = brood_of(rt, alloc, vm, depot)?;
     pushed(rt, &brood, depot)
 }
 
@@ -45,23 +53,34 @@ fn pushed<R: Wait>(rt: &R, brood: &Brood, depot: &Depot) -> Result<Sent, Fail>
 
 #[test]
 fn a_reply_that_is_told_is_heard(rt: HostRuntime) -> Result<(), Fail> {
-    let depot = Depot::new(rt.alloc())?;
-    is_told_and_heard(&rt, rt.alloc(), &depot)
+    does(&rt, rt.alloc(), Deed::Tell)
 }
 
-fn is_told_and_heard<R: Abort + Wait>(rt: &R, alloc: Global, depot: &Depot) -> Result<(), Fail> {
-    let mut world = World::new(alloc, booted(alloc, &TWO_CHILDREN, 16)?, depot)?;
+// Tells a world a reply, which is heard then.
+pub(crate) fn tells<R: Abort + Wait>(
+    rt: &R,
+    alloc: Global,
+    world: &mut World,
+    depot: &Depot,
+) -> Result<(), Fail> {
     let sent = reply(rt, alloc, depot)?;
-    is_heard(rt, &mut world, sent)
+    is_heard(rt, world, sent)
 }
 
 fn is_heard(rt: &impl Abort, world: &mut World, sent: Sent) -> Result<(), Fail> {
     let told = (sent.image(), sent.page());
+    let heard = heard_around(world, sent)?;
+    assert_eq!(rt; heard, [None, Some(told), None]);
+    Ok(())
+}
+
+// What is heard at the first place before a reply is told, and at the first two after.
+fn heard_around(world: &mut World, sent: Sent) -> Result<[Option<(u32, u32)>; 3], AllocError> {
     let before = heard_at(world, 0)?;
     world.tell(sent)?;
-    let after = [heard_at(world, 0)?, heard_at(world, 1)?];
-    assert_eq!(rt; (before, after), (None, [Some(told), None]));
-    Ok(())
+    let first = heard_at(world, 0)?;
+    let second = heard_at(world, 1)?;
+    Ok([before, first, second])
 }
 
 // The numbers of the image and of the page of the reply at a place.

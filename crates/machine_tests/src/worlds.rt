@@ -7,7 +7,8 @@ ghost use Rattle.drive_script.specs.Driven.{HasMachines};
 
 use crate::guests::{TWO_CHILDREN, booted};
 use crate::scripts::read;
-use drive_script::drive;
+use crate::told::tells;
+use drive_script::{Script, drive};
 use image_depot::Depot;
 use std::alloc::{AllocError, Global};
 use std::process::Abort;
@@ -32,14 +33,55 @@ static SCRIPT: &[u8] =
 static TOLD: &[u8] =
     b"0 ran 12 ok\n0.1.1.1.1.1.1 none\n0.1.3 none\n0.1.2 ask 0 0\n0.1.1 push 9 1\n0.1.2 got 0\n0.1.2 ran 6 exit 42\n0 ran 2 wait 1\n0.1.1 ran 0 stall 0\n0.1.1 got 0\n0.1.1 had 0\n0.1.1 ran 6 exit 41\n0 ran 7 exit 41\n0 none\n";
 
-#[test]
-fn a_script_drives_a_family(rt: HostRuntime) -> Result<(), Fail> {
-    let depot = Depot::new(rt.alloc())?;
-    let mut world = started(rt.alloc(), &depot)?;
-    is_driven(&rt, rt.alloc(), &mut world, &depot)
+// What is done with a world that was just made.
+#[derive(Clone, Copy)]
+pub(crate) enum Deed {
+    // A script drives it.
+    Drive,
+    // A machine is taken and given back.
+    GiveBack,
+    // A reply is told, and heard.
+    Tell,
 }
 
-fn is_driven<R: Abort + Wait>(
+fn world_does<R: Abort + Wait>(
+    rt: &R,
+    alloc: Global,
+    world: &mut World,
+    depot: &Depot,
+    deed: Deed,
+) -> Result<(), Fail>
+    requires { (t : Tree Paged) × HasMachines depot.now world.old t }
+{
+    match deed {
+        Deed::Drive => drives(rt, alloc, world, depot),
+        Deed::GiveBack => gives_back(rt, alloc, world, depot),
+        Deed::Tell => tells(rt, alloc, world, depot),
+    }
+}
+
+fn started_does<R: Abort + Wait>(
+    rt: &R,
+    alloc: Global,
+    depot: &Depot,
+    deed: Deed,
+) -> Result<(), Fail> {
+    let mut world = started(alloc, depot)?;
+    world_does(rt, alloc, &mut world, depot, deed)
+}
+
+// Does this with the world of the machine of two children.
+pub(crate) fn does<R: Abort + Wait>(rt: &R, alloc: Global, deed: Deed) -> Result<(), Fail> {
+    let depot = Depot::new(alloc)?;
+    started_does(rt, alloc, &depot, deed)
+}
+
+#[test]
+fn a_script_drives_a_family(rt: HostRuntime) -> Result<(), Fail> {
+    does(&rt, rt.alloc(), Deed::Drive)
+}
+
+fn drives<R: Abort + Wait>(
     rt: &R,
     alloc: Global,
     world: &mut World,
@@ -48,16 +90,33 @@ fn is_driven<R: Abort + Wait>(
     requires { (t : Tree Paged) × HasMachines depot.now world.old t }
 {
     let script = read(rt, alloc, SCRIPT)?;
-    let told = drive(rt, alloc, &script, world, depot)?;
+    is_driven(rt, alloc, &script, world, depot)
+}
+
+fn is_driven<R: Abort + Wait>(
+    rt: &R,
+    alloc: Global,
+    script: &Script,
+    world: &mut World,
+    depot: &Depot,
+) -> Result<(), Fail>
+    requires { (t : Tree Paged) × HasMachines depot.now world.old t }
+{
+    let told = drive(rt, alloc, script, world, depot)?;
     assert_eq!(rt; told.as_slice(), TOLD);
     Ok(())
 }
 
 #[test]
 fn a_machine_is_taken_and_given_back(rt: HostRuntime) -> Result<(), Fail> {
-    let depot = Depot::new(rt.alloc())?;
-    let mut world = started(rt.alloc(), &depot)?;
-    assert!(rt; is_given_back(rt.alloc(), &mut world, &depot)?);
+    does(&rt, rt.alloc(), Deed::GiveBack)
+}
+
+fn gives_back(rt: &impl Abort, alloc: Global, world: &mut World, depot: &Depot) -> Result<(), Fail>
+    requires { (t : Tree Paged) × HasMachines depot.now world.old t }
+{
+    let is_so = is_given_back(alloc, world, depot)?;
+    assert!(rt; is_so);
     Ok(())
 }
 

@@ -3,6 +3,7 @@
 use crate::process::resident_bytes;
 use cow_disk::{BadSector, Disk, DiskError, FrozenDisk};
 use std::alloc::Global;
+use std::process::Abort;
 use std::rt::Files;
 use std::test::Fail;
 use std::thread;
@@ -21,19 +22,27 @@ fn byte_of(disk: &Disk, n: u32) -> Result<u8, BadSector> {
     Ok(sector[0])
 }
 
+/// How many sectors a disk of so many bytes has.
+fn sectors_of(alloc: Global, length: usize) -> Result<u32, DiskError> {
+    let disk = disk_of(alloc, 0, length)?;
+    Ok(disk.sectors())
+}
+
+/// How many bytes are taken for a disk, and how many sectors it has then.
+static LENGTHS: [(usize, Result<u32, DiskError>); 6] = [
+    (0, Ok(0)),
+    (512, Ok(1)),
+    (513, Err(DiskError::NotSectors)),
+    (LONGEST, Ok(8192)),
+    (LONGEST + 1, Err(DiskError::NotSectors)),
+    (LONGEST + 512, Err(DiskError::TooLong)),
+];
+
 #[test]
 fn takes_whole_sectors(rt: HostRuntime) {
-    let rows = [
-        (0, Ok(0)),
-        (512, Ok(1)),
-        (513, Err(DiskError::NotSectors)),
-        (LONGEST, Ok(8192)),
-        (LONGEST + 1, Err(DiskError::NotSectors)),
-        (LONGEST + 512, Err(DiskError::TooLong)),
-    ];
-    for (length, want) in rows {
-        let sectors = disk_of(rt.alloc(), 0, length).map(|disk| disk.sectors());
-        assert_eq!(rt; sectors, want, "of {length} bytes");
+    for (length, want) in LENGTHS.iter() {
+        let sectors = sectors_of(rt.alloc(), *length);
+        assert_eq!(rt; sectors, *want, "of {length} bytes");
     }
 }
 
@@ -63,10 +72,14 @@ fn bytes_around(written: &Disk, other: &Disk, frozen: &FrozenDisk) -> Result<[u8
 
 #[test]
 fn a_write_shows_in_one_disk(rt: HostRuntime) -> Result<(), Fail> {
-    let frozen = frozen_of(rt.alloc(), 1024)?;
-    let bytes = bytes_after_write(&frozen)?;
+    let bytes = bytes_of_written(rt.alloc())?;
     assert_eq!(rt; bytes, [0xaa, 0x22, 0xaa, 0xaa, 0x22]);
     Ok(())
+}
+
+fn bytes_of_written(alloc: Global) -> Result<[u8; 5], Fail> {
+    let frozen = frozen_of(alloc, 1024)?;
+    bytes_after_write(&frozen)
 }
 
 /// A frozen disk of so many bytes 0xaa.
@@ -92,13 +105,17 @@ fn bytes_after_write(frozen: &FrozenDisk) -> Result<[u8; 5], Fail> {
 #[test]
 fn refuses_a_sector_past_the_last(rt: HostRuntime) -> Result<(), Fail> {
     let mut disk = disk_of(rt.alloc(), 0xaa, 1024)?;
+    is_refused(&rt, &mut disk);
+    Ok(())
+}
+
+fn is_refused(rt: &impl Abort, disk: &mut Disk) {
     let written = disk.write_sector(2, &[0; 512]);
-    let read = byte_of(&disk, 2);
+    let read = byte_of(disk, 2);
     assert_eq!(rt;
         (written, read),
         (Err(DiskError::BadSector), Err(BadSector))
     );
-    Ok(())
 }
 
 /// So many disks, each opened from a frozen one, and each with a sector of its own.
@@ -112,15 +129,19 @@ fn written_disks(alloc: Global, frozen: &FrozenDisk, count: u32) -> Result<Vec<D
     Ok(disks)
 }
 
+/// Whether a disk has its own sector, the n-th, and the last one as it was.
+fn is_written(disk: &Disk, n: u32) -> Result<bool, BadSector> {
+    Ok([byte_of(disk, n)?, byte_of(disk, 8191)?] == [0x11, 0xaa])
+}
+
 /// How many of the disks have their own sector, and the last one as it was. The n-th wrote sector n.
 fn as_written(disks: &[Disk]) -> Result<usize, BadSector> {
     let mut count = 0;
     for (n, disk) in (0..1000).zip(disks) {
-        if [byte_of(disk, n)?, byte_of(disk, 8191)?] == [0x11, 0xaa] {
-            count = n as usize + 1;
-        } else {
+        if !is_written(disk, n)? {
             return Ok(count);
         }
+        count = n as usize + 1;
     }
     Ok(count)
 }
@@ -128,11 +149,18 @@ fn as_written(disks: &[Disk]) -> Result<usize, BadSector> {
 // A whole copy takes four megabytes a disk, and a copy of handles to all sectors 64 kilobytes.
 #[test]
 fn a_thousand_disks_share_the_longest(rt: HostRuntime) -> Result<(), Fail> {
-    let frozen = frozen_of(rt.alloc(), LONGEST)?;
-    let (count, taken) = count_and_bytes(&rt, rt.alloc(), &frozen)?;
+    let (count, taken) = count_and_bytes_of_longest(&rt, rt.alloc())?;
     assert_eq!(rt; count, 1000);
     assert!(rt; taken < 6 << 20, "{taken} bytes");
     Ok(())
+}
+
+fn count_and_bytes_of_longest(
+    rt: &(impl Files + Alloc),
+    alloc: Global,
+) -> Result<(usize, u64), Fail> {
+    let frozen = frozen_of(alloc, LONGEST)?;
+    count_and_bytes(rt, alloc, &frozen)
 }
 
 /// How many of a thousand disks have their own sector, and how many bytes they take.

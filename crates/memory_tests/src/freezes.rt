@@ -3,12 +3,13 @@
 ghost use Rattle.std.specs.Prelude.{◌≡◌, ◌+◌, ◌<◌, length, OnOk};
 ghost use Rattle.guest_mem.specs.Ram.{IsRamOf};
 
-use crate::guests::{booted_of, disk_and_input};
+use crate::guests::{SIZES, booted_of, disk_and_input, first_word};
 use guest_mem::GuestMem;
 use image_depot::{Depot, Frozen};
 use shared_leaves::Steps;
 use std::alloc::{AllocError, Global};
 use std::marker::Brand;
+use std::process::Abort;
 use std::sync::ledger::{Blank, Ledger};
 use std::test::Fail;
 
@@ -43,21 +44,39 @@ fn freeze_of_ledger<L: Ledger>(
     freeze_in_steps(alloc, memory, depot, &mut Steps::<L>::new(blank))
 }
 
-/// The pages of an image of a booted guest of so many pages, and the first word of its second page.
+/// The pages of an image of this memory, and the first word of its second page.
+fn parts_of_frozen(
+    alloc: Global,
+    memory: &GuestMem,
+    depot: &Depot,
+) -> Result<(u32, Option<u32>), AllocError>
+    requires { IsRamOf depot.now memory.now }
+{
+    let image = freeze_of_ledger::<Brand>(alloc, memory, depot, Blank::new(1))?;
+    Ok((image.pages(), first_word(&image, 1)))
+}
+
+/// The same of a booted guest of so many pages.
 fn frozen_of(alloc: Global, pages: u32, depot: &Depot) -> Result<(u32, Option<u32>), Fail> {
     let memory = booted_of(alloc, pages)?;
-    let image = freeze_of_ledger::<Brand>(alloc, &memory, depot, Blank::new(1))?;
-    let word = (image.pages() > 1).then(|| image.word(1, 0));
-    Ok((image.pages(), word))
+    Ok(parts_of_frozen(alloc, &memory, depot)?)
+}
+
+fn has_every_page(rt: &impl Abort, alloc: Global, pages: u32, depot: &Depot) -> Result<(), Fail> {
+    let frozen = frozen_of(alloc, pages, depot)?;
+    assert_eq!(rt; frozen, (pages, Some(0xaaaa_aaaa)));
+    Ok(())
+}
+
+fn all_have_every_page(rt: &impl Abort, alloc: Global, depot: &Depot) -> Result<(), Fail> {
+    for pages in SIZES.iter() {
+        has_every_page(rt, alloc, *pages, depot)?;
+    }
+    Ok(())
 }
 
 #[test]
 fn a_counted_freeze_has_every_page(rt: HostRuntime) -> Result<(), Fail> {
     let depot = Depot::new(rt.alloc())?;
-    let sizes = [16, 64, 65, 128, 1024];
-    for pages in sizes.iter() {
-        let frozen = frozen_of(rt.alloc(), *pages, &depot)?;
-        assert_eq!(rt; frozen, (*pages, Some(0xaaaa_aaaa)));
-    }
-    Ok(())
+    all_have_every_page(&rt, rt.alloc(), &depot)
 }

@@ -353,7 +353,7 @@ fn three_words(memory: &GuestMem) -> [Option<u32>; 3] {
 }
 
 /// The first word of a page of an image, if there is one.
-fn first_word(image: &Frozen, page: u32) -> Option<u32> {
+pub fn first_word(image: &Frozen, page: u32) -> Option<u32> {
     if page < image.pages() {
         Some(image.word(page, 0))
     } else {
@@ -431,22 +431,23 @@ fn words_of_children<R: Wait>(
 }
 
 /// The words of a guest that is frozen and stores then, and those of its clones.
-fn words_of_family<R: Wait>(
-    rt: &R,
-    alloc: Global,
-    depot: &Depot,
-) -> Result<([Option<u32>; 3], [[Option<u32>; 3]; 2]), Fail> {
+type Family = ([Option<u32>; 3], [[Option<u32>; 3]; 2]);
+
+fn words_of_family<R: Wait>(rt: &R, alloc: Global, depot: &Depot) -> Result<Family, Fail> {
     let mut parent = booted(alloc, 16)?;
     let clones = words_of_children(rt, alloc, &mut parent, depot)?;
     Ok((three_words(&parent), clones))
 }
 
-fn stores_show_in_one_guest<R: Abort + Wait>(
-    rt: &R,
-    alloc: Global,
-    depot: &Depot,
-) -> Result<(), Fail> {
-    let words = words_of_family(rt, alloc, depot)?;
+/// The same in a depot of its own.
+fn words_in_depot<R: Wait>(rt: &R, alloc: Global) -> Result<Family, Fail> {
+    let depot = Depot::new(alloc)?;
+    words_of_family(rt, alloc, &depot)
+}
+
+#[test]
+fn a_store_after_a_freeze_shows_in_one_guest(rt: HostRuntime) -> Result<(), Fail> {
+    let words = words_in_depot(&rt, rt.alloc())?;
     assert_eq!(rt;
         words,
         (
@@ -458,12 +459,6 @@ fn stores_show_in_one_guest<R: Abort + Wait>(
         )
     );
     Ok(())
-}
-
-#[test]
-fn a_store_after_a_freeze_shows_in_one_guest(rt: HostRuntime) -> Result<(), Fail> {
-    let depot = Depot::new(rt.alloc())?;
-    stores_show_in_one_guest(&rt, rt.alloc(), &depot)
 }
 
 /// The words of a clone that is made after a guest and two other clones of the image have stored.
@@ -504,8 +499,15 @@ fn late_of_booted<R: Wait>(rt: &R, alloc: Global, depot: &Depot) -> Result<Late,
     late_of(rt, alloc, &mut parent, depot)
 }
 
-fn stays_as_it_was<R: Abort + Wait>(rt: &R, alloc: Global, depot: &Depot) -> Result<(), Fail> {
-    let late = late_of_booted(rt, alloc, depot)?;
+/// The same in a depot of its own.
+fn late_in_depot<R: Wait>(rt: &R, alloc: Global) -> Result<Late, Fail> {
+    let depot = Depot::new(alloc)?;
+    late_of_booted(rt, alloc, &depot)
+}
+
+#[test]
+fn an_image_stays_as_it_was_frozen(rt: HostRuntime) -> Result<(), Fail> {
+    let late = late_in_depot(&rt, rt.alloc())?;
     assert_eq!(rt;
         late,
         (
@@ -515,12 +517,6 @@ fn stays_as_it_was<R: Abort + Wait>(rt: &R, alloc: Global, depot: &Depot) -> Res
         )
     );
     Ok(())
-}
-
-#[test]
-fn an_image_stays_as_it_was_frozen(rt: HostRuntime) -> Result<(), Fail> {
-    let depot = Depot::new(rt.alloc())?;
-    stays_as_it_was(&rt, rt.alloc(), &depot)
 }
 
 /// A clone with a word of its own in the second page.
@@ -623,12 +619,14 @@ fn a_thousand_clones_share_an_image(rt: HostRuntime) -> Result<(), Fail> {
 
 /// What comes of pages that are sent to a guest: one that is absent, the same again, and one that was
 /// made blank meanwhile; and the words of the first two.
+type SentTwice = ([Arrived; 3], [Option<u32>; 3]);
+
 fn send_twice(
     alloc: Global,
     memory: &mut GuestMem,
     key: &ImageKey,
     depot: &Depot,
-) -> Result<([Arrived; 3], [Option<u32>; 3]), Fail>
+) -> Result<SentTwice, Fail>
     requires key { IsKeyOf depot.now key.now }
     requires ram { IsRamOf depot.now memory.old }
 {
@@ -646,7 +644,7 @@ fn sent_twice(
     key: &ImageKey,
     blank: PageMap,
     depot: &Depot,
-) -> Result<([Arrived; 3], [Option<u32>; 3]), Fail>
+) -> Result<SentTwice, Fail>
     requires { IsKeyOf depot.now key.now }
 {
     let mut memory = bare_clone(alloc, key, blank, depot)?;
@@ -666,9 +664,20 @@ fn image_of_stored<R: Wait>(
     frozen_and_blank(rt, alloc, &parent, depot)
 }
 
-fn does_not_come_again<R: Abort + Wait>(rt: &R, alloc: Global, depot: &Depot) -> Result<(), Fail> {
+fn sent_twice_of_stored<R: Wait>(rt: &R, alloc: Global, depot: &Depot) -> Result<SentTwice, Fail> {
     let (key, blank) = image_of_stored(rt, alloc, depot)?;
-    let sent = sent_twice(alloc, &key, blank, depot)?;
+    sent_twice(alloc, &key, blank, depot)
+}
+
+/// The same in a depot of its own.
+fn sent_twice_in_depot<R: Wait>(rt: &R, alloc: Global) -> Result<SentTwice, Fail> {
+    let depot = Depot::new(alloc)?;
+    sent_twice_of_stored(rt, alloc, &depot)
+}
+
+#[test]
+fn a_page_that_is_here_does_not_come_again(rt: HostRuntime) -> Result<(), Fail> {
+    let sent = sent_twice_in_depot(&rt, rt.alloc())?;
     assert_eq!(rt;
         sent,
         (
@@ -677,12 +686,6 @@ fn does_not_come_again<R: Abort + Wait>(rt: &R, alloc: Global, depot: &Depot) ->
         )
     );
     Ok(())
-}
-
-#[test]
-fn a_page_that_is_here_does_not_come_again(rt: HostRuntime) -> Result<(), Fail> {
-    let depot = Depot::new(rt.alloc())?;
-    does_not_come_again(&rt, rt.alloc(), &depot)
 }
 
 /// Why a store to the second page is refused, if it is.
@@ -837,13 +840,24 @@ fn of_size<R: Wait>(
     of_family(rt, alloc, &mut parent, depot)
 }
 
-static SIZES: [u32; 5] = [16, 64, 65, 128, 1024];
+/// The pages of guests, around the ends of leaves, and the fewest and the most.
+pub static SIZES: [u32; 5] = [16, 64, 65, 128, 1024];
 
-fn comes_from_below<R: Abort + Wait>(rt: &R, alloc: Global, depot: &Depot) -> Result<(), Fail> {
+fn comes_from_below<R: Abort + Wait>(
+    rt: &R,
+    alloc: Global,
+    pages: u32,
+    depot: &Depot,
+) -> Result<(), Fail> {
+    let read = of_size(rt, alloc, pages, depot)?;
+    let words = [Some(5), Some(0xaaaa_aaaa), Some(0xaaaa_aaaa)];
+    assert_eq!(rt; read, (0xaaaa_aaaa, words), "{pages}");
+    Ok(())
+}
+
+fn all_come_from_below<R: Abort + Wait>(rt: &R, alloc: Global, depot: &Depot) -> Result<(), Fail> {
     for pages in SIZES.iter() {
-        let read = of_size(rt, alloc, *pages, depot)?;
-        let words = [Some(5), Some(0xaaaa_aaaa), Some(0xaaaa_aaaa)];
-        assert_eq!(rt; read, (0xaaaa_aaaa, words), "{pages}");
+        comes_from_below(rt, alloc, *pages, depot)?;
     }
     Ok(())
 }
@@ -851,7 +865,7 @@ fn comes_from_below<R: Abort + Wait>(rt: &R, alloc: Global, depot: &Depot) -> Re
 #[test]
 fn a_page_comes_from_an_image_below(rt: HostRuntime) -> Result<(), Fail> {
     let depot = Depot::new(rt.alloc())?;
-    comes_from_below(&rt, rt.alloc(), &depot)
+    all_come_from_below(&rt, rt.alloc(), &depot)
 }
 
 #[test]

@@ -47,12 +47,17 @@ fn ends_of(pages: [&Page; 3]) -> [[u8; 3]; 3] {
 
 #[test]
 fn a_page_shared_three_ways_is_written_in_each(rt: HostRuntime) -> Result<(), Fail> {
-    let mut first = page_of(rt.alloc(), 0xaa)?;
-    let mut second = first.share()?;
-    let mut third = second.share()?;
-    let ends = ends_of_written(&mut first, &mut second, &mut third)?;
+    let ends = ends_of_three(rt.alloc())?;
     assert_eq!(rt; ends, [[1, 0xaa, 0xaa], [0xaa, 0xaa, 2], [3, 4, 0xaa]]);
     Ok(())
+}
+
+/// The ends of three handles on one page that are each written.
+fn ends_of_three(alloc: Global) -> Result<[[u8; 3]; 3], AllocError> {
+    let mut first = page_of(alloc, 0xaa)?;
+    let mut second = first.share()?;
+    let mut third = second.share()?;
+    ends_of_written(&mut first, &mut second, &mut third)
 }
 
 /// The ends of three pages that are each written.

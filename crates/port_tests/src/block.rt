@@ -7,6 +7,7 @@ use std::alloc::Global;
 use std::process::Abort;
 use std::test::Fail;
 use std::thread;
+use std::thread::Threads;
 
 /// A frozen disk of one sector of bytes AA.
 fn frozen_disk(alloc: Global) -> Result<FrozenDisk, Fail> {
@@ -41,20 +42,21 @@ fn has_access(offset: u32, width: u32) -> (bool, bool) {
     }
 }
 
+fn takes_a_word(rt: &impl Abort, port: &mut BlockPort, offset: u32, width: u32) {
+    let (loads, stores) = has_access(offset, width);
+    let load = if loads { None } else { Some(Fault) };
+    let store = if stores { None } else { Some(PortError::Fault) };
+    let found = (
+        port.load(offset, width).err(),
+        port.store(offset, width, 7).err(),
+    );
+    assert_eq!(rt; found, (load, store), "{width} bytes at {offset}");
+}
+
 fn takes_words(rt: &impl Abort, port: &mut BlockPort) {
     for offset in 0..0x410u32 {
         for width in 0..9u32 {
-            let (loads, stores) = has_access(offset, width);
-            let load = port.load(offset, width).err();
-            let store = port.store(offset, width, 7).err();
-            assert_eq!(rt;
-                (load, store),
-                (
-                    if loads { None } else { Some(Fault) },
-                    if stores { None } else { Some(PortError::Fault) }
-                ),
-                "{width} bytes at {offset}"
-            );
+            takes_a_word(rt, port, offset, width);
         }
     }
 }
@@ -85,21 +87,30 @@ fn run(port: &mut BlockPort, sector: u32, command: u32) -> Result<[u32; 5], Port
     registers(port)
 }
 
+fn does_a_command(rt: &impl Abort, port: &mut BlockPort, row: &(u32, u32, u32, u32, u32)) {
+    let (sector, command, status, first, last) = *row;
+    assert_eq!(rt;
+        run(port, sector, command),
+        Ok([sector, status, 1, first, last]),
+        "command {command} at {sector}"
+    );
+}
+
 fn does_commands(rt: &impl Abort, port: &mut BlockPort) {
-    assert_eq!(rt; registers(port), Ok([0, 0, 1, 0, 0]));
-    assert_eq!(rt; port.store(0x3fc, 4, 0x11223344), Ok(()));
-    for &(sector, command, status, first, last) in COMMANDS.iter() {
-        assert_eq!(rt;
-            run(port, sector, command),
-            Ok([sector, status, 1, first, last]),
-            "command {command} at {sector}"
-        );
+    for row in COMMANDS.iter() {
+        does_a_command(rt, port, row);
     }
+}
+
+fn starts(rt: &impl Abort, port: &mut BlockPort) {
+    let found = (registers(port), port.store(0x3fc, 4, 0x11223344));
+    assert_eq!(rt; found, (Ok([0, 0, 1, 0, 0]), Ok(())));
 }
 
 #[test]
 fn commands_by_the_table(rt: HostRuntime) -> Result<(), Fail> {
     let mut port = port_at_start(rt.alloc())?;
+    starts(&rt, &mut port);
     does_commands(&rt, &mut port);
     Ok(())
 }
@@ -146,13 +157,17 @@ fn is_written_behind_one(rt: &impl Abort, frozen: &FrozenDisk) -> Result<(), Fai
     Ok(())
 }
 
+fn is_not_written(rt: &impl Abort, frozen: &FrozenDisk) -> Result<(), Fail> {
+    let word = opened_word(frozen)?;
+    assert_eq!(rt; word, 0xaaaa_aaaa);
+    Ok(())
+}
+
 #[test]
 fn a_write_shows_behind_one_port(rt: HostRuntime) -> Result<(), Fail> {
     let frozen = frozen_disk(rt.alloc())?;
     is_written_behind_one(&rt, &frozen)?;
-    let word = opened_word(&frozen)?;
-    assert_eq!(rt; word, 0xaaaa_aaaa);
-    Ok(())
+    is_not_written(&rt, &frozen)
 }
 
 /// Fills a buffer, and gives a command for a sector that is not there.
@@ -174,6 +189,12 @@ fn are_equal(rt: &impl Abort, port: &BlockPort, same: &mut BlockPort) {
     );
 }
 
+fn is_equal_to_its_same(rt: &impl Abort, port: &BlockPort) -> Result<(), Fail> {
+    let mut same = same_port(port)?;
+    are_equal(rt, port, &mut same);
+    Ok(())
+}
+
 /// A port of the same fields over a disk that is opened now.
 fn same_port(port: &BlockPort) -> Result<BlockPort, Fail> {
     let frozen = port.disk().freeze()?;
@@ -184,28 +205,32 @@ fn same_port(port: &BlockPort) -> Result<BlockPort, Fail> {
 fn fields_make_an_equal_port(rt: HostRuntime) -> Result<(), Fail> {
     let mut port = port_at_start(rt.alloc())?;
     asks_for_no_sector(&mut port)?;
-    let mut same = same_port(&port)?;
-    are_equal(&rt, &port, &mut same);
-    Ok(())
+    is_equal_to_its_same(&rt, &port)
 }
 
 /// The numbers by which STATUS tells what became of a command.
+static NUMBERS: [(Status, u32); 3] = [
+    (Status::Done, 0),
+    (Status::BadSector, 1),
+    (Status::UnknownCommand, 2),
+];
+
 #[test]
 fn statuses_by_their_numbers(rt: HostRuntime) {
-    let statuses = [Status::Done, Status::BadSector, Status::UnknownCommand];
-    for (status, number) in statuses.into_iter().zip(0..) {
-        assert_eq!(rt;
-            (status.word(), Status::from_word(number)),
-            (number, Some(status))
-        );
+    for (status, number) in NUMBERS.iter() {
+        assert_eq!(rt; status.word(), *number);
     }
-    assert_eq!(rt; Status::from_word(3), None);
+}
+
+/// The word that is read in a thread.
+fn word_of_moved<R: Threads>(rt: &R, mut port: BlockPort) -> Result<u32, PortError> {
+    let (word, _) = thread::join(rt, move || first_word(&mut port), || ());
+    word
 }
 
 #[test]
 fn moves_between_threads(rt: HostRuntime) -> Result<(), Fail> {
-    let mut port = port_at_start(rt.alloc())?;
-    let (word, _) = thread::join(&rt, move || first_word(&mut port), || ());
+    let word = word_of_moved(&rt, port_at_start(rt.alloc())?);
     assert_eq!(rt; word, Ok(0xaaaa_aaaa));
     Ok(())
 }

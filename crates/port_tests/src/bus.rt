@@ -61,11 +61,17 @@ fn load_at_start(alloc: Global, address: u32, width: u32) -> Result<Result<u32, 
     Ok(ports.load(address, width))
 }
 
+fn loads(rt: &impl Abort, alloc: Global, row: &(u32, u32, Result<u32, Fault>)) -> Result<(), Fail> {
+    let (address, width, want) = *row;
+    let found = load_at_start(alloc, address, width)?;
+    assert_eq!(rt; found, want, "{address:08x} of {width}");
+    Ok(())
+}
+
 #[test]
 fn loads_at_each_port_s_edges(rt: HostRuntime) -> Result<(), Fail> {
-    for &(address, width, want) in LOADS.iter() {
-        let found = load_at_start(rt.alloc(), address, width)?;
-        assert_eq!(rt; found, want, "{address:08x} of {width}");
+    for row in LOADS.iter() {
+        loads(&rt, rt.alloc(), row)?;
     }
     Ok(())
 }
@@ -118,11 +124,21 @@ fn store_at_start(
     Ok(ports.store(address, width, 5))
 }
 
+fn stores(
+    rt: &impl Abort,
+    alloc: Global,
+    row: &(u32, u32, Result<Effect, PortError>),
+) -> Result<(), Fail> {
+    let (address, width, want) = *row;
+    let found = store_at_start(alloc, address, width)?;
+    assert_eq!(rt; found, want, "{address:08x} of {width}");
+    Ok(())
+}
+
 #[test]
 fn stores_at_each_port_s_edges(rt: HostRuntime) -> Result<(), Fail> {
-    for &(address, width, want) in STORES.iter() {
-        let found = store_at_start(rt.alloc(), address, width)?;
-        assert_eq!(rt; found, want, "{address:08x} of {width}");
+    for row in STORES.iter() {
+        stores(&rt, rt.alloc(), row)?;
     }
     Ok(())
 }
@@ -134,13 +150,17 @@ fn is_due_and_counts(ports: &mut Ports) -> bool {
     is_due
 }
 
-/// mtimecmp becomes 2, and mtime counts to it.
-fn times(rt: &impl Abort, ports: &mut Ports) {
+/// mtimecmp becomes 2.
+fn sets_the_time(rt: &impl Abort, ports: &mut Ports) {
     let stores = [
         ports.store(0x0200_4004, 4, 0),
         ports.store(0x0200_4000, 4, 2),
     ];
     assert_eq!(rt; stores, [Ok(Effect::Done), Ok(Effect::Done)]);
+}
+
+/// mtime counts to mtimecmp.
+fn times(rt: &impl Abort, ports: &mut Ports) {
     let due = [
         is_due_and_counts(ports),
         is_due_and_counts(ports),
@@ -163,46 +183,61 @@ fn puts_out_and_exits(rt: &impl Abort, ports: &mut Ports) {
     );
 }
 
-/// Sector 0 goes to the buffer, whose first word is then another.
-fn changes_the_disk(rt: &impl Abort, ports: &mut Ports) {
+/// Sector 0 goes to the buffer.
+fn reads_the_disk(rt: &impl Abort, ports: &mut Ports) {
     let read = ports.store(0x1000_1004, 4, 1);
-    let before = ports.load(0x1000_1200, 4);
+    let word = ports.load(0x1000_1200, 4);
+    assert_eq!(rt; (read, word), (Ok(Effect::Done), Ok(0xaaaa_aaaa)));
+}
+
+/// The buffer goes to sector 0, with another first word.
+fn writes_the_disk(rt: &impl Abort, ports: &mut Ports) {
     let stores = [
-        read,
         ports.store(0x1000_1200, 4, 7),
         ports.store(0x1000_1004, 4, 2),
     ];
-    let words = [before, ports.load(0x1000_1200, 4)];
+    let word = ports.load(0x1000_1200, 4);
     assert_eq!(rt;
-        (stores, words),
-        (
-            [Ok(Effect::Done), Ok(Effect::Done), Ok(Effect::Done)],
-            [Ok(0xaaaa_aaaa), Ok(7)]
-        )
+        (stores, word),
+        ([Ok(Effect::Done), Ok(Effect::Done)], Ok(7))
     );
 }
 
-fn keeps(rt: &impl Abort, ports: &Ports) {
+fn keeps_the_sector(rt: &impl Abort, disk: &Disk) {
     let mut sector = [0; 512];
-    let read = ports.disk().read_sector(0, &mut sector);
+    let read = disk.read_sector(0, &mut sector);
     assert_eq!(rt;
         (read, [sector[0], sector[1], sector[4]]),
         (Ok(()), [7, 0, 0xaa])
     );
+}
+
+fn keeps(rt: &impl Abort, ports: &Ports) {
+    keeps_the_sector(rt, ports.disk());
     assert_eq!(rt;
         [ports.input(), ports.output()],
         [b"Z".as_slice(), b"A".as_slice()]
     );
 }
 
+fn all_keep(rt: &impl Abort, ports: &mut Ports) {
+    sets_the_time(rt, ports);
+    times(rt, ports);
+    puts_out_and_exits(rt, ports);
+    reads_the_disk(rt, ports);
+    writes_the_disk(rt, ports);
+    keeps(rt, ports);
+}
+
+fn is_output(rt: &impl Abort, output: &[u8]) {
+    assert_eq!(rt; output, b"A".as_slice());
+}
+
 #[test]
 fn each_port_keeps_what_is_stored(rt: HostRuntime) -> Result<(), Fail> {
     let mut ports = ports_at_start(rt.alloc())?;
-    times(&rt, &mut ports);
-    puts_out_and_exits(&rt, &mut ports);
-    changes_the_disk(&rt, &mut ports);
-    keeps(&rt, &ports);
+    all_keep(&rt, &mut ports);
     let output = ports.into_output();
-    assert_eq!(rt; output.as_slice(), b"A".as_slice());
+    is_output(&rt, &output);
     Ok(())
 }

@@ -4,29 +4,32 @@ ghost use Rattle.std.specs.Prelude.{◌≤◌, length};
 
 use console_port::{ConsoleFields, ConsolePort, Input};
 use port_error::{Fault, PortError};
-use std::alloc::Global;
+use std::alloc::{AllocError, Global};
 use std::process::Abort;
-use std::test::Fail;
 use std::thread;
+use std::thread::Threads;
+
+fn takes_a_byte(rt: &impl Abort, port: &mut ConsolePort, offset: u32, width: u32) {
+    let found = (port.load(offset, width).err(), port.store(offset, width, 0));
+    let want = if offset < 8 && width == 1 {
+        (None, Ok(()))
+    } else {
+        (Some(Fault), Err(PortError::Fault))
+    };
+    assert_eq!(rt; found, want, "{width} bytes at {offset}");
+}
 
 fn takes_bytes(rt: &impl Abort, port: &mut ConsolePort) {
     for offset in 0..16u32 {
         for width in 0..9u32 {
-            let load = port.load(offset, width).err();
-            let store = port.store(offset, width, 0);
-            let want = if offset < 8 && width == 1 {
-                (None, Ok(()))
-            } else {
-                (Some(Fault), Err(PortError::Fault))
-            };
-            assert_eq!(rt; (load, store), want, "{width} bytes at {offset}");
+            takes_a_byte(rt, port, offset, width);
         }
     }
     assert_eq!(rt; port.output(), [0].as_slice());
 }
 
 #[test]
-fn takes_bytes_at_eight_offsets(rt: HostRuntime) -> Result<(), Fail> {
+fn takes_bytes_at_eight_offsets(rt: HostRuntime) -> Result<(), AllocError> {
     let mut port = ConsolePort::new(rt.alloc(), b"Z")?;
     takes_bytes(&rt, &mut port);
     Ok(())
@@ -34,11 +37,16 @@ fn takes_bytes_at_eight_offsets(rt: HostRuntime) -> Result<(), Fail> {
 
 /// What all eight registers read, from the last to the first.
 fn registers(port: &mut ConsolePort) -> Result<[u32; 8], Fault> {
-    let mut read = [0; 8];
-    for (register, value) in (0..8).rev().zip(&mut read) {
-        *value = port.load(register, 1)?;
-    }
-    Ok(read)
+    Ok([
+        port.load(7, 1)?,
+        port.load(6, 1)?,
+        port.load(5, 1)?,
+        port.load(4, 1)?,
+        port.load(3, 1)?,
+        port.load(2, 1)?,
+        port.load(1, 1)?,
+        port.load(0, 1)?,
+    ])
 }
 
 /// What is stored at an offset, and what all eight registers read then.
@@ -51,19 +59,28 @@ static STORES: [(u32, u32, [u32; 8]); 6] = [
     (5, 0xff, [0, 0, 0x60, 0, 0x80, 0, 0, 0]),
 ];
 
+fn stores_a_byte(rt: &impl Abort, port: &mut ConsolePort, row: &(u32, u32, [u32; 8])) {
+    let (offset, word, want) = *row;
+    let found = (port.store(offset, 1, word), registers(port));
+    assert_eq!(rt; found, (Ok(()), Ok(want)), "after {word} at {offset}");
+}
+
 fn loads_and_stores(rt: &impl Abort, port: &mut ConsolePort) {
-    for &(offset, word, want) in STORES.iter() {
-        assert_eq!(rt; port.store(offset, 1, word), Ok(()));
-        assert_eq!(rt; registers(port), Ok(want), "after {word} at {offset}");
+    for row in STORES.iter() {
+        stores_a_byte(rt, port, row);
     }
 }
 
+fn is_output(rt: &impl Abort, output: &[u8]) {
+    assert_eq!(rt; output, b"AB".as_slice());
+}
+
 #[test]
-fn loads_and_stores_by_the_table(rt: HostRuntime) -> Result<(), Fail> {
+fn loads_and_stores_by_the_table(rt: HostRuntime) -> Result<(), AllocError> {
     let mut port = ConsolePort::new(rt.alloc(), b"YZ")?;
     loads_and_stores(&rt, &mut port);
     let output = port.into_output();
-    assert_eq!(rt; output.as_slice(), b"AB".as_slice());
+    is_output(&rt, &output);
     Ok(())
 }
 
@@ -76,7 +93,12 @@ fn starts_with(rt: &impl Abort, port: &mut ConsolePort, read: [u32; 8]) {
 }
 
 /// What is read of a port that starts with this input.
-fn is_read_of(rt: &impl Abort, alloc: Global, input: &[u8], read: [u32; 8]) -> Result<(), Fail>
+fn is_read_of(
+    rt: &impl Abort,
+    alloc: Global,
+    input: &[u8],
+    read: [u32; 8],
+) -> Result<(), AllocError>
     requires { length input.now ≤ 65536 }
 {
     let mut port = ConsolePort::new(alloc, input)?;
@@ -85,21 +107,29 @@ fn is_read_of(rt: &impl Abort, alloc: Global, input: &[u8], read: [u32; 8]) -> R
 }
 
 #[test]
-fn starts_with_registers_of_zeros(rt: HostRuntime) -> Result<(), Fail> {
+fn starts_with_registers_of_zeros(rt: HostRuntime) -> Result<(), AllocError> {
     is_read_of(&rt, rt.alloc(), b"", [0, 0, 0x60, 0, 0, 0, 0, 0])?;
     is_read_of(&rt, rt.alloc(), b"Z", [0, 0, 0x61, 0, 0, 0, 0, 0x5a])
 }
 
-fn keeps_its_input(rt: &impl Abort, port: &mut ConsolePort, fields: ConsoleFields) {
+fn is_latched(rt: &impl Abort, port: &mut ConsolePort, fields: ConsoleFields) {
     let latched = [port.load(0, 1), port.load(5, 1)];
     assert_eq!(rt; (latched, port.fields()), ([Ok(0), Ok(0x61)], fields));
+}
+
+fn reads_on(rt: &impl Abort, port: &mut ConsolePort) {
     let read = (port.store(3, 1, 0x03), port.load(0, 1));
     assert_eq!(rt; (read, port.fields().place), ((Ok(()), Ok(0x5a)), 2));
+}
+
+fn keeps_its_input(rt: &impl Abort, port: &mut ConsolePort, fields: ConsoleFields) {
+    is_latched(rt, port, fields);
+    reads_on(rt, port);
     assert_eq!(rt; port.input(), b"YZ".as_slice());
 }
 
 #[test]
-fn a_latched_console_keeps_its_input(rt: HostRuntime) -> Result<(), Fail> {
+fn a_latched_console_keeps_its_input(rt: HostRuntime) -> Result<(), AllocError> {
     let input = Input::new(rt.alloc(), b"YZ".to_vec(rt.alloc())?)?;
     let fields = ConsoleFields {
         place: 1,
@@ -110,10 +140,15 @@ fn a_latched_console_keeps_its_input(rt: HostRuntime) -> Result<(), Fail> {
     Ok(())
 }
 
+/// The byte that is read in a thread.
+fn byte_of_moved<R: Threads>(rt: &R, mut port: ConsolePort) -> Result<u32, Fault> {
+    let (byte, _) = thread::join(rt, move || port.load(0, 1), || ());
+    byte
+}
+
 #[test]
-fn moves_between_threads(rt: HostRuntime) -> Result<(), Fail> {
-    let mut port = ConsolePort::new(rt.alloc(), b"Z")?;
-    let (byte, _) = thread::join(&rt, move || port.load(0, 1), || ());
+fn moves_between_threads(rt: HostRuntime) -> Result<(), AllocError> {
+    let byte = byte_of_moved(&rt, ConsolePort::new(rt.alloc(), b"Z")?);
     assert_eq!(rt; byte, Ok(0x5a));
     Ok(())
 }

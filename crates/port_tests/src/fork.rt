@@ -4,6 +4,7 @@ use fork_port::{Asked, Call, Effect, Ending, ForkFields, ForkPort};
 use port_error::{Fault, PortError};
 use std::process::Abort;
 use std::thread;
+use std::thread::Threads;
 
 const TICKET: u32 = 1;
 
@@ -64,26 +65,35 @@ fn join_result(port: &mut ForkPort, child: u32) -> Result<(u32, u32), PortError>
 
 /// All registers that are loaded.
 fn registers(port: &ForkPort) -> Result<[u32; 9], Fault> {
-    let mut read = [0; 9];
-    for (offset, value) in [0, 4, 12, 16, 20, 24, 28, 32, 36]
-        .into_iter()
-        .zip(&mut read)
-    {
-        *value = port.load(offset, 4)?;
-    }
-    Ok(read)
+    Ok([
+        port.load(0, 4)?,
+        port.load(4, 4)?,
+        port.load(12, 4)?,
+        port.load(16, 4)?,
+        port.load(20, 4)?,
+        port.load(24, 4)?,
+        port.load(28, 4)?,
+        port.load(32, 4)?,
+        port.load(36, 4)?,
+    ])
+}
+
+/// Whether the port has a load and a store of so many bytes at an offset.
+fn has_access(offset: u32, width: u32) -> (bool, bool) {
+    let is_word = width == 4 && offset % 4 == 0 && offset < 40;
+    (
+        is_word && offset != 8,
+        is_word && matches!(offset, 0 | 4 | 8 | 24),
+    )
 }
 
 fn takes_a_word(rt: &impl Abort, port: &mut ForkPort, offset: u32, width: u32) {
-    let is_word = width == 4 && offset % 4 == 0 && offset < 40;
-    let load = if is_word && offset != 8 {
-        None
+    let (loads, stores) = has_access(offset, width);
+    let load = if loads { None } else { Some(Fault) };
+    let store = if stores {
+        Ok(Effect::Done)
     } else {
-        Some(Fault)
-    };
-    let store = match offset {
-        0 | 4 | 8 | 24 if is_word => Ok(Effect::Done),
-        _ => Err(PortError::Fault),
+        Err(PortError::Fault)
     };
     let found = (port.load(offset, width).err(), port.store(offset, width, 7));
     assert_eq!(rt; found, (load, store), "{width} bytes at {offset}");
@@ -111,9 +121,11 @@ fn told_of(port: &mut ForkPort, command: u32, first: u32, second: u32, endings: 
     (result, amounts(port), port.find(1))
 }
 
+fn starts(rt: &impl Abort, port: &ForkPort) {
+    assert_eq!(rt; registers(port), Ok([0, 0, 0, 0, 7, 0, 0, 0, 0]));
+}
+
 fn is_granted_cloned_and_joined(rt: &impl Abort, port: &mut ForkPort) {
-    let start = registers(port);
-    assert_eq!(rt; start, Ok([0, 0, 0, 0, 7, 0, 0, 0, 0]));
     let told = [
         told_of(port, TICKET, 4, 2, &[]),
         told_of(port, CLONE, 1, 0, &[]),
@@ -138,9 +150,13 @@ static JOINED: [(u32, (u32, u32)); 5] = [
     (0xffff_ffff, (0, 0)),
 ];
 
+fn tells_of_a_child(rt: &impl Abort, port: &mut ForkPort, child: u32, want: (u32, u32)) {
+    assert_eq!(rt; join_result(port, child), Ok(want), "child {child}");
+}
+
 fn tells_of_the_join(rt: &impl Abort, port: &mut ForkPort) {
-    for &(child, want) in JOINED.iter() {
-        assert_eq!(rt; join_result(port, child), Ok(want), "child {child}");
+    for (child, want) in JOINED.iter() {
+        tells_of_a_child(rt, port, *child, *want);
     }
     assert_eq!(rt; run(port, TICKET, 1, 0, &[]), Ok(2));
 }
@@ -148,6 +164,7 @@ fn tells_of_the_join(rt: &impl Abort, port: &mut ForkPort) {
 #[test]
 fn a_ticket_from_its_grant_to_its_join(rt: HostRuntime) {
     let mut port = ForkPort::new(rt.alloc(), 7);
+    starts(&rt, &port);
     is_granted_cloned_and_joined(&rt, &mut port);
     tells_of_the_join(&rt, &mut port);
 }
@@ -180,11 +197,20 @@ static COMMANDS: [(u32, u32, u32, u32, u32, u32); 24] = [
     (KILL, 3, 0, 0, 7, 7),
 ];
 
+fn does_a_command(
+    rt: &impl Abort,
+    port: &mut ForkPort,
+    at: usize,
+    row: &(u32, u32, u32, u32, u32, u32),
+) {
+    let (command, first, second, result, granted, allot) = *row;
+    let found = (run(port, command, first, second, &[]), amounts(port));
+    assert_eq!(rt; found, (Ok(result), Ok((granted, allot))), "row {at}");
+}
+
 fn does_commands(rt: &impl Abort, port: &mut ForkPort) {
     for (at, row) in COMMANDS.iter().enumerate() {
-        let (command, first, second, result, granted, allot) = *row;
-        let found = (run(port, command, first, second, &[]), amounts(port));
-        assert_eq!(rt; found, (Ok(result), Ok((granted, allot))), "row {at}");
+        does_a_command(rt, port, at, row);
     }
 }
 
@@ -224,8 +250,10 @@ static GREATEST: [(u32, u32, u32, u32); 4] = [
     (1, 0x7fff_ffff, 1, 0x7fff_ffff),
 ];
 
-fn gives_and_takes(rt: &impl Abort, port: &mut ForkPort, row: (u32, u32, u32, u32)) {
-    let (children, share, granted, allot) = row;
+/// RESULT after each of three commands, and GRANTED and ALLOT after the first and the last.
+type Given = ([Result<u32, PortError>; 3], [Result<(u32, u32), Fault>; 2]);
+
+fn given(port: &mut ForkPort, children: u32, share: u32) -> Given {
     let ticket = run(port, TICKET, children, share, &[]);
     let taken = amounts(port);
     let results = [
@@ -233,8 +261,13 @@ fn gives_and_takes(rt: &impl Abort, port: &mut ForkPort, row: (u32, u32, u32, u3
         run(port, CLONE, 1, 0, &[]),
         run(port, KILL, 1, 0, &[]),
     ];
+    (results, [taken, amounts(port)])
+}
+
+fn gives_and_takes(rt: &impl Abort, port: &mut ForkPort, row: (u32, u32, u32, u32)) {
+    let (children, share, granted, allot) = row;
     assert_eq!(rt;
-        (results, [taken, amounts(port)]),
+        given(port, children, share),
         (
             [Ok(1), Ok(0), Ok(granted)],
             [Ok((granted, allot)), Ok((granted, 0xffff_ffff))]
@@ -262,7 +295,7 @@ fn makes_a_child(rt: &impl Abort, port: &mut ForkPort, share: u32) {
     );
 }
 
-fn is_a_child(rt: &impl Abort, child: &mut ForkPort, share: u32) {
+fn has_fields_of_a_child(rt: &impl Abort, child: &ForkPort, share: u32) {
     let want = ForkFields {
         first_argument: 1,
         second_argument: 8,
@@ -274,6 +307,9 @@ fn is_a_child(rt: &impl Abort, child: &mut ForkPort, share: u32) {
         next_ticket: 1,
     };
     assert_eq!(rt; child.fields(), want);
+}
+
+fn has_no_tickets(rt: &impl Abort, child: &mut ForkPort, share: u32) {
     let joined = join_result(child, 1);
     assert_eq!(rt;
         (amounts(child), joined, child.tickets().len()),
@@ -281,19 +317,35 @@ fn is_a_child(rt: &impl Abort, child: &mut ForkPort, share: u32) {
     );
 }
 
+/// The child of a port that makes one.
+fn child_of(rt: &impl Abort, port: &mut ForkPort, share: u32) -> ForkPort {
+    makes_a_child(rt, port, share);
+    let mut child = port.child(6, share);
+    has_fields_of_a_child(rt, &child, share);
+    has_no_tickets(rt, &mut child, share);
+    child
+}
+
+fn has_no_share(rt: &impl Abort, port: &mut ForkPort) {
+    assert_eq!(rt; run(port, TICKET, 1, 0, &[]), Ok(0xffff_fffb));
+}
+
+static SHARES: [u32; 4] = [3, 2, 1, 0];
+
 #[test]
 fn shares_of_shares(rt: HostRuntime) {
     let mut port = ForkPort::new(rt.alloc(), 4);
-    for share in [3, 2, 1, 0] {
-        makes_a_child(&rt, &mut port, share);
-        port = port.child(6, share);
-        is_a_child(&rt, &mut port, share);
+    for share in SHARES.iter() {
+        port = child_of(&rt, &mut port, *share);
     }
-    assert_eq!(rt; run(&mut port, TICKET, 1, 0, &[]), Ok(0xffff_fffb));
+    has_no_share(&rt, &mut port);
 }
 
-fn is_of_fields(rt: &impl Abort, port: &mut ForkPort, fields: ForkFields) {
+fn has_fields(rt: &impl Abort, port: &ForkPort, fields: ForkFields) {
     assert_eq!(rt; (port.fields(), port.find(1)), (fields, None));
+}
+
+fn gives_the_next_ticket(rt: &impl Abort, port: &mut ForkPort) {
     assert_eq!(rt; run(port, TICKET, 9, 0, &[]), Ok(2));
 }
 
@@ -302,7 +354,8 @@ fn fields_make_a_port_without_tickets(rt: HostRuntime) {
     let mut port = ForkPort::new(rt.alloc(), 9);
     let fields = fields_after_a_ticket(&rt, &mut port);
     let mut same = ForkPort::of_fields(rt.alloc(), fields);
-    is_of_fields(&rt, &mut same, fields);
+    has_fields(&rt, &same, fields);
+    gives_the_next_ticket(&rt, &mut same);
 }
 
 fn fields_after_a_ticket(rt: &impl Abort, port: &mut ForkPort) -> ForkFields {
@@ -315,28 +368,35 @@ fn fields_after_a_ticket(rt: &impl Abort, port: &mut ForkPort) -> ForkFields {
     fields
 }
 
+const FIELDS: ForkFields = ForkFields {
+    first_argument: 1,
+    second_argument: 2,
+    result: 3,
+    clone_id: 4,
+    allot: 5,
+    join_select: 6,
+    granted: 7,
+    next_ticket: 8,
+};
+
+fn reads_its_fields(rt: &impl Abort, port: &ForkPort) {
+    assert_eq!(rt; registers(port), Ok([1, 2, 3, 4, 5, 6, 0, 0, 7]));
+}
+
 #[test]
 fn registers_by_their_offsets(rt: HostRuntime) {
-    let port = ForkPort::of_fields(
-        rt.alloc(),
-        ForkFields {
-            first_argument: 1,
-            second_argument: 2,
-            result: 3,
-            clone_id: 4,
-            allot: 5,
-            join_select: 6,
-            granted: 7,
-            next_ticket: 8,
-        },
-    );
-    let read = registers(&port);
-    assert_eq!(rt; read, Ok([1, 2, 3, 4, 5, 6, 0, 0, 7]));
+    let port = ForkPort::of_fields(rt.alloc(), FIELDS);
+    reads_its_fields(&rt, &port);
+}
+
+/// The number of a ticket that is asked for in a thread.
+fn ticket_of_moved<R: Threads>(rt: &R, mut port: ForkPort) -> Result<u32, PortError> {
+    let (number, _) = thread::join(rt, move || run(&mut port, TICKET, 1, 0, &[]), || ());
+    number
 }
 
 #[test]
 fn moves_between_threads(rt: HostRuntime) {
-    let mut port = ForkPort::new(rt.alloc(), 1);
-    let (number, _) = thread::join(&rt, move || run(&mut port, TICKET, 1, 0, &[]), || ());
+    let number = ticket_of_moved(&rt, ForkPort::new(rt.alloc(), 1));
     assert_eq!(rt; number, Ok(1));
 }

@@ -8,9 +8,19 @@ use fork_port::registers::FORK_SIZE;
 use vm_bus::addresses::{BLOCK_BASE, CONSOLE_BASE, FORK_BASE, TIMER_BASE};
 
 #[test]
-fn sizes_and_limits_by_their_numbers(rt: HostRuntime) {
+fn bases_by_their_numbers(rt: HostRuntime) {
     let bases = [TIMER_BASE, CONSOLE_BASE, BLOCK_BASE, FORK_BASE];
     assert_eq!(rt; bases, [0x0200_4000, 0x1000_0000, 0x1000_1000, 0x1000_2000]);
-    assert_eq!(rt; [CONSOLE_SIZE, BLOCK_SIZE, FORK_SIZE], [8, 0x400, 40]);
-    assert_eq!(rt; (MAX_INPUT, TICKETS_END), (65_536, 0xffff_fffa));
+}
+
+#[test]
+fn sizes_and_limits_by_their_numbers(rt: HostRuntime) {
+    assert_eq!(rt;
+        (
+            [CONSOLE_SIZE, BLOCK_SIZE, FORK_SIZE],
+            MAX_INPUT,
+            TICKETS_END
+        ),
+        ([8, 0x400, 40], 65_536, 0xffff_fffa)
+    );
 }

@@ -37,20 +37,38 @@ const FIELDS: TimerRegisters = TimerRegisters {
     mtimecmp: 0x3333_3333_4444_4444,
 };
 
-fn access(rt: &impl Abort, offset: u32, width: u32) {
-    let mut timer = TimerPort::of_fields(FIELDS);
+/// What is loaded, what comes of a store of 5, and the registers after it.
+type Accessed = (Result<u32, Fault>, Result<(), Fault>, TimerRegisters);
+
+fn accessed(timer: &mut TimerPort, offset: u32, width: u32) -> Accessed {
     let loaded = timer.load(offset, width);
     let stored = timer.store(offset, width, 5);
     let after = TimerRegisters {
         mtime: timer.mtime(),
         mtimecmp: timer.mtimecmp(),
     };
-    assert_eq!(rt; timer.fields(), after);
-    let want = match WORDS.iter().find(|word| word.0 == offset && width == 4) {
-        Some(&(_, word, mtime, mtimecmp)) => (Ok(word), Ok(()), TimerRegisters { mtime, mtimecmp }),
-        None => (Err(Fault), Err(Fault), FIELDS),
-    };
-    assert_eq!(rt; (loaded, stored, after), want, "{offset:x} of {width}");
+    (loaded, stored, after)
+}
+
+/// The same by the table.
+fn expected(offset: u32, width: u32) -> Accessed {
+    for &(at, word, mtime, mtimecmp) in WORDS.iter() {
+        if at == offset && width == 4 {
+            return (Ok(word), Ok(()), TimerRegisters { mtime, mtimecmp });
+        }
+    }
+    (Err(Fault), Err(Fault), FIELDS)
+}
+
+fn has_fields(rt: &impl Abort, timer: &TimerPort, fields: TimerRegisters) {
+    assert_eq!(rt; timer.fields(), fields);
+}
+
+fn access(rt: &impl Abort, offset: u32, width: u32) {
+    let mut timer = TimerPort::of_fields(FIELDS);
+    let found = accessed(&mut timer, offset, width);
+    has_fields(rt, &timer, found.2);
+    assert_eq!(rt; found, expected(offset, width), "{offset:x} of {width}");
 }
 
 #[test]
@@ -62,19 +80,35 @@ fn loads_and_stores_at_every_offset_and_width(rt: HostRuntime) {
     }
 }
 
-#[test]
-fn is_due_from_the_time_on(rt: HostRuntime) {
-    let mut timer = TimerPort::new();
+fn starts(rt: &impl Abort, timer: &TimerPort) {
     assert_eq!(rt;
         (timer.mtime(), timer.mtimecmp()),
         (0, 0xffff_ffff_ffff_ffff)
     );
+}
+
+/// mtimecmp becomes 2.
+fn is_set(rt: &impl Abort, timer: &mut TimerPort) {
     assert_eq!(rt;
         (timer.store(0x0004, 4, 0), timer.store(0x0000, 4, 2)),
         (Ok(()), Ok(()))
     );
-    for due in [false, false, true, true] {
-        assert_eq!(rt; timer.is_due(), due);
-        timer.count(false);
+}
+
+/// Whether the timer is due before each step.
+static DUE: [bool; 4] = [false, false, true, true];
+
+fn counts(rt: &impl Abort, timer: &mut TimerPort, due: bool) {
+    assert_eq!(rt; timer.is_due(), due);
+    timer.count(false);
+}
+
+#[test]
+fn is_due_from_the_time_on(rt: HostRuntime) {
+    let mut timer = TimerPort::new();
+    starts(&rt, &timer);
+    is_set(&rt, &mut timer);
+    for due in DUE.iter() {
+        counts(&rt, &mut timer, *due);
     }
 }

@@ -19,14 +19,20 @@ fn expected(number: u32) -> (Option<u32>, Option<u32>) {
     }
 }
 
+/// What a number reads of these registers after a write of all ones.
+fn kept(csrs: &mut Csrs, number: u32) -> Option<u32> {
+    csrs.write(number, 0xffff_ffff)?;
+    csrs.read(number, false)
+}
+
 fn reads_and_keeps(rt: &impl Abort, number: u32) {
     let mut csrs = Csrs::reset();
-    let first = csrs.read(number, false);
-    let then = match csrs.write(number, 0xffff_ffff) {
-        Some(()) => csrs.read(number, false),
-        None => None,
-    };
-    assert_eq!(rt; (first, then), expected(number), "{number:x}");
+    let found = (csrs.read(number, false), kept(&mut csrs, number));
+    assert_eq!(rt; found, expected(number), "{number:x}");
+}
+
+fn reads_the_interrupt(rt: &impl Abort) {
+    assert_eq!(rt; Csrs::reset().read(0x344, true), Some(0x80));
 }
 
 #[test]
@@ -34,13 +40,12 @@ fn reads_and_keeps_of_every_number(rt: HostRuntime) {
     for number in 0..0x2000 {
         reads_and_keeps(&rt, number);
     }
-    assert_eq!(rt; Csrs::reset().read(0x344, true), Some(0x80));
+    reads_the_interrupt(&rt);
 }
 
-#[test]
-fn starts_with_zeros_but_for_machine_mode(rt: HostRuntime) {
+fn are_zeros_but_for_machine_mode(rt: &impl Abort, fields: CsrRegisters) {
     assert_eq!(rt;
-        Csrs::reset().fields(),
+        fields,
         CsrRegisters {
             mstatus: 0x1800,
             mie: 0,
@@ -53,6 +58,11 @@ fn starts_with_zeros_but_for_machine_mode(rt: HostRuntime) {
             minstret: 0,
         }
     );
+}
+
+#[test]
+fn starts_with_zeros_but_for_machine_mode(rt: HostRuntime) {
+    are_zeros_but_for_machine_mode(&rt, Csrs::reset().fields());
     assert_eq!(rt; TIMER_INTERRUPT, 0x8000_0007);
 }
 
@@ -65,18 +75,34 @@ static WRITES: [(u32, u64, u64); 5] = [
     (0x340, 0x0000_0008_0000_0000, 0x0000_0009_0000_0000),
 ];
 
-fn written_half_is_read(rt: &impl Abort, number: u32, mcycle: u64, minstret: u64) {
-    let mut csrs = Csrs::of_fields(CsrRegisters {
+/// Registers whose counters carry in the next step.
+fn before_a_carry() -> Csrs {
+    Csrs::of_fields(CsrRegisters {
         mcycle: 0x0000_0007_ffff_ffff,
         minstret: 0x0000_0008_ffff_ffff,
         ..Csrs::reset().fields()
-    });
-    assert_eq!(rt; csrs.write(number, 5), Some(()));
+    })
+}
+
+/// What comes of a write of 5 and of a read after that step.
+fn written_and_read(csrs: &mut Csrs, number: u32) -> (Option<()>, Option<u32>) {
+    let written = csrs.write(number, 5);
     csrs.count(true, Wrote::by_write(number));
+    (written, csrs.read(number, false))
+}
+
+/// The same of those registers, and mcycle and minstret after it.
+fn written_half(number: u32) -> ((Option<()>, Option<u32>), [u64; 2]) {
+    let mut csrs = before_a_carry();
+    let found = written_and_read(&mut csrs, number);
     let after = csrs.fields();
+    (found, [after.mcycle, after.minstret])
+}
+
+fn written_half_is_read(rt: &impl Abort, number: u32, mcycle: u64, minstret: u64) {
     assert_eq!(rt;
-        (csrs.read(number, false), after.mcycle, after.minstret),
-        (Some(5), mcycle, minstret),
+        written_half(number),
+        ((Some(()), Some(5)), [mcycle, minstret]),
         "{number:x}"
     );
 }
@@ -88,30 +114,53 @@ fn written_halves_are_read_in_the_next_step(rt: HostRuntime) {
     }
 }
 
-#[test]
-fn takes_an_interrupt_and_returns(rt: HostRuntime) {
-    let mut csrs = Csrs::reset();
-    assert_eq!(rt; csrs.write(0x305, 0x8000_0101), Some(()));
-    assert_eq!(rt; csrs.write(0x304, 0x80), Some(()));
-    assert_eq!(rt; csrs.interrupt(true), false);
-    assert_eq!(rt; csrs.write(0x300, 0x8), Some(()));
-    assert_eq!(rt;
-        (csrs.interrupt(false), csrs.interrupt(true)),
-        (false, true)
-    );
+/// mtvec and mie are written. No interrupt is taken before mstatus is.
+fn is_set_up(rt: &impl Abort, csrs: &mut Csrs) {
+    let writes = [csrs.write(0x305, 0x8000_0101), csrs.write(0x304, 0x80)];
+    let is_taken = csrs.interrupt(true);
+    assert_eq!(rt; (writes, is_taken), ([Some(()), Some(())], false));
+}
 
-    assert_eq!(rt; csrs.enter(0x8000_0007, 0, 0x8000_0010), 0x8000_011c);
+fn is_let_in(rt: &impl Abort, csrs: &mut Csrs) {
+    let write = csrs.write(0x300, 0x8);
+    let are_taken = [csrs.interrupt(false), csrs.interrupt(true)];
+    assert_eq!(rt; (write, are_taken), (Some(()), [false, true]));
+}
+
+fn takes_the_interrupt(rt: &impl Abort, csrs: &mut Csrs) {
+    let address = csrs.enter(0x8000_0007, 0, 0x8000_0010);
     let after = [
         csrs.read(0x300, true),
         csrs.read(0x341, true),
         csrs.read(0x342, true),
     ];
-    assert_eq!(rt; after, [Some(0x1880), Some(0x8000_0010), Some(0x8000_0007)]);
+    assert_eq!(rt;
+        (address, after),
+        (
+            0x8000_011c,
+            [Some(0x1880), Some(0x8000_0010), Some(0x8000_0007)]
+        )
+    );
+}
 
-    assert_eq!(rt; csrs.enter(11, 0, 0x8000_011c), 0x8000_0100);
-    assert_eq!(rt; csrs.read(0x300, true), Some(0x1800));
-    assert_eq!(rt; csrs.mret(), 0x8000_011c);
-    assert_eq!(rt; csrs.read(0x300, true), Some(0x1880));
-    assert_eq!(rt; csrs.mret(), 0x8000_011c);
-    assert_eq!(rt; csrs.read(0x300, true), Some(0x1888));
+/// A call of the environment comes in the handler.
+fn takes_a_call(rt: &impl Abort, csrs: &mut Csrs) {
+    let found = (csrs.enter(11, 0, 0x8000_011c), csrs.read(0x300, true));
+    assert_eq!(rt; found, (0x8000_0100, Some(0x1800)));
+}
+
+fn returns(rt: &impl Abort, csrs: &mut Csrs, mstatus: u32) {
+    let found = (csrs.mret(), csrs.read(0x300, true));
+    assert_eq!(rt; found, (0x8000_011c, Some(mstatus)));
+}
+
+#[test]
+fn takes_an_interrupt_and_returns(rt: HostRuntime) {
+    let mut csrs = Csrs::reset();
+    is_set_up(&rt, &mut csrs);
+    is_let_in(&rt, &mut csrs);
+    takes_the_interrupt(&rt, &mut csrs);
+    takes_a_call(&rt, &mut csrs);
+    returns(&rt, &mut csrs, 0x1880);
+    returns(&rt, &mut csrs, 0x1888);
 }

@@ -1,10 +1,10 @@
 -- Lists in which each entry is one of two.
 use Rattle.std.proofs.Common.{◌≡◌, ℕ, zero, suc, ◌+◌, ◌*◌, ◌/◌, ◌<◌, ◌≤◌, Bool, true, false, List, [], ◌∷◌, ◌++◌, length, take, drop, get_or, replicate, Option, Some, refl, sym, ap, ap₂, ◌∙◌, take-add, arith}
 use Rattle.std.specs.Simd.{first_chunks}
-use Rattle.std.proofs.lemmas.List.{map-append, length-drop, drop_more, take_more, take-append-drop}
+use Rattle.std.proofs.lemmas.List.{map-append, length-drop, length-map, drop_more, take_more, take-append-drop}
 use Rattle.shared_leaves.specs.declared.leaf.TheConstants.{LEAF_ENTRIES}
 use Rattle.shared_leaves.specs.Leaves.{joined}
-use Rattle.shared_leaves.specs.Choices.{choice, chosen, has, WhichMade, piece_steps, made_with, pieces_steps}
+use Rattle.shared_leaves.specs.Choices.{choice, chosen, equal_steps, has, WhichMade, made_by, piece_steps, made_with, pieces_steps, steps_by, which}
 use Rattle.shared_leaves.proofs.LeafLemmas.{joined-push}
 
 -- pieces in a row are the front
@@ -19,12 +19,12 @@ joined-first_chunks size (suc count) xs inside =
 
 module _ {T : Type 0} (set unset : T) where
   -- one entry more
-  pub written-more : (flags : List Bool) (entries : List T) (entry : T) (at : ℕ) (flag : Bool) → at < length flags → flag ≡ get_or flags at flag → entry ≡ choice set unset flag
-      → entries ≡ chosen set unset (take at flags) → entries ++ entry ∷ [] ≡ chosen set unset (take (at + 1) flags)
-  written-more flags entries entry at flag inside read is so_far =
-      ap₂ (λ xs x. xs ++ x ∷ []) so_far is
-      ∙ sym (map-append (choice set unset) (take at flags) (flag ∷ []))
-      ∙ sym (ap (chosen set unset) (take_more flags at flag inside ∙ ap (λ f. take at flags ++ f ∷ []) (sym read)))
+  pub written-more : (flags : List Bool) (entries made : List T) (entry : T) (at : ℕ) (d : Bool) → at < length flags → entry ≡ choice set unset (get_or flags at d)
+      → entries ≡ chosen set unset (take at flags) → made ≡ entries ++ entry ∷ [] → made ≡ chosen set unset (take (at + 1) flags)
+  written-more flags entries made entry at d inside is so_far pushed =
+      pushed ∙ ap₂ (λ xs x. xs ++ x ∷ []) so_far is
+      ∙ sym (map-append (choice set unset) (take at flags) (get_or flags at d ∷ []))
+      ∙ sym (ap (chosen set unset) (take_more flags at d inside))
 
   -- entries of equal flags
   pub all_unset : (piece : List Bool) → has true piece ≡ false → chosen set unset piece ≡ replicate (length piece) unset
@@ -45,6 +45,11 @@ module _ {T : Type 0} (set unset : T) where
       ∙ sym (map-append (choice set unset) (joined (take at pieces)) (get_or pieces at []))
       ∙ sym (ap (chosen set unset) (ap joined (take_more pieces at [] inside) ∙ joined-push (take at pieces) (get_or pieces at [])))
 
+  -- which is full
+  pub length-chosen : (pieces : List (List Bool)) (leaf : List T) (at : ℕ) → ((k : ℕ) → k < length pieces → length (get_or pieces k []) ≡ LEAF_ENTRIES)
+      → at < length pieces → leaf ≡ chosen set unset (get_or pieces at []) → length leaf ≡ LEAF_ENTRIES
+  length-chosen pieces leaf at full inside is = ap length is ∙ length-map (get_or pieces at []) (choice set unset) ∙ full at inside
+
   -- the whole leaves, and the rest behind them
   pub chosen-parts : (flags rest : List Bool) (whole last : List T) → rest ≡ drop (length flags / LEAF_ENTRIES * LEAF_ENTRIES) flags
       → whole ≡ chosen set unset (joined (first_chunks LEAF_ENTRIES (length flags / LEAF_ENTRIES) flags)) → last ≡ chosen set unset rest → whole ++ last ≡ chosen set unset flags
@@ -63,3 +68,26 @@ steps-rest pieces made at inside = ap (pieces_steps made) (drop_more pieces at [
 
 pub kept_is : {A : Type 0} (kept : Option A) (a x : A) → kept ≡ Some a → kept ≡ Some x → x ≡ a
 kept_is kept a x is read = cc
+
+-- ---- what a leaf costs, and which leaves of equal entries are made then
+
+module _ (piece : List Bool) (none : has true piece ≡ false) where
+  pub unset-steps : (made : WhichMade) → piece_steps piece made ≡ equal_steps made.unset piece
+  unset-steps made = ap (λ some. steps_by some (has false piece) piece made) none
+
+  pub made-unset : {A : Type 0} (set old new : Option A) (leaf : A) → new ≡ Some leaf → which set new ≡ made_with piece (which set old)
+  made-unset set old new leaf is = ap (λ made. which set made) is ∙ sym (ap (λ some. made_by some (has false piece) (which set old)) none)
+
+module _ (piece : List Bool) (some : has true piece ≡ true) (all : has false piece ≡ false) where
+  pub set-steps : (made : WhichMade) → piece_steps piece made ≡ equal_steps made.set piece
+  set-steps made = ap₂ (λ some other. steps_by some other piece made) some all
+
+  pub made-set : {A : Type 0} (unset old new : Option A) (leaf : A) → new ≡ Some leaf → which new unset ≡ made_with piece (which old unset)
+  made-set unset old new leaf is = ap (λ made. which made unset) is ∙ sym (ap₂ (λ some other. made_by some other (which old unset)) some all)
+
+module _ (piece : List Bool) (some : has true piece ≡ true) (other : has false piece ≡ true) (made : WhichMade) where
+  pub mixed-steps : piece_steps piece made ≡ length piece
+  mixed-steps = ap₂ (λ some other. steps_by some other piece made) some other
+
+  pub made-mixed : made ≡ made_with piece made
+  made-mixed = sym (ap₂ (λ some other. made_by some other made) some other)

@@ -114,6 +114,21 @@ module _ {T : Type 0} where
       sym (append_assoc list copies (entry ∷ []))
       ∙ ap (λ all. all ++ entry ∷ []) (ap₂ (λ a b. a ++ b) front back ∙ sym (take-add begin (count - begin) xs) ∙ ap (λ n. take n xs) whole)
 
+  -- how many these are
+  pub length-front : (xs list : List T) (begin : ℕ) → begin ≤ length xs → list ≡ take begin xs → length list ≡ begin
+  length-front xs list begin inside front = ap length front ∙ length-take-le begin xs inside
+
+  pub length-copies : (xs old copies : List T) (begin count : ℕ) → begin ≤ count → count ≤ length xs → old ≡ []
+      → copies ≡ old ++ take (count - begin) (drop begin xs) → length copies ≡ count - begin
+  length-copies xs old copies begin count order inside none back =
+      ap length (back ∙ ap (λ front. front ++ take (count - begin) (drop begin xs)) none)
+      ∙ length-take-le (count - begin) (drop begin xs) (omega (arith, length-drop begin xs))
+
+  -- an entry that goes from what is left behind others
+  pub moved : (before left after rest : List T) (x : T) → left ≡ x ∷ rest → after ≡ before ++ x ∷ [] → before ++ left ≡ after ++ rest
+  moved before left after rest x first pushed =
+      ap (λ xs. before ++ xs) first ∙ sym (append_assoc before (x ∷ []) rest) ∙ ap (λ front. front ++ rest) (sym pushed)
+
   -- one entry more
   pub copied-more : (xs old copies : List T) (x : T) (first at : ℕ) → first ≤ at → at < length xs → x ≡ get_or xs at x → copies ≡ old ++ take (at - first) (drop first xs)
       → copies ++ x ∷ [] ≡ old ++ take (at + 1 - first) (drop first xs)
@@ -189,7 +204,7 @@ module _ {T : Type 0} where
   length-splice xs ys first end counted inside =
       omega (arith, length-append (take first xs) (ys ++ drop end xs), length-append ys (drop end xs), length-take-le first xs (omega arith), length-drop end xs)
 
-  pub splice-none : (xs : List T) (first : ℕ) (entry : T) → xs ≡ splice xs first first (replicate (first - first) entry)
+  splice-none : (xs : List T) (first : ℕ) (entry : T) → xs ≡ splice xs first first (replicate (first - first) entry)
   splice-none xs first entry =
       let none : first - first ≡ 0 = omega arith in
       sym (ap (λ n. splice xs first first (replicate n entry)) none ∙ take-append-drop first xs)
@@ -209,6 +224,14 @@ module _ {T : Type 0} where
       let counted : first + length (replicate (at - first) entry) ≡ at = omega (arith, length-replicate (at - first) entry) in
       ap length is ∙ length-splice xs (replicate (at - first) entry) first at counted inside
 
+  -- nothing is a run yet, and at its end it is whole
+  pub run-none : (xs list : List T) (first : ℕ) (entry : T) → list ≡ xs → list ≡ splice xs first first (replicate (first - first) entry)
+  run-none xs list first entry same = same ∙ splice-none xs first entry
+
+  pub run-whole : (xs list : List T) (first at end : ℕ) (entry : T) → at ≡ end → list ≡ splice xs first at (replicate (at - first) entry)
+      → list ≡ splice xs first end (replicate (end - first) entry)
+  run-whole xs list first at end entry same is = is ∙ ap (λ n. splice xs first n (replicate (n - first) entry)) same
+
   pub run-set : (xs list : List T) (first at : ℕ) (entry : T) → first ≤ at → at < length xs → list ≡ splice xs first at (replicate (at - first) entry)
       → set list at entry ≡ splice xs first (at + 1) (replicate (at + 1 - first) entry)
   run-set xs list first at entry order inside is =
@@ -223,6 +246,14 @@ module _ {T : Type 0} where
       ∙ ap (λ l. splice list at (at + LEAF_ENTRIES) l) equal
       ∙ ap (λ l. splice l at (at + LEAF_ENTRIES) (replicate LEAF_ENTRIES entry)) is
       ∙ run-more xs first at LEAF_ENTRIES entry order inside
+
+  -- one item more of a list, behind others
+  pub taken-more : (before xs old new : List T) (at : ℕ) (x copy : T) → at < length xs → x ≡ get_or xs at x → copy ≡ x
+      → old ≡ before ++ take at xs → new ≡ old ++ copy ∷ [] → new ≡ before ++ take (at + 1) xs
+  taken-more before xs old new at x copy inside read same so_far pushed =
+      pushed ∙ ap₂ (λ front y. front ++ y ∷ []) so_far (same ∙ read)
+      ∙ append_assoc before (take at xs) (get_or xs at x ∷ [])
+      ∙ ap (λ rest. before ++ rest) (sym (take_more xs at x inside))
 
   -- equal entries behind equal entries
   pub equal-more : (list leaf made : List T) (n : ℕ) (entry : T) → list ≡ replicate (length list) entry → leaf ≡ replicate n entry → made ≡ list ++ leaf

@@ -99,20 +99,41 @@ fn compare<R: Abort>(rt: &R, line: &str, found: &Status, sink: &MemSink) {
     assert_eq!(rt; sink.bytes(), LINE);
 }
 
-/// Expects that a command line writes the line, over so many wires.
+/// Expects that a command line writes the line, over these wires.
+fn writes_over<R: AllocGlobal + Threads + Wait + Sync + Abort, G: Gate + Sync>(
+    rt: &R,
+    line: &str,
+    words: &[String],
+    wires: &mut Vec<Seeded>,
+    gate: &G,
+) -> Result<(), Fail> {
+    let alloc = rt.alloc();
+    let mut sink = MemSink::new(alloc, 100, 100, Vec::new(alloc))?;
+    let found = answer_of(rt, words, &mut sink, wires, gate);
+    compare(rt, line, &found, &sink);
+    Ok(())
+}
+
+/// The same over so many wires.
+fn writes_words<R: AllocGlobal + Threads + Wait + Sync + Abort, G: Gate + Sync>(
+    rt: &R,
+    line: &str,
+    words: &[String],
+    count: usize,
+    gate: &G,
+) -> Result<(), Fail> {
+    let mut wires = wires_of(rt.alloc(), count)?;
+    writes_over(rt, line, words, &mut wires, gate)
+}
+
 fn writes_line<R: AllocGlobal + Threads + Wait + Sync + Abort, G: Gate + Sync>(
     rt: &R,
     line: &str,
     count: usize,
     gate: &G,
 ) -> Result<(), Fail> {
-    let alloc = rt.alloc();
-    let words = words_of(alloc, line)?;
-    let mut sink = MemSink::new(alloc, 100, 100, Vec::new(alloc))?;
-    let mut wires = wires_of(alloc, count)?;
-    let found = answer_of(rt, &words, &mut sink, &mut wires, gate);
-    compare(rt, line, &found, &sink);
-    Ok(())
+    let words = words_of(rt.alloc(), line)?;
+    writes_words(rt, line, &words, count, gate)
 }
 
 /// Command lines, and how many wires there are.

@@ -1,11 +1,9 @@
 //! Bytes that are not in form, and some that just are: images, descriptors, frames and scripts, each with what comes of
 //! them. Images and scripts are read by `snow`, with its code.
 
-use crate::tests::{EXIT_SEVEN, answers};
-use elf_load::RAM_BASE;
+use crate::tests::{answers, exit_seven};
 use fetch_proto::decode_frame;
 use flat_memory::{push_words, write_bytes};
-use rv_asm::elf_of;
 use snow_commands::Status;
 use std::alloc::{AllocError, Global};
 use std::process::Abort;
@@ -113,10 +111,6 @@ fn put(bytes: &mut [u8], at: usize, new: &[u8]) {
     if at <= bytes.len() && bytes.len() - at >= new.len() {
         write_bytes(bytes, at, new);
     }
-}
-
-fn exit_seven(alloc: Global) -> Result<Vec<u8>, AllocError> {
-    elf_of(alloc, RAM_BASE, &EXIT_SEVEN)
 }
 
 fn two_headers(alloc: Global) -> Result<Vec<u8>, AllocError> {
@@ -279,8 +273,20 @@ fn come_to<R: AllocGlobal + Threads + Wait + Sync + Abort>(
 #[test]
 fn bytes_come_to_their_answers(rt: HostRuntime) -> Result<(), Fail> {
     for (form, length, at, new, answer) in BYTES.iter() {
-        let bytes = changed(rt.alloc(), *form, *length, *at, new)?;
-        come_to(&rt, &bytes, *answer)?;
+        row_comes_to(&rt, *form, *length, *at, new, *answer)?;
     }
     Ok(())
+}
+
+/// Expects what comes of the bytes of a row.
+fn row_comes_to<R: AllocGlobal + Threads + Wait + Sync + Abort>(
+    rt: &R,
+    form: Form,
+    length: usize,
+    at: usize,
+    new: &[u8],
+    answer: Answer,
+) -> Result<(), Fail> {
+    let bytes = changed(rt.alloc(), form, length, at, new)?;
+    come_to(rt, &bytes, answer)
 }

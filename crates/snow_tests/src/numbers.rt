@@ -2,15 +2,15 @@
 
 use command_line::{
     DEFAULT_AHEAD, DEFAULT_CLONES, DEFAULT_LIMIT, DEFAULT_PAGES, DEFAULT_SEED, DEFAULT_SLICE,
-    DEFAULT_WORKERS, LEAST_LIMIT, LEAST_SLICE, LEAST_WORKERS, MOST_AHEAD, MOST_CLONES, MOST_LIMIT,
-    MOST_SLICE, MOST_WORKERS,
+    DEFAULT_WORKERS, GENERATED_AHEAD, GENERATED_CLONES, LEAST_LIMIT, LEAST_SLICE, LEAST_WORKERS,
+    MOST_AHEAD, MOST_CLONES, MOST_LIMIT, MOST_SLICE, MOST_WORKERS,
 };
 use guest_files::{
     DISK_LOAD, DISK_MOST, DISK_NOT_SECTORS, DISK_TOO_LONG, IMAGE_LOAD, IMAGE_MOST, INPUT_LOAD,
     INPUT_TOO_LONG, SCRIPT_LOAD, SCRIPT_TOO_LONG, TOO_LONG,
 };
 use snow_commands::MOST_WIRES;
-use std::test::Fail;
+use std::process::Abort;
 
 /// The loads.
 static LOADS: [(u32, u32); 4] = [
@@ -29,8 +29,8 @@ static REFUSALS: [(u32, u32); 5] = [
     (SCRIPT_TOO_LONG, 6),
 ];
 
-/// What an option is that is not given, and its limits.
-static OPTIONS: [(u32, u32); 15] = [
+/// What an option is that is not given, and its limits; and the clones and the pages ahead of a generated guest.
+static OPTIONS: [(u32, u32); 17] = [
     (DEFAULT_PAGES, 64),
     (DEFAULT_LIMIT, 1_000_000),
     (LEAST_LIMIT, 1),
@@ -46,6 +46,8 @@ static OPTIONS: [(u32, u32); 15] = [
     (DEFAULT_SLICE, 1000),
     (LEAST_SLICE, 1),
     (MOST_SLICE, 1_000_000),
+    (GENERATED_CLONES, 72),
+    (GENERATED_AHEAD, 4),
 ];
 
 /// The most bytes of an image and of a disk, and the most wires.
@@ -55,15 +57,22 @@ static SIZES: [(usize, usize); 3] = [
     (MOST_WIRES, 64),
 ];
 
-#[test]
-fn constants_are_these(rt: HostRuntime) -> Result<(), Fail> {
-    for table in [LOADS.as_slice(), REFUSALS.as_slice(), OPTIONS.as_slice()] {
-        for (is, number) in table.iter() {
-            assert_eq!(rt; is, number);
-        }
+fn are_these(rt: &impl Abort, table: &[(u32, u32)]) {
+    for (is, number) in table {
+        assert_eq!(rt; is, number);
     }
+}
+
+fn sizes_are_these(rt: &impl Abort) {
     for (is, number) in SIZES.iter() {
         assert_eq!(rt; is, number);
     }
-    Ok(())
+}
+
+#[test]
+fn constants_are_these(rt: HostRuntime) {
+    are_these(&rt, &LOADS);
+    are_these(&rt, &REFUSALS);
+    are_these(&rt, &OPTIONS);
+    sizes_are_these(&rt);
 }

@@ -16,9 +16,7 @@ use std::thread::Threads;
 use wire_fates::{Fate, Scripted};
 
 /// The words of the guest that ends with the value 7. Its image has 104 bytes.
-pub(crate) static EXIT_SEVEN: [u32; 5] = [
-    0x100022b7, 0x00700313, 0x0062a023, 0x00500313, 0x0062a423,
-];
+static EXIT_SEVEN: [u32; 5] = [0x100022b7, 0x00700313, 0x0062a023, 0x00500313, 0x0062a423];
 
 /// The words of the guest that makes two children, where it gets a ticket for them. It joins them and
 /// exits with the value of the first.
@@ -50,21 +48,49 @@ fn file(alloc: Global, name: &str, bytes: &[u8]) -> Result<(String, Vec<u8>), Al
     ))
 }
 
-/// A shelf with the image `guest` of which so many bytes are there, `script`, `disk`, of 512 bytes, and the input
-/// `Z`. Its call of this number fails.
+fn add_file(
+    alloc: Global,
+    files: &mut Vec<(String, Vec<u8>)>,
+    name: &str,
+    bytes: &[u8],
+) -> Result<(), AllocError> {
+    files.push(file(alloc, name, bytes)?)?;
+    Ok(())
+}
+
+/// Adds the image `guest`, `script`, `disk`, of 512 bytes, and the input `Z`.
+fn add_files(
+    alloc: Global,
+    files: &mut Vec<(String, Vec<u8>)>,
+    guest: &[u8],
+    script: &[u8],
+) -> Result<(), AllocError> {
+    add_file(alloc, files, "guest", guest)?;
+    add_file(alloc, files, "script", script)?;
+    add_file(alloc, files, "disk", &[0; 512])?;
+    add_file(alloc, files, "input", b"Z")
+}
+
+/// The files of a shelf.
+fn files_of(
+    alloc: Global,
+    guest: &[u8],
+    script: &[u8],
+) -> Result<Vec<(String, Vec<u8>)>, AllocError> {
+    let mut files = Vec::new(alloc);
+    add_files(alloc, &mut files, guest, script)?;
+    Ok(files)
+}
+
+/// A shelf with these files. Its call of this number fails.
 fn shelf_of(
     alloc: Global,
     guest: &[u8],
     script: &[u8],
     fails: u64,
 ) -> Result<MemShelf, AllocError> {
-    let files = vec![in alloc;
-        file(alloc, "guest", guest)?,
-        file(alloc, "script", script)?,
-        file(alloc, "disk", &[0; 512])?,
-        file(alloc, "input", b"Z")?,
-    ]?;
-    Ok(MemShelf::new(files, vec![in alloc; fails]?))
+    let faults = vec![in alloc; fails]?;
+    Ok(MemShelf::new(files_of(alloc, guest, script)?, faults))
 }
 
 /// A wire that gives so many replies, then tells a fate so many times, and then gives again.
@@ -120,7 +146,24 @@ fn answer_of<R: AllocGlobal + Threads + Wait + Sync + Abort>(
     snow(rt, words, shelf, sink, wires, &OpenGate)
 }
 
-/// Runs a command line over files, and compares what it answers and what is out.
+/// Runs a command line over files and wires, and compares what it answers and what is out.
+fn answers_by<R: AllocGlobal + Threads + Wait + Sync + Abort>(
+    rt: &R,
+    line: &str,
+    words: &[String],
+    shelf: &mut MemShelf,
+    wires: &mut Vec<Scripted>,
+    status: &Status,
+    out: &[u8],
+) -> Result<(), Fail> {
+    let alloc = rt.alloc();
+    let mut sink = MemSink::new(alloc, 7, 1000, Vec::new(alloc))?;
+    let found = answer_of(rt, words, shelf, &mut sink, wires);
+    compare(rt, line, &found, &sink, status, out);
+    Ok(())
+}
+
+/// The same over eight wires.
 fn answers_over<R: AllocGlobal + Threads + Wait + Sync + Abort>(
     rt: &R,
     line: &str,
@@ -129,15 +172,11 @@ fn answers_over<R: AllocGlobal + Threads + Wait + Sync + Abort>(
     status: &Status,
     out: &[u8],
 ) -> Result<(), Fail> {
-    let alloc = rt.alloc();
-    let mut sink = MemSink::new(alloc, 7, 1000, Vec::new(alloc))?;
-    let mut wires = wires_of(alloc, 8, 0, Fate::Give(0), 0)?;
-    let found = answer_of(rt, words, shelf, &mut sink, &mut wires);
-    compare(rt, line, &found, &sink, status, out);
-    Ok(())
+    let mut wires = wires_of(rt.alloc(), 8, 0, Fate::Give(0), 0)?;
+    answers_by(rt, line, words, shelf, &mut wires, status, out)
 }
 
-/// The same over an image and a script, with a shelf whose load of this number fails.
+/// The same of a line over an image and a script, with a shelf whose load of this number fails.
 pub(crate) fn answers<R: AllocGlobal + Threads + Wait + Sync + Abort>(
     rt: &R,
     line: &str,
@@ -147,9 +186,20 @@ pub(crate) fn answers<R: AllocGlobal + Threads + Wait + Sync + Abort>(
     status: &Status,
     out: &[u8],
 ) -> Result<(), Fail> {
-    let words = words_of(rt.alloc(), line)?;
     let mut shelf = shelf_of(rt.alloc(), image, script, fails)?;
-    answers_over(rt, line, &words, &mut shelf, status, out)
+    line_answers(rt, line, &mut shelf, status, out)
+}
+
+/// The same of a line over files.
+fn line_answers<R: AllocGlobal + Threads + Wait + Sync + Abort>(
+    rt: &R,
+    line: &str,
+    shelf: &mut MemShelf,
+    status: &Status,
+    out: &[u8],
+) -> Result<(), Fail> {
+    let words = words_of(rt.alloc(), line)?;
+    answers_over(rt, line, &words, shelf, status, out)
 }
 
 /// Expects that a command line writes this over the image of these words and a script.
@@ -233,20 +283,43 @@ static REFUSALS: [(&str, usize, &[u8], u8, u32, u32); 21] = [
     ("drive guest script", 104, b"\nstep 0 01", 8, 2, 4),
 ];
 
-// Nothing is out then.
-#[test]
-fn refuses_by_cause(rt: HostRuntime) -> Result<(), Fail> {
-    let image = elf_of(rt.alloc(), RAM_BASE, &EXIT_SEVEN)?;
+/// Expects that a command line is refused so over an image of so many bytes. Nothing is out then.
+fn refuses<R: AllocGlobal + Threads + Wait + Sync + Abort>(
+    rt: &R,
+    line: &str,
+    image: &[u8],
+    length: usize,
+    script: &[u8],
+    status: &Status,
+) -> Result<(), Fail> {
+    let (guest, _) = image.split_at(image.len().min(length));
+    answers(rt, line, guest, script, 0, status, b"")
+}
+
+fn each_refuses<R: AllocGlobal + Threads + Wait + Sync + Abort>(
+    rt: &R,
+    image: &[u8],
+) -> Result<(), Fail> {
     for (line, length, script, code, first, second) in REFUSALS.iter() {
-        let (guest, _) = image.split_at(image.len().min(*length));
         let status = Status {
             code: *code,
             first: *first,
             second: *second,
         };
-        answers(&rt, line, guest, script, 0, &status, b"")?;
+        refuses(rt, line, image, *length, script, &status)?;
     }
     Ok(())
+}
+
+/// The image of the guest that ends with the value 7.
+pub(crate) fn exit_seven(alloc: Global) -> Result<Vec<u8>, AllocError> {
+    elf_of(alloc, RAM_BASE, &EXIT_SEVEN)
+}
+
+#[test]
+fn refuses_by_cause(rt: HostRuntime) -> Result<(), Fail> {
+    let image = exit_seven(rt.alloc())?;
+    each_refuses(&rt, &image)
 }
 
 /// Expects that `drive` over an image and a script stops at its load of this number, which fails.
@@ -266,14 +339,21 @@ fn stops_at_load<R: AllocGlobal + Threads + Wait + Sync + Abort>(
 }
 
 // Each load that `drive` makes, in order: where all that is read is in form, and where nothing is.
-#[test]
-fn stops_at_each_load(rt: HostRuntime) -> Result<(), Fail> {
-    let image = elf_of(rt.alloc(), RAM_BASE, &EXIT_SEVEN)?;
+fn stops_at_loads<R: AllocGlobal + Threads + Wait + Sync + Abort>(
+    rt: &R,
+    image: &[u8],
+) -> Result<(), Fail> {
     for load in 1..=4u32 {
-        stops_at_load(&rt, &image, b"step 0 1\n", load)?;
-        stops_at_load(&rt, b"", b"", load)?;
+        stops_at_load(rt, image, b"step 0 1\n", load)?;
+        stops_at_load(rt, b"", b"", load)?;
     }
     Ok(())
+}
+
+#[test]
+fn stops_at_each_load(rt: HostRuntime) -> Result<(), Fail> {
+    let image = exit_seven(rt.alloc())?;
+    stops_at_loads(&rt, &image)
 }
 
 /// Command lines, how many wires there are and what each of them does, and the code. The second child of two hears the
@@ -343,8 +423,8 @@ static WIRES: [(&str, usize, usize, Fate, usize, u8); 11] = [
 
 /// Compares the code of a run with what is wanted. Something is out just where it is 0.
 fn compare_code<R: Abort>(rt: &R, line: &str, found: &Status, sink: &MemSink, code: u8) {
-    assert_eq!(rt; found.code, code, "{line}");
-    assert_eq!(rt; sink.bytes().is_empty(), code != 0, "{line}");
+    let answer = (found.code, sink.bytes().is_empty());
+    assert_eq!(rt; answer, (code, code != 0), "{line}");
 }
 
 /// Runs a command line over files and a wire, and compares its code.
@@ -363,44 +443,84 @@ fn code_over<R: AllocGlobal + Threads + Wait + Sync + Abort>(
     Ok(())
 }
 
-/// Runs two children over a wire.
-fn runs_over<R: AllocGlobal + Threads + Wait + Sync + Abort>(
+/// Runs a line over an image and wires, and compares its code.
+fn line_over<R: AllocGlobal + Threads + Wait + Sync + Abort>(
     rt: &R,
     line: &str,
     image: &[u8],
     wires: &mut Vec<Scripted>,
     code: u8,
 ) -> Result<(), Fail> {
-    let words = words_of(rt.alloc(), line)?;
     let mut shelf = shelf_of(rt.alloc(), image, b"", 0)?;
-    code_over(rt, line, &words, &mut shelf, wires, code)
+    runs_over(rt, line, &mut shelf, wires, code)
+}
+
+/// The same over files.
+fn runs_over<R: AllocGlobal + Threads + Wait + Sync + Abort>(
+    rt: &R,
+    line: &str,
+    shelf: &mut MemShelf,
+    wires: &mut Vec<Scripted>,
+    code: u8,
+) -> Result<(), Fail> {
+    let words = words_of(rt.alloc(), line)?;
+    code_over(rt, line, &words, shelf, wires, code)
+}
+
+/// What each of some wires does: it gives so many replies, tells a fate so many times, and gives again.
+type Course = (usize, Fate, usize);
+
+/// Runs a line over an image and so many wires, each of which does this, and compares its code.
+fn has_code<R: AllocGlobal + Threads + Wait + Sync + Abort>(
+    rt: &R,
+    line: &str,
+    image: &[u8],
+    count: usize,
+    course: Course,
+    code: u8,
+) -> Result<(), Fail> {
+    let (gives, fate, times) = course;
+    let mut wires = wires_of(rt.alloc(), count, gives, fate, times)?;
+    line_over(rt, line, image, &mut wires, code)
+}
+
+fn each_has_its_code<R: AllocGlobal + Threads + Wait + Sync + Abort>(
+    rt: &R,
+    image: &[u8],
+) -> Result<(), Fail> {
+    for (line, count, gives, fate, times, code) in WIRES.iter() {
+        has_code(rt, line, image, *count, (*gives, *fate, *times), *code)?;
+    }
+    Ok(())
+}
+
+/// The image of the guest that makes two children.
+fn two_children(alloc: Global) -> Result<Vec<u8>, AllocError> {
+    elf_of(alloc, RAM_BASE, &TWO_CHILDREN)
 }
 
 #[test]
 fn loses_its_wire(rt: HostRuntime) -> Result<(), Fail> {
-    let image = elf_of(rt.alloc(), RAM_BASE, &TWO_CHILDREN)?;
-    for (line, count, gives, fate, times, code) in WIRES.iter() {
-        let mut wires = wires_of(rt.alloc(), *count, *gives, *fate, *times)?;
-        runs_over(&rt, line, &image, &mut wires, *code)?;
+    let image = two_children(rt.alloc())?;
+    each_has_its_code(&rt, &image)
+}
+
+// So many losses, and the next reply comes.
+fn bears_each_loss<R: AllocGlobal + Threads + Wait + Sync + Abort>(
+    rt: &R,
+    image: &[u8],
+) -> Result<(), Fail> {
+    let line = "run guest --clones 1 --workers 1";
+    for times in 0..64 {
+        has_code(rt, line, image, 1, (0, Fate::Lose(0), times), 0)?;
     }
     Ok(())
 }
 
-// So many losses, and the next reply comes.
 #[test]
 fn bears_losses(rt: HostRuntime) -> Result<(), Fail> {
-    let image = elf_of(rt.alloc(), RAM_BASE, &TWO_CHILDREN)?;
-    for times in 0..64 {
-        let mut wires = wires_of(rt.alloc(), 1, 0, Fate::Lose(0), times)?;
-        runs_over(
-            &rt,
-            "run guest --clones 1 --workers 1",
-            &image,
-            &mut wires,
-            0,
-        )?;
-    }
-    Ok(())
+    let image = two_children(rt.alloc())?;
+    bears_each_loss(&rt, &image)
 }
 
 /// Expects code 5, and of the report of two children the ten bytes of each put before this one.
@@ -414,6 +534,24 @@ fn compare_cut<R: Abort>(rt: &R, found: &Status, sink: &MemSink, fails: u64)
 }
 
 /// Runs a guest of two children from a shelf over a sink whose put of this number fails.
+fn stops_by<R: AllocGlobal + Threads + Wait + Sync + Abort>(
+    rt: &R,
+    words: &[String],
+    shelf: &mut MemShelf,
+    wires: &mut Vec<Scripted>,
+    fails: u64,
+) -> Result<(), Fail>
+    requires least { 1 ≤ fails }
+    requires most { fails ≤ 11 }
+{
+    let alloc = rt.alloc();
+    let mut sink = MemSink::new(alloc, 10, 1000, vec![in alloc; fails]?)?;
+    let found = answer_of(rt, words, shelf, &mut sink, wires);
+    compare_cut(rt, &found, &sink, fails);
+    Ok(())
+}
+
+/// The same over eight wires.
 fn stops_over<R: AllocGlobal + Threads + Wait + Sync + Abort>(
     rt: &R,
     words: &[String],
@@ -423,12 +561,8 @@ fn stops_over<R: AllocGlobal + Threads + Wait + Sync + Abort>(
     requires least { 1 ≤ fails }
     requires most { fails ≤ 11 }
 {
-    let alloc = rt.alloc();
-    let mut sink = MemSink::new(alloc, 10, 1000, vec![in alloc; fails]?)?;
-    let mut wires = wires_of(alloc, 8, 0, Fate::Give(0), 0)?;
-    let found = answer_of(rt, words, shelf, &mut sink, &mut wires);
-    compare_cut(rt, &found, &sink, fails);
-    Ok(())
+    let mut wires = wires_of(rt.alloc(), 8, 0, Fate::Give(0), 0)?;
+    stops_by(rt, words, shelf, &mut wires, fails)
 }
 
 /// The same from an image.
@@ -446,12 +580,28 @@ fn stops_at_put<R: AllocGlobal + Threads + Wait + Sync + Abort>(
 }
 
 // The report of 110 bytes goes out ten by ten.
-#[test]
-fn stops_at_each_put(rt: HostRuntime) -> Result<(), Fail> {
-    let image = elf_of(rt.alloc(), RAM_BASE, &TWO_CHILDREN)?;
-    let words = words_of(rt.alloc(), "run guest --clones 2")?;
+fn stops_at_puts<R: AllocGlobal + Threads + Wait + Sync + Abort>(
+    rt: &R,
+    words: &[String],
+    image: &[u8],
+) -> Result<(), Fail> {
     for fails in 1..=11u64 {
-        stops_at_put(&rt, &words, &image, fails)?;
+        stops_at_put(rt, words, image, fails)?;
     }
     Ok(())
+}
+
+/// The same of an image alone.
+fn image_stops_at_puts<R: AllocGlobal + Threads + Wait + Sync + Abort>(
+    rt: &R,
+    image: &[u8],
+) -> Result<(), Fail> {
+    let words = words_of(rt.alloc(), "run guest --clones 2")?;
+    stops_at_puts(rt, &words, image)
+}
+
+#[test]
+fn stops_at_each_put(rt: HostRuntime) -> Result<(), Fail> {
+    let image = two_children(rt.alloc())?;
+    image_stops_at_puts(&rt, &image)
 }

@@ -2,14 +2,13 @@
 //! under the lock stands for it.
 #![tactic(auto)]
 
-mod crossing;
 mod lends;
+mod patience;
 mod plays;
 mod turn;
 mod turns;
 mod view;
 
-pub use crossing::split_beside;
 pub use turn::Turn;
 pub use turns::{Lock, Turns};
 pub use view::{Content, Keeping, Kept, Seat, View};

@@ -1,11 +1,11 @@
 //! The lock.
 ghost use Rattle.std.specs.Prelude.{◌≡◌};
 
+use crate::patience::Patience;
 use crate::plays::{Draws, Learns, Looks, Meets, Parts};
 use crate::turn::Turn;
 use crate::view::{Content, Keeping, Kept, Seat, View};
 use atomic_table::{Table, TableRule};
-use crossbeam_utils::Backoff;
 use std::alloc::{AllocError, Global};
 use std::sync::Wait;
 
@@ -77,13 +77,13 @@ impl<A, N: Drop, T: Kept<A, N> + Drop> Turns<A, N, T> {
         requires { IsDrawn self.now.table.shared.table_id self.now.table.shared.key number seat.old }
         ensures { Comes T.stands self.now.table.shared.key seat.old seat.new }
     {
-        let backoff = Backoff::new();
+        let mut patience = Patience::new();
         for _ in rt.forever() {
             let served = self.table.shared.load::<Looks>(seat, SERVING);
             if served == number && served < MOST {
                 return;
             }
-            backoff.snooze();
+            patience.pass(number, served);
         }
         unreachable!()
     }

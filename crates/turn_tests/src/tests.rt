@@ -3,7 +3,6 @@ use crate::depth::split_three_deep;
 use crate::tally::{Tally, TallyTurns};
 use crate::workers::{eight_workers, two_workers};
 use std::test::Fail;
-use turn_board::split_beside;
 
 /// Whether the tally has each worker's rounds, each once and in order.
 fn keeps_order(tally: &Tally, workers: u8, rounds: u32) -> bool {
@@ -53,21 +52,6 @@ fn seats_are_split_and_joined(rt: HostRuntime) -> Result<(), Fail> {
     let (turns, seat) = TallyTurns::new(rt.alloc(), &(), tally)?;
     let seat = split_three_deep(&turns, seat);
     let tally = turns.close(&rt, seat);
-    assert_eq!(rt; tally.count, 0);
-    Ok(())
-}
-
-#[test]
-fn seats_are_split_in_two_threads(rt: HostRuntime) -> Result<(), Fail> {
-    let tally = Tally {
-        count: 0,
-        order: Vec::new(rt.alloc()),
-    };
-    let (turns, seat) = TallyTurns::new(rt.alloc(), &(), tally)?;
-    let (first, second) = turns.split(seat);
-    let ((first, third), (second, fourth)) = split_beside(&rt, &turns, first, second);
-    let first = turns.join(turns.join(first, third), turns.join(second, fourth));
-    let tally = turns.close(&rt, first);
     assert_eq!(rt; tally.count, 0);
     Ok(())
 }

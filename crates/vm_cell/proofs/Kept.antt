@@ -389,17 +389,6 @@ pub comes-found : (h : KeyedState) (epoch count number : ℕ) (slot : Slot) → 
     → Comes h slot.instr
 comes-found h epoch count number slot kept at aligned = record { word = slot.word; is = (kept.filled h.state.pc at aligned).word; says = kept.says }
 
-pub says-at : (h : KeyedState) (epoch n : ℕ) (slots : List Slot) (d : Slot) → Keeps h epoch slots → n < length slots → decoded (get_or slots n d).word ≡ Some (get_or slots n d).instr
-says-at h epoch n slots d keeps inside = (keeps n d inside).says
-
--- the slot of the coming instruction
-pub coming-found : (h : KeyedState) (epoch n : ℕ) (slots : List Slot) → Keeps h epoch slots → n < length slots → h.state.pc % 4 ≡ 0
-    → HoldsAt (λ slot. slot.place ≡ place_of h.state.pc epoch) slots n → IsComing h slots n
-coming-found h epoch n slots keeps inside aligned at = record {
-  inside = inside;
-  there = λ d. comes-found h epoch (length slots) n (get_or slots n d) (keeps n d inside) (at d) aligned;
-}
-
 pub kept-put : (h : KeyedState) (epoch count number word : ℕ) (slot : Slot) → decoded slot.word ≡ Some slot.instr → slot.place ≡ place_of h.state.pc epoch → slot.word ≡ word
     → h.state.pc < 4294967296 → number ≡ slot_of h.state.pc count → IsWord h h.state.pc word → IsKept h epoch count number slot
 kept-put h epoch count number word slot says at same small place is = record {

@@ -35,6 +35,7 @@ use Rattle.forest_model.specs.Paged.{Change, no_change, change_of, change_of_acc
 use Rattle.vm_cell.specs.declared.hart.Acted.{Acted}
 use Rattle.vm_cell.specs.declared.hart.Acted.TheVariants.{Stalled, Trapped, Interrupted, Retired, Exited, Asked}
 use Rattle.vm_cell.specs.Acts.{Acts, ActsBy, IsMet, ReachesRam}
+use Rattle.vm_cell.specs.Kept.{stored_at}
 use Rattle.vm_cell.specs.Keyed.{IsHere, KeyedMachine, KeyedState, machine_of}
 use Rattle.vm_cell.specs.Plain.{ActsPlainly, AreMade, IsPlain, IsPlainIn, IsPlainStep, IsQuiet, IsStretch, counted_since, recounted, retired_by, timed_by, with_counters}
 use Rattle.vm_cell.specs.Steps.{IsRun}
@@ -286,6 +287,10 @@ by-retired : (old new : KeyedState) (i : Instruction) (acted : Acted) (is_retire
     → MatchBool is_retired (ActsPlainly old new i) (new ≡ old)
 by-retired old new i acted true plain acts told = (plain, λ word. subst (λ a. ActsBy old new (Some i) word (Ok a)) told (acts word))
 by-retired old new i acted false plain acts told = plain-none old new i 0 plain acted (acts 0) told
+
+-- an instruction of a group that is no store stores nothing
+pub not-stored : (g : Group) (i : Instruction) (s : State) → group_of i.kind ≡ g → stored_at g i s ≡ None → stored_at (group_of i.kind) i s ≡ None
+not-stored g i s is beside = subst (λ h. stored_at h i s ≡ None) (sym is) beside
 
 -- what an instruction of a group answers, of one that may be plain
 pub group-acts : (g : Group) (old new : KeyedState) (i : Instruction) (acted : Acted) (is_retired : Bool) → group_of i.kind ≡ g → IsPlainIn g i old.state

@@ -1,15 +1,18 @@
 -- What a machine leaves for its children wakes as they are.
-use Rattle.std.proofs.Common.{◌≡◌, ℕ, ◌+◌, ◌*◌, ◌/◌, ◌≤◌, Bool, List, ◌∷◌, length, drop, Option, Some, None, refl, sym, ap, ◌∙◌, arith}
+use Rattle.std.proofs.Common.{◌≡◌, ℕ, ◌+◌, ◌*◌, ◌/◌, ◌≤◌, ◌<◌, Bool, true, false, cond, eqb, List, ◌∷◌, length, drop, Option, Some, None, refl, sym, ap, ◌∙◌, subst, arith}
+use Rattle.std.proofs.lemmas.Bool.Decides.{nat_tests}
 use Rattle.std.specs.Option.{IfSome}
 use Rattle.elf_load.specs.declared.image.TheConstants.{PAGE_SIZE}
 use Rattle.fork_port.specs.declared.commands.Call.TheVariants.{Clone}
 use Rattle.fork_port.specs.declared.tickets.Ticket.{Ticket}
-use Rattle.fork_port.specs.Registers.{ticket_found}
+use Rattle.fork_port.specs.declared.ending.Ending.{Ending}
+use Rattle.fork_port.specs.declared.ending.Ending.TheVariants.{Limit}
+use Rattle.fork_port.specs.Registers.{ForkRegisters, registers_of, ticket_found}
 use Rattle.fork_port.specs.Children.{after_clone}
 use Rattle.port_rules.specs.Rules.{grant_of}
 use Rattle.page_frames.proofs.Memory.{length-paged}
 use Rattle.vm_descriptor.specs.declared.descriptor.Descriptor.{Descriptor}
-use Rattle.vm_descriptor.specs.declared.descriptor.TheConstants.{MAX_CLONES}
+use Rattle.vm_descriptor.specs.declared.descriptor.TheConstants.{MAX_CLONES, MAX_SHARE}
 use Rattle.vm_descriptor.specs.Descriptor.{IsInRange, IsRamWord, numbered}
 use Rattle.image_depot.specs.Image.{FrozenImage}
 use Rattle.image_depot.specs.Key.{Key, number_of, image_of}
@@ -23,7 +26,8 @@ use Rattle.forest_model.specs.Paged.{pages_at_birth}
 use Rattle.vm_cell.specs.Hart.{IsWordOf}
 use Rattle.vm_cell.specs.Standing.{IsAsked, made}
 use Rattle.vm_cell.specs.Keyed.{KeyedMachine}
-use Rattle.vm_cell.specs.Woken.{IsBlankMap, IsSeed, image_left, seed_of, woken, woken_machine}
+use Rattle.vm_cell.specs.Steps.{IsCounted, IsFunded}
+use Rattle.vm_cell.specs.Woken.{IsBlankMap, IsSeed, image_left, port_fields, seed_of, woken, woken_machine}
 
 -- ---- the hart of a clone
 
@@ -39,6 +43,29 @@ reserved (Some address) pages size e h = record {
   from_base = h.from_base;
   below_end = let below = h.below_end in omega arith;
 }
+
+-- a descriptor that is not at its limit lets a step be made
+unlimited : (at_limit : Bool) (steps limit : ℕ) (ending : Option Ending) → eqb steps limit ≡ at_limit → steps ≤ limit
+    → ending ≡ cond at_limit (Some Limit) None → ending ≡ None → steps < limit
+unlimited true steps limit ending e within ends none = absurd (cc)
+unlimited false steps limit ending e within ends none = grind (arith, nat_tests)
+
+-- the counts of a clone, which has no ticket yet
+pub counted_woken : (d : Descriptor) (ending : Option Ending) (fork : ForkRegisters) → IsInRange d → ending ≡ cond (eqb d.steps d.limit) (Some Limit) None
+    → fork ≡ registers_of (port_fields d).fork → IsCounted d.steps d.limit ending fork
+counted_woken d ending fork in_range ends is =
+    let share : d.share ≤ MAX_SHARE = in_range.clone.share in
+    let next : fork.next_ticket ≡ 1 = ap (λ (f : ForkRegisters). f.next_ticket) is in
+    record {
+      within = in_range.limit.steps;
+      live = unlimited (eqb d.steps d.limit) d.steps d.limit ending refl in_range.limit.steps ends;
+      most = in_range.limit.most;
+      tickets = omega (arith, next);
+      funded = subst IsFunded (sym is) (record {
+        accounted = record { balanced = record { kept = omega arith; fits = omega (arith, share); below = tt; for_children = tt }; rising = tt };
+        most = omega (arith, share);
+      });
+    }
 
 pub blank_map : (ram : Ram) → IsRam ram → IsBlankMap ram.reads ram.blank
 blank_map ram is_ram = record {

@@ -66,24 +66,21 @@ module _ (v : KeyedMachine) (hart : KeyedState) (live : v.machine.ending ≡ Non
     is_counted s is = after_count m hart counted s steps ending live is made ends
 
     -- a trap, of a hart that has done nothing
-    is_trapped : (cause value : ℕ) (trapping : KeyedState) → hart.state ≡ m.state → trapping ≡ record hart { state = trapped cause value hart.state }
-        → counted ≡ record trapping { state = count false Nothing trapping.state }
+    is_trapped : (cause value : ℕ) → hart.state ≡ m.state → counted ≡ record hart { state = count false Nothing (trapped cause value hart.state) }
         → counted ≡ record hart { state = count false Nothing (trapped cause value m.state) }
-    is_trapped cause value trapping same traps counts =
-        counts ∙ ap (λ (h : KeyedState). record h { state = count false Nothing h.state }) traps
-        ∙ ap (λ s. record hart { state = count false Nothing (trapped cause value s) }) same
+    is_trapped cause value same traps = traps ∙ ap (λ s. record hart { state = count false Nothing (trapped cause value s) }) same
 
-    pub goes_trapped : (cause value : ℕ) (trapping : KeyedState) → ActsNext (hart_in v) hart (Ok (Trapped cause value))
-        → trapping ≡ record hart { state = trapped cause value hart.state } → counted ≡ record trapping { state = count false Nothing trapping.state } → Goes
-    goes_trapped cause value trapping acts traps counts =
+    pub goes_trapped : (cause value : ℕ) → ActsNext (hart_in v) hart (Ok (Trapped cause value))
+        → counted ≡ record hart { state = count false Nothing (trapped cause value hart.state) } → Goes
+    goes_trapped cause value acts traps =
         goes (trap cause value) (Trapped cause value) _ acts.0 acts.1.tells.0 acts.1 refl refl
-        (is_counted _ (is_trapped cause value trapping acts.1.tells.1 traps counts))
+        (is_counted _ (is_trapped cause value acts.1.tells.1 traps))
 
-    pub goes_interrupted : (trapping : KeyedState) → ActsNext (hart_in v) hart (Ok Interrupted)
-        → trapping ≡ record hart { state = trapped TIMER_INTERRUPT 0 hart.state } → counted ≡ record trapping { state = count false Nothing trapping.state } → Goes
-    goes_interrupted trapping acts traps counts =
+    pub goes_interrupted : ActsNext (hart_in v) hart (Ok Interrupted)
+        → counted ≡ record hart { state = count false Nothing (trapped TIMER_INTERRUPT 0 hart.state) } → Goes
+    goes_interrupted acts traps =
         goes interrupt Interrupted _ acts.0 acts.1.tells.0 acts.1 refl refl
-        (is_counted _ (is_trapped TIMER_INTERRUPT 0 trapping acts.1.tells.1 traps counts))
+        (is_counted _ (is_trapped TIMER_INTERRUPT 0 acts.1.tells.1 traps))
 
     pub goes_retired : (written : Written) → ActsNext (hart_in v) hart (Ok (Retired written))
         → counted ≡ record hart { state = count true written hart.state } → Goes

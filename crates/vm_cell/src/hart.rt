@@ -258,11 +258,20 @@ impl Hart {
     }
 
     /// Takes a trap.
-    pub fn take_trap(&mut self, cause: u32, value: u32)
+    fn take_trap(&mut self, cause: u32, value: u32)
         ensures { self.new ≡ record self.old { state = trapped cause value self.old.state } }
     {
         self.pc = self.csrs.enter(cause, value, self.pc);
         self.reservation = None;
+    }
+
+    /// Takes a trap, and counts it as a step that retired nothing.
+    #[inline]
+    pub fn trap(&mut self, cause: u32, value: u32)
+        ensures { self.new ≡ record self.old { state = count false Written.Nothing (trapped cause value self.old.state) } }
+    {
+        self.take_trap(cause, value);
+        self.count(false, Written::Nothing);
     }
 
     /// Counts a step, which retired an instruction or did not, and wrote this of the counters.

@@ -400,14 +400,12 @@ impl Vm {
         match self.hart.act()? {
             Acted::Stalled(page) => Ok(Some(Stepped::Stall(page))),
             Acted::Trapped { cause, value } => {
-                self.hart.take_trap(cause, value);
-                self.hart.count(false, Written::Nothing);
+                self.hart.trap(cause, value);
                 count_step(&mut self.steps, self.limit, &mut self.ending);
                 Ok(None)
             }
             Acted::Interrupted => {
-                self.hart.take_trap(TIMER_INTERRUPT, 0);
-                self.hart.count(false, Written::Nothing);
+                self.hart.trap(TIMER_INTERRUPT, 0);
                 count_step(&mut self.steps, self.limit, &mut self.ending);
                 Ok(None)
             }

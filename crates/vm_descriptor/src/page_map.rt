@@ -37,14 +37,7 @@ impl PageMap {
         PageMap { flags }
     }
 
-    /// The flags. It takes no memory.
-    pub fn into_vec(self) -> Vec<bool>
-        ensures { result.items ≡ self }
-    {
-        let PageMap { flags } = self;
-        flags
-    }
-
+    /// The flags.
     pub fn flags(&self) -> &[bool]
         ensures { result.now ≡ self.now }
     {

@@ -6,7 +6,8 @@ ghost use Rattle.image_depot.specs.Key.{IsKeyOf};
 ghost use Rattle.vm_cell.specs.Keyed.{IsOfDepot};
 ghost use Rattle.vm_cell.specs.Woken.{AreOfImage};
 
-use crate::machine::{booted_at, fork};
+use crate::fetched::fetches_two;
+use crate::machine::{Course, machine_does, run_and_fork};
 use elf_load::RAM_BASE;
 use forest_model::Ending;
 use image_depot::Depot;
@@ -16,24 +17,6 @@ use std::sync::Wait;
 use std::test::Fail;
 use vm_cell::{Arrived, Brood, Stepped, Vm};
 
-// The CLONE of one child that the machine of these words makes, from a base on.
-fn brood_of<R: Wait>(
-    rt: &R,
-    alloc: Global,
-    base: u32,
-    words: &[u32],
-    depot: &Depot,
-) -> Result<Brood, Fail>
-    requires base { base % 4 ≡ 0 }
-    requires words { length words.now ≤ 64 }
-    ensures here { IfOk result (λ brood. IsKeyOf depot.now brood.key) }
-    ensures seeds { IfOk result (λ brood. AreOfImage brood.key 1 brood.seed) }
-{
-    let mut vm = booted_at(alloc, base, words, 16)?;
-    vm.run(1000)?;
-    fork(rt, alloc, &mut vm, 1, depot)
-}
-
 // The child of a brood of one.
 fn first_of(alloc: Global, brood: &Brood, depot: &Depot) -> Result<Vm, Fail>
     requires here { IsKeyOf depot.now brood.now.key }
@@ -42,22 +25,6 @@ fn first_of(alloc: Global, brood: &Brood, depot: &Depot) -> Result<Vm, Fail>
 {
     let seed = brood.seed.through_bytes(alloc, 1)?;
     Ok(Vm::wake(alloc, &seed, &brood.key, depot)?)
-}
-
-// The first child of the machine of these words, from a base on, which forks.
-pub(crate) fn child_of<R: Wait>(
-    rt: &R,
-    alloc: Global,
-    base: u32,
-    words: &[u32],
-    depot: &Depot,
-) -> Result<Vm, Fail>
-    requires base { base % 4 ≡ 0 }
-    requires words { length words.now ≤ 64 }
-    ensures { IfOk result (λ vm. IsOfDepot depot.now vm.key) }
-{
-    let brood = brood_of(rt, alloc, base, words, depot)?;
-    first_of(alloc, &brood, depot)
 }
 
 // Brings a page to a clone, from its image.
@@ -75,19 +42,80 @@ pub(crate) fn bring(alloc: Global, vm: &mut Vm, depot: &Depot, page: u32) -> Res
     Ok(vm.arrive(alloc, depot, &parcel)?)
 }
 
-// Runs a clone to its end, and tells the pages that it waited for.
-fn stalls_of(alloc: Global, vm: &mut Vm, depot: &Depot) -> Result<Vec<u32>, Fail>
+// What a child does once it is born.
+#[derive(Clone, Copy)]
+pub(crate) enum ChildCourse<'a> {
+    // It waits for these pages, one after another, and exits with a value.
+    WaitsFor(&'a [u32], u32),
+    // It wants the page of its code, whose first instruction wants page 1, and exits with the word of that.
+    CodeThenData,
+    // It gets the page of its code and makes a step, and wants no page then.
+    GoesOnce,
+    // It makes a step without any page, and waits for page 2 then.
+    GoesAndStalls,
+    // It fetches the page that it wants and the next.
+    Fetches,
+}
+
+fn goes_its_course<R: Abort + Wait>(
+    rt: &R,
+    alloc: Global,
+    child: &mut Vm,
+    depot: &Depot,
+    course: ChildCourse<'_>,
+) -> Result<(), Fail>
+    requires { IsOfDepot depot.now child.old.key }
+{
+    match course {
+        ChildCourse::WaitsFor(pages, value) => waits_for(rt, alloc, child, depot, pages, value),
+        ChildCourse::CodeThenData => waits_for_one_then_the_other(rt, alloc, child, depot),
+        ChildCourse::GoesOnce => goes_once(rt, alloc, child, depot),
+        ChildCourse::GoesAndStalls => goes_and_stalls(rt, child),
+        ChildCourse::Fetches => fetches_two(rt, alloc, child, depot),
+    }
+}
+
+// The child of a brood of one goes its course.
+fn first_goes<R: Abort + Wait>(
+    rt: &R,
+    alloc: Global,
+    brood: &Brood,
+    depot: &Depot,
+    course: ChildCourse<'_>,
+) -> Result<(), Fail>
+    requires here { IsKeyOf depot.now brood.now.key }
+    requires seeds { AreOfImage brood.now.key 1 brood.now.seed }
+{
+    let mut child = first_of(alloc, brood, depot)?;
+    goes_its_course(rt, alloc, &mut child, depot, course)
+}
+
+// Runs a machine to its CLONE of one child, which then goes its course.
+pub(crate) fn bears<R: Abort + Wait>(
+    rt: &R,
+    alloc: Global,
+    vm: &mut Vm,
+    depot: &Depot,
+    course: ChildCourse<'_>,
+) -> Result<(), Fail>
     requires { IsOfDepot depot.now vm.old.key }
 {
-    let mut stalls = Vec::new(alloc);
-    'runs: for _ in 0..8 {
-        let Stepped::Stall(page) = vm.run(1000)?.why else {
-            return Ok(stalls);
-        };
-        bring(alloc, vm, depot, page)?;
-        stalls.push(page)?;
-    }
-    Err("it stalls on".into())
+    let brood = run_and_fork(rt, alloc, vm, 1, depot)?;
+    first_goes(rt, alloc, &brood, depot, course)
+}
+
+// The first child of the machine of these words, from a base on, goes its course.
+pub(crate) fn child_does<R: Abort + Wait>(
+    rt: &R,
+    alloc: Global,
+    base: u32,
+    words: &[u32],
+    course: ChildCourse<'_>,
+) -> Result<(), Fail>
+    requires base { base % 4 ≡ 0 }
+    requires words { length words.now ≤ 64 }
+{
+    machine_does(rt, alloc, base, words, 16, Course::Bears(course))
 }
 
 // A word of page 1 becomes 17, and one child is born, which exits with that word.
@@ -99,17 +127,7 @@ static LOADS: [u32; 16] = [
 // The first instruction of the child is a load from another page.
 #[test]
 fn the_code_page_is_wanted_before_that_of_the_data(rt: HostRuntime) -> Result<(), Fail> {
-    let depot = Depot::new(rt.alloc())?;
-    waits_for_code_and_data(&rt, rt.alloc(), &depot)
-}
-
-fn waits_for_code_and_data<R: Abort + Wait>(
-    rt: &R,
-    alloc: Global,
-    depot: &Depot,
-) -> Result<(), Fail> {
-    let mut child = child_of(rt, alloc, RAM_BASE, &LOADS, depot)?;
-    waits_for_one_then_the_other(rt, alloc, &mut child, depot)
+    child_does(&rt, rt.alloc(), RAM_BASE, &LOADS, ChildCourse::CodeThenData)
 }
 
 fn waits_for_one_then_the_other(
@@ -122,17 +140,22 @@ fn waits_for_one_then_the_other(
 {
     wants_the_code(rt, child, depot);
     gets_the_code_once(rt, alloc, child, depot)?;
+    wants_the_data(rt, child)?;
     waits_for(rt, alloc, child, depot, &[1], 17)?;
-    assert_eq!(rt; child.steps(), 16);
+    has_made(rt, child, 16);
     Ok(())
+}
+
+fn has_made(rt: &impl Abort, child: &Vm, steps: u64) {
+    assert_eq!(rt; child.steps(), steps);
 }
 
 // Which page a clone wants that starts, and a word of another page, which is absent too.
 fn wants_the_code(rt: &impl Abort, child: &Vm, depot: &Depot)
     requires { IsOfDepot depot.now child.now.key }
 {
-    let found = (child.wanted(), child.peek(depot, 0x8000_1000));
-    assert_eq!(rt; found, (Some(0), Some(17)));
+    let found = [child.wanted(), child.peek(depot, 0x8000_1000)];
+    assert_eq!(rt; found, [Some(0), Some(17)]);
 }
 
 fn gets_the_code_once(
@@ -147,7 +170,14 @@ fn gets_the_code_once(
     let first = bring(alloc, child, depot, 0)?;
     let again = bring(alloc, child, depot, 0)?;
     assert_eq!(rt; [first, again], [Arrived::Got(0), Arrived::Had(0)]);
-    assert_eq!(rt; child.step()?, Stepped::Stall(1));
+    Ok(())
+}
+
+fn wants_the_data(rt: &impl Abort, child: &mut Vm) -> Result<(), Fail>
+    ensures { child.new.key ≡ child.old.key }
+{
+    let stepped = child.step()?;
+    assert_eq!(rt; stepped, Stepped::Stall(1));
     Ok(())
 }
 
@@ -159,35 +189,11 @@ static LOADS_AT_THE_BORDER: [u32; 16] = [
 
 #[test]
 fn a_page_that_is_left_behind_is_not_wanted(rt: HostRuntime) -> Result<(), Fail> {
-    let depot = Depot::new(rt.alloc())?;
-    child_waits_for(
-        &rt,
-        rt.alloc(),
-        &depot,
-        0x8000_0fd0,
-        &LOADS_AT_THE_BORDER,
-        &[1, 2],
-        17,
-    )
+    let course = ChildCourse::WaitsFor(&[1, 2], 17);
+    child_does(&rt, rt.alloc(), 0x8000_0fd0, &LOADS_AT_THE_BORDER, course)
 }
 
-// The first child of the machine of these words, from a base on, waits for these pages, and exits with a value.
-fn child_waits_for<R: Abort + Wait>(
-    rt: &R,
-    alloc: Global,
-    depot: &Depot,
-    base: u32,
-    words: &[u32],
-    pages: &[u32],
-    value: u32,
-) -> Result<(), Fail>
-    requires base { base % 4 ≡ 0 }
-    requires words { length words.now ≤ 64 }
-{
-    let mut child = child_of(rt, alloc, base, words, depot)?;
-    waits_for(rt, alloc, &mut child, depot, pages, value)
-}
-
+// A child waits for these pages, one after another, and then exits with a value.
 fn waits_for(
     rt: &impl Abort,
     alloc: Global,
@@ -198,11 +204,31 @@ fn waits_for(
 ) -> Result<(), Fail>
     requires { IsOfDepot depot.now child.old.key }
 {
-    let stalls = stalls_of(alloc, child, depot)?;
-    assert_eq!(rt;
-        (stalls.as_slice(), child.ended()),
-        (pages, Some(Ending::Exit(value)))
-    );
+    'waits: for page in pages {
+        waits_for_page(rt, alloc, child, depot, *page)?;
+    }
+    exits_with(rt, child, value)
+}
+
+fn waits_for_page(
+    rt: &impl Abort,
+    alloc: Global,
+    child: &mut Vm,
+    depot: &Depot,
+    page: u32,
+) -> Result<(), Fail>
+    requires { IsOfDepot depot.now child.old.key }
+    ensures { OnOk result (child.new.key ≡ child.old.key) }
+{
+    let stalled = child.run(1000)?.why;
+    assert_eq!(rt; stalled, Stepped::Stall(page));
+    bring(alloc, child, depot, page)?;
+    Ok(())
+}
+
+fn exits_with(rt: &impl Abort, child: &mut Vm, value: u32) -> Result<(), Fail> {
+    child.run(1000)?;
+    assert_eq!(rt; child.ended(), Some(Ending::Exit(value)));
     Ok(())
 }
 
@@ -214,8 +240,8 @@ static FAILING_SC: [u32; 16] = [
 
 #[test]
 fn an_sc_that_fails_wants_no_page(rt: HostRuntime) -> Result<(), Fail> {
-    let depot = Depot::new(rt.alloc())?;
-    child_waits_for(&rt, rt.alloc(), &depot, RAM_BASE, &FAILING_SC, &[0], 1)
+    let course = ChildCourse::WaitsFor(&[0], 1);
+    child_does(&rt, rt.alloc(), RAM_BASE, &FAILING_SC, course)
 }
 
 // The child loads a word of page 1 from an address that is no multiple of 4, and traps to address 0.
@@ -226,17 +252,13 @@ static MISALIGNED_LOAD: [u32; 13] = [
 
 #[test]
 fn an_access_that_traps_wants_no_page(rt: HostRuntime) -> Result<(), Fail> {
-    let depot = Depot::new(rt.alloc())?;
-    traps_with_the_code_alone(&rt, rt.alloc(), &depot)
-}
-
-fn traps_with_the_code_alone<R: Abort + Wait>(
-    rt: &R,
-    alloc: Global,
-    depot: &Depot,
-) -> Result<(), Fail> {
-    let mut child = child_of(rt, alloc, RAM_BASE, &MISALIGNED_LOAD, depot)?;
-    goes_once(rt, alloc, &mut child, depot)
+    child_does(
+        &rt,
+        rt.alloc(),
+        RAM_BASE,
+        &MISALIGNED_LOAD,
+        ChildCourse::GoesOnce,
+    )
 }
 
 // Gets the page of its code and makes a step, and wants no page then.
@@ -262,8 +284,8 @@ static ZEROED_PAGE: [u32; 28] = [
 
 #[test]
 fn a_page_that_is_zeroed_is_not_wanted(rt: HostRuntime) -> Result<(), Fail> {
-    let depot = Depot::new(rt.alloc())?;
-    child_waits_for(&rt, rt.alloc(), &depot, RAM_BASE, &ZEROED_PAGE, &[0], 0)
+    let course = ChildCourse::WaitsFor(&[0], 0);
+    child_does(&rt, rt.alloc(), RAM_BASE, &ZEROED_PAGE, course)
 }
 
 // The timer is due when the child is born, and the handler is in page 2.
@@ -275,20 +297,21 @@ static TIMER_AT_FORK: [u32; 19] = [
 
 #[test]
 fn an_interrupt_wants_no_page(rt: HostRuntime) -> Result<(), Fail> {
-    let depot = Depot::new(rt.alloc())?;
-    is_interrupted(&rt, rt.alloc(), &depot)
-}
-
-fn is_interrupted<R: Abort + Wait>(rt: &R, alloc: Global, depot: &Depot) -> Result<(), Fail> {
-    let mut child = child_of(rt, alloc, RAM_BASE, &TIMER_AT_FORK, depot)?;
-    goes_and_stalls(rt, &mut child)
+    child_does(
+        &rt,
+        rt.alloc(),
+        RAM_BASE,
+        &TIMER_AT_FORK,
+        ChildCourse::GoesAndStalls,
+    )
 }
 
 fn goes_and_stalls(rt: &impl Abort, child: &mut Vm) -> Result<(), Fail> {
     let wanted = child.wanted();
-    let stepped = [child.step()?, child.step()?];
+    let first = child.step()?;
+    let second = child.step()?;
     assert_eq!(rt;
-        (wanted, stepped),
+        (wanted, [first, second]),
         (None, [Stepped::Went, Stepped::Stall(2)])
     );
     Ok(())

@@ -2,9 +2,9 @@
 
 ghost use Rattle.vm_cell.specs.Keyed.{IsOfDepot};
 
-use crate::absent::child_of;
+use crate::absent::{ChildCourse, child_does};
 use elf_load::RAM_BASE;
-use host_fetch::fetch;
+use host_fetch::{FetchError, fetch};
 use image_depot::Depot;
 use std::alloc::Global;
 use std::process::Abort;
@@ -24,13 +24,10 @@ static GRANDCHILD: [u32; 40] = [
 
 #[test]
 fn a_child_fetches_a_page_and_the_next(rt: HostRuntime) -> Result<(), Fail> {
-    let depot = Depot::new(rt.alloc())?;
-    let mut child = child_of(&rt, rt.alloc(), RAM_BASE, &GRANDCHILD, &depot)?;
-    fetches_two(&rt, rt.alloc(), &mut child, &depot)
+    child_does(&rt, rt.alloc(), RAM_BASE, &GRANDCHILD, ChildCourse::Fetches)
 }
 
-// The reply with page 1 comes before the one with page 0, which the child wants. Page 2 is blank, and so it is here.
-fn fetches_two<R: Abort + Wait>(
+pub(crate) fn fetches_two<R: Abort + Wait>(
     rt: &R,
     alloc: Global,
     child: &mut Vm,
@@ -38,15 +35,44 @@ fn fetches_two<R: Abort + Wait>(
 ) -> Result<(), Fail>
     requires { IsOfDepot depot.now child.old.key }
 {
-    let mut wire = Scripted::new(vec![in alloc; Fate::Give(1), Fate::Give(0)]?);
-    let mut pushed = Vec::new(alloc);
-    let before = first_here(child);
-    let answer = fetch(rt, alloc, child, depot, &mut wire, 1, &mut pushed);
+    let fetched = fetched_of(rt, alloc, child, depot)?;
     assert_eq!(rt;
-        (before, answer, first_here(child), pushed.len()),
+        fetched,
         ([false, false, true], Ok(()), [true, true, true], 2)
     );
     Ok(())
+}
+
+// Which of the first three pages are here before a fetch, what it answers, which are here then, and how many replies
+// it has told.
+type Fetched = ([bool; 3], Result<(), FetchError>, [bool; 3], usize);
+
+// The reply with page 1 comes before the one with page 0, which the child wants. Page 2 is blank, and so it is here.
+fn fetched_of<R: Wait>(
+    rt: &R,
+    alloc: Global,
+    child: &mut Vm,
+    depot: &Depot,
+) -> Result<Fetched, Fail>
+    requires { IsOfDepot depot.now child.old.key }
+{
+    let mut wire = Scripted::new(vec![in alloc; Fate::Give(1), Fate::Give(0)]?);
+    Ok(fetched_over(rt, alloc, child, depot, &mut wire))
+}
+
+fn fetched_over<R: Wait>(
+    rt: &R,
+    alloc: Global,
+    child: &mut Vm,
+    depot: &Depot,
+    wire: &mut Scripted,
+) -> Fetched
+    requires { IsOfDepot depot.now child.old.key }
+{
+    let mut told = Vec::new(alloc);
+    let before = first_here(child);
+    let answer = fetch(rt, alloc, child, depot, wire, 1, &mut told);
+    (before, answer, first_here(child), told.len())
 }
 
 // Whether the first three pages are here.

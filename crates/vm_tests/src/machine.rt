@@ -6,7 +6,7 @@ ghost use Rattle.forest_model.specs.Forest.{port_of};
 ghost use Rattle.vm_cell.specs.Keyed.{IsOfDepot};
 ghost use Rattle.vm_cell.specs.Woken.{AreOfImage};
 
-use crate::absent::bring;
+use crate::absent::{ChildCourse, bears, bring};
 use cow_disk::Disk;
 use elf_load::{Loaded, RAM_BASE, load_elf};
 use forest_model::{Ending, Options};
@@ -19,17 +19,6 @@ use std::sync::Wait;
 use std::test::Fail;
 use vm_cell::{Brood, Stepped, Vm};
 use vm_descriptor::{DescError, Descriptor};
-
-// A machine of these words with so many pages, that makes at most 1,000,000 steps and may have two clones.
-fn booted(alloc: Global, words: &[u32], pages: u32) -> Result<Vm, Fail>
-    requires words { length words.now ≤ 64 }
-    requires least { 16 ≤ pages }
-    requires most { pages ≤ 1024 }
-    ensures no_ticket { IfOk result (λ vm. (port_of vm.machine).tickets ≡ []) }
-    ensures no_image { IfOk result (λ vm. vm.key ≡ None) }
-{
-    booted_at(alloc, RAM_BASE, words, pages)
-}
 
 // The image of these words from a base on, in RAM of so many pages.
 pub(crate) fn loaded_at(alloc: Global, base: u32, words: &[u32], pages: u32) -> Result<Loaded, Fail>
@@ -57,7 +46,7 @@ fn booted_of(alloc: Global, image: &Loaded) -> Result<Vm, Fail>
 }
 
 // The machine of these words, from a base on.
-pub(crate) fn booted_at(alloc: Global, base: u32, words: &[u32], pages: u32) -> Result<Vm, Fail>
+fn booted_at(alloc: Global, base: u32, words: &[u32], pages: u32) -> Result<Vm, Fail>
     requires base { base % 4 ≡ 0 }
     requires words { length words.now ≤ 64 }
     requires least { 16 ≤ pages }
@@ -71,25 +60,87 @@ pub(crate) fn booted_at(alloc: Global, base: u32, words: &[u32], pages: u32) -> 
 
 static EXIT_SEVEN: [u32; 5] = [0x100022b7, 0x00700313, 0x0062a023, 0x00500313, 0x0062a423];
 
-#[test]
-fn shows_words_and_registers(rt: HostRuntime) -> Result<(), Fail> {
-    let depot = Depot::new(rt.alloc())?;
-    shows_after_two_steps(&rt, rt.alloc(), &depot)
+// What a machine does once it is made.
+#[derive(Clone, Copy)]
+pub(crate) enum Course<'a> {
+    // It shows its words and registers after two steps.
+    Shows,
+    // It stops, goes on and ends with the value 7.
+    GoesOn,
+    // It makes two children, and joins them.
+    Joins,
+    // It makes two children, the first of which has a descriptor.
+    Describes,
+    // It makes a child, which goes a course of its own.
+    Bears(ChildCourse<'a>),
 }
 
-fn shows_after_two_steps(rt: &impl Abort, alloc: Global, depot: &Depot) -> Result<(), Fail> {
-    let vm = booted_and_run(alloc)?;
-    shows(rt, &vm, depot);
-    Ok(())
+fn goes_its_course<R: Abort + Wait>(
+    rt: &R,
+    alloc: Global,
+    vm: &mut Vm,
+    depot: &Depot,
+    course: Course<'_>,
+) -> Result<(), Fail>
+    requires { IsOfDepot depot.now vm.old.key }
+{
+    match course {
+        Course::Shows => runs_and_shows(rt, vm, depot),
+        Course::GoesOn => goes_on(rt, vm),
+        Course::Joins => joins_both(rt, alloc, vm, depot),
+        Course::Describes => describes_a_child(rt, alloc, vm, depot),
+        Course::Bears(child) => bears(rt, alloc, vm, depot, child),
+    }
+}
+
+fn machine_in_depot_does<R: Abort + Wait>(
+    rt: &R,
+    alloc: Global,
+    base: u32,
+    words: &[u32],
+    pages: u32,
+    course: Course<'_>,
+    depot: &Depot,
+) -> Result<(), Fail>
+    requires base { base % 4 ≡ 0 }
+    requires words { length words.now ≤ 64 }
+    requires least { 16 ≤ pages }
+    requires most { pages ≤ 1024 }
+{
+    let mut vm = booted_at(alloc, base, words, pages)?;
+    goes_its_course(rt, alloc, &mut vm, depot, course)
+}
+
+// The machine of these words, from a base on, with so many pages, goes its course.
+pub(crate) fn machine_does<R: Abort + Wait>(
+    rt: &R,
+    alloc: Global,
+    base: u32,
+    words: &[u32],
+    pages: u32,
+    course: Course<'_>,
+) -> Result<(), Fail>
+    requires base { base % 4 ≡ 0 }
+    requires words { length words.now ≤ 64 }
+    requires least { 16 ≤ pages }
+    requires most { pages ≤ 1024 }
+{
+    let depot = Depot::new(alloc)?;
+    machine_in_depot_does(rt, alloc, base, words, pages, course, &depot)
+}
+
+#[test]
+fn shows_words_and_registers(rt: HostRuntime) -> Result<(), Fail> {
+    machine_does(&rt, rt.alloc(), RAM_BASE, &EXIT_SEVEN, 64, Course::Shows)
 }
 
 // The machine that exits with 7, after two steps.
-fn booted_and_run(alloc: Global) -> Result<Vm, Fail>
-    ensures { IfOk result (λ vm. vm.key ≡ None) }
+fn runs_and_shows(rt: &impl Abort, vm: &mut Vm, depot: &Depot) -> Result<(), Fail>
+    requires { IsOfDepot depot.now vm.old.key }
 {
-    let mut vm = booted(alloc, &EXIT_SEVEN, 64)?;
     vm.run(2)?;
-    Ok(vm)
+    shows(rt, vm, depot);
+    Ok(())
 }
 
 fn shows(rt: &impl Abort, vm: &Vm, depot: &Depot)
@@ -112,20 +163,29 @@ fn shows(rt: &impl Abort, vm: &Vm, depot: &Depot)
 
 #[test]
 fn stops_and_goes_on(rt: HostRuntime) -> Result<(), Fail> {
-    let mut vm = booted(rt.alloc(), &EXIT_SEVEN, 64)?;
-    goes_on(&rt, &mut vm)
+    machine_does(&rt, rt.alloc(), RAM_BASE, &EXIT_SEVEN, 64, Course::GoesOn)
 }
 
 fn goes_on(rt: &impl Abort, vm: &mut Vm) -> Result<(), Fail> {
-    let ran = vm.run(3)?;
-    let stepped = [vm.step()?, vm.step()?, vm.step()?];
-    let last = vm.run(3)?;
+    let (steps, stops) = gone_on(vm)?;
     let ended = Stepped::Ended(Ending::Exit(7));
-    assert_eq!(rt;
-        ([ran.steps, last.steps, vm.steps()], ran.why, stepped),
-        ([3, 0, 5], Stepped::Went, [Stepped::Went, ended, ended])
-    );
+    assert_eq!(rt; steps, [3, 0, 5]);
+    assert_eq!(rt; stops, [Stepped::Went, Stepped::Went, ended, ended]);
     Ok(())
+}
+
+// How many steps a machine makes by a run, by a run after three more steps, and in all; and what comes of the first
+// run and of each of the three steps.
+fn gone_on(vm: &mut Vm) -> Result<([u64; 3], [Stepped; 4]), Fail> {
+    let ran = vm.run(3)?;
+    let first = vm.step()?;
+    let second = vm.step()?;
+    let third = vm.step()?;
+    let last = vm.run(3)?;
+    Ok((
+        [ran.steps, last.steps, vm.steps()],
+        [ran.why, first, second, third],
+    ))
 }
 
 // Two children that exit with 40 and their number, whom the parent joins, to exit with the value of the
@@ -138,7 +198,7 @@ static TWO_CHILDREN: [u32; 25] = [
 ];
 
 // Makes the CLONE that a machine stands at, of a ticket for so many children.
-pub(crate) fn fork<R: Wait>(
+fn fork<R: Wait>(
     rt: &R,
     alloc: Global,
     vm: &mut Vm,
@@ -155,6 +215,22 @@ pub(crate) fn fork<R: Wait>(
         }
         _ => Err("no CLONE".into()),
     }
+}
+
+// Runs a machine to its CLONE, and makes it.
+pub(crate) fn run_and_fork<R: Wait>(
+    rt: &R,
+    alloc: Global,
+    vm: &mut Vm,
+    children: u32,
+    depot: &Depot,
+) -> Result<Brood, Fail>
+    requires { IsOfDepot depot.now vm.old.key }
+    ensures here { IfOk result (λ brood. IsKeyOf depot.now brood.key) }
+    ensures seeds { IfOk result (λ brood. AreOfImage brood.key children brood.seed) }
+{
+    vm.run(1000)?;
+    fork(rt, alloc, vm, children, depot)
 }
 
 // How the two children of a brood end.
@@ -212,13 +288,7 @@ fn join(vm: &mut Vm, endings: &[Ending]) -> Result<(), Fail> {
 
 #[test]
 fn a_parent_joins_its_children(rt: HostRuntime) -> Result<(), Fail> {
-    let depot = Depot::new(rt.alloc())?;
-    joins_its_children(&rt, rt.alloc(), &depot)
-}
-
-fn joins_its_children<R: Abort + Wait>(rt: &R, alloc: Global, depot: &Depot) -> Result<(), Fail> {
-    let mut vm = booted(alloc, &TWO_CHILDREN, 64)?;
-    joins_both(rt, alloc, &mut vm, depot)
+    machine_does(&rt, rt.alloc(), RAM_BASE, &TWO_CHILDREN, 64, Course::Joins)
 }
 
 // Runs a machine to its CLONE, both children to their ends, and the machine then to its own.
@@ -232,14 +302,13 @@ fn joins_both<R: Abort + Wait>(
 {
     let first = vm.run(1000)?.why;
     let endings = ends_of_both(rt, alloc, vm, depot)?;
-    assert_eq!(rt;
-        (first, endings),
-        (
-            Stepped::Call(Call::Clone(1)),
-            [Ending::Exit(41), Ending::Exit(42)]
-        )
-    );
+    are_born_and_end(rt, first, endings);
     ends_with_the_first(rt, vm, &endings)
+}
+
+fn are_born_and_end(rt: &impl Abort, first: Stepped, endings: [Ending; 2]) {
+    assert_eq!(rt; first, Stepped::Call(Call::Clone(1)));
+    assert_eq!(rt; endings, [Ending::Exit(41), Ending::Exit(42)]);
 }
 
 fn ends_of_both<R: Wait>(
@@ -254,20 +323,19 @@ fn ends_of_both<R: Wait>(
     ends_of(alloc, &brood, depot)
 }
 
-fn ends_with_the_first(rt: &impl Abort, vm: &mut Vm, endings: &[Ending]) -> Result<(), Fail> {
+// Makes the JOIN at which a machine stands, and tells at what it stood, and at what it stands then.
+fn stops_around_join(vm: &mut Vm, endings: &[Ending]) -> Result<[Stepped; 2], Fail> {
     let joins = vm.run(1000)?.why;
     join(vm, endings)?;
     let ended = vm.run(1000)?.why;
-    assert_eq!(rt;
-        ([joins, ended], vm.steps()),
-        (
-            [
-                Stepped::Call(Call::Join(1)),
-                Stepped::Ended(Ending::Exit(41))
-            ],
-            21
-        )
-    );
+    Ok([joins, ended])
+}
+
+fn ends_with_the_first(rt: &impl Abort, vm: &mut Vm, endings: &[Ending]) -> Result<(), Fail> {
+    let stops = stops_around_join(vm, endings)?;
+    let ended = Stepped::Ended(Ending::Exit(41));
+    assert_eq!(rt; stops, [Stepped::Call(Call::Join(1)), ended]);
+    assert_eq!(rt; vm.steps(), 21);
     Ok(())
 }
 
@@ -302,30 +370,46 @@ fn is_refused(alloc: Global, bytes: &[u8], number: u32) -> bool {
     }
 }
 
-/// The bytes of the descriptor of the first child of a machine that stands at its CLONE.
+/// The bytes of the descriptor of the first child of a machine that comes to its CLONE.
 fn seed_of<R: Wait>(rt: &R, alloc: Global, vm: &mut Vm, depot: &Depot) -> Result<Vec<u8>, Fail>
     requires { IsOfDepot depot.now vm.old.key }
 {
-    let brood = fork(rt, alloc, vm, 2, depot)?;
-    Ok(Vec::from_slice(alloc, brood.seed.bytes())?)
+    let brood = run_and_fork(rt, alloc, vm, 2, depot)?;
+    bytes_of(alloc, &brood)
 }
 
-/// The same of the machine with two children.
-fn first_child<R: Wait>(rt: &R, alloc: Global, depot: &Depot) -> Result<Vec<u8>, Fail> {
-    let mut vm = booted(alloc, &TWO_CHILDREN, 16)?;
-    vm.run(1000)?;
-    seed_of(rt, alloc, &mut vm, depot)
+fn bytes_of(alloc: Global, brood: &Brood) -> Result<Vec<u8>, Fail> {
+    Ok(Vec::from_slice(alloc, brood.seed.bytes())?)
 }
 
 #[test]
 fn a_descriptor_goes_through_its_bytes(rt: HostRuntime) -> Result<(), Fail> {
-    let depot = Depot::new(rt.alloc())?;
-    let mut bytes = first_child(&rt, rt.alloc(), &depot)?;
-    is_read_or_refused(&rt, rt.alloc(), &mut bytes)
+    machine_does(
+        &rt,
+        rt.alloc(),
+        RAM_BASE,
+        &TWO_CHILDREN,
+        16,
+        Course::Describes,
+    )
+}
+
+fn describes_a_child<R: Abort + Wait>(
+    rt: &R,
+    alloc: Global,
+    vm: &mut Vm,
+    depot: &Depot,
+) -> Result<(), Fail>
+    requires { IsOfDepot depot.now vm.old.key }
+{
+    let mut bytes = seed_of(rt, alloc, vm, depot)?;
+    is_read_or_refused(rt, alloc, &mut bytes)
 }
 
 fn is_read_or_refused(rt: &impl Abort, alloc: Global, bytes: &mut Vec<u8>) -> Result<(), Fail> {
-    goes_through(rt, alloc, bytes)?;
+    assert_eq!(rt; (bytes.len(), misplaced(bytes)), (778, None));
+    is_spelled(rt, alloc, bytes)?;
+    is_refused_where_cut(rt, alloc, bytes);
     is_refused_where_changed(rt, alloc, bytes)?;
     is_refused_where_longer(rt, alloc, bytes)
 }
@@ -346,8 +430,7 @@ fn spelled(alloc: Global, bytes: &[u8]) -> Result<Vec<u8>, DescError> {
     Ok(descriptor.encode(alloc)?)
 }
 
-fn goes_through(rt: &impl Abort, alloc: Global, bytes: &[u8]) -> Result<(), Fail> {
-    assert_eq!(rt; (bytes.len(), misplaced(bytes)), (778, None));
+fn is_spelled(rt: &impl Abort, alloc: Global, bytes: &[u8]) -> Result<(), Fail> {
     let again = spelled(alloc, bytes)?;
     assert_eq!(rt; again.as_slice(), bytes);
     Ok(())
@@ -373,16 +456,31 @@ fn is_refused_with(
     Ok(is_refused(alloc, &changed, number))
 }
 
-fn is_refused_where_changed(rt: &impl Abort, alloc: Global, bytes: &[u8]) -> Result<(), Fail> {
+fn is_refused_where_cut(rt: &impl Abort, alloc: Global, bytes: &[u8]) {
     let cut = [
         is_refused_cut(alloc, bytes, 775, 1),
         is_refused_cut(alloc, bytes, 777, 4),
     ];
     assert_eq!(rt; cut, [true; 2]);
+}
+
+fn is_refused_where_changed(rt: &impl Abort, alloc: Global, bytes: &[u8]) -> Result<(), Fail> {
     for (at, byte, number) in REFUSED.iter() {
-        let refused = is_refused_with(alloc, bytes, *at, *byte, *number)?;
-        assert!(rt; refused, "at {at}");
+        is_refused_at(rt, alloc, bytes, *at, *byte, *number)?;
     }
+    Ok(())
+}
+
+fn is_refused_at(
+    rt: &impl Abort,
+    alloc: Global,
+    bytes: &[u8],
+    at: usize,
+    byte: u8,
+    number: u32,
+) -> Result<(), Fail> {
+    let refused = is_refused_with(alloc, bytes, at, byte, number)?;
+    assert!(rt; refused, "at {at}");
     Ok(())
 }
 

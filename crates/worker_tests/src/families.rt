@@ -1,10 +1,12 @@
 //! Families that workers run on a board, from its start to its end.
 
-ghost use Rattle.std.specs.Prelude.{◌≡◌, ◌≤◌, [], IfOk, length, None};
+ghost use Rattle.std.specs.Prelude.{◌≡◌, ◌<◌, ◌≤◌, [], IfOk, length, None};
 ghost use Rattle.forest_model.specs.Forest.{port_of};
+ghost use Rattle.fork_board.specs.Follows.{depot_of};
+ghost use Rattle.fork_board.specs.Passes.{HoldsNone};
 
-use crate::guests::booted;
-use fork_board::{Board, split_beside};
+use crate::guests::{TWO_CHILDREN, booted};
+use fork_board::{Board, Pass};
 use host_workers::{Finish, Gate, MAX_WORKERS, OpenGate, run_hosts};
 use image_depot::{Depot, Sent};
 use run_report::Outcome;
@@ -28,22 +30,46 @@ pub struct Ended {
     pub outcome: Option<Outcome>,
 }
 
-/// Lets a worker for each wire run the family of a machine.
+/// The board of the family of the machine of these words, and the one pass to it.
+fn board_of(alloc: Global, words: &[u32], clones: u32, depot: &Depot) -> Result<(Board, Pass), Fail>
+    requires words { length words.now ≤ 64 }
+    requires clones { clones ≤ 4096 }
+    ensures depot { IfOk result (λ made. depot_of made.0.opening ≡ depot.now) }
+    ensures pass { IfOk result (λ made. made.1 ≡ record { board = made.0; number = []; splits = 0; seen = []; mine = [] }) }
+    ensures none { IfOk result (λ made. HoldsNone made.1) }
+{
+    let vm = booted(alloc, words, clones)?;
+    Ok(board_of_machine(alloc, vm, depot)?)
+}
+
+/// The same of a machine.
+fn board_of_machine(alloc: Global, vm: Vm, depot: &Depot) -> Result<(Board, Pass), AllocError>
+    requires no_ticket { (port_of vm.machine).tickets ≡ [] }
+    requires no_image { vm.key ≡ None }
+    ensures depot { IfOk result (λ made. depot_of made.0.opening ≡ depot.now) }
+    ensures pass { IfOk result (λ made. made.1 ≡ record { board = made.0; number = []; splits = 0; seen = []; mine = [] }) }
+    ensures none { IfOk result (λ made. HoldsNone made.1) }
+{
+    let first = Snapshot::of(&vm);
+    let world = World::new(alloc, vm, depot)?;
+    Board::new(alloc, world, first, depot)
+}
+
+/// Lets a worker for each wire run the family of the machine of these words, in a depot.
 fn ended_in<R: AllocGlobal + Threads + Wait + Sync, W: Wire + Send, G: Gate + Sync>(
     rt: &R,
-    vm: Vm,
+    words: &[u32],
+    clones: u32,
     depot: &Depot,
     wires: &mut [W],
     gate: &G,
     slice: u32,
-) -> Result<Ended, AllocError>
-    requires no_ticket { (port_of vm.machine).tickets ≡ [] }
-    requires no_image { vm.key ≡ None }
+) -> Result<Ended, Fail>
+    requires words { length words.now ≤ 64 }
+    requires clones { clones ≤ 4096 }
     requires wires { (1 ≤ length wires.old) × (length wires.old ≤ MAX_WORKERS) }
 {
-    let first = Snapshot::of(&vm);
-    let world = World::new(rt.alloc(), vm, depot)?;
-    let (board, pass) = Board::new(rt.alloc(), world, first, depot)?;
+    let (board, pass) = board_of(rt.alloc(), words, clones, depot)?;
     let (pass, finish) = run_hosts(rt, &board, pass, depot, wires, gate, slice, AHEAD);
     Ok(Ended {
         finish,
@@ -51,7 +77,7 @@ fn ended_in<R: AllocGlobal + Threads + Wait + Sync, W: Wire + Send, G: Gate + Sy
     })
 }
 
-/// Lets a worker for each wire run the family of the machine of these words.
+/// The same in a depot of its own.
 pub fn end_over<R: AllocGlobal + Threads + Wait + Sync, W: Wire + Send, G: Gate + Sync>(
     rt: &R,
     words: &[u32],
@@ -65,8 +91,7 @@ pub fn end_over<R: AllocGlobal + Threads + Wait + Sync, W: Wire + Send, G: Gate 
     requires wires { (1 ≤ length wires.old) × (length wires.old ≤ MAX_WORKERS) }
 {
     let depot = Depot::new(rt.alloc())?;
-    let vm = booted(rt.alloc(), words, clones)?;
-    Ok(ended_in(rt, vm, &depot, wires, gate, slice)?)
+    ended_in(rt, words, clones, &depot, wires, gate, slice)
 }
 
 /// So many wires, each of a seed of its own.
@@ -98,18 +123,18 @@ pub fn end_by<R: AllocGlobal + Threads + Wait + Sync>(
     end_over(rt, words, clones, &mut wires, &OpenGate, slice)
 }
 
-/// Whether a machine comes to no end whose board is stopped first.
-pub fn is_stopped<R: AllocGlobal + Threads + Wait + Sync>(
+/// Whether two children come to no end, whose board is stopped first.
+pub fn is_stopped<R: AllocGlobal + Threads + Wait + Sync>(rt: &R) -> Result<bool, Fail> {
+    let depot = Depot::new(rt.alloc())?;
+    is_stopped_in(rt, &depot)
+}
+
+/// The same in a depot.
+fn is_stopped_in<R: AllocGlobal + Threads + Wait + Sync>(
     rt: &R,
-    vm: Vm,
     depot: &Depot,
-) -> Result<bool, AllocError>
-    requires no_ticket { (port_of vm.machine).tickets ≡ [] }
-    requires no_image { vm.key ≡ None }
-{
-    let first = Snapshot::of(&vm);
-    let world = World::new(rt.alloc(), vm, depot)?;
-    let (board, pass) = Board::new(rt.alloc(), world, first, depot)?;
+) -> Result<bool, Fail> {
+    let (board, pass) = board_of(rt.alloc(), &TWO_CHILDREN, 2, depot)?;
     let pass = board.stop(rt, pass, Reason::Wire);
     let mut wires = [Seeded::new(), Seeded::new()];
     let (pass, finish) = run_hosts(rt, &board, pass, depot, &mut wires, &OpenGate, 1, AHEAD);
@@ -117,26 +142,33 @@ pub fn is_stopped<R: AllocGlobal + Threads + Wait + Sync>(
     Ok(lives && matches!(finish, Finish::Stopped(Reason::Wire)))
 }
 
-/// The same of a board that nobody comes to, of which two threads split passes.
-pub fn is_left<R: Threads + Wait + Sync>(
-    rt: &R,
-    alloc: Global,
-    vm: Vm,
-    depot: &Depot,
-) -> Result<bool, AllocError>
-    requires no_ticket { (port_of vm.machine).tickets ≡ [] }
-    requires no_image { vm.key ≡ None }
+/// The same of a board that nobody comes to, of which passes are split and joined.
+pub fn is_left<R: Wait>(rt: &R, alloc: Global) -> Result<bool, Fail> {
+    let depot = Depot::new(alloc)?;
+    is_left_in(rt, alloc, &depot)
+}
+
+/// The same in a depot.
+fn is_left_in<R: Wait>(rt: &R, alloc: Global, depot: &Depot) -> Result<bool, Fail> {
+    let (board, pass) = board_of(alloc, &TWO_CHILDREN, 2, depot)?;
+    let pass = split_and_joined(&board, pass);
+    Ok(board.close(rt, pass).into_finished().is_none())
+}
+
+/// Splits a pass, and each of the two again, and joins them all.
+fn split_and_joined(board: &Board, pass: Pass) -> Pass
+    requires board { pass.board ≡ board.now }
+    requires none { HoldsNone pass }
+    requires new { (pass.number ≡ []) × (pass.splits ≡ 0) }
+    ensures { result.board ≡ board.now }
 {
-    let first = Snapshot::of(&vm);
-    let world = World::new(alloc, vm, depot)?;
-    let (board, pass) = Board::new(alloc, world, first, depot)?;
     let (pass, second) = board.split(pass);
-    let ((pass, third), (second, fourth)) = split_beside(rt, &board, pass, second);
-    let pass = board.join_pass(
+    let (pass, third) = board.split(pass);
+    let (second, fourth) = board.split(second);
+    board.join_pass(
         board.join_pass(pass, third),
         board.join_pass(second, fourth),
-    );
-    Ok(board.close(rt, pass).into_finished().is_none())
+    )
 }
 
 /// The numbers of the image and of the page of a reply that was heard.
@@ -147,24 +179,58 @@ fn numbers_of(heard: Result<Option<Sent>, AllocError>) -> Result<Option<(u32, u3
     }
 }
 
-/// What a board answers of the first reply before a worker runs the family of a machine, and of the first two after.
+/// The numbers of the image and of the page of the reply at a place, where a board has been told one.
+fn numbers_at<R: Wait>(
+    rt: &R,
+    board: &Board,
+    pass: Pass,
+    place: usize,
+) -> (Pass, Result<Option<(u32, u32)>, AllocError>)
+    requires { pass.board ≡ board.now }
+    ensures { result.0.board ≡ board.now }
+{
+    let (pass, heard) = board.hear(rt, pass, place);
+    (pass, numbers_of(heard))
+}
+
+/// The same of the first two replies, after a worker has run the family of a board.
+fn heard_after<R: AllocGlobal + Threads + Wait + Sync>(
+    rt: &R,
+    board: &Board,
+    pass: Pass,
+    depot: &Depot,
+) -> Result<[Option<(u32, u32)>; 2], AllocError>
+    requires board { pass.board ≡ board.now }
+    requires depot { depot_of board.now.opening ≡ depot.now }
+    requires none { HoldsNone pass }
+    requires parts { length pass.number < 3 }
+    requires splits { pass.splits ≡ 0 }
+{
+    let mut wires = [Seeded::new()];
+    let (pass, _) = run_hosts(rt, board, pass, depot, &mut wires, &OpenGate, 1000, 0);
+    let (pass, told) = numbers_at(rt, board, pass, 0);
+    let (_, beyond) = numbers_at(rt, board, pass, 1);
+    Ok([told?, beyond?])
+}
+
+/// The same of the first reply before a worker runs the family of one child, and of the first two after.
 pub fn heard_of<R: AllocGlobal + Threads + Wait + Sync>(
     rt: &R,
-    vm: Vm,
+) -> Result<[Option<(u32, u32)>; 3], Fail> {
+    let depot = Depot::new(rt.alloc())?;
+    heard_in(rt, &depot)
+}
+
+/// The same in a depot.
+fn heard_in<R: AllocGlobal + Threads + Wait + Sync>(
+    rt: &R,
     depot: &Depot,
-) -> Result<[Option<(u32, u32)>; 3], AllocError>
-    requires no_ticket { (port_of vm.machine).tickets ≡ [] }
-    requires no_image { vm.key ≡ None }
-{
-    let first = Snapshot::of(&vm);
-    let world = World::new(rt.alloc(), vm, depot)?;
-    let (board, pass) = Board::new(rt.alloc(), world, first, depot)?;
+) -> Result<[Option<(u32, u32)>; 3], Fail> {
+    let (board, pass) = board_of(rt.alloc(), &TWO_CHILDREN, 1, depot)?;
     let (pass, other) = board.split(pass);
-    let (pass, before) = board.hear(rt, pass, 0);
-    let mut wires = [Seeded::new()];
-    let (other, _) = run_hosts(rt, &board, other, depot, &mut wires, &OpenGate, 1000, 0);
-    let (other, told) = board.hear(rt, other, 0);
-    let (_, beyond) = board.hear(rt, other, 1);
+    let (pass, before) = numbers_at(rt, &board, pass, 0);
+    let after = heard_after(rt, &board, other, depot);
     let _ = board.close(rt, pass);
-    Ok([numbers_of(before)?, numbers_of(told)?, numbers_of(beyond)?])
+    let [told, beyond] = after?;
+    Ok([before?, told, beyond])
 }

@@ -1,14 +1,18 @@
 //! Several workers are at work at once, and several wires.
 
+ghost use Rattle.std.specs.Prelude.{◌≡◌, length};
+
 use crate::families::{Ended, end_over};
 use crate::guests::TWO_CHILDREN;
 use crate::meeting::{Meeting, MeetingWire};
 use crate::tests::ends_with;
 use crate::texts;
 use host_workers::{Finish, OpenGate};
-use std::alloc::Global;
+use std::alloc::{AllocError, Global};
 use std::process::Abort;
+use std::sync::Wait;
 use std::test::Fail;
+use std::thread::Threads;
 use wire_fates::{Fate, Scripted, Seeded};
 use world_core::Reason;
 
@@ -36,14 +40,24 @@ fn two_wires_are_asked_at_once(rt: HostRuntime) -> Result<(), Fail> {
     is_whole(&rt, rt.alloc(), &ended)
 }
 
+/// A wire that loses 64 replies.
+fn losing(alloc: Global) -> Result<Scripted, AllocError> {
+    Ok(Scripted::new(vec![in alloc; Fate::Lose(0); 64]?))
+}
+
 #[test]
 fn lost_wires_stop_the_world(rt: HostRuntime) -> Result<(), Fail> {
-    let losses = [Fate::Lose(0); 64];
-    let mut wires = [
-        Scripted::new(Vec::from_array(rt.alloc(), losses)?),
-        Scripted::new(Vec::from_array(rt.alloc(), losses)?),
-    ];
-    let ended = end_over(&rt, &TWO_CHILDREN, 2, &mut wires, &OpenGate, 1000)?;
+    let mut wires = [losing(rt.alloc())?, losing(rt.alloc())?];
+    stop_the_world(&rt, &mut wires)
+}
+
+fn stop_the_world<R: AllocGlobal + Threads + Wait + Abort + Sync>(
+    rt: &R,
+    wires: &mut [Scripted],
+) -> Result<(), Fail>
+    requires { length wires.old ≡ 2 }
+{
+    let ended = end_over(rt, &TWO_CHILDREN, 2, wires, &OpenGate, 1000)?;
     assert!(rt; matches!(ended.finish, Finish::Stopped(Reason::Wire)));
     assert!(rt; ended.outcome.is_none());
     Ok(())

@@ -14,6 +14,7 @@ ghost use Rattle.rv_exec.specs.Memory.{IsWidth, load_width, store_width};
 ghost use Rattle.elf_load.specs.declared.image.TheConstants.{PAGE_SIZE};
 ghost use Rattle.flat_memory.specs.Flat.{put_bytes};
 ghost use Rattle.vm_cell.specs.Acts.{Acts, AccessGrows, InstructionGrows, IsPut, PortGrows};
+ghost use Rattle.vm_cell.specs.Kept.{stored_at};
 ghost use Rattle.vm_cell.specs.Keyed.{IsHere};
 ghost use Rattle.vm_cell.specs.Plain.{ActsPlainly};
 
@@ -177,7 +178,8 @@ impl Hart {
         requires group { group_of kind ≡ group.Load }
         requires width { width ≡ load_width kind }
         requires widths { IsWidth width }
-        ensures { MatchBool result (ActsPlainly self.old self.new instr.now) (self.new ≡ self.old) }
+        ensures acts { MatchBool result (ActsPlainly self.old self.new instr.now) (self.new ≡ self.old) }
+        ensures stored { stored_at (group_of instr.now.kind) instr.now self.old.state ≡ None }
     {
         let address = self.data_address(instr);
         if address % width != 0 {

@@ -1,15 +1,17 @@
 //! Plain steps, which are counted together: each retires an instruction that looks at no counter and reaches no port.
 
-ghost use Rattle.std.specs.Prelude.{◌≡◌, ◌≢◌, ◌%◌, ◌≤◌, ◌<◌, ℕ, length, MatchBool, None, Some};
+ghost use Rattle.std.specs.Prelude.{◌≡◌, ◌≢◌, ◌%◌, ◌≤◌, ◌<◌, ℕ, length, MatchBool, None};
 ghost use Rattle.rv_exec.specs.Memory.{IsWidth, store_width};
 ghost use Rattle.forest_model.specs.declared.Written.TheVariants.{Nothing};
 ghost use Rattle.forest_model.specs.Action.{retire_next};
-ghost use Rattle.forest_model.specs.Memory.{data_address};
 ghost use Rattle.rv_decode.specs.declared.kinds.Group.TheVariants as group;
+ghost use Rattle.rv_decode.specs.Instruction.{Instruction};
 ghost use Rattle.rv_decode.specs.Kinds.{group_of};
 ghost use Rattle.vm_cell.specs.Acts.{ActsAlone};
 ghost use Rattle.vm_cell.specs.Kept.{ForgetsAt, IsComing, Keeps, stored_at};
+ghost use Rattle.vm_cell.specs.Keyed.{KeyedState};
 ghost use Rattle.vm_cell.specs.Plain.{ActsPlainly, AreMade, IsPlainStep, IsQuiet, IsStretch, counted_since};
+ghost use Rattle.vm_cell.specs.Tries.{IsTry};
 
 use super::kept::forget;
 use super::{Acted, Fields, Hart, Slot};
@@ -138,9 +140,7 @@ impl Hart {
     #[tactic(auto, unfolding(rv_decode::specs::Kinds::group_of))]
     fn act_plainly(&mut self, instr: &Fields, kind: Kind) -> Tried
         requires kind { kind ≡ instr.now.kind }
-        ensures acts { MatchBool result.is_made (ActsPlainly self.old self.new instr.now) (self.new ≡ self.old) }
-        ensures stored { result.stored ≡ stored_at (group_of kind) instr.now self.old.state }
-        ensures next { result.next ≡ self.new.state.pc }
+        ensures { IsTry self.old self.new instr.now result }
     {
         match kind {
             Kind::Lui => beside(self.load_upper_plainly(instr, Kind::Lui), self.pc),
@@ -188,10 +188,10 @@ impl Hart {
             Kind::Fence => beside(self.retire_plainly(instr, Kind::Fence), self.pc),
             Kind::FenceI => beside(self.retire_plainly(instr, Kind::FenceI), self.pc),
             Kind::Wfi => beside(self.retire_plainly(instr, Kind::Wfi), self.pc),
-            // None is left out, so that no test of the kind goes before the jump.
             Kind::Sb => self.store_plainly(instr, Kind::Sb, 1),
             Kind::Sh => self.store_plainly(instr, Kind::Sh, 2),
             Kind::Sw => self.store_plainly(instr, Kind::Sw, 4),
+            // None is left out, so that no test of the kind goes before the jump.
             Kind::Ecall | Kind::Ebreak | Kind::Mret => beside(false, self.pc),
             Kind::Csrrw | Kind::Csrrs | Kind::Csrrc => beside(false, self.pc),
             Kind::Csrrwi | Kind::Csrrsi | Kind::Csrrci => beside(false, self.pc),
@@ -210,9 +210,7 @@ impl Hart {
         requires group { group_of kind ≡ group.Store }
         requires width { width ≡ store_width kind }
         requires widths { IsWidth width }
-        ensures acts { MatchBool result.is_made (ActsPlainly self.old self.new instr.now) (self.new ≡ self.old) }
-        ensures stored { result.stored ≡ Some (data_address instr.now self.old.state) }
-        ensures next { result.next ≡ self.new.state.pc }
+        ensures { IsTry self.old self.new instr.now result }
     {
         let stored = Some(self.data_address(instr));
         let is_made = self.store_here(instr, kind, width);
@@ -229,7 +227,8 @@ impl Hart {
     fn load_upper_plainly(&mut self, instr: &Fields, kind: Kind) -> bool
         requires kind { kind ≡ instr.now.kind }
         requires group { group_of kind ≡ group.LoadUpper }
-        ensures { MatchBool result (ActsPlainly self.old self.new instr.now) (self.new ≡ self.old) }
+        ensures acts { MatchBool result (ActsPlainly self.old self.new instr.now) (self.new ≡ self.old) }
+        ensures stored { stored_at (group_of instr.now.kind) instr.now self.old.state ≡ None }
     {
         is_retired(self.load_upper(instr))
     }
@@ -239,7 +238,8 @@ impl Hart {
     fn add_upper_plainly(&mut self, instr: &Fields, kind: Kind) -> bool
         requires kind { kind ≡ instr.now.kind }
         requires group { group_of kind ≡ group.AddUpper }
-        ensures { MatchBool result (ActsPlainly self.old self.new instr.now) (self.new ≡ self.old) }
+        ensures acts { MatchBool result (ActsPlainly self.old self.new instr.now) (self.new ≡ self.old) }
+        ensures stored { stored_at (group_of instr.now.kind) instr.now self.old.state ≡ None }
     {
         is_retired(self.add_upper(instr))
     }
@@ -249,7 +249,8 @@ impl Hart {
     fn jump_plainly(&mut self, instr: &Fields, kind: Kind) -> bool
         requires kind { kind ≡ instr.now.kind }
         requires group { group_of kind ≡ group.Jump }
-        ensures { MatchBool result (ActsPlainly self.old self.new instr.now) (self.new ≡ self.old) }
+        ensures acts { MatchBool result (ActsPlainly self.old self.new instr.now) (self.new ≡ self.old) }
+        ensures stored { stored_at (group_of instr.now.kind) instr.now self.old.state ≡ None }
     {
         is_retired(self.jump(instr))
     }
@@ -259,7 +260,8 @@ impl Hart {
     fn jump_register_plainly(&mut self, instr: &Fields, kind: Kind) -> bool
         requires kind { kind ≡ instr.now.kind }
         requires group { group_of kind ≡ group.JumpRegister }
-        ensures { MatchBool result (ActsPlainly self.old self.new instr.now) (self.new ≡ self.old) }
+        ensures acts { MatchBool result (ActsPlainly self.old self.new instr.now) (self.new ≡ self.old) }
+        ensures stored { stored_at (group_of instr.now.kind) instr.now self.old.state ≡ None }
     {
         is_retired(self.jump_register(instr))
     }
@@ -269,7 +271,8 @@ impl Hart {
     fn branch_plainly(&mut self, instr: &Fields, kind: Kind) -> bool
         requires kind { kind ≡ instr.now.kind }
         requires group { group_of kind ≡ group.Branch }
-        ensures { MatchBool result (ActsPlainly self.old self.new instr.now) (self.new ≡ self.old) }
+        ensures acts { MatchBool result (ActsPlainly self.old self.new instr.now) (self.new ≡ self.old) }
+        ensures stored { stored_at (group_of instr.now.kind) instr.now self.old.state ≡ None }
     {
         is_retired(self.branch_as(instr, kind))
     }
@@ -279,7 +282,8 @@ impl Hart {
     fn compute_immediate_plainly(&mut self, instr: &Fields, kind: Kind) -> bool
         requires kind { kind ≡ instr.now.kind }
         requires group { group_of kind ≡ group.ComputeImmediate }
-        ensures { MatchBool result (ActsPlainly self.old self.new instr.now) (self.new ≡ self.old) }
+        ensures acts { MatchBool result (ActsPlainly self.old self.new instr.now) (self.new ≡ self.old) }
+        ensures stored { stored_at (group_of instr.now.kind) instr.now self.old.state ≡ None }
     {
         is_retired(self.compute_immediate_as(instr, kind))
     }
@@ -289,7 +293,8 @@ impl Hart {
     fn compute_plainly(&mut self, instr: &Fields, kind: Kind) -> bool
         requires kind { kind ≡ instr.now.kind }
         requires group { group_of kind ≡ group.Compute }
-        ensures { MatchBool result (ActsPlainly self.old self.new instr.now) (self.new ≡ self.old) }
+        ensures acts { MatchBool result (ActsPlainly self.old self.new instr.now) (self.new ≡ self.old) }
+        ensures stored { stored_at (group_of instr.now.kind) instr.now self.old.state ≡ None }
     {
         is_retired(self.compute_as(instr, kind))
     }
@@ -299,7 +304,8 @@ impl Hart {
     fn retire_plainly(&mut self, instr: &Fields, kind: Kind) -> bool
         requires kind { kind ≡ instr.now.kind }
         requires group { group_of kind ≡ group.Nothing }
-        ensures { MatchBool result (ActsPlainly self.old self.new instr.now) (self.new ≡ self.old) }
+        ensures acts { MatchBool result (ActsPlainly self.old self.new instr.now) (self.new ≡ self.old) }
+        ensures stored { stored_at (group_of instr.now.kind) instr.now self.old.state ≡ None }
     {
         is_retired(self.retire_alone())
     }
@@ -332,7 +338,8 @@ impl Hart {
 /// What is known of a try at an instruction that is no store.
 #[inline(always)]
 fn beside(is_made: bool, next: u32) -> Tried
-    ensures { result ≡ record { is_made = is_made; stored = None; next = next } }
+    ensures { (old new : KeyedState) (i : Instruction) → MatchBool is_made (ActsPlainly old new i) (new ≡ old)
+        → stored_at (group_of i.kind) i old.state ≡ None → next ≡ new.state.pc → IsTry old new i result }
 {
     Tried {
         is_made,

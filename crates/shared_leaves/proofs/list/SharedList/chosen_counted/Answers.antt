@@ -1,7 +1,8 @@
-use Rattle.std.proofs.Common.{◌≡◌, [], length, sym, ap, ◌∙◌, eqb-true, arith}
-use Rattle.std.proofs.lemmas.List.{append-nil, nil_from_length}
+use Rattle.std.proofs.Common.{◌≡◌, ◌≢◌, [], length, sym, ap, ◌∙◌, eqb-true, arith}
+use Rattle.std.proofs.lemmas.Bool.{eqb-false}
+use Rattle.std.proofs.lemmas.List.{append-nil, length-map, nil_from_length}
 use Rattle.shared_leaves.specs.Leaves.{joined}
-use Rattle.shared_leaves.specs.Choices.{chosen, choice_steps, pieces_steps, no_leaf}
+use Rattle.shared_leaves.specs.Choices.{choice, chosen, choice_steps, pieces_steps, no_leaf}
 use Rattle.shared_leaves.proofs.ChoiceLemmas.{chosen-parts}
 use Rattle.shared_leaves.proofs.list.SharedList.chosen_counted.Goals as goal
 
@@ -50,3 +51,30 @@ pub returns-clause-most : goal.returns-clause-most
 unfolding choice_steps
 returns-clause-most g c =
     omega (arith, ap (pieces_steps no_leaf) c.as_chunks.ensures.front, c.in_ok-list.ensures.cost, c.as_chunks.ensures.back_len, c.in_ok-written_leaf.ensures.most)
+
+pub push_leaf-requires-clause-full : goal.push_leaf-requires-clause-full
+push_leaf-requires-clause-full g c = omega (arith, c.in_ok-list.ensures.size)
+
+pub push_leaf-requires-clause-some : goal.push_leaf-requires-clause-some
+push_leaf-requires-clause-some g c =
+    let rest = c.as_chunks.result.1.now in
+    let long = ap length c.in_ok-written_leaf.ensures.value ∙ length-map rest (choice c.args.set.now c.args.unset.now) in
+    let some : length rest ≢ 0 = eqb-false (length rest) 0 (sym c.is_empty.ensures ∙ c.if-is_empty.false) in
+    omega (arith, long, some)
+
+pub push_leaf-requires-clause-most : goal.push_leaf-requires-clause-most
+push_leaf-requires-clause-most g c =
+    let rest = c.as_chunks.result.1.now in
+    let long = ap length c.in_ok-written_leaf.ensures.value ∙ length-map rest (choice c.args.set.now c.args.unset.now) in
+    omega (arith, long, c.as_chunks.ensures.back_len)
+
+pub written_leaf-requires : goal.written_leaf-requires
+written_leaf-requires g c = omega (arith, c.as_chunks.ensures.back_len)
+
+pub push_leaf-requires-clause-fits : goal.push_leaf-requires-clause-fits
+push_leaf-requires-clause-fits g c =
+    let long = ap length c.in_ok-written_leaf.ensures.value ∙ length-map c.as_chunks.result.1.now (choice c.args.set.now c.args.unset.now) in
+    omega (arith, long, c.in_ok-list.ensures.size, c.as_chunks.ensures.front_len, c.as_chunks.ensures.back_len)
+
+pub whole_leaves-requires : goal.whole_leaves-requires
+whole_leaves-requires g c = record { fits = omega (arith, c.as_chunks.ensures.front_len) }

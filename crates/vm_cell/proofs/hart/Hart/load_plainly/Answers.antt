@@ -11,8 +11,8 @@ use Rattle.vm_cell.specs.Keyed.{KeyedState}
 use Rattle.vm_cell.proofs.Plain.{loads-here}
 use Rattle.vm_cell.proofs.hart.Hart.load_plainly.Goals as goal
 
-pub returns : goal.returns
-returns c =
+pub returns-clause-acts : goal.returns-clause-acts
+returns-clause-acts c =
     let old : KeyedState = c.args.self.now in
     let i = c.args.instr.now in
     let offset = c.in-Some.offset in

@@ -1,8 +1,7 @@
-use Rattle.std.proofs.Common.{◌≡◌, sym, ap, ◌∙◌, subst}
+use Rattle.std.proofs.Common.{◌≡◌, sym, subst}
 use Rattle.std.specs.Prelude.{MatchBool, slice_index_or}
-use Rattle.rv_decode.specs.Kinds.{group_of}
 use Rattle.rv_decode.specs.Instruction.{Instruction}
-use Rattle.vm_cell.specs.Kept.{ForgetsAt, Keeps, stored_at}
+use Rattle.vm_cell.specs.Kept.{ForgetsAt, Keeps}
 use Rattle.vm_cell.specs.Keyed.{KeyedState}
 use Rattle.vm_cell.specs.Plain.{IsPlainStep}
 use Rattle.vm_cell.proofs.Kept.{forgot-length, step-made, step-keeps}
@@ -20,8 +19,7 @@ returns-clause-keeps c = λ epoch keeps.
     subst (λ (h : KeyedState). Keeps h epoch c.forget_stored.new.slots) (sym c.forget_stored.ensures.same)
     (step-keeps c.args.self.now c.act_plainly-tried.new.self i epoch c.args.slots.now c.forget_stored.new.slots c.act_plainly-tried.result.is_made c.has_whole_words.ensures
     c.act_plainly-tried.ensures.acts
-    (subst (λ stored. ForgetsAt stored c.args.slots.now c.forget_stored.new.slots)
-    (c.act_plainly-tried.ensures.stored ∙ ap (λ k. stored_at (group_of k) i c.args.self.now.state) c.kind.ensures) c.forget_stored.ensures.forgets) keeps)
+    (subst (λ stored. ForgetsAt stored c.args.slots.now c.forget_stored.new.slots) c.act_plainly-tried.ensures.stored c.forget_stored.ensures.forgets) keeps)
 
 pub returns-clause-same_length : goal.returns-clause-same_length
 returns-clause-same_length c = forgot-length c.act_plainly-tried.result.stored c.args.slots.now c.forget_stored.new.slots c.forget_stored.ensures.forgets

@@ -14,7 +14,7 @@ pub invariant_of-self-in-Retired : goal.invariant_of-self-in-Retired
 invariant_of-self-in-Retired c =
     let retired = rw c.in-Retired.is at c.in_ok-page.ensures.acts in
     counted_step _ _ _ _ _ _ _ _ c.self.invariant (rw (← c.self.view_is) at c.requires) c.count_step-in-Retired.ensures.counted c.count_step-in-Retired.ensures.ends
-    (ap (λ (h : KeyedState). h.state.ports.fork) c.count-in-Retired.ensures) (rises_retired _ _ _ retired.1.tells) (funded_retired _ _ _ c.self.invariant.funded retired.1.tells)
+    (ap (λ (h : KeyedState). h.state.ports.fork) c.count.ensures) (rises_retired _ _ _ retired.1.tells) (funded_retired _ _ _ c.self.invariant.funded retired.1.tells)
 
 pub invariant_of-self-in-Exited : goal.invariant_of-self-in-Exited
 invariant_of-self-in-Exited c =
@@ -39,22 +39,22 @@ pub returns-in-Trapped-clause-goes : goal.returns-in-Trapped-clause-goes
 returns-in-Trapped-clause-goes c =
     let v : KeyedMachine = machine_of c.self.inside.hart c.self.inside.steps c.self.inside.limit c.self.inside.ending in
     let acts = rw c.in-Trapped.is at c.in_ok-page.ensures.acts in
-    subst (λ (n : KeyedMachine). GoesOn n (machine_of c.count.new.self c.count_step.new.steps c.self.inside.limit c.count_step.new.ending) None) c.self.view_is
-    (goes_trapped v c.act.new.self (rw (← c.self.view_is) at c.requires) _ _ _ c.count_step.ensures.counted c.count_step.ensures.ends c.in-Trapped.cause c.in-Trapped.value _ acts c.take_trap.ensures c.count.ensures)
+    subst (λ (n : KeyedMachine). GoesOn n (machine_of c.trap.new.self c.count_step.new.steps c.self.inside.limit c.count_step.new.ending) None) c.self.view_is
+    (goes_trapped v c.act.new.self (rw (← c.self.view_is) at c.requires) _ _ _ c.count_step.ensures.counted c.count_step.ensures.ends c.in-Trapped.cause c.in-Trapped.value acts c.trap.ensures)
 
 pub returns-in-Interrupted-clause-goes : goal.returns-in-Interrupted-clause-goes
 returns-in-Interrupted-clause-goes c =
     let v : KeyedMachine = machine_of c.self.inside.hart c.self.inside.steps c.self.inside.limit c.self.inside.ending in
     let acts = rw c.in-Interrupted.is at c.in_ok-page.ensures.acts in
-    subst (λ (n : KeyedMachine). GoesOn n (machine_of c.count-in-Interrupted.new.self c.count_step-in-Interrupted.new.steps c.self.inside.limit c.count_step-in-Interrupted.new.ending) None) c.self.view_is
-    (goes_interrupted v c.act.new.self (rw (← c.self.view_is) at c.requires) _ _ _ c.count_step-in-Interrupted.ensures.counted c.count_step-in-Interrupted.ensures.ends _ acts c.take_trap-in-Interrupted.ensures c.count-in-Interrupted.ensures)
+    subst (λ (n : KeyedMachine). GoesOn n (machine_of c.trap-in-Interrupted.new.self c.count_step-in-Interrupted.new.steps c.self.inside.limit c.count_step-in-Interrupted.new.ending) None) c.self.view_is
+    (goes_interrupted v c.act.new.self (rw (← c.self.view_is) at c.requires) _ _ _ c.count_step-in-Interrupted.ensures.counted c.count_step-in-Interrupted.ensures.ends acts c.trap-in-Interrupted.ensures)
 
 pub returns-in-Retired-clause-goes : goal.returns-in-Retired-clause-goes
 returns-in-Retired-clause-goes c =
     let v : KeyedMachine = machine_of c.self.inside.hart c.self.inside.steps c.self.inside.limit c.self.inside.ending in
     let acts = rw c.in-Retired.is at c.in_ok-page.ensures.acts in
-    subst (λ (n : KeyedMachine). GoesOn n (machine_of c.count-in-Retired.new.self c.count_step-in-Retired.new.steps c.self.inside.limit c.count_step-in-Retired.new.ending) None) c.self.view_is
-    (goes_retired v c.act.new.self (rw (← c.self.view_is) at c.requires) _ _ _ c.count_step-in-Retired.ensures.counted c.count_step-in-Retired.ensures.ends c.in-Retired.written acts c.count-in-Retired.ensures)
+    subst (λ (n : KeyedMachine). GoesOn n (machine_of c.count.new.self c.count_step-in-Retired.new.steps c.self.inside.limit c.count_step-in-Retired.new.ending) None) c.self.view_is
+    (goes_retired v c.act.new.self (rw (← c.self.view_is) at c.requires) _ _ _ c.count_step-in-Retired.ensures.counted c.count_step-in-Retired.ensures.ends c.in-Retired.written acts c.count.ensures)
 
 pub returns-in-Exited-clause-goes : goal.returns-in-Exited-clause-goes
 returns-in-Exited-clause-goes c =

@@ -1,0 +1,196 @@
+-- Shifts: how they are dealt, and what two halves of them have done.
+use Rattle.std.proofs.Common.{◌≡◌, ℕ, zero, suc, ◌+◌, ◌≤◌, List, [], ◌∷◌, ◌++◌, drop, length, slice_index_or, slice_set, take, refl, sym, ap, ◌∙◌, subst, arith}
+use Rattle.std.specs.List.{All}
+use Rattle.std.proofs.Math.Seq.{drop-append_seam, take-append_seam}
+use Rattle.std.proofs.lemmas.List.{length_push}
+use Rattle.std.proofs.lemmas.List.Elements.{All-append, All-cons, All-drop, All-nil, All-take}
+use Rattle.fork_board.specs.Passes.{BoardValue, HoldsNone, Joins, PassValue}
+use Rattle.host_workers.specs.Spread.{HasWorked, HaveWorked, IsDue, WorkAll, Works, child, finish_of, parent, shifts_of}
+use Rattle.host_workers.specs.declared.crew.Shift.{Shift}
+use Rattle.host_workers.specs.declared.crew.Shift.TheVariants.{Due, Begun, Done}
+use Rattle.host_workers.specs.declared.finish.Finish.{Finish}
+use Rattle.host_workers.proofs.Joining.{alone-works, both-work}
+
+-- ---- how they are dealt
+
+-- the pass after so many were split off from it in all
+abbrev pub split_to : PassValue → ℕ → PassValue
+split_to pass n = record pass { splits = n }
+
+-- the shifts of so many that were split off
+unfoldable pub split_off : PassValue → ℕ → List Shift
+split_off pass zero = []
+split_off pass (suc k) = Due (child pass) ∷ split_off (parent pass) k
+
+pub one-more : (pass : PassValue) (k : ℕ) → split_off pass (suc k) ≡ split_off pass k ++ Due (child (split_to pass (pass.splits + k))) ∷ []
+unfolding split_off
+one-more pass zero = ap (λ n. Due (child (split_to pass n)) ∷ []) (omega arith)
+one-more pass (suc k) =
+    ap (λ l. Due (child pass) ∷ l)
+    (one-more (parent pass) k ∙ ap (λ n. split_off (parent pass) k ++ Due (child (split_to pass n)) ∷ []) (omega arith))
+
+pub all-dealt : (pass : PassValue) (k : ℕ) → split_off pass k ++ Due (split_to pass (pass.splits + k)) ∷ [] ≡ shifts_of pass k
+unfolding shifts_of split_off
+all-dealt pass zero = ap (λ n. Due (split_to pass n) ∷ []) (omega arith)
+all-dealt pass (suc k) =
+    ap (λ l. Due (child pass) ∷ l)
+    (ap (λ n. split_off (parent pass) k ++ Due (split_to pass n) ∷ []) (omega arith) ∙ all-dealt (parent pass) k)
+
+-- so many shifts are dealt, and the rest of the pass is this
+pub record Dealt (board : BoardValue) (pass rest : PassValue) (shifts : List Shift) : Type 0 where
+  pub dealt : shifts ≡ split_off pass (length shifts)
+  pub left : rest ≡ split_to pass (pass.splits + length shifts)
+  pub due : All (IsDue board) shifts
+  pub none : HoldsNone rest
+
+pub none-dealt : (board : BoardValue) (pass : PassValue) (shifts : List Shift) → shifts ≡ [] → HoldsNone pass → Dealt board pass pass shifts
+unfolding split_off
+none-dealt board pass shifts same none =
+    let few : length shifts ≡ 0 = ap length same in
+    record {
+      dealt = same ∙ ap (split_off pass) (sym few);
+      left = ap (split_to pass) (omega (arith, few));
+      due = subst (All (IsDue board)) (sym same) (All-nil (IsDue board));
+      none = none;
+    }
+
+-- one more shift, with a pass of the board that holds no machine
+due-more : (board : BoardValue) (shifts : List Shift) (pass : PassValue) → All (IsDue board) shifts → pass.board ≡ board → HoldsNone pass
+    → All (IsDue board) (shifts ++ Due pass ∷ [])
+due-more board shifts pass due of_board none =
+    All-append (IsDue board) shifts (Due pass ∷ []) due
+    (All-cons (IsDue board) (Due pass) [] (record { of_board = of_board; none = none }) (All-nil (IsDue board)))
+
+pub one-dealt : (board : BoardValue) (pass rest old new : PassValue) (shifts more : List Shift) → pass.board ≡ board → Dealt board pass rest shifts
+    → old ≡ parent rest → new ≡ child rest → HoldsNone new → more ≡ shifts ++ Due new ∷ [] → Dealt board pass old more
+one-dealt board pass rest old new shifts more of_board d is_old is_new none is_more =
+    let many : length more ≡ length shifts + 1 = ap length is_more ∙ length_push shifts (Due new) in
+    let is_split : new ≡ child (split_to pass (pass.splits + length shifts)) = is_new ∙ ap child d.left in
+    record {
+      dealt =
+          is_more ∙ ap (λ l. l ++ Due new ∷ []) d.dealt ∙ ap (λ p. split_off pass (length shifts) ++ Due p ∷ []) is_split
+          ∙ sym (one-more pass (length shifts)) ∙ ap (split_off pass) (omega (arith, many));
+      left = is_old ∙ ap parent d.left ∙ ap (split_to pass) (omega (arith, many));
+      due = subst (All (IsDue board)) (sym is_more) (due-more board shifts new d.due (ap (λ (p : PassValue). p.board) is_split ∙ of_board) none);
+      none = subst HoldsNone (sym is_old) d.none;
+    }
+
+-- the last one has the rest of the pass
+module _ (board : BoardValue) (pass rest : PassValue) (shifts all : List Shift) (of_board : pass.board ≡ board) (d : Dealt board pass rest shifts)
+    (is_all : all ≡ shifts ++ Due rest ∷ []) where
+  pub many-dealt : length all ≡ length shifts + 1
+  many-dealt = ap length is_all ∙ length_push shifts (Due rest)
+
+  pub are-dealt : (k : ℕ) → length shifts + 1 ≡ k + 1 → all ≡ shifts_of pass k
+  are-dealt k count =
+      is_all ∙ ap (λ l. l ++ Due rest ∷ []) d.dealt ∙ ap (λ p. split_off pass (length shifts) ++ Due p ∷ []) d.left
+      ∙ all-dealt pass (length shifts) ∙ ap (shifts_of pass) (omega (arith, count))
+
+  pub are-due : All (IsDue board) all
+  are-due = subst (All (IsDue board)) (sym is_all) (due-more board shifts rest d.due (ap (λ (p : PassValue). p.board) d.left ∙ of_board) d.none)
+
+-- two parts of them
+pub both-due : (board : BoardValue) (shifts front back : List Shift) → shifts ≡ front ++ back → All (IsDue board) shifts
+    → All (IsDue board) front × All (IsDue board) back
+both-due board shifts front back same due = (
+  subst (All (IsDue board)) (ap (take (length front)) same ∙ take-append_seam front back) (All-take (IsDue board) (length front) shifts due),
+  subst (All (IsDue board)) (ap (drop (length front)) same ∙ drop-append_seam front back) (All-drop (IsDue board) (length front) shifts due),
+)
+
+-- ---- what they have done
+
+module _ {W : Type 0} (streak : W → ℕ) where
+  pub both-halves : (here there : List W) (olds olds' news news' : List Shift) → HaveWorked streak here olds news → HaveWorked streak there olds' news'
+      → HaveWorked streak (here ++ there) (olds ++ olds') (news ++ news')
+  unfolding HaveWorked
+  both-halves [] there [] olds' [] news' h k = k
+  both-halves (w ∷ ws) there (a ∷ olds) olds' (b ∷ news) news' h k = (h.0, both-halves ws there olds olds' news news' h.1 k)
+  both-halves [] there [] olds' (b ∷ news) news' h k = absurd h
+  both-halves [] there (a ∷ olds) olds' news news' h k = absurd h
+  both-halves (w ∷ ws) there [] olds' news news' h k = absurd h
+  both-halves (w ∷ ws) there (a ∷ olds) olds' [] news' h k = absurd h
+
+  -- one worker alone
+  pub one-worked : (wires : List W) (wire : W) (shifts : List Shift) (d new : Shift) → length wires ≡ 1 → length shifts ≡ length wires
+      → HasWorked streak wire (slice_index_or shifts 0 d) new → HaveWorked streak (slice_set wires 0 wire) shifts (slice_set shifts 0 new)
+  unfolding HaveWorked
+  one-worked (w ∷ []) wire (old ∷ []) d new one each h = (h, tt)
+  one-worked [] wire shifts d new one each h = absurd (cc)
+  one-worked (w ∷ v ∷ ws) wire shifts d new one each h = absurd (omega (arith, one))
+  one-worked (w ∷ []) wire [] d new one each h = absurd (omega (arith, each))
+  one-worked (w ∷ []) wire (old ∷ o ∷ os) d new one each h = absurd (omega (arith, each))
+
+  -- ---- how their passes are joined
+
+  is-done : (wire : W) (old new : Shift) → HasWorked streak wire old new → (pass : PassValue) × (finish : Finish) × (new ≡ Done pass finish)
+  is-done wire (Due old) (Done new finish) h = (new, finish, refl)
+  is-done wire (Due old) (Due new) h = absurd h
+  is-done wire (Due old) Begun h = absurd h
+  is-done wire Begun new h = absurd h
+  is-done wire (Done old end) new h = absurd h
+
+  -- the first of them is done
+  pub first-done : (wires : List W) (olds : List Shift) (new : Shift) (news : List Shift) → HaveWorked streak wires olds (new ∷ news)
+      → (pass : PassValue) × (finish : Finish) × (new ≡ Done pass finish)
+  unfolding HaveWorked
+  first-done (w ∷ ws) (old ∷ olds) new news h = is-done w old new h.0
+  first-done [] [] new news h = absurd h
+  first-done [] (old ∷ olds) new news h = absurd h
+  first-done (w ∷ ws) [] new news h = absurd h
+
+  -- there is no other
+  pub last-works : (wire : W) (pass : PassValue) (k : ℕ) (split : PassValue) (one : Finish) (news : List Shift) → 1 ≡ k + 1
+      → HaveWorked streak (wire ∷ []) (shifts_of pass k) (Done split one ∷ news) → WorkAll streak (wire ∷ []) pass split one
+  unfolding HaveWorked shifts_of
+  last-works wire pass zero split one news single h = alone-works streak wire pass split one h.0
+  last-works wire pass (suc k) split one news single h = absurd (omega (arith, single))
+
+  -- one of several, and the rest
+  pub record Several (wire : W) (wires : List W) (pass split : PassValue) (one : Finish) (news : List Shift) : Type 0 where
+    pub k : ℕ
+    pub many : length wires ≡ k + 1
+    pub first : Works streak wire (child pass) split one
+    pub rest : HaveWorked streak wires (shifts_of (parent pass) k) news
+
+  pub several : (wire : W) (wires : List W) (pass : PassValue) (k : ℕ) (split : PassValue) (one : Finish) (news : List Shift) → 1 ≤ length wires
+      → length (wire ∷ wires) ≡ k + 1 → HaveWorked streak (wire ∷ wires) (shifts_of pass k) (Done split one ∷ news)
+      → Several wire wires pass split one news
+  unfolding HaveWorked shifts_of
+  several wire wires pass zero split one news more many h = absurd (omega (arith, more, many))
+  several wire wires pass (suc k) split one news more many h = record { k = k; many = omega (arith, many); first = h.0; rest = h.1 }
+
+  -- all of them, as they were dealt
+  pub as-dealt : (wires : List W) (pass : PassValue) (count : ℕ) (due news : List Shift) → 1 ≤ count → length wires ≡ count
+      → ((k : ℕ) → count ≡ k + 1 → due ≡ shifts_of pass k) → HaveWorked streak wires due news
+      → (k : ℕ) × (length wires ≡ k + 1) × HaveWorked streak wires (shifts_of pass k) news
+  as-dealt wires pass zero due news some same dealt h = absurd (omega (arith, some))
+  as-dealt wires pass (suc k) due news some same dealt h =
+      (k, omega (arith, same), subst (λ l. HaveWorked streak wires l news) (dealt k (omega arith)) h)
+
+  -- the first of those that are left, which has worked with a pass that was split off, or with the rest of it
+  module _ (wires : List W) (shifts : List Shift) (wire : W) (rest : List W) (new : Shift) (news : List Shift) (split : PassValue) (one : Finish)
+      (is_wires : wires ≡ wire ∷ rest) (is_shifts : shifts ≡ new ∷ news) (is_new : new ≡ Done split one)
+      (pass : PassValue) (k : ℕ) (many : length wires ≡ k + 1) (h : HaveWorked streak wires (shifts_of pass k) shifts) where
+    here : HaveWorked streak (wire ∷ rest) (shifts_of pass k) (Done split one ∷ news)
+    here =
+        subst (λ l. HaveWorked streak l (shifts_of pass k) (Done split one ∷ news)) is_wires
+        (subst (λ l. HaveWorked streak wires (shifts_of pass k) l) (is_shifts ∙ ap (λ s. s ∷ news) is_new) h)
+
+    count : length (wire ∷ rest) ≡ k + 1
+    count = sym (ap length is_wires) ∙ many
+
+    pub alone : rest ≡ [] → WorkAll streak wires pass split one
+    alone none =
+        let is_one : wires ≡ wire ∷ [] = is_wires ∙ ap (λ l. wire ∷ l) none in
+        subst (λ l. WorkAll streak l pass split one) (sym is_one)
+        (last-works wire pass k split one news (sym (ap length is_one) ∙ many)
+        (subst (λ l. HaveWorked streak (wire ∷ l) (shifts_of pass k) (Done split one ∷ news)) none here))
+
+    pub beside : 1 ≤ length rest → Several wire rest pass split one news
+    beside more = several wire rest pass k split one news more count here
+
+    pub joined : 1 ≤ length rest → (left all : PassValue) (end : Finish) → WorkAll streak rest (parent pass) left end → Joins left split all
+        → WorkAll streak wires pass all (finish_of one end)
+    joined more left all end others j =
+        subst (λ l. WorkAll streak l pass all (finish_of one end)) (sym is_wires)
+        (both-work streak wire rest pass split left all one end (beside more).first others j)

@@ -1,0 +1,26 @@
+//! Bytes that are changed at some places.
+
+use flat_memory::write_bytes;
+use std::alloc::{AllocError, Global};
+
+/// Puts words at places of bytes, where they fit.
+fn change(bytes: &mut [u8], changes: &[(usize, u32)]) {
+    for (at, word) in changes {
+        if *at < bytes.len() && bytes.len() - at >= 4 {
+            write_bytes(bytes, *at, &word.to_le_bytes());
+        }
+    }
+}
+
+/// The first `length` bytes, or zeros behind them, with other words at some places.
+pub fn changed(
+    alloc: Global,
+    bytes: &[u8],
+    length: usize,
+    changes: &[(usize, u32)],
+) -> Result<Vec<u8>, AllocError> {
+    let mut changed = Vec::from_slice(alloc, bytes)?;
+    changed.resize(length, 0)?;
+    change(&mut changed, changes);
+    Ok(changed)
+}

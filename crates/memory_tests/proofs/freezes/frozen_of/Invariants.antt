@@ -1,4 +1,0 @@
-use Rattle.memory_tests.proofs.freezes.frozen_of.Given as goal
-
-abbrev pub ghosts-freeze_of_ledger : goal.ghosts-freeze_of_ledger
-ghosts-freeze_of_ledger a = record { name = a.blank.name; parts = a.blank.parts }
