@@ -1,5 +1,5 @@
 -- What the clauses of `parse` and of the parser of the words tell of what the words mean.
-use Rattle.std.proofs.Common.{◌≡◌, ◌≢◌, ℕ, ◌+◌, ◌<◌, ◌^◌, ◌⊎◌, inl, inr, Bool, true, false, ◌||◌, cond, List, [], ◌∷◌, get_or, length, take, Option, Some, None, Result, Ok, Err, refl, sym, ap, ◌∙◌, subst}
+use Rattle.std.proofs.Common.{◌≡◌, ◌≢◌, ℕ, ◌+◌, ◌<◌, ◌^◌, ◌⊎◌, inl, inr, Bool, true, false, ◌||◌, cond, option_map, List, [], ◌∷◌, get_or, length, take, Option, Some, None, Result, Ok, Err, refl, sym, ap, ◌∙◌, subst}
 use Rattle.std.specs.Borrow.{Bor}
 use Rattle.std.specs.List.{fold}
 use Rattle.std.specs.Result.{IfOk, IsOkAnd, OkIff, result_ok}
@@ -8,14 +8,16 @@ use Rattle.std.specs.Str.Parse.{IsNumeral, ParsesUnsigned, digits_value, without
 use Rattle.std.proofs.lemmas.Str.Parse.{IsNumeralModel, numerals_by_value, tells_all_ascii_digits}
 use Rattle.std.proofs.lemmas.List.Sums.{fold_more}
 use Rattle.std.proofs.lemmas.Bool.{and_from, and_parts, lt-ltb, ltb-true}
-use Rattle.clap.specs.Words.{AddsArg, App, HasMatchesOf, IsAmong, Kinds, Row, Rule, app_of, fault_of, is_simple, is_simple_and_free, new_rule, rule_of, subcommand_rows_of, with_rule, with_subcommand}
+use Rattle.std.proofs.lemmas.Result.{IfOk-weaker}
+use Rattle.clap.proofs.WalkLemmas.{first_value-rows}
+use Rattle.clap.specs.Words.{AddsArg, AddsSubcommand, App, HasMatchesOf, IsAmong, Kinds, Row, Rule, app_of, fault_of, first_of, first_value, found_of, is_simple, is_simple_and_free, new_rule, rows_of, rule_of, subcommand_rows_of, with_rule, with_subcommand}
 use Rattle.clap.specs.declared.Arg.{Arg}
 use Rattle.clap.specs.declared.Command.{Command}
 use Rattle.clap.specs.declared.Command.TheViews.{out-Command}
 use Rattle.clap.specs.declared.error.kind.ErrorKind.{ErrorKind}
 use Rattle.clap.specs.declared.error.kind.ErrorKind.TheVariants.{OutOfMemory}
 use Rattle.clap.specs.declared.parser.matches.ArgMatches.{ArgMatches}
-use Rattle.command_line.specs.Words.{argument_rule, command_of, found, meant, meant_by, number_of, option_rule, refusals, snow_app}
+use Rattle.command_line.specs.Words.{argument_rule, command_of, found, meant, meant_by, number_of, option_rule, refusals, snow_app, with_files, with_numbers, with_slice, with_wire, with_workers}
 
 -- ---- numbers
 
@@ -43,19 +45,22 @@ number_of-parse text r h =
 -- ---- the parser of the words
 
 simple : is_simple snow_app ≡ true
+unfolding with_files with_numbers with_wire with_workers with_slice
 simple = refl
 
 simple_and_free : is_simple_and_free snow_app ≡ true
+unfolding with_files with_numbers with_wire with_workers with_slice
 simple_and_free = refl
 
--- a command with one more argument, neither of them global
-pub not-global : (a b g : Bool) → b ≡ (a || g) → a ≡ false → g ≡ false → b ≡ false
-not-global a b g added old new = added ∙ ap (λ v. v || g) old ∙ new
+-- a command with one more argument, which is not global: its rule is the last
+pub rule-added : {E : Type 0} (old : Command) (a : Arg) (rule : Rule) (r : Result Command E) → rule_of a ≡ rule → a.global ≡ false
+    → IfOk r (AddsArg old a) → IfOk r (λ added. app_of added ≡ with_rule (app_of old) rule)
+rule-added old a rule r is local added = IfOk-weaker r _ _ (λ new adds. adds.shape local ∙ ap (with_rule (app_of old)) is) added
 
--- and that argument's rule is its last
-pub rule-added : (old : Command) (a : Arg) (rule : Rule) (new : Command) → AddsArg old a new → a.global ≡ false → rule_of a ≡ rule
-    → app_of new ≡ with_rule (app_of old) rule
-rule-added old a rule new adds local is = adds.shape local ∙ ap (with_rule (app_of old)) is
+-- and it has no global one, if it had none
+pub not-global : {E : Type 0} (old : Command) (a : Arg) (r : Result Command E) → a.global ≡ false → IfOk r (AddsArg old a)
+    → IfOk r (λ added. (out-Command old).has_globals ≡ false → (out-Command added).has_globals ≡ false)
+not-global old a r local added = IfOk-weaker r _ _ (λ new adds none. adds.globals ∙ ap (λ v. v || a.global) none ∙ local) added
 
 -- an argument that has to be given
 pub made-required : (old new : Arg) (id : List ℕ) → new ≡ record old { required = true } → old.global ≡ false → rule_of old ≡ new_rule id
@@ -69,6 +74,11 @@ pub made-long : (old new : Arg) (name : Bor (List ℕ)) → new ≡ record old {
 made-long old new name is local of_old =
     (ap (λ (a : Arg). a.global) is ∙ local, ap rule_of is ∙ ap (λ (r : Rule). record r { long = Some name.now }) of_old)
 
+-- the text that is given for an argument
+pub text-found : (m : ArgMatches) (id : List ℕ) (text : Option (Bor (List ℕ))) → option_map (λ (t : Bor (List ℕ)). t.now) text ≡ first_value (found_of m) id
+    → option_map (λ (t : Bor (List ℕ)). t.now) text ≡ first_of id (rows_of (found_of m))
+text-found m id text is = is ∙ first_value-rows (found_of m) id
+
 -- one option more
 pub option-more : (names : List (Bor (List ℕ))) (first old new : App) (at : ℕ) (d : Bor (List ℕ)) → at < length names
     → old ≡ fold (λ app name. with_rule app (option_rule name.now)) first (take at names)
@@ -77,6 +87,13 @@ pub option-more : (names : List (Bor (List ℕ))) (first old new : App) (at : �
 option-more names first old new at d inside so_far is =
     is ∙ ap (λ (app : App). with_rule app (option_rule (get_or names at d).now)) so_far
     ∙ sym (fold_more (λ (app : App) (name : Bor (List ℕ)). with_rule app (option_rule name.now)) first names at d inside)
+
+-- a subcommand that could be made
+pub subcommand-added : {E F : Type 0} (made : Result Command E) (old sub : Command) (r : Result Command F) → made ≡ Ok sub
+    → IfOk r (AddsSubcommand old sub)
+    → IfOk r (λ added. IsOkAnd made (λ sub. (out-Command sub).has_globals ≡ false → app_of added ≡ with_subcommand (app_of old) (app_of sub).top))
+subcommand-added {E} made old sub r was added =
+    IfOk-weaker r _ _ (λ new adds. subst (λ (m : Result Command E). IsOkAnd m (λ sub. (out-Command sub).has_globals ≡ false → app_of new ≡ with_subcommand (app_of old) (app_of sub).top)) (sym was) adds.shape) added
 
 -- a subcommand that could be made, whose own parser is known
 pub subcommand-known : {E : Type 0} (made : Result Command E) (old new known : App)

@@ -57,23 +57,23 @@ abbrev pub argument_rule : List ℕ → Rule
 argument_rule name = record (new_rule name) { required = true }
 
 -- `[--disk F] [--input F] [--ram N] [--limit N] [--clones N]`
-abbrev pub with_files : App → App
+unfoldable pub with_files : App → App
 with_files app = with_rule (with_rule app (option_rule (codes "disk"))) (option_rule (codes "input"))
 
-abbrev pub with_numbers : App → App
+unfoldable pub with_numbers : App → App
 with_numbers app =
     with_rule (with_rule (with_rule app (option_rule (codes "ram"))) (option_rule (codes "limit"))) (option_rule (codes "clones"))
 
 -- `[--wire SEED] [--ahead N]`
-abbrev pub with_wire : App → App
+unfoldable pub with_wire : App → App
 with_wire app = with_rule (with_rule app (option_rule (codes "wire"))) (option_rule (codes "ahead"))
 
 -- `[--workers N]`
-abbrev pub with_workers : App → App
+unfoldable pub with_workers : App → App
 with_workers app = with_rule app (option_rule (codes "workers"))
 
 -- `[--slice N]`
-abbrev pub with_slice : App → App
+unfoldable pub with_slice : App → App
 with_slice app = with_rule app (option_rule (codes "slice"))
 
 -- `run IMAGE ..`

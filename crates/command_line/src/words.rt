@@ -3,7 +3,7 @@
 ghost use Rattle.std.specs.Prelude.{◌≡◌, ◌≤◌, false, codes, IfOk, IfSome, IsOkAnd, option_and_then, option_map};
 ghost use Rattle.std.specs.List.{fold};
 ghost use Rattle.clap.specs.declared.Command.TheViews.{out-Command};
-ghost use Rattle.clap.specs.Words.{app_of, first_of, found_of, rows_of, subcommand_rows_of, with_rule, with_subcommand};
+ghost use Rattle.clap.specs.Words.{app_of, first_of, found_of, rows_of, rule_of, subcommand_rows_of, with_rule, with_subcommand};
 ghost use Rattle.command_line.specs.Commands.{meaning};
 ghost use Rattle.command_line.specs.Words.{argument_rule, command_of, drive_app, drive_with, generated_app, generated_guest, generated_how, generated_with, guest_of, how_of, meant, number_of, option_rule, run_app, run_with, snow_app, texts, value_of, with_files, with_numbers, with_slice, with_wire, with_workers, workers_of};
 
@@ -326,6 +326,7 @@ fn generated_command<'a>(alloc: Global) -> Result<clap::Command<'a>, AllocError>
 }
 
 /// A command with the options that say of a guest what it is given: the names of its files, and its numbers.
+#[tactic(auto, unfolding(crate::specs::Words::with_files, crate::specs::Words::with_numbers))]
 fn guest_options_added<'a>(
     alloc: Global,
     command: clap::Command<'a>,
@@ -337,6 +338,7 @@ fn guest_options_added<'a>(
 }
 
 /// A command with the options that say how a family is run: how pages come, by how many workers, and in how long slices.
+#[tactic(auto, unfolding(crate::specs::Words::with_wire, crate::specs::Words::with_workers, crate::specs::Words::with_slice))]
 fn run_options_added<'a>(
     alloc: Global,
     command: clap::Command<'a>,
@@ -371,7 +373,14 @@ fn with_argument<'a>(
     ensures app { IfOk result (λ added. app_of added ≡ with_rule (app_of command.entry) (argument_rule name.entry.now)) }
     ensures local { IfOk result (λ added. (out-Command command.entry).has_globals ≡ false → (out-Command added).has_globals ≡ false) }
 {
-    command.arg(Arg::new(alloc, name).required(true))
+    command.arg(required_argument(alloc, name))
+}
+
+/// An argument that has to be given.
+fn required_argument<'a>(alloc: Global, name: &'a str) -> Arg<'a>
+    ensures { (result.global ≡ false) × (rule_of result ≡ argument_rule name.entry.now) }
+{
+    Arg::new(alloc, name).required(true)
 }
 
 /// A command with an option `--name` that takes a value.
@@ -383,7 +392,14 @@ fn with_option<'a>(
     ensures app { IfOk result (λ added. app_of added ≡ with_rule (app_of command.entry) (option_rule name.entry.now)) }
     ensures local { IfOk result (λ added. (out-Command command.entry).has_globals ≡ false → (out-Command added).has_globals ≡ false) }
 {
-    command.arg(Arg::new(alloc, name).long(name))
+    command.arg(named_option(alloc, name))
+}
+
+/// An option `--name` that takes a value.
+fn named_option<'a>(alloc: Global, name: &'a str) -> Arg<'a>
+    ensures { (result.global ≡ false) × (rule_of result ≡ option_rule name.entry.now) }
+{
+    Arg::new(alloc, name).long(name)
 }
 
 /// The subcommand that was found, with its values.

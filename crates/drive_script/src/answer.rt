@@ -3,7 +3,7 @@
 ghost use Rattle.std.specs.Prelude.{◌++◌, Some, codes};
 ghost use Rattle.std.specs.Fmt.{WritesOnOk};
 ghost use Rattle.std.specs.List.{flat_map};
-ghost use Rattle.drive_script.specs.Told.{answer_text, register_text, sent_text, why_text, word_text};
+ghost use Rattle.drive_script.specs.Told.{answer_text, arrived_text, register_text, sent_or_none, sent_text, value_text, why_text, word_text};
 
 use fork_port::Ending;
 use std::{fmt, str};
@@ -79,19 +79,49 @@ impl fmt::Display for Answer {
         match self {
             Answer::NoMachine => write!(f, "none"),
             Answer::Ran { steps, why } => write!(f, "ran {steps} {why}"),
-            Answer::Ask(None) => write!(f, "ask none"),
-            Answer::Ask(Some(sent)) => write!(f, "ask {sent}"),
-            Answer::Push(None) => write!(f, "push none"),
-            Answer::Push(Some(sent)) => write!(f, "push {sent}"),
-            Answer::Give(None) => write!(f, "give none"),
-            Answer::Give(Some(Arrived::Got(page))) => write!(f, "got {page}"),
-            Answer::Give(Some(Arrived::Had(page))) => write!(f, "had {page}"),
-            Answer::Word(None) => write!(f, "word none"),
-            Answer::Word(Some(word)) => {
-                let word = HexWord(*word);
-                write!(f, "word {word}")
-            }
+            Answer::Ask(sent) => write_sent(f, "ask", sent),
+            Answer::Push(sent) => write_sent(f, "push", sent),
+            Answer::Give(arrived) => write_arrived(f, arrived),
+            Answer::Word(word) => write_word(f, word),
             Answer::Registers(values) => write_registers(f, values),
+        }
+    }
+}
+
+/// Writes what was sent, if anything was, after a word.
+fn write_sent<W: fmt::Write>(
+    f: &mut fmt::Formatter<W>,
+    word: &str,
+    sent: &Option<Sent>,
+) -> fmt::Result
+    ensures { WritesOnOk W.write_str_gives f.old result (word.now ++ (codes " " ++ sent_or_none sent.now)) f.new }
+{
+    match sent {
+        None => write!(f, "{word} none"),
+        Some(sent) => write!(f, "{word} {sent}"),
+    }
+}
+
+/// Writes what came of a reply, if there was one.
+fn write_arrived<W: fmt::Write>(f: &mut fmt::Formatter<W>, arrived: &Option<Arrived>) -> fmt::Result
+    ensures { WritesOnOk W.write_str_gives f.old result (arrived_text arrived.now) f.new }
+{
+    match arrived {
+        None => write!(f, "give none"),
+        Some(Arrived::Got(page)) => write!(f, "got {page}"),
+        Some(Arrived::Had(page)) => write!(f, "had {page}"),
+    }
+}
+
+/// Writes a word, if there is one.
+fn write_word<W: fmt::Write>(f: &mut fmt::Formatter<W>, word: &Option<u32>) -> fmt::Result
+    ensures { WritesOnOk W.write_str_gives f.old result (codes "word " ++ value_text word.now) f.new }
+{
+    match word {
+        None => write!(f, "word none"),
+        Some(word) => {
+            let word = HexWord(*word);
+            write!(f, "word {word}")
         }
     }
 }

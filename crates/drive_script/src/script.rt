@@ -1,7 +1,7 @@
 //! Scripts, read from their texts.
 
-ghost use Rattle.std.specs.Prelude.{◌≡◌, ◌≤◌, length, map, IfOk, IfErr};
-ghost use Rattle.drive_script.specs.Lines.{line_read};
+ghost use Rattle.std.specs.Prelude.{◌≡◌, ◌≤◌, [], length, map, IfOk, IfErr, OnOk};
+ghost use Rattle.drive_script.specs.Lines.{line_read, lines_read};
 ghost use Rattle.drive_script.specs.Script.{IsRefused, script};
 
 use crate::error::{LineError, ScriptError};
@@ -45,6 +45,17 @@ pub fn read_script(alloc: Global, bytes: &[u8]) -> Result<Script, ScriptError>
     ensures refuses { IfErr result (IsRefused bytes.now) }
 {
     let mut lines = Vec::new(alloc);
+    read_lines(alloc, bytes, &mut lines)?;
+    Ok(Script { lines })
+}
+
+/// Reads the lines of a text into an empty list, up to the first that is not in form.
+fn read_lines(alloc: Global, bytes: &[u8], lines: &mut Vec<Line>) -> Result<(), ScriptError>
+    requires most { length bytes.now ≤ MAX_SCRIPT }
+    requires none { lines.old.items ≡ [] }
+    ensures reads { OnOk result (script bytes.now ≡ Ok (lines_read lines.new.items)) }
+    ensures refuses { IfErr result (IsRefused bytes.now) }
+{
     let mut number = 0u32;
     for text in bytes.split(|byte| *byte == NEWLINE) {
         number += 1;
@@ -59,5 +70,5 @@ pub fn read_script(alloc: Global, bytes: &[u8]) -> Result<Script, ScriptError>
             Err(LineError::Memory) => return Err(ScriptError::Memory),
         }
     }
-    Ok(Script { lines })
+    Ok(())
 }

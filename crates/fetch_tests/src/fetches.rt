@@ -4,19 +4,20 @@ ghost use Rattle.std.specs.Prelude.{◌≡◌, None, IfOk};
 ghost use Rattle.image_depot.specs.Key.{IsKeyOf};
 ghost use Rattle.guest_mem.specs.Ram.{IsRamOf};
 
+use crate::equal::are_equal;
 use crate::guest::Guest;
 use block_port::{BlockFields, Status};
 use console_port::{ConsoleFields, Input};
 use cow_disk::{Disk, FrozenDisk};
-use elf_load::{RAM_BASE, load_elf};
+use elf_load::{Loaded, RAM_BASE, load_elf};
 use guest_mem::GuestMem;
 use host_fetch::{FetchError, fetch};
 use image_depot::{Depot, Frozen, ImageKey};
 use rv_asm::elf_of;
 use rv_traps::Csrs;
 use std::alloc::{AllocError, Global};
+use std::process::Abort;
 use std::sync::Wait;
-use std::test::Fail;
 use timer_port::TimerPort;
 use vm_descriptor::{Descriptor, PageMap};
 use wire_fates::{Fate, Scripted};
@@ -54,48 +55,54 @@ fn descriptor(alloc: Global) -> Result<Descriptor, AllocError>
     })
 }
 
-/// The RAM of a machine of 16 pages.
-fn booted(alloc: Global) -> Result<GuestMem, Fail>
-    ensures { IfOk result (λ memory. memory.key ≡ None) }
-{
+/// An image of 16 pages. It is refused where memory is wanting alone.
+fn loaded(alloc: Global) -> Result<Loaded, AllocError> {
     let image = elf_of(alloc, RAM_BASE, &[0x73])?;
-    Ok(GuestMem::booted(alloc, &load_elf(alloc, &image, 16)?)?)
+    load_elf(alloc, &image, 16).ok().ok_or(AllocError)
 }
 
-/// A disk without sectors, and an empty input.
-fn disk_and_input(alloc: Global) -> Result<(FrozenDisk, Input), AllocError> {
-    let disk = Disk::from_bytes(alloc, &[])
-        .map_err(|_| AllocError)?
-        .freeze()?;
-    Ok((disk, Input::new(alloc, Vec::new(alloc))?))
+/// The RAM of that image.
+fn booted(alloc: Global) -> Result<GuestMem, AllocError>
+    ensures { IfOk result (λ memory. memory.key ≡ None) }
+{
+    GuestMem::booted(alloc, &loaded(alloc)?)
+}
+
+/// A disk without sectors. It is refused where memory is wanting alone.
+fn frozen_disk(alloc: Global) -> Result<FrozenDisk, AllocError> {
+    let disk = Disk::from_bytes(alloc, &[]).ok().ok_or(AllocError)?;
+    disk.freeze()
 }
 
 /// An image of this memory.
 fn image_of(alloc: Global, memory: &GuestMem, depot: &Depot) -> Result<Frozen, AllocError>
     requires { IsRamOf depot.now memory.now }
 {
-    let (disk, input) = disk_and_input(alloc)?;
+    let disk = frozen_disk(alloc)?;
+    let input = Input::new(alloc, Vec::new(alloc))?;
     memory.freeze(alloc, depot, disk, input)
 }
 
 /// The key to an image of 16 pages.
-fn frozen<R: Wait>(rt: &R, alloc: Global, depot: &Depot) -> Result<ImageKey, Fail>
+fn frozen<R: Wait>(rt: &R, alloc: Global, depot: &Depot) -> Result<ImageKey, AllocError>
     ensures { IfOk result (λ key. IsKeyOf depot.now key) }
 {
     let memory = booted(alloc)?;
-    let image = image_of(alloc, &memory, depot)?;
-    Ok(depot.freeze(rt, image)?)
+    depot.freeze(rt, image_of(alloc, &memory, depot)?)
 }
 
 /// A clone of an image, of which no page is here. It wants page 0.
-fn clone_of(alloc: Global, key: ImageKey, depot: &Depot) -> Result<Guest, Fail>
+fn clone_of(
+    rt: &impl Abort,
+    alloc: Global,
+    key: ImageKey,
+    depot: &Depot,
+) -> Result<Guest, AllocError>
     requires { IsKeyOf depot.now key }
     ensures { IfOk result (λ guest. IsRamOf depot.now guest.memory) }
 {
     let descriptor = descriptor(alloc)?;
-    if depot.pages(&key) != descriptor.pages || !descriptor.is_in_range() {
-        return Err("another image".into());
-    }
+    assert!(rt; depot.pages(&key) == descriptor.pages && descriptor.is_in_range());
     Ok(Guest {
         memory: GuestMem::clone_of(alloc, key, &descriptor)?,
         page: 0,
@@ -103,11 +110,10 @@ fn clone_of(alloc: Global, key: ImageKey, depot: &Depot) -> Result<Guest, Fail>
 }
 
 /// A clone of a new image, of which no page is here. It wants page 0.
-fn cloned<R: Wait>(rt: &R, alloc: Global, depot: &Depot) -> Result<Guest, Fail>
+fn cloned<R: Abort + Wait>(rt: &R, alloc: Global, depot: &Depot) -> Result<Guest, AllocError>
     ensures { IfOk result (λ guest. IsRamOf depot.now guest.memory) }
 {
-    let key = frozen(rt, alloc, depot)?;
-    clone_of(alloc, key, depot)
+    clone_of(rt, alloc, frozen(rt, alloc, depot)?, depot)
 }
 
 /// What a fetch with one page ahead answers, whether pages 0, 1 and 2 are here then, and how many replies it has told.
@@ -129,18 +135,22 @@ fn fetched_by<R: Wait>(
 }
 
 /// The same of a clone that is made in a depot.
-fn fetched_in<R: Wait>(
+fn fetched_in<R: Abort + Wait>(
     rt: &R,
     alloc: Global,
     depot: &Depot,
     wire: &mut Scripted,
-) -> Result<Fetched, Fail> {
+) -> Result<Fetched, AllocError> {
     let mut guest = cloned(rt, alloc, depot)?;
     Ok(fetched_by(rt, alloc, &mut guest, depot, wire))
 }
 
 /// The same in a depot of its own, over a wire of these fates.
-fn fetched<R: Wait>(rt: &R, alloc: Global, fates: Vec<Fate>) -> Result<Fetched, Fail> {
+fn fetched<R: Abort + Wait>(
+    rt: &R,
+    alloc: Global,
+    fates: Vec<Fate>,
+) -> Result<Fetched, AllocError> {
     let mut wire = Scripted::new(fates);
     let depot = Depot::new(alloc)?;
     fetched_in(rt, alloc, &depot, &mut wire)
@@ -168,38 +178,43 @@ fn times(alloc: Global, fate: Fate, count: usize) -> Result<Vec<Fate>, AllocErro
 }
 
 /// What is fetched over a wire that tells a fate so many times first.
-fn fetched_after<R: Wait>(
+fn fetched_after<R: Abort + Wait>(
     rt: &R,
     alloc: Global,
     fate: Fate,
     count: usize,
-) -> Result<Fetched, Fail> {
+) -> Result<Fetched, AllocError> {
     fetched(rt, alloc, times(alloc, fate, count)?)
 }
 
 #[test]
-fn replies_come_in_another_order(rt: HostRuntime) -> Result<(), Fail> {
-    let alloc = rt.alloc();
-    let fates = vec![in alloc; Fate::Give(1), Fate::Give(0)]?;
-    assert_eq!(rt; fetched(&rt, alloc, fates)?, (None, [true, true, false], 2));
+fn replies_come_in_another_order(rt: HostRuntime) -> Result<(), AllocError> {
+    let fates = vec![in rt.alloc(); Fate::Give(1), Fate::Give(0)]?;
+    let found = fetched(&rt, rt.alloc(), fates)?;
+    are_equal(&rt, &found, &(None, [true, true, false], 2));
+    Ok(())
+}
+
+/// The page that is wanted comes after so many lost replies.
+fn comes_after<R: Abort + Wait>(rt: &R, alloc: Global, count: usize) -> Result<(), AllocError> {
+    let (answer, [wanted, _, _], _) = fetched_after(rt, alloc, Fate::Lose(0), count)?;
+    are_equal(rt, &(answer, wanted), &(None, true));
     Ok(())
 }
 
 #[test]
-fn a_wire_fails_at_the_longest_streak(rt: HostRuntime) -> Result<(), Fail> {
-    let alloc = rt.alloc();
+fn a_wire_fails_at_the_longest_streak(rt: HostRuntime) -> Result<(), AllocError> {
     for count in 0..64 {
-        let (answer, [wanted, _, _], _) = fetched_after(&rt, alloc, Fate::Lose(0), count)?;
-        assert!(rt; answer.is_none() && wanted);
+        comes_after(&rt, rt.alloc(), count)?;
     }
-    let (answer, here, _) = fetched_after(&rt, alloc, Fate::Lose(0), 64)?;
-    assert!(rt; answer == Some(FetchError::Wire) && here == [false; 3]);
+    let (answer, here, _) = fetched_after(&rt, rt.alloc(), Fate::Lose(0), 64)?;
+    are_equal(&rt, &(answer, here), &(Some(FetchError::Wire), [false; 3]));
     Ok(())
 }
 
 #[test]
-fn a_reply_is_given_again_and_again(rt: HostRuntime) -> Result<(), Fail> {
+fn a_reply_is_given_again_and_again(rt: HostRuntime) -> Result<(), AllocError> {
     let found = fetched_after(&rt, rt.alloc(), Fate::Again(0), 64)?;
-    assert_eq!(rt; found, (None, [true, false, false], 2));
+    are_equal(&rt, &found, &(None, [true, false, false], 2));
     Ok(())
 }

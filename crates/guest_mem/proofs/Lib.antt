@@ -1,4 +1,3 @@
 pub mod Pages
 pub mod Making
 pub mod Images
-pub mod Fetching

@@ -1,6 +1,5 @@
 -- The RAM of a guest: the bytes that it reads, and what is known of its pages.
-use Rattle.std.specs.Prelude.{◌≡◌, ℕ, ◌+◌, ◌*◌, ◌/◌, ◌≤◌, Bool, true, false, not, if◌then◌else◌, List, [], ◌++◌, length, map, take, drop, replicate, slice_get, slice_index, slice_index_or, slice_set, Option, Some, None, IsTrue}
-use Rattle.std.specs.List.{All}
+use Rattle.std.specs.Prelude.{◌≡◌, ℕ, ◌+◌, ◌*◌, ◌/◌, ◌≤◌, Bool, true, false, not, if◌then◌else◌, List, [], ◌++◌, length, map, take, drop, replicate, slice_get, slice_index, slice_index_or, slice_set, Option, Some, None}
 use Rattle.std.specs.Option.{ForSome}
 use Rattle.flat_memory.specs.Flat.{put_bytes, zeros}
 use Rattle.elf_load.specs.declared.image.TheConstants.{MIN_PAGES, MAX_PAGES}
@@ -66,14 +65,6 @@ zeroed ram first count = record ram {
 -- a page that has come is here. It reads as it did
 abbrev pub arrived : Ram → ℕ → Ram
 arrived ram page = record ram { here = slice_set ram.here page true }
-
--- every page is here
-abbrev pub HasEveryPage : Ram → Type 0
-HasEveryPage ram = All (λ is_here. IsTrue is_here) ram.here
-
--- all absent pages have come, and the image is needed no more. They read as they did
-abbrev pub fetched : Ram → Ram
-fetched ram = record ram { here = replicate (length ram.here) true; key = None }
 
 -- the memory with zeros in the blank pages
 unfoldable pub cleared : List Bool → List ℕ → List ℕ

@@ -1,10 +1,9 @@
--- How the tables of a booted guest, of a clone and of a guest whose absent pages have come are made, page by page.
+-- How the tables of a booted guest and of a clone are made, page by page.
 use Rattle.std.specs.Prelude.{ℕ, ◌*◌, Bool, true, false, List, length, map, take, drop, slice_index_or}
 use Rattle.std.specs.List.{range_with_len}
 use Rattle.page_frames.specs.declared.page.TheConstants.{PAGE_SIZE}
 use Rattle.page_frames.specs.declared.entry.Entry.{Entry}
 use Rattle.page_frames.specs.declared.entry.Entry.TheVariants.{Held, Blank, Absent}
-use Rattle.page_frames.specs.Tables.{entry_at}
 use Rattle.shared_leaves.specs.Choices.{chosen}
 
 abbrev pub boot_entry : List ℕ → Bool → Entry
@@ -17,15 +16,6 @@ page_of memory page = take PAGE_SIZE (drop (PAGE_SIZE * page) memory)
 
 abbrev pub boot_table : List ℕ → List Bool → List Entry
 boot_table ram segments = map (λ page. boot_entry (page_of ram page) (slice_index_or segments page false)) (range_with_len 0 (length segments))
-
--- an absent page is held as it is in the memory below
-abbrev pub fetched_entry : Entry → List ℕ → ℕ → Entry
-fetched_entry (Held bytes) below page = Held bytes
-fetched_entry Blank below page = Blank
-fetched_entry Absent below page = Held (page_of below page)
-
-abbrev pub fetched_table : List Entry → List ℕ → List Entry
-fetched_table entries below = map (λ page. fetched_entry (entry_at entries page) below page) (range_with_len 0 (length entries))
 
 -- a clone's pages are absent but for the flagged ones, which are blank
 abbrev pub clone_table : List Bool → List Entry

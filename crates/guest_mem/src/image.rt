@@ -5,11 +5,10 @@ ghost use Rattle.shared_leaves.specs.Choices.{choice_steps};
 ghost use Rattle.vm_descriptor.specs.Descriptor.{IsRam as HasMap};
 ghost use Rattle.image_depot.specs.Image.{page_count};
 ghost use Rattle.image_depot.specs.Key.{image_of, IsKeyOf};
-ghost use Rattle.guest_mem.specs.Ram.{IsRamOf, HasEveryPage, cloned, fetched};
+ghost use Rattle.guest_mem.specs.Ram.{IsRamOf, cloned};
 ghost use Rattle.guest_mem.specs.Answers.{Arrives};
 
 use crate::memory::GuestMem;
-use crate::table::fetched_table;
 use console_port::Input;
 use cow_disk::FrozenDisk;
 use image_depot::{Arrived, Depot, Frozen, ImageKey, Parcel};
@@ -175,21 +174,5 @@ impl GuestMem {
         let held = Entry::Held(depot.frozen(key).shared_page(alloc, page)?);
         self.entries.set(page as usize, held)?;
         Ok(Arrived::Got(page))
-    }
-
-    /// Brings all absent pages here, as the image of the key has them, and lets the key go. It shares the
-    /// pages that the image holds.
-    pub fn fetch_all(&mut self, alloc: Global, depot: &Depot) -> Result<(), AllocError>
-        requires { IsRamOf depot.now self.old }
-        ensures ok { OnOk result (self.new ≡ fetched self.old) }
-        ensures every_page { OnOk result (HasEveryPage self.new) }
-        ensures err { OnErr result (self.new ≡ self.old) }
-    {
-        let Some(key) = &self.key else {
-            return Ok(());
-        };
-        let entries = fetched_table(alloc, &self.entries, depot.frozen(key))?;
-        *self = GuestMem { entries, key: None };
-        Ok(())
     }
 }

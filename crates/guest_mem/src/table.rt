@@ -3,10 +3,8 @@
 ghost use Rattle.std.specs.Prelude.{◌≡◌, ◌+◌, ◌*◌, ◌<◌, ◌≤◌, length, slice_set, IsTrue, IfOk, OnOk, OnErr};
 ghost use Rattle.flat_memory.specs.Flat.{put_bytes};
 ghost use Rattle.page_frames.specs.Tables.{blank_pages, entry_at, entry_bytes, is_own};
-ghost use Rattle.image_depot.specs.Image.{page_count};
-ghost use Rattle.guest_mem.specs.Table.{boot_entry, boot_table, fetched_entry, fetched_table};
+ghost use Rattle.guest_mem.specs.Table.{boot_entry, boot_table};
 
-use image_depot::Frozen;
 use page_frames::{Entry, PAGE_SIZE, Page, PageTable};
 use shared_leaves::SharedList;
 use std::alloc::{AllocError, Global};
@@ -39,48 +37,6 @@ fn boot_entry(alloc: Global, bytes: &[u8; PAGE_SIZE], is_held: bool) -> Result<E
     } else {
         Ok(Entry::Blank)
     }
-}
-
-/// The table with each absent page held, as an image has it. It shares the pages that the image holds.
-pub fn fetched_table(
-    alloc: Global,
-    table: &PageTable,
-    image: &Frozen,
-) -> Result<PageTable, AllocError>
-    requires { length table.now ≡ page_count image.now }
-    ensures { IfOk result (λ fetched. fetched ≡ fetched_table table.now image.now.contents) }
-{
-    SharedList::from_vec(alloc, fetched_entries(alloc, table, image)?)
-}
-
-fn fetched_entries(
-    alloc: Global,
-    table: &PageTable,
-    image: &Frozen,
-) -> Result<Vec<Entry>, AllocError>
-    requires { length table.now ≡ page_count image.now }
-    ensures { IfOk result (λ fetched. fetched.items ≡ fetched_table table.now image.now.contents) }
-{
-    let mut fetched = Vec::with_capacity(alloc, table.len())?;
-    for page in 0..image.pages() {
-        fetched.push(fetched_entry(alloc, table.get(page as usize), image, page)?)?;
-    }
-    Ok(fetched)
-}
-
-fn fetched_entry(
-    alloc: Global,
-    entry: &Entry,
-    image: &Frozen,
-    page: u32,
-) -> Result<Entry, AllocError>
-    requires { page < page_count image.now }
-    ensures { IfOk result (λ fetched. fetched ≡ fetched_entry entry.now image.now.contents page) }
-{
-    if entry.is_own() {
-        return entry.clone();
-    }
-    Ok(Entry::Held(image.shared_page(alloc, page)?))
 }
 
 /// For each entry, whether it is blank.

@@ -1,8 +1,8 @@
 -- Pages that are asked for, and replies that wait.
-use Rattle.std.proofs.Common.{◌≡◌, ℕ, suc, ◌+◌, ◌-◌, ◌<◌, Bool, true, false, not, cond, List, [], ◌∷◌, ◌++◌, length, map, take, get_or, slice_get, slice_set, Option, Some, refl, sym, ap, ◌∙◌, subst, arith, append_assoc, add-one, length-append}
+use Rattle.std.proofs.Common.{◌≡◌, ℕ, zero, suc, ◌+◌, ◌-◌, ◌<◌, ◌≤◌, Bool, true, false, not, cond, List, [], ◌∷◌, ◌++◌, length, map, take, get_or, slice_get, slice_set, Option, Some, refl, sym, ap, ◌∙◌, subst, arith, append_assoc, add-one, length-append}
 use Rattle.std.specs.List.{All, remove, take-map, drop-map}
 use Rattle.std.proofs.lemmas.List.{append-nil, map-append, set-get_or}
-use Rattle.std.proofs.lemmas.List.Elements.{All-append}
+use Rattle.std.proofs.lemmas.List.Elements.{All-append, All-cons, All-nil}
 use Rattle.std.proofs.lemmas.Option.{get_or_from_slice_get}
 use Rattle.image_depot.specs.declared.arrived.Arrived.{Arrived}
 use Rattle.image_depot.specs.declared.arrived.Arrived.TheVariants.{Got, Had}
@@ -61,8 +61,35 @@ found_absent here next pages most found whole below absent room is =
     ∙ ap (λ l. found ++ l) (sym (ap (λ n. take n (next ∷ rest)) r))
     ∙ ap (λ l. found ++ take (most - length found) l) (sym e) ∙ is
 
+-- as many were found as may be
+pub found_most : (found rest whole : List ℕ) (most : ℕ) → most ≤ length found → found ++ take (most - length found) rest ≡ whole → found ≡ whole
+found_most found rest whole most full is =
+    let none : most - length found ≡ 0 = omega (arith, full) in
+    sym (append-nil found) ∙ ap (λ n. found ++ take n rest) (sym none) ∙ is
+
+take_none : (n : ℕ) → take {A = ℕ} n [] ≡ []
+take_none zero = refl
+take_none (suc n) = refl
+
+-- no page is left
+pub found_all : (here : List Bool) (next pages room : ℕ) (found whole : List ℕ) → pages ≤ next
+    → found ++ take room (absent_among here next (pages - next)) ≡ whole → found ≡ whole
+found_all here next pages room found whole past is =
+    let none : pages - next ≡ 0 = omega (arith, past) in
+    let empty : take room (absent_among here next (pages - next)) ≡ [] = ap (λ n. take room (absent_among here next n)) none ∙ take_none room in
+    sym (append-nil found) ∙ ap (λ l. found ++ l) (sym empty) ∙ is
+
 pub grown_none : (depot : Shelves) (key : Key) (sent : List Delivery) → HasGrown depot key [] sent sent
 grown_none depot key sent = record { grown = []; by = sym (append-nil sent); kept = λ k d below. absurd (omega (arith, below)); replies = refl }
+
+pub grown_one : (depot : Shelves) (key : Key) (page : ℕ) (sent : Delivery) (old new : List Delivery) → new ≡ old ++ sent ∷ [] → IsSentOf depot sent
+    → reply_of sent ≡ reply_with key page → HasGrown depot key (page ∷ []) old new
+grown_one depot key page sent old new is here same = record {
+  grown = sent ∷ [];
+  by = is;
+  kept = All-cons (IsSentOf depot) sent [] here (All-nil (IsSentOf depot));
+  replies = ap (λ r. r ∷ []) same;
+}
 
 pub grown_more : (depot : Shelves) (key : Key) (pages more : List ℕ) (old middle new : List Delivery)
     → HasGrown depot key pages old middle → HasGrown depot key more middle new → HasGrown depot key (pages ++ more) old new

@@ -3,7 +3,7 @@ use Rattle.std.proofs.Common.{◌≡◌, ℕ, zero, suc, ◌+◌, ◌-◌, ◌*�
 use Rattle.std.specs.List.{All, Contains, remove, list_any}
 use Rattle.std.proofs.lemmas.List.{length-map, length-set, append-nil}
 use Rattle.std.proofs.lemmas.List.Edits.{length-remove}
-use Rattle.std.proofs.lemmas.List.Elements.{All-push, All-take, All-contains_itself}
+use Rattle.std.proofs.lemmas.List.Elements.{All-nil, All-push, All-take, All-contains_itself}
 use Rattle.std.proofs.lemmas.Option.{slice_get_within, slice_get_read}
 use Rattle.std.proofs.lemmas.Simd.{map-map}
 use Rattle.wire_fates.specs.Fates.{place_of, streak_after}
@@ -15,7 +15,7 @@ use Rattle.image_depot.specs.Reply.{Reply, Delivery}
 use Rattle.host_fetch.specs.Asked.{HasGrown, reply_with}
 use Rattle.host_fetch.specs.Fetch.{Fetching, Comes, Ends, Grows, after_fate, asked_again, begun, here_after, waiting_after, waits}
 use Rattle.host_fetch.specs.Fetch.Comes.{begins, goes_on}
-use Rattle.host_fetch.proofs.Asking.{map-remove, grown_more, waits_more}
+use Rattle.host_fetch.proofs.Asking.{map-remove, grown_more, grown_none, waits_more}
 
 -- where a fetch stands between two fates
 pub record Stands {T W X : Type 0} (here : T → List Bool) (key : T → Option Key) (rest : T → T) (tells : W → ℕ → Fate → W → Type 0) (streak : W → ℕ) (now : X → Reply)
@@ -51,6 +51,9 @@ grows_none here = record { pages = refl; stays = λ page e. e }
 
 pub grows_more : (a b c : List Bool) → Grows a b → Grows b c → Grows a c
 grows_more a b c h k = record { pages = k.pages ∙ h.pages; stays = λ page e. k.stays page (h.stays page e) }
+
+pub Grows-same : (a b c : List Bool) → Grows a b → c ≡ b → Grows a c
+Grows-same a b c g same = subst (Grows a) (sym same) g
 
 -- a fate takes no page away
 pub fate_grows : (fate : Fate) (waiting : List ℕ) (here : List Bool) → Grows here (here_after fate waiting here)
@@ -174,6 +177,9 @@ pub part_asked : (depot : Shelves) (k : Key) (first asked : List ℕ) (count : �
     → (x : List ℕ) × HasGrown depot k x old new × All (Contains first) x
 part_asked depot k first asked count old new same grown =
     (take count asked, grown, All-take (Contains first) count asked (subst (All (Contains first)) (sym same) (All-contains_itself first)))
+
+pub none_asked : (depot : Shelves) (k : Key) (first : List ℕ) (sent : List Delivery) → (x : List ℕ) × HasGrown depot k x sent sent × All (Contains first) x
+none_asked depot k first sent = ([], grown_none depot k sent, All-nil (Contains first))
 
 -- the replies that wait are those of the pages that wait
 same_count : {X : Type 0} (now : X → Reply) (k : Key) (items : List X) (pages : List ℕ) → map now items ≡ map (reply_with k) pages → length items ≡ length pages

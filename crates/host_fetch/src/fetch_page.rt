@@ -1,4 +1,4 @@
-ghost use Rattle.std.specs.Prelude.{◌≡◌, ℕ, ◌≤◌, List, length, None, Some, Ok, IfErr, OnOk};
+ghost use Rattle.std.specs.Prelude.{◌≡◌, ℕ, ◌<◌, ◌≤◌, true, false, List, length, None, Some, Ok, IfErr, OnOk};
 ghost use Rattle.std.specs.List.{All};
 ghost use Rattle.std.specs.Option.{ForSome};
 ghost use Rattle.image_depot.specs.Image.{page_count};
@@ -96,11 +96,19 @@ fn fetch_page<R: Wait, T: Receiver, W: Wire>(
         if receiver.is_here(page) {
             return Ok(());
         }
-        if wire.streak() == LONGEST_STREAK {
+        if has_failed(wire) {
             return Err(FetchError::Wire);
         }
         let Ok(()) = ask_again(rt, depot, key, page, &mut waiting, pushed) else {
             return Err(FetchError::Memory);
         };
     }
+}
+
+/// Whether a wire has failed: its streak is the longest.
+fn has_failed<W: Wire>(wire: &W) -> bool
+    ensures yes { result ≡ true → W.streak wire.now ≡ LONGEST_STREAK }
+    ensures no { result ≡ false → W.streak wire.now < LONGEST_STREAK }
+{
+    wire.streak() == LONGEST_STREAK
 }

@@ -1,5 +1,5 @@
 -- Shifts: how they are dealt, and what two halves of them have done.
-use Rattle.std.proofs.Common.{◌≡◌, ℕ, zero, suc, ◌+◌, ◌≤◌, List, [], ◌∷◌, ◌++◌, drop, length, slice_index_or, slice_set, take, refl, sym, ap, ◌∙◌, subst, arith}
+use Rattle.std.proofs.Common.{◌≡◌, ℕ, zero, suc, ◌+◌, ◌≤◌, false, eqb, List, [], ◌∷◌, ◌++◌, drop, length, slice_index_or, slice_set, take, refl, sym, ap, ◌∙◌, subst, arith}
 use Rattle.std.specs.List.{All}
 use Rattle.std.proofs.Math.Seq.{drop-append_seam, take-append_seam}
 use Rattle.std.proofs.lemmas.List.{length_push}
@@ -98,6 +98,11 @@ both-due board shifts front back same due = (
 )
 
 -- ---- what they have done
+
+-- some are left
+pub some-left : {W : Type 0} (rest : List W) → eqb (length rest) 0 ≡ false → 1 ≤ length rest
+some-left [] e = absurd (cc)
+some-left (wire ∷ rest) e = omega arith
 
 module _ {W : Type 0} (streak : W → ℕ) where
   pub both-halves : (here there : List W) (olds olds' news news' : List Shift) → HaveWorked streak here olds news → HaveWorked streak there olds' news'

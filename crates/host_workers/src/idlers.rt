@@ -38,10 +38,10 @@ impl Idlers {
         self.calls.load(Ordering::SeqCst)
     }
 
-    /// Calls a worker that has no machine, if there is one, to look again.
-    pub(crate) fn call(&self) {
+    /// Calls workers that have no machine to look again: so many, or all where there are fewer.
+    pub(crate) fn call(&self, most: u32) {
         self.calls.fetch_add(1, Ordering::SeqCst);
-        if self.any() {
+        for _ in 0..self.count.load(Ordering::SeqCst).min(u64::from(most)) {
             self.calls.wake_one();
         }
     }

@@ -79,7 +79,7 @@ pub(crate) fn work<R: Wait, W: Wire, G: Gate>(
         pass = after;
         match turned {
             Turned::Finished(finish) => {
-                idlers.call();
+                idlers.call(u32::MAX);
                 gate.at(rt, number, Point::Done);
                 return (pass, finish);
             }
@@ -146,9 +146,9 @@ impl Worker {
             Taken::Idle => (pass, Turned::Idle),
             Taken::Memory => (board.stop(rt, pass, Reason::Memory), Turned::Ran),
             Taken::Took(lease) => {
-                // There may be more, for another.
+                // There may be more, for others. Each calls two: so all are awake after a few calls, one behind another.
                 if self.pause.end() {
-                    idlers.call();
+                    idlers.call(2);
                 }
                 gate.at(rt, self.number, Point::Took(lease.name().depth()));
                 (
@@ -245,7 +245,7 @@ fn hand_back<R: Wait>(
     match lease.call() {
         Some(Call::Clone(_)) => {
             let forked = board.fork(rt, alloc, pass, lease, depot);
-            idlers.call();
+            idlers.call(1);
             forked
         }
         Some(Call::Join(_)) => board.join(rt, alloc, pass, lease),

@@ -1,6 +1,6 @@
 //! Page tables of which each lies over those behind it.
 
-ghost use Rattle.std.specs.Prelude.{◌≡◌, ◌↔◌, ℕ, ◌+◌, ◌*◌, ◌<◌, ◌∷◌, length, slice_index, IsTrue, IfOk};
+ghost use Rattle.std.specs.Prelude.{◌≡◌, ◌↔◌, ℕ, ◌+◌, ◌*◌, ◌<◌, ◌∷◌, ◌++◌, length, slice_index, IsTrue, IfOk, OnOk};
 ghost use Rattle.image_depot.specs.Image.{own_table, IsStack, IsWhole};
 ghost use Rattle.page_frames.specs.Tables.{entry_bytes, is_own, stacked};
 
@@ -13,10 +13,18 @@ pub fn stack_on(alloc: Global, table: Table, base: &[Table]) -> Result<Vec<Table
     ensures { IfOk result (λ tables. tables.items ≡ table ∷ base.now) }
 {
     let mut tables = vec![in alloc; table]?;
+    put_below(&mut tables, base)?;
+    Ok(tables)
+}
+
+/// Puts these tables behind those that are there.
+fn put_below(tables: &mut Vec<Table>, base: &[Table]) -> Result<(), AllocError>
+    ensures { OnOk result (tables.new.items ≡ tables.old.items ++ base.now) }
+{
     for below in base {
         tables.push(below.share()?)?;
     }
-    Ok(tables)
+    Ok(())
 }
 
 /// The entry of a page in the first of these tables that has one of its own.

@@ -5,14 +5,14 @@ ghost use Rattle.std.specs.Prelude.{◌≡◌, ◌≤◌, length, IfOk, IfSome};
 ghost use Rattle.image_depot.specs.Image.{IsWhole};
 ghost use Rattle.image_depot.specs.Key.{IsKeyOf};
 
+use crate::equal::are_equal;
 use console_port::Input;
-use cow_disk::{Disk, DiskError, FrozenDisk};
+use cow_disk::{BadSector, Disk, FrozenDisk};
 use image_depot::{Depot, Frozen, ImageKey};
 use page_frames::{Entry, PAGE_SIZE, Page, PageTable};
 use std::alloc::{AllocError, Global};
 use std::process::Abort;
 use std::sync::Wait;
-use std::test::Fail;
 use std::thread;
 use std::thread::Threads;
 
@@ -26,17 +26,18 @@ fn entries_of(alloc: Global, byte: u8) -> Result<PageTable, AllocError>
     PageTable::from_vec(alloc, vec![in alloc; first, Entry::Blank, last]?)
 }
 
-/// The disk of these bytes.
-fn disk_of(alloc: Global, bytes: &[u8]) -> Result<FrozenDisk, DiskError> {
-    Ok(Disk::from_bytes(alloc, bytes)?.freeze()?)
+/// The disk of these bytes, which are whole sectors.
+fn disk_of(alloc: Global, bytes: &[u8]) -> Result<FrozenDisk, AllocError> {
+    let disk = Disk::from_bytes(alloc, bytes).ok().ok_or(AllocError)?;
+    disk.freeze()
 }
 
 /// The image of a page of these bytes, a blank page and a page of one more, with a disk and an input
 /// of this byte.
-fn image_of(alloc: Global, byte: u8) -> Result<Frozen, DiskError> {
+fn image_of(alloc: Global, byte: u8) -> Result<Frozen, AllocError> {
     let disk = disk_of(alloc, &[byte; 512])?;
     let input = Input::new(alloc, vec![in alloc; byte; 2]?)?;
-    Ok(Frozen::new(alloc, entries_of(alloc, byte)?, disk, input)?)
+    Frozen::new(alloc, entries_of(alloc, byte)?, disk, input)
 }
 
 /// The key to the image of a byte.
@@ -45,10 +46,10 @@ pub fn frozen<R: Wait>(
     alloc: Global,
     depot: &Depot,
     byte: u8,
-) -> Result<ImageKey, DiskError>
+) -> Result<ImageKey, AllocError>
     ensures { IfOk result (λ key. IsKeyOf depot.now key) }
 {
-    Ok(depot.freeze(rt, image_of(alloc, byte)?)?)
+    depot.freeze(rt, image_of(alloc, byte)?)
 }
 
 /// Words of all three pages of an image, if it has as many.
@@ -64,11 +65,48 @@ fn words_of(image: &Frozen) -> Option<[u32; 4]> {
     ])
 }
 
-/// The last byte of the disk of an image.
-fn disk_byte(image: &Frozen) -> Result<u8, Fail> {
+/// The last byte of the first sector of a disk.
+fn last_byte(disk: &Disk) -> Result<u8, BadSector> {
     let mut sector = [0; 512];
-    image.disk().open()?.read_sector(0, &mut sector)?;
+    disk.read_sector(0, &mut sector)?;
     Ok(sector[511])
+}
+
+/// An image has these words, and a disk that ends so.
+fn has_words(rt: &impl Abort, image: &Frozen, words: [u32; 4], byte: u8) -> Result<(), AllocError> {
+    are_equal(rt, &words_of(image), &Some(words));
+    let disk = image.disk().open()?;
+    are_equal(rt, &last_byte(&disk), &Ok(byte));
+    Ok(())
+}
+
+/// Two keys lend the images of bytes 0x10 and 0x20.
+fn lend_images(
+    rt: &impl Abort,
+    depot: &Depot,
+    first: &ImageKey,
+    second: &ImageKey,
+) -> Result<(), AllocError>
+    requires first { IsKeyOf depot.now first.now }
+    requires second { IsKeyOf depot.now second.now }
+{
+    are_equal(rt, &[first.number(), second.number()], &[0, 1]);
+    let words = [0x1010_1010, 0x1010_1010, 0, 0x1111_1111];
+    has_words(rt, depot.frozen(first), words, 0x10)?;
+    let words = [0x2020_2020, 0x2020_2020, 0, 0x2121_2121];
+    has_words(rt, depot.frozen(second), words, 0x20)
+}
+
+fn are_lent<R: Abort + Wait>(rt: &R, alloc: Global, depot: &Depot) -> Result<(), AllocError> {
+    let first = frozen(rt, alloc, depot, 0x10)?;
+    let second = frozen(rt, alloc, depot, 0x20)?;
+    lend_images(rt, depot, &first, &second)
+}
+
+#[test]
+fn lends_what_was_frozen(rt: HostRuntime) -> Result<(), AllocError> {
+    let depot = Depot::new(rt.alloc())?;
+    are_lent(&rt, rt.alloc(), &depot)
 }
 
 /// The pages of an image, the input, and how many tables it has.
@@ -83,72 +121,27 @@ fn parts_of<'a>(depot: &'a Depot, key: &ImageKey) -> (u32, &'a [u8], usize)
     )
 }
 
-/// What is read of two images: their numbers, words of their pages, and the last byte of their disks.
-type Read = ([u32; 2], [Option<[u32; 4]>; 2], [u8; 2]);
-
-/// What is read of the images of two keys.
-fn read_of(depot: &Depot, first: &ImageKey, second: &ImageKey) -> Result<Read, Fail>
-    requires first { IsKeyOf depot.now first.now }
-    requires second { IsKeyOf depot.now second.now }
-{
-    let numbers = [first.number(), second.number()];
-    let (first, second) = (depot.frozen(first), depot.frozen(second));
-    Ok((
-        numbers,
-        [words_of(first), words_of(second)],
-        [disk_byte(first)?, disk_byte(second)?],
-    ))
-}
-
-/// Freezes two images, and tells what is read of them.
-fn freeze_and_read<R: Wait>(rt: &R, alloc: Global, depot: &Depot) -> Result<Read, Fail> {
-    let first = frozen(rt, alloc, depot, 0x10)?;
-    let second = frozen(rt, alloc, depot, 0x20)?;
-    read_of(depot, &first, &second)
-}
-
-/// The same in a depot of its own.
-fn read_in_depot<R: Wait>(rt: &R, alloc: Global) -> Result<Read, Fail> {
-    let depot = Depot::new(alloc)?;
-    freeze_and_read(rt, alloc, &depot)
-}
-
-#[test]
-fn lends_what_was_frozen(rt: HostRuntime) -> Result<(), Fail> {
-    let read = read_in_depot(&rt, rt.alloc())?;
-    let words = [
-        Some([0x1010_1010, 0x1010_1010, 0, 0x1111_1111]),
-        Some([0x2020_2020, 0x2020_2020, 0, 0x2121_2121]),
-    ];
-    assert_eq!(rt; read, ([0, 1], words, [0x10, 0x20]));
-    Ok(())
-}
-
 /// Freezes the image of a byte, and lends its parts by a key that is the same once more.
 fn freeze_and_lend<'a, R: Wait>(
     rt: &R,
     alloc: Global,
     depot: &'a Depot,
     byte: u8,
-) -> Result<(u32, &'a [u8], usize), Fail> {
+) -> Result<(u32, &'a [u8], usize), AllocError> {
     let key = frozen(rt, alloc, depot, byte)?.again()?;
     Ok(parts_of(depot, &key))
 }
 
-fn are_parts(rt: &impl Abort, parts: (u32, &[u8], usize), byte: u8) {
-    assert_eq!(rt; parts, (3, [byte; 2].as_slice(), 1));
-}
-
-fn parts_are_lent<R: Abort + Wait>(rt: &R, alloc: Global, depot: &Depot) -> Result<(), Fail> {
+fn parts_are_lent<R: Abort + Wait>(rt: &R, alloc: Global, depot: &Depot) -> Result<(), AllocError> {
     let first = freeze_and_lend(rt, alloc, depot, 0x10)?;
     let second = freeze_and_lend(rt, alloc, depot, 0x20)?;
-    are_parts(rt, first, 0x10);
-    are_parts(rt, second, 0x20);
+    are_equal(rt, &first, &(3, [0x10; 2].as_slice(), 1));
+    are_equal(rt, &second, &(3, [0x20; 2].as_slice(), 1));
     Ok(())
 }
 
 #[test]
-fn lends_the_parts_of_an_image(rt: HostRuntime) -> Result<(), Fail> {
+fn lends_the_parts_of_an_image(rt: HostRuntime) -> Result<(), AllocError> {
     let depot = Depot::new(rt.alloc())?;
     parts_are_lent(&rt, rt.alloc(), &depot)
 }
@@ -164,10 +157,10 @@ fn first_word(depot: &Depot, key: &ImageKey) -> Option<u32>
 }
 
 /// The image of one page, with no disk and no input.
-fn image_of_page(alloc: Global, page: &Page) -> Result<Frozen, DiskError> {
+fn image_of_page(alloc: Global, page: &Page) -> Result<Frozen, AllocError> {
     let disk = disk_of(alloc, &[])?;
     let input = Input::new(alloc, Vec::new(alloc))?;
-    Ok(Frozen::new(alloc, entries_of_page(alloc, page)?, disk, input)?)
+    Frozen::new(alloc, entries_of_page(alloc, page)?, disk, input)
 }
 
 /// One page alone.
@@ -179,39 +172,34 @@ fn entries_of_page(alloc: Global, page: &Page) -> Result<PageTable, AllocError>
     PageTable::from_vec(alloc, vec![in alloc; page]?)
 }
 
-/// The first word of the image of a page that is written after the image was frozen, and of the page.
-fn words_after_write<R: Wait>(
+/// A page is written after an image of it was frozen.
+fn write_shows_in_no_image<R: Abort + Wait>(
     rt: &R,
     alloc: Global,
     page: &mut Page,
     depot: &Depot,
-) -> Result<(Option<u32>, u32), Fail> {
+) -> Result<(), AllocError> {
     let key = depot.freeze(rt, image_of_page(alloc, page)?)?;
     page.write(0, &[0x11])?;
-    Ok((first_word(depot, &key), page.word(0)))
+    are_equal(rt, &first_word(depot, &key), &Some(0xaaaa_aaaa));
+    are_equal(rt, &page.word(0), &0xaaaa_aa11);
+    Ok(())
 }
 
-/// The same in a depot of its own.
-fn words_in_depot<R: Wait>(
+/// A page of bytes 0xaa is written so.
+fn a_page_is_written<R: Abort + Wait>(
     rt: &R,
     alloc: Global,
-    page: &mut Page,
-) -> Result<(Option<u32>, u32), Fail> {
-    let depot = Depot::new(alloc)?;
-    words_after_write(rt, alloc, page, &depot)
-}
-
-/// The same of a page of bytes 0xaa.
-fn words_of_written<R: Wait>(rt: &R, alloc: Global) -> Result<(Option<u32>, u32), Fail> {
+    depot: &Depot,
+) -> Result<(), AllocError> {
     let mut page = Page::from_slice(alloc, &[0xaa; PAGE_SIZE])?;
-    words_in_depot(rt, alloc, &mut page)
+    write_shows_in_no_image(rt, alloc, &mut page, depot)
 }
 
 #[test]
-fn a_write_to_a_page_shows_in_no_image(rt: HostRuntime) -> Result<(), Fail> {
-    let words = words_of_written(&rt, rt.alloc())?;
-    assert_eq!(rt; words, (Some(0xaaaa_aaaa), 0xaaaa_aa11));
-    Ok(())
+fn a_write_to_a_page_shows_in_no_image(rt: HostRuntime) -> Result<(), AllocError> {
+    let depot = Depot::new(rt.alloc())?;
+    a_page_is_written(&rt, rt.alloc(), &depot)
 }
 
 /// Freezes an image of each of a hundred bytes, and gives the key to the last. `None` where an image
@@ -258,53 +246,30 @@ fn read_in_two_threads<R: Threads>(
     thread::join(rt, || first_word(depot, second), move || first.number())
 }
 
-/// The numbers of two images, and what is read of them in two threads: a word of the second, and the number of
-/// the first.
-type ReadInThreads = ([u32; 2], (Option<u32>, u32));
+/// Two images have other numbers, and are read by these: a word of the second, and the number of the first.
+fn are_read(rt: &impl Abort, numbers: [u32; 2], read: (Option<u32>, u32)) {
+    let [first, second] = numbers;
+    let (word, number) = read;
+    are_equal(rt, &(first != second, number < 202), &(true, true));
+    are_equal(rt, &word, &Some(0xc8c8_c8c8));
+}
 
 // Each thread reads the image that the other has frozen.
-fn read_by_the_other<R: Threads>(
+fn freeze_and_read_in_threads<R: Abort + Threads + Wait + Sync>(
     rt: &R,
+    alloc: Global,
     depot: &Depot,
-    first: ImageKey,
-    second: &ImageKey,
-) -> ReadInThreads
-    requires { IsKeyOf depot.now second.now }
-{
+) {
+    let keys = freeze_in_two_threads(rt, alloc, depot);
+    let (first, second) = keys.expect(rt, "an image has changed");
     let numbers = [first.number(), second.number()];
-    (numbers, read_in_two_threads(rt, depot, first, second))
-}
-
-fn freeze_and_read_in_threads<R: Threads + Wait + Sync>(
-    rt: &R,
-    alloc: Global,
-    depot: &Depot,
-) -> Result<ReadInThreads, Fail> {
-    let Some((first, second)) = freeze_in_two_threads(rt, alloc, depot) else {
-        return Err("an image has changed".into());
-    };
-    Ok(read_by_the_other(rt, depot, first, &second))
-}
-
-/// The same in a depot of its own.
-fn read_in_threads_in_depot<R: Threads + Wait + Sync>(
-    rt: &R,
-    alloc: Global,
-) -> Result<ReadInThreads, Fail> {
-    let depot = Depot::new(alloc)?;
-    freeze_and_read_in_threads(rt, alloc, &depot)
-}
-
-fn are_read(rt: &impl Abort, read: ReadInThreads) {
-    let ([first, second], (word, number)) = read;
-    assert_ne!(rt; first, second);
-    assert_eq!(rt; word, Some(0xc8c8_c8c8));
-    assert!(rt; number < 202);
+    are_read(rt, numbers, read_in_two_threads(rt, depot, first, &second));
 }
 
 #[test]
-fn threads_freeze_and_read_side_by_side(rt: HostRuntime) -> Result<(), Fail> {
-    are_read(&rt, read_in_threads_in_depot(&rt, rt.alloc())?);
+fn threads_freeze_and_read_side_by_side(rt: HostRuntime) -> Result<(), AllocError> {
+    let depot = Depot::new(rt.alloc())?;
+    freeze_and_read_in_threads(&rt, rt.alloc(), &depot);
     Ok(())
 }
 
@@ -314,21 +279,21 @@ fn moved<R: Threads>(rt: &R, depot: Depot, image: Frozen) -> (Depot, usize) {
     thread::join(rt, move || depot, move || image.input().bytes().len())
 }
 
-fn depot_and_length<R: Threads>(rt: &R, alloc: Global) -> Result<(Depot, usize), Fail> {
-    let image = image_of(alloc, 0xaa)?;
-    Ok(moved(rt, Depot::new(alloc)?, image))
-}
-
-/// That length, where the depot still keeps images.
-fn length_of_moved<R: Threads + Wait>(rt: &R, alloc: Global) -> Result<usize, Fail> {
-    let (depot, length) = depot_and_length(rt, alloc)?;
+/// The depot still keeps images.
+fn keeps_when_moved<R: Abort + Threads + Wait>(
+    rt: &R,
+    alloc: Global,
+    depot: Depot,
+    image: Frozen,
+) -> Result<(), AllocError> {
+    let (depot, length) = moved(rt, depot, image);
+    are_equal(rt, &length, &2);
     frozen(rt, alloc, &depot, 0xbb)?;
-    Ok(length)
+    Ok(())
 }
 
 #[test]
-fn moves_between_threads(rt: HostRuntime) -> Result<(), Fail> {
-    let length = length_of_moved(&rt, rt.alloc())?;
-    assert_eq!(rt; length, 2);
-    Ok(())
+fn moves_between_threads(rt: HostRuntime) -> Result<(), AllocError> {
+    let image = image_of(rt.alloc(), 0xaa)?;
+    keeps_when_moved(&rt, rt.alloc(), Depot::new(rt.alloc())?, image)
 }

@@ -2,12 +2,12 @@
 //! there are none.
 
 use crate::changes::changed;
+use crate::equal::are_equal;
 use block_port::{BlockFields, Status};
 use console_port::ConsoleFields;
 use rv_traps::{CsrRegisters, Csrs};
 use std::alloc::{AllocError, Global};
 use std::process::Abort;
-use std::test::Fail;
 use std::thread;
 use std::thread::Threads;
 use timer_port::{TimerPort, TimerRegisters};
@@ -227,7 +227,7 @@ fn numbered_bytes(alloc: Global) -> Result<Vec<u8>, AllocError> {
 }
 
 fn are_placed(rt: &impl Abort, bytes: &[u8], rows: &[(usize, &[u8])], length: usize) {
-    assert_eq!(rt; (bytes.len(), misplaced(bytes, rows)), (length, None));
+    are_equal(rt, &(bytes.len(), misplaced(bytes, rows)), &(length, None));
 }
 
 #[test]
@@ -239,18 +239,14 @@ fn fields_stand_at_their_places(rt: HostRuntime) -> Result<(), AllocError> {
     Ok(())
 }
 
-fn is_spelled(rt: &impl Abort, spelled: &[u8], bytes: &[u8]) {
-    assert_eq!(rt; spelled, bytes);
-}
-
-fn is_read(rt: &impl Abort, alloc: Global, bytes: &[u8]) -> Result<(), Fail> {
+fn is_read(rt: &impl Abort, alloc: Global, bytes: &[u8]) -> Result<(), DescError> {
     let spelled = again(alloc, bytes)?;
-    is_spelled(rt, &spelled, bytes);
+    are_equal(rt, &spelled.as_slice(), &bytes);
     Ok(())
 }
 
 #[test]
-fn what_was_encoded_is_read(rt: HostRuntime) -> Result<(), Fail> {
+fn what_was_encoded_is_read(rt: HostRuntime) -> Result<(), DescError> {
     let bytes = numbered_bytes(rt.alloc())?;
     is_read(&rt, rt.alloc(), &bytes)
 }
@@ -356,8 +352,7 @@ fn are_told(
     bytes: &[u8],
     rows: &[(usize, &[(usize, u32)], u32)],
 ) -> Result<(), AllocError> {
-    let row = mistold(alloc, bytes, rows)?;
-    assert_eq!(rt; row, None);
+    are_equal(rt, &mistold(alloc, bytes, rows)?, &None);
     Ok(())
 }
 
@@ -393,15 +388,11 @@ fn bytes_of_most(alloc: Global) -> Result<Vec<u8>, AllocError> {
 /// Ends of the map of the most pages, by their places.
 static MOST: [(usize, &[u8]); 2] = [(776, b"\xff\xff"), (902, b"\xff\x7f")];
 
-fn is_taken(rt: &impl Abort, alloc: Global, bytes: &[u8]) {
-    assert_eq!(rt; reason(alloc, bytes), Some(0));
-}
-
 #[test]
 fn takes_a_map_of_the_most_pages(rt: HostRuntime) -> Result<(), AllocError> {
     let bytes = bytes_of_most(rt.alloc())?;
     are_placed(&rt, &bytes, &MOST, 904);
-    is_taken(&rt, rt.alloc(), &bytes);
+    are_equal(&rt, &reason(rt.alloc(), &bytes), &Some(0));
     Ok(())
 }
 
@@ -416,20 +407,12 @@ fn counts(flags: &[bool]) -> (usize, usize) {
     (flags.len(), blank)
 }
 
-fn are_equal(rt: &impl Abort, map: &PageMap, copy: &PageMap) {
-    assert_eq!(rt; copy.flags(), map.flags());
-}
-
-fn have_one_held(rt: &impl Abort, flags: &[bool]) {
-    assert_eq!(rt; counts(flags), (16, 15));
-}
-
 #[test]
 fn a_map_is_copied(rt: HostRuntime) -> Result<(), AllocError> {
     let map = map_of(rt.alloc(), 16, 0)?;
     let copy = map.clone()?;
-    are_equal(&rt, &map, &copy);
-    have_one_held(&rt, copy.flags());
+    are_equal(&rt, &copy.flags(), &map.flags());
+    are_equal(&rt, &counts(copy.flags()), &(16, 15));
     Ok(())
 }
 
@@ -442,6 +425,6 @@ fn is_moved_in_range<R: Threads>(rt: &R, descriptor: Descriptor) -> bool {
 #[test]
 fn moves_between_threads(rt: HostRuntime) -> Result<(), AllocError> {
     let in_range = is_moved_in_range(&rt, first_child(rt.alloc())?);
-    assert!(rt; in_range);
+    are_equal(&rt, &in_range, &true);
     Ok(())
 }

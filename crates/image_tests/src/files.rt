@@ -1,10 +1,10 @@
 //! Images of programs: that they are loaded where there is memory, and a file for each rule.
 
 use crate::changes::changed;
+use crate::equal::are_equal;
 use elf_load::{ImageError, Loaded, load_elf};
 use std::alloc::{AllocError, Global};
 use std::process::Abort;
-use std::test::Fail;
 
 /// The image of a program that exits with 7.
 #[rattlefmt::skip]
@@ -99,22 +99,23 @@ fn first_flags(loaded: &Loaded, count: usize) -> Option<&[bool]> {
 
 /// These bytes of RAM lie at an offset.
 fn has_bytes(rt: &impl Abort, loaded: &Loaded, at: usize, bytes: &[u8]) {
-    assert_eq!(rt; ram_at(loaded, at, bytes.len()), Some(bytes), "{at:#x}");
+    let found = (at, ram_at(loaded, at, bytes.len()));
+    are_equal(rt, &found, &(at, Some(bytes)));
 }
 
 /// The first pages have these flags.
 fn has_flags(rt: &impl Abort, loaded: &Loaded, flags: &[bool]) {
-    assert_eq!(rt; first_flags(loaded, flags.len()), Some(flags));
+    are_equal(rt, &first_flags(loaded, flags.len()), &Some(flags));
 }
 
 fn is_exit_seven(rt: &impl Abort, loaded: &Loaded) {
-    assert_eq!(rt; (loaded.entry(), loaded.pages()), (0x8000_0000, 64));
+    are_equal(rt, &(loaded.entry(), loaded.pages()), &(0x8000_0000, 64));
     has_bytes(rt, loaded, 0, &[0xb7, 0x22, 0x00, 0x10, 0x13]);
     has_flags(rt, loaded, &[true, false]);
 }
 
 #[test]
-fn loads_exit_seven(rt: HostRuntime) -> Result<(), Fail> {
+fn loads_exit_seven(rt: HostRuntime) -> Result<(), ImageError> {
     let loaded = load_elf(rt.alloc(), &EXIT_SEVEN, 64)?;
     is_exit_seven(&rt, &loaded);
     Ok(())
@@ -136,7 +137,7 @@ fn are_placed(rt: &impl Abort, loaded: &Loaded) {
 }
 
 fn is_in_order(rt: &impl Abort, loaded: &Loaded) {
-    assert_eq!(rt; loaded.entry(), 0x8000_1000);
+    are_equal(rt, &loaded.entry(), &0x8000_1000);
     are_placed(rt, loaded);
     has_flags(rt, loaded, &[true, true, true, true, false]);
 }
@@ -147,13 +148,13 @@ fn loaded_of(
     entry: u32,
     headers: &[ProgramHeader],
     bytes: &[u8],
-) -> Result<Loaded, Fail> {
+) -> Result<Loaded, ImageError> {
     let image = image_of(alloc, entry, headers, bytes)?;
-    Ok(load_elf(alloc, &image, 16)?)
+    load_elf(alloc, &image, 16)
 }
 
 #[test]
-fn loads_segments_in_any_order(rt: HostRuntime) -> Result<(), Fail> {
+fn loads_segments_in_any_order(rt: HostRuntime) -> Result<(), ImageError> {
     let bytes = [1, 2, 3, 4, 5, 6];
     let loaded = loaded_of(rt.alloc(), 0x8000_1000, &ANY_ORDER, &bytes)?;
     is_in_order(&rt, &loaded);
@@ -175,13 +176,13 @@ fn most_headers(alloc: Global) -> Result<Vec<ProgramHeader>, AllocError> {
 }
 
 /// What the file of these is loaded as.
-fn loaded_of_most(alloc: Global) -> Result<Loaded, Fail> {
+fn loaded_of_most(alloc: Global) -> Result<Loaded, ImageError> {
     let headers = most_headers(alloc)?;
     loaded_of(alloc, 0x8000_0000, &headers, &[])
 }
 
 #[test]
-fn loads_as_many_segments_as_there_may_be(rt: HostRuntime) -> Result<(), Fail> {
+fn loads_as_many_segments_as_there_may_be(rt: HostRuntime) -> Result<(), ImageError> {
     let loaded = loaded_of_most(rt.alloc())?;
     has_bytes(&rt, &loaded, 0xfffc, &[0x7f, 0x7f, 0]);
     Ok(())
@@ -218,12 +219,14 @@ static LAST_OF_MOST: [(u32, Option<u32>); 7] = [
 
 fn is_told(rt: &impl Abort, alloc: Global, last: u32, rule: Option<u32>) -> Result<(), AllocError> {
     let refused = refusal_of_most(alloc, last)?;
-    assert_eq!(rt; refused, rule.map(ImageError::Refused), "{last:#x}");
+    are_equal(rt, &(last, refused), &(last, rule.map(ImageError::Refused)));
     Ok(())
 }
 
 #[test]
-fn tells_one_overlap_among_as_many_segments_as_there_may_be(rt: HostRuntime) -> Result<(), Fail> {
+fn tells_one_overlap_among_as_many_segments_as_there_may_be(
+    rt: HostRuntime,
+) -> Result<(), AllocError> {
     for (last, rule) in LAST_OF_MOST.iter() {
         is_told(&rt, rt.alloc(), *last, *rule)?;
     }
@@ -287,11 +290,8 @@ fn is_refused(
 ) -> Result<(), AllocError> {
     let (length, changes, rule) = *row;
     let refused = refusal_of_changed(alloc, image, length, changes)?;
-    assert_eq!(rt;
-        refused,
-        Some(ImageError::Refused(rule)),
-        "{changes:?} at {length} bytes"
-    );
+    let want = Some(ImageError::Refused(rule));
+    are_equal(rt, &(length, changes, refused), &(length, changes, want));
     Ok(())
 }
 
@@ -302,13 +302,9 @@ fn is_refused_by_each_rule(rt: &impl Abort, alloc: Global, image: &[u8]) -> Resu
     Ok(())
 }
 
-fn is_loaded(rt: &impl Abort, alloc: Global, image: &[u8]) {
-    assert_eq!(rt; refusal(alloc, image), None);
-}
-
 #[test]
 fn refuses_by_the_first_rule_that_is_broken(rt: HostRuntime) -> Result<(), AllocError> {
     let image = image_of(rt.alloc(), 0x8000_0000, &TWO_SEGMENTS, &[0; 20])?;
-    is_loaded(&rt, rt.alloc(), &image);
+    are_equal(&rt, &refusal(rt.alloc(), &image), &None);
     is_refused_by_each_rule(&rt, rt.alloc(), &image)
 }

@@ -1,5 +1,6 @@
 //! Frames: that a page is put into one and read from it, and that other bytes are none.
 
+use crate::equal::are_equal;
 use fetch_proto::{decode_frame, encode_reply};
 use std::alloc::AllocError;
 use std::process::Abort;
@@ -30,7 +31,7 @@ fn is_frame(bytes: &[u8], length: usize) -> bool {
 /// The bytes begin with the magic number, the image and the page, and then with zeros.
 fn is_placed(rt: &impl Abort, bytes: &[u8]) {
     let begins = bytes.starts_with(b"SFR1\x03\0\0\0\x01\0\0\0\0");
-    assert_eq!(rt; (bytes.len(), begins), (4108, true));
+    are_equal(rt, &(bytes.len(), begins), &(4108, true));
 }
 
 /// The bytes are a frame of zeros, and no fewer of them are one.
@@ -41,7 +42,11 @@ fn is_whole(rt: &impl Abort, bytes: &[u8]) {
         is_frame(bytes, 12),
         is_frame(bytes, 4107),
     ];
-    assert_eq!(rt; (zeros_in(bytes), cut), (Some((3, 1, 4096)), [false; 4]));
+    are_equal(
+        rt,
+        &(zeros_in(bytes), cut),
+        &(Some((3, 1, 4096)), [false; 4]),
+    );
 }
 
 #[test]
@@ -53,7 +58,7 @@ fn a_page_goes_in_a_frame(rt: HostRuntime) -> Result<(), AllocError> {
 }
 
 fn is_no_frame(rt: &impl Abort, bytes: &[u8]) {
-    assert_eq!(rt; zeros_in(bytes), None);
+    are_equal(rt, &zeros_in(bytes), &None);
 }
 
 /// Puts another byte at the start.

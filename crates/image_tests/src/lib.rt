@@ -11,6 +11,8 @@ mod depots;
 #[cfg(test)]
 mod descriptors;
 #[cfg(test)]
+mod equal;
+#[cfg(test)]
 mod files;
 #[cfg(test)]
 mod frames;

@@ -3,6 +3,7 @@
 
 ghost use Rattle.std.specs.Prelude.{◌≡◌, ◌+◌, ◌<◌, true, false, [], ◌∷◌, length, replicate, OnOk};
 
+use crate::equal::are_equal;
 use crate::token::Token;
 use shared_leaves::{SharedList, Steps};
 use std::alloc::{AllocError, Global};
@@ -42,10 +43,12 @@ fn held_at(list: &SharedList<Token>, i: usize) -> Option<(u32, usize)> {
 /// What entries hold at seven places.
 type Held = [Option<(u32, usize)>; 7];
 
-/// The first and last place of each leaf of 130 entries, and one in the middle of the second.
-fn held(list: &SharedList<Token>) -> Held {
-    [0, 63, 64, 65, 127, 128, 129].map(|i| held_at(list, i))
+fn held(list: &SharedList<Token>, places: [usize; 7]) -> Held {
+    places.map(|i| held_at(list, i))
 }
+
+/// The first and last place of each leaf of 130 entries, and one in the middle of the second.
+const PLACES: [usize; 7] = [0, 63, 64, 65, 127, 128, 129];
 
 /// Writes one entry, and says whether there is such a place.
 fn write(list: &mut SharedList<Token>, i: usize, number: u32) -> Result<bool, AllocError> {
@@ -132,7 +135,7 @@ static SIZES: [u32; 8] = [0, 1, 63, 64, 65, 128, 130, 1024];
 
 fn has_its_entries(rt: &impl Abort, alloc: Global, size: u32) -> Result<(), AllocError> {
     let list = counted(alloc, size)?;
-    assert!(rt; is_counted(&list, size), "{size} entries");
+    are_equal(rt, &(size, is_counted(&list, size)), &(size, true));
     Ok(())
 }
 
@@ -142,13 +145,6 @@ fn lists_have_their_entries(rt: HostRuntime) -> Result<(), AllocError> {
         has_its_entries(&rt, rt.alloc(), *size)?;
     }
     Ok(())
-}
-
-/// Whether two entries of the second leaf are written in a share, and what the list and the share hold then.
-fn held_after_writes(before: &SharedList<Token>) -> Result<([bool; 2], [Held; 2]), AllocError> {
-    let mut after = before.share()?;
-    let written = [write(&mut after, 65, 1000)?, write(&mut after, 127, 1001)?];
-    Ok((written, [held(before), held(&after)]))
 }
 
 static NOT_WRITTEN: [(u32, usize); 7] = [
@@ -171,10 +167,13 @@ static WRITTEN: [(u32, usize); 7] = [
     (129, 1),
 ];
 
+/// Two entries of the second leaf are written in a share.
 fn one_leaf_is_copied(rt: &impl Abort, before: &SharedList<Token>) -> Result<(), AllocError> {
-    let (written, held) = held_after_writes(before)?;
-    assert_eq!(rt; written, [true, true]);
-    assert_eq!(rt; held, [NOT_WRITTEN.map(Some), WRITTEN.map(Some)]);
+    let mut after = before.share()?;
+    let written = [write(&mut after, 65, 1000)?, write(&mut after, 127, 1001)?];
+    are_equal(rt, &written, &[true, true]);
+    are_equal(rt, &held(before, PLACES), &NOT_WRITTEN.map(Some));
+    are_equal(rt, &held(&after, PLACES), &WRITTEN.map(Some));
     Ok(())
 }
 
@@ -182,13 +181,6 @@ fn one_leaf_is_copied(rt: &impl Abort, before: &SharedList<Token>) -> Result<(),
 fn a_write_copies_one_leaf(rt: HostRuntime) -> Result<(), AllocError> {
     let before = counted(rt.alloc(), 130)?;
     one_leaf_is_copied(&rt, &before)
-}
-
-/// How many entries hold the number of a run that is set in a share, and what the share holds then.
-fn held_after_fill(before: &SharedList<Token>) -> Result<(usize, Held), AllocError> {
-    let mut after = before.share()?;
-    let holders = fill(&mut after, 63, 129, 7)?;
-    Ok((holders, held(&after)))
 }
 
 static FILLED: [(u32, usize); 7] = [
@@ -201,10 +193,12 @@ static FILLED: [(u32, usize); 7] = [
     (129, 2),
 ];
 
+/// A run is set in a share.
 fn whole_leaves_are_shared(rt: &impl Abort, before: &SharedList<Token>) -> Result<(), AllocError> {
-    let (holders, held) = held_after_fill(before)?;
-    assert!(rt; is_counted(before, 130));
-    assert_eq!(rt; (holders, held), (1 + 64 + 1, FILLED.map(Some)));
+    let mut after = before.share()?;
+    let holders = fill(&mut after, 63, 129, 7)?;
+    are_equal(rt, &(is_counted(before, 130), holders), &(true, 1 + 64 + 1));
+    are_equal(rt, &held(&after, PLACES), &FILLED.map(Some));
     Ok(())
 }
 
@@ -222,26 +216,21 @@ fn chosen(alloc: Global, set: &Token, unset: &Token) -> Result<SharedList<Token>
     choose_of_ledger::<Brand>(alloc, &flags, set, unset, Blank::new(1))
 }
 
-/// The length of that list, and what its entries hold at the ends of leaves.
-fn length_and_held(list: &SharedList<Token>) -> (usize, Held) {
-    let held = [0, 63, 64, 100, 127, 255, 256].map(|i| held_at(list, i));
-    (list.len(), held)
+/// Three whole leaves of the one number are one, and the entries of the leaf with both are apart.
+fn has_one_leaf(rt: &impl Abort, list: &SharedList<Token>) {
+    are_equal(rt, &list.len(), &257);
+    let holders = (8, 1 + 64 + 63 + 1);
+    let want = [holders, holders, holders, (7, 2), holders, holders, holders];
+    let found = held(list, [0, 63, 64, 100, 127, 255, 256]);
+    are_equal(rt, &found, &want.map(Some));
 }
 
-/// The same of two new tokens.
-fn held_of_chosen(alloc: Global) -> Result<(usize, Held), AllocError> {
-    let (set, unset) = (Token::new(alloc, 7)?, Token::new(alloc, 8)?);
-    let list = chosen(alloc, &set, &unset)?;
-    Ok(length_and_held(&list))
-}
-
-// Three whole leaves of the one number are one, and the entries of the leaf with both are apart.
 #[test]
 fn equal_entries_are_one_leaf(rt: HostRuntime) -> Result<(), AllocError> {
-    let found = held_of_chosen(rt.alloc())?;
-    let holders = (8, 1 + 64 + 63 + 1);
-    let held = [holders, holders, holders, (7, 2), holders, holders, holders];
-    assert_eq!(rt; found, (257, held.map(Some)));
+    let set = Token::new(rt.alloc(), 7)?;
+    let unset = Token::new(rt.alloc(), 8)?;
+    let list = chosen(rt.alloc(), &set, &unset)?;
+    has_one_leaf(&rt, &list);
     Ok(())
 }
 
@@ -254,37 +243,27 @@ fn is_shared_counted(list: &SharedList<Token>) -> Result<bool, AllocError> {
 #[test]
 fn a_counted_share_is_equal(rt: HostRuntime) -> Result<(), AllocError> {
     let list = counted(rt.alloc(), 1024)?;
-    let is_equal = is_shared_counted(&list)?;
-    assert!(rt; is_equal);
+    are_equal(&rt, &is_shared_counted(&list)?, &true);
     Ok(())
 }
 
-/// Whether a share is written in a thread, and whether the list is as it was in another.
-fn written_and_counted<R: Threads>(
+/// A share is written in a thread, and the list is as it was in another.
+fn is_written_apart<R: Abort + Threads>(
     rt: &R,
     mut copy: SharedList<Token>,
     list: &SharedList<Token>,
-) -> (Result<bool, AllocError>, bool) {
-    thread::join(
+) {
+    let found = thread::join(
         rt,
         move || write(&mut copy, 64, 1000),
         || is_counted(list, 65),
-    )
-}
-
-/// The same of a new list.
-fn written_and_counted_of_new<R: Threads>(
-    rt: &R,
-    alloc: Global,
-) -> Result<(bool, bool), AllocError> {
-    let list = counted(alloc, 65)?;
-    let (written, counted) = written_and_counted(rt, list.share()?, &list);
-    Ok((written?, counted))
+    );
+    are_equal(rt, &found, &(Ok(true), true));
 }
 
 #[test]
 fn lists_move_between_threads(rt: HostRuntime) -> Result<(), AllocError> {
-    let found = written_and_counted_of_new(&rt, rt.alloc())?;
-    assert_eq!(rt; found, (true, true));
+    let list = counted(rt.alloc(), 65)?;
+    is_written_apart(&rt, list.share()?, &list);
     Ok(())
 }

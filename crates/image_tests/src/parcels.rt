@@ -6,11 +6,11 @@ ghost use Rattle.image_depot.specs.Key.{IsKeyOf};
 ghost use Rattle.image_depot.specs.Reply.{IsSentOf};
 
 use crate::depots::frozen;
+use crate::equal::are_equal;
 use image_depot::{Depot, ImageKey, Parcel, Sent};
-use std::alloc::Global;
+use std::alloc::{AllocError, Global};
 use std::process::Abort;
 use std::sync::Wait;
-use std::test::Fail;
 use std::thread;
 use std::thread::Threads;
 
@@ -35,52 +35,49 @@ fn is_reply(bytes: &[u8], start: &[u8; 12], byte: u8) -> bool {
     }
 }
 
-/// Whether the reply for a page of an image begins so and has a page of this byte.
-fn answers(depot: &Depot, key: &ImageKey, page: u32, start: &[u8; 12], byte: u8) -> Option<bool>
+/// Whether the reply for a page of an image begins so and has a page of this byte, and the number of the image that
+/// it tells.
+fn answers(
+    depot: &Depot,
+    key: &ImageKey,
+    page: u32,
+    start: &[u8; 12],
+    byte: u8,
+) -> Option<(bool, u32)>
     requires { IsKeyOf depot.now key.now }
 {
     let reply = answered(depot, key, page)?;
-    Some(is_reply(reply.bytes(), start, byte))
+    Some((is_reply(reply.bytes(), start, byte), reply.key().number()))
 }
 
-/// Whether the replies for all three pages of an image are as they are to be.
-fn are_replies(depot: &Depot, key: &ImageKey, byte: u8) -> Option<[bool; 3]>
+/// The replies for all three pages of the image of byte 0x20 are as they are to be.
+fn are_replies(rt: &impl Abort, depot: &Depot, key: &ImageKey)
     requires { IsKeyOf depot.now key.now }
 {
-    Some([
-        answers(depot, key, 0, b"SFR1\x01\0\0\0\0\0\0\0", byte)?,
-        answers(depot, key, 1, b"SFR1\x01\0\0\0\x01\0\0\0", 0)?,
-        answers(depot, key, 2, b"SFR1\x01\0\0\0\x02\0\0\0", byte ^ 1)?,
-    ])
+    let all = [
+        answers(depot, key, 0, b"SFR1\x01\0\0\0\0\0\0\0", 0x20),
+        answers(depot, key, 1, b"SFR1\x01\0\0\0\x01\0\0\0", 0),
+        answers(depot, key, 2, b"SFR1\x01\0\0\0\x02\0\0\0", 0x21),
+    ];
+    are_equal(rt, &all, &[Some((true, 1)); 3]);
 }
 
-/// The number of the image that the reply for its last page tells.
-fn number_told(depot: &Depot, key: &ImageKey) -> Option<u32>
-    requires { IsKeyOf depot.now key.now }
-{
-    answered(depot, key, 2).map(|parcel| parcel.key().number())
-}
-
-/// Whether the replies for the pages of the second of two images are so, and the number that the last tells.
-type Carried = (Option<[bool; 3]>, Option<u32>);
-
-fn carried<R: Wait>(rt: &R, alloc: Global, depot: &Depot) -> Result<Carried, Fail> {
+/// The second of two images is the one of byte 0x20.
+fn second_is_carried<R: Abort + Wait>(
+    rt: &R,
+    alloc: Global,
+    depot: &Depot,
+) -> Result<(), AllocError> {
     frozen(rt, alloc, depot, 0x10)?;
     let key = frozen(rt, alloc, depot, 0x20)?;
-    Ok((are_replies(depot, &key, 0x20), number_told(depot, &key)))
-}
-
-/// The same in a depot of its own.
-fn carried_in_depot<R: Wait>(rt: &R, alloc: Global) -> Result<Carried, Fail> {
-    let depot = Depot::new(alloc)?;
-    carried(rt, alloc, &depot)
+    are_replies(rt, depot, &key);
+    Ok(())
 }
 
 #[test]
-fn a_reply_carries_its_page(rt: HostRuntime) -> Result<(), Fail> {
-    let carried = carried_in_depot(&rt, rt.alloc())?;
-    assert_eq!(rt; carried, (Some([true; 3]), Some(1)));
-    Ok(())
+fn a_reply_carries_its_page(rt: HostRuntime) -> Result<(), AllocError> {
+    let depot = Depot::new(rt.alloc())?;
+    second_is_carried(&rt, rt.alloc(), &depot)
 }
 
 /// Pushes the reply that carries a page of an image.
@@ -102,58 +99,40 @@ fn told(depot: &Depot, sent: &Sent) -> Told
     (sent.image(), sent.page(), last.copied())
 }
 
-/// What is told of a parcel that was pushed, of the one of the first page, which is pushed now, and of the
-/// other once more.
-fn told_after_another<R: Wait>(
-    rt: &R,
-    depot: &Depot,
-    key: &ImageKey,
-    first: &Sent,
-) -> Result<[Told; 3], Fail>
-    requires key { IsKeyOf depot.now key.now }
-    requires sent { IsSentOf depot.now first.now }
-{
-    let Some(second) = pushed(rt, depot, key, 0) else {
-        return Err("not pushed".into());
-    };
-    let again = first.again()?;
-    Ok([
-        told(depot, first),
-        told(depot, &second),
-        told(depot, &again),
-    ])
-}
-
-/// The same, of the last page first.
-fn told_of_two<R: Wait>(rt: &R, depot: &Depot, key: &ImageKey) -> Result<[Told; 3], Fail>
+/// A page of an image is pushed, and then another. The first is told once more, too.
+fn are_there<R: Abort + Wait>(rt: &R, depot: &Depot, key: &ImageKey) -> Result<(), AllocError>
     requires { IsKeyOf depot.now key.now }
 {
-    let Some(first) = pushed(rt, depot, key, 2) else {
-        return Err("not pushed".into());
-    };
-    told_after_another(rt, depot, key, &first)
+    let first = pushed(rt, depot, key, 2).expect(rt, "a parcel");
+    let second = pushed(rt, depot, key, 0).expect(rt, "a parcel");
+    let again = first.again()?;
+    let all = [
+        told(depot, &first),
+        told(depot, &second),
+        told(depot, &again),
+    ];
+    are_equal(
+        rt,
+        &all,
+        &[(0, 2, Some(0x31)), (0, 0, Some(0x30)), (0, 2, Some(0x31))],
+    );
+    Ok(())
 }
 
 /// The same of an image that is frozen for it.
-fn told_of_frozen<R: Wait>(rt: &R, alloc: Global, depot: &Depot) -> Result<[Told; 3], Fail> {
+fn are_there_of_frozen<R: Abort + Wait>(
+    rt: &R,
+    alloc: Global,
+    depot: &Depot,
+) -> Result<(), AllocError> {
     let key = frozen(rt, alloc, depot, 0x30)?;
-    told_of_two(rt, depot, &key)
-}
-
-/// The same in a depot of its own.
-fn told_in_depot<R: Wait>(rt: &R, alloc: Global) -> Result<[Told; 3], Fail> {
-    let depot = Depot::new(alloc)?;
-    told_of_frozen(rt, alloc, &depot)
+    are_there(rt, depot, &key)
 }
 
 #[test]
-fn what_was_pushed_is_there(rt: HostRuntime) -> Result<(), Fail> {
-    let all = told_in_depot(&rt, rt.alloc())?;
-    assert_eq!(rt;
-        all,
-        [(0, 2, Some(0x31)), (0, 0, Some(0x30)), (0, 2, Some(0x31))]
-    );
-    Ok(())
+fn what_was_pushed_is_there(rt: HostRuntime) -> Result<(), AllocError> {
+    let depot = Depot::new(rt.alloc())?;
+    are_there_of_frozen(&rt, rt.alloc(), &depot)
 }
 
 /// Pushes a page of an image a hundred times, and reads what was pushed each time. `None` where it is
@@ -201,39 +180,29 @@ fn read_in_two_threads<R: Threads>(
     thread::join(rt, || told(depot, second), || told(depot, first))
 }
 
-fn pushed_and_read<R: Threads + Wait + Sync>(
-    rt: &R,
-    depot: &Depot,
-    key: &ImageKey,
-) -> Result<(Told, Told), Fail>
+fn pushed_and_read<R: Abort + Threads + Wait + Sync>(rt: &R, depot: &Depot, key: &ImageKey)
     requires { IsKeyOf depot.now key.now }
 {
-    let Some((first, second)) = push_in_two_threads(rt, depot, key) else {
-        return Err("a reply is not there".into());
-    };
-    Ok(read_in_two_threads(rt, depot, &first, &second))
+    let sents = push_in_two_threads(rt, depot, key);
+    let (first, second) = sents.expect(rt, "a reply is not there");
+    let read = read_in_two_threads(rt, depot, &first, &second);
+    are_equal(rt, &read, &((0, 2, Some(0x41)), (0, 0, Some(0x40))));
 }
 
-fn push_and_read_in_threads<R: Threads + Wait + Sync>(
+fn push_and_read_in_threads<R: Abort + Threads + Wait + Sync>(
     rt: &R,
     alloc: Global,
     depot: &Depot,
-) -> Result<(Told, Told), Fail> {
+) -> Result<(), AllocError> {
     let key = frozen(rt, alloc, depot, 0x40)?;
-    pushed_and_read(rt, depot, &key)
-}
-
-/// The same in a depot of its own.
-fn read_in_depot<R: Threads + Wait + Sync>(rt: &R, alloc: Global) -> Result<(Told, Told), Fail> {
-    let depot = Depot::new(alloc)?;
-    push_and_read_in_threads(rt, alloc, &depot)
+    pushed_and_read(rt, depot, &key);
+    Ok(())
 }
 
 #[test]
-fn threads_push_and_read_side_by_side(rt: HostRuntime) -> Result<(), Fail> {
-    let read = read_in_depot(&rt, rt.alloc())?;
-    assert_eq!(rt; read, ((0, 2, Some(0x41)), (0, 0, Some(0x40))));
-    Ok(())
+fn threads_push_and_read_side_by_side(rt: HostRuntime) -> Result<(), AllocError> {
+    let depot = Depot::new(rt.alloc())?;
+    push_and_read_in_threads(&rt, rt.alloc(), &depot)
 }
 
 /// A parcel and one that was pushed go to a thread each, which tell the length of the one and the page of
@@ -242,43 +211,26 @@ fn moved<R: Threads>(rt: &R, parcel: Parcel, sent: Sent) -> (usize, u32) {
     thread::join(rt, move || parcel.bytes().len(), move || sent.page())
 }
 
-fn length_and_page<R: Threads + Wait>(
-    rt: &R,
-    depot: &Depot,
-    key: &ImageKey,
-) -> Result<(usize, u32), Fail>
+fn length_and_page<R: Abort + Threads + Wait>(rt: &R, depot: &Depot, key: &ImageKey)
     requires { IsKeyOf depot.now key.now }
 {
-    let Some(parcel) = answered(depot, key, 0) else {
-        return Err("no reply".into());
-    };
-    let Some(sent) = pushed(rt, depot, key, 2) else {
-        return Err("not pushed".into());
-    };
-    Ok(moved(rt, parcel, sent))
+    let sent = pushed(rt, depot, key, 2).expect(rt, "a parcel");
+    let parcel = answered(depot, key, 0).expect(rt, "a reply");
+    are_equal(rt, &moved(rt, parcel, sent), &(4108, 2));
 }
 
-fn length_and_page_of_frozen<R: Threads + Wait>(
+fn length_and_page_of_frozen<R: Abort + Threads + Wait>(
     rt: &R,
     alloc: Global,
     depot: &Depot,
-) -> Result<(usize, u32), Fail> {
+) -> Result<(), AllocError> {
     let key = frozen(rt, alloc, depot, 0x50)?;
-    length_and_page(rt, depot, &key)
-}
-
-/// The same in a depot of its own.
-fn length_and_page_in_depot<R: Threads + Wait>(
-    rt: &R,
-    alloc: Global,
-) -> Result<(usize, u32), Fail> {
-    let depot = Depot::new(alloc)?;
-    length_and_page_of_frozen(rt, alloc, &depot)
+    length_and_page(rt, depot, &key);
+    Ok(())
 }
 
 #[test]
-fn moves_between_threads(rt: HostRuntime) -> Result<(), Fail> {
-    let told = length_and_page_in_depot(&rt, rt.alloc())?;
-    assert_eq!(rt; told, (4108, 2));
-    Ok(())
+fn moves_between_threads(rt: HostRuntime) -> Result<(), AllocError> {
+    let depot = Depot::new(rt.alloc())?;
+    length_and_page_of_frozen(&rt, rt.alloc(), &depot)
 }

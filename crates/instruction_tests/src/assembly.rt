@@ -2,6 +2,7 @@
 
 mod guests;
 
+use crate::equal::are_equal;
 use elf_load::{ImageError, load_elf};
 use guests::{
     ECHO_BYTE, ECHO_BYTE_WORDS, EXIT_SEVEN, EXIT_SEVEN_WORDS, GRANDCHILD, GRANDCHILD_WORDS,
@@ -15,7 +16,6 @@ use rv_asm::{AsmError, MAX_WORDS, Program, elf_of, encode, takes_label};
 use rv_decode::{Instr, Kind};
 use std::alloc::{AllocError, Global};
 use std::process::Abort;
-use std::test::Fail;
 
 /// Where the example guests are loaded.
 const BASE: u32 = 0x8000_0000;
@@ -131,23 +131,34 @@ fn image_of(alloc: Global, words: &[u32]) -> Result<Vec<u8>, AllocError> {
 }
 
 /// The image of these words is that of the words that are wanted.
-fn is_image_of(rt: &impl Abort, alloc: Global, words: &[u32], want: &[u32]) -> Result<(), Fail> {
-    assert_eq!(rt; words, want);
+fn is_image_of(
+    rt: &impl Abort,
+    alloc: Global,
+    words: &[u32],
+    want: &[u32],
+) -> Result<(), AllocError> {
+    are_equal(rt, &words, &want);
     assert!(rt; words.len() <= MAX_WORDS);
     let image = elf_of(alloc, BASE, words)?;
     let stored = image_of(alloc, want)?;
-    assert_eq!(rt; image.as_slice(), stored.as_slice());
+    are_equal(rt, &image.as_slice(), &stored.as_slice());
     Ok(())
 }
 
 /// These lines are assembled to the words that are wanted.
-fn is_assembled(rt: &impl Abort, alloc: Global, lines: &[Line], want: &[u32]) -> Result<(), Fail> {
+fn is_assembled(
+    rt: &impl Abort,
+    alloc: Global,
+    lines: &[Line],
+    want: &[u32],
+) -> Result<(), AsmError> {
     let words = assembled(rt, alloc, lines)?;
-    is_image_of(rt, alloc, &words, want)
+    is_image_of(rt, alloc, &words, want)?;
+    Ok(())
 }
 
 #[test]
-fn assembles_the_example_guests(rt: HostRuntime) -> Result<(), Fail> {
+fn assembles_the_example_guests(rt: HostRuntime) -> Result<(), AsmError> {
     is_assembled(&rt, rt.alloc(), &EXIT_SEVEN, &EXIT_SEVEN_WORDS)?;
     is_assembled(&rt, rt.alloc(), &PRINT_LETTER, &PRINT_LETTER_WORDS)?;
     is_assembled(&rt, rt.alloc(), &ECHO_BYTE, &ECHO_BYTE_WORDS)?;
@@ -166,8 +177,7 @@ fn assembles_the_example_guests(rt: HostRuntime) -> Result<(), Fail> {
     is_assembled(&rt, rt.alloc(), &KILL_THEN_JOIN, &KILL_THEN_JOIN_WORDS)?;
     is_assembled(&rt, rt.alloc(), &GRANDCHILD, &GRANDCHILD_WORDS)?;
     is_assembled(&rt, rt.alloc(), &ZEROED_PAGE, &ZEROED_PAGE_WORDS)?;
-    is_assembled(&rt, rt.alloc(), &TIMER_AT_FORK, &TIMER_AT_FORK_WORDS)?;
-    Ok(())
+    is_assembled(&rt, rt.alloc(), &TIMER_AT_FORK, &TIMER_AT_FORK_WORDS)
 }
 
 /// Three lines, and their first and last word and how many there are.
@@ -217,7 +227,7 @@ fn ends_of_lines(
 fn takes_labels_before_and_behind(rt: HostRuntime) {
     for &(first, second, third, want) in LABELLED.iter() {
         let found = ends_of_lines(&rt, rt.alloc(), &[first, second, third]);
-        assert_eq!(rt; found, want);
+        are_equal(&rt, &found, &want);
     }
 }
 
@@ -263,7 +273,7 @@ static FIRST_ERRORS: [(Line, Line, Option<AsmError>); 3] = [
 fn names_the_first_error(rt: HostRuntime) {
     for (row, &(first, second, want)) in FIRST_ERRORS.iter().enumerate() {
         let error = error_of(&rt, rt.alloc(), first, second);
-        assert_eq!(rt; error, Ok(want), "row {row}");
+        are_equal(&rt, &(row, error), &(row, Ok(want)));
     }
 }
 
@@ -271,18 +281,26 @@ fn names_the_first_error(rt: HostRuntime) {
 fn place_twice(rt: &impl Abort, program: &mut Program) -> Result<(), AsmError> {
     program.place_label(1)?;
     add_line(rt, program, NOTHING)?;
-    assert_eq!(rt; program.place_label(1), Err(AsmError::LabelPlacedTwice));
+    are_equal(
+        rt,
+        &program.place_label(1),
+        &Err(AsmError::LabelPlacedTwice),
+    );
     add_line(rt, program, Line::Jump(0, 1))?;
-    assert_eq!(rt; program.base(), BASE);
+    are_equal(rt, &program.base(), &BASE);
     Ok(())
 }
 
 #[test]
-fn a_label_that_is_placed_twice_stays(rt: HostRuntime) -> Result<(), Fail> {
+fn a_label_that_is_placed_twice_stays(rt: HostRuntime) -> Result<(), AsmError> {
     let mut program = Program::new(rt.alloc(), BASE);
     place_twice(&rt, &mut program)?;
     let words = program.finish()?;
-    assert_eq!(rt; words.as_slice(), [0x0000_0013, 0xffdf_f06f].as_slice());
+    are_equal(
+        &rt,
+        &words.as_slice(),
+        &[0x0000_0013, 0xffdf_f06f].as_slice(),
+    );
     Ok(())
 }
 
@@ -353,7 +371,7 @@ static REACHES: [(Line, usize, usize, Result<u32, AsmError>); 9] = [
 fn reaches_as_far_as_the_format(rt: HostRuntime) {
     for &(line, ahead, behind, want) in REACHES.iter() {
         let word = far_word(&rt, rt.alloc(), line, ahead, behind);
-        assert_eq!(rt; word, want, "{ahead} ahead, {behind} behind");
+        are_equal(&rt, &(ahead, behind, word), &(ahead, behind, want));
     }
 }
 
@@ -371,7 +389,7 @@ static IGNORED_BITS: [(Kind, u32, u32, u32, u32); 6] = [
 fn writes_ignored_bits_as_zeros(rt: HostRuntime) {
     for &(kind, rd, rs1, rs2, want) in IGNORED_BITS.iter() {
         let word = encode(&instruction(&rt, kind, rd, rs1, rs2, 0));
-        assert_eq!(rt; word, want);
+        are_equal(&rt, &word, &want);
     }
 }
 
@@ -399,11 +417,11 @@ fn entry_of(
 }
 
 #[test]
-fn images_are_loaded_where_they_fit(rt: HostRuntime) -> Result<(), Fail> {
+fn images_are_loaded_where_they_fit(rt: HostRuntime) -> Result<(), AllocError> {
     let words = [0x0000_0013; 2];
     for &(base, count, want) in PLACES.iter() {
         let entry = entry_of(&rt, rt.alloc(), base, words.get(..count).unwrap_or(&[]))?;
-        assert_eq!(rt; entry, want, "{count} words at {base:#x}");
+        are_equal(&rt, &(count, base, entry), &(count, base, want));
     }
     Ok(())
 }

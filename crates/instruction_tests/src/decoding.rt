@@ -1,20 +1,25 @@
 //! Words, field by field, and words of guests.
 
+use crate::equal::are_equal;
 use rv_decode::{Kind, decode};
 use std::process::Abort;
 
 // The words are written in the columns of the diagrams of the RISC-V Unprivileged ISA 20191213,
 // chapter 24: the immediate, or funct7 and rs2, and then rs1, funct3, rd, opcode.
 
+/// The kind of a word, as a number, its rd, rs1 and rs2, and its immediate.
+type Fields = (u32, (u32, u32, u32), i32);
+
+fn fields_of(word: u32) -> Option<Fields> {
+    let i = decode(word)?;
+    Some((i.kind() as u32, (i.rd(), i.rs1(), i.rs2()), i.imm()))
+}
+
 /// Each word gives its kind and its immediate, and these as rd, rs1 and rs2.
 fn decodes_each(rt: &impl Abort, registers: (u32, u32, u32), words: &[(u32, Kind, i32)]) {
     for (word, kind, imm) in words {
-        let fields = decode(*word).map(|i| (i.kind() as u32, (i.rd(), i.rs1(), i.rs2()), i.imm()));
-        assert_eq!(rt;
-            fields,
-            Some((*kind as u32, registers, *imm)),
-            "at {word:032b}"
-        );
+        let want = Some((*kind as u32, registers, *imm));
+        are_equal(rt, &(*word, fields_of(*word)), &(*word, want));
     }
 }
 
@@ -223,7 +228,7 @@ static NO_ROWS: [u32; 25] = [
 #[test]
 fn refuses_words_of_no_row(rt: HostRuntime) {
     for word in NO_ROWS.iter() {
-        assert!(rt; decode(*word).is_none(), "at {word:032b}");
+        are_equal(&rt, &(*word, fields_of(*word)), &(*word, None));
     }
 }
 
@@ -260,13 +265,13 @@ static GUESTS: [(Kind, &[u32]); 9] = [
     (Kind::Csrrsi, &[0x30046073]),
 ];
 
+fn kind_of(word: u32) -> Option<u32> {
+    Some(decode(word)?.kind() as u32)
+}
+
 fn decodes_each_as(rt: &impl Abort, kind: Kind, words: &[u32]) {
     for word in words {
-        assert_eq!(rt;
-            decode(*word).map(|i| i.kind() as u32),
-            Some(kind as u32),
-            "at {word:08x}"
-        );
+        are_equal(rt, &(*word, kind_of(*word)), &(*word, Some(kind as u32)));
     }
 }
 

@@ -1,5 +1,6 @@
 //! What instructions compute, at edge values.
 
+use crate::equal::are_equal;
 use rv_decode::{Group, Kind};
 use rv_exec::{alu, amo_value, branch_taken, load_value, load_width, store_bytes, store_width};
 
@@ -250,10 +251,10 @@ fn effect(kind: Kind, a: u32, b: u32) -> Option<u32> {
 #[test]
 fn has_effects_at_edge_values(rt: HostRuntime) {
     for (row, &(kind, a, b, want)) in EDGE_VALUES.iter().enumerate() {
-        assert_eq!(rt;
-            effect(kind, a, b),
-            Some(want),
-            "row {row}, of {a:08x} and {b:08x}"
+        are_equal(
+            &rt,
+            &(row, a, b, effect(kind, a, b)),
+            &(row, a, b, Some(want)),
         );
     }
 }
@@ -262,9 +263,13 @@ fn has_effects_at_edge_values(rt: HostRuntime) {
 #[tactic(auto, unfolding(rv_decode::specs::Kinds::group_of))]
 fn stores_low_bytes_first(rt: HostRuntime) {
     let value = 0x89ab_cdef;
-    assert_eq!(rt; store_bytes(Kind::Sb, value), ([0xef, 0xcd, 0xab, 0x89], 1));
-    assert_eq!(rt; store_bytes(Kind::Sh, value), ([0xef, 0xcd, 0xab, 0x89], 2));
-    assert_eq!(rt; store_bytes(Kind::Sw, value), ([0xef, 0xcd, 0xab, 0x89], 4));
+    let bytes = [0xef, 0xcd, 0xab, 0x89];
+    let stored = [
+        store_bytes(Kind::Sb, value),
+        store_bytes(Kind::Sh, value),
+        store_bytes(Kind::Sw, value),
+    ];
+    are_equal(&rt, &stored, &[(bytes, 1), (bytes, 2), (bytes, 4)]);
     let loads = [
         load_width(Kind::Lb),
         load_width(Kind::Lh),
@@ -272,11 +277,11 @@ fn stores_low_bytes_first(rt: HostRuntime) {
         load_width(Kind::Lbu),
         load_width(Kind::Lhu),
     ];
-    assert_eq!(rt; loads, [1, 2, 4, 1, 2]);
+    are_equal(&rt, &loads, &[1, 2, 4, 1, 2]);
     let stores = [
         store_width(Kind::Sb),
         store_width(Kind::Sh),
         store_width(Kind::Sw),
     ];
-    assert_eq!(rt; stores, [1, 2, 4]);
+    are_equal(&rt, &stores, &[1, 2, 4]);
 }

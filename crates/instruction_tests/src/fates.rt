@@ -1,5 +1,6 @@
 //! The fates of replies: those that seeds draw, and those of a list.
 
+use crate::equal::are_equal;
 use std::alloc::AllocError;
 use std::process::Abort;
 use wire_fates::{Fate, LONGEST_STREAK, MAX_SEEDED_STREAK, Scripted, Seeded, Wire};
@@ -7,7 +8,7 @@ use wire_fates::{Fate, LONGEST_STREAK, MAX_SEEDED_STREAK, Scripted, Seeded, Wire
 /// These are the next fates of a wire, of five replies that wait.
 fn are_next<W: Wire>(rt: &impl Abort, wire: &mut W, fates: &[Fate; 3]) {
     let told = [wire.next(5), wire.next(5), wire.next(5)];
-    assert!(rt; told == *fates);
+    are_equal(rt, &told, fates);
 }
 
 #[test]
@@ -36,5 +37,5 @@ fn a_list_is_told_and_then_all_is_given(rt: HostRuntime) -> Result<(), AllocErro
 
 #[test]
 fn streaks_have_these_limits(rt: HostRuntime) {
-    assert!(rt; [LONGEST_STREAK, MAX_SEEDED_STREAK] == [64, 3]);
+    are_equal(&rt, &[LONGEST_STREAK, MAX_SEEDED_STREAK], &[64, 3]);
 }

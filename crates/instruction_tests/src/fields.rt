@@ -1,5 +1,6 @@
 //! The formats and groups of kinds, and the ranges of an instruction's fields.
 
+use crate::equal::are_equal;
 use rv_decode::{Format, Group, Instr, Kind};
 
 static KINDS: [(Kind, Format, Group); 17] = [
@@ -26,7 +27,7 @@ static KINDS: [(Kind, Format, Group); 17] = [
 fn kinds_have_a_format_and_a_group(rt: HostRuntime) {
     for (row, &(kind, format, group)) in KINDS.iter().enumerate() {
         let found = (kind.format() as u32, kind.group() as u32);
-        assert_eq!(rt; found, (format as u32, group as u32), "row {row}");
+        are_equal(&rt, &(row, found), &(row, (format as u32, group as u32)));
     }
 }
 
@@ -52,7 +53,8 @@ static TAKEN: [(Kind, u32, u32, u32, i32); 16] = [
 #[test]
 fn takes_fields_in_range(rt: HostRuntime) {
     for (row, &(kind, rd, rs1, rs2, imm)) in TAKEN.iter().enumerate() {
-        assert!(rt; Instr::new(kind, rd, rs1, rs2, imm).is_some(), "row {row}");
+        let is_taken = Instr::new(kind, rd, rs1, rs2, imm).is_some();
+        are_equal(&rt, &(row, is_taken), &(row, true));
     }
 }
 
@@ -87,6 +89,7 @@ static REFUSED: [(Kind, u32, u32, u32, i32); 25] = [
 #[test]
 fn refuses_fields_out_of_range(rt: HostRuntime) {
     for (row, &(kind, rd, rs1, rs2, imm)) in REFUSED.iter().enumerate() {
-        assert!(rt; Instr::new(kind, rd, rs1, rs2, imm).is_none(), "row {row}");
+        let is_taken = Instr::new(kind, rd, rs1, rs2, imm).is_some();
+        are_equal(&rt, &(row, is_taken), &(row, false));
     }
 }

@@ -1,10 +1,10 @@
 //! Guests of a few seeds: their lengths, checksums and first words.
 
-use elf_load::load_elf;
+use crate::equal::are_equal;
+use elf_load::{ImageError, load_elf};
 use guest_gen::guest_of;
 use std::alloc::{AllocError, Global};
 use std::process::Abort;
-use std::test::Fail;
 
 /// The bytes of an image before its words.
 const HEADERS_SIZE: usize = 84;
@@ -53,19 +53,27 @@ fn bytes_of(alloc: Global, words: &[u32]) -> Result<Vec<u8>, AllocError> {
 fn is_guest(rt: &impl Abort, image: &[u8], words: usize, hash: u64, first: &[u8]) {
     assert!(rt; HEADERS_SIZE + first.len() <= image.len());
     let start = &image[HEADERS_SIZE..HEADERS_SIZE + first.len()];
-    assert!(rt; start == first);
-    assert_eq!(rt;
-        ((image.len() - HEADERS_SIZE) / 4, fnv_1a(image)),
-        (words, hash)
-    );
+    are_equal(rt, &start, &first);
+    let found = ((image.len() - HEADERS_SIZE) / 4, fnv_1a(image));
+    are_equal(rt, &found, &(words, hash));
+}
+
+fn generates(
+    rt: &impl Abort,
+    alloc: Global,
+    row: &(u32, usize, u64, [u32; 9]),
+) -> Result<(), AllocError> {
+    let (seed, words, hash, first) = row;
+    let image = guest_of(alloc, *seed)?;
+    let first = bytes_of(alloc, first)?;
+    is_guest(rt, &image, *words, *hash, &first);
+    Ok(())
 }
 
 #[test]
-fn generates_the_guests_of_seeds(rt: HostRuntime) -> Result<(), Fail> {
-    for (seed, words, hash, first) in GUESTS.iter() {
-        let image = guest_of(rt.alloc(), *seed)?;
-        let first = bytes_of(rt.alloc(), first)?;
-        is_guest(&rt, &image, *words, *hash, &first);
+fn generates_the_guests_of_seeds(rt: HostRuntime) -> Result<(), AllocError> {
+    for row in GUESTS.iter() {
+        generates(&rt, rt.alloc(), row)?;
     }
     Ok(())
 }
@@ -74,18 +82,22 @@ fn generates_the_guests_of_seeds(rt: HostRuntime) -> Result<(), Fail> {
 const PAGES: u32 = 64;
 
 /// The headers and at most 16 pages, and the loader takes it.
-fn fits(rt: &impl Abort, alloc: Global, image: &[u8]) -> Result<(), Fail> {
-    assert!(rt; image.len() <= HEADERS_SIZE + 16 * 4096);
+fn fits(rt: &impl Abort, alloc: Global, image: &[u8]) -> Result<(), ImageError> {
+    are_equal(rt, &(image.len() <= HEADERS_SIZE + 16 * 4096), &true);
     let loaded = load_elf(alloc, image, PAGES)?;
-    assert_eq!(rt; loaded.entry(), 0x8000_0000);
+    are_equal(rt, &loaded.entry(), &0x8000_0000);
     Ok(())
 }
 
+fn is_loaded(rt: &impl Abort, alloc: Global, seed: u32) -> Result<(), ImageError> {
+    let image = guest_of(alloc, seed)?;
+    fits(rt, alloc, &image)
+}
+
 #[test]
-fn guests_are_loaded(rt: HostRuntime) -> Result<(), Fail> {
+fn guests_are_loaded(rt: HostRuntime) -> Result<(), ImageError> {
     for seed in 0..64 {
-        let image = guest_of(rt.alloc(), seed)?;
-        fits(&rt, rt.alloc(), &image)?;
+        is_loaded(&rt, rt.alloc(), seed)?;
     }
     Ok(())
 }

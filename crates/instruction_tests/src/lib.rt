@@ -11,6 +11,8 @@ mod decoding;
 #[cfg(test)]
 mod effects;
 #[cfg(test)]
+mod equal;
+#[cfg(test)]
 mod fates;
 #[cfg(test)]
 mod fields;

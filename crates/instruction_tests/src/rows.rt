@@ -1,5 +1,6 @@
 //! The table of instruction words, row by row.
 
+use crate::equal::are_equal;
 use rv_asm::encode;
 use rv_decode::{Kind, decode};
 use std::process::Abort;
@@ -87,15 +88,12 @@ fn kind_of(word: u32) -> Option<u32> {
 /// under the mask has not.
 fn is_a_row(rt: &impl Abort, mask: u32, bits: u32, kind: Kind) {
     let kind = kind as u32;
-    assert_eq!(rt;
-        (kind_of(bits), kind_of(bits | !mask)),
-        (Some(kind), Some(kind)),
-        "at {bits:08x}"
-    );
+    let found = [kind_of(bits), kind_of(bits | !mask)];
+    are_equal(rt, &(bits, found), &(bits, [Some(kind), Some(kind)]));
     for place in 0..32u32 {
         let other = bits ^ 1 << place;
         let is_same = kind_of(other) == Some(kind);
-        assert_eq!(rt; is_same, mask >> place & 1 == 0, "at {other:08x}");
+        are_equal(rt, &(other, is_same), &(other, mask >> place & 1 == 0));
     }
 }
 
@@ -106,15 +104,20 @@ fn words_have_the_kind_of_their_row(rt: HostRuntime) {
     }
 }
 
+/// What a word is written as.
+fn encoded(word: u32) -> Option<u32> {
+    Some(encode(&decode(word)?))
+}
+
+/// The bits under a mask of what a word is written as.
+fn encoded_under(mask: u32, word: u32) -> Option<u32> {
+    Some(encoded(word)? & mask)
+}
+
 #[test]
 fn bits_that_no_field_has_are_written_as_zeros(rt: HostRuntime) {
     for &(mask, bits, _) in ROWS.iter() {
-        let least = decode(bits).map(|instruction| encode(&instruction));
-        let greatest = decode(bits | !mask).map(|instruction| encode(&instruction) & mask);
-        assert_eq!(rt;
-            (least, greatest),
-            (Some(bits), Some(bits)),
-            "at {bits:08x}"
-        );
+        let found = [encoded(bits), encoded_under(mask, bits | !mask)];
+        are_equal(&rt, &(bits, found), &(bits, [Some(bits), Some(bits)]));
     }
 }

@@ -71,10 +71,20 @@ fn read_at_most<R: Files>(
     at_most: usize,
 ) -> io::Result<Vec<u8>> {
     let mut bytes = Vec::new(alloc);
+    read_into(rt, name, at_most, &mut bytes)?;
+    Ok(bytes)
+}
+
+/// The same, put behind the bytes of a list.
+fn read_into<R: Files>(
+    rt: &R,
+    name: &str,
+    at_most: usize,
+    bytes: &mut Vec<u8>,
+) -> io::Result<usize> {
     let file = fs::open(rt, name)?;
     file.take((at_most as u64).saturating_add(1))
-        .read_to_end(&mut bytes)?;
-    Ok(bytes)
+        .read_to_end(bytes)
 }
 
 /// The standard output. A contract sees the count of faults.

@@ -1,10 +1,10 @@
 //! Guests of a few words.
 
-ghost use Rattle.std.specs.Prelude.{◌≡◌, ◌≤◌, [], length, IfOk, None};
+ghost use Rattle.std.specs.Prelude.{◌≡◌, ◌≤◌, ◌%◌, [], length, IfOk, None};
 ghost use Rattle.forest_model.specs.Forest.{port_of};
 
 use cow_disk::Disk;
-use elf_load::{Loaded, RAM_BASE, load_elf};
+use elf_load::{Loaded, load_elf};
 use forest_model::Options;
 use rv_asm::elf_of;
 use std::alloc::Global;
@@ -34,24 +34,26 @@ fn booted_of(alloc: Global, image: &Loaded) -> Result<Vm, Fail>
     Ok(Vm::boot(alloc, image, disk, b"", options)?)
 }
 
-// The image of these words in RAM of so many pages.
-fn loaded(alloc: Global, words: &[u32], pages: u32) -> Result<Loaded, Fail>
+// The image of these words from a base on, in RAM of so many pages.
+pub(crate) fn loaded_at(alloc: Global, base: u32, words: &[u32], pages: u32) -> Result<Loaded, Fail>
+    requires base { base % 4 ≡ 0 }
     requires words { length words.now ≤ 64 }
     requires least { 16 ≤ pages }
     requires most { pages ≤ 1024 }
 {
-    let file = elf_of(alloc, RAM_BASE, words)?;
+    let file = elf_of(alloc, base, words)?;
     Ok(load_elf(alloc, &file, pages)?)
 }
 
-// The machine of these words with so many pages.
-pub(crate) fn booted(alloc: Global, words: &[u32], pages: u32) -> Result<Vm, Fail>
+// The machine of these words, from a base on, with so many pages.
+pub(crate) fn booted_at(alloc: Global, base: u32, words: &[u32], pages: u32) -> Result<Vm, Fail>
+    requires base { base % 4 ≡ 0 }
     requires words { length words.now ≤ 64 }
     requires least { 16 ≤ pages }
     requires most { pages ≤ 1024 }
     ensures no_ticket { IfOk result (λ vm. (port_of vm.machine).tickets ≡ []) }
     ensures no_image { IfOk result (λ vm. vm.key ≡ None) }
 {
-    let image = loaded(alloc, words, pages)?;
+    let image = loaded_at(alloc, base, words, pages)?;
     booted_of(alloc, &image)
 }

@@ -1,11 +1,17 @@
 //! Tests of public calls, of what no clause says: that those which may want memory succeed where there is some,
-//! which texts are no scripts, what a report looks like, which numbers stand behind the names of constants. They
-//! stand here and not in the crates of the calls, since a crate with tests is proved twice, and this one has
-//! nothing else.
+//! at which pages clones stall, in order, which texts are no scripts, what a report looks like, which numbers stand
+//! behind the names of constants. They stand here and not in the crates of the calls, since a crate with tests is
+//! proved twice, and this one has nothing else.
 #![tactic(auto)]
 
 #[cfg(test)]
+mod absent;
+#[cfg(test)]
+mod fetched;
+#[cfg(test)]
 mod guests;
+#[cfg(test)]
+mod machine;
 #[cfg(test)]
 mod names;
 #[cfg(test)]
@@ -16,6 +22,8 @@ mod outside;
 mod reports;
 #[cfg(test)]
 mod scripts;
+#[cfg(test)]
+mod stretches;
 #[cfg(test)]
 mod told;
 #[cfg(test)]

@@ -1,12 +1,12 @@
 //! Replies that a world is told, and that others hear.
 
-ghost use Rattle.std.specs.Prelude.{IfOk};
 ghost use Rattle.image_depot.specs.Key.{IsKeyOf};
 ghost use Rattle.vm_cell.specs.Keyed.{IsOfDepot};
 
-use crate::guests::{TWO_CHILDREN, booted};
+use crate::guests::{TWO_CHILDREN, booted_at};
+use crate::machine::run_and_fork;
 use crate::worlds::{Deed, does};
-use fork_port::Call;
+use elf_load::RAM_BASE;
 use image_depot::{Depot, Sent};
 use std::alloc::{AllocError, Global};
 use std::process::Abort;
@@ -17,7 +17,7 @@ use world_core::World;
 
 // The reply with page 0 of what the machine of two children leaves for them.
 fn reply<R: Wait>(rt: &R, alloc: Global, depot: &Depot) -> Result<Sent, Fail> {
-    let mut vm = booted(alloc, &TWO_CHILDREN, 16)?;
+    let mut vm = booted_at(alloc, RAM_BASE, &TWO_CHILDREN, 16)?;
     reply_of(rt, alloc, &mut vm, depot)
 }
 
@@ -25,20 +25,8 @@ fn reply<R: Wait>(rt: &R, alloc: Global, depot: &Depot) -> Result<Sent, Fail> {
 fn reply_of<R: Wait>(rt: &R, alloc: Global, vm: &mut Vm, depot: &Depot) -> Result<Sent, Fail>
     requires { IsOfDepot depot.now vm.old.key }
 {
-    vm.run(1000)?;
-    let brood = brood_of(rt, alloc, vm, depot)?;
+    let brood = run_and_fork(rt, alloc, vm, 2, depot)?;
     pushed(rt, &brood, depot)
-}
-
-// The CLONE at which a machine stands.
-fn brood_of<R: Wait>(rt: &R, alloc: Global, vm: &mut Vm, depot: &Depot) -> Result<Brood, Fail>
-    requires { IsOfDepot depot.now vm.old.key }
-    ensures { IfOk result (λ brood. IsKeyOf depot.now brood.key) }
-{
-    match vm.call() {
-        Some(Call::Clone(_)) => Ok(vm.freeze_child(rt, alloc, depot)?),
-        _ => Err("no clone".into()),
-    }
 }
 
 fn pushed<R: Wait>(rt: &R, brood: &Brood, depot: &Depot) -> Result<Sent, Fail>

@@ -5,10 +5,11 @@ ghost use Rattle.forest_tree.specs.Tree.{Tree};
 ghost use Rattle.forest_model.specs.Paged.{Paged};
 ghost use Rattle.drive_script.specs.Driven.{HasMachines};
 
-use crate::guests::{TWO_CHILDREN, booted};
+use crate::guests::{TWO_CHILDREN, booted_at};
 use crate::scripts::read;
 use crate::told::tells;
 use drive_script::{Script, drive};
+use elf_load::RAM_BASE;
 use image_depot::Depot;
 use std::alloc::{AllocError, Global};
 use std::process::Abort;
@@ -20,7 +21,7 @@ use world_core::{Placed, Taken, World};
 fn started(alloc: Global, depot: &Depot) -> Result<World, Fail>
     ensures { IfOk result (λ world. (t : Tree Paged) × HasMachines depot.now world t) }
 {
-    let vm = booted(alloc, &TWO_CHILDREN, 16)?;
+    let vm = booted_at(alloc, RAM_BASE, &TWO_CHILDREN, 16)?;
     let world = World::new(alloc, vm, depot)?;
     Ok(world)
 }

@@ -1,12 +1,14 @@
 //! Disks: that calls succeed, that disks really share their sectors, and that they move between threads.
 
-use crate::process::resident_bytes;
+use crate::equal::are_equal;
+use crate::process::{are_few, resident_bytes};
 use cow_disk::{BadSector, Disk, DiskError, FrozenDisk};
-use std::alloc::Global;
+use std::alloc::{AllocError, Global};
 use std::process::Abort;
 use std::rt::Files;
 use std::test::Fail;
 use std::thread;
+use std::thread::Threads;
 
 /// The bytes of the longest disk.
 const LONGEST: usize = 4_194_304;
@@ -40,46 +42,52 @@ static LENGTHS: [(usize, Result<u32, DiskError>); 6] = [
 
 #[test]
 fn takes_whole_sectors(rt: HostRuntime) {
-    for (length, want) in LENGTHS.iter() {
-        let sectors = sectors_of(rt.alloc(), *length);
-        assert_eq!(rt; sectors, *want, "of {length} bytes");
+    for row in LENGTHS.iter() {
+        are_equal(&rt, &(row.0, sectors_of(rt.alloc(), row.0)), row);
     }
 }
 
 /// Writes sector 1 twice.
-fn write_twice(disk: &mut Disk) -> Result<(), DiskError> {
-    disk.write_sector(1, &[0x11; 512])?;
-    disk.write_sector(1, &[0x22; 512])
+fn write_twice(disk: &mut Disk) -> [Result<(), DiskError>; 2] {
+    [
+        disk.write_sector(1, &[0x11; 512]),
+        disk.write_sector(1, &[0x22; 512]),
+    ]
 }
 
-/// The first byte of sector 1 of a disk that is opened now.
-fn opened_byte(frozen: &FrozenDisk) -> Result<u8, Fail> {
-    Ok(byte_of(&frozen.open()?, 1)?)
-}
-
-/// The first bytes of both sectors of the disk that was written, and of sector 1 of one that was not, of
-/// one that is opened now, and of one that is opened as the first is now.
-fn bytes_around(written: &Disk, other: &Disk, frozen: &FrozenDisk) -> Result<[u8; 5], Fail> {
-    let late = written.freeze()?;
-    Ok([
-        byte_of(written, 0)?,
-        byte_of(written, 1)?,
-        byte_of(other, 1)?,
-        opened_byte(frozen)?,
-        opened_byte(&late)?,
-    ])
-}
-
-#[test]
-fn a_write_shows_in_one_disk(rt: HostRuntime) -> Result<(), Fail> {
-    let bytes = bytes_of_written(rt.alloc())?;
-    assert_eq!(rt; bytes, [0xaa, 0x22, 0xaa, 0xaa, 0x22]);
+/// A disk that is opened now has this first byte in sector 1.
+fn has_byte(rt: &impl Abort, frozen: &FrozenDisk, byte: u8) -> Result<(), AllocError> {
+    let disk = frozen.open()?;
+    are_equal(rt, &byte_of(&disk, 1), &Ok(byte));
     Ok(())
 }
 
-fn bytes_of_written(alloc: Global) -> Result<[u8; 5], Fail> {
-    let frozen = frozen_of(alloc, 1024)?;
-    bytes_after_write(&frozen)
+/// The write shows in the disk that was written, and in one that is opened as that one is now. It shows in no other
+/// disk, and in none that is opened from the frozen one.
+fn shows_in_one(
+    rt: &impl Abort,
+    written: &Disk,
+    other: &Disk,
+    frozen: &FrozenDisk,
+) -> Result<(), AllocError> {
+    let bytes = [byte_of(written, 0), byte_of(written, 1), byte_of(other, 1)];
+    are_equal(rt, &bytes, &[Ok(0xaa), Ok(0x22), Ok(0xaa)]);
+    has_byte(rt, frozen, 0xaa)?;
+    has_byte(rt, &written.freeze()?, 0x22)
+}
+
+/// A disk that is opened from a handle on a frozen one.
+fn opened_from_share(frozen: &FrozenDisk) -> Result<Disk, AllocError> {
+    let shared = frozen.share()?;
+    shared.open()
+}
+
+/// Writes one of two disks.
+fn is_written_alone(rt: &impl Abort, frozen: &FrozenDisk) -> Result<(), AllocError> {
+    let mut first = frozen.open()?;
+    let second = opened_from_share(frozen)?;
+    are_equal(rt, &write_twice(&mut first), &[Ok(()), Ok(())]);
+    shows_in_one(rt, &first, &second, frozen)
 }
 
 /// A frozen disk of so many bytes 0xaa.
@@ -88,22 +96,14 @@ fn frozen_of(alloc: Global, length: usize) -> Result<FrozenDisk, DiskError> {
     Ok(disk.freeze()?)
 }
 
-/// A disk that is opened from a handle on a frozen one.
-fn opened_from_share(frozen: &FrozenDisk) -> Result<Disk, Fail> {
-    let shared = frozen.share()?;
-    Ok(shared.open()?)
-}
-
-/// Those bytes of a disk that is written, beside another.
-fn bytes_after_write(frozen: &FrozenDisk) -> Result<[u8; 5], Fail> {
-    let mut first = frozen.open()?;
-    let second = opened_from_share(frozen)?;
-    write_twice(&mut first)?;
-    bytes_around(&first, &second, frozen)
+#[test]
+fn a_write_shows_in_one_disk(rt: HostRuntime) -> Result<(), DiskError> {
+    let frozen = frozen_of(rt.alloc(), 1024)?;
+    Ok(is_written_alone(&rt, &frozen)?)
 }
 
 #[test]
-fn refuses_a_sector_past_the_last(rt: HostRuntime) -> Result<(), Fail> {
+fn refuses_a_sector_past_the_last(rt: HostRuntime) -> Result<(), DiskError> {
     let mut disk = disk_of(rt.alloc(), 0xaa, 1024)?;
     is_refused(&rt, &mut disk);
     Ok(())
@@ -111,76 +111,75 @@ fn refuses_a_sector_past_the_last(rt: HostRuntime) -> Result<(), Fail> {
 
 fn is_refused(rt: &impl Abort, disk: &mut Disk) {
     let written = disk.write_sector(2, &[0; 512]);
-    let read = byte_of(disk, 2);
-    assert_eq!(rt;
-        (written, read),
-        (Err(DiskError::BadSector), Err(BadSector))
-    );
+    are_equal(rt, &written, &Err(DiskError::BadSector));
+    are_equal(rt, &byte_of(disk, 2), &Err(BadSector));
 }
 
 /// So many disks, each opened from a frozen one, and each with a sector of its own.
-fn written_disks(alloc: Global, frozen: &FrozenDisk, count: u32) -> Result<Vec<Disk>, Fail> {
+fn written_disks(alloc: Global, frozen: &FrozenDisk, count: u32) -> Result<Vec<Disk>, DiskError> {
     let mut disks = Vec::new(alloc);
     for n in 0..count {
-        let mut disk = frozen.open()?;
-        disk.write_sector(n, &[0x11; 512])?;
-        disks.push(disk)?;
+        disks.push(written_disk(frozen, n)?)?;
     }
     Ok(disks)
 }
 
+fn written_disk(frozen: &FrozenDisk, n: u32) -> Result<Disk, DiskError> {
+    let mut disk = frozen.open()?;
+    disk.write_sector(n, &[0x11; 512])?;
+    Ok(disk)
+}
+
 /// Whether a disk has its own sector, the n-th, and the last one as it was.
-fn is_written(disk: &Disk, n: u32) -> Result<bool, BadSector> {
-    Ok([byte_of(disk, n)?, byte_of(disk, 8191)?] == [0x11, 0xaa])
+fn is_written(disk: &Disk, n: u32) -> bool {
+    [byte_of(disk, n), byte_of(disk, 8191)] == [Ok(0x11), Ok(0xaa)]
 }
 
 /// How many of the disks have their own sector, and the last one as it was. The n-th wrote sector n.
-fn as_written(disks: &[Disk]) -> Result<usize, BadSector> {
+fn as_written(disks: &[Disk]) -> usize {
     let mut count = 0;
     for (n, disk) in (0..1000).zip(disks) {
-        if !is_written(disk, n)? {
-            return Ok(count);
+        if !is_written(disk, n) {
+            return count;
         }
         count = n as usize + 1;
     }
-    Ok(count)
+    count
 }
 
 // A whole copy takes four megabytes a disk, and a copy of handles to all sectors 64 kilobytes.
-#[test]
-fn a_thousand_disks_share_the_longest(rt: HostRuntime) -> Result<(), Fail> {
-    let (count, taken) = count_and_bytes_of_longest(&rt, rt.alloc())?;
-    assert_eq!(rt; count, 1000);
-    assert!(rt; taken < 6 << 20, "{taken} bytes");
-    Ok(())
-}
-
-fn count_and_bytes_of_longest(
-    rt: &(impl Files + Alloc),
-    alloc: Global,
-) -> Result<(usize, u64), Fail> {
-    let frozen = frozen_of(alloc, LONGEST)?;
-    count_and_bytes(rt, alloc, &frozen)
-}
-
-/// How many of a thousand disks have their own sector, and how many bytes they take.
-fn count_and_bytes(
-    rt: &(impl Files + Alloc),
+fn share_the_longest<R: Abort + Alloc + Files>(
+    rt: &R,
     alloc: Global,
     frozen: &FrozenDisk,
-) -> Result<(usize, u64), Fail> {
+) -> Result<(), Fail> {
     let before = resident_bytes(rt)?;
     let disks = written_disks(alloc, frozen, 1000)?;
-    let taken = resident_bytes(rt)?.saturating_sub(before);
-    Ok((as_written(&disks)?, taken))
+    are_few(rt, resident_bytes(rt)?.saturating_sub(before));
+    are_equal(rt, &as_written(&disks), &1000);
+    Ok(())
 }
 
 #[test]
-fn moves_between_threads(rt: HostRuntime) -> Result<(), Fail> {
-    let frozen = frozen_of(rt.alloc(), 512)?;
-    let disk = frozen.open()?;
-    let (opened, byte) = thread::join(&rt, || frozen.open(), move || byte_of(&disk, 0));
-    let bytes = (byte_of(&opened?, 0)?, byte?);
-    assert_eq!(rt; bytes, (0xaa, 0xaa));
+fn a_thousand_disks_share_the_longest(rt: HostRuntime) -> Result<(), Fail> {
+    let frozen = frozen_of(rt.alloc(), LONGEST)?;
+    share_the_longest(&rt, rt.alloc(), &frozen)
+}
+
+/// One thread opens a disk, and another reads one.
+fn are_opened_and_read<R: Abort + Threads>(
+    rt: &R,
+    frozen: &FrozenDisk,
+    disk: Disk,
+) -> Result<(), AllocError> {
+    let (opened, byte) = thread::join(rt, || frozen.open(), move || byte_of(&disk, 0));
+    are_equal(rt, &byte, &Ok(0xaa));
+    are_equal(rt, &byte_of(&opened?, 0), &Ok(0xaa));
     Ok(())
+}
+
+#[test]
+fn moves_between_threads(rt: HostRuntime) -> Result<(), DiskError> {
+    let frozen = frozen_of(rt.alloc(), 512)?;
+    Ok(are_opened_and_read(&rt, &frozen, frozen.open()?)?)
 }

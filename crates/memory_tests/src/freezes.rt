@@ -3,7 +3,9 @@
 ghost use Rattle.std.specs.Prelude.{◌≡◌, ◌+◌, ◌<◌, length, OnOk};
 ghost use Rattle.guest_mem.specs.Ram.{IsRamOf};
 
-use crate::guests::{SIZES, booted_of, disk_and_input, first_word};
+use crate::equal::are_equal;
+use crate::guests::{SIZES, booted, first_word, frozen_disk, input};
+use elf_load::{MAX_PAGES, MIN_PAGES};
 use guest_mem::GuestMem;
 use image_depot::{Depot, Frozen};
 use shared_leaves::Steps;
@@ -11,7 +13,6 @@ use std::alloc::{AllocError, Global};
 use std::marker::Brand;
 use std::process::Abort;
 use std::sync::ledger::{Blank, Ledger};
-use std::test::Fail;
 
 /// Freezes a guest, and tells how many steps that takes at some sizes.
 fn freeze_in_steps<L: Ledger>(
@@ -25,8 +26,8 @@ fn freeze_in_steps<L: Ledger>(
     ensures a_page_more { length memory.now.here ≡ 65 → OnOk result (steps.new ≡ steps.old + 2) }
     ensures many { length memory.now.here ≡ 1024 → OnOk result (steps.new ≡ steps.old + 16) }
 {
-    let (disk, input) = disk_and_input(alloc)?;
-    memory.freeze_counted(alloc, depot, disk, input, steps)
+    let disk = frozen_disk(alloc)?;
+    memory.freeze_counted(alloc, depot, disk, input(alloc)?, steps)
 }
 
 /// The same with a counter of its own.
@@ -56,19 +57,20 @@ fn parts_of_frozen(
     Ok((image.pages(), first_word(&image, 1)))
 }
 
-/// The same of a booted guest of so many pages.
-fn frozen_of(alloc: Global, pages: u32, depot: &Depot) -> Result<(u32, Option<u32>), Fail> {
-    let memory = booted_of(alloc, pages)?;
-    Ok(parts_of_frozen(alloc, &memory, depot)?)
-}
-
-fn has_every_page(rt: &impl Abort, alloc: Global, pages: u32, depot: &Depot) -> Result<(), Fail> {
-    let frozen = frozen_of(alloc, pages, depot)?;
-    assert_eq!(rt; frozen, (pages, Some(0xaaaa_aaaa)));
+fn has_every_page(
+    rt: &impl Abort,
+    alloc: Global,
+    pages: u32,
+    depot: &Depot,
+) -> Result<(), AllocError> {
+    assert!(rt; MIN_PAGES <= pages && pages <= MAX_PAGES);
+    let memory = booted(alloc, pages)?;
+    let parts = parts_of_frozen(alloc, &memory, depot)?;
+    are_equal(rt, &parts, &(pages, Some(0xaaaa_aaaa)));
     Ok(())
 }
 
-fn all_have_every_page(rt: &impl Abort, alloc: Global, depot: &Depot) -> Result<(), Fail> {
+fn all_have_every_page(rt: &impl Abort, alloc: Global, depot: &Depot) -> Result<(), AllocError> {
     for pages in SIZES.iter() {
         has_every_page(rt, alloc, *pages, depot)?;
     }
@@ -76,7 +78,7 @@ fn all_have_every_page(rt: &impl Abort, alloc: Global, depot: &Depot) -> Result<
 }
 
 #[test]
-fn a_counted_freeze_has_every_page(rt: HostRuntime) -> Result<(), Fail> {
+fn a_counted_freeze_has_every_page(rt: HostRuntime) -> Result<(), AllocError> {
     let depot = Depot::new(rt.alloc())?;
     all_have_every_page(&rt, rt.alloc(), &depot)
 }

@@ -5,13 +5,14 @@ ghost use Rattle.std.specs.Prelude.{◌≡◌, ◌≤◌, None, IfOk, OnOk};
 ghost use Rattle.image_depot.specs.Key.{IsKeyOf};
 ghost use Rattle.guest_mem.specs.Ram.{IsRamOf};
 
-use crate::process::resident_bytes;
+use crate::equal::are_equal;
+use crate::process::{are_few, resident_bytes};
 use block_port::{BlockFields, Status};
 use console_port::{ConsoleFields, Input};
 use cow_disk::{Disk, FrozenDisk};
-use elf_load::{ImageError, MAX_PAGES, MIN_PAGES, RAM_BASE, load_elf};
+use elf_load::{Loaded, MAX_PAGES, MIN_PAGES, RAM_BASE, load_elf};
 use guest_mem::{Absent, Arrived, GuestMem, StoreError};
-use image_depot::{Depot, Frozen, ImageKey};
+use image_depot::{Depot, Frozen, ImageKey, Parcel};
 use rv_asm::elf_of;
 use rv_traps::Csrs;
 use std::alloc::{AllocError, Global};
@@ -20,6 +21,7 @@ use std::rt::Files;
 use std::sync::Wait;
 use std::test::Fail;
 use std::thread;
+use std::thread::Threads;
 use timer_port::TimerPort;
 use vm_descriptor::{Descriptor, PageMap};
 
@@ -29,39 +31,37 @@ const SECOND: u32 = 4096;
 /// The words of the second page.
 static WORDS: [u32; 1024] = [0xaaaa_aaaa; 1024];
 
-/// The RAM of so many pages, with the byte 0xaa all over the second.
-fn booted(alloc: Global, pages: u32) -> Result<GuestMem, ImageError>
+/// An image of so many pages, with the byte 0xaa all over the second. It is refused where memory is wanting alone.
+fn loaded(alloc: Global, pages: u32) -> Result<Loaded, AllocError>
+    requires least { MIN_PAGES ≤ pages }
+    requires most { pages ≤ MAX_PAGES }
+{
+    let image = elf_of(alloc, RAM_BASE + SECOND, &WORDS)?;
+    load_elf(alloc, &image, pages).ok().ok_or(AllocError)
+}
+
+/// The RAM of that image.
+pub fn booted(alloc: Global, pages: u32) -> Result<GuestMem, AllocError>
     requires least { MIN_PAGES ≤ pages }
     requires most { pages ≤ MAX_PAGES }
     ensures { IfOk result (λ memory. memory.key ≡ None) }
 {
-    let image = elf_of(alloc, RAM_BASE + SECOND, &WORDS)?;
-    Ok(GuestMem::booted(alloc, &load_elf(alloc, &image, pages)?)?)
+    GuestMem::booted(alloc, &loaded(alloc, pages)?)
 }
 
-/// The same, if there are machines of so many pages.
-pub fn booted_of(alloc: Global, pages: u32) -> Result<GuestMem, Fail>
-    ensures { IfOk result (λ memory. memory.key ≡ None) }
-{
-    if (MIN_PAGES..=MAX_PAGES).contains(&pages) {
-        Ok(booted(alloc, pages)?)
-    } else {
-        Err("no such size".into())
-    }
-}
-
-/// Stores the low bytes of a word.
-fn store(memory: &mut GuestMem, at: u32, width: u32, word: u32) -> Result<(), Fail>
+/// What comes of a store of the low bytes of a word, where there is a place for it.
+fn store(memory: &mut GuestMem, at: u32, width: u32, word: u32) -> Option<Result<(), StoreError>>
     ensures { memory.new.key ≡ memory.old.key }
 {
-    if !matches!(width, 1 | 2 | 4) || at % width != 0 || at >= memory.size() {
-        return Err("no such store".into());
-    }
-    match memory.store(at, width, word) {
-        Ok(()) => Ok(()),
-        Err(_) => Err("the page is absent, or memory is wanting".into()),
+    if matches!(width, 1 | 2 | 4) && at % width == 0 && at < memory.size() {
+        Some(memory.store(at, width, word))
+    } else {
+        None
     }
 }
+
+/// The word is stored.
+const STORED: Option<Result<(), StoreError>> = Some(Ok(()));
 
 /// The number in the `width` bytes from an offset, if there is one.
 fn load(memory: &GuestMem, at: u32, width: u32) -> Option<u32> {
@@ -110,27 +110,14 @@ fn descriptor_of(pages: u32, blank: PageMap) -> Descriptor
     }
 }
 
-/// A disk without sectors, and an input.
-pub fn disk_and_input(alloc: Global) -> Result<(FrozenDisk, Input), AllocError> {
-    let disk = Disk::from_bytes(alloc, &[])
-        .map_err(|_| AllocError)?
-        .freeze()?;
-    Ok((disk, Input::new(alloc, Vec::from_slice(alloc, b"in")?)?))
+/// A disk without sectors. It is refused where memory is wanting alone.
+pub fn frozen_disk(alloc: Global) -> Result<FrozenDisk, AllocError> {
+    let disk = Disk::from_bytes(alloc, &[]).ok().ok_or(AllocError)?;
+    disk.freeze()
 }
 
-/// An image of this memory.
-fn image_of(alloc: Global, memory: &GuestMem, depot: &Depot) -> Result<Frozen, AllocError>
-    requires { IsRamOf depot.now memory.now }
-{
-    let (disk, input) = disk_and_input(alloc)?;
-    memory.freeze(alloc, depot, disk, input)
-}
-
-/// The key to an image that is kept.
-fn kept<R: Wait>(rt: &R, depot: &Depot, image: Frozen) -> Result<ImageKey, AllocError>
-    ensures { IfOk result (λ key. IsKeyOf depot.now key) }
-{
-    depot.freeze(rt, image)
+pub fn input(alloc: Global) -> Result<Input, AllocError> {
+    Input::new(alloc, Vec::from_slice(alloc, b"in")?)
 }
 
 /// The key to an image of this memory.
@@ -143,92 +130,109 @@ fn frozen<R: Wait>(
     requires { IsRamOf depot.now memory.now }
     ensures { IfOk result (λ key. IsKeyOf depot.now key) }
 {
-    kept(rt, depot, image_of(alloc, memory, depot)?)
+    depot.freeze(rt, image_of(alloc, memory, depot)?)
 }
 
-/// The key to an image of this memory, and its blank pages.
-fn frozen_and_blank<R: Wait>(
-    rt: &R,
-    alloc: Global,
-    memory: &GuestMem,
-    depot: &Depot,
-) -> Result<(ImageKey, PageMap), Fail>
+/// An image of this memory.
+fn image_of(alloc: Global, memory: &GuestMem, depot: &Depot) -> Result<Frozen, AllocError>
     requires { IsRamOf depot.now memory.now }
-    ensures { IfOk result (λ frozen. IsKeyOf depot.now frozen.0) }
 {
-    let blank = memory.blank(alloc)?;
-    Ok((frozen(rt, alloc, memory, depot)?, blank))
+    let disk = frozen_disk(alloc)?;
+    memory.freeze(alloc, depot, disk, input(alloc)?)
 }
 
 /// A clone that starts with an image, with these blank pages, and nothing else here.
 fn bare_clone(
+    rt: &impl Abort,
     alloc: Global,
     key: &ImageKey,
     blank: PageMap,
     depot: &Depot,
-) -> Result<GuestMem, Fail>
+) -> Result<GuestMem, AllocError>
     requires { IsKeyOf depot.now key.now }
     ensures { IfOk result (λ memory. IsRamOf depot.now memory) }
 {
     let descriptor = descriptor_of(depot.pages(key), blank);
-    if !descriptor.is_in_range() {
-        return Err("another image".into());
-    }
-    Ok(GuestMem::clone_of(alloc, key.again()?, &descriptor)?)
+    assert!(rt; descriptor.is_in_range());
+    GuestMem::clone_of(alloc, key.again()?, &descriptor)
+}
+
+/// A clone that starts with an image of this memory, and has its blank pages and nothing else here.
+fn bare_clone_of<R: Abort + Wait>(
+    rt: &R,
+    alloc: Global,
+    memory: &GuestMem,
+    depot: &Depot,
+) -> Result<GuestMem, AllocError>
+    requires { IsRamOf depot.now memory.now }
+    ensures { IfOk result (λ clone. IsRamOf depot.now clone) }
+{
+    let key = frozen(rt, alloc, memory, depot)?;
+    bare_clone(rt, alloc, &key, memory.blank(alloc)?, depot)
 }
 
 /// Sends a page of an image to a guest, and says what came of it.
 fn send(
+    rt: &impl Abort,
     alloc: Global,
     memory: &mut GuestMem,
     key: &ImageKey,
     page: u32,
     depot: &Depot,
-) -> Result<Arrived, Fail>
+) -> Result<Arrived, AllocError>
     requires key { IsKeyOf depot.now key.now }
     requires ram { IsRamOf depot.now memory.old }
     ensures { OnOk result (IsRamOf depot.now memory.new) }
 {
-    if page >= depot.pages(key) {
-        return Err("no such page".into());
-    }
-    Ok(memory.arrive(alloc, depot, &depot.answer(key, page)?)?)
+    assert!(rt; page < depot.pages(key));
+    memory.arrive(alloc, depot, &depot.answer(key, page)?)
 }
 
-/// Brings all pages here, from the image of the key, which is then let go.
-fn fetch(alloc: Global, memory: &mut GuestMem, depot: &Depot) -> Result<(), AllocError>
-    requires { IsRamOf depot.now memory.old }
-    ensures { OnOk result (memory.new.key ≡ None) }
+/// Sends the first two pages.
+fn send_two(
+    rt: &impl Abort,
+    alloc: Global,
+    memory: &mut GuestMem,
+    key: &ImageKey,
+    depot: &Depot,
+) -> Result<Arrived, AllocError>
+    requires key { IsKeyOf depot.now key.now }
+    requires ram { IsRamOf depot.now memory.old }
+    ensures { OnOk result (IsRamOf depot.now memory.new) }
 {
-    memory.fetch_all(alloc, depot)
+    send(rt, alloc, memory, key, 0, depot)?;
+    send(rt, alloc, memory, key, 1, depot)
 }
 
-/// A clone that starts with an image, with these blank pages, and shares all others with the image.
-fn clone_of(alloc: Global, key: &ImageKey, blank: PageMap, depot: &Depot) -> Result<GuestMem, Fail>
+/// A clone that starts with an image, with these blank pages. The first two are sent, and it shares them with
+/// the image where they were absent.
+fn clone_of(
+    rt: &impl Abort,
+    alloc: Global,
+    key: &ImageKey,
+    blank: PageMap,
+    depot: &Depot,
+) -> Result<GuestMem, AllocError>
     requires { IsKeyOf depot.now key.now }
-    ensures { IfOk result (λ memory. memory.key ≡ None) }
 {
-    let mut memory = bare_clone(alloc, key, blank, depot)?;
-    fetch(alloc, &mut memory, depot)?;
+    let mut memory = bare_clone(rt, alloc, key, blank, depot)?;
+    send_two(rt, alloc, &mut memory, key, depot)?;
     Ok(memory)
 }
 
 /// Makes a page blank.
-fn make_blank(memory: &mut GuestMem, page: u32) -> Result<(), Fail>
+fn make_blank(rt: &impl Abort, memory: &mut GuestMem, page: u32) -> Result<(), AllocError>
     ensures { memory.new.key ≡ memory.old.key }
 {
-    if page >= memory.pages() {
-        return Err("no such page".into());
-    }
-    Ok(memory.zero_pages(page, 1)?)
+    assert!(rt; page < memory.pages());
+    memory.zero_pages(page, 1)
 }
 
 /// Stores 16 bytes around the border of two pages.
-fn store_around_the_border(memory: &mut GuestMem) -> Result<(), Fail> {
+fn store_around_the_border(rt: &impl Abort, memory: &mut GuestMem) {
     for byte in 0..16 {
-        store(memory, SECOND - 8 + byte, 1, byte + 1)?;
+        are_equal(rt, &store(memory, SECOND - 8 + byte, 1, byte + 1), &STORED);
     }
-    Ok(())
 }
 
 /// An offset, a width, and the number that is loaded there after those stores.
@@ -247,28 +251,25 @@ static AROUND_THE_BORDER: [(u32, u32, u32); 11] = [
 ];
 
 #[test]
-fn loads_what_was_stored_around_a_page_border(rt: HostRuntime) -> Result<(), Fail> {
+fn loads_what_was_stored_around_a_page_border(rt: HostRuntime) -> Result<(), AllocError> {
     let mut memory = booted(rt.alloc(), 16)?;
-    store_around_the_border(&mut memory)?;
+    store_around_the_border(&rt, &mut memory);
     has_the_border(&rt, &memory);
     Ok(())
 }
 
 fn has_the_border(rt: &impl Abort, memory: &GuestMem) {
     for (at, width, want) in AROUND_THE_BORDER.iter() {
-        assert_eq!(rt; load(memory, *at, *width), Some(*want), "{width} from {at}");
+        are_equal(
+            rt,
+            &(*at, *width, load(memory, *at, *width)),
+            &(*at, *width, Some(*want)),
+        );
     }
 }
 
-/// The two words at the border of the pages, after a store of so many bytes at an offset.
-fn words_after(alloc: Global, at: u32, width: u32) -> Result<[Option<u32>; 2], Fail> {
-    let mut memory = booted(alloc, 16)?;
-    store(&mut memory, at, width, 0x1122_3344)?;
-    Ok([load(&memory, SECOND - 4, 4), load(&memory, SECOND, 4)])
-}
-
 /// An offset, a width, and the two words at the border after the store.
-static STORED: [(u32, u32, [u32; 2]); 10] = [
+static STORED_AT: [(u32, u32, [u32; 2]); 10] = [
     (SECOND - 4, 1, [0x0000_0044, 0xaaaa_aaaa]),
     (SECOND - 4, 2, [0x0000_3344, 0xaaaa_aaaa]),
     (SECOND - 4, 4, [0x1122_3344, 0xaaaa_aaaa]),
@@ -281,23 +282,38 @@ static STORED: [(u32, u32, [u32; 2]); 10] = [
     (SECOND + 3, 1, [0, 0x44aa_aaaa]),
 ];
 
+fn stores_bytes(rt: &impl Abort, memory: &mut GuestMem, at: u32, width: u32, words: [u32; 2]) {
+    are_equal(rt, &store(memory, at, width, 0x1122_3344), &STORED);
+    let found = [load(memory, SECOND - 4, 4), load(memory, SECOND, 4)];
+    are_equal(rt, &(at, width, found), &(at, width, words.map(Some)));
+}
+
+fn stores_so_many_at(
+    rt: &impl Abort,
+    alloc: Global,
+    row: &(u32, u32, [u32; 2]),
+) -> Result<(), AllocError> {
+    let mut memory = booted(alloc, 16)?;
+    stores_bytes(rt, &mut memory, row.0, row.1, row.2);
+    Ok(())
+}
+
 #[test]
-fn stores_so_many_bytes(rt: HostRuntime) -> Result<(), Fail> {
-    for (at, width, [low, high]) in STORED.iter() {
-        let words = words_after(rt.alloc(), *at, *width)?;
-        assert_eq!(rt; words, [Some(*low), Some(*high)], "{width} at {at}");
+fn stores_so_many_bytes(rt: HostRuntime) -> Result<(), AllocError> {
+    for row in STORED_AT.iter() {
+        stores_so_many_at(&rt, rt.alloc(), row)?;
     }
     Ok(())
 }
 
 /// Stores to the last byte, makes all pages blank but the first, and then stores to the third.
-fn zero_and_store(memory: &mut GuestMem) -> Result<(), Fail> {
+fn zero_and_store(rt: &impl Abort, memory: &mut GuestMem) -> Result<(), AllocError> {
     let end = memory.size();
-    store(memory, end - 1, 1, 0x11)?;
-    if memory.pages() == 1024 {
-        memory.zero_pages(1, 1023)?;
-    }
-    store(memory, 2 * SECOND, 4, 0x22)
+    are_equal(rt, &store(memory, end - 1, 1, 0x11), &STORED);
+    assert!(rt; memory.pages() == 1024);
+    memory.zero_pages(1, 1023)?;
+    are_equal(rt, &store(memory, 2 * SECOND, 4, 0x22), &STORED);
+    Ok(())
 }
 
 /// The first word of the second page, the last word of the last, and the first of the third.
@@ -309,38 +325,38 @@ fn words_of_zeroed(memory: &GuestMem) -> [Option<u32>; 3] {
     ]
 }
 
-/// The pages that are not blank.
-fn held_pages(alloc: Global, memory: &GuestMem) -> Result<Vec<usize>, AllocError> {
-    let map = memory.blank(alloc)?;
-    (0..1024)
-        .zip(map.flags())
-        .filter(|(_, is_blank)| !**is_blank)
-        .map(|(page, _)| page)
-        .collect(alloc)
+/// All pages are blank but the third.
+fn are_blank(rt: &impl Abort, flags: &[bool]) {
+    are_equal(rt, &flags.len(), &1024);
+    for (page, is_blank) in flags.iter().enumerate() {
+        are_equal(rt, &(page, *is_blank), &(page, page != 2));
+    }
 }
 
-#[test]
-fn zeroed_pages_are_blank_until_they_are_stored_to(rt: HostRuntime) -> Result<(), Fail> {
-    let mut memory = booted(rt.alloc(), 1024)?;
-    zero_and_store(&mut memory)?;
-    are_zeroed(&rt, rt.alloc(), &memory)
-}
-
-fn are_zeroed(rt: &impl Abort, alloc: Global, memory: &GuestMem) -> Result<(), Fail> {
-    let held = held_pages(alloc, memory)?;
-    assert_eq!(rt;
-        (words_of_zeroed(memory), held.as_slice()),
-        ([Some(0), Some(0), Some(0x22)], [2].as_slice())
+fn are_zeroed(rt: &impl Abort, alloc: Global, memory: &GuestMem) -> Result<(), AllocError> {
+    are_equal(
+        rt,
+        &words_of_zeroed(memory),
+        &[Some(0), Some(0), Some(0x22)],
     );
+    let map = memory.blank(alloc)?;
+    are_blank(rt, map.flags());
     Ok(())
 }
 
+#[test]
+fn zeroed_pages_are_blank_until_they_are_stored_to(rt: HostRuntime) -> Result<(), AllocError> {
+    let mut memory = booted(rt.alloc(), 1024)?;
+    zero_and_store(&rt, &mut memory)?;
+    are_zeroed(&rt, rt.alloc(), &memory)
+}
+
 /// Stores to the first word of the first two pages.
-fn store_two(memory: &mut GuestMem, word: u32) -> Result<(), Fail>
+fn store_two(rt: &impl Abort, memory: &mut GuestMem, word: u32)
     ensures { memory.new.key ≡ memory.old.key }
 {
-    store(memory, 0, 4, word)?;
-    store(memory, SECOND, 4, word)
+    let stored = [store(memory, 0, 4, word), store(memory, SECOND, 4, word)];
+    are_equal(rt, &stored, &[STORED, STORED]);
 }
 
 /// The first word of the first two pages, and the second word of the second.
@@ -361,200 +377,176 @@ pub fn first_word(image: &Frozen, page: u32) -> Option<u32> {
     }
 }
 
-/// The first words of the first two pages of an image, and whether it has its input.
-fn parts_of(depot: &Depot, key: &ImageKey) -> ([Option<u32>; 2], bool)
-    requires { IsKeyOf depot.now key.now }
-{
-    let image = depot.frozen(key);
-    (
-        [first_word(image, 0), first_word(image, 1)],
-        image.input().bytes() == b"in".as_slice(),
-    )
+/// These are those words.
+fn has_words(rt: &impl Abort, memory: &GuestMem, words: [u32; 3]) {
+    are_equal(rt, &three_words(memory), &words.map(Some));
 }
 
-/// A clone that starts with an image, with the blank pages of its parent, and stores a word to two pages.
-fn stored_clone(
-    alloc: Global,
-    parent: &GuestMem,
-    key: &ImageKey,
-    depot: &Depot,
-    word: u32,
-) -> Result<GuestMem, Fail>
-    requires { IsKeyOf depot.now key.now }
-{
-    let mut clone = clone_of(alloc, key, parent.blank(alloc)?, depot)?;
-    store_two(&mut clone, word)?;
-    Ok(clone)
-}
-
-/// The words of this clone and of a second one, which is made and stores before this one does.
-fn words_of_both(
+/// A second clone of an image starts and stores before the first one does.
+fn stores_beside(
+    rt: &impl Abort,
     alloc: Global,
     first: &mut GuestMem,
-    parent: &GuestMem,
-    key: &ImageKey,
-    depot: &Depot,
-) -> Result<[[Option<u32>; 3]; 2], Fail>
-    requires { IsKeyOf depot.now key.now }
-{
-    let second = stored_clone(alloc, parent, key, depot, 3)?;
-    store_two(first, 2)?;
-    Ok([three_words(first), three_words(&second)])
-}
-
-/// The words of two clones that store after a freeze. The second starts before the first is done.
-fn words_of_clones(
-    alloc: Global,
-    parent: &GuestMem,
-    key: &ImageKey,
-    depot: &Depot,
-) -> Result<[[Option<u32>; 3]; 2], Fail>
-    requires { IsKeyOf depot.now key.now }
-{
-    let mut first = clone_of(alloc, key, parent.blank(alloc)?, depot)?;
-    words_of_both(alloc, &mut first, parent, key, depot)
-}
-
-/// Freezes a guest, which then stores 1 to two pages. The words of two clones of that image that store 2
-/// and 3.
-fn words_of_children<R: Wait>(
-    rt: &R,
-    alloc: Global,
-    parent: &mut GuestMem,
-    depot: &Depot,
-) -> Result<[[Option<u32>; 3]; 2], Fail>
-    requires { IsRamOf depot.now parent.old }
-{
-    let key = frozen(rt, alloc, parent, depot)?;
-    store_two(parent, 1)?;
-    words_of_clones(alloc, parent, &key, depot)
-}
-
-/// The words of a guest that is frozen and stores then, and those of its clones.
-type Family = ([Option<u32>; 3], [[Option<u32>; 3]; 2]);
-
-fn words_of_family<R: Wait>(rt: &R, alloc: Global, depot: &Depot) -> Result<Family, Fail> {
-    let mut parent = booted(alloc, 16)?;
-    let clones = words_of_children(rt, alloc, &mut parent, depot)?;
-    Ok((three_words(&parent), clones))
-}
-
-/// The same in a depot of its own.
-fn words_in_depot<R: Wait>(rt: &R, alloc: Global) -> Result<Family, Fail> {
-    let depot = Depot::new(alloc)?;
-    words_of_family(rt, alloc, &depot)
-}
-
-#[test]
-fn a_store_after_a_freeze_shows_in_one_guest(rt: HostRuntime) -> Result<(), Fail> {
-    let words = words_in_depot(&rt, rt.alloc())?;
-    assert_eq!(rt;
-        words,
-        (
-            [Some(1), Some(1), Some(0xaaaa_aaaa)],
-            [
-                [Some(2), Some(2), Some(0xaaaa_aaaa)],
-                [Some(3), Some(3), Some(0xaaaa_aaaa)],
-            ]
-        )
-    );
-    Ok(())
-}
-
-/// The words of a clone that is made after a guest and two other clones of the image have stored.
-fn words_of_late_clone(
-    alloc: Global,
-    parent: &mut GuestMem,
     key: &ImageKey,
     blank: PageMap,
     depot: &Depot,
-) -> Result<[Option<u32>; 3], Fail>
+) -> Result<(), AllocError>
     requires { IsKeyOf depot.now key.now }
 {
-    store_two(parent, 1)?;
-    words_of_clones(alloc, parent, key, depot)?;
-    let late = clone_of(alloc, key, blank, depot)?;
-    Ok(three_words(&late))
-}
-
-/// The words of that clone, and then the first words of the image; and whether the image has its input.
-type Late = ([Option<u32>; 3], [Option<u32>; 2], bool);
-
-fn late_of<R: Wait>(
-    rt: &R,
-    alloc: Global,
-    parent: &mut GuestMem,
-    depot: &Depot,
-) -> Result<Late, Fail>
-    requires { IsRamOf depot.now parent.old }
-{
-    let (key, blank) = frozen_and_blank(rt, alloc, parent, depot)?;
-    let late = words_of_late_clone(alloc, parent, &key, blank, depot)?;
-    let (words, has_input) = parts_of(depot, &key);
-    Ok((late, words, has_input))
-}
-
-fn late_of_booted<R: Wait>(rt: &R, alloc: Global, depot: &Depot) -> Result<Late, Fail> {
-    let mut parent = booted(alloc, 16)?;
-    late_of(rt, alloc, &mut parent, depot)
-}
-
-/// The same in a depot of its own.
-fn late_in_depot<R: Wait>(rt: &R, alloc: Global) -> Result<Late, Fail> {
-    let depot = Depot::new(alloc)?;
-    late_of_booted(rt, alloc, &depot)
-}
-
-#[test]
-fn an_image_stays_as_it_was_frozen(rt: HostRuntime) -> Result<(), Fail> {
-    let late = late_in_depot(&rt, rt.alloc())?;
-    assert_eq!(rt;
-        late,
-        (
-            [Some(0), Some(0xaaaa_aaaa), Some(0xaaaa_aaaa)],
-            [Some(0), Some(0xaaaa_aaaa)],
-            true
-        )
-    );
+    let mut second = clone_of(rt, alloc, key, blank, depot)?;
+    store_two(rt, &mut second, 3);
+    store_two(rt, first, 2);
+    has_words(rt, first, [2, 2, 0xaaaa_aaaa]);
+    has_words(rt, &second, [3, 3, 0xaaaa_aaaa]);
     Ok(())
 }
 
-/// A clone with a word of its own in the second page.
-fn written_clone(
+/// Two clones store to pages that they share, and read what they stored.
+fn clones_store_apart(
+    rt: &impl Abort,
     alloc: Global,
     parent: &GuestMem,
     key: &ImageKey,
     depot: &Depot,
-    word: u32,
-) -> Result<GuestMem, Fail>
+) -> Result<(), AllocError>
     requires { IsKeyOf depot.now key.now }
 {
-    let mut clone = clone_of(alloc, key, parent.blank(alloc)?, depot)?;
-    store(&mut clone, SECOND, 4, word)?;
+    let mut first = clone_of(rt, alloc, key, parent.blank(alloc)?, depot)?;
+    stores_beside(rt, alloc, &mut first, key, parent.blank(alloc)?, depot)
+}
+
+/// A guest is frozen, and stores to two pages. So do two clones of that image.
+fn family_stores_apart<R: Abort + Wait>(
+    rt: &R,
+    alloc: Global,
+    parent: &mut GuestMem,
+    depot: &Depot,
+) -> Result<(), AllocError>
+    requires { IsRamOf depot.now parent.old }
+{
+    let key = frozen(rt, alloc, parent, depot)?;
+    store_two(rt, parent, 1);
+    clones_store_apart(rt, alloc, parent, &key, depot)?;
+    has_words(rt, parent, [1, 1, 0xaaaa_aaaa]);
+    Ok(())
+}
+
+fn booted_family_stores_apart<R: Abort + Wait>(
+    rt: &R,
+    alloc: Global,
+    depot: &Depot,
+) -> Result<(), AllocError> {
+    let mut parent = booted(alloc, 16)?;
+    family_stores_apart(rt, alloc, &mut parent, depot)
+}
+
+#[test]
+fn a_store_after_a_freeze_shows_in_one_guest(rt: HostRuntime) -> Result<(), AllocError> {
+    let depot = Depot::new(rt.alloc())?;
+    booted_family_stores_apart(&rt, rt.alloc(), &depot)
+}
+
+/// An image has the words of the guest that was frozen, and its input.
+fn has_parts(rt: &impl Abort, image: &Frozen) {
+    let words = [first_word(image, 0), first_word(image, 1)];
+    are_equal(rt, &words, &[Some(0), Some(0xaaaa_aaaa)]);
+    are_equal(rt, &image.input().bytes(), &b"in".as_slice());
+}
+
+/// A late clone of an image has the words of the guest that was frozen.
+fn late_clone_is_as_frozen(
+    rt: &impl Abort,
+    alloc: Global,
+    key: &ImageKey,
+    blank: PageMap,
+    depot: &Depot,
+) -> Result<(), AllocError>
+    requires { IsKeyOf depot.now key.now }
+{
+    let late = clone_of(rt, alloc, key, blank, depot)?;
+    has_words(rt, &late, [0, 0xaaaa_aaaa, 0xaaaa_aaaa]);
+    Ok(())
+}
+
+/// A guest is frozen, and stores then. So do two clones of the image, before a third starts.
+fn stays_as_frozen<R: Abort + Wait>(
+    rt: &R,
+    alloc: Global,
+    parent: &mut GuestMem,
+    blank: PageMap,
+    depot: &Depot,
+) -> Result<(), AllocError>
+    requires { IsRamOf depot.now parent.old }
+{
+    let key = frozen(rt, alloc, parent, depot)?;
+    store_two(rt, parent, 1);
+    clones_store_apart(rt, alloc, parent, &key, depot)?;
+    late_clone_is_as_frozen(rt, alloc, &key, blank, depot)?;
+    has_parts(rt, depot.frozen(&key));
+    Ok(())
+}
+
+fn booted_stays_as_frozen<R: Abort + Wait>(
+    rt: &R,
+    alloc: Global,
+    depot: &Depot,
+) -> Result<(), AllocError> {
+    let mut parent = booted(alloc, 16)?;
+    let blank = parent.blank(alloc)?;
+    stays_as_frozen(rt, alloc, &mut parent, blank, depot)
+}
+
+#[test]
+fn an_image_stays_as_it_was_frozen(rt: HostRuntime) -> Result<(), AllocError> {
+    let depot = Depot::new(rt.alloc())?;
+    booted_stays_as_frozen(&rt, rt.alloc(), &depot)
+}
+
+/// A clone that starts with the image of a parcel, to which the parcel is sent, with a word of its own in the
+/// second page.
+fn written_clone(
+    rt: &impl Abort,
+    alloc: Global,
+    parent: &GuestMem,
+    parcel: &Parcel,
+    depot: &Depot,
+    word: u32,
+) -> Result<GuestMem, AllocError>
+    requires { IsKeyOf depot.now parcel.now.key }
+{
+    let mut clone = bare_clone(rt, alloc, parcel.key(), parent.blank(alloc)?, depot)?;
+    clone.arrive(alloc, depot, parcel)?;
+    are_equal(rt, &store(&mut clone, SECOND, 4, word), &STORED);
     Ok(clone)
 }
 
 /// A thousand clones, each with a page of its own.
 fn written_clones(
+    rt: &impl Abort,
     alloc: Global,
     parent: &GuestMem,
-    key: &ImageKey,
+    parcel: &Parcel,
     depot: &Depot,
-) -> Result<Vec<GuestMem>, Fail>
-    requires { IsKeyOf depot.now key.now }
+) -> Result<Vec<GuestMem>, AllocError>
+    requires { IsKeyOf depot.now parcel.now.key }
 {
     let mut clones = Vec::new(alloc);
     for n in 0..1000 {
-        clones.push(written_clone(alloc, parent, key, depot, n)?)?;
+        clones.push(written_clone(rt, alloc, parent, parcel, depot, n)?)?;
     }
     Ok(clones)
 }
 
-/// How many of the clones have their own word, and the next one as it was. The n-th stored n.
+/// Whether a clone has its own word, n, and the next one as it was.
+fn is_stored(clone: &GuestMem, n: u32) -> bool {
+    [load(clone, SECOND, 4), load(clone, SECOND + 4, 4)] == [Some(n), Some(0xaaaa_aaaa)]
+}
+
+/// How many of the clones have their own word. The n-th stored n.
 fn as_stored(clones: &[GuestMem]) -> usize {
     let mut count = 0;
     for (n, clone) in (0..1000).zip(clones) {
-        if [load(clone, SECOND, 4), load(clone, SECOND + 4, 4)] != [Some(n), Some(0xaaaa_aaaa)] {
+        if !is_stored(clone, n) {
             return count;
         }
         count = n as usize + 1;
@@ -562,282 +554,204 @@ fn as_stored(clones: &[GuestMem]) -> usize {
     count
 }
 
-/// How many of a thousand clones have their own word, and how many bytes they take.
-fn count_and_bytes(
-    rt: &(impl Files + Alloc),
+// A thousand whole copies take 64 megabytes, and a thousand tables and pages five.
+fn take_few_bytes<R: Abort + Alloc + Files>(
+    rt: &R,
     alloc: Global,
     parent: &GuestMem,
-    key: &ImageKey,
+    parcel: &Parcel,
     depot: &Depot,
-) -> Result<(usize, u64), Fail>
-    requires { IsKeyOf depot.now key.now }
+) -> Result<(), Fail>
+    requires { IsKeyOf depot.now parcel.now.key }
 {
     let before = resident_bytes(rt)?;
-    let clones = written_clones(alloc, parent, key, depot)?;
-    let taken = resident_bytes(rt)?.saturating_sub(before);
-    Ok((as_stored(&clones), taken))
+    let clones = written_clones(rt, alloc, parent, parcel, depot)?;
+    are_few(rt, resident_bytes(rt)?.saturating_sub(before));
+    are_equal(rt, &as_stored(&clones), &1000);
+    Ok(())
 }
 
-fn count_and_bytes_of<R: Alloc + Files + Wait>(
+/// The parcel of the second page of an image of this memory.
+fn second_page<R: Abort + Wait>(
+    rt: &R,
+    alloc: Global,
+    memory: &GuestMem,
+    depot: &Depot,
+) -> Result<Parcel, AllocError>
+    requires { IsRamOf depot.now memory.now }
+    ensures { IfOk result (λ parcel. IsKeyOf depot.now parcel.key) }
+{
+    let key = frozen(rt, alloc, memory, depot)?;
+    assert!(rt; 1 < depot.pages(&key));
+    depot.answer(&key, 1)
+}
+
+fn share_an_image<R: Abort + Alloc + Files + Wait>(
     rt: &R,
     alloc: Global,
     parent: &GuestMem,
     depot: &Depot,
-) -> Result<(usize, u64), Fail>
+) -> Result<(), Fail>
     requires { IsRamOf depot.now parent.now }
 {
-    let key = frozen(rt, alloc, parent, depot)?;
-    count_and_bytes(rt, alloc, parent, &key, depot)
+    let parcel = second_page(rt, alloc, parent, depot)?;
+    take_few_bytes(rt, alloc, parent, &parcel, depot)
 }
 
-fn count_and_bytes_of_booted<R: Alloc + Files + Wait>(
-    rt: &R,
-    alloc: Global,
-    depot: &Depot,
-) -> Result<(usize, u64), Fail> {
-    let parent = booted(alloc, 16)?;
-    count_and_bytes_of(rt, alloc, &parent, depot)
-}
-
-// A thousand whole copies take 64 megabytes, and a thousand tables and pages five.
-fn share_an_image<R: Abort + Alloc + Files + Wait>(
+fn share_an_image_of_booted<R: Abort + Alloc + Files + Wait>(
     rt: &R,
     alloc: Global,
     depot: &Depot,
 ) -> Result<(), Fail> {
-    let (count, taken) = count_and_bytes_of_booted(rt, alloc, depot)?;
-    assert_eq!(rt; count, 1000);
-    assert!(rt; taken < 6 << 20, "{taken} bytes");
-    Ok(())
+    let parent = booted(alloc, 16)?;
+    share_an_image(rt, alloc, &parent, depot)
 }
 
 #[test]
 fn a_thousand_clones_share_an_image(rt: HostRuntime) -> Result<(), Fail> {
     let depot = Depot::new(rt.alloc())?;
-    share_an_image(&rt, rt.alloc(), &depot)
+    share_an_image_of_booted(&rt, rt.alloc(), &depot)
 }
 
-/// What comes of pages that are sent to a guest: one that is absent, the same again, and one that was
-/// made blank meanwhile; and the words of the first two.
-type SentTwice = ([Arrived; 3], [Option<u32>; 3]);
-
-fn send_twice(
+/// Three pages are sent to a guest: one that is absent, the same again, and one that was made blank meanwhile.
+fn gets_one(
+    rt: &impl Abort,
     alloc: Global,
     memory: &mut GuestMem,
     key: &ImageKey,
     depot: &Depot,
-) -> Result<SentTwice, Fail>
+) -> Result<(), AllocError>
     requires key { IsKeyOf depot.now key.now }
     requires ram { IsRamOf depot.now memory.old }
 {
-    let first = send(alloc, memory, key, 1, depot)?;
-    store(memory, SECOND, 4, 7)?;
-    let again = send(alloc, memory, key, 1, depot)?;
-    make_blank(memory, 0)?;
-    let blanked = send(alloc, memory, key, 0, depot)?;
-    Ok(([first, again, blanked], three_words(memory)))
+    let first = send(rt, alloc, memory, key, 1, depot)?;
+    are_equal(rt, &store(memory, SECOND, 4, 7), &STORED);
+    let again = send(rt, alloc, memory, key, 1, depot)?;
+    make_blank(rt, memory, 0)?;
+    let blanked = send(rt, alloc, memory, key, 0, depot)?;
+    let sent = [first, again, blanked];
+    are_equal(
+        rt,
+        &sent,
+        &[Arrived::Got(1), Arrived::Had(1), Arrived::Had(0)],
+    );
+    has_words(rt, memory, [0, 7, 0xaaaa_aaaa]);
+    Ok(())
 }
 
-/// The same of a clone.
-fn sent_twice(
+/// The same of a clone that starts with an image of a guest.
+fn clone_gets_one<R: Abort + Wait>(
+    rt: &R,
     alloc: Global,
-    key: &ImageKey,
-    blank: PageMap,
+    parent: &GuestMem,
     depot: &Depot,
-) -> Result<SentTwice, Fail>
-    requires { IsKeyOf depot.now key.now }
+) -> Result<(), AllocError>
+    requires { IsRamOf depot.now parent.now }
 {
-    let mut memory = bare_clone(alloc, key, blank, depot)?;
-    send_twice(alloc, &mut memory, key, depot)
+    let key = frozen(rt, alloc, parent, depot)?;
+    let mut memory = bare_clone(rt, alloc, &key, parent.blank(alloc)?, depot)?;
+    gets_one(rt, alloc, &mut memory, &key, depot)
 }
 
-/// The key to an image of a guest that has stored to two pages, and its blank pages.
-fn image_of_stored<R: Wait>(
+/// The guest has stored to two pages.
+fn clone_of_stored_gets_one<R: Abort + Wait>(
     rt: &R,
     alloc: Global,
     depot: &Depot,
-) -> Result<(ImageKey, PageMap), Fail>
-    ensures { IfOk result (λ frozen. IsKeyOf depot.now frozen.0) }
-{
+) -> Result<(), AllocError> {
     let mut parent = booted(alloc, 16)?;
-    store_two(&mut parent, 1)?;
-    frozen_and_blank(rt, alloc, &parent, depot)
-}
-
-fn sent_twice_of_stored<R: Wait>(rt: &R, alloc: Global, depot: &Depot) -> Result<SentTwice, Fail> {
-    let (key, blank) = image_of_stored(rt, alloc, depot)?;
-    sent_twice(alloc, &key, blank, depot)
-}
-
-/// The same in a depot of its own.
-fn sent_twice_in_depot<R: Wait>(rt: &R, alloc: Global) -> Result<SentTwice, Fail> {
-    let depot = Depot::new(alloc)?;
-    sent_twice_of_stored(rt, alloc, &depot)
+    store_two(rt, &mut parent, 1);
+    clone_gets_one(rt, alloc, &parent, depot)
 }
 
 #[test]
-fn a_page_that_is_here_does_not_come_again(rt: HostRuntime) -> Result<(), Fail> {
-    let sent = sent_twice_in_depot(&rt, rt.alloc())?;
-    assert_eq!(rt;
-        sent,
-        (
-            [Arrived::Got(1), Arrived::Had(1), Arrived::Had(0)],
-            [Some(0), Some(7), Some(0xaaaa_aaaa)]
-        )
-    );
-    Ok(())
-}
-
-/// Why a store to the second page is refused, if it is.
-fn refusal(memory: &mut GuestMem) -> Option<StoreError> {
-    if memory.size() <= SECOND {
-        return None;
-    }
-    memory.store(SECOND, 4, 1).err()
+fn a_page_that_is_here_does_not_come_again(rt: HostRuntime) -> Result<(), AllocError> {
+    let depot = Depot::new(rt.alloc())?;
+    clone_of_stored_gets_one(&rt, rt.alloc(), &depot)
 }
 
 /// A store to the second page, which is absent, is refused, and the page is not loaded until it is blank.
-fn is_refused_until_it_is_blank(rt: &impl Abort, memory: &mut GuestMem) -> Result<(), Fail> {
+fn is_refused_until_it_is_blank(rt: &impl Abort, memory: &mut GuestMem) -> Result<(), AllocError> {
     let absent = StoreError::Absent(Absent { page: 1 });
-    assert_eq!(rt; refusal(memory), Some(absent));
+    are_equal(rt, &store(memory, SECOND, 4, 1), &Some(Err(absent)));
     let before = load(memory, SECOND, 4);
-    make_blank(memory, 1)?;
-    assert_eq!(rt; [before, load(memory, SECOND, 4)], [None, Some(0)]);
+    make_blank(rt, memory, 1)?;
+    are_equal(rt, &[before, load(memory, SECOND, 4)], &[None, Some(0)]);
     Ok(())
-}
-
-/// The key to an image of a guest of 128 pages, and its blank pages.
-fn image_of_booted<R: Wait>(
-    rt: &R,
-    alloc: Global,
-    depot: &Depot,
-) -> Result<(ImageKey, PageMap), Fail>
-    ensures { IfOk result (λ frozen. IsKeyOf depot.now frozen.0) }
-{
-    let parent = booted(alloc, 128)?;
-    frozen_and_blank(rt, alloc, &parent, depot)
-}
-
-/// A clone of that guest, of which the blank pages alone are here.
-fn clone_of_booted<R: Wait>(rt: &R, alloc: Global, depot: &Depot) -> Result<GuestMem, Fail> {
-    let (key, blank) = image_of_booted(rt, alloc, depot)?;
-    bare_clone(alloc, &key, blank, depot)
 }
 
 fn absent_page_is_refused<R: Abort + Wait>(
     rt: &R,
     alloc: Global,
+    parent: &GuestMem,
     depot: &Depot,
-) -> Result<(), Fail> {
-    let mut clone = clone_of_booted(rt, alloc, depot)?;
+) -> Result<(), AllocError>
+    requires { IsRamOf depot.now parent.now }
+{
+    let mut clone = bare_clone_of(rt, alloc, parent, depot)?;
     is_refused_until_it_is_blank(rt, &mut clone)
 }
 
-#[test]
-fn an_absent_page_is_refused_until_it_is_blank(rt: HostRuntime) -> Result<(), Fail> {
-    let depot = Depot::new(rt.alloc())?;
-    absent_page_is_refused(&rt, rt.alloc(), &depot)
-}
-
-/// A clone that starts with an image and stores a word to its first page, which is blank.
-fn stored_child(
+fn absent_page_of_booted_is_refused<R: Abort + Wait>(
+    rt: &R,
     alloc: Global,
-    key: &ImageKey,
-    blank: PageMap,
     depot: &Depot,
-) -> Result<GuestMem, Fail>
-    requires { IsKeyOf depot.now key.now }
-    ensures { IfOk result (λ memory. IsRamOf depot.now memory) }
-{
-    let mut child = bare_clone(alloc, key, blank, depot)?;
-    store(&mut child, 0, 4, 5)?;
-    Ok(child)
+) -> Result<(), AllocError> {
+    let parent = booted(alloc, 128)?;
+    absent_page_is_refused(rt, alloc, &parent, depot)
 }
 
-/// The second page of a clone, peeked while it is absent; and the words of the first two, once they came.
-fn peeked_and_sent(
+#[test]
+fn an_absent_page_is_refused_until_it_is_blank(rt: HostRuntime) -> Result<(), AllocError> {
+    let depot = Depot::new(rt.alloc())?;
+    absent_page_of_booted_is_refused(&rt, rt.alloc(), &depot)
+}
+
+/// The second page of a grandchild is peeked while it is absent, and then the first two are sent.
+fn peeks_and_gets(
+    rt: &impl Abort,
     alloc: Global,
     memory: &mut GuestMem,
     key: &ImageKey,
     depot: &Depot,
-) -> Result<(u32, [Option<u32>; 3]), Fail>
+) -> Result<(), AllocError>
     requires key { IsKeyOf depot.now key.now }
     requires ram { IsRamOf depot.now memory.old }
 {
-    if memory.size() <= SECOND {
-        return Err("no second page".into());
-    }
-    let peeked = memory.peek(depot, SECOND);
-    send(alloc, memory, key, 0, depot)?;
-    send(alloc, memory, key, 1, depot)?;
-    Ok((peeked, three_words(memory)))
+    assert!(rt; SECOND < memory.size());
+    are_equal(rt, &memory.peek(depot, SECOND), &0xaaaa_aaaa);
+    send_two(rt, alloc, memory, key, depot)?;
+    has_words(rt, memory, [5, 0xaaaa_aaaa, 0xaaaa_aaaa]);
+    Ok(())
 }
 
-/// The same of a clone that is made for it.
-fn of_clone(
-    alloc: Global,
-    key: &ImageKey,
-    blank: PageMap,
-    depot: &Depot,
-) -> Result<(u32, [Option<u32>; 3]), Fail>
-    requires { IsKeyOf depot.now key.now }
-{
-    let mut clone = bare_clone(alloc, key, blank, depot)?;
-    peeked_and_sent(alloc, &mut clone, key, depot)
-}
-
-/// The key to an image of a clone that has stored to its first page alone, and its blank pages.
-fn image_of_child<R: Wait>(
+/// The same of a grandchild that starts with an image of this child.
+fn grandchild_reads<R: Abort + Wait>(
     rt: &R,
     alloc: Global,
-    key: &ImageKey,
-    blank: PageMap,
+    child: &GuestMem,
     depot: &Depot,
-) -> Result<(ImageKey, PageMap), Fail>
-    requires { IsKeyOf depot.now key.now }
-    ensures { IfOk result (λ frozen. IsKeyOf depot.now frozen.0) }
+) -> Result<(), AllocError>
+    requires { IsRamOf depot.now child.now }
 {
-    let child = stored_child(alloc, key, blank, depot)?;
-    frozen_and_blank(rt, alloc, &child, depot)
+    let key = frozen(rt, alloc, child, depot)?;
+    let mut memory = bare_clone(rt, alloc, &key, child.blank(alloc)?, depot)?;
+    peeks_and_gets(rt, alloc, &mut memory, &key, depot)
 }
 
-/// The same of a grandchild, of whose pages its parent has stored to the first alone.
-fn of_grandchild<R: Wait>(
-    rt: &R,
-    alloc: Global,
-    key: &ImageKey,
-    blank: PageMap,
-    depot: &Depot,
-) -> Result<(u32, [Option<u32>; 3]), Fail>
-    requires { IsKeyOf depot.now key.now }
-{
-    let (key, blank) = image_of_child(rt, alloc, key, blank, depot)?;
-    of_clone(alloc, &key, blank, depot)
-}
-
-/// The same of a grandchild of a guest that stores after it was frozen.
-fn of_family<R: Wait>(
+/// A child stores to its first page alone, and its parent to two when the child was made.
+fn child_stores<R: Abort + Wait>(
     rt: &R,
     alloc: Global,
     parent: &mut GuestMem,
     depot: &Depot,
-) -> Result<(u32, [Option<u32>; 3]), Fail>
+) -> Result<(), AllocError>
     requires { IsRamOf depot.now parent.old }
 {
-    let (key, blank) = frozen_and_blank(rt, alloc, parent, depot)?;
-    store_two(parent, 9)?;
-    of_grandchild(rt, alloc, &key, blank, depot)
-}
-
-/// The same of guests of so many pages.
-fn of_size<R: Wait>(
-    rt: &R,
-    alloc: Global,
-    pages: u32,
-    depot: &Depot,
-) -> Result<(u32, [Option<u32>; 3]), Fail> {
-    let mut parent = booted_of(alloc, pages)?;
-    of_family(rt, alloc, &mut parent, depot)
+    let mut child = bare_clone_of(rt, alloc, parent, depot)?;
+    store_two(rt, parent, 9);
+    are_equal(rt, &store(&mut child, 0, 4, 5), &STORED);
+    grandchild_reads(rt, alloc, &child, depot)
 }
 
 /// The pages of guests, around the ends of leaves, and the fewest and the most.
@@ -848,14 +762,17 @@ fn comes_from_below<R: Abort + Wait>(
     alloc: Global,
     pages: u32,
     depot: &Depot,
-) -> Result<(), Fail> {
-    let read = of_size(rt, alloc, pages, depot)?;
-    let words = [Some(5), Some(0xaaaa_aaaa), Some(0xaaaa_aaaa)];
-    assert_eq!(rt; read, (0xaaaa_aaaa, words), "{pages}");
-    Ok(())
+) -> Result<(), AllocError> {
+    assert!(rt; MIN_PAGES <= pages && pages <= MAX_PAGES);
+    let mut parent = booted(alloc, pages)?;
+    child_stores(rt, alloc, &mut parent, depot)
 }
 
-fn all_come_from_below<R: Abort + Wait>(rt: &R, alloc: Global, depot: &Depot) -> Result<(), Fail> {
+fn all_come_from_below<R: Abort + Wait>(
+    rt: &R,
+    alloc: Global,
+    depot: &Depot,
+) -> Result<(), AllocError> {
     for pages in SIZES.iter() {
         comes_from_below(rt, alloc, *pages, depot)?;
     }
@@ -863,16 +780,20 @@ fn all_come_from_below<R: Abort + Wait>(rt: &R, alloc: Global, depot: &Depot) ->
 }
 
 #[test]
-fn a_page_comes_from_an_image_below(rt: HostRuntime) -> Result<(), Fail> {
+fn a_page_comes_from_an_image_below(rt: HostRuntime) -> Result<(), AllocError> {
     let depot = Depot::new(rt.alloc())?;
     all_come_from_below(&rt, rt.alloc(), &depot)
 }
 
+/// One thread has a guest and loads from it, and another looks at one.
+fn are_loaded_and_sized<R: Abort + Threads>(rt: &R, memory: GuestMem, shared: &GuestMem) {
+    let found = thread::join(rt, move || load(&memory, SECOND, 4), || shared.size());
+    are_equal(rt, &found, &(Some(0xaaaa_aaaa), 65_536));
+}
+
 #[test]
-fn moves_between_threads(rt: HostRuntime) -> Result<(), Fail> {
-    let memory = booted(rt.alloc(), 16)?;
+fn moves_between_threads(rt: HostRuntime) -> Result<(), AllocError> {
     let shared = booted(rt.alloc(), 16)?;
-    let (word, size) = thread::join(&rt, move || load(&memory, SECOND, 4), || shared.size());
-    assert_eq!(rt; (word, size), (Some(0xaaaa_aaaa), 65_536));
+    are_loaded_and_sized(&rt, booted(rt.alloc(), 16)?, &shared);
     Ok(())
 }

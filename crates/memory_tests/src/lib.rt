@@ -7,6 +7,8 @@
 #[cfg(test)]
 mod disks;
 #[cfg(test)]
+mod equal;
+#[cfg(test)]
 mod freezes;
 #[cfg(test)]
 mod guests;

@@ -1,56 +1,55 @@
 //! The block port.
 
-use block_port::{BlockPort, Status};
-use cow_disk::{Disk, FrozenDisk};
+use crate::equal::are_equal;
+use block_port::{BlockFields, BlockPort, Status};
+use cow_disk::{Disk, DiskError, FrozenDisk};
 use port_error::{Fault, PortError};
-use std::alloc::Global;
+use std::alloc::{AllocError, Global};
 use std::process::Abort;
-use std::test::Fail;
 use std::thread;
 use std::thread::Threads;
 
 /// A frozen disk of one sector of bytes AA.
-fn frozen_disk(alloc: Global) -> Result<FrozenDisk, Fail> {
+fn frozen_disk(alloc: Global) -> Result<FrozenDisk, DiskError> {
     Ok(Disk::from_bytes(alloc, &[0xaa; 512])?.freeze()?)
 }
 
 /// A port over that disk.
-fn port_at_start(alloc: Global) -> Result<BlockPort, Fail> {
+fn port_at_start(alloc: Global) -> Result<BlockPort, DiskError> {
     Ok(BlockPort::new(frozen_disk(alloc)?.open()?))
 }
 
 /// SECTOR, STATUS, COUNT and the ends of the buffer.
-fn registers(port: &mut BlockPort) -> Result<[u32; 5], PortError> {
-    Ok([
-        port.load(0, 4)?,
-        port.load(8, 4)?,
-        port.load(12, 4)?,
-        port.load(0x200, 4)?,
-        port.load(0x3fc, 4)?,
-    ])
+fn registers(port: &mut BlockPort) -> [Result<u32, Fault>; 5] {
+    [
+        port.load(0, 4),
+        port.load(8, 4),
+        port.load(12, 4),
+        port.load(0x200, 4),
+        port.load(0x3fc, 4),
+    ]
 }
 
-/// Whether the port has a load and a store of so many bytes at an offset.
-fn has_access(offset: u32, width: u32) -> (bool, bool) {
-    let buffer = offset % 4 == 0 && (0x200..0x400).contains(&offset);
+/// Why a load of so many bytes at an offset fails, and what comes of a store.
+type Access = (Option<Fault>, Result<(), PortError>);
+
+fn expected(offset: u32, width: u32) -> Access {
     match (offset, width) {
-        (0, 4) => (true, true),
-        (4, 4) => (false, true),
-        (8 | 12, 4) => (true, false),
-        (_, 4) => (buffer, buffer),
-        _ => (false, false),
+        (0, 4) => (None, Ok(())),
+        (4, 4) => (Some(Fault), Ok(())),
+        (8 | 12, 4) => (None, Err(PortError::Fault)),
+        (0x200..0x400, 4) if offset % 4 == 0 => (None, Ok(())),
+        _ => (Some(Fault), Err(PortError::Fault)),
     }
 }
 
 fn takes_a_word(rt: &impl Abort, port: &mut BlockPort, offset: u32, width: u32) {
-    let (loads, stores) = has_access(offset, width);
-    let load = if loads { None } else { Some(Fault) };
-    let store = if stores { None } else { Some(PortError::Fault) };
-    let found = (
-        port.load(offset, width).err(),
-        port.store(offset, width, 7).err(),
+    let found = (port.load(offset, width).err(), port.store(offset, width, 7));
+    are_equal(
+        rt,
+        &(offset, width, found),
+        &(offset, width, expected(offset, width)),
     );
-    assert_eq!(rt; found, (load, store), "{width} bytes at {offset}");
 }
 
 fn takes_words(rt: &impl Abort, port: &mut BlockPort) {
@@ -62,7 +61,7 @@ fn takes_words(rt: &impl Abort, port: &mut BlockPort) {
 }
 
 #[test]
-fn takes_words_at_its_registers(rt: HostRuntime) -> Result<(), Fail> {
+fn takes_words_at_its_registers(rt: HostRuntime) -> Result<(), DiskError> {
     let mut port = port_at_start(rt.alloc())?;
     takes_words(&rt, &mut port);
     Ok(())
@@ -80,19 +79,19 @@ static COMMANDS: [(u32, u32, u32, u32, u32); 8] = [
     (0, 2, 0, 0xaaaa_aaaa, 0xaaaa_aaaa),
 ];
 
-/// Gives a command, and reads the registers after it.
-fn run(port: &mut BlockPort, sector: u32, command: u32) -> Result<[u32; 5], PortError> {
-    port.store(0, 4, sector)?;
-    port.store(4, 4, command)?;
-    registers(port)
+/// Gives a command.
+fn give(port: &mut BlockPort, sector: u32, command: u32) -> [Result<(), PortError>; 2] {
+    [port.store(0, 4, sector), port.store(4, 4, command)]
 }
 
 fn does_a_command(rt: &impl Abort, port: &mut BlockPort, row: &(u32, u32, u32, u32, u32)) {
     let (sector, command, status, first, last) = *row;
-    assert_eq!(rt;
-        run(port, sector, command),
-        Ok([sector, status, 1, first, last]),
-        "command {command} at {sector}"
+    let given = give(port, sector, command);
+    let want = [sector, status, 1, first, last].map(Ok);
+    are_equal(
+        rt,
+        &(row, given, registers(port)),
+        &(row, [Ok(()), Ok(())], want),
     );
 }
 
@@ -104,108 +103,100 @@ fn does_commands(rt: &impl Abort, port: &mut BlockPort) {
 
 fn starts(rt: &impl Abort, port: &mut BlockPort) {
     let found = (registers(port), port.store(0x3fc, 4, 0x11223344));
-    assert_eq!(rt; found, (Ok([0, 0, 1, 0, 0]), Ok(())));
+    are_equal(rt, &found, &([0, 0, 1, 0, 0].map(Ok), Ok(())));
 }
 
 #[test]
-fn commands_by_the_table(rt: HostRuntime) -> Result<(), Fail> {
+fn commands_by_the_table(rt: HostRuntime) -> Result<(), DiskError> {
     let mut port = port_at_start(rt.alloc())?;
     starts(&rt, &mut port);
     does_commands(&rt, &mut port);
     Ok(())
 }
 
-/// Loads the first word of the buffer after reading sector 0.
-fn first_word(port: &mut BlockPort) -> Result<u32, PortError> {
-    port.store(0, 4, 0)?;
-    port.store(4, 4, 1)?;
-    Ok(port.load(0x200, 4)?)
+/// What comes of reading sector 0, and the first word of the buffer then.
+type Word = ([Result<(), PortError>; 2], Result<u32, Fault>);
+
+fn first_word(port: &mut BlockPort) -> Word {
+    let given = give(port, 0, 1);
+    (given, port.load(0x200, 4))
+}
+
+/// That word, where the sector is read.
+const fn read(word: u32) -> Word {
+    ([Ok(()), Ok(())], Ok(word))
 }
 
 /// Writes a sector of these bytes, and changes the buffer then.
-fn write_word(port: &mut BlockPort) -> Result<(), PortError> {
-    port.store(0x200, 4, 0x11223344)?;
-    port.store(4, 4, 2)?;
-    port.store(0x200, 4, 0)
+fn write_word(port: &mut BlockPort) -> [Result<(), PortError>; 3] {
+    [
+        port.store(0x200, 4, 0x11223344),
+        port.store(4, 4, 2),
+        port.store(0x200, 4, 0),
+    ]
 }
 
 fn writes_alone(rt: &impl Abort, first: &mut BlockPort, second: &mut BlockPort) {
-    let written = write_word(first);
+    are_equal(rt, &write_word(first), &[Ok(()), Ok(()), Ok(())]);
     let words = [first_word(first), first_word(second)];
+    are_equal(rt, &words, &[read(0x11223344), read(0xaaaa_aaaa)]);
     let loads = [first.load(0x204, 4), first.load(8, 1)];
-    assert_eq!(rt;
-        (written, words, loads),
-        (
-            Ok(()),
-            [Ok(0x11223344), Ok(0xaaaa_aaaa)],
-            [Ok(0), Err(Fault)]
-        )
-    );
-}
-
-/// The first word of a port that is opened over this disk.
-fn opened_word(frozen: &FrozenDisk) -> Result<u32, Fail> {
-    let mut port = BlockPort::new(frozen.open()?);
-    Ok(first_word(&mut port)?)
+    are_equal(rt, &loads, &[Ok(0), Err(Fault)]);
 }
 
 /// Writes behind one of two ports over this disk.
-fn is_written_behind_one(rt: &impl Abort, frozen: &FrozenDisk) -> Result<(), Fail> {
+fn is_written_behind_one(rt: &impl Abort, frozen: &FrozenDisk) -> Result<(), AllocError> {
     let mut first = BlockPort::new(frozen.open()?);
     let mut second = BlockPort::new(frozen.open()?);
     writes_alone(rt, &mut first, &mut second);
     Ok(())
 }
 
-fn is_not_written(rt: &impl Abort, frozen: &FrozenDisk) -> Result<(), Fail> {
-    let word = opened_word(frozen)?;
-    assert_eq!(rt; word, 0xaaaa_aaaa);
+fn is_not_written(rt: &impl Abort, frozen: &FrozenDisk) -> Result<(), AllocError> {
+    let mut port = BlockPort::new(frozen.open()?);
+    are_equal(rt, &first_word(&mut port), &read(0xaaaa_aaaa));
     Ok(())
 }
 
 #[test]
-fn a_write_shows_behind_one_port(rt: HostRuntime) -> Result<(), Fail> {
+fn a_write_shows_behind_one_port(rt: HostRuntime) -> Result<(), DiskError> {
     let frozen = frozen_disk(rt.alloc())?;
     is_written_behind_one(&rt, &frozen)?;
-    is_not_written(&rt, &frozen)
-}
-
-/// Fills a buffer, and gives a command for a sector that is not there.
-fn asks_for_no_sector(port: &mut BlockPort) -> Result<(), PortError> {
-    port.store(0x204, 4, 0x11223344)?;
-    port.store(0, 4, 9)?;
-    port.store(4, 4, 1)
-}
-
-fn are_equal(rt: &impl Abort, port: &BlockPort, same: &mut BlockPort) {
-    let fields = port.fields();
-    assert_eq!(rt; same.fields(), fields);
-    assert_eq!(rt;
-        (
-            (fields.sector, fields.status, fields.buffer[4]),
-            registers(same)
-        ),
-        ((9, Status::BadSector, 0x44), Ok([9, 1, 1, 0, 0]))
-    );
-}
-
-fn is_equal_to_its_same(rt: &impl Abort, port: &BlockPort) -> Result<(), Fail> {
-    let mut same = same_port(port)?;
-    are_equal(rt, port, &mut same);
+    is_not_written(&rt, &frozen)?;
     Ok(())
 }
 
+/// Fills a buffer, and gives a command for a sector that is not there.
+fn asks_for_no_sector(rt: &impl Abort, port: &mut BlockPort) {
+    are_equal(rt, &port.store(0x204, 4, 0x11223344), &Ok(()));
+    are_equal(rt, &give(port, 9, 1), &[Ok(()), Ok(())]);
+}
+
+fn has_fields(rt: &impl Abort, port: &mut BlockPort, fields: &BlockFields) {
+    are_equal(rt, &port.fields(), fields);
+    let found = (fields.sector, fields.status, fields.buffer[4]);
+    are_equal(rt, &found, &(9, Status::BadSector, 0x44));
+    are_equal(rt, &registers(port), &[9, 1, 1, 0, 0].map(Ok));
+}
+
 /// A port of the same fields over a disk that is opened now.
-fn same_port(port: &BlockPort) -> Result<BlockPort, Fail> {
+fn same_port(port: &BlockPort) -> Result<BlockPort, AllocError> {
     let frozen = port.disk().freeze()?;
     Ok(BlockPort::of_fields(port.fields(), frozen.open()?))
 }
 
+fn is_equal_to_its_same(rt: &impl Abort, port: &BlockPort) -> Result<(), AllocError> {
+    let mut same = same_port(port)?;
+    has_fields(rt, &mut same, &port.fields());
+    Ok(())
+}
+
 #[test]
-fn fields_make_an_equal_port(rt: HostRuntime) -> Result<(), Fail> {
+fn fields_make_an_equal_port(rt: HostRuntime) -> Result<(), DiskError> {
     let mut port = port_at_start(rt.alloc())?;
-    asks_for_no_sector(&mut port)?;
-    is_equal_to_its_same(&rt, &port)
+    asks_for_no_sector(&rt, &mut port);
+    is_equal_to_its_same(&rt, &port)?;
+    Ok(())
 }
 
 /// The numbers by which STATUS tells what became of a command.
@@ -218,19 +209,19 @@ static NUMBERS: [(Status, u32); 3] = [
 #[test]
 fn statuses_by_their_numbers(rt: HostRuntime) {
     for (status, number) in NUMBERS.iter() {
-        assert_eq!(rt; status.word(), *number);
+        are_equal(&rt, &status.word(), number);
     }
 }
 
 /// The word that is read in a thread.
-fn word_of_moved<R: Threads>(rt: &R, mut port: BlockPort) -> Result<u32, PortError> {
+fn word_of_moved<R: Threads>(rt: &R, mut port: BlockPort) -> Word {
     let (word, _) = thread::join(rt, move || first_word(&mut port), || ());
     word
 }
 
 #[test]
-fn moves_between_threads(rt: HostRuntime) -> Result<(), Fail> {
+fn moves_between_threads(rt: HostRuntime) -> Result<(), DiskError> {
     let word = word_of_moved(&rt, port_at_start(rt.alloc())?);
-    assert_eq!(rt; word, Ok(0xaaaa_aaaa));
+    are_equal(&rt, &word, &read(0xaaaa_aaaa));
     Ok(())
 }

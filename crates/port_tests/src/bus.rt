@@ -1,14 +1,14 @@
 //! The bus: each port at its addresses.
 
-use cow_disk::Disk;
+use crate::equal::are_equal;
+use cow_disk::{Disk, DiskError};
 use port_error::{Fault, PortError};
 use std::alloc::Global;
 use std::process::Abort;
-use std::test::Fail;
 use vm_bus::{Effect, Ports};
 
 /// The ports of a machine with a disk of one sector of bytes AA, one byte of input and 3 clones.
-fn ports_at_start(alloc: Global) -> Result<Ports, Fail> {
+fn ports_at_start(alloc: Global) -> Result<Ports, DiskError> {
     let disk = Disk::from_bytes(alloc, &[0xaa; 512])?;
     Ok(Ports::new(alloc, disk, b"Z", 3)?)
 }
@@ -55,21 +55,20 @@ static LOADS: [(u32, u32, Result<u32, Fault>); 38] = [
     (0xffff_ffff, 1, Err(Fault)),
 ];
 
-/// What a load gives a machine that starts.
-fn load_at_start(alloc: Global, address: u32, width: u32) -> Result<Result<u32, Fault>, Fail> {
+/// A load gives a machine that starts what the row tells.
+fn loads(
+    rt: &impl Abort,
+    alloc: Global,
+    row: &(u32, u32, Result<u32, Fault>),
+) -> Result<(), DiskError> {
+    let (address, width, _) = *row;
     let mut ports = ports_at_start(alloc)?;
-    Ok(ports.load(address, width))
-}
-
-fn loads(rt: &impl Abort, alloc: Global, row: &(u32, u32, Result<u32, Fault>)) -> Result<(), Fail> {
-    let (address, width, want) = *row;
-    let found = load_at_start(alloc, address, width)?;
-    assert_eq!(rt; found, want, "{address:08x} of {width}");
+    are_equal(rt, &(address, width, ports.load(address, width)), row);
     Ok(())
 }
 
 #[test]
-fn loads_at_each_port_s_edges(rt: HostRuntime) -> Result<(), Fail> {
+fn loads_at_each_port_s_edges(rt: HostRuntime) -> Result<(), DiskError> {
     for row in LOADS.iter() {
         loads(&rt, rt.alloc(), row)?;
     }
@@ -114,29 +113,20 @@ static STORES: [(u32, u32, Result<Effect, PortError>); 34] = [
     (0xffff_ffff, 1, Err(PortError::Fault)),
 ];
 
-/// What a store of 5 does to a machine that starts.
-fn store_at_start(
-    alloc: Global,
-    address: u32,
-    width: u32,
-) -> Result<Result<Effect, PortError>, Fail> {
-    let mut ports = ports_at_start(alloc)?;
-    Ok(ports.store(address, width, 5))
-}
-
+/// A store of 5 does to a machine that starts what the row tells.
 fn stores(
     rt: &impl Abort,
     alloc: Global,
     row: &(u32, u32, Result<Effect, PortError>),
-) -> Result<(), Fail> {
-    let (address, width, want) = *row;
-    let found = store_at_start(alloc, address, width)?;
-    assert_eq!(rt; found, want, "{address:08x} of {width}");
+) -> Result<(), DiskError> {
+    let (address, width, _) = *row;
+    let mut ports = ports_at_start(alloc)?;
+    are_equal(rt, &(address, width, ports.store(address, width, 5)), row);
     Ok(())
 }
 
 #[test]
-fn stores_at_each_port_s_edges(rt: HostRuntime) -> Result<(), Fail> {
+fn stores_at_each_port_s_edges(rt: HostRuntime) -> Result<(), DiskError> {
     for row in STORES.iter() {
         stores(&rt, rt.alloc(), row)?;
     }
@@ -156,7 +146,7 @@ fn sets_the_time(rt: &impl Abort, ports: &mut Ports) {
         ports.store(0x0200_4004, 4, 0),
         ports.store(0x0200_4000, 4, 2),
     ];
-    assert_eq!(rt; stores, [Ok(Effect::Done), Ok(Effect::Done)]);
+    are_equal(rt, &stores, &[Ok(Effect::Done), Ok(Effect::Done)]);
 }
 
 /// mtime counts to mtimecmp.
@@ -168,7 +158,7 @@ fn times(rt: &impl Abort, ports: &mut Ports) {
     ];
     ports.count_time(true);
     let time = ports.load(0x0200_bff8, 4);
-    assert_eq!(rt; (due, time), ([false, false, true], Ok(3)));
+    are_equal(rt, &(due, time), &([false, false, true], Ok(3)));
 }
 
 fn puts_out_and_exits(rt: &impl Abort, ports: &mut Ports) {
@@ -177,9 +167,10 @@ fn puts_out_and_exits(rt: &impl Abort, ports: &mut Ports) {
         ports.store(0x1000_2000, 4, 9),
         ports.store(0x1000_2008, 4, 5),
     ];
-    assert_eq!(rt;
-        stores,
-        [Ok(Effect::Done), Ok(Effect::Done), Ok(Effect::Exit(9))]
+    are_equal(
+        rt,
+        &stores,
+        &[Ok(Effect::Done), Ok(Effect::Done), Ok(Effect::Exit(9))],
     );
 }
 
@@ -187,7 +178,7 @@ fn puts_out_and_exits(rt: &impl Abort, ports: &mut Ports) {
 fn reads_the_disk(rt: &impl Abort, ports: &mut Ports) {
     let read = ports.store(0x1000_1004, 4, 1);
     let word = ports.load(0x1000_1200, 4);
-    assert_eq!(rt; (read, word), (Ok(Effect::Done), Ok(0xaaaa_aaaa)));
+    are_equal(rt, &(read, word), &(Ok(Effect::Done), Ok(0xaaaa_aaaa)));
 }
 
 /// The buffer goes to sector 0, with another first word.
@@ -196,28 +187,21 @@ fn writes_the_disk(rt: &impl Abort, ports: &mut Ports) {
         ports.store(0x1000_1200, 4, 7),
         ports.store(0x1000_1004, 4, 2),
     ];
-    let word = ports.load(0x1000_1200, 4);
-    assert_eq!(rt;
-        (stores, word),
-        ([Ok(Effect::Done), Ok(Effect::Done)], Ok(7))
-    );
+    are_equal(rt, &stores, &[Ok(Effect::Done), Ok(Effect::Done)]);
+    are_equal(rt, &ports.load(0x1000_1200, 4), &Ok(7));
 }
 
 fn keeps_the_sector(rt: &impl Abort, disk: &Disk) {
     let mut sector = [0; 512];
     let read = disk.read_sector(0, &mut sector);
-    assert_eq!(rt;
-        (read, [sector[0], sector[1], sector[4]]),
-        (Ok(()), [7, 0, 0xaa])
-    );
+    let found = (read, [sector[0], sector[1], sector[4]]);
+    are_equal(rt, &found, &(Ok(()), [7, 0, 0xaa]));
 }
 
 fn keeps(rt: &impl Abort, ports: &Ports) {
     keeps_the_sector(rt, ports.disk());
-    assert_eq!(rt;
-        [ports.input(), ports.output()],
-        [b"Z".as_slice(), b"A".as_slice()]
-    );
+    are_equal(rt, &ports.input(), &b"Z".as_slice());
+    are_equal(rt, &ports.output(), &b"A".as_slice());
 }
 
 fn all_keep(rt: &impl Abort, ports: &mut Ports) {
@@ -229,15 +213,11 @@ fn all_keep(rt: &impl Abort, ports: &mut Ports) {
     keeps(rt, ports);
 }
 
-fn is_output(rt: &impl Abort, output: &[u8]) {
-    assert_eq!(rt; output, b"A".as_slice());
-}
-
 #[test]
-fn each_port_keeps_what_is_stored(rt: HostRuntime) -> Result<(), Fail> {
+fn each_port_keeps_what_is_stored(rt: HostRuntime) -> Result<(), DiskError> {
     let mut ports = ports_at_start(rt.alloc())?;
     all_keep(&rt, &mut ports);
     let output = ports.into_output();
-    is_output(&rt, &output);
+    are_equal(&rt, &output.as_slice(), &b"A".as_slice());
     Ok(())
 }

@@ -2,6 +2,7 @@
 
 ghost use Rattle.std.specs.Prelude.{◌≤◌, length};
 
+use crate::equal::are_equal;
 use console_port::{ConsoleFields, ConsolePort, Input};
 use port_error::{Fault, PortError};
 use std::alloc::{AllocError, Global};
@@ -9,14 +10,24 @@ use std::process::Abort;
 use std::thread;
 use std::thread::Threads;
 
-fn takes_a_byte(rt: &impl Abort, port: &mut ConsolePort, offset: u32, width: u32) {
-    let found = (port.load(offset, width).err(), port.store(offset, width, 0));
-    let want = if offset < 8 && width == 1 {
+/// Why a load of so many bytes at an offset fails, and what comes of a store.
+type Access = (Option<Fault>, Result<(), PortError>);
+
+fn expected(offset: u32, width: u32) -> Access {
+    if offset < 8 && width == 1 {
         (None, Ok(()))
     } else {
         (Some(Fault), Err(PortError::Fault))
-    };
-    assert_eq!(rt; found, want, "{width} bytes at {offset}");
+    }
+}
+
+fn takes_a_byte(rt: &impl Abort, port: &mut ConsolePort, offset: u32, width: u32) {
+    let found = (port.load(offset, width).err(), port.store(offset, width, 0));
+    are_equal(
+        rt,
+        &(offset, width, found),
+        &(offset, width, expected(offset, width)),
+    );
 }
 
 fn takes_bytes(rt: &impl Abort, port: &mut ConsolePort) {
@@ -25,7 +36,7 @@ fn takes_bytes(rt: &impl Abort, port: &mut ConsolePort) {
             takes_a_byte(rt, port, offset, width);
         }
     }
-    assert_eq!(rt; port.output(), [0].as_slice());
+    are_equal(rt, &port.output(), &[0].as_slice());
 }
 
 #[test]
@@ -36,17 +47,17 @@ fn takes_bytes_at_eight_offsets(rt: HostRuntime) -> Result<(), AllocError> {
 }
 
 /// What all eight registers read, from the last to the first.
-fn registers(port: &mut ConsolePort) -> Result<[u32; 8], Fault> {
-    Ok([
-        port.load(7, 1)?,
-        port.load(6, 1)?,
-        port.load(5, 1)?,
-        port.load(4, 1)?,
-        port.load(3, 1)?,
-        port.load(2, 1)?,
-        port.load(1, 1)?,
-        port.load(0, 1)?,
-    ])
+fn registers(port: &mut ConsolePort) -> [Result<u32, Fault>; 8] {
+    [
+        port.load(7, 1),
+        port.load(6, 1),
+        port.load(5, 1),
+        port.load(4, 1),
+        port.load(3, 1),
+        port.load(2, 1),
+        port.load(1, 1),
+        port.load(0, 1),
+    ]
 }
 
 /// What is stored at an offset, and what all eight registers read then.
@@ -61,8 +72,12 @@ static STORES: [(u32, u32, [u32; 8]); 6] = [
 
 fn stores_a_byte(rt: &impl Abort, port: &mut ConsolePort, row: &(u32, u32, [u32; 8])) {
     let (offset, word, want) = *row;
-    let found = (port.store(offset, 1, word), registers(port));
-    assert_eq!(rt; found, (Ok(()), Ok(want)), "after {word} at {offset}");
+    let stored = port.store(offset, 1, word);
+    are_equal(
+        rt,
+        &(row, stored, registers(port)),
+        &(row, Ok(()), want.map(Ok)),
+    );
 }
 
 fn loads_and_stores(rt: &impl Abort, port: &mut ConsolePort) {
@@ -71,25 +86,19 @@ fn loads_and_stores(rt: &impl Abort, port: &mut ConsolePort) {
     }
 }
 
-fn is_output(rt: &impl Abort, output: &[u8]) {
-    assert_eq!(rt; output, b"AB".as_slice());
-}
-
 #[test]
 fn loads_and_stores_by_the_table(rt: HostRuntime) -> Result<(), AllocError> {
     let mut port = ConsolePort::new(rt.alloc(), b"YZ")?;
     loads_and_stores(&rt, &mut port);
     let output = port.into_output();
-    is_output(&rt, &output);
+    are_equal(&rt, &output.as_slice(), &b"AB".as_slice());
     Ok(())
 }
 
 fn starts_with(rt: &impl Abort, port: &mut ConsolePort, read: [u32; 8]) {
     let fields = port.fields();
-    assert_eq!(rt;
-        ((fields.place, fields.line_control), registers(port)),
-        ((0, 0), Ok(read))
-    );
+    let found = (fields.place, fields.line_control, registers(port));
+    are_equal(rt, &found, &(0, 0, read.map(Ok)));
 }
 
 /// What is read of a port that starts with this input.
@@ -114,18 +123,18 @@ fn starts_with_registers_of_zeros(rt: HostRuntime) -> Result<(), AllocError> {
 
 fn is_latched(rt: &impl Abort, port: &mut ConsolePort, fields: ConsoleFields) {
     let latched = [port.load(0, 1), port.load(5, 1)];
-    assert_eq!(rt; (latched, port.fields()), ([Ok(0), Ok(0x61)], fields));
+    are_equal(rt, &(latched, port.fields()), &([Ok(0), Ok(0x61)], fields));
 }
 
 fn reads_on(rt: &impl Abort, port: &mut ConsolePort) {
     let read = (port.store(3, 1, 0x03), port.load(0, 1));
-    assert_eq!(rt; (read, port.fields().place), ((Ok(()), Ok(0x5a)), 2));
+    are_equal(rt, &(read, port.fields().place), &((Ok(()), Ok(0x5a)), 2));
 }
 
 fn keeps_its_input(rt: &impl Abort, port: &mut ConsolePort, fields: ConsoleFields) {
     is_latched(rt, port, fields);
     reads_on(rt, port);
-    assert_eq!(rt; port.input(), b"YZ".as_slice());
+    are_equal(rt, &port.input(), &b"YZ".as_slice());
 }
 
 #[test]
@@ -149,6 +158,6 @@ fn byte_of_moved<R: Threads>(rt: &R, mut port: ConsolePort) -> Result<u32, Fault
 #[test]
 fn moves_between_threads(rt: HostRuntime) -> Result<(), AllocError> {
     let byte = byte_of_moved(&rt, ConsolePort::new(rt.alloc(), b"Z")?);
-    assert_eq!(rt; byte, Ok(0x5a));
+    are_equal(&rt, &byte, &Ok(0x5a));
     Ok(())
 }

@@ -1,5 +1,6 @@
 //! The fork port. Its registers, commands and refusals are told here by their numbers.
 
+use crate::equal::are_equal;
 use fork_port::{Asked, Call, Effect, Ending, ForkFields, ForkPort};
 use port_error::{Fault, PortError};
 use std::process::Abort;
@@ -53,50 +54,52 @@ fn run(
 }
 
 /// GRANTED and ALLOT.
-fn amounts(port: &ForkPort) -> Result<(u32, u32), Fault> {
-    Ok((port.load(36, 4)?, port.load(20, 4)?))
+fn amounts(port: &ForkPort) -> [Result<u32, Fault>; 2] {
+    [port.load(36, 4), port.load(20, 4)]
 }
 
-/// JKIND and JVALUE of a child of the last join.
-fn join_result(port: &mut ForkPort, child: u32) -> Result<(u32, u32), PortError> {
-    port.store(24, 4, child)?;
-    Ok((port.load(28, 4)?, port.load(32, 4)?))
+/// What comes of a store to JSELECT, and JKIND and JVALUE of the child of the last join then.
+type Joined = (Result<Effect, PortError>, [Result<u32, Fault>; 2]);
+
+fn join_result(port: &mut ForkPort, child: u32) -> Joined {
+    let stored = port.store(24, 4, child);
+    (stored, [port.load(28, 4), port.load(32, 4)])
 }
 
 /// All registers that are loaded.
-fn registers(port: &ForkPort) -> Result<[u32; 9], Fault> {
-    Ok([
-        port.load(0, 4)?,
-        port.load(4, 4)?,
-        port.load(12, 4)?,
-        port.load(16, 4)?,
-        port.load(20, 4)?,
-        port.load(24, 4)?,
-        port.load(28, 4)?,
-        port.load(32, 4)?,
-        port.load(36, 4)?,
-    ])
+fn registers(port: &ForkPort) -> [Result<u32, Fault>; 9] {
+    [
+        port.load(0, 4),
+        port.load(4, 4),
+        port.load(12, 4),
+        port.load(16, 4),
+        port.load(20, 4),
+        port.load(24, 4),
+        port.load(28, 4),
+        port.load(32, 4),
+        port.load(36, 4),
+    ]
 }
 
-/// Whether the port has a load and a store of so many bytes at an offset.
-fn has_access(offset: u32, width: u32) -> (bool, bool) {
-    let is_word = width == 4 && offset % 4 == 0 && offset < 40;
-    (
-        is_word && offset != 8,
-        is_word && matches!(offset, 0 | 4 | 8 | 24),
-    )
+/// Why a load of so many bytes at an offset fails, and what comes of a store.
+type Access = (Option<Fault>, Result<Effect, PortError>);
+
+fn expected(offset: u32, width: u32) -> Access {
+    match (offset, width) {
+        (0 | 4 | 24, 4) => (None, Ok(Effect::Done)),
+        (8, 4) => (Some(Fault), Ok(Effect::Done)),
+        (12 | 16 | 20 | 28 | 32 | 36, 4) => (None, Err(PortError::Fault)),
+        _ => (Some(Fault), Err(PortError::Fault)),
+    }
 }
 
 fn takes_a_word(rt: &impl Abort, port: &mut ForkPort, offset: u32, width: u32) {
-    let (loads, stores) = has_access(offset, width);
-    let load = if loads { None } else { Some(Fault) };
-    let store = if stores {
-        Ok(Effect::Done)
-    } else {
-        Err(PortError::Fault)
-    };
     let found = (port.load(offset, width).err(), port.store(offset, width, 7));
-    assert_eq!(rt; found, (load, store), "{width} bytes at {offset}");
+    are_equal(
+        rt,
+        &(offset, width, found),
+        &(offset, width, expected(offset, width)),
+    );
 }
 
 #[test]
@@ -112,7 +115,7 @@ fn takes_words_at_its_registers(rt: HostRuntime) {
 /// RESULT, GRANTED and ALLOT after a command, and ticket 1.
 type Told = (
     Result<u32, PortError>,
-    Result<(u32, u32), Fault>,
+    [Result<u32, Fault>; 2],
     Option<(u32, u32, bool)>,
 );
 
@@ -122,43 +125,37 @@ fn told_of(port: &mut ForkPort, command: u32, first: u32, second: u32, endings: 
 }
 
 fn starts(rt: &impl Abort, port: &ForkPort) {
-    assert_eq!(rt; registers(port), Ok([0, 0, 0, 0, 7, 0, 0, 0, 0]));
+    are_equal(rt, &registers(port), &[0, 0, 0, 0, 7, 0, 0, 0, 0].map(Ok));
 }
 
 fn is_granted_cloned_and_joined(rt: &impl Abort, port: &mut ForkPort) {
-    let told = [
-        told_of(port, TICKET, 4, 2, &[]),
-        told_of(port, CLONE, 1, 0, &[]),
-        told_of(port, JOIN, 1, 0, &[Ending::Exit(5), Ending::Limit]),
-    ];
-    assert_eq!(rt;
-        told,
-        [
-            (Ok(1), Ok((2, 1)), Some((2, 2, false))),
-            (Ok(0), Ok((2, 1)), Some((2, 2, true))),
-            (Ok(2), Ok((2, 7)), None),
-        ]
-    );
+    let granted = told_of(port, TICKET, 4, 2, &[]);
+    are_equal(rt, &granted, &(Ok(1), [Ok(2), Ok(1)], Some((2, 2, false))));
+    let cloned = told_of(port, CLONE, 1, 0, &[]);
+    are_equal(rt, &cloned, &(Ok(0), [Ok(2), Ok(1)], Some((2, 2, true))));
+    let joined = told_of(port, JOIN, 1, 0, &[Ending::Exit(5), Ending::Limit]);
+    are_equal(rt, &joined, &(Ok(2), [Ok(2), Ok(7)], None));
 }
 
 /// A child of the last join, and then JKIND and JVALUE.
-static JOINED: [(u32, (u32, u32)); 5] = [
-    (0, (0, 0)),
-    (1, (1, 5)),
-    (2, (2, 0)),
-    (3, (0, 0)),
-    (0xffff_ffff, (0, 0)),
+static JOINED: [(u32, [u32; 2]); 5] = [
+    (0, [0, 0]),
+    (1, [1, 5]),
+    (2, [2, 0]),
+    (3, [0, 0]),
+    (0xffff_ffff, [0, 0]),
 ];
 
-fn tells_of_a_child(rt: &impl Abort, port: &mut ForkPort, child: u32, want: (u32, u32)) {
-    assert_eq!(rt; join_result(port, child), Ok(want), "child {child}");
+fn tells_of_a_child(rt: &impl Abort, port: &mut ForkPort, child: u32, want: [u32; 2]) {
+    let want = (Ok(Effect::Done), want.map(Ok));
+    are_equal(rt, &(child, join_result(port, child)), &(child, want));
 }
 
 fn tells_of_the_join(rt: &impl Abort, port: &mut ForkPort) {
     for (child, want) in JOINED.iter() {
         tells_of_a_child(rt, port, *child, *want);
     }
-    assert_eq!(rt; run(port, TICKET, 1, 0, &[]), Ok(2));
+    are_equal(rt, &run(port, TICKET, 1, 0, &[]), &Ok(2));
 }
 
 #[test]
@@ -204,8 +201,9 @@ fn does_a_command(
     row: &(u32, u32, u32, u32, u32, u32),
 ) {
     let (command, first, second, result, granted, allot) = *row;
-    let found = (run(port, command, first, second, &[]), amounts(port));
-    assert_eq!(rt; found, (Ok(result), Ok((granted, allot))), "row {at}");
+    let found = run(port, command, first, second, &[]);
+    let want = (Ok(result), [Ok(granted), Ok(allot)]);
+    are_equal(rt, &(at, (found, amounts(port))), &(at, want));
 }
 
 fn does_commands(rt: &impl Abort, port: &mut ForkPort) {
@@ -232,14 +230,9 @@ fn commands_by_the_table(rt: HostRuntime) {
 
 fn asks_and_is_refused(rt: &impl Abort, port: &mut ForkPort) {
     let asked = ask_of_the_machine(port);
+    are_equal(rt, &asked, &Ok((Effect::Exit(9), Effect::Zero(9, 2), 0)));
     port.refuse(0xffff_fffc);
-    assert_eq!(rt;
-        (asked, port.load(12, 4)),
-        (
-            Ok((Effect::Exit(9), Effect::Zero(9, 2), 0)),
-            Ok(0xffff_fffc)
-        )
-    );
+    are_equal(rt, &port.load(12, 4), &Ok(0xffff_fffc));
 }
 
 /// The children that are asked for and their share, and then GRANTED and ALLOT.
@@ -251,7 +244,7 @@ static GREATEST: [(u32, u32, u32, u32); 4] = [
 ];
 
 /// RESULT after each of three commands, and GRANTED and ALLOT after the first and the last.
-type Given = ([Result<u32, PortError>; 3], [Result<(u32, u32), Fault>; 2]);
+type Given = ([Result<u32, PortError>; 3], [[Result<u32, Fault>; 2]; 2]);
 
 fn given(port: &mut ForkPort, children: u32, share: u32) -> Given {
     let ticket = run(port, TICKET, children, share, &[]);
@@ -266,14 +259,9 @@ fn given(port: &mut ForkPort, children: u32, share: u32) -> Given {
 
 fn gives_and_takes(rt: &impl Abort, port: &mut ForkPort, row: (u32, u32, u32, u32)) {
     let (children, share, granted, allot) = row;
-    assert_eq!(rt;
-        given(port, children, share),
-        (
-            [Ok(1), Ok(0), Ok(granted)],
-            [Ok((granted, allot)), Ok((granted, 0xffff_ffff))]
-        ),
-        "{children} with {share}"
-    );
+    let amounts = [[Ok(granted), Ok(allot)], [Ok(granted), Ok(0xffff_ffff)]];
+    let want = ([Ok(1), Ok(0), Ok(granted)], amounts);
+    are_equal(rt, &(row, given(port, children, share)), &(row, want));
 }
 
 #[test]
@@ -289,10 +277,8 @@ fn makes_a_child(rt: &impl Abort, port: &mut ForkPort, share: u32) {
     let taken = amounts(port);
     let results = [ticket, run(port, CLONE, 1, 8, &[])];
     let stored = port.store(24, 4, 1);
-    assert_eq!(rt;
-        (results, taken, stored),
-        ([Ok(1), Ok(0)], Ok((1, 0)), Ok(Effect::Done))
-    );
+    let want = ([Ok(1), Ok(0)], [Ok(1), Ok(0)], Ok(Effect::Done));
+    are_equal(rt, &(results, taken, stored), &want);
 }
 
 fn has_fields_of_a_child(rt: &impl Abort, child: &ForkPort, share: u32) {
@@ -306,15 +292,17 @@ fn has_fields_of_a_child(rt: &impl Abort, child: &ForkPort, share: u32) {
         granted: 1,
         next_ticket: 1,
     };
-    assert_eq!(rt; child.fields(), want);
+    are_equal(rt, &child.fields(), &want);
 }
 
 fn has_no_tickets(rt: &impl Abort, child: &mut ForkPort, share: u32) {
-    let joined = join_result(child, 1);
-    assert_eq!(rt;
-        (amounts(child), joined, child.tickets().len()),
-        (Ok((1, share)), Ok((0, 0)), 0)
+    are_equal(rt, &amounts(child), &[Ok(1), Ok(share)]);
+    are_equal(
+        rt,
+        &join_result(child, 1),
+        &(Ok(Effect::Done), [Ok(0), Ok(0)]),
     );
+    are_equal(rt, &child.tickets().len(), &0);
 }
 
 /// The child of a port that makes one.
@@ -327,7 +315,7 @@ fn child_of(rt: &impl Abort, port: &mut ForkPort, share: u32) -> ForkPort {
 }
 
 fn has_no_share(rt: &impl Abort, port: &mut ForkPort) {
-    assert_eq!(rt; run(port, TICKET, 1, 0, &[]), Ok(0xffff_fffb));
+    are_equal(rt, &run(port, TICKET, 1, 0, &[]), &Ok(0xffff_fffb));
 }
 
 static SHARES: [u32; 4] = [3, 2, 1, 0];
@@ -342,11 +330,11 @@ fn shares_of_shares(rt: HostRuntime) {
 }
 
 fn has_fields(rt: &impl Abort, port: &ForkPort, fields: ForkFields) {
-    assert_eq!(rt; (port.fields(), port.find(1)), (fields, None));
+    are_equal(rt, &(port.fields(), port.find(1)), &(fields, None));
 }
 
 fn gives_the_next_ticket(rt: &impl Abort, port: &mut ForkPort) {
-    assert_eq!(rt; run(port, TICKET, 9, 0, &[]), Ok(2));
+    are_equal(rt, &run(port, TICKET, 9, 0, &[]), &Ok(2));
 }
 
 #[test]
@@ -361,9 +349,11 @@ fn fields_make_a_port_without_tickets(rt: HostRuntime) {
 fn fields_after_a_ticket(rt: &impl Abort, port: &mut ForkPort) -> ForkFields {
     let stored = (run(port, TICKET, 2, 1, &[]), port.store(24, 4, 3));
     let fields = port.fields();
-    assert_eq!(rt;
-        (stored, [fields.result, fields.granted, fields.allot]),
-        ((Ok(1), Ok(Effect::Done)), [1, 2, 5])
+    are_equal(rt, &stored, &(Ok(1), Ok(Effect::Done)));
+    are_equal(
+        rt,
+        &[fields.result, fields.granted, fields.allot],
+        &[1, 2, 5],
     );
     fields
 }
@@ -379,14 +369,10 @@ const FIELDS: ForkFields = ForkFields {
     next_ticket: 8,
 };
 
-fn reads_its_fields(rt: &impl Abort, port: &ForkPort) {
-    assert_eq!(rt; registers(port), Ok([1, 2, 3, 4, 5, 6, 0, 0, 7]));
-}
-
 #[test]
 fn registers_by_their_offsets(rt: HostRuntime) {
     let port = ForkPort::of_fields(rt.alloc(), FIELDS);
-    reads_its_fields(&rt, &port);
+    are_equal(&rt, &registers(&port), &[1, 2, 3, 4, 5, 6, 0, 0, 7].map(Ok));
 }
 
 /// The number of a ticket that is asked for in a thread.
@@ -398,5 +384,5 @@ fn ticket_of_moved<R: Threads>(rt: &R, mut port: ForkPort) -> Result<u32, PortEr
 #[test]
 fn moves_between_threads(rt: HostRuntime) {
     let number = ticket_of_moved(&rt, ForkPort::new(rt.alloc(), 1));
-    assert_eq!(rt; number, Ok(1));
+    are_equal(&rt, &number, &Ok(1));
 }

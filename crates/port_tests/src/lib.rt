@@ -11,6 +11,8 @@ mod bus;
 #[cfg(test)]
 mod console;
 #[cfg(test)]
+mod equal;
+#[cfg(test)]
 mod fork;
 #[cfg(test)]
 mod sizes;

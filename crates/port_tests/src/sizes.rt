@@ -1,5 +1,6 @@
 //! Sizes and limits, which other crates take from the ports.
 
+use crate::equal::are_equal;
 use block_port::registers::BLOCK_SIZE;
 use console_port::MAX_INPUT;
 use console_port::registers::CONSOLE_SIZE;
@@ -10,17 +11,19 @@ use vm_bus::addresses::{BLOCK_BASE, CONSOLE_BASE, FORK_BASE, TIMER_BASE};
 #[test]
 fn bases_by_their_numbers(rt: HostRuntime) {
     let bases = [TIMER_BASE, CONSOLE_BASE, BLOCK_BASE, FORK_BASE];
-    assert_eq!(rt; bases, [0x0200_4000, 0x1000_0000, 0x1000_1000, 0x1000_2000]);
+    are_equal(
+        &rt,
+        &bases,
+        &[0x0200_4000, 0x1000_0000, 0x1000_1000, 0x1000_2000],
+    );
 }
 
 #[test]
 fn sizes_and_limits_by_their_numbers(rt: HostRuntime) {
-    assert_eq!(rt;
-        (
-            [CONSOLE_SIZE, BLOCK_SIZE, FORK_SIZE],
-            MAX_INPUT,
-            TICKETS_END
-        ),
-        ([8, 0x400, 40], 65_536, 0xffff_fffa)
+    let found = (
+        [CONSOLE_SIZE, BLOCK_SIZE, FORK_SIZE],
+        MAX_INPUT,
+        TICKETS_END,
     );
+    are_equal(&rt, &found, &([8, 0x400, 40], 65_536, 0xffff_fffa));
 }

@@ -1,5 +1,6 @@
 //! The timer.
 
+use crate::equal::are_equal;
 use port_error::Fault;
 use std::process::Abort;
 use timer_port::{TimerPort, TimerRegisters};
@@ -60,15 +61,15 @@ fn expected(offset: u32, width: u32) -> Accessed {
     (Err(Fault), Err(Fault), FIELDS)
 }
 
-fn has_fields(rt: &impl Abort, timer: &TimerPort, fields: TimerRegisters) {
-    assert_eq!(rt; timer.fields(), fields);
-}
-
 fn access(rt: &impl Abort, offset: u32, width: u32) {
     let mut timer = TimerPort::of_fields(FIELDS);
     let found = accessed(&mut timer, offset, width);
-    has_fields(rt, &timer, found.2);
-    assert_eq!(rt; found, expected(offset, width), "{offset:x} of {width}");
+    are_equal(rt, &timer.fields(), &found.2);
+    are_equal(
+        rt,
+        &(offset, width, found),
+        &(offset, width, expected(offset, width)),
+    );
 }
 
 #[test]
@@ -81,25 +82,21 @@ fn loads_and_stores_at_every_offset_and_width(rt: HostRuntime) {
 }
 
 fn starts(rt: &impl Abort, timer: &TimerPort) {
-    assert_eq!(rt;
-        (timer.mtime(), timer.mtimecmp()),
-        (0, 0xffff_ffff_ffff_ffff)
-    );
+    let found = [timer.mtime(), timer.mtimecmp()];
+    are_equal(rt, &found, &[0, 0xffff_ffff_ffff_ffff]);
 }
 
 /// mtimecmp becomes 2.
 fn is_set(rt: &impl Abort, timer: &mut TimerPort) {
-    assert_eq!(rt;
-        (timer.store(0x0004, 4, 0), timer.store(0x0000, 4, 2)),
-        (Ok(()), Ok(()))
-    );
+    let stores = [timer.store(0x0004, 4, 0), timer.store(0x0000, 4, 2)];
+    are_equal(rt, &stores, &[Ok(()), Ok(())]);
 }
 
 /// Whether the timer is due before each step.
 static DUE: [bool; 4] = [false, false, true, true];
 
 fn counts(rt: &impl Abort, timer: &mut TimerPort, due: bool) {
-    assert_eq!(rt; timer.is_due(), due);
+    are_equal(rt, &timer.is_due(), &due);
     timer.count(false);
 }
 

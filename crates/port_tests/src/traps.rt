@@ -1,5 +1,6 @@
 //! Control and status registers, and traps.
 
+use crate::equal::are_equal;
 use rv_traps::{CsrRegisters, Csrs, TIMER_INTERRUPT, Wrote};
 use std::process::Abort;
 
@@ -28,11 +29,11 @@ fn kept(csrs: &mut Csrs, number: u32) -> Option<u32> {
 fn reads_and_keeps(rt: &impl Abort, number: u32) {
     let mut csrs = Csrs::reset();
     let found = (csrs.read(number, false), kept(&mut csrs, number));
-    assert_eq!(rt; found, expected(number), "{number:x}");
+    are_equal(rt, &(number, found), &(number, expected(number)));
 }
 
 fn reads_the_interrupt(rt: &impl Abort) {
-    assert_eq!(rt; Csrs::reset().read(0x344, true), Some(0x80));
+    are_equal(rt, &Csrs::reset().read(0x344, true), &Some(0x80));
 }
 
 #[test]
@@ -43,27 +44,23 @@ fn reads_and_keeps_of_every_number(rt: HostRuntime) {
     reads_the_interrupt(&rt);
 }
 
-fn are_zeros_but_for_machine_mode(rt: &impl Abort, fields: CsrRegisters) {
-    assert_eq!(rt;
-        fields,
-        CsrRegisters {
-            mstatus: 0x1800,
-            mie: 0,
-            mtvec: 0,
-            mscratch: 0,
-            mepc: 0,
-            mcause: 0,
-            mtval: 0,
-            mcycle: 0,
-            minstret: 0,
-        }
-    );
-}
+/// The registers of a machine that starts.
+const START: CsrRegisters = CsrRegisters {
+    mstatus: 0x1800,
+    mie: 0,
+    mtvec: 0,
+    mscratch: 0,
+    mepc: 0,
+    mcause: 0,
+    mtval: 0,
+    mcycle: 0,
+    minstret: 0,
+};
 
 #[test]
 fn starts_with_zeros_but_for_machine_mode(rt: HostRuntime) {
-    are_zeros_but_for_machine_mode(&rt, Csrs::reset().fields());
-    assert_eq!(rt; TIMER_INTERRUPT, 0x8000_0007);
+    are_equal(&rt, &Csrs::reset().fields(), &START);
+    are_equal(&rt, &TIMER_INTERRUPT, &0x8000_0007);
 }
 
 /// A number, and then mcycle and minstret after a step that writes 5 there.
@@ -100,11 +97,8 @@ fn written_half(number: u32) -> ((Option<()>, Option<u32>), [u64; 2]) {
 }
 
 fn written_half_is_read(rt: &impl Abort, number: u32, mcycle: u64, minstret: u64) {
-    assert_eq!(rt;
-        written_half(number),
-        ((Some(()), Some(5)), [mcycle, minstret]),
-        "{number:x}"
-    );
+    let want = ((Some(()), Some(5)), [mcycle, minstret]);
+    are_equal(rt, &(number, written_half(number)), &(number, want));
 }
 
 #[test]
@@ -118,13 +112,13 @@ fn written_halves_are_read_in_the_next_step(rt: HostRuntime) {
 fn is_set_up(rt: &impl Abort, csrs: &mut Csrs) {
     let writes = [csrs.write(0x305, 0x8000_0101), csrs.write(0x304, 0x80)];
     let is_taken = csrs.interrupt(true);
-    assert_eq!(rt; (writes, is_taken), ([Some(()), Some(())], false));
+    are_equal(rt, &(writes, is_taken), &([Some(()), Some(())], false));
 }
 
 fn is_let_in(rt: &impl Abort, csrs: &mut Csrs) {
     let write = csrs.write(0x300, 0x8);
     let are_taken = [csrs.interrupt(false), csrs.interrupt(true)];
-    assert_eq!(rt; (write, are_taken), (Some(()), [false, true]));
+    are_equal(rt, &(write, are_taken), &(Some(()), [false, true]));
 }
 
 fn takes_the_interrupt(rt: &impl Abort, csrs: &mut Csrs) {
@@ -134,24 +128,19 @@ fn takes_the_interrupt(rt: &impl Abort, csrs: &mut Csrs) {
         csrs.read(0x341, true),
         csrs.read(0x342, true),
     ];
-    assert_eq!(rt;
-        (address, after),
-        (
-            0x8000_011c,
-            [Some(0x1880), Some(0x8000_0010), Some(0x8000_0007)]
-        )
-    );
+    let want = [Some(0x1880), Some(0x8000_0010), Some(0x8000_0007)];
+    are_equal(rt, &(address, after), &(0x8000_011c, want));
 }
 
 /// A call of the environment comes in the handler.
 fn takes_a_call(rt: &impl Abort, csrs: &mut Csrs) {
     let found = (csrs.enter(11, 0, 0x8000_011c), csrs.read(0x300, true));
-    assert_eq!(rt; found, (0x8000_0100, Some(0x1800)));
+    are_equal(rt, &found, &(0x8000_0100, Some(0x1800)));
 }
 
 fn returns(rt: &impl Abort, csrs: &mut Csrs, mstatus: u32) {
     let found = (csrs.mret(), csrs.read(0x300, true));
-    assert_eq!(rt; found, (0x8000_011c, Some(mstatus)));
+    are_equal(rt, &found, &(0x8000_011c, Some(mstatus)));
 }
 
 #[test]

@@ -7,3 +7,4 @@ mod Names
 mod Pieces
 mod Same
 mod Sums
+mod Written

@@ -1,6 +1,7 @@
 //! Names of machines, which are keys of maps too.
 
 ghost use Rattle.std.specs.Prelude.{◌≡◌, ◌<◌, ◌≤◌, [], drop, length, take, IfOk, IsTrue, MatchOption, OnErr, string_bytes};
+ghost use Rattle.std.specs.Fmt.{WritesOnOk};
 ghost use Rattle.std.specs.List.{flat_map};
 ghost use Rattle.forest_tree.specs.Tree.{beyond, is_below};
 ghost use Rattle.io_edge.specs.Outside.{HasRisen};
@@ -442,12 +443,29 @@ impl fmt::Display for Name {
 
     fn fmt<W: fmt::Write>(&self, f: &mut fmt::Formatter<W>) -> fmt::Result {
         write!(f, "0")?;
-        'branches: for at in 0..self.depth {
-            let branch = self.branches.get(at);
-            let ticket = branch.ticket;
-            let child = branch.child;
-            write!(f, ".{ticket}.{child}")?;
-        }
-        Ok(())
+        write_first(f, &self.branches, self.depth)
     }
+}
+
+/// Writes the first forks of a list in text, one after another.
+fn write_first<W: fmt::Write>(
+    f: &mut fmt::Formatter<W>,
+    branches: &SharedList<Branch>,
+    count: usize,
+) -> fmt::Result
+    requires { count ≤ length branches.now }
+    ensures { WritesOnOk W.write_str_gives f.old result (flat_map branch_text (take count branches.now)) f.new }
+{
+    'branches: for at in 0..count {
+        write_branch(f, *branches.get(at))?;
+    }
+    Ok(())
+}
+
+/// Writes a fork in text.
+fn write_branch<W: fmt::Write>(f: &mut fmt::Formatter<W>, branch: Branch) -> fmt::Result
+    ensures { WritesOnOk W.write_str_gives f.old result (branch_text branch) f.new }
+{
+    let Branch { ticket, child } = branch;
+    write!(f, ".{ticket}.{child}")
 }

@@ -1,13 +1,15 @@
 -- No two rows of the table match one word. A word of both rows gives them the same bits where both
 -- masks have bits, so a test of each pair of rows, without a word, tells them apart.
-use Rattle.std.proofs.Common.{◌≡◌, ℕ, zero, suc, ◌<◌, Bool, true, not, eqb, ◌&&◌, List, [], ◌∷◌, length, get_or, Some, refl, sym, ap, ◌∙◌, cond, arith}
-use Rattle.std.specs.List.{All, AllPairs, find, list_all}
+use Rattle.std.proofs.Common.{◌≡◌, ℕ, ◌<◌, Bool, true, false, not, eqb, ◌&&◌, List, [], ◌∷◌, length, get_or, Some, refl, sym, ap, ◌∙◌, arith}
+use Rattle.std.specs.List.{All, AllPairs, list_all, position_or_len, slice_get}
 use Rattle.std.specs.Prelude.{bit_and, IsTrue}
 use Rattle.std.specs.Option.{option_map}
 use Rattle.std.proofs.lemmas.Bool.{eqb-true, eq-eqb, false_from_ne_true}
+use Rattle.std.proofs.lemmas.List.Folds.{find_at}
 use Rattle.std.proofs.lemmas.List.Kept.{AllPairs-cons}
-use Rattle.std.proofs.lemmas.List.Sums.{AllPass-from_list_all}
+use Rattle.std.proofs.lemmas.List.Sums.{AllPass-from_list_all, position_or_len_is}
 use Rattle.std.proofs.lemmas.Nat.{and_assoc, and_comm}
+use Rattle.std.proofs.lemmas.Option.{slice_get-get_or}
 use Rattle.rv_decode.specs.Table.{Row, rows, matches, kind_of_word}
 
 -- the rows ask for different bits where both masks have bits
@@ -52,18 +54,11 @@ AllPairs-all_apart word (r ∷ rs) apart =
 pub AllPairs-rows : (word : ℕ) → AllPairs (IsApart word) rows
 AllPairs-rows word = AllPairs-all_apart word rows table_is_apart
 
--- the row that is found is any that the word matches
-find-IsApart : (word : ℕ) (rs : List Row) → AllPairs (IsApart word) rs → (k : ℕ) (d : Row) → k < length rs
-    → IsTrue (matches word (get_or rs k d)) → find (matches word) rs ≡ Some (get_or rs k d)
-find-IsApart word [] apart k d below of_row = absurd (omega arith)
-find-IsApart word (r ∷ rs) apart zero d below of_row = ap (λ b. cond b (Some r) (find (matches word) rs)) of_row
-find-IsApart word (r ∷ rs) apart (suc k) d below of_row =
-    let not_of_first : IsTrue (matches word r) → ⊥ = λ of_first. apart 0 (suc k) d (omega arith) below (of_first, of_row) in
-    let rest : find (matches word) rs ≡ Some (get_or rs k d) =
-    find-IsApart word rs (λ i j e before within. apart (suc i) (suc j) e (omega arith) (omega arith)) k d (omega arith) of_row in
-    ap (λ b. cond b (Some r) (find (matches word) rs)) (false_from_ne_true (matches word r) not_of_first) ∙ rest
-
+-- the row that is found is any that the word matches: it matches no row before it
 pub kind_of_word-matches : (word : ℕ) → All (λ r. IsTrue (matches word r) → kind_of_word word ≡ Some r.kind) rows
 unfolding kind_of_word
 kind_of_word-matches word = λ k d below of_row.
-    ap (option_map (λ (r : Row). r.kind)) (find-IsApart word rows (AllPairs-rows word) k d below of_row)
+    let none_before : (j : ℕ) → j < k → matches word (get_or rows j d) ≡ false =
+    λ j before. false_from_ne_true _ (λ of_other. AllPairs-rows word j k d before below (of_other, of_row)) in
+    let first : position_or_len (matches word) rows ≡ k = position_or_len_is (matches word) rows k d (omega arith) none_before (λ _. of_row) in
+    ap (option_map (λ (r : Row). r.kind)) (find_at (matches word) rows ∙ ap (slice_get rows) first ∙ slice_get-get_or rows k d below)

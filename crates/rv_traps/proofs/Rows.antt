@@ -1,12 +1,14 @@
 -- No two rows of the table have one number: the numbers of each lie behind those of the rows before it.
-use Rattle.std.proofs.Common.{◌≡◌, ℕ, zero, suc, ◌<◌, Bool, true, ltb, ◌&&◌, List, [], ◌∷◌, length, get_or, Some, refl, ap, ◌∙◌, cond, arith}
-use Rattle.std.specs.List.{All, AllPairs, find, list_all}
+use Rattle.std.proofs.Common.{◌≡◌, ℕ, ◌<◌, Bool, true, false, ltb, ◌&&◌, List, [], ◌∷◌, length, get_or, Some, refl, ap, ◌∙◌, arith}
+use Rattle.std.specs.List.{All, AllPairs, list_all, position_or_len, slice_get}
 use Rattle.std.specs.Prelude.{IsTrue}
 use Rattle.std.specs.Option.{option_map}
 use Rattle.std.proofs.lemmas.Bool.{false_from_ne_true}
 use Rattle.std.proofs.lemmas.Bool.Decides.{nat_tests}
+use Rattle.std.proofs.lemmas.List.Folds.{find_at}
 use Rattle.std.proofs.lemmas.List.Kept.{AllPairs-cons}
-use Rattle.std.proofs.lemmas.List.Sums.{AllPass-from_list_all}
+use Rattle.std.proofs.lemmas.List.Sums.{AllPass-from_list_all, position_or_len_is}
+use Rattle.std.proofs.lemmas.Option.{slice_get-get_or}
 use Rattle.rv_traps.specs.Table.{Row, rows, is_of, csr_of}
 
 in_order : List Row → Bool
@@ -40,18 +42,11 @@ AllPairs-in_order number (r ∷ rs) ordered =
 pub AllPairs-rows : (number : ℕ) → AllPairs (IsApart number) rows
 AllPairs-rows number = AllPairs-in_order number rows table_in_order
 
--- the row that is found is any that has the number
-find-IsApart : (number : ℕ) (rs : List Row) → AllPairs (IsApart number) rs → (k : ℕ) (d : Row) → k < length rs
-    → IsTrue (is_of number (get_or rs k d)) → find (is_of number) rs ≡ Some (get_or rs k d)
-find-IsApart number [] apart k d below of_row = absurd (omega arith)
-find-IsApart number (r ∷ rs) apart zero d below of_row = ap (λ b. cond b (Some r) (find (is_of number) rs)) of_row
-find-IsApart number (r ∷ rs) apart (suc k) d below of_row =
-    let not_of_first : IsTrue (is_of number r) → ⊥ = λ of_first. apart 0 (suc k) d (omega arith) below (of_first, of_row) in
-    let rest : find (is_of number) rs ≡ Some (get_or rs k d) =
-    find-IsApart number rs (λ i j e before within. apart (suc i) (suc j) e (omega arith) (omega arith)) k d (omega arith) of_row in
-    ap (λ b. cond b (Some r) (find (is_of number) rs)) (false_from_ne_true (is_of number r) not_of_first) ∙ rest
-
+-- the row that is found is any that has the number: no row before it has
 pub csr_of-is_of : (number : ℕ) → All (λ r. IsTrue (is_of number r) → csr_of number ≡ Some r.csr) rows
 unfolding csr_of
 csr_of-is_of number = λ k d below of_row.
-    ap (option_map (λ (r : Row). r.csr)) (find-IsApart number rows (AllPairs-rows number) k d below of_row)
+    let none_before : (j : ℕ) → j < k → is_of number (get_or rows j d) ≡ false =
+    λ j before. false_from_ne_true _ (λ of_other. AllPairs-rows number j k d before below (of_other, of_row)) in
+    let first : position_or_len (is_of number) rows ≡ k = position_or_len_is (is_of number) rows k d (omega arith) none_before (λ _. of_row) in
+    ap (option_map (λ (r : Row). r.csr)) (find_at (is_of number) rows ∙ ap (slice_get rows) first ∙ slice_get-get_or rows k d below)

@@ -118,11 +118,11 @@ module _ {T : Type 0} where
   pub length-front : (xs list : List T) (begin : ℕ) → begin ≤ length xs → list ≡ take begin xs → length list ≡ begin
   length-front xs list begin inside front = ap length front ∙ length-take-le begin xs inside
 
-  pub length-copies : (xs old copies : List T) (begin count : ℕ) → begin ≤ count → count ≤ length xs → old ≡ []
-      → copies ≡ old ++ take (count - begin) (drop begin xs) → length copies ≡ count - begin
-  length-copies xs old copies begin count order inside none back =
-      ap length (back ∙ ap (λ front. front ++ take (count - begin) (drop begin xs)) none)
-      ∙ length-take-le (count - begin) (drop begin xs) (omega (arith, length-drop begin xs))
+  pub length-last : (xs last : List T) (entry : T) (begin count : ℕ) → begin ≤ count → count ≤ length xs
+      → last ≡ take (count - begin) (drop begin xs) ++ entry ∷ [] → length last ≡ count - begin + 1
+  length-last xs last entry begin count order inside is =
+      let run = take (count - begin) (drop begin xs) in
+      omega (arith, ap length is, length-append run (entry ∷ []), length-take-le (count - begin) (drop begin xs) (omega (arith, length-drop begin xs)))
 
   -- an entry that goes from what is left behind others
   pub moved : (before left after rest : List T) (x : T) → left ≡ x ∷ rest → after ≡ before ++ x ∷ [] → before ++ left ≡ after ++ rest

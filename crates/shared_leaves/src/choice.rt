@@ -1,6 +1,6 @@
 //! Lists in which each entry is one of two.
 
-ghost use Rattle.std.specs.Prelude.{◌≡◌, ◌+◌, ◌*◌, ◌^◌, ◌<◌, ◌≤◌, length, Some, is_some, IfOk, OnOk};
+ghost use Rattle.std.specs.Prelude.{◌≡◌, ◌+◌, ◌*◌, ◌^◌, ◌<◌, ◌≤◌, [], length, Some, is_some, IfOk, OnOk};
 ghost use Rattle.shared_leaves.specs.Leaves.{joined};
 ghost use Rattle.std.specs.Option.{ForSome};
 ghost use Rattle.shared_leaves.specs.Choices.{choice, chosen, choice_steps, piece_steps, pieces_steps, equal_steps, made_with, no_leaf, which, AreMade};
@@ -66,10 +66,33 @@ fn whole_leaves<T: Handle, L: Ledger>(
         set: None,
         unset: None,
     };
-    'pieces: for piece in pieces {
-        list.push_leaf(leaf_of(alloc, piece, set, unset, &mut made, steps)?)?;
-    }
+    push_leaves(pieces, set, unset, &mut list, &mut made, steps)?;
     Ok(list)
+}
+
+/// Puts the leaves that have these flags into a list of no entries.
+fn push_leaves<T: Handle, L: Ledger>(
+    pieces: &[[bool; LEAF_ENTRIES]],
+    set: &T,
+    unset: &T,
+    list: &mut SharedList<T>,
+    made: &mut Made<T>,
+    steps: &mut Steps<L>,
+) -> Result<(), AllocError>
+    requires fits { LEAF_ENTRIES * length pieces.now < 2 ^ 64 }
+    requires empty { list.old ≡ [] }
+    requires none { which made.old.set made.old.unset ≡ no_leaf }
+    requires made { AreMade set.now unset.now made.old.set made.old.unset }
+    ensures value { OnOk result (list.new ≡ chosen set.now unset.now (joined pieces.now)) }
+    ensures size { OnOk result (length list.new ≡ LEAF_ENTRIES * length pieces.now) }
+    ensures cost { OnOk result (steps.new ≡ steps.old + pieces_steps no_leaf pieces.now) }
+    ensures most { steps.new ≤ steps.old + pieces_steps no_leaf pieces.now }
+{
+    let alloc = list.allocator();
+    'pieces: for piece in pieces {
+        list.push_leaf(leaf_of(alloc, piece, set, unset, made, steps)?)?;
+    }
+    Ok(())
 }
 
 /// The leaf that has these flags: a handle on one that is made where the flags are equal.

@@ -28,11 +28,19 @@ impl<T: Handle> SharedList<T> {
         ensures { IfOk result (λ list. list ≡ entries.items) }
     {
         let mut list = SharedList::new(alloc);
-        let mut left = entries.into_iter();
-        while left.len() > 0 {
-            list.push_leaf(Leaf::new(alloc, next_entries(&mut left))?)?;
-        }
+        list.push_all(alloc, &mut entries.into_iter())?;
         Ok(list)
+    }
+
+    /// Puts these entries into a list of none.
+    fn push_all(&mut self, alloc: Global, entries: &mut vec::IntoIter<T>) -> Result<(), AllocError>
+        requires { self.old ≡ [] }
+        ensures { OnOk result (self.new ≡ into_iter_items entries.old) }
+    {
+        'leaves: while entries.len() > 0 {
+            self.push_leaf(Leaf::new(alloc, next_entries(entries))?)?;
+        }
+        Ok(())
     }
 
     /// The first entries, as many as `count` tells, and another behind them. The full leaves of these are
@@ -45,14 +53,24 @@ impl<T: Handle> SharedList<T> {
         if count == usize::MAX {
             return Err(AllocError);
         }
-        let alloc = self.allocator();
         let begin = count - count % LEAF_ENTRIES;
+        let last = self.last_leaf(begin, count, entry)?;
         let mut list = self.first_leaves(begin)?;
-        let mut last = ArrayVec::new();
-        self.copy_into(begin, count, &mut last)?;
-        last.push(entry);
-        list.push_leaf(Leaf::new(alloc, last)?)?;
+        list.push_leaf(last)?;
         Ok(list)
+    }
+
+    /// The entries from one place up to another, and another behind them.
+    fn last_leaf(&self, first: usize, end: usize, entry: T) -> Result<Leaf<T>, AllocError>
+        requires order { first ≤ end }
+        requires inside { end ≤ length self.now }
+        requires room { end - first < LEAF_ENTRIES }
+        ensures { IfOk result (λ leaf. leaf ≡ take (end - first) (drop first self.now) ++ entry ∷ []) }
+    {
+        let mut copies = ArrayVec::new();
+        self.copy_into(first, end, &mut copies)?;
+        copies.push(entry);
+        Leaf::new(self.allocator(), copies)
     }
 
     /// The first entries, as many as `len` tells, which fill their leaves.
@@ -78,7 +96,8 @@ impl<T: Handle> SharedList<T> {
         requires order { first ≤ end }
         requires inside { end ≤ length self.now }
         requires room { array_vec_len copies.old + (end - first) ≤ LEAF_ENTRIES }
-        ensures { OnOk result (copies.new.items ≡ copies.old.items ++ take (end - first) (drop first self.now)) }
+        ensures copies { OnOk result (copies.new.items ≡ copies.old.items ++ take (end - first) (drop first self.now)) }
+        ensures count { OnOk result (array_vec_len copies.new ≡ array_vec_len copies.old + (end - first)) }
     {
         'places: for at in first..end {
             copies.push(self.get(at).clone()?);
@@ -118,20 +137,37 @@ impl<T: Handle> SharedList<T> {
         requires inside { end ≤ length self.now }
         ensures { IfOk result (λ list. list ≡ splice self.now first end (replicate (end - first) entry.now)) }
     {
-        let alloc = self.allocator();
-        let full = equal_entries(alloc, entry, LEAF_ENTRIES)?;
+        let full = equal_entries(self.allocator(), entry, LEAF_ENTRIES)?;
         let mut list = self.clone()?;
+        list.write_run(first, end, entry, &full)?;
+        Ok(list)
+    }
+
+    /// Sets the entries from one place up to another to one value, and `full` has a leaf of it. At an error
+    /// some are set.
+    fn write_run(
+        &mut self,
+        first: usize,
+        end: usize,
+        entry: &T,
+        full: &Leaf<T>,
+    ) -> Result<(), AllocError>
+        requires order { first ≤ end }
+        requires inside { end ≤ length self.old }
+        requires full { full.now ≡ replicate LEAF_ENTRIES entry.now }
+        ensures { OnOk result (self.new ≡ splice self.old first end (replicate (end - first) entry.now)) }
+    {
         let mut at = first;
-        while at < end {
+        'run: while at < end {
             if at % LEAF_ENTRIES == 0 && end - at >= LEAF_ENTRIES {
-                list.replace_leaf(at / LEAF_ENTRIES, full.clone()?);
+                self.replace_leaf(at / LEAF_ENTRIES, full.clone()?);
                 at += LEAF_ENTRIES;
             } else {
-                list.set(at, entry.clone()?)?;
+                self.set(at, entry.clone()?)?;
                 at += 1;
             }
         }
-        Ok(list)
+        Ok(())
     }
 
     /// Puts a full leaf in the place of one that is full.

@@ -4,7 +4,7 @@
 ghost use Rattle.std.specs.Prelude.{◌≤◌, length};
 
 use elf_load::RAM_BASE;
-use host_workers::OpenGate;
+use host_workers::{Gate, OpenGate};
 use io_edge::{MemShelf, MemSink};
 use rv_asm::elf_of;
 use snow_commands::{MOST_WIRES, Status, snow};
@@ -13,7 +13,7 @@ use std::process::Abort;
 use std::sync::Wait;
 use std::test::Fail;
 use std::thread::Threads;
-use wire_fates::{Fate, Scripted};
+use wire_fates::{Fate, Scripted, Wire};
 
 /// The words of the guest that ends with the value 7. Its image has 104 bytes.
 static EXIT_SEVEN: [u32; 5] = [0x100022b7, 0x00700313, 0x0062a023, 0x00500313, 0x0062a423];
@@ -105,19 +105,83 @@ fn wire_of(alloc: Global, gives: usize, fate: Fate, times: usize) -> Result<Scri
     Ok(Scripted::new(fates))
 }
 
+/// So many wires, of each of which this is told: it gives so many replies, then tells a fate so many times, and then
+/// gives again.
+type Wires = (usize, usize, Fate, usize);
+
+/// Wires that give each reply.
+const GIVING: Wires = (8, 0, Fate::Give(0), 0);
+
 /// So many of these wires.
-fn wires_of(
-    alloc: Global,
-    count: usize,
-    gives: usize,
-    fate: Fate,
-    times: usize,
-) -> Result<Vec<Scripted>, AllocError> {
-    let mut wires = Vec::new(alloc);
+fn wires_of(alloc: Global, wires: Wires) -> Result<Vec<Scripted>, AllocError> {
+    let (count, gives, fate, times) = wires;
+    let mut made = Vec::new(alloc);
     for _ in 0..count {
-        wires.push(wire_of(alloc, gives, fate, times)?)?;
+        made.push(wire_of(alloc, gives, fate, times)?)?;
     }
-    Ok(wires)
+    Ok(made)
+}
+
+/// A sink that takes seven bytes a put. Its put of this number fails.
+fn sink_of(alloc: Global, fails: u64) -> Result<MemSink, AllocError> {
+    MemSink::new(alloc, 7, 1000, vec![in alloc; fails]?)
+}
+
+/// The words of a command line, and all that it is run over.
+#[derive(Drop)]
+struct Outside {
+    words: Vec<String>,
+    shelf: MemShelf,
+    sink: MemSink,
+    wires: Vec<Scripted>,
+}
+
+/// A command line over an image, a script and wires. The load and the put of these numbers fail.
+fn outside_of(
+    alloc: Global,
+    line: &str,
+    image: &[u8],
+    script: &[u8],
+    load: u64,
+    put: u64,
+    wires: Wires,
+) -> Result<Outside, AllocError> {
+    Ok(Outside {
+        words: words_of(alloc, line)?,
+        shelf: shelf_of(alloc, image, script, load)?,
+        sink: sink_of(alloc, put)?,
+        wires: wires_of(alloc, wires)?,
+    })
+}
+
+/// What words answer.
+pub(crate) fn answer_of<
+    R: AllocGlobal + Threads + Wait + Sync + Abort,
+    W: Wire + Send,
+    G: Gate + Sync,
+>(
+    rt: &R,
+    words: &[String],
+    shelf: &mut MemShelf,
+    sink: &mut MemSink,
+    wires: &mut Vec<W>,
+    gate: &G,
+) -> Status {
+    let count = wires.len();
+    assert!(rt; 1 <= count && count <= MOST_WIRES);
+    snow(rt, words, shelf, sink, wires, gate)
+}
+
+/// What a command line answers.
+fn answer<R: AllocGlobal + Threads + Wait + Sync + Abort>(rt: &R, outside: &mut Outside) -> Status {
+    answer_of(
+        rt,
+        &outside.words,
+        &mut outside.shelf,
+        &mut outside.sink,
+        &mut outside.wires,
+        &OpenGate,
+    )
 }
 
 /// Compares an answer and what is out with what is wanted.
@@ -133,50 +197,8 @@ fn compare<R: Abort>(
     assert_eq!(rt; sink.bytes(), out);
 }
 
-/// What a command line answers.
-fn answer_of<R: AllocGlobal + Threads + Wait + Sync + Abort>(
-    rt: &R,
-    words: &[String],
-    shelf: &mut MemShelf,
-    sink: &mut MemSink,
-    wires: &mut Vec<Scripted>,
-) -> Status {
-    let count = wires.len();
-    assert!(rt; 1 <= count && count <= MOST_WIRES);
-    snow(rt, words, shelf, sink, wires, &OpenGate)
-}
-
-/// Runs a command line over files and wires, and compares what it answers and what is out.
-fn answers_by<R: AllocGlobal + Threads + Wait + Sync + Abort>(
-    rt: &R,
-    line: &str,
-    words: &[String],
-    shelf: &mut MemShelf,
-    wires: &mut Vec<Scripted>,
-    status: &Status,
-    out: &[u8],
-) -> Result<(), Fail> {
-    let alloc = rt.alloc();
-    let mut sink = MemSink::new(alloc, 7, 1000, Vec::new(alloc))?;
-    let found = answer_of(rt, words, shelf, &mut sink, wires);
-    compare(rt, line, &found, &sink, status, out);
-    Ok(())
-}
-
-/// The same over eight wires.
-fn answers_over<R: AllocGlobal + Threads + Wait + Sync + Abort>(
-    rt: &R,
-    line: &str,
-    words: &[String],
-    shelf: &mut MemShelf,
-    status: &Status,
-    out: &[u8],
-) -> Result<(), Fail> {
-    let mut wires = wires_of(rt.alloc(), 8, 0, Fate::Give(0), 0)?;
-    answers_by(rt, line, words, shelf, &mut wires, status, out)
-}
-
-/// The same of a line over an image and a script, with a shelf whose load of this number fails.
+/// Runs a command line over an image and a script, with a shelf whose load of this number fails, and compares what it
+/// answers and what is out.
 pub(crate) fn answers<R: AllocGlobal + Threads + Wait + Sync + Abort>(
     rt: &R,
     line: &str,
@@ -186,20 +208,10 @@ pub(crate) fn answers<R: AllocGlobal + Threads + Wait + Sync + Abort>(
     status: &Status,
     out: &[u8],
 ) -> Result<(), Fail> {
-    let mut shelf = shelf_of(rt.alloc(), image, script, fails)?;
-    line_answers(rt, line, &mut shelf, status, out)
-}
-
-/// The same of a line over files.
-fn line_answers<R: AllocGlobal + Threads + Wait + Sync + Abort>(
-    rt: &R,
-    line: &str,
-    shelf: &mut MemShelf,
-    status: &Status,
-    out: &[u8],
-) -> Result<(), Fail> {
-    let words = words_of(rt.alloc(), line)?;
-    answers_over(rt, line, &words, shelf, status, out)
+    let mut outside = outside_of(rt.alloc(), line, image, script, fails, 0, GIVING)?;
+    let found = answer(rt, &mut outside);
+    compare(rt, line, &found, &outside.sink, status, out);
+    Ok(())
 }
 
 /// Expects that a command line writes this over the image of these words and a script.
@@ -283,34 +295,6 @@ static REFUSALS: [(&str, usize, &[u8], u8, u32, u32); 21] = [
     ("drive guest script", 104, b"\nstep 0 01", 8, 2, 4),
 ];
 
-/// Expects that a command line is refused so over an image of so many bytes. Nothing is out then.
-fn refuses<R: AllocGlobal + Threads + Wait + Sync + Abort>(
-    rt: &R,
-    line: &str,
-    image: &[u8],
-    length: usize,
-    script: &[u8],
-    status: &Status,
-) -> Result<(), Fail> {
-    let (guest, _) = image.split_at(image.len().min(length));
-    answers(rt, line, guest, script, 0, status, b"")
-}
-
-fn each_refuses<R: AllocGlobal + Threads + Wait + Sync + Abort>(
-    rt: &R,
-    image: &[u8],
-) -> Result<(), Fail> {
-    for (line, length, script, code, first, second) in REFUSALS.iter() {
-        let status = Status {
-            code: *code,
-            first: *first,
-            second: *second,
-        };
-        refuses(rt, line, image, *length, script, &status)?;
-    }
-    Ok(())
-}
-
 /// The image of the guest that ends with the value 7.
 pub(crate) fn exit_seven(alloc: Global) -> Result<Vec<u8>, AllocError> {
     elf_of(alloc, RAM_BASE, &EXIT_SEVEN)
@@ -319,7 +303,16 @@ pub(crate) fn exit_seven(alloc: Global) -> Result<Vec<u8>, AllocError> {
 #[test]
 fn refuses_by_cause(rt: HostRuntime) -> Result<(), Fail> {
     let image = exit_seven(rt.alloc())?;
-    each_refuses(&rt, &image)
+    for (line, length, script, code, first, second) in REFUSALS.iter() {
+        let (guest, _) = image.split_at(image.len().min(*length));
+        let status = Status {
+            code: *code,
+            first: *first,
+            second: *second,
+        };
+        answers(&rt, line, guest, script, 0, &status, b"")?;
+    }
+    Ok(())
 }
 
 /// Expects that `drive` over an image and a script stops at its load of this number, which fails.
@@ -339,84 +332,56 @@ fn stops_at_load<R: AllocGlobal + Threads + Wait + Sync + Abort>(
 }
 
 // Each load that `drive` makes, in order: where all that is read is in form, and where nothing is.
-fn stops_at_loads<R: AllocGlobal + Threads + Wait + Sync + Abort>(
-    rt: &R,
-    image: &[u8],
-) -> Result<(), Fail> {
+#[test]
+fn stops_at_each_load(rt: HostRuntime) -> Result<(), Fail> {
+    let image = exit_seven(rt.alloc())?;
     for load in 1..=4u32 {
-        stops_at_load(rt, image, b"step 0 1\n", load)?;
-        stops_at_load(rt, b"", b"", load)?;
+        stops_at_load(&rt, &image, b"step 0 1\n", load)?;
+        stops_at_load(&rt, b"", b"", load)?;
     }
     Ok(())
 }
 
-#[test]
-fn stops_at_each_load(rt: HostRuntime) -> Result<(), Fail> {
-    let image = exit_seven(rt.alloc())?;
-    stops_at_loads(&rt, &image)
-}
-
 /// Command lines, how many wires there are and what each of them does, and the code. The second child of two hears the
 /// page that the first fetched, or fetches it over a wire that has given none.
-static WIRES: [(&str, usize, usize, Fate, usize, u8); 11] = [
+static WIRES: [(&str, Wires, u8); 11] = [
     (
         "run guest --clones 1 --workers 1",
-        1,
-        0,
-        Fate::Lose(0),
-        64,
+        (1, 0, Fate::Lose(0), 64),
         7,
     ),
     (
         "run guest --clones 1 --workers 1",
-        1,
-        0,
-        Fate::Again(0),
-        64,
+        (1, 0, Fate::Again(0), 64),
         0,
     ),
     (
         "run guest --clones 2 --workers 2",
-        2,
-        0,
-        Fate::Lose(0),
-        64,
+        (2, 0, Fate::Lose(0), 64),
         7,
     ),
-    ("run guest --clones 1", 1, 0, Fate::Lose(0), 64, 7),
-    ("run guest --clones 0", 1, 0, Fate::Lose(0), 64, 0),
-    ("run guest --clones 1", 1, 0, Fate::Again(0), 64, 0),
-    ("run guest --clones 2", 1, 1, Fate::Lose(0), 64, 0),
+    ("run guest --clones 1", (1, 0, Fate::Lose(0), 64), 7),
+    ("run guest --clones 0", (1, 0, Fate::Lose(0), 64), 0),
+    ("run guest --clones 1", (1, 0, Fate::Again(0), 64), 0),
+    ("run guest --clones 2", (1, 1, Fate::Lose(0), 64), 0),
     (
         "run guest --clones 1 --workers 8",
-        8,
-        0,
-        Fate::Lose(0),
-        64,
+        (8, 0, Fate::Lose(0), 64),
         7,
     ),
     (
         "run guest --clones 0 --workers 8",
-        8,
-        0,
-        Fate::Lose(0),
-        64,
+        (8, 0, Fate::Lose(0), 64),
         0,
     ),
     (
         "run guest --clones 2 --workers 8",
-        8,
-        1,
-        Fate::Lose(0),
-        64,
+        (8, 1, Fate::Lose(0), 64),
         0,
     ),
     (
         "run guest --clones 2 --workers 64",
-        1,
-        1,
-        Fate::Lose(0),
-        64,
+        (1, 1, Fate::Lose(0), 64),
         0,
     ),
 ];
@@ -427,70 +392,17 @@ fn compare_code<R: Abort>(rt: &R, line: &str, found: &Status, sink: &MemSink, co
     assert_eq!(rt; answer, (code, code != 0), "{line}");
 }
 
-/// Runs a command line over files and a wire, and compares its code.
-fn code_over<R: AllocGlobal + Threads + Wait + Sync + Abort>(
-    rt: &R,
-    line: &str,
-    words: &[String],
-    shelf: &mut MemShelf,
-    wires: &mut Vec<Scripted>,
-    code: u8,
-) -> Result<(), Fail> {
-    let alloc = rt.alloc();
-    let mut sink = MemSink::new(alloc, 7, 1000, Vec::new(alloc))?;
-    let found = answer_of(rt, words, shelf, &mut sink, wires);
-    compare_code(rt, line, &found, &sink, code);
-    Ok(())
-}
-
 /// Runs a line over an image and wires, and compares its code.
-fn line_over<R: AllocGlobal + Threads + Wait + Sync + Abort>(
-    rt: &R,
-    line: &str,
-    image: &[u8],
-    wires: &mut Vec<Scripted>,
-    code: u8,
-) -> Result<(), Fail> {
-    let mut shelf = shelf_of(rt.alloc(), image, b"", 0)?;
-    runs_over(rt, line, &mut shelf, wires, code)
-}
-
-/// The same over files.
-fn runs_over<R: AllocGlobal + Threads + Wait + Sync + Abort>(
-    rt: &R,
-    line: &str,
-    shelf: &mut MemShelf,
-    wires: &mut Vec<Scripted>,
-    code: u8,
-) -> Result<(), Fail> {
-    let words = words_of(rt.alloc(), line)?;
-    code_over(rt, line, &words, shelf, wires, code)
-}
-
-/// What each of some wires does: it gives so many replies, tells a fate so many times, and gives again.
-type Course = (usize, Fate, usize);
-
-/// Runs a line over an image and so many wires, each of which does this, and compares its code.
 fn has_code<R: AllocGlobal + Threads + Wait + Sync + Abort>(
     rt: &R,
     line: &str,
     image: &[u8],
-    count: usize,
-    course: Course,
+    wires: Wires,
     code: u8,
 ) -> Result<(), Fail> {
-    let (gives, fate, times) = course;
-    let mut wires = wires_of(rt.alloc(), count, gives, fate, times)?;
-    line_over(rt, line, image, &mut wires, code)
-}
-
-fn each_has_its_code<R: AllocGlobal + Threads + Wait + Sync + Abort>(
-    rt: &R,
-    image: &[u8],
-) -> Result<(), Fail> {
-    for (line, count, gives, fate, times, code) in WIRES.iter() {
-        has_code(rt, line, image, *count, (*gives, *fate, *times), *code)?;
-    }
+    let mut outside = outside_of(rt.alloc(), line, image, b"", 0, 0, wires)?;
+    let found = answer(rt, &mut outside);
+    compare_code(rt, line, &found, &outside.sink, code);
     Ok(())
 }
 
@@ -502,106 +414,55 @@ fn two_children(alloc: Global) -> Result<Vec<u8>, AllocError> {
 #[test]
 fn loses_its_wire(rt: HostRuntime) -> Result<(), Fail> {
     let image = two_children(rt.alloc())?;
-    each_has_its_code(&rt, &image)
+    for (line, wires, code) in WIRES.iter() {
+        has_code(&rt, line, &image, *wires, *code)?;
+    }
+    Ok(())
 }
 
 // So many losses, and the next reply comes.
-fn bears_each_loss<R: AllocGlobal + Threads + Wait + Sync + Abort>(
-    rt: &R,
-    image: &[u8],
-) -> Result<(), Fail> {
-    let line = "run guest --clones 1 --workers 1";
-    for times in 0..64 {
-        has_code(rt, line, image, 1, (0, Fate::Lose(0), times), 0)?;
-    }
-    Ok(())
-}
-
 #[test]
 fn bears_losses(rt: HostRuntime) -> Result<(), Fail> {
     let image = two_children(rt.alloc())?;
-    bears_each_loss(&rt, &image)
-}
-
-/// Expects code 5, and of the report of two children the ten bytes of each put before this one.
-fn compare_cut<R: Abort>(rt: &R, found: &Status, sink: &MemSink, fails: u64)
-    requires least { 1 ≤ fails }
-    requires most { fails ≤ 11 }
-{
-    assert_eq!(rt; found.code, 5);
-    assert_eq!(rt; sink.bytes().len() as u64, 10 * (fails - 1));
-    assert!(rt; TWO_CHILDREN_REPORT.starts_with(sink.bytes()));
-}
-
-/// Runs a guest of two children from a shelf over a sink whose put of this number fails.
-fn stops_by<R: AllocGlobal + Threads + Wait + Sync + Abort>(
-    rt: &R,
-    words: &[String],
-    shelf: &mut MemShelf,
-    wires: &mut Vec<Scripted>,
-    fails: u64,
-) -> Result<(), Fail>
-    requires least { 1 ≤ fails }
-    requires most { fails ≤ 11 }
-{
-    let alloc = rt.alloc();
-    let mut sink = MemSink::new(alloc, 10, 1000, vec![in alloc; fails]?)?;
-    let found = answer_of(rt, words, shelf, &mut sink, wires);
-    compare_cut(rt, &found, &sink, fails);
-    Ok(())
-}
-
-/// The same over eight wires.
-fn stops_over<R: AllocGlobal + Threads + Wait + Sync + Abort>(
-    rt: &R,
-    words: &[String],
-    shelf: &mut MemShelf,
-    fails: u64,
-) -> Result<(), Fail>
-    requires least { 1 ≤ fails }
-    requires most { fails ≤ 11 }
-{
-    let mut wires = wires_of(rt.alloc(), 8, 0, Fate::Give(0), 0)?;
-    stops_by(rt, words, shelf, &mut wires, fails)
-}
-
-/// The same from an image.
-fn stops_at_put<R: AllocGlobal + Threads + Wait + Sync + Abort>(
-    rt: &R,
-    words: &[String],
-    image: &[u8],
-    fails: u64,
-) -> Result<(), Fail>
-    requires least { 1 ≤ fails }
-    requires most { fails ≤ 11 }
-{
-    let mut shelf = shelf_of(rt.alloc(), image, b"", 0)?;
-    stops_over(rt, words, &mut shelf, fails)
-}
-
-// The report of 110 bytes goes out ten by ten.
-fn stops_at_puts<R: AllocGlobal + Threads + Wait + Sync + Abort>(
-    rt: &R,
-    words: &[String],
-    image: &[u8],
-) -> Result<(), Fail> {
-    for fails in 1..=11u64 {
-        stops_at_put(rt, words, image, fails)?;
+    let line = "run guest --clones 1 --workers 1";
+    for times in 0..64 {
+        has_code(&rt, line, &image, (1, 0, Fate::Lose(0), times), 0)?;
     }
     Ok(())
 }
 
-/// The same of an image alone.
-fn image_stops_at_puts<R: AllocGlobal + Threads + Wait + Sync + Abort>(
-    rt: &R,
-    image: &[u8],
-) -> Result<(), Fail> {
-    let words = words_of(rt.alloc(), "run guest --clones 2")?;
-    stops_at_puts(rt, &words, image)
+/// Expects code 5, and of the report of two children the seven bytes of each put before this one.
+fn compare_cut<R: Abort>(rt: &R, found: &Status, sink: &MemSink, fails: u64)
+    requires least { 1 ≤ fails }
+    requires most { fails ≤ 16 }
+{
+    assert_eq!(rt; found.code, 5);
+    assert_eq!(rt; sink.bytes().len() as u64, 7 * (fails - 1));
+    assert!(rt; TWO_CHILDREN_REPORT.starts_with(sink.bytes()));
 }
 
+/// Runs a guest of two children over a sink whose put of this number fails.
+fn stops_at_put<R: AllocGlobal + Threads + Wait + Sync + Abort>(
+    rt: &R,
+    image: &[u8],
+    fails: u64,
+) -> Result<(), Fail>
+    requires least { 1 ≤ fails }
+    requires most { fails ≤ 16 }
+{
+    let line = "run guest --clones 2";
+    let mut outside = outside_of(rt.alloc(), line, image, b"", 0, fails, GIVING)?;
+    let found = answer(rt, &mut outside);
+    compare_cut(rt, &found, &outside.sink, fails);
+    Ok(())
+}
+
+// The report of 110 bytes goes out seven by seven.
 #[test]
 fn stops_at_each_put(rt: HostRuntime) -> Result<(), Fail> {
     let image = two_children(rt.alloc())?;
-    image_stops_at_puts(&rt, &image)
+    for fails in 1..=16u64 {
+        stops_at_put(&rt, &image, fails)?;
+    }
+    Ok(())
 }

@@ -2,6 +2,7 @@
 //! under the lock stands for it.
 #![tactic(auto)]
 
+mod bells;
 mod lends;
 mod patience;
 mod plays;

@@ -28,7 +28,8 @@ impl<A, N: Drop, T: Kept<A, N> + Drop> Turn<A, N, T> {
         };
         let shared = &turns.table.shared;
         drop(shared.exchange(&mut seat, 0, home));
-        shared.fetch_add::<Passes>(&mut seat, SERVING, 1);
+        let number = shared.fetch_add::<Passes>(&mut seat, SERVING, 1);
+        turns.bells.ring(number.wrapping_add(1));
         seat
     }
 }

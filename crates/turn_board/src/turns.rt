@@ -1,6 +1,7 @@
 //! The lock.
 ghost use Rattle.std.specs.Prelude.{◌≡◌};
 
+use crate::bells::Bells;
 use crate::patience::Patience;
 use crate::plays::{Draws, Learns, Looks, Meets, Parts};
 use crate::turn::Turn;
@@ -23,6 +24,7 @@ pub(crate) const MOST: u64 = 1 << 63;
 #[derive(Drop)]
 pub struct Lock<S, V, K, P: TableRule<S, V, K>> {
     pub table: Table<S, V, K, P, Global>,
+    pub(crate) bells: Bells,
     ghost counts: { (table.shared.table_id.words ≡ 2) × (table.shared.table_id.slots ≡ 1) },
 }
 
@@ -52,7 +54,8 @@ impl<A, N: Drop, T: Kept<A, N> + Drop> Turns<A, N, T> {
         let Ok((table, seat)) = Table::new(alloc, &[0, 0], slots, about) else {
             return Err(AllocError);
         };
-        Ok((Lock { table }, seat))
+        let bells = Bells::new();
+        Ok((Lock { table, bells }, seat))
     }
 
     /// Waits for the seat's turn. The value stands for the history of all turns passed, which begins with what the seat had seen.
@@ -77,13 +80,18 @@ impl<A, N: Drop, T: Kept<A, N> + Drop> Turns<A, N, T> {
         requires { IsDrawn self.now.table.shared.table_id self.now.table.shared.key number seat.old }
         ensures { Comes T.stands self.now.table.shared.key seat.old seat.new }
     {
+        let bell = self.bells.of(number);
         let mut patience = Patience::new();
         for _ in rt.forever() {
             let served = self.table.shared.load::<Looks>(seat, SERVING);
             if served == number && served < MOST {
+                patience.end(bell);
                 return;
             }
-            patience.pass(number, served);
+            if let Some(rings) = patience.pass(bell, number, served) {
+                bell.rings.park(rt, rings);
+                patience.end(bell);
+            }
         }
         unreachable!()
     }

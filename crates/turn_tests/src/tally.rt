@@ -2,6 +2,7 @@
 ghost use Rattle.std.specs.Prelude.{◌≡◌, ◌+◌, ◌^◌, ◌<◌, length};
 ghost use Rattle.turn_board.specs.Calls.{IsSeat};
 
+use std::hint::spin_loop;
 use std::sync::Wait;
 use turn_board::{Kept, Seat, Turns};
 
@@ -34,6 +35,15 @@ fn add(tally: &mut Tally, worker: u8, round: u32)
     let _ = tally.order.push((worker, round));
 }
 
+/// Keeps the turn in some rounds, for so long that those who wait for theirs go to sleep.
+fn linger(round: u32) {
+    if round % 256 == 0 {
+        for _ in 0..10_000 {
+            spin_loop();
+        }
+    }
+}
+
 /// The worker adds once.
 fn take_turn<R: Wait>(
     rt: &R,
@@ -48,6 +58,7 @@ fn take_turn<R: Wait>(
 {
     let mut turn = turns.enter(rt, seat);
     add(turn.value(), worker, round);
+    linger(round);
     turn.pass(turns, &Added)
 }
 

@@ -2,6 +2,10 @@
 use Rattle.std.proofs.Common.{◌≡◌, ◌≢◌, ℕ, zero, suc, not, Bool, true, false, cond, eqb, eqb-true, refl, sym, ap, ap₂, ◌∙◌, subst, arith, inl, inr, ◌∷◌, ◌++◌, Option, Some, None, is_some, option_map, []}
 use Rattle.std.specs.BTreeMap.{BTreeMap, Updates, WritesThrough, get}
 use Rattle.std.specs.Ordering.{nat_cmp}
+use Rattle.std.specs.Option.{IfSome}
+use Rattle.std.specs.Prelude.{Result, Ok, Err}
+use Rattle.std.specs.Result.{IfOk, OnOk, OnErr, IsErr}
+use Rattle.std.specs.declared.alloc.AllocError.{AllocError}
 use Rattle.image_depot.specs.Key.{Shelves}
 use Rattle.forest_tree.specs.Operations.{Call, clone, join, kill, is_cloned}
 use Rattle.forest_tree.specs.Tree.{Tree, node, Trees, no_tree, tree, Broods, no_brood, Log, no_entry, machine, brood_of, broods_with, child_at, at_child, at_brood, Branch, Path, subtree, beyond}
@@ -24,6 +28,8 @@ use Rattle.world_core.specs.declared.cell.Slot.{Slot}
 use Rattle.world_core.specs.declared.cell.Slot.TheVariants.{Asleep, Awake, Ended}
 use Rattle.world_core.specs.Shows.{forest, SlotShows, BroodAt, StateShows, CellShows, Shows, child_of, with_child}
 use Rattle.world_core.specs.Popped.{ShowsCells, sleeps, is_listed_in}
+use Rattle.world_core.specs.Lent.{Lent, now_of}
+use Rattle.world_core.specs.Answers.{IsLentOf}
 use Rattle.world_core.proofs.Awake.{child-below, slotted}
 use Rattle.run_report.proofs.Below.{beyond-append, beyond-is}
 use Rattle.world_core.proofs.Changes.{child_by, is_one, outside, beyond-parent}
@@ -247,3 +253,33 @@ sleeper-no_cell depot cells parent ticket index t c h s =
     by : (o : Option Cell) → Shows depot (child_path parent ticket index) o (Some s.child) → o ≡ None
     by None h = refl
     by (Some cell) h = let no : true ≡ false = sym s.asleep ∙ h.awake.awake in absurd (cc)
+
+-- the parent keeps its cell as a child gets one
+pub parent-still : (cells mid : BTreeMap Path Cell) (parent : Path) (ticket index : ℕ) (name : Path) (e c : Cell) → name ≡ child_path parent ticket index
+    → Updates path_cmp cells mid name (Some e) → Some c ≡ get path_cmp cells parent → None ≡ get path_cmp mid parent → ⊥
+parent-still cells mid parent ticket index name e c named inserted had none =
+    let no : Some c ≡ None
+    = had
+    ∙ sym
+    (updated-apart cells mid name (Some e) inserted parent (λ same. apart-below parent (record { ticket = ticket; child = index }) [] (sym same ∙ named)))
+    ∙ sym none in cc
+
+-- ---- a child that does not wake for want of memory
+
+pub no-lease : (depot : Shelves) (path : Path) (r : Result Lent AllocError) → IsErr r
+    → IfOk r (λ (l : Lent). (l.name ≡ path) × (l.ran ≡ 0) × (l.now ≡ l.start) × IsLentOf depot l)
+no-lease depot path (Ok l) failed = absurd (cc)
+no-lease depot path (Err e) failed = tt
+
+pub no-start : (t : Tree (Spot Paged)) (r : Result Lent AllocError) → IsErr r
+    → IfOk r (λ (l : Lent). IfSome (subtree l.name t) (λ (a : Tree (Spot Paged)). (machine a).machine ≡ now_of l))
+no-start t (Ok l) failed = absurd (cc)
+no-start t (Err e) failed = tt
+
+pub not-ok : (X : Type 0) (r : Result Lent AllocError) → IsErr r → OnOk r X
+not-ok X (Ok l) failed = absurd (cc)
+not-ok X (Err e) failed = tt
+
+pub on-err : (X : Type 0) (r : Result Lent AllocError) → X → OnErr r X
+on-err X (Ok l) is = tt
+on-err X (Err e) is = is

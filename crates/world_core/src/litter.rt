@@ -103,7 +103,7 @@ fn all_asleep(alloc: Global, children: u32) -> Result<Vec<Slot>, AllocError>
 {
     let mut slots = Vec::with_capacity(alloc, children as usize)?;
     for _ in 0..children {
-        slots.push(Slot::Asleep)?;
+        slots.push_reserved(Slot::Asleep);
     }
     Ok(slots)
 }

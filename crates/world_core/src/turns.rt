@@ -105,6 +105,17 @@ impl Turn {
         )?)
     }
 
+    /// The root's name, and the turn of its machine.
+    pub(crate) fn root(alloc: Global) -> Result<(Name, Box<Turn>), AllocError>
+        ensures name { IfOk result (λ made. made.0 ≡ []) }
+        ensures value { IfOk result (λ made. turn_of made.1.value ≡ record { name = []; children = None }) }
+        ensures alone { IfOk result (λ made. turns_from made.1.value ≡ turn_of made.1.value ∷ []) }
+    {
+        let name = Name::root(alloc)?;
+        let turn = Turn::of_machine(alloc, name.copy()?)?;
+        Ok((name, turn))
+    }
+
     /// The turn of the children of a ticket of the machine of that name.
     pub(crate) fn of_children(
         alloc: Global,

@@ -1,5 +1,5 @@
-ghost use Rattle.std.specs.Prelude.{◌≡◌, [], ◌∷◌, length, None, Some, true, false, IfOk, IfSome, IsSome, IsSomeAnd, MatchOption};
-ghost use Rattle.std.specs.BTreeMap.{get};
+ghost use Rattle.std.specs.Prelude.{◌≡◌, [], ◌∷◌, length, None, Some, true, false, IfOk, OnOk, OnErr, IfSome, IsSome, IsSomeAnd, MatchOption};
+ghost use Rattle.std.specs.BTreeMap.{Updates, get};
 ghost use Rattle.image_depot.specs.Key.{Shelves};
 ghost use Rattle.forest_tree.specs.Settle.{has_ended};
 ghost use Rattle.forest_tree.specs.Sound.{IsSound};
@@ -100,8 +100,9 @@ impl World {
         ensures stands { IfOk result (λ world. (depot : Shelves) → StandsFor depot world (world_of paged_machines (paged vm))) }
         ensures told { IfOk result (λ world. told_of world ≡ []) }
     {
-        let root = Name::root(alloc)?;
         let steps = vm.steps();
+        let output = vm.into_output();
+        let root = Name::root(alloc)?;
         let log = Vec::new(alloc);
         let told = Vec::new(alloc);
         Ok(World {
@@ -109,7 +110,7 @@ impl World {
             ready: Turns::new(),
             halted: None,
             told,
-            outcome: Some(Outcome::new(root, ending, steps, vm.into_output(), log)),
+            outcome: Some(Outcome::new(root, ending, steps, output, log)),
         })
     }
 
@@ -122,12 +123,13 @@ impl World {
         ensures stands { IfOk result (λ world. (depot : Shelves) → StandsFor depot world (world_of paged_machines (paged vm))) }
         ensures told { IfOk result (λ world. told_of world ≡ []) }
     {
-        let root = Name::root(alloc)?;
-        let mut ready = Turns::new();
-        ready.push(Turn::of_machine(alloc, root.copy()?)?);
-        let told = Vec::new(alloc);
+        let vm = Box::new(alloc, vm)?;
+        let (name, turn) = Turn::root(alloc)?;
         let mut cells = BTreeMap::new(alloc);
-        cells.insert(root, Cell::of_root(alloc, Box::new(alloc, vm)?))?;
+        seat(&mut cells, name, Cell::of_root(alloc, vm))?;
+        let mut ready = Turns::new();
+        ready.push(turn);
+        let told = Vec::new(alloc);
         Ok(World {
             cells,
             ready,
@@ -306,6 +308,15 @@ impl World {
             self.ready.push(turn);
         }
     }
+}
+
+/// Puts in the cell of a name. Where memory is wanting for it, the cells stay as they are.
+fn seat(cells: &mut BTreeMap<Name, Cell>, name: Name, cell: Cell) -> Result<(), AllocError>
+    ensures ok { OnOk result (Updates path_cmp cells.old cells.new name (Some cell)) }
+    ensures err { OnErr result ((other : Path) → get path_cmp cells.new other ≡ get path_cmp cells.old other) }
+{
+    cells.insert(name, cell)?;
+    Ok(())
 }
 
 /// Takes out the cell of a name, and those of its descendants. It answers the name and the cell.

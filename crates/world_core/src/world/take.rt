@@ -16,7 +16,7 @@ ghost use Rattle.world_core.specs.Popped.{TakesBy, ShowsCells, IsFirstAsleep, is
 use crate::cell::Cell;
 use crate::lease::Lease;
 use crate::turns::Turn;
-use crate::world::{Taken, World};
+use crate::world::{Taken, World, seat};
 use image_depot::Depot;
 use run_report::Name;
 use std::alloc::{AllocError, Global};
@@ -191,7 +191,7 @@ impl World {
         };
         let vm = cell.woken(alloc, depot, ticket, index)?;
         let vm = Box::new(alloc, vm)?;
-        self.cells.insert(name, Cell::of_lent(alloc, &vm))?;
+        seat(&mut self.cells, name, Cell::of_lent(alloc, &vm))?;
         let Some(cell) = self.cells.get_mut(parent) else {
             unreachable!();
         };

@@ -5,6 +5,7 @@ use Rattle.command_line.specs.Words.{argument_rule, with_workers}
 use Rattle.command_line.proofs.words.generated_command.Goals as goal
 
 pub returns-clause-app : goal.returns-clause-app
+unfolding with_workers
 returns-clause-app c =
     let seed = c.in_ok-command.ensures.app ∙ ap (λ (app : App). with_rule app (argument_rule (codes "SEED"))) c.new.ensures.app in
     IfOk-weaker c.with_option.result _ _ (λ added is. is ∙ ap with_workers seed) c.with_option.ensures.app

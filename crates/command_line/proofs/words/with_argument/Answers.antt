@@ -1,13 +1,9 @@
-use Rattle.std.proofs.lemmas.Result.{IfOk-weaker}
-use Rattle.command_line.proofs.Meanings.{made-required, not-global, rule-added}
+use Rattle.command_line.specs.Words.{argument_rule}
+use Rattle.command_line.proofs.Meanings.{not-global, rule-added}
 use Rattle.command_line.proofs.words.with_argument.Goals as goal
 
 pub returns-clause-app : goal.returns-clause-app
-returns-clause-app c =
-    let made = made-required c.new.result c.required.result c.args.name.now c.required.ensures c.new.ensures.optional.1 c.new.ensures.rule in
-    IfOk-weaker c.arg.result _ _ (λ added adds. rule-added _ _ _ _ adds made.0 made.1) c.arg.ensures
+returns-clause-app c = rule-added c.args.command c.required_argument.result (argument_rule c.args.name.now) c.arg.result c.required_argument.ensures.1 c.required_argument.ensures.0 c.arg.ensures
 
 pub returns-clause-local : goal.returns-clause-local
-returns-clause-local c =
-    let made = made-required c.new.result c.required.result c.args.name.now c.required.ensures c.new.ensures.optional.1 c.new.ensures.rule in
-    IfOk-weaker c.arg.result _ _ (λ added adds none. not-global _ _ _ adds.globals none made.0) c.arg.ensures
+returns-clause-local c = not-global c.args.command c.required_argument.result c.arg.result c.required_argument.ensures.0 c.arg.ensures

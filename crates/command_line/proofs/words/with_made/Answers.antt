@@ -1,5 +1,5 @@
-use Rattle.std.proofs.lemmas.Result.{IfOk-weaker}
+use Rattle.command_line.proofs.Meanings.{subcommand-added}
 use Rattle.command_line.proofs.words.with_made.Goals as goal
 
 pub returns : goal.returns
-returns c = IfOk-weaker c.subcommand.result _ _ (λ added adds. rw c.in_ok-made.was adds.shape) c.subcommand.ensures
+returns c = subcommand-added c.args.made c.args.command _ c.subcommand.result c.in_ok-made.was c.subcommand.ensures

@@ -1,8 +1,18 @@
-use Rattle.std.proofs.Common.{List, refl, sym, ap, ◌∙◌, subst, map, arith}
+use Rattle.std.proofs.Common.{List, refl, sym, ap, ◌∙◌, subst, map}
 use Rattle.image_depot.specs.Reply.{Delivery}
-use Rattle.host_fetch.specs.Asked.{HasGrown, reply_with}
-use Rattle.host_fetch.proofs.Loop.{below_after, ended, grown_on, is_absent, is_present, keys_of, less, part_asked, stands, stands_on}
+use Rattle.host_fetch.specs.Asked.{HasGrown, first_asked, reply_with}
+use Rattle.host_fetch.proofs.Loop.{Grows-same, below_after, ended, grown_on, grows_none, is_absent, is_present, keys_of, less, none_asked, part_asked, stands, stands_on}
 use Rattle.host_fetch.proofs.fetch_page.fetch_page.Goals as goal
+
+pub returns-in_default-clause-fetches : goal.returns-in_default-clause-fetches
+returns-in_default-clause-fetches g c =
+    none_asked c.args.depot.now c.args.key.now (first_asked (g.T.Receiver.here c.args.receiver.now) c.args.page c.args.ahead) c.args.pushed.now.items
+
+pub returns-in_default-clause-grows : goal.returns-in_default-clause-grows
+returns-in_default-clause-grows g c = grows_none _
+
+pub returns-in_default-ask_first-clause-grows : goal.returns-in_default-ask_first-clause-grows
+returns-in_default-ask_first-clause-grows g c = grows_none _
 
 pub returns-in_default-ask_first-clause-fetches : goal.returns-in_default-ask_first-clause-fetches
 returns-in_default-ask_first-clause-fetches g c =
@@ -24,6 +34,16 @@ pub returns-in_default-deliver-clause-fetches : goal.returns-in_default-deliver-
 returns-in_default-deliver-clause-fetches g c =
     let s = c.loop-waiting.invariant in (s.f.asked, s.grown, s.among)
 
+pub returns-in_default-deliver-clause-key : goal.returns-in_default-deliver-clause-key
+returns-in_default-deliver-clause-key g c = c.deliver.ensures.key ∙ c.loop-waiting.invariant.key_is ∙ sym c.requires.of_image
+
+pub returns-in_default-deliver-clause-rest : goal.returns-in_default-deliver-clause-rest
+returns-in_default-deliver-clause-rest g c = c.deliver.ensures.rest ∙ c.loop-waiting.invariant.rest_is
+
+pub returns-in_default-deliver-clause-grows : goal.returns-in_default-deliver-clause-grows
+returns-in_default-deliver-clause-grows g c =
+    Grows-same _ _ _ c.loop-waiting.invariant.grows (ap g.T.Receiver.here c.in_default-deliver.ensures.err)
+
 pub returns-then-is_here-clause-fetches : goal.returns-then-is_here-clause-fetches
 returns-then-is_here-clause-fetches g c =
     let s = c.loop-waiting.invariant in (
@@ -35,24 +55,36 @@ returns-then-is_here-clause-fetches g c =
       ),
     )
 
+pub returns-then-is_here-clause-key : goal.returns-then-is_here-clause-key
+returns-then-is_here-clause-key g c = c.deliver.ensures.key ∙ c.loop-waiting.invariant.key_is ∙ sym c.requires.of_image
+
+pub returns-then-is_here-clause-rest : goal.returns-then-is_here-clause-rest
+returns-then-is_here-clause-rest g c = c.deliver.ensures.rest ∙ c.loop-waiting.invariant.rest_is
+
 pub returns-then-is_here-clause-grows : goal.returns-then-is_here-clause-grows
 returns-then-is_here-clause-grows g c =
     grown_on _ _ _ c.next-fate.result _ c.loop-waiting.invariant.grows c.in-Ok-deliver.ensures.here
 
-pub returns-then-streak-eq-LONGEST_STREAK-clause-fetches : goal.returns-then-streak-eq-LONGEST_STREAK-clause-fetches
-returns-then-streak-eq-LONGEST_STREAK-clause-fetches g c =
+pub returns-then-has_failed-clause-fetches : goal.returns-then-has_failed-clause-fetches
+returns-then-has_failed-clause-fetches g c =
     let s = c.loop-waiting.invariant in (
       s.f.asked,
       s.grown,
       (
         ended _ _ _ _ _ _ _ _ _ _ _ _ _ _ _ _ _ _ _ c.next-fate.result c.len.result s (c.len.ensures ∙ c.loop-waiting.waiting.ok.0) c.next-fate.ensures.tells c.in-Ok-deliver.ensures.here,
         is_absent _ c.args.page (below_after _ _ _ _ _ _ _ _ _ _ _ _ _ _ _ _ _ _ _ s c.in-Ok-deliver.ensures.here) (sym c.is_here.ensures ∙ c.if-is_here.false),
-        sym c.streak.ensures.value ∙ c.if-streak-eq-LONGEST_STREAK.true,
+        c.has_failed.ensures.yes c.if-has_failed.true,
       ),
     )
 
-pub returns-then-streak-eq-LONGEST_STREAK-clause-grows : goal.returns-then-streak-eq-LONGEST_STREAK-clause-grows
-returns-then-streak-eq-LONGEST_STREAK-clause-grows g c =
+pub returns-then-has_failed-clause-key : goal.returns-then-has_failed-clause-key
+returns-then-has_failed-clause-key g c = c.deliver.ensures.key ∙ c.loop-waiting.invariant.key_is ∙ sym c.requires.of_image
+
+pub returns-then-has_failed-clause-rest : goal.returns-then-has_failed-clause-rest
+returns-then-has_failed-clause-rest g c = c.deliver.ensures.rest ∙ c.loop-waiting.invariant.rest_is
+
+pub returns-then-has_failed-clause-grows : goal.returns-then-has_failed-clause-grows
+returns-then-has_failed-clause-grows g c =
     grown_on _ _ _ c.next-fate.result _ c.loop-waiting.invariant.grows c.in-Ok-deliver.ensures.here
 
 pub loop-waiting-smaller : goal.loop-waiting-smaller
@@ -60,7 +92,7 @@ loop-waiting-smaller g c =
     let s = c.loop-waiting.invariant in
     let absent = is_absent _ c.args.page (below_after _ _ _ _ _ _ _ _ _ _ _ _ _ _ _ _ _ _ _ s c.in-Ok-deliver.ensures.here) (sym c.is_here.ensures ∙ c.if-is_here.false) in
     less _ _ _ _ _ _ _ _ _ _ _ _ _ _ _ _ _ _ c.deliver.new.waiting.items _ _ c.next-fate.result c.len.result s (c.len.ensures ∙ c.loop-waiting.waiting.ok.0) c.next-fate.ensures.among
-    c.in-Ok-deliver.ensures.here c.deliver.ensures.waiting absent c.next-fate.ensures.streak (omega (arith, c.streak.ensures.value, c.streak.ensures.most, c.if-streak-eq-LONGEST_STREAK.false)) c.in-Ok-ask_again.ensures.waiting
+    c.in-Ok-deliver.ensures.here c.deliver.ensures.waiting absent c.next-fate.ensures.streak (c.has_failed.ensures.no c.if-has_failed.false) c.in-Ok-ask_again.ensures.waiting
 
 pub loop-waiting-preserved : goal.loop-waiting-preserved
 loop-waiting-preserved g c =
@@ -68,12 +100,18 @@ loop-waiting-preserved g c =
     let absent = is_absent _ c.args.page (below_after _ _ _ _ _ _ _ _ _ _ _ _ _ _ _ _ _ _ _ s c.in-Ok-deliver.ensures.here) (sym c.is_here.ensures ∙ c.if-is_here.false) in
     stands_on _ _ _ _ _ _ _ _ _ _ _ _ _ _ _ _ _ _ c.deliver.new.waiting.items _ _ _ c.next-fate.result c.len.result s (c.len.ensures ∙ c.loop-waiting.waiting.ok.0) c.next-fate.ensures.tells
     c.in-Ok-deliver.ensures.here c.deliver.ensures.waiting c.deliver.ensures.key c.deliver.ensures.rest absent
-    (omega (arith, c.streak.ensures.value, c.streak.ensures.most, c.if-streak-eq-LONGEST_STREAK.false)) c.in-Ok-ask_again.ensures.waiting c.in-Ok-ask_again.ensures.told
+    (c.has_failed.ensures.no c.if-has_failed.false) c.in-Ok-ask_again.ensures.waiting c.in-Ok-ask_again.ensures.told
 
 pub returns-in_default-ask_again-clause-fetches : goal.returns-in_default-ask_again-clause-fetches
 returns-in_default-ask_again-clause-fetches g c =
     let s = c.loop-waiting.invariant in
     (s.f.asked, subst (λ (l : List Delivery). HasGrown c.args.depot.now c.args.key.now s.f.asked c.args.pushed.now.items l) (sym c.in_default-ask_again.ensures.err) s.grown, s.among)
+
+pub returns-in_default-ask_again-clause-key : goal.returns-in_default-ask_again-clause-key
+returns-in_default-ask_again-clause-key g c = c.deliver.ensures.key ∙ c.loop-waiting.invariant.key_is ∙ sym c.requires.of_image
+
+pub returns-in_default-ask_again-clause-rest : goal.returns-in_default-ask_again-clause-rest
+returns-in_default-ask_again-clause-rest g c = c.deliver.ensures.rest ∙ c.loop-waiting.invariant.rest_is
 
 pub returns-in_default-ask_again-clause-grows : goal.returns-in_default-ask_again-clause-grows
 returns-in_default-ask_again-clause-grows g c =

@@ -1,7 +1,7 @@
 use Rattle.std.proofs.Common.{rules, ◌≡◌, ◌≤◌, [], length, sym, ◌∙◌, subst, eqb-true}
 use Rattle.std.proofs.lemmas.List.{nil_from_length}
 use Rattle.host_workers.specs.Spread.{HaveWorked, WorkAll, parent, shifts_of}
-use Rattle.host_workers.proofs.Shifts.{alone, beside, first-done, joined}
+use Rattle.host_workers.proofs.Shifts.{alone, beside, first-done, joined, some-left}
 use Rattle.host_workers.proofs.hosts.+gather.Goals as goal
 
 pub unreachable-requires-in_default-replace : goal.unreachable-requires-in_default-replace
@@ -24,7 +24,7 @@ returns-then-is_empty g t c = λ pass k many h.
 pub gather-pass-requires : goal.gather-pass-requires
 gather-pass-requires g t c κs within =
     let w = c.requires.worked in
-    let more : 1 ≤ length c.in-Some-split_first.wires.now = search rules in
+    let more : 1 ≤ length c.in-Some-split_first.wires.now = some-left c.in-Some-split_first.wires.now (sym c.is_empty.ensures ∙ c.if-is_empty.false) in
     let rest =
     beside g.W.Wire.streak c.args.wires.now c.args.shifts.now c.in-Some-split_first.field-0-0.now c.in-Some-split_first.wires.now
     c.in-Some.shift.now c.in-Some.shifts.now c.in-Done.split c.in-Done.one c.in-Some-split_first.ensures.cases.0 c.in-Some.ensures.cases.0
@@ -32,31 +32,22 @@ gather-pass-requires g t c κs within =
     w.0 w.1 w.3 w.4 more in
     (search rules, (within, (more, (search rules, (parent w.0, rest.k, w.2, rest.many, rest.rest)))))
 
-pub join_pass-requires-clause-board : goal.join_pass-requires-clause-board
-join_pass-requires-clause-board g t c =
+pub join_pass-requires : goal.join_pass-requires
+join_pass-requires g t c =
     let w = c.requires.worked in
-    let more : 1 ≤ length c.in-Some-split_first.wires.now = search rules in
     let rest =
     beside g.W.Wire.streak c.args.wires.now c.args.shifts.now c.in-Some-split_first.field-0-0.now c.in-Some-split_first.wires.now
     c.in-Some.shift.now c.in-Some.shifts.now c.in-Done.split c.in-Done.one c.in-Some-split_first.ensures.cases.0 c.in-Some.ensures.cases.0
     (sym c.replace.ensures.value ∙ c.in-Done.is)
-    w.0 w.1 w.3 w.4 more in
-    ((c.gather-pass.ensures (parent w.0) rest.k rest.many rest.rest).worked.same_board ∙ w.2, rest.first.worked.same_board ∙ w.2)
-
-pub join_pass-requires-clause-holds : goal.join_pass-requires-clause-holds
-join_pass-requires-clause-holds g t c =
-    let w = c.requires.worked in
-    let more : 1 ≤ length c.in-Some-split_first.wires.now = search rules in
-    let rest =
-    beside g.W.Wire.streak c.args.wires.now c.args.shifts.now c.in-Some-split_first.field-0-0.now c.in-Some-split_first.wires.now
-    c.in-Some.shift.now c.in-Some.shifts.now c.in-Done.split c.in-Done.one c.in-Some-split_first.ensures.cases.0 c.in-Some.ensures.cases.0
-    (sym c.replace.ensures.value ∙ c.in-Done.is)
-    w.0 w.1 w.3 w.4 more in
-    rest.first.none
+    w.0 w.1 w.3 w.4 (some-left c.in-Some-split_first.wires.now (sym c.is_empty.ensures ∙ c.if-is_empty.false)) in
+    record {
+      board = ((c.gather-pass.ensures (parent w.0) rest.k rest.many rest.rest).worked.same_board ∙ w.2, rest.first.worked.same_board ∙ w.2);
+      holds = rest.first.none;
+    }
 
 pub returns : goal.returns
 returns g t c = λ pass k many h.
-    let more : 1 ≤ length c.in-Some-split_first.wires.now = search rules in
+    let more : 1 ≤ length c.in-Some-split_first.wires.now = some-left c.in-Some-split_first.wires.now (sym c.is_empty.ensures ∙ c.if-is_empty.false) in
     let rest =
     beside g.W.Wire.streak c.args.wires.now c.args.shifts.now c.in-Some-split_first.field-0-0.now c.in-Some-split_first.wires.now
     c.in-Some.shift.now c.in-Some.shifts.now c.in-Done.split c.in-Done.one c.in-Some-split_first.ensures.cases.0 c.in-Some.ensures.cases.0

@@ -11,6 +11,6 @@ pub returns-clause-stands : goal.returns-clause-stands
 returns-clause-stands c = λ depot.
     let vm = paged c.args.vm in
     let named : Ended = record { name = []; ending = c.args.ending; steps = vm.machine.steps; output = vm.machine.state.ports.console.output; log = [] } in
-    let outcome : c.new-3.result ≡ named = cc (c.new-3.ensures, c.in_ok-root.ensures, c.steps-steps.ensures, c.into_output.ensures, c.new-log.ensures.items) in
+    let outcome : c.new-3.result ≡ named = cc (c.new-3.ensures, c.in_ok-root.ensures, c.steps-steps.ensures, c.into_output-output.ensures, c.new-log.ensures.items) in
     end-stands depot vm c.args.ending c.new-3.result c.new.result c.new-2.result c.new-told.result c.requires.ended c.requires.no_ticket c.requires.good
     (λ name. ap (lookup (is_at (path_cmp name))) c.new.ensures.empty) outcome

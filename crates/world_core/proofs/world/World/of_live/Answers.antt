@@ -16,17 +16,16 @@ use Rattle.world_core.proofs.world.World.of_live.Goals as goal
 pub returns-clause-stands : goal.returns-clause-stands
 returns-clause-stands c = λ depot.
     let vm = paged c.args.vm in
-    let boxed : c.in_ok-new.field-0.value ≡ c.args.vm = c.in_ok-new.ensures.ok in
-    let same : paged c.in_ok-new.field-0.value ≡ vm = ap paged boxed in
-    let of_depot : IsOfDepot depot c.in_ok-new.field-0.value.key = λ key some. let no : None ≡ Some key = sym (ap (λ (v : KeyedMachine). v.key) boxed ∙ c.requires.every_page) ∙ some in absurd (cc) in
-    let turn : turn_of c.in_ok-of_machine.field-0.value ≡ record { name = []; children = None } =
-    c.in_ok-of_machine.ensures.value ∙ ap (λ (name : Path). record { name = name; children = None }) (c.in_ok-copy.ensures ∙ c.in_ok-root.ensures) in
-    let list : c.push.new.self ≡ record { name = []; children = None } ∷ [] = c.push.ensures ∙ ap₂ (λ (w : Waiting) rest. w ∷ rest) turn c.new-ready.ensures in
-    let inserted : Updates path_cmp c.new-cells.result c.insert.new.self [] (Some c.of_root.result) =
-    subst (λ name. Updates path_cmp c.new-cells.result c.insert.new.self name (Some c.of_root.result)) (c.root-2.view_is ∙ c.in_ok-root.ensures) c.in_ok-insert.ensures.updates in
+    let boxed : c.in_ok-vm.vm.value ≡ c.args.vm = c.in_ok-vm.ensures.ok in
+    let same : paged c.in_ok-vm.vm.value ≡ vm = ap paged boxed in
+    let of_depot : IsOfDepot depot c.in_ok-vm.vm.value.key = λ key some. let no : None ≡ Some key = sym (ap (λ (v : KeyedMachine). v.key) boxed ∙ c.requires.every_page) ∙ some in absurd (cc) in
+    let list : c.push.new.self ≡ record { name = []; children = None } ∷ [] =
+    c.push.ensures ∙ ap₂ (λ (w : Waiting) rest. w ∷ rest) c.in_ok-name.ensures.value c.new-ready.ensures in
+    let inserted : Updates path_cmp c.new-cells.result c.seat.new.cells [] (Some c.of_root.result) =
+    subst (λ name. Updates path_cmp c.new-cells.result c.seat.new.cells name (Some c.of_root.result)) c.in_ok-name.ensures.name c.in_ok-seat.ensures.ok in
     let shows : CellShows depot [] c.of_root.result (alone forest (record { machine = vm; place = home })) =
     subst (λ m. CellShows depot [] c.of_root.result (alone forest (record { machine = m; place = home }))) same
     (c.of_root.ensures.shows depot [] (ap (λ (p : Paged). p.machine.ending) same ∙ c.requires.lives) of_depot
-    (none-cloned (paged c.in_ok-new.field-0.value) (ap (λ (p : Paged). p.machine.state.ports.fork.tickets) same ∙ c.requires.no_ticket))) in
-    start-stands depot vm c.new-cells.result c.insert.new.self c.push.new.self c.of_root.result c.new-told.result c.requires.lives c.requires.no_ticket c.requires.good
+    (none-cloned (paged c.in_ok-vm.vm.value) (ap (λ (p : Paged). p.machine.state.ports.fork.tickets) same ∙ c.requires.no_ticket))) in
+    start-stands depot vm c.new-cells.result c.seat.new.cells c.push.new.self c.of_root.result c.new-told.result c.requires.lives c.requires.no_ticket c.requires.good
     (λ name. ap (lookup (is_at (path_cmp name))) c.new-cells.ensures.empty) inserted shows list

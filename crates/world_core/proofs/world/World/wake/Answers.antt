@@ -1,24 +1,133 @@
-use Rattle.std.proofs.Common.{◌≡◌, None, Some, refl, sym, ap, ◌∙◌, subst}
+use Rattle.std.proofs.Common.{◌≡◌, None, Some, is_some, refl, sym, ap, ◌∙◌, subst}
 use Rattle.std.specs.Option.{IfSome}
 use Rattle.std.specs.BTreeMap.{Updates, WritesThrough, get}
 use Rattle.forest_tree.specs.Tree.{Tree, Path, machine, subtree}
-use Rattle.forest_history.specs.Places.{Spot, out, placed}
+use Rattle.forest_history.specs.Places.{Spot, at_path, out, placed}
 use Rattle.forest_model.specs.Paged.{Paged}
 use Rattle.run_report.specs.Name.{child_path}
 use Rattle.run_report.specs.NameOrder.{path_cmp}
 use Rattle.vm_cell.specs.Keyed.{KeyedMachine, IsOfDepot, paged}
 use Rattle.world_core.specs.Lent.{Lent, lent_as, now_of}
 use Rattle.world_core.specs.Answers.{IsLentOf}
+use Rattle.world_core.specs.Popped.{ShowsCells, is_listed_in}
 use Rattle.world_core.specs.Shows.{CellShows, with_child}
 use Rattle.world_core.specs.Waiting.{Waiting}
 use Rattle.world_core.specs.Turns.{turn_of}
-use Rattle.world_core.proofs.Waking.{parent-there, sleeper-of, lent-shows, woken-machine, woken-some, woken-listed, woken-cells, old-parent, sleeper-no_cell}
+use Rattle.world_core.proofs.Waking.{parent-there, parent-still, sleeper-of, lent-shows, woken-machine, woken-some, woken-listed, woken-cells, old-parent, sleeper-no_cell, no-lease, no-start, not-ok, on-err}
 use Rattle.world_core.proofs.world.World.wake.Goals as goal
 
 pub unreachable-requires : goal.unreachable-requires
 unreachable-requires c =
     let r = c.requires in
     parent-there c.args.depot.now c.args.self.now.cells c.args.parent.now c.args.ticket c.args.index r.0 r.1 r.2 c.in_default.ensures.value
+
+pub unreachable-requires-in_default-get_mut : goal.unreachable-requires-in_default-get_mut
+unreachable-requires-in_default-get_mut c =
+    parent-still c.args.self.now.cells c.seat.new.cells c.args.parent.now c.args.ticket c.args.index c.in_ok-name.name c.of_lent.result c.in-Some.cell.now
+    c.in_ok-name.ensures c.in_ok-seat.ensures.ok c.in-Some.ensures.value c.in_default-get_mut.ensures.value
+
+pub returns-in_err-name : goal.returns-in_err-name
+returns-in_err-name c =
+    let r = c.from_residual.result in
+    let failed = c.from_residual.ensures.0 in
+    let path : Path = child_path c.args.parent.now c.args.ticket c.args.index in
+    let cells = c.args.self.now.cells in
+    record {
+      lease = no-lease c.args.depot.now path r failed;
+      start = λ t h is. no-start t r failed;
+      cells = λ t h is. not-ok (ShowsCells c.args.depot.now cells (at_path (placed out) path t)) r failed;
+      same = on-err ((name : Path) → get path_cmp cells name ≡ get path_cmp cells name) r (λ name. refl);
+      listed = λ name. refl;
+      others = λ name other. refl;
+      rest = (refl, refl, refl);
+      told = refl;
+    }
+
+pub returns-in_err-copy : goal.returns-in_err-copy
+returns-in_err-copy c =
+    let r = c.from_residual-in_err-copy.result in
+    let failed = c.from_residual-in_err-copy.ensures.0 in
+    let path : Path = child_path c.args.parent.now c.args.ticket c.args.index in
+    let cells = c.args.self.now.cells in
+    record {
+      lease = no-lease c.args.depot.now path r failed;
+      start = λ t h is. no-start t r failed;
+      cells = λ t h is. not-ok (ShowsCells c.args.depot.now cells (at_path (placed out) path t)) r failed;
+      same = on-err ((name : Path) → get path_cmp cells name ≡ get path_cmp cells name) r (λ name. refl);
+      listed = λ name. refl;
+      others = λ name other. refl;
+      rest = (refl, refl, refl);
+      told = refl;
+    }
+
+pub returns-in_err-turn : goal.returns-in_err-turn
+returns-in_err-turn c =
+    let r = c.from_residual-in_err-turn.result in
+    let failed = c.from_residual-in_err-turn.ensures.0 in
+    let path : Path = child_path c.args.parent.now c.args.ticket c.args.index in
+    let cells = c.args.self.now.cells in
+    record {
+      lease = no-lease c.args.depot.now path r failed;
+      start = λ t h is. no-start t r failed;
+      cells = λ t h is. not-ok (ShowsCells c.args.depot.now cells (at_path (placed out) path t)) r failed;
+      same = on-err ((name : Path) → get path_cmp cells name ≡ get path_cmp cells name) r (λ name. refl);
+      listed = λ name. refl;
+      others = λ name other. refl;
+      rest = (refl, refl, refl);
+      told = refl;
+    }
+
+pub returns-in_err-vm : goal.returns-in_err-vm
+returns-in_err-vm c =
+    let r = c.from_residual-in_err-vm.result in
+    let failed = c.from_residual-in_err-vm.ensures.0 in
+    let path : Path = child_path c.args.parent.now c.args.ticket c.args.index in
+    let cells = c.args.self.now.cells in
+    record {
+      lease = no-lease c.args.depot.now path r failed;
+      start = λ t h is. no-start t r failed;
+      cells = λ t h is. not-ok (ShowsCells c.args.depot.now cells (at_path (placed out) path t)) r failed;
+      same = on-err ((name : Path) → get path_cmp cells name ≡ get path_cmp cells name) r (λ name. refl);
+      listed = λ name. refl;
+      others = λ name other. refl;
+      rest = (refl, refl, refl);
+      told = refl;
+    }
+
+pub returns-in_err-vm-2 : goal.returns-in_err-vm-2
+returns-in_err-vm-2 c =
+    let r = c.from_residual-in_err-vm-2.result in
+    let failed = c.from_residual-in_err-vm-2.ensures.0 in
+    let path : Path = child_path c.args.parent.now c.args.ticket c.args.index in
+    let cells = c.args.self.now.cells in
+    record {
+      lease = no-lease c.args.depot.now path r failed;
+      start = λ t h is. no-start t r failed;
+      cells = λ t h is. not-ok (ShowsCells c.args.depot.now cells (at_path (placed out) path t)) r failed;
+      same = on-err ((name : Path) → get path_cmp cells name ≡ get path_cmp cells name) r (λ name. refl);
+      listed = λ name. refl;
+      others = λ name other. refl;
+      rest = (refl, refl, refl);
+      told = refl;
+    }
+
+pub returns-in_err-seat : goal.returns-in_err-seat
+returns-in_err-seat c =
+    let r = c.from_residual-in_err-seat.result in
+    let failed = c.from_residual-in_err-seat.ensures.0 in
+    let path : Path = child_path c.args.parent.now c.args.ticket c.args.index in
+    let mid = c.seat.new.cells in
+    let still : (name : Path) → get path_cmp mid name ≡ get path_cmp c.args.self.now.cells name = c.in_err-seat.ensures.err in
+    record {
+      lease = no-lease c.args.depot.now path r failed;
+      start = λ t h is. no-start t r failed;
+      cells = λ t h is. not-ok (ShowsCells c.args.depot.now mid (at_path (placed out) path t)) r failed;
+      same = on-err ((name : Path) → get path_cmp mid name ≡ get path_cmp c.args.self.now.cells name) r still;
+      listed = λ name. ap is_listed_in (still name);
+      others = λ name other. ap is_some (still name);
+      rest = (refl, refl, refl);
+      told = refl;
+    }
 
 pub woken-requires : goal.woken-requires
 woken-requires c =
@@ -28,9 +137,9 @@ woken-requires c =
 
 pub child_wakes-requires : goal.child_wakes-requires
 child_wakes-requires c =
-    let found : Some c.in-Some-get_mut.cell.now ≡ get path_cmp c.insert.new.self c.args.parent.now = c.in-Some-get_mut.ensures.value in
-    let inserted : Updates path_cmp c.args.self.now.cells c.insert.new.self c.in_ok-name.name (Some c.of_lent.result) = c.in_ok-insert.ensures.updates in
-    let old = old-parent c.args.self.now.cells c.insert.new.self c.args.parent.now c.args.ticket c.args.index c.in_ok-name.name c.of_lent.result
+    let found : Some c.in-Some-get_mut.cell.now ≡ get path_cmp c.seat.new.cells c.args.parent.now = c.in-Some-get_mut.ensures.value in
+    let inserted : Updates path_cmp c.args.self.now.cells c.seat.new.cells c.in_ok-name.name (Some c.of_lent.result) = c.in_ok-seat.ensures.ok in
+    let old = old-parent c.args.self.now.cells c.seat.new.cells c.args.parent.now c.args.ticket c.args.index c.in_ok-name.name c.of_lent.result
     c.in-Some-get_mut.cell.now c.in_ok-name.ensures inserted found in
     let r = c.requires in
     let s = sleeper-of c.args.depot.now c.args.self.now.cells c.args.parent.now c.args.ticket c.args.index r.0 r.1 r.2 c.in-Some-get_mut.cell.now old in
@@ -66,12 +175,12 @@ returns-clause-start c = λ t h is.
 pub returns-clause-cells : goal.returns-clause-cells
 returns-clause-cells c = λ t h is.
     let cells = c.args.self.now.cells in
-    let mid = c.insert.new.self in
+    let mid = c.seat.new.cells in
     let path : Path = child_path c.args.parent.now c.args.ticket c.args.index in
     let cell = c.in-Some-get_mut.cell.now in
     let waked = c.child_wakes.new.self in
     let found : Some cell ≡ get path_cmp mid c.args.parent.now = c.in-Some-get_mut.ensures.value in
-    let inserted : Updates path_cmp cells mid c.in_ok-name.name (Some c.of_lent.result) = c.in_ok-insert.ensures.updates in
+    let inserted : Updates path_cmp cells mid c.in_ok-name.name (Some c.of_lent.result) = c.in_ok-seat.ensures.ok in
     let written : WritesThrough path_cmp (path_cmp c.args.parent.now) mid waked (c.get_mut.follows.lender waked) = c.get_mut.follows.holds waked in
     let old = old-parent cells mid c.args.parent.now c.args.ticket c.args.index c.in_ok-name.name c.of_lent.result cell c.in_ok-name.ensures inserted found in
     let s = sleeper-of c.args.depot.now cells c.args.parent.now c.args.ticket c.args.index t h is cell old in
@@ -91,12 +200,12 @@ returns-clause-cells c = λ t h is.
 pub returns-clause-listed : goal.returns-clause-listed
 returns-clause-listed c =
     let cells = c.args.self.now.cells in
-    let mid = c.insert.new.self in
+    let mid = c.seat.new.cells in
     let path : Path = child_path c.args.parent.now c.args.ticket c.args.index in
     let cell = c.in-Some-get_mut.cell.now in
     let waked = c.child_wakes.new.self in
     let found : Some cell ≡ get path_cmp mid c.args.parent.now = c.in-Some-get_mut.ensures.value in
-    let inserted : Updates path_cmp cells mid c.in_ok-name.name (Some c.of_lent.result) = c.in_ok-insert.ensures.updates in
+    let inserted : Updates path_cmp cells mid c.in_ok-name.name (Some c.of_lent.result) = c.in_ok-seat.ensures.ok in
     let written : WritesThrough path_cmp (path_cmp c.args.parent.now) mid waked (c.get_mut.follows.lender waked) = c.get_mut.follows.holds waked in
     let r = c.requires in
     let s = sleeper-of c.args.depot.now cells c.args.parent.now c.args.ticket c.args.index r.0 r.1 r.2 c.in-Some.cell.now c.in-Some.ensures.value in
@@ -109,11 +218,11 @@ returns-clause-listed c =
 pub returns-clause-others : goal.returns-clause-others
 returns-clause-others c =
     let cells = c.args.self.now.cells in
-    let mid = c.insert.new.self in
+    let mid = c.seat.new.cells in
     let cell = c.in-Some-get_mut.cell.now in
     let waked = c.child_wakes.new.self in
     let found : Some cell ≡ get path_cmp mid c.args.parent.now = c.in-Some-get_mut.ensures.value in
-    let inserted : Updates path_cmp cells mid c.in_ok-name.name (Some c.of_lent.result) = c.in_ok-insert.ensures.updates in
+    let inserted : Updates path_cmp cells mid c.in_ok-name.name (Some c.of_lent.result) = c.in_ok-seat.ensures.ok in
     let written : WritesThrough path_cmp (path_cmp c.args.parent.now) mid waked (c.get_mut.follows.lender waked) = c.get_mut.follows.holds waked in
     woken-some cells mid c.args.parent.now c.args.ticket c.args.index c.in_ok-name.name c.of_lent.result cell c.in_ok-name.ensures inserted found
     (c.get_mut.follows.lender waked) waked written

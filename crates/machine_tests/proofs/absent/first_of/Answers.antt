@@ -1,0 +1,19 @@
+use Rattle.std.proofs.Common.{◌≡◌, Some, ap, ◌∙◌, subst, sym, arith}
+use Rattle.image_depot.specs.Key.{IsKeyOf}
+use Rattle.vm_cell.specs.Keyed.{KeyedMachine}
+use Rattle.vm_cell.specs.Woken.{IsOfImage, woken}
+use Rattle.machine_tests.proofs.absent.first_of.Goals as goal
+
+pub through_bytes-requires : goal.through_bytes-requires
+through_bytes-requires c = (c.requires.seeds 1 (omega arith) (omega arith)).in_range
+
+pub wake-requires-clause-of_image : goal.wake-requires-clause-of_image
+wake-requires-clause-of_image c =
+    subst (IsOfImage c.args.brood.now.key) (sym c.in_ok-seed.ensures) (c.requires.seeds 1 (omega arith) (omega arith))
+
+pub returns : goal.returns
+unfolding woken
+returns c = λ key is.
+    let both : Some c.args.brood.now.key ≡ Some key = sym (ap (λ (v : KeyedMachine). v.key) c.in_ok-wake.ensures) ∙ is in
+    let same : c.args.brood.now.key ≡ key = cc in
+    subst (IsKeyOf c.args.depot.now) same c.requires.here

@@ -1,0 +1,450 @@
+//! One machine: that calls succeed. What whole guests come to is tested by the command line.
+
+ghost use Rattle.std.specs.Prelude.{◌≡◌, ◌≤◌, ◌%◌, length, IfOk};
+ghost use Rattle.image_depot.specs.Key.{IsKeyOf};
+ghost use Rattle.vm_cell.specs.Keyed.{IsOfDepot};
+ghost use Rattle.vm_cell.specs.Woken.{AreOfImage};
+
+use crate::absent::{ChildCourse, bears, bring};
+use crate::guests::{TWO_CHILDREN, booted_at};
+use elf_load::RAM_BASE;
+use forest_model::Ending;
+use fork_port::Call;
+use image_depot::Depot;
+use std::alloc::{AllocError, Global};
+use std::process::Abort;
+use std::sync::Wait;
+use std::test::Fail;
+use vm_cell::{Brood, Stepped, Vm};
+use vm_descriptor::{DescError, Descriptor};
+
+static EXIT_SEVEN: [u32; 5] = [0x100022b7, 0x00700313, 0x0062a023, 0x00500313, 0x0062a423];
+
+// What a machine does once it is made.
+#[derive(Clone, Copy)]
+pub(crate) enum Course<'a> {
+    // It shows its words and registers after two steps.
+    Shows,
+    // It stops, goes on and ends with the value 7.
+    GoesOn,
+    // It makes two children, and joins them.
+    Joins,
+    // It makes two children, the first of which has a descriptor.
+    Describes,
+    // It makes a child, which goes a course of its own.
+    Bears(ChildCourse<'a>),
+}
+
+fn goes_its_course<R: Abort + Wait>(
+    rt: &R,
+    alloc: Global,
+    vm: &mut Vm,
+    depot: &Depot,
+    course: Course<'_>,
+) -> Result<(), Fail>
+    requires { IsOfDepot depot.now vm.old.key }
+{
+    match course {
+        Course::Shows => runs_and_shows(rt, vm, depot),
+        Course::GoesOn => goes_on(rt, vm),
+        Course::Joins => joins_both(rt, alloc, vm, depot),
+        Course::Describes => describes_a_child(rt, alloc, vm, depot),
+        Course::Bears(child) => bears(rt, alloc, vm, depot, child),
+    }
+}
+
+fn machine_in_depot_does<R: Abort + Wait>(
+    rt: &R,
+    alloc: Global,
+    base: u32,
+    words: &[u32],
+    pages: u32,
+    course: Course<'_>,
+    depot: &Depot,
+) -> Result<(), Fail>
+    requires base { base % 4 ≡ 0 }
+    requires words { length words.now ≤ 64 }
+    requires least { 16 ≤ pages }
+    requires most { pages ≤ 1024 }
+{
+    let mut vm = booted_at(alloc, base, words, pages)?;
+    goes_its_course(rt, alloc, &mut vm, depot, course)
+}
+
+// The machine of these words, from a base on, with so many pages, goes its course.
+pub(crate) fn machine_does<R: Abort + Wait>(
+    rt: &R,
+    alloc: Global,
+    base: u32,
+    words: &[u32],
+    pages: u32,
+    course: Course<'_>,
+) -> Result<(), Fail>
+    requires base { base % 4 ≡ 0 }
+    requires words { length words.now ≤ 64 }
+    requires least { 16 ≤ pages }
+    requires most { pages ≤ 1024 }
+{
+    let depot = Depot::new(alloc)?;
+    machine_in_depot_does(rt, alloc, base, words, pages, course, &depot)
+}
+
+#[test]
+fn shows_words_and_registers(rt: HostRuntime) -> Result<(), Fail> {
+    machine_does(&rt, rt.alloc(), RAM_BASE, &EXIT_SEVEN, 64, Course::Shows)
+}
+
+// The machine that exits with 7, after two steps.
+fn runs_and_shows(rt: &impl Abort, vm: &mut Vm, depot: &Depot) -> Result<(), Fail>
+    requires { IsOfDepot depot.now vm.old.key }
+{
+    vm.run(2)?;
+    shows(rt, vm, depot);
+    Ok(())
+}
+
+fn shows(rt: &impl Abort, vm: &Vm, depot: &Depot)
+    requires { IsOfDepot depot.now vm.now.key }
+{
+    let words = [
+        vm.peek(depot, 0x8000_0004),
+        vm.peek(depot, 0x8003_fffc),
+        vm.peek(depot, 0x8000_0002),
+        vm.peek(depot, 0x8004_0000),
+    ];
+    assert_eq!(rt; words, [Some(0x0070_0313), Some(0), None, None]);
+    // x5 is the fork port, and x6 the value to exit with
+    let mut registers = [0; 32];
+    registers[0] = 0x8000_0008;
+    registers[5] = 0x1000_2000;
+    registers[6] = 7;
+    assert_eq!(rt; vm.regs(), registers);
+}
+
+#[test]
+fn stops_and_goes_on(rt: HostRuntime) -> Result<(), Fail> {
+    machine_does(&rt, rt.alloc(), RAM_BASE, &EXIT_SEVEN, 64, Course::GoesOn)
+}
+
+fn goes_on(rt: &impl Abort, vm: &mut Vm) -> Result<(), Fail> {
+    let (steps, stops) = gone_on(vm)?;
+    let ended = Stepped::Ended(Ending::Exit(7));
+    assert_eq!(rt; steps, [3, 0, 5]);
+    assert_eq!(rt; stops, [Stepped::Went, Stepped::Went, ended, ended]);
+    Ok(())
+}
+
+// How many steps a machine makes by a run, by a run after three more steps, and in all; and what comes of the first
+// run and of each of the three steps.
+fn gone_on(vm: &mut Vm) -> Result<([u64; 3], [Stepped; 4]), Fail> {
+    let ran = vm.run(3)?;
+    let first = vm.step()?;
+    let second = vm.step()?;
+    let third = vm.step()?;
+    let last = vm.run(3)?;
+    Ok((
+        [ran.steps, last.steps, vm.steps()],
+        [ran.why, first, second, third],
+    ))
+}
+
+// Makes the CLONE that a machine stands at, of a ticket for so many children.
+fn fork<R: Wait>(
+    rt: &R,
+    alloc: Global,
+    vm: &mut Vm,
+    children: u32,
+    depot: &Depot,
+) -> Result<Brood, Fail>
+    requires { IsOfDepot depot.now vm.old.key }
+    ensures here { IfOk result (λ brood. IsKeyOf depot.now brood.key) }
+    ensures seeds { IfOk result (λ brood. AreOfImage brood.key children brood.seed) }
+{
+    match vm.call() {
+        Some(Call::Clone(ticket)) if vm.granted(ticket) == children => {
+            Ok(vm.freeze_child(rt, alloc, depot)?)
+        }
+        _ => Err("no CLONE".into()),
+    }
+}
+
+// Runs a machine to its CLONE, and makes it.
+pub(crate) fn run_and_fork<R: Wait>(
+    rt: &R,
+    alloc: Global,
+    vm: &mut Vm,
+    children: u32,
+    depot: &Depot,
+) -> Result<Brood, Fail>
+    requires { IsOfDepot depot.now vm.old.key }
+    ensures here { IfOk result (λ brood. IsKeyOf depot.now brood.key) }
+    ensures seeds { IfOk result (λ brood. AreOfImage brood.key children brood.seed) }
+{
+    vm.run(1000)?;
+    fork(rt, alloc, vm, children, depot)
+}
+
+// How the two children of a brood end.
+fn ends_of(alloc: Global, brood: &Brood, depot: &Depot) -> Result<[Ending; 2], Fail>
+    requires here { IsKeyOf depot.now brood.now.key }
+    requires seeds { AreOfImage brood.now.key 2 brood.now.seed }
+{
+    Ok([
+        end_of(alloc, brood, 1, depot)?,
+        end_of(alloc, brood, 2, depot)?,
+    ])
+}
+
+// A child of a brood of two.
+fn child_of(alloc: Global, brood: &Brood, number: u32, depot: &Depot) -> Result<Vm, Fail>
+    requires here { IsKeyOf depot.now brood.now.key }
+    requires seeds { AreOfImage brood.now.key 2 brood.now.seed }
+    requires first { 1 ≤ number }
+    requires last { number ≤ 2 }
+    ensures { IfOk result (λ vm. IsOfDepot depot.now vm.key) }
+{
+    let seed = brood.seed.through_bytes(alloc, number)?;
+    Ok(Vm::wake(alloc, &seed, &brood.key, depot)?)
+}
+
+// How a child of a brood of two ends.
+fn end_of(alloc: Global, brood: &Brood, number: u32, depot: &Depot) -> Result<Ending, Fail>
+    requires here { IsKeyOf depot.now brood.now.key }
+    requires seeds { AreOfImage brood.now.key 2 brood.now.seed }
+    requires first { 1 ≤ number }
+    requires last { number ≤ 2 }
+{
+    let mut child = child_of(alloc, brood, number, depot)?;
+    run_fetching(alloc, &mut child, depot)
+}
+
+// Runs a clone to its end, which the page of its code is enough for. How it ends.
+fn run_fetching(alloc: Global, child: &mut Vm, depot: &Depot) -> Result<Ending, Fail>
+    requires { IsOfDepot depot.now child.old.key }
+{
+    bring(alloc, child, depot, 0)?;
+    child.run(1000)?;
+    Ok(child.ended().ok_or("a child lives")?)
+}
+
+// Makes the JOIN that a machine stands at.
+fn join(vm: &mut Vm, endings: &[Ending]) -> Result<(), Fail> {
+    match vm.call() {
+        Some(Call::Join(ticket)) if endings.len() == vm.granted(ticket) as usize => {
+            Ok(vm.joined(endings)?)
+        }
+        _ => Err("no such JOIN".into()),
+    }
+}
+
+#[test]
+fn a_parent_joins_its_children(rt: HostRuntime) -> Result<(), Fail> {
+    machine_does(&rt, rt.alloc(), RAM_BASE, &TWO_CHILDREN, 64, Course::Joins)
+}
+
+// Runs a machine to its CLONE, both children to their ends, and the machine then to its own.
+fn joins_both<R: Abort + Wait>(
+    rt: &R,
+    alloc: Global,
+    vm: &mut Vm,
+    depot: &Depot,
+) -> Result<(), Fail>
+    requires { IsOfDepot depot.now vm.old.key }
+{
+    let first = vm.run(1000)?.why;
+    let endings = ends_of_both(rt, alloc, vm, depot)?;
+    are_born_and_end(rt, first, endings);
+    ends_with_the_first(rt, vm, &endings)
+}
+
+fn are_born_and_end(rt: &impl Abort, first: Stepped, endings: [Ending; 2]) {
+    assert_eq!(rt; first, Stepped::Call(Call::Clone(1)));
+    assert_eq!(rt; endings, [Ending::Exit(41), Ending::Exit(42)]);
+}
+
+fn ends_of_both<R: Wait>(
+    rt: &R,
+    alloc: Global,
+    vm: &mut Vm,
+    depot: &Depot,
+) -> Result<[Ending; 2], Fail>
+    requires { IsOfDepot depot.now vm.old.key }
+{
+    let brood = fork(rt, alloc, vm, 2, depot)?;
+    ends_of(alloc, &brood, depot)
+}
+
+// Makes the JOIN at which a machine stands, and tells at what it stood, and at what it stands then.
+fn stops_around_join(vm: &mut Vm, endings: &[Ending]) -> Result<[Stepped; 2], Fail> {
+    let joins = vm.run(1000)?.why;
+    join(vm, endings)?;
+    let ended = vm.run(1000)?.why;
+    Ok([joins, ended])
+}
+
+fn ends_with_the_first(rt: &impl Abort, vm: &mut Vm, endings: &[Ending]) -> Result<(), Fail> {
+    let stops = stops_around_join(vm, endings)?;
+    let ended = Stepped::Ended(Ending::Exit(41));
+    assert_eq!(rt; stops, [Stepped::Call(Call::Join(1)), ended]);
+    assert_eq!(rt; vm.steps(), 21);
+    Ok(())
+}
+
+/// Bytes of the descriptor of the first child, by their places.
+static FIRST_CHILD: [(usize, &[u8]); 10] = [
+    (0, b"SFD1"),
+    (12, b"\x01\0\0\0\0\0\0\0\x28\0\0\x80"),
+    (40, b"\0\x20\0\x10\x02\0\0\0\x01\0\0\0"),
+    (148, b"\0\x18\0\0"),
+    (200, b"\xff\xff\xff\xff\xff\xff\xff\xff"),
+    (208, b"\x0a\0\0\0\0\0\0\0\x40\x42\x0f\0\0\0\0\0"),
+    (224, b"\0\0\0\0\0\0\0\0"),
+    (248, b"\x01\0\0\0"),
+    (260, b"\x02\0\0\0"),
+    (776, b"\xfe\xff"),
+];
+
+/// Changes of those bytes, each a place and a byte, and the reason for which they are refused.
+static REFUSED: [(usize, u8, u32); 5] = [
+    (0, 0, 2),
+    (8, 0x0f, 3),
+    (8, 0x11, 4),
+    (12, 0, 5),
+    (20, 0x29, 5),
+];
+
+// Whether bytes are refused so.
+fn is_refused(alloc: Global, bytes: &[u8], number: u32) -> bool {
+    match Descriptor::decode(alloc, bytes) {
+        Err(error) => error == DescError::Refused(number),
+        Ok(_) => false,
+    }
+}
+
+/// The bytes of the descriptor of the first child of a machine that comes to its CLONE.
+fn seed_of<R: Wait>(rt: &R, alloc: Global, vm: &mut Vm, depot: &Depot) -> Result<Vec<u8>, Fail>
+    requires { IsOfDepot depot.now vm.old.key }
+{
+    let brood = run_and_fork(rt, alloc, vm, 2, depot)?;
+    bytes_of(alloc, &brood)
+}
+
+fn bytes_of(alloc: Global, brood: &Brood) -> Result<Vec<u8>, Fail> {
+    Ok(Vec::from_slice(alloc, brood.seed.bytes())?)
+}
+
+#[test]
+fn a_descriptor_goes_through_its_bytes(rt: HostRuntime) -> Result<(), Fail> {
+    machine_does(
+        &rt,
+        rt.alloc(),
+        RAM_BASE,
+        &TWO_CHILDREN,
+        16,
+        Course::Describes,
+    )
+}
+
+fn describes_a_child<R: Abort + Wait>(
+    rt: &R,
+    alloc: Global,
+    vm: &mut Vm,
+    depot: &Depot,
+) -> Result<(), Fail>
+    requires { IsOfDepot depot.now vm.old.key }
+{
+    let mut bytes = seed_of(rt, alloc, vm, depot)?;
+    is_read_or_refused(rt, alloc, &mut bytes)
+}
+
+fn is_read_or_refused(rt: &impl Abort, alloc: Global, bytes: &mut Vec<u8>) -> Result<(), Fail> {
+    assert_eq!(rt; (bytes.len(), misplaced(bytes)), (778, None));
+    is_spelled(rt, alloc, bytes)?;
+    is_refused_where_cut(rt, alloc, bytes);
+    is_refused_where_changed(rt, alloc, bytes)?;
+    is_refused_where_longer(rt, alloc, bytes)
+}
+
+// The first place at which bytes do not stand as the table tells, if there is one.
+fn misplaced(bytes: &[u8]) -> Option<usize> {
+    for (at, part) in FIRST_CHILD.iter() {
+        if !bytes.split_at(*at.min(&bytes.len())).1.starts_with(part) {
+            return Some(*at);
+        }
+    }
+    None
+}
+
+// The bytes of what bytes are read as.
+fn spelled(alloc: Global, bytes: &[u8]) -> Result<Vec<u8>, DescError> {
+    let descriptor = Descriptor::decode(alloc, bytes)?;
+    Ok(descriptor.encode(alloc)?)
+}
+
+fn is_spelled(rt: &impl Abort, alloc: Global, bytes: &[u8]) -> Result<(), Fail> {
+    let again = spelled(alloc, bytes)?;
+    assert_eq!(rt; again.as_slice(), bytes);
+    Ok(())
+}
+
+// Whether the first so many bytes are refused so.
+fn is_refused_cut(alloc: Global, bytes: &[u8], length: usize, number: u32) -> bool {
+    is_refused(alloc, bytes.split_at(length.min(bytes.len())).0, number)
+}
+
+// Whether bytes with another byte at a place are refused so.
+fn is_refused_with(
+    alloc: Global,
+    bytes: &[u8],
+    at: usize,
+    byte: u8,
+    number: u32,
+) -> Result<bool, AllocError> {
+    let mut changed = Vec::from_slice(alloc, bytes)?;
+    if let Some(old) = changed.get_mut(at) {
+        *old = byte;
+    }
+    Ok(is_refused(alloc, &changed, number))
+}
+
+fn is_refused_where_cut(rt: &impl Abort, alloc: Global, bytes: &[u8]) {
+    let cut = [
+        is_refused_cut(alloc, bytes, 775, 1),
+        is_refused_cut(alloc, bytes, 777, 4),
+    ];
+    assert_eq!(rt; cut, [true; 2]);
+}
+
+fn is_refused_where_changed(rt: &impl Abort, alloc: Global, bytes: &[u8]) -> Result<(), Fail> {
+    for (at, byte, number) in REFUSED.iter() {
+        is_refused_at(rt, alloc, bytes, *at, *byte, *number)?;
+    }
+    Ok(())
+}
+
+fn is_refused_at(
+    rt: &impl Abort,
+    alloc: Global,
+    bytes: &[u8],
+    at: usize,
+    byte: u8,
+    number: u32,
+) -> Result<(), Fail> {
+    let refused = is_refused_with(alloc, bytes, at, byte, number)?;
+    assert!(rt; refused, "at {at}");
+    Ok(())
+}
+
+fn is_refused_where_longer(
+    rt: &impl Abort,
+    alloc: Global,
+    bytes: &mut Vec<u8>,
+) -> Result<(), Fail> {
+    bytes.push(0xff)?;
+    let longer = is_refused(alloc, bytes, 4);
+    if let Some(pages) = bytes.get_mut(8) {
+        *pages = 20;
+    }
+    assert_eq!(rt; [longer, is_refused(alloc, bytes, 6)], [true; 2]);
+    Ok(())
+}
