@@ -3,7 +3,11 @@
 /// The most slices that are run at once.
 const MOST_SLICES: u64 = 256;
 
-/// The steps of a worker's next stretch: a slice at first, and twice as many after each that its machine made whole.
+/// How many times as long as the last a stretch is. Each begins with an empty cache of decoded instructions, so few that
+/// grow fast are better than many.
+const GROWTH: u64 = 4;
+
+/// The steps of a worker's next stretch: a slice at first, and `GROWTH` times as many after each that its machine made whole.
 #[derive(Drop)]
 pub(crate) struct Pace {
     slice: u64,
@@ -24,7 +28,7 @@ impl Pace {
 
     pub(crate) fn lengthen(&mut self) {
         let most = self.slice.saturating_mul(MOST_SLICES);
-        self.steps = self.steps.saturating_mul(2).min(most);
+        self.steps = self.steps.saturating_mul(GROWTH).min(most);
     }
 
     pub(crate) fn begin_anew(&mut self) {

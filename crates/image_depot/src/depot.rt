@@ -18,11 +18,21 @@ use std::thread;
 
 /// All frozen images, and all replies that were sent. Threads share it, and what was put into it stays
 /// there until the depot ends.
-#[derive(Drop)]
 pub struct Depot {
     images: boxcar::Vec<Frozen>,
     replies: boxcar::Vec<Parcel>,
     alloc: Global,
+}
+
+// By hand, since what a derive gives is proved in each crate above, for each type within.
+impl Drop for Depot {
+    fn drop(self) {
+        let Depot {
+            images: _,
+            replies: _,
+            alloc: _,
+        } = self;
+    }
 }
 
 impl Model for Depot {

@@ -2,7 +2,7 @@
 
 mod guests;
 
-use crate::equal::are_equal;
+use crate::equal::{are_equal, made};
 use elf_load::{ImageError, load_elf};
 use guests::{
     ECHO_BYTE, ECHO_BYTE_WORDS, EXIT_SEVEN, EXIT_SEVEN_WORDS, GRANDCHILD, GRANDCHILD_WORDS,
@@ -14,7 +14,7 @@ use guests::{
 };
 use rv_asm::{AsmError, MAX_WORDS, Program, elf_of, encode, takes_label};
 use rv_decode::{Instr, Kind};
-use std::alloc::{AllocError, Global};
+use std::alloc::Global;
 use std::process::Abort;
 
 /// Where the example guests are loaded.
@@ -118,66 +118,56 @@ fn assembled(rt: &impl Abort, alloc: Global, lines: &[Line]) -> Result<Vec<u32>,
 const NOTHING: Line = Line::Immediate(Kind::Addi, 0, 0, 0);
 
 /// The image of these words.
-fn image_of(alloc: Global, words: &[u32]) -> Result<Vec<u8>, AllocError> {
+fn image_of(rt: &impl Abort, alloc: Global, words: &[u32]) -> Vec<u8> {
     let size = u32::try_from(4 * words.len().min(MAX_WORDS)).unwrap_or(0);
-    let mut image = Vec::from_slice(alloc, &HEADERS)?;
-    for field in [size, size, 7, 4] {
-        image.extend_from_slice(&field.to_le_bytes())?;
-    }
+    let mut image = made(rt, Vec::from_slice(alloc, &HEADERS));
+    push_words(rt, &mut image, &[size, size, 7, 4]);
+    push_words(rt, &mut image, words);
+    image
+}
+
+/// Adds words, their lowest bytes first.
+fn push_words(rt: &impl Abort, image: &mut Vec<u8>, words: &[u32]) {
     for word in words {
-        image.extend_from_slice(&word.to_le_bytes())?;
+        made(rt, image.extend_from_slice(&word.to_le_bytes()));
     }
-    Ok(image)
 }
 
 /// The image of these words is that of the words that are wanted.
-fn is_image_of(
-    rt: &impl Abort,
-    alloc: Global,
-    words: &[u32],
-    want: &[u32],
-) -> Result<(), AllocError> {
+fn is_image_of(rt: &impl Abort, alloc: Global, words: &[u32], want: &[u32]) {
     are_equal(rt, &words, &want);
     assert!(rt; words.len() <= MAX_WORDS);
-    let image = elf_of(alloc, BASE, words)?;
-    let stored = image_of(alloc, want)?;
+    let image = made(rt, elf_of(alloc, BASE, words));
+    let stored = image_of(rt, alloc, want);
     are_equal(rt, &image.as_slice(), &stored.as_slice());
-    Ok(())
 }
 
 /// These lines are assembled to the words that are wanted.
-fn is_assembled(
-    rt: &impl Abort,
-    alloc: Global,
-    lines: &[Line],
-    want: &[u32],
-) -> Result<(), AsmError> {
-    let words = assembled(rt, alloc, lines)?;
-    is_image_of(rt, alloc, &words, want)?;
-    Ok(())
+fn is_assembled(rt: &impl Abort, alloc: Global, lines: &[Line], want: &[u32]) {
+    let words = made(rt, assembled(rt, alloc, lines));
+    is_image_of(rt, alloc, &words, want);
+}
+
+fn are_assembled(rt: &impl Abort, alloc: Global) {
+    is_assembled(rt, alloc, &EXIT_SEVEN, &EXIT_SEVEN_WORDS);
+    is_assembled(rt, alloc, &PRINT_LETTER, &PRINT_LETTER_WORDS);
+    is_assembled(rt, alloc, &ECHO_BYTE, &ECHO_BYTE_WORDS);
+    is_assembled(rt, alloc, &TRAP_HANDLER, &TRAP_HANDLER_WORDS);
+    is_assembled(rt, alloc, &VECTORED_INTERRUPT, &VECTORED_INTERRUPT_WORDS);
+    is_assembled(rt, alloc, &TEN_TICKS, &TEN_TICKS_WORDS);
+    is_assembled(rt, alloc, &LOOP_COMPUTE, &LOOP_COMPUTE_WORDS);
+    is_assembled(rt, alloc, &LOOP_MEMORY, &LOOP_MEMORY_WORDS);
+    is_assembled(rt, alloc, &LOOP_MULTIPLY, &LOOP_MULTIPLY_WORDS);
+    is_assembled(rt, alloc, &TWO_CHILDREN, &TWO_CHILDREN_WORDS);
+    is_assembled(rt, alloc, &KILL_THEN_JOIN, &KILL_THEN_JOIN_WORDS);
+    is_assembled(rt, alloc, &GRANDCHILD, &GRANDCHILD_WORDS);
+    is_assembled(rt, alloc, &ZEROED_PAGE, &ZEROED_PAGE_WORDS);
+    is_assembled(rt, alloc, &TIMER_AT_FORK, &TIMER_AT_FORK_WORDS);
 }
 
 #[test]
-fn assembles_the_example_guests(rt: HostRuntime) -> Result<(), AsmError> {
-    is_assembled(&rt, rt.alloc(), &EXIT_SEVEN, &EXIT_SEVEN_WORDS)?;
-    is_assembled(&rt, rt.alloc(), &PRINT_LETTER, &PRINT_LETTER_WORDS)?;
-    is_assembled(&rt, rt.alloc(), &ECHO_BYTE, &ECHO_BYTE_WORDS)?;
-    is_assembled(&rt, rt.alloc(), &TRAP_HANDLER, &TRAP_HANDLER_WORDS)?;
-    is_assembled(
-        &rt,
-        rt.alloc(),
-        &VECTORED_INTERRUPT,
-        &VECTORED_INTERRUPT_WORDS,
-    )?;
-    is_assembled(&rt, rt.alloc(), &TEN_TICKS, &TEN_TICKS_WORDS)?;
-    is_assembled(&rt, rt.alloc(), &LOOP_COMPUTE, &LOOP_COMPUTE_WORDS)?;
-    is_assembled(&rt, rt.alloc(), &LOOP_MEMORY, &LOOP_MEMORY_WORDS)?;
-    is_assembled(&rt, rt.alloc(), &LOOP_MULTIPLY, &LOOP_MULTIPLY_WORDS)?;
-    is_assembled(&rt, rt.alloc(), &TWO_CHILDREN, &TWO_CHILDREN_WORDS)?;
-    is_assembled(&rt, rt.alloc(), &KILL_THEN_JOIN, &KILL_THEN_JOIN_WORDS)?;
-    is_assembled(&rt, rt.alloc(), &GRANDCHILD, &GRANDCHILD_WORDS)?;
-    is_assembled(&rt, rt.alloc(), &ZEROED_PAGE, &ZEROED_PAGE_WORDS)?;
-    is_assembled(&rt, rt.alloc(), &TIMER_AT_FORK, &TIMER_AT_FORK_WORDS)
+fn assembles_the_example_guests(rt: HostRuntime) {
+    are_assembled(&rt, rt.alloc());
 }
 
 /// Three lines, and their first and last word and how many there are.
@@ -278,30 +268,28 @@ fn names_the_first_error(rt: HostRuntime) {
 }
 
 /// Places the label 1 a second time, between its place and a jump to it.
-fn place_twice(rt: &impl Abort, program: &mut Program) -> Result<(), AsmError> {
-    program.place_label(1)?;
-    add_line(rt, program, NOTHING)?;
+fn place_twice(rt: &impl Abort, program: &mut Program) {
+    made(rt, program.place_label(1));
+    made(rt, add_line(rt, program, NOTHING));
     are_equal(
         rt,
         &program.place_label(1),
         &Err(AsmError::LabelPlacedTwice),
     );
-    add_line(rt, program, Line::Jump(0, 1))?;
+    made(rt, add_line(rt, program, Line::Jump(0, 1)));
     are_equal(rt, &program.base(), &BASE);
-    Ok(())
 }
 
 #[test]
-fn a_label_that_is_placed_twice_stays(rt: HostRuntime) -> Result<(), AsmError> {
+fn a_label_that_is_placed_twice_stays(rt: HostRuntime) {
     let mut program = Program::new(rt.alloc(), BASE);
-    place_twice(&rt, &mut program)?;
-    let words = program.finish()?;
+    place_twice(&rt, &mut program);
+    let words = made(&rt, program.finish());
     are_equal(
         &rt,
         &words.as_slice(),
         &[0x0000_0013, 0xffdf_f06f].as_slice(),
     );
-    Ok(())
 }
 
 fn add_nothing(rt: &impl Abort, program: &mut Program, count: usize) -> Result<(), AsmError> {
@@ -404,24 +392,18 @@ static PLACES: [(u32, usize, Result<u32, ImageError>); 6] = [
 ];
 
 /// Where the image of these words is entered.
-fn entry_of(
-    rt: &impl Abort,
-    alloc: Global,
-    base: u32,
-    words: &[u32],
-) -> Result<Result<u32, ImageError>, AllocError> {
+fn entry_of(rt: &impl Abort, alloc: Global, base: u32, words: &[u32]) -> Result<u32, ImageError> {
     assert!(rt; base % 4 == 0);
     assert!(rt; words.len() <= MAX_WORDS);
-    let image = elf_of(alloc, base, words)?;
-    Ok(load_elf(alloc, &image, 16).map(|loaded| loaded.entry()))
+    let image = made(rt, elf_of(alloc, base, words));
+    load_elf(alloc, &image, 16).map(|loaded| loaded.entry())
 }
 
 #[test]
-fn images_are_loaded_where_they_fit(rt: HostRuntime) -> Result<(), AllocError> {
+fn images_are_loaded_where_they_fit(rt: HostRuntime) {
     let words = [0x0000_0013; 2];
     for &(base, count, want) in PLACES.iter() {
-        let entry = entry_of(&rt, rt.alloc(), base, words.get(..count).unwrap_or(&[]))?;
+        let entry = entry_of(&rt, rt.alloc(), base, words.get(..count).unwrap_or(&[]));
         are_equal(&rt, &(count, base, entry), &(count, base, want));
     }
-    Ok(())
 }

@@ -1,7 +1,6 @@
 //! The fates of replies: those that seeds draw, and those of a list.
 
-use crate::equal::are_equal;
-use std::alloc::AllocError;
+use crate::equal::{are_equal, made};
 use std::process::Abort;
 use wire_fates::{Fate, LONGEST_STREAK, MAX_SEEDED_STREAK, Scripted, Seeded, Wire};
 
@@ -24,15 +23,14 @@ fn a_seed_draws_fates(rt: HostRuntime) {
 }
 
 #[test]
-fn a_list_is_told_and_then_all_is_given(rt: HostRuntime) -> Result<(), AllocError> {
-    let fates = vec![in rt.alloc(); Fate::Again(7), Fate::Lose(4)]?;
-    let mut wire = Scripted::new(fates);
+fn a_list_is_told_and_then_all_is_given(rt: HostRuntime) {
+    let fates = vec![in rt.alloc(); Fate::Again(7), Fate::Lose(4)];
+    let mut wire = Scripted::new(made(&rt, fates));
     are_next(
         &rt,
         &mut wire,
         &[Fate::Again(2), Fate::Lose(4), Fate::Give(0)],
     );
-    Ok(())
 }
 
 #[test]

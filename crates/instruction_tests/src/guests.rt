@@ -1,9 +1,9 @@
 //! Guests of a few seeds: their lengths, checksums and first words.
 
-use crate::equal::are_equal;
-use elf_load::{ImageError, load_elf};
+use crate::equal::{are_equal, made};
+use elf_load::load_elf;
 use guest_gen::guest_of;
-use std::alloc::{AllocError, Global};
+use std::alloc::Global;
 use std::process::Abort;
 
 /// The bytes of an image before its words.
@@ -41,12 +41,12 @@ fn fnv_1a(bytes: &[u8]) -> u64 {
 }
 
 /// The bytes of these words, lowest first.
-fn bytes_of(alloc: Global, words: &[u32]) -> Result<Vec<u8>, AllocError> {
+fn bytes_of(rt: &impl Abort, alloc: Global, words: &[u32]) -> Vec<u8> {
     let mut bytes = Vec::new(alloc);
     for word in words {
-        bytes.extend_from_slice(&word.to_le_bytes())?;
+        made(rt, bytes.extend_from_slice(&word.to_le_bytes()));
     }
-    Ok(bytes)
+    bytes
 }
 
 /// The image has so many words, these first, and this hash.
@@ -58,46 +58,38 @@ fn is_guest(rt: &impl Abort, image: &[u8], words: usize, hash: u64, first: &[u8]
     are_equal(rt, &found, &(words, hash));
 }
 
-fn generates(
-    rt: &impl Abort,
-    alloc: Global,
-    row: &(u32, usize, u64, [u32; 9]),
-) -> Result<(), AllocError> {
+fn generates(rt: &impl Abort, alloc: Global, row: &(u32, usize, u64, [u32; 9])) {
     let (seed, words, hash, first) = row;
-    let image = guest_of(alloc, *seed)?;
-    let first = bytes_of(alloc, first)?;
+    let image = made(rt, guest_of(alloc, *seed));
+    let first = bytes_of(rt, alloc, first);
     is_guest(rt, &image, *words, *hash, &first);
-    Ok(())
 }
 
 #[test]
-fn generates_the_guests_of_seeds(rt: HostRuntime) -> Result<(), AllocError> {
+fn generates_the_guests_of_seeds(rt: HostRuntime) {
     for row in GUESTS.iter() {
-        generates(&rt, rt.alloc(), row)?;
+        generates(&rt, rt.alloc(), row);
     }
-    Ok(())
 }
 
 /// The pages of RAM that a guest wants.
 const PAGES: u32 = 64;
 
 /// The headers and at most 16 pages, and the loader takes it.
-fn fits(rt: &impl Abort, alloc: Global, image: &[u8]) -> Result<(), ImageError> {
+fn fits(rt: &impl Abort, alloc: Global, image: &[u8]) {
     are_equal(rt, &(image.len() <= HEADERS_SIZE + 16 * 4096), &true);
-    let loaded = load_elf(alloc, image, PAGES)?;
+    let loaded = made(rt, load_elf(alloc, image, PAGES));
     are_equal(rt, &loaded.entry(), &0x8000_0000);
-    Ok(())
 }
 
-fn is_loaded(rt: &impl Abort, alloc: Global, seed: u32) -> Result<(), ImageError> {
-    let image = guest_of(alloc, seed)?;
-    fits(rt, alloc, &image)
+fn is_loaded(rt: &impl Abort, alloc: Global, seed: u32) {
+    let image = made(rt, guest_of(alloc, seed));
+    fits(rt, alloc, &image);
 }
 
 #[test]
-fn guests_are_loaded(rt: HostRuntime) -> Result<(), ImageError> {
+fn guests_are_loaded(rt: HostRuntime) {
     for seed in 0..64 {
-        is_loaded(&rt, rt.alloc(), seed)?;
+        is_loaded(&rt, rt.alloc(), seed);
     }
-    Ok(())
 }

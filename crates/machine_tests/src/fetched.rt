@@ -3,13 +3,13 @@
 ghost use Rattle.vm_cell.specs.Keyed.{IsOfDepot};
 
 use crate::absent::{ChildCourse, child_does};
+use crate::equal::are_equal;
 use elf_load::RAM_BASE;
 use host_fetch::{FetchError, fetch};
 use image_depot::Depot;
-use std::alloc::Global;
+use std::alloc::{AllocError, Global};
 use std::process::Abort;
 use std::sync::Wait;
-use std::test::Fail;
 use vm_cell::Vm;
 use wire_fates::{Fate, Scripted};
 
@@ -23,7 +23,7 @@ static GRANDCHILD: [u32; 40] = [
 ];
 
 #[test]
-fn a_child_fetches_a_page_and_the_next(rt: HostRuntime) -> Result<(), Fail> {
+fn a_child_fetches_a_page_and_the_next(rt: HostRuntime) -> Result<(), AllocError> {
     child_does(&rt, rt.alloc(), RAM_BASE, &GRANDCHILD, ChildCourse::Fetches)
 }
 
@@ -32,14 +32,12 @@ pub(crate) fn fetches_two<R: Abort + Wait>(
     alloc: Global,
     child: &mut Vm,
     depot: &Depot,
-) -> Result<(), Fail>
+) -> Result<(), AllocError>
     requires { IsOfDepot depot.now child.old.key }
 {
     let fetched = fetched_of(rt, alloc, child, depot)?;
-    assert_eq!(rt;
-        fetched,
-        ([false, false, true], Ok(()), [true, true, true], 2)
-    );
+    let want = ([false, false, true], Ok(()), [true, true, true], 2);
+    are_equal(rt, &fetched, &want);
     Ok(())
 }
 
@@ -53,7 +51,7 @@ fn fetched_of<R: Wait>(
     alloc: Global,
     child: &mut Vm,
     depot: &Depot,
-) -> Result<Fetched, Fail>
+) -> Result<Fetched, AllocError>
     requires { IsOfDepot depot.now child.old.key }
 {
     let mut wire = Scripted::new(vec![in alloc; Fate::Give(1), Fate::Give(0)]?);

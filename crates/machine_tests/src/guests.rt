@@ -1,15 +1,14 @@
 //! Guests of a few words.
 
-ghost use Rattle.std.specs.Prelude.{◌≡◌, ◌≤◌, ◌%◌, [], length, IfOk, None};
+ghost use Rattle.std.specs.Prelude.{◌≡◌, ◌≤◌, ◌%◌, [], length, IfOk, None, OnOk};
 ghost use Rattle.forest_model.specs.Forest.{port_of};
 
 use cow_disk::Disk;
 use elf_load::{Loaded, load_elf};
 use forest_model::Options;
 use rv_asm::elf_of;
-use std::alloc::Global;
-use std::test::Fail;
-use vm_cell::Vm;
+use std::alloc::{AllocError, Global};
+use vm_cell::{Ran, Stepped, Vm};
 
 // Two children that exit with 40 and their number, whom the parent joins, to exit with the value of the
 // first.
@@ -20,33 +19,47 @@ pub(crate) static TWO_CHILDREN: [u32; 25] = [
     0x0062a423,
 ];
 
+// A disk without sectors. It is refused where memory is wanting alone.
+pub(crate) fn no_disk(alloc: Global) -> Result<Disk, AllocError> {
+    Disk::from_bytes(alloc, b"").ok().ok_or(AllocError)
+}
+
 // The machine of an image, that makes at most 1,000,000 steps and may have two clones.
 #[tactic(auto, unfolding(forest_model::specs::Machine::boot))]
-fn booted_of(alloc: Global, image: &Loaded) -> Result<Vm, Fail>
+fn booted_of(alloc: Global, image: &Loaded) -> Result<Vm, AllocError>
     ensures no_ticket { IfOk result (λ vm. (port_of vm.machine).tickets ≡ []) }
     ensures no_image { IfOk result (λ vm. vm.key ≡ None) }
 {
-    let disk = Disk::from_bytes(alloc, b"")?;
     let options = Options {
         limit: 1_000_000,
         allot: 2,
     };
-    Ok(Vm::boot(alloc, image, disk, b"", options)?)
+    Vm::boot(alloc, image, no_disk(alloc)?, b"", options)
 }
 
-// The image of these words from a base on, in RAM of so many pages.
-pub(crate) fn loaded_at(alloc: Global, base: u32, words: &[u32], pages: u32) -> Result<Loaded, Fail>
+// The image of these words from a base on, in RAM of so many pages. It is refused where memory is wanting alone.
+pub(crate) fn loaded_at(
+    alloc: Global,
+    base: u32,
+    words: &[u32],
+    pages: u32,
+) -> Result<Loaded, AllocError>
     requires base { base % 4 ≡ 0 }
     requires words { length words.now ≤ 64 }
     requires least { 16 ≤ pages }
     requires most { pages ≤ 1024 }
 {
     let file = elf_of(alloc, base, words)?;
-    Ok(load_elf(alloc, &file, pages)?)
+    load_elf(alloc, &file, pages).ok().ok_or(AllocError)
 }
 
 // The machine of these words, from a base on, with so many pages.
-pub(crate) fn booted_at(alloc: Global, base: u32, words: &[u32], pages: u32) -> Result<Vm, Fail>
+pub(crate) fn booted_at(
+    alloc: Global,
+    base: u32,
+    words: &[u32],
+    pages: u32,
+) -> Result<Vm, AllocError>
     requires base { base % 4 ≡ 0 }
     requires words { length words.now ≤ 64 }
     requires least { 16 ≤ pages }
@@ -56,4 +69,18 @@ pub(crate) fn booted_at(alloc: Global, base: u32, words: &[u32], pages: u32) -> 
 {
     let image = loaded_at(alloc, base, words, pages)?;
     booted_of(alloc, &image)
+}
+
+// Lets a machine make at most so many steps.
+pub(crate) fn run(vm: &mut Vm, most: u64) -> Result<Ran, AllocError>
+    ensures { OnOk result (vm.new.key ≡ vm.old.key) }
+{
+    Ok(vm.run(most)?)
+}
+
+// Lets a machine make one step.
+pub(crate) fn step(vm: &mut Vm) -> Result<Stepped, AllocError>
+    ensures { vm.new.key ≡ vm.old.key }
+{
+    vm.step()
 }

@@ -7,6 +7,8 @@
 #[cfg(test)]
 mod absent;
 #[cfg(test)]
+mod equal;
+#[cfg(test)]
 mod fetched;
 #[cfg(test)]
 mod guests;

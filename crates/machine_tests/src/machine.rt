@@ -6,7 +6,8 @@ ghost use Rattle.vm_cell.specs.Keyed.{IsOfDepot};
 ghost use Rattle.vm_cell.specs.Woken.{AreOfImage};
 
 use crate::absent::{ChildCourse, bears, bring};
-use crate::guests::{TWO_CHILDREN, booted_at};
+use crate::equal::are_equal;
+use crate::guests::{TWO_CHILDREN, booted_at, run, step};
 use elf_load::RAM_BASE;
 use forest_model::Ending;
 use fork_port::Call;
@@ -14,14 +15,13 @@ use image_depot::Depot;
 use std::alloc::{AllocError, Global};
 use std::process::Abort;
 use std::sync::Wait;
-use std::test::Fail;
 use vm_cell::{Brood, Stepped, Vm};
 use vm_descriptor::{DescError, Descriptor};
 
 static EXIT_SEVEN: [u32; 5] = [0x100022b7, 0x00700313, 0x0062a023, 0x00500313, 0x0062a423];
 
 // What a machine does once it is made.
-#[derive(Clone, Copy)]
+#[derive(Drop)]
 pub(crate) enum Course<'a> {
     // It shows its words and registers after two steps.
     Shows,
@@ -40,8 +40,8 @@ fn goes_its_course<R: Abort + Wait>(
     alloc: Global,
     vm: &mut Vm,
     depot: &Depot,
-    course: Course<'_>,
-) -> Result<(), Fail>
+    course: &Course<'_>,
+) -> Result<(), AllocError>
     requires { IsOfDepot depot.now vm.old.key }
 {
     match course {
@@ -59,9 +59,9 @@ fn machine_in_depot_does<R: Abort + Wait>(
     base: u32,
     words: &[u32],
     pages: u32,
-    course: Course<'_>,
+    course: &Course<'_>,
     depot: &Depot,
-) -> Result<(), Fail>
+) -> Result<(), AllocError>
     requires base { base % 4 ≡ 0 }
     requires words { length words.now ≤ 64 }
     requires least { 16 ≤ pages }
@@ -78,8 +78,8 @@ pub(crate) fn machine_does<R: Abort + Wait>(
     base: u32,
     words: &[u32],
     pages: u32,
-    course: Course<'_>,
-) -> Result<(), Fail>
+    course: &Course<'_>,
+) -> Result<(), AllocError>
     requires base { base % 4 ≡ 0 }
     requires words { length words.now ≤ 64 }
     requires least { 16 ≤ pages }
@@ -90,15 +90,15 @@ pub(crate) fn machine_does<R: Abort + Wait>(
 }
 
 #[test]
-fn shows_words_and_registers(rt: HostRuntime) -> Result<(), Fail> {
-    machine_does(&rt, rt.alloc(), RAM_BASE, &EXIT_SEVEN, 64, Course::Shows)
+fn shows_words_and_registers(rt: HostRuntime) -> Result<(), AllocError> {
+    machine_does(&rt, rt.alloc(), RAM_BASE, &EXIT_SEVEN, 64, &Course::Shows)
 }
 
 // The machine that exits with 7, after two steps.
-fn runs_and_shows(rt: &impl Abort, vm: &mut Vm, depot: &Depot) -> Result<(), Fail>
+fn runs_and_shows(rt: &impl Abort, vm: &mut Vm, depot: &Depot) -> Result<(), AllocError>
     requires { IsOfDepot depot.now vm.old.key }
 {
-    vm.run(2)?;
+    run(vm, 2)?;
     shows(rt, vm, depot);
     Ok(())
 }
@@ -112,50 +112,51 @@ fn shows(rt: &impl Abort, vm: &Vm, depot: &Depot)
         vm.peek(depot, 0x8000_0002),
         vm.peek(depot, 0x8004_0000),
     ];
-    assert_eq!(rt; words, [Some(0x0070_0313), Some(0), None, None]);
+    are_equal(rt, &words, &[Some(0x0070_0313), Some(0), None, None]);
     // x5 is the fork port, and x6 the value to exit with
     let mut registers = [0; 32];
     registers[0] = 0x8000_0008;
     registers[5] = 0x1000_2000;
     registers[6] = 7;
-    assert_eq!(rt; vm.regs(), registers);
+    are_equal(rt, &vm.regs(), &registers);
 }
 
 #[test]
-fn stops_and_goes_on(rt: HostRuntime) -> Result<(), Fail> {
-    machine_does(&rt, rt.alloc(), RAM_BASE, &EXIT_SEVEN, 64, Course::GoesOn)
+fn stops_and_goes_on(rt: HostRuntime) -> Result<(), AllocError> {
+    machine_does(&rt, rt.alloc(), RAM_BASE, &EXIT_SEVEN, 64, &Course::GoesOn)
 }
 
-fn goes_on(rt: &impl Abort, vm: &mut Vm) -> Result<(), Fail> {
-    let (steps, stops) = gone_on(vm)?;
+fn goes_on(rt: &impl Abort, vm: &mut Vm) -> Result<(), AllocError> {
+    let went = gone_on(vm)?;
     let ended = Stepped::Ended(Ending::Exit(7));
-    assert_eq!(rt; steps, [3, 0, 5]);
-    assert_eq!(rt; stops, [Stepped::Went, Stepped::Went, ended, ended]);
+    let stops = [Stepped::Went, Stepped::Went, ended, ended];
+    are_equal(rt, &went, &([3, 0, 5], stops));
     Ok(())
 }
 
 // How many steps a machine makes by a run, by a run after three more steps, and in all; and what comes of the first
 // run and of each of the three steps.
-fn gone_on(vm: &mut Vm) -> Result<([u64; 3], [Stepped; 4]), Fail> {
-    let ran = vm.run(3)?;
-    let first = vm.step()?;
-    let second = vm.step()?;
-    let third = vm.step()?;
-    let last = vm.run(3)?;
+fn gone_on(vm: &mut Vm) -> Result<([u64; 3], [Stepped; 4]), AllocError> {
+    let ran = run(vm, 3)?;
+    let first = step(vm)?;
+    let second = step(vm)?;
+    let third = step(vm)?;
+    let last = run(vm, 3)?;
     Ok((
         [ran.steps, last.steps, vm.steps()],
         [ran.why, first, second, third],
     ))
 }
 
-// Makes the CLONE that a machine stands at, of a ticket for so many children.
+// Makes the CLONE that a machine stands at, of a ticket for so many children. It is refused where memory is wanting, or
+// where there is no such CLONE.
 fn fork<R: Wait>(
     rt: &R,
     alloc: Global,
     vm: &mut Vm,
     children: u32,
     depot: &Depot,
-) -> Result<Brood, Fail>
+) -> Result<Brood, AllocError>
     requires { IsOfDepot depot.now vm.old.key }
     ensures here { IfOk result (λ brood. IsKeyOf depot.now brood.key) }
     ensures seeds { IfOk result (λ brood. AreOfImage brood.key children brood.seed) }
@@ -164,7 +165,7 @@ fn fork<R: Wait>(
         Some(Call::Clone(ticket)) if vm.granted(ticket) == children => {
             Ok(vm.freeze_child(rt, alloc, depot)?)
         }
-        _ => Err("no CLONE".into()),
+        _ => Err(AllocError),
     }
 }
 
@@ -175,28 +176,33 @@ pub(crate) fn run_and_fork<R: Wait>(
     vm: &mut Vm,
     children: u32,
     depot: &Depot,
-) -> Result<Brood, Fail>
+) -> Result<Brood, AllocError>
     requires { IsOfDepot depot.now vm.old.key }
     ensures here { IfOk result (λ brood. IsKeyOf depot.now brood.key) }
     ensures seeds { IfOk result (λ brood. AreOfImage brood.key children brood.seed) }
 {
-    vm.run(1000)?;
+    run(vm, 1000)?;
     fork(rt, alloc, vm, children, depot)
 }
 
 // How the two children of a brood end.
-fn ends_of(alloc: Global, brood: &Brood, depot: &Depot) -> Result<[Ending; 2], Fail>
+fn ends_of(
+    rt: &impl Abort,
+    alloc: Global,
+    brood: &Brood,
+    depot: &Depot,
+) -> Result<[Option<Ending>; 2], AllocError>
     requires here { IsKeyOf depot.now brood.now.key }
     requires seeds { AreOfImage brood.now.key 2 brood.now.seed }
 {
     Ok([
-        end_of(alloc, brood, 1, depot)?,
-        end_of(alloc, brood, 2, depot)?,
+        end_of(rt, alloc, brood, 1, depot)?,
+        end_of(rt, alloc, brood, 2, depot)?,
     ])
 }
 
 // A child of a brood of two.
-fn child_of(alloc: Global, brood: &Brood, number: u32, depot: &Depot) -> Result<Vm, Fail>
+fn child_of(alloc: Global, brood: &Brood, number: u32, depot: &Depot) -> Result<Vm, AllocError>
     requires here { IsKeyOf depot.now brood.now.key }
     requires seeds { AreOfImage brood.now.key 2 brood.now.seed }
     requires first { 1 ≤ number }
@@ -208,38 +214,49 @@ fn child_of(alloc: Global, brood: &Brood, number: u32, depot: &Depot) -> Result<
 }
 
 // How a child of a brood of two ends.
-fn end_of(alloc: Global, brood: &Brood, number: u32, depot: &Depot) -> Result<Ending, Fail>
+fn end_of(
+    rt: &impl Abort,
+    alloc: Global,
+    brood: &Brood,
+    number: u32,
+    depot: &Depot,
+) -> Result<Option<Ending>, AllocError>
     requires here { IsKeyOf depot.now brood.now.key }
     requires seeds { AreOfImage brood.now.key 2 brood.now.seed }
     requires first { 1 ≤ number }
     requires last { number ≤ 2 }
 {
     let mut child = child_of(alloc, brood, number, depot)?;
-    run_fetching(alloc, &mut child, depot)
+    run_fetching(rt, alloc, &mut child, depot)
 }
 
 // Runs a clone to its end, which the page of its code is enough for. How it ends.
-fn run_fetching(alloc: Global, child: &mut Vm, depot: &Depot) -> Result<Ending, Fail>
+fn run_fetching(
+    rt: &impl Abort,
+    alloc: Global,
+    child: &mut Vm,
+    depot: &Depot,
+) -> Result<Option<Ending>, AllocError>
     requires { IsOfDepot depot.now child.old.key }
 {
-    bring(alloc, child, depot, 0)?;
-    child.run(1000)?;
-    Ok(child.ended().ok_or("a child lives")?)
+    bring(rt, alloc, child, depot, 0)?;
+    run(child, 1000)?;
+    Ok(child.ended())
 }
 
 // Makes the JOIN that a machine stands at.
-fn join(vm: &mut Vm, endings: &[Ending]) -> Result<(), Fail> {
+fn join(rt: &impl Abort, vm: &mut Vm, endings: &[Ending]) -> Result<(), AllocError> {
     match vm.call() {
         Some(Call::Join(ticket)) if endings.len() == vm.granted(ticket) as usize => {
-            Ok(vm.joined(endings)?)
+            vm.joined(endings)
         }
-        _ => Err("no such JOIN".into()),
+        _ => panic!(rt; "no such JOIN"),
     }
 }
 
 #[test]
-fn a_parent_joins_its_children(rt: HostRuntime) -> Result<(), Fail> {
-    machine_does(&rt, rt.alloc(), RAM_BASE, &TWO_CHILDREN, 64, Course::Joins)
+fn a_parent_joins_its_children(rt: HostRuntime) -> Result<(), AllocError> {
+    machine_does(&rt, rt.alloc(), RAM_BASE, &TWO_CHILDREN, 64, &Course::Joins)
 }
 
 // Runs a machine to its CLONE, both children to their ends, and the machine then to its own.
@@ -248,45 +265,48 @@ fn joins_both<R: Abort + Wait>(
     alloc: Global,
     vm: &mut Vm,
     depot: &Depot,
-) -> Result<(), Fail>
+) -> Result<(), AllocError>
     requires { IsOfDepot depot.now vm.old.key }
 {
-    let first = vm.run(1000)?.why;
+    let first = run(vm, 1000)?.why;
     let endings = ends_of_both(rt, alloc, vm, depot)?;
-    are_born_and_end(rt, first, endings);
-    ends_with_the_first(rt, vm, &endings)
+    let want = ENDINGS.map(Some);
+    are_equal(
+        rt,
+        &(first, endings),
+        &(Stepped::Call(Call::Clone(1)), want),
+    );
+    ends_with_the_first(rt, vm)
 }
 
-fn are_born_and_end(rt: &impl Abort, first: Stepped, endings: [Ending; 2]) {
-    assert_eq!(rt; first, Stepped::Call(Call::Clone(1)));
-    assert_eq!(rt; endings, [Ending::Exit(41), Ending::Exit(42)]);
-}
+/// How both children end.
+static ENDINGS: [Ending; 2] = [Ending::Exit(41), Ending::Exit(42)];
 
-fn ends_of_both<R: Wait>(
+fn ends_of_both<R: Abort + Wait>(
     rt: &R,
     alloc: Global,
     vm: &mut Vm,
     depot: &Depot,
-) -> Result<[Ending; 2], Fail>
+) -> Result<[Option<Ending>; 2], AllocError>
     requires { IsOfDepot depot.now vm.old.key }
 {
     let brood = fork(rt, alloc, vm, 2, depot)?;
-    ends_of(alloc, &brood, depot)
+    ends_of(rt, alloc, &brood, depot)
 }
 
 // Makes the JOIN at which a machine stands, and tells at what it stood, and at what it stands then.
-fn stops_around_join(vm: &mut Vm, endings: &[Ending]) -> Result<[Stepped; 2], Fail> {
-    let joins = vm.run(1000)?.why;
-    join(vm, endings)?;
-    let ended = vm.run(1000)?.why;
+fn stops_around_join(rt: &impl Abort, vm: &mut Vm) -> Result<[Stepped; 2], AllocError> {
+    let joins = run(vm, 1000)?.why;
+    join(rt, vm, &ENDINGS)?;
+    let ended = run(vm, 1000)?.why;
     Ok([joins, ended])
 }
 
-fn ends_with_the_first(rt: &impl Abort, vm: &mut Vm, endings: &[Ending]) -> Result<(), Fail> {
-    let stops = stops_around_join(vm, endings)?;
+fn ends_with_the_first(rt: &impl Abort, vm: &mut Vm) -> Result<(), AllocError> {
+    let stops = stops_around_join(rt, vm)?;
     let ended = Stepped::Ended(Ending::Exit(41));
-    assert_eq!(rt; stops, [Stepped::Call(Call::Join(1)), ended]);
-    assert_eq!(rt; vm.steps(), 21);
+    let want = [Stepped::Call(Call::Join(1)), ended];
+    are_equal(rt, &(stops, vm.steps()), &(want, 21));
     Ok(())
 }
 
@@ -304,44 +324,51 @@ static FIRST_CHILD: [(usize, &[u8]); 10] = [
     (776, b"\xfe\xff"),
 ];
 
-/// Changes of those bytes, each a place and a byte, and the reason for which they are refused.
-static REFUSED: [(usize, u8, u32); 5] = [
-    (0, 0, 2),
-    (8, 0x0f, 3),
-    (8, 0x11, 4),
-    (12, 0, 5),
-    (20, 0x29, 5),
+/// How long those bytes are and an 0xff behind them are cut, a byte at a place, and the reason for which they are refused
+/// then.
+static REFUSED: [(usize, usize, u8, u32); 9] = [
+    (775, 0, b'S', 1),
+    (777, 0, b'S', 4),
+    (778, 0, 0, 2),
+    (778, 8, 0x0f, 3),
+    (778, 8, 0x11, 4),
+    (778, 12, 0, 5),
+    (778, 20, 0x29, 5),
+    (779, 0, b'S', 4),
+    (779, 8, 20, 6),
 ];
 
-// Whether bytes are refused so.
-fn is_refused(alloc: Global, bytes: &[u8], number: u32) -> bool {
-    match Descriptor::decode(alloc, bytes) {
-        Err(error) => error == DescError::Refused(number),
-        Ok(_) => false,
-    }
+// The reason for which bytes are refused, if they are.
+fn reason(alloc: Global, bytes: &[u8]) -> Option<DescError> {
+    Descriptor::decode(alloc, bytes).err()
 }
 
 /// The bytes of the descriptor of the first child of a machine that comes to its CLONE.
-fn seed_of<R: Wait>(rt: &R, alloc: Global, vm: &mut Vm, depot: &Depot) -> Result<Vec<u8>, Fail>
+fn seed_of<R: Wait>(
+    rt: &R,
+    alloc: Global,
+    vm: &mut Vm,
+    depot: &Depot,
+) -> Result<Vec<u8>, AllocError>
     requires { IsOfDepot depot.now vm.old.key }
 {
     let brood = run_and_fork(rt, alloc, vm, 2, depot)?;
     bytes_of(alloc, &brood)
 }
 
-fn bytes_of(alloc: Global, brood: &Brood) -> Result<Vec<u8>, Fail> {
-    Ok(Vec::from_slice(alloc, brood.seed.bytes())?)
+fn bytes_of(alloc: Global, brood: &Brood) -> Result<Vec<u8>, AllocError> {
+    Vec::from_slice(alloc, brood.seed.bytes())
 }
 
 #[test]
-fn a_descriptor_goes_through_its_bytes(rt: HostRuntime) -> Result<(), Fail> {
+fn a_descriptor_goes_through_its_bytes(rt: HostRuntime) -> Result<(), AllocError> {
     machine_does(
         &rt,
         rt.alloc(),
         RAM_BASE,
         &TWO_CHILDREN,
         16,
-        Course::Describes,
+        &Course::Describes,
     )
 }
 
@@ -350,19 +377,20 @@ fn describes_a_child<R: Abort + Wait>(
     alloc: Global,
     vm: &mut Vm,
     depot: &Depot,
-) -> Result<(), Fail>
+) -> Result<(), AllocError>
     requires { IsOfDepot depot.now vm.old.key }
 {
-    let mut bytes = seed_of(rt, alloc, vm, depot)?;
-    is_read_or_refused(rt, alloc, &mut bytes)
+    let bytes = seed_of(rt, alloc, vm, depot)?;
+    is_read_or_refused(rt, alloc, &bytes)
 }
 
-fn is_read_or_refused(rt: &impl Abort, alloc: Global, bytes: &mut Vec<u8>) -> Result<(), Fail> {
-    assert_eq!(rt; (bytes.len(), misplaced(bytes)), (778, None));
+fn is_read_or_refused(rt: &impl Abort, alloc: Global, bytes: &[u8]) -> Result<(), AllocError> {
+    are_equal(rt, &(bytes.len(), misplaced(bytes)), &(778, None));
     is_spelled(rt, alloc, bytes)?;
-    is_refused_where_cut(rt, alloc, bytes);
-    is_refused_where_changed(rt, alloc, bytes)?;
-    is_refused_where_longer(rt, alloc, bytes)
+    for (length, at, byte, number) in REFUSED.iter() {
+        is_refused(rt, alloc, bytes, (*length, *at, *byte), *number)?;
+    }
+    Ok(())
 }
 
 // The first place at which bytes do not stand as the table tells, if there is one.
@@ -375,76 +403,39 @@ fn misplaced(bytes: &[u8]) -> Option<usize> {
     None
 }
 
-// The bytes of what bytes are read as.
-fn spelled(alloc: Global, bytes: &[u8]) -> Result<Vec<u8>, DescError> {
-    let descriptor = Descriptor::decode(alloc, bytes)?;
-    Ok(descriptor.encode(alloc)?)
+// The bytes of what bytes are read as. They are refused where memory is wanting alone.
+fn spelled(alloc: Global, bytes: &[u8]) -> Result<Vec<u8>, AllocError> {
+    let descriptor = Descriptor::decode(alloc, bytes).ok().ok_or(AllocError)?;
+    descriptor.encode(alloc)
 }
 
-fn is_spelled(rt: &impl Abort, alloc: Global, bytes: &[u8]) -> Result<(), Fail> {
+fn is_spelled(rt: &impl Abort, alloc: Global, bytes: &[u8]) -> Result<(), AllocError> {
     let again = spelled(alloc, bytes)?;
-    assert_eq!(rt; again.as_slice(), bytes);
+    are_equal(rt, &again.as_slice(), &bytes);
     Ok(())
 }
 
-// Whether the first so many bytes are refused so.
-fn is_refused_cut(alloc: Global, bytes: &[u8], length: usize, number: u32) -> bool {
-    is_refused(alloc, bytes.split_at(length.min(bytes.len())).0, number)
-}
-
-// Whether bytes with another byte at a place are refused so.
-fn is_refused_with(
-    alloc: Global,
-    bytes: &[u8],
-    at: usize,
-    byte: u8,
-    number: u32,
-) -> Result<bool, AllocError> {
+// The bytes and an 0xff behind them, cut to a length, with another byte at a place.
+fn changed(alloc: Global, bytes: &[u8], change: (usize, usize, u8)) -> Result<Vec<u8>, AllocError> {
+    let (length, at, byte) = change;
     let mut changed = Vec::from_slice(alloc, bytes)?;
+    changed.push(0xff)?;
+    changed.truncate(length);
     if let Some(old) = changed.get_mut(at) {
         *old = byte;
     }
-    Ok(is_refused(alloc, &changed, number))
+    Ok(changed)
 }
 
-fn is_refused_where_cut(rt: &impl Abort, alloc: Global, bytes: &[u8]) {
-    let cut = [
-        is_refused_cut(alloc, bytes, 775, 1),
-        is_refused_cut(alloc, bytes, 777, 4),
-    ];
-    assert_eq!(rt; cut, [true; 2]);
-}
-
-fn is_refused_where_changed(rt: &impl Abort, alloc: Global, bytes: &[u8]) -> Result<(), Fail> {
-    for (at, byte, number) in REFUSED.iter() {
-        is_refused_at(rt, alloc, bytes, *at, *byte, *number)?;
-    }
-    Ok(())
-}
-
-fn is_refused_at(
+fn is_refused(
     rt: &impl Abort,
     alloc: Global,
     bytes: &[u8],
-    at: usize,
-    byte: u8,
+    change: (usize, usize, u8),
     number: u32,
-) -> Result<(), Fail> {
-    let refused = is_refused_with(alloc, bytes, at, byte, number)?;
-    assert!(rt; refused, "at {at}");
-    Ok(())
-}
-
-fn is_refused_where_longer(
-    rt: &impl Abort,
-    alloc: Global,
-    bytes: &mut Vec<u8>,
-) -> Result<(), Fail> {
-    bytes.push(0xff)?;
-    let longer = is_refused(alloc, bytes, 4);
-    if let Some(pages) = bytes.get_mut(8) {
-        *pages = 20;
-    }
-    assert_eq!(rt; [longer, is_refused(alloc, bytes, 6)], [true; 2]);
+) -> Result<(), AllocError> {
+    let changed = changed(alloc, bytes, change)?;
+    let want = Some(DescError::Refused(number));
+    are_equal(rt, &(change, reason(alloc, &changed)), &(change, want));
     Ok(())
 }

@@ -1,10 +1,10 @@
 //! What no clause says of names: that they are made where there is memory, and how some compare.
 
+use crate::equal::are_equal;
 use run_report::{Branch, Name};
 use std::alloc::{AllocError, Global};
 use std::cmp::Ordering;
 use std::process::Abort;
-use std::test::Fail;
 
 /// The name with these forks, each a ticket and a child's number.
 fn named(alloc: Global, forks: &[(u32, u32)]) -> Result<Name, AllocError> {
@@ -40,9 +40,10 @@ static IN_ORDER: [(&[(u32, u32)], &str, &[(u32, u32)], &str); 8] = [
 ];
 
 fn are_in_order(rt: &impl Abort, first: &Name, second: &Name) {
-    assert_eq!(rt; first.cmp(second), Ordering::Less);
-    assert_eq!(rt; second.cmp(first), Ordering::Greater);
-    assert!(rt; first == first && first != second);
+    let orders = [first.cmp(second), second.cmp(first)];
+    let same = [first == first, first == second];
+    let want = ([Ordering::Less, Ordering::Greater], [true, false]);
+    are_equal(rt, &(orders, same), &want);
 }
 
 pub(crate) fn has_text(
@@ -50,9 +51,9 @@ pub(crate) fn has_text(
     alloc: Global,
     name: &Name,
     text: &str,
-) -> Result<(), Fail> {
+) -> Result<(), AllocError> {
     let found = name.text(alloc)?;
-    assert_eq!(rt; found.as_str(), text);
+    are_equal(rt, &found.as_str(), &text);
     Ok(())
 }
 
@@ -63,21 +64,31 @@ fn are_named(
     first_text: &str,
     second: &Name,
     second_text: &str,
-) -> Result<(), Fail> {
+) -> Result<(), AllocError> {
     are_in_order(rt, first, second);
     has_text(rt, alloc, first, first_text)?;
     has_text(rt, alloc, second, second_text)
 }
 
 #[test]
-fn names_are_in_order(rt: HostRuntime) -> Result<(), Fail> {
-    let alloc = rt.alloc();
+fn names_are_in_order(rt: HostRuntime) -> Result<(), AllocError> {
     for (first, first_text, second, second_text) in IN_ORDER.iter() {
-        let first = named(alloc, first)?;
-        let second = named(alloc, second)?;
-        are_named(&rt, alloc, &first, first_text, &second, second_text)?;
+        come_in_order(&rt, rt.alloc(), first, first_text, second, second_text)?;
     }
     Ok(())
+}
+
+fn come_in_order(
+    rt: &impl Abort,
+    alloc: Global,
+    first: &[(u32, u32)],
+    first_text: &str,
+    second: &[(u32, u32)],
+    second_text: &str,
+) -> Result<(), AllocError> {
+    let first = named(alloc, first)?;
+    let second = named(alloc, second)?;
+    are_named(rt, alloc, &first, first_text, &second, second_text)
 }
 
 /// How many forks the longest name has that a family can have.
@@ -106,23 +117,23 @@ fn chain(alloc: Global) -> Result<Name, AllocError> {
 static PLACES: [usize; 9] = [0, 1, 63, 64, 65, 2048, 4031, 4032, 4095];
 
 #[test]
-fn deep_names_differ_in_one_fork(rt: HostRuntime) -> Result<(), Fail> {
+fn deep_names_differ_in_one_fork(rt: HostRuntime) -> Result<(), AllocError> {
     let alloc = rt.alloc();
     let name = chain(alloc)?;
     differs_at_each_place(&rt, alloc, &name)
 }
 
 /// The name differs from those with another fork at a place, and from the one with no such place it does not.
-fn differs_at_each_place(rt: &impl Abort, alloc: Global, name: &Name) -> Result<(), Fail> {
+fn differs_at_each_place(rt: &impl Abort, alloc: Global, name: &Name) -> Result<(), AllocError> {
     for place in PLACES.iter() {
         differs_at(rt, alloc, name, *place)?;
     }
     let is_same = is_deep(alloc, name)?;
-    assert!(rt; is_same);
+    are_equal(rt, &is_same, &true);
     Ok(())
 }
 
-fn differs_at(rt: &impl Abort, alloc: Global, name: &Name, place: usize) -> Result<(), Fail> {
+fn differs_at(rt: &impl Abort, alloc: Global, name: &Name, place: usize) -> Result<(), AllocError> {
     let other = deep(alloc, place)?;
     are_in_order(rt, name, &other);
     Ok(())
@@ -135,12 +146,22 @@ fn is_deep(alloc: Global, name: &Name) -> Result<bool, AllocError> {
 }
 
 /// A parent's name, and its child's made anew.
-fn goes_back_and_on(rt: &impl Abort, alloc: Global, name: &Name) -> Result<(), Fail> {
+fn goes_back_and_on(rt: &impl Abort, alloc: Global, name: &Name) -> Result<(), AllocError> {
     let mut parent = name.copy()?;
     let last = parent.pop();
-    is_parent(rt, &parent, name, last);
-    let is_child = has_child(alloc, &parent, name)?;
-    assert!(rt; is_child);
+    goes_on(rt, alloc, &parent, name, last)
+}
+
+fn goes_on(
+    rt: &impl Abort,
+    alloc: Global,
+    parent: &Name,
+    name: &Name,
+    last: Option<(u32, u32)>,
+) -> Result<(), AllocError> {
+    is_parent(rt, parent, name, last);
+    let is_child = has_child(alloc, parent, name)?;
+    are_equal(rt, &is_child, &true);
     Ok(())
 }
 
@@ -152,14 +173,10 @@ fn is_parent(rt: &impl Abort, parent: &Name, name: &Name, last: Option<(u32, u32
         name.is_below(parent, 2),
         parent.is_below_all(name),
     ];
-    assert_eq!(rt;
-        (last, [parent.depth(), name.depth()], told),
-        (
-            Some((1, 1)),
-            [DEEPEST - 1, DEEPEST],
-            [true, true, false, false]
-        )
-    );
+    let depths = [parent.depth(), name.depth()];
+    let want = [DEEPEST - 1, DEEPEST];
+    let below = [true, true, false, false];
+    are_equal(rt, &(last, depths, told), &(Some((1, 1)), want, below));
 }
 
 /// Whether a name is that of a parent's child.
@@ -169,7 +186,7 @@ fn has_child(alloc: Global, parent: &Name, name: &Name) -> Result<bool, AllocErr
 }
 
 #[test]
-fn deep_names_go_back_and_on(rt: HostRuntime) -> Result<(), Fail> {
+fn deep_names_go_back_and_on(rt: HostRuntime) -> Result<(), AllocError> {
     let alloc = rt.alloc();
     let name = chain(alloc)?;
     goes_back_and_on(&rt, alloc, &name)

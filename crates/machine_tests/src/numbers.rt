@@ -1,5 +1,6 @@
 //! The numbers that stand behind the names of constants.
 
+use crate::equal::are_equal;
 use console_port::MAX_INPUT;
 use drive_script::{MAX_PAGE, MAX_PLACE, MAX_SCRIPT, MAX_STEPS};
 use elf_load::{MAX_PAGES, MIN_PAGES, PAGE_SIZE, RAM_BASE};
@@ -57,13 +58,13 @@ static SIZES: [(usize, usize); 3] = [
 
 fn are_these(rt: &impl Abort, table: &[(u32, u32)]) {
     for (is, number) in table {
-        assert_eq!(rt; is, number);
+        are_equal(rt, is, number);
     }
 }
 
 fn sizes_are_these(rt: &impl Abort) {
     for (is, number) in SIZES.iter() {
-        assert_eq!(rt; is, number);
+        are_equal(rt, is, number);
     }
 }
 
@@ -73,5 +74,5 @@ fn constants_are_these(rt: HostRuntime) {
     are_these(&rt, &CAUSES);
     are_these(&rt, &LIMITS);
     sizes_are_these(&rt);
-    assert_eq!(rt; MAX_LIMIT, 1_000_000_000);
+    are_equal(&rt, &MAX_LIMIT, &1_000_000_000);
 }

@@ -1,5 +1,6 @@
 //! What no clause says of the outside: real files and streams, and that memory does not want where there is some.
 
+use crate::equal::are_equal;
 use io_edge::{
     FileShelf, MemShelf, MemSink, Shelf, ShelfError, Sink, StdSink, WriteFault, put_all,
 };
@@ -7,38 +8,36 @@ use std::alloc::{AllocError, Global};
 use std::fs;
 use std::process::Abort;
 use std::rt::Files;
-use std::test::Fail;
 
 #[test]
-fn reads_and_writes_the_real_outside(rt: HostRuntime) -> Result<(), Fail> {
-    reads_what_is_written(&rt, rt.alloc())?;
+fn reads_and_writes_the_real_outside(rt: HostRuntime) {
+    reads_what_is_written(&rt, rt.alloc());
     puts_four(&rt, &mut StdSink::new(&rt));
-    Ok(())
 }
 
-fn reads_what_is_written<R: Abort + Files>(rt: &R, alloc: Global) -> Result<(), Fail> {
-    fs::write(rt, "machine_tests-file", b"12345".as_slice())?;
-    reads_a_file(rt, alloc, &mut FileShelf::new(rt))?;
-    fs::remove_file(rt, "machine_tests-file")?;
+fn reads_what_is_written<R: Abort + Files>(rt: &R, alloc: Global) {
+    let is_written = fs::write(rt, "machine_tests-file", b"12345".as_slice()).is_ok();
+    reads_a_file(rt, alloc, &mut FileShelf::new(rt));
+    let is_removed = fs::remove_file(rt, "machine_tests-file").is_ok();
+    are_equal(rt, &[is_written, is_removed], &[true; 2]);
     is_missing(rt, alloc, &mut FileShelf::new(rt));
-    Ok(())
 }
 
 fn puts_four<S: Sink>(rt: &impl Abort, sink: &mut S) {
-    assert_eq!(rt; sink.put(b"snow"), Ok(4));
+    are_equal(rt, &sink.put(b"snow"), &Ok(4));
 }
 
 /// The file is read whole, or not at all.
-fn reads_a_file<S: Shelf>(rt: &impl Abort, alloc: Global, shelf: &mut S) -> Result<(), Fail> {
-    is_read(rt, alloc, shelf)?;
+fn reads_a_file<S: Shelf>(rt: &impl Abort, alloc: Global, shelf: &mut S) {
+    is_read(rt, alloc, shelf);
     is_refused(rt, alloc, shelf, 4, ShelfError::TooLong);
-    Ok(())
 }
 
-fn is_read<S: Shelf>(rt: &impl Abort, alloc: Global, shelf: &mut S) -> Result<(), Fail> {
-    let bytes = shelf.load(alloc, "machine_tests-file", 5)?;
-    assert_eq!(rt; bytes.as_slice(), b"12345".as_slice());
-    Ok(())
+fn is_read<S: Shelf>(rt: &impl Abort, alloc: Global, shelf: &mut S) {
+    let bytes = shelf
+        .load(alloc, "machine_tests-file", 5)
+        .expect(rt, "a file");
+    are_equal(rt, &bytes.as_slice(), &b"12345".as_slice());
 }
 
 fn is_refused<S: Shelf>(
@@ -49,7 +48,7 @@ fn is_refused<S: Shelf>(
     error: ShelfError,
 ) {
     let refused = shelf.load(alloc, "machine_tests-file", most).err();
-    assert_eq!(rt; refused, Some(error));
+    are_equal(rt, &refused, &Some(error));
 }
 
 fn is_missing<S: Shelf>(rt: &impl Abort, alloc: Global, shelf: &mut S) {
@@ -57,7 +56,7 @@ fn is_missing<S: Shelf>(rt: &impl Abort, alloc: Global, shelf: &mut S) {
 }
 
 #[test]
-fn reads_and_writes_memory(rt: HostRuntime) -> Result<(), Fail> {
+fn reads_and_writes_memory(rt: HostRuntime) -> Result<(), AllocError> {
     let bytes = loaded(rt.alloc())?;
     fills_a_sink(&rt, rt.alloc(), &bytes)
 }
@@ -70,19 +69,17 @@ fn shelf_of(alloc: Global) -> Result<MemShelf, AllocError> {
     Ok(MemShelf::new(files, Vec::new(alloc)))
 }
 
-/// The bytes of its file.
-fn loaded(alloc: Global) -> Result<Vec<u8>, Fail> {
+/// The bytes of its file. They are refused where memory is wanting alone.
+fn loaded(alloc: Global) -> Result<Vec<u8>, AllocError> {
     let mut shelf = shelf_of(alloc)?;
-    Ok(shelf.load(alloc, "name", 5)?)
+    shelf.load(alloc, "name", 5).ok().ok_or(AllocError)
 }
 
 /// A sink takes bytes while it has room.
-fn fills_a_sink(rt: &impl Abort, alloc: Global, bytes: &[u8]) -> Result<(), Fail> {
+fn fills_a_sink(rt: &impl Abort, alloc: Global, bytes: &[u8]) -> Result<(), AllocError> {
     let mut sink = MemSink::new(alloc, 2, 8, Vec::new(alloc))?;
     let puts = [put_all(&mut sink, bytes), put_all(&mut sink, bytes)];
-    assert_eq!(rt;
-        (puts, sink.bytes()),
-        ([Ok(()), Err(WriteFault)], b"12345123".as_slice())
-    );
+    let want = [Ok(()), Err(WriteFault)];
+    are_equal(rt, &(puts, sink.bytes()), &(want, b"12345123".as_slice()));
     Ok(())
 }

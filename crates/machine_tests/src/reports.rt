@@ -5,6 +5,7 @@ ghost use Rattle.std.specs.Option.{option_copied};
 ghost use Rattle.std.specs.BTreeMap.{get};
 ghost use Rattle.run_report.specs.NameOrder.{path_cmp};
 
+use crate::equal::are_equal;
 use crate::names::has_text;
 use forest_model::Ending;
 use io_edge::MemSink;
@@ -12,7 +13,6 @@ use run_report::{Line, Name, Outcome, report_into};
 use std::alloc::{AllocError, AllocFailed, Global};
 use std::collections::BTreeMap;
 use std::process::Abort;
-use std::test::Fail;
 
 /// What a map has at a name after 1 was put at another.
 fn got_after(
@@ -28,33 +28,37 @@ fn got_after(
 }
 
 #[test]
-fn names_are_keys(rt: HostRuntime) -> Result<(), Fail> {
+fn names_are_keys(rt: HostRuntime) -> Result<(), AllocError> {
     let mut map = BTreeMap::new(rt.alloc());
     are_keys(&rt, rt.alloc(), &mut map)
 }
 
-fn are_keys(rt: &impl Abort, alloc: Global, map: &mut BTreeMap<Name, u32>) -> Result<(), Fail> {
+fn are_keys(
+    rt: &impl Abort,
+    alloc: Global,
+    map: &mut BTreeMap<Name, u32>,
+) -> Result<(), AllocError> {
     let there = got_there(alloc, map)?;
     let beside = got_beside(alloc, map)?;
-    assert_eq!(rt; [there, beside], [Some(1), None]);
+    are_equal(rt, &[there, beside], &[Some(1), None]);
     Ok(())
 }
 
 /// What a map has at a name after 1 was put there.
-fn got_there(alloc: Global, map: &mut BTreeMap<Name, u32>) -> Result<Option<u32>, Fail> {
+fn got_there(alloc: Global, map: &mut BTreeMap<Name, u32>) -> Result<Option<u32>, AllocError> {
     let child = Name::root(alloc)?.child(alloc, 1, 2)?;
     Ok(got_after(map, child.copy()?, &child)?)
 }
 
 /// What a map has at a name after 1 was put at the root's.
-fn got_beside(alloc: Global, map: &mut BTreeMap<Name, u32>) -> Result<Option<u32>, Fail> {
+fn got_beside(alloc: Global, map: &mut BTreeMap<Name, u32>) -> Result<Option<u32>, AllocError> {
     let root = Name::root(alloc)?;
     let other = root.child(alloc, 1, 3)?;
     Ok(got_after(map, root, &other)?)
 }
 
 #[test]
-fn names_have_texts(rt: HostRuntime) -> Result<(), Fail> {
+fn names_have_texts(rt: HostRuntime) -> Result<(), AllocError> {
     let alloc = rt.alloc();
     let root = Name::root(alloc)?;
     let child = root.child(alloc, 1, 2)?;
@@ -68,7 +72,7 @@ fn have_texts(
     root: &Name,
     child: &Name,
     grandchild: &mut Name,
-) -> Result<(), Fail> {
+) -> Result<(), AllocError> {
     has_text(rt, alloc, root, "0")?;
     has_text(rt, alloc, grandchild, "0.1.2.30.4294967295")?;
     tells_what_is_below(rt, root, child, grandchild);
@@ -83,19 +87,25 @@ fn tells_what_is_below(rt: &impl Abort, root: &Name, child: &Name, grandchild: &
         grandchild.is_below_all(child),
         child.is_below_all(child),
     ];
-    assert_eq!(rt; told, [true, false, true, false]);
+    are_equal(rt, &told, &[true, false, true, false]);
 }
 
 fn goes_back(rt: &impl Abort, child: &Name, grandchild: &mut Name) {
-    assert_eq!(rt; grandchild.pop(), Some((30, 4_294_967_295)));
-    assert!(rt; &*grandchild == child);
+    let last = grandchild.pop();
+    let want = (Some((30, 4_294_967_295)), true);
+    are_equal(rt, &(last, &*grandchild == child), &want);
 }
 
 /// An outcome is reported so.
-fn is_reported(rt: &impl Abort, alloc: Global, outcome: &Outcome, text: &[u8]) -> Result<(), Fail> {
+fn is_reported(
+    rt: &impl Abort,
+    alloc: Global,
+    outcome: &Outcome,
+    text: &[u8],
+) -> Result<(), AllocError> {
     let mut sink = MemSink::new(alloc, 7, 1000, Vec::new(alloc))?;
-    report_into(outcome, &mut sink)?;
-    assert_eq!(rt; sink.bytes(), text);
+    let put = report_into(outcome, &mut sink);
+    are_equal(rt, &(put, sink.bytes()), &(Ok(()), text));
     Ok(())
 }
 
@@ -119,7 +129,7 @@ fn join(log: &mut Vec<Line>, child: Outcome) -> Result<(), AllocError> {
 }
 
 #[test]
-fn one_machine_puts_out_its_bytes(rt: HostRuntime) -> Result<(), Fail> {
+fn one_machine_puts_out_its_bytes(rt: HostRuntime) -> Result<(), AllocError> {
     let alloc = rt.alloc();
     let name = Name::root(alloc)?.child(alloc, 1, 2)?;
     let output = Vec::from_slice(alloc, b"A")?;
@@ -158,7 +168,7 @@ fn family(alloc: Global) -> Result<Outcome, AllocError> {
 }
 
 #[test]
-fn children_come_after_their_parent(rt: HostRuntime) -> Result<(), Fail> {
+fn children_come_after_their_parent(rt: HostRuntime) -> Result<(), AllocError> {
     let outcome = family(rt.alloc())?;
     is_reported(
         &rt,
@@ -183,7 +193,7 @@ static KILLED: [(Ending, u64, &[u8]); 2] = [
 ];
 
 #[test]
-fn killed_tickets_are_told(rt: HostRuntime) -> Result<(), Fail> {
+fn killed_tickets_are_told(rt: HostRuntime) -> Result<(), AllocError> {
     for (ending, steps, text) in KILLED.iter() {
         is_told(&rt, rt.alloc(), *ending, *steps, text)?;
     }
@@ -196,7 +206,7 @@ fn is_told(
     ending: Ending,
     steps: u64,
     text: &[u8],
-) -> Result<(), Fail> {
+) -> Result<(), AllocError> {
     let root = Name::root(alloc)?;
     let log = log_of(alloc, &root, 1, 2)?;
     let outcome = silent(root, ending, steps, log, alloc);
@@ -237,9 +247,9 @@ fn three_levels(alloc: Global) -> Result<Outcome, AllocError> {
 }
 
 #[test]
-fn three_levels_with_killed_tickets(rt: HostRuntime) -> Result<(), Fail> {
+fn three_levels_with_killed_tickets(rt: HostRuntime) -> Result<(), AllocError> {
     let outcome = three_levels(rt.alloc())?;
-    assert_eq!(rt; outcome.line_count(), 6);
+    are_equal(&rt, &outcome.line_count(), &6);
     is_reported(
         &rt,
         rt.alloc(),
@@ -252,7 +262,7 @@ fn three_levels_with_killed_tickets(rt: HostRuntime) -> Result<(), Fail> {
 const ROOM: usize = 1 << 20;
 
 /// The sink after a report was put out on it, which takes so many bytes a put, and has a fault at this one.
-fn put_out(alloc: Global, outcome: &Outcome, most: usize, fails: u64) -> Result<MemSink, Fail>
+fn put_out(alloc: Global, outcome: &Outcome, most: usize, fails: u64) -> Result<MemSink, AllocError>
     requires { 1 ≤ most }
 {
     let mut sink = MemSink::new(alloc, most, ROOM, vec![in alloc; fails]?)?;
@@ -262,18 +272,20 @@ fn put_out(alloc: Global, outcome: &Outcome, most: usize, fails: u64) -> Result<
 
 /// So many bytes of a text are out, its first, after so many puts.
 fn is_cut(rt: &impl Abort, sink: &MemSink, text: &[u8], length: usize, calls: u64) {
-    assert_eq!(rt; sink.bytes().len(), length);
-    assert_eq!(rt; sink.calls(), calls);
-    assert!(rt; text.starts_with(sink.bytes()));
+    let is_prefix = text.starts_with(sink.bytes());
+    let found = (sink.bytes().len(), sink.calls(), is_prefix);
+    are_equal(rt, &found, &(length, calls, true));
 }
 
 /// The report of the family, of 110 bytes.
 static FAMILY: &[u8] =
     b"machine 0 exit 41 steps 21 out 0\n\nmachine 0.1.1 exit 41 steps 16 out 0\n\nmachine 0.1.2 exit 42 steps 16 out 0\n\n";
 
-/// How many bytes a sink takes a put, which put fails, and how many bytes of that report are out after how many
-/// puts. It goes out in one piece, since it is shorter than the buffer.
-static CUTS: [(usize, u64, usize, u64); 18] = [
+/// How many bytes a sink takes a put, which put fails, and how many bytes of a report are out after how many puts.
+type Cut = (usize, u64, usize, u64);
+
+/// The same of that report. It goes out in one piece, since it is shorter than the buffer.
+static CUTS: [Cut; 18] = [
     (10, 0, 110, 11),
     (10, 1, 0, 1),
     (10, 2, 10, 2),
@@ -295,17 +307,35 @@ static CUTS: [(usize, u64, usize, u64); 18] = [
 ];
 
 #[test]
-fn a_fault_leaves_a_prefix(rt: HostRuntime) -> Result<(), Fail> {
+fn a_fault_leaves_a_prefix(rt: HostRuntime) -> Result<(), AllocError> {
     let outcome = family(rt.alloc())?;
-    is_cut_at_each_fault(&rt, rt.alloc(), &outcome)
+    is_cut_at_each_fault(&rt, rt.alloc(), &outcome, FAMILY, &CUTS)
 }
 
-fn is_cut_at_each_fault(rt: &impl Abort, alloc: Global, outcome: &Outcome) -> Result<(), Fail> {
-    for (most, fails, length, calls) in CUTS.iter() {
-        assert!(rt; *most > 0);
-        let sink = put_out(alloc, outcome, *most, *fails)?;
-        is_cut(rt, &sink, FAMILY, *length, *calls);
+fn is_cut_at_each_fault(
+    rt: &impl Abort,
+    alloc: Global,
+    outcome: &Outcome,
+    text: &[u8],
+    cuts: &[Cut],
+) -> Result<(), AllocError> {
+    for cut in cuts {
+        is_cut_by(rt, alloc, outcome, text, cut)?;
     }
+    Ok(())
+}
+
+fn is_cut_by(
+    rt: &impl Abort,
+    alloc: Global,
+    outcome: &Outcome,
+    text: &[u8],
+    cut: &Cut,
+) -> Result<(), AllocError> {
+    let (most, fails, length, calls) = cut;
+    assert!(rt; *most > 0);
+    let sink = put_out(alloc, outcome, *most, *fails)?;
+    is_cut(rt, &sink, text, *length, *calls);
     Ok(())
 }
 
@@ -325,19 +355,19 @@ fn log_of_many(alloc: Global, root: &Name) -> Result<Vec<Line>, AllocError> {
 }
 
 #[test]
-fn many_lines_go_out_in_few_puts(rt: HostRuntime) -> Result<(), Fail> {
+fn many_lines_go_out_in_few_puts(rt: HostRuntime) -> Result<(), AllocError> {
     let put = bytes_and_puts_of_many(rt.alloc())?;
-    assert_eq!(rt; put, (20_032, 3));
+    are_equal(&rt, &put, &(20_032, 3));
     Ok(())
 }
 
 /// How many bytes of that report are out, after how many puts.
-fn bytes_and_puts_of_many(alloc: Global) -> Result<(usize, u64), Fail> {
+fn bytes_and_puts_of_many(alloc: Global) -> Result<(usize, u64), AllocError> {
     let outcome = many_lines(alloc)?;
     bytes_and_puts(alloc, &outcome)
 }
 
-fn bytes_and_puts(alloc: Global, outcome: &Outcome) -> Result<(usize, u64), Fail> {
+fn bytes_and_puts(alloc: Global, outcome: &Outcome) -> Result<(usize, u64), AllocError> {
     let sink = put_out(alloc, outcome, 1 << 16, 0)?;
     Ok((sink.bytes().len(), sink.calls()))
 }
@@ -362,18 +392,18 @@ fn long_text(alloc: Global, output: &[u8]) -> Result<Vec<u8>, AllocError> {
     Ok(text)
 }
 
-/// Which put fails, and how many bytes of that report are out after how many puts: the line, the output as it
-/// lies, and the newline.
-static LONG_CUTS: [(u64, usize, u64); 4] = [(0, 10_036, 3), (1, 0, 1), (2, 35, 2), (3, 10_035, 3)];
+/// The same of that report: the line, the output as it lies, and the newline.
+static LONG_CUTS: [Cut; 4] = [
+    (65_536, 0, 10_036, 3),
+    (65_536, 1, 0, 1),
+    (65_536, 2, 35, 2),
+    (65_536, 3, 10_035, 3),
+];
 
 #[test]
-fn a_long_output_goes_out_as_it_lies(rt: HostRuntime) -> Result<(), Fail> {
+fn a_long_output_goes_out_as_it_lies(rt: HostRuntime) -> Result<(), AllocError> {
     let (outcome, text) = long_output(rt.alloc())?;
-    for (fails, length, calls) in LONG_CUTS.iter() {
-        let sink = put_out(rt.alloc(), &outcome, 1 << 16, *fails)?;
-        is_cut(&rt, &sink, &text, *length, *calls);
-    }
-    Ok(())
+    is_cut_at_each_fault(&rt, rt.alloc(), &outcome, &text, &LONG_CUTS)
 }
 
 /// How deep the chain is whose report is cut.
@@ -403,15 +433,18 @@ fn ended(alloc: Global, name: &Name) -> Result<Outcome, AllocError> {
 
 /// The put that failed is the last, and what is out is a prefix of the report.
 fn is_cut_at(rt: &impl Abort, sink: &MemSink, whole: &MemSink, fails: u64) {
-    assert_eq!(rt; sink.calls(), fails);
-    assert!(rt;
-        sink.bytes().len() < whole.bytes().len() && whole.bytes().starts_with(sink.bytes())
+    let is_shorter = sink.bytes().len() < whole.bytes().len();
+    let is_prefix = whole.bytes().starts_with(sink.bytes());
+    are_equal(
+        rt,
+        &(sink.calls(), is_shorter, is_prefix),
+        &(fails, true, true),
     );
 }
 
 /// Its report fills the buffer many times, and a put ends anywhere in a name.
 #[test]
-fn a_deep_report_is_cut_at_each_put(rt: HostRuntime) -> Result<(), Fail> {
+fn a_deep_report_is_cut_at_each_put(rt: HostRuntime) -> Result<(), AllocError> {
     let outcome = chain(rt.alloc())?;
     let whole = put_out(rt.alloc(), &outcome, ROOM, 0)?;
     is_cut_at_each(&rt, rt.alloc(), &outcome, &whole)
@@ -422,11 +455,23 @@ fn is_cut_at_each(
     alloc: Global,
     outcome: &Outcome,
     whole: &MemSink,
-) -> Result<(), Fail> {
+) -> Result<(), AllocError> {
     assert!(rt; whole.calls() > 60);
     for before in 0..whole.calls() {
-        let sink = put_out(alloc, outcome, ROOM, before + 1)?;
-        is_cut_at(rt, &sink, whole, before + 1);
+        is_cut_where(rt, alloc, outcome, whole, before + 1)?;
     }
+    Ok(())
+}
+
+/// Of that report, where this put fails.
+fn is_cut_where(
+    rt: &impl Abort,
+    alloc: Global,
+    outcome: &Outcome,
+    whole: &MemSink,
+    fails: u64,
+) -> Result<(), AllocError> {
+    let sink = put_out(alloc, outcome, ROOM, fails)?;
+    is_cut_at(rt, &sink, whole, fails);
     Ok(())
 }

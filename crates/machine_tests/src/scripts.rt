@@ -1,14 +1,19 @@
 //! Scripts: texts in form, and others, each with the line and the kind by which it is refused.
 
+use crate::equal::are_equal;
 use drive_script::{Line, MAX_SCRIPT, Script, ScriptError, read_script};
 use std::alloc::{AllocError, Global};
 use std::process::Abort;
-use std::test::Fail;
 
 /// A script is read, or refused.
-pub(crate) fn read(rt: &impl Abort, alloc: Global, text: &[u8]) -> Result<Script, ScriptError> {
+fn read(rt: &impl Abort, alloc: Global, text: &[u8]) -> Result<Script, ScriptError> {
     assert!(rt; text.len() <= MAX_SCRIPT);
     read_script(alloc, text)
+}
+
+/// A script in form. It is refused where memory is wanting alone.
+pub(crate) fn in_form(rt: &impl Abort, alloc: Global, text: &[u8]) -> Result<Script, AllocError> {
+    read(rt, alloc, text).ok().ok_or(AllocError)
 }
 
 /// The lines of a script, one after another.
@@ -51,21 +56,26 @@ static IN_FORM: [(&[u8], &str); 9] = [
 ];
 
 #[test]
-fn scripts_in_form(rt: HostRuntime) -> Result<(), Fail> {
+fn scripts_in_form(rt: HostRuntime) -> Result<(), AllocError> {
     for (text, lines) in IN_FORM.iter() {
         says(&rt, rt.alloc(), text, lines)?;
     }
     Ok(())
 }
 
-fn says(rt: &impl Abort, alloc: Global, text: &[u8], lines: &str) -> Result<(), Fail> {
-    let script = read(rt, alloc, text)?;
+fn says(rt: &impl Abort, alloc: Global, text: &[u8], lines: &str) -> Result<(), AllocError> {
+    let script = in_form(rt, alloc, text)?;
     lines_say(rt, alloc, &script, lines)
 }
 
-fn lines_say(rt: &impl Abort, alloc: Global, script: &Script, lines: &str) -> Result<(), Fail> {
+fn lines_say(
+    rt: &impl Abort,
+    alloc: Global,
+    script: &Script,
+    lines: &str,
+) -> Result<(), AllocError> {
     let said = said(alloc, script)?;
-    assert_eq!(rt; said.as_str(), lines);
+    are_equal(rt, &said.as_str(), &lines);
     Ok(())
 }
 
@@ -151,13 +161,15 @@ fn texts_that_are_no_scripts(rt: HostRuntime) {
 }
 
 fn is_no_script(rt: &impl Abort, alloc: Global, text: &[u8], line: u32, kind: u32) {
-    assert!(rt; is_refused(rt, alloc, text, line, kind), "{text:?}");
+    let refused = is_refused(rt, alloc, text, line, kind);
+    are_equal(rt, &(text, refused), &(text, true));
 }
 
 #[test]
-fn the_longest_script(rt: HostRuntime) -> Result<(), Fail> {
+fn the_longest_script(rt: HostRuntime) -> Result<(), AllocError> {
     let text = longest(rt.alloc())?;
-    assert!(rt; is_refused(&rt, rt.alloc(), &text, 1_048_571, 1));
+    let refused = is_refused(&rt, rt.alloc(), &text, 1_048_571, 1);
+    are_equal(&rt, &refused, &true);
     Ok(())
 }
 

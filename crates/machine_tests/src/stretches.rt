@@ -3,13 +3,12 @@
 
 ghost use Rattle.std.specs.Prelude.{◌≤◌, length};
 
-use crate::guests::loaded_at;
-use cow_disk::Disk;
+use crate::equal::are_equal;
+use crate::guests::{loaded_at, no_disk, run};
 use elf_load::{Loaded, RAM_BASE};
 use forest_model::Options;
-use std::alloc::Global;
+use std::alloc::{AllocError, Global};
 use std::process::Abort;
-use std::test::Fail;
 use vm_cell::Vm;
 
 // The words of a guest, the limit of its steps, and how many are asked of it.
@@ -275,11 +274,11 @@ static ROWS: [(&str, Guest, [u32; 3], u64); 18] = [
 ];
 
 #[test]
-fn stretches_end_in_time(rt: HostRuntime) -> Result<(), Fail> {
+fn stretches_end_in_time(rt: HostRuntime) -> Result<(), AllocError> {
     all_come(&rt, rt.alloc())
 }
 
-fn all_come(rt: &impl Abort, alloc: Global) -> Result<(), Fail> {
+fn all_come(rt: &impl Abort, alloc: Global) -> Result<(), AllocError> {
     for (name, guest, registers, steps) in ROWS.iter() {
         comes(rt, alloc, name, guest, (*registers, *steps))?;
     }
@@ -292,28 +291,28 @@ fn comes(
     name: &str,
     guest: &Guest,
     want: Came,
-) -> Result<(), Fail> {
+) -> Result<(), AllocError> {
     let came = after(alloc, guest)?;
-    assert_eq!(rt; came, want, "{name}");
+    are_equal(rt, &(name, came), &(name, want));
     Ok(())
 }
 
 // x5 to x7 and the count of steps after a guest has run.
-fn after(alloc: Global, guest: &Guest) -> Result<Came, Fail> {
+fn after(alloc: Global, guest: &Guest) -> Result<Came, AllocError> {
     let (words, limit, most) = guest;
     let mut vm = booted(alloc, words, (*limit).clamp(1, 1_000_000))?;
     run_to(&mut vm, *most)
 }
 
 // The same after so many steps of a machine.
-fn run_to(vm: &mut Vm, most: u64) -> Result<Came, Fail> {
-    vm.run(most)?;
+fn run_to(vm: &mut Vm, most: u64) -> Result<Came, AllocError> {
+    run(vm, most)?;
     let registers = vm.regs();
     Ok(([registers[5], registers[6], registers[7]], vm.steps()))
 }
 
 // A machine of these words with 16 pages and a limit.
-fn booted(alloc: Global, words: &[u32], limit: u64) -> Result<Vm, Fail>
+fn booted(alloc: Global, words: &[u32], limit: u64) -> Result<Vm, AllocError>
     requires words { length words.now ≤ 64 }
     requires least { 1 ≤ limit }
     requires most { limit ≤ 1_000_000 }
@@ -323,11 +322,10 @@ fn booted(alloc: Global, words: &[u32], limit: u64) -> Result<Vm, Fail>
 }
 
 // The machine of an image with a limit.
-fn booted_with(alloc: Global, image: &Loaded, limit: u64) -> Result<Vm, Fail>
+fn booted_with(alloc: Global, image: &Loaded, limit: u64) -> Result<Vm, AllocError>
     requires least { 1 ≤ limit }
     requires most { limit ≤ 1_000_000 }
 {
-    let disk = Disk::from_bytes(alloc, b"")?;
     let options = Options { limit, allot: 0 };
-    Ok(Vm::boot(alloc, image, disk, b"", options)?)
+    Vm::boot(alloc, image, no_disk(alloc)?, b"", options)
 }

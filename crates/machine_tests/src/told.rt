@@ -3,6 +3,7 @@
 ghost use Rattle.image_depot.specs.Key.{IsKeyOf};
 ghost use Rattle.vm_cell.specs.Keyed.{IsOfDepot};
 
+use crate::equal::are_equal;
 use crate::guests::{TWO_CHILDREN, booted_at};
 use crate::machine::run_and_fork;
 use crate::worlds::{Deed, does};
@@ -11,36 +12,38 @@ use image_depot::{Depot, Sent};
 use std::alloc::{AllocError, Global};
 use std::process::Abort;
 use std::sync::Wait;
-use std::test::Fail;
 use vm_cell::{Brood, Vm};
 use world_core::World;
 
 // The reply with page 0 of what the machine of two children leaves for them.
-fn reply<R: Wait>(rt: &R, alloc: Global, depot: &Depot) -> Result<Sent, Fail> {
+fn reply<R: Abort + Wait>(rt: &R, alloc: Global, depot: &Depot) -> Result<Sent, AllocError> {
     let mut vm = booted_at(alloc, RAM_BASE, &TWO_CHILDREN, 16)?;
     reply_of(rt, alloc, &mut vm, depot)
 }
 
 // The same of a machine that comes to a CLONE.
-fn reply_of<R: Wait>(rt: &R, alloc: Global, vm: &mut Vm, depot: &Depot) -> Result<Sent, Fail>
+fn reply_of<R: Abort + Wait>(
+    rt: &R,
+    alloc: Global,
+    vm: &mut Vm,
+    depot: &Depot,
+) -> Result<Sent, AllocError>
     requires { IsOfDepot depot.now vm.old.key }
 {
     let brood = run_and_fork(rt, alloc, vm, 2, depot)?;
     pushed(rt, &brood, depot)
 }
 
-fn pushed<R: Wait>(rt: &R, brood: &Brood, depot: &Depot) -> Result<Sent, Fail>
+fn pushed<R: Abort + Wait>(rt: &R, brood: &Brood, depot: &Depot) -> Result<Sent, AllocError>
     requires { IsKeyOf depot.now brood.now.key }
 {
-    if depot.pages(&brood.key) == 0 {
-        return Err("no page".into());
-    }
+    assert!(rt; depot.pages(&brood.key) > 0);
     let parcel = depot.answer(&brood.key, 0)?;
-    Ok(depot.push(rt, parcel)?)
+    depot.push(rt, parcel)
 }
 
 #[test]
-fn a_reply_that_is_told_is_heard(rt: HostRuntime) -> Result<(), Fail> {
+fn a_reply_that_is_told_is_heard(rt: HostRuntime) -> Result<(), AllocError> {
     does(&rt, rt.alloc(), Deed::Tell)
 }
 
@@ -50,15 +53,15 @@ pub(crate) fn tells<R: Abort + Wait>(
     alloc: Global,
     world: &mut World,
     depot: &Depot,
-) -> Result<(), Fail> {
+) -> Result<(), AllocError> {
     let sent = reply(rt, alloc, depot)?;
     is_heard(rt, world, sent)
 }
 
-fn is_heard(rt: &impl Abort, world: &mut World, sent: Sent) -> Result<(), Fail> {
+fn is_heard(rt: &impl Abort, world: &mut World, sent: Sent) -> Result<(), AllocError> {
     let told = (sent.image(), sent.page());
     let heard = heard_around(world, sent)?;
-    assert_eq!(rt; heard, [None, Some(told), None]);
+    are_equal(rt, &heard, &[None, Some(told), None]);
     Ok(())
 }
 

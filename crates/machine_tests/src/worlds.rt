@@ -5,8 +5,9 @@ ghost use Rattle.forest_tree.specs.Tree.{Tree};
 ghost use Rattle.forest_model.specs.Paged.{Paged};
 ghost use Rattle.drive_script.specs.Driven.{HasMachines};
 
+use crate::equal::are_equal;
 use crate::guests::{TWO_CHILDREN, booted_at};
-use crate::scripts::read;
+use crate::scripts::in_form;
 use crate::told::tells;
 use drive_script::{Script, drive};
 use elf_load::RAM_BASE;
@@ -14,11 +15,10 @@ use image_depot::Depot;
 use std::alloc::{AllocError, Global};
 use std::process::Abort;
 use std::sync::Wait;
-use std::test::Fail;
 use world_core::{Placed, Taken, World};
 
 // The world of the machine of two children.
-fn started(alloc: Global, depot: &Depot) -> Result<World, Fail>
+fn started(alloc: Global, depot: &Depot) -> Result<World, AllocError>
     ensures { IfOk result (λ world. (t : Tree Paged) × HasMachines depot.now world t) }
 {
     let vm = booted_at(alloc, RAM_BASE, &TWO_CHILDREN, 16)?;
@@ -51,7 +51,7 @@ fn world_does<R: Abort + Wait>(
     world: &mut World,
     depot: &Depot,
     deed: Deed,
-) -> Result<(), Fail>
+) -> Result<(), AllocError>
     requires { (t : Tree Paged) × HasMachines depot.now world.old t }
 {
     match deed {
@@ -66,19 +66,19 @@ fn started_does<R: Abort + Wait>(
     alloc: Global,
     depot: &Depot,
     deed: Deed,
-) -> Result<(), Fail> {
+) -> Result<(), AllocError> {
     let mut world = started(alloc, depot)?;
     world_does(rt, alloc, &mut world, depot, deed)
 }
 
 // Does this with the world of the machine of two children.
-pub(crate) fn does<R: Abort + Wait>(rt: &R, alloc: Global, deed: Deed) -> Result<(), Fail> {
+pub(crate) fn does<R: Abort + Wait>(rt: &R, alloc: Global, deed: Deed) -> Result<(), AllocError> {
     let depot = Depot::new(alloc)?;
     started_does(rt, alloc, &depot, deed)
 }
 
 #[test]
-fn a_script_drives_a_family(rt: HostRuntime) -> Result<(), Fail> {
+fn a_script_drives_a_family(rt: HostRuntime) -> Result<(), AllocError> {
     does(&rt, rt.alloc(), Deed::Drive)
 }
 
@@ -87,10 +87,10 @@ fn drives<R: Abort + Wait>(
     alloc: Global,
     world: &mut World,
     depot: &Depot,
-) -> Result<(), Fail>
+) -> Result<(), AllocError>
     requires { (t : Tree Paged) × HasMachines depot.now world.old t }
 {
-    let script = read(rt, alloc, SCRIPT)?;
+    let script = in_form(rt, alloc, SCRIPT)?;
     is_driven(rt, alloc, &script, world, depot)
 }
 
@@ -100,24 +100,42 @@ fn is_driven<R: Abort + Wait>(
     script: &Script,
     world: &mut World,
     depot: &Depot,
-) -> Result<(), Fail>
+) -> Result<(), AllocError>
     requires { (t : Tree Paged) × HasMachines depot.now world.old t }
 {
-    let told = drive(rt, alloc, script, world, depot)?;
-    assert_eq!(rt; told.as_slice(), TOLD);
+    let told = told_by(rt, alloc, script, world, depot)?;
+    are_equal(rt, &told.as_slice(), &TOLD);
     Ok(())
 }
 
+// What a script writes that drives a world.
+fn told_by<R: Wait>(
+    rt: &R,
+    alloc: Global,
+    script: &Script,
+    world: &mut World,
+    depot: &Depot,
+) -> Result<Vec<u8>, AllocError>
+    requires { (t : Tree Paged) × HasMachines depot.now world.old t }
+{
+    drive(rt, alloc, script, world, depot)
+}
+
 #[test]
-fn a_machine_is_taken_and_given_back(rt: HostRuntime) -> Result<(), Fail> {
+fn a_machine_is_taken_and_given_back(rt: HostRuntime) -> Result<(), AllocError> {
     does(&rt, rt.alloc(), Deed::GiveBack)
 }
 
-fn gives_back(rt: &impl Abort, alloc: Global, world: &mut World, depot: &Depot) -> Result<(), Fail>
+fn gives_back(
+    rt: &impl Abort,
+    alloc: Global,
+    world: &mut World,
+    depot: &Depot,
+) -> Result<(), AllocError>
     requires { (t : Tree Paged) × HasMachines depot.now world.old t }
 {
     let is_so = is_given_back(alloc, world, depot)?;
-    assert!(rt; is_so);
+    are_equal(rt, &is_so, &true);
     Ok(())
 }
 

@@ -121,7 +121,7 @@ pub fn input(alloc: Global) -> Result<Input, AllocError> {
 }
 
 /// The key to an image of this memory.
-fn frozen<R: Wait>(
+pub fn frozen<R: Wait>(
     rt: &R,
     alloc: Global,
     memory: &GuestMem,
@@ -142,7 +142,7 @@ fn image_of(alloc: Global, memory: &GuestMem, depot: &Depot) -> Result<Frozen, A
 }
 
 /// A clone that starts with an image, with these blank pages, and nothing else here.
-fn bare_clone(
+pub fn bare_clone(
     rt: &impl Abort,
     alloc: Global,
     key: &ImageKey,
@@ -415,37 +415,6 @@ fn clones_store_apart(
     stores_beside(rt, alloc, &mut first, key, parent.blank(alloc)?, depot)
 }
 
-/// A guest is frozen, and stores to two pages. So do two clones of that image.
-fn family_stores_apart<R: Abort + Wait>(
-    rt: &R,
-    alloc: Global,
-    parent: &mut GuestMem,
-    depot: &Depot,
-) -> Result<(), AllocError>
-    requires { IsRamOf depot.now parent.old }
-{
-    let key = frozen(rt, alloc, parent, depot)?;
-    store_two(rt, parent, 1);
-    clones_store_apart(rt, alloc, parent, &key, depot)?;
-    has_words(rt, parent, [1, 1, 0xaaaa_aaaa]);
-    Ok(())
-}
-
-fn booted_family_stores_apart<R: Abort + Wait>(
-    rt: &R,
-    alloc: Global,
-    depot: &Depot,
-) -> Result<(), AllocError> {
-    let mut parent = booted(alloc, 16)?;
-    family_stores_apart(rt, alloc, &mut parent, depot)
-}
-
-#[test]
-fn a_store_after_a_freeze_shows_in_one_guest(rt: HostRuntime) -> Result<(), AllocError> {
-    let depot = Depot::new(rt.alloc())?;
-    booted_family_stores_apart(&rt, rt.alloc(), &depot)
-}
-
 /// An image has the words of the guest that was frozen, and its input.
 fn has_parts(rt: &impl Abort, image: &Frozen) {
     let words = [first_word(image, 0), first_word(image, 1)];
@@ -468,7 +437,7 @@ fn late_clone_is_as_frozen(
     Ok(())
 }
 
-/// A guest is frozen, and stores then. So do two clones of the image, before a third starts.
+/// A guest is frozen, and stores to two pages then. So do two clones of the image, before a third starts.
 fn stays_as_frozen<R: Abort + Wait>(
     rt: &R,
     alloc: Global,
@@ -481,6 +450,7 @@ fn stays_as_frozen<R: Abort + Wait>(
     let key = frozen(rt, alloc, parent, depot)?;
     store_two(rt, parent, 1);
     clones_store_apart(rt, alloc, parent, &key, depot)?;
+    has_words(rt, parent, [1, 1, 0xaaaa_aaaa]);
     late_clone_is_as_frozen(rt, alloc, &key, blank, depot)?;
     has_parts(rt, depot.frozen(&key));
     Ok(())
@@ -497,7 +467,9 @@ fn booted_stays_as_frozen<R: Abort + Wait>(
 }
 
 #[test]
-fn an_image_stays_as_it_was_frozen(rt: HostRuntime) -> Result<(), AllocError> {
+fn a_store_after_a_freeze_shows_in_one_guest_and_in_no_image(
+    rt: HostRuntime,
+) -> Result<(), AllocError> {
     let depot = Depot::new(rt.alloc())?;
     booted_stays_as_frozen(&rt, rt.alloc(), &depot)
 }
@@ -692,21 +664,6 @@ fn absent_page_is_refused<R: Abort + Wait>(
     is_refused_until_it_is_blank(rt, &mut clone)
 }
 
-fn absent_page_of_booted_is_refused<R: Abort + Wait>(
-    rt: &R,
-    alloc: Global,
-    depot: &Depot,
-) -> Result<(), AllocError> {
-    let parent = booted(alloc, 128)?;
-    absent_page_is_refused(rt, alloc, &parent, depot)
-}
-
-#[test]
-fn an_absent_page_is_refused_until_it_is_blank(rt: HostRuntime) -> Result<(), AllocError> {
-    let depot = Depot::new(rt.alloc())?;
-    absent_page_of_booted_is_refused(&rt, rt.alloc(), &depot)
-}
-
 /// The second page of a grandchild is peeked while it is absent, and then the first two are sent.
 fn peeks_and_gets(
     rt: &impl Abort,
@@ -765,6 +722,7 @@ fn comes_from_below<R: Abort + Wait>(
 ) -> Result<(), AllocError> {
     assert!(rt; MIN_PAGES <= pages && pages <= MAX_PAGES);
     let mut parent = booted(alloc, pages)?;
+    absent_page_is_refused(rt, alloc, &parent, depot)?;
     child_stores(rt, alloc, &mut parent, depot)
 }
 
@@ -780,7 +738,9 @@ fn all_come_from_below<R: Abort + Wait>(
 }
 
 #[test]
-fn a_page_comes_from_an_image_below(rt: HostRuntime) -> Result<(), AllocError> {
+fn an_absent_page_is_refused_until_it_is_blank_or_comes_from_below(
+    rt: HostRuntime,
+) -> Result<(), AllocError> {
     let depot = Depot::new(rt.alloc())?;
     all_come_from_below(&rt, rt.alloc(), &depot)
 }

@@ -1,22 +1,28 @@
 //! The block port.
 
-use crate::equal::are_equal;
+use crate::equal::{are_equal, made};
 use block_port::{BlockFields, BlockPort, Status};
-use cow_disk::{Disk, DiskError, FrozenDisk};
+use cow_disk::{Disk, FrozenDisk};
 use port_error::{Fault, PortError};
-use std::alloc::{AllocError, Global};
+use std::alloc::Global;
 use std::process::Abort;
 use std::thread;
 use std::thread::Threads;
 
 /// A frozen disk of one sector of bytes AA.
-fn frozen_disk(alloc: Global) -> Result<FrozenDisk, DiskError> {
-    Ok(Disk::from_bytes(alloc, &[0xaa; 512])?.freeze()?)
+fn frozen_disk(rt: &impl Abort, alloc: Global) -> FrozenDisk {
+    let disk = made(rt, Disk::from_bytes(alloc, &[0xaa; 512]));
+    made(rt, disk.freeze())
+}
+
+/// A port over this disk, which is opened now.
+fn port_over(rt: &impl Abort, frozen: &FrozenDisk) -> BlockPort {
+    BlockPort::new(made(rt, frozen.open()))
 }
 
 /// A port over that disk.
-fn port_at_start(alloc: Global) -> Result<BlockPort, DiskError> {
-    Ok(BlockPort::new(frozen_disk(alloc)?.open()?))
+fn port_at_start(rt: &impl Abort, alloc: Global) -> BlockPort {
+    port_over(rt, &frozen_disk(rt, alloc))
 }
 
 /// SECTOR, STATUS, COUNT and the ends of the buffer.
@@ -60,13 +66,6 @@ fn takes_words(rt: &impl Abort, port: &mut BlockPort) {
     }
 }
 
-#[test]
-fn takes_words_at_its_registers(rt: HostRuntime) -> Result<(), DiskError> {
-    let mut port = port_at_start(rt.alloc())?;
-    takes_words(&rt, &mut port);
-    Ok(())
-}
-
 /// The sector, the command, and then the status and the ends of the buffer.
 static COMMANDS: [(u32, u32, u32, u32, u32); 8] = [
     (1, 1, 1, 0, 0x11223344),
@@ -107,11 +106,11 @@ fn starts(rt: &impl Abort, port: &mut BlockPort) {
 }
 
 #[test]
-fn commands_by_the_table(rt: HostRuntime) -> Result<(), DiskError> {
-    let mut port = port_at_start(rt.alloc())?;
+fn commands_by_the_table_and_words_at_its_registers(rt: HostRuntime) {
+    let mut port = port_at_start(&rt, rt.alloc());
     starts(&rt, &mut port);
     does_commands(&rt, &mut port);
-    Ok(())
+    takes_words(&rt, &mut port);
 }
 
 /// What comes of reading sector 0, and the first word of the buffer then.
@@ -144,26 +143,19 @@ fn writes_alone(rt: &impl Abort, first: &mut BlockPort, second: &mut BlockPort) 
     are_equal(rt, &loads, &[Ok(0), Err(Fault)]);
 }
 
-/// Writes behind one of two ports over this disk.
-fn is_written_behind_one(rt: &impl Abort, frozen: &FrozenDisk) -> Result<(), AllocError> {
-    let mut first = BlockPort::new(frozen.open()?);
-    let mut second = BlockPort::new(frozen.open()?);
+/// Writes behind one of two ports over this disk. It shows behind none that is opened then.
+fn is_written_behind_one(rt: &impl Abort, frozen: &FrozenDisk) {
+    let mut first = port_over(rt, frozen);
+    let mut second = port_over(rt, frozen);
     writes_alone(rt, &mut first, &mut second);
-    Ok(())
-}
-
-fn is_not_written(rt: &impl Abort, frozen: &FrozenDisk) -> Result<(), AllocError> {
-    let mut port = BlockPort::new(frozen.open()?);
-    are_equal(rt, &first_word(&mut port), &read(0xaaaa_aaaa));
-    Ok(())
+    let mut third = port_over(rt, frozen);
+    are_equal(rt, &first_word(&mut third), &read(0xaaaa_aaaa));
 }
 
 #[test]
-fn a_write_shows_behind_one_port(rt: HostRuntime) -> Result<(), DiskError> {
-    let frozen = frozen_disk(rt.alloc())?;
-    is_written_behind_one(&rt, &frozen)?;
-    is_not_written(&rt, &frozen)?;
-    Ok(())
+fn a_write_shows_behind_one_port(rt: HostRuntime) {
+    let frozen = frozen_disk(&rt, rt.alloc());
+    is_written_behind_one(&rt, &frozen);
 }
 
 /// Fills a buffer, and gives a command for a sector that is not there.
@@ -180,23 +172,21 @@ fn has_fields(rt: &impl Abort, port: &mut BlockPort, fields: &BlockFields) {
 }
 
 /// A port of the same fields over a disk that is opened now.
-fn same_port(port: &BlockPort) -> Result<BlockPort, AllocError> {
-    let frozen = port.disk().freeze()?;
-    Ok(BlockPort::of_fields(port.fields(), frozen.open()?))
+fn same_port(rt: &impl Abort, port: &BlockPort) -> BlockPort {
+    let frozen = made(rt, port.disk().freeze());
+    BlockPort::of_fields(port.fields(), made(rt, frozen.open()))
 }
 
-fn is_equal_to_its_same(rt: &impl Abort, port: &BlockPort) -> Result<(), AllocError> {
-    let mut same = same_port(port)?;
+fn is_equal_to_its_same(rt: &impl Abort, port: &BlockPort) {
+    let mut same = same_port(rt, port);
     has_fields(rt, &mut same, &port.fields());
-    Ok(())
 }
 
 #[test]
-fn fields_make_an_equal_port(rt: HostRuntime) -> Result<(), DiskError> {
-    let mut port = port_at_start(rt.alloc())?;
+fn fields_make_an_equal_port(rt: HostRuntime) {
+    let mut port = port_at_start(&rt, rt.alloc());
     asks_for_no_sector(&rt, &mut port);
-    is_equal_to_its_same(&rt, &port)?;
-    Ok(())
+    is_equal_to_its_same(&rt, &port);
 }
 
 /// The numbers by which STATUS tells what became of a command.
@@ -220,8 +210,7 @@ fn word_of_moved<R: Threads>(rt: &R, mut port: BlockPort) -> Word {
 }
 
 #[test]
-fn moves_between_threads(rt: HostRuntime) -> Result<(), DiskError> {
-    let word = word_of_moved(&rt, port_at_start(rt.alloc())?);
+fn moves_between_threads(rt: HostRuntime) {
+    let word = word_of_moved(&rt, port_at_start(&rt, rt.alloc()));
     are_equal(&rt, &word, &read(0xaaaa_aaaa));
-    Ok(())
 }

@@ -1,16 +1,16 @@
 //! The bus: each port at its addresses.
 
-use crate::equal::are_equal;
-use cow_disk::{Disk, DiskError};
+use crate::equal::{are_equal, made};
+use cow_disk::Disk;
 use port_error::{Fault, PortError};
 use std::alloc::Global;
 use std::process::Abort;
 use vm_bus::{Effect, Ports};
 
 /// The ports of a machine with a disk of one sector of bytes AA, one byte of input and 3 clones.
-fn ports_at_start(alloc: Global) -> Result<Ports, DiskError> {
-    let disk = Disk::from_bytes(alloc, &[0xaa; 512])?;
-    Ok(Ports::new(alloc, disk, b"Z", 3)?)
+fn ports_at_start(rt: &impl Abort, alloc: Global) -> Ports {
+    let disk = made(rt, Disk::from_bytes(alloc, &[0xaa; 512]));
+    made(rt, Ports::new(alloc, disk, b"Z", 3))
 }
 
 /// What a load of so many bytes at an address gives a machine that starts.
@@ -56,23 +56,17 @@ static LOADS: [(u32, u32, Result<u32, Fault>); 38] = [
 ];
 
 /// A load gives a machine that starts what the row tells.
-fn loads(
-    rt: &impl Abort,
-    alloc: Global,
-    row: &(u32, u32, Result<u32, Fault>),
-) -> Result<(), DiskError> {
+fn loads(rt: &impl Abort, alloc: Global, row: &(u32, u32, Result<u32, Fault>)) {
     let (address, width, _) = *row;
-    let mut ports = ports_at_start(alloc)?;
+    let mut ports = ports_at_start(rt, alloc);
     are_equal(rt, &(address, width, ports.load(address, width)), row);
-    Ok(())
 }
 
 #[test]
-fn loads_at_each_port_s_edges(rt: HostRuntime) -> Result<(), DiskError> {
+fn loads_at_each_port_s_edges(rt: HostRuntime) {
     for row in LOADS.iter() {
-        loads(&rt, rt.alloc(), row)?;
+        loads(&rt, rt.alloc(), row);
     }
-    Ok(())
 }
 
 /// What a store of so many low bytes of 5 at an address does to a machine that starts.
@@ -114,23 +108,17 @@ static STORES: [(u32, u32, Result<Effect, PortError>); 34] = [
 ];
 
 /// A store of 5 does to a machine that starts what the row tells.
-fn stores(
-    rt: &impl Abort,
-    alloc: Global,
-    row: &(u32, u32, Result<Effect, PortError>),
-) -> Result<(), DiskError> {
+fn stores(rt: &impl Abort, alloc: Global, row: &(u32, u32, Result<Effect, PortError>)) {
     let (address, width, _) = *row;
-    let mut ports = ports_at_start(alloc)?;
+    let mut ports = ports_at_start(rt, alloc);
     are_equal(rt, &(address, width, ports.store(address, width, 5)), row);
-    Ok(())
 }
 
 #[test]
-fn stores_at_each_port_s_edges(rt: HostRuntime) -> Result<(), DiskError> {
+fn stores_at_each_port_s_edges(rt: HostRuntime) {
     for row in STORES.iter() {
-        stores(&rt, rt.alloc(), row)?;
+        stores(&rt, rt.alloc(), row);
     }
-    Ok(())
 }
 
 /// Whether the timer is due. A step is counted then.
@@ -214,10 +202,9 @@ fn all_keep(rt: &impl Abort, ports: &mut Ports) {
 }
 
 #[test]
-fn each_port_keeps_what_is_stored(rt: HostRuntime) -> Result<(), DiskError> {
-    let mut ports = ports_at_start(rt.alloc())?;
+fn each_port_keeps_what_is_stored(rt: HostRuntime) {
+    let mut ports = ports_at_start(&rt, rt.alloc());
     all_keep(&rt, &mut ports);
     let output = ports.into_output();
     are_equal(&rt, &output.as_slice(), &b"A".as_slice());
-    Ok(())
 }

@@ -2,7 +2,7 @@
 
 ghost use Rattle.std.specs.Prelude.{◌≤◌, length};
 
-use crate::equal::are_equal;
+use crate::equal::{are_equal, made};
 use console_port::{ConsoleFields, ConsolePort, Input};
 use port_error::{Fault, PortError};
 use std::alloc::{AllocError, Global};
@@ -40,10 +40,9 @@ fn takes_bytes(rt: &impl Abort, port: &mut ConsolePort) {
 }
 
 #[test]
-fn takes_bytes_at_eight_offsets(rt: HostRuntime) -> Result<(), AllocError> {
-    let mut port = ConsolePort::new(rt.alloc(), b"Z")?;
+fn takes_bytes_at_eight_offsets(rt: HostRuntime) {
+    let mut port = made(&rt, ConsolePort::new(rt.alloc(), b"Z"));
     takes_bytes(&rt, &mut port);
-    Ok(())
 }
 
 /// What all eight registers read, from the last to the first.
@@ -87,12 +86,11 @@ fn loads_and_stores(rt: &impl Abort, port: &mut ConsolePort) {
 }
 
 #[test]
-fn loads_and_stores_by_the_table(rt: HostRuntime) -> Result<(), AllocError> {
-    let mut port = ConsolePort::new(rt.alloc(), b"YZ")?;
+fn loads_and_stores_by_the_table(rt: HostRuntime) {
+    let mut port = made(&rt, ConsolePort::new(rt.alloc(), b"YZ"));
     loads_and_stores(&rt, &mut port);
     let output = port.into_output();
     are_equal(&rt, &output.as_slice(), &b"AB".as_slice());
-    Ok(())
 }
 
 fn starts_with(rt: &impl Abort, port: &mut ConsolePort, read: [u32; 8]) {
@@ -102,23 +100,17 @@ fn starts_with(rt: &impl Abort, port: &mut ConsolePort, read: [u32; 8]) {
 }
 
 /// What is read of a port that starts with this input.
-fn is_read_of(
-    rt: &impl Abort,
-    alloc: Global,
-    input: &[u8],
-    read: [u32; 8],
-) -> Result<(), AllocError>
+fn is_read_of(rt: &impl Abort, alloc: Global, input: &[u8], read: [u32; 8])
     requires { length input.now ≤ 65536 }
 {
-    let mut port = ConsolePort::new(alloc, input)?;
+    let mut port = made(rt, ConsolePort::new(alloc, input));
     starts_with(rt, &mut port, read);
-    Ok(())
 }
 
 #[test]
-fn starts_with_registers_of_zeros(rt: HostRuntime) -> Result<(), AllocError> {
-    is_read_of(&rt, rt.alloc(), b"", [0, 0, 0x60, 0, 0, 0, 0, 0])?;
-    is_read_of(&rt, rt.alloc(), b"Z", [0, 0, 0x61, 0, 0, 0, 0, 0x5a])
+fn starts_with_registers_of_zeros(rt: HostRuntime) {
+    is_read_of(&rt, rt.alloc(), b"", [0, 0, 0x60, 0, 0, 0, 0, 0]);
+    is_read_of(&rt, rt.alloc(), b"Z", [0, 0, 0x61, 0, 0, 0, 0, 0x5a]);
 }
 
 fn is_latched(rt: &impl Abort, port: &mut ConsolePort, fields: ConsoleFields) {
@@ -137,16 +129,20 @@ fn keeps_its_input(rt: &impl Abort, port: &mut ConsolePort, fields: ConsoleField
     are_equal(rt, &port.input(), &b"YZ".as_slice());
 }
 
+/// The input of the bytes YZ.
+fn input_of_two(alloc: Global) -> Result<Input, AllocError> {
+    Input::new(alloc, b"YZ".to_vec(alloc)?)
+}
+
 #[test]
-fn a_latched_console_keeps_its_input(rt: HostRuntime) -> Result<(), AllocError> {
-    let input = Input::new(rt.alloc(), b"YZ".to_vec(rt.alloc())?)?;
+fn a_latched_console_keeps_its_input(rt: HostRuntime) {
     let fields = ConsoleFields {
         place: 1,
         line_control: 0x83,
     };
+    let input = made(&rt, input_of_two(rt.alloc()));
     let mut port = ConsolePort::of_fields(rt.alloc(), fields, input);
     keeps_its_input(&rt, &mut port, fields);
-    Ok(())
 }
 
 /// The byte that is read in a thread.
@@ -156,8 +152,7 @@ fn byte_of_moved<R: Threads>(rt: &R, mut port: ConsolePort) -> Result<u32, Fault
 }
 
 #[test]
-fn moves_between_threads(rt: HostRuntime) -> Result<(), AllocError> {
-    let byte = byte_of_moved(&rt, ConsolePort::new(rt.alloc(), b"Z")?);
+fn moves_between_threads(rt: HostRuntime) {
+    let byte = byte_of_moved(&rt, made(&rt, ConsolePort::new(rt.alloc(), b"Z")));
     are_equal(&rt, &byte, &Ok(0x5a));
-    Ok(())
 }

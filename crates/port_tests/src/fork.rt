@@ -1,6 +1,6 @@
 //! The fork port. Its registers, commands and refusals are told here by their numbers.
 
-use crate::equal::are_equal;
+use crate::equal::{are_equal, made};
 use fork_port::{Asked, Call, Effect, Ending, ForkFields, ForkPort};
 use port_error::{Fault, PortError};
 use std::process::Abort;
@@ -19,7 +19,7 @@ const KILL: u32 = 4;
 const TICKETS_END: u32 = 0xffff_fffa;
 
 /// Carries out a command, where it is a JOIN with these endings.
-fn carry_out(port: &mut ForkPort, command: u32, endings: &[Ending]) -> Result<(), PortError> {
+fn carry_out(rt: &impl Abort, port: &mut ForkPort, command: u32, endings: &[Ending]) {
     match port.asked(command) {
         Asked::Call(Call::Clone(number)) => port.cloned(number),
         Asked::Call(Call::Kill(number)) => port.killed(number),
@@ -27,30 +27,30 @@ fn carry_out(port: &mut ForkPort, command: u32, endings: &[Ending]) -> Result<()
             if let Some((children, _, _)) = port.find(number)
                 && children as usize == endings.len()
             {
-                port.joined(number, endings)?;
+                made(rt, port.joined(number, endings));
             }
         }
         _ => {
             if port.fields().next_ticket < TICKETS_END {
-                port.store(8, 4, command)?;
+                made(rt, port.store(8, 4, command));
             }
         }
     }
-    Ok(())
 }
 
 /// Stores the arguments, carries out the command, and loads RESULT.
 fn run(
+    rt: &impl Abort,
     port: &mut ForkPort,
     command: u32,
     first: u32,
     second: u32,
     endings: &[Ending],
-) -> Result<u32, PortError> {
-    port.store(0, 4, first)?;
-    port.store(4, 4, second)?;
-    carry_out(port, command, endings)?;
-    Ok(port.load(12, 4)?)
+) -> u32 {
+    made(rt, port.store(0, 4, first));
+    made(rt, port.store(4, 4, second));
+    carry_out(rt, port, command, endings);
+    made(rt, port.load(12, 4))
 }
 
 /// GRANTED and ALLOT.
@@ -113,14 +113,17 @@ fn takes_words_at_its_registers(rt: HostRuntime) {
 }
 
 /// RESULT, GRANTED and ALLOT after a command, and ticket 1.
-type Told = (
-    Result<u32, PortError>,
-    [Result<u32, Fault>; 2],
-    Option<(u32, u32, bool)>,
-);
+type Told = (u32, [Result<u32, Fault>; 2], Option<(u32, u32, bool)>);
 
-fn told_of(port: &mut ForkPort, command: u32, first: u32, second: u32, endings: &[Ending]) -> Told {
-    let result = run(port, command, first, second, endings);
+fn told_of(
+    rt: &impl Abort,
+    port: &mut ForkPort,
+    command: u32,
+    first: u32,
+    second: u32,
+    endings: &[Ending],
+) -> Told {
+    let result = run(rt, port, command, first, second, endings);
     (result, amounts(port), port.find(1))
 }
 
@@ -129,12 +132,12 @@ fn starts(rt: &impl Abort, port: &ForkPort) {
 }
 
 fn is_granted_cloned_and_joined(rt: &impl Abort, port: &mut ForkPort) {
-    let granted = told_of(port, TICKET, 4, 2, &[]);
-    are_equal(rt, &granted, &(Ok(1), [Ok(2), Ok(1)], Some((2, 2, false))));
-    let cloned = told_of(port, CLONE, 1, 0, &[]);
-    are_equal(rt, &cloned, &(Ok(0), [Ok(2), Ok(1)], Some((2, 2, true))));
-    let joined = told_of(port, JOIN, 1, 0, &[Ending::Exit(5), Ending::Limit]);
-    are_equal(rt, &joined, &(Ok(2), [Ok(2), Ok(7)], None));
+    let granted = told_of(rt, port, TICKET, 4, 2, &[]);
+    are_equal(rt, &granted, &(1, [Ok(2), Ok(1)], Some((2, 2, false))));
+    let cloned = told_of(rt, port, CLONE, 1, 0, &[]);
+    are_equal(rt, &cloned, &(0, [Ok(2), Ok(1)], Some((2, 2, true))));
+    let joined = told_of(rt, port, JOIN, 1, 0, &[Ending::Exit(5), Ending::Limit]);
+    are_equal(rt, &joined, &(2, [Ok(2), Ok(7)], None));
 }
 
 /// A child of the last join, and then JKIND and JVALUE.
@@ -155,7 +158,7 @@ fn tells_of_the_join(rt: &impl Abort, port: &mut ForkPort) {
     for (child, want) in JOINED.iter() {
         tells_of_a_child(rt, port, *child, *want);
     }
-    are_equal(rt, &run(port, TICKET, 1, 0, &[]), &Ok(2));
+    are_equal(rt, &run(rt, port, TICKET, 1, 0, &[]), &2);
 }
 
 #[test]
@@ -201,8 +204,8 @@ fn does_a_command(
     row: &(u32, u32, u32, u32, u32, u32),
 ) {
     let (command, first, second, result, granted, allot) = *row;
-    let found = run(port, command, first, second, &[]);
-    let want = (Ok(result), [Ok(granted), Ok(allot)]);
+    let found = run(rt, port, command, first, second, &[]);
+    let want = (result, [Ok(granted), Ok(allot)]);
     are_equal(rt, &(at, (found, amounts(port))), &(at, want));
 }
 
@@ -212,13 +215,15 @@ fn does_commands(rt: &impl Abort, port: &mut ForkPort) {
     }
 }
 
-/// What EXIT and ZERO ask of the machine, with RESULT, which they leave.
-fn ask_of_the_machine(port: &mut ForkPort) -> Result<(Effect, Effect, u32), PortError> {
-    port.store(0, 4, 9)?;
-    port.store(4, 4, 2)?;
-    let exit = port.store(8, 4, 5)?;
-    let zero = port.store(8, 4, 6)?;
-    Ok((exit, zero, port.load(12, 4)?))
+/// What the arguments, EXIT and ZERO ask of the machine, and RESULT, which they leave.
+fn ask_of_the_machine(port: &mut ForkPort) -> ([Result<Effect, PortError>; 4], Result<u32, Fault>) {
+    let asked = [
+        port.store(0, 4, 9),
+        port.store(4, 4, 2),
+        port.store(8, 4, 5),
+        port.store(8, 4, 6),
+    ];
+    (asked, port.load(12, 4))
 }
 
 #[test]
@@ -229,8 +234,13 @@ fn commands_by_the_table(rt: HostRuntime) {
 }
 
 fn asks_and_is_refused(rt: &impl Abort, port: &mut ForkPort) {
-    let asked = ask_of_the_machine(port);
-    are_equal(rt, &asked, &Ok((Effect::Exit(9), Effect::Zero(9, 2), 0)));
+    let asked = [
+        Effect::Done,
+        Effect::Done,
+        Effect::Exit(9),
+        Effect::Zero(9, 2),
+    ];
+    are_equal(rt, &ask_of_the_machine(port), &(asked.map(Ok), Ok(0)));
     port.refuse(0xffff_fffc);
     are_equal(rt, &port.load(12, 4), &Ok(0xffff_fffc));
 }
@@ -244,15 +254,15 @@ static GREATEST: [(u32, u32, u32, u32); 4] = [
 ];
 
 /// RESULT after each of three commands, and GRANTED and ALLOT after the first and the last.
-type Given = ([Result<u32, PortError>; 3], [[Result<u32, Fault>; 2]; 2]);
+type Given = ([u32; 3], [[Result<u32, Fault>; 2]; 2]);
 
-fn given(port: &mut ForkPort, children: u32, share: u32) -> Given {
-    let ticket = run(port, TICKET, children, share, &[]);
+fn given(rt: &impl Abort, port: &mut ForkPort, children: u32, share: u32) -> Given {
+    let ticket = run(rt, port, TICKET, children, share, &[]);
     let taken = amounts(port);
     let results = [
         ticket,
-        run(port, CLONE, 1, 0, &[]),
-        run(port, KILL, 1, 0, &[]),
+        run(rt, port, CLONE, 1, 0, &[]),
+        run(rt, port, KILL, 1, 0, &[]),
     ];
     (results, [taken, amounts(port)])
 }
@@ -260,8 +270,8 @@ fn given(port: &mut ForkPort, children: u32, share: u32) -> Given {
 fn gives_and_takes(rt: &impl Abort, port: &mut ForkPort, row: (u32, u32, u32, u32)) {
     let (children, share, granted, allot) = row;
     let amounts = [[Ok(granted), Ok(allot)], [Ok(granted), Ok(0xffff_ffff)]];
-    let want = ([Ok(1), Ok(0), Ok(granted)], amounts);
-    are_equal(rt, &(row, given(port, children, share)), &(row, want));
+    let want = ([1, 0, granted], amounts);
+    are_equal(rt, &(row, given(rt, port, children, share)), &(row, want));
 }
 
 #[test]
@@ -273,11 +283,11 @@ fn the_greatest_tickets(rt: HostRuntime) {
 }
 
 fn makes_a_child(rt: &impl Abort, port: &mut ForkPort, share: u32) {
-    let ticket = run(port, TICKET, 1, share, &[]);
+    let ticket = run(rt, port, TICKET, 1, share, &[]);
     let taken = amounts(port);
-    let results = [ticket, run(port, CLONE, 1, 8, &[])];
+    let results = [ticket, run(rt, port, CLONE, 1, 8, &[])];
     let stored = port.store(24, 4, 1);
-    let want = ([Ok(1), Ok(0)], [Ok(1), Ok(0)], Ok(Effect::Done));
+    let want = ([1, 0], [Ok(1), Ok(0)], Ok(Effect::Done));
     are_equal(rt, &(results, taken, stored), &want);
 }
 
@@ -315,7 +325,7 @@ fn child_of(rt: &impl Abort, port: &mut ForkPort, share: u32) -> ForkPort {
 }
 
 fn has_no_share(rt: &impl Abort, port: &mut ForkPort) {
-    are_equal(rt, &run(port, TICKET, 1, 0, &[]), &Ok(0xffff_fffb));
+    are_equal(rt, &run(rt, port, TICKET, 1, 0, &[]), &0xffff_fffb);
 }
 
 static SHARES: [u32; 4] = [3, 2, 1, 0];
@@ -334,7 +344,7 @@ fn has_fields(rt: &impl Abort, port: &ForkPort, fields: ForkFields) {
 }
 
 fn gives_the_next_ticket(rt: &impl Abort, port: &mut ForkPort) {
-    are_equal(rt, &run(port, TICKET, 9, 0, &[]), &Ok(2));
+    are_equal(rt, &run(rt, port, TICKET, 9, 0, &[]), &2);
 }
 
 #[test]
@@ -347,9 +357,9 @@ fn fields_make_a_port_without_tickets(rt: HostRuntime) {
 }
 
 fn fields_after_a_ticket(rt: &impl Abort, port: &mut ForkPort) -> ForkFields {
-    let stored = (run(port, TICKET, 2, 1, &[]), port.store(24, 4, 3));
+    let stored = (run(rt, port, TICKET, 2, 1, &[]), port.store(24, 4, 3));
     let fields = port.fields();
-    are_equal(rt, &stored, &(Ok(1), Ok(Effect::Done)));
+    are_equal(rt, &stored, &(1, Ok(Effect::Done)));
     are_equal(
         rt,
         &[fields.result, fields.granted, fields.allot],
@@ -376,13 +386,13 @@ fn registers_by_their_offsets(rt: HostRuntime) {
 }
 
 /// The number of a ticket that is asked for in a thread.
-fn ticket_of_moved<R: Threads>(rt: &R, mut port: ForkPort) -> Result<u32, PortError> {
-    let (number, _) = thread::join(rt, move || run(&mut port, TICKET, 1, 0, &[]), || ());
+fn ticket_of_moved<R: Abort + Threads + Sync>(rt: &R, mut port: ForkPort) -> u32 {
+    let (number, _) = thread::join(rt, move || run(rt, &mut port, TICKET, 1, 0, &[]), || ());
     number
 }
 
 #[test]
 fn moves_between_threads(rt: HostRuntime) {
     let number = ticket_of_moved(&rt, ForkPort::new(rt.alloc(), 1));
-    are_equal(&rt, &number, &Ok(1));
+    are_equal(&rt, &number, &1);
 }

@@ -1,5 +1,6 @@
 //! What `self` writes of the guest of seed 1, by some workers and by several at once.
 
+use crate::equal::are_equal;
 use crate::tests::{answer_of, words_of};
 use crossbeam_utils::Backoff;
 use host_workers::{Gate, OpenGate, Point};
@@ -9,7 +10,6 @@ use std::alloc::{AllocError, Global};
 use std::process::Abort;
 use std::sync::Wait;
 use std::sync::atomic::{AtomicU64, Ordering};
-use std::test::Fail;
 use std::thread::Threads;
 use wire_fates::Seeded;
 
@@ -117,8 +117,7 @@ fn answer<R: AllocGlobal + Threads + Wait + Sync + Abort, G: Gate + Sync>(
 
 /// Compares an answer with code 0, and what is out with the line.
 fn compare<R: Abort>(rt: &R, line: &str, found: &Status, sink: &MemSink) {
-    assert_eq!(rt; found.code, 0, "{line}");
-    assert_eq!(rt; sink.bytes(), LINE);
+    are_equal(rt, &(line, found.code, sink.bytes()), &(line, 0, LINE));
 }
 
 /// Expects that a command line writes the line, over so many wires.
@@ -127,7 +126,7 @@ fn writes_line<R: AllocGlobal + Threads + Wait + Sync + Abort, G: Gate + Sync>(
     line: &str,
     count: usize,
     gate: &G,
-) -> Result<(), Fail> {
+) -> Result<(), AllocError> {
     let mut outside = outside_of(rt.alloc(), line, count)?;
     let found = answer(rt, &mut outside, gate);
     compare(rt, line, &found, &outside.sink);
@@ -143,7 +142,7 @@ static LINES: [(&str, usize); 4] = [
 ];
 
 #[test]
-fn writes_the_line_of_a_guest(rt: HostRuntime) -> Result<(), Fail> {
+fn writes_the_line_of_a_guest(rt: HostRuntime) -> Result<(), AllocError> {
     for (line, count) in LINES.iter() {
         writes_line(&rt, line, *count, &OpenGate)?;
     }
@@ -151,9 +150,9 @@ fn writes_the_line_of_a_guest(rt: HostRuntime) -> Result<(), Fail> {
 }
 
 #[test]
-fn four_workers_run_at_once(rt: HostRuntime) -> Result<(), Fail> {
+fn four_workers_run_at_once(rt: HostRuntime) -> Result<(), AllocError> {
     let meeting = Meeting::new(4);
     writes_line(&rt, "self 1 --workers 4", 64, &meeting)?;
-    assert!(rt; meeting.was_held());
+    are_equal(&rt, &meeting.was_held(), &true);
     Ok(())
 }

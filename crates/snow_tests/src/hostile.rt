@@ -1,6 +1,7 @@
 //! Bytes that are not in form, and some that just are: images, descriptors, frames and scripts, each with what comes of
 //! them. Images and scripts are read by `snow`, with its code.
 
+use crate::equal::are_equal;
 use crate::tests::{answers, exit_seven};
 use fetch_proto::decode_frame;
 use flat_memory::{push_words, write_bytes};
@@ -8,7 +9,6 @@ use snow_commands::Status;
 use std::alloc::{AllocError, Global};
 use std::process::Abort;
 use std::sync::Wait;
-use std::test::Fail;
 use std::thread::Threads;
 use vm_descriptor::{DescError, Descriptor};
 
@@ -198,7 +198,7 @@ fn is_run<R: AllocGlobal + Threads + Wait + Sync + Abort>(
     code: u8,
     first: u32,
     out: &[u8],
-) -> Result<(), Fail> {
+) -> Result<(), AllocError> {
     let status = Status {
         code,
         first,
@@ -221,7 +221,7 @@ fn is_no_script<R: AllocGlobal + Threads + Wait + Sync + Abort>(
     script: &[u8],
     line: u32,
     kind: u32,
-) -> Result<(), Fail> {
+) -> Result<(), AllocError> {
     let image = exit_seven(rt.alloc())?;
     let status = Status {
         code: 8,
@@ -241,14 +241,19 @@ fn reason(alloc: Global, bytes: &[u8]) -> Option<u32> {
 }
 
 /// Expects that bytes are a descriptor, for the reason 0, or none for another.
-fn is_descriptor(rt: &impl Abort, alloc: Global, bytes: &[u8], number: u32) -> Result<(), Fail> {
-    assert_eq!(rt; reason(alloc, bytes), Some(number));
+fn is_descriptor(
+    rt: &impl Abort,
+    alloc: Global,
+    bytes: &[u8],
+    number: u32,
+) -> Result<(), AllocError> {
+    are_equal(rt, &reason(alloc, bytes), &Some(number));
     Ok(())
 }
 
 /// Expects that bytes are a frame, or none.
-fn is_frame(rt: &impl Abort, bytes: &[u8], is_one: bool) -> Result<(), Fail> {
-    assert_eq!(rt; decode_frame(bytes).is_some(), is_one);
+fn is_frame(rt: &impl Abort, bytes: &[u8], is_one: bool) -> Result<(), AllocError> {
+    are_equal(rt, &decode_frame(bytes).is_some(), &is_one);
     Ok(())
 }
 
@@ -257,7 +262,7 @@ fn come_to<R: AllocGlobal + Threads + Wait + Sync + Abort>(
     rt: &R,
     bytes: &[u8],
     answer: Answer,
-) -> Result<(), Fail> {
+) -> Result<(), AllocError> {
     match answer {
         Answer::Exits => is_run(rt, bytes, 0, 0, b"machine 0 exit 7 steps 5 out 0\n\n"),
         Answer::ComesToLimit => is_run(rt, bytes, 0, 0, b"machine 0 limit steps 10 out 0\n\n"),
@@ -271,7 +276,7 @@ fn come_to<R: AllocGlobal + Threads + Wait + Sync + Abort>(
 }
 
 #[test]
-fn bytes_come_to_their_answers(rt: HostRuntime) -> Result<(), Fail> {
+fn bytes_come_to_their_answers(rt: HostRuntime) -> Result<(), AllocError> {
     for (form, length, at, new, answer) in BYTES.iter() {
         row_comes_to(&rt, *form, *length, *at, new, *answer)?;
     }
@@ -286,7 +291,7 @@ fn row_comes_to<R: AllocGlobal + Threads + Wait + Sync + Abort>(
     at: usize,
     new: &[u8],
     answer: Answer,
-) -> Result<(), Fail> {
+) -> Result<(), AllocError> {
     let bytes = changed(rt.alloc(), form, length, at, new)?;
     come_to(rt, &bytes, answer)
 }

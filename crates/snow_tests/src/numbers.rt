@@ -1,5 +1,6 @@
 //! The numbers that stand behind the names of constants.
 
+use crate::equal::are_equal;
 use command_line::{
     DEFAULT_AHEAD, DEFAULT_CLONES, DEFAULT_LIMIT, DEFAULT_PAGES, DEFAULT_SEED, DEFAULT_SLICE,
     DEFAULT_WORKERS, GENERATED_AHEAD, GENERATED_CLONES, LEAST_LIMIT, LEAST_SLICE, LEAST_WORKERS,
@@ -59,13 +60,13 @@ static SIZES: [(usize, usize); 3] = [
 
 fn are_these(rt: &impl Abort, table: &[(u32, u32)]) {
     for (is, number) in table {
-        assert_eq!(rt; is, number);
+        are_equal(rt, is, number);
     }
 }
 
 fn sizes_are_these(rt: &impl Abort) {
     for (is, number) in SIZES.iter() {
-        assert_eq!(rt; is, number);
+        are_equal(rt, is, number);
     }
 }
 

@@ -3,6 +3,7 @@
 
 ghost use Rattle.std.specs.Prelude.{◌≤◌, length};
 
+use crate::equal::are_equal;
 use elf_load::RAM_BASE;
 use host_workers::{Gate, OpenGate};
 use io_edge::{MemShelf, MemSink};
@@ -11,7 +12,6 @@ use snow_commands::{MOST_WIRES, Status, snow};
 use std::alloc::{AllocError, Global};
 use std::process::Abort;
 use std::sync::Wait;
-use std::test::Fail;
 use std::thread::Threads;
 use wire_fates::{Fate, Scripted, Wire};
 
@@ -193,8 +193,7 @@ fn compare<R: Abort>(
     status: &Status,
     out: &[u8],
 ) {
-    assert_eq!(rt; *found, *status, "{line}");
-    assert_eq!(rt; sink.bytes(), out);
+    are_equal(rt, &(line, found, sink.bytes()), &(line, status, out));
 }
 
 /// Runs a command line over an image and a script, with a shelf whose load of this number fails, and compares what it
@@ -207,7 +206,7 @@ pub(crate) fn answers<R: AllocGlobal + Threads + Wait + Sync + Abort>(
     fails: u64,
     status: &Status,
     out: &[u8],
-) -> Result<(), Fail> {
+) -> Result<(), AllocError> {
     let mut outside = outside_of(rt.alloc(), line, image, script, fails, 0, GIVING)?;
     let found = answer(rt, &mut outside);
     compare(rt, line, &found, &outside.sink, status, out);
@@ -221,7 +220,7 @@ fn writes<R: AllocGlobal + Threads + Wait + Sync + Abort>(
     guest: &[u32],
     script: &[u8],
     out: &[u8],
-) -> Result<(), Fail>
+) -> Result<(), AllocError>
     requires { length guest.now ≤ 64 }
 {
     let image = elf_of(rt.alloc(), RAM_BASE, guest)?;
@@ -234,7 +233,7 @@ fn writes<R: AllocGlobal + Threads + Wait + Sync + Abort>(
 }
 
 #[test]
-fn writes_reports(rt: HostRuntime) -> Result<(), Fail> {
+fn writes_reports(rt: HostRuntime) -> Result<(), AllocError> {
     let report: &[u8] = b"machine 0 exit 7 steps 5 out 0\n\n";
     writes(&rt, "run guest", &EXIT_SEVEN, b"", report)?;
     writes(
@@ -254,7 +253,7 @@ fn writes_reports(rt: HostRuntime) -> Result<(), Fail> {
 }
 
 #[test]
-fn writes_what_scripts_tell(rt: HostRuntime) -> Result<(), Fail> {
+fn writes_what_scripts_tell(rt: HostRuntime) -> Result<(), AllocError> {
     let script: &[u8] =
         b"step 0 12\nstep 0.1.1 6\nask 0.1.1\ngive 0.1.2 0\nstep 0.1.2 9\nstep 0 9\ngive 0.1.1 0\nstep 0.1.1 6\nstep 0 7\nstep 0 1\n";
     let told: &[u8] =
@@ -301,7 +300,7 @@ pub(crate) fn exit_seven(alloc: Global) -> Result<Vec<u8>, AllocError> {
 }
 
 #[test]
-fn refuses_by_cause(rt: HostRuntime) -> Result<(), Fail> {
+fn refuses_by_cause(rt: HostRuntime) -> Result<(), AllocError> {
     let image = exit_seven(rt.alloc())?;
     for (line, length, script, code, first, second) in REFUSALS.iter() {
         let (guest, _) = image.split_at(image.len().min(*length));
@@ -321,7 +320,7 @@ fn stops_at_load<R: AllocGlobal + Threads + Wait + Sync + Abort>(
     image: &[u8],
     script: &[u8],
     load: u32,
-) -> Result<(), Fail> {
+) -> Result<(), AllocError> {
     let line = "drive guest script --disk disk --input input";
     let status = Status {
         code: 1,
@@ -333,7 +332,7 @@ fn stops_at_load<R: AllocGlobal + Threads + Wait + Sync + Abort>(
 
 // Each load that `drive` makes, in order: where all that is read is in form, and where nothing is.
 #[test]
-fn stops_at_each_load(rt: HostRuntime) -> Result<(), Fail> {
+fn stops_at_each_load(rt: HostRuntime) -> Result<(), AllocError> {
     let image = exit_seven(rt.alloc())?;
     for load in 1..=4u32 {
         stops_at_load(&rt, &image, b"step 0 1\n", load)?;
@@ -388,8 +387,8 @@ static WIRES: [(&str, Wires, u8); 11] = [
 
 /// Compares the code of a run with what is wanted. Something is out just where it is 0.
 fn compare_code<R: Abort>(rt: &R, line: &str, found: &Status, sink: &MemSink, code: u8) {
-    let answer = (found.code, sink.bytes().is_empty());
-    assert_eq!(rt; answer, (code, code != 0), "{line}");
+    let is_empty = sink.bytes().is_empty();
+    are_equal(rt, &(line, found.code, is_empty), &(line, code, code != 0));
 }
 
 /// Runs a line over an image and wires, and compares its code.
@@ -399,7 +398,7 @@ fn has_code<R: AllocGlobal + Threads + Wait + Sync + Abort>(
     image: &[u8],
     wires: Wires,
     code: u8,
-) -> Result<(), Fail> {
+) -> Result<(), AllocError> {
     let mut outside = outside_of(rt.alloc(), line, image, b"", 0, 0, wires)?;
     let found = answer(rt, &mut outside);
     compare_code(rt, line, &found, &outside.sink, code);
@@ -412,7 +411,7 @@ fn two_children(alloc: Global) -> Result<Vec<u8>, AllocError> {
 }
 
 #[test]
-fn loses_its_wire(rt: HostRuntime) -> Result<(), Fail> {
+fn loses_its_wire(rt: HostRuntime) -> Result<(), AllocError> {
     let image = two_children(rt.alloc())?;
     for (line, wires, code) in WIRES.iter() {
         has_code(&rt, line, &image, *wires, *code)?;
@@ -422,7 +421,7 @@ fn loses_its_wire(rt: HostRuntime) -> Result<(), Fail> {
 
 // So many losses, and the next reply comes.
 #[test]
-fn bears_losses(rt: HostRuntime) -> Result<(), Fail> {
+fn bears_losses(rt: HostRuntime) -> Result<(), AllocError> {
     let image = two_children(rt.alloc())?;
     let line = "run guest --clones 1 --workers 1";
     for times in 0..64 {
@@ -436,9 +435,13 @@ fn compare_cut<R: Abort>(rt: &R, found: &Status, sink: &MemSink, fails: u64)
     requires least { 1 ≤ fails }
     requires most { fails ≤ 16 }
 {
-    assert_eq!(rt; found.code, 5);
-    assert_eq!(rt; sink.bytes().len() as u64, 7 * (fails - 1));
-    assert!(rt; TWO_CHILDREN_REPORT.starts_with(sink.bytes()));
+    let is_prefix = TWO_CHILDREN_REPORT.starts_with(sink.bytes());
+    let length = sink.bytes().len() as u64;
+    are_equal(
+        rt,
+        &(found.code, length, is_prefix),
+        &(5, 7 * (fails - 1), true),
+    );
 }
 
 /// Runs a guest of two children over a sink whose put of this number fails.
@@ -446,7 +449,7 @@ fn stops_at_put<R: AllocGlobal + Threads + Wait + Sync + Abort>(
     rt: &R,
     image: &[u8],
     fails: u64,
-) -> Result<(), Fail>
+) -> Result<(), AllocError>
     requires least { 1 ≤ fails }
     requires most { fails ≤ 16 }
 {
@@ -459,7 +462,7 @@ fn stops_at_put<R: AllocGlobal + Threads + Wait + Sync + Abort>(
 
 // The report of 110 bytes goes out seven by seven.
 #[test]
-fn stops_at_each_put(rt: HostRuntime) -> Result<(), Fail> {
+fn stops_at_each_put(rt: HostRuntime) -> Result<(), AllocError> {
     let image = two_children(rt.alloc())?;
     for fails in 1..=16u64 {
         stops_at_put(&rt, &image, fails)?;

@@ -4,9 +4,9 @@ use crate::bells::Bell;
 use crossbeam_utils::Backoff;
 use std::hint::spin_loop;
 
-/// How long a thread stays awake while no turn passes, in pauses of the processor: some tens of microseconds. Most turns
+/// How long a thread stays awake while no turn passes, in pauses of the processor: 20 to 240 microseconds. Most turns
 /// are far shorter. Who sleeps, or leaves the processor to another program, comes back late, and so do all behind it.
-const LONGEST_WATCH: u32 = 1000;
+const LONGEST_WATCH: u32 = 4000;
 
 /// The mean of the pauses of one spin, which grow from 1 to 64.
 const A_SPIN: u32 = 32;

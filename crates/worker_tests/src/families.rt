@@ -14,7 +14,6 @@ use std::alloc::{AllocError, Global};
 use std::marker::{Send, Sync};
 use std::snapshot::Snapshot;
 use std::sync::Wait;
-use std::test::Fail;
 use std::thread::Threads;
 use vm_cell::Vm;
 use wire_fates::{Seeded, Wire};
@@ -31,7 +30,12 @@ pub struct Ended {
 }
 
 /// The board of the family of the machine of these words, and the one pass to it.
-fn board_of(alloc: Global, words: &[u32], clones: u32, depot: &Depot) -> Result<(Board, Pass), Fail>
+fn board_of(
+    alloc: Global,
+    words: &[u32],
+    clones: u32,
+    depot: &Depot,
+) -> Result<(Board, Pass), AllocError>
     requires words { length words.now ≤ 64 }
     requires clones { clones ≤ 4096 }
     ensures depot { IfOk result (λ made. depot_of made.0.opening ≡ depot.now) }
@@ -39,7 +43,7 @@ fn board_of(alloc: Global, words: &[u32], clones: u32, depot: &Depot) -> Result<
     ensures none { IfOk result (λ made. HoldsNone made.1) }
 {
     let vm = booted(alloc, words, clones)?;
-    Ok(board_of_machine(alloc, vm, depot)?)
+    board_of_machine(alloc, vm, depot)
 }
 
 /// The same of a machine.
@@ -55,6 +59,36 @@ fn board_of_machine(alloc: Global, vm: Vm, depot: &Depot) -> Result<(Board, Pass
     Board::new(alloc, world, first, depot)
 }
 
+/// Lets a worker for each wire run the family of a board, of which nobody holds a machine.
+fn run_family<R: AllocGlobal + Threads + Wait + Sync, W: Wire + Send, G: Gate + Sync>(
+    rt: &R,
+    board: &Board,
+    pass: Pass,
+    depot: &Depot,
+    wires: &mut [W],
+    gate: &G,
+    slice: u32,
+    ahead: u32,
+) -> (Pass, Finish)
+    requires board { pass.board ≡ board.now }
+    requires depot { depot_of board.now.opening ≡ depot.now }
+    requires none { HoldsNone pass }
+    requires wires { (1 ≤ length wires.old) × (length wires.old ≤ MAX_WORKERS) }
+    requires ahead { ahead ≤ 16 }
+    requires parts { length pass.number < 3 }
+    requires splits { pass.splits ≡ 0 }
+    ensures { result.0.board ≡ board.now }
+{
+    run_hosts(rt, board, pass, depot, wires, gate, slice, ahead)
+}
+
+/// Ends a board. The outcome of its family, once its root has ended.
+fn finished<R: Wait>(rt: &R, board: Board, pass: Pass) -> Option<Outcome>
+    requires { pass.board ≡ board }
+{
+    board.close(rt, pass).into_finished()
+}
+
 /// Lets a worker for each wire run the family of the machine of these words, in a depot.
 fn ended_in<R: AllocGlobal + Threads + Wait + Sync, W: Wire + Send, G: Gate + Sync>(
     rt: &R,
@@ -64,16 +98,16 @@ fn ended_in<R: AllocGlobal + Threads + Wait + Sync, W: Wire + Send, G: Gate + Sy
     wires: &mut [W],
     gate: &G,
     slice: u32,
-) -> Result<Ended, Fail>
+) -> Result<Ended, AllocError>
     requires words { length words.now ≤ 64 }
     requires clones { clones ≤ 4096 }
     requires wires { (1 ≤ length wires.old) × (length wires.old ≤ MAX_WORKERS) }
 {
     let (board, pass) = board_of(rt.alloc(), words, clones, depot)?;
-    let (pass, finish) = run_hosts(rt, &board, pass, depot, wires, gate, slice, AHEAD);
+    let (pass, finish) = run_family(rt, &board, pass, depot, wires, gate, slice, AHEAD);
     Ok(Ended {
         finish,
-        outcome: board.close(rt, pass).into_finished(),
+        outcome: finished(rt, board, pass),
     })
 }
 
@@ -85,7 +119,7 @@ pub fn end_over<R: AllocGlobal + Threads + Wait + Sync, W: Wire + Send, G: Gate 
     wires: &mut [W],
     gate: &G,
     slice: u32,
-) -> Result<Ended, Fail>
+) -> Result<Ended, AllocError>
     requires words { length words.now ≤ 64 }
     requires clones { clones ≤ 4096 }
     requires wires { (1 ≤ length wires.old) × (length wires.old ≤ MAX_WORKERS) }
@@ -114,7 +148,7 @@ pub fn end_by<R: AllocGlobal + Threads + Wait + Sync>(
     clones: u32,
     workers: u32,
     slice: u32,
-) -> Result<Ended, Fail>
+) -> Result<Ended, AllocError>
     requires words { length words.now ≤ 64 }
     requires clones { clones ≤ 4096 }
     requires workers { (1 ≤ workers) × (workers ≤ MAX_WORKERS) }
@@ -124,7 +158,7 @@ pub fn end_by<R: AllocGlobal + Threads + Wait + Sync>(
 }
 
 /// Whether two children come to no end, whose board is stopped first.
-pub fn is_stopped<R: AllocGlobal + Threads + Wait + Sync>(rt: &R) -> Result<bool, Fail> {
+pub fn is_stopped<R: AllocGlobal + Threads + Wait + Sync>(rt: &R) -> Result<bool, AllocError> {
     let depot = Depot::new(rt.alloc())?;
     is_stopped_in(rt, &depot)
 }
@@ -133,26 +167,26 @@ pub fn is_stopped<R: AllocGlobal + Threads + Wait + Sync>(rt: &R) -> Result<bool
 fn is_stopped_in<R: AllocGlobal + Threads + Wait + Sync>(
     rt: &R,
     depot: &Depot,
-) -> Result<bool, Fail> {
+) -> Result<bool, AllocError> {
     let (board, pass) = board_of(rt.alloc(), &TWO_CHILDREN, 2, depot)?;
     let pass = board.stop(rt, pass, Reason::Wire);
     let mut wires = [Seeded::new(), Seeded::new()];
-    let (pass, finish) = run_hosts(rt, &board, pass, depot, &mut wires, &OpenGate, 1, AHEAD);
-    let lives = board.close(rt, pass).into_finished().is_none();
+    let (pass, finish) = run_family(rt, &board, pass, depot, &mut wires, &OpenGate, 1, AHEAD);
+    let lives = finished(rt, board, pass).is_none();
     Ok(lives && matches!(finish, Finish::Stopped(Reason::Wire)))
 }
 
 /// The same of a board that nobody comes to, of which passes are split and joined.
-pub fn is_left<R: Wait>(rt: &R, alloc: Global) -> Result<bool, Fail> {
+pub fn is_left<R: Wait>(rt: &R, alloc: Global) -> Result<bool, AllocError> {
     let depot = Depot::new(alloc)?;
     is_left_in(rt, alloc, &depot)
 }
 
 /// The same in a depot.
-fn is_left_in<R: Wait>(rt: &R, alloc: Global, depot: &Depot) -> Result<bool, Fail> {
+fn is_left_in<R: Wait>(rt: &R, alloc: Global, depot: &Depot) -> Result<bool, AllocError> {
     let (board, pass) = board_of(alloc, &TWO_CHILDREN, 2, depot)?;
     let pass = split_and_joined(&board, pass);
-    Ok(board.close(rt, pass).into_finished().is_none())
+    Ok(finished(rt, board, pass).is_none())
 }
 
 /// Splits a pass, and each of the two again, and joins them all.
@@ -207,7 +241,7 @@ fn heard_after<R: AllocGlobal + Threads + Wait + Sync>(
     requires splits { pass.splits ≡ 0 }
 {
     let mut wires = [Seeded::new()];
-    let (pass, _) = run_hosts(rt, board, pass, depot, &mut wires, &OpenGate, 1000, 0);
+    let (pass, _) = run_family(rt, board, pass, depot, &mut wires, &OpenGate, 1000, 0);
     let (pass, told) = numbers_at(rt, board, pass, 0);
     let (_, beyond) = numbers_at(rt, board, pass, 1);
     Ok([told?, beyond?])
@@ -216,7 +250,7 @@ fn heard_after<R: AllocGlobal + Threads + Wait + Sync>(
 /// The same of the first reply before a worker runs the family of one child, and of the first two after.
 pub fn heard_of<R: AllocGlobal + Threads + Wait + Sync>(
     rt: &R,
-) -> Result<[Option<(u32, u32)>; 3], Fail> {
+) -> Result<[Option<(u32, u32)>; 3], AllocError> {
     let depot = Depot::new(rt.alloc())?;
     heard_in(rt, &depot)
 }
@@ -225,12 +259,12 @@ pub fn heard_of<R: AllocGlobal + Threads + Wait + Sync>(
 fn heard_in<R: AllocGlobal + Threads + Wait + Sync>(
     rt: &R,
     depot: &Depot,
-) -> Result<[Option<(u32, u32)>; 3], Fail> {
+) -> Result<[Option<(u32, u32)>; 3], AllocError> {
     let (board, pass) = board_of(rt.alloc(), &TWO_CHILDREN, 1, depot)?;
     let (pass, other) = board.split(pass);
     let (pass, before) = numbers_at(rt, &board, pass, 0);
     let after = heard_after(rt, &board, other, depot);
-    let _ = board.close(rt, pass);
+    let _ = finished(rt, board, pass);
     let [told, beyond] = after?;
     Ok([before?, told, beyond])
 }

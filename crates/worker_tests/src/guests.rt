@@ -7,8 +7,7 @@ use cow_disk::Disk;
 use elf_load::{Loaded, RAM_BASE, load_elf};
 use forest_model::Options;
 use rv_asm::elf_of;
-use std::alloc::Global;
-use std::test::Fail;
+use std::alloc::{AllocError, Global};
 use vm_cell::Vm;
 
 /// Makes two children that exit with 40 and their number, joins them, and exits with the value of the first.
@@ -59,31 +58,35 @@ pub static LONG_CHAIN: [u32; 26] = [
     0x00500313, 0x0062a423,
 ];
 
+/// A disk without sectors. It is refused where memory is wanting alone.
+fn no_disk(alloc: Global) -> Result<Disk, AllocError> {
+    Disk::from_bytes(alloc, b"").ok().ok_or(AllocError)
+}
+
 /// The machine of an image, that makes at most 10,000 steps and may have so many clones.
 #[tactic(auto, unfolding(forest_model::specs::Machine::boot))]
-fn booted_of(alloc: Global, image: &Loaded, clones: u32) -> Result<Vm, Fail>
+fn booted_of(alloc: Global, image: &Loaded, clones: u32) -> Result<Vm, AllocError>
     requires { clones ≤ 4096 }
     ensures no_ticket { IfOk result (λ vm. (port_of vm.machine).tickets ≡ []) }
     ensures no_image { IfOk result (λ vm. vm.key ≡ None) }
 {
-    let disk = Disk::from_bytes(alloc, b"")?;
     let options = Options {
         limit: 10_000,
         allot: clones,
     };
-    Ok(Vm::boot(alloc, image, disk, b"", options)?)
+    Vm::boot(alloc, image, no_disk(alloc)?, b"", options)
 }
 
-/// The image of these words in RAM of 16 pages.
-fn loaded(alloc: Global, words: &[u32]) -> Result<Loaded, Fail>
+/// The image of these words in RAM of 16 pages. It is refused where memory is wanting alone.
+fn loaded(alloc: Global, words: &[u32]) -> Result<Loaded, AllocError>
     requires { length words.now ≤ 64 }
 {
     let file = elf_of(alloc, RAM_BASE, words)?;
-    Ok(load_elf(alloc, &file, 16)?)
+    load_elf(alloc, &file, 16).ok().ok_or(AllocError)
 }
 
 /// The machine of these words.
-pub fn booted(alloc: Global, words: &[u32], clones: u32) -> Result<Vm, Fail>
+pub fn booted(alloc: Global, words: &[u32], clones: u32) -> Result<Vm, AllocError>
     requires words { length words.now ≤ 64 }
     requires clones { clones ≤ 4096 }
     ensures no_ticket { IfOk result (λ vm. (port_of vm.machine).tickets ≡ []) }

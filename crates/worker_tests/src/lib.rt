@@ -1,7 +1,10 @@
-//! Tests of workers on a board: families that several threads run. They stand here and not in the crates of the board and
-//! of the workers, since a crate with tests is proved twice, and this one has nothing else.
+//! Tests of workers on a board, families that several threads run, and of the turn lock. They stand here and not in the
+//! crates of the lock, of the board and of the workers, since a crate with tests is proved twice, and this one has nothing
+//! else.
 #![tactic(auto)]
 
+#[cfg(test)]
+mod equal;
 #[cfg(test)]
 mod families;
 #[cfg(test)]
@@ -14,3 +17,5 @@ mod tests;
 mod texts;
 #[cfg(test)]
 mod together;
+#[cfg(test)]
+mod turns;

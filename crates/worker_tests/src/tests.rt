@@ -2,6 +2,7 @@
 
 ghost use Rattle.std.specs.Prelude.{◌≤◌, length};
 
+use crate::equal::are_equal;
 use crate::families::{Ended, end_by, heard_of, is_left, is_stopped};
 use crate::guests::{
     GRANDCHILD, KILL_BUSY_CHILDREN, KILL_THEN_JOIN, LONG_CHAIN, THOUSAND_CHILDREN, TWO_CHILDREN,
@@ -10,20 +11,24 @@ use crate::texts;
 use host_workers::MAX_WORKERS;
 use io_edge::MemSink;
 use run_report::{Outcome, report_into};
-use std::alloc::Global;
+use std::alloc::{AllocError, Global};
 use std::process::Abort;
 use std::sync::Wait;
-use std::test::Fail;
 use std::thread::Threads;
 
 /// The room of a sink for a report.
 const ROOM: usize = 1 << 20;
 
 /// An outcome is reported so.
-fn is_reported(rt: &impl Abort, alloc: Global, outcome: &Outcome, text: &[u8]) -> Result<(), Fail> {
+fn is_reported(
+    rt: &impl Abort,
+    alloc: Global,
+    outcome: &Outcome,
+    text: &[u8],
+) -> Result<(), AllocError> {
     let mut sink = MemSink::new(alloc, 4096, ROOM, Vec::new(alloc))?;
-    report_into(outcome, &mut sink)?;
-    assert!(rt; sink.bytes() == text);
+    let put = report_into(outcome, &mut sink);
+    are_equal(rt, &(put, sink.bytes() == text), &(Ok(()), true));
     Ok(())
 }
 
@@ -33,10 +38,10 @@ pub(crate) fn ends_with(
     alloc: Global,
     ended: &Ended,
     text: &[u8],
-) -> Result<(), Fail> {
+) -> Result<(), AllocError> {
     match &ended.outcome {
         Some(outcome) => is_reported(rt, alloc, outcome, text),
-        None => Err("the root lives".into()),
+        None => panic!(rt; "the root lives"),
     }
 }
 
@@ -48,7 +53,7 @@ fn family_ends_with<R: AllocGlobal + Threads + Wait + Abort + Sync>(
     workers: u32,
     slice: u32,
     text: &[u8],
-) -> Result<(), Fail>
+) -> Result<(), AllocError>
     requires words { length words.now ≤ 64 }
     requires clones { clones ≤ 4096 }
     requires workers { (1 ≤ workers) × (workers ≤ MAX_WORKERS) }
@@ -78,7 +83,7 @@ fn each_ends_with<R: AllocGlobal + Threads + Wait + Abort + Sync>(
     clones: u32,
     crews: &[(u32, u32)],
     text: &[u8],
-) -> Result<(), Fail>
+) -> Result<(), AllocError>
     requires words { length words.now ≤ 64 }
     requires clones { clones ≤ 4096 }
 {
@@ -90,55 +95,55 @@ fn each_ends_with<R: AllocGlobal + Threads + Wait + Abort + Sync>(
 }
 
 #[test]
-fn two_children(rt: HostRuntime) -> Result<(), Fail> {
+fn two_children(rt: HostRuntime) -> Result<(), AllocError> {
     each_ends_with(&rt, &TWO_CHILDREN, 2, &ALL, texts::TWO_CHILDREN)
 }
 
 #[test]
-fn thousand_children(rt: HostRuntime) -> Result<(), Fail> {
+fn thousand_children(rt: HostRuntime) -> Result<(), AllocError> {
     let text = texts::thousand_children(rt.alloc())?;
     each_ends_with(&rt, &THOUSAND_CHILDREN, 1000, &SOME, text.as_bytes())
 }
 
 #[test]
-fn long_chain(rt: HostRuntime) -> Result<(), Fail> {
+fn long_chain(rt: HostRuntime) -> Result<(), AllocError> {
     let text = texts::long_chain(rt.alloc(), 200)?;
     each_ends_with(&rt, &LONG_CHAIN, 200, &SOME, text.as_bytes())
 }
 
 #[test]
-fn grandchild(rt: HostRuntime) -> Result<(), Fail> {
+fn grandchild(rt: HostRuntime) -> Result<(), AllocError> {
     each_ends_with(&rt, &GRANDCHILD, 2, &ALL, texts::GRANDCHILD)
 }
 
 #[test]
-fn kill_then_join(rt: HostRuntime) -> Result<(), Fail> {
+fn kill_then_join(rt: HostRuntime) -> Result<(), AllocError> {
     each_ends_with(&rt, &KILL_THEN_JOIN, 2, &ALL, texts::KILL_THEN_JOIN)
 }
 
 #[test]
-fn kill_busy_children(rt: HostRuntime) -> Result<(), Fail> {
+fn kill_busy_children(rt: HostRuntime) -> Result<(), AllocError> {
     each_ends_with(&rt, &KILL_BUSY_CHILDREN, 2, &ALL, texts::KILL_THEN_JOIN)
 }
 
 // The one child wants its first page, and no other is asked for.
 #[test]
-fn a_reply_that_is_told_is_heard(rt: HostRuntime) -> Result<(), Fail> {
+fn a_reply_that_is_told_is_heard(rt: HostRuntime) -> Result<(), AllocError> {
     let heard = heard_of(&rt)?;
-    assert_eq!(rt; heard, [None, Some((0, 0)), None]);
+    are_equal(&rt, &heard, &[None, Some((0, 0)), None]);
     Ok(())
 }
 
 #[test]
-fn a_stopped_board_hands_out_nothing(rt: HostRuntime) -> Result<(), Fail> {
+fn a_stopped_board_hands_out_nothing(rt: HostRuntime) -> Result<(), AllocError> {
     let is_so = is_stopped(&rt)?;
-    assert!(rt; is_so);
+    are_equal(&rt, &is_so, &true);
     Ok(())
 }
 
 #[test]
-fn passes_are_split_in_two_threads(rt: HostRuntime) -> Result<(), Fail> {
+fn passes_are_split_in_two_threads(rt: HostRuntime) -> Result<(), AllocError> {
     let is_so = is_left(&rt, rt.alloc())?;
-    assert!(rt; is_so);
+    are_equal(&rt, &is_so, &true);
     Ok(())
 }

@@ -2,6 +2,7 @@
 
 ghost use Rattle.std.specs.Prelude.{◌≡◌, length};
 
+use crate::equal::are_equal;
 use crate::families::{Ended, end_over};
 use crate::guests::TWO_CHILDREN;
 use crate::meeting::{Meeting, MeetingWire};
@@ -11,32 +12,31 @@ use host_workers::{Finish, OpenGate};
 use std::alloc::{AllocError, Global};
 use std::process::Abort;
 use std::sync::Wait;
-use std::test::Fail;
 use std::thread::Threads;
 use wire_fates::{Fate, Scripted, Seeded};
 use world_core::Reason;
 
 /// The root has ended, and the report is that of its family.
-fn is_whole(rt: &impl Abort, alloc: Global, ended: &Ended) -> Result<(), Fail> {
-    assert!(rt; matches!(ended.finish, Finish::Over));
+fn is_whole(rt: &impl Abort, alloc: Global, ended: &Ended) -> Result<(), AllocError> {
+    are_equal(rt, &matches!(ended.finish, Finish::Over), &true);
     ends_with(rt, alloc, ended, texts::TWO_CHILDREN)
 }
 
 #[test]
-fn two_workers_run_at_once(rt: HostRuntime) -> Result<(), Fail> {
+fn two_workers_run_at_once(rt: HostRuntime) -> Result<(), AllocError> {
     let meeting = Meeting::new();
     let mut wires = [Seeded::new(), Seeded::new()];
     let ended = end_over(&rt, &TWO_CHILDREN, 2, &mut wires, &meeting, 1000)?;
-    assert!(rt; meeting.was_held());
+    are_equal(&rt, &meeting.was_held(), &true);
     is_whole(&rt, rt.alloc(), &ended)
 }
 
 #[test]
-fn two_wires_are_asked_at_once(rt: HostRuntime) -> Result<(), Fail> {
+fn two_wires_are_asked_at_once(rt: HostRuntime) -> Result<(), AllocError> {
     let meeting = Meeting::new();
     let mut wires = [MeetingWire::new(&meeting, 0), MeetingWire::new(&meeting, 1)];
     let ended = end_over(&rt, &TWO_CHILDREN, 2, &mut wires, &OpenGate, 1000)?;
-    assert!(rt; meeting.was_held());
+    are_equal(&rt, &meeting.was_held(), &true);
     is_whole(&rt, rt.alloc(), &ended)
 }
 
@@ -46,7 +46,7 @@ fn losing(alloc: Global) -> Result<Scripted, AllocError> {
 }
 
 #[test]
-fn lost_wires_stop_the_world(rt: HostRuntime) -> Result<(), Fail> {
+fn lost_wires_stop_the_world(rt: HostRuntime) -> Result<(), AllocError> {
     let mut wires = [losing(rt.alloc())?, losing(rt.alloc())?];
     stop_the_world(&rt, &mut wires)
 }
@@ -54,11 +54,11 @@ fn lost_wires_stop_the_world(rt: HostRuntime) -> Result<(), Fail> {
 fn stop_the_world<R: AllocGlobal + Threads + Wait + Abort + Sync>(
     rt: &R,
     wires: &mut [Scripted],
-) -> Result<(), Fail>
+) -> Result<(), AllocError>
     requires { length wires.old ≡ 2 }
 {
     let ended = end_over(rt, &TWO_CHILDREN, 2, wires, &OpenGate, 1000)?;
-    assert!(rt; matches!(ended.finish, Finish::Stopped(Reason::Wire)));
-    assert!(rt; ended.outcome.is_none());
+    let is_stopped = matches!(ended.finish, Finish::Stopped(Reason::Wire));
+    are_equal(rt, &[is_stopped, ended.outcome.is_none()], &[true; 2]);
     Ok(())
 }

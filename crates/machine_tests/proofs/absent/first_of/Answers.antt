@@ -1,15 +1,18 @@
-use Rattle.std.proofs.Common.{◌≡◌, Some, ap, ◌∙◌, subst, sym, arith}
+use Rattle.std.proofs.Common.{◌≡◌, ◌≤◌, Some, ap, ◌∙◌, subst, sym, arith}
 use Rattle.image_depot.specs.Key.{IsKeyOf}
 use Rattle.vm_cell.specs.Keyed.{KeyedMachine}
 use Rattle.vm_cell.specs.Woken.{IsOfImage, woken}
 use Rattle.machine_tests.proofs.absent.first_of.Goals as goal
 
+one : 1 ≤ 1
+one = omega arith
+
 pub through_bytes-requires : goal.through_bytes-requires
-through_bytes-requires c = (c.requires.seeds 1 (omega arith) (omega arith)).in_range
+through_bytes-requires c = (c.requires.seeds 1 one one).in_range
 
 pub wake-requires-clause-of_image : goal.wake-requires-clause-of_image
 wake-requires-clause-of_image c =
-    subst (IsOfImage c.args.brood.now.key) (sym c.in_ok-seed.ensures) (c.requires.seeds 1 (omega arith) (omega arith))
+    subst (IsOfImage c.args.brood.now.key) (sym c.in_ok-seed.ensures) (c.requires.seeds 1 one one)
 
 pub returns : goal.returns
 unfolding woken

@@ -2,7 +2,7 @@
 ghost use Rattle.std.specs.Prelude.{◌≡◌, ◌+◌, ◌<◌, length, IfOk};
 ghost use Rattle.turn_board.specs.Calls.{IsSeat};
 
-use crate::tally::{Tally, TallySeat, TallyTurns, work};
+use super::tally::{Tally, TallySeat, TallyTurns, work};
 use std::alloc::{AllocError, Global};
 use std::sync::Wait;
 use std::thread::{Threads, join};

@@ -1,119 +1,44 @@
 //! Pages that are fetched over wires with lists of fates.
 
-ghost use Rattle.std.specs.Prelude.{◌≡◌, None, IfOk};
-ghost use Rattle.image_depot.specs.Key.{IsKeyOf};
+ghost use Rattle.std.specs.Prelude.{IfOk};
 ghost use Rattle.guest_mem.specs.Ram.{IsRamOf};
 
 use crate::equal::are_equal;
-use crate::guest::Guest;
-use block_port::{BlockFields, Status};
-use console_port::{ConsoleFields, Input};
-use cow_disk::{Disk, FrozenDisk};
-use elf_load::{Loaded, RAM_BASE, load_elf};
+use crate::guests::{bare_clone, booted, frozen};
+use crate::waiting::Guest;
 use guest_mem::GuestMem;
 use host_fetch::{FetchError, fetch};
-use image_depot::{Depot, Frozen, ImageKey};
-use rv_asm::elf_of;
-use rv_traps::Csrs;
+use image_depot::Depot;
 use std::alloc::{AllocError, Global};
 use std::process::Abort;
 use std::sync::Wait;
-use timer_port::TimerPort;
-use vm_descriptor::{Descriptor, PageMap};
+use vm_descriptor::PageMap;
 use wire_fates::{Fate, Scripted};
 
-/// The descriptor of a clone of 16 pages, none of them blank.
-fn descriptor(alloc: Global) -> Result<Descriptor, AllocError>
-    ensures { IfOk result (λ descriptor. descriptor.pages ≡ 16) }
-{
-    Ok(Descriptor {
-        image: 0,
-        pages: 16,
-        clone_id: 1,
-        share: 0,
-        pc: RAM_BASE,
-        registers: [0; 31],
-        csrs: Csrs::reset().fields(),
-        timer: TimerPort::new().fields(),
-        steps: 0,
-        limit: 1,
-        reservation: None,
-        console: ConsoleFields {
-            place: 0,
-            line_control: 0,
-        },
-        block: BlockFields {
-            sector: 0,
-            status: Status::Done,
-            buffer: [0; 512],
-        },
-        argument_0: 0,
-        argument_1: 0,
-        join_select: 0,
-        granted: 0,
-        blank: PageMap::from_vec(vec![in alloc; false; 16]?),
-    })
-}
-
-/// An image of 16 pages. It is refused where memory is wanting alone.
-fn loaded(alloc: Global) -> Result<Loaded, AllocError> {
-    let image = elf_of(alloc, RAM_BASE, &[0x73])?;
-    load_elf(alloc, &image, 16).ok().ok_or(AllocError)
-}
-
-/// The RAM of that image.
-fn booted(alloc: Global) -> Result<GuestMem, AllocError>
-    ensures { IfOk result (λ memory. memory.key ≡ None) }
-{
-    GuestMem::booted(alloc, &loaded(alloc)?)
-}
-
-/// A disk without sectors. It is refused where memory is wanting alone.
-fn frozen_disk(alloc: Global) -> Result<FrozenDisk, AllocError> {
-    let disk = Disk::from_bytes(alloc, &[]).ok().ok_or(AllocError)?;
-    disk.freeze()
-}
-
-/// An image of this memory.
-fn image_of(alloc: Global, memory: &GuestMem, depot: &Depot) -> Result<Frozen, AllocError>
-    requires { IsRamOf depot.now memory.now }
-{
-    let disk = frozen_disk(alloc)?;
-    let input = Input::new(alloc, Vec::new(alloc))?;
-    memory.freeze(alloc, depot, disk, input)
-}
-
-/// The key to an image of 16 pages.
-fn frozen<R: Wait>(rt: &R, alloc: Global, depot: &Depot) -> Result<ImageKey, AllocError>
-    ensures { IfOk result (λ key. IsKeyOf depot.now key) }
-{
-    let memory = booted(alloc)?;
-    depot.freeze(rt, image_of(alloc, &memory, depot)?)
-}
-
-/// A clone of an image, of which no page is here. It wants page 0.
-fn clone_of(
-    rt: &impl Abort,
+/// A clone that starts with an image of this memory. None of its 16 pages is here, and it wants the first.
+fn waiting_clone_of<R: Abort + Wait>(
+    rt: &R,
     alloc: Global,
-    key: ImageKey,
+    memory: &GuestMem,
     depot: &Depot,
 ) -> Result<Guest, AllocError>
-    requires { IsKeyOf depot.now key }
+    requires { IsRamOf depot.now memory.now }
     ensures { IfOk result (λ guest. IsRamOf depot.now guest.memory) }
 {
-    let descriptor = descriptor(alloc)?;
-    assert!(rt; depot.pages(&key) == descriptor.pages && descriptor.is_in_range());
+    let key = frozen(rt, alloc, memory, depot)?;
+    let none = PageMap::from_vec(vec![in alloc; false; 16]?);
     Ok(Guest {
-        memory: GuestMem::clone_of(alloc, key, &descriptor)?,
+        memory: bare_clone(rt, alloc, &key, none, depot)?,
         page: 0,
     })
 }
 
-/// A clone of a new image, of which no page is here. It wants page 0.
-fn cloned<R: Abort + Wait>(rt: &R, alloc: Global, depot: &Depot) -> Result<Guest, AllocError>
+/// The same of an image of a memory that was booted.
+fn waiting_clone<R: Abort + Wait>(rt: &R, alloc: Global, depot: &Depot) -> Result<Guest, AllocError>
     ensures { IfOk result (λ guest. IsRamOf depot.now guest.memory) }
 {
-    clone_of(rt, alloc, frozen(rt, alloc, depot)?, depot)
+    let memory = booted(alloc, 16)?;
+    waiting_clone_of(rt, alloc, &memory, depot)
 }
 
 /// What a fetch with one page ahead answers, whether pages 0, 1 and 2 are here then, and how many replies it has told.
@@ -141,7 +66,7 @@ fn fetched_in<R: Abort + Wait>(
     depot: &Depot,
     wire: &mut Scripted,
 ) -> Result<Fetched, AllocError> {
-    let mut guest = cloned(rt, alloc, depot)?;
+    let mut guest = waiting_clone(rt, alloc, depot)?;
     Ok(fetched_by(rt, alloc, &mut guest, depot, wire))
 }
 

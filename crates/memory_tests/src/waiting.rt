@@ -1,7 +1,7 @@
 //! A guest that wants one page of its RAM, and does nothing else.
 
 ghost use Rattle.std.specs.Prelude.{[]};
-ghost use Rattle.fetch_tests.specs.Wants.{wanted_of};
+ghost use Rattle.memory_tests.specs.Wants.{wanted_of};
 
 use guest_mem::GuestMem;
 use image_depot::{Arrived, Depot, ImageKey, Parcel, Receiver};

@@ -2,7 +2,7 @@
 ghost use Rattle.std.specs.Prelude.{◌≡◌, []};
 ghost use Rattle.turn_board.specs.Calls.{IsSeat};
 
-use crate::tally::{TallySeat, TallyTurns};
+use super::tally::{TallySeat, TallyTurns};
 
 /// Splits the first seat, its new seat, and that one's, as deep as it goes, and joins all four.
 pub fn split_three_deep(turns: &TallyTurns, first: TallySeat) -> TallySeat

@@ -1,1 +1,0 @@
--- The one proof file beside this one is the invariant of a loop.

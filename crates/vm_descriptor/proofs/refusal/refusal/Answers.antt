@@ -1,0 +1,7 @@
+use Rattle.std.proofs.Common.{rules}
+use Rattle.vm_descriptor.specs.Described.{refused}
+use Rattle.vm_descriptor.proofs.refusal.refusal.Goals as goal
+
+pub returns-then-not-contains : goal.returns-then-not-contains
+unfolding refused
+returns-then-not-contains c = search rules
