@@ -2,7 +2,9 @@
 use Rattle.std.proofs.Common.{◌≡◌, ◌≢◌, ◌⊎◌, inl, inr, ℕ, [], ◌∷◌, ◌++◌, append_assoc, append-nil, Option, Some, None, Result, Ok, Err, refl, sym, ap, ◌∙◌, subst}
 use Rattle.std.specs.Prelude.{is_some, IsSome}
 use Rattle.std.specs.declared.alloc.AllocError.{AllocError}
+use Rattle.image_depot.specs.Key.{Shelves}
 use Rattle.image_depot.specs.Reply.{Delivery}
+use Rattle.host_fetch.specs.Heard.{AreHeardOf, Replies}
 use Rattle.forest_tree.specs.Tree.{Path}
 use Rattle.forest_history.specs.Rows.{How, halted}
 use Rattle.forest_history.specs.Histories.{Entry, row, History, IsLegal, Seat}
@@ -17,6 +19,7 @@ use Rattle.world_core.specs.declared.world.Taken.TheVariants as taken
 use Rattle.world_core.specs.Answers.{IsLentOf}
 use Rattle.world_core.specs.Lent.{IsSameLease, Lent}
 use Rattle.world_core.specs.Received.{lent_without_here}
+use Rattle.fork_board.specs.Answers.{IsTaken}
 use Rattle.fork_board.specs.Follows.{depot_of, opening_record}
 use Rattle.fork_board.specs.Holds.{HoldsOne}
 use Rattle.fork_board.specs.Notes.{heard_entry, placed_entry, taken_entry, told_entry}
@@ -147,6 +150,34 @@ same-fetched old new rest = record {
   start = ap (λ (l : Lent). l.start) rest;
   key = ap (λ (l : Lent). l.key) rest;
 }
+
+-- ---- what calls are handed
+
+-- the machine that the pass holds is of the board's depot
+pub lent-here : (pass : PassValue) (board : BoardValue) (lease : Lent) → pass.board ≡ board → HoldsOne pass lease → IsLentOf (depot_of board.opening) lease
+lent-here pass board lease of one = subst (λ (v : BoardValue). IsLentOf (depot_of v.opening) lease) of one.of_depot
+
+pub lent-of : (pass : PassValue) (board : BoardValue) (depot : Shelves) (lease : Lent) → pass.board ≡ board → depot_of board.opening ≡ depot
+    → HoldsOne pass lease → IsLentOf depot lease
+lent-of pass board depot lease of same one = subst (λ (d : Shelves). IsLentOf d lease) same (lent-here pass board lease of one)
+
+-- a pass that held no machine has taken one
+pub holds-taken : (old new : PassValue) (lease : Lent) → Makes old new (taken_entry (taken.Took lease)) → IsTaken new lease → ((name : Path) → IsFree old name)
+    → HoldsOne new lease
+holds-taken old new lease makes is none = record {
+  held = is.held;
+  of_depot = is.of_depot;
+  others = λ name apart. makes.free name (apart, none name);
+}
+
+-- a lease on the same machine is of the same depot
+pub lent-on : (depot : Shelves) (a b : Lent) → IsSameLease a b → IsLentOf depot a → IsLentOf depot b
+lent-on depot a b same h = subst (IsOfDepot depot) (sym same.key) h
+
+-- what was heard is of the depot, by either of its names
+pub heard-on : (board : BoardValue) (depot : Shelves) (old new : Replies) → depot_of board.opening ≡ depot
+    → (AreHeardOf (depot_of board.opening) old → AreHeardOf (depot_of board.opening) new) → AreHeardOf depot old → AreHeardOf depot new
+heard-on board depot old new same then = subst (λ (d : Shelves). AreHeardOf d old → AreHeardOf d new) same then
 
 -- ---- a pass that has worked
 
@@ -302,6 +333,10 @@ spares-placed old new how name ran placed m = spares-silent old new (placed_entr
 
 pub spares-taken : (old new : PassValue) (answer : Taken) → Makes old new (taken_entry answer) → Spares old new
 spares-taken old new answer m = spares-silent old new (taken_entry answer) m (silent-taken answer)
+
+-- want of memory is no lost wire
+pub lost-none : {W : Type 0} (streak : W → ℕ) (wire : W) → fault.Memory ≡ fault.Wire → IsLost streak wire
+lost-none streak wire same = absurd (cc)
 
 -- a machine was given back that could not be run on
 pub blames-given-up : {W : Type 0} (streak : W → ℕ) (wire : W) (first mid last : PassValue) (error : FetchError) (r : Reason) → r ≡ reason_for error

@@ -1,7 +1,9 @@
 //! Bytes that are changed at some places.
 
+use crate::equal::made;
 use flat_memory::write_bytes;
-use std::alloc::{AllocError, Global};
+use std::alloc::Global;
+use std::process::Abort;
 
 /// Puts words at places of bytes, where they fit.
 fn change(bytes: &mut [u8], changes: &[(usize, u32)]) {
@@ -14,13 +16,14 @@ fn change(bytes: &mut [u8], changes: &[(usize, u32)]) {
 
 /// The first `length` bytes, or zeros behind them, with other words at some places.
 pub fn changed(
+    rt: &impl Abort,
     alloc: Global,
     bytes: &[u8],
     length: usize,
     changes: &[(usize, u32)],
-) -> Result<Vec<u8>, AllocError> {
-    let mut changed = Vec::from_slice(alloc, bytes)?;
-    changed.resize(length, 0)?;
+) -> Vec<u8> {
+    let mut changed = made(rt, Vec::from_slice(alloc, bytes));
+    made(rt, changed.resize(length, 0));
     change(&mut changed, changes);
-    Ok(changed)
+    changed
 }

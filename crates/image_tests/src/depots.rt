@@ -5,7 +5,7 @@ ghost use Rattle.std.specs.Prelude.{◌≡◌, ◌≤◌, length, IfOk, IfSome};
 ghost use Rattle.image_depot.specs.Image.{IsWhole};
 ghost use Rattle.image_depot.specs.Key.{IsKeyOf};
 
-use crate::equal::are_equal;
+use crate::equal::{are_equal, made};
 use console_port::Input;
 use cow_disk::{BadSector, Disk, FrozenDisk};
 use image_depot::{Depot, Frozen, ImageKey};
@@ -27,29 +27,26 @@ fn entries_of(alloc: Global, byte: u8) -> Result<PageTable, AllocError>
 }
 
 /// The disk of these bytes, which are whole sectors.
-fn disk_of(alloc: Global, bytes: &[u8]) -> Result<FrozenDisk, AllocError> {
-    let disk = Disk::from_bytes(alloc, bytes).ok().ok_or(AllocError)?;
-    disk.freeze()
+fn disk_of(rt: &impl Abort, alloc: Global, bytes: &[u8]) -> FrozenDisk {
+    let disk = made(rt, Disk::from_bytes(alloc, bytes));
+    made(rt, disk.freeze())
 }
 
 /// The image of a page of these bytes, a blank page and a page of one more, with a disk and an input
 /// of this byte.
-fn image_of(alloc: Global, byte: u8) -> Result<Frozen, AllocError> {
-    let disk = disk_of(alloc, &[byte; 512])?;
-    let input = Input::new(alloc, vec![in alloc; byte; 2]?)?;
-    Frozen::new(alloc, entries_of(alloc, byte)?, disk, input)
+fn image_of(rt: &impl Abort, alloc: Global, byte: u8) -> Frozen {
+    let entries = made(rt, entries_of(alloc, byte));
+    let disk = disk_of(rt, alloc, &[byte; 512]);
+    let input = made(rt, vec![in alloc; byte; 2]);
+    let input = made(rt, Input::new(alloc, input));
+    made(rt, Frozen::new(alloc, entries, disk, input))
 }
 
 /// The key to the image of a byte.
-pub fn frozen<R: Wait>(
-    rt: &R,
-    alloc: Global,
-    depot: &Depot,
-    byte: u8,
-) -> Result<ImageKey, AllocError>
-    ensures { IfOk result (λ key. IsKeyOf depot.now key) }
+pub fn frozen<R: Abort + Wait>(rt: &R, alloc: Global, depot: &Depot, byte: u8) -> ImageKey
+    ensures { IsKeyOf depot.now result }
 {
-    depot.freeze(rt, image_of(alloc, byte)?)
+    made(rt, depot.freeze(rt, image_of(rt, alloc, byte)))
 }
 
 /// Words of all three pages of an image, if it has as many.
@@ -73,40 +70,27 @@ fn last_byte(disk: &Disk) -> Result<u8, BadSector> {
 }
 
 /// An image has these words, and a disk that ends so.
-fn has_words(rt: &impl Abort, image: &Frozen, words: [u32; 4], byte: u8) -> Result<(), AllocError> {
-    are_equal(rt, &words_of(image), &Some(words));
-    let disk = image.disk().open()?;
-    are_equal(rt, &last_byte(&disk), &Ok(byte));
-    Ok(())
+fn has_words(rt: &impl Abort, image: &Frozen, words: [u32; 4], byte: u8) {
+    let disk = made(rt, image.disk().open());
+    let found = (words_of(image), last_byte(&disk));
+    are_equal(rt, &found, &(Some(words), Ok(byte)));
 }
 
 /// Two keys lend the images of bytes 0x10 and 0x20.
-fn lend_images(
-    rt: &impl Abort,
-    depot: &Depot,
-    first: &ImageKey,
-    second: &ImageKey,
-) -> Result<(), AllocError>
-    requires first { IsKeyOf depot.now first.now }
-    requires second { IsKeyOf depot.now second.now }
-{
+fn are_lent<R: Abort + Wait>(rt: &R, alloc: Global, depot: &Depot) {
+    let first = frozen(rt, alloc, depot, 0x10);
+    let second = frozen(rt, alloc, depot, 0x20);
     are_equal(rt, &[first.number(), second.number()], &[0, 1]);
     let words = [0x1010_1010, 0x1010_1010, 0, 0x1111_1111];
-    has_words(rt, depot.frozen(first), words, 0x10)?;
+    has_words(rt, depot.frozen(&first), words, 0x10);
     let words = [0x2020_2020, 0x2020_2020, 0, 0x2121_2121];
-    has_words(rt, depot.frozen(second), words, 0x20)
-}
-
-fn are_lent<R: Abort + Wait>(rt: &R, alloc: Global, depot: &Depot) -> Result<(), AllocError> {
-    let first = frozen(rt, alloc, depot, 0x10)?;
-    let second = frozen(rt, alloc, depot, 0x20)?;
-    lend_images(rt, depot, &first, &second)
+    has_words(rt, depot.frozen(&second), words, 0x20);
 }
 
 #[test]
-fn lends_what_was_frozen(rt: HostRuntime) -> Result<(), AllocError> {
-    let depot = Depot::new(rt.alloc())?;
-    are_lent(&rt, rt.alloc(), &depot)
+fn lends_what_was_frozen(rt: HostRuntime) {
+    let depot = made(&rt, Depot::new(rt.alloc()));
+    are_lent(&rt, rt.alloc(), &depot);
 }
 
 /// The pages of an image, the input, and how many tables it has.
@@ -122,28 +106,28 @@ fn parts_of<'a>(depot: &'a Depot, key: &ImageKey) -> (u32, &'a [u8], usize)
 }
 
 /// Freezes the image of a byte, and lends its parts by a key that is the same once more.
-fn freeze_and_lend<'a, R: Wait>(
+fn freeze_and_lend<'a, R: Abort + Wait>(
     rt: &R,
     alloc: Global,
     depot: &'a Depot,
     byte: u8,
-) -> Result<(u32, &'a [u8], usize), AllocError> {
-    let key = frozen(rt, alloc, depot, byte)?.again()?;
-    Ok(parts_of(depot, &key))
+) -> (u32, &'a [u8], usize) {
+    let key = frozen(rt, alloc, depot, byte);
+    let again = made(rt, key.again());
+    parts_of(depot, &again)
 }
 
-fn parts_are_lent<R: Abort + Wait>(rt: &R, alloc: Global, depot: &Depot) -> Result<(), AllocError> {
-    let first = freeze_and_lend(rt, alloc, depot, 0x10)?;
-    let second = freeze_and_lend(rt, alloc, depot, 0x20)?;
+fn parts_are_lent<R: Abort + Wait>(rt: &R, alloc: Global, depot: &Depot) {
+    let first = freeze_and_lend(rt, alloc, depot, 0x10);
+    let second = freeze_and_lend(rt, alloc, depot, 0x20);
     are_equal(rt, &first, &(3, [0x10; 2].as_slice(), 1));
     are_equal(rt, &second, &(3, [0x20; 2].as_slice(), 1));
-    Ok(())
 }
 
 #[test]
-fn lends_the_parts_of_an_image(rt: HostRuntime) -> Result<(), AllocError> {
-    let depot = Depot::new(rt.alloc())?;
-    parts_are_lent(&rt, rt.alloc(), &depot)
+fn lends_the_parts_of_an_image(rt: HostRuntime) {
+    let depot = made(&rt, Depot::new(rt.alloc()));
+    parts_are_lent(&rt, rt.alloc(), &depot);
 }
 
 /// The first word of an image, if it has a page.
@@ -157,10 +141,11 @@ fn first_word(depot: &Depot, key: &ImageKey) -> Option<u32>
 }
 
 /// The image of one page, with no disk and no input.
-fn image_of_page(alloc: Global, page: &Page) -> Result<Frozen, AllocError> {
-    let disk = disk_of(alloc, &[])?;
-    let input = Input::new(alloc, Vec::new(alloc))?;
-    Frozen::new(alloc, entries_of_page(alloc, page)?, disk, input)
+fn image_of_page(rt: &impl Abort, alloc: Global, page: &Page) -> Frozen {
+    let entries = made(rt, entries_of_page(alloc, page));
+    let disk = disk_of(rt, alloc, &[]);
+    let input = made(rt, Input::new(alloc, Vec::new(alloc)));
+    made(rt, Frozen::new(alloc, entries, disk, input))
 }
 
 /// One page alone.
@@ -172,45 +157,35 @@ fn entries_of_page(alloc: Global, page: &Page) -> Result<PageTable, AllocError>
     PageTable::from_vec(alloc, vec![in alloc; page]?)
 }
 
-/// A page is written after an image of it was frozen.
-fn write_shows_in_no_image<R: Abort + Wait>(
-    rt: &R,
-    alloc: Global,
-    page: &mut Page,
-    depot: &Depot,
-) -> Result<(), AllocError> {
-    let key = depot.freeze(rt, image_of_page(alloc, page)?)?;
-    page.write(0, &[0x11])?;
-    are_equal(rt, &first_word(depot, &key), &Some(0xaaaa_aaaa));
-    are_equal(rt, &page.word(0), &0xaaaa_aa11);
-    Ok(())
-}
-
-/// A page of bytes 0xaa is written so.
-fn a_page_is_written<R: Abort + Wait>(
-    rt: &R,
-    alloc: Global,
-    depot: &Depot,
-) -> Result<(), AllocError> {
-    let mut page = Page::from_slice(alloc, &[0xaa; PAGE_SIZE])?;
-    write_shows_in_no_image(rt, alloc, &mut page, depot)
+/// A page of bytes 0xaa is written so, after an image of it was frozen.
+fn a_page_is_written<R: Abort + Wait>(rt: &R, alloc: Global, depot: &Depot) {
+    let mut page = made(rt, Page::from_slice(alloc, &[0xaa; PAGE_SIZE]));
+    let key = made(rt, depot.freeze(rt, image_of_page(rt, alloc, &page)));
+    made(rt, page.write(0, &[0x11]));
+    let found = (first_word(depot, &key), page.word(0));
+    are_equal(rt, &found, &(Some(0xaaaa_aaaa), 0xaaaa_aa11));
 }
 
 #[test]
-fn a_write_to_a_page_shows_in_no_image(rt: HostRuntime) -> Result<(), AllocError> {
-    let depot = Depot::new(rt.alloc())?;
-    a_page_is_written(&rt, rt.alloc(), &depot)
+fn a_write_to_a_page_shows_in_no_image(rt: HostRuntime) {
+    let depot = made(&rt, Depot::new(rt.alloc()));
+    a_page_is_written(&rt, rt.alloc(), &depot);
 }
 
 /// Freezes an image of each of a hundred bytes, and gives the key to the last. `None` where an image
 /// does not read as it was frozen when the next one is there too.
-fn freeze_hundred<R: Wait>(rt: &R, alloc: Global, depot: &Depot, first: u8) -> Option<ImageKey>
+fn freeze_hundred<R: Abort + Wait>(
+    rt: &R,
+    alloc: Global,
+    depot: &Depot,
+    first: u8,
+) -> Option<ImageKey>
     requires { first ≤ 100 }
     ensures { IfSome result (λ key. IsKeyOf depot.now key) }
 {
-    let mut last = frozen(rt, alloc, depot, first).ok()?;
+    let mut last = frozen(rt, alloc, depot, first);
     for byte in first..first + 100 {
-        let next = frozen(rt, alloc, depot, byte + 1).ok()?;
+        let next = frozen(rt, alloc, depot, byte + 1);
         if first_word(depot, &last) != Some(u32::from(byte) * 0x0101_0101) {
             return None;
         }
@@ -219,7 +194,7 @@ fn freeze_hundred<R: Wait>(rt: &R, alloc: Global, depot: &Depot, first: u8) -> O
     Some(last)
 }
 
-fn freeze_in_two_threads<R: Threads + Wait + Sync>(
+fn freeze_in_two_threads<R: Abort + Threads + Wait + Sync>(
     rt: &R,
     alloc: Global,
     depot: &Depot,
@@ -267,10 +242,9 @@ fn freeze_and_read_in_threads<R: Abort + Threads + Wait + Sync>(
 }
 
 #[test]
-fn threads_freeze_and_read_side_by_side(rt: HostRuntime) -> Result<(), AllocError> {
-    let depot = Depot::new(rt.alloc())?;
+fn threads_freeze_and_read_side_by_side(rt: HostRuntime) {
+    let depot = made(&rt, Depot::new(rt.alloc()));
     freeze_and_read_in_threads(&rt, rt.alloc(), &depot);
-    Ok(())
 }
 
 /// A depot and an image that each go through a thread of their own: the depot, and the length of the image's
@@ -280,20 +254,15 @@ fn moved<R: Threads>(rt: &R, depot: Depot, image: Frozen) -> (Depot, usize) {
 }
 
 /// The depot still keeps images.
-fn keeps_when_moved<R: Abort + Threads + Wait>(
-    rt: &R,
-    alloc: Global,
-    depot: Depot,
-    image: Frozen,
-) -> Result<(), AllocError> {
+fn keeps_when_moved<R: Abort + Threads + Wait>(rt: &R, alloc: Global, depot: Depot, image: Frozen) {
     let (depot, length) = moved(rt, depot, image);
     are_equal(rt, &length, &2);
-    frozen(rt, alloc, &depot, 0xbb)?;
-    Ok(())
+    frozen(rt, alloc, &depot, 0xbb);
 }
 
 #[test]
-fn moves_between_threads(rt: HostRuntime) -> Result<(), AllocError> {
-    let image = image_of(rt.alloc(), 0xaa)?;
-    keeps_when_moved(&rt, rt.alloc(), Depot::new(rt.alloc())?, image)
+fn moves_between_threads(rt: HostRuntime) {
+    let image = image_of(&rt, rt.alloc(), 0xaa);
+    let depot = made(&rt, Depot::new(rt.alloc()));
+    keeps_when_moved(&rt, rt.alloc(), depot, image);
 }

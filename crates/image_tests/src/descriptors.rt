@@ -2,11 +2,11 @@
 //! there are none.
 
 use crate::changes::changed;
-use crate::equal::are_equal;
+use crate::equal::{are_equal, made};
 use block_port::{BlockFields, Status};
 use console_port::ConsoleFields;
 use rv_traps::{CsrRegisters, Csrs};
-use std::alloc::{AllocError, Global};
+use std::alloc::Global;
 use std::process::Abort;
 use std::thread;
 use std::thread::Threads;
@@ -14,12 +14,12 @@ use timer_port::{TimerPort, TimerRegisters};
 use vm_descriptor::{DescError, Descriptor, PageMap};
 
 /// A map of so many pages, all blank but one.
-fn map_of(alloc: Global, pages: usize, held: usize) -> Result<PageMap, AllocError> {
-    let mut blank = vec![in alloc; true; pages]?;
+fn map_of(rt: &impl Abort, alloc: Global, pages: usize, held: usize) -> PageMap {
+    let mut blank = made(rt, vec![in alloc; true; pages]);
     if let Some(page) = blank.get_mut(held) {
         *page = false;
     }
-    Ok(PageMap::from_vec(blank))
+    PageMap::from_vec(blank)
 }
 
 /// The registers of a program that stands behind a CLONE.
@@ -32,13 +32,13 @@ fn registers_at_clone() -> [u32; 31] {
 }
 
 /// The first of two clones of a machine with 16 pages, that made ten steps to its CLONE.
-fn first_child(alloc: Global) -> Result<Descriptor, AllocError> {
+fn first_child(rt: &impl Abort, alloc: Global) -> Descriptor {
     let mut csrs = Csrs::reset().fields();
     csrs.mcycle = 10;
     csrs.minstret = 10;
     let mut timer = TimerPort::new().fields();
     timer.mtime = 10;
-    Ok(Descriptor {
+    Descriptor {
         image: 0,
         pages: 16,
         clone_id: 1,
@@ -63,8 +63,8 @@ fn first_child(alloc: Global) -> Result<Descriptor, AllocError> {
         argument_1: 0,
         join_select: 0,
         granted: 2,
-        blank: map_of(alloc, 16, 0)?,
-    })
+        blank: map_of(rt, alloc, 16, 0),
+    }
 }
 
 /// x1 to x31, each with a number of its own.
@@ -100,14 +100,14 @@ fn numbered_csrs() -> CsrRegisters {
 }
 
 /// A descriptor whose fields all differ, with 20 pages of which the first and the last are blank.
-fn numbered(alloc: Global) -> Result<Descriptor, AllocError> {
-    let mut blank = vec![in alloc; false; 20]?;
+fn numbered(rt: &impl Abort, alloc: Global) -> Descriptor {
+    let mut blank = made(rt, vec![in alloc; false; 20]);
     for page in [0, 19] {
         if let Some(flag) = blank.get_mut(page) {
             *flag = true;
         }
     }
-    Ok(Descriptor {
+    Descriptor {
         image: 0x0401_0101,
         pages: 20,
         clone_id: 0x0a0b,
@@ -136,7 +136,7 @@ fn numbered(alloc: Global) -> Result<Descriptor, AllocError> {
         join_select: 0x0501_0104,
         granted: 0x0501_0105,
         blank: PageMap::from_vec(blank),
-    })
+    }
 }
 
 /// Bytes of the first child, by their places.
@@ -215,15 +215,15 @@ fn again(alloc: Global, bytes: &[u8]) -> Result<Vec<u8>, DescError> {
 }
 
 /// The bytes of the first child.
-fn first_bytes(alloc: Global) -> Result<Vec<u8>, AllocError> {
-    let descriptor = first_child(alloc)?;
-    descriptor.encode(alloc)
+fn first_bytes(rt: &impl Abort, alloc: Global) -> Vec<u8> {
+    let descriptor = first_child(rt, alloc);
+    made(rt, descriptor.encode(alloc))
 }
 
 /// The bytes of the descriptor whose fields all differ.
-fn numbered_bytes(alloc: Global) -> Result<Vec<u8>, AllocError> {
-    let descriptor = numbered(alloc)?;
-    descriptor.encode(alloc)
+fn numbered_bytes(rt: &impl Abort, alloc: Global) -> Vec<u8> {
+    let descriptor = numbered(rt, alloc);
+    made(rt, descriptor.encode(alloc))
 }
 
 fn are_placed(rt: &impl Abort, bytes: &[u8], rows: &[(usize, &[u8])], length: usize) {
@@ -231,24 +231,22 @@ fn are_placed(rt: &impl Abort, bytes: &[u8], rows: &[(usize, &[u8])], length: us
 }
 
 #[test]
-fn fields_stand_at_their_places(rt: HostRuntime) -> Result<(), AllocError> {
-    let first = first_bytes(rt.alloc())?;
+fn fields_stand_at_their_places(rt: HostRuntime) {
+    let first = first_bytes(&rt, rt.alloc());
     are_placed(&rt, &first, &FIRST_CHILD, 778);
-    let numbered = numbered_bytes(rt.alloc())?;
+    let numbered = numbered_bytes(&rt, rt.alloc());
     are_placed(&rt, &numbered, &NUMBERED, 779);
-    Ok(())
 }
 
-fn is_read(rt: &impl Abort, alloc: Global, bytes: &[u8]) -> Result<(), DescError> {
-    let spelled = again(alloc, bytes)?;
+fn is_read(rt: &impl Abort, alloc: Global, bytes: &[u8]) {
+    let spelled = made(rt, again(alloc, bytes));
     are_equal(rt, &spelled.as_slice(), &bytes);
-    Ok(())
 }
 
 #[test]
-fn what_was_encoded_is_read(rt: HostRuntime) -> Result<(), DescError> {
-    let bytes = numbered_bytes(rt.alloc())?;
-    is_read(&rt, rt.alloc(), &bytes)
+fn what_was_encoded_is_read(rt: HostRuntime) {
+    let bytes = numbered_bytes(&rt, rt.alloc());
+    is_read(&rt, rt.alloc(), &bytes);
 }
 
 /// Of the first child's bytes a length, words at places of them, and the reason why they are refused, or
@@ -320,46 +318,24 @@ fn reason(alloc: Global, bytes: &[u8]) -> Option<u32> {
     }
 }
 
-/// The first row of a table that does not tell the reason why changed bytes are refused, if there is one.
-fn mistold(
-    alloc: Global,
-    bytes: &[u8],
-    rows: &[(usize, &[(usize, u32)], u32)],
-) -> Result<Option<usize>, AllocError> {
-    for (row, (length, changes, number)) in rows.iter().enumerate() {
-        if reason_of_changed(alloc, bytes, *length, changes)? != Some(*number) {
-            return Ok(Some(row));
-        }
-    }
-    Ok(None)
-}
-
-/// The reason why changed bytes are refused, or 0.
-fn reason_of_changed(
-    alloc: Global,
-    bytes: &[u8],
-    length: usize,
-    changes: &[(usize, u32)],
-) -> Result<Option<u32>, AllocError> {
-    let bytes = changed(alloc, bytes, length, changes)?;
-    Ok(reason(alloc, &bytes))
+/// The reason why changed bytes are refused, or 0, is the one that a row tells.
+fn is_told(rt: &impl Abort, alloc: Global, bytes: &[u8], row: &(usize, &[(usize, u32)], u32)) {
+    let (length, changes, number) = *row;
+    let bytes = changed(rt, alloc, bytes, length, changes);
+    are_equal(rt, &(row, reason(alloc, &bytes)), &(row, Some(number)));
 }
 
 /// A table tells the reasons why changed bytes are refused.
-fn are_told(
-    rt: &impl Abort,
-    alloc: Global,
-    bytes: &[u8],
-    rows: &[(usize, &[(usize, u32)], u32)],
-) -> Result<(), AllocError> {
-    are_equal(rt, &mistold(alloc, bytes, rows)?, &None);
-    Ok(())
+fn are_told(rt: &impl Abort, alloc: Global, bytes: &[u8], rows: &[(usize, &[(usize, u32)], u32)]) {
+    for row in rows {
+        is_told(rt, alloc, bytes, row);
+    }
 }
 
 #[test]
-fn refuses_by_the_first_reason(rt: HostRuntime) -> Result<(), AllocError> {
-    let bytes = first_bytes(rt.alloc())?;
-    are_told(&rt, rt.alloc(), &bytes, &CHANGES)
+fn refuses_by_the_first_reason(rt: HostRuntime) {
+    let bytes = first_bytes(&rt, rt.alloc());
+    are_told(&rt, rt.alloc(), &bytes, &CHANGES);
 }
 
 /// Bytes of the descriptor with 20 pages and three bytes of map, of which the last half byte is spare.
@@ -372,28 +348,27 @@ static SPARE: [(usize, &[(usize, u32)], u32); 5] = [
 ];
 
 #[test]
-fn refuses_a_second_spelling(rt: HostRuntime) -> Result<(), AllocError> {
-    let bytes = numbered_bytes(rt.alloc())?;
-    are_told(&rt, rt.alloc(), &bytes, &SPARE)
+fn refuses_a_second_spelling(rt: HostRuntime) {
+    let bytes = numbered_bytes(&rt, rt.alloc());
+    are_told(&rt, rt.alloc(), &bytes, &SPARE);
 }
 
 /// The bytes of the first child of a machine of the most pages.
-fn bytes_of_most(alloc: Global) -> Result<Vec<u8>, AllocError> {
-    let mut descriptor = first_child(alloc)?;
+fn bytes_of_most(rt: &impl Abort, alloc: Global) -> Vec<u8> {
+    let mut descriptor = first_child(rt, alloc);
     descriptor.pages = 1024;
-    descriptor.blank = map_of(alloc, 1024, 1023)?;
-    descriptor.encode(alloc)
+    descriptor.blank = map_of(rt, alloc, 1024, 1023);
+    made(rt, descriptor.encode(alloc))
 }
 
 /// Ends of the map of the most pages, by their places.
 static MOST: [(usize, &[u8]); 2] = [(776, b"\xff\xff"), (902, b"\xff\x7f")];
 
 #[test]
-fn takes_a_map_of_the_most_pages(rt: HostRuntime) -> Result<(), AllocError> {
-    let bytes = bytes_of_most(rt.alloc())?;
+fn takes_a_map_of_the_most_pages(rt: HostRuntime) {
+    let bytes = bytes_of_most(&rt, rt.alloc());
     are_placed(&rt, &bytes, &MOST, 904);
     are_equal(&rt, &reason(rt.alloc(), &bytes), &Some(0));
-    Ok(())
 }
 
 /// How many flags there are, and how many of them are set.
@@ -408,12 +383,11 @@ fn counts(flags: &[bool]) -> (usize, usize) {
 }
 
 #[test]
-fn a_map_is_copied(rt: HostRuntime) -> Result<(), AllocError> {
-    let map = map_of(rt.alloc(), 16, 0)?;
-    let copy = map.clone()?;
+fn a_map_is_copied(rt: HostRuntime) {
+    let map = map_of(&rt, rt.alloc(), 16, 0);
+    let copy = made(&rt, map.clone());
     are_equal(&rt, &copy.flags(), &map.flags());
     are_equal(&rt, &counts(copy.flags()), &(16, 15));
-    Ok(())
 }
 
 /// Whether a descriptor is in range, which is told in a thread.
@@ -423,8 +397,7 @@ fn is_moved_in_range<R: Threads>(rt: &R, descriptor: Descriptor) -> bool {
 }
 
 #[test]
-fn moves_between_threads(rt: HostRuntime) -> Result<(), AllocError> {
-    let in_range = is_moved_in_range(&rt, first_child(rt.alloc())?);
+fn moves_between_threads(rt: HostRuntime) {
+    let in_range = is_moved_in_range(&rt, first_child(&rt, rt.alloc()));
     are_equal(&rt, &in_range, &true);
-    Ok(())
 }

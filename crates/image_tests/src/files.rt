@@ -1,9 +1,9 @@
 //! Images of programs: that they are loaded where there is memory, and a file for each rule.
 
 use crate::changes::changed;
-use crate::equal::are_equal;
+use crate::equal::{are_equal, made};
 use elf_load::{ImageError, Loaded, load_elf};
-use std::alloc::{AllocError, Global};
+use std::alloc::Global;
 use std::process::Abort;
 
 /// The image of a program that exits with 7.
@@ -26,7 +26,7 @@ static EXIT_SEVEN: [u8; 104] = [
 type ProgramHeader = [u32; 5];
 
 /// Adds a program header. The fields that a loader does not read are all ones.
-fn push_header(image: &mut Vec<u8>, header: &ProgramHeader) -> Result<(), AllocError> {
+fn push_header(rt: &impl Abort, image: &mut Vec<u8>, header: &ProgramHeader) {
     let [kind, offset, address, file_size, memory_size] = *header;
     let words = [
         kind,
@@ -39,52 +39,41 @@ fn push_header(image: &mut Vec<u8>, header: &ProgramHeader) -> Result<(), AllocE
         u32::MAX,
     ];
     for word in words {
-        image.extend_from_slice(&word.to_le_bytes())?;
+        made(rt, image.extend_from_slice(&word.to_le_bytes()));
     }
-    Ok(())
-}
-
-/// Adds the start of the header of an executable.
-fn push_start(image: &mut Vec<u8>, entry: u32) -> Result<(), AllocError> {
-    image.extend_from_slice(
-        b"\x7fELF\x01\x01\x01\xff\xff\xff\xff\xff\xff\xff\xff\xff\x02\0\xf3\0\x01\0\0\0",
-    )?;
-    image.extend_from_slice(&entry.to_le_bytes())
 }
 
 /// Adds the header of an executable with so many program headers.
-fn push_file_header(image: &mut Vec<u8>, entry: u32, count: u16) -> Result<(), AllocError> {
-    push_start(image, entry)?;
-    image.extend_from_slice(b"\x34\0\0\0\xff\xff\xff\xff\xff\xff\xff\xff\xff\xff\x20\0")?;
-    image.extend_from_slice(&count.to_le_bytes())?;
-    image.extend_from_slice(b"\xff\xff\xff\xff\xff\xff")
-}
-
-/// Adds an executable with these program headers and then these bytes.
-fn push_image(
-    image: &mut Vec<u8>,
-    entry: u32,
-    headers: &[ProgramHeader],
-    bytes: &[u8],
-) -> Result<(), AllocError> {
-    push_file_header(image, entry, u16::try_from(headers.len()).unwrap_or(0))?;
-    for header in headers {
-        push_header(image, header)?;
+fn push_file_header(rt: &impl Abort, image: &mut Vec<u8>, entry: u32, count: u16) {
+    let parts: [&[u8]; 5] = [
+        b"\x7fELF\x01\x01\x01\xff\xff\xff\xff\xff\xff\xff\xff\xff\x02\0\xf3\0\x01\0\0\0",
+        &entry.to_le_bytes(),
+        b"\x34\0\0\0\xff\xff\xff\xff\xff\xff\xff\xff\xff\xff\x20\0",
+        &count.to_le_bytes(),
+        b"\xff\xff\xff\xff\xff\xff",
+    ];
+    for part in parts {
+        made(rt, image.extend_from_slice(part));
     }
-    image.extend_from_slice(bytes)
 }
 
 /// An executable with these program headers and then these bytes. The fields that a loader does not read
 /// are all ones.
 fn image_of(
+    rt: &impl Abort,
     alloc: Global,
     entry: u32,
     headers: &[ProgramHeader],
     bytes: &[u8],
-) -> Result<Vec<u8>, AllocError> {
+) -> Vec<u8> {
     let mut image = Vec::new(alloc);
-    push_image(&mut image, entry, headers, bytes)?;
-    Ok(image)
+    let count = u16::try_from(headers.len()).unwrap_or(0);
+    push_file_header(rt, &mut image, entry, count);
+    for header in headers {
+        push_header(rt, &mut image, header);
+    }
+    made(rt, image.extend_from_slice(bytes));
+    image
 }
 
 /// So many bytes of RAM from an offset on, if there are as many.
@@ -115,10 +104,9 @@ fn is_exit_seven(rt: &impl Abort, loaded: &Loaded) {
 }
 
 #[test]
-fn loads_exit_seven(rt: HostRuntime) -> Result<(), ImageError> {
-    let loaded = load_elf(rt.alloc(), &EXIT_SEVEN, 64)?;
+fn loads_exit_seven(rt: HostRuntime) {
+    let loaded = made(&rt, load_elf(rt.alloc(), &EXIT_SEVEN, 64));
     is_exit_seven(&rt, &loaded);
-    Ok(())
 }
 
 static ANY_ORDER: [ProgramHeader; 5] = [
@@ -130,35 +118,31 @@ static ANY_ORDER: [ProgramHeader; 5] = [
 ];
 
 /// The bytes lie at the borders of those segments as the headers tell.
-fn are_placed(rt: &impl Abort, loaded: &Loaded) {
+fn is_in_order(rt: &impl Abort, loaded: &Loaded) {
+    are_equal(rt, &loaded.entry(), &0x8000_1000);
     has_bytes(rt, loaded, 0, &[3, 4, 5, 0, 0]);
     has_bytes(rt, loaded, 0xfff, &[0, 6, 0]);
     has_bytes(rt, loaded, 0x2ffd, &[0, 1, 2, 0, 0]);
-}
-
-fn is_in_order(rt: &impl Abort, loaded: &Loaded) {
-    are_equal(rt, &loaded.entry(), &0x8000_1000);
-    are_placed(rt, loaded);
     has_flags(rt, loaded, &[true, true, true, true, false]);
 }
 
 /// An image with these program headers and then these bytes is loaded.
 fn loaded_of(
+    rt: &impl Abort,
     alloc: Global,
     entry: u32,
     headers: &[ProgramHeader],
     bytes: &[u8],
-) -> Result<Loaded, ImageError> {
-    let image = image_of(alloc, entry, headers, bytes)?;
-    load_elf(alloc, &image, 16)
+) -> Loaded {
+    let image = image_of(rt, alloc, entry, headers, bytes);
+    made(rt, load_elf(alloc, &image, 16))
 }
 
 #[test]
-fn loads_segments_in_any_order(rt: HostRuntime) -> Result<(), ImageError> {
+fn loads_segments_in_any_order(rt: HostRuntime) {
     let bytes = [1, 2, 3, 4, 5, 6];
-    let loaded = loaded_of(rt.alloc(), 0x8000_1000, &ANY_ORDER, &bytes)?;
+    let loaded = loaded_of(&rt, rt.alloc(), 0x8000_1000, &ANY_ORDER, &bytes);
     is_in_order(&rt, &loaded);
-    Ok(())
 }
 
 /// Why a file is not loaded, if it is not.
@@ -167,43 +151,30 @@ fn refusal(alloc: Global, file: &[u8]) -> Option<ImageError> {
 }
 
 /// A program header for each of 65,534 bytes, the last byte of RAM first.
-fn most_headers(alloc: Global) -> Result<Vec<ProgramHeader>, AllocError> {
+fn most_headers(rt: &impl Abort, alloc: Global) -> Vec<ProgramHeader> {
     let mut headers = Vec::new(alloc);
     for n in 0..65_534 {
-        headers.push([1, 0, 0x8000_fffd - n, 1, 1])?;
+        made(rt, headers.push([1, 0, 0x8000_fffd - n, 1, 1]));
     }
-    Ok(headers)
-}
-
-/// What the file of these is loaded as.
-fn loaded_of_most(alloc: Global) -> Result<Loaded, ImageError> {
-    let headers = most_headers(alloc)?;
-    loaded_of(alloc, 0x8000_0000, &headers, &[])
+    headers
 }
 
 #[test]
-fn loads_as_many_segments_as_there_may_be(rt: HostRuntime) -> Result<(), ImageError> {
-    let loaded = loaded_of_most(rt.alloc())?;
+fn loads_as_many_segments_as_there_may_be(rt: HostRuntime) {
+    let headers = most_headers(&rt, rt.alloc());
+    let loaded = loaded_of(&rt, rt.alloc(), 0x8000_0000, &headers, &[]);
     has_bytes(&rt, &loaded, 0xfffc, &[0x7f, 0x7f, 0]);
-    Ok(())
 }
 
-/// Why a file of 65,534 segments of one byte, a zero, is not loaded, if it is not. They lie one behind
-/// the other from the start of RAM on, but for the last, which lies at `last`.
-fn refusal_of_most(alloc: Global, last: u32) -> Result<Option<ImageError>, AllocError> {
-    let headers = headers_of_zeros(alloc, last)?;
-    let image = image_of(alloc, 0x8000_0000, &headers, &[])?;
-    Ok(refusal(alloc, &image))
-}
-
-/// The program headers of that file.
-fn headers_of_zeros(alloc: Global, last: u32) -> Result<Vec<ProgramHeader>, AllocError> {
+/// The program headers of a file of 65,534 segments of one byte, a zero. They lie one behind the other from the start of
+/// RAM on, but for the last, which lies at `last`.
+fn headers_of_zeros(rt: &impl Abort, alloc: Global, last: u32) -> Vec<ProgramHeader> {
     let mut headers = Vec::new(alloc);
     for address in 0x8000_0000..0x8000_fffd {
-        headers.push([1, 0, address, 0, 1])?;
+        made(rt, headers.push([1, 0, address, 0, 1]));
     }
-    headers.push([1, 0, last, 0, 1])?;
-    Ok(headers)
+    made(rt, headers.push([1, 0, last, 0, 1]));
+    headers
 }
 
 /// Where the last of those segments lies, and the rule that the file then breaks, if it breaks one.
@@ -217,20 +188,18 @@ static LAST_OF_MOST: [(u32, Option<u32>); 7] = [
     (0x8001_0000, Some(10)),
 ];
 
-fn is_told(rt: &impl Abort, alloc: Global, last: u32, rule: Option<u32>) -> Result<(), AllocError> {
-    let refused = refusal_of_most(alloc, last)?;
+fn is_told(rt: &impl Abort, alloc: Global, last: u32, rule: Option<u32>) {
+    let headers = headers_of_zeros(rt, alloc, last);
+    let image = image_of(rt, alloc, 0x8000_0000, &headers, &[]);
+    let refused = refusal(alloc, &image);
     are_equal(rt, &(last, refused), &(last, rule.map(ImageError::Refused)));
-    Ok(())
 }
 
 #[test]
-fn tells_one_overlap_among_as_many_segments_as_there_may_be(
-    rt: HostRuntime,
-) -> Result<(), AllocError> {
+fn tells_one_overlap_among_as_many_segments_as_there_may_be(rt: HostRuntime) {
     for (last, rule) in LAST_OF_MOST.iter() {
-        is_told(&rt, rt.alloc(), *last, *rule)?;
+        is_told(&rt, rt.alloc(), *last, *rule);
     }
-    Ok(())
 }
 
 static TWO_SEGMENTS: [ProgramHeader; 2] = [
@@ -271,40 +240,27 @@ static BROKEN: [(usize, &[(usize, u32)], u32); 29] = [
     (136, &[(24, 1), (96, 0x8000_000f)], 11),
 ];
 
-/// Why the first `length` bytes of an image, with other words at some places, are not loaded, if they are not.
-fn refusal_of_changed(
-    alloc: Global,
-    image: &[u8],
-    length: usize,
-    changes: &[(usize, u32)],
-) -> Result<Option<ImageError>, AllocError> {
-    let file = changed(alloc, image, length, changes)?;
-    Ok(refusal(alloc, &file))
-}
-
-fn is_refused(
-    rt: &impl Abort,
-    alloc: Global,
-    image: &[u8],
-    row: &(usize, &[(usize, u32)], u32),
-) -> Result<(), AllocError> {
+/// The first `length` bytes of an image, with other words at some places, are not loaded, by this rule.
+fn is_refused(rt: &impl Abort, alloc: Global, image: &[u8], row: &(usize, &[(usize, u32)], u32)) {
     let (length, changes, rule) = *row;
-    let refused = refusal_of_changed(alloc, image, length, changes)?;
+    let file = changed(rt, alloc, image, length, changes);
     let want = Some(ImageError::Refused(rule));
-    are_equal(rt, &(length, changes, refused), &(length, changes, want));
-    Ok(())
+    are_equal(
+        rt,
+        &(length, changes, refusal(alloc, &file)),
+        &(length, changes, want),
+    );
 }
 
-fn is_refused_by_each_rule(rt: &impl Abort, alloc: Global, image: &[u8]) -> Result<(), AllocError> {
+fn is_refused_by_each_rule(rt: &impl Abort, alloc: Global, image: &[u8]) {
+    are_equal(rt, &refusal(alloc, image), &None);
     for row in BROKEN.iter() {
-        is_refused(rt, alloc, image, row)?;
+        is_refused(rt, alloc, image, row);
     }
-    Ok(())
 }
 
 #[test]
-fn refuses_by_the_first_rule_that_is_broken(rt: HostRuntime) -> Result<(), AllocError> {
-    let image = image_of(rt.alloc(), 0x8000_0000, &TWO_SEGMENTS, &[0; 20])?;
-    are_equal(&rt, &refusal(rt.alloc(), &image), &None);
-    is_refused_by_each_rule(&rt, rt.alloc(), &image)
+fn refuses_by_the_first_rule_that_is_broken(rt: HostRuntime) {
+    let image = image_of(&rt, rt.alloc(), 0x8000_0000, &TWO_SEGMENTS, &[0; 20]);
+    is_refused_by_each_rule(&rt, rt.alloc(), &image);
 }

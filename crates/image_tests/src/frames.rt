@@ -1,8 +1,7 @@
 //! Frames: that a page is put into one and read from it, and that other bytes are none.
 
-use crate::equal::are_equal;
+use crate::equal::{are_equal, made};
 use fetch_proto::{decode_frame, encode_reply};
-use std::alloc::AllocError;
 use std::process::Abort;
 
 /// The image, the page, and how many bytes of the page are 0, of bytes that are a frame.
@@ -50,11 +49,10 @@ fn is_whole(rt: &impl Abort, bytes: &[u8]) {
 }
 
 #[test]
-fn a_page_goes_in_a_frame(rt: HostRuntime) -> Result<(), AllocError> {
-    let bytes = encode_reply(rt.alloc(), 3, 1, &[0; 4096])?;
+fn a_page_goes_in_a_frame(rt: HostRuntime) {
+    let bytes = made(&rt, encode_reply(rt.alloc(), 3, 1, &[0; 4096]));
     is_placed(&rt, &bytes);
     is_whole(&rt, &bytes);
-    Ok(())
 }
 
 fn is_no_frame(rt: &impl Abort, bytes: &[u8]) {
@@ -69,12 +67,11 @@ fn change_first(bytes: &mut [u8]) {
 }
 
 #[test]
-fn other_bytes_are_no_frame(rt: HostRuntime) -> Result<(), AllocError> {
-    let mut bytes = encode_reply(rt.alloc(), 3, 1, &[0; 4096])?;
-    bytes.push(0)?;
+fn other_bytes_are_no_frame(rt: HostRuntime) {
+    let mut bytes = made(&rt, encode_reply(rt.alloc(), 3, 1, &[0; 4096]));
+    made(&rt, bytes.push(0));
     is_no_frame(&rt, &bytes);
     bytes.pop();
     change_first(&mut bytes);
     is_no_frame(&rt, &bytes);
-    Ok(())
 }

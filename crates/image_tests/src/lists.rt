@@ -3,7 +3,7 @@
 
 ghost use Rattle.std.specs.Prelude.{◌≡◌, ◌+◌, ◌<◌, true, false, [], ◌∷◌, length, replicate, OnOk};
 
-use crate::equal::are_equal;
+use crate::equal::{are_equal, made};
 use crate::token::Token;
 use shared_leaves::{SharedList, Steps};
 use std::alloc::{AllocError, Global};
@@ -14,12 +14,12 @@ use std::thread;
 use std::thread::Threads;
 
 /// The list of the numbers below `count`.
-fn counted(alloc: Global, count: u32) -> Result<SharedList<Token>, AllocError> {
-    let mut tokens = Vec::with_capacity(alloc, count as usize)?;
+fn counted(rt: &impl Abort, alloc: Global, count: u32) -> SharedList<Token> {
+    let mut tokens = made(rt, Vec::with_capacity(alloc, count as usize));
     for number in 0..count {
-        tokens.push(Token::new(alloc, number)?)?;
+        made(rt, tokens.push(made(rt, Token::new(alloc, number))));
     }
-    SharedList::from_vec(alloc, tokens)
+    made(rt, SharedList::from_vec(alloc, tokens))
 }
 
 /// Whether a list has the numbers below `count`, in their order.
@@ -62,16 +62,17 @@ fn write(list: &mut SharedList<Token>, i: usize, number: u32) -> Result<bool, Al
 
 /// Sets a run of entries to one number, and says how many entries hold it then.
 fn fill(
+    rt: &impl Abort,
     list: &mut SharedList<Token>,
     first: usize,
     end: usize,
     number: u32,
-) -> Result<usize, AllocError> {
-    let token = Token::new(list.allocator(), number)?;
+) -> usize {
+    let token = made(rt, Token::new(list.allocator(), number));
     if first <= end && end <= list.len() {
-        list.fill(first, end, &token)?;
+        made(rt, list.fill(first, end, &token));
     }
-    Ok(token.owners() - 1)
+    token.owners() - 1
 }
 
 /// Shares a list, and tells how many steps that takes at some lengths.
@@ -133,18 +134,16 @@ fn choose_of_ledger<L: Ledger>(
 // Sizes at the ends of leaves.
 static SIZES: [u32; 8] = [0, 1, 63, 64, 65, 128, 130, 1024];
 
-fn has_its_entries(rt: &impl Abort, alloc: Global, size: u32) -> Result<(), AllocError> {
-    let list = counted(alloc, size)?;
+fn has_its_entries(rt: &impl Abort, alloc: Global, size: u32) {
+    let list = counted(rt, alloc, size);
     are_equal(rt, &(size, is_counted(&list, size)), &(size, true));
-    Ok(())
 }
 
 #[test]
-fn lists_have_their_entries(rt: HostRuntime) -> Result<(), AllocError> {
+fn lists_have_their_entries(rt: HostRuntime) {
     for size in SIZES.iter() {
-        has_its_entries(&rt, rt.alloc(), *size)?;
+        has_its_entries(&rt, rt.alloc(), *size);
     }
-    Ok(())
 }
 
 static NOT_WRITTEN: [(u32, usize); 7] = [
@@ -168,19 +167,18 @@ static WRITTEN: [(u32, usize); 7] = [
 ];
 
 /// Two entries of the second leaf are written in a share.
-fn one_leaf_is_copied(rt: &impl Abort, before: &SharedList<Token>) -> Result<(), AllocError> {
-    let mut after = before.share()?;
-    let written = [write(&mut after, 65, 1000)?, write(&mut after, 127, 1001)?];
-    are_equal(rt, &written, &[true, true]);
-    are_equal(rt, &held(before, PLACES), &NOT_WRITTEN.map(Some));
-    are_equal(rt, &held(&after, PLACES), &WRITTEN.map(Some));
-    Ok(())
+fn one_leaf_is_copied(rt: &impl Abort, before: &SharedList<Token>) {
+    let mut after = made(rt, before.share());
+    let written = [write(&mut after, 65, 1000), write(&mut after, 127, 1001)];
+    are_equal(rt, &written, &[Ok(true), Ok(true)]);
+    let found = [held(before, PLACES), held(&after, PLACES)];
+    are_equal(rt, &found, &[NOT_WRITTEN.map(Some), WRITTEN.map(Some)]);
 }
 
 #[test]
-fn a_write_copies_one_leaf(rt: HostRuntime) -> Result<(), AllocError> {
-    let before = counted(rt.alloc(), 130)?;
-    one_leaf_is_copied(&rt, &before)
+fn a_write_copies_one_leaf(rt: HostRuntime) {
+    let before = counted(&rt, rt.alloc(), 130);
+    one_leaf_is_copied(&rt, &before);
 }
 
 static FILLED: [(u32, usize); 7] = [
@@ -194,19 +192,18 @@ static FILLED: [(u32, usize); 7] = [
 ];
 
 /// A run is set in a share.
-fn whole_leaves_are_shared(rt: &impl Abort, before: &SharedList<Token>) -> Result<(), AllocError> {
-    let mut after = before.share()?;
-    let holders = fill(&mut after, 63, 129, 7)?;
+fn whole_leaves_are_shared(rt: &impl Abort, before: &SharedList<Token>) {
+    let mut after = made(rt, before.share());
+    let holders = fill(rt, &mut after, 63, 129, 7);
     are_equal(rt, &(is_counted(before, 130), holders), &(true, 1 + 64 + 1));
     are_equal(rt, &held(&after, PLACES), &FILLED.map(Some));
-    Ok(())
 }
 
 // The whole leaf in the run is one of 64 entries, which stand in memory once.
 #[test]
-fn a_run_shares_its_whole_leaves(rt: HostRuntime) -> Result<(), AllocError> {
-    let before = counted(rt.alloc(), 130)?;
-    whole_leaves_are_shared(&rt, &before)
+fn a_run_shares_its_whole_leaves(rt: HostRuntime) {
+    let before = counted(&rt, rt.alloc(), 130);
+    whole_leaves_are_shared(&rt, &before);
 }
 
 /// A list of 257 tokens, all of them the one that is unset but for one.
@@ -226,12 +223,11 @@ fn has_one_leaf(rt: &impl Abort, list: &SharedList<Token>) {
 }
 
 #[test]
-fn equal_entries_are_one_leaf(rt: HostRuntime) -> Result<(), AllocError> {
-    let set = Token::new(rt.alloc(), 7)?;
-    let unset = Token::new(rt.alloc(), 8)?;
-    let list = chosen(rt.alloc(), &set, &unset)?;
+fn equal_entries_are_one_leaf(rt: HostRuntime) {
+    let set = made(&rt, Token::new(rt.alloc(), 7));
+    let unset = made(&rt, Token::new(rt.alloc(), 8));
+    let list = made(&rt, chosen(rt.alloc(), &set, &unset));
     has_one_leaf(&rt, &list);
-    Ok(())
 }
 
 /// Whether a counted share of a list of 1,024 entries has them in their order.
@@ -241,10 +237,9 @@ fn is_shared_counted(list: &SharedList<Token>) -> Result<bool, AllocError> {
 }
 
 #[test]
-fn a_counted_share_is_equal(rt: HostRuntime) -> Result<(), AllocError> {
-    let list = counted(rt.alloc(), 1024)?;
-    are_equal(&rt, &is_shared_counted(&list)?, &true);
-    Ok(())
+fn a_counted_share_is_equal(rt: HostRuntime) {
+    let list = counted(&rt, rt.alloc(), 1024);
+    are_equal(&rt, &is_shared_counted(&list), &Ok(true));
 }
 
 /// A share is written in a thread, and the list is as it was in another.
@@ -262,8 +257,7 @@ fn is_written_apart<R: Abort + Threads>(
 }
 
 #[test]
-fn lists_move_between_threads(rt: HostRuntime) -> Result<(), AllocError> {
-    let list = counted(rt.alloc(), 65)?;
-    is_written_apart(&rt, list.share()?, &list);
-    Ok(())
+fn lists_move_between_threads(rt: HostRuntime) {
+    let list = counted(&rt, rt.alloc(), 65);
+    is_written_apart(&rt, made(&rt, list.share()), &list);
 }

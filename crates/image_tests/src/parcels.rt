@@ -6,9 +6,9 @@ ghost use Rattle.image_depot.specs.Key.{IsKeyOf};
 ghost use Rattle.image_depot.specs.Reply.{IsSentOf};
 
 use crate::depots::frozen;
-use crate::equal::are_equal;
+use crate::equal::{are_equal, made};
 use image_depot::{Depot, ImageKey, Parcel, Sent};
-use std::alloc::{AllocError, Global};
+use std::alloc::Global;
 use std::process::Abort;
 use std::sync::Wait;
 use std::thread;
@@ -63,21 +63,16 @@ fn are_replies(rt: &impl Abort, depot: &Depot, key: &ImageKey)
 }
 
 /// The second of two images is the one of byte 0x20.
-fn second_is_carried<R: Abort + Wait>(
-    rt: &R,
-    alloc: Global,
-    depot: &Depot,
-) -> Result<(), AllocError> {
-    frozen(rt, alloc, depot, 0x10)?;
-    let key = frozen(rt, alloc, depot, 0x20)?;
+fn second_is_carried<R: Abort + Wait>(rt: &R, alloc: Global, depot: &Depot) {
+    frozen(rt, alloc, depot, 0x10);
+    let key = frozen(rt, alloc, depot, 0x20);
     are_replies(rt, depot, &key);
-    Ok(())
 }
 
 #[test]
-fn a_reply_carries_its_page(rt: HostRuntime) -> Result<(), AllocError> {
-    let depot = Depot::new(rt.alloc())?;
-    second_is_carried(&rt, rt.alloc(), &depot)
+fn a_reply_carries_its_page(rt: HostRuntime) {
+    let depot = made(&rt, Depot::new(rt.alloc()));
+    second_is_carried(&rt, rt.alloc(), &depot);
 }
 
 /// Pushes the reply that carries a page of an image.
@@ -100,12 +95,12 @@ fn told(depot: &Depot, sent: &Sent) -> Told
 }
 
 /// A page of an image is pushed, and then another. The first is told once more, too.
-fn are_there<R: Abort + Wait>(rt: &R, depot: &Depot, key: &ImageKey) -> Result<(), AllocError>
+fn are_there<R: Abort + Wait>(rt: &R, depot: &Depot, key: &ImageKey)
     requires { IsKeyOf depot.now key.now }
 {
     let first = pushed(rt, depot, key, 2).expect(rt, "a parcel");
     let second = pushed(rt, depot, key, 0).expect(rt, "a parcel");
-    let again = first.again()?;
+    let again = made(rt, first.again());
     let all = [
         told(depot, &first),
         told(depot, &second),
@@ -116,23 +111,18 @@ fn are_there<R: Abort + Wait>(rt: &R, depot: &Depot, key: &ImageKey) -> Result<(
         &all,
         &[(0, 2, Some(0x31)), (0, 0, Some(0x30)), (0, 2, Some(0x31))],
     );
-    Ok(())
 }
 
 /// The same of an image that is frozen for it.
-fn are_there_of_frozen<R: Abort + Wait>(
-    rt: &R,
-    alloc: Global,
-    depot: &Depot,
-) -> Result<(), AllocError> {
-    let key = frozen(rt, alloc, depot, 0x30)?;
-    are_there(rt, depot, &key)
+fn are_there_of_frozen<R: Abort + Wait>(rt: &R, alloc: Global, depot: &Depot) {
+    let key = frozen(rt, alloc, depot, 0x30);
+    are_there(rt, depot, &key);
 }
 
 #[test]
-fn what_was_pushed_is_there(rt: HostRuntime) -> Result<(), AllocError> {
-    let depot = Depot::new(rt.alloc())?;
-    are_there_of_frozen(&rt, rt.alloc(), &depot)
+fn what_was_pushed_is_there(rt: HostRuntime) {
+    let depot = made(&rt, Depot::new(rt.alloc()));
+    are_there_of_frozen(&rt, rt.alloc(), &depot);
 }
 
 /// Pushes a page of an image a hundred times, and reads what was pushed each time. `None` where it is
@@ -193,16 +183,15 @@ fn push_and_read_in_threads<R: Abort + Threads + Wait + Sync>(
     rt: &R,
     alloc: Global,
     depot: &Depot,
-) -> Result<(), AllocError> {
-    let key = frozen(rt, alloc, depot, 0x40)?;
+) {
+    let key = frozen(rt, alloc, depot, 0x40);
     pushed_and_read(rt, depot, &key);
-    Ok(())
 }
 
 #[test]
-fn threads_push_and_read_side_by_side(rt: HostRuntime) -> Result<(), AllocError> {
-    let depot = Depot::new(rt.alloc())?;
-    push_and_read_in_threads(&rt, rt.alloc(), &depot)
+fn threads_push_and_read_side_by_side(rt: HostRuntime) {
+    let depot = made(&rt, Depot::new(rt.alloc()));
+    push_and_read_in_threads(&rt, rt.alloc(), &depot);
 }
 
 /// A parcel and one that was pushed go to a thread each, which tell the length of the one and the page of
@@ -211,26 +200,15 @@ fn moved<R: Threads>(rt: &R, parcel: Parcel, sent: Sent) -> (usize, u32) {
     thread::join(rt, move || parcel.bytes().len(), move || sent.page())
 }
 
-fn length_and_page<R: Abort + Threads + Wait>(rt: &R, depot: &Depot, key: &ImageKey)
-    requires { IsKeyOf depot.now key.now }
-{
-    let sent = pushed(rt, depot, key, 2).expect(rt, "a parcel");
-    let parcel = answered(depot, key, 0).expect(rt, "a reply");
+fn length_and_page<R: Abort + Threads + Wait>(rt: &R, alloc: Global, depot: &Depot) {
+    let key = frozen(rt, alloc, depot, 0x50);
+    let sent = pushed(rt, depot, &key, 2).expect(rt, "a parcel");
+    let parcel = answered(depot, &key, 0).expect(rt, "a reply");
     are_equal(rt, &moved(rt, parcel, sent), &(4108, 2));
 }
 
-fn length_and_page_of_frozen<R: Abort + Threads + Wait>(
-    rt: &R,
-    alloc: Global,
-    depot: &Depot,
-) -> Result<(), AllocError> {
-    let key = frozen(rt, alloc, depot, 0x50)?;
-    length_and_page(rt, depot, &key);
-    Ok(())
-}
-
 #[test]
-fn moves_between_threads(rt: HostRuntime) -> Result<(), AllocError> {
-    let depot = Depot::new(rt.alloc())?;
-    length_and_page_of_frozen(&rt, rt.alloc(), &depot)
+fn moves_between_threads(rt: HostRuntime) {
+    let depot = made(&rt, Depot::new(rt.alloc()));
+    length_and_page(&rt, rt.alloc(), &depot);
 }

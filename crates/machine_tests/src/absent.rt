@@ -1,12 +1,12 @@
 //! Clones, which start with their parent's blank pages alone: at which pages they stall, in order, and what they come to
 //! once these have come.
 
-ghost use Rattle.std.specs.Prelude.{◌≡◌, IfOk, OnOk};
+ghost use Rattle.std.specs.Prelude.{◌≡◌, IfOk};
 ghost use Rattle.image_depot.specs.Key.{IsKeyOf};
 ghost use Rattle.vm_cell.specs.Keyed.{IsOfDepot};
 ghost use Rattle.vm_cell.specs.Woken.{AreOfImage};
 
-use crate::equal::are_equal;
+use crate::equal::{are_equal_at, made};
 use crate::fetched::fetches_two;
 use crate::guests::{run, step};
 use crate::machine::{Course, machine_does, run_and_fork};
@@ -35,14 +35,14 @@ pub(crate) fn bring(
     vm: &mut Vm,
     depot: &Depot,
     page: u32,
-) -> Result<Arrived, AllocError>
+) -> Arrived
     requires { IsOfDepot depot.now vm.old.key }
-    ensures { OnOk result (vm.new.key ≡ vm.old.key) }
+    ensures { vm.new.key ≡ vm.old.key }
 {
     let key = vm.key().expect(rt, "an image");
     assert!(rt; page < depot.pages(key));
-    let parcel = depot.answer(key, page)?;
-    vm.arrive(alloc, depot, &parcel)
+    let parcel = made(rt, depot.answer(key, page));
+    made(rt, vm.arrive(alloc, depot, &parcel))
 }
 
 // What is done with a child, and what comes of it.
@@ -64,50 +64,23 @@ pub(crate) enum Deed {
 }
 
 // Does this with a child of the guest of this name.
-fn does(
-    rt: &impl Abort,
-    alloc: Global,
-    child: &mut Vm,
-    depot: &Depot,
-    name: &str,
-    deed: &Deed,
-) -> Result<(), AllocError>
+fn does(rt: &impl Abort, alloc: Global, child: &mut Vm, depot: &Depot, name: &str, deed: &Deed)
     requires { IsOfDepot depot.now child.old.key }
-    ensures { OnOk result (child.new.key ≡ child.old.key) }
+    ensures { child.new.key ≡ child.old.key }
 {
     match deed {
-        Deed::Wants(page) => {
-            are_equal(rt, &(name, child.wanted()), &(name, *page));
-            Ok(())
-        }
-        Deed::Reads(address, word) => {
-            are_equal(rt, &(name, child.peek(depot, *address)), &(name, *word));
-            Ok(())
-        }
+        Deed::Wants(page) => are_equal_at(rt, name, &child.wanted(), page),
+        Deed::Reads(address, word) => are_equal_at(rt, name, &child.peek(depot, *address), word),
         Deed::Brings(page, want) => {
-            let arrived = bring(rt, alloc, child, depot, *page)?;
-            are_equal(rt, &(name, arrived), &(name, *want));
-            Ok(())
+            are_equal_at(rt, name, &bring(rt, alloc, child, depot, *page), want);
         }
-        Deed::Steps(want) => {
-            let stepped = step(child)?;
-            are_equal(rt, &(name, stepped), &(name, *want));
-            Ok(())
-        }
-        Deed::Runs(want) => {
-            let why = run(child, 1000)?.why;
-            are_equal(rt, &(name, why), &(name, *want));
-            Ok(())
-        }
+        Deed::Steps(want) => are_equal_at(rt, name, &step(rt, child), want),
+        Deed::Runs(want) => are_equal_at(rt, name, &run(rt, child, 1000).why, want),
         Deed::Ends(want) => {
-            run(child, 1000)?;
-            are_equal(rt, &(name, child.ended()), &(name, Some(*want)));
-            Ok(())
+            run(rt, child, 1000);
+            are_equal_at(rt, name, &child.ended(), &Some(*want));
         }
-        Deed::Made(steps) => {
-            are_equal(rt, &(name, child.steps()), &(name, *steps));
-            Ok(())
-        }
+        Deed::Made(steps) => are_equal_at(rt, name, &child.steps(), steps),
     }
 }
 
@@ -119,13 +92,12 @@ fn does_all(
     depot: &Depot,
     name: &str,
     deeds: &[Deed],
-) -> Result<(), AllocError>
+)
     requires { IsOfDepot depot.now child.old.key }
 {
     'deeds: for deed in deeds {
-        does(rt, alloc, child, depot, name, deed)?;
+        does(rt, alloc, child, depot, name, deed);
     }
-    Ok(())
 }
 
 // What a child does once it is born.
@@ -143,28 +115,13 @@ fn goes_its_course<R: Abort + Wait>(
     child: &mut Vm,
     depot: &Depot,
     course: &ChildCourse<'_>,
-) -> Result<(), AllocError>
+)
     requires { IsOfDepot depot.now child.old.key }
 {
     match course {
         ChildCourse::Does(name, deeds) => does_all(rt, alloc, child, depot, name, deeds),
         ChildCourse::Fetches => fetches_two(rt, alloc, child, depot),
     }
-}
-
-// The child of a brood of one goes its course.
-fn first_goes<R: Abort + Wait>(
-    rt: &R,
-    alloc: Global,
-    brood: &Brood,
-    depot: &Depot,
-    course: &ChildCourse<'_>,
-) -> Result<(), AllocError>
-    requires here { IsKeyOf depot.now brood.now.key }
-    requires seeds { AreOfImage brood.now.key 1 brood.now.seed }
-{
-    let mut child = first_of(alloc, brood, depot)?;
-    goes_its_course(rt, alloc, &mut child, depot, course)
 }
 
 // Runs a machine to its CLONE of one child, which then goes its course.
@@ -174,11 +131,12 @@ pub(crate) fn bears<R: Abort + Wait>(
     vm: &mut Vm,
     depot: &Depot,
     course: &ChildCourse<'_>,
-) -> Result<(), AllocError>
+)
     requires { IsOfDepot depot.now vm.old.key }
 {
-    let brood = run_and_fork(rt, alloc, vm, 1, depot)?;
-    first_goes(rt, alloc, &brood, depot, course)
+    let brood = run_and_fork(rt, alloc, vm, 1, depot);
+    let mut child = made(rt, first_of(alloc, &brood, depot));
+    goes_its_course(rt, alloc, &mut child, depot, course);
 }
 
 // The first child of the machine of these words, from a base on, goes its course.
@@ -188,9 +146,9 @@ pub(crate) fn child_does<R: Abort + Wait>(
     base: u32,
     words: &[u32],
     course: ChildCourse<'_>,
-) -> Result<(), AllocError> {
+) {
     assert!(rt; base % 4 == 0 && words.len() <= 64);
-    machine_does(rt, alloc, base, words, 16, &Course::Bears(course))
+    machine_does(rt, alloc, base, words, 16, &Course::Bears(course));
 }
 
 // Guests by their names, from a base on, and what is done with the child of each, one after another.
@@ -297,10 +255,9 @@ static CHILDREN: [(&str, u32, &[u32], &[Deed]); 6] = [
 ];
 
 #[test]
-fn children_want_these_pages_alone(rt: HostRuntime) -> Result<(), AllocError> {
+fn children_want_these_pages_alone(rt: HostRuntime) {
     for (name, base, words, deeds) in CHILDREN.iter() {
         let course = ChildCourse::Does(name, deeds);
-        child_does(&rt, rt.alloc(), *base, words, course)?;
+        child_does(&rt, rt.alloc(), *base, words, course);
     }
-    Ok(())
 }

@@ -3,11 +3,11 @@
 ghost use Rattle.vm_cell.specs.Keyed.{IsOfDepot};
 
 use crate::absent::{ChildCourse, child_does};
-use crate::equal::are_equal;
+use crate::equal::{are_equal, made};
 use elf_load::RAM_BASE;
-use host_fetch::{FetchError, fetch};
+use host_fetch::fetch;
 use image_depot::Depot;
-use std::alloc::{AllocError, Global};
+use std::alloc::Global;
 use std::process::Abort;
 use std::sync::Wait;
 use vm_cell::Vm;
@@ -23,54 +23,24 @@ static GRANDCHILD: [u32; 40] = [
 ];
 
 #[test]
-fn a_child_fetches_a_page_and_the_next(rt: HostRuntime) -> Result<(), AllocError> {
-    child_does(&rt, rt.alloc(), RAM_BASE, &GRANDCHILD, ChildCourse::Fetches)
-}
-
-pub(crate) fn fetches_two<R: Abort + Wait>(
-    rt: &R,
-    alloc: Global,
-    child: &mut Vm,
-    depot: &Depot,
-) -> Result<(), AllocError>
-    requires { IsOfDepot depot.now child.old.key }
-{
-    let fetched = fetched_of(rt, alloc, child, depot)?;
-    let want = ([false, false, true], Ok(()), [true, true, true], 2);
-    are_equal(rt, &fetched, &want);
-    Ok(())
+fn a_child_fetches_a_page_and_the_next(rt: HostRuntime) {
+    child_does(&rt, rt.alloc(), RAM_BASE, &GRANDCHILD, ChildCourse::Fetches);
 }
 
 // Which of the first three pages are here before a fetch, what it answers, which are here then, and how many replies
-// it has told.
-type Fetched = ([bool; 3], Result<(), FetchError>, [bool; 3], usize);
-
-// The reply with page 1 comes before the one with page 0, which the child wants. Page 2 is blank, and so it is here.
-fn fetched_of<R: Wait>(
-    rt: &R,
-    alloc: Global,
-    child: &mut Vm,
-    depot: &Depot,
-) -> Result<Fetched, AllocError>
+// it has told. The reply with page 1 comes before the one with page 0, which the child wants. Page 2 is blank, and so
+// it is here.
+pub(crate) fn fetches_two<R: Abort + Wait>(rt: &R, alloc: Global, child: &mut Vm, depot: &Depot)
     requires { IsOfDepot depot.now child.old.key }
 {
-    let mut wire = Scripted::new(vec![in alloc; Fate::Give(1), Fate::Give(0)]?);
-    Ok(fetched_over(rt, alloc, child, depot, &mut wire))
-}
-
-fn fetched_over<R: Wait>(
-    rt: &R,
-    alloc: Global,
-    child: &mut Vm,
-    depot: &Depot,
-    wire: &mut Scripted,
-) -> Fetched
-    requires { IsOfDepot depot.now child.old.key }
-{
+    let fates = vec![in alloc; Fate::Give(1), Fate::Give(0)];
+    let mut wire = Scripted::new(made(rt, fates));
     let mut told = Vec::new(alloc);
     let before = first_here(child);
-    let answer = fetch(rt, alloc, child, depot, wire, 1, &mut told);
-    (before, answer, first_here(child), told.len())
+    let answer = fetch(rt, alloc, child, depot, &mut wire, 1, &mut told);
+    let fetched = (before, answer, first_here(child), told.len());
+    let want = ([false, false, true], Ok(()), [true, true, true], 2);
+    are_equal(rt, &fetched, &want);
 }
 
 // Whether the first three pages are here.

@@ -1,13 +1,15 @@
 //! Guests of a few words.
 
-ghost use Rattle.std.specs.Prelude.{◌≡◌, ◌≤◌, ◌%◌, [], length, IfOk, None, OnOk};
+ghost use Rattle.std.specs.Prelude.{◌≡◌, ◌≤◌, ◌%◌, [], length, IfOk, None};
 ghost use Rattle.forest_model.specs.Forest.{port_of};
 
+use crate::equal::made;
 use cow_disk::Disk;
 use elf_load::{Loaded, load_elf};
 use forest_model::Options;
 use rv_asm::elf_of;
 use std::alloc::{AllocError, Global};
+use std::process::Abort;
 use vm_cell::{Ran, Stepped, Vm};
 
 // Two children that exit with 40 and their number, whom the parent joins, to exit with the value of the
@@ -19,14 +21,14 @@ pub(crate) static TWO_CHILDREN: [u32; 25] = [
     0x0062a423,
 ];
 
-// A disk without sectors. It is refused where memory is wanting alone.
-pub(crate) fn no_disk(alloc: Global) -> Result<Disk, AllocError> {
-    Disk::from_bytes(alloc, b"").ok().ok_or(AllocError)
+// A disk without sectors.
+pub(crate) fn no_disk(rt: &impl Abort, alloc: Global) -> Disk {
+    made(rt, Disk::from_bytes(alloc, b""))
 }
 
-// The machine of an image, that makes at most 1,000,000 steps and may have two clones.
+// The machine of an image and a disk, that makes at most 1,000,000 steps and may have two clones.
 #[tactic(auto, unfolding(forest_model::specs::Machine::boot))]
-fn booted_of(alloc: Global, image: &Loaded) -> Result<Vm, AllocError>
+fn booted_of(alloc: Global, image: &Loaded, disk: Disk) -> Result<Vm, AllocError>
     ensures no_ticket { IfOk result (λ vm. (port_of vm.machine).tickets ≡ []) }
     ensures no_image { IfOk result (λ vm. vm.key ≡ None) }
 {
@@ -34,53 +36,49 @@ fn booted_of(alloc: Global, image: &Loaded) -> Result<Vm, AllocError>
         limit: 1_000_000,
         allot: 2,
     };
-    Vm::boot(alloc, image, no_disk(alloc)?, b"", options)
+    Vm::boot(alloc, image, disk, b"", options)
 }
 
-// The image of these words from a base on, in RAM of so many pages. It is refused where memory is wanting alone.
+// The image of these words from a base on, in RAM of so many pages.
 pub(crate) fn loaded_at(
+    rt: &impl Abort,
     alloc: Global,
     base: u32,
     words: &[u32],
     pages: u32,
-) -> Result<Loaded, AllocError>
+) -> Loaded
     requires base { base % 4 ≡ 0 }
     requires words { length words.now ≤ 64 }
     requires least { 16 ≤ pages }
     requires most { pages ≤ 1024 }
 {
-    let file = elf_of(alloc, base, words)?;
-    load_elf(alloc, &file, pages).ok().ok_or(AllocError)
+    let file = made(rt, elf_of(alloc, base, words));
+    made(rt, load_elf(alloc, &file, pages))
 }
 
 // The machine of these words, from a base on, with so many pages.
-pub(crate) fn booted_at(
-    alloc: Global,
-    base: u32,
-    words: &[u32],
-    pages: u32,
-) -> Result<Vm, AllocError>
+pub(crate) fn booted_at(rt: &impl Abort, alloc: Global, base: u32, words: &[u32], pages: u32) -> Vm
     requires base { base % 4 ≡ 0 }
     requires words { length words.now ≤ 64 }
     requires least { 16 ≤ pages }
     requires most { pages ≤ 1024 }
-    ensures no_ticket { IfOk result (λ vm. (port_of vm.machine).tickets ≡ []) }
-    ensures no_image { IfOk result (λ vm. vm.key ≡ None) }
+    ensures no_ticket { (port_of result.machine).tickets ≡ [] }
+    ensures no_image { result.key ≡ None }
 {
-    let image = loaded_at(alloc, base, words, pages)?;
-    booted_of(alloc, &image)
+    let image = loaded_at(rt, alloc, base, words, pages);
+    made(rt, booted_of(alloc, &image, no_disk(rt, alloc)))
 }
 
 // Lets a machine make at most so many steps.
-pub(crate) fn run(vm: &mut Vm, most: u64) -> Result<Ran, AllocError>
-    ensures { OnOk result (vm.new.key ≡ vm.old.key) }
+pub(crate) fn run(rt: &impl Abort, vm: &mut Vm, most: u64) -> Ran
+    ensures { vm.new.key ≡ vm.old.key }
 {
-    Ok(vm.run(most)?)
+    made(rt, vm.run(most))
 }
 
 // Lets a machine make one step.
-pub(crate) fn step(vm: &mut Vm) -> Result<Stepped, AllocError>
+pub(crate) fn step(rt: &impl Abort, vm: &mut Vm) -> Stepped
     ensures { vm.new.key ≡ vm.old.key }
 {
-    vm.step()
+    made(rt, vm.step())
 }

@@ -6,7 +6,7 @@ ghost use Rattle.vm_cell.specs.Keyed.{IsOfDepot};
 ghost use Rattle.vm_cell.specs.Woken.{AreOfImage};
 
 use crate::absent::{ChildCourse, bears, bring};
-use crate::equal::are_equal;
+use crate::equal::{are_equal, made};
 use crate::guests::{TWO_CHILDREN, booted_at, run, step};
 use elf_load::RAM_BASE;
 use forest_model::Ending;
@@ -41,7 +41,7 @@ fn goes_its_course<R: Abort + Wait>(
     vm: &mut Vm,
     depot: &Depot,
     course: &Course<'_>,
-) -> Result<(), AllocError>
+)
     requires { IsOfDepot depot.now vm.old.key }
 {
     match course {
@@ -53,24 +53,6 @@ fn goes_its_course<R: Abort + Wait>(
     }
 }
 
-fn machine_in_depot_does<R: Abort + Wait>(
-    rt: &R,
-    alloc: Global,
-    base: u32,
-    words: &[u32],
-    pages: u32,
-    course: &Course<'_>,
-    depot: &Depot,
-) -> Result<(), AllocError>
-    requires base { base % 4 ≡ 0 }
-    requires words { length words.now ≤ 64 }
-    requires least { 16 ≤ pages }
-    requires most { pages ≤ 1024 }
-{
-    let mut vm = booted_at(alloc, base, words, pages)?;
-    goes_its_course(rt, alloc, &mut vm, depot, course)
-}
-
 // The machine of these words, from a base on, with so many pages, goes its course.
 pub(crate) fn machine_does<R: Abort + Wait>(
     rt: &R,
@@ -79,28 +61,28 @@ pub(crate) fn machine_does<R: Abort + Wait>(
     words: &[u32],
     pages: u32,
     course: &Course<'_>,
-) -> Result<(), AllocError>
+)
     requires base { base % 4 ≡ 0 }
     requires words { length words.now ≤ 64 }
     requires least { 16 ≤ pages }
     requires most { pages ≤ 1024 }
 {
-    let depot = Depot::new(alloc)?;
-    machine_in_depot_does(rt, alloc, base, words, pages, course, &depot)
+    let depot = made(rt, Depot::new(alloc));
+    let mut vm = booted_at(rt, alloc, base, words, pages);
+    goes_its_course(rt, alloc, &mut vm, &depot, course);
 }
 
 #[test]
-fn shows_words_and_registers(rt: HostRuntime) -> Result<(), AllocError> {
-    machine_does(&rt, rt.alloc(), RAM_BASE, &EXIT_SEVEN, 64, &Course::Shows)
+fn shows_words_and_registers(rt: HostRuntime) {
+    machine_does(&rt, rt.alloc(), RAM_BASE, &EXIT_SEVEN, 64, &Course::Shows);
 }
 
 // The machine that exits with 7, after two steps.
-fn runs_and_shows(rt: &impl Abort, vm: &mut Vm, depot: &Depot) -> Result<(), AllocError>
+fn runs_and_shows(rt: &impl Abort, vm: &mut Vm, depot: &Depot)
     requires { IsOfDepot depot.now vm.old.key }
 {
-    run(vm, 2)?;
+    run(rt, vm, 2);
     shows(rt, vm, depot);
-    Ok(())
 }
 
 fn shows(rt: &impl Abort, vm: &Vm, depot: &Depot)
@@ -122,30 +104,20 @@ fn shows(rt: &impl Abort, vm: &Vm, depot: &Depot)
 }
 
 #[test]
-fn stops_and_goes_on(rt: HostRuntime) -> Result<(), AllocError> {
-    machine_does(&rt, rt.alloc(), RAM_BASE, &EXIT_SEVEN, 64, &Course::GoesOn)
-}
-
-fn goes_on(rt: &impl Abort, vm: &mut Vm) -> Result<(), AllocError> {
-    let went = gone_on(vm)?;
-    let ended = Stepped::Ended(Ending::Exit(7));
-    let stops = [Stepped::Went, Stepped::Went, ended, ended];
-    are_equal(rt, &went, &([3, 0, 5], stops));
-    Ok(())
+fn stops_and_goes_on(rt: HostRuntime) {
+    machine_does(&rt, rt.alloc(), RAM_BASE, &EXIT_SEVEN, 64, &Course::GoesOn);
 }
 
 // How many steps a machine makes by a run, by a run after three more steps, and in all; and what comes of the first
 // run and of each of the three steps.
-fn gone_on(vm: &mut Vm) -> Result<([u64; 3], [Stepped; 4]), AllocError> {
-    let ran = run(vm, 3)?;
-    let first = step(vm)?;
-    let second = step(vm)?;
-    let third = step(vm)?;
-    let last = run(vm, 3)?;
-    Ok((
-        [ran.steps, last.steps, vm.steps()],
-        [ran.why, first, second, third],
-    ))
+fn goes_on(rt: &impl Abort, vm: &mut Vm) {
+    let ran = run(rt, vm, 3);
+    let stops = [ran.why, step(rt, vm), step(rt, vm), step(rt, vm)];
+    let last = run(rt, vm, 3);
+    let steps = [ran.steps, last.steps, vm.steps()];
+    let ended = Stepped::Ended(Ending::Exit(7));
+    let want = [Stepped::Went, Stepped::Went, ended, ended];
+    are_equal(rt, &(steps, stops), &([3, 0, 5], want));
 }
 
 // Makes the CLONE that a machine stands at, of a ticket for so many children. It is refused where memory is wanting, or
@@ -170,35 +142,19 @@ fn fork<R: Wait>(
 }
 
 // Runs a machine to its CLONE, and makes it.
-pub(crate) fn run_and_fork<R: Wait>(
+pub(crate) fn run_and_fork<R: Abort + Wait>(
     rt: &R,
     alloc: Global,
     vm: &mut Vm,
     children: u32,
     depot: &Depot,
-) -> Result<Brood, AllocError>
+) -> Brood
     requires { IsOfDepot depot.now vm.old.key }
-    ensures here { IfOk result (λ brood. IsKeyOf depot.now brood.key) }
-    ensures seeds { IfOk result (λ brood. AreOfImage brood.key children brood.seed) }
+    ensures here { IsKeyOf depot.now result.key }
+    ensures seeds { AreOfImage result.key children result.seed }
 {
-    run(vm, 1000)?;
-    fork(rt, alloc, vm, children, depot)
-}
-
-// How the two children of a brood end.
-fn ends_of(
-    rt: &impl Abort,
-    alloc: Global,
-    brood: &Brood,
-    depot: &Depot,
-) -> Result<[Option<Ending>; 2], AllocError>
-    requires here { IsKeyOf depot.now brood.now.key }
-    requires seeds { AreOfImage brood.now.key 2 brood.now.seed }
-{
-    Ok([
-        end_of(rt, alloc, brood, 1, depot)?,
-        end_of(rt, alloc, brood, 2, depot)?,
-    ])
+    run(rt, vm, 1000);
+    made(rt, fork(rt, alloc, vm, children, depot))
 }
 
 // A child of a brood of two.
@@ -213,70 +169,59 @@ fn child_of(alloc: Global, brood: &Brood, number: u32, depot: &Depot) -> Result<
     Ok(Vm::wake(alloc, &seed, &brood.key, depot)?)
 }
 
-// How a child of a brood of two ends.
+// How a child of a brood of two ends, which the page of its code is enough for.
 fn end_of(
     rt: &impl Abort,
     alloc: Global,
     brood: &Brood,
     number: u32,
     depot: &Depot,
-) -> Result<Option<Ending>, AllocError>
+) -> Option<Ending>
     requires here { IsKeyOf depot.now brood.now.key }
     requires seeds { AreOfImage brood.now.key 2 brood.now.seed }
     requires first { 1 ≤ number }
     requires last { number ≤ 2 }
 {
-    let mut child = child_of(alloc, brood, number, depot)?;
-    run_fetching(rt, alloc, &mut child, depot)
-}
-
-// Runs a clone to its end, which the page of its code is enough for. How it ends.
-fn run_fetching(
-    rt: &impl Abort,
-    alloc: Global,
-    child: &mut Vm,
-    depot: &Depot,
-) -> Result<Option<Ending>, AllocError>
-    requires { IsOfDepot depot.now child.old.key }
-{
-    bring(rt, alloc, child, depot, 0)?;
-    run(child, 1000)?;
-    Ok(child.ended())
+    let mut child = made(rt, child_of(alloc, brood, number, depot));
+    bring(rt, alloc, &mut child, depot, 0);
+    run(rt, &mut child, 1000);
+    child.ended()
 }
 
 // Makes the JOIN that a machine stands at.
-fn join(rt: &impl Abort, vm: &mut Vm, endings: &[Ending]) -> Result<(), AllocError> {
+fn join(rt: &impl Abort, vm: &mut Vm, endings: &[Ending]) {
     match vm.call() {
         Some(Call::Join(ticket)) if endings.len() == vm.granted(ticket) as usize => {
-            vm.joined(endings)
+            made(rt, vm.joined(endings));
         }
         _ => panic!(rt; "no such JOIN"),
     }
 }
 
 #[test]
-fn a_parent_joins_its_children(rt: HostRuntime) -> Result<(), AllocError> {
-    machine_does(&rt, rt.alloc(), RAM_BASE, &TWO_CHILDREN, 64, &Course::Joins)
+fn a_parent_joins_its_children(rt: HostRuntime) {
+    machine_does(&rt, rt.alloc(), RAM_BASE, &TWO_CHILDREN, 64, &Course::Joins);
 }
 
-// Runs a machine to its CLONE, both children to their ends, and the machine then to its own.
-fn joins_both<R: Abort + Wait>(
-    rt: &R,
-    alloc: Global,
-    vm: &mut Vm,
-    depot: &Depot,
-) -> Result<(), AllocError>
+// Runs a machine to its CLONE, both children to their ends, the machine to its JOIN, and then to its own end.
+fn joins_both<R: Abort + Wait>(rt: &R, alloc: Global, vm: &mut Vm, depot: &Depot)
     requires { IsOfDepot depot.now vm.old.key }
 {
-    let first = run(vm, 1000)?.why;
-    let endings = ends_of_both(rt, alloc, vm, depot)?;
-    let want = ENDINGS.map(Some);
+    let clones = run(rt, vm, 1000).why;
+    let endings = ends_of_both(rt, alloc, vm, depot);
+    let joins = run(rt, vm, 1000).why;
+    join(rt, vm, &ENDINGS);
+    let ends = run(rt, vm, 1000).why;
+    let stops = [
+        Stepped::Call(Call::Clone(1)),
+        Stepped::Call(Call::Join(1)),
+        Stepped::Ended(Ending::Exit(41)),
+    ];
     are_equal(
         rt,
-        &(first, endings),
-        &(Stepped::Call(Call::Clone(1)), want),
+        &(endings, [clones, joins, ends], vm.steps()),
+        &(ENDINGS.map(Some), stops, 21),
     );
-    ends_with_the_first(rt, vm)
 }
 
 /// How both children end.
@@ -287,27 +232,14 @@ fn ends_of_both<R: Abort + Wait>(
     alloc: Global,
     vm: &mut Vm,
     depot: &Depot,
-) -> Result<[Option<Ending>; 2], AllocError>
+) -> [Option<Ending>; 2]
     requires { IsOfDepot depot.now vm.old.key }
 {
-    let brood = fork(rt, alloc, vm, 2, depot)?;
-    ends_of(rt, alloc, &brood, depot)
-}
-
-// Makes the JOIN at which a machine stands, and tells at what it stood, and at what it stands then.
-fn stops_around_join(rt: &impl Abort, vm: &mut Vm) -> Result<[Stepped; 2], AllocError> {
-    let joins = run(vm, 1000)?.why;
-    join(rt, vm, &ENDINGS)?;
-    let ended = run(vm, 1000)?.why;
-    Ok([joins, ended])
-}
-
-fn ends_with_the_first(rt: &impl Abort, vm: &mut Vm) -> Result<(), AllocError> {
-    let stops = stops_around_join(rt, vm)?;
-    let ended = Stepped::Ended(Ending::Exit(41));
-    let want = [Stepped::Call(Call::Join(1)), ended];
-    are_equal(rt, &(stops, vm.steps()), &(want, 21));
-    Ok(())
+    let brood = made(rt, fork(rt, alloc, vm, 2, depot));
+    [
+        end_of(rt, alloc, &brood, 1, depot),
+        end_of(rt, alloc, &brood, 2, depot),
+    ]
 }
 
 /// Bytes of the descriptor of the first child, by their places.
@@ -343,25 +275,8 @@ fn reason(alloc: Global, bytes: &[u8]) -> Option<DescError> {
     Descriptor::decode(alloc, bytes).err()
 }
 
-/// The bytes of the descriptor of the first child of a machine that comes to its CLONE.
-fn seed_of<R: Wait>(
-    rt: &R,
-    alloc: Global,
-    vm: &mut Vm,
-    depot: &Depot,
-) -> Result<Vec<u8>, AllocError>
-    requires { IsOfDepot depot.now vm.old.key }
-{
-    let brood = run_and_fork(rt, alloc, vm, 2, depot)?;
-    bytes_of(alloc, &brood)
-}
-
-fn bytes_of(alloc: Global, brood: &Brood) -> Result<Vec<u8>, AllocError> {
-    Vec::from_slice(alloc, brood.seed.bytes())
-}
-
 #[test]
-fn a_descriptor_goes_through_its_bytes(rt: HostRuntime) -> Result<(), AllocError> {
+fn a_descriptor_goes_through_its_bytes(rt: HostRuntime) {
     machine_does(
         &rt,
         rt.alloc(),
@@ -369,28 +284,22 @@ fn a_descriptor_goes_through_its_bytes(rt: HostRuntime) -> Result<(), AllocError
         &TWO_CHILDREN,
         16,
         &Course::Describes,
-    )
+    );
 }
 
-fn describes_a_child<R: Abort + Wait>(
-    rt: &R,
-    alloc: Global,
-    vm: &mut Vm,
-    depot: &Depot,
-) -> Result<(), AllocError>
+fn describes_a_child<R: Abort + Wait>(rt: &R, alloc: Global, vm: &mut Vm, depot: &Depot)
     requires { IsOfDepot depot.now vm.old.key }
 {
-    let bytes = seed_of(rt, alloc, vm, depot)?;
-    is_read_or_refused(rt, alloc, &bytes)
+    let brood = run_and_fork(rt, alloc, vm, 2, depot);
+    is_read_or_refused(rt, alloc, brood.seed.bytes());
 }
 
-fn is_read_or_refused(rt: &impl Abort, alloc: Global, bytes: &[u8]) -> Result<(), AllocError> {
+fn is_read_or_refused(rt: &impl Abort, alloc: Global, bytes: &[u8]) {
     are_equal(rt, &(bytes.len(), misplaced(bytes)), &(778, None));
-    is_spelled(rt, alloc, bytes)?;
+    is_spelled(rt, alloc, bytes);
     for (length, at, byte, number) in REFUSED.iter() {
-        is_refused(rt, alloc, bytes, (*length, *at, *byte), *number)?;
+        is_refused(rt, alloc, bytes, (*length, *at, *byte), *number);
     }
-    Ok(())
 }
 
 // The first place at which bytes do not stand as the table tells, if there is one.
@@ -403,28 +312,23 @@ fn misplaced(bytes: &[u8]) -> Option<usize> {
     None
 }
 
-// The bytes of what bytes are read as. They are refused where memory is wanting alone.
-fn spelled(alloc: Global, bytes: &[u8]) -> Result<Vec<u8>, AllocError> {
-    let descriptor = Descriptor::decode(alloc, bytes).ok().ok_or(AllocError)?;
-    descriptor.encode(alloc)
-}
-
-fn is_spelled(rt: &impl Abort, alloc: Global, bytes: &[u8]) -> Result<(), AllocError> {
-    let again = spelled(alloc, bytes)?;
+// Bytes are read, and what they are read as has the same bytes.
+fn is_spelled(rt: &impl Abort, alloc: Global, bytes: &[u8]) {
+    let descriptor = made(rt, Descriptor::decode(alloc, bytes));
+    let again = made(rt, descriptor.encode(alloc));
     are_equal(rt, &again.as_slice(), &bytes);
-    Ok(())
 }
 
 // The bytes and an 0xff behind them, cut to a length, with another byte at a place.
-fn changed(alloc: Global, bytes: &[u8], change: (usize, usize, u8)) -> Result<Vec<u8>, AllocError> {
+fn changed(rt: &impl Abort, alloc: Global, bytes: &[u8], change: (usize, usize, u8)) -> Vec<u8> {
     let (length, at, byte) = change;
-    let mut changed = Vec::from_slice(alloc, bytes)?;
-    changed.push(0xff)?;
+    let mut changed = made(rt, Vec::from_slice(alloc, bytes));
+    made(rt, changed.push(0xff));
     changed.truncate(length);
     if let Some(old) = changed.get_mut(at) {
         *old = byte;
     }
-    Ok(changed)
+    changed
 }
 
 fn is_refused(
@@ -433,9 +337,8 @@ fn is_refused(
     bytes: &[u8],
     change: (usize, usize, u8),
     number: u32,
-) -> Result<(), AllocError> {
-    let changed = changed(alloc, bytes, change)?;
+) {
+    let changed = changed(rt, alloc, bytes, change);
     let want = Some(DescError::Refused(number));
     are_equal(rt, &(change, reason(alloc, &changed)), &(change, want));
-    Ok(())
 }

@@ -1,18 +1,18 @@
 //! What no clause says of names: that they are made where there is memory, and how some compare.
 
-use crate::equal::are_equal;
+use crate::equal::{are_equal, made};
 use run_report::{Branch, Name};
-use std::alloc::{AllocError, Global};
+use std::alloc::Global;
 use std::cmp::Ordering;
 use std::process::Abort;
 
 /// The name with these forks, each a ticket and a child's number.
-fn named(alloc: Global, forks: &[(u32, u32)]) -> Result<Name, AllocError> {
-    let mut name = Name::root(alloc)?;
+fn named(rt: &impl Abort, alloc: Global, forks: &[(u32, u32)]) -> Name {
+    let mut name = made(rt, Name::root(alloc));
     for (ticket, child) in forks {
-        name = name.child(alloc, *ticket, *child)?;
+        name = made(rt, name.child(alloc, *ticket, *child));
     }
-    Ok(name)
+    name
 }
 
 /// The forks of two names, of which the first comes first, and their texts.
@@ -46,36 +46,16 @@ fn are_in_order(rt: &impl Abort, first: &Name, second: &Name) {
     are_equal(rt, &(orders, same), &want);
 }
 
-pub(crate) fn has_text(
-    rt: &impl Abort,
-    alloc: Global,
-    name: &Name,
-    text: &str,
-) -> Result<(), AllocError> {
-    let found = name.text(alloc)?;
+pub(crate) fn has_text(rt: &impl Abort, alloc: Global, name: &Name, text: &str) {
+    let found = made(rt, name.text(alloc));
     are_equal(rt, &found.as_str(), &text);
-    Ok(())
-}
-
-fn are_named(
-    rt: &impl Abort,
-    alloc: Global,
-    first: &Name,
-    first_text: &str,
-    second: &Name,
-    second_text: &str,
-) -> Result<(), AllocError> {
-    are_in_order(rt, first, second);
-    has_text(rt, alloc, first, first_text)?;
-    has_text(rt, alloc, second, second_text)
 }
 
 #[test]
-fn names_are_in_order(rt: HostRuntime) -> Result<(), AllocError> {
+fn names_are_in_order(rt: HostRuntime) {
     for (first, first_text, second, second_text) in IN_ORDER.iter() {
-        come_in_order(&rt, rt.alloc(), first, first_text, second, second_text)?;
+        come_in_order(&rt, rt.alloc(), first, first_text, second, second_text);
     }
-    Ok(())
 }
 
 fn come_in_order(
@@ -85,84 +65,66 @@ fn come_in_order(
     first_text: &str,
     second: &[(u32, u32)],
     second_text: &str,
-) -> Result<(), AllocError> {
-    let first = named(alloc, first)?;
-    let second = named(alloc, second)?;
-    are_named(rt, alloc, &first, first_text, &second, second_text)
+) {
+    let first = named(rt, alloc, first);
+    let second = named(rt, alloc, second);
+    are_in_order(rt, &first, &second);
+    has_text(rt, alloc, &first, first_text);
+    has_text(rt, alloc, &second, second_text);
 }
 
 /// How many forks the longest name has that a family can have.
 const DEEPEST: usize = 4096;
 
 /// The name of so many forks, each the first child of ticket 1 but the one at a place, of ticket 2.
-fn deep(alloc: Global, place: usize) -> Result<Name, AllocError> {
-    let mut branches = Vec::with_capacity(alloc, DEEPEST)?;
+fn deep(rt: &impl Abort, alloc: Global, place: usize) -> Name {
+    let mut branches = made(rt, Vec::with_capacity(alloc, DEEPEST));
     for at in 0..DEEPEST {
         let ticket = if at == place { 2 } else { 1 };
-        branches.push(Branch::new(ticket, 1))?;
+        made(rt, branches.push(Branch::new(ticket, 1)));
     }
-    Name::from_branches(alloc, branches)
+    made(rt, Name::from_branches(alloc, branches))
 }
 
 /// The same with no such place, made child by child.
-fn chain(alloc: Global) -> Result<Name, AllocError> {
-    let mut name = Name::root(alloc)?;
+fn chain(rt: &impl Abort, alloc: Global) -> Name {
+    let mut name = made(rt, Name::root(alloc));
     for _ in 0..DEEPEST {
-        name = name.child(alloc, 1, 1)?;
+        name = made(rt, name.child(alloc, 1, 1));
     }
-    Ok(name)
+    name
 }
 
 /// The first, a middle and the last place, and those beside the ends of the runs in which names are kept.
 static PLACES: [usize; 9] = [0, 1, 63, 64, 65, 2048, 4031, 4032, 4095];
 
 #[test]
-fn deep_names_differ_in_one_fork(rt: HostRuntime) -> Result<(), AllocError> {
-    let alloc = rt.alloc();
-    let name = chain(alloc)?;
-    differs_at_each_place(&rt, alloc, &name)
+fn deep_names_differ_in_one_fork(rt: HostRuntime) {
+    let name = chain(&rt, rt.alloc());
+    differs_at_each_place(&rt, rt.alloc(), &name);
 }
 
 /// The name differs from those with another fork at a place, and from the one with no such place it does not.
-fn differs_at_each_place(rt: &impl Abort, alloc: Global, name: &Name) -> Result<(), AllocError> {
+fn differs_at_each_place(rt: &impl Abort, alloc: Global, name: &Name) {
     for place in PLACES.iter() {
-        differs_at(rt, alloc, name, *place)?;
+        differs_at(rt, alloc, name, *place);
     }
-    let is_same = is_deep(alloc, name)?;
-    are_equal(rt, &is_same, &true);
-    Ok(())
+    let same = deep(rt, alloc, DEEPEST);
+    are_equal(rt, &(&same == name), &true);
 }
 
-fn differs_at(rt: &impl Abort, alloc: Global, name: &Name, place: usize) -> Result<(), AllocError> {
-    let other = deep(alloc, place)?;
+fn differs_at(rt: &impl Abort, alloc: Global, name: &Name, place: usize) {
+    let other = deep(rt, alloc, place);
     are_in_order(rt, name, &other);
-    Ok(())
-}
-
-/// Whether a name is the one of so many forks that are alike.
-fn is_deep(alloc: Global, name: &Name) -> Result<bool, AllocError> {
-    let same = deep(alloc, DEEPEST)?;
-    Ok(&same == name)
 }
 
 /// A parent's name, and its child's made anew.
-fn goes_back_and_on(rt: &impl Abort, alloc: Global, name: &Name) -> Result<(), AllocError> {
-    let mut parent = name.copy()?;
+fn goes_back_and_on(rt: &impl Abort, alloc: Global, name: &Name) {
+    let mut parent = made(rt, name.copy());
     let last = parent.pop();
-    goes_on(rt, alloc, &parent, name, last)
-}
-
-fn goes_on(
-    rt: &impl Abort,
-    alloc: Global,
-    parent: &Name,
-    name: &Name,
-    last: Option<(u32, u32)>,
-) -> Result<(), AllocError> {
-    is_parent(rt, parent, name, last);
-    let is_child = has_child(alloc, parent, name)?;
-    are_equal(rt, &is_child, &true);
-    Ok(())
+    is_parent(rt, &parent, name, last);
+    let child = made(rt, parent.child(alloc, 1, 1));
+    are_equal(rt, &(&child == name), &true);
 }
 
 fn is_parent(rt: &impl Abort, parent: &Name, name: &Name, last: Option<(u32, u32)>) {
@@ -179,15 +141,8 @@ fn is_parent(rt: &impl Abort, parent: &Name, name: &Name, last: Option<(u32, u32
     are_equal(rt, &(last, depths, told), &(Some((1, 1)), want, below));
 }
 
-/// Whether a name is that of a parent's child.
-fn has_child(alloc: Global, parent: &Name, name: &Name) -> Result<bool, AllocError> {
-    let child = parent.child(alloc, 1, 1)?;
-    Ok(&child == name)
-}
-
 #[test]
-fn deep_names_go_back_and_on(rt: HostRuntime) -> Result<(), AllocError> {
-    let alloc = rt.alloc();
-    let name = chain(alloc)?;
-    goes_back_and_on(&rt, alloc, &name)
+fn deep_names_go_back_and_on(rt: HostRuntime) {
+    let name = chain(&rt, rt.alloc());
+    goes_back_and_on(&rt, rt.alloc(), &name);
 }

@@ -1,10 +1,10 @@
 //! What no clause says of the outside: real files and streams, and that memory does not want where there is some.
 
-use crate::equal::are_equal;
+use crate::equal::{are_equal, made};
 use io_edge::{
     FileShelf, MemShelf, MemSink, Shelf, ShelfError, Sink, StdSink, WriteFault, put_all,
 };
-use std::alloc::{AllocError, Global};
+use std::alloc::Global;
 use std::fs;
 use std::process::Abort;
 use std::rt::Files;
@@ -56,30 +56,24 @@ fn is_missing<S: Shelf>(rt: &impl Abort, alloc: Global, shelf: &mut S) {
 }
 
 #[test]
-fn reads_and_writes_memory(rt: HostRuntime) -> Result<(), AllocError> {
-    let bytes = loaded(rt.alloc())?;
-    fills_a_sink(&rt, rt.alloc(), &bytes)
+fn reads_and_writes_memory(rt: HostRuntime) {
+    let mut shelf = shelf_of(&rt, rt.alloc());
+    let bytes = made(&rt, shelf.load(rt.alloc(), "name", 5));
+    fills_a_sink(&rt, rt.alloc(), &bytes);
 }
 
 /// A shelf with one file.
-fn shelf_of(alloc: Global) -> Result<MemShelf, AllocError> {
-    let name = String::from_str(alloc, "name")?;
-    let file = (name, Vec::from_slice(alloc, b"12345")?);
-    let files = vec![in alloc; file]?;
-    Ok(MemShelf::new(files, Vec::new(alloc)))
-}
-
-/// The bytes of its file. They are refused where memory is wanting alone.
-fn loaded(alloc: Global) -> Result<Vec<u8>, AllocError> {
-    let mut shelf = shelf_of(alloc)?;
-    shelf.load(alloc, "name", 5).ok().ok_or(AllocError)
+fn shelf_of(rt: &impl Abort, alloc: Global) -> MemShelf {
+    let name = made(rt, String::from_str(alloc, "name"));
+    let file = (name, made(rt, Vec::from_slice(alloc, b"12345")));
+    let files = made(rt, vec![in alloc; file]);
+    MemShelf::new(files, Vec::new(alloc))
 }
 
 /// A sink takes bytes while it has room.
-fn fills_a_sink(rt: &impl Abort, alloc: Global, bytes: &[u8]) -> Result<(), AllocError> {
-    let mut sink = MemSink::new(alloc, 2, 8, Vec::new(alloc))?;
+fn fills_a_sink(rt: &impl Abort, alloc: Global, bytes: &[u8]) {
+    let mut sink = made(rt, MemSink::new(alloc, 2, 8, Vec::new(alloc)));
     let puts = [put_all(&mut sink, bytes), put_all(&mut sink, bytes)];
     let want = [Ok(()), Err(WriteFault)];
     are_equal(rt, &(puts, sink.bytes()), &(want, b"12345123".as_slice()));
-    Ok(())
 }

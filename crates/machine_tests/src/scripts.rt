@@ -1,6 +1,6 @@
 //! Scripts: texts in form, and others, each with the line and the kind by which it is refused.
 
-use crate::equal::are_equal;
+use crate::equal::{are_equal, made};
 use drive_script::{Line, MAX_SCRIPT, Script, ScriptError, read_script};
 use std::alloc::{AllocError, Global};
 use std::process::Abort;
@@ -11,18 +11,19 @@ fn read(rt: &impl Abort, alloc: Global, text: &[u8]) -> Result<Script, ScriptErr
     read_script(alloc, text)
 }
 
-/// A script in form. It is refused where memory is wanting alone.
-pub(crate) fn in_form(rt: &impl Abort, alloc: Global, text: &[u8]) -> Result<Script, AllocError> {
-    read(rt, alloc, text).ok().ok_or(AllocError)
+/// A script in form.
+pub(crate) fn in_form(rt: &impl Abort, alloc: Global, text: &[u8]) -> Script {
+    made(rt, read(rt, alloc, text))
 }
 
 /// The lines of a script, one after another.
-fn said(alloc: Global, script: &Script) -> Result<String, AllocError> {
+fn said(rt: &impl Abort, alloc: Global, script: &Script) -> String {
     let mut text = String::new(alloc);
     for line in script.lines() {
-        text.push_str(&said_of(alloc, line)?)?;
+        let said = made(rt, said_of(alloc, line));
+        made(rt, text.push_str(&said));
     }
-    Ok(text)
+    text
 }
 
 fn said_of(alloc: Global, line: &Line) -> Result<String, AllocError> {
@@ -56,35 +57,16 @@ static IN_FORM: [(&[u8], &str); 9] = [
 ];
 
 #[test]
-fn scripts_in_form(rt: HostRuntime) -> Result<(), AllocError> {
+fn scripts_in_form(rt: HostRuntime) {
     for (text, lines) in IN_FORM.iter() {
-        says(&rt, rt.alloc(), text, lines)?;
+        says(&rt, rt.alloc(), text, lines);
     }
-    Ok(())
 }
 
-fn says(rt: &impl Abort, alloc: Global, text: &[u8], lines: &str) -> Result<(), AllocError> {
-    let script = in_form(rt, alloc, text)?;
-    lines_say(rt, alloc, &script, lines)
-}
-
-fn lines_say(
-    rt: &impl Abort,
-    alloc: Global,
-    script: &Script,
-    lines: &str,
-) -> Result<(), AllocError> {
-    let said = said(alloc, script)?;
+fn says(rt: &impl Abort, alloc: Global, text: &[u8], lines: &str) {
+    let script = in_form(rt, alloc, text);
+    let said = said(rt, alloc, &script);
     are_equal(rt, &said.as_str(), &lines);
-    Ok(())
-}
-
-/// Whether a text is refused so.
-fn is_refused(rt: &impl Abort, alloc: Global, text: &[u8], line: u32, kind: u32) -> bool {
-    match read(rt, alloc, text) {
-        Err(error) => error == ScriptError::Refused { line, kind },
-        Ok(_) => false,
-    }
 }
 
 /// Texts that are no scripts, the first line that is not in form, and the kind of what is found there: 1 an unknown
@@ -160,22 +142,22 @@ fn texts_that_are_no_scripts(rt: HostRuntime) {
     }
 }
 
+/// A text is refused so.
 fn is_no_script(rt: &impl Abort, alloc: Global, text: &[u8], line: u32, kind: u32) {
-    let refused = is_refused(rt, alloc, text, line, kind);
-    are_equal(rt, &(text, refused), &(text, true));
+    let refused = read(rt, alloc, text).err();
+    let want = Some(ScriptError::Refused { line, kind });
+    are_equal(rt, &(text, refused), &(text, want));
 }
 
 #[test]
-fn the_longest_script(rt: HostRuntime) -> Result<(), AllocError> {
-    let text = longest(rt.alloc())?;
-    let refused = is_refused(&rt, rt.alloc(), &text, 1_048_571, 1);
-    are_equal(&rt, &refused, &true);
-    Ok(())
+fn the_longest_script(rt: HostRuntime) {
+    let text = longest(&rt, rt.alloc());
+    is_no_script(&rt, rt.alloc(), &text, 1_048_571, 1);
 }
 
 /// A script of the greatest length, whose last line alone is not in form.
-fn longest(alloc: Global) -> Result<Vec<u8>, AllocError> {
-    let mut text = vec![in alloc; b'\n'; 1_048_570]?;
-    text.extend_from_slice(b"jump 0")?;
-    Ok(text)
+fn longest(rt: &impl Abort, alloc: Global) -> Vec<u8> {
+    let mut text = made(rt, vec![in alloc; b'\n'; 1_048_570]);
+    made(rt, text.extend_from_slice(b"jump 0"));
+    text
 }

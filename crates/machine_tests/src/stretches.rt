@@ -1,13 +1,11 @@
 //! Stretches of plain steps, which are made together: what the counters, the timer and limits come to in them, and
 //! code that is stored over. The numbers are counted by hand from the guests' words.
 
-ghost use Rattle.std.specs.Prelude.{◌≤◌, length};
-
-use crate::equal::are_equal;
+use crate::equal::{are_equal_at, made};
 use crate::guests::{loaded_at, no_disk, run};
-use elf_load::{Loaded, RAM_BASE};
+use elf_load::RAM_BASE;
 use forest_model::Options;
-use std::alloc::{AllocError, Global};
+use std::alloc::Global;
 use std::process::Abort;
 use vm_cell::Vm;
 
@@ -274,58 +272,28 @@ static ROWS: [(&str, Guest, [u32; 3], u64); 18] = [
 ];
 
 #[test]
-fn stretches_end_in_time(rt: HostRuntime) -> Result<(), AllocError> {
-    all_come(&rt, rt.alloc())
-}
-
-fn all_come(rt: &impl Abort, alloc: Global) -> Result<(), AllocError> {
+fn stretches_end_in_time(rt: HostRuntime) {
     for (name, guest, registers, steps) in ROWS.iter() {
-        comes(rt, alloc, name, guest, (*registers, *steps))?;
+        comes(&rt, rt.alloc(), name, guest, (*registers, *steps));
     }
-    Ok(())
 }
 
-fn comes(
-    rt: &impl Abort,
-    alloc: Global,
-    name: &str,
-    guest: &Guest,
-    want: Came,
-) -> Result<(), AllocError> {
-    let came = after(alloc, guest)?;
-    are_equal(rt, &(name, came), &(name, want));
-    Ok(())
+fn comes(rt: &impl Abort, alloc: Global, name: &str, guest: &Guest, want: Came) {
+    let came = after(rt, alloc, guest);
+    are_equal_at(rt, name, &came, &want);
 }
 
-// x5 to x7 and the count of steps after a guest has run.
-fn after(alloc: Global, guest: &Guest) -> Result<Came, AllocError> {
+// x5 to x7 and the count of steps after a guest of 16 pages has run.
+fn after(rt: &impl Abort, alloc: Global, guest: &Guest) -> Came {
     let (words, limit, most) = guest;
-    let mut vm = booted(alloc, words, (*limit).clamp(1, 1_000_000))?;
-    run_to(&mut vm, *most)
-}
-
-// The same after so many steps of a machine.
-fn run_to(vm: &mut Vm, most: u64) -> Result<Came, AllocError> {
-    run(vm, most)?;
+    let image = loaded_at(rt, alloc, RAM_BASE, words, 16);
+    let options = Options {
+        limit: (*limit).clamp(1, 1_000_000),
+        allot: 0,
+    };
+    let booted = Vm::boot(alloc, &image, no_disk(rt, alloc), b"", options);
+    let mut vm = made(rt, booted);
+    run(rt, &mut vm, *most);
     let registers = vm.regs();
-    Ok(([registers[5], registers[6], registers[7]], vm.steps()))
-}
-
-// A machine of these words with 16 pages and a limit.
-fn booted(alloc: Global, words: &[u32], limit: u64) -> Result<Vm, AllocError>
-    requires words { length words.now ≤ 64 }
-    requires least { 1 ≤ limit }
-    requires most { limit ≤ 1_000_000 }
-{
-    let image = loaded_at(alloc, RAM_BASE, words, 16)?;
-    booted_with(alloc, &image, limit)
-}
-
-// The machine of an image with a limit.
-fn booted_with(alloc: Global, image: &Loaded, limit: u64) -> Result<Vm, AllocError>
-    requires least { 1 ≤ limit }
-    requires most { limit ≤ 1_000_000 }
-{
-    let options = Options { limit, allot: 0 };
-    Vm::boot(alloc, image, no_disk(alloc)?, b"", options)
+    ([registers[5], registers[6], registers[7]], vm.steps())
 }

@@ -5,11 +5,11 @@ ghost use Rattle.forest_tree.specs.Tree.{Tree};
 ghost use Rattle.forest_model.specs.Paged.{Paged};
 ghost use Rattle.drive_script.specs.Driven.{HasMachines};
 
-use crate::equal::are_equal;
+use crate::equal::{are_equal, made};
 use crate::guests::{TWO_CHILDREN, booted_at};
 use crate::scripts::in_form;
 use crate::told::tells;
-use drive_script::{Script, drive};
+use drive_script::drive;
 use elf_load::RAM_BASE;
 use image_depot::Depot;
 use std::alloc::{AllocError, Global};
@@ -18,10 +18,10 @@ use std::sync::Wait;
 use world_core::{Placed, Taken, World};
 
 // The world of the machine of two children.
-fn started(alloc: Global, depot: &Depot) -> Result<World, AllocError>
+fn started(rt: &impl Abort, alloc: Global, depot: &Depot) -> Result<World, AllocError>
     ensures { IfOk result (λ world. (t : Tree Paged) × HasMachines depot.now world t) }
 {
-    let vm = booted_at(alloc, RAM_BASE, &TWO_CHILDREN, 16)?;
+    let vm = booted_at(rt, alloc, RAM_BASE, &TWO_CHILDREN, 16);
     let world = World::new(alloc, vm, depot)?;
     Ok(world)
 }
@@ -45,13 +45,7 @@ pub(crate) enum Deed {
     Tell,
 }
 
-fn world_does<R: Abort + Wait>(
-    rt: &R,
-    alloc: Global,
-    world: &mut World,
-    depot: &Depot,
-    deed: Deed,
-) -> Result<(), AllocError>
+fn world_does<R: Abort + Wait>(rt: &R, alloc: Global, world: &mut World, depot: &Depot, deed: Deed)
     requires { (t : Tree Paged) × HasMachines depot.now world.old t }
 {
     match deed {
@@ -61,82 +55,36 @@ fn world_does<R: Abort + Wait>(
     }
 }
 
-fn started_does<R: Abort + Wait>(
-    rt: &R,
-    alloc: Global,
-    depot: &Depot,
-    deed: Deed,
-) -> Result<(), AllocError> {
-    let mut world = started(alloc, depot)?;
-    world_does(rt, alloc, &mut world, depot, deed)
-}
-
 // Does this with the world of the machine of two children.
-pub(crate) fn does<R: Abort + Wait>(rt: &R, alloc: Global, deed: Deed) -> Result<(), AllocError> {
-    let depot = Depot::new(alloc)?;
-    started_does(rt, alloc, &depot, deed)
+pub(crate) fn does<R: Abort + Wait>(rt: &R, alloc: Global, deed: Deed) {
+    let depot = made(rt, Depot::new(alloc));
+    let mut world = made(rt, started(rt, alloc, &depot));
+    world_does(rt, alloc, &mut world, &depot, deed);
 }
 
 #[test]
-fn a_script_drives_a_family(rt: HostRuntime) -> Result<(), AllocError> {
-    does(&rt, rt.alloc(), Deed::Drive)
+fn a_script_drives_a_family(rt: HostRuntime) {
+    does(&rt, rt.alloc(), Deed::Drive);
 }
 
-fn drives<R: Abort + Wait>(
-    rt: &R,
-    alloc: Global,
-    world: &mut World,
-    depot: &Depot,
-) -> Result<(), AllocError>
+fn drives<R: Abort + Wait>(rt: &R, alloc: Global, world: &mut World, depot: &Depot)
     requires { (t : Tree Paged) × HasMachines depot.now world.old t }
 {
-    let script = in_form(rt, alloc, SCRIPT)?;
-    is_driven(rt, alloc, &script, world, depot)
-}
-
-fn is_driven<R: Abort + Wait>(
-    rt: &R,
-    alloc: Global,
-    script: &Script,
-    world: &mut World,
-    depot: &Depot,
-) -> Result<(), AllocError>
-    requires { (t : Tree Paged) × HasMachines depot.now world.old t }
-{
-    let told = told_by(rt, alloc, script, world, depot)?;
+    let script = in_form(rt, alloc, SCRIPT);
+    let told = made(rt, drive(rt, alloc, &script, world, depot));
     are_equal(rt, &told.as_slice(), &TOLD);
-    Ok(())
-}
-
-// What a script writes that drives a world.
-fn told_by<R: Wait>(
-    rt: &R,
-    alloc: Global,
-    script: &Script,
-    world: &mut World,
-    depot: &Depot,
-) -> Result<Vec<u8>, AllocError>
-    requires { (t : Tree Paged) × HasMachines depot.now world.old t }
-{
-    drive(rt, alloc, script, world, depot)
 }
 
 #[test]
-fn a_machine_is_taken_and_given_back(rt: HostRuntime) -> Result<(), AllocError> {
-    does(&rt, rt.alloc(), Deed::GiveBack)
+fn a_machine_is_taken_and_given_back(rt: HostRuntime) {
+    does(&rt, rt.alloc(), Deed::GiveBack);
 }
 
-fn gives_back(
-    rt: &impl Abort,
-    alloc: Global,
-    world: &mut World,
-    depot: &Depot,
-) -> Result<(), AllocError>
+fn gives_back(rt: &impl Abort, alloc: Global, world: &mut World, depot: &Depot)
     requires { (t : Tree Paged) × HasMachines depot.now world.old t }
 {
-    let is_so = is_given_back(alloc, world, depot)?;
+    let is_so = made(rt, is_given_back(alloc, world, depot));
     are_equal(rt, &is_so, &true);
-    Ok(())
 }
 
 // Whether a machine is taken, and comes back.

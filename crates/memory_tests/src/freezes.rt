@@ -3,8 +3,10 @@
 ghost use Rattle.std.specs.Prelude.{◌≡◌, ◌+◌, ◌<◌, length, OnOk};
 ghost use Rattle.guest_mem.specs.Ram.{IsRamOf};
 
-use crate::equal::are_equal;
+use crate::equal::{are_equal, made};
 use crate::guests::{SIZES, booted, first_word, frozen_disk, input};
+use console_port::Input;
+use cow_disk::FrozenDisk;
 use elf_load::{MAX_PAGES, MIN_PAGES};
 use guest_mem::GuestMem;
 use image_depot::{Depot, Frozen};
@@ -19,6 +21,8 @@ fn freeze_in_steps<L: Ledger>(
     alloc: Global,
     memory: &GuestMem,
     depot: &Depot,
+    disk: FrozenDisk,
+    input: Input,
     steps: &mut Steps<L>,
 ) -> Result<Frozen, AllocError>
     requires { IsRamOf depot.now memory.now }
@@ -26,8 +30,7 @@ fn freeze_in_steps<L: Ledger>(
     ensures a_page_more { length memory.now.here ≡ 65 → OnOk result (steps.new ≡ steps.old + 2) }
     ensures many { length memory.now.here ≡ 1024 → OnOk result (steps.new ≡ steps.old + 16) }
 {
-    let disk = frozen_disk(alloc)?;
-    memory.freeze_counted(alloc, depot, disk, input(alloc)?, steps)
+    memory.freeze_counted(alloc, depot, disk, input, steps)
 }
 
 /// The same with a counter of its own.
@@ -35,6 +38,8 @@ fn freeze_of_ledger<L: Ledger>(
     alloc: Global,
     memory: &GuestMem,
     depot: &Depot,
+    disk: FrozenDisk,
+    input: Input,
     blank: Blank,
 ) -> Result<Frozen, AllocError>
     requires name { blank.name ≡ L.name }
@@ -42,7 +47,14 @@ fn freeze_of_ledger<L: Ledger>(
     requires some { 0 < blank.parts }
     requires ram { IsRamOf depot.now memory.now }
 {
-    freeze_in_steps(alloc, memory, depot, &mut Steps::<L>::new(blank))
+    freeze_in_steps(
+        alloc,
+        memory,
+        depot,
+        disk,
+        input,
+        &mut Steps::<L>::new(blank),
+    )
 }
 
 /// The pages of an image of this memory, and the first word of its second page.
@@ -50,35 +62,27 @@ fn parts_of_frozen(
     alloc: Global,
     memory: &GuestMem,
     depot: &Depot,
+    disk: FrozenDisk,
+    input: Input,
 ) -> Result<(u32, Option<u32>), AllocError>
     requires { IsRamOf depot.now memory.now }
 {
-    let image = freeze_of_ledger::<Brand>(alloc, memory, depot, Blank::new(1))?;
+    let image = freeze_of_ledger::<Brand>(alloc, memory, depot, disk, input, Blank::new(1))?;
     Ok((image.pages(), first_word(&image, 1)))
 }
 
-fn has_every_page(
-    rt: &impl Abort,
-    alloc: Global,
-    pages: u32,
-    depot: &Depot,
-) -> Result<(), AllocError> {
+fn has_every_page(rt: &impl Abort, alloc: Global, pages: u32, depot: &Depot) {
     assert!(rt; MIN_PAGES <= pages && pages <= MAX_PAGES);
-    let memory = booted(alloc, pages)?;
-    let parts = parts_of_frozen(alloc, &memory, depot)?;
-    are_equal(rt, &parts, &(pages, Some(0xaaaa_aaaa)));
-    Ok(())
-}
-
-fn all_have_every_page(rt: &impl Abort, alloc: Global, depot: &Depot) -> Result<(), AllocError> {
-    for pages in SIZES.iter() {
-        has_every_page(rt, alloc, *pages, depot)?;
-    }
-    Ok(())
+    let memory = booted(rt, alloc, pages);
+    let disk = frozen_disk(rt, alloc);
+    let parts = parts_of_frozen(alloc, &memory, depot, disk, input(rt, alloc));
+    are_equal(rt, &parts, &Ok((pages, Some(0xaaaa_aaaa))));
 }
 
 #[test]
-fn a_counted_freeze_has_every_page(rt: HostRuntime) -> Result<(), AllocError> {
-    let depot = Depot::new(rt.alloc())?;
-    all_have_every_page(&rt, rt.alloc(), &depot)
+fn a_counted_freeze_has_every_page(rt: HostRuntime) {
+    let depot = made(&rt, Depot::new(rt.alloc()));
+    for pages in SIZES.iter() {
+        has_every_page(&rt, rt.alloc(), *pages, &depot);
+    }
 }

@@ -1,21 +1,21 @@
 //! The RAM of guests: that calls succeed, that guests really share their pages until they write them, and that
 //! they move between threads.
 
-ghost use Rattle.std.specs.Prelude.{◌≡◌, ◌≤◌, None, IfOk, OnOk};
+ghost use Rattle.std.specs.Prelude.{◌≡◌, ◌≤◌, None};
 ghost use Rattle.image_depot.specs.Key.{IsKeyOf};
 ghost use Rattle.guest_mem.specs.Ram.{IsRamOf};
 
-use crate::equal::are_equal;
+use crate::equal::{are_equal, made};
 use crate::process::{are_few, resident_bytes};
 use block_port::{BlockFields, Status};
 use console_port::{ConsoleFields, Input};
 use cow_disk::{Disk, FrozenDisk};
-use elf_load::{Loaded, MAX_PAGES, MIN_PAGES, RAM_BASE, load_elf};
+use elf_load::{MAX_PAGES, MIN_PAGES, RAM_BASE, load_elf};
 use guest_mem::{Absent, Arrived, GuestMem, StoreError};
 use image_depot::{Depot, Frozen, ImageKey, Parcel};
 use rv_asm::elf_of;
 use rv_traps::Csrs;
-use std::alloc::{AllocError, Global};
+use std::alloc::Global;
 use std::process::Abort;
 use std::rt::Files;
 use std::sync::Wait;
@@ -31,22 +31,15 @@ const SECOND: u32 = 4096;
 /// The words of the second page.
 static WORDS: [u32; 1024] = [0xaaaa_aaaa; 1024];
 
-/// An image of so many pages, with the byte 0xaa all over the second. It is refused where memory is wanting alone.
-fn loaded(alloc: Global, pages: u32) -> Result<Loaded, AllocError>
+/// The RAM of an image of so many pages, with the byte 0xaa all over the second.
+pub fn booted(rt: &impl Abort, alloc: Global, pages: u32) -> GuestMem
     requires least { MIN_PAGES ≤ pages }
     requires most { pages ≤ MAX_PAGES }
+    ensures { result.key ≡ None }
 {
-    let image = elf_of(alloc, RAM_BASE + SECOND, &WORDS)?;
-    load_elf(alloc, &image, pages).ok().ok_or(AllocError)
-}
-
-/// The RAM of that image.
-pub fn booted(alloc: Global, pages: u32) -> Result<GuestMem, AllocError>
-    requires least { MIN_PAGES ≤ pages }
-    requires most { pages ≤ MAX_PAGES }
-    ensures { IfOk result (λ memory. memory.key ≡ None) }
-{
-    GuestMem::booted(alloc, &loaded(alloc, pages)?)
+    let file = made(rt, elf_of(alloc, RAM_BASE + SECOND, &WORDS));
+    let loaded = made(rt, load_elf(alloc, &file, pages));
+    made(rt, GuestMem::booted(alloc, &loaded))
 }
 
 /// What comes of a store of the low bytes of a word, where there is a place for it.
@@ -110,35 +103,25 @@ fn descriptor_of(pages: u32, blank: PageMap) -> Descriptor
     }
 }
 
-/// A disk without sectors. It is refused where memory is wanting alone.
-pub fn frozen_disk(alloc: Global) -> Result<FrozenDisk, AllocError> {
-    let disk = Disk::from_bytes(alloc, &[]).ok().ok_or(AllocError)?;
-    disk.freeze()
+/// A disk without sectors.
+pub fn frozen_disk(rt: &impl Abort, alloc: Global) -> FrozenDisk {
+    let disk = made(rt, Disk::from_bytes(alloc, &[]));
+    made(rt, disk.freeze())
 }
 
-pub fn input(alloc: Global) -> Result<Input, AllocError> {
-    Input::new(alloc, Vec::from_slice(alloc, b"in")?)
+pub fn input(rt: &impl Abort, alloc: Global) -> Input {
+    let bytes = made(rt, Vec::from_slice(alloc, b"in"));
+    made(rt, Input::new(alloc, bytes))
 }
 
 /// The key to an image of this memory.
-pub fn frozen<R: Wait>(
-    rt: &R,
-    alloc: Global,
-    memory: &GuestMem,
-    depot: &Depot,
-) -> Result<ImageKey, AllocError>
+pub fn frozen<R: Abort + Wait>(rt: &R, alloc: Global, memory: &GuestMem, depot: &Depot) -> ImageKey
     requires { IsRamOf depot.now memory.now }
-    ensures { IfOk result (λ key. IsKeyOf depot.now key) }
+    ensures { IsKeyOf depot.now result }
 {
-    depot.freeze(rt, image_of(alloc, memory, depot)?)
-}
-
-/// An image of this memory.
-fn image_of(alloc: Global, memory: &GuestMem, depot: &Depot) -> Result<Frozen, AllocError>
-    requires { IsRamOf depot.now memory.now }
-{
-    let disk = frozen_disk(alloc)?;
-    memory.freeze(alloc, depot, disk, input(alloc)?)
+    let disk = frozen_disk(rt, alloc);
+    let image = made(rt, memory.freeze(alloc, depot, disk, input(rt, alloc)));
+    made(rt, depot.freeze(rt, image))
 }
 
 /// A clone that starts with an image, with these blank pages, and nothing else here.
@@ -148,13 +131,14 @@ pub fn bare_clone(
     key: &ImageKey,
     blank: PageMap,
     depot: &Depot,
-) -> Result<GuestMem, AllocError>
+) -> GuestMem
     requires { IsKeyOf depot.now key.now }
-    ensures { IfOk result (λ memory. IsRamOf depot.now memory) }
+    ensures { IsRamOf depot.now result }
 {
     let descriptor = descriptor_of(depot.pages(key), blank);
     assert!(rt; descriptor.is_in_range());
-    GuestMem::clone_of(alloc, key.again()?, &descriptor)
+    let key = made(rt, key.again());
+    made(rt, GuestMem::clone_of(alloc, key, &descriptor))
 }
 
 /// A clone that starts with an image of this memory, and has its blank pages and nothing else here.
@@ -163,12 +147,13 @@ fn bare_clone_of<R: Abort + Wait>(
     alloc: Global,
     memory: &GuestMem,
     depot: &Depot,
-) -> Result<GuestMem, AllocError>
+) -> GuestMem
     requires { IsRamOf depot.now memory.now }
-    ensures { IfOk result (λ clone. IsRamOf depot.now clone) }
+    ensures { IsRamOf depot.now result }
 {
-    let key = frozen(rt, alloc, memory, depot)?;
-    bare_clone(rt, alloc, &key, memory.blank(alloc)?, depot)
+    let key = frozen(rt, alloc, memory, depot);
+    let blank = made(rt, memory.blank(alloc));
+    bare_clone(rt, alloc, &key, blank, depot)
 }
 
 /// Sends a page of an image to a guest, and says what came of it.
@@ -179,29 +164,23 @@ fn send(
     key: &ImageKey,
     page: u32,
     depot: &Depot,
-) -> Result<Arrived, AllocError>
+) -> Arrived
     requires key { IsKeyOf depot.now key.now }
     requires ram { IsRamOf depot.now memory.old }
-    ensures { OnOk result (IsRamOf depot.now memory.new) }
+    ensures { IsRamOf depot.now memory.new }
 {
     assert!(rt; page < depot.pages(key));
-    memory.arrive(alloc, depot, &depot.answer(key, page)?)
+    let parcel = made(rt, depot.answer(key, page));
+    made(rt, memory.arrive(alloc, depot, &parcel))
 }
 
 /// Sends the first two pages.
-fn send_two(
-    rt: &impl Abort,
-    alloc: Global,
-    memory: &mut GuestMem,
-    key: &ImageKey,
-    depot: &Depot,
-) -> Result<Arrived, AllocError>
+fn send_two(rt: &impl Abort, alloc: Global, memory: &mut GuestMem, key: &ImageKey, depot: &Depot)
     requires key { IsKeyOf depot.now key.now }
     requires ram { IsRamOf depot.now memory.old }
-    ensures { OnOk result (IsRamOf depot.now memory.new) }
 {
-    send(rt, alloc, memory, key, 0, depot)?;
-    send(rt, alloc, memory, key, 1, depot)
+    send(rt, alloc, memory, key, 0, depot);
+    send(rt, alloc, memory, key, 1, depot);
 }
 
 /// A clone that starts with an image, with these blank pages. The first two are sent, and it shares them with
@@ -212,20 +191,20 @@ fn clone_of(
     key: &ImageKey,
     blank: PageMap,
     depot: &Depot,
-) -> Result<GuestMem, AllocError>
+) -> GuestMem
     requires { IsKeyOf depot.now key.now }
 {
-    let mut memory = bare_clone(rt, alloc, key, blank, depot)?;
-    send_two(rt, alloc, &mut memory, key, depot)?;
-    Ok(memory)
+    let mut memory = bare_clone(rt, alloc, key, blank, depot);
+    send_two(rt, alloc, &mut memory, key, depot);
+    memory
 }
 
 /// Makes a page blank.
-fn make_blank(rt: &impl Abort, memory: &mut GuestMem, page: u32) -> Result<(), AllocError>
+fn make_blank(rt: &impl Abort, memory: &mut GuestMem, page: u32)
     ensures { memory.new.key ≡ memory.old.key }
 {
     assert!(rt; page < memory.pages());
-    memory.zero_pages(page, 1)
+    made(rt, memory.zero_pages(page, 1));
 }
 
 /// Stores 16 bytes around the border of two pages.
@@ -251,11 +230,10 @@ static AROUND_THE_BORDER: [(u32, u32, u32); 11] = [
 ];
 
 #[test]
-fn loads_what_was_stored_around_a_page_border(rt: HostRuntime) -> Result<(), AllocError> {
-    let mut memory = booted(rt.alloc(), 16)?;
+fn loads_what_was_stored_around_a_page_border(rt: HostRuntime) {
+    let mut memory = booted(&rt, rt.alloc(), 16);
     store_around_the_border(&rt, &mut memory);
     has_the_border(&rt, &memory);
-    Ok(())
 }
 
 fn has_the_border(rt: &impl Abort, memory: &GuestMem) {
@@ -288,32 +266,25 @@ fn stores_bytes(rt: &impl Abort, memory: &mut GuestMem, at: u32, width: u32, wor
     are_equal(rt, &(at, width, found), &(at, width, words.map(Some)));
 }
 
-fn stores_so_many_at(
-    rt: &impl Abort,
-    alloc: Global,
-    row: &(u32, u32, [u32; 2]),
-) -> Result<(), AllocError> {
-    let mut memory = booted(alloc, 16)?;
+fn stores_so_many_at(rt: &impl Abort, alloc: Global, row: &(u32, u32, [u32; 2])) {
+    let mut memory = booted(rt, alloc, 16);
     stores_bytes(rt, &mut memory, row.0, row.1, row.2);
-    Ok(())
 }
 
 #[test]
-fn stores_so_many_bytes(rt: HostRuntime) -> Result<(), AllocError> {
+fn stores_so_many_bytes(rt: HostRuntime) {
     for row in STORED_AT.iter() {
-        stores_so_many_at(&rt, rt.alloc(), row)?;
+        stores_so_many_at(&rt, rt.alloc(), row);
     }
-    Ok(())
 }
 
 /// Stores to the last byte, makes all pages blank but the first, and then stores to the third.
-fn zero_and_store(rt: &impl Abort, memory: &mut GuestMem) -> Result<(), AllocError> {
+fn zero_and_store(rt: &impl Abort, memory: &mut GuestMem) {
     let end = memory.size();
     are_equal(rt, &store(memory, end - 1, 1, 0x11), &STORED);
     assert!(rt; memory.pages() == 1024);
-    memory.zero_pages(1, 1023)?;
+    made(rt, memory.zero_pages(1, 1023));
     are_equal(rt, &store(memory, 2 * SECOND, 4, 0x22), &STORED);
-    Ok(())
 }
 
 /// The first word of the second page, the last word of the last, and the first of the third.
@@ -333,22 +304,18 @@ fn are_blank(rt: &impl Abort, flags: &[bool]) {
     }
 }
 
-fn are_zeroed(rt: &impl Abort, alloc: Global, memory: &GuestMem) -> Result<(), AllocError> {
-    are_equal(
-        rt,
-        &words_of_zeroed(memory),
-        &[Some(0), Some(0), Some(0x22)],
-    );
-    let map = memory.blank(alloc)?;
+fn are_zeroed(rt: &impl Abort, alloc: Global, memory: &GuestMem) {
+    let words = [Some(0), Some(0), Some(0x22)];
+    are_equal(rt, &words_of_zeroed(memory), &words);
+    let map = made(rt, memory.blank(alloc));
     are_blank(rt, map.flags());
-    Ok(())
 }
 
 #[test]
-fn zeroed_pages_are_blank_until_they_are_stored_to(rt: HostRuntime) -> Result<(), AllocError> {
-    let mut memory = booted(rt.alloc(), 1024)?;
-    zero_and_store(&rt, &mut memory)?;
-    are_zeroed(&rt, rt.alloc(), &memory)
+fn zeroed_pages_are_blank_until_they_are_stored_to(rt: HostRuntime) {
+    let mut memory = booted(&rt, rt.alloc(), 1024);
+    zero_and_store(&rt, &mut memory);
+    are_zeroed(&rt, rt.alloc(), &memory);
 }
 
 /// Stores to the first word of the first two pages.
@@ -382,25 +349,6 @@ fn has_words(rt: &impl Abort, memory: &GuestMem, words: [u32; 3]) {
     are_equal(rt, &three_words(memory), &words.map(Some));
 }
 
-/// A second clone of an image starts and stores before the first one does.
-fn stores_beside(
-    rt: &impl Abort,
-    alloc: Global,
-    first: &mut GuestMem,
-    key: &ImageKey,
-    blank: PageMap,
-    depot: &Depot,
-) -> Result<(), AllocError>
-    requires { IsKeyOf depot.now key.now }
-{
-    let mut second = clone_of(rt, alloc, key, blank, depot)?;
-    store_two(rt, &mut second, 3);
-    store_two(rt, first, 2);
-    has_words(rt, first, [2, 2, 0xaaaa_aaaa]);
-    has_words(rt, &second, [3, 3, 0xaaaa_aaaa]);
-    Ok(())
-}
-
 /// Two clones store to pages that they share, and read what they stored.
 fn clones_store_apart(
     rt: &impl Abort,
@@ -408,11 +356,17 @@ fn clones_store_apart(
     parent: &GuestMem,
     key: &ImageKey,
     depot: &Depot,
-) -> Result<(), AllocError>
+)
     requires { IsKeyOf depot.now key.now }
 {
-    let mut first = clone_of(rt, alloc, key, parent.blank(alloc)?, depot)?;
-    stores_beside(rt, alloc, &mut first, key, parent.blank(alloc)?, depot)
+    let blank = made(rt, parent.blank(alloc));
+    let mut first = clone_of(rt, alloc, key, blank, depot);
+    let blank = made(rt, parent.blank(alloc));
+    let mut second = clone_of(rt, alloc, key, blank, depot);
+    store_two(rt, &mut second, 3);
+    store_two(rt, &mut first, 2);
+    has_words(rt, &first, [2, 2, 0xaaaa_aaaa]);
+    has_words(rt, &second, [3, 3, 0xaaaa_aaaa]);
 }
 
 /// An image has the words of the guest that was frozen, and its input.
@@ -429,12 +383,11 @@ fn late_clone_is_as_frozen(
     key: &ImageKey,
     blank: PageMap,
     depot: &Depot,
-) -> Result<(), AllocError>
+)
     requires { IsKeyOf depot.now key.now }
 {
-    let late = clone_of(rt, alloc, key, blank, depot)?;
+    let late = clone_of(rt, alloc, key, blank, depot);
     has_words(rt, &late, [0, 0xaaaa_aaaa, 0xaaaa_aaaa]);
-    Ok(())
 }
 
 /// A guest is frozen, and stores to two pages then. So do two clones of the image, before a third starts.
@@ -444,34 +397,23 @@ fn stays_as_frozen<R: Abort + Wait>(
     parent: &mut GuestMem,
     blank: PageMap,
     depot: &Depot,
-) -> Result<(), AllocError>
+)
     requires { IsRamOf depot.now parent.old }
 {
-    let key = frozen(rt, alloc, parent, depot)?;
+    let key = frozen(rt, alloc, parent, depot);
     store_two(rt, parent, 1);
-    clones_store_apart(rt, alloc, parent, &key, depot)?;
+    clones_store_apart(rt, alloc, parent, &key, depot);
     has_words(rt, parent, [1, 1, 0xaaaa_aaaa]);
-    late_clone_is_as_frozen(rt, alloc, &key, blank, depot)?;
+    late_clone_is_as_frozen(rt, alloc, &key, blank, depot);
     has_parts(rt, depot.frozen(&key));
-    Ok(())
-}
-
-fn booted_stays_as_frozen<R: Abort + Wait>(
-    rt: &R,
-    alloc: Global,
-    depot: &Depot,
-) -> Result<(), AllocError> {
-    let mut parent = booted(alloc, 16)?;
-    let blank = parent.blank(alloc)?;
-    stays_as_frozen(rt, alloc, &mut parent, blank, depot)
 }
 
 #[test]
-fn a_store_after_a_freeze_shows_in_one_guest_and_in_no_image(
-    rt: HostRuntime,
-) -> Result<(), AllocError> {
-    let depot = Depot::new(rt.alloc())?;
-    booted_stays_as_frozen(&rt, rt.alloc(), &depot)
+fn a_store_after_a_freeze_shows_in_one_guest_and_in_no_image(rt: HostRuntime) {
+    let depot = made(&rt, Depot::new(rt.alloc()));
+    let mut parent = booted(&rt, rt.alloc(), 16);
+    let blank = made(&rt, parent.blank(rt.alloc()));
+    stays_as_frozen(&rt, rt.alloc(), &mut parent, blank, &depot);
 }
 
 /// A clone that starts with the image of a parcel, to which the parcel is sent, with a word of its own in the
@@ -483,13 +425,14 @@ fn written_clone(
     parcel: &Parcel,
     depot: &Depot,
     word: u32,
-) -> Result<GuestMem, AllocError>
+) -> GuestMem
     requires { IsKeyOf depot.now parcel.now.key }
 {
-    let mut clone = bare_clone(rt, alloc, parcel.key(), parent.blank(alloc)?, depot)?;
-    clone.arrive(alloc, depot, parcel)?;
+    let blank = made(rt, parent.blank(alloc));
+    let mut clone = bare_clone(rt, alloc, parcel.key(), blank, depot);
+    made(rt, clone.arrive(alloc, depot, parcel));
     are_equal(rt, &store(&mut clone, SECOND, 4, word), &STORED);
-    Ok(clone)
+    clone
 }
 
 /// A thousand clones, each with a page of its own.
@@ -499,14 +442,17 @@ fn written_clones(
     parent: &GuestMem,
     parcel: &Parcel,
     depot: &Depot,
-) -> Result<Vec<GuestMem>, AllocError>
+) -> Vec<GuestMem>
     requires { IsKeyOf depot.now parcel.now.key }
 {
     let mut clones = Vec::new(alloc);
     for n in 0..1000 {
-        clones.push(written_clone(rt, alloc, parent, parcel, depot, n)?)?;
+        made(
+            rt,
+            clones.push(written_clone(rt, alloc, parent, parcel, depot, n)),
+        );
     }
-    Ok(clones)
+    clones
 }
 
 /// Whether a clone has its own word, n, and the next one as it was.
@@ -537,25 +483,10 @@ fn take_few_bytes<R: Abort + Alloc + Files>(
     requires { IsKeyOf depot.now parcel.now.key }
 {
     let before = resident_bytes(rt)?;
-    let clones = written_clones(rt, alloc, parent, parcel, depot)?;
+    let clones = written_clones(rt, alloc, parent, parcel, depot);
     are_few(rt, resident_bytes(rt)?.saturating_sub(before));
     are_equal(rt, &as_stored(&clones), &1000);
     Ok(())
-}
-
-/// The parcel of the second page of an image of this memory.
-fn second_page<R: Abort + Wait>(
-    rt: &R,
-    alloc: Global,
-    memory: &GuestMem,
-    depot: &Depot,
-) -> Result<Parcel, AllocError>
-    requires { IsRamOf depot.now memory.now }
-    ensures { IfOk result (λ parcel. IsKeyOf depot.now parcel.key) }
-{
-    let key = frozen(rt, alloc, memory, depot)?;
-    assert!(rt; 1 < depot.pages(&key));
-    depot.answer(&key, 1)
 }
 
 fn share_an_image<R: Abort + Alloc + Files + Wait>(
@@ -566,102 +497,70 @@ fn share_an_image<R: Abort + Alloc + Files + Wait>(
 ) -> Result<(), Fail>
     requires { IsRamOf depot.now parent.now }
 {
-    let parcel = second_page(rt, alloc, parent, depot)?;
+    let key = frozen(rt, alloc, parent, depot);
+    assert!(rt; 1 < depot.pages(&key));
+    let parcel = made(rt, depot.answer(&key, 1));
     take_few_bytes(rt, alloc, parent, &parcel, depot)
-}
-
-fn share_an_image_of_booted<R: Abort + Alloc + Files + Wait>(
-    rt: &R,
-    alloc: Global,
-    depot: &Depot,
-) -> Result<(), Fail> {
-    let parent = booted(alloc, 16)?;
-    share_an_image(rt, alloc, &parent, depot)
 }
 
 #[test]
 fn a_thousand_clones_share_an_image(rt: HostRuntime) -> Result<(), Fail> {
-    let depot = Depot::new(rt.alloc())?;
-    share_an_image_of_booted(&rt, rt.alloc(), &depot)
+    let depot = made(&rt, Depot::new(rt.alloc()));
+    let parent = booted(&rt, rt.alloc(), 16);
+    share_an_image(&rt, rt.alloc(), &parent, &depot)
 }
 
 /// Three pages are sent to a guest: one that is absent, the same again, and one that was made blank meanwhile.
-fn gets_one(
-    rt: &impl Abort,
-    alloc: Global,
-    memory: &mut GuestMem,
-    key: &ImageKey,
-    depot: &Depot,
-) -> Result<(), AllocError>
+fn gets_one(rt: &impl Abort, alloc: Global, memory: &mut GuestMem, key: &ImageKey, depot: &Depot)
     requires key { IsKeyOf depot.now key.now }
     requires ram { IsRamOf depot.now memory.old }
 {
-    let first = send(rt, alloc, memory, key, 1, depot)?;
+    let first = send(rt, alloc, memory, key, 1, depot);
     are_equal(rt, &store(memory, SECOND, 4, 7), &STORED);
-    let again = send(rt, alloc, memory, key, 1, depot)?;
-    make_blank(rt, memory, 0)?;
-    let blanked = send(rt, alloc, memory, key, 0, depot)?;
-    let sent = [first, again, blanked];
+    let again = send(rt, alloc, memory, key, 1, depot);
+    make_blank(rt, memory, 0);
+    let sent = [first, again, send(rt, alloc, memory, key, 0, depot)];
     are_equal(
         rt,
         &sent,
         &[Arrived::Got(1), Arrived::Had(1), Arrived::Had(0)],
     );
     has_words(rt, memory, [0, 7, 0xaaaa_aaaa]);
-    Ok(())
 }
 
 /// The same of a clone that starts with an image of a guest.
-fn clone_gets_one<R: Abort + Wait>(
-    rt: &R,
-    alloc: Global,
-    parent: &GuestMem,
-    depot: &Depot,
-) -> Result<(), AllocError>
+fn clone_gets_one<R: Abort + Wait>(rt: &R, alloc: Global, parent: &GuestMem, depot: &Depot)
     requires { IsRamOf depot.now parent.now }
 {
-    let key = frozen(rt, alloc, parent, depot)?;
-    let mut memory = bare_clone(rt, alloc, &key, parent.blank(alloc)?, depot)?;
-    gets_one(rt, alloc, &mut memory, &key, depot)
+    let key = frozen(rt, alloc, parent, depot);
+    let blank = made(rt, parent.blank(alloc));
+    let mut memory = bare_clone(rt, alloc, &key, blank, depot);
+    gets_one(rt, alloc, &mut memory, &key, depot);
 }
 
-/// The guest has stored to two pages.
-fn clone_of_stored_gets_one<R: Abort + Wait>(
-    rt: &R,
-    alloc: Global,
-    depot: &Depot,
-) -> Result<(), AllocError> {
-    let mut parent = booted(alloc, 16)?;
-    store_two(rt, &mut parent, 1);
-    clone_gets_one(rt, alloc, &parent, depot)
-}
-
+// The guest has stored to two pages.
 #[test]
-fn a_page_that_is_here_does_not_come_again(rt: HostRuntime) -> Result<(), AllocError> {
-    let depot = Depot::new(rt.alloc())?;
-    clone_of_stored_gets_one(&rt, rt.alloc(), &depot)
+fn a_page_that_is_here_does_not_come_again(rt: HostRuntime) {
+    let depot = made(&rt, Depot::new(rt.alloc()));
+    let mut parent = booted(&rt, rt.alloc(), 16);
+    store_two(&rt, &mut parent, 1);
+    clone_gets_one(&rt, rt.alloc(), &parent, &depot);
 }
 
 /// A store to the second page, which is absent, is refused, and the page is not loaded until it is blank.
-fn is_refused_until_it_is_blank(rt: &impl Abort, memory: &mut GuestMem) -> Result<(), AllocError> {
+fn is_refused_until_it_is_blank(rt: &impl Abort, memory: &mut GuestMem) {
     let absent = StoreError::Absent(Absent { page: 1 });
     are_equal(rt, &store(memory, SECOND, 4, 1), &Some(Err(absent)));
     let before = load(memory, SECOND, 4);
-    make_blank(rt, memory, 1)?;
+    make_blank(rt, memory, 1);
     are_equal(rt, &[before, load(memory, SECOND, 4)], &[None, Some(0)]);
-    Ok(())
 }
 
-fn absent_page_is_refused<R: Abort + Wait>(
-    rt: &R,
-    alloc: Global,
-    parent: &GuestMem,
-    depot: &Depot,
-) -> Result<(), AllocError>
+fn absent_page_is_refused<R: Abort + Wait>(rt: &R, alloc: Global, parent: &GuestMem, depot: &Depot)
     requires { IsRamOf depot.now parent.now }
 {
-    let mut clone = bare_clone_of(rt, alloc, parent, depot)?;
-    is_refused_until_it_is_blank(rt, &mut clone)
+    let mut clone = bare_clone_of(rt, alloc, parent, depot);
+    is_refused_until_it_is_blank(rt, &mut clone);
 }
 
 /// The second page of a grandchild is peeked while it is absent, and then the first two are sent.
@@ -671,78 +570,52 @@ fn peeks_and_gets(
     memory: &mut GuestMem,
     key: &ImageKey,
     depot: &Depot,
-) -> Result<(), AllocError>
+)
     requires key { IsKeyOf depot.now key.now }
     requires ram { IsRamOf depot.now memory.old }
 {
     assert!(rt; SECOND < memory.size());
     are_equal(rt, &memory.peek(depot, SECOND), &0xaaaa_aaaa);
-    send_two(rt, alloc, memory, key, depot)?;
+    send_two(rt, alloc, memory, key, depot);
     has_words(rt, memory, [5, 0xaaaa_aaaa, 0xaaaa_aaaa]);
-    Ok(())
 }
 
 /// The same of a grandchild that starts with an image of this child.
-fn grandchild_reads<R: Abort + Wait>(
-    rt: &R,
-    alloc: Global,
-    child: &GuestMem,
-    depot: &Depot,
-) -> Result<(), AllocError>
+fn grandchild_reads<R: Abort + Wait>(rt: &R, alloc: Global, child: &GuestMem, depot: &Depot)
     requires { IsRamOf depot.now child.now }
 {
-    let key = frozen(rt, alloc, child, depot)?;
-    let mut memory = bare_clone(rt, alloc, &key, child.blank(alloc)?, depot)?;
-    peeks_and_gets(rt, alloc, &mut memory, &key, depot)
+    let key = frozen(rt, alloc, child, depot);
+    let blank = made(rt, child.blank(alloc));
+    let mut memory = bare_clone(rt, alloc, &key, blank, depot);
+    peeks_and_gets(rt, alloc, &mut memory, &key, depot);
 }
 
 /// A child stores to its first page alone, and its parent to two when the child was made.
-fn child_stores<R: Abort + Wait>(
-    rt: &R,
-    alloc: Global,
-    parent: &mut GuestMem,
-    depot: &Depot,
-) -> Result<(), AllocError>
+fn child_stores<R: Abort + Wait>(rt: &R, alloc: Global, parent: &mut GuestMem, depot: &Depot)
     requires { IsRamOf depot.now parent.old }
 {
-    let mut child = bare_clone_of(rt, alloc, parent, depot)?;
+    let mut child = bare_clone_of(rt, alloc, parent, depot);
     store_two(rt, parent, 9);
     are_equal(rt, &store(&mut child, 0, 4, 5), &STORED);
-    grandchild_reads(rt, alloc, &child, depot)
+    grandchild_reads(rt, alloc, &child, depot);
 }
 
 /// The pages of guests, around the ends of leaves, and the fewest and the most.
 pub static SIZES: [u32; 5] = [16, 64, 65, 128, 1024];
 
-fn comes_from_below<R: Abort + Wait>(
-    rt: &R,
-    alloc: Global,
-    pages: u32,
-    depot: &Depot,
-) -> Result<(), AllocError> {
+fn comes_from_below<R: Abort + Wait>(rt: &R, alloc: Global, pages: u32, depot: &Depot) {
     assert!(rt; MIN_PAGES <= pages && pages <= MAX_PAGES);
-    let mut parent = booted(alloc, pages)?;
-    absent_page_is_refused(rt, alloc, &parent, depot)?;
-    child_stores(rt, alloc, &mut parent, depot)
-}
-
-fn all_come_from_below<R: Abort + Wait>(
-    rt: &R,
-    alloc: Global,
-    depot: &Depot,
-) -> Result<(), AllocError> {
-    for pages in SIZES.iter() {
-        comes_from_below(rt, alloc, *pages, depot)?;
-    }
-    Ok(())
+    let mut parent = booted(rt, alloc, pages);
+    absent_page_is_refused(rt, alloc, &parent, depot);
+    child_stores(rt, alloc, &mut parent, depot);
 }
 
 #[test]
-fn an_absent_page_is_refused_until_it_is_blank_or_comes_from_below(
-    rt: HostRuntime,
-) -> Result<(), AllocError> {
-    let depot = Depot::new(rt.alloc())?;
-    all_come_from_below(&rt, rt.alloc(), &depot)
+fn an_absent_page_is_refused_until_it_is_blank_or_comes_from_below(rt: HostRuntime) {
+    let depot = made(&rt, Depot::new(rt.alloc()));
+    for pages in SIZES.iter() {
+        comes_from_below(&rt, rt.alloc(), *pages, &depot);
+    }
 }
 
 /// One thread has a guest and loads from it, and another looks at one.
@@ -752,8 +625,7 @@ fn are_loaded_and_sized<R: Abort + Threads>(rt: &R, memory: GuestMem, shared: &G
 }
 
 #[test]
-fn moves_between_threads(rt: HostRuntime) -> Result<(), AllocError> {
-    let shared = booted(rt.alloc(), 16)?;
-    are_loaded_and_sized(&rt, booted(rt.alloc(), 16)?, &shared);
-    Ok(())
+fn moves_between_threads(rt: HostRuntime) {
+    let shared = booted(&rt, rt.alloc(), 16);
+    are_loaded_and_sized(&rt, booted(&rt, rt.alloc(), 16), &shared);
 }

@@ -6,6 +6,21 @@ use Rattle.host_workers.proofs.Crosses.{half_send}
 use Rattle.host_workers.proofs.Shifts.{both-due, both-halves, one-worked}
 use Rattle.host_workers.proofs.hosts.+halves.Goals as goal
 
+pub work_halves-front-returns : goal.work_halves-front-returns
+work_halves-front-returns g t c = (c.work_all.ensures.worked, c.work_all.ensures.len)
+
+pub work_halves-back-returns : goal.work_halves-back-returns
+work_halves-back-returns g t c = (c.work_all.ensures.worked, c.work_all.ensures.len)
+
+pub work_all-work_in-requires-clause-due : goal.work_all-work_in-requires-clause-due
+work_all-work_in-requires-clause-due g t c = c.requires.due 0 c.index-shifts-0.result (omega (arith, c.requires.each, c.requires.some))
+
+pub work_all-overflow_cast-half : goal.work_all-overflow_cast-half
+work_all-overflow_cast-half g t c = omega (arith, c.requires.few)
+
+pub work_all-overflow_add-number : goal.work_all-overflow_add-number
+work_all-overflow_add-number g t c = omega (arith, c.requires.few)
+
 pub work_all-returns-then-wires-eq1-clause-worked : goal.work_all-returns-then-wires-eq1-clause-worked
 work_all-returns-then-wires-eq1-clause-worked g t c =
     one-worked g.W.Wire.streak c.args.wires.now c.work_in.new.wire c.args.shifts.now c.index-shifts-0.result c.work_in.new.shift

@@ -2,6 +2,14 @@ use Rattle.std.proofs.Common.{length, ◌∙◌}
 use Rattle.host_workers.proofs.Shifts.{as-dealt}
 use Rattle.host_workers.proofs.hosts.run_hosts.Goals as goal
 
+pub gather-requires-clause-worked : goal.gather-requires-clause-worked
+gather-requires-clause-worked g c =
+    let run =
+    as-dealt g.W.Wire.streak c.work_all.new.wires c.args.pass (length c.args.wires.now) c.as_mut_slice-shifts.result.now c.work_all.new.shifts
+    c.requires.wires.0 c.work_all.ensures.len (λ k count. c.as_mut_slice-shifts.ensures.value ∙ c.deal-dealt.ensures.shifts k count)
+    c.work_all.ensures.worked in
+    (c.args.pass, run.0, c.requires.board, run.1, run.2)
+
 pub returns : goal.returns
 returns g c =
     let run =

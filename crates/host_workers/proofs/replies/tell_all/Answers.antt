@@ -1,12 +1,24 @@
+use Rattle.std.proofs.Common.{◌∙◌}
 use Rattle.image_depot.specs.Reply.{sent_image, sent_page}
-use Rattle.host_workers.proofs.Working.{told-then}
+use Rattle.host_workers.proofs.Working.{spares-none, stays-none, told-then}
 use Rattle.host_workers.proofs.replies.tell_all.Goals as goal
 
-pub returns-then-is_err-clause-spares : goal.returns-then-is_err-clause-spares
-returns-then-is_err-clause-spares g c =
+pub loop-sent-init : goal.loop-sent-init
+loop-sent-init g c = record { stays = stays-none c.args.pass; spares = spares-none c.args.pass }
+
+pub returns-in_default : goal.returns-in_default
+returns-in_default g c = record { stays = c.loop-sent.invariant.stays; spares = c.loop-sent.invariant.spares }
+
+pub tell-after-requires-clause-board : goal.tell-after-requires-clause-board
+tell-after-requires-clause-board g c = c.loop-sent.invariant.stays.same_board ∙ c.requires.board
+
+pub returns-then-is_err : goal.returns-then-is_err
+returns-then-is_err g c =
     let r = c.tell-after.result in
     let was = c.loop-sent.invariant in
-    (told-then c.args.pass c.loop-sent.pass r.0 (sent_image c.in-Ok.again) (sent_page c.in-Ok.again) r.1 (was.stays, was.spares) c.tell-after.ensures).1
+    let then =
+    told-then c.args.pass c.loop-sent.pass r.0 (sent_image c.in-Ok.again) (sent_page c.in-Ok.again) r.1 (was.stays, was.spares) c.tell-after.ensures in
+    record { stays = then.0; spares = then.1 }
 
 pub loop-sent-preserved : goal.loop-sent-preserved
 loop-sent-preserved g c =
@@ -15,3 +27,6 @@ loop-sent-preserved g c =
     let then =
     told-then c.args.pass c.loop-sent.pass r.0 (sent_image c.in-Ok.again) (sent_page c.in-Ok.again) r.1 (was.stays, was.spares) c.tell-after.ensures in
     record { stays = then.0; spares = then.1 }
+
+pub returns : goal.returns
+returns g c = record { stays = c.loop-sent.invariant.stays; spares = c.loop-sent.invariant.spares }

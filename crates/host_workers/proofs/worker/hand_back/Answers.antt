@@ -1,50 +1,76 @@
 use Rattle.forest_history.specs.Rows.{ended, forked, joined, killed}
 use Rattle.world_core.specs.Answers.{home_by}
+use Rattle.fork_board.specs.Notes.{placed_entry}
 use Rattle.fork_board.proofs.Holding.{holds-placed}
-use Rattle.host_workers.proofs.Working.{spares-placed}
+use Rattle.host_workers.proofs.Working.{lent-here, spares-placed, worked-one}
 use Rattle.host_workers.proofs.worker.hand_back.Goals as goal
 
-pub returns-then-is_some-clause-holds : goal.returns-then-is_some-clause-holds
-returns-then-is_some-clause-holds g c =
-    holds-placed c.args.pass c.end.result.0 c.args.lease c.requires.one ended c.end.result.1 c.end.ensures.makes c.end.ensures.places
+pub end-requires-clause-of_depot : goal.end-requires-clause-of_depot
+end-requires-clause-of_depot g c = lent-here c.args.pass c.args.board.now c.args.lease c.requires.board c.requires.one
 
-pub returns-then-is_some-clause-spares : goal.returns-then-is_some-clause-spares
-returns-then-is_some-clause-spares g c =
+pub fork-forked-requires-clause-of_depot : goal.fork-forked-requires-clause-of_depot
+fork-forked-requires-clause-of_depot g c = lent-here c.args.pass c.args.board.now c.args.lease c.requires.board c.requires.one
+
+pub join-requires-clause-of_depot : goal.join-requires-clause-of_depot
+join-requires-clause-of_depot g c = lent-here c.args.pass c.args.board.now c.args.lease c.requires.board c.requires.one
+
+pub kill-requires-clause-of_depot : goal.kill-requires-clause-of_depot
+kill-requires-clause-of_depot g c = lent-here c.args.pass c.args.board.now c.args.lease c.requires.board c.requires.one
+
+pub give-requires-clause-of_depot : goal.give-requires-clause-of_depot
+give-requires-clause-of_depot g c = lent-here c.args.pass c.args.board.now c.args.lease c.requires.board c.requires.one
+
+pub returns-then-is_some : goal.returns-then-is_some
+returns-then-is_some g c =
     let lease = c.args.lease in
-    spares-placed c.args.pass c.end.result.0 ended lease.name lease.ran c.end.result.1 c.end.ensures.makes
+    let r = c.end.result in
+    let made = c.end.ensures.makes in
+    record {
+      worked = worked-one c.args.pass r.0 (placed_entry ended lease.name lease.ran r.1) made;
+      holds = holds-placed c.args.pass r.0 lease c.requires.one ended r.1 made c.end.ensures.places;
+      spares = spares-placed c.args.pass r.0 ended lease.name lease.ran r.1 made;
+    }
 
-pub returns-in-Some-Clone-clause-holds : goal.returns-in-Some-Clone-clause-holds
-returns-in-Some-Clone-clause-holds g c =
-    holds-placed c.args.pass c.fork-forked.result.0 c.args.lease c.requires.one forked c.fork-forked.result.1 c.fork-forked.ensures.makes c.fork-forked.ensures.places
-
-pub returns-in-Some-Clone-clause-spares : goal.returns-in-Some-Clone-clause-spares
-returns-in-Some-Clone-clause-spares g c =
+pub returns-in-Some-Clone : goal.returns-in-Some-Clone
+returns-in-Some-Clone g c =
     let lease = c.args.lease in
-    spares-placed c.args.pass c.fork-forked.result.0 forked lease.name lease.ran c.fork-forked.result.1 c.fork-forked.ensures.makes
+    let r = c.fork-forked.result in
+    let made = c.fork-forked.ensures.makes in
+    record {
+      worked = worked-one c.args.pass r.0 (placed_entry forked lease.name lease.ran r.1) made;
+      holds = holds-placed c.args.pass r.0 lease c.requires.one forked r.1 made c.fork-forked.ensures.places;
+      spares = spares-placed c.args.pass r.0 forked lease.name lease.ran r.1 made;
+    }
 
-pub returns-in-Some-Join-clause-holds : goal.returns-in-Some-Join-clause-holds
-returns-in-Some-Join-clause-holds g c =
-    holds-placed c.args.pass c.join.result.0 c.args.lease c.requires.one joined c.join.result.1 c.join.ensures.makes c.join.ensures.places
-
-pub returns-in-Some-Join-clause-spares : goal.returns-in-Some-Join-clause-spares
-returns-in-Some-Join-clause-spares g c =
+pub returns-in-Some-Join : goal.returns-in-Some-Join
+returns-in-Some-Join g c =
     let lease = c.args.lease in
-    spares-placed c.args.pass c.join.result.0 joined lease.name lease.ran c.join.result.1 c.join.ensures.makes
+    let r = c.join.result in
+    let made = c.join.ensures.makes in
+    record {
+      worked = worked-one c.args.pass r.0 (placed_entry joined lease.name lease.ran r.1) made;
+      holds = holds-placed c.args.pass r.0 lease c.requires.one joined r.1 made c.join.ensures.places;
+      spares = spares-placed c.args.pass r.0 joined lease.name lease.ran r.1 made;
+    }
 
-pub returns-in-Some-Kill-clause-holds : goal.returns-in-Some-Kill-clause-holds
-returns-in-Some-Kill-clause-holds g c =
-    holds-placed c.args.pass c.kill.result.0 c.args.lease c.requires.one killed c.kill.result.1 c.kill.ensures.makes c.kill.ensures.places
-
-pub returns-in-Some-Kill-clause-spares : goal.returns-in-Some-Kill-clause-spares
-returns-in-Some-Kill-clause-spares g c =
+pub returns-in-Some-Kill : goal.returns-in-Some-Kill
+returns-in-Some-Kill g c =
     let lease = c.args.lease in
-    spares-placed c.args.pass c.kill.result.0 killed lease.name lease.ran c.kill.result.1 c.kill.ensures.makes
+    let r = c.kill.result in
+    let made = c.kill.ensures.makes in
+    record {
+      worked = worked-one c.args.pass r.0 (placed_entry killed lease.name lease.ran r.1) made;
+      holds = holds-placed c.args.pass r.0 lease c.requires.one killed r.1 made c.kill.ensures.places;
+      spares = spares-placed c.args.pass r.0 killed lease.name lease.ran r.1 made;
+    }
 
-pub returns-in-None-clause-holds : goal.returns-in-None-clause-holds
-returns-in-None-clause-holds g c =
-    holds-placed c.args.pass c.give.result.0 c.args.lease c.requires.one (home_by c.args.lease.now.ending) c.give.result.1 c.give.ensures.makes c.give.ensures.places
-
-pub returns-in-None-clause-spares : goal.returns-in-None-clause-spares
-returns-in-None-clause-spares g c =
+pub returns-in-None : goal.returns-in-None
+returns-in-None g c =
     let lease = c.args.lease in
-    spares-placed c.args.pass c.give.result.0 (home_by c.args.lease.now.ending) lease.name lease.ran c.give.result.1 c.give.ensures.makes
+    let r = c.give.result in
+    let made = c.give.ensures.makes in
+    record {
+      worked = worked-one c.args.pass r.0 (placed_entry (home_by lease.now.ending) lease.name lease.ran r.1) made;
+      holds = holds-placed c.args.pass r.0 lease c.requires.one (home_by lease.now.ending) r.1 made c.give.ensures.places;
+      spares = spares-placed c.args.pass r.0 (home_by lease.now.ending) lease.name lease.ran r.1 made;
+    }

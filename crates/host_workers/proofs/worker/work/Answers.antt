@@ -4,6 +4,8 @@ use Rattle.std.specs.Map.{values_of}
 use Rattle.std.proofs.lemmas.List.Elements.{All-nil}
 use Rattle.image_depot.specs.Reply.{IsSentOf}
 use Rattle.host_fetch.specs.Heard.{AreHeardOf, Replies}
+use Rattle.host_workers.specs.Finishes.{IsDone}
+use Rattle.host_workers.specs.Stays.{IfFinished, Turns}
 use Rattle.host_workers.specs.declared.replies.Hearing.{Hearing}
 use Rattle.host_workers.proofs.Working.{blames-on, spares-none, worked-board, worked-then}
 use Rattle.host_workers.proofs.worker.work.Goals as goal
@@ -21,14 +23,17 @@ loop-init g c = record {
 pub turn-after-requires-clause-board : goal.turn-after-requires-clause-board
 turn-after-requires-clause-board g c = worked-board c.args.pass c.loop.pass c.loop.invariant.worked ∙ c.requires.board
 
-pub returns-in-Finished-clause-worked : goal.returns-in-Finished-clause-worked
-returns-in-Finished-clause-worked g c =
-    worked-then c.args.pass c.loop.pass c.turn-after.result.0 c.loop.invariant.worked c.turn-after.ensures.worked
-
-pub returns-in-Finished-clause-wire : goal.returns-in-Finished-clause-wire
-returns-in-Finished-clause-wire g c =
+pub returns-in-Finished : goal.returns-in-Finished
+returns-in-Finished g c =
     let e = c.turn-after.ensures in
-    blames-on g.W.Wire.streak c.loop.wire c.turn-after.new.wire c.args.pass c.loop.pass c.turn-after.result.0 c.loop.invariant.wire e.worked e.stopped e.wire
+    let new = c.turn-after.result.0 in
+    record {
+      worked = worked-then c.args.pass c.loop.pass new c.loop.invariant.worked e.worked;
+      none = e.none;
+      finish = subst (Turns new) c.in-Finished.is e.turns;
+      done = subst (λ t. IfFinished t (IsDone new.number new.seen)) c.in-Finished.is e.done;
+      wire = blames-on g.W.Wire.streak c.loop.wire c.turn-after.new.wire c.args.pass c.loop.pass new c.loop.invariant.wire e.worked e.stopped e.wire;
+    }
 
 pub loop-preserved-in-Idle : goal.loop-preserved-in-Idle
 loop-preserved-in-Idle g c =

@@ -1,4 +1,4 @@
 use Rattle.machine_tests.proofs.guests.step.Goals as goal
 
 pub returns : goal.returns
-returns c = c.step.ensures.key
+returns g c = c.step.ensures.key

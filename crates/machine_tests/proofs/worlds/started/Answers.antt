@@ -5,4 +5,4 @@ use Rattle.drive_script.proofs.Started.{started}
 use Rattle.machine_tests.proofs.worlds.started.Goals as goal
 
 pub returns : goal.returns
-returns c = (alone paged_machines (paged c.in_ok-vm.vm), started c.args.depot.now c.in_ok-world.world (paged c.in_ok-vm.vm) c.in_ok-world.ensures.stands)
+returns g c = (alone paged_machines (paged c.booted_at-vm.result), started c.args.depot.now c.in_ok-world.world (paged c.booted_at-vm.result) c.in_ok-world.ensures.stands)

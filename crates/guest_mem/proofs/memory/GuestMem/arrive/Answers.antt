@@ -1,4 +1,4 @@
-use Rattle.std.proofs.Common.{◌≡◌, false, Option, get_or, sym, ap, ◌∙◌, subst}
+use Rattle.std.proofs.Common.{◌≡◌, ℕ, zero, suc, Bool, true, false, List, [], ◌∷◌, Option, Some, get_or, sym, ap, ◌∙◌, subst, rules}
 use Rattle.std.specs.Prelude.{slice_get}
 use Rattle.page_frames.specs.Tables.{own_pages}
 use Rattle.image_depot.specs.Key.{Key, image_of, number_of}
@@ -27,3 +27,15 @@ returns-clause-ok c =
           ∙ ram_of_reply entries key c.self.invariant.based c.in-Some.key c.in-Some.is reply agree c.bytes.ensures.there page c.page-page.ensures c.in_ok-shared_page.field-0 absent content
           ∙ ap (λ ram. arrived ram page) c.self.view_is,
     )
+
+pub agree-requires-clause-one_number : goal.agree-requires-clause-one_number
+agree-requires-clause-one_number c = sym c.number.ensures ∙ c.if-number.false ∙ c.number-2.ensures ∙ ap number_of (c.key.ensures ∙ sym c.key-2.ensures)
+
+present : (here : List Bool) (page : ℕ) → get_or here page false ≡ true → slice_get here page ≡ Some true
+present [] page is = absurd (cc)
+present (b ∷ here) zero is = ap (λ flag. Some flag) is
+present (b ∷ here) (suc page) is = present here page is
+
+pub returns-then-is_here-clause-ok : goal.returns-then-is_here-clause-ok
+returns-then-is_here-clause-ok c =
+    (c.page-page.ensures, search rules, λ of_image. present c.args.self.now.here c.page-page.result (sym c.is_here.ensures ∙ c.if-is_here.true))

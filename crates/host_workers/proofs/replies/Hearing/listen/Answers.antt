@@ -1,4 +1,4 @@
-use Rattle.std.proofs.Common.{◌≡◌, Some, Ok, OnOk, ap, ◌∙◌, subst, arith}
+use Rattle.std.proofs.Common.{◌≡◌, Some, Ok, OnOk, ap, ◌∙◌, subst, sym, arith}
 use Rattle.host_fetch.specs.Heard.{found}
 use Rattle.image_depot.specs.Reply.{sent_image, sent_page}
 use Rattle.fork_board.specs.Answers.{Hears}
@@ -19,48 +19,62 @@ loop-init g c = record {
   found = λ reply is. is;
 }
 
-pub returns-in_default-clause-spares : goal.returns-in_default-clause-spares
-returns-in_default-clause-spares g c =
+pub hear-after-requires : goal.hear-after-requires
+hear-after-requires g c = c.loop.invariant.stays.same_board ∙ c.requires
+
+pub returns-in_default : goal.returns-in_default
+returns-in_default g c =
     let r = c.hear-after.result in
     let was = c.loop.invariant in
-    (heard-then c.args.pass c.loop.pass r.0 c.loop.self.next r.1 (was.stays, was.spares) c.hear-after.ensures.makes).1
+    let sent = c.in-Ok-Some.sent in
+    let makes = c.hear-after.ensures.makes in
+    let then = heard-then c.args.pass c.loop.pass r.0 c.loop.self.next r.1 (was.stays, was.spares) makes in
+    let stays = stays-heard c.loop.pass r.0 c.loop.self.next r.1 makes in
+    let hears = subst (Hears r.0 c.loop.self.next) (c.in-Ok-Some.is ∙ ap Ok c.in-Ok-Some.field-0-is) c.hear-after.ensures.hears in
+    let still = found-after sent c.loop.self.heard c.hear.new.self c.hear.result c.hear.ensures.found c.hear.ensures.others c.hear.ensures.err in
+    record {
+      stays = then.0;
+      spares = then.1;
+      last = tt;
+      all = found-then (seen_record r.0).told c.args.self.now.next c.loop.self.next c.loop.self.heard c.hear.new.self still
+          (found-on c.loop.pass r.0 c.args.self.now.next c.loop.self.next c.loop.self.heard stays was.all);
+      found = λ reply is. still reply (was.found reply is);
+      heard = λ were. c.hear.ensures.kept (depot_of c.args.board.now.opening)
+          (heard-kept c.args.board.now r.0 c.loop.self.next sent (then.0.same_board ∙ c.requires) hears) (was.heard were);
+    }
 
-pub returns-in_default-clause-all : goal.returns-in_default-clause-all
-returns-in_default-clause-all g c =
-    let r = c.hear-after.result in
-    let stays = stays-heard c.loop.pass r.0 c.loop.self.next r.1 c.hear-after.ensures.makes in
-    let still = found-after c.in-Ok-Some.sent c.loop.self.heard c.hear.new.self c.hear.result c.hear.ensures.found c.hear.ensures.others c.hear.ensures.err in
-    found-then (seen_record r.0).told c.args.self.now.next c.loop.self.next c.loop.self.heard c.hear.new.self still
-    (found-on c.loop.pass r.0 c.args.self.now.next c.loop.self.next c.loop.self.heard stays c.loop.invariant.all)
-
-pub returns-in_default-clause-found : goal.returns-in_default-clause-found
-returns-in_default-clause-found g c =
-    let still = found-after c.in-Ok-Some.sent c.loop.self.heard c.hear.new.self c.hear.result c.hear.ensures.found c.hear.ensures.others c.hear.ensures.err in
-    λ reply is. still reply (c.loop.invariant.found reply is)
-
-pub returns-in-Ok-None-clause-spares : goal.returns-in-Ok-None-clause-spares
-returns-in-Ok-None-clause-spares g c =
-    let r = c.hear-after.result in
-    let was = c.loop.invariant in
-    (heard-then c.args.pass c.loop.pass r.0 c.loop.self.next r.1 (was.stays, was.spares) c.hear-after.ensures.makes).1
-
-pub returns-in-Ok-None-clause-all : goal.returns-in-Ok-None-clause-all
-returns-in-Ok-None-clause-all g c =
-    let r = c.hear-after.result in
-    let stays = stays-heard c.loop.pass r.0 c.loop.self.next r.1 c.hear-after.ensures.makes in
-    found-on c.loop.pass r.0 c.args.self.now.next c.loop.self.next c.loop.self.heard stays c.loop.invariant.all
-
-pub returns-in-Err-clause-spares : goal.returns-in-Err-clause-spares
-returns-in-Err-clause-spares g c =
+pub returns-in-Ok-None : goal.returns-in-Ok-None
+returns-in-Ok-None g c =
     let r = c.hear-after.result in
     let was = c.loop.invariant in
-    (heard-then c.args.pass c.loop.pass r.0 c.loop.self.next r.1 (was.stays, was.spares) c.hear-after.ensures.makes).1
+    let makes = c.hear-after.ensures.makes in
+    let then = heard-then c.args.pass c.loop.pass r.0 c.loop.self.next r.1 (was.stays, was.spares) makes in
+    let stays = stays-heard c.loop.pass r.0 c.loop.self.next r.1 makes in
+    let hears = subst (Hears r.0 c.loop.self.next) (c.in-Ok-None.is ∙ ap Ok c.in-Ok-None.field-0-is) c.hear-after.ensures.hears in
+    record {
+      stays = then.0;
+      spares = then.1;
+      last = sym hears.value;
+      all = found-on c.loop.pass r.0 c.args.self.now.next c.loop.self.next c.loop.self.heard stays was.all;
+      found = was.found;
+      heard = was.heard;
+    }
 
-pub returns-in-Err-clause-all : goal.returns-in-Err-clause-all
-returns-in-Err-clause-all g c =
+pub returns-in-Err : goal.returns-in-Err
+returns-in-Err g c =
     let r = c.hear-after.result in
-    let stays = stays-heard c.loop.pass r.0 c.loop.self.next r.1 c.hear-after.ensures.makes in
-    found-on c.loop.pass r.0 c.args.self.now.next c.loop.self.next c.loop.self.heard stays c.loop.invariant.all
+    let was = c.loop.invariant in
+    let makes = c.hear-after.ensures.makes in
+    let then = heard-then c.args.pass c.loop.pass r.0 c.loop.self.next r.1 (was.stays, was.spares) makes in
+    let stays = stays-heard c.loop.pass r.0 c.loop.self.next r.1 makes in
+    record {
+      stays = then.0;
+      spares = then.1;
+      last = tt;
+      all = found-on c.loop.pass r.0 c.args.self.now.next c.loop.self.next c.loop.self.heard stays was.all;
+      found = was.found;
+      heard = was.heard;
+    }
 
 pub overflow_add-self : goal.overflow_add-self
 overflow_add-self g c =

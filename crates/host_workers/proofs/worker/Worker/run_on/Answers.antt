@@ -1,4 +1,7 @@
-use Rattle.host_workers.proofs.Working.{same-none, same-then, spares-none, spares-stays, stays-more, stays-none}
+use Rattle.std.proofs.Common.{◌≡◌, IfErr, subst, ◌∙◌}
+use Rattle.host_fetch.specs.declared.error.FetchError.TheVariants as fault
+use Rattle.host_workers.specs.Lost.{IsLost}
+use Rattle.host_workers.proofs.Working.{lent-on, same-none, same-then, spares-none, spares-stays, stays-more, stays-none}
 use Rattle.host_workers.proofs.worker.Worker.run_on.Goals as goal
 
 pub loop-init : goal.loop-init
@@ -10,6 +13,18 @@ loop-init g c = record {
   same = same-none c.args.lease.now;
   heard = c.requires.heard;
 }
+
+pub run_stretch-after-requires-clause-board : goal.run_stretch-after-requires-clause-board
+run_stretch-after-requires-clause-board g c = c.loop.invariant.stays.same_board ∙ c.requires.board
+
+pub run_stretch-after-requires-clause-depot : goal.run_stretch-after-requires-clause-depot
+run_stretch-after-requires-clause-depot g c = c.requires.depot
+
+pub run_stretch-after-requires-clause-of_depot : goal.run_stretch-after-requires-clause-of_depot
+run_stretch-after-requires-clause-of_depot g c = lent-on c.args.depot.now c.args.lease.now c.loop.lease c.loop.invariant.same c.requires.of_depot
+
+pub run_stretch-after-requires-clause-heard : goal.run_stretch-after-requires-clause-heard
+run_stretch-after-requires-clause-heard g c = c.loop.invariant.heard
 
 pub returns-in-Ok : goal.returns-in-Ok
 returns-in-Ok g c =
@@ -23,15 +38,29 @@ returns-in-Ok g c =
       wire = tt;
     }
 
-pub returns-in-Err-clause-spares : goal.returns-in-Err-clause-spares
-returns-in-Err-clause-spares g c =
+pub returns-in-Err : goal.returns-in-Err
+returns-in-Err g c =
     let e = c.run_stretch-after.ensures in
-    spares-stays c.args.pass c.loop.pass c.run_stretch-after.result.0 e.stays c.loop.invariant.spares e.spares
+    let was = c.loop.invariant in
+    record {
+      same = same-then c.args.lease.now c.loop.lease c.run_stretch-after.new.lease was.same e.same;
+      stays = stays-more c.args.pass c.loop.pass c.run_stretch-after.result.0 was.stays e.stays;
+      spares = spares-stays c.args.pass c.loop.pass c.run_stretch-after.result.0 e.stays was.spares e.spares;
+      heard = e.heard;
+      wire = subst (λ r. IfErr r (λ error. error ≡ fault.Wire → IsLost g.W.Wire.streak c.run_stretch-after.new.wire)) c.in-Err.is e.wire;
+    }
 
-pub returns-then-any-clause-spares : goal.returns-then-any-clause-spares
-returns-then-any-clause-spares g c =
+pub returns-then-any : goal.returns-then-any
+returns-then-any g c =
     let e = c.run_stretch-after.ensures in
-    spares-stays c.args.pass c.loop.pass c.run_stretch-after.result.0 e.stays c.loop.invariant.spares e.spares
+    let was = c.loop.invariant in
+    record {
+      same = same-then c.args.lease.now c.loop.lease c.run_stretch-after.new.lease was.same e.same;
+      stays = stays-more c.args.pass c.loop.pass c.run_stretch-after.result.0 was.stays e.stays;
+      spares = spares-stays c.args.pass c.loop.pass c.run_stretch-after.result.0 e.stays was.spares e.spares;
+      heard = e.heard;
+      wire = tt;
+    }
 
 pub loop-preserved : goal.loop-preserved
 loop-preserved g c =

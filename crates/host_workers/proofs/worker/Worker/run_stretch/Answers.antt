@@ -1,4 +1,7 @@
-use Rattle.host_workers.proofs.Working.{same-none, same-then, spares-none, spares-stays, stays-more, stays-none}
+use Rattle.std.proofs.Common.{◌≡◌, IfErr, subst, ◌∙◌}
+use Rattle.host_fetch.specs.declared.error.FetchError.TheVariants as fault
+use Rattle.host_workers.specs.Lost.{IsLost}
+use Rattle.host_workers.proofs.Working.{lent-on, lost-none, same-none, same-then, spares-none, spares-stays, stays-more, stays-none}
 use Rattle.host_workers.proofs.worker.Worker.run_stretch.Goals as goal
 
 pub loop-init : goal.loop-init
@@ -11,10 +14,54 @@ loop-init g c = record {
   heard = c.requires.heard;
 }
 
-pub returns-in-Err-clause-spares : goal.returns-in-Err-clause-spares
-returns-in-Err-clause-spares g c =
+pub returns-in_default : goal.returns-in_default
+returns-in_default g c =
+    let was = c.loop.invariant in
+    record {
+      same = same-then c.args.lease.now c.loop.lease c.run.new.self was.same c.run.ensures.same;
+      stays = was.stays;
+      spares = was.spares;
+      heard = was.heard;
+      wire = lost-none g.W.Wire.streak c.loop.wire;
+    }
+
+pub returns-in_default-why : goal.returns-in_default-why
+returns-in_default-why g c =
+    let was = c.loop.invariant in
+    record {
+      same = same-then c.args.lease.now c.loop.lease c.run.new.self was.same c.run.ensures.same;
+      stays = was.stays;
+      spares = was.spares;
+      heard = was.heard;
+      wire = tt;
+    }
+
+pub bring-after-requires-clause-board : goal.bring-after-requires-clause-board
+bring-after-requires-clause-board g c = c.loop.invariant.stays.same_board ∙ c.requires.board
+
+pub bring-after-requires-clause-depot : goal.bring-after-requires-clause-depot
+bring-after-requires-clause-depot g c = c.requires.depot
+
+pub bring-after-requires-clause-of_depot : goal.bring-after-requires-clause-of_depot
+bring-after-requires-clause-of_depot g c =
+    let same = same-then c.args.lease.now c.loop.lease c.run.new.self c.loop.invariant.same c.run.ensures.same in
+    lent-on c.args.depot.now c.args.lease.now c.run.new.self same c.requires.of_depot
+
+pub bring-after-requires-clause-heard : goal.bring-after-requires-clause-heard
+bring-after-requires-clause-heard g c = c.loop.invariant.heard
+
+pub returns-in-Err : goal.returns-in-Err
+returns-in-Err g c =
     let e = c.bring-after.ensures in
-    spares-stays c.args.pass c.loop.pass c.bring-after.result.0 e.stays c.loop.invariant.spares e.spares
+    let was = c.loop.invariant in
+    record {
+      same = same-then c.args.lease.now c.run.new.self c.bring-after.new.lease
+          (same-then c.args.lease.now c.loop.lease c.run.new.self was.same c.run.ensures.same) e.same;
+      stays = stays-more c.args.pass c.loop.pass c.bring-after.result.0 was.stays e.stays;
+      spares = spares-stays c.args.pass c.loop.pass c.bring-after.result.0 e.stays was.spares e.spares;
+      heard = e.heard;
+      wire = subst (λ r. IfErr r (λ error. error ≡ fault.Wire → IsLost g.W.Wire.streak c.bring-after.new.wire)) c.in-Err.is e.wire;
+    }
 
 pub loop-preserved : goal.loop-preserved
 loop-preserved g c =

@@ -1,67 +1,125 @@
-use Rattle.std.proofs.Common.{◌≡◌, inr, subst}
+use Rattle.std.proofs.Common.{◌≡◌, inr, refl, subst, ◌∙◌}
 use Rattle.forest_history.specs.Histories.{row}
 use Rattle.forest_history.specs.Rows.{halted, took}
 use Rattle.world_core.specs.declared.reason.Reason.TheVariants as reason
 use Rattle.world_core.specs.declared.world.Taken.{Taken}
+use Rattle.world_core.specs.declared.world.Taken.TheVariants as taken
+use Rattle.fork_board.specs.Answers.{Takes}
 use Rattle.fork_board.specs.Notes.{taken_entry}
 use Rattle.fork_board.specs.Passes.{Makes}
 use Rattle.host_workers.specs.declared.finish.Finish.TheVariants.{Over, Stopped}
 use Rattle.host_workers.proofs.Ending.{done-last, ends-over, ends-stopped, taken-going}
-use Rattle.host_workers.proofs.Working.{blames-worked, spares-halted, spares-taken, spares-worked, stopped-later, worked-one}
+use Rattle.host_workers.proofs.Working.{blames-worked, holds-taken, spares-halted, spares-taken, spares-worked, stopped-later, worked-more, worked-one}
 use Rattle.host_workers.proofs.worker.Worker.turn.Goals as goal
 
-pub returns-in-Over-clause-turns : goal.returns-in-Over-clause-turns
-returns-in-Over-clause-turns g c =
+pub take-pass-requires-clause-board : goal.take-pass-requires-clause-board
+take-pass-requires-clause-board g c = c.requires.board
+
+pub take-pass-requires-clause-depot : goal.take-pass-requires-clause-depot
+take-pass-requires-clause-depot g c = c.requires.depot
+
+pub stop-requires : goal.stop-requires
+stop-requires g c = c.take-pass.ensures.makes.same_board ∙ c.requires.board
+
+pub run-requires-clause-board : goal.run-requires-clause-board
+run-requires-clause-board g c = c.take-pass.ensures.makes.same_board ∙ c.requires.board
+
+pub run-requires-clause-depot : goal.run-requires-clause-depot
+run-requires-clause-depot g c = c.requires.depot
+
+pub run-requires-clause-one : goal.run-requires-clause-one
+run-requires-clause-one g c =
     let r = c.take-pass.result in
-    ends-over c.args.pass r.0 (subst (λ (t : Taken). Makes c.args.pass r.0 (taken_entry t)) c.in-Over.is c.take-pass.ensures.makes)
+    holds-taken c.args.pass r.0 c.in-Took.lease (subst (λ (t : Taken). Makes c.args.pass r.0 (taken_entry t)) c.in-Took.is c.take-pass.ensures.makes)
+    (subst (Takes r.0) c.in-Took.is c.take-pass.ensures.takes) c.requires.none
 
-pub returns-in-Over-clause-done : goal.returns-in-Over-clause-done
-returns-in-Over-clause-done g c =
+pub run-requires-clause-heard : goal.run-requires-clause-heard
+run-requires-clause-heard g c = c.requires.heard
+
+pub returns-in-Over : goal.returns-in-Over
+returns-in-Over g c =
     let r = c.take-pass.result in
-    done-last c.args.pass r.0 Over (subst (λ (t : Taken). Makes c.args.pass r.0 (taken_entry t)) c.in-Over.is c.take-pass.ensures.makes)
+    let e = c.take-pass.ensures in
+    let makes : Makes c.args.pass r.0 (taken_entry taken.Over) =
+    subst (λ (t : Taken). Makes c.args.pass r.0 (taken_entry t)) c.in-Over.is e.makes in
+    record {
+      worked = worked-one c.args.pass r.0 (taken_entry taken.Over) makes;
+      none = λ name. makes.free name (c.requires.none name);
+      turns = ends-over c.args.pass r.0 makes;
+      done = done-last c.args.pass r.0 Over makes;
+      heard = c.requires.heard;
+      wire = λ by. inr (spares-taken c.args.pass r.0 r.1 e.makes by);
+      stopped = λ was. refl {a = c.args.wire.now};
+    }
 
-pub returns-in-Over-clause-wire : goal.returns-in-Over-clause-wire
-returns-in-Over-clause-wire g c = λ by.
-    inr (spares-taken c.args.pass c.take-pass.result.0 c.take-pass.result.1 c.take-pass.ensures.makes by)
-
-pub returns-in-Stopped-clause-turns : goal.returns-in-Stopped-clause-turns
-returns-in-Stopped-clause-turns g c =
+pub returns-in-Stopped : goal.returns-in-Stopped
+returns-in-Stopped g c =
     let r = c.take-pass.result in
-    ends-stopped c.args.pass r.0 c.in-Stopped.reason
-    (subst (λ (t : Taken). Makes c.args.pass r.0 (taken_entry t)) c.in-Stopped.is c.take-pass.ensures.makes)
+    let e = c.take-pass.ensures in
+    let makes : Makes c.args.pass r.0 (taken_entry (taken.Stopped c.in-Stopped.reason)) =
+    subst (λ (t : Taken). Makes c.args.pass r.0 (taken_entry t)) c.in-Stopped.is e.makes in
+    record {
+      worked = worked-one c.args.pass r.0 (taken_entry (taken.Stopped c.in-Stopped.reason)) makes;
+      none = λ name. makes.free name (c.requires.none name);
+      turns = ends-stopped c.args.pass r.0 c.in-Stopped.reason makes;
+      done = done-last c.args.pass r.0 (Stopped c.in-Stopped.reason) makes;
+      heard = c.requires.heard;
+      wire = λ by. inr (spares-taken c.args.pass r.0 r.1 e.makes by);
+      stopped = λ was. refl {a = c.args.wire.now};
+    }
 
-pub returns-in-Stopped-clause-done : goal.returns-in-Stopped-clause-done
-returns-in-Stopped-clause-done g c =
+pub returns-in-Idle : goal.returns-in-Idle
+returns-in-Idle g c =
     let r = c.take-pass.result in
-    done-last c.args.pass r.0 (Stopped c.in-Stopped.reason)
-    (subst (λ (t : Taken). Makes c.args.pass r.0 (taken_entry t)) c.in-Stopped.is c.take-pass.ensures.makes)
+    let e = c.take-pass.ensures in
+    let makes : Makes c.args.pass r.0 (taken_entry taken.Idle) =
+    subst (λ (t : Taken). Makes c.args.pass r.0 (taken_entry t)) c.in-Idle.is e.makes in
+    record {
+      worked = worked-one c.args.pass r.0 (taken_entry taken.Idle) makes;
+      none = λ name. makes.free name (c.requires.none name);
+      turns = tt;
+      done = tt;
+      heard = c.requires.heard;
+      wire = λ by. inr (spares-taken c.args.pass r.0 r.1 e.makes by);
+      stopped = λ was. refl {a = c.args.wire.now};
+    }
 
-pub returns-in-Stopped-clause-wire : goal.returns-in-Stopped-clause-wire
-returns-in-Stopped-clause-wire g c = λ by.
-    inr (spares-taken c.args.pass c.take-pass.result.0 c.take-pass.result.1 c.take-pass.ensures.makes by)
-
-pub returns-in-Idle-clause-wire : goal.returns-in-Idle-clause-wire
-returns-in-Idle-clause-wire g c = λ by.
-    inr (spares-taken c.args.pass c.take-pass.result.0 c.take-pass.result.1 c.take-pass.ensures.makes by)
-
-pub returns-in-Memory-clause-wire : goal.returns-in-Memory-clause-wire
-returns-in-Memory-clause-wire g c = λ by.
+pub returns-in-Memory : goal.returns-in-Memory
+returns-in-Memory g c =
     let r = c.take-pass.result in
-    inr (spares-worked c.args.pass r.0 c.stop.result (worked-one r.0 c.stop.result (row (halted reason.Memory)) c.stop.ensures)
-    (spares-taken c.args.pass r.0 r.1 c.take-pass.ensures.makes)
-    (spares-halted r.0 c.stop.result reason.Memory c.stop.ensures (λ same. let no : reason.Memory ≡ reason.Wire = same in cc)) by)
+    let e = c.take-pass.ensures in
+    let new = c.stop.result in
+    let stops = c.stop.ensures in
+    let makes : Makes c.args.pass r.0 (taken_entry taken.Memory) =
+    subst (λ (t : Taken). Makes c.args.pass r.0 (taken_entry t)) c.in-Memory.is e.makes in
+    let stopped = worked-one r.0 new (row (halted reason.Memory)) stops in
+    record {
+      worked = worked-more c.args.pass r.0 new (worked-one c.args.pass r.0 (taken_entry taken.Memory) makes) stopped;
+      none = λ name. stops.free name (makes.free name (c.requires.none name));
+      turns = tt;
+      done = tt;
+      heard = c.requires.heard;
+      wire = λ by. inr (spares-worked c.args.pass r.0 new stopped (spares-taken c.args.pass r.0 r.1 e.makes)
+          (spares-halted r.0 new reason.Memory stops (λ same. let no : reason.Memory ≡ reason.Wire = same in cc)) by);
+      stopped = λ was. refl {a = c.args.wire.now};
+    }
 
-pub returns-after-end-clause-wire : goal.returns-after-end-clause-wire
-returns-after-end-clause-wire g c =
+pub returns-after-end : goal.returns-after-end
+returns-after-end g c =
     let r = c.take-pass.result in
-    blames-worked g.W.Wire.streak c.run.new.wire c.args.pass r.0 c.run.result c.run.ensures.worked
-    (spares-taken c.args.pass r.0 r.1 c.take-pass.ensures.makes) c.run.ensures.wire
-
-pub returns-after-end-clause-stopped : goal.returns-after-end-clause-stopped
-returns-after-end-clause-stopped g c = λ stopped.
-    let r = c.take-pass.result in
+    let e = c.take-pass.ensures in
     let lease = c.in-Took.lease in
+    let ran = c.run.ensures in
     let makes : Makes c.args.pass r.0 (row (took lease.name)) =
-    subst (λ (t : Taken). Makes c.args.pass r.0 (taken_entry t)) c.in-Took.is c.take-pass.ensures.makes in
+    subst (λ (t : Taken). Makes c.args.pass r.0 (taken_entry t)) c.in-Took.is e.makes in
     let work = worked-one c.args.pass r.0 (row (took lease.name)) makes in
-    absurd (taken-going c.args.pass r.0 lease.name makes (stopped-later c.args.pass r.0 work.rest work.seen stopped))
+    record {
+      worked = worked-more c.args.pass r.0 c.run.result work ran.worked;
+      none = ran.none;
+      turns = tt;
+      done = tt;
+      heard = ran.heard;
+      wire = blames-worked g.W.Wire.streak c.run.new.wire c.args.pass r.0 c.run.result ran.worked (spares-taken c.args.pass r.0 r.1 e.makes) ran.wire;
+      stopped = λ was.
+          absurd (taken-going c.args.pass r.0 lease.name makes (stopped-later c.args.pass r.0 work.rest work.seen was));
+    }
