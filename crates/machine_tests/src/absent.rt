@@ -63,6 +63,43 @@ pub(crate) enum Deed {
     Made(u64),
 }
 
+fn is_brought(
+    rt: &impl Abort,
+    alloc: Global,
+    child: &mut Vm,
+    depot: &Depot,
+    name: &str,
+    page: u32,
+    want: &Arrived,
+)
+    requires { IsOfDepot depot.now child.old.key }
+    ensures { child.new.key ≡ child.old.key }
+{
+    let arrived = bring(rt, alloc, child, depot, page);
+    are_equal_at(rt, name, &arrived, want);
+}
+
+fn steps(rt: &impl Abort, child: &mut Vm, name: &str, want: &Stepped)
+    ensures { child.new.key ≡ child.old.key }
+{
+    let stepped = step(rt, child);
+    are_equal_at(rt, name, &stepped, want);
+}
+
+fn runs(rt: &impl Abort, child: &mut Vm, name: &str, want: &Stepped)
+    ensures { child.new.key ≡ child.old.key }
+{
+    let ran = run(rt, child, 1000);
+    are_equal_at(rt, name, &ran.why, want);
+}
+
+fn ends(rt: &impl Abort, child: &mut Vm, name: &str, want: Ending)
+    ensures { child.new.key ≡ child.old.key }
+{
+    run(rt, child, 1000);
+    are_equal_at(rt, name, &child.ended(), &Some(want));
+}
+
 // Does this with a child of the guest of this name.
 fn does(rt: &impl Abort, alloc: Global, child: &mut Vm, depot: &Depot, name: &str, deed: &Deed)
     requires { IsOfDepot depot.now child.old.key }
@@ -71,16 +108,11 @@ fn does(rt: &impl Abort, alloc: Global, child: &mut Vm, depot: &Depot, name: &st
     match deed {
         Deed::Wants(page) => are_equal_at(rt, name, &child.wanted(), page),
         Deed::Reads(address, word) => are_equal_at(rt, name, &child.peek(depot, *address), word),
-        Deed::Brings(page, want) => {
-            are_equal_at(rt, name, &bring(rt, alloc, child, depot, *page), want);
-        }
-        Deed::Steps(want) => are_equal_at(rt, name, &step(rt, child), want),
-        Deed::Runs(want) => are_equal_at(rt, name, &run(rt, child, 1000).why, want),
-        Deed::Ends(want) => {
-            run(rt, child, 1000);
-            are_equal_at(rt, name, &child.ended(), &Some(*want));
-        }
-        Deed::Made(steps) => are_equal_at(rt, name, &child.steps(), steps),
+        Deed::Brings(page, want) => is_brought(rt, alloc, child, depot, name, *page, want),
+        Deed::Steps(want) => steps(rt, child, name, want),
+        Deed::Runs(want) => runs(rt, child, name, want),
+        Deed::Ends(want) => ends(rt, child, name, *want),
+        Deed::Made(made) => are_equal_at(rt, name, &child.steps(), made),
     }
 }
 

@@ -1,7 +1,8 @@
-//! Tests of public calls, of what no clause says: that those which may want memory succeed where there is some,
-//! at which pages clones stall, in order, which texts are no scripts, what a report looks like, which numbers stand
-//! behind the names of constants. They stand here and not in the crates of the calls, since a crate with tests is
-//! proved twice, and this one has nothing else.
+//! Tests of public calls on machines, worlds, scripts, boards and workers, of what no clause says: that those which may
+//! want memory succeed where there is some, at which pages clones stall, in order, which texts are no scripts, what a
+//! report looks like, which numbers stand behind the names of constants, that threads get their turns, and that a family
+//! comes to one report, whoever runs which machine when. They stand here and not in the crates of the calls, since a
+//! crate with tests is proved twice, and this one has nothing else.
 #![tactic(auto)]
 
 #[cfg(test)]
@@ -9,11 +10,15 @@ mod absent;
 #[cfg(test)]
 mod equal;
 #[cfg(test)]
+mod families;
+#[cfg(test)]
 mod fetched;
 #[cfg(test)]
 mod guests;
 #[cfg(test)]
 mod machine;
+#[cfg(test)]
+mod meeting;
 #[cfg(test)]
 mod names;
 #[cfg(test)]
@@ -27,6 +32,14 @@ mod scripts;
 #[cfg(test)]
 mod stretches;
 #[cfg(test)]
+mod texts;
+#[cfg(test)]
+mod together;
+#[cfg(test)]
 mod told;
+#[cfg(test)]
+mod turns;
+#[cfg(test)]
+mod workers;
 #[cfg(test)]
 mod worlds;

@@ -1,9 +1,16 @@
-//! Tests of public calls on disks, pages, the RAM of guests and fetches, of what no clause says: that those which may
-//! want memory succeed where there is some, that pages and sectors are really shared, and that values move
-//! between threads. They stand here and not in the crates of the calls, since a crate with tests is proved
-//! twice, and this one has nothing else.
+//! Tests of public calls on shared lists, disks, pages, images of programs, the RAM of guests, frames, descriptors,
+//! depots and fetches, of what no clause says: that those which may want memory succeed where there is some, that pages
+//! and sectors are really shared, that bytes lie where the formats have them, that values move between threads, and which
+//! numbers the definitions' constants are. They stand here and not in the crates of the calls, since a crate with tests
+//! is proved twice, and this one has nothing else.
 #![tactic(auto)]
 
+#[cfg(test)]
+mod changes;
+#[cfg(test)]
+mod depots;
+#[cfg(test)]
+mod descriptors;
 #[cfg(test)]
 mod disks;
 #[cfg(test)]
@@ -11,12 +18,24 @@ mod equal;
 #[cfg(test)]
 mod fetches;
 #[cfg(test)]
+mod files;
+#[cfg(test)]
+mod frames;
+#[cfg(test)]
 mod freezes;
 #[cfg(test)]
 mod guests;
 #[cfg(test)]
+mod lists;
+#[cfg(test)]
+mod numbers;
+#[cfg(test)]
 mod pages;
 #[cfg(test)]
+mod parcels;
+#[cfg(test)]
 mod process;
+#[cfg(test)]
+mod token;
 #[cfg(test)]
 mod waiting;

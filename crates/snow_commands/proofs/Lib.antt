@@ -1,3 +1,4 @@
+mod Codes
 mod Made
 mod TextLemmas
 mod Booted

@@ -1,12 +1,12 @@
 //! What `self` writes of the guest of seed 1, by some workers and by several at once.
 
-use crate::equal::are_equal;
+use crate::equal::{are_equal, made};
 use crate::tests::{answer_of, words_of};
 use crossbeam_utils::Backoff;
 use host_workers::{Gate, OpenGate, Point};
 use io_edge::{MemShelf, MemSink};
 use snow_commands::Status;
-use std::alloc::{AllocError, Global};
+use std::alloc::Global;
 use std::process::Abort;
 use std::sync::Wait;
 use std::sync::atomic::{AtomicU64, Ordering};
@@ -72,12 +72,12 @@ impl Gate for Meeting {
 }
 
 /// So many wires that give each reply.
-fn wires_of(alloc: Global, count: usize) -> Result<Vec<Seeded>, AllocError> {
+fn wires_of(rt: &impl Abort, alloc: Global, count: usize) -> Vec<Seeded> {
     let mut wires = Vec::new(alloc);
     for _ in 0..count {
-        wires.push(Seeded::new())?;
+        made(rt, wires.push(Seeded::new()));
     }
-    Ok(wires)
+    wires
 }
 
 /// The words of a command line, and all that it is run over.
@@ -90,13 +90,13 @@ struct Outside {
 }
 
 /// A command line over a shelf without files, and so many wires.
-fn outside_of(alloc: Global, line: &str, count: usize) -> Result<Outside, AllocError> {
-    Ok(Outside {
-        words: words_of(alloc, line)?,
+fn outside_of(rt: &impl Abort, alloc: Global, line: &str, count: usize) -> Outside {
+    Outside {
+        words: words_of(rt, alloc, line),
         shelf: MemShelf::new(Vec::new(alloc), Vec::new(alloc)),
-        sink: MemSink::new(alloc, 100, 100, Vec::new(alloc))?,
-        wires: wires_of(alloc, count)?,
-    })
+        sink: made(rt, MemSink::new(alloc, 100, 100, Vec::new(alloc))),
+        wires: wires_of(rt, alloc, count),
+    }
 }
 
 /// What a command line answers.
@@ -126,11 +126,10 @@ fn writes_line<R: AllocGlobal + Threads + Wait + Sync + Abort, G: Gate + Sync>(
     line: &str,
     count: usize,
     gate: &G,
-) -> Result<(), AllocError> {
-    let mut outside = outside_of(rt.alloc(), line, count)?;
+) {
+    let mut outside = outside_of(rt, rt.alloc(), line, count);
     let found = answer(rt, &mut outside, gate);
     compare(rt, line, &found, &outside.sink);
-    Ok(())
 }
 
 /// Command lines, and how many wires there are.
@@ -142,17 +141,15 @@ static LINES: [(&str, usize); 4] = [
 ];
 
 #[test]
-fn writes_the_line_of_a_guest(rt: HostRuntime) -> Result<(), AllocError> {
+fn writes_the_line_of_a_guest(rt: HostRuntime) {
     for (line, count) in LINES.iter() {
-        writes_line(&rt, line, *count, &OpenGate)?;
+        writes_line(&rt, line, *count, &OpenGate);
     }
-    Ok(())
 }
 
 #[test]
-fn four_workers_run_at_once(rt: HostRuntime) -> Result<(), AllocError> {
+fn four_workers_run_at_once(rt: HostRuntime) {
     let meeting = Meeting::new(4);
-    writes_line(&rt, "self 1 --workers 4", 64, &meeting)?;
+    writes_line(&rt, "self 1 --workers 4", 64, &meeting);
     are_equal(&rt, &meeting.was_held(), &true);
-    Ok(())
 }

@@ -1,12 +1,12 @@
 //! Bytes that are not in form, and some that just are: images, descriptors, frames and scripts, each with what comes of
 //! them. Images and scripts are read by `snow`, with its code.
 
-use crate::equal::are_equal;
+use crate::equal::{are_equal, made};
 use crate::tests::{answers, exit_seven};
 use fetch_proto::decode_frame;
 use flat_memory::{push_words, write_bytes};
 use snow_commands::Status;
-use std::alloc::{AllocError, Global};
+use std::alloc::Global;
 use std::process::Abort;
 use std::sync::Wait;
 use std::thread::Threads;
@@ -113,31 +113,33 @@ fn put(bytes: &mut [u8], at: usize, new: &[u8]) {
     }
 }
 
-fn two_headers(alloc: Global) -> Result<Vec<u8>, AllocError> {
-    let image = exit_seven(alloc)?;
-    with_header_twice(alloc, &image)
+fn two_headers(rt: &impl Abort, alloc: Global) -> Vec<u8> {
+    let image = exit_seven(rt, alloc);
+    with_header_twice(rt, alloc, &image)
 }
 
 /// The image with its program header twice, which tells that the words lie from 116 on.
-fn with_header_twice(alloc: Global, image: &[u8]) -> Result<Vec<u8>, AllocError> {
+fn with_header_twice(rt: &impl Abort, alloc: Global, image: &[u8]) -> Vec<u8> {
     let (headers, words) = image.split_at(image.len().min(84));
-    let mut bytes = Vec::from_slice(alloc, headers)?;
-    bytes.extend_from_slice(headers.split_at(headers.len().min(52)).1)?;
-    bytes.extend_from_slice(words)?;
+    let (_, header) = headers.split_at(headers.len().min(52));
+    let mut bytes = made(rt, Vec::from_slice(alloc, headers));
+    made(rt, bytes.extend_from_slice(header));
+    made(rt, bytes.extend_from_slice(words));
     put(&mut bytes, 44, b"\x02");
     put(&mut bytes, 56, b"\x74");
     put(&mut bytes, 88, b"\x74");
-    Ok(bytes)
+    bytes
 }
 
-fn most_headers(alloc: Global) -> Result<Vec<u8>, AllocError> {
-    let mut image = exit_seven(alloc)?;
+fn most_headers(rt: &impl Abort, alloc: Global) -> Vec<u8> {
+    let mut image = exit_seven(rt, alloc);
     image.truncate(52);
     put(&mut image, 44, b"\xfe\xff");
     for address in 0x8000_0000..0x8000_fffe {
-        push_words(&mut image, &[1, 0, address, address, 0, 1, 7, 4])?;
+        let words = [1, 0, address, address, 0, 1, 7, 4];
+        made(rt, push_words(&mut image, &words));
     }
-    Ok(image)
+    image
 }
 
 /// What stands at places of the descriptor. The child stands behind the CLONE that was its parent's tenth step.
@@ -158,37 +160,38 @@ static FIRST_CHILD: [(usize, &[u8]); 10] = [
 static FRAME: [(usize, &[u8]); 1] = [(0, b"SFR1\x03\0\0\0\x01\0\0\0")];
 
 /// So many zeros, but for what stands at places of them.
-fn placed(alloc: Global, size: usize, places: &[(usize, &[u8])]) -> Result<Vec<u8>, AllocError> {
-    let mut bytes = vec![in alloc; 0; size]?;
+fn placed(rt: &impl Abort, alloc: Global, size: usize, places: &[(usize, &[u8])]) -> Vec<u8> {
+    let mut bytes = made(rt, vec![in alloc; 0; size]);
     for (at, part) in places {
         put(&mut bytes, *at, part);
     }
-    Ok(bytes)
+    bytes
 }
 
-fn made(alloc: Global, form: Form) -> Result<Vec<u8>, AllocError> {
+fn bytes_of(rt: &impl Abort, alloc: Global, form: Form) -> Vec<u8> {
     match form {
-        Form::ExitSeven => exit_seven(alloc),
-        Form::TwoHeaders => two_headers(alloc),
-        Form::MostHeaders => most_headers(alloc),
-        Form::FirstChild => placed(alloc, 778, &FIRST_CHILD),
-        Form::Frame => placed(alloc, 4108, &FRAME),
-        Form::Script => vec![in alloc; b'\n'; 1_048_577],
+        Form::ExitSeven => exit_seven(rt, alloc),
+        Form::TwoHeaders => two_headers(rt, alloc),
+        Form::MostHeaders => most_headers(rt, alloc),
+        Form::FirstChild => placed(rt, alloc, 778, &FIRST_CHILD),
+        Form::Frame => placed(rt, alloc, 4108, &FRAME),
+        Form::Script => made(rt, vec![in alloc; b'\n'; 1_048_577]),
     }
 }
 
 /// The bytes of a row.
 fn changed(
+    rt: &impl Abort,
     alloc: Global,
     form: Form,
     length: usize,
     at: usize,
     new: &[u8],
-) -> Result<Vec<u8>, AllocError> {
-    let mut bytes = made(alloc, form)?;
+) -> Vec<u8> {
+    let mut bytes = bytes_of(rt, alloc, form);
     bytes.truncate(length);
     put(&mut bytes, at, new);
-    Ok(bytes)
+    bytes
 }
 
 /// Expects that an image is run or refused so: the code, its number, and what is out.
@@ -198,7 +201,7 @@ fn is_run<R: AllocGlobal + Threads + Wait + Sync + Abort>(
     code: u8,
     first: u32,
     out: &[u8],
-) -> Result<(), AllocError> {
+) {
     let status = Status {
         code,
         first,
@@ -212,7 +215,7 @@ fn is_run<R: AllocGlobal + Threads + Wait + Sync + Abort>(
         0,
         &status,
         out,
-    )
+    );
 }
 
 /// Expects that a script is refused so.
@@ -221,14 +224,14 @@ fn is_no_script<R: AllocGlobal + Threads + Wait + Sync + Abort>(
     script: &[u8],
     line: u32,
     kind: u32,
-) -> Result<(), AllocError> {
-    let image = exit_seven(rt.alloc())?;
+) {
+    let image = exit_seven(rt, rt.alloc());
     let status = Status {
         code: 8,
         first: line,
         second: kind,
     };
-    answers(rt, "drive guest script", &image, script, 0, &status, b"")
+    answers(rt, "drive guest script", &image, script, 0, &status, b"");
 }
 
 /// The reason why bytes are no descriptor, or 0 where they are one.
@@ -241,28 +244,17 @@ fn reason(alloc: Global, bytes: &[u8]) -> Option<u32> {
 }
 
 /// Expects that bytes are a descriptor, for the reason 0, or none for another.
-fn is_descriptor(
-    rt: &impl Abort,
-    alloc: Global,
-    bytes: &[u8],
-    number: u32,
-) -> Result<(), AllocError> {
+fn is_descriptor(rt: &impl Abort, alloc: Global, bytes: &[u8], number: u32) {
     are_equal(rt, &reason(alloc, bytes), &Some(number));
-    Ok(())
 }
 
 /// Expects that bytes are a frame, or none.
-fn is_frame(rt: &impl Abort, bytes: &[u8], is_one: bool) -> Result<(), AllocError> {
+fn is_frame(rt: &impl Abort, bytes: &[u8], is_one: bool) {
     are_equal(rt, &decode_frame(bytes).is_some(), &is_one);
-    Ok(())
 }
 
 /// Expects what comes of bytes.
-fn come_to<R: AllocGlobal + Threads + Wait + Sync + Abort>(
-    rt: &R,
-    bytes: &[u8],
-    answer: Answer,
-) -> Result<(), AllocError> {
+fn come_to<R: AllocGlobal + Threads + Wait + Sync + Abort>(rt: &R, bytes: &[u8], answer: Answer) {
     match answer {
         Answer::Exits => is_run(rt, bytes, 0, 0, b"machine 0 exit 7 steps 5 out 0\n\n"),
         Answer::ComesToLimit => is_run(rt, bytes, 0, 0, b"machine 0 limit steps 10 out 0\n\n"),
@@ -276,11 +268,10 @@ fn come_to<R: AllocGlobal + Threads + Wait + Sync + Abort>(
 }
 
 #[test]
-fn bytes_come_to_their_answers(rt: HostRuntime) -> Result<(), AllocError> {
+fn bytes_come_to_their_answers(rt: HostRuntime) {
     for (form, length, at, new, answer) in BYTES.iter() {
-        row_comes_to(&rt, *form, *length, *at, new, *answer)?;
+        row_comes_to(&rt, *form, *length, *at, new, *answer);
     }
-    Ok(())
 }
 
 /// Expects what comes of the bytes of a row.
@@ -291,7 +282,7 @@ fn row_comes_to<R: AllocGlobal + Threads + Wait + Sync + Abort>(
     at: usize,
     new: &[u8],
     answer: Answer,
-) -> Result<(), AllocError> {
-    let bytes = changed(rt.alloc(), form, length, at, new)?;
-    come_to(rt, &bytes, answer)
+) {
+    let bytes = changed(rt, rt.alloc(), form, length, at, new);
+    come_to(rt, &bytes, answer);
 }

@@ -3,13 +3,13 @@
 
 ghost use Rattle.std.specs.Prelude.{◌≤◌, length};
 
-use crate::equal::are_equal;
+use crate::equal::{are_equal, made};
 use elf_load::RAM_BASE;
 use host_workers::{Gate, OpenGate};
 use io_edge::{MemShelf, MemSink};
 use rv_asm::elf_of;
 use snow_commands::{MOST_WIRES, Status, snow};
-use std::alloc::{AllocError, Global};
+use std::alloc::Global;
 use std::process::Abort;
 use std::sync::Wait;
 use std::thread::Threads;
@@ -32,77 +32,53 @@ static TWO_CHILDREN_REPORT: &[u8] =
     b"machine 0 exit 41 steps 21 out 0\n\nmachine 0.1.1 exit 41 steps 16 out 0\n\nmachine 0.1.2 exit 42 steps 16 out 0\n\n";
 
 /// The words of a command line.
-pub(crate) fn words_of(alloc: Global, line: &str) -> Result<Vec<String>, AllocError> {
+pub(crate) fn words_of(rt: &impl Abort, alloc: Global, line: &str) -> Vec<String> {
     let mut words = Vec::new(alloc);
     for word in line.split(' ') {
-        words.push(String::from_str(alloc, word)?)?;
+        let word = made(rt, String::from_str(alloc, word));
+        made(rt, words.push(word));
     }
-    Ok(words)
-}
-
-/// A file of a shelf.
-fn file(alloc: Global, name: &str, bytes: &[u8]) -> Result<(String, Vec<u8>), AllocError> {
-    Ok((
-        String::from_str(alloc, name)?,
-        Vec::from_slice(alloc, bytes)?,
-    ))
+    words
 }
 
 fn add_file(
+    rt: &impl Abort,
     alloc: Global,
     files: &mut Vec<(String, Vec<u8>)>,
     name: &str,
     bytes: &[u8],
-) -> Result<(), AllocError> {
-    files.push(file(alloc, name, bytes)?)?;
-    Ok(())
+) {
+    let name = made(rt, String::from_str(alloc, name));
+    let bytes = made(rt, Vec::from_slice(alloc, bytes));
+    made(rt, files.push((name, bytes)));
 }
 
-/// Adds the image `guest`, `script`, `disk`, of 512 bytes, and the input `Z`.
-fn add_files(
-    alloc: Global,
-    files: &mut Vec<(String, Vec<u8>)>,
-    guest: &[u8],
-    script: &[u8],
-) -> Result<(), AllocError> {
-    add_file(alloc, files, "guest", guest)?;
-    add_file(alloc, files, "script", script)?;
-    add_file(alloc, files, "disk", &[0; 512])?;
-    add_file(alloc, files, "input", b"Z")
-}
-
-/// The files of a shelf.
-fn files_of(
-    alloc: Global,
-    guest: &[u8],
-    script: &[u8],
-) -> Result<Vec<(String, Vec<u8>)>, AllocError> {
+/// The image `guest`, `script`, `disk`, of 512 bytes, and the input `Z`.
+fn files_of(rt: &impl Abort, alloc: Global, guest: &[u8], script: &[u8]) -> Vec<(String, Vec<u8>)> {
     let mut files = Vec::new(alloc);
-    add_files(alloc, &mut files, guest, script)?;
-    Ok(files)
+    add_file(rt, alloc, &mut files, "guest", guest);
+    add_file(rt, alloc, &mut files, "script", script);
+    add_file(rt, alloc, &mut files, "disk", &[0; 512]);
+    add_file(rt, alloc, &mut files, "input", b"Z");
+    files
 }
 
 /// A shelf with these files. Its call of this number fails.
-fn shelf_of(
-    alloc: Global,
-    guest: &[u8],
-    script: &[u8],
-    fails: u64,
-) -> Result<MemShelf, AllocError> {
-    let faults = vec![in alloc; fails]?;
-    Ok(MemShelf::new(files_of(alloc, guest, script)?, faults))
+fn shelf_of(rt: &impl Abort, alloc: Global, guest: &[u8], script: &[u8], fails: u64) -> MemShelf {
+    let faults = made(rt, vec![in alloc; fails]);
+    MemShelf::new(files_of(rt, alloc, guest, script), faults)
 }
 
 /// A wire that gives so many replies, then tells a fate so many times, and then gives again.
-fn wire_of(alloc: Global, gives: usize, fate: Fate, times: usize) -> Result<Scripted, AllocError> {
+fn wire_of(rt: &impl Abort, alloc: Global, gives: usize, fate: Fate, times: usize) -> Scripted {
     let mut fates = Vec::new(alloc);
     for _ in 0..gives {
-        fates.push(Fate::Give(0))?;
+        made(rt, fates.push(Fate::Give(0)));
     }
     for _ in 0..times {
-        fates.push(fate)?;
+        made(rt, fates.push(fate));
     }
-    Ok(Scripted::new(fates))
+    Scripted::new(fates)
 }
 
 /// So many wires, of each of which this is told: it gives so many replies, then tells a fate so many times, and then
@@ -113,18 +89,19 @@ type Wires = (usize, usize, Fate, usize);
 const GIVING: Wires = (8, 0, Fate::Give(0), 0);
 
 /// So many of these wires.
-fn wires_of(alloc: Global, wires: Wires) -> Result<Vec<Scripted>, AllocError> {
+fn wires_of(rt: &impl Abort, alloc: Global, wires: Wires) -> Vec<Scripted> {
     let (count, gives, fate, times) = wires;
-    let mut made = Vec::new(alloc);
+    let mut all = Vec::new(alloc);
     for _ in 0..count {
-        made.push(wire_of(alloc, gives, fate, times)?)?;
+        made(rt, all.push(wire_of(rt, alloc, gives, fate, times)));
     }
-    Ok(made)
+    all
 }
 
 /// A sink that takes seven bytes a put. Its put of this number fails.
-fn sink_of(alloc: Global, fails: u64) -> Result<MemSink, AllocError> {
-    MemSink::new(alloc, 7, 1000, vec![in alloc; fails]?)
+fn sink_of(rt: &impl Abort, alloc: Global, fails: u64) -> MemSink {
+    let faults = made(rt, vec![in alloc; fails]);
+    made(rt, MemSink::new(alloc, 7, 1000, faults))
 }
 
 /// The words of a command line, and all that it is run over.
@@ -138,6 +115,7 @@ struct Outside {
 
 /// A command line over an image, a script and wires. The load and the put of these numbers fail.
 fn outside_of(
+    rt: &impl Abort,
     alloc: Global,
     line: &str,
     image: &[u8],
@@ -145,13 +123,13 @@ fn outside_of(
     load: u64,
     put: u64,
     wires: Wires,
-) -> Result<Outside, AllocError> {
-    Ok(Outside {
-        words: words_of(alloc, line)?,
-        shelf: shelf_of(alloc, image, script, load)?,
-        sink: sink_of(alloc, put)?,
-        wires: wires_of(alloc, wires)?,
-    })
+) -> Outside {
+    Outside {
+        words: words_of(rt, alloc, line),
+        shelf: shelf_of(rt, alloc, image, script, load),
+        sink: sink_of(rt, alloc, put),
+        wires: wires_of(rt, alloc, wires),
+    }
 }
 
 /// What words answer.
@@ -206,11 +184,10 @@ pub(crate) fn answers<R: AllocGlobal + Threads + Wait + Sync + Abort>(
     fails: u64,
     status: &Status,
     out: &[u8],
-) -> Result<(), AllocError> {
-    let mut outside = outside_of(rt.alloc(), line, image, script, fails, 0, GIVING)?;
+) {
+    let mut outside = outside_of(rt, rt.alloc(), line, image, script, fails, 0, GIVING);
     let found = answer(rt, &mut outside);
     compare(rt, line, &found, &outside.sink, status, out);
-    Ok(())
 }
 
 /// Expects that a command line writes this over the image of these words and a script.
@@ -220,46 +197,46 @@ fn writes<R: AllocGlobal + Threads + Wait + Sync + Abort>(
     guest: &[u32],
     script: &[u8],
     out: &[u8],
-) -> Result<(), AllocError>
+)
     requires { length guest.now ≤ 64 }
 {
-    let image = elf_of(rt.alloc(), RAM_BASE, guest)?;
+    let image = made(rt, elf_of(rt.alloc(), RAM_BASE, guest));
     let done = Status {
         code: 0,
         first: 0,
         second: 0,
     };
-    answers(rt, line, &image, script, 0, &done, out)
+    answers(rt, line, &image, script, 0, &done, out);
 }
 
 #[test]
-fn writes_reports(rt: HostRuntime) -> Result<(), AllocError> {
+fn writes_reports(rt: HostRuntime) {
     let report: &[u8] = b"machine 0 exit 7 steps 5 out 0\n\n";
-    writes(&rt, "run guest", &EXIT_SEVEN, b"", report)?;
+    writes(&rt, "run guest", &EXIT_SEVEN, b"", report);
     writes(
         &rt,
         "run guest --clones 2",
         &TWO_CHILDREN,
         b"",
         TWO_CHILDREN_REPORT,
-    )?;
+    );
     writes(
         &rt,
         "run guest --clones 2 --workers 8 --slice 1",
         &TWO_CHILDREN,
         b"",
         TWO_CHILDREN_REPORT,
-    )
+    );
 }
 
 #[test]
-fn writes_what_scripts_tell(rt: HostRuntime) -> Result<(), AllocError> {
+fn writes_what_scripts_tell(rt: HostRuntime) {
     let script: &[u8] =
         b"step 0 12\nstep 0.1.1 6\nask 0.1.1\ngive 0.1.2 0\nstep 0.1.2 9\nstep 0 9\ngive 0.1.1 0\nstep 0.1.1 6\nstep 0 7\nstep 0 1\n";
     let told: &[u8] =
         b"0 ran 12 ok\n0.1.1 ran 0 stall 0\n0.1.1 ask 0 0\n0.1.2 got 0\n0.1.2 ran 6 exit 42\n0 ran 2 wait 1\n0.1.1 got 0\n0.1.1 ran 6 exit 41\n0 ran 7 exit 41\n0 none\n";
     let words = "drive guest script --clones 2 --ram 16";
-    writes(&rt, words, &TWO_CHILDREN, script, told)
+    writes(&rt, words, &TWO_CHILDREN, script, told);
 }
 
 /// Command lines, how many bytes of the image are there, the script, and the code with its two numbers.
@@ -295,13 +272,13 @@ static REFUSALS: [(&str, usize, &[u8], u8, u32, u32); 21] = [
 ];
 
 /// The image of the guest that ends with the value 7.
-pub(crate) fn exit_seven(alloc: Global) -> Result<Vec<u8>, AllocError> {
-    elf_of(alloc, RAM_BASE, &EXIT_SEVEN)
+pub(crate) fn exit_seven(rt: &impl Abort, alloc: Global) -> Vec<u8> {
+    made(rt, elf_of(alloc, RAM_BASE, &EXIT_SEVEN))
 }
 
 #[test]
-fn refuses_by_cause(rt: HostRuntime) -> Result<(), AllocError> {
-    let image = exit_seven(rt.alloc())?;
+fn refuses_by_cause(rt: HostRuntime) {
+    let image = exit_seven(&rt, rt.alloc());
     for (line, length, script, code, first, second) in REFUSALS.iter() {
         let (guest, _) = image.split_at(image.len().min(*length));
         let status = Status {
@@ -309,9 +286,8 @@ fn refuses_by_cause(rt: HostRuntime) -> Result<(), AllocError> {
             first: *first,
             second: *second,
         };
-        answers(&rt, line, guest, script, 0, &status, b"")?;
+        answers(&rt, line, guest, script, 0, &status, b"");
     }
-    Ok(())
 }
 
 /// Expects that `drive` over an image and a script stops at its load of this number, which fails.
@@ -320,25 +296,24 @@ fn stops_at_load<R: AllocGlobal + Threads + Wait + Sync + Abort>(
     image: &[u8],
     script: &[u8],
     load: u32,
-) -> Result<(), AllocError> {
+) {
     let line = "drive guest script --disk disk --input input";
     let status = Status {
         code: 1,
         first: load,
         second: 0,
     };
-    answers(rt, line, image, script, u64::from(load), &status, b"")
+    answers(rt, line, image, script, u64::from(load), &status, b"");
 }
 
 // Each load that `drive` makes, in order: where all that is read is in form, and where nothing is.
 #[test]
-fn stops_at_each_load(rt: HostRuntime) -> Result<(), AllocError> {
-    let image = exit_seven(rt.alloc())?;
+fn stops_at_each_load(rt: HostRuntime) {
+    let image = exit_seven(&rt, rt.alloc());
     for load in 1..=4u32 {
-        stops_at_load(&rt, &image, b"step 0 1\n", load)?;
-        stops_at_load(&rt, b"", b"", load)?;
+        stops_at_load(&rt, &image, b"step 0 1\n", load);
+        stops_at_load(&rt, b"", b"", load);
     }
-    Ok(())
 }
 
 /// Command lines, how many wires there are and what each of them does, and the code. The second child of two hears the
@@ -398,36 +373,33 @@ fn has_code<R: AllocGlobal + Threads + Wait + Sync + Abort>(
     image: &[u8],
     wires: Wires,
     code: u8,
-) -> Result<(), AllocError> {
-    let mut outside = outside_of(rt.alloc(), line, image, b"", 0, 0, wires)?;
+) {
+    let mut outside = outside_of(rt, rt.alloc(), line, image, b"", 0, 0, wires);
     let found = answer(rt, &mut outside);
     compare_code(rt, line, &found, &outside.sink, code);
-    Ok(())
 }
 
 /// The image of the guest that makes two children.
-fn two_children(alloc: Global) -> Result<Vec<u8>, AllocError> {
-    elf_of(alloc, RAM_BASE, &TWO_CHILDREN)
+fn two_children(rt: &impl Abort, alloc: Global) -> Vec<u8> {
+    made(rt, elf_of(alloc, RAM_BASE, &TWO_CHILDREN))
 }
 
 #[test]
-fn loses_its_wire(rt: HostRuntime) -> Result<(), AllocError> {
-    let image = two_children(rt.alloc())?;
+fn loses_its_wire(rt: HostRuntime) {
+    let image = two_children(&rt, rt.alloc());
     for (line, wires, code) in WIRES.iter() {
-        has_code(&rt, line, &image, *wires, *code)?;
+        has_code(&rt, line, &image, *wires, *code);
     }
-    Ok(())
 }
 
 // So many losses, and the next reply comes.
 #[test]
-fn bears_losses(rt: HostRuntime) -> Result<(), AllocError> {
-    let image = two_children(rt.alloc())?;
+fn bears_losses(rt: HostRuntime) {
+    let image = two_children(&rt, rt.alloc());
     let line = "run guest --clones 1 --workers 1";
     for times in 0..64 {
-        has_code(&rt, line, &image, (1, 0, Fate::Lose(0), times), 0)?;
+        has_code(&rt, line, &image, (1, 0, Fate::Lose(0), times), 0);
     }
-    Ok(())
 }
 
 /// Expects code 5, and of the report of two children the seven bytes of each put before this one.
@@ -445,27 +417,21 @@ fn compare_cut<R: Abort>(rt: &R, found: &Status, sink: &MemSink, fails: u64)
 }
 
 /// Runs a guest of two children over a sink whose put of this number fails.
-fn stops_at_put<R: AllocGlobal + Threads + Wait + Sync + Abort>(
-    rt: &R,
-    image: &[u8],
-    fails: u64,
-) -> Result<(), AllocError>
+fn stops_at_put<R: AllocGlobal + Threads + Wait + Sync + Abort>(rt: &R, image: &[u8], fails: u64)
     requires least { 1 ≤ fails }
     requires most { fails ≤ 16 }
 {
     let line = "run guest --clones 2";
-    let mut outside = outside_of(rt.alloc(), line, image, b"", 0, fails, GIVING)?;
+    let mut outside = outside_of(rt, rt.alloc(), line, image, b"", 0, fails, GIVING);
     let found = answer(rt, &mut outside);
     compare_cut(rt, &found, &outside.sink, fails);
-    Ok(())
 }
 
 // The report of 110 bytes goes out seven by seven.
 #[test]
-fn stops_at_each_put(rt: HostRuntime) -> Result<(), AllocError> {
-    let image = two_children(rt.alloc())?;
+fn stops_at_each_put(rt: HostRuntime) {
+    let image = two_children(&rt, rt.alloc());
     for fails in 1..=16u64 {
-        stops_at_put(&rt, &image, fails)?;
+        stops_at_put(&rt, &image, fails);
     }
-    Ok(())
 }

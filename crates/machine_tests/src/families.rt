@@ -1,0 +1,232 @@
+//! Families that workers run on a board, from its start to its end.
+
+ghost use Rattle.std.specs.Prelude.{◌≡◌, ◌<◌, ◌≤◌, [], IfOk, length, None};
+ghost use Rattle.forest_model.specs.Forest.{port_of};
+ghost use Rattle.fork_board.specs.Follows.{depot_of};
+ghost use Rattle.fork_board.specs.Passes.{HoldsNone};
+
+use crate::equal::made;
+use crate::guests::{TWO_CHILDREN, booted};
+use fork_board::{Board, Pass};
+use host_workers::{Finish, Gate, MAX_WORKERS, OpenGate, run_hosts};
+use image_depot::{Depot, Sent};
+use run_report::Outcome;
+use std::alloc::{AllocError, Global};
+use std::marker::{Send, Sync};
+use std::process::Abort;
+use std::snapshot::Snapshot;
+use std::sync::Wait;
+use std::thread::Threads;
+use vm_cell::Vm;
+use wire_fates::{Seeded, Wire};
+use world_core::{Reason, World};
+
+/// How many pages a worker asks for beside a wanted one.
+const AHEAD: u32 = 4;
+
+/// How the work on a family ended, and the family, once its root had.
+#[derive(Drop)]
+pub struct Ended {
+    pub finish: Finish,
+    pub outcome: Option<Outcome>,
+}
+
+/// The board of the family of the machine of these words, and the one pass to it.
+fn board_of(
+    rt: &impl Abort,
+    alloc: Global,
+    words: &[u32],
+    clones: u32,
+    depot: &Depot,
+) -> (Board, Pass)
+    requires words { length words.now ≤ 64 }
+    requires clones { clones ≤ 4096 }
+    ensures depot { depot_of result.0.opening ≡ depot.now }
+    ensures pass { result.1 ≡ record { board = result.0; number = []; splits = 0; seen = []; mine = [] } }
+    ensures none { HoldsNone result.1 }
+{
+    let vm = booted(rt, alloc, words, clones);
+    made(rt, board_of_machine(alloc, vm, depot))
+}
+
+/// The same of a machine.
+fn board_of_machine(alloc: Global, vm: Vm, depot: &Depot) -> Result<(Board, Pass), AllocError>
+    requires no_ticket { (port_of vm.machine).tickets ≡ [] }
+    requires no_image { vm.key ≡ None }
+    ensures depot { IfOk result (λ made. depot_of made.0.opening ≡ depot.now) }
+    ensures pass { IfOk result (λ made. made.1 ≡ record { board = made.0; number = []; splits = 0; seen = []; mine = [] }) }
+    ensures none { IfOk result (λ made. HoldsNone made.1) }
+{
+    let first = Snapshot::of(&vm);
+    let world = World::new(alloc, vm, depot)?;
+    Board::new(alloc, world, first, depot)
+}
+
+/// Lets a worker for each wire run the family of a board, of which nobody holds a machine.
+fn run_family<R: AllocGlobal + Threads + Wait + Sync, W: Wire + Send, G: Gate + Sync>(
+    rt: &R,
+    board: &Board,
+    pass: Pass,
+    depot: &Depot,
+    wires: &mut [W],
+    gate: &G,
+    slice: u32,
+    ahead: u32,
+) -> (Pass, Finish)
+    requires board { pass.board ≡ board.now }
+    requires depot { depot_of board.now.opening ≡ depot.now }
+    requires none { HoldsNone pass }
+    requires wires { (1 ≤ length wires.old) × (length wires.old ≤ MAX_WORKERS) }
+    requires ahead { ahead ≤ 16 }
+    requires parts { length pass.number < 3 }
+    requires splits { pass.splits ≡ 0 }
+    ensures { result.0.board ≡ board.now }
+{
+    run_hosts(rt, board, pass, depot, wires, gate, slice, ahead)
+}
+
+/// Ends a board. The outcome of its family, once its root has ended.
+fn finished<R: Wait>(rt: &R, board: Board, pass: Pass) -> Option<Outcome>
+    requires { pass.board ≡ board }
+{
+    board.close(rt, pass).into_finished()
+}
+
+/// Lets a worker for each wire run the family of the machine of these words, in a depot of its own.
+pub fn end_over<R: AllocGlobal + Threads + Wait + Abort + Sync, W: Wire + Send, G: Gate + Sync>(
+    rt: &R,
+    words: &[u32],
+    clones: u32,
+    wires: &mut [W],
+    gate: &G,
+    slice: u32,
+) -> Ended
+    requires words { length words.now ≤ 64 }
+    requires clones { clones ≤ 4096 }
+    requires wires { (1 ≤ length wires.old) × (length wires.old ≤ MAX_WORKERS) }
+{
+    let depot = made(rt, Depot::new(rt.alloc()));
+    let (board, pass) = board_of(rt, rt.alloc(), words, clones, &depot);
+    let (pass, finish) = run_family(rt, &board, pass, &depot, wires, gate, slice, AHEAD);
+    Ended {
+        finish,
+        outcome: finished(rt, board, pass),
+    }
+}
+
+/// So many wires, each of a seed of its own.
+fn seeded(alloc: Global, count: u32) -> Result<Vec<Seeded>, AllocError>
+    ensures { IfOk result (λ wires. length wires.items ≡ count) }
+{
+    let mut wires = Vec::new(alloc);
+    for number in 0..count {
+        let mut wire = Seeded::new();
+        wire.seed(number);
+        wires.push(wire)?;
+    }
+    Ok(wires)
+}
+
+/// Lets so many workers run the family of the machine of these words.
+pub fn end_by<R: AllocGlobal + Threads + Wait + Abort + Sync>(
+    rt: &R,
+    words: &[u32],
+    clones: u32,
+    workers: u32,
+    slice: u32,
+) -> Ended
+    requires words { length words.now ≤ 64 }
+    requires clones { clones ≤ 4096 }
+    requires workers { (1 ≤ workers) × (workers ≤ MAX_WORKERS) }
+{
+    let mut wires = made(rt, seeded(rt.alloc(), workers));
+    end_over(rt, words, clones, &mut wires, &OpenGate, slice)
+}
+
+/// Whether two children come to no end, whose board is stopped first.
+pub fn is_stopped<R: AllocGlobal + Threads + Wait + Abort + Sync>(rt: &R) -> bool {
+    let depot = made(rt, Depot::new(rt.alloc()));
+    let (board, pass) = board_of(rt, rt.alloc(), &TWO_CHILDREN, 2, &depot);
+    let pass = board.stop(rt, pass, Reason::Wire);
+    let mut wires = [Seeded::new(), Seeded::new()];
+    let (pass, finish) = run_family(rt, &board, pass, &depot, &mut wires, &OpenGate, 1, AHEAD);
+    let lives = finished(rt, board, pass).is_none();
+    lives && matches!(finish, Finish::Stopped(Reason::Wire))
+}
+
+/// The same of a board that nobody comes to, of which passes are split and joined.
+pub fn is_left<R: Abort + Wait>(rt: &R, alloc: Global) -> bool {
+    let depot = made(rt, Depot::new(alloc));
+    let (board, pass) = board_of(rt, alloc, &TWO_CHILDREN, 2, &depot);
+    let pass = split_and_joined(&board, pass);
+    finished(rt, board, pass).is_none()
+}
+
+/// Splits a pass, and each of the two again, and joins them all.
+fn split_and_joined(board: &Board, pass: Pass) -> Pass
+    requires board { pass.board ≡ board.now }
+    requires none { HoldsNone pass }
+    requires new { (pass.number ≡ []) × (pass.splits ≡ 0) }
+    ensures { result.board ≡ board.now }
+{
+    let (pass, second) = board.split(pass);
+    let (pass, third) = board.split(pass);
+    let (second, fourth) = board.split(second);
+    board.join_pass(
+        board.join_pass(pass, third),
+        board.join_pass(second, fourth),
+    )
+}
+
+/// The numbers of the image and of the page of a reply that was heard.
+fn numbers_of(heard: Option<Sent>) -> Option<(u32, u32)> {
+    match heard {
+        Some(sent) => Some((sent.image(), sent.page())),
+        None => None,
+    }
+}
+
+/// The numbers of the image and of the page of the reply at a place, where a board has been told one.
+fn numbers_at<R: Abort + Wait>(
+    rt: &R,
+    board: &Board,
+    pass: Pass,
+    place: usize,
+) -> (Pass, Option<(u32, u32)>)
+    requires { pass.board ≡ board.now }
+    ensures { result.0.board ≡ board.now }
+{
+    let (pass, heard) = board.hear(rt, pass, place);
+    (pass, numbers_of(made(rt, heard)))
+}
+
+/// The same of the first two replies, after a worker has run the family of a board.
+fn heard_after<R: AllocGlobal + Threads + Wait + Abort + Sync>(
+    rt: &R,
+    board: &Board,
+    pass: Pass,
+    depot: &Depot,
+) -> [Option<(u32, u32)>; 2]
+    requires board { pass.board ≡ board.now }
+    requires depot { depot_of board.now.opening ≡ depot.now }
+    requires none { HoldsNone pass }
+    requires parts { length pass.number < 3 }
+    requires splits { pass.splits ≡ 0 }
+{
+    let mut wires = [Seeded::new()];
+    let (pass, _) = run_family(rt, board, pass, depot, &mut wires, &OpenGate, 1000, 0);
+    let (pass, told) = numbers_at(rt, board, pass, 0);
+    let (_, beyond) = numbers_at(rt, board, pass, 1);
+    [told, beyond]
+}
+
+/// The same of the first reply before a worker runs the family of one child, and of the first two after.
+pub fn heard_of<R: AllocGlobal + Threads + Wait + Abort + Sync>(rt: &R) -> [Option<(u32, u32)>; 3] {
+    let depot = made(rt, Depot::new(rt.alloc()));
+    let (board, pass) = board_of(rt, rt.alloc(), &TWO_CHILDREN, 1, &depot);
+    let (pass, other) = board.split(pass);
+    let (pass, before) = numbers_at(rt, &board, pass, 0);
+    let [told, beyond] = heard_after(rt, &board, other, &depot);
+    let _ = finished(rt, board, pass);
+    [before, told, beyond]
+}

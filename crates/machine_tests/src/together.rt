@@ -1,0 +1,60 @@
+//! Several workers are at work at once, and several wires.
+
+ghost use Rattle.std.specs.Prelude.{◌≡◌, length};
+
+use crate::equal::{are_equal, made};
+use crate::families::{Ended, end_over};
+use crate::guests::TWO_CHILDREN;
+use crate::meeting::{Meeting, MeetingWire};
+use crate::texts;
+use crate::workers::ends_with;
+use host_workers::{Finish, OpenGate};
+use std::alloc::Global;
+use std::process::Abort;
+use std::sync::Wait;
+use std::thread::Threads;
+use wire_fates::{Fate, Scripted, Seeded};
+use world_core::Reason;
+
+/// The root has ended, and the report is that of its family.
+fn is_whole(rt: &impl Abort, alloc: Global, ended: &Ended) {
+    are_equal(rt, &matches!(ended.finish, Finish::Over), &true);
+    ends_with(rt, alloc, ended, texts::TWO_CHILDREN);
+}
+
+#[test]
+fn two_workers_run_at_once(rt: HostRuntime) {
+    let meeting = Meeting::new();
+    let mut wires = [Seeded::new(), Seeded::new()];
+    let ended = end_over(&rt, &TWO_CHILDREN, 2, &mut wires, &meeting, 1000);
+    are_equal(&rt, &meeting.was_held(), &true);
+    is_whole(&rt, rt.alloc(), &ended);
+}
+
+#[test]
+fn two_wires_are_asked_at_once(rt: HostRuntime) {
+    let meeting = Meeting::new();
+    let mut wires = [MeetingWire::new(&meeting, 0), MeetingWire::new(&meeting, 1)];
+    let ended = end_over(&rt, &TWO_CHILDREN, 2, &mut wires, &OpenGate, 1000);
+    are_equal(&rt, &meeting.was_held(), &true);
+    is_whole(&rt, rt.alloc(), &ended);
+}
+
+/// A wire that loses 64 replies.
+fn losing(rt: &impl Abort, alloc: Global) -> Scripted {
+    Scripted::new(made(rt, vec![in alloc; Fate::Lose(0); 64]))
+}
+
+#[test]
+fn lost_wires_stop_the_world(rt: HostRuntime) {
+    let mut wires = [losing(&rt, rt.alloc()), losing(&rt, rt.alloc())];
+    stop_the_world(&rt, &mut wires);
+}
+
+fn stop_the_world<R: AllocGlobal + Threads + Wait + Abort + Sync>(rt: &R, wires: &mut [Scripted])
+    requires { length wires.old ≡ 2 }
+{
+    let ended = end_over(rt, &TWO_CHILDREN, 2, wires, &OpenGate, 1000);
+    let is_stopped = matches!(ended.finish, Finish::Stopped(Reason::Wire));
+    are_equal(rt, &[is_stopped, ended.outcome.is_none()], &[true; 2]);
+}
