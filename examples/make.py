@@ -63,6 +63,11 @@ def write(file, words):
 
 
 def main(arguments):
+    if arguments == ["--help"]:
+        print(__doc__)
+        return
+    if len(arguments) == 1 or arguments and arguments[0].startswith("-"):
+        sys.exit("make.py: an image wants a name and its words; examples/make.py --help tells more")
     if arguments:
         write(arguments[0], arguments[1:])
         return

@@ -16,7 +16,7 @@ _start:
     .option pop
     la      sp, __stack_top
     la      tp, __tls_base
-    la      t0, snow_trap
+    la      t0, snow_trap_entry
     csrw    mtvec, t0
     la      s0, __init_array_start      # what runs before main
     la      s1, __init_array_end
@@ -39,16 +39,24 @@ _exit:
     li      t1, EXIT
     sw      t1, 8(t0)
 
-# The default trap handler, for a guest that has no function of this name. It puts out cause, pc and value
-# and ends the machine with 900000 and the cause, or 32 more for an interrupt. It uses no stack, since that
-# may be what is wrong.
-
-    .section .text.snow_trap, "ax"
-    .weak   snow_trap
+# A trap goes to the guest's snow_trap, if it has one, but where the stack has overflowed. That lies first in
+# RAM, so its pointer is then below RAM, and a handler in C would trap for ever.
+    .globl  snow_trap_entry
     .balign 4
-snow_trap:
+snow_trap_entry:
+    bgez    sp, tell_trap
+    j       snow_trap
+
+# The default trap handler. It puts out cause, pc and value and ends the machine with 900000 and the cause,
+# or 32 more for an interrupt. It uses no stack.
+    .weak   snow_trap
+    .set    snow_trap, tell_trap
+tell_trap:
     li      t0, CONSOLE
     la      t1, trap_text
+    bltz    sp, 0f
+    la      t1, overflow_text
+0:
     csrr    a0, mcause
     csrr    a1, mepc
     csrr    a2, mtval
@@ -81,6 +89,8 @@ snow_trap:
     add     a0, a0, t1
     j       _exit
 
-    .section .rodata.snow_trap, "a"
+    .section .rodata.tell_trap, "a"
+overflow_text:
+    .ascii  "stack overflow, "
 trap_text:
     .asciz  "trap: cause \1 pc \1 value \1\n"

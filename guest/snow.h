@@ -36,8 +36,8 @@ enum {
     SNOW_ZERO = 6
 };
 
-/* The refusals, which the calls below return in the place of their results. A refusal changes nothing but
- * `result`. snow_refused tells whether a result is one. */
+/* The refusals, which the calls below return in the place of their results, but for snow_clone. A refusal
+ * changes nothing but `result`. snow_refused tells whether a result is one. */
 #define SNOW_NO_TICKET 0xFFFFFFFFu    /* there is no such ticket: never granted, or joined, or killed */
 #define SNOW_CLONED 0xFFFFFFFEu       /* the ticket's children were made already */
 #define SNOW_NOT_CLONED 0xFFFFFFFDu   /* the ticket's children were not made yet */
@@ -48,6 +48,12 @@ enum {
 static inline int snow_refused(uint32_t result)
 {
     return result >= SNOW_NO_COMMAND;
+}
+
+/* Returns what became of the last command: its result, or why it was refused. */
+static inline uint32_t snow_result(void)
+{
+    return SNOW_FORK_PORT->result;
 }
 
 /* How a child ended, as snow_kind tells. */
@@ -90,13 +96,17 @@ static inline uint32_t snow_granted(void)
 
 /* Makes the children of a ticket. Each is a copy of this machine: its memory, its disk, its place in the
  * input, its timer and its count of steps; but it has no output, no ticket and nothing joined. From then on
- * they share nothing. Returns 0 in this machine, and in child k the number k. A refusal, SNOW_NO_TICKET or
- * SNOW_CLONED, is neither: a guest whose ticket may be refused asks snow_refused before. */
+ * they share nothing. Returns 0 in this machine, and in child k the number k. Where it is refused, since
+ * the ticket was refused, joined or killed (SNOW_NO_TICKET) or its children were made already (SNOW_CLONED),
+ * there are no children, and it returns 0, too: only a child goes a child's way. snow_result tells why. */
 static inline uint32_t snow_clone(uint32_t ticket)
 {
+    uint32_t result;
+
     SNOW_FORK_PORT->arg0 = ticket;
     SNOW_FORK_PORT->command = SNOW_CLONE;
-    return SNOW_FORK_PORT->result;
+    result = SNOW_FORK_PORT->result;
+    return snow_refused(result) ? 0 : result;
 }
 
 /* Waits until all children of a ticket have ended. Then snow_kind and snow_value tell how, until the next
@@ -162,7 +172,8 @@ static inline uint32_t snow_zero(uint32_t page, uint32_t pages)
  *     __attribute__((interrupt)) void snow_trap(void) { .. }
  *
  * which goes back to where the trap came, or by snow_set_trap. A trap that came while interrupts were on
- * turns them off until the handler returns. */
+ * turns them off until the handler returns. Where the stack has overflowed the default handler tells that,
+ * with `stack overflow` before, in place of snow_trap. */
 #define SNOW_TRAPPED 900000u
 #define SNOW_TRAPPED_BY_TIMER (SNOW_TRAPPED + 32 + 7)
 
@@ -187,7 +198,7 @@ enum {
 }))
 #define SNOW_WRITE_CSR(name, value) __asm__ volatile("csrw " #name ", %0" :: "rK"(value) : "memory")
 
-/* Sends traps to a handler from now on. */
+/* Sends traps to a handler from now on, also where the stack has overflowed. */
 static inline void snow_set_trap(void (*handler)(void))
 {
     SNOW_WRITE_CSR(mtvec, handler);
@@ -279,6 +290,13 @@ static inline void snow_print_number(uint32_t number)
     while (number /= 10);
     while (count)
         snow_put(digits[--count]);
+}
+
+/* Puts out a number in hexadecimal, eight digits. */
+static inline void snow_print_hex(uint32_t number)
+{
+    for (int place = 28; place >= 0; place -= 4)
+        snow_put("0123456789abcdef"[number >> place & 15]);
 }
 
 /* ---- The disk, by the block port at 0x10001000 ---- */

@@ -1,6 +1,7 @@
-/* Lays a guest out in RAM, of snow_pages pages: code and constants, then data from a page of its own on, so
-   that what a child writes is apart from the code that it goes on sharing; then the heap, and at the end the
-   stack, of snow_stack bytes. No segment has the headers of the file in it, which would lie outside RAM. */
+/* Lays a guest out in RAM, of snow_pages pages: the stack first, of snow_stack bytes, so that one that overflows
+   leaves RAM and traps; then code and constants, then data from a page of its own on, so that what a child
+   writes is apart from the code that it goes on sharing; and then the heap. No segment has the headers of the
+   file in it, which would lie outside RAM. */
 
 ENTRY(_start)
 
@@ -18,7 +19,9 @@ PHDRS
 
 SECTIONS
 {
-    .text :
+    __stack_top = ORIGIN(ram) + ALIGN(DEFINED(snow_stack) ? snow_stack : 0x4000, 4096);
+
+    .text __stack_top :
     {
         KEEP(*(.text.start))
         *(.text .text.*)
@@ -56,8 +59,7 @@ SECTIONS
     } >ram :data
 
     __heap_start = .;
-    __stack_top = ORIGIN(ram) + LENGTH(ram);
-    __heap_end = __stack_top - (DEFINED(snow_stack) ? snow_stack : 0x4000);
+    __heap_end = ORIGIN(ram) + LENGTH(ram);
     ASSERT(__heap_start <= __heap_end, "the guest and its stack do not fit in its pages of RAM (--pages)")
 
     /DISCARD/ : { *(.comment .note.* .eh_frame .riscv.attributes) }

@@ -29,6 +29,8 @@ mod fork;
 #[cfg(test)]
 mod guests;
 #[cfg(test)]
+mod protection;
+#[cfg(test)]
 mod rows;
 #[cfg(test)]
 mod sizes;

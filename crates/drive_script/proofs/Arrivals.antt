@@ -9,7 +9,7 @@ use Rattle.forest_history.specs.Places.{at_path}
 use Rattle.forest_history.proofs.Changes.{at_path-elsewhere, at_path-leaves, at_path-within}
 use Rattle.forest_history.proofs.Ends.{at_path-map}
 use Rattle.forest_model.specs.Paged.{Paged}
-use Rattle.run_report.proofs.Below.{beyond-is}
+use Rattle.machine_names.proofs.Below.{beyond-is}
 use Rattle.drive_script.specs.Replies.{tree_with, with_arrival}
 use Rattle.drive_script.specs.Told.{whole}
 use Rattle.drive_script.proofs.OneMachine.{apart-by, beyond-itself, log-by, machine-by}

@@ -22,7 +22,7 @@ use Rattle.forest_model.specs.Paged.{Paged, paged_machines, stalled_at}
 use Rattle.forest_model.proofs.Calls.{values-joined}
 use Rattle.forest_model.proofs.Paged.{paged-projects, paged-rules}
 use Rattle.forest_model.proofs.Rules.{machines-rules}
-use Rattle.run_report.proofs.Below.{beyond-append}
+use Rattle.machine_names.proofs.Below.{beyond-append}
 use Rattle.drive_script.specs.Script as script
 use Rattle.drive_script.specs.declared.answer.Answer.TheVariants.{Ran}
 use Rattle.drive_script.specs.declared.answer.Why.TheVariants.{MayGoOn}

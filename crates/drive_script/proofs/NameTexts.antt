@@ -6,7 +6,7 @@ use Rattle.std.specs.Str.{IsAscii, IsUtf8}
 use Rattle.std.proofs.lemmas.Fmt.{IsAscii-from_digits, digits_decimal}
 use Rattle.std.proofs.lemmas.Str.{IsAscii-append, IsUtf8-from_ascii}
 use Rattle.forest_tree.specs.Tree.{Path}
-use Rattle.run_report.specs.Name.{branch_text}
+use Rattle.machine_names.specs.Name.{branch_text}
 use Rattle.drive_script.specs.NameTexts.{IsNameText, path_of, path_or_root}
 use Rattle.drive_script.specs.Script.{name_of}
 use Rattle.drive_script.specs.Written.{AreForks}

@@ -2,7 +2,7 @@
 use Rattle.std.proofs.Common.{◌≡◌, Bool, true, false, not, codes, if◌then◌else◌, ℕ, ◌+◌, List, [], ◌∷◌, ◌++◌, length, Option, Some, None, option_map, arith, refl, sym, ap, ◌∙◌, append_assoc, append-nil}
 use Rattle.forest_tree.specs.Tree.{Path}
 use Rattle.std.specs.Str.{bytes_eq}
-use Rattle.run_report.specs.Name.{child_path}
+use Rattle.machine_names.specs.Name.{child_path}
 use Rattle.drive_script.specs.Script.{fork_before, forks_of, name_by, name_of, parts, parts_beyond}
 
 -- the forks behind a path, with it before them

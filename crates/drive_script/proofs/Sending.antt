@@ -7,9 +7,9 @@ use Rattle.forest_tree.specs.Tree.{Path}
 use Rattle.forest_tree.proofs.Places.{some-same}
 use Rattle.forest_history.specs.Histories.{is_same_path}
 use Rattle.forest_history.proofs.Held.{same-self, same-is}
-use Rattle.run_report.specs.Name.{child_path}
-use Rattle.run_report.specs.NameOrder.{path_cmp}
-use Rattle.run_report.proofs.NameMaps.{updated-apart, updated-here}
+use Rattle.machine_names.specs.Name.{child_path}
+use Rattle.machine_names.specs.NameOrder.{path_cmp}
+use Rattle.machine_names.proofs.NameMaps.{updated-apart, updated-here}
 use Rattle.drive_script.specs.declared.answer.Sent.{Sent}
 use Rattle.drive_script.specs.Driven.{Keeps, first_of, pages_in}
 use Rattle.drive_script.specs.Replies.{Siblings, Replies, are_same, page_at, place_of, reply_to, siblings_below, siblings_of, with_reply}

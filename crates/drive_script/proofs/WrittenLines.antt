@@ -9,7 +9,7 @@ use Rattle.std.specs.Fmt.{decimal}
 use Rattle.std.specs.List.{All, flat_map, join_with_byte, list_all}
 use Rattle.std.specs.Str.{bytes_eq}
 use Rattle.forest_tree.specs.Tree.{Branch, Path}
-use Rattle.run_report.specs.Name.{branch_text, name_text}
+use Rattle.machine_names.specs.Name.{branch_text, name_text}
 use Rattle.drive_script.specs.declared.line.Word.{Word}
 use Rattle.drive_script.specs.declared.line.Word.TheVariants.{Step, Ask, Push, Give, Peek, Regs}
 use Rattle.drive_script.specs.declared.error.TheConstants.{BAD_ADDRESS, BAD_NUMBER}

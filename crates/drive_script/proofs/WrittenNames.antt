@@ -14,7 +14,7 @@ use Rattle.std.specs.List.{All, flat_map, join_with_byte}
 use Rattle.std.specs.Str.{bytes_eq}
 use Rattle.std.specs.Str.Parse.{digits_value}
 use Rattle.forest_tree.specs.Tree.{Path}
-use Rattle.run_report.specs.Name.{branch_text, name_text}
+use Rattle.machine_names.specs.Name.{branch_text, name_text}
 use Rattle.drive_script.specs.Script.{fork_before, forks_of, has_leading_zero, is_decimal, name_by, name_of, number_from, number_of, number_within, parts}
 use Rattle.drive_script.specs.Written.{AreForks}
 use Rattle.drive_script.proofs.Numbers.{digits, decimal-digits, decimal-long}

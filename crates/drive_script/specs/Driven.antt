@@ -9,8 +9,8 @@ use Rattle.forest_tree.specs.Settle.{settle_all}
 use Rattle.forest_history.specs.Places.{bare}
 use Rattle.forest_history.specs.World.{IsWhole}
 use Rattle.forest_model.specs.Paged.{Paged, paged_machines}
-use Rattle.run_report.specs.Name.{child_path}
-use Rattle.run_report.specs.NameOrder.{path_cmp}
+use Rattle.machine_names.specs.Name.{child_path}
+use Rattle.machine_names.specs.NameOrder.{path_cmp}
 use Rattle.world_core.specs.declared.world.World.{World}
 use Rattle.world_core.specs.World.{Forest, StandsFor}
 use Rattle.drive_script.specs.declared.answer.Answer.{Answer}

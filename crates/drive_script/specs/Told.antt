@@ -10,7 +10,7 @@ use Rattle.forest_tree.specs.Projection.{map_tree}
 use Rattle.forest_model.specs.Machine.{Machine}
 use Rattle.forest_model.specs.Paged.{Paged, paged_machines, stalled_at}
 use Rattle.run_report.specs.Lines.{ending_text}
-use Rattle.run_report.specs.Name.{name_text}
+use Rattle.machine_names.specs.Name.{name_text}
 use Rattle.vm_cell.specs.Shown.{peeked, shown_registers}
 use Rattle.drive_script.specs.Script.{Line, step, ask, push, give, peek, regs}
 use Rattle.drive_script.specs.declared.answer.Answer.{Answer}

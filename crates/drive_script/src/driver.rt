@@ -4,6 +4,7 @@ ghost use Rattle.std.specs.Prelude.{◌≡◌, nat_lt, if◌then◌else◌, Some
 ghost use Rattle.image_depot.specs.Key.{Shelves};
 ghost use Rattle.forest_tree.specs.Tree.{Tree};
 ghost use Rattle.forest_model.specs.Paged.{Paged};
+ghost use Rattle.world_core.specs.Told.{told_of};
 ghost use Rattle.world_core.specs.World.{reason_of};
 ghost use Rattle.drive_script.specs.Driven.{Drives, DrivesLine, HasMachines, IsNameIn, Keeps};
 ghost use Rattle.drive_script.specs.Lines.{line_read};
@@ -18,7 +19,7 @@ use crate::script::Script;
 use crate::turn::{Turn, bring, give_back, take_turn};
 use fork_port::Ending;
 use image_depot::Depot;
-use run_report::Name;
+use machine_names::Name;
 use std::alloc::{AllocError, Global};
 use std::fmt::Write;
 use std::sync::Wait;
@@ -26,7 +27,8 @@ use world_core::World;
 
 /// Does what the lines of a script say, one after another, and gives the text that they write. No machine is
 /// on lease, before and after. Where memory is wanting the lines before that are done, and of the line at which
-/// it was wanting the steps that were made, or the page that came. The world's reason to stop stays.
+/// it was wanting the steps that were made, or the page that came. The world's reason to stop stays, and
+/// so do the replies that it was told.
 pub fn drive<R: Wait>(
     rt: &R,
     alloc: Global,
@@ -37,6 +39,7 @@ pub fn drive<R: Wait>(
     requires { (t : Tree Paged) × HasMachines depot.now world.old t }
     ensures drives { (t : Tree Paged) → HasMachines depot.now world.old t → Drives depot.now script.now t result world.new }
     ensures reason { reason_of world.new ≡ reason_of world.old }
+    ensures told { told_of world.new ≡ told_of world.old }
 {
     let mut text = String::new(alloc);
     let mut replies = Replies::new(alloc);
@@ -63,6 +66,7 @@ fn answer_line<R: Wait>(
     ensures keeps { (s : Driven) → HasMachines depot.now world.old s.tree → Keeps replies.old.lists s.sent
         → IfOk result (λ answer. Keeps replies.new.lists (after_line (line_read line.now) s).sent) }
     ensures reason { reason_of world.new ≡ reason_of world.old }
+    ensures told { told_of world.new ≡ told_of world.old }
 {
     let Some(name) = name_for(alloc, world, line.name())? else {
         return Ok(not_answered(line));
@@ -111,6 +115,7 @@ fn step<R: Wait>(
     requires { (t : Tree Paged) × HasMachines depot.now world.old t }
     ensures drives { (s : Driven) → HasMachines depot.now world.old s.tree → DrivesLine depot.now (step name.now most) s result world.new }
     ensures reason { reason_of world.new ≡ reason_of world.old }
+    ensures told { told_of world.new ≡ told_of world.old }
 {
     let mut made = 0;
     loop {
@@ -147,6 +152,7 @@ fn ask(
     ensures keeps { (s : Driven) → HasMachines depot.now world.old s.tree → Keeps replies.old.lists s.sent
         → IfOk result (λ answer. Keeps replies.new.lists (after_line (ask name.now) s).sent) }
     ensures reason { reason_of world.new ≡ reason_of world.old }
+    ensures told { told_of world.new ≡ told_of world.old }
 {
     let Some(lease) = world.take_named(alloc, name, depot)? else {
         return Ok(Answer::Ask(None));
@@ -170,6 +176,7 @@ fn push(
     ensures keeps { (s : Driven) → HasMachines depot.now world.old s.tree → Keeps replies.old.lists s.sent
         → IfOk result (λ answer. Keeps replies.new.lists (after_line (push name.now page) s).sent) }
     ensures reason { reason_of world.new ≡ reason_of world.old }
+    ensures told { told_of world.new ≡ told_of world.old }
 {
     let Some(lease) = world.take_named(alloc, name, depot)? else {
         return Ok(Answer::Push(None));
@@ -198,6 +205,7 @@ fn give(
     requires { (t : Tree Paged) × HasMachines depot.now world.old t }
     ensures drives { (s : Driven) → HasMachines depot.now world.old s.tree → Keeps replies.now.lists s.sent → DrivesLine depot.now (give name.now place) s result world.new }
     ensures reason { reason_of world.new ≡ reason_of world.old }
+    ensures told { told_of world.new ≡ told_of world.old }
 {
     let Some(page) = replies.page_at(alloc, name, place)? else {
         return Ok(Answer::Give(None));
@@ -221,6 +229,7 @@ fn peek(
     requires { (t : Tree Paged) × HasMachines depot.now world.old t }
     ensures drives { (s : Driven) → HasMachines depot.now world.old s.tree → DrivesLine depot.now (peek name.now address) s result world.new }
     ensures reason { reason_of world.new ≡ reason_of world.old }
+    ensures told { told_of world.new ≡ told_of world.old }
 {
     let Some(lease) = world.take_named(alloc, name, depot)? else {
         return Ok(Answer::NoMachine);
@@ -235,6 +244,7 @@ fn regs(alloc: Global, world: &mut World, name: &Name, depot: &Depot) -> Result<
     requires { (t : Tree Paged) × HasMachines depot.now world.old t }
     ensures drives { (s : Driven) → HasMachines depot.now world.old s.tree → DrivesLine depot.now (regs name.now) s result world.new }
     ensures reason { reason_of world.new ≡ reason_of world.old }
+    ensures told { told_of world.new ≡ told_of world.old }
 {
     let Some(lease) = world.take_named(alloc, name, depot)? else {
         return Ok(Answer::NoMachine);

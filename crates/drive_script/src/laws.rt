@@ -10,7 +10,7 @@ ghost use Rattle.forest_tree.specs.Sound.{IsSound};
 ghost use Rattle.forest_model.specs.Machine.{Machine};
 ghost use Rattle.forest_model.specs.Forest.{finish, machines, port_of};
 ghost use Rattle.forest_model.specs.Paged.{Paged, paged_machines, stalled_at};
-ghost use Rattle.run_report.specs.Name.{name_text};
+ghost use Rattle.machine_names.specs.Name.{name_text};
 ghost use Rattle.drive_script.specs.Script.{Line, address_of, ask, give, line_of, name_of, number_within, push, script, step};
 ghost use Rattle.drive_script.specs.declared.answer.Answer.TheVariants.{Ran};
 ghost use Rattle.drive_script.specs.declared.answer.Why.TheVariants.{MayGoOn};

@@ -1,11 +1,11 @@
 //! The names of machines in a script.
 
 ghost use Rattle.std.specs.Prelude.{◌≡◌, length, IfOk, Some, option_map};
-ghost use Rattle.run_report.specs.Name.{name_text};
+ghost use Rattle.machine_names.specs.Name.{name_text};
 ghost use Rattle.drive_script.specs.Script.{name_of};
 
 use crate::fields::{DOT, cut, fork_of};
-use run_report::{Branch, Name};
+use machine_names::{Branch, Name};
 use std::alloc::{AllocError, Global};
 use std::marker::Model;
 use std::{fmt, str};

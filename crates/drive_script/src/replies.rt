@@ -3,13 +3,13 @@
 ghost use Rattle.std.specs.Prelude.{◌≡◌, ◌≢◌, ◌++◌, ◌∷◌, [], length, IfOk, OnOk, option_map};
 ghost use Rattle.std.specs.BTreeMap.{get};
 ghost use Rattle.forest_tree.specs.Tree.{Path};
-ghost use Rattle.run_report.specs.NameOrder.{path_cmp};
+ghost use Rattle.machine_names.specs.NameOrder.{path_cmp};
 ghost use Rattle.drive_script.specs.Driven.{Keeps, first_of, pages_in};
 ghost use Rattle.drive_script.specs.Replies as kept;
 ghost use Rattle.drive_script.specs.Replies.{none_sent, page_at, place_of, reply_to, siblings_of, with_reply};
 
 use crate::answer::Sent;
-use run_report::Name;
+use machine_names::Name;
 use std::alloc::{AllocError, Global};
 use std::collections::BTreeMap;
 

@@ -7,6 +7,7 @@ ghost use Rattle.forest_model.specs.Paged.{Paged, paged_machines, stalled_at};
 ghost use Rattle.vm_cell.specs.Keyed.{IsOfDepot};
 ghost use Rattle.vm_cell.specs.Standing.{standing_call};
 ghost use Rattle.world_core.specs.Lent.{vm_of, now_of};
+ghost use Rattle.world_core.specs.Told.{told_of};
 ghost use Rattle.world_core.specs.World.{Forest, StandsFor, reason_of};
 ghost use Rattle.world_core.specs.declared.world.World.{World};
 ghost use Rattle.world_core.specs.Answers.{IsHandedOut, IsLentOf};
@@ -17,7 +18,7 @@ ghost use Rattle.drive_script.specs.Turned.{AnswersCall, Brings, HasBack, HasRun
 use crate::answer::Why;
 use fork_port::Call;
 use image_depot::Depot;
-use run_report::Name;
+use machine_names::Name;
 use std::alloc::{AllocError, Global};
 use std::sync::Wait;
 use vm_cell::Arrived;
@@ -46,6 +47,7 @@ pub(crate) fn take_turn<R: Wait>(
     requires { (t : Tree Paged) × HasMachines depot.now world.old t }
     ensures turns { (t : Tree Paged) → HasMachines depot.now world.old t → Turns depot.now name.now most t result world.new }
     ensures reason { reason_of world.new ≡ reason_of world.old }
+    ensures told { told_of world.new ≡ told_of world.old }
 {
     match world.take_named(alloc, name, depot)? {
         Some(lease) => run_turn(rt, alloc, world, lease, most, depot),
@@ -67,6 +69,7 @@ fn run_turn<R: Wait>(
     requires new { lease.ran ≡ 0 }
     ensures turns { (t : Tree Paged) → HasLent depot.now world.old t lease → Turns depot.now lease.name most t result world.new }
     ensures reason { reason_of world.new ≡ reason_of world.old }
+    ensures told { told_of world.new ≡ told_of world.old }
 {
     let Ok(ran) = lease.run(most) else {
         give_back(world, lease);
@@ -136,6 +139,7 @@ pub(crate) fn give_back(world: &mut World, lease: Lease)
     requires { (depot : Shelves) × (t : Tree Paged) × HasLent depot world.old t lease }
     ensures back { (depot : Shelves) (t : Tree Paged) → HasLent depot world.old t lease → HasBack depot world.new t lease }
     ensures reason { reason_of world.new ≡ reason_of world.old }
+    ensures told { told_of world.new ≡ told_of world.old }
 {
     match world.give(lease) {
         Placed::Done | Placed::Parked | Placed::Dropped => {}
@@ -157,6 +161,7 @@ fn make_call<R: Wait>(
     ensures made { (t : Tree Paged) → HasLent depot.now world.old t lease
         → MatchResult result (λ _. HasRun depot.now lease.name (lease.ran + 1) t world.new) (λ _. HasBack depot.now world.new t lease) }
     ensures reason { reason_of world.new ≡ reason_of world.old }
+    ensures told { told_of world.new ≡ told_of world.old }
 {
     match try_call(rt, alloc, world, lease, depot) {
         Placed::Done => Ok(()),
@@ -178,7 +183,8 @@ fn try_call<R: Wait>(
 ) -> Placed
     requires lent { (t : Tree Paged) × HasLent depot.now world.old t lease }
     requires call { IsSome (standing_call (vm_of lease)) }
-    ensures { (f : Forest) → StandsFor depot.now world.old f → IsHandedOut f lease → IsLentOf depot.now lease → AnswersCall depot.now f lease result world.new }
+    ensures answers { (f : Forest) → StandsFor depot.now world.old f → IsHandedOut f lease → IsLentOf depot.now lease → AnswersCall depot.now f lease result world.new }
+    ensures told { told_of world.new ≡ told_of world.old }
 {
     match lease.call() {
         Some(Call::Clone(_)) => world.fork(rt, alloc, lease, depot),

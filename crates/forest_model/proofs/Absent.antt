@@ -2,7 +2,9 @@
 use Rattle.std.proofs.Common.{◌≡◌, ℕ, zero, suc, ◌+◌, ◌≤◌, Bool, true, false, cond, List, [], ◌∷◌, ◌++◌, take, drop, replicate, set, Option, Some, None, refl, sym, ap, ◌∙◌, subst, arith, suc-add, zero-add}
 use Rattle.std.specs.Prelude.{slice_get}
 use Rattle.std.proofs.lemmas.List.{drop-drop}
-use Rattle.forest_model.specs.Paged.{Change, no_change, puts, zeroes, Pages, Paged, absent_count, advanced, advanced_by, change, pages_after, pages_arrived, with_set}
+use Rattle.forest_model.specs.Footprint.{Change, no_change, puts, zeroes}
+use Rattle.forest_model.specs.Touch.{change}
+use Rattle.forest_model.specs.Paged.{Pages, Paged, absent_count, advanced, advanced_by, pages_after, pages_arrived, with_set}
 
 absent-append : (xs ys : List Bool) → absent_count (xs ++ ys) ≡ absent_count xs + absent_count ys
 unfolding absent_count

@@ -1,5 +1,5 @@
 -- What an access comes to: an access of RAM is aligned and lies in RAM, and the page that it needs is its own.
-use Rattle.std.proofs.Common.{◌≡◌, ℕ, ◌*◌, ◌<◌, Bool, true, false, List, length, Option, Some, None, refl, ap, ◌∙◌, arith}
+use Rattle.std.proofs.Common.{◌≡◌, ℕ, ◌*◌, ◌<◌, Bool, true, false, cond, List, length, Option, Some, None, refl, sym, ap, ◌∙◌, subst, arith}
 use Rattle.std.specs.Option.{IfSome}
 use Rattle.std.proofs.lemmas.Bool.Decides.{nat_tests}
 use Rattle.elf_load.specs.declared.image.TheConstants.{PAGE_SIZE}
@@ -7,10 +7,8 @@ use Rattle.rv_decode.specs.Instruction.{Instruction}
 use Rattle.rv_decode.specs.Table.{decoded}
 use Rattle.rv_traps.specs.Trap.{takes_interrupt}
 use Rattle.forest_model.specs.declared.access.Access.{Access}
-use Rattle.forest_model.specs.declared.access.Direction.{Direction}
-use Rattle.forest_model.specs.declared.access.Direction.TheVariants.{Fetch, Load, Store, Reserve, Conditional, Update}
 use Rattle.forest_model.specs.State.{State, is_in_ram, is_timer_due}
-use Rattle.forest_model.specs.Access.{Reached, faulted, of_ram, of_port, is_aligned_for, misaligned_cause, outside_ram, page_of, page_for, page_needed, reached_in, reached_by, reached, fetch_access}
+use Rattle.forest_model.specs.Access.{Reached, faulted, of_ram, of_port, uses, is_made, is_aligned_for, misaligned_cause, fault_cause, outside_ram, page_of, page_for, reached_in, reached_by, reached, fetch_access}
 use Rattle.forest_model.specs.Execute.{action, action_by, execute, decoded_action, fetched, fetch_action, coming_instruction, instruction_at, instruction_by}
 
 pub record IsOfRam (a : Access) (s : State) (page : Option ℕ) : Type 0 where
@@ -18,17 +16,13 @@ pub record IsOfRam (a : Access) (s : State) (page : Option ℕ) : Type 0 where
   pub in_ram : is_in_ram s.ram a.address ≡ true
   pub needs : page ≡ page_for a.direction (page_of a.address)
 
-not-outside : (direction : Direction) (page : Option ℕ) {R : Type 0} → outside_ram direction ≡ of_ram page → R
-not-outside Fetch page e = absurd (cc)
-not-outside Load page e = absurd (cc)
-not-outside Store page e = absurd (cc)
-not-outside Reserve page e = absurd (cc)
-not-outside (Conditional is_reserved) page e = absurd (cc)
-not-outside Update page e = absurd (cc)
+not-outside : (of_ports : Bool) (cause : ℕ) (page : Option ℕ) {R : Type 0} → cond of_ports of_port (faulted cause) ≡ of_ram page → R
+not-outside true cause page e = absurd (cc)
+not-outside false cause page e = absurd (cc)
 
 of_ram-in : (in_ram : Bool) (a : Access) (s : State) (page : Option ℕ) → is_in_ram s.ram a.address ≡ in_ram
     → is_aligned_for a.direction a.address a.width ≡ true → reached_in in_ram a ≡ of_ram page → IsOfRam a s page
-of_ram-in false a s page e aligned is = not-outside a.direction page is
+of_ram-in false a s page e aligned is = not-outside (uses a.direction).of_ports (fault_cause a.direction) page is
 of_ram-in true a s page e aligned is = record { aligned = aligned; in_ram = e; needs = cc }
 
 of_ram-by : (aligned : Bool) (a : Access) (s : State) (page : Option ℕ) → is_aligned_for a.direction a.address a.width ≡ aligned
@@ -61,36 +55,15 @@ module _ (a : Access) (s : State) where
 pub page_of-begins : (ram : List ℕ) (address : ℕ) → is_in_ram ram address ≡ true → PAGE_SIZE * page_of address < length ram
 page_of-begins ram address in_ram = grind (arith, nat_tests)
 
-begins-for : (direction : Direction) (ram : List ℕ) (address : ℕ) → is_in_ram ram address ≡ true
-    → IfSome (page_for direction (page_of address)) (λ page. PAGE_SIZE * page < length ram)
-begins-for Fetch ram address e = page_of-begins ram address e
-begins-for Load ram address e = page_of-begins ram address e
-begins-for Store ram address e = page_of-begins ram address e
-begins-for Reserve ram address e = page_of-begins ram address e
-begins-for (Conditional false) ram address e = tt
-begins-for (Conditional true) ram address e = page_of-begins ram address e
-begins-for Update ram address e = page_of-begins ram address e
+begins-if : (made : Bool) (ram : List ℕ) (address : ℕ) → is_in_ram ram address ≡ true
+    → IfSome (cond made (Some (page_of address)) None) (λ page. PAGE_SIZE * page < length ram)
+begins-if true ram address e = page_of-begins ram address e
+begins-if false ram address e = tt
 
-none-outside : (direction : Direction) (ram : List ℕ) → IfSome (page_needed (outside_ram direction)) (λ page. PAGE_SIZE * page < length ram)
-none-outside Fetch ram = tt
-none-outside Load ram = tt
-none-outside Store ram = tt
-none-outside Reserve ram = tt
-none-outside (Conditional is_reserved) ram = tt
-none-outside Update ram = tt
-
-begins-in : (in_ram : Bool) (a : Access) (s : State) → is_in_ram s.ram a.address ≡ in_ram
-    → IfSome (page_needed (reached_in in_ram a)) (λ page. PAGE_SIZE * page < length s.ram)
-begins-in false a s e = none-outside a.direction s.ram
-begins-in true a s e = begins-for a.direction s.ram a.address e
-
-begins-by : (aligned : Bool) (a : Access) (s : State) → IfSome (page_needed (reached_by aligned a s)) (λ page. PAGE_SIZE * page < length s.ram)
-begins-by false a s = tt
-begins-by true a s = begins-in (is_in_ram s.ram a.address) a s refl
-
-pub begins-reached : (a : Access) (s : State) → IfSome (page_needed (reached a s)) (λ page. PAGE_SIZE * page < length s.ram)
-unfolding reached
-begins-reached a s = begins-by (is_aligned_for a.direction a.address a.width) a s
+pub begins-for : (a : Access) (s : State) (page : Option ℕ) → reached a s ≡ of_ram page → IfSome page (λ p. PAGE_SIZE * p < length s.ram)
+begins-for a s page e =
+    let is = of_ram-is a s page e in
+    subst (λ p. IfSome p (λ q. PAGE_SIZE * q < length s.ram)) (sym is.needs) (begins-if (is_made a.direction) s.ram a.address is.in_ram)
 
 -- ---- the instruction that the coming step executes
 

@@ -28,7 +28,7 @@ use Rattle.forest_model.specs.Action.{Action, trap, interrupt, retire, exit, ask
 use Rattle.forest_model.specs.Compute.{load_upper, add_upper, compute_immediate, compute}
 use Rattle.forest_model.specs.Control.{aligned_jump, jump, jump_register, branch_by, branch, relative, linked}
 use Rattle.forest_model.specs.Access.{Reached, faulted, of_ram, of_port, reached, fetch_access}
-use Rattle.forest_model.specs.Memory.{data_address, read_action, load_by, load_access, load, is_page_range, zeroed, effect_action, port_action, store_by, store_access, store_action, stored_bytes, store}
+use Rattle.forest_model.specs.Memory.{data_address, read_action, load_by, load_access, load, is_page_range, zeroed, outcome, stored_outcome, store_by, store_access, store_action, stored_bytes, store}
 use Rattle.forest_model.specs.Atomic.{is_reserved, reserve_by, reserve_access, load_reserved, conditional_action, conditional_by, conditional_access, store_conditional, amo_by, amo_access, amo}
 use Rattle.forest_model.specs.System.{operation_of, reads, writes, written_action, write_action, old_action, old_value, csr_access, trap_return}
 use Rattle.forest_model.specs.Execute.{action, action_by, execute_group, execute, decoded_action, fetched, fetch_action}
@@ -119,24 +119,24 @@ module _ (P : ForkRegisters → Type 0) where
     Follows-zeroed false first count new p = kept.after_answer (fork_of new) BAD_ARGUMENT p
     Follows-zeroed true first count new p = kept.after_answer (fork_of new) 0 p
 
-    Follows-effect_action : (e : Effect) (new : State) → P (fork_of new)
-        → ((c : Call) → e ≡ effect.Call c → (fork_of new ≡ fork_of s) × IsMakeable (fork_of s) c) → Follows (effect_action e new)
-    Follows-effect_action effect.Done new p asks = p
-    Follows-effect_action effect.TimeWritten new p asks = p
-    Follows-effect_action (effect.Exit value) new p asks = p
-    Follows-effect_action (effect.Call c) new p asks = asks c refl
-    Follows-effect_action (effect.Zero first count) new p asks = Follows-zeroed (is_page_range first count new.ram) first count new p
+    Follows-outcome : (e : Effect) (new : State) → P (fork_of new)
+        → ((c : Call) → e ≡ effect.Call c → (fork_of new ≡ fork_of s) × IsMakeable (fork_of s) c) → Follows (outcome e new).action
+    Follows-outcome effect.Done new p asks = p
+    Follows-outcome effect.TimeWritten new p asks = p
+    Follows-outcome (effect.Exit value) new p asks = p
+    Follows-outcome (effect.Call c) new p asks = asks c refl
+    Follows-outcome (effect.Zero first count) new p asks = Follows-zeroed (is_page_range first count new.ram) first count new p
 
-    Follows-port_action : (answer : Option Stored) (address : ℕ) → IfSome answer (IsStored (fork_of s)) → Follows (port_action answer address s)
-    Follows-port_action None address h = tt
-    Follows-port_action (Some stored) address h =
-        Follows-effect_action stored.effect (at_next_instruction (record s { ports = stored.ports })) h.0 h.1
+    Follows-stored : (answer : Option Stored) (address : ℕ) → IfSome answer (IsStored (fork_of s)) → Follows (stored_outcome answer address s).action
+    Follows-stored None address h = tt
+    Follows-stored (Some stored) address h =
+        Follows-outcome stored.effect (at_next_instruction (record s { ports = stored.ports })) h.0 h.1
 
     Follows-store_by : (r : Reached) (address width : ℕ) (bytes : List ℕ) (word : ℕ) → Follows (store_by r address width bytes word s)
     Follows-store_by (faulted cause) address width bytes word = tt
     Follows-store_by (of_ram page) address width bytes word = kept.before
     Follows-store_by of_port address width bytes word =
-        Follows-port_action (port_store s.ports address width word) address (IsStored-port_store s.ports address width word kept)
+        Follows-stored (port_store s.ports address width word) address (IsStored-port_store s.ports address width word kept)
 
     Follows-read_action : (answer : Option Read) (i : Instruction) (address : ℕ) → IfSome answer (λ read. read.ports.fork ≡ fork_of s)
         → Follows (read_action answer i address s)

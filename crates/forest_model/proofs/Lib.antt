@@ -1,6 +1,7 @@
 pub mod Accesses
 pub mod Finish
 pub mod Zero
+pub mod Once
 pub mod Touch
 pub mod ForkPort
 pub mod Numbers

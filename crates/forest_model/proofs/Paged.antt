@@ -11,6 +11,7 @@ use Rattle.forest_model.specs.Machine.{Machine, after_steps}
 use Rattle.forest_model.specs.Forest.{machines, finish}
 use Rattle.forest_model.specs.Touch.{touch}
 use Rattle.forest_model.specs.Paged.{Paged, Pages, advanced, advanced_by, first_absent, paged_machines, stalled_at}
+use Rattle.forest_model.proofs.Once.{Contains-later}
 use Rattle.forest_model.proofs.Rules.{machines-rules}
 use Rattle.forest_model.proofs.Touch.{touch-IsSome}
 
@@ -65,14 +66,11 @@ pub record IsAbsentOf (here : List Bool) (pages : List ℕ) (page : ℕ) : Type 
   pub listed : Contains pages page
   pub absent : get_or here page false ≡ false
 
-listed-later : (first : ℕ) (rest : List ℕ) (page : ℕ) → Contains rest page → Contains (first ∷ rest) page
-listed-later first rest page h = (suc h.0, omega (arith, h.1), h.2)
-
 first_absent-by : (is_here : Bool) (here : List Bool) (first : ℕ) (rest : List ℕ) (page : ℕ) → get_or here first false ≡ is_here
     → ((p : ℕ) → first_absent here rest ≡ Some p → IsAbsentOf here rest p)
     → cond is_here (first_absent here rest) (Some first) ≡ Some page → IsAbsentOf here (first ∷ rest) page
 first_absent-by true here first rest page e later is =
-    let h = later page is in record { listed = listed-later first rest page h.listed; absent = h.absent }
+    let h = later page is in record { listed = Contains-later first rest page h.listed; absent = h.absent }
 first_absent-by false here first rest page e later is =
     let same : first ≡ page = cc in
     record { listed = (0, omega arith, same); absent = subst (λ p. get_or here p false ≡ false) same e }

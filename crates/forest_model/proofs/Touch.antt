@@ -1,12 +1,11 @@
 -- The pages that a step touches: they are few and of RAM, and RAM changes nowhere else.
 use Rattle.std.proofs.Common.{◌≡◌, ◌≢◌, ℕ, ◌+◌, ◌-◌, ◌*◌, ◌/◌, ◌%◌, ◌<◌, ◌≤◌, ◌⊎◌, inl, inr, Bool, true, false, eqb, ◌&&◌, List, [], ◌∷◌, length, get_or, Option, Some, None, IsSome, refl, sym, ap, ◌∙◌, subst, cond, arith}
-use Rattle.std.specs.Option.{IfSome, IsSomeAnd}
+use Rattle.std.specs.Option.{IfSome}
 use Rattle.std.specs.Int.{to_le_bytes, w32}
 use Rattle.std.specs.List.{All, AllPairs, Contains}
 use Rattle.std.proofs.lemmas.Bool.{eqb-true}
 use Rattle.std.proofs.lemmas.Bool.Decides.{nat_tests}
 use Rattle.std.proofs.lemmas.List.Elements.{All-nil, All-cons}
-use Rattle.std.proofs.lemmas.List.Kept.{AllPairs-cons}
 use Rattle.elf_load.specs.declared.image.TheConstants.{RAM_BASE, PAGE_SIZE}
 use Rattle.flat_memory.specs.Flat.{put_bytes}
 use Rattle.flat_memory.proofs.Bytes.{get_or-put_bytes_outside}
@@ -23,23 +22,74 @@ use Rattle.fork_port.specs.declared.commands.Effect.{Effect}
 use Rattle.fork_port.specs.declared.commands.Effect.TheVariants.{Done, TimeWritten, Exit, Call, Zero}
 use Rattle.forest_model.specs.Ports.{Read, Stored, port_load, port_store}
 use Rattle.forest_model.specs.declared.access.Access.{Access}
+use Rattle.forest_model.specs.declared.access.Direction.{Direction}
 use Rattle.forest_model.specs.declared.access.Direction.TheVariants as access
+use Rattle.forest_model.specs.Footprint.{Footprint, code_and_data, each_once}
 use Rattle.forest_model.specs.State.{State, is_in_ram, is_timer_due, at_next_instruction}
 use Rattle.forest_model.specs.Action.{Action, trap, interrupt, retire, exit, ask, rs1, rs2}
 use Rattle.forest_model.specs.Compute.{load_upper, add_upper, compute_immediate, compute}
 use Rattle.forest_model.specs.Control.{aligned_jump, jump, jump_register, branch_by, branch, relative, linked}
-use Rattle.forest_model.specs.Access.{Reached, faulted, of_ram, of_port, reached, page_for, page_of, page_needed, fetch_access}
-use Rattle.forest_model.specs.Memory.{data_address, read_action, load_by, load_access, load, is_page_range, zeroed, effect_action, port_action, store_by, to_store, store_access, store_action, stored_bytes, store}
+use Rattle.forest_model.specs.Access.{Reached, faulted, of_ram, of_port, uses, is_made, is_aligned, reached, page_of, fetch_access}
+use Rattle.forest_model.specs.Memory.{data_address, read_action, load_by, load_access, load, is_page_range, zeroed, zeroing, outcome, stored_outcome, store_by, to_store, store_access, store_action, stored_bytes, store}
 use Rattle.forest_model.specs.Atomic.{is_reserved, reserve_by, reserve_access, load_reserved, conditional_action, conditional_by, conditional_access, store_conditional, amo_by, amo_access, amo}
 use Rattle.rv_traps.specs.Trap.{takes_interrupt}
 use Rattle.rv_traps.specs.declared.registers.CsrRegisters.{CsrRegisters}
 use Rattle.forest_model.specs.System.{operation_of, reads, writes, written_action, write_action, old_action, old_value, csr_access, trap_return}
 use Rattle.forest_model.specs.Execute.{action, action_by, execute_group, execute, decoded_action, fetched, fetch_action}
 use Rattle.forest_model.specs.Machine.{Machine, advance, advance_from, applied}
-use Rattle.forest_model.specs.Touch.{access_by, access_of, data_page, code_and_data, touch_decoded, touch_fetch, touch_step, touch_from, touch, IsZeroedBy, IsZeroedByStore, IsZeroed}
-use Rattle.forest_model.proofs.Accesses.{of_ram-is, page_of-begins, begins-reached}
+use Rattle.forest_model.specs.Touch.{footprint_in, footprint_at_port, footprint_reached, data_footprint, access_by, access_of, footprint_of, footprint_at, footprint_step, footprint_from, footprint, touch, change, IsZeroedBy, IsZeroed}
+use Rattle.forest_model.proofs.Accesses.{of_ram-is, page_of-begins, begins-for}
 use Rattle.forest_model.proofs.Finish.{IsSome-ended}
+use Rattle.forest_model.proofs.Once.{All-each_once, once-each_once, length-each_once, Contains-later, Contains-each_once}
 use Rattle.forest_model.proofs.Zero.{zeroed-leaves}
+
+-- ---- the pages that a step touches
+
+-- the pages of data begin in RAM, and there is one at most
+record AreData (ram : List ℕ) (pages : List ℕ) : Type 0 where
+  begin : All (λ page. PAGE_SIZE * page < length ram) pages
+  few : length pages ≤ 1
+
+AreData-none : (ram : List ℕ) → AreData ram []
+AreData-none ram = record { begin = All-nil (λ page. PAGE_SIZE * page < length ram); few = omega arith }
+
+AreData-in : (direction : Direction) (ram : List ℕ) (page : Option ℕ) → IfSome page (λ p. PAGE_SIZE * p < length ram)
+    → AreData ram (footprint_in direction page).needs
+AreData-in direction ram None begins = AreData-none ram
+AreData-in direction ram (Some page) begins = record {
+  begin = All-cons (λ p. PAGE_SIZE * p < length ram) page [] begins (All-nil (λ p. PAGE_SIZE * p < length ram));
+  few = omega arith;
+}
+
+-- no store to a port needs a page
+needs-outcome : (effect : Effect) (s : State) → (outcome effect s).footprint.needs ≡ []
+needs-outcome Done s = refl
+needs-outcome TimeWritten s = refl
+needs-outcome (Exit value) s = refl
+needs-outcome (Call call) s = refl
+needs-outcome (Zero first count) s = refl
+
+pub needs-stored : (answer : Option Stored) (address : ℕ) (s : State) → (stored_outcome answer address s).footprint.needs ≡ []
+needs-stored None address s = refl
+needs-stored (Some stored) address s = needs-outcome stored.effect (at_next_instruction (record s { ports = stored.ports }))
+
+AreData-port : (writes : Bool) (a : Access) (word : ℕ) (s : State) → AreData s.ram (footprint_at_port writes a word s).needs
+AreData-port false a word s = AreData-none s.ram
+AreData-port true a word s =
+    subst (AreData s.ram) (sym (needs-stored (port_store s.ports a.address a.width word) a.address s)) (AreData-none s.ram)
+
+AreData-reached : (r : Reached) (a : Access) (word : ℕ) (s : State) → reached a s ≡ r → AreData s.ram (footprint_reached r a word s).needs
+AreData-reached (faulted cause) a word s e = AreData-none s.ram
+AreData-reached (of_ram page) a word s e = AreData-in a.direction s.ram page (begins-for a s page e)
+AreData-reached of_port a word s e = AreData-port (uses a.direction).writes a word s
+
+AreData-asked : (asked : Option Access) (word : ℕ) (s : State) → AreData s.ram (data_footprint asked word s).needs
+AreData-asked None word s = AreData-none s.ram
+AreData-asked (Some a) word s = AreData-reached (reached a s) a word s refl
+
+AreData-of : (i : Option Instruction) (s : State) → AreData s.ram (footprint_of i s).needs
+AreData-of None s = AreData-none s.ram
+AreData-of (Some i) s = AreData-asked (access_of i s) (rs2 i s) s
 
 -- the pages listed begin in RAM, are at most two, and differ
 pub record IsPages (ram : List ℕ) (listed : List ℕ) : Type 0 where
@@ -54,71 +104,47 @@ IsPages-nil ram = record {
   none_twice = λ i j d before within. absurd (omega arith);
 }
 
-IsPages-one : (ram : List ℕ) (page : ℕ) → PAGE_SIZE * page < length ram → IsPages ram (page ∷ [])
-IsPages-one ram page begins = record {
-  of_ram = All-cons (λ p. PAGE_SIZE * p < length ram) page [] begins (All-nil (λ p. PAGE_SIZE * p < length ram));
-  at_most_two = omega arith;
-  none_twice = AllPairs-cons (λ a b. a ≢ b) page [] (All-nil (λ b. page ≢ b)) (λ i j d before within. absurd (omega arith));
+IsPages-both : (ram : List ℕ) (code : ℕ) (pages : List ℕ) → PAGE_SIZE * code < length ram → AreData ram pages → IsPages ram (code_and_data code pages)
+IsPages-both ram code pages begins data_of = record {
+  of_ram = All-each_once (λ page. PAGE_SIZE * page < length ram) (code ∷ pages)
+      (All-cons (λ page. PAGE_SIZE * page < length ram) code pages begins data_of.begin);
+  at_most_two = let fewer = length-each_once (code ∷ pages) in let few : length pages ≤ 1 = data_of.few in omega (arith, fewer, few);
+  none_twice = once-each_once (code ∷ pages);
 }
 
-IsPages-two : (ram : List ℕ) (page other : ℕ) → PAGE_SIZE * page < length ram → PAGE_SIZE * other < length ram → page ≢ other → IsPages ram (page ∷ other ∷ [])
-IsPages-two ram page other begins begins_too differ =
-    let one : IsPages ram (other ∷ []) = IsPages-one ram other begins_too in
-    record {
-      of_ram = All-cons (λ p. PAGE_SIZE * p < length ram) page (other ∷ []) begins one.of_ram;
-      at_most_two = omega arith;
-      none_twice = AllPairs-cons (λ a b. a ≢ b) page (other ∷ []) (All-cons (λ b. page ≢ b) other [] differ (All-nil (λ b. page ≢ b))) one.none_twice;
-    }
+IsPages-at : (r : Reached) (s : State) → reached (fetch_access s) s ≡ r → IsPages s.ram (footprint_at r s).needs
+IsPages-at (faulted cause) s e = IsPages-nil s.ram
+IsPages-at (of_ram page) s e =
+    IsPages-both s.ram (page_of s.pc) (footprint_of (decoded (fetched s)) s).needs
+    (page_of-begins s.ram s.pc (of_ram-is (fetch_access s) s page e).in_ram) (AreData-of (decoded (fetched s)) s)
+IsPages-at of_port s e = IsPages-nil s.ram
 
-begins-data_page : (asked : Option Access) (s : State) → IfSome (data_page asked s) (λ page. PAGE_SIZE * page < length s.ram)
-begins-data_page None s = tt
-begins-data_page (Some a) s = begins-reached a s
-
-IsPages-both : (ram : List ℕ) (code page : ℕ) (same : Bool) → eqb page code ≡ same → PAGE_SIZE * code < length ram → PAGE_SIZE * page < length ram
-    → IsPages ram (cond same (code ∷ []) (code ∷ page ∷ []))
-IsPages-both ram code page true e begins begins_too = IsPages-one ram code begins
-IsPages-both ram code page false e begins begins_too = IsPages-two ram code page begins begins_too (grind (arith, nat_tests))
-
-IsPages-code_and_data : (ram : List ℕ) (code : ℕ) (page : Option ℕ) → PAGE_SIZE * code < length ram → IfSome page (λ page. PAGE_SIZE * page < length ram)
-    → IsPages ram (code_and_data code page)
-IsPages-code_and_data ram code None begins begins_too = IsPages-one ram code begins
-IsPages-code_and_data ram code (Some page) begins begins_too = IsPages-both ram code page (eqb page code) refl begins begins_too
-
-IsPages-decoded : (i : Option Instruction) (s : State) → is_in_ram s.ram s.pc ≡ true → IsPages s.ram (touch_decoded i s)
-IsPages-decoded None s in_ram = IsPages-one s.ram (page_of s.pc) (page_of-begins s.ram s.pc in_ram)
-IsPages-decoded (Some i) s in_ram =
-    IsPages-code_and_data s.ram (page_of s.pc) (data_page (access_of i s) s)
-    (page_of-begins s.ram s.pc in_ram) (begins-data_page (access_of i s) s)
-
-IsPages-fetch : (r : Reached) (s : State) → reached (fetch_access s) s ≡ r → IsPages s.ram (touch_fetch r s)
-IsPages-fetch (faulted cause) s e = IsPages-nil s.ram
-IsPages-fetch (of_ram page) s e = IsPages-decoded (decoded (fetched s)) s (of_ram-is (fetch_access s) s page e).in_ram
-IsPages-fetch of_port s e = IsPages-nil s.ram
-
-IsPages-step : (taken : Bool) (s : State) → IsPages s.ram (touch_step taken s)
+IsPages-step : (taken : Bool) (s : State) → IsPages s.ram (footprint_step taken s).needs
 IsPages-step true s = IsPages-nil s.ram
-IsPages-step false s = IsPages-fetch (reached (fetch_access s) s) s refl
+IsPages-step false s = IsPages-at (reached (fetch_access s) s) s refl
 
-IsPages-from : (ending : Option Ending) (s : State) → IsPages s.ram (touch_from ending s)
+IsPages-from : (ending : Option Ending) (s : State) → IsPages s.ram (footprint_from ending s).needs
 IsPages-from None s = IsPages-step (takes_interrupt s.csrs (is_timer_due s)) s
 IsPages-from (Some ending) s = IsPages-nil s.ram
 
 pub IsPages-touch : (m : Machine) → IsPages m.state.ram (touch m)
-unfolding touch
+unfolding footprint
 IsPages-touch m = IsPages-from m.ending m.state
 
 pub touch-IsSome : (m : Machine) → IsSome m.ending → touch m ≡ []
-unfolding touch
-touch-IsSome m h = let e = IsSome-ended m.ending h in ap (λ ending. touch_from ending m.state) e.1
+unfolding footprint
+touch-IsSome m h = let e = IsSome-ended m.ending h in ap (λ ending. (footprint_from ending m.state).needs) e.1
 
 -- an interrupt touches none
-touch_from-interrupt : (ending : Option Ending) (s : State) → takes_interrupt s.csrs (is_timer_due s) ≡ true → touch_from ending s ≡ []
-touch_from-interrupt None s h = ap (λ taken. touch_step taken s) h
-touch_from-interrupt (Some ending) s h = refl
+interrupt-from : (ending : Option Ending) (s : State) → takes_interrupt s.csrs (is_timer_due s) ≡ true → (footprint_from ending s).needs ≡ []
+interrupt-from None s h = ap (λ taken. (footprint_step taken s).needs) h
+interrupt-from (Some ending) s h = refl
 
 pub touch-interrupt : (m : Machine) → takes_interrupt m.state.csrs (is_timer_due m.state) ≡ true → touch m ≡ []
-unfolding touch
-touch-interrupt m h = touch_from-interrupt m.ending m.state h
+unfolding footprint
+touch-interrupt m h = interrupt-from m.ending m.state h
+
+-- ---- the bytes that a step leaves
 
 -- RAM after an action. A call waits
 abbrev ram_after : Action → State → List ℕ
@@ -152,42 +178,59 @@ Leaves-put_bytes at address width bytes s e same widths aligned other =
     get_or-put_bytes_outside s.ram bytes (address - RAM_BASE) at (grind (arith, nat_tests))
     (subst (λ n. (at < address - RAM_BASE) ⊎ (address - RAM_BASE + n ≤ at)) (sym same) apart)
 
+-- what is asked of the pages tells that the byte at `at` stays
+record IsAside (at : ℕ) (f : Footprint) : Type 0 where
+  unneeded : Contains f.needs (at / PAGE_SIZE) → ⊥
+  unzeroed : IsZeroedBy f.changes (at / PAGE_SIZE) → ⊥
+
 Leaves-zeroed : (at : ℕ) (in_range : Bool) (first count : ℕ) (s : State) → is_page_range first count s.ram ≡ in_range
-    → (IsZeroedBy (Zero first count) (at / PAGE_SIZE) → ⊥) → get_or (zeroed in_range first count s).ram at 0 ≡ get_or s.ram at 0
-Leaves-zeroed at false first count s e other = refl
-Leaves-zeroed at true first count s e other = zeroed-leaves s first count at e other
+    → IsAside at (zeroing in_range first count s).footprint → get_or (zeroed in_range first count s).ram at 0 ≡ get_or s.ram at 0
+Leaves-zeroed at false first count s e aside = refl
+Leaves-zeroed at true first count s e aside = zeroed-leaves s first count at e aside.unzeroed
 
-Leaves-effect_action : (at : ℕ) (effect : Effect) (new s : State) → new.ram ≡ s.ram → (IsZeroedBy effect (at / PAGE_SIZE) → ⊥)
-    → Leaves at s (effect_action effect new)
-Leaves-effect_action at Done new s e other = ap (λ ram. get_or ram at 0) e
-Leaves-effect_action at TimeWritten new s e other = ap (λ ram. get_or ram at 0) e
-Leaves-effect_action at (Exit value) new s e other = ap (λ ram. get_or ram at 0) e
-Leaves-effect_action at (Call call) new s e other = refl
-Leaves-effect_action at (Zero first count) new s e other =
-    Leaves-zeroed at (is_page_range first count new.ram) first count new refl other ∙ ap (λ ram. get_or ram at 0) e
+Leaves-outcome : (at : ℕ) (effect : Effect) (new s : State) → new.ram ≡ s.ram → IsAside at (outcome effect new).footprint
+    → Leaves at s (outcome effect new).action
+Leaves-outcome at Done new s e aside = ap (λ ram. get_or ram at 0) e
+Leaves-outcome at TimeWritten new s e aside = ap (λ ram. get_or ram at 0) e
+Leaves-outcome at (Exit value) new s e aside = ap (λ ram. get_or ram at 0) e
+Leaves-outcome at (Call call) new s e aside = refl
+Leaves-outcome at (Zero first count) new s e aside =
+    Leaves-zeroed at (is_page_range first count new.ram) first count new refl aside ∙ ap (λ ram. get_or ram at 0) e
 
--- the store makes no page read as zeros where `at` lies
-abbrev IsUnzeroed : ℕ → Option Stored → Type 0
-IsUnzeroed at answer = IsSomeAnd answer (λ stored. IsZeroedBy stored.effect (at / PAGE_SIZE)) → ⊥
+Leaves-stored : (at : ℕ) (answer : Option Stored) (address : ℕ) (s : State) → IsAside at (stored_outcome answer address s).footprint
+    → Leaves at s (stored_outcome answer address s).action
+Leaves-stored at None address s aside = refl
+Leaves-stored at (Some stored) address s aside =
+    Leaves-outcome at stored.effect (at_next_instruction (record s { ports = stored.ports })) s refl aside
 
-Leaves-port_action : (at : ℕ) (answer : Option Stored) (address : ℕ) (s : State) → IsUnzeroed at answer → Leaves at s (port_action answer address s)
-Leaves-port_action at None address s other = refl
-Leaves-port_action at (Some stored) address s other =
-    Leaves-effect_action at stored.effect (at_next_instruction (record s { ports = stored.ports })) s refl other
+-- a page that is needed is another
+elsewhere : (at page : ℕ) (direction : Direction) → IsAside at (footprint_in direction (Some page)) → at / PAGE_SIZE ≢ page
+elsewhere at page direction aside same = aside.unneeded (0, omega arith, sym same)
 
--- where the access is to a page, `at` lies in another
-abbrev IsElsewhere : ℕ → Option ℕ → Type 0
-IsElsewhere at page = (p : ℕ) → page ≡ Some p → at / PAGE_SIZE ≢ p
+-- bytes that an aligned store puts into the page that it needs
+Leaves-put : (at : ℕ) (a : Access) (page : ℕ) (bytes : List ℕ) (s : State) → reached a s ≡ of_ram (Some page) → is_made a.direction ≡ true
+    → is_aligned a.address a.width ≡ true → length bytes ≡ a.width → IsWidth a.width → IsAside at (footprint_in a.direction (Some page))
+    → get_or (put_bytes s.ram (a.address - RAM_BASE) bytes) at 0 ≡ get_or s.ram at 0
+Leaves-put at a page bytes s e made aligned same widths aside =
+    let is = of_ram-is a s (Some page) e in
+    let page_is : Some page ≡ Some (page_of a.address) = is.needs ∙ ap (λ b. cond b (Some (page_of a.address)) None) made in
+    Leaves-put_bytes at a.address a.width bytes s is.in_ram same widths (eqb-true (a.address % a.width) 0 aligned)
+    (subst (λ p. at / PAGE_SIZE ≢ p) (cc) (elsewhere at page a.direction aside))
+
+none-needed : (a : Access) (s : State) {R : Type 0} → reached a s ≡ of_ram None → is_made a.direction ≡ true → R
+none-needed a s e made =
+    let is : None ≡ Some (page_of a.address) = (of_ram-is a s None e).needs ∙ ap (λ b. cond b (Some (page_of a.address)) None) made in
+    absurd (cc)
 
 Leaves-store_by : (at : ℕ) (r : Reached) (address width : ℕ) (bytes : List ℕ) (word : ℕ) (s : State) → reached (to_store address width) s ≡ r
-    → length bytes ≡ width → IsWidth width → IsElsewhere at (page_needed r) → IsUnzeroed at (port_store s.ports address width word)
+    → length bytes ≡ width → IsWidth width → IsAside at (footprint_reached r (to_store address width) word s)
     → Leaves at s (store_by r address width bytes word s)
-Leaves-store_by at (faulted cause) address width bytes word s e same widths other unzeroed = refl
-Leaves-store_by at (of_ram page) address width bytes word s e same widths other unzeroed =
-    let is = of_ram-is (to_store address width) s page e in
-    Leaves-put_bytes at address width bytes s is.in_ram same widths (eqb-true (address % width) 0 is.aligned) (other (page_of address) is.needs)
-Leaves-store_by at of_port address width bytes word s e same widths other unzeroed =
-    Leaves-port_action at (port_store s.ports address width word) address s unzeroed
+Leaves-store_by at (faulted cause) address width bytes word s e same widths aside = refl
+Leaves-store_by at (of_ram None) address width bytes word s e same widths aside = none-needed (to_store address width) s e refl
+Leaves-store_by at (of_ram (Some page)) address width bytes word s e same widths aside =
+    Leaves-put at (to_store address width) page bytes s e refl (of_ram-is (to_store address width) s (Some page) e).aligned same widths aside
+Leaves-store_by at of_port address width bytes word s e same widths aside =
+    Leaves-stored at (port_store s.ports address width word) address s aside
 
 -- no load changes RAM
 Leaves-read_action : (at : ℕ) (answer : Option Read) (i : Instruction) (address : ℕ) (s : State) → Leaves at s (read_action answer i address s)
@@ -212,29 +255,30 @@ Leaves-reserve_by at (faulted cause) i address s = refl
 Leaves-reserve_by at (of_ram page) i address s = refl
 Leaves-reserve_by at of_port i address s = refl
 
-Leaves-conditional_action : (at : ℕ) (reserved : Bool) (i : Instruction) (address : ℕ) (s : State) → is_in_ram s.ram address ≡ true → address % 4 ≡ 0
-    → IsElsewhere at (page_for (access.Conditional reserved) (page_of address)) → Leaves at s (conditional_action reserved i address s)
-Leaves-conditional_action at false i address s e aligned other = refl
-Leaves-conditional_action at true i address s e aligned other =
-    Leaves-put_bytes at address 4 (to_le_bytes w32 (rs2 i s)) s e refl (inr (inr refl)) aligned (other (page_of address) refl)
+-- SC stores where its address is reserved
+Leaves-conditional_action : (at : ℕ) (reserved : Bool) (page : Option ℕ) (i : Instruction) (s : State) → is_reserved s.reservation (rs1 i s) ≡ reserved
+    → reached (conditional_access i s) s ≡ of_ram page → IsAside at (footprint_in (access.Conditional reserved) page)
+    → Leaves at s (conditional_action reserved i (rs1 i s) s)
+Leaves-conditional_action at false page i s is e aside = refl
+Leaves-conditional_action at true None i s is e aside = none-needed (conditional_access i s) s e is
+Leaves-conditional_action at true (Some page) i s is e aside =
+    Leaves-put at (conditional_access i s) page (to_le_bytes w32 (rs2 i s)) s e is (of_ram-is (conditional_access i s) s (Some page) e).aligned refl
+    (inr (inr refl)) (subst (λ b. IsAside at (footprint_in (access.Conditional b) (Some page))) (sym is) aside)
 
 Leaves-conditional_by : (at : ℕ) (r : Reached) (i : Instruction) (s : State) → reached (conditional_access i s) s ≡ r
-    → IsElsewhere at (page_needed r) → Leaves at s (conditional_by r i (rs1 i s) s)
-Leaves-conditional_by at (faulted cause) i s e other = refl
-Leaves-conditional_by at (of_ram page) i s e other =
-    let is = of_ram-is (conditional_access i s) s page e in
-    Leaves-conditional_action at (is_reserved s.reservation (rs1 i s)) i (rs1 i s) s is.in_ram (eqb-true (rs1 i s % 4) 0 is.aligned)
-    (λ p same. other p (is.needs ∙ same))
-Leaves-conditional_by at of_port i s e other = refl
+    → IsAside at (footprint_reached r (conditional_access i s) (rs2 i s) s) → Leaves at s (conditional_by r i (rs1 i s) s)
+Leaves-conditional_by at (faulted cause) i s e aside = refl
+Leaves-conditional_by at (of_ram page) i s e aside =
+    Leaves-conditional_action at (is_reserved s.reservation (rs1 i s)) page i s refl e aside
+Leaves-conditional_by at of_port i s e aside = refl
 
 Leaves-amo_by : (at : ℕ) (r : Reached) (i : Instruction) (s : State) → reached (amo_access i s) s ≡ r
-    → IsElsewhere at (page_needed r) → Leaves at s (amo_by r i (rs1 i s) s)
-Leaves-amo_by at (faulted cause) i s e other = refl
-Leaves-amo_by at (of_ram page) i s e other =
-    let is = of_ram-is (amo_access i s) s page e in
-    Leaves-put_bytes at (rs1 i s) 4 (to_le_bytes w32 _) s is.in_ram refl (inr (inr refl)) (eqb-true (rs1 i s % 4) 0 is.aligned)
-    (other (page_of (rs1 i s)) is.needs)
-Leaves-amo_by at of_port i s e other = refl
+    → IsAside at (footprint_reached r (amo_access i s) (rs2 i s) s) → Leaves at s (amo_by r i (rs1 i s) s)
+Leaves-amo_by at (faulted cause) i s e aside = refl
+Leaves-amo_by at (of_ram None) i s e aside = none-needed (amo_access i s) s e refl
+Leaves-amo_by at (of_ram (Some page)) i s e aside =
+    Leaves-put at (amo_access i s) page (to_le_bytes w32 _) s e refl (of_ram-is (amo_access i s) s (Some page) e).aligned refl (inr (inr refl)) aside
+Leaves-amo_by at of_port i s e aside = refl
 
 store_widths : (kind : Kind) (value : ℕ) → group_of kind ≡ Store → (length (store_bytes kind value) ≡ store_width kind) × IsWidth (store_width kind)
 unfolding group_of
@@ -257,59 +301,52 @@ Leaves-old_action at None i word s = refl
 Leaves-old_action at (Some old) i word s = Leaves-write_action at (writes (operation_of i.kind) i) old i word s
 
 Leaves-execute_group : (at : ℕ) (group : Group) (i : Instruction) (word : ℕ) (s : State) → group_of i.kind ≡ group
-    → IsElsewhere at (data_page (access_by group i s) s) → (IsZeroedByStore i (at / PAGE_SIZE) s → ⊥) → Leaves at s (execute_group group i word s)
+    → IsAside at (data_footprint (access_by group i s) (rs2 i s) s) → Leaves at s (execute_group group i word s)
 unfolding load_upper add_upper compute_immediate compute jump jump_register branch load store store_action load_reserved store_conditional amo csr_access trap_return
-Leaves-execute_group at LoadUpper i word s e other unzeroed = refl
-Leaves-execute_group at AddUpper i word s e other unzeroed = refl
-Leaves-execute_group at Jump i word s e other unzeroed = Leaves-aligned_jump at (eqb (relative i s % 4) 0) (relative i s) (linked i s) s refl
-Leaves-execute_group at JumpRegister i word s e other unzeroed = Leaves-aligned_jump at _ _ (linked i s) s refl
-Leaves-execute_group at Branch i word s e other unzeroed = Leaves-branch_by at _ i s
-Leaves-execute_group at Load i word s e other unzeroed = Leaves-load_by at (reached (load_access i s) s) i (data_address i s) s
-Leaves-execute_group at Store i word s e other unzeroed =
+Leaves-execute_group at LoadUpper i word s e aside = refl
+Leaves-execute_group at AddUpper i word s e aside = refl
+Leaves-execute_group at Jump i word s e aside = Leaves-aligned_jump at (eqb (relative i s % 4) 0) (relative i s) (linked i s) s refl
+Leaves-execute_group at JumpRegister i word s e aside = Leaves-aligned_jump at _ _ (linked i s) s refl
+Leaves-execute_group at Branch i word s e aside = Leaves-branch_by at _ i s
+Leaves-execute_group at Load i word s e aside = Leaves-load_by at (reached (load_access i s) s) i (data_address i s) s
+Leaves-execute_group at Store i word s e aside =
     let widths = store_widths i.kind (rs2 i s) e in
     Leaves-store_by at (reached (store_access i s) s) (data_address i s) (store_width i.kind) (stored_bytes i s) (rs2 i s) s refl
-    widths.0 widths.1 other (λ zeroed. unzeroed (e, zeroed))
-Leaves-execute_group at ComputeImmediate i word s e other unzeroed = refl
-Leaves-execute_group at Compute i word s e other unzeroed = refl
-Leaves-execute_group at Nothing i word s e other unzeroed = refl
-Leaves-execute_group at EnvironmentCall i word s e other unzeroed = refl
-Leaves-execute_group at Breakpoint i word s e other unzeroed = refl
-Leaves-execute_group at TrapReturn i word s e other unzeroed = refl
-Leaves-execute_group at Csr i word s e other unzeroed = Leaves-old_action at (old_value (reads (operation_of i.kind) i) i s) i word s
-Leaves-execute_group at LoadReserved i word s e other unzeroed = Leaves-reserve_by at (reached (reserve_access i s) s) i (rs1 i s) s
-Leaves-execute_group at StoreConditional i word s e other unzeroed = Leaves-conditional_by at (reached (conditional_access i s) s) i s refl other
-Leaves-execute_group at Amo i word s e other unzeroed = Leaves-amo_by at (reached (amo_access i s) s) i s refl other
+    widths.0 widths.1 aside
+Leaves-execute_group at ComputeImmediate i word s e aside = refl
+Leaves-execute_group at Compute i word s e aside = refl
+Leaves-execute_group at Nothing i word s e aside = refl
+Leaves-execute_group at EnvironmentCall i word s e aside = refl
+Leaves-execute_group at Breakpoint i word s e aside = refl
+Leaves-execute_group at TrapReturn i word s e aside = refl
+Leaves-execute_group at Csr i word s e aside = Leaves-old_action at (old_value (reads (operation_of i.kind) i) i s) i word s
+Leaves-execute_group at LoadReserved i word s e aside = Leaves-reserve_by at (reached (reserve_access i s) s) i (rs1 i s) s
+Leaves-execute_group at StoreConditional i word s e aside = Leaves-conditional_by at (reached (conditional_access i s) s) i s refl aside
+Leaves-execute_group at Amo i word s e aside = Leaves-amo_by at (reached (amo_access i s) s) i s refl aside
 
-Contains-both : (code page : ℕ) (same : Bool) → eqb page code ≡ same → Contains (cond same (code ∷ []) (code ∷ page ∷ [])) page
-Contains-both code page true e = (0, omega arith, sym (eqb-true page code e))
-Contains-both code page false e = (1, omega arith, refl)
-
-Leaves-decoded : (at : ℕ) (decoded : Option Instruction) (word : ℕ) (s : State)
-    → (Contains (touch_decoded decoded s) (at / PAGE_SIZE) → ⊥) → (IsSomeAnd decoded (λ i. IsZeroedByStore i (at / PAGE_SIZE) s) → ⊥)
+Leaves-decoded : (at : ℕ) (decoded : Option Instruction) (word : ℕ) (s : State) → IsAside at (footprint_of decoded s)
     → Leaves at s (decoded_action decoded word s)
 unfolding execute
-Leaves-decoded at None word s not_touched unzeroed = refl
-Leaves-decoded at (Some i) word s not_touched unzeroed =
-    let code : ℕ = page_of s.pc in
-    Leaves-execute_group at (group_of i.kind) i word s refl (λ page e same.
-    let listed : Contains (code_and_data code (Some page)) page = Contains-both code page (eqb page code) refl in
-    not_touched (subst (λ p. Contains (code_and_data code p) (at / PAGE_SIZE)) (sym e) (subst (Contains (code_and_data code (Some page))) (sym same) listed))) unzeroed
+Leaves-decoded at None word s aside = refl
+Leaves-decoded at (Some i) word s aside = Leaves-execute_group at (group_of i.kind) i word s refl aside
 
-Leaves-fetch : (at : ℕ) (r : Reached) (s : State) → (Contains (touch_fetch r s) (at / PAGE_SIZE) → ⊥) → (IsZeroed s (at / PAGE_SIZE) → ⊥)
-    → Leaves at s (fetch_action r s)
-unfolding IsZeroed
-Leaves-fetch at (faulted cause) s not_touched unzeroed = refl
-Leaves-fetch at (of_ram page) s not_touched unzeroed = Leaves-decoded at (decoded (fetched s)) (fetched s) s not_touched unzeroed
-Leaves-fetch at of_port s not_touched unzeroed = refl
+Leaves-fetch : (at : ℕ) (r : Reached) (s : State) → IsAside at (footprint_at r s) → Leaves at s (fetch_action r s)
+unfolding each_once
+Leaves-fetch at (faulted cause) s aside = refl
+Leaves-fetch at (of_ram page) s aside = Leaves-decoded at (decoded (fetched s)) (fetched s) s (record {
+  unneeded = λ listed. aside.unneeded (Contains-each_once (page_of s.pc ∷ (footprint_of (decoded (fetched s)) s).needs) (at / PAGE_SIZE)
+      (Contains-later (page_of s.pc) (footprint_of (decoded (fetched s)) s).needs (at / PAGE_SIZE) listed));
+  unzeroed = aside.unzeroed;
+})
+Leaves-fetch at of_port s aside = refl
 
-Leaves-by : (at : ℕ) (taken : Bool) (s : State) → (Contains (touch_step taken s) (at / PAGE_SIZE) → ⊥) → (IsZeroed s (at / PAGE_SIZE) → ⊥)
-    → Leaves at s (action_by taken s)
-Leaves-by at true s not_touched unzeroed = refl
-Leaves-by at false s not_touched unzeroed = Leaves-fetch at (reached (fetch_access s) s) s not_touched unzeroed
+Leaves-by : (at : ℕ) (taken : Bool) (s : State) → IsAside at (footprint_step taken s) → Leaves at s (action_by taken s)
+Leaves-by at true s aside = refl
+Leaves-by at false s aside = Leaves-fetch at (reached (fetch_access s) s) s aside
 
-Leaves-action : (at : ℕ) (s : State) → (Contains (touch_from None s) (at / PAGE_SIZE) → ⊥) → (IsZeroed s (at / PAGE_SIZE) → ⊥) → Leaves at s (action s)
+Leaves-action : (at : ℕ) (s : State) → IsAside at (footprint_from None s) → Leaves at s (action s)
 unfolding action
-Leaves-action at s not_touched unzeroed = Leaves-by at (takes_interrupt s.csrs (is_timer_due s)) s not_touched unzeroed
+Leaves-action at s aside = Leaves-by at (takes_interrupt s.csrs (is_timer_due s)) s aside
 
 ram-applied : (a : Action) (m : Machine) → (applied a m).state.ram ≡ ram_after a m.state
 ram-applied (trap cause value) m = refl
@@ -318,13 +355,12 @@ ram-applied (retire written s) m = refl
 ram-applied (exit value s) m = refl
 ram-applied (ask c s) m = refl
 
-advance_from-leaves : (at : ℕ) (ending : Option Ending) (m : Machine) → (Contains (touch_from ending m.state) (at / PAGE_SIZE) → ⊥)
-    → (IsZeroed m.state (at / PAGE_SIZE) → ⊥) → get_or (advance_from ending m).state.ram at 0 ≡ get_or m.state.ram at 0
-advance_from-leaves at None m not_touched unzeroed =
-    ap (λ ram. get_or ram at 0) (ram-applied (action m.state) m) ∙ Leaves-action at m.state not_touched unzeroed
-advance_from-leaves at (Some ending) m not_touched unzeroed = refl
+leaves-from : (at : ℕ) (ending : Option Ending) (m : Machine) → IsAside at (footprint_from ending m.state)
+    → get_or (advance_from ending m).state.ram at 0 ≡ get_or m.state.ram at 0
+leaves-from at None m aside = ap (λ ram. get_or ram at 0) (ram-applied (action m.state) m) ∙ Leaves-action at m.state aside
+leaves-from at (Some ending) m aside = refl
 
-pub advance-leaves : (m : Machine) (at : ℕ) → (Contains (touch m) (at / PAGE_SIZE) → ⊥) → (IsZeroed m.state (at / PAGE_SIZE) → ⊥)
+pub advance-leaves : (m : Machine) (at : ℕ) → (Contains (touch m) (at / PAGE_SIZE) → ⊥) → (IsZeroed m (at / PAGE_SIZE) → ⊥)
     → get_or (advance m).state.ram at 0 ≡ get_or m.state.ram at 0
-unfolding advance touch
-advance-leaves m at not_touched unzeroed = advance_from-leaves at m.ending m not_touched unzeroed
+unfolding advance footprint
+advance-leaves m at untouched unzeroed = leaves-from at m.ending m (record { unneeded = untouched; unzeroed = unzeroed })

@@ -1,6 +1,6 @@
 -- Loads and stores, which RAM gives, or else a port.
 -- RISC-V Unprivileged ISA 20191213, section 2.6
-use Rattle.std.specs.Prelude.{ℕ, ◌+◌, ◌-◌, ◌*◌, ◌/◌, ◌%◌, ◌^◌, ◌==◌, ◌&&◌, not, nat_le, Bool, true, false, List, length, Option, Some, None}
+use Rattle.std.specs.Prelude.{ℕ, ◌+◌, ◌-◌, ◌*◌, ◌/◌, ◌%◌, ◌^◌, ◌==◌, ◌&&◌, not, nat_le, Bool, true, false, if◌then◌else◌, List, [], length, Option, Some, None}
 use Rattle.elf_load.specs.declared.image.TheConstants.{RAM_BASE, PAGE_SIZE}
 use Rattle.byteorder.specs.Endian.{little_from}
 use Rattle.flat_memory.specs.Flat.{put_bytes, zeros}
@@ -14,6 +14,7 @@ use Rattle.fork_port.specs.declared.commands.Effect.{Effect}
 use Rattle.fork_port.specs.declared.commands.Effect.TheVariants.{Done, TimeWritten, Exit, Call, Zero}
 use Rattle.fork_port.specs.declared.refusals.TheConstants.{BAD_ARGUMENT}
 use Rattle.fork_port.specs.Registers.{ForkRegisters, refused}
+use Rattle.forest_model.specs.Footprint.{Footprint, no_footprint, no_change, zeroes}
 use Rattle.forest_model.specs.Ports.{Read, Stored, port_load, port_store}
 use Rattle.forest_model.specs.State.{State, at_next_instruction}
 use Rattle.forest_model.specs.Action.{Action, trap, retire, exit, ask, retire_next, with_rd, rs1, rs2, immediate}
@@ -63,17 +64,37 @@ abbrev pub zeroed : Bool → ℕ → ℕ → State → State
 zeroed false first count s = with_fork (refused s.ports.fork BAD_ARGUMENT) s
 zeroed true first count s = with_fork (refused s.ports.fork 0) (with_zeros first count s)
 
--- a store to a port, and what it does to the machine
-abbrev pub effect_action : Effect → State → Action
-effect_action Done s = retire Nothing s
-effect_action TimeWritten s = retire Time s
-effect_action (Exit value) s = exit value s
-effect_action (Call call) s = ask call s
-effect_action (Zero first count) s = retire Nothing (zeroed (is_page_range first count s.ram) first count s)
+-- what an effect of a store to a port comes to: what it asks of the pages, and the action that it is
+pub record Outcome : Type 0 where
+  pub footprint : Footprint
+  pub action : Action
 
-abbrev pub port_action : Option Stored → ℕ → State → Action
-port_action None address s = trap STORE_ACCESS_FAULT address
-port_action (Some stored) address s = effect_action stored.effect (at_next_instruction (record s { ports = stored.ports }))
+-- an action that asks nothing of the pages
+abbrev pub alone : Action → Outcome
+alone action = record { footprint = no_footprint; action = action }
+
+-- a page that is to read as zeros need not be here
+abbrev pub zeroing : Bool → ℕ → ℕ → State → Outcome
+zeroing in_range first count s = record {
+  footprint = record { needs = []; changes = if in_range then zeroes first count else no_change };
+  action = retire Nothing (zeroed in_range first count s);
+}
+
+abbrev pub outcome : Effect → State → Outcome
+outcome Done s = alone (retire Nothing s)
+outcome TimeWritten s = alone (retire Time s)
+outcome (Exit value) s = alone (exit value s)
+outcome (Call call) s = alone (ask call s)
+outcome (Zero first count) s = zeroing (is_page_range first count s.ram) first count s
+
+-- a store to a port, which may have no such access
+abbrev pub stored_outcome : Option Stored → ℕ → State → Outcome
+stored_outcome None address s = alone (trap STORE_ACCESS_FAULT address)
+stored_outcome (Some stored) address s = outcome stored.effect (at_next_instruction (record s { ports = stored.ports }))
+
+-- a store of the low `width` bytes of a word to the ports
+abbrev pub port_outcome : ℕ → ℕ → ℕ → State → Outcome
+port_outcome address width word s = stored_outcome (port_store s.ports address width word) address s
 
 -- the state with bytes at an address of RAM
 abbrev pub with_bytes : ℕ → List ℕ → State → State
@@ -82,7 +103,7 @@ with_bytes address bytes s = record s { ram = put_bytes s.ram (address - RAM_BAS
 abbrev pub store_by : Reached → ℕ → ℕ → List ℕ → ℕ → State → Action
 store_by (faulted cause) address width bytes word s = trap cause address
 store_by (of_ram page) address width bytes word s = retire_next (with_bytes address bytes s)
-store_by of_port address width bytes word s = port_action (port_store s.ports address width word) address s
+store_by of_port address width bytes word s = (port_outcome address width word s).action
 
 -- a store of the low bytes of a word, so many
 abbrev pub to_store : ℕ → ℕ → Access

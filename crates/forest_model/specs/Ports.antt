@@ -1,6 +1,6 @@
 -- The ports of the machine, by the address of an access. Where a port has no such access, an answer
 -- is none.
-use Rattle.std.specs.Prelude.{ℕ, ◌+◌, ◌-◌, ◌&&◌, Bool, nat_lt, nat_le, if◌then◌else◌, List, [], Option, Some, None}
+use Rattle.std.specs.Prelude.{ℕ, ◌+◌, ◌-◌, ◌&&◌, Bool, nat_lt, nat_le, if◌then◌else◌, List, [], ◌∷◌, Option, Some, None}
 use Rattle.console_port.specs.declared.registers.TheConstants.{CONSOLE_SIZE}
 use Rattle.console_port.specs.Console.{ConsoleRegisters, ConsoleLoaded, console_load, console_store}
 use Rattle.timer_port.specs.declared.registers.TimerRegisters.{TimerRegisters}
@@ -53,12 +53,27 @@ pub data Place : Type 0 where
 abbrev pub is_within : ℕ → ℕ → ℕ → Bool
 is_within base size address = nat_le base address && nat_lt address (base + size)
 
+-- the addresses of a port, and the place of an offset there
+pub record Range : Type 0 where
+  pub base : ℕ
+  pub size : ℕ
+  pub place : ℕ → Place
+
+abbrev pub ranges : List Range
+ranges =
+    record { base = CONSOLE_BASE; size = CONSOLE_SIZE; place = at_console }
+    ∷ record { base = TIMER_BASE; size = TIMER_SIZE; place = at_timer }
+    ∷ record { base = BLOCK_BASE; size = BLOCK_SIZE; place = at_block }
+    ∷ record { base = FORK_BASE; size = FORK_SIZE; place = at_fork }
+    ∷ []
+
+-- the place of an address in the first of these ranges that has it
+unfoldable pub place_in : List Range → ℕ → Place
+place_in [] address = at_no_port
+place_in (range ∷ rest) address = if is_within range.base range.size address then range.place (address - range.base) else place_in rest address
+
 abbrev pub place_of : ℕ → Place
-place_of address =
-    if is_within CONSOLE_BASE CONSOLE_SIZE address then at_console (address - CONSOLE_BASE)
-    else (if is_within TIMER_BASE TIMER_SIZE address then at_timer (address - TIMER_BASE)
-    else (if is_within BLOCK_BASE BLOCK_SIZE address then at_block (address - BLOCK_BASE)
-    else (if is_within FORK_BASE FORK_SIZE address then at_fork (address - FORK_BASE) else at_no_port)))
+place_of address = place_in ranges address
 
 abbrev pub console_read : Option ConsoleLoaded → PortRegisters → Option Read
 console_read None ports = None

@@ -139,7 +139,7 @@ pub fn touched_pages()
 
 /// A step changes RAM only in the pages that it touches, and in those that it zeroes.
 pub fn writes_touched_pages()
-    ensures { (m : Machine) (at : ℕ) → ¬ Contains (touch m) (at / PAGE_SIZE) → ¬ IsZeroed m.state (at / PAGE_SIZE)
+    ensures { (m : Machine) (at : ℕ) → ¬ Contains (touch m) (at / PAGE_SIZE) → ¬ IsZeroed m (at / PAGE_SIZE)
         → slice_index (advance m).state.ram at ≡ slice_index m.state.ram at }
 {}
 

@@ -1,5 +1,5 @@
 -- Replies that are told and heard.
-use Rattle.std.proofs.Common.{◌≡◌, ℕ, zero, suc, ◌<◌, List, [], ◌∷◌, ◌++◌, length, map, Option, Some, None, option_map, Result, Ok, Err, IfOk, OnOk, OnErr, refl, sym, ap, ap₂, ◌∙◌, subst, arith, slice_get}
+use Rattle.std.proofs.Common.{◌≡◌, ℕ, zero, suc, ◌<◌, List, [], ◌∷◌, ◌++◌, length, map, Option, option_map, Result, Ok, Err, IfOk, OnOk, OnErr, refl, sym, ap, ap₂, ◌∙◌, subst, slice_get}
 use Rattle.std.specs.List.{All}
 use Rattle.std.specs.Option.{ForSome}
 use Rattle.std.specs.declared.alloc.AllocError.{AllocError}
@@ -7,7 +7,7 @@ use Rattle.std.proofs.lemmas.List.{map-append, length-map}
 use Rattle.std.proofs.lemmas.List.Elements.{All-push}
 use Rattle.image_depot.specs.Key.{Shelves}
 use Rattle.image_depot.specs.Reply.{Delivery, IsSentOf, sent_image, sent_page}
-use Rattle.forest_history.specs.Histories.{Entry, told, heard, mute, deaf, History, Permits, Record, Seat, record_after}
+use Rattle.forest_history.specs.Histories.{told, heard, mute, deaf, History, Record, Seat, record_after}
 use Rattle.forest_model.specs.Forest.{machines}
 use Rattle.forest_model.specs.Machine.{Machine}
 use Rattle.world_core.specs.declared.reason.Reason.{Reason}

@@ -19,7 +19,7 @@ use Rattle.fork_board.specs.declared.note.Opening.{Opening}
 use Rattle.fork_board.specs.Notes.{entries, entry_of}
 use Rattle.fork_board.specs.Follows.{Follows, opening_record, record_at}
 use Rattle.fork_board.specs.Passes.{BoardValue, FreeAfter, HoldsNone, IsFree, IsHeld, Leaves, PassValue, Makes, Joins, Closes}
-use Rattle.fork_board.specs.Visits.{Place, Passed, Visits, pass_of}
+use Rattle.fork_board.specs.Visits.{IsPlace, Place, Passed, Visits, pass_of}
 use Rattle.fork_board.proofs.Entries.{by-map, entered_as, none-between}
 use Rattle.fork_board.proofs.Records.{Free, free-after, free-more, free-own, held-own, others-keep, record-more}
 use Rattle.fork_board.proofs.Worlds.{IsHeldAt, held-still}
@@ -73,30 +73,55 @@ module _ (board : BoardValue) where
   }
 
   -- two have joined
-  pub joined : (seat other new : Place) → IsSeat board.table board.opening seat → IsSeat board.table board.opening new → turn.Joins seat other new
-      → Joins (pass_of board seat) (pass_of board other) (pass_of board new)
-  joined seat other new is now j = record {
-    same_board = refl;
-    same_number = j.same_seat;
-    same_splits = j.same_splits;
-    same_mine = ap entries j.same_mine;
-    either = either j.either;
-    seen = later seat.me.0.seen j.seen;
-    others = later other.me.0.seen j.told;
-    free = free;
-  }
+  pub joined : (seat other new : Place) → IsPlace board seat → IsPlace board other → IsSeat board.table board.opening new → turn.Joins seat other new
+      → IsPlace board new × Joins (pass_of board seat) (pass_of board other) (pass_of board new)
+  joined seat other new is was now j = (
+    record { seat = now; start = is.start; legal = legal },
+    record {
+      same_board = refl;
+      same_number = j.same_seat;
+      same_splits = j.same_splits;
+      same_mine = ap entries j.same_mine;
+      either = either j.either;
+      seen = later seat.me.0.seen j.seen;
+      others = later other.me.0.seen j.told;
+      own = own-entries new.me.0.seat new.me.0.seen new.me.0.mine now.own;
+      legal = legal;
+      free = free;
+      held = held;
+    },
+  )
     where
       none : entries_by seat.me.0.seat (entries j.seen.0) ≡ []
       none =
           no-others seat.me.0.seat j.seen.0
-          (none-between seat.me.0.seat seat.me.0.seen j.seen.0 seat.me.0.mine is.own
+          (none-between seat.me.0.seat seat.me.0.seen j.seen.0 seat.me.0.mine is.seat.own
           (ap (entries_by seat.me.0.seat) (sym j.seen.1) ∙ ap (λ s. entries_by s new.me.0.seen) (sym j.same_seat) ∙ now.own ∙ j.same_mine))
+
+      all : entries new.me.0.seen ≡ entries seat.me.0.seen ++ entries j.seen.0
+      all = ap entries j.seen.1 ∙ entries-append seat.me.0.seen j.seen.0
+
+      legal-by : (new.me.0.seen ≡ seat.me.0.seen) ⊎ (new.me.0.seen ≡ other.me.0.seen)
+          → IsLegal machines (entries new.me.0.seen) (opening_record board.opening)
+      legal-by (inl e) = subst (λ l. IsLegal machines (entries l) (opening_record board.opening)) (sym e) is.legal
+      legal-by (inr e) = subst (λ l. IsLegal machines (entries l) (opening_record board.opening)) (sym e) was.legal
+
+      legal : IsLegal machines (entries new.me.0.seen) (opening_record board.opening)
+      legal = legal-by j.either
+
+      held : (lease : Lent) → IsHeld (pass_of board seat) lease → IsHeld (pass_of board new) lease
+      held lease h =
+          let x : Holding Machine = record { name = lease.name; seat = seat.me.0.seat; found = lease.start } in
+          ap (λ l. holding lease.name (record_at board.opening l).holdings) all
+          ∙ others-keep board.opening (entries seat.me.0.seen) is.start (entries j.seen.0) lease.name x
+          (subst (λ l. IsLegal machines l (opening_record board.opening)) all legal) none h
+          ∙ ap (λ s. Some (record { name = lease.name; seat = s; found = lease.start })) (sym j.same_seat)
 
       free : (name : Path) → IsFree (pass_of board seat) name → IsFree (pass_of board new) name
       free name h =
           subst (λ s. Free s name (record_at board.opening (entries new.me.0.seen)).holdings) (sym j.same_seat)
           (subst (λ l. Free seat.me.0.seat name (record_at board.opening l).holdings)
-          (sym (ap entries j.seen.1 ∙ entries-append seat.me.0.seen j.seen.0))
+          (sym all)
           (free-more seat.me.0.seat name board.opening (entries seat.me.0.seen) (entries j.seen.0) none h))
 
       either : (new.me.0.seen ≡ seat.me.0.seen) ⊎ (new.me.0.seen ≡ other.me.0.seen)
@@ -218,11 +243,31 @@ module _ (P : TableId → Opening → Type 0) (board : BoardValue) (table : Tabl
 pub own-seat : (table : TableId) (key about : Opening) (seat : Place) → IsSeat table key seat → about ≡ key → IsSeat seat.table_id about seat
 own-seat table key about seat h same = subst (λ t. IsSeat t about seat) (sym h.here) (subst (λ o. IsSeat table o seat) (sym same) h)
 
-pub seen-as : (board : BoardValue) (table : TableId) (about : Opening) (seat : Place) → seat.table_id ≡ table
-    → ◌≡◌ {A = BoardValue} (record { table = table; opening = about }) board
-    → pass_of (record { table = seat.table_id; opening = about }) seat ≡ pass_of board seat
-seen-as board table about seat here is =
-    ap (λ (b : BoardValue). pass_of b seat) (ap (λ t. record { table = t; opening = about }) here ∙ is)
+-- the first seat of a board has seen nothing
+pub first-place : (table : TableId) (key about : Opening) (seat : Place) (w : World) → IsSeat table key seat → about ≡ key → seat.me.0.seen ≡ []
+    → Follows key [] w → IsPlace (record { table = seat.table_id; opening = about }) seat
+first-place table key about seat w is same none follows =
+    subst (λ (b : BoardValue). IsPlace b seat) (ap₂ (λ t o. record { table = t; opening = o }) (sym is.here) (sym same))
+    (record { seat = is; start = follows.start; legal = subst (λ l. IsLegal machines (entries l) (opening_record key)) (sym none) follows.legal })
+
+-- a seat that has seen what another had
+kept-place : (board : BoardValue) (old new : Place) → IsPlace board old → IsSeat board.table board.opening new → new.me.0.seen ≡ old.me.0.seen
+    → IsPlace board new
+kept-place board old new h is same = record {
+  seat = is;
+  start = h.start;
+  legal = subst (λ l. IsLegal machines (entries l) (opening_record board.opening)) (sym same) h.legal;
+}
+
+-- a seat whose turn has passed has seen what the world follows
+passed-place : (board : BoardValue) (now new : Place) (note : Note) (w : World) → IsSeat board.table board.opening new
+    → Passed (pass_of board now) (pass_of board new) note
+    → Follows board.opening (entries now.me.0.seen ++ (now.me.0.seat, entry_of note) ∷ []) w → IsPlace board new
+passed-place board now new note w seat p follows = record {
+  seat = seat;
+  start = follows.start;
+  legal = subst (λ l. IsLegal machines l (opening_record board.opening)) (sym p.seen) follows.legal;
+}
 
 -- the pass is that of its seat at the board
 module _ (board : BoardValue) (pass : PassValue) (about : Opening) (seat : Place)
@@ -230,8 +275,8 @@ module _ (board : BoardValue) (pass : PassValue) (about : Opening) (seat : Place
   board-is : ◌≡◌ {A = BoardValue} (record { table = seat.table_id; opening = about }) board
   board-is = ap (λ (p : PassValue). p.board) is ∙ same
 
-  pub seat-at : IsSeat seat.table_id about seat → IsSeat board.table board.opening seat
-  seat-at h = subst (λ (b : BoardValue). IsSeat b.table b.opening seat) board-is h
+  pub place-at : IsPlace (record { table = seat.table_id; opening = about }) seat → IsPlace board seat
+  place-at h = subst (λ (b : BoardValue). IsPlace b seat) board-is h
 
   pub pass-at : pass_of board seat ≡ pass
   pass-at = ap (λ (b : BoardValue). pass_of b seat) (sym board-is) ∙ is
@@ -242,17 +287,17 @@ module _ (board : BoardValue) (pass : PassValue) (about : Opening) (seat : Place
   -- the lock's board is this one
   module _ (table : TableId) (opening key : Opening) (lock : ◌≡◌ {A = BoardValue} (record { table = table; opening = opening }) board)
       (fixed : key ≡ opening) where
-    pub seat-in : IsSeat seat.table_id about seat → IsSeat table key seat
-    seat-in h = at-lock (λ t o. IsSeat t o seat) board table opening key lock fixed (seat-at h)
+    pub seat-in : IsPlace (record { table = seat.table_id; opening = about }) seat → IsSeat table key seat
+    seat-in h = at-lock (λ t o. IsSeat t o seat) board table opening key lock fixed (place-at h).seat
 
     pub turn-at : (new : Place) → IsTurn table key new → IsTurn board.table board.opening new
     turn-at new h = at-board (λ t o. IsTurn t o new) board table opening key lock fixed h
 
-    pub visits-at : (new : Place) (w : World) → IsSeat seat.table_id about seat → IsTurn table key new → Enters kept key seat new w
+    pub visits-at : (new : Place) (w : World) → IsPlace (record { table = seat.table_id; opening = about }) seat → IsTurn table key new → Enters kept key seat new w
         → Visits pass (pass_of board new) w
     visits-at new w h turn enters =
         subst (λ p. Visits p (pass_of board new) w) pass-at
-        (entered board seat new w (seat-at h) (turn-at new turn)
+        (entered board seat new w (place-at h).seat (turn-at new turn)
         (at-board (λ t o. Enters kept o seat new w) board table opening key lock fixed enters))
 
     pub closed-at : (w : World) → turn.Closes kept key seat w → Closes pass w
@@ -265,10 +310,18 @@ module _ (board : BoardValue) (table : TableId) (opening key : Opening)
   fixed-here : key ≡ board.opening
   fixed-here = fixed ∙ ap (λ (b : BoardValue). b.opening) lock
 
+  board-here : (about : Opening) (seat : Place) → IsSeat table key seat → about ≡ board.opening
+      → ◌≡◌ {A = BoardValue} (record { table = seat.table_id; opening = about }) board
+  board-here about seat is same =
+      ap₂ (λ t o. record { table = t; opening = o }) is.here (same ∙ sym (ap (λ (b : BoardValue). b.opening) lock)) ∙ lock
+
   here-at : (about : Opening) (seat : Place) → IsSeat table key seat → about ≡ board.opening
       → pass_of board seat ≡ pass_of (record { table = seat.table_id; opening = about }) seat
-  here-at about seat is same =
-      sym (seen-as board table about seat is.here (ap (λ o. record { table = table; opening = o }) (same ∙ sym (ap (λ (b : BoardValue). b.opening) lock)) ∙ lock))
+  here-at about seat is same = sym (ap (λ (b : BoardValue). pass_of b seat) (board-here about seat is same))
+
+  place-here : (about : Opening) (seat : Place) → IsSeat table key seat → about ≡ board.opening → IsPlace board seat
+      → IsPlace (record { table = seat.table_id; opening = about }) seat
+  place-here about seat is same h = subst (λ (b : BoardValue). IsPlace b seat) (sym (board-here about seat is same)) h
 
   pub passed-at : (now : Place) (about : Opening) → about ≡ board.opening → (new : Place) (note : Note) → IsSeat table key new → turn.Leaves now new note
       → Passed (pass_of board now) (pass_of (record { table = new.table_id; opening = about }) new) note
@@ -276,15 +329,35 @@ module _ (board : BoardValue) (table : TableId) (opening key : Opening)
       subst (λ p. Passed (pass_of board now) p note) (here-at about new is same)
       (passed board now new note (at-board (λ t o. IsSeat t o new) board table opening key lock fixed is) leaves)
 
+  pub passed-place-at : (now : Place) (about : Opening) → about ≡ board.opening → (new : Place) (note : Note) (w : World) → IsSeat table key new
+      → turn.Leaves now new note → Follows board.opening (entries now.me.0.seen ++ (now.me.0.seat, entry_of note) ∷ []) w
+      → IsPlace (record { table = new.table_id; opening = about }) new
+  passed-place-at now about same new note w is leaves follows =
+      let here = at-board (λ t o. IsSeat t o new) board table opening key lock fixed is in
+      place-here about new is same (passed-place board now new note w here (passed board now new note here leaves) follows)
+
+pub split-place : (board : BoardValue) (pass : PassValue) (about : Opening) (seat : Place)
+    → pass_of (record { table = seat.table_id; opening = about }) seat ≡ pass → pass.board ≡ board → (table : TableId) (opening key : Opening)
+    → ◌≡◌ {A = BoardValue} (record { table = table; opening = opening }) board → key ≡ opening
+    → IsPlace (record { table = seat.table_id; opening = about }) seat → (whose : Opening) → whose ≡ board.opening → (new : Place) → IsSeat table key new
+    → new.me.0.seen ≡ seat.me.0.seen → IsPlace (record { table = new.table_id; opening = whose }) new
+split-place board pass about seat is same table opening key lock fixed mine whose here new now seen =
+    place-here board table opening key lock fixed whose new now here
+    (kept-place board seat new (place-at board pass about seat is same mine) (at-board (λ t o. IsSeat t o new) board table opening key lock fixed now) seen)
+
 pub joined-at : (board : BoardValue) (pass : PassValue) (about : Opening) (seat : Place)
     → pass_of (record { table = seat.table_id; opening = about }) seat ≡ pass → pass.board ≡ board → (table : TableId) (opening key : Opening)
     → ◌≡◌ {A = BoardValue} (record { table = table; opening = opening }) board → key ≡ opening
     → (other : PassValue) (whose : Opening) (second : Place) → pass_of (record { table = second.table_id; opening = whose }) second ≡ other
-    → other.board ≡ board → (new : Place) → IsSeat seat.table_id about seat → IsSeat table key new → turn.Joins seat second new
-    → Joins pass other (pass_of (record { table = new.table_id; opening = about }) new)
-joined-at board pass about seat is same table opening key lock fixed other whose second was here new mine now j =
-    subst (λ q. Joins pass other q) (here-at board table opening key lock fixed about new now (about-is board pass about seat is same))
-    (subst (λ p. Joins p other (pass_of board new)) (pass-at board pass about seat is same)
-    (subst (λ o. Joins (pass_of board seat) o (pass_of board new)) (pass-at board other whose second was here)
-    (joined board seat second new (seat-at board pass about seat is same mine)
-    (at-board (λ t o. IsSeat t o new) board table opening key lock fixed now) j)))
+    → other.board ≡ board → (new : Place) → IsPlace (record { table = seat.table_id; opening = about }) seat
+    → IsPlace (record { table = second.table_id; opening = whose }) second → IsSeat table key new → turn.Joins seat second new
+    → IsPlace (record { table = new.table_id; opening = about }) new × Joins pass other (pass_of (record { table = new.table_id; opening = about }) new)
+joined-at board pass about seat is same table opening key lock fixed other whose second was here new mine theirs now j =
+    let both =
+    joined board seat second new (place-at board pass about seat is same mine) (place-at board other whose second was here theirs)
+    (at-board (λ t o. IsSeat t o new) board table opening key lock fixed now) j in (
+      place-here board table opening key lock fixed about new now (about-is board pass about seat is same) both.0,
+      subst (λ q. Joins pass other q) (here-at board table opening key lock fixed about new now (about-is board pass about seat is same))
+          (subst (λ p. Joins p other (pass_of board new)) (pass-at board pass about seat is same)
+          (subst (λ o. Joins (pass_of board seat) o (pass_of board new)) (pass-at board other whose second was here) both.1)),
+    )

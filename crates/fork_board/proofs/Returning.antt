@@ -8,7 +8,7 @@ use Rattle.forest_model.specs.Machine.{Machine}
 use Rattle.world_core.specs.declared.reason.Reason.{Reason}
 use Rattle.world_core.specs.declared.world.World.{World}
 use Rattle.world_core.specs.declared.world.Placed.{Placed}
-use Rattle.world_core.specs.Answers.{Answers, HandedOut, HandedOutIn, IsLentOf}
+use Rattle.world_core.specs.Answers.{Answers, HandedOutIn, IsLentOf}
 use Rattle.world_core.specs.Answers.{IsOutSince}
 use Rattle.world_core.specs.Arrived.{StillHandedOut}
 use Rattle.world_core.specs.Lent.{IsSameLease, Lent}
@@ -54,9 +54,6 @@ comes pass now w lease v held led of_depot =
 module _ (pass now : PassValue) (w : World) (lease : Lent) (h : Comes pass now w lease) where
   pub handed-in : HandedOutIn (depot_of now.board.opening) w lease
   handed-in = (h.out.forest, h.out.stands, h.out.handed, h.of_depot)
-
-  pub handed : HandedOut w lease
-  handed = (depot_of now.board.opening, handed-in)
 
   -- the note of the answer
   note-is : (how : How) (answer : Placed) (name : Path) (ran : ℕ) (done note : Entry Reason) → name ≡ lease.name → ran ≡ lease.ran

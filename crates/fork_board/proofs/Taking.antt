@@ -1,6 +1,5 @@
 -- The other calls in a turn of a pass.
-use Rattle.std.proofs.Common.{◌≡◌, ℕ, ◌<◌, [], ◌∷◌, ◌++◌, length, Option, Result, Ok, Err, IfOk, OnOk, OnErr, refl, sym, ap, ◌∙◌, subst, slice_get}
-use Rattle.std.specs.Option.{ForSome}
+use Rattle.std.proofs.Common.{◌≡◌, ℕ, ◌<◌, [], ◌∷◌, ◌++◌, length, Option, Result, OnOk, OnErr, sym, ap, ◌∙◌, subst}
 use Rattle.std.specs.declared.alloc.AllocError.{AllocError}
 use Rattle.image_depot.specs.Key.{Shelves}
 use Rattle.image_depot.specs.Reply.{Delivery, IsSentOf, sent_image, sent_page}
@@ -12,17 +11,16 @@ use Rattle.world_core.specs.declared.world.World.{World}
 use Rattle.world_core.specs.declared.world.Taken.{Taken}
 use Rattle.world_core.specs.Answers as core
 use Rattle.world_core.specs.Answers.{Goes}
-use Rattle.world_core.specs.Told.{AreKept, told_of}
+use Rattle.world_core.specs.Told.{told_of}
 use Rattle.world_core.specs.World.{Forest, StandsFor}
 use Rattle.fork_board.specs.declared.note.Note.{Note}
-use Rattle.fork_board.specs.declared.note.Note.TheVariants as note
-use Rattle.fork_board.specs.Answers.{Hears, Takes}
+use Rattle.fork_board.specs.Answers.{Takes}
 use Rattle.fork_board.specs.Follows.{Follows, depot_of}
 use Rattle.fork_board.specs.Notes.{entry_of, heard_entry, taken_entry, told_entry}
-use Rattle.fork_board.specs.Passes.{BoardValue, Makes, PassValue}
+use Rattle.fork_board.specs.Passes.{Makes, PassValue}
 use Rattle.fork_board.specs.Visits.{Passed, Visits}
 use Rattle.fork_board.proofs.Worlds.{follows-row, follows-taken, takes}
-use Rattle.fork_board.proofs.Delivered.{follows-heard, follows-told, hears}
+use Rattle.fork_board.proofs.Delivered.{follows-heard, follows-told}
 use Rattle.fork_board.proofs.Passing.{noted}
 
 -- the note is this entry, by which the world goes on

@@ -1,5 +1,5 @@
 -- A world that follows a history, and makes an entry more.
-use Rattle.std.proofs.Common.{◌≡◌, ℕ, List, [], ◌∷◌, ◌++◌, map, Bool, true, false, Option, Some, None, option_map, refl, sym, ap, ap₂, ◌∙◌, subst, cond}
+use Rattle.std.proofs.Common.{◌≡◌, List, [], ◌∷◌, ◌++◌, map, true, Option, Some, None, option_map, refl, sym, ap, ap₂, ◌∙◌, subst, cond}
 use Rattle.std.specs.Option.{IfSome}
 use Rattle.std.specs.Prelude.{IsSomeAnd}
 use Rattle.std.specs.List.{All}
@@ -13,13 +13,13 @@ use Rattle.forest_tree.proofs.Projected.{subtree-map}
 use Rattle.forest_history.specs.Places.{Spot, out, spots}
 use Rattle.forest_history.specs.World as history
 use Rattle.forest_history.specs.World.{holds, lives_ready, world_of}
-use Rattle.forest_history.specs.Rows.{How, Row, dropped, kept, over, stopped, idle, took, nothing, spent, waited, halted, Allows, does}
+use Rattle.forest_history.specs.Rows.{How, Row, dropped, kept, over, stopped, idle, took, nothing, spent, waited, Allows, does}
 use Rattle.forest_history.specs.Seen.{spot_seen}
 use Rattle.forest_history.specs.Histories.{Entry, row, History, Holding, HandsBack, IsHeldBy, IsLegal, Permits, Record, Seat, holding, record_after, replay, with_taken}
 use Rattle.forest_model.specs.Forest.{machines}
 use Rattle.forest_model.specs.Machine.{Machine}
 use Rattle.forest_model.specs.Paged.{Paged, Pages, paged_machines}
-use Rattle.vm_cell.specs.Keyed.{KeyedMachine, paged}
+use Rattle.vm_cell.specs.Keyed.{paged}
 use Rattle.world_core.specs.declared.reason.Reason.{Reason}
 use Rattle.world_core.specs.declared.world.World.{World}
 use Rattle.world_core.specs.declared.world.Placed.{Placed}
@@ -31,12 +31,12 @@ use Rattle.world_core.specs.Answers.{Answers, Goes, HandedOut, HandedOutIn, IsHa
 use Rattle.world_core.specs.Answers.{IsOutSince}
 use Rattle.world_core.specs.Arrived.{StillHandedOut, with_flags}
 use Rattle.world_core.specs.Lent.{Lent, now_of}
-use Rattle.world_core.specs.Told.{AreKept, told_of}
+use Rattle.world_core.specs.Told.{told_of}
 use Rattle.world_core.specs.World.{Forest, StandsFor}
 use Rattle.world_core.proofs.Arriving.{flags-family}
 use Rattle.fork_board.specs.declared.note.Opening.{Opening}
-use Rattle.fork_board.specs.Answers.{IsTaken, Places, Takes}
-use Rattle.fork_board.specs.Follows.{Follows, IsWorldOf, depot_of, family_of, opening_record, pair_of, record_at}
+use Rattle.fork_board.specs.Answers.{Places, Takes}
+use Rattle.fork_board.specs.Follows.{Follows, IsWorldOf, depot_of, family_of, pair_of, record_at}
 use Rattle.fork_board.specs.Notes.{placed_entry, taken_entry}
 use Rattle.fork_board.specs.Passes.{BoardValue, IsHeld, PassValue}
 use Rattle.fork_board.proofs.Records.{allows-family, does-family, kept-holdings, legal-more, out-as-taken, permits-row, record-more, same-path}

@@ -1,5 +1,5 @@
 -- What comes with the answers of a board.
-use Rattle.std.specs.Prelude.{◌≡◌, ℕ, ◌<◌, length, Option, Some, None, Result, Ok, Err, option_map, slice_get}
+use Rattle.std.specs.Prelude.{◌≡◌, ℕ, ◌<◌, length, Option, Result, Ok, Err, option_map, slice_get}
 use Rattle.forest_history.specs.Rows.{How}
 use Rattle.image_depot.specs.Reply.{Delivery, IsSentOf}
 use Rattle.std.specs.Option.{ForSome}

@@ -1,5 +1,5 @@
 -- The world under the lock follows a history.
-use Rattle.std.specs.Prelude.{◌≡◌, ℕ, List, map}
+use Rattle.std.specs.Prelude.{◌≡◌, ℕ, map}
 use Rattle.image_depot.specs.Key.{Shelves}
 use Rattle.image_depot.specs.Reply.{Delivery, sent_image, sent_page}
 use Rattle.forest_tree.specs.Sound.{IsSound}

@@ -3,4 +3,5 @@ pub mod Follows
 pub mod Passes
 pub mod Visits
 pub mod Answers
+pub mod Deeds
 pub mod Holds

@@ -1,7 +1,6 @@
 -- What the notes of a board stand for in a history.
-use Rattle.std.specs.Prelude.{ℕ, List, map, Option, Some, None, Result, Ok, Err}
+use Rattle.std.specs.Prelude.{ℕ, map, Option, Result, Ok, Err}
 use Rattle.std.specs.declared.alloc.AllocError.{AllocError}
-use Rattle.fork_port.specs.declared.ending.Ending.{Ending}
 use Rattle.forest_tree.specs.Tree.{Path}
 use Rattle.forest_history.specs.Rows.{How, spent, waited, over, stopped, idle, took, nothing, dropped, kept, halted, gave, ended, forked, joined, killed}
 use Rattle.forest_history.specs.Histories.{Entry, row, told, heard, mute, deaf, History}

@@ -95,7 +95,8 @@ pub record Makes (old new : PassValue) (entry : Entry Reason) : Type 0 where
   pub free : (name : Path) → FreeAfter entry name (IsFree old name) → IsFree new name
   pub held : (lease : Lent) → IsHeld old lease → Leaves entry lease.name → IsHeld new lease
 
--- the pass has seen the longer of what two had seen, of which the other is the beginning
+-- the pass has seen the longer of what two had seen, of which the other is the beginning. All of it is legal, and the
+-- pass holds what it held, and has no entries but its own
 pub record Joins (pass other new : PassValue) : Type 0 where
   pub same_board : new.board ≡ pass.board
   pub same_number : new.number ≡ pass.number
@@ -104,7 +105,10 @@ pub record Joins (pass other new : PassValue) : Type 0 where
   pub either : (new.seen ≡ pass.seen) ⊎ (new.seen ≡ other.seen)
   pub seen : (rest : History Reason) × (new.seen ≡ pass.seen ++ rest)
   pub others : (rest : History Reason) × (new.seen ≡ other.seen ++ rest)
+  pub own : entries_by new.number new.seen ≡ new.mine
+  pub legal : IsLegal machines new.seen (opening_record new.board.opening)
   pub free : (name : Path) → IsFree pass name → IsFree new name
+  pub held : (lease : Lent) → IsHeld pass lease → IsHeld new lease
 
 -- the whole history begins with what the pass had seen, and has no more entries of its number. The world follows it
 pub record Closes (pass : PassValue) (w : World) : Type 0 where

@@ -1,15 +1,19 @@
 -- A turn of a pass, between its start and its end.
 use Rattle.std.specs.Prelude.{◌≡◌, ℕ, ◌≤◌, List, [], ◌∷◌, ◌++◌}
-use Rattle.forest_history.specs.Histories.{History}
+use Rattle.forest_tree.specs.Sound.{IsSound}
+use Rattle.forest_history.specs.Places.{spots}
+use Rattle.forest_history.specs.Histories.{History, IsLegal}
+use Rattle.forest_model.specs.Forest.{machines}
 use Rattle.atomic_table.specs.declared.shared.Seat.{Seat}
 use Rattle.turn_board.specs.declared.view.Content.{Content}
 use Rattle.turn_board.specs.declared.view.View.{View}
+use Rattle.turn_board.specs.Calls.{IsSeat}
 use Rattle.turn_board.specs.History.{entries_by}
 use Rattle.world_core.specs.declared.reason.Reason.{Reason}
 use Rattle.world_core.specs.declared.world.World.{World}
 use Rattle.fork_board.specs.declared.note.Note.{Note}
 use Rattle.fork_board.specs.declared.note.Opening.{Opening}
-use Rattle.fork_board.specs.Follows.{Follows}
+use Rattle.fork_board.specs.Follows.{Follows, opening_record}
 use Rattle.fork_board.specs.Notes.{entries, entry_of}
 use Rattle.fork_board.specs.Passes.{BoardValue, PassValue}
 
@@ -26,6 +30,12 @@ pass_of board seat = record {
   seen = entries seat.me.0.seen;
   mine = entries seat.me.0.mine;
 }
+
+-- the seat is one of this board and has no turn, and what it has seen is legal from the machine of the opening on
+pub record IsPlace (board : BoardValue) (place : Place) : Type 0 where
+  pub seat : IsSeat board.table board.opening place
+  pub start : IsSound (spots machines) (opening_record board.opening).world.tree
+  pub legal : IsLegal machines (entries place.me.0.seen) (opening_record board.opening)
 
 -- the turn of the pass has come: others made entries since, and the world follows all
 pub record Visits (pass now : PassValue) (w : World) : Type 0 where

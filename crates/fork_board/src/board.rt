@@ -47,15 +47,14 @@ pub struct Pass {
 }
 
 impl Model for Pass {
-    ghost use Rattle.turn_board.specs.Calls.{IsSeat};
     ghost use Rattle.fork_board.specs.Passes.{PassValue};
-    ghost use Rattle.fork_board.specs.Visits.{pass_of};
+    ghost use Rattle.fork_board.specs.Visits.{IsPlace, pass_of};
 
     ghost Value = { PassValue };
 
     ghost view = { λ p. pass_of (record { table = p.seat.table_id; opening = p.opening.value }) p.seat };
 
-    ghost invariant = { λ p. IsSeat p.seat.table_id p.opening.value p.seat };
+    ghost invariant = { λ p. IsPlace (record { table = p.seat.table_id; opening = p.opening.value }) p.seat };
 }
 
 /// A pass whose turn has come, with the world.

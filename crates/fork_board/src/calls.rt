@@ -1,18 +1,20 @@
 //! The calls of a world, each in a turn of its pass.
-ghost use Rattle.std.specs.Prelude.{◌≡◌, IsSome};
+ghost use Rattle.std.specs.Prelude.{◌≡◌};
 ghost use Rattle.forest_history.specs.Histories.{row};
-ghost use Rattle.forest_history.specs.Rows.{ended, forked, halted, joined, killed};
+ghost use Rattle.forest_history.specs.Rows.{forked, halted, joined, killed};
 ghost use Rattle.vm_cell.specs.Standing.{IsClone, IsKill, standing_call};
 ghost use Rattle.world_core.specs.Answers.{IsJoinCall, IsLentOf, home_by};
 ghost use Rattle.world_core.specs.Lent.{vm_of};
 ghost use Rattle.fork_board.specs.Answers.{Places, Takes};
+ghost use Rattle.fork_board.specs.Deeds.{MayDo, how_of};
 ghost use Rattle.fork_board.specs.Follows.{depot_of};
 ghost use Rattle.fork_board.specs.Notes.{placed_entry, taken_entry};
 ghost use Rattle.fork_board.specs.Passes.{IsHeld, Makes};
 
 use crate::board::{Board, Pass};
+use crate::deed::Deed;
 use crate::note::Note;
-use crate::notes::{home_note, placed_note, taken_note};
+use crate::notes::{placed_note, taken_note};
 use image_depot::Depot;
 use std::alloc::Global;
 use std::snapshot::Snapshot;
@@ -41,31 +43,7 @@ impl Board {
         ensures makes { Makes pass result.0 (placed_entry (home_by lease.now.ending) lease.name lease.ran result.1) }
         ensures places { Places (home_by lease.now.ending) lease result.0 result.1 }
     {
-        let name = Snapshot::of(lease.name());
-        let ran = lease.ran();
-        let done = home_note(&lease);
-        let mut visit = self.enter(rt, pass);
-        let placed = visit.turn.value.give(lease);
-        let note = placed_note(done, name, ran, &placed);
-        (self.leave(visit, &note), placed)
-    }
-
-    /// Takes back a machine that has ended.
-    pub fn end<R: Wait>(&self, rt: &R, pass: Pass, lease: Lease) -> (Pass, Placed)
-        requires board { pass.board ≡ self.now }
-        requires held { IsHeld pass lease }
-        requires of_depot { IsLentOf (depot_of self.now.opening) lease }
-        requires ended { IsSome lease.now.ending }
-        ensures makes { Makes pass result.0 (placed_entry ended lease.name lease.ran result.1) }
-        ensures places { Places ended lease result.0 result.1 }
-    {
-        let name = Snapshot::of(lease.name());
-        let ran = lease.ran();
-        let done = Note::Ended(Snapshot::of(lease.name()), ran);
-        let mut visit = self.enter(rt, pass);
-        let placed = visit.turn.value.end(lease);
-        let note = placed_note(done, name, ran, &placed);
-        (self.leave(visit, &note), placed)
+        self.hand_back(rt, pass, lease, Deed::Give)
     }
 
     /// Makes the CLONE at which a machine stands. The children are made ready before the turn, which is short.
@@ -85,14 +63,8 @@ impl Board {
         ensures makes { Makes pass result.0 (placed_entry forked lease.name lease.ran result.1) }
         ensures places { Places forked lease result.0 result.1 }
     {
-        let name = Snapshot::of(lease.name());
-        let ran = lease.ran();
-        let done = Note::Forked(Snapshot::of(lease.name()), ran);
         let litter = lease.litter(rt, alloc, depot);
-        let mut visit = self.enter(rt, pass);
-        let placed = visit.turn.value.bear(lease, litter);
-        let note = placed_note(done, name, ran, &placed);
-        (self.leave(visit, &note), placed)
+        self.hand_back(rt, pass, lease, Deed::Fork(litter))
     }
 
     /// Makes the JOIN at which a machine stands, or parks the machine where a child of the ticket lives.
@@ -104,13 +76,7 @@ impl Board {
         ensures makes { Makes pass result.0 (placed_entry joined lease.name lease.ran result.1) }
         ensures places { Places joined lease result.0 result.1 }
     {
-        let name = Snapshot::of(lease.name());
-        let ran = lease.ran();
-        let done = Note::Joined(Snapshot::of(lease.name()), ran);
-        let mut visit = self.enter(rt, pass);
-        let placed = visit.turn.value.join(alloc, lease);
-        let note = placed_note(done, name, ran, &placed);
-        (self.leave(visit, &note), placed)
+        self.hand_back(rt, pass, lease, Deed::Join(alloc))
     }
 
     /// Makes the KILL at which a machine stands.
@@ -122,11 +88,23 @@ impl Board {
         ensures makes { Makes pass result.0 (placed_entry killed lease.name lease.ran result.1) }
         ensures places { Places killed lease result.0 result.1 }
     {
+        self.hand_back(rt, pass, lease, Deed::Kill)
+    }
+
+    /// Takes a lease back in a turn of the pass, by a call of the world.
+    fn hand_back<R: Wait>(&self, rt: &R, pass: Pass, lease: Lease, deed: Deed) -> (Pass, Placed)
+        requires board { pass.board ≡ self.now }
+        requires held { IsHeld pass lease }
+        requires of_depot { IsLentOf (depot_of self.now.opening) lease }
+        requires may { MayDo (depot_of self.now.opening) deed lease }
+        ensures makes { Makes pass result.0 (placed_entry (how_of deed lease.now.ending) lease.name lease.ran result.1) }
+        ensures places { Places (how_of deed lease.now.ending) lease result.0 result.1 }
+    {
         let name = Snapshot::of(lease.name());
         let ran = lease.ran();
-        let done = Note::Killed(Snapshot::of(lease.name()), ran);
+        let done = deed.note(&lease);
         let mut visit = self.enter(rt, pass);
-        let placed = visit.turn.value.kill(lease);
+        let placed = deed.on(&mut visit.turn.value, lease);
         let note = placed_note(done, name, ran, &placed);
         (self.leave(visit, &note), placed)
     }

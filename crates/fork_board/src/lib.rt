@@ -4,6 +4,7 @@
 
 mod board;
 mod calls;
+mod deed;
 mod kept;
 mod note;
 mod notes;

@@ -1,7 +1,7 @@
 //! What is written of a call, and what is fixed when a board is made. Of both, contracts alone speak.
 
 use image_depot::Depot;
-use run_report::Name;
+use machine_names::Name;
 use std::snapshot::Snapshot;
 use vm_cell::Vm;
 use world_core::Reason;

@@ -2,15 +2,14 @@
 ghost use Rattle.std.specs.Prelude.{◌≡◌};
 ghost use Rattle.forest_history.specs.Histories.{row};
 ghost use Rattle.forest_history.specs.Rows.{How, spent};
-ghost use Rattle.world_core.specs.Answers.{home_by};
 ghost use Rattle.fork_board.specs.Notes.{entry_of, heard_entry, placed_entry, taken_entry, told_entry};
 
 use crate::note::Note;
 use image_depot::Sent;
-use run_report::Name;
+use machine_names::Name;
 use std::alloc::AllocError;
 use std::snapshot::Snapshot;
-use world_core::{Lease, Placed, Taken};
+use world_core::{Placed, Taken};
 
 /// The note of what `take` answers.
 pub(crate) fn taken_note(taken: &Taken) -> Note
@@ -22,17 +21,6 @@ pub(crate) fn taken_note(taken: &Taken) -> Note
         Taken::Idle => Note::Idle,
         Taken::Took(lease) => Note::Took(Snapshot::of(lease.name())),
         Taken::Memory => Note::Nothing,
-    }
-}
-
-/// The note of a lease that is given back.
-pub(crate) fn home_note(lease: &Lease) -> Note
-    ensures { entry_of result ≡ row (spent (home_by lease.now.now.ending) lease.now.name lease.now.ran) }
-{
-    let name = Snapshot::of(lease.name());
-    match lease.ended() {
-        Some(_) => Note::Ended(name, lease.ran()),
-        None => Note::Gave(name, lease.ran()),
     }
 }
 

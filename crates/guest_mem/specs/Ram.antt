@@ -1,5 +1,6 @@
 -- The RAM of a guest: the bytes that it reads, and what is known of its pages.
-use Rattle.std.specs.Prelude.{◌≡◌, ℕ, ◌+◌, ◌*◌, ◌/◌, ◌≤◌, Bool, true, false, not, if◌then◌else◌, List, [], ◌++◌, length, map, take, drop, replicate, slice_get, slice_index, slice_index_or, slice_set, Option, Some, None}
+use Rattle.std.specs.Prelude.{◌≡◌, ℕ, ◌+◌, ◌*◌, ◌/◌, ◌≤◌, Bool, true, false, not, if◌then◌else◌, List, [], ◌++◌, length, map, take, drop, replicate, slice_get}
+use Rattle.std.specs.Prelude.{slice_index, slice_index_or, slice_set, Option, Some, None}
 use Rattle.std.specs.Option.{ForSome}
 use Rattle.flat_memory.specs.Flat.{put_bytes, zeros}
 use Rattle.elf_load.specs.declared.image.TheConstants.{MIN_PAGES, MAX_PAGES}

@@ -1,9 +1,8 @@
 -- A fetch goes on fate by fate, and comes to an end.
-use Rattle.std.proofs.Common.{◌≡◌, ℕ, zero, suc, ◌+◌, ◌-◌, ◌*◌, ◌<◌, ◌≤◌, Bool, true, false, cond, if◌then◌else◌, ◌||◌, eqb, eqb-true, eq-eqb, List, [], ◌∷◌, ◌++◌, length, map, take, get_or, slice_get, slice_set, Option, Some, refl, sym, ap, ◌∙◌, subst, arith, length-append}
-use Rattle.std.specs.List.{All, Contains, remove, list_any}
+use Rattle.std.proofs.Common.{◌≡◌, ℕ, zero, suc, ◌+◌, ◌-◌, ◌*◌, ◌<◌, ◌≤◌, Bool, true, false, cond, if◌then◌else◌, ◌||◌, eqb, eqb-true, eq-eqb, List, [], ◌∷◌, ◌++◌, length, map, take, get_or, slice_get, slice_set, Option, Some, refl, sym, ap, ◌∙◌, subst, arith, inl, inr, Err, length-append}
+use Rattle.std.specs.List.{All, remove, list_any}
 use Rattle.std.proofs.lemmas.List.{length-map, length-set, append-nil}
 use Rattle.std.proofs.lemmas.List.Edits.{length-remove}
-use Rattle.std.proofs.lemmas.List.Elements.{All-nil, All-push, All-take, All-contains_itself}
 use Rattle.std.proofs.lemmas.Option.{slice_get_within, slice_get_read}
 use Rattle.std.proofs.lemmas.Simd.{map-map}
 use Rattle.wire_fates.specs.Fates.{place_of, streak_after}
@@ -13,21 +12,21 @@ use Rattle.image_depot.specs.Key.{Shelves, Key}
 use Rattle.image_depot.specs.Receiver.{IsHere, IsAbsent}
 use Rattle.image_depot.specs.Reply.{Reply, Delivery}
 use Rattle.host_fetch.specs.Asked.{HasGrown, reply_with}
-use Rattle.host_fetch.specs.Fetch.{Fetching, Comes, Ends, Grows, after_fate, asked_again, begun, here_after, waiting_after, waits}
+use Rattle.host_fetch.specs.declared.error.FetchError.TheVariants.{Memory}
+use Rattle.host_fetch.specs.Fetch.{Fetching, Comes, Ends, Finishes, Grows, StopsGiving, after_fate, asked_again, begun, here_after, waiting_after, waits}
 use Rattle.host_fetch.specs.Fetch.Comes.{begins, goes_on}
 use Rattle.host_fetch.proofs.Asking.{map-remove, grown_more, grown_none, waits_more}
 
 -- where a fetch stands between two fates
-pub record Stands {T W X : Type 0} (here : T → List Bool) (key : T → Option Key) (rest : T → T) (tells : W → ℕ → Fate → W → Type 0) (streak : W → ℕ) (now : X → Reply)
+pub record Stands {T W X : Type 0} (here : T → List Bool) (key : T → Option Key) (rest : T → T) (tells : W → ℕ → Fate → W → Type 0) (streak : W → ℕ) (seeds : W → Option (List ℕ)) (now : X → Reply)
     (depot : Shelves) (k : Key) (page : ℕ) (first : List ℕ) (t0 : T) (w0 : W) (sent0 : List Delivery) (t : T) (w : W) (items : List X) (sent : List Delivery) : Type 0 where
   pub f : Fetching
   pub comes : Comes tells streak page w0 (begun (here t0) first) w f
   pub here_is : f.here ≡ here t
   pub replies : map now items ≡ map (reply_with k) f.waiting
   pub grown : HasGrown depot k f.asked sent0 sent
-  pub among : All (Contains first) f.asked
-  pub has : Contains first page
   pub waits_is : waits page f.waiting ≡ true
+  pub seeds_is : seeds w ≡ seeds w0
   pub key_is : key t ≡ Some k
   pub rest_is : rest t ≡ rest t0
   pub grows : Grows (here t0) (here t)
@@ -130,10 +129,6 @@ again_here : (b : Bool) (page : ℕ) (f : Fetching) → (again b page f).here �
 again_here true page f = refl
 again_here false page f = refl
 
-again_among : (b : Bool) (page : ℕ) (f : Fetching) (first : List ℕ) → Contains first page → All (Contains first) f.asked → All (Contains first) (again b page f).asked
-again_among true page f first has h = h
-again_among false page f first has h = All-push (Contains first) f.asked page h has
-
 again_replies : (b : Bool) (k : Key) (page : ℕ) (f : Fetching) (old new : List Reply) → old ≡ map (reply_with k) f.waiting
     → new ≡ old ++ cond b [] (reply_with k page ∷ []) → new ≡ map (reply_with k) (again b page f).waiting
 again_replies true k page f old new is more = more ∙ append-nil old ∙ is
@@ -173,35 +168,37 @@ pub is_absent : (here : List Bool) (page : ℕ) → page < length here → get_o
 is_absent here page below e = slice_get_read here (length here) page false refl below (sym e)
 
 -- where memory was wanting, some of the first pages were asked for
-pub part_asked : (depot : Shelves) (k : Key) (first asked : List ℕ) (count : ℕ) (old new : List Delivery) → asked ≡ first → HasGrown depot k (take count asked) old new
-    → (x : List ℕ) × HasGrown depot k x old new × All (Contains first) x
-part_asked depot k first asked count old new same grown =
-    (take count asked, grown, All-take (Contains first) count asked (subst (All (Contains first)) (sym same) (All-contains_itself first)))
+pub part_asked : {W : Type 0} (tells : W → ℕ → Fate → W → Type 0) (streak : W → ℕ) (page : ℕ) (depot : Shelves) (k : Key) (here : List Bool) (w : W)
+    (first asked : List ℕ) (count : ℕ) (old new : List Delivery) → asked ≡ first → HasGrown depot k (take count asked) old new
+    → (x : List ℕ) × HasGrown depot k x old new × Finishes tells streak page w (begun here first) w here x (Err Memory)
+part_asked tells streak page depot k here w first asked count old new same grown =
+    (take count asked, grown, inl (record { count = count; asked_is = ap (take count) same; here_is = refl; wire_is = refl }))
 
-pub none_asked : (depot : Shelves) (k : Key) (first : List ℕ) (sent : List Delivery) → (x : List ℕ) × HasGrown depot k x sent sent × All (Contains first) x
-none_asked depot k first sent = ([], grown_none depot k sent, All-nil (Contains first))
+pub none_asked : {W : Type 0} (tells : W → ℕ → Fate → W → Type 0) (streak : W → ℕ) (page : ℕ) (depot : Shelves) (k : Key) (here : List Bool) (w : W)
+    (first : List ℕ) (sent : List Delivery) → (x : List ℕ) × HasGrown depot k x sent sent × Finishes tells streak page w (begun here first) w here x (Err Memory)
+none_asked tells streak page depot k here w first sent =
+    part_asked tells streak page depot k here w first first 0 sent sent refl (grown_none depot k sent)
 
 -- the replies that wait are those of the pages that wait
 same_count : {X : Type 0} (now : X → Reply) (k : Key) (items : List X) (pages : List ℕ) → map now items ≡ map (reply_with k) pages → length items ≡ length pages
 same_count now k items pages e = sym (length-map items now) ∙ ap length e ∙ length-map pages (reply_with k)
 
-module _ {T W X : Type 0} (here : T → List Bool) (key : T → Option Key) (rest : T → T) (tells : W → ℕ → Fate → W → Type 0) (streak : W → ℕ) (now : X → Reply)
+module _ {T W X : Type 0} (here : T → List Bool) (key : T → Option Key) (rest : T → T) (tells : W → ℕ → Fate → W → Type 0) (streak : W → ℕ) (seeds : W → Option (List ℕ)) (now : X → Reply)
     (depot : Shelves) (k : Key) (page : ℕ) (first : List ℕ) (t0 : T) (w0 : W) (sent0 : List Delivery) where
   -- the replies that were asked for at first wait
   pub stands : (t : T) (w : W) (items : List X) (sent : List Delivery) (more : List ℕ) → first ≡ page ∷ more → t ≡ t0 → w ≡ w0 → map now items ≡ map (reply_with k) first
       → HasGrown depot k first sent0 sent → key t0 ≡ Some k → IsAbsent (here t0) page
-      → Stands here key rest tells streak now depot k page first t0 w0 sent0 t w items sent
+      → Stands here key rest tells streak seeds now depot k page first t0 w0 sent0 t w items sent
   stands t w items sent more is_first same_t same_w replies grown key_is absent =
-      subst (λ t. Stands here key rest tells streak now depot k page first t0 w0 sent0 t w items sent) (sym same_t)
-      (subst (λ w. Stands here key rest tells streak now depot k page first t0 w0 sent0 t0 w items sent) (sym same_w) (record {
+      subst (λ t. Stands here key rest tells streak seeds now depot k page first t0 w0 sent0 t w items sent) (sym same_t)
+      (subst (λ w. Stands here key rest tells streak seeds now depot k page first t0 w0 sent0 t0 w items sent) (sym same_w) (record {
         f = begun (here t0) first;
         comes = begins;
         here_is = refl;
         replies = replies;
         grown = grown;
-        among = All-contains_itself first;
-        has = subst (λ l. Contains l page) (sym is_first) (0, omega arith, refl);
         waits_is = subst (λ l. waits page l ≡ true) (sym is_first) (ap (λ b. b || waits page more) (eq-eqb page page refl));
+        seeds_is = refl;
         key_is = key_is;
         rest_is = refl;
         grows = grows_none (here t0);
@@ -215,7 +212,7 @@ module _ {T W X : Type 0} (here : T → List Bool) (key : T → Option Key) (res
       h ∙ ap (λ l. here_after fate l (here t)) (pages_are now k items f.waiting replies) ∙ ap (here_after fate f.waiting) (sym here_is)
 
   pub ended : (t t2 : T) (w w2 : W) (items : List X) (sent : List Delivery) (fate : Fate) (count : ℕ)
-      → (s : Stands here key rest tells streak now depot k page first t0 w0 sent0 t w items sent) → count ≡ length items → tells w count fate w2
+      → (s : Stands here key rest tells streak seeds now depot k page first t0 w0 sent0 t w items sent) → count ≡ length items → tells w count fate w2
       → here t2 ≡ here_after fate (map (λ x. (now x).page) items) (here t)
       → Ends tells streak page w0 (begun (here t0) first) w2 (here t2) s.f.asked
   ended t t2 w w2 items sent fate count s counted told h = record {
@@ -228,7 +225,21 @@ module _ {T W X : Type 0} (here : T → List Bool) (key : T → Option Key) (res
     asked_is = refl;
   }
 
-  pub below_after : (t t2 : T) (w : W) (items : List X) (sent : List Delivery) (fate : Fate) → Stands here key rest tells streak now depot k page first t0 w0 sent0 t w items sent
+  -- memory was wanting to take the reply of a fate in
+  pub stops : (t t2 : T) (w w2 : W) (items : List X) (sent : List Delivery) (fate : Fate) (count : ℕ)
+      → (s : Stands here key rest tells streak seeds now depot k page first t0 w0 sent0 t w items sent) → count ≡ length items → tells w count fate w2 → t2 ≡ t
+      → StopsGiving tells streak page w0 (begun (here t0) first) w2 (here t2) s.f.asked
+  stops t t2 w w2 items sent fate count s counted told same = record {
+    before = w;
+    f = s.f;
+    fate = fate;
+    comes = s.comes;
+    told = subst (λ n. tells w n fate w2) (counted ∙ same_count now k items s.f.waiting s.replies) told;
+    here_is = ap here same ∙ sym s.here_is;
+    asked_is = refl;
+  }
+
+  pub below_after : (t t2 : T) (w : W) (items : List X) (sent : List Delivery) (fate : Fate) → Stands here key rest tells streak seeds now depot k page first t0 w0 sent0 t w items sent
       → here t2 ≡ here_after fate (map (λ x. (now x).page) items) (here t) → page < length (here t2)
   below_after t t2 w items sent fate s h =
       omega (arith, slice_get_within (here t) page false s.absent, ap length h, (fate_grows fate (map (λ x. (now x).page) items) (here t)).pages)
@@ -241,13 +252,13 @@ module _ {T W X : Type 0} (here : T → List Bool) (key : T → Option Key) (res
   replies_after items items2 f fate replies e = e ∙ ap (waiting_after fate) replies ∙ sym (waiting_map (reply_with k) fate f.waiting)
 
   pub stands_on : (t t2 : T) (w w2 : W) (items items2 items3 : List X) (sent sent3 : List Delivery) (fate : Fate) (count : ℕ)
-      → Stands here key rest tells streak now depot k page first t0 w0 sent0 t w items sent → count ≡ length items → tells w count fate w2
-      → here t2 ≡ here_after fate (map (λ x. (now x).page) items) (here t) → map now items2 ≡ waiting_after fate (map now items) → key t2 ≡ key t → rest t2 ≡ rest t
+      → Stands here key rest tells streak seeds now depot k page first t0 w0 sent0 t w items sent → count ≡ length items → tells w count fate w2
+      → here t2 ≡ here_after fate (map (λ x. (now x).page) items) (here t) → map now items2 ≡ waiting_after fate (map now items) → seeds w2 ≡ seeds w → key t2 ≡ key t → rest t2 ≡ rest t
       → IsAbsent (here t2) page → streak w2 < 64
       → map now items3 ≡ map now items2 ++ cond (list_any (λ x. eqb (now x).page page) items2) [] (reply_with k page ∷ [])
       → HasGrown depot k (cond (list_any (λ x. eqb (now x).page page) items2) [] (page ∷ [])) sent sent3
-      → Stands here key rest tells streak now depot k page first t0 w0 sent0 t2 w2 items3 sent3
-  stands_on t t2 w w2 items items2 items3 sent sent3 fate count s counted told h waiting same_key same_rest absent less more grown =
+      → Stands here key rest tells streak seeds now depot k page first t0 w0 sent0 t2 w2 items3 sent3
+  stands_on t t2 w w2 items items2 items3 sent sent3 fate count s counted told h waiting same_seeds same_key same_rest absent less more grown =
       let f2 : Fetching = after_fate fate s.f in
       let b : Bool = waits page f2.waiting in
       let here2 = after_is t t2 items s.f fate s.here_is s.replies h in
@@ -259,9 +270,8 @@ module _ {T W X : Type 0} (here : T → List Bool) (key : T → Option Key) (res
         here_is = again_here b page f2 ∙ sym here2;
         replies = again_replies b k page f2 _ _ replies2 (subst (λ c. map now items3 ≡ map now items2 ++ cond c [] (reply_with k page ∷ [])) same more);
         grown = again_grown b depot k page f2 sent0 sent sent3 s.grown (subst (λ c. HasGrown depot k (cond c [] (page ∷ [])) sent sent3) same grown);
-        among = again_among b page f2 first s.has s.among;
-        has = s.has;
         waits_is = again_waits b page f2 refl;
+        seeds_is = same_seeds ∙ s.seeds_is;
         key_is = same_key ∙ s.key_is;
         rest_is = same_rest ∙ s.rest_is;
         grows = grown_on (here t0) (here t) (here t2) fate (map (λ x. (now x).page) items) s.grows h;
@@ -269,7 +279,7 @@ module _ {T W X : Type 0} (here : T → List Bool) (key : T → Option Key) (res
       }
 
   pub less : (t t2 : T) (w w2 : W) (items items2 items3 : List X) (sent : List Delivery) (fate : Fate) (count : ℕ)
-      → Stands here key rest tells streak now depot k page first t0 w0 sent0 t w items sent → count ≡ length items → place_of fate < count
+      → Stands here key rest tells streak seeds now depot k page first t0 w0 sent0 t w items sent → count ≡ length items → place_of fate < count
       → here t2 ≡ here_after fate (map (λ x. (now x).page) items) (here t) → map now items2 ≡ waiting_after fate (map now items)
       → IsAbsent (here t2) page → streak w2 ≡ streak_after fate (streak w) → streak w2 < 64
       → map now items3 ≡ map now items2 ++ cond (list_any (λ x. eqb (now x).page page) items2) [] (reply_with k page ∷ [])
@@ -287,6 +297,6 @@ module _ {T W X : Type 0} (here : T → List Bool) (key : T → Option Key) (res
       omega (arith, fall, n, n3)
 
   -- what may be given to the receiver
-  pub keys_of : (t : T) (w : W) (items : List X) (sent : List Delivery) → Stands here key rest tells streak now depot k page first t0 w0 sent0 t w items sent
+  pub keys_of : (t : T) (w : W) (items : List X) (sent : List Delivery) → Stands here key rest tells streak seeds now depot k page first t0 w0 sent0 t w items sent
       → All (λ x. key t ≡ Some (now x).key) items
   keys_of t w items sent s i d below = s.key_is ∙ ap (λ c. Some c) (sym (keys_are now k items s.f.waiting s.replies i d below))

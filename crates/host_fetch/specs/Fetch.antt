@@ -1,6 +1,6 @@
 -- A fetch, fate by fate.
-use Rattle.std.specs.Prelude.{◌≡◌, ℕ, ◌<◌, ◌==◌, Bool, true, List, [], ◌∷◌, ◌++◌, length, slice_index, slice_set, if◌then◌else◌, Result, Ok, Err}
-use Rattle.std.specs.List.{All, Contains, remove, list_any}
+use Rattle.std.specs.Prelude.{◌≡◌, ◌⊎◌, ℕ, ◌<◌, ◌==◌, Bool, true, List, [], ◌∷◌, ◌++◌, length, take, slice_index, slice_set, if◌then◌else◌, Result, Ok, Err}
+use Rattle.std.specs.List.{remove, list_any}
 use Rattle.wire_fates.specs.declared.fate.Fate.{Fate}
 use Rattle.wire_fates.specs.declared.fate.Fate.TheVariants.{Give, Again, Lose}
 use Rattle.wire_fates.specs.declared.fate.TheConstants.{LONGEST_STREAK}
@@ -61,12 +61,33 @@ pub record Ends {W : Type 0} (tells : W → ℕ → Fate → W → Type 0) (stre
   pub here_is : here ≡ (after_fate fate f).here
   pub asked_is : asked ≡ f.asked
 
+-- memory was wanting for what it asks for at first: some of it was asked for, and no fate told
+pub record StopsAsking {W : Type 0} (first : W) (start : Fetching) (last : W) (here : List Bool) (asked : List ℕ) : Type 0 where
+  pub count : ℕ
+  pub asked_is : asked ≡ take count start.asked
+  pub here_is : here ≡ start.here
+  pub wire_is : last ≡ first
+
+-- one fate more was told, and memory was wanting to take its reply in: the pages that are here are as before it
+pub record StopsGiving {W : Type 0} (tells : W → ℕ → Fate → W → Type 0) (streak : W → ℕ) (page : ℕ) (first : W) (start : Fetching) (last : W) (here : List Bool) (asked : List ℕ) : Type 0 where
+  pub before : W
+  pub f : Fetching
+  pub fate : Fate
+  pub comes : Comes tells streak page first start before f
+  pub told : tells before (length f.waiting) fate last
+  pub here_is : here ≡ f.here
+  pub asked_is : asked ≡ f.asked
+
 -- a fetch that asked for these pages ends well where the wanted page is here after a fate, and for the wire where the
--- page is absent after a fate and the streak is the longest; where memory is wanting it may have asked for less
+-- page is absent after a fate and the streak is the longest. Memory may be wanting while it asks at first, to take a
+-- reply in, or to ask for the page again, which is absent after a fate
 abbrev pub Finishes : {W : Type 0} → (W → ℕ → Fate → W → Type 0) → (W → ℕ) → ℕ → W → Fetching → W → List Bool → List ℕ → Result (Unit {0}) FetchError → Type 0
 Finishes tells streak page first start last here asked (Ok _) = Ends tells streak page first start last here asked × IsHere here page
 Finishes tells streak page first start last here asked (Err Wire) = Ends tells streak page first start last here asked × IsAbsent here page × (streak last ≡ LONGEST_STREAK)
-Finishes tells streak page first start last here asked (Err Memory) = All (Contains start.asked) asked
+Finishes tells streak page first start last here asked (Err Memory) =
+    StopsAsking first start last here asked
+    ⊎ (StopsGiving tells streak page first start last here asked
+    ⊎ (Ends tells streak page first start last here asked × IsAbsent here page × (streak last < LONGEST_STREAK)))
 
 -- the pages that are here have only grown in number
 pub record Grows (old new : List Bool) : Type 0 where

@@ -42,6 +42,7 @@ pub fn fetch<R: Wait, T: Receiver, W: Wire>(
     ensures wire { IfErr result (λ error. error ≡ FetchError.Wire → W.streak wire.new ≡ LONGEST_STREAK) }
     ensures kept { All (IsSentOf depot.now) pushed.old.items → All (IsSentOf depot.now) pushed.new.items }
     ensures key { T.key receiver.new ≡ T.key receiver.old }
+    ensures seeds { W.seeds wire.new ≡ W.seeds wire.old }
     ensures rest { T.rest receiver.new ≡ T.rest receiver.old }
     ensures grows { Grows (T.here receiver.old) (T.here receiver.new) }
 {
@@ -78,6 +79,7 @@ fn fetch_page<R: Wait, T: Receiver, W: Wire>(
         × HasGrown depot.now key.now asked pushed.old.items pushed.new.items
         × Finishes W.tells W.streak page wire.old (begun (T.here receiver.old) (first_asked (T.here receiver.old) page ahead)) wire.new (T.here receiver.new) asked result }
     ensures key { T.key receiver.new ≡ T.key receiver.old }
+    ensures seeds { W.seeds wire.new ≡ W.seeds wire.old }
     ensures rest { T.rest receiver.new ≡ T.rest receiver.old }
     ensures grows { Grows (T.here receiver.old) (T.here receiver.new) }
 {

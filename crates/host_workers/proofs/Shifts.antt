@@ -1,8 +1,8 @@
 -- Shifts: how they are dealt, and what two halves of them have done.
-use Rattle.std.proofs.Common.{◌≡◌, ℕ, zero, suc, ◌+◌, ◌≤◌, false, eqb, List, [], ◌∷◌, ◌++◌, drop, length, slice_index_or, slice_set, take, refl, sym, ap, ◌∙◌, subst, arith}
+use Rattle.std.proofs.Common.{◌≡◌, ℕ, zero, suc, ◌+◌, ◌≤◌, false, eqb, List, [], ◌∷◌, ◌++◌, drop, length, map, slice_index_or, slice_set, take, refl, sym, ap, ap₂, ◌∙◌, subst, arith}
 use Rattle.std.specs.List.{All}
 use Rattle.std.proofs.Math.Seq.{drop-append_seam, take-append_seam}
-use Rattle.std.proofs.lemmas.List.{length_push}
+use Rattle.std.proofs.lemmas.List.{length_push, map-append}
 use Rattle.std.proofs.lemmas.List.Elements.{All-append, All-cons, All-drop, All-nil, All-take}
 use Rattle.fork_board.specs.Passes.{BoardValue, HoldsNone, Joins, PassValue}
 use Rattle.host_workers.specs.Spread.{HasWorked, HaveWorked, IsDue, WorkAll, Works, child, finish_of, parent, shifts_of}
@@ -10,6 +10,21 @@ use Rattle.host_workers.specs.declared.crew.Shift.{Shift}
 use Rattle.host_workers.specs.declared.crew.Shift.TheVariants.{Due, Begun, Done}
 use Rattle.host_workers.specs.declared.finish.Finish.{Finish}
 use Rattle.host_workers.proofs.Joining.{alone-works, both-work}
+
+-- ---- the seeds of wires
+
+-- those of two halves
+pub both-seeded : {W S : Type 0} (seeds : W → S) (here there here' there' : List W) → map seeds here ≡ map seeds here' → map seeds there ≡ map seeds there'
+    → map seeds (here ++ there) ≡ map seeds (here' ++ there')
+both-seeded seeds here there here' there' first second =
+    map-append seeds here there ∙ ap₂ (λ a b. a ++ b) first second ∙ sym (map-append seeds here' there')
+
+-- that of one
+pub one-seeded : {W S : Type 0} (seeds : W → S) (wires : List W) (d new : W) → length wires ≡ 1 → seeds new ≡ seeds (slice_index_or wires 0 d)
+    → map seeds (slice_set wires 0 new) ≡ map seeds wires
+one-seeded seeds (w ∷ []) d new one same = ap (λ s. s ∷ []) same
+one-seeded seeds [] d new one same = absurd (cc)
+one-seeded seeds (w ∷ v ∷ ws) d new one same = absurd (omega (arith, one))
 
 -- ---- how they are dealt
 

@@ -1,7 +1,7 @@
 //! What workers are given, and what they give back.
 
 use crate::finish::Finish;
-use crate::idlers::Idlers;
+use crate::lookout::Lookout;
 use fork_board::Pass;
 use std::alloc::Global;
 use std::default::Default;
@@ -10,7 +10,7 @@ use std::default::Default;
 #[derive(Drop)]
 pub(crate) struct Crew<G> {
     pub(crate) gate: G,
-    pub(crate) idlers: Idlers,
+    pub(crate) lookout: Lookout,
     pub(crate) alloc: Global,
     pub(crate) slice: u64,
     pub(crate) ahead: u32,

@@ -1,6 +1,6 @@
 //! All workers of a board, one to a wire.
 
-ghost use Rattle.std.specs.Prelude.{◌≡◌, ◌⊎◌, ℕ, ◌+◌, ◌<◌, ◌≤◌, length};
+ghost use Rattle.std.specs.Prelude.{◌≡◌, ◌⊎◌, ℕ, ◌+◌, ◌<◌, ◌≤◌, length, map};
 ghost use Rattle.std.specs.List.{All};
 ghost use Rattle.std.specs.Thread.{IsSend, IsSync};
 ghost use Rattle.fork_board.specs.Follows.{depot_of};
@@ -12,7 +12,7 @@ ghost use Rattle.host_workers.specs.Spread.{HasWorked, HaveWorked, IsDue, WorkAl
 use crate::crew::{Crew, Shift};
 use crate::finish::Finish;
 use crate::gate::Gate;
-use crate::idlers::Idlers;
+use crate::lookout::Lookout;
 use crate::worker::work;
 use arrayvec::ArrayVec;
 use fork_board::{Board, Pass};
@@ -21,7 +21,7 @@ use image_depot::Depot;
 use std::marker::{Send, Sync};
 use std::mem;
 use std::sync::Wait;
-use std::thread::{Threads, join_mut};
+use std::thread::{self, Threads, join_mut};
 use wire_fates::Wire;
 use world_core::Reason;
 
@@ -63,11 +63,12 @@ pub fn run_hosts<R: AllocGlobal + Threads + Wait + Sync, W: Wire + Send, G: Gate
     ensures finish { Finishes result.0 result.1 }
     ensures done { AreDone (length wires.new) pass result.0 }
     ensures wire { result.1 ≡ Finish.Stopped Reason.Wire → IsOneLost W.streak wires.new ⊎ (IsStopped pass ⊎ IsStoppedElsewhere pass result.0) }
+    ensures seeds { map W.seeds wires.new ≡ map W.seeds wires.old }
     ensures len { length wires.new ≡ length wires.old }
 {
     let crew = Crew {
         gate,
-        idlers: Idlers::new(),
+        lookout: Lookout::new(wires.len(), processors(rt, wires.len())),
         alloc: rt.alloc(),
         slice: u64::from(slice),
         ahead,
@@ -76,6 +77,17 @@ pub fn run_hosts<R: AllocGlobal + Threads + Wait + Sync, W: Wire + Send, G: Gate
     let shifts = dealt.as_mut_slice();
     work_all(rt, &crew, board, depot, 0, shifts, wires);
     gather(board, shifts, wires)
+}
+
+/// How many workers may run at once, of so many. One has no use for the answer, which is read from files of the system.
+fn processors<R: Threads>(rt: &R, workers: usize) -> usize {
+    if workers == 1 {
+        return 1;
+    }
+    match thread::available_parallelism(rt) {
+        Ok(count) => count.get(),
+        Err(_) => workers,
+    }
 }
 
 /// The shifts of so many workers. Each of these but the last has a pass that is split off.
@@ -120,6 +132,7 @@ fn work_all<R: Threads + Wait + Sync, W: Wire + Send, G: Gate + Sync>(
     requires few { number + length wires.old ≤ MAX_WORKERS }
     requires ahead { crew.now.ahead ≤ MAX_AHEAD }
     ensures worked { HaveWorked W.streak wires.new shifts.old shifts.new }
+    ensures seeds { map W.seeds wires.new ≡ map W.seeds wires.old }
     ensures len { length wires.new ≡ length wires.old }
 {
     if wires.len() == 1 {
@@ -171,18 +184,20 @@ fn work_halves<R: Threads + Wait + Sync, W: Wire + Send, G: Gate + Sync>(
     requires depot { depot_of board.now.opening ≡ depot.now }
     requires few { (low + length here.old ≤ MAX_WORKERS) × (high + length there.old ≤ MAX_WORKERS) }
     requires ahead { crew.now.ahead ≤ MAX_AHEAD }
-    ensures first { HaveWorked W.streak here.new first.old first.new × (length here.new ≡ length here.old) }
-    ensures second { HaveWorked W.streak there.new second.old second.new × (length there.new ≡ length there.old) }
+    ensures first { HaveWorked W.streak here.new first.old first.new × (length here.new ≡ length here.old) × (map W.seeds here.new ≡ map W.seeds here.old) }
+    ensures second { HaveWorked W.streak there.new second.old second.new × (length there.new ≡ length there.old) × (map W.seeds there.new ≡ map W.seeds there.old) }
 {
     let mut front = move ||
         requires { IsSync R.row × IsSend W.row × IsSync G.row × (crew.now.ahead ≤ MAX_AHEAD) × (depot_of board.now.opening ≡ depot.now)
             × All (IsDue board.now) first.now × (length first.now ≡ length here.now) × (1 ≤ length here.now) × (low + length here.now ≤ MAX_WORKERS) }
-        ensures { HaveWorked W.streak here.exit.now first.entry.now first.exit.now × (length here.exit.now ≡ length here.entry.now) }
+        ensures { HaveWorked W.streak here.exit.now first.entry.now first.exit.now × (length here.exit.now ≡ length here.entry.now)
+            × (map W.seeds here.exit.now ≡ map W.seeds here.entry.now) }
     { work_all(rt, crew, board, depot, low, first, here) };
     let mut back = move ||
         requires { IsSync R.row × IsSend W.row × IsSync G.row × (crew.now.ahead ≤ MAX_AHEAD) × (depot_of board.now.opening ≡ depot.now)
             × All (IsDue board.now) second.now × (length second.now ≡ length there.now) × (1 ≤ length there.now) × (high + length there.now ≤ MAX_WORKERS) }
-        ensures { HaveWorked W.streak there.exit.now second.entry.now second.exit.now × (length there.exit.now ≡ length there.entry.now) }
+        ensures { HaveWorked W.streak there.exit.now second.entry.now second.exit.now × (length there.exit.now ≡ length there.entry.now)
+            × (map W.seeds there.exit.now ≡ map W.seeds there.entry.now) }
     { work_all(rt, crew, board, depot, high, second, there) };
     join_mut(rt, &mut front, &mut back);
 }
@@ -200,7 +215,8 @@ fn work_in<R: Wait, W: Wire, G: Gate>(
     requires due { IsDue board.now shift.old }
     requires depot { depot_of board.now.opening ≡ depot.now }
     requires ahead { crew.now.ahead ≤ MAX_AHEAD }
-    ensures { HasWorked W.streak wire.new shift.old shift.new }
+    ensures worked { HasWorked W.streak wire.new shift.old shift.new }
+    ensures seeds { W.seeds wire.new ≡ W.seeds wire.old }
 {
     let Shift::Due(pass) = mem::replace(shift, Shift::Begun) else {
         unreachable!()
@@ -213,7 +229,7 @@ fn work_in<R: Wait, W: Wire, G: Gate>(
         depot,
         wire,
         &crew.gate,
-        &crew.idlers,
+        &crew.lookout,
         number,
         crew.slice,
         crew.ahead,

@@ -5,7 +5,7 @@ mod crew;
 mod finish;
 mod gate;
 mod hosts;
-mod idlers;
+mod lookout;
 mod pace;
 mod replies;
 mod stretch;

@@ -1,5 +1,11 @@
 //! How long a worker runs a machine before it looks up.
 
+/// The steps after which a run is long: some microseconds, in which a worker that sleeps would hardly come.
+const LONG: u64 = 1000;
+
+/// The steps after which it is very long. That is also the longest stretch.
+const VERY_LONG: u64 = 256_000;
+
 /// The most slices that are run at once.
 const MOST_SLICES: u64 = 256;
 
@@ -12,6 +18,8 @@ const GROWTH: u64 = 4;
 pub(crate) struct Pace {
     slice: u64,
     steps: u64,
+    /// The steps of the stretches that the machine made whole.
+    made: u64,
 }
 
 impl Pace {
@@ -19,19 +27,35 @@ impl Pace {
         Pace {
             slice,
             steps: slice,
+            made: 0,
         }
     }
 
+    /// No stretch goes past the steps after which the run is long.
     pub(crate) fn steps(&self) -> u64 {
-        self.steps
+        if self.is_long() {
+            self.steps.min(VERY_LONG)
+        } else {
+            self.steps.min(LONG.saturating_sub(self.made))
+        }
+    }
+
+    pub(crate) fn is_long(&self) -> bool {
+        self.made >= LONG
+    }
+
+    pub(crate) fn is_very_long(&self) -> bool {
+        self.made >= VERY_LONG
     }
 
     pub(crate) fn lengthen(&mut self) {
+        self.made = self.made.saturating_add(self.steps());
         let most = self.slice.saturating_mul(MOST_SLICES);
         self.steps = self.steps.saturating_mul(GROWTH).min(most);
     }
 
     pub(crate) fn begin_anew(&mut self) {
         self.steps = self.slice;
+        self.made = 0;
     }
 }

@@ -12,7 +12,7 @@ ghost use Rattle.host_workers.specs.Stays.{Blames, GoesBackStopped, IfFinished, 
 
 use crate::finish::Finish;
 use crate::gate::{Gate, Point};
-use crate::idlers::{Idlers, Pause};
+use crate::lookout::Lookout;
 use crate::pace::Pace;
 use crate::replies::Hearing;
 use fork_board::{Board, Pass};
@@ -33,7 +33,8 @@ pub(crate) struct Worker {
     pub(crate) ahead: u32,
     pub(crate) pace: Pace,
     pub(crate) hearing: Hearing,
-    pause: Pause,
+    /// How many replies were told when it heard last.
+    pub(crate) told: u64,
     ghost few: { ahead ≤ MAX_AHEAD },
 }
 
@@ -56,7 +57,7 @@ pub(crate) fn work<R: Wait, W: Wire, G: Gate>(
     depot: &Depot,
     wire: &mut W,
     gate: &G,
-    idlers: &Idlers,
+    lookout: &Lookout,
     number: u32,
     slice: u64,
     ahead: u32,
@@ -70,24 +71,28 @@ pub(crate) fn work<R: Wait, W: Wire, G: Gate>(
     ensures finish { Finishes result.0 result.1 }
     ensures done { IsDone result.0.number result.0.seen }
     ensures wire { IsStoppedBy result.0.number Reason.Wire result.0 → IsLost W.streak wire.new ⊎ IsStopped pass }
+    ensures seeds { W.seeds wire.new ≡ W.seeds wire.old }
 {
     let mut worker = Worker::new(alloc, number, slice, ahead);
     let mut pass = pass;
+    if number > 0 {
+        lookout.sleep(rt);
+    }
     for _ in rt.forever() {
-        let calls = idlers.calls();
-        let (after, turned) = worker.turn(rt, board, pass, depot, wire, gate, idlers);
+        let returns = lookout.returns();
+        let (after, turned) = worker.turn(rt, board, pass, depot, wire, gate, lookout);
         pass = after;
         match turned {
             Turned::Finished(finish) => {
-                idlers.call(u32::MAX);
+                lookout.end();
                 gate.at(rt, number, Point::Done);
                 return (pass, finish);
             }
             Turned::Idle => {
                 gate.at(rt, number, Point::Idle);
-                worker.rest(rt, idlers, calls);
+                lookout.find_none(rt, returns);
             }
-            Turned::Ran => {}
+            Turned::Ran => worker.come_back(rt, lookout),
         }
     }
     unreachable!()
@@ -105,15 +110,17 @@ impl Worker {
             ahead,
             pace: Pace::new(slice),
             hearing: Hearing::new(alloc),
-            pause: Pause::new(),
+            told: u64::MAX,
         }
     }
 
-    /// Passes the time where no machine was ready after so many calls.
-    fn rest<R: Wait>(&mut self, rt: &R, idlers: &Idlers, calls: u64)
+    /// It handed its machine back.
+    fn come_back<R: Wait>(&mut self, rt: &R, lookout: &Lookout)
         ensures { self.new.hearing ≡ self.old.hearing }
     {
-        idlers.wait(rt, &mut self.pause, calls);
+        let was_long = self.pace.is_long();
+        self.pace.begin_anew();
+        lookout.come_back(rt, was_long);
     }
 
     /// Takes a machine and runs it, if one is ready. A world that was stopped is not run on.
@@ -125,7 +132,7 @@ impl Worker {
         depot: &Depot,
         wire: &mut W,
         gate: &G,
-        idlers: &Idlers,
+        lookout: &Lookout,
     ) -> (Pass, Turned)
         requires board { pass.board ≡ board.now }
         requires depot { depot_of board.now.opening ≡ depot.now }
@@ -137,6 +144,7 @@ impl Worker {
         ensures done { IfFinished result.1 (IsDone result.0.number result.0.seen) }
         ensures heard { AreHeardOf depot.now self.new.hearing.heard }
         ensures wire { Blames W.streak wire.new pass result.0 }
+        ensures seeds { W.seeds wire.new ≡ W.seeds wire.old }
         ensures stopped { IsStopped pass → wire.new ≡ wire.old }
     {
         let (pass, taken) = board.take(rt, self.alloc, pass, depot);
@@ -146,13 +154,9 @@ impl Worker {
             Taken::Idle => (pass, Turned::Idle),
             Taken::Memory => (board.stop(rt, pass, Reason::Memory), Turned::Ran),
             Taken::Took(lease) => {
-                // There may be more, for others. Each calls two: so all are awake after a few calls, one behind another.
-                if self.pause.end() {
-                    idlers.call(2);
-                }
                 gate.at(rt, self.number, Point::Took(lease.name().depth()));
                 (
-                    self.run(rt, board, pass, lease, depot, wire, idlers),
+                    self.run(rt, board, pass, lease, depot, wire, lookout),
                     Turned::Ran,
                 )
             }
@@ -168,7 +172,7 @@ impl Worker {
         lease: Lease,
         depot: &Depot,
         wire: &mut W,
-        idlers: &Idlers,
+        lookout: &Lookout,
     ) -> Pass
         requires board { pass.board ≡ board.now }
         requires depot { depot_of board.now.opening ≡ depot.now }
@@ -178,11 +182,12 @@ impl Worker {
         ensures none { HoldsNone result }
         ensures heard { AreHeardOf depot.now self.new.hearing.heard }
         ensures wire { Blames W.streak wire.new pass result }
+        ensures seeds { W.seeds wire.new ≡ W.seeds wire.old }
     {
         let mut lease = lease;
-        let (pass, ran) = self.run_on(rt, board, pass, &mut lease, depot, wire, idlers);
+        let (pass, ran) = self.run_on(rt, board, pass, &mut lease, depot, wire, lookout);
         match ran {
-            Ok(()) => spend(rt, self.alloc, board, pass, lease, depot, idlers),
+            Ok(()) => spend(rt, self.alloc, board, pass, lease, depot),
             Err(error) => give_up(rt, board, pass, lease, stop_for(error)),
         }
     }
@@ -206,7 +211,6 @@ fn spend<R: Wait>(
     pass: Pass,
     lease: Lease,
     depot: &Depot,
-    idlers: &Idlers,
 ) -> Pass
     requires board { pass.board ≡ board.now }
     requires depot { depot_of board.now.opening ≡ depot.now }
@@ -215,14 +219,13 @@ fn spend<R: Wait>(
     ensures none { HoldsNone result }
     ensures spares { Spares pass result }
 {
-    match hand_back(rt, alloc, board, pass, lease, depot, idlers) {
+    match hand_back(rt, alloc, board, pass, lease, depot) {
         (pass, Placed::Done | Placed::Parked | Placed::Dropped) => pass,
         (pass, Placed::Memory(lease)) => give_up(rt, board, pass, lease, Reason::Memory),
     }
 }
 
-/// Ends a machine, makes the call at which it stands, or gives it back. Where there are more machines then, another
-/// worker is called.
+/// Makes the call at which a machine stands, or gives it back.
 fn hand_back<R: Wait>(
     rt: &R,
     alloc: Global,
@@ -230,7 +233,6 @@ fn hand_back<R: Wait>(
     pass: Pass,
     lease: Lease,
     depot: &Depot,
-    idlers: &Idlers,
 ) -> (Pass, Placed)
     requires board { pass.board ≡ board.now }
     requires depot { depot_of board.now.opening ≡ depot.now }
@@ -239,15 +241,8 @@ fn hand_back<R: Wait>(
     ensures holds { HoldsPlaced result.0 result.1 }
     ensures spares { Spares pass result.0 }
 {
-    if lease.ended().is_some() {
-        return board.end(rt, pass, lease);
-    }
     match lease.call() {
-        Some(Call::Clone(_)) => {
-            let forked = board.fork(rt, alloc, pass, lease, depot);
-            idlers.call(1);
-            forked
-        }
+        Some(Call::Clone(_)) => board.fork(rt, alloc, pass, lease, depot),
         Some(Call::Join(_)) => board.join(rt, alloc, pass, lease),
         Some(Call::Kill(_)) => board.kill(rt, pass, lease),
         None => board.give(rt, pass, lease),

@@ -11,7 +11,8 @@ pub record Shelves : Type 0 where
   pub replies : Kept
 
 abbrev pub depot_coded : Coded Shelves
-depot_coded = coded_via (coded× shelves_coded shelves_coded) (λ (d : Shelves). (d.images, d.replies)) (λ x y e i. record { images = (e i).0; replies = (e i).1 })
+depot_coded =
+    coded_via (coded× shelves_coded shelves_coded) (λ (d : Shelves). (d.images, d.replies)) (λ x y e i. record { images = (e i).0; replies = (e i).1 })
 
 -- a key has the number of an image, and the image itself
 abbrev pub Key : Type 0

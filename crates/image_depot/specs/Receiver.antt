@@ -1,5 +1,5 @@
 -- What pages of an image are sent to: for each page whether it is here, and the key to the image that has the others.
-use Rattle.std.specs.Prelude.{◌≡◌, ℕ, Bool, true, false, List, length, slice_get, slice_set, Option, Some, None}
+use Rattle.std.specs.Prelude.{◌≡◌, ⊤, ℕ, Bool, true, false, List, length, slice_get, slice_set, Option, Some, None}
 use Rattle.image_depot.specs.declared.arrived.Arrived.{Arrived}
 use Rattle.image_depot.specs.declared.arrived.Arrived.TheVariants.{Got, Had}
 use Rattle.image_depot.specs.Image.{page_count}
@@ -28,3 +28,8 @@ IsOfImage None reply = ⊥
 abbrev pub Arrives : Option Key → List Bool → Reply → List Bool → Arrived → Type 0
 Arrives key old reply new (Got page) = (page ≡ reply.page) × IsOfImage key reply × IsAbsent old page × (new ≡ slice_set old page true)
 Arrives key old reply new (Had page) = (page ≡ reply.page) × (new ≡ old) × (IsOfImage key reply → IsHere old page)
+
+-- what was sent was had
+abbrev pub IsHad : Arrived → Type 0
+IsHad (Got page) = ⊥
+IsHad (Had page) = ⊤

@@ -1,7 +1,7 @@
 ghost use Rattle.std.specs.Prelude.{◌≡◌, ◌⊎◌, ℕ, ◌<◌, Bool, false, List, length, slice_index_or, Option, Some, IfOk, IfSome, OnErr};
 ghost use Rattle.std.specs.Option.{option_copied, ForSome};
 ghost use Rattle.image_depot.specs.Key.{Key, IsKeyOf};
-ghost use Rattle.image_depot.specs.Receiver.{Arrives, HasAbsent, IsAbsent};
+ghost use Rattle.image_depot.specs.Receiver.{Arrives, HasAbsent, IsAbsent, IsHad};
 
 use crate::arrived::Arrived;
 use crate::depot::Depot;
@@ -39,7 +39,7 @@ pub trait Receiver {
         ensures { result ≡ slice_index_or (here self.now) page false };
 
     /// Takes a page that was sent, where it is absent and one of the image of the key. Nothing else changes, but what
-    /// is wanted where this page was.
+    /// is wanted where this page was. Where the page was had, nothing changes at all.
     fn arrive(
         &mut self,
         alloc: Global,
@@ -52,5 +52,6 @@ pub trait Receiver {
         ensures wanted { (wanted self.new ≡ wanted self.old) ⊎ (wanted self.old ≡ Some parcel.now.page) }
         ensures key { key self.new ≡ key self.old }
         ensures rest { rest self.new ≡ rest self.old }
+        ensures had { IfOk result (λ arrived. IsHad arrived → self.new ≡ self.old) }
         ensures err { OnErr result (self.new ≡ self.old) };
 }

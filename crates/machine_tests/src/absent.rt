@@ -6,7 +6,7 @@ ghost use Rattle.image_depot.specs.Key.{IsKeyOf};
 ghost use Rattle.vm_cell.specs.Keyed.{IsOfDepot};
 ghost use Rattle.vm_cell.specs.Woken.{AreOfImage};
 
-use crate::equal::{are_equal_at, made};
+use crate::equal::{are_equal_at, succeeds};
 use crate::fetched::fetches_two;
 use crate::guests::{run, step};
 use crate::machine::{Course, machine_does, run_and_fork};
@@ -41,8 +41,8 @@ pub(crate) fn bring(
 {
     let key = vm.key().expect(rt, "an image");
     assert!(rt; page < depot.pages(key));
-    let parcel = made(rt, depot.answer(key, page));
-    made(rt, vm.arrive(alloc, depot, &parcel))
+    let parcel = succeeds(rt, depot.answer(key, page));
+    succeeds(rt, vm.arrive(alloc, depot, &parcel))
 }
 
 // What is done with a child, and what comes of it.
@@ -167,7 +167,7 @@ pub(crate) fn bears<R: Abort + Wait>(
     requires { IsOfDepot depot.now vm.old.key }
 {
     let brood = run_and_fork(rt, alloc, vm, 1, depot);
-    let mut child = made(rt, first_of(alloc, &brood, depot));
+    let mut child = succeeds(rt, first_of(alloc, &brood, depot));
     goes_its_course(rt, alloc, &mut child, depot, course);
 }
 

@@ -3,9 +3,10 @@
 ghost use Rattle.std.specs.Prelude.{◌≡◌, ◌<◌, ◌≤◌, [], IfOk, length, None};
 ghost use Rattle.forest_model.specs.Forest.{port_of};
 ghost use Rattle.fork_board.specs.Follows.{depot_of};
-ghost use Rattle.fork_board.specs.Passes.{HoldsNone};
+ghost use Rattle.fork_board.specs.Passes.{HoldsNone, IsHeld};
+ghost use Rattle.world_core.specs.Answers.{IsLentOf};
 
-use crate::equal::made;
+use crate::equal::succeeds;
 use crate::guests::{TWO_CHILDREN, booted};
 use fork_board::{Board, Pass};
 use host_workers::{Finish, Gate, MAX_WORKERS, OpenGate, run_hosts};
@@ -19,7 +20,7 @@ use std::sync::Wait;
 use std::thread::Threads;
 use vm_cell::Vm;
 use wire_fates::{Seeded, Wire};
-use world_core::{Reason, World};
+use world_core::{Lease, Placed, Reason, Taken, World};
 
 /// How many pages a worker asks for beside a wanted one.
 const AHEAD: u32 = 4;
@@ -46,7 +47,7 @@ fn board_of(
     ensures none { HoldsNone result.1 }
 {
     let vm = booted(rt, alloc, words, clones);
-    made(rt, board_of_machine(alloc, vm, depot))
+    succeeds(rt, board_of_machine(alloc, vm, depot))
 }
 
 /// The same of a machine.
@@ -105,7 +106,7 @@ pub fn end_over<R: AllocGlobal + Threads + Wait + Abort + Sync, W: Wire + Send, 
     requires clones { clones ≤ 4096 }
     requires wires { (1 ≤ length wires.old) × (length wires.old ≤ MAX_WORKERS) }
 {
-    let depot = made(rt, Depot::new(rt.alloc()));
+    let depot = succeeds(rt, Depot::new(rt.alloc()));
     let (board, pass) = board_of(rt, rt.alloc(), words, clones, &depot);
     let (pass, finish) = run_family(rt, &board, pass, &depot, wires, gate, slice, AHEAD);
     Ended {
@@ -139,13 +140,13 @@ pub fn end_by<R: AllocGlobal + Threads + Wait + Abort + Sync>(
     requires clones { clones ≤ 4096 }
     requires workers { (1 ≤ workers) × (workers ≤ MAX_WORKERS) }
 {
-    let mut wires = made(rt, seeded(rt.alloc(), workers));
+    let mut wires = succeeds(rt, seeded(rt.alloc(), workers));
     end_over(rt, words, clones, &mut wires, &OpenGate, slice)
 }
 
 /// Whether two children come to no end, whose board is stopped first.
 pub fn is_stopped<R: AllocGlobal + Threads + Wait + Abort + Sync>(rt: &R) -> bool {
-    let depot = made(rt, Depot::new(rt.alloc()));
+    let depot = succeeds(rt, Depot::new(rt.alloc()));
     let (board, pass) = board_of(rt, rt.alloc(), &TWO_CHILDREN, 2, &depot);
     let pass = board.stop(rt, pass, Reason::Wire);
     let mut wires = [Seeded::new(), Seeded::new()];
@@ -156,7 +157,7 @@ pub fn is_stopped<R: AllocGlobal + Threads + Wait + Abort + Sync>(rt: &R) -> boo
 
 /// The same of a board that nobody comes to, of which passes are split and joined.
 pub fn is_left<R: Abort + Wait>(rt: &R, alloc: Global) -> bool {
-    let depot = made(rt, Depot::new(alloc));
+    let depot = succeeds(rt, Depot::new(alloc));
     let (board, pass) = board_of(rt, alloc, &TWO_CHILDREN, 2, &depot);
     let pass = split_and_joined(&board, pass);
     finished(rt, board, pass).is_none()
@@ -178,6 +179,51 @@ fn split_and_joined(board: &Board, pass: Pass) -> Pass
     )
 }
 
+/// Whether a machine is given back by a pass that was split, and joined again, since the machine was taken.
+pub fn is_given_after_a_join<R: Abort + Wait>(rt: &R, alloc: Global) -> bool {
+    let depot = succeeds(rt, Depot::new(alloc));
+    let (board, pass) = board_of(rt, alloc, &TWO_CHILDREN, 2, &depot);
+    let (pass, is_given) = takes_and_joins(rt, alloc, &board, pass, &depot);
+    is_given && finished(rt, board, pass).is_none()
+}
+
+/// Takes a machine, and gives it back after a join.
+fn takes_and_joins<R: Wait>(
+    rt: &R,
+    alloc: Global,
+    board: &Board,
+    pass: Pass,
+    depot: &Depot,
+) -> (Pass, bool)
+    requires board { pass.board ≡ board.now }
+    requires depot { depot_of board.now.opening ≡ depot.now }
+    requires new { (pass.number ≡ []) × (pass.splits ≡ 0) }
+    ensures { result.0.board ≡ board.now }
+{
+    let (pass, taken) = board.take(rt, alloc, pass, depot);
+    match taken {
+        Taken::Took(lease) => joins_and_gives(rt, board, pass, lease),
+        Taken::Over | Taken::Stopped(_) | Taken::Idle | Taken::Memory => (pass, false),
+    }
+}
+
+/// Splits a pass, joins the two again, and only then gives back the machine that the pass holds.
+fn joins_and_gives<R: Wait>(rt: &R, board: &Board, pass: Pass, lease: Lease) -> (Pass, bool)
+    requires board { pass.board ≡ board.now }
+    requires held { IsHeld pass lease }
+    requires of_depot { IsLentOf (depot_of board.now.opening) lease }
+    requires new { (pass.number ≡ []) × (pass.splits ≡ 0) }
+    ensures { result.0.board ≡ board.now }
+{
+    let (pass, other) = board.split(pass);
+    let pass = board.join_pass(pass, other);
+    match board.give(rt, pass, lease) {
+        (pass, Placed::Done) => (pass, true),
+        (pass, Placed::Parked | Placed::Dropped) => (pass, false),
+        (_, Placed::Memory(_lease)) => unreachable!(),
+    }
+}
+
 /// The numbers of the image and of the page of a reply that was heard.
 fn numbers_of(heard: Option<Sent>) -> Option<(u32, u32)> {
     match heard {
@@ -197,7 +243,7 @@ fn numbers_at<R: Abort + Wait>(
     ensures { result.0.board ≡ board.now }
 {
     let (pass, heard) = board.hear(rt, pass, place);
-    (pass, numbers_of(made(rt, heard)))
+    (pass, numbers_of(succeeds(rt, heard)))
 }
 
 /// The same of the first two replies, after a worker has run the family of a board.
@@ -222,7 +268,7 @@ fn heard_after<R: AllocGlobal + Threads + Wait + Abort + Sync>(
 
 /// The same of the first reply before a worker runs the family of one child, and of the first two after.
 pub fn heard_of<R: AllocGlobal + Threads + Wait + Abort + Sync>(rt: &R) -> [Option<(u32, u32)>; 3] {
-    let depot = made(rt, Depot::new(rt.alloc()));
+    let depot = succeeds(rt, Depot::new(rt.alloc()));
     let (board, pass) = board_of(rt, rt.alloc(), &TWO_CHILDREN, 1, &depot);
     let (pass, other) = board.split(pass);
     let (pass, before) = numbers_at(rt, &board, pass, 0);

@@ -3,7 +3,7 @@
 ghost use Rattle.vm_cell.specs.Keyed.{IsOfDepot};
 
 use crate::absent::{ChildCourse, child_does};
-use crate::equal::{are_equal, made};
+use crate::equal::{are_equal, succeeds};
 use elf_load::RAM_BASE;
 use host_fetch::fetch;
 use image_depot::Depot;
@@ -34,7 +34,7 @@ pub(crate) fn fetches_two<R: Abort + Wait>(rt: &R, alloc: Global, child: &mut Vm
     requires { IsOfDepot depot.now child.old.key }
 {
     let fates = vec![in alloc; Fate::Give(1), Fate::Give(0)];
-    let mut wire = Scripted::new(made(rt, fates));
+    let mut wire = Scripted::new(succeeds(rt, fates));
     let mut told = Vec::new(alloc);
     let before = first_here(child);
     let answer = fetch(rt, alloc, child, depot, &mut wire, 1, &mut told);

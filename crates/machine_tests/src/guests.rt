@@ -3,7 +3,7 @@
 ghost use Rattle.std.specs.Prelude.{◌≡◌, ◌≤◌, ◌%◌, [], length, IfOk, None};
 ghost use Rattle.forest_model.specs.Forest.{port_of};
 
-use crate::equal::made;
+use crate::equal::succeeds;
 use cow_disk::Disk;
 use elf_load::{Loaded, RAM_BASE, load_elf};
 use forest_model::Options;
@@ -62,7 +62,7 @@ pub(crate) static LONG_CHAIN: [u32; 26] = [
 
 // A disk without sectors.
 pub(crate) fn no_disk(rt: &impl Abort, alloc: Global) -> Disk {
-    made(rt, Disk::from_bytes(alloc, b""))
+    succeeds(rt, Disk::from_bytes(alloc, b""))
 }
 
 // The machine of an image and a disk.
@@ -90,8 +90,8 @@ pub(crate) fn loaded_at(
     requires least { 16 ≤ pages }
     requires most { pages ≤ 1024 }
 {
-    let file = made(rt, elf_of(alloc, base, words));
-    made(rt, load_elf(alloc, &file, pages))
+    let file = succeeds(rt, elf_of(alloc, base, words));
+    succeeds(rt, load_elf(alloc, &file, pages))
 }
 
 // The machine of these words, from a base on, with so many pages, that makes at most 1,000,000 steps and may have
@@ -109,7 +109,7 @@ pub(crate) fn booted_at(rt: &impl Abort, alloc: Global, base: u32, words: &[u32]
         limit: 1_000_000,
         allot: 2,
     };
-    made(rt, booted_of(alloc, &image, no_disk(rt, alloc), options))
+    succeeds(rt, booted_of(alloc, &image, no_disk(rt, alloc), options))
 }
 
 // The machine of these words, with 16 pages, that makes at most 10,000 steps and may have so many clones.
@@ -124,19 +124,19 @@ pub(crate) fn booted(rt: &impl Abort, alloc: Global, words: &[u32], clones: u32)
         limit: 10_000,
         allot: clones,
     };
-    made(rt, booted_of(alloc, &image, no_disk(rt, alloc), options))
+    succeeds(rt, booted_of(alloc, &image, no_disk(rt, alloc), options))
 }
 
 // Lets a machine make at most so many steps.
 pub(crate) fn run(rt: &impl Abort, vm: &mut Vm, most: u64) -> Ran
     ensures { vm.new.key ≡ vm.old.key }
 {
-    made(rt, vm.run(most))
+    succeeds(rt, vm.run(most))
 }
 
 // Lets a machine make one step.
 pub(crate) fn step(rt: &impl Abort, vm: &mut Vm) -> Stepped
     ensures { vm.new.key ≡ vm.old.key }
 {
-    made(rt, vm.step())
+    succeeds(rt, vm.step())
 }

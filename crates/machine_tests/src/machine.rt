@@ -6,7 +6,7 @@ ghost use Rattle.vm_cell.specs.Keyed.{IsOfDepot};
 ghost use Rattle.vm_cell.specs.Woken.{AreOfImage};
 
 use crate::absent::{ChildCourse, bears, bring};
-use crate::equal::{are_equal, made};
+use crate::equal::{are_equal, succeeds};
 use crate::guests::{TWO_CHILDREN, booted_at, run, step};
 use elf_load::RAM_BASE;
 use forest_model::Ending;
@@ -67,7 +67,7 @@ pub(crate) fn machine_does<R: Abort + Wait>(
     requires least { 16 ≤ pages }
     requires most { pages ≤ 1024 }
 {
-    let depot = made(rt, Depot::new(alloc));
+    let depot = succeeds(rt, Depot::new(alloc));
     let mut vm = booted_at(rt, alloc, base, words, pages);
     goes_its_course(rt, alloc, &mut vm, &depot, course);
 }
@@ -154,7 +154,7 @@ pub(crate) fn run_and_fork<R: Abort + Wait>(
     ensures seeds { AreOfImage result.key children result.seed }
 {
     run(rt, vm, 1000);
-    made(rt, fork(rt, alloc, vm, children, depot))
+    succeeds(rt, fork(rt, alloc, vm, children, depot))
 }
 
 // A child of a brood of two.
@@ -182,7 +182,7 @@ fn end_of(
     requires first { 1 ≤ number }
     requires last { number ≤ 2 }
 {
-    let mut child = made(rt, child_of(alloc, brood, number, depot));
+    let mut child = succeeds(rt, child_of(alloc, brood, number, depot));
     bring(rt, alloc, &mut child, depot, 0);
     run(rt, &mut child, 1000);
     child.ended()
@@ -192,7 +192,7 @@ fn end_of(
 fn join(rt: &impl Abort, vm: &mut Vm, endings: &[Ending]) {
     match vm.call() {
         Some(Call::Join(ticket)) if endings.len() == vm.granted(ticket) as usize => {
-            made(rt, vm.joined(endings));
+            succeeds(rt, vm.joined(endings));
         }
         _ => panic!(rt; "no such JOIN"),
     }
@@ -235,7 +235,7 @@ fn ends_of_both<R: Abort + Wait>(
 ) -> [Option<Ending>; 2]
     requires { IsOfDepot depot.now vm.old.key }
 {
-    let brood = made(rt, fork(rt, alloc, vm, 2, depot));
+    let brood = succeeds(rt, fork(rt, alloc, vm, 2, depot));
     [
         end_of(rt, alloc, &brood, 1, depot),
         end_of(rt, alloc, &brood, 2, depot),
@@ -314,16 +314,17 @@ fn misplaced(bytes: &[u8]) -> Option<usize> {
 
 // Bytes are read, and what they are read as has the same bytes.
 fn is_spelled(rt: &impl Abort, alloc: Global, bytes: &[u8]) {
-    let descriptor = made(rt, Descriptor::decode(alloc, bytes));
-    let again = made(rt, descriptor.encode(alloc));
+    let descriptor = succeeds(rt, Descriptor::decode(alloc, bytes));
+    assert!(rt; descriptor.is_in_range());
+    let again = succeeds(rt, descriptor.encode(alloc));
     are_equal(rt, &again.as_slice(), &bytes);
 }
 
 // The bytes and an 0xff behind them, cut to a length, with another byte at a place.
 fn changed(rt: &impl Abort, alloc: Global, bytes: &[u8], change: (usize, usize, u8)) -> Vec<u8> {
     let (length, at, byte) = change;
-    let mut changed = made(rt, Vec::from_slice(alloc, bytes));
-    made(rt, changed.push(0xff));
+    let mut changed = succeeds(rt, Vec::from_slice(alloc, bytes));
+    succeeds(rt, changed.push(0xff));
     changed.truncate(length);
     if let Some(old) = changed.get_mut(at) {
         *old = byte;

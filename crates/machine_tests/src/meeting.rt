@@ -1,6 +1,6 @@
 //! Workers that wait for one another.
 
-ghost use Rattle.std.specs.Prelude.{◌≡◌};
+ghost use Rattle.std.specs.Prelude.{None, ◌≡◌};
 ghost use Rattle.wire_fates.specs.declared.fate.Fate.TheVariants.{Give};
 
 use crossbeam_utils::Backoff;
@@ -10,7 +10,7 @@ use std::sync::atomic::{AtomicU64, Ordering};
 use wire_fates::{Fate, Wire};
 
 /// How often a worker looks for the other, at most. Each time it leaves others the processor.
-const MOST_LOOKS: u32 = 5_000_000;
+const MAX_LOOKS: u32 = 5_000_000;
 
 /// What holds each of two workers, when it first comes, until the other has come.
 #[derive(Drop)]
@@ -43,7 +43,7 @@ impl Meeting {
 
     fn wait(&self) {
         let backoff = Backoff::new();
-        for _ in 0..MOST_LOOKS {
+        for _ in 0..MAX_LOOKS {
             if self.came.load(Ordering::SeqCst).count_ones() >= 2 {
                 return;
             }
@@ -77,6 +77,8 @@ impl<'a> MeetingWire<'a> {
 
 impl<'a> Wire for MeetingWire<'a> {
     ghost streak = { λ w. 0 };
+
+    ghost seeds = { λ w. None };
 
     ghost tells = { λ old waiting fate new. fate ≡ Give 0 };
 

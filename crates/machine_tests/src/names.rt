@@ -1,16 +1,16 @@
 //! What no clause says of names: that they are made where there is memory, and how some compare.
 
-use crate::equal::{are_equal, made};
-use run_report::{Branch, Name};
+use crate::equal::{are_equal, succeeds};
+use machine_names::{Branch, Name};
 use std::alloc::Global;
 use std::cmp::Ordering;
 use std::process::Abort;
 
 /// The name with these forks, each a ticket and a child's number.
 fn named(rt: &impl Abort, alloc: Global, forks: &[(u32, u32)]) -> Name {
-    let mut name = made(rt, Name::root(alloc));
+    let mut name = succeeds(rt, Name::root(alloc));
     for (ticket, child) in forks {
-        name = made(rt, name.child(alloc, *ticket, *child));
+        name = succeeds(rt, name.child(alloc, *ticket, *child));
     }
     name
 }
@@ -47,7 +47,7 @@ fn are_in_order(rt: &impl Abort, first: &Name, second: &Name) {
 }
 
 pub(crate) fn has_text(rt: &impl Abort, alloc: Global, name: &Name, text: &str) {
-    let found = made(rt, name.text(alloc));
+    let found = succeeds(rt, name.text(alloc));
     are_equal(rt, &found.as_str(), &text);
 }
 
@@ -78,19 +78,19 @@ const DEEPEST: usize = 4096;
 
 /// The name of so many forks, each the first child of ticket 1 but the one at a place, of ticket 2.
 fn deep(rt: &impl Abort, alloc: Global, place: usize) -> Name {
-    let mut branches = made(rt, Vec::with_capacity(alloc, DEEPEST));
+    let mut branches = succeeds(rt, Vec::with_capacity(alloc, DEEPEST));
     for at in 0..DEEPEST {
         let ticket = if at == place { 2 } else { 1 };
-        made(rt, branches.push(Branch::new(ticket, 1)));
+        succeeds(rt, branches.push(Branch::new(ticket, 1)));
     }
-    made(rt, Name::from_branches(alloc, branches))
+    succeeds(rt, Name::from_branches(alloc, branches))
 }
 
 /// The same with no such place, made child by child.
 fn chain(rt: &impl Abort, alloc: Global) -> Name {
-    let mut name = made(rt, Name::root(alloc));
+    let mut name = succeeds(rt, Name::root(alloc));
     for _ in 0..DEEPEST {
-        name = made(rt, name.child(alloc, 1, 1));
+        name = succeeds(rt, name.child(alloc, 1, 1));
     }
     name
 }
@@ -120,10 +120,10 @@ fn differs_at(rt: &impl Abort, alloc: Global, name: &Name, place: usize) {
 
 /// A parent's name, and its child's made anew.
 fn goes_back_and_on(rt: &impl Abort, alloc: Global, name: &Name) {
-    let mut parent = made(rt, name.copy());
+    let mut parent = succeeds(rt, name.copy());
     let last = parent.pop();
     is_parent(rt, &parent, name, last);
-    let child = made(rt, parent.child(alloc, 1, 1));
+    let child = succeeds(rt, parent.child(alloc, 1, 1));
     are_equal(rt, &(&child == name), &true);
 }
 

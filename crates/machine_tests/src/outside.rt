@@ -1,6 +1,6 @@
 //! What no clause says of the outside: real files and streams, and that memory does not want where there is some.
 
-use crate::equal::{are_equal, made};
+use crate::equal::{are_equal, succeeds};
 use io_edge::{
     FileShelf, MemShelf, MemSink, Shelf, ShelfError, Sink, StdSink, WriteFault, put_all,
 };
@@ -58,21 +58,21 @@ fn is_missing<S: Shelf>(rt: &impl Abort, alloc: Global, shelf: &mut S) {
 #[test]
 fn reads_and_writes_memory(rt: HostRuntime) {
     let mut shelf = shelf_of(&rt, rt.alloc());
-    let bytes = made(&rt, shelf.load(rt.alloc(), "name", 5));
+    let bytes = succeeds(&rt, shelf.load(rt.alloc(), "name", 5));
     fills_a_sink(&rt, rt.alloc(), &bytes);
 }
 
 /// A shelf with one file.
 fn shelf_of(rt: &impl Abort, alloc: Global) -> MemShelf {
-    let name = made(rt, String::from_str(alloc, "name"));
-    let file = (name, made(rt, Vec::from_slice(alloc, b"12345")));
-    let files = made(rt, vec![in alloc; file]);
+    let name = succeeds(rt, String::from_str(alloc, "name"));
+    let file = (name, succeeds(rt, Vec::from_slice(alloc, b"12345")));
+    let files = succeeds(rt, vec![in alloc; file]);
     MemShelf::new(files, Vec::new(alloc))
 }
 
 /// A sink takes bytes while it has room.
 fn fills_a_sink(rt: &impl Abort, alloc: Global, bytes: &[u8]) {
-    let mut sink = made(rt, MemSink::new(alloc, 2, 8, Vec::new(alloc)));
+    let mut sink = succeeds(rt, MemSink::new(alloc, 2, 8, Vec::new(alloc)));
     let puts = [put_all(&mut sink, bytes), put_all(&mut sink, bytes)];
     let want = [Ok(()), Err(WriteFault)];
     are_equal(rt, &(puts, sink.bytes()), &(want, b"12345123".as_slice()));

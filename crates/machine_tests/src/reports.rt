@@ -3,13 +3,14 @@
 ghost use Rattle.std.specs.Prelude.{◌≡◌, ◌≢◌, ◌≤◌, Some, IfOk};
 ghost use Rattle.std.specs.Option.{option_copied};
 ghost use Rattle.std.specs.BTreeMap.{get};
-ghost use Rattle.run_report.specs.NameOrder.{path_cmp};
+ghost use Rattle.machine_names.specs.NameOrder.{path_cmp};
 
-use crate::equal::{are_equal, made};
+use crate::equal::{are_equal, succeeds};
 use crate::names::has_text;
 use forest_model::Ending;
 use io_edge::MemSink;
-use run_report::{Line, Name, Outcome, report_into};
+use machine_names::Name;
+use run_report::{Line, Outcome, report_into};
 use std::alloc::{AllocFailed, Global};
 use std::collections::BTreeMap;
 use std::process::Abort;
@@ -40,25 +41,25 @@ fn are_keys(rt: &impl Abort, alloc: Global, map: &mut BTreeMap<Name, u32>) {
 
 /// What a map has at a name after 1 was put there.
 fn got_there(rt: &impl Abort, alloc: Global, map: &mut BTreeMap<Name, u32>) -> Option<u32> {
-    let root = made(rt, Name::root(alloc));
-    let child = made(rt, root.child(alloc, 1, 2));
-    let copy = made(rt, child.copy());
-    made(rt, got_after(map, copy, &child))
+    let root = succeeds(rt, Name::root(alloc));
+    let child = succeeds(rt, root.child(alloc, 1, 2));
+    let copy = succeeds(rt, child.copy());
+    succeeds(rt, got_after(map, copy, &child))
 }
 
 /// What a map has at a name after 1 was put at the root's.
 fn got_beside(rt: &impl Abort, alloc: Global, map: &mut BTreeMap<Name, u32>) -> Option<u32> {
-    let root = made(rt, Name::root(alloc));
-    let other = made(rt, root.child(alloc, 1, 3));
-    made(rt, got_after(map, root, &other))
+    let root = succeeds(rt, Name::root(alloc));
+    let other = succeeds(rt, root.child(alloc, 1, 3));
+    succeeds(rt, got_after(map, root, &other))
 }
 
 #[test]
 fn names_have_texts(rt: HostRuntime) {
     let alloc = rt.alloc();
-    let root = made(&rt, Name::root(alloc));
-    let child = made(&rt, root.child(alloc, 1, 2));
-    let mut grandchild = made(&rt, child.child(alloc, 30, 4_294_967_295));
+    let root = succeeds(&rt, Name::root(alloc));
+    let child = succeeds(&rt, root.child(alloc, 1, 2));
+    let mut grandchild = succeeds(&rt, child.child(alloc, 30, 4_294_967_295));
     have_texts(&rt, alloc, &root, &child, &mut grandchild);
 }
 
@@ -79,7 +80,7 @@ fn have_texts(rt: &impl Abort, alloc: Global, root: &Name, child: &Name, grandch
 
 /// An outcome is reported so.
 fn is_reported(rt: &impl Abort, alloc: Global, outcome: &Outcome, text: &[u8]) {
-    let mut sink = made(rt, MemSink::new(alloc, 7, 1000, Vec::new(alloc)));
+    let mut sink = succeeds(rt, MemSink::new(alloc, 7, 1000, Vec::new(alloc)));
     let put = report_into(outcome, &mut sink);
     are_equal(rt, &(put, sink.bytes()), &(Ok(()), text));
 }
@@ -92,23 +93,23 @@ fn silent(name: Name, ending: Ending, steps: u64, log: Vec<Line>, alloc: Global)
 /// A log of a killed ticket.
 fn log_of(rt: &impl Abort, alloc: Global, name: &Name, ticket: u32, killed: u32) -> Vec<Line> {
     let mut log = Vec::new(alloc);
-    let name = made(rt, name.copy());
-    made(rt, log.push(Line::ticket(name, ticket, killed)));
+    let name = succeeds(rt, name.copy());
+    succeeds(rt, log.push(Line::ticket(name, ticket, killed)));
     log
 }
 
 /// Moves the lines of a child to a log.
 fn join(rt: &impl Abort, log: &mut Vec<Line>, child: Outcome) {
-    made(rt, log.reserve(child.line_count()));
+    succeeds(rt, log.reserve(child.line_count()));
     child.into_log(log);
 }
 
 #[test]
 fn one_machine_puts_out_its_bytes(rt: HostRuntime) {
     let alloc = rt.alloc();
-    let root = made(&rt, Name::root(alloc));
-    let name = made(&rt, root.child(alloc, 1, 2));
-    let output = made(&rt, Vec::from_slice(alloc, b"A"));
+    let root = succeeds(&rt, Name::root(alloc));
+    let name = succeeds(&rt, root.child(alloc, 1, 2));
+    let output = succeeds(&rt, Vec::from_slice(alloc, b"A"));
     let outcome = Outcome::new(name, Ending::Limit, 10, output, Vec::new(alloc));
     is_reported(
         &rt,
@@ -123,13 +124,13 @@ static VALUES: [(u32, u32); 2] = [(1, 41), (2, 42)];
 
 /// A child of the family, by its number.
 fn child_of(rt: &impl Abort, alloc: Global, root: &Name, index: u32, value: u32) -> Outcome {
-    let name = made(rt, root.child(alloc, 1, index));
+    let name = succeeds(rt, root.child(alloc, 1, index));
     silent(name, Ending::Exit(value), 16, Vec::new(alloc), alloc)
 }
 
 /// The family of a root and two children.
 fn family(rt: &impl Abort, alloc: Global) -> Outcome {
-    let root = made(rt, Name::root(alloc));
+    let root = succeeds(rt, Name::root(alloc));
     let mut log = Vec::new(alloc);
     for (index, value) in VALUES.iter() {
         join(rt, &mut log, child_of(rt, alloc, &root, *index, *value));
@@ -165,7 +166,7 @@ fn killed_tickets_are_told(rt: HostRuntime) {
 }
 
 fn is_told(rt: &impl Abort, alloc: Global, ending: Ending, steps: u64, text: &[u8]) {
-    let root = made(rt, Name::root(alloc));
+    let root = succeeds(rt, Name::root(alloc));
     let log = log_of(rt, alloc, &root, 1, 2);
     let outcome = silent(root, ending, steps, log, alloc);
     is_reported(rt, alloc, &outcome, text);
@@ -173,7 +174,7 @@ fn is_told(rt: &impl Abort, alloc: Global, ending: Ending, steps: u64, text: &[u
 
 /// A grandchild that has killed a ticket.
 fn grandchild_of(rt: &impl Abort, alloc: Global, child: &Name) -> Outcome {
-    let name = made(rt, child.child(alloc, 1, 1));
+    let name = succeeds(rt, child.child(alloc, 1, 1));
     let log = log_of(rt, alloc, &name, 7, 3);
     silent(name, Ending::Exit(17), 29, log, alloc)
 }
@@ -182,16 +183,16 @@ fn grandchild_of(rt: &impl Abort, alloc: Global, child: &Name) -> Outcome {
 fn two_levels(rt: &impl Abort, alloc: Global, child: Name) -> Outcome {
     let mut log = Vec::new(alloc);
     join(rt, &mut log, grandchild_of(rt, alloc, &child));
-    let name = made(rt, child.copy());
-    made(rt, log.push(Line::ticket(name, 2, 1)));
+    let name = succeeds(rt, child.copy());
+    succeeds(rt, log.push(Line::ticket(name, 2, 1)));
     silent(child, Ending::Limit, 35, log, alloc)
 }
 
 /// The root of those, which has killed one before.
 fn three_levels(rt: &impl Abort, alloc: Global) -> Outcome {
-    let root = made(rt, Name::root(alloc));
+    let root = succeeds(rt, Name::root(alloc));
     let mut log = log_of(rt, alloc, &root, 3, 5);
-    let child = made(rt, root.child(alloc, 1, 1));
+    let child = succeeds(rt, root.child(alloc, 1, 1));
     join(rt, &mut log, two_levels(rt, alloc, child));
     silent(root, Ending::Exit(17), 26, log, alloc)
 }
@@ -215,8 +216,8 @@ const ROOM: usize = 1 << 20;
 fn put_out(rt: &impl Abort, alloc: Global, outcome: &Outcome, most: usize, fails: u64) -> MemSink
     requires { 1 ≤ most }
 {
-    let faults = made(rt, vec![in alloc; fails]);
-    let mut sink = made(rt, MemSink::new(alloc, most, ROOM, faults));
+    let faults = succeeds(rt, vec![in alloc; fails]);
+    let mut sink = succeeds(rt, MemSink::new(alloc, most, ROOM, faults));
     let _ = report_into(outcome, &mut sink);
     sink
 }
@@ -280,11 +281,11 @@ fn is_cut_by(rt: &impl Abort, alloc: Global, outcome: &Outcome, text: &[u8], cut
 
 /// A machine that killed a ticket of two children a thousand times: a line of 32 bytes, and a thousand of 20.
 fn many_lines(rt: &impl Abort, alloc: Global) -> Outcome {
-    let root = made(rt, Name::root(alloc));
+    let root = succeeds(rt, Name::root(alloc));
     let mut log = Vec::new(alloc);
     for _ in 0..1000 {
-        let name = made(rt, root.copy());
-        made(rt, log.push(Line::ticket(name, 1, 2)));
+        let name = succeeds(rt, root.copy());
+        succeeds(rt, log.push(Line::ticket(name, 1, 2)));
     }
     silent(root, Ending::Limit, 10, log, alloc)
 }
@@ -301,9 +302,9 @@ static LONG: &[u8] = b"machine 0 limit steps 10 out 10000\n";
 
 /// The report of that machine with this output.
 fn long_text(rt: &impl Abort, alloc: Global, output: &[u8]) -> Vec<u8> {
-    let mut text = made(rt, Vec::from_slice(alloc, LONG));
-    made(rt, text.extend_from_slice(output));
-    made(rt, text.push(b'\n'));
+    let mut text = succeeds(rt, Vec::from_slice(alloc, LONG));
+    succeeds(rt, text.extend_from_slice(output));
+    succeeds(rt, text.push(b'\n'));
     text
 }
 
@@ -318,9 +319,9 @@ static LONG_CUTS: [Cut; 4] = [
 #[test]
 fn a_long_output_goes_out_as_it_lies(rt: HostRuntime) {
     let alloc = rt.alloc();
-    let output = made(&rt, vec![in alloc; b'A'; 10_000]);
+    let output = succeeds(&rt, vec![in alloc; b'A'; 10_000]);
     let text = long_text(&rt, alloc, &output);
-    let root = made(&rt, Name::root(alloc));
+    let root = succeeds(&rt, Name::root(alloc));
     let outcome = Outcome::new(root, Ending::Limit, 10, output, Vec::new(alloc));
     is_cut_at_each_fault(&rt, alloc, &outcome, &text, &LONG_CUTS);
 }
@@ -332,22 +333,22 @@ const DEEP: u32 = 512;
 fn chain(rt: &impl Abort, alloc: Global) -> Outcome {
     let mut log = Vec::new(alloc);
     add_chain(rt, alloc, &mut log);
-    let root = made(rt, Name::root(alloc));
+    let root = succeeds(rt, Name::root(alloc));
     silent(root, Ending::Exit(0), 19, log, alloc)
 }
 
 /// Adds the lines of the machines below the root.
 fn add_chain(rt: &impl Abort, alloc: Global, log: &mut Vec<Line>) {
-    let mut name = made(rt, Name::root(alloc));
+    let mut name = succeeds(rt, Name::root(alloc));
     for _ in 0..DEEP {
-        name = made(rt, name.child(alloc, 1, 1));
+        name = succeeds(rt, name.child(alloc, 1, 1));
         join(rt, log, ended(rt, alloc, &name));
     }
 }
 
 /// A machine of the chain that has ended.
 fn ended(rt: &impl Abort, alloc: Global, name: &Name) -> Outcome {
-    let name = made(rt, name.copy());
+    let name = succeeds(rt, name.copy());
     silent(name, Ending::Exit(0), 19, Vec::new(alloc), alloc)
 }
 

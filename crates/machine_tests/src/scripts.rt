@@ -1,6 +1,6 @@
 //! Scripts: texts in form, and others, each with the line and the kind by which it is refused.
 
-use crate::equal::{are_equal, made};
+use crate::equal::{are_equal, succeeds};
 use drive_script::{Line, MAX_SCRIPT, Script, ScriptError, read_script};
 use std::alloc::{AllocError, Global};
 use std::process::Abort;
@@ -13,15 +13,15 @@ fn read(rt: &impl Abort, alloc: Global, text: &[u8]) -> Result<Script, ScriptErr
 
 /// A script in form.
 pub(crate) fn in_form(rt: &impl Abort, alloc: Global, text: &[u8]) -> Script {
-    made(rt, read(rt, alloc, text))
+    succeeds(rt, read(rt, alloc, text))
 }
 
 /// The lines of a script, one after another.
 fn said(rt: &impl Abort, alloc: Global, script: &Script) -> String {
     let mut text = String::new(alloc);
     for line in script.lines() {
-        let said = made(rt, said_of(alloc, line));
-        made(rt, text.push_str(&said));
+        let said = succeeds(rt, said_of(alloc, line));
+        succeeds(rt, text.push_str(&said));
     }
     text
 }
@@ -157,7 +157,7 @@ fn the_longest_script(rt: HostRuntime) {
 
 /// A script of the greatest length, whose last line alone is not in form.
 fn longest(rt: &impl Abort, alloc: Global) -> Vec<u8> {
-    let mut text = made(rt, vec![in alloc; b'\n'; 1_048_570]);
-    made(rt, text.extend_from_slice(b"jump 0"));
+    let mut text = succeeds(rt, vec![in alloc; b'\n'; 1_048_570]);
+    succeeds(rt, text.extend_from_slice(b"jump 0"));
     text
 }

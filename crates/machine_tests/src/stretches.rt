@@ -1,7 +1,7 @@
-//! Stretches of plain steps, which are made together: what the counters, the timer and limits come to in them, and
+//! Stretches of fast steps, which are made together: what the counters, the timer and limits come to in them, and
 //! code that is stored over. The numbers are counted by hand from the guests' words.
 
-use crate::equal::{are_equal_at, made};
+use crate::equal::{are_equal_at, succeeds};
 use crate::guests::{loaded_at, no_disk, run};
 use elf_load::RAM_BASE;
 use forest_model::Options;
@@ -292,7 +292,7 @@ fn after(rt: &impl Abort, alloc: Global, guest: &Guest) -> Came {
         allot: 0,
     };
     let booted = Vm::boot(alloc, &image, no_disk(rt, alloc), b"", options);
-    let mut vm = made(rt, booted);
+    let mut vm = succeeds(rt, booted);
     run(rt, &mut vm, *most);
     let registers = vm.regs();
     ([registers[5], registers[6], registers[7]], vm.steps())

@@ -2,7 +2,7 @@
 
 ghost use Rattle.std.specs.Prelude.{◌≡◌, length};
 
-use crate::equal::{are_equal, made};
+use crate::equal::{are_equal, succeeds};
 use crate::families::{Ended, end_over};
 use crate::guests::TWO_CHILDREN;
 use crate::meeting::{Meeting, MeetingWire};
@@ -42,7 +42,7 @@ fn two_wires_are_asked_at_once(rt: HostRuntime) {
 
 /// A wire that loses 64 replies.
 fn losing(rt: &impl Abort, alloc: Global) -> Scripted {
-    Scripted::new(made(rt, vec![in alloc; Fate::Lose(0); 64]))
+    Scripted::new(succeeds(rt, vec![in alloc; Fate::Lose(0); 64]))
 }
 
 #[test]

@@ -1,6 +1,6 @@
 //! Replies that a world is told, and that others hear.
 
-use crate::equal::{are_equal, made};
+use crate::equal::{are_equal, succeeds};
 use crate::guests::{TWO_CHILDREN, booted_at};
 use crate::machine::run_and_fork;
 use crate::worlds::{Deed, does};
@@ -16,8 +16,8 @@ fn reply<R: Abort + Wait>(rt: &R, alloc: Global, depot: &Depot) -> Sent {
     let mut vm = booted_at(rt, alloc, RAM_BASE, &TWO_CHILDREN, 16);
     let brood = run_and_fork(rt, alloc, &mut vm, 2, depot);
     assert!(rt; depot.pages(&brood.key) > 0);
-    let parcel = made(rt, depot.answer(&brood.key, 0));
-    made(rt, depot.push(rt, parcel))
+    let parcel = succeeds(rt, depot.answer(&brood.key, 0));
+    succeeds(rt, depot.push(rt, parcel))
 }
 
 #[test]
@@ -30,14 +30,14 @@ pub(crate) fn tells<R: Abort + Wait>(rt: &R, alloc: Global, world: &mut World, d
     let sent = reply(rt, alloc, depot);
     let told = (sent.image(), sent.page());
     let before = heard_at(rt, world, 0);
-    made(rt, world.tell(sent));
+    succeeds(rt, world.tell(sent));
     let heard = [before, heard_at(rt, world, 0), heard_at(rt, world, 1)];
     are_equal(rt, &heard, &[None, Some(told), None]);
 }
 
 // The numbers of the image and of the page of the reply at a place.
 fn heard_at(rt: &impl Abort, world: &World, at: usize) -> Option<(u32, u32)> {
-    match made(rt, world.hear(at)) {
+    match succeeds(rt, world.hear(at)) {
         Some(sent) => Some((sent.image(), sent.page())),
         None => None,
     }

@@ -2,8 +2,8 @@
 
 ghost use Rattle.std.specs.Prelude.{◌≤◌, length};
 
-use crate::equal::{are_equal, made};
-use crate::families::{Ended, end_by, heard_of, is_left, is_stopped};
+use crate::equal::{are_equal, succeeds};
+use crate::families::{Ended, end_by, heard_of, is_given_after_a_join, is_left, is_stopped};
 use crate::guests::{
     GRANDCHILD, KILL_BUSY_CHILDREN, KILL_THEN_JOIN, LONG_CHAIN, THOUSAND_CHILDREN, TWO_CHILDREN,
 };
@@ -21,7 +21,7 @@ const ROOM: usize = 1 << 20;
 
 /// An outcome is reported so.
 fn is_reported(rt: &impl Abort, alloc: Global, outcome: &Outcome, text: &[u8]) {
-    let mut sink = made(rt, MemSink::new(alloc, 4096, ROOM, Vec::new(alloc)));
+    let mut sink = succeeds(rt, MemSink::new(alloc, 4096, ROOM, Vec::new(alloc)));
     let put = report_into(outcome, &mut sink);
     are_equal(rt, &(put, sink.bytes() == text), &(Ok(()), true));
 }
@@ -89,13 +89,13 @@ fn two_children(rt: HostRuntime) {
 
 #[test]
 fn thousand_children(rt: HostRuntime) {
-    let text = made(&rt, texts::thousand_children(rt.alloc()));
+    let text = succeeds(&rt, texts::thousand_children(rt.alloc()));
     each_ends_with(&rt, &THOUSAND_CHILDREN, 1000, &SOME, text.as_bytes());
 }
 
 #[test]
 fn long_chain(rt: HostRuntime) {
-    let text = made(&rt, texts::long_chain(rt.alloc(), 200));
+    let text = succeeds(&rt, texts::long_chain(rt.alloc(), 200));
     each_ends_with(&rt, &LONG_CHAIN, 200, &SOME, text.as_bytes());
 }
 
@@ -128,4 +128,9 @@ fn a_stopped_board_hands_out_nothing(rt: HostRuntime) {
 #[test]
 fn passes_are_split_in_two_threads(rt: HostRuntime) {
     are_equal(&rt, &is_left(&rt, rt.alloc()), &true);
+}
+
+#[test]
+fn a_machine_is_given_back_after_a_join(rt: HostRuntime) {
+    are_equal(&rt, &is_given_after_a_join(&rt, rt.alloc()), &true);
 }

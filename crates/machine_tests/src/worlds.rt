@@ -5,7 +5,7 @@ ghost use Rattle.forest_tree.specs.Tree.{Tree};
 ghost use Rattle.forest_model.specs.Paged.{Paged};
 ghost use Rattle.drive_script.specs.Driven.{HasMachines};
 
-use crate::equal::{are_equal, made};
+use crate::equal::{are_equal, succeeds};
 use crate::guests::{TWO_CHILDREN, booted_at};
 use crate::scripts::in_form;
 use crate::told::tells;
@@ -57,8 +57,8 @@ fn world_does<R: Abort + Wait>(rt: &R, alloc: Global, world: &mut World, depot: 
 
 // Does this with the world of the machine of two children.
 pub(crate) fn does<R: Abort + Wait>(rt: &R, alloc: Global, deed: Deed) {
-    let depot = made(rt, Depot::new(alloc));
-    let mut world = made(rt, started(rt, alloc, &depot));
+    let depot = succeeds(rt, Depot::new(alloc));
+    let mut world = succeeds(rt, started(rt, alloc, &depot));
     world_does(rt, alloc, &mut world, &depot, deed);
 }
 
@@ -71,7 +71,7 @@ fn drives<R: Abort + Wait>(rt: &R, alloc: Global, world: &mut World, depot: &Dep
     requires { (t : Tree Paged) × HasMachines depot.now world.old t }
 {
     let script = in_form(rt, alloc, SCRIPT);
-    let told = made(rt, drive(rt, alloc, &script, world, depot));
+    let told = succeeds(rt, drive(rt, alloc, &script, world, depot));
     are_equal(rt, &told.as_slice(), &TOLD);
 }
 
@@ -83,7 +83,7 @@ fn a_machine_is_taken_and_given_back(rt: HostRuntime) {
 fn gives_back(rt: &impl Abort, alloc: Global, world: &mut World, depot: &Depot)
     requires { (t : Tree Paged) × HasMachines depot.now world.old t }
 {
-    let is_so = made(rt, is_given_back(alloc, world, depot));
+    let is_so = succeeds(rt, is_given_back(alloc, world, depot));
     are_equal(rt, &is_so, &true);
 }
 

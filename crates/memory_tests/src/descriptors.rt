@@ -217,13 +217,13 @@ fn again(alloc: Global, bytes: &[u8]) -> Result<Vec<u8>, DescError> {
 /// The bytes of the first child.
 fn first_bytes(rt: &impl Abort, alloc: Global) -> Vec<u8> {
     let descriptor = first_child(rt, alloc);
-    made(rt, descriptor.encode(alloc))
+    made(rt, bytes_in_range(alloc, &descriptor))
 }
 
 /// The bytes of the descriptor whose fields all differ.
 fn numbered_bytes(rt: &impl Abort, alloc: Global) -> Vec<u8> {
     let descriptor = numbered(rt, alloc);
-    made(rt, descriptor.encode(alloc))
+    made(rt, bytes_in_range(alloc, &descriptor))
 }
 
 fn are_placed(rt: &impl Abort, bytes: &[u8], rows: &[(usize, &[u8])], length: usize) {
@@ -358,7 +358,7 @@ fn bytes_of_most(rt: &impl Abort, alloc: Global) -> Vec<u8> {
     let mut descriptor = first_child(rt, alloc);
     descriptor.pages = 1024;
     descriptor.blank = map_of(rt, alloc, 1024, 1023);
-    made(rt, descriptor.encode(alloc))
+    made(rt, bytes_in_range(alloc, &descriptor))
 }
 
 /// Ends of the map of the most pages, by their places.

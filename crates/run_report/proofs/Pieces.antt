@@ -3,7 +3,7 @@ use Rattle.std.proofs.Common.{codes, ◌≡◌, ℕ, List, [], ◌++◌, length,
 use Rattle.std.specs.Fmt.{decimal}
 use Rattle.run_report.specs.declared.line.MachineLine.{MachineLine}
 use Rattle.run_report.specs.Said.{line_of_machine}
-use Rattle.run_report.specs.Name.{name_text}
+use Rattle.machine_names.specs.Name.{name_text}
 use Rattle.run_report.specs.Report.{Ended, lines_of, report_of}
 use Rattle.run_report.specs.Lines.{Line, ending_text, line_text, text_of}
 

@@ -3,7 +3,7 @@ use Rattle.std.proofs.Common.{◌≡◌, ℕ, suc, refl, ap, ap₂, ◌∙◌, [
 use Rattle.fork_port.specs.declared.ending.Ending.{Ending}
 use Rattle.forest_tree.specs.Tree.{Tree, node, Trees, no_tree, tree, Log, no_entry, joined, killed, Path}
 use Rattle.forest_tree.specs.Projection.{map_tree, map_trees, map_log}
-use Rattle.run_report.specs.Name.{child_path}
+use Rattle.machine_names.specs.Name.{child_path}
 use Rattle.run_report.specs.Lines.{machine_line, ticket_line, Told, TellsSame, own_lines_by, own_lines, lines, trees_lines, log_lines}
 
 module _ {M N : Type 0} (told : Told M) (less : Told N) (f : M → N) (same : TellsSame told less f) where

@@ -5,7 +5,7 @@ use Rattle.std.specs.Fmt.{decimal}
 use Rattle.fork_port.specs.declared.ending.Ending.{Ending}
 use Rattle.fork_port.specs.declared.ending.Ending.TheVariants.{Exit, Limit}
 use Rattle.forest_tree.specs.Tree.{Tree, node, Trees, no_tree, tree, Log, no_entry, joined, killed, Path}
-use Rattle.run_report.specs.Name.{name_text, child_path}
+use Rattle.machine_names.specs.Name.{name_text, child_path}
 
 -- a line of a report. A name is the path to the machine
 pub data Line : Type 0 where

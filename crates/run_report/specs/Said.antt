@@ -8,7 +8,7 @@ use Rattle.run_report.specs.declared.line.Said.TheVariants.{Machine, Ticket}
 use Rattle.run_report.specs.declared.line.Piece.{Piece}
 use Rattle.run_report.specs.declared.line.Piece.TheVariants.{Text, Named, Ended, Number, Sum}
 use Rattle.run_report.specs.Lines.{Line, machine_line, ticket_line, ending_text}
-use Rattle.run_report.specs.Name.{name_text}
+use Rattle.machine_names.specs.Name.{name_text}
 
 abbrev pub line_of_machine : MachineLine → Line
 line_of_machine m = machine_line m.name m.ending m.steps m.output.items

@@ -1,21 +1,13 @@
-//! What the definitions of names and lines come to.
+//! What the definitions of lines come to.
 
 ghost use Rattle.std.specs.Prelude.{◌≡◌, ℕ, [], ◌∷◌, Some, None};
-ghost use Rattle.std.specs.declared.cmp.Ordering.TheVariants.{Equal};
 ghost use Rattle.fork_port.specs.declared.ending.Ending.{Ending};
 ghost use Rattle.forest_tree.specs.Tree.{Broods, Log, Path, Tree, Trees, node};
 ghost use Rattle.forest_tree.specs.Projection.{map_log, map_tree, map_trees};
 ghost use Rattle.forest_model.specs.Machine.{Machine};
 ghost use Rattle.run_report.specs.Lines.{Told, TellsSame, lines, log_lines, machine_line, trees_lines};
-ghost use Rattle.run_report.specs.NameOrder.{path_cmp};
 ghost use Rattle.run_report.specs.Report.{report, report_of, told};
 ghost use Rattle.run_report.specs.Summary.{summary, summary_of};
-
-/// Two names compare equal exactly where they are the same.
-pub fn equal_names_are_the_same()
-    ensures equal { (a b : Path) → path_cmp a b ≡ Equal → a ≡ b }
-    ensures same { (a : Path) → path_cmp a a ≡ Equal }
-{}
 
 /// A tree of machines with more inside has the lines of that tree seen as one of machines with less, where
 /// what is left of a machine tells the same.

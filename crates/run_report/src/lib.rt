@@ -1,13 +1,11 @@
-//! Names of machines, and the report of machines that have ended.
+//! The report of machines that have ended.
 #![tactic(auto)]
 
 pub mod laws;
 mod line;
-mod name;
 mod report;
 mod summary;
 
 pub use line::Line;
-pub use name::{Branch, Name};
 pub use report::{Outcome, ReportError, report_into};
 pub use summary::summary_into;

@@ -8,10 +8,10 @@ ghost use Rattle.run_report.specs.Lines.{ending_text, line_text, ticket_line};
 ghost use Rattle.run_report.specs.Said.{line_of_machine, line_of_ticket, piece_text};
 ghost use Rattle.run_report.specs.Summary.{IsWithin, with_line};
 
-use crate::Name;
 use crate::summary::Summary;
 use forest_model::Ending;
 use io_edge::{Sink, SinkBuffer, WriteFault};
+use machine_names::Name;
 use std::marker::Model;
 
 /// What a report says of a machine that has ended.

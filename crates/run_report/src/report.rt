@@ -7,11 +7,12 @@ ghost use Rattle.run_report.specs.Lines.{text_of};
 ghost use Rattle.run_report.specs.Report.{lines_of, report_of};
 ghost use Rattle.run_report.specs.Summary.{summed};
 
+use crate::Line;
 use crate::line::MachineLine;
 use crate::summary::Summary;
-use crate::{Line, Name};
 use forest_model::Ending;
 use io_edge::{Sink, SinkBuffer, WriteFault};
+use machine_names::Name;
 use std::marker::Model;
 use thiserror::Error;
 

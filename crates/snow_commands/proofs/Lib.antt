@@ -4,3 +4,4 @@ mod TextLemmas
 mod Booted
 mod Ended
 mod First
+mod Seeding

@@ -2,3 +2,4 @@ pub mod Text
 pub mod Writes
 pub mod Status
 pub mod Lost
+pub mod Seeded

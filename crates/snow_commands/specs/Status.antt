@@ -5,7 +5,7 @@ use Rattle.io_edge.specs.Asked.{Asked}
 use Rattle.command_line.specs.Words.{Command, generated, meant}
 use Rattle.guest_files.specs.Reads.{Files, Refusal, no_meaning, no_file, image_too_long, image_refused, disk_too_long, disk_not_sectors, input_too_long, script_too_long, script_refused}
 use Rattle.snow_commands.specs.Text.{text}
-use Rattle.guest_files.specs.Parts.{IsImageRefusal, IsDataRefusal, IsScriptRefusal, IsFaultOf, IsLoadOf, final_load, last_load, loads_of}
+use Rattle.guest_files.specs.Parts.{AreAsked, IsImageRefusal, IsDataRefusal, IsScriptRefusal, IsFaultOf, IsLoadOf, final_load, last_load, loads_of}
 use Rattle.snow_commands.specs.declared.program.Status.{Status}
 
 -- the text is gone whole
@@ -29,6 +29,11 @@ IsLoadAsked (Some command) load = IsLoadOf command load
 abbrev pub IsFaultAsked : Option Command → ℕ → Asked → Asked → Type 0
 IsFaultAsked None load old new = ⊥
 IsFaultAsked (Some command) load old new = IsFaultOf (loads_of command) load old new
+
+-- just the loads that the words ask for were made
+abbrev pub AreLoaded : Option Command → Asked → Asked → Type 0
+AreLoaded None old new = ⊥
+AreLoaded (Some command) old new = AreAsked (loads_of command) old new
 
 -- no check before this load refuses the files
 abbrev pub IsLoadReached : Option Command → Result (List ℕ) Refusal → ℕ → Type 0

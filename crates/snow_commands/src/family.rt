@@ -1,6 +1,6 @@
 //! The family of a machine is run to its end, by workers on a board.
 
-ghost use Rattle.std.specs.Prelude.{◌≡◌, ◌≤◌, [], true, length, IfErr, IfOk};
+ghost use Rattle.std.specs.Prelude.{◌≡◌, ◌≤◌, [], true, length, map, IfErr, IfOk};
 ghost use Rattle.forest_tree.specs.Settle.{alone};
 ghost use Rattle.forest_history.specs.World.{world_of};
 ghost use Rattle.forest_model.specs.Forest.{finish, machines};
@@ -26,8 +26,8 @@ use vm_cell::Vm;
 use wire_fates::Wire;
 use world_core::{Reason, World};
 
-/// Runs the family of a machine to its end, by a worker for each wire. A worker looks after `slice` steps of a machine
-/// first whether another has none, and asks for at most `ahead` pages beside one that is wanted.
+/// Runs the family of a machine to its end, by a worker for each wire. A worker looks up first after `slice` steps of a
+/// machine, and asks for at most `ahead` pages beside one that is wanted.
 pub fn run_to_end<R: AllocGlobal + Threads + Wait + Sync, W: Wire + Send, G: Gate + Sync>(
     rt: &R,
     world: World,
@@ -44,6 +44,7 @@ pub fn run_to_end<R: AllocGlobal + Threads + Wait + Sync, W: Wire + Send, G: Gat
     requires ahead { ahead ≤ MOST_AHEAD }
     ensures lines { IfOk result (λ outcome. lines_of outcome ≡ lines told [] (finish (alone machines first.value.machine))) }
     ensures wire { IfErr result (λ reason. reason ≡ Reason.Wire → IsOneLost W.streak wires.new) }
+    ensures seeds { map W.seeds wires.new ≡ map W.seeds wires.old }
     ensures len { length wires.new ≡ length wires.old }
 {
     let Ok((board, pass)) = Board::new(rt.alloc(), world, first, depot) else {

@@ -1,11 +1,13 @@
 //! The command `self`: the family of a guest that is generated from a seed is run to its end.
 
-ghost use Rattle.std.specs.Prelude.{◌≡◌, ◌*◌, ◌<◌, ◌≤◌, vec_len, IfOk};
+ghost use Rattle.std.specs.Prelude.{◌≡◌, ◌*◌, ◌<◌, ◌≤◌, map, vec_len, IfOk};
 ghost use Rattle.cow_disk.specs.declared.disk.TheConstants.{SECTOR_SIZE};
 ghost use Rattle.flat_memory.specs.Flat.{zeros};
 ghost use Rattle.io_edge.specs.Outside.{HasRisen};
 ghost use Rattle.host_workers.specs.Lost.{IsOneLost};
 ghost use Rattle.run_report.specs.Summary.{summary_of};
+ghost use Rattle.command_line.specs.Words.{generated_how};
+ghost use Rattle.snow_commands.specs.Seeded.{IfRun, seeded_for};
 ghost use Rattle.snow_commands.specs.Text.{generated_files, generated_text};
 ghost use Rattle.snow_commands.specs.Writes.{IsSilent, MakesOver, WritesFileless};
 
@@ -37,6 +39,7 @@ pub fn run_and_sum_up<
     requires most { vec_len wires.old ≤ MOST_WIRES }
     ensures writes { WritesFileless (generated_text words.now) (HasRisen (K.faults sink.old) (K.faults sink.new))
         (IsOneLost W.streak wires.new.items) (K.gone sink.old) (K.gone sink.new) result }
+    ensures seeded { IfRun result (map W.seeds wires.new.items ≡ seeded_for (generated_how words.now.workers) (map W.seeds wires.old.items)) }
     ensures silent { IsSilent result (sink.new ≡ sink.old) }
 {
     let outcome = match run_generated(rt, words, wires, gate) {
@@ -58,8 +61,9 @@ fn run_generated<R: AllocGlobal + Threads + Wait + Sync, W: Wire + Send, G: Gate
 ) -> Result<Outcome, Stop>
     requires some { 0 < vec_len wires.old }
     requires most { vec_len wires.old ≤ MOST_WIRES }
-    ensures { MakesOver (IsOneLost W.streak wires.new.items) (generated_text words.now)
+    ensures makes { MakesOver (IsOneLost W.streak wires.new.items) (generated_text words.now)
         (λ outcome text. summary_of words.now.seed outcome ≡ text) result }
+    ensures seeded { IfRun result (map W.seeds wires.new.items ≡ seeded_for (generated_how words.now.workers) (map W.seeds wires.old.items)) }
 {
     let files = generated_files(rt.alloc(), words.seed())?;
     run_files(rt, &words.guest(), &files, &words.how(), wires, gate)

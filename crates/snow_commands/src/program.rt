@@ -1,13 +1,14 @@
 //! What the program does with its words.
 
-ghost use Rattle.std.specs.Prelude.{◌≡◌, ◌↔◌, ◌<◌, ◌≤◌, None, vec_len};
+ghost use Rattle.std.specs.Prelude.{◌≡◌, ◌↔◌, ◌<◌, ◌≤◌, true, None, OnOk, vec_len};
 ghost use Rattle.io_edge.specs.Outside.{HasRisen};
 ghost use Rattle.command_line.specs.Commands.{meaning};
 ghost use Rattle.command_line.specs.Words.{meant, texts};
-ghost use Rattle.guest_files.specs.Parts.{IsDataRefusal, IsFaultOf, IsImageRefusal, IsScriptRefusal, loads_of};
+ghost use Rattle.guest_files.specs.Parts.{AreAsked, IsDataRefusal, IsFaultOf, IsImageRefusal, IsScriptRefusal, loads_of};
 ghost use Rattle.snow_commands.specs.Lost.{IsLost, IsLostIn};
+ghost use Rattle.snow_commands.specs.Seeded.{AreSeeded, AreSeededIn, IfRun, is_run};
 ghost use Rattle.snow_commands.specs.Writes.{IsGenerated, IsSilent, IsUnrefused, Writes};
-ghost use Rattle.snow_commands.specs.Status.{IsFileless, IsWritten, IsPrefixOut, IsRefused, IsFaultAsked, IsLoadAsked, IsReached, Completes, IsStatus};
+ghost use Rattle.snow_commands.specs.Status.{AreLoaded, IsFileless, IsWritten, IsPrefixOut, IsRefused, IsFaultAsked, IsLoadAsked, IsReached, Completes, IsStatus};
 
 use crate::drive::drive_and_write;
 use crate::generated::run_and_sum_up;
@@ -92,6 +93,11 @@ pub fn snow<
     // what the script tells of that family, line by line.
     ensures written { result.code ≡ 0 → IsWritten (S.files shelf.old) (texts words.now) (K.gone sink.old) (K.gone sink.new) }
 
+    // Just the loads that the words ask for were made. And on codes 0, 5 and 7 the wires were given the seed of the
+    // words, once, as many as there are workers to be, or all where there are fewer.
+    ensures loads { result.code ≡ 0 → AreLoaded (meant (texts words.now)) (S.asked shelf.old) (S.asked shelf.new) }
+    ensures seeded { is_run result.code ≡ true → AreSeeded (meant (texts words.now)) W.seeds wires.old.items wires.new.items }
+
     // 1: only where the shelf had a fault, in a load that the words ask for and no earlier check
     // forestalls. It is that of the last load that was asked for.
     ensures read_fault { result.code ≡ 1 → HasRisen (S.faults shelf.old) (S.faults shelf.new) }
@@ -103,6 +109,7 @@ pub fn snow<
     // the image is refused, and 4: only where the disk or the input is, with the number of the refusal.
     // 8: only where the script is, with the line and the kind.
     ensures usage { ¬ (result.code ≡ 6) → ((result.code ≡ 2) ↔ (meant (texts words.now) ≡ None)) }
+    ensures unread { result.code ≡ 2 → shelf.new ≡ shelf.old }
     ensures image_refused { result.code ≡ 3 → IsRefused (S.files shelf.old) (texts words.now) (IsImageRefusal result.first) }
     ensures data_refused { result.code ≡ 4 → IsRefused (S.files shelf.old) (texts words.now) (IsDataRefusal result.first) }
     ensures script_refused { result.code ≡ 8 → IsRefused (S.files shelf.old) (texts words.now) (IsScriptRefusal result.first result.second) }
@@ -164,6 +171,8 @@ fn write_text<
         (λ load. HasRisen (S.faults shelf.old) (S.faults shelf.new) × IsFaultOf (loads_of (meaning command.now)) load (S.asked shelf.old) (S.asked shelf.new))
         (HasRisen (K.faults sink.old) (K.faults sink.new)) (IsLostIn (meaning command.now) W.streak wires.new.items)
         (K.gone sink.old) (K.gone sink.new) result }
+    ensures loads { OnOk result (AreAsked (loads_of (meaning command.now)) (S.asked shelf.old) (S.asked shelf.new)) }
+    ensures seeded { IfRun result (AreSeededIn (meaning command.now) W.seeds wires.old.items wires.new.items) }
     ensures fileless { IsGenerated (meaning command.now) → (shelf.new ≡ shelf.old) × IsUnrefused result }
     ensures silent { IsSilent result (sink.new ≡ sink.old) }
 {

@@ -1,6 +1,6 @@
 //! The command `run`: a guest's family is run to its end.
 
-ghost use Rattle.std.specs.Prelude.{◌≡◌, ◌<◌, ◌≤◌, [], length, IfErr, IfOk, vec_len};
+ghost use Rattle.std.specs.Prelude.{◌≡◌, ◌<◌, ◌≤◌, [], length, map, IfErr, IfOk, OnOk, vec_len};
 ghost use Rattle.std.specs.Option.{option_map};
 ghost use Rattle.io_edge.specs.Outside.{HasRisen};
 ghost use Rattle.forest_tree.specs.Settle.{alone};
@@ -15,8 +15,9 @@ ghost use Rattle.world_core.specs.World.{StandsFor};
 ghost use Rattle.host_workers.specs.Lost.{IsOneLost};
 ghost use Rattle.command_line.specs.Words.{run};
 ghost use Rattle.snow_commands.specs.Lost.{IsLostIn};
+ghost use Rattle.snow_commands.specs.Seeded.{IfRun, all_seeded, seeded_for};
 ghost use Rattle.snow_commands.specs.Text.{HasLines, guest_image, run_text};
-ghost use Rattle.guest_files.specs.Parts.{IsFaultOf, IsGuestLoad, guest_loads, loads_of};
+ghost use Rattle.guest_files.specs.Parts.{AreAsked, IsFaultOf, IsGuestLoad, guest_loads, loads_of};
 ghost use Rattle.snow_commands.specs.Writes.{GivesOver, IsSilent, MakesOver, Writes};
 
 use crate::family::run_to_end;
@@ -57,6 +58,8 @@ pub fn run_and_report<
         (λ load. HasRisen (S.faults shelf.old) (S.faults shelf.new) × IsFaultOf (loads_of (run guest.now how.now)) load (S.asked shelf.old) (S.asked shelf.new))
         (HasRisen (K.faults sink.old) (K.faults sink.new)) (IsLostIn (run guest.now how.now) W.streak wires.new.items)
         (K.gone sink.old) (K.gone sink.new) result }
+    ensures loads { OnOk result (AreAsked (guest_loads guest.now) (S.asked shelf.old) (S.asked shelf.new)) }
+    ensures seeded { IfRun result (map W.seeds wires.new.items ≡ seeded_for how.now (map W.seeds wires.old.items)) }
     ensures silent { IsSilent result (sink.new ≡ sink.old) }
 {
     let outcome = run_guest(rt, guest, how, shelf, wires, gate)?;
@@ -67,8 +70,9 @@ pub fn run_and_report<
 }
 
 /// Seeds each wire.
-fn seed_all<W: Wire>(wires: &mut Vec<W>, seed: u32)
-    ensures { vec_len wires.new ≡ vec_len wires.old }
+fn seed_all<W: Wire>(wires: &mut [W], seed: u32)
+    ensures seeded { map W.seeds wires.new ≡ all_seeded seed (map W.seeds wires.old) }
+    ensures len { length wires.new ≡ length wires.old }
 {
     for wire in wires.iter_mut() {
         wire.seed(seed);
@@ -86,17 +90,19 @@ fn run_guest<R: AllocGlobal + Threads + Wait + Sync, S: Shelf, W: Wire + Send, G
 ) -> Result<Outcome, Stop>
     requires some { 0 < vec_len wires.old }
     requires most { vec_len wires.old ≤ MOST_WIRES }
-    ensures { GivesOver ((0 < guest.now.clones) × IsOneLost W.streak wires.new.items) INPUT_LOAD
+    ensures gives { GivesOver ((0 < guest.now.clones) × IsOneLost W.streak wires.new.items) INPUT_LOAD
         (λ load. IsGuestLoad guest.now load × HasRisen (S.faults shelf.old) (S.faults shelf.new)
         × IsFaultOf (guest_loads guest.now) load (S.asked shelf.old) (S.asked shelf.new))
         (option_map (run_text guest.now) (S.files shelf.old)) (λ outcome told. report_of outcome ≡ told) result }
+    ensures loads { OnOk result (AreAsked (guest_loads guest.now) (S.asked shelf.old) (S.asked shelf.new)) }
+    ensures seeded { IfRun result (map W.seeds wires.new.items ≡ seeded_for how.now (map W.seeds wires.old.items)) }
 {
     let files = read_guest(rt.alloc(), guest, shelf)?;
     run_files(rt, guest, &files, how, wires, gate)
 }
 
 /// Boots a guest whose files are there, and runs its family to its end, by as many workers as are asked for, but by no more
-/// than there are wires. Each wire is seeded first.
+/// than there are wires.
 pub fn run_files<R: AllocGlobal + Threads + Wait + Sync, W: Wire + Send, G: Gate + Sync>(
     rt: &R,
     guest: &GuestWords<'_>,
@@ -107,17 +113,17 @@ pub fn run_files<R: AllocGlobal + Threads + Wait + Sync, W: Wire + Send, G: Gate
 ) -> Result<Outcome, Stop>
     requires some { 0 < vec_len wires.old }
     requires most { vec_len wires.old ≤ MOST_WIRES }
-    ensures { MakesOver ((0 < guest.now.clones) × IsOneLost W.streak wires.new.items) (guest_image guest.now files.now)
+    ensures makes { MakesOver ((0 < guest.now.clones) × IsOneLost W.streak wires.new.items) (guest_image guest.now files.now)
         (HasLines guest.now files.now) result }
+    ensures seeded { IfRun result (map W.seeds wires.new.items ≡ seeded_for how.now (map W.seeds wires.old.items)) }
 {
-    seed_all(wires, how.seed());
     let workers = wires.len().min(how.workers() as usize);
     let depot = Depot::new(rt.alloc())?;
     let (working, _) = wires.split_at_mut(workers);
     run_booted(rt, guest, files, how, &depot, working, gate)
 }
 
-/// The same, with a depot for the images of the family, and by a worker for each wire.
+/// The same, with a depot for the images of the family, and by a worker for each wire. Each is seeded first.
 fn run_booted<R: AllocGlobal + Threads + Wait + Sync, W: Wire + Send, G: Gate + Sync>(
     rt: &R,
     guest: &GuestWords<'_>,
@@ -131,9 +137,11 @@ fn run_booted<R: AllocGlobal + Threads + Wait + Sync, W: Wire + Send, G: Gate + 
     requires most { length wires.old ≤ MOST_WIRES }
     ensures makes { MakesOver ((0 < guest.now.clones) × IsOneLost W.streak wires.new) (guest_image guest.now files.now)
         (HasLines guest.now files.now) result }
+    ensures seeded { IfRun result (map W.seeds wires.new ≡ all_seeded how.now.seed (map W.seeds wires.old)) }
     ensures len { length wires.new ≡ length wires.old }
 {
     let (world, first) = boot(rt.alloc(), guest, files, depot)?;
+    seed_all(wires, how.seed());
     match run_world(rt, guest.clones(), how, world, first, depot, wires, gate) {
         Ok(outcome) => Ok(outcome),
         Err(Reason::Wire) => Err(Stop::Wire),
@@ -159,6 +167,7 @@ fn run_world<R: AllocGlobal + Threads + Wait + Sync, W: Wire + Send, G: Gate + S
     requires most { length wires.old ≤ MOST_WIRES }
     ensures lines { IfOk result (λ outcome. lines_of outcome ≡ lines told [] (finish (alone machines first.value.machine))) }
     ensures wire { IfErr result (λ reason. reason ≡ Reason.Wire → (0 < clones) × IsOneLost W.streak wires.new) }
+    ensures seeds { map W.seeds wires.new ≡ map W.seeds wires.old }
     ensures len { length wires.new ≡ length wires.old }
 {
     let slice = how.slice();

@@ -11,4 +11,6 @@ mod hostile;
 #[cfg(test)]
 mod numbers;
 #[cfg(test)]
+mod seeds;
+#[cfg(test)]
 mod tests;

@@ -69,6 +69,12 @@ fn shelf_of(rt: &impl Abort, alloc: Global, guest: &[u8], script: &[u8], fails: 
     MemShelf::new(files_of(rt, alloc, guest, script), faults)
 }
 
+/// A shelf with the guest that ends with the value 7, and a script that is empty.
+pub(crate) fn shelf_with(rt: &impl Abort, alloc: Global) -> MemShelf {
+    let image = made(rt, elf_of(alloc, RAM_BASE, &EXIT_SEVEN));
+    shelf_of(rt, alloc, &image, b"", 0)
+}
+
 /// A wire that gives so many replies, then tells a fate so many times, and then gives again.
 fn wire_of(rt: &impl Abort, alloc: Global, gives: usize, fate: Fate, times: usize) -> Scripted {
     let mut fates = Vec::new(alloc);
@@ -99,7 +105,7 @@ fn wires_of(rt: &impl Abort, alloc: Global, wires: Wires) -> Vec<Scripted> {
 }
 
 /// A sink that takes seven bytes a put. Its put of this number fails.
-fn sink_of(rt: &impl Abort, alloc: Global, fails: u64) -> MemSink {
+pub(crate) fn sink_of(rt: &impl Abort, alloc: Global, fails: u64) -> MemSink {
     let faults = made(rt, vec![in alloc; fails]);
     made(rt, MemSink::new(alloc, 7, 1000, faults))
 }

@@ -2,14 +2,11 @@
 
 use crate::bells::Bell;
 use crossbeam_utils::Backoff;
-use std::hint::spin_loop;
 
-/// How long a thread stays awake while no turn passes, in pauses of the processor: 20 to 240 microseconds. Most turns
-/// are far shorter. Who sleeps, or leaves the processor to another program, comes back late, and so do all behind it.
-const LONGEST_WATCH: u32 = 4000;
-
-/// The mean of the pauses of one spin, which grow from 1 to 64.
-const A_SPIN: u32 = 32;
+/// How often the thread whose turn is the next one spins while the turn before does not pass. That is 191 pauses of the
+/// processor, 1 to 12 microseconds, and most turns are shorter. Who watches for longer may do so on the very processor that
+/// the one before it waits for.
+const LONGEST_WATCH: u32 = 8;
 
 /// The patience of a thread that waits for its turn.
 #[derive(Drop)]
@@ -17,8 +14,8 @@ pub(crate) struct Patience {
     backoff: Backoff,
     /// The number that was served when it looked last.
     served: u64,
-    /// The pauses since then.
-    pauses: u32,
+    /// How often it spun since then.
+    spins: u32,
     /// Since it is to sleep: how often its bell had rung before it looked last.
     rings: Option<u32>,
 }
@@ -28,28 +25,23 @@ impl Patience {
         Patience {
             backoff: Backoff::new(),
             served: u64::MAX,
-            pauses: 0,
+            spins: 0,
             rings: None,
         }
     }
 
     /// Passes some time where another number is served, or answers that the thread is to sleep until its bell has rung
-    /// more often. While turns pass it stays awake. The thread whose turn is the next one looks at once again.
+    /// more often. The thread whose turn is the next one watches for some time, all others sleep at once.
     pub(crate) fn pass(&mut self, bell: &Bell, number: u64, served: u64) -> Option<u32> {
         if served != self.served {
             self.end(bell);
             self.served = served;
-            self.pauses = 0;
+            self.spins = 0;
             self.backoff.reset();
         }
-        if self.pauses < LONGEST_WATCH {
-            if number.wrapping_sub(served) == 1 {
-                self.pauses += 1;
-                spin_loop();
-            } else {
-                self.pauses += A_SPIN;
-                self.backoff.spin();
-            }
+        if number.wrapping_sub(served) == 1 && self.spins < LONGEST_WATCH {
+            self.spins += 1;
+            self.backoff.spin();
             return None;
         }
         if self.rings.is_none() {

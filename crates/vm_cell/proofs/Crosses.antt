@@ -1,25 +1,8 @@
--- A machine may go to another thread. `search` finds no way through its snapshots without the steps in between.
+-- A machine may go to another thread, as its hart may.
 use denote.Param.Send.{IsSend, sendable}
 use Rattle.std.proofs.Crossing.{crosses}
-use Rattle.rv_traps.proofs.csrs.Csrs.TheSendSync as csrs
-use Rattle.timer_port.proofs.port.TimerPort.TheSendSync as timer
-use Rattle.console_port.proofs.port.ConsolePort.TheSendSync as console
-use Rattle.block_port.proofs.port.BlockPort.TheSendSync as block
-use Rattle.fork_port.proofs.tickets.TicketList.TheSendSync as tickets
-use Rattle.fork_port.specs.contracts.port.ForkPort as ForkPort
-use Rattle.vm_bus.specs.contracts.ports.Ports as Ports
-use Rattle.guest_mem.proofs.memory.GuestMem.TheSendSync as memory
-use Rattle.vm_cell.specs.contracts.hart.Hart as Hart
+use Rattle.vm_hart.proofs.Crosses.{hart_send}
 use Rattle.vm_cell.specs.contracts.vm.Vm as Vm
-
-fork_send : IsSend ForkPort.the_row
-fork_send = search (sendable, crosses, tickets.the_send) depth 40
-
-ports_send : IsSend Ports.the_row
-ports_send = search (sendable, timer.the_send, console.the_send, block.the_send, fork_send) depth 40
-
-hart_send : IsSend Hart.the_row
-hart_send = search (sendable, csrs.the_send, memory.the_send, ports_send) depth 40
 
 pub vm_send : IsSend Vm.the_row
 vm_send = search (sendable, crosses, hart_send) depth 40

@@ -1,5 +1,6 @@
 -- The page at which a machine stalls, and one that comes.
-use Rattle.std.proofs.Common.{◌≡◌, ◌⊎◌, inl, inr, ⊎_elim, ℕ, zero, suc, ◌*◌, ◌<◌, Bool, true, false, cond, List, [], ◌∷◌, length, get_or, set, slice_get, Option, Some, None, Result, Ok, Err, IfOk, OnErr, refl, sym, ap, ap₂, ◌∙◌, arith}
+use Rattle.std.proofs.Common.{◌≡◌, ◌⊎◌, inl, inr, ⊎_elim, ℕ, zero, suc, ◌*◌, ◌<◌, Bool, true, false, cond, List, [], ◌∷◌}
+use Rattle.std.proofs.Common.{length, get_or, set, slice_get, Option, Some, None, Result, Ok, Err, IfOk, OnErr, refl, sym, ap, ap₂, ◌∙◌, arith}
 use Rattle.std.specs.Option.{IfSome}
 use Rattle.std.specs.declared.alloc.AllocError.{AllocError}
 use Rattle.std.proofs.lemmas.Bool.{cases_eq}
@@ -17,7 +18,7 @@ use Rattle.forest_model.specs.Paged.{Pages, Paged, first_absent, stalled_at}
 use Rattle.forest_model.specs.Touch.{touch}
 use Rattle.forest_model.proofs.Paged.{stalled-is}
 use Rattle.forest_model.proofs.Touch.{IsPages-touch}
-use Rattle.vm_cell.specs.Keyed.{Arrives, KeyedMachine, paged}
+use Rattle.vm_hart.specs.Keyed.{Arrives, KeyedMachine, paged}
 use Rattle.vm_cell.specs.Received.{without_here}
 
 -- it is one of RAM, and absent
@@ -101,3 +102,12 @@ pub rest-arrived : (old new : KeyedMachine) (reply : Reply) (r : Result Arrived 
 rest-arrived old new reply (Ok answer) machine key h err =
     same-without old new machine (blank-arrived old.key old.pages new.pages reply answer h) key
 rest-arrived old new reply (Err e) machine key h err = ap without_here err
+
+-- a machine that has had the page is as it was
+pub had-arrived : (old new : KeyedMachine) (reply : Reply) (r : Result Arrived AllocError) → new.machine ≡ old.machine → new.key ≡ old.key
+    → IfOk r (Arrives old.key old.pages reply new.pages) → IfOk r (λ answer. receiver.IsHad answer → new ≡ old)
+had-arrived old new reply (Ok (Got page)) machine key h = λ none. absurd none
+had-arrived old new reply (Ok (Had page)) machine key h = λ _.
+    let keyed : Machine → Pages → Option Key → KeyedMachine = λ m pages k. record { machine = m; pages = pages; key = k } in
+    ap (λ m. keyed m new.pages new.key) machine ∙ ap₂ (keyed old.machine) h.1 key
+had-arrived old new reply (Err e) machine key h = tt

@@ -1,7 +1,6 @@
 -- What a machine leaves for its children wakes as they are.
-use Rattle.std.proofs.Common.{◌≡◌, ℕ, ◌+◌, ◌*◌, ◌/◌, ◌≤◌, ◌<◌, Bool, true, false, cond, eqb, List, ◌∷◌, length, drop, Option, Some, None, refl, sym, ap, ◌∙◌, subst, arith}
+use Rattle.std.proofs.Common.{◌≡◌, ℕ, ◌+◌, ◌/◌, ◌≤◌, ◌<◌, Bool, true, false, cond, eqb, List, ◌∷◌, length, drop, Option, Some, None, refl, sym, ap, ◌∙◌, subst, arith}
 use Rattle.std.proofs.lemmas.Bool.Decides.{nat_tests}
-use Rattle.std.specs.Option.{IfSome}
 use Rattle.elf_load.specs.declared.image.TheConstants.{PAGE_SIZE}
 use Rattle.fork_port.specs.declared.commands.Call.TheVariants.{Clone}
 use Rattle.fork_port.specs.declared.tickets.Ticket.{Ticket}
@@ -10,39 +9,25 @@ use Rattle.fork_port.specs.declared.ending.Ending.TheVariants.{Limit}
 use Rattle.fork_port.specs.Registers.{ForkRegisters, registers_of, ticket_found}
 use Rattle.fork_port.specs.Children.{after_clone}
 use Rattle.port_rules.specs.Rules.{grant_of}
-use Rattle.page_frames.proofs.Memory.{length-paged}
 use Rattle.vm_descriptor.specs.declared.descriptor.Descriptor.{Descriptor}
 use Rattle.vm_descriptor.specs.declared.descriptor.TheConstants.{MAX_CLONES, MAX_SHARE}
-use Rattle.vm_descriptor.specs.Descriptor.{IsInRange, IsRamWord, numbered}
+use Rattle.vm_descriptor.specs.Descriptor.{IsInRange, numbered}
 use Rattle.image_depot.specs.Image.{FrozenImage}
 use Rattle.image_depot.specs.Key.{Key, number_of, image_of}
-use Rattle.guest_mem.specs.Ram.{Ram, IsRam, cleared}
-use Rattle.guest_mem.proofs.Making.{cleared_frozen}
+use Rattle.guest_mem.specs.Ram.{cleared}
 use Rattle.forest_model.specs.State.{State}
 use Rattle.forest_model.specs.Machine.{Machine, limited}
 use Rattle.forest_model.specs.Calls.{born, child, child_by, share_of}
 use Rattle.forest_model.specs.Forest.{machines}
 use Rattle.forest_model.specs.Paged.{pages_at_birth}
-use Rattle.vm_cell.specs.Hart.{IsWordOf}
-use Rattle.vm_cell.specs.Standing.{IsAsked, made}
-use Rattle.vm_cell.specs.Keyed.{KeyedMachine}
+use Rattle.vm_hart.specs.Calls.{made}
+use Rattle.vm_cell.specs.Standing.{IsAsked}
+use Rattle.vm_hart.specs.Keyed.{KeyedMachine}
 use Rattle.vm_cell.specs.Steps.{IsCounted, IsFunded}
-use Rattle.vm_cell.specs.Woken.{IsBlankMap, IsSeed, image_left, port_fields, seed_of, woken, woken_machine}
+use Rattle.vm_hart.specs.Seeds.{IsBlankMap, image_left, port_fields, seed_of}
+use Rattle.vm_cell.specs.Woken.{IsSeed, woken, woken_machine}
 
 -- ---- the hart of a clone
-
-pub length-cleared : (blank : List Bool) (memory : List ℕ) → length (cleared blank memory) ≡ PAGE_SIZE * length blank
-unfolding cleared
-length-cleared blank memory = length-paged (length blank) _
-
--- what a descriptor reserves lies in RAM of its pages
-pub reserved : (reservation : Option ℕ) (pages size : ℕ) → size ≡ PAGE_SIZE * pages → IfSome reservation (IsRamWord pages) → IfSome reservation (IsWordOf size)
-reserved None pages size e h = tt
-reserved (Some address) pages size e h = record {
-  aligned = h.aligned;
-  from_base = h.from_base;
-  below_end = let below = h.below_end in omega arith;
-}
 
 -- a descriptor that is not at its limit lets a step be made
 unlimited : (at_limit : Bool) (steps limit : ℕ) (ending : Option Ending) → eqb steps limit ≡ at_limit → steps ≤ limit
@@ -66,12 +51,6 @@ counted_woken d ending fork in_range ends is =
         most = omega (arith, share);
       });
     }
-
-pub blank_map : (ram : Ram) → IsRam ram → IsBlankMap ram.reads ram.blank
-blank_map ram is_ram = record {
-  one_a_page = let whole = is_ram.whole_pages in let flagged = is_ram.flagged in omega arith;
-  zero = cleared_frozen ram is_ram;
-}
 
 -- ---- a seed
 

@@ -1,11 +1,10 @@
 -- The call that a machine stands at, and the machine after it.
-use Rattle.std.proofs.Common.{◌≡◌, ℕ, ◌+◌, ◌<◌, ◌≤◌, inl, inr, List, [], ◌∷◌, Bool, true, false, eqb, cond, Option, Some, None, IsSome, IsSomeAnd, refl, sym, ap, ◌∙◌, subst, arith, mul-le-mul_right}
+use Rattle.std.proofs.Common.{◌≡◌, ℕ, ◌+◌, ◌<◌, ◌≤◌, inl, inr, List, [], ◌∷◌, Bool, true, false, cond, Option, Some, None, IsSome, IsSomeAnd, refl, sym, ap, ◌∙◌, subst, arith, mul-le-mul_right}
 use Rattle.std.specs.Option.{IfSome, is_some, option_map}
 use Rattle.std.specs.List.{AllByRecursion}
 use Rattle.fork_port.specs.declared.commands.Call.{Call}
 use Rattle.fork_port.specs.declared.commands.Call.TheVariants.{Clone, Join, Kill}
 use Rattle.fork_port.specs.declared.ending.Ending.{Ending}
-use Rattle.fork_port.specs.declared.ending.Ending.TheVariants.{Limit}
 use Rattle.fork_port.specs.declared.tickets.Ticket.{Ticket}
 use Rattle.fork_port.specs.Tickets.{has_number, held, ticket_of}
 use Rattle.fork_port.specs.Registers.{ForkRegisters, HasTicket, ticket_found, ticket_told}
@@ -14,27 +13,24 @@ use Rattle.port_rules.specs.Rules.{grant_of}
 use Rattle.fork_port.specs.Children as fork
 use Rattle.fork_port.specs.Children.{joined_from, killed_from}
 use Rattle.fork_port.proofs.Balance.{accounted_after_clone, accounted_after_join, accounted_after_kill, holding_after_clone, holding_after_join, holding_after_kill}
-use Rattle.forest_model.specs.State.{State, at_next_instruction}
+use Rattle.forest_model.specs.State.{at_next_instruction}
 use Rattle.forest_model.specs.Action.{ask}
 use Rattle.forest_model.specs.Execute.{action}
 use Rattle.forest_model.specs.Machine.{Machine, Next, exception, timer_interrupt, plain, call, next_of, next, limited}
 use Rattle.forest_model.specs.Calls.{forked_by, forked, joined_by, after_join, killed_by, after_kill}
 use Rattle.forest_model.specs.Forest.{call_of, machines, port_of}
-use Rattle.forest_model.specs.Touch.{touch, touch_from}
-use Rattle.forest_model.specs.Paged.{first_absent, stalled_at}
+use Rattle.forest_model.specs.Paged.{stalled_at}
 use Rattle.forest_model.proofs.Calls.{clone-asks, join-asks, kill-asks}
 use Rattle.vm_descriptor.specs.declared.descriptor.TheConstants.{MAX_CLONES, MAX_SHARE}
-use Rattle.vm_cell.specs.Keyed.{KeyedMachine, KeyedState, hart_in, machine_of, paged}
-use Rattle.vm_cell.specs.Acts.{waits_for}
-use Rattle.vm_cell.specs.Standing.{asked_call, standing_from, standing_by, standing_call, AsksNext, IsAsked, made}
+use Rattle.vm_hart.specs.Keyed.{KeyedMachine, hart_in, paged}
+use Rattle.vm_hart.specs.Acts.{waits_for}
+use Rattle.vm_hart.specs.Calls.{asked_call, AsksNext, made}
+use Rattle.vm_hart.proofs.Stepping.{stalls_live}
+use Rattle.vm_cell.specs.Standing.{standing_from, standing_by, standing_call, IsAsked}
 use Rattle.vm_cell.specs.Steps.{IsFunded, Stands}
 use Rattle.vm_cell.specs.declared.vm.Stepped.TheVariants as stepped
 
 -- ---- what the hart answers, of the machine
-
-pub stalls_live : (v : KeyedMachine) → v.machine.ending ≡ None → stalled_at (paged v) ≡ waits_for (hart_in v)
-unfolding touch
-stalls_live v live = ap (λ ending. first_absent v.pages.here (touch_from ending v.machine.state)) live
 
 none_by_wait : (waited : Option ℕ) (ending : Option Ending) (step : Next) → IsSome waited → None ≡ standing_by waited ending step
 none_by_wait None ending step h = absurd (cc)
@@ -189,16 +185,6 @@ all_there m t count there all = by (ticket_found (port_of m) t) there all
 pub lives : (ending : Option Ending) → is_some ending ≡ false → ending ≡ None
 lives None h = refl
 lives (Some ending) h = absurd (cc)
-
--- the machine after a step that is counted, and leaves its hart so
-pub after_count : (m : Machine) (before hart : KeyedState) (s : State) (steps : ℕ) (ending : Option Ending) → m.ending ≡ None
-    → hart ≡ record before { state = s } → steps ≡ m.steps + 1 → ending ≡ cond (eqb (m.steps + 1) m.limit) (Some Limit) m.ending
-    → machine_of hart steps m.limit ending ≡ record { machine = limited s m; pages = before.pages; key = before.key }
-after_count m before hart s steps ending live is counted ends =
-    let after : KeyedState = record before { state = s } in
-    ap (λ h. machine_of h steps m.limit ending) is
-    ∙ ap (λ n. machine_of after n m.limit ending) counted
-    ∙ ap (machine_of after (m.steps + 1) m.limit) (ends ∙ ap (cond (eqb (m.steps + 1) m.limit) (Some Limit)) live)
 
 -- ---- the call of a machine
 

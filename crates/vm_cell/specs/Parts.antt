@@ -1,9 +1,10 @@
 -- The parts that a run is made in.
 use Rattle.std.specs.Prelude.{◌≡◌, ℕ, ◌+◌, ◌-◌, ◌<◌, ◌≤◌, None, IfSome}
 use Rattle.forest_model.specs.Paged.{stalled_at}
-use Rattle.vm_cell.specs.Acts.{Grows}
-use Rattle.vm_cell.specs.Keyed.{KeyedMachine, paged}
-use Rattle.vm_cell.specs.Steps.{IsRun, Stands}
+use Rattle.vm_hart.specs.Acts.{Grows}
+use Rattle.vm_hart.specs.Keyed.{KeyedMachine, paged}
+use Rattle.vm_hart.specs.Runs.{IsRun}
+use Rattle.vm_cell.specs.Steps.{Stands}
 use Rattle.vm_cell.specs.declared.vm.Part.{Part}
 use Rattle.vm_cell.specs.declared.vm.Stepped.{Stepped}
 use Rattle.vm_cell.specs.declared.vm.Stepped.TheVariants.{Went, Stall, Call, Ended}

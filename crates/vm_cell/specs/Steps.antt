@@ -5,38 +5,16 @@ use Rattle.fork_port.specs.Registers.{ForkRegisters, holding}
 use Rattle.fork_port.specs.Children.{IsAccounted}
 use Rattle.vm_descriptor.specs.declared.descriptor.TheConstants.{MAX_CLONES, MAX_LIMIT}
 use Rattle.forest_model.specs.Machine.{call, next}
-use Rattle.forest_model.specs.Forest.{call_of}
-use Rattle.forest_model.specs.Paged.{advanced, advanced_by, stalled_at}
-use Rattle.vm_cell.specs.Keyed.{KeyedMachine, keyed, paged}
+use Rattle.forest_model.specs.Paged.{stalled_at}
+use Rattle.vm_hart.specs.Keyed.{KeyedMachine, paged}
+use Rattle.vm_hart.specs.Runs.{IsStep}
 use Rattle.vm_cell.specs.declared.vm.Stepped.{Stepped}
 use Rattle.vm_cell.specs.declared.vm.Stepped.TheVariants.{Went, Stall, Call, Ended}
-
--- the machine after a step that does not wait, and after so many
-abbrev pub moved : KeyedMachine → KeyedMachine
-moved v = keyed v.key (advanced (paged v))
-
-abbrev pub moved_by : ℕ → KeyedMachine → KeyedMachine
-moved_by n v = keyed v.key (advanced_by n (paged v))
-
--- a machine lives, the pages that its next step touches are here, and the step is its own
-pub record IsFree (v : KeyedMachine) : Type 0 where
-  pub live : v.machine.ending ≡ None
-  pub here : stalled_at (paged v) ≡ None
-  pub own : call_of (next v.machine) ≡ None
-
--- so are the steps that it makes, so many
-abbrev pub IsFreeFor : ℕ → KeyedMachine → Type 0
-IsFreeFor n v = (k : ℕ) → k < n → IsFree (moved_by k v)
-
--- `made` steps lead from old to new, and each was one of a machine that was free to make it
-pub record IsRun (old new : KeyedMachine) (made : ℕ) : Type 0 where
-  pub steps : new ≡ moved_by made old
-  pub counted : new.machine.steps ≡ old.machine.steps + made
-  pub free : IsFreeFor made old
+pub use Rattle.vm_hart.specs.Runs.{IsFree, IsFreeFor, IsRun, moved, moved_by}
 
 -- what keeps a machine that lives from its next step, if anything does
 abbrev pub GoesOn : KeyedMachine → KeyedMachine → Option Stepped → Type 0
-GoesOn old new None = IsFree old × (new ≡ moved old) × (new.machine.steps ≡ old.machine.steps + 1)
+GoesOn old new None = IsStep old new
 GoesOn old new (Some Went) = ⊥
 GoesOn old new (Some (Stall page)) = (stalled_at (paged old) ≡ Some page) × (new ≡ old)
 GoesOn old new (Some (Call c)) = (stalled_at (paged old) ≡ None) × (next old.machine ≡ call c) × (new ≡ old)

@@ -1,7 +1,6 @@
-//! One machine: its registers, memory and ports, and the loop that steps it.
+//! One machine: a hart with a limit and an ending, which runs, forks, joins and kills.
 #![tactic(auto)]
 
-mod hart;
 mod receiver;
 mod vm;
 

@@ -1,7 +1,7 @@
 //! A machine as what pages of its image are sent to.
 
 ghost use Rattle.forest_model.specs.Paged.{stalled_at};
-ghost use Rattle.vm_cell.specs.Keyed.{paged};
+ghost use Rattle.vm_hart.specs.Keyed.{paged};
 ghost use Rattle.vm_cell.specs.Received.{without_here};
 
 use crate::vm::Vm;

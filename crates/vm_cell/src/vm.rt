@@ -6,23 +6,25 @@ ghost use Rattle.image_depot.specs.Key.{IsKeyOf};
 ghost use Rattle.forest_model.specs.Forest.{machines};
 ghost use Rattle.forest_model.specs.Machine.{IsWithinLimit, boot};
 ghost use Rattle.forest_model.specs.Paged.{pages_at_boot, stalled_at};
-ghost use Rattle.vm_cell.specs.Acts.{Grows};
-ghost use Rattle.vm_cell.specs.Kept.{ComesAside, Keeps};
-ghost use Rattle.vm_cell.specs.Keyed.{Arrives, HasImage, IsOfDepot, hart_in, paged};
+ghost use Rattle.vm_hart.specs.Acts.{Grows};
+ghost use Rattle.vm_hart.specs.Kept.{ComesAside, Keeps};
+ghost use Rattle.vm_hart.specs.Keyed.{Arrives, HasImage, IsOfDepot, hart_in, paged};
 ghost use Rattle.vm_cell.specs.Parts.{IsCut, IsPart};
-ghost use Rattle.vm_cell.specs.Shown.{peeked, shown_registers};
-ghost use Rattle.vm_cell.specs.Steps.{GoesOn, IsAfterStep, IsFreeFor, IsRun, Stands, Steps, moved_by};
+ghost use Rattle.vm_hart.specs.Shown.{peeked, shown_registers};
+ghost use Rattle.vm_hart.specs.Runs.{IsFreeFor, IsRun, moved_by};
+ghost use Rattle.vm_cell.specs.Steps.{GoesOn, IsAfterStep, Stands, Steps};
 
-use crate::hart::{Acted, Hart, Slot};
 use cow_disk::Disk;
 use elf_load::Loaded;
 use forest_model::{Ending, Options, Written};
 use fork_port::Call;
 use guest_mem::Arrived;
 use image_depot::{Depot, ImageKey, Parcel};
+use instruction_slots::Slot;
 use rv_traps::TIMER_INTERRUPT;
 use std::alloc::{AllocError, Global};
 use std::marker::Model;
+use vm_hart::{Acted, Hart};
 
 mod fork;
 
@@ -34,7 +36,7 @@ const FEW: u64 = 128;
 /// The slots of a long run. It is a power of 2, so that they are used alike.
 const SLOTS: usize = 512;
 
-/// The most steps that are made with no try at plain ones. It is odd, so that a try comes at another place of a short loop.
+/// The most steps that are made with no try at fast ones. It is odd, so that a try comes at another place of a short loop.
 const LONGEST_PAUSE: u64 = 255;
 
 /// In a pause as long as this no step is looked at before it is made.
@@ -88,7 +90,7 @@ impl Drop for Vm {
 }
 
 impl Model for Vm {
-    ghost use Rattle.vm_cell.specs.Keyed.{KeyedMachine, machine_of};
+    ghost use Rattle.vm_hart.specs.Keyed.{KeyedMachine, machine_of};
     ghost use Rattle.vm_cell.specs.Steps.{IsCounted};
 
     ghost Value = { KeyedMachine };
@@ -327,7 +329,7 @@ impl Vm {
         self.run_with(&mut [Slot::empty(); SLOTS], most)
     }
 
-    /// What the slots keep for an epoch holds while plain steps are made, so steps that are made by themselves begin an
+    /// What the slots keep for an epoch holds while fast steps are made, so steps that are made by themselves begin an
     /// epoch, unless it is one that leaves RAM as it is.
     #[inline(never)]
     fn run_with(&mut self, slots: &mut [Slot], most: u64) -> Result<Part, AllocError>
@@ -340,7 +342,7 @@ impl Vm {
         let mut pause = 1;
         let mut epoch = self.epoch_after(false, 0);
         while steps < most && self.ending.is_none() {
-            let made = self.make_plain(slots, epoch, most - steps - 1);
+            let made = self.make_fast(slots, epoch, most - steps - 1);
             steps += made;
             pause = pause_after(pause, made);
             let is_left = self.leaves_ram(slots, epoch, pause);
@@ -380,9 +382,9 @@ impl Vm {
         self.hart.leaves_ram(slots, epoch)
     }
 
-    /// Makes the plain steps that come, at most `most`, of a machine that lives, and answers how many. It lives on.
+    /// Makes the fast steps that come, at most `most`, of a machine that lives, and answers how many. It lives on.
     #[inline(always)]
-    fn make_plain(&mut self, slots: &mut [Slot], epoch: u32, most: u64) -> u64
+    fn make_fast(&mut self, slots: &mut [Slot], epoch: u32, most: u64) -> u64
         requires live { self.old.machine.ending ≡ None }
         requires some { 0 < length slots.old }
         requires keeps { Keeps (hart_in self.old) epoch slots.old }
@@ -393,7 +395,7 @@ impl Vm {
         ensures same_length { length slots.new ≡ length slots.old }
     {
         let most = most.min(self.limit - self.steps - 1);
-        let made = self.hart.make_plain(slots, epoch, most);
+        let made = self.hart.make_fast(slots, epoch, most);
         self.steps += made;
         made
     }
@@ -465,7 +467,7 @@ impl Vm {
     }
 }
 
-/// How many steps are to be made by themselves after a try at plain ones that made so many. Where one step traps, the next
+/// How many steps are to be made by themselves after a try at fast ones that made so many. Where one step traps, the next
 /// often traps too, so after tries that were not worth their while, one upon the other, it is more and more.
 #[inline(always)]
 fn pause_after(pause: u64, made: u64) -> u64

@@ -2,47 +2,42 @@
 use Rattle.std.proofs.Common.{◌≡◌, ◌≤◌, ◌<◌, ◌+◌, ◌^◌, ℕ, List, length, take, length-take, ap, sym, ◌∙◌, subst, refl, arith}
 use Rattle.flat_memory.specs.Flat.{put_bytes}
 use Rattle.vm_descriptor.specs.declared.descriptor.Descriptor.{Descriptor}
-use Rattle.vm_descriptor.specs.Descriptor.{numbered}
-use Rattle.vm_descriptor.specs.Described.{described, read, word, Fits, IsKept}
+use Rattle.vm_descriptor.specs.Descriptor.{IsInRange, numbered}
+use Rattle.vm_descriptor.specs.Fields.{Field, number, number_in, row}
+use Rattle.vm_descriptor.specs.Fields.{CloneId, LineControl}
+use Rattle.vm_descriptor.specs.Described.{described, read, refused, word, Fits, IsKept}
+use Rattle.vm_descriptor.specs.declared.version.TheConstants.{HEADER_SIZE}
+use Rattle.vm_descriptor.proofs.Accepted.{IsAccepted, accepted, in_range}
 use Rattle.vm_descriptor.proofs.DescribedBack.{described_back}
+use Rattle.vm_descriptor.proofs.NotRefused.{not_refused}
+
+number_fits : (k : ℕ) (d : Descriptor) → k < 2 ^ 32 → ((f : Field) → number d f < 256 ^ (row f).width) → (f : Field) → number (numbered k d) f < 256 ^ (row f).width
+number_fits k d below fits CloneId = below
+number_fits k d below fits f = fits f
 
 pub fits_numbered : (k : ℕ) (d : Descriptor) → k < 2 ^ 32 → Fits d → Fits (numbered k d)
 fits_numbered k d below fits = record {
-  image = fits.image;
-  pages = fits.pages;
-  clone_id = below;
-  share = fits.share;
-  pc = fits.pc;
+  numbers = number_fits k d below fits.numbers;
+  line_control = fits.line_control;
   registers = fits.registers;
   each = fits.each;
-  mstatus = fits.mstatus;
-  mie = fits.mie;
-  mtvec = fits.mtvec;
-  mscratch = fits.mscratch;
-  mepc = fits.mepc;
-  mcause = fits.mcause;
-  mtval = fits.mtval;
-  mcycle = fits.mcycle;
-  minstret = fits.minstret;
-  mtime = fits.mtime;
-  mtimecmp = fits.mtimecmp;
-  steps = fits.steps;
-  limit = fits.limit;
-  reservation = fits.reservation;
-  place = fits.place;
-  line_control = fits.line_control;
-  sector = fits.sector;
   buffer = fits.buffer;
-  argument_0 = fits.argument_0;
-  argument_1 = fits.argument_1;
-  join_select = fits.join_select;
-  granted = fits.granted;
   map = fits.map;
 }
 
 -- the bytes of a descriptor are read as it was
 pub read_kept : (d : Descriptor) (bytes : List ℕ) → Fits d → bytes ≡ described d → read bytes ≡ d
 read_kept d bytes fits is = ap read is ∙ (described_back d fits).back
+
+-- where it is in range they are not refused
+kept_accepted : (d : Descriptor) (bytes : List ℕ) → Fits d → IsInRange d → bytes ≡ described d → IsAccepted bytes
+kept_accepted d bytes fits range is = accepted bytes (ap refused is ∙ not_refused d fits range)
+
+pub long_kept : (d : Descriptor) (bytes : List ℕ) → Fits d → IsInRange d → bytes ≡ described d → HEADER_SIZE ≤ length bytes
+long_kept d bytes fits range is = (kept_accepted d bytes fits range is).long
+
+pub line_control_kept : (d : Descriptor) (bytes : List ℕ) → Fits d → IsInRange d → bytes ≡ described d → number_in bytes LineControl ≤ 255
+line_control_kept d bytes fits range is = (in_range (number_in bytes) (kept_accepted d bytes fits range is).fields).line_control
 
 -- they can be kept
 pub kept : (d : Descriptor) (bytes : List ℕ) → Fits d → bytes ≡ described d → IsKept bytes

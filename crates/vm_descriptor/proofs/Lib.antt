@@ -1,9 +1,9 @@
 mod Accepted
-mod AcceptedSpelled
 mod Appended
 mod Maps
 mod DecodedInRange
 mod DescribedBack
+mod FieldsRead
 mod FlagsRead
 mod Kept
 mod MapLast

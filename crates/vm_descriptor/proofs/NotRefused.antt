@@ -1,65 +1,67 @@
 -- The bytes of a descriptor in range are not refused.
 use Rattle.std.proofs.Common.{◌≡◌, ◌≢◌, ◌≤◌, ◌+◌, ◌-◌, ◌*◌, ◌/◌, ◌%◌, ℕ, List, length, take, drop, sym, ap, ◌∙◌, refl, true, false, subst, Some, None, arith}
-use Rattle.std.specs.Prelude.{Bool, IfSome, ◌^◌, ◌==◌, ◌&&◌, not, nat_lt, bit_and, if◌then◌else◌, Option, codes}
+use Rattle.std.specs.Prelude.{Bool, IfSome, ◌^◌, ◌==◌, ◌&&◌, not, nat_le, nat_lt, if◌then◌else◌, Option, codes}
 use Rattle.std.specs.Str.{bytes_eq}
 use Rattle.std.specs.Cmp.Derive.{both_true}
 use Rattle.std.proofs.Math.ListN.{get_or}
 use Rattle.std.proofs.lemmas.Bool.{le-leb, lt-ltb, le-ltb, eq-eqb, eqb-false}
 use Rattle.std.proofs.lemmas.List.{length-drop, get_or-drop}
-use Rattle.flat_memory.specs.Flat.{word_at}
 use Rattle.block_port.specs.Block.{status_word}
 use Rattle.block_port.specs.declared.status.Status.{Status}
 use Rattle.block_port.specs.declared.status.Status.TheVariants.{Done, BadSector, UnknownCommand}
-use Rattle.rv_traps.specs.Registers.{has_bit, mstatus_of}
+use Rattle.elf_load.specs.declared.image.TheConstants.{RAM_BASE, PAGE_SIZE}
+use Rattle.rv_traps.specs.declared.registers.CsrRegisters.{CsrRegisters}
+use Rattle.rv_traps.specs.Registers.{IsInRange as AreCsrs}
 use Rattle.vm_descriptor.specs.declared.descriptor.Descriptor.{Descriptor}
 use Rattle.vm_descriptor.specs.Descriptor.{IsInRange, IsRamWord}
-use Rattle.vm_descriptor.specs.Described.{double_at, described, Fits, fields_in_range, has_spare_bit, is_clone, are_csrs, are_ports, is_page_count, is_reservation, is_within_limit, map_bytes, map_size, refused}
-use Rattle.vm_descriptor.proofs.DescribedBack.{IsSpelled, flag_of, address_of, described_back}
+use Rattle.vm_descriptor.specs.Fields.{Field, number, number_in, reserved_of, address_of}
+use Rattle.vm_descriptor.specs.Fields.{Pages}
+use Rattle.vm_descriptor.specs.Described.{are_csrs, are_in_range, described, Fits, has_spare_bit, is_reservation, map_bytes, map_size, refused, refused_as, version_1}
+use Rattle.vm_descriptor.proofs.Accepted.{are_in}
+use Rattle.vm_descriptor.proofs.DescribedBack.{IsSpelled, described_back}
 use Rattle.vm_descriptor.proofs.MapLast.{length_map, clear_last}
 
-pass : (b : Bool) (number : ℕ) (rest : Option ℕ) → b ≡ false → (if b then Some number else rest) ≡ rest
-pass true number rest is = absurd (cc)
-pass false number rest is = refl
+pass : (b : Bool) (reason : ℕ) (rest : Option ℕ) → b ≡ false → (if b then Some reason else rest) ≡ rest
+pass true reason rest is = absurd (cc)
+pass false reason rest is = refl
 
 status_most : (s : Status) → status_word s ≤ 2
 status_most Done = omega (arith)
 status_most BadSector = omega (arith)
 status_most UnknownCommand = omega (arith)
 
-reserved : (pages : ℕ) (r : Option ℕ) → IfSome r (IsRamWord pages) → is_reservation pages (flag_of r) (address_of r) ≡ true
-reserved pages None ram = refl
-reserved pages (Some address) ram =
-    both_true (eq-eqb (address % 4) 0 ram.aligned) (both_true (le-leb 0x8000_0000 address ram.from_base) (lt-ltb address (0x8000_0000 + 4096 * pages) ram.below_end))
+reserved_most : (r : Option ℕ) → reserved_of r ≤ 1
+reserved_most None = omega (arith)
+reserved_most (Some address) = omega (arith)
+
+reservation_in : (pages : ℕ) (r : Option ℕ) → IfSome r (IsRamWord pages) → is_reservation pages (reserved_of r) (address_of r) ≡ true
+reservation_in pages None ram = refl
+reservation_in pages (Some address) ram =
+    both_true (eq-eqb (address % 4) 0 ram.aligned) (both_true (le-leb RAM_BASE address ram.from_base) (lt-ltb address (RAM_BASE + PAGE_SIZE * pages) ram.below_end))
+
+pub csrs_in : (c : CsrRegisters) → AreCsrs c → are_csrs c ≡ true
+csrs_in c is =
+    both_true (eq-eqb c.mstatus _ is.mstatus) (both_true (eq-eqb c.mie _ is.mie) (both_true (eq-eqb c.mtvec _ is.mtvec) (eq-eqb (c.mepc % 4) 0 is.mepc)))
 
 -- each field is in its range
-pub in_range : (d : Descriptor) → IsSpelled d → Fits d → IsInRange d → fields_in_range (described d) ≡ true
-unfolding fields_in_range
-in_range d is fits range =
-    let xs = described d in
+numbers_in_range : (d : Descriptor) → Fits d → IsInRange d → are_in_range (number d) ≡ true
+numbers_in_range d fits range =
     let byte = fits.line_control in
-    let clone : is_clone (word_at xs 12) (word_at xs 16) ≡ true =
-    ap (λ (k : ℕ). is_clone k (word_at xs 16)) is.clone_id ∙ (ap (λ (s : ℕ). is_clone d.clone_id s) is.share
-    ∙ both_true (le-leb 1 d.clone_id range.clone.first) (both_true (le-leb d.clone_id 4096 range.clone.last) (le-leb d.share 4095 range.clone.share))) in
-    let pc : (word_at xs 20 % 4 == 0) ≡ true = ap (λ (p : ℕ). p % 4 == 0) is.pc ∙ eq-eqb (d.pc % 4) 0 range.pc in
-    let csrs : are_csrs (word_at xs 148) (word_at xs 152) (word_at xs 156) (word_at xs 164) ≡ true =
-    ap (λ (m : ℕ). are_csrs m (word_at xs 152) (word_at xs 156) (word_at xs 164)) is.mstatus
-    ∙ (ap (λ (m : ℕ). are_csrs d.csrs.mstatus m (word_at xs 156) (word_at xs 164)) is.mie
-    ∙ (ap (λ (m : ℕ). are_csrs d.csrs.mstatus d.csrs.mie m (word_at xs 164)) is.mtvec
-    ∙ (ap (λ (m : ℕ). are_csrs d.csrs.mstatus d.csrs.mie d.csrs.mtvec m) is.mepc
-    ∙ both_true (eq-eqb d.csrs.mstatus (mstatus_of (has_bit d.csrs.mstatus 3) (has_bit d.csrs.mstatus 7)) range.csrs.mstatus) (both_true (eq-eqb d.csrs.mie (bit_and d.csrs.mie 0x80) range.csrs.mie)
-    (both_true (eq-eqb d.csrs.mtvec (bit_and d.csrs.mtvec 0xffff_fffd) range.csrs.mtvec) (eq-eqb (d.csrs.mepc % 4) 0 range.csrs.mepc)))))) in
-    let limit : is_within_limit (double_at xs 208) (double_at xs 216) ≡ true =
-    ap (λ (s : ℕ). is_within_limit s (double_at xs 216)) is.steps ∙ (ap (λ (l : ℕ). is_within_limit d.steps l) is.limit
-    ∙ both_true (le-leb 1 d.limit range.limit.least) (both_true (le-leb d.limit 1_000_000_000 range.limit.most) (le-leb d.steps d.limit range.limit.steps))) in
-    let reservation : is_reservation (word_at xs 8) (word_at xs 224) (word_at xs 228) ≡ true =
-    ap (λ (p : ℕ). is_reservation p (word_at xs 224) (word_at xs 228)) is.pages ∙ (ap (λ (f : ℕ). is_reservation d.pages f (word_at xs 228)) is.flag
-    ∙ (ap (λ (a : ℕ). is_reservation d.pages (flag_of d.reservation) a) is.address ∙ reserved d.pages d.reservation range.reservation)) in
-    let ports : are_ports (word_at xs 232) (word_at xs 236) (word_at xs 244) ≡ true =
-    ap (λ (p : ℕ). are_ports p (word_at xs 236) (word_at xs 244)) is.place ∙ (ap (λ (l : ℕ). are_ports d.console.place l (word_at xs 244)) is.line_control
-    ∙ (ap (λ (s : ℕ). are_ports d.console.place d.console.line_control s) is.status
-    ∙ both_true (le-leb d.console.place 65536 range.place) (both_true (le-leb d.console.line_control 255 (omega (arith, byte)))
-    (le-leb (status_word d.block.status) 2 (status_most d.block.status))))) in
-    both_true clone (both_true pc (both_true csrs (both_true limit (both_true reservation ports))))
+    are_in (number d) (record {
+      first = range.clone.first;
+      last = range.clone.last;
+      share = range.clone.share;
+      pc = range.pc;
+      csrs = csrs_in d.csrs range.csrs;
+      least = range.limit.least;
+      most = range.limit.most;
+      reserved = reserved_most d.reservation;
+      place = range.place;
+      line_control = omega (arith, byte);
+      status = status_most d.block.status;
+      steps = range.limit.steps;
+      reservation = reservation_in d.pages d.reservation range.reservation;
+    })
 
 whole_length : (d : Descriptor) → IsSpelled d → Fits d → IsInRange d → length (described d) ≡ 776 + map_size d.pages
 whole_length d is fits range =
@@ -89,21 +91,23 @@ none_spare false d is fits range test =
 
 -- the bytes of a descriptor in range are not refused
 pub not_refused : (d : Descriptor) → Fits d → IsInRange d → refused (described d) ≡ None
-unfolding refused
+unfolding refused_as
 not_refused d fits range =
     let is = described_back d fits in
     let xs = described d in
     let long = whole_length d is fits range in
-    let most = range.ram.most in
-    let least = range.ram.least in
     let enough : 776 ≤ length xs = omega (arith, long) in
-    let pages : is_page_count (word_at xs 8) ≡ true =
-    ap (λ (p : ℕ). is_page_count p) is.pages ∙ both_true (le-leb 16 d.pages least) (le-leb d.pages 1024 most) in
-    let size : (length xs == 776 + map_size (word_at xs 8)) ≡ true = eq-eqb (length xs) (776 + map_size (word_at xs 8)) (long ∙ ap (λ (p : ℕ). 776 + map_size p) (sym is.pages)) in
-    let spare : has_spare_bit (word_at xs 8) xs ≡ false = ap (λ (p : ℕ). has_spare_bit p xs) is.pages ∙ none_spare (d.pages % 8 == 0) d is fits range refl in
+    let same : number_in xs Pages ≡ d.pages = ap (λ (numbers : Field → ℕ). numbers Pages) is.numbers in
+    let has_pages : (nat_le version_1.least_pages (number_in xs Pages) && nat_le (number_in xs Pages) version_1.most_pages) ≡ true =
+    ap (λ (p : ℕ). nat_le version_1.least_pages p && nat_le p version_1.most_pages) same
+    ∙ both_true (le-leb version_1.least_pages d.pages range.ram.least) (le-leb d.pages version_1.most_pages range.ram.most) in
+    let size : (length xs == 776 + map_size (number_in xs Pages)) ≡ true =
+    eq-eqb (length xs) (776 + map_size (number_in xs Pages)) (long ∙ ap (λ (p : ℕ). 776 + map_size p) (sym same)) in
+    let fields : are_in_range (number_in xs) ≡ true = ap are_in_range is.numbers ∙ numbers_in_range d fits range in
+    let spare : has_spare_bit (number_in xs Pages) xs ≡ false = ap (λ (p : ℕ). has_spare_bit p xs) same ∙ none_spare (d.pages % 8 == 0) d is fits range refl in
     pass (nat_lt (length xs) 776) 1 _ (le-ltb (length xs) 776 enough)
     ∙ (pass (not (bytes_eq (take 4 xs) (codes "SFD1"))) 2 _ (ap (λ (ys : List ℕ). not (bytes_eq ys (codes "SFD1"))) is.mark)
-    ∙ (pass (not (is_page_count (word_at xs 8))) 3 _ (ap (λ (b : Bool). not b) pages)
-    ∙ (pass (not (length xs == 776 + map_size (word_at xs 8))) 4 _ (ap (λ (b : Bool). not b) size)
-    ∙ (pass (not (fields_in_range xs)) 5 _ (ap (λ (b : Bool). not b) (in_range d is fits range))
-    ∙ pass (has_spare_bit (word_at xs 8) xs) 6 None spare))))
+    ∙ (pass (not (nat_le version_1.least_pages (number_in xs Pages) && nat_le (number_in xs Pages) version_1.most_pages)) 3 _ (ap (λ (b : Bool). not b) has_pages)
+    ∙ (pass (not (length xs == 776 + map_size (number_in xs Pages))) 4 _ (ap (λ (b : Bool). not b) size)
+    ∙ (pass (not (are_in_range (number_in xs))) 5 _ (ap (λ (b : Bool). not b) fields)
+    ∙ pass (has_spare_bit (number_in xs Pages) xs) 6 None spare))))

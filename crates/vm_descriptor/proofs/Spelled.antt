@@ -1,64 +1,84 @@
--- The bytes of a number are those that it was read from.
-use Rattle.std.proofs.Common.{◌≡◌, ◌≤◌, ◌<◌, ◌+◌, ◌*◌, ℕ, zero, suc, List, [], ◌∷◌, ◌++◌, length, drop, sym, ap, ◌∙◌, arith}
+-- The bytes of numbers are those that they were read from.
+use Rattle.std.proofs.Common.{◌≡◌, ◌≤◌, ◌<◌, ◌+◌, ◌*◌, ◌/◌, ◌%◌, ◌^◌, ℕ, zero, suc, List, [], ◌∷◌, ◌++◌, length, drop, sym, ap, ◌∙◌, refl, true, arith}
+use Rattle.std.specs.Prelude.{Bool, ◌==◌, ◌&&◌}
 use Rattle.std.proofs.Math.ListN.{get_or}
 use Rattle.std.proofs.Math.Seq.{drop-cons}
-use Rattle.byteorder.specs.Endian.{little_number}
+use Rattle.std.proofs.lemmas.Bool.{and_parts, eqb-true}
+use Rattle.std.proofs.lemmas.List.{append_assoc}
+use Rattle.byteorder.specs.Endian.{little_bytes, little_from}
+use Rattle.std.specs.Int.{byte_at, bytes_low_first}
+use Rattle.std.proofs.Math.Nat.{div-div-eq-div-mul, div-one, pow-succ'}
 use Rattle.flat_memory.proofs.ByteLists.{AreBytes}
-use Rattle.flat_memory.specs.Flat.{word_at}
 use Rattle.std.specs.List.{flat_map}
-use Rattle.vm_descriptor.specs.Described.{word, words_from, double, double_at}
+use Rattle.vm_descriptor.specs.Fields.{Field, number_in, row, spelled}
+use Rattle.vm_descriptor.specs.Described.{word, numbers_from}
 
-same_four : {a b c d a' b' c' d' : ℕ} {rest : List ℕ} → a ≡ a' → b ≡ b' → c ≡ c' → d ≡ d' → a ∷ b ∷ c ∷ d ∷ rest ≡ a' ∷ b' ∷ c' ∷ d' ∷ rest
-same_four p q r s = cc
+same_bytes : {b b' : ℕ} {bs bs' : List ℕ} → b ≡ b' → bs ≡ bs' → b ∷ bs ≡ b' ∷ bs'
+same_bytes p q = cc
 
-word_back : (a b c d : ℕ) (rest : List ℕ) → a < 256 → b < 256 → c < 256 → d < 256 → word (little_number 4 (a ∷ b ∷ c ∷ d ∷ [])) ++ rest ≡ a ∷ b ∷ c ∷ d ∷ rest
-word_back a b c d rest ha hb hc hd = same_four (omega arith) (omega arith) (omega arith) (omega arith)
+byte_by : (i n : ℕ) → byte_at i n ≡ n / 256 ^ i % 256
+byte_by zero n = ap (λ (q : ℕ). q % 256) (sym (div-one n))
+byte_by (suc i) n = refl
 
-four : (xs : List ℕ) (at : ℕ) → at + 4 ≤ length xs
-    → drop at xs ≡ get_or xs at 0 ∷ get_or xs (suc at) 0 ∷ get_or xs (suc (suc at)) 0 ∷ get_or xs (suc (suc (suc at))) 0 ∷ drop (suc (suc (suc (suc at)))) xs
-four xs at within =
-    drop-cons xs at 0 (omega (arith, within))
-    ∙ ap (λ (ys : List ℕ). get_or xs at 0 ∷ ys) (drop-cons xs (suc at) 0 (omega (arith, within))
-    ∙ ap (λ (ys : List ℕ). get_or xs (suc at) 0 ∷ ys) (drop-cons xs (suc (suc at)) 0 (omega (arith, within))
-    ∙ ap (λ (ys : List ℕ). get_or xs (suc (suc at)) 0 ∷ ys) (drop-cons xs (suc (suc (suc at))) 0 (omega (arith, within)))))
+-- the bytes of a number but the lowest are those of the rest of it
+bytes_then : (width i n : ℕ) → bytes_low_first (suc i) width n ≡ bytes_low_first i width (n / 256)
+bytes_then zero i n = refl
+bytes_then (suc width) i n =
+    let first : byte_at (suc i) n ≡ byte_at i (n / 256) =
+    ap (λ (d : ℕ). n / d % 256) (pow-succ' 256 i) ∙ ap (λ (q : ℕ). q % 256) (sym (div-div-eq-div-mul n 256 (256 ^ i))) ∙ sym (byte_by i (n / 256)) in
+    same_bytes first (bytes_then width (suc i) n)
 
--- the word at a place, and what stands behind it
-pub next_word : (xs rest : List ℕ) (at : ℕ) → AreBytes xs → at + 4 ≤ length xs → rest ≡ drop (suc (suc (suc (suc at)))) xs → word (word_at xs at) ++ rest ≡ drop at xs
-next_word xs rest at are within is =
-    word_back (get_or xs at 0) (get_or xs (suc at) 0) (get_or xs (suc (suc at)) 0) (get_or xs (suc (suc (suc at))) 0) rest (are _) (are _) (are _) (are _)
-    ∙ sym (four xs at within
-    ∙ ap (λ (ys : List ℕ). get_or xs at 0 ∷ get_or xs (suc at) 0 ∷ get_or xs (suc (suc at)) 0 ∷ get_or xs (suc (suc (suc at))) 0 ∷ ys) (sym is))
-
-same_eight : {a b c d e f g h a' b' c' d' e' f' g' h' : ℕ} {rest : List ℕ} → a ≡ a' → b ≡ b' → c ≡ c' → d ≡ d' → e ≡ e' → f ≡ f' → g ≡ g' → h ≡ h'
-    → a ∷ b ∷ c ∷ d ∷ e ∷ f ∷ g ∷ h ∷ rest ≡ a' ∷ b' ∷ c' ∷ d' ∷ e' ∷ f' ∷ g' ∷ h' ∷ rest
-same_eight p q r s t u v w = cc
-
-double_back : (a b c d e f g h : ℕ) (rest : List ℕ) → a < 256 → b < 256 → c < 256 → d < 256 → e < 256 → f < 256 → g < 256 → h < 256
-    → double (little_number 8 (a ∷ b ∷ c ∷ d ∷ e ∷ f ∷ g ∷ h ∷ [])) ++ rest ≡ a ∷ b ∷ c ∷ d ∷ e ∷ f ∷ g ∷ h ∷ rest
-double_back a b c d e f g h rest ha hb hc hd he hf hg hh =
-    same_eight (omega arith) (omega arith) (omega arith) (omega arith) (omega arith) (omega arith) (omega arith) (omega arith)
-
--- the number of 64 bits at a place, and what stands behind it
-pub next_double : (xs rest : List ℕ) (at : ℕ) → AreBytes xs → at + 8 ≤ length xs → rest ≡ drop (suc (suc (suc (suc (suc (suc (suc (suc at)))))))) xs
-    → double (double_at xs at) ++ rest ≡ drop at xs
-next_double xs rest at are within is =
-    let later = suc (suc (suc (suc at))) in
-    double_back (get_or xs at 0) (get_or xs (suc at) 0) (get_or xs (suc (suc at)) 0) (get_or xs (suc (suc (suc at))) 0)
-    (get_or xs later 0) (get_or xs (suc later) 0) (get_or xs (suc (suc later)) 0) (get_or xs (suc (suc (suc later))) 0) rest
-    (are _) (are _) (are _) (are _) (are _) (are _) (are _) (are _)
-    ∙ sym (four xs at (omega (arith, within))
-    ∙ ap (λ (ys : List ℕ). get_or xs at 0 ∷ get_or xs (suc at) 0 ∷ get_or xs (suc (suc at)) 0 ∷ get_or xs (suc (suc (suc at))) 0 ∷ ys) (four xs later (omega (arith, within))
-    ∙ ap (λ (ys : List ℕ). get_or xs later 0 ∷ get_or xs (suc later) 0 ∷ get_or xs (suc (suc later)) 0 ∷ get_or xs (suc (suc (suc later))) 0 ∷ ys) (sym is)))
+-- the number at a place, and what stands behind it
+pub bytes_back : (width at : ℕ) (xs rest : List ℕ) → AreBytes xs → at + width ≤ length xs → rest ≡ drop (at + width) xs
+    → little_bytes width (little_from at width xs) ++ rest ≡ drop at xs
+bytes_back zero at xs rest are within is = is ∙ ap (λ (place : ℕ). drop place xs) (omega arith)
+bytes_back (suc width) at xs rest are within is =
+    let byte = are at in
+    let others = little_from (suc at) width xs in
+    let low : (get_or xs at 0 + 256 * others) % 256 ≡ get_or xs at 0 = omega (arith, byte) in
+    let high : (get_or xs at 0 + 256 * others) / 256 ≡ others = omega (arith, byte) in
+    let behind : rest ≡ drop (suc at + width) xs = is ∙ ap (λ (place : ℕ). drop place xs) (omega arith) in
+    same_bytes low
+    (ap (λ (bytes : List ℕ). bytes ++ rest) (bytes_then width 0 (get_or xs at 0 + 256 * others) ∙ ap (λ (n : ℕ). little_bytes width n) high)
+    ∙ bytes_back width (suc at) xs rest are (omega (arith, within)) behind)
+    ∙ sym (drop-cons xs at 0 (omega (arith, within)))
 
 -- so many words from a place on, and what stands behind them
-pub next_words : (count at : ℕ) (xs rest : List ℕ) → AreBytes xs → at + 4 * count ≤ length xs → rest ≡ drop (at + 4 * count) xs → flat_map word (words_from count at xs) ++ rest ≡ drop at xs
-unfolding words_from
-next_words zero at xs rest are within is =
-    let none : at + 4 * 0 ≡ at = omega (arith) in
-    is ∙ ap (λ (place : ℕ). drop place xs) none
-next_words (suc count) at xs rest are within is =
-    let shifted : at + 4 * suc count ≡ at + 4 + 4 * count = omega (arith) in
-    let next : at + 4 ≡ suc (suc (suc (suc at))) = omega (arith) in
-    next_word xs (flat_map word (words_from count (at + 4) xs) ++ rest) at are (omega (arith, within))
-    (next_words count (at + 4) xs rest are (omega (arith, within)) (is ∙ ap (λ (place : ℕ). drop place xs) shifted)
-    ∙ ap (λ (place : ℕ). drop place xs) next)
+pub words_back : (count at : ℕ) (xs rest : List ℕ) → AreBytes xs → at + 4 * count ≤ length xs → rest ≡ drop (at + 4 * count) xs
+    → flat_map word (numbers_from 4 count at xs) ++ rest ≡ drop at xs
+unfolding numbers_from
+words_back zero at xs rest are within is = is ∙ ap (λ (place : ℕ). drop place xs) (omega arith)
+words_back (suc count) at xs rest are within is =
+    let shifted : at + 4 * suc count ≡ at + 4 + 4 * count = omega arith in
+    bytes_back 4 at xs (flat_map word (numbers_from 4 count (at + 4) xs) ++ rest) are (omega (arith, within))
+    (words_back count (at + 4) xs rest are (omega (arith, within)) (is ∙ ap (λ (place : ℕ). drop place xs) shifted))
+
+-- ---- fields one behind the other
+
+-- each of these fields begins where the one before it ends, the first at a place
+abbrev pub are_packed : ℕ → List Field → Bool
+are_packed at [] = true
+are_packed at (f ∷ fields) = (row f).at == at && are_packed (at + (row f).width) fields
+
+-- where they end
+abbrev pub end_of : ℕ → List Field → ℕ
+end_of at [] = at
+end_of at (f ∷ fields) = end_of (at + (row f).width) fields
+
+end_past : (fields : List Field) (at : ℕ) → at ≤ end_of at fields
+end_past [] at = omega arith
+end_past (f ∷ fields) at = let later = end_past fields (at + (row f).width) in omega (arith, later)
+
+-- what fields are read as is spelled so
+pub fields_back : (fields : List Field) (at : ℕ) (xs rest : List ℕ) → are_packed at fields ≡ true → AreBytes xs → end_of at fields ≤ length xs
+    → rest ≡ drop (end_of at fields) xs → spelled (number_in xs) fields ++ rest ≡ drop at xs
+fields_back [] at xs rest packed are within is = is
+fields_back (f ∷ fields) at xs rest packed are within is =
+    let width = (row f).width in
+    let parts = and_parts ((row f).at == at) (are_packed (at + width) fields) packed in
+    let here : (row f).at ≡ at = eqb-true (row f).at at parts.0 in
+    let later = end_past fields (at + width) in
+    append_assoc (little_bytes width (number_in xs f)) (spelled (number_in xs) fields) rest
+    ∙ ap (λ (place : ℕ). little_bytes width (little_from place width xs) ++ (spelled (number_in xs) fields ++ rest)) here
+    ∙ bytes_back width at xs (spelled (number_in xs) fields ++ rest) are (omega (arith, within, later))
+    (fields_back fields (at + width) xs rest parts.1 are within is)

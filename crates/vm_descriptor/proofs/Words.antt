@@ -1,15 +1,19 @@
--- Words one after another.
+-- Numbers one after another.
 use Rattle.std.proofs.Common.{◌≡◌, ℕ, zero, suc, ◌+◌, ◌*◌, List, [], ◌∷◌, ◌++◌, ap, ◌∙◌, arith}
-use Rattle.flat_memory.specs.Flat.{word_at}
-use Rattle.vm_descriptor.specs.Described.{words_from}
+use Rattle.std.proofs.Math.Nat.{mul-suc}
+use Rattle.byteorder.specs.Endian.{little_from}
+use Rattle.vm_descriptor.specs.Described.{numbers_from}
 
-words_then : (count at : ℕ) (bytes : List ℕ) → words_from (suc count) at bytes ≡ words_from count at bytes ++ (word_at bytes (at + 4 * count) ∷ [])
-unfolding words_from
-words_then zero at bytes = ap (λ (place : ℕ). word_at bytes place ∷ []) (omega (arith))
-words_then (suc count) at bytes =
-    ap (λ (ws : List ℕ). word_at bytes at ∷ ws) (words_then count (at + 4) bytes
-    ∙ ap (λ (place : ℕ). words_from count (at + 4) bytes ++ (word_at bytes place ∷ [])) (omega (arith)))
+numbers_then : (width count at : ℕ) (bytes : List ℕ) → numbers_from width (suc count) at bytes ≡ numbers_from width count at bytes ++ (little_from (at + width * count) width bytes ∷ [])
+unfolding numbers_from
+numbers_then width zero at bytes = let none : width * 0 ≡ 0 = omega arith in ap (λ (place : ℕ). little_from place width bytes ∷ []) (omega (arith, none))
+numbers_then width (suc count) at bytes =
+    let product = mul-suc width count in
+    let place : at + width + width * count ≡ at + width * suc count = omega (arith, product) in
+    ap (λ (ns : List ℕ). little_from at width bytes ∷ ns) (numbers_then width count (at + width) bytes
+    ∙ ap (λ (p : ℕ). numbers_from width count (at + width) bytes ++ (little_from p width bytes ∷ [])) place)
 
--- one word more is the next
-pub words_more : (count at : ℕ) (bytes : List ℕ) → words_from (count + 1) at bytes ≡ words_from count at bytes ++ (word_at bytes (at + 4 * count) ∷ [])
-words_more count at bytes = ap (λ (n : ℕ). words_from n at bytes) (omega (arith)) ∙ words_then count at bytes
+-- one number more is the next
+pub numbers_more : (width count at : ℕ) (bytes : List ℕ)
+    → numbers_from width (count + 1) at bytes ≡ numbers_from width count at bytes ++ (little_from (at + width * count) width bytes ∷ [])
+numbers_more width count at bytes = ap (λ (n : ℕ). numbers_from width n at bytes) (omega (arith)) ∙ numbers_then width count at bytes

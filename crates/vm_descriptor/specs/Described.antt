@@ -1,21 +1,25 @@
 -- The bytes of a descriptor, and why others are none. All numbers are little endian.
-use Rattle.std.specs.Prelude.{◌≡◌, ⊤, ℕ, zero, suc, ◌+◌, ◌*◌, ◌/◌, ◌%◌, ◌-◌, ◌^◌, ◌==◌, slice_index, nat_le, nat_lt, not, ◌&&◌, Bool, true, false, if◌then◌else◌, ◌<◌, IfSome, List, [], ◌∷◌, ◌++◌, length, take, drop, codes, bit_and, Option, Some, None, Result, Ok, Err}
+use Rattle.std.specs.Prelude.{◌≡◌, ⊤, ℕ, zero, suc, ◌+◌, ◌*◌, ◌/◌, ◌%◌, ◌-◌, ◌^◌, ◌==◌, slice_index, nat_le, nat_lt, not, ◌&&◌, Bool, true, false}
+use Rattle.std.specs.Prelude.{if◌then◌else◌, ◌<◌, List, [], ◌∷◌, ◌++◌, length, take, drop, codes, Option, Some, None, Result, Ok, Err}
 use Rattle.std.specs.List.{flat_map}
 use Rattle.std.specs.Str.{bytes_eq}
 use Rattle.byteorder.specs.Endian.{little_bytes, little_from}
-use Rattle.flat_memory.specs.Flat.{word_at}
-use Rattle.block_port.specs.Block.{status_word}
 use Rattle.block_port.specs.declared.status.Status.{Status}
 use Rattle.block_port.specs.declared.status.Status.TheVariants.{Done, BadSector, UnknownCommand}
-use Rattle.console_port.specs.declared.port.TheConstants.{MAX_INPUT}
 use Rattle.block_port.specs.declared.port.BlockFields.{BlockFields}
 use Rattle.rv_traps.specs.declared.registers.CsrRegisters.{CsrRegisters}
-use Rattle.rv_traps.specs.Registers.{has_bit, mstatus_of}
-use Rattle.elf_load.specs.declared.image.TheConstants.{RAM_BASE, PAGE_SIZE, MIN_PAGES, MAX_PAGES}
+use Rattle.elf_load.specs.declared.image.TheConstants.{RAM_BASE, PAGE_SIZE}
 use Rattle.vm_descriptor.specs.declared.error.DescError.{DescError}
 use Rattle.vm_descriptor.specs.declared.error.DescError.TheVariants.{Refused, Memory}
 use Rattle.vm_descriptor.specs.declared.descriptor.Descriptor.{Descriptor}
-use Rattle.vm_descriptor.specs.declared.descriptor.TheConstants.{MAX_CLONES, MAX_SHARE, MAX_LIMIT}
+use Rattle.vm_descriptor.specs.declared.version.Version.{Version}
+use Rattle.vm_descriptor.specs.Fields.{Field, aligned, has_only, is_mstatus, number, number_in, row, spelled, in_ranges, before_registers, behind_registers}
+use Rattle.vm_descriptor.specs.Fields as field
+
+-- ---- what a version of the format has of its own
+
+abbrev pub version_1 : Version
+version_1 = record { mark = codes "SFD1"; header = 776; least_pages = 16; most_pages = 1024 }
 
 -- ---- the bytes
 
@@ -24,11 +28,6 @@ word n = little_bytes 4 n
 
 abbrev pub double : ℕ → List ℕ
 double n = little_bytes 8 n
-
--- a word that tells whether there is one, and the address
-abbrev pub reservation_bytes : Option ℕ → List ℕ
-reservation_bytes None = word 0 ++ word 0
-reservation_bytes (Some address) = word 1 ++ word address
 
 abbrev pub bit_value : Bool → ℕ
 bit_value false = 0
@@ -46,43 +45,10 @@ map_bytes (a ∷ (b ∷ (c ∷ (d ∷ (e ∷ (f ∷ (g ∷ (h ∷ rest)))))))) =
     number_of_bits (a ∷ b ∷ c ∷ d ∷ e ∷ f ∷ g ∷ h ∷ []) ∷ map_bytes rest
 map_bytes few = number_of_bits few ∷ []
 
--- the mark, and the fields up to the registers
-abbrev pub before_registers : Descriptor → List ℕ
-before_registers d = codes "SFD1" ++ word d.image ++ word d.pages ++ word d.clone_id ++ word d.share ++ word d.pc
-
--- the fields from the control and status registers to the limit
-abbrev pub csrs_and_counts : Descriptor → List ℕ
-csrs_and_counts d =
-    word d.csrs.mstatus
-    ++ word d.csrs.mie
-    ++ word d.csrs.mtvec
-    ++ word d.csrs.mscratch
-    ++ word d.csrs.mepc
-    ++ word d.csrs.mcause
-    ++ word d.csrs.mtval
-    ++ double d.csrs.mcycle
-    ++ double d.csrs.minstret
-    ++ double d.timer.mtime
-    ++ double d.timer.mtimecmp
-    ++ double d.steps
-    ++ double d.limit
-
--- the fields of the ports but the buffer
-abbrev pub ports : Descriptor → List ℕ
-ports d =
-    word d.console.place
-    ++ word d.console.line_control
-    ++ word d.block.sector
-    ++ word (status_word d.block.status)
-    ++ word d.argument_0
-    ++ word d.argument_1
-    ++ word d.join_select
-    ++ word d.granted
-
 -- what stands before the buffer of the block port
 abbrev pub before_buffer : Descriptor → List ℕ
 before_buffer d =
-    before_registers d ++ (flat_map word d.registers ++ (csrs_and_counts d ++ (reservation_bytes d.reservation ++ ports d)))
+    version_1.mark ++ (spelled (number d) before_registers ++ (flat_map word d.registers ++ spelled (number d) behind_registers))
 
 -- the one spelling of a descriptor
 unfoldable pub described : Descriptor → List ℕ
@@ -90,13 +56,10 @@ described d = before_buffer d ++ (d.block.buffer ++ map_bytes d.blank)
 
 -- ---- what bytes say
 
-abbrev pub double_at : List ℕ → ℕ → ℕ
-double_at bytes at = little_from at 8 bytes
-
--- so many words from a place on
-unfoldable pub words_from : ℕ → ℕ → List ℕ → List ℕ
-words_from zero at bytes = []
-words_from (suc count) at bytes = word_at bytes at ∷ words_from count (at + 4) bytes
+-- so many numbers of a width from a place on
+unfoldable pub numbers_from : ℕ → ℕ → ℕ → List ℕ → List ℕ
+numbers_from width zero at bytes = []
+numbers_from width (suc count) at bytes = little_from at width bytes ∷ numbers_from width count (at + width) bytes
 
 -- so many bits of a number, the lowest first
 unfoldable pub bits_of : ℕ → ℕ → List Bool
@@ -116,98 +79,89 @@ abbrev pub status_of : ℕ → Status
 status_of word = if word == 0 then Done else (if word == 1 then BadSector else UnknownCommand)
 
 abbrev pub reservation_of : ℕ → ℕ → Option ℕ
-reservation_of flag address = if flag == 0 then None else Some address
+reservation_of reserved address = if reserved == 0 then None else Some address
 
 -- the control and status registers
-abbrev pub read_of_csrs : List ℕ → CsrRegisters
-read_of_csrs bytes = record {
-  mstatus = word_at bytes 148;
-  mie = word_at bytes 152;
-  mtvec = word_at bytes 156;
-  mscratch = word_at bytes 160;
-  mepc = word_at bytes 164;
-  mcause = word_at bytes 168;
-  mtval = word_at bytes 172;
-  mcycle = double_at bytes 176;
-  minstret = double_at bytes 184;
+abbrev pub csrs_of : (Field → ℕ) → CsrRegisters
+csrs_of numbers = record {
+  mstatus = numbers field.Mstatus;
+  mie = numbers field.Mie;
+  mtvec = numbers field.Mtvec;
+  mscratch = numbers field.Mscratch;
+  mepc = numbers field.Mepc;
+  mcause = numbers field.Mcause;
+  mtval = numbers field.Mtval;
+  mcycle = numbers field.Mcycle;
+  minstret = numbers field.Minstret;
 }
 
--- the registers of the block port, and its buffer
-abbrev pub read_of_block : List ℕ → BlockFields
-read_of_block bytes = record { sector = word_at bytes 240; status = status_of (word_at bytes 244); buffer = take 512 (drop 264 bytes) }
+-- the descriptor with these numbers, x1 to x31, buffer of the block port and flags of pages
+abbrev pub descriptor_of : (Field → ℕ) → List ℕ → List ℕ → List Bool → Descriptor
+descriptor_of numbers registers buffer blank = record {
+  image = numbers field.Image;
+  pages = numbers field.Pages;
+  clone_id = numbers field.CloneId;
+  share = numbers field.Share;
+  pc = numbers field.Pc;
+  registers = registers;
+  csrs = csrs_of numbers;
+  timer = record { mtime = numbers field.Mtime; mtimecmp = numbers field.Mtimecmp };
+  steps = numbers field.Steps;
+  limit = numbers field.Limit;
+  reservation = reservation_of (numbers field.Reserved) (numbers field.Reservation);
+  console = record { place = numbers field.Place; line_control = numbers field.LineControl };
+  block = record { sector = numbers field.Sector; status = status_of (numbers field.BlockStatus); buffer = buffer };
+  argument_0 = numbers field.Argument0;
+  argument_1 = numbers field.Argument1;
+  join_select = numbers field.JoinSelect;
+  granted = numbers field.Granted;
+  blank = blank;
+}
 
 -- what the fields of bytes say
 unfoldable pub read : List ℕ → Descriptor
-read bytes = record {
-  image = word_at bytes 4;
-  pages = word_at bytes 8;
-  clone_id = word_at bytes 12;
-  share = word_at bytes 16;
-  pc = word_at bytes 20;
-  registers = words_from 31 24 bytes;
-  csrs = read_of_csrs bytes;
-  timer = record { mtime = double_at bytes 192; mtimecmp = double_at bytes 200 };
-  steps = double_at bytes 208;
-  limit = double_at bytes 216;
-  reservation = reservation_of (word_at bytes 224) (word_at bytes 228);
-  console = record { place = word_at bytes 232; line_control = word_at bytes 236 };
-  block = read_of_block bytes;
-  argument_0 = word_at bytes 248;
-  argument_1 = word_at bytes 252;
-  join_select = word_at bytes 256;
-  granted = word_at bytes 260;
-  blank = flags_of (word_at bytes 8) (drop 776 bytes);
-}
+read bytes = descriptor_of (number_in bytes) (numbers_from 4 31 24 bytes) (take 512 (drop 264 bytes)) (flags_of (number_in bytes field.Pages) (drop 776 bytes))
 
 -- ---- why bytes are none
 
-abbrev pub is_page_count : ℕ → Bool
-is_page_count pages = nat_le MIN_PAGES pages && nat_le pages MAX_PAGES
-
--- the flag is 0 and so is the address, or it is 1 and the address that of a word of RAM
+-- there is none and the address is 0, or the address is that of a word of RAM
 abbrev pub is_reservation : ℕ → ℕ → ℕ → Bool
-is_reservation pages flag address =
-    if flag == 0 then address == 0
-    else (flag == 1 && (address % 4 == 0 && (nat_le RAM_BASE address && nat_lt address (RAM_BASE + PAGE_SIZE * pages))))
+is_reservation pages reserved address =
+    if reserved == 0 then address == 0
+    else (address % 4 == 0 && (nat_le RAM_BASE address && nat_lt address (RAM_BASE + PAGE_SIZE * pages)))
 
-abbrev pub is_clone : ℕ → ℕ → Bool
-is_clone clone_id share = nat_le 1 clone_id && (nat_le clone_id MAX_CLONES && nat_le share MAX_SHARE)
+-- what a number may be beside another
+abbrev pub agree : (Field → ℕ) → Bool
+agree numbers =
+    nat_le (numbers field.Steps) (numbers field.Limit)
+    && is_reservation (numbers field.Pages) (numbers field.Reserved) (numbers field.Reservation)
 
--- mstatus has machine mode and the bits 3 and 7 alone, mie bit 7 alone, mtvec all but bit 1, and mepc is a multiple of 4
-abbrev pub are_csrs : ℕ → ℕ → ℕ → ℕ → Bool
-are_csrs mstatus mie mtvec mepc =
-    mstatus == mstatus_of (has_bit mstatus 3) (has_bit mstatus 7) && (mie == bit_and mie 0x80 && (mtvec == bit_and mtvec 0xffff_fffd && mepc % 4 == 0))
-
-abbrev pub is_within_limit : ℕ → ℕ → Bool
-is_within_limit steps limit = nat_le 1 limit && (nat_le limit MAX_LIMIT && nat_le steps limit)
-
-abbrev pub are_ports : ℕ → ℕ → ℕ → Bool
-are_ports place line_control status = nat_le place MAX_INPUT && (nat_le line_control 255 && nat_le status 2)
+-- the control and status registers are in range
+abbrev pub are_csrs : CsrRegisters → Bool
+are_csrs csrs = is_mstatus csrs.mstatus && (has_only 0x80 csrs.mie && (has_only 0xffff_fffd csrs.mtvec && aligned csrs.mepc))
 
 -- each field is in its range
-unfoldable pub fields_in_range : List ℕ → Bool
-fields_in_range bytes =
-    is_clone (word_at bytes 12) (word_at bytes 16)
-    && (word_at bytes 20 % 4 == 0
-    && (are_csrs (word_at bytes 148) (word_at bytes 152) (word_at bytes 156) (word_at bytes 164)
-    && (is_within_limit (double_at bytes 208) (double_at bytes 216)
-    && (is_reservation (word_at bytes 8) (word_at bytes 224) (word_at bytes 228)
-    && are_ports (word_at bytes 232) (word_at bytes 236) (word_at bytes 244)))))
+unfoldable pub are_in_range : (Field → ℕ) → Bool
+are_in_range numbers = in_ranges numbers before_registers (in_ranges numbers behind_registers (agree numbers))
 
 -- a bit past the last page is 1
 abbrev pub has_spare_bit : ℕ → List ℕ → Bool
 has_spare_bit pages bytes = not (pages % 8 == 0) && not (slice_index bytes (length bytes - 1) / 2 ^ (pages % 8) == 0)
 
--- the number of the first reason, if there is one
-unfoldable pub refused : List ℕ → Option ℕ
-refused bytes =
-    if nat_lt (length bytes) 776 then Some 1
-    else if not (bytes_eq (take 4 bytes) (codes "SFD1")) then Some 2
-    else if not (is_page_count (word_at bytes 8)) then Some 3
-    else if not (length bytes == 776 + map_size (word_at bytes 8)) then Some 4
-    else if not (fields_in_range bytes) then Some 5
-    else if has_spare_bit (word_at bytes 8) bytes then Some 6
+-- the number of the first reason why bytes are none of this version, if there is one
+unfoldable pub refused_as : Version → List ℕ → Option ℕ
+refused_as version bytes =
+    let pages = number_in bytes field.Pages in
+    if nat_lt (length bytes) version.header then Some 1
+    else if not (bytes_eq (take 4 bytes) version.mark) then Some 2
+    else if not (nat_le version.least_pages pages && nat_le pages version.most_pages) then Some 3
+    else if not (length bytes == version.header + map_size pages) then Some 4
+    else if not (are_in_range (number_in bytes)) then Some 5
+    else if has_spare_bit pages bytes then Some 6
     else None
+
+abbrev pub refused : List ℕ → Option ℕ
+refused bytes = refused_as version_1 bytes
 
 -- these bytes are refused for the reason that is told
 abbrev pub IsRefused : List ℕ → DescError → Type 0
@@ -225,37 +179,14 @@ IsReadAs d (Err Memory) = ⊤
 abbrev pub AreWords : List ℕ → Type 0
 AreWords words = (i : ℕ) → slice_index words i < 2 ^ 32
 
--- words have 32 bits and counts 64, there are 31 registers and 512 bytes in the buffer, and the map has a flag for each page
+-- each number fits in the bytes of its field, words have 32 bits, there are 31 registers and 512 bytes in the buffer, and the
+-- map has a flag for each page
 pub record Fits (d : Descriptor) : Type 0 where
-  pub image : d.image < 2 ^ 32
-  pub pages : d.pages < 2 ^ 32
-  pub clone_id : d.clone_id < 2 ^ 32
-  pub share : d.share < 2 ^ 32
-  pub pc : d.pc < 2 ^ 32
+  pub numbers : (f : Field) → number d f < 256 ^ (row f).width
+  pub line_control : d.console.line_control < 2 ^ 8
   pub registers : AreWords d.registers
   pub each : length d.registers ≡ 31
-  pub mstatus : d.csrs.mstatus < 2 ^ 32
-  pub mie : d.csrs.mie < 2 ^ 32
-  pub mtvec : d.csrs.mtvec < 2 ^ 32
-  pub mscratch : d.csrs.mscratch < 2 ^ 32
-  pub mepc : d.csrs.mepc < 2 ^ 32
-  pub mcause : d.csrs.mcause < 2 ^ 32
-  pub mtval : d.csrs.mtval < 2 ^ 32
-  pub mcycle : d.csrs.mcycle < 2 ^ 64
-  pub minstret : d.csrs.minstret < 2 ^ 64
-  pub mtime : d.timer.mtime < 2 ^ 64
-  pub mtimecmp : d.timer.mtimecmp < 2 ^ 64
-  pub steps : d.steps < 2 ^ 64
-  pub limit : d.limit < 2 ^ 64
-  pub reservation : IfSome d.reservation (λ address. address < 2 ^ 32)
-  pub place : d.console.place < 2 ^ 32
-  pub line_control : d.console.line_control < 2 ^ 8
-  pub sector : d.block.sector < 2 ^ 32
   pub buffer : length d.block.buffer ≡ 512
-  pub argument_0 : d.argument_0 < 2 ^ 32
-  pub argument_1 : d.argument_1 < 2 ^ 32
-  pub join_select : d.join_select < 2 ^ 32
-  pub granted : d.granted < 2 ^ 32
   pub map : length d.blank ≡ d.pages
 
 -- bytes that are kept are those of the descriptor that they are read as

@@ -1,2 +1,3 @@
 pub mod Descriptor
+pub mod Fields
 pub mod Described

@@ -1,21 +1,22 @@
 //! Descriptors as bytes.
 
-ghost use Rattle.std.specs.Prelude.{◌≡◌, ◌≤◌, ◌<◌, ◌^◌, ◌++◌, length, IfOk, OnOk};
+ghost use Rattle.std.specs.Prelude.{◌≡◌, ◌≤◌, ◌<◌, ◌^◌, [], ◌∷◌, ◌++◌, length, IfOk, OnOk};
 ghost use Rattle.std.specs.List.{flat_map};
-ghost use Rattle.vm_descriptor.specs.Described.{before_buffer, described, double, map_bytes, number_of_bits, reservation_bytes, word};
+ghost use Rattle.vm_descriptor.specs.Descriptor.{IsInRange};
+ghost use Rattle.vm_descriptor.specs.Fields.{address_of, reserved_of};
+ghost use Rattle.vm_descriptor.specs.Described.{before_buffer, described, double, map_bytes, number_of_bits, word};
 
 use crate::descriptor::Descriptor;
+use crate::version::{HEADER_SIZE, VERSION_1};
 use flat_memory::push_words;
 use rv_traps::CsrRegisters;
 use std::alloc::{AllocError, Global};
 
-/// The bytes before the map.
-pub const HEADER_SIZE: usize = 776;
-
 impl Descriptor {
-    /// The bytes of a descriptor.
+    /// The bytes of a descriptor that is in range.
     #[tactic(auto, using(std::proofs::lemmas::List::append_assoc), unfolding(crate::specs::Described::described))]
     pub fn encode(&self, alloc: Global) -> Result<Vec<u8>, AllocError>
+        requires { IsInRange self.now }
         ensures { IfOk result (λ bytes. bytes.items ≡ described self.now) }
     {
         let flags = self.blank.flags();
@@ -31,7 +32,7 @@ impl Descriptor {
     fn push_fields(&self, bytes: &mut Vec<u8>) -> Result<(), AllocError>
         ensures { OnOk result (bytes.new.items ≡ bytes.old.items ++ before_buffer self.now) }
     {
-        bytes.extend_from_slice(b"SFD1")?;
+        bytes.extend_from_slice(&VERSION_1.mark)?;
         push_words(
             bytes,
             &[self.image, self.pages, self.clone_id, self.share, self.pc],
@@ -98,7 +99,7 @@ fn push_csrs(bytes: &mut Vec<u8>, csrs: &CsrRegisters) -> Result<(), AllocError>
 
 /// The words of a reservation: whether there is one, and the address.
 fn reservation_words(reservation: Option<u32>) -> [u32; 2]
-    ensures { flat_map word result ≡ reservation_bytes reservation }
+    ensures { result ≡ reserved_of reservation ∷ address_of reservation ∷ [] }
 {
     match reservation {
         Some(address) => [1, address],

@@ -1,6 +1,7 @@
 //! That the fields of a descriptor fit their types, which is known of each where it is read.
 
 ghost use Rattle.std.specs.Prelude.{◌≡◌, ◌<◌, ◌^◌, length, IfSome};
+ghost use Rattle.vm_descriptor.specs.Descriptor.{IsInRange};
 ghost use Rattle.vm_descriptor.specs.Described.{AreWords, Fits};
 
 use crate::descriptor::Descriptor;
@@ -10,9 +11,9 @@ use rv_traps::CsrRegisters;
 use timer_port::TimerRegisters;
 
 impl Descriptor {
-    /// Each field fits its type.
+    /// Each field of a descriptor in range fits its type.
     pub(crate) fn fits(&self)
-        requires { length self.now.blank ≡ self.now.pages }
+        requires { IsInRange self.now }
         ensures { Fits self.now }
     {
         self.numbers_fit();

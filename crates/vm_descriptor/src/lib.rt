@@ -10,6 +10,7 @@ mod page_map;
 mod read;
 mod refusal;
 mod seed;
+mod version;
 
 pub use descriptor::{Descriptor, MAX_CLONES, MAX_LIMIT, MAX_SHARE};
 pub use error::DescError;

@@ -1,17 +1,21 @@
 //! What the fields of bytes say.
 
-ghost use Rattle.std.specs.Prelude.{◌≡◌, ◌≤◌, ◌++◌, true, length, nat_lt, if◌then◌else◌, None, IfOk, IfErr, OnOk};
-ghost use Rattle.flat_memory.specs.Flat.{word_at};
+ghost use Rattle.std.specs.Prelude.{◌≡◌, ◌+◌, ◌*◌, ◌≤◌, ◌++◌, length, take, drop, nat_lt, if◌then◌else◌, None, IfOk, IfErr, OnOk};
+ghost use Rattle.byteorder.specs.Endian.{little_from};
 ghost use Rattle.vm_descriptor.specs.declared.descriptor.Descriptor.{Descriptor};
 ghost use Rattle.vm_descriptor.specs.Descriptor.{IsInRange};
-ghost use Rattle.vm_descriptor.specs.Described.{Fits, IsReadAs, IsRefused, are_ports, bits_of, described, flags_of, read, read_of_block, read_of_csrs, refused, reservation_of, status_of, words_from};
+ghost use Rattle.vm_descriptor.specs.Fields.{LineControl, number_in};
+ghost use Rattle.vm_descriptor.specs.Described.{Fits, IsReadAs, IsRefused, bits_of, csrs_of, described, flags_of, numbers_from, read, refused, reservation_of, status_of};
 
-use crate::bytes::HEADER_SIZE;
 use crate::descriptor::Descriptor;
 use crate::error::DescError;
 use crate::page_map::PageMap;
-use crate::refusal::{read_double, refusal};
+use crate::refusal::refusal;
+use crate::version::{
+    BUFFER, COUNTERS, CSRS, HEADER_SIZE, IDENTITY, PORTS, REGISTERS, TIMES, VERSION_1,
+};
 use block_port::{BlockFields, Status};
+use byteorder::{ByteOrder, LittleEndian};
 use console_port::ConsoleFields;
 use cow_disk::SECTOR_SIZE;
 use flat_memory::read_word;
@@ -30,7 +34,7 @@ impl Descriptor {
         ensures taken { (d : Descriptor) → Fits d → IsInRange d → bytes.now ≡ described d → IsReadAs d result }
         ensures refuses { IfErr result (IsRefused bytes.now) }
     {
-        if let Some(number) = refusal(bytes) {
+        if let Some(number) = refusal(&VERSION_1, bytes) {
             return Err(DescError::Refused(number));
         }
         Ok(read_fields(alloc, bytes)?)
@@ -38,79 +42,91 @@ impl Descriptor {
 }
 
 /// What the fields of bytes say.
-#[tactic(auto, unfolding(crate::specs::Described::read))]
-fn read_fields(alloc: Global, bytes: &[u8]) -> Result<Descriptor, AllocError>
-    requires whole { 776 ≤ length bytes.now }
-    requires ports { are_ports (word_at bytes.now 232) (word_at bytes.now 236) (word_at bytes.now 244) ≡ true }
+pub(crate) fn read_fields(alloc: Global, bytes: &[u8]) -> Result<Descriptor, AllocError>
+    requires whole { HEADER_SIZE ≤ length bytes.now }
+    requires line_control { number_in bytes.now LineControl ≤ 255 }
     ensures { IfOk result (λ d. d ≡ read bytes.now) }
 {
-    let pages = read_word(bytes, 8);
+    let [image, pages, clone_id, share, pc] = words_at::<5>(bytes, IDENTITY);
+    let [mtime, mtimecmp, steps, limit] = doubles_at::<4>(bytes, TIMES);
+    let [
+        reserved,
+        address,
+        place,
+        line_control,
+        sector,
+        status,
+        argument_0,
+        argument_1,
+        join_select,
+        granted,
+    ] = words_at::<10>(bytes, PORTS);
     let blank = read_flags(alloc, pages, bytes.split_at(HEADER_SIZE).1)?;
     Ok(Descriptor {
-        image: read_word(bytes, 4),
+        image,
         pages,
-        clone_id: read_word(bytes, 12),
-        share: read_word(bytes, 16),
-        pc: read_word(bytes, 20),
-        registers: read_registers(bytes),
-        csrs: read_csrs(bytes),
-        timer: TimerRegisters {
-            mtime: read_double(bytes, 192),
-            mtimecmp: read_double(bytes, 200),
-        },
-        steps: read_double(bytes, 208),
-        limit: read_double(bytes, 216),
-        reservation: reservation_in(read_word(bytes, 224), read_word(bytes, 228)),
+        clone_id,
+        share,
+        pc,
+        registers: words_at::<31>(bytes, REGISTERS),
+        csrs: csrs_at(bytes),
+        timer: TimerRegisters { mtime, mtimecmp },
+        steps,
+        limit,
+        reservation: reservation_in(reserved, address),
         console: ConsoleFields {
-            place: read_word(bytes, 232),
-            line_control: read_word(bytes, 236) as u8,
+            place,
+            line_control: line_control as u8,
         },
-        block: read_block(bytes),
-        argument_0: read_word(bytes, 248),
-        argument_1: read_word(bytes, 252),
-        join_select: read_word(bytes, 256),
-        granted: read_word(bytes, 260),
+        block: BlockFields {
+            sector,
+            status: status_in(status),
+            buffer: buffer_in(bytes),
+        },
+        argument_0,
+        argument_1,
+        join_select,
+        granted,
         blank: PageMap::from_vec(blank),
     })
 }
 
 /// The control and status registers.
-fn read_csrs(bytes: &[u8]) -> CsrRegisters
-    requires { 776 ≤ length bytes.now }
-    ensures { result ≡ read_of_csrs bytes.now }
+#[inline]
+pub(crate) fn csrs_at(bytes: &[u8]) -> CsrRegisters
+    requires { HEADER_SIZE ≤ length bytes.now }
+    ensures { result ≡ csrs_of (number_in bytes.now) }
 {
+    let [mstatus, mie, mtvec, mscratch, mepc, mcause, mtval] = words_at::<7>(bytes, CSRS);
+    let [mcycle, minstret] = doubles_at::<2>(bytes, COUNTERS);
     CsrRegisters {
-        mstatus: read_word(bytes, 148),
-        mie: read_word(bytes, 152),
-        mtvec: read_word(bytes, 156),
-        mscratch: read_word(bytes, 160),
-        mepc: read_word(bytes, 164),
-        mcause: read_word(bytes, 168),
-        mtval: read_word(bytes, 172),
-        mcycle: read_double(bytes, 176),
-        minstret: read_double(bytes, 184),
+        mstatus,
+        mie,
+        mtvec,
+        mscratch,
+        mepc,
+        mcause,
+        mtval,
+        mcycle,
+        minstret,
     }
 }
 
-fn reservation_in(flag: u32, address: u32) -> Option<u32>
-    ensures { result ≡ reservation_of flag address }
+fn reservation_in(reserved: u32, address: u32) -> Option<u32>
+    ensures { result ≡ reservation_of reserved address }
 {
-    if flag == 0 { None } else { Some(address) }
+    if reserved == 0 { None } else { Some(address) }
 }
 
-/// The registers of the block port, and its buffer.
-fn read_block(bytes: &[u8]) -> BlockFields
-    requires whole { 776 ≤ length bytes.now }
-    requires status { word_at bytes.now 244 ≤ 2 }
-    ensures { result ≡ read_of_block bytes.now }
+/// The buffer of the block port.
+#[inline]
+fn buffer_in(bytes: &[u8]) -> [u8; SECTOR_SIZE]
+    requires { HEADER_SIZE ≤ length bytes.now }
+    ensures { result ≡ take 512 (drop 264 bytes.now) }
 {
     let mut buffer = [0; SECTOR_SIZE];
-    buffer.copy_from_slice(&bytes[264..HEADER_SIZE]);
-    BlockFields {
-        sector: read_word(bytes, 240),
-        status: status_in(read_word(bytes, 244)),
-        buffer,
-    }
+    buffer.copy_from_slice(&bytes[BUFFER..HEADER_SIZE]);
+    buffer
 }
 
 fn status_in(word: u32) -> Status
@@ -123,17 +139,38 @@ fn status_in(word: u32) -> Status
     }
 }
 
-/// The 31 words from byte 24 on.
-#[tactic(auto, using(crate::proofs::Words::words_more, std::proofs::lemmas::List::take_more_set, std::proofs::lemmas::List::take_all), unfolding(crate::specs::Described::words_from))]
-fn read_registers(bytes: &[u8]) -> [u32; 31]
-    requires { 776 ≤ length bytes.now }
-    ensures { result ≡ words_from 31 24 bytes.now }
+/// The words from a place on.
+#[inline]
+pub(crate) fn words_at<const N: usize>(bytes: &[u8], at: usize) -> [u32; N]
+    requires { at + 4 * N ≤ length bytes.now }
+    ensures { result ≡ numbers_from 4 N at bytes.now }
 {
-    let mut registers = [0; 31];
-    for index in 0..31usize {
-        registers[index] = read_word(bytes, 24 + 4 * index);
+    let mut words = [0; N];
+    for index in 0..N {
+        words[index] = read_word(bytes, at + 4 * index);
     }
-    registers
+    words
+}
+
+/// The numbers of 64 bits from a place on.
+#[inline]
+pub(crate) fn doubles_at<const N: usize>(bytes: &[u8], at: usize) -> [u64; N]
+    requires { at + 8 * N ≤ length bytes.now }
+    ensures { result ≡ numbers_from 8 N at bytes.now }
+{
+    let mut doubles = [0; N];
+    for index in 0..N {
+        doubles[index] = read_double(bytes, at + 8 * index);
+    }
+    doubles
+}
+
+/// The number of 64 bits in the eight bytes from `at`.
+fn read_double(bytes: &[u8], at: usize) -> u64
+    requires { at + 8 ≤ length bytes.now }
+    ensures { result ≡ little_from at 8 bytes.now }
+{
+    LittleEndian::read_u64(&bytes[at..])
 }
 
 /// So many flags, eight in a byte.

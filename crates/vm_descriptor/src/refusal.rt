@@ -1,33 +1,38 @@
 //! Why bytes are no descriptor.
 
-ghost use Rattle.std.specs.Prelude.{◌≡◌, ◌+◌, ◌≤◌, true, length};
-ghost use Rattle.flat_memory.specs.Flat.{word_at};
-ghost use Rattle.rv_traps.specs.Registers.{has_bit, mstatus_of};
-ghost use Rattle.vm_descriptor.specs.Described.{are_csrs, are_ports, double_at, fields_in_range, has_spare_bit, is_clone, is_page_count, is_reservation, is_within_limit, map_size, refused};
+ghost use Rattle.std.specs.Prelude.{◌≡◌, ◌<◌, ◌≤◌, ◌^◌, ◌&&◌, nat_le, length};
+ghost use Rattle.vm_descriptor.specs.declared.version.TheConstants.{HEADER_SIZE};
+ghost use Rattle.console_port.specs.declared.port.TheConstants.{MAX_INPUT};
+ghost use Rattle.vm_descriptor.specs.declared.descriptor.TheConstants.{MAX_CLONES, MAX_LIMIT, MAX_SHARE};
+ghost use Rattle.vm_descriptor.specs.Fields.{aligned, between, number_in, up_to};
+ghost use Rattle.vm_descriptor.specs.Described.{are_csrs, are_in_range, has_spare_bit, is_reservation, refused_as};
 
-use crate::bytes::HEADER_SIZE;
 use crate::descriptor::{MAX_CLONES, MAX_LIMIT, MAX_SHARE};
-use byteorder::{ByteOrder, LittleEndian};
+use crate::read::{csrs_at, doubles_at, words_at};
+use crate::version::{IDENTITY, PAGES, PORTS, TIMES, Version};
 use console_port::MAX_INPUT;
-use elf_load::{MAX_PAGES, MIN_PAGES, PAGE_SIZE, RAM_BASE};
+use elf_load::{PAGE_SIZE, RAM_BASE};
 use flat_memory::read_word;
+use rv_traps::CsrRegisters;
 
-/// The number of the first reason why bytes are no descriptor, if there is one.
-#[tactic(auto, unfolding(crate::specs::Described::refused))]
-pub(crate) fn refusal(bytes: &[u8]) -> Option<u32>
-    ensures { result ≡ refused bytes.now }
+/// The number of the first reason why bytes are no descriptor of a version, if there is one.
+#[tactic(auto, unfolding(crate::specs::Described::refused_as))]
+pub(crate) fn refusal(version: &Version, bytes: &[u8]) -> Option<u32>
+    requires fields { HEADER_SIZE ≤ version.now.header }
+    requires small { version.now.header < 2 ^ 32 }
+    ensures { result ≡ refused_as version.now bytes.now }
 {
-    if bytes.len() < HEADER_SIZE {
+    if bytes.len() < version.header {
         return Some(1);
     }
-    if bytes.split_at(4).0 != b"SFD1".as_slice() {
+    if bytes.split_at(4).0 != version.mark.as_slice() {
         return Some(2);
     }
-    let pages = read_word(bytes, 8);
-    if !(MIN_PAGES..=MAX_PAGES).contains(&pages) {
+    let pages = read_word(bytes, PAGES);
+    if !has_pages(version, pages) {
         return Some(3);
     }
-    if bytes.len() != HEADER_SIZE + (pages as usize + 7) / 8 {
+    if bytes.len() != version.header + (pages as usize + 7) / 8 {
         return Some(4);
     }
     if !are_fields_in_range(bytes) {
@@ -39,86 +44,74 @@ pub(crate) fn refusal(bytes: &[u8]) -> Option<u32>
     None
 }
 
+/// Whether a version can tell of so many pages.
+fn has_pages(version: &Version, pages: u32) -> bool
+    ensures { result ≡ (nat_le version.now.least_pages pages && nat_le pages version.now.most_pages) }
+{
+    version.least_pages <= pages && pages <= version.most_pages
+}
+
 /// Whether each field is in its range.
-#[tactic(auto, unfolding(crate::specs::Described::fields_in_range))]
 fn are_fields_in_range(bytes: &[u8]) -> bool
-    requires { 776 ≤ length bytes.now }
-    ensures { result ≡ fields_in_range bytes.now }
+    requires { HEADER_SIZE ≤ length bytes.now }
+    ensures { result ≡ are_in_range (number_in bytes.now) }
 {
-    is_of_a_ticket(read_word(bytes, 12), read_word(bytes, 16))
-        && read_word(bytes, 20) % 4 == 0
-        && are_of_csrs(
-            read_word(bytes, 148),
-            read_word(bytes, 152),
-            read_word(bytes, 156),
-            read_word(bytes, 164),
-        )
-        && is_limit_of(read_double(bytes, 208), read_double(bytes, 216))
-        && is_reserved(
-            read_word(bytes, 8),
-            read_word(bytes, 224),
-            read_word(bytes, 228),
-        )
-        && are_of_ports(
-            read_word(bytes, 232),
-            read_word(bytes, 236),
-            read_word(bytes, 244),
-        )
+    let [_image, pages, clone_id, share, pc] = words_at::<5>(bytes, IDENTITY);
+    let [_mtime, _mtimecmp, steps, limit] = doubles_at::<4>(bytes, TIMES);
+    let [reserved, address, place, line_control, _sector, status] = words_at::<6>(bytes, PORTS);
+    let is_clone = is_of_a_clone(clone_id, share, pc);
+    let is_csrs = are_csrs(&csrs_at(bytes));
+    let is_limited = is_limit(limit);
+    let are_ports = are_of_ports(reserved, place, line_control, status);
+    let agree = is_within(steps, limit, pages, reserved, address);
+    are_all(is_clone, is_csrs, is_limited, are_ports, agree)
 }
 
-/// The number of 64 bits in the eight bytes from `at`.
-pub(crate) fn read_double(bytes: &[u8], at: usize) -> u64
-    requires { at + 8 ≤ length bytes.now }
-    ensures { result ≡ double_at bytes.now at }
+fn are_all(first: bool, second: bool, third: bool, fourth: bool, last: bool) -> bool
+    ensures { result ≡ (first && (second && (third && (fourth && last)))) }
 {
-    LittleEndian::read_u64(&bytes[at..])
+    first && second && third && fourth && last
 }
 
-fn is_of_a_ticket(clone_id: u32, share: u32) -> bool
-    ensures { result ≡ is_clone clone_id share }
+fn is_of_a_clone(clone_id: u32, share: u32, pc: u32) -> bool
+    ensures { result ≡ (between 1 MAX_CLONES clone_id && (up_to MAX_SHARE share && aligned pc)) }
 {
-    (1..=MAX_CLONES).contains(&clone_id) && share <= MAX_SHARE
+    (1..=MAX_CLONES).contains(&clone_id) && share <= MAX_SHARE && pc % 4 == 0
 }
 
-fn are_of_csrs(mstatus: u32, mie: u32, mtvec: u32, mepc: u32) -> bool
-    ensures { result ≡ are_csrs mstatus mie mtvec mepc }
+fn are_csrs(csrs: &CsrRegisters) -> bool
+    ensures { result ≡ are_csrs csrs.now }
 {
-    mstatus == machine_mode(mstatus)
-        && mie == mie & 0x80
-        && mtvec == mtvec & 0xffff_fffd
-        && mepc % 4 == 0
+    csrs.is_in_range()
 }
 
-/// The mstatus that has the bits 3 and 7 of a word, and machine mode.
-fn machine_mode(word: u32) -> u32
-    ensures { result ≡ mstatus_of (has_bit word 3) (has_bit word 7) }
+fn is_limit(limit: u64) -> bool
+    ensures { result ≡ between 1 MAX_LIMIT limit }
 {
-    let interrupts = if word / 8 % 2 == 1 { 0x08 } else { 0 };
-    let earlier = if word / 0x80 % 2 == 1 { 0x80 } else { 0 };
-    0x1800 + interrupts + earlier
+    (1..=MAX_LIMIT).contains(&limit)
 }
 
-fn is_limit_of(steps: u64, limit: u64) -> bool
-    ensures { result ≡ is_within_limit steps limit }
+fn are_of_ports(reserved: u32, place: u32, line_control: u32, status: u32) -> bool
+    ensures { result ≡ (up_to 1 reserved && (up_to MAX_INPUT place && (up_to 255 line_control && up_to 2 status))) }
 {
-    (1..=MAX_LIMIT).contains(&limit) && steps <= limit
+    reserved <= 1 && place as usize <= MAX_INPUT && line_control <= 255 && status <= 2
 }
 
-fn is_reserved(pages: u32, flag: u32, address: u32) -> bool
-    ensures { result ≡ is_reservation pages flag address }
+/// Whether the steps are within the limit, and a reservation in RAM.
+fn is_within(steps: u64, limit: u64, pages: u32, reserved: u32, address: u32) -> bool
+    ensures { result ≡ (nat_le steps limit && is_reservation pages reserved address) }
+{
+    steps <= limit && is_reserved(pages, reserved, address)
+}
+
+fn is_reserved(pages: u32, reserved: u32, address: u32) -> bool
+    ensures { result ≡ is_reservation pages reserved address }
 {
     let end = u64::from(RAM_BASE) + PAGE_SIZE as u64 * u64::from(pages);
-    match flag {
-        0 => address == 0,
-        1 => address % 4 == 0 && address >= RAM_BASE && u64::from(address) < end,
-        _ => false,
+    if reserved == 0 {
+        return address == 0;
     }
-}
-
-fn are_of_ports(place: u32, line_control: u32, status: u32) -> bool
-    ensures { result ≡ are_ports place line_control status }
-{
-    place as usize <= MAX_INPUT && line_control <= 255 && status <= 2
+    address % 4 == 0 && address >= RAM_BASE && u64::from(address) < end
 }
 
 /// Whether a bit past the last page is 1.

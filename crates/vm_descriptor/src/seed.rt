@@ -1,17 +1,15 @@
 //! What the clones of a ticket start with, as bytes.
 
-ghost use Rattle.std.specs.Prelude.{◌≡◌, length, IfOk};
+ghost use Rattle.std.specs.Prelude.{◌≡◌, IfOk};
 ghost use Rattle.vm_descriptor.specs.Descriptor.{IsInRange, numbered};
 ghost use Rattle.vm_descriptor.specs.Described.{described, Fits};
 
 use crate::descriptor::Descriptor;
-use crate::error::DescError;
+use crate::read::read_fields;
+use crate::version::CLONE_ID;
 use flat_memory::write_bytes;
 use std::alloc::{AllocError, Global};
 use std::marker::Model;
-
-/// Where the number of the clone stands in the bytes of a descriptor.
-const CLONE_ID_PLACE: usize = 12;
 
 /// What the clones of a ticket start with, as the bytes of the descriptor of one of them: the others differ in
 /// their number alone. Contracts see that descriptor.
@@ -32,10 +30,10 @@ impl Model for Seed {
 }
 
 impl Seed {
-    /// The seed of the clones of which one has this descriptor. It takes memory once, for the bytes.
+    /// The seed of the clones of which one has this descriptor, which is in range. It takes memory once, for the bytes.
     #[tactic(auto, using(crate::proofs::Kept::kept, crate::proofs::Kept::read_kept))]
     pub fn new(alloc: Global, descriptor: &Descriptor) -> Result<Seed, AllocError>
-        requires { length descriptor.now.blank ≡ descriptor.now.pages }
+        requires { IsInRange descriptor.now }
         ensures { IfOk result (λ seed. seed ≡ descriptor.now) }
     {
         descriptor.fits();
@@ -57,11 +55,7 @@ impl Seed {
         ensures { IfOk result (λ descriptor. descriptor ≡ numbered clone_id self.now) }
     {
         let bytes = self.bytes_as(alloc, clone_id)?;
-        match Descriptor::decode(alloc, &bytes) {
-            Ok(descriptor) => Ok(descriptor),
-            Err(DescError::Memory) => Err(AllocError),
-            Err(DescError::Refused(_)) => unreachable!(),
-        }
+        read_fields(alloc, &bytes)
     }
 
     /// The bytes of the descriptor of a clone, by its number: the number is put in, and the other bytes stay.
@@ -71,7 +65,7 @@ impl Seed {
         ensures fits { Fits (numbered clone_id self.now) }
     {
         let mut bytes = Vec::from_slice(alloc, &self.bytes)?;
-        write_bytes(&mut bytes, CLONE_ID_PLACE, &clone_id.to_le_bytes());
+        write_bytes(&mut bytes, CLONE_ID, &clone_id.to_le_bytes());
         Ok(bytes)
     }
 }

@@ -1,5 +1,6 @@
 -- What a wire does with one of the replies that wait, and how long it has given none.
-use Rattle.std.specs.Prelude.{ℕ, ◌+◌, ◌<◌, min}
+use Rattle.std.specs.Prelude.{ℕ, ◌+◌, ◌<◌, List, [], ◌∷◌, ◌++◌, Option, min}
+use Rattle.std.specs.Option.{option_map}
 use Rattle.wire_fates.specs.declared.fate.Fate.{Fate}
 use Rattle.wire_fates.specs.declared.fate.Fate.TheVariants.{Give, Again, Lose}
 use Rattle.wire_fates.specs.declared.fate.TheConstants.{LONGEST_STREAK}
@@ -23,3 +24,7 @@ abbrev pub streak_after : Fate → ℕ → ℕ
 streak_after (Give place) streak = 0
 streak_after (Again place) streak = longer streak
 streak_after (Lose place) streak = longer streak
+
+-- the seeds that were given, where they are told, and one more
+abbrev pub seeded_with : Option (List ℕ) → ℕ → Option (List ℕ)
+seeded_with given seed = option_map (λ before. before ++ seed ∷ []) given

@@ -50,7 +50,11 @@ impl Scripted {
 }
 
 impl Wire for Scripted {
+    ghost use Rattle.std.specs.Prelude.{None};
+
     ghost streak = { λ w. w.streak };
+
+    ghost seeds = { λ w. None };
 
     ghost tells = { λ old waiting fate new. (fate ≡ scripted old waiting) × (new ≡ after_scripted old waiting) };
 

@@ -44,7 +44,11 @@ impl Seeded {
 }
 
 impl Wire for Seeded {
+    ghost use Rattle.std.specs.Prelude.{None};
+
     ghost streak = { λ w. w.streak };
+
+    ghost seeds = { λ w. None };
 
     ghost tells = { λ old waiting fate new. (fate ≡ seeded old waiting) × (new ≡ after_seeded old waiting) };
 

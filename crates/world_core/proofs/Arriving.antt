@@ -24,7 +24,7 @@ use Rattle.forest_model.specs.Forest.{machines}
 use Rattle.forest_model.specs.Paged.{Paged, Pages, advanced_by, paged_machines, pages_arrived}
 use Rattle.forest_model.proofs.Absent.{arrived-advanced_by}
 use Rattle.forest_model.proofs.Paged.{advanced_by-add, machine-advanced_by}
-use Rattle.run_report.specs.NameOrder.{path_cmp}
+use Rattle.machine_names.specs.NameOrder.{path_cmp}
 use Rattle.vm_cell.specs.Keyed.{Arrives, KeyedMachine}
 use Rattle.vm_cell.specs.Steps.{moved_by}
 use Rattle.world_core.specs.declared.cell.Cell.{Cell}

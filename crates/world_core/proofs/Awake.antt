@@ -12,8 +12,8 @@ use Rattle.forest_history.specs.Places.{Spot, spots}
 use Rattle.forest_model.specs.Forest.{machines}
 use Rattle.forest_model.specs.Paged.{Paged, paged_machines}
 use Rattle.image_depot.specs.Key.{Shelves, Key}
-use Rattle.run_report.specs.Name.{child_path}
-use Rattle.run_report.specs.NameOrder.{path_cmp}
+use Rattle.machine_names.specs.Name.{child_path}
+use Rattle.machine_names.specs.NameOrder.{path_cmp}
 use Rattle.vm_descriptor.specs.declared.descriptor.Descriptor.{Descriptor}
 use Rattle.vm_descriptor.specs.Descriptor.{numbered}
 use Rattle.vm_cell.specs.declared.vm.fork.Brood.{Brood as Young}

@@ -16,9 +16,9 @@ use Rattle.forest_history.proofs.Ends.{start-whole}
 use Rattle.forest_model.specs.Forest.{machines, port_of}
 use Rattle.forest_model.specs.Paged.{Paged, paged_machines}
 use Rattle.run_report.specs.Lines.{machine_line, lines, own_lines_by}
-use Rattle.run_report.specs.NameOrder.{path_cmp}
+use Rattle.machine_names.specs.NameOrder.{path_cmp}
 use Rattle.run_report.specs.Report.{Ended, lines_of}
-use Rattle.run_report.proofs.NameMaps.{updated-here, updated-apart}
+use Rattle.machine_names.proofs.NameMaps.{updated-here, updated-apart}
 use Rattle.world_core.specs.declared.cell.Cell.{Cell}
 use Rattle.world_core.specs.declared.reason.Reason.{Reason}
 use Rattle.world_core.specs.declared.world.World.{World}

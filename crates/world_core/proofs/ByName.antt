@@ -12,8 +12,8 @@ use Rattle.forest_history.specs.Places.{at_path, Place, asleep, home, out, parke
 use Rattle.forest_history.specs.World.{is_asleep_at, is_ready_at, is_at_home_at, lives_at_home, holds, is_at_home}
 use Rattle.forest_history.specs.Rows.{took, does}
 use Rattle.forest_model.specs.Paged.{Paged, paged_machines}
-use Rattle.run_report.specs.Name.{child_path}
-use Rattle.run_report.specs.NameOrder.{path_cmp}
+use Rattle.machine_names.specs.Name.{child_path}
+use Rattle.machine_names.specs.NameOrder.{path_cmp}
 use Rattle.world_core.specs.declared.cell.Cell.{Cell}
 use Rattle.world_core.specs.Shows.{forest, CellShows, Shows}
 use Rattle.world_core.specs.declared.world.World.{World}

@@ -19,7 +19,7 @@ use Rattle.forest_history.specs.Rows.{forked, joined, kept, is_clone, may_spend,
 use Rattle.forest_model.specs.Calls.{forked as after_fork}
 use Rattle.forest_model.specs.Forest.{machines}
 use Rattle.forest_model.specs.Paged.{Paged, paged_machines}
-use Rattle.run_report.specs.NameOrder.{path_cmp}
+use Rattle.machine_names.specs.NameOrder.{path_cmp}
 use Rattle.vm_cell.specs.Keyed.{KeyedMachine}
 use Rattle.vm_cell.specs.Standing.{IsClone, standing_call}
 use Rattle.vm_cell.specs.Woken.{AreSeeds}
@@ -30,7 +30,7 @@ use Rattle.world_core.specs.declared.cell.Slot.TheVariants.{Asleep}
 use Rattle.world_core.specs.declared.world.World.{World}
 use Rattle.world_core.specs.Lent.{Lent, IsLent, vm_of, now_of}
 use Rattle.world_core.specs.Litter.{Unborn, IsLitterOf, IsLitterIn, IsBroodOf, IsNewBrood}
-use Rattle.world_core.specs.Waiting.{Waiting, IsListed, IsCovered}
+use Rattle.world_core.specs.Waiting.{Keeps, Waiting, IsListed, IsCovered}
 use Rattle.world_core.specs.Shows.{forest, IsAwake, Holds, HoldsAfter, Shows, StandsAt, forked_tree}
 use Rattle.world_core.specs.World.{Forest, IsDue, StandsFor}
 use Rattle.world_core.specs.Between.{IsWhole, IsBetween, settled_tree}
@@ -38,6 +38,7 @@ use Rattle.world_core.specs.Answers.{Goes, IsHandedOut}
 use Rattle.world_core.proofs.Ready.{IsListed-more, IsCovered-more}
 use Rattle.world_core.proofs.Returns.{apart-below, apart-outside, same-or-apart, some-is, written-here, written-apart}
 use Rattle.world_core.proofs.Steps.{forest-rules, Holds-same, SameTickets-back, lease-same}
+use Rattle.world_core.proofs.Reordered.{between-reordered}
 use Rattle.world_core.proofs.Calling.{lent_out, StandsHere, lives-out, spent-sound, spent-goes, below-name, still-listed, same-stands, kept-goes, none-shown, found-here, Called}
 
 -- ---- children that are born
@@ -285,21 +286,22 @@ module _ (depot : Shelves) (w : World) (f : Forest) (lease : Lent) (ticket : ℕ
 
   pub fork-called : (cells : BTreeMap Path Cell) (d : Cell) (list : List Waiting) (name : Path) (vm after : Paged) → name ≡ lease.name
       → vm ≡ now_of lease → WritesThrough path_cmp (path_cmp lease.name) w.cells d cells
-      → list ≡ record { name = lease.name; children = Some (ticket, 1) } ∷ w.ready → d.is_listed ≡ c.is_listed → after ≡ record vm { machine = after_fork vm.machine }
+      → Keeps (record { name = lease.name; children = Some (ticket, 1) } ∷ w.ready) list → d.is_listed ≡ c.is_listed → after ≡ record vm { machine = after_fork vm.machine }
       → ((t : Tree (Spot Paged)) → Holds depot lease.name c t → StandsAt vm (clone ticket) t → HoldsAfter depot lease.name d (forked_tree ticket t))
       → Called depot (record w { cells = cells; ready = list }) f lease forked name after
   fork-called cells d list name vm after name_is vm_is written ready listed made holds_after =
       let is = found-here depot w f lease (Clone ticket) c h out_as lent at found in
       let s = is.stands in
-      let v : World = record w { cells = cells; ready = list } in
+      let v : World = record w { cells = cells; ready = record { name = lease.name; children = Some (ticket, 1) } ∷ w.ready } in
       let u : Tree (Spot Paged) = node (lent_out (now_of lease)) is.broods is.log in
       let some = some-is c (get path_cmp w.cells lease.name) found in
       let becomes = forked-spend depot w f lease ticket is.start is.broods is.log c s in
-      subst (λ n. Called depot v f lease forked n after) (sym name_is) (record {
+      subst (λ n. Called depot (record v { ready = list }) f lease forked n after) (sym name_is) (record {
         tree = forked_tree ticket u;
-        between = forked-between depot w f lease ticket is.start is.broods is.log c s v d ready (written-here w.cells cells lease.name d written some)
+        between = between-reordered depot v list f ready lease.name (forked_tree ticket u)
+            (forked-between depot w f lease ticket is.start is.broods is.log c s v d refl (written-here w.cells cells lease.name d written some)
             (written-apart w.cells cells lease.name d written some) refl refl listed
-            (holds_after u s.holds (subst (λ m. StandsAt m (clone ticket) u) (sym vm_is) s.at));
+            (holds_after u s.holds (subst (λ m. StandsAt m (clone ticket) u) (sym vm_is) s.at)));
         is = forked-machine depot w f lease ticket is.start is.broods is.log c s ∙ ap (λ (p : Paged). record p { machine = after_fork p.machine }) (sym vm_is) ∙ sym made;
         sound = spent-sound depot w f lease (clone ticket) is.start is.broods is.log c s forked (placed home (settled_tree (forked_tree ticket u))) becomes;
         goes = spent-goes depot w f lease (clone ticket) is.start is.broods is.log c s forked (placed home (settled_tree (forked_tree ticket u))) becomes

@@ -19,9 +19,9 @@ use Rattle.forest_history.specs.Rows.{killed, is_kill, may_spend, spend}
 use Rattle.forest_model.specs.Calls.{after_kill}
 use Rattle.forest_model.specs.Forest.{machines}
 use Rattle.forest_model.specs.Paged.{Paged, paged_machines}
-use Rattle.run_report.specs.Name.{begins_with}
-use Rattle.run_report.specs.NameOrder.{path_cmp}
-use Rattle.run_report.proofs.NameMaps.{yes-same}
+use Rattle.machine_names.specs.Name.{begins_with}
+use Rattle.machine_names.specs.NameOrder.{path_cmp}
+use Rattle.machine_names.proofs.NameMaps.{yes-same}
 use Rattle.vm_cell.specs.Standing.{standing_call}
 use Rattle.world_core.specs.declared.cell.Cell.{Cell}
 use Rattle.world_core.specs.declared.world.World.{World}
@@ -30,7 +30,7 @@ use Rattle.world_core.specs.Shows.{forest, Holds, HoldsAfter, StandsAt, killed_t
 use Rattle.world_core.specs.World.{Forest, StandsFor}
 use Rattle.world_core.specs.Between.{IsBetween, settled_tree}
 use Rattle.world_core.specs.Answers.{IsHandedOut}
-use Rattle.run_report.proofs.Below.{beyond-append}
+use Rattle.machine_names.proofs.Below.{beyond-append}
 use Rattle.world_core.proofs.Returns.{apart-below, apart-outside, some-is, written-here, written-apart}
 use Rattle.world_core.proofs.Steps.{forest-rules}
 use Rattle.world_core.proofs.Calling.{lent_out, StandsHere, lives-out, spent-sound, spent-goes, whole-gone, gone-between, found-here, Called}

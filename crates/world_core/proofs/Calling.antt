@@ -23,7 +23,7 @@ use Rattle.forest_history.proofs.Ends.{does-sound, steps-keeps}
 use Rattle.forest_model.specs.Forest.{machines, tree_call}
 use Rattle.forest_model.proofs.Paged.{paged-rules}
 use Rattle.forest_model.specs.Paged.{Paged, paged_machines}
-use Rattle.run_report.specs.NameOrder.{path_cmp}
+use Rattle.machine_names.specs.NameOrder.{path_cmp}
 use Rattle.vm_cell.specs.Keyed.{KeyedMachine, IsOfDepot}
 use Rattle.vm_cell.specs.Standing.{standing_call}
 use Rattle.world_core.specs.declared.cell.Cell.{Cell}

@@ -21,8 +21,8 @@ use Rattle.vm_descriptor.specs.declared.descriptor.Descriptor.{Descriptor}
 use Rattle.vm_descriptor.specs.Descriptor.{numbered}
 use Rattle.vm_cell.specs.declared.vm.fork.Brood.{Brood as Young}
 use Rattle.run_report.specs.Lines.{lines}
-use Rattle.run_report.specs.Name.{child_path}
-use Rattle.run_report.proofs.Below.{beyond-is}
+use Rattle.machine_names.specs.Name.{child_path}
+use Rattle.machine_names.proofs.Below.{beyond-is}
 use Rattle.world_core.specs.declared.cell.Brood.{Brood}
 use Rattle.world_core.specs.declared.cell.Cell.{Cell}
 use Rattle.world_core.specs.declared.cell.Slot.{Slot}

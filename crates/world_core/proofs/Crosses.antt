@@ -5,11 +5,11 @@ use denote.Struct.Declared.{shape}
 use Rattle.std.proofs.Crossing.{crosses}
 use Rattle.std.proofs.MapsCrossing.{BTreeMap-send}
 use Rattle.image_depot.proofs.sent.Sent.TheSendSync as sent
-use Rattle.run_report.specs.contracts.name.Name as Name
-use Rattle.run_report.specs.contracts.name.NameOrd.TheImpl as ord
-use Rattle.run_report.specs.contracts.name.NamePartialEq.TheImpl as eq
-use Rattle.run_report.specs.contracts.name.NamePartialOrd.TheImpl as partial
-use Rattle.run_report.proofs.name.Name.TheSendSync as name
+use Rattle.machine_names.specs.contracts.name.Name as Name
+use Rattle.machine_names.specs.contracts.name.NameOrd.TheImpl as ord
+use Rattle.machine_names.specs.contracts.name.NamePartialEq.TheImpl as eq
+use Rattle.machine_names.specs.contracts.name.NamePartialOrd.TheImpl as partial
+use Rattle.machine_names.proofs.name.Name.TheSendSync as name
 use Rattle.run_report.proofs.line.Line.TheSendSync as line
 use Rattle.run_report.proofs.report.Outcome.TheSendSync as outcome
 use Rattle.vm_cell.proofs.Crosses.{vm_send}

@@ -8,10 +8,10 @@ use Rattle.image_depot.specs.Key.{Shelves}
 use Rattle.forest_tree.specs.Tree.{Path, subtree}
 use Rattle.forest_history.specs.World.{is_at_home}
 use Rattle.forest_model.specs.Paged.{paged_machines}
-use Rattle.run_report.specs.Name.{child_path}
-use Rattle.run_report.specs.NameOrder.{path_cmp}
+use Rattle.machine_names.specs.Name.{child_path}
+use Rattle.machine_names.specs.NameOrder.{path_cmp}
 use Rattle.run_report.specs.Report.{Ended as Report}
-use Rattle.run_report.proofs.NameMaps.{shorter-first}
+use Rattle.machine_names.proofs.NameMaps.{shorter-first}
 use Rattle.world_core.specs.declared.cell.Cell.{Cell}
 use Rattle.world_core.specs.declared.world.World.{World}
 use Rattle.world_core.specs.Shows.{IsAwake}

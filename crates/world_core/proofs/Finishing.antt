@@ -14,7 +14,7 @@ use Rattle.forest_tree.proofs.Places.{brood_of-none}
 use Rattle.forest_history.specs.Places.{at_path, Place, home, Spot, put, placed, spots}
 use Rattle.forest_model.specs.Forest.{machines}
 use Rattle.forest_model.specs.Paged.{Paged, paged_machines}
-use Rattle.run_report.specs.NameOrder.{path_cmp}
+use Rattle.machine_names.specs.NameOrder.{path_cmp}
 use Rattle.run_report.specs.Lines.{own_lines_by, lines, log_lines}
 use Rattle.run_report.specs.Report.{Ended, lines_of}
 use Rattle.world_core.specs.declared.cell.Brood.{Brood}
@@ -24,7 +24,7 @@ use Rattle.world_core.specs.Waiting.{IsListed}
 use Rattle.world_core.specs.Shows.{forest, told_spot, TallyAt, Tallies, HoldsAfter, IsAwake, CellShows, Shows, child_of, ended_tree}
 use Rattle.world_core.specs.World.{Forest, IsDue, StandsFor}
 use Rattle.world_core.specs.Between.{HasLeft, IsBetween, IsLeaving, IsWhole, TakesOut, with_tree}
-use Rattle.run_report.proofs.Below.{beyond-append}
+use Rattle.machine_names.proofs.Below.{beyond-append}
 use Rattle.world_core.proofs.Changes.{Lies, here, below, parent, above, apart, lies, child-there, beyond-parent}
 use Rattle.world_core.proofs.Returns.{there-is, no-cell}
 use Rattle.world_core.proofs.Leaving.{left-ended, parent-shows}

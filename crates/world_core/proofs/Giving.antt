@@ -17,7 +17,7 @@ use Rattle.forest_history.proofs.Ends.{does-sound}
 use Rattle.forest_model.specs.Forest.{machines}
 use Rattle.forest_model.proofs.Paged.{paged-rules}
 use Rattle.forest_model.specs.Paged.{Paged, paged_machines}
-use Rattle.run_report.specs.NameOrder.{path_cmp}
+use Rattle.machine_names.specs.NameOrder.{path_cmp}
 use Rattle.world_core.specs.declared.cell.Cell.{Cell}
 use Rattle.world_core.specs.declared.reason.Reason.{Reason}
 use Rattle.world_core.specs.declared.world.World.{World}

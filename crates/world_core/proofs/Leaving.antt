@@ -17,15 +17,15 @@ use Rattle.forest_history.proofs.Changes.{at_path-machine}
 use Rattle.forest_model.specs.Forest.{machines}
 use Rattle.forest_model.specs.Paged.{Paged, paged_machines}
 use Rattle.run_report.specs.Report.{Ended}
-use Rattle.run_report.specs.NameOrder.{path_cmp}
-use Rattle.run_report.proofs.NameMaps.{updated-here, updated-apart, yes-same}
+use Rattle.machine_names.specs.NameOrder.{path_cmp}
+use Rattle.machine_names.proofs.NameMaps.{updated-here, updated-apart, yes-same}
 use Rattle.world_core.specs.declared.cell.Cell.{Cell}
 use Rattle.world_core.specs.declared.world.World.{World}
 use Rattle.world_core.specs.Waiting.{Waiting, IsListed, IsCovered}
 use Rattle.world_core.specs.Shows.{forest, IsAwake, CellShows, Shows, with_child, child_of}
 use Rattle.world_core.specs.World.{Forest, IsDue, ShowsTree, StandsFor}
 use Rattle.world_core.specs.Between.{HasLeft, IsLeaving, TakesOut, with_tree}
-use Rattle.run_report.proofs.Below.{beyond-append, beyond-is}
+use Rattle.machine_names.proofs.Below.{beyond-append, beyond-is}
 use Rattle.world_core.proofs.Changes.{is_one, child-there, outside, shows-changed, beyond-parent}
 use Rattle.world_core.proofs.Ready.{ready-changed}
 use Rattle.world_core.proofs.Returns.{apart-below, apart-outside, same-or-apart, some-is, there-is, written-here, written-apart}

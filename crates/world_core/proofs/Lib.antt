@@ -1,10 +1,12 @@
 pub mod TurnLists
+mod TurnOrder
 pub mod Steps
 pub mod Receiving
 pub mod Changes
 pub mod AtPlaces
 pub mod Ready
 pub mod Returns
+mod Reordered
 pub mod Slots
 pub mod SlotPlaces
 pub mod SlotBegins
@@ -23,6 +25,7 @@ pub mod TurnByTurn
 pub mod ByName
 pub mod Depths
 pub mod Leaving
+mod Images
 pub mod Finishing
 mod LogKilled
 mod BroodSlots

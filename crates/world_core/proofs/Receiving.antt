@@ -1,8 +1,10 @@
 -- A page comes to a machine on lease.
 use Rattle.std.proofs.Common.{◌≡◌, ◌⊎◌, ℕ, ◌*◌, length, Some, Result, Ok, Err, IfOk, OnErr, ap, ap₂, ◌∙◌, subst}
 use Rattle.std.specs.declared.alloc.AllocError.{AllocError}
+use Rattle.std.proofs.lemmas.Result.{IfOk-weaker}
 use Rattle.elf_load.specs.declared.image.TheConstants.{PAGE_SIZE}
 use Rattle.image_depot.specs.declared.arrived.Arrived.{Arrived}
+use Rattle.image_depot.specs.Receiver.{IsHad}
 use Rattle.image_depot.specs.Reply.{Reply}
 use Rattle.forest_tree.specs.Tree.{Path}
 use Rattle.forest_model.specs.Machine.{Machine}
@@ -32,6 +34,14 @@ pub rest-arrived : (old new : Lent) (reply : Reply) (r : Result Arrived AllocErr
 rest-arrived old new reply r same ran now h err =
     same-as new.name old.name new.start old.start new.ran old.ran _ _ same.name same.start ran
     (vm.rest-arrived (vm_of old) (vm_of new) reply r now same.key h (vm-err old new r err))
+
+-- a lease whose machine has had the page is as it was
+pub had-arrived : (old new : Lent) (reply : Reply) (r : Result Arrived AllocError) → IsSameLease old new → new.ran ≡ old.ran → new.now ≡ old.now
+    → IfOk r (Arrives old.key old.pages reply new.pages) → IfOk r (λ answer. IsHad answer → new ≡ old)
+had-arrived old new reply r same ran now h =
+    IfOk-weaker r _ _
+    (λ answer stays had. same-as new.name old.name new.start old.start new.ran old.ran _ _ same.name same.start ran (stays had))
+    (vm.had-arrived (vm_of old) (vm_of new) reply r now same.key h)
 
 -- a lease has as many pages as its machine's RAM
 pub whole-of : (v : KeyedMachine) (lease : Lent) → v ≡ vm_of lease → length v.machine.state.ram ≡ PAGE_SIZE * length v.pages.here

@@ -16,7 +16,7 @@ use Rattle.forest_history.specs.World.{holds, is_asleep_at, is_out_at, is_ready,
 use Rattle.forest_history.specs.Rows.{first_reason}
 use Rattle.forest_history.proofs.Spots.{machine-placed, place-placed}
 use Rattle.forest_model.specs.Paged.{Paged, paged_machines}
-use Rattle.run_report.specs.NameOrder.{path_cmp}
+use Rattle.machine_names.specs.NameOrder.{path_cmp}
 use Rattle.run_report.specs.Report.{Ended}
 use Rattle.vm_cell.specs.Keyed.{KeyedMachine, IsOfDepot, paged}
 use Rattle.world_core.specs.declared.reason.Reason.{Reason}
@@ -29,11 +29,11 @@ use Rattle.world_core.specs.Lent.{Lent}
 use Rattle.world_core.specs.Answers.{IsOutAs, IsHandedOut}
 use Rattle.world_core.specs.World.{Forest, IsDue, ShowsLive, ShowsTree, StandsFor}
 use Rattle.world_core.specs.Between.{IsBetween, with_tree}
-use Rattle.run_report.proofs.Below.{beyond-append}
+use Rattle.machine_names.proofs.Below.{beyond-append}
 use Rattle.world_core.proofs.Changes.{Lies, here, below, parent, above, apart, lies, parent-awake, shows-changed}
 use Rattle.world_core.proofs.Ready.{parent-ready, ready-changed}
 use Rattle.world_core.proofs.AtPlaces.{holds-placed, lives-placed}
-use Rattle.run_report.proofs.NameMaps.{updated-here, updated-apart}
+use Rattle.machine_names.proofs.NameMaps.{updated-here, updated-apart}
 
 -- the same cells and the same list show the same
 module _ (depot : Shelves) (w v : World) (cells : (name : Path) → get path_cmp v.cells name ≡ get path_cmp w.cells name) (ready : v.ready ≡ w.ready) where

@@ -21,7 +21,7 @@ use Rattle.std.specs.declared.alloc.AllocError.{AllocError}
 use Rattle.vm_cell.specs.Keyed.{KeyedMachine, IsOfDepot, paged}
 use Rattle.vm_cell.specs.Woken.{woken}
 use Rattle.vm_cell.specs.declared.vm.fork.Brood.{Brood as Young}
-use Rattle.run_report.specs.Name.{child_path}
+use Rattle.machine_names.specs.Name.{child_path}
 use Rattle.world_core.specs.declared.cell.Brood.{Brood}
 use Rattle.world_core.specs.declared.cell.Cell.{Cell}
 use Rattle.world_core.specs.declared.cell.Slot.{Slot}

@@ -13,7 +13,7 @@ use Rattle.forest_history.specs.Children.{life, living}
 use Rattle.forest_history.proofs.Lives.{one-child}
 use Rattle.forest_model.specs.Forest.{machines}
 use Rattle.forest_model.specs.Paged.{Paged, paged_machines}
-use Rattle.run_report.specs.Name.{child_path}
+use Rattle.machine_names.specs.Name.{child_path}
 use Rattle.run_report.specs.Lines.{lines}
 use Rattle.run_report.specs.Report.{Ended as Line, lines_of}
 use Rattle.vm_cell.specs.declared.vm.fork.Brood.{Brood as Young}

@@ -19,7 +19,7 @@ use Rattle.image_depot.specs.Key.{Shelves, Key}
 use Rattle.vm_descriptor.specs.declared.descriptor.Descriptor.{Descriptor}
 use Rattle.vm_descriptor.specs.Descriptor.{numbered}
 use Rattle.vm_cell.specs.declared.vm.fork.Brood.{Brood as Young}
-use Rattle.run_report.specs.Name.{child_path}
+use Rattle.machine_names.specs.Name.{child_path}
 use Rattle.world_core.specs.declared.cell.Brood.{Brood}
 use Rattle.world_core.specs.declared.cell.Cell.{Cell}
 use Rattle.world_core.specs.declared.cell.Slot.{Slot}
@@ -40,6 +40,9 @@ equal Greater h = absurd (cc)
 apart : (t u : ℕ) (same : Bool) → is_eq (nat_cmp t u) ≡ same → eqb t u ≡ false → is_eq (nat_cmp t u) ≡ false
 apart t u true e other = absurd (eqb-false t u other (exact_unsigned t u (equal (nat_cmp t u) e)))
 apart t u false e other = e
+
+pub same-ticket : (t u : ℕ) → is_eq (nat_cmp t u) ≡ true → t ≡ u
+same-ticket t u e = exact_unsigned t u (equal (nat_cmp t u) e)
 
 pub written : (old new : BTreeMap ℕ Brood) (ticket : ℕ) (b : Brood) → WritesThrough nat_cmp (nat_cmp ticket) old b new → IsSome (get nat_cmp old ticket)
     → IsWritten old new ticket b

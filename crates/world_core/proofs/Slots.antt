@@ -7,7 +7,7 @@ use Rattle.forest_model.specs.Paged.{Paged}
 use Rattle.image_depot.specs.Key.{Key}
 use Rattle.vm_descriptor.specs.declared.descriptor.Descriptor.{Descriptor}
 use Rattle.vm_descriptor.specs.Descriptor.{numbered}
-use Rattle.run_report.specs.Name.{child_path}
+use Rattle.machine_names.specs.Name.{child_path}
 use Rattle.world_core.specs.declared.cell.Slot.{Slot}
 use Rattle.world_core.specs.Shows.{SlotShows, SlotsShow}
 

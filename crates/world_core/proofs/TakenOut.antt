@@ -13,7 +13,7 @@ use Rattle.forest_history.specs.Rows.{took, Allows, does}
 use Rattle.forest_history.proofs.Ends.{at_path-keeps, placed-keeps}
 use Rattle.forest_history.proofs.Spots.{place-placed}
 use Rattle.forest_model.specs.Paged.{Paged, paged_machines}
-use Rattle.run_report.specs.NameOrder.{path_cmp}
+use Rattle.machine_names.specs.NameOrder.{path_cmp}
 use Rattle.world_core.specs.declared.cell.Cell.{Cell}
 use Rattle.world_core.specs.Shows.{forest, IsAwake, Shows}
 use Rattle.world_core.specs.declared.world.World.{World}

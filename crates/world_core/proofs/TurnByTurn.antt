@@ -7,28 +7,31 @@ use Rattle.forest_tree.specs.Settle.{has_ended}
 use Rattle.forest_history.specs.World.{is_ready}
 use Rattle.forest_history.specs.Rows.{over, stopped, idle, Allows, does}
 use Rattle.forest_model.specs.Paged.{paged_machines}
-use Rattle.run_report.specs.NameOrder.{path_cmp}
+use Rattle.machine_names.specs.NameOrder.{path_cmp}
 use Rattle.world_core.specs.declared.cell.Cell.{Cell}
 use Rattle.world_core.specs.Shows.{forest}
 use Rattle.world_core.specs.declared.world.World.{World}
 use Rattle.world_core.specs.declared.reason.Reason.{Reason}
 use Rattle.run_report.specs.Report.{Ended as Report}
-use Rattle.world_core.specs.Waiting.{Waiting, IsListed, IsCovered}
+use Rattle.world_core.specs.Waiting.{Waiting, IsListed, IsCovered, Keeps}
+use Rattle.world_core.specs.Images.{AreOfImages, Images}
 use Rattle.world_core.specs.Told.{told_of}
 use Rattle.world_core.specs.World.{Forest, IsDue, ShowsLive, ShowsTree, StandsFor}
 use Rattle.world_core.specs.Answers.{Goes}
 use Rattle.world_core.specs.Popped.{with_turn}
+use Rattle.world_core.proofs.Reordered.{stands-reordered}
 
 -- what a world stood for before its turns were taken out, it stands for still
 pub record IsTaking (depot : Shelves) (first now : World) : Type 0 where
   pub going : now.outcome ≡ None
   pub unhalted : now.halted ≡ None
   pub told : told_of now ≡ told_of first
+  pub images : (images : Images) → AreOfImages images first → AreOfImages images now
   pub stands : (f : Forest) → StandsFor depot first f → StandsFor depot now f
 
-pub with-popped : (depot : Shelves) (w : World) (turn : Waiting) (rest : List Waiting) (f : Forest) → w.ready ≡ turn ∷ rest → StandsFor depot w f
+pub with-popped : (depot : Shelves) (w : World) (turn : Waiting) (rest : List Waiting) (f : Forest) → Keeps w.ready (turn ∷ rest) → StandsFor depot w f
     → StandsFor depot (with_turn turn (record w { ready = rest })) f
-with-popped depot w turn rest f e h = subst (λ turns. StandsFor depot (record w { ready = turns }) f) e h
+with-popped depot w turn rest f k h = stands-reordered depot w (turn ∷ rest) f k h
 
 pub over-goes : (depot : Shelves) (w : World) (f : Forest) → StandsFor depot w f → is_some w.outcome ≡ true → Goes depot f over w
 unfolding Allows does
@@ -71,12 +74,13 @@ idle-goes depot w turns f h going unhalted empty empty_then =
     never-due false no_turn = refl
 
 -- a turn gave nothing
-pub goes-on : (depot : Shelves) (first w v : World) (turn : Waiting) (rest : List Waiting) → IsTaking depot first w → w.ready ≡ turn ∷ rest
+pub goes-on : (depot : Shelves) (first w v : World) (turn : Waiting) (rest : List Waiting) → IsTaking depot first w → Keeps w.ready (turn ∷ rest)
     → ((f : Forest) → StandsFor depot (with_turn turn (record w { ready = rest })) f → StandsFor depot v f) → v.outcome ≡ None → v.halted ≡ None
-    → told_of v ≡ told_of w → IsTaking depot first v
-goes-on depot first w v turn rest h e after going unhalted told = record {
+    → told_of v ≡ told_of w → ((images : Images) → AreOfImages images w → AreOfImages images v) → IsTaking depot first v
+goes-on depot first w v turn rest h e after going unhalted told images = record {
   going = going;
   unhalted = unhalted;
   told = told ∙ h.told;
+  images = λ at was. images at (h.images at was);
   stands = λ f before. after f (with-popped depot w turn rest f e (h.stands f before));
 }

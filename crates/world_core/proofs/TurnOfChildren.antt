@@ -11,8 +11,8 @@ use Rattle.forest_history.specs.Places.{at_path, out, Spot, placed}
 use Rattle.forest_history.specs.World.{is_asleep_at, is_ready_at, lives_ready, holds, is_ready}
 use Rattle.forest_history.specs.Rows.{took, nothing, Allows, does}
 use Rattle.forest_model.specs.Paged.{Paged, paged_machines}
-use Rattle.run_report.specs.Name.{child_path}
-use Rattle.run_report.specs.NameOrder.{path_cmp}
+use Rattle.machine_names.specs.Name.{child_path}
+use Rattle.machine_names.specs.NameOrder.{path_cmp}
 use Rattle.world_core.specs.declared.cell.Cell.{Cell}
 use Rattle.world_core.specs.Shows.{forest, Shows}
 use Rattle.world_core.specs.declared.turns.Turn.{Turn, Turn-F, out-Turn, roll-Turn}

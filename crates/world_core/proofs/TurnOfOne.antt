@@ -8,7 +8,7 @@ use Rattle.forest_history.specs.Places.{out, Spot, placed}
 use Rattle.forest_history.specs.World.{lives_ready, holds}
 use Rattle.forest_history.specs.Rows.{took}
 use Rattle.forest_model.specs.Paged.{Paged, paged_machines}
-use Rattle.run_report.specs.NameOrder.{path_cmp}
+use Rattle.machine_names.specs.NameOrder.{path_cmp}
 use Rattle.world_core.specs.declared.cell.Cell.{Cell}
 use Rattle.world_core.specs.Shows.{CellShows, Shows}
 use Rattle.world_core.specs.declared.world.World.{World}

@@ -6,7 +6,7 @@ use Rattle.image_depot.specs.Key.{Shelves}
 use Rattle.forest_tree.specs.Tree.{Path, subtree}
 use Rattle.forest_history.specs.World.{is_ready}
 use Rattle.forest_model.specs.Paged.{paged_machines}
-use Rattle.run_report.specs.NameOrder.{path_cmp}
+use Rattle.machine_names.specs.NameOrder.{path_cmp}
 use Rattle.world_core.specs.declared.cell.Cell.{Cell}
 use Rattle.world_core.specs.Shows.{Shows}
 use Rattle.world_core.specs.declared.world.World.{World}

@@ -19,9 +19,9 @@ use Rattle.forest_history.specs.World.{is_asleep_at}
 use Rattle.forest_model.specs.Forest.{machines}
 use Rattle.forest_model.specs.Paged.{Paged, paged_machines}
 use Rattle.image_depot.specs.Key.{Key}
-use Rattle.run_report.specs.Name.{child_path}
-use Rattle.run_report.specs.NameOrder.{path_cmp}
-use Rattle.run_report.proofs.NameMaps.{updated-here, updated-apart}
+use Rattle.machine_names.specs.Name.{child_path}
+use Rattle.machine_names.specs.NameOrder.{path_cmp}
+use Rattle.machine_names.proofs.NameMaps.{updated-here, updated-apart}
 use Rattle.vm_descriptor.specs.declared.descriptor.Descriptor.{Descriptor}
 use Rattle.world_core.specs.declared.cell.Cell.{Cell}
 use Rattle.world_core.specs.declared.cell.Slot.{Slot}
@@ -31,7 +31,7 @@ use Rattle.world_core.specs.Popped.{ShowsCells, sleeps, is_listed_in}
 use Rattle.world_core.specs.Lent.{Lent, now_of}
 use Rattle.world_core.specs.Answers.{IsLentOf}
 use Rattle.world_core.proofs.Awake.{child-below, slotted}
-use Rattle.run_report.proofs.Below.{beyond-append, beyond-is}
+use Rattle.machine_names.proofs.Below.{beyond-append, beyond-is}
 use Rattle.world_core.proofs.Changes.{child_by, is_one, outside, beyond-parent}
 use Rattle.world_core.proofs.Returns.{apart-below, same-or-apart, written-here, written-apart, some-is}
 use Rattle.world_core.proofs.Sleepers.{wakes, sleeps-by, wakes-is, wakes-slot, none-sleeps, cell-shows}

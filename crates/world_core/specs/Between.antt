@@ -10,7 +10,7 @@ use Rattle.forest_history.specs.Places.{at_path, Spot}
 use Rattle.forest_history.specs.World.{is_ready, is_out_at}
 use Rattle.forest_model.specs.Paged.{Paged, paged_machines}
 use Rattle.std.specs.Option.{IfSome}
-use Rattle.run_report.specs.NameOrder.{path_cmp}
+use Rattle.machine_names.specs.NameOrder.{path_cmp}
 use Rattle.run_report.specs.Lines.{lines}
 use Rattle.run_report.specs.Report.{Ended, lines_of}
 use Rattle.world_core.specs.declared.cell.Cell.{Cell}

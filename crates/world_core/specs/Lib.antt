@@ -12,3 +12,4 @@ pub mod Between
 pub mod Popped
 pub mod Received
 pub mod Told
+pub mod Images

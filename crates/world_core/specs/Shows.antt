@@ -18,7 +18,7 @@ use Rattle.vm_descriptor.specs.declared.descriptor.TheConstants.{MAX_CLONES}
 use Rattle.vm_cell.specs.Keyed.{IsOfDepot, paged}
 use Rattle.vm_cell.specs.Woken.{IsOfImage, woken_machine, woken_pages}
 use Rattle.run_report.specs.Lines.{Told, lines, log_lines}
-use Rattle.run_report.specs.Name.{child_path}
+use Rattle.machine_names.specs.Name.{child_path}
 use Rattle.run_report.specs.Report.{lines_of, told}
 use Rattle.vm_cell.specs.declared.vm.fork.Brood.{Brood as Young}
 use Rattle.world_core.specs.declared.cell.Brood.{Brood}

@@ -1,7 +1,7 @@
--- Machines that are ready, in the order in which they are taken.
+-- Machines that are ready.
 use Rattle.std.specs.Prelude.{◌≡◌, ℕ, ◌≤◌, ◌⊎◌, List, [], ◌∷◌, Option, Some, None}
 use Rattle.forest_tree.specs.Tree.{Path}
-use Rattle.run_report.specs.Name.{child_path}
+use Rattle.machine_names.specs.Name.{child_path}
 
 -- the machine of that name, or the children of one of its tickets, from one on
 pub record Waiting : Type 0 where
@@ -25,3 +25,8 @@ Covers path w = CoversBy path w.name w.children
 unfoldable pub IsCovered : Path → List Waiting → Type 0
 IsCovered path [] = ⊥
 IsCovered path (w ∷ rest) = Covers path w ⊎ IsCovered path rest
+
+-- what was among them is still
+pub record Keeps (old new : List Waiting) : Type 0 where
+  pub listed : (path : Path) → IsListed path old → IsListed path new
+  pub covered : (path : Path) → IsCovered path old → IsCovered path new

@@ -9,11 +9,12 @@ ghost use Rattle.forest_history.specs.World.{is_asleep_at, lives_ready, lives_at
 ghost use Rattle.forest_model.specs.Calls.{after_join, after_kill, forked};
 ghost use Rattle.forest_model.specs.Paged.{Paged, paged_machines};
 ghost use Rattle.run_report.specs.Lines.{lines};
-ghost use Rattle.run_report.specs.Name.{child_path};
+ghost use Rattle.machine_names.specs.Name.{child_path};
 ghost use Rattle.run_report.specs.Report.{lines_of};
 ghost use Rattle.vm_cell.specs.Keyed.{IsOfDepot, paged};
 ghost use Rattle.vm_cell.specs.Standing.{IsClone, IsJoin, IsKill, standing_call};
 ghost use Rattle.vm_descriptor.specs.declared.descriptor.TheConstants.{MAX_CLONES};
+ghost use Rattle.world_core.specs.Images.{HasImages, Images, IsImageAt};
 ghost use Rattle.world_core.specs.Turns.{turn_of, turns_from};
 ghost use Rattle.world_core.specs.Unparked.{unparked, is_parked_for, kept_turn};
 ghost use Rattle.world_core.specs.Shows.{CellShows, Holds, HoldsAfter, IsAwake, IsLeft, IsNotAsleep, StandsAt, Tallies, child_of, is_asleep_slot, slot_at, ended_tree, forest, forked_tree, joined_tree, killed_tree, told_spot, with_child};
@@ -22,7 +23,8 @@ use crate::turns::Turn;
 use forest_model::Ending;
 use fork_port::Call;
 use image_depot::Depot;
-use run_report::{Line, Name, Outcome};
+use machine_names::Name;
+use run_report::{Line, Outcome};
 use std::alloc::{AllocError, Global};
 use std::collections::BTreeMap;
 use std::mem;
@@ -84,6 +86,7 @@ impl Cell {
     pub(crate) fn of_lent(alloc: Global, vm: &Vm) -> Cell
         ensures shows { (depot : Shelves) (path : Path) → vm.now.machine.ending ≡ None → ((ticket : ℕ) → is_cloned paged_machines (paged vm.now) ticket ≡ false)
             → CellShows depot path result (alone forest (record { machine = paged vm.now; place = out })) }
+        ensures images { (images : Images) (path : Path) → IsImageAt images path vm.now.key → HasImages images path result }
         ensures listed { result.is_listed ≡ false }
     {
         Cell {
@@ -98,6 +101,7 @@ impl Cell {
     pub(crate) fn of_root(alloc: Global, vm: Box<Vm>) -> Cell
         ensures shows { (depot : Shelves) (path : Path) → vm.value.machine.ending ≡ None → IsOfDepot depot vm.value.key → ((ticket : ℕ) → is_cloned paged_machines (paged vm.value) ticket ≡ false)
             → CellShows depot path result (alone forest (record { machine = paged vm.value; place = home })) }
+        ensures images { (images : Images) (path : Path) → IsImageAt images path vm.value.key → HasImages images path result }
         ensures listed { result.is_listed ≡ true }
     {
         Cell {
@@ -124,6 +128,8 @@ impl Cell {
         ensures shows { (depot : Shelves) (path : Path) (t : Tree (Spot Paged)) → CellShows depot path self.old t
             → MatchOption result ((lives_ready paged_machines t ≡ false) × (self.new ≡ self.old))
             (λ vm. (lives_ready paged_machines t ≡ true) × (paged vm.value ≡ (machine t).machine) × IsOfDepot depot vm.value.key × CellShows depot path self.new (placed out t)) }
+        ensures images { (images : Images) (path : Path) → HasImages images path self.old
+            → HasImages images path self.new × IfSome result (λ vm. IsImageAt images path vm.value.key) }
         ensures place { self.new.is_listed ≡ self.old.is_listed }
     {
         if let State::Home(vm) = &self.state {
@@ -141,6 +147,8 @@ impl Cell {
         ensures shows { (depot : Shelves) (path : Path) (t : Tree (Spot Paged)) → CellShows depot path self.old t
             → MatchOption result ((lives_at_home paged_machines t ≡ false) × (self.new ≡ self.old))
             (λ vm. (lives_at_home paged_machines t ≡ true) × (paged vm.value ≡ (machine t).machine) × IsOfDepot depot vm.value.key × CellShows depot path self.new (placed out t)) }
+        ensures images { (images : Images) (path : Path) → HasImages images path self.old
+            → HasImages images path self.new × IfSome result (λ vm. IsImageAt images path vm.value.key) }
         ensures place { self.new.is_listed ≡ self.old.is_listed }
     {
         if let State::Parked(_, vm, _) = &self.state {
@@ -163,9 +171,11 @@ impl Cell {
     ) -> Result<Vm, AllocError>
         requires { (path : Path) × (t a : Tree (Spot Paged)) × Holds depot.now path self.now t × (child_of ticket index t ≡ Some a) × (is_asleep_at (machine a).place ≡ true)
             × (has_ended forest a ≡ false) }
-        ensures { (path : Path) (t a : Tree (Spot Paged)) → Holds depot.now path self.now t → child_of ticket index t ≡ Some a
+        ensures shows { (path : Path) (t a : Tree (Spot Paged)) → Holds depot.now path self.now t → child_of ticket index t ≡ Some a
             → is_asleep_at (machine a).place ≡ true → has_ended forest a ≡ false
             → IfOk result (λ vm. (paged vm ≡ (machine a).machine) × IsOfDepot depot.now vm.key) }
+        ensures images { (images : Images) (path : Path) → HasImages images path self.now
+            → IfOk result (λ vm. IsImageAt images (child_path path ticket index) vm.key) }
     {
         let Some(brood) = self.broods.get(&ticket) else {
             unreachable!();
@@ -184,6 +194,7 @@ impl Cell {
         ensures shows { (depot : Shelves) (path : Path) (t a : Tree (Spot Paged)) → CellShows depot path self.old t → child_of ticket index t ≡ Some a
             → is_asleep_at (machine a).place ≡ true → has_ended forest a ≡ false
             → CellShows depot path self.new (with_child ticket index (placed out a) t) }
+        ensures images { (images : Images) (path : Path) → HasImages images path self.old → HasImages images path self.new }
         ensures place { self.new.is_listed ≡ self.old.is_listed }
     {
         let Some(brood) = self.broods.get_mut(&ticket) else {
@@ -204,6 +215,7 @@ impl Cell {
         ensures shows { (depot : Shelves) (path : Path) (t a b : Tree (Spot Paged)) → CellShows depot path self.old t
             → child_of ticket index t ≡ Some a → IsAwake a → (told_spot.ending (machine b) ≡ Some outcome.ending)
             → (lines_of outcome ≡ lines told_spot (child_path path ticket index) b) → CellShows depot path self.new (with_child ticket index b t) }
+        ensures images { (images : Images) (path : Path) → HasImages images path self.old → HasImages images path self.new }
         ensures turn { (depot : Shelves) (path : Path) (t : Tree (Spot Paged)) → CellShows depot path self.old t
             → IfSome result (λ turn. (turns_from turn.value ≡ turn_of turn.value ∷ []) × (turn_of turn.value ≡ record { name = path; children = None })) }
         ensures listed { MatchOption result (self.new.is_listed ≡ self.old.is_listed) (λ turn. self.new.is_listed ≡ true) }

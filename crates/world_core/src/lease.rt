@@ -19,7 +19,7 @@ use crate::turns::Turn;
 use forest_model::Ending;
 use fork_port::Call;
 use image_depot::{Depot, ImageKey, Parcel};
-use run_report::Name;
+use machine_names::Name;
 use std::alloc::{AllocError, Global};
 use std::marker::Model;
 use std::snapshot::Snapshot;

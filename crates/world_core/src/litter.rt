@@ -11,7 +11,7 @@ use crate::lease::Lease;
 use crate::turns::Turn;
 use fork_port::Call;
 use image_depot::Depot;
-use run_report::Name;
+use machine_names::Name;
 use std::alloc::{AllocError, Global};
 use std::marker::Model;
 use std::sync::Wait;

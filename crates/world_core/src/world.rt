@@ -10,10 +10,11 @@ ghost use Rattle.forest_history.specs.Rows.{gave, ended, halted, does};
 ghost use Rattle.forest_model.specs.Forest.{machines, port_of};
 ghost use Rattle.forest_model.specs.Paged.{Paged, paged_machines};
 ghost use Rattle.run_report.specs.Lines.{lines};
-ghost use Rattle.run_report.specs.Name.{child_path};
-ghost use Rattle.run_report.specs.NameOrder.{path_cmp};
+ghost use Rattle.machine_names.specs.Name.{child_path};
+ghost use Rattle.machine_names.specs.NameOrder.{path_cmp};
 ghost use Rattle.run_report.specs.Report.{lines_of};
 ghost use Rattle.vm_cell.specs.Keyed.{IsOfDepot, paged};
+ghost use Rattle.world_core.specs.Images.{AreOfImages, HasImages, Images, IsImageAt, IsLentAt};
 ghost use Rattle.world_core.specs.Lent.{vm_of};
 ghost use Rattle.world_core.specs.Told.{told_of};
 ghost use Rattle.world_core.specs.Turns.{turns_from, turn_of};
@@ -28,7 +29,8 @@ use crate::reason::Reason;
 use crate::turns::{Turn, Turns};
 use forest_model::Ending;
 use image_depot::{Depot, Sent};
-use run_report::{Name, Outcome};
+use machine_names::Name;
+use run_report::Outcome;
 use std::alloc::{AllocError, Global};
 use std::collections::BTreeMap;
 use vm_cell::Vm;
@@ -96,6 +98,7 @@ impl World {
         requires every_page { vm.key ≡ None }
         ensures stands { IfOk result (λ world. StandsFor depot.now world (world_of paged_machines (paged vm))) }
         ensures told { IfOk result (λ world. told_of world ≡ []) }
+        ensures images { IfOk result (λ world. (images : Images) → AreOfImages images world) }
     {
         let _ = depot;
         match vm.ended() {
@@ -111,6 +114,7 @@ impl World {
         requires good { machines.is_good vm.machine ≡ true }
         ensures stands { IfOk result (λ world. (depot : Shelves) → StandsFor depot world (world_of paged_machines (paged vm))) }
         ensures told { IfOk result (λ world. told_of world ≡ []) }
+        ensures images { IfOk result (λ world. (images : Images) → AreOfImages images world) }
     {
         let steps = vm.steps();
         let output = vm.into_output();
@@ -134,6 +138,7 @@ impl World {
         requires good { machines.is_good vm.machine ≡ true }
         ensures stands { IfOk result (λ world. (depot : Shelves) → StandsFor depot world (world_of paged_machines (paged vm))) }
         ensures told { IfOk result (λ world. told_of world ≡ []) }
+        ensures images { IfOk result (λ world. (images : Images) → AreOfImages images world) }
     {
         let vm = Box::new(alloc, vm)?;
         let (name, turn) = Turn::root(alloc)?;
@@ -157,6 +162,7 @@ impl World {
         ensures answers { (depot : Shelves) (f : Forest) → StandsFor depot self.old f → IsHandedOut f lease → IsLentOf depot lease
             → Answers depot f (home_by lease.now.ending) lease result self.new }
         ensures told { told_of self.new ≡ told_of self.old }
+        ensures images { (images : Images) → AreOfImages images self.old → IsLentAt images lease → AreOfImages images self.new }
     {
         if lease.ended().is_some() {
             return self.end(lease);
@@ -177,6 +183,7 @@ impl World {
         ensures answers { (depot : Shelves) (f : Forest) → StandsFor depot self.old f → IsHandedOut f lease → IsLentOf depot lease
             → Answers depot f ended lease result self.new }
         ensures told { told_of self.new ≡ told_of self.old }
+        ensures images { (images : Images) → AreOfImages images self.old → IsLentAt images lease → AreOfImages images self.new }
     {
         let Lease {
             turn,
@@ -195,6 +202,7 @@ impl World {
         ensures stands { (depot : Shelves) (f : Forest) → StandsFor depot self.old f
             → StandsFor depot self.new (does paged_machines (halted reason) f) }
         ensures told { told_of self.new ≡ told_of self.old }
+        ensures images { (images : Images) → AreOfImages images self.old → AreOfImages images self.new }
     {
         if self.halted.is_none() {
             self.halted = Some(reason);
@@ -266,6 +274,7 @@ impl World {
             → IsSound forest (with_tree (turn_of turn.value).name (placed home a) f).tree
             → (result ≡ Placed.Done) × StandsFor depot self.new (with_tree (turn_of turn.value).name (placed home a) f) }
         ensures told { told_of self.new ≡ told_of self.old }
+        ensures images { (images : Images) → AreOfImages images self.old → IsImageAt images (turn_of turn.value).name vm.value.key → AreOfImages images self.new }
     {
         let Some(cell) = self.cells.get_mut(&turn.name) else {
             return Placed::Dropped;
@@ -291,6 +300,7 @@ impl World {
             → IsSound forest (with_tree (turn_of turn.value).name (placed home (ended_tree a)) f).tree
             → (result ≡ Placed.Done) × StandsFor depot self.new (with_tree (turn_of turn.value).name (placed home (ended_tree a)) f) }
         ensures told { told_of self.new ≡ told_of self.old }
+        ensures images { (images : Images) → AreOfImages images self.old → AreOfImages images self.new }
     {
         let mut name = Box::into_inner(turn).into_name();
         let Some((key, cell)) = take_out(&mut self.cells, &name) else {
@@ -312,6 +322,7 @@ impl World {
             → HasLeft (child_path parent.now ticket index) b outcome → IsSound forest (with_tree (child_path parent.now ticket index) b f).tree
             → StandsFor depot self.new (with_tree (child_path parent.now ticket index) b f) }
         ensures told { told_of self.new ≡ told_of self.old }
+        ensures images { (images : Images) → AreOfImages images self.old → AreOfImages images self.new }
     {
         let Some(cell) = self.cells.get_mut(parent) else {
             unreachable!();

@@ -4,18 +4,19 @@ ghost use Rattle.std.specs.Prelude.{◌≡◌, ◌≤◌, ◌==◌, if◌then◌
 ghost use Rattle.image_depot.specs.Key.{IsKeyOf, image_of};
 ghost use Rattle.forest_model.specs.Calls.{after_join, after_kill, forked};
 ghost use Rattle.forest_model.specs.Forest.{machines};
-ghost use Rattle.vm_cell.specs.Keyed.{IsOfDepot};
+ghost use Rattle.vm_hart.specs.Keyed.{IsOfDepot};
 ghost use Rattle.vm_cell.specs.Standing.{IsAsked, IsClone, IsJoin, IsKill, standing_call};
-ghost use Rattle.vm_cell.specs.Woken.{AreSeeds, IsOfImage, image_left, woken};
+ghost use Rattle.vm_hart.specs.Seeds.{IsOfImage, image_left};
+ghost use Rattle.vm_cell.specs.Woken.{AreSeeds, woken};
 
 use super::{Vm, count_step};
-use crate::hart::Hart;
 use forest_model::Ending;
 use fork_port::Call;
 use image_depot::{Depot, ImageKey};
 use std::alloc::{AllocError, Global};
 use std::sync::Wait;
 use vm_descriptor::{Descriptor, MAX_CLONES, Seed};
+use vm_hart::Hart;
 
 /// What a machine leaves for its children, when it makes a CLONE.
 #[derive(Drop)]

@@ -17,13 +17,15 @@ ghost use Rattle.vm_cell.specs.Keyed.{paged};
 ghost use Rattle.vm_cell.specs.Standing.{standing_call};
 ghost use Rattle.vm_cell.specs.declared.vm.fork.Brood.{Brood as Young};
 ghost use Rattle.world_core.specs.Broods.{killed_line};
+ghost use Rattle.world_core.specs.Images.{HasImages, Images, IsBroodAt};
 ghost use Rattle.world_core.specs.Litter.{IsNewBrood};
 ghost use Rattle.world_core.specs.Shows.{Holds, HoldsAfter, StandsAt, Tallies, ended_tree, forest, forked_tree, joined_tree, killed_tree, told_spot};
 
 use crate::cell::{Brood, Cell};
 use forest_model::Ending;
 use fork_port::Call;
-use run_report::{Line, Name, Outcome};
+use machine_names::Name;
+use run_report::{Line, Outcome};
 use std::alloc::{AllocError, Global};
 use std::collections::BTreeMap;
 use vm_cell::Vm;
@@ -37,6 +39,7 @@ impl Cell {
         ensures holds { OnOk result ((depot : Shelves) (path : Path) (left : Young) → IsNewBrood depot path vm.old ticket brood left
             → (t : Tree (Spot Paged)) → Holds depot path self.old t → StandsAt (paged vm.old) (clone ticket) t → HoldsAfter depot path self.new (forked_tree ticket t)) }
         ensures still { OnErr result ((depot : Shelves) (path : Path) (t : Tree (Spot Paged)) → Holds depot path self.old t → Holds depot path self.new t) }
+        ensures images { (images : Images) (path : Path) → HasImages images path self.old → IsBroodAt images path ticket brood → HasImages images path self.new }
         ensures place { (self.new.state ≡ self.old.state) × (self.new.is_listed ≡ self.old.is_listed) }
     {
         self.log.reserve(self.broods.len() + 1)?;
@@ -57,6 +60,7 @@ impl Cell {
         ensures err { OnErr result (vm.new ≡ vm.old) }
         ensures key { vm.new.key ≡ vm.old.key }
         ensures still { (t : Tree (Spot Paged)) (depot : Shelves) (path : Path) → Holds depot path self.old t → OnErr result (Holds depot path self.new t) }
+        ensures images { (images : Images) (path : Path) → HasImages images path self.old → HasImages images path self.new }
         ensures place { (self.new.state ≡ self.old.state) × (self.new.is_listed ≡ self.old.is_listed) }
     {
         let Some(brood) = self.broods.get(&ticket) else {
@@ -80,6 +84,7 @@ impl Cell {
         ensures vm { vm.new ≡ record vm.old { machine = after_kill vm.old.machine } }
         ensures after { (t : Tree (Spot Paged)) (depot : Shelves) (path : Path) → Holds depot path self.old t → StandsAt (paged vm.old) (kill ticket) t
             → HoldsAfter depot path self.new (killed_tree ticket t) }
+        ensures images { (images : Images) (path : Path) → HasImages images path self.old → HasImages images path self.new }
         ensures place { (self.new.state ≡ self.old.state) × (self.new.is_listed ≡ self.old.is_listed) }
     {
         vm.killed();

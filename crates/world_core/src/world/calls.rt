@@ -1,4 +1,4 @@
-ghost use Rattle.std.specs.Prelude.{◌≡◌, [], ◌∷◌, None, IfOk, if◌then◌else◌};
+ghost use Rattle.std.specs.Prelude.{◌≡◌, ℕ, [], ◌∷◌, None, Some, IfOk, if◌then◌else◌};
 ghost use Rattle.std.specs.BTreeMap.{get};
 ghost use Rattle.image_depot.specs.Key.{Shelves};
 ghost use Rattle.forest_tree.specs.Sound.{IsSound};
@@ -6,40 +6,45 @@ ghost use Rattle.forest_tree.specs.Tree.{Path, Tree, beyond, machine};
 ghost use Rattle.forest_history.specs.Places.{Spot, home, placed};
 ghost use Rattle.forest_history.specs.Rows.{forked, joined, killed};
 ghost use Rattle.forest_model.specs.Paged.{Paged};
-ghost use Rattle.run_report.specs.Name.{begins_with};
-ghost use Rattle.run_report.specs.NameOrder.{path_cmp};
+ghost use Rattle.machine_names.specs.Name.{begins_with};
+ghost use Rattle.machine_names.specs.NameOrder.{path_cmp};
 ghost use Rattle.vm_cell.specs.Keyed.{IsOfDepot, paged};
 ghost use Rattle.vm_cell.specs.Standing.{IsClone, IsKill, standing_call};
 ghost use Rattle.world_core.specs.Between.{IsBetween, settled_tree, with_tree};
+ghost use Rattle.world_core.specs.Images.{AreOfImages, Images, IsImageAt, IsLentAt, IsUnbornAt};
 ghost use Rattle.world_core.specs.Lent.{vm_of};
 ghost use Rattle.world_core.specs.Litter.{IsLitterIn, IsLitterOf};
 ghost use Rattle.world_core.specs.Shows.{forest};
 ghost use Rattle.world_core.specs.Told.{told_of};
 ghost use Rattle.world_core.specs.Turns.{turn_of, turns_from};
+ghost use Rattle.world_core.specs.Waiting.{Keeps};
 ghost use Rattle.world_core.specs.World.{Forest, StandsFor};
 ghost use Rattle.world_core.specs.Answers.{Answers, HandedOut, HandedOutIn, IsHandedOut, IsJoinCall, IsLentOf};
 
 use crate::cell::{Cell, State};
 use crate::lease::Lease;
 use crate::litter::Litter;
-use crate::turns::Turn;
+use crate::turns::{Turn, Turns};
 use crate::world::{Placed, World};
 use fork_port::Call;
 use image_depot::Depot;
-use run_report::Name;
+use machine_names::Name;
 use std::alloc::{AllocError, Global};
 use std::collections::BTreeMap;
 use std::sync::Wait;
 use vm_cell::Vm;
 
 impl World {
-    /// Makes the CLONE at which a machine stands. Its children are ready then.
+    /// Makes the CLONE at which a machine stands. Its children are ready then, behind all others.
     pub fn fork<R: Wait>(&mut self, rt: &R, alloc: Global, lease: Lease, depot: &Depot) -> Placed
         requires lent { HandedOutIn depot.now self.old lease }
         requires clone { IsClone (standing_call (vm_of lease)) }
         ensures answers { (f : Forest) → StandsFor depot.now self.old f → IsHandedOut f lease → IsLentOf depot.now lease
             → Answers depot.now f forked lease result self.new }
         ensures told { told_of self.new ≡ told_of self.old }
+        // The children have one image, of a number that no brood before told.
+        ensures images { (number : ℕ) × ((images : Images) (ticket : ℕ) → standing_call (vm_of lease) ≡ Some (Call.Clone ticket) → images lease.name ticket ≡ number
+            → AreOfImages images self.old → IsLentAt images lease → AreOfImages images self.new) }
     {
         // Nothing is kept in the depot for a name that is gone.
         if !self.cells.contains_key(lease.name()) {
@@ -59,6 +64,7 @@ impl World {
         ensures answers { (depot : Shelves) (f : Forest) → StandsFor depot self.old f → IsHandedOut f lease → IsLentOf depot lease
             → IfOk litter (IsLitterIn depot) → Answers depot f forked lease result self.new }
         ensures told { told_of self.new ≡ told_of self.old }
+        ensures images { (images : Images) → AreOfImages images self.old → IsLentAt images lease → IfOk litter (IsUnbornAt images) → AreOfImages images self.new }
     {
         let Some(cell) = self.cells.get_mut(lease.name()) else {
             lease.discard();
@@ -82,17 +88,19 @@ impl World {
                 start,
             });
         }
-        self.ready.push(children);
+        self.ready.push_last(children);
         self.place(turn, vm)
     }
 
-    /// Makes the JOIN at which a machine stands, or parks the machine where a child of the ticket lives.
+    /// Makes the JOIN at which a machine stands, or parks the machine where a child of the ticket lives. Its children are
+    /// the next that are taken then.
     pub fn join(&mut self, alloc: Global, lease: Lease) -> Placed
         requires lent { HandedOut self.old lease }
         requires join { IsJoinCall (standing_call (vm_of lease)) }
         ensures answers { (depot : Shelves) (f : Forest) → StandsFor depot self.old f → IsHandedOut f lease → IsLentOf depot lease
             → Answers depot f joined lease result self.new }
         ensures told { told_of self.new ≡ told_of self.old }
+        ensures images { (images : Images) → AreOfImages images self.old → IsLentAt images lease → AreOfImages images self.new }
     {
         let Some(Call::Join(ticket)) = lease.call() else {
             unreachable!();
@@ -108,6 +116,7 @@ impl World {
             start,
         } = lease;
         if cell.waits(ticket) {
+            raise_asleep(&mut self.ready, cell, &turn.name, ticket);
             cell.state = State::Parked(ticket, vm, turn);
             return Placed::Parked;
         }
@@ -130,6 +139,7 @@ impl World {
         ensures answers { (depot : Shelves) (f : Forest) → StandsFor depot self.old f → IsHandedOut f lease → IsLentOf depot lease
             → Answers depot f killed lease result self.new }
         ensures told { told_of self.new ≡ told_of self.old }
+        ensures images { (images : Images) → AreOfImages images self.old → IsLentAt images lease → AreOfImages images self.new }
     {
         let Some(Call::Kill(ticket)) = lease.call() else {
             unreachable!();
@@ -160,11 +170,24 @@ impl World {
             → IsSound forest (with_tree (turn_of turn.value).name (placed home (settled_tree a)) f).tree
             → (result ≡ Placed.Done) × StandsFor depot self.new (with_tree (turn_of turn.value).name (placed home (settled_tree a)) f) }
         ensures told { told_of self.new ≡ told_of self.old }
+        ensures images { (images : Images) → AreOfImages images self.old → IsImageAt images (turn_of turn.value).name vm.value.key → AreOfImages images self.new }
     {
         match vm.ended() {
             Some(ending) => self.finish(turn, vm, ending),
             None => self.home(turn, vm),
         }
+    }
+}
+
+/// Lets the children of a ticket be next, as far as they are still descriptors.
+fn raise_asleep(ready: &mut Turns, cell: &Cell, name: &Name, ticket: u32)
+    ensures { Keeps ready.old ready.new }
+{
+    let Some(brood) = cell.broods.get(&ticket) else {
+        return;
+    };
+    if brood.young.is_some() {
+        ready.raise(name, ticket);
     }
 }
 

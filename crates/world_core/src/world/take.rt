@@ -4,9 +4,10 @@ ghost use Rattle.image_depot.specs.Key.{Shelves};
 ghost use Rattle.forest_tree.specs.Tree.{Tree, Path, machine, subtree};
 ghost use Rattle.forest_history.specs.Places.{Spot, at_path, out, placed};
 ghost use Rattle.forest_model.specs.Paged.{Paged};
+ghost use Rattle.world_core.specs.Images.{AreOfImages, AreTakenAt, HaveImages, Images, IsLentAt, IsTakenAt};
 ghost use Rattle.world_core.specs.Lent.{now_of};
-ghost use Rattle.run_report.specs.Name.{child_path};
-ghost use Rattle.run_report.specs.NameOrder.{path_cmp};
+ghost use Rattle.machine_names.specs.Name.{child_path};
+ghost use Rattle.machine_names.specs.NameOrder.{path_cmp};
 ghost use Rattle.world_core.specs.Told.{told_of};
 ghost use Rattle.world_core.specs.Turns.{turn_of, turns_from};
 ghost use Rattle.world_core.specs.World.{Forest, StandsFor, IsWorld};
@@ -18,16 +19,18 @@ use crate::lease::Lease;
 use crate::turns::Turn;
 use crate::world::{Taken, World, seat};
 use image_depot::Depot;
-use run_report::Name;
+use machine_names::Name;
 use std::alloc::{AllocError, Global};
 use vm_cell::Vm;
 
 impl World {
-    /// Hands out a machine that is ready. Memory is wanted only where it is still a descriptor.
+    /// Hands out a machine that is ready: first one that came back and may run on, then a child for which a machine waits, then
+    /// a child of the oldest ticket. Memory is wanted only where it is still a descriptor.
     pub fn take(&mut self, alloc: Global, depot: &Depot) -> Taken
         requires { IsWorld depot.now self.old }
         ensures takes { (f : Forest) → StandsFor depot.now self.old f → Takes depot.now f result self.new }
         ensures told { told_of self.new ≡ told_of self.old }
+        ensures images { (images : Images) → AreOfImages images self.old → AreOfImages images self.new × IsTakenAt images result }
     {
         if self.outcome.is_some() {
             return Taken::Over;
@@ -53,6 +56,7 @@ impl World {
         ensures going { (self.new.outcome ≡ None) × (self.new.halted ≡ None) }
         ensures turns { IfNone result (self.new.ready ≡ self.old.ready) }
         ensures told { told_of self.new ≡ told_of self.old }
+        ensures images { (images : Images) → AreOfImages images self.old → AreOfImages images self.new × AreTakenAt images result }
     {
         match turn.children {
             None => self.take_awake(turn),
@@ -70,6 +74,7 @@ impl World {
         ensures going { (self.new.outcome ≡ None) × (self.new.halted ≡ None) }
         ensures turns { self.new.ready ≡ self.old.ready }
         ensures told { told_of self.new ≡ told_of self.old }
+        ensures images { (images : Images) → AreOfImages images self.old → AreOfImages images self.new × AreTakenAt images result }
     {
         let cell = self.cells.get_mut(&turn.name)?;
         cell.is_listed = false;
@@ -95,6 +100,7 @@ impl World {
         ensures going { (self.new.outcome ≡ None) × (self.new.halted ≡ None) }
         ensures turns { IfNone result (self.new.ready ≡ self.old.ready) }
         ensures told { told_of self.new ≡ told_of self.old }
+        ensures images { (images : Images) → AreOfImages images self.old → AreOfImages images self.new × AreTakenAt images result }
     {
         let index = self.asleep_from(&turn.name, ticket, first)?;
         let woken = self.wake(alloc, depot, &turn.name, ticket, index);
@@ -117,6 +123,7 @@ impl World {
         requires { IsWorld depot.now self.old }
         ensures takes { (f : Forest) → StandsFor depot.now self.old f → TakesNamed depot.now f name.now result self.new }
         ensures told { told_of self.new ≡ told_of self.old }
+        ensures images { (images : Images) → AreOfImages images self.old → AreOfImages images self.new × IfOk result (λ lease. IfSome lease (IsLentAt images)) }
     {
         if self.outcome.is_some() {
             return Ok(None);
@@ -183,6 +190,7 @@ impl World {
         ensures others { (name : Path) → name ≢ child_path parent.now ticket index → is_some (get path_cmp self.new.cells name) ≡ is_some (get path_cmp self.old.cells name) }
         ensures rest { (self.new.ready ≡ self.old.ready) × (self.new.halted ≡ self.old.halted) × (self.new.outcome ≡ self.old.outcome) }
         ensures told { told_of self.new ≡ told_of self.old }
+        ensures images { (images : Images) → AreOfImages images self.old → AreOfImages images self.new × IfOk result (IsLentAt images) }
     {
         let name = parent.child(alloc, ticket, index)?;
         let turn = Turn::of_machine(alloc, name.copy()?)?;

@@ -5,6 +5,7 @@ ghost use Rattle.std.specs.Option.{ForSome};
 ghost use Rattle.image_depot.specs.Key.{Shelves};
 ghost use Rattle.image_depot.specs.Reply.{IsSentOf};
 ghost use Rattle.world_core.specs.Between.{IsSameWorld};
+ghost use Rattle.world_core.specs.Images.{AreOfImages, Images};
 ghost use Rattle.world_core.specs.Told.{AreKept, told_of};
 ghost use Rattle.world_core.specs.World.{Forest, StandsFor};
 
@@ -19,6 +20,7 @@ impl World {
         ensures err { OnErr result (told_of self.new ≡ told_of self.old) }
         ensures same { IsSameWorld self.old self.new }
         ensures stands { (depot : Shelves) (f : Forest) → StandsFor depot self.old f → StandsFor depot self.new f }
+        ensures images { (images : Images) → AreOfImages images self.old → AreOfImages images self.new }
     {
         let Ok(()) = self.told.push(sent) else {
             return Err(AllocError);

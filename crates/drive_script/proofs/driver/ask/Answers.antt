@@ -92,3 +92,9 @@ returns-in_err-send-clause-reason c =
     let h = c.requires.1 in
     c.give_back.ensures.reason ∙ named-reason c.args.depot.now c.args.world.now c.take_named.new.self h.forest h.stands c.args.name.now c.take_named.result
     (c.take_named.ensures.takes h.forest h.stands)
+
+pub returns-clause-told : goal.returns-clause-told
+returns-clause-told c = c.give_back.ensures.told ∙ c.take_named.ensures.told
+
+pub returns-in_err-send-clause-told : goal.returns-in_err-send-clause-told
+returns-in_err-send-clause-told c = c.give_back.ensures.told ∙ c.take_named.ensures.told

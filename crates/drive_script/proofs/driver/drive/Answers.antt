@@ -10,7 +10,7 @@ use Rattle.drive_script.proofs.driver.drive.Goals as goal
 
 pub lines-init : goal.lines-init
 unfolding told told_text after_script
-lines-init g c = (λ t h. (c.new-text.ensures.bytes, h, c.new-replies.ensures), refl)
+lines-init g c = (λ t h. (c.new-text.ensures.bytes, h, c.new-replies.ensures), refl, refl)
 
 pub answer_line-requires : goal.answer_line-requires
 answer_line-requires g c =
@@ -65,4 +65,5 @@ lines-preserved g c = (
         subst (λ (s : Driven). Keeps c.answer_line.new.replies.lists s.sent) (sym then) keeps,
       ),
   c.answer_line.ensures.reason ∙ c.lines.invariant.1,
+  c.answer_line.ensures.told ∙ c.lines.invariant.2,
 )

@@ -2,6 +2,7 @@ use Rattle.std.proofs.Common.{◌≡◌, take}
 use Rattle.std.specs.Prelude.{string_bytes}
 use Rattle.forest_tree.specs.Tree.{Tree}
 use Rattle.forest_model.specs.Paged.{Paged}
+use Rattle.world_core.specs.Told.{told_of}
 use Rattle.world_core.specs.World.{reason_of}
 use Rattle.drive_script.specs.Driven.{HasMachines, Keeps}
 use Rattle.drive_script.specs.Lines.{lines_read}
@@ -15,3 +16,4 @@ invariant-lines g l =
     × HasMachines l.depot l.world (after_script (take l.line-index (lines_read l.line-items)) (begun t)).tree
     × Keeps l.replies.lists (after_script (take l.line-index (lines_read l.line-items)) (begun t)).sent)
     × (reason_of l.world ≡ reason_of l.initial.world)
+    × (told_of l.world ≡ told_of l.initial.world)

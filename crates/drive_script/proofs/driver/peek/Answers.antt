@@ -65,3 +65,6 @@ give_back-requires c =
           (subst (λ (o : Option Lent). TakesNamed c.args.depot.now h.forest c.args.name.now (Ok o) c.take_named.new.self) c.in-Some.is
           (c.in_ok-lease.ensures.takes h.forest h.stands)),
     )
+
+pub returns-clause-told : goal.returns-clause-told
+returns-clause-told c = c.give_back.ensures.told ∙ c.take_named.ensures.told

@@ -50,6 +50,7 @@ loop-steps-preserved g c =
           stepping-called c.args.depot.now c.args.name.now (begun t) l.made l.world (l.invariant.1 t started) c.args.most l.invariant.0 c.take_turn.new.world
           c.in_ok-steps.field-0 c.in_ok-steps.ensures.turns c.in-Called.steps c.in-Called.is,
       c.take_turn.ensures.reason ∙ l.invariant.2,
+      c.take_turn.ensures.told ∙ l.invariant.3,
     )
 
 pub overflow_add-result : goal.overflow_add-result

@@ -14,7 +14,7 @@ give_back-requires g c =
     let t = c.requires.lent.0 in
     let h = c.requires.lent.1 in
     let kept = call-kept depot c.args.world.now t c.args.lease h c.in-Memory.lease c.try_call.new.world
-    (c.in-Memory.ensures (taken depot c.args.world.now t c.args.lease h) h.stands (lent-handed depot c.args.world.now t c.args.lease h) h.of_depot) in
+    (c.in-Memory.ensures.answers (taken depot c.args.world.now t c.args.lease h) h.stands (lent-handed depot c.args.world.now t c.args.lease h) h.of_depot) in
     (depot, t, subst (HasLent depot c.try_call.new.world t) (sym kept.0) kept.1)
 
 pub unreachable-requires : goal.unreachable-requires
@@ -22,7 +22,7 @@ unreachable-requires g c =
     let depot = c.args.depot.now in
     let t = c.requires.lent.0 in
     let h = c.requires.lent.1 in
-    let answers = c.try_call.ensures (taken depot c.args.world.now t c.args.lease h) h.stands (lent-handed depot c.args.world.now t c.args.lease h) h.of_depot in
+    let answers = c.try_call.ensures.answers (taken depot c.args.world.now t c.args.lease h) h.stands (lent-handed depot c.args.world.now t c.args.lease h) h.of_depot in
     elim c.in-Parked.is [
       | inl parked ↦ call-parked depot c.args.world.now t c.args.lease h c.try_call.new.world
           (subst (λ (p : Placed). AnswersCall depot (taken depot c.args.world.now t c.args.lease h) c.args.lease p c.try_call.new.world) parked answers)
@@ -36,13 +36,13 @@ returns-in-Done-clause-made g c t h =
     let depot = c.args.depot.now in
     let call = is-some (standing_call (vm_of c.args.lease)) c.requires.call in
     call-made depot c.args.world.now t c.args.lease h call.0 call.1 c.try_call.new.world
-    (c.in-Done.ensures (taken depot c.args.world.now t c.args.lease h) h.stands (lent-handed depot c.args.world.now t c.args.lease h) h.of_depot)
+    (c.in-Done.ensures.answers (taken depot c.args.world.now t c.args.lease h) h.stands (lent-handed depot c.args.world.now t c.args.lease h) h.of_depot)
 
 pub returns-in-Memory-clause-made : goal.returns-in-Memory-clause-made
 returns-in-Memory-clause-made g c t h =
     let depot = c.args.depot.now in
     let kept = call-kept depot c.args.world.now t c.args.lease h c.in-Memory.lease c.try_call.new.world
-    (c.in-Memory.ensures (taken depot c.args.world.now t c.args.lease h) h.stands (lent-handed depot c.args.world.now t c.args.lease h) h.of_depot) in
+    (c.in-Memory.ensures.answers (taken depot c.args.world.now t c.args.lease h) h.stands (lent-handed depot c.args.world.now t c.args.lease h) h.of_depot) in
     subst (HasBack depot c.give_back.new.world t) kept.0
     (c.give_back.ensures.back depot t (subst (HasLent depot c.try_call.new.world t) (sym kept.0) kept.1))
 
@@ -52,7 +52,7 @@ returns-in-Done-clause-reason g c =
     let t = c.requires.lent.0 in
     let h = c.requires.lent.1 in
     let f = taken depot c.args.world.now t c.args.lease h in
-    let answers = c.try_call.ensures f h.stands (lent-handed depot c.args.world.now t c.args.lease h) h.of_depot in
+    let answers = c.try_call.ensures.answers f h.stands (lent-handed depot c.args.world.now t c.args.lease h) h.of_depot in
     answered-reason depot c.args.world.now c.try_call.new.world f h.stands answers.0 c.args.lease c.try_call.result answers.2
 
 pub returns-in-Memory-clause-reason : goal.returns-in-Memory-clause-reason
@@ -61,5 +61,8 @@ returns-in-Memory-clause-reason g c =
     let t = c.requires.lent.0 in
     let h = c.requires.lent.1 in
     let f = taken depot c.args.world.now t c.args.lease h in
-    let answers = c.try_call.ensures f h.stands (lent-handed depot c.args.world.now t c.args.lease h) h.of_depot in
+    let answers = c.try_call.ensures.answers f h.stands (lent-handed depot c.args.world.now t c.args.lease h) h.of_depot in
     c.give_back.ensures.reason ∙ answered-reason depot c.args.world.now c.try_call.new.world f h.stands answers.0 c.args.lease c.try_call.result answers.2
+
+pub returns-in-Memory-clause-told : goal.returns-in-Memory-clause-told
+returns-in-Memory-clause-told g c = c.give_back.ensures.told ∙ c.try_call.ensures.told

@@ -57,3 +57,6 @@ run_turn-requires-clause-lent g c =
           (subst (λ (o : Option Lent). TakesNamed c.args.depot.now h.forest c.args.name.now (Ok o) c.take_named.new.self) c.in-Some.is
           (c.in_ok-lease.ensures.takes h.forest h.stands)),
     )
+
+pub returns-in-Some-clause-told : goal.returns-in-Some-clause-told
+returns-in-Some-clause-told g c = c.run_turn.ensures.told ∙ c.take_named.ensures.told

@@ -1,16 +1,16 @@
-use Rattle.std.proofs.Common.{rules, ◌≡◌, ◌+◌, ◌/◌, ◌≤◌, ◌++◌, length, sym, subst, arith}
+use Rattle.std.proofs.Common.{rules, ◌≡◌, ◌+◌, ◌/◌, ◌≤◌, ◌++◌, length, map, sym, subst, arith}
 use denote.Exit.{no}
 use denote.Param.Send.{arg_send, param_send}
 use Rattle.host_workers.specs.Spread.{HaveWorked}
 use Rattle.host_workers.proofs.Crosses.{half_send}
-use Rattle.host_workers.proofs.Shifts.{both-due, both-halves, one-worked}
+use Rattle.host_workers.proofs.Shifts.{both-due, both-halves, both-seeded, one-seeded, one-worked}
 use Rattle.host_workers.proofs.hosts.+halves.Goals as goal
 
 pub work_halves-front-returns : goal.work_halves-front-returns
-work_halves-front-returns g t c = (c.work_all.ensures.worked, c.work_all.ensures.len)
+work_halves-front-returns g t c = (c.work_all.ensures.worked, c.work_all.ensures.len, c.work_all.ensures.seeds)
 
 pub work_halves-back-returns : goal.work_halves-back-returns
-work_halves-back-returns g t c = (c.work_all.ensures.worked, c.work_all.ensures.len)
+work_halves-back-returns g t c = (c.work_all.ensures.worked, c.work_all.ensures.len, c.work_all.ensures.seeds)
 
 pub work_all-work_in-requires-clause-due : goal.work_all-work_in-requires-clause-due
 work_all-work_in-requires-clause-due g t c = c.requires.due 0 c.index-shifts-0.result (omega (arith, c.requires.each, c.requires.some))
@@ -24,7 +24,11 @@ work_all-overflow_add-number g t c = omega (arith, c.requires.few)
 pub work_all-returns-then-wires-eq1-clause-worked : goal.work_all-returns-then-wires-eq1-clause-worked
 work_all-returns-then-wires-eq1-clause-worked g t c =
     one-worked g.W.Wire.streak c.args.wires.now c.work_in.new.wire c.args.shifts.now c.index-shifts-0.result c.work_in.new.shift
-    c.if-wires-eq1.true c.requires.each c.work_in.ensures
+    c.if-wires-eq1.true c.requires.each c.work_in.ensures.worked
+
+pub work_all-returns-then-wires-eq1-clause-seeds : goal.work_all-returns-then-wires-eq1-clause-seeds
+work_all-returns-then-wires-eq1-clause-seeds g t c =
+    one-seeded g.W.Wire.seeds c.args.wires.now c.index-wires-0.result c.work_in.new.wire c.if-wires-eq1.true c.work_in.ensures.seeds
 
 pub work_all-work_halves-requires : goal.work_all-work_halves-requires
 work_all-work_halves-requires g t c κs within =
@@ -78,6 +82,13 @@ work_all-returns-clause-worked g t c =
     subst (λ l. HaveWorked g.W.Wire.streak (run.new.here ++ run.new.there) l (run.new.first ++ run.new.second)) (sym shifts.ensures.value)
     (both-halves g.W.Wire.streak run.new.here run.new.there shifts.result.0.now shifts.result.1.now run.new.first run.new.second
     run.ensures.first.0 run.ensures.second.0)
+
+pub work_all-returns-clause-seeds : goal.work_all-returns-clause-seeds
+work_all-returns-clause-seeds g t c =
+    let run = c.work_halves in
+    let wires = c.split_at_mut-here in
+    subst (λ l. map g.W.Wire.seeds (run.new.here ++ run.new.there) ≡ map g.W.Wire.seeds l) (sym wires.ensures.value)
+    (both-seeded g.W.Wire.seeds run.new.here run.new.there wires.result.0.now wires.result.1.now run.ensures.first.2 run.ensures.second.2)
 
 pub work_halves-join_mut-requires-send-F : goal.work_halves-join_mut-requires-send-F
 work_halves-join_mut-requires-send-F g t c κs within =

@@ -17,4 +17,4 @@ returns g c =
     c.requires.wires.0 c.work_all.ensures.len (λ k count. c.as_mut_slice-shifts.ensures.value ∙ c.deal-dealt.ensures.shifts k count)
     c.work_all.ensures.worked in
     let all = c.gather.ensures c.args.pass run.0 run.1 run.2 in
-    record { worked = all.worked; none = all.none; finish = all.end; done = all.done; wire = all.blames; len = c.work_all.ensures.len }
+    record { worked = all.worked; none = all.none; finish = all.end; done = all.done; wire = all.blames; seeds = c.work_all.ensures.seeds; len = c.work_all.ensures.len }

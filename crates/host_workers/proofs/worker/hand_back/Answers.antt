@@ -1,15 +1,12 @@
-use Rattle.forest_history.specs.Rows.{ended, forked, joined, killed}
+use Rattle.forest_history.specs.Rows.{forked, joined, killed}
 use Rattle.world_core.specs.Answers.{home_by}
 use Rattle.fork_board.specs.Notes.{placed_entry}
 use Rattle.fork_board.proofs.Holding.{holds-placed}
 use Rattle.host_workers.proofs.Working.{lent-here, spares-placed, worked-one}
 use Rattle.host_workers.proofs.worker.hand_back.Goals as goal
 
-pub end-requires-clause-of_depot : goal.end-requires-clause-of_depot
-end-requires-clause-of_depot g c = lent-here c.args.pass c.args.board.now c.args.lease c.requires.board c.requires.one
-
-pub fork-forked-requires-clause-of_depot : goal.fork-forked-requires-clause-of_depot
-fork-forked-requires-clause-of_depot g c = lent-here c.args.pass c.args.board.now c.args.lease c.requires.board c.requires.one
+pub fork-requires-clause-of_depot : goal.fork-requires-clause-of_depot
+fork-requires-clause-of_depot g c = lent-here c.args.pass c.args.board.now c.args.lease c.requires.board c.requires.one
 
 pub join-requires-clause-of_depot : goal.join-requires-clause-of_depot
 join-requires-clause-of_depot g c = lent-here c.args.pass c.args.board.now c.args.lease c.requires.board c.requires.one
@@ -20,25 +17,14 @@ kill-requires-clause-of_depot g c = lent-here c.args.pass c.args.board.now c.arg
 pub give-requires-clause-of_depot : goal.give-requires-clause-of_depot
 give-requires-clause-of_depot g c = lent-here c.args.pass c.args.board.now c.args.lease c.requires.board c.requires.one
 
-pub returns-then-is_some : goal.returns-then-is_some
-returns-then-is_some g c =
-    let lease = c.args.lease in
-    let r = c.end.result in
-    let made = c.end.ensures.makes in
-    record {
-      worked = worked-one c.args.pass r.0 (placed_entry ended lease.name lease.ran r.1) made;
-      holds = holds-placed c.args.pass r.0 lease c.requires.one ended r.1 made c.end.ensures.places;
-      spares = spares-placed c.args.pass r.0 ended lease.name lease.ran r.1 made;
-    }
-
 pub returns-in-Some-Clone : goal.returns-in-Some-Clone
 returns-in-Some-Clone g c =
     let lease = c.args.lease in
-    let r = c.fork-forked.result in
-    let made = c.fork-forked.ensures.makes in
+    let r = c.fork.result in
+    let made = c.fork.ensures.makes in
     record {
       worked = worked-one c.args.pass r.0 (placed_entry forked lease.name lease.ran r.1) made;
-      holds = holds-placed c.args.pass r.0 lease c.requires.one forked r.1 made c.fork-forked.ensures.places;
+      holds = holds-placed c.args.pass r.0 lease c.requires.one forked r.1 made c.fork.ensures.places;
       spares = spares-placed c.args.pass r.0 forked lease.name lease.ran r.1 made;
     }
 

@@ -18,6 +18,7 @@ loop-init g c = record {
   none = c.requires.none;
   heard = subst (λ (es : Replies). All (IsSentOf c.args.depot.now) (values_of es)) (sym c.new-worker.ensures) (All-nil (IsSentOf c.args.depot.now));
   wire = λ by. inr (spares-none c.args.pass by);
+  seeds = refl {a = g.W.Wire.seeds c.args.wire.now};
 }
 
 pub turn-after-requires-clause-board : goal.turn-after-requires-clause-board
@@ -33,6 +34,7 @@ returns-in-Finished g c =
       finish = subst (Turns new) c.in-Finished.is e.turns;
       done = subst (λ t. IfFinished t (IsDone new.number new.seen)) c.in-Finished.is e.done;
       wire = blames-on g.W.Wire.streak c.loop.wire c.turn-after.new.wire c.args.pass c.loop.pass new c.loop.invariant.wire e.worked e.stopped e.wire;
+      seeds = e.seeds ∙ c.loop.invariant.seeds;
     }
 
 pub loop-preserved-in-Idle : goal.loop-preserved-in-Idle
@@ -45,8 +47,9 @@ loop-preserved-in-Idle g c =
       ends = tt;
       worked = inr (worked-then c.args.pass c.loop.pass new was.worked e.worked);
       none = e.none;
-      heard = subst (λ (h : Hearing). AreHeardOf c.args.depot.now h.heard) (sym c.rest.ensures) e.heard;
+      heard = e.heard;
       wire = blames-on g.W.Wire.streak c.loop.wire c.turn-after.new.wire c.args.pass c.loop.pass new was.wire e.worked e.stopped e.wire;
+      seeds = e.seeds ∙ was.seeds;
     }
 
 pub loop-preserved : goal.loop-preserved
@@ -59,6 +62,7 @@ loop-preserved g c =
       ends = tt;
       worked = inr (worked-then c.args.pass c.loop.pass new was.worked e.worked);
       none = e.none;
-      heard = e.heard;
+      heard = subst (λ (h : Hearing). AreHeardOf c.args.depot.now h.heard) (sym c.come_back.ensures) e.heard;
       wire = blames-on g.W.Wire.streak c.loop.wire c.turn-after.new.wire c.args.pass c.loop.pass new was.wire e.worked e.stopped e.wire;
+      seeds = e.seeds ∙ was.seeds;
     }

@@ -12,5 +12,6 @@ invariant-loop g l = record {
   worked : (l.pass ≡ l.initial.pass) ⊎ Worked l.initial.pass l.pass;
   none : HoldsNone l.pass;
   heard : AreHeardOf l.depot l.worker.hearing.heard;
+  seeds : g.W.Wire.seeds l.wire ≡ g.W.Wire.seeds l.initial.wire;
   wire : Blames g.W.Wire.streak l.wire l.initial.pass l.pass;
 }

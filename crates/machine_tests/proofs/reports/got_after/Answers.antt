@@ -1,5 +1,5 @@
 use Rattle.std.proofs.Common.{◌∙◌}
-use Rattle.run_report.proofs.NameMaps.{updated-apart}
+use Rattle.machine_names.proofs.NameMaps.{updated-apart}
 use Rattle.machine_tests.proofs.reports.got_after.Goals as goal
 
 pub returns-clause-apart : goal.returns-clause-apart

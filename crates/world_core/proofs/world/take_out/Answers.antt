@@ -1,7 +1,7 @@
 use Rattle.std.proofs.Common.{rules, ◌≡◌, refl, sym, subst}
 use Rattle.std.specs.List.{filter}
 use Rattle.std.proofs.lemmas.Map.Made.{filter_same_pairs}
-use Rattle.run_report.proofs.NameMaps.{equal-same}
+use Rattle.machine_names.proofs.NameMaps.{equal-same}
 use Rattle.world_core.specs.Between.{TakesOut}
 use Rattle.world_core.proofs.Leaving.{is_kept, taken-all, taken-alone}
 use Rattle.world_core.proofs.world.take_out.Goals as goal

@@ -1,7 +1,7 @@
 use Rattle.std.proofs.Common.{◌≡◌, ℕ, List, ◌∙◌, ap, subst}
 use Rattle.std.specs.Fmt.{HasWritten}
 use Rattle.std.specs.Prelude.{string_bytes}
-use Rattle.run_report.specs.Name.{name_text}
+use Rattle.machine_names.specs.Name.{name_text}
 use Rattle.drive_script.specs.NameTexts.{path_of}
 use Rattle.drive_script.proofs.WrittenNames.{name-spelled}
 use Rattle.drive_script.proofs.name.NameTextDisplay.fmt.Goals as goal

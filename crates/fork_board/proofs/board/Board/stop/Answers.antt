@@ -1,10 +1,9 @@
 use Rattle.std.proofs.Common.{refl}
 use Rattle.forest_history.specs.Rows.{halted}
 use Rattle.forest_history.specs.Histories.{row}
-use Rattle.fork_board.specs.declared.note.Note.{Note}
 use Rattle.fork_board.specs.declared.note.Note.TheVariants as note
 use Rattle.fork_board.specs.Visits.{pass_of}
-use Rattle.fork_board.proofs.Taking.{goes-on, made, stopped-on}
+use Rattle.fork_board.proofs.Taking.{made, stopped-on}
 use Rattle.fork_board.proofs.board.Board.stop.Goals as goal
 
 pub leave-requires-clause-follows : goal.leave-requires-clause-follows

@@ -1,7 +1,5 @@
-use Rattle.std.proofs.Common.{sym, ap, ◌∙◌, subst, ◌++◌, ◌∷◌, []}
-use Rattle.world_core.specs.Answers as core
+use Rattle.std.proofs.Common.{subst}
 use Rattle.world_core.specs.World.{StandsFor}
-use Rattle.fork_board.specs.Follows.{Follows, depot_of}
 use Rattle.fork_board.specs.Visits.{pass_of}
 use Rattle.fork_board.proofs.Taking.{followed, taken}
 use Rattle.fork_board.proofs.board.Board.take.Goals as goal

@@ -1,5 +1,5 @@
-use Rattle.std.proofs.Common.{◌∙◌}
-use Rattle.host_workers.proofs.Working.{heard-on, lent-on, lost-none, same-fetched, same-then, spares-none, spares-stays, stays-more, stays-none}
+use Rattle.std.proofs.Common.{refl, ◌∙◌}
+use Rattle.host_workers.proofs.Working.{lent-on, lost-none, same-fetched, same-then, spares-none, spares-stays, stays-more, stays-none}
 use Rattle.host_workers.proofs.worker.Worker.bring.Goals as goal
 
 pub offer-requires-clause-of_depot : goal.offer-requires-clause-of_depot
@@ -15,6 +15,7 @@ returns-in-Ok-true g c = record {
   spares = spares-none c.args.pass;
   heard = c.requires.heard;
   wire = tt;
+  seeds = refl {a = g.W.Wire.seeds c.args.wire.now};
 }
 
 pub returns-in-Err : goal.returns-in-Err
@@ -24,34 +25,25 @@ returns-in-Err g c = record {
   spares = spares-none c.args.pass;
   heard = c.requires.heard;
   wire = lost-none g.W.Wire.streak c.args.wire.now;
+  seeds = refl {a = g.W.Wire.seeds c.args.wire.now};
 }
 
-pub listen-pass-requires : goal.listen-pass-requires
-listen-pass-requires g c = c.requires.board
+pub hear_and_offer-pass-requires-clause-board : goal.hear_and_offer-pass-requires-clause-board
+hear_and_offer-pass-requires-clause-board g c = c.requires.board
 
-pub returns-then-is_err : goal.returns-then-is_err
-returns-then-is_err g c =
-    let heard = c.listen-pass.ensures in
-    record {
-      same = same-fetched c.args.lease.now c.offer.new.receiver c.offer.ensures.rest;
-      stays = heard.stays;
-      spares = heard.spares;
-      heard = heard-on c.args.board.now c.args.depot.now c.args.self.now.hearing.heard c.listen-pass.new.self.heard c.requires.depot heard.heard c.requires.heard;
-      wire = lost-none g.W.Wire.streak c.args.wire.now;
-    }
+pub hear_and_offer-pass-requires-clause-depot : goal.hear_and_offer-pass-requires-clause-depot
+hear_and_offer-pass-requires-clause-depot g c = c.requires.depot
 
-pub offer-requires-2-clause-of_depot : goal.offer-requires-2-clause-of_depot
-offer-requires-2-clause-of_depot g c =
+pub hear_and_offer-pass-requires-clause-of_depot : goal.hear_and_offer-pass-requires-clause-of_depot
+hear_and_offer-pass-requires-clause-of_depot g c =
     let lease = c.offer.new.receiver in
     lent-on c.args.depot.now c.args.lease.now lease (same-fetched c.args.lease.now lease c.offer.ensures.rest) c.requires.of_depot
 
-pub offer-requires-2-clause-heard : goal.offer-requires-2-clause-heard
-offer-requires-2-clause-heard g c =
-    heard-on c.args.board.now c.args.depot.now c.args.self.now.hearing.heard c.listen-pass.new.self.heard c.requires.depot c.listen-pass.ensures.heard
-    c.requires.heard
+pub hear_and_offer-pass-requires-clause-heard : goal.hear_and_offer-pass-requires-clause-heard
+hear_and_offer-pass-requires-clause-heard g c = c.requires.heard
 
 pub fetch_and_tell-requires-clause-board : goal.fetch_and_tell-requires-clause-board
-fetch_and_tell-requires-clause-board g c = c.listen-pass.ensures.stays.same_board ∙ c.requires.board
+fetch_and_tell-requires-clause-board g c = c.hear_and_offer-pass.ensures.stays.same_board ∙ c.requires.board
 
 pub fetch_and_tell-requires-clause-depot : goal.fetch_and_tell-requires-clause-depot
 fetch_and_tell-requires-clause-depot g c = c.requires.depot
@@ -60,50 +52,50 @@ pub fetch_and_tell-requires-clause-of_depot : goal.fetch_and_tell-requires-claus
 fetch_and_tell-requires-clause-of_depot g c =
     let first = c.args.lease.now in
     let then = c.offer.new.receiver in
-    let last = c.offer-2.new.receiver in
-    lent-on c.args.depot.now first last
-    (same-then first then last (same-fetched first then c.offer.ensures.rest) (same-fetched then last c.offer-2.ensures.rest)) c.requires.of_depot
+    let last = c.hear_and_offer-pass.new.lease in
+    lent-on c.args.depot.now first last (same-then first then last (same-fetched first then c.offer.ensures.rest) c.hear_and_offer-pass.ensures.same)
+    c.requires.of_depot
 
-pub returns-in-Ok-true-offer : goal.returns-in-Ok-true-offer
-returns-in-Ok-true-offer g c =
+pub returns-in-Ok-true-offered : goal.returns-in-Ok-true-offered
+returns-in-Ok-true-offered g c =
     let first = c.args.lease.now in
     let then = c.offer.new.receiver in
-    let last = c.offer-2.new.receiver in
-    let heard = c.listen-pass.ensures in
+    let heard = c.hear_and_offer-pass in
     record {
-      same = same-then first then last (same-fetched first then c.offer.ensures.rest) (same-fetched then last c.offer-2.ensures.rest);
-      stays = heard.stays;
-      spares = heard.spares;
-      heard = heard-on c.args.board.now c.args.depot.now c.args.self.now.hearing.heard c.listen-pass.new.self.heard c.requires.depot heard.heard c.requires.heard;
+      same = same-then first then heard.new.lease (same-fetched first then c.offer.ensures.rest) heard.ensures.same;
+      stays = heard.ensures.stays;
+      spares = heard.ensures.spares;
+      heard = heard.ensures.heard;
       wire = tt;
+      seeds = refl {a = g.W.Wire.seeds c.args.wire.now};
     }
 
-pub returns-in-Ok-false-offer : goal.returns-in-Ok-false-offer
-returns-in-Ok-false-offer g c =
+pub returns-in-Ok-false-offered : goal.returns-in-Ok-false-offered
+returns-in-Ok-false-offered g c =
     let first = c.args.lease.now in
     let then = c.offer.new.receiver in
-    let last = c.offer-2.new.receiver in
-    let same = same-then first then last (same-fetched first then c.offer.ensures.rest) (same-fetched then last c.offer-2.ensures.rest) in
-    let heard = c.listen-pass.ensures in
+    let heard = c.hear_and_offer-pass in
+    let same = same-then first then heard.new.lease (same-fetched first then c.offer.ensures.rest) heard.ensures.same in
     let told = c.fetch_and_tell.ensures in
     record {
-      same = same-then first last c.fetch_and_tell.new.lease same told.same;
-      stays = stays-more c.args.pass c.listen-pass.result.0 c.fetch_and_tell.result.0 heard.stays told.stays;
-      spares = spares-stays c.args.pass c.listen-pass.result.0 c.fetch_and_tell.result.0 told.stays heard.spares told.spares;
-      heard = heard-on c.args.board.now c.args.depot.now c.args.self.now.hearing.heard c.listen-pass.new.self.heard c.requires.depot heard.heard c.requires.heard;
+      same = same-then first heard.new.lease c.fetch_and_tell.new.lease same told.same;
+      stays = stays-more c.args.pass heard.result.0 c.fetch_and_tell.result.0 heard.ensures.stays told.stays;
+      spares = spares-stays c.args.pass heard.result.0 c.fetch_and_tell.result.0 told.stays heard.ensures.spares told.spares;
+      heard = heard.ensures.heard;
       wire = told.wire;
+      seeds = told.seeds;
     }
 
-pub returns-in-Err-offer : goal.returns-in-Err-offer
-returns-in-Err-offer g c =
+pub returns-in-Err-offered : goal.returns-in-Err-offered
+returns-in-Err-offered g c =
     let first = c.args.lease.now in
     let then = c.offer.new.receiver in
-    let last = c.offer-2.new.receiver in
-    let heard = c.listen-pass.ensures in
+    let heard = c.hear_and_offer-pass in
     record {
-      same = same-then first then last (same-fetched first then c.offer.ensures.rest) (same-fetched then last c.offer-2.ensures.rest);
-      stays = heard.stays;
-      spares = heard.spares;
-      heard = heard-on c.args.board.now c.args.depot.now c.args.self.now.hearing.heard c.listen-pass.new.self.heard c.requires.depot heard.heard c.requires.heard;
+      same = same-then first then heard.new.lease (same-fetched first then c.offer.ensures.rest) heard.ensures.same;
+      stays = heard.ensures.stays;
+      spares = heard.ensures.spares;
+      heard = heard.ensures.heard;
       wire = lost-none g.W.Wire.streak c.args.wire.now;
+      seeds = refl {a = g.W.Wire.seeds c.args.wire.now};
     }

@@ -45,6 +45,7 @@ returns-in-Ok g c =
       none = spent.none;
       heard = ran.ensures.heard;
       wire = λ by. inr (spares-worked c.args.pass ran.result.0 c.spend.result spent.worked ran.ensures.spares spent.spares by);
+      seeds = ran.ensures.seeds;
     }
 
 pub returns-in-Err : goal.returns-in-Err
@@ -58,4 +59,5 @@ returns-in-Err g c =
       heard = ran.ensures.heard;
       wire = blames-given-up g.W.Wire.streak ran.new.wire c.args.pass ran.result.0 c.give_up.result c.in-Err.error c.stop_for.result c.stop_for.ensures lost
           ran.ensures.spares gave.worked gave.spares;
+      seeds = ran.ensures.seeds;
     }

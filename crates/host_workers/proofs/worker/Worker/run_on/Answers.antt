@@ -1,6 +1,8 @@
-use Rattle.std.proofs.Common.{◌≡◌, IfErr, subst, ◌∙◌}
+use Rattle.std.proofs.Common.{◌≡◌, IfErr, refl, sym, subst, ◌∙◌}
 use Rattle.host_fetch.specs.declared.error.FetchError.TheVariants as fault
+use Rattle.host_fetch.specs.Heard.{AreHeardOf}
 use Rattle.host_workers.specs.Lost.{IsLost}
+use Rattle.host_workers.specs.declared.replies.Hearing.{Hearing}
 use Rattle.host_workers.proofs.Working.{lent-on, same-none, same-then, spares-none, spares-stays, stays-more, stays-none}
 use Rattle.host_workers.proofs.worker.Worker.run_on.Goals as goal
 
@@ -12,6 +14,7 @@ loop-init g c = record {
   spares = spares-none c.args.pass;
   same = same-none c.args.lease.now;
   heard = c.requires.heard;
+  seeds = refl {a = g.W.Wire.seeds c.args.wire.now};
 }
 
 pub run_stretch-after-requires-clause-board : goal.run_stretch-after-requires-clause-board
@@ -36,6 +39,7 @@ returns-in-Ok g c =
       spares = spares-stays c.args.pass c.loop.pass c.run_stretch-after.result.0 e.stays was.spares e.spares;
       heard = e.heard;
       wire = tt;
+      seeds = e.seeds ∙ was.seeds;
     }
 
 pub returns-in-Err : goal.returns-in-Err
@@ -48,18 +52,20 @@ returns-in-Err g c =
       spares = spares-stays c.args.pass c.loop.pass c.run_stretch-after.result.0 e.stays was.spares e.spares;
       heard = e.heard;
       wire = subst (λ r. IfErr r (λ error. error ≡ fault.Wire → IsLost g.W.Wire.streak c.run_stretch-after.new.wire)) c.in-Err.is e.wire;
+      seeds = e.seeds ∙ was.seeds;
     }
 
-pub returns-then-any : goal.returns-then-any
-returns-then-any g c =
+pub returns-then-is_over : goal.returns-then-is_over
+returns-then-is_over g c =
     let e = c.run_stretch-after.ensures in
     let was = c.loop.invariant in
     record {
       same = same-then c.args.lease.now c.loop.lease c.run_stretch-after.new.lease was.same e.same;
       stays = stays-more c.args.pass c.loop.pass c.run_stretch-after.result.0 was.stays e.stays;
       spares = spares-stays c.args.pass c.loop.pass c.run_stretch-after.result.0 e.stays was.spares e.spares;
-      heard = e.heard;
+      heard = subst (λ (h : Hearing). AreHeardOf c.args.depot.now h.heard) (sym c.look_up.ensures) e.heard;
       wire = tt;
+      seeds = e.seeds ∙ was.seeds;
     }
 
 pub loop-preserved : goal.loop-preserved
@@ -72,5 +78,6 @@ loop-preserved g c =
       stays = stays-more c.args.pass c.loop.pass c.run_stretch-after.result.0 was.stays e.stays;
       spares = spares-stays c.args.pass c.loop.pass c.run_stretch-after.result.0 e.stays was.spares e.spares;
       same = same-then c.args.lease.now c.loop.lease c.run_stretch-after.new.lease was.same e.same;
-      heard = e.heard;
+      heard = subst (λ (h : Hearing). AreHeardOf c.args.depot.now h.heard) (sym c.look_up.ensures) e.heard;
+      seeds = e.seeds ∙ was.seeds;
     }

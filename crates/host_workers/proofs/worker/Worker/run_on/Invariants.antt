@@ -1,3 +1,4 @@
+use Rattle.std.proofs.Common.{◌≡◌}
 use Rattle.host_fetch.specs.Heard.{AreHeardOf}
 use Rattle.world_core.specs.Lent.{IsSameLease}
 use Rattle.host_workers.specs.Stays.{Spares, Stays}
@@ -11,4 +12,5 @@ invariant-loop g l = record {
   spares : Spares l.initial.pass l.pass;
   same : IsSameLease l.initial.lease l.lease;
   heard : AreHeardOf l.depot l.self.hearing.heard;
+  seeds : g.W.Wire.seeds l.wire ≡ g.W.Wire.seeds l.initial.wire;
 }

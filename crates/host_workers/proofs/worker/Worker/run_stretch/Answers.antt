@@ -1,4 +1,4 @@
-use Rattle.std.proofs.Common.{◌≡◌, IfErr, subst, ◌∙◌}
+use Rattle.std.proofs.Common.{◌≡◌, IfErr, refl, subst, ◌∙◌}
 use Rattle.host_fetch.specs.declared.error.FetchError.TheVariants as fault
 use Rattle.host_workers.specs.Lost.{IsLost}
 use Rattle.host_workers.proofs.Working.{lent-on, lost-none, same-none, same-then, spares-none, spares-stays, stays-more, stays-none}
@@ -12,6 +12,7 @@ loop-init g c = record {
   spares = spares-none c.args.pass;
   same = same-none c.args.lease.now;
   heard = c.requires.heard;
+  seeds = refl {a = g.W.Wire.seeds c.args.wire.now};
 }
 
 pub returns-in_default : goal.returns-in_default
@@ -23,6 +24,7 @@ returns-in_default g c =
       spares = was.spares;
       heard = was.heard;
       wire = lost-none g.W.Wire.streak c.loop.wire;
+      seeds = was.seeds;
     }
 
 pub returns-in_default-why : goal.returns-in_default-why
@@ -34,6 +36,7 @@ returns-in_default-why g c =
       spares = was.spares;
       heard = was.heard;
       wire = tt;
+      seeds = was.seeds;
     }
 
 pub bring-after-requires-clause-board : goal.bring-after-requires-clause-board
@@ -61,6 +64,7 @@ returns-in-Err g c =
       spares = spares-stays c.args.pass c.loop.pass c.bring-after.result.0 e.stays was.spares e.spares;
       heard = e.heard;
       wire = subst (λ r. IfErr r (λ error. error ≡ fault.Wire → IsLost g.W.Wire.streak c.bring-after.new.wire)) c.in-Err.is e.wire;
+      seeds = e.seeds ∙ was.seeds;
     }
 
 pub loop-preserved : goal.loop-preserved
@@ -75,4 +79,5 @@ loop-preserved g c =
       same = same-then c.args.lease.now c.run.new.self c.bring-after.new.lease
           (same-then c.args.lease.now c.loop.lease c.run.new.self was.same c.run.ensures.same) e.same;
       heard = e.heard;
+      seeds = e.seeds ∙ was.seeds;
     }

@@ -50,6 +50,7 @@ returns-in-Over g c =
       heard = c.requires.heard;
       wire = λ by. inr (spares-taken c.args.pass r.0 r.1 e.makes by);
       stopped = λ was. refl {a = c.args.wire.now};
+      seeds = refl {a = g.W.Wire.seeds c.args.wire.now};
     }
 
 pub returns-in-Stopped : goal.returns-in-Stopped
@@ -66,6 +67,7 @@ returns-in-Stopped g c =
       heard = c.requires.heard;
       wire = λ by. inr (spares-taken c.args.pass r.0 r.1 e.makes by);
       stopped = λ was. refl {a = c.args.wire.now};
+      seeds = refl {a = g.W.Wire.seeds c.args.wire.now};
     }
 
 pub returns-in-Idle : goal.returns-in-Idle
@@ -82,6 +84,7 @@ returns-in-Idle g c =
       heard = c.requires.heard;
       wire = λ by. inr (spares-taken c.args.pass r.0 r.1 e.makes by);
       stopped = λ was. refl {a = c.args.wire.now};
+      seeds = refl {a = g.W.Wire.seeds c.args.wire.now};
     }
 
 pub returns-in-Memory : goal.returns-in-Memory
@@ -102,10 +105,11 @@ returns-in-Memory g c =
       wire = λ by. inr (spares-worked c.args.pass r.0 new stopped (spares-taken c.args.pass r.0 r.1 e.makes)
           (spares-halted r.0 new reason.Memory stops (λ same. let no : reason.Memory ≡ reason.Wire = same in cc)) by);
       stopped = λ was. refl {a = c.args.wire.now};
+      seeds = refl {a = g.W.Wire.seeds c.args.wire.now};
     }
 
-pub returns-after-end : goal.returns-after-end
-returns-after-end g c =
+pub returns-in-Took : goal.returns-in-Took
+returns-in-Took g c =
     let r = c.take-pass.result in
     let e = c.take-pass.ensures in
     let lease = c.in-Took.lease in
@@ -122,4 +126,5 @@ returns-after-end g c =
       wire = blames-worked g.W.Wire.streak c.run.new.wire c.args.pass r.0 c.run.result ran.worked (spares-taken c.args.pass r.0 r.1 e.makes) ran.wire;
       stopped = λ was.
           absurd (taken-going c.args.pass r.0 lease.name makes (stopped-later c.args.pass r.0 work.rest work.seen was));
+      seeds = ran.seeds;
     }

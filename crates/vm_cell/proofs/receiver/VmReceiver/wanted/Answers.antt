@@ -1,4 +1,4 @@
-use Rattle.vm_cell.specs.Keyed.{paged}
+use Rattle.vm_hart.specs.Keyed.{paged}
 use Rattle.vm_cell.proofs.Receiving.{wanted-absent}
 use Rattle.vm_cell.proofs.receiver.VmReceiver.wanted.Goals as goal
 

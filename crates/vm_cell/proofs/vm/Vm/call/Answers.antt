@@ -1,6 +1,6 @@
 use Rattle.std.proofs.Common.{◌≡◌, None, ◌∙◌, subst, sym}
-use Rattle.vm_cell.specs.Keyed.{KeyedMachine, hart_in, machine_of}
-use Rattle.vm_cell.specs.Standing.{AsksNext}
+use Rattle.vm_hart.specs.Keyed.{KeyedMachine, hart_in, machine_of}
+use Rattle.vm_hart.specs.Calls.{AsksNext}
 use Rattle.vm_cell.proofs.Standing.{ended_stands, is_asked, is_standing, lives}
 use Rattle.vm_cell.proofs.vm.Vm.call.Goals as goal
 

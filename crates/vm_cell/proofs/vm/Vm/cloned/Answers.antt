@@ -2,10 +2,12 @@ use Rattle.std.proofs.Common.{◌≡◌, None, ap, ◌∙◌, subst, sym, arith}
 use Rattle.fork_port.specs.declared.commands.Call.TheVariants.{Clone}
 use Rattle.fork_port.specs.Children.{after_clone}
 use Rattle.forest_model.specs.Calls.{forked}
-use Rattle.vm_cell.specs.Keyed.{KeyedMachine, KeyedState, machine_of}
-use Rattle.vm_cell.specs.Standing.{IsAsked, made}
+use Rattle.vm_hart.specs.Keyed.{KeyedMachine, KeyedState, machine_of}
+use Rattle.vm_hart.specs.Calls.{made}
+use Rattle.vm_cell.specs.Standing.{IsAsked}
 use Rattle.vm_cell.proofs.Runs.{counted_step}
-use Rattle.vm_cell.proofs.Standing.{after_count, forked_made, funded_after_clone}
+use Rattle.vm_hart.proofs.Stepping.{after_count}
+use Rattle.vm_cell.proofs.Standing.{forked_made, funded_after_clone}
 use Rattle.vm_cell.proofs.vm.Vm.cloned.Goals as goal
 
 pub invariant_of-self : goal.invariant_of-self

@@ -1,6 +1,6 @@
 use Rattle.std.proofs.Common.{◌≡◌, true, subst}
 use Rattle.forest_model.specs.Forest.{machines}
-use Rattle.vm_cell.specs.Keyed.{KeyedMachine, machine_of}
+use Rattle.vm_hart.specs.Keyed.{KeyedMachine, machine_of}
 use Rattle.vm_cell.proofs.Good.{counted-good}
 use Rattle.vm_cell.proofs.vm.Vm.ended.Goals as goal
 

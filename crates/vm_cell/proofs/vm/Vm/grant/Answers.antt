@@ -1,6 +1,6 @@
 use Rattle.std.proofs.Common.{◌≤◌, ◌∙◌, subst, sym}
 use Rattle.vm_descriptor.specs.declared.descriptor.TheConstants.{MAX_CLONES}
-use Rattle.vm_cell.specs.Keyed.{KeyedMachine, machine_of}
+use Rattle.vm_hart.specs.Keyed.{KeyedMachine, machine_of}
 use Rattle.vm_cell.proofs.Standing.{granted_fits, granted_told}
 use Rattle.vm_cell.proofs.vm.Vm.grant.Goals as goal
 

@@ -2,10 +2,12 @@ use Rattle.std.proofs.Common.{◌≡◌, None, ap, ◌∙◌, subst, sym}
 use Rattle.fork_port.specs.declared.commands.Call.TheVariants.{Kill}
 use Rattle.fork_port.specs.Children as fork
 use Rattle.forest_model.specs.Calls.{after_kill}
-use Rattle.vm_cell.specs.Keyed.{KeyedMachine, KeyedState, machine_of}
-use Rattle.vm_cell.specs.Standing.{IsAsked, made}
+use Rattle.vm_hart.specs.Keyed.{KeyedMachine, KeyedState, machine_of}
+use Rattle.vm_hart.specs.Calls.{made}
+use Rattle.vm_cell.specs.Standing.{IsAsked}
 use Rattle.vm_cell.proofs.Runs.{counted_step}
-use Rattle.vm_cell.proofs.Standing.{after_count, funded_after_kill, killed_made, next_after_kill}
+use Rattle.vm_hart.proofs.Stepping.{after_count}
+use Rattle.vm_cell.proofs.Standing.{funded_after_kill, killed_made, next_after_kill}
 use Rattle.vm_cell.proofs.vm.Vm.killed.Goals as goal
 
 pub invariant_of-self : goal.invariant_of-self
@@ -21,5 +23,6 @@ returns c =
     let v : KeyedMachine = machine_of c.self.inside.hart c.self.inside.steps c.self.inside.limit c.self.inside.ending in
     let t = c.killed_ticket-ticket.result in
     let asked = subst (λ (n : KeyedMachine). IsAsked n.machine (Kill t)) (sym c.self.view_is) c.killed_ticket-ticket.ensures in
-    after_count v.machine c.self.inside.hart _ (made (fork.after_kill v.machine.state.ports.fork t) v.machine.state) _ _ asked.live c.kill.ensures c.count_step.ensures.counted c.count_step.ensures.ends
+    after_count v.machine c.self.inside.hart _ (made (fork.after_kill v.machine.state.ports.fork t) v.machine.state) _ _ asked.live c.kill.ensures
+    c.count_step.ensures.counted c.count_step.ensures.ends
     ∙ ap (λ m. record v { machine = m }) (sym (killed_made v.machine t asked)) ∙ ap (λ (n : KeyedMachine). record n { machine = after_kill n.machine }) c.self.view_is

@@ -1,6 +1,6 @@
 use Rattle.std.proofs.Common.{sym, subst}
-use Rattle.vm_cell.specs.Kept.{ComesAside, Keeps}
-use Rattle.vm_cell.specs.Keyed.{KeyedMachine, hart_in}
+use Rattle.vm_hart.specs.Kept.{ComesAside, Keeps}
+use Rattle.vm_hart.specs.Keyed.{KeyedMachine, hart_in}
 use Rattle.vm_cell.proofs.vm.Vm.leaves_ram.Goals as goal
 
 pub leaves_ram-requires-clause-keeps : goal.leaves_ram-requires-clause-keeps

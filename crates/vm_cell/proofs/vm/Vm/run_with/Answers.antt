@@ -1,13 +1,14 @@
 use Rattle.std.proofs.Common.{◌≡◌, None, refl, sym, ap, ◌∙◌, subst, rules, arith, ℕ, Bool, true, false, List, ◌≤◌}
 use Rattle.std.specs.Prelude.{IsTrue, MatchBool}
-use Rattle.vm_cell.specs.Keyed.{KeyedMachine, hart_in}
+use Rattle.vm_hart.specs.Keyed.{KeyedMachine, hart_in}
 use Rattle.vm_cell.specs.Parts.{IsCut, IsPart}
-use Rattle.vm_cell.specs.Steps.{IsRun, moved, moved_by}
-use Rattle.vm_cell.specs.Kept.{ComesAside, Keeps}
-use Rattle.vm_cell.specs.declared.hart.slot.Slot.{Slot}
-use Rattle.vm_cell.proofs.Aside.{aside-keeps}
-use Rattle.vm_cell.proofs.Kept.{keeps-later}
-use Rattle.vm_cell.proofs.Runs.{IsRun-none, IsRun-join, cut-later, cut-less, moved-once, part-alone, part-moves, parts-join}
+use Rattle.vm_hart.specs.Runs.{IsRun, moved, moved_by}
+use Rattle.vm_hart.specs.Kept.{ComesAside, Keeps}
+use Rattle.instruction_slots.specs.Slots.{KeptInstruction}
+use Rattle.vm_hart.proofs.Aside.{aside-keeps}
+use Rattle.vm_hart.proofs.Kept.{keeps-later}
+use Rattle.vm_hart.proofs.Runs.{IsRun-none, IsRun-join, moved-once}
+use Rattle.vm_cell.proofs.Runs.{cut-later, cut-less, part-alone, part-moves, parts-join}
 use Rattle.vm_cell.proofs.vm.Vm.run_with.Goals as goal
 
 pub loop-steps-init : goal.loop-steps-init
@@ -16,7 +17,8 @@ loop-steps-init c =
     (IsRun-none c.args.self.now, omega arith, subst (λ e. Keeps (hart_in c.args.self.now) e c.args.slots.now) (sym epoch) c.requires.keeps, refl, omega (arith, epoch))
 
 -- what is kept after steps that are made by themselves
-kept-on : (before after : KeyedMachine) (is_left : Bool) (epoch next made : ℕ) (slots : List Slot) → before.machine.ending ≡ None → IsRun before after made → 1 ≤ made → epoch ≤ before.machine.steps
+kept-on : (before after : KeyedMachine) (is_left : Bool) (epoch next made : ℕ) (slots : List KeptInstruction) → before.machine.ending ≡ None
+    → IsRun before after made → 1 ≤ made → epoch ≤ before.machine.steps
     → (IsTrue is_left → made ≤ 1) → (IsTrue is_left → ComesAside (hart_in before)) → MatchBool is_left (next ≡ epoch) (next ≡ after.machine.steps) → Keeps (hart_in before) epoch slots
     → Keeps (hart_in after) next slots × (next ≤ after.machine.steps)
 kept-on before after true epoch next made slots live run some past one told same keeps =
@@ -28,23 +30,23 @@ kept-on before after false epoch next made slots live run some past one told sam
 
 pub loop-steps-preserved : goal.loop-steps-preserved
 loop-steps-preserved c =
-    let before = c.make_plain-made.new.self in
+    let before = c.make_fast-made.new.self in
     let after = c.step_some.new.self in
     let part = c.in_ok-part.part in
     let is : IsPart c.count_alone-count.result before after part = c.in_ok-part.ensures.ok in
     let within : part.steps ≤ c.count_alone-count.result = is.within in
     let none : part.stop ≡ None = grind arith in
-    let some : 1 ≤ part.steps = part-moves _ before after part c.count_alone-count.ensures.some c.make_plain-made.ensures.live none is in
-    let run = IsRun-join _ _ _ _ _ c.loop-steps.invariant.0 c.make_plain-made.ensures.run in
-    let counted = c.make_plain-made.ensures.run.counted in
+    let some : 1 ≤ part.steps = part-moves _ before after part c.count_alone-count.ensures.some c.make_fast-made.ensures.live none is in
+    let run = IsRun-join _ _ _ _ _ c.loop-steps.invariant.0 c.make_fast-made.ensures.run in
+    let counted = c.make_fast-made.ensures.run.counted in
     let kept =
     kept-on before after c.leaves_ram-is_left.result c.loop-steps.epoch c.epoch_after-epoch-in-loop-steps.result part.steps c.leaves_ram-is_left.new.slots
-    c.make_plain-made.ensures.live is.run some (omega (arith, c.loop-steps.invariant.4, counted)) (λ left. let one = c.count_alone-count.ensures.one left in omega (arith, one, within))
+    c.make_fast-made.ensures.live is.run some (omega (arith, c.loop-steps.invariant.4, counted)) (λ left. let one = c.count_alone-count.ensures.one left in omega (arith, one, within))
     c.leaves_ram-is_left.ensures.told c.epoch_after-epoch-in-loop-steps.ensures c.leaves_ram-is_left.ensures.keeps in (
       IsRun-join _ _ _ _ _ run is.run,
-      omega (arith, within, c.count_alone-count.ensures.within, c.make_plain-made.ensures.most),
+      omega (arith, within, c.count_alone-count.ensures.within, c.make_fast-made.ensures.most),
       kept.0,
-      c.leaves_ram-is_left.ensures.same_length ∙ c.make_plain-made.ensures.same_length ∙ c.loop-steps.invariant.3,
+      c.leaves_ram-is_left.ensures.same_length ∙ c.make_fast-made.ensures.same_length ∙ c.loop-steps.invariant.3,
       kept.1,
     )
 
@@ -52,21 +54,21 @@ pub loop-steps-smaller : goal.loop-steps-smaller
 loop-steps-smaller c =
     let part = c.in_ok-part.part in
     let none : part.stop ≡ None = grind arith in
-    let some : 1 ≤ part.steps = part-moves _ _ _ part c.count_alone-count.ensures.some c.make_plain-made.ensures.live none c.in_ok-part.ensures.ok in
+    let some : 1 ≤ part.steps = part-moves _ _ _ part c.count_alone-count.ensures.some c.make_fast-made.ensures.live none c.in_ok-part.ensures.ok in
     omega (arith, some, c.loop-steps-test.true)
 
 pub returns-in_err-part-clause-err : goal.returns-in_err-part-clause-err
 returns-in_err-part-clause-err c =
-    let run = IsRun-join _ _ _ _ _ c.loop-steps.invariant.0 c.make_plain-made.ensures.run in
+    let run = IsRun-join _ _ _ _ _ c.loop-steps.invariant.0 c.make_fast-made.ensures.run in
     let cut : IsCut c.args.most c.args.self.now c.step_some.new.self =
-    cut-later _ _ _ _ _ run (omega (arith, c.make_plain-made.ensures.most)) (cut-less _ _ _ _ c.count_alone-count.ensures.within c.in_err-part.ensures.err) in
+    cut-later _ _ _ _ _ run (omega (arith, c.make_fast-made.ensures.most)) (cut-less _ _ _ _ c.count_alone-count.ensures.within c.in_err-part.ensures.err) in
     search rules
 
 pub returns-then-is_some-clause-ok : goal.returns-then-is_some-clause-ok
 returns-then-is_some-clause-ok c =
-    let run = IsRun-join _ _ _ _ _ c.loop-steps.invariant.0 c.make_plain-made.ensures.run in
+    let run = IsRun-join _ _ _ _ _ c.loop-steps.invariant.0 c.make_fast-made.ensures.run in
     let is = part-alone _ _ _ _ c.in_ok-part.part c.count_alone-count.ensures.within (λ none made. absurd (grind arith)) c.in_ok-part.ensures.ok in
-    parts-join _ _ _ _ _ c.in_ok-part.part _ run (omega (arith, c.make_plain-made.ensures.most)) is refl refl
+    parts-join _ _ _ _ _ c.in_ok-part.part _ run (omega (arith, c.make_fast-made.ensures.most)) is refl refl
 
 pub returns-else-is_none-clause-ok : goal.returns-else-is_none-clause-ok
 returns-else-is_none-clause-ok c = record {

@@ -1,7 +1,7 @@
 use Rattle.std.proofs.Common.{◌≡◌, ◌-◌, ◌≤◌, length}
-use Rattle.vm_cell.specs.Kept.{Keeps}
-use Rattle.vm_cell.specs.Keyed.{hart_in}
-use Rattle.vm_cell.specs.Steps.{IsRun}
+use Rattle.vm_hart.specs.Kept.{Keeps}
+use Rattle.vm_hart.specs.Keyed.{hart_in}
+use Rattle.vm_hart.specs.Runs.{IsRun}
 use Rattle.vm_cell.proofs.vm.Vm.run_with.Given as goal
 
 abbrev pub invariant-loop-steps : goal.invariant-loop-steps

@@ -6,9 +6,10 @@ use Rattle.vm_descriptor.specs.declared.descriptor.Descriptor.{Descriptor}
 use Rattle.vm_descriptor.specs.Descriptor.{numbered}
 use Rattle.image_depot.specs.Key.{image_of}
 use Rattle.forest_model.specs.Forest.{machines}
-use Rattle.vm_cell.specs.Keyed.{KeyedMachine, machine_of}
+use Rattle.vm_hart.specs.Keyed.{KeyedMachine, machine_of}
 use Rattle.vm_cell.specs.Standing.{IsAsked}
-use Rattle.vm_cell.specs.Woken.{AreSeeds, image_left}
+use Rattle.vm_hart.specs.Seeds.{image_left}
+use Rattle.vm_cell.specs.Woken.{AreSeeds}
 use Rattle.vm_cell.proofs.Seeds.{in_range_numbered, is_seed}
 use Rattle.vm_cell.proofs.Standing.{granted_fits, share_fits}
 use Rattle.vm_cell.proofs.vm.Vm.seed.Goals as goal
@@ -38,4 +39,4 @@ returns c =
     c.new.ensures
 
 pub new-requires : goal.new-requires
-new-requires c = c.in_ok-seed.ensures.in_range.ram.one_bit_a_page
+new-requires c = c.in_ok-seed.ensures.in_range

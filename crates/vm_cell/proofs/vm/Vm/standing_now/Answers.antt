@@ -1,5 +1,5 @@
 use Rattle.std.proofs.Common.{◌∙◌, subst, sym}
-use Rattle.vm_cell.specs.Keyed.{KeyedMachine, machine_of}
+use Rattle.vm_hart.specs.Keyed.{KeyedMachine, machine_of}
 use Rattle.vm_cell.specs.Steps.{Stands}
 use Rattle.vm_cell.specs.declared.vm.Stepped.TheVariants.{Call, Stall, Went}
 use Rattle.vm_cell.proofs.Standing.{stands_called, stands_free, stands_stalled}

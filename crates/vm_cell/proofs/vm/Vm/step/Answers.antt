@@ -1,5 +1,5 @@
 use Rattle.std.proofs.Common.{ap, sym, ◌∙◌}
-use Rattle.vm_cell.specs.Keyed.{KeyedMachine}
+use Rattle.vm_hart.specs.Keyed.{KeyedMachine}
 use Rattle.vm_cell.proofs.Stepping.{steps_ended}
 use Rattle.vm_cell.proofs.vm.Vm.step.Goals as goal
 

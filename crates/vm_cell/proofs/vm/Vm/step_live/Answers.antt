@@ -1,13 +1,14 @@
 use Rattle.std.proofs.Common.{◌≡◌, ◌+◌, None, Some, rules, ap, ◌∙◌, subst}
 use Rattle.fork_port.specs.declared.ending.Ending.TheVariants.{Exit}
 use Rattle.forest_model.specs.Paged.{stalled_at}
-use Rattle.vm_cell.specs.Acts.{waits_for}
-use Rattle.vm_cell.specs.Keyed.{KeyedMachine, KeyedState, hart_in, machine_of, paged}
+use Rattle.vm_hart.specs.Acts.{waits_for}
+use Rattle.vm_hart.specs.Keyed.{KeyedMachine, KeyedState, hart_in, machine_of, paged}
 use Rattle.vm_cell.specs.Steps.{GoesOn}
 use Rattle.vm_cell.specs.declared.vm.Stepped.TheVariants.{Call, Stall}
 use Rattle.vm_cell.proofs.Runs.{rises_retired, rises_exited, funded_retired, funded_exited, counted_step, counted_exit}
-use Rattle.vm_cell.proofs.Standing.{stalls_live}
-use Rattle.vm_cell.proofs.Stepping.{goes_asked, goes_exited, goes_interrupted, goes_retired, goes_stalled, goes_trapped}
+use Rattle.vm_hart.proofs.Stepping.{stalls_live}
+use Rattle.vm_hart.proofs.Stepping.{goes_exited, goes_interrupted, goes_retired, goes_trapped}
+use Rattle.vm_cell.proofs.Stepping.{goes_asked, goes_stalled}
 use Rattle.vm_cell.proofs.vm.Vm.step_live.Goals as goal
 
 pub invariant_of-self-in-Retired : goal.invariant_of-self-in-Retired
@@ -46,8 +47,9 @@ pub returns-in-Interrupted-clause-goes : goal.returns-in-Interrupted-clause-goes
 returns-in-Interrupted-clause-goes c =
     let v : KeyedMachine = machine_of c.self.inside.hart c.self.inside.steps c.self.inside.limit c.self.inside.ending in
     let acts = rw c.in-Interrupted.is at c.in_ok-page.ensures.acts in
-    subst (λ (n : KeyedMachine). GoesOn n (machine_of c.trap-in-Interrupted.new.self c.count_step-in-Interrupted.new.steps c.self.inside.limit c.count_step-in-Interrupted.new.ending) None) c.self.view_is
-    (goes_interrupted v c.act.new.self (rw (← c.self.view_is) at c.requires) _ _ _ c.count_step-in-Interrupted.ensures.counted c.count_step-in-Interrupted.ensures.ends acts c.trap-in-Interrupted.ensures)
+    let counted = c.count_step-in-Interrupted in
+    subst (λ (n : KeyedMachine). GoesOn n (machine_of c.trap-in-Interrupted.new.self counted.new.steps c.self.inside.limit counted.new.ending) None) c.self.view_is
+    (goes_interrupted v c.act.new.self (rw (← c.self.view_is) at c.requires) _ _ _ counted.ensures.counted counted.ensures.ends acts c.trap-in-Interrupted.ensures)
 
 pub returns-in-Retired-clause-goes : goal.returns-in-Retired-clause-goes
 returns-in-Retired-clause-goes c =

@@ -1,6 +1,7 @@
 use Rattle.std.proofs.Common.{◌≡◌, None, arith, refl, rules}
 use Rattle.vm_cell.specs.Parts.{IsCut}
-use Rattle.vm_cell.proofs.Runs.{IsRun-none, IsRun-advance, cut-here, part-stopped}
+use Rattle.vm_hart.proofs.Runs.{IsRun-none, IsRun-advance}
+use Rattle.vm_cell.proofs.Runs.{cut-here, part-stopped}
 use Rattle.vm_cell.proofs.vm.Vm.step_some.Goals as goal
 
 pub loop-steps-init : goal.loop-steps-init

@@ -1,5 +1,5 @@
 use Rattle.std.proofs.Common.{◌-◌, ◌≤◌}
-use Rattle.vm_cell.specs.Steps.{IsRun}
+use Rattle.vm_hart.specs.Runs.{IsRun}
 use Rattle.vm_cell.proofs.vm.Vm.step_some.Given as goal
 
 abbrev pub invariant-loop-steps : goal.invariant-loop-steps

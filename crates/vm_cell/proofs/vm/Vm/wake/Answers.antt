@@ -1,5 +1,5 @@
 use Rattle.std.proofs.Common.{ap}
-use Rattle.vm_cell.specs.Keyed.{KeyedState}
+use Rattle.vm_hart.specs.Keyed.{KeyedState}
 use Rattle.vm_cell.proofs.Seeds.{counted_woken}
 use Rattle.vm_cell.proofs.vm.Vm.wake.Goals as goal
 

@@ -1,8 +1,9 @@
 use Rattle.std.proofs.Common.{◌≡◌, None, ◌∙◌, subst, sym}
 use Rattle.forest_model.proofs.Paged.{ended-stalls}
-use Rattle.vm_cell.specs.Acts.{waits_for}
-use Rattle.vm_cell.specs.Keyed.{KeyedMachine, hart_in, machine_of, paged}
-use Rattle.vm_cell.proofs.Standing.{lives, stalls_live}
+use Rattle.vm_hart.specs.Acts.{waits_for}
+use Rattle.vm_hart.specs.Keyed.{KeyedMachine, hart_in, machine_of, paged}
+use Rattle.vm_hart.proofs.Stepping.{stalls_live}
+use Rattle.vm_cell.proofs.Standing.{lives}
 use Rattle.vm_cell.proofs.vm.Vm.wanted.Goals as goal
 
 pub returns-then-is_some : goal.returns-then-is_some

@@ -3,22 +3,19 @@ use Rattle.std.proofs.Math.ListN.{get_or}
 use Rattle.vm_descriptor.specs.declared.descriptor.Descriptor.{Descriptor}
 use Rattle.vm_descriptor.specs.Described.{described, read, refused}
 use Rattle.vm_descriptor.specs.Descriptor.{IsInRange}
-use Rattle.vm_descriptor.proofs.AcceptedSpelled.{accepted_spelled}
+use Rattle.vm_descriptor.specs.Fields.{number_in}
+use Rattle.vm_descriptor.proofs.Spelling.{accepted_spelled}
 use Rattle.vm_descriptor.proofs.Accepted.{accepted, in_range}
 use Rattle.vm_descriptor.proofs.DescribedBack.{described_back}
 use Rattle.vm_descriptor.proofs.NotRefused.{not_refused}
 use Rattle.vm_descriptor.proofs.DecodedInRange.{decoded_in_range}
 use Rattle.vm_descriptor.proofs.descriptor.Descriptor.decode.Goals as goal
 
-pub read_fields-requires-clause-whole : goal.read_fields-requires-clause-whole
-read_fields-requires-clause-whole c =
+pub read_fields-requires : goal.read_fields-requires
+read_fields-requires c =
     let none : refused c.args.bytes.now ≡ None = search rules in
-    (accepted c.args.bytes.now none).long
-
-pub read_fields-requires-clause-ports : goal.read_fields-requires-clause-ports
-read_fields-requires-clause-ports c =
-    let none : refused c.args.bytes.now ≡ None = search rules in
-    (in_range c.args.bytes.now (accepted c.args.bytes.now none).fields).ports
+    let a = accepted c.args.bytes.now none in
+    record { whole = a.long; line_control = (in_range (number_in c.args.bytes.now) a.fields).line_control }
 
 pub returns-clause-spelled : goal.returns-clause-spelled
 returns-clause-spelled c =

@@ -2,7 +2,8 @@ use Rattle.std.proofs.Common.{ℕ, ◌++◌, ◌∷◌, [], ap, ◌∙◌}
 use Rattle.std.specs.Prelude.{codes}
 use Rattle.std.specs.List.{flat_map}
 use Rattle.block_port.specs.Block.{status_word}
-use Rattle.vm_descriptor.specs.Described.{word, double, reservation_bytes}
+use Rattle.vm_descriptor.specs.Fields.{address_of, reserved_of}
+use Rattle.vm_descriptor.specs.Described.{word, double}
 use Rattle.vm_descriptor.proofs.Appended.{onto}
 use Rattle.vm_descriptor.proofs.descriptor.Descriptor.push_fields.Goals as goal
 
@@ -12,7 +13,7 @@ returns c =
     let with_ports = λ (line status : ℕ). flat_map word (d.console.place ∷ line ∷ d.block.sector ∷ status ∷ d.argument_0 ∷ d.argument_1 ∷ d.join_select ∷ d.granted ∷ []) in
     let ports = with_ports d.console.line_control (status_word d.block.status) in
     let as_read = ap (λ line. with_ports line c.word.result) c.from.ensures ∙ ap (with_ports d.console.line_control) c.word.ensures in
-    let reserved = reservation_bytes d.reservation in
+    let reserved = flat_map word (reserved_of d.reservation ∷ address_of d.reservation ∷ []) in
     let counters = flat_map double (d.csrs.mcycle ∷ d.csrs.minstret ∷ d.timer.mtime ∷ d.timer.mtimecmp ∷ d.steps ∷ d.limit ∷ []) in
     let csrs = flat_map word (d.csrs.mstatus ∷ d.csrs.mie ∷ d.csrs.mtvec ∷ d.csrs.mscratch ∷ d.csrs.mepc ∷ d.csrs.mcause ∷ d.csrs.mtval ∷ []) in
     let registers = flat_map word d.registers in
@@ -22,4 +23,5 @@ returns c =
     (onto _ registers (csrs ++ (counters ++ (reserved ++ ports))) c.in_ok-push_words-2.ensures
     (onto _ csrs (counters ++ (reserved ++ ports)) c.in_ok-push_csrs.ensures
     (onto _ counters (reserved ++ ports) c.in_ok-push_doubles.ensures
-    (onto _ reserved ports (c.in_ok-push_words-3.ensures ∙ ap (λ xs. c.push_doubles.new.bytes.items ++ xs) c.reservation_words.ensures) (c.in_ok-push_words-4.ensures ∙ ap (λ xs. c.push_words-3.new.bytes.items ++ xs) as_read))))))
+    (onto _ reserved ports (c.in_ok-push_words-3.ensures ∙ ap (λ xs. c.push_doubles.new.bytes.items ++ flat_map word xs) c.reservation_words.ensures)
+    (c.in_ok-push_words-4.ensures ∙ ap (λ xs. c.push_words-3.new.bytes.items ++ xs) as_read))))))

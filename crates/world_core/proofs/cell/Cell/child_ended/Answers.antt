@@ -1,3 +1,4 @@
+use Rattle.world_core.proofs.Images.{cell-written, cell-unparked}
 use Rattle.std.proofs.Common.{sym, inl, arith}
 use Rattle.world_core.proofs.SlotChanges.{no-brood-no-child, child-place}
 use Rattle.world_core.proofs.SlotEnds.{some-live, ended-shows, ended-unparks, ended-ready, unparked-ready}
@@ -42,3 +43,12 @@ returns-clause-shows c depot path t a b h found is told said =
 pub returns-clause-ready : goal.returns-clause-ready
 returns-clause-ready c depot path t a b h found is told ready =
     unparked-ready depot path c.args.ticket c.args.index c.args.self.now c.unpark.new.self t a b h found is c.unpark.ensures.ready ready
+
+pub returns-then-brood-gt0-clause-images : goal.returns-then-brood-gt0-clause-images
+returns-then-brood-gt0-clause-images c images path h =
+    cell-written images path c.args.self.now _ c.args.ticket c.in-Some.brood.now _ (sym c.in-Some.ensures.value) (c.get_mut.follows.holds _) (λ at. at) h
+
+pub returns-clause-images : goal.returns-clause-images
+returns-clause-images c images path h =
+    cell-unparked images path c.args.self.now c.unpark.new.self _ c.args.ticket c.in-Some.brood.now _ (sym c.in-Some.ensures.value)
+    (c.get_mut.follows.holds _) (λ at. at) c.unpark.ensures.state c.unpark.ensures.rest.0 h

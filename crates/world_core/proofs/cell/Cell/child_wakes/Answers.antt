@@ -1,3 +1,4 @@
+use Rattle.world_core.proofs.Images.{brood-written, left-by}
 use Rattle.std.proofs.Common.{sym, subst}
 use Rattle.std.specs.BTreeMap.{WritesThrough}
 use Rattle.std.specs.Ordering.{nat_cmp}
@@ -33,3 +34,11 @@ pub let_go-requires : goal.let_go-requires
 let_go-requires c =
     let r = c.requires in
     record { few = few-slots r.0 r.1 c.args.self.now r.2 c.args.ticket c.in-Some.brood.now r.4 (sym c.in-Some.ensures.value) }
+
+pub returns-clause-images : goal.returns-clause-images
+returns-clause-images c images path h = record {
+  state = h.state;
+  broods = brood-written images path c.args.self.now.broods (c.get_mut.follows.lender c.let_go.new.self) c.args.ticket c.in-Some.brood.now c.let_go.new.self
+      (sym c.in-Some.ensures.value) (c.get_mut.follows.holds c.let_go.new.self)
+      (left-by images path c.args.ticket c.in-Some.brood.now.young c.let_go.new.self.young c.let_go.ensures.young) h.broods;
+}

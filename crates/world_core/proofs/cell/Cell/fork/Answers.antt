@@ -1,3 +1,4 @@
+use Rattle.world_core.proofs.Images.{brood-put}
 use Rattle.std.proofs.Common.{◌+◌, ◌≤◌, Bool, true, false, cond, is_some, arith, vec_len, vec_capacity}
 use Rattle.std.specs.BTreeMap.{btree_map_len}
 use Rattle.world_core.specs.declared.cell.Cell.{Cell}
@@ -15,3 +16,9 @@ returns-clause-holds c = λ depot path left born t h at.
     let room : vec_len new.log + btree_map_len new.broods ≤ vec_capacity new.log =
     omega (arith, c.in_ok-insert.ensures.len, at_most_one (is_some c.in_ok-insert.field-0), c.len.ensures.len, c.reserve.ensures.len, c.in_ok-reserve.ensures.ok) in
     forked_after depot path c.args.vm.now c.args.ticket old new room c.reserve.ensures.items c.args.brood left t born c.in_ok-insert.ensures.updates.0 h at
+
+pub returns-clause-images : goal.returns-clause-images
+returns-clause-images c images path h at = record {
+  state = h.state;
+  broods = brood-put images path c.args.self.now.broods c.insert.new.self c.args.ticket c.args.brood c.in_ok-insert.ensures.updates.0 at h.broods;
+}

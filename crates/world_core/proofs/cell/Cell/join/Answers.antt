@@ -1,3 +1,4 @@
+use Rattle.world_core.proofs.Images.{brood-gone}
 use Rattle.std.proofs.Common.{◌+◌, ◌≤◌, List, ◌++◌, length, ap, ◌∙◌, sym, arith, vec_len, vec_capacity}
 use Rattle.std.specs.BTreeMap.{btree_map_len}
 use Rattle.fork_port.specs.declared.ending.Ending.{Ending}
@@ -57,3 +58,9 @@ returns-clause-ok c = λ t depot path h at all.
       joined_after depot path (paged c.args.vm.now) c.args.ticket old new b found c.remove.ensures.updates.0 room t
           (c.into_log.ensures.lines ∙ ap (λ (items : List Line). items ++ slot_lines b.slots.items) c.reserve.ensures.items) all h at,
     )
+
+pub returns-clause-images : goal.returns-clause-images
+returns-clause-images c images path h = record {
+  state = h.state;
+  broods = brood-gone images path c.args.self.now.broods c.remove.new.self c.args.ticket c.remove.ensures.updates.0 h.broods;
+}

@@ -1,3 +1,4 @@
+use Rattle.world_core.proofs.Images.{brood-gone}
 use Rattle.std.proofs.Common.{[], ◌∷◌, ◌++◌, ◌^◌, ◌<◌, Option, ap, ◌∙◌, sym, subst, arith, vec_len}
 use Rattle.std.specs.Option.{IfSome}
 use Rattle.run_report.specs.Lines.{Line}
@@ -25,3 +26,9 @@ returns-clause-after c = λ t depot path h at.
     killed_after depot path (paged c.args.vm.now) c.args.ticket old new c.in-Some.brood (sym c.in-Some.ensures.value) c.remove.ensures.updates.0
     (omega (arith, h.tallies.room, c.in-Some.ensures.len, c.push_reserved.ensures.len, c.push_reserved.ensures.capacity)) t
     (c.push_reserved.ensures.items ∙ ap (λ (line : Line). old.log.items ++ line ∷ []) c.into_line.ensures) h at
+
+pub returns-clause-images : goal.returns-clause-images
+returns-clause-images c images path h = record {
+  state = h.state;
+  broods = brood-gone images path c.args.self.now.broods c.remove.new.self c.args.ticket c.remove.ensures.updates.0 h.broods;
+}

@@ -1,3 +1,4 @@
+use Rattle.world_core.proofs.Images.{no-brood, key-alike}
 use Rattle.std.proofs.Common.{refl, ap}
 use Rattle.forest_history.specs.Places.{out}
 use Rattle.vm_cell.specs.Keyed.{KeyedMachine, paged}
@@ -11,4 +12,10 @@ returns-clause-shows c depot path lives none = record {
   of_depot = tt;
   holds = alone-holds depot path _ (paged c.args.vm.now) out
       (record { no_brood = c.new.ensures.empty; no_line = c.new-2.ensures.items; no_length = c.new-2.ensures.len }) none;
+}
+
+pub returns-clause-images : goal.returns-clause-images
+returns-clause-images c images path at = record {
+  state = key-alike images path c.args.vm.now.key c.of.result.value.key (ap (λ (v : KeyedMachine). v.key) c.of.ensures) at;
+  broods = no-brood images path c.new.result c.new.ensures.empty;
 }

@@ -1,3 +1,4 @@
+use Rattle.world_core.proofs.Images.{no-brood}
 use Rattle.std.proofs.Common.{refl, inl}
 use Rattle.forest_history.specs.Places.{home}
 use Rattle.vm_cell.specs.Keyed.{paged}
@@ -12,3 +13,6 @@ returns-clause-shows c depot path lives of_depot none = record {
   holds = alone-holds depot path _ (paged c.args.vm.value) home
       (record { no_brood = c.new.ensures.empty; no_line = c.new-2.ensures.items; no_length = c.new-2.ensures.len }) none;
 }
+
+pub returns-clause-images : goal.returns-clause-images
+returns-clause-images c images path at = record { state = at; broods = no-brood images path c.new.result c.new.ensures.empty }

@@ -1,4 +1,5 @@
-use Rattle.std.proofs.Common.{sym, subst}
+use Rattle.world_core.proofs.Images.{woken-at}
+use Rattle.std.proofs.Common.{sym, subst, ap, ◌∙◌}
 use Rattle.vm_cell.specs.Woken.{IsOfImage}
 use Rattle.world_core.proofs.SlotChanges.{no-brood-no-child, none-left, sleepers-seed, wakes-to}
 use Rattle.world_core.proofs.cell.Cell.woken.Goals as goal
@@ -27,10 +28,15 @@ wake-requires c =
     (sym c.in-Some.ensures.value) c.in-Some-young.is in
     record { of_depot = at.key; of_image = subst (IsOfImage young.key) (sym c.in_ok-seed.ensures) at.sleeps.of_image }
 
-pub returns : goal.returns
-returns c path t a h found asleep lives =
+pub returns-clause-shows : goal.returns-clause-shows
+returns-clause-shows c path t a h found asleep lives =
     let young = c.in-Some-young.young in
     wakes-to c.args.depot.now c.args.index young a c.in_ok-seed.seed c.wake.result
     (sleepers-seed c.args.depot.now path c.args.self.now t a c.args.ticket c.args.index c.in-Some.brood.now young h found asleep lives
     (sym c.in-Some.ensures.value) c.in-Some-young.is)
     c.in_ok-seed.ensures c.wake.ensures
+
+pub returns-clause-images : goal.returns-clause-images
+returns-clause-images c images path h =
+    woken-at images path c.args.ticket c.args.index c.in-Some.brood.now c.in-Some-young.young c.in_ok-seed.seed c.wake.result c.args.self.now h
+    (sym c.in-Some.ensures.value) c.in-Some-young.is c.wake.ensures

@@ -1,5 +1,5 @@
 use Rattle.vm_cell.proofs.Receiving.{here-arrived}
-use Rattle.world_core.proofs.Receiving.{rest-arrived, wanted-arrived}
+use Rattle.world_core.proofs.Receiving.{had-arrived, rest-arrived, wanted-arrived}
 use Rattle.world_core.proofs.receiver.LeaseReceiver.arrive.Goals as goal
 
 pub returns-clause-arrives : goal.returns-clause-arrives
@@ -15,3 +15,8 @@ pub returns-clause-rest : goal.returns-clause-rest
 returns-clause-rest c =
     rest-arrived c.args.self.now c.arrive.new.self c.args.parcel.now c.arrive.result c.arrive.ensures.same.0 c.arrive.ensures.same.1 c.arrive.ensures.rest
     c.arrive.ensures.arrives c.arrive.ensures.err
+
+pub returns-clause-had : goal.returns-clause-had
+returns-clause-had c =
+    had-arrived c.args.self.now c.arrive.new.self c.args.parcel.now c.arrive.result c.arrive.ensures.same.0 c.arrive.ensures.same.1 c.arrive.ensures.rest
+    c.arrive.ensures.arrives

@@ -1,3 +1,5 @@
+use Rattle.world_core.specs.Images.{HaveImages, IsUnbornAt}
+use Rattle.world_core.proofs.Images.{written, lent-key, unborn-at}
 use Rattle.std.proofs.Common.{◌≡◌, ℕ, ◌∷◌, Some, refl, sym, ap, ap₂, ◌∙◌, subst}
 use Rattle.std.specs.Result.{IfOk}
 use Rattle.std.specs.BTreeMap.{WritesThrough, get_by}
@@ -11,10 +13,10 @@ use Rattle.forest_model.specs.Paged.{Paged}
 use Rattle.vm_cell.specs.Keyed.{KeyedMachine, paged}
 use Rattle.vm_cell.specs.Standing.{standing_call}
 use Rattle.vm_cell.specs.declared.vm.fork.Brood.{Brood as Young}
-use Rattle.run_report.specs.NameOrder.{path_cmp}
+use Rattle.machine_names.specs.NameOrder.{path_cmp}
 use Rattle.world_core.specs.Lent.{Lent, IsLent, lent_as, vm_of}
 use Rattle.world_core.specs.Litter.{IsLitterIn, IsLitterOf, IsNewBrood, Unborn}
-use Rattle.world_core.specs.Waiting.{Waiting}
+use Rattle.world_core.specs.Waiting.{Keeps, Waiting}
 use Rattle.world_core.specs.Turns.{turn_of}
 use Rattle.world_core.specs.Shows.{Holds, HoldsAfter, StandsAt, forked_tree}
 use Rattle.world_core.specs.Answers.{Answers}
@@ -91,11 +93,11 @@ place-requires-clause-between c =
     (subst (λ (l : Lent). IsLent l.start l.ran l.now) c.lease.view_is c.lease.invariant.0)
     (sym (litter-stands c.args.lease litter ticket (vm_of c.args.lease) of c.into_brood-ticket.ensures.ticket refl))
     (c.in-Some.ensures.value ∙ ap (λ n. get_by (path_cmp n) c.args.self.now.cells) c.name.ensures)
-    (c.get_mut.follows.lender c.fork.new.self) c.fork.new.self c.push.new.self _ (paged c.deref_mut.result.now) (paged c.fork.new.vm)
+    (c.get_mut.follows.lender c.fork.new.self) c.fork.new.self c.push_last.new.self _ (paged c.deref_mut.result.now) (paged c.fork.new.vm)
     (ap (λ (l : Lent). l.name) c.lease.view_is) (ap paged is_vm)
     (subst (λ n. WritesThrough path_cmp (path_cmp n) c.args.self.now.cells c.fork.new.self (c.get_mut.follows.lender c.fork.new.self)) c.name.ensures (c.get_mut.follows.holds c.fork.new.self))
-    (c.push.ensures ∙ ap (λ turn. turn ∷ c.args.self.now.ready) (c.into_brood-ticket.ensures.turn.value
-    ∙ ap₂ (λ n k. let turn : Waiting = record { name = n; children = Some (k, 1) } in turn) of.name (sym c.into_brood-ticket.ensures.ticket)))
+    (subst (λ turn. Keeps (turn ∷ c.args.self.now.ready) c.push_last.new.self) (c.into_brood-ticket.ensures.turn.value
+    ∙ ap₂ (λ n k. let turn : Waiting = record { name = n; children = Some (k, 1) } in turn) of.name (sym c.into_brood-ticket.ensures.ticket)) c.push_last.ensures)
     c.fork.ensures.place.1 (ap paged vm_made)
     (holds lent.0 c.args.lease.name litter.left
     (litter-born c.args.lease litter ticket c.deref_mut.result.now of c.into_brood-ticket.ensures.ticket is_vm lent.0 c.into_brood-ticket.result.1
@@ -119,14 +121,54 @@ returns-clause-answers c depot f stands out_as of_depot kept =
     (subst (λ (l : Lent). IsLent l.start l.ran l.now) c.lease.view_is c.lease.invariant.0)
     (sym (litter-stands c.args.lease litter ticket (vm_of c.args.lease) of c.into_brood-ticket.ensures.ticket refl))
     (c.in-Some.ensures.value ∙ ap (λ n. get_by (path_cmp n) c.args.self.now.cells) c.name.ensures)
-    (c.get_mut.follows.lender c.fork.new.self) c.fork.new.self c.push.new.self _ (paged c.deref_mut.result.now) (paged c.fork.new.vm)
+    (c.get_mut.follows.lender c.fork.new.self) c.fork.new.self c.push_last.new.self _ (paged c.deref_mut.result.now) (paged c.fork.new.vm)
     (ap (λ (l : Lent). l.name) c.lease.view_is) (ap paged is_vm)
     (subst (λ n. WritesThrough path_cmp (path_cmp n) c.args.self.now.cells c.fork.new.self (c.get_mut.follows.lender c.fork.new.self)) c.name.ensures (c.get_mut.follows.holds c.fork.new.self))
-    (c.push.ensures ∙ ap (λ turn. turn ∷ c.args.self.now.ready) (c.into_brood-ticket.ensures.turn.value
-    ∙ ap₂ (λ n k. let turn : Waiting = record { name = n; children = Some (k, 1) } in turn) of.name (sym c.into_brood-ticket.ensures.ticket)))
+    (subst (λ turn. Keeps (turn ∷ c.args.self.now.ready) c.push_last.new.self) (c.into_brood-ticket.ensures.turn.value
+    ∙ ap₂ (λ n k. let turn : Waiting = record { name = n; children = Some (k, 1) } in turn) of.name (sym c.into_brood-ticket.ensures.ticket)) c.push_last.ensures)
     c.fork.ensures.place.1 (ap paged vm_made)
     (holds depot c.args.lease.name litter.left
     (litter-born c.args.lease litter ticket c.deref_mut.result.now of c.into_brood-ticket.ensures.ticket is_vm depot c.into_brood-ticket.result.1
     (subst (λ o. IfOk o (IsLitterIn depot)) is_there kept) c.into_brood-ticket.ensures.brood)) in
     let p = c.place.ensures.placed depot f k.tree k.between k.is (same-image depot c.fork.new.vm c.args.lease key of_depot) k.sound in
     subst (λ r. Answers depot f rows.forked c.args.lease r c.place.new.self) (sym p.0) (k.goes c.place.new.self p.1)
+
+pub returns-in_default-clause-images : goal.returns-in_default-clause-images
+returns-in_default-clause-images c images h lent unborn = subst (HaveImages images) (sym c.get_mut.follows.holds-at-none) h
+
+pub returns-in_default-litter-clause-images : goal.returns-in_default-litter-clause-images
+returns-in_default-litter-clause-images c images h lent unborn =
+    written images c.args.self.now.cells (c.get_mut.follows.lender c.in-Some.cell.now) c.args.lease.name c.in-Some.cell.now c.in-Some.cell.now
+    (c.in-Some.ensures.value ∙ ap (λ n. get_by (path_cmp n) c.args.self.now.cells) c.name.ensures)
+    (subst (λ n. WritesThrough path_cmp (path_cmp n) c.args.self.now.cells c.in-Some.cell.now (c.get_mut.follows.lender c.in-Some.cell.now)) c.name.ensures (c.get_mut.follows.holds c.in-Some.cell.now))
+    (λ was. was) h
+
+pub returns-then-is_err-clause-images : goal.returns-then-is_err-clause-images
+returns-then-is_err-clause-images c images h lent unborn =
+    let litter : Unborn = c.in-Ok.litter in
+    let of : IsLitterOf c.args.lease litter = subst (λ o. IfOk o (IsLitterOf c.args.lease)) c.in-Ok.is c.requires.litter in
+    let at : IsUnbornAt images litter = subst (λ o. IfOk o (IsUnbornAt images)) c.in-Ok.is unborn in
+    written images c.args.self.now.cells (c.get_mut.follows.lender c.fork.new.self) c.args.lease.name c.in-Some.cell.now c.fork.new.self
+    (c.in-Some.ensures.value ∙ ap (λ n. get_by (path_cmp n) c.args.self.now.cells) c.name.ensures)
+    (subst (λ n. WritesThrough path_cmp (path_cmp n) c.args.self.now.cells c.fork.new.self (c.get_mut.follows.lender c.fork.new.self)) c.name.ensures (c.get_mut.follows.holds c.fork.new.self))
+    (λ was. c.fork.ensures.images images c.args.lease.name was
+    (unborn-at images c.args.lease litter c.into_brood-ticket.result.0 c.into_brood-ticket.result.1 of c.into_brood-ticket.ensures.ticket
+    c.into_brood-ticket.ensures.brood at)) h
+
+pub returns-clause-images : goal.returns-clause-images
+returns-clause-images c images h lent unborn =
+    let litter : Unborn = c.in-Ok.litter in
+    let of : IsLitterOf c.args.lease litter = subst (λ o. IfOk o (IsLitterOf c.args.lease)) c.in-Ok.is c.requires.litter in
+    let at : IsUnbornAt images litter = subst (λ o. IfOk o (IsUnbornAt images)) c.in-Ok.is unborn in
+    let is_vm = c.deref_mut.ensures.value ∙ ap vm_of c.lease.view_is in
+    let made = sym c.is_err.ensures.value ∙ c.if-is_err.false in
+    let vm_made = at-ok (c.fork.new.vm ≡ record c.deref_mut.result.now { machine = forked c.deref_mut.result.now.machine }) c.fork.result made c.fork.ensures.ok in
+    let key = ap (λ (v : KeyedMachine). v.key) (vm_made ∙ ap (λ (v : KeyedMachine). record v { machine = forked v.machine }) is_vm) in
+    c.place.ensures.images images
+    (written images c.args.self.now.cells (c.get_mut.follows.lender c.fork.new.self) c.args.lease.name c.in-Some.cell.now c.fork.new.self
+    (c.in-Some.ensures.value ∙ ap (λ n. get_by (path_cmp n) c.args.self.now.cells) c.name.ensures)
+    (subst (λ n. WritesThrough path_cmp (path_cmp n) c.args.self.now.cells c.fork.new.self (c.get_mut.follows.lender c.fork.new.self)) c.name.ensures (c.get_mut.follows.holds c.fork.new.self))
+    (λ was. c.fork.ensures.images images c.args.lease.name was
+    (unborn-at images c.args.lease litter c.into_brood-ticket.result.0 c.into_brood-ticket.result.1 of c.into_brood-ticket.ensures.ticket
+    c.into_brood-ticket.ensures.brood at)) h)
+    (lent-key images c.args.lease (turn_of c.lease.inside.turn.value).name c.fork.new.vm (ap (λ (l : Lent). l.name) c.lease.view_is) key lent)

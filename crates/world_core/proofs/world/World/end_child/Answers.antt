@@ -1,3 +1,4 @@
+use Rattle.world_core.proofs.Images.{written}
 use Rattle.std.proofs.Common.{◌≡◌, ◌∷◌, true, Some, sym, ◌∙◌, subst}
 use Rattle.std.specs.BTreeMap.{get}
 use Rattle.std.specs.Option.{IsSomeAnd}
@@ -5,8 +6,8 @@ use Rattle.image_depot.specs.Key.{Shelves}
 use Rattle.forest_tree.specs.Tree.{Tree, Branch}
 use Rattle.forest_history.specs.Places.{Spot}
 use Rattle.forest_model.specs.Paged.{Paged}
-use Rattle.run_report.specs.Name.{child_path}
-use Rattle.run_report.specs.NameOrder.{path_cmp}
+use Rattle.machine_names.specs.Name.{child_path}
+use Rattle.machine_names.specs.NameOrder.{path_cmp}
 use Rattle.world_core.specs.declared.cell.Cell.{Cell}
 use Rattle.world_core.specs.Turns.{turn_of}
 use Rattle.world_core.specs.Waiting.{IsListed}
@@ -52,3 +53,13 @@ returns-in_default-child_ended-clause-stands c depot f b leaving left sound =
     (λ p shows is.
     if-some-is (get path_cmp c.args.self.now.cells parent) c.in-Some.cell.now (λ (cell : Cell). cell.is_listed ≡ true → IsListed parent c.args.self.now.ready)
     c.in-Some.ensures.value (leaving.listed parent) (sym c.in_default-child_ended.ensures.listed ∙ is))
+
+pub returns-in-Some-child_ended-clause-images : goal.returns-in-Some-child_ended-clause-images
+returns-in-Some-child_ended-clause-images c images h =
+    written images c.args.self.now.cells (c.get_mut.follows.lender c.child_ended.new.self) c.args.parent.now c.in-Some.cell.now c.child_ended.new.self
+    c.in-Some.ensures.value (c.get_mut.follows.holds c.child_ended.new.self) (c.child_ended.ensures.images images c.args.parent.now) h
+
+pub returns-in_default-child_ended-clause-images : goal.returns-in_default-child_ended-clause-images
+returns-in_default-child_ended-clause-images c images h =
+    written images c.args.self.now.cells (c.get_mut.follows.lender c.child_ended.new.self) c.args.parent.now c.in-Some.cell.now c.child_ended.new.self
+    c.in-Some.ensures.value (c.get_mut.follows.holds c.child_ended.new.self) (c.child_ended.ensures.images images c.args.parent.now) h

@@ -1,3 +1,5 @@
+use Rattle.world_core.specs.Images.{AreOfImages}
+use Rattle.world_core.proofs.Images.{alike, taken-out}
 use Rattle.std.proofs.Common.{◌≡◌, refl, sym, ap, ◌∙◌, subst}
 use Rattle.std.specs.BTreeMap.{BTreeMap, get}
 use Rattle.std.specs.Option.{IfSome}
@@ -6,9 +8,9 @@ use Rattle.forest_tree.specs.Tree.{Tree, Branch, Path, machine}
 use Rattle.forest_tree.specs.Sound.{IsSound}
 use Rattle.forest_history.specs.Places.{Spot, home, placed}
 use Rattle.forest_model.specs.Paged.{Paged}
-use Rattle.run_report.specs.Name.{child_path}
+use Rattle.machine_names.specs.Name.{child_path}
 use Rattle.vm_cell.specs.Keyed.{paged}
-use Rattle.run_report.specs.NameOrder.{path_cmp}
+use Rattle.machine_names.specs.NameOrder.{path_cmp}
 use Rattle.world_core.specs.declared.cell.Cell.{Cell}
 use Rattle.world_core.specs.declared.turns.Turn.{out-Turn}
 use Rattle.world_core.specs.declared.world.World.{World}
@@ -87,3 +89,15 @@ returns-clause-finished c depot f a between same sound =
             (root-leaves depot (record w { cells = c.take_out.new.cells }) f b outcome name (sym named ∙ v.in-None.ensures.0) leaving left sound)
       ],
     )
+
+pub returns-in_default-clause-images : goal.returns-in_default-clause-images
+returns-in_default-clause-images c images h = alike images c.args.self.now.cells c.take_out.new.cells c.in_default.ensures.1 h
+
+pub returns-clause-images : goal.returns-clause-images
+returns-clause-images c images h =
+    let kept = taken-out images c.args.self.now.cells c.take_out.new.cells c.into_name-name.result c.in-Some.cell c.in-Some.ensures.1 h in
+    elim c.match-pop.branch [
+      | in-Some-pop v ↦ subst (AreOfImages images) (sym v.self-is) (v.end_child.ensures.images images kept)
+      | in-None+in-Some-1 v ↦ subst (AreOfImages images) (sym v.self-is) kept
+      | in-None+in-None-1 v ↦ subst (AreOfImages images) (sym v.self-is) kept
+    ]

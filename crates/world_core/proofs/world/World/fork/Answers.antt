@@ -1,6 +1,7 @@
+use Rattle.world_core.proofs.Images.{fork-unborn, unborn-number}
 use Rattle.std.proofs.Common.{◌≡◌, false, refl, sym, ap, ◌∙◌, Option, Some, None, is_some}
 use Rattle.std.specs.BTreeMap.{get_by}
-use Rattle.run_report.specs.NameOrder.{path_cmp}
+use Rattle.machine_names.specs.NameOrder.{path_cmp}
 use Rattle.world_core.proofs.Calling.{gone-here}
 use Rattle.world_core.proofs.world.World.fork.Goals as goal
 
@@ -18,3 +19,14 @@ bear-requires-clause-lent g c = (c.args.depot.now, c.requires.lent, c.litter-lit
 
 pub returns-clause-answers : goal.returns-clause-answers
 returns-clause-answers g c f stands out_as of_depot = c.bear.ensures.answers c.args.depot.now f stands out_as of_depot c.litter-litter.ensures.kept
+
+pub returns-then-not-contains_key-clause-images : goal.returns-then-not-contains_key-clause-images
+returns-then-not-contains_key-clause-images g c = (0, λ images ticket stands at h lent. h)
+
+pub returns-clause-images : goal.returns-clause-images
+returns-clause-images g c =
+    let number = unborn-number c.litter-litter.result in (
+      number,
+      λ images ticket stands at h lent. c.bear.ensures.images images h lent
+          (fork-unborn images c.args.lease ticket c.litter-litter.result stands at c.litter-litter.ensures.of_lease),
+    )

@@ -1,3 +1,4 @@
+use Rattle.world_core.specs.Images.{IsImageAt}
 use Rattle.std.proofs.Common.{◌≡◌, None, is_some, sym, ap, ◌∙◌, subst}
 use Rattle.forest_tree.proofs.Rests.{lives-none}
 use Rattle.world_core.specs.Lent.{Lent, lent_as}
@@ -16,3 +17,7 @@ returns-clause-answers c depot f stands out_as of_depot =
     (gave-answers depot c.args.self.now f lease c.lease.invariant.0 stands (subst (IsHandedOut f) (sym c.lease.view_is) out_as) c.home.result
     c.home.new.self c.home.ensures.gone (ap (λ (l : Lent). l.now.ending) c.lease.view_is ∙ lives)
     (λ a between same lives sound. c.home.ensures.home depot f a between same (subst (IsLentOf depot) (sym c.lease.view_is) of_depot) lives sound)))
+
+pub returns-clause-images : goal.returns-clause-images
+returns-clause-images c images h at =
+    c.home.ensures.images images h (subst (λ (l : Lent). IsImageAt images l.name l.key) (sym c.lease.view_is) at)

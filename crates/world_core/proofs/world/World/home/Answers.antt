@@ -1,9 +1,11 @@
+use Rattle.world_core.specs.Images.{AreOfImages, HaveImages}
+use Rattle.world_core.proofs.Images.{written}
 use Rattle.std.proofs.Common.{◌≡◌, Bool, true, refl, sym, ap, ◌∙◌, subst}
 use Rattle.std.specs.BTreeMap.{WritesThrough, get_by}
 use Rattle.std.specs.Option.{IfSome}
 use Rattle.forest_tree.specs.Tree.{Path}
 use Rattle.forest_history.specs.Places.{home, placed}
-use Rattle.run_report.specs.NameOrder.{path_cmp}
+use Rattle.machine_names.specs.NameOrder.{path_cmp}
 use Rattle.world_core.specs.declared.cell.Cell.{Cell}
 use Rattle.world_core.specs.declared.cell.State.TheVariants.{Home}
 use Rattle.world_core.specs.declared.turns.Turn.{out-Turn}
@@ -42,3 +44,20 @@ returns-clause-home c depot f a between same of_depot lives sound =
             (λ n is. is) (λ n is. is))
       ],
     )
+
+pub returns-in_default-clause-images : goal.returns-in_default-clause-images
+returns-in_default-clause-images c images h at = subst (HaveImages images) (sym c.get_mut.follows.holds-at-none) h
+
+pub returns-clause-images : goal.returns-clause-images
+returns-clause-images c images h at =
+    let name : Path = (turn_of c.args.turn.value).name in
+    let found = c.in-Some.ensures.value ∙ ap (λ t. get_by (path_cmp (out-Turn t).name) c.args.self.now.cells) c.deref.ensures in
+    let after : Bool → Cell = λ listed. record c.in-Some.cell.now { state = Home c.args.vm; is_listed = listed } in
+    let through = λ (cell : Cell). subst (λ t. WritesThrough path_cmp (path_cmp (out-Turn t).name) c.args.self.now.cells cell (c.get_mut.follows.lender cell))
+    c.deref.ensures (c.get_mut.follows.holds cell) in
+    let kept = λ (listed : Bool). written images c.args.self.now.cells (c.get_mut.follows.lender (after listed)) name c.in-Some.cell.now (after listed) found
+    (through (after listed)) (λ was. record { state = at; broods = was.broods }) h in
+    elim c.if-not-cell.branch [
+      | then-not-cell w ↦ subst (AreOfImages images) (sym w.self-is) (kept true)
+      | else-not-cell w ↦ subst (AreOfImages images) (sym w.self-is) (kept c.in-Some.cell.now.is_listed)
+    ]

@@ -1,17 +1,20 @@
-use Rattle.std.proofs.Common.{◌≡◌, Some, sym, ap, ◌∙◌, subst}
+use Rattle.world_core.specs.Images.{HaveImages}
+use Rattle.world_core.proofs.Images.{written, lent-key}
+use Rattle.std.proofs.Common.{◌≡◌, Some, sym, ap, ◌∙◌, subst, refl}
 use Rattle.std.specs.BTreeMap.{WritesThrough, get_by}
 use Rattle.forest_tree.specs.Settle.{endings}
 use Rattle.forest_tree.specs.Tree.{brood_of, broods_of}
-use Rattle.forest_history.specs.Rows.{joined}
+use Rattle.forest_history.specs.Rows.{joined, spent, waited}
 use Rattle.forest_model.specs.Calls.{after_join}
 use Rattle.vm_cell.specs.Keyed.{KeyedMachine, paged}
-use Rattle.run_report.specs.NameOrder.{path_cmp}
+use Rattle.machine_names.specs.NameOrder.{path_cmp}
 use Rattle.world_core.specs.declared.cell.Cell.{Cell}
 use Rattle.world_core.specs.declared.cell.State.TheVariants.{Parked}
 use Rattle.world_core.specs.Lent.{Lent, IsLent, lent_as, now_of}
 use Rattle.world_core.specs.Turns.{turn_of}
 use Rattle.world_core.specs.Shows.{forest, Holds, HoldsAfter, joined_tree}
 use Rattle.world_core.specs.Answers.{Answers, IsLentOf}
+use Rattle.world_core.proofs.Reordered.{goes-reordered}
 use Rattle.world_core.proofs.Calling.{gone-here, at-ok, at-err, same-image}
 use Rattle.world_core.proofs.CallJoin.{join-parked, join-asked, join-kept, join-called}
 use Rattle.world_core.proofs.world.World.join.Goals as goal
@@ -26,13 +29,15 @@ pub returns-then-waits-clause-answers : goal.returns-then-waits-clause-answers
 returns-then-waits-clause-answers c depot f stands out_as of_depot =
     let parked : Cell = record c.in-Some.cell.now { state = Parked c.in-Some-Join.ticket c.lease.inside.vm c.lease.inside.turn } in (
       tt,
-      join-parked depot c.args.self.now f c.args.lease c.in-Some-Join.ticket c.in-Some.cell.now stands out_as
+      goes-reordered depot (record c.args.self.now { cells = c.get_mut.follows.lender parked }) c.raise_asleep.new.ready f c.raise_asleep.ensures
+          (spent waited c.args.lease.name c.args.lease.ran)
+          (join-parked depot c.args.self.now f c.args.lease c.in-Some-Join.ticket c.in-Some.cell.now stands out_as
           (subst (λ (l : Lent). IsLent l.start l.ran l.now) c.lease.view_is c.lease.invariant.0) (ap Some (sym c.in-Some-Join.field-0-is) ∙ c.in-Some-Join.ensures)
           (c.in-Some.ensures.value ∙ ap (λ n. get_by (path_cmp n) c.args.self.now.cells) c.name.ensures)
           (c.get_mut.follows.lender parked) c.lease.inside.vm c.lease.inside.turn (λ depot path t holds. sym c.if-waits.true ∙ c.waits.ensures depot path t holds)
           (subst (λ n. WritesThrough path_cmp (path_cmp n) c.args.self.now.cells parked (c.get_mut.follows.lender parked)) c.name.ensures
           (c.get_mut.follows.holds parked))
-          (ap now_of c.lease.view_is) (subst (IsLentOf depot) (sym c.lease.view_is) of_depot) c.lease.invariant.1 c.lease.invariant.2 (ap (λ (l : Lent). l.name) c.lease.view_is),
+          (ap now_of c.lease.view_is) (subst (IsLentOf depot) (sym c.lease.view_is) of_depot) c.lease.invariant.1 c.lease.invariant.2 (ap (λ (l : Lent). l.name) c.lease.view_is)),
     )
 
 pub join-requires-clause-ended : goal.join-requires-clause-ended
@@ -103,3 +108,35 @@ returns-clause-answers c depot f stands out_as of_depot =
     (c.join.ensures.key ∙ ap (λ (v : KeyedMachine). v.key) c.deref_mut.ensures.value ∙ ap (λ (l : Lent). l.key) c.lease.view_is) of_depot)
     k.sound in
     subst (λ r. Answers depot f joined c.args.lease r c.place.new.self) (sym p.0) (k.goes c.place.new.self p.1)
+
+pub returns-in_default-get_mut-clause-images : goal.returns-in_default-get_mut-clause-images
+returns-in_default-get_mut-clause-images c images h lent = subst (HaveImages images) (sym c.get_mut.follows.holds-at-none) h
+
+pub returns-then-waits-clause-images : goal.returns-then-waits-clause-images
+returns-then-waits-clause-images c images h lent =
+    let inside = c.lease.inside in
+    let parked : Cell = record c.in-Some.cell.now { state = Parked c.in-Some-Join.ticket inside.vm inside.turn } in
+    written images c.args.self.now.cells (c.get_mut.follows.lender parked) c.args.lease.name c.in-Some.cell.now parked
+    (c.in-Some.ensures.value ∙ ap (λ n. get_by (path_cmp n) c.args.self.now.cells) c.name.ensures)
+    (subst (λ n. WritesThrough path_cmp (path_cmp n) c.args.self.now.cells parked (c.get_mut.follows.lender parked)) c.name.ensures (c.get_mut.follows.holds parked))
+    (λ was. record {
+      state = lent-key images c.args.lease c.args.lease.name inside.vm.value refl (ap (λ (l : Lent). l.key) c.lease.view_is) lent;
+      broods = was.broods;
+    }) h
+
+pub returns-then-is_err-clause-images : goal.returns-then-is_err-clause-images
+returns-then-is_err-clause-images c images h lent =
+    written images c.args.self.now.cells (c.get_mut.follows.lender c.join.new.self) c.args.lease.name c.in-Some.cell.now c.join.new.self
+    (c.in-Some.ensures.value ∙ ap (λ n. get_by (path_cmp n) c.args.self.now.cells) c.name.ensures)
+    (subst (λ n. WritesThrough path_cmp (path_cmp n) c.args.self.now.cells c.join.new.self (c.get_mut.follows.lender c.join.new.self)) c.name.ensures (c.get_mut.follows.holds c.join.new.self))
+    (c.join.ensures.images images c.args.lease.name) h
+
+pub returns-clause-images : goal.returns-clause-images
+returns-clause-images c images h lent =
+    c.place.ensures.images images
+    (written images c.args.self.now.cells (c.get_mut.follows.lender c.join.new.self) c.args.lease.name c.in-Some.cell.now c.join.new.self
+    (c.in-Some.ensures.value ∙ ap (λ n. get_by (path_cmp n) c.args.self.now.cells) c.name.ensures)
+    (subst (λ n. WritesThrough path_cmp (path_cmp n) c.args.self.now.cells c.join.new.self (c.get_mut.follows.lender c.join.new.self)) c.name.ensures (c.get_mut.follows.holds c.join.new.self))
+    (c.join.ensures.images images c.args.lease.name) h)
+    (lent-key images c.args.lease (turn_of c.lease.inside.turn.value).name c.join.new.vm (ap (λ (l : Lent). l.name) c.lease.view_is)
+    (c.join.ensures.key ∙ ap (λ (v : KeyedMachine). v.key) c.deref_mut.ensures.value ∙ ap (λ (l : Lent). l.key) c.lease.view_is) lent)

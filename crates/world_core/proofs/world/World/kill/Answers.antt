@@ -1,3 +1,5 @@
+use Rattle.world_core.specs.Images.{HaveImages}
+use Rattle.world_core.proofs.Images.{dropped, written, lent-key}
 use Rattle.std.proofs.Common.{Some, sym, ap, ◌∙◌, subst}
 use Rattle.std.specs.BTreeMap.{WritesThrough, get_by}
 use Rattle.fork_port.specs.declared.commands.Call.TheVariants.{Kill}
@@ -7,7 +9,7 @@ use Rattle.forest_history.specs.Places.{Spot}
 use Rattle.forest_history.specs.Rows.{killed}
 use Rattle.forest_model.specs.Paged.{Paged}
 use Rattle.vm_cell.specs.Keyed.{KeyedMachine, paged}
-use Rattle.run_report.specs.NameOrder.{path_cmp}
+use Rattle.machine_names.specs.NameOrder.{path_cmp}
 use Rattle.world_core.specs.Lent.{Lent, IsLent, now_of}
 use Rattle.world_core.specs.Turns.{turn_of}
 use Rattle.world_core.specs.Shows.{StandsAt}
@@ -73,3 +75,17 @@ returns-clause-answers c depot f stands out_as of_depot =
     (ap (λ (v : KeyedMachine). v.key) (c.kill.ensures.vm) ∙ ap (λ (v : KeyedMachine). v.key) c.deref_mut.ensures.value ∙ ap (λ (l : Lent). l.key) c.lease.view_is) of_depot)
     k.sound in
     subst (λ r. Answers depot f killed c.args.lease r c.place.new.self) (sym p.0) (k.goes c.place.new.self p.1)
+
+pub returns-in_default-get_mut-clause-images : goal.returns-in_default-get_mut-clause-images
+returns-in_default-get_mut-clause-images c images h lent = subst (HaveImages images) (sym c.get_mut.follows.holds-at-none) h
+
+pub returns-clause-images : goal.returns-clause-images
+returns-clause-images c images h lent =
+    c.place.ensures.images images
+    (dropped images (c.get_mut.follows.lender c.kill.new.self) c.drop_below.new.cells c.in-Some-Kill.ticket _ c.drop_below.ensures
+    (written images c.args.self.now.cells (c.get_mut.follows.lender c.kill.new.self) c.args.lease.name c.in-Some.cell.now c.kill.new.self
+    (c.in-Some.ensures.value ∙ ap (λ n. get_by (path_cmp n) c.args.self.now.cells) c.name.ensures)
+    (subst (λ n. WritesThrough path_cmp (path_cmp n) c.args.self.now.cells c.kill.new.self (c.get_mut.follows.lender c.kill.new.self)) c.name.ensures (c.get_mut.follows.holds c.kill.new.self))
+    (c.kill.ensures.images images c.args.lease.name) h))
+    (lent-key images c.args.lease (turn_of c.lease.inside.turn.value).name c.kill.new.vm (ap (λ (l : Lent). l.name) c.lease.view_is)
+    (ap (λ (v : KeyedMachine). v.key) c.kill.ensures.vm ∙ ap (λ (v : KeyedMachine). v.key) c.deref_mut.ensures.value ∙ ap (λ (l : Lent). l.key) c.lease.view_is) lent)

@@ -1,7 +1,8 @@
+use Rattle.world_core.proofs.Images.{none}
 use Rattle.std.proofs.Common.{◌≡◌, [], ap}
 use Rattle.std.specs.BTreeMap.{is_at}
 use Rattle.std.specs.Map.{lookup}
-use Rattle.run_report.specs.NameOrder.{path_cmp}
+use Rattle.machine_names.specs.NameOrder.{path_cmp}
 use Rattle.run_report.specs.Report.{Ended}
 use Rattle.world_core.proofs.Beginning.{end-stands}
 use Rattle.world_core.proofs.world.World.of_ended.Goals as goal
@@ -14,3 +15,6 @@ returns-clause-stands c = λ depot.
     let outcome : c.new-3.result ≡ named = cc (c.new-3.ensures, c.in_ok-root.ensures, c.steps-steps.ensures, c.into_output-output.ensures, c.new-log.ensures.items) in
     end-stands depot vm c.args.ending c.new-3.result c.new.result c.new-2.result c.new-told.result c.requires.ended c.requires.no_ticket c.requires.good
     (λ name. ap (lookup (is_at (path_cmp name))) c.new.ensures.empty) outcome
+
+pub returns-clause-images : goal.returns-clause-images
+returns-clause-images c images = none images c.new.result (λ name. ap (lookup (is_at (path_cmp name))) c.new.ensures.empty)

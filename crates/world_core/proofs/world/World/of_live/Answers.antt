@@ -1,3 +1,5 @@
+use Rattle.world_core.specs.Images.{IsImageAt}
+use Rattle.world_core.proofs.Images.{none, put}
 use Rattle.std.proofs.Common.{◌≡◌, [], ◌∷◌, Some, None, sym, ap, ap₂, ◌∙◌, subst}
 use Rattle.std.specs.BTreeMap.{Updates, is_at}
 use Rattle.std.specs.Map.{lookup}
@@ -5,7 +7,7 @@ use Rattle.forest_tree.specs.Tree.{Path}
 use Rattle.forest_tree.specs.Settle.{alone}
 use Rattle.forest_history.specs.Places.{home}
 use Rattle.forest_model.specs.Paged.{Paged}
-use Rattle.run_report.specs.NameOrder.{path_cmp}
+use Rattle.machine_names.specs.NameOrder.{path_cmp}
 use Rattle.vm_cell.specs.Keyed.{KeyedMachine, IsOfDepot, paged}
 use Rattle.world_core.specs.Turns.{turn_of}
 use Rattle.world_core.specs.Waiting.{Waiting}
@@ -29,3 +31,11 @@ returns-clause-stands c = λ depot.
     (none-cloned (paged c.in_ok-vm.vm.value) (ap (λ (p : Paged). p.machine.state.ports.fork.tickets) same ∙ c.requires.no_ticket))) in
     start-stands depot vm c.new-cells.result c.seat.new.cells c.push.new.self c.of_root.result c.new-told.result c.requires.lives c.requires.no_ticket c.requires.good
     (λ name. ap (lookup (is_at (path_cmp name))) c.new-cells.ensures.empty) inserted shows list
+
+pub returns-clause-images : goal.returns-clause-images
+returns-clause-images c images =
+    let boxed : c.in_ok-vm.vm.value ≡ c.args.vm = c.in_ok-vm.ensures.ok in
+    let at : IsImageAt images [] c.in_ok-vm.vm.value.key = subst (IsImageAt images []) (sym (ap (λ (v : KeyedMachine). v.key) boxed ∙ c.requires.every_page)) tt in
+    put images c.new-cells.result c.seat.new.cells [] c.of_root.result
+    (subst (λ name. Updates path_cmp c.new-cells.result c.seat.new.cells name (Some c.of_root.result)) c.in_ok-name.ensures.name c.in_ok-seat.ensures.ok)
+    (c.of_root.ensures.images images [] at) (none images c.new-cells.result (λ name. ap (lookup (is_at (path_cmp name))) c.new-cells.ensures.empty))

@@ -26,3 +26,9 @@ returns-in-None-clause-placed c depot f a between same of_depot sound =
     subst (λ t. (c.home.result ≡ Done) × StandsFor depot c.home.new.self (with_tree name (placed home t) f)) is
     (c.home.ensures.home depot f a between same of_depot (lives-by a (paged c.args.vm.value) same none)
     (subst (λ t. IsSound forest (with_tree name (placed home t) f).tree) (sym is) sound))
+
+pub returns-in-Some-clause-images : goal.returns-in-Some-clause-images
+returns-in-Some-clause-images c images h at = c.finish.ensures.images images h
+
+pub returns-in-None-clause-images : goal.returns-in-None-clause-images
+returns-in-None-clause-images c images h at = c.home.ensures.images images h at

@@ -1,9 +1,10 @@
+use Rattle.world_core.specs.Images.{AreTakenAt}
 use Rattle.std.proofs.Common.{◌≡◌, ◌≢◌, ℕ, true, [], ◌∷◌, None, Some, is_some, sym, ap, ◌∙◌, subst}
 use Rattle.std.specs.BTreeMap.{get}
 use Rattle.forest_tree.specs.Tree.{Path}
 use Rattle.forest_history.specs.Places.{at_path, out, placed}
-use Rattle.run_report.specs.Name.{child_path}
-use Rattle.run_report.specs.NameOrder.{path_cmp}
+use Rattle.machine_names.specs.Name.{child_path}
+use Rattle.machine_names.specs.NameOrder.{path_cmp}
 use Rattle.world_core.specs.declared.turns.Turn.{Turn, Turn-F, out-Turn, roll-Turn}
 use Rattle.world_core.specs.declared.world.World.{World}
 use Rattle.world_core.specs.Turns.{turn_of, turns_from}
@@ -91,3 +92,12 @@ returns-in-Err-clause-takes c = λ f h.
     let ready : after.ready ≡ turn_of (roll-Turn x) ∷ c.args.self.now.ready = c.push.ensures ∙ ap (λ turns. turn_of (roll-Turn x) ∷ turns) rest.0 in
     child-kept depot turn ticket c.args.first c.args.self.now f c.requires.children h c.requires.going.0 index found after (turn_of (roll-Turn x)) later ready
     c.in-Err.ensures.same rest.1 rest.2 c.requires.going.1
+
+pub returns-in_err-index-clause-images : goal.returns-in_err-index-clause-images
+returns-in_err-index-clause-images c = λ images h. (h, subst (AreTakenAt images) (sym c.from_residual.ensures) tt)
+
+pub returns-in-Ok-clause-images : goal.returns-in-Ok-clause-images
+returns-in-Ok-clause-images c = λ images h. c.in-Ok.ensures.images images h
+
+pub returns-in-Err-clause-images : goal.returns-in-Err-clause-images
+returns-in-Err-clause-images c = λ images h. ((c.in-Err.ensures.images images h).0, tt)

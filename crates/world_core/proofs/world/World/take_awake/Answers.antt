@@ -1,6 +1,9 @@
+use Rattle.world_core.proofs.Leaving.{if-some-is}
+use Rattle.world_core.specs.Images.{AreOfImages, AreTakenAt, HaveImages, IsLentAt, HasImages}
+use Rattle.world_core.proofs.Images.{written}
 use Rattle.std.proofs.Common.{sym, ap, ◌∙◌, subst}
 use Rattle.std.specs.BTreeMap.{WritesThrough, get, get_by}
-use Rattle.run_report.specs.NameOrder.{path_cmp}
+use Rattle.machine_names.specs.NameOrder.{path_cmp}
 use Rattle.forest_tree.specs.Tree.{Path}
 use Rattle.forest_history.specs.Rows.{took}
 use Rattle.world_core.specs.declared.turns.Turn.{out-Turn}
@@ -44,3 +47,35 @@ returns-clause-takes c = λ depot f h.
     (subst (λ t. WritesThrough path_cmp (path_cmp (out-Turn t).name) c.args.self.now.cells c.lend.new.self cells) c.deref.ensures
     (c.get_mut.follows.holds c.lend.new.self))
     c.in_ok-vm.vm.value c.requires.going.1 c.in_ok-vm.ensures.place (c.in_ok-vm.ensures.shows depot name))
+
+pub returns-in_err-cell-clause-images : goal.returns-in_err-cell-clause-images
+returns-in_err-cell-clause-images c = λ images h. (
+  subst (HaveImages images) (sym c.get_mut.follows.holds-at-none) h,
+  subst (AreTakenAt images) (sym c.from_residual.ensures) tt,
+)
+
+pub returns-in_err-vm-clause-images : goal.returns-in_err-vm-clause-images
+returns-in_err-vm-clause-images c = λ images h.
+    let name : Path = (turn_of c.args.turn.value).name in
+    let cells = c.get_mut.follows.lender c.lend.new.self in (
+      written images c.args.self.now.cells cells name c.in_ok-cell.cell.now c.lend.new.self
+          (c.in_ok-cell.ensures.value ∙ ap (λ t. get_by (path_cmp (out-Turn t).name) c.args.self.now.cells) c.deref.ensures)
+          (subst (λ t. WritesThrough path_cmp (path_cmp (out-Turn t).name) c.args.self.now.cells c.lend.new.self cells) c.deref.ensures
+          (c.get_mut.follows.holds c.lend.new.self))
+          (λ was. (c.in_err-vm.ensures.images images name (record { state = was.state; broods = was.broods })).0) h,
+      subst (AreTakenAt images) (sym c.from_residual-in_err-vm.ensures) tt,
+    )
+
+pub returns-clause-images : goal.returns-clause-images
+returns-clause-images c = λ images h.
+    let name : Path = (turn_of c.args.turn.value).name in
+    let cells = c.get_mut.follows.lender c.lend.new.self in
+    let found = c.in_ok-cell.ensures.value ∙ ap (λ t. get_by (path_cmp (out-Turn t).name) c.args.self.now.cells) c.deref.ensures in
+    let was = if-some-is (get path_cmp c.args.self.now.cells name) c.in_ok-cell.cell.now (HasImages images name) found (h name) in
+    let lent = c.in_ok-vm.ensures.images images name (record { state = was.state; broods = was.broods }) in (
+      written images c.args.self.now.cells cells name c.in_ok-cell.cell.now c.lend.new.self found
+          (subst (λ t. WritesThrough path_cmp (path_cmp (out-Turn t).name) c.args.self.now.cells c.lend.new.self cells) c.deref.ensures
+          (c.get_mut.follows.holds c.lend.new.self))
+          (λ same. lent.0) h,
+      subst (IsLentAt images) (sym c.new.ensures) lent.1,
+    )

@@ -1,13 +1,17 @@
-use Rattle.std.proofs.Common.{◌≡◌, ℕ, true, None, refl, sym, ap, ◌∙◌, subst}
+use Rattle.std.specs.Option.{IfSome}
+use Rattle.world_core.proofs.Leaving.{if-some-is}
+use Rattle.world_core.specs.Images.{AreOfImages, HasImages, HaveImages, IsLentAt, Images}
+use Rattle.world_core.proofs.Images.{alike, written, no-lent}
+use Rattle.std.proofs.Common.{◌≡◌, ℕ, true, None, refl, sym, ap, ◌∙◌, subst, Option}
 use Rattle.std.specs.BTreeMap.{get}
 use Rattle.forest_tree.specs.Tree.{Path}
 use Rattle.forest_tree.proofs.Rests.{lives-none}
-use Rattle.run_report.specs.Name.{child_path}
-use Rattle.run_report.specs.NameOrder.{path_cmp}
+use Rattle.machine_names.specs.Name.{child_path}
+use Rattle.machine_names.specs.NameOrder.{path_cmp}
 use Rattle.world_core.specs.declared.world.World.{World}
 use Rattle.world_core.specs.Waiting.{Waiting}
 use Rattle.world_core.specs.Popped.{ShowsCells, sleeps}
-use Rattle.world_core.specs.Lent.{lent_as}
+use Rattle.world_core.specs.Lent.{lent_as, Lent}
 use Rattle.world_core.specs.Turns.{turn_of}
 use Rattle.world_core.specs.World.{StandsFor}
 use Rattle.world_core.proofs.ByName.{over-nobody, stands-same, rewritten, named-error, named-idle, named-taken, root-cell, before-named, no_cell-home, named-woken}
@@ -97,3 +101,51 @@ returns-clause-takes c = λ f h.
     let woke = c.in_ok-wake.ensures in
     named-woken depot w f c.args.name.now stands going none parent ticket index named c.wake.new.self c.in_ok-wake.field-0 asleep woke.lease.0 woke.lease.1
     woke.lease.2 woke.lease.3 (woke.start f.tree before asleep) (woke.cells f.tree before asleep) woke.listed woke.others woke.rest.0 woke.rest.1 woke.rest.2
+
+abbrev Named : Images → Option Lent → Type 0
+Named images lease = IfSome lease (IsLentAt images)
+
+pub returns-in_err-copy-clause-images : goal.returns-in_err-copy-clause-images
+returns-in_err-copy-clause-images c = λ images h.
+    let cell = c.in-Some.cell.now in
+    let new = c.get_mut.follows.lender cell in (
+      alike images c.args.self.now.cells new (rewritten c.args.self.now.cells new c.args.name.now cell c.in-Some.ensures.value (c.get_mut.follows.holds cell)) h,
+      no-lent images c.from_residual.result (Named images) c.from_residual.ensures.0,
+    )
+
+pub returns-in_err-turn-clause-images : goal.returns-in_err-turn-clause-images
+returns-in_err-turn-clause-images c = λ images h.
+    let cell = c.in-Some.cell.now in
+    let new = c.get_mut.follows.lender cell in (
+      alike images c.args.self.now.cells new (rewritten c.args.self.now.cells new c.args.name.now cell c.in-Some.ensures.value (c.get_mut.follows.holds cell)) h,
+      no-lent images c.from_residual-in_err-turn.result (Named images) c.from_residual-in_err-turn.ensures.0,
+    )
+
+pub returns-in_default-lend_named-clause-images : goal.returns-in_default-lend_named-clause-images
+returns-in_default-lend_named-clause-images c = λ images h.
+    let lent = c.lend_named.new.self in (
+      written images c.args.self.now.cells (c.get_mut.follows.lender lent) c.args.name.now c.in-Some.cell.now lent c.in-Some.ensures.value
+          (c.get_mut.follows.holds lent) (λ was. (c.in_default-lend_named.ensures.images images c.args.name.now was).0) h,
+      tt,
+    )
+
+pub returns-in-Some-clause-images : goal.returns-in-Some-clause-images
+returns-in-Some-clause-images c = λ images h.
+    let lent = c.lend_named.new.self in
+    let v = c.in-Some-lend_named.vm.value in
+    let name : (turn_of c.in_ok-turn.turn.value).name ≡ c.args.name.now
+    = ap (λ (w : Waiting). w.name) c.in_ok-turn.ensures.value ∙ c.in_ok-copy.ensures in
+    let is : c.new.result ≡ lent_as c.args.name.now v.machine 0 v = c.new.ensures ∙ ap (λ n. lent_as n v.machine 0 v) name in
+    let was = if-some-is (get path_cmp c.args.self.now.cells c.args.name.now) c.in-Some.cell.now (HasImages images c.args.name.now) c.in-Some.ensures.value
+    (h c.args.name.now) in
+    let after = c.in-Some-lend_named.ensures.images images c.args.name.now was in (
+      written images c.args.self.now.cells (c.get_mut.follows.lender lent) c.args.name.now c.in-Some.cell.now lent c.in-Some.ensures.value
+          (c.get_mut.follows.holds lent) (λ same. after.0) h,
+      subst (IsLentAt images) (sym is) after.1,
+    )
+
+pub returns-then-not-is_asleep-clause-images : goal.returns-then-not-is_asleep-clause-images
+returns-then-not-is_asleep-clause-images c = λ images h. (subst (HaveImages images) (sym c.get_mut.follows.holds-at-none) h, tt)
+
+pub returns-clause-images : goal.returns-clause-images
+returns-clause-images c = λ images h. c.in_ok-wake.ensures.images images (subst (HaveImages images) (sym c.get_mut.follows.holds-at-none) h)

@@ -4,7 +4,7 @@ use Rattle.forest_tree.specs.Tree.{Tree, node}
 use Rattle.forest_tree.proofs.Places.{some-same}
 use Rattle.forest_history.specs.Places.{Spot, out}
 use Rattle.forest_model.specs.Paged.{Paged}
-use Rattle.run_report.specs.NameOrder.{path_cmp}
+use Rattle.machine_names.specs.NameOrder.{path_cmp}
 use Rattle.world_core.specs.declared.cell.Cell.{Cell}
 use Rattle.world_core.specs.Lent.{vm_of}
 use Rattle.world_core.specs.Shows.{Holds}

@@ -1,11 +1,14 @@
+use Rattle.world_core.proofs.Leaving.{if-some-is}
+use Rattle.world_core.specs.Images.{HasImages, IsImageAt, IsLentAt}
+use Rattle.world_core.proofs.Images.{alike, at-child, no-lent, put, written}
 use Rattle.std.proofs.Common.{◌≡◌, None, Some, is_some, refl, sym, ap, ◌∙◌, subst}
 use Rattle.std.specs.Option.{IfSome}
 use Rattle.std.specs.BTreeMap.{Updates, WritesThrough, get}
 use Rattle.forest_tree.specs.Tree.{Tree, Path, machine, subtree}
 use Rattle.forest_history.specs.Places.{Spot, at_path, out, placed}
 use Rattle.forest_model.specs.Paged.{Paged}
-use Rattle.run_report.specs.Name.{child_path}
-use Rattle.run_report.specs.NameOrder.{path_cmp}
+use Rattle.machine_names.specs.Name.{child_path}
+use Rattle.machine_names.specs.NameOrder.{path_cmp}
 use Rattle.vm_cell.specs.Keyed.{KeyedMachine, IsOfDepot, paged}
 use Rattle.world_core.specs.Lent.{Lent, lent_as, now_of}
 use Rattle.world_core.specs.Answers.{IsLentOf}
@@ -41,6 +44,7 @@ returns-in_err-name c =
       others = λ name other. refl;
       rest = (refl, refl, refl);
       told = refl;
+      images = λ images h. (h, no-lent images r (IsLentAt images) failed);
     }
 
 pub returns-in_err-copy : goal.returns-in_err-copy
@@ -58,6 +62,7 @@ returns-in_err-copy c =
       others = λ name other. refl;
       rest = (refl, refl, refl);
       told = refl;
+      images = λ images h. (h, no-lent images r (IsLentAt images) failed);
     }
 
 pub returns-in_err-turn : goal.returns-in_err-turn
@@ -75,6 +80,7 @@ returns-in_err-turn c =
       others = λ name other. refl;
       rest = (refl, refl, refl);
       told = refl;
+      images = λ images h. (h, no-lent images r (IsLentAt images) failed);
     }
 
 pub returns-in_err-vm : goal.returns-in_err-vm
@@ -92,6 +98,7 @@ returns-in_err-vm c =
       others = λ name other. refl;
       rest = (refl, refl, refl);
       told = refl;
+      images = λ images h. (h, no-lent images r (IsLentAt images) failed);
     }
 
 pub returns-in_err-vm-2 : goal.returns-in_err-vm-2
@@ -109,6 +116,7 @@ returns-in_err-vm-2 c =
       others = λ name other. refl;
       rest = (refl, refl, refl);
       told = refl;
+      images = λ images h. (h, no-lent images r (IsLentAt images) failed);
     }
 
 pub returns-in_err-seat : goal.returns-in_err-seat
@@ -127,6 +135,7 @@ returns-in_err-seat c =
       others = λ name other. ap is_some (still name);
       rest = (refl, refl, refl);
       told = refl;
+      images = λ images h. (alike images c.args.self.now.cells mid still h, no-lent images r (IsLentAt images) failed);
     }
 
 pub woken-requires : goal.woken-requires
@@ -150,7 +159,7 @@ returns-clause-lease c =
     let r = c.requires in
     let path : Path = child_path c.args.parent.now c.args.ticket c.args.index in
     let s = sleeper-of c.args.depot.now c.args.self.now.cells c.args.parent.now c.args.ticket c.args.index r.0 r.1 r.2 c.in-Some.cell.now c.in-Some.ensures.value in
-    let woke = c.in_ok-vm.ensures c.args.parent.now s.above s.child s.shows.holds s.is_child s.asleep s.lives in
+    let woke = c.in_ok-vm.ensures.shows c.args.parent.now s.above s.child s.shows.holds s.is_child s.asleep s.lives in
     let of_depot : IsOfDepot c.args.depot.now c.in_ok-vm-2.vm.value.key =
     subst (λ (v : KeyedMachine). IsOfDepot c.args.depot.now v.key) (sym c.in_ok-vm-2.ensures.ok) woke.1 in
     let named : (turn_of c.in_ok-turn.turn.value).name ≡ path =
@@ -161,7 +170,7 @@ pub returns-clause-start : goal.returns-clause-start
 returns-clause-start c = λ t h is.
     let path : Path = child_path c.args.parent.now c.args.ticket c.args.index in
     let s = sleeper-of c.args.depot.now c.args.self.now.cells c.args.parent.now c.args.ticket c.args.index t h is c.in-Some.cell.now c.in-Some.ensures.value in
-    let woke : paged c.in_ok-vm.vm ≡ (machine s.child).machine = (c.in_ok-vm.ensures c.args.parent.now s.above s.child s.shows.holds s.is_child s.asleep s.lives).0 in
+    let woke : paged c.in_ok-vm.vm ≡ (machine s.child).machine = (c.in_ok-vm.ensures.shows c.args.parent.now s.above s.child s.shows.holds s.is_child s.asleep s.lives).0 in
     let lent : c.new-2.result
     ≡ lent_as (turn_of c.in_ok-turn.turn.value).name c.in_ok-vm-2.vm.value.machine 0 c.in_ok-vm-2.vm.value = c.new-2.ensures in
     let turn : turn_of c.in_ok-turn.turn.value ≡ record { name = c.in_ok-copy.field-0; children = None } = c.in_ok-turn.ensures.value in
@@ -186,7 +195,7 @@ returns-clause-cells c = λ t h is.
     let s = sleeper-of c.args.depot.now cells c.args.parent.now c.args.ticket c.args.index t h is cell old in
     let first = sleeper-of c.args.depot.now cells c.args.parent.now c.args.ticket c.args.index t h is c.in-Some.cell.now c.in-Some.ensures.value in
     let woke : paged c.in_ok-vm.vm ≡ (machine first.child).machine
-    = (c.in_ok-vm.ensures c.args.parent.now first.above first.child first.shows.holds first.is_child first.asleep first.lives).0 in
+    = (c.in_ok-vm.ensures.shows c.args.parent.now first.above first.child first.shows.holds first.is_child first.asleep first.lives).0 in
     let same : paged c.deref.result.now ≡ (machine s.child).machine
     = ap paged (c.deref.ensures ∙ c.in_ok-vm-2.ensures.ok)
     ∙ woken-machine (paged c.in_ok-vm.vm) (subtree path t) first.child s.child woke first.there s.there in
@@ -226,3 +235,24 @@ returns-clause-others c =
     let written : WritesThrough path_cmp (path_cmp c.args.parent.now) mid waked (c.get_mut.follows.lender waked) = c.get_mut.follows.holds waked in
     woken-some cells mid c.args.parent.now c.args.ticket c.args.index c.in_ok-name.name c.of_lent.result cell c.in_ok-name.ensures inserted found
     (c.get_mut.follows.lender waked) waked written
+
+pub returns-clause-images : goal.returns-clause-images
+returns-clause-images c = λ images h.
+    let cells = c.args.self.now.cells in
+    let mid = c.seat.new.cells in
+    let parent = c.args.parent.now in
+    let path : Path = child_path parent c.args.ticket c.args.index in
+    let waked = c.child_wakes.new.self in
+    let named : (turn_of c.in_ok-turn.turn.value).name ≡ path
+    = ap (λ (w : Waiting). w.name) c.in_ok-turn.ensures.value ∙ c.in_ok-copy.ensures ∙ c.in_ok-name.ensures in
+    let woke = c.in_ok-vm.ensures.images images parent
+    (if-some-is (get path_cmp cells parent) c.in-Some.cell.now (HasImages images parent) c.in-Some.ensures.value (h parent)) in
+    let boxed : IsImageAt images path c.in_ok-vm-2.vm.value.key = subst (λ (v : KeyedMachine). IsImageAt images path v.key) (sym c.in_ok-vm-2.ensures.ok) woke in
+    let at : IsImageAt images path c.deref.result.now.key = subst (λ (v : KeyedMachine). IsImageAt images path v.key) (sym c.deref.ensures) boxed in
+    let lent : HasImages images c.in_ok-name.name c.of_lent.result
+    = subst (λ n. HasImages images n c.of_lent.result) (sym c.in_ok-name.ensures) (c.of_lent.ensures.images images path at) in (
+      written images mid (c.get_mut.follows.lender waked) parent c.in-Some-get_mut.cell.now waked c.in-Some-get_mut.ensures.value
+          (c.get_mut.follows.holds waked) (c.child_wakes.ensures.images images parent)
+          (put images cells mid c.in_ok-name.name c.of_lent.result c.in_ok-seat.ensures.ok lent h),
+      subst (IsLentAt images) (sym c.new-2.ensures) (subst (λ n. IsImageAt images n c.in_ok-vm-2.vm.value.key) (sym named) boxed),
+    )

@@ -1,7 +1,7 @@
 use Rattle.std.proofs.Common.{rules, not}
 use Rattle.std.proofs.lemmas.Map.Made.{filter_same_pairs}
 use Rattle.forest_tree.specs.Tree.{Path, beyond}
-use Rattle.run_report.specs.Name.{begins_with}
+use Rattle.machine_names.specs.Name.{begins_with}
 use Rattle.world_core.specs.declared.cell.Cell.{Cell}
 use Rattle.world_core.proofs.CallKill.{kept-get}
 use Rattle.world_core.proofs.world.calls.drop_below.Goals as goal

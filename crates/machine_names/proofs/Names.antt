@@ -1,0 +1,59 @@
+-- Names by the forks that they hold: the first of a list, as many as they are deep.
+use Rattle.std.proofs.Common.{◌≡◌, ◌-◌, ◌<◌, ◌≤◌, ◌+◌, ℕ, true, false, sym, ap, ap₂, ◌∙◌, [], ◌∷◌, ◌++◌, length, take, get_or, get_or-take, length-take-le, take-take, Some, None, arith}
+use Rattle.std.specs.Ordering.{is_ne, nat_cmp, ordering_then}
+use Rattle.std.proofs.lemmas.List.{take_more}
+use Rattle.forest_tree.specs.Tree.{Branch, Path, beyond}
+use Rattle.machine_names.specs.Name.{next_of}
+use Rattle.machine_names.specs.NameOrder.{back_cmp, path_cmp}
+use Rattle.machine_names.proofs.Back.{decided, undecided}
+use Rattle.machine_names.proofs.Below.{next-apart, next-short, next-there}
+use Rattle.machine_names.proofs.NameMaps.{back-same, same-number}
+
+module _ (list path : Path) (depth : ℕ) (fits : depth ≤ length list) (is : take depth list ≡ path) where
+  pub deep : length path ≡ depth
+  deep = ap length (sym is) ∙ length-take-le depth list fits
+
+  -- the last fork taken off
+  pub popped : (x : Branch) → 0 < depth → x ≡ get_or list (depth - 1) x → path ≡ take (depth - 1) list ++ x ∷ []
+  popped x some x-is =
+      let whole : depth - 1 + 1 ≡ depth = omega arith in
+      sym is ∙ ap (λ n. take n list) (sym whole) ∙ take_more list (depth - 1) x (omega arith) ∙ ap (λ e. take (depth - 1) list ++ e ∷ []) (sym x-is)
+
+  module _ (other way : Path) (depth-way : ℕ) (fits-way : depth-way ≤ length other) (is-way : take depth-way other ≡ way) where
+    long : length way ≡ depth-way
+    long = ap length (sym is-way) ∙ length-take-le depth-way other fits-way
+
+    -- this name goes on from the other, or does not
+    pub next-none : depth ≤ depth-way → None ≡ next_of (beyond way path)
+    next-none short = sym (next-short way path (omega (arith, deep, long)))
+
+    front : depth-way < depth → take (length way) path ≡ take depth-way list
+    front longer = ap (take (length way)) (sym is) ∙ ap (λ n. take n (take depth list)) long ∙ take-take depth-way depth list (omega arith)
+
+    pub next-not : depth-way < depth → is_ne (back_cmp (take depth-way list) (take depth-way other)) ≡ true → None ≡ next_of (beyond way path)
+    next-not longer apart = next-apart way path (ap is_ne (ap₂ back_cmp (front longer) (sym is-way)) ∙ apart)
+
+    pub next-some : depth-way < depth → is_ne (back_cmp (take depth-way list) (take depth-way other)) ≡ false → (x : Branch) → x ≡ get_or list depth-way x
+        → Some x ≡ next_of (beyond way path)
+    next-some longer same x x-is =
+        let begins : take (length way) path ≡ way
+        = front longer ∙ back-same (take depth-way list) (take depth-way other) (undecided (back_cmp (take depth-way list) (take depth-way other)) same) ∙ is-way in
+        let there : x ≡ get_or path (length way) x
+        = x-is ∙ sym (get_or-take depth list depth-way x longer) ∙ ap (λ xs. get_or xs depth-way x) is ∙ ap (λ n. get_or path n x) (sym long) in
+        next-there way path x (omega (arith, deep, long)) begins there
+
+    -- how the two compare
+    by-depth : nat_cmp depth depth-way ≡ nat_cmp (length path) (length way)
+    by-depth = ap₂ nat_cmp (sym deep) (sym long)
+
+    pub cmp-apart : is_ne (nat_cmp depth depth-way) ≡ true → nat_cmp depth depth-way ≡ path_cmp path way
+    unfolding path_cmp
+    cmp-apart apart = decided (nat_cmp depth depth-way) (back_cmp path way) apart ∙ ap (λ o. ordering_then o (back_cmp path way)) by-depth
+
+    pub cmp-alike : is_ne (nat_cmp depth depth-way) ≡ false → back_cmp (take depth list) (take depth other) ≡ path_cmp path way
+    unfolding path_cmp
+    cmp-alike alike =
+        let equal = undecided (nat_cmp depth depth-way) alike in
+        let same : depth ≡ depth-way = same-number depth depth-way equal in
+        ap₂ back_cmp is (ap (λ n. take n other) same ∙ is-way)
+        ∙ ap (λ o. ordering_then o (back_cmp path way)) (sym equal ∙ by-depth)

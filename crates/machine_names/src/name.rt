@@ -1,0 +1,471 @@
+//! Names of machines, which are keys of maps too.
+
+ghost use Rattle.std.specs.Prelude.{◌≡◌, ◌<◌, ◌≤◌, [], drop, length, take, IfOk, IsTrue, MatchOption, OnErr, string_bytes};
+ghost use Rattle.std.specs.Fmt.{WritesOnOk};
+ghost use Rattle.std.specs.List.{flat_map};
+ghost use Rattle.forest_tree.specs.Tree.{beyond, is_below};
+ghost use Rattle.io_edge.specs.Outside.{HasRisen};
+ghost use Rattle.io_edge.specs.Streamed.{Streams};
+ghost use Rattle.machine_names.specs.Name.{begins_with, branch_text, child_path, name_text, next_of};
+ghost use Rattle.machine_names.specs.NameOrder.{back_cmp};
+
+use io_edge::{Sink, SinkBuffer, WriteFault};
+use itoa::write_digits;
+use shared_leaves::{Handle, SharedList};
+use std::alloc::{AllocError, Global};
+use std::cmp::Ordering;
+use std::fmt;
+use std::marker::Model;
+use std::sync::Arc;
+
+/// The bytes of the longest fork in text: two points, and two numbers of ten digits.
+const BRANCH_LENGTH: usize = 22;
+
+/// A fork on the way to a machine: the ticket, and which child of the ticket it is.
+#[derive(Copy)]
+pub struct Branch {
+    ticket: u32,
+    child: u32,
+}
+
+impl Model for Branch {
+    ghost use Rattle.forest_tree.specs.Tree as tree;
+
+    ghost Value = { tree.Branch };
+
+    ghost view = { λ b. record { ticket = b.ticket; child = b.child } };
+
+    ghost inverse = { λ v. record { ticket = v.ticket; child = v.child } };
+}
+
+impl Default for Branch {
+    fn default() -> Branch {
+        Branch::new(0, 0)
+    }
+}
+
+impl Clone for Branch {
+    ghost use Rattle.std.specs.Prelude.{◌≡◌};
+
+    ghost is_clone = { λ branch copy. copy ≡ branch };
+
+    fn clone(&self) -> Result<Branch, AllocError> {
+        Ok(*self)
+    }
+}
+
+impl Handle for Branch {
+    ghost use Rattle.std.proofs.Common.{lit<};
+
+    ghost clone_is_equal = { λ branch copy same. same };
+
+    ghost is_small = { (lit< tt, lit< tt) };
+}
+
+impl Branch {
+    pub fn new(ticket: u32, child: u32) -> Branch
+        ensures { result ≡ record { ticket = ticket; child = child } }
+    {
+        Branch { ticket, child }
+    }
+
+    /// Puts out the fork in text.
+    fn put<K: Sink>(&self, buffer: &mut SinkBuffer, sink: &mut K) -> Result<(), WriteFault>
+        ensures counts { K.faults sink.old ≤ K.faults sink.new }
+        ensures fault { OnErr result (HasRisen (K.faults sink.old) (K.faults sink.new)) }
+        ensures streams { Streams (K.gone sink.old) (K.gone sink.new) buffer.old (branch_text self.now) buffer.new result }
+    {
+        if self.ticket < 10 && self.child < 10 {
+            return buffer.put(sink, &self.short_text());
+        }
+        let mut text = [0; BRANCH_LENGTH];
+        let begin = self.write(&mut text);
+        let (_, text) = text.split_at(begin);
+        buffer.put(sink, text)
+    }
+
+    /// The fork in text, where both of its numbers have one digit.
+    #[inline]
+    #[tactic(auto, using(std::proofs::lemmas::Fmt::decimal_digit))]
+    fn short_text(&self) -> [u8; 4]
+        requires ticket { self.now.ticket < 10 }
+        requires child { self.now.child < 10 }
+        ensures { result ≡ branch_text self.now }
+    {
+        [
+            b'.',
+            b'0' + self.ticket as u8,
+            b'.',
+            b'0' + self.child as u8,
+        ]
+    }
+
+    /// Writes the fork in text to the end of the bytes, and tells where it begins.
+    #[inline]
+    fn write(&self, bytes: &mut [u8; BRANCH_LENGTH]) -> usize
+        ensures within { result ≤ BRANCH_LENGTH }
+        ensures text { drop result bytes.new ≡ branch_text self.now }
+    {
+        let child = write_digits(self.child as u64, bytes, BRANCH_LENGTH) - 1;
+        bytes[child] = b'.';
+        let ticket = write_digits(self.ticket as u64, bytes, child) - 1;
+        bytes[ticket] = b'.';
+        ticket
+    }
+}
+
+impl PartialEq for Branch {
+    ghost use Rattle.std.specs.Ordering.{eq_by_cmp};
+    ghost use Rattle.std.specs.Cmp.{partial_equiv_from_equiv};
+    ghost use Rattle.machine_names.specs.NameOrder.{branch_cmp, branch_eq_laws};
+
+    ghost eq = { eq_by_cmp branch_cmp };
+
+    ghost laws = { partial_equiv_from_equiv branch_eq_laws };
+
+    fn eq(&self, other: &Branch) -> bool {
+        self.cmp(other).is_eq()
+    }
+}
+
+impl Eq for Branch {
+    ghost use Rattle.machine_names.specs.NameOrder.{branch_eq_laws};
+
+    ghost laws = { branch_eq_laws };
+}
+
+impl PartialOrd for Branch {
+    ghost use Rattle.std.specs.Ordering.{as_partial_cmp};
+    ghost use Rattle.std.specs.Cmp.{partial_order_from_total};
+    ghost use Rattle.machine_names.specs.NameOrder.{branch_cmp, branch_cmp_total};
+
+    ghost partial_cmp = { as_partial_cmp branch_cmp };
+
+    ghost laws = { partial_order_from_total branch_cmp_total };
+
+    fn partial_cmp(&self, other: &Branch) -> Option<Ordering> {
+        Some(self.cmp(other))
+    }
+}
+
+impl Ord for Branch {
+    ghost use Rattle.std.specs.Prelude.{refl};
+    ghost use Rattle.machine_names.specs.NameOrder.{branch_cmp, branch_cmp_total};
+
+    ghost cmp = { branch_cmp };
+
+    ghost total = { branch_cmp_total };
+
+    ghost matches_partial_cmp = { λ a b. refl };
+
+    ghost matches_eq = { λ a b. refl };
+
+    #[tactic(auto, unfolding(crate::specs::NameOrder::branch_cmp))]
+    fn cmp(&self, other: &Branch) -> Ordering {
+        self.ticket
+            .cmp(&other.ticket)
+            .then(self.child.cmp(&other.child))
+    }
+}
+
+/// The name of a machine: for each fork on the way to it from the root, the ticket and which child of
+/// the ticket it is. The root's name has none. A copy of a name, and the name of a parent, share the forks
+/// with it; a child's name shares them but for the last few. Names are in the order of their numbers of
+/// forks, and by the last forks where these are as many.
+#[derive(Drop)]
+pub struct Name {
+    /// The forks of this name, and maybe others behind them.
+    branches: Arc<SharedList<Branch>>,
+    /// How many of them are of this name.
+    depth: usize,
+}
+
+impl Model for Name {
+    ghost use Rattle.std.specs.Prelude.{◌≤◌, length, take};
+    ghost use Rattle.std.specs.Arc.{arc_value};
+    ghost use Rattle.forest_tree.specs.Tree.{Path};
+
+    ghost Value = { Path };
+
+    ghost view = { λ n. take n.depth (arc_value n.branches) };
+
+    ghost invariant = { λ n. n.depth ≤ length (arc_value n.branches) };
+}
+
+impl Name {
+    /// The name of the machine that was booted.
+    pub fn root(alloc: Global) -> Result<Name, AllocError>
+        ensures { IfOk result (λ name. name ≡ []) }
+    {
+        Name::of_list(alloc, SharedList::new(alloc))
+    }
+
+    /// The name that has these forks, from the root on.
+    pub fn from_branches(alloc: Global, branches: Vec<Branch>) -> Result<Name, AllocError>
+        ensures { IfOk result (λ name. name ≡ branches.items) }
+    {
+        Name::of_list(alloc, SharedList::from_vec(alloc, branches)?)
+    }
+
+    /// The name that has all forks of a list.
+    fn of_list(alloc: Global, branches: SharedList<Branch>) -> Result<Name, AllocError>
+        ensures { IfOk result (λ name. name ≡ branches) }
+    {
+        let depth = branches.len();
+        Ok(Name {
+            branches: Arc::new(alloc, branches)?,
+            depth,
+        })
+    }
+
+    /// The name of a child of this machine. It costs a handle for each 64 forks of this name, and copies of
+    /// the forks behind these, which are less than 64.
+    pub fn child(&self, alloc: Global, ticket: u32, index: u32) -> Result<Name, AllocError>
+        ensures { IfOk result (λ name. name ≡ child_path self.now ticket index) }
+    {
+        let last = Branch::new(ticket, index);
+        Name::of_list(alloc, self.branches.followed_by(self.depth, last)?)
+    }
+
+    /// The same name once more. It costs one handle.
+    pub fn copy(&self) -> Result<Name, AllocError>
+        ensures { IfOk result (λ name. name ≡ self.now) }
+    {
+        Ok(Name {
+            branches: Arc::try_clone(&self.branches)?,
+            depth: self.depth,
+        })
+    }
+
+    /// How many forks it has.
+    pub fn depth(&self) -> usize
+        ensures { result ≡ length self.now }
+    {
+        self.depth
+    }
+
+    /// The name in text: `0` for the root, and for each fork `.`, the ticket, `.` and the child's number.
+    pub fn text(&self, alloc: Global) -> Result<String, AllocError>
+        ensures { IfOk result (λ text. string_bytes text ≡ name_text self.now) }
+    {
+        self.to_string(alloc)
+    }
+
+    /// Puts out the same text, fork by fork. It takes no memory.
+    pub fn put<K: Sink>(&self, buffer: &mut SinkBuffer, sink: &mut K) -> Result<(), WriteFault>
+        ensures counts { K.faults sink.old ≤ K.faults sink.new }
+        ensures fault { OnErr result (HasRisen (K.faults sink.old) (K.faults sink.new)) }
+        ensures streams { Streams (K.gone sink.old) (K.gone sink.new) buffer.old (name_text self.now) buffer.new result }
+    {
+        buffer.put(sink, b"0")?;
+        put_first(&self.branches, self.depth, buffer, sink)
+    }
+
+    /// Takes the last fork off, its ticket and its child's number, so that the parent's name is left. The
+    /// root's name has none, and stays. It takes no memory.
+    pub fn pop(&mut self) -> Option<(u32, u32)>
+        ensures { MatchOption result ((self.old ≡ []) × (self.new ≡ [])) (λ last. self.old ≡ child_path self.new last.0 last.1) }
+    {
+        if self.depth == 0 {
+            return None;
+        }
+        let last = *self.branches.get(self.depth - 1);
+        self.depth -= 1;
+        Some((last.ticket, last.child))
+    }
+
+    /// Whether this name goes on from another by a child of a ticket.
+    pub fn is_below(&self, name: &Name, ticket: u32) -> bool
+        ensures { result ≡ begins_with ticket (beyond name.now self.now) }
+    {
+        match self.next_beyond(name) {
+            Some(next) => next.ticket == ticket,
+            None => false,
+        }
+    }
+
+    /// Whether this name goes on from another, and is longer.
+    pub fn is_below_all(&self, name: &Name) -> bool
+        ensures { result ≡ is_below name.now self.now }
+    {
+        self.next_beyond(name).is_some()
+    }
+
+    /// The first fork by which this name goes on from another, if it does.
+    fn next_beyond(&self, name: &Name) -> Option<Branch>
+        ensures { result ≡ next_of (beyond name.now self.now) }
+    {
+        if self.depth <= name.depth {
+            return None;
+        }
+        if cmp_back(&self.branches, &name.branches, name.depth).is_ne() {
+            return None;
+        }
+        Some(*self.branches.get(name.depth))
+    }
+}
+
+/// Puts out the first forks of a list in text, one after another.
+fn put_first<K: Sink>(
+    branches: &SharedList<Branch>,
+    count: usize,
+    buffer: &mut SinkBuffer,
+    sink: &mut K,
+) -> Result<(), WriteFault>
+    requires { count ≤ length branches.now }
+    ensures counts { K.faults sink.old ≤ K.faults sink.new }
+    ensures fault { OnErr result (HasRisen (K.faults sink.old) (K.faults sink.new)) }
+    ensures streams { Streams (K.gone sink.old) (K.gone sink.new) buffer.old (flat_map branch_text (take count branches.now)) buffer.new result }
+{
+    'branches: for at in 0..count {
+        branches.get(at).put(buffer, sink)?;
+    }
+    Ok(())
+}
+
+/// How the first forks of two lists compare, as many as `count` tells, from the last of them back.
+fn cmp_back(left: &SharedList<Branch>, right: &SharedList<Branch>, count: usize) -> Ordering
+    requires left { count ≤ length left.now }
+    requires right { count ≤ length right.now }
+    ensures { result ≡ back_cmp (take count left.now) (take count right.now) }
+{
+    let mut rest = count;
+    'runs: while rest > 0 {
+        let ours = left.run_before(rest);
+        let theirs = right.run_before(rest);
+        let len = ours.len().min(theirs.len());
+        let (_, ours) = ours.split_at(ours.len() - len);
+        let (_, theirs) = theirs.split_at(theirs.len() - len);
+        let order = cmp_run_back(ours, theirs);
+        if order.is_ne() {
+            return order;
+        }
+        rest -= len;
+    }
+    Ordering::Equal
+}
+
+/// How two runs of as many forks compare, from the last of them back.
+fn cmp_run_back(left: &[Branch], right: &[Branch]) -> Ordering
+    requires { length left.now ≡ length right.now }
+    ensures { result ≡ back_cmp left.now right.now }
+{
+    // Names are mostly compared with equal ones.
+    if are_same(left, right) {
+        return Ordering::Equal;
+    }
+    let mut rest = left.len();
+    'branches: while rest > 0 {
+        rest -= 1;
+        let order = left[rest].cmp(&right[rest]);
+        if order.is_ne() {
+            return order;
+        }
+    }
+    Ordering::Equal
+}
+
+/// Whether two runs of as many forks are the same. It looks at all of them, so that several are compared at once.
+#[inline]
+fn are_same(left: &[Branch], right: &[Branch]) -> bool
+    requires { length left.now ≡ length right.now }
+    ensures { IsTrue result → left.now ≡ right.now }
+{
+    let mut difference = 0;
+    'branches: for at in 0..left.len() {
+        let (ours, theirs) = (left[at], right[at]);
+        difference |= (ours.ticket ^ theirs.ticket) | (ours.child ^ theirs.child);
+    }
+    difference == 0
+}
+
+impl PartialEq for Name {
+    ghost use Rattle.std.specs.Ordering.{eq_by_cmp};
+    ghost use Rattle.std.specs.Cmp.{partial_equiv_from_equiv};
+    ghost use Rattle.machine_names.specs.NameOrder.{path_cmp, path_eq_laws};
+
+    ghost eq = { eq_by_cmp path_cmp };
+
+    ghost laws = { partial_equiv_from_equiv path_eq_laws };
+
+    fn eq(&self, other: &Name) -> bool {
+        self.cmp(other).is_eq()
+    }
+}
+
+impl Eq for Name {
+    ghost use Rattle.machine_names.specs.NameOrder.{path_eq_laws};
+
+    ghost laws = { path_eq_laws };
+}
+
+impl PartialOrd for Name {
+    ghost use Rattle.std.specs.Ordering.{as_partial_cmp};
+    ghost use Rattle.std.specs.Cmp.{partial_order_from_total};
+    ghost use Rattle.machine_names.specs.NameOrder.{path_cmp, path_cmp_total};
+
+    ghost partial_cmp = { as_partial_cmp path_cmp };
+
+    ghost laws = { partial_order_from_total path_cmp_total };
+
+    fn partial_cmp(&self, other: &Name) -> Option<Ordering> {
+        Some(self.cmp(other))
+    }
+}
+
+impl Ord for Name {
+    ghost use Rattle.std.specs.Prelude.{refl};
+    ghost use Rattle.machine_names.specs.NameOrder.{path_cmp, path_cmp_total};
+
+    ghost cmp = { path_cmp };
+
+    ghost total = { path_cmp_total };
+
+    ghost matches_partial_cmp = { λ a b. refl };
+
+    ghost matches_eq = { λ a b. refl };
+
+    #[tactic(auto, unfolding(crate::specs::NameOrder::path_cmp))]
+    fn cmp(&self, other: &Name) -> Ordering {
+        let order = self.depth.cmp(&other.depth);
+        if order.is_ne() {
+            return order;
+        }
+        cmp_back(&self.branches, &other.branches, self.depth)
+    }
+}
+
+impl fmt::Display for Name {
+    ghost use Rattle.std.specs.Prelude.{Some};
+    ghost use Rattle.machine_names.specs.Name.{name_text};
+
+    ghost output = { λ name. Some (name_text name) };
+
+    fn fmt<W: fmt::Write>(&self, f: &mut fmt::Formatter<W>) -> fmt::Result {
+        write!(f, "0")?;
+        write_first(f, &self.branches, self.depth)
+    }
+}
+
+/// Writes the first forks of a list in text, one after another.
+fn write_first<W: fmt::Write>(
+    f: &mut fmt::Formatter<W>,
+    branches: &SharedList<Branch>,
+    count: usize,
+) -> fmt::Result
+    requires { count ≤ length branches.now }
+    ensures { WritesOnOk W.write_str_gives f.old result (flat_map branch_text (take count branches.now)) f.new }
+{
+    'branches: for at in 0..count {
+        write_branch(f, *branches.get(at))?;
+    }
+    Ok(())
+}
+
+/// Writes a fork in text.
+fn write_branch<W: fmt::Write>(f: &mut fmt::Formatter<W>, branch: Branch) -> fmt::Result
+    ensures { WritesOnOk W.write_str_gives f.old result (branch_text branch) f.new }
+{
+    let Branch { ticket, child } = branch;
+    write!(f, ".{ticket}.{child}")
+}

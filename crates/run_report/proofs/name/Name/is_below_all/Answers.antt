@@ -1,5 +1,0 @@
-use Rattle.std.proofs.Common.{rules}
-use Rattle.run_report.proofs.name.Name.is_below_all.Goals as goal
-
-pub returns : goal.returns
-returns c = search rules

@@ -1,8 +1,0 @@
-use Rattle.std.proofs.Common.{sym, ap, ◌∙◌}
-use Rattle.run_report.specs.NameOrder.{back_cmp}
-use Rattle.run_report.proofs.NameMaps.{back-itself}
-use Rattle.run_report.proofs.name.cmp_run_back.Goals as goal
-
-pub returns-then-are_same : goal.returns-then-are_same
-returns-then-are_same c =
-    sym (ap (back_cmp c.args.left.now) (sym (c.are_same.ensures c.if-are_same.true)) ∙ back-itself c.args.left.now)

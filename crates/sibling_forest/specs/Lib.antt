@@ -1,0 +1,8 @@
+pub mod Talk
+pub mod Settle
+pub mod Fuel
+pub mod Finish
+pub mod Members
+pub mod Laws
+pub mod Toy
+pub mod Report

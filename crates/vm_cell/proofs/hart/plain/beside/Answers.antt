@@ -1,5 +1,0 @@
-use Rattle.std.proofs.Common.{sym}
-use Rattle.vm_cell.proofs.hart.plain.beside.Goals as goal
-
-pub returns : goal.returns
-returns c = λ old new i acts stored next. record { acts = acts; stored = sym stored; next = next }

@@ -1,0 +1,373 @@
+-- Which call the coming step is: none but a store of a word to the fork port's command is one.
+use Rattle.std.proofs.Common.{◌≡◌, ℕ, ◌+◌, ◌-◌, ◌%◌, ◌⊎◌, inl, inr, List, Bool, true, false, cond, eqb, Option, Some, None, refl, sym, ap, ◌∙◌, subst, arith}
+use Rattle.std.specs.Option.{IfSome, option_map}
+use Rattle.std.proofs.lemmas.Bool.Decides.{nat_tests}
+use Rattle.rv_decode.specs.Instruction.{Instruction}
+use Rattle.rv_decode.specs.declared.kinds.Kind.{Kind}
+use Rattle.rv_decode.specs.declared.kinds.Kind.TheVariants.{Sb, Sh, Sw}
+use Rattle.rv_decode.specs.declared.kinds.Group.{Group}
+use Rattle.rv_decode.specs.declared.kinds.Group.TheVariants.{LoadUpper, AddUpper, Jump, JumpRegister, Branch, Load, Store, ComputeImmediate}
+use Rattle.rv_decode.specs.declared.kinds.Group.TheVariants.{Compute, Nothing, EnvironmentCall, Breakpoint, TrapReturn, Csr, LoadReserved, StoreConditional, Amo}
+use Rattle.rv_decode.specs.Kinds.{group_of}
+use Rattle.rv_exec.specs.Memory.{load_width, store_width}
+use Rattle.rv_decode.specs.Table.{decoded}
+use Rattle.rv_traps.specs.Trap.{takes_interrupt}
+use Rattle.rv_traps.specs.declared.registers.CsrRegisters.{CsrRegisters}
+use Rattle.console_port.specs.declared.registers.TheConstants.{CONSOLE_SIZE}
+use Rattle.console_port.specs.Console.{ConsoleRegisters, console_store}
+use Rattle.timer_port.specs.declared.registers.TimerRegisters.{TimerRegisters}
+use Rattle.timer_port.specs.Timer.{timer_store, writes_mtime}
+use Rattle.block_port.specs.declared.registers.TheConstants.{BLOCK_SIZE}
+use Rattle.block_port.specs.Block.{BlockRegisters, block_store}
+use Rattle.fork_port.specs.declared.commands.Asked.{Asked}
+use Rattle.fork_port.specs.declared.commands.Asked.TheVariants as asked
+use Rattle.fork_port.specs.declared.commands.Call.{Call}
+use Rattle.fork_port.specs.declared.commands.Effect.{Effect}
+use Rattle.fork_port.specs.declared.commands.Effect.TheVariants as effect
+use Rattle.fork_port.specs.declared.registers.TheConstants.{FORK_SIZE, FORK_FIRST_ARGUMENT, FORK_SECOND_ARGUMENT, FORK_COMMAND, FORK_JOIN_SELECT}
+use Rattle.fork_port.specs.Registers.{ForkRegisters, RegisterStored, register_store}
+use Rattle.fork_port.specs.Commands.{answered, effect_of, fork_command}
+use Rattle.fork_port.specs.Fork.{ForkStored, carried_out, fork_store}
+use Rattle.fork_port.proofs.TicketLemmas.{either}
+use Rattle.forest_model.specs.declared.port_map.TheConstants.{CONSOLE_BASE, TIMER_BASE, TIMER_SIZE, BLOCK_BASE, FORK_BASE}
+use Rattle.forest_model.specs.Ports.{PortRegisters, Read, Stored, Place, at_console, at_timer, at_block, at_fork, at_no_port}
+use Rattle.forest_model.specs.Ports.{is_within, place_in, place_of, port_load, console_stored, timer_stored, block_stored, fork_stored, store_at, port_store}
+use Rattle.forest_model.specs.State.{State, is_timer_due, at_next_instruction}
+use Rattle.forest_model.specs.Action.{Action, rs1, rs2}
+use Rattle.forest_model.specs.Compute.{load_upper, add_upper, compute_immediate, compute}
+use Rattle.forest_model.specs.Control.{aligned_jump, jump, jump_register, branch_by, branch, relative, linked}
+use Rattle.forest_model.specs.declared.access.Access.{Access}
+use Rattle.forest_model.specs.Access.{Reached, faulted, of_ram, of_port, reached, fetch_access}
+use Rattle.forest_model.specs.Memory.{data_address, read_action, load_by, load_access, load, outcome, stored_outcome, store_by, store_access, store_action, stored_bytes, store, to_store}
+use Rattle.forest_model.specs.Atomic.{is_reserved, reserve_by, reserve_access, load_reserved, conditional_action, conditional_by, conditional_access, store_conditional, amo_by, amo_access, amo}
+use Rattle.forest_model.specs.System.{operation_of, reads, writes, written_action, write_action, old_action, old_value, csr_access, trap_return}
+use Rattle.forest_model.specs.Execute.{action, action_by, decoded_action, execute_group, execute, fetch_action, fetched}
+use Rattle.forest_model.specs.Machine.{next_of}
+use Rattle.forest_model.specs.Footprint.{Footprint, no_change, no_footprint}
+use Rattle.forest_model.specs.Touch.{access_by, data_footprint, footprint_at, footprint_from, footprint_of, footprint_reached, footprint_step}
+use Rattle.vm_hart.specs.Calls.{asked_call, call_asked, AsksFor}
+
+abbrev NoCall : Action → Type 0
+NoCall a = asked_call (next_of a) ≡ None
+
+-- ---- stores
+
+-- an effect that is no call
+abbrev IsOther : Effect → Type 0
+IsOther (effect.Call c) = ⊥
+IsOther effect.Done = Unit {0}
+IsOther effect.TimeWritten = Unit {0}
+IsOther (effect.Exit value) = Unit {0}
+IsOther (effect.Zero first count) = Unit {0}
+
+other-outcome : (e : Effect) (s : State) → IsOther e → NoCall (outcome e s).action
+other-outcome effect.Done s h = refl
+other-outcome effect.TimeWritten s h = refl
+other-outcome (effect.Exit value) s h = refl
+other-outcome (effect.Call c) s h = absurd h
+other-outcome (effect.Zero first count) s h = refl
+
+other-port : (o : Option Stored) (address : ℕ) (s : State) → IfSome o (λ stored. IsOther stored.effect) → NoCall (stored_outcome o address s).action
+other-port None address s h = refl
+other-port (Some stored) address s h = other-outcome stored.effect (at_next_instruction (record s { ports = stored.ports })) h
+
+other-time : (b : Bool) → IsOther (cond b effect.TimeWritten effect.Done)
+other-time true = tt
+other-time false = tt
+
+-- the store is no word for the command
+abbrev IsElsewhere : ℕ → Place → Type 0
+IsElsewhere width (at_fork offset) = (eqb width 4 ≡ false) ⊎ (eqb offset FORK_COMMAND ≡ false)
+IsElsewhere width (at_console offset) = Unit {0}
+IsElsewhere width (at_timer offset) = Unit {0}
+IsElsewhere width (at_block offset) = Unit {0}
+IsElsewhere width at_no_port = Unit {0}
+
+other-console : (o : Option ConsoleRegisters) (ports : PortRegisters) → IfSome (console_stored o ports) (λ stored. IsOther stored.effect)
+other-console None ports = tt
+other-console (Some console) ports = tt
+
+other-timer : (o : Option TimerRegisters) (offset : ℕ) (ports : PortRegisters) → IfSome (timer_stored o offset ports) (λ stored. IsOther stored.effect)
+other-timer None offset ports = tt
+other-timer (Some timer) offset ports = other-time (writes_mtime offset)
+
+other-block : (o : Option BlockRegisters) (ports : PortRegisters) → IfSome (block_stored o ports) (λ stored. IsOther stored.effect)
+other-block None ports = tt
+other-block (Some block) ports = tt
+
+other-fork : (o : Option ForkStored) (ports : PortRegisters) → IfSome o (λ s. IsOther s.effect) → IfSome (fork_stored o ports) (λ stored. IsOther stored.effect)
+other-fork None ports h = tt
+other-fork (Some s) ports h = h
+
+other-register : (f : ForkRegisters) (offset word : ℕ) → eqb offset FORK_COMMAND ≡ false
+    → IfSome (option_map carried_out (register_store f offset word)) (λ s. IsOther s.effect)
+other-register f offset word e =
+    let Q : Option RegisterStored → Type 0 = λ o. IfSome (option_map carried_out o) (λ s. IsOther s.effect) in
+    either Q (eqb offset FORK_FIRST_ARGUMENT) _ _ tt
+    (either Q (eqb offset FORK_SECOND_ARGUMENT) _ _ tt
+    (rw e (either Q (eqb offset FORK_JOIN_SELECT) _ None tt tt)))
+
+other-fork_store : (f : ForkRegisters) (offset width word : ℕ) → (eqb width 4 ≡ false) ⊎ (eqb offset FORK_COMMAND ≡ false)
+    → IfSome (fork_store f offset width word) (λ s. IsOther s.effect)
+unfolding fork_store
+other-fork_store f offset width word (inl narrow) = rw narrow tt
+other-fork_store f offset width word (inr e) =
+    either (λ (o : Option ForkStored). IfSome o (λ s. IsOther s.effect)) (eqb width 4) _ None (other-register f offset word e) tt
+
+other-at : (place : Place) (ports : PortRegisters) (width word : ℕ) → IsElsewhere width place → IfSome (store_at place ports width word) (λ stored. IsOther stored.effect)
+other-at (at_console offset) ports width word h = other-console (console_store ports.console offset width word) ports
+other-at (at_timer offset) ports width word h = other-timer (timer_store ports.timer offset width word) offset ports
+other-at (at_block offset) ports width word h = other-block (block_store ports.block offset width word) ports
+other-at (at_fork offset) ports width word h = other-fork (fork_store ports.fork offset width word) ports (other-fork_store ports.fork offset width word h)
+other-at at_no_port ports width word h = tt
+
+elsewhere-narrow : (width : ℕ) (place : Place) → eqb width 4 ≡ false → IsElsewhere width place
+elsewhere-narrow width (at_fork offset) e = inl e
+elsewhere-narrow width (at_console offset) e = tt
+elsewhere-narrow width (at_timer offset) e = tt
+elsewhere-narrow width (at_block offset) e = tt
+elsewhere-narrow width at_no_port e = tt
+
+-- what holds of both choices, each where it is taken, holds of the choice
+by_test : {A : Type 0} (P : A → Type 0) (b : Bool) (x y : A) → (b ≡ true → P x) → P y → P (cond b x y)
+by_test P true x y p q = p refl
+by_test P false x y p q = q
+
+offset-other : (address : ℕ) → eqb address (FORK_BASE + FORK_COMMAND) ≡ false → is_within FORK_BASE FORK_SIZE address ≡ true
+    → eqb (address - FORK_BASE) FORK_COMMAND ≡ false
+offset-other address e inside = grind (arith, nat_tests)
+
+elsewhere-address : (width address : ℕ) → eqb address (FORK_BASE + FORK_COMMAND) ≡ false → IsElsewhere width (place_of address)
+unfolding place_in
+elsewhere-address width address e =
+    let P : Place → Type 0 = IsElsewhere width in
+    either P (is_within CONSOLE_BASE CONSOLE_SIZE address) _ _ tt
+    (either P (is_within TIMER_BASE TIMER_SIZE address) _ _ tt
+    (either P (is_within BLOCK_BASE BLOCK_SIZE address) _ _ tt
+    (by_test P (is_within FORK_BASE FORK_SIZE address) (at_fork (address - FORK_BASE)) at_no_port (λ inside. inr (offset-other address e inside)) tt)))
+
+other-store_by : (r : Reached) (address width : ℕ) (bytes : List ℕ) (word : ℕ) (s : State) → IsElsewhere width (place_of address)
+    → NoCall (store_by r address width bytes word s)
+unfolding port_store
+other-store_by (faulted cause) address width bytes word s h = refl
+other-store_by (of_ram page) address width bytes word s h = refl
+other-store_by of_port address width bytes word s h =
+    other-port (port_store s.ports address width word) address s (other-at (place_of address) s.ports width word h)
+
+other-store : (i : Instruction) (s : State) → IsElsewhere (store_width i.kind) (place_of (data_address i s)) → NoCall (store i s)
+unfolding store store_action
+other-store i s h =
+    other-store_by (reached (store_access i s) s) (data_address i s) (store_width i.kind) (stored_bytes i s) (rs2 i s) s h
+
+narrow : (kind : Kind) → group_of kind ≡ Store → (kind ≡ Sw → ⊥) → eqb (store_width kind) 4 ≡ false
+unfolding group_of
+narrow Sb h other = refl
+narrow Sh h other = refl
+narrow Sw h other = absurd (other refl)
+narrow _ h other = absurd (cc)
+
+-- ---- all other instructions
+
+none-read_action : (answer : Option Read) (i : Instruction) (address : ℕ) (s : State) → NoCall (read_action answer i address s)
+none-read_action None i address s = refl
+none-read_action (Some read) i address s = refl
+
+none-load_by : (r : Reached) (i : Instruction) (address : ℕ) (s : State) → NoCall (load_by r i address s)
+none-load_by (faulted cause) i address s = refl
+none-load_by (of_ram page) i address s = refl
+none-load_by of_port i address s = none-read_action (port_load s.ports address (load_width i.kind)) i address s
+
+none-aligned_jump : (aligned : Bool) (target : ℕ) (new : State) → NoCall (aligned_jump aligned target new)
+none-aligned_jump false target new = refl
+none-aligned_jump true target new = refl
+
+none-branch_by : (taken : Bool) (i : Instruction) (s : State) → NoCall (branch_by taken i s)
+none-branch_by false i s = refl
+none-branch_by true i s = none-aligned_jump (eqb (relative i s % 4) 0) (relative i s) s
+
+none-reserve_by : (r : Reached) (i : Instruction) (address : ℕ) (s : State) → NoCall (reserve_by r i address s)
+none-reserve_by (faulted cause) i address s = refl
+none-reserve_by (of_ram page) i address s = refl
+none-reserve_by of_port i address s = refl
+
+none-conditional_action : (reserved : Bool) (i : Instruction) (address : ℕ) (s : State) → NoCall (conditional_action reserved i address s)
+none-conditional_action false i address s = refl
+none-conditional_action true i address s = refl
+
+none-conditional_by : (r : Reached) (i : Instruction) (address : ℕ) (s : State) → NoCall (conditional_by r i address s)
+none-conditional_by (faulted cause) i address s = refl
+none-conditional_by (of_ram page) i address s = none-conditional_action (is_reserved s.reservation address) i address s
+none-conditional_by of_port i address s = refl
+
+none-amo_by : (r : Reached) (i : Instruction) (address : ℕ) (s : State) → NoCall (amo_by r i address s)
+none-amo_by (faulted cause) i address s = refl
+none-amo_by (of_ram page) i address s = refl
+none-amo_by of_port i address s = refl
+
+none-written_action : (csrs : Option CsrRegisters) (old : ℕ) (i : Instruction) (word : ℕ) (s : State) → NoCall (written_action csrs old i word s)
+none-written_action None old i word s = refl
+none-written_action (Some csrs) old i word s = refl
+
+none-write_action : (does_write : Bool) (old : ℕ) (i : Instruction) (word : ℕ) (s : State) → NoCall (write_action does_write old i word s)
+none-write_action false old i word s = refl
+none-write_action true old i word s = none-written_action _ old i word s
+
+none-old_action : (old : Option ℕ) (i : Instruction) (word : ℕ) (s : State) → NoCall (old_action old i word s)
+none-old_action None i word s = refl
+none-old_action (Some old) i word s = none-write_action (writes (operation_of i.kind) i) old i word s
+
+none-execute_group : (group : Group) (i : Instruction) (word : ℕ) (s : State) → group_of i.kind ≡ group → (i.kind ≡ Sw → ⊥)
+    → NoCall (execute_group group i word s)
+unfolding load_upper add_upper compute_immediate compute jump jump_register branch load load_reserved store_conditional amo csr_access trap_return
+none-execute_group LoadUpper i word s e other = refl
+none-execute_group AddUpper i word s e other = refl
+none-execute_group Jump i word s e other = none-aligned_jump (eqb (relative i s % 4) 0) (relative i s) (linked i s)
+none-execute_group JumpRegister i word s e other = none-aligned_jump _ _ (linked i s)
+none-execute_group Branch i word s e other = none-branch_by _ i s
+none-execute_group Load i word s e other = none-load_by (reached (load_access i s) s) i (data_address i s) s
+none-execute_group Store i word s e other =
+    other-store i s (elsewhere-narrow (store_width i.kind) (place_of (data_address i s)) (narrow i.kind e other))
+none-execute_group ComputeImmediate i word s e other = refl
+none-execute_group Compute i word s e other = refl
+none-execute_group Nothing i word s e other = refl
+none-execute_group EnvironmentCall i word s e other = refl
+none-execute_group Breakpoint i word s e other = refl
+none-execute_group TrapReturn i word s e other = refl
+none-execute_group Csr i word s e other = none-old_action (old_value (reads (operation_of i.kind) i) i s) i word s
+none-execute_group LoadReserved i word s e other = none-reserve_by (reached (reserve_access i s) s) i (rs1 i s) s
+none-execute_group StoreConditional i word s e other = none-conditional_by (reached (conditional_access i s) s) i (rs1 i s) s
+none-execute_group Amo i word s e other = none-amo_by (reached (amo_access i s) s) i (rs1 i s) s
+
+-- ---- what the coming instruction is
+
+-- an instruction that is no store of a word
+pub no-word : (i : Instruction) (word : ℕ) (s : State) → (i.kind ≡ Sw → ⊥) → asked_call (next_of (execute i word s)) ≡ None
+unfolding execute
+no-word i word s other = none-execute_group (group_of i.kind) i word s refl other
+
+word-stored : (i : Instruction) (word : ℕ) (s : State) → i.kind ≡ Sw → execute i word s ≡ store i s
+unfolding execute group_of
+word-stored i word s is = ap (λ kind. execute_group (group_of kind) i word s) is
+
+differ : (a b : ℕ) → (a ≡ b → ⊥) → eqb a b ≡ false
+differ a b other = grind (arith, nat_tests)
+
+-- a store of a word to another address
+pub no-command : (i : Instruction) (word : ℕ) (s : State) → i.kind ≡ Sw → (data_address i s ≡ FORK_BASE + FORK_COMMAND → ⊥)
+    → asked_call (next_of (execute i word s)) ≡ None
+no-command i word s is other =
+    ap (λ a. asked_call (next_of a)) (word-stored i word s is)
+    ∙ other-store i s (elsewhere-address (store_width i.kind) (data_address i s) (differ (data_address i s) (FORK_BASE + FORK_COMMAND) other))
+
+-- what a command asks for, of which a call waits
+commanded : (a : Asked) (s : State)
+    → AsksFor (outcome (effect_of a) (at_next_instruction (record s { ports = record s.ports { fork = answered a s.ports.fork } }))).action s (call_asked a)
+commanded (asked.Refused word) s = refl
+commanded asked.NewTicket s = refl
+commanded (asked.Discard number) s = refl
+commanded (asked.Call c) s = refl
+commanded (asked.Exit value) s = refl
+commanded (asked.Zero first count) s = refl
+
+store-commands : (bytes : List ℕ) (word : ℕ) (s : State) → store_by of_port (FORK_BASE + FORK_COMMAND) 4 bytes word s
+    ≡ (outcome (effect_of (fork_command s.ports.fork word)) (at_next_instruction (record s { ports = record s.ports { fork = answered (fork_command s.ports.fork word) s.ports.fork } }))).action
+unfolding port_store place_in fork_store
+store-commands bytes word s = refl
+
+-- a store of a word, by what its access comes to
+stored-by : (i : Instruction) (word : ℕ) (s : State) (a : Access) (r : Reached) → i.kind ≡ Sw → a ≡ to_store (data_address i s) 4 → reached a s ≡ r
+    → execute i word s ≡ store_by r (data_address i s) 4 (stored_bytes i s) (rs2 i s) s
+unfolding store store_action
+stored-by i word s a r is at reaches =
+    word-stored i word s is
+    ∙ ap (λ width. store_action (data_address i s) width (stored_bytes i s) (rs2 i s) s) (ap store_width is)
+    ∙ ap (λ x. store_by x (data_address i s) 4 (stored_bytes i s) (rs2 i s) s) (ap (λ x. reached x s) (sym at) ∙ reaches)
+
+none-store_by : (r : Reached) (address width : ℕ) (bytes : List ℕ) (word : ℕ) (s : State) → (r ≡ of_port → ⊥) → NoCall (store_by r address width bytes word s)
+none-store_by (faulted cause) address width bytes word s other = refl
+none-store_by (of_ram page) address width bytes word s other = refl
+none-store_by of_port address width bytes word s other = absurd (other refl)
+
+-- a store of a word that reaches no port
+pub no-port-stored : (i : Instruction) (word : ℕ) (s : State) (a : Access) → i.kind ≡ Sw → a ≡ to_store (data_address i s) 4 → (reached a s ≡ of_port → ⊥)
+    → asked_call (next_of (execute i word s)) ≡ None
+no-port-stored i word s a is at other =
+    ap (λ x. asked_call (next_of x)) (stored-by i word s a (reached a s) is at refl)
+    ∙ none-store_by (reached a s) (data_address i s) 4 (stored_bytes i s) (rs2 i s) s other
+
+-- a store of a word that reaches the command
+pub command : (i : Instruction) (word : ℕ) (s : State) (a : Access) → i.kind ≡ Sw → a ≡ to_store (data_address i s) 4 → reached a s ≡ of_port
+    → data_address i s ≡ FORK_BASE + FORK_COMMAND → AsksFor (execute i word s) s (call_asked (fork_command s.ports.fork (rs2 i s)))
+command i word s a is at reaches here =
+    let same = stored-by i word s a of_port is at reaches
+    ∙ ap (λ address. store_by of_port address 4 (stored_bytes i s) (rs2 i s) s) here
+    ∙ store-commands (stored_bytes i s) (rs2 i s) s in
+    subst (λ a. AsksFor a s (call_asked (fork_command s.ports.fork (rs2 i s)))) (sym same) (commanded (fork_command s.ports.fork (rs2 i s)) s)
+
+-- ---- a call asks nothing of the pages
+
+call-outcome : (e : Effect) (s : State) (c : Call) → asked_call (next_of (outcome e s).action) ≡ Some c → (outcome e s).footprint ≡ no_footprint
+call-outcome effect.Done s c is = refl
+call-outcome effect.TimeWritten s c is = refl
+call-outcome (effect.Exit value) s c is = refl
+call-outcome (effect.Call call) s c is = refl
+call-outcome (effect.Zero first count) s c is = absurd (cc)
+
+call-port : (o : Option Stored) (address : ℕ) (s : State) (c : Call) → asked_call (next_of (stored_outcome o address s).action) ≡ Some c
+    → (stored_outcome o address s).footprint ≡ no_footprint
+call-port None address s c is = refl
+call-port (Some stored) address s c is = call-outcome stored.effect (at_next_instruction (record s { ports = stored.ports })) c is
+
+call-stored : (r : Reached) (i : Instruction) (s : State) (c : Call)
+    → asked_call (next_of (store_by r (data_address i s) (store_width i.kind) (stored_bytes i s) (rs2 i s) s)) ≡ Some c
+    → footprint_reached r (store_access i s) (rs2 i s) s ≡ no_footprint
+call-stored (faulted cause) i s c is = refl
+call-stored (of_ram page) i s c is = absurd (cc)
+call-stored of_port i s c is = call-port (port_store s.ports (data_address i s) (store_width i.kind) (rs2 i s)) (data_address i s) s c is
+
+call-by : (group : Group) (i : Instruction) (word : ℕ) (s : State) (c : Call) → asked_call (next_of (execute_group group i word s)) ≡ Some c
+    → data_footprint (access_by group i s) (rs2 i s) s ≡ no_footprint
+unfolding load store store_action load_reserved store_conditional amo
+call-by Load i word s c is = let none = none-load_by (reached (load_access i s) s) i (data_address i s) s in absurd (cc)
+call-by Store i word s c is = call-stored (reached (store_access i s) s) i s c is
+call-by LoadReserved i word s c is = let none = none-reserve_by (reached (reserve_access i s) s) i (rs1 i s) s in absurd (cc)
+call-by StoreConditional i word s c is = let none = none-conditional_by (reached (conditional_access i s) s) i (rs1 i s) s in absurd (cc)
+call-by Amo i word s c is = let none = none-amo_by (reached (amo_access i s) s) i (rs1 i s) s in absurd (cc)
+call-by LoadUpper i word s c is = refl
+call-by AddUpper i word s c is = refl
+call-by Jump i word s c is = refl
+call-by JumpRegister i word s c is = refl
+call-by Branch i word s c is = refl
+call-by ComputeImmediate i word s c is = refl
+call-by Compute i word s c is = refl
+call-by Nothing i word s c is = refl
+call-by EnvironmentCall i word s c is = refl
+call-by Breakpoint i word s c is = refl
+call-by TrapReturn i word s c is = refl
+call-by Csr i word s c is = refl
+
+pub call-asks-nothing : (i : Instruction) (word : ℕ) (s : State) (c : Call) → asked_call (next_of (execute i word s)) ≡ Some c
+    → footprint_of (Some i) s ≡ no_footprint
+unfolding execute
+call-asks-nothing i word s c is = call-by (group_of i.kind) i word s c is
+
+-- nor does the step, but for the page of its code
+
+module _ (s : State) (c : Call) where
+  decoded-changes : (i : Option Instruction) (word : ℕ) → asked_call (next_of (decoded_action i word s)) ≡ Some c
+      → (footprint_of i s).changes ≡ no_change
+  decoded-changes None word is = refl
+  decoded-changes (Some i) word is = ap (λ (f : Footprint). f.changes) (call-asks-nothing i word s c is)
+
+  fetch-changes : (r : Reached) → asked_call (next_of (fetch_action r s)) ≡ Some c → (footprint_at r s).changes ≡ no_change
+  fetch-changes (faulted cause) is = refl
+  fetch-changes (of_ram page) is = decoded-changes (decoded (fetched s)) (fetched s) is
+  fetch-changes of_port is = refl
+
+  step-changes : (taken : Bool) → asked_call (next_of (action_by taken s)) ≡ Some c → (footprint_step taken s).changes ≡ no_change
+  step-changes true is = refl
+  step-changes false is = fetch-changes (reached (fetch_access s) s) is
+
+  pub call-changes : asked_call (next_of (action s)) ≡ Some c → (footprint_from None s).changes ≡ no_change
+  unfolding action
+  call-changes is = step-changes (takes_interrupt s.csrs (is_timer_due s)) is

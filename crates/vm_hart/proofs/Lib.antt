@@ -1,0 +1,13 @@
+pub mod Waiting
+pub mod Reaching
+pub mod Asks
+pub mod Seeds
+pub mod Runs
+pub mod PortChoice
+pub mod Acting
+pub mod Answering
+pub mod Stepping
+pub mod Fast
+pub mod Kept
+pub mod Aside
+pub mod Crosses

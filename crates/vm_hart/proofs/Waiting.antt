@@ -1,0 +1,27 @@
+-- The page that a step waits for: the first of those that it needs that is not here.
+use Rattle.std.proofs.Common.{◌≡◌, ℕ, true, false, cond, List, [], ◌∷◌, Some, None, inl, inr, refl, ap, ◌∙◌}
+use Rattle.std.proofs.lemmas.Option.{get_or_from_slice_get}
+use Rattle.forest_model.specs.Paged.{Pages, first_absent}
+use Rattle.vm_hart.specs.Acts.{IsMet, WaitsAt}
+use Rattle.vm_hart.specs.Keyed.{IsAbsent, IsHere}
+
+module _ (pages : Pages) where
+  pub one-absent : (page : ℕ) → IsAbsent pages page → (rest : List ℕ) → first_absent pages.here (page ∷ rest) ≡ Some page
+  unfolding first_absent
+  one-absent page absent rest =
+      ap (λ b. cond b (first_absent pages.here rest) (Some page)) (get_or_from_slice_get pages.here page false false absent)
+
+  pub one-here : (page : ℕ) → IsHere pages page → (rest : List ℕ) → first_absent pages.here (page ∷ rest) ≡ first_absent pages.here rest
+  unfolding first_absent
+  one-here page here rest =
+      ap (λ b. cond b (first_absent pages.here rest) (Some page)) (get_or_from_slice_get pages.here page true false here)
+
+  pub met-none : (needs : List ℕ) → IsMet needs pages → first_absent pages.here needs ≡ None
+  unfolding first_absent
+  met-none [] met = refl
+  met-none (page ∷ rest) met = one-here page met.0 rest ∙ met-none rest met.1
+
+  pub waits-first : (needs : List ℕ) (at : ℕ) → WaitsAt needs pages at → first_absent pages.here needs ≡ Some at
+  waits-first [] at waits = absurd waits
+  waits-first (page ∷ rest) at (inl absent) = one-absent page absent.1 rest ∙ ap (λ p. Some p) absent.0
+  waits-first (page ∷ rest) at (inr later) = one-here page later.0 rest ∙ waits-first rest at later.1

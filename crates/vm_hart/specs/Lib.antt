@@ -1,0 +1,11 @@
+pub mod Acts
+pub mod Calls
+pub mod Hart
+pub mod Kept
+pub mod Keyed
+pub mod Fast
+pub mod Placed
+pub mod Runs
+pub mod Seeds
+pub mod Shown
+pub mod Tries
