@@ -18,7 +18,7 @@ pub record GuestValues : Type 0 where
   pub clones : ℕ
 
 -- how its family is run: the seed of the wires, how many pages are asked for beside one that is wanted, the workers, and
--- after how many steps of a machine a worker looks first whether another has none
+-- after how many steps of a machine, 1,000 at most, its worker looks up first
 pub record RunValues : Type 0 where
   pub seed : ℕ
   pub ahead : ℕ

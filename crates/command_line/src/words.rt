@@ -194,7 +194,8 @@ impl RunWords {
         self.workers
     }
 
-    /// After how many steps of a machine a worker looks first whether another has none.
+    /// After how many steps of a machine, 1,000 at most, its worker looks up first: whether the family has ended, and
+    /// whether another is to look for machines.
     pub fn slice(&self) -> u32
         ensures value { result ≡ self.now.slice }
         ensures least { LEAST_SLICE ≤ result }

@@ -50,6 +50,7 @@ module _ (board : BoardValue) where
     same_number = e.same_seat;
     same_splits = e.same_splits;
     same_mine = ap entries e.same_mine;
+    same_ended = e.same_ended;
     between = entries e.later.0;
     seen = ap entries e.later.1 ∙ entries-append old.me.0.seen e.later.0;
     others =
@@ -67,6 +68,7 @@ module _ (board : BoardValue) where
     same_board = refl;
     same_number = l.same_seat;
     same_splits = l.same_splits;
+    same_ended = l.same_ended;
     seen = ap entries l.seen ∙ entries-append now.me.0.seen ((now.me.0.seat, note) ∷ []);
     mine = ap entries l.mine ∙ entries-append now.me.0.mine ((now.me.0.seat, note) ∷ []);
     own = own-entries new.me.0.seat new.me.0.seen new.me.0.mine seat.own;
@@ -89,9 +91,16 @@ module _ (board : BoardValue) where
       legal = legal;
       free = free;
       held = held;
+      ended = j.ended;
+      still = λ s has. as-entries s seat (j.still s has);
+      last = λ s has. as-entries s other (j.last s has);
     },
   )
     where
+      as-entries : (s : Seat) (old : Place) → entries_by s new.me.0.seen ≡ entries_by s old.me.0.seen
+          → entries_by s (entries new.me.0.seen) ≡ entries_by s (entries old.me.0.seen)
+      as-entries s old same = entries-by s new.me.0.seen ∙ ap entries same ∙ sym (entries-by s old.me.0.seen)
+
       none : entries_by seat.me.0.seat (entries j.seen.0) ≡ []
       none =
           no-others seat.me.0.seat j.seen.0
@@ -169,6 +178,7 @@ noted pass now new w note entry v p is legal = record {
   same_board = p.same_board ∙ v.same_board;
   same_number = p.same_number ∙ v.same_number;
   same_splits = p.same_splits ∙ v.same_splits;
+  same_ended = p.same_ended ∙ v.same_ended;
   between = v.between;
   seen = p.seen ∙ ap₂ (λ l e. l ++ e ∷ []) v.seen last;
   others = v.others;

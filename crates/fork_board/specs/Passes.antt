@@ -1,5 +1,5 @@
 -- What contracts see of a board and of its passes.
-use Rattle.std.specs.Prelude.{◌≡◌, ◌≢◌, ◌⊎◌, ℕ, ◌≤◌, [], ◌∷◌, ◌++◌, Some}
+use Rattle.std.specs.Prelude.{◌≡◌, ◌≢◌, ◌⊎◌, ℕ, ◌≤◌, true, List, [], ◌∷◌, ◌++◌, Some}
 use Rattle.std.specs.Option.{IfSome}
 use Rattle.atomic_table.specs.Seated.{TableId}
 use Rattle.forest_tree.specs.Tree.{Path}
@@ -8,6 +8,7 @@ use Rattle.forest_history.specs.Rows.{over, stopped, idle, took, nothing, spent,
 use Rattle.forest_model.specs.Forest.{machines}
 use Rattle.forest_model.specs.Machine.{Machine}
 use Rattle.turn_board.specs.History.{entries_by}
+use Rattle.turn_board.specs.Seats.{has_seat}
 use Rattle.world_core.specs.declared.reason.Reason.{Reason}
 use Rattle.world_core.specs.declared.world.World.{World}
 use Rattle.world_core.specs.Lent.{Lent}
@@ -29,6 +30,12 @@ pub record PassValue : Type 0 where
   pub seen : History Reason
   -- the entries that it made
   pub mine : History Reason
+  -- the numbers of the passes that were joined to it, and to those
+  pub ended : List Seat
+
+-- the first pass of a board
+abbrev pub first_pass : BoardValue → PassValue
+first_pass board = record { board = board; number = []; splits = 0; seen = []; mine = []; ended = [] }
 
 -- what is on record after all that the pass has seen
 abbrev pub seen_record : PassValue → Record Machine Reason
@@ -83,6 +90,7 @@ pub record Makes (old new : PassValue) (entry : Entry Reason) : Type 0 where
   pub same_board : new.board ≡ old.board
   pub same_number : new.number ≡ old.number
   pub same_splits : new.splits ≡ old.splits
+  pub same_ended : new.ended ≡ old.ended
   pub between : History Reason
   pub seen : new.seen ≡ (old.seen ++ between) ++ (old.number, entry) ∷ []
   -- none of those in between is the pass's own
@@ -96,7 +104,8 @@ pub record Makes (old new : PassValue) (entry : Entry Reason) : Type 0 where
   pub held : (lease : Lent) → IsHeld old lease → Leaves entry lease.name → IsHeld new lease
 
 -- the pass has seen the longer of what two had seen, of which the other is the beginning. All of it is legal, and the
--- pass holds what it held, and has no entries but its own
+-- pass holds what it held, and has no entries but its own. The second has ended: of it, and of those that ended before, the
+-- pass has seen all entries
 pub record Joins (pass other new : PassValue) : Type 0 where
   pub same_board : new.board ≡ pass.board
   pub same_number : new.number ≡ pass.number
@@ -109,6 +118,9 @@ pub record Joins (pass other new : PassValue) : Type 0 where
   pub legal : IsLegal machines new.seen (opening_record new.board.opening)
   pub free : (name : Path) → IsFree pass name → IsFree new name
   pub held : (lease : Lent) → IsHeld pass lease → IsHeld new lease
+  pub ended : new.ended ≡ pass.ended ++ other.number ∷ other.ended
+  pub still : (seat : Seat) → has_seat pass.ended seat ≡ true → entries_by seat new.seen ≡ entries_by seat pass.seen
+  pub last : (seat : Seat) → has_seat (other.number ∷ other.ended) seat ≡ true → entries_by seat new.seen ≡ entries_by seat other.seen
 
 -- the whole history begins with what the pass had seen, and has no more entries of its number. The world follows it
 pub record Closes (pass : PassValue) (w : World) : Type 0 where

@@ -29,6 +29,7 @@ pass_of board seat = record {
   splits = seat.me.0.splits;
   seen = entries seat.me.0.seen;
   mine = entries seat.me.0.mine;
+  ended = seat.me.0.ended;
 }
 
 -- the seat is one of this board and has no turn, and what it has seen is legal from the machine of the opening on
@@ -43,6 +44,7 @@ pub record Visits (pass now : PassValue) (w : World) : Type 0 where
   pub same_number : now.number ≡ pass.number
   pub same_splits : now.splits ≡ pass.splits
   pub same_mine : now.mine ≡ pass.mine
+  pub same_ended : now.ended ≡ pass.ended
   pub between : History Reason
   pub seen : now.seen ≡ pass.seen ++ between
   pub others : entries_by pass.number between ≡ []
@@ -54,6 +56,7 @@ pub record Passed (now new : PassValue) (note : Note) : Type 0 where
   pub same_board : new.board ≡ now.board
   pub same_number : new.number ≡ now.number
   pub same_splits : new.splits ≡ now.splits
+  pub same_ended : new.ended ≡ now.ended
   pub seen : new.seen ≡ now.seen ++ (now.number, entry_of note) ∷ []
   pub mine : new.mine ≡ now.mine ++ (now.number, entry_of note) ∷ []
   pub own : entries_by new.number new.seen ≡ new.mine

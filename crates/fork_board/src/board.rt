@@ -8,7 +8,7 @@ ghost use Rattle.world_core.specs.Told.{told_of};
 ghost use Rattle.world_core.specs.World.{StandsFor};
 ghost use Rattle.fork_board.specs.Follows.{Follows};
 ghost use Rattle.fork_board.specs.Notes.{entries, entry_of};
-ghost use Rattle.fork_board.specs.Passes.{Closes, HoldsNone, Joins};
+ghost use Rattle.fork_board.specs.Passes.{Closes, HoldsNone, Joins, first_pass};
 ghost use Rattle.fork_board.specs.Visits.{Passed, Visits, pass_of};
 
 use crate::note::{Note, Opening};
@@ -75,7 +75,7 @@ impl Board {
         requires world { StandsFor depot.now world (world_of paged_machines (paged first.value)) }
         requires told { told_of world ≡ [] }
         ensures opening { IfOk result (λ made. (made.0.opening.first.value ≡ first.value) × (made.0.opening.depot.value ≡ depot.now)) }
-        ensures pass { IfOk result (λ made. made.1 ≡ record { board = made.0; number = []; splits = 0; seen = []; mine = [] }) }
+        ensures pass { IfOk result (λ made. made.1 ≡ first_pass made.0) }
         ensures none { IfOk result (λ made. HoldsNone made.1) }
     {
         let opening = Opening {
@@ -96,7 +96,7 @@ impl Board {
         requires parts { length pass.number < 3 }
         requires splits { pass.splits < 65535 }
         ensures old { result.0 ≡ record pass { splits = pass.splits + 1 } }
-        ensures new { result.1 ≡ record pass { number = pass.number ++ pass.splits ∷ []; splits = 0; mine = [] } }
+        ensures new { result.1 ≡ record pass { number = pass.number ++ pass.splits ∷ []; splits = 0; mine = []; ended = [] } }
         ensures none { HoldsNone result.1 }
     {
         let Pass { opening, seat } = pass;

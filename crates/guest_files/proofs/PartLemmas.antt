@@ -6,13 +6,13 @@ use Rattle.console_port.specs.declared.port.TheConstants.{MAX_INPUT}
 use Rattle.io_edge.specs.Outside.{HasRisen, next_count}
 use Rattle.io_edge.specs.declared.outside.ShelfError.{ShelfError}
 use Rattle.io_edge.specs.declared.outside.ShelfError.TheVariants.{Fault}
-use Rattle.io_edge.specs.Asked.{Asked, asked_after}
+use Rattle.io_edge.specs.Asked.{Asked, asked_after, names_after}
 use Rattle.command_line.specs.Words.{GuestValues}
 use Rattle.guest_files.specs.declared.stop.TheConstants.{IMAGE_MOST, DISK_MOST, IMAGE_LOAD, DISK_LOAD, INPUT_LOAD}
 use Rattle.guest_files.specs.declared.stop.Stop.{Stop}
 use Rattle.guest_files.specs.declared.stop.Stop.TheVariants.{ReadFault, ImageRefused, DataRefused, ScriptRefused, WriteFault, Wire, Memory}
 use Rattle.guest_files.specs.Reads.{Files, Refusal, no_meaning, no_file, image_too_long, image_refused, disk_too_long, disk_not_sectors, input_too_long, script_too_long, script_refused, and_then, file_read, option_read, image_read, disk_read, input_read, guest_read, Guest, with_disk, with_image}
-use Rattle.guest_files.specs.Parts.{IsImageRefusal, IsDataRefusal, IsScriptRefusal, last_load_before, last_load, AreAsked, counted, IsFaultOf, Stops, Gives, Makes}
+use Rattle.guest_files.specs.Parts.{IsImageRefusal, IsDataRefusal, IsScriptRefusal, last_load_before, last_load, Load, load_of, AreAsked, counted, named, IsFaultOf, Stops, Gives, Makes}
 
 -- ---- a part before others
 
@@ -173,42 +173,60 @@ image-after values files image =
 
 -- ---- the loads that were asked for
 
-counted-append : (first later : List ℕ) (count : ℕ) → counted (first ++ later) count ≡ counted later (counted first count)
+counted-append : (first later : List Load) (count : ℕ) → counted (first ++ later) count ≡ counted later (counted first count)
 counted-append [] later count = refl
 counted-append (load ∷ first) later count = counted-append first later (next_count count)
 
-pub asked-both : (first later : List ℕ) (old mid new : Asked) → AreAsked first old mid → AreAsked later mid new → AreAsked (first ++ later) old new
-asked-both first later old mid new before after = after ∙ ap (counted later) before ∙ sym (counted-append first later old.loads)
+named-append : (first later : List Load) (names : Option (List (List ℕ))) → named (first ++ later) names ≡ named later (named first names)
+named-append [] later names = refl
+named-append (load ∷ first) later names = named-append first later (names_after load.name names)
+
+pub asked-both : (first later : List Load) (old mid new : Asked) → AreAsked first old mid → AreAsked later mid new → AreAsked (first ++ later) old new
+asked-both first later old mid new before after = (
+  after.0 ∙ ap (counted later) before.0 ∙ sym (counted-append first later old.loads),
+  after.1 ∙ ap (named later) before.1 ∙ sym (named-append first later old.names),
+)
 
 -- a load alone that had a fault
-pub fault-of-one : {A : Type 0} (load : ℕ) (result : Result A ShelfError) (old new : Asked) → result ≡ Err Fault → new ≡ asked_after result old
-    → IsFaultOf (load ∷ []) load old new
-fault-of-one load result old new is_fault tells =
-    let after = tells ∙ ap (λ r. asked_after r old) is_fault in
-    record { before = []; rest = []; place = refl; asked = ap (λ (asked : Asked). asked.loads) after; fault = rw after refl }
+pub fault-of-one : {A : Type 0} (number : ℕ) (name : List ℕ) (result : Result A ShelfError) (old new : Asked) → result ≡ Err Fault
+    → new ≡ asked_after name result old → IsFaultOf (load_of number name ∷ []) number old new
+fault-of-one number name result old new is_fault tells =
+    let after = tells ∙ ap (λ r. asked_after name r old) is_fault in
+    record {
+      name = name;
+      before = [];
+      rest = [];
+      place = refl;
+      asked = (ap (λ (asked : Asked). asked.loads) after, ap (λ (asked : Asked). asked.names) after);
+      fault = rw after refl;
+    }
 
 -- no more than some of these loads were asked for
-pub fault-before : (loads more : List ℕ) (load : ℕ) (old new : Asked) → IsFaultOf loads load old new → IsFaultOf (loads ++ more) load old new
-fault-before loads more load old new h = record {
+pub fault-before : (loads more : List Load) (number : ℕ) (old new : Asked) → IsFaultOf loads number old new → IsFaultOf (loads ++ more) number old new
+fault-before loads more number old new h = record {
+  name = h.name;
   before = h.before;
   rest = h.rest ++ more;
-  place = ap (λ all. all ++ more) h.place ∙ append_assoc h.before (load ∷ h.rest) more;
+  place = ap (λ all. all ++ more) h.place ∙ append_assoc h.before (load_of number h.name ∷ h.rest) more;
   asked = h.asked;
   fault = h.fault;
 }
 
 -- others were asked for before these
-pub fault-after : (first loads : List ℕ) (load : ℕ) (old mid new : Asked) → AreAsked first old mid → IsFaultOf loads load mid new
-    → IsFaultOf (first ++ loads) load old new
-fault-after first loads load old mid new before h = record {
-  before = first ++ h.before;
-  rest = h.rest;
-  place = ap (λ all. first ++ all) h.place ∙ sym (append_assoc first h.before (load ∷ h.rest));
-  asked =
-      subst (λ all. AreAsked all old new) (sym (append_assoc first h.before (load ∷ [])))
-      (asked-both first (h.before ++ (load ∷ [])) old mid new before h.asked);
-  fault = h.fault;
-}
+pub fault-after : (first loads : List Load) (number : ℕ) (old mid new : Asked) → AreAsked first old mid → IsFaultOf loads number mid new
+    → IsFaultOf (first ++ loads) number old new
+fault-after first loads number old mid new before h =
+    let load = load_of number h.name in
+    record {
+      name = h.name;
+      before = first ++ h.before;
+      rest = h.rest;
+      place = ap (λ all. first ++ all) h.place ∙ sym (append_assoc first h.before (load ∷ h.rest));
+      asked =
+          subst (λ all. AreAsked all old new) (sym (append_assoc first h.before (load ∷ [])))
+          (asked-both first (h.before ++ (load ∷ [])) old mid new before h.asked);
+      fault = h.fault;
+    }
 
 -- ---- the files of a guest, over those that the shelf tells before each load
 

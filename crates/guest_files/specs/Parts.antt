@@ -1,7 +1,7 @@
 -- How the parts of the program end, by what the files tell of each (none where the shelf does not tell its files).
 use Rattle.std.specs.Prelude.{◌≡◌, ℕ, ◌≤◌, ◌⊎◌, List, [], ◌∷◌, ◌++◌, Option, Some, None, Result, Ok, Err, IfSome, IsSome, IsOkAnd, IsErrAnd}
 use Rattle.io_edge.specs.Outside.{next_count}
-use Rattle.io_edge.specs.Asked.{Asked}
+use Rattle.io_edge.specs.Asked.{Asked, names_after}
 use Rattle.guest_files.specs.declared.stop.TheConstants.{TOO_LONG, DISK_TOO_LONG, DISK_NOT_SECTORS, INPUT_TOO_LONG, SCRIPT_TOO_LONG, IMAGE_LOAD, DISK_LOAD, INPUT_LOAD, SCRIPT_LOAD}
 use Rattle.guest_files.specs.declared.stop.Stop.{Stop}
 use Rattle.guest_files.specs.declared.stop.Stop.TheVariants.{ReadFault, ImageRefused, DataRefused, ScriptRefused, WriteFault, Wire, Memory}
@@ -50,36 +50,50 @@ IsLoadOf (run values how) load = IsGuestLoad values load
 IsLoadOf (drive values script) load = IsGuestLoad values load ⊎ (load ≡ SCRIPT_LOAD)
 IsLoadOf (generated values) load = ⊥
 
+-- a load that is asked for: its number, and the name of its file
+pub record Load : Type 0 where
+  pub number : ℕ
+  pub name : List ℕ
+
+abbrev pub load_of : ℕ → List ℕ → Load
+load_of number name = record { number = number; name = name }
+
 -- the load of a name, where it is given
-abbrev pub load_if : ℕ → Option (List ℕ) → List ℕ
-load_if load None = []
-load_if load (Some name) = load ∷ []
+abbrev pub load_if : ℕ → Option (List ℕ) → List Load
+load_if number None = []
+load_if number (Some name) = load_of number name ∷ []
 
 -- the loads that the values of a guest ask for, in order
-abbrev pub guest_loads : GuestValues → List ℕ
-guest_loads values = IMAGE_LOAD ∷ (load_if DISK_LOAD values.disk ++ load_if INPUT_LOAD values.input)
+abbrev pub guest_loads : GuestValues → List Load
+guest_loads values = load_of IMAGE_LOAD values.image ∷ (load_if DISK_LOAD values.disk ++ load_if INPUT_LOAD values.input)
 
 -- those that a command asks for
-abbrev pub loads_of : Command → List ℕ
+abbrev pub loads_of : Command → List Load
 loads_of (run values how) = guest_loads values
-loads_of (drive values script) = guest_loads values ++ (SCRIPT_LOAD ∷ [])
+loads_of (drive values script) = guest_loads values ++ (load_of SCRIPT_LOAD script ∷ [])
 loads_of (generated values) = []
 
 -- a count after these loads
-abbrev pub counted : List ℕ → ℕ → ℕ
+abbrev pub counted : List Load → ℕ → ℕ
 counted [] count = count
 counted (load ∷ loads) count = counted loads (next_count count)
 
--- all of these loads were asked for
-abbrev pub AreAsked : List ℕ → Asked → Asked → Type 0
-AreAsked loads old new = new.loads ≡ counted loads old.loads
+-- the names that were asked for after them, where they are told
+abbrev pub named : List Load → Option (List (List ℕ)) → Option (List (List ℕ))
+named [] names = names
+named (load ∷ loads) names = named loads (names_after load.name names)
 
--- of these loads this one was the last that was asked for, and had a fault
-pub record IsFaultOf (loads : List ℕ) (load : ℕ) (old new : Asked) : Type 0 where
-  pub before : List ℕ
-  pub rest : List ℕ
-  pub place : loads ≡ before ++ (load ∷ rest)
-  pub asked : AreAsked (before ++ (load ∷ [])) old new
+-- just these loads were asked for, each once and in this order
+abbrev pub AreAsked : List Load → Asked → Asked → Type 0
+AreAsked loads old new = (new.loads ≡ counted loads old.loads) × (new.names ≡ named loads old.names)
+
+-- of these loads the one of this number was the last that was asked for, and had a fault
+pub record IsFaultOf (loads : List Load) (number : ℕ) (old new : Asked) : Type 0 where
+  pub name : List ℕ
+  pub before : List Load
+  pub rest : List Load
+  pub place : loads ≡ before ++ (load_of number name ∷ rest)
+  pub asked : AreAsked (before ++ (load_of number name ∷ [])) old new
   pub fault : new.last_fault ≡ new.loads
 
 -- the last load that a command may ask for, or 0 where it asks for none

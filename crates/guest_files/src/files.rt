@@ -4,7 +4,7 @@ ghost use Rattle.std.specs.Prelude.{◌≡◌, ◌≤◌, [], ◌∷◌, length,
 ghost use Rattle.std.specs.Option.{option_map};
 ghost use Rattle.io_edge.specs.Outside.{HasRisen};
 ghost use Rattle.guest_files.specs.Reads.{Refusal, file_read, guest_read, option_read};
-ghost use Rattle.guest_files.specs.Parts.{AreAsked, Gives, IsFaultOf, IsGuestLoad, IsTooLong, guest_loads, load_if};
+ghost use Rattle.guest_files.specs.Parts.{AreAsked, Gives, IsFaultOf, IsGuestLoad, IsTooLong, guest_loads, load_if, load_of};
 
 use crate::stop::{
     DISK_LOAD, DISK_MOST, DISK_TOO_LONG, IMAGE_LOAD, IMAGE_MOST, INPUT_LOAD, INPUT_TOO_LONG, Stop,
@@ -135,12 +135,12 @@ pub fn load_file<S: Shelf>(
 ) -> Result<Vec<u8>, Stop>
     ensures gives { (refusal : Refusal) → IsTooLong load too_long refusal
         → Gives load (λ at. (at ≡ load) × HasRisen (S.faults shelf.old) (S.faults shelf.new)
-        × IsFaultOf (load ∷ []) at (S.asked shelf.old) (S.asked shelf.new))
+        × IsFaultOf (load_of load name.now ∷ []) at (S.asked shelf.old) (S.asked shelf.new))
         (option_map (λ files. file_read load most refusal (files name.now)) (S.files shelf.old)) (λ bytes told. bytes.items ≡ told) result }
     ensures most { IfOk result (λ bytes. vec_len bytes ≤ most) }
     ensures same { S.files shelf.new ≡ S.files shelf.old }
     ensures counts { S.faults shelf.old ≤ S.faults shelf.new }
-    ensures asked { OnOk result (AreAsked (load ∷ []) (S.asked shelf.old) (S.asked shelf.new)) }
+    ensures asked { OnOk result (AreAsked (load_of load name.now ∷ []) (S.asked shelf.old) (S.asked shelf.new)) }
 {
     match shelf.load(alloc, name, most) {
         Ok(bytes) => Ok(bytes),

@@ -1,5 +1,5 @@
 -- How a worker's work ends.
-use Rattle.std.proofs.Common.{◌≡◌, [], ◌∷◌, ◌++◌, refl, sym, ap, ap₂, ◌∙◌, subst}
+use Rattle.std.proofs.Common.{◌≡◌, [], ◌∷◌, ◌++◌, refl, ap, ap₂, ◌∙◌, subst}
 use Rattle.forest_tree.specs.Settle.{has_ended}
 use Rattle.forest_tree.specs.Tree.{Path}
 use Rattle.forest_history.specs.Places.{spots}
@@ -14,8 +14,7 @@ use Rattle.fork_board.specs.Follows.{opening_record, record_at}
 use Rattle.fork_board.specs.declared.note.Opening.{Opening}
 use Rattle.fork_board.specs.Passes.{BoardValue, Makes, PassValue, seen_record}
 use Rattle.fork_board.proofs.Records.{record-more}
-use Rattle.host_workers.specs.Finishes.{Finishes, IsDone, IsStopped, end_row}
-use Rattle.host_workers.specs.declared.finish.Finish.{Finish}
+use Rattle.host_workers.specs.Finishes.{Finishes, IsStopped}
 use Rattle.host_workers.specs.declared.finish.Finish.TheVariants.{Over, Stopped}
 use Rattle.host_workers.proofs.Stops.{going-unstopped}
 
@@ -65,12 +64,3 @@ pub taken-going : (old new : PassValue) (name : Path) → Makes old new (row (to
 unfolding Allows does
 taken-going old new name m =
     going-unstopped new (ap (λ (f : Family). f.halted) (goes old new (took name) m) ∙ (may old new (took name) m).0.1)
-
--- whoever finds an end is done
-pub done-last : (old new : PassValue) (finish : Finish) → Makes old new (row (end_row finish)) → IsDone new.number new.seen
-done-last old new finish m = record {
-  end = finish;
-  before = old.seen ++ m.between;
-  after = [];
-  is = subst (λ (n : Seat). new.seen ≡ (old.seen ++ m.between) ++ (n, row (end_row finish)) ∷ []) (sym m.same_number) m.seen;
-}

@@ -1,19 +1,24 @@
 -- What several workers know, when their passes are joined.
-use Rattle.std.proofs.Common.{◌≡◌, ◌≢◌, ◌⊎◌, inl, inr, ℕ, zero, suc, ◌+◌, ◌<◌, ◌≤◌, Bool, true, false, List, [], ◌∷◌, ◌++◌, append_assoc, length, Option, Some, None, option_map, IsSomeAnd, refl, sym, ap, ap₂, ◌∙◌, subst, arith}
+use Rattle.std.proofs.Common.{◌≡◌, ◌≢◌, ◌⊎◌, inl, inr, ℕ, zero, suc, ◌+◌, ◌<◌, ◌≤◌, Bool, true, false, List, [], ◌∷◌, ◌++◌, append_assoc, append-nil, length, Option, Some, None, option_map, IsSomeAnd, refl, sym, ap, ap₂, ◌∙◌, subst, arith}
 use Rattle.std.proofs.lemmas.Bool.{cases_eq}
+use Rattle.std.proofs.lemmas.List.Elements.{filter-append}
 use Rattle.std.proofs.lemmas.Slice.Eq.{bytes_eq-Decides}
-use Rattle.forest_history.specs.Histories.{row, History, IsLegal, Seat}
+use Rattle.forest_history.specs.Histories.{Entry, History, IsLegal, Seat}
 use Rattle.forest_model.specs.Forest.{machines}
-use Rattle.turn_board.specs.Seats.{is_seat}
-use Rattle.turn_board.proofs.Names.{same_is}
+use Rattle.turn_board.specs.History.{entries_by}
+use Rattle.turn_board.specs.Seats.{has_seat, is_seat}
+use Rattle.turn_board.proofs.Names.{has_back, has_front, has_new, same_is}
 use Rattle.world_core.specs.declared.reason.Reason.{Reason}
 use Rattle.world_core.specs.declared.reason.Reason.TheVariants as reason
-use Rattle.fork_board.specs.Follows.{opening_record}
-use Rattle.fork_board.specs.Passes.{BoardValue, Joins, PassValue, seen_record}
-use Rattle.host_workers.specs.Finishes.{AreDone, Finishes, IsDone, IsForeign, IsStopped, IsStoppedElsewhere, Worked, WorkedAll, end_row, first_stop, is_over}
+use Rattle.fork_board.specs.Follows.{opening_record, record_at}
+use Rattle.fork_board.specs.Passes.{BoardValue, HoldsNone, Joins, PassValue, seen_record}
+use Rattle.fork_board.proofs.Entries.{none-between}
+use Rattle.fork_board.proofs.Records.{Free, free-more}
+use Rattle.host_workers.specs.Finishes.{AreDone, Finishes, IsDone, IsForeign, IsStopped, IsStoppedElsewhere, WorkedAll, first_stop, is_over}
 use Rattle.host_workers.specs.Lost.{IsLost, IsOneLost}
 use Rattle.host_workers.specs.Spread.{BlamesOne, WorkAll, Works, child, finish_of, parent}
-use Rattle.host_workers.specs.Stays.{Blames}
+use Rattle.host_workers.specs.Stages.{Goes, done, free}
+use Rattle.host_workers.specs.Stays.{Blames, Worked}
 use Rattle.host_workers.specs.declared.finish.Finish.{Finish}
 use Rattle.host_workers.specs.declared.finish.Finish.TheVariants.{Over, Stopped}
 use Rattle.host_workers.proofs.Over.{over-later, over-same}
@@ -56,7 +61,7 @@ same-or-other a b = by (is_seat a b) refl
     by false is = inr (λ same. let yes : true ≡ false = sym (same_is a) ∙ ap (is_seat a) same ∙ is in absurd (cc))
 
 -- whom the end of one worker's work blames
-worker-blames : {W : Type 0} (streak : W → ℕ) (wire : W) (old new : PassValue) → Worked old new → Blames streak wire old new → (stop : Seat × Reason)
+worker-blames : {W : Type 0} (streak : W → ℕ) (wire : W) (old new : PassValue) → Worked free done old new → Blames streak wire old new → (stop : Seat × Reason)
     → first_stop new.seen ≡ Some stop → stop.1 ≡ reason.Wire → IsLost streak wire ⊎ (IsStopped old ⊎ IsForeign old stop.0)
 worker-blames streak wire old new w blames stop is for_wire = by (same-or-other stop.0 new.number)
   where
@@ -97,20 +102,41 @@ both-foreign pass seat below beside = record {
 
 -- ---- who is done
 
--- who was done is so in a longer history
-done-later : (seat : Seat) (log more whole : History Reason) → whole ≡ log ++ more → IsDone seat log → IsDone seat whole
-done-later seat log more whole seen d = record {
-  end = d.end;
-  before = d.before;
-  after = d.after ++ more;
-  is = seen ∙ ap (λ l. l ++ more) d.is ∙ append_assoc d.before ((seat, row (end_row d.end)) ∷ d.after) more;
+module _ (seat : Seat) (before : History Reason) (mid new : PassValue) (board : new.board ≡ mid.board) (more : History Reason)
+    (seen : new.seen ≡ mid.seen ++ more) (all : entries_by seat new.seen ≡ entries_by seat mid.seen) where
+  none-more : entries_by seat more ≡ []
+  none-more = none-between seat mid.seen more (entries_by seat mid.seen) refl (ap (entries_by seat) (sym seen) ∙ all)
+
+  -- who was done is so in a longer history, which has no more entries of it
+  done-later : IsDone seat before mid → IsDone seat before new
+  done-later d = record {
+    rest = d.rest ++ more;
+    seen = seen ∙ ap (λ l. l ++ more) d.seen ∙ append_assoc before d.rest more;
+    goes =
+        subst (λ l. Goes free l done)
+        (sym (filter-append (λ (e : Seat × Entry Reason). is_seat e.0 seat) d.rest more ∙ ap (λ l. entries_by seat d.rest ++ l) none-more
+        ∙ append-nil (entries_by seat d.rest)))
+        d.goes;
+    none = λ name.
+        subst (λ (b : BoardValue). Free seat name (record_at b.opening new.seen).holdings) (sym board)
+        (subst (λ l. Free seat name (record_at mid.board.opening l).holdings) (sym seen)
+        (free-more seat name mid.board.opening mid.seen more none-more (d.none name)));
+  }
+
+-- whose work has ended
+worked-done : (old new : PassValue) → Worked free done old new → HoldsNone new → IsDone old.number old.seen new
+worked-done old new w none = record {
+  rest = w.rest;
+  seen = w.seen;
+  goes = w.goes;
+  none = λ name. subst (λ s. Free s name (record_at new.board.opening new.seen).holdings) w.same_number (none name);
 }
 
 -- one worker, over one wire
-alone-done : (old new : PassValue) → Worked old new → IsDone new.number new.seen → AreDone 1 old new
-alone-done old new w done = record {
+alone-done : (old new : PassValue) → Worked free done old new → HoldsNone new → AreDone 1 old new
+alone-done old new w none = record {
   splits = ap (λ n. n + 1) w.same_splits;
-  own = subst (λ n. IsDone n new.seen) w.same_number done;
+  own = worked-done old new w none;
   others = λ k below. absurd (omega (arith, below));
 }
 
@@ -128,7 +154,9 @@ alone-works streak wire old new finish w = record {
   };
   none = w.none;
   end = w.end;
-  done = alone-done old new w.worked w.done;
+  own = w.worked.own;
+  ended = λ k below. absurd (omega (arith, below));
+  are_done = alone-done old new w.worked w.none;
   blames = λ is. blames is;
 }
   where
@@ -190,28 +218,58 @@ module _ {W : Type 0} (streak : W → ℕ) (wire : W) (wires : List W) (pass fir
   ends (Stopped r) Over here there = over-rest there
   ends (Stopped r) (Stopped s) here there = (lives here.0 there.0, halted-later rest new j.seen.0 j.seen.1 s there.1)
 
+  abbrev first-number : Seat
+  first-number = pass.number ++ pass.splits ∷ []
+
   -- the first is the one that was split off just before, and the rest were split off after it
-  done-each : (k : ℕ) → k + 1 < length (wire ∷ wires) → IsDone (pass.number ++ (pass.splits + k) ∷ []) new.seen
+  done-first : IsDone first-number pass.seen new
+  done-first =
+      let number : first.number ≡ first-number = one.worked.same_number in
+      let is-last : has_seat (first.number ∷ first.ended) first-number ≡ true =
+      subst (λ s. has_seat (s ∷ first.ended) first-number ≡ true) (sym number) (has_new first.ended first-number) in
+      done-later first-number pass.seen first new first-board j.others.0 j.others.1 (j.last first-number is-last)
+      (worked-done (child pass) first one.worked one.none)
+
+  done-each : (k : ℕ) → k + 1 < length (wire ∷ wires) → IsDone (pass.number ++ (pass.splits + k) ∷ []) pass.seen new
   done-each zero below =
       let at : pass.splits + 0 ≡ pass.splits = omega arith in
-      subst (λ n. IsDone (pass.number ++ n ∷ []) new.seen) (sym at)
-      (done-later (pass.number ++ pass.splits ∷ []) first.seen j.others.0 new.seen j.others.1
-      (subst (λ n. IsDone n first.seen) one.worked.same_number one.done))
+      subst (λ n. IsDone (pass.number ++ n ∷ []) pass.seen new) (sym at) done-first
   done-each (suc k) below =
       let at : pass.splits + suc k ≡ (pass.splits + 1) + k = omega arith in
-      subst (λ n. IsDone (pass.number ++ n ∷ []) new.seen) (sym at)
-      (done-later (pass.number ++ ((pass.splits + 1) + k) ∷ []) rest.seen j.seen.0 new.seen j.seen.1
-      (others.done.others k (omega (arith, below))))
+      let seat : Seat = pass.number ++ ((pass.splits + 1) + k) ∷ [] in
+      subst (λ n. IsDone (pass.number ++ n ∷ []) pass.seen new) (sym at)
+      (done-later seat pass.seen rest new j.same_board j.seen.0 j.seen.1 (j.still seat (others.ended k (omega (arith, below))))
+      (others.are_done.others k (omega (arith, below))))
+
+  ended-each : (k : ℕ) → k + 1 < length (wire ∷ wires) → has_seat new.ended (pass.number ++ (pass.splits + k) ∷ []) ≡ true
+  ended-each zero below =
+      let at : pass.splits + 0 ≡ pass.splits = omega arith in
+      subst (λ l. has_seat l (pass.number ++ (pass.splits + 0) ∷ []) ≡ true) (sym j.ended)
+      (has_back rest.ended (first.number ∷ first.ended) (pass.number ++ (pass.splits + 0) ∷ [])
+      (subst (λ s. has_seat (s ∷ first.ended) (pass.number ++ (pass.splits + 0) ∷ []) ≡ true)
+      (ap (λ n. pass.number ++ n ∷ []) at ∙ sym one.worked.same_number)
+      (has_new first.ended (pass.number ++ (pass.splits + 0) ∷ []))))
+  ended-each (suc k) below =
+      let at : pass.splits + suc k ≡ (pass.splits + 1) + k = omega arith in
+      subst (λ l. has_seat l (pass.number ++ (pass.splits + suc k) ∷ []) ≡ true) (sym j.ended)
+      (has_front rest.ended (first.number ∷ first.ended) (pass.number ++ (pass.splits + suc k) ∷ [])
+      (subst (λ n. has_seat rest.ended (pass.number ++ n ∷ []) ≡ true) (sym at) (others.ended k (omega (arith, below)))))
+
+  own-still : entries_by pass.number new.seen ≡ entries_by pass.number rest.seen
+  own-still =
+      let number : new.number ≡ pass.number = j.same_number ∙ others.worked.same_number in
+      ap (λ s. entries_by s new.seen) (sym number) ∙ j.own ∙ j.same_mine ∙ sym others.own
+      ∙ ap (λ s. entries_by s rest.seen) others.worked.same_number
 
   splits-all : new.splits + 1 ≡ pass.splits + length (wire ∷ wires)
   splits-all =
-      let after : rest.splits + 1 ≡ (pass.splits + 1) + length wires = others.done.splits in
+      let after : rest.splits + 1 ≡ (pass.splits + 1) + length wires = others.are_done.splits in
       omega (arith, j.same_splits, after)
 
   done-all : AreDone (length (wire ∷ wires)) pass new
   done-all = record {
     splits = splits-all;
-    own = done-later pass.number rest.seen j.seen.0 new.seen j.seen.1 others.done.own;
+    own = done-later pass.number pass.seen rest new j.same_board j.seen.0 j.seen.1 own-still others.are_done.own;
     others = done-each;
   }
 
@@ -251,6 +309,8 @@ module _ {W : Type 0} (streak : W → ℕ) (wire : W) (wires : List W) (pass fir
     worked = worked-all;
     none = λ name. j.free name (others.none name);
     end = ends f g one.end others.end;
-    done = done-all;
+    own = j.own;
+    ended = ended-each;
+    are_done = done-all;
     blames = blames-all f g one.end others.end others.blames;
   }

@@ -4,5 +4,5 @@ pub mod Ending
 pub mod Hearing
 pub mod Over
 pub mod Joining
-pub mod Shifts
+pub mod States
 pub mod Crosses

@@ -2,6 +2,10 @@
 use Rattle.std.proofs.Common.{◌≡◌, ◌≢◌, ◌⊎◌, inl, inr, ℕ, [], ◌∷◌, ◌++◌, append_assoc, append-nil, Option, Some, None, Result, Ok, Err, refl, sym, ap, ◌∙◌, subst}
 use Rattle.std.specs.Prelude.{is_some, IsSome}
 use Rattle.std.specs.declared.alloc.AllocError.{AllocError}
+use Rattle.std.proofs.lemmas.List.Elements.{filter-append}
+use Rattle.turn_board.specs.History.{entries_by}
+use Rattle.turn_board.specs.Seats.{is_seat}
+use Rattle.turn_board.proofs.Entries.{entries_by-push_same}
 use Rattle.image_depot.specs.Key.{Shelves}
 use Rattle.image_depot.specs.Reply.{Delivery}
 use Rattle.host_fetch.specs.Heard.{AreHeardOf, Replies}
@@ -16,20 +20,22 @@ use Rattle.world_core.specs.declared.world.Placed.{Placed}
 use Rattle.world_core.specs.declared.world.Placed.TheVariants.{Done, Parked, Dropped, Memory}
 use Rattle.world_core.specs.declared.world.Taken.{Taken}
 use Rattle.world_core.specs.declared.world.Taken.TheVariants as taken
-use Rattle.world_core.specs.Answers.{IsLentOf}
+use Rattle.world_core.specs.Answers.{IsLentOf, home_by}
+use Rattle.world_core.proofs.Giving.{home-wants-none}
 use Rattle.world_core.specs.Lent.{IsSameLease, Lent}
 use Rattle.world_core.specs.Received.{lent_without_here}
-use Rattle.fork_board.specs.Answers.{IsTaken}
+use Rattle.fork_board.specs.Answers.{IsTaken, Places}
 use Rattle.fork_board.specs.Follows.{depot_of, opening_record}
 use Rattle.fork_board.specs.Holds.{HoldsOne}
 use Rattle.fork_board.specs.Notes.{heard_entry, placed_entry, taken_entry, told_entry}
 use Rattle.fork_board.specs.Passes.{BoardValue, FreeAfter, IsFree, Leaves, Makes, PassValue}
 use Rattle.fork_board.proofs.Returning.{held-same}
-use Rattle.host_workers.specs.Finishes.{IsStopped, IsStoppedBy, Worked, first_stop, reason_of, stop_or}
+use Rattle.host_workers.specs.Finishes.{IsStopped, IsStoppedBy, first_stop, reason_of, stop_or}
 use Rattle.host_workers.specs.Lost.{IsLost}
 use Rattle.host_fetch.specs.declared.error.FetchError.{FetchError}
 use Rattle.host_fetch.specs.declared.error.FetchError.TheVariants as fault
-use Rattle.host_workers.specs.Stays.{Blames, Spares, Stays, reason_for}
+use Rattle.host_workers.specs.Stages.{Goes, Stage, Steps, free, halting, runs}
+use Rattle.host_workers.specs.Stays.{Blames, Spares, Stays, Worked, reason_for, stage_placed}
 use Rattle.host_workers.proofs.Stops.{stops-by, stops-later, stops-on}
 
 -- ---- what entries leave as it was
@@ -73,53 +79,66 @@ free-heard : (place : ℕ) (answer : Result (Option Delivery) AllocError) (name 
 free-heard place (Ok sent) name before h = h
 free-heard place (Err e) name before h = h
 
+-- ---- stages
+
+goes-one : (a b : Stage) (e : Seat × Entry Reason) → Steps a e.1 b → Goes a (e ∷ []) b
+unfolding Goes
+goes-one a b e steps = (b, (steps, refl))
+
+goes-none : (a : Stage) → Goes a [] a
+unfolding Goes
+goes-none a = refl
+
+goes-more : (a b c : Stage) (first then : History Reason) → Goes a first b → Goes b then c → Goes a (first ++ then) c
+unfolding Goes
+goes-more a b c [] then g h = subst (λ s. Goes s then c) (sym g) h
+goes-more a b c (e ∷ first) then g h = (g.0, (g.1.0, goes-more g.0 b c first then g.1.1 h))
+
+-- the entry is all that the pass has made meanwhile
+goes-entry : (a b : Stage) (old new : PassValue) (entry : Entry Reason) (m : Makes old new entry) → Steps a entry b
+    → Goes a (entries_by old.number (m.between ++ (old.number, entry) ∷ [])) b
+goes-entry a b old new entry m steps =
+    subst (λ l. Goes a l b) (sym (entries_by-push_same old.number m.between entry ∙ ap (λ l. l ++ (old.number, entry) ∷ []) m.others))
+    (goes-one a b (old.number, entry) steps)
+
+goes-both : (a b c : Stage) (seat again : Seat) → again ≡ seat → (first then : History Reason) → Goes a (entries_by seat first) b
+    → Goes b (entries_by again then) c → Goes a (entries_by seat (first ++ then)) c
+goes-both a b c seat again same first then g h =
+    subst (λ l. Goes a l c) (sym (filter-append (λ (e : Seat × Entry Reason). is_seat e.0 seat) first then))
+    (goes-more a b c (entries_by seat first) (entries_by seat then) g (subst (λ s. Goes b (entries_by s then) c) same h))
+
+steps-told : (image page : ℕ) (answer : Result (Unit {0}) AllocError) → Steps runs (told_entry image page answer) runs
+steps-told image page (Ok u) = (refl, refl)
+steps-told image page (Err e) = (refl, refl)
+
+steps-heard : (place : ℕ) (answer : Result (Option Delivery) AllocError) → Steps runs (heard_entry place answer) runs
+steps-heard place (Ok sent) = (refl, refl)
+steps-heard place (Err e) = (refl, refl)
+
+-- a machine comes back, or memory is wanting for its call
+pub steps-placed : (how : How) (name : Path) (ran : ℕ) (placed : Placed) → Steps runs (placed_entry how name ran placed) (stage_placed placed)
+steps-placed how name ran Done = (tt, refl)
+steps-placed how name ran Parked = (tt, refl)
+steps-placed how name ran Dropped = (tt, refl)
+steps-placed how name ran (Memory lease) = (refl, refl)
+
+-- a machine is given back, for which the world was stopped
+pub steps-home : (lease : Lent) (new : PassValue) (placed : Placed) → Places (home_by lease.now.ending) lease new placed
+    → Steps halting (placed_entry (home_by lease.now.ending) lease.name lease.ran placed) free
+steps-home lease new Done places = (tt, refl)
+steps-home lease new Parked places = (tt, refl)
+steps-home lease new Dropped places = (tt, refl)
+steps-home lease new (Memory back) places = absurd (home-wants-none lease.now.ending places.0)
+
 -- ---- a pass that holds what it held
 
-pub stays-none : (pass : PassValue) → Stays pass pass
-stays-none pass = record {
-  same_board = refl;
-  same_number = refl;
-  same_splits = refl;
-  rest = [];
-  seen = sym (append-nil pass.seen);
-  held = λ lease h. h;
-  free = λ name h. h;
+-- it stops the world
+pub holds-halted : (old new : PassValue) (reason : Reason) (lease : Lent) → Makes old new (row (halted reason)) → HoldsOne old lease → HoldsOne new lease
+holds-halted old new reason lease m one = record {
+  held = m.held lease one.held tt;
+  of_depot = subst (λ (v : BoardValue). IsLentOf (depot_of v.opening) lease) (sym m.same_board) one.of_depot;
+  others = λ name apart. m.free name (one.others name apart);
 }
-
-pub stays-more : (first then last : PassValue) → Stays first then → Stays then last → Stays first last
-stays-more first then last a b = record {
-  same_board = b.same_board ∙ a.same_board;
-  same_number = b.same_number ∙ a.same_number;
-  same_splits = b.same_splits ∙ a.same_splits;
-  rest = a.rest ++ b.rest;
-  seen = b.seen ∙ ap (λ l. l ++ b.rest) a.seen ∙ append_assoc first.seen a.rest b.rest;
-  held = λ lease h. b.held lease (a.held lease h);
-  free = λ name h. b.free name (a.free name h);
-}
-
-stays-one : (old new : PassValue) (entry : Entry Reason) → Makes old new entry → ((name : Path) → Leaves entry name)
-    → ((name : Path) → IsFree old name → FreeAfter entry name (IsFree old name)) → Stays old new
-stays-one old new entry m leaves free = record {
-  same_board = m.same_board;
-  same_number = m.same_number;
-  same_splits = m.same_splits;
-  rest = m.between ++ (old.number, entry) ∷ [];
-  seen = m.seen ∙ append_assoc old.seen m.between ((old.number, entry) ∷ []);
-  held = λ lease h. m.held lease h (leaves lease.name);
-  free = λ name h. m.free name (free name h);
-}
-
-pub stays-told : (old new : PassValue) (image page : ℕ) (answer : Result (Unit {0}) AllocError) → Makes old new (told_entry image page answer)
-    → Stays old new
-stays-told old new image page answer m =
-    stays-one old new (told_entry image page answer) m (leaves-told image page answer) (λ name h. free-told image page answer name (IsFree old name) h)
-
-pub stays-heard : (old new : PassValue) (place : ℕ) (answer : Result (Option Delivery) AllocError) → Makes old new (heard_entry place answer) → Stays old new
-stays-heard old new place answer m =
-    stays-one old new (heard_entry place answer) m (leaves-heard place answer) (λ name h. free-heard place answer name (IsFree old name) h)
-
-pub stays-halted : (old new : PassValue) (r : Reason) → Makes old new (row (halted r)) → Stays old new
-stays-halted old new r m = stays-one old new (row (halted r)) m (λ name. tt) (λ name h. h)
 
 -- the machine that it holds, on the same lease
 pub holds-on : (old new : PassValue) (a b : Lent) → Stays old new → IsSameLease a b → HoldsOne old a → HoldsOne new b
@@ -128,7 +147,7 @@ holds-on old new a b stays same one = record {
   of_depot =
       subst (λ (v : BoardValue). IsLentOf (depot_of v.opening) b) (sym stays.same_board)
       (subst (IsOfDepot (depot_of old.board.opening)) (sym same.key) one.of_depot);
-  others = λ name apart. stays.free name (one.others name (λ e. apart (same.name ∙ e)));
+  others = λ name apart. stays.free_still name (one.others name (λ e. apart (same.name ∙ e)));
 }
 
 -- ---- a lease on the same machine
@@ -181,45 +200,47 @@ heard-on board depot old new same then = subst (λ (d : Shelves). AreHeardOf d o
 
 -- ---- a pass that has worked
 
-pub worked-one : (old new : PassValue) (entry : Entry Reason) → Makes old new entry → Worked old new
-worked-one old new entry m = record {
+pub worked-one : {a b : Stage} (old new : PassValue) (entry : Entry Reason) → Makes old new entry → Steps a entry b → Worked a b old new
+worked-one {a} {b} old new entry m steps = record {
   same_board = m.same_board;
   same_number = m.same_number;
   same_splits = m.same_splits;
   rest = m.between ++ (old.number, entry) ∷ [];
   seen = m.seen ∙ append_assoc old.seen m.between ((old.number, entry) ∷ []);
+  goes = goes-entry a b old new entry m steps;
   own = m.own;
   unmade = m.unmade;
   legal = m.legal;
 }
 
 -- the last that it did was work
-worked-last : (first then last : PassValue) → then.board ≡ first.board → then.number ≡ first.number → then.splits ≡ first.splits
-    → (rest : History Reason) → then.seen ≡ first.seen ++ rest → Worked then last → Worked first last
-worked-last first then last board number splits rest seen w = record {
+worked-last : {a b c : Stage} (first then last : PassValue) → then.board ≡ first.board → then.number ≡ first.number → then.splits ≡ first.splits
+    → (rest : History Reason) → then.seen ≡ first.seen ++ rest → Goes a (entries_by first.number rest) b → Worked b c then last → Worked a c first last
+worked-last {a} {b} {c} first then last board number splits rest seen goes w = record {
   same_board = w.same_board ∙ board;
   same_number = w.same_number ∙ number;
   same_splits = w.same_splits ∙ splits;
   rest = rest ++ w.rest;
   seen = w.seen ∙ ap (λ l. l ++ w.rest) seen ∙ append_assoc first.seen rest w.rest;
+  goes = goes-both a b c first.number then.number number rest w.rest goes w.goes;
   own = w.own;
   unmade = w.unmade;
   legal = subst (λ (v : BoardValue). IsLegal machines last.seen (opening_record v.opening)) board w.legal;
 }
 
-pub stays-worked : (first then last : PassValue) → Stays first then → Worked then last → Worked first last
-stays-worked first then last a w = worked-last first then last a.same_board a.same_number a.same_splits a.rest a.seen w
+pub stays-worked : {c : Stage} (first then last : PassValue) → Stays first then → Worked runs c then last → Worked runs c first last
+stays-worked first then last a w = worked-last first then last a.same_board a.same_number a.same_splits a.rest a.seen a.goes w
 
-pub worked-more : (first then last : PassValue) → Worked first then → Worked then last → Worked first last
-worked-more first then last a w = worked-last first then last a.same_board a.same_number a.same_splits a.rest a.seen w
+pub worked-more : {a b c : Stage} (first then last : PassValue) → Worked a b first then → Worked b c then last → Worked a c first last
+worked-more first then last a w = worked-last first then last a.same_board a.same_number a.same_splits a.rest a.seen a.goes w
 
 -- a pass that may have worked
-pub worked-board : (first then : PassValue) → (then ≡ first) ⊎ Worked first then → then.board ≡ first.board
+pub worked-board : {a b : Stage} (first then : PassValue) → (then ≡ first) ⊎ Worked a b first then → then.board ≡ first.board
 worked-board first then (inl same) = ap (λ (p : PassValue). p.board) same
 worked-board first then (inr w) = w.same_board
 
-pub worked-then : (first then last : PassValue) → (then ≡ first) ⊎ Worked first then → Worked then last → Worked first last
-worked-then first then last (inl same) w = subst (λ p. Worked p last) same w
+pub worked-then : {a c : Stage} (first then last : PassValue) → (then ≡ first) ⊎ Worked a a first then → Worked a c then last → Worked a c first last
+worked-then {a} {c} first then last (inl same) w = subst (λ p. Worked a c p last) same w
 worked-then first then last (inr before) w = worked-more first then last before w
 
 -- ---- who stops the world
@@ -259,18 +280,15 @@ module _ (first then last : PassValue) (same : last.number ≡ then.number) (res
       at (inr stopped) = inr (before (own-back then last rest seen same by stopped))
 
 -- the same, after what the pass has done since
-pub spares-stays : (first then last : PassValue) → Stays then last → Spares first then → Spares then last → Spares first last
-spares-stays first then last s before spares = spares-more first then last s.same_number s.rest s.seen before spares
-
-pub spares-worked : (first then last : PassValue) → Worked then last → Spares first then → Spares then last → Spares first last
+pub spares-worked : {a b : Stage} (first then last : PassValue) → Worked a b then last → Spares first then → Spares then last → Spares first last
 spares-worked first then last w before spares = spares-more first then last w.same_number w.rest w.seen before spares
 
-pub blames-worked : {W : Type 0} (streak : W → ℕ) (wire : W) (first then last : PassValue) → Worked then last → Spares first then
+pub blames-worked : {W : Type 0} {a b : Stage} (streak : W → ℕ) (wire : W) (first then last : PassValue) → Worked a b then last → Spares first then
     → Blames streak wire then last → Blames streak wire first last
 blames-worked streak wire first then last w before blames = blames-more first then last w.same_number w.rest w.seen before streak wire blames
 
 -- the wire stays as it was in a world that was stopped
-pub blames-on : {W : Type 0} (streak : W → ℕ) (old new : W) (first then last : PassValue) → Blames streak old first then → Worked then last
+pub blames-on : {W : Type 0} {a b : Stage} (streak : W → ℕ) (old new : W) (first then last : PassValue) → Blames streak old first then → Worked a b then last
     → (IsStopped then → new ≡ old) → Blames streak new then last → Blames streak new first last
 blames-on streak old new first then last before w still blames by = at (blames by)
   where
@@ -317,13 +335,6 @@ module _ (old new : PassValue) (entry : Entry Reason) (m : Makes old new entry) 
   pub spares-silent : reason_of entry ≡ None → Spares old new
   spares-silent silent = spares-one (λ is. let no : None ≡ Some reason.Wire = sym silent ∙ is in absurd (cc))
 
-pub spares-told : (old new : PassValue) (image page : ℕ) (answer : Result (Unit {0}) AllocError) → Makes old new (told_entry image page answer)
-    → Spares old new
-spares-told old new image page answer m = spares-silent old new (told_entry image page answer) m (silent-told image page answer)
-
-pub spares-heard : (old new : PassValue) (place : ℕ) (answer : Result (Option Delivery) AllocError) → Makes old new (heard_entry place answer) → Spares old new
-spares-heard old new place answer m = spares-silent old new (heard_entry place answer) m (silent-heard place answer)
-
 pub spares-halted : (old new : PassValue) (r : Reason) → Makes old new (row (halted r)) → r ≢ reason.Wire → Spares old new
 spares-halted old new r m unlike = spares-one old new (row (halted r)) m (λ is. unlike (let same : Some r ≡ Some reason.Wire = is in cc))
 
@@ -339,8 +350,8 @@ pub lost-none : {W : Type 0} (streak : W → ℕ) (wire : W) → fault.Memory �
 lost-none streak wire same = absurd (cc)
 
 -- a machine was given back that could not be run on
-pub blames-given-up : {W : Type 0} (streak : W → ℕ) (wire : W) (first mid last : PassValue) (error : FetchError) (r : Reason) → r ≡ reason_for error
-    → (error ≡ fault.Wire → IsLost streak wire) → Spares first mid → Worked mid last → (r ≢ reason.Wire → Spares mid last) → Blames streak wire first last
+pub blames-given-up : {W : Type 0} {a b : Stage} (streak : W → ℕ) (wire : W) (first mid last : PassValue) (error : FetchError) (r : Reason)
+    → r ≡ reason_for error → (error ≡ fault.Wire → IsLost streak wire) → Spares first mid → Worked a b mid last → (r ≢ reason.Wire → Spares mid last) → Blames streak wire first last
 blames-given-up streak wire first mid last fault.Wire r is lost before w spares by = inl (lost refl)
 blames-given-up streak wire first mid last fault.Memory r is lost before w spares by =
     inr (spares-worked first mid last w before (spares (λ same. let no : reason.Memory ≡ reason.Wire = sym is ∙ same in cc)) by)
@@ -356,21 +367,55 @@ halted-stops old new r m = at (first_stop (old.seen ++ m.between)) refl
     at (Some x) is = whole x (stops-on (old.seen ++ m.between) ((old.number, row (halted r)) ∷ []) x is)
     at None is = whole (old.number, r) (stops-later (old.seen ++ m.between) ((old.number, row (halted r)) ∷ []) is ∙ last-stop old new (row (halted r)) m)
 
--- ---- a reply is told or heard, after what was done before
+-- ---- a pass that tells and hears while it runs a machine
 
-pub told-then : (first old new : PassValue) (image page : ℕ) (answer : Result (Unit {0}) AllocError) → Stays first old × Spares first old
-    → Makes old new (told_entry image page answer) → Stays first new × Spares first new
-told-then first old new image page answer h m =
-    let s = stays-told old new image page answer m in
-    (stays-more first old new h.0 s, spares-stays first old new s h.1 (spares-told old new image page answer m))
+pub stays-none : (pass : PassValue) → Stays pass pass
+stays-none pass = record {
+  same_board = refl;
+  same_number = refl;
+  same_splits = refl;
+  rest = [];
+  seen = sym (append-nil pass.seen);
+  goes = goes-none runs;
+  held = λ lease h. h;
+  free_still = λ name h. h;
+  spares = spares-none pass;
+}
 
-pub heard-then : (first old new : PassValue) (place : ℕ) (answer : Result (Option Delivery) AllocError) → Stays first old × Spares first old
-    → Makes old new (heard_entry place answer) → Stays first new × Spares first new
-heard-then first old new place answer h m =
-    let s = stays-heard old new place answer m in
-    (stays-more first old new h.0 s, spares-stays first old new s h.1 (spares-heard old new place answer m))
+pub stays-more : (first then last : PassValue) → Stays first then → Stays then last → Stays first last
+stays-more first then last a b = record {
+  same_board = b.same_board ∙ a.same_board;
+  same_number = b.same_number ∙ a.same_number;
+  same_splits = b.same_splits ∙ a.same_splits;
+  rest = a.rest ++ b.rest;
+  seen = b.seen ∙ ap (λ l. l ++ b.rest) a.seen ∙ append_assoc first.seen a.rest b.rest;
+  goes = goes-both runs runs runs first.number then.number a.same_number a.rest b.rest a.goes b.goes;
+  held = λ lease h. b.held lease (a.held lease h);
+  free_still = λ name h. b.free_still name (a.free_still name h);
+  spares = spares-more first then last b.same_number b.rest b.seen a.spares b.spares;
+}
 
--- two parts of it, one after the other
-pub both-then : (first then last : PassValue) → Stays first then × Spares first then → Stays then last × Spares then last
-    → Stays first last × Spares first last
-both-then first then last a b = (stays-more first then last a.0 b.0, spares-stays first then last b.0 a.1 b.1)
+stays-one : (old new : PassValue) (entry : Entry Reason) → Makes old new entry → ((name : Path) → Leaves entry name)
+    → ((name : Path) → IsFree old name → FreeAfter entry name (IsFree old name)) → Steps runs entry runs → reason_of entry ≡ None → Stays old new
+stays-one old new entry m leaves unheld steps silent = record {
+  same_board = m.same_board;
+  same_number = m.same_number;
+  same_splits = m.same_splits;
+  rest = m.between ++ (old.number, entry) ∷ [];
+  seen = m.seen ∙ append_assoc old.seen m.between ((old.number, entry) ∷ []);
+  goes = goes-entry runs runs old new entry m steps;
+  held = λ lease h. m.held lease h (leaves lease.name);
+  free_still = λ name h. m.free name (unheld name h);
+  spares = spares-silent old new entry m silent;
+}
+
+pub stays-told : (old new : PassValue) (image page : ℕ) (answer : Result (Unit {0}) AllocError) → Makes old new (told_entry image page answer)
+    → Stays old new
+stays-told old new image page answer m =
+    stays-one old new (told_entry image page answer) m (leaves-told image page answer) (λ name h. free-told image page answer name (IsFree old name) h)
+    (steps-told image page answer) (silent-told image page answer)
+
+pub stays-heard : (old new : PassValue) (place : ℕ) (answer : Result (Option Delivery) AllocError) → Makes old new (heard_entry place answer) → Stays old new
+stays-heard old new place answer m =
+    stays-one old new (heard_entry place answer) m (leaves-heard place answer) (λ name h. free-heard place answer name (IsFree old name) h)
+    (steps-heard place answer) (silent-heard place answer)

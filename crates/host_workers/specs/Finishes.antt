@@ -1,14 +1,17 @@
 -- How the work on a board ends: the root has ended, or the world was stopped; and which pass stopped it.
 use Rattle.std.specs.Prelude.{◌≡◌, ◌≢◌, ℕ, ◌+◌, ◌<◌, ◌≤◌, Bool, true, false, [], ◌∷◌, ◌++◌, Option, Some, None, IsSome, IsSomeAnd}
+use Rattle.std.specs.Option.{IfSome}
+use Rattle.forest_tree.specs.Tree.{Path}
 use Rattle.forest_tree.specs.Settle.{has_ended}
 use Rattle.forest_history.specs.Places.{spots}
 use Rattle.forest_history.specs.Rows.{Row, over, stopped, idle, took, nothing, spent, dropped, kept, halted}
-use Rattle.forest_history.specs.Histories.{Entry, row, told, heard, mute, deaf, History, IsLegal, Seat}
+use Rattle.forest_history.specs.Histories.{Entry, row, told, heard, mute, deaf, History, IsLegal, Seat, holding}
 use Rattle.forest_model.specs.Forest.{machines}
 use Rattle.turn_board.specs.History.{entries_by}
 use Rattle.world_core.specs.declared.reason.Reason.{Reason}
 use Rattle.fork_board.specs.Follows.{opening_record}
 use Rattle.fork_board.specs.Passes.{PassValue, seen_record}
+use Rattle.host_workers.specs.Stages.{Goes, done, free}
 use Rattle.host_workers.specs.declared.finish.Finish.{Finish}
 use Rattle.host_workers.specs.declared.finish.Finish.TheVariants as finish
 
@@ -71,19 +74,7 @@ pub record IsForeign (pass : PassValue) (seat : Seat) : Type 0 where
 abbrev pub IsStoppedElsewhere : PassValue → PassValue → Type 0
 IsStoppedElsewhere pass later = IsSomeAnd (first_stop later.seen) (λ stop. IsForeign pass stop.0)
 
--- ---- the work of a pass
-
--- the pass has made entries, and has seen those of others. Its number and what was split off from it are as they were
-pub record Worked (old new : PassValue) : Type 0 where
-  pub same_board : new.board ≡ old.board
-  pub same_number : new.number ≡ old.number
-  pub same_splits : new.splits ≡ old.splits
-  pub rest : History Reason
-  pub seen : new.seen ≡ old.seen ++ rest
-  pub own : entries_by new.number new.seen ≡ new.mine
-  -- no pass that is yet to be split off from it has made an entry, nor has one that would be split off from such
-  pub unmade : (k : ℕ) (below : Seat) → new.splits ≤ k → entries_by (new.number ++ k ∷ below) new.seen ≡ []
-  pub legal : IsLegal machines new.seen (opening_record old.board.opening)
+-- ---- the work of passes
 
 -- the pass and those that were split off from it have made entries
 pub record WorkedAll (old new : PassValue) : Type 0 where
@@ -95,20 +86,16 @@ pub record WorkedAll (old new : PassValue) : Type 0 where
 
 -- ---- how many have worked
 
--- the row of an end that was found
-abbrev pub end_row : Finish → Row Reason
-end_row finish.Over = over
-end_row (finish.Stopped reason) = stopped reason
+-- since the history was as long as this, the seat has worked, until it found that there is nothing more to be done: each time
+-- it handed its machine back, and where it could not run it on, it stopped the world first. It holds no machine
+pub record IsDone (seat : Seat) (before : History Reason) (new : PassValue) : Type 0 where
+  pub rest : History Reason
+  pub seen : new.seen ≡ before ++ rest
+  pub goes : Goes free (entries_by seat rest) done
+  pub none : (name : Path) → IfSome (holding name (seen_record new).holdings) (λ h. h.seat ≢ seat)
 
--- in this history a seat has found that there is nothing more to be done
-pub record IsDone (seat : Seat) (log : History Reason) : Type 0 where
-  pub end : Finish
-  pub before : History Reason
-  pub after : History Reason
-  pub is : log ≡ before ++ (seat, row (end_row end)) ∷ after
-
--- so many have worked until they found that: the pass itself, and all others, which were split off from it one after another
+-- so many have worked so: the pass itself, and all others, which were split off from it one after another
 pub record AreDone (count : ℕ) (old new : PassValue) : Type 0 where
   pub splits : new.splits + 1 ≡ old.splits + count
-  pub own : IsDone old.number new.seen
-  pub others : (k : ℕ) → k + 1 < count → IsDone (old.number ++ (old.splits + k) ∷ []) new.seen
+  pub own : IsDone old.number old.seen new
+  pub others : (k : ℕ) → k + 1 < count → IsDone (old.number ++ (old.splits + k) ∷ []) old.seen new

@@ -1,4 +1,5 @@
 pub mod Lost
+pub mod Stages
 pub mod Finishes
 pub mod Hears
 pub mod Stays

@@ -1,12 +1,15 @@
 -- Work that is spread over passes which were split off from one.
-use Rattle.std.specs.Prelude.{◌≡◌, ◌⊎◌, ℕ, zero, suc, ◌+◌, List, length, [], ◌∷◌, ◌++◌}
+use Rattle.std.specs.Prelude.{◌≡◌, ◌⊎◌, ℕ, zero, suc, ◌+◌, ◌<◌, true, List, length, [], ◌∷◌, ◌++◌}
+use Rattle.turn_board.specs.History.{entries_by}
+use Rattle.turn_board.specs.Seats.{has_seat}
 use Rattle.world_core.specs.declared.reason.Reason.TheVariants as reason
 use Rattle.fork_board.specs.Passes.{BoardValue, HoldsNone, PassValue}
-use Rattle.host_workers.specs.Finishes.{AreDone, Finishes, IsDone, IsStopped, IsStoppedElsewhere, Worked, WorkedAll}
+use Rattle.host_workers.specs.Finishes.{AreDone, Finishes, IsStopped, IsStoppedElsewhere, WorkedAll}
 use Rattle.host_workers.specs.Lost.{IsOneLost}
-use Rattle.host_workers.specs.Stays.{Blames}
-use Rattle.host_workers.specs.declared.crew.Shift.{Shift}
-use Rattle.host_workers.specs.declared.crew.Shift.TheVariants.{Due, Begun, Done}
+use Rattle.host_workers.specs.Stages.{done, free}
+use Rattle.host_workers.specs.Stays.{Blames, Worked}
+use Rattle.host_workers.specs.declared.shared.State.{State}
+use Rattle.host_workers.specs.declared.shared.State.TheVariants.{Due, Begun, Done}
 use Rattle.host_workers.specs.declared.finish.Finish.{Finish}
 use Rattle.host_workers.specs.declared.finish.Finish.TheVariants.{Over, Stopped}
 
@@ -15,19 +18,20 @@ abbrev pub parent : PassValue → PassValue
 parent pass = record pass { splits = pass.splits + 1 }
 
 abbrev pub child : PassValue → PassValue
-child pass = record pass { number = pass.number ++ pass.splits ∷ []; splits = 0; mine = [] }
+child pass = record pass { number = pass.number ++ pass.splits ∷ []; splits = 0; mine = []; ended = [] }
 
 -- the end of two, of whom each came to one
 abbrev pub finish_of : Finish → Finish → Finish
 finish_of Over second = Over
 finish_of (Stopped r) second = second
 
--- ---- shifts
+-- ---- states
 
--- the shifts of so many workers and one more: each but the last has a pass that is split off, one after another
-unfoldable pub shifts_of : PassValue → ℕ → List Shift
-shifts_of pass zero = Due pass ∷ []
-shifts_of pass (suc k) = Due (child pass) ∷ shifts_of (parent pass) k
+-- the states of so many workers and one more, which are due under this number and the next ones: each but the last has a pass
+-- that is split off, one after another
+unfoldable pub states_of : ℕ → PassValue → ℕ → List State
+states_of first pass zero = Due first pass ∷ []
+states_of first pass (suc k) = Due first (child pass) ∷ states_of (first + 1) (parent pass) k
 
 -- the pass is of this board, and holds no machine
 pub record IsReady (board : BoardValue) (pass : PassValue) : Type 0 where
@@ -35,29 +39,28 @@ pub record IsReady (board : BoardValue) (pass : PassValue) : Type 0 where
   pub none : HoldsNone pass
 
 -- the worker is to work, with a pass that is ready
-abbrev pub IsDue : BoardValue → Shift → Type 0
-IsDue board (Due pass) = IsReady board pass
+abbrev pub IsDue : BoardValue → State → Type 0
+IsDue board (Due number pass) = IsReady board pass
 IsDue board Begun = ⊥
 IsDue board (Done pass finish) = ⊥
 
 -- one worker has worked over this wire
 pub record Works {W : Type 0} (streak : W → ℕ) (wire : W) (old new : PassValue) (finish : Finish) : Type 0 where
-  pub worked : Worked old new
+  pub worked : Worked free done old new
   pub none : HoldsNone new
   pub end : Finishes new finish
-  pub done : IsDone new.number new.seen
   pub blames : Blames streak wire old new
 
 -- a worker that was to work has done so, over this wire
-abbrev pub HasWorked : {W : Type 0} → (W → ℕ) → W → Shift → Shift → Type 0
-HasWorked streak wire (Due old) (Done new finish) = Works streak wire old new finish
-HasWorked streak wire (Due old) (Due new) = ⊥
-HasWorked streak wire (Due old) Begun = ⊥
+abbrev pub HasWorked : {W : Type 0} → (W → ℕ) → W → State → State → Type 0
+HasWorked streak wire (Due number old) (Done new finish) = Works streak wire old new finish
+HasWorked streak wire (Due number old) (Due other new) = ⊥
+HasWorked streak wire (Due number old) Begun = ⊥
 HasWorked streak wire Begun new = ⊥
 HasWorked streak wire (Done old end) new = ⊥
 
 -- the same of each of them, over a wire of its own
-unfoldable pub HaveWorked : {W : Type 0} → (W → ℕ) → List W → List Shift → List Shift → Type 0
+unfoldable pub HaveWorked : {W : Type 0} → (W → ℕ) → List W → List State → List State → Type 0
 HaveWorked streak [] [] [] = Unit {0}
 HaveWorked streak (wire ∷ wires) (old ∷ olds) (new ∷ news) = HasWorked streak wire old new × HaveWorked streak wires olds news
 HaveWorked streak [] [] (new ∷ news) = ⊥
@@ -77,5 +80,7 @@ pub record WorkAll {W : Type 0} (streak : W → ℕ) (wires : List W) (old new :
   pub worked : WorkedAll old new
   pub none : HoldsNone new
   pub end : Finishes new finish
-  pub done : AreDone (length wires) old new
+  pub own : entries_by new.number new.seen ≡ new.mine
+  pub ended : (k : ℕ) → k + 1 < length wires → has_seat new.ended (old.number ++ (old.splits + k) ∷ []) ≡ true
+  pub are_done : AreDone (length wires) old new
   pub blames : BlamesOne streak wires old new finish

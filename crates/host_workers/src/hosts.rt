@@ -7,16 +7,15 @@ ghost use Rattle.fork_board.specs.Follows.{depot_of};
 ghost use Rattle.fork_board.specs.Passes.{HoldsNone, PassValue};
 ghost use Rattle.host_workers.specs.Finishes.{AreDone, Finishes, IsStopped, IsStoppedElsewhere, WorkedAll};
 ghost use Rattle.host_workers.specs.Lost.{IsOneLost};
-ghost use Rattle.host_workers.specs.Spread.{HasWorked, HaveWorked, IsDue, WorkAll, finish_of, shifts_of};
+ghost use Rattle.host_workers.specs.Spread.{HasWorked, HaveWorked, IsDue, WorkAll, finish_of, states_of};
 
-use crate::crew::{Crew, Shift};
 use crate::finish::Finish;
 use crate::gate::Gate;
 use crate::lookout::Lookout;
+use crate::shared::{Settings, Shared, State};
 use crate::worker::work;
 use arrayvec::ArrayVec;
 use fork_board::{Board, Pass};
-use host_fetch::MAX_AHEAD;
 use image_depot::Depot;
 use std::marker::{Send, Sync};
 use std::mem;
@@ -47,15 +46,12 @@ pub fn run_hosts<R: AllocGlobal + Threads + Wait + Sync, W: Wire + Send, G: Gate
     pass: Pass,
     depot: &Depot,
     wires: &mut [W],
-    gate: &G,
-    slice: u32,
-    ahead: u32,
+    settings: &Settings<G>,
 ) -> (Pass, Finish)
     requires board { pass.board ≡ board.now }
     requires depot { depot_of board.now.opening ≡ depot.now }
     requires none { HoldsNone pass }
     requires wires { (1 ≤ length wires.old) × (length wires.old ≤ MAX_WORKERS) }
-    requires ahead { ahead ≤ MAX_AHEAD }
     requires parts { length pass.number < 3 }
     requires splits { pass.splits + length wires.old ≤ 65535 }
     ensures worked { WorkedAll pass result.0 }
@@ -66,17 +62,17 @@ pub fn run_hosts<R: AllocGlobal + Threads + Wait + Sync, W: Wire + Send, G: Gate
     ensures seeds { map W.seeds wires.new ≡ map W.seeds wires.old }
     ensures len { length wires.new ≡ length wires.old }
 {
-    let crew = Crew {
-        gate,
+    let shared = Shared {
+        board,
+        depot,
+        settings,
         lookout: Lookout::new(wires.len(), processors(rt, wires.len())),
         alloc: rt.alloc(),
-        slice: u64::from(slice),
-        ahead,
     };
     let mut dealt = deal(board, pass, wires.len());
-    let shifts = dealt.as_mut_slice();
-    work_all(rt, &crew, board, depot, 0, shifts, wires);
-    gather(board, shifts, wires)
+    let states = dealt.as_mut_slice();
+    work_all(rt, &shared, states, wires);
+    gather(board, states, wires)
 }
 
 /// How many workers may run at once, of so many. One has no use for the answer, which is read from files of the system.
@@ -90,175 +86,120 @@ fn processors<R: Threads>(rt: &R, workers: usize) -> usize {
     }
 }
 
-/// The shifts of so many workers. Each of these but the last has a pass that is split off.
-fn deal(board: &Board, pass: Pass, count: usize) -> ArrayVec<Shift, MAX_WORKERS>
+/// The states of so many workers. Each of these but the last has a pass that is split off.
+fn deal(board: &Board, pass: Pass, count: usize) -> ArrayVec<State, MAX_WORKERS>
     requires board { pass.board ≡ board.now }
     requires parts { length pass.number < 3 }
     requires splits { pass.splits + count ≤ 65535 }
     requires none { HoldsNone pass }
     requires count { (1 ≤ count) × (count ≤ MAX_WORKERS) }
-    ensures shifts { (k : ℕ) → count ≡ k + 1 → result.items ≡ shifts_of pass k }
+    ensures states { (k : ℕ) → count ≡ k + 1 → result.items ≡ states_of 0 pass k }
     ensures due { All (IsDue board.now) result.items }
     ensures len { length result.items ≡ count }
 {
     let mut pass = pass;
-    let mut shifts = ArrayVec::new();
-    for _ in 1..count {
+    let mut states = ArrayVec::new();
+    for number in 0..count - 1 {
         let (rest, split) = board.split(pass);
-        shifts.push(Shift::Due(split));
+        states.push(State::Due(number as u32, split));
         pass = rest;
     }
-    shifts.push(Shift::Due(pass));
-    shifts
+    states.push(State::Due((count - 1) as u32, pass));
+    states
 }
 
-/// Lets the workers work, each in its shift and over its wire. They are halved again and again, and one half goes to a
-/// new thread, if there can be one: so the stack grows as the logarithm of their number. The first worker has the
-/// number, and those after it the next ones.
+/// Lets the workers work, each from its state on and over its wire. They are halved again and again, and one half goes to
+/// a new thread, if there can be one: so the stack grows as the logarithm of their number.
 #[cycle(halves)]
 fn work_all<R: Threads + Wait + Sync, W: Wire + Send, G: Gate + Sync>(
     rt: &R,
-    crew: &Crew<G>,
-    board: &Board,
-    depot: &Depot,
-    number: u32,
-    shifts: &mut [Shift],
+    shared: &Shared<G>,
+    states: &mut [State],
     wires: &mut [W],
 )
-    requires due { All (IsDue board.now) shifts.old }
-    requires each { length shifts.old ≡ length wires.old }
+    requires due { All (IsDue shared.now.board.now) states.old }
+    requires each { length states.old ≡ length wires.old }
     requires some { 1 ≤ length wires.old }
-    requires depot { depot_of board.now.opening ≡ depot.now }
-    requires few { number + length wires.old ≤ MAX_WORKERS }
-    requires ahead { crew.now.ahead ≤ MAX_AHEAD }
-    ensures worked { HaveWorked W.streak wires.new shifts.old shifts.new }
+    ensures worked { HaveWorked W.streak wires.new states.old states.new }
     ensures seeds { map W.seeds wires.new ≡ map W.seeds wires.old }
     ensures len { length wires.new ≡ length wires.old }
 {
     if wires.len() == 1 {
-        work_in(
-            rt,
-            crew,
-            board,
-            depot,
-            number,
-            &mut shifts[0],
-            &mut wires[0],
-        );
+        work_in(rt, shared, &mut states[0], &mut wires[0]);
         return;
     }
     let half = wires.len() / 2;
     let (here, there) = wires.split_at_mut(half);
-    let (first, second) = shifts.split_at_mut(half);
-    work_halves(
-        rt,
-        crew,
-        board,
-        depot,
-        number,
-        first,
-        here,
-        number + half as u32,
-        second,
-        there,
-    );
+    let (first, second) = states.split_at_mut(half);
+    work_halves(rt, shared, first, here, second, there);
 }
 
 /// Two halves, one beside the other. A function of its own, so that what the closures require is what it is given.
 #[cycle(halves)]
 fn work_halves<R: Threads + Wait + Sync, W: Wire + Send, G: Gate + Sync>(
     rt: &R,
-    crew: &Crew<G>,
-    board: &Board,
-    depot: &Depot,
-    low: u32,
-    first: &mut [Shift],
+    shared: &Shared<G>,
+    first: &mut [State],
     here: &mut [W],
-    high: u32,
-    second: &mut [Shift],
+    second: &mut [State],
     there: &mut [W],
 )
     requires crosses { IsSync R.row × IsSend W.row × IsSync G.row }
-    requires first { All (IsDue board.now) first.old × (length first.old ≡ length here.old) × (1 ≤ length here.old) }
-    requires second { All (IsDue board.now) second.old × (length second.old ≡ length there.old) × (1 ≤ length there.old) }
-    requires depot { depot_of board.now.opening ≡ depot.now }
-    requires few { (low + length here.old ≤ MAX_WORKERS) × (high + length there.old ≤ MAX_WORKERS) }
-    requires ahead { crew.now.ahead ≤ MAX_AHEAD }
+    requires first { All (IsDue shared.now.board.now) first.old × (length first.old ≡ length here.old) × (1 ≤ length here.old) }
+    requires second { All (IsDue shared.now.board.now) second.old × (length second.old ≡ length there.old) × (1 ≤ length there.old) }
     ensures first { HaveWorked W.streak here.new first.old first.new × (length here.new ≡ length here.old) × (map W.seeds here.new ≡ map W.seeds here.old) }
     ensures second { HaveWorked W.streak there.new second.old second.new × (length there.new ≡ length there.old) × (map W.seeds there.new ≡ map W.seeds there.old) }
 {
     let mut front = move ||
-        requires { IsSync R.row × IsSend W.row × IsSync G.row × (crew.now.ahead ≤ MAX_AHEAD) × (depot_of board.now.opening ≡ depot.now)
-            × All (IsDue board.now) first.now × (length first.now ≡ length here.now) × (1 ≤ length here.now) × (low + length here.now ≤ MAX_WORKERS) }
+        requires { IsSync R.row × IsSend W.row × IsSync G.row
+            × All (IsDue shared.now.board.now) first.now × (length first.now ≡ length here.now) × (1 ≤ length here.now) }
         ensures { HaveWorked W.streak here.exit.now first.entry.now first.exit.now × (length here.exit.now ≡ length here.entry.now)
             × (map W.seeds here.exit.now ≡ map W.seeds here.entry.now) }
-    { work_all(rt, crew, board, depot, low, first, here) };
+    { work_all(rt, shared, first, here) };
     let mut back = move ||
-        requires { IsSync R.row × IsSend W.row × IsSync G.row × (crew.now.ahead ≤ MAX_AHEAD) × (depot_of board.now.opening ≡ depot.now)
-            × All (IsDue board.now) second.now × (length second.now ≡ length there.now) × (1 ≤ length there.now) × (high + length there.now ≤ MAX_WORKERS) }
+        requires { IsSync R.row × IsSend W.row × IsSync G.row
+            × All (IsDue shared.now.board.now) second.now × (length second.now ≡ length there.now) × (1 ≤ length there.now) }
         ensures { HaveWorked W.streak there.exit.now second.entry.now second.exit.now × (length there.exit.now ≡ length there.entry.now)
             × (map W.seeds there.exit.now ≡ map W.seeds there.entry.now) }
-    { work_all(rt, crew, board, depot, high, second, there) };
+    { work_all(rt, shared, second, there) };
     join_mut(rt, &mut front, &mut back);
 }
 
 /// Lets one worker work.
-fn work_in<R: Wait, W: Wire, G: Gate>(
-    rt: &R,
-    crew: &Crew<G>,
-    board: &Board,
-    depot: &Depot,
-    number: u32,
-    shift: &mut Shift,
-    wire: &mut W,
-)
-    requires due { IsDue board.now shift.old }
-    requires depot { depot_of board.now.opening ≡ depot.now }
-    requires ahead { crew.now.ahead ≤ MAX_AHEAD }
-    ensures worked { HasWorked W.streak wire.new shift.old shift.new }
+fn work_in<R: Wait, W: Wire, G: Gate>(rt: &R, shared: &Shared<G>, state: &mut State, wire: &mut W)
+    requires { IsDue shared.now.board.now state.old }
+    ensures worked { HasWorked W.streak wire.new state.old state.new }
     ensures seeds { W.seeds wire.new ≡ W.seeds wire.old }
 {
-    let Shift::Due(pass) = mem::replace(shift, Shift::Begun) else {
+    let State::Due(number, pass) = mem::replace(state, State::Begun) else {
         unreachable!()
     };
-    let (pass, finish) = work(
-        rt,
-        crew.alloc,
-        board,
-        pass,
-        depot,
-        wire,
-        &crew.gate,
-        &crew.lookout,
-        number,
-        crew.slice,
-        crew.ahead,
-    );
-    *shift = Shift::Done(pass, finish);
+    let (pass, finish) = work(rt, shared, number, pass, wire);
+    *state = State::Done(pass, finish);
 }
 
 /// Joins the passes of all workers again, and tells how their work ended.
 #[cycle(gather)]
-fn gather<W: Wire>(board: &Board, shifts: &mut [Shift], wires: &[W]) -> (Pass, Finish)
+fn gather<W: Wire>(board: &Board, states: &mut [State], wires: &[W]) -> (Pass, Finish)
     requires some { 1 ≤ length wires.now }
-    requires each { length shifts.old ≡ length wires.now }
-    requires worked { (pass : PassValue) × (k : ℕ) × (pass.board ≡ board.now) × (length wires.now ≡ k + 1)
-        × HaveWorked W.streak wires.now (shifts_of pass k) shifts.old }
-    ensures { (pass : PassValue) (k : ℕ) → length wires.now ≡ k + 1 → HaveWorked W.streak wires.now (shifts_of pass k) shifts.old
+    requires each { length states.old ≡ length wires.now }
+    requires worked { (first : ℕ) × (pass : PassValue) × (k : ℕ) × (pass.board ≡ board.now) × (length wires.now ≡ k + 1)
+        × HaveWorked W.streak wires.now (states_of first pass k) states.old }
+    ensures { (first : ℕ) (pass : PassValue) (k : ℕ) → length wires.now ≡ k + 1 → HaveWorked W.streak wires.now (states_of first pass k) states.old
         → WorkAll W.streak wires.now pass result.0 result.1 }
 {
-    let Some((shift, shifts)) = shifts.split_first_mut() else {
+    let Some((state, states)) = states.split_first_mut() else {
         unreachable!()
     };
     let Some((_, wires)) = wires.split_first() else {
         unreachable!()
     };
-    let Shift::Done(split, one) = mem::replace(shift, Shift::Begun) else {
+    let State::Done(split, one) = mem::replace(state, State::Begun) else {
         unreachable!()
     };
     if wires.is_empty() {
         return (split, one);
     }
-    let (pass, all) = gather(board, shifts, wires);
+    let (pass, all) = gather(board, states, wires);
     (board.join_pass(pass, split), finish_of(one, all))
 }

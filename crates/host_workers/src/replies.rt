@@ -7,7 +7,7 @@ ghost use Rattle.host_fetch.specs.Heard.{AreHeardOf};
 ghost use Rattle.fork_board.specs.Follows.{depot_of};
 ghost use Rattle.fork_board.specs.Passes.{seen_record};
 ghost use Rattle.host_workers.specs.Hears.{AreFound, StayFound};
-ghost use Rattle.host_workers.specs.Stays.{Spares, Stays};
+ghost use Rattle.host_workers.specs.Stays.{Stays};
 
 use fork_board::{Board, Pass};
 use host_fetch::Heard;
@@ -43,7 +43,6 @@ impl Hearing {
     ) -> (Pass, Result<(), AllocError>)
         requires { pass.board ≡ board.now }
         ensures stays { Stays pass result.0 }
-        ensures spares { Spares pass result.0 }
         ensures last { OnOk result.1 (slice_get (seen_record result.0).told self.new.next ≡ None) }
         ensures all { AreFound (seen_record result.0).told self.old.next self.new.next self.new.heard }
         ensures found { StayFound self.old.heard self.new.heard }
@@ -78,7 +77,6 @@ pub(crate) fn tell_all<R: Wait>(
     requires board { pass.board ≡ board.now }
     requires kept { All (IsSentOf (depot_of board.now.opening)) pushed.now }
     ensures stays { Stays pass result.0 }
-    ensures spares { Spares pass result.0 }
 {
     let mut pass = pass;
     for sent in pushed {

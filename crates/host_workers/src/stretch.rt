@@ -1,20 +1,19 @@
 //! How a worker runs a machine that it holds.
 
-ghost use Rattle.std.specs.Prelude.{◌≡◌, ◌≤◌, IfErr};
+ghost use Rattle.std.specs.Prelude.{◌≡◌, IfErr};
 ghost use Rattle.host_fetch.specs.Heard.{AreHeardOf};
 ghost use Rattle.world_core.specs.Answers.{IsLentOf};
 ghost use Rattle.world_core.specs.Lent.{IsSameLease};
-ghost use Rattle.fork_board.specs.Follows.{depot_of};
 ghost use Rattle.host_workers.specs.Lost.{IsLost};
-ghost use Rattle.host_workers.specs.Stays.{Spares, Stays};
+ghost use Rattle.host_workers.specs.Stays.{Stays};
 
 use crate::lookout::Lookout;
 use crate::replies::tell_all;
+use crate::shared::Shared;
 use crate::worker::Worker;
-use fork_board::{Board, Pass};
-use host_fetch::{FetchError, MAX_AHEAD, fetch, offer};
-use image_depot::Depot;
-use std::alloc::{AllocError, Global};
+use fork_board::Pass;
+use host_fetch::{FetchError, fetch, offer};
+use std::alloc::AllocError;
 use std::sync::Wait;
 use vm_cell::Stepped;
 use wire_fates::Wire;
@@ -22,37 +21,33 @@ use world_core::Lease;
 
 impl Worker {
     /// Runs a machine to its end or to a call, or until there is nothing more to be done after a stretch.
-    pub(crate) fn run_on<R: Wait, W: Wire>(
+    pub(crate) fn run_on<R: Wait, W: Wire, G>(
         &mut self,
         rt: &R,
-        board: &Board,
+        shared: &Shared<G>,
         pass: Pass,
         lease: &mut Lease,
-        depot: &Depot,
         wire: &mut W,
-        lookout: &Lookout,
     ) -> (Pass, Result<(), FetchError>)
-        requires board { pass.board ≡ board.now }
-        requires depot { depot_of board.now.opening ≡ depot.now }
-        requires of_depot { IsLentOf depot.now lease.old }
-        requires heard { AreHeardOf depot.now self.old.hearing.heard }
+        requires board { pass.board ≡ shared.now.board.now }
+        requires of_depot { IsLentOf shared.now.depot.now lease.old }
+        requires heard { AreHeardOf shared.now.depot.now self.old.hearing.heard }
         ensures same { IsSameLease lease.old lease.new }
         ensures stays { Stays pass result.0 }
-        ensures spares { Spares pass result.0 }
-        ensures heard { AreHeardOf depot.now self.new.hearing.heard }
+        ensures heard { AreHeardOf shared.now.depot.now self.new.hearing.heard }
         ensures wire { IfErr result.1 (λ error. error ≡ FetchError.Wire → IsLost W.streak wire.new) }
         ensures seeds { W.seeds wire.new ≡ W.seeds wire.old }
     {
         let mut pass = pass;
         for _ in rt.forever() {
-            let (after, ran) = self.run_stretch(rt, board, pass, lease, depot, wire, lookout);
+            let (after, ran) = self.run_stretch(rt, shared, pass, lease, wire);
             pass = after;
             match ran {
-                Ok(Stepped::Went) => self.look_up(lookout),
+                Ok(Stepped::Went) => self.look_up(&shared.lookout),
                 Ok(_) => return (pass, Ok(())),
                 Err(error) => return (pass, Err(error)),
             }
-            if lookout.is_over() {
+            if shared.lookout.is_over() {
                 return (pass, Ok(()));
             }
         }
@@ -75,24 +70,20 @@ impl Worker {
     }
 
     /// Runs a machine for a stretch of steps, or to its end or a call before. Each page at which it stalls is brought.
-    fn run_stretch<R: Wait, W: Wire>(
+    fn run_stretch<R: Wait, W: Wire, G>(
         &mut self,
         rt: &R,
-        board: &Board,
+        shared: &Shared<G>,
         pass: Pass,
         lease: &mut Lease,
-        depot: &Depot,
         wire: &mut W,
-        lookout: &Lookout,
     ) -> (Pass, Result<Stepped, FetchError>)
-        requires board { pass.board ≡ board.now }
-        requires depot { depot_of board.now.opening ≡ depot.now }
-        requires of_depot { IsLentOf depot.now lease.old }
-        requires heard { AreHeardOf depot.now self.old.hearing.heard }
+        requires board { pass.board ≡ shared.now.board.now }
+        requires of_depot { IsLentOf shared.now.depot.now lease.old }
+        requires heard { AreHeardOf shared.now.depot.now self.old.hearing.heard }
         ensures same { IsSameLease lease.old lease.new }
         ensures stays { Stays pass result.0 }
-        ensures spares { Spares pass result.0 }
-        ensures heard { AreHeardOf depot.now self.new.hearing.heard }
+        ensures heard { AreHeardOf shared.now.depot.now self.new.hearing.heard }
         ensures wire { IfErr result.1 (λ error. error ≡ FetchError.Wire → IsLost W.streak wire.new) }
         ensures seeds { W.seeds wire.new ≡ W.seeds wire.old }
     {
@@ -106,7 +97,7 @@ impl Worker {
                 return (pass, Ok(ran.why));
             };
             left -= ran.steps;
-            let (after, brought) = self.bring(rt, board, pass, lease, depot, wire, lookout);
+            let (after, brought) = self.bring(rt, shared, pass, lease, wire);
             pass = after;
             if let Err(error) = brought {
                 return (pass, Err(error));
@@ -117,105 +108,97 @@ impl Worker {
 
     /// Brings the page at which a machine stalls: from what was heard before, or from what was told since, if anything was.
     /// Else it comes over the wire, and all that was asked for is told.
-    fn bring<R: Wait, W: Wire>(
+    fn bring<R: Wait, W: Wire, G>(
         &mut self,
         rt: &R,
-        board: &Board,
+        shared: &Shared<G>,
         pass: Pass,
         lease: &mut Lease,
-        depot: &Depot,
         wire: &mut W,
-        lookout: &Lookout,
     ) -> (Pass, Result<(), FetchError>)
-        requires board { pass.board ≡ board.now }
-        requires depot { depot_of board.now.opening ≡ depot.now }
-        requires of_depot { IsLentOf depot.now lease.old }
-        requires heard { AreHeardOf depot.now self.old.hearing.heard }
+        requires board { pass.board ≡ shared.now.board.now }
+        requires of_depot { IsLentOf shared.now.depot.now lease.old }
+        requires heard { AreHeardOf shared.now.depot.now self.old.hearing.heard }
         ensures same { IsSameLease lease.old lease.new }
         ensures stays { Stays pass result.0 }
-        ensures spares { Spares pass result.0 }
-        ensures heard { AreHeardOf depot.now self.new.hearing.heard }
+        ensures heard { AreHeardOf shared.now.depot.now self.new.hearing.heard }
         ensures wire { IfErr result.1 (λ error. error ≡ FetchError.Wire → IsLost W.streak wire.new) }
         ensures seeds { W.seeds wire.new ≡ W.seeds wire.old }
     {
-        match offer(self.alloc, lease, depot, &self.hearing.heard) {
+        match offer(shared.alloc, lease, shared.depot, &self.hearing.heard) {
             Ok(true) => return (pass, Ok(())),
             Ok(false) => {}
             Err(_) => return (pass, Err(FetchError::Memory)),
         }
-        let (pass, offered) = self.hear_and_offer(rt, board, pass, lease, depot, lookout);
+        let (pass, offered) = self.hear_and_offer(rt, shared, pass, lease);
         match offered {
             Ok(true) => (pass, Ok(())),
-            Ok(false) => fetch_and_tell(
-                rt, self.alloc, board, pass, lease, depot, wire, self.ahead, lookout,
-            ),
+            Ok(false) => fetch_and_tell(rt, shared, pass, lease, wire),
             Err(_) => (pass, Err(FetchError::Memory)),
         }
     }
 
     /// Brings the page at which a machine stalls from what was told since it heard last, and answers whether that served.
     /// Where nothing was, it takes no turn to hear.
-    fn hear_and_offer<R: Wait>(
+    fn hear_and_offer<R: Wait, G>(
         &mut self,
         rt: &R,
-        board: &Board,
+        shared: &Shared<G>,
         pass: Pass,
         lease: &mut Lease,
-        depot: &Depot,
-        lookout: &Lookout,
     ) -> (Pass, Result<bool, AllocError>)
-        requires board { pass.board ≡ board.now }
-        requires depot { depot_of board.now.opening ≡ depot.now }
-        requires of_depot { IsLentOf depot.now lease.old }
-        requires heard { AreHeardOf depot.now self.old.hearing.heard }
+        requires board { pass.board ≡ shared.now.board.now }
+        requires of_depot { IsLentOf shared.now.depot.now lease.old }
+        requires heard { AreHeardOf shared.now.depot.now self.old.hearing.heard }
         ensures same { IsSameLease lease.old lease.new }
         ensures stays { Stays pass result.0 }
-        ensures spares { Spares pass result.0 }
-        ensures heard { AreHeardOf depot.now self.new.hearing.heard }
+        ensures heard { AreHeardOf shared.now.depot.now self.new.hearing.heard }
     {
-        let told = lookout.told();
+        let told = shared.lookout.told();
         if told == self.told {
             return (pass, Ok(false));
         }
         self.told = told;
-        let (pass, listened) = self.hearing.listen(rt, board, pass);
+        let (pass, listened) = self.hearing.listen(rt, shared.board, pass);
         if listened.is_err() {
             return (pass, Err(AllocError));
         }
-        let offered = offer(self.alloc, lease, depot, &self.hearing.heard);
+        let offered = offer(shared.alloc, lease, shared.depot, &self.hearing.heard);
         (pass, offered)
     }
 }
 
 /// Fetches the page at which a machine stalls over the wire, and tells all that was asked for.
-fn fetch_and_tell<R: Wait, W: Wire>(
+fn fetch_and_tell<R: Wait, W: Wire, G>(
     rt: &R,
-    alloc: Global,
-    board: &Board,
+    shared: &Shared<G>,
     pass: Pass,
     lease: &mut Lease,
-    depot: &Depot,
     wire: &mut W,
-    ahead: u32,
-    lookout: &Lookout,
 ) -> (Pass, Result<(), FetchError>)
-    requires board { pass.board ≡ board.now }
-    requires depot { depot_of board.now.opening ≡ depot.now }
-    requires of_depot { IsLentOf depot.now lease.old }
-    requires ahead { ahead ≤ MAX_AHEAD }
+    requires board { pass.board ≡ shared.now.board.now }
+    requires of_depot { IsLentOf shared.now.depot.now lease.old }
     ensures same { IsSameLease lease.old lease.new }
     ensures stays { Stays pass result.0 }
-    ensures spares { Spares pass result.0 }
     ensures wire { IfErr result.1 (λ error. error ≡ FetchError.Wire → IsLost W.streak wire.new) }
     ensures seeds { W.seeds wire.new ≡ W.seeds wire.old }
 {
-    let mut pushed = Vec::new(alloc);
-    if let Err(error) = fetch(rt, alloc, lease, depot, wire, ahead, &mut pushed) {
+    let ahead = shared.settings.ahead;
+    let mut pushed = Vec::new(shared.alloc);
+    if let Err(error) = fetch(
+        rt,
+        shared.alloc,
+        lease,
+        shared.depot,
+        wire,
+        ahead,
+        &mut pushed,
+    ) {
         return (pass, Err(error));
     }
-    match tell_all(rt, board, pass, &pushed) {
+    match tell_all(rt, shared.board, pass, &pushed) {
         (pass, Ok(())) => {
-            lookout.tell(pushed.len());
+            shared.lookout.tell(pushed.len());
             (pass, Ok(()))
         }
         (pass, Err(_)) => (pass, Err(FetchError::Memory)),

@@ -1,24 +1,23 @@
 //! A worker: it takes machines out of the world of a board, runs them, and hands them back.
 
-ghost use Rattle.std.specs.Prelude.{◌≡◌, ◌≢◌, ◌⊎◌, ◌≤◌, []};
+ghost use Rattle.std.specs.Prelude.{◌≡◌, ◌≢◌, ◌⊎◌, []};
 ghost use Rattle.host_fetch.specs.Heard.{AreHeardOf};
-ghost use Rattle.host_fetch.specs.declared.fetch_page.TheConstants.{MAX_AHEAD};
-ghost use Rattle.fork_board.specs.Follows.{depot_of};
 ghost use Rattle.fork_board.specs.Holds.{HoldsOne, HoldsPlaced};
 ghost use Rattle.fork_board.specs.Passes.{HoldsNone};
-ghost use Rattle.host_workers.specs.Finishes.{Finishes, IsDone, IsStopped, IsStoppedBy, Worked};
+ghost use Rattle.host_workers.specs.Finishes.{Finishes, IsStopped, IsStoppedBy};
 ghost use Rattle.host_workers.specs.Lost.{IsLost};
-ghost use Rattle.host_workers.specs.Stays.{Blames, GoesBackStopped, IfFinished, Spares, Turns, reason_for};
+ghost use Rattle.host_workers.specs.Stages.{Halts, Stage, done, free, halting, runs};
+ghost use Rattle.host_workers.specs.Stays.{Blames, GoesBackStopped, Spares, Turns, Worked, reason_for, stage_placed, stage_turned};
 
 use crate::finish::Finish;
 use crate::gate::{Gate, Point};
 use crate::lookout::Lookout;
 use crate::pace::Pace;
 use crate::replies::Hearing;
-use fork_board::{Board, Pass};
+use crate::shared::Shared;
+use fork_board::Pass;
 use fork_port::Call;
-use host_fetch::{FetchError, MAX_AHEAD};
-use image_depot::Depot;
+use host_fetch::FetchError;
 use std::alloc::Global;
 use std::sync::Wait;
 use wire_fates::Wire;
@@ -27,15 +26,11 @@ use world_core::{Lease, Placed, Reason, Taken};
 /// What a worker has by itself.
 #[derive(Drop)]
 pub(crate) struct Worker {
-    pub(crate) alloc: Global,
     number: u32,
-    /// The most pages that it asks for beside a wanted one.
-    pub(crate) ahead: u32,
     pub(crate) pace: Pace,
     pub(crate) hearing: Hearing,
     /// How many replies were told when it heard last.
     pub(crate) told: u64,
-    ghost few: { ahead ≤ MAX_AHEAD },
 }
 
 /// What came of a worker's turn.
@@ -47,52 +42,42 @@ enum Turned {
     Ran,
 }
 
-/// Takes machines and runs them until the root has ended or the world was stopped, each for a slice of steps first.
-/// The pages of clones come over a wire, with at most `ahead` more at once.
+/// Takes machines and runs them until the root has ended or the world was stopped. The pages of clones come over a wire.
 pub(crate) fn work<R: Wait, W: Wire, G: Gate>(
     rt: &R,
-    alloc: Global,
-    board: &Board,
-    pass: Pass,
-    depot: &Depot,
-    wire: &mut W,
-    gate: &G,
-    lookout: &Lookout,
+    shared: &Shared<G>,
     number: u32,
-    slice: u64,
-    ahead: u32,
+    pass: Pass,
+    wire: &mut W,
 ) -> (Pass, Finish)
-    requires board { pass.board ≡ board.now }
-    requires depot { depot_of board.now.opening ≡ depot.now }
+    requires board { pass.board ≡ shared.now.board.now }
     requires none { HoldsNone pass }
-    requires ahead { ahead ≤ MAX_AHEAD }
-    ensures worked { Worked pass result.0 }
+    ensures worked { Worked free done pass result.0 }
     ensures none { HoldsNone result.0 }
     ensures finish { Finishes result.0 result.1 }
-    ensures done { IsDone result.0.number result.0.seen }
     ensures wire { IsStoppedBy result.0.number Reason.Wire result.0 → IsLost W.streak wire.new ⊎ IsStopped pass }
     ensures seeds { W.seeds wire.new ≡ W.seeds wire.old }
 {
-    let mut worker = Worker::new(alloc, number, slice, ahead);
+    let mut worker = Worker::new(shared.alloc, number, u64::from(shared.settings.slice));
     let mut pass = pass;
     if number > 0 {
-        lookout.sleep(rt);
+        shared.lookout.sleep(rt);
     }
     for _ in rt.forever() {
-        let returns = lookout.returns();
-        let (after, turned) = worker.turn(rt, board, pass, depot, wire, gate, lookout);
+        let returns = shared.lookout.returns();
+        let (after, turned) = worker.turn(rt, shared, pass, wire);
         pass = after;
         match turned {
             Turned::Finished(finish) => {
-                lookout.end();
-                gate.at(rt, number, Point::Done);
+                shared.lookout.end();
+                shared.settings.gate.at(rt, number, Point::Done);
                 return (pass, finish);
             }
             Turned::Idle => {
-                gate.at(rt, number, Point::Idle);
-                lookout.find_none(rt, returns);
+                shared.settings.gate.at(rt, number, Point::Idle);
+                shared.lookout.find_none(rt, returns);
             }
-            Turned::Ran => worker.come_back(rt, lookout),
+            Turned::Ran => worker.come_back(rt, &shared.lookout),
         }
     }
     unreachable!()
@@ -100,14 +85,11 @@ pub(crate) fn work<R: Wait, W: Wire, G: Gate>(
 
 impl Worker {
     /// A worker that has heard nothing.
-    fn new(alloc: Global, number: u32, slice: u64, ahead: u32) -> Worker
-        requires { ahead ≤ MAX_AHEAD }
+    fn new(alloc: Global, number: u32, slice: u64) -> Worker
         ensures { result.hearing.heard ≡ [] }
     {
         Worker {
-            alloc,
             number,
-            ahead,
             pace: Pace::new(slice),
             hearing: Hearing::new(alloc),
             told: u64::MAX,
@@ -127,68 +109,59 @@ impl Worker {
     fn turn<R: Wait, W: Wire, G: Gate>(
         &mut self,
         rt: &R,
-        board: &Board,
+        shared: &Shared<G>,
         pass: Pass,
-        depot: &Depot,
         wire: &mut W,
-        gate: &G,
-        lookout: &Lookout,
     ) -> (Pass, Turned)
-        requires board { pass.board ≡ board.now }
-        requires depot { depot_of board.now.opening ≡ depot.now }
+        requires board { pass.board ≡ shared.now.board.now }
         requires none { HoldsNone pass }
-        requires heard { AreHeardOf depot.now self.old.hearing.heard }
-        ensures worked { Worked pass result.0 }
+        requires heard { AreHeardOf shared.now.depot.now self.old.hearing.heard }
+        ensures worked { Worked free (stage_turned result.1) pass result.0 }
         ensures none { HoldsNone result.0 }
         ensures turns { Turns result.0 result.1 }
-        ensures done { IfFinished result.1 (IsDone result.0.number result.0.seen) }
-        ensures heard { AreHeardOf depot.now self.new.hearing.heard }
+        ensures heard { AreHeardOf shared.now.depot.now self.new.hearing.heard }
         ensures wire { Blames W.streak wire.new pass result.0 }
         ensures seeds { W.seeds wire.new ≡ W.seeds wire.old }
         ensures stopped { IsStopped pass → wire.new ≡ wire.old }
     {
-        let (pass, taken) = board.take(rt, self.alloc, pass, depot);
+        let board = shared.board;
+        let (pass, taken) = board.take(rt, shared.alloc, pass, shared.depot);
         match taken {
             Taken::Over => (pass, Turned::Finished(Finish::Over)),
             Taken::Stopped(reason) => (pass, Turned::Finished(Finish::Stopped(reason))),
             Taken::Idle => (pass, Turned::Idle),
             Taken::Memory => (board.stop(rt, pass, Reason::Memory), Turned::Ran),
             Taken::Took(lease) => {
-                gate.at(rt, self.number, Point::Took(lease.name().depth()));
-                (
-                    self.run(rt, board, pass, lease, depot, wire, lookout),
-                    Turned::Ran,
-                )
+                let point = Point::Took(lease.name().depth());
+                shared.settings.gate.at(rt, self.number, point);
+                (self.run(rt, shared, pass, lease, wire), Turned::Ran)
             }
         }
     }
 
     /// Runs a machine, and hands it back. Where it cannot be run on, the world is stopped.
-    fn run<R: Wait, W: Wire>(
+    fn run<R: Wait, W: Wire, G>(
         &mut self,
         rt: &R,
-        board: &Board,
+        shared: &Shared<G>,
         pass: Pass,
         lease: Lease,
-        depot: &Depot,
         wire: &mut W,
-        lookout: &Lookout,
     ) -> Pass
-        requires board { pass.board ≡ board.now }
-        requires depot { depot_of board.now.opening ≡ depot.now }
+        requires board { pass.board ≡ shared.now.board.now }
         requires one { HoldsOne pass lease }
-        requires heard { AreHeardOf depot.now self.old.hearing.heard }
-        ensures worked { Worked pass result }
+        requires heard { AreHeardOf shared.now.depot.now self.old.hearing.heard }
+        ensures worked { Worked runs free pass result }
         ensures none { HoldsNone result }
-        ensures heard { AreHeardOf depot.now self.new.hearing.heard }
+        ensures heard { AreHeardOf shared.now.depot.now self.new.hearing.heard }
         ensures wire { Blames W.streak wire.new pass result }
         ensures seeds { W.seeds wire.new ≡ W.seeds wire.old }
     {
         let mut lease = lease;
-        let (pass, ran) = self.run_on(rt, board, pass, &mut lease, depot, wire, lookout);
+        let (pass, ran) = self.run_on(rt, shared, pass, &mut lease, wire);
         match ran {
-            Ok(()) => spend(rt, self.alloc, board, pass, lease, depot),
-            Err(error) => give_up(rt, board, pass, lease, stop_for(error)),
+            Ok(()) => spend(rt, shared, pass, lease),
+            Err(error) => give_up(rt, shared, pass, lease, stop_for(error)),
         }
     }
 }
@@ -204,62 +177,47 @@ fn stop_for(error: FetchError) -> Reason
 }
 
 /// Hands a machine back. Where memory is wanting for its call, the world is stopped.
-fn spend<R: Wait>(
-    rt: &R,
-    alloc: Global,
-    board: &Board,
-    pass: Pass,
-    lease: Lease,
-    depot: &Depot,
-) -> Pass
-    requires board { pass.board ≡ board.now }
-    requires depot { depot_of board.now.opening ≡ depot.now }
+fn spend<R: Wait, G>(rt: &R, shared: &Shared<G>, pass: Pass, lease: Lease) -> Pass
+    requires board { pass.board ≡ shared.now.board.now }
     requires one { HoldsOne pass lease }
-    ensures worked { Worked pass result }
+    ensures worked { Worked runs free pass result }
     ensures none { HoldsNone result }
     ensures spares { Spares pass result }
 {
-    match hand_back(rt, alloc, board, pass, lease, depot) {
+    match hand_back(rt, shared, pass, lease) {
         (pass, Placed::Done | Placed::Parked | Placed::Dropped) => pass,
-        (pass, Placed::Memory(lease)) => give_up(rt, board, pass, lease, Reason::Memory),
+        (pass, Placed::Memory(lease)) => give_up(rt, shared, pass, lease, Reason::Memory),
     }
 }
 
 /// Makes the call at which a machine stands, or gives it back.
-fn hand_back<R: Wait>(
-    rt: &R,
-    alloc: Global,
-    board: &Board,
-    pass: Pass,
-    lease: Lease,
-    depot: &Depot,
-) -> (Pass, Placed)
-    requires board { pass.board ≡ board.now }
-    requires depot { depot_of board.now.opening ≡ depot.now }
+fn hand_back<R: Wait, G>(rt: &R, shared: &Shared<G>, pass: Pass, lease: Lease) -> (Pass, Placed)
+    requires board { pass.board ≡ shared.now.board.now }
     requires one { HoldsOne pass lease }
-    ensures worked { Worked pass result.0 }
+    ensures worked { Worked runs (stage_placed result.1) pass result.0 }
     ensures holds { HoldsPlaced result.0 result.1 }
     ensures spares { Spares pass result.0 }
 {
+    let board = shared.board;
     match lease.call() {
-        Some(Call::Clone(_)) => board.fork(rt, alloc, pass, lease, depot),
-        Some(Call::Join(_)) => board.join(rt, alloc, pass, lease),
+        Some(Call::Clone(_)) => board.fork(rt, shared.alloc, pass, lease, shared.depot),
+        Some(Call::Join(_)) => board.join(rt, shared.alloc, pass, lease),
         Some(Call::Kill(_)) => board.kill(rt, pass, lease),
         None => board.give(rt, pass, lease),
     }
 }
 
 /// Stops the world, and only then gives a machine back that cannot be run on: so nobody takes it.
-fn give_up<R: Wait>(rt: &R, board: &Board, pass: Pass, lease: Lease, reason: Reason) -> Pass
-    requires board { pass.board ≡ board.now }
+fn give_up<R: Wait, G>(rt: &R, shared: &Shared<G>, pass: Pass, lease: Lease, reason: Reason) -> Pass
+    requires board { pass.board ≡ shared.now.board.now }
     requires one { HoldsOne pass lease }
-    ensures worked { Worked pass result }
+    ensures worked { (from : Stage) → Halts from reason halting → Worked from free pass result }
     ensures none { HoldsNone result }
     ensures spares { reason ≢ Reason.Wire → Spares pass result }
     ensures stopped { GoesBackStopped lease result }
 {
-    let pass = board.stop(rt, pass, reason);
-    let (pass, placed) = board.give(rt, pass, lease);
+    let pass = shared.board.stop(rt, pass, reason);
+    let (pass, placed) = shared.board.give(rt, pass, lease);
     match placed {
         Placed::Done | Placed::Parked | Placed::Dropped => pass,
         Placed::Memory(_lease) => unreachable!(),

@@ -67,18 +67,21 @@ pub fault-Loads : (found : Option (List ℕ)) (at_most : ℕ) (r : Result (Vec �
     → Loads found at_most r → new ≡ after_load found old → IsErrOf r Fault → HasRisen old.faults new.faults
 fault-Loads found at_most r old new h after e = rw after (fault found at_most old (subst (Loads found at_most) e h))
 
-asked : (found : Option (List ℕ)) (at_most : ℕ) (r : Result (Vec ℕ Global) ShelfError) (old : Shelved) → Loads found at_most r
-    → record { loads = (after_load found old).calls; last_fault = (after_load found old).last_fault } ≡ asked_after r (record { loads = old.calls; last_fault = old.last_fault })
-asked None at_most (Ok copy) old h = cc
-asked None at_most (Err Fault) old h = refl
-asked None at_most (Err TooLong) old h = cc
-asked None at_most (Err Memory) old h = cc
-asked (Some bytes) at_most (Ok copy) old h = refl
-asked (Some bytes) at_most (Err Fault) old h = absurd h
-asked (Some bytes) at_most (Err TooLong) old h = refl
-asked (Some bytes) at_most (Err Memory) old h = refl
+-- what was asked of a shelf in memory, which tells no names
+abbrev pub asked_of : Shelved → Asked
+asked_of shelf = record { loads = shelf.calls; last_fault = shelf.last_fault; names = None }
 
-pub asked-Loads : (found : Option (List ℕ)) (at_most : ℕ) (r : Result (Vec ℕ Global) ShelfError) (old new : Shelved)
-    → Loads found at_most r → new ≡ after_load found old
-    → record { loads = new.calls; last_fault = new.last_fault } ≡ asked_after r (record { loads = old.calls; last_fault = old.last_fault })
-asked-Loads found at_most r old new h after = rw after (asked found at_most r old h)
+asked : (name : List ℕ) (found : Option (List ℕ)) (at_most : ℕ) (r : Result (Vec ℕ Global) ShelfError) (old : Shelved) → Loads found at_most r
+    → asked_of (after_load found old) ≡ asked_after name r (asked_of old)
+asked name None at_most (Ok copy) old h = cc
+asked name None at_most (Err Fault) old h = refl
+asked name None at_most (Err TooLong) old h = cc
+asked name None at_most (Err Memory) old h = cc
+asked name (Some bytes) at_most (Ok copy) old h = refl
+asked name (Some bytes) at_most (Err Fault) old h = absurd h
+asked name (Some bytes) at_most (Err TooLong) old h = refl
+asked name (Some bytes) at_most (Err Memory) old h = refl
+
+pub asked-Loads : (name : List ℕ) (found : Option (List ℕ)) (at_most : ℕ) (r : Result (Vec ℕ Global) ShelfError) (old new : Shelved)
+    → Loads found at_most r → new ≡ after_load found old → asked_of new ≡ asked_after name r (asked_of old)
+asked-Loads name found at_most r old new h after = rw after (asked name found at_most r old h)

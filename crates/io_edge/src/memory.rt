@@ -43,14 +43,14 @@ impl MemShelf {
 }
 
 impl Shelf for MemShelf {
-    ghost use Rattle.std.specs.Prelude.{Some};
+    ghost use Rattle.std.specs.Prelude.{None, Some};
     ghost use Rattle.io_edge.specs.Files.{file_named};
 
     ghost files = { λ s. Some (file_named s.files) };
 
     ghost faults = { λ s. s.faults };
 
-    ghost asked = { λ s. record { loads = s.calls; last_fault = s.last_fault } };
+    ghost asked = { λ s. record { loads = s.calls; last_fault = s.last_fault; names = None } };
 
     fn load(&mut self, alloc: Global, name: &str, at_most: usize) -> Result<Vec<u8>, ShelfError>
         ensures loads { Loads (found self.old name.now) at_most result }

@@ -38,7 +38,8 @@ pub trait Shelf {
     /// How many faults there were.
     ghost faults: { Self → ℕ };
 
-    /// How many loads were asked for, and which of them had the last fault.
+    /// How many loads were asked for, which of them had the last fault, and of which names they were, where the shelf
+    /// tells them.
     ghost asked: { Self → Asked };
 
     /// The bytes of a file, `at_most` so many.
@@ -50,7 +51,7 @@ pub trait Shelf {
         ensures too_long { IsErrOf result ShelfError.TooLong
             → IfSome (files self.old) (λ files. IsSomeAnd (files name.now) (λ bytes. at_most < length bytes)) }
         ensures fault { IsErrOf result ShelfError.Fault → HasRisen (faults self.old) (faults self.new) }
-        ensures asked { asked self.new ≡ asked_after result (asked self.old) };
+        ensures asked { asked self.new ≡ asked_after name.now result (asked self.old) };
 }
 
 /// Where bytes go.

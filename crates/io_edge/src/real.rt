@@ -46,7 +46,7 @@ impl<R: Files> Shelf for FileShelf<'_, R> {
 
     ghost faults = { λ s. s.faults };
 
-    ghost asked = { λ s. record { loads = s.calls; last_fault = s.last_fault } };
+    ghost asked = { λ s. record { loads = s.calls; last_fault = s.last_fault; names = None } };
 
     fn load(&mut self, alloc: Global, name: &str, at_most: usize) -> Result<Vec<u8>, ShelfError> {
         self.calls = self.calls.saturating_add(1);

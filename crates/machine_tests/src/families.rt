@@ -9,7 +9,7 @@ ghost use Rattle.world_core.specs.Answers.{IsLentOf};
 use crate::equal::succeeds;
 use crate::guests::{TWO_CHILDREN, booted};
 use fork_board::{Board, Pass};
-use host_workers::{Finish, Gate, MAX_WORKERS, OpenGate, run_hosts};
+use host_workers::{Finish, Gate, MAX_WORKERS, OpenGate, Settings, run_hosts};
 use image_depot::{Depot, Sent};
 use run_report::Outcome;
 use std::alloc::{AllocError, Global};
@@ -43,7 +43,7 @@ fn board_of(
     requires words { length words.now ≤ 64 }
     requires clones { clones ≤ 4096 }
     ensures depot { depot_of result.0.opening ≡ depot.now }
-    ensures pass { result.1 ≡ record { board = result.0; number = []; splits = 0; seen = []; mine = [] } }
+    ensures pass { result.1 ≡ record { board = result.0; number = []; splits = 0; seen = []; mine = []; ended = [] } }
     ensures none { HoldsNone result.1 }
 {
     let vm = booted(rt, alloc, words, clones);
@@ -55,12 +55,23 @@ fn board_of_machine(alloc: Global, vm: Vm, depot: &Depot) -> Result<(Board, Pass
     requires no_ticket { (port_of vm.machine).tickets ≡ [] }
     requires no_image { vm.key ≡ None }
     ensures depot { IfOk result (λ made. depot_of made.0.opening ≡ depot.now) }
-    ensures pass { IfOk result (λ made. made.1 ≡ record { board = made.0; number = []; splits = 0; seen = []; mine = [] }) }
+    ensures pass { IfOk result (λ made. made.1 ≡ record { board = made.0; number = []; splits = 0; seen = []; mine = []; ended = [] }) }
     ensures none { IfOk result (λ made. HoldsNone made.1) }
 {
     let first = Snapshot::of(&vm);
     let world = World::new(alloc, vm, depot)?;
     Board::new(alloc, world, first, depot)
+}
+
+/// A gate that holds nobody, slices of so many steps, and so many pages more with a wanted one.
+fn ungated(slice: u32, ahead: u32) -> Settings<OpenGate>
+    requires { ahead ≤ 16 }
+{
+    Settings {
+        gate: OpenGate,
+        slice,
+        ahead,
+    }
 }
 
 /// Lets a worker for each wire run the family of a board, of which nobody holds a machine.
@@ -70,20 +81,17 @@ fn run_family<R: AllocGlobal + Threads + Wait + Sync, W: Wire + Send, G: Gate + 
     pass: Pass,
     depot: &Depot,
     wires: &mut [W],
-    gate: &G,
-    slice: u32,
-    ahead: u32,
+    settings: &Settings<G>,
 ) -> (Pass, Finish)
     requires board { pass.board ≡ board.now }
     requires depot { depot_of board.now.opening ≡ depot.now }
     requires none { HoldsNone pass }
     requires wires { (1 ≤ length wires.old) × (length wires.old ≤ MAX_WORKERS) }
-    requires ahead { ahead ≤ 16 }
     requires parts { length pass.number < 3 }
     requires splits { pass.splits ≡ 0 }
     ensures { result.0.board ≡ board.now }
 {
-    run_hosts(rt, board, pass, depot, wires, gate, slice, ahead)
+    run_hosts(rt, board, pass, depot, wires, settings)
 }
 
 /// Ends a board. The outcome of its family, once its root has ended.
@@ -108,7 +116,12 @@ pub fn end_over<R: AllocGlobal + Threads + Wait + Abort + Sync, W: Wire + Send, 
 {
     let depot = succeeds(rt, Depot::new(rt.alloc()));
     let (board, pass) = board_of(rt, rt.alloc(), words, clones, &depot);
-    let (pass, finish) = run_family(rt, &board, pass, &depot, wires, gate, slice, AHEAD);
+    let settings = Settings {
+        gate,
+        slice,
+        ahead: AHEAD,
+    };
+    let (pass, finish) = run_family(rt, &board, pass, &depot, wires, &settings);
     Ended {
         finish,
         outcome: finished(rt, board, pass),
@@ -150,7 +163,7 @@ pub fn is_stopped<R: AllocGlobal + Threads + Wait + Abort + Sync>(rt: &R) -> boo
     let (board, pass) = board_of(rt, rt.alloc(), &TWO_CHILDREN, 2, &depot);
     let pass = board.stop(rt, pass, Reason::Wire);
     let mut wires = [Seeded::new(), Seeded::new()];
-    let (pass, finish) = run_family(rt, &board, pass, &depot, &mut wires, &OpenGate, 1, AHEAD);
+    let (pass, finish) = run_family(rt, &board, pass, &depot, &mut wires, &ungated(1, AHEAD));
     let lives = finished(rt, board, pass).is_none();
     lives && matches!(finish, Finish::Stopped(Reason::Wire))
 }
@@ -260,7 +273,7 @@ fn heard_after<R: AllocGlobal + Threads + Wait + Abort + Sync>(
     requires splits { pass.splits ≡ 0 }
 {
     let mut wires = [Seeded::new()];
-    let (pass, _) = run_family(rt, board, pass, depot, &mut wires, &OpenGate, 1000, 0);
+    let (pass, _) = run_family(rt, board, pass, depot, &mut wires, &ungated(1000, 0));
     let (pass, told) = numbers_at(rt, board, pass, 0);
     let (_, beyond) = numbers_at(rt, board, pass, 1);
     [told, beyond]

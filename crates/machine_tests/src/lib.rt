@@ -1,12 +1,14 @@
 //! Tests of public calls on machines, worlds, scripts, boards and workers, of what no clause says: that those which may
 //! want memory succeed where there is some, at which pages clones stall, in order, which texts are no scripts, what a
-//! report looks like, which numbers stand behind the names of constants, that threads get their turns, and that a family
-//! comes to one report, whoever runs which machine when. They stand here and not in the crates of the calls, since a
-//! crate with tests is proved twice, and this one has nothing else.
+//! report looks like, which numbers stand behind the names of constants, that threads get their turns and claim each
+//! page once, and that a family comes to one report, whoever runs which machine when. They stand here and not in the
+//! crates of the calls, since a crate with tests is proved twice, and this one has nothing else.
 #![tactic(auto)]
 
 #[cfg(test)]
 mod absent;
+#[cfg(test)]
+mod claims;
 #[cfg(test)]
 mod equal;
 #[cfg(test)]

@@ -19,3 +19,6 @@ pub mod Wakes
 pub mod SmallTalk
 pub mod Holdings
 pub mod Projected
+pub mod WhatIsRead
+pub mod Silent
+pub mod Undisturbed

@@ -62,7 +62,7 @@ module _ {M E : Type 0} (o : Operations M E) (k : Talks M) where
   heard-full None i j word b other = ap is_full (queue-other (with_word word) j i b.inbox (λ e. other (sym e)))
   heard-full (Some ending) i j word b other = refl
 
-  brings-full : (what : Option Talk) (i j word : ℕ) (t : Tree (Box M)) → i ≢ j
+  pub brings-full : (what : Option Talk) (i j word : ℕ) (t : Tree (Box M)) → i ≢ j
       → is_full (queue i (machine (brings o k what j word t)).inbox) ≡ is_full (queue i (machine t).inbox)
   brings-full None i j word t other = refl
   brings-full (Some (send x)) i j word (node b broods log) other = heard-full (o.ending b.machine) i j word b other

@@ -105,6 +105,6 @@ told no_entry = []
 told (joined log t trees) = told log ++ endings (boxed speakers speech) trees
 told (killed log t n) = told log
 
--- what a report says of the small machine, which starts with 10 steps left and puts nothing out
+-- what a report says of the small machine, which starts with 10 steps left: it puts out its value, as one byte
 abbrev pub told_of : Told Speaker
-told_of = record { steps = λ m. 10 - m.toy.left; output = λ m. [] }
+told_of = record { steps = λ m. 10 - m.toy.left; output = λ m. m.toy.value ∷ [] }

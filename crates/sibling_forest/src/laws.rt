@@ -13,7 +13,7 @@ ghost use Rattle.sibling_forest.specs.Settle.{settle, settle_all, rests_at};
 ghost use Rattle.sibling_forest.specs.Fuel.{fuel_of};
 ghost use Rattle.sibling_forest.specs.Finish.{rests, finish, IsFinish};
 ghost use Rattle.sibling_forest.specs.Members.{IsWholeForest};
-ghost use Rattle.sibling_forest.specs.Laws.{Meet, child_number, is_sibling, TalksAlike, box_of};
+ghost use Rattle.sibling_forest.specs.Laws.{Meet, child_number, is_sibling, ReadAlike, silenced, IsSilent, TalksAlike, box_of};
 
 /// Machines with the words to them keep the rules of machines.
 pub fn words_add_nothing<M, E>()
@@ -59,6 +59,15 @@ pub fn steps_change_one<M, E>()
         ≡ option_map (λ (u : Tree (Box M)). queue from (machine u).inbox) (subtree at t) }
 {}
 
+/// A step reads only its own machine with the words to it, what is below that, and of each sibling whether it lives and the
+/// words to it from this machine: trees that are alike in these rest alike there, and are alike in them after the step.
+pub fn steps_read_alike<M, E>()
+    ensures rest { (o : Operations M E) (k : Talks M) (path : Path) (t u : Tree (Box M)) → ReadAlike o path t u
+        → rests_at o k path u ≡ rests_at o k path t }
+    ensures after { (o : Operations M E) (k : Talks M) (path : Path) (t u : Tree (Box M)) → ReadAlike o path t u
+        → ReadAlike o path (settle o k path t) (settle o k path u) }
+{}
+
 /// Of two different steps that can be made each can be made after the other, and their order makes no difference; or
 /// the one drops the machine of the other, and leads to the same tree alone.
 pub fn steps_meet<M, E>()
@@ -87,6 +96,15 @@ pub fn waiting_goes_on<M, E>()
         → IsSound (boxed o k) t → subtree at t ≡ Some a → path ≢ at
         → ((b : Branch) → path ≡ at ++ (b ∷ []) → o.call (machine a).machine ≢ Some (join b.ticket))
         → (is_sibling at path ≡ true → (said : Talk) → k.talk (machine a).machine ≡ Some said → peer said ≢ child_number path)
+        → rests_at o k at t ≡ true → rests_at o k at (settle o k path t) ≡ true }
+{}
+
+/// A step of a machine that lives after it leaves waiting each sibling that its talk does not name: a send or a receive wakes
+/// its sibling alone, and a step with no talk none.
+pub fn talks_wake_one<M, E>()
+    ensures { (o : Operations M E) (k : Talks M) (at path : Path) (t a b : Tree (Box M)) → is_sibling at path ≡ true → path ≢ at
+        → subtree at t ≡ Some a → subtree path t ≡ Some b → o.ending (machine (step (boxed o k) b)).machine ≡ None
+        → ((said : Talk) → k.talk (machine b).machine ≡ Some said → peer said ≢ child_number at)
         → rests_at o k at t ≡ true → rests_at o k at (settle o k path t) ≡ true }
 {}
 
@@ -127,6 +145,16 @@ pub fn silent_machines_finish_alike<M, E>()
         → (t : Tree (Box M)) → IsSound (boxed o k) t → finish o k t ≡ former.finish (boxed o k) t }
     ensures bare { (o : Operations M E) (k : Talks M) → ((m : M) → k.talk m ≡ None) → IsMachine o → IsTalking o k
         → (t : Tree (Box M)) → IsSound (boxed o k) t
+        → map_tree (λ (b : Box M). b.machine) (finish o k t) ≡ former.finish o (map_tree (λ (b : Box M). b.machine) t) }
+{}
+
+/// Where no machine of a tree comes to a talk, the tree comes to what it comes to without words, and no word is said: the
+/// boxes are those of machines that cannot talk.
+pub fn silent_trees_finish_alike<M, E>()
+    ensures boxes { (o : Operations M E) (k : Talks M) → IsMachine o → IsTalking o k → (t : Tree (Box M)) → IsSound (boxed o k) t
+        → IsSilent o k t → finish o k t ≡ former.finish (boxed o (silenced k)) t }
+    ensures bare { (o : Operations M E) (k : Talks M) → IsMachine o → IsTalking o k → (t : Tree (Box M)) → IsSound (boxed o k) t
+        → IsSilent o k t
         → map_tree (λ (b : Box M). b.machine) (finish o k t) ≡ former.finish o (map_tree (λ (b : Box M). b.machine) t) }
 {}
 

@@ -15,9 +15,13 @@ pub fn toy_is_a_talking_machine()
     ensures talking { IsTalking speakers speech }
 {}
 
-/// Two children that swap their numbers end with each other's.
+/// Two children that swap their numbers end with each other's, and put out each other's.
 pub fn toy_swaps()
-    ensures { told (log_of (finish speakers speech (start swap))) ≡ by_exit 2 ∷ (by_exit 1 ∷ []) }
+    ensures told { told (log_of (finish speakers speech (start swap))) ≡ by_exit 2 ∷ (by_exit 1 ∷ []) }
+    ensures lines { lines speakers told_of [] (finish speakers speech (start swap))
+        ≡ machine_line [] (Some (by_exit 3)) 6 (3 ∷ [])
+        ∷ (machine_line (record { ticket = 1; child = 1 } ∷ []) (Some (by_exit 2)) 6 (2 ∷ [])
+        ∷ (machine_line (record { ticket = 1; child = 2 } ∷ []) (Some (by_exit 1)) 6 (1 ∷ []) ∷ [])) }
 {}
 
 /// Two that both receive first are stuck: the tree that they come to rests, its root lives, and all three have a line that
@@ -25,8 +29,8 @@ pub fn toy_swaps()
 pub fn toy_is_stuck()
     ensures rests { rests speakers speech (finish speakers speech (start both_wait)) ≡ true }
     ensures lines { lines speakers told_of [] (finish speakers speech (start both_wait))
-        ≡ machine_line [] None 4 []
-        ∷ (machine_line (record { ticket = 1; child = 1 } ∷ []) None 2 []
-        ∷ (machine_line (record { ticket = 1; child = 2 } ∷ []) None 2 [] ∷ [])) }
+        ≡ machine_line [] None 4 (0 ∷ [])
+        ∷ (machine_line (record { ticket = 1; child = 1 } ∷ []) None 2 (1 ∷ [])
+        ∷ (machine_line (record { ticket = 1; child = 2 } ∷ []) None 2 (2 ∷ []) ∷ [])) }
     ensures lives { (machine (finish speakers speech (start both_wait))).machine.toy.ending ≡ None }
 {}

@@ -7,7 +7,7 @@ use Rattle.fork_board.specs.Passes.{BoardValue, PassValue}
 use Rattle.host_workers.specs.Finishes.{IsForeign, IsStopped, IsStoppedElsewhere, first_stop}
 
 abbrev pub first_of : BoardValue → PassValue
-first_of board = record { board = board; number = []; splits = 0; seen = []; mine = [] }
+first_of board = record { board = board; number = []; splits = 0; seen = []; mine = []; ended = [] }
 
 not-foreign : (board : BoardValue) (seat : Seat) → IsForeign (first_of board) seat → ⊥
 not-foreign board [] f = f.not_own refl

@@ -1,5 +1,5 @@
 -- The seeds that wires are given.
-use Rattle.std.proofs.Common.{◌≡◌, ℕ, zero, suc, ◌+◌, ◌<◌, ◌≤◌, Bool, true, false, List, [], ◌∷◌, ◌++◌, drop, length, map, min, slice_index_or, slice_set, take, Option, Some, Result, Ok, Err, OnOk, refl, sym, ap, ap₂, ◌∙◌, subst, arith, add-one}
+use Rattle.std.proofs.Common.{◌≡◌, ℕ, zero, suc, ◌+◌, ◌<◌, ◌≤◌, true, List, [], ◌∷◌, ◌++◌, drop, length, map, min, slice_index_or, slice_set, take, Option, Some, Result, Ok, Err, OnOk, refl, sym, ap, ap₂, ◌∙◌, subst, arith, add-one}
 use Rattle.std.proofs.lemmas.List.{length-map, map-append}
 use Rattle.command_line.specs.Words.{Command, RunValues}
 use Rattle.guest_files.specs.declared.stop.Stop.{Stop}
@@ -7,7 +7,9 @@ use Rattle.guest_files.specs.declared.stop.Stop.TheVariants.{ReadFault, ImageRef
 use Rattle.guest_files.specs.Parts.{Stops}
 use Rattle.guest_files.specs.Reads.{Refusal}
 use Rattle.wire_fates.specs.Fates.{seeded_with}
-use Rattle.snow_commands.specs.Seeded.{IfRun, all_seeded, is_run, seeded_for}
+use Rattle.world_core.specs.declared.reason.Reason.{Reason}
+use Rattle.world_core.specs.declared.reason.Reason.TheVariants as reason
+use Rattle.snow_commands.specs.Seeded.{IfRan, IfRun, all_seeded, is_run, seeded_for}
 use Rattle.snow_commands.proofs.Codes.{status_of}
 
 -- ---- one wire after another
@@ -66,23 +68,11 @@ first-part (x ∷ front) rest (suc n) e =
     let more = first-part front rest n (omega (arith, e)) in
     (ap (λ l. x ∷ l) more.0, more.1)
 
-run-then : {A : Type 0} (result : Result A Stop) (P Q : Type 0) → (P → Q) → IfRun result P → IfRun result Q
-run-then (Ok value) P Q to h = to h
-run-then (Err (ReadFault load)) P Q to h = tt
-run-then (Err (ImageRefused number)) P Q to h = tt
-run-then (Err (DataRefused number)) P Q to h = tt
-run-then (Err (ScriptRefused line kind)) P Q to h = tt
-run-then (Err WriteFault) P Q to h = to h
-run-then (Err Wire) P Q to h = to h
-run-then (Err Memory) P Q to h = tt
-
 -- the first of the wires are given it, and the others stay
-pub part-given : {A W : Type 0} (seeds : W → Option (List ℕ)) (how : RunValues) (result : Result A Stop) (old front rest new front' : List W) → old ≡ front ++ rest
-    → length front ≡ min (length old) how.workers → new ≡ front' ++ rest → IfRun result (map seeds front' ≡ all_seeded how.seed (map seeds front))
-    → IfRun result (map seeds new ≡ seeded_for how (map seeds old))
-part-given seeds how result old front rest new front' old_is count new_is h =
-    run-then result _ _
-    (λ given.
+pub part-given : {W : Type 0} (seeds : W → Option (List ℕ)) (how : RunValues) (old front rest new front' : List W) → old ≡ front ++ rest
+    → length front ≡ min (length old) how.workers → new ≡ front' ++ rest → map seeds front' ≡ all_seeded how.seed (map seeds front)
+    → map seeds new ≡ seeded_for how (map seeds old)
+part-given seeds how old front rest new front' old_is count new_is given =
     let first = map seeds front in
     let later = map seeds rest in
     let both : map seeds old ≡ first ++ later = ap (map seeds) old_is ∙ map-append seeds front rest in
@@ -91,7 +81,7 @@ part-given seeds how result old front rest new front' old_is count new_is h =
     let parts = first-part first later how.workers many in
     ap (map seeds) new_is ∙ map-append seeds front' rest
     ∙ ap₂ (λ a b. a ++ b) (given ∙ ap (all_seeded how.seed) (sym parts.0)) (sym parts.1)
-    ∙ ap (seeded_for how) (sym both)) h
+    ∙ ap (seeded_for how) (sym both)
 
 -- ---- ends
 
@@ -116,15 +106,11 @@ stop-same A B WriteFault then h = h
 stop-same A B Wire then h = h
 stop-same A B Memory then h = tt
 
-pub always-run : {A : Type 0} (result : Result A Stop) (then : Type 0) → then → IfRun result then
-always-run (Ok value) then h = h
-always-run (Err (ReadFault load)) then h = tt
-always-run (Err (ImageRefused number)) then h = tt
-always-run (Err (DataRefused number)) then h = tt
-always-run (Err (ScriptRefused line kind)) then h = tt
-always-run (Err WriteFault) then h = h
-always-run (Err Wire) then h = h
-always-run (Err Memory) then h = tt
+-- a family that was run, or not for want of memory
+pub always-ran : {A : Type 0} (result : Result A Reason) (then : Type 0) → then → IfRan result then
+always-ran (Ok value) then h = h
+always-ran (Err reason.Wire) then h = h
+always-ran (Err reason.Memory) then h = tt
 
 pub always-ok : {A E : Type 0} (result : Result A E) (then : Type 0) → then → OnOk result then
 always-ok (Ok value) then h = h

@@ -1,21 +1,21 @@
 -- What the parts of a command tell of the whole.
 use Rattle.std.proofs.Common.{◌≡◌, ℕ, ◌+◌, ◌-◌, ◌≤◌, inl, inr, Bool, true, false, cond, List, [], ◌∷◌, ◌++◌, length, take, Option, Some, None, Result, Ok, Err, sym, ap₂, ◌∙◌, subst, arith}
 use Rattle.std.proofs.Math.Seq.{take-append-add}
-use Rattle.std.specs.Option.{option_map}
+use Rattle.std.specs.Option.{IfSome, option_map}
 use Rattle.std.specs.Result.{IsOkAnd}
 use Rattle.elf_load.specs.Image.{Image}
 use Rattle.elf_load.specs.Elf.{loaded}
 use Rattle.drive_script.specs.Script.{Line, script}
 use Rattle.drive_script.specs.declared.script.TheConstants.{MAX_SCRIPT}
-use Rattle.command_line.specs.Words.{GuestValues}
+use Rattle.command_line.specs.Words.{GuestValues, RunValues, run}
 use Rattle.guest_files.specs.declared.stop.TheConstants.{INPUT_LOAD, SCRIPT_LOAD}
 use Rattle.guest_files.specs.declared.stop.Stop.{Stop}
 use Rattle.guest_files.specs.declared.stop.Stop.TheVariants.{ReadFault, ImageRefused, DataRefused, ScriptRefused, WriteFault, Wire, Memory}
 use Rattle.guest_files.specs.Reads.{Files, Guest, Refusal, disk_not_sectors, script_too_long, guest_read}
-use Rattle.guest_files.specs.Parts.{last_load, Stops, Gives, Makes}
+use Rattle.guest_files.specs.Parts.{IsGuestLoad, last_load, Stops, Gives, Makes}
 use Rattle.host_workers.specs.Lost.{IsOneLost}
 use Rattle.guest_files.proofs.PartLemmas.{Gave, after, continues, file-load, given, makes, stops}
-use Rattle.snow_commands.specs.Writes.{GivesOver, IsTold, MakesOver}
+use Rattle.snow_commands.specs.Writes.{GivesOver, IsTold, MakesOver, Writes}
 use Rattle.snow_commands.specs.Text.{known_family, script_read, image_from, guest_image, run_with, run_text, lines_of, told_by, drive_with, drive_from, drive_text}
 
 -- ---- the last load before what comes of the files
@@ -54,11 +54,11 @@ guest-after values name files guest =
 
 -- ---- `run`
 
-pub run-stops : (values : GuestValues) (files : Option Files) (P : ℕ → Type 0) (stop : Stop)
-    → Stops INPUT_LOAD P (option_map (guest_read values) files) stop → Stops INPUT_LOAD P (option_map (run_text values) files) stop
+pub run-stops : (values : GuestValues) (files : Option Files) (P Q : ℕ → Type 0) (stop : Stop) → ((load : ℕ) → P load → Q load)
+    → Stops INPUT_LOAD P (option_map (guest_read values) files) stop → Stops INPUT_LOAD Q (option_map (run_text values) files) stop
 unfolding run_text
-run-stops values files P stop h =
-    stops INPUT_LOAD INPUT_LOAD P P files (guest_read values) (λ told. run_with values) stop (omega arith) (λ told. run-after values) (λ load was. was) h
+run-stops values files P Q stop to h =
+    stops INPUT_LOAD INPUT_LOAD P Q files (guest_read values) (λ told. run_with values) stop (omega arith) (λ told. run-after values) to h
 
 pub run-gives : {V : Type 0} (values : GuestValues) (files : Option Files) (P : ℕ → Type 0) (guest : Guest) (shows : V → List ℕ → Type 0) (result : Result V Stop)
     → Gave (guest_read values) files guest → Makes (run_with values guest) shows result → Gives INPUT_LOAD P (option_map (run_text values) files) shows result
@@ -66,17 +66,6 @@ unfolding run_text
 run-gives values files P guest shows result gave h =
     continues INPUT_LOAD P P files (guest_read values) (λ told. run_with values) guest shows result gave (λ load was. was)
     (makes INPUT_LOAD P files (run_with values guest) shows result h)
-
--- a reason to stop that is no lost wire
-pub over-stops : {A B : Type 0} (lost : Type 0) (final : ℕ) (P : ℕ → Type 0) (told : Option (Result B Refusal)) (shows : A → B → Type 0) (stop : Stop)
-    → Stops final P told stop → GivesOver lost final P told shows (Err stop)
-over-stops lost final P told shows (ReadFault load) h = h
-over-stops lost final P told shows (ImageRefused number) h = h
-over-stops lost final P told shows (DataRefused number) h = h
-over-stops lost final P told shows (ScriptRefused line kind) h = h
-over-stops lost final P told shows WriteFault h = h
-over-stops lost final P told shows Wire h = absurd h
-over-stops lost final P told shows Memory h = h
 
 told-on : (values : GuestValues) (files : Option Files) (guest : Guest) → Gave (guest_read values) files guest → IsTold (Some (run_with values guest))
     → IsTold (option_map (run_text values) files)
@@ -97,6 +86,45 @@ over-gives lost values files P guest shows (Err (ScriptRefused line kind)) gave 
 over-gives lost values files P guest shows (Err WriteFault) gave h = absurd h
 over-gives lost values files P guest shows (Err Wire) gave h = (h.0, told-on values files guest gave h.1)
 over-gives lost values files P guest shows (Err Memory) gave h = tt
+
+-- there is an image
+pub told-there : {B : Type 0} (P : B → Type 0) (r : Result B Refusal) → IsOkAnd r P → IsTold (Some r)
+told-there P (Ok x) h = tt
+told-there P (Err refusal) h = absurd h
+
+ok-then : {B : Type 0} (P Q : B → Type 0) (r : Result B Refusal) → ((x : B) → P x → Q x) → IsOkAnd r P → IsOkAnd r Q
+ok-then P Q (Ok x) to h = to x h
+ok-then P Q (Err refusal) to h = absurd h
+
+-- what holds of the text that is told
+pub text-then : (values : GuestValues) (files : Option Files) (text : List ℕ) (P : List ℕ → Type 0)
+    → IfSome (option_map (run_text values) files) (λ r. IsOkAnd r (λ told. text ≡ told)) → P text
+    → IfSome files (λ told. IsOkAnd (run_text values told) P)
+text-then values None text P gave h = tt
+text-then values (Some files) text P gave h = ok-then (λ told. text ≡ told) P (run_text values files) (λ told is. subst P is h) gave
+
+-- where the files stop `run`, or its family did not come to its end
+module _ (values : GuestValues) (how : RunValues) (files : Option Files) (read_fault : ℕ → Type 0) (write_fault lost : Type 0) (old new : Option (List ℕ)) where
+  pub stops-writes : (stop : Stop) → Stops INPUT_LOAD (λ load. IsGuestLoad values load × read_fault load) (option_map (run_text values) files) stop
+      → Writes (run values how) files read_fault write_fault lost old new (Err stop)
+  stops-writes (ReadFault load) h = h
+  stops-writes (ImageRefused number) h = h
+  stops-writes (DataRefused number) h = h
+  stops-writes (ScriptRefused line kind) h = h
+  stops-writes WriteFault h = absurd h
+  stops-writes Wire h = absurd h
+  stops-writes Memory h = h
+
+  pub over-writes : {A : Type 0} (shows : A → List ℕ → Type 0) (stop : Stop)
+      → GivesOver lost INPUT_LOAD (λ load. IsGuestLoad values load × read_fault load) (option_map (run_text values) files) shows (Err stop)
+      → Writes (run values how) files read_fault write_fault lost old new (Err stop)
+  over-writes shows (ReadFault load) h = h
+  over-writes shows (ImageRefused number) h = h
+  over-writes shows (DataRefused number) h = h
+  over-writes shows (ScriptRefused line kind) h = h
+  over-writes shows WriteFault h = absurd h
+  over-writes shows Wire h = h
+  over-writes shows Memory h = h
 
 -- a wire of the first of them
 lost-first : {W : Type 0} (streak : W → ℕ) (part rest : List W) → IsOneLost streak part → IsOneLost streak (part ++ rest)

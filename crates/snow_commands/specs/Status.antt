@@ -30,7 +30,7 @@ abbrev pub IsFaultAsked : Option Command → ℕ → Asked → Asked → Type 0
 IsFaultAsked None load old new = ⊥
 IsFaultAsked (Some command) load old new = IsFaultOf (loads_of command) load old new
 
--- just the loads that the words ask for were made
+-- just the loads that the words ask for were made, each once and in their order
 abbrev pub AreLoaded : Option Command → Asked → Asked → Type 0
 AreLoaded None old new = ⊥
 AreLoaded (Some command) old new = AreAsked (loads_of command) old new

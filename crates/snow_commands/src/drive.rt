@@ -9,7 +9,7 @@ ghost use Rattle.forest_model.specs.Paged.{Paged};
 ghost use Rattle.io_edge.specs.Outside.{HasRisen};
 ghost use Rattle.command_line.specs.Words.{drive};
 ghost use Rattle.snow_commands.specs.Text.{drive_text, drive_with, lines_of, script_read, told_by};
-ghost use Rattle.guest_files.specs.Parts.{AreAsked, Gives, IsFaultOf, IsLoadOf, Makes, loads_of};
+ghost use Rattle.guest_files.specs.Parts.{AreAsked, Gives, IsFaultOf, IsLoadOf, Makes, load_of, loads_of};
 ghost use Rattle.snow_commands.specs.Writes.{IsSilent, Writes};
 
 use crate::guest::boot;
@@ -64,12 +64,12 @@ fn drive_guest<R: AllocGlobal + Wait, S: Shelf>(
 /// The text of a script.
 fn load_script<S: Shelf>(alloc: Global, name: &str, shelf: &mut S) -> Result<Vec<u8>, Stop>
     ensures gives { Gives SCRIPT_LOAD (λ load. (load ≡ SCRIPT_LOAD) × HasRisen (S.faults shelf.old) (S.faults shelf.new)
-        × IsFaultOf (SCRIPT_LOAD ∷ []) load (S.asked shelf.old) (S.asked shelf.new))
+        × IsFaultOf (load_of SCRIPT_LOAD name.now ∷ []) load (S.asked shelf.old) (S.asked shelf.new))
         (option_map (script_read name.now) (S.files shelf.old)) (λ bytes told. bytes.items ≡ told) result }
     ensures most { IfOk result (λ bytes. vec_len bytes ≤ MAX_SCRIPT) }
     ensures same { S.files shelf.new ≡ S.files shelf.old }
     ensures counts { S.faults shelf.old ≤ S.faults shelf.new }
-    ensures asked { OnOk result (AreAsked (SCRIPT_LOAD ∷ []) (S.asked shelf.old) (S.asked shelf.new)) }
+    ensures asked { OnOk result (AreAsked (load_of SCRIPT_LOAD name.now ∷ []) (S.asked shelf.old) (S.asked shelf.new)) }
 {
     let too_long = Stop::ScriptRefused {
         line: 0,

@@ -1,6 +1,6 @@
 //! The family of a machine is run to its end, by workers on a board.
 
-ghost use Rattle.std.specs.Prelude.{◌≡◌, ◌≤◌, [], true, length, map, IfErr, IfOk};
+ghost use Rattle.std.specs.Prelude.{◌≡◌, ◌⊎◌, ◌+◌, ◌<◌, ◌≤◌, [], true, length, map, IfErr, IfOk};
 ghost use Rattle.forest_tree.specs.Settle.{alone};
 ghost use Rattle.forest_history.specs.World.{world_of};
 ghost use Rattle.forest_model.specs.Forest.{finish, machines};
@@ -10,51 +10,128 @@ ghost use Rattle.run_report.specs.Report.{lines_of, told};
 ghost use Rattle.vm_cell.specs.Keyed.{paged};
 ghost use Rattle.world_core.specs.Told.{told_of};
 ghost use Rattle.world_core.specs.World.{StandsFor};
-ghost use Rattle.host_workers.specs.Finishes.{is_over};
+ghost use Rattle.fork_board.specs.Follows.{depot_of};
+ghost use Rattle.fork_board.specs.Passes.{HoldsNone};
+ghost use Rattle.host_workers.specs.Finishes.{AreDone, Finishes, IsStopped, IsStoppedElsewhere, WorkedAll, is_over};
 ghost use Rattle.host_workers.specs.Lost.{IsOneLost};
+ghost use Rattle.snow_commands.specs.Seeded.{IfRan, all_seeded};
 
 use crate::program::MOST_WIRES;
-use command_line::MOST_AHEAD;
+use command_line::RunWords;
 use fork_board::{Board, Pass};
-use host_workers::{Finish, Gate, run_hosts};
+use host_workers::{Finish, Gate, Settings, run_hosts};
 use image_depot::Depot;
 use run_report::Outcome;
 use std::snapshot::Snapshot;
 use std::sync::Wait;
 use std::thread::Threads;
 use vm_cell::Vm;
-use wire_fates::Wire;
+use wire_fates::{Seeded, Wire};
 use world_core::{Reason, World};
 
-/// Runs the family of a machine to its end, by a worker for each wire. A worker looks up first after `slice` steps of a
-/// machine, and asks for at most `ahead` pages beside one that is wanted.
-pub fn run_to_end<R: AllocGlobal + Threads + Wait + Sync, W: Wire + Send, G: Gate + Sync>(
+/// How a family is run: what the words say of it, and what its workers call at points of their way.
+#[derive_where(Clone, Copy)]
+pub struct Plan<'a, G> {
+    pub how: &'a RunWords,
+    pub gate: &'a G,
+}
+
+/// Gives each wire the seed of the words, and runs the family of a machine to its end, by a worker for each of them. Where
+/// no machine may be cloned, none of them fetches a page, and one worker runs them all over a wire of its own.
+pub fn run_family<R: AllocGlobal + Threads + Wait + Sync, W: Wire + Send, G: Gate + Sync>(
     rt: &R,
-    world: World,
-    first: Snapshot<Vm>,
+    clones: u32,
+    family: (World, Snapshot<Vm>),
     depot: &Depot,
+    plan: &Plan<'_, G>,
     wires: &mut [W],
-    gate: &G,
-    slice: u32,
-    ahead: u32,
 ) -> Result<Outcome, Reason>
-    requires stands { StandsFor depot.now world (world_of paged_machines (paged first.value)) }
-    requires told { told_of world ≡ [] }
+    requires stands { StandsFor depot.now family.0 (world_of paged_machines (paged family.1.value)) }
+    requires told { told_of family.0 ≡ [] }
     requires wires { (1 ≤ length wires.old) × (length wires.old ≤ MOST_WIRES) }
-    requires ahead { ahead ≤ MOST_AHEAD }
-    ensures lines { IfOk result (λ outcome. lines_of outcome ≡ lines told [] (finish (alone machines first.value.machine))) }
-    ensures wire { IfErr result (λ reason. reason ≡ Reason.Wire → IsOneLost W.streak wires.new) }
-    ensures seeds { map W.seeds wires.new ≡ map W.seeds wires.old }
+    ensures lines { IfOk result (λ outcome. lines_of outcome ≡ lines told [] (finish (alone machines family.1.value.machine))) }
+    ensures wire { IfErr result (λ reason. reason ≡ Reason.Wire → (0 < clones) × IsOneLost W.streak wires.new) }
+    ensures seeded { IfRan result (map W.seeds wires.new ≡ all_seeded plan.now.how.now.seed (map W.seeds wires.old)) }
     ensures len { length wires.new ≡ length wires.old }
 {
+    if clones > 0 {
+        return run_to_end(rt, family, depot, plan, wires);
+    }
+    seed_all(wires, plan.how.seed());
+    let mut unused = [Seeded::new()];
+    let ran = run_to_end(rt, family, depot, plan, &mut unused);
+    // The call tells that this wire is not lost.
+    let _ = unused[0].streak();
+    ran
+}
+
+/// Seeds each wire.
+fn seed_all<W: Wire>(wires: &mut [W], seed: u32)
+    ensures seeded { map W.seeds wires.new ≡ all_seeded seed (map W.seeds wires.old) }
+    ensures len { length wires.new ≡ length wires.old }
+{
+    for wire in wires.iter_mut() {
+        wire.seed(seed);
+    }
+}
+
+/// Runs the family of a machine to its end, by a worker for each wire.
+fn run_to_end<R: AllocGlobal + Threads + Wait + Sync, W: Wire + Send, G: Gate + Sync>(
+    rt: &R,
+    family: (World, Snapshot<Vm>),
+    depot: &Depot,
+    plan: &Plan<'_, G>,
+    wires: &mut [W],
+) -> Result<Outcome, Reason>
+    requires stands { StandsFor depot.now family.0 (world_of paged_machines (paged family.1.value)) }
+    requires told { told_of family.0 ≡ [] }
+    requires wires { (1 ≤ length wires.old) × (length wires.old ≤ MOST_WIRES) }
+    ensures lines { IfOk result (λ outcome. lines_of outcome ≡ lines told [] (finish (alone machines family.1.value.machine))) }
+    ensures wire { IfErr result (λ reason. reason ≡ Reason.Wire → IsOneLost W.streak wires.new) }
+    ensures seeded { IfRan result (map W.seeds wires.new ≡ all_seeded plan.now.how.now.seed (map W.seeds wires.old)) }
+    ensures len { length wires.new ≡ length wires.old }
+{
+    let (world, first) = family;
     let Ok((board, pass)) = Board::new(rt.alloc(), world, first, depot) else {
         return Err(Reason::Memory);
     };
-    let (pass, finish) = run_hosts(rt, &board, pass, depot, wires, gate, slice, ahead);
+    let (pass, finish) = run_seeded(rt, &board, pass, depot, plan, wires);
     match finish {
         Finish::Over => Ok(outcome_of(rt, board, pass)),
         Finish::Stopped(reason) => Err(reason),
     }
+}
+
+/// Gives each wire the seed of the words, and lets a worker for each of them work on a board, until the root has ended or
+/// the world was stopped.
+fn run_seeded<R: AllocGlobal + Threads + Wait + Sync, W: Wire + Send, G: Gate + Sync>(
+    rt: &R,
+    board: &Board,
+    pass: Pass,
+    depot: &Depot,
+    plan: &Plan<'_, G>,
+    wires: &mut [W],
+) -> (Pass, Finish)
+    requires board { pass.board ≡ board.now }
+    requires depot { depot_of board.now.opening ≡ depot.now }
+    requires none { HoldsNone pass }
+    requires wires { (1 ≤ length wires.old) × (length wires.old ≤ MOST_WIRES) }
+    requires parts { length pass.number < 3 }
+    requires splits { pass.splits + length wires.old ≤ 65535 }
+    ensures worked { WorkedAll pass result.0 }
+    ensures finish { Finishes result.0 result.1 }
+    ensures done { AreDone (length wires.new) pass result.0 }
+    ensures wire { result.1 ≡ Finish.Stopped Reason.Wire → IsOneLost W.streak wires.new ⊎ (IsStopped pass ⊎ IsStoppedElsewhere pass result.0) }
+    ensures seeded { map W.seeds wires.new ≡ all_seeded plan.now.how.now.seed (map W.seeds wires.old) }
+    ensures len { length wires.new ≡ length wires.old }
+{
+    seed_all(wires, plan.how.seed());
+    let settings = Settings {
+        gate: plan.gate,
+        slice: plan.how.slice(),
+        ahead: plan.how.ahead(),
+    };
+    run_hosts(rt, board, pass, depot, wires, &settings)
 }
 
 /// What came of a family whose root has ended.

@@ -11,6 +11,7 @@ ghost use Rattle.snow_commands.specs.Seeded.{IfRun, seeded_for};
 ghost use Rattle.snow_commands.specs.Text.{generated_files, generated_text};
 ghost use Rattle.snow_commands.specs.Writes.{IsSilent, MakesOver, WritesFileless};
 
+use crate::family::Plan;
 use crate::program::MOST_WIRES;
 use crate::run::run_files;
 use command_line::GeneratedWords;
@@ -66,7 +67,9 @@ fn run_generated<R: AllocGlobal + Threads + Wait + Sync, W: Wire + Send, G: Gate
     ensures seeded { IfRun result (map W.seeds wires.new.items ≡ seeded_for (generated_how words.now.workers) (map W.seeds wires.old.items)) }
 {
     let files = generated_files(rt.alloc(), words.seed())?;
-    run_files(rt, &words.guest(), &files, &words.how(), wires, gate)
+    let how = words.how();
+    let plan = Plan { how: &how, gate };
+    run_files(rt, &words.guest(), &files, &plan, wires)
 }
 
 /// The image of the guest of a seed, and its disk.

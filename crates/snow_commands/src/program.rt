@@ -11,6 +11,7 @@ ghost use Rattle.snow_commands.specs.Writes.{IsGenerated, IsSilent, IsUnrefused,
 ghost use Rattle.snow_commands.specs.Status.{AreLoaded, IsFileless, IsWritten, IsPrefixOut, IsRefused, IsFaultAsked, IsLoadAsked, IsReached, Completes, IsStatus};
 
 use crate::drive::drive_and_write;
+use crate::family::Plan;
 use crate::generated::run_and_sum_up;
 use crate::run::run_and_report;
 use command_line::{Command, command_asked};
@@ -177,7 +178,10 @@ fn write_text<
     ensures silent { IsSilent result (sink.new ≡ sink.old) }
 {
     match command {
-        Command::Run(guest, how) => run_and_report(rt, guest, how, shelf, sink, wires, gate),
+        Command::Run(guest, how) => {
+            let plan = Plan { how, gate };
+            run_and_report(rt, guest, &plan, shelf, sink, wires)
+        }
         Command::Drive(guest, script) => drive_and_write(rt, guest, script, shelf, sink),
         Command::Generated(words) => run_and_sum_up(rt, words, sink, wires, gate),
     }

@@ -47,4 +47,4 @@ module _ {A N T : Type 0} where
   }
 
   pub passed_leaves : (old new : Seat (Content T N) (View A N)) (note : N) → new.me ≡ (passed_view old.me.0 note, []) → Leaves old new note
-  passed_leaves old new note is = record { same_seat = ap (λ m. m.0.seat) is; same_splits = ap (λ m. m.0.splits) is; seen = ap (λ m. m.0.seen) is; mine = ap (λ m. m.0.mine) is }
+  passed_leaves old new note is = record { same_seat = ap (λ m. m.0.seat) is; same_splits = ap (λ m. m.0.splits) is; same_ended = ap (λ m. m.0.ended) is; seen = ap (λ m. m.0.seen) is; mine = ap (λ m. m.0.mine) is }

@@ -14,11 +14,11 @@ use Rattle.atomic_table.proofs.Lists.{set_here, set_else, set_again, at_longer}
 use Rattle.turn_board.specs.declared.view.Content.{Content}
 use Rattle.turn_board.specs.declared.view.View.{View}
 use Rattle.turn_board.specs.Seats.{has_seat, room}
-use Rattle.turn_board.specs.History.{History, longer}
-use Rattle.turn_board.specs.Rule.{content, count_if, IsLive, room_of, drawn_of, newcomer, parent, child, informed, spent, IsNamed, HasDrawn, Fits, Unlike, Home, Turning}
+use Rattle.turn_board.specs.History.{History, StartsWith, entries_by, longer}
+use Rattle.turn_board.specs.Rule.{content, count_if, IsLive, room_of, drawn_of, newcomer, parent, child, informed, spent, IsNamed, HasAll, HasDrawn, Outlives, Fits, Unlike, Home, Turning}
 use Rattle.turn_board.specs.Steps.{drawn_view, served_view, learned_view, passed_view, drew, looked, passed, learned}
-use Rattle.turn_board.proofs.Views.{total_set, total_push, total_le, set_at, each_set, each_push, pairs_set, pairs_push}
-use Rattle.turn_board.proofs.Names.{not_true, has_new, has_old, has_not, had, had_not, unmade_below, above_self, same_child, room_split, room_pos}
+use Rattle.turn_board.proofs.Views.{total_set, total_push, total_le, set_at, each_set, each_push, each_two, pairs_set, pairs_push}
+use Rattle.turn_board.proofs.Names.{not_true, has_new, has_old, has_not, had, had_append, had_not, unmade_below, above_self, same_child, room_split, room_pos}
 use Rattle.turn_board.proofs.Entries.{begins_self, begins_longer, longer_is, entries_by-push_same, entries_by-push_other, none_before, same_between}
 
 off : {P : Type 0} (b : Bool) → b ≡ false → b ≡ true → P
@@ -33,6 +33,31 @@ same_number o m n e f = cc
 small : (n : ℕ) → n < 18446744073709551616 → n % 2 ^ 64 ≡ n
 small n lt = mod-eq_of_lt lt
 
+-- a seat that has ended is not one that lives
+ended_apart : (gone : List (List ℕ)) (seat s : List ℕ) → has_seat gone seat ≡ false → has_seat gone s ≡ true → seat ≢ s
+ended_apart gone seat s lives has same = true≢false (sym has ∙ ap (has_seat gone) (sym same) ∙ lives)
+
+-- what was seen of the seats that have ended
+module _ {N : Type 0} where
+  none_ended : (log : History N) (gone : List (List ℕ)) (seen : History N) → HasAll log gone [] seen
+  none_ended log gone seen s has = absurd (true≢false (sym has))
+
+  -- another makes an entry
+  all_other : (log : History N) (gone ended : List (List ℕ)) (seen : History N) (seat : List ℕ) (note : N) → has_seat gone seat ≡ false
+      → HasAll log gone ended seen → HasAll (log ++ (seat, note) ∷ []) gone ended seen
+  all_other log gone ended seen seat note lives all s has =
+      let h = all s has in (h.0, entries_by-push_other s seat log note (ended_apart gone seat s lives h.0) ∙ h.1)
+
+  -- one more has ended
+  all_gone : (log : History N) (gone ended : List (List ℕ)) (seen : History N) (seat : List ℕ) → HasAll log gone ended seen
+      → HasAll log (seat ∷ gone) ended seen
+  all_gone log gone ended seen seat all s has = let h = all s has in (has_old gone seat s h.0, h.1)
+
+  -- of a history between what was seen and the whole
+  all_between : (log seen later : History N) (s : List ℕ) → StartsWith log later → StartsWith later seen → entries_by s log ≡ entries_by s seen
+      → entries_by s later ≡ entries_by s seen
+  all_between log seen later s whole part all = same_between s log later seen (entries_by s seen) whole part all refl
+
 module _ {A N : Type 0} where
   turned : (v w : View A N) → Unlike v w → Unlike w v
   turned v w u = ((λ n e f. u.0 n f e), (λ a b e. u.1 b a (sym e)))
@@ -40,8 +65,8 @@ module _ {A N : Type 0} where
   live_room : (key : A) (made : List (List ℕ)) (v : View A N) → IsNamed key made v.about v.seat v.splits → IsLive v.about → 1 ≤ room_of v
   live_room key made v f live = subst (λ o. 1 ≤ count_if o (room (length v.seat) v.splits)) (sym live.1) (room_pos (length v.seat) v.splits f.depth f.few)
 
-  drawn_le_room : (key : A) (log : History N) (made : List (List ℕ)) (ticket : ℕ) (v : View A N) → Fits key log made ticket v → drawn_of v ≤ room_of v
-  drawn_le_room key log made ticket v f = at v.number refl
+  drawn_le_room : (key : A) (log : History N) (made gone : List (List ℕ)) (ticket : ℕ) (v : View A N) → Fits key log made gone ticket v → drawn_of v ≤ room_of v
+  drawn_le_room key log made gone ticket v f = at v.number refl
     where
       at : (o : Option ℕ) → v.number ≡ o → count_if o 1 ≤ room_of v
       at None e = omega arith
@@ -60,7 +85,7 @@ module _ {A N T : Type 0} (stands : A → History N → T → Type 0) (key : A) 
 
   few_tickets : (s : Lock) (h : Rule s) → h.ticket ≤ length h.log + 281474976710656
   few_tickets s h =
-      let less = total_le drawn_of room_of s.views (λ i v e. drawn_le_room key h.log h.made h.ticket v (h.fits i v e)) in
+      let less = total_le drawn_of room_of s.views (λ i v e. drawn_le_room key h.log h.made h.gone h.ticket v (h.fits i v e)) in
       let c = h.count in
       let r = h.seats in
       omega arith
@@ -96,6 +121,7 @@ module _ {A N T : Type 0} (stands : A → History N → T → Type 0) (key : A) 
         record {
           log = h.log;
           made = h.made;
+          gone = h.gone;
           ticket = h.ticket + 1;
           words_are = ap (λ ws. set ws 0 ((slice_index ws 0 + 1) % 2 ^ 64)) h.words_are ∙ ap (λ t. t ∷ length h.log ∷ []) (small (h.ticket + 1) (omega arith));
           count =
@@ -108,14 +134,15 @@ module _ {A N T : Type 0} (stands : A → History N → T → Type 0) (key : A) 
               let r = h.seats in
               omega arith;
           bound = h.bound;
-          fits = each_set (Fits key h.log h.made (h.ticket + 1)) s.views id w
-              (record { named = f.named; sees = f.sees; draws = record { number_is = λ m e. (let is : n ≡ m = same_number w.number n m refl e in let c = h.count in (live, omega arith, omega arith)); served_is = λ on. off v.served idle on } })
-              (λ j u other e. let g = h.fits j u e in record { named = g.named; sees = g.sees; draws = drawn_later h.log h.ticket u.about u.number u.served u.seen g.draws });
+          fits = each_set (Fits key h.log h.made h.gone (h.ticket + 1)) s.views id w
+              (record { named = f.named; sees = f.sees; draws = record { number_is = λ m e. (let is : n ≡ m = same_number w.number n m refl e in let c = h.count in (live, omega arith, omega arith)); served_is = λ on. off v.served idle on }; outlives = f.outlives })
+              (λ j u other e. let g = h.fits j u e in record { named = g.named; sees = g.sees; draws = drawn_later h.log h.ticket u.about u.number u.served u.seen g.draws; outlives = g.outlives });
           apart = pairs_set Unlike turned s.views id w h.apart (λ j u other e. (
             (λ m mine theirs. let is : n ≡ m = same_number w.number n m refl mine in let below = ((h.fits j u e).draws.number_is m theirs).2 in absurd (omega arith)),
             (h.apart id j v u (λ k. other (sym k)) at e).1,
           ));
           rooted = h.rooted;
+          gone_made = h.gone_made;
           fresh = h.fresh;
           home = home_set h.log s (set s.words 0 ((n + 1) % 2 ^ 64)) id v w at (λ on. off v.served idle on) h.home;
         },
@@ -146,20 +173,23 @@ module _ {A N T : Type 0} (stands : A → History N → T → Type 0) (key : A) 
       let f = h.fits id v at in record {
         log = h.log;
         made = h.made;
+        gone = h.gone;
         ticket = h.ticket;
         words_are = same_words s 1 ∙ h.words_are;
         count = let sum = total_set drawn_of s.views id v w at in let n = h.count in omega arith;
         seats = let sum = total_set room_of s.views id v w at in let r = h.seats in omega arith;
         bound = h.bound;
-        fits = each_set (Fits key h.log h.made h.ticket) s.views id w
+        fits = each_set (Fits key h.log h.made h.gone h.ticket) s.views id w
             (record {
               named = f.named;
               sees = record { seen_is = begins_self h.log; told_is = f.sees.told_is; mine_is = f.sees.mine_is; own_is = f.sees.mine_is };
               draws = record { number_is = f.draws.number_is; served_is = λ on. (drawn, refl, few) };
+              outlives = record { here = f.outlives.here; ended_is = λ s has. ((f.outlives.ended_is s has).0, refl); told_is = f.outlives.told_is };
             })
             (λ j u other e. h.fits j u e);
         apart = pairs_set Unlike turned s.views id w h.apart (λ j u other e. h.apart id j v u (λ k. other (sym k)) at e);
         rooted = h.rooted;
+        gone_made = h.gone_made;
         fresh = h.fresh;
         home = inr (id, w, set_at s.views id v w at, refl);
       }
@@ -220,6 +250,7 @@ module _ {A N T : Type 0} (stands : A → History N → T → Type 0) (key : A) 
         record {
           log = log;
           made = h.made;
+          gone = h.gone;
           ticket = h.ticket;
           words_are = ap (λ ws. set ws 1 ((slice_index ws 1 + 1) % 2 ^ 64)) h.words_are ∙ ap (λ t. h.ticket ∷ t ∷ []) (small (length h.log + 1) (omega arith) ∙ sym long);
           count =
@@ -229,7 +260,7 @@ module _ {A N T : Type 0} (stands : A → History N → T → Type 0) (key : A) 
               omega arith;
           seats = let sum = total_set room_of s.views id v w at in let r = h.seats in omega arith;
           bound = omega arith;
-          fits = each_set (Fits key log h.made h.ticket) s.views id w
+          fits = each_set (Fits key log h.made h.gone h.ticket) s.views id w
               (record {
                 named = f.named;
                 sees = record {
@@ -239,6 +270,11 @@ module _ {A N T : Type 0} (stands : A → History N → T → Type 0) (key : A) 
                   own_is = λ l. entries_by-push_same v.seat v.seen note.value ∙ ap (λ es. es ++ entry ∷ []) (f.sees.own_is l);
                 };
                 draws = record { number_is = λ m e. no_number w.number m refl e; served_is = λ on. off w.served refl on };
+                outlives = record {
+                  here = f.outlives.here;
+                  ended_is = λ s has. ((f.outlives.ended_is s has).0, ap (λ l. entries_by s (l ++ entry ∷ [])) (sym mine.1));
+                  told_is = all_other h.log h.gone v.told_ended v.told v.seat note.value (f.outlives.here live) f.outlives.told_is;
+                };
               })
               (λ j u other e.
               let g = h.fits j u e in
@@ -258,9 +294,15 @@ module _ {A N T : Type 0} (stands : A → History N → T → Type 0) (key : A) 
                       );
                   served_is = λ on. absurd (apart.0 (length h.log) drawn (g.draws.served_is on).0);
                 };
+                outlives = record {
+                  here = g.outlives.here;
+                  ended_is = all_other h.log h.gone u.ended u.seen v.seat note.value (f.outlives.here live) g.outlives.ended_is;
+                  told_is = all_other h.log h.gone u.told_ended u.told v.seat note.value (f.outlives.here live) g.outlives.told_is;
+                };
               });
           apart = pairs_set Unlike turned s.views id w h.apart (λ j u other e. ((λ m e. no_number w.number m refl e), (h.apart id j v u (λ k. other (sym k)) at e).1));
           rooted = h.rooted;
+          gone_made = h.gone_made;
           fresh = λ seat unmade.
               entries_by-push_other seat v.seat h.log note.value (λ same. true≢false (sym (subst (λ t. has_seat h.made t ≡ true) same (f.named.made_is live)) ∙ unmade)) ∙ h.fresh seat unmade;
           home = inl (x, Some note, set_here s.homes 0 (some (content (Some x) (Some note))) (omega arith), subst (λ l. stands key (l ++ entry ∷ []) x) mine.1 stood);
@@ -282,31 +324,45 @@ module _ {A N T : Type 0} (stands : A → History N → T → Type 0) (key : A) 
       let w = learned_view v in
       let f = h.fits id v at in
       let l = longer_is h.log v.seen v.told f.sees.seen_is f.sees.told_is in
-      let own = λ (live : IsLive v.about). same_between v.seat h.log (longer v.seen v.told) v.seen v.mine l.all l.first (f.sees.mine_is live) (f.sees.own_is live) in (
+      let own = λ (live : IsLive v.about). same_between v.seat h.log (longer v.seen v.told) v.seen v.mine l.all l.first (f.sees.mine_is live) (f.sees.own_is live) in
+      let still : (s : List ℕ) → has_seat v.ended s ≡ true → entries_by s (longer v.seen v.told) ≡ entries_by s v.seen =
+      λ s has. all_between h.log v.seen (longer v.seen v.told) s l.all l.first (f.outlives.ended_is s has).1 in
+      let last : (s : List ℕ) → has_seat v.told_ended s ≡ true → entries_by s (longer v.seen v.told) ≡ entries_by s v.told =
+      λ s has. all_between h.log v.told (longer v.seen v.told) s l.all l.second (f.outlives.told_is s has).1 in (
         w,
         keeps,
         tt,
         record {
           log = h.log;
           made = h.made;
+          gone = h.gone;
           ticket = h.ticket;
           words_are = same_words s 0 ∙ h.words_are;
           count = let sum = total_set drawn_of s.views id v w at in let n = h.count in omega arith;
           seats = let sum = total_set room_of s.views id v w at in let r = h.seats in omega arith;
           bound = h.bound;
-          fits = each_set (Fits key h.log h.made h.ticket) s.views id w
+          fits = each_set (Fits key h.log h.made h.gone h.ticket) s.views id w
               (record {
                 named = f.named;
                 sees = record { seen_is = l.all; told_is = (h.log, refl); mine_is = f.sees.mine_is; own_is = own };
                 draws = record { number_is = f.draws.number_is; served_is = λ on. off v.served idle on };
+                outlives = record {
+                  here = f.outlives.here;
+                  ended_is = λ s has. ⊎_elim
+                      (λ (old : has_seat v.ended s ≡ true). ((f.outlives.ended_is s old).0, (f.outlives.ended_is s old).1 ∙ sym (still s old)))
+                      (λ (new : has_seat v.told_ended s ≡ true). ((f.outlives.told_is s new).0, (f.outlives.told_is s new).1 ∙ sym (last s new)))
+                      (had_append v.ended v.told_ended s has);
+                  told_is = none_ended h.log h.gone [];
+                };
               })
               (λ j u other e. h.fits j u e);
           apart = pairs_set Unlike turned s.views id w h.apart (λ j u other e. h.apart id j v u (λ k. other (sym k)) at e);
           rooted = h.rooted;
+          gone_made = h.gone_made;
           fresh = h.fresh;
           home = home_set h.log s (set s.words 0 (slice_index s.words 0)) id v w at (λ on. on) h.home;
         },
-        record { is = refl; seen = l.first; told = l.second; own = own },
+        record { is = refl; seen = l.first; told = l.second; own = own; still = still; last = last },
       )
 
   -- a seat is split off
@@ -323,6 +379,7 @@ module _ {A N T : Type 0} (stands : A → History N → T → Type 0) (key : A) 
       let none_yet = h.fresh x.seat unmade in record {
         log = h.log;
         made = made;
+        gone = h.gone;
         ticket = h.ticket;
         words_are = h.words_are;
         count =
@@ -340,7 +397,7 @@ module _ {A N T : Type 0} (stands : A → History N → T → Type 0) (key : A) 
             let handed = room_split (length v.seat) v.splits parts few in
             omega arith;
         bound = h.bound;
-        fits = each_push (Fits key h.log made h.ticket) (set s.views id w) x
+        fits = each_push (Fits key h.log made h.gone h.ticket) (set s.views id w) x
             (record {
               named = record {
                 about_is = f.named.about_is;
@@ -351,8 +408,13 @@ module _ {A N T : Type 0} (stands : A → History N → T → Type 0) (key : A) 
               };
               sees = record { seen_is = f.sees.seen_is; told_is = (h.log, refl); mine_is = λ l. none_yet; own_is = λ l. none_before x.seat h.log v.seen f.sees.seen_is none_yet };
               draws = record { number_is = λ m e. no_number x.number m refl e; served_is = λ on. off x.served refl on };
+              outlives = record {
+                here = λ l. not_true (has_seat h.gone x.seat) (λ has. true≢false (sym (h.gone_made x.seat has) ∙ unmade));
+                ended_is = none_ended h.log h.gone v.seen;
+                told_is = none_ended h.log h.gone [];
+              };
             })
-            (each_set (Fits key h.log made h.ticket) s.views id w
+            (each_set (Fits key h.log made h.gone h.ticket) s.views id w
             (record {
               named = record {
                 about_is = f.named.about_is;
@@ -363,6 +425,7 @@ module _ {A N T : Type 0} (stands : A → History N → T → Type 0) (key : A) 
               };
               sees = f.sees;
               draws = f.draws;
+              outlives = f.outlives;
             })
             (λ j u other e. let g = h.fits j u e in record {
               named = record {
@@ -374,6 +437,7 @@ module _ {A N T : Type 0} (stands : A → History N → T → Type 0) (key : A) 
               };
               sees = g.sees;
               draws = g.draws;
+              outlives = g.outlives;
             }));
         apart = pairs_push Unlike turned (set s.views id w) x
             (pairs_set Unlike turned s.views id w h.apart (λ j u other e. h.apart id j v u (λ z. other (sym z)) at e))
@@ -385,6 +449,7 @@ module _ {A N T : Type 0} (stands : A → History N → T → Type 0) (key : A) 
             (λ (same : x.seat ≡ seat ++ k ∷ []). has_old h.made x.seat seat (subst (λ t. has_seat h.made t ≡ true) (same_child v.seat seat v.splits k same).0 is_made))
             (λ (old : has_seat h.made (seat ++ k ∷ []) ≡ true). has_old h.made x.seat seat (h.rooted seat k old))
             (had h.made x.seat (seat ++ k ∷ []) has);
+        gone_made = λ seat has. has_old h.made x.seat seat (h.gone_made seat has);
         fresh = λ seat none. h.fresh seat (had_not h.made x.seat seat none).1;
         home = pushed s.words (set s.views id w) x (home_set h.log s s.words id v w at (λ on. on) h.home);
       }
@@ -395,63 +460,79 @@ module _ {A N T : Type 0} (stands : A → History N → T → Type 0) (key : A) 
           (λ (out : (j : ℕ) × (u : View A N) × (get_elem? views j ≡ some u) × (u.served ≡ true)). inr (out.0, out.1, at_longer views (x ∷ []) out.0 out.1 out.2, out.3))
           home
 
-  -- a seat is told what another has seen
-  informs : (s : Lock) (h : Rule s) (id : ℕ) (v : View A N) (other : ℕ) (w : View A N) → get_elem? s.views id ≡ some v → get_elem? s.views other ≡ some w
-      → Rule record { words = s.words; homes = s.homes; views = set s.views id (informed v w) }
-  informs s h id v other w at there =
+  -- a seat is told what another has seen, which ends
+  pub joins : (id : ℕ) (v : View A N) (other : ℕ) (w : View A N) → w.about ≡ Some key → w.number ≡ None → w.served ≡ false
+      → Absorbs Rule id v other w (informed v w) spent
+  joins id v other w knows undrawn idle s h at apart there =
       let x = informed v w in
-      let f = h.fits id v at in record {
+      let old : get_elem? s.views other ≡ some w = sym (set_else s.views id other x apart) ∙ there in
+      let live : IsLive w.about = (key, knows) in
+      let f = h.fits id v at in
+      let g = h.fits other w old in
+      let gone = w.seat ∷ h.gone in record {
         log = h.log;
         made = h.made;
+        gone = gone;
         ticket = h.ticket;
         words_are = h.words_are;
-        count = let sum = total_set drawn_of s.views id v x at in let n = h.count in omega arith;
-        seats = let sum = total_set room_of s.views id v x at in let r = h.seats in omega arith;
+        count =
+            let first = total_set drawn_of s.views id v x at in
+            let second = total_set drawn_of (set s.views id x) other w spent there in
+            let was : drawn_of w ≡ 0 = ap (λ o. count_if o 1) undrawn in
+            let n = h.count in
+            omega arith;
+        seats =
+            let first = total_set room_of s.views id v x at in
+            let second = total_set room_of (set s.views id x) other w spent there in
+            let r = h.seats in
+            omega arith;
         bound = h.bound;
-        fits = each_set (Fits key h.log h.made h.ticket) s.views id x
-            (record { named = f.named; sees = record { seen_is = f.sees.seen_is; told_is = (h.fits other w there).sees.seen_is; mine_is = f.sees.mine_is; own_is = f.sees.own_is }; draws = f.draws })
-            (λ j u apart e. h.fits j u e);
-        apart = pairs_set Unlike turned s.views id x h.apart (λ j u apart e. h.apart id j v u (λ z. apart (sym z)) at e);
+        fits = each_two (Fits key h.log h.made gone h.ticket) s.views id other x spent
+            (record {
+              named = f.named;
+              sees = record { seen_is = f.sees.seen_is; told_is = g.sees.seen_is; mine_is = f.sees.mine_is; own_is = f.sees.own_is };
+              draws = f.draws;
+              outlives = record {
+                here = λ l. has_not h.gone w.seat v.seat ((h.apart other id w v apart old at).1 live l) (f.outlives.here l);
+                ended_is = all_gone h.log h.gone v.ended v.seen w.seat f.outlives.ended_is;
+                told_is = λ s has. ⊎_elim
+                    (λ (same : w.seat ≡ s). subst (λ t. (has_seat gone t ≡ true) × (entries_by t h.log ≡ entries_by t w.seen)) same
+                    (has_new h.gone w.seat, g.sees.mine_is live ∙ sym (g.sees.own_is live)))
+                    (λ (had : has_seat w.ended s ≡ true). all_gone h.log h.gone w.ended w.seen w.seat g.outlives.ended_is s had)
+                    (had w.ended w.seat s has);
+              };
+            })
+            (record {
+              named = record { about_is = λ a e. absurd (not_live a e); depth = omega arith; few = omega arith; made_is = λ l. absurd (not_live l.0 l.1); unmade = λ l. absurd (not_live l.0 l.1) };
+              sees = record { seen_is = (h.log, refl); told_is = (h.log, refl); mine_is = λ l. absurd (not_live l.0 l.1); own_is = λ l. absurd (not_live l.0 l.1) };
+              draws = record { number_is = λ m e. no_number None m refl e; served_is = λ on. off false refl on };
+              outlives = record { here = λ l. absurd (not_live l.0 l.1); ended_is = none_ended h.log gone []; told_is = none_ended h.log gone [] };
+            })
+            (λ j u this that e. let k = h.fits j u e in record {
+              named = k.named;
+              sees = k.sees;
+              draws = k.draws;
+              outlives = record {
+                here = λ l. has_not h.gone w.seat u.seat ((h.apart other j w u (λ z. that (sym z)) old e).1 live l) (k.outlives.here l);
+                ended_is = all_gone h.log h.gone u.ended u.seen w.seat k.outlives.ended_is;
+                told_is = all_gone h.log h.gone u.told_ended u.told w.seat k.outlives.told_is;
+              };
+            });
+        apart = pairs_set Unlike turned (set s.views id x) other spent
+            (pairs_set Unlike turned s.views id x h.apart (λ j u apart e. h.apart id j v u (λ z. apart (sym z)) at e))
+            (λ j u other e. ((λ m n. no_number None m refl n), (λ l. absurd (not_live l.0 l.1))));
         rooted = h.rooted;
+        gone_made = λ seat has. ⊎_elim
+            (λ (same : w.seat ≡ seat). subst (λ t. has_seat h.made t ≡ true) same (g.named.made_is live))
+            (λ (old : has_seat h.gone seat ≡ true). h.gone_made seat old)
+            (had h.gone w.seat seat has);
         fresh = h.fresh;
-        home = home_set h.log s s.words id v x at (λ on. on) h.home;
+        home = home_set h.log record { words = s.words; homes = s.homes; views = set s.views id x } s.words other w spent there
+            (λ on. off w.served idle on) (home_set h.log s s.words id v x at (λ on. on) h.home);
       }
-
-  -- a seat that has no turn is spent
-  spends : (s : Lock) (h : Rule s) (id : ℕ) (v : View A N) → get_elem? s.views id ≡ some v → v.number ≡ None → v.served ≡ false
-      → Rule record { words = s.words; homes = s.homes; views = set s.views id spent }
-  spends s h id v at undrawn idle = record {
-    log = h.log;
-    made = h.made;
-    ticket = h.ticket;
-    words_are = h.words_are;
-    count =
-        let sum = total_set drawn_of s.views id v spent at in
-        let was : drawn_of v ≡ 0 = ap (λ o. count_if o 1) undrawn in
-        let n = h.count in
-        omega arith;
-    seats = let sum = total_set room_of s.views id v spent at in let r = h.seats in omega arith;
-    bound = h.bound;
-    fits = each_set (Fits key h.log h.made h.ticket) s.views id spent
-        (record {
-          named = record { about_is = λ a e. absurd (not_live a e); depth = omega arith; few = omega arith; made_is = λ l. absurd (not_live l.0 l.1); unmade = λ l. absurd (not_live l.0 l.1) };
-          sees = record { seen_is = (h.log, refl); told_is = (h.log, refl); mine_is = λ l. absurd (not_live l.0 l.1); own_is = λ l. absurd (not_live l.0 l.1) };
-          draws = record { number_is = λ m e. no_number None m refl e; served_is = λ on. off false refl on };
-        })
-        (λ j u other e. h.fits j u e);
-    apart = pairs_set Unlike turned s.views id spent h.apart (λ j u other e. ((λ m n. no_number None m refl n), (λ l. absurd (not_live l.0 l.1))));
-    rooted = h.rooted;
-    fresh = h.fresh;
-    home = home_set h.log s s.words id v spent at (λ on. off v.served idle on) h.home;
-  }
     where
       not_live : (a : A) → None ≡ Some a → ⊥
       not_live a e = cc
-
-  -- a seat is joined to another
-  pub joins : (id : ℕ) (v : View A N) (other : ℕ) (w : View A N) → w.number ≡ None → w.served ≡ false → Absorbs Rule id v other w (informed v w) spent
-  joins id v other w undrawn idle s h at apart there =
-      spends record { words = s.words; homes = s.homes; views = set s.views id (informed v w) } (informs s h id v other w at (sym (set_else s.views id other (informed v w) apart) ∙ there)) other w there undrawn idle
 
   -- the lock begins with one seat, and the value at home
   pub begins : (value : T) → stands key [] value → Rule (opening (0 ∷ 0 ∷ []) (content (Some value) None ∷ []) (newcomer key))
@@ -459,20 +540,23 @@ module _ {A N T : Type 0} (stands : A → History N → T → Type 0) (key : A) 
       let v = newcomer key in record {
         log = [];
         made = [] ∷ [];
+        gone = [];
         ticket = 0;
         words_are = refl;
         count = refl;
         seats = omega arith;
         bound = omega arith;
-        fits = each_push (Fits key [] ([] ∷ []) 0) [] v
+        fits = each_push (Fits key [] ([] ∷ []) [] 0) [] v
             (record {
               named = record { about_is = λ a e. (let is : key ≡ a = cc in sym is); depth = omega arith; few = omega arith; made_is = λ l. has_new [] []; unmade = λ l k le. has_not [] [] (k ∷ []) (λ same. above_self [] k (sym same)) refl };
               sees = record { seen_is = ([], refl); told_is = ([], refl); mine_is = λ l. refl; own_is = λ l. refl };
               draws = record { number_is = λ m e. no_number None m refl e; served_is = λ on. off false refl on };
+              outlives = record { here = λ l. refl; ended_is = none_ended [] [] []; told_is = none_ended [] [] [] };
             })
             (λ j u e. absurd (some-ne-none u (sym e)));
         apart = pairs_push Unlike turned [] v (λ i j u w apart e f. absurd (some-ne-none u (sym e))) (λ j u e. absurd (some-ne-none u (sym e)));
         rooted = λ seat k has. ⊎_elim (λ (same : [] ≡ seat ++ k ∷ []). (let long = ap length same in absurd (omega (arith, length_push seat k)))) (λ (old : false ≡ true). absurd (true≢false (sym old))) (had [] [] (seat ++ k ∷ []) has);
+        gone_made = λ seat has. absurd (true≢false (sym has));
         fresh = λ seat unmade. refl;
         home = inl (value, None, refl, stood);
       }

@@ -35,6 +35,33 @@ had made s t has = either (is_seat s t) refl has
     either true same h = inl ((bytes_eq-Decides s t).0 same)
     either false same h = inr h
 
+-- among several lists
+pub had_append : (made more : List (List ℕ)) (t : List ℕ) → has_seat (made ++ more) t ≡ true → (has_seat made t ≡ true) ⊎ (has_seat more t ≡ true)
+had_append [] more t has = inr has
+had_append (s ∷ made) more t has = by (had (made ++ more) s t has) (had_append made more t)
+  where
+    later : (has_seat made t ≡ true) ⊎ (has_seat more t ≡ true) → (has_seat (s ∷ made) t ≡ true) ⊎ (has_seat more t ≡ true)
+    later (inl first) = inl (has_old made s t first)
+    later (inr second) = inr second
+
+    by : (s ≡ t) ⊎ (has_seat (made ++ more) t ≡ true)
+        → (has_seat (made ++ more) t ≡ true → (has_seat made t ≡ true) ⊎ (has_seat more t ≡ true))
+        → (has_seat (s ∷ made) t ≡ true) ⊎ (has_seat more t ≡ true)
+    by (inl same) down = inl (subst (λ u. has_seat (s ∷ made) u ≡ true) same (has_new made s))
+    by (inr old) down = later (down old)
+
+pub has_front : (made more : List (List ℕ)) (t : List ℕ) → has_seat made t ≡ true → has_seat (made ++ more) t ≡ true
+has_front [] more t has = absurd (true≢false (sym has))
+has_front (s ∷ made) more t has = by (had made s t has) (has_front made more t)
+  where
+    by : (s ≡ t) ⊎ (has_seat made t ≡ true) → (has_seat made t ≡ true → has_seat (made ++ more) t ≡ true) → has_seat (s ∷ made ++ more) t ≡ true
+    by (inl same) down = subst (λ u. has_seat (s ∷ made ++ more) u ≡ true) same (has_new (made ++ more) s)
+    by (inr old) down = has_old (made ++ more) s t (down old)
+
+pub has_back : (made more : List (List ℕ)) (t : List ℕ) → has_seat more t ≡ true → has_seat (made ++ more) t ≡ true
+has_back [] more t has = has
+has_back (s ∷ made) more t has = has_old (made ++ more) s t (has_back made more t has)
+
 pub had_not : (made : List (List ℕ)) (s t : List ℕ) → has_seat (s ∷ made) t ≡ false → (s ≢ t) × (has_seat made t ≡ false)
 had_not made s t none = (
   (λ same. differ (sym (subst (λ u. has_seat (s ∷ made) u ≡ true) same (has_new made s)) ∙ none)),

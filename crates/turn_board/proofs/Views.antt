@@ -36,6 +36,15 @@ module _ {V : Type 0} where
       (λ (t : (j ≢ i) × (get_elem? views j ≡ some u)). others j u t.0 t.1)
       (at_set views i j w u e)
 
+  -- two views change
+  pub each_two : (P : V → Type 0) (views : List V) (i k : ℕ) (a b : V) → P a → P b
+      → ((j : ℕ) (u : V) → j ≢ i → j ≢ k → get_elem? views j ≡ some u → P u) → (j : ℕ) (u : V) → get_elem? (set (set views i a) k b) j ≡ some u → P u
+  each_two P views i k a b first second others = each_set P (set views i a) k b second
+      (λ j u apart e. ⊎_elim
+      (λ (t : (j ≡ i) × (a ≡ u)). subst P t.1 first)
+      (λ (t : (j ≢ i) × (get_elem? views j ≡ some u)). others j u t.0 apart t.1)
+      (at_set views i j a u e))
+
   pub each_push : (P : V → Type 0) (views : List V) (w : V) → P w → ((j : ℕ) (u : V) → get_elem? views j ≡ some u → P u) → (j : ℕ) (u : V) → get_elem? (views ++ w ∷ []) j ≡ some u → P u
   each_push P views w mine others j u e = ⊎_elim (λ (t : get_elem? views j ≡ some u). others j u t) (λ (t : (j ≡ length views) × (w ≡ u)). subst P t.1 mine) (at_push views w u j e)
 

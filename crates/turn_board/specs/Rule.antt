@@ -34,6 +34,10 @@ pub record IsNamed {A : Type 0} (key : A) (made : List (List ℕ)) (about : Opti
   pub made_is : IsLive about → has_seat made seat ≡ true
   pub unmade : IsLive about → (k : ℕ) → splits ≤ k → has_seat made (seat ++ k ∷ []) ≡ false
 
+-- of these seats, which have ended, what was seen has all entries
+abbrev pub HasAll : {N : Type 0} → History N → List (List ℕ) → List (List ℕ) → History N → Type 0
+HasAll log gone ended seen = (s : List ℕ) → has_seat ended s ≡ true → (has_seat gone s ≡ true) × (entries_by s log ≡ entries_by s seen)
+
 module _ {A N : Type 0} where
   -- how many seats may yet come of it, itself among them; of a spent one none
   abbrev pub room_of : View A N → ℕ
@@ -45,7 +49,18 @@ module _ {A N : Type 0} where
 
   -- the first seat
   abbrev pub newcomer : A → View A N
-  newcomer about = record { about = Some about; seat = []; splits = 0; seen = []; mine = []; told = []; number = None; served = false }
+  newcomer about = record {
+    about = Some about;
+    seat = [];
+    splits = 0;
+    seen = [];
+    mine = [];
+    ended = [];
+    told = [];
+    told_ended = [];
+    number = None;
+    served = false;
+  }
 
   -- a seat from which one more was split off
   abbrev pub parent : View A N → View A N
@@ -53,15 +68,26 @@ module _ {A N : Type 0} where
 
   -- the seat that is split off: it has seen as much, and has made no entry
   abbrev pub child : View A N → View A N
-  child v = record { about = v.about; seat = v.seat ++ v.splits ∷ []; splits = 0; seen = v.seen; mine = []; told = []; number = None; served = false }
+  child v = record {
+    about = v.about;
+    seat = v.seat ++ v.splits ∷ [];
+    splits = 0;
+    seen = v.seen;
+    mine = [];
+    ended = [];
+    told = [];
+    told_ended = [];
+    number = None;
+    served = false;
+  }
 
-  -- the first seat, told what the second had seen
+  -- the first seat, told what the second had seen, which ends
   abbrev pub informed : View A N → View A N → View A N
-  informed v w = record v { told = w.seen }
+  informed v w = record v { told = w.seen; told_ended = w.seat ∷ w.ended }
 
   -- what is left of a seat that was joined to another
   abbrev pub spent : View A N
-  spent = record { about = None; seat = []; splits = 0; seen = []; mine = []; told = []; number = None; served = false }
+  spent = record { about = None; seat = []; splits = 0; seen = []; mine = []; ended = []; told = []; told_ended = []; number = None; served = false }
 
   -- what a seat has seen is a prefix of the history, which has of its number just the entries that it made
   pub record HasSeen (log : History N) (about : Option A) (seat : List ℕ) (seen told mine : History N) : Type 0 where
@@ -75,11 +101,19 @@ module _ {A N : Type 0} where
     pub number_is : (n : ℕ) → number ≡ Some n → IsLive about × (length log ≤ n) × (n < ticket)
     pub served_is : served ≡ true → (number ≡ Some (length log)) × (seen ≡ log) × (length log < 9223372036854775808)
 
+  -- a seat that lives has not ended
+  pub record Outlives (log : History N) (gone : List (List ℕ)) (about : Option A) (seat : List ℕ) (ended told_ended : List (List ℕ)) (seen told : History N)
+      : Type 0 where
+    pub here : IsLive about → has_seat gone seat ≡ false
+    pub ended_is : HasAll log gone ended seen
+    pub told_is : HasAll log gone told_ended told
+
   -- what the lock keeps true of one seat
-  pub record Fits (key : A) (log : History N) (made : List (List ℕ)) (ticket : ℕ) (v : View A N) : Type 0 where
+  pub record Fits (key : A) (log : History N) (made gone : List (List ℕ)) (ticket : ℕ) (v : View A N) : Type 0 where
     pub named : IsNamed key made v.about v.seat v.splits
     pub sees : HasSeen log v.about v.seat v.seen v.told v.mine
     pub draws : HasDrawn log ticket v.about v.number v.served v.seen
+    pub outlives : Outlives log gone v.about v.seat v.ended v.told_ended v.seen v.told
 
   -- two seats have drawn two numbers, and have two numbers of their own
   abbrev pub Unlike : View A N → View A N → Type 0
@@ -97,6 +131,8 @@ module _ {A N : Type 0} where
       pub log : History N
       -- the numbers of the seats that were made
       pub made : List (List ℕ)
+      -- those of the seats that were joined to others
+      pub gone : List (List ℕ)
       -- how many numbers were drawn
       pub ticket : ℕ
       -- SERVING is how many entries the history has
@@ -106,10 +142,11 @@ module _ {A N : Type 0} where
       -- no more seats live than had room in the first, so neither word wraps
       pub seats : total room_of s.views ≤ 281474976710656
       pub bound : length log ≤ 9223372036854775808
-      pub fits : (id : ℕ) (v : View A N) → get_elem? s.views id ≡ some v → Fits about log made ticket v
+      pub fits : (id : ℕ) (v : View A N) → get_elem? s.views id ≡ some v → Fits about log made gone ticket v
       pub apart : (i j : ℕ) (v w : View A N) → i ≢ j → get_elem? s.views i ≡ some v → get_elem? s.views j ≡ some w → Unlike v w
       -- who split a seat off was made before it
       pub rooted : (seat : List ℕ) (k : ℕ) → has_seat made (seat ++ k ∷ []) ≡ true → has_seat made seat ≡ true
+      pub gone_made : (seat : List ℕ) → has_seat gone seat ≡ true → has_seat made seat ≡ true
       -- the history has no entry of a seat that is not made
       pub fresh : (seat : List ℕ) → has_seat made seat ≡ false → entries_by seat log ≡ []
       pub home : Home stands about log s

@@ -4,6 +4,7 @@ use Rattle.atomic_table.specs.Table.{Me, Step, rest}
 use Rattle.std.specs.declared.snapshot.Snapshot.{Snapshot}
 use Rattle.turn_board.specs.declared.view.Content.{Content}
 use Rattle.turn_board.specs.declared.view.View.{View}
+use Rattle.turn_board.specs.Seats.{has_seat}
 use Rattle.turn_board.specs.History.{History, entries_by, StartsWith, longer}
 use Rattle.turn_board.specs.Rule.{content, IsLive}
 
@@ -15,7 +16,7 @@ module _ {A N : Type 0} where
   served_view v log = record v { seen = log; served = true }
 
   abbrev pub learned_view : View A N → View A N
-  learned_view v = record v { seen = longer v.seen v.told; told = [] }
+  learned_view v = record v { seen = longer v.seen v.told; ended = v.ended ++ v.told_ended; told = []; told_ended = [] }
 
   abbrev pub passed_view : View A N → N → View A N
   passed_view v note = record v { seen = v.seen ++ (v.seat, note) ∷ []; mine = v.mine ++ (v.seat, note) ∷ []; number = None; served = false }
@@ -53,3 +54,6 @@ module _ {A N : Type 0} where
       pub seen : StartsWith (longer v.0.seen v.0.told) v.0.seen
       pub told : StartsWith (longer v.0.seen v.0.told) v.0.told
       pub own : IsLive v.0.about → entries_by v.0.seat (longer v.0.seen v.0.told) ≡ v.0.mine
+      -- the seats that have ended have made no entry since
+      pub still : (s : List ℕ) → has_seat v.0.ended s ≡ true → entries_by s (longer v.0.seen v.0.told) ≡ entries_by s v.0.seen
+      pub last : (s : List ℕ) → has_seat v.0.told_ended s ≡ true → entries_by s (longer v.0.seen v.0.told) ≡ entries_by s v.0.told

@@ -33,8 +33,12 @@ pub struct View<A, N> {
     pub seen: LinkedList<(LinkedList<u64>, N)>,
     /// The entries that it made.
     pub mine: LinkedList<(LinkedList<u64>, N)>,
+    /// The numbers of the seats that were joined to it, and to those: it has seen all their entries, and they make none.
+    pub ended: LinkedList<LinkedList<u64>>,
     /// What a seat that was joined to it had seen, until it next looks.
     pub told: LinkedList<(LinkedList<u64>, N)>,
+    /// That seat, and those that were joined to it.
+    pub told_ended: LinkedList<LinkedList<u64>>,
     /// The number of the turn that it has drawn and not passed.
     pub number: Option<u64>,
     /// That turn has come, and the slot is out with the seat.

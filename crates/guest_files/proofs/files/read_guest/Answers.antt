@@ -4,7 +4,7 @@ use Rattle.std.proofs.lemmas.Result.{err_from_is_err_and}
 use Rattle.io_edge.specs.Outside.{HasRisen}
 use Rattle.guest_files.specs.declared.stop.TheConstants.{IMAGE_LOAD, DISK_LOAD, INPUT_LOAD}
 use Rattle.guest_files.specs.Reads.{disk_too_long, image_too_long, input_too_long}
-use Rattle.guest_files.specs.Parts.{AreAsked, IsFaultOf, Stops, load_if}
+use Rattle.guest_files.specs.Parts.{AreAsked, IsFaultOf, Stops, load_if, load_of}
 use Rattle.guest_files.proofs.PartLemmas.{Gave, image-read, disk-read, input-read, image-stops, disk-stops, input-stops, guest-given, rises, asked-both, fault-before, fault-after}
 use Rattle.guest_files.proofs.files.read_guest.Goals as goal
 
@@ -15,14 +15,20 @@ returns-in_err-image-clause-gives g c =
     let start = g.S.Shelf.asked c.args.shelf.now in
     let with_image = g.S.Shelf.asked c.load_file.new.shelf in
     let rise = HasRisen (g.S.Shelf.faults c.args.shelf.now) (g.S.Shelf.faults c.load_file.new.shelf) in
-    let P : ℕ → Type 0 = λ load. (load ≡ IMAGE_LOAD) × rise × IsFaultOf (IMAGE_LOAD ∷ []) load start with_image in
+    let name = c.image.result.now in
+    let P : ℕ → Type 0 = λ load. (load ≡ IMAGE_LOAD) × rise × IsFaultOf (load_of IMAGE_LOAD name ∷ []) load start with_image in
     let stop = c.in_err-image.field-0.0 in
     let p = err_from_is_err_and c.from_residual.result c.from_residual.ensures.1 in
     let later = load_if DISK_LOAD guest.disk ++ load_if INPUT_LOAD guest.input in
     rw (p.1, p.2)
     (image-stops guest files P _ stop
     (subst (λ read. Stops IMAGE_LOAD P (option_map read files) stop) (image-read guest _ c.image.ensures) (c.in_err-image.ensures.gives image_too_long (refl, omega arith)))
-    (λ load was. (inl was.0, was.1, fault-before (IMAGE_LOAD ∷ []) later load start with_image was.2)))
+    (λ load was. (
+      inl was.0,
+      was.1,
+      fault-before (load_of IMAGE_LOAD guest.image ∷ []) later load start with_image
+          (subst (λ it. IsFaultOf (load_of IMAGE_LOAD it ∷ []) load start with_image) c.image.ensures was.2),
+    )))
 
 pub returns-in_err-disk-clause-gives : goal.returns-in_err-disk-clause-gives
 returns-in_err-disk-clause-gives g c =
@@ -48,7 +54,8 @@ returns-in_err-disk-clause-gives g c =
     (λ load was. (
       inr (inl (was.0.0, subst IsSome is_disk was.0.1)),
       rises _ _ _ c.in_ok-image.ensures.counts was.1,
-      fault-after (IMAGE_LOAD ∷ []) (disk ++ input) load start with_image with_disk c.in_ok-image.ensures.asked
+      fault-after (load_of IMAGE_LOAD guest.image ∷ []) (disk ++ input) load start with_image with_disk
+          (subst (λ it. AreAsked (load_of IMAGE_LOAD it ∷ []) start with_image) c.image.ensures c.in_ok-image.ensures.asked)
           (fault-before disk input load with_image with_disk (subst (λ it. IsFaultOf (load_if DISK_LOAD it) load with_image with_disk) is_disk was.2)),
     )))
 
@@ -83,7 +90,8 @@ returns-in_err-input-clause-gives g c =
     (λ load was. (
       inr (inr (was.0.0, subst IsSome is_input was.0.1)),
       rises _ _ _ (omega (arith, counts, counts_again)) was.1,
-      fault-after (IMAGE_LOAD ∷ []) (disk ++ input) load start with_image with_input c.in_ok-image.ensures.asked
+      fault-after (load_of IMAGE_LOAD guest.image ∷ []) (disk ++ input) load start with_image with_input
+          (subst (λ it. AreAsked (load_of IMAGE_LOAD it ∷ []) start with_image) c.image.ensures c.in_ok-image.ensures.asked)
           (fault-after disk input load with_image with_disk with_input
           (subst (λ it. AreAsked (load_if DISK_LOAD it) with_image with_disk) is_disk c.in_ok-disk.ensures.asked)
           (subst (λ it. IsFaultOf (load_if INPUT_LOAD it) load with_disk with_input) is_input was.2)),
@@ -112,7 +120,8 @@ returns-clause-asked g c =
     let with_input = g.S.Shelf.asked c.load_named-2.new.shelf in
     let disk = load_if DISK_LOAD guest.disk in
     let input = load_if INPUT_LOAD guest.input in
-    asked-both (IMAGE_LOAD ∷ []) (disk ++ input) start with_image with_input c.in_ok-image.ensures.asked
+    asked-both (load_of IMAGE_LOAD guest.image ∷ []) (disk ++ input) start with_image with_input
+    (subst (λ it. AreAsked (load_of IMAGE_LOAD it ∷ []) start with_image) c.image.ensures c.in_ok-image.ensures.asked)
     (asked-both disk input with_image with_disk with_input
     (subst (λ it. AreAsked (load_if DISK_LOAD it) with_image with_disk) c.disk.ensures c.in_ok-disk.ensures.asked)
     (subst (λ it. AreAsked (load_if INPUT_LOAD it) with_disk with_input) c.input.ensures c.in_ok-input.ensures.asked))

@@ -1,23 +1,23 @@
-use Rattle.std.proofs.Common.{rules, ◌≡◌, ◌≤◌, [], length, sym, ◌∙◌, subst, eqb-true}
+use Rattle.std.proofs.Common.{rules, ◌≡◌, ◌+◌, ◌≤◌, [], length, sym, ◌∙◌, subst, eqb-true}
 use Rattle.std.proofs.lemmas.List.{nil_from_length}
-use Rattle.host_workers.specs.Spread.{HaveWorked, WorkAll, parent, shifts_of}
-use Rattle.host_workers.proofs.Shifts.{alone, beside, first-done, joined, some-left}
+use Rattle.host_workers.specs.Spread.{HaveWorked, WorkAll, parent, states_of}
+use Rattle.host_workers.proofs.States.{alone, beside, first-done, joined, some-left}
 use Rattle.host_workers.proofs.hosts.+gather.Goals as goal
 
 pub unreachable-requires-in_default-replace : goal.unreachable-requires-in_default-replace
 unreachable-requires-in_default-replace g t c =
     let w = c.requires.worked in
     let done =
-    first-done g.W.Wire.streak c.args.wires.now (shifts_of w.0 w.1) c.in-Some.shift.now c.in-Some.shifts.now
-    (subst (λ l. HaveWorked g.W.Wire.streak c.args.wires.now (shifts_of w.0 w.1) l) c.in-Some.ensures.cases.0 w.4) in
+    first-done g.W.Wire.streak c.args.wires.now (states_of w.0 w.1 w.2) c.in-Some.state.now c.in-Some.states.now
+    (subst (λ l. HaveWorked g.W.Wire.streak c.args.wires.now (states_of w.0 w.1 w.2) l) c.in-Some.ensures.cases.0 w.5) in
     c.in_default-replace.not-Done done.0 done.1 (c.replace.ensures.value ∙ done.2)
 
 pub returns-then-is_empty : goal.returns-then-is_empty
-returns-then-is_empty g t c = λ pass k many h.
+returns-then-is_empty g t c = λ first pass k many h.
     let none : c.in-Some-split_first.wires.now ≡ [] =
     nil_from_length c.in-Some-split_first.wires.now (eqb-true (length c.in-Some-split_first.wires.now) 0 (sym c.is_empty.ensures ∙ c.if-is_empty.true)) in
-    alone g.W.Wire.streak c.args.wires.now c.args.shifts.now c.in-Some-split_first.field-0-0.now c.in-Some-split_first.wires.now
-    c.in-Some.shift.now c.in-Some.shifts.now c.in-Done.split c.in-Done.one c.in-Some-split_first.ensures.cases.0 c.in-Some.ensures.cases.0
+    alone g.W.Wire.streak first c.args.wires.now c.args.states.now c.in-Some-split_first.field-0-0.now c.in-Some-split_first.wires.now
+    c.in-Some.state.now c.in-Some.states.now c.in-Done.split c.in-Done.one c.in-Some-split_first.ensures.cases.0 c.in-Some.ensures.cases.0
     (sym c.replace.ensures.value ∙ c.in-Done.is)
     pass k many h none
 
@@ -26,36 +26,36 @@ gather-pass-requires g t c κs within =
     let w = c.requires.worked in
     let more : 1 ≤ length c.in-Some-split_first.wires.now = some-left c.in-Some-split_first.wires.now (sym c.is_empty.ensures ∙ c.if-is_empty.false) in
     let rest =
-    beside g.W.Wire.streak c.args.wires.now c.args.shifts.now c.in-Some-split_first.field-0-0.now c.in-Some-split_first.wires.now
-    c.in-Some.shift.now c.in-Some.shifts.now c.in-Done.split c.in-Done.one c.in-Some-split_first.ensures.cases.0 c.in-Some.ensures.cases.0
+    beside g.W.Wire.streak w.0 c.args.wires.now c.args.states.now c.in-Some-split_first.field-0-0.now c.in-Some-split_first.wires.now
+    c.in-Some.state.now c.in-Some.states.now c.in-Done.split c.in-Done.one c.in-Some-split_first.ensures.cases.0 c.in-Some.ensures.cases.0
     (sym c.replace.ensures.value ∙ c.in-Done.is)
-    w.0 w.1 w.3 w.4 more in
-    (search rules, (within, (more, (search rules, (parent w.0, rest.k, w.2, rest.many, rest.rest)))))
+    w.1 w.2 w.4 w.5 more in
+    (search rules, (within, (more, (search rules, (w.0 + 1, parent w.1, rest.k, w.3, rest.many, rest.rest)))))
 
 pub join_pass-requires : goal.join_pass-requires
 join_pass-requires g t c =
     let w = c.requires.worked in
     let rest =
-    beside g.W.Wire.streak c.args.wires.now c.args.shifts.now c.in-Some-split_first.field-0-0.now c.in-Some-split_first.wires.now
-    c.in-Some.shift.now c.in-Some.shifts.now c.in-Done.split c.in-Done.one c.in-Some-split_first.ensures.cases.0 c.in-Some.ensures.cases.0
+    beside g.W.Wire.streak w.0 c.args.wires.now c.args.states.now c.in-Some-split_first.field-0-0.now c.in-Some-split_first.wires.now
+    c.in-Some.state.now c.in-Some.states.now c.in-Done.split c.in-Done.one c.in-Some-split_first.ensures.cases.0 c.in-Some.ensures.cases.0
     (sym c.replace.ensures.value ∙ c.in-Done.is)
-    w.0 w.1 w.3 w.4 (some-left c.in-Some-split_first.wires.now (sym c.is_empty.ensures ∙ c.if-is_empty.false)) in
+    w.1 w.2 w.4 w.5 (some-left c.in-Some-split_first.wires.now (sym c.is_empty.ensures ∙ c.if-is_empty.false)) in
     record {
-      board = ((c.gather-pass.ensures (parent w.0) rest.k rest.many rest.rest).worked.same_board ∙ w.2, rest.first.worked.same_board ∙ w.2);
+      board = ((c.gather-pass.ensures (w.0 + 1) (parent w.1) rest.k rest.many rest.rest).worked.same_board ∙ w.3, rest.first.worked.same_board ∙ w.3);
       holds = rest.first.none;
     }
 
 pub returns : goal.returns
-returns g t c = λ pass k many h.
+returns g t c = λ first pass k many h.
     let more : 1 ≤ length c.in-Some-split_first.wires.now = some-left c.in-Some-split_first.wires.now (sym c.is_empty.ensures ∙ c.if-is_empty.false) in
     let rest =
-    beside g.W.Wire.streak c.args.wires.now c.args.shifts.now c.in-Some-split_first.field-0-0.now c.in-Some-split_first.wires.now
-    c.in-Some.shift.now c.in-Some.shifts.now c.in-Done.split c.in-Done.one c.in-Some-split_first.ensures.cases.0 c.in-Some.ensures.cases.0
+    beside g.W.Wire.streak first c.args.wires.now c.args.states.now c.in-Some-split_first.field-0-0.now c.in-Some-split_first.wires.now
+    c.in-Some.state.now c.in-Some.states.now c.in-Done.split c.in-Done.one c.in-Some-split_first.ensures.cases.0 c.in-Some.ensures.cases.0
     (sym c.replace.ensures.value ∙ c.in-Done.is)
     pass k many h more in
     subst (WorkAll g.W.Wire.streak c.args.wires.now pass c.join_pass.result) (sym c.finish_of.ensures)
-    (joined g.W.Wire.streak c.args.wires.now c.args.shifts.now c.in-Some-split_first.field-0-0.now c.in-Some-split_first.wires.now
-    c.in-Some.shift.now c.in-Some.shifts.now c.in-Done.split c.in-Done.one c.in-Some-split_first.ensures.cases.0 c.in-Some.ensures.cases.0
+    (joined g.W.Wire.streak first c.args.wires.now c.args.states.now c.in-Some-split_first.field-0-0.now c.in-Some-split_first.wires.now
+    c.in-Some.state.now c.in-Some.states.now c.in-Done.split c.in-Done.one c.in-Some-split_first.ensures.cases.0 c.in-Some.ensures.cases.0
     (sym c.replace.ensures.value ∙ c.in-Done.is)
     pass k many h more c.gather-pass.result.0 c.join_pass.result c.gather-pass.result.1
-    (c.gather-pass.ensures (parent pass) rest.k rest.many rest.rest) c.join_pass.ensures)
+    (c.gather-pass.ensures (first + 1) (parent pass) rest.k rest.many rest.rest) c.join_pass.ensures)

@@ -3,4 +3,4 @@ use Rattle.host_workers.proofs.hosts.+gather.Given as goal
 
 -- proposed from what the function passes where it calls itself
 abbrev pub decreases-gather : goal.decreases-gather
-decreases-gather g l = length l.shifts.now
+decreases-gather g l = length l.states.now

@@ -3,7 +3,7 @@ use denote.Exit.{no}
 use denote.Param.Send.{arg_send, param_send}
 use Rattle.host_workers.specs.Spread.{HaveWorked}
 use Rattle.host_workers.proofs.Crosses.{half_send}
-use Rattle.host_workers.proofs.Shifts.{both-due, both-halves, both-seeded, one-seeded, one-worked}
+use Rattle.host_workers.proofs.States.{both-due, both-halves, both-seeded, one-seeded, one-worked}
 use Rattle.host_workers.proofs.hosts.+halves.Goals as goal
 
 pub work_halves-front-returns : goal.work_halves-front-returns
@@ -12,18 +12,12 @@ work_halves-front-returns g t c = (c.work_all.ensures.worked, c.work_all.ensures
 pub work_halves-back-returns : goal.work_halves-back-returns
 work_halves-back-returns g t c = (c.work_all.ensures.worked, c.work_all.ensures.len, c.work_all.ensures.seeds)
 
-pub work_all-work_in-requires-clause-due : goal.work_all-work_in-requires-clause-due
-work_all-work_in-requires-clause-due g t c = c.requires.due 0 c.index-shifts-0.result (omega (arith, c.requires.each, c.requires.some))
-
-pub work_all-overflow_cast-half : goal.work_all-overflow_cast-half
-work_all-overflow_cast-half g t c = omega (arith, c.requires.few)
-
-pub work_all-overflow_add-number : goal.work_all-overflow_add-number
-work_all-overflow_add-number g t c = omega (arith, c.requires.few)
+pub work_all-work_in-requires : goal.work_all-work_in-requires
+work_all-work_in-requires g t c = c.requires.due 0 c.index-states-0.result (omega (arith, c.requires.each, c.requires.some))
 
 pub work_all-returns-then-wires-eq1-clause-worked : goal.work_all-returns-then-wires-eq1-clause-worked
 work_all-returns-then-wires-eq1-clause-worked g t c =
-    one-worked g.W.Wire.streak c.args.wires.now c.work_in.new.wire c.args.shifts.now c.index-shifts-0.result c.work_in.new.shift
+    one-worked g.W.Wire.streak c.args.wires.now c.work_in.new.wire c.args.states.now c.index-states-0.result c.work_in.new.state
     c.if-wires-eq1.true c.requires.each c.work_in.ensures.worked
 
 pub work_all-returns-then-wires-eq1-clause-seeds : goal.work_all-returns-then-wires-eq1-clause-seeds
@@ -33,8 +27,8 @@ work_all-returns-then-wires-eq1-clause-seeds g t c =
 pub work_all-work_halves-requires : goal.work_all-work_halves-requires
 work_all-work_halves-requires g t c κs within =
     let wires = c.split_at_mut-here in
-    let shifts = c.split_at_mut-first in
-    let both = both-due c.args.board.now c.args.shifts.now shifts.result.0.now shifts.result.1.now shifts.ensures.value c.requires.due in
+    let states = c.split_at_mut-first in
+    let both = both-due c.args.shared.now.board.now c.args.states.now states.result.0.now states.result.1.now states.ensures.value c.requires.due in
     let low : length wires.result.0.now ≡ length c.args.wires.now / 2 = wires.ensures.front_len in
     let high : length wires.result.0.now + length wires.result.1.now ≡ length c.args.wires.now = omega (arith, wires.ensures.front_len, wires.ensures.back_len) in
     let more : 2 ≤ length c.args.wires.now = omega (arith, c.requires.some, c.if-wires-eq1.false) in (
@@ -54,17 +48,8 @@ work_all-work_halves-requires g t c κs within =
                   (
                     (search rules, search rules, search rules),
                     (
-                      (both.0, omega (arith, low, shifts.ensures.front_len), omega (arith, low, more)),
-                      (
-                        (both.1, omega (arith, low, high, shifts.ensures.back_len, c.requires.each), omega (arith, low, high, more)),
-                        (
-                          c.requires.depot,
-                          (
-                            (omega (arith, high, c.requires.few), omega (arith, low, high, c.requires.few)),
-                            c.requires.ahead,
-                          ),
-                        ),
-                      ),
+                      (both.0, omega (arith, low, states.ensures.front_len), omega (arith, low, more)),
+                      (both.1, omega (arith, low, high, states.ensures.back_len, c.requires.each), omega (arith, low, high, more)),
                     ),
                   ),
                 ),
@@ -78,9 +63,9 @@ work_all-work_halves-requires g t c κs within =
 pub work_all-returns-clause-worked : goal.work_all-returns-clause-worked
 work_all-returns-clause-worked g t c =
     let run = c.work_halves in
-    let shifts = c.split_at_mut-first in
-    subst (λ l. HaveWorked g.W.Wire.streak (run.new.here ++ run.new.there) l (run.new.first ++ run.new.second)) (sym shifts.ensures.value)
-    (both-halves g.W.Wire.streak run.new.here run.new.there shifts.result.0.now shifts.result.1.now run.new.first run.new.second
+    let states = c.split_at_mut-first in
+    subst (λ l. HaveWorked g.W.Wire.streak (run.new.here ++ run.new.there) l (run.new.first ++ run.new.second)) (sym states.ensures.value)
+    (both-halves g.W.Wire.streak run.new.here run.new.there states.result.0.now states.result.1.now run.new.first run.new.second
     run.ensures.first.0 run.ensures.second.0)
 
 pub work_all-returns-clause-seeds : goal.work_all-returns-clause-seeds
@@ -93,4 +78,4 @@ work_all-returns-clause-seeds g t c =
 pub work_halves-join_mut-requires-send-F : goal.work_halves-join_mut-requires-send-F
 work_halves-join_mut-requires-send-F g t c κs within =
     let all = c.requires.crosses in
-    param_send 1 _ (arg_send _ no _ (half_send _ _ _ _ _ _ _ g.row.R g.row.W g.row.G all.0 all.1 all.2))
+    param_send 1 _ (arg_send _ no _ (half_send _ _ _ _ _ _ g.row.R g.row.W g.row.G all.0 all.1 all.2))

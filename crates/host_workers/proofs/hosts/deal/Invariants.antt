@@ -1,9 +1,9 @@
-use Rattle.std.proofs.Common.{◌≡◌, ◌+◌, length}
-use Rattle.host_workers.proofs.Shifts.{Dealt}
+use Rattle.std.proofs.Common.{◌≡◌, length}
+use Rattle.host_workers.proofs.States.{Dealt}
 use Rattle.host_workers.proofs.hosts.deal.Given as goal
 
-abbrev pub invariant-loop : goal.invariant-loop
-invariant-loop l = record {
-  dealt : Dealt l.board l.initial.pass l.pass l.shifts.items;
-  many : l.counter ≡ length l.shifts.items + 1;
+abbrev pub invariant-loop-number : goal.invariant-loop-number
+invariant-loop-number l = record {
+  dealt : Dealt l.board l.initial.pass l.pass l.states.items;
+  many : l.number ≡ length l.states.items;
 }

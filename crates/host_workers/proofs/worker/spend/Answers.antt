@@ -1,5 +1,7 @@
-use Rattle.std.proofs.Common.{◌≡◌}
+use Rattle.std.proofs.Common.{◌≡◌, refl, subst}
 use Rattle.world_core.specs.declared.reason.Reason.TheVariants as reason
+use Rattle.host_workers.specs.Stages.{runs, stuck}
+use Rattle.host_workers.specs.Stays.{Worked, stage_placed}
 use Rattle.host_workers.proofs.Working.{spares-worked, worked-more}
 use Rattle.host_workers.proofs.worker.spend.Goals as goal
 
@@ -7,9 +9,11 @@ pub returns-in_default-Memory : goal.returns-in_default-Memory
 returns-in_default-Memory g c =
     let handed = c.hand_back.ensures in
     let gave = c.give_up.ensures in
+    let back = gave.worked stuck (refl, refl) in
     record {
-      worked = worked-more c.args.pass c.hand_back.result.0 c.give_up.result handed.worked gave.worked;
+      worked = worked-more c.args.pass c.hand_back.result.0 c.give_up.result
+          (subst (λ p. Worked runs (stage_placed p) c.args.pass c.hand_back.result.0) c.in_default-Memory.is-1 handed.worked) back;
       none = gave.none;
-      spares = spares-worked c.args.pass c.hand_back.result.0 c.give_up.result gave.worked handed.spares
+      spares = spares-worked c.args.pass c.hand_back.result.0 c.give_up.result back handed.spares
           (gave.spares (λ same. let no : reason.Memory ≡ reason.Wire = same in cc));
     }

@@ -4,8 +4,8 @@ use Rattle.std.specs.Map.{values_of}
 use Rattle.std.proofs.lemmas.List.Elements.{All-nil}
 use Rattle.image_depot.specs.Reply.{IsSentOf}
 use Rattle.host_fetch.specs.Heard.{AreHeardOf, Replies}
-use Rattle.host_workers.specs.Finishes.{IsDone}
-use Rattle.host_workers.specs.Stays.{IfFinished, Turns}
+use Rattle.host_workers.specs.Stages.{free}
+use Rattle.host_workers.specs.Stays.{Turns, Worked, stage_turned}
 use Rattle.host_workers.specs.declared.replies.Hearing.{Hearing}
 use Rattle.host_workers.proofs.Working.{blames-on, spares-none, worked-board, worked-then}
 use Rattle.host_workers.proofs.worker.work.Goals as goal
@@ -16,7 +16,7 @@ loop-init g c = record {
   ends = tt;
   worked = inl refl;
   none = c.requires.none;
-  heard = subst (λ (es : Replies). All (IsSentOf c.args.depot.now) (values_of es)) (sym c.new-worker.ensures) (All-nil (IsSentOf c.args.depot.now));
+  heard = subst (λ (es : Replies). All (IsSentOf c.args.shared.now.depot.now) (values_of es)) (sym c.new-worker.ensures) (All-nil (IsSentOf c.args.shared.now.depot.now));
   wire = λ by. inr (spares-none c.args.pass by);
   seeds = refl {a = g.W.Wire.seeds c.args.wire.now};
 }
@@ -29,10 +29,10 @@ returns-in-Finished g c =
     let e = c.turn-after.ensures in
     let new = c.turn-after.result.0 in
     record {
-      worked = worked-then c.args.pass c.loop.pass new c.loop.invariant.worked e.worked;
+      worked = worked-then c.args.pass c.loop.pass new c.loop.invariant.worked
+          (subst (λ t. Worked free (stage_turned t) c.loop.pass new) c.in-Finished.is e.worked);
       none = e.none;
       finish = subst (Turns new) c.in-Finished.is e.turns;
-      done = subst (λ t. IfFinished t (IsDone new.number new.seen)) c.in-Finished.is e.done;
       wire = blames-on g.W.Wire.streak c.loop.wire c.turn-after.new.wire c.args.pass c.loop.pass new c.loop.invariant.wire e.worked e.stopped e.wire;
       seeds = e.seeds ∙ c.loop.invariant.seeds;
     }
@@ -45,7 +45,7 @@ loop-preserved-in-Idle g c =
     record {
       goes = tt;
       ends = tt;
-      worked = inr (worked-then c.args.pass c.loop.pass new was.worked e.worked);
+      worked = inr (worked-then c.args.pass c.loop.pass new was.worked (subst (λ t. Worked free (stage_turned t) c.loop.pass new) c.in-Idle.is e.worked));
       none = e.none;
       heard = e.heard;
       wire = blames-on g.W.Wire.streak c.loop.wire c.turn-after.new.wire c.args.pass c.loop.pass new was.wire e.worked e.stopped e.wire;
@@ -60,9 +60,9 @@ loop-preserved g c =
     record {
       goes = tt;
       ends = tt;
-      worked = inr (worked-then c.args.pass c.loop.pass new was.worked e.worked);
+      worked = inr (worked-then c.args.pass c.loop.pass new was.worked (subst (λ t. Worked free (stage_turned t) c.loop.pass new) c.in-Ran.is e.worked));
       none = e.none;
-      heard = subst (λ (h : Hearing). AreHeardOf c.args.depot.now h.heard) (sym c.come_back.ensures) e.heard;
+      heard = subst (λ (h : Hearing). AreHeardOf c.args.shared.now.depot.now h.heard) (sym c.come_back.ensures) e.heard;
       wire = blames-on g.W.Wire.streak c.loop.wire c.turn-after.new.wire c.args.pass c.loop.pass new was.wire e.worked e.stopped e.wire;
       seeds = e.seeds ∙ was.seeds;
     }

@@ -1,17 +1,17 @@
 use Rattle.std.proofs.Common.{◌≡◌, ◌⊎◌}
 use Rattle.host_fetch.specs.Heard.{AreHeardOf}
 use Rattle.fork_board.specs.Passes.{HoldsNone}
-use Rattle.host_workers.specs.Finishes.{Worked}
-use Rattle.host_workers.specs.Stays.{Blames}
+use Rattle.host_workers.specs.Stages.{free}
+use Rattle.host_workers.specs.Stays.{Blames, Worked}
 use Rattle.host_workers.proofs.worker.work.Given as goal
 
 abbrev pub invariant-loop : goal.invariant-loop
 invariant-loop g l = record {
   goes : (goal.iterator-loop g).can_next l.iterator';
   ends : (goal.iterator-loop g).is_finite l.iterator';
-  worked : (l.pass ≡ l.initial.pass) ⊎ Worked l.initial.pass l.pass;
+  worked : (l.pass ≡ l.initial.pass) ⊎ Worked free free l.initial.pass l.pass;
   none : HoldsNone l.pass;
-  heard : AreHeardOf l.depot l.worker.hearing.heard;
+  heard : AreHeardOf l.shared.depot.now l.worker.hearing.heard;
   seeds : g.W.Wire.seeds l.wire ≡ g.W.Wire.seeds l.initial.wire;
   wire : Blames g.W.Wire.streak l.wire l.initial.pass l.pass;
 }

@@ -1,7 +1,7 @@
 use Rattle.std.proofs.Common.{inl, inr, [], ◌∷◌}
 use Rattle.std.proofs.lemmas.Result.{err_from_is_err_and}
 use Rattle.guest_files.specs.declared.stop.TheConstants.{SCRIPT_LOAD}
-use Rattle.guest_files.specs.Parts.{guest_loads}
+use Rattle.guest_files.specs.Parts.{guest_loads, load_of}
 use Rattle.guest_files.proofs.PartLemmas.{asked-both, rises, fault-before, fault-after}
 use Rattle.snow_commands.proofs.Seeding.{always-ok}
 use Rattle.snow_commands.proofs.TextLemmas.{drive-stops, script-stops, drive-gives}
@@ -14,7 +14,7 @@ returns-in_err-files-clause-gives g c =
     let p = err_from_is_err_and c.from_residual.result c.from_residual.ensures.1 in
     rw (p.1, p.2)
     (drive-stops c.args.guest.now c.args.script.now (g.S.Shelf.files c.args.shelf.now) _ _ c.in_err-files.field-0.0
-    (λ load was. (inl was.0, was.1, fault-before (guest_loads c.args.guest.now) (SCRIPT_LOAD ∷ []) load start with_guest was.2)) c.in_err-files.ensures.gives)
+    (λ load was. (inl was.0, was.1, fault-before (guest_loads c.args.guest.now) (load_of SCRIPT_LOAD c.args.script.now ∷ []) load start with_guest was.2)) c.in_err-files.ensures.gives)
 
 pub returns-in_err-text-clause-gives : goal.returns-in_err-text-clause-gives
 returns-in_err-text-clause-gives g c =
@@ -28,7 +28,7 @@ returns-in_err-text-clause-gives g c =
     (λ load was. (
       inr was.0,
       rises _ _ _ c.in_ok-files.ensures.counts was.1,
-      fault-after (guest_loads c.args.guest.now) (SCRIPT_LOAD ∷ []) load start with_guest with_script c.in_ok-files.ensures.asked was.2,
+      fault-after (guest_loads c.args.guest.now) (load_of SCRIPT_LOAD c.args.script.now ∷ []) load start with_guest with_script c.in_ok-files.ensures.asked was.2,
     ))
     c.in_err-text.ensures.gives)
 
@@ -41,5 +41,5 @@ returns-clause-gives g c =
 pub returns-clause-loads : goal.returns-clause-loads
 returns-clause-loads g c =
     always-ok c.drive_files.result _
-    (asked-both (guest_loads c.args.guest.now) (SCRIPT_LOAD ∷ []) (g.S.Shelf.asked c.args.shelf.now) (g.S.Shelf.asked c.read_guest.new.shelf) (g.S.Shelf.asked c.load_script.new.shelf)
+    (asked-both (guest_loads c.args.guest.now) (load_of SCRIPT_LOAD c.args.script.now ∷ []) (g.S.Shelf.asked c.args.shelf.now) (g.S.Shelf.asked c.read_guest.new.shelf) (g.S.Shelf.asked c.load_script.new.shelf)
     c.in_ok-files.ensures.asked c.in_ok-text.ensures.asked)

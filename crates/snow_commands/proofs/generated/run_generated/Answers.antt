@@ -14,4 +14,4 @@ returns-clause-makes g c =
 pub returns-clause-seeded : goal.returns-clause-seeded
 returns-clause-seeded g c =
     subst (λ (how : RunValues). IfRun c.run_files.result
-    (map g.W.Wire.seeds c.run_files.new.wires.items ≡ seeded_for how (map g.W.Wire.seeds c.args.wires.now.items))) c.how.ensures c.run_files.ensures.seeded
+    (map g.W.Wire.seeds c.run_files.new.wires.items ≡ seeded_for how (map g.W.Wire.seeds c.args.wires.now.items))) c.how-how.ensures c.run_files.ensures.seeded

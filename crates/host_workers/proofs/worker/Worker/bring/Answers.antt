@@ -1,5 +1,5 @@
 use Rattle.std.proofs.Common.{refl, ◌∙◌}
-use Rattle.host_workers.proofs.Working.{lent-on, lost-none, same-fetched, same-then, spares-none, spares-stays, stays-more, stays-none}
+use Rattle.host_workers.proofs.Working.{lent-on, lost-none, same-fetched, same-then, stays-more, stays-none}
 use Rattle.host_workers.proofs.worker.Worker.bring.Goals as goal
 
 pub offer-requires-clause-of_depot : goal.offer-requires-clause-of_depot
@@ -12,7 +12,6 @@ pub returns-in-Ok-true : goal.returns-in-Ok-true
 returns-in-Ok-true g c = record {
   same = same-fetched c.args.lease.now c.offer.new.receiver c.offer.ensures.rest;
   stays = stays-none c.args.pass;
-  spares = spares-none c.args.pass;
   heard = c.requires.heard;
   wire = tt;
   seeds = refl {a = g.W.Wire.seeds c.args.wire.now};
@@ -22,7 +21,6 @@ pub returns-in-Err : goal.returns-in-Err
 returns-in-Err g c = record {
   same = same-fetched c.args.lease.now c.offer.new.receiver c.offer.ensures.rest;
   stays = stays-none c.args.pass;
-  spares = spares-none c.args.pass;
   heard = c.requires.heard;
   wire = lost-none g.W.Wire.streak c.args.wire.now;
   seeds = refl {a = g.W.Wire.seeds c.args.wire.now};
@@ -31,13 +29,10 @@ returns-in-Err g c = record {
 pub hear_and_offer-pass-requires-clause-board : goal.hear_and_offer-pass-requires-clause-board
 hear_and_offer-pass-requires-clause-board g c = c.requires.board
 
-pub hear_and_offer-pass-requires-clause-depot : goal.hear_and_offer-pass-requires-clause-depot
-hear_and_offer-pass-requires-clause-depot g c = c.requires.depot
-
 pub hear_and_offer-pass-requires-clause-of_depot : goal.hear_and_offer-pass-requires-clause-of_depot
 hear_and_offer-pass-requires-clause-of_depot g c =
     let lease = c.offer.new.receiver in
-    lent-on c.args.depot.now c.args.lease.now lease (same-fetched c.args.lease.now lease c.offer.ensures.rest) c.requires.of_depot
+    lent-on c.args.shared.now.depot.now c.args.lease.now lease (same-fetched c.args.lease.now lease c.offer.ensures.rest) c.requires.of_depot
 
 pub hear_and_offer-pass-requires-clause-heard : goal.hear_and_offer-pass-requires-clause-heard
 hear_and_offer-pass-requires-clause-heard g c = c.requires.heard
@@ -45,15 +40,12 @@ hear_and_offer-pass-requires-clause-heard g c = c.requires.heard
 pub fetch_and_tell-requires-clause-board : goal.fetch_and_tell-requires-clause-board
 fetch_and_tell-requires-clause-board g c = c.hear_and_offer-pass.ensures.stays.same_board ∙ c.requires.board
 
-pub fetch_and_tell-requires-clause-depot : goal.fetch_and_tell-requires-clause-depot
-fetch_and_tell-requires-clause-depot g c = c.requires.depot
-
 pub fetch_and_tell-requires-clause-of_depot : goal.fetch_and_tell-requires-clause-of_depot
 fetch_and_tell-requires-clause-of_depot g c =
     let first = c.args.lease.now in
     let then = c.offer.new.receiver in
     let last = c.hear_and_offer-pass.new.lease in
-    lent-on c.args.depot.now first last (same-then first then last (same-fetched first then c.offer.ensures.rest) c.hear_and_offer-pass.ensures.same)
+    lent-on c.args.shared.now.depot.now first last (same-then first then last (same-fetched first then c.offer.ensures.rest) c.hear_and_offer-pass.ensures.same)
     c.requires.of_depot
 
 pub returns-in-Ok-true-offered : goal.returns-in-Ok-true-offered
@@ -64,7 +56,6 @@ returns-in-Ok-true-offered g c =
     record {
       same = same-then first then heard.new.lease (same-fetched first then c.offer.ensures.rest) heard.ensures.same;
       stays = heard.ensures.stays;
-      spares = heard.ensures.spares;
       heard = heard.ensures.heard;
       wire = tt;
       seeds = refl {a = g.W.Wire.seeds c.args.wire.now};
@@ -80,7 +71,6 @@ returns-in-Ok-false-offered g c =
     record {
       same = same-then first heard.new.lease c.fetch_and_tell.new.lease same told.same;
       stays = stays-more c.args.pass heard.result.0 c.fetch_and_tell.result.0 heard.ensures.stays told.stays;
-      spares = spares-stays c.args.pass heard.result.0 c.fetch_and_tell.result.0 told.stays heard.ensures.spares told.spares;
       heard = heard.ensures.heard;
       wire = told.wire;
       seeds = told.seeds;
@@ -94,7 +84,6 @@ returns-in-Err-offered g c =
     record {
       same = same-then first then heard.new.lease (same-fetched first then c.offer.ensures.rest) heard.ensures.same;
       stays = heard.ensures.stays;
-      spares = heard.ensures.spares;
       heard = heard.ensures.heard;
       wire = lost-none g.W.Wire.streak c.args.wire.now;
       seeds = refl {a = g.W.Wire.seeds c.args.wire.now};

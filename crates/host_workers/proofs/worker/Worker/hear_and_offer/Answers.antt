@@ -1,11 +1,10 @@
-use Rattle.host_workers.proofs.Working.{heard-on, same-fetched, same-none, spares-none, stays-none}
+use Rattle.host_workers.proofs.Working.{heard-on, same-fetched, same-none, stays-none}
 use Rattle.host_workers.proofs.worker.Worker.hear_and_offer.Goals as goal
 
 pub returns-then-told-self : goal.returns-then-told-self
 returns-then-told-self g c = record {
   same = same-none c.args.lease.now;
   stays = stays-none c.args.pass;
-  spares = spares-none c.args.pass;
   heard = c.requires.heard;
 }
 
@@ -18,8 +17,7 @@ returns-then-is_err g c =
     record {
       same = same-none c.args.lease.now;
       stays = heard.stays;
-      spares = heard.spares;
-      heard = heard-on c.args.board.now c.args.depot.now c.args.self.now.hearing.heard c.listen-pass.new.self.heard c.requires.depot heard.heard c.requires.heard;
+      heard = heard-on c.args.shared.now.board.now c.args.shared.now.depot.now c.args.self.now.hearing.heard c.listen-pass.new.self.heard c.args.shared.now.of_board heard.heard c.requires.heard;
     }
 
 pub offer-offered-requires-clause-of_depot : goal.offer-offered-requires-clause-of_depot
@@ -27,7 +25,7 @@ offer-offered-requires-clause-of_depot g c = c.requires.of_depot
 
 pub offer-offered-requires-clause-heard : goal.offer-offered-requires-clause-heard
 offer-offered-requires-clause-heard g c =
-    heard-on c.args.board.now c.args.depot.now c.args.self.now.hearing.heard c.listen-pass.new.self.heard c.requires.depot c.listen-pass.ensures.heard
+    heard-on c.args.shared.now.board.now c.args.shared.now.depot.now c.args.self.now.hearing.heard c.listen-pass.new.self.heard c.args.shared.now.of_board c.listen-pass.ensures.heard
     c.requires.heard
 
 pub returns : goal.returns
@@ -36,6 +34,5 @@ returns g c =
     record {
       same = same-fetched c.args.lease.now c.offer-offered.new.receiver c.offer-offered.ensures.rest;
       stays = heard.stays;
-      spares = heard.spares;
-      heard = heard-on c.args.board.now c.args.depot.now c.args.self.now.hearing.heard c.listen-pass.new.self.heard c.requires.depot heard.heard c.requires.heard;
+      heard = heard-on c.args.shared.now.board.now c.args.shared.now.depot.now c.args.self.now.hearing.heard c.listen-pass.new.self.heard c.args.shared.now.of_board heard.heard c.requires.heard;
     }

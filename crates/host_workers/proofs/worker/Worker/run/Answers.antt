@@ -1,27 +1,22 @@
-use Rattle.std.proofs.Common.{◌≡◌, inr, IfErr, subst, ◌∙◌}
+use Rattle.std.proofs.Common.{◌≡◌, inr, IfErr, refl, subst, ◌∙◌}
 use Rattle.host_fetch.specs.declared.error.FetchError.TheVariants as fault
 use Rattle.host_workers.specs.Lost.{IsLost}
+use Rattle.host_workers.specs.Stages.{runs}
 use Rattle.host_workers.proofs.Working.{blames-given-up, holds-on, lent-of, spares-worked, stays-worked}
 use Rattle.host_workers.proofs.worker.Worker.run.Goals as goal
 
 pub run_on-pass-requires-clause-board : goal.run_on-pass-requires-clause-board
 run_on-pass-requires-clause-board g c = c.requires.board
 
-pub run_on-pass-requires-clause-depot : goal.run_on-pass-requires-clause-depot
-run_on-pass-requires-clause-depot g c = c.requires.depot
-
 pub run_on-pass-requires-clause-of_depot : goal.run_on-pass-requires-clause-of_depot
 run_on-pass-requires-clause-of_depot g c =
-    lent-of c.args.pass c.args.board.now c.args.depot.now c.args.lease c.requires.board c.requires.depot c.requires.one
+    lent-of c.args.pass c.args.shared.now.board.now c.args.shared.now.depot.now c.args.lease c.requires.board c.args.shared.now.of_board c.requires.one
 
 pub run_on-pass-requires-clause-heard : goal.run_on-pass-requires-clause-heard
 run_on-pass-requires-clause-heard g c = c.requires.heard
 
 pub spend-requires-clause-board : goal.spend-requires-clause-board
 spend-requires-clause-board g c = c.run_on-pass.ensures.stays.same_board ∙ c.requires.board
-
-pub spend-requires-clause-depot : goal.spend-requires-clause-depot
-spend-requires-clause-depot g c = c.requires.depot
 
 pub spend-requires-clause-one : goal.spend-requires-clause-one
 spend-requires-clause-one g c =
@@ -44,7 +39,7 @@ returns-in-Ok g c =
       worked = stays-worked c.args.pass ran.result.0 c.spend.result ran.ensures.stays spent.worked;
       none = spent.none;
       heard = ran.ensures.heard;
-      wire = λ by. inr (spares-worked c.args.pass ran.result.0 c.spend.result spent.worked ran.ensures.spares spent.spares by);
+      wire = λ by. inr (spares-worked c.args.pass ran.result.0 c.spend.result spent.worked ran.ensures.stays.spares spent.spares by);
       seeds = ran.ensures.seeds;
     }
 
@@ -52,12 +47,13 @@ pub returns-in-Err : goal.returns-in-Err
 returns-in-Err g c =
     let ran = c.run_on-pass in
     let gave = c.give_up.ensures in
+    let back = gave.worked runs refl in
     let lost = subst (λ r. IfErr r (λ e. e ≡ fault.Wire → IsLost g.W.Wire.streak ran.new.wire)) c.in-Err.is ran.ensures.wire in
     record {
-      worked = stays-worked c.args.pass ran.result.0 c.give_up.result ran.ensures.stays gave.worked;
+      worked = stays-worked c.args.pass ran.result.0 c.give_up.result ran.ensures.stays back;
       none = gave.none;
       heard = ran.ensures.heard;
       wire = blames-given-up g.W.Wire.streak ran.new.wire c.args.pass ran.result.0 c.give_up.result c.in-Err.error c.stop_for.result c.stop_for.ensures lost
-          ran.ensures.spares gave.worked gave.spares;
+          ran.ensures.stays.spares back gave.spares;
       seeds = ran.ensures.seeds;
     }

@@ -3,7 +3,7 @@ use Rattle.host_fetch.specs.declared.error.FetchError.TheVariants as fault
 use Rattle.host_fetch.specs.Heard.{AreHeardOf}
 use Rattle.host_workers.specs.Lost.{IsLost}
 use Rattle.host_workers.specs.declared.replies.Hearing.{Hearing}
-use Rattle.host_workers.proofs.Working.{lent-on, same-none, same-then, spares-none, spares-stays, stays-more, stays-none}
+use Rattle.host_workers.proofs.Working.{lent-on, same-none, same-then, stays-more, stays-none}
 use Rattle.host_workers.proofs.worker.Worker.run_on.Goals as goal
 
 pub loop-init : goal.loop-init
@@ -11,7 +11,6 @@ loop-init g c = record {
   goes = tt;
   ends = tt;
   stays = stays-none c.args.pass;
-  spares = spares-none c.args.pass;
   same = same-none c.args.lease.now;
   heard = c.requires.heard;
   seeds = refl {a = g.W.Wire.seeds c.args.wire.now};
@@ -20,11 +19,8 @@ loop-init g c = record {
 pub run_stretch-after-requires-clause-board : goal.run_stretch-after-requires-clause-board
 run_stretch-after-requires-clause-board g c = c.loop.invariant.stays.same_board ∙ c.requires.board
 
-pub run_stretch-after-requires-clause-depot : goal.run_stretch-after-requires-clause-depot
-run_stretch-after-requires-clause-depot g c = c.requires.depot
-
 pub run_stretch-after-requires-clause-of_depot : goal.run_stretch-after-requires-clause-of_depot
-run_stretch-after-requires-clause-of_depot g c = lent-on c.args.depot.now c.args.lease.now c.loop.lease c.loop.invariant.same c.requires.of_depot
+run_stretch-after-requires-clause-of_depot g c = lent-on c.args.shared.now.depot.now c.args.lease.now c.loop.lease c.loop.invariant.same c.requires.of_depot
 
 pub run_stretch-after-requires-clause-heard : goal.run_stretch-after-requires-clause-heard
 run_stretch-after-requires-clause-heard g c = c.loop.invariant.heard
@@ -36,7 +32,6 @@ returns-in-Ok g c =
     record {
       same = same-then c.args.lease.now c.loop.lease c.run_stretch-after.new.lease was.same e.same;
       stays = stays-more c.args.pass c.loop.pass c.run_stretch-after.result.0 was.stays e.stays;
-      spares = spares-stays c.args.pass c.loop.pass c.run_stretch-after.result.0 e.stays was.spares e.spares;
       heard = e.heard;
       wire = tt;
       seeds = e.seeds ∙ was.seeds;
@@ -49,7 +44,6 @@ returns-in-Err g c =
     record {
       same = same-then c.args.lease.now c.loop.lease c.run_stretch-after.new.lease was.same e.same;
       stays = stays-more c.args.pass c.loop.pass c.run_stretch-after.result.0 was.stays e.stays;
-      spares = spares-stays c.args.pass c.loop.pass c.run_stretch-after.result.0 e.stays was.spares e.spares;
       heard = e.heard;
       wire = subst (λ r. IfErr r (λ error. error ≡ fault.Wire → IsLost g.W.Wire.streak c.run_stretch-after.new.wire)) c.in-Err.is e.wire;
       seeds = e.seeds ∙ was.seeds;
@@ -62,8 +56,7 @@ returns-then-is_over g c =
     record {
       same = same-then c.args.lease.now c.loop.lease c.run_stretch-after.new.lease was.same e.same;
       stays = stays-more c.args.pass c.loop.pass c.run_stretch-after.result.0 was.stays e.stays;
-      spares = spares-stays c.args.pass c.loop.pass c.run_stretch-after.result.0 e.stays was.spares e.spares;
-      heard = subst (λ (h : Hearing). AreHeardOf c.args.depot.now h.heard) (sym c.look_up.ensures) e.heard;
+      heard = subst (λ (h : Hearing). AreHeardOf c.args.shared.now.depot.now h.heard) (sym c.look_up.ensures) e.heard;
       wire = tt;
       seeds = e.seeds ∙ was.seeds;
     }
@@ -76,8 +69,7 @@ loop-preserved g c =
       goes = tt;
       ends = tt;
       stays = stays-more c.args.pass c.loop.pass c.run_stretch-after.result.0 was.stays e.stays;
-      spares = spares-stays c.args.pass c.loop.pass c.run_stretch-after.result.0 e.stays was.spares e.spares;
       same = same-then c.args.lease.now c.loop.lease c.run_stretch-after.new.lease was.same e.same;
-      heard = subst (λ (h : Hearing). AreHeardOf c.args.depot.now h.heard) (sym c.look_up.ensures) e.heard;
+      heard = subst (λ (h : Hearing). AreHeardOf c.args.shared.now.depot.now h.heard) (sym c.look_up.ensures) e.heard;
       seeds = e.seeds ∙ was.seeds;
     }

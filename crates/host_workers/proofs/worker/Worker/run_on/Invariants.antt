@@ -1,7 +1,7 @@
 use Rattle.std.proofs.Common.{◌≡◌}
 use Rattle.host_fetch.specs.Heard.{AreHeardOf}
 use Rattle.world_core.specs.Lent.{IsSameLease}
-use Rattle.host_workers.specs.Stays.{Spares, Stays}
+use Rattle.host_workers.specs.Stays.{Stays}
 use Rattle.host_workers.proofs.worker.Worker.run_on.Given as goal
 
 abbrev pub invariant-loop : goal.invariant-loop
@@ -9,8 +9,7 @@ invariant-loop g l = record {
   goes : (goal.iterator-loop g).can_next l.iterator';
   ends : (goal.iterator-loop g).is_finite l.iterator';
   stays : Stays l.initial.pass l.pass;
-  spares : Spares l.initial.pass l.pass;
   same : IsSameLease l.initial.lease l.lease;
-  heard : AreHeardOf l.depot l.self.hearing.heard;
+  heard : AreHeardOf l.shared.depot.now l.self.hearing.heard;
   seeds : g.W.Wire.seeds l.wire ≡ g.W.Wire.seeds l.initial.wire;
 }

@@ -1,7 +1,7 @@
 use Rattle.std.proofs.Common.{◌≡◌, IfErr, refl, subst, ◌∙◌}
 use Rattle.host_fetch.specs.declared.error.FetchError.TheVariants as fault
 use Rattle.host_workers.specs.Lost.{IsLost}
-use Rattle.host_workers.proofs.Working.{lent-on, lost-none, same-none, same-then, spares-none, spares-stays, stays-more, stays-none}
+use Rattle.host_workers.proofs.Working.{lent-on, lost-none, same-none, same-then, stays-more, stays-none}
 use Rattle.host_workers.proofs.worker.Worker.run_stretch.Goals as goal
 
 pub loop-init : goal.loop-init
@@ -9,7 +9,6 @@ loop-init g c = record {
   goes = tt;
   ends = tt;
   stays = stays-none c.args.pass;
-  spares = spares-none c.args.pass;
   same = same-none c.args.lease.now;
   heard = c.requires.heard;
   seeds = refl {a = g.W.Wire.seeds c.args.wire.now};
@@ -21,7 +20,6 @@ returns-in_default g c =
     record {
       same = same-then c.args.lease.now c.loop.lease c.run.new.self was.same c.run.ensures.same;
       stays = was.stays;
-      spares = was.spares;
       heard = was.heard;
       wire = lost-none g.W.Wire.streak c.loop.wire;
       seeds = was.seeds;
@@ -33,7 +31,6 @@ returns-in_default-why g c =
     record {
       same = same-then c.args.lease.now c.loop.lease c.run.new.self was.same c.run.ensures.same;
       stays = was.stays;
-      spares = was.spares;
       heard = was.heard;
       wire = tt;
       seeds = was.seeds;
@@ -42,13 +39,10 @@ returns-in_default-why g c =
 pub bring-after-requires-clause-board : goal.bring-after-requires-clause-board
 bring-after-requires-clause-board g c = c.loop.invariant.stays.same_board ∙ c.requires.board
 
-pub bring-after-requires-clause-depot : goal.bring-after-requires-clause-depot
-bring-after-requires-clause-depot g c = c.requires.depot
-
 pub bring-after-requires-clause-of_depot : goal.bring-after-requires-clause-of_depot
 bring-after-requires-clause-of_depot g c =
     let same = same-then c.args.lease.now c.loop.lease c.run.new.self c.loop.invariant.same c.run.ensures.same in
-    lent-on c.args.depot.now c.args.lease.now c.run.new.self same c.requires.of_depot
+    lent-on c.args.shared.now.depot.now c.args.lease.now c.run.new.self same c.requires.of_depot
 
 pub bring-after-requires-clause-heard : goal.bring-after-requires-clause-heard
 bring-after-requires-clause-heard g c = c.loop.invariant.heard
@@ -61,7 +55,6 @@ returns-in-Err g c =
       same = same-then c.args.lease.now c.run.new.self c.bring-after.new.lease
           (same-then c.args.lease.now c.loop.lease c.run.new.self was.same c.run.ensures.same) e.same;
       stays = stays-more c.args.pass c.loop.pass c.bring-after.result.0 was.stays e.stays;
-      spares = spares-stays c.args.pass c.loop.pass c.bring-after.result.0 e.stays was.spares e.spares;
       heard = e.heard;
       wire = subst (λ r. IfErr r (λ error. error ≡ fault.Wire → IsLost g.W.Wire.streak c.bring-after.new.wire)) c.in-Err.is e.wire;
       seeds = e.seeds ∙ was.seeds;
@@ -75,7 +68,6 @@ loop-preserved g c =
       goes = tt;
       ends = tt;
       stays = stays-more c.args.pass c.loop.pass c.bring-after.result.0 was.stays e.stays;
-      spares = spares-stays c.args.pass c.loop.pass c.bring-after.result.0 e.stays was.spares e.spares;
       same = same-then c.args.lease.now c.run.new.self c.bring-after.new.lease
           (same-then c.args.lease.now c.loop.lease c.run.new.self was.same c.run.ensures.same) e.same;
       heard = e.heard;

@@ -7,8 +7,8 @@ use Rattle.world_core.specs.declared.world.Taken.TheVariants as taken
 use Rattle.fork_board.specs.Answers.{Takes}
 use Rattle.fork_board.specs.Notes.{taken_entry}
 use Rattle.fork_board.specs.Passes.{Makes}
-use Rattle.host_workers.specs.declared.finish.Finish.TheVariants.{Over, Stopped}
-use Rattle.host_workers.proofs.Ending.{done-last, ends-over, ends-stopped, taken-going}
+use Rattle.host_workers.specs.Stages.{done, free, runs, short}
+use Rattle.host_workers.proofs.Ending.{ends-over, ends-stopped, taken-going}
 use Rattle.host_workers.proofs.Working.{blames-worked, holds-taken, spares-halted, spares-taken, spares-worked, stopped-later, worked-more, worked-one}
 use Rattle.host_workers.proofs.worker.Worker.turn.Goals as goal
 
@@ -16,16 +16,13 @@ pub take-pass-requires-clause-board : goal.take-pass-requires-clause-board
 take-pass-requires-clause-board g c = c.requires.board
 
 pub take-pass-requires-clause-depot : goal.take-pass-requires-clause-depot
-take-pass-requires-clause-depot g c = c.requires.depot
+take-pass-requires-clause-depot g c = c.args.shared.now.of_board
 
 pub stop-requires : goal.stop-requires
 stop-requires g c = c.take-pass.ensures.makes.same_board ∙ c.requires.board
 
 pub run-requires-clause-board : goal.run-requires-clause-board
 run-requires-clause-board g c = c.take-pass.ensures.makes.same_board ∙ c.requires.board
-
-pub run-requires-clause-depot : goal.run-requires-clause-depot
-run-requires-clause-depot g c = c.requires.depot
 
 pub run-requires-clause-one : goal.run-requires-clause-one
 run-requires-clause-one g c =
@@ -43,10 +40,9 @@ returns-in-Over g c =
     let makes : Makes c.args.pass r.0 (taken_entry taken.Over) =
     subst (λ (t : Taken). Makes c.args.pass r.0 (taken_entry t)) c.in-Over.is e.makes in
     record {
-      worked = worked-one c.args.pass r.0 (taken_entry taken.Over) makes;
+      worked = worked-one {a = free} {b = done} c.args.pass r.0 (taken_entry taken.Over) makes (refl, refl);
       none = λ name. makes.free name (c.requires.none name);
       turns = ends-over c.args.pass r.0 makes;
-      done = done-last c.args.pass r.0 Over makes;
       heard = c.requires.heard;
       wire = λ by. inr (spares-taken c.args.pass r.0 r.1 e.makes by);
       stopped = λ was. refl {a = c.args.wire.now};
@@ -60,10 +56,9 @@ returns-in-Stopped g c =
     let makes : Makes c.args.pass r.0 (taken_entry (taken.Stopped c.in-Stopped.reason)) =
     subst (λ (t : Taken). Makes c.args.pass r.0 (taken_entry t)) c.in-Stopped.is e.makes in
     record {
-      worked = worked-one c.args.pass r.0 (taken_entry (taken.Stopped c.in-Stopped.reason)) makes;
+      worked = worked-one {a = free} {b = done} c.args.pass r.0 (taken_entry (taken.Stopped c.in-Stopped.reason)) makes (refl, refl);
       none = λ name. makes.free name (c.requires.none name);
       turns = ends-stopped c.args.pass r.0 c.in-Stopped.reason makes;
-      done = done-last c.args.pass r.0 (Stopped c.in-Stopped.reason) makes;
       heard = c.requires.heard;
       wire = λ by. inr (spares-taken c.args.pass r.0 r.1 e.makes by);
       stopped = λ was. refl {a = c.args.wire.now};
@@ -77,10 +72,9 @@ returns-in-Idle g c =
     let makes : Makes c.args.pass r.0 (taken_entry taken.Idle) =
     subst (λ (t : Taken). Makes c.args.pass r.0 (taken_entry t)) c.in-Idle.is e.makes in
     record {
-      worked = worked-one c.args.pass r.0 (taken_entry taken.Idle) makes;
+      worked = worked-one {a = free} {b = free} c.args.pass r.0 (taken_entry taken.Idle) makes (refl, refl);
       none = λ name. makes.free name (c.requires.none name);
       turns = tt;
-      done = tt;
       heard = c.requires.heard;
       wire = λ by. inr (spares-taken c.args.pass r.0 r.1 e.makes by);
       stopped = λ was. refl {a = c.args.wire.now};
@@ -95,12 +89,11 @@ returns-in-Memory g c =
     let stops = c.stop.ensures in
     let makes : Makes c.args.pass r.0 (taken_entry taken.Memory) =
     subst (λ (t : Taken). Makes c.args.pass r.0 (taken_entry t)) c.in-Memory.is e.makes in
-    let stopped = worked-one r.0 new (row (halted reason.Memory)) stops in
+    let stopped = worked-one {a = short} {b = free} r.0 new (row (halted reason.Memory)) stops (refl, refl) in
     record {
-      worked = worked-more c.args.pass r.0 new (worked-one c.args.pass r.0 (taken_entry taken.Memory) makes) stopped;
+      worked = worked-more c.args.pass r.0 new (worked-one {a = free} {b = short} c.args.pass r.0 (taken_entry taken.Memory) makes (refl, refl)) stopped;
       none = λ name. stops.free name (makes.free name (c.requires.none name));
       turns = tt;
-      done = tt;
       heard = c.requires.heard;
       wire = λ by. inr (spares-worked c.args.pass r.0 new stopped (spares-taken c.args.pass r.0 r.1 e.makes)
           (spares-halted r.0 new reason.Memory stops (λ same. let no : reason.Memory ≡ reason.Wire = same in cc)) by);
@@ -116,12 +109,11 @@ returns-in-Took g c =
     let ran = c.run.ensures in
     let makes : Makes c.args.pass r.0 (row (took lease.name)) =
     subst (λ (t : Taken). Makes c.args.pass r.0 (taken_entry t)) c.in-Took.is e.makes in
-    let work = worked-one c.args.pass r.0 (row (took lease.name)) makes in
+    let work = worked-one {a = free} {b = runs} c.args.pass r.0 (row (took lease.name)) makes (refl, refl) in
     record {
       worked = worked-more c.args.pass r.0 c.run.result work ran.worked;
       none = ran.none;
       turns = tt;
-      done = tt;
       heard = ran.heard;
       wire = blames-worked g.W.Wire.streak c.run.new.wire c.args.pass r.0 c.run.result ran.worked (spares-taken c.args.pass r.0 r.1 e.makes) ran.wire;
       stopped = λ was.

@@ -17,5 +17,5 @@ load-tells c =
       at_most = at_most-Loads (found old name) c.args.at_most c.result c.ensures.loads;
       too_long = too_long-Loads listed file c.args.at_most c.result c.ensures.loads;
       fault = fault-Loads (found old name) c.args.at_most c.result old c.new.self.now c.ensures.loads c.ensures.after;
-      asked = asked-Loads (found old name) c.args.at_most c.result old c.new.self.now c.ensures.loads c.ensures.after;
+      asked = asked-Loads name (found old name) c.args.at_most c.result old c.new.self.now c.ensures.loads c.ensures.after;
     }

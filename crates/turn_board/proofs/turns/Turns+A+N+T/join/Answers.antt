@@ -3,7 +3,7 @@ use Rattle.turn_board.proofs.Moves.{joins, learns}
 use Rattle.turn_board.proofs.turns.Turns+A+N+T.join.Goals as goal
 
 pub join_seat-requires : goal.join_seat-requires
-join_seat-requires g c = let other = c.requires.other in (c.requires.seat.here, other.here, other.empty, search rules, joins g.T.Kept.stands _ _ _ _ _ other.undrawn other.idle)
+join_seat-requires g c = let other = c.requires.other in (c.requires.seat.here, other.here, other.empty, search rules, joins g.T.Kept.stands _ _ _ _ _ other.knows other.undrawn other.idle)
 
 pub load-requires : goal.load-requires
 load-requires g c =

@@ -1,0 +1,4 @@
+pub mod Views
+pub mod Bits
+pub mod Moves
+pub mod Calls

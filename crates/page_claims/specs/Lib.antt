@@ -1,0 +1,5 @@
+pub mod Bits
+pub mod Values
+pub mod Rule
+pub mod Steps
+pub mod Calls

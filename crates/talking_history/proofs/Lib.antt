@@ -1,0 +1,14 @@
+pub mod Spots
+pub mod Ends
+pub mod Histories
+pub mod Changes
+pub mod Gone
+pub mod Leases
+pub mod Names
+pub mod Stuck
+pub mod Turned
+pub mod Turns
+pub mod Seen
+pub mod Waiting
+pub mod Stays
+pub mod CameBack

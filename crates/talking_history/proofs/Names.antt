@@ -1,0 +1,152 @@
+-- A machine that has left the tree does not come back, over histories.
+use Rattle.std.proofs.Common.{◌≡◌, ℕ, zero, suc, refl, sym, ap, ◌∙◌, [], ◌∷◌, ◌++◌, Option, Some, None, IsSome}
+use Rattle.forest_tree.specs.Operations.{Operations, IsMachine}
+use Rattle.forest_tree.specs.Tree.{Tree, machine, Path, subtree}
+use Rattle.forest_tree.specs.Sound.{IsSound}
+use Rattle.sibling_forest.specs.Talk.{Talks, Box, IsTalking}
+use Rattle.sibling_forest.specs.Settle.{settle_all}
+use Rattle.forest_history.specs.Places.{at_path, Place, out, Spot, spots}
+use Rattle.forest_history.specs.Histories.{Seat}
+use Rattle.forest_history.proofs.Spots.{machine-spots}
+use Rattle.talking_history.specs.Places.{placed, spot_talks, boxes}
+use Rattle.talking_history.specs.World.{World}
+use Rattle.talking_history.specs.Rows.{Row, over, stopped, stuck, idle, took, nothing, spent, dropped, kept, halted, back, made, run_at, does}
+use Rattle.talking_history.specs.Histories.{Entry, row, told, heard, mute, deaf, History, Record, record_of, record_after, replay}
+use Rattle.talking_history.proofs.Spots.{machine-placed, talking-spots}
+use Rattle.talking_history.proofs.Histories.{after-sound, replay-append, replay-sound}
+use Rattle.talking_history.proofs.Gone.{path-seen, gone-none}
+use Rattle.talking_history.proofs.Leases.{none-seen, gone-stays, lost-goes, all, Gone, placed-below, put-gone, step_of, step-sound}
+
+module _ {M E : Type 0} (o : Operations M E) (k : Talks M) (rules : IsMachine o) (talking : IsTalking o k) where
+  abbrev IsLost : Path → Tree (Box (Spot M)) → Type 0
+  IsLost name t = Gone o k rules talking name t
+
+  step-gone : (name other : Path) (t : Tree (Box (Spot M))) → IsSound (boxes o k) t → IsLost name t → IsLost name (step_of o k rules talking other t)
+  step-gone name other t h gone =
+      gone-stays (spots o) (spot_talks k) (machine-spots o rules) (talking-spots o k talking) (all o k rules talking) name other t h gone
+
+  pub run-gone : (name other : Path) (n : ℕ) (t : Tree (Box (Spot M))) → IsSound (boxes o k) t → IsLost name t → IsLost name (run_at o k other n t)
+  unfolding settle_all
+  run-gone name other zero t h gone = gone
+  run-gone name other (suc n) t h gone =
+      run-gone name other n (step_of o k rules talking other t) (step-sound o k rules talking other t h) (step-gone name other t h gone)
+
+  run-lost : (name other : Path) (n : ℕ) (t a : Tree (Box (Spot M))) → IsSound (boxes o k) t → subtree name t ≡ Some a
+      → subtree name (run_at o k other n t) ≡ None → IsLost name (run_at o k other n t)
+  unfolding settle_all
+  run-lost name other zero t a h here there = let no : None ≡ Some a = sym there ∙ here in absurd (cc)
+  run-lost name other (suc n) t a h here there =
+      by (subtree name (step_of o k rules talking other t)) refl
+      (λ b found. run-lost name other n (step_of o k rules talking other t) b (step-sound o k rules talking other t h) found there)
+    where
+      by : (c : Option (Tree (Box (Spot M)))) → subtree name (step_of o k rules talking other t) ≡ c
+          → ((b : Tree (Box (Spot M))) → subtree name (step_of o k rules talking other t) ≡ Some b → IsLost name (run_at o k other n (step_of o k rules talking other t)))
+          → IsLost name (run_at o k other n (step_of o k rules talking other t))
+      by None e down =
+          run-gone name other n (step_of o k rules talking other t) (step-sound o k rules talking other t h)
+          (lost-goes (spots o) (spot_talks k) (machine-spots o rules) (talking-spots o k talking) (all o k rules talking) name other t a h here e)
+      by (Some b) e down = down b e
+
+  put-none : (place : Place) (name other : Path) (t : Tree (Box (Spot M))) → subtree name (at_path (placed place) other t) ≡ None → subtree name t ≡ None
+  put-none place name other t none =
+      none-seen o k (λ (u : Tree (Box (Spot M))). (machine u).machine.machine) (subtree name (at_path (placed place) other t)) (subtree name t)
+      (path-seen (λ (b : Box (Spot M)). b.machine.machine) (placed place) (λ u. placed-below o k rules talking place u) other name t
+      (λ same u. ap (λ (s : Spot M). s.machine) (machine-placed place u))) none
+
+  -- the rows
+  row-gone : {R : Type 0} (name : Path) (x : Row R) (w : World M R) → IsSound (boxes o k) w.tree → IsLost name w.tree → IsLost name (does o k x w).tree
+  unfolding does
+  row-gone name over w h gone = gone
+  row-gone name (stopped r) w h gone = gone
+  row-gone name stuck w h gone = gone
+  row-gone name idle w h gone = gone
+  row-gone name (took other) w h gone = put-gone o k rules talking out name other w.tree gone
+  row-gone name nothing w h gone = gone
+  row-gone name (spent how other n) w h gone =
+      put-gone o k rules talking (back how) name other (run_at o k other (made how n) w.tree) (run-gone name other (made how n) w.tree h gone)
+  row-gone name (dropped other) w h gone = gone
+  row-gone name (kept other n) w h gone = gone
+  row-gone name (halted r) w h gone = gone
+
+  still-there : {A : Type 0} (c : Option A) (a : A) → c ≡ Some a → c ≡ None → ⊥
+  still-there c a here none = let no : None ≡ Some a = sym none ∙ here in cc
+
+  row-lost : {R : Type 0} (name : Path) (x : Row R) (w : World M R) (a : Tree (Box (Spot M))) → IsSound (boxes o k) w.tree → subtree name w.tree ≡ Some a
+      → subtree name (does o k x w).tree ≡ None → IsLost name (does o k x w).tree
+  unfolding does
+  row-lost name over w a h here there = absurd (still-there (subtree name w.tree) a here there)
+  row-lost name (stopped r) w a h here there = absurd (still-there (subtree name w.tree) a here there)
+  row-lost name stuck w a h here there = absurd (still-there (subtree name w.tree) a here there)
+  row-lost name idle w a h here there = absurd (still-there (subtree name w.tree) a here there)
+  row-lost name (took other) w a h here there = absurd (still-there (subtree name w.tree) a here (put-none out name other w.tree there))
+  row-lost name nothing w a h here there = absurd (still-there (subtree name w.tree) a here there)
+  row-lost name (spent how other n) w a h here there =
+      let u : Tree (Box (Spot M)) = run_at o k other (made how n) w.tree in
+      put-gone o k rules talking (back how) name other u (run-lost name other (made how n) w.tree a h here (put-none (back how) name other u there))
+  row-lost name (dropped other) w a h here there = absurd (still-there (subtree name w.tree) a here there)
+  row-lost name (kept other n) w a h here there = absurd (still-there (subtree name w.tree) a here there)
+  row-lost name (halted r) w a h here there = absurd (still-there (subtree name w.tree) a here there)
+
+  after-gone : {R : Type 0} (name : Path) (seat : Seat) (entry : Entry R) (r : Record M R) → IsSound (boxes o k) r.world.tree → IsLost name r.world.tree
+      → IsLost name (record_after o k seat entry r).world.tree
+  unfolding record_after
+  after-gone name seat (row x) r h gone = row-gone name x r.world h gone
+  after-gone name seat (told image page) r h gone = gone
+  after-gone name seat (heard place) r h gone = gone
+  after-gone name seat mute r h gone = gone
+  after-gone name seat (deaf place) r h gone = gone
+
+  after-lost : {R : Type 0} (name : Path) (seat : Seat) (entry : Entry R) (r : Record M R) (a : Tree (Box (Spot M))) → IsSound (boxes o k) r.world.tree
+      → subtree name r.world.tree ≡ Some a → subtree name (record_after o k seat entry r).world.tree ≡ None
+      → IsLost name (record_after o k seat entry r).world.tree
+  unfolding record_after
+  after-lost name seat (row x) r a h here there = row-lost name x r.world a h here there
+  after-lost name seat (told image page) r a h here there = absurd (still-there (subtree name r.world.tree) a here there)
+  after-lost name seat (heard place) r a h here there = absurd (still-there (subtree name r.world.tree) a here there)
+  after-lost name seat mute r a h here there = absurd (still-there (subtree name r.world.tree) a here there)
+  after-lost name seat (deaf place) r a h here there = absurd (still-there (subtree name r.world.tree) a here there)
+
+  -- and histories
+  replay-gone : {R : Type 0} (name : Path) (history : History R) (r : Record M R) → IsSound (boxes o k) r.world.tree → IsLost name r.world.tree
+      → IsLost name (replay o k history r).world.tree
+  unfolding replay
+  replay-gone name [] r h gone = gone
+  replay-gone name (e ∷ rest) r h gone =
+      replay-gone name rest (record_after o k e.0 e.1 r) (after-sound o k rules talking e.0 e.1 r h) (after-gone name e.0 e.1 r h gone)
+
+  replay-lost : {R : Type 0} (name : Path) (history : History R) (r : Record M R) (a : Tree (Box (Spot M))) → IsSound (boxes o k) r.world.tree
+      → subtree name r.world.tree ≡ Some a → subtree name (replay o k history r).world.tree ≡ None → IsLost name (replay o k history r).world.tree
+  unfolding replay
+  replay-lost name [] r a h here there = absurd (still-there (subtree name r.world.tree) a here there)
+  replay-lost {R} name (e ∷ rest) r a h here there =
+      by (subtree name (record_after o k e.0 e.1 r).world.tree) refl
+      (λ b found. replay-lost name rest (record_after o k e.0 e.1 r) b (after-sound o k rules talking e.0 e.1 r h) found there)
+    where
+      by : (c : Option (Tree (Box (Spot M)))) → subtree name (record_after o k e.0 e.1 r).world.tree ≡ c
+          → ((b : Tree (Box (Spot M))) → subtree name (record_after o k e.0 e.1 r).world.tree ≡ Some b
+          → IsLost name (replay o k rest (record_after o k e.0 e.1 r)).world.tree)
+          → IsLost name (replay o k rest (record_after o k e.0 e.1 r)).world.tree
+      by None none down =
+          replay-gone name rest (record_after o k e.0 e.1 r) (after-sound o k rules talking e.0 e.1 r h) (after-lost name e.0 e.1 r a h here none)
+      by (Some b) found down = down b found
+
+  left-for-good : {R : Type 0} (name : Path) (between more : History R) (r : Record M R) → IsSound (boxes o k) r.world.tree
+      → (c : Option (Tree (Box (Spot M)))) → subtree name r.world.tree ≡ c → IsSome c → subtree name (replay o k between r).world.tree ≡ None
+      → subtree name (replay o k more (replay o k between r)).world.tree ≡ None
+  left-for-good name between more r h None here there gone = absurd (cc)
+  left-for-good name between more r h (Some a) here there gone =
+      gone-none (boxes o k) (all o k rules talking) name (replay o k more (replay o k between r)).world.tree
+      (replay-gone name more (replay o k between r) (replay-sound o k rules talking between r h) (replay-lost name between r a h here gone))
+
+  pub gone-for-good : {R : Type 0} (name : Path) (before between more : History R) (w : World M R) → IsSound (boxes o k) w.tree
+      → IsSome (subtree name (replay o k before (record_of w)).world.tree)
+      → subtree name (replay o k (before ++ between) (record_of w)).world.tree ≡ None
+      → subtree name (replay o k (before ++ (between ++ more)) (record_of w)).world.tree ≡ None
+  gone-for-good {R} name before between more w h there gone =
+      let r : Record M R = replay o k before (record_of w) in
+      let mid : replay o k (before ++ between) (record_of w) ≡ replay o k between r = replay-append o k before between (record_of w) in
+      let later : replay o k (before ++ (between ++ more)) (record_of w) ≡ replay o k more (replay o k between r) =
+      replay-append o k before (between ++ more) (record_of w) ∙ replay-append o k between more r in
+      ap (λ (s : Record M R). subtree name s.world.tree) later
+      ∙ left-for-good name between more r (replay-sound o k rules talking before (record_of w) h) (subtree name r.world.tree) refl there
+      (ap (λ (s : Record M R). subtree name s.world.tree) (sym mid) ∙ gone)

@@ -1,0 +1,9 @@
+-- Worlds of machines with more inside, seen as worlds of machines with less.
+use Rattle.forest_tree.specs.Projection.{map_tree}
+use Rattle.sibling_forest.specs.Laws.{box_of}
+use Rattle.forest_history.specs.Seen.{spot_seen}
+use Rattle.talking_history.specs.World.{World}
+
+-- the world with f of each machine
+abbrev pub seen : {M N R : Type 0} → (M → N) → World M R → World N R
+seen f w = record { tree = map_tree (box_of (spot_seen f)) w.tree; halted = w.halted }
