@@ -3,8 +3,11 @@ pub mod Loads
 pub mod OneSegment
 pub mod Order
 pub mod Overlap
+pub mod Parts
+pub mod PutSoFar
 pub mod Placing
 pub mod RamBytes
 pub mod RamPages
 pub mod Rules
+pub mod SoFar
 pub mod Words

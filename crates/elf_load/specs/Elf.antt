@@ -1,7 +1,7 @@
 -- Which files are loaded, and what loading one gives: ELF executables for RV32.
 -- System V gABI, "ELF Header" and "Program Header"; RISC-V ELF psABI, "File Header"
 use Rattle.std.specs.Prelude.{◌≡◌, ℕ, ◌+◌, ◌-◌, ◌*◌, ◌%◌, ◌<◌, ◌≤◌, ◌==◌, Bool, true, false, not, ◌&&◌, ◌||◌, nat_eq, nat_lt, nat_le, max, min, if◌then◌else◌, List, [], ◌∷◌, ◌++◌, length, map, filter, slice_index, Option, Some, None, Result, Ok, Err, ⊤}
-use Rattle.std.specs.List.{list_any, range_with_len, starts_with}
+use Rattle.std.specs.List.{list_any, range_with_len, slice_range, starts_with}
 use Rattle.flat_memory.specs.Flat.{half_at, word_at}
 use Rattle.elf_load.specs.Image.{Image}
 use Rattle.elf_load.specs.declared.error.ImageError.{ImageError}
@@ -198,6 +198,10 @@ byte_at file (s ∷ others) address = if covers s address then segment_byte file
 
 unfoldable pub ram_of : List ℕ → List Segment → ℕ → List ℕ
 ram_of file placed pages = map (λ at. byte_at file placed (RAM_BASE + at)) (range_with_len 0 (PAGE_SIZE * pages))
+
+-- those of some bytes that fall in a page of RAM, where they begin at a place of it
+abbrev pub part_in : ℕ → ℕ → List ℕ → List ℕ
+part_in page start content = slice_range content (min (PAGE_SIZE * page - start) (length content)) (min (PAGE_SIZE * page + PAGE_SIZE - start) (length content))
 
 -- whether a byte of a segment falls in a page of RAM
 abbrev pub touches : ℕ → Segment → Bool

@@ -1,6 +1,8 @@
-ghost use Rattle.std.specs.Prelude.{◌≡◌, ◌+◌, ◌*◌, ◌%◌, ◌<◌, ◌≤◌, length};
-ghost use Rattle.elf_load.specs.Image.{IsZeroOutside};
+ghost use Rattle.std.specs.Prelude.{◌≡◌, ◌+◌, ◌*◌, ◌%◌, ◌<◌, ◌≤◌, [], length};
+ghost use Rattle.page_frames.specs.Tables.{laid_over};
+ghost use Rattle.elf_load.specs.Image.{IsWhole, held_pages};
 
+use page_frames::PageTable;
 use std::marker::Model;
 
 /// The address of the first byte of RAM.
@@ -12,38 +14,39 @@ pub const PAGE_SIZE: usize = 4096;
 /// The fewest pages that RAM has.
 pub const MIN_PAGES: u32 = 16;
 
-/// The most pages that RAM has.
-pub const MAX_PAGES: u32 = 1024;
+/// The most pages that RAM has. They end far below 2^32.
+pub const MAX_PAGES: u32 = 16_384;
 
 /// What an image puts into a machine: the bytes of RAM from `RAM_BASE` on, the address of the first
-/// instruction, and for each page of RAM whether a byte of a segment falls in it.
+/// instruction, and for each page of RAM whether a byte of a segment falls in it. It takes memory for these pages alone.
 #[derive(Drop)]
 pub struct Loaded {
-    pub(crate) ram: Vec<u8>,
+    /// These pages are held, and the others are blank.
+    pub(crate) table: PageTable,
     pub(crate) entry: u32,
-    pub(crate) segments: Vec<bool>,
 }
 
 impl Model for Loaded {
-    ghost use Rattle.elf_load.specs.Image.{Image, IsImage};
+    ghost use Rattle.elf_load.specs.Image.{Image, IsImage, IsWhole, image_in};
 
     ghost Value = { Image };
 
-    ghost view = { λ l. record { ram = l.ram.items; entry = l.entry; segments = l.segments.items } };
+    ghost view = { λ l. image_in l.table l.entry };
 
-    ghost invariant = { λ l. IsImage (record { ram = l.ram.items; entry = l.entry; segments = l.segments.items }) };
+    ghost invariant = { λ l. IsWhole l.table × IsImage (image_in l.table l.entry) };
 }
 
 impl Loaded {
-    /// The bytes of RAM, in whole pages.
+    /// The page table of RAM. The pages in which a byte of a segment falls are held, and the others are blank.
     #[inline]
-    pub fn ram(&self) -> &[u8]
-        ensures value { result.now ≡ self.now.ram }
-        ensures whole_pages { length self.now.ram % PAGE_SIZE ≡ 0 }
-        ensures least { PAGE_SIZE * MIN_PAGES ≤ length self.now.ram }
-        ensures most { length self.now.ram ≤ PAGE_SIZE * MAX_PAGES }
+    pub fn table(&self) -> &PageTable
+        ensures ram { laid_over result.now [] ≡ self.now.ram }
+        ensures segments { held_pages result.now ≡ self.now.segments }
+        ensures whole { IsWhole result.now }
+        ensures least { MIN_PAGES ≤ length result.now }
+        ensures most { length result.now ≤ MAX_PAGES }
     {
-        &self.ram
+        &self.table
     }
 
     /// The address of the first instruction, which is in RAM.
@@ -64,16 +67,6 @@ impl Loaded {
         ensures least { MIN_PAGES ≤ result }
         ensures most { result ≤ MAX_PAGES }
     {
-        self.segments.len() as u32
-    }
-
-    /// For each page, whether a byte of a segment falls in it. The other pages are zeros.
-    #[inline]
-    pub fn segments(&self) -> &[bool]
-        ensures value { result.now ≡ self.now.segments }
-        ensures one_a_page { PAGE_SIZE * length self.now.segments ≡ length self.now.ram }
-        ensures zero_outside { IsZeroOutside self.now.segments self.now.ram }
-    {
-        &self.segments
+        self.table.len() as u32
     }
 }

@@ -7,7 +7,7 @@ ghost use Rattle.elf_load.specs.OneSegment.{elf_of, bytes_of_words, words_of, im
 use crate::error::ImageError;
 use crate::header::Header;
 use crate::image::{Loaded, MAX_PAGES, MIN_PAGES, PAGE_SIZE, RAM_BASE};
-use crate::memory::{pages_of, ram_of};
+use crate::memory::table_of;
 use crate::segment::{Segment, segments_by_address};
 use std::alloc::{AllocError, Global};
 
@@ -49,9 +49,8 @@ fn place(
     }) }
 {
     Ok(Loaded {
-        ram: ram_of(alloc, bytes, segments, pages)?,
+        table: table_of(alloc, bytes, segments, pages)?,
         entry,
-        segments: pages_of(alloc, segments, pages)?,
     })
 }
 

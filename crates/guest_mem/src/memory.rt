@@ -6,10 +6,10 @@ ghost use Rattle.guest_mem.specs.Ram.{IsAbsent, IsHere, IsRam, IsRamOf, at_boot,
 ghost use Rattle.guest_mem.specs.Answers.{IsRefused};
 
 use crate::answers::{Absent, StoreError};
-use crate::table::{blank_flags, boot_table, write_page};
+use crate::table::blank_flags;
 use elf_load::{Loaded, MAX_PAGES, MIN_PAGES};
 use image_depot::{Depot, ImageKey};
-use page_frames::{Entry, PAGE_SIZE, Page, PageTable};
+use page_frames::{Entry, PAGE_SIZE, Page, PageTable, write_page};
 use std::alloc::{AllocError, Global};
 use std::marker::Model;
 use vm_descriptor::PageMap;
@@ -39,12 +39,13 @@ impl Model for GuestMem {
 }
 
 impl GuestMem {
-    /// The RAM of an image that is booted. A page in which no byte of a segment falls takes no memory.
-    pub fn booted(alloc: Global, image: &Loaded) -> Result<GuestMem, AllocError>
+    /// The RAM of an image that is booted. It shares the pages of the image, and costs one handle a leaf. A page in
+    /// which no byte of a segment falls takes no memory.
+    pub fn booted(image: &Loaded) -> Result<GuestMem, AllocError>
         ensures { IfOk result (λ memory. memory ≡ at_boot image.now) }
     {
         Ok(GuestMem {
-            entries: boot_table(alloc, image.ram(), image.segments())?,
+            entries: image.table().share()?,
             key: None,
         })
     }

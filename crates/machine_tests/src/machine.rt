@@ -244,7 +244,7 @@ fn ends_of_both<R: Abort + Wait>(
 
 /// Bytes of the descriptor of the first child, by their places.
 static FIRST_CHILD: [(usize, &[u8]); 10] = [
-    (0, b"SFD1"),
+    (0, b"SFD2"),
     (12, b"\x01\0\0\0\0\0\0\0\x28\0\0\x80"),
     (40, b"\0\x20\0\x10\x02\0\0\0\x01\0\0\0"),
     (148, b"\0\x18\0\0"),
@@ -253,21 +253,21 @@ static FIRST_CHILD: [(usize, &[u8]); 10] = [
     (224, b"\0\0\0\0\0\0\0\0"),
     (248, b"\x01\0\0\0"),
     (260, b"\x02\0\0\0"),
-    (776, b"\xfe\xff"),
+    (776, b"\0\xfe\xff"),
 ];
 
 /// How long those bytes are and an 0xff behind them are cut, a byte at a place, and the reason for which they are refused
 /// then.
 static REFUSED: [(usize, usize, u8, u32); 9] = [
     (775, 0, b'S', 1),
-    (777, 0, b'S', 4),
-    (778, 0, 0, 2),
-    (778, 8, 0x0f, 3),
-    (778, 8, 0x11, 4),
-    (778, 12, 0, 5),
-    (778, 20, 0x29, 5),
-    (779, 0, b'S', 4),
-    (779, 8, 20, 6),
+    (778, 0, b'S', 4),
+    (779, 0, 0, 2),
+    (779, 8, 0x0f, 3),
+    (779, 8, 0x11, 4),
+    (779, 12, 0, 5),
+    (779, 20, 0x29, 5),
+    (780, 0, b'S', 4),
+    (780, 8, 20, 6),
 ];
 
 // The reason for which bytes are refused, if they are.
@@ -295,7 +295,7 @@ fn describes_a_child<R: Abort + Wait>(rt: &R, alloc: Global, vm: &mut Vm, depot:
 }
 
 fn is_read_or_refused(rt: &impl Abort, alloc: Global, bytes: &[u8]) {
-    are_equal(rt, &(bytes.len(), misplaced(bytes)), &(778, None));
+    are_equal(rt, &(bytes.len(), misplaced(bytes)), &(779, None));
     is_spelled(rt, alloc, bytes);
     for (length, at, byte, number) in REFUSED.iter() {
         is_refused(rt, alloc, bytes, (*length, *at, *byte), *number);

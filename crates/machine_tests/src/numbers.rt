@@ -41,7 +41,7 @@ static CAUSES: [(u32, u32); 10] = [
 /// page and the greatest place of a line of a script.
 static LIMITS: [(u32, u32); 7] = [
     (MIN_PAGES, 16),
-    (MAX_PAGES, 1024),
+    (MAX_PAGES, 16_384),
     (MAX_CLONES, 4096),
     (MAX_SHARE, 4095),
     (MAX_STEPS, 1_000_000_000),

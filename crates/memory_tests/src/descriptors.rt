@@ -1,5 +1,5 @@
-//! Descriptors: that calls succeed, where each field stands in the bytes, and bytes for each reason why
-//! there are none.
+//! Descriptors: that calls succeed, where each field stands in the bytes of each version, how maps are spelled, and bytes
+//! for each reason why there are none.
 
 use crate::changes::changed;
 use crate::equal::{are_equal, made};
@@ -140,8 +140,8 @@ fn numbered(rt: &impl Abort, alloc: Global) -> Descriptor {
 }
 
 /// Bytes of the first child, by their places.
-static FIRST_CHILD: [(usize, &[u8]); 11] = [
-    (0, b"SFD1\0\0\0\0\x10\0\0\0"),
+static FIRST_CHILD: [(usize, &[u8]); 10] = [
+    (4, b"\0\0\0\0\x10\0\0\0"),
     (12, b"\x01\0\0\0\0\0\0\0\x28\0\0\x80"),
     (40, b"\0\x20\0\x10\x02\0\0\0\x01\0\0\0"),
     (148, b"\0\x18\0\0\0\0\0\0"),
@@ -154,12 +154,16 @@ static FIRST_CHILD: [(usize, &[u8]); 11] = [
     (224, b"\0\0\0\0\0\0\0\0"),
     (248, b"\x01\0\0\0\0\0\0\0"),
     (260, b"\x02\0\0\0"),
-    (776, b"\xfe\xff"),
 ];
 
+/// Its mark and its map in the newest version, and in the first.
+static FIRST_CHILD_NEW: [(usize, &[u8]); 2] = [(0, b"SFD2"), (776, b"\0\xfe\xff")];
+
+static FIRST_CHILD_OLD: [(usize, &[u8]); 2] = [(0, b"SFD1"), (776, b"\xfe\xff")];
+
 /// Bytes of the descriptor whose fields all differ, by their places.
-static NUMBERED: [(usize, &[u8]); 24] = [
-    (0, b"SFD1\x01\x01\x01\x04"),
+static NUMBERED: [(usize, &[u8]); 22] = [
+    (4, b"\x01\x01\x01\x04"),
     (8, b"\x14\0\0\0\x0b\x0a\0\0"),
     (16, b"\x0d\x0c\0\0\x34\x12\0\x80"),
     (24, b"\x01\0\0\x01\x02\0\0\x01"),
@@ -181,9 +185,12 @@ static NUMBERED: [(usize, &[u8]); 24] = [
     (256, b"\x04\x01\x01\x05\x05\x01\x01\x05"),
     (264, b"\xb1\0\0\0"),
     (772, b"\0\0\0\xb2"),
-    (776, b"\x01\0\x08"),
-    (779, b""),
 ];
+
+/// Its mark and its map in the newest version, and in the first.
+static NUMBERED_NEW: [(usize, &[u8]); 2] = [(0, b"SFD2"), (776, b"\0\x01\0\x08")];
+
+static NUMBERED_OLD: [(usize, &[u8]); 2] = [(0, b"SFD1"), (776, b"\x01\0\x08")];
 
 /// The first place at which bytes do not stand as a table tells, if there is one.
 fn misplaced(bytes: &[u8], rows: &[(usize, &[u8])]) -> Option<usize> {
@@ -200,53 +207,89 @@ fn stands_at(bytes: &[u8], at: usize, part: &[u8]) -> bool {
     bytes.split_at(at.min(bytes.len())).1.starts_with(part)
 }
 
-/// The bytes of a descriptor that is in range.
-fn bytes_in_range(alloc: Global, descriptor: &Descriptor) -> Result<Vec<u8>, DescError> {
+/// A version of the bytes.
+#[derive(Clone, Copy, Debug, PartialEq, Eq)]
+enum Format {
+    Old,
+    New,
+}
+
+/// The bytes of a descriptor that is in range, in a version that can tell of its pages.
+fn bytes_in(alloc: Global, descriptor: &Descriptor, format: Format) -> Result<Vec<u8>, DescError> {
     if !descriptor.is_in_range() {
         return Err(DescError::Refused(0));
     }
-    Ok(descriptor.encode(alloc)?)
+    if format == Format::New {
+        return Ok(descriptor.encode(alloc)?);
+    }
+    if descriptor.pages > 1024 {
+        return Err(DescError::Refused(0));
+    }
+    Ok(descriptor.encode_old(alloc)?)
 }
 
 /// The bytes of what bytes are read as.
-fn again(alloc: Global, bytes: &[u8]) -> Result<Vec<u8>, DescError> {
+fn again(alloc: Global, bytes: &[u8], format: Format) -> Result<Vec<u8>, DescError> {
     let descriptor = Descriptor::decode(alloc, bytes)?;
-    bytes_in_range(alloc, &descriptor)
+    bytes_in(alloc, &descriptor, format)
 }
 
 /// The bytes of the first child.
-fn first_bytes(rt: &impl Abort, alloc: Global) -> Vec<u8> {
+fn first_bytes(rt: &impl Abort, alloc: Global, format: Format) -> Vec<u8> {
     let descriptor = first_child(rt, alloc);
-    made(rt, bytes_in_range(alloc, &descriptor))
+    made(rt, bytes_in(alloc, &descriptor, format))
 }
 
 /// The bytes of the descriptor whose fields all differ.
-fn numbered_bytes(rt: &impl Abort, alloc: Global) -> Vec<u8> {
+fn numbered_bytes(rt: &impl Abort, alloc: Global, format: Format) -> Vec<u8> {
     let descriptor = numbered(rt, alloc);
-    made(rt, bytes_in_range(alloc, &descriptor))
+    made(rt, bytes_in(alloc, &descriptor, format))
 }
 
-fn are_placed(rt: &impl Abort, bytes: &[u8], rows: &[(usize, &[u8])], length: usize) {
-    are_equal(rt, &(bytes.len(), misplaced(bytes, rows)), &(length, None));
+fn are_placed(rt: &impl Abort, bytes: &[u8], rows: &[(usize, &[u8])]) {
+    are_equal(rt, &misplaced(bytes, rows), &None);
 }
 
 #[test]
 fn fields_stand_at_their_places(rt: HostRuntime) {
-    let first = first_bytes(&rt, rt.alloc());
-    are_placed(&rt, &first, &FIRST_CHILD, 778);
-    let numbered = numbered_bytes(&rt, rt.alloc());
-    are_placed(&rt, &numbered, &NUMBERED, 779);
+    let first = first_bytes(&rt, rt.alloc(), Format::New);
+    are_placed(&rt, &first, &FIRST_CHILD);
+    are_placed(&rt, &first, &FIRST_CHILD_NEW);
+    let numbered = numbered_bytes(&rt, rt.alloc(), Format::New);
+    are_placed(&rt, &numbered, &NUMBERED);
+    are_placed(&rt, &numbered, &NUMBERED_NEW);
+    are_equal(&rt, &(first.len(), numbered.len()), &(779, 780));
 }
 
-fn is_read(rt: &impl Abort, alloc: Global, bytes: &[u8]) {
-    let spelled = made(rt, again(alloc, bytes));
+#[test]
+fn fields_of_the_first_version_stand_at_their_places(rt: HostRuntime) {
+    let first = first_bytes(&rt, rt.alloc(), Format::Old);
+    are_placed(&rt, &first, &FIRST_CHILD);
+    are_placed(&rt, &first, &FIRST_CHILD_OLD);
+    let numbered = numbered_bytes(&rt, rt.alloc(), Format::Old);
+    are_placed(&rt, &numbered, &NUMBERED);
+    are_placed(&rt, &numbered, &NUMBERED_OLD);
+    are_equal(&rt, &(first.len(), numbered.len()), &(778, 779));
+}
+
+fn is_read(rt: &impl Abort, alloc: Global, bytes: &[u8], format: Format) {
+    let spelled = made(rt, again(alloc, bytes, format));
     are_equal(rt, &spelled.as_slice(), &bytes);
+}
+
+fn is_migrated(rt: &impl Abort, alloc: Global, bytes: &[u8], new: &[u8]) {
+    let migrated = made(rt, Descriptor::migrate(alloc, bytes));
+    are_equal(rt, &migrated.as_slice(), &new);
 }
 
 #[test]
 fn what_was_encoded_is_read(rt: HostRuntime) {
-    let bytes = numbered_bytes(&rt, rt.alloc());
-    is_read(&rt, rt.alloc(), &bytes);
+    let new = numbered_bytes(&rt, rt.alloc(), Format::New);
+    is_read(&rt, rt.alloc(), &new, Format::New);
+    let old = numbered_bytes(&rt, rt.alloc(), Format::Old);
+    is_read(&rt, rt.alloc(), &old, Format::Old);
+    is_migrated(&rt, rt.alloc(), &old, &new);
+    is_migrated(&rt, rt.alloc(), &new, &new);
 }
 
 /// Of the first child's bytes a length, words at places of them, and the reason why they are refused, or
@@ -256,7 +299,7 @@ static CHANGES: [(usize, &[(usize, u32)], u32); 55] = [
     (12, &[], 1),
     (775, &[], 1),
     (778, &[(0, 0x3144_4600)], 2),
-    (778, &[(0, 0x3244_4653)], 2),
+    (778, &[(0, 0x3344_4653)], 2),
     (778, &[(8, 15)], 3),
     (778, &[(8, 1025)], 3),
     (776, &[], 4),
@@ -310,32 +353,47 @@ static CHANGES: [(usize, &[(usize, u32)], u32); 55] = [
 ];
 
 /// The reason why bytes are refused, or 0 where they are taken and spelled as they were.
-fn reason(alloc: Global, bytes: &[u8]) -> Option<u32> {
-    match again(alloc, bytes) {
+fn reason(alloc: Global, bytes: &[u8], format: Format) -> Option<u32> {
+    match again(alloc, bytes, format) {
         Ok(spelled) => (spelled.as_slice() == bytes).then_some(0),
         Err(DescError::Refused(number)) => Some(number),
         Err(DescError::Memory) => None,
     }
 }
 
-/// The reason why changed bytes are refused, or 0, is the one that a row tells.
-fn is_told(rt: &impl Abort, alloc: Global, bytes: &[u8], row: &(usize, &[(usize, u32)], u32)) {
-    let (length, changes, number) = *row;
-    let bytes = changed(rt, alloc, bytes, length, changes);
-    are_equal(rt, &(row, reason(alloc, &bytes)), &(row, Some(number)));
+/// The reason why bytes are not migrated, or 0.
+fn reason_to_stay(alloc: Global, bytes: &[u8]) -> Option<u32> {
+    match Descriptor::migrate(alloc, bytes) {
+        Ok(_) => Some(0),
+        Err(DescError::Refused(number)) => Some(number),
+        Err(DescError::Memory) => None,
+    }
+}
+
+/// These bytes are refused by this reason, or taken where it is 0, and migrated just so.
+fn is_refused(rt: &impl Abort, alloc: Global, bytes: &[u8], format: Format, number: u32) {
+    let found = (reason(alloc, bytes, format), reason_to_stay(alloc, bytes));
+    are_equal(rt, &found, &(Some(number), Some(number)));
 }
 
 /// A table tells the reasons why changed bytes are refused.
-fn are_told(rt: &impl Abort, alloc: Global, bytes: &[u8], rows: &[(usize, &[(usize, u32)], u32)]) {
-    for row in rows {
-        is_told(rt, alloc, bytes, row);
+fn are_told(
+    rt: &impl Abort,
+    alloc: Global,
+    bytes: &[u8],
+    format: Format,
+    rows: &[(usize, &[(usize, u32)], u32)],
+) {
+    for (length, changes, number) in rows {
+        let bytes = changed(rt, alloc, bytes, *length, changes);
+        is_refused(rt, alloc, &bytes, format, *number);
     }
 }
 
 #[test]
 fn refuses_by_the_first_reason(rt: HostRuntime) {
-    let bytes = first_bytes(&rt, rt.alloc());
-    are_told(&rt, rt.alloc(), &bytes, &CHANGES);
+    let bytes = first_bytes(&rt, rt.alloc(), Format::Old);
+    are_told(&rt, rt.alloc(), &bytes, Format::Old, &CHANGES);
 }
 
 /// Bytes of the descriptor with 20 pages and three bytes of map, of which the last half byte is spare.
@@ -349,26 +407,139 @@ static SPARE: [(usize, &[(usize, u32)], u32); 5] = [
 
 #[test]
 fn refuses_a_second_spelling(rt: HostRuntime) {
-    let bytes = numbered_bytes(&rt, rt.alloc());
-    are_told(&rt, rt.alloc(), &bytes, &SPARE);
+    let bytes = numbered_bytes(&rt, rt.alloc(), Format::Old);
+    are_told(&rt, rt.alloc(), &bytes, Format::Old, &SPARE);
 }
 
-/// The bytes of the first child of a machine of the most pages.
-fn bytes_of_most(rt: &impl Abort, alloc: Global) -> Vec<u8> {
+/// Of the first child's bytes in the newest version a length, words at places of them, and the reason.
+static NEW_CHANGES: [(usize, &[(usize, u32)], u32); 12] = [
+    (0, &[], 1),
+    (775, &[], 1),
+    (775, &[(0, 0)], 1),
+    (779, &[(0, 0x3144_4600)], 2),
+    (779, &[(0, 0x3344_4653)], 2),
+    (779, &[(0, 0x3144_4653)], 4),
+    (776, &[(8, 15)], 3),
+    (776, &[], 4),
+    (778, &[], 4),
+    (778, &[(12, 0)], 4),
+    (779, &[(12, 0)], 5),
+    (779, &[], 0),
+];
+
+#[test]
+fn refuses_the_newest_version_by_the_first_reason(rt: HostRuntime) {
+    let bytes = first_bytes(&rt, rt.alloc(), Format::New);
+    are_told(&rt, rt.alloc(), &bytes, Format::New, &NEW_CHANGES);
+}
+
+/// The pages, what stands behind the fields, and the reason why this is refused, or 0.
+static MAPS: [(u32, &[u8], u32); 39] = [
+    (15, &[0, 0xfe, 0x7f], 3),
+    (16_385, &[1, 1, 0x40], 3),
+    (15, &[], 3),
+    (16, &[], 4),
+    (16, &[0], 4),
+    (16, &[0, 0xfe], 4),
+    (16, &[0, 0xfe, 0xff, 0], 4),
+    (16, &[2, 0xfe, 0xff], 4),
+    (16, &[255, 0xfe, 0xff], 4),
+    (17, &[1, 17], 4),
+    (17, &[1, 17, 0, 0], 4),
+    (20, &[0, 0x01, 0, 0x18], 6),
+    (17, &[0, 0, 0, 0x02], 6),
+    (17, &[1], 7),
+    (40, &[1, 8, 0, 31, 0], 7),
+    (40, &[1, 8, 0, 33, 0], 7),
+    (40, &[1, 40, 0, 0, 0], 7),
+    (17, &[1, 5, 0, 0, 0, 12, 0], 7),
+    (17, &[1, 17, 0, 255, 255, 1, 0], 7),
+    (17, &[1, 255, 255], 7),
+    (17, &[0, 0, 0, 0], 7),
+    (40, &[0, 0, 0xff, 0xff, 0xff, 0xff], 7),
+    (16, &[1, 16, 0], 7),
+    (16, &[1, 0, 0, 16, 0], 7),
+    (17, &[1, 0, 0, 17, 0], 7),
+    (32, &[1, 16, 0, 16, 0], 7),
+    (16, &[0, 0, 0], 0),
+    (16, &[0, 0xff, 0xff], 0),
+    (17, &[1, 17, 0], 0),
+    (17, &[0, 0xff, 0xff, 0x01], 0),
+    (32, &[0, 0, 0, 0xff, 0xff], 0),
+    (33, &[1, 1, 0, 32, 0], 0),
+    (40, &[1, 8, 0, 32, 0], 0),
+    (40, &[1, 0, 0, 40, 0], 0),
+    (1024, &[1, 1, 0, 0xff, 0x03], 0),
+    (16_384, &[1, 0, 0x40], 0),
+    (16_384, &[1, 0, 0, 0, 0x40], 0),
+    (16_384, &[1, 1, 0, 0xff, 0x3f], 0),
+    (20, &[0, 0x01, 0, 0x08], 0),
+];
+
+#[test]
+fn a_map_has_one_form(rt: HostRuntime) {
+    let bytes = first_bytes(&rt, rt.alloc(), Format::New);
+    for (pages, rest, number) in &MAPS {
+        let mut bytes = changed(&rt, rt.alloc(), &bytes, 776, &[(8, *pages)]);
+        made(&rt, bytes.extend_from_slice(rest));
+        is_refused(&rt, rt.alloc(), &bytes, Format::New, *number);
+    }
+}
+
+/// The bytes of the first child of a machine with so many pages, of which all are blank but one.
+fn bytes_of(rt: &impl Abort, alloc: Global, pages: u32, held: usize, format: Format) -> Vec<u8> {
     let mut descriptor = first_child(rt, alloc);
-    descriptor.pages = 1024;
-    descriptor.blank = map_of(rt, alloc, 1024, 1023);
-    made(rt, bytes_in_range(alloc, &descriptor))
+    descriptor.pages = pages;
+    descriptor.blank = map_of(rt, alloc, pages as usize, held);
+    made(rt, bytes_in(alloc, &descriptor, format))
 }
 
-/// Ends of the map of the most pages, by their places.
+/// The end of the map of 1,024 pages in the first version, which are the most that it tells of.
 static MOST: [(usize, &[u8]); 2] = [(776, b"\xff\xff"), (902, b"\xff\x7f")];
 
 #[test]
 fn takes_a_map_of_the_most_pages(rt: HostRuntime) {
-    let bytes = bytes_of_most(&rt, rt.alloc());
-    are_placed(&rt, &bytes, &MOST, 904);
-    are_equal(&rt, &reason(rt.alloc(), &bytes), &Some(0));
+    let old = bytes_of(&rt, rt.alloc(), 1024, 1023, Format::Old);
+    are_placed(&rt, &old, &MOST);
+    is_refused(&rt, rt.alloc(), &old, Format::Old, 0);
+    let new = bytes_of(&rt, rt.alloc(), 16_384, 0, Format::New);
+    are_placed(&rt, &new, &[(776, b"\x01\x01\0\xff\x3f")]);
+    are_equal(&rt, &(old.len(), new.len()), &(904, 781));
+}
+
+/// A map of 16,384 pages with so many runs, of which each has one page but the last.
+fn runs_of_one(rt: &impl Abort, alloc: Global, runs: usize) -> PageMap {
+    let mut blank = Vec::new(alloc);
+    for page in 0..16_384 {
+        let last = runs.saturating_sub(1).min(page);
+        made(rt, blank.push(last % 2 == 1));
+    }
+    PageMap::from_vec(blank)
+}
+
+/// How many bytes stand behind the fields of the first child with a map of so many runs, and the first of them.
+fn form_of_runs(rt: &impl Abort, alloc: Global, runs: usize) -> (usize, Option<u8>) {
+    let mut descriptor = first_child(rt, alloc);
+    descriptor.pages = 16_384;
+    descriptor.blank = runs_of_one(rt, alloc, runs);
+    let bytes = made(rt, bytes_in(alloc, &descriptor, Format::New));
+    is_read(rt, alloc, &bytes, Format::New);
+    (bytes.len(), bytes.get(776).copied())
+}
+
+#[test]
+fn runs_are_told_where_they_are_shorter(rt: HostRuntime) {
+    let forms = [
+        form_of_runs(&rt, rt.alloc(), 1023),
+        form_of_runs(&rt, rt.alloc(), 1024),
+        form_of_runs(&rt, rt.alloc(), 16_384),
+    ];
+    let want = [
+        (777 + 2046, Some(1)),
+        (777 + 2048, Some(0)),
+        (777 + 2048, Some(0)),
+    ];
+    are_equal(&rt, &forms, &want);
 }
 
 /// How many flags there are, and how many of them are set.

@@ -3,6 +3,7 @@
 use crate::changes::changed;
 use crate::equal::{are_equal, made};
 use elf_load::{ImageError, Loaded, load_elf};
+use page_frames::Entry;
 use std::alloc::Global;
 use std::process::Abort;
 
@@ -76,25 +77,44 @@ fn image_of(
     image
 }
 
-/// So many bytes of RAM from an offset on, if there are as many.
-fn ram_at(loaded: &Loaded, at: usize, count: usize) -> Option<&[u8]> {
-    loaded.ram().get(at..)?.get(..count)
+/// The byte of RAM at an offset, if RAM has as many.
+fn ram_at(loaded: &Loaded, at: usize) -> Option<u8> {
+    let table = loaded.table();
+    let page = at / 4096;
+    if page < table.len() {
+        match table.get(page) {
+            Entry::Held(held) => held.bytes().get(at % 4096).copied(),
+            Entry::Blank => Some(0),
+            Entry::Absent => None,
+        }
+    } else {
+        None
+    }
 }
 
-/// The flags of the first pages.
-fn first_flags(loaded: &Loaded, count: usize) -> Option<&[bool]> {
-    loaded.segments().get(..count)
+/// Whether a page is held, since a byte of a segment falls in it.
+fn is_held(loaded: &Loaded, page: usize) -> Option<bool> {
+    let table = loaded.table();
+    if page < table.len() {
+        Some(matches!(table.get(page), Entry::Held(_)))
+    } else {
+        None
+    }
 }
 
 /// These bytes of RAM lie at an offset.
 fn has_bytes(rt: &impl Abort, loaded: &Loaded, at: usize, bytes: &[u8]) {
-    let found = (at, ram_at(loaded, at, bytes.len()));
-    are_equal(rt, &found, &(at, Some(bytes)));
+    for (n, byte) in bytes.iter().enumerate() {
+        let found = (at, n, ram_at(loaded, at.saturating_add(n)));
+        are_equal(rt, &found, &(at, n, Some(*byte)));
+    }
 }
 
 /// The first pages have these flags.
 fn has_flags(rt: &impl Abort, loaded: &Loaded, flags: &[bool]) {
-    are_equal(rt, &first_flags(loaded, flags.len()), &Some(flags));
+    for (page, flag) in flags.iter().enumerate() {
+        are_equal(rt, &(page, is_held(loaded, page)), &(page, Some(*flag)));
+    }
 }
 
 fn is_exit_seven(rt: &impl Abort, loaded: &Loaded) {

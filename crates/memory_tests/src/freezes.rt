@@ -29,6 +29,9 @@ fn freeze_in_steps<L: Ledger>(
     ensures one_leaf { length memory.now.here ≡ 64 → OnOk result (steps.new ≡ steps.old + 1) }
     ensures a_page_more { length memory.now.here ≡ 65 → OnOk result (steps.new ≡ steps.old + 2) }
     ensures many { length memory.now.here ≡ 1024 → OnOk result (steps.new ≡ steps.old + 16) }
+    ensures a_leaf_less { length memory.now.here ≡ 16_320 → OnOk result (steps.new ≡ steps.old + 255) }
+    ensures and_a_page { length memory.now.here ≡ 16_321 → OnOk result (steps.new ≡ steps.old + 256) }
+    ensures most { length memory.now.here ≡ 16_384 → OnOk result (steps.new ≡ steps.old + 256) }
 {
     memory.freeze_counted(alloc, depot, disk, input, steps)
 }

@@ -39,7 +39,7 @@ pub fn booted(rt: &impl Abort, alloc: Global, pages: u32) -> GuestMem
 {
     let file = made(rt, elf_of(alloc, RAM_BASE + SECOND, &WORDS));
     let loaded = made(rt, load_elf(alloc, &file, pages));
-    made(rt, GuestMem::booted(alloc, &loaded))
+    made(rt, GuestMem::booted(&loaded))
 }
 
 /// What comes of a store of the low bytes of a word, where there is a place for it.
@@ -601,7 +601,7 @@ fn child_stores<R: Abort + Wait>(rt: &R, alloc: Global, parent: &mut GuestMem, d
 }
 
 /// The pages of guests, around the ends of leaves, and the fewest and the most.
-pub static SIZES: [u32; 5] = [16, 64, 65, 128, 1024];
+pub static SIZES: [u32; 6] = [16, 64, 65, 128, 1024, 16_384];
 
 fn comes_from_below<R: Abort + Wait>(rt: &R, alloc: Global, pages: u32, depot: &Depot) {
     assert!(rt; MIN_PAGES <= pages && pages <= MAX_PAGES);

@@ -11,7 +11,7 @@ use vm_descriptor::{MAX_CLONES, MAX_LIMIT, MAX_SHARE};
 #[test]
 fn limits_are_those_of_the_formats(rt: HostRuntime) {
     let counts = [MIN_PAGES, MAX_PAGES, MAX_SECTORS, MAX_CLONES, MAX_SHARE];
-    are_equal(&rt, &counts, &[16, 1024, 8192, 4096, 4095]);
+    are_equal(&rt, &counts, &[16, 16_384, 8192, 4096, 4095]);
     are_equal(&rt, &(RAM_BASE, MAX_LIMIT), &(0x8000_0000, 1_000_000_000));
 }
 

@@ -4,6 +4,8 @@
 mod entry;
 pub mod laws;
 mod page;
+mod table;
 
 pub use entry::{Entry, PageTable};
 pub use page::{PAGE_SIZE, Page};
+pub use table::write_page;

@@ -32,6 +32,34 @@ impl<T: Handle> SharedList<T> {
         Ok(list)
     }
 
+    /// The list of so many equal entries. Its full leaves are one, so it costs one handle for each of them.
+    pub fn repeat(alloc: Global, entry: &T, count: usize) -> Result<SharedList<T>, AllocError>
+        ensures { IfOk result (λ list. list ≡ replicate count entry.now) }
+    {
+        let full = equal_entries(alloc, entry, LEAF_ENTRIES)?;
+        let mut list = SharedList::new(alloc);
+        list.push_copies(entry, &full, count / LEAF_ENTRIES)?;
+        let rest = count % LEAF_ENTRIES;
+        if rest == 0 {
+            return Ok(list);
+        }
+        list.push_leaf(equal_entries(alloc, entry, rest)?)?;
+        Ok(list)
+    }
+
+    /// Puts so many handles on a full leaf of equal entries into a list of none.
+    fn push_copies(&mut self, entry: &T, full: &Leaf<T>, count: usize) -> Result<(), AllocError>
+        requires none { self.old ≡ [] }
+        requires full { full.now ≡ replicate LEAF_ENTRIES entry.now }
+        requires fits { LEAF_ENTRIES * count < 2 ^ 64 }
+        ensures { OnOk result (self.new ≡ replicate (LEAF_ENTRIES * count) entry.now) }
+    {
+        'leaves: for _ in 0..count {
+            self.push_leaf(full.clone()?)?;
+        }
+        Ok(())
+    }
+
     /// Puts these entries into a list of none.
     fn push_all(&mut self, alloc: Global, entries: &mut vec::IntoIter<T>) -> Result<(), AllocError>
         requires { self.old ≡ [] }

@@ -1,49 +1,47 @@
 -- What holds of bytes that are not refused.
-use Rattle.std.proofs.Common.{◌≡◌, ◌≤◌, ◌+◌, ◌%◌, ℕ, List, length, refl, true, false, take, Some, None}
-use Rattle.std.specs.Prelude.{Bool, not, ◌&&◌, ◌==◌, nat_lt, nat_le, if◌then◌else◌, Option, codes}
-use Rattle.std.specs.Str.{bytes_eq}
+use Rattle.std.proofs.Common.{◌≡◌, ◌≤◌, ◌+◌, ◌%◌, ℕ, List, drop, length, refl, true, false, Some, None}
+use Rattle.std.specs.Prelude.{Bool, not, ◌&&◌, ◌==◌, nat_le, if◌then◌else◌, Option}
 use Rattle.std.specs.Cmp.Derive.{both_true}
-use Rattle.std.proofs.lemmas.Bool.{and_parts, eq-eqb, eqb-true, le-leb, leb-true, ltb-false, not-false}
+use Rattle.std.proofs.lemmas.Bool.{and_parts, eq-eqb, eqb-true, le-leb, leb-true, not-false}
 use Rattle.console_port.specs.declared.port.TheConstants.{MAX_INPUT}
 use Rattle.vm_descriptor.specs.declared.descriptor.TheConstants.{MAX_CLONES, MAX_SHARE, MAX_LIMIT}
 use Rattle.vm_descriptor.specs.Fields.{Field, aligned, before_registers, behind_registers, between, in_ranges, is_mstatus, has_only, number_in, up_to}
 use Rattle.vm_descriptor.specs.Fields as field
-use Rattle.vm_descriptor.specs.Described.{agree, are_csrs, are_in_range, csrs_of, has_spare_bit, is_reservation, map_size, refused, refused_as, version_1}
+use Rattle.vm_descriptor.specs.declared.version.Version.{Version}
+use Rattle.vm_descriptor.specs.Maps.{form_of, is_whole, map_of, misread}
+use Rattle.vm_descriptor.specs.Described.{agree, are_csrs, are_in_range, csrs_of, is_reservation, unread}
 
--- they pass each test
-pub record IsAccepted (bytes : List ℕ) : Type 0 where
-  pub long : 776 ≤ length bytes
-  pub mark : bytes_eq (take 4 bytes) (codes "SFD1") ≡ true
-  pub least : version_1.least_pages ≤ number_in bytes field.Pages
-  pub most : number_in bytes field.Pages ≤ version_1.most_pages
-  pub whole : length bytes ≡ 776 + map_size (number_in bytes field.Pages)
+-- bytes of a version whose fields have 776 bytes pass each test
+pub record IsAccepted (version : Version) (bytes : List ℕ) : Type 0 where
+  pub least : version.least_pages ≤ number_in bytes field.Pages
+  pub most : number_in bytes field.Pages ≤ version.most_pages
+  pub long : version.fields ≤ length bytes
+  pub whole : is_whole version.has_forms (number_in bytes field.Pages) (drop version.fields bytes) ≡ true
   pub fields : are_in_range (number_in bytes) ≡ true
-  pub clear : has_spare_bit (number_in bytes field.Pages) bytes ≡ false
+  pub well : misread (form_of version.has_forms (drop version.fields bytes)) (number_in bytes field.Pages) (map_of version.has_forms (drop version.fields bytes)) ≡ None
 
 unless : (b : Bool) (reason : ℕ) (rest : Option ℕ) → (if b then Some reason else rest) ≡ None → (b ≡ false) × (rest ≡ None)
 unless true reason rest none = absurd (cc)
 unless false reason rest none = (refl, none)
 
-pub accepted : (bytes : List ℕ) → refused bytes ≡ None → IsAccepted bytes
-unfolding refused_as
-accepted bytes none =
+pub accepted : (version : Version) (bytes : List ℕ) → unread version bytes ≡ None → IsAccepted version bytes
+unfolding unread
+accepted version bytes none =
     let pages = number_in bytes field.Pages in
-    let has_pages = nat_le version_1.least_pages pages && nat_le pages version_1.most_pages in
-    let one = unless (nat_lt (length bytes) 776) 1 _ none in
-    let two = unless (not (bytes_eq (take 4 bytes) (codes "SFD1"))) 2 _ one.1 in
-    let three = unless (not has_pages) 3 _ two.1 in
-    let four = unless (not (length bytes == 776 + map_size pages)) 4 _ three.1 in
+    let fits = between version.least_pages version.most_pages pages in
+    let whole = is_whole version.has_forms pages (drop version.fields bytes) in
+    let three = unless (not fits) 3 _ none in
+    let four = unless (not (nat_le version.fields (length bytes) && whole)) 4 _ three.1 in
     let five = unless (not (are_in_range (number_in bytes))) 5 _ four.1 in
-    let six = unless (has_spare_bit pages bytes) 6 None five.1 in
-    let range = and_parts (nat_le version_1.least_pages pages) (nat_le pages version_1.most_pages) (not-false has_pages three.0) in
+    let range = and_parts (nat_le version.least_pages pages) (nat_le pages version.most_pages) (not-false fits three.0) in
+    let sized = and_parts (nat_le version.fields (length bytes)) whole (not-false (nat_le version.fields (length bytes) && whole) four.0) in
     record {
-      long = ltb-false (length bytes) 776 one.0;
-      mark = not-false (bytes_eq (take 4 bytes) (codes "SFD1")) two.0;
-      least = leb-true version_1.least_pages pages range.0;
-      most = leb-true pages version_1.most_pages range.1;
-      whole = eqb-true (length bytes) (776 + map_size pages) (not-false (length bytes == 776 + map_size pages) four.0);
+      least = leb-true version.least_pages pages range.0;
+      most = leb-true pages version.most_pages range.1;
+      long = leb-true version.fields (length bytes) sized.0;
+      whole = sized.1;
       fields = not-false (are_in_range (number_in bytes)) five.0;
-      clear = six.0;
+      well = five.1;
     }
 
 -- each number is in its range

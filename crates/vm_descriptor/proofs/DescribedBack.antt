@@ -1,6 +1,6 @@
 -- A descriptor that is spelled is read as it was.
-use Rattle.std.proofs.Common.{◌≡◌, ◌<◌, ◌+◌, ◌-◌, ◌*◌, ◌^◌, ℕ, List, ◌++◌, length, take, drop, sym, ap, ap₂, ◌∙◌, refl, Some, None, arith}
-use Rattle.std.specs.Prelude.{Bool, codes, Option}
+use Rattle.std.proofs.Common.{◌≡◌, ◌<◌, ◌+◌, ◌-◌, ◌*◌, ◌^◌, ℕ, List, [], ◌∷◌, ◌++◌, length, take, drop, sym, ap, ap₂, ◌∙◌, refl, Some, None, arith}
+use Rattle.std.specs.Prelude.{Bool, Option}
 use Rattle.std.specs.List.{flat_map}
 use Rattle.std.proofs.Math.Seq.{drop-drop, take-append_seam, drop-append_seam}
 use Rattle.std.proofs.lemmas.List.{append_assoc}
@@ -11,8 +11,10 @@ use Rattle.block_port.specs.declared.status.Status.TheVariants.{Done, BadSector,
 use Rattle.vm_descriptor.specs.declared.descriptor.Descriptor.{Descriptor}
 use Rattle.vm_descriptor.specs.Fields.{Field, number, number_in, row, spelled, before_registers, behind_registers, reserved_of, address_of}
 use Rattle.vm_descriptor.specs.Fields.{Image, Pages, CloneId, Share, Pc}
-use Rattle.vm_descriptor.specs.Described.{word, described, descriptor_of, Fits, flags_of, map_bytes, numbers_from, read, reservation_of, status_of}
-use Rattle.vm_descriptor.proofs.FlagsRead.{flags_read}
+use Rattle.vm_descriptor.specs.Maps.{flags_as, map_as}
+use Rattle.vm_descriptor.specs.Described.{before_buffer, descriptor_of, described_as, Fits, numbers_from, read_as, reservation_of, status_of, word}
+use Rattle.vm_descriptor.specs.declared.version.Version.{Version}
+use Rattle.vm_descriptor.proofs.Forms.{map_read}
 use Rattle.vm_descriptor.proofs.ReadBack.{little_from-drop, read_number, read_words}
 
 status_read : (s : Status) → status_of (status_word s) ≡ s
@@ -30,71 +32,83 @@ of_numbers d =
     ap₂ (λ (r : Option ℕ) (s : Status). let same : Descriptor = record d { reservation = r; block = record d.block { status = s } } in same)
     (reservation_read d.reservation) (status_read d.block.status)
 
--- what is read of the bytes of a descriptor
-pub record IsSpelled (d : Descriptor) : Type 0 where
-  pub back : read (described d) ≡ d
-  pub mark : take 4 (described d) ≡ codes "SFD1"
-  pub numbers : number_in (described d) ≡ number d
-  pub map : drop 776 (described d) ≡ map_bytes d.blank
+-- ---- the fields, before whatever stands behind them
 
-module _ (d : Descriptor) (fits : Fits d) where
+abbrev pub fields_of : List ℕ → Descriptor → List ℕ → List ℕ
+fields_of mark d rest = before_buffer mark d ++ (d.block.buffer ++ rest)
+
+-- what is read of the fields of a descriptor
+pub record AreFields (d : Descriptor) (behind bytes : List ℕ) : Type 0 where
+  pub numbers : number_in bytes ≡ number d
+  pub registers : numbers_from 4 31 24 bytes ≡ d.registers
+  pub buffer : take 512 (drop 264 bytes) ≡ d.block.buffer
+  pub rest : drop 776 bytes ≡ behind
+
+module _ (a b c e : ℕ) (d : Descriptor) (fits : Fits d) (rest : List ℕ) where
+  bytes : List ℕ
+  bytes = fields_of (a ∷ b ∷ c ∷ e ∷ []) d rest
+
   -- what stands behind x1 to x31
   behind : List ℕ
-  behind = spelled (number d) behind_registers ++ (d.block.buffer ++ map_bytes d.blank)
+  behind = spelled (number d) behind_registers ++ (d.block.buffer ++ rest)
 
-  words_read : (numbers_from 4 31 24 (described d) ≡ d.registers) × (drop 148 (described d) ≡ behind)
-  unfolding described behind
+  words_read : (numbers_from 4 31 24 bytes ≡ d.registers) × (drop 148 bytes ≡ behind)
+  unfolding bytes behind
   words_read =
-      let start = append_assoc (flat_map word d.registers) (spelled (number d) behind_registers) (d.block.buffer ++ map_bytes d.blank) in
-      let found = read_words d.registers (described d) behind 24 fits.registers start in
-      (ap (λ (n : ℕ). numbers_from 4 n 24 (described d)) (sym fits.each) ∙ found.0, ap (λ (n : ℕ). drop (24 + 4 * n) (described d)) (sym fits.each) ∙ found.1)
+      let start = append_assoc (flat_map word d.registers) (spelled (number d) behind_registers) (d.block.buffer ++ rest) in
+      let found = read_words d.registers bytes behind 24 fits.registers start in
+      (ap (λ (n : ℕ). numbers_from 4 n 24 bytes) (sym fits.each) ∙ found.0, ap (λ (n : ℕ). drop (24 + 4 * n) bytes) (sym fits.each) ∙ found.1)
 
   -- a field behind them
-  later : (width from n : ℕ) → little_from from width behind ≡ n → little_from (148 + from) width (described d) ≡ n
-  later width from n is = sym (little_from-drop width from 148 (described d)) ∙ ap (λ (ys : List ℕ). little_from from width ys) words_read.1 ∙ is
+  later : (width from n : ℕ) → little_from from width behind ≡ n → little_from (148 + from) width bytes ≡ n
+  later width from n is = sym (little_from-drop width from 148 bytes) ∙ ap (λ (ys : List ℕ). little_from from width ys) words_read.1 ∙ is
 
-  number_read : (f : Field) → number_in (described d) f ≡ number d f
-  unfolding described behind
-  number_read Image = read_number 4 (described d) _ 4 d.image (fits.numbers Image) refl
-  number_read Pages = read_number 4 (described d) _ 8 d.pages (fits.numbers Pages) refl
-  number_read CloneId = read_number 4 (described d) _ 12 d.clone_id (fits.numbers CloneId) refl
-  number_read Share = read_number 4 (described d) _ 16 d.share (fits.numbers Share) refl
-  number_read Pc = read_number 4 (described d) _ 20 d.pc (fits.numbers Pc) refl
+  number_read : (f : Field) → number_in bytes f ≡ number d f
+  unfolding bytes behind
+  number_read Image = read_number 4 bytes _ 4 d.image (fits.numbers Image) refl
+  number_read Pages = read_number 4 bytes _ 8 d.pages (fits.numbers Pages) refl
+  number_read CloneId = read_number 4 bytes _ 12 d.clone_id (fits.numbers CloneId) refl
+  number_read Share = read_number 4 bytes _ 16 d.share (fits.numbers Share) refl
+  number_read Pc = read_number 4 bytes _ 20 d.pc (fits.numbers Pc) refl
   number_read f =
       later (row f).width ((row f).at - 148) (number d f) (read_number (row f).width behind _ ((row f).at - 148) (number d f) (fits.numbers f) refl)
 
-  numbers_read : number_in (described d) ≡ number d
+  numbers_read : number_in bytes ≡ number d
   numbers_read = λ i f. number_read f i
 
-  buffer_read : (take 512 (drop 264 (described d)) ≡ d.block.buffer) × (drop 776 (described d) ≡ map_bytes d.blank)
+  buffer_read : (take 512 (drop 264 bytes) ≡ d.block.buffer) × (drop 776 bytes ≡ rest)
   unfolding behind
   buffer_read =
       let buffer = d.block.buffer in
-      let map = map_bytes d.blank in
-      let left : drop 264 (described d) ≡ buffer ++ map = sym (drop-drop 116 148 (described d)) ∙ ap (λ (ys : List ℕ). drop 116 ys) words_read.1 in (
-        ap (λ (ys : List ℕ). take 512 ys) left ∙ (ap (λ (n : ℕ). take n (buffer ++ map)) (sym fits.buffer) ∙ take-append_seam buffer map),
-        sym (drop-drop 512 264 (described d))
-            ∙ (ap (λ (ys : List ℕ). drop 512 ys) left ∙ (ap (λ (n : ℕ). drop n (buffer ++ map)) (sym fits.buffer) ∙ drop-append_seam buffer map)),
+      let left : drop 264 bytes ≡ buffer ++ rest = sym (drop-drop 116 148 bytes) ∙ ap (λ (ys : List ℕ). drop 116 ys) words_read.1 in (
+        ap (λ (ys : List ℕ). take 512 ys) left ∙ (ap (λ (n : ℕ). take n (buffer ++ rest)) (sym fits.buffer) ∙ take-append_seam buffer rest),
+        sym (drop-drop 512 264 bytes)
+            ∙ (ap (λ (ys : List ℕ). drop 512 ys) left ∙ (ap (λ (n : ℕ). drop n (buffer ++ rest)) (sym fits.buffer) ∙ drop-append_seam buffer rest)),
       )
 
-  flags_back : flags_of (number_in (described d) Pages) (drop 776 (described d)) ≡ d.blank
-  flags_back =
-      ap (λ (n : ℕ). flags_of n (drop 776 (described d))) (number_read Pages ∙ sym fits.map)
-      ∙ (ap (λ (ys : List ℕ). flags_of (length d.blank) ys) buffer_read.1 ∙ flags_read d.blank)
+  pub fields_read : AreFields d rest (fields_of (a ∷ b ∷ c ∷ e ∷ []) d rest)
+  unfolding bytes
+  fields_read = record { numbers = numbers_read; registers = words_read.0; buffer = buffer_read.0; rest = buffer_read.1 }
 
-  same_mark : take 4 (described d) ≡ codes "SFD1"
-  unfolding described
-  same_mark = refl
+-- ---- a version whose fields have 776 bytes
 
-  pub described_back : IsSpelled d
-  unfolding read
-  described_back = record {
-    back =
-        ap₂ (λ (numbers : Field → ℕ) (registers : List ℕ). descriptor_of numbers registers (take 512 (drop 264 (described d))) (flags_of (number_in (described d) Pages) (drop 776 (described d))))
-        numbers_read words_read.0
-        ∙ ap₂ (λ (buffer : List ℕ) (blank : List Bool). descriptor_of (number d) d.registers buffer blank) buffer_read.0 flags_back
-        ∙ of_numbers d;
-    mark = same_mark;
-    numbers = numbers_read;
-    map = buffer_read.1;
-  }
+abbrev pub version : (a b c e least most : ℕ) (has_forms : Bool) → Version
+version a b c e least most has_forms = record { mark = a ∷ b ∷ c ∷ e ∷ []; fields = 776; has_forms = has_forms; least_pages = least; most_pages = most }
+
+module _ (a b c e least most : ℕ) (has_forms : Bool) (d : Descriptor) (fits : Fits d) where
+  pub spelled_fields : AreFields d (map_as has_forms d.blank) (described_as (version a b c e least most has_forms) d)
+  unfolding described_as
+  spelled_fields = fields_read a b c e d fits (map_as has_forms d.blank)
+
+  pub read_back : read_as (version a b c e least most has_forms) (described_as (version a b c e least most has_forms) d) ≡ d
+  unfolding read_as
+  read_back =
+      let bytes = described_as (version a b c e least most has_forms) d in
+      let is = spelled_fields in
+      let flags : flags_as has_forms (number_in bytes Pages) (drop 776 bytes) ≡ d.blank =
+      ap₂ (λ (n : ℕ) (rest : List ℕ). flags_as has_forms n rest) (ap (λ (numbers : Field → ℕ). numbers Pages) is.numbers ∙ sym fits.map) is.rest
+      ∙ map_read d.blank (omega (arith, fits.map, fits.runs)) has_forms in
+      ap₂ (λ (numbers : Field → ℕ) (registers : List ℕ). descriptor_of numbers registers (take 512 (drop 264 bytes)) (flags_as has_forms (number_in bytes Pages) (drop 776 bytes)))
+      is.numbers is.registers
+      ∙ ap₂ (λ (buffer : List ℕ) (blank : List Bool). descriptor_of (number d) d.registers buffer blank) is.buffer flags
+      ∙ of_numbers d

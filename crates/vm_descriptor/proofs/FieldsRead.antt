@@ -9,7 +9,9 @@ use Rattle.vm_descriptor.specs.declared.descriptor.Descriptor.{Descriptor}
 use Rattle.vm_descriptor.specs.declared.descriptor.TheConstants.{MAX_CLONES, MAX_SHARE, MAX_LIMIT}
 use Rattle.vm_descriptor.specs.Fields.{aligned, between, has_only, is_mstatus, number_in, up_to}
 use Rattle.vm_descriptor.specs.Fields as field
-use Rattle.vm_descriptor.specs.Described.{agree, are_csrs, are_in_range, csrs_of, flags_of, is_reservation, numbers_from, read, reservation_of, status_of}
+use Rattle.vm_descriptor.specs.declared.version.Version.{Version}
+use Rattle.vm_descriptor.specs.Maps.{flags_as}
+use Rattle.vm_descriptor.specs.Described.{agree, are_csrs, are_in_range, csrs_of, is_reservation, numbers_from, read_as, reservation_of, status_of}
 use Rattle.std.specs.Prelude.{nat_le}
 
 -- the control and status registers, by their words and the two counters
@@ -62,17 +64,17 @@ made identity times ports registers csrs reservation status buffer blank = recor
   blank = blank;
 }
 
-module _ (bytes identity times ports registers : List ℕ) (csrs : CsrRegisters) (reservation : Option ℕ) (status : Status) (buffer : List ℕ) (blank : List Bool)
+module _ (version : Version) (bytes identity times ports registers : List ℕ) (csrs : CsrRegisters) (reservation : Option ℕ) (status : Status) (buffer : List ℕ) (blank : List Bool)
     (are_identity : identity ≡ numbers_from 4 5 4 bytes) (are_times : times ≡ numbers_from 8 4 192 bytes) (are_ports : ports ≡ numbers_from 4 10 224 bytes) where
   pub all_read : registers ≡ numbers_from 4 31 24 bytes → csrs ≡ csrs_of (number_in bytes)
       → reservation ≡ reservation_of (get_or ports 0 0) (get_or ports 1 0) → status ≡ status_of (get_or ports 5 0)
-      → buffer ≡ take 512 (drop 264 bytes) → blank ≡ flags_of (get_or identity 1 0) (drop 776 bytes)
-      → made identity times ports registers csrs reservation status buffer blank ≡ read bytes
-  unfolding numbers_from read
+      → buffer ≡ take 512 (drop 264 bytes) → blank ≡ flags_as version.has_forms (get_or identity 1 0) (drop version.fields bytes)
+      → made identity times ports registers csrs reservation status buffer blank ≡ read_as version bytes
+  unfolding numbers_from read_as
   all_read are_registers are_csrs is_reservation is_status is_buffer are_blank =
       let reserved = is_reservation ∙ ap (λ (ps : List ℕ). reservation_of (get_or ps 0 0) (get_or ps 1 0)) are_ports in
       let stands = is_status ∙ ap (λ (ps : List ℕ). status_of (get_or ps 5 0)) are_ports in
-      let flags = are_blank ∙ ap (λ (ids : List ℕ). flags_of (get_or ids 1 0) (drop 776 bytes)) are_identity in
+      let flags = are_blank ∙ ap (λ (ids : List ℕ). flags_as version.has_forms (get_or ids 1 0) (drop version.fields bytes)) are_identity in
       ap₂ (λ (ids ts : List ℕ). made ids ts ports registers csrs reservation status buffer blank) are_identity are_times
       ∙ ap₂ (λ (ps rs : List ℕ). made (numbers_from 4 5 4 bytes) (numbers_from 8 4 192 bytes) ps rs csrs reservation status buffer blank) are_ports are_registers
       ∙ ap₂ (λ (cs : CsrRegisters) (r : Option ℕ). made (numbers_from 4 5 4 bytes) (numbers_from 8 4 192 bytes) (numbers_from 4 10 224 bytes) (numbers_from 4 31 24 bytes) cs r status buffer blank)

@@ -2,8 +2,8 @@
 use Rattle.std.proofs.Common.{◌≡◌, ◌≤◌, ◌+◌, ◌-◌, ◌*◌, ◌/◌, ◌%◌, ℕ, List, [], ◌∷◌, ◌++◌, length, ap, ◌∙◌, refl, true, false, arith}
 use Rattle.std.specs.Prelude.{Bool, ◌==◌, nat_lt, if◌then◌else◌}
 use Rattle.std.proofs.lemmas.Bool.{ltb-false}
-use Rattle.vm_descriptor.proofs.Bits.{flags_step}
-use Rattle.vm_descriptor.specs.Described.{bit_value, bits_of, flags_of, map_bytes, number_of_bits}
+use Rattle.vm_descriptor.proofs.BitSteps.{flags_step}
+use Rattle.vm_descriptor.specs.Maps.{bit_value, bits_of, flags_of, map_bytes, number_of_bits}
 
 low_bit : (bit : Bool) (n : ℕ) → ((bit_value bit + 2 * n) % 2 == 1) ≡ bit
 low_bit true n = ap (λ (r : ℕ). r == 1) odd where

@@ -3,7 +3,7 @@ use Rattle.std.proofs.Common.{◌≡◌, ◌≢◌, ◌≤◌, ◌<◌, ◌+◌,
 use Rattle.std.specs.Prelude.{Bool, ◌^◌}
 use Rattle.std.proofs.Math.ListN.{get_or}
 use Rattle.std.proofs.Math.Nat.{pow-succ', div-eq_of_lt}
-use Rattle.vm_descriptor.specs.Described.{bit_value, map_bytes, number_of_bits}
+use Rattle.vm_descriptor.specs.Maps.{bit_value, map_bytes, number_of_bits}
 use Rattle.vm_descriptor.proofs.MapSpelled.{last-of}
 
 pub length_map : (flags : List Bool) → length (map_bytes flags) ≡ (length flags + 7) / 8

@@ -1,12 +1,11 @@
 -- Maps that are read are spelled as they were.
-use Rattle.std.proofs.Common.{◌≡◌, ◌≤◌, ◌<◌, ◌+◌, ◌-◌, ◌*◌, ◌/◌, ◌%◌, ℕ, zero, suc, List, [], ◌∷◌, ◌++◌, length, drop, sym, ap, ◌∙◌, refl, true, false, subst, arith, inl, inr}
-use Rattle.std.proofs.lemmas.List.{get_or-drop, length-drop}
+use Rattle.std.proofs.Common.{◌≡◌, ◌≤◌, ◌<◌, ◌+◌, ◌-◌, ◌*◌, ◌/◌, ◌%◌, ℕ, zero, suc, List, [], ◌∷◌, ◌++◌, length, sym, ap, ◌∙◌, refl, true, false, subst, arith, inl, inr}
 use Rattle.std.specs.Prelude.{Bool, not, ◌&&◌, ◌^◌, ◌==◌, nat_lt, if◌then◌else◌, ◌⊎◌}
 use Rattle.std.proofs.Math.ListN.{get_or}
 use Rattle.std.proofs.lemmas.Bool.{eqb-true, eqb-false, ltb-false, ltb-true}
 use Rattle.std.proofs.lemmas.Nat.{pow_pos}
 use Rattle.std.proofs.Math.Nat.{pow-succ', lt-div-mul-add}
-use Rattle.vm_descriptor.specs.Described.{bit_value, bits_of, flags_of, has_spare_bit, map_bytes, number_of_bits}
+use Rattle.vm_descriptor.specs.Maps.{bit_value, bits_of, flags_of, has_spare_bit, map_bytes, number_of_bits}
 use Rattle.flat_memory.proofs.ByteLists.{AreBytes}
 
 bit_by : (odd : Bool) (n : ℕ) → (n % 2 == 1) ≡ odd → bit_value odd ≡ n % 2
@@ -97,13 +96,9 @@ not_both true b is = inl refl
 not_both false true is = inr refl
 not_both false false is = absurd (cc)
 
--- bytes whose map has no spare bit end so
-pub ends_clear : (count : ℕ) (xs : List ℕ) → has_spare_bit count xs ≡ false → (776 + 1) ≤ length xs → IsClear count (drop 776 xs)
-ends_clear count xs is some = by (not_both (count % 8 == 0) (get_or xs (length xs - 1) 0 / 2 ^ (count % 8) == 0) is) where
-  by : ((count % 8 == 0) ≡ true) ⊎ ((get_or xs (length xs - 1) 0 / 2 ^ (count % 8) == 0) ≡ true) → IsClear count (drop 776 xs)
+-- a map that has no spare bit ends so
+pub ends_clear : (count : ℕ) (map : List ℕ) → has_spare_bit count map ≡ false → IsClear count map
+ends_clear count map is = by (not_both (count % 8 == 0) (get_or map (length map - 1) 0 / 2 ^ (count % 8) == 0) is) where
+  by : ((count % 8 == 0) ≡ true) ⊎ ((get_or map (length map - 1) 0 / 2 ^ (count % 8) == 0) ≡ true) → IsClear count map
   by (inl whole) = inl (eqb-true (count % 8) 0 whole)
-  by (inr clear) =
-      let shorter = length-drop 776 xs in
-      let place : 776 + (length (drop 776 xs) - 1) ≡ length xs - 1 = omega (arith, shorter, some) in
-      inr (ap (λ (b : ℕ). b / 2 ^ (count % 8)) (get_or-drop 776 xs (length (drop 776 xs) - 1) 0 ∙ ap (λ (i : ℕ). get_or xs i 0) place)
-      ∙ eqb-true (get_or xs (length xs - 1) 0 / 2 ^ (count % 8)) 0 clear)
+  by (inr clear) = inr (eqb-true (get_or map (length map - 1) 0 / 2 ^ (count % 8)) 0 clear)

@@ -1,7 +1,7 @@
 -- Maps of pages in bytes.
 use Rattle.std.proofs.Common.{◌≡◌, ◌≢◌, ◌≤◌, ◌<◌, List, [], ◌∷◌, length, refl, take, drop, arith}
 use Rattle.std.specs.Prelude.{Bool}
-use Rattle.vm_descriptor.specs.Described.{map_bytes, number_of_bits}
+use Rattle.vm_descriptor.specs.Maps.{map_bytes, number_of_bits}
 
 -- the first byte of a map of eight flags or more, and the others
 pub map_whole : (flags : List Bool) → 8 ≤ length flags → map_bytes flags ≡ number_of_bits (take 8 flags) ∷ map_bytes (drop 8 flags)

@@ -1,11 +1,9 @@
 -- The bytes of a descriptor in range are not refused.
-use Rattle.std.proofs.Common.{◌≡◌, ◌≢◌, ◌≤◌, ◌+◌, ◌-◌, ◌*◌, ◌/◌, ◌%◌, ℕ, List, length, take, drop, sym, ap, ◌∙◌, refl, true, false, subst, Some, None, arith}
-use Rattle.std.specs.Prelude.{Bool, IfSome, ◌^◌, ◌==◌, ◌&&◌, not, nat_le, nat_lt, if◌then◌else◌, Option, codes}
-use Rattle.std.specs.Str.{bytes_eq}
+use Rattle.std.proofs.Common.{◌≡◌, ◌≤◌, ◌<◌, ◌+◌, ◌*◌, ◌/◌, ◌%◌, ◌^◌, ℕ, List, length, drop, sym, ap, ap₂, ◌∙◌, refl, true, false, Some, None, arith}
+use Rattle.std.specs.Prelude.{Bool, IfSome, ◌==◌, ◌&&◌, not, nat_le, if◌then◌else◌, Option}
 use Rattle.std.specs.Cmp.Derive.{both_true}
-use Rattle.std.proofs.Math.ListN.{get_or}
-use Rattle.std.proofs.lemmas.Bool.{le-leb, lt-ltb, le-ltb, eq-eqb, eqb-false}
-use Rattle.std.proofs.lemmas.List.{length-drop, get_or-drop}
+use Rattle.std.proofs.lemmas.Bool.{le-leb, lt-ltb, eq-eqb}
+use Rattle.std.proofs.lemmas.List.{length-drop}
 use Rattle.block_port.specs.Block.{status_word}
 use Rattle.block_port.specs.declared.status.Status.{Status}
 use Rattle.block_port.specs.declared.status.Status.TheVariants.{Done, BadSector, UnknownCommand}
@@ -14,12 +12,25 @@ use Rattle.rv_traps.specs.declared.registers.CsrRegisters.{CsrRegisters}
 use Rattle.rv_traps.specs.Registers.{IsInRange as AreCsrs}
 use Rattle.vm_descriptor.specs.declared.descriptor.Descriptor.{Descriptor}
 use Rattle.vm_descriptor.specs.Descriptor.{IsInRange, IsRamWord}
-use Rattle.vm_descriptor.specs.Fields.{Field, number, number_in, reserved_of, address_of}
+use Rattle.vm_descriptor.specs.Fields.{Field, between, number, number_in, reserved_of, address_of}
 use Rattle.vm_descriptor.specs.Fields.{Pages}
-use Rattle.vm_descriptor.specs.Described.{are_csrs, are_in_range, described, Fits, has_spare_bit, is_reservation, map_bytes, map_size, refused, refused_as, version_1}
+use Rattle.vm_descriptor.specs.Maps.{flags_as, form_of, is_due, is_whole, map_as, map_of, misread}
+use Rattle.vm_descriptor.specs.Described.{are_csrs, are_in_range, described_as, Fits, is_reservation, undue, unread}
 use Rattle.vm_descriptor.proofs.Accepted.{are_in}
-use Rattle.vm_descriptor.proofs.DescribedBack.{IsSpelled, described_back}
-use Rattle.vm_descriptor.proofs.MapLast.{length_map, clear_last}
+use Rattle.vm_descriptor.proofs.DescribedBack.{spelled_fields, version}
+use Rattle.vm_descriptor.proofs.Forms.{map_due, map_read, map_well, map_whole}
+use Rattle.vm_descriptor.proofs.MapLast.{length_map}
+
+-- bytes have what is behind them where something is
+pub long_enough : (xs rest : List ℕ) → drop 776 xs ≡ rest → 1 ≤ length rest → 776 ≤ length xs
+long_enough xs rest is some =
+    let shorter = length-drop 776 xs in
+    let size : length (drop 776 xs) ≡ length rest = ap (λ (ys : List ℕ). length ys) is in
+    omega (arith, shorter, size, some)
+
+pub some_map : (has_forms : Bool) (flags : List Bool) → 1 ≤ length flags → 1 ≤ length (map_as has_forms flags)
+some_map true flags some = omega arith
+some_map false flags some = let size = length_map flags in omega (arith, size, some)
 
 pass : (b : Bool) (reason : ℕ) (rest : Option ℕ) → b ≡ false → (if b then Some reason else rest) ≡ rest
 pass true reason rest is = absurd (cc)
@@ -63,51 +74,43 @@ numbers_in_range d fits range =
       reservation = reservation_in d.pages d.reservation range.reservation;
     })
 
-whole_length : (d : Descriptor) → IsSpelled d → Fits d → IsInRange d → length (described d) ≡ 776 + map_size d.pages
-whole_length d is fits range =
-    let xs = described d in
-    let shorter = length-drop 776 xs in
-    let map : length (drop 776 xs) ≡ (d.pages + 7) / 8 =
-    ap (λ (ys : List ℕ). length ys) is.map ∙ (length_map d.blank ∙ ap (λ (n : ℕ). (n + 7) / 8) fits.map) in
-    let least = range.ram.least in
-    omega (arith, shorter, map, least)
+module _ (a b c e least most : ℕ) (has_forms : Bool) (d : Descriptor) (fits : Fits d) (range : IsInRange d) (from : least ≤ d.pages) (to : d.pages ≤ most) where
+  -- what stands behind the fields is the map of as many pages as the descriptor has
+  behind_fields : (drop 776 (described_as (version a b c e least most has_forms) d) ≡ map_as has_forms d.blank)
+      × (number_in (described_as (version a b c e least most has_forms) d) Pages ≡ length d.blank)
+  behind_fields =
+      let is = spelled_fields a b c e least most has_forms d fits in
+      (is.rest, ap (λ (numbers : Field → ℕ). numbers Pages) is.numbers ∙ sym fits.map)
 
-none_spare : (whole : Bool) (d : Descriptor) → IsSpelled d → Fits d → IsInRange d → (d.pages % 8 == 0) ≡ whole
-    → (not whole && not (get_or (described d) (length (described d) - 1) 0 / 2 ^ (d.pages % 8) == 0)) ≡ false
-none_spare true d is fits range test = refl
-none_spare false d is fits range test =
-    let xs = described d in
-    let m = map_bytes d.blank in
-    let partial = eqb-false (d.pages % 8) 0 test in
-    let clear : get_or m (length m - 1) 0 / 2 ^ (d.pages % 8) ≡ 0 =
-    subst (λ (p : ℕ). p % 8 ≢ 0 → get_or m (length m - 1) 0 / 2 ^ (p % 8) ≡ 0) fits.map (clear_last d.blank) partial in
-    let long = whole_length d is fits range in
-    let map : length m ≡ (d.pages + 7) / 8 = length_map d.blank ∙ ap (λ (n : ℕ). (n + 7) / 8) fits.map in
-    let least = range.ram.least in
-    let place : length xs - 1 ≡ 776 + (length m - 1) = omega (arith, long, map, least) in
-    let last : get_or xs (length xs - 1) 0 ≡ get_or m (length m - 1) 0 =
-    ap (λ (i : ℕ). get_or xs i 0) place ∙ (sym (get_or-drop 776 xs (length m - 1) 0) ∙ ap (λ (ys : List ℕ). get_or ys (length m - 1) 0) is.map) in
-    ap (λ (b : Bool). not b) (eq-eqb (get_or xs (length xs - 1) 0 / 2 ^ (d.pages % 8)) 0 (ap (λ (b : ℕ). b / 2 ^ (d.pages % 8)) last ∙ clear))
+  -- the bytes of a descriptor in range are not refused
+  pub not_unread : unread (version a b c e least most has_forms) (described_as (version a b c e least most has_forms) d) ≡ None
+  unfolding unread
+  not_unread =
+      let xs = described_as (version a b c e least most has_forms) d in
+      let rest = map_as has_forms d.blank in
+      let is = spelled_fields a b c e least most has_forms d fits in
+      let at = behind_fields in
+      let few : length d.blank < 2 ^ 16 = omega (arith, fits.map, fits.runs) in
+      let some : 1 ≤ length d.blank = let least = range.ram.least in omega (arith, fits.map, least) in
+      let same : number_in xs Pages ≡ d.pages = ap (λ (numbers : Field → ℕ). numbers Pages) is.numbers in
+      let fit : between least most (number_in xs Pages) ≡ true =
+      ap (λ (p : ℕ). between least most p) same ∙ both_true (le-leb least d.pages from) (le-leb d.pages most to) in
+      let whole : is_whole has_forms (number_in xs Pages) (drop 776 xs) ≡ true =
+      ap₂ (λ (n : ℕ) (ys : List ℕ). is_whole has_forms n ys) at.1 at.0 ∙ map_whole d.blank few has_forms in
+      let sized : (nat_le 776 (length xs) && is_whole has_forms (number_in xs Pages) (drop 776 xs)) ≡ true =
+      both_true (le-leb 776 (length xs) (long_enough xs _ at.0 (some_map has_forms d.blank some))) whole in
+      let fields : are_in_range (number_in xs) ≡ true = ap are_in_range is.numbers ∙ numbers_in_range d fits range in
+      pass (not (between least most (number_in xs Pages))) 3 _ (ap (λ (b : Bool). not b) fit)
+      ∙ (pass (not (nat_le 776 (length xs) && is_whole has_forms (number_in xs Pages) (drop 776 xs))) 4 _ (ap (λ (b : Bool). not b) sized)
+      ∙ (pass (not (are_in_range (number_in xs))) 5 _ (ap (λ (b : Bool). not b) fields)
+      ∙ (ap₂ (λ (n : ℕ) (ys : List ℕ). misread (form_of has_forms ys) n (map_of has_forms ys)) at.1 at.0 ∙ map_well d.blank few has_forms)))
 
--- the bytes of a descriptor in range are not refused
-pub not_refused : (d : Descriptor) → Fits d → IsInRange d → refused (described d) ≡ None
-unfolding refused_as
-not_refused d fits range =
-    let is = described_back d fits in
-    let xs = described d in
-    let long = whole_length d is fits range in
-    let enough : 776 ≤ length xs = omega (arith, long) in
-    let same : number_in xs Pages ≡ d.pages = ap (λ (numbers : Field → ℕ). numbers Pages) is.numbers in
-    let has_pages : (nat_le version_1.least_pages (number_in xs Pages) && nat_le (number_in xs Pages) version_1.most_pages) ≡ true =
-    ap (λ (p : ℕ). nat_le version_1.least_pages p && nat_le p version_1.most_pages) same
-    ∙ both_true (le-leb version_1.least_pages d.pages range.ram.least) (le-leb d.pages version_1.most_pages range.ram.most) in
-    let size : (length xs == 776 + map_size (number_in xs Pages)) ≡ true =
-    eq-eqb (length xs) (776 + map_size (number_in xs Pages)) (long ∙ ap (λ (p : ℕ). 776 + map_size p) (sym same)) in
-    let fields : are_in_range (number_in xs) ≡ true = ap are_in_range is.numbers ∙ numbers_in_range d fits range in
-    let spare : has_spare_bit (number_in xs Pages) xs ≡ false = ap (λ (p : ℕ). has_spare_bit p xs) same ∙ none_spare (d.pages % 8 == 0) d is fits range refl in
-    pass (nat_lt (length xs) 776) 1 _ (le-ltb (length xs) 776 enough)
-    ∙ (pass (not (bytes_eq (take 4 xs) (codes "SFD1"))) 2 _ (ap (λ (ys : List ℕ). not (bytes_eq ys (codes "SFD1"))) is.mark)
-    ∙ (pass (not (nat_le version_1.least_pages (number_in xs Pages) && nat_le (number_in xs Pages) version_1.most_pages)) 3 _ (ap (λ (b : Bool). not b) has_pages)
-    ∙ (pass (not (length xs == 776 + map_size (number_in xs Pages))) 4 _ (ap (λ (b : Bool). not b) size)
-    ∙ (pass (not (are_in_range (number_in xs))) 5 _ (ap (λ (b : Bool). not b) fields)
-    ∙ pass (has_spare_bit (number_in xs Pages) xs) 6 None spare))))
+  pub not_undue : undue (version a b c e least most has_forms) (described_as (version a b c e least most has_forms) d) ≡ None
+  not_undue =
+      let xs = described_as (version a b c e least most has_forms) d in
+      let at = behind_fields in
+      let few : length d.blank < 2 ^ 16 = omega (arith, fits.map, fits.runs) in
+      let flags : flags_as has_forms (number_in xs Pages) (drop 776 xs) ≡ d.blank =
+      ap₂ (λ (n : ℕ) (ys : List ℕ). flags_as has_forms n ys) at.1 at.0 ∙ map_read d.blank few has_forms in
+      ap (λ (b : Bool). let found : Option ℕ = if b then None else Some 7 in found)
+      (ap₂ (λ (ys : List ℕ) (fs : List Bool). is_due has_forms (form_of has_forms ys) fs) at.0 flags ∙ map_due d.blank few has_forms)

@@ -1,10 +1,10 @@
 -- The bytes of numbers are those that they were read from.
-use Rattle.std.proofs.Common.{◌≡◌, ◌≤◌, ◌<◌, ◌+◌, ◌*◌, ◌/◌, ◌%◌, ◌^◌, ℕ, zero, suc, List, [], ◌∷◌, ◌++◌, length, drop, sym, ap, ◌∙◌, refl, true, arith}
+use Rattle.std.proofs.Common.{◌≡◌, ◌≤◌, ◌<◌, ◌+◌, ◌*◌, ◌/◌, ◌%◌, ◌^◌, ℕ, zero, suc, List, [], ◌∷◌, ◌++◌, length, drop, sym, ap, ◌∙◌, refl, subst, true, arith}
 use Rattle.std.specs.Prelude.{Bool, ◌==◌, ◌&&◌}
 use Rattle.std.proofs.Math.ListN.{get_or}
 use Rattle.std.proofs.Math.Seq.{drop-cons}
 use Rattle.std.proofs.lemmas.Bool.{and_parts, eqb-true}
-use Rattle.std.proofs.lemmas.List.{append_assoc}
+use Rattle.std.proofs.lemmas.List.{append_assoc, get_or-drop}
 use Rattle.byteorder.specs.Endian.{little_bytes, little_from}
 use Rattle.std.specs.Int.{byte_at, bytes_low_first}
 use Rattle.std.proofs.Math.Nat.{div-div-eq-div-mul, div-one, pow-succ'}
@@ -12,6 +12,10 @@ use Rattle.flat_memory.proofs.ByteLists.{AreBytes}
 use Rattle.std.specs.List.{flat_map}
 use Rattle.vm_descriptor.specs.Fields.{Field, number_in, row, spelled}
 use Rattle.vm_descriptor.specs.Described.{word, numbers_from}
+
+-- what stands behind so many bytes are bytes
+pub bytes_behind : (count : ℕ) (xs : List ℕ) → AreBytes xs → AreBytes (drop count xs)
+bytes_behind count xs are = λ (i : ℕ). subst (λ (b : ℕ). b < 256) (sym (get_or-drop count xs i 0)) (are (count + i))
 
 same_bytes : {b b' : ℕ} {bs bs' : List ℕ} → b ≡ b' → bs ≡ bs' → b ∷ bs ≡ b' ∷ bs'
 same_bytes p q = cc

@@ -1,20 +1,22 @@
 -- Bytes that are accepted are spelled as they are read.
-use Rattle.std.proofs.Common.{◌≡◌, ◌≤◌, ◌<◌, ◌+◌, ℕ, zero, suc, List, ◌++◌, length, take, drop, sym, ap, ap₂, ◌∙◌, refl, true, false, Some, None, subst, arith}
-use Rattle.std.specs.Prelude.{Bool, ◌&&◌, ◌==◌, if◌then◌else◌, codes}
+use Rattle.std.proofs.Common.{◌≡◌, ◌≤◌, ◌<◌, ◌+◌, ℕ, zero, suc, List, [], ◌∷◌, ◌++◌, length, take, drop, sym, ap, ap₂, ◌∙◌, refl, true, false, Some, None, arith}
+use Rattle.std.specs.Prelude.{Bool, ◌==◌, if◌then◌else◌, Option}
 use Rattle.std.specs.List.{flat_map}
+use Rattle.std.specs.Str.{bytes_eq}
 use Rattle.std.proofs.Math.Seq.{drop-drop}
-use Rattle.std.proofs.Math.ListN.{get_or}
 use Rattle.std.proofs.lemmas.Bool.{eqb-true, eqb-false}
-use Rattle.std.proofs.lemmas.List.{append_assoc, get_or-drop, length-drop, take-append-drop}
+use Rattle.std.proofs.lemmas.List.{append_assoc, take-append-drop}
 use Rattle.std.proofs.lemmas.Slice.Eq.{bytes_eq-Decides}
 use Rattle.block_port.specs.Block.{status_word}
 use Rattle.flat_memory.proofs.ByteLists.{AreBytes}
 use Rattle.vm_descriptor.specs.Fields.{Field, number, number_in, spelled, before_registers, behind_registers, reserved_of, address_of}
 use Rattle.vm_descriptor.specs.Fields.{Pages, Reserved, Reservation, BlockStatus}
-use Rattle.vm_descriptor.specs.Described.{word, described, descriptor_of, flags_of, is_reservation, map_bytes, map_size, numbers_from, read, refused, reservation_of, status_of}
+use Rattle.vm_descriptor.specs.Maps.{flags_as, map_as}
+use Rattle.vm_descriptor.specs.Described.{word, described_as, descriptor_of, numbers_from, read_as, reservation_of, status_of, undue, unread}
 use Rattle.vm_descriptor.proofs.Accepted.{AreInRange, accepted, in_range}
-use Rattle.vm_descriptor.proofs.MapSpelled.{ends_clear, map_back}
-use Rattle.vm_descriptor.proofs.Spelled.{fields_back, words_back}
+use Rattle.vm_descriptor.proofs.DescribedBack.{version}
+use Rattle.vm_descriptor.proofs.Forms.{map_kept}
+use Rattle.vm_descriptor.proofs.Spelled.{bytes_behind, fields_back, words_back}
 
 status_spelled : (w : ℕ) → w ≤ 2 → status_word (status_of w) ≡ w
 status_spelled zero most = refl
@@ -45,15 +47,15 @@ regroup : (mark before registers behind rest : List ℕ)
     → (mark ++ (before ++ (registers ++ behind))) ++ rest ≡ mark ++ (before ++ (registers ++ (behind ++ rest)))
 regroup mark before registers behind rest = simp append_assoc
 
-module _ (xs : List ℕ) (are : AreBytes xs) (long : 776 ≤ length xs) (is : AreInRange (number_in xs)) (mark : take 4 xs ≡ codes "SFD1")
-    (map : map_bytes (flags_of (number_in xs Pages) (drop 776 xs)) ≡ drop 776 xs) where
-  spelled_kept : (fields : List Field) → spelled (number (read xs)) fields ≡ spelled (number_in xs) fields
-  unfolding read
+module _ (a b c e least most : ℕ) (has_forms : Bool) (xs : List ℕ) (are : AreBytes xs) (long : 776 ≤ length xs) (is : AreInRange (number_in xs)) (marked : take 4 xs ≡ a ∷ b ∷ c ∷ e ∷ [])
+    (map : map_as has_forms (flags_as has_forms (number_in xs Pages) (drop 776 xs)) ≡ drop 776 xs) where
+  spelled_kept : (fields : List Field) → spelled (number (read_as (version a b c e least most has_forms) xs)) fields ≡ spelled (number_in xs) fields
+  unfolding read_as
   spelled_kept fields =
       ap (λ (numbers : Field → ℕ). spelled numbers fields)
-      (numbers_kept (number_in xs) (numbers_from 4 31 24 xs) (take 512 (drop 264 xs)) (flags_of (number_in xs Pages) (drop 776 xs)) is)
+      (numbers_kept (number_in xs) (numbers_from 4 31 24 xs) (take 512 (drop 264 xs)) (flags_as has_forms (number_in xs Pages) (drop 776 xs)) is)
 
-  from_buffer : take 512 (drop 264 xs) ++ map_bytes (flags_of (number_in xs Pages) (drop 776 xs)) ≡ drop 264 xs
+  from_buffer : take 512 (drop 264 xs) ++ map_as has_forms (flags_as has_forms (number_in xs Pages) (drop 776 xs)) ≡ drop 264 xs
   from_buffer =
       ap (λ (ys : List ℕ). take 512 (drop 264 xs) ++ ys) (map ∙ sym (drop-drop 512 264 xs)) ∙ take-append-drop 512 (drop 264 xs)
 
@@ -66,29 +68,36 @@ module _ (xs : List ℕ) (are : AreBytes xs) (long : 776 ≤ length xs) (is : Ar
   from_image : spelled (number_in xs) before_registers ++ drop 24 xs ≡ drop 4 xs
   from_image = fields_back before_registers 4 xs (drop 24 xs) refl are (omega (arith, long)) refl
 
-  pub spelled_as_read : described (read xs) ≡ xs
-  unfolding described read
+  spelled_as_read : described_as (version a b c e least most has_forms) (read_as (version a b c e least most has_forms) xs) ≡ xs
+  unfolding described_as read_as
   spelled_as_read =
+      let mark = a ∷ b ∷ c ∷ e ∷ [] in
       let registers = flat_map word (numbers_from 4 31 24 xs) in
       let behind = spelled (number_in xs) behind_registers in
       let before = spelled (number_in xs) before_registers in
-      ap₂ (λ (first last : List ℕ). (codes "SFD1" ++ (first ++ (registers ++ last))) ++ (take 512 (drop 264 xs) ++ map_bytes (flags_of (number_in xs Pages) (drop 776 xs))))
+      ap₂ (λ (first last : List ℕ). (mark ++ (first ++ (registers ++ last))) ++ (take 512 (drop 264 xs) ++ map_as has_forms (flags_as has_forms (number_in xs Pages) (drop 776 xs))))
       (spelled_kept before_registers) (spelled_kept behind_registers)
-      ∙ (regroup (codes "SFD1") before registers behind _
-      ∙ (ap (λ (ys : List ℕ). codes "SFD1" ++ (before ++ (registers ++ (behind ++ ys)))) from_buffer
-      ∙ (ap (λ (ys : List ℕ). codes "SFD1" ++ (before ++ (registers ++ ys))) from_csrs
-      ∙ (ap (λ (ys : List ℕ). codes "SFD1" ++ (before ++ ys)) from_registers
-      ∙ (ap (λ (ys : List ℕ). codes "SFD1" ++ ys) from_image
-      ∙ (ap (λ (ys : List ℕ). ys ++ drop 4 xs) (sym mark) ∙ take-append-drop 4 xs))))))
+      ∙ (regroup mark before registers behind _
+      ∙ (ap (λ (ys : List ℕ). mark ++ (before ++ (registers ++ (behind ++ ys)))) from_buffer
+      ∙ (ap (λ (ys : List ℕ). mark ++ (before ++ (registers ++ ys))) from_csrs
+      ∙ (ap (λ (ys : List ℕ). mark ++ (before ++ ys)) from_registers
+      ∙ (ap (λ (ys : List ℕ). mark ++ ys) from_image
+      ∙ (ap (λ (ys : List ℕ). ys ++ drop 4 xs) (sym marked) ∙ take-append-drop 4 xs))))))
 
--- bytes that are not refused
-pub accepted_spelled : (bytes : List ℕ) → AreBytes bytes → refused bytes ≡ None → described (read bytes) ≡ bytes
-accepted_spelled bytes are none =
-    let a = accepted bytes none in
-    let pages = number_in bytes Pages in
-    let shorter = length-drop 776 bytes in
-    let map : length (drop 776 bytes) ≡ map_size pages = omega (arith, a.whole, shorter) in
-    let some : (776 + 1) ≤ length bytes = omega (arith, a.whole, a.least) in
-    let behind = λ (i : ℕ). subst (λ (b : ℕ). b < 256) (sym (get_or-drop 776 bytes i 0)) (are (776 + i)) in
-    spelled_as_read bytes are a.long (in_range (number_in bytes) a.fields) ((bytes_eq-Decides (take 4 bytes) (codes "SFD1")).0 a.mark)
-    (map_back (drop 776 bytes) pages behind map (ends_clear pages bytes a.clear some))
+when_due : (b : Bool) → (let found : Option ℕ = if b then None else Some 7 in found) ≡ None → b ≡ true
+when_due true none = refl
+when_due false none = absurd (cc)
+
+-- bytes of a version that are not refused
+module _ (a b c e least most : ℕ) (has_forms : Bool) (some : 16 ≤ least) (xs : List ℕ) (are : AreBytes xs) where
+  pub version_spelled : bytes_eq (take 4 xs) (a ∷ b ∷ c ∷ e ∷ []) ≡ true → unread (version a b c e least most has_forms) xs ≡ None → undue (version a b c e least most has_forms) xs ≡ None
+      → ((read_as (version a b c e least most has_forms) xs).pages ≤ most) × (xs ≡ described_as (version a b c e least most has_forms) (read_as (version a b c e least most has_forms) xs))
+  unfolding read_as
+  version_spelled marked readable due =
+      let is = accepted (version a b c e least most has_forms) xs readable in
+      let rest = drop 776 xs in
+      let positive : 0 < number_in xs Pages = omega (arith, is.least, some) in
+      let kept = map_kept (number_in xs Pages) positive has_forms rest (bytes_behind 776 xs are) is.whole is.well (when_due _ due) in (
+        is.most,
+        sym (spelled_as_read a b c e least most has_forms xs are is.long (in_range (number_in xs) is.fields) ((bytes_eq-Decides (take 4 xs) (a ∷ b ∷ c ∷ e ∷ [])).0 marked) kept.1),
+      )

@@ -1,8 +1,8 @@
 -- The bytes of a descriptor, and why others are none. All numbers are little endian.
-use Rattle.std.specs.Prelude.{◌≡◌, ⊤, ℕ, zero, suc, ◌+◌, ◌*◌, ◌/◌, ◌%◌, ◌-◌, ◌^◌, ◌==◌, slice_index, nat_le, nat_lt, not, ◌&&◌, Bool, true, false}
-use Rattle.std.specs.Prelude.{if◌then◌else◌, ◌<◌, List, [], ◌∷◌, ◌++◌, length, take, drop, codes, Option, Some, None, Result, Ok, Err}
+use Rattle.std.specs.Prelude.{◌≡◌, ◌≤◌, ⊤, ℕ, zero, suc, ◌+◌, ◌*◌, ◌%◌, ◌^◌, ◌==◌, slice_index, nat_le, nat_lt, not, ◌&&◌, ◌⊎◌, Bool, true, false}
+use Rattle.std.specs.Prelude.{if◌then◌else◌, ◌<◌, List, [], ◌∷◌, ◌++◌, length, take, drop, Option, Some, None, Result, Ok, Err}
 use Rattle.std.specs.List.{flat_map}
-use Rattle.std.specs.Str.{bytes_eq}
+use Rattle.std.specs.Option.{option_or}
 use Rattle.byteorder.specs.Endian.{little_bytes, little_from}
 use Rattle.block_port.specs.declared.status.Status.{Status}
 use Rattle.block_port.specs.declared.status.Status.TheVariants.{Done, BadSector, UnknownCommand}
@@ -13,13 +13,11 @@ use Rattle.vm_descriptor.specs.declared.error.DescError.{DescError}
 use Rattle.vm_descriptor.specs.declared.error.DescError.TheVariants.{Refused, Memory}
 use Rattle.vm_descriptor.specs.declared.descriptor.Descriptor.{Descriptor}
 use Rattle.vm_descriptor.specs.declared.version.Version.{Version}
-use Rattle.vm_descriptor.specs.Fields.{Field, aligned, has_only, is_mstatus, number, number_in, row, spelled, in_ranges, before_registers, behind_registers}
+use Rattle.vm_descriptor.specs.Fields.{Field, aligned, between, has_only, is_mstatus, number, number_in}
+use Rattle.vm_descriptor.specs.Fields.{row, spelled, in_ranges, before_registers, behind_registers}
 use Rattle.vm_descriptor.specs.Fields as field
-
--- ---- what a version of the format has of its own
-
-abbrev pub version_1 : Version
-version_1 = record { mark = codes "SFD1"; header = 776; least_pages = 16; most_pages = 1024 }
+use Rattle.vm_descriptor.specs.Maps.{flags_as, form_of, is_due, is_whole, map_as, map_of, misread}
+use Rattle.vm_descriptor.specs.Versions.{IsVersion, version_1, version_2, version_of, versions}
 
 -- ---- the bytes
 
@@ -29,30 +27,31 @@ word n = little_bytes 4 n
 abbrev pub double : ℕ → List ℕ
 double n = little_bytes 8 n
 
-abbrev pub bit_value : Bool → ℕ
-bit_value false = 0
-bit_value true = 1
-
--- the number of which these are the bits, the lowest first
-unfoldable pub number_of_bits : List Bool → ℕ
-number_of_bits [] = 0
-number_of_bits (bit ∷ bits) = bit_value bit + 2 * number_of_bits bits
-
--- a byte for each eight flags, of which the first is the lowest bit. The bits past the last flag are 0
-unfoldable pub map_bytes : List Bool → List ℕ
-map_bytes [] = []
-map_bytes (a ∷ (b ∷ (c ∷ (d ∷ (e ∷ (f ∷ (g ∷ (h ∷ rest)))))))) =
-    number_of_bits (a ∷ b ∷ c ∷ d ∷ e ∷ f ∷ g ∷ h ∷ []) ∷ map_bytes rest
-map_bytes few = number_of_bits few ∷ []
-
 -- what stands before the buffer of the block port
-abbrev pub before_buffer : Descriptor → List ℕ
-before_buffer d =
-    version_1.mark ++ (spelled (number d) before_registers ++ (flat_map word d.registers ++ spelled (number d) behind_registers))
+abbrev pub before_buffer : List ℕ → Descriptor → List ℕ
+before_buffer mark d =
+    mark ++ (spelled (number d) before_registers ++ (flat_map word d.registers ++ spelled (number d) behind_registers))
 
--- the one spelling of a descriptor
-unfoldable pub described : Descriptor → List ℕ
-described d = before_buffer d ++ (d.block.buffer ++ map_bytes d.blank)
+-- the spelling of a descriptor in a version
+unfoldable pub described_as : Version → Descriptor → List ℕ
+described_as version d = before_buffer version.mark d ++ (d.block.buffer ++ map_as version.has_forms d.blank)
+
+-- the spelling in the newest version, and in the first, which tells of no more than 1,024 pages
+abbrev pub described : Descriptor → List ℕ
+described d = described_as version_2 d
+
+abbrev pub described_old : Descriptor → List ℕ
+described_old d = described_as version_1 d
+
+-- these bytes are the spelling of a descriptor in one of these versions, which can tell of its pages
+abbrev pub IsSpelledIn : List Version → Descriptor → List ℕ → Type 0
+IsSpelledIn [] d bytes = ⊥
+IsSpelledIn (version ∷ others) d bytes =
+    ((d.pages ≤ version.most_pages) × (bytes ≡ described_as version d)) ⊎ IsSpelledIn others d bytes
+
+-- in any version
+abbrev pub IsSpelling : Descriptor → List ℕ → Type 0
+IsSpelling d bytes = IsSpelledIn versions d bytes
 
 -- ---- what bytes say
 
@@ -60,20 +59,6 @@ described d = before_buffer d ++ (d.block.buffer ++ map_bytes d.blank)
 unfoldable pub numbers_from : ℕ → ℕ → ℕ → List ℕ → List ℕ
 numbers_from width zero at bytes = []
 numbers_from width (suc count) at bytes = little_from at width bytes ∷ numbers_from width count (at + width) bytes
-
--- so many bits of a number, the lowest first
-unfoldable pub bits_of : ℕ → ℕ → List Bool
-bits_of zero n = []
-bits_of (suc count) n = (n % 2 == 1) ∷ bits_of count (n / 2)
-
--- so many flags, eight in a byte
-unfoldable pub flags_of : ℕ → List ℕ → List Bool
-flags_of count [] = []
-flags_of count (byte ∷ rest) = if nat_lt 8 count then bits_of 8 byte ++ flags_of (count - 8) rest else bits_of count byte
-
--- the bytes of a map of so many pages
-abbrev pub map_size : ℕ → ℕ
-map_size pages = (pages + 7) / 8
 
 abbrev pub status_of : ℕ → Status
 status_of word = if word == 0 then Done else (if word == 1 then BadSector else UnknownCommand)
@@ -118,9 +103,19 @@ descriptor_of numbers registers buffer blank = record {
   blank = blank;
 }
 
--- what the fields of bytes say
-unfoldable pub read : List ℕ → Descriptor
-read bytes = descriptor_of (number_in bytes) (numbers_from 4 31 24 bytes) (take 512 (drop 264 bytes)) (flags_of (number_in bytes field.Pages) (drop 776 bytes))
+-- what bytes of a version say
+unfoldable pub read_as : Version → List ℕ → Descriptor
+read_as version bytes =
+    descriptor_of (number_in bytes) (numbers_from 4 31 24 bytes) (take 512 (drop 264 bytes))
+    (flags_as version.has_forms (number_in bytes field.Pages) (drop version.fields bytes))
+
+-- what bytes say. Those of no version say nothing, and are read as of the newest
+abbrev pub read_by : Option Version → List ℕ → Descriptor
+read_by (Some version) bytes = read_as version bytes
+read_by None bytes = read_as version_2 bytes
+
+abbrev pub read : List ℕ → Descriptor
+read bytes = read_by (version_of bytes) bytes
 
 -- ---- why bytes are none
 
@@ -144,35 +139,56 @@ are_csrs csrs = is_mstatus csrs.mstatus && (has_only 0x80 csrs.mie && (has_only 
 unfoldable pub are_in_range : (Field → ℕ) → Bool
 are_in_range numbers = in_ranges numbers before_registers (in_ranges numbers behind_registers (agree numbers))
 
--- a bit past the last page is 1
-abbrev pub has_spare_bit : ℕ → List ℕ → Bool
-has_spare_bit pages bytes = not (pages % 8 == 0) && not (slice_index bytes (length bytes - 1) / 2 ^ (pages % 8) == 0)
-
--- the number of the first reason why bytes are none of this version, if there is one
-unfoldable pub refused_as : Version → List ℕ → Option ℕ
-refused_as version bytes =
+-- the number of the first reason why bytes are none of this version, but that the other form of the map is due
+unfoldable pub unread : Version → List ℕ → Option ℕ
+unread version bytes =
     let pages = number_in bytes field.Pages in
-    if nat_lt (length bytes) version.header then Some 1
-    else if not (bytes_eq (take 4 bytes) version.mark) then Some 2
-    else if not (nat_le version.least_pages pages && nat_le pages version.most_pages) then Some 3
-    else if not (length bytes == version.header + map_size pages) then Some 4
+    let rest = drop version.fields bytes in
+    if not (between version.least_pages version.most_pages pages) then Some 3
+    else if not (nat_le version.fields (length bytes) && is_whole version.has_forms pages rest) then Some 4
     else if not (are_in_range (number_in bytes)) then Some 5
-    else if has_spare_bit pages bytes then Some 6
-    else None
+    else misread (form_of version.has_forms rest) pages (map_of version.has_forms rest)
 
+-- that the other form is due
+abbrev pub undue : Version → List ℕ → Option ℕ
+undue version bytes =
+    let rest = drop version.fields bytes in
+    if is_due version.has_forms (form_of version.has_forms rest) (flags_as version.has_forms (number_in bytes field.Pages) rest) then None
+    else Some 7
+
+-- the number of the first reason why bytes are none of this version
+abbrev pub refused_as : Version → List ℕ → Option ℕ
+refused_as version bytes = option_or (unread version bytes) (undue version bytes)
+
+abbrev pub refused_by : Option Version → List ℕ → Option ℕ
+refused_by (Some version) bytes = refused_as version bytes
+refused_by None bytes = Some 2
+
+-- the number of the first reason why bytes are no descriptor, if there is one
 abbrev pub refused : List ℕ → Option ℕ
-refused bytes = refused_as version_1 bytes
+refused bytes = if nat_lt (length bytes) 776 then Some 1 else refused_by (version_of bytes) bytes
 
 -- these bytes are refused for the reason that is told
 abbrev pub IsRefused : List ℕ → DescError → Type 0
 IsRefused bytes (Refused number) = refused bytes ≡ Some number
 IsRefused bytes Memory = ⊤
 
+-- no reason refuses bytes of this version, but maybe that the other form of the map is due
+pub record IsReadable (version : Version) (bytes : List ℕ) : Type 0 where
+  pub known : IsVersion version
+  pub long : 776 ≤ length bytes
+  pub marked : version_of bytes ≡ Some version
+  pub unread : unread version bytes ≡ None
+
+-- the answer is such a value, or there is no memory for it
+abbrev pub IsGiven : {T : Type 0} → (T → Type 0) → Result T DescError → Type 0
+IsGiven P (Ok found) = P found
+IsGiven P (Err (Refused number)) = ⊥
+IsGiven P (Err Memory) = ⊤
+
 -- the answer is this descriptor, or there is no memory for it
 abbrev pub IsReadAs : Descriptor → Result Descriptor DescError → Type 0
-IsReadAs d (Ok found) = found ≡ d
-IsReadAs d (Err (Refused number)) = ⊥
-IsReadAs d (Err Memory) = ⊤
+IsReadAs d answer = IsGiven (λ found. found ≡ d) answer
 
 -- ---- what the types of the fields say
 
@@ -180,7 +196,7 @@ abbrev pub AreWords : List ℕ → Type 0
 AreWords words = (i : ℕ) → slice_index words i < 2 ^ 32
 
 -- each number fits in the bytes of its field, words have 32 bits, there are 31 registers and 512 bytes in the buffer, and the
--- map has a flag for each page
+-- map has a flag for each page, so many that the length of a run of them fits in two bytes
 pub record Fits (d : Descriptor) : Type 0 where
   pub numbers : (f : Field) → number d f < 256 ^ (row f).width
   pub line_control : d.console.line_control < 2 ^ 8
@@ -188,8 +204,9 @@ pub record Fits (d : Descriptor) : Type 0 where
   pub each : length d.registers ≡ 31
   pub buffer : length d.block.buffer ≡ 512
   pub map : length d.blank ≡ d.pages
+  pub runs : d.pages < 2 ^ 16
 
--- bytes that are kept are those of the descriptor that they are read as
+-- bytes that are kept, of the newest version, are those of the descriptor that they are read as
 pub record IsKept (bytes : List ℕ) : Type 0 where
-  pub fits : Fits (read bytes)
-  pub spelled : described (read bytes) ≡ bytes
+  pub fits : Fits (read_as version_2 bytes)
+  pub spelled : described (read_as version_2 bytes) ≡ bytes

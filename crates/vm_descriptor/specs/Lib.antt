@@ -1,3 +1,5 @@
 pub mod Descriptor
 pub mod Fields
+pub mod Versions
+pub mod Maps
 pub mod Described

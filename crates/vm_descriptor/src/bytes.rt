@@ -4,35 +4,55 @@ ghost use Rattle.std.specs.Prelude.{◌≡◌, ◌≤◌, ◌<◌, ◌^◌, [], 
 ghost use Rattle.std.specs.List.{flat_map};
 ghost use Rattle.vm_descriptor.specs.Descriptor.{IsInRange};
 ghost use Rattle.vm_descriptor.specs.Fields.{address_of, reserved_of};
-ghost use Rattle.vm_descriptor.specs.Described.{before_buffer, described, double, map_bytes, number_of_bits, word};
+ghost use Rattle.vm_descriptor.specs.Versions.{IsVersion};
+ghost use Rattle.vm_descriptor.specs.Described.{before_buffer, described, described_as, described_old, double, word};
 
 use crate::descriptor::Descriptor;
-use crate::version::{HEADER_SIZE, VERSION_1};
+use crate::map::push_rest;
+use crate::version::{VERSION_1, VERSION_2, Version};
 use flat_memory::push_words;
 use rv_traps::CsrRegisters;
 use std::alloc::{AllocError, Global};
 
 impl Descriptor {
-    /// The bytes of a descriptor that is in range.
-    #[tactic(auto, using(std::proofs::lemmas::List::append_assoc), unfolding(crate::specs::Described::described))]
+    /// The bytes of a descriptor that is in range, in the newest version.
     pub fn encode(&self, alloc: Global) -> Result<Vec<u8>, AllocError>
         requires { IsInRange self.now }
         ensures { IfOk result (λ bytes. bytes.items ≡ described self.now) }
     {
+        self.encode_as(alloc, &VERSION_2)
+    }
+
+    /// Its bytes in the first version, where it has at most 1,024 pages.
+    pub fn encode_old(&self, alloc: Global) -> Result<Vec<u8>, AllocError>
+        requires in_range { IsInRange self.now }
+        requires few { self.now.pages ≤ 1024 }
+        ensures { IfOk result (λ bytes. bytes.items ≡ described_old self.now) }
+    {
+        self.encode_as(alloc, &VERSION_1)
+    }
+
+    /// Its bytes in a version.
+    #[tactic(auto, using(std::proofs::lemmas::List::append_assoc), unfolding(crate::specs::Described::described_as))]
+    fn encode_as(&self, alloc: Global, version: &Version) -> Result<Vec<u8>, AllocError>
+        requires in_range { IsInRange self.now }
+        requires known { IsVersion version.now }
+        ensures { IfOk result (λ bytes. bytes.items ≡ described_as version.now self.now) }
+    {
         let flags = self.blank.flags();
-        let mut bytes = Vec::with_capacity(alloc, HEADER_SIZE + flags.len() / 8 + 1)?;
-        self.push_fields(&mut bytes)?;
+        let mut bytes = Vec::with_capacity(alloc, version.fields + flags.len() / 8 + 2)?;
+        self.push_fields(version, &mut bytes)?;
         bytes.extend_from_slice(&self.block.buffer)?;
-        push_map(&mut bytes, flags)?;
+        push_rest(&mut bytes, version.has_forms, flags)?;
         Ok(bytes)
     }
 
     /// Adds the fields before the buffer.
     #[tactic(auto, using(std::proofs::lemmas::List::append_assoc))]
-    fn push_fields(&self, bytes: &mut Vec<u8>) -> Result<(), AllocError>
-        ensures { OnOk result (bytes.new.items ≡ bytes.old.items ++ before_buffer self.now) }
+    fn push_fields(&self, version: &Version, bytes: &mut Vec<u8>) -> Result<(), AllocError>
+        ensures { OnOk result (bytes.new.items ≡ bytes.old.items ++ before_buffer version.now.mark self.now) }
     {
-        bytes.extend_from_slice(&VERSION_1.mark)?;
+        bytes.extend_from_slice(&version.mark)?;
         push_words(
             bytes,
             &[self.image, self.pages, self.clone_id, self.share, self.pc],
@@ -104,34 +124,5 @@ fn reservation_words(reservation: Option<u32>) -> [u32; 2]
     match reservation {
         Some(address) => [1, address],
         None => [0, 0],
-    }
-}
-
-/// Adds the bytes of a map.
-#[tactic(auto, using(crate::proofs::Maps::map_whole, crate::proofs::Maps::map_rest, std::proofs::lemmas::List::append_assoc), unfolding(crate::specs::Described::map_bytes))]
-fn push_map(bytes: &mut Vec<u8>, flags: &[bool]) -> Result<(), AllocError>
-    ensures { OnOk result (bytes.new.items ≡ bytes.old.items ++ map_bytes flags.now) }
-{
-    let mut left = flags;
-    while let Some((eight, beyond)) = left.split_first_chunk::<8>() {
-        bytes.push(byte_of(eight))?;
-        left = beyond;
-    }
-    if !left.is_empty() {
-        bytes.push(byte_of(left))?;
-    }
-    Ok(())
-}
-
-/// The byte of which these are the bits, the lowest first.
-#[tactic(auto, unfolding(crate::specs::Described::number_of_bits))]
-fn byte_of(bits: &[bool]) -> u8
-    requires { length bits.now ≤ 8 }
-    ensures value { result ≡ number_of_bits bits.now }
-    ensures below { result < 2 ^ length bits.now }
-{
-    match bits.split_first() {
-        Some((bit, rest)) => u8::from(*bit) + 2 * byte_of(rest),
-        None => 0,
     }
 }

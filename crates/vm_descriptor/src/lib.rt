@@ -1,14 +1,17 @@
 //! The descriptor of a clone: what a machine that was forked starts with, beside what its image holds.
 #![tactic(auto)]
 
+mod bits;
 mod bytes;
 mod descriptor;
 mod error;
 mod fits;
 pub mod laws;
+mod map;
 mod page_map;
 mod read;
 mod refusal;
+mod runs;
 mod seed;
 mod version;
 

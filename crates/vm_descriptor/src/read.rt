@@ -5,14 +5,16 @@ ghost use Rattle.byteorder.specs.Endian.{little_from};
 ghost use Rattle.vm_descriptor.specs.declared.descriptor.Descriptor.{Descriptor};
 ghost use Rattle.vm_descriptor.specs.Descriptor.{IsInRange};
 ghost use Rattle.vm_descriptor.specs.Fields.{LineControl, number_in};
-ghost use Rattle.vm_descriptor.specs.Described.{Fits, IsReadAs, IsRefused, bits_of, csrs_of, described, flags_of, numbers_from, read, refused, reservation_of, status_of};
+ghost use Rattle.vm_descriptor.specs.Versions.{IsVersion};
+ghost use Rattle.vm_descriptor.specs.Described.{Fits, IsGiven, IsReadAs, IsRefused, IsSpelling, csrs_of, described, numbers_from, read, read_as, refused, reservation_of, status_of};
 
 use crate::descriptor::Descriptor;
 use crate::error::DescError;
+use crate::map::{is_due, read_map};
 use crate::page_map::PageMap;
-use crate::refusal::refusal;
+use crate::refusal::readable;
 use crate::version::{
-    BUFFER, COUNTERS, CSRS, HEADER_SIZE, IDENTITY, PORTS, REGISTERS, TIMES, VERSION_1,
+    BUFFER, COUNTERS, CSRS, HEADER_SIZE, IDENTITY, PORTS, REGISTERS, TIMES, Version,
 };
 use block_port::{BlockFields, Status};
 use byteorder::{ByteOrder, LittleEndian};
@@ -24,28 +26,48 @@ use std::alloc::{AllocError, Global};
 use timer_port::TimerRegisters;
 
 impl Descriptor {
-    /// Reads a descriptor, or refuses the bytes by the first reason. The bytes of a descriptor in range
-    /// are read as it was, and no others are taken.
+    /// Reads a descriptor in whichever version, or refuses the bytes by the first reason. The spellings of a descriptor
+    /// in range are read as it was, and no others are taken.
     pub fn decode(alloc: Global, bytes: &[u8]) -> Result<Descriptor, DescError>
         ensures accepts { IfOk result (λ d. refused bytes.now ≡ None) }
         ensures reads { IfOk result (λ d. d ≡ read bytes.now) }
-        ensures spelled { IfOk result (λ d. described d ≡ bytes.now) }
+        ensures spelled { IfOk result (λ d. IsSpelling d bytes.now) }
         ensures in_range { IfOk result IsInRange }
-        ensures taken { (d : Descriptor) → Fits d → IsInRange d → bytes.now ≡ described d → IsReadAs d result }
+        ensures taken { (d : Descriptor) → Fits d → IsInRange d → IsSpelling d bytes.now → IsReadAs d result }
         ensures refuses { IfErr result (IsRefused bytes.now) }
     {
-        if let Some(number) = refusal(&VERSION_1, bytes) {
-            return Err(DescError::Refused(number));
+        let version = readable(bytes)?;
+        let descriptor = read_fields(alloc, version, bytes)?;
+        let rest = bytes.split_at(version.fields).1;
+        if !is_due(version.has_forms, rest, descriptor.blank.flags()) {
+            return Err(DescError::Refused(7));
         }
-        Ok(read_fields(alloc, bytes)?)
+        Ok(descriptor)
+    }
+
+    /// The bytes in the newest version of what bytes in whichever version say. They are refused just where `decode`
+    /// refuses them.
+    pub fn migrate(alloc: Global, bytes: &[u8]) -> Result<Vec<u8>, DescError>
+        ensures accepts { IfOk result (λ new. refused bytes.now ≡ None) }
+        ensures migrates { IfOk result (λ new. new.items ≡ described (read bytes.now)) }
+        ensures taken { (d : Descriptor) → Fits d → IsInRange d → IsSpelling d bytes.now → IsGiven (λ new. new.items ≡ described d) result }
+        ensures refuses { IfErr result (IsRefused bytes.now) }
+    {
+        let descriptor = Descriptor::decode(alloc, bytes)?;
+        Ok(descriptor.encode(alloc)?)
     }
 }
 
-/// What the fields of bytes say.
-pub(crate) fn read_fields(alloc: Global, bytes: &[u8]) -> Result<Descriptor, AllocError>
-    requires whole { HEADER_SIZE ≤ length bytes.now }
+/// What bytes of a version say.
+pub(crate) fn read_fields(
+    alloc: Global,
+    version: &Version,
+    bytes: &[u8],
+) -> Result<Descriptor, AllocError>
+    requires known { IsVersion version.now }
+    requires whole { version.now.fields ≤ length bytes.now }
     requires line_control { number_in bytes.now LineControl ≤ 255 }
-    ensures { IfOk result (λ d. d ≡ read bytes.now) }
+    ensures { IfOk result (λ d. d ≡ read_as version.now bytes.now) }
 {
     let [image, pages, clone_id, share, pc] = words_at::<5>(bytes, IDENTITY);
     let [mtime, mtimecmp, steps, limit] = doubles_at::<4>(bytes, TIMES);
@@ -61,7 +83,8 @@ pub(crate) fn read_fields(alloc: Global, bytes: &[u8]) -> Result<Descriptor, All
         join_select,
         granted,
     ] = words_at::<10>(bytes, PORTS);
-    let blank = read_flags(alloc, pages, bytes.split_at(HEADER_SIZE).1)?;
+    let rest = bytes.split_at(version.fields).1;
+    let blank = read_map(alloc, version.has_forms, pages, rest)?;
     Ok(Descriptor {
         image,
         pages,
@@ -171,58 +194,4 @@ fn read_double(bytes: &[u8], at: usize) -> u64
     ensures { result ≡ little_from at 8 bytes.now }
 {
     LittleEndian::read_u64(&bytes[at..])
-}
-
-/// So many flags, eight in a byte.
-fn read_flags(alloc: Global, count: u32, map: &[u8]) -> Result<Vec<bool>, AllocError>
-    ensures { IfOk result (λ flags. flags.items ≡ flags_of count map.now) }
-{
-    let mut flags = Vec::with_capacity(alloc, count as usize)?;
-    let mut left = count;
-    for byte in map {
-        let bits = bits_in_next(left);
-        push_bits(&mut flags, *byte, bits)?;
-        left -= bits;
-    }
-    Ok(flags)
-}
-
-/// Adds so many bits of a byte, the lowest first.
-#[tactic(auto, using(crate::proofs::Bits::bits_step, std::proofs::lemmas::List::append_assoc), unfolding(crate::specs::Described::bits_of))]
-fn push_bits(flags: &mut Vec<bool>, byte: u8, count: u32) -> Result<(), AllocError>
-    ensures { OnOk result (flags.new.items ≡ flags.old.items ++ bits_of count byte) }
-{
-    if count == 8 {
-        return flags.extend_from_slice(&eight_bits(byte));
-    }
-    let mut left = byte;
-    for _ in 0..count {
-        flags.push(left % 2 == 1)?;
-        left /= 2;
-    }
-    Ok(())
-}
-
-/// The bits of a byte, the lowest first.
-#[tactic(auto, unfolding(crate::specs::Described::bits_of))]
-fn eight_bits(byte: u8) -> [bool; 8]
-    ensures { result ≡ bits_of 8 byte }
-{
-    [
-        byte % 2 == 1,
-        byte / 2 % 2 == 1,
-        byte / 2 / 2 % 2 == 1,
-        byte / 2 / 2 / 2 % 2 == 1,
-        byte / 2 / 2 / 2 / 2 % 2 == 1,
-        byte / 2 / 2 / 2 / 2 / 2 % 2 == 1,
-        byte / 2 / 2 / 2 / 2 / 2 / 2 % 2 == 1,
-        byte / 2 / 2 / 2 / 2 / 2 / 2 / 2 % 2 == 1,
-    ]
-}
-
-/// How many of so many flags stand in the next byte.
-fn bits_in_next(left: u32) -> u32
-    ensures { result ≡ (if nat_lt 8 left then 8 else left) }
-{
-    if 8 < left { 8 } else { left }
 }

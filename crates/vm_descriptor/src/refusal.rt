@@ -1,52 +1,72 @@
 //! Why bytes are no descriptor.
 
-ghost use Rattle.std.specs.Prelude.{◌≡◌, ◌<◌, ◌≤◌, ◌^◌, ◌&&◌, nat_le, length};
+ghost use Rattle.std.specs.Prelude.{◌≡◌, ◌≤◌, ◌&&◌, nat_le, length, IfErr, IfOk};
 ghost use Rattle.vm_descriptor.specs.declared.version.TheConstants.{HEADER_SIZE};
 ghost use Rattle.console_port.specs.declared.port.TheConstants.{MAX_INPUT};
 ghost use Rattle.vm_descriptor.specs.declared.descriptor.TheConstants.{MAX_CLONES, MAX_LIMIT, MAX_SHARE};
 ghost use Rattle.vm_descriptor.specs.Fields.{aligned, between, number_in, up_to};
-ghost use Rattle.vm_descriptor.specs.Described.{are_csrs, are_in_range, has_spare_bit, is_reservation, refused_as};
+ghost use Rattle.vm_descriptor.specs.Versions.{IsVersion};
+ghost use Rattle.vm_descriptor.specs.Described.{IsReadable, IsRefused, are_csrs, are_in_range, is_reservation, unread};
 
 use crate::descriptor::{MAX_CLONES, MAX_LIMIT, MAX_SHARE};
+use crate::error::DescError;
+use crate::map::{form_of, is_whole, map_of, misread};
 use crate::read::{csrs_at, doubles_at, words_at};
-use crate::version::{IDENTITY, PAGES, PORTS, TIMES, Version};
+use crate::version::{HEADER_SIZE, IDENTITY, PAGES, PORTS, TIMES, Version, version_of};
 use console_port::MAX_INPUT;
 use elf_load::{PAGE_SIZE, RAM_BASE};
 use flat_memory::read_word;
 use rv_traps::CsrRegisters;
 
-/// The number of the first reason why bytes are no descriptor of a version, if there is one.
-#[tactic(auto, unfolding(crate::specs::Described::refused_as))]
-pub(crate) fn refusal(version: &Version, bytes: &[u8]) -> Option<u32>
-    requires fields { HEADER_SIZE ≤ version.now.header }
-    requires small { version.now.header < 2 ^ 32 }
-    ensures { result ≡ refused_as version.now bytes.now }
+/// The version of bytes that no reason refuses, but maybe that the other form of the map is due, or else the first
+/// reason.
+pub(crate) fn readable(bytes: &[u8]) -> Result<&'static Version, DescError>
+    ensures readable { IfOk result (λ version. IsReadable version.now bytes.now) }
+    ensures refused { IfErr result (IsRefused bytes.now) }
 {
-    if bytes.len() < version.header {
-        return Some(1);
+    if bytes.len() < HEADER_SIZE {
+        return Err(DescError::Refused(1));
     }
-    if bytes.split_at(4).0 != version.mark.as_slice() {
-        return Some(2);
+    let Some(version) = version_of(bytes) else {
+        return Err(DescError::Refused(2));
+    };
+    if let Some(number) = unread(version, bytes) {
+        return Err(DescError::Refused(number));
     }
+    Ok(version)
+}
+
+/// The number of the first reason why bytes are none of a version, but that the other form of the map is due.
+#[tactic(auto, unfolding(crate::specs::Described::unread))]
+fn unread(version: &Version, bytes: &[u8]) -> Option<u32>
+    requires known { IsVersion version.now }
+    requires long { HEADER_SIZE ≤ length bytes.now }
+    ensures { result ≡ unread version.now bytes.now }
+{
     let pages = read_word(bytes, PAGES);
     if !has_pages(version, pages) {
         return Some(3);
     }
-    if bytes.len() != version.header + (pages as usize + 7) / 8 {
+    if bytes.len() < version.fields {
+        return Some(4);
+    }
+    let rest = bytes.split_at(version.fields).1;
+    if !is_whole(version.has_forms, pages, rest) {
         return Some(4);
     }
     if !are_fields_in_range(bytes) {
         return Some(5);
     }
-    if has_spare(pages, bytes) {
-        return Some(6);
-    }
-    None
+    misread(
+        form_of(version.has_forms, rest),
+        pages,
+        map_of(version.has_forms, rest),
+    )
 }
 
 /// Whether a version can tell of so many pages.
 fn has_pages(version: &Version, pages: u32) -> bool
-    ensures { result ≡ (nat_le version.now.least_pages pages && nat_le pages version.now.most_pages) }
+    ensures { result ≡ between version.now.least_pages version.now.most_pages pages }
 {
     version.least_pages <= pages && pages <= version.most_pages
 }
@@ -112,12 +132,4 @@ fn is_reserved(pages: u32, reserved: u32, address: u32) -> bool
         return address == 0;
     }
     address % 4 == 0 && address >= RAM_BASE && u64::from(address) < end
-}
-
-/// Whether a bit past the last page is 1.
-fn has_spare(pages: u32, bytes: &[u8]) -> bool
-    requires { 1 ≤ length bytes.now }
-    ensures { result ≡ has_spare_bit pages bytes.now }
-{
-    pages % 8 != 0 && bytes[bytes.len() - 1] >> (pages % 8) != 0
 }

@@ -1,24 +1,58 @@
 //! What the versions of the format have of their own, and where the fields stand in all of them.
 
+ghost use Rattle.std.specs.Prelude.{◌≡◌, ◌≤◌, IfSome, length};
+ghost use Rattle.std.specs.Option.{option_copied};
+ghost use Rattle.vm_descriptor.specs.Versions.{IsVersion, version_of};
+
 /// What a version of the format has of its own.
 pub struct Version {
     /// The first four bytes.
     pub mark: [u8; 4],
-    /// The bytes before the map.
-    pub header: usize,
+    /// The bytes of the fields, behind which the map stands.
+    pub fields: usize,
+    /// Whether the map has either of two forms, and a byte before it tells which.
+    pub has_forms: bool,
     /// The least pages of RAM that it can tell of.
     pub least_pages: u32,
     /// The most pages of RAM that it can tell of.
     pub most_pages: u32,
 }
 
-/// The bound on its pages is the version's own, whatever RAM a machine may have.
+/// The first version. The bound on its pages is its own, whatever RAM a machine may have.
 pub const VERSION_1: Version = Version {
     mark: [b'S', b'F', b'D', b'1'],
-    header: HEADER_SIZE,
+    fields: HEADER_SIZE,
+    has_forms: false,
     least_pages: 16,
     most_pages: 1024,
 };
+
+/// The newest version, which is the one that is written.
+pub const VERSION_2: Version = Version {
+    mark: [b'S', b'F', b'D', b'2'],
+    fields: HEADER_SIZE,
+    has_forms: true,
+    least_pages: 16,
+    most_pages: 16_384,
+};
+
+/// All versions, the newest first.
+static VERSIONS: [Version; 2] = [VERSION_2, VERSION_1];
+
+/// The version whose mark bytes begin with, if there is one.
+pub fn version_of(bytes: &[u8]) -> Option<&'static Version>
+    requires { 4 ≤ length bytes.now }
+    ensures version { option_copied result ≡ version_of bytes.now }
+    ensures known { IfSome result (λ version. IsVersion version.now) }
+{
+    let mark = bytes.split_at(4).0;
+    for version in &VERSIONS {
+        if mark == version.mark.as_slice() {
+            return Some(version);
+        }
+    }
+    None
+}
 
 /// Where the image number, the pages, the number of the clone, its share and pc begin.
 pub const IDENTITY: usize = 4;
@@ -47,5 +81,5 @@ pub const PORTS: usize = 224;
 /// Where the buffer of the block port begins.
 pub const BUFFER: usize = 264;
 
-/// The bytes before the map.
+/// The bytes of the fields that all versions have.
 pub const HEADER_SIZE: usize = 776;

@@ -116,7 +116,7 @@ impl Hart {
             pc: image.entry(),
             csrs: Csrs::reset(),
             reservation: None,
-            memory: GuestMem::booted(alloc, image)?,
+            memory: GuestMem::booted(image)?,
             ports: Ports::new(alloc, disk, input, allot)?,
         })
     }

@@ -1,4 +1,4 @@
-use Rattle.vm_descriptor.proofs.Spelling.{accepted_spelled}
+use Rattle.vm_descriptor.proofs.Marks.{accepted_spelled}
 use Rattle.vm_descriptor.proofs.laws.accepted_bytes_are_spelled.Goals as goal
 
 pub returns : goal.returns

@@ -1,5 +1,4 @@
-use Rattle.std.proofs.Common.{rules, ◌≡◌, ◌∙◌, ap, drop, List, ℕ, get_or}
-use Rattle.vm_descriptor.specs.Described.{flags_of}
+use Rattle.std.proofs.Common.{rules}
 use Rattle.vm_descriptor.proofs.FieldsRead.{all_read, line_control_read}
 use Rattle.vm_descriptor.proofs.read.read_fields.Goals as goal
 
@@ -11,6 +10,6 @@ overflow_cast-result c =
 
 pub returns : goal.returns
 returns c =
-    all_read c.args.bytes.now c.words_at.result c.doubles_at.result c.words_at-2.result c.words_at-3.result c.csrs_at.result c.reservation_in.result c.status_in.result
+    all_read c.args.version.now c.args.bytes.now c.words_at.result c.doubles_at.result c.words_at-2.result c.words_at-3.result c.csrs_at.result c.reservation_in.result c.status_in.result
     c.buffer_in.result c.from_vec.result c.words_at.ensures c.doubles_at.ensures c.words_at-2.ensures c.words_at-3.ensures c.csrs_at.ensures c.reservation_in.ensures
     c.status_in.ensures c.buffer_in.ensures (search rules)

@@ -61,4 +61,5 @@ returns c =
       each = c.registers_fit.ensures.each;
       buffer = c.block_fits.ensures.buffer;
       map = c.requires.ram.one_bit_a_page;
+      runs = let most = c.requires.ram.most in omega (arith, most);
     }

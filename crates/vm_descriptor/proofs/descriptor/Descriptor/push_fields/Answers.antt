@@ -1,5 +1,4 @@
 use Rattle.std.proofs.Common.{ℕ, ◌++◌, ◌∷◌, [], ap, ◌∙◌}
-use Rattle.std.specs.Prelude.{codes}
 use Rattle.std.specs.List.{flat_map}
 use Rattle.block_port.specs.Block.{status_word}
 use Rattle.vm_descriptor.specs.Fields.{address_of, reserved_of}
@@ -18,7 +17,7 @@ returns c =
     let csrs = flat_map word (d.csrs.mstatus ∷ d.csrs.mie ∷ d.csrs.mtvec ∷ d.csrs.mscratch ∷ d.csrs.mepc ∷ d.csrs.mcause ∷ d.csrs.mtval ∷ []) in
     let registers = flat_map word d.registers in
     let first = flat_map word (d.image ∷ d.pages ∷ d.clone_id ∷ d.share ∷ d.pc ∷ []) in
-    onto c.args.bytes.now.items (codes "SFD1") (first ++ (registers ++ (csrs ++ (counters ++ (reserved ++ ports))))) c.in_ok-extend_from_slice.ensures.items
+    onto c.args.bytes.now.items c.args.version.now.mark (first ++ (registers ++ (csrs ++ (counters ++ (reserved ++ ports))))) c.in_ok-extend_from_slice.ensures.items
     (onto _ first (registers ++ (csrs ++ (counters ++ (reserved ++ ports)))) c.in_ok-push_words.ensures
     (onto _ registers (csrs ++ (counters ++ (reserved ++ ports))) c.in_ok-push_words-2.ensures
     (onto _ csrs (counters ++ (reserved ++ ports)) c.in_ok-push_csrs.ensures

@@ -1,4 +1,4 @@
-use Rattle.std.proofs.Common.{◌≡◌, ap, ◌∙◌}
+use Rattle.std.proofs.Common.{◌≡◌, ◌∙◌, arith}
 use Rattle.std.proofs.lemmas.Result.{IfOk-weaker}
 use Rattle.vm_descriptor.specs.Descriptor.{numbered}
 use Rattle.vm_descriptor.specs.Described.{described}
@@ -9,7 +9,12 @@ pub read_fields-requires : goal.read_fields-requires
 read_fields-requires c =
     let d = numbered c.args.clone_id c.args.self.now in
     let is : c.deref.result.now ≡ described d = c.deref.ensures.value ∙ c.in_ok-bytes.ensures.value in
-    record { whole = long_kept d c.deref.result.now c.in_ok-bytes.ensures.fits c.requires is; line_control = line_control_kept d c.deref.result.now c.in_ok-bytes.ensures.fits c.requires is }
+    let fits = c.in_ok-bytes.ensures.fits in
+    record {
+      known = record { fields = omega arith; few = omega arith; least = omega arith; most = omega arith };
+      whole = long_kept d c.deref.result.now fits c.requires is;
+      line_control = line_control_kept d c.deref.result.now fits c.requires is;
+    }
 
 pub returns : goal.returns
 returns c =

@@ -1,5 +1,0 @@
-use Rattle.elf_load.proofs.RamBytes.{IsRamSoFar}
-use Rattle.elf_load.proofs.memory.ram_of.Given as goal
-
-abbrev pub invariant-loop-segment : goal.invariant-loop-segment
-invariant-loop-segment l = IsRamSoFar l.bytes l.segments l.pages l.segment-index l.ram.items

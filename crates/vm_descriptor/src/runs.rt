@@ -1,0 +1,103 @@
+//! The map of pages as the lengths of runs of equal flags.
+
+ghost use Rattle.std.specs.Prelude.{◌≡◌, ◌+◌, ◌≤◌, ◌<◌, ◌^◌, ◌++◌, ◌&&◌, ◌==◌, nat_lt, false, length, replicate, IfOk, OnOk};
+ghost use Rattle.std.specs.List.{flat_map, list_all, sum};
+ghost use Rattle.vm_descriptor.specs.Maps.{are_runs, flags_of_runs, half, halves, runs};
+
+use flat_memory::read_half;
+use std::alloc::{AllocError, Global};
+
+/// How many runs there are.
+pub(crate) fn run_count(flags: &[bool]) -> usize
+    requires { length flags.now < 2 ^ 16 }
+    ensures value { result ≡ length (runs flags.now) }
+    ensures most { result ≤ length flags.now + 1 }
+{
+    let mut count = 1;
+    let mut last = false;
+    for flag in flags {
+        if *flag == last {
+            continue;
+        }
+        count += 1;
+        last = *flag;
+    }
+    count
+}
+
+/// Adds the lengths of the runs.
+pub(crate) fn push_runs(bytes: &mut Vec<u8>, flags: &[bool]) -> Result<(), AllocError>
+    requires { length flags.now < 2 ^ 16 }
+    ensures { OnOk result (bytes.new.items ≡ bytes.old.items ++ flat_map half (runs flags.now)) }
+{
+    let mut run: u16 = 0;
+    let mut last = false;
+    for flag in flags {
+        if *flag == last {
+            run += 1;
+            continue;
+        }
+        push_length(bytes, run)?;
+        run = 1;
+        last = *flag;
+    }
+    push_length(bytes, run)
+}
+
+/// Adds the length of a run.
+fn push_length(bytes: &mut Vec<u8>, run: u16) -> Result<(), AllocError>
+    ensures { OnOk result (bytes.new.items ≡ bytes.old.items ++ half run) }
+{
+    bytes.extend_from_slice(&run.to_le_bytes())
+}
+
+/// The flags of runs, which are so many.
+pub(crate) fn read_runs(alloc: Global, count: u32, map: &[u8]) -> Result<Vec<bool>, AllocError>
+    ensures { IfOk result (λ flags. flags.items ≡ flags_of_runs false (halves map.now)) }
+{
+    let mut flags = Vec::with_capacity(alloc, count as usize)?;
+    let mut flag = false;
+    let mut left = map;
+    while let Some((run, behind)) = left.split_first_chunk::<2>() {
+        push_run(&mut flags, flag, read_half(run, 0))?;
+        flag = !flag;
+        left = behind;
+    }
+    Ok(flags)
+}
+
+/// Adds a run.
+fn push_run(flags: &mut Vec<bool>, flag: bool, run: u16) -> Result<(), AllocError>
+    ensures { OnOk result (flags.new.items ≡ flags.old.items ++ replicate run flag) }
+{
+    let end = flags.len() + usize::from(run);
+    flags.resize(end, flag)
+}
+
+/// Whether these are the lengths of the runs of so many flags, of which none is 0 but maybe the first.
+pub(crate) fn are_runs(pages: u32, map: &[u8]) -> bool
+    ensures { result ≡ are_runs pages (halves map.now) }
+{
+    let Some((first, behind)) = map.split_first_chunk::<2>() else {
+        return pages == 0;
+    };
+    let first = u32::from(read_half(first, 0));
+    first <= pages && follow(pages - first, behind)
+}
+
+/// Whether these are the lengths of the runs of so many flags, of which none is 0.
+fn follow(pages: u32, map: &[u8]) -> bool
+    ensures { result ≡ (list_all (λ run. nat_lt 0 run) (halves map.now) && sum (halves map.now) == pages) }
+{
+    let mut pages_left = pages;
+    let mut left = map;
+    while let Some((run, behind)) = left.split_first_chunk::<2>() {
+        let run = u32::from(read_half(run, 0));
+        if run == 0 || pages_left < run {
+            return false;
+        }
+        pages_left -= run;
+        left = behind;
+    }
+    pages_left == 0
+}
