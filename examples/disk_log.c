@@ -13,7 +13,7 @@ static uint32_t entries;
 /* Counts the entries that the disk has, up to the first sector that begins with a zero. */
 static void open_log(void)
 {
-    while (snow_read_sector(entries, sector) == SNOW_DISK_DONE && sector[0] != 0)
+    while (snow_disk_read(entries, sector) == SNOW_DISK_DONE && sector[0] != 0)
         entries++;
 }
 
@@ -26,7 +26,7 @@ static void add(const char *text, uint32_t number)
         sector[i] = 0;
     for (; *text; text++)
         *to++ = *text == '#' ? (char)('0' + number % 10) : *text;
-    if (snow_write_sector(entries, sector) != SNOW_DISK_DONE) {
+    if (snow_disk_write(entries, sector) != SNOW_DISK_DONE) {
         snow_print("the disk is full: see --disk\n");
         snow_exit(1);
     }
@@ -36,7 +36,7 @@ static void add(const char *text, uint32_t number)
 static void show_log(void)
 {
     for (uint32_t i = 0; i < entries; i++) {
-        snow_read_sector(i, sector);
+        snow_disk_read(i, sector);
         snow_print((const char *)sector);
         snow_put('\n');
     }

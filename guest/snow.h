@@ -1,8 +1,8 @@
 /* The machine of `snow` for guests in C: its registers and commands, and inline calls for them.
  *
- * A guest runs on one hart in machine mode (docs/machine.md). Outside RAM it has a timer, a console, a disk
- * and the fork port. The registers of the console are bytes, and all others are words: an access of another
- * width is a trap. guest/cc makes an image of C files that include this.
+ * A guest runs on one hart, in machine mode, and its tasks in user mode (docs/machine.md). Outside RAM it has a
+ * timer, a console, a disk and the fork port. The registers of the console are bytes, and all others are words:
+ * an access of another width is a trap. guest/cc makes an image of C files that include this.
  */
 
 #ifndef SNOW_H
@@ -12,16 +12,22 @@
 
 /* ---- The fork port, at 0x10002000 ---- */
 
+#define SNOW_HANDED_WORDS 16 /* a machine hands over 64 bytes at most */
+
 struct snow_fork_port {
     uint32_t arg0, arg1;     /* the arguments of the next command */
     uint32_t command;        /* written: does one of the commands below */
     uint32_t result;         /* read: what became of the last command */
     uint32_t clone_id;       /* read: 0 in the machine that was booted, else which child of its ticket it is, from 1 */
     uint32_t allot;          /* read: how many machines may still come from this one */
-    uint32_t jsel;           /* which child of the last join the next two tell of, from 1 */
+    uint32_t jsel;           /* which child of the last join the registers of joins tell of, from 1 */
     uint32_t jkind;          /* read: how it ended, one of SNOW_NONE, SNOW_EXITED and SNOW_LIMIT */
     uint32_t jvalue;         /* read: the value that it exited with, or 0 */
     uint32_t granted;        /* read: for how many children the last granted ticket is */
+    uint32_t unused_40;      /* no register: an access is a trap */
+    uint32_t jlen;           /* read: how many bytes it handed over, or 0 */
+    uint32_t unused_48[4];   /* no registers */
+    uint32_t jbytes[SNOW_HANDED_WORDS]; /* read: these bytes, and zeros behind them */
 };
 
 #define SNOW_FORK_PORT ((volatile struct snow_fork_port *)0x10002000)
@@ -33,7 +39,8 @@ enum {
     SNOW_JOIN = 3,
     SNOW_KILL = 4,
     SNOW_EXIT = 5,
-    SNOW_ZERO = 6
+    SNOW_ZERO = 6,
+    SNOW_EXIT_BYTES = 7 /* in the low byte, with the number of bytes above it */
 };
 
 /* The refusals, which the calls below return in the place of their results, but for snow_clone. A refusal
@@ -41,7 +48,7 @@ enum {
 #define SNOW_NO_TICKET 0xFFFFFFFFu    /* there is no such ticket: never granted, or joined, or killed */
 #define SNOW_CLONED 0xFFFFFFFEu       /* the ticket's children were made already */
 #define SNOW_NOT_CLONED 0xFFFFFFFDu   /* the ticket's children were not made yet */
-#define SNOW_BAD_ARGUMENT 0xFFFFFFFCu /* a ticket for no children; no pages, or pages that are not all of RAM */
+#define SNOW_BAD_ARGUMENT 0xFFFFFFFCu /* a ticket for no children; no pages, or pages or bytes that are not all of RAM */
 #define SNOW_NO_ALLOT 0xFFFFFFFBu     /* what may come from this machine does not pay for one child and its share */
 #define SNOW_NO_COMMAND 0xFFFFFFFAu   /* no command has the number */
 
@@ -134,6 +141,16 @@ static inline uint32_t snow_value(uint32_t child)
     return SNOW_FORK_PORT->jvalue;
 }
 
+/* Copies the bytes that a child of the last join handed over, by its number from 1, to a buffer of 64 bytes, and zeros
+ * behind them. Returns how many they are: 0 where it handed over none, there is no such child, or it ended by its limit. */
+static inline uint32_t snow_joined_bytes(uint32_t child, uint32_t buffer[static SNOW_HANDED_WORDS])
+{
+    SNOW_FORK_PORT->jsel = child;
+    for (int at = 0; at < SNOW_HANDED_WORDS; at++)
+        buffer[at] = SNOW_FORK_PORT->jbytes[at];
+    return SNOW_FORK_PORT->jlen;
+}
+
 /* Drops the children of a ticket at once, with all that came from them and what they put out; a ticket whose
  * children were not made is given back. The allot is back. Returns how many children there were, 0 where
  * they were not made. Refusal: SNOW_NO_TICKET. */
@@ -150,6 +167,20 @@ static inline _Noreturn void snow_exit(uint32_t value)
     SNOW_FORK_PORT->arg0 = value;
     SNOW_FORK_PORT->command = SNOW_EXIT;
     __builtin_unreachable();
+}
+
+/* Ends this machine as snow_exit does, and hands over so many bytes of RAM from an address on, up to 64, as they are
+ * then. Its parent reads them by snow_joined_bytes once it has joined this machine, and the report tells them. Where
+ * they are more, or not all of RAM, the machine is to end all the same: it traps, as by EBREAK. */
+static inline _Noreturn void snow_exit_bytes(uint32_t value, const void *address, uint32_t length)
+{
+    SNOW_FORK_PORT->arg0 = value;
+    SNOW_FORK_PORT->arg1 = (uint32_t)(uintptr_t)address;
+    if (length > 4 * SNOW_HANDED_WORDS)
+        length = 4 * SNOW_HANDED_WORDS + 1; /* which is refused, and loses no bits below */
+    __asm__ volatile("" ::: "memory"); /* stores to the bytes come before */
+    SNOW_FORK_PORT->command = length << 8 | SNOW_EXIT_BYTES;
+    __builtin_trap();
 }
 
 /* Makes pages of RAM read as zeros, from the one that is named, of 4,096 bytes and counted from 0x80000000.
@@ -187,6 +218,7 @@ enum {
     SNOW_CAUSE_LOAD = 5,
     SNOW_CAUSE_STORE_MISALIGNED = 6,
     SNOW_CAUSE_STORE = 7,
+    SNOW_CAUSE_USER_ECALL = 8, /* from user mode */
     SNOW_CAUSE_ECALL = 11
 };
 #define SNOW_CAUSE_TIMER 0x80000007u
@@ -254,6 +286,123 @@ static inline void snow_alarm_off(void)
 {
     snow_interrupts_off();
     SNOW_TIMER_COMPARE[1] = 0xFFFFFFFF;
+}
+
+/* ---- Tasks: code that is not trusted, in user mode under memory protection ---- */
+
+/* What a task may do in a region, joined by |. Where it may store it may load. */
+enum {
+    SNOW_LOAD = 1,
+    SNOW_STORE = 3,
+    SNOW_RUN = 4
+};
+
+/* A part of memory, RAM or ports, from one address up to but not another, both multiples of 4. */
+struct snow_region {
+    const volatile void *start, *end;
+    uint32_t rights;
+};
+
+/* How many regions a task has. Where two overlap the first counts, and an empty one allows nothing. */
+#define SNOW_REGIONS 4
+
+/* The region of all code and constants of this guest, to run and to load. No variable lies there. */
+#define SNOW_CODE {__code_start, __code_end, SNOW_LOAD | SNOW_RUN}
+extern const uint32_t __code_start[], __code_end[];
+
+/* How a task stopped. */
+struct snow_stop {
+    uint32_t cause; /* SNOW_CAUSE_TIMER, the cause of an exception, or SNOW_UNPROTECTED */
+    uint32_t pc;    /* of the instruction that did it */
+    uint32_t value; /* the address that it could not reach, or the word that is no instruction for it, or 0 */
+    uint32_t a0;    /* the task's register: the value of its function, where that returned */
+};
+
+/* The task did not run: its regions are not in form, or the guest has locked an entry of protection. */
+#define SNOW_UNPROTECTED 0xFFFFFFFFu
+
+/* Returns whether a task stopped since its function returned, which leads to the address 0. */
+static inline int snow_returned(const struct snow_stop *stop)
+{
+    return stop->cause == SNOW_CAUSE_FETCH && stop->pc == 0;
+}
+
+/* Makes entries of protection of the regions, two of each, as snow_user does. They bind user mode alone. Returns
+ * whether they are made: the ends are multiples of 4, the rights those above, and no entry was locked. */
+static inline int snow_protect(const struct snow_region regions[static SNOW_REGIONS])
+{
+    uint32_t bytes[SNOW_REGIONS / 2] = {0}, wrong = 0;
+
+    for (int i = 0; i < SNOW_REGIONS; i++) {
+        wrong |= ((uint32_t)regions[i].start | (uint32_t)regions[i].end) % 4 | regions[i].rights / 8;
+        bytes[i / 2] |= (8 | regions[i].rights) << (i % 2 ? 24 : 8); /* from the word of the entry before to its own */
+    }
+    if (wrong)
+        return 0;
+    SNOW_WRITE_CSR(pmpaddr0, (uint32_t)regions[0].start / 4);
+    SNOW_WRITE_CSR(pmpaddr1, (uint32_t)regions[0].end / 4);
+    SNOW_WRITE_CSR(pmpaddr2, (uint32_t)regions[1].start / 4);
+    SNOW_WRITE_CSR(pmpaddr3, (uint32_t)regions[1].end / 4);
+    SNOW_WRITE_CSR(pmpaddr4, (uint32_t)regions[2].start / 4);
+    SNOW_WRITE_CSR(pmpaddr5, (uint32_t)regions[2].end / 4);
+    SNOW_WRITE_CSR(pmpaddr6, (uint32_t)regions[3].start / 4);
+    SNOW_WRITE_CSR(pmpaddr7, (uint32_t)regions[3].end / 4);
+    SNOW_WRITE_CSR(pmpcfg0, bytes[0]);
+    SNOW_WRITE_CSR(pmpcfg1, bytes[1]);
+    /* a byte that was locked is not as it was written, and neither is one with stores and without loads */
+    return SNOW_READ_CSR(pmpcfg0) == bytes[0] && SNOW_READ_CSR(pmpcfg1) == bytes[1];
+}
+
+/* What snow_user calls, in user.S. */
+void snow_enter_user(uint32_t (*task)(void), void *stack, struct snow_stop *stop);
+
+/* Runs a function as a task in user mode, with a stack that ends at an address, a multiple of 16, and tells how it
+ * stopped: it returned, it did what it may not, or the timer came, which snow_alarm before this call sees to. The
+ * task's registers are 0 at its start but for sp, gp and tp. Interrupts are off when this returns.
+ *
+ * An ECALL of the task is no stop where the guest has a function
+ *
+ *     uint32_t snow_service(const uint32_t registers[8]) { .. }
+ *
+ * It is given a0 to a7, and what it returns becomes a0. It runs in machine mode, where no entry binds it, and what it
+ * is given is not trusted: snow_may tells whether the task itself may go to an address. A trap of its own goes to the
+ * guest's handler. It does not call snow_user, whose regions would be those of the task. */
+static inline struct snow_stop snow_user(uint32_t (*task)(void), void *stack,
+                                         const struct snow_region regions[static SNOW_REGIONS])
+{
+    struct snow_stop stop = {SNOW_UNPROTECTED, 0, 0, 0};
+
+    snow_interrupts_off();
+    if (snow_protect(regions))
+        snow_enter_user(task, stack, &stop);
+    return stop;
+}
+
+/* Returns whether a task may do this with all of so many bytes from an address on, which are in one region. */
+static inline int snow_may(const struct snow_region regions[static SNOW_REGIONS], uint32_t rights, uint32_t address,
+                           uint32_t length)
+{
+    if (address + length < address)
+        return 0;
+    for (int i = 0; i < SNOW_REGIONS; i++) {
+        uint32_t start = (uint32_t)regions[i].start, end = (uint32_t)regions[i].end;
+
+        if (address < end && start < address + length)
+            return start <= address && address + length <= end && (regions[i].rights & rights) == rights;
+    }
+    return 0;
+}
+
+/* For a task: asks its supervisor, by an ECALL with three registers and the number of a service in a7. */
+static inline uint32_t snow_ask(uint32_t service, uint32_t a0, uint32_t a1, uint32_t a2)
+{
+    register uint32_t first __asm__("a0") = a0;
+    register uint32_t second __asm__("a1") = a1;
+    register uint32_t third __asm__("a2") = a2;
+    register uint32_t number __asm__("a7") = service;
+
+    __asm__ volatile("ecall" : "+r"(first) : "r"(second), "r"(third), "r"(number) : "memory");
+    return first;
 }
 
 /* ---- The console, at 0x10000000, by bytes ---- */
@@ -329,7 +478,7 @@ static inline uint32_t snow_sectors(void)
 
 /* Reads a sector of this machine's own disk to 128 words. Returns SNOW_DISK_DONE, or SNOW_DISK_NO_SECTOR,
  * and then the words stay as they are. */
-static inline uint32_t snow_read_sector(uint32_t sector, uint32_t *words)
+static inline uint32_t snow_disk_read(uint32_t sector, uint32_t *words)
 {
     SNOW_BLOCK_PORT->sector = sector;
     SNOW_BLOCK_PORT->command = 1;
@@ -342,7 +491,7 @@ static inline uint32_t snow_read_sector(uint32_t sector, uint32_t *words)
 
 /* Writes 128 words to a sector of this machine's own disk. No other machine sees it but the children that
  * it makes later, and no file is written. Returns SNOW_DISK_DONE or SNOW_DISK_NO_SECTOR. */
-static inline uint32_t snow_write_sector(uint32_t sector, const uint32_t *words)
+static inline uint32_t snow_disk_write(uint32_t sector, const uint32_t *words)
 {
     for (int i = 0; i < SNOW_SECTOR_WORDS; i++)
         SNOW_BLOCK_PORT->buffer[i] = words[i];

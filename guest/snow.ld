@@ -23,6 +23,7 @@ SECTIONS
 
     .text __stack_top :
     {
+        __code_start = .;
         KEEP(*(.text.start))
         *(.text .text.*)
         *(.rodata .rodata.* .srodata .srodata.*)
@@ -30,6 +31,7 @@ SECTIONS
         __init_array_start = .;
         KEEP(*(SORT_BY_INIT_PRIORITY(.init_array.*) .init_array))
         __init_array_end = .;
+        __code_end = .;
     } >ram :code
 
     .data ALIGN(4096) :

@@ -1,5 +1,6 @@
 -- What the clauses of `parse` and of the parser of the words tell of what the words mean.
-use Rattle.std.proofs.Common.{◌≡◌, ◌≢◌, ℕ, ◌+◌, ◌<◌, ◌^◌, ◌⊎◌, inl, inr, Bool, true, false, ◌||◌, cond, option_map, List, [], ◌∷◌, get_or, length, take, Option, Some, None, Result, Ok, Err, refl, sym, ap, ◌∙◌, subst}
+use Rattle.std.proofs.Common.{◌≡◌, ◌≢◌, ℕ, ◌+◌, ◌<◌, ◌^◌, ◌⊎◌, inl, inr, Bool, true, false, ◌||◌, cond, option_map, List, []}
+use Rattle.std.proofs.Common.{◌∷◌, get_or, length, take, Option, Some, None, Result, Ok, Err, refl, sym, ap, ◌∙◌, subst}
 use Rattle.std.specs.Borrow.{Bor}
 use Rattle.std.specs.List.{fold}
 use Rattle.std.specs.Result.{IfOk, IsOkAnd, OkIff, result_ok}
@@ -10,7 +11,8 @@ use Rattle.std.proofs.lemmas.List.Sums.{fold_more}
 use Rattle.std.proofs.lemmas.Bool.{and_from, and_parts, lt-ltb, ltb-true}
 use Rattle.std.proofs.lemmas.Result.{IfOk-weaker}
 use Rattle.clap.proofs.WalkLemmas.{first_value-rows}
-use Rattle.clap.specs.Words.{AddsArg, AddsSubcommand, App, HasMatchesOf, IsAmong, Kinds, Row, Rule, app_of, fault_of, first_of, first_value, found_of, is_simple, is_simple_and_free, new_rule, rows_of, rule_of, subcommand_rows_of, with_rule, with_subcommand}
+use Rattle.clap.specs.Words.{AddsArg, AddsSubcommand, App, HasMatchesOf, IsAmong, Kinds, Row, Rule, app_of, fault_of, first_of, first_value, found_of}
+use Rattle.clap.specs.Words.{is_simple, is_simple_and_free, new_rule, rows_of, rule_of, subcommand_rows_of, with_rule, with_subcommand}
 use Rattle.clap.specs.declared.Arg.{Arg}
 use Rattle.clap.specs.declared.Command.{Command}
 use Rattle.clap.specs.declared.Command.TheViews.{out-Command}
@@ -93,7 +95,8 @@ pub subcommand-added : {E F : Type 0} (made : Result Command E) (old sub : Comma
     → IfOk r (AddsSubcommand old sub)
     → IfOk r (λ added. IsOkAnd made (λ sub. (out-Command sub).has_globals ≡ false → app_of added ≡ with_subcommand (app_of old) (app_of sub).top))
 subcommand-added {E} made old sub r was added =
-    IfOk-weaker r _ _ (λ new adds. subst (λ (m : Result Command E). IsOkAnd m (λ sub. (out-Command sub).has_globals ≡ false → app_of new ≡ with_subcommand (app_of old) (app_of sub).top)) (sym was) adds.shape) added
+    IfOk-weaker r _ _ (λ new adds. subst (λ (m : Result Command E). IsOkAnd m
+    (λ sub. (out-Command sub).has_globals ≡ false → app_of new ≡ with_subcommand (app_of old) (app_of sub).top)) (sym was) adds.shape) added
 
 -- a subcommand that could be made, whose own parser is known
 pub subcommand-known : {E : Type 0} (made : Result Command E) (old new known : App)

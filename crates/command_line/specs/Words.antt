@@ -1,11 +1,16 @@
 -- What the words of a command line mean, by the matches of the parser `clap`.
-use Rattle.std.specs.Prelude.{ℕ, ◌^◌, ◌&&◌, true, nat_le, nat_lt, if◌then◌else◌, List, [], ◌∷◌, length, map, codes, Option, Some, None, option_and_then, string_bytes, String}
+use Rattle.std.specs.Prelude.{ℕ, ◌^◌, ◌&&◌, true, nat_le, nat_lt, if◌then◌else◌, List, [], ◌∷◌, length}
+use Rattle.std.specs.Prelude.{map, codes, Option, Some, None, option_and_then, string_bytes, String}
 use Rattle.std.specs.Str.{all_ascii_digits, bytes_eq}
 use Rattle.std.specs.Str.Parse.{digits_value, without_leading_plus}
 use Rattle.std.specs.declared.alloc.Global.{Global}
 use Rattle.clap.specs.Words.{App, Kinds, Row, Rule, fault_of, first_of, new_app, new_rule, subcommand_of, with_rule, with_subcommand}
 use Rattle.elf_load.specs.declared.image.TheConstants.{MIN_PAGES, MAX_PAGES}
-use Rattle.command_line.specs.declared.words.TheConstants.{DEFAULT_PAGES, LEAST_LIMIT, MOST_LIMIT, DEFAULT_LIMIT, MOST_CLONES, DEFAULT_CLONES, DEFAULT_SEED, MOST_AHEAD, DEFAULT_AHEAD, LEAST_WORKERS, MOST_WORKERS, DEFAULT_WORKERS, LEAST_SLICE, MOST_SLICE, DEFAULT_SLICE, GENERATED_CLONES, GENERATED_AHEAD}
+use Rattle.vm_descriptor.specs.declared.descriptor.TheConstants.{MAX_CLONES, MAX_LIMIT}
+use Rattle.host_fetch.specs.declared.fetch_page.TheConstants.{MAX_AHEAD}
+use Rattle.command_line.specs.declared.words.TheConstants.{DEFAULT_PAGES, DEFAULT_LIMIT, DEFAULT_CLONES, DEFAULT_SEED}
+use Rattle.command_line.specs.declared.words.TheConstants.{DEFAULT_AHEAD, DEFAULT_WORKERS, DEFAULT_SLICE}
+use Rattle.command_line.specs.declared.words.TheConstants.{MIN_LIMIT, MIN_WORKERS, MAX_WORKERS, MIN_SLICE, MAX_SLICE, GENERATED_CLONES, GENERATED_AHEAD}
 
 -- what a guest is made of and what it may do: the names of its image, of its disk and of its input, its pages of RAM,
 -- the most steps of a machine, and how many clones its family may have
@@ -137,12 +142,12 @@ guest_of rows =
     (first_of (codes "disk") rows)
     (first_of (codes "input") rows)
     (value_of MIN_PAGES MAX_PAGES DEFAULT_PAGES (first_of (codes "ram") rows))
-    (value_of LEAST_LIMIT MOST_LIMIT DEFAULT_LIMIT (first_of (codes "limit") rows))
-    (value_of 0 MOST_CLONES DEFAULT_CLONES (first_of (codes "clones") rows))
+    (value_of MIN_LIMIT MAX_LIMIT DEFAULT_LIMIT (first_of (codes "limit") rows))
+    (value_of 0 MAX_CLONES DEFAULT_CLONES (first_of (codes "clones") rows))
 
 -- how many workers there are to be
 abbrev pub workers_of : List Row → Option ℕ
-workers_of rows = value_of LEAST_WORKERS MOST_WORKERS DEFAULT_WORKERS (first_of (codes "workers") rows)
+workers_of rows = value_of MIN_WORKERS MAX_WORKERS DEFAULT_WORKERS (first_of (codes "workers") rows)
 
 abbrev pub how_with : Option ℕ → Option ℕ → Option ℕ → Option ℕ → Option RunValues
 how_with (Some seed) (Some ahead) (Some workers) (Some slice) = Some (record { seed = seed; ahead = ahead; workers = workers; slice = slice })
@@ -153,9 +158,9 @@ abbrev pub how_of : List Row → Option RunValues
 how_of rows =
     how_with
     (value_of 0 4294967295 DEFAULT_SEED (first_of (codes "wire") rows))
-    (value_of 0 MOST_AHEAD DEFAULT_AHEAD (first_of (codes "ahead") rows))
+    (value_of 0 MAX_AHEAD DEFAULT_AHEAD (first_of (codes "ahead") rows))
     (workers_of rows)
-    (value_of LEAST_SLICE MOST_SLICE DEFAULT_SLICE (first_of (codes "slice") rows))
+    (value_of MIN_SLICE MAX_SLICE DEFAULT_SLICE (first_of (codes "slice") rows))
 
 abbrev pub run_with : Option GuestValues → Option RunValues → Option Command
 run_with (Some guest) (Some how) = Some (run guest how)

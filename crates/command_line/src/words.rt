@@ -5,34 +5,28 @@ ghost use Rattle.std.specs.List.{fold};
 ghost use Rattle.clap.specs.declared.Command.TheViews.{out-Command};
 ghost use Rattle.clap.specs.Words.{app_of, first_of, found_of, rows_of, rule_of, subcommand_rows_of, with_rule, with_subcommand};
 ghost use Rattle.command_line.specs.Commands.{meaning};
-ghost use Rattle.command_line.specs.Words.{argument_rule, command_of, drive_app, drive_with, generated_app, generated_guest, generated_how, generated_with, guest_of, how_of, meant, number_of, option_rule, run_app, run_with, snow_app, texts, value_of, with_files, with_numbers, with_slice, with_wire, with_workers, workers_of};
+ghost use Rattle.command_line.specs.Words.{argument_rule, command_of, drive_app, drive_with, generated_app, generated_guest, generated_how, generated_with, guest_of, how_of, meant, number_of};
+ghost use Rattle.command_line.specs.Words.{option_rule, run_app, run_with, snow_app, texts, value_of, with_files, with_numbers, with_slice, with_wire, with_workers, workers_of};
 
 use clap::error::ErrorKind;
 use clap::{Arg, ArgMatches};
 use elf_load::{MAX_PAGES, MIN_PAGES};
+use host_fetch::MAX_AHEAD;
 use std::alloc::{AllocError, Global};
 use std::marker::Model;
+use vm_descriptor::{MAX_CLONES, MAX_LIMIT};
 
 /// The pages of RAM where `--ram` is not given.
 pub const DEFAULT_PAGES: u32 = 64;
 
 /// The fewest steps that `--limit` may allow.
-pub const LEAST_LIMIT: u32 = 1;
-
-/// The most steps that `--limit` may allow.
-pub const MOST_LIMIT: u32 = 1_000_000_000;
+pub const MIN_LIMIT: u32 = 1;
 
 /// The most steps of a machine where `--limit` is not given.
 pub const DEFAULT_LIMIT: u32 = 1_000_000;
 
-/// The most clones that `--clones` may allow.
-pub const MOST_CLONES: u32 = 4096;
-
 /// The clones of a family where `--clones` is not given.
 pub const DEFAULT_CLONES: u32 = 0;
-
-/// The most pages that `--ahead` may ask for beside one that is wanted.
-pub const MOST_AHEAD: u32 = 16;
 
 /// The pages that are asked for beside one that is wanted where `--ahead` is not given.
 pub const DEFAULT_AHEAD: u32 = 0;
@@ -41,19 +35,19 @@ pub const DEFAULT_AHEAD: u32 = 0;
 pub const DEFAULT_SEED: u32 = 0;
 
 /// The fewest workers that `--workers` may ask for.
-pub const LEAST_WORKERS: u32 = 1;
+pub const MIN_WORKERS: u32 = 1;
 
 /// The most workers that `--workers` may ask for.
-pub const MOST_WORKERS: u32 = 64;
+pub const MAX_WORKERS: u32 = 64;
 
 /// The workers where `--workers` is not given.
 pub const DEFAULT_WORKERS: u32 = 1;
 
 /// The fewest steps that `--slice` may say.
-pub const LEAST_SLICE: u32 = 1;
+pub const MIN_SLICE: u32 = 1;
 
 /// The most steps that `--slice` may say.
-pub const MOST_SLICE: u32 = 1_000_000;
+pub const MAX_SLICE: u32 = 1_000_000;
 
 /// The steps of a slice where `--slice` is not given.
 pub const DEFAULT_SLICE: u32 = 1000;
@@ -89,14 +83,15 @@ pub struct GuestWords<'a> {
 impl<'a> Model for GuestWords<'a> {
     ghost use Rattle.std.specs.Prelude.{◌≤◌, option_map};
     ghost use Rattle.elf_load.specs.declared.image.TheConstants.{MIN_PAGES, MAX_PAGES};
-    ghost use Rattle.command_line.specs.declared.words.TheConstants.{LEAST_LIMIT, MOST_LIMIT, MOST_CLONES};
+    ghost use Rattle.vm_descriptor.specs.declared.descriptor.TheConstants.{MAX_CLONES, MAX_LIMIT};
+    ghost use Rattle.command_line.specs.declared.words.TheConstants.{MIN_LIMIT};
     ghost use Rattle.command_line.specs.Words.{GuestValues};
 
     ghost Value = { GuestValues };
 
     ghost view = { λ g. record { image = g.image.now; disk = option_map (λ name. name.now) g.disk; input = option_map (λ name. name.now) g.input; pages = g.pages; limit = g.limit; clones = g.clones } };
 
-    ghost invariant = { λ g. (MIN_PAGES ≤ g.pages) × (g.pages ≤ MAX_PAGES) × (LEAST_LIMIT ≤ g.limit) × (g.limit ≤ MOST_LIMIT) × (g.clones ≤ MOST_CLONES) };
+    ghost invariant = { λ g. (MIN_PAGES ≤ g.pages) × (g.pages ≤ MAX_PAGES) × (MIN_LIMIT ≤ g.limit) × (g.limit ≤ MAX_LIMIT) × (g.clones ≤ MAX_CLONES) };
 }
 
 impl GuestWords<'_> {
@@ -133,8 +128,8 @@ impl GuestWords<'_> {
     /// The most steps of the machine.
     pub fn limit(&self) -> u64
         ensures value { result ≡ self.now.limit }
-        ensures least { LEAST_LIMIT ≤ result }
-        ensures most { result ≤ MOST_LIMIT }
+        ensures least { MIN_LIMIT ≤ result }
+        ensures most { result ≤ MAX_LIMIT }
     {
         self.limit
     }
@@ -142,7 +137,7 @@ impl GuestWords<'_> {
     /// How many clones the family may have.
     pub fn clones(&self) -> u32
         ensures value { result ≡ self.now.clones }
-        ensures most { result ≤ MOST_CLONES }
+        ensures most { result ≤ MAX_CLONES }
     {
         self.clones
     }
@@ -159,14 +154,15 @@ pub struct RunWords {
 
 impl Model for RunWords {
     ghost use Rattle.std.specs.Prelude.{◌≤◌};
-    ghost use Rattle.command_line.specs.declared.words.TheConstants.{LEAST_SLICE, LEAST_WORKERS, MOST_AHEAD, MOST_SLICE, MOST_WORKERS};
+    ghost use Rattle.host_fetch.specs.declared.fetch_page.TheConstants.{MAX_AHEAD};
+    ghost use Rattle.command_line.specs.declared.words.TheConstants.{MAX_SLICE, MAX_WORKERS, MIN_SLICE, MIN_WORKERS};
     ghost use Rattle.command_line.specs.Words.{RunValues};
 
     ghost Value = { RunValues };
 
     ghost view = { λ r. record { seed = r.seed; ahead = r.ahead; workers = r.workers; slice = r.slice } };
 
-    ghost invariant = { λ r. (r.ahead ≤ MOST_AHEAD) × (LEAST_WORKERS ≤ r.workers) × (r.workers ≤ MOST_WORKERS) × (LEAST_SLICE ≤ r.slice) × (r.slice ≤ MOST_SLICE) };
+    ghost invariant = { λ r. (r.ahead ≤ MAX_AHEAD) × (MIN_WORKERS ≤ r.workers) × (r.workers ≤ MAX_WORKERS) × (MIN_SLICE ≤ r.slice) × (r.slice ≤ MAX_SLICE) };
 }
 
 impl RunWords {
@@ -180,7 +176,7 @@ impl RunWords {
     /// How many pages are asked for beside one that is wanted.
     pub fn ahead(&self) -> u32
         ensures value { result ≡ self.now.ahead }
-        ensures most { result ≤ MOST_AHEAD }
+        ensures most { result ≤ MAX_AHEAD }
     {
         self.ahead
     }
@@ -188,8 +184,8 @@ impl RunWords {
     /// How many workers there are to be.
     pub fn workers(&self) -> u32
         ensures value { result ≡ self.now.workers }
-        ensures least { LEAST_WORKERS ≤ result }
-        ensures most { result ≤ MOST_WORKERS }
+        ensures least { MIN_WORKERS ≤ result }
+        ensures most { result ≤ MAX_WORKERS }
     {
         self.workers
     }
@@ -198,8 +194,8 @@ impl RunWords {
     /// whether another is to look for machines.
     pub fn slice(&self) -> u32
         ensures value { result ≡ self.now.slice }
-        ensures least { LEAST_SLICE ≤ result }
-        ensures most { result ≤ MOST_SLICE }
+        ensures least { MIN_SLICE ≤ result }
+        ensures most { result ≤ MAX_SLICE }
     {
         self.slice
     }
@@ -214,14 +210,14 @@ pub struct GeneratedWords {
 
 impl Model for GeneratedWords {
     ghost use Rattle.std.specs.Prelude.{◌≤◌};
-    ghost use Rattle.command_line.specs.declared.words.TheConstants.{LEAST_WORKERS, MOST_WORKERS};
+    ghost use Rattle.command_line.specs.declared.words.TheConstants.{MAX_WORKERS, MIN_WORKERS};
     ghost use Rattle.command_line.specs.Words.{GeneratedValues};
 
     ghost Value = { GeneratedValues };
 
     ghost view = { λ g. record { seed = g.seed; workers = g.workers } };
 
-    ghost invariant = { λ g. (LEAST_WORKERS ≤ g.workers) × (g.workers ≤ MOST_WORKERS) };
+    ghost invariant = { λ g. (MIN_WORKERS ≤ g.workers) × (g.workers ≤ MAX_WORKERS) };
 }
 
 impl GeneratedWords {
@@ -261,8 +257,8 @@ impl GeneratedWords {
     /// How many workers there are to be.
     pub fn workers(&self) -> u32
         ensures value { result ≡ self.now.workers }
-        ensures least { LEAST_WORKERS ≤ result }
-        ensures most { result ≤ MOST_WORKERS }
+        ensures least { MIN_WORKERS ≤ result }
+        ensures most { result ≤ MAX_WORKERS }
     {
         self.workers
     }
@@ -450,8 +446,8 @@ fn guest_of<'a>(found: &ArgMatches<'a>) -> Option<GuestWords<'a>>
     let disk = text_of(found, "disk");
     let input = text_of(found, "input");
     let pages = value_of(found, "ram", MIN_PAGES, MAX_PAGES, DEFAULT_PAGES)?;
-    let limit = value_of(found, "limit", LEAST_LIMIT, MOST_LIMIT, DEFAULT_LIMIT)?;
-    let clones = value_of(found, "clones", 0, MOST_CLONES, DEFAULT_CLONES)?;
+    let limit = value_of(found, "limit", MIN_LIMIT, MAX_LIMIT as u32, DEFAULT_LIMIT)?;
+    let clones = value_of(found, "clones", 0, MAX_CLONES, DEFAULT_CLONES)?;
     Some(GuestWords {
         image,
         disk,
@@ -467,9 +463,9 @@ fn how_of(found: &ArgMatches<'_>) -> Option<RunWords>
     ensures { result ≡ how_of (rows_of (found_of found.now)) }
 {
     let seed = value_of(found, "wire", 0, u32::MAX, DEFAULT_SEED)?;
-    let ahead = value_of(found, "ahead", 0, MOST_AHEAD, DEFAULT_AHEAD)?;
+    let ahead = value_of(found, "ahead", 0, MAX_AHEAD, DEFAULT_AHEAD)?;
     let workers = workers_of(found)?;
-    let slice = value_of(found, "slice", LEAST_SLICE, MOST_SLICE, DEFAULT_SLICE)?;
+    let slice = value_of(found, "slice", MIN_SLICE, MAX_SLICE, DEFAULT_SLICE)?;
     Some(RunWords {
         seed,
         ahead,
@@ -481,16 +477,10 @@ fn how_of(found: &ArgMatches<'_>) -> Option<RunWords>
 /// How many workers are asked for.
 fn workers_of(found: &ArgMatches<'_>) -> Option<u32>
     ensures value { result ≡ workers_of (rows_of (found_of found.now)) }
-    ensures least { IfSome result (λ n. LEAST_WORKERS ≤ n) }
-    ensures most { IfSome result (λ n. n ≤ MOST_WORKERS) }
+    ensures least { IfSome result (λ n. MIN_WORKERS ≤ n) }
+    ensures most { IfSome result (λ n. n ≤ MAX_WORKERS) }
 {
-    value_of(
-        found,
-        "workers",
-        LEAST_WORKERS,
-        MOST_WORKERS,
-        DEFAULT_WORKERS,
-    )
+    value_of(found, "workers", MIN_WORKERS, MAX_WORKERS, DEFAULT_WORKERS)
 }
 
 /// The value of an option: a number within its limits, or the default where the option is not given.

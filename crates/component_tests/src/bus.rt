@@ -14,7 +14,7 @@ fn ports_at_start(rt: &impl Abort, alloc: Global) -> Ports {
 }
 
 /// What a load of so many bytes at an address gives a machine that starts.
-static LOADS: [(u32, u32, Result<u32, Fault>); 38] = [
+static LOADS: [(u32, u32, Result<u32, Fault>); 44] = [
     (0x0000_0000, 4, Err(Fault)),
     (0x0200_3ffc, 4, Err(Fault)),
     (0x0200_4000, 4, Ok(0xffff_ffff)),
@@ -52,6 +52,12 @@ static LOADS: [(u32, u32, Result<u32, Fault>); 38] = [
     (0x1000_2014, 4, Ok(3)),
     (0x1000_2024, 4, Ok(0)),
     (0x1000_2028, 4, Err(Fault)),
+    (0x1000_202c, 4, Ok(0)),
+    (0x1000_203c, 4, Err(Fault)),
+    (0x1000_2040, 4, Ok(0)),
+    (0x1000_207c, 4, Ok(0)),
+    (0x1000_207e, 4, Err(Fault)),
+    (0x1000_2080, 4, Err(Fault)),
     (0xffff_ffff, 1, Err(Fault)),
 ];
 
@@ -70,7 +76,7 @@ fn loads_at_each_port_s_edges(rt: HostRuntime) {
 }
 
 /// What a store of so many low bytes of 5 at an address does to a machine that starts.
-static STORES: [(u32, u32, Result<Effect, PortError>); 34] = [
+static STORES: [(u32, u32, Result<Effect, PortError>); 37] = [
     (0x0000_0000, 4, Err(PortError::Fault)),
     (0x0200_3ffc, 4, Err(PortError::Fault)),
     (0x0200_4000, 4, Ok(Effect::Done)),
@@ -104,6 +110,9 @@ static STORES: [(u32, u32, Result<Effect, PortError>); 34] = [
     (0x1000_2018, 4, Ok(Effect::Done)),
     (0x1000_2008, 4, Ok(Effect::Exit(0))),
     (0x1000_2028, 4, Err(PortError::Fault)),
+    (0x1000_202c, 4, Err(PortError::Fault)),
+    (0x1000_2040, 4, Err(PortError::Fault)),
+    (0x1000_207c, 4, Err(PortError::Fault)),
     (0xffff_ffff, 1, Err(PortError::Fault)),
 ];
 

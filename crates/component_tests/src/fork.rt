@@ -1,7 +1,9 @@
 //! The fork port. Its registers, commands and refusals are told here by their numbers.
 
+ghost use Rattle.std.specs.Prelude.{◌≤◌, length};
+
 use crate::equal::{are_equal, made};
-use fork_port::{Asked, Call, Effect, Ending, ForkFields, ForkPort};
+use fork_port::{Asked, Call, Effect, Ending, ForkFields, ForkPort, Handed};
 use port_error::{Fault, PortError};
 use std::process::Abort;
 use std::thread;
@@ -87,8 +89,9 @@ type Access = (Option<Fault>, Result<Effect, PortError>);
 fn expected(offset: u32, width: u32) -> Access {
     match (offset, width) {
         (0 | 4 | 24, 4) => (None, Ok(Effect::Done)),
-        (8, 4) => (Some(Fault), Ok(Effect::Done)),
-        (12 | 16 | 20 | 28 | 32 | 36, 4) => (None, Err(PortError::Fault)),
+        (8, 4) => (Some(Fault), Ok(Effect::ExitWith(0, 0, 0))),
+        (12 | 16 | 20 | 28 | 32 | 36 | 44, 4) => (None, Err(PortError::Fault)),
+        (64..=124, 4) if offset % 4 == 0 => (None, Err(PortError::Fault)),
         _ => (Some(Fault), Err(PortError::Fault)),
     }
 }
@@ -104,7 +107,7 @@ fn takes_a_word(rt: &impl Abort, port: &mut ForkPort, offset: u32, width: u32) {
 
 #[test]
 fn takes_words_at_its_registers(rt: HostRuntime) {
-    for offset in 0..48u32 {
+    for offset in 0..132u32 {
         for width in 0..9u32 {
             let mut port = ForkPort::new(rt.alloc(), 0);
             takes_a_word(&rt, &mut port, offset, width);
@@ -136,8 +139,86 @@ fn is_granted_cloned_and_joined(rt: &impl Abort, port: &mut ForkPort) {
     are_equal(rt, &granted, &(1, [Ok(2), Ok(1)], Some((2, 2, false))));
     let cloned = told_of(rt, port, CLONE, 1, 0, &[]);
     are_equal(rt, &cloned, &(0, [Ok(2), Ok(1)], Some((2, 2, true))));
-    let joined = told_of(rt, port, JOIN, 1, 0, &[Ending::Exit(5), Ending::Limit]);
+    let joined = told_of(rt, port, JOIN, 1, 0, &[exit(5, &[]), Ending::Limit]);
     are_equal(rt, &joined, &(2, [Ok(2), Ok(7)], None));
+}
+
+/// The ending of a machine that exits with this value and hands over these bytes.
+fn exit(value: u32, bytes: &[u8]) -> Ending
+    requires { length bytes.now ≤ 64 }
+{
+    Ending::Exit(value, Handed::of(bytes))
+}
+
+/// What comes of a store to JSELECT, and then JLEN and the first, the second and the last word of JBYTES of the child of
+/// the last join.
+type HandedOver = (Result<Effect, PortError>, [Result<u32, Fault>; 4]);
+
+fn handed_over(port: &mut ForkPort, child: u32) -> HandedOver {
+    let stored = port.store(24, 4, child);
+    let told = [
+        port.load(44, 4),
+        port.load(0x40, 4),
+        port.load(0x44, 4),
+        port.load(0x7c, 4),
+    ];
+    (stored, told)
+}
+
+fn tells_bytes(rt: &impl Abort, port: &mut ForkPort, child: u32, want: [u32; 4]) {
+    let want = (Ok(Effect::Done), want.map(Ok));
+    are_equal(rt, &(child, handed_over(port, child)), &(child, want));
+}
+
+/// 64 bytes, of which a few are not 0.
+fn sixty_four() -> [u8; 64] {
+    let mut bytes = [0; 64];
+    bytes[0] = 1;
+    bytes[5] = 2;
+    bytes[63] = 0xff;
+    bytes
+}
+
+fn joins_three(rt: &impl Abort, port: &mut ForkPort) {
+    let endings = [exit(5, &sixty_four()), exit(6, b"abcde"), Ending::Limit];
+    let results = [
+        run(rt, port, TICKET, 3, 0, &[]),
+        run(rt, port, CLONE, 1, 0, &[]),
+        run(rt, port, JOIN, 1, 0, &endings),
+    ];
+    are_equal(rt, &results, &[1, 0, 3]);
+}
+
+fn joins_one(rt: &impl Abort, port: &mut ForkPort) {
+    let results = [
+        run(rt, port, TICKET, 1, 0, &[]),
+        run(rt, port, CLONE, 2, 0, &[]),
+        run(rt, port, JOIN, 2, 0, &[exit(7, b"z")]),
+    ];
+    are_equal(rt, &results, &[2, 0, 1]);
+}
+
+/// A child of a join of three, and then JLEN and the words of its bytes.
+static OF_THREE: [(u32, [u32; 4]); 6] = [
+    (0, [0, 0, 0, 0]),
+    (1, [64, 1, 0x200, 0xff00_0000]),
+    (2, [5, 0x6463_6261, 0x65, 0]),
+    (3, [0, 0, 0, 0]),
+    (4, [0, 0, 0, 0]),
+    (0xffff_ffff, [0, 0, 0, 0]),
+];
+
+#[test]
+fn tells_the_bytes_of_a_join(rt: HostRuntime) {
+    let mut port = ForkPort::new(rt.alloc(), 7);
+    tells_bytes(&rt, &mut port, 1, [0, 0, 0, 0]);
+    joins_three(&rt, &mut port);
+    for (child, want) in OF_THREE.iter() {
+        tells_bytes(&rt, &mut port, *child, *want);
+    }
+    joins_one(&rt, &mut port);
+    tells_bytes(&rt, &mut port, 1, [1, 0x7a, 0, 0]);
+    tells_bytes(&rt, &mut port, 2, [0, 0, 0, 0]);
 }
 
 /// A child of the last join, and then JKIND and JVALUE.
@@ -170,7 +251,7 @@ fn a_ticket_from_its_grant_to_its_join(rt: HostRuntime) {
 }
 
 /// A command with its arguments, and then RESULT, GRANTED and ALLOT.
-static COMMANDS: [(u32, u32, u32, u32, u32, u32); 24] = [
+static COMMANDS: [(u32, u32, u32, u32, u32, u32); 27] = [
     (TICKET, 0, 2, 0xffff_fffc, 0, 7),
     (TICKET, 4, 7, 0xffff_fffb, 0, 7),
     (TICKET, 4, 0xffff_ffff, 0xffff_fffb, 0, 7),
@@ -179,7 +260,10 @@ static COMMANDS: [(u32, u32, u32, u32, u32, u32); 24] = [
     (JOIN, 1, 0, 0xffff_ffff, 0, 7),
     (KILL, 1, 0, 0xffff_ffff, 0, 7),
     (0, 1, 0, 0xffff_fffa, 0, 7),
-    (7, 1, 0, 0xffff_fffa, 0, 7),
+    (0x4107, 1, 0, 0xffff_fffc, 0, 7),
+    (8, 1, 0, 0xffff_fffa, 0, 7),
+    (0xffff_ff07, 1, 0, 0xffff_fffc, 0, 7),
+    (0x0105, 1, 0, 0xffff_fffa, 0, 7),
     (0x0100_0001, 1, 0, 0xffff_fffa, 0, 7),
     (TICKET, 4, 2, 1, 2, 1),
     (JOIN, 1, 0, 0xffff_fffd, 2, 1),
@@ -215,13 +299,15 @@ fn does_commands(rt: &impl Abort, port: &mut ForkPort) {
     }
 }
 
-/// What the arguments, EXIT and ZERO ask of the machine, and RESULT, which they leave.
-fn ask_of_the_machine(port: &mut ForkPort) -> ([Result<Effect, PortError>; 4], Result<u32, Fault>) {
+/// What the arguments, EXIT with bytes and without and ZERO ask of the machine, and RESULT, which they leave.
+fn ask_of_the_machine(port: &mut ForkPort) -> ([Result<Effect, PortError>; 6], Result<u32, Fault>) {
     let asked = [
         port.store(0, 4, 9),
         port.store(4, 4, 2),
         port.store(8, 4, 5),
         port.store(8, 4, 6),
+        port.store(8, 4, 7),
+        port.store(8, 4, 0x4007),
     ];
     (asked, port.load(12, 4))
 }
@@ -239,6 +325,8 @@ fn asks_and_is_refused(rt: &impl Abort, port: &mut ForkPort) {
         Effect::Done,
         Effect::Exit(9),
         Effect::Zero(9, 2),
+        Effect::ExitWith(9, 2, 0),
+        Effect::ExitWith(9, 2, 64),
     ];
     are_equal(rt, &ask_of_the_machine(port), &(asked.map(Ok), Ok(0)));
     port.refuse(0xffff_fffc);

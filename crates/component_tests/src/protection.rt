@@ -477,24 +477,65 @@ fn entries_decide(rt: HostRuntime) {
     }
 }
 
-/// Two entries that both match: the first decides.
+/// The bytes and address words of the first two entries, an address, and whether a load in user mode is allowed there.
+static PAIRS: [(u8, u32, u8, u32, u32, bool); 17] = [
+    // Both match: the first denies, or allows.
+    (0x10, 0x2000_0000, 0x1f, 0xffff_ffff, 0x8000_0000, false),
+    (0x10, 0x2000_0000, 0x1f, 0xffff_ffff, 0x8000_0004, true),
+    (0x11, 0x2000_0000, 0x18, 0xffff_ffff, 0x8000_0000, true),
+    (0x11, 0x2000_0000, 0x18, 0xffff_ffff, 0x8000_0004, false),
+    (0x18, 0x2000_01ff, 0x11, 0x2000_0000, 0x8000_0000, false),
+    // A range begins at the address word of an entry that is off, or matches four bytes or 16.
+    (0x00, 0x2000_0009, 0x09, 0x2000_0400, 0x8000_0020, false),
+    (0x00, 0x2000_0009, 0x09, 0x2000_0400, 0x8000_0024, true),
+    (0x10, 0x2000_0009, 0x09, 0x2000_0400, 0x8000_0024, false),
+    (0x10, 0x2000_0009, 0x09, 0x2000_0400, 0x8000_0028, true),
+    (0x18, 0x2000_0009, 0x09, 0x2000_0400, 0x8000_001c, false),
+    (0x18, 0x2000_0009, 0x09, 0x2000_0400, 0x8000_002c, false),
+    (0x18, 0x2000_0009, 0x09, 0x2000_0400, 0x8000_0030, true),
+    (0x18, 0x2000_0009, 0x09, 0x2000_0400, 0x8000_0ffc, true),
+    (0x18, 0x2000_0009, 0x09, 0x2000_0400, 0x8000_1000, false),
+    // Two ranges in a row.
+    (0x08, 0x2000_0001, 0x09, 0x2000_0002, 0x8000_0000, false),
+    (0x08, 0x2000_0001, 0x09, 0x2000_0002, 0x8000_0004, true),
+    (0x08, 0x2000_0001, 0x09, 0x2000_0002, 0x8000_0008, false),
+];
+
+fn pair_decides(rt: &impl Abort, row: &(u8, u32, u8, u32, u32, bool)) {
+    let (first, below, second, word, address, is_allowed) = *row;
+    let mut pmp = second_entry(second, below, word);
+    pmp.write(0x3a0, second as u32 * 256 + first as u32);
+    let found = pmp.allows(Access::Load, Mode::User, address / 4 * 4, 4);
+    are_equal(rt, &(first, address, found), &(first, address, is_allowed));
+}
+
 #[test]
 fn the_first_entry_decides(rt: HostRuntime) {
+    for row in PAIRS.iter() {
+        pair_decides(&rt, row);
+    }
+}
+
+/// A byte and a half-word are of the entry that has their word, the last one as the first.
+#[test]
+fn entries_decide_of_parts_of_words(rt: HostRuntime) {
     let mut pmp = Pmp::reset();
     pmp.write(0x3b2, 0x2000_0000);
     pmp.write(0x3b7, 0xffff_ffff);
     pmp.write(0x3a0, 0x0010_0000);
     pmp.write(0x3a1, 0x9f00_0000);
     let found = [
-        pmp.allows(Access::Load, Mode::User, 0x8000_0000, 4),
-        pmp.allows(Access::Load, Mode::User, 0x8000_0004, 4),
+        pmp.allows(Access::Load, Mode::User, 0x8000_0003, 1),
+        pmp.allows(Access::Load, Mode::User, 0x8000_0002, 2),
         pmp.allows(Access::Load, Mode::User, 0x8000_0004, 1),
+        pmp.allows(Access::Store, Mode::Machine, 0x8000_0003, 1),
+        pmp.allows(Access::Store, Mode::Machine, 0x8000_0004, 4),
     ];
-    are_equal(&rt, &found, &[false, true, true]);
+    are_equal(&rt, &found, &[false, false, true, true, true]);
 }
 
 /// Writes to the registers of entries, in order, and what these then read.
-static WRITES: [(u32, u32, u32); 24] = [
+static WRITES: [(u32, u32, u32); 26] = [
     // Bits 6:5 of a byte read 0, and a byte with W and without R is left.
     (0x3a0, 0x0000_007f, 0x0000_001f),
     (0x3a0, 0x0f02_6f1d, 0x0f00_0f1d),
@@ -515,12 +556,14 @@ static WRITES: [(u32, u32, u32); 24] = [
     (0x3b4, 4, 4),
     (0x3b6, 6, 6),
     // With top of range it holds the address before it, too, also across the two words.
-    (0x3a0, 0x8900_0000, 0x8900_0000),
-    (0x3b2, 2, 0),
-    (0x3b1, 1, 1),
-    (0x3b3, 3, 0),
     (0x3a1, 0x0000_0089, 0x0000_9989),
     (0x3b4, 44, 4),
+    (0x3b3, 3, 0),
+    (0x3b2, 2, 2),
+    (0x3a0, 0x8900_0000, 0x8900_0000),
+    (0x3b2, 22, 2),
+    (0x3b1, 1, 1),
+    (0x3a0, 0x001f_0000, 0x891f_0000),
     (0x3a1, 0x8a00_0000, 0x0000_9989),
     (0x3b7, 7, 7),
     (0x3b0, 0, 0),

@@ -25,5 +25,5 @@ fn sizes_and_limits_by_their_numbers(rt: HostRuntime) {
         MAX_INPUT,
         TICKETS_END,
     );
-    are_equal(&rt, &found, &([8, 0x400, 40], 65_536, 0xffff_fffa));
+    are_equal(&rt, &found, &([8, 0x400, 128], 65_536, 0xffff_fffa));
 }

@@ -1,5 +1,6 @@
 -- Lines of a script over a world of machines.
-use Rattle.std.proofs.Common.{◌≡◌, ℕ, ◌<◌, get_or, refl, sym, ap, ap₂, ◌∙◌, subst, append_assoc, append-nil, inl, inr, List, [], ◌∷◌, ◌++◌, length, take, drop, ◌+◌, cond, nat_lt, false, Vec, Option, Some, None, option_map, option_and_then, Result, Ok, Err, IfOk}
+use Rattle.std.proofs.Common.{◌≡◌, ℕ, ◌<◌, get_or, refl, sym, ap, ap₂, ◌∙◌, subst, append_assoc, append-nil, inl, inr, List, [], ◌∷◌, ◌++◌, length}
+use Rattle.std.proofs.Common.{take, drop, ◌+◌, cond, nat_lt, false, Vec, Option, Some, None, option_map, option_and_then, Result, Ok, Err, IfOk}
 use Rattle.std.proofs.Math.Seq.{take-append-add}
 use Rattle.std.proofs.lemmas.Grind.{flat_map-append}
 use Rattle.std.proofs.lemmas.List.{map_more, take-append-drop, take-map}
@@ -18,14 +19,15 @@ use Rattle.world_core.specs.Answers.{TakesNamed}
 use Rattle.world_core.specs.Lent.{Lent, now_of}
 use Rattle.drive_script.specs.declared.answer.Answer.{Answer}
 use Rattle.drive_script.specs.declared.answer.Answer.TheVariants.{NoMachine, Ask, Push, Word, Registers}
-use Rattle.drive_script.specs.declared.answer.Sent.{Sent}
+use Rattle.drive_script.specs.declared.answer.SentPlace.{SentPlace}
 use Rattle.drive_script.specs.Driven.{BreaksOff, DrivesLine, HasBrokenOff, HasMachines, HasMade, Keeps}
-use Rattle.drive_script.specs.declared.line.Line.{Line as Read}
+use Rattle.drive_script.specs.declared.line.ScriptLine.{ScriptLine as Read}
 use Rattle.drive_script.specs.Lines.{line_read, lines_read}
 use Rattle.drive_script.specs.Replies.{Replies, page_at, place_of, reply_to, siblings_of, with_arrival, with_reply}
 use Rattle.drive_script.specs.Script.{Line, step, ask, push, give, peek, regs}
 use Rattle.drive_script.specs.Steps.{after_steps, live_at}
-use Rattle.drive_script.specs.Told.{Driven, name_in, asked_of, pushed_of, arrived_at, given, steps_of, after_line, after_script, answer, answer_by, unanswered, made_at, told, told_line, told_text, begun}
+use Rattle.drive_script.specs.Told.{Driven, name_in, asked_of, pushed_of, arrived_at, given, steps_of, after_line, after_script, answer, answer_by}
+use Rattle.drive_script.specs.Told.{unanswered, made_at, told, told_line, told_text, begun}
 use Rattle.drive_script.specs.Turned.{HasBack, HasLent}
 use Rattle.drive_script.proofs.Lent.{lent-live, lent-first, named-kept, named-lent, named-none, own-tree}
 use Rattle.drive_script.proofs.Sending.{IsSent, no-page}
@@ -169,7 +171,7 @@ shows depot w s name values now is look = (
 
 -- of a machine that was looked at this page is sent, or none
 module _ (depot : Shelves) (w : World) (s : Driven) (name : Path) (now : Paged) (look : Looked depot s.tree name now w)
-    (lists : BTreeMap Path (Vec ℕ Global)) (page : Option ℕ) (placed : Option Sent)
+    (lists : BTreeMap Path (Vec ℕ Global)) (page : Option ℕ) (placed : Option SentPlace)
     (sent : IsSent lists s.sent (reply_to (siblings_of name) page) placed) where
   reply-is : (of : Tree Paged → Option ℕ) → page ≡ of look.at
       → reply_to (siblings_of name) page ≡ reply_to (siblings_of name) (option_and_then of (live_at paged_machines name s.tree))

@@ -1,5 +1,6 @@
 -- A machine on lease from a world that has all other machines of a tree at home.
-use Rattle.std.proofs.Common.{◌≡◌, ℕ, ◌+◌, ◌<◌, ◌&&◌, ◌||◌, not, Bool, true, false, refl, sym, ap, ap₂, ◌∙◌, subst, arith, Option, Some, None, IfSome, MatchOption, IsSome, IsSomeAnd, is_some, option_map, option_and_then, Ok}
+use Rattle.std.proofs.Common.{◌≡◌, ℕ, ◌+◌, ◌<◌, ◌&&◌, ◌||◌, not, Bool, true, false, refl, sym, ap, ap₂, ◌∙◌, subst, arith, Option, Some, None, IfSome}
+use Rattle.std.proofs.Common.{MatchOption, IsSome, IsSomeAnd, is_some, option_map, option_and_then, Ok}
 use Rattle.std.proofs.lemmas.Bool.{and_parts, not-true}
 use Rattle.image_depot.specs.Key.{Shelves}
 use Rattle.fork_port.specs.declared.commands.Call.{Call}

@@ -1,10 +1,12 @@
 -- Lines of scripts, by what they make of a forest.
-use Rattle.std.proofs.Common.{◌≡◌, ◌≢◌, ℕ, zero, suc, ◌+◌, ◌<◌, ◌≤◌, ◌||◌, not, cond, Bool, true, false, refl, sym, ap, ap₂, ◌∙◌, subst, arith, inl, inr, List, [], ◌∷◌, ◌++◌, length, replicate, Option, Some, None, IsSome, is_some, option_map}
+use Rattle.std.proofs.Common.{◌≡◌, ◌≢◌, ℕ, zero, suc, ◌+◌, ◌<◌, ◌≤◌, ◌||◌, not, cond, Bool, true, false, refl, sym, ap, ap₂, ◌∙◌, subst, arith, inl}
+use Rattle.std.proofs.Common.{inr, List, [], ◌∷◌, ◌++◌, length, replicate, Option, Some, None, IsSome, is_some, option_map}
 use Rattle.std.proofs.lemmas.Bool.{cases_lt, and_parts}
 use Rattle.std.proofs.lemmas.List.{length-replicate}
 use Rattle.std.specs.Prelude.{slice_get}
 use Rattle.forest_tree.specs.Operations.{join}
-use Rattle.forest_tree.specs.Tree.{Tree, node, Trees, no_tree, tree, Broods, Log, Branch, Path, machine, log_of, size, child_at, brood_of, without, joined, subtree, beyond, beyond_all, goes_on, is_below}
+use Rattle.forest_tree.specs.Tree.{Tree, node, Trees, no_tree, tree, Broods, Log, Branch, Path, machine, log_of, size, child_at, brood_of, without}
+use Rattle.forest_tree.specs.Tree.{joined, subtree, beyond, beyond_all, goes_on, is_below}
 use Rattle.forest_tree.specs.Settle.{have_ended, endings, own_steps, waits, rests, step, settle, settle_all}
 use Rattle.forest_tree.specs.Sound.{IsSound}
 use Rattle.forest_tree.proofs.Calls.{step-join, ready-ended, endings-at}

@@ -1,5 +1,6 @@
 -- Names, fork by fork.
-use Rattle.std.proofs.Common.{◌≡◌, Bool, true, false, not, codes, if◌then◌else◌, ℕ, ◌+◌, List, [], ◌∷◌, ◌++◌, length, Option, Some, None, option_map, arith, refl, sym, ap, ◌∙◌, append_assoc, append-nil}
+use Rattle.std.proofs.Common.{◌≡◌, Bool, true, false, not, codes, if◌then◌else◌, ℕ, ◌+◌, List, [], ◌∷◌, ◌++◌, length, Option, Some, None, option_map}
+use Rattle.std.proofs.Common.{arith, refl, sym, ap, ◌∙◌, append_assoc, append-nil}
 use Rattle.forest_tree.specs.Tree.{Path}
 use Rattle.std.specs.Str.{bytes_eq}
 use Rattle.machine_names.specs.Name.{child_path}

@@ -10,7 +10,7 @@ use Rattle.forest_history.proofs.Held.{same-self, same-is}
 use Rattle.machine_names.specs.Name.{child_path}
 use Rattle.machine_names.specs.NameOrder.{path_cmp}
 use Rattle.machine_names.proofs.NameMaps.{updated-apart, updated-here}
-use Rattle.drive_script.specs.declared.answer.Sent.{Sent}
+use Rattle.drive_script.specs.declared.answer.SentPlace.{SentPlace}
 use Rattle.drive_script.specs.Driven.{Keeps, first_of, pages_in}
 use Rattle.drive_script.specs.Replies.{Siblings, Replies, are_same, page_at, place_of, reply_to, siblings_below, siblings_of, with_reply}
 
@@ -66,7 +66,7 @@ module _ (lists mid new : BTreeMap Path (Vec ℕ Global)) (first : Path) (page :
   appended-apart other apart = updated-apart mid new first (Some list) put other apart ∙ updated-apart lists mid first None taken other apart
 
 -- a reply is sent, or none
-abbrev pub IsSent : BTreeMap Path (Vec ℕ Global) → Replies → Option (Siblings × ℕ) → Option Sent → Type 0
+abbrev pub IsSent : BTreeMap Path (Vec ℕ Global) → Replies → Option (Siblings × ℕ) → Option SentPlace → Type 0
 IsSent new sent reply placed = (placed ≡ place_of reply sent) × Keeps new (with_reply reply sent)
 
 pub sends-none : (lists : BTreeMap Path (Vec ℕ Global)) (sent : Replies) (reply : Option (Siblings × ℕ)) → reply ≡ None → Keeps lists sent → IsSent lists sent reply None
@@ -98,7 +98,7 @@ sends-one lists new sent None first page place is at here others h = absurd (cc)
 sends-one lists new sent (Some to) first page place is at here others h =
     let same : first ≡ first_of to = some-same first (first_of to) is in
     let placed : length (pages_in (get path_cmp lists first)) ≡ length (sent to) = ap (λ f. length (pages_in (get path_cmp lists f))) same ∙ ap length (h to) in
-    let put : ℕ → Option Sent = λ n. Some (record { page = page; place = n }) in (
+    let put : ℕ → Option SentPlace = λ n. Some (record { page = page; place = n }) in (
       ap put (at ∙ placed),
       keeps-next lists new sent h to page
           (subst (λ f. pages_in (get path_cmp new f) ≡ pages_in (get path_cmp lists f) ++ page ∷ []) same here)

@@ -1,5 +1,6 @@
 -- The turns of one line of steps, one after another.
-use Rattle.std.proofs.Common.{◌≡◌, ◌≢◌, ℕ, ◌+◌, ◌-◌, ◌<◌, ◌≤◌, ◌⊎◌, inl, inr, refl, sym, ap, ◌∙◌, subst, arith, add-zero, ◌++◌, replicate, Option, Some, None, IsSomeAnd, option_and_then, Result, Ok, Err}
+use Rattle.std.proofs.Common.{◌≡◌, ◌≢◌, ℕ, ◌+◌, ◌-◌, ◌<◌, ◌≤◌, ◌⊎◌, inl, inr, refl, sym, ap, ◌∙◌, subst, arith, add-zero, ◌++◌, replicate, Option}
+use Rattle.std.proofs.Common.{Some, None, IsSomeAnd, option_and_then, Result, Ok, Err}
 use Rattle.std.specs.declared.alloc.AllocError.{AllocError}
 use Rattle.std.proofs.lemmas.List.{replicate-append-replicate}
 use Rattle.image_depot.specs.Key.{Shelves}
@@ -15,13 +16,13 @@ use Rattle.world_core.proofs.Returns.{there-is}
 use Rattle.drive_script.specs.declared.answer.Answer.TheVariants.{NoMachine, Ran}
 use Rattle.drive_script.specs.declared.answer.Why.{Why}
 use Rattle.drive_script.specs.declared.answer.Why.TheVariants.{Ended}
-use Rattle.drive_script.specs.declared.turn.Turn.{Turn}
-use Rattle.drive_script.specs.declared.turn.Turn.TheVariants as turn
+use Rattle.drive_script.specs.declared.turn.TurnOutcome.{TurnOutcome}
+use Rattle.drive_script.specs.declared.turn.TurnOutcome.TheVariants as turn
 use Rattle.drive_script.specs.Driven.{HasMachines, HasMade, DrivesLine}
 use Rattle.drive_script.specs.Script.{step}
 use Rattle.drive_script.specs.Steps.{after_steps, if_lives, live_at, why}
 use Rattle.drive_script.specs.Told.{Driven, made_at, answer, answer_by, ran, ran_by}
-use Rattle.drive_script.specs.Turned.{HasRun, HasStopped, IsLiveOrLimit, Lives, Turns}
+use Rattle.drive_script.specs.Turned.{HasRun, HasStopped, IsLiveOrLimit, Lives, EndsTurn}
 use Rattle.drive_script.proofs.Driving.{made-behind}
 use Rattle.drive_script.proofs.Runs.{why-ended}
 use Rattle.drive_script.proofs.Steps.{after-both, after-none, made-all, made-at-most, made-none, made-zero, nobody-stops}
@@ -69,8 +70,8 @@ module _ (depot : Shelves) (name : Path) (s : Driven) (made : ℕ) (w : World) (
 
   module _ (most : ℕ) (within : made ≤ most) (new : World) where
     -- what is known of its answer
-    abbrev pub TurnsNext : Result Turn AllocError → Type 0
-    TurnsNext r = (u : Tree Paged) → HasMachines depot w u → Turns depot name (most - made) u r new
+    abbrev pub TurnsNext : Result TurnOutcome AllocError → Type 0
+    TurnsNext r = (u : Tree Paged) → HasMachines depot w u → EndsTurn depot name (most - made) u r new
 
     all-made : made_at most name t ≡ made + made_at (most - made) name after-made
     all-made = made-all paged_machines stalled_at made most name t within stepping-made
@@ -89,9 +90,9 @@ module _ (depot : Shelves) (name : Path) (s : Driven) (made : ℕ) (w : World) (
         replicate-append-replicate made (made_at (most - made) name after-made) name ∙ ap (λ n. replicate n name) (sym all-made) in
         inl (subst (λ steps. HasMade depot steps t new) all (made-behind depot new (replicate made name) (replicate (made_at (most - made) name after-made) name) t next))
 
-    module _ (r : Turn) (turns : TurnsNext (Ok r)) where
-      turned : (s : Turn) → r ≡ s → Turns depot name (most - made) after-made (Ok s) new
-      turned s is = subst (λ (x : Turn). Turns depot name (most - made) after-made (Ok x) new) is (turns after-made stepping-has)
+    module _ (r : TurnOutcome) (turns : TurnsNext (Ok r)) where
+      turned : (s : TurnOutcome) → r ≡ s → EndsTurn depot name (most - made) after-made (Ok s) new
+      turned s is = subst (λ (x : TurnOutcome). EndsTurn depot name (most - made) after-made (Ok x) new) is (turns after-made stepping-has)
 
       -- a call was made
       pub called-within : (steps : ℕ) → r ≡ turn.Called steps → (0 < steps) × (made + steps ≤ most)
@@ -149,14 +150,14 @@ module _ (depot : Shelves) (name : Path) (s : Driven) (made : ℕ) (w : World) (
       -- after a call
       limit-by : (e : Option Ending) (a : Tree Paged) → if_lives paged_machines e a ≡ None → IsLiveOrLimit e → e ≡ Some Limit
       limit-by None a none live = absurd (cc)
-      limit-by (Some (Exit value)) a none live = absurd live
+      limit-by (Some (Exit value handed)) a none live = absurd live
       limit-by (Some Limit) a none live = refl
 
       pub stepping-limit : r ≡ turn.NoMachine → made ≢ 0 → DrivesLine depot (step name most) s (Ok (Ran made (Ended Limit))) new
       unfolding paged_machines machines
       stepping-limit is some = by h (turned turn.NoMachine is)
         where
-          by : Stepping depot name t made w → Turns depot name (most - made) after-made (Ok turn.NoMachine) new
+          by : Stepping depot name t made w → EndsTurn depot name (most - made) after-made (Ok turn.NoMachine) new
               → DrivesLine depot (step name most) s (Ok (Ran made (Ended Limit))) new
           by (inl first) last = absurd (some first.0)
           by (inr run) last =

@@ -1,5 +1,6 @@
 -- What a machine did in its turn.
-use Rattle.std.proofs.Common.{◌≡◌, ◌≢◌, ℕ, ◌+◌, ◌-◌, ◌<◌, ◌≤◌, ◌⊎◌, ◌&&◌, ◌||◌, not, inl, inr, Bool, true, false, refl, sym, ap, ap₂, ◌∙◌, subst, arith, replicate, Option, Some, None, IsSome, IfSome, MatchOption, IsSomeAnd, is_some, Ok}
+use Rattle.std.proofs.Common.{◌≡◌, ◌≢◌, ℕ, ◌+◌, ◌-◌, ◌<◌, ◌≤◌, ◌⊎◌, ◌&&◌, ◌||◌, not, inl, inr, Bool, true, false, refl, sym, ap, ap₂, ◌∙◌, subst}
+use Rattle.std.proofs.Common.{arith, replicate, Option, Some, None, IsSome, IfSome, MatchOption, IsSomeAnd, is_some, Ok}
 use Rattle.std.proofs.lemmas.Bool.{cases_lt}
 use Rattle.image_depot.specs.Key.{Shelves}
 use Rattle.fork_port.specs.declared.commands.Call.{Call}
@@ -26,11 +27,11 @@ use Rattle.world_core.specs.World.{StandsFor}
 use Rattle.world_core.specs.Answers.{stands_waiting_of}
 use Rattle.world_core.proofs.Steps.{standing}
 use Rattle.drive_script.specs.declared.answer.Why.{Why}
-use Rattle.drive_script.specs.declared.turn.Turn.TheVariants.{Stopped, Called}
+use Rattle.drive_script.specs.declared.turn.TurnOutcome.TheVariants.{Stopped, Called}
 use Rattle.drive_script.specs.Driven.{HasMachines, HasMade}
 use Rattle.drive_script.specs.Steps.{after_steps, stops, why}
 use Rattle.drive_script.specs.Told.{made_at}
-use Rattle.drive_script.specs.Turned.{HasBack, HasRun, HasLent, HasStopped, Lives, MayGo, RanFrom, Turns, ran_to, with_machine}
+use Rattle.drive_script.specs.Turned.{HasBack, HasRun, HasLent, HasStopped, Lives, MayGo, RanFrom, EndsTurn, ran_to, with_machine}
 use Rattle.drive_script.proofs.Lent.{lent-live, lent-shown, lent-shows, lent-waits, own-tree, ran-live, taken}
 use Rattle.drive_script.proofs.Runs.{why-settled}
 use Rattle.drive_script.proofs.Steps.{first-made, made-stops}
@@ -155,7 +156,7 @@ module _ (depot : Shelves) (w : World) (t : Tree Paged) (lease : Lent) (h : HasL
       (call-goes (vm_of lease) (own-tree depot w t lease h) call.0 call.1 (lent-waits depot w t lease h here false waits_not))
 
   pub turn-called : (most steps : ℕ) (new : World) → lease.ran ≡ steps → steps < most → HasRun depot lease.name (lease.ran + 1) t new
-      → Turns depot lease.name most t (Ok (Called (steps + 1))) new
+      → EndsTurn depot lease.name most t (Ok (Called (steps + 1))) new
   turn-called most steps new ran below gone =
       (lent-lives, omega arith, omega (arith, below), subst (λ n. HasRun depot lease.name (n + 1) t new) ran gone)
 
@@ -186,7 +187,7 @@ module _ (depot : Shelves) (w : World) (t : Tree Paged) (lease : Lent) (h : HasL
 
     pub turn-stopped : (most steps : ℕ) (reason : Why) → lease.ran ≡ steps → steps ≤ most
         → IsSomeAnd (subtree lease.name t) (λ a. reason ≡ why paged_machines stalled_at (with_machine (now_of lease) a))
-        → (steps ≡ most) ⊎ (stops paged_machines stalled_at (Some now-tree) ≡ true) → Turns depot lease.name most t (Ok (Stopped steps reason)) new
+        → (steps ≡ most) ⊎ (stops paged_machines stalled_at (Some now-tree) ≡ true) → EndsTurn depot lease.name most t (Ok (Stopped steps reason)) new
     turn-stopped most steps reason ran within is short = (
       lent-lives,
       subst (λ n. HasStopped depot lease.name most t n reason new) ran

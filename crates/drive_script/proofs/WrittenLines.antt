@@ -1,5 +1,6 @@
 -- Lines and scripts are read as they are written.
-use Rattle.std.proofs.Common.{◌≡◌, ℕ, ◌+◌, ◌^◌, ◌<◌, ◌≤◌, nat_lt, Bool, true, false, cond, refl, sym, ap, ap₂, ◌∙◌, subst, arith, List, [], ◌∷◌, ◌++◌, length, get_or, codes, Option, Some, None, Result, Ok, Err}
+use Rattle.std.proofs.Common.{◌≡◌, ℕ, ◌+◌, ◌^◌, ◌<◌, ◌≤◌, nat_lt, Bool, true, false, cond, refl, sym, ap, ap₂, ◌∙◌, subst, arith, List, [], ◌∷◌, ◌++◌}
+use Rattle.std.proofs.Common.{length, get_or, codes, Option, Some, None, Result, Ok, Err}
 use borrow.Author.Tests.{ltb-true}
 use Rattle.std.proofs.lemmas.List.Elements.{All-append, All-nil}
 use Rattle.std.proofs.lemmas.List.Splits.{join_with_byte-slice_split}
@@ -14,7 +15,9 @@ use Rattle.drive_script.specs.declared.line.Word.{Word}
 use Rattle.drive_script.specs.declared.line.Word.TheVariants.{Step, Ask, Push, Give, Peek, Regs}
 use Rattle.drive_script.specs.declared.error.TheConstants.{BAD_ADDRESS, BAD_NUMBER}
 use Rattle.drive_script.specs.declared.line.TheConstants.{MAX_PAGE, MAX_PLACE, MAX_STEPS}
-use Rattle.drive_script.specs.Script.{Line, step, ask, push, give, peek, regs, address_of, addressed, fields, line_before, line_by, line_named, line_of, line_valued, lines_from, name_of, named, named_by, number_within, numbered, one_of, parts, script, two_of, valued_by, with_word, word_of}
+use Rattle.drive_script.specs.Script.{Line, step, ask, push, give, peek, regs, address_of, addressed, fields, line_before, line_by, line_named}
+use Rattle.drive_script.specs.Script.{line_of, line_valued, lines_from, name_of, named, named_by, number_within, numbered, one_of, parts, script}
+use Rattle.drive_script.specs.Script.{two_of, valued_by, with_word, word_of}
 use Rattle.drive_script.specs.Told.{word_text}
 use Rattle.drive_script.specs.Written.{AreForks, AreInForm, IsFork, IsInForm, IsTextOf, line_text, script_text}
 use Rattle.drive_script.proofs.Scripts.{after_lines, after-nothing, lines_from-more}

@@ -1,7 +1,7 @@
 -- Lines of a script, by the values of the code.
 use Rattle.std.specs.Prelude.{List, map}
-use Rattle.drive_script.specs.declared.line.Line.{Line as Read}
-use Rattle.drive_script.specs.declared.line.Line.TheVariants as read
+use Rattle.drive_script.specs.declared.line.ScriptLine.{ScriptLine as Read}
+use Rattle.drive_script.specs.declared.line.ScriptLine.TheVariants as read
 use Rattle.drive_script.specs.Script.{Line, step, ask, push, give, peek, regs}
 
 abbrev pub line_read : Read → Line

@@ -6,7 +6,7 @@ use Rattle.forest_tree.specs.Tree.{Tree, node, Branch, Path}
 use Rattle.forest_history.specs.Places.{at_path}
 use Rattle.forest_history.specs.Histories.{is_same_path}
 use Rattle.forest_model.specs.Paged.{Paged, pages_arrived}
-use Rattle.drive_script.specs.declared.answer.Sent.{Sent}
+use Rattle.drive_script.specs.declared.answer.SentPlace.{SentPlace}
 
 -- ---- to whom
 
@@ -48,7 +48,7 @@ with_reply None sent to = sent to
 with_reply (Some reply) sent to = if are_same reply.0 to then sent to ++ reply.1 ∷ [] else sent to
 
 -- and its place is behind the others, from 0
-abbrev pub place_of : Option (Siblings × ℕ) → Replies → Option Sent
+abbrev pub place_of : Option (Siblings × ℕ) → Replies → Option SentPlace
 place_of None sent = None
 place_of (Some reply) sent = Some (record { page = reply.1; place = length (sent reply.0) })
 

@@ -1,5 +1,6 @@
 -- What the lines of a script make of a forest of whole machines, and what they answer.
-use Rattle.std.specs.Prelude.{ℕ, zero, suc, ◌/◌, ◌%◌, nat_lt, if◌then◌else◌, List, [], ◌∷◌, ◌++◌, codes, length, replicate, slice_get, slice_index, Option, Some, None, option_and_then}
+use Rattle.std.specs.Prelude.{ℕ, zero, suc, ◌/◌, ◌%◌, nat_lt, if◌then◌else◌, List, [], ◌∷◌, ◌++◌, codes, length, replicate, slice_get, slice_index}
+use Rattle.std.specs.Prelude.{Option, Some, None, option_and_then}
 use Rattle.std.specs.Fmt.{decimal}
 use Rattle.std.specs.List.{flat_map}
 use Rattle.image_depot.specs.declared.arrived.Arrived.{Arrived}
@@ -15,7 +16,7 @@ use Rattle.vm_cell.specs.Shown.{peeked, shown_registers}
 use Rattle.drive_script.specs.Script.{Line, step, ask, push, give, peek, regs}
 use Rattle.drive_script.specs.declared.answer.Answer.{Answer}
 use Rattle.drive_script.specs.declared.answer.Answer.TheVariants.{NoMachine, Ran, Ask, Push, Give, Word, Registers}
-use Rattle.drive_script.specs.declared.answer.Sent.{Sent}
+use Rattle.drive_script.specs.declared.answer.SentPlace.{SentPlace}
 use Rattle.drive_script.specs.declared.answer.Why.{Why}
 use Rattle.drive_script.specs.declared.answer.Why.TheVariants.{Ended, Stalls, Waits, MayGoOn}
 use Rattle.drive_script.specs.Replies.{Siblings, Replies, siblings_of, none_sent, reply_to, with_reply, place_of, page_at, coming, with_arrival}
@@ -159,11 +160,11 @@ why_text (Stalls page) = codes "stall " ++ decimal page
 why_text (Waits ticket) = codes "wait " ++ decimal ticket
 why_text MayGoOn = codes "ok"
 
-abbrev pub sent_text : Sent → List ℕ
+abbrev pub sent_text : SentPlace → List ℕ
 sent_text s = decimal s.page ++ (codes " " ++ decimal s.place)
 
 -- a page and its place, if a reply was sent
-abbrev pub sent_or_none : Option Sent → List ℕ
+abbrev pub sent_or_none : Option SentPlace → List ℕ
 sent_or_none None = codes "none"
 sent_or_none (Some s) = sent_text s
 

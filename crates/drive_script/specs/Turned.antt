@@ -18,8 +18,8 @@ use Rattle.world_core.specs.Answers.{Answers, IsLentOf}
 use Rattle.world_core.specs.Lent.{Lent, now_of}
 use Rattle.world_core.specs.World.{Forest, StandsFor}
 use Rattle.drive_script.specs.declared.answer.Why.{Why}
-use Rattle.drive_script.specs.declared.turn.Turn.{Turn}
-use Rattle.drive_script.specs.declared.turn.Turn.TheVariants.{NoMachine, Stopped, Called}
+use Rattle.drive_script.specs.declared.turn.TurnOutcome.{TurnOutcome}
+use Rattle.drive_script.specs.declared.turn.TurnOutcome.TheVariants.{NoMachine, Stopped, Called}
 use Rattle.drive_script.specs.Replies.{coming, with_arrival}
 use Rattle.drive_script.specs.Steps.{after_steps, why, live_at}
 use Rattle.drive_script.specs.Told.{made_at}
@@ -87,7 +87,7 @@ AnswersCall depot f lease placed w = (how : How) × IsCall how × Answers depot 
 -- a machine lives, or has ended by its limit
 abbrev pub IsLiveOrLimit : Option Ending → Type 0
 IsLiveOrLimit None = Unit {0}
-IsLiveOrLimit (Some (Exit value)) = ⊥
+IsLiveOrLimit (Some (Exit value handed)) = ⊥
 IsLiveOrLimit (Some Limit) = Unit {0}
 
 -- ---- its turn
@@ -109,8 +109,8 @@ pub record HasStopped (depot : Shelves) (name : Path) (most : ℕ) (t : Tree Pag
   pub has : HasMachines depot w (after_steps paged_machines steps name t)
 
 -- the answer of a turn of at most so many steps
-abbrev pub Turns : Shelves → Path → ℕ → Tree Paged → Result Turn AllocError → World → Type 0
-Turns depot name most t (Ok NoMachine) w = (live_at paged_machines name t ≡ None) × HasMachines depot w t
-Turns depot name most t (Ok (Stopped steps reason)) w = Lives name t × HasStopped depot name most t steps reason w
-Turns depot name most t (Ok (Called steps)) w = Lives name t × (0 < steps) × (steps ≤ most) × HasRun depot name steps t w
-Turns depot name most t (Err e) w = HasMade depot (replicate (made_at most name t) name) t w
+abbrev pub EndsTurn : Shelves → Path → ℕ → Tree Paged → Result TurnOutcome AllocError → World → Type 0
+EndsTurn depot name most t (Ok NoMachine) w = (live_at paged_machines name t ≡ None) × HasMachines depot w t
+EndsTurn depot name most t (Ok (Stopped steps reason)) w = Lives name t × HasStopped depot name most t steps reason w
+EndsTurn depot name most t (Ok (Called steps)) w = Lives name t × (0 < steps) × (steps ≤ most) × HasRun depot name steps t w
+EndsTurn depot name most t (Err e) w = HasMade depot (replicate (made_at most name t) name) t w

@@ -27,7 +27,7 @@ impl fmt::Display for Why {
 
     fn fmt<W: fmt::Write>(&self, f: &mut fmt::Formatter<W>) -> fmt::Result {
         match self {
-            Why::Ended(Ending::Exit(value)) => write!(f, "exit {value}"),
+            Why::Ended(Ending::Exit(value, _)) => write!(f, "exit {value}"),
             Why::Ended(Ending::Limit) => write!(f, "limit"),
             Why::Stalls(page) => write!(f, "stall {page}"),
             Why::Waits(ticket) => write!(f, "wait {ticket}"),
@@ -38,16 +38,16 @@ impl fmt::Display for Why {
 
 /// A reply that was sent: its page, and its place among those that were sent to the same machines, from 0.
 #[derive(Clone, Copy)]
-pub(crate) struct Sent {
+pub(crate) struct SentPlace {
     pub(crate) page: u32,
     pub(crate) place: usize,
 }
 
-impl fmt::Display for Sent {
+impl fmt::Display for SentPlace {
     ghost output = { λ sent. Some (sent_text sent) };
 
     fn fmt<W: fmt::Write>(&self, f: &mut fmt::Formatter<W>) -> fmt::Result {
-        let Sent { page, place } = *self;
+        let SentPlace { page, place } = *self;
         write!(f, "{page} {place}")
     }
 }
@@ -60,9 +60,9 @@ pub(crate) enum Answer {
     /// It made so many steps.
     Ran { steps: u64, why: Why },
     /// The reply that was sent with the page at which it stalls, if one was.
-    Ask(Option<Sent>),
+    Ask(Option<SentPlace>),
     /// The reply that was sent with a page, if one was.
-    Push(Option<Sent>),
+    Push(Option<SentPlace>),
     /// What came of the reply at a place, if there is one.
     Give(Option<Arrived>),
     /// The word at an address, if one is there.
@@ -92,7 +92,7 @@ impl fmt::Display for Answer {
 fn write_sent<W: fmt::Write>(
     f: &mut fmt::Formatter<W>,
     word: &str,
-    sent: &Option<Sent>,
+    sent: &Option<SentPlace>,
 ) -> fmt::Result
     ensures { WritesOnOk W.write_str_gives f.old result (word.now ++ (codes " " ++ sent_or_none sent.now)) f.new }
 {

@@ -12,11 +12,11 @@ ghost use Rattle.drive_script.specs.Script.{ask, give, peek, push, regs, step};
 ghost use Rattle.drive_script.specs.Told.{Driven, after_line, unanswered};
 
 use crate::answer::{Answer, Why};
-use crate::line::Line;
+use crate::line::ScriptLine;
 use crate::name::NameText;
 use crate::replies::Replies;
 use crate::script::Script;
-use crate::turn::{Turn, bring, give_back, take_turn};
+use crate::turn::{TurnOutcome, bring, give_back, take_turn};
 use fork_port::Ending;
 use image_depot::Depot;
 use machine_names::Name;
@@ -57,7 +57,7 @@ fn answer_line<R: Wait>(
     alloc: Global,
     world: &mut World,
     replies: &mut Replies,
-    line: &Line,
+    line: &ScriptLine,
     depot: &Depot,
 ) -> Result<Answer, AllocError>
     requires { (t : Tree Paged) × HasMachines depot.now world.old t }
@@ -72,24 +72,25 @@ fn answer_line<R: Wait>(
         return Ok(not_answered(line));
     };
     match line {
-        Line::Step { most, .. } => step(rt, alloc, world, &name, u64::from(*most), depot),
-        Line::Ask { .. } => ask(alloc, world, replies, &name, depot),
-        Line::Push { page, .. } => push(alloc, world, replies, &name, *page, depot),
-        Line::Give { place, .. } => give(alloc, world, replies, &name, *place, depot),
-        Line::Peek { address, .. } => peek(alloc, world, &name, *address, depot),
-        Line::Regs { .. } => regs(alloc, world, &name, depot),
+        ScriptLine::Step { most, .. } => step(rt, alloc, world, &name, u64::from(*most), depot),
+        ScriptLine::Ask { .. } => ask(alloc, world, replies, &name, depot),
+        ScriptLine::Push { page, .. } => push(alloc, world, replies, &name, *page, depot),
+        ScriptLine::Give { place, .. } => give(alloc, world, replies, &name, *place, depot),
+        ScriptLine::Peek { address, .. } => peek(alloc, world, &name, *address, depot),
+        ScriptLine::Regs { .. } => regs(alloc, world, &name, depot),
     }
 }
 
 /// What a line answers where no live machine has its name.
-fn not_answered(line: &Line) -> Answer
+fn not_answered(line: &ScriptLine) -> Answer
     ensures { result ≡ unanswered (line_read line.now) }
 {
     match line {
-        Line::Ask { .. } => Answer::Ask(None),
-        Line::Push { .. } => Answer::Push(None),
-        Line::Give { .. } => Answer::Give(None),
-        Line::Step { .. } | Line::Peek { .. } | Line::Regs { .. } => Answer::NoMachine,
+        ScriptLine::Ask { .. } => Answer::Ask(None),
+        ScriptLine::Push { .. } => Answer::Push(None),
+        ScriptLine::Give { .. } => Answer::Give(None),
+        ScriptLine::Step { .. } | ScriptLine::Peek { .. } | ScriptLine::Regs { .. } =>
+            Answer::NoMachine,
     }
 }
 
@@ -120,16 +121,16 @@ fn step<R: Wait>(
     let mut made = 0;
     loop {
         match take_turn(rt, alloc, world, name, most - made, depot)? {
-            Turn::Called { steps } => made += steps,
-            Turn::Stopped { steps, why } => {
+            TurnOutcome::Called { steps } => made += steps,
+            TurnOutcome::Stopped { steps, why } => {
                 return Ok(Answer::Ran {
                     steps: made + steps,
                     why,
                 });
             }
-            Turn::NoMachine if made == 0 => return Ok(Answer::NoMachine),
+            TurnOutcome::NoMachine if made == 0 => return Ok(Answer::NoMachine),
             // A machine that has ended at a call has ended by its limit.
-            Turn::NoMachine => {
+            TurnOutcome::NoMachine => {
                 return Ok(Answer::Ran {
                     steps: made,
                     why: Why::Ended(Ending::Limit),

@@ -15,6 +15,6 @@ mod turn;
 
 pub use driver::drive;
 pub use error::ScriptError;
-pub use line::{Line, MAX_PAGE, MAX_PLACE, MAX_STEPS};
+pub use line::{MAX_PAGE, MAX_PLACE, MAX_STEPS, ScriptLine};
 pub use name::NameText;
 pub use script::{MAX_SCRIPT, Script, read_script};

@@ -9,9 +9,10 @@ use crate::error::{BAD_ADDRESS, BAD_NAME, BAD_NUMBER, LineError, UNKNOWN_WORD, W
 use crate::fields::{SPACE, address_of, cut, number_within, one_field, two_fields};
 use crate::name::NameText;
 use std::alloc::Global;
+use vm_descriptor::MAX_LIMIT;
 
-/// The most steps that a line may ask for.
-pub const MAX_STEPS: u32 = 1_000_000_000;
+/// The most steps that a line may ask for: as many as a machine may make.
+pub const MAX_STEPS: u32 = MAX_LIMIT as u32;
 
 /// The greatest number of a page.
 pub const MAX_PAGE: u32 = u32::MAX;
@@ -21,7 +22,7 @@ pub const MAX_PLACE: u32 = u32::MAX;
 
 /// A line of a script. Each names a machine.
 #[derive(Drop)]
-pub enum Line {
+pub enum ScriptLine {
     /// `step N K`: at most so many steps.
     Step { name: NameText, most: u32 },
     /// `ask N`: a reply with the page at which the machine stalls is sent.
@@ -36,18 +37,18 @@ pub enum Line {
     Regs { name: NameText },
 }
 
-impl Line {
+impl ScriptLine {
     /// The name of the machine.
     pub fn name(&self) -> &NameText
         ensures { result.now ≡ name_in (line_read self.now) }
     {
         match self {
-            Line::Step { name, .. } => name,
-            Line::Ask { name } => name,
-            Line::Push { name, .. } => name,
-            Line::Give { name, .. } => name,
-            Line::Peek { name, .. } => name,
-            Line::Regs { name } => name,
+            ScriptLine::Step { name, .. } => name,
+            ScriptLine::Ask { name } => name,
+            ScriptLine::Push { name, .. } => name,
+            ScriptLine::Give { name, .. } => name,
+            ScriptLine::Peek { name, .. } => name,
+            ScriptLine::Regs { name } => name,
         }
     }
 }
@@ -65,7 +66,7 @@ enum Word {
 
 /// The line that a text is.
 #[tactic(auto, unfolding(crate::specs::Script::line_of))]
-pub(crate) fn read_line(alloc: Global, text: &[u8]) -> Result<Line, LineError>
+pub(crate) fn read_line(alloc: Global, text: &[u8]) -> Result<ScriptLine, LineError>
     ensures reads { IfOk result (λ line. line_of text.now ≡ Ok (line_read line)) }
     ensures refuses { IfErr result (IsLineRefused (line_of text.now)) }
 {
@@ -91,34 +92,34 @@ fn word_of(text: &[u8]) -> Option<Word>
 }
 
 /// The line of a word and its fields.
-fn read_fields(alloc: Global, word: Word, fields: Option<&[u8]>) -> Result<Line, LineError>
+fn read_fields(alloc: Global, word: Word, fields: Option<&[u8]>) -> Result<ScriptLine, LineError>
     ensures reads { IfOk result (λ line. with_fields word (fields_beyond (option_map (λ text. text.now) fields.entry)) ≡ Ok (line_read line)) }
     ensures refuses { IfErr result (IsLineRefused (with_fields word (fields_beyond (option_map (λ text. text.now) fields.entry)))) }
 {
     match word {
         Word::Step => {
             let (name, most) = read_numbered(alloc, fields, MAX_STEPS)?;
-            Ok(Line::Step { name, most })
+            Ok(ScriptLine::Step { name, most })
         }
         Word::Ask => {
             let name = read_named(alloc, fields)?;
-            Ok(Line::Ask { name })
+            Ok(ScriptLine::Ask { name })
         }
         Word::Push => {
             let (name, page) = read_numbered(alloc, fields, MAX_PAGE)?;
-            Ok(Line::Push { name, page })
+            Ok(ScriptLine::Push { name, page })
         }
         Word::Give => {
             let (name, place) = read_numbered(alloc, fields, MAX_PLACE)?;
-            Ok(Line::Give { name, place })
+            Ok(ScriptLine::Give { name, place })
         }
         Word::Peek => {
             let (name, address) = read_addressed(alloc, fields)?;
-            Ok(Line::Peek { name, address })
+            Ok(ScriptLine::Peek { name, address })
         }
         Word::Regs => {
             let name = read_named(alloc, fields)?;
-            Ok(Line::Regs { name })
+            Ok(ScriptLine::Regs { name })
         }
     }
 }

@@ -8,7 +8,7 @@ ghost use Rattle.drive_script.specs.Driven.{Keeps, first_of, pages_in};
 ghost use Rattle.drive_script.specs.Replies as kept;
 ghost use Rattle.drive_script.specs.Replies.{none_sent, page_at, place_of, reply_to, siblings_of, with_reply};
 
-use crate::answer::Sent;
+use crate::answer::SentPlace;
 use machine_names::Name;
 use std::alloc::{AllocError, Global};
 use std::collections::BTreeMap;
@@ -36,7 +36,7 @@ impl Replies {
         alloc: Global,
         name: &Name,
         page: Option<u32>,
-    ) -> Result<Option<Sent>, AllocError>
+    ) -> Result<Option<SentPlace>, AllocError>
         ensures { (sent : kept.Replies) → Keeps self.old.lists sent
             → IfOk result (λ placed. (placed ≡ place_of (reply_to (siblings_of name.now) page) sent)
             × Keeps self.new.lists (with_reply (reply_to (siblings_of name.now) page) sent)) }
@@ -48,7 +48,7 @@ impl Replies {
             return Ok(None);
         };
         let place = self.append(alloc, first, page)?;
-        Ok(Some(Sent { page, place }))
+        Ok(Some(SentPlace { page, place }))
     }
 
     /// Puts a page behind those of a list, and tells its place.

@@ -6,7 +6,7 @@ ghost use Rattle.drive_script.specs.Script.{IsRefused, script};
 
 use crate::error::{LineError, ScriptError};
 use crate::fields::NEWLINE;
-use crate::line::{Line, read_line};
+use crate::line::{ScriptLine, read_line};
 use std::alloc::Global;
 use std::marker::Model;
 
@@ -16,7 +16,7 @@ pub const MAX_SCRIPT: usize = 1_048_576;
 /// A script: its lines in order, without those that are empty.
 #[derive(Drop)]
 pub struct Script {
-    lines: Vec<Line>,
+    lines: Vec<ScriptLine>,
 }
 
 impl Model for Script {
@@ -31,7 +31,7 @@ impl Model for Script {
 
 impl Script {
     /// The lines, in order.
-    pub fn lines(&self) -> &[Line]
+    pub fn lines(&self) -> &[ScriptLine]
         ensures { map line_read result.now ≡ self.now }
     {
         &self.lines
@@ -50,7 +50,7 @@ pub fn read_script(alloc: Global, bytes: &[u8]) -> Result<Script, ScriptError>
 }
 
 /// Reads the lines of a text into an empty list, up to the first that is not in form.
-fn read_lines(alloc: Global, bytes: &[u8], lines: &mut Vec<Line>) -> Result<(), ScriptError>
+fn read_lines(alloc: Global, bytes: &[u8], lines: &mut Vec<ScriptLine>) -> Result<(), ScriptError>
     requires most { length bytes.now ≤ MAX_SCRIPT }
     requires none { lines.old.items ≡ [] }
     ensures reads { OnOk result (script bytes.now ≡ Ok (lines_read lines.new.items)) }

@@ -13,7 +13,7 @@ ghost use Rattle.world_core.specs.declared.world.World.{World};
 ghost use Rattle.world_core.specs.Answers.{IsHandedOut, IsLentOf};
 ghost use Rattle.drive_script.specs.Driven.{HasMachines};
 ghost use Rattle.drive_script.specs.Steps.{why};
-ghost use Rattle.drive_script.specs.Turned.{AnswersCall, Brings, HasBack, HasRun, HasLent, MayGo, Turns, with_machine};
+ghost use Rattle.drive_script.specs.Turned.{AnswersCall, Brings, EndsTurn, HasBack, HasLent, HasRun, MayGo, with_machine};
 
 use crate::answer::Why;
 use fork_port::Call;
@@ -26,7 +26,7 @@ use world_core::{Lease, Placed, World};
 
 /// What a machine did in its turn.
 #[derive(Clone, Copy)]
-pub(crate) enum Turn {
+pub(crate) enum TurnOutcome {
     /// No live machine has the name.
     NoMachine,
     /// It made so many steps, and stopped.
@@ -43,15 +43,15 @@ pub(crate) fn take_turn<R: Wait>(
     name: &Name,
     most: u64,
     depot: &Depot,
-) -> Result<Turn, AllocError>
+) -> Result<TurnOutcome, AllocError>
     requires { (t : Tree Paged) × HasMachines depot.now world.old t }
-    ensures turns { (t : Tree Paged) → HasMachines depot.now world.old t → Turns depot.now name.now most t result world.new }
+    ensures turns { (t : Tree Paged) → HasMachines depot.now world.old t → EndsTurn depot.now name.now most t result world.new }
     ensures reason { reason_of world.new ≡ reason_of world.old }
     ensures told { told_of world.new ≡ told_of world.old }
 {
     match world.take_named(alloc, name, depot)? {
         Some(lease) => run_turn(rt, alloc, world, lease, most, depot),
-        None => Ok(Turn::NoMachine),
+        None => Ok(TurnOutcome::NoMachine),
     }
 }
 
@@ -64,10 +64,10 @@ fn run_turn<R: Wait>(
     mut lease: Lease,
     most: u64,
     depot: &Depot,
-) -> Result<Turn, AllocError>
+) -> Result<TurnOutcome, AllocError>
     requires lent { (t : Tree Paged) × HasLent depot.now world.old t lease }
     requires new { lease.ran ≡ 0 }
-    ensures turns { (t : Tree Paged) → HasLent depot.now world.old t lease → Turns depot.now lease.name most t result world.new }
+    ensures turns { (t : Tree Paged) → HasLent depot.now world.old t lease → EndsTurn depot.now lease.name most t result world.new }
     ensures reason { reason_of world.new ≡ reason_of world.old }
     ensures told { told_of world.new ≡ told_of world.old }
 {
@@ -77,13 +77,13 @@ fn run_turn<R: Wait>(
     };
     if ran.steps < most && lease.call().is_some() && !world.waits(&lease) {
         make_call(rt, alloc, world, lease, depot)?;
-        return Ok(Turn::Called {
+        return Ok(TurnOutcome::Called {
             steps: ran.steps + 1,
         });
     }
     let why = why_it_stops(world, &lease);
     give_back(world, lease);
-    Ok(Turn::Stopped {
+    Ok(TurnOutcome::Stopped {
         steps: ran.steps,
         why,
     })

@@ -1,4 +1,5 @@
--- What an access comes to: an access of RAM is aligned and lies in RAM, and the page that it needs is its own.
+-- What an access comes to: an access of RAM is aligned, is allowed and lies in RAM, and the page that it needs is its
+-- own.
 use Rattle.std.proofs.Common.{◌≡◌, ℕ, ◌*◌, ◌<◌, Bool, true, false, cond, List, length, Option, Some, None, refl, sym, ap, ◌∙◌, subst, arith}
 use Rattle.std.specs.Option.{IfSome}
 use Rattle.std.proofs.lemmas.Bool.Decides.{nat_tests}
@@ -8,11 +9,12 @@ use Rattle.rv_decode.specs.Table.{decoded}
 use Rattle.rv_traps.specs.Trap.{takes_interrupt}
 use Rattle.forest_model.specs.declared.access.Access.{Access}
 use Rattle.forest_model.specs.State.{State, is_in_ram, is_timer_due}
-use Rattle.forest_model.specs.Access.{Reached, faulted, of_ram, of_port, uses, is_made, is_aligned_for, misaligned_cause, fault_cause, outside_ram, page_of, page_for, reached_in, reached_by, reached, fetch_access}
+use Rattle.forest_model.specs.Access.{Reached, faulted, of_ram, of_port, uses, is_made, is_aligned_for, misaligned_cause, fault_cause, is_allowed, outside_ram, page_of, page_for, reached_if, reached_by, reached, fetch_access}
 use Rattle.forest_model.specs.Execute.{action, action_by, execute, decoded_action, fetched, fetch_action, coming_instruction, instruction_at, instruction_by}
 
 pub record IsOfRam (a : Access) (s : State) (page : Option ℕ) : Type 0 where
   pub aligned : is_aligned_for a.direction a.address a.width ≡ true
+  pub allowed : is_allowed a s ≡ true
   pub in_ram : is_in_ram s.ram a.address ≡ true
   pub needs : page ≡ page_for a.direction (page_of a.address)
 
@@ -20,15 +22,16 @@ not-outside : (of_ports : Bool) (cause : ℕ) (page : Option ℕ) {R : Type 0} �
 not-outside true cause page e = absurd (cc)
 not-outside false cause page e = absurd (cc)
 
-of_ram-in : (in_ram : Bool) (a : Access) (s : State) (page : Option ℕ) → is_in_ram s.ram a.address ≡ in_ram
-    → is_aligned_for a.direction a.address a.width ≡ true → reached_in in_ram a ≡ of_ram page → IsOfRam a s page
-of_ram-in false a s page e aligned is = not-outside (uses a.direction).of_ports (fault_cause a.direction) page is
-of_ram-in true a s page e aligned is = record { aligned = aligned; in_ram = e; needs = cc }
+of_ram-in : (allowed in_ram : Bool) (a : Access) (s : State) (page : Option ℕ) → is_allowed a s ≡ allowed → is_in_ram s.ram a.address ≡ in_ram
+    → is_aligned_for a.direction a.address a.width ≡ true → reached_if allowed in_ram a ≡ of_ram page → IsOfRam a s page
+of_ram-in false in_ram a s page right e aligned is = absurd (cc)
+of_ram-in true false a s page right e aligned is = not-outside (uses a.direction).of_ports (fault_cause a.direction) page is
+of_ram-in true true a s page right e aligned is = record { aligned = aligned; allowed = right; in_ram = e; needs = cc }
 
 of_ram-by : (aligned : Bool) (a : Access) (s : State) (page : Option ℕ) → is_aligned_for a.direction a.address a.width ≡ aligned
     → reached_by aligned a s ≡ of_ram page → IsOfRam a s page
 of_ram-by false a s page e is = absurd (cc)
-of_ram-by true a s page e is = of_ram-in (is_in_ram s.ram a.address) a s page refl e is
+of_ram-by true a s page e is = of_ram-in (is_allowed a s) (is_in_ram s.ram a.address) a s page refl refl e is
 
 pub of_ram-is : (a : Access) (s : State) (page : Option ℕ) → reached a s ≡ of_ram page → IsOfRam a s page
 unfolding reached
@@ -41,14 +44,23 @@ module _ (a : Access) (s : State) where
   unfolding reached
   reached-misaligned e = ap (λ b. reached_by b a s) e
 
-  pub reached-outside : is_aligned_for a.direction a.address a.width ≡ true → is_in_ram s.ram a.address ≡ false → reached a s ≡ outside_ram a.direction
+  -- by its alignment, whether it is allowed, and whether it is in RAM
+  reached-if : (allowed in_ram : Bool) → is_aligned_for a.direction a.address a.width ≡ true → is_allowed a s ≡ allowed → is_in_ram s.ram a.address ≡ in_ram
+      → reached a s ≡ reached_if allowed in_ram a
   unfolding reached
-  reached-outside e outside = ap (λ b. reached_by b a s) e ∙ ap (λ b. reached_in b a) outside
+  reached-if allowed in_ram e right is =
+      ap (λ b. reached_by b a s) e ∙ ap (λ b. reached_if b (is_in_ram s.ram a.address) a) right ∙ ap (λ b. reached_if allowed b a) is
 
-  pub reached-ram : is_aligned_for a.direction a.address a.width ≡ true → is_in_ram s.ram a.address ≡ true
+  pub reached-denied : is_aligned_for a.direction a.address a.width ≡ true → is_allowed a s ≡ false → reached a s ≡ faulted (fault_cause a.direction)
+  reached-denied e denied = reached-if false (is_in_ram s.ram a.address) e denied refl
+
+  pub reached-outside : is_aligned_for a.direction a.address a.width ≡ true → is_allowed a s ≡ true → is_in_ram s.ram a.address ≡ false
+      → reached a s ≡ outside_ram a.direction
+  reached-outside e right outside = reached-if true false e right outside
+
+  pub reached-ram : is_aligned_for a.direction a.address a.width ≡ true → is_allowed a s ≡ true → is_in_ram s.ram a.address ≡ true
       → reached a s ≡ of_ram (page_for a.direction (page_of a.address))
-  unfolding reached
-  reached-ram e inside = ap (λ b. reached_by b a s) e ∙ ap (λ b. reached_in b a) inside
+  reached-ram e right inside = reached-if true true e right inside
 
 -- ---- the page that an access needs begins in RAM
 

@@ -66,6 +66,7 @@ IsBare-answered f h asked.NewTicket = IsBare-after_ticket f h
 IsBare-answered f h (asked.Discard number) = IsBare-after_kill f number h
 IsBare-answered f h (asked.Call c) = h
 IsBare-answered f h (asked.Exit value) = h
+IsBare-answered f h (asked.ExitWith value address count) = h
 IsBare-answered f h (asked.Zero first count) = h
 
 IsBare-kept : (f : ForkRegisters) → IsBare f → IsKept IsBare f
@@ -101,7 +102,7 @@ no-call-by : (f : ForkRegisters) → IsBare f → (a : Action) → Ported IsBare
 no-call-by f h (trap cause value) p = refl
 no-call-by f h interrupt p = refl
 no-call-by f h (retire written s) p = refl
-no-call-by f h (exit value s) p = refl
+no-call-by f h (exit value bytes s) p = refl
 no-call-by f h (ask c s) p = absurd (no-call-makeable f h c p.1)
 
 pub no-call : (m : Machine) → IsChildless m → call_of (next m) ≡ None

@@ -1,8 +1,9 @@
 -- A machine that is run by its own steps: ended machines stay, steps add up, and none goes past its limit.
-use Rattle.std.proofs.Common.{◌≡◌, ◌≢◌, ℕ, zero, suc, ◌+◌, ◌-◌, ◌<◌, ◌≤◌, Bool, true, false, eqb, Option, Some, None, IsSome, refl, sym, ap, ◌∙◌, subst, arith, suc-add, zero-add, cond, inl, inr, ◌⊎◌}
+use Rattle.std.proofs.Common.{◌≡◌, ◌≢◌, ℕ, zero, suc, ◌+◌, ◌-◌, ◌<◌, ◌≤◌, Bool, true, false, eqb, Option, Some, None, IsSome, refl, sym, ap, ◌∙◌, subst, arith, suc-add, zero-add, List, cond, inl, inr, ◌⊎◌}
 use Rattle.std.proofs.lemmas.Bool.Decides.{leb_tells}
 use Rattle.fork_port.specs.declared.ending.Ending.{Ending}
 use Rattle.fork_port.specs.declared.ending.Ending.TheVariants.{Exit, Limit}
+use Rattle.fork_port.specs.Handed.{handed_of}
 use Rattle.forest_model.specs.declared.Written.TheVariants.{Nothing}
 use Rattle.rv_traps.specs.declared.csrs.TheConstants.{TIMER_INTERRUPT}
 use Rattle.rv_traps.specs.Trap.{takes_interrupt}
@@ -42,7 +43,7 @@ limit-applied : (a : Action) (m : Machine) → (applied a m).limit ≡ m.limit
 limit-applied (trap cause value) m = refl
 limit-applied interrupt m = refl
 limit-applied (retire written s) m = refl
-limit-applied (exit value s) m = refl
+limit-applied (exit value bytes s) m = refl
 limit-applied (ask c s) m = refl
 
 limit-advance_from : (e : Option Ending) (m : Machine) → (advance_from e m).limit ≡ m.limit
@@ -63,7 +64,7 @@ steps-applied : (a : Action) (m : Machine) → call_of (next_of a) ≡ None → 
 steps-applied (trap cause value) m own = refl
 steps-applied interrupt m own = refl
 steps-applied (retire written s) m own = refl
-steps-applied (exit value s) m own = refl
+steps-applied (exit value bytes s) m own = refl
 steps-applied (ask c s) m own = absurd (cc)
 
 pub steps-advance : (m : Machine) → m.ending ≡ None → call_of (next m) ≡ None → (advance m).steps ≡ m.steps + 1
@@ -74,7 +75,7 @@ waits-applied : (a : Action) (m : Machine) → IsSome (call_of (next_of a)) → 
 waits-applied (trap cause value) m is = absurd (cc)
 waits-applied interrupt m is = absurd (cc)
 waits-applied (retire written s) m is = absurd (cc)
-waits-applied (exit value s) m is = absurd (cc)
+waits-applied (exit value bytes s) m is = absurd (cc)
 waits-applied (ask c s) m is = refl
 
 waits-advance_from : (e : Option Ending) (m : Machine) → IsSome (call_of (next m)) → advance_from e m ≡ m
@@ -94,7 +95,7 @@ applied-exception (trap cause value) m c v h =
     ap (λ k. applied (trap k value) m) same_cause ∙ ap (λ k. applied (trap c k) m) same_value
 applied-exception interrupt m c v h = absurd (cc)
 applied-exception (retire written s) m c v h = absurd (cc)
-applied-exception (exit value s) m c v h = absurd (cc)
+applied-exception (exit value bytes s) m c v h = absurd (cc)
 applied-exception (ask k s) m c v h = absurd (cc)
 
 pub advance-exception : (m : Machine) (cause value : ℕ) → m.ending ≡ None → next m ≡ exception cause value
@@ -125,25 +126,26 @@ within-applied : (a : Action) (m : Machine) → m.steps < m.limit → IsWithinLi
 within-applied (trap cause value) m h live = below-made m h live
 within-applied interrupt m h live = below-made m h live
 within-applied (retire written s) m h live = below-made m h live
-within-applied (exit value s) m h live = cc
+within-applied (exit value bytes s) m h live = cc
 within-applied (ask c s) m h live = h
 
 -- EXIT ends a machine, and else its limit does
-exit-applied : (a : Action) (m : Machine) (value : ℕ) (s : State) → a ≡ exit value s → (applied a m).ending ≡ Some (Exit value)
-exit-applied a m value s e = ap (λ k. (applied k m).ending) e
+exit-applied : (a : Action) (m : Machine) (value : ℕ) (bytes : List ℕ) (s : State) → a ≡ exit value bytes s → (applied a m).ending ≡ Some (Exit value (handed_of bytes))
+exit-applied a m value bytes s e = ap (λ k. (applied k m).ending) e
 
-pub exit-advance : (m : Machine) (value : ℕ) (s : State) → m.ending ≡ None → action m.state ≡ exit value s → (advance m).ending ≡ Some (Exit value)
-exit-advance m value s live e = ap (λ (n : Machine). n.ending) (advance-live m live) ∙ exit-applied (action m.state) m value s e
+pub exit-advance : (m : Machine) (value : ℕ) (bytes : List ℕ) (s : State) → m.ending ≡ None → action m.state ≡ exit value bytes s
+    → (advance m).ending ≡ Some (Exit value (handed_of bytes))
+exit-advance m value bytes s live e = ap (λ (n : Machine). n.ending) (advance-live m live) ∙ exit-applied (action m.state) m value bytes s e
 
-limit-reached : (a : Action) (m : Machine) → call_of (next_of a) ≡ None → ((value : ℕ) (s : State) → a ≢ exit value s)
+limit-reached : (a : Action) (m : Machine) → call_of (next_of a) ≡ None → ((value : ℕ) (bytes : List ℕ) (s : State) → a ≢ exit value bytes s)
     → (applied a m).ending ≡ cond (eqb (m.steps + 1) m.limit) (Some Limit) None
 limit-reached (trap cause value) m own other = refl
 limit-reached interrupt m own other = refl
 limit-reached (retire written s) m own other = refl
-limit-reached (exit value s) m own other = absurd (other value s refl)
+limit-reached (exit value bytes s) m own other = absurd (other value bytes s refl)
 limit-reached (ask c s) m own other = absurd (cc)
 
-pub limit-ends : (m : Machine) → m.ending ≡ None → call_of (next m) ≡ None → ((value : ℕ) (s : State) → action m.state ≢ exit value s)
+pub limit-ends : (m : Machine) → m.ending ≡ None → call_of (next m) ≡ None → ((value : ℕ) (bytes : List ℕ) (s : State) → action m.state ≢ exit value bytes s)
     → (advance m).ending ≡ cond (eqb (m.steps + 1) m.limit) (Some Limit) None
 limit-ends m live own other = ap (λ (n : Machine). n.ending) (advance-live m live) ∙ limit-reached (action m.state) m own other
 

@@ -7,7 +7,7 @@ use Rattle.rv_decode.specs.declared.kinds.Group.{Group}
 use Rattle.rv_decode.specs.declared.kinds.Group.TheVariants.{LoadUpper, AddUpper, Jump, JumpRegister, Branch, Load, Store, ComputeImmediate, Compute, Nothing, EnvironmentCall, Breakpoint, TrapReturn, Csr, LoadReserved, StoreConditional, Amo}
 use Rattle.rv_decode.specs.Kinds.{group_of}
 use Rattle.rv_exec.specs.Memory.{load_width, store_width}
-use Rattle.rv_traps.specs.Trap.{takes_interrupt}
+use Rattle.rv_traps.specs.Trap.{mret, takes_interrupt}
 use Rattle.rv_traps.specs.declared.registers.CsrRegisters.{CsrRegisters}
 use Rattle.console_port.specs.Console.{ConsoleRegisters, ConsoleLoaded, console_load, console_store}
 use Rattle.timer_port.specs.declared.registers.TimerRegisters.{TimerRegisters}
@@ -28,9 +28,9 @@ use Rattle.forest_model.specs.Action.{Action, trap, interrupt, retire, exit, ask
 use Rattle.forest_model.specs.Compute.{load_upper, add_upper, compute_immediate, compute}
 use Rattle.forest_model.specs.Control.{aligned_jump, jump, jump_register, branch_by, branch, relative, linked}
 use Rattle.forest_model.specs.Access.{Reached, faulted, of_ram, of_port, reached, fetch_access}
-use Rattle.forest_model.specs.Memory.{data_address, read_action, load_by, load_access, load, is_page_range, zeroed, outcome, stored_outcome, store_by, store_access, store_action, stored_bytes, store}
+use Rattle.forest_model.specs.Memory.{data_address, read_action, load_by, load_access, load, is_page_range, zeroed, is_byte_range, handing_over, outcome, stored_outcome, store_by, store_access, store_action, stored_bytes, store}
 use Rattle.forest_model.specs.Atomic.{is_reserved, reserve_by, reserve_access, load_reserved, conditional_action, conditional_by, conditional_access, store_conditional, amo_by, amo_access, amo}
-use Rattle.forest_model.specs.System.{operation_of, reads, writes, written_action, write_action, old_action, old_value, csr_access, trap_return}
+use Rattle.forest_model.specs.System.{operation_of, reads, writes, written_action, write_action, old_action, old_value, csr_access, returned_action, trap_return}
 use Rattle.forest_model.specs.Execute.{action, action_by, execute_group, execute, decoded_action, fetched, fetch_action}
 use Rattle.forest_model.specs.Machine.{Machine, advance, advance_from, applied}
 use Rattle.forest_model.specs.Calls.{fork_of}
@@ -70,7 +70,7 @@ module _ (P : ForkRegisters → Type 0) where
   Ported f (trap cause value) = Unit {0}
   Ported f interrupt = Unit {0}
   Ported f (retire written new) = P (fork_of new)
-  Ported f (exit value new) = P (fork_of new)
+  Ported f (exit value bytes new) = P (fork_of new)
   Ported f (ask c new) = (fork_of new ≡ f) × IsMakeable f c
 
   -- after a store to any port
@@ -119,11 +119,18 @@ module _ (P : ForkRegisters → Type 0) where
     Follows-zeroed false first count new p = kept.after_answer (fork_of new) BAD_ARGUMENT p
     Follows-zeroed true first count new p = kept.after_answer (fork_of new) 0 p
 
+    Follows-handing_over : (in_range : Bool) (value address count : ℕ) (new : State) → P (fork_of new)
+        → Follows (handing_over in_range value address count new).action
+    Follows-handing_over false value address count new p = kept.after_answer (fork_of new) BAD_ARGUMENT p
+    Follows-handing_over true value address count new p = p
+
     Follows-outcome : (e : Effect) (new : State) → P (fork_of new)
         → ((c : Call) → e ≡ effect.Call c → (fork_of new ≡ fork_of s) × IsMakeable (fork_of s) c) → Follows (outcome e new).action
     Follows-outcome effect.Done new p asks = p
     Follows-outcome effect.TimeWritten new p asks = p
     Follows-outcome (effect.Exit value) new p asks = p
+    Follows-outcome (effect.ExitWith value address count) new p asks =
+        Follows-handing_over (is_byte_range address count new.ram) value address count new p
     Follows-outcome (effect.Call c) new p asks = asks c refl
     Follows-outcome (effect.Zero first count) new p asks = Follows-zeroed (is_page_range first count new.ram) first count new p
 
@@ -188,6 +195,10 @@ module _ (P : ForkRegisters → Type 0) where
     Follows-old_action None i word = tt
     Follows-old_action (Some old) i word = Follows-write_action (writes (operation_of i.kind) i) old i word
 
+    Follows-returned : (csrs : Option CsrRegisters) (word : ℕ) → Follows (returned_action csrs word s)
+    Follows-returned None word = tt
+    Follows-returned (Some csrs) word = kept.before
+
     Follows-execute_group : (group : Group) (i : Instruction) (word : ℕ) → Follows (execute_group group i word s)
     unfolding load_upper add_upper compute_immediate compute jump jump_register branch load store store_action load_reserved store_conditional amo csr_access trap_return
     Follows-execute_group LoadUpper i word = kept.before
@@ -203,7 +214,7 @@ module _ (P : ForkRegisters → Type 0) where
     Follows-execute_group Nothing i word = kept.before
     Follows-execute_group EnvironmentCall i word = tt
     Follows-execute_group Breakpoint i word = tt
-    Follows-execute_group TrapReturn i word = kept.before
+    Follows-execute_group TrapReturn i word = Follows-returned (mret s.csrs) word
     Follows-execute_group Csr i word = Follows-old_action (old_value (reads (operation_of i.kind) i) i s) i word
     Follows-execute_group LoadReserved i word = Follows-reserve_by (reached (reserve_access i s) s) i (rs1 i s)
     Follows-execute_group StoreConditional i word = Follows-conditional_by (reached (conditional_access i s) s) i (rs1 i s)
@@ -232,7 +243,7 @@ module _ (P : ForkRegisters → Type 0) where
   port-applied (trap cause value) m h p = p
   port-applied interrupt m h p = p
   port-applied (retire written new) m h p = h
-  port-applied (exit value new) m h p = h
+  port-applied (exit value bytes new) m h p = h
   port-applied (ask c new) m h p = p
 
   port-advance_from : (ending : Option Ending) (m : Machine) → IsKept (port_of m) → P (port_of (advance_from ending m))

@@ -1,6 +1,7 @@
 pub mod Accesses
 pub mod Finish
 pub mod Zero
+pub mod HandedOver
 pub mod Once
 pub mod Touch
 pub mod ForkPort
@@ -10,3 +11,4 @@ pub mod Rules
 pub mod Alone
 pub mod Paged
 pub mod Absent
+pub mod UserMode

@@ -47,6 +47,7 @@ Rises-answered f asked.NewTicket = Rises-after_ticket f
 Rises-answered f (asked.Discard number) = omega (arith, next-after_kill f number)
 Rises-answered f (asked.Call c) = omega arith
 Rises-answered f (asked.Exit value) = omega arith
+Rises-answered f (asked.ExitWith value address count) = omega arith
 Rises-answered f (asked.Zero first count) = omega arith
 
 Rises-kept : (f : ForkRegisters) → IsKept (Rises f) f

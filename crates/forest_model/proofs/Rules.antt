@@ -56,7 +56,7 @@ counted-applied : (a : Action) (m : Machine) → call_of (next_of a) ≡ None �
 counted-applied (trap cause value) m own h = counted-limited _ m h
 counted-applied interrupt m own h = counted-limited _ m h
 counted-applied (retire written s) m own h = counted-limited _ m h
-counted-applied (exit value s) m own h = record { steps = refl; limit = refl; live = refl }
+counted-applied (exit value bytes s) m own h = record { steps = refl; limit = refl; live = refl }
 counted-applied (ask c s) m own h = absurd (cc)
 
 -- what a step owes, by what it does to the fork port

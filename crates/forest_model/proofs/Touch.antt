@@ -1,5 +1,5 @@
 -- The pages that a step touches: they are few and of RAM, and RAM changes nowhere else.
-use Rattle.std.proofs.Common.{◌≡◌, ◌≢◌, ℕ, ◌+◌, ◌-◌, ◌*◌, ◌/◌, ◌%◌, ◌<◌, ◌≤◌, ◌⊎◌, inl, inr, Bool, true, false, eqb, ◌&&◌, List, [], ◌∷◌, length, get_or, Option, Some, None, IsSome, refl, sym, ap, ◌∙◌, subst, cond, arith}
+use Rattle.std.proofs.Common.{◌≡◌, ◌≢◌, ℕ, ◌+◌, ◌-◌, ◌*◌, ◌/◌, ◌%◌, ◌<◌, ◌≤◌, ◌⊎◌, inl, inr, Bool, true, false, eqb, ltb, leb, ◌&&◌, ◌||◌, List, [], ◌∷◌, length, get_or, Option, Some, None, IsSome, refl, sym, ap, ◌∙◌, subst, cond, arith}
 use Rattle.std.specs.Option.{IfSome}
 use Rattle.std.specs.Int.{to_le_bytes, w32}
 use Rattle.std.specs.List.{All, AllPairs, Contains}
@@ -19,7 +19,7 @@ use Rattle.rv_decode.specs.Kinds.{group_of}
 use Rattle.rv_exec.specs.Memory.{IsWidth, load_width, store_bytes, store_width}
 use Rattle.fork_port.specs.declared.ending.Ending.{Ending}
 use Rattle.fork_port.specs.declared.commands.Effect.{Effect}
-use Rattle.fork_port.specs.declared.commands.Effect.TheVariants.{Done, TimeWritten, Exit, Call, Zero}
+use Rattle.fork_port.specs.declared.commands.Effect.TheVariants.{Done, TimeWritten, Exit, ExitWith, Call, Zero}
 use Rattle.forest_model.specs.Ports.{Read, Stored, port_load, port_store}
 use Rattle.forest_model.specs.declared.access.Access.{Access}
 use Rattle.forest_model.specs.declared.access.Direction.{Direction}
@@ -29,26 +29,30 @@ use Rattle.forest_model.specs.State.{State, is_in_ram, is_timer_due, at_next_ins
 use Rattle.forest_model.specs.Action.{Action, trap, interrupt, retire, exit, ask, rs1, rs2}
 use Rattle.forest_model.specs.Compute.{load_upper, add_upper, compute_immediate, compute}
 use Rattle.forest_model.specs.Control.{aligned_jump, jump, jump_register, branch_by, branch, relative, linked}
-use Rattle.forest_model.specs.Access.{Reached, faulted, of_ram, of_port, uses, is_made, is_aligned, reached, page_of, fetch_access}
-use Rattle.forest_model.specs.Memory.{data_address, read_action, load_by, load_access, load, is_page_range, zeroed, zeroing, outcome, stored_outcome, store_by, to_store, store_access, store_action, stored_bytes, store}
+use Rattle.forest_model.specs.Access.{Reached, faulted, of_ram, of_port, uses, is_made, is_aligned, right_for, reached, page_of, fetch_access}
+use Rattle.forest_model.specs.Memory.{data_address, read_action, load_by, load_access, load, is_page_range, zeroed, zeroing, is_byte_range, handing_over, outcome, stored_outcome, store_by, to_store, store_access, store_action, stored_bytes, store}
 use Rattle.forest_model.specs.Atomic.{is_reserved, reserve_by, reserve_access, load_reserved, conditional_action, conditional_by, conditional_access, store_conditional, amo_by, amo_access, amo}
-use Rattle.rv_traps.specs.Trap.{takes_interrupt}
+use Rattle.guest_pmp.specs.declared.access.Access.TheVariants as right
+use Rattle.rv_traps.specs.Protection.{allows}
+use Rattle.rv_traps.specs.Trap.{mret, takes_interrupt}
+use Rattle.rv_traps.proofs.Protection.{allows-alike, allows-store}
 use Rattle.rv_traps.specs.declared.registers.CsrRegisters.{CsrRegisters}
-use Rattle.forest_model.specs.System.{operation_of, reads, writes, written_action, write_action, old_action, old_value, csr_access, trap_return}
+use Rattle.forest_model.specs.System.{operation_of, reads, writes, written_action, write_action, old_action, old_value, csr_access, returned_action, trap_return}
 use Rattle.forest_model.specs.Execute.{action, action_by, execute_group, execute, decoded_action, fetched, fetch_action}
 use Rattle.forest_model.specs.Machine.{Machine, advance, advance_from, applied}
 use Rattle.forest_model.specs.Touch.{footprint_in, footprint_at_port, footprint_reached, data_footprint, access_by, access_of, footprint_of, footprint_at, footprint_step, footprint_from, footprint, touch, change, IsZeroedBy, IsZeroed}
 use Rattle.forest_model.proofs.Accesses.{of_ram-is, page_of-begins, begins-for}
 use Rattle.forest_model.proofs.Finish.{IsSome-ended}
+use Rattle.forest_model.proofs.HandedOver.{from-base}
 use Rattle.forest_model.proofs.Once.{All-each_once, once-each_once, length-each_once, Contains-later, Contains-each_once}
 use Rattle.forest_model.proofs.Zero.{zeroed-leaves}
 
 -- ---- the pages that a step touches
 
--- the pages of data begin in RAM, and there is one at most
+-- the pages of data begin in RAM, and there are two at most
 record AreData (ram : List ℕ) (pages : List ℕ) : Type 0 where
   begin : All (λ page. PAGE_SIZE * page < length ram) pages
-  few : length pages ≤ 1
+  few : length pages ≤ 2
 
 AreData-none : (ram : List ℕ) → AreData ram []
 AreData-none ram = record { begin = All-nil (λ page. PAGE_SIZE * page < length ram); few = omega arith }
@@ -61,22 +65,46 @@ AreData-in direction ram (Some page) begins = record {
   few = omega arith;
 }
 
--- no store to a port needs a page
-needs-outcome : (effect : Effect) (s : State) → (outcome effect s).footprint.needs ≡ []
-needs-outcome Done s = refl
-needs-outcome TimeWritten s = refl
-needs-outcome (Exit value) s = refl
-needs-outcome (Call call) s = refl
-needs-outcome (Zero first count) s = refl
+-- bytes that are handed over need the pages of the first and of the last of them
+begins-at : (address size : ℕ) → RAM_BASE ≤ address → address < RAM_BASE + size → PAGE_SIZE * page_of address < size
+begins-at address size from below = omega arith
 
-pub needs-stored : (answer : Option Stored) (address : ℕ) (s : State) → (stored_outcome answer address s).footprint.needs ≡ []
-needs-stored None address s = refl
-needs-stored (Some stored) address s = needs-outcome stored.effect (at_next_instruction (record s { ports = stored.ports }))
+AreData-bytes : (none : Bool) (address count : ℕ) (ram : List ℕ) → eqb count 0 ≡ none → is_byte_range address count ram ≡ true
+    → AreData ram (cond none [] (page_of address ∷ page_of (address + (count - 1)) ∷ []))
+AreData-bytes true address count ram e in_range = AreData-none ram
+AreData-bytes false address count ram e in_range =
+    let both = from-base address count (length ram) e in_range in
+    let from : RAM_BASE ≤ address = both.0 in
+    let within : address + count ≤ RAM_BASE + length ram = both.1 in
+    let some : 0 < count = grind (arith, nat_tests) in
+    let begins : ℕ → Type 0 = λ p. PAGE_SIZE * p < length ram in
+    record {
+      begin = All-cons begins (page_of address) (page_of (address + (count - 1)) ∷ []) (begins-at address (length ram) from (omega arith))
+          (All-cons begins (page_of (address + (count - 1))) [] (begins-at (address + (count - 1)) (length ram) (omega arith) (omega arith)) (All-nil begins));
+      few = omega arith;
+    }
+
+AreData-handing_over : (in_range : Bool) (value address count : ℕ) (s : State) → is_byte_range address count s.ram ≡ in_range
+    → AreData s.ram (handing_over in_range value address count s).footprint.needs
+AreData-handing_over false value address count s e = AreData-none s.ram
+AreData-handing_over true value address count s e = AreData-bytes (eqb count 0) address count s.ram refl e
+
+-- no other store to a port needs a page
+AreData-outcome : (effect : Effect) (s : State) → AreData s.ram (outcome effect s).footprint.needs
+AreData-outcome Done s = AreData-none s.ram
+AreData-outcome TimeWritten s = AreData-none s.ram
+AreData-outcome (Exit value) s = AreData-none s.ram
+AreData-outcome (ExitWith value address count) s = AreData-handing_over (is_byte_range address count s.ram) value address count s refl
+AreData-outcome (Call call) s = AreData-none s.ram
+AreData-outcome (Zero first count) s = AreData-none s.ram
+
+AreData-stored : (answer : Option Stored) (address : ℕ) (s : State) → AreData s.ram (stored_outcome answer address s).footprint.needs
+AreData-stored None address s = AreData-none s.ram
+AreData-stored (Some stored) address s = AreData-outcome stored.effect (at_next_instruction (record s { ports = stored.ports }))
 
 AreData-port : (writes : Bool) (a : Access) (word : ℕ) (s : State) → AreData s.ram (footprint_at_port writes a word s).needs
 AreData-port false a word s = AreData-none s.ram
-AreData-port true a word s =
-    subst (AreData s.ram) (sym (needs-stored (port_store s.ports a.address a.width word) a.address s)) (AreData-none s.ram)
+AreData-port true a word s = AreData-stored (port_store s.ports a.address a.width word) a.address s
 
 AreData-reached : (r : Reached) (a : Access) (word : ℕ) (s : State) → reached a s ≡ r → AreData s.ram (footprint_reached r a word s).needs
 AreData-reached (faulted cause) a word s e = AreData-none s.ram
@@ -91,16 +119,16 @@ AreData-of : (i : Option Instruction) (s : State) → AreData s.ram (footprint_o
 AreData-of None s = AreData-none s.ram
 AreData-of (Some i) s = AreData-asked (access_of i s) (rs2 i s) s
 
--- the pages listed begin in RAM, are at most two, and differ
+-- the pages listed begin in RAM, are at most three, and differ
 pub record IsPages (ram : List ℕ) (listed : List ℕ) : Type 0 where
   pub of_ram : All (λ page. PAGE_SIZE * page < length ram) listed
-  pub at_most_two : length listed ≤ 2
+  pub at_most_three : length listed ≤ 3
   pub none_twice : AllPairs (λ one other. one ≢ other) listed
 
 IsPages-nil : (ram : List ℕ) → IsPages ram []
 IsPages-nil ram = record {
   of_ram = All-nil (λ page. PAGE_SIZE * page < length ram);
-  at_most_two = omega arith;
+  at_most_three = omega arith;
   none_twice = λ i j d before within. absurd (omega arith);
 }
 
@@ -108,7 +136,7 @@ IsPages-both : (ram : List ℕ) (code : ℕ) (pages : List ℕ) → PAGE_SIZE * 
 IsPages-both ram code pages begins data_of = record {
   of_ram = All-each_once (λ page. PAGE_SIZE * page < length ram) (code ∷ pages)
       (All-cons (λ page. PAGE_SIZE * page < length ram) code pages begins data_of.begin);
-  at_most_two = let fewer = length-each_once (code ∷ pages) in let few : length pages ≤ 1 = data_of.few in omega (arith, fewer, few);
+  at_most_three = let fewer = length-each_once (code ∷ pages) in let few : length pages ≤ 2 = data_of.few in omega (arith, fewer, few);
   none_twice = once-each_once (code ∷ pages);
 }
 
@@ -151,7 +179,7 @@ abbrev ram_after : Action → State → List ℕ
 ram_after (trap cause value) s = s.ram
 ram_after interrupt s = s.ram
 ram_after (retire written new) s = new.ram
-ram_after (exit value new) s = new.ram
+ram_after (exit value bytes new) s = new.ram
 ram_after (ask c new) s = s.ram
 
 -- the action leaves the byte at `at`
@@ -169,53 +197,95 @@ outside width at address (inr (inr four)) aligned from_base other =
     let by_four : address % 4 ≡ 0 = subst (λ w. address % w ≡ 0) four aligned in
     grind arith
 
--- bytes that an aligned store puts into RAM leave each byte outside the page of the store
-Leaves-put_bytes : (at address width : ℕ) (bytes : List ℕ) (s : State) → is_in_ram s.ram address ≡ true
-    → length bytes ≡ width → IsWidth width → address % width ≡ 0 → at / PAGE_SIZE ≢ page_of address
-    → get_or (put_bytes s.ram (address - RAM_BASE) bytes) at 0 ≡ get_or s.ram at 0
-Leaves-put_bytes at address width bytes s e same widths aligned other =
-    let apart : (at < address - RAM_BASE) ⊎ (address - RAM_BASE + width ≤ at) = outside width at address widths aligned (grind (arith, nat_tests)) other in
-    get_or-put_bytes_outside s.ram bytes (address - RAM_BASE) at (grind (arith, nat_tests))
-    (subst (λ n. (at < address - RAM_BASE) ⊎ (address - RAM_BASE + n ≤ at)) (sym same) apart)
+-- the bytes of an aligned access are of one word
+same-word : (width at address : ℕ) → IsWidth width → address % width ≡ 0 → RAM_BASE ≤ address → address - RAM_BASE ≤ at
+    → at < address - RAM_BASE + width → (RAM_BASE + at) / 4 ≡ address / 4
+same-word width at address (inl one) aligned from_base behind before = grind arith
+same-word width at address (inr (inl two)) aligned from_base behind before =
+    let by_two : address % 2 ≡ 0 = subst (λ w. address % w ≡ 0) two aligned in
+    grind arith
+same-word width at address (inr (inr four)) aligned from_base behind before =
+    let by_four : address % 4 ≡ 0 = subst (λ w. address % w ≡ 0) four aligned in
+    grind arith
 
--- what is asked of the pages tells that the byte at `at` stays
-record IsAside (at : ℕ) (f : Footprint) : Type 0 where
-  unneeded : Contains f.needs (at / PAGE_SIZE) → ⊥
+-- a byte that is denied to a store is none of those of a store that is allowed
+module _ (c : CsrRegisters) (width at address : ℕ) (widths : IsWidth width) (aligned : address % width ≡ 0) (from_base : RAM_BASE ≤ address)
+    (may : allows c right.Store address ≡ true) (denied : allows c right.Store (RAM_BASE + at) ≡ false) where
+  apart-by : (before behind : Bool) → ltb at (address - RAM_BASE) ≡ before → leb (address - RAM_BASE + width) at ≡ behind
+      → (at < address - RAM_BASE) ⊎ (address - RAM_BASE + width ≤ at)
+  apart-by true behind e f = inl (grind (arith, nat_tests))
+  apart-by false true e f = inr (grind (arith, nat_tests))
+  apart-by false false e f =
+      let one = same-word width at address widths aligned from_base (grind (arith, nat_tests)) (grind (arith, nat_tests)) in
+      let both : false ≡ true = sym denied ∙ allows-alike c right.Store (RAM_BASE + at) address one ∙ may in
+      absurd (cc)
+
+  apart-denied : (at < address - RAM_BASE) ⊎ (address - RAM_BASE + width ≤ at)
+  apart-denied = apart-by (ltb at (address - RAM_BASE)) (leb (address - RAM_BASE + width) at) refl refl
+
+-- what writes asks for the right to store
+store-allowed : (direction : Direction) (c : CsrRegisters) (address : ℕ) → (uses direction).writes ≡ true
+    → allows c (right_for (uses direction)) address ≡ true → allows c right.Store address ≡ true
+store-allowed access.Fetch c address writes allowed = absurd (cc)
+store-allowed access.Load c address writes allowed = absurd (cc)
+store-allowed access.Store c address writes allowed = allowed
+store-allowed access.Reserve c address writes allowed = absurd (cc)
+store-allowed (access.Conditional is_reserved) c address writes allowed = allowed
+store-allowed access.Update c address writes allowed = allows-store c address allowed
+
+-- The byte at `at` stays: it is of no page that is needed, or is denied to a store, and is not zeroed.
+record IsSpared (s : State) (at : ℕ) (f : Footprint) : Type 0 where
+  spared : (Contains f.needs (at / PAGE_SIZE) → ⊥) ⊎ (allows s.csrs right.Store (RAM_BASE + at) ≡ false)
   unzeroed : IsZeroedBy f.changes (at / PAGE_SIZE) → ⊥
 
 Leaves-zeroed : (at : ℕ) (in_range : Bool) (first count : ℕ) (s : State) → is_page_range first count s.ram ≡ in_range
-    → IsAside at (zeroing in_range first count s).footprint → get_or (zeroed in_range first count s).ram at 0 ≡ get_or s.ram at 0
-Leaves-zeroed at false first count s e aside = refl
-Leaves-zeroed at true first count s e aside = zeroed-leaves s first count at e aside.unzeroed
+    → (IsZeroedBy (zeroing in_range first count s).footprint.changes (at / PAGE_SIZE) → ⊥)
+    → get_or (zeroed in_range first count s).ram at 0 ≡ get_or s.ram at 0
+Leaves-zeroed at false first count s e unzeroed = refl
+Leaves-zeroed at true first count s e unzeroed = zeroed-leaves s first count at e unzeroed
 
-Leaves-outcome : (at : ℕ) (effect : Effect) (new s : State) → new.ram ≡ s.ram → IsAside at (outcome effect new).footprint
+Leaves-handing_over : (at : ℕ) (in_range : Bool) (value address count : ℕ) (new s : State) → new.ram ≡ s.ram
+    → Leaves at s (handing_over in_range value address count new).action
+Leaves-handing_over at false value address count new s e = ap (λ ram. get_or ram at 0) e
+Leaves-handing_over at true value address count new s e = ap (λ ram. get_or ram at 0) e
+
+Leaves-outcome : (at : ℕ) (effect : Effect) (new s : State) → new.ram ≡ s.ram → IsSpared s at (outcome effect new).footprint
     → Leaves at s (outcome effect new).action
 Leaves-outcome at Done new s e aside = ap (λ ram. get_or ram at 0) e
 Leaves-outcome at TimeWritten new s e aside = ap (λ ram. get_or ram at 0) e
 Leaves-outcome at (Exit value) new s e aside = ap (λ ram. get_or ram at 0) e
+Leaves-outcome at (ExitWith value address count) new s e aside =
+    Leaves-handing_over at (is_byte_range address count new.ram) value address count new s e
 Leaves-outcome at (Call call) new s e aside = refl
 Leaves-outcome at (Zero first count) new s e aside =
-    Leaves-zeroed at (is_page_range first count new.ram) first count new refl aside ∙ ap (λ ram. get_or ram at 0) e
+    Leaves-zeroed at (is_page_range first count new.ram) first count new refl aside.unzeroed ∙ ap (λ ram. get_or ram at 0) e
 
-Leaves-stored : (at : ℕ) (answer : Option Stored) (address : ℕ) (s : State) → IsAside at (stored_outcome answer address s).footprint
+Leaves-stored : (at : ℕ) (answer : Option Stored) (address : ℕ) (s : State) → IsSpared s at (stored_outcome answer address s).footprint
     → Leaves at s (stored_outcome answer address s).action
 Leaves-stored at None address s aside = refl
 Leaves-stored at (Some stored) address s aside =
     Leaves-outcome at stored.effect (at_next_instruction (record s { ports = stored.ports })) s refl aside
 
--- a page that is needed is another
-elsewhere : (at page : ℕ) (direction : Direction) → IsAside at (footprint_in direction (Some page)) → at / PAGE_SIZE ≢ page
-elsewhere at page direction aside same = aside.unneeded (0, omega arith, sym same)
-
 -- bytes that an aligned store puts into the page that it needs
 Leaves-put : (at : ℕ) (a : Access) (page : ℕ) (bytes : List ℕ) (s : State) → reached a s ≡ of_ram (Some page) → is_made a.direction ≡ true
-    → is_aligned a.address a.width ≡ true → length bytes ≡ a.width → IsWidth a.width → IsAside at (footprint_in a.direction (Some page))
+    → (uses a.direction).writes ≡ true → is_aligned a.address a.width ≡ true → length bytes ≡ a.width → IsWidth a.width
+    → IsSpared s at (footprint_in a.direction (Some page))
     → get_or (put_bytes s.ram (a.address - RAM_BASE) bytes) at 0 ≡ get_or s.ram at 0
-Leaves-put at a page bytes s e made aligned same widths aside =
+Leaves-put at a page bytes s e made writes aligned same widths aside =
     let is = of_ram-is a s (Some page) e in
     let page_is : Some page ≡ Some (page_of a.address) = is.needs ∙ ap (λ b. cond b (Some (page_of a.address)) None) made in
-    Leaves-put_bytes at a.address a.width bytes s is.in_ram same widths (eqb-true (a.address % a.width) 0 aligned)
-    (subst (λ p. at / PAGE_SIZE ≢ p) (cc) (elsewhere at page a.direction aside))
+    let in_ram = is.in_ram in
+    let from_base : RAM_BASE ≤ a.address = grind (arith, nat_tests) in
+    let multiple : a.address % a.width ≡ 0 = eqb-true (a.address % a.width) 0 aligned in
+    let apart : (at < a.address - RAM_BASE) ⊎ (a.address - RAM_BASE + a.width ≤ at) =
+    elim aside.spared [
+      | inl untouched ↦ outside a.width at a.address widths multiple from_base
+          (subst (λ p. at / PAGE_SIZE ≢ p) (cc) (λ (same_page : at / PAGE_SIZE ≡ page). untouched (0, omega arith, sym same_page)))
+      | inr denied ↦ apart-denied s.csrs a.width at a.address widths multiple from_base
+          (store-allowed a.direction s.csrs a.address writes is.allowed) denied
+    ] in
+    get_or-put_bytes_outside s.ram bytes (a.address - RAM_BASE) at (grind (arith, nat_tests))
+    (subst (λ n. (at < a.address - RAM_BASE) ⊎ (a.address - RAM_BASE + n ≤ at)) (sym same) apart)
 
 none-needed : (a : Access) (s : State) {R : Type 0} → reached a s ≡ of_ram None → is_made a.direction ≡ true → R
 none-needed a s e made =
@@ -223,12 +293,12 @@ none-needed a s e made =
     absurd (cc)
 
 Leaves-store_by : (at : ℕ) (r : Reached) (address width : ℕ) (bytes : List ℕ) (word : ℕ) (s : State) → reached (to_store address width) s ≡ r
-    → length bytes ≡ width → IsWidth width → IsAside at (footprint_reached r (to_store address width) word s)
+    → length bytes ≡ width → IsWidth width → IsSpared s at (footprint_reached r (to_store address width) word s)
     → Leaves at s (store_by r address width bytes word s)
 Leaves-store_by at (faulted cause) address width bytes word s e same widths aside = refl
 Leaves-store_by at (of_ram None) address width bytes word s e same widths aside = none-needed (to_store address width) s e refl
 Leaves-store_by at (of_ram (Some page)) address width bytes word s e same widths aside =
-    Leaves-put at (to_store address width) page bytes s e refl (of_ram-is (to_store address width) s (Some page) e).aligned same widths aside
+    Leaves-put at (to_store address width) page bytes s e refl refl (of_ram-is (to_store address width) s (Some page) e).aligned same widths aside
 Leaves-store_by at of_port address width bytes word s e same widths aside =
     Leaves-stored at (port_store s.ports address width word) address s aside
 
@@ -257,27 +327,27 @@ Leaves-reserve_by at of_port i address s = refl
 
 -- SC stores where its address is reserved
 Leaves-conditional_action : (at : ℕ) (reserved : Bool) (page : Option ℕ) (i : Instruction) (s : State) → is_reserved s.reservation (rs1 i s) ≡ reserved
-    → reached (conditional_access i s) s ≡ of_ram page → IsAside at (footprint_in (access.Conditional reserved) page)
+    → reached (conditional_access i s) s ≡ of_ram page → IsSpared s at (footprint_in (access.Conditional reserved) page)
     → Leaves at s (conditional_action reserved i (rs1 i s) s)
 Leaves-conditional_action at false page i s is e aside = refl
 Leaves-conditional_action at true None i s is e aside = none-needed (conditional_access i s) s e is
 Leaves-conditional_action at true (Some page) i s is e aside =
-    Leaves-put at (conditional_access i s) page (to_le_bytes w32 (rs2 i s)) s e is (of_ram-is (conditional_access i s) s (Some page) e).aligned refl
-    (inr (inr refl)) (subst (λ b. IsAside at (footprint_in (access.Conditional b) (Some page))) (sym is) aside)
+    Leaves-put at (conditional_access i s) page (to_le_bytes w32 (rs2 i s)) s e is refl (of_ram-is (conditional_access i s) s (Some page) e).aligned refl
+    (inr (inr refl)) (subst (λ b. IsSpared s at (footprint_in (access.Conditional b) (Some page))) (sym is) aside)
 
 Leaves-conditional_by : (at : ℕ) (r : Reached) (i : Instruction) (s : State) → reached (conditional_access i s) s ≡ r
-    → IsAside at (footprint_reached r (conditional_access i s) (rs2 i s) s) → Leaves at s (conditional_by r i (rs1 i s) s)
+    → IsSpared s at (footprint_reached r (conditional_access i s) (rs2 i s) s) → Leaves at s (conditional_by r i (rs1 i s) s)
 Leaves-conditional_by at (faulted cause) i s e aside = refl
 Leaves-conditional_by at (of_ram page) i s e aside =
     Leaves-conditional_action at (is_reserved s.reservation (rs1 i s)) page i s refl e aside
 Leaves-conditional_by at of_port i s e aside = refl
 
 Leaves-amo_by : (at : ℕ) (r : Reached) (i : Instruction) (s : State) → reached (amo_access i s) s ≡ r
-    → IsAside at (footprint_reached r (amo_access i s) (rs2 i s) s) → Leaves at s (amo_by r i (rs1 i s) s)
+    → IsSpared s at (footprint_reached r (amo_access i s) (rs2 i s) s) → Leaves at s (amo_by r i (rs1 i s) s)
 Leaves-amo_by at (faulted cause) i s e aside = refl
 Leaves-amo_by at (of_ram None) i s e aside = none-needed (amo_access i s) s e refl
 Leaves-amo_by at (of_ram (Some page)) i s e aside =
-    Leaves-put at (amo_access i s) page (to_le_bytes w32 _) s e refl (of_ram-is (amo_access i s) s (Some page) e).aligned refl (inr (inr refl)) aside
+    Leaves-put at (amo_access i s) page (to_le_bytes w32 _) s e refl refl (of_ram-is (amo_access i s) s (Some page) e).aligned refl (inr (inr refl)) aside
 Leaves-amo_by at of_port i s e aside = refl
 
 store_widths : (kind : Kind) (value : ℕ) → group_of kind ≡ Store → (length (store_bytes kind value) ≡ store_width kind) × IsWidth (store_width kind)
@@ -300,8 +370,12 @@ Leaves-old_action : (at : ℕ) (old : Option ℕ) (i : Instruction) (word : ℕ)
 Leaves-old_action at None i word s = refl
 Leaves-old_action at (Some old) i word s = Leaves-write_action at (writes (operation_of i.kind) i) old i word s
 
+Leaves-returned : (at : ℕ) (csrs : Option CsrRegisters) (word : ℕ) (s : State) → Leaves at s (returned_action csrs word s)
+Leaves-returned at None word s = refl
+Leaves-returned at (Some csrs) word s = refl
+
 Leaves-execute_group : (at : ℕ) (group : Group) (i : Instruction) (word : ℕ) (s : State) → group_of i.kind ≡ group
-    → IsAside at (data_footprint (access_by group i s) (rs2 i s) s) → Leaves at s (execute_group group i word s)
+    → IsSpared s at (data_footprint (access_by group i s) (rs2 i s) s) → Leaves at s (execute_group group i word s)
 unfolding load_upper add_upper compute_immediate compute jump jump_register branch load store store_action load_reserved store_conditional amo csr_access trap_return
 Leaves-execute_group at LoadUpper i word s e aside = refl
 Leaves-execute_group at AddUpper i word s e aside = refl
@@ -318,33 +392,36 @@ Leaves-execute_group at Compute i word s e aside = refl
 Leaves-execute_group at Nothing i word s e aside = refl
 Leaves-execute_group at EnvironmentCall i word s e aside = refl
 Leaves-execute_group at Breakpoint i word s e aside = refl
-Leaves-execute_group at TrapReturn i word s e aside = refl
+Leaves-execute_group at TrapReturn i word s e aside = Leaves-returned at (mret s.csrs) word s
 Leaves-execute_group at Csr i word s e aside = Leaves-old_action at (old_value (reads (operation_of i.kind) i) i s) i word s
 Leaves-execute_group at LoadReserved i word s e aside = Leaves-reserve_by at (reached (reserve_access i s) s) i (rs1 i s) s
 Leaves-execute_group at StoreConditional i word s e aside = Leaves-conditional_by at (reached (conditional_access i s) s) i s refl aside
 Leaves-execute_group at Amo i word s e aside = Leaves-amo_by at (reached (amo_access i s) s) i s refl aside
 
-Leaves-decoded : (at : ℕ) (decoded : Option Instruction) (word : ℕ) (s : State) → IsAside at (footprint_of decoded s)
+Leaves-decoded : (at : ℕ) (decoded : Option Instruction) (word : ℕ) (s : State) → IsSpared s at (footprint_of decoded s)
     → Leaves at s (decoded_action decoded word s)
 unfolding execute
 Leaves-decoded at None word s aside = refl
 Leaves-decoded at (Some i) word s aside = Leaves-execute_group at (group_of i.kind) i word s refl aside
 
-Leaves-fetch : (at : ℕ) (r : Reached) (s : State) → IsAside at (footprint_at r s) → Leaves at s (fetch_action r s)
+Leaves-fetch : (at : ℕ) (r : Reached) (s : State) → IsSpared s at (footprint_at r s) → Leaves at s (fetch_action r s)
 unfolding each_once
 Leaves-fetch at (faulted cause) s aside = refl
 Leaves-fetch at (of_ram page) s aside = Leaves-decoded at (decoded (fetched s)) (fetched s) s (record {
-  unneeded = λ listed. aside.unneeded (Contains-each_once (page_of s.pc ∷ (footprint_of (decoded (fetched s)) s).needs) (at / PAGE_SIZE)
-      (Contains-later (page_of s.pc) (footprint_of (decoded (fetched s)) s).needs (at / PAGE_SIZE) listed));
+  spared = elim aside.spared [
+    | inl untouched ↦ inl (λ listed. untouched (Contains-each_once (page_of s.pc ∷ (footprint_of (decoded (fetched s)) s).needs) (at / PAGE_SIZE)
+        (Contains-later (page_of s.pc) (footprint_of (decoded (fetched s)) s).needs (at / PAGE_SIZE) listed)))
+    | inr denied ↦ inr denied
+  ];
   unzeroed = aside.unzeroed;
 })
 Leaves-fetch at of_port s aside = refl
 
-Leaves-by : (at : ℕ) (taken : Bool) (s : State) → IsAside at (footprint_step taken s) → Leaves at s (action_by taken s)
+Leaves-by : (at : ℕ) (taken : Bool) (s : State) → IsSpared s at (footprint_step taken s) → Leaves at s (action_by taken s)
 Leaves-by at true s aside = refl
 Leaves-by at false s aside = Leaves-fetch at (reached (fetch_access s) s) s aside
 
-Leaves-action : (at : ℕ) (s : State) → IsAside at (footprint_from None s) → Leaves at s (action s)
+Leaves-action : (at : ℕ) (s : State) → IsSpared s at (footprint_from None s) → Leaves at s (action s)
 unfolding action
 Leaves-action at s aside = Leaves-by at (takes_interrupt s.csrs (is_timer_due s)) s aside
 
@@ -352,15 +429,19 @@ ram-applied : (a : Action) (m : Machine) → (applied a m).state.ram ≡ ram_aft
 ram-applied (trap cause value) m = refl
 ram-applied interrupt m = refl
 ram-applied (retire written s) m = refl
-ram-applied (exit value s) m = refl
+ram-applied (exit value bytes s) m = refl
 ram-applied (ask c s) m = refl
 
-leaves-from : (at : ℕ) (ending : Option Ending) (m : Machine) → IsAside at (footprint_from ending m.state)
+leaves-from : (at : ℕ) (ending : Option Ending) (m : Machine) → IsSpared m.state at (footprint_from ending m.state)
     → get_or (advance_from ending m).state.ram at 0 ≡ get_or m.state.ram at 0
 leaves-from at None m aside = ap (λ ram. get_or ram at 0) (ram-applied (action m.state) m) ∙ Leaves-action at m.state aside
 leaves-from at (Some ending) m aside = refl
 
-pub advance-leaves : (m : Machine) (at : ℕ) → (Contains (touch m) (at / PAGE_SIZE) → ⊥) → (IsZeroed m (at / PAGE_SIZE) → ⊥)
-    → get_or (advance m).state.ram at 0 ≡ get_or m.state.ram at 0
-unfolding advance footprint
-advance-leaves m at untouched unzeroed = leaves-from at m.ending m (record { unneeded = untouched; unzeroed = unzeroed })
+module _ (m : Machine) (at : ℕ) (unzeroed : IsZeroed m (at / PAGE_SIZE) → ⊥) where
+  pub advance-leaves : (Contains (touch m) (at / PAGE_SIZE) → ⊥) → get_or (advance m).state.ram at 0 ≡ get_or m.state.ram at 0
+  unfolding advance footprint
+  advance-leaves untouched = leaves-from at m.ending m (record { spared = inl untouched; unzeroed = unzeroed })
+
+  pub advance-denied : allows m.state.csrs right.Store (RAM_BASE + at) ≡ false → get_or (advance m).state.ram at 0 ≡ get_or m.state.ram at 0
+  unfolding advance footprint
+  advance-denied denied = leaves-from at m.ending m (record { spared = inr denied; unzeroed = unzeroed })

@@ -1,8 +1,12 @@
--- What an access comes to. Its alignment, the bounds of RAM and the page that it needs are told here, and
--- nowhere else: what the coming step does, which pages it touches and what it writes of them are read off this.
--- RISC-V Unprivileged ISA 20191213, section 2.6 and chapter 8
-use Rattle.std.specs.Prelude.{ℕ, ◌-◌, ◌/◌, ◌%◌, ◌==◌, ◌||◌, Bool, true, false, if◌then◌else◌, Option, Some, None}
+-- What an access comes to. Its alignment, whether memory protection allows it, the bounds of RAM and the page that it
+-- needs are told here, and nowhere else: what the coming step does, which pages it touches and what it writes of them
+-- are read off this.
+-- RISC-V Unprivileged ISA 20191213, section 2.6 and chapter 8, and Privileged ISA 20211203, section 3.7
+use Rattle.std.specs.Prelude.{ℕ, ◌-◌, ◌/◌, ◌%◌, ◌==◌, ◌||◌, ◌&&◌, Bool, true, false, if◌then◌else◌, Option, Some, None}
 use Rattle.elf_load.specs.declared.image.TheConstants.{RAM_BASE, PAGE_SIZE}
+use Rattle.guest_pmp.specs.declared.access.Access as protection
+use Rattle.guest_pmp.specs.declared.access.Access.TheVariants as right
+use Rattle.rv_traps.specs.Protection.{allows}
 use Rattle.forest_model.specs.declared.access.Access.{Access}
 use Rattle.forest_model.specs.declared.access.Direction.{Direction}
 use Rattle.forest_model.specs.declared.access.Direction.TheVariants.{Fetch, Load, Store, Reserve, Conditional, Update}
@@ -57,6 +61,14 @@ misaligned_cause direction =
 abbrev pub fault_cause : Direction → ℕ
 fault_cause direction = cause_for (uses direction) INSTRUCTION_ACCESS_FAULT STORE_ACCESS_FAULT LOAD_ACCESS_FAULT
 
+-- what memory protection is asked for
+abbrev pub right_for : Uses → protection.Access
+right_for u = if u.executes then right.Fetch else (if u.writes then (if u.reads then right.Amo else right.Store) else right.Load)
+
+-- memory protection allows an access, which it is asked whether RAM or a port would give it
+abbrev pub is_allowed : Access → State → Bool
+is_allowed a s = allows s.csrs (right_for (uses a.direction)) a.address
+
 abbrev pub outside_ram : Direction → Reached
 outside_ram direction = if (uses direction).of_ports then of_port else faulted (fault_cause direction)
 
@@ -72,9 +84,14 @@ abbrev pub reached_in : Bool → Access → Reached
 reached_in false a = outside_ram a.direction
 reached_in true a = of_ram (page_for a.direction (page_of a.address))
 
+-- by whether it is allowed, and whether its address is in RAM
+abbrev pub reached_if : Bool → Bool → Access → Reached
+reached_if false in_ram a = faulted (fault_cause a.direction)
+reached_if true in_ram a = reached_in in_ram a
+
 abbrev pub reached_by : Bool → Access → State → Reached
 reached_by false a s = faulted (misaligned_cause a.direction)
-reached_by true a s = reached_in (is_in_ram s.ram a.address) a
+reached_by true a s = reached_if (is_allowed a s) (is_in_ram s.ram a.address) a
 
 unfoldable pub reached : Access → State → Reached
 reached a s = reached_by (is_aligned_for a.direction a.address a.width) a s

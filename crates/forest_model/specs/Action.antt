@@ -1,5 +1,5 @@
 -- What the coming step of a machine comes to.
-use Rattle.std.specs.Prelude.{ℕ}
+use Rattle.std.specs.Prelude.{ℕ, List}
 use Rattle.std.specs.Int.{cast_unsigned, w32}
 use Rattle.rv_decode.specs.Instruction.{Instruction}
 use Rattle.fork_port.specs.declared.commands.Call.{Call}
@@ -14,8 +14,8 @@ pub data Action : Type 0 where
   interrupt : Action
   -- an instruction that retires, with what it wrote of the counters, and the state after it
   retire : Written → State → Action
-  -- the machine ends with a value, and the state after the instruction
-  exit : ℕ → State → Action
+  -- the machine ends with a value and hands over these bytes, and the state after the instruction
+  exit : ℕ → List ℕ → State → Action
   -- the machine asks for a call, and the state after the instruction but for what the call does
   ask : Call → State → Action
 

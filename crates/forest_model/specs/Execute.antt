@@ -3,13 +3,15 @@
 use Rattle.std.specs.Prelude.{ℕ, ◌-◌, Bool, true, false, Option, Some, None}
 use Rattle.elf_load.specs.declared.image.TheConstants.{RAM_BASE}
 use Rattle.flat_memory.specs.Flat.{word_at}
+use Rattle.guest_pmp.specs.declared.access.Mode.{Mode}
+use Rattle.guest_pmp.specs.declared.access.Mode.TheVariants.{User, Machine}
 use Rattle.rv_decode.specs.declared.kinds.Group.{Group}
 use Rattle.rv_decode.specs.declared.kinds.Group.TheVariants.{LoadUpper, AddUpper, Jump, JumpRegister, Branch, Load, Store, ComputeImmediate, Compute, Nothing, EnvironmentCall, Breakpoint, TrapReturn, Csr, LoadReserved, StoreConditional, Amo}
 use Rattle.rv_decode.specs.Kinds.{group_of}
 use Rattle.rv_decode.specs.Instruction.{Instruction}
 use Rattle.rv_decode.specs.Table.{decoded}
 use Rattle.rv_traps.specs.Trap.{takes_interrupt}
-use Rattle.forest_model.specs.declared.cause.TheConstants.{INSTRUCTION_ACCESS_FAULT, ILLEGAL_INSTRUCTION, BREAKPOINT, ENVIRONMENT_CALL}
+use Rattle.forest_model.specs.declared.cause.TheConstants.{INSTRUCTION_ACCESS_FAULT, ILLEGAL_INSTRUCTION, BREAKPOINT, ENVIRONMENT_CALL_FROM_USER, ENVIRONMENT_CALL_FROM_MACHINE}
 use Rattle.forest_model.specs.State.{State, is_timer_due}
 use Rattle.forest_model.specs.Action.{Action, trap, interrupt, retire_next}
 use Rattle.forest_model.specs.Access.{Reached, faulted, of_ram, of_port, reached, fetch_access}
@@ -18,6 +20,11 @@ use Rattle.forest_model.specs.Control.{jump, jump_register, branch}
 use Rattle.forest_model.specs.Memory.{load, store}
 use Rattle.forest_model.specs.System.{csr_access, trap_return}
 use Rattle.forest_model.specs.Atomic.{load_reserved, store_conditional, amo}
+
+-- the cause of ECALL tells the mode that it comes from
+abbrev pub environment_call_cause : Mode → ℕ
+environment_call_cause User = ENVIRONMENT_CALL_FROM_USER
+environment_call_cause Machine = ENVIRONMENT_CALL_FROM_MACHINE
 
 abbrev pub execute_group : Group → Instruction → ℕ → State → Action
 execute_group LoadUpper i word s = load_upper i s
@@ -30,9 +37,9 @@ execute_group Store i word s = store i s
 execute_group ComputeImmediate i word s = compute_immediate i s
 execute_group Compute i word s = compute i s
 execute_group Nothing i word s = retire_next s
-execute_group EnvironmentCall i word s = trap ENVIRONMENT_CALL 0
+execute_group EnvironmentCall i word s = trap (environment_call_cause s.csrs.mode) 0
 execute_group Breakpoint i word s = trap BREAKPOINT 0
-execute_group TrapReturn i word s = trap_return s
+execute_group TrapReturn i word s = trap_return word s
 execute_group Csr i word s = csr_access i word s
 execute_group LoadReserved i word s = load_reserved i s
 execute_group StoreConditional i word s = store_conditional i s

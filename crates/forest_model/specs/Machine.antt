@@ -1,9 +1,10 @@
--- A machine counts its steps, and ends by its own EXIT or by its limit.
+-- A machine counts its steps, and ends by its own EXIT, with bytes or without, or by its limit.
 use Rattle.std.specs.Prelude.{◌≡◌, ℕ, Bool, true, false, ◌<◌, zero, suc, ◌+◌, ◌==◌, if◌then◌else◌, List, replicate, Option, Some, None}
 use Rattle.elf_load.specs.Image.{Image}
 use Rattle.fork_port.specs.declared.commands.Call.{Call}
 use Rattle.fork_port.specs.declared.ending.Ending.{Ending}
 use Rattle.fork_port.specs.declared.ending.Ending.TheVariants.{Exit, Limit}
+use Rattle.fork_port.specs.Handed.{handed_of}
 use Rattle.forest_model.specs.declared.Options.{Options}
 use Rattle.rv_traps.specs.declared.counter.Wrote.{Wrote}
 use Rattle.rv_traps.specs.declared.counter.Wrote.TheVariants as counter
@@ -42,7 +43,7 @@ abbrev pub next_of : Action → Next
 next_of (trap cause value) = exception cause value
 next_of interrupt = timer_interrupt
 next_of (retire written s) = plain
-next_of (exit value s) = plain
+next_of (exit value bytes s) = plain
 next_of (ask c s) = call c
 
 abbrev pub next : Machine → Next
@@ -82,7 +83,7 @@ abbrev pub applied : Action → Machine → Machine
 applied (trap cause value) m = limited (count false Nothing (trapped cause value m.state)) m
 applied interrupt m = limited (count false Nothing (trapped TIMER_INTERRUPT 0 m.state)) m
 applied (retire written s) m = limited (count true written s) m
-applied (exit value s) m = ended (count true Nothing s) (Exit value) m
+applied (exit value bytes s) m = ended (count true Nothing s) (Exit value (handed_of bytes)) m
 applied (ask c s) m = m
 
 abbrev pub advance_from : Option Ending → Machine → Machine

@@ -1,6 +1,6 @@
 -- Loads and stores, which RAM gives, or else a port.
 -- RISC-V Unprivileged ISA 20191213, section 2.6
-use Rattle.std.specs.Prelude.{ℕ, ◌+◌, ◌-◌, ◌*◌, ◌/◌, ◌%◌, ◌^◌, ◌==◌, ◌&&◌, not, nat_le, Bool, true, false, if◌then◌else◌, List, [], length, Option, Some, None}
+use Rattle.std.specs.Prelude.{ℕ, ◌+◌, ◌-◌, ◌*◌, ◌/◌, ◌%◌, ◌^◌, ◌==◌, ◌&&◌, ◌||◌, not, nat_le, Bool, true, false, if◌then◌else◌, List, [], ◌∷◌, length, take, drop, Option, Some, None}
 use Rattle.elf_load.specs.declared.image.TheConstants.{RAM_BASE, PAGE_SIZE}
 use Rattle.byteorder.specs.Endian.{little_from}
 use Rattle.flat_memory.specs.Flat.{put_bytes, zeros}
@@ -11,14 +11,14 @@ use Rattle.forest_model.specs.declared.access.Access.{Access}
 use Rattle.forest_model.specs.declared.access.Direction.TheVariants as access
 use Rattle.forest_model.specs.declared.cause.TheConstants.{LOAD_ACCESS_FAULT, STORE_ACCESS_FAULT}
 use Rattle.fork_port.specs.declared.commands.Effect.{Effect}
-use Rattle.fork_port.specs.declared.commands.Effect.TheVariants.{Done, TimeWritten, Exit, Call, Zero}
+use Rattle.fork_port.specs.declared.commands.Effect.TheVariants.{Done, TimeWritten, Exit, ExitWith, Call, Zero}
 use Rattle.fork_port.specs.declared.refusals.TheConstants.{BAD_ARGUMENT}
 use Rattle.fork_port.specs.Registers.{ForkRegisters, refused}
-use Rattle.forest_model.specs.Footprint.{Footprint, no_footprint, no_change, zeroes}
+use Rattle.forest_model.specs.Footprint.{Page, Footprint, no_footprint, no_change, zeroes}
 use Rattle.forest_model.specs.Ports.{Read, Stored, port_load, port_store}
 use Rattle.forest_model.specs.State.{State, at_next_instruction}
 use Rattle.forest_model.specs.Action.{Action, trap, retire, exit, ask, retire_next, with_rd, rs1, rs2, immediate}
-use Rattle.forest_model.specs.Access.{Reached, faulted, of_ram, of_port, reached}
+use Rattle.forest_model.specs.Access.{Reached, faulted, of_ram, of_port, reached, page_of}
 
 -- the address of a load or a store
 abbrev pub data_address : Instruction → State → ℕ
@@ -64,6 +64,18 @@ abbrev pub zeroed : Bool → ℕ → ℕ → State → State
 zeroed false first count s = with_fork (refused s.ports.fork BAD_ARGUMENT) s
 zeroed true first count s = with_fork (refused s.ports.fork 0) (with_zeros first count s)
 
+-- EXIT with bytes: the machine hands over bytes of RAM, so many from an address on, or RESULT tells that they are not
+-- bytes of RAM. No bytes are of RAM at every address
+abbrev pub is_byte_range : ℕ → ℕ → List ℕ → Bool
+is_byte_range address count ram = (count == 0) || (nat_le RAM_BASE address && nat_le (address + count) (RAM_BASE + length ram))
+
+abbrev pub bytes_at : ℕ → ℕ → State → List ℕ
+bytes_at address count s = take count (drop (address - RAM_BASE) s.ram)
+
+-- the pages of these bytes: those of the first and of the last of them, since they are fewer than a page has
+abbrev pub pages_of_bytes : ℕ → ℕ → List Page
+pages_of_bytes address count = if count == 0 then [] else page_of address ∷ page_of (address + (count - 1)) ∷ []
+
 -- what an effect of a store to a port comes to: what it asks of the pages, and the action that it is
 pub record Outcome : Type 0 where
   pub footprint : Footprint
@@ -80,10 +92,19 @@ zeroing in_range first count s = record {
   action = retire Nothing (zeroed in_range first count s);
 }
 
+-- the pages of bytes that are handed over must be here
+abbrev pub handing_over : Bool → ℕ → ℕ → ℕ → State → Outcome
+handing_over false value address count s = alone (retire Nothing (with_fork (refused s.ports.fork BAD_ARGUMENT) s))
+handing_over true value address count s = record {
+  footprint = record { needs = pages_of_bytes address count; changes = no_change };
+  action = exit value (bytes_at address count s) s;
+}
+
 abbrev pub outcome : Effect → State → Outcome
 outcome Done s = alone (retire Nothing s)
 outcome TimeWritten s = alone (retire Time s)
-outcome (Exit value) s = alone (exit value s)
+outcome (Exit value) s = alone (exit value [] s)
+outcome (ExitWith value address count) s = handing_over (is_byte_range address count s.ram) value address count s
 outcome (Call call) s = alone (ask call s)
 outcome (Zero first count) s = zeroing (is_page_range first count s.ram) first count s
 

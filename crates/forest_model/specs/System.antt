@@ -70,6 +70,10 @@ old_value false i s = Some 0
 unfoldable pub csr_access : Instruction → ℕ → State → Action
 csr_access i word s = old_action (old_value (reads (operation_of i.kind) i) i s) i word s
 
--- MRET
-unfoldable pub trap_return : State → Action
-trap_return s = retire Nothing (record s { csrs = mret s.csrs; pc = s.csrs.mepc })
+-- MRET, which is not lawful in user mode
+abbrev pub returned_action : Option CsrRegisters → ℕ → State → Action
+returned_action None word s = trap ILLEGAL_INSTRUCTION word
+returned_action (Some csrs) word s = retire Nothing (record s { csrs = csrs; pc = s.csrs.mepc })
+
+unfoldable pub trap_return : ℕ → State → Action
+trap_return word s = returned_action (mret s.csrs) word s

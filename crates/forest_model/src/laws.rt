@@ -1,10 +1,15 @@
 //! Laws of the definitions, each the contract of a function that does nothing.
 
-ghost use Rattle.std.specs.Prelude.{◌≡◌, ◌≢◌, ◌==◌, if◌then◌else◌, ℕ, Bool, true, false, ◌+◌, ◌*◌, ◌/◌, ◌^◌, ◌<◌, ◌≤◌, List, [], length, slice_get, slice_index, slice_index_or, Some, None, IsSome, All, AllPairs, Contains};
+ghost use Rattle.std.specs.Prelude.{◌≡◌, ◌≢◌, ◌==◌, if◌then◌else◌, ℕ, Bool, true, false, ◌+◌, ◌-◌, ◌*◌, ◌/◌, ◌^◌, ◌<◌, ◌≤◌, List, [], length, slice_get, slice_index, slice_index_or, Some, None, IsSome, All, AllPairs, Contains};
 ghost use Rattle.elf_load.specs.Image.{Image};
+ghost use Rattle.guest_pmp.specs.declared.access.Access.TheVariants as right;
+ghost use Rattle.guest_pmp.specs.declared.access.Mode.TheVariants.{User};
+ghost use Rattle.rv_traps.specs.Counters.{with_counters_of};
+ghost use Rattle.rv_traps.specs.Protection.{allows};
 ghost use Rattle.rv_traps.specs.Trap.{takes_interrupt};
 ghost use Rattle.fork_port.specs.Registers.{ticket_found, refused};
 ghost use Rattle.fork_port.specs.Children as fork;
+ghost use Rattle.fork_port.specs.Handed.{handed_of};
 ghost use Rattle.forest_tree.specs.Operations.{clone, join, kill, IsMachine};
 ghost use Rattle.forest_tree.specs.Tree.{Tree};
 ghost use Rattle.forest_tree.specs.Finish as tree;
@@ -12,18 +17,21 @@ ghost use Rattle.forest_tree.specs.Projection.{map_tree, Projects};
 ghost use Rattle.forest_tree.specs.Settle.{alone};
 ghost use Rattle.forest_tree.specs.Sound.{IsSound};
 ghost use Rattle.forest_model.specs.State.{State, is_timer_due};
-ghost use Rattle.forest_model.specs.Action.{exit};
-ghost use Rattle.forest_model.specs.Memory.{is_page_range, zeroed};
+ghost use Rattle.forest_model.specs.Access.{page_of};
+ghost use Rattle.forest_model.specs.Action.{exit, retire};
+ghost use Rattle.forest_model.specs.Memory as memory;
+ghost use Rattle.forest_model.specs.Memory.{bytes_at, is_byte_range, is_page_range, outcome, with_fork, zeroed};
 ghost use Rattle.forest_model.specs.Execute.{action};
-ghost use Rattle.forest_model.specs.Machine.{Machine, IsWithinLimit, exception, timer_interrupt, next, limited, count, trapped, advance, after_steps, boot};
+ghost use Rattle.forest_model.specs.Machine.{Machine, IsWithinLimit, exception, plain, timer_interrupt, next, limited, count, trapped, advance, after_steps, boot};
 ghost use Rattle.forest_model.specs.Calls.{as_in_parent, child, fork_of, forked, after_join, after_kill, share_of};
 ghost use Rattle.forest_model.specs.Forest.{IsChildless, booted, call_of, finish, machines, port_of};
 ghost use Rattle.forest_model.specs.Touch.{IsZeroed, touch};
 ghost use Rattle.forest_model.specs.Paged.{Paged, Pages, absent_count, advanced_by, paged_machines, pages_arrived, stalled_at};
 
 use crate::{Ending, Options, Written};
-use elf_load::PAGE_SIZE;
+use elf_load::{PAGE_SIZE, RAM_BASE};
 use fork_port::refusals::BAD_ARGUMENT;
+use fork_port::{Effect, MOST_HANDED};
 use rv_traps::TIMER_INTERRUPT;
 
 /// A step of a live machine is counted, unless it is a call, and none moves the limit. A machine that has
@@ -36,12 +44,13 @@ pub fn advance_counts()
     ensures waits { (m : Machine) → IsSome (call_of (next m)) → advance m ≡ m }
 {}
 
-/// EXIT ends a live machine with its value, also in the last step that the limit leaves. A step that is
+/// EXIT ends a live machine with its value and the bytes that it hands over, also in the last step that the limit leaves. A step that is
 /// neither EXIT nor a call ends it exactly where it is the last.
 pub fn machines_end()
-    ensures exit { (m : Machine) (value : ℕ) (s : State) → m.ending ≡ None → action m.state ≡ exit value s
-        → (advance m).ending ≡ Some (Ending.Exit value) }
-    ensures limit { (m : Machine) → m.ending ≡ None → call_of (next m) ≡ None → ((value : ℕ) (s : State) → action m.state ≢ exit value s)
+    ensures exit { (m : Machine) (value : ℕ) (bytes : List ℕ) (s : State) → m.ending ≡ None → action m.state ≡ exit value bytes s
+        → (advance m).ending ≡ Some (Ending.Exit value (handed_of bytes)) }
+    ensures limit { (m : Machine) → m.ending ≡ None → call_of (next m) ≡ None
+        → ((value : ℕ) (bytes : List ℕ) (s : State) → action m.state ≢ exit value bytes s)
         → (advance m).ending ≡ (if m.steps + 1 == m.limit then Some Ending.Limit else None) }
 {}
 
@@ -71,6 +80,20 @@ pub fn zero_clears_pages()
     ensures size { (s : State) (first count : ℕ) → is_page_range first count s.ram ≡ true → length (zeroed true first count s).ram ≡ length s.ram }
     ensures tells { (s : State) (first count : ℕ) (in_range : Bool)
         → fork_of (zeroed in_range first count s) ≡ refused (fork_of s) (if in_range then 0 else BAD_ARGUMENT) }
+{}
+
+/// EXIT with bytes hands over so many bytes of RAM from its address on, as they stand in that step, where they are bytes of
+/// RAM, and needs the page of each of them. Else RESULT tells so, and nothing else changes.
+pub fn bytes_are_handed_over()
+    ensures handed { (s : State) (value address count : ℕ) → is_byte_range address count s.ram ≡ true
+        → (outcome (Effect.ExitWith value address count) s).action ≡ exit value (bytes_at address count s) s }
+    ensures size { (s : State) (address count : ℕ) → is_byte_range address count s.ram ≡ true → length (bytes_at address count s) ≡ count }
+    ensures bytes { (s : State) (address count k : ℕ) → is_byte_range address count s.ram ≡ true → k < count
+        → slice_index (bytes_at address count s) k ≡ slice_index s.ram (address + k - RAM_BASE) }
+    ensures pages { (s : State) (value address count k : ℕ) → is_byte_range address count s.ram ≡ true → count ≤ MOST_HANDED → k < count
+        → Contains (outcome (Effect.ExitWith value address count) s).footprint.needs (page_of (address + k)) }
+    ensures refused { (s : State) (value address count : ℕ) → is_byte_range address count s.ram ≡ false
+        → outcome (Effect.ExitWith value address count) s ≡ memory.alone (retire Written.Nothing (with_fork (refused (fork_of s) BAD_ARGUMENT) s)) }
 {}
 
 /// A call does to the fork port of its machine what it says. After JOIN the children's endings are told in
@@ -128,11 +151,11 @@ pub fn runs_agree()
         → after_steps a m ≡ after_steps b m }
 {}
 
-/// The pages that a step touches are pages of RAM, at most two, and none is listed twice. A machine
+/// The pages that a step touches are pages of RAM, at most three, and none is listed twice. A machine
 /// that has ended touches none.
 pub fn touched_pages()
     ensures of_ram { (m : Machine) → All (λ page. PAGE_SIZE * page < length m.state.ram) (touch m) }
-    ensures at_most_two { (m : Machine) → length (touch m) ≤ 2 }
+    ensures at_most_three { (m : Machine) → length (touch m) ≤ 3 }
     ensures none_twice { (m : Machine) → AllPairs (λ one other. one ≢ other) (touch m) }
     ensures ended { (m : Machine) → IsSome m.ending → touch m ≡ [] }
 {}
@@ -141,6 +164,25 @@ pub fn touched_pages()
 pub fn writes_touched_pages()
     ensures { (m : Machine) (at : ℕ) → ¬ Contains (touch m) (at / PAGE_SIZE) → ¬ IsZeroed m (at / PAGE_SIZE)
         → slice_index (advance m).state.ram at ≡ slice_index m.state.ram at }
+{}
+
+/// A step changes no byte of RAM that memory protection denies to a store, in the mode by which the step accesses data,
+/// but by ZERO.
+pub fn denied_bytes_stay()
+    ensures { (m : Machine) (at : ℕ) → allows m.state.csrs right.Store (RAM_BASE + at) ≡ false → ¬ IsZeroed m (at / PAGE_SIZE)
+        → slice_index (advance m).state.ram at ≡ slice_index m.state.ram at }
+{}
+
+/// A step in user mode that is no trap leaves the control and status registers but for their counters: the mode, where
+/// traps go and the entries of memory protection among them. So do the parts that calls have in it, which leave RAM too.
+pub fn user_mode_keeps_registers()
+    ensures step { (m : Machine) → m.state.csrs.mode ≡ User → next m ≡ plain → with_counters_of m.state.csrs (advance m).state.csrs ≡ m.state.csrs }
+    ensures clone { (m : Machine) → m.state.csrs.mode ≡ User
+        → (with_counters_of m.state.csrs (forked m).state.csrs ≡ m.state.csrs) × ((forked m).state.ram ≡ m.state.ram) }
+    ensures join { (m : Machine) (endings : List Ending) → m.state.csrs.mode ≡ User
+        → (with_counters_of m.state.csrs (after_join m endings).state.csrs ≡ m.state.csrs) × ((after_join m endings).state.ram ≡ m.state.ram) }
+    ensures kill { (m : Machine) → m.state.csrs.mode ≡ User
+        → (with_counters_of m.state.csrs (after_kill m).state.csrs ≡ m.state.csrs) × ((after_kill m).state.ram ≡ m.state.ram) }
 {}
 
 /// What is known of a machine's pages changes nothing that the machine does: seen without it, machines of which

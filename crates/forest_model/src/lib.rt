@@ -8,7 +8,7 @@ pub mod laws;
 pub mod port_map;
 
 pub use access::{Access, Direction};
-pub use fork_port::Ending;
+pub use fork_port::{Ending, Handed};
 use rv_traps::Wrote;
 
 /// What of the counters a step wrote itself. It does not count the step.

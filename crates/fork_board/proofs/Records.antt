@@ -9,7 +9,8 @@ use Rattle.forest_history.specs.Places.{Spot, out, spots}
 use Rattle.forest_history.specs.World as history
 use Rattle.forest_history.specs.World.{world_of}
 use Rattle.forest_history.specs.Rows.{Row, over, stopped, idle, took, nothing, spent, dropped, kept, halted, Allows, does}
-use Rattle.forest_history.specs.Histories.{Entry, row, told, heard, mute, deaf, History, Holding, HandsBack, IsLegal, Permits, Record, Seat, holding, holdings_after, is_same_path, record_after, replay, with_taken, without_name}
+use Rattle.forest_history.specs.Histories.{Entry, row, told, heard, mute, deaf, History, Holding, HandsBack, IsLegal, Permits, Record, Seat, holding}
+use Rattle.forest_history.specs.Histories.{holdings_after, is_same_path, record_after, replay, with_taken, without_name}
 use Rattle.forest_history.proofs.Held.{same-is, same-self, without-other, without-same}
 use Rattle.forest_history.proofs.Histories as histories
 use Rattle.forest_history.proofs.Leases as leases

@@ -7,20 +7,20 @@ use Rattle.image_depot.specs.Key.{Shelves}
 use Rattle.vm_cell.specs.Standing.{IsClone, IsKill, standing_call}
 use Rattle.world_core.specs.Answers.{IsJoinCall, home_by}
 use Rattle.world_core.specs.Lent.{Lent, vm_of}
-use Rattle.world_core.specs.Litter.{IsLitterIn, IsLitterOf}
+use Rattle.world_core.specs.PreparedFork.{IsPreparedIn, IsPreparedFor}
 use Rattle.fork_board.specs.declared.deed.Deed.{Deed}
 use Rattle.fork_board.specs.declared.deed.Deed.TheVariants.{Give, Fork, Join, Kill}
 
 -- how the machine comes back
 abbrev pub how_of : Deed → Option Ending → How
 how_of Give ending = home_by ending
-how_of (Fork litter) ending = forked
+how_of (Fork prepared) ending = forked
 how_of (Join alloc) ending = joined
 how_of Kill ending = killed
 
 -- what a call asks of the lease
 abbrev pub MayDo : Shelves → Deed → Lent → Type 0
 MayDo depot Give lease = Unit {0}
-MayDo depot (Fork litter) lease = IsClone (standing_call (vm_of lease)) × IfOk litter (IsLitterOf lease) × IfOk litter (IsLitterIn depot)
+MayDo depot (Fork prepared) lease = IsClone (standing_call (vm_of lease)) × IfOk prepared (IsPreparedFor lease) × IfOk prepared (IsPreparedIn depot)
 MayDo depot (Join alloc) lease = IsJoinCall (standing_call (vm_of lease))
 MayDo depot Kill lease = IsKill (standing_call (vm_of lease))

@@ -63,8 +63,8 @@ impl Board {
         ensures makes { Makes pass result.0 (placed_entry forked lease.name lease.ran result.1) }
         ensures places { Places forked lease result.0 result.1 }
     {
-        let litter = lease.litter(rt, alloc, depot);
-        self.hand_back(rt, pass, lease, Deed::Fork(litter))
+        let prepared = lease.prepare_fork(rt, alloc, depot);
+        self.hand_back(rt, pass, lease, Deed::Fork(prepared))
     }
 
     /// Makes the JOIN at which a machine stands, or parks the machine where a child of the ticket lives.

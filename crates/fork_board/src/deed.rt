@@ -13,7 +13,7 @@ ghost use Rattle.fork_board.specs.Notes.{entry_of};
 use crate::note::Note;
 use std::alloc::{AllocError, Global};
 use std::snapshot::Snapshot;
-use world_core::{Lease, Litter, Placed, World};
+use world_core::{Lease, Placed, PreparedFork, World};
 
 /// By which call a lease is handed back.
 #[derive(Drop)]
@@ -21,7 +21,7 @@ pub(crate) enum Deed {
     /// The machine has ended, or is ready.
     Give,
     /// The CLONE at which the machine stands, with the children that were made ready for it.
-    Fork(Result<Litter, AllocError>),
+    Fork(Result<PreparedFork, AllocError>),
     /// The JOIN at which it stands.
     Join(Global),
     /// The KILL at which it stands.
@@ -38,7 +38,7 @@ impl Deed {
     {
         match self {
             Deed::Give => world.give(lease),
-            Deed::Fork(litter) => world.bear(lease, litter),
+            Deed::Fork(prepared) => world.commit_fork(lease, prepared),
             Deed::Join(alloc) => world.join(alloc, lease),
             Deed::Kill => world.kill(lease),
         }

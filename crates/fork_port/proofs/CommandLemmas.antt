@@ -1,14 +1,16 @@
 -- What holds where a command asks for something.
-use Rattle.std.proofs.Common.{◌≡◌, ℕ, Bool, true, false, cond, eqb, Some, None, Option, refl}
+use Rattle.std.proofs.Common.{◌≡◌, ℕ, ◌/◌, ◌%◌, Bool, true, false, cond, eqb, ltb, Some, None, Option, refl}
+use Rattle.std.proofs.lemmas.Bool.{ltb-false}
 use Rattle.std.proofs.lemmas.Bool.Decides.{Decides-eqb}
 use Rattle.fork_port.specs.declared.commands.Asked.{Asked}
 use Rattle.fork_port.specs.declared.commands.Asked.TheVariants as asked
 use Rattle.fork_port.specs.declared.commands.Call.TheVariants as call
 use Rattle.fork_port.specs.declared.tickets.Ticket.{Ticket}
-use Rattle.fork_port.specs.declared.refusals.TheConstants.{ALREADY_CLONED, NOT_CLONED}
-use Rattle.fork_port.specs.declared.registers.TheConstants.{TICKET_COMMAND, CLONE_COMMAND, JOIN_COMMAND, KILL_COMMAND, EXIT_COMMAND, ZERO_COMMAND}
+use Rattle.fork_port.specs.declared.refusals.TheConstants.{ALREADY_CLONED, NOT_CLONED, BAD_ARGUMENT}
+use Rattle.fork_port.specs.declared.handed.TheConstants.{MOST_HANDED}
+use Rattle.fork_port.specs.declared.registers.TheConstants.{TICKET_COMMAND, CLONE_COMMAND, JOIN_COMMAND, KILL_COMMAND, EXIT_COMMAND, ZERO_COMMAND, HAND_OVER_COMMAND}
 use Rattle.fork_port.specs.Registers.{ForkRegisters, ticket_found}
-use Rattle.fork_port.specs.Commands.{IsAnswerable, clone_asks, join_asks, kill_asks, fork_command}
+use Rattle.fork_port.specs.Commands.{IsAnswerable, clone_asks, join_asks, kill_asks, hand_over_asks, fork_command}
 use Rattle.fork_port.proofs.TicketLemmas.{either}
 
 module _ (f : ForkRegisters) (command : ℕ) where
@@ -40,6 +42,13 @@ module _ (f : ForkRegisters) (command : ℕ) where
   new_ticket_answerable true other tells rest = tells refl
   new_ticket_answerable false other tells rest = rest
 
+  hand_over_answerable : (value address count : ℕ) → IsAnswerable f command (hand_over_asks value address count)
+  hand_over_answerable value address count = by_room (ltb MOST_HANDED count) refl
+    where
+      by_room : (b : Bool) → ltb MOST_HANDED count ≡ b → IsAnswerable f command (cond b (asked.Refused BAD_ARGUMENT) (asked.ExitWith value address count))
+      by_room true over = tt
+      by_room false within = ltb-false MOST_HANDED count within
+
   pub answerable : IsAnswerable f command (fork_command f command)
   unfolding fork_command
   answerable =
@@ -50,4 +59,5 @@ module _ (f : ForkRegisters) (command : ℕ) where
       (either is (eqb command JOIN_COMMAND) _ _ (join_answerable _ refl)
       (either is (eqb command KILL_COMMAND) _ _ (kill_answerable _ refl)
       (either is (eqb command EXIT_COMMAND) _ _ tt
-      (either is (eqb command ZERO_COMMAND) _ _ tt tt)))))
+      (either is (eqb command ZERO_COMMAND) _ _ tt
+      (either is (eqb (command % 256) HAND_OVER_COMMAND) _ _ (hand_over_answerable number f.second_argument (command / 256)) tt))))))

@@ -1,3 +1,4 @@
+pub mod HandedLemmas
 pub mod TicketLemmas
 pub mod Balance
 pub mod CommandLemmas

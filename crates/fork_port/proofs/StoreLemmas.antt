@@ -1,10 +1,11 @@
 -- What holds of each store.
-use Rattle.std.proofs.Common.{◌≡◌, ℕ, eqb, Option, None, IfSome, option_map, refl, subst}
+use Rattle.std.proofs.Common.{◌≡◌, ℕ, ◌≤◌, eqb, Option, None, IfSome, option_map, refl, subst}
 use Rattle.fork_port.specs.declared.commands.Stored.TheVariants.{Command}
 use Rattle.fork_port.specs.declared.commands.Call.{Call}
 use Rattle.fork_port.specs.declared.commands.Asked.{Asked}
 use Rattle.fork_port.specs.declared.commands.Asked.TheVariants as asked
 use Rattle.fork_port.specs.declared.commands.Effect.TheVariants as effect
+use Rattle.fork_port.specs.declared.handed.TheConstants.{MOST_HANDED}
 use Rattle.fork_port.specs.declared.registers.TheConstants.{FORK_FIRST_ARGUMENT, FORK_SECOND_ARGUMENT, FORK_COMMAND, FORK_JOIN_SELECT}
 use Rattle.fork_port.specs.Tickets.{IsRising}
 use Rattle.fork_port.specs.Registers.{ForkRegisters, RegisterStored, holding}
@@ -35,6 +36,9 @@ each_store P f offset width word first second select command =
 no_zero : (first count : ℕ) {P : Type 0} → effect.Done ≡ effect.Zero first count → P
 no_zero first count is = cc
 
+no_handing : (value address count : ℕ) {P : Type 0} → effect.Done ≡ effect.ExitWith value address count → P
+no_handing value address count is = cc
+
 no_call : (c : Call) {P : Type 0} → effect.Done ≡ effect.Call c → P
 no_call c is = cc
 
@@ -45,6 +49,7 @@ module _ (f : ForkRegisters) where
   holding_answered rising (asked.Discard number) = holding_after_kill f number rising
   holding_answered rising (asked.Call c) = refl
   holding_answered rising (asked.Exit value) = refl
+  holding_answered rising (asked.ExitWith value address count) = refl
   holding_answered rising (asked.Zero first count) = refl
 
   accounted_answered : IsAccounted f → (a : Asked) → IsAccounted (answered a f)
@@ -53,6 +58,7 @@ module _ (f : ForkRegisters) where
   accounted_answered accounted (asked.Discard number) = accounted_after_kill f number accounted
   accounted_answered accounted (asked.Call c) = accounted
   accounted_answered accounted (asked.Exit value) = accounted
+  accounted_answered accounted (asked.ExitWith value address count) = accounted
   accounted_answered accounted (asked.Zero first count) = accounted
 
   call_answered : (command : ℕ) (c : Call) (a : Asked) → IsAnswerable f command a → effect_of a ≡ effect.Call c → (answered a f ≡ f) × IsMakeable f c
@@ -61,6 +67,7 @@ module _ (f : ForkRegisters) where
   call_answered command c (asked.Discard number) met is = no_call c is
   call_answered command c (asked.Call d) met is = (refl, let same : d ≡ c = cc in subst (IsMakeable f) same met)
   call_answered command c (asked.Exit value) met is = absurd cc
+  call_answered command c (asked.ExitWith value address count) met is = absurd cc
   call_answered command c (asked.Zero first count) met is = absurd cc
 
   zero_answered : (first count : ℕ) (a : Asked) → effect_of a ≡ effect.Zero first count → answered a f ≡ f
@@ -69,7 +76,19 @@ module _ (f : ForkRegisters) where
   zero_answered first count (asked.Discard number) is = no_zero first count is
   zero_answered first count (asked.Call c) is = refl
   zero_answered first count (asked.Exit value) is = refl
+  zero_answered first count (asked.ExitWith value address size) is = refl
   zero_answered first count (asked.Zero from size) is = refl
+
+  handing_answered : (command value address count : ℕ) (a : Asked) → IsAnswerable f command a → effect_of a ≡ effect.ExitWith value address count
+      → (answered a f ≡ f) × (count ≤ MOST_HANDED)
+  handing_answered command value address count (asked.Refused word) met is = no_handing value address count is
+  handing_answered command value address count asked.NewTicket met is = no_handing value address count is
+  handing_answered command value address count (asked.Discard number) met is = no_handing value address count is
+  handing_answered command value address count (asked.Call c) met is = absurd cc
+  handing_answered command value address count (asked.Exit other) met is = absurd cc
+  handing_answered command value address count (asked.ExitWith other from size) met is =
+      (refl, let same : size ≡ count = cc in subst (λ (n : ℕ). n ≤ MOST_HANDED) same met)
+  handing_answered command value address count (asked.Zero first size) met is = absurd cc
 
   pub holding_stored : (offset width word : ℕ) → IsRising f.tickets → IfSome (fork_store f offset width word) (λ s. holding s.fork ≡ holding f)
   holding_stored offset width word rising =
@@ -90,3 +109,10 @@ module _ (f : ForkRegisters) where
   zero_stored offset width word first count =
       each_store (λ s. s.effect ≡ effect.Zero first count → s.fork ≡ f) f offset width word
       (λ is. no_zero first count is) (λ is. no_zero first count is) (λ is. no_zero first count is) (zero_answered first count (fork_command f word))
+
+  pub handing_stored : (offset width word value address count : ℕ)
+      → IfSome (fork_store f offset width word) (λ s. s.effect ≡ effect.ExitWith value address count → (s.fork ≡ f) × (count ≤ MOST_HANDED))
+  handing_stored offset width word value address count =
+      each_store (λ s. s.effect ≡ effect.ExitWith value address count → (s.fork ≡ f) × (count ≤ MOST_HANDED)) f offset width word
+      (λ is. no_handing value address count is) (λ is. no_handing value address count is) (λ is. no_handing value address count is)
+      (handing_answered word value address count (fork_command f word) (answerable f word))

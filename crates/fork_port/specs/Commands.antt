@@ -1,5 +1,5 @@
 -- What the commands of the fork port ask for, and what they do.
-use Rattle.std.specs.Prelude.{◌≡◌, ℕ, ◌==◌, true, false, if◌then◌else◌, Option, Some, None}
+use Rattle.std.specs.Prelude.{◌≡◌, ℕ, ◌/◌, ◌%◌, ◌≤◌, ◌==◌, nat_lt, true, false, if◌then◌else◌, Option, Some, None}
 use Rattle.fork_port.specs.declared.tickets.Ticket.{Ticket}
 use Rattle.fork_port.specs.declared.commands.Call.{Call}
 use Rattle.fork_port.specs.declared.commands.Call.TheVariants as call
@@ -7,8 +7,9 @@ use Rattle.fork_port.specs.declared.commands.Asked.{Asked}
 use Rattle.fork_port.specs.declared.commands.Asked.TheVariants as asked
 use Rattle.fork_port.specs.declared.commands.Effect.{Effect}
 use Rattle.fork_port.specs.declared.commands.Effect.TheVariants as effect
-use Rattle.fork_port.specs.declared.refusals.TheConstants.{NO_SUCH_TICKET, ALREADY_CLONED, NOT_CLONED, UNKNOWN_COMMAND}
-use Rattle.fork_port.specs.declared.registers.TheConstants.{TICKET_COMMAND, CLONE_COMMAND, JOIN_COMMAND, KILL_COMMAND, EXIT_COMMAND, ZERO_COMMAND}
+use Rattle.fork_port.specs.declared.handed.TheConstants.{MOST_HANDED}
+use Rattle.fork_port.specs.declared.refusals.TheConstants.{NO_SUCH_TICKET, ALREADY_CLONED, NOT_CLONED, BAD_ARGUMENT, UNKNOWN_COMMAND}
+use Rattle.fork_port.specs.declared.registers.TheConstants.{TICKET_COMMAND, CLONE_COMMAND, JOIN_COMMAND, KILL_COMMAND, EXIT_COMMAND, ZERO_COMMAND, HAND_OVER_COMMAND}
 use Rattle.fork_port.specs.Registers.{ForkRegisters, HasTicket, ticket_found, refused}
 use Rattle.fork_port.specs.Children.{after_ticket, after_kill}
 
@@ -26,6 +27,14 @@ abbrev pub kill_asks : ℕ → Option Ticket → Asked
 kill_asks number None = asked.Refused NO_SUCH_TICKET
 kill_asks number (Some ticket) = if ticket.is_cloned then asked.Call (call.Kill number) else asked.Discard number
 
+-- What a command that is none of these asks for: EXIT with bytes, by its low byte, and so many as its other bits tell.
+abbrev pub hand_over_asks : ℕ → ℕ → ℕ → Asked
+hand_over_asks value address count = if nat_lt MOST_HANDED count then asked.Refused BAD_ARGUMENT else asked.ExitWith value address count
+
+abbrev pub other_asks : ℕ → ℕ → ℕ → Asked
+other_asks command value address =
+    if command % 256 == HAND_OVER_COMMAND then hand_over_asks value address (command / 256) else asked.Refused UNKNOWN_COMMAND
+
 -- what a command asks for
 unfoldable pub fork_command : ForkRegisters → ℕ → Asked
 fork_command f command =
@@ -35,7 +44,7 @@ fork_command f command =
     else (if command == KILL_COMMAND then kill_asks f.first_argument (ticket_found f f.first_argument)
     else (if command == EXIT_COMMAND then asked.Exit f.first_argument
     else (if command == ZERO_COMMAND then asked.Zero f.first_argument f.second_argument
-    else asked.Refused UNKNOWN_COMMAND)))))
+    else other_asks command f.first_argument f.second_argument)))))
 
 -- what a command does at once. Calls, EXIT and ZERO are done by the machine
 abbrev pub answered : Asked → ForkRegisters → ForkRegisters
@@ -44,6 +53,7 @@ answered asked.NewTicket f = after_ticket f
 answered (asked.Discard number) f = after_kill f number
 answered (asked.Call c) f = f
 answered (asked.Exit value) f = f
+answered (asked.ExitWith value address count) f = f
 answered (asked.Zero first count) f = f
 
 -- what it does to the machine
@@ -53,6 +63,7 @@ effect_of asked.NewTicket = effect.Done
 effect_of (asked.Discard number) = effect.Done
 effect_of (asked.Call c) = effect.Call c
 effect_of (asked.Exit value) = effect.Exit value
+effect_of (asked.ExitWith value address count) = effect.ExitWith value address count
 effect_of (asked.Zero first count) = effect.Zero first count
 
 -- What holds where a command asks for something: the conditions of what answers it.
@@ -67,4 +78,5 @@ IsAnswerable f command asked.NewTicket = command ≡ TICKET_COMMAND
 IsAnswerable f command (asked.Discard number) = HasTicket f number false
 IsAnswerable f command (asked.Call c) = IsMakeable f c
 IsAnswerable f command (asked.Exit value) = Unit {0}
+IsAnswerable f command (asked.ExitWith value address count) = count ≤ MOST_HANDED
 IsAnswerable f command (asked.Zero first count) = Unit {0}

@@ -1,3 +1,4 @@
+pub mod Handed
 pub mod Ending
 pub mod Tickets
 pub mod Registers

@@ -1,12 +1,13 @@
 -- The registers of the fork port.
-use Rattle.std.specs.Prelude.{ℕ, ◌+◌, ◌-◌, ◌==◌, ◌≡◌, Bool, if◌then◌else◌, List, [], slice_get, Option, Some, None, IsSomeAnd}
+use Rattle.std.specs.Prelude.{ℕ, ◌+◌, ◌-◌, ◌%◌, ◌==◌, ◌&&◌, ◌≡◌, Bool, nat_lt, nat_le, if◌then◌else◌, List, [], slice_get, Option, Some, None, IsSomeAnd}
 use Rattle.fork_port.specs.declared.ending.Ending.{Ending}
 use Rattle.fork_port.specs.declared.tickets.Ticket.{Ticket}
 use Rattle.fork_port.specs.declared.commands.Stored.{Stored}
 use Rattle.fork_port.specs.declared.commands.Stored.TheVariants.{Register, Command}
 use Rattle.fork_port.specs.declared.port.ForkFields.{ForkFields}
-use Rattle.fork_port.specs.declared.registers.TheConstants.{FORK_FIRST_ARGUMENT, FORK_SECOND_ARGUMENT, FORK_COMMAND, FORK_RESULT, FORK_CLONE_ID, FORK_ALLOT, FORK_JOIN_SELECT, FORK_JOIN_KIND, FORK_JOIN_VALUE, FORK_GRANTED}
-use Rattle.fork_port.specs.Ending.{join_kind, join_value}
+use Rattle.fork_port.specs.declared.registers.TheConstants.{FORK_FIRST_ARGUMENT, FORK_SECOND_ARGUMENT, FORK_COMMAND, FORK_RESULT, FORK_CLONE_ID, FORK_ALLOT, FORK_JOIN_SELECT, FORK_JOIN_KIND, FORK_JOIN_VALUE, FORK_GRANTED, FORK_JOIN_LENGTH, FORK_JOIN_BYTES}
+use Rattle.fork_port.specs.declared.handed.TheConstants.{MOST_HANDED}
+use Rattle.fork_port.specs.Ending.{join_kind, join_value, join_count, join_word}
 use Rattle.fork_port.specs.Tickets.{ticket_of, held}
 
 pub record ForkRegisters : Type 0 where
@@ -56,13 +57,19 @@ holding f = f.allot + held f.tickets
 abbrev pub join_result : ForkRegisters → Option Ending
 join_result f = if f.join_select == 0 then None else slice_get f.joined (f.join_select - 1)
 
+-- the words of the bytes that it handed over
+abbrev pub is_join_word : ℕ → Bool
+is_join_word offset = nat_le FORK_JOIN_BYTES offset && (nat_lt offset (FORK_JOIN_BYTES + MOST_HANDED) && (offset % 4 == 0))
+
 -- the registers that tell of it, and of the last ticket
 abbrev pub told_load : ForkRegisters → ℕ → Option ℕ
 told_load f offset =
     if offset == FORK_JOIN_SELECT then Some f.join_select
     else (if offset == FORK_JOIN_KIND then Some (join_kind (join_result f))
     else (if offset == FORK_JOIN_VALUE then Some (join_value (join_result f))
-    else (if offset == FORK_GRANTED then Some f.granted else None)))
+    else (if offset == FORK_GRANTED then Some f.granted
+    else (if offset == FORK_JOIN_LENGTH then Some (join_count (join_result f))
+    else (if is_join_word offset then Some (join_word (join_result f) (offset - FORK_JOIN_BYTES)) else None)))))
 
 abbrev pub register_load : ForkRegisters → ℕ → Option ℕ
 register_load f offset =

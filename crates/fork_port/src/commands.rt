@@ -36,6 +36,8 @@ pub enum Asked {
     Call(Call),
     /// That the machine ends with this value.
     Exit(u32),
+    /// That it ends with this value and hands over bytes of RAM: the address of the first, and how many.
+    ExitWith(u32, u32, u32),
     /// That pages read as zeros: from which one, and how many.
     Zero(u32, u32),
 }
@@ -50,6 +52,9 @@ pub enum Effect {
     Call(Call),
     /// The machine ends with this value.
     Exit(u32),
+    /// It ends with this value and hands over bytes of RAM: the address of the first, and how many. The registers
+    /// are as before.
+    ExitWith(u32, u32, u32),
     /// Pages are to read as zeros: from which one, and how many. RESULT is not set yet.
     Zero(u32, u32),
 }
@@ -63,6 +68,7 @@ impl Asked {
             Asked::Refused(_) | Asked::NewTicket | Asked::Discard(_) => Effect::Done,
             Asked::Call(call) => Effect::Call(call),
             Asked::Exit(value) => Effect::Exit(value),
+            Asked::ExitWith(value, address, count) => Effect::ExitWith(value, address, count),
             Asked::Zero(first, count) => Effect::Zero(first, count),
         }
     }

@@ -1,11 +1,13 @@
-ghost use Rattle.std.specs.Prelude.{◌≡◌};
-ghost use Rattle.fork_port.specs.Ending.{ending_kind, ending_value};
+ghost use Rattle.std.specs.Prelude.{◌≡◌, ◌+◌, ◌≤◌};
+ghost use Rattle.fork_port.specs.Ending.{ending_count, ending_kind, ending_value, ending_word};
+
+use crate::handed::{Handed, MOST_HANDED};
 
 /// How a machine ended.
 #[derive(Clone, Copy, Debug, PartialEq, Eq)]
 pub enum Ending {
-    /// By EXIT, with its value.
-    Exit(u32),
+    /// By EXIT, with its value and the bytes that it handed over.
+    Exit(u32, Handed),
     /// By the limit of its steps.
     Limit,
 }
@@ -16,7 +18,7 @@ impl Ending {
         ensures { result ≡ ending_kind self }
     {
         match self {
-            Ending::Exit(_) => 1,
+            Ending::Exit(_, _) => 1,
             Ending::Limit => 2,
         }
     }
@@ -26,7 +28,28 @@ impl Ending {
         ensures { result ≡ ending_value self }
     {
         match self {
-            Ending::Exit(value) => value,
+            Ending::Exit(value, _) => value,
+            Ending::Limit => 0,
+        }
+    }
+
+    /// How many bytes a join tells that it handed over.
+    pub fn handed_count(self) -> u32
+        ensures { result ≡ ending_count self }
+    {
+        match self {
+            Ending::Exit(_, handed) => handed.count(),
+            Ending::Limit => 0,
+        }
+    }
+
+    /// The word that a join tells at a place of these bytes and of the zeros behind them.
+    pub fn handed_word(self, at: usize) -> u32
+        requires { at + 4 ≤ MOST_HANDED }
+        ensures { result ≡ ending_word self at }
+    {
+        match self {
+            Ending::Exit(_, handed) => handed.word(at),
             Ending::Limit => 0,
         }
     }

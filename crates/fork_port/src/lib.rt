@@ -4,6 +4,7 @@
 
 mod commands;
 mod ending;
+mod handed;
 pub mod laws;
 mod port;
 pub mod refusals;
@@ -12,5 +13,6 @@ mod tickets;
 
 pub use commands::{Asked, Call, Effect, Stored};
 pub use ending::Ending;
+pub use handed::{Handed, MOST_HANDED};
 pub use port::{ForkFields, ForkPort};
 pub use tickets::Ticket;

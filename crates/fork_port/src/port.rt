@@ -1,21 +1,23 @@
-ghost use Rattle.std.specs.Prelude.{◌≡◌, ◌+◌, ◌*◌, ◌^◌, ◌<◌, ◌≤◌, ◌↔◌, true, false, [], length, Some, None, IsSome, IsSomeAnd, IsErr, IsErrOf, option_map, IfOk, OnOk, OnErr};
-ghost use Rattle.fork_port.specs.Ending.{join_kind, join_value};
+ghost use Rattle.std.specs.Prelude.{◌≡◌, ◌+◌, ◌-◌, ◌*◌, ◌^◌, ◌<◌, ◌≤◌, ◌↔◌, true, false, [], length, Some, None, IsNone, IsSome, IsSomeAnd, IsErr, IsErrOf, option_map, IfOk, IfSome, OnOk, OnErr};
+ghost use Rattle.fork_port.specs.Ending.{join_kind, join_value, join_word};
 ghost use Rattle.fork_port.specs.Tickets.{cost};
-ghost use Rattle.fork_port.specs.Registers.{HasTicket, at_start, fields_of, holding, join_result, refused, register_store, registers_of, ticket_found, ticket_told, told_load};
+ghost use Rattle.fork_port.specs.Registers.{HasTicket, at_start, fields_of, holding, is_join_word, join_result, refused, register_store, registers_of, ticket_found, ticket_told, told_load};
 ghost use Rattle.fork_port.specs.Children.{IsAccounted, after_clone, after_join, after_kill, after_ticket, child_registers, children_granted, given_back, with_ticket};
-ghost use Rattle.fork_port.specs.Commands.{IsAnswerable, answered, clone_asks, fork_command, join_asks, kill_asks};
+ghost use Rattle.fork_port.specs.Commands.{IsAnswerable, answered, clone_asks, fork_command, join_asks, kill_asks, other_asks};
 ghost use Rattle.fork_port.specs.Fork.{GrantsTicket, fork_load, fork_store};
 
 use crate::commands::{Asked, Call, Effect, Stored};
 use crate::ending::Ending;
+use crate::handed::MOST_HANDED;
 use crate::refusals::{
     ALREADY_CLONED, BAD_ARGUMENT, NO_SUCH_TICKET, NOT_CLONED, NOTHING_GRANTED, TICKETS_END,
     UNKNOWN_COMMAND,
 };
 use crate::registers::{
     CLONE_COMMAND, EXIT_COMMAND, FORK_ALLOT, FORK_CLONE_ID, FORK_COMMAND, FORK_FIRST_ARGUMENT,
-    FORK_GRANTED, FORK_JOIN_KIND, FORK_JOIN_SELECT, FORK_JOIN_VALUE, FORK_RESULT,
-    FORK_SECOND_ARGUMENT, JOIN_COMMAND, KILL_COMMAND, TICKET_COMMAND, ZERO_COMMAND,
+    FORK_GRANTED, FORK_JOIN_BYTES, FORK_JOIN_KIND, FORK_JOIN_LENGTH, FORK_JOIN_SELECT,
+    FORK_JOIN_VALUE, FORK_RESULT, FORK_SECOND_ARGUMENT, HAND_OVER_COMMAND, JOIN_COMMAND,
+    KILL_COMMAND, TICKET_COMMAND, ZERO_COMMAND,
 };
 use crate::tickets::{Ticket, TicketList};
 use port_error::{Fault, PortError};
@@ -194,7 +196,22 @@ impl ForkPort {
             FORK_JOIN_KIND => Ok(self.join_result().map_or(0, Ending::kind)),
             FORK_JOIN_VALUE => Ok(self.join_result().map_or(0, Ending::value)),
             FORK_GRANTED => Ok(self.granted),
-            _ => Err(Fault),
+            FORK_JOIN_LENGTH => Ok(self.join_result().map_or(0, Ending::handed_count)),
+            _ => match join_bytes_place(offset) {
+                Some(at) => Ok(self.join_word(at)),
+                None => Err(Fault),
+            },
+        }
+    }
+
+    // The word at a place of the bytes that the selected child of the last join handed over.
+    fn join_word(&self, at: usize) -> u32
+        requires { at + 4 ≤ MOST_HANDED }
+        ensures { result ≡ join_word (join_result self.now) at }
+    {
+        match self.join_result() {
+            Some(ending) => ending.handed_word(at),
+            None => 0,
         }
     }
 
@@ -255,7 +272,7 @@ impl ForkPort {
             KILL_COMMAND => kill_asked(number, self.tickets.get(number)),
             EXIT_COMMAND => Asked::Exit(number),
             ZERO_COMMAND => Asked::Zero(number, self.second_argument),
-            _ => Asked::Refused(UNKNOWN_COMMAND),
+            _ => other_asked(command, number, self.second_argument),
         }
     }
 
@@ -405,6 +422,34 @@ impl ForkPort {
             next_ticket: 1,
         };
         ForkPort::of_fields(*self.joined.allocator(), fields)
+    }
+}
+
+// The place among the bytes that a child handed over of the word at an offset, if one of their words is there.
+fn join_bytes_place(offset: u32) -> Option<usize>
+    ensures inside { IfSome result (λ at. (is_join_word offset ≡ true) × (at ≡ offset - FORK_JOIN_BYTES) × (at + 4 ≤ MOST_HANDED)) }
+    ensures outside { IsNone result ↔ (is_join_word offset ≡ false) }
+{
+    let at = offset.checked_sub(FORK_JOIN_BYTES)? as usize;
+    if at < MOST_HANDED && at % 4 == 0 {
+        Some(at)
+    } else {
+        None
+    }
+}
+
+// What is asked for by a command that is told by its low byte, if it is one.
+fn other_asked(command: u32, value: u32, address: u32) -> Asked
+    ensures { result ≡ other_asks command value address }
+{
+    if command % 256 != HAND_OVER_COMMAND {
+        return Asked::Refused(UNKNOWN_COMMAND);
+    }
+    let count = command / 256;
+    if count > MOST_HANDED as u32 {
+        Asked::Refused(BAD_ARGUMENT)
+    } else {
+        Asked::ExitWith(value, address, count)
     }
 }
 

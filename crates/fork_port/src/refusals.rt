@@ -9,7 +9,8 @@ pub const ALREADY_CLONED: u32 = 0xffff_fffe;
 /// JOIN of a ticket that was not cloned.
 pub const NOT_CLONED: u32 = 0xffff_fffd;
 
-/// TICKET for no child, or ZERO of no page or of one that is not there.
+/// TICKET for no child, ZERO of no page or of one that is not there, or EXIT with more than 64 bytes or with one that
+/// is not there.
 pub const BAD_ARGUMENT: u32 = 0xffff_fffc;
 
 /// TICKET where the machine has too little left for one child.

@@ -1,5 +1,6 @@
 -- What the parts of a reading tell of the whole.
-use Rattle.std.proofs.Common.{ap, refl, ◌≡◌, ℕ, ◌≤◌, inl, inr, Bool, true, false, cond, List, [], ◌∷◌, ◌++◌, length, append_assoc, Option, Some, None, Result, Ok, Err, IfSome, sym, ◌∙◌, subst, arith, ltb}
+use Rattle.std.proofs.Common.{ap, refl, ◌≡◌, ℕ, ◌≤◌, inl, inr, Bool, true, false, cond, List, [], ◌∷◌, ◌++◌, length}
+use Rattle.std.proofs.Common.{append_assoc, Option, Some, None, Result, Ok, Err, IfSome, sym, ◌∙◌, subst, arith, ltb}
 use Rattle.std.specs.Option.{option_map}
 use Rattle.std.specs.Result.{IsOkAnd, IsErrAnd}
 use Rattle.console_port.specs.declared.port.TheConstants.{MAX_INPUT}
@@ -8,10 +9,12 @@ use Rattle.io_edge.specs.declared.outside.ShelfError.{ShelfError}
 use Rattle.io_edge.specs.declared.outside.ShelfError.TheVariants.{Fault}
 use Rattle.io_edge.specs.Asked.{Asked, asked_after, names_after}
 use Rattle.command_line.specs.Words.{GuestValues}
-use Rattle.guest_files.specs.declared.stop.TheConstants.{IMAGE_MOST, DISK_MOST, IMAGE_LOAD, DISK_LOAD, INPUT_LOAD}
+use Rattle.guest_files.specs.declared.stop.TheConstants.{MAX_IMAGE, MAX_DISK, IMAGE_LOAD, DISK_LOAD, INPUT_LOAD}
 use Rattle.guest_files.specs.declared.stop.Stop.{Stop}
 use Rattle.guest_files.specs.declared.stop.Stop.TheVariants.{ReadFault, ImageRefused, DataRefused, ScriptRefused, WriteFault, Wire, Memory}
-use Rattle.guest_files.specs.Reads.{Files, Refusal, no_meaning, no_file, image_too_long, image_refused, disk_too_long, disk_not_sectors, input_too_long, script_too_long, script_refused, and_then, file_read, option_read, image_read, disk_read, input_read, guest_read, Guest, with_disk, with_image}
+use Rattle.guest_files.specs.Reads.{Files, Refusal, no_meaning, no_file, image_too_long, image_refused, disk_too_long, disk_not_sectors}
+use Rattle.guest_files.specs.Reads.{input_too_long, script_too_long, script_refused, and_then, file_read, option_read}
+use Rattle.guest_files.specs.Reads.{image_read, disk_read, input_read, guest_read, Guest, with_disk, with_image}
 use Rattle.guest_files.specs.Parts.{IsImageRefusal, IsDataRefusal, IsScriptRefusal, last_load_before, last_load, Load, load_of, AreAsked, counted, named, IsFaultOf, Stops, Gives, Makes}
 
 -- ---- a part before others
@@ -168,7 +171,7 @@ image-after : (values : GuestValues) (files : Files) (image : List ℕ) → IMAG
 unfolding disk_read
 image-after values files image =
     after IMAGE_LOAD INPUT_LOAD (disk_read values files) (with_disk values files image)
-    (option-load IMAGE_LOAD DISK_LOAD DISK_MOST INPUT_LOAD disk_too_long values.disk files (omega arith) (omega arith) (omega arith))
+    (option-load IMAGE_LOAD DISK_LOAD MAX_DISK INPUT_LOAD disk_too_long values.disk files (omega arith) (omega arith) (omega arith))
     (λ disk. let later = disk-after values files image disk in omega (arith, later))
 
 -- ---- the loads that were asked for
@@ -236,13 +239,13 @@ Gave read files x = IfSome (option_map read files) (λ r. IsOkAnd r (λ told. x 
 
 -- the load of the name that the values tell is what they read
 pub image-read : (values : GuestValues) (name : List ℕ) → name ≡ values.image
-    → (λ (told : Files). file_read IMAGE_LOAD IMAGE_MOST image_too_long (told name)) ≡ image_read values
+    → (λ (told : Files). file_read IMAGE_LOAD MAX_IMAGE image_too_long (told name)) ≡ image_read values
 unfolding image_read
-image-read values name is_image = ap (λ it (told : Files). file_read IMAGE_LOAD IMAGE_MOST image_too_long (told it)) is_image
+image-read values name is_image = ap (λ it (told : Files). file_read IMAGE_LOAD MAX_IMAGE image_too_long (told it)) is_image
 
-pub disk-read : (values : GuestValues) (name : Option (List ℕ)) → name ≡ values.disk → option_read DISK_LOAD DISK_MOST disk_too_long name ≡ disk_read values
+pub disk-read : (values : GuestValues) (name : Option (List ℕ)) → name ≡ values.disk → option_read DISK_LOAD MAX_DISK disk_too_long name ≡ disk_read values
 unfolding disk_read
-disk-read values name is_disk = ap (option_read DISK_LOAD DISK_MOST disk_too_long) is_disk
+disk-read values name is_disk = ap (option_read DISK_LOAD MAX_DISK disk_too_long) is_disk
 
 pub input-read : (values : GuestValues) (name : Option (List ℕ)) → name ≡ values.input → option_read INPUT_LOAD MAX_INPUT input_too_long name ≡ input_read values
 unfolding input_read

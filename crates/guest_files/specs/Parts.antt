@@ -2,11 +2,13 @@
 use Rattle.std.specs.Prelude.{◌≡◌, ℕ, ◌≤◌, ◌⊎◌, List, [], ◌∷◌, ◌++◌, Option, Some, None, Result, Ok, Err, IfSome, IsSome, IsOkAnd, IsErrAnd}
 use Rattle.io_edge.specs.Outside.{next_count}
 use Rattle.io_edge.specs.Asked.{Asked, names_after}
-use Rattle.guest_files.specs.declared.stop.TheConstants.{TOO_LONG, DISK_TOO_LONG, DISK_NOT_SECTORS, INPUT_TOO_LONG, SCRIPT_TOO_LONG, IMAGE_LOAD, DISK_LOAD, INPUT_LOAD, SCRIPT_LOAD}
+use Rattle.guest_files.specs.declared.stop.TheConstants.{TOO_LONG, DISK_TOO_LONG, DISK_NOT_SECTORS, INPUT_TOO_LONG, SCRIPT_TOO_LONG}
+use Rattle.guest_files.specs.declared.stop.TheConstants.{IMAGE_LOAD, DISK_LOAD, INPUT_LOAD, SCRIPT_LOAD}
 use Rattle.guest_files.specs.declared.stop.Stop.{Stop}
 use Rattle.guest_files.specs.declared.stop.Stop.TheVariants.{ReadFault, ImageRefused, DataRefused, ScriptRefused, WriteFault, Wire, Memory}
 use Rattle.command_line.specs.Words.{Command, GuestValues, run, drive, generated}
-use Rattle.guest_files.specs.Reads.{Refusal, no_meaning, no_file, image_too_long, image_refused, disk_too_long, disk_not_sectors, input_too_long, script_too_long, script_refused}
+use Rattle.guest_files.specs.Reads.{Refusal, no_meaning, no_file, image_too_long, image_refused, disk_too_long}
+use Rattle.guest_files.specs.Reads.{disk_not_sectors, input_too_long, script_too_long, script_refused}
 
 -- ---- refusals
 

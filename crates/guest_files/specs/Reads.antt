@@ -2,7 +2,7 @@
 use Rattle.std.specs.Prelude.{ℕ, nat_lt, if◌then◌else◌, List, [], length, Option, Some, None, Result, Ok, Err}
 use Rattle.console_port.specs.declared.port.TheConstants.{MAX_INPUT}
 use Rattle.command_line.specs.Words.{GuestValues}
-use Rattle.guest_files.specs.declared.stop.TheConstants.{IMAGE_MOST, DISK_MOST, IMAGE_LOAD, DISK_LOAD, INPUT_LOAD}
+use Rattle.guest_files.specs.declared.stop.TheConstants.{MAX_IMAGE, MAX_DISK, IMAGE_LOAD, DISK_LOAD, INPUT_LOAD}
 
 -- why there is no text
 pub data Refusal : Type 0 where
@@ -42,10 +42,10 @@ option_read load most too_long None files = Ok []
 option_read load most too_long (Some name) files = file_read load most too_long (files name)
 
 unfoldable pub image_read : GuestValues → Files → Result (List ℕ) Refusal
-image_read values files = file_read IMAGE_LOAD IMAGE_MOST image_too_long (files values.image)
+image_read values files = file_read IMAGE_LOAD MAX_IMAGE image_too_long (files values.image)
 
 unfoldable pub disk_read : GuestValues → Files → Result (List ℕ) Refusal
-disk_read values files = option_read DISK_LOAD DISK_MOST disk_too_long values.disk files
+disk_read values files = option_read DISK_LOAD MAX_DISK disk_too_long values.disk files
 
 unfoldable pub input_read : GuestValues → Files → Result (List ℕ) Refusal
 input_read values files = option_read INPUT_LOAD MAX_INPUT input_too_long values.input files

@@ -7,7 +7,7 @@ ghost use Rattle.guest_files.specs.Reads.{Refusal, file_read, guest_read, option
 ghost use Rattle.guest_files.specs.Parts.{AreAsked, Gives, IsFaultOf, IsGuestLoad, IsTooLong, guest_loads, load_if, load_of};
 
 use crate::stop::{
-    DISK_LOAD, DISK_MOST, DISK_TOO_LONG, IMAGE_LOAD, IMAGE_MOST, INPUT_LOAD, INPUT_TOO_LONG, Stop,
+    DISK_LOAD, DISK_TOO_LONG, IMAGE_LOAD, INPUT_LOAD, INPUT_TOO_LONG, MAX_DISK, MAX_IMAGE, Stop,
     TOO_LONG,
 };
 use command_line::GuestWords;
@@ -27,20 +27,20 @@ pub struct GuestFiles {
 impl Model for GuestFiles {
     ghost use Rattle.std.specs.Prelude.{◌≤◌, vec_len};
     ghost use Rattle.console_port.specs.declared.port.TheConstants.{MAX_INPUT};
-    ghost use Rattle.guest_files.specs.declared.stop.TheConstants.{DISK_MOST};
+    ghost use Rattle.guest_files.specs.declared.stop.TheConstants.{MAX_DISK};
     ghost use Rattle.guest_files.specs.Reads.{Guest};
 
     ghost Value = { Guest };
 
     ghost view = { λ f. record { image = f.image.items; disk = f.disk.items; input = f.input.items } };
 
-    ghost invariant = { λ f. (vec_len f.disk ≤ DISK_MOST) × (vec_len f.input ≤ MAX_INPUT) };
+    ghost invariant = { λ f. (vec_len f.disk ≤ MAX_DISK) × (vec_len f.input ≤ MAX_INPUT) };
 }
 
 impl GuestFiles {
     /// The files of a guest that is not read.
     pub fn new(image: Vec<u8>, disk: Vec<u8>, input: Vec<u8>) -> GuestFiles
-        requires disk { vec_len disk ≤ DISK_MOST }
+        requires disk { vec_len disk ≤ MAX_DISK }
         requires input { vec_len input ≤ MAX_INPUT }
         ensures { result ≡ record { image = image.items; disk = disk.items; input = input.items } }
     {
@@ -57,7 +57,7 @@ impl GuestFiles {
     /// The bytes of the disk, of which there are none where no disk is named.
     pub fn disk(&self) -> &[u8]
         ensures value { result.now ≡ self.now.disk }
-        ensures most { length result.now ≤ DISK_MOST }
+        ensures most { length result.now ≤ MAX_DISK }
     {
         &self.disk
     }
@@ -85,16 +85,9 @@ pub fn read_guest<S: Shelf>(
     ensures asked { OnOk result (AreAsked (guest_loads guest.now) (S.asked shelf.old) (S.asked shelf.new)) }
 {
     let too_long = Stop::ImageRefused(TOO_LONG);
-    let image = load_file(
-        alloc,
-        shelf,
-        guest.image(),
-        IMAGE_LOAD,
-        IMAGE_MOST,
-        too_long,
-    )?;
+    let image = load_file(alloc, shelf, guest.image(), IMAGE_LOAD, MAX_IMAGE, too_long)?;
     let too_long = Stop::DataRefused(DISK_TOO_LONG);
-    let disk = load_named(alloc, shelf, guest.disk(), DISK_LOAD, DISK_MOST, too_long)?;
+    let disk = load_named(alloc, shelf, guest.disk(), DISK_LOAD, MAX_DISK, too_long)?;
     let too_long = Stop::DataRefused(INPUT_TOO_LONG);
     let input = load_named(alloc, shelf, guest.input(), INPUT_LOAD, MAX_INPUT, too_long)?;
     Ok(GuestFiles { image, disk, input })

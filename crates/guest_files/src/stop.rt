@@ -7,15 +7,15 @@ use cow_disk::{MAX_SECTORS, SECTOR_SIZE};
 use std::alloc::AllocError;
 
 /// The most bytes of an image: 16 MiB.
-pub const IMAGE_MOST: usize = 16 * 1024 * 1024;
+pub const MAX_IMAGE: usize = 16 * 1024 * 1024;
 
 /// The most bytes of a disk.
-pub const DISK_MOST: usize = SECTOR_SIZE * MAX_SECTORS as usize;
+pub const MAX_DISK: usize = SECTOR_SIZE * MAX_SECTORS as usize;
 
-/// The refusal of an image that is over `IMAGE_MOST` bytes.
+/// The refusal of an image that is over `MAX_IMAGE` bytes.
 pub const TOO_LONG: u32 = 13;
 
-/// The refusal of a disk that is over `DISK_MOST` bytes.
+/// The refusal of a disk that is over `MAX_DISK` bytes.
 pub const DISK_TOO_LONG: u32 = 1;
 
 /// The refusal of a disk that is no whole number of sectors.

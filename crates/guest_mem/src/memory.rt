@@ -1,4 +1,4 @@
-ghost use Rattle.std.specs.Prelude.{◌≡◌, ◌⊎◌, ◌+◌, ◌*◌, ◌/◌, ◌%◌, ◌<◌, ◌≤◌, false, length, slice_index_or, MatchResult, OnOk, OnErr, IfOk, IfErr};
+ghost use Rattle.std.specs.Prelude.{◌≡◌, ◌⊎◌, ℕ, ◌+◌, ◌*◌, ◌/◌, ◌%◌, ◌<◌, ◌≤◌, false, drop, length, slice_index, slice_index_or, take, MatchResult, OnOk, OnErr, IfOk, IfErr};
 ghost use Rattle.std.specs.Option.{option_copied};
 ghost use Rattle.byteorder.specs.Endian.{little_from, little_bytes};
 ghost use Rattle.flat_memory.specs.Flat.{word_at, put_bytes};
@@ -94,6 +94,32 @@ impl GuestMem {
             Entry::Held(held) => Ok(number_in(held, at % PAGE_SIZE as u32, width)),
             Entry::Blank => Ok(0),
             Entry::Absent => Err(Absent { page }),
+        }
+    }
+
+    /// Copies bytes of RAM, from an offset on. Their pages are here.
+    pub fn read(&self, at: u32, bytes: &mut [u8])
+        requires inside { at + length bytes.old ≤ length self.now.reads }
+        requires here { (k : ℕ) → k < length bytes.old → IsHere self.now ((at + k) / PAGE_SIZE) }
+        ensures { bytes.new ≡ take (length bytes.old) (drop at self.now.reads) }
+    {
+        // The call tells how large RAM is at most.
+        let _ = self.size();
+        for place in 0..bytes.len() {
+            bytes[place] = self.byte(at + place as u32);
+        }
+    }
+
+    /// The byte at an offset in RAM. Its page is here.
+    fn byte(&self, at: u32) -> u8
+        requires inside { at < length self.now.reads }
+        requires here { IsHere self.now (at / PAGE_SIZE) }
+        ensures { result ≡ slice_index self.now.reads at }
+    {
+        match self.entries.get(at as usize / PAGE_SIZE) {
+            Entry::Held(page) => page.byte(at % PAGE_SIZE as u32),
+            Entry::Blank => 0,
+            Entry::Absent => unreachable!(),
         }
     }
 

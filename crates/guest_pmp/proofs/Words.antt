@@ -1,10 +1,10 @@
 -- Entries match whole words of memory.
-use Rattle.std.proofs.Common.{◌≡◌, ℕ, ◌+◌, ◌-◌, ◌*◌, ◌/◌, ◌%◌, ◌^◌, ◌<◌, ◌≤◌, ◌==◌, ◌&&◌, Bool, true, false, nat_le, nat_lt, refl, sym, ap, ◌∙◌, arith}
+use Rattle.std.proofs.Common.{◌≡◌, ℕ, ◌+◌, ◌*◌, ◌/◌, ◌^◌, ◌<◌, ◌==◌, ◌&&◌, nat_le, nat_lt, refl, sym, ◌∙◌, arith}
 use Rattle.std.proofs.lemmas.Bool.Decides.{nat_tests}
-use Rattle.std.proofs.lemmas.Nat.{div-mul-add, pow_pos}
+use Rattle.std.proofs.lemmas.Nat.{pow_pos}
 use Rattle.std.specs.Int.{w32, trailing_ones}
 use Rattle.guest_pmp.specs.Registers.{matching}
-use Rattle.guest_pmp.specs.Regions.{Entry, ranged, block, entry_of, has}
+use Rattle.guest_pmp.specs.Regions.{Entry, block, entry_of, has}
 
 -- an entry has the word of an address
 pub has-word : (e : Entry) (address word : ℕ) → address / 4 ≡ word → has address e ≡ (nat_le e.first word && nat_lt word e.behind)

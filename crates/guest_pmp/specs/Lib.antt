@@ -1,3 +1,4 @@
 pub mod Allowed
 pub mod Regions
 pub mod Registers
+pub mod Spans

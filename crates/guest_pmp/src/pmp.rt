@@ -1,9 +1,8 @@
 ghost use Rattle.std.specs.Prelude.{◌≡◌, ◌+◌, ◌*◌, ◌/◌, ◌%◌, ◌<◌, ◌≤◌, ◌^◌, ℕ, slice_index};
-ghost use Rattle.guest_pmp.specs.Registers.{IsInRange, IsNumber, at_reset, has_lock, is_guarded, reading, with_address, with_byte, with_word, word_from, written};
+ghost use Rattle.guest_pmp.specs.Registers.{IsInRange, IsNumber, at_reset, has_lock, is_guarded, reading, with_address, with_byte, with_word, written};
 ghost use Rattle.guest_pmp.specs.Allowed.{allowed, IsAccessWidth};
 
-use crate::access::{Access, Mode, has_bit, lets};
-use crate::region::deciding;
+use crate::access::{Access, Mode, has_bit};
 use crate::registers::{PmpRegisters, written_byte};
 use std::marker::Model;
 
@@ -60,12 +59,7 @@ impl Pmp {
         requires { IsNumber number }
         ensures { result ≡ reading self.now number }
     {
-        match number {
-            0x3a0 => self.word(0),
-            0x3a1 => self.word(4),
-            0x3b0..=0x3b7 => self.registers.addresses[(number - 0x3b0) as usize],
-            _ => 0,
-        }
+        self.registers.read(number)
     }
 
     /// Writes the register of this number. Each byte and each address that is locked stays, and so does a byte that
@@ -89,10 +83,7 @@ impl Pmp {
         ensures value { result ≡ allowed self.now access mode address }
         ensures each_byte { (k : ℕ) → k < width → result ≡ allowed self.now access mode (address + k) }
     {
-        match deciding(&self.registers, address / 4) {
-            Some(configuration) => lets(configuration, access, mode),
-            None => mode.is_machine(),
-        }
+        self.registers.allows(access, mode, address, width)
     }
 
     /// Whether an entry is locked. Where none is, machine mode may do anything.
@@ -100,25 +91,7 @@ impl Pmp {
     pub fn has_lock(&self) -> bool
         ensures { result ≡ has_lock self.now }
     {
-        self.registers
-            .configurations
-            .iter()
-            .any(|byte| has_bit(*byte, 7))
-    }
-
-    /// The bytes of four entries from the one at `first` on, as a word.
-    #[inline]
-    fn word(&self, first: usize) -> u32
-        requires { first ≤ 4 }
-        ensures { result ≡ word_from self.now.configurations first }
-    {
-        let bytes = &self.registers.configurations;
-        u32::from_le_bytes([
-            bytes[first],
-            bytes[first + 1],
-            bytes[first + 2],
-            bytes[first + 3],
-        ])
+        self.registers.has_lock()
     }
 
     /// Writes the bytes of four entries from the one at `first` on.

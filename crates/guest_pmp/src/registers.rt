@@ -1,9 +1,11 @@
 //! What the registers of memory protection hold.
 
-ghost use Rattle.std.specs.Prelude.{◌≡◌, ◌<◌, ◌↔◌, IsTrue, slice_index, true};
-ghost use Rattle.guest_pmp.specs.Registers.{IsInRange, is_configuration, kept, written_byte};
+ghost use Rattle.std.specs.Prelude.{◌≡◌, ◌+◌, ◌/◌, ◌%◌, ◌<◌, ◌≤◌, ◌↔◌, ℕ, IsTrue, slice_index, true};
+ghost use Rattle.guest_pmp.specs.Allowed.{allowed, IsAccessWidth};
+ghost use Rattle.guest_pmp.specs.Registers.{IsInRange, IsNumber, has_lock, is_configuration, kept, reading, word_from, written_byte};
 
-use crate::access::has_bit;
+use crate::access::{Access, Mode, has_bit, lets};
+use crate::region::deciding;
 
 /// How many entries there are.
 pub const ENTRIES: usize = 8;
@@ -36,6 +38,57 @@ impl PmpRegisters {
         self.configurations
             .iter()
             .all(|byte| is_configuration(*byte))
+    }
+
+    /// What the register of this number reads.
+    pub fn read(&self, number: u32) -> u32
+        requires { IsNumber number }
+        ensures { result ≡ reading self.now number }
+    {
+        match number {
+            0x3a0 => self.word(0),
+            0x3a1 => self.word(4),
+            0x3b0..=0x3b7 => self.addresses[(number - 0x3b0) as usize],
+            _ => 0,
+        }
+    }
+
+    /// Whether an access of `width` bytes at an address, which is a multiple of it, is allowed in this mode.
+    pub fn allows(&self, access: Access, mode: Mode, address: u32, width: u32) -> bool
+        requires width { IsAccessWidth width }
+        requires aligned { address % width ≡ 0 }
+        ensures value { result ≡ allowed self.now access mode address }
+        ensures each_byte { (k : ℕ) → k < width → result ≡ allowed self.now access mode (address + k) }
+    {
+        match deciding(self, address / 4) {
+            Some(configuration) => lets(configuration, access, mode),
+            None => mode.is_machine(),
+        }
+    }
+
+    /// Whether an entry is locked. Where none is, machine mode may do anything.
+    #[inline]
+    pub fn has_lock(&self) -> bool
+        requires { IsInRange self.now }
+        ensures { result ≡ has_lock self.now }
+    {
+        // One mask tells of all bytes: it is asked at each step that is made by itself.
+        u64::from_le_bytes(self.configurations) & 0x8080_8080_8080_8080 != 0
+    }
+
+    /// The bytes of four entries from the one at `first` on, as a word.
+    #[inline]
+    fn word(&self, first: usize) -> u32
+        requires { first ≤ 4 }
+        ensures { result ≡ word_from self.now.configurations first }
+    {
+        let bytes = &self.configurations;
+        u32::from_le_bytes([
+            bytes[first],
+            bytes[first + 1],
+            bytes[first + 2],
+            bytes[first + 3],
+        ])
     }
 }
 

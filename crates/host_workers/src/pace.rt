@@ -7,7 +7,7 @@ const LONG: u64 = 1000;
 const VERY_LONG: u64 = 256_000;
 
 /// The most slices that are run at once.
-const MOST_SLICES: u64 = 256;
+const MAX_SLICES: u64 = 256;
 
 /// How many times as long as the last a stretch is. Each begins with an empty cache of decoded instructions, so few that
 /// grow fast are better than many.
@@ -50,7 +50,7 @@ impl Pace {
 
     pub(crate) fn lengthen(&mut self) {
         self.made = self.made.saturating_add(self.steps());
-        let most = self.slice.saturating_mul(MOST_SLICES);
+        let most = self.slice.saturating_mul(MAX_SLICES);
         self.steps = self.steps.saturating_mul(GROWTH).min(most);
     }
 

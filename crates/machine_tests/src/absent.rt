@@ -11,7 +11,7 @@ use crate::fetched::fetches_two;
 use crate::guests::{run, step};
 use crate::machine::{Course, machine_does, run_and_fork};
 use elf_load::RAM_BASE;
-use forest_model::Ending;
+use forest_model::{Ending, Handed};
 use image_depot::Depot;
 use std::alloc::{AllocError, Global};
 use std::process::Abort;
@@ -57,8 +57,10 @@ pub(crate) enum Deed {
     Steps(Stepped),
     // It runs until something keeps it.
     Runs(Stepped),
-    // It runs on, and has ended.
-    Ends(Ending),
+    // It runs on, and has exited with this value and no bytes.
+    Ends(u32),
+    // The same with four bytes that it handed over.
+    HandsOver(u32, [u8; 4]),
     // It has made so many steps.
     Made(u64),
 }
@@ -111,7 +113,10 @@ fn does(rt: &impl Abort, alloc: Global, child: &mut Vm, depot: &Depot, name: &st
         Deed::Brings(page, want) => is_brought(rt, alloc, child, depot, name, *page, want),
         Deed::Steps(want) => steps(rt, child, name, want),
         Deed::Runs(want) => runs(rt, child, name, want),
-        Deed::Ends(want) => ends(rt, child, name, *want),
+        Deed::Ends(value) => ends(rt, child, name, Ending::Exit(*value, Handed::none())),
+        Deed::HandsOver(value, bytes) => {
+            ends(rt, child, name, Ending::Exit(*value, Handed::of(bytes)))
+        }
         Deed::Made(made) => are_equal_at(rt, name, &child.steps(), made),
     }
 }
@@ -157,7 +162,7 @@ fn goes_its_course<R: Abort + Wait>(
 }
 
 // Runs a machine to its CLONE of one child, which then goes its course.
-pub(crate) fn bears<R: Abort + Wait>(
+pub(crate) fn forks_a_child<R: Abort + Wait>(
     rt: &R,
     alloc: Global,
     vm: &mut Vm,
@@ -180,11 +185,11 @@ pub(crate) fn child_does<R: Abort + Wait>(
     course: ChildCourse<'_>,
 ) {
     assert!(rt; base % 4 == 0 && words.len() <= 64);
-    machine_does(rt, alloc, base, words, 16, &Course::Bears(course));
+    machine_does(rt, alloc, base, words, 16, &Course::Forks(course));
 }
 
 // Guests by their names, from a base on, and what is done with the child of each, one after another.
-static CHILDREN: [(&str, u32, &[u32], &[Deed]); 6] = [
+static CHILDREN: [(&str, u32, &[u32], &[Deed]); 9] = [
     // The first instruction of the child is a load from another page.
     // A word of page 1 becomes 17, and one child is born, which exits with that word.
     (
@@ -203,7 +208,7 @@ static CHILDREN: [(&str, u32, &[u32], &[Deed]); 6] = [
             Deed::Steps(Stepped::Stall(1)),
             Deed::Runs(Stepped::Stall(1)),
             Deed::Brings(1, Arrived::Got(1)),
-            Deed::Ends(Ending::Exit(17)),
+            Deed::Ends(17),
             Deed::Made(16),
         ],
     ),
@@ -221,7 +226,7 @@ static CHILDREN: [(&str, u32, &[u32], &[Deed]); 6] = [
             Deed::Brings(1, Arrived::Got(1)),
             Deed::Runs(Stepped::Stall(2)),
             Deed::Brings(2, Arrived::Got(2)),
-            Deed::Ends(Ending::Exit(17)),
+            Deed::Ends(17),
         ],
     ),
     // The child stores to page 1 by an SC for which nothing is reserved, and exits with what that tells.
@@ -236,7 +241,7 @@ static CHILDREN: [(&str, u32, &[u32], &[Deed]); 6] = [
         &[
             Deed::Runs(Stepped::Stall(0)),
             Deed::Brings(0, Arrived::Got(0)),
-            Deed::Ends(Ending::Exit(1)),
+            Deed::Ends(1),
         ],
     ),
     // The child loads a word of page 1 from an address that is no multiple of 4, and traps to address 0.
@@ -266,7 +271,59 @@ static CHILDREN: [(&str, u32, &[u32], &[Deed]); 6] = [
         &[
             Deed::Runs(Stepped::Stall(0)),
             Deed::Brings(0, Arrived::Got(0)),
-            Deed::Ends(Ending::Exit(0)),
+            Deed::Ends(0),
+        ],
+    ),
+    // The child hands over two bytes of page 1 and two of page 2.
+    (
+        "the lower page of bytes that are handed over is wanted before the higher",
+        RAM_BASE,
+        &[
+            0x100022b7, 0x800023b7, 0xfe53ae23, 0x0053a023, 0x00100313, 0x0062a023, 0x0002a223,
+            0x0062a423, 0x00c2a383, 0x0072a023, 0x00200313, 0x0062a423, 0x80002337, 0xffe30313,
+            0x0062a223, 0x40700313, 0x0062a423,
+        ],
+        &[
+            Deed::Brings(0, Arrived::Got(0)),
+            Deed::Runs(Stepped::Stall(1)),
+            Deed::Brings(1, Arrived::Got(1)),
+            Deed::Wants(Some(2)),
+            Deed::Steps(Stepped::Stall(2)),
+            Deed::Runs(Stepped::Stall(2)),
+            Deed::Brings(2, Arrived::Got(2)),
+            Deed::HandsOver(1, [0x00, 0x10, 0x00, 0x20]),
+            Deed::Made(17),
+        ],
+    ),
+    // CLONE is the last word of page 0, and the child hands over two bytes of it and two of its own first word.
+    (
+        "the page of the code is wanted before a lower page of the bytes",
+        0x8000_0fdc,
+        &[
+            0x100022b7, 0x00100313, 0x0062a023, 0x0002a223, 0x0062a423, 0x00c2a383, 0x0072a023,
+            0x00200313, 0x0062a423, 0x80001337, 0xffe30313, 0x0062a223, 0x40700313, 0x0062a423,
+        ],
+        &[
+            Deed::Wants(Some(1)),
+            Deed::Brings(1, Arrived::Got(1)),
+            Deed::Runs(Stepped::Stall(0)),
+            Deed::Brings(0, Arrived::Got(0)),
+            Deed::HandsOver(1, [0x62, 0x00, 0x37, 0x13]),
+            Deed::Made(14),
+        ],
+    ),
+    // The child hands over no bytes, from the word of page 1 that its parent wrote.
+    (
+        "no bytes want no page",
+        RAM_BASE,
+        &[
+            0x100022b7, 0x800014b7, 0x0054a023, 0x00100313, 0x0062a023, 0x0002a223, 0x0062a423,
+            0x00c2a383, 0x0072a023, 0x00200313, 0x0062a423, 0x0092a223, 0x00700313, 0x0062a423,
+        ],
+        &[
+            Deed::Runs(Stepped::Stall(0)),
+            Deed::Brings(0, Arrived::Got(0)),
+            Deed::Ends(1),
         ],
     ),
     // The timer is due when the child is born, and the handler is in page 2.

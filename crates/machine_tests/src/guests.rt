@@ -20,7 +20,15 @@ pub(crate) static TWO_CHILDREN: [u32; 25] = [
     0x0062a423,
 ];
 
-// The same, but that it kills its children, tries to join them, and exits with the refusal.
+// The same, but that each child hands over its first word, and the parent exits with that of the first.
+pub(crate) static JOIN_BYTES: [u32; 27] = [
+    0x100022b7, 0x00200313, 0x0062a023, 0x0002a223, 0x00100313, 0x0062a423, 0x00c2a383, 0x0072a023,
+    0x00200313, 0x0062a423, 0x0102a403, 0x02041463, 0x00300313, 0x0072a023, 0x0062a423, 0x00100313,
+    0x0062ac23, 0x0402a303, 0x0062a023, 0x00500313, 0x0062a423, 0x02840313, 0x0062a023, 0x800004b7,
+    0x0092a223, 0x40700313, 0x0062a423,
+];
+
+// TWO_CHILDREN, but that it kills its children, tries to join them, and exits with the refusal.
 pub(crate) static KILL_THEN_JOIN: [u32; 25] = [
     0x100022b7, 0x00200313, 0x0062a023, 0x0002a223, 0x00100313, 0x0062a423, 0x00c2a383, 0x0072a023,
     0x00200313, 0x0062a423, 0x0102a403, 0x02041463, 0x00400313, 0x0072a023, 0x0062a423, 0x00300313,
@@ -88,7 +96,7 @@ pub(crate) fn loaded_at(
     requires base { base % 4 ≡ 0 }
     requires words { length words.now ≤ 64 }
     requires least { 16 ≤ pages }
-    requires most { pages ≤ 1024 }
+    requires most { pages ≤ 16_384 }
 {
     let file = succeeds(rt, elf_of(alloc, base, words));
     succeeds(rt, load_elf(alloc, &file, pages))
@@ -100,7 +108,7 @@ pub(crate) fn booted_at(rt: &impl Abort, alloc: Global, base: u32, words: &[u32]
     requires base { base % 4 ≡ 0 }
     requires words { length words.now ≤ 64 }
     requires least { 16 ≤ pages }
-    requires most { pages ≤ 1024 }
+    requires most { pages ≤ 16_384 }
     ensures no_ticket { (port_of result.machine).tickets ≡ [] }
     ensures no_image { result.key ≡ None }
 {

@@ -5,11 +5,11 @@ ghost use Rattle.image_depot.specs.Key.{IsKeyOf};
 ghost use Rattle.vm_cell.specs.Keyed.{IsOfDepot};
 ghost use Rattle.vm_cell.specs.Woken.{AreOfImage};
 
-use crate::absent::{ChildCourse, bears, bring};
+use crate::absent::{ChildCourse, bring, forks_a_child};
 use crate::equal::{are_equal, succeeds};
 use crate::guests::{TWO_CHILDREN, booted_at, run, step};
 use elf_load::RAM_BASE;
-use forest_model::Ending;
+use forest_model::{Ending, Handed};
 use fork_port::Call;
 use image_depot::Depot;
 use std::alloc::{AllocError, Global};
@@ -31,8 +31,10 @@ pub(crate) enum Course<'a> {
     Joins,
     // It makes two children, the first of which has a descriptor.
     Describes,
+    // The same, and so its descriptor tells of pages.
+    TellsOfPages(&'a [u8]),
     // It makes a child, which goes a course of its own.
-    Bears(ChildCourse<'a>),
+    Forks(ChildCourse<'a>),
 }
 
 fn goes_its_course<R: Abort + Wait>(
@@ -49,7 +51,8 @@ fn goes_its_course<R: Abort + Wait>(
         Course::GoesOn => goes_on(rt, vm),
         Course::Joins => joins_both(rt, alloc, vm, depot),
         Course::Describes => describes_a_child(rt, alloc, vm, depot),
-        Course::Bears(child) => bears(rt, alloc, vm, depot, child),
+        Course::TellsOfPages(map) => tells_of_pages(rt, alloc, vm, depot, map),
+        Course::Forks(child) => forks_a_child(rt, alloc, vm, depot, child),
     }
 }
 
@@ -65,7 +68,7 @@ pub(crate) fn machine_does<R: Abort + Wait>(
     requires base { base % 4 ≡ 0 }
     requires words { length words.now ≤ 64 }
     requires least { 16 ≤ pages }
-    requires most { pages ≤ 1024 }
+    requires most { pages ≤ 16_384 }
 {
     let depot = succeeds(rt, Depot::new(alloc));
     let mut vm = booted_at(rt, alloc, base, words, pages);
@@ -115,7 +118,7 @@ fn goes_on(rt: &impl Abort, vm: &mut Vm) {
     let stops = [ran.why, step(rt, vm), step(rt, vm), step(rt, vm)];
     let last = run(rt, vm, 3);
     let steps = [ran.steps, last.steps, vm.steps()];
-    let ended = Stepped::Ended(Ending::Exit(7));
+    let ended = Stepped::Ended(exit(7));
     let want = [Stepped::Went, Stepped::Went, ended, ended];
     are_equal(rt, &(steps, stops), &([3, 0, 5], want));
 }
@@ -210,22 +213,30 @@ fn joins_both<R: Abort + Wait>(rt: &R, alloc: Global, vm: &mut Vm, depot: &Depot
     let clones = run(rt, vm, 1000).why;
     let endings = ends_of_both(rt, alloc, vm, depot);
     let joins = run(rt, vm, 1000).why;
-    join(rt, vm, &ENDINGS);
+    let both = endings_of_both();
+    join(rt, vm, &both);
     let ends = run(rt, vm, 1000).why;
     let stops = [
         Stepped::Call(Call::Clone(1)),
         Stepped::Call(Call::Join(1)),
-        Stepped::Ended(Ending::Exit(41)),
+        Stepped::Ended(exit(41)),
     ];
     are_equal(
         rt,
         &(endings, [clones, joins, ends], vm.steps()),
-        &(ENDINGS.map(Some), stops, 21),
+        &(both.map(Some), stops, 21),
     );
 }
 
 /// How both children end.
-static ENDINGS: [Ending; 2] = [Ending::Exit(41), Ending::Exit(42)];
+fn endings_of_both() -> [Ending; 2] {
+    [41, 42].map(exit)
+}
+
+/// EXIT with a value and no bytes.
+fn exit(value: u32) -> Ending {
+    Ending::Exit(value, Handed::none())
+}
 
 fn ends_of_both<R: Abort + Wait>(
     rt: &R,
@@ -244,7 +255,7 @@ fn ends_of_both<R: Abort + Wait>(
 
 /// Bytes of the descriptor of the first child, by their places.
 static FIRST_CHILD: [(usize, &[u8]); 10] = [
-    (0, b"SFD2"),
+    (0, b"SFD3"),
     (12, b"\x01\0\0\0\0\0\0\0\x28\0\0\x80"),
     (40, b"\0\x20\0\x10\x02\0\0\0\x01\0\0\0"),
     (148, b"\0\x18\0\0"),
@@ -253,21 +264,21 @@ static FIRST_CHILD: [(usize, &[u8]); 10] = [
     (224, b"\0\0\0\0\0\0\0\0"),
     (248, b"\x01\0\0\0"),
     (260, b"\x02\0\0\0"),
-    (776, b"\0\xfe\xff"),
+    (816, b"\0\xfe\xff"),
 ];
 
 /// How long those bytes are and an 0xff behind them are cut, a byte at a place, and the reason for which they are refused
 /// then.
 static REFUSED: [(usize, usize, u8, u32); 9] = [
     (775, 0, b'S', 1),
-    (778, 0, b'S', 4),
-    (779, 0, 0, 2),
-    (779, 8, 0x0f, 3),
-    (779, 8, 0x11, 4),
-    (779, 12, 0, 5),
-    (779, 20, 0x29, 5),
-    (780, 0, b'S', 4),
-    (780, 8, 20, 6),
+    (818, 0, b'S', 4),
+    (819, 0, 0, 2),
+    (819, 8, 0x0f, 3),
+    (819, 8, 0x11, 4),
+    (819, 12, 0, 5),
+    (819, 20, 0x29, 5),
+    (820, 0, b'S', 4),
+    (820, 8, 20, 6),
 ];
 
 // The reason for which bytes are refused, if they are.
@@ -295,7 +306,7 @@ fn describes_a_child<R: Abort + Wait>(rt: &R, alloc: Global, vm: &mut Vm, depot:
 }
 
 fn is_read_or_refused(rt: &impl Abort, alloc: Global, bytes: &[u8]) {
-    are_equal(rt, &(bytes.len(), misplaced(bytes)), &(779, None));
+    are_equal(rt, &(bytes.len(), misplaced(bytes)), &(819, None));
     is_spelled(rt, alloc, bytes);
     for (length, at, byte, number) in REFUSED.iter() {
         is_refused(rt, alloc, bytes, (*length, *at, *byte), *number);
@@ -310,6 +321,31 @@ fn misplaced(bytes: &[u8]) -> Option<usize> {
         }
     }
     None
+}
+
+// The form of the map of pages and the map, which stand last. Page 0 alone is not blank.
+#[test]
+fn descriptors_tell_of_pages(rt: HostRuntime) {
+    tells_at(&rt, rt.alloc(), 16, b"\0\xfe\xff");
+    tells_at(&rt, rt.alloc(), 1024, b"\x01\x01\0\xff\x03");
+    tells_at(&rt, rt.alloc(), 16_384, b"\x01\x01\0\xff\x3f");
+}
+
+fn tells_at<R: Abort + Wait>(rt: &R, alloc: Global, pages: u32, map: &[u8])
+    requires least { 16 ≤ pages }
+    requires most { pages ≤ 16_384 }
+{
+    let course = Course::TellsOfPages(map);
+    machine_does(rt, alloc, RAM_BASE, &TWO_CHILDREN, pages, &course);
+}
+
+fn tells_of_pages<R: Abort + Wait>(rt: &R, alloc: Global, vm: &mut Vm, depot: &Depot, map: &[u8])
+    requires { IsOfDepot depot.now vm.old.key }
+{
+    let brood = run_and_fork(rt, alloc, vm, 2, depot);
+    let bytes = brood.seed.bytes();
+    are_equal(rt, &bytes.split_at(bytes.len().min(816)).1, &map);
+    is_spelled(rt, alloc, bytes);
 }
 
 // Bytes are read, and what they are read as has the same bytes.

@@ -5,11 +5,12 @@ use console_port::MAX_INPUT;
 use drive_script::{MAX_PAGE, MAX_PLACE, MAX_SCRIPT, MAX_STEPS};
 use elf_load::{MAX_PAGES, MIN_PAGES, PAGE_SIZE, RAM_BASE};
 use forest_model::cause::{
-    BREAKPOINT, ENVIRONMENT_CALL, ILLEGAL_INSTRUCTION, INSTRUCTION_ACCESS_FAULT,
-    INSTRUCTION_ADDRESS_MISALIGNED, LOAD_ACCESS_FAULT, LOAD_ADDRESS_MISALIGNED, STORE_ACCESS_FAULT,
-    STORE_ADDRESS_MISALIGNED,
+    BREAKPOINT, ENVIRONMENT_CALL_FROM_MACHINE, ENVIRONMENT_CALL_FROM_USER, ILLEGAL_INSTRUCTION,
+    INSTRUCTION_ACCESS_FAULT, INSTRUCTION_ADDRESS_MISALIGNED, LOAD_ACCESS_FAULT,
+    LOAD_ADDRESS_MISALIGNED, STORE_ACCESS_FAULT, STORE_ADDRESS_MISALIGNED,
 };
 use forest_model::port_map::{BLOCK_BASE, CONSOLE_BASE, FORK_BASE, TIMER_BASE};
+use host_fetch::MAX_AHEAD;
 use rv_traps::TIMER_INTERRUPT;
 use std::process::Abort;
 use vm_descriptor::{MAX_CLONES, MAX_LIMIT, MAX_SHARE};
@@ -24,7 +25,7 @@ static ADDRESSES: [(u32, u32); 5] = [
 ];
 
 /// The causes of traps.
-static CAUSES: [(u32, u32); 10] = [
+static CAUSES: [(u32, u32); 11] = [
     (INSTRUCTION_ADDRESS_MISALIGNED, 0),
     (INSTRUCTION_ACCESS_FAULT, 1),
     (ILLEGAL_INSTRUCTION, 2),
@@ -33,17 +34,19 @@ static CAUSES: [(u32, u32); 10] = [
     (LOAD_ACCESS_FAULT, 5),
     (STORE_ADDRESS_MISALIGNED, 6),
     (STORE_ACCESS_FAULT, 7),
-    (ENVIRONMENT_CALL, 11),
+    (ENVIRONMENT_CALL_FROM_USER, 8),
+    (ENVIRONMENT_CALL_FROM_MACHINE, 11),
     (TIMER_INTERRUPT, 0x8000_0007),
 ];
 
-/// The least pages of a guest and the most, its most clones, the greatest share, and the most steps, the greatest
-/// page and the greatest place of a line of a script.
-static LIMITS: [(u32, u32); 7] = [
+/// The least pages of a guest and the most, its most clones, the greatest share, the most pages that are asked for beside
+/// one, and the most steps, the greatest page and the greatest place of a line of a script.
+static LIMITS: [(u32, u32); 8] = [
     (MIN_PAGES, 16),
     (MAX_PAGES, 16_384),
     (MAX_CLONES, 4096),
     (MAX_SHARE, 4095),
+    (MAX_AHEAD, 16),
     (MAX_STEPS, 1_000_000_000),
     (MAX_PAGE, 4_294_967_295),
     (MAX_PLACE, 4_294_967_295),

@@ -7,7 +7,8 @@ ghost use Rattle.machine_names.specs.NameOrder.{path_cmp};
 
 use crate::equal::{are_equal, succeeds};
 use crate::names::has_text;
-use forest_model::Ending;
+use forest_model::{Ending, Handed};
+use fork_port::MOST_HANDED;
 use io_edge::MemSink;
 use machine_names::Name;
 use run_report::{Line, Outcome, report_into};
@@ -125,7 +126,13 @@ static VALUES: [(u32, u32); 2] = [(1, 41), (2, 42)];
 /// A child of the family, by its number.
 fn child_of(rt: &impl Abort, alloc: Global, root: &Name, index: u32, value: u32) -> Outcome {
     let name = succeeds(rt, root.child(alloc, 1, index));
-    silent(name, Ending::Exit(value), 16, Vec::new(alloc), alloc)
+    silent(
+        name,
+        Ending::Exit(value, Handed::none()),
+        16,
+        Vec::new(alloc),
+        alloc,
+    )
 }
 
 /// The family of a root and two children.
@@ -135,7 +142,7 @@ fn family(rt: &impl Abort, alloc: Global) -> Outcome {
     for (index, value) in VALUES.iter() {
         join(rt, &mut log, child_of(rt, alloc, &root, *index, *value));
     }
-    silent(root, Ending::Exit(41), 21, log, alloc)
+    silent(root, Ending::Exit(41, Handed::none()), 21, log, alloc)
 }
 
 #[test]
@@ -144,15 +151,16 @@ fn children_come_after_their_parent(rt: HostRuntime) {
     is_reported(&rt, rt.alloc(), &outcome, FAMILY);
 }
 
-/// How a machine ends that has killed a ticket of two children, after how many steps, and what is reported of it.
-static KILLED: [(Ending, u64, &[u8]); 2] = [
+/// With which value a machine exits that has killed a ticket of two children, or none where it meets its limit, after how
+/// many steps, and what is reported of it.
+static KILLED: [(Option<u32>, u64, &[u8]); 2] = [
     (
-        Ending::Limit,
+        None,
         10,
         b"machine 0 limit steps 10 out 0\n\nticket 0.1 killed 2\n",
     ),
     (
-        Ending::Exit(4_294_967_295),
+        Some(4_294_967_295),
         21,
         b"machine 0 exit 4294967295 steps 21 out 0\n\nticket 0.1 killed 2\n",
     ),
@@ -160,9 +168,41 @@ static KILLED: [(Ending, u64, &[u8]); 2] = [
 
 #[test]
 fn killed_tickets_are_told(rt: HostRuntime) {
-    for (ending, steps, text) in KILLED.iter() {
-        is_told(&rt, rt.alloc(), *ending, *steps, text);
+    for (value, steps, text) in KILLED.iter() {
+        is_told(&rt, rt.alloc(), ending_of(*value), *steps, text);
     }
+}
+
+fn ending_of(value: Option<u32>) -> Ending {
+    match value {
+        Some(value) => Ending::Exit(value, Handed::none()),
+        None => Ending::Limit,
+    }
+}
+
+/// Bytes that a machine hands over, and what is reported of it.
+static HANDED: [(&[u8], &[u8]); 3] = [
+    (b"", b"machine 0 exit 7 steps 7 out 0\n\n"),
+    (b"\x0a", b"machine 0 exit 7 steps 7 out 0 handed 0a\n\n"),
+    (
+        b"\xb7\x22\x00\x10",
+        b"machine 0 exit 7 steps 7 out 0 handed b7220010\n\n",
+    ),
+];
+
+#[test]
+fn bytes_that_are_handed_over_are_told(rt: HostRuntime) {
+    for (bytes, text) in HANDED.iter() {
+        hands_over(&rt, rt.alloc(), bytes, text);
+    }
+}
+
+fn hands_over(rt: &impl Abort, alloc: Global, bytes: &[u8], text: &[u8]) {
+    assert!(rt; bytes.len() <= MOST_HANDED);
+    let root = succeeds(rt, Name::root(alloc));
+    let ending = Ending::Exit(7, Handed::of(bytes));
+    let outcome = silent(root, ending, 7, Vec::new(alloc), alloc);
+    is_reported(rt, alloc, &outcome, text);
 }
 
 fn is_told(rt: &impl Abort, alloc: Global, ending: Ending, steps: u64, text: &[u8]) {
@@ -176,7 +216,7 @@ fn is_told(rt: &impl Abort, alloc: Global, ending: Ending, steps: u64, text: &[u
 fn grandchild_of(rt: &impl Abort, alloc: Global, child: &Name) -> Outcome {
     let name = succeeds(rt, child.child(alloc, 1, 1));
     let log = log_of(rt, alloc, &name, 7, 3);
-    silent(name, Ending::Exit(17), 29, log, alloc)
+    silent(name, Ending::Exit(17, Handed::none()), 29, log, alloc)
 }
 
 /// Its parent, which has killed one too.
@@ -194,7 +234,7 @@ fn three_levels(rt: &impl Abort, alloc: Global) -> Outcome {
     let mut log = log_of(rt, alloc, &root, 3, 5);
     let child = succeeds(rt, root.child(alloc, 1, 1));
     join(rt, &mut log, two_levels(rt, alloc, child));
-    silent(root, Ending::Exit(17), 26, log, alloc)
+    silent(root, Ending::Exit(17, Handed::none()), 26, log, alloc)
 }
 
 #[test]
@@ -334,7 +374,7 @@ fn chain(rt: &impl Abort, alloc: Global) -> Outcome {
     let mut log = Vec::new(alloc);
     add_chain(rt, alloc, &mut log);
     let root = succeeds(rt, Name::root(alloc));
-    silent(root, Ending::Exit(0), 19, log, alloc)
+    silent(root, Ending::Exit(0, Handed::none()), 19, log, alloc)
 }
 
 /// Adds the lines of the machines below the root.
@@ -349,7 +389,13 @@ fn add_chain(rt: &impl Abort, alloc: Global, log: &mut Vec<Line>) {
 /// A machine of the chain that has ended.
 fn ended(rt: &impl Abort, alloc: Global, name: &Name) -> Outcome {
     let name = succeeds(rt, name.copy());
-    silent(name, Ending::Exit(0), 19, Vec::new(alloc), alloc)
+    silent(
+        name,
+        Ending::Exit(0, Handed::none()),
+        19,
+        Vec::new(alloc),
+        alloc,
+    )
 }
 
 /// Its report fills the buffer many times, and a put ends anywhere in a name.

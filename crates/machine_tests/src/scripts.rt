@@ -1,7 +1,7 @@
 //! Scripts: texts in form, and others, each with the line and the kind by which it is refused.
 
 use crate::equal::{are_equal, succeeds};
-use drive_script::{Line, MAX_SCRIPT, Script, ScriptError, read_script};
+use drive_script::{MAX_SCRIPT, Script, ScriptError, ScriptLine, read_script};
 use std::alloc::{AllocError, Global};
 use std::process::Abort;
 
@@ -26,14 +26,14 @@ fn said(rt: &impl Abort, alloc: Global, script: &Script) -> String {
     text
 }
 
-fn said_of(alloc: Global, line: &Line) -> Result<String, AllocError> {
+fn said_of(alloc: Global, line: &ScriptLine) -> Result<String, AllocError> {
     match line {
-        Line::Step { name, most } => format!(in alloc; "step {name} {most}\n"),
-        Line::Ask { name } => format!(in alloc; "ask {name}\n"),
-        Line::Push { name, page } => format!(in alloc; "push {name} {page}\n"),
-        Line::Give { name, place } => format!(in alloc; "give {name} {place}\n"),
-        Line::Peek { name, address } => format!(in alloc; "peek {name} {address:08x}\n"),
-        Line::Regs { name } => format!(in alloc; "regs {name}\n"),
+        ScriptLine::Step { name, most } => format!(in alloc; "step {name} {most}\n"),
+        ScriptLine::Ask { name } => format!(in alloc; "ask {name}\n"),
+        ScriptLine::Push { name, page } => format!(in alloc; "push {name} {page}\n"),
+        ScriptLine::Give { name, place } => format!(in alloc; "give {name} {place}\n"),
+        ScriptLine::Peek { name, address } => format!(in alloc; "peek {name} {address:08x}\n"),
+        ScriptLine::Regs { name } => format!(in alloc; "regs {name}\n"),
     }
 }
 

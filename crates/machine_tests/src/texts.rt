@@ -7,6 +7,9 @@ use std::alloc::{AllocError, Global};
 pub static TWO_CHILDREN: &[u8] =
     b"machine 0 exit 41 steps 21 out 0\n\nmachine 0.1.1 exit 41 steps 16 out 0\n\nmachine 0.1.2 exit 42 steps 16 out 0\n\n";
 
+pub static JOIN_BYTES: &[u8] =
+    b"machine 0 exit 268444343 steps 21 out 0\n\nmachine 0.1.1 exit 41 steps 18 out 0 handed b7220010\n\nmachine 0.1.2 exit 42 steps 18 out 0 handed b7220010\n\n";
+
 pub static KILL_THEN_JOIN: &[u8] =
     b"machine 0 exit 4294967295 steps 21 out 0\n\nticket 0.1 killed 2\n";
 

@@ -5,7 +5,8 @@ ghost use Rattle.std.specs.Prelude.{◌≤◌, length};
 use crate::equal::{are_equal, succeeds};
 use crate::families::{Ended, end_by, heard_of, is_given_after_a_join, is_left, is_stopped};
 use crate::guests::{
-    GRANDCHILD, KILL_BUSY_CHILDREN, KILL_THEN_JOIN, LONG_CHAIN, THOUSAND_CHILDREN, TWO_CHILDREN,
+    GRANDCHILD, JOIN_BYTES, KILL_BUSY_CHILDREN, KILL_THEN_JOIN, LONG_CHAIN, THOUSAND_CHILDREN,
+    TWO_CHILDREN,
 };
 use crate::texts;
 use host_workers::MAX_WORKERS;
@@ -70,13 +71,13 @@ fn each_ends_with<R: AllocGlobal + Threads + Wait + Abort + Sync>(
     rt: &R,
     words: &[u32],
     clones: u32,
-    crews: &[(u32, u32)],
+    runs: &[(u32, u32)],
     text: &[u8],
 )
     requires words { length words.now ≤ 64 }
     requires clones { clones ≤ 4096 }
 {
-    for (workers, slice) in crews {
+    for (workers, slice) in runs {
         let workers = (*workers).clamp(1, 64);
         family_ends_with(rt, words, clones, workers, *slice, text);
     }
@@ -102,6 +103,11 @@ fn long_chain(rt: HostRuntime) {
 #[test]
 fn grandchild(rt: HostRuntime) {
     each_ends_with(&rt, &GRANDCHILD, 2, &ALL, texts::GRANDCHILD);
+}
+
+#[test]
+fn join_bytes(rt: HostRuntime) {
+    each_ends_with(&rt, &JOIN_BYTES, 2, &ALL, texts::JOIN_BYTES);
 }
 
 #[test]

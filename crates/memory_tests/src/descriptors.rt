@@ -5,6 +5,7 @@ use crate::changes::changed;
 use crate::equal::{are_equal, made};
 use block_port::{BlockFields, Status};
 use console_port::ConsoleFields;
+use guest_pmp::{Mode, PmpRegisters};
 use rv_traps::{CsrRegisters, Csrs};
 use std::alloc::Global;
 use std::process::Abort;
@@ -87,7 +88,8 @@ fn marked_buffer() -> [u8; 512] {
 /// Registers that all differ, in their ranges.
 fn numbered_csrs() -> CsrRegisters {
     CsrRegisters {
-        mstatus: 0x1888,
+        mode: Mode::User,
+        mstatus: 0x2_1888,
         mie: 0x80,
         mtvec: 0x8000_0101,
         mscratch: 0x0201_0101,
@@ -96,6 +98,24 @@ fn numbered_csrs() -> CsrRegisters {
         mtval: 0x0201_0102,
         mcycle: 0x0302_0101_0101_0101,
         minstret: 0x0302_0101_0101_0102,
+        pmp: no_entries(),
+    }
+}
+
+/// Entries of memory protection that all differ.
+fn numbered_entries() -> PmpRegisters {
+    PmpRegisters {
+        configurations: [0x01, 0x03, 0x04, 0x05, 0x07, 0x0f, 0x18, 0x9f],
+        addresses: [
+            0x0601_0101,
+            0x0601_0102,
+            0x0601_0103,
+            0x0601_0104,
+            0x0601_0105,
+            0x0601_0106,
+            0x0601_0107,
+            0xffff_ffff,
+        ],
     }
 }
 
@@ -156,8 +176,10 @@ static FIRST_CHILD: [(usize, &[u8]); 10] = [
     (260, b"\x02\0\0\0"),
 ];
 
-/// Its mark and its map in the newest version, and in the first.
-static FIRST_CHILD_NEW: [(usize, &[u8]); 2] = [(0, b"SFD2"), (776, b"\0\xfe\xff")];
+/// Its mark, its entries and its map in the versions, the newest first.
+static FIRST_CHILD_NEW: [(usize, &[u8]); 3] = [(0, b"SFD3"), (776, &[0; 40]), (816, b"\0\xfe\xff")];
+
+static FIRST_CHILD_SECOND: [(usize, &[u8]); 2] = [(0, b"SFD2"), (776, b"\0\xfe\xff")];
 
 static FIRST_CHILD_OLD: [(usize, &[u8]); 2] = [(0, b"SFD1"), (776, b"\xfe\xff")];
 
@@ -168,7 +190,7 @@ static NUMBERED: [(usize, &[u8]); 22] = [
     (16, b"\x0d\x0c\0\0\x34\x12\0\x80"),
     (24, b"\x01\0\0\x01\x02\0\0\x01"),
     (144, b"\x1f\0\0\x01"),
-    (148, b"\x88\x18\0\0\x80\0\0\0"),
+    (148, b"\x88\x18\x02\x80\x80\0\0\0"),
     (156, b"\x01\x01\0\x80\x01\x01\x01\x02"),
     (164, b"\x04\x02\0\x80\x07\0\0\x80"),
     (172, b"\x02\x01\x01\x02"),
@@ -187,8 +209,16 @@ static NUMBERED: [(usize, &[u8]); 22] = [
     (772, b"\0\0\0\xb2"),
 ];
 
-/// Its mark and its map in the newest version, and in the first.
-static NUMBERED_NEW: [(usize, &[u8]); 2] = [(0, b"SFD2"), (776, b"\0\x01\0\x08")];
+/// Its mark, its entries where they are not 0, and its map in the versions, the newest first.
+static NUMBERED_NEW: [(usize, &[u8]); 5] = [
+    (0, b"SFD3"),
+    (776, b"\x01\x03\x04\x05\x07\x0f\x18\x9f"),
+    (784, b"\x01\x01\x01\x06\x02\x01\x01\x06"),
+    (808, b"\x07\x01\x01\x06\xff\xff\xff\xff"),
+    (816, b"\0\x01\0\x08"),
+];
+
+static NUMBERED_SECOND: [(usize, &[u8]); 2] = [(0, b"SFD2"), (776, b"\0\x01\0\x08")];
 
 static NUMBERED_OLD: [(usize, &[u8]); 2] = [(0, b"SFD1"), (776, b"\x01\0\x08")];
 
@@ -211,43 +241,92 @@ fn stands_at(bytes: &[u8], at: usize, part: &[u8]) -> bool {
 #[derive(Clone, Copy, Debug, PartialEq, Eq)]
 enum Format {
     Old,
+    Second,
     New,
 }
 
-/// The bytes of a descriptor that is in range, in a version that can tell of its pages.
-fn bytes_in(alloc: Global, descriptor: &Descriptor, format: Format) -> Result<Vec<u8>, DescError> {
+/// No entries of memory protection.
+fn no_entries() -> PmpRegisters {
+    PmpRegisters {
+        configurations: [0; 8],
+        addresses: [0; 8],
+    }
+}
+
+/// The bytes of a descriptor that is in range, in the newest version.
+fn new_bytes(alloc: Global, descriptor: &Descriptor) -> Result<Vec<u8>, DescError> {
     if !descriptor.is_in_range() {
         return Err(DescError::Refused(0));
     }
-    if format == Format::New {
-        return Ok(descriptor.encode(alloc)?);
+    Ok(descriptor.encode(alloc)?)
+}
+
+/// The bytes of a descriptor that is in range, in the second version. It has no entries of memory protection.
+fn second_bytes(alloc: Global, mut descriptor: Descriptor) -> Result<Vec<u8>, DescError> {
+    descriptor.csrs.pmp = PmpRegisters {
+        configurations: [0; 8],
+        addresses: [0; 8],
+    };
+    if !descriptor.is_in_range() {
+        return Err(DescError::Refused(0));
     }
-    if descriptor.pages > 1024 {
+    Ok(descriptor.encode_v2(alloc)?)
+}
+
+/// The same in the first version, where it has at most 1,024 pages.
+fn old_bytes(alloc: Global, mut descriptor: Descriptor) -> Result<Vec<u8>, DescError> {
+    descriptor.csrs.pmp = PmpRegisters {
+        configurations: [0; 8],
+        addresses: [0; 8],
+    };
+    if !descriptor.is_in_range() || descriptor.pages > 1024 {
         return Err(DescError::Refused(0));
     }
     Ok(descriptor.encode_old(alloc)?)
 }
 
+/// The bytes of a descriptor in a version that can tell of it.
+fn bytes_in(alloc: Global, descriptor: Descriptor, format: Format) -> Result<Vec<u8>, DescError> {
+    if format == Format::New {
+        return new_bytes(alloc, &descriptor);
+    }
+    if descriptor.csrs.pmp != no_entries() {
+        return Err(DescError::Refused(0));
+    }
+    if format == Format::Second {
+        second_bytes(alloc, descriptor)
+    } else {
+        old_bytes(alloc, descriptor)
+    }
+}
+
 /// The bytes of what bytes are read as.
 fn again(alloc: Global, bytes: &[u8], format: Format) -> Result<Vec<u8>, DescError> {
     let descriptor = Descriptor::decode(alloc, bytes)?;
-    bytes_in(alloc, &descriptor, format)
+    bytes_in(alloc, descriptor, format)
 }
 
 /// The bytes of the first child.
 fn first_bytes(rt: &impl Abort, alloc: Global, format: Format) -> Vec<u8> {
     let descriptor = first_child(rt, alloc);
-    made(rt, bytes_in(alloc, &descriptor, format))
+    made(rt, bytes_in(alloc, descriptor, format))
 }
 
 /// The bytes of the descriptor whose fields all differ.
 fn numbered_bytes(rt: &impl Abort, alloc: Global, format: Format) -> Vec<u8> {
     let descriptor = numbered(rt, alloc);
-    made(rt, bytes_in(alloc, &descriptor, format))
+    made(rt, bytes_in(alloc, descriptor, format))
 }
 
 fn are_placed(rt: &impl Abort, bytes: &[u8], rows: &[(usize, &[u8])]) {
     are_equal(rt, &misplaced(bytes, rows), &None);
+}
+
+/// The bytes of that with entries.
+fn protected_bytes(rt: &impl Abort, alloc: Global) -> Vec<u8> {
+    let mut descriptor = numbered(rt, alloc);
+    descriptor.csrs.pmp = numbered_entries();
+    made(rt, bytes_in(alloc, descriptor, Format::New))
 }
 
 #[test]
@@ -255,9 +334,20 @@ fn fields_stand_at_their_places(rt: HostRuntime) {
     let first = first_bytes(&rt, rt.alloc(), Format::New);
     are_placed(&rt, &first, &FIRST_CHILD);
     are_placed(&rt, &first, &FIRST_CHILD_NEW);
-    let numbered = numbered_bytes(&rt, rt.alloc(), Format::New);
+    let protected = protected_bytes(&rt, rt.alloc());
+    are_placed(&rt, &protected, &NUMBERED);
+    are_placed(&rt, &protected, &NUMBERED_NEW);
+    are_equal(&rt, &(first.len(), protected.len()), &(819, 820));
+}
+
+#[test]
+fn fields_of_the_second_version_stand_at_their_places(rt: HostRuntime) {
+    let first = first_bytes(&rt, rt.alloc(), Format::Second);
+    are_placed(&rt, &first, &FIRST_CHILD);
+    are_placed(&rt, &first, &FIRST_CHILD_SECOND);
+    let numbered = numbered_bytes(&rt, rt.alloc(), Format::Second);
     are_placed(&rt, &numbered, &NUMBERED);
-    are_placed(&rt, &numbered, &NUMBERED_NEW);
+    are_placed(&rt, &numbered, &NUMBERED_SECOND);
     are_equal(&rt, &(first.len(), numbered.len()), &(779, 780));
 }
 
@@ -282,24 +372,35 @@ fn is_migrated(rt: &impl Abort, alloc: Global, bytes: &[u8], new: &[u8]) {
     are_equal(rt, &migrated.as_slice(), &new);
 }
 
+/// Bytes in a version are read, and migrated to these.
+fn is_kept(rt: &impl Abort, alloc: Global, bytes: &[u8], format: Format, new: &[u8]) {
+    is_read(rt, alloc, bytes, format);
+    is_migrated(rt, alloc, bytes, new);
+}
+
 #[test]
 fn what_was_encoded_is_read(rt: HostRuntime) {
+    let first = first_bytes(&rt, rt.alloc(), Format::New);
+    let first_old = first_bytes(&rt, rt.alloc(), Format::Old);
+    is_kept(&rt, rt.alloc(), &first_old, Format::Old, &first);
     let new = numbered_bytes(&rt, rt.alloc(), Format::New);
-    is_read(&rt, rt.alloc(), &new, Format::New);
+    is_kept(&rt, rt.alloc(), &new, Format::New, &new);
+    let second = numbered_bytes(&rt, rt.alloc(), Format::Second);
+    is_kept(&rt, rt.alloc(), &second, Format::Second, &new);
     let old = numbered_bytes(&rt, rt.alloc(), Format::Old);
-    is_read(&rt, rt.alloc(), &old, Format::Old);
-    is_migrated(&rt, rt.alloc(), &old, &new);
-    is_migrated(&rt, rt.alloc(), &new, &new);
+    is_kept(&rt, rt.alloc(), &old, Format::Old, &new);
+    let protected = protected_bytes(&rt, rt.alloc());
+    is_kept(&rt, rt.alloc(), &protected, Format::New, &protected);
 }
 
 /// Of the first child's bytes a length, words at places of them, and the reason why they are refused, or
 /// 0 where they are taken.
-static CHANGES: [(usize, &[(usize, u32)], u32); 55] = [
+static CHANGES: [(usize, &[(usize, u32)], u32); 60] = [
     (0, &[], 1),
     (12, &[], 1),
     (775, &[], 1),
     (778, &[(0, 0x3144_4600)], 2),
-    (778, &[(0, 0x3344_4653)], 2),
+    (778, &[(0, 0x3444_4653)], 2),
     (778, &[(8, 15)], 3),
     (778, &[(8, 1025)], 3),
     (776, &[], 4),
@@ -313,7 +414,9 @@ static CHANGES: [(usize, &[(usize, u32)], u32); 55] = [
     (778, &[(20, 0x8000_002a)], 5),
     (778, &[(148, 0x1801)], 5),
     (778, &[(148, 0x1000)], 5),
-    (778, &[(148, 0x0088)], 5),
+    (778, &[(148, 0x0800)], 5),
+    (778, &[(148, 0x0001_1800)], 5),
+    (778, &[(148, 0x4000_1800)], 5),
     (778, &[(152, 1)], 5),
     (778, &[(152, 0x0880)], 5),
     (778, &[(156, 2)], 5),
@@ -344,6 +447,9 @@ static CHANGES: [(usize, &[(usize, u32)], u32); 55] = [
     (778, &[(20, 0xffff_fffc)], 0),
     (778, &[(148, 0x1888), (152, 0x80)], 0),
     (778, &[(148, 0x1808)], 0),
+    (778, &[(148, 0x0088)], 0),
+    (778, &[(148, 0x8000_0000)], 0),
+    (778, &[(148, 0x8002_1888)], 0),
     (778, &[(156, 0xffff_fffd), (164, 0xffff_fffc)], 0),
     (778, &[(224, 1), (228, 0x8000_0000)], 0),
     (778, &[(224, 1), (228, 0x8000_fffc)], 0),
@@ -412,29 +518,60 @@ fn refuses_a_second_spelling(rt: HostRuntime) {
 }
 
 /// Of the first child's bytes in the newest version a length, words at places of them, and the reason.
-static NEW_CHANGES: [(usize, &[(usize, u32)], u32); 12] = [
+static NEW_CHANGES: [(usize, &[(usize, u32)], u32); 27] = [
     (0, &[], 1),
     (775, &[], 1),
     (775, &[(0, 0)], 1),
-    (779, &[(0, 0x3144_4600)], 2),
-    (779, &[(0, 0x3344_4653)], 2),
+    (819, &[(0, 0x3344_4600)], 2),
+    (819, &[(0, 0x3444_4653)], 2),
+    (819, &[(0, 0x3144_4653)], 4),
+    (819, &[(0, 0x3244_4653)], 4),
+    (776, &[(8, 15)], 3),
+    (776, &[], 4),
+    (815, &[], 4),
+    (816, &[], 4),
+    (817, &[], 4),
+    (818, &[], 4),
+    (820, &[], 4),
+    (818, &[(12, 0)], 4),
+    (818, &[(776, 0x20)], 4),
+    (819, &[(12, 0)], 5),
+    (819, &[(776, 0x20)], 5),
+    (819, &[(776, 0x4000)], 5),
+    (819, &[(776, 0x0002_0000)], 5),
+    (819, &[(780, 0xe000_0000)], 5),
+    (819, &[(780, 0x0600_0000)], 5),
+    (819, &[(776, 0x9f1f_0f07), (780, 0x8988_8583)], 0),
+    (819, &[(784, 0xffff_ffff), (812, 0xffff_ffff)], 0),
+    (819, &[(148, 0x8000_0000)], 0),
+    (819, &[(148, 0x1000)], 5),
+    (819, &[], 0),
+];
+
+/// The same in the second version.
+static SECOND_CHANGES: [(usize, &[(usize, u32)], u32); 10] = [
+    (775, &[], 1),
     (779, &[(0, 0x3144_4653)], 4),
+    (779, &[(0, 0x3344_4653)], 4),
     (776, &[(8, 15)], 3),
     (776, &[], 4),
     (778, &[], 4),
     (778, &[(12, 0)], 4),
     (779, &[(12, 0)], 5),
+    (779, &[(148, 0x8002_1888)], 0),
     (779, &[], 0),
 ];
 
 #[test]
-fn refuses_the_newest_version_by_the_first_reason(rt: HostRuntime) {
+fn refuses_later_versions_by_the_first_reason(rt: HostRuntime) {
     let bytes = first_bytes(&rt, rt.alloc(), Format::New);
     are_told(&rt, rt.alloc(), &bytes, Format::New, &NEW_CHANGES);
+    let bytes = first_bytes(&rt, rt.alloc(), Format::Second);
+    are_told(&rt, rt.alloc(), &bytes, Format::Second, &SECOND_CHANGES);
 }
 
 /// The pages, what stands behind the fields, and the reason why this is refused, or 0.
-static MAPS: [(u32, &[u8], u32); 39] = [
+static MAPS: [(u32, &[u8], u32); 42] = [
     (15, &[0, 0xfe, 0x7f], 3),
     (16_385, &[1, 1, 0x40], 3),
     (15, &[], 3),
@@ -463,6 +600,9 @@ static MAPS: [(u32, &[u8], u32); 39] = [
     (32, &[1, 16, 0, 16, 0], 7),
     (16, &[0, 0, 0], 0),
     (16, &[0, 0xff, 0xff], 0),
+    (16, &[0, 0xaa, 0xaa], 0),
+    (18, &[0, 0xaa, 0xaa, 0x02], 0),
+    (18, &[0, 0xaa, 0xaa, 0x06], 6),
     (17, &[1, 17, 0], 0),
     (17, &[0, 0xff, 0xff, 0x01], 0),
     (32, &[0, 0, 0, 0xff, 0xff], 0),
@@ -476,14 +616,20 @@ static MAPS: [(u32, &[u8], u32); 39] = [
     (20, &[0, 0x01, 0, 0x08], 0),
 ];
 
+/// Maps behind so many bytes of the fields are taken or refused as the table tells.
+fn are_maps(rt: &impl Abort, alloc: Global, format: Format, fields: usize) {
+    let first = first_bytes(rt, alloc, format);
+    for (pages, rest, number) in &MAPS {
+        let mut bytes = changed(rt, alloc, &first, fields, &[(8, *pages)]);
+        made(rt, bytes.extend_from_slice(rest));
+        is_refused(rt, alloc, &bytes, format, *number);
+    }
+}
+
 #[test]
 fn a_map_has_one_form(rt: HostRuntime) {
-    let bytes = first_bytes(&rt, rt.alloc(), Format::New);
-    for (pages, rest, number) in &MAPS {
-        let mut bytes = changed(&rt, rt.alloc(), &bytes, 776, &[(8, *pages)]);
-        made(&rt, bytes.extend_from_slice(rest));
-        is_refused(&rt, rt.alloc(), &bytes, Format::New, *number);
-    }
+    are_maps(&rt, rt.alloc(), Format::Second, 776);
+    are_maps(&rt, rt.alloc(), Format::New, 816);
 }
 
 /// The bytes of the first child of a machine with so many pages, of which all are blank but one.
@@ -491,7 +637,7 @@ fn bytes_of(rt: &impl Abort, alloc: Global, pages: u32, held: usize, format: For
     let mut descriptor = first_child(rt, alloc);
     descriptor.pages = pages;
     descriptor.blank = map_of(rt, alloc, pages as usize, held);
-    made(rt, bytes_in(alloc, &descriptor, format))
+    made(rt, bytes_in(alloc, descriptor, format))
 }
 
 /// The end of the map of 1,024 pages in the first version, which are the most that it tells of.
@@ -502,9 +648,11 @@ fn takes_a_map_of_the_most_pages(rt: HostRuntime) {
     let old = bytes_of(&rt, rt.alloc(), 1024, 1023, Format::Old);
     are_placed(&rt, &old, &MOST);
     is_refused(&rt, rt.alloc(), &old, Format::Old, 0);
+    let some = bytes_of(&rt, rt.alloc(), 1024, 0, Format::New);
+    are_placed(&rt, &some, &[(816, b"\x01\x01\0\xff\x03")]);
     let new = bytes_of(&rt, rt.alloc(), 16_384, 0, Format::New);
-    are_placed(&rt, &new, &[(776, b"\x01\x01\0\xff\x3f")]);
-    are_equal(&rt, &(old.len(), new.len()), &(904, 781));
+    are_placed(&rt, &new, &[(816, b"\x01\x01\0\xff\x3f")]);
+    are_equal(&rt, &(old.len(), some.len(), new.len()), &(904, 821, 821));
 }
 
 /// A map of 16,384 pages with so many runs, of which each has one page but the last.
@@ -522,9 +670,9 @@ fn form_of_runs(rt: &impl Abort, alloc: Global, runs: usize) -> (usize, Option<u
     let mut descriptor = first_child(rt, alloc);
     descriptor.pages = 16_384;
     descriptor.blank = runs_of_one(rt, alloc, runs);
-    let bytes = made(rt, bytes_in(alloc, &descriptor, Format::New));
+    let bytes = made(rt, bytes_in(alloc, descriptor, Format::New));
     is_read(rt, alloc, &bytes, Format::New);
-    (bytes.len(), bytes.get(776).copied())
+    (bytes.len(), bytes.get(816).copied())
 }
 
 #[test]
@@ -535,9 +683,9 @@ fn runs_are_told_where_they_are_shorter(rt: HostRuntime) {
         form_of_runs(&rt, rt.alloc(), 16_384),
     ];
     let want = [
-        (777 + 2046, Some(1)),
-        (777 + 2048, Some(0)),
-        (777 + 2048, Some(0)),
+        (817 + 2046, Some(1)),
+        (817 + 2048, Some(0)),
+        (817 + 2048, Some(0)),
     ];
     are_equal(&rt, &forms, &want);
 }

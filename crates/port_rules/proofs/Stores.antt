@@ -21,6 +21,7 @@ port-answered f command h asked.NewTicket met = port-ticket f h
 port-answered f command h (asked.Discard number) met = port-discard f number h met
 port-answered f command h (asked.Call c) met = port-same f f h refl refl refl refl
 port-answered f command h (asked.Exit value) met = port-same f f h refl refl refl refl
+port-answered f command h (asked.ExitWith value address count) met = port-same f f h refl refl refl refl
 port-answered f command h (asked.Zero first count) met = port-same f f h refl refl refl refl
 
 pub port-stored : (f : ForkRegisters) (offset width word : ℕ) → is_accounted f ≡ true

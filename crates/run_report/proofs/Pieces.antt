@@ -5,7 +5,7 @@ use Rattle.run_report.specs.declared.line.MachineLine.{MachineLine}
 use Rattle.run_report.specs.Said.{line_of_machine}
 use Rattle.machine_names.specs.Name.{name_text}
 use Rattle.run_report.specs.Report.{Ended, lines_of, report_of}
-use Rattle.run_report.specs.Lines.{Line, ending_text, line_text, text_of}
+use Rattle.run_report.specs.Lines.{Line, ending_text, handed_text, line_text, text_of}
 
 -- a machine's line, whose output and its length are at hand
 pub machine-text : (m : MachineLine) (count : ℕ) (output : List ℕ) → count ≡ length m.output.items → output ≡ m.output.items
@@ -17,9 +17,10 @@ pub machine-text : (m : MachineLine) (count : ℕ) (output : List ℕ) → count
     ++ (decimal m.steps
     ++ (codes " out "
     ++ (decimal count
+    ++ (handed_text m.ending
     ++ (codes "\n"
     ++ (output
-    ++ codes "\n")))))))))
+    ++ codes "\n"))))))))))
     ≡ line_text (line_of_machine m)
 unfolding line_text
 machine-text m count output counted same = rw (counted, same)

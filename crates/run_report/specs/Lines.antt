@@ -1,9 +1,11 @@
 -- What a report says of a family of machines, line by line.
-use Rattle.std.specs.Prelude.{◌≡◌, ℕ, suc, List, [], ◌∷◌, ◌++◌, length, codes, Option, Some, None}
+use Rattle.std.specs.Prelude.{◌≡◌, ℕ, suc, ◌==◌, if◌then◌else◌, List, [], ◌∷◌, ◌++◌, length, codes, Option, Some, None}
 use Rattle.std.specs.List.{flat_map}
 use Rattle.std.specs.Fmt.{decimal}
+use Rattle.hex.specs.Hex.{encode_lower}
 use Rattle.fork_port.specs.declared.ending.Ending.{Ending}
 use Rattle.fork_port.specs.declared.ending.Ending.TheVariants.{Exit, Limit}
+use Rattle.fork_port.specs.Handed.{handed_bytes}
 use Rattle.forest_tree.specs.Tree.{Tree, node, Trees, no_tree, tree, Log, no_entry, joined, killed, Path}
 use Rattle.machine_names.specs.Name.{name_text, child_path}
 
@@ -16,8 +18,16 @@ pub data Line : Type 0 where
 
 -- how a machine ended, in words
 abbrev pub ending_text : Ending → List ℕ
-ending_text (Exit value) = codes "exit " ++ decimal value
+ending_text (Exit value handed) = codes "exit " ++ decimal value
 ending_text Limit = codes "limit"
+
+-- bytes that were handed over, each in two hexadecimal digits. Where there are none, nothing is said of them
+abbrev pub bytes_text : List ℕ → List ℕ
+bytes_text bytes = if length bytes == 0 then [] else codes " handed " ++ encode_lower bytes
+
+abbrev pub handed_text : Ending → List ℕ
+handed_text (Exit value handed) = bytes_text (handed_bytes handed)
+handed_text Limit = []
 
 -- what is put out of a line: the line, and after that of a machine its output and a newline
 unfoldable pub line_text : Line → List ℕ
@@ -30,9 +40,10 @@ line_text (machine_line name ending steps output) =
     ++ (decimal steps
     ++ (codes " out "
     ++ (decimal (length output)
+    ++ (handed_text ending
     ++ (codes "\n"
     ++ (output
-    ++ codes "\n")))))))))
+    ++ codes "\n"))))))))))
 line_text (ticket_line name ticket count) =
     codes "ticket "
     ++ (name_text name

@@ -21,7 +21,7 @@ steps_of (ticket_line name ticket count) = 0
 
 -- a machine that met its limit has no value
 abbrev pub value_of : Ending → ℕ
-value_of (Exit value) = value
+value_of (Exit value handed) = value
 value_of Limit = 0
 
 abbrev pub exit_of : Line → ℕ

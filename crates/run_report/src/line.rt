@@ -1,18 +1,22 @@
 //! The lines of a report.
 
-ghost use Rattle.std.specs.Prelude.{◌≡◌, ℕ, ◌+◌, ◌-◌, ◌^◌, ◌≤◌, ◌++◌, OnErr};
+ghost use Rattle.std.specs.Prelude.{◌≡◌, ℕ, ◌+◌, ◌-◌, ◌^◌, ◌≤◌, ◌++◌, length, codes, OnErr};
 ghost use Rattle.std.specs.List.{flat_map};
 ghost use Rattle.io_edge.specs.Outside.{HasRisen};
 ghost use Rattle.io_edge.specs.Streamed.{Streams};
-ghost use Rattle.run_report.specs.Lines.{ending_text, line_text, ticket_line};
+ghost use Rattle.run_report.specs.Lines.{bytes_text, ending_text, handed_text, line_text, ticket_line};
 ghost use Rattle.run_report.specs.Said.{line_of_machine, line_of_ticket, piece_text};
 ghost use Rattle.run_report.specs.Summary.{IsWithin, with_line};
 
 use crate::summary::Summary;
 use forest_model::Ending;
+use fork_port::MOST_HANDED;
 use io_edge::{Sink, SinkBuffer, WriteFault};
 use machine_names::Name;
 use std::marker::Model;
+
+/// The most hexadecimal digits of bytes that a machine hands over.
+const MOST_DIGITS: usize = 2 * MOST_HANDED;
 
 /// What a report says of a machine that has ended.
 #[derive(Drop)]
@@ -44,6 +48,7 @@ impl MachineLine {
             Piece::Number(self.steps),
             Piece::Text(b" out "),
             Piece::Number(self.output.len() as u64),
+            Piece::HandedOver(self.ending),
             Piece::Text(b"\n"),
             Piece::Text(&self.output),
             Piece::Text(b"\n"),
@@ -161,6 +166,7 @@ pub(crate) enum Piece<'a> {
     Text(&'a [u8]),
     Named(&'a Name),
     Ended(Ending),
+    HandedOver(Ending),
     Number(u64),
     Sum(u128),
 }
@@ -176,6 +182,7 @@ impl Piece<'_> {
             Piece::Text(text) => buffer.put(sink, text),
             Piece::Named(name) => name.put(buffer, sink),
             Piece::Ended(ending) => put_ending(*ending, buffer, sink),
+            Piece::HandedOver(ending) => put_handed(*ending, buffer, sink),
             Piece::Number(number) => buffer.put_number(sink, *number),
             Piece::Sum(sum) => buffer.put(sink, itoa::Buffer::new().format(*sum).as_bytes()),
         }
@@ -209,10 +216,58 @@ fn put_ending<K: Sink>(
     ensures streams { Streams (K.gone sink.old) (K.gone sink.new) buffer.old (ending_text ending) buffer.new result }
 {
     match ending {
-        Ending::Exit(value) => {
+        Ending::Exit(value, _) => {
             buffer.put(sink, b"exit ")?;
             buffer.put_number(sink, value as u64)
         }
         Ending::Limit => buffer.put(sink, b"limit"),
     }
+}
+
+/// Puts out the bytes that a machine handed over, if there are any.
+fn put_handed<K: Sink>(
+    ending: Ending,
+    buffer: &mut SinkBuffer,
+    sink: &mut K,
+) -> Result<(), WriteFault>
+    ensures counts { K.faults sink.old ≤ K.faults sink.new }
+    ensures fault { OnErr result (HasRisen (K.faults sink.old) (K.faults sink.new)) }
+    ensures streams { Streams (K.gone sink.old) (K.gone sink.new) buffer.old (handed_text ending) buffer.new result }
+{
+    match ending {
+        Ending::Exit(_, handed) => put_bytes(handed.as_slice(), buffer, sink),
+        Ending::Limit => buffer.put(sink, b""),
+    }
+}
+
+/// Puts out bytes that were handed over, each in two hexadecimal digits.
+fn put_bytes<K: Sink>(bytes: &[u8], buffer: &mut SinkBuffer, sink: &mut K) -> Result<(), WriteFault>
+    requires { length bytes.now ≤ MOST_HANDED }
+    ensures counts { K.faults sink.old ≤ K.faults sink.new }
+    ensures fault { OnErr result (HasRisen (K.faults sink.old) (K.faults sink.new)) }
+    ensures streams { Streams (K.gone sink.old) (K.gone sink.new) buffer.old (bytes_text bytes.now) buffer.new result }
+{
+    if bytes.is_empty() {
+        return buffer.put(sink, b"");
+    }
+    let mut room = [0u8; MOST_DIGITS];
+    let digits = &mut room[..2 * bytes.len()];
+    let Ok(()) = hex::encode_to_slice(bytes, digits) else {
+        unreachable!();
+    };
+    put_digits(digits, buffer, sink)
+}
+
+/// Puts out the digits of bytes that were handed over.
+fn put_digits<K: Sink>(
+    digits: &[u8],
+    buffer: &mut SinkBuffer,
+    sink: &mut K,
+) -> Result<(), WriteFault>
+    ensures counts { K.faults sink.old ≤ K.faults sink.new }
+    ensures fault { OnErr result (HasRisen (K.faults sink.old) (K.faults sink.new)) }
+    ensures streams { Streams (K.gone sink.old) (K.gone sink.new) buffer.old (codes " handed " ++ digits.now) buffer.new result }
+{
+    buffer.put(sink, b" handed ")?;
+    buffer.put(sink, digits)
 }

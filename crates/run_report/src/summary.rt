@@ -112,7 +112,7 @@ fn exit_value(ending: Ending) -> u32
     ensures { result ≡ value_of ending }
 {
     match ending {
-        Ending::Exit(value) => value,
+        Ending::Exit(value, _) => value,
         Ending::Limit => 0,
     }
 }

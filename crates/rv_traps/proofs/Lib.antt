@@ -1,3 +1,5 @@
 pub mod InRange
+pub mod Modes
 pub mod Mstatus
+pub mod Protection
 pub mod Rows

@@ -1,5 +1,5 @@
 -- No two rows of the table have one number: the numbers of each lie behind those of the rows before it.
-use Rattle.std.proofs.Common.{◌≡◌, ℕ, ◌<◌, Bool, true, false, ltb, ◌&&◌, List, [], ◌∷◌, length, get_or, Some, refl, ap, ◌∙◌, arith}
+use Rattle.std.proofs.Common.{◌≡◌, ℕ, ◌<◌, Bool, true, false, ltb, ◌&&◌, List, [], ◌∷◌, get_or, Some, refl, ap, ◌∙◌, arith}
 use Rattle.std.specs.List.{All, AllPairs, list_all, position_or_len, slice_get}
 use Rattle.std.specs.Prelude.{IsTrue}
 use Rattle.std.specs.Option.{option_map}

@@ -44,3 +44,7 @@ counted c retired wrote = record c {
   mcycle = counted_if (not (is_of_mcycle wrote)) c.mcycle;
   minstret = counted_if (retired && not (is_of_minstret wrote)) c.minstret;
 }
+
+-- registers with the counters of others
+abbrev pub with_counters_of : CsrRegisters → CsrRegisters → CsrRegisters
+with_counters_of c d = record d { mcycle = c.mcycle; minstret = c.minstret }

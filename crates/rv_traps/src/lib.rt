@@ -1,5 +1,5 @@
-//! The control and status registers of a machine: what a read gives and what a write keeps, traps and
-//! the return from them, and the counters.
+//! The control and status registers of a machine and its privilege mode: what a read gives and what a write keeps,
+//! traps and the return from them, which accesses are allowed, and the counters.
 #![tactic(auto)]
 
 mod counter;
@@ -10,4 +10,4 @@ mod registers;
 
 pub use counter::Wrote;
 pub use csrs::{Csrs, TIMER_INTERRUPT};
-pub use registers::CsrRegisters;
+pub use registers::{CsrRegisters, is_mstatus};

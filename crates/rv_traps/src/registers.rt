@@ -1,16 +1,21 @@
 ghost use Rattle.std.specs.Prelude.{◌≡◌, ◌<◌, ◌↔◌, IsTrue};
-ghost use Rattle.rv_traps.specs.Access.{put};
-ghost use Rattle.rv_traps.specs.Registers.{IsInRange, has_bit, mstatus_of, interrupt_enable, previous_interrupt_enable, timer_interrupt_enable};
+ghost use Rattle.guest_pmp.specs.Registers.{IsNumber, IsInRange as ArePmpInRange};
+ghost use Rattle.rv_traps.specs.Access.{put, written_mode};
+ghost use Rattle.rv_traps.specs.Protection.{data_mode};
+ghost use Rattle.rv_traps.specs.Registers.{IsInRange, has_bit, is_mstatus, mode_in, mstatus_of, interrupt_enable, previous_interrupt_enable, previous_mode, modifies_privilege, timer_interrupt_enable};
 ghost use Rattle.rv_traps.specs.Table.{reading};
 
 use crate::counter::{high_half, low_half, with_high_half, with_low_half};
 use crate::number::Csr;
+use guest_pmp::{Mode, Pmp, PmpRegisters};
 
 /// What the control and status registers hold, by their names in the RISC-V Privileged ISA 20211203,
-/// section 3.1.
+/// section 3.1, and the privilege mode.
 #[derive(Clone, Copy, Debug, PartialEq, Eq)]
 pub struct CsrRegisters {
-    /// `0x1800`, which is machine mode in MPP, and the bits MIE (3) and MPIE (7).
+    /// The mode that the machine is in.
+    pub mode: Mode,
+    /// The bits MIE (3), MPIE (7), MPP (12:11), which is 0 for user mode and 3 for machine mode, and MPRV (17).
     pub mstatus: u32,
     /// The bit MTIE (7) alone.
     pub mie: u32,
@@ -23,6 +28,8 @@ pub struct CsrRegisters {
     pub mtval: u32,
     pub mcycle: u64,
     pub minstret: u64,
+    /// The entries of memory protection.
+    pub pmp: PmpRegisters,
 }
 
 impl CsrRegisters {
@@ -30,10 +37,11 @@ impl CsrRegisters {
     pub fn is_in_range(&self) -> bool
         ensures { IsTrue result ↔ IsInRange self.now }
     {
-        self.mstatus == mstatus(self.interrupt_enable(), self.previous_interrupt_enable())
+        is_mstatus(self.mstatus)
             && self.mie == self.mie & 0x80
             && self.mtvec == self.mtvec & 0xffff_fffd
             && self.mepc % 4 == 0
+            && self.pmp.is_in_range()
     }
 
     /// MIE.
@@ -52,6 +60,34 @@ impl CsrRegisters {
         has_bit(self.mstatus, 7)
     }
 
+    /// The mode in MPP.
+    #[inline]
+    pub(crate) fn previous_mode(&self) -> Mode
+        ensures { result ≡ previous_mode self.now }
+    {
+        mode_in(self.mstatus)
+    }
+
+    /// MPRV.
+    #[inline]
+    pub(crate) fn modifies_privilege(&self) -> bool
+        ensures { result ≡ modifies_privilege self.now }
+    {
+        has_bit(self.mstatus, 17)
+    }
+
+    /// The mode by whose rights data is accessed.
+    #[inline]
+    pub(crate) fn data_mode(&self) -> Mode
+        ensures { result ≡ data_mode self.now }
+    {
+        if self.mode.is_machine() && self.modifies_privilege() {
+            self.previous_mode()
+        } else {
+            self.mode
+        }
+    }
+
     /// MTIE.
     #[inline]
     pub(crate) fn timer_interrupt_enable(&self) -> bool
@@ -60,14 +96,15 @@ impl CsrRegisters {
         has_bit(self.mie, 7)
     }
 
-    /// What a register reads. `timer` is whether the timer is due.
+    /// What a register reads, by its number. `timer` is whether the timer is due.
     #[inline]
-    pub(crate) fn reading(&self, csr: Csr, timer: bool) -> u32
-        ensures { result ≡ reading csr self.now timer }
+    pub(crate) fn reading(&self, csr: Csr, number: u32, timer: bool) -> u32
+        requires { csr ≡ Csr.Pmp → IsNumber number }
+        ensures { result ≡ reading csr number self.now timer }
     {
         match csr {
             Csr::Mstatus => self.mstatus,
-            Csr::Misa => 0x4000_1101,
+            Csr::Misa => 0x4010_1101,
             Csr::Mie => self.mie,
             Csr::Mtvec => self.mtvec,
             Csr::Mscratch => self.mscratch,
@@ -79,8 +116,12 @@ impl CsrRegisters {
             Csr::Mcycleh => high_half(self.mcycle),
             Csr::Minstret => low_half(self.minstret),
             Csr::Minstreth => high_half(self.minstret),
+            Csr::Pmp => self.pmp.read(number),
             Csr::Information
+            | Csr::Mcounteren
+            | Csr::Menvcfg
             | Csr::Mstatush
+            | Csr::Menvcfgh
             | Csr::Mcountinhibit
             | Csr::Mhpmevent
             | Csr::Mhpmcounter
@@ -88,13 +129,16 @@ impl CsrRegisters {
         }
     }
 
-    /// Writes to a register the bits that it keeps.
+    /// Writes to a register, by its number, the bits that it keeps.
     #[inline]
-    pub(crate) fn put(&mut self, csr: Csr, kept: u32)
-        ensures { self.new ≡ put csr kept self.old }
+    pub(crate) fn put(&mut self, csr: Csr, number: u32, kept: u32)
+        requires number { csr ≡ Csr.Pmp → IsNumber number }
+        requires in_range { ArePmpInRange self.old.pmp }
+        ensures registers { self.new ≡ put csr number kept self.old }
+        ensures in_range { ArePmpInRange self.new.pmp }
     {
         match csr {
-            Csr::Mstatus => self.mstatus = mstatus(has_bit(kept, 3), has_bit(kept, 7)),
+            Csr::Mstatus => self.put_mstatus(kept),
             Csr::Mie => self.mie = kept,
             Csr::Mtvec => self.mtvec = kept,
             Csr::Mscratch => self.mscratch = kept,
@@ -105,9 +149,13 @@ impl CsrRegisters {
             Csr::Mcycleh => self.mcycle = with_high_half(self.mcycle, kept),
             Csr::Minstret => self.minstret = with_low_half(self.minstret, kept),
             Csr::Minstreth => self.minstret = with_high_half(self.minstret, kept),
+            Csr::Pmp => self.put_pmp(number, kept),
             Csr::Information
             | Csr::Misa
+            | Csr::Mcounteren
+            | Csr::Menvcfg
             | Csr::Mstatush
+            | Csr::Menvcfgh
             | Csr::Mcountinhibit
             | Csr::Mhpmevent
             | Csr::Mip
@@ -115,16 +163,66 @@ impl CsrRegisters {
             | Csr::Mhpmcounterh => {}
         }
     }
+
+    /// Writes mstatus. MPP stays where it would be no mode.
+    fn put_mstatus(&mut self, kept: u32)
+        ensures { self.new ≡ put Csr.Mstatus 0 kept self.old }
+    {
+        let mpp = match kept >> 11 & 3 {
+            0 => Mode::User,
+            3 => Mode::Machine,
+            _ => self.previous_mode(),
+        };
+        self.mstatus = mstatus(has_bit(kept, 3), has_bit(kept, 7), mpp, has_bit(kept, 17));
+    }
+
+    /// Writes a register of memory protection.
+    fn put_pmp(&mut self, number: u32, kept: u32)
+        requires number { IsNumber number }
+        requires in_range { ArePmpInRange self.old.pmp }
+        ensures registers { self.new ≡ put Csr.Pmp number kept self.old }
+        ensures in_range { ArePmpInRange self.new.pmp }
+    {
+        let mut pmp = Pmp::of_fields(self.pmp);
+        pmp.write(number, kept);
+        self.pmp = pmp.fields();
+    }
 }
 
-/// mstatus with these bits MIE and MPIE.
+/// mstatus with these bits MIE, MPIE and MPRV, and this mode in MPP.
 #[inline]
-pub(crate) fn mstatus(mie: bool, mpie: bool) -> u32
-    ensures { result ≡ mstatus_of mie mpie }
+pub(crate) fn mstatus(mie: bool, mpie: bool, mpp: Mode, mprv: bool) -> u32
+    ensures { result ≡ mstatus_of mie mpie mpp mprv }
 {
     let mie = if mie { 0x08 } else { 0 };
     let mpie = if mpie { 0x80 } else { 0 };
-    0x1800 + mie + mpie
+    let mpp = if mpp.is_machine() { 0x1800 } else { 0 };
+    let mprv = if mprv { 0x2_0000 } else { 0 };
+    mie + mpie + mpp + mprv
+}
+
+/// Whether mstatus can hold this word: no bits but MIE, MPIE, MPRV and those of MPP, which are alike.
+pub fn is_mstatus(word: u32) -> bool
+    ensures { result ≡ is_mstatus word }
+{
+    word == mstatus(
+        has_bit(word, 3),
+        has_bit(word, 7),
+        mode_in(word),
+        has_bit(word, 17),
+    )
+}
+
+/// The mode that mstatus has in MPP.
+#[inline]
+fn mode_in(mstatus: u32) -> Mode
+    ensures { result ≡ mode_in mstatus }
+{
+    if has_bit(mstatus, 11) {
+        Mode::Machine
+    } else {
+        Mode::User
+    }
 }
 
 /// Whether the bit at this place is 1.

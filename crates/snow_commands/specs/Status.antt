@@ -3,7 +3,8 @@ use Rattle.std.specs.Prelude.{◌≡◌, ℕ, ◌≤◌, ◌⊎◌, List, Option
 use Rattle.io_edge.specs.Outside.{appended, IsPrefixGone}
 use Rattle.io_edge.specs.Asked.{Asked}
 use Rattle.command_line.specs.Words.{Command, generated, meant}
-use Rattle.guest_files.specs.Reads.{Files, Refusal, no_meaning, no_file, image_too_long, image_refused, disk_too_long, disk_not_sectors, input_too_long, script_too_long, script_refused}
+use Rattle.guest_files.specs.Reads.{Files, Refusal, no_meaning, no_file, image_too_long, image_refused, disk_too_long}
+use Rattle.guest_files.specs.Reads.{disk_not_sectors, input_too_long, script_too_long, script_refused}
 use Rattle.snow_commands.specs.Text.{text}
 use Rattle.guest_files.specs.Parts.{AreAsked, IsImageRefusal, IsDataRefusal, IsScriptRefusal, IsFaultOf, IsLoadOf, final_load, last_load, loads_of}
 use Rattle.snow_commands.specs.declared.program.Status.{Status}

@@ -27,7 +27,8 @@ use Rattle.drive_script.specs.Told.{told_text}
 use Rattle.drive_script.specs.declared.script.TheConstants.{MAX_SCRIPT}
 use Rattle.command_line.specs.Words.{Command, GeneratedValues, GuestValues, run, drive, generated, generated_guest, meant}
 use Rattle.guest_files.specs.declared.stop.TheConstants.{SCRIPT_LOAD}
-use Rattle.guest_files.specs.Reads.{Refusal, no_meaning, image_refused, disk_not_sectors, script_too_long, script_refused, and_then, Files, file_read, Guest, guest_read}
+use Rattle.guest_files.specs.Reads.{Refusal, no_meaning, image_refused, disk_not_sectors, script_too_long}
+use Rattle.guest_files.specs.Reads.{script_refused, and_then, Files, file_read, Guest, guest_read}
 
 unfoldable pub script_read : List ℕ → Files → Result (List ℕ) Refusal
 script_read name files = file_read SCRIPT_LOAD MAX_SCRIPT script_too_long (files name)

@@ -16,10 +16,9 @@ ghost use Rattle.host_workers.specs.Finishes.{AreDone, Finishes, IsStopped, IsSt
 ghost use Rattle.host_workers.specs.Lost.{IsOneLost};
 ghost use Rattle.snow_commands.specs.Seeded.{IfRan, all_seeded};
 
-use crate::program::MOST_WIRES;
 use command_line::RunWords;
 use fork_board::{Board, Pass};
-use host_workers::{Finish, Gate, Settings, run_hosts};
+use host_workers::{Finish, Gate, MAX_WORKERS, Settings, run_hosts};
 use image_depot::Depot;
 use run_report::Outcome;
 use std::snapshot::Snapshot;
@@ -48,7 +47,7 @@ pub fn run_family<R: AllocGlobal + Threads + Wait + Sync, W: Wire + Send, G: Gat
 ) -> Result<Outcome, Reason>
     requires stands { StandsFor depot.now family.0 (world_of paged_machines (paged family.1.value)) }
     requires told { told_of family.0 ≡ [] }
-    requires wires { (1 ≤ length wires.old) × (length wires.old ≤ MOST_WIRES) }
+    requires wires { (1 ≤ length wires.old) × (length wires.old ≤ MAX_WORKERS) }
     ensures lines { IfOk result (λ outcome. lines_of outcome ≡ lines told [] (finish (alone machines family.1.value.machine))) }
     ensures wire { IfErr result (λ reason. reason ≡ Reason.Wire → (0 < clones) × IsOneLost W.streak wires.new) }
     ensures seeded { IfRan result (map W.seeds wires.new ≡ all_seeded plan.now.how.now.seed (map W.seeds wires.old)) }
@@ -85,7 +84,7 @@ fn run_to_end<R: AllocGlobal + Threads + Wait + Sync, W: Wire + Send, G: Gate + 
 ) -> Result<Outcome, Reason>
     requires stands { StandsFor depot.now family.0 (world_of paged_machines (paged family.1.value)) }
     requires told { told_of family.0 ≡ [] }
-    requires wires { (1 ≤ length wires.old) × (length wires.old ≤ MOST_WIRES) }
+    requires wires { (1 ≤ length wires.old) × (length wires.old ≤ MAX_WORKERS) }
     ensures lines { IfOk result (λ outcome. lines_of outcome ≡ lines told [] (finish (alone machines family.1.value.machine))) }
     ensures wire { IfErr result (λ reason. reason ≡ Reason.Wire → IsOneLost W.streak wires.new) }
     ensures seeded { IfRan result (map W.seeds wires.new ≡ all_seeded plan.now.how.now.seed (map W.seeds wires.old)) }
@@ -115,7 +114,7 @@ fn run_seeded<R: AllocGlobal + Threads + Wait + Sync, W: Wire + Send, G: Gate + 
     requires board { pass.board ≡ board.now }
     requires depot { depot_of board.now.opening ≡ depot.now }
     requires none { HoldsNone pass }
-    requires wires { (1 ≤ length wires.old) × (length wires.old ≤ MOST_WIRES) }
+    requires wires { (1 ≤ length wires.old) × (length wires.old ≤ MAX_WORKERS) }
     requires parts { length pass.number < 3 }
     requires splits { pass.splits + length wires.old ≤ 65535 }
     ensures worked { WorkedAll pass result.0 }

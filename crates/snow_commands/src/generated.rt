@@ -12,13 +12,12 @@ ghost use Rattle.snow_commands.specs.Text.{generated_files, generated_text};
 ghost use Rattle.snow_commands.specs.Writes.{IsSilent, MakesOver, WritesFileless};
 
 use crate::family::Plan;
-use crate::program::MOST_WIRES;
 use crate::run::run_files;
 use command_line::GeneratedWords;
 use cow_disk::SECTOR_SIZE;
 use guest_files::{GuestFiles, Stop};
 use guest_gen::guest_of;
-use host_workers::Gate;
+use host_workers::{Gate, MAX_WORKERS};
 use io_edge::Sink;
 use run_report::{Outcome, ReportError, summary_into};
 use std::alloc::{AllocError, Global};
@@ -37,7 +36,7 @@ pub fn run_and_sum_up<
     G: Gate + Sync,
 >(rt: &R, words: &GeneratedWords, sink: &mut K, wires: &mut Vec<W>, gate: &G) -> Result<(), Stop>
     requires some { 0 < vec_len wires.old }
-    requires most { vec_len wires.old ≤ MOST_WIRES }
+    requires most { vec_len wires.old ≤ MAX_WORKERS }
     ensures writes { WritesFileless (generated_text words.now) (HasRisen (K.faults sink.old) (K.faults sink.new))
         (IsOneLost W.streak wires.new.items) (K.gone sink.old) (K.gone sink.new) result }
     ensures seeded { IfRun result (map W.seeds wires.new.items ≡ seeded_for (generated_how words.now.workers) (map W.seeds wires.old.items)) }
@@ -61,7 +60,7 @@ fn run_generated<R: AllocGlobal + Threads + Wait + Sync, W: Wire + Send, G: Gate
     gate: &G,
 ) -> Result<Outcome, Stop>
     requires some { 0 < vec_len wires.old }
-    requires most { vec_len wires.old ≤ MOST_WIRES }
+    requires most { vec_len wires.old ≤ MAX_WORKERS }
     ensures makes { MakesOver (IsOneLost W.streak wires.new.items) (generated_text words.now)
         (λ outcome text. summary_of words.now.seed outcome ≡ text) result }
     ensures seeded { IfRun result (map W.seeds wires.new.items ≡ seeded_for (generated_how words.now.workers) (map W.seeds wires.old.items)) }

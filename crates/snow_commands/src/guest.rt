@@ -5,7 +5,7 @@ ghost use Rattle.guest_files.specs.Parts.{Makes};
 ghost use Rattle.snow_commands.specs.Text.{IsBooted, IsOfMachine, booted_paged, guest_image, image_beside};
 ghost use Rattle.world_core.specs.Told.{told_of};
 
-use command_line::{GuestWords, LEAST_LIMIT, MOST_CLONES, MOST_LIMIT};
+use command_line::{GuestWords, MIN_LIMIT};
 use console_port::MAX_INPUT;
 use cow_disk::{Disk, DiskError};
 use elf_load::{ImageError, Loaded, load_elf};
@@ -15,6 +15,7 @@ use image_depot::Depot;
 use std::alloc::{AllocError, Global};
 use std::snapshot::Snapshot;
 use vm_cell::Vm;
+use vm_descriptor::{MAX_CLONES, MAX_LIMIT};
 use world_core::World;
 
 /// Boots the machine of a guest, and gives a world of it, and the machine as it was then. The images of its family will
@@ -71,9 +72,9 @@ fn boot_machine(
     depot: &Depot,
 ) -> Result<(World, Snapshot<Vm>), AllocError>
     requires input { length input.now ≤ MAX_INPUT }
-    requires least { LEAST_LIMIT ≤ options.limit }
-    requires most { options.limit ≤ MOST_LIMIT }
-    requires clones { options.allot ≤ MOST_CLONES }
+    requires least { MIN_LIMIT ≤ options.limit }
+    requires most { options.limit ≤ MAX_LIMIT }
+    requires clones { options.allot ≤ MAX_CLONES }
     ensures booted { IfOk result (IsOfMachine depot.now (booted_paged image.now disk input.now options)) }
     ensures told { IfOk result (λ made. told_of made.0 ≡ []) }
 {

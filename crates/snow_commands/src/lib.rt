@@ -8,4 +8,4 @@ mod guest;
 mod program;
 mod run;
 
-pub use program::{MOST_WIRES, Status, snow};
+pub use program::{Status, snow};

@@ -16,15 +16,12 @@ use crate::generated::run_and_sum_up;
 use crate::run::run_and_report;
 use command_line::{Command, command_asked};
 use guest_files::Stop;
-use host_workers::Gate;
+use host_workers::{Gate, MAX_WORKERS};
 use io_edge::{Shelf, Sink};
 use std::alloc::AllocError;
 use std::sync::Wait;
 use std::thread::Threads;
 use wire_fates::Wire;
-
-/// The most wires that `snow` takes.
-pub const MOST_WIRES: usize = 64;
 
 /// How a call of `snow` ended. `first` and `second` are 0 where the code gives them no meaning.
 #[derive(Clone, Copy, Debug, PartialEq)]
@@ -87,7 +84,7 @@ pub fn snow<
     G: Gate + Sync,
 >(rt: &R, words: &[String], shelf: &mut S, sink: &mut K, wires: &mut Vec<W>, gate: &G) -> Status
     requires some { 0 < vec_len wires.old }
-    requires most { vec_len wires.old ≤ MOST_WIRES }
+    requires most { vec_len wires.old ≤ MAX_WORKERS }
     // Whatever the wires do with replies:
     // 0: the sink has gained the text of the words. That is of `run` the report of the family of the
     // machine that is booted from the image, with its disk and its input, run to its end; and of `drive`
@@ -167,7 +164,7 @@ fn write_text<
     gate: &G,
 ) -> Result<(), Stop>
     requires some { 0 < vec_len wires.old }
-    requires most { vec_len wires.old ≤ MOST_WIRES }
+    requires most { vec_len wires.old ≤ MAX_WORKERS }
     ensures writes { Writes (meaning command.now) (S.files shelf.old)
         (λ load. HasRisen (S.faults shelf.old) (S.faults shelf.new) × IsFaultOf (loads_of (meaning command.now)) load (S.asked shelf.old) (S.asked shelf.new))
         (HasRisen (K.faults sink.old) (K.faults sink.new)) (IsLostIn (meaning command.now) W.streak wires.new.items)

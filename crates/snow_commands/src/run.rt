@@ -12,10 +12,9 @@ ghost use Rattle.snow_commands.specs.Writes.{IsSilent, MakesOver, Writes};
 
 use crate::family::{Plan, run_family};
 use crate::guest::boot;
-use crate::program::MOST_WIRES;
 use command_line::GuestWords;
 use guest_files::{GuestFiles, Stop, read_guest};
-use host_workers::Gate;
+use host_workers::{Gate, MAX_WORKERS};
 use image_depot::Depot;
 use io_edge::{Shelf, Sink};
 use run_report::{Outcome, ReportError, report_into};
@@ -40,7 +39,7 @@ pub fn run_and_report<
     wires: &mut Vec<W>,
 ) -> Result<(), Stop>
     requires some { 0 < vec_len wires.old }
-    requires most { vec_len wires.old ≤ MOST_WIRES }
+    requires most { vec_len wires.old ≤ MAX_WORKERS }
     ensures writes { Writes (run guest.now plan.now.how.now) (S.files shelf.old)
         (λ load. HasRisen (S.faults shelf.old) (S.faults shelf.new) × IsFaultOf (loads_of (run guest.now plan.now.how.now)) load (S.asked shelf.old) (S.asked shelf.new))
         (HasRisen (K.faults sink.old) (K.faults sink.new)) (IsLostIn (run guest.now plan.now.how.now) W.streak wires.new.items)
@@ -67,7 +66,7 @@ pub fn run_files<R: AllocGlobal + Threads + Wait + Sync, W: Wire + Send, G: Gate
     wires: &mut Vec<W>,
 ) -> Result<Outcome, Stop>
     requires some { 0 < vec_len wires.old }
-    requires most { vec_len wires.old ≤ MOST_WIRES }
+    requires most { vec_len wires.old ≤ MAX_WORKERS }
     ensures makes { MakesOver ((0 < guest.now.clones) × IsOneLost W.streak wires.new.items) (guest_image guest.now files.now)
         (HasLines guest.now files.now) result }
     ensures seeded { IfRun result (map W.seeds wires.new.items ≡ seeded_for plan.now.how.now (map W.seeds wires.old.items)) }

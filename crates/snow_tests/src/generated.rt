@@ -1,6 +1,6 @@
 //! What `self` writes of the guest of seed 1, by some workers and by several at once.
 
-use crate::equal::{are_equal, made};
+use crate::equal::{are_equal, succeeds};
 use crate::tests::{answer_of, words_of};
 use crossbeam_utils::Backoff;
 use host_workers::{Gate, OpenGate, Point};
@@ -20,7 +20,7 @@ static LINE: &[u8] =
     b"self 1 machines 21 steps 77581 exits 55940547 killed 20 out 1298\n";
 
 /// How often a worker looks for the others, at most. Each time it leaves others the processor.
-const MOST_LOOKS: u32 = 1_000_000;
+const MAX_LOOKS: u32 = 1_000_000;
 
 /// What holds each worker at the first child of the root that it takes, until so many have taken one.
 #[derive(Drop)]
@@ -52,7 +52,7 @@ impl Meeting {
 
     fn wait(&self) {
         let backoff = Backoff::new();
-        for _ in 0..MOST_LOOKS {
+        for _ in 0..MAX_LOOKS {
             if self.is_met() {
                 return;
             }
@@ -72,10 +72,10 @@ impl Gate for Meeting {
 }
 
 /// So many wires that give each reply.
-fn wires_of(rt: &impl Abort, alloc: Global, count: usize) -> Vec<Seeded> {
+pub(crate) fn wires_of(rt: &impl Abort, alloc: Global, count: usize) -> Vec<Seeded> {
     let mut wires = Vec::new(alloc);
     for _ in 0..count {
-        made(rt, wires.push(Seeded::new()));
+        succeeds(rt, wires.push(Seeded::new()));
     }
     wires
 }
@@ -94,7 +94,7 @@ fn outside_of(rt: &impl Abort, alloc: Global, line: &str, count: usize) -> Outsi
     Outside {
         words: words_of(rt, alloc, line),
         shelf: MemShelf::new(Vec::new(alloc), Vec::new(alloc)),
-        sink: made(rt, MemSink::new(alloc, 100, 100, Vec::new(alloc))),
+        sink: succeeds(rt, MemSink::new(alloc, 100, 100, Vec::new(alloc))),
         wires: wires_of(rt, alloc, count),
     }
 }

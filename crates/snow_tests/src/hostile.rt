@@ -1,7 +1,7 @@
 //! Bytes that are not in form, and some that just are: images, descriptors, frames and scripts, each with what comes of
 //! them. Images and scripts are read by `snow`, with its code.
 
-use crate::equal::{are_equal, made};
+use crate::equal::{are_equal, succeeds};
 use crate::tests::{answers, exit_seven};
 use fetch_proto::decode_frame;
 use flat_memory::{push_words, write_bytes};
@@ -21,8 +21,10 @@ enum Form {
     TwoHeaders,
     /// An image of 65,534 segments of one zero, which lie one behind the other from the start of RAM on.
     MostHeaders,
-    /// The descriptor of the first of two children, of 778 bytes.
+    /// The descriptor of the first of two children, of 819 bytes.
     FirstChild,
+    /// The same in the first version of the format, of 778 bytes.
+    OldFirstChild,
     /// The frame of a page of zeros, of 4,108 bytes.
     Frame,
     /// A script of empty lines, a byte longer than a script may be.
@@ -55,7 +57,7 @@ const WHOLE: usize = 1 << 30;
 
 /// What bytes are made from, the length that they are cut to, what is put at a place of them, and what comes of them.
 #[rattlefmt::skip]
-static BYTES: [(Form, usize, usize, &[u8], Answer); 44] = [
+static BYTES: [(Form, usize, usize, &[u8], Answer); 52] = [
     (Form::ExitSeven, 51, 0, b"", Answer::NoImage(1)),
     (Form::ExitSeven, WHOLE, 0, b"\x00", Answer::NoImage(2)),
     (Form::ExitSeven, WHOLE, 4, b"\x02", Answer::NoImage(3)),
@@ -85,7 +87,15 @@ static BYTES: [(Form, usize, usize, &[u8], Answer); 44] = [
     (Form::FirstChild, WHOLE, 8, b"\x11", Answer::NoDescriptor(4)),
     (Form::FirstChild, WHOLE, 12, b"\0", Answer::NoDescriptor(5)),
     (Form::FirstChild, WHOLE, 20, b"\x29", Answer::NoDescriptor(5)),
+    (Form::FirstChild, WHOLE, 776, b"\x02", Answer::NoDescriptor(5)),
+    (Form::FirstChild, WHOLE, 816, b"\x02", Answer::NoDescriptor(4)),
+    (Form::FirstChild, WHOLE, 816, b"\x01\x10\0", Answer::NoDescriptor(7)),
+    (Form::FirstChild, 818, 0, b"", Answer::NoDescriptor(4)),
     (Form::FirstChild, WHOLE, 0, b"", Answer::IsDescriptor),
+    (Form::OldFirstChild, WHOLE, 3, b"3", Answer::NoDescriptor(4)),
+    (Form::OldFirstChild, WHOLE, 8, b"\x01\x04", Answer::NoDescriptor(3)),
+    (Form::OldFirstChild, 777, 0, b"", Answer::NoDescriptor(4)),
+    (Form::OldFirstChild, WHOLE, 0, b"", Answer::IsDescriptor),
     (Form::Frame, 0, 0, b"", Answer::NoFrame),
     (Form::Frame, 11, 0, b"", Answer::NoFrame),
     (Form::Frame, 12, 0, b"", Answer::NoFrame),
@@ -122,9 +132,9 @@ fn two_headers(rt: &impl Abort, alloc: Global) -> Vec<u8> {
 fn with_header_twice(rt: &impl Abort, alloc: Global, image: &[u8]) -> Vec<u8> {
     let (headers, words) = image.split_at(image.len().min(84));
     let (_, header) = headers.split_at(headers.len().min(52));
-    let mut bytes = made(rt, Vec::from_slice(alloc, headers));
-    made(rt, bytes.extend_from_slice(header));
-    made(rt, bytes.extend_from_slice(words));
+    let mut bytes = succeeds(rt, Vec::from_slice(alloc, headers));
+    succeeds(rt, bytes.extend_from_slice(header));
+    succeeds(rt, bytes.extend_from_slice(words));
     put(&mut bytes, 44, b"\x02");
     put(&mut bytes, 56, b"\x74");
     put(&mut bytes, 88, b"\x74");
@@ -137,14 +147,15 @@ fn most_headers(rt: &impl Abort, alloc: Global) -> Vec<u8> {
     put(&mut image, 44, b"\xfe\xff");
     for address in 0x8000_0000..0x8000_fffe {
         let words = [1, 0, address, address, 0, 1, 7, 4];
-        made(rt, push_words(&mut image, &words));
+        succeeds(rt, push_words(&mut image, &words));
     }
     image
 }
 
-/// What stands at places of the descriptor. The child stands behind the CLONE that was its parent's tenth step.
-static FIRST_CHILD: [(usize, &[u8]); 10] = [
-    (0, b"SFD1\0\0\0\0\x10\0\0\0\x01\0\0\0"),
+/// What stands at places of the descriptor, in each version. The child stands behind the CLONE that was its parent's tenth
+/// step.
+static FIRST_CHILD: [(usize, &[u8]); 9] = [
+    (4, b"\0\0\0\0\x10\0\0\0\x01\0\0\0"),
     (20, b"\x28\0\0\x80"),
     (40, b"\0\x20\0\x10\x02\0\0\0\x01\0\0\0"),
     (148, b"\0\x18"),
@@ -153,18 +164,34 @@ static FIRST_CHILD: [(usize, &[u8]); 10] = [
     (216, b"\x40\x42\x0f"),
     (248, b"\x01"),
     (260, b"\x02"),
-    (776, b"\xfe\xff"),
 ];
+
+/// The mark, and the map of pages with its form.
+static NEW: [(usize, &[u8]); 2] = [(0, b"SFD3"), (816, b"\0\xfe\xff")];
+
+/// The mark and the map of pages, where no entries of memory protection are told.
+static OLD: [(usize, &[u8]); 2] = [(0, b"SFD1"), (776, b"\xfe\xff")];
 
 /// What stands at the start of the frame.
 static FRAME: [(usize, &[u8]); 1] = [(0, b"SFR1\x03\0\0\0\x01\0\0\0")];
 
 /// So many zeros, but for what stands at places of them.
 fn placed(rt: &impl Abort, alloc: Global, size: usize, places: &[(usize, &[u8])]) -> Vec<u8> {
-    let mut bytes = made(rt, vec![in alloc; 0; size]);
+    let mut bytes = succeeds(rt, vec![in alloc; 0; size]);
+    place(&mut bytes, places);
+    bytes
+}
+
+fn place(bytes: &mut [u8], places: &[(usize, &[u8])]) {
     for (at, part) in places {
-        put(&mut bytes, *at, part);
+        put(bytes, *at, part);
     }
+}
+
+/// So many bytes of the descriptor, with what stands in its version at places of them.
+fn first_child(rt: &impl Abort, alloc: Global, size: usize, version: &[(usize, &[u8])]) -> Vec<u8> {
+    let mut bytes = placed(rt, alloc, size, &FIRST_CHILD);
+    place(&mut bytes, version);
     bytes
 }
 
@@ -173,9 +200,10 @@ fn bytes_of(rt: &impl Abort, alloc: Global, form: Form) -> Vec<u8> {
         Form::ExitSeven => exit_seven(rt, alloc),
         Form::TwoHeaders => two_headers(rt, alloc),
         Form::MostHeaders => most_headers(rt, alloc),
-        Form::FirstChild => placed(rt, alloc, 778, &FIRST_CHILD),
+        Form::FirstChild => first_child(rt, alloc, 819, &NEW),
+        Form::OldFirstChild => first_child(rt, alloc, 778, &OLD),
         Form::Frame => placed(rt, alloc, 4108, &FRAME),
-        Form::Script => made(rt, vec![in alloc; b'\n'; 1_048_577]),
+        Form::Script => succeeds(rt, vec![in alloc; b'\n'; 1_048_577]),
     }
 }
 

@@ -7,6 +7,8 @@ mod equal;
 #[cfg(test)]
 mod generated;
 #[cfg(test)]
+mod handed;
+#[cfg(test)]
 mod hostile;
 #[cfg(test)]
 mod numbers;
@@ -14,3 +16,5 @@ mod numbers;
 mod seeds;
 #[cfg(test)]
 mod tests;
+#[cfg(test)]
+mod workers;

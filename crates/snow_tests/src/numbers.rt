@@ -3,14 +3,13 @@
 use crate::equal::are_equal;
 use command_line::{
     DEFAULT_AHEAD, DEFAULT_CLONES, DEFAULT_LIMIT, DEFAULT_PAGES, DEFAULT_SEED, DEFAULT_SLICE,
-    DEFAULT_WORKERS, GENERATED_AHEAD, GENERATED_CLONES, LEAST_LIMIT, LEAST_SLICE, LEAST_WORKERS,
-    MOST_AHEAD, MOST_CLONES, MOST_LIMIT, MOST_SLICE, MOST_WORKERS,
+    DEFAULT_WORKERS, GENERATED_AHEAD, GENERATED_CLONES, MAX_SLICE, MAX_WORKERS, MIN_LIMIT,
+    MIN_SLICE, MIN_WORKERS,
 };
 use guest_files::{
-    DISK_LOAD, DISK_MOST, DISK_NOT_SECTORS, DISK_TOO_LONG, IMAGE_LOAD, IMAGE_MOST, INPUT_LOAD,
-    INPUT_TOO_LONG, SCRIPT_LOAD, SCRIPT_TOO_LONG, TOO_LONG,
+    DISK_LOAD, DISK_NOT_SECTORS, DISK_TOO_LONG, IMAGE_LOAD, INPUT_LOAD, INPUT_TOO_LONG, MAX_DISK,
+    MAX_IMAGE, SCRIPT_LOAD, SCRIPT_TOO_LONG, TOO_LONG,
 };
-use snow_commands::MOST_WIRES;
 use std::process::Abort;
 
 /// The loads.
@@ -30,32 +29,30 @@ static REFUSALS: [(u32, u32); 5] = [
     (SCRIPT_TOO_LONG, 6),
 ];
 
-/// What an option is that is not given, and its limits; and the clones and the pages ahead of a generated guest.
-static OPTIONS: [(u32, u32); 17] = [
+/// What an option is that is not given, and its limits, but for those of the crates below; and the clones and the pages ahead
+/// of a generated guest.
+static OPTIONS: [(u32, u32); 14] = [
     (DEFAULT_PAGES, 64),
     (DEFAULT_LIMIT, 1_000_000),
-    (LEAST_LIMIT, 1),
-    (MOST_LIMIT, 1_000_000_000),
+    (MIN_LIMIT, 1),
     (DEFAULT_CLONES, 0),
-    (MOST_CLONES, 4096),
     (DEFAULT_SEED, 0),
     (DEFAULT_AHEAD, 0),
-    (MOST_AHEAD, 16),
     (DEFAULT_WORKERS, 1),
-    (LEAST_WORKERS, 1),
-    (MOST_WORKERS, 64),
+    (MIN_WORKERS, 1),
+    (MAX_WORKERS, 64),
     (DEFAULT_SLICE, 1000),
-    (LEAST_SLICE, 1),
-    (MOST_SLICE, 1_000_000),
+    (MIN_SLICE, 1),
+    (MAX_SLICE, 1_000_000),
     (GENERATED_CLONES, 72),
     (GENERATED_AHEAD, 4),
 ];
 
-/// The most bytes of an image and of a disk, and the most wires.
+/// The most bytes of an image and of a disk, and the most workers of a board.
 static SIZES: [(usize, usize); 3] = [
-    (IMAGE_MOST, 16_777_216),
-    (DISK_MOST, 4_194_304),
-    (MOST_WIRES, 64),
+    (MAX_IMAGE, 16_777_216),
+    (MAX_DISK, 4_194_304),
+    (host_workers::MAX_WORKERS, 64),
 ];
 
 fn are_these(rt: &impl Abort, table: &[(u32, u32)]) {

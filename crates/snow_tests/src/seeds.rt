@@ -3,7 +3,7 @@
 ghost use Rattle.std.specs.Prelude.{◌≡◌, None};
 ghost use Rattle.wire_fates.specs.declared.fate.Fate.TheVariants.{Give};
 
-use crate::equal::{are_equal, made};
+use crate::equal::{are_equal, succeeds};
 use crate::tests::{answer_of, shelf_with, sink_of, words_of};
 use host_workers::OpenGate;
 use std::process::Abort;
@@ -55,7 +55,7 @@ static SEEDED: [(&str, [(u32, u32); 3]); 5] = [
 fn recorders<R: AllocGlobal + Abort>(rt: &R) -> Vec<Recorder> {
     let mut wires = Vec::new(rt.alloc());
     for _ in 0..3 {
-        made(rt, wires.push(Recorder { count: 0, last: 0 }));
+        succeeds(rt, wires.push(Recorder { count: 0, last: 0 }));
     }
     wires
 }
@@ -69,7 +69,7 @@ fn compare_given<R: AllocGlobal + Abort>(
 ) {
     let mut found = Vec::new(rt.alloc());
     for wire in wires {
-        made(rt, found.push((wire.count, wire.last)));
+        succeeds(rt, found.push((wire.count, wire.last)));
     }
     are_equal(rt, &(line, found.as_slice()), &(line, given.as_slice()));
 }

@@ -3,12 +3,12 @@
 
 ghost use Rattle.std.specs.Prelude.{◌≤◌, length};
 
-use crate::equal::{are_equal, made};
+use crate::equal::{are_equal, succeeds};
 use elf_load::RAM_BASE;
-use host_workers::{Gate, OpenGate};
+use host_workers::{Gate, MAX_WORKERS, OpenGate};
 use io_edge::{MemShelf, MemSink};
 use rv_asm::elf_of;
-use snow_commands::{MOST_WIRES, Status, snow};
+use snow_commands::{Status, snow};
 use std::alloc::Global;
 use std::process::Abort;
 use std::sync::Wait;
@@ -35,8 +35,8 @@ static TWO_CHILDREN_REPORT: &[u8] =
 pub(crate) fn words_of(rt: &impl Abort, alloc: Global, line: &str) -> Vec<String> {
     let mut words = Vec::new(alloc);
     for word in line.split(' ') {
-        let word = made(rt, String::from_str(alloc, word));
-        made(rt, words.push(word));
+        let word = succeeds(rt, String::from_str(alloc, word));
+        succeeds(rt, words.push(word));
     }
     words
 }
@@ -48,9 +48,9 @@ fn add_file(
     name: &str,
     bytes: &[u8],
 ) {
-    let name = made(rt, String::from_str(alloc, name));
-    let bytes = made(rt, Vec::from_slice(alloc, bytes));
-    made(rt, files.push((name, bytes)));
+    let name = succeeds(rt, String::from_str(alloc, name));
+    let bytes = succeeds(rt, Vec::from_slice(alloc, bytes));
+    succeeds(rt, files.push((name, bytes)));
 }
 
 /// The image `guest`, `script`, `disk`, of 512 bytes, and the input `Z`.
@@ -65,13 +65,13 @@ fn files_of(rt: &impl Abort, alloc: Global, guest: &[u8], script: &[u8]) -> Vec<
 
 /// A shelf with these files. Its call of this number fails.
 fn shelf_of(rt: &impl Abort, alloc: Global, guest: &[u8], script: &[u8], fails: u64) -> MemShelf {
-    let faults = made(rt, vec![in alloc; fails]);
+    let faults = succeeds(rt, vec![in alloc; fails]);
     MemShelf::new(files_of(rt, alloc, guest, script), faults)
 }
 
 /// A shelf with the guest that ends with the value 7, and a script that is empty.
 pub(crate) fn shelf_with(rt: &impl Abort, alloc: Global) -> MemShelf {
-    let image = made(rt, elf_of(alloc, RAM_BASE, &EXIT_SEVEN));
+    let image = succeeds(rt, elf_of(alloc, RAM_BASE, &EXIT_SEVEN));
     shelf_of(rt, alloc, &image, b"", 0)
 }
 
@@ -79,10 +79,10 @@ pub(crate) fn shelf_with(rt: &impl Abort, alloc: Global) -> MemShelf {
 fn wire_of(rt: &impl Abort, alloc: Global, gives: usize, fate: Fate, times: usize) -> Scripted {
     let mut fates = Vec::new(alloc);
     for _ in 0..gives {
-        made(rt, fates.push(Fate::Give(0)));
+        succeeds(rt, fates.push(Fate::Give(0)));
     }
     for _ in 0..times {
-        made(rt, fates.push(fate));
+        succeeds(rt, fates.push(fate));
     }
     Scripted::new(fates)
 }
@@ -99,15 +99,15 @@ fn wires_of(rt: &impl Abort, alloc: Global, wires: Wires) -> Vec<Scripted> {
     let (count, gives, fate, times) = wires;
     let mut all = Vec::new(alloc);
     for _ in 0..count {
-        made(rt, all.push(wire_of(rt, alloc, gives, fate, times)));
+        succeeds(rt, all.push(wire_of(rt, alloc, gives, fate, times)));
     }
     all
 }
 
 /// A sink that takes seven bytes a put. Its put of this number fails.
 pub(crate) fn sink_of(rt: &impl Abort, alloc: Global, fails: u64) -> MemSink {
-    let faults = made(rt, vec![in alloc; fails]);
-    made(rt, MemSink::new(alloc, 7, 1000, faults))
+    let faults = succeeds(rt, vec![in alloc; fails]);
+    succeeds(rt, MemSink::new(alloc, 7, 1000, faults))
 }
 
 /// The words of a command line, and all that it is run over.
@@ -152,7 +152,7 @@ pub(crate) fn answer_of<
     gate: &G,
 ) -> Status {
     let count = wires.len();
-    assert!(rt; 1 <= count && count <= MOST_WIRES);
+    assert!(rt; 1 <= count && count <= MAX_WORKERS);
     snow(rt, words, shelf, sink, wires, gate)
 }
 
@@ -197,7 +197,7 @@ pub(crate) fn answers<R: AllocGlobal + Threads + Wait + Sync + Abort>(
 }
 
 /// Expects that a command line writes this over the image of these words and a script.
-fn writes<R: AllocGlobal + Threads + Wait + Sync + Abort>(
+pub(crate) fn writes<R: AllocGlobal + Threads + Wait + Sync + Abort>(
     rt: &R,
     line: &str,
     guest: &[u32],
@@ -206,7 +206,7 @@ fn writes<R: AllocGlobal + Threads + Wait + Sync + Abort>(
 )
     requires { length guest.now ≤ 64 }
 {
-    let image = made(rt, elf_of(rt.alloc(), RAM_BASE, guest));
+    let image = succeeds(rt, elf_of(rt.alloc(), RAM_BASE, guest));
     let done = Status {
         code: 0,
         first: 0,
@@ -246,12 +246,13 @@ fn writes_what_scripts_tell(rt: HostRuntime) {
 }
 
 /// Command lines, how many bytes of the image are there, the script, and the code with its two numbers.
-static REFUSALS: [(&str, usize, &[u8], u8, u32, u32); 21] = [
+static REFUSALS: [(&str, usize, &[u8], u8, u32, u32); 22] = [
     ("fly guest", 104, b"", 2, 0, 0),
     ("run guest script", 104, b"", 2, 0, 0),
     ("drive guest", 104, b"", 2, 0, 0),
     ("run --help", 104, b"", 2, 0, 0),
     ("run guest --ram 15", 104, b"", 2, 0, 0),
+    ("run guest --ram 16385", 104, b"", 2, 0, 0),
     ("run guest --clones 4097", 104, b"", 2, 0, 0),
     ("run guest --ahead 17", 104, b"", 2, 0, 0),
     ("run guest --workers 65", 104, b"", 2, 0, 0),
@@ -279,7 +280,7 @@ static REFUSALS: [(&str, usize, &[u8], u8, u32, u32); 21] = [
 
 /// The image of the guest that ends with the value 7.
 pub(crate) fn exit_seven(rt: &impl Abort, alloc: Global) -> Vec<u8> {
-    made(rt, elf_of(alloc, RAM_BASE, &EXIT_SEVEN))
+    succeeds(rt, elf_of(alloc, RAM_BASE, &EXIT_SEVEN))
 }
 
 #[test]
@@ -387,7 +388,7 @@ fn has_code<R: AllocGlobal + Threads + Wait + Sync + Abort>(
 
 /// The image of the guest that makes two children.
 fn two_children(rt: &impl Abort, alloc: Global) -> Vec<u8> {
-    made(rt, elf_of(alloc, RAM_BASE, &TWO_CHILDREN))
+    succeeds(rt, elf_of(alloc, RAM_BASE, &TWO_CHILDREN))
 }
 
 #[test]

@@ -3,9 +3,9 @@ use crate::view::{Content, Kept, View};
 use atomic_table::{Join, Play, Split};
 
 /// A number is drawn.
-pub(crate) struct Draws;
+pub(crate) struct DrawsNumber;
 
-impl<A, N, T> Play<Content<T, N>, View<A, N>> for Draws {
+impl<A, N, T> Play<Content<T, N>, View<A, N>> for DrawsNumber {
     ghost use Rattle.turn_board.specs.Steps.{drew};
 
     ghost then = { drew };

@@ -3,7 +3,7 @@ ghost use Rattle.std.specs.Prelude.{◌≡◌};
 
 use crate::bells::Bells;
 use crate::patience::Patience;
-use crate::plays::{Draws, Learns, Looks, Meets, Parts};
+use crate::plays::{DrawsNumber, Learns, Looks, Meets, Parts};
 use crate::turn::Turn;
 use crate::view::{Content, Keeping, Kept, Seat, View};
 use atomic_table::{Table, TableRule};
@@ -17,7 +17,7 @@ pub(crate) const TICKET: usize = 0;
 pub(crate) const SERVING: usize = 1;
 
 /// A number from here on waits for ever.
-pub(crate) const MOST: u64 = 1 << 63;
+pub(crate) const NUMBERS_END: u64 = 1 << 63;
 
 /// The table of a lock: two words, and one slot for the value. It has its rule as a parameter, since a struct that names a
 /// rule which stands on a bound may not go to other threads.
@@ -64,7 +64,10 @@ impl<A, N: Drop, T: Kept<A, N> + Drop> Turns<A, N, T> {
         ensures turn { IsTurn self.now.table.shared.table_id self.now.table.shared.key result.seat }
         ensures enters { Enters T.stands self.now.table.shared.key seat result.seat result.value }
     {
-        let number = self.table.shared.fetch_add::<Draws>(&mut seat, TICKET, 1);
+        let number = self
+            .table
+            .shared
+            .fetch_add::<DrawsNumber>(&mut seat, TICKET, 1);
         self.wait(rt, &mut seat, number);
         let empty = Content {
             value: None,
@@ -84,7 +87,7 @@ impl<A, N: Drop, T: Kept<A, N> + Drop> Turns<A, N, T> {
         let mut patience = Patience::new();
         for _ in rt.forever() {
             let served = self.table.shared.load::<Looks>(seat, SERVING);
-            if served == number && served < MOST {
+            if served == number && served < NUMBERS_END {
                 patience.end(bell);
                 return;
             }

@@ -1,12 +1,13 @@
--- A store to the fork port that is a call or ZERO changes nothing yet.
-use Rattle.std.proofs.Common.{◌≡◌, ℕ, Option, Some, None, IfSome, refl, ap, subst, sym, ◌∙◌}
+-- A store to the fork port that is a call, EXIT with bytes or ZERO changes nothing yet.
+use Rattle.std.proofs.Common.{◌≡◌, ℕ, ◌≤◌, Option, Some, None, IfSome, refl, ap, subst, sym, ◌∙◌}
 use Rattle.fork_port.specs.declared.commands.Call.{Call}
 use Rattle.fork_port.specs.declared.commands.Effect.{Effect}
 use Rattle.fork_port.specs.declared.commands.Effect.TheVariants as effect
+use Rattle.fork_port.specs.declared.handed.TheConstants.{MOST_HANDED}
 use Rattle.fork_port.specs.Registers.{ForkRegisters}
 use Rattle.fork_port.specs.Commands.{IsMakeable}
 use Rattle.fork_port.specs.Fork.{ForkStored, fork_store}
-use Rattle.fork_port.proofs.StoreLemmas.{call_stored, zero_stored}
+use Rattle.fork_port.proofs.StoreLemmas.{call_stored, handing_stored, zero_stored}
 use Rattle.vm_bus.specs.Bus.{BusRegisters, Waits}
 
 pub fork-waits : (b : BusRegisters) (f : ForkRegisters) (offset width word : ℕ) (e : Effect)
@@ -21,6 +22,12 @@ fork-waits b f offset width word (effect.Call c) h =
     let both = one refl in
     (ap (λ (g : ForkRegisters). record b { fork = g }) both.0, both.1)
 fork-waits b f offset width word (effect.Exit value) h = tt
+fork-waits b f offset width word (effect.ExitWith value address count) h =
+    let IsLeft : ForkStored → Type 0 = λ s. s.effect ≡ effect.ExitWith value address count → (s.fork ≡ b.fork) × (count ≤ MOST_HANDED) in
+    let all : IfSome (fork_store b.fork offset width word) IsLeft = handing_stored b.fork offset width word value address count in
+    let one : IsLeft (record { fork = f; effect = effect.ExitWith value address count }) = subst (λ (o : Option ForkStored). IfSome o IsLeft) h all in
+    let both = one refl in
+    (ap (λ (g : ForkRegisters). record b { fork = g }) both.0, both.1)
 fork-waits b f offset width word (effect.Zero first count) h =
     let all : IfSome (fork_store b.fork offset width word) (λ (s : ForkStored). s.effect ≡ effect.Zero first count → s.fork ≡ b.fork) =
     zero_stored b.fork offset width word first count in

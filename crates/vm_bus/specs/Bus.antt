@@ -1,5 +1,5 @@
 -- The ports by address. Each takes the accesses from its base on; the offset there is its own matter.
-use Rattle.std.specs.Prelude.{◌≡◌, ℕ, ◌-◌, ◌<◌, ◌⊎◌, nat_lt, if◌then◌else◌, List, [], length, Option, None, IsSomeAnd}
+use Rattle.std.specs.Prelude.{◌≡◌, ℕ, ◌-◌, ◌<◌, ◌≤◌, ◌⊎◌, nat_lt, if◌then◌else◌, List, [], length, Option, None, IsSomeAnd}
 use Rattle.std.specs.Option.{option_map}
 use Rattle.console_port.specs.Console.{ConsoleRegisters, console_load, console_store}
 use Rattle.timer_port.specs.declared.registers.TimerRegisters.{TimerRegisters}
@@ -8,7 +8,8 @@ use Rattle.timer_port.specs.Timer as timer
 use Rattle.block_port.specs.Block.{BlockRegisters, WritesSector, block_load, block_store}
 use Rattle.block_port.specs.Block as block
 use Rattle.fork_port.specs.declared.commands.Effect.{Effect}
-use Rattle.fork_port.specs.declared.commands.Effect.TheVariants.{Done, TimeWritten, Call, Exit, Zero}
+use Rattle.fork_port.specs.declared.commands.Effect.TheVariants.{Done, TimeWritten, Call, Exit, ExitWith, Zero}
+use Rattle.fork_port.specs.declared.handed.TheConstants.{MOST_HANDED}
 use Rattle.fork_port.specs.Commands.{IsMakeable}
 use Rattle.fork_port.specs.Registers.{ForkRegisters}
 use Rattle.fork_port.specs.Registers as fork
@@ -93,12 +94,14 @@ bus_store b address width word =
     else (if nat_lt address FORK_BASE then option_map (λ k. record { bus = record b { block = k }; effect = Done }) (block_store b.block (address - BLOCK_BASE) width word)
     else fork_stored b (address - FORK_BASE) width word)))
 
--- a store that is a call or ZERO changes nothing yet, since the machine makes it. The call can be made
+-- A store that is a call, EXIT with bytes or ZERO changes nothing yet, since the machine makes it. The call can be made,
+-- and the bytes are not too many.
 abbrev pub Waits : BusRegisters → BusRegisters → Effect → Type 0
 Waits old new Done = Unit {0}
 Waits old new TimeWritten = Unit {0}
 Waits old new (Call call) = (new ≡ old) × IsMakeable old.fork call
 Waits old new (Exit value) = Unit {0}
+Waits old new (ExitWith value address count) = (new ≡ old) × (count ≤ MOST_HANDED)
 Waits old new (Zero first count) = new ≡ old
 
 -- Memory is wanted where a byte goes to the output, a sector is written, or a ticket is granted.

@@ -1,5 +1,5 @@
 -- A run so far, and what its end says.
-use Rattle.std.proofs.Common.{◌≡◌, ℕ, ◌+◌, ◌-◌, ◌<◌, ◌≤◌, inl, inr, Bool, true, false, cond, eqb, Option, Some, None, refl, sym, ap, ◌∙◌, subst, arith}
+use Rattle.std.proofs.Common.{◌≡◌, ℕ, ◌+◌, ◌-◌, ◌<◌, ◌≤◌, inl, inr, List, Bool, true, false, cond, eqb, Option, Some, None, refl, sym, ap, ◌∙◌, subst, arith}
 use Rattle.std.proofs.lemmas.Bool.{cases_lt}
 use Rattle.std.proofs.lemmas.Bool.Decides.{nat_tests}
 use Rattle.std.specs.Option.{IfSome}
@@ -155,9 +155,10 @@ rises_retired s new written is =
     let m : Machine = record { state = s; steps = 0; limit = 0; ending = None } in
     subst (λ (a : Action). (port_of (applied a m)).next_ticket ≤ s.ports.fork.next_ticket + 1) is (next-advance m)
 
-pub rises_exited : (s new : State) (value : ℕ) → action s ≡ exit value new → new.ports.fork.next_ticket ≤ s.ports.fork.next_ticket + 1
+pub rises_exited : (s new : State) (value : ℕ) (bytes : List ℕ) → action s ≡ exit value bytes new
+    → new.ports.fork.next_ticket ≤ s.ports.fork.next_ticket + 1
 unfolding advance
-rises_exited s new value is =
+rises_exited s new value bytes is =
     let m : Machine = record { state = s; steps = 0; limit = 0; ending = None } in
     subst (λ (a : Action). (port_of (applied a m)).next_ticket ≤ s.ports.fork.next_ticket + 1) is (next-advance m)
 
@@ -181,8 +182,8 @@ funded-kept f funded = record {
 pub funded_retired : (s new : State) (written : Written) → IsFunded s.ports.fork → action s ≡ retire written new → IsFunded new.ports.fork
 funded_retired s new written funded is = subst (Ported IsFunded s.ports.fork) is (action-ported IsFunded s (funded-kept s.ports.fork funded))
 
-pub funded_exited : (s new : State) (value : ℕ) → IsFunded s.ports.fork → action s ≡ exit value new → IsFunded new.ports.fork
-funded_exited s new value funded is = subst (Ported IsFunded s.ports.fork) is (action-ported IsFunded s (funded-kept s.ports.fork funded))
+pub funded_exited : (s new : State) (value : ℕ) (bytes : List ℕ) → IsFunded s.ports.fork → action s ≡ exit value bytes new → IsFunded new.ports.fork
+funded_exited s new value bytes funded is = subst (Ported IsFunded s.ports.fork) is (action-ported IsFunded s (funded-kept s.ports.fork funded))
 
 -- ---- the counts of a machine after a step
 

@@ -1,6 +1,7 @@
 //! One machine: a hart with a limit and an ending, which runs, forks, joins and kills.
 #![tactic(auto)]
 
+pub mod laws;
 mod receiver;
 mod vm;
 

@@ -367,14 +367,13 @@ impl Vm {
         if is_left { epoch } else { self.steps as u32 }
     }
 
-    /// Whether the coming step leaves RAM as it is, and which pages are here. Before a long pause that is not looked at.
+    /// Whether the coming step leaves RAM as it is, which pages are here, and what may be fetched. Before a long pause that
+    /// is not looked at.
     #[inline(always)]
-    fn leaves_ram(&self, slots: &mut [Slot], epoch: u32, pause: u64) -> bool
-        requires some { 0 < length slots.old }
-        requires keeps { Keeps (hart_in self.now) epoch slots.old }
-        ensures told { IsTrue result → ComesAside (hart_in self.now) }
-        ensures keeps { Keeps (hart_in self.now) epoch slots.new }
-        ensures same_length { length slots.new ≡ length slots.old }
+    fn leaves_ram(&self, slots: &[Slot], epoch: u32, pause: u64) -> bool
+        requires some { 0 < length slots.now }
+        requires keeps { Keeps (hart_in self.now) epoch slots.now }
+        ensures { IsTrue result → ComesAside (hart_in self.now) }
     {
         if pause >= LONG_PAUSE {
             return false;
@@ -427,10 +426,15 @@ impl Vm {
                 count_step(&mut self.steps, self.limit, &mut self.ending);
                 Ok(None)
             }
-            Acted::Exited(value) => {
+            Acted::Exited {
+                value,
+                address,
+                count,
+            } => {
+                let bytes = self.hart.handed(address, count);
                 self.hart.count(true, Written::Nothing);
                 self.steps += 1;
-                self.ending = Some(Ending::Exit(value));
+                self.ending = Some(Ending::Exit(value, bytes));
                 Ok(None)
             }
             Acted::Asked(call) => Ok(Some(Stepped::Call(call))),

@@ -1,12 +1,10 @@
 -- What is left to ask of bytes that are readable.
-use Rattle.std.proofs.Common.{◌≡◌, ◌<◌, ◌^◌, ℕ, List, length, drop, sym, ap, ap₂, ◌∙◌, subst, Some, None, arith}
+use Rattle.std.proofs.Common.{◌≡◌, ◌<◌, ◌^◌, ℕ, List, length, drop, sym, ap, ap₂, ◌∙◌, Some, None, arith}
 use Rattle.std.specs.Prelude.{Bool, if◌then◌else◌, Option, Err}
 use Rattle.flat_memory.proofs.ByteLists.{AreBytes}
-use Rattle.vm_descriptor.specs.declared.descriptor.Descriptor.{Descriptor}
 use Rattle.vm_descriptor.specs.declared.error.DescError.{DescError}
 use Rattle.vm_descriptor.specs.declared.error.DescError.TheVariants.{Refused, Memory}
 use Rattle.vm_descriptor.specs.declared.version.Version.{Version}
-use Rattle.vm_descriptor.specs.Descriptor.{IsInRange}
 use Rattle.vm_descriptor.specs.Maps.{form_of, is_due}
 use Rattle.vm_descriptor.specs.Described.{IsGiven, IsReadable, IsRefused, read_as, refused}
 use Rattle.vm_descriptor.proofs.DecodedInRange.{decoded_in_range}

@@ -1,5 +1,5 @@
 -- What the runs of numbers in bytes say of the fields.
-use Rattle.std.proofs.Common.{◌≡◌, ℕ, List, get_or, drop, take, sym, ap, ap₂, ◌∙◌, Option}
+use Rattle.std.proofs.Common.{◌≡◌, ℕ, List, get_or, drop, take, ap, ap₂, ◌∙◌, Option}
 use Rattle.std.specs.Prelude.{Bool, ◌&&◌}
 use Rattle.std.proofs.Math.Bool.{and_assoc}
 use Rattle.block_port.specs.declared.status.Status.{Status}
@@ -7,39 +7,38 @@ use Rattle.console_port.specs.declared.port.TheConstants.{MAX_INPUT}
 use Rattle.rv_traps.specs.declared.registers.CsrRegisters.{CsrRegisters}
 use Rattle.vm_descriptor.specs.declared.descriptor.Descriptor.{Descriptor}
 use Rattle.vm_descriptor.specs.declared.descriptor.TheConstants.{MAX_CLONES, MAX_SHARE, MAX_LIMIT}
-use Rattle.vm_descriptor.specs.Fields.{aligned, between, has_only, is_mstatus, number_in, up_to}
+use Rattle.vm_descriptor.specs.Fields.{aligned, between, has_only, is_mode_and_mstatus, mode_of, mstatus_in, number_in, up_to}
+use Rattle.guest_pmp.specs.declared.access.Mode.{Mode}
+use Rattle.guest_pmp.specs.declared.registers.PmpRegisters.{PmpRegisters}
+use Rattle.guest_pmp.specs.Registers.{at_reset as no_entries}
 use Rattle.vm_descriptor.specs.Fields as field
 use Rattle.vm_descriptor.specs.declared.version.Version.{Version}
 use Rattle.vm_descriptor.specs.Maps.{flags_as}
-use Rattle.vm_descriptor.specs.Described.{agree, are_csrs, are_in_range, csrs_of, is_reservation, numbers_from, read_as, reservation_of, status_of}
+use Rattle.vm_descriptor.specs.Described.{agree, are_csrs, are_in_range, csrs_of, entries_in, is_reservation, numbers_from, read_as, reservation_of, status_of}
 use Rattle.std.specs.Prelude.{nat_le}
 
 -- the control and status registers, by their words and the two counters
-pub csrs_read : (words counters bytes : List ℕ) → words ≡ numbers_from 4 7 148 bytes → counters ≡ numbers_from 8 2 176 bytes
-    → (let csrs : CsrRegisters = record {
-      mstatus = get_or words 0 0;
-      mie = get_or words 1 0;
-      mtvec = get_or words 2 0;
-      mscratch = get_or words 3 0;
-      mepc = get_or words 4 0;
-      mcause = get_or words 5 0;
-      mtval = get_or words 6 0;
-      mcycle = get_or counters 0 0;
-      minstret = get_or counters 1 0;
-    } in csrs) ≡ csrs_of (number_in bytes)
+abbrev pub csrs_made : (words counters : List ℕ) → Mode → ℕ → PmpRegisters → CsrRegisters
+csrs_made words counters mode mstatus pmp = record {
+  mode = mode;
+  mstatus = mstatus;
+  mie = get_or words 1 0;
+  mtvec = get_or words 2 0;
+  mscratch = get_or words 3 0;
+  mepc = get_or words 4 0;
+  mcause = get_or words 5 0;
+  mtval = get_or words 6 0;
+  mcycle = get_or counters 0 0;
+  minstret = get_or counters 1 0;
+  pmp = pmp;
+}
+
+pub csrs_read : (words counters bytes : List ℕ) (mode : Mode) (mstatus : ℕ) (pmp : PmpRegisters) → words ≡ numbers_from 4 7 148 bytes → counters ≡ numbers_from 8 2 176 bytes
+    → mode ≡ mode_of (get_or words 0 0) → mstatus ≡ mstatus_in (get_or words 0 0) → csrs_made words counters mode mstatus pmp ≡ csrs_of (number_in bytes) pmp
 unfolding numbers_from
-csrs_read words counters bytes are count =
-    ap₂ (λ (ws cs : List ℕ). let csrs : CsrRegisters = record {
-      mstatus = get_or ws 0 0;
-      mie = get_or ws 1 0;
-      mtvec = get_or ws 2 0;
-      mscratch = get_or ws 3 0;
-      mepc = get_or ws 4 0;
-      mcause = get_or ws 5 0;
-      mtval = get_or ws 6 0;
-      mcycle = get_or cs 0 0;
-      minstret = get_or cs 1 0;
-    } in csrs) are count
+csrs_read words counters bytes mode mstatus pmp are count is_mode is_mstatus =
+    ap₂ (λ (m : Mode) (s : ℕ). csrs_made words counters m s pmp) is_mode is_mstatus
+    ∙ ap₂ (λ (ws cs : List ℕ). csrs_made ws cs (mode_of (get_or ws 0 0)) (mstatus_in (get_or ws 0 0)) pmp) are count
 
 -- the descriptor of which these are the first words, the times and what the ports hold, and then what is made of other bytes
 abbrev pub made : (identity times ports registers : List ℕ) → CsrRegisters → Option ℕ → Status → List ℕ → List Bool → Descriptor
@@ -66,22 +65,25 @@ made identity times ports registers csrs reservation status buffer blank = recor
 
 module _ (version : Version) (bytes identity times ports registers : List ℕ) (csrs : CsrRegisters) (reservation : Option ℕ) (status : Status) (buffer : List ℕ) (blank : List Bool)
     (are_identity : identity ≡ numbers_from 4 5 4 bytes) (are_times : times ≡ numbers_from 8 4 192 bytes) (are_ports : ports ≡ numbers_from 4 10 224 bytes) where
-  pub all_read : registers ≡ numbers_from 4 31 24 bytes → csrs ≡ csrs_of (number_in bytes)
+  pub all_read : (pmp : PmpRegisters) → registers ≡ numbers_from 4 31 24 bytes → csrs ≡ csrs_of (number_in bytes) pmp → pmp ≡ entries_in version.has_entries bytes
       → reservation ≡ reservation_of (get_or ports 0 0) (get_or ports 1 0) → status ≡ status_of (get_or ports 5 0)
       → buffer ≡ take 512 (drop 264 bytes) → blank ≡ flags_as version.has_forms (get_or identity 1 0) (drop version.fields bytes)
       → made identity times ports registers csrs reservation status buffer blank ≡ read_as version bytes
   unfolding numbers_from read_as
-  all_read are_registers are_csrs is_reservation is_status is_buffer are_blank =
+  all_read pmp are_registers are_csrs are_entries is_reservation is_status is_buffer are_blank =
+      let are_all = are_csrs ∙ ap (λ (p : PmpRegisters). csrs_of (number_in bytes) p) are_entries in
       let reserved = is_reservation ∙ ap (λ (ps : List ℕ). reservation_of (get_or ps 0 0) (get_or ps 1 0)) are_ports in
       let stands = is_status ∙ ap (λ (ps : List ℕ). status_of (get_or ps 5 0)) are_ports in
       let flags = are_blank ∙ ap (λ (ids : List ℕ). flags_as version.has_forms (get_or ids 1 0) (drop version.fields bytes)) are_identity in
       ap₂ (λ (ids ts : List ℕ). made ids ts ports registers csrs reservation status buffer blank) are_identity are_times
       ∙ ap₂ (λ (ps rs : List ℕ). made (numbers_from 4 5 4 bytes) (numbers_from 8 4 192 bytes) ps rs csrs reservation status buffer blank) are_ports are_registers
       ∙ ap₂ (λ (cs : CsrRegisters) (r : Option ℕ). made (numbers_from 4 5 4 bytes) (numbers_from 8 4 192 bytes) (numbers_from 4 10 224 bytes) (numbers_from 4 31 24 bytes) cs r status buffer blank)
-      are_csrs reserved
-      ∙ ap₂ (λ (s : Status) (b : List ℕ). made (numbers_from 4 5 4 bytes) (numbers_from 8 4 192 bytes) (numbers_from 4 10 224 bytes) (numbers_from 4 31 24 bytes) (csrs_of (number_in bytes))
+      are_all reserved
+      ∙ ap₂ (λ (s : Status) (b : List ℕ). made (numbers_from 4 5 4 bytes) (numbers_from 8 4 192 bytes) (numbers_from 4 10 224 bytes) (numbers_from 4 31 24 bytes)
+      (csrs_of (number_in bytes) (entries_in version.has_entries bytes))
       (reservation_of (number_in bytes field.Reserved) (number_in bytes field.Reservation)) s b blank) stands is_buffer
-      ∙ ap (λ (bs : List Bool). made (numbers_from 4 5 4 bytes) (numbers_from 8 4 192 bytes) (numbers_from 4 10 224 bytes) (numbers_from 4 31 24 bytes) (csrs_of (number_in bytes))
+      ∙ ap (λ (bs : List Bool). made (numbers_from 4 5 4 bytes) (numbers_from 8 4 192 bytes) (numbers_from 4 10 224 bytes) (numbers_from 4 31 24 bytes)
+      (csrs_of (number_in bytes) (entries_in version.has_entries bytes))
       (reservation_of (number_in bytes field.Reserved) (number_in bytes field.Reservation)) (status_of (number_in bytes field.BlockStatus)) (take 512 (drop 264 bytes)) bs) flags
 
 -- the line control register is the fourth of the ports' words
@@ -98,7 +100,7 @@ group k s p m i t e l r c v u rest = simp and_assoc
 
 module _ (bytes identity times ports : List ℕ) (csrs : CsrRegisters)
     (are_identity : identity ≡ numbers_from 4 5 4 bytes) (are_times : times ≡ numbers_from 8 4 192 bytes) (are_ports : ports ≡ numbers_from 4 6 224 bytes)
-    (is_csrs : csrs ≡ csrs_of (number_in bytes)) where
+    (is_csrs : csrs ≡ csrs_of (number_in bytes) no_entries) where
   abbrev pub tests : List ℕ → List ℕ → List ℕ → CsrRegisters → Bool
   tests ids ts ps cs =
       (between 1 MAX_CLONES (get_or ids 2 0) && (up_to MAX_SHARE (get_or ids 3 0) && aligned (get_or ids 4 0)))
@@ -113,6 +115,6 @@ module _ (bytes identity times ports : List ℕ) (csrs : CsrRegisters)
       ap₂ (λ (ids ts : List ℕ). tests ids ts ports csrs) are_identity are_times
       ∙ ap₂ (λ (ps : List ℕ) (cs : CsrRegisters). tests (numbers_from 4 5 4 bytes) (numbers_from 8 4 192 bytes) ps cs) are_ports is_csrs
       ∙ group (between 1 MAX_CLONES (number_in bytes field.CloneId)) (up_to MAX_SHARE (number_in bytes field.Share)) (aligned (number_in bytes field.Pc))
-      (is_mstatus (number_in bytes field.Mstatus)) (has_only 0x80 (number_in bytes field.Mie)) (has_only 0xffff_fffd (number_in bytes field.Mtvec)) (aligned (number_in bytes field.Mepc))
+      (is_mode_and_mstatus (number_in bytes field.Mstatus)) (has_only 0x80 (number_in bytes field.Mie)) (has_only 0xffff_fffd (number_in bytes field.Mtvec)) (aligned (number_in bytes field.Mepc))
       (between 1 MAX_LIMIT (number_in bytes field.Limit)) (up_to 1 (number_in bytes field.Reserved)) (up_to MAX_INPUT (number_in bytes field.Place))
       (up_to 255 (number_in bytes field.LineControl)) (up_to 2 (number_in bytes field.BlockStatus)) (agree (number_in bytes))

@@ -1,9 +1,8 @@
 -- Maps in whichever form, with the byte of the form or without.
-use Rattle.std.proofs.Common.{◌≡◌, ◌≢◌, ◌≤◌, ◌<◌, ◌+◌, ◌*◌, ◌-◌, ◌/◌, ◌%◌, ◌^◌, ℕ, zero, suc, List, [], ◌∷◌, length, drop, get_or, sym, ap, ap₂, ◌∙◌, refl, true, false, subst, Some, None, arith}
+use Rattle.std.proofs.Common.{◌≡◌, ◌<◌, ◌*◌, ◌-◌, ◌/◌, ◌%◌, ◌^◌, ℕ, suc, List, [], ◌∷◌, length, get_or, sym, ap, ◌∙◌, refl, true, false, Some, None, arith}
 use Rattle.std.specs.Prelude.{Bool, not, ◌&&◌, ◌==◌, nat_lt, if◌then◌else◌, Option}
 use Rattle.std.specs.List.{flat_map}
-use Rattle.std.specs.Cmp.Derive.{both_true}
-use Rattle.std.proofs.lemmas.Bool.{and_parts, eq-eqb, eqb-true, eqb-false, not-false}
+use Rattle.std.proofs.lemmas.Bool.{and_parts, eq-eqb, eqb-true, eqb-false}
 use Rattle.flat_memory.proofs.ByteLists.{AreBytes}
 use Rattle.vm_descriptor.specs.Maps.{are_runs, due_form, flags_as, flags_in, flags_of, flags_of_runs, form_of, half, halves, has_spare_bit}
 use Rattle.vm_descriptor.specs.Maps.{is_due, is_sized, is_whole, map_as, map_bytes, map_in, map_of, map_size, misread, runs}

@@ -13,9 +13,11 @@ mod MapLast
 mod MapSpelled
 mod Maps
 mod Marks
+mod Modes
 mod NotRefused
 mod ReadBack
 mod RunLengths
 mod Spelled
 mod Spelling
+mod VersionList
 mod Words

@@ -1,10 +1,10 @@
 -- The lengths of runs of equal flags, and their flags.
 use Rattle.std.proofs.Common.{◌≡◌, ◌≢◌, ◌≤◌, ◌<◌, ◌+◌, ◌-◌, ◌*◌, ◌%◌, ◌^◌, ℕ, zero, suc, List, [], ◌∷◌, ◌++◌, length, take, drop, replicate, get_or, sym, ap, ap₂, ◌∙◌, refl, true, false, arith}
-use Rattle.std.specs.Prelude.{Bool, not, ◌&&◌, ◌==◌, nat_lt, if◌then◌else◌}
+use Rattle.std.specs.Prelude.{Bool, not, ◌&&◌, ◌==◌, nat_le, nat_lt, if◌then◌else◌}
 use Rattle.std.specs.Bool.{beq}
 use Rattle.std.specs.Cmp.Derive.{both_true}
 use Rattle.std.specs.List.{flat_map, list_all, sum}
-use Rattle.std.proofs.lemmas.Bool.{and_parts, eq-eqb, eqb-true, lt-ltb, ltb-true}
+use Rattle.std.proofs.lemmas.Bool.{and_parts, eq-eqb, eqb-true, le-leb, leb-true, lt-ltb}
 use Rattle.std.proofs.lemmas.List.{append_assoc, length-append, length-replicate, replicate_more}
 use Rattle.std.proofs.lemmas.List.Sums.{sum_by-cons}
 use Rattle.byteorder.specs.Numbers.{little_number-reads_back}
@@ -182,7 +182,7 @@ halves_back (low ∷ high ∷ rest) are even =
 abbrev pub fill : ℕ → List ℕ → Bool
 fill pages lengths = list_all some lengths && sum lengths == pages
 
-test_by : (one other : Bool) → (one ≡ true → other ≡ true) → (other ≡ true → one ≡ true) → one ≡ other
+pub test_by : (one other : Bool) → (one ≡ true → other ≡ true) → (other ≡ true → one ≡ true) → one ≡ other
 test_by true true there back = refl
 test_by false false there back = refl
 test_by true false there back = sym (there refl)
@@ -191,32 +191,30 @@ test_by false true there back = back refl
 pub none_left : (pages : ℕ) → (pages == 0) ≡ fill pages []
 none_left pages = test_by (pages == 0) (0 == pages) (λ is. eq-eqb 0 pages (sym (eqb-true pages 0 is))) (λ is. eq-eqb pages 0 (sym (eqb-true 0 pages is)))
 
-pub fill_next : (pages run : ℕ) (later : List ℕ) → run ≢ 0 → run ≤ pages → fill (pages - run) later ≡ fill pages (run ∷ later)
-fill_next pages run later positive within =
+pub fill_next : (pages run : ℕ) (later : List ℕ) → (some run && nat_le run pages) ≡ true → fill (pages - run) later ≡ fill pages (run ∷ later)
+fill_next pages run later is_run =
     let total = sum_then run later in
+    let fits = and_parts (some run) (nat_le run pages) is_run in
+    let within = leb-true run pages fits.1 in
     test_by (fill (pages - run) later) (fill pages (run ∷ later))
     (λ is.
     let parts = and_parts (list_all some later) (sum later == pages - run) is in
     let rest = eqb-true (sum later) (pages - run) parts.1 in
-    both_true (both_true (lt-ltb 0 run (omega (arith, positive))) parts.0) (eq-eqb (sum (run ∷ later)) pages (omega (arith, total, rest, within))))
+    both_true (both_true fits.0 parts.0) (eq-eqb (sum (run ∷ later)) pages (omega (arith, total, rest, within))))
     (λ is.
     let parts = and_parts (list_all some (run ∷ later)) (sum (run ∷ later) == pages) is in
     let whole = eqb-true (sum (run ∷ later)) pages parts.1 in
     both_true (and_parts (some run) (list_all some later) parts.0).1 (eq-eqb (sum later) (pages - run) (omega (arith, total, whole))))
 
-pub none_fill : (pages run : ℕ) (later : List ℕ) → run ≡ 0 → false ≡ fill pages (run ∷ later)
-none_fill pages run later none =
-    test_by false (fill pages (run ∷ later)) (λ is. absurd (cc))
-    (λ is.
-    let all = (and_parts (list_all some (run ∷ later)) (sum (run ∷ later) == pages) is).0 in
-    let positive = ltb-true 0 run (and_parts (some run) (list_all some later) all).0 in
-    absurd (omega (arith, positive, none)))
-
-pub too_many : (pages run : ℕ) (later : List ℕ) → pages < run → false ≡ fill pages (run ∷ later)
-too_many pages run later more =
+pub none_fill : (pages run : ℕ) (later : List ℕ) → (some run && nat_le run pages) ≡ false → false ≡ fill pages (run ∷ later)
+none_fill pages run later no_run =
     let total = sum_then run later in
     test_by false (fill pages (run ∷ later)) (λ is. absurd (cc))
-    (λ is. let whole = eqb-true (sum (run ∷ later)) pages (and_parts (list_all some (run ∷ later)) (sum (run ∷ later) == pages) is).1 in absurd (omega (arith, total, whole, more)))
+    (λ is.
+    let parts = and_parts (list_all some (run ∷ later)) (sum (run ∷ later) == pages) is in
+    let whole = eqb-true (sum (run ∷ later)) pages parts.1 in
+    let is_run = both_true (and_parts (some run) (list_all some later) parts.0).0 (le-leb run pages (omega (arith, total, whole))) in
+    absurd (cc (no_run, is_run)))
 
 pub first_fill : (pages first : ℕ) (later : List ℕ) → first ≤ pages → fill (pages - first) later ≡ are_runs pages (first ∷ later)
 first_fill pages first later within =

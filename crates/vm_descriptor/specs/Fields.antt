@@ -1,10 +1,13 @@
 -- The fields of a descriptor that are numbers of their own: where each stands in the bytes, how many bytes it has, and
--- what it may be by itself. x1 to x31, the buffer of the block port and the map of pages are lists, and have no row.
-use Rattle.std.specs.Prelude.{ℕ, ◌+◌, ◌%◌, ◌==◌, nat_le, ◌&&◌, Bool, true, List, [], ◌∷◌, ◌++◌, bit_and, Option, Some, None}
+-- what it may be by itself. x1 to x31, the buffer of the block port, the entries of memory protection and the map of pages are
+-- lists, and have no row.
+use Rattle.std.specs.Prelude.{ℕ, ◌+◌, ◌%◌, ◌^◌, ◌==◌, nat_le, ◌&&◌, if◌then◌else◌, Bool, true, List, [], ◌∷◌, ◌++◌, bit_and, Option, Some, None}
 use Rattle.byteorder.specs.Endian.{little_bytes, little_from}
 use Rattle.block_port.specs.Block.{status_word}
 use Rattle.console_port.specs.declared.port.TheConstants.{MAX_INPUT}
-use Rattle.rv_traps.specs.Registers.{has_bit, mstatus_of}
+use Rattle.guest_pmp.specs.declared.access.Mode.{Mode}
+use Rattle.guest_pmp.specs.declared.access.Mode.TheVariants.{User, Machine}
+use Rattle.rv_traps.specs.Registers.{has_bit, is_mstatus}
 use Rattle.vm_descriptor.specs.declared.descriptor.Descriptor.{Descriptor}
 use Rattle.vm_descriptor.specs.declared.descriptor.TheConstants.{MAX_CLONES, MAX_SHARE, MAX_LIMIT}
 
@@ -52,9 +55,19 @@ up_to most n = nat_le n most
 abbrev pub aligned : ℕ → Bool
 aligned n = n % 4 == 0
 
--- machine mode, and the bits 3 and 7 alone
-abbrev pub is_mstatus : ℕ → Bool
-is_mstatus n = n == mstatus_of (has_bit n 3) (has_bit n 7)
+-- the word of mstatus has the mode in bit 31: 1 for user mode
+abbrev pub mode_bit : Mode → ℕ
+mode_bit User = 2 ^ 31
+mode_bit Machine = 0
+
+abbrev pub mode_of : ℕ → Mode
+mode_of word = if has_bit word 31 then User else Machine
+
+abbrev pub mstatus_in : ℕ → ℕ
+mstatus_in word = word % 2 ^ 31
+
+abbrev pub is_mode_and_mstatus : ℕ → Bool
+is_mode_and_mstatus word = is_mstatus (mstatus_in word)
 
 abbrev pub has_only : ℕ → ℕ → Bool
 has_only bits n = n == bit_and n bits
@@ -78,7 +91,7 @@ row Pages = field 8 4 any
 row CloneId = field 12 4 (between 1 MAX_CLONES)
 row Share = field 16 4 (up_to MAX_SHARE)
 row Pc = field 20 4 aligned
-row Mstatus = field 148 4 is_mstatus
+row Mstatus = field 148 4 is_mode_and_mstatus
 row Mie = field 152 4 (has_only 0x80)
 row Mtvec = field 156 4 (has_only 0xffff_fffd)
 row Mscratch = field 160 4 any
@@ -131,7 +144,7 @@ number d Pages = d.pages
 number d CloneId = d.clone_id
 number d Share = d.share
 number d Pc = d.pc
-number d Mstatus = d.csrs.mstatus
+number d Mstatus = mode_bit d.csrs.mode + d.csrs.mstatus
 number d Mie = d.csrs.mie
 number d Mtvec = d.csrs.mtvec
 number d Mscratch = d.csrs.mscratch
@@ -166,5 +179,5 @@ spelled numbers (f ∷ fields) = little_bytes (row f).width (numbers f) ++ spell
 
 -- each of these numbers is in the range of its field, and then this holds
 abbrev pub in_ranges : (Field → ℕ) → List Field → Bool → Bool
-in_ranges numbers [] then = then
-in_ranges numbers (f ∷ fields) then = (row f).range (numbers f) && in_ranges numbers fields then
+in_ranges numbers [] rest = rest
+in_ranges numbers (f ∷ fields) rest = (row f).range (numbers f) && in_ranges numbers fields rest

@@ -1,16 +1,19 @@
 //! Descriptors as bytes.
 
-ghost use Rattle.std.specs.Prelude.{◌≡◌, ◌≤◌, ◌<◌, ◌^◌, [], ◌∷◌, ◌++◌, length, IfOk, OnOk};
+ghost use Rattle.std.specs.Prelude.{◌≡◌, ◌≤◌, ◌<◌, ◌^◌, ◌+◌, [], ◌∷◌, ◌++◌, length, IfOk, OnOk};
 ghost use Rattle.std.specs.List.{flat_map};
 ghost use Rattle.vm_descriptor.specs.Descriptor.{IsInRange};
-ghost use Rattle.vm_descriptor.specs.Fields.{address_of, reserved_of};
+ghost use Rattle.guest_pmp.specs.Registers.{at_reset as no_entries};
+ghost use Rattle.rv_traps.specs.Registers.{IsInRange as AreCsrsInRange};
+ghost use Rattle.vm_descriptor.specs.Fields.{address_of, mode_bit, reserved_of};
 ghost use Rattle.vm_descriptor.specs.Versions.{IsVersion};
-ghost use Rattle.vm_descriptor.specs.Described.{before_buffer, described, described_as, described_old, double, word};
+ghost use Rattle.vm_descriptor.specs.Described.{before_buffer, described, described_as, described_old, described_v2, double, entries_as, word};
 
 use crate::descriptor::Descriptor;
 use crate::map::push_rest;
-use crate::version::{VERSION_1, VERSION_2, Version};
+use crate::version::{VERSION_1, VERSION_2, VERSION_3, Version};
 use flat_memory::push_words;
+use guest_pmp::{Mode, PmpRegisters};
 use rv_traps::CsrRegisters;
 use std::alloc::{AllocError, Global};
 
@@ -20,12 +23,22 @@ impl Descriptor {
         requires { IsInRange self.now }
         ensures { IfOk result (λ bytes. bytes.items ≡ described self.now) }
     {
+        self.encode_as(alloc, &VERSION_3)
+    }
+
+    /// Its bytes in the second version, where all entries of memory protection are 0.
+    pub fn encode_v2(&self, alloc: Global) -> Result<Vec<u8>, AllocError>
+        requires in_range { IsInRange self.now }
+        requires entries { self.now.csrs.pmp ≡ no_entries }
+        ensures { IfOk result (λ bytes. bytes.items ≡ described_v2 self.now) }
+    {
         self.encode_as(alloc, &VERSION_2)
     }
 
-    /// Its bytes in the first version, where it has at most 1,024 pages.
+    /// Its bytes in the first version, where they are 0, and it has at most 1,024 pages.
     pub fn encode_old(&self, alloc: Global) -> Result<Vec<u8>, AllocError>
         requires in_range { IsInRange self.now }
+        requires entries { self.now.csrs.pmp ≡ no_entries }
         requires few { self.now.pages ≤ 1024 }
         ensures { IfOk result (λ bytes. bytes.items ≡ described_old self.now) }
     {
@@ -43,6 +56,7 @@ impl Descriptor {
         let mut bytes = Vec::with_capacity(alloc, version.fields + flags.len() / 8 + 2)?;
         self.push_fields(version, &mut bytes)?;
         bytes.extend_from_slice(&self.block.buffer)?;
+        push_entries(&mut bytes, version.has_entries, &self.csrs.pmp)?;
         push_rest(&mut bytes, version.has_forms, flags)?;
         Ok(bytes)
     }
@@ -50,6 +64,7 @@ impl Descriptor {
     /// Adds the fields before the buffer.
     #[tactic(auto, using(std::proofs::lemmas::List::append_assoc))]
     fn push_fields(&self, version: &Version, bytes: &mut Vec<u8>) -> Result<(), AllocError>
+        requires { IsInRange self.now }
         ensures { OnOk result (bytes.new.items ≡ bytes.old.items ++ before_buffer version.now.mark self.now) }
     {
         bytes.extend_from_slice(&version.mark)?;
@@ -98,15 +113,43 @@ fn push_doubles(bytes: &mut Vec<u8>, doubles: &[u64]) -> Result<(), AllocError>
     Ok(())
 }
 
+/// Adds the entries of memory protection, in a version that has them.
+#[tactic(auto, using(std::proofs::lemmas::List::append_assoc))]
+fn push_entries(
+    bytes: &mut Vec<u8>,
+    has_entries: bool,
+    pmp: &PmpRegisters,
+) -> Result<(), AllocError>
+    ensures { OnOk result (bytes.new.items ≡ bytes.old.items ++ entries_as has_entries pmp.now) }
+{
+    if !has_entries {
+        return Ok(());
+    }
+    bytes.extend_from_slice(&pmp.configurations)?;
+    push_words(bytes, &pmp.addresses)
+}
+
+/// The word of mstatus, with the mode in bit 31.
+fn mode_and_mstatus(mode: Mode, mstatus: u32) -> u32
+    requires { mstatus < 2 ^ 31 }
+    ensures { result ≡ mode_bit mode + mstatus }
+{
+    match mode {
+        Mode::User => 0x8000_0000 + mstatus,
+        Mode::Machine => mstatus,
+    }
+}
+
 /// Adds the words of the control and status registers but the counters.
 fn push_csrs(bytes: &mut Vec<u8>, csrs: &CsrRegisters) -> Result<(), AllocError>
-    ensures { OnOk result (bytes.new.items ≡ bytes.old.items ++ (word csrs.now.mstatus ++ (word csrs.now.mie ++ (word csrs.now.mtvec
+    requires { AreCsrsInRange csrs.now }
+    ensures { OnOk result (bytes.new.items ≡ bytes.old.items ++ (word (mode_bit csrs.now.mode + csrs.now.mstatus) ++ (word csrs.now.mie ++ (word csrs.now.mtvec
         ++ (word csrs.now.mscratch ++ (word csrs.now.mepc ++ (word csrs.now.mcause ++ word csrs.now.mtval))))))) }
 {
     push_words(
         bytes,
         &[
-            csrs.mstatus,
+            mode_and_mstatus(csrs.mode, csrs.mstatus),
             csrs.mie,
             csrs.mtvec,
             csrs.mscratch,

@@ -5,6 +5,7 @@ use crate::page_map::PageMap;
 use block_port::BlockFields;
 use console_port::{ConsoleFields, MAX_INPUT};
 use elf_load::{MAX_PAGES, MIN_PAGES, PAGE_SIZE, RAM_BASE};
+use guest_pmp::{ENTRIES, PmpRegisters};
 use rv_traps::CsrRegisters;
 use timer_port::TimerRegisters;
 
@@ -91,6 +92,12 @@ impl Descriptor {
         (1..=MAX_LIMIT).contains(&self.limit) && self.steps <= self.limit
     }
 }
+
+/// What versions without entries of memory protection tell of them.
+pub(crate) const NO_ENTRIES: PmpRegisters = PmpRegisters {
+    configurations: [0; ENTRIES],
+    addresses: [0; ENTRIES],
+};
 
 /// Whether a word of RAM that has so many pages lies at an address.
 fn is_ram_word(pages: u32, address: u32) -> bool

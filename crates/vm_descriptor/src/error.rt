@@ -10,8 +10,8 @@ use thiserror::Error;
 #[derive(Debug, Drop, Error, PartialEq, Eq)]
 pub enum DescError {
     /// The number of the first reason: 1 fewer than 776 bytes, 2 the mark of no version, 3 no number of pages, 4 another
-    /// length than the pages and the form of the map ask for, 5 a field out of its range, 6 a bit of the map past the
-    /// last page, 7 lengths that are none of the runs of so many pages, or another form of the map than is due.
+    /// length than the fields, the pages and the form of the map ask for, 5 a field or an entry out of its range, 6 a
+    /// bit of the map past the last page, 7 lengths that are none of the runs of so many pages, or another form of the map than is due.
     #[error("descriptor refused, reason {0}")]
     Refused(u32),
     #[error("want of memory")]

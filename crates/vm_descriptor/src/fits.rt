@@ -7,6 +7,7 @@ ghost use Rattle.vm_descriptor.specs.Described.{AreWords, Fits};
 use crate::descriptor::Descriptor;
 use block_port::BlockFields;
 use console_port::ConsoleFields;
+use guest_pmp::PmpRegisters;
 use rv_traps::CsrRegisters;
 use timer_port::TimerRegisters;
 
@@ -20,6 +21,7 @@ impl Descriptor {
         self.counts_fit();
         registers_fit(&self.registers);
         csrs_fit(&self.csrs);
+        entries_fit(&self.csrs.pmp);
         counters_fit(&self.csrs);
         timer_fits(&self.timer);
         reservation_fits(self.reservation);
@@ -86,6 +88,15 @@ fn csrs_fit(csrs: &CsrRegisters)
     let _mepc = csrs.mepc;
     let _mcause = csrs.mcause;
     let _mtval = csrs.mtval;
+}
+
+fn entries_fit(pmp: &PmpRegisters)
+    ensures configurations { length pmp.now.configurations ≡ 8 }
+    ensures addresses { length pmp.now.addresses ≡ 8 }
+    ensures words { AreWords pmp.now.addresses }
+{
+    let _ = pmp.configurations[0];
+    let _ = pmp.addresses[0];
 }
 
 fn counters_fit(csrs: &CsrRegisters)

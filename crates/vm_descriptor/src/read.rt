@@ -1,26 +1,27 @@
 //! What the fields of bytes say.
 
-ghost use Rattle.std.specs.Prelude.{◌≡◌, ◌+◌, ◌*◌, ◌≤◌, ◌++◌, length, take, drop, nat_lt, if◌then◌else◌, None, IfOk, IfErr, OnOk};
+ghost use Rattle.std.specs.Prelude.{◌≡◌, ◌+◌, ◌*◌, ◌≤◌, ◌++◌, length, take, drop, true, None, IsTrue, IfOk, IfErr};
 ghost use Rattle.byteorder.specs.Endian.{little_from};
 ghost use Rattle.vm_descriptor.specs.declared.descriptor.Descriptor.{Descriptor};
 ghost use Rattle.vm_descriptor.specs.Descriptor.{IsInRange};
-ghost use Rattle.vm_descriptor.specs.Fields.{LineControl, number_in};
+ghost use Rattle.vm_descriptor.specs.Fields.{LineControl, mode_of, mstatus_in, number_in};
 ghost use Rattle.vm_descriptor.specs.Versions.{IsVersion};
-ghost use Rattle.vm_descriptor.specs.Described.{Fits, IsGiven, IsReadAs, IsRefused, IsSpelling, csrs_of, described, numbers_from, read, read_as, refused, reservation_of, status_of};
+ghost use Rattle.vm_descriptor.specs.Described.{Fits, IsGiven, IsReadAs, IsRefused, IsSpelling, csrs_of, described, entries_in, numbers_from, read, read_as, refused, reservation_of, status_of};
 
-use crate::descriptor::Descriptor;
+use crate::descriptor::{Descriptor, NO_ENTRIES};
 use crate::error::DescError;
 use crate::map::{is_due, read_map};
 use crate::page_map::PageMap;
 use crate::refusal::readable;
 use crate::version::{
-    BUFFER, COUNTERS, CSRS, HEADER_SIZE, IDENTITY, PORTS, REGISTERS, TIMES, Version,
+    ADDRESSES, BUFFER, COUNTERS, CSRS, HEADER_SIZE, IDENTITY, PORTS, REGISTERS, TIMES, Version,
 };
 use block_port::{BlockFields, Status};
 use byteorder::{ByteOrder, LittleEndian};
 use console_port::ConsoleFields;
 use cow_disk::SECTOR_SIZE;
 use flat_memory::read_word;
+use guest_pmp::{ENTRIES, Mode, PmpRegisters};
 use rv_traps::CsrRegisters;
 use std::alloc::{AllocError, Global};
 use timer_port::TimerRegisters;
@@ -92,7 +93,7 @@ pub(crate) fn read_fields(
         share,
         pc,
         registers: words_at::<31>(bytes, REGISTERS),
-        csrs: csrs_at(bytes),
+        csrs: csrs_at(bytes, entries_in(version.has_entries, bytes)),
         timer: TimerRegisters { mtime, mtimecmp },
         steps,
         limit,
@@ -116,14 +117,15 @@ pub(crate) fn read_fields(
 
 /// The control and status registers.
 #[inline]
-pub(crate) fn csrs_at(bytes: &[u8]) -> CsrRegisters
+pub(crate) fn csrs_at(bytes: &[u8], pmp: PmpRegisters) -> CsrRegisters
     requires { HEADER_SIZE ≤ length bytes.now }
-    ensures { result ≡ csrs_of (number_in bytes.now) }
+    ensures { result ≡ csrs_of (number_in bytes.now) pmp }
 {
-    let [mstatus, mie, mtvec, mscratch, mepc, mcause, mtval] = words_at::<7>(bytes, CSRS);
+    let [word, mie, mtvec, mscratch, mepc, mcause, mtval] = words_at::<7>(bytes, CSRS);
     let [mcycle, minstret] = doubles_at::<2>(bytes, COUNTERS);
     CsrRegisters {
-        mstatus,
+        mode: mode_of(word),
+        mstatus: mstatus_in(word),
         mie,
         mtvec,
         mscratch,
@@ -132,6 +134,50 @@ pub(crate) fn csrs_at(bytes: &[u8]) -> CsrRegisters
         mtval,
         mcycle,
         minstret,
+        pmp,
+    }
+}
+
+/// The mode, which stands in bit 31 of the word of mstatus.
+fn mode_of(word: u32) -> Mode
+    ensures { result ≡ mode_of word }
+{
+    if word / 0x8000_0000 % 2 == 1 {
+        Mode::User
+    } else {
+        Mode::Machine
+    }
+}
+
+/// The word of mstatus without the mode.
+fn mstatus_in(word: u32) -> u32
+    ensures { result ≡ mstatus_in word }
+{
+    word % 0x8000_0000
+}
+
+/// The entries of memory protection, which are 0 in a version that has none.
+pub(crate) fn entries_in(has_entries: bool, bytes: &[u8]) -> PmpRegisters
+    requires { IsTrue has_entries → 816 ≤ length bytes.now }
+    ensures { result ≡ entries_in has_entries bytes.now }
+{
+    if has_entries {
+        entries_at(bytes)
+    } else {
+        NO_ENTRIES
+    }
+}
+
+/// The entries of memory protection in a version that has them.
+fn entries_at(bytes: &[u8]) -> PmpRegisters
+    requires { 816 ≤ length bytes.now }
+    ensures { result ≡ entries_in true bytes.now }
+{
+    let mut configurations = [0; ENTRIES];
+    configurations.copy_from_slice(&bytes[HEADER_SIZE..ADDRESSES]);
+    PmpRegisters {
+        configurations,
+        addresses: words_at::<8>(bytes, ADDRESSES),
     }
 }
 

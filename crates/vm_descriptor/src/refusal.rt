@@ -1,17 +1,17 @@
 //! Why bytes are no descriptor.
 
-ghost use Rattle.std.specs.Prelude.{◌≡◌, ◌≤◌, ◌&&◌, nat_le, length, IfErr, IfOk};
-ghost use Rattle.vm_descriptor.specs.declared.version.TheConstants.{HEADER_SIZE};
+ghost use Rattle.std.specs.Prelude.{◌≡◌, ◌≤◌, ◌&&◌, nat_le, length, IsTrue, IfErr, IfOk};
 ghost use Rattle.console_port.specs.declared.port.TheConstants.{MAX_INPUT};
 ghost use Rattle.vm_descriptor.specs.declared.descriptor.TheConstants.{MAX_CLONES, MAX_LIMIT, MAX_SHARE};
 ghost use Rattle.vm_descriptor.specs.Fields.{aligned, between, number_in, up_to};
+ghost use Rattle.guest_pmp.specs.Registers.{at_reset as no_entries};
 ghost use Rattle.vm_descriptor.specs.Versions.{IsVersion};
-ghost use Rattle.vm_descriptor.specs.Described.{IsReadable, IsRefused, are_csrs, are_in_range, is_reservation, unread};
+ghost use Rattle.vm_descriptor.specs.Described.{IsReadable, IsRefused, are_csrs, are_entries, are_in_range, entries_in, is_reservation, unread};
 
-use crate::descriptor::{MAX_CLONES, MAX_LIMIT, MAX_SHARE};
+use crate::descriptor::{MAX_CLONES, MAX_LIMIT, MAX_SHARE, NO_ENTRIES};
 use crate::error::DescError;
 use crate::map::{form_of, is_whole, map_of, misread};
-use crate::read::{csrs_at, doubles_at, words_at};
+use crate::read::{csrs_at, doubles_at, entries_in, words_at};
 use crate::version::{HEADER_SIZE, IDENTITY, PAGES, PORTS, TIMES, Version, version_of};
 use console_port::MAX_INPUT;
 use elf_load::{PAGE_SIZE, RAM_BASE};
@@ -57,11 +57,22 @@ fn unread(version: &Version, bytes: &[u8]) -> Option<u32>
     if !are_fields_in_range(bytes) {
         return Some(5);
     }
+    if !are_entries(version.has_entries, bytes) {
+        return Some(5);
+    }
     misread(
         form_of(version.has_forms, rest),
         pages,
         map_of(version.has_forms, rest),
     )
+}
+
+/// Whether each byte of an entry of memory protection is one that a register can hold.
+fn are_entries(has_entries: bool, bytes: &[u8]) -> bool
+    requires { IsTrue has_entries → 816 ≤ length bytes.now }
+    ensures { result ≡ are_entries (entries_in has_entries bytes.now) }
+{
+    entries_in(has_entries, bytes).is_in_range()
 }
 
 /// Whether a version can tell of so many pages.
@@ -80,7 +91,7 @@ fn are_fields_in_range(bytes: &[u8]) -> bool
     let [_mtime, _mtimecmp, steps, limit] = doubles_at::<4>(bytes, TIMES);
     let [reserved, address, place, line_control, _sector, status] = words_at::<6>(bytes, PORTS);
     let is_clone = is_of_a_clone(clone_id, share, pc);
-    let is_csrs = are_csrs(&csrs_at(bytes));
+    let is_csrs = are_csrs(&csrs_at(bytes, NO_ENTRIES));
     let is_limited = is_limit(limit);
     let are_ports = are_of_ports(reserved, place, line_control, status);
     let agree = is_within(steps, limit, pages, reserved, address);
@@ -99,7 +110,9 @@ fn is_of_a_clone(clone_id: u32, share: u32, pc: u32) -> bool
     (1..=MAX_CLONES).contains(&clone_id) && share <= MAX_SHARE && pc % 4 == 0
 }
 
+/// Whether the registers but the entries of memory protection are in range.
 fn are_csrs(csrs: &CsrRegisters) -> bool
+    requires { csrs.now.pmp ≡ no_entries }
     ensures { result ≡ are_csrs csrs.now }
 {
     csrs.is_in_range()

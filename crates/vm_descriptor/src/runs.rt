@@ -1,6 +1,6 @@
 //! The map of pages as the lengths of runs of equal flags.
 
-ghost use Rattle.std.specs.Prelude.{◌≡◌, ◌+◌, ◌≤◌, ◌<◌, ◌^◌, ◌++◌, ◌&&◌, ◌==◌, nat_lt, false, length, replicate, IfOk, OnOk};
+ghost use Rattle.std.specs.Prelude.{◌≡◌, ◌+◌, ◌≤◌, ◌<◌, ◌^◌, ◌++◌, ◌&&◌, ◌==◌, nat_le, nat_lt, false, length, replicate, IfOk, OnOk};
 ghost use Rattle.std.specs.List.{flat_map, list_all, sum};
 ghost use Rattle.vm_descriptor.specs.Maps.{are_runs, flags_of_runs, half, halves, runs};
 
@@ -93,11 +93,18 @@ fn follow(pages: u32, map: &[u8]) -> bool
     let mut left = map;
     while let Some((run, behind)) = left.split_first_chunk::<2>() {
         let run = u32::from(read_half(run, 0));
-        if run == 0 || pages_left < run {
+        if !is_run(run, pages_left) {
             return false;
         }
         pages_left -= run;
         left = behind;
     }
     pages_left == 0
+}
+
+/// Whether a run behind the first can have so many flags, where so many are left.
+fn is_run(run: u32, pages_left: u32) -> bool
+    ensures { result ≡ (nat_lt 0 run && nat_le run pages_left) }
+{
+    0 < run && run <= pages_left
 }

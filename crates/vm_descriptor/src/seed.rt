@@ -6,7 +6,7 @@ ghost use Rattle.vm_descriptor.specs.Described.{described, Fits};
 
 use crate::descriptor::Descriptor;
 use crate::read::read_fields;
-use crate::version::{CLONE_ID, VERSION_2};
+use crate::version::{CLONE_ID, VERSION_3};
 use flat_memory::write_bytes;
 use std::alloc::{AllocError, Global};
 use std::marker::Model;
@@ -20,12 +20,12 @@ pub struct Seed {
 
 impl Model for Seed {
     ghost use Rattle.vm_descriptor.specs.declared.descriptor.Descriptor.{Descriptor};
-    ghost use Rattle.vm_descriptor.specs.Versions.{version_2};
+    ghost use Rattle.vm_descriptor.specs.Versions.{version_3};
     ghost use Rattle.vm_descriptor.specs.Described.{read_as, IsKept};
 
     ghost Value = { Descriptor };
 
-    ghost view = { λ s. read_as version_2 s.bytes.items };
+    ghost view = { λ s. read_as version_3 s.bytes.items };
 
     ghost invariant = { λ s. IsKept s.bytes.items };
 }
@@ -56,7 +56,7 @@ impl Seed {
         ensures { IfOk result (λ descriptor. descriptor ≡ numbered clone_id self.now) }
     {
         let bytes = self.bytes_as(alloc, clone_id)?;
-        read_fields(alloc, &VERSION_2, &bytes)
+        read_fields(alloc, &VERSION_3, &bytes)
     }
 
     /// The bytes of the descriptor of a clone, by its number: the number is put in, and the other bytes stay.

@@ -10,6 +10,8 @@ pub struct Version {
     pub mark: [u8; 4],
     /// The bytes of the fields, behind which the map stands.
     pub fields: usize,
+    /// Whether the fields end with the entries of memory protection.
+    pub has_entries: bool,
     /// Whether the map has either of two forms, and a byte before it tells which.
     pub has_forms: bool,
     /// The least pages of RAM that it can tell of.
@@ -22,22 +24,34 @@ pub struct Version {
 pub const VERSION_1: Version = Version {
     mark: [b'S', b'F', b'D', b'1'],
     fields: HEADER_SIZE,
+    has_entries: false,
     has_forms: false,
     least_pages: 16,
     most_pages: 1024,
 };
 
-/// The newest version, which is the one that is written.
+/// The second version.
 pub const VERSION_2: Version = Version {
     mark: [b'S', b'F', b'D', b'2'],
     fields: HEADER_SIZE,
+    has_entries: false,
+    has_forms: true,
+    least_pages: 16,
+    most_pages: 16_384,
+};
+
+/// The newest version, which is the one that is written.
+pub const VERSION_3: Version = Version {
+    mark: [b'S', b'F', b'D', b'3'],
+    fields: HEADER_SIZE + ENTRIES_SIZE,
+    has_entries: true,
     has_forms: true,
     least_pages: 16,
     most_pages: 16_384,
 };
 
 /// All versions, the newest first.
-static VERSIONS: [Version; 2] = [VERSION_2, VERSION_1];
+static VERSIONS: [Version; 3] = [VERSION_3, VERSION_2, VERSION_1];
 
 /// The version whose mark bytes begin with, if there is one.
 pub fn version_of(bytes: &[u8]) -> Option<&'static Version>
@@ -83,3 +97,9 @@ pub const BUFFER: usize = 264;
 
 /// The bytes of the fields that all versions have.
 pub const HEADER_SIZE: usize = 776;
+
+/// Where the addresses of the entries of memory protection begin. Their bytes stand before them.
+pub const ADDRESSES: usize = 784;
+
+/// The bytes of the entries of memory protection.
+pub const ENTRIES_SIZE: usize = 40;

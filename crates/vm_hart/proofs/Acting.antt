@@ -142,7 +142,7 @@ module _ (h : KeyedState) (taken : takes_interrupt h.state.csrs (is_timer_due h.
         data-waits by.met,
         record {
           met = tt;
-          tells = subst (λ a. Tells h.state new.state a acted) (sym (action-by (of_ram (Some page)) e)) by.tells;
+          tells = subst (λ a. Tells h new a acted) (sym (action-by (of_ram (Some page)) e)) by.tells;
           changed = subst (λ (f : Footprint). HasChanged f.changes h new) (sym (asks-by (of_ram (Some page)) e)) by.changed;
         },
       )
@@ -152,7 +152,7 @@ module _ (h : KeyedState) (taken : takes_interrupt h.state.csrs (is_timer_due h.
       next-by new (Ok (Trapped cause value)) acts = done new (Trapped cause value) acts
       next-by new (Ok Interrupted) acts = done new Interrupted acts
       next-by new (Ok (Retired written)) acts = done new (Retired written) acts
-      next-by new (Ok (Exited value)) acts = done new (Exited value) acts
+      next-by new (Ok (Exited value address count)) acts = done new (Exited value address count) acts
       next-by new (Ok (Asked call)) acts = done new (Asked call) acts
       next-by new (Err e) acts = (data-waits acts.0, (tt, acts.1))
 

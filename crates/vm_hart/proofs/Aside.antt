@@ -1,4 +1,4 @@
--- Steps that leave RAM, and the pages that are here.
+-- Steps that leave RAM, the pages that are here, and the entries of memory protection.
 use Rattle.std.proofs.Common.{◌≡◌, ℕ, ◌-◌, Bool, true, false, cond, List, Option, Some, None, refl, sym, ap, ◌∙◌, subst, arith}
 use Rattle.std.proofs.lemmas.Bool.Decides.{nat_tests}
 use Rattle.console_port.specs.Console.{ConsoleRegisters}
@@ -12,52 +12,81 @@ use Rattle.rv_decode.specs.declared.kinds.Group.TheVariants as group
 use Rattle.rv_exec.specs.Memory.{store_width}
 use Rattle.rv_traps.specs.declared.registers.CsrRegisters.{CsrRegisters}
 use Rattle.rv_traps.specs.Access.{csr_write}
-use Rattle.rv_traps.specs.Trap.{takes_interrupt}
+use Rattle.rv_traps.specs.Protection.{allows}
+use Rattle.rv_traps.specs.Trap.{mret, returned, takes_interrupt}
+use Rattle.rv_traps.proofs.Modes.{csr_write-entries}
+use Rattle.guest_pmp.specs.Allowed.{is_machine}
+use Rattle.guest_pmp.specs.Registers.{IsNumber}
 use Rattle.fork_port.specs.declared.ending.Ending.{Ending}
 use Rattle.console_port.specs.declared.registers.TheConstants.{CONSOLE_SIZE}
 use Rattle.forest_model.specs.declared.port_map.TheConstants.{CONSOLE_BASE}
 use Rattle.forest_model.specs.State.{State, is_in_ram, is_timer_due}
 use Rattle.forest_model.specs.Action.{Action, trap, interrupt, retire, exit, ask, immediate, rs2}
-use Rattle.forest_model.specs.Access.{Reached, faulted, of_ram, of_port, page_of, reached, reached_in, fetch_access}
+use Rattle.forest_model.specs.Access.{Reached, faulted, of_ram, of_port, page_of, reached, fetch_access}
 use Rattle.forest_model.specs.Memory.{data_address, stored_outcome, store, store_access, store_action, store_by, stored_bytes}
 use Rattle.forest_model.specs.Ports.{Place, PortRegisters, at_console, console_stored, is_within, place_in, place_of, port_store, store_at}
-use Rattle.forest_model.specs.System.{csr_access, csr_value, old_action, old_value, operand, operation_of, reads, write_action, writes, written_action}
+use Rattle.forest_model.specs.System.{csr_access, csr_value, old_action, old_value, operand, operation_of, reads, returned_action, trap_return, write_action, writes, written_action}
 use Rattle.forest_model.specs.Execute.{action, action_by, decoded_action, execute, execute_group, fetch_action, fetched}
 use Rattle.forest_model.specs.Machine.{Machine, advance, advance_from, applied}
 use Rattle.forest_model.specs.Footprint.{Change}
 use Rattle.forest_model.specs.Touch.{access_by, change, data_footprint, footprint, footprint_at, footprint_from, footprint_of, footprint_reached, footprint_step}
 use Rattle.forest_model.specs.Paged.{Pages, pages_after}
-use Rattle.forest_model.proofs.Accesses.{of_ram-is}
+use Rattle.forest_model.proofs.Accesses.{of_ram-is, reached-ram}
 use Rattle.vm_hart.specs.Kept.{ComesAside, IsAside, Keeps}
+use Rattle.vm_hart.specs.declared.hart.kept.TheConstants.{PROTECTION_COUNT, PROTECTION_FIRST}
 use Rattle.vm_hart.specs.Keyed.{KeyedMachine, KeyedState, hart_in}
 use Rattle.vm_hart.specs.Runs.{moved}
 use Rattle.instruction_slots.specs.Slots.{KeptInstruction}
-use Rattle.vm_hart.proofs.Kept.{kept-same}
+use Rattle.vm_hart.proofs.Kept.{StaysSame, kept-same}
 
--- the action leaves RAM
-abbrev LeavesRam : State → Action → Type 0
-LeavesRam s (trap cause value) = Unit {0}
-LeavesRam s interrupt = Unit {0}
-LeavesRam s (retire written new) = new.ram ≡ s.ram
-LeavesRam s (exit value new) = new.ram ≡ s.ram
-LeavesRam s (ask call new) = Unit {0}
+-- the action leaves RAM and the entries, as all do that trap
+record AreLeft (s new : State) : Type 0 where
+  ram : new.ram ≡ s.ram
+  entries : new.csrs.pmp ≡ s.csrs.pmp
+
+abbrev Leaves : State → Action → Type 0
+Leaves s (trap cause value) = Unit {0}
+Leaves s interrupt = Unit {0}
+Leaves s (retire written new) = AreLeft s new
+Leaves s (exit value bytes new) = AreLeft s new
+Leaves s (ask call new) = Unit {0}
 
 -- the change leaves the pages that are here
 abbrev LeavesPages : Change → Type 0
 LeavesPages ch = (p : Pages) → (pages_after ch p).here ≡ p.here
 
+not-of-protection : (number : ℕ) → is_within PROTECTION_FIRST PROTECTION_COUNT number ≡ false → IsNumber number → ⊥
+not-of-protection number other is = grind (arith, nat_tests)
+
 module _ (i : Instruction) (word : ℕ) (s : State) where
-  written-leaves : (csrs : Option CsrRegisters) (old : ℕ) → LeavesRam s (written_action csrs old i word s)
-  written-leaves None old = tt
-  written-leaves (Some csrs) old = refl
+  -- an access to another register
+  module _ (other : is_within PROTECTION_FIRST PROTECTION_COUNT (immediate i) ≡ false) where
+    written-leaves : (value old : ℕ) (csrs : Option CsrRegisters) → csr_write s.csrs (immediate i) value ≡ csrs → Leaves s (written_action csrs old i word s)
+    written-leaves value old None is = tt
+    written-leaves value old (Some csrs) is = record {
+      ram = refl;
+      entries = csr_write-entries s.csrs csrs (immediate i) value (not-of-protection (immediate i) other) is;
+    }
 
-  write-leaves : (does : Bool) (old : ℕ) → LeavesRam s (write_action does old i word s)
-  write-leaves false old = refl
-  write-leaves true old = written-leaves (csr_write s.csrs (immediate i) (csr_value (operation_of i.kind) old (operand i.kind i s))) old
+    write-leaves : (does : Bool) (old : ℕ) → Leaves s (write_action does old i word s)
+    write-leaves false old = record { ram = refl; entries = refl }
+    write-leaves true old =
+        let value : ℕ = csr_value (operation_of i.kind) old (operand i.kind i s) in
+        written-leaves value old (csr_write s.csrs (immediate i) value) refl
 
-  csr-leaves : (old : Option ℕ) → LeavesRam s (old_action old i word s)
-  csr-leaves None = tt
-  csr-leaves (Some old) = write-leaves (writes (operation_of i.kind) i) old
+    csr-leaves : (old : Option ℕ) → Leaves s (old_action old i word s)
+    csr-leaves None = tt
+    csr-leaves (Some old) = write-leaves (writes (operation_of i.kind) i) old
+
+  -- a return, which changes the mode
+  mret-entries : (c new : CsrRegisters) (is_allowed : Bool) → cond is_allowed (Some (returned c)) None ≡ Some new → new.pmp ≡ c.pmp
+  mret-entries c new true is = let same : returned c ≡ new = cc in ap (λ (d : CsrRegisters). d.pmp) (sym same)
+  mret-entries c new false is = absurd (cc)
+
+  returned-leaves : (csrs : Option CsrRegisters) → mret s.csrs ≡ csrs → Leaves s (returned_action csrs word s)
+  unfolding mret
+  returned-leaves None is = tt
+  returned-leaves (Some csrs) is = record { ram = refl; entries = mret-entries s.csrs csrs (is_machine s.csrs.mode) is }
 
 -- ---- a store to the console
 
@@ -78,20 +107,20 @@ unfolding port_store
 console-store ports address width word inside = ap (λ place. store_at place ports width word) (console-place address inside)
 
 module _ (s : State) (address width word : ℕ) where
-  console-leaves : (c : Option ConsoleRegisters) → LeavesRam s (stored_outcome (console_stored c s.ports) address s).action
+  console-leaves : (c : Option ConsoleRegisters) → Leaves s (stored_outcome (console_stored c s.ports) address s).action
   console-leaves None = tt
-  console-leaves (Some c) = refl
+  console-leaves (Some c) = record { ram = refl; entries = refl }
 
   console-stays : (c : Option ConsoleRegisters) → LeavesPages (stored_outcome (console_stored c s.ports) address s).footprint.changes
   console-stays None p = refl
   console-stays (Some c) p = refl
 
 module _ (i : Instruction) (s : State) (console : is_within CONSOLE_BASE CONSOLE_SIZE (data_address i s) ≡ true) where
-  store-leaves : (r : Reached) → reached (store_access i s) s ≡ r → LeavesRam s (store_by r (data_address i s) (store_width i.kind) (stored_bytes i s) (rs2 i s) s)
+  store-leaves : (r : Reached) → reached (store_access i s) s ≡ r → Leaves s (store_by r (data_address i s) (store_width i.kind) (stored_bytes i s) (rs2 i s) s)
   store-leaves (faulted cause) is = tt
   store-leaves (of_ram page) is = absurd (not-of-ram s.ram (data_address i s) console (of_ram-is (store_access i s) s page is).in_ram)
   store-leaves of_port is =
-      subst (λ o. LeavesRam s (stored_outcome o (data_address i s) s).action) (sym (console-store s.ports (data_address i s) (store_width i.kind) (rs2 i s) console))
+      subst (λ o. Leaves s (stored_outcome o (data_address i s) s).action) (sym (console-store s.ports (data_address i s) (store_width i.kind) (rs2 i s) console))
       (console-leaves s (data_address i s) (store_width i.kind) (rs2 i s) _)
 
   store-stays : (r : Reached) → LeavesPages (footprint_reached r (store_access i s) (rs2 i s) s).changes
@@ -105,8 +134,8 @@ module _ (i : Instruction) (s : State) (console : is_within CONSOLE_BASE CONSOLE
 -- ---- by its group
 
 module _ (i : Instruction) (s : State) where
-  group-leaves : (g : Group) (word : ℕ) → IsAside g i s → LeavesRam s (execute_group g i word s)
-  unfolding csr_access store store_action
+  group-leaves : (g : Group) (word : ℕ) → IsAside g i s → Leaves s (execute_group g i word s)
+  unfolding csr_access store store_action trap_return
   group-leaves LoadUpper word h = absurd h
   group-leaves AddUpper word h = absurd h
   group-leaves Jump word h = absurd h
@@ -117,10 +146,10 @@ module _ (i : Instruction) (s : State) where
   group-leaves ComputeImmediate word h = absurd h
   group-leaves Compute word h = absurd h
   group-leaves group.Nothing word h = absurd h
-  group-leaves EnvironmentCall word h = absurd h
-  group-leaves Breakpoint word h = absurd h
-  group-leaves TrapReturn word h = absurd h
-  group-leaves Csr word h = csr-leaves i word s (old_value (reads (operation_of i.kind) i) i s)
+  group-leaves EnvironmentCall word h = tt
+  group-leaves Breakpoint word h = tt
+  group-leaves TrapReturn word h = returned-leaves i word s (mret s.csrs) refl
+  group-leaves Csr word h = csr-leaves i word s h (old_value (reads (operation_of i.kind) i) i s)
   group-leaves LoadReserved word h = absurd h
   group-leaves StoreConditional word h = absurd h
   group-leaves Amo word h = absurd h
@@ -136,9 +165,9 @@ module _ (i : Instruction) (s : State) where
   group-stays ComputeImmediate h = absurd h
   group-stays Compute h = absurd h
   group-stays group.Nothing h = absurd h
-  group-stays EnvironmentCall h = absurd h
-  group-stays Breakpoint h = absurd h
-  group-stays TrapReturn h = absurd h
+  group-stays EnvironmentCall h = λ p. refl
+  group-stays Breakpoint h = λ p. refl
+  group-stays TrapReturn h = λ p. refl
   group-stays Csr h = λ p. refl
   group-stays LoadReserved h = absurd h
   group-stays StoreConditional h = absurd h
@@ -154,17 +183,17 @@ module _ (h : KeyedState) (comes : ComesAside h) where
   says = ap decoded comes.comes.is.is ∙ comes.comes.says
 
   reaches : reached (fetch_access s) s ≡ of_ram (Some (page_of s.pc))
-  unfolding reached
-  reaches = ap (λ b. reached_in b (fetch_access s)) comes.comes.is.in_ram
+  unfolding allows
+  reaches = reached-ram (fetch_access s) s refl comes.comes.is.allowed comes.comes.is.in_ram
 
-  action-leaves-by : (taken : Bool) → LeavesRam s (action_by taken s)
+  action-leaves-by : (taken : Bool) → Leaves s (action_by taken s)
   unfolding execute
   action-leaves-by true = tt
   action-leaves-by false =
-      subst (λ r. LeavesRam s (fetch_action r s)) (sym reaches)
-      (subst (λ o. LeavesRam s (decoded_action o (fetched s) s)) (sym says) (group-leaves comes.instr s (group_of comes.instr.kind) (fetched s) comes.aside))
+      subst (λ r. Leaves s (fetch_action r s)) (sym reaches)
+      (subst (λ o. Leaves s (decoded_action o (fetched s) s)) (sym says) (group-leaves comes.instr s (group_of comes.instr.kind) (fetched s) comes.aside))
 
-  action-leaves : LeavesRam s (action s)
+  action-leaves : Leaves s (action s)
   unfolding action
   action-leaves = action-leaves-by (takes_interrupt s.csrs (is_timer_due s))
 
@@ -177,17 +206,17 @@ module _ (h : KeyedState) (comes : ComesAside h) where
   change-stays : LeavesPages (footprint_from None s).changes
   change-stays = change-stays-by (takes_interrupt s.csrs (is_timer_due s))
 
-applied-leaves : (a : Action) (m : Machine) → LeavesRam m.state a → (applied a m).state.ram ≡ m.state.ram
-applied-leaves (trap cause value) m leaves = refl
-applied-leaves interrupt m leaves = refl
-applied-leaves (retire written new) m leaves = leaves
-applied-leaves (exit value new) m leaves = leaves
-applied-leaves (ask call new) m leaves = refl
+applied-leaves : (a : Action) (m : Machine) → Leaves m.state a → AreLeft m.state (applied a m).state
+applied-leaves (trap cause value) m leaves = record { ram = refl; entries = refl }
+applied-leaves interrupt m leaves = record { ram = refl; entries = refl }
+applied-leaves (retire written new) m leaves = record { ram = leaves.ram; entries = leaves.entries }
+applied-leaves (exit value bytes new) m leaves = record { ram = leaves.ram; entries = leaves.entries }
+applied-leaves (ask call new) m leaves = record { ram = refl; entries = refl }
 
-advance-leaves : (m : Machine) → m.ending ≡ None → LeavesRam m.state (action m.state) → (advance m).state.ram ≡ m.state.ram
+advance-leaves : (m : Machine) → m.ending ≡ None → Leaves m.state (action m.state) → AreLeft m.state (advance m).state
 unfolding advance
 advance-leaves m live leaves =
-    ap (λ (e : Option Ending). (advance_from e m).state.ram) live ∙ applied-leaves (action m.state) m leaves
+    subst (λ (e : Option Ending). AreLeft m.state (advance_from e m).state) (sym live) (applied-leaves (action m.state) m leaves)
 
 change-here : (m : Machine) (p : Pages) → m.ending ≡ None → LeavesPages (footprint_from None m.state).changes → (pages_after (change m) p).here ≡ p.here
 unfolding footprint
@@ -196,6 +225,11 @@ change-here m p live stays = ap (λ (e : Option Ending). (pages_after (footprint
 pub aside-keeps : (before after : KeyedMachine) (epoch : ℕ) (slots : List KeptInstruction) → before.machine.ending ≡ None → ComesAside (hart_in before) → after ≡ moved before
     → Keeps (hart_in before) epoch slots → Keeps (hart_in after) epoch slots
 aside-keeps before after epoch slots live comes is keeps =
-    let ram = ap (λ (v : KeyedMachine). v.machine.state.ram) is ∙ advance-leaves before.machine live (action-leaves (hart_in before) comes) in
+    let left = advance-leaves before.machine live (action-leaves (hart_in before) comes) in
     let here = ap (λ (v : KeyedMachine). v.pages.here) is ∙ change-here before.machine before.pages live (change-stays (hart_in before) comes) in
-    kept-same (hart_in before) (hart_in after) epoch slots ram here keeps
+    let same : StaysSame (hart_in before) (hart_in after) = record {
+      ram = ap (λ (v : KeyedMachine). v.machine.state.ram) is ∙ left.ram;
+      here = here;
+      entries = ap (λ (v : KeyedMachine). v.machine.state.csrs.pmp) is ∙ left.entries;
+    } in
+    kept-same (hart_in before) (hart_in after) epoch slots same keeps

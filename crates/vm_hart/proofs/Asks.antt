@@ -1,5 +1,5 @@
 -- Which call the coming step is: none but a store of a word to the fork port's command is one.
-use Rattle.std.proofs.Common.{◌≡◌, ℕ, ◌+◌, ◌-◌, ◌%◌, ◌⊎◌, inl, inr, List, Bool, true, false, cond, eqb, Option, Some, None, refl, sym, ap, ◌∙◌, subst, arith}
+use Rattle.std.proofs.Common.{◌≡◌, ℕ, ◌+◌, ◌-◌, ◌%◌, ◌⊎◌, inl, inr, List, [], Bool, true, false, cond, eqb, Option, Some, None, refl, sym, ap, ◌∙◌, subst, arith}
 use Rattle.std.specs.Option.{IfSome, option_map}
 use Rattle.std.proofs.lemmas.Bool.Decides.{nat_tests}
 use Rattle.rv_decode.specs.Instruction.{Instruction}
@@ -11,7 +11,7 @@ use Rattle.rv_decode.specs.declared.kinds.Group.TheVariants.{Compute, Nothing, E
 use Rattle.rv_decode.specs.Kinds.{group_of}
 use Rattle.rv_exec.specs.Memory.{load_width, store_width}
 use Rattle.rv_decode.specs.Table.{decoded}
-use Rattle.rv_traps.specs.Trap.{takes_interrupt}
+use Rattle.rv_traps.specs.Trap.{mret, takes_interrupt}
 use Rattle.rv_traps.specs.declared.registers.CsrRegisters.{CsrRegisters}
 use Rattle.console_port.specs.declared.registers.TheConstants.{CONSOLE_SIZE}
 use Rattle.console_port.specs.Console.{ConsoleRegisters, console_store}
@@ -38,13 +38,14 @@ use Rattle.forest_model.specs.Compute.{load_upper, add_upper, compute_immediate,
 use Rattle.forest_model.specs.Control.{aligned_jump, jump, jump_register, branch_by, branch, relative, linked}
 use Rattle.forest_model.specs.declared.access.Access.{Access}
 use Rattle.forest_model.specs.Access.{Reached, faulted, of_ram, of_port, reached, fetch_access}
-use Rattle.forest_model.specs.Memory.{data_address, read_action, load_by, load_access, load, outcome, stored_outcome, store_by, store_access, store_action, stored_bytes, store, to_store}
+use Rattle.forest_model.specs.Memory.{data_address, read_action, load_by, load_access, load, Outcome, is_byte_range, handing_over, outcome, stored_outcome, port_outcome, store_by, store_access, store_action, stored_bytes, store, to_store}
 use Rattle.forest_model.specs.Atomic.{is_reserved, reserve_by, reserve_access, load_reserved, conditional_action, conditional_by, conditional_access, store_conditional, amo_by, amo_access, amo}
-use Rattle.forest_model.specs.System.{operation_of, reads, writes, written_action, write_action, old_action, old_value, csr_access, trap_return}
+use Rattle.forest_model.specs.System.{operation_of, reads, writes, written_action, write_action, old_action, old_value, csr_access, returned_action, trap_return}
 use Rattle.forest_model.specs.Execute.{action, action_by, decoded_action, execute_group, execute, fetch_action, fetched}
 use Rattle.forest_model.specs.Machine.{next_of}
 use Rattle.forest_model.specs.Footprint.{Footprint, no_change, no_footprint}
 use Rattle.forest_model.specs.Touch.{access_by, data_footprint, footprint_at, footprint_from, footprint_of, footprint_reached, footprint_step}
+use Rattle.vm_hart.specs.Acts.{bytes_needs}
 use Rattle.vm_hart.specs.Calls.{asked_call, call_asked, AsksFor}
 
 abbrev NoCall : Action → Type 0
@@ -52,9 +53,10 @@ NoCall a = asked_call (next_of a) ≡ None
 
 -- ---- stores
 
--- an effect that is no call
+-- an effect that is no call, and needs no page
 abbrev IsOther : Effect → Type 0
 IsOther (effect.Call c) = ⊥
+IsOther (effect.ExitWith value address count) = ⊥
 IsOther effect.Done = Unit {0}
 IsOther effect.TimeWritten = Unit {0}
 IsOther (effect.Exit value) = Unit {0}
@@ -65,7 +67,20 @@ other-outcome effect.Done s h = refl
 other-outcome effect.TimeWritten s h = refl
 other-outcome (effect.Exit value) s h = refl
 other-outcome (effect.Call c) s h = absurd h
+other-outcome (effect.ExitWith value address count) s h = absurd h
 other-outcome (effect.Zero first count) s h = refl
+
+needs-none : (e : Effect) (s : State) → IsOther e → (outcome e s).footprint.needs ≡ []
+needs-none effect.Done s h = refl
+needs-none effect.TimeWritten s h = refl
+needs-none (effect.Exit value) s h = refl
+needs-none (effect.Call c) s h = absurd h
+needs-none (effect.ExitWith value address count) s h = absurd h
+needs-none (effect.Zero first count) s h = refl
+
+needs-stored : (o : Option Stored) (address : ℕ) (s : State) → IfSome o (λ stored. IsOther stored.effect) → (stored_outcome o address s).footprint.needs ≡ []
+needs-stored None address s h = refl
+needs-stored (Some stored) address s h = needs-none stored.effect (at_next_instruction (record s { ports = stored.ports })) h
 
 other-port : (o : Option Stored) (address : ℕ) (s : State) → IfSome o (λ stored. IsOther stored.effect) → NoCall (stored_outcome o address s).action
 other-port None address s h = refl
@@ -216,6 +231,10 @@ none-old_action : (old : Option ℕ) (i : Instruction) (word : ℕ) (s : State) 
 none-old_action None i word s = refl
 none-old_action (Some old) i word s = none-write_action (writes (operation_of i.kind) i) old i word s
 
+none-returned : (csrs : Option CsrRegisters) (word : ℕ) (s : State) → NoCall (returned_action csrs word s)
+none-returned None word s = refl
+none-returned (Some csrs) word s = refl
+
 none-execute_group : (group : Group) (i : Instruction) (word : ℕ) (s : State) → group_of i.kind ≡ group → (i.kind ≡ Sw → ⊥)
     → NoCall (execute_group group i word s)
 unfolding load_upper add_upper compute_immediate compute jump jump_register branch load load_reserved store_conditional amo csr_access trap_return
@@ -232,7 +251,7 @@ none-execute_group Compute i word s e other = refl
 none-execute_group Nothing i word s e other = refl
 none-execute_group EnvironmentCall i word s e other = refl
 none-execute_group Breakpoint i word s e other = refl
-none-execute_group TrapReturn i word s e other = refl
+none-execute_group TrapReturn i word s e other = none-returned (mret s.csrs) word s
 none-execute_group Csr i word s e other = none-old_action (old_value (reads (operation_of i.kind) i) i s) i word s
 none-execute_group LoadReserved i word s e other = none-reserve_by (reached (reserve_access i s) s) i (rs1 i s) s
 none-execute_group StoreConditional i word s e other = none-conditional_by (reached (conditional_access i s) s) i (rs1 i s) s
@@ -249,7 +268,7 @@ word-stored : (i : Instruction) (word : ℕ) (s : State) → i.kind ≡ Sw → e
 unfolding execute group_of
 word-stored i word s is = ap (λ kind. execute_group (group_of kind) i word s) is
 
-differ : (a b : ℕ) → (a ≡ b → ⊥) → eqb a b ≡ false
+pub differ : (a b : ℕ) → (a ≡ b → ⊥) → eqb a b ≡ false
 differ a b other = grind (arith, nat_tests)
 
 -- a store of a word to another address
@@ -259,6 +278,10 @@ no-command i word s is other =
     ap (λ a. asked_call (next_of a)) (word-stored i word s is)
     ∙ other-store i s (elsewhere-address (store_width i.kind) (data_address i s) (differ (data_address i s) (FORK_BASE + FORK_COMMAND) other))
 
+handed-no-call : (in_range : Bool) (value address count : ℕ) (s : State) → NoCall (handing_over in_range value address count s).action
+handed-no-call true value address count s = refl
+handed-no-call false value address count s = refl
+
 -- what a command asks for, of which a call waits
 commanded : (a : Asked) (s : State)
     → AsksFor (outcome (effect_of a) (at_next_instruction (record s { ports = record s.ports { fork = answered a s.ports.fork } }))).action s (call_asked a)
@@ -267,6 +290,9 @@ commanded asked.NewTicket s = refl
 commanded (asked.Discard number) s = refl
 commanded (asked.Call c) s = refl
 commanded (asked.Exit value) s = refl
+commanded (asked.ExitWith value address count) s =
+    let next : State = at_next_instruction s in
+    handed-no-call (is_byte_range address count next.ram) value address count next
 commanded (asked.Zero first count) s = refl
 
 store-commands : (bytes : List ℕ) (word : ℕ) (s : State) → store_by of_port (FORK_BASE + FORK_COMMAND) 4 bytes word s
@@ -304,12 +330,61 @@ command i word s a is at reaches here =
     ∙ store-commands (stored_bytes i s) (rs2 i s) s in
     subst (λ a. AsksFor a s (call_asked (fork_command s.ports.fork (rs2 i s)))) (sym same) (commanded (fork_command s.ports.fork (rs2 i s)) s)
 
+-- ---- the pages that a store to a port needs
+
+-- a store of a word for the command
+pub command-needs : (word : ℕ) (s : State) → port_outcome (FORK_BASE + FORK_COMMAND) 4 word s
+    ≡ outcome (effect_of (fork_command s.ports.fork word)) (at_next_instruction (record s { ports = record s.ports { fork = answered (fork_command s.ports.fork word) s.ports.fork } }))
+unfolding port_store place_in fork_store
+command-needs word s = refl
+
+-- no other store to a port needs one
+pub elsewhere-needs : (address width word : ℕ) (s : State) → (eqb width 4 ≡ false) ⊎ (eqb address (FORK_BASE + FORK_COMMAND) ≡ false)
+    → (port_outcome address width word s).footprint.needs ≡ []
+unfolding port_store
+elsewhere-needs address width word s (inl e) =
+    needs-stored (port_store s.ports address width word) address s
+    (other-at (place_of address) s.ports width word (elsewhere-narrow width (place_of address) e))
+elsewhere-needs address width word s (inr e) =
+    needs-stored (port_store s.ports address width word) address s
+    (other-at (place_of address) s.ports width word (elsewhere-address width address e))
+
+-- and a command needs none but as EXIT with bytes
+asks-none : (a : Asked) (s : State) → ((value address count : ℕ) → a ≡ asked.ExitWith value address count → ⊥) → (outcome (effect_of a) s).footprint.needs ≡ []
+asks-none (asked.Refused word) s other = refl
+asks-none asked.NewTicket s other = refl
+asks-none (asked.Discard number) s other = refl
+asks-none (asked.Call c) s other = refl
+asks-none (asked.Exit value) s other = refl
+asks-none (asked.ExitWith value address count) s other = absurd (other value address count refl)
+asks-none (asked.Zero first count) s other = refl
+
+pub command-needs-none : (word : ℕ) (s : State) → ((value address count : ℕ) → fork_command s.ports.fork word ≡ asked.ExitWith value address count → ⊥)
+    → (port_outcome (FORK_BASE + FORK_COMMAND) 4 word s).footprint.needs ≡ []
+command-needs-none word s other =
+    ap (λ (o : Outcome). o.footprint.needs) (command-needs word s)
+    ∙ asks-none (fork_command s.ports.fork word) (at_next_instruction (record s { ports = record s.ports { fork = answered (fork_command s.ports.fork word) s.ports.fork } })) other
+
+handed-needs : (in_range : Bool) (value address count : ℕ) (s : State)
+    → (handing_over in_range value address count (at_next_instruction s)).footprint.needs ≡ (handing_over in_range 0 address count s).footprint.needs
+handed-needs false value address count s = refl
+handed-needs true value address count s = refl
+
+pub command-needs-bytes : (word : ℕ) (s : State) (value address count : ℕ) → fork_command s.ports.fork word ≡ asked.ExitWith value address count
+    → (port_outcome (FORK_BASE + FORK_COMMAND) 4 word s).footprint.needs ≡ bytes_needs s address count
+command-needs-bytes word s value address count is =
+    ap (λ (o : Outcome). o.footprint.needs) (command-needs word s)
+    ∙ ap (λ a. (outcome (effect_of a) (at_next_instruction (record s { ports = record s.ports { fork = answered a s.ports.fork } }))).footprint.needs) is
+    ∙ handed-needs (is_byte_range address count s.ram) value address count s
+
 -- ---- a call asks nothing of the pages
 
 call-outcome : (e : Effect) (s : State) (c : Call) → asked_call (next_of (outcome e s).action) ≡ Some c → (outcome e s).footprint ≡ no_footprint
 call-outcome effect.Done s c is = refl
 call-outcome effect.TimeWritten s c is = refl
 call-outcome (effect.Exit value) s c is = refl
+call-outcome (effect.ExitWith value address count) s c is =
+    let none = handed-no-call (is_byte_range address count s.ram) value address count s in absurd (cc)
 call-outcome (effect.Call call) s c is = refl
 call-outcome (effect.Zero first count) s c is = absurd (cc)
 

@@ -13,7 +13,10 @@ use Rattle.rv_exec.specs.Memory.{load_value, load_width, store_width}
 use Rattle.rv_traps.specs.declared.registers.CsrRegisters.{CsrRegisters}
 use Rattle.rv_traps.specs.Counters.{counted}
 use Rattle.rv_traps.specs.declared.counter.Wrote.TheVariants as counter
+use Rattle.guest_pmp.specs.declared.access.Access.TheVariants as right
+use Rattle.rv_traps.specs.Protection.{allows}
 use Rattle.rv_traps.specs.Trap.{takes_interrupt}
+use Rattle.rv_traps.proofs.Protection.{allows-recounted}
 use Rattle.timer_port.specs.declared.registers.TimerRegisters.{TimerRegisters}
 use Rattle.timer_port.specs.Timer.{is_due, timer_counted}
 use Rattle.forest_model.specs.declared.Written.{Written}
@@ -23,7 +26,7 @@ use Rattle.forest_model.specs.Ports.{PortRegisters}
 use Rattle.forest_model.specs.State.{State, at_next_instruction, is_in_ram}
 use Rattle.forest_model.proofs.Accesses.{reached-ram}
 use Rattle.forest_model.specs.Action.{Action, trap, interrupt, retire, exit, ask, retire_next, rs1, rs2, immediate, with_rd}
-use Rattle.forest_model.specs.Access.{Reached, faulted, of_ram, of_port, is_aligned_for, page_of, reached, reached_by, reached_in, fetch_access}
+use Rattle.forest_model.specs.Access.{Reached, faulted, of_ram, of_port, is_aligned_for, is_allowed, page_of, reached, reached_by, reached_if, right_for, uses, fetch_access}
 use Rattle.forest_model.specs.Compute.{load_upper, add_upper, compute_immediate, compute}
 use Rattle.forest_model.specs.Control.{aligned_jump, branch, branch_by, jump, jump_register, even, linked, relative}
 use Rattle.forest_model.specs.Memory.{data_address, load, load_access, load_by, ram_number, store, store_access, store_action, store_by, stored_bytes, with_bytes}
@@ -53,20 +56,24 @@ IsNoPort (faulted cause) = Unit {0}
 IsNoPort (of_ram page) = Unit {0}
 IsNoPort of_port = ⊥
 
-in-ram : (a : Access) (s : State) → is_in_ram s.ram a.address ≡ true → (aligned : Bool) → IsNoPort (reached_by aligned a s)
+in-ram : (a : Access) (s : State) → is_in_ram s.ram a.address ≡ true → (allowed : Bool) → IsNoPort (reached_if allowed (is_in_ram s.ram a.address) a)
 in-ram a s inside false = tt
-in-ram a s inside true = subst (λ b. IsNoPort (reached_in b a)) (sym inside) tt
+in-ram a s inside true = subst (λ b. IsNoPort (reached_if true b a)) (sym inside) tt
+
+by-alignment : (a : Access) (s : State) → is_in_ram s.ram a.address ≡ true → (aligned : Bool) → IsNoPort (reached_by aligned a s)
+by-alignment a s inside false = tt
+by-alignment a s inside true = in-ram a s inside (is_allowed a s)
 
 pub no-port : (a : Access) (s : State) → is_in_ram s.ram a.address ≡ true → IsNoPort (reached a s)
 unfolding reached
-no-port a s inside = in-ram a s inside (is_aligned_for a.direction a.address a.width)
+no-port a s inside = by-alignment a s inside (is_aligned_for a.direction a.address a.width)
 
 -- the action with these counters and this time
 abbrev recounted_action : CsrRegisters → TimerRegisters → Action → Action
 recounted_action c t (trap cause value) = trap cause value
 recounted_action c t interrupt = interrupt
 recounted_action c t (retire written s) = retire written (with_counters c t s)
-recounted_action c t (exit value s) = exit value (with_counters c t s)
+recounted_action c t (exit value bytes s) = exit value bytes (with_counters c t s)
 recounted_action c t (ask call s) = ask call (with_counters c t s)
 
 -- what a fast instruction does, and what it does to the pages: it traps and changes none, or retires and leaves counters and ports
@@ -76,7 +83,7 @@ IsFastAction s interrupt ch = ⊥
 IsFastAction s (retire Nothing new) ch = (new.csrs ≡ s.csrs) × (new.ports ≡ s.ports)
 IsFastAction s (retire (Counter half) new) ch = ⊥
 IsFastAction s (retire Time new) ch = ⊥
-IsFastAction s (exit value new) ch = ⊥
+IsFastAction s (exit value bytes new) ch = ⊥
 IsFastAction s (ask call new) ch = ⊥
 
 module _ (i : Instruction) (s : State) where
@@ -125,9 +132,12 @@ module _ (i : Instruction) (s : State) where
     abbrev other : State
     other = with_counters c t s
 
+    same-allowed : (a : Access) → is_allowed a other ≡ is_allowed a s
+    same-allowed a = allows-recounted s.csrs c.mcycle c.minstret (right_for (uses a.direction)) a.address
+
     same-by : (a : Access) (aligned : Bool) → reached_by aligned a other ≡ reached_by aligned a s
     same-by a false = refl
-    same-by a true = refl
+    same-by a true = ap (λ b. reached_if b (is_in_ram s.ram a.address) a) (same-allowed a)
 
     same-reached : (a : Access) → reached a other ≡ reached a s
     unfolding reached
@@ -213,7 +223,7 @@ told-retired s new (retire (Counter half) n) ch written h e = absurd h
 told-retired s new (retire Time n) ch written h e = absurd h
 told-retired s new (trap cause value) ch written h e = absurd (cc)
 told-retired s new interrupt ch written h e = absurd (cc)
-told-retired s new (exit value n) ch written h e = absurd (cc)
+told-retired s new (exit value bytes n) ch written h e = absurd (cc)
 told-retired s new (ask call n) ch written h e = absurd (cc)
 
 module _ (old new : KeyedState) (i : Instruction) (word : ℕ) (fast : IsFast i old.state) where
@@ -223,8 +233,8 @@ module _ (old new : KeyedState) (i : Instruction) (word : ℕ) (fast : IsFast i 
 
   -- it retires, and counters and time have no part in it
   module _ (acts : ActsBy old new (Some i) word (Ok (Retired Nothing))) where
-    kept : (new.state.csrs ≡ old.state.csrs) × (new.state.ports ≡ old.state.ports)
-    kept = subst (λ a. IsFastAction old.state a (footprint_of (Some i) old.state).changes) acts.tells is-fast
+    pub registers-stay : (new.state.csrs ≡ old.state.csrs) × (new.state.ports ≡ old.state.ports)
+    registers-stay = subst (λ a. IsFastAction old.state a (footprint_of (Some i) old.state).changes) acts.tells is-fast
 
     acts-recounted : (c : CsrRegisters) (t : TimerRegisters) → ActsBy (recounted c t old) (recounted c t new) (Some i) word (Ok (Retired Nothing))
     unfolding execute
@@ -237,11 +247,10 @@ module _ (old new : KeyedState) (i : Instruction) (word : ℕ) (fast : IsFast i 
         }
 
     pub fast-step : (offset : ℕ) → ReachesRam old (fetch_access old.state) offset → word ≡ fetched old.state → decoded word ≡ Some i → IsFastStep old new
-    unfolding reached
     fast-step offset reaches is says = record {
-      csrs = kept.0;
-      ports = kept.1;
-      acts = λ c t quiet. next-acts (recounted c t old) quiet _ reaches.is reaches.here (recounted c t new) word (Ok (Retired Nothing)) is
+      csrs = registers-stay.0;
+      ports = registers-stay.1;
+      acts = λ c t quiet. next-acts (recounted c t old) quiet _ (same-reached i old.state c t (fetch_access old.state) ∙ reaches.is) reaches.here (recounted c t new) word (Ok (Retired Nothing)) is
           (subst (λ d. ActsBy (recounted c t old) (recounted c t new) d word (Ok (Retired Nothing))) (sym says) (acts-recounted c t));
     }
 
@@ -260,7 +269,7 @@ module _ (old new : KeyedState) (i : Instruction) (word : ℕ) (fast : IsFast i 
   fast-none Interrupted acts differs = absurd (subst (λ a. IsFastAction old.state a (footprint_of (Some i) old.state).changes) acts.tells.0 is-fast)
   fast-none (Retired written) acts differs =
       absurd (differs (ap Retired (told-retired old.state new.state (execute i word old.state) (footprint_of (Some i) old.state).changes written is-fast acts.tells)))
-  fast-none (Exited value) acts differs = absurd (subst (λ a. IsFastAction old.state a (footprint_of (Some i) old.state).changes) acts.tells is-fast)
+  fast-none (Exited value address count) acts differs = absurd (subst (λ a. IsFastAction old.state a (footprint_of (Some i) old.state).changes) acts.tells.0 is-fast)
   fast-none (Asked call) acts differs = absurd (subst (λ a. IsFastAction old.state a (footprint_of (Some i) old.state).changes) acts.tells.0 is-fast)
 
 by-retired : (old new : KeyedState) (i : Instruction) (acted : Acted) (is_retired : Bool) → IsFast i old.state
@@ -288,12 +297,13 @@ group-acts g old new i acted is_retired is fast acts told =
 module _ (old new : KeyedState) (i : Instruction) (inside : is_in_ram old.state.ram (data_address i old.state) ≡ true)
     (here : IsHere old.pages (page_of (data_address i old.state))) where
   pub loads-here : (number : ℕ) → group_of i.kind ≡ Load → data_address i old.state % load_width i.kind ≡ 0
+      → allows old.state.csrs right.Load (data_address i old.state) ≡ true
       → number ≡ ram_number (data_address i old.state) (load_width i.kind) old.state
       → new ≡ record old { state = at_next_instruction (with_rd i (load_value i.kind number) old.state) } → ActsFast old new i
   unfolding load
-  loads-here number is aligned reads becomes =
+  loads-here number is aligned allowed reads becomes =
       let s : State = old.state in
-      let r : reached (load_access i s) s ≡ of_ram (Some (page_of (data_address i s))) = reached-ram (load_access i s) s (ap (λ n. eqb n 0) aligned) inside in
+      let r : reached (load_access i s) s ≡ of_ram (Some (page_of (data_address i s))) = reached-ram (load_access i s) s (ap (λ n. eqb n 0) aligned) allowed inside in
       group-acts Load old new i (Retired Nothing) true is inside
       (λ word. record {
         met = subst (λ x. IsMet (footprint_reached x (load_access i s) (rs2 i s) s).needs old.pages) (sym r) (here, tt);
@@ -307,16 +317,17 @@ module _ (old new : KeyedState) (i : Instruction) (inside : is_in_ram old.state.
         );
       }) refl
 
-  pub stores-here : (bytes : List ℕ) → group_of i.kind ≡ Store → data_address i old.state % store_width i.kind ≡ 0 → bytes ≡ stored_bytes i old.state
+  pub stores-here : (bytes : List ℕ) → group_of i.kind ≡ Store → data_address i old.state % store_width i.kind ≡ 0
+      → allows old.state.csrs right.Store (data_address i old.state) ≡ true → bytes ≡ stored_bytes i old.state
       → new ≡ record {
         state = at_next_instruction (with_bytes (data_address i old.state) bytes old.state);
         pages = pages_after (puts (page_of (data_address i old.state))) old.pages;
         key = old.key;
       } → ActsFast old new i
   unfolding store store_action
-  stores-here bytes is aligned same becomes =
+  stores-here bytes is aligned allowed same becomes =
       let s : State = old.state in
-      let r : reached (store_access i s) s ≡ of_ram (Some (page_of (data_address i s))) = reached-ram (store_access i s) s (ap (λ n. eqb n 0) aligned) inside in
+      let r : reached (store_access i s) s ≡ of_ram (Some (page_of (data_address i s))) = reached-ram (store_access i s) s (ap (λ n. eqb n 0) aligned) allowed inside in
       group-acts Store old new i (Retired Nothing) true is inside
       (λ word. record {
         met = subst (λ x. IsMet (footprint_reached x (store_access i s) (rs2 i s) s).needs old.pages) (sym r) (here, tt);

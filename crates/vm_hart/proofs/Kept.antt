@@ -4,9 +4,9 @@ use Rattle.std.proofs.Common.{false, eqb, List, length, get_or, replicate, Optio
 use Rattle.std.proofs.Math.ListN.{set}
 use Rattle.std.proofs.lemmas.Bool.{cases_eq, eqb-true}
 use Rattle.std.proofs.lemmas.Bool.Decides.{nat_tests}
-use Rattle.std.proofs.lemmas.List.{get_or-replicate, get_or-set_other, get_or-set_same, length-replicate, length-set}
+use Rattle.std.proofs.lemmas.List.{get_or_default, get_or-replicate, get_or-set_other, get_or-set_same, length-replicate, length-set}
 use Rattle.std.specs.Int.Bits.{bit_and}
-use Rattle.std.specs.Prelude.{◌&&◌, MatchBool, nat_le, nat_lt, slice_get}
+use Rattle.std.specs.Prelude.{◌&&◌, MatchBool, not, nat_le, nat_lt, slice_get}
 use Rattle.elf_load.specs.declared.image.TheConstants.{RAM_BASE, PAGE_SIZE}
 use Rattle.flat_memory.specs.Flat.{put_bytes, word_at}
 use Rattle.flat_memory.proofs.Bytes.{get_or-put_bytes_outside, length-put_bytes}
@@ -20,11 +20,18 @@ use Rattle.rv_decode.specs.declared.kinds.Group.{Group}
 use Rattle.rv_decode.specs.declared.kinds.Group.TheVariants.{LoadUpper, AddUpper, Jump, JumpRegister, Branch, Load, Store, ComputeImmediate}
 use Rattle.rv_decode.specs.declared.kinds.Group.TheVariants.{Compute, EnvironmentCall, Breakpoint, TrapReturn, Csr, LoadReserved, StoreConditional, Amo}
 use Rattle.rv_decode.specs.declared.kinds.Group.TheVariants as group
+use Rattle.guest_pmp.specs.declared.access.Access.TheVariants as right
+use Rattle.guest_pmp.specs.declared.access.Mode.{Mode}
+use Rattle.guest_pmp.specs.declared.access.Mode.TheVariants.{User, Machine}
+use Rattle.guest_pmp.specs.Allowed.{allowed, is_machine}
+use Rattle.rv_traps.specs.declared.registers.CsrRegisters.{CsrRegisters}
+use Rattle.guest_pmp.specs.Registers.{has_lock}
+use Rattle.rv_traps.specs.Protection.{allows, data_mode, is_unrestricted}
 use Rattle.rv_exec.specs.Branch.{branch_taken}
 use Rattle.rv_exec.specs.Memory.{IsWidth, store_bytes, store_width}
 use Rattle.forest_model.specs.State.{State, is_in_ram}
 use Rattle.forest_model.specs.Action.{Action, trap, interrupt, retire, exit, ask, rs1, rs2, immediate}
-use Rattle.forest_model.specs.Access.{Reached, faulted, of_ram, of_port, reached, reached_in, fetch_access}
+use Rattle.forest_model.specs.Access.{Reached, faulted, of_ram, of_port, reached, fetch_access}
 use Rattle.forest_model.specs.Compute.{load_upper, add_upper, compute_immediate, compute}
 use Rattle.forest_model.specs.Control.{aligned_jump, branch, branch_by, jump, jump_register, even, linked, relative}
 use Rattle.forest_model.specs.Memory.{data_address, load, load_access, load_by, store, store_access, store_action, store_by, stored_bytes}
@@ -32,15 +39,44 @@ use Rattle.forest_model.specs.Execute.{execute, execute_group, fetched}
 use Rattle.forest_model.specs.Touch.{access_by, data_footprint, footprint_reached}
 use Rattle.forest_model.specs.Footprint.{Change}
 use Rattle.forest_model.specs.Paged.{Pages, pages_after}
-use Rattle.forest_model.proofs.Accesses.{of_ram-is}
+use Rattle.forest_model.proofs.Accesses.{of_ram-is, reached-ram}
 use Rattle.vm_hart.specs.Acts.{ReachesRam}
 use Rattle.instruction_slots.specs.Slots.{Forgets, ForgetsAt, KeptInstruction, kept_by, place_of, slot_of}
-use Rattle.vm_hart.specs.Kept.{Comes, IsKept, IsWord, Keeps, stored_at}
+use Rattle.vm_hart.specs.Kept.{Comes, IsComing, IsKept, IsWord, Keeps, mode_tag, stored_at, tagged}
 use Rattle.vm_hart.specs.Keyed.{KeyedState}
 use Rattle.vm_hart.specs.Fast.{ActsFast, IsFastIn, IsFastStep}
 use Rattle.instruction_slots.specs.Slots.{KeptInstruction}
 use Rattle.instruction_slots.specs.declared.slot.TheConstants.{NOWHERE}
-use Rattle.vm_hart.proofs.Fast.{IsNoPort, no-port, fast-step}
+use Rattle.vm_hart.proofs.Fast.{IsNoPort, no-port, fast-step, registers-stay}
+
+-- ---- the tags of modes
+
+-- a tag leaves an address even, and is small
+pub tag-even : (mode : Mode) → mode_tag mode % 2 ≡ 0
+tag-even User = refl
+tag-even Machine = refl
+
+pub tag-small : (mode : Mode) → mode_tag mode ≤ 2
+tag-small User = omega arith
+tag-small Machine = omega arith
+
+tag-same : (mode other : Mode) → mode_tag mode ≡ mode_tag other → mode ≡ other
+tag-same User User e = refl
+tag-same User Machine e = absurd (cc)
+tag-same Machine User e = absurd (cc)
+tag-same Machine Machine e = refl
+
+-- where nothing is restricted the mode is machine mode
+tag-machine : (mode : Mode) (rest : Bool) → (is_machine mode && rest) ≡ true → mode_tag mode ≡ 0
+tag-machine User rest is = absurd (cc)
+tag-machine Machine rest is = refl
+
+pub tag-free : (c : CsrRegisters) → is_unrestricted c ≡ true → mode_tag c.mode ≡ 0
+tag-free c free = tag-machine c.mode (is_machine (data_mode c) && not (has_lock c.pmp)) free
+
+-- no instruction is nowhere
+not-nowhere : (mode : Mode) (address epoch place : ℕ) → place ≡ NOWHERE → place ≡ place_of (tagged mode address) epoch → address % 4 ≡ 0 → ⊥
+not-nowhere mode address epoch place nowhere now aligned = let even = tag-even mode in omega (arith, even, nowhere, now, aligned)
 
 -- ---- slots
 
@@ -48,7 +84,7 @@ use Rattle.vm_hart.proofs.Fast.{IsNoPort, no-port, fast-step}
 pub keeps-nothing : (h : KeyedState) (epoch count number : ℕ) (slot : KeptInstruction) → slot.place ≡ NOWHERE → IsKept h epoch count number slot
 keeps-nothing h epoch count number slot nowhere = record {
   past = omega (arith, nowhere);
-  filled = λ address now aligned. absurd (omega (arith, nowhere, now, aligned));
+  filled = λ mode address now aligned. absurd (not-nowhere mode address epoch slot.place nowhere now aligned);
 }
 
 pub keeps-replicate : (h : KeyedState) (epoch n : ℕ) (slot : KeptInstruction) → slot.place ≡ NOWHERE → Keeps h epoch (replicate n slot)
@@ -60,7 +96,7 @@ keeps-replicate h epoch n slot nowhere k d below =
 pub keeps-later : (h later : KeyedState) (epoch next : ℕ) (slots : List KeptInstruction) → epoch < next → Keeps h epoch slots → Keeps later next slots
 keeps-later h later epoch next slots after keeps k d below =
     let past = (keeps k d below).past in
-    record { past = omega (arith, past, after); filled = λ address now aligned. absurd (omega (arith, past, after, now)) }
+    record { past = omega (arith, past, after); filled = λ mode address now aligned. absurd (omega (arith, past, after, now)) }
 
 -- another slot in the place of one
 pub keeps-set : (h : KeyedState) (epoch n : ℕ) (slots : List KeptInstruction) (slot : KeptInstruction) → Keeps h epoch slots → n < length slots → IsKept h epoch (length slots) n slot
@@ -102,7 +138,7 @@ abbrev IsRamAction : Group → Instruction → State → Action → Type 0
 IsRamAction g i s (trap cause value) = Unit {0}
 IsRamAction g i s interrupt = Unit {0}
 IsRamAction g i s (retire written new) = RamAfter g i s new
-IsRamAction g i s (exit value new) = Unit {0}
+IsRamAction g i s (exit value bytes new) = Unit {0}
 IsRamAction g i s (ask call new) = Unit {0}
 
 module _ (i : Instruction) (s : State) where
@@ -239,20 +275,26 @@ module _ (ram bytes : List ℕ) (address width : ℕ) (size : length bytes ≡ w
 
 -- ---- what is kept after it
 
--- where RAM and the pages that are here stay
-pub kept-same : (old new : KeyedState) (epoch : ℕ) (slots : List KeptInstruction) → new.state.ram ≡ old.state.ram → new.pages.here ≡ old.pages.here → Keeps old epoch slots → Keeps new epoch slots
-kept-same old new epoch slots ram here keeps k d below =
+-- where RAM, the pages that are here and the entries of memory protection stay
+pub record StaysSame (old new : KeyedState) : Type 0 where
+  pub ram : new.state.ram ≡ old.state.ram
+  pub here : new.pages.here ≡ old.pages.here
+  pub entries : new.state.csrs.pmp ≡ old.state.csrs.pmp
+
+pub kept-same : (old new : KeyedState) (epoch : ℕ) (slots : List KeptInstruction) → StaysSame old new → Keeps old epoch slots → Keeps new epoch slots
+kept-same old new epoch slots same keeps k d below =
     let kept = keeps k d below in
     record {
       past = kept.past;
-      filled = λ at now aligned.
-          let filled = kept.filled at now aligned in
+      filled = λ mode at now aligned.
+          let filled = kept.filled mode at now aligned in
           record {
             place = filled.place;
             word = record {
-              in_ram = subst (λ r. is_in_ram r at ≡ true) (sym ram) filled.word.in_ram;
-              here = subst (λ p. slice_get p ((at - RAM_BASE) / PAGE_SIZE) ≡ Some true) (sym here) filled.word.here;
-              is = subst (λ r. word_at r (at - RAM_BASE) ≡ (get_or slots k d).word) (sym ram) filled.word.is;
+              in_ram = subst (λ r. is_in_ram r at ≡ true) (sym same.ram) filled.word.in_ram;
+              here = subst (λ p. slice_get p ((at - RAM_BASE) / PAGE_SIZE) ≡ Some true) (sym same.here) filled.word.here;
+              allowed = subst (λ e. allowed e right.Fetch mode at ≡ true) (sym same.entries) filled.word.allowed;
+              is = subst (λ r. word_at r (at - RAM_BASE) ≡ (get_or slots k d).word) (sym same.ram) filled.word.is;
             };
           };
     }
@@ -262,19 +304,20 @@ in-as-long ram other at same inside = subst (λ n. (nat_le RAM_BASE at && nat_lt
 
 -- after a store of bytes of a word that no slot keeps
 kept-store : (old new : KeyedState) (epoch address width : ℕ) (slots : List KeptInstruction) (bytes : List ℕ) → new.state.ram ≡ put_bytes old.state.ram (address - RAM_BASE) bytes
-    → new.pages.here ≡ old.pages.here → length bytes ≡ width → IsWidth width → address % width ≡ 0 → is_in_ram old.state.ram address ≡ true → length old.state.ram % 4 ≡ 0
+    → new.pages.here ≡ old.pages.here → new.state.csrs.pmp ≡ old.state.csrs.pmp → length bytes ≡ width → IsWidth width → address % width ≡ 0
+    → is_in_ram old.state.ram address ≡ true → length old.state.ram % 4 ≡ 0
     → ((d : KeptInstruction) → (get_or slots (slot_of address (length slots)) d).place ≡ NOWHERE) → Keeps old epoch slots → Keeps new epoch slots
-kept-store old new epoch address width slots bytes ram here size is_width aligned inside whole forgotten keeps k d below =
+kept-store old new epoch address width slots bytes ram here entries size is_width aligned inside whole forgotten keeps k d below =
     let kept = keeps k d below in
     record {
       past = kept.past;
-      filled = λ at now quartered.
-          let filled = kept.filled at now quartered in
+      filled = λ mode at now quartered.
+          let filled = kept.filled mode at now quartered in
           let other : at / 4 ≢ address / 4 =
           λ same.
           let number : slot_of address (length slots) ≡ k = ap (λ q. bit_and q (length slots - 1)) (sym same) ∙ filled.place in
           let nowhere : (get_or slots k d).place ≡ NOWHERE = subst (λ j. (get_or slots j d).place ≡ NOWHERE) number (forgotten d) in
-          omega (arith, nowhere, now, quartered) in
+          not-nowhere mode at epoch (get_or slots k d).place nowhere now quartered in
           let lengths : length new.state.ram ≡ length old.state.ram =
           ap length ram ∙ same-length old.state.ram bytes address width size is_width aligned inside whole in
           record {
@@ -282,6 +325,7 @@ kept-store old new epoch address width slots bytes ram here size is_width aligne
             word = record {
               in_ram = in-as-long old.state.ram new.state.ram at lengths filled.word.in_ram;
               here = subst (λ p. slice_get p ((at - RAM_BASE) / PAGE_SIZE) ≡ Some true) (sym here) filled.word.here;
+              allowed = subst (λ e. allowed e right.Fetch mode at ≡ true) (sym entries) filled.word.allowed;
               is =
                   ap (λ r. word_at r (at - RAM_BASE)) ram
                   ∙ same-word old.state.ram bytes address width size is_width aligned inside whole at quartered other filled.word.in_ram
@@ -293,29 +337,29 @@ kept-store old new epoch address width slots bytes ram here size is_width aligne
 module _ (old new : KeyedState) (i : Instruction) (epoch : ℕ) (before slots : List KeptInstruction) where
   -- by its group
   kept-by : (g : Group) → group_of i.kind ≡ g → length old.state.ram % 4 ≡ 0 → IsFastIn g i old.state → RamAfter g i old.state new.state → new.pages.here ≡ old.pages.here
-      → ForgetsAt (stored_at g i old.state) before slots → Keeps old epoch before → Keeps new epoch slots
-  kept-by LoadUpper g whole h ram here is keeps = kept-same old new epoch slots ram here (subst (Keeps old epoch) (sym is) keeps)
-  kept-by AddUpper g whole h ram here is keeps = kept-same old new epoch slots ram here (subst (Keeps old epoch) (sym is) keeps)
-  kept-by Jump g whole h ram here is keeps = kept-same old new epoch slots ram here (subst (Keeps old epoch) (sym is) keeps)
-  kept-by JumpRegister g whole h ram here is keeps = kept-same old new epoch slots ram here (subst (Keeps old epoch) (sym is) keeps)
-  kept-by Branch g whole h ram here is keeps = kept-same old new epoch slots ram here (subst (Keeps old epoch) (sym is) keeps)
-  kept-by Load g whole h ram here is keeps = kept-same old new epoch slots ram here (subst (Keeps old epoch) (sym is) keeps)
-  kept-by Store g whole h ram here is keeps =
+      → new.state.csrs.pmp ≡ old.state.csrs.pmp → ForgetsAt (stored_at g i old.state) before slots → Keeps old epoch before → Keeps new epoch slots
+  kept-by LoadUpper g whole h ram here entries is keeps = kept-same old new epoch slots (record { ram = ram; here = here; entries = entries }) (subst (Keeps old epoch) (sym is) keeps)
+  kept-by AddUpper g whole h ram here entries is keeps = kept-same old new epoch slots (record { ram = ram; here = here; entries = entries }) (subst (Keeps old epoch) (sym is) keeps)
+  kept-by Jump g whole h ram here entries is keeps = kept-same old new epoch slots (record { ram = ram; here = here; entries = entries }) (subst (Keeps old epoch) (sym is) keeps)
+  kept-by JumpRegister g whole h ram here entries is keeps = kept-same old new epoch slots (record { ram = ram; here = here; entries = entries }) (subst (Keeps old epoch) (sym is) keeps)
+  kept-by Branch g whole h ram here entries is keeps = kept-same old new epoch slots (record { ram = ram; here = here; entries = entries }) (subst (Keeps old epoch) (sym is) keeps)
+  kept-by Load g whole h ram here entries is keeps = kept-same old new epoch slots (record { ram = ram; here = here; entries = entries }) (subst (Keeps old epoch) (sym is) keeps)
+  kept-by Store g whole h ram here entries is keeps =
       let stored = widths i.kind (rs2 i old.state) g in
       let address : ℕ = data_address i old.state in
-      kept-store old new epoch address (store_width i.kind) slots (stored_bytes i old.state) ram.0 here stored.0 stored.1 ram.1 h whole
+      kept-store old new epoch address (store_width i.kind) slots (stored_bytes i old.state) ram.0 here entries stored.0 stored.1 ram.1 h whole
       (subst (λ n. (d : KeptInstruction) → (get_or slots (slot_of address n) d).place ≡ NOWHERE) (sym is.same_length) (λ d. ap (λ (s : KeptInstruction). s.place) (is.there d)))
       (forgets-keeps old epoch (slot_of address (length before)) before slots keeps is)
-  kept-by ComputeImmediate g whole h ram here is keeps = kept-same old new epoch slots ram here (subst (Keeps old epoch) (sym is) keeps)
-  kept-by Compute g whole h ram here is keeps = kept-same old new epoch slots ram here (subst (Keeps old epoch) (sym is) keeps)
-  kept-by group.Nothing g whole h ram here is keeps = kept-same old new epoch slots ram here (subst (Keeps old epoch) (sym is) keeps)
-  kept-by EnvironmentCall g whole h ram here is keeps = absurd h
-  kept-by Breakpoint g whole h ram here is keeps = absurd h
-  kept-by TrapReturn g whole h ram here is keeps = absurd h
-  kept-by Csr g whole h ram here is keeps = absurd h
-  kept-by LoadReserved g whole h ram here is keeps = absurd h
-  kept-by StoreConditional g whole h ram here is keeps = absurd h
-  kept-by Amo g whole h ram here is keeps = absurd h
+  kept-by ComputeImmediate g whole h ram here entries is keeps = kept-same old new epoch slots (record { ram = ram; here = here; entries = entries }) (subst (Keeps old epoch) (sym is) keeps)
+  kept-by Compute g whole h ram here entries is keeps = kept-same old new epoch slots (record { ram = ram; here = here; entries = entries }) (subst (Keeps old epoch) (sym is) keeps)
+  kept-by group.Nothing g whole h ram here entries is keeps = kept-same old new epoch slots (record { ram = ram; here = here; entries = entries }) (subst (Keeps old epoch) (sym is) keeps)
+  kept-by EnvironmentCall g whole h ram here entries is keeps = absurd h
+  kept-by Breakpoint g whole h ram here entries is keeps = absurd h
+  kept-by TrapReturn g whole h ram here entries is keeps = absurd h
+  kept-by Csr g whole h ram here entries is keeps = absurd h
+  kept-by LoadReserved g whole h ram here entries is keeps = absurd h
+  kept-by StoreConditional g whole h ram here entries is keeps = absurd h
+  kept-by Amo g whole h ram here entries is keeps = absurd h
 
   pub acted-keeps : length old.state.ram % 4 ≡ 0 → ActsFast old new i → ForgetsAt (stored_at (group_of i.kind) i old.state) before slots
       → Keeps old epoch before → Keeps new epoch slots
@@ -324,17 +368,18 @@ module _ (old new : KeyedState) (i : Instruction) (epoch : ℕ) (before slots : 
       let acted = acts.1 0 in
       let ram : RamAfter (group_of i.kind) i old.state new.state = subst (IsRamAction (group_of i.kind) i old.state) acted.tells (ram-action i old.state (group_of i.kind) 0 acts.0) in
       let here : new.pages.here ≡ old.pages.here = ap (λ (p : Pages). p.here) acted.changed.0 ∙ here-kept i old.state (group_of i.kind) acts.0 old.pages in
-      kept-by (group_of i.kind) refl whole acts.0 ram here stored keeps
+      let entries : new.state.csrs.pmp ≡ old.state.csrs.pmp = ap (λ (c : CsrRegisters). c.pmp) (registers-stay old new i 0 acts.0 acted).0 in
+      kept-by (group_of i.kind) refl whole acts.0 ram here entries stored keeps
 
 -- ---- a step
 
 -- the word at pc is fetched
-word-reaches : (h : KeyedState) (word : ℕ) → IsWord h h.state.pc word → ReachesRam h (fetch_access h.state) (h.state.pc - RAM_BASE)
-unfolding reached
+word-reaches : (h : KeyedState) (word : ℕ) → IsWord h h.state.csrs.mode h.state.pc word → ReachesRam h (fetch_access h.state) (h.state.pc - RAM_BASE)
+unfolding allows
 word-reaches h word is =
     let bounds = in-ram-bounds h.state.ram h.state.pc is.in_ram in
     record {
-      is = ap (λ b. reached_in b (fetch_access h.state)) is.in_ram;
+      is = reached-ram (fetch_access h.state) h.state refl is.allowed is.in_ram;
       here = is.here;
       from_base = bounds.0;
       place = refl;
@@ -342,35 +387,54 @@ word-reaches h word is =
       aligned = tt;
     }
 
-pub reaches-word : (h : KeyedState) (word offset : ℕ) → ReachesRam h (fetch_access h.state) offset → word ≡ fetched h.state → IsWord h h.state.pc word
+pub reaches-word : (h : KeyedState) (word offset : ℕ) → ReachesRam h (fetch_access h.state) offset → word ≡ fetched h.state
+    → IsWord h h.state.csrs.mode h.state.pc word
+unfolding allows
 reaches-word h word offset reaches is =
-    let from = reaches.from_base in
     let place = reaches.place in
-    let inside = reaches.inside in
+    let reached = of_ram-is (fetch_access h.state) h.state (Some (offset / PAGE_SIZE)) reaches.is in
     record {
-      in_ram = grind (arith, nat_tests, from, place, inside);
+      in_ram = reached.in_ram;
       here = subst (λ o. slice_get h.pages.here (o / PAGE_SIZE) ≡ Some true) place reaches.here;
+      allowed = reached.allowed;
       is = sym is;
     }
 
 -- what a slot keeps of the coming instruction
-pub comes-found : (h : KeyedState) (epoch count number : ℕ) (slot : KeptInstruction) → IsKept h epoch count number slot → slot.place ≡ place_of h.state.pc epoch
-    → decoded slot.word ≡ Some slot.instr → h.state.pc % 4 ≡ 0 → Comes h slot.instr
-comes-found h epoch count number slot kept at says aligned = record { word = slot.word; is = (kept.filled h.state.pc at aligned).word; says = says }
+pub comes-found : (h : KeyedState) (epoch count number : ℕ) (slot : KeptInstruction) → IsKept h epoch count number slot
+    → slot.place ≡ place_of (tagged h.state.csrs.mode h.state.pc) epoch → decoded slot.word ≡ Some slot.instr → h.state.pc % 4 ≡ 0 → Comes h slot.instr
+comes-found h epoch count number slot kept at says aligned =
+    record { word = slot.word; is = (kept.filled h.state.csrs.mode h.state.pc at aligned).word; says = says }
+
+-- so does the list that has it
+pub comes-at : (h : KeyedState) (epoch number : ℕ) (slots : List KeptInstruction) (d : KeptInstruction) → Keeps h epoch slots → number < length slots
+    → (get_or slots number d).place ≡ place_of (tagged h.state.csrs.mode h.state.pc) epoch
+    → decoded (get_or slots number d).word ≡ Some (get_or slots number d).instr → h.state.pc % 4 ≡ 0 → IsComing h slots number
+comes-at h epoch number slots d keeps inside at says aligned =
+    let comes = comes-found h epoch (length slots) number (get_or slots number d) (keeps number d inside) at says aligned in
+    record {
+      inside = inside;
+      there = λ e. subst (λ (slot : KeptInstruction). Comes h slot.instr) (get_or_default slots number d e inside) comes;
+    }
 
 -- the slot of the coming instruction, after its word was put there
 pub kept-put : (h : KeyedState) (epoch count number word : ℕ) (says : Option Instruction) (slot : KeptInstruction) → IsKept h epoch count number slot
-    → h.state.pc < 4294967296 → number ≡ slot_of h.state.pc count → IsWord h h.state.pc word → IsKept h epoch count number (kept_by says (place_of h.state.pc epoch) word slot)
-kept-put h epoch count number word None slot kept small place is = kept
-kept-put h epoch count number word (Some instr) slot kept small place is = record {
-  past = omega (arith, small);
-  filled = λ address now aligned.
-      let here : h.state.pc ≡ address = omega (arith, now) in
-      record {
-        place = ap (λ a. slot_of a count) (sym here) ∙ sym place;
-        word = subst (λ a. IsWord h a word) here is;
-      };
-}
+    → h.state.pc < 4294967296 → h.state.pc % 4 ≡ 0 → number ≡ slot_of h.state.pc count → IsWord h h.state.csrs.mode h.state.pc word
+    → IsKept h epoch count number (kept_by says (place_of (tagged h.state.csrs.mode h.state.pc) epoch) word slot)
+kept-put h epoch count number word None slot kept small aligned place is = kept
+kept-put h epoch count number word (Some instr) slot kept small aligned place is =
+    let tag = tag-small h.state.csrs.mode in
+    record {
+      past = omega (arith, small, aligned, tag);
+      filled = λ mode address now quartered.
+          let other = tag-small mode in
+          let here : h.state.pc ≡ address = omega (arith, now, aligned, quartered, tag, other) in
+          let same : h.state.csrs.mode ≡ mode = tag-same h.state.csrs.mode mode (omega (arith, now, here)) in
+          record {
+            place = ap (λ a. slot_of a count) (sym here) ∙ sym place;
+            word = subst (λ m. IsWord h m address word) same (subst (λ a. IsWord h h.state.csrs.mode a word) here is);
+          };
+    }
 
 pub step-made : (old new : KeyedState) (i : Instruction) (is_made : Bool) → Comes old i → MatchBool is_made (ActsFast old new i) (new ≡ old)
     → MatchBool is_made (IsFastStep old new) (new ≡ old)

@@ -1,6 +1,7 @@
 pub mod Waiting
 pub mod Reaching
 pub mod Asks
+pub mod HandingOver
 pub mod Seeds
 pub mod Runs
 pub mod PortChoice

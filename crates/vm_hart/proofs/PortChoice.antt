@@ -10,9 +10,9 @@ use Rattle.timer_port.specs.Timer.{timer_load, timer_store}
 use Rattle.block_port.specs.declared.registers.TheConstants.{BLOCK_SECTOR, BLOCK_COMMAND, BLOCK_STATUS, BLOCK_COUNT, BLOCK_SIZE}
 use Rattle.block_port.specs.Block.{BlockRegisters, block_load, block_store, is_in_buffer}
 use Rattle.fork_port.specs.declared.registers.TheConstants.{FORK_SIZE, FORK_FIRST_ARGUMENT, FORK_SECOND_ARGUMENT, FORK_COMMAND, FORK_RESULT}
-use Rattle.fork_port.specs.declared.registers.TheConstants.{FORK_CLONE_ID, FORK_ALLOT, FORK_JOIN_SELECT, FORK_JOIN_KIND, FORK_JOIN_VALUE, FORK_GRANTED}
+use Rattle.fork_port.specs.declared.registers.TheConstants.{FORK_CLONE_ID, FORK_ALLOT, FORK_JOIN_SELECT, FORK_JOIN_KIND, FORK_JOIN_VALUE, FORK_GRANTED, FORK_JOIN_LENGTH}
 use Rattle.fork_port.specs.declared.commands.Effect.TheVariants.{Done}
-use Rattle.fork_port.specs.Registers.{ForkRegisters, RegisterStored, register_load as fork_register_load, register_store as fork_register_store}
+use Rattle.fork_port.specs.Registers.{ForkRegisters, RegisterStored, is_join_word, register_load as fork_register_load, register_store as fork_register_store}
 use Rattle.fork_port.proofs.TicketLemmas.{either}
 use Rattle.fork_port.specs.Fork.{ForkStored, carried_out, fork_load, fork_store}
 use Rattle.forest_model.specs.declared.port_map.TheConstants.{CONSOLE_BASE, TIMER_BASE, TIMER_SIZE, BLOCK_BASE, FORK_BASE}
@@ -193,6 +193,9 @@ beyond-timer_store t offset width word far =
     rw (other offset MTIMECMP_LOW (omega arith), other offset MTIMECMP_HIGH (omega arith), other offset MTIME_LOW (omega arith), other offset MTIME_HIGH (omega arith))
     (no_access _ (eqb width 4))
 
+beyond-join_word : (offset : ℕ) → FORK_SIZE ≤ offset → is_join_word offset ≡ false
+beyond-join_word offset far = grind (arith, nat_tests)
+
 beyond-fork_load : (f : ForkRegisters) (offset width : ℕ) → FORK_SIZE ≤ offset → fork_load f offset width ≡ None
 unfolding fork_load
 beyond-fork_load f offset width far =
@@ -207,6 +210,8 @@ beyond-fork_load f offset width far =
       other offset FORK_JOIN_KIND (omega arith),
       other offset FORK_JOIN_VALUE (omega arith),
       other offset FORK_GRANTED (omega arith),
+      other offset FORK_JOIN_LENGTH (omega arith),
+      beyond-join_word offset far,
     ) refl)
   where
     either_none : (word : Bool) (value : Option ℕ) → value ≡ None → cond word value None ≡ None

@@ -2,12 +2,14 @@
 use Rattle.std.proofs.Common.{◌≡◌, ℕ, ◌+◌, true, false, cond, eqb, Option, Some, None, Ok, refl, sym, ap, ◌∙◌}
 use Rattle.fork_port.specs.declared.ending.Ending.{Ending}
 use Rattle.fork_port.specs.declared.ending.Ending.TheVariants.{Exit, Limit}
+use Rattle.fork_port.specs.Handed.{handed_of}
 use Rattle.rv_traps.specs.declared.csrs.TheConstants.{TIMER_INTERRUPT}
 use Rattle.forest_model.specs.declared.Written.{Written}
 use Rattle.forest_model.specs.declared.Written.TheVariants.{Nothing}
 use Rattle.forest_model.specs.State.{State}
 use Rattle.forest_model.specs.Action.{Action, trap, interrupt, retire, exit}
 use Rattle.forest_model.specs.Execute.{action}
+use Rattle.forest_model.specs.Memory.{bytes_at}
 use Rattle.forest_model.specs.Machine.{Machine, next_of, trapped, count, limited, advance, applied}
 use Rattle.forest_model.specs.Forest.{call_of}
 use Rattle.forest_model.specs.Touch.{change, footprint, footprint_from}
@@ -96,8 +98,10 @@ module _ (v : KeyedMachine) (hart : KeyedState) (live : v.machine.ending ≡ Non
     goes_retired written acts counts =
         goes (retire written hart.state) (Retired written) _ acts.0 acts.1.tells acts.1 refl refl (is_counted _ counts)
 
-  pub goes_exited : (value : ℕ) (counted : KeyedState) → ActsNext (hart_in v) hart (Ok (Exited value))
-      → counted ≡ record hart { state = count true Nothing hart.state } → IsStep v (machine_of counted (m.steps + 1) m.limit (Some (Exit value)))
-  goes_exited value counted acts counts =
-      goes (exit value hart.state) (Exited value) _ acts.0 acts.1.tells acts.1 refl refl
-      (ap (λ (h : KeyedState). machine_of h (m.steps + 1) m.limit (Some (Exit value))) counts)
+  pub goes_exited : (value address size : ℕ) (counted : KeyedState) → ActsNext (hart_in v) hart (Ok (Exited value address size))
+      → counted ≡ record hart { state = count true Nothing hart.state }
+      → IsStep v (machine_of counted (m.steps + 1) m.limit (Some (Exit value (handed_of (bytes_at address size hart.state)))))
+  goes_exited value address size counted acts counts =
+      let bytes = bytes_at address size hart.state in
+      goes (exit value bytes hart.state) (Exited value address size) _ acts.0 acts.1.tells.0 acts.1 refl refl
+      (ap (λ (h : KeyedState). machine_of h (m.steps + 1) m.limit (Some (Exit value (handed_of bytes)))) counts)

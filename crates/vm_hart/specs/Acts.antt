@@ -3,6 +3,7 @@ use Rattle.std.specs.Prelude.{◌≡◌, ℕ, ◌-◌, ◌/◌, ◌%◌, ◌<◌
 use Rattle.std.specs.declared.alloc.AllocError.{AllocError}
 use Rattle.elf_load.specs.declared.image.TheConstants.{RAM_BASE, PAGE_SIZE}
 use Rattle.block_port.specs.Block.{WritesSector}
+use Rattle.fork_port.specs.declared.handed.TheConstants.{MOST_HANDED}
 use Rattle.fork_port.specs.Commands.{IsMakeable}
 use Rattle.fork_port.specs.Fork.{GrantsTicket}
 use Rattle.rv_decode.specs.Instruction.{Instruction}
@@ -14,7 +15,7 @@ use Rattle.forest_model.specs.State.{State, at_next_instruction}
 use Rattle.forest_model.specs.Action.{Action, trap, interrupt, retire, exit, ask, rs2}
 use Rattle.forest_model.specs.Access.{Reached, faulted, of_ram, of_port, outside_ram, page_for, reached, uses}
 use Rattle.forest_model.specs.Footprint.{Page, Change, no_change, puts, zeroes, Footprint, no_footprint}
-use Rattle.forest_model.specs.Memory.{port_outcome}
+use Rattle.forest_model.specs.Memory.{Outcome, bytes_at, handing_over, is_byte_range, pages_of_bytes, port_outcome}
 use Rattle.forest_model.specs.Execute.{action, coming_instruction, decoded_action}
 use Rattle.forest_model.specs.Touch.{access_of, footprint_from, footprint_in, footprint_of}
 use Rattle.forest_model.specs.Paged.{Pages, first_absent, pages_after}
@@ -73,19 +74,28 @@ HasChanged change old new = (new.pages ≡ pages_after change old.pages) × (new
 abbrev pub IsPut : KeyedState → KeyedState → ℕ → State → Type 0
 IsPut old new page s = new ≡ record { state = s; pages = pages_after (puts page) old.pages; key = old.key }
 
--- the answer tells the action, which led from old to new
-abbrev pub Tells : State → State → Action → Acted → Type 0
+-- these bytes of RAM can be handed over: they are not too many, and their pages are here
+pub record IsReadable (h : KeyedState) (address count : ℕ) : Type 0 where
+  pub few : count ≤ MOST_HANDED
+  pub in_range : is_byte_range address count h.state.ram ≡ true
+  pub met : IsMet (pages_of_bytes address count) h.pages
+
+-- the answer tells the action, which led from old to new. Of bytes that are handed over it tells where they are, and
+-- RAM still has them
+abbrev pub Tells : KeyedState → KeyedState → Action → Acted → Type 0
 Tells old new action (Stalled page) = ⊥
-Tells old new action (Trapped cause value) = (action ≡ trap cause value) × (new ≡ old)
-Tells old new action Interrupted = (action ≡ interrupt) × (new ≡ old)
-Tells old new action (Retired written) = action ≡ retire written new
-Tells old new action (Exited value) = action ≡ exit value new
-Tells old new action (Asked call) = (action ≡ ask call (at_next_instruction old)) × (new ≡ old) × IsMakeable old.ports.fork call
+Tells old new action (Trapped cause value) = (action ≡ trap cause value) × (new.state ≡ old.state)
+Tells old new action Interrupted = (action ≡ interrupt) × (new.state ≡ old.state)
+Tells old new action (Retired written) = action ≡ retire written new.state
+Tells old new action (Exited value address count) =
+    (action ≡ exit value (bytes_at address count new.state) new.state) × IsReadable new address count
+Tells old new action (Asked call) =
+    (action ≡ ask call (at_next_instruction old.state)) × (new.state ≡ old.state) × IsMakeable old.state.ports.fork call
 
 -- the pages that it needs are here; its action is told; and it does to the pages what it changes of them
 pub record HasActed (old new : KeyedState) (asks : Footprint) (action : Action) (acted : Acted) : Type 0 where
   pub met : IsMet asks.needs old.pages
-  pub tells : Tells old.state new.state action acted
+  pub tells : Tells old new action acted
   pub changed : HasChanged asks.changes old new
 
 -- the answer of what asks this of the pages: it waits for a page, or acts
@@ -101,6 +111,16 @@ ActsAlone old new action acted = Acts old new no_footprint action (Ok acted)
 -- the same of an instruction that a word says, if it says one
 abbrev pub ActsBy : KeyedState → KeyedState → Option Instruction → ℕ → Result Acted AllocError → Type 0
 ActsBy old new i word result = Acts old new (footprint_of i old.state) (decoded_action i word old.state) result
+
+-- the pages that bytes which are to be handed over need, if they are bytes of RAM
+abbrev pub bytes_needs : State → ℕ → ℕ → List Page
+bytes_needs s address count = (handing_over (is_byte_range address count s.ram) 0 address count s).footprint.needs
+
+-- the answer of EXIT with bytes, whose pages are here
+abbrev pub HandsOver : KeyedState → KeyedState → ℕ → ℕ → ℕ → Acted → Type 0
+HandsOver old new value address count acted =
+    let over : Outcome = handing_over (is_byte_range address count old.state.ram) value address count (at_next_instruction old.state)
+    in Acts old new over.footprint over.action (Ok acted)
 
 -- the page that the coming step waits for, if it waits for one
 abbrev pub waits_for : KeyedState → Option Page

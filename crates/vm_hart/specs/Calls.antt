@@ -27,6 +27,7 @@ call_asked asked.NewTicket = None
 call_asked (asked.Discard number) = None
 call_asked (asked.Call c) = Some c
 call_asked (asked.Exit value) = None
+call_asked (asked.ExitWith value address count) = None
 call_asked (asked.Zero first count) = None
 
 -- an action asks for this call, of a hart that is as before but for its pc

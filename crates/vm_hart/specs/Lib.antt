@@ -9,3 +9,4 @@ pub mod Runs
 pub mod Seeds
 pub mod Shown
 pub mod Tries
+pub mod Windows

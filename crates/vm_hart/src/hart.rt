@@ -20,9 +20,7 @@ ghost use Rattle.vm_hart.specs.Shown.{peeked, shown_registers};
 use cow_disk::Disk;
 use elf_load::Loaded;
 use forest_model::Written;
-use forest_model::cause::{
-    BREAKPOINT, ENVIRONMENT_CALL, ILLEGAL_INSTRUCTION, INSTRUCTION_ACCESS_FAULT,
-};
+use forest_model::cause::{BREAKPOINT, ILLEGAL_INSTRUCTION, INSTRUCTION_ACCESS_FAULT};
 use fork_port::Call;
 use fork_port::refusals::TICKETS_END;
 use guest_mem::{Arrived, GuestMem, StoreError};
@@ -44,6 +42,7 @@ mod kept;
 mod memory;
 mod seed;
 mod system;
+mod window;
 
 use access::Reach;
 
@@ -53,13 +52,21 @@ pub enum Acted {
     /// The step waits for this page, which is absent. Nothing has changed.
     Stalled(u32),
     /// An exception, with its cause and value. Nothing else has changed.
-    Trapped { cause: u32, value: u32 },
+    Trapped {
+        cause: u32,
+        value: u32,
+    },
     /// The timer interrupt comes before the instruction. Nothing has changed.
     Interrupted,
     /// The instruction retired, and wrote this of the counters.
     Retired(Written),
-    /// The instruction retired, and ended the machine with this value.
-    Exited(u32),
+    /// The instruction retired, and ended the machine with this value. It hands over so many bytes of RAM from this address
+    /// on, which are as they were.
+    Exited {
+        value: u32,
+        address: u32,
+        count: u32,
+    },
     /// The machine is to make this call. Nothing has changed.
     Asked(Call),
 }
@@ -304,9 +311,9 @@ impl Hart {
             Group::ComputeImmediate => Ok(self.compute_immediate(instr)),
             Group::Compute => Ok(self.compute(instr)),
             Group::Nothing => Ok(self.retire()),
-            Group::EnvironmentCall => Ok(trapped(ENVIRONMENT_CALL, 0)),
+            Group::EnvironmentCall => Ok(self.environment_call()),
             Group::Breakpoint => Ok(trapped(BREAKPOINT, 0)),
-            Group::TrapReturn => Ok(self.trap_return()),
+            Group::TrapReturn => Ok(self.trap_return(word)),
             Group::Csr => Ok(self.csr_access(instr, word)),
             Group::LoadReserved => Ok(self.load_reserved(instr)),
             Group::StoreConditional => self.store_conditional(instr),

@@ -16,11 +16,11 @@ use Rattle.machine_names.specs.Name.{child_path}
 use Rattle.machine_names.specs.NameOrder.{path_cmp}
 use Rattle.vm_descriptor.specs.declared.descriptor.Descriptor.{Descriptor}
 use Rattle.vm_descriptor.specs.Descriptor.{numbered}
-use Rattle.vm_cell.specs.declared.vm.fork.Brood.{Brood as Young}
+use Rattle.vm_cell.specs.declared.vm.fork.Brood.{Brood as ForkImage}
 use Rattle.world_core.specs.declared.cell.Brood.{Brood}
 use Rattle.world_core.specs.declared.cell.Cell.{Cell}
-use Rattle.world_core.specs.declared.cell.Slot.{Slot}
-use Rattle.world_core.specs.declared.cell.Slot.TheVariants.{Asleep, Awake, Ended}
+use Rattle.world_core.specs.declared.cell.ChildSlot.{ChildSlot}
+use Rattle.world_core.specs.declared.cell.ChildSlot.TheVariants.{Asleep, Awake, Ended}
 use Rattle.world_core.specs.Shows.{forest, told_spot, IsAwake, SlotShows, SlotsShow, BornShows, Holds, CellShows, IsNoCell, Shows, child_of}
 use Rattle.world_core.proofs.Slots.{slot-of, not-first}
 use Rattle.world_core.proofs.SlotWaits.{none-held, one-held}
@@ -55,20 +55,20 @@ awake-cell depot path (Some cell) a awake h = (cell, refl, h)
 pub record IsSlotted (path : Path) (a : Tree (Spot Paged)) : Type 0 where
   pub key : Key
   pub seed : Descriptor
-  pub slot : Slot
+  pub slot : ChildSlot
   pub shows : SlotShows path key seed slot a
 
 pub ended-broods : (a : Tree (Spot Paged)) → IsSound forest a → has_ended forest a ≡ true → broods_of a ≡ no_brood
 ended-broods (node s broods log) sound ended = (root-sound forest s broods log sound).ended ended
 
-slotted-kind : (path : Path) (key : Key) (seed : Descriptor) (slot : Slot) (a : Tree (Spot Paged)) → SlotShows path key seed slot a → IsSound forest a
+slotted-kind : (path : Path) (key : Key) (seed : Descriptor) (slot : ChildSlot) (a : Tree (Spot Paged)) → SlotShows path key seed slot a → IsSound forest a
     → IsAwake a ⊎ (broods_of a ≡ no_brood)
 slotted-kind path key seed Asleep a h sound = inr (ap broods_of h.born)
 slotted-kind path key seed Awake a h sound = inl h
 slotted-kind path key seed (Ended outcome) a h sound = inr (ended-broods a sound (slot-ended outcome.ending a h.0))
 
 -- the child of a machine that has a cell
-slotted-shown : (path : Path) (ticket k : ℕ) (key : Key) (seed : Descriptor) (slots : List Slot) (trees : Trees (Spot Paged)) (a : Tree (Spot Paged))
+slotted-shown : (path : Path) (ticket k : ℕ) (key : Key) (seed : Descriptor) (slots : List ChildSlot) (trees : Trees (Spot Paged)) (a : Tree (Spot Paged))
     → SlotsShow path ticket key 1 seed slots trees → child_at k trees ≡ Some a → IsSlotted (child_path path ticket k) a
 slotted-shown path ticket zero key seed slots trees a h found = absurd (not-first trees a found)
 slotted-shown path ticket (suc j) key seed slots trees a h found =
@@ -81,10 +81,10 @@ slotted-shown path ticket (suc j) key seed slots trees a h found =
       shows = subst (λ n. SlotShows (child_path path ticket n) key (numbered n seed) has.slot a) same has.shows;
     }
 
-slotted-born : (depot : Shelves) (path : Path) (ticket k : ℕ) (young : Option Young) (slots : List Slot) (trees : Trees (Spot Paged)) (a : Tree (Spot Paged))
-    → BornShows depot path ticket young slots trees → child_at k trees ≡ Some a → IsSlotted (child_path path ticket k) a
+slotted-born : (depot : Shelves) (path : Path) (ticket k : ℕ) (image : Option ForkImage) (slots : List ChildSlot) (trees : Trees (Spot Paged)) (a : Tree (Spot Paged))
+    → BornShows depot path ticket image slots trees → child_at k trees ≡ Some a → IsSlotted (child_path path ticket k) a
 slotted-born depot path ticket k None slots trees a h found = slotted-shown path ticket k h.0 h.1 slots trees a h.3 found
-slotted-born depot path ticket k (Some young) slots trees a h found = slotted-shown path ticket k young.key young.seed slots trees a h.1 found
+slotted-born depot path ticket k (Some image) slots trees a h found = slotted-shown path ticket k image.key image.seed slots trees a h.1 found
 
 none-there : (k : ℕ) (trees : Trees (Spot Paged)) (a : Tree (Spot Paged)) → trees ≡ no_tree → child_at k trees ≡ Some a → ⊥
 unfolding child_at
@@ -97,7 +97,7 @@ slotted depot path c ticket k t a h found = by (get nat_cmp c.broods ticket) ref
     by : (b : Option Brood) → get nat_cmp c.broods ticket ≡ b → IsSlotted (child_path path ticket k) a
     by None e = absurd (none-there k (brood_of ticket (broods_of t)) a (none-held depot path c t h ticket e) found)
     by (Some b) e =
-        slotted-born depot path ticket k b.young b.slots.items (brood_of ticket (broods_of t)) a (one-held depot path c t h ticket b e).born found
+        slotted-born depot path ticket k b.image b.slots.items (brood_of ticket (broods_of t)) a (one-held depot path c t h ticket b e).born found
 
 none-below : (path : Path) (a p : Tree (Spot Paged)) → broods_of a ≡ no_brood → subtree path a ≡ Some p → broods_of p ≡ no_brood
 unfolding subtree brood_of child_at

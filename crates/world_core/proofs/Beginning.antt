@@ -22,7 +22,8 @@ use Rattle.machine_names.proofs.NameMaps.{updated-here, updated-apart}
 use Rattle.world_core.specs.declared.cell.Cell.{Cell}
 use Rattle.world_core.specs.declared.reason.Reason.{Reason}
 use Rattle.world_core.specs.declared.world.World.{World}
-use Rattle.world_core.specs.Waiting.{Waiting, IsListed}
+use Rattle.ready_queue.specs.Ready.{Ready}
+use Rattle.world_core.specs.Listed.{IsListed}
 use Rattle.world_core.specs.Shows.{forest, told_spot, CellShows, Shows}
 use Rattle.world_core.specs.World.{IsDue, StandsFor}
 use Rattle.world_core.proofs.Ready.{IsListed-first}
@@ -43,7 +44,7 @@ own-line : (vm : Paged) (ending : Ending) → vm.machine.ending ≡ Some ending
 unfolding lines
 own-line vm ending over = ap (λ e. own_lines_by told_spot e [] (record { machine = vm; place = home }) ++ []) over
 
-pub end-stands : (depot : Shelves) (vm : Paged) (ending : Ending) (outcome : Ended) (cells : BTreeMap Path Cell) (list : List Waiting) (told : Vec Delivery)
+pub end-stands : (depot : Shelves) (vm : Paged) (ending : Ending) (outcome : Ended) (cells : BTreeMap Path Cell) (list : List Ready) (told : Vec Delivery)
     → vm.machine.ending ≡ Some ending → (port_of vm.machine).tickets ≡ [] → machines.is_good vm.machine ≡ true → ((name : Path) → get path_cmp cells name ≡ None)
     → outcome ≡ record { name = []; ending = ending; steps = vm.machine.steps; output = vm.machine.state.ports.console.output; log = [] }
     → StandsFor depot (record { cells = cells; ready = list; halted = None; told = told; outcome = Some outcome }) (world_of paged_machines vm)
@@ -61,7 +62,7 @@ end-stands depot vm ending outcome cells list told over none good empty is = rec
 
 -- ---- a machine that lives
 
-module _ (depot : Shelves) (vm : Paged) (old cells : BTreeMap Path Cell) (list : List Waiting) (cell : Cell) (told : Vec Delivery) where
+module _ (depot : Shelves) (vm : Paged) (old cells : BTreeMap Path Cell) (list : List Ready) (cell : Cell) (told : Vec Delivery) where
   abbrev first : Tree (Spot Paged)
   first = alone forest (record { machine = vm; place = home })
 

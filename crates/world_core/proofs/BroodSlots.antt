@@ -16,32 +16,32 @@ use Rattle.vm_descriptor.specs.declared.descriptor.Descriptor.{Descriptor}
 use Rattle.vm_descriptor.specs.Descriptor.{numbered}
 use Rattle.vm_cell.specs.Keyed.{KeyedMachine, paged}
 use Rattle.vm_cell.specs.Woken.{AreSeeds, IsSeed, woken, woken_machine, woken_pages}
-use Rattle.vm_cell.specs.declared.vm.fork.Brood.{Brood as Young}
+use Rattle.vm_cell.specs.declared.vm.fork.Brood.{Brood as ForkImage}
 use Rattle.run_report.specs.Lines.{Line, lines, trees_lines}
 use Rattle.machine_names.specs.Name.{child_path}
 use Rattle.world_core.specs.declared.cell.Brood.{Brood}
-use Rattle.world_core.specs.declared.cell.Slot.{Slot}
-use Rattle.world_core.specs.declared.cell.Slot.TheVariants.{Asleep, Awake, Ended}
+use Rattle.world_core.specs.declared.cell.ChildSlot.{ChildSlot}
+use Rattle.world_core.specs.declared.cell.ChildSlot.TheVariants.{Asleep, Awake, Ended}
 use Rattle.world_core.specs.Broods.{endings_in, slot_endings, lines_in, slot_lines}
 use Rattle.world_core.specs.Shows.{forest, told_spot, SlotShows, SlotsShow, BornShows, BroodShows}
 
 -- ---- children that have all ended
 
-ended_slot : (path : Path) (key : Key) (seed : Descriptor) (slot : Slot) (t : Tree (Spot Paged)) → SlotShows path key seed slot t → has_ended forest t ≡ true
+ended_slot : (path : Path) (key : Key) (seed : Descriptor) (slot : ChildSlot) (t : Tree (Spot Paged)) → SlotShows path key seed slot t → has_ended forest t ≡ true
     → (rest : List Ending) → endings_in slot ++ rest ≡ with_ending forest (forest.ending (machine t)) rest
 unfolding spots paged_machines machines
 ended_slot path key seed Asleep t h ended rest = let lives = h.lives in absurd (cc)
 ended_slot path key seed Awake t h ended rest = let lives = h.lives in absurd (cc)
 ended_slot path key seed (Ended outcome) t h ended rest = ap (λ (e : Option Ending). with_ending forest e rest) (sym h.0)
 
-slot_lines_are : (path : Path) (key : Key) (seed : Descriptor) (slot : Slot) (t : Tree (Spot Paged)) → SlotShows path key seed slot t → has_ended forest t ≡ true
+slot_lines_are : (path : Path) (key : Key) (seed : Descriptor) (slot : ChildSlot) (t : Tree (Spot Paged)) → SlotShows path key seed slot t → has_ended forest t ≡ true
     → lines_in slot ≡ lines told_spot path t
 slot_lines_are path key seed Asleep t h ended = let lives = h.lives in absurd (cc)
 slot_lines_are path key seed Awake t h ended = let lives = h.lives in absurd (cc)
 slot_lines_are path key seed (Ended outcome) t h ended = h.1
 
 module _ (path : Path) (ticket : ℕ) (key : Key) where
-  shown_endings : (k : ℕ) (seed : Descriptor) (slots : List Slot) (trees : Trees (Spot Paged)) → SlotsShow path ticket key k seed slots trees
+  shown_endings : (k : ℕ) (seed : Descriptor) (slots : List ChildSlot) (trees : Trees (Spot Paged)) → SlotsShow path ticket key k seed slots trees
       → have_ended forest trees ≡ true → slot_endings slots ≡ endings forest trees
   unfolding SlotsShow have_ended endings
   shown_endings k seed [] no_tree h all = refl
@@ -52,7 +52,7 @@ module _ (path : Path) (ticket : ℕ) (key : Key) where
       ap (λ (es : List Ending). endings_in slot ++ es) (shown_endings (suc k) seed slots rest h.1 both.1)
       ∙ ended_slot (child_path path ticket k) key (numbered k seed) slot t h.0 both.0 (endings forest rest)
 
-  shown_lines : (k : ℕ) (seed : Descriptor) (slots : List Slot) (trees : Trees (Spot Paged)) → SlotsShow path ticket key k seed slots trees
+  shown_lines : (k : ℕ) (seed : Descriptor) (slots : List ChildSlot) (trees : Trees (Spot Paged)) → SlotsShow path ticket key k seed slots trees
       → have_ended forest trees ≡ true → slot_lines slots ≡ trees_lines told_spot path ticket k trees
   unfolding SlotsShow have_ended lines
   shown_lines k seed [] no_tree h all = refl
@@ -65,23 +65,23 @@ module _ (path : Path) (ticket : ℕ) (key : Key) where
 
 -- the same of a brood
 module _ (depot : Shelves) (path : Path) (ticket : ℕ) where
-  born_endings : (young : Option Young) (slots : List Slot) (trees : Trees (Spot Paged)) → BornShows depot path ticket young slots trees
+  born_endings : (image : Option ForkImage) (slots : List ChildSlot) (trees : Trees (Spot Paged)) → BornShows depot path ticket image slots trees
       → have_ended forest trees ≡ true → slot_endings slots ≡ endings forest trees
   born_endings None slots trees h all = shown_endings path ticket h.0 1 h.1 slots trees h.3 all
-  born_endings (Some young) slots trees h all = shown_endings path ticket young.key 1 young.seed slots trees h.1 all
+  born_endings (Some image) slots trees h all = shown_endings path ticket image.key 1 image.seed slots trees h.1 all
 
-  born_lines : (young : Option Young) (slots : List Slot) (trees : Trees (Spot Paged)) → BornShows depot path ticket young slots trees
+  born_lines : (image : Option ForkImage) (slots : List ChildSlot) (trees : Trees (Spot Paged)) → BornShows depot path ticket image slots trees
       → have_ended forest trees ≡ true → slot_lines slots ≡ trees_lines told_spot path ticket 1 trees
   born_lines None slots trees h all = shown_lines path ticket h.0 1 h.1 slots trees h.3 all
-  born_lines (Some young) slots trees h all = shown_lines path ticket young.key 1 young.seed slots trees h.1 all
+  born_lines (Some image) slots trees h all = shown_lines path ticket image.key 1 image.seed slots trees h.1 all
 
   pub brood_endings : (b : Brood) (trees : Trees (Spot Paged)) → BroodShows depot path ticket b trees → have_ended forest trees ≡ true
       → slot_endings b.slots.items ≡ endings forest trees
-  brood_endings b trees h all = born_endings b.young b.slots.items trees h.born all
+  brood_endings b trees h all = born_endings b.image b.slots.items trees h.born all
 
   pub brood_lines : (b : Brood) (trees : Trees (Spot Paged)) → BroodShows depot path ticket b trees → have_ended forest trees ≡ true
       → slot_lines b.slots.items ≡ trees_lines told_spot path ticket 1 trees
-  brood_lines b trees h all = born_lines b.young b.slots.items trees h.born all
+  brood_lines b trees h all = born_lines b.image b.slots.items trees h.born all
 
 -- ---- children that are born
 
@@ -123,17 +123,17 @@ module _ (path : Path) (ticket : ℕ) (v : KeyedMachine) (key : Key) (seed : Des
         born_shows n (suc k) (λ j from below. h j (omega arith) (omega arith)),
       )
 
-pub brood_born : (depot : Shelves) (path : Path) (ticket : ℕ) (v : KeyedMachine) (s : Spot Paged) (b : Brood) (young : Young) → s.machine ≡ paged v
+pub brood_born : (depot : Shelves) (path : Path) (ticket : ℕ) (v : KeyedMachine) (s : Spot Paged) (b : Brood) (image : ForkImage) → s.machine ≡ paged v
     → forest.ending (forest.forked s) ≡ None
-    → b.young ≡ Some young → b.slots.items ≡ replicate (forest.grant s ticket).children Asleep → b.live ≡ (forest.grant s ticket).children
-    → IsKeyOf depot young.key → AreSeeds v young.key (forest.grant s ticket).children young.seed
+    → b.image ≡ Some image → b.slots.items ≡ replicate (forest.grant s ticket).children Asleep → b.live ≡ (forest.grant s ticket).children
+    → IsKeyOf depot image.key → AreSeeds v image.key (forest.grant s ticket).children image.seed
     → BroodShows depot path ticket b (children forest s ticket)
-brood_born depot path ticket v s b young same lives is slots live key seeds =
+brood_born depot path ticket v s b image same lives is slots live key seeds =
     let n = (forest.grant s ticket).children in
     record {
       live = live ∙ sym (living_children s lives n 1);
       born =
-          subst (λ (o : Option Young). BornShows depot path ticket o b.slots.items (children forest s ticket)) (sym is)
-          (subst (λ (items : List Slot). BornShows depot path ticket (Some young) items (children forest s ticket)) (sym slots)
-          (key, born_shows path ticket v young.key young.seed s same lives n 1 (λ j from below. seeds j from (omega arith))));
+          subst (λ (o : Option ForkImage). BornShows depot path ticket o b.slots.items (children forest s ticket)) (sym is)
+          (subst (λ (items : List ChildSlot). BornShows depot path ticket (Some image) items (children forest s ticket)) (sym slots)
+          (key, born_shows path ticket v image.key image.seed s same lives n 1 (λ j from below. seeds j from (omega arith))));
     }

@@ -1,5 +1,6 @@
 -- A cell before and after the calls of its machine.
-use Rattle.std.proofs.Common.{◌≡◌, ℕ, ◌+◌, ◌≤◌, ◌&&◌, ◌||◌, not, Bool, true, false, cond, eqb, eqb-true, List, [], ◌∷◌, ◌++◌, length, replicate, Option, Some, None, refl, sym, ap, ◌∙◌, subst, arith, vec_len, vec_capacity}
+use Rattle.std.proofs.Common.{◌≡◌, ℕ, ◌+◌, ◌≤◌, ◌&&◌, ◌||◌, not, Bool, true, false, cond, eqb, eqb-true, List, [], ◌∷◌, ◌++◌, length, replicate}
+use Rattle.std.proofs.Common.{Option, Some, None, refl, sym, ap, ◌∙◌, subst, arith, vec_len, vec_capacity}
 use Rattle.std.specs.BTreeMap.{btree_map_len, get, is_at}
 use Rattle.std.specs.Ordering.{is_eq, nat_cmp}
 use Rattle.std.proofs.lemmas.Bool.Decides.{nat_tests}
@@ -22,14 +23,14 @@ use Rattle.image_depot.specs.Key.{Shelves}
 use Rattle.vm_cell.specs.Standing.{IsJoin}
 use Rattle.vm_cell.specs.Keyed.{KeyedMachine, paged}
 use Rattle.vm_cell.specs.Woken.{AreSeeds}
-use Rattle.vm_cell.specs.declared.vm.fork.Brood.{Brood as Young}
+use Rattle.vm_cell.specs.declared.vm.fork.Brood.{Brood as ForkImage}
 use Rattle.run_report.specs.Lines.{Line, ticket_line, lines, log_lines}
 use Rattle.world_core.specs.declared.cell.Brood.{Brood}
 use Rattle.world_core.specs.declared.cell.Cell.{Cell}
-use Rattle.world_core.specs.declared.cell.Slot.{Slot}
-use Rattle.world_core.specs.declared.cell.Slot.TheVariants.{Asleep}
+use Rattle.world_core.specs.declared.cell.ChildSlot.{ChildSlot}
+use Rattle.world_core.specs.declared.cell.ChildSlot.TheVariants.{Asleep}
 use Rattle.world_core.specs.Broods.{slot_endings, slot_lines}
-use Rattle.world_core.specs.Litter.{IsNewBrood}
+use Rattle.world_core.specs.PreparedFork.{IsNewBrood}
 use Rattle.world_core.specs.Shows.{forest, told_spot, BroodAt, BroodShows, TallyAt, IsTallied, Tallies, Holds, HoldsAfter, StandsAt, killed_tree, joined_tree, forked_tree}
 use Rattle.world_core.proofs.BroodSlots.{brood_born, brood_endings, brood_lines}
 
@@ -199,11 +200,11 @@ module _ (depot : Shelves) (path : Path) (keyed : KeyedMachine) (ticket : ℕ) (
   abbrev vm : Paged
   vm = paged keyed
 
-  pub forked_after : (b : Brood) (young : Young) (t : Tree (Spot Paged)) → IsNewBrood depot path keyed ticket b young
+  pub forked_after : (b : Brood) (image : ForkImage) (t : Tree (Spot Paged)) → IsNewBrood depot path keyed ticket b image
       → ((u : ℕ) → get nat_cmp new.broods u ≡ cond (is_at (nat_cmp ticket) u) (Some b) (get nat_cmp c.broods u))
       → Holds depot path c t → StandsAt vm (clone ticket) t → HoldsAfter depot path new (forked_tree ticket t)
   unfolding brood_of paged_machines
-  forked_after b young (node s broods log) born updates h at =
+  forked_after b image (node s broods log) born updates h at =
       let m = makes vm (clone ticket) (node s broods log) at in
       let step = rules.forked s ticket m in
       let n = forest.forked s in
@@ -213,7 +214,7 @@ module _ (depot : Shelves) (path : Path) (keyed : KeyedMachine) (ticket : ℕ) (
       let count : (machines.grant vm.machine ticket).children ≡ (forest.grant s ticket).children =
       ap (λ (g : Grant). g.children) (sym (granted depot path vm ticket c s at.is)) in
       let size : vec_len b.slots ≡ (machines.grant vm.machine ticket).children =
-      b.slots.ok.0 ∙ ap (λ (slots : List Slot). length slots) born.slots ∙ length-replicate (machines.grant vm.machine ticket).children Asleep in
+      b.slots.ok.0 ∙ ap (λ (slots : List ChildSlot). length slots) born.slots ∙ length-replicate (machines.grant vm.machine ticket).children Asleep in
       let one : IsTallied path (forest.grant s ticket).children b = record { name = born.name; size = size ∙ count; few = omega (arith, size, born.few) } in
       let tallies : Tallies path new (forked_tree ticket (node s broods log)) = record {
         log = same_log ∙ h.tallies.log;
@@ -229,9 +230,9 @@ module _ (depot : Shelves) (path : Path) (keyed : KeyedMachine) (ticket : ℕ) (
         tallies,
         λ lives.
             let shows : BroodShows depot path ticket b kids =
-            brood_born depot path ticket keyed s b young at.is (lives-none (forest.ending n) lives) born.young
+            brood_born depot path ticket keyed s b image at.is (lives-none (forest.ending n) lives) born.image
             (born.slots ∙ ap (λ k. replicate k Asleep) count) (born.live ∙ count) born.key
-            (subst (λ k. AreSeeds keyed young.key k young.seed) count born.seeds) in
+            (subst (λ k. AreSeeds keyed image.key k image.seed) count born.seeds) in
             record {
               tallies = tallies;
               broods = λ u.

@@ -20,7 +20,7 @@ use Rattle.world_core.specs.declared.world.World.{World}
 use Rattle.run_report.specs.Report.{Ended as Report}
 use Rattle.vm_cell.specs.Keyed.{KeyedMachine, IsOfDepot, paged}
 use Rattle.world_core.specs.Lent.{Lent, lent_as, now_of}
-use Rattle.world_core.specs.Waiting.{IsListed}
+use Rattle.world_core.specs.Listed.{IsListed}
 use Rattle.world_core.specs.World.{Forest, IsDue, ShowsTree, StandsFor}
 use Rattle.world_core.specs.Answers.{IsLentOf, Starts, TakesNamed}
 use Rattle.world_core.specs.Popped.{ShowsCells, sleeps, is_listed_in}

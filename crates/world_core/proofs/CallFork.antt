@@ -1,5 +1,6 @@
 -- A world after a CLONE.
-use Rattle.std.proofs.Common.{◌≡◌, ◌≢◌, ◌⊎◌, ℕ, zero, suc, ◌+◌, ◌≤◌, ◌&&◌, ◌||◌, not, eqb, eqb-true, Bool, true, false, cond, refl, sym, ap, ap₂, ◌∙◌, subst, inl, inr, arith, List, [], ◌∷◌, ◌++◌, replicate, Option, Some, None, is_some, option_and_then}
+use Rattle.std.proofs.Common.{◌≡◌, ◌≢◌, ◌⊎◌, ℕ, zero, suc, ◌+◌, ◌≤◌, ◌&&◌, ◌||◌, not, eqb, eqb-true, Bool, true, false, cond, refl, sym, ap, ap₂, ◌∙◌}
+use Rattle.std.proofs.Common.{subst, inl, inr, arith, List, [], ◌∷◌, ◌++◌, replicate, Option, Some, None, is_some, option_and_then}
 use Rattle.std.specs.Option.{IfSome, IsSomeAnd}
 use Rattle.std.specs.BTreeMap.{BTreeMap, WritesThrough, get}
 use Rattle.image_depot.specs.Key.{Shelves}
@@ -26,11 +27,12 @@ use Rattle.vm_cell.specs.Woken.{AreSeeds}
 use Rattle.vm_descriptor.specs.declared.descriptor.TheConstants.{MAX_CLONES}
 use Rattle.world_core.specs.declared.cell.Brood.{Brood}
 use Rattle.world_core.specs.declared.cell.Cell.{Cell}
-use Rattle.world_core.specs.declared.cell.Slot.TheVariants.{Asleep}
+use Rattle.world_core.specs.declared.cell.ChildSlot.TheVariants.{Asleep}
 use Rattle.world_core.specs.declared.world.World.{World}
 use Rattle.world_core.specs.Lent.{Lent, IsLent, vm_of, now_of}
-use Rattle.world_core.specs.Litter.{Unborn, IsLitterOf, IsLitterIn, IsBroodOf, IsNewBrood}
-use Rattle.world_core.specs.Waiting.{Keeps, Waiting, IsListed, IsCovered}
+use Rattle.world_core.specs.PreparedFork.{Prepared, IsPreparedFor, IsPreparedIn, IsBroodOf, IsNewBrood}
+use Rattle.ready_queue.specs.Ready.{Ready}
+use Rattle.world_core.specs.Listed.{Keeps, IsListed, IsCovered}
 use Rattle.world_core.specs.Shows.{forest, IsAwake, Holds, HoldsAfter, Shows, StandsAt, forked_tree}
 use Rattle.world_core.specs.World.{Forest, IsDue, StandsFor}
 use Rattle.world_core.specs.Between.{IsWhole, IsBetween, settled_tree}
@@ -85,7 +87,7 @@ born-ready k (y ∷ ys) (Some a) h ready =
     let no : false ≡ true = sym (ap (holds paged_machines (lives_ready paged_machines)) (none-beneath a y ys (h a refl).alone_now)) ∙ ready in absurd (cc)
 
 -- a turn of children covers them
-covers-child : (name : Path) (ticket : ℕ) (x : Branch) (rest : Path) (list : List Waiting) → ticket ≡ x.ticket → rest ≡ [] → 1 ≤ x.child
+covers-child : (name : Path) (ticket : ℕ) (x : Branch) (rest : Path) (list : List Ready) → ticket ≡ x.ticket → rest ≡ [] → 1 ≤ x.child
     → IsCovered (name ++ x ∷ rest) (record { name = name; children = Some (ticket, 1) } ∷ list)
 unfolding IsCovered
 covers-child name ticket x rest list same none first =
@@ -93,11 +95,11 @@ covers-child name ticket x rest list same none first =
     inl (x.child, first, ap (λ (way : Path). name ++ x ∷ way) none ∙ ap (λ t. name ++ fork t ∷ []) (sym same))
 
 -- a machine that was due is still due
-due-later : (o : Option Cell) (q : Path) (turn : Waiting) (list : List Waiting) → IsDue o q list → IsDue o q (turn ∷ list)
+due-later : (o : Option Cell) (q : Path) (turn : Ready) (list : List Ready) → IsDue o q list → IsDue o q (turn ∷ list)
 due-later None q turn list h = IsCovered-more q turn list h
 due-later (Some c) q turn list h = IsListed-more q turn list h
 
-listed-later : (o : Option Cell) (q : Path) (turn : Waiting) (list : List Waiting) → IfSome o (λ (c : Cell). c.is_listed ≡ true → IsListed q list)
+listed-later : (o : Option Cell) (q : Path) (turn : Ready) (list : List Ready) → IfSome o (λ (c : Cell). c.is_listed ≡ true → IsListed q list)
     → IfSome o (λ (c : Cell). c.is_listed ≡ true → IsListed q (turn ∷ list))
 listed-later None q turn list h = tt
 listed-later (Some c) q turn list h = λ yes. IsListed-more q turn list (h yes)
@@ -133,10 +135,10 @@ new-below ticket s n kids broods log x rest = by (eqb ticket x.ticket)
     by false = refl
 
 -- nothing was there
-unborn-below : (s : Spot Paged) (broods : Broods (Spot Paged)) (log : Log (Spot Paged)) (x : Branch) (rest : Path) → broods_with x.ticket broods ≡ 0
+none-below-yet : (s : Spot Paged) (broods : Broods (Spot Paged)) (log : Log (Spot Paged)) (x : Branch) (rest : Path) → broods_with x.ticket broods ≡ 0
     → subtree (x ∷ rest) (node s broods log) ≡ None
 unfolding subtree child_at
-unborn-below s broods log x rest none = ap (λ trees. option_and_then (subtree rest) (child_at x.child trees)) (brood_of-none x.ticket broods none)
+none-below-yet s broods log x rest none = ap (λ trees. option_and_then (subtree rest) (child_at x.child trees)) (brood_of-none x.ticket broods none)
 
 -- ---- a machine that stands at a CLONE
 
@@ -173,12 +175,12 @@ module _ (depot : Shelves) (w : World) (f : Forest) (lease : Lent) (ticket : ℕ
       let count = (root-sound forest (lent_out (now_of lease)) broods log h.at.sound).one_each makes-clone.lives x.ticket in
       let none : broods_with x.ticket broods ≡ 0 = count ∙ ap one_if (ap (is_cloned forest (lent_out (now_of lease))) (sym (eqb-true ticket x.ticket same)) ∙ fresh) in
       none-shown depot (lease.name ++ x ∷ rest) (get path_cmp w.cells (lease.name ++ x ∷ rest)) (subtree (lease.name ++ x ∷ rest) f.tree)
-      (below-name lease.name f.tree (node (lent_out start) broods log) x rest h.is.there ∙ unborn-below (lent_out start) broods log x rest none)
+      (below-name lease.name f.tree (node (lent_out start) broods log) x rest h.is.there ∙ none-below-yet (lent_out start) broods log x rest none)
       (h.is.live.cells (lease.name ++ x ∷ rest))
 
   module _ (v : World) (d : Cell) (ready : v.ready ≡ record { name = lease.name; children = Some (ticket, 1) } ∷ w.ready) (found : get path_cmp v.cells lease.name ≡ Some d)
       (others : (q : Path) → lease.name ≢ q → get path_cmp v.cells q ≡ get path_cmp w.cells q) where
-    abbrev turn : Waiting
+    abbrev turn : Ready
     turn = record { name = lease.name; children = Some (ticket, 1) }
 
     abbrev kids : Trees (Spot Paged)
@@ -284,7 +286,7 @@ module _ (depot : Shelves) (w : World) (f : Forest) (lease : Lent) (ticket : ℕ
       (SameTickets-back (lent_out is.start) (lent_out (now_of lease)) good (lease-same is.start (now_of lease) lease.ran is.stands.has good))
       (still u is.stands.holds)))
 
-  pub fork-called : (cells : BTreeMap Path Cell) (d : Cell) (list : List Waiting) (name : Path) (vm after : Paged) → name ≡ lease.name
+  pub fork-called : (cells : BTreeMap Path Cell) (d : Cell) (list : List Ready) (name : Path) (vm after : Paged) → name ≡ lease.name
       → vm ≡ now_of lease → WritesThrough path_cmp (path_cmp lease.name) w.cells d cells
       → Keeps (record { name = lease.name; children = Some (ticket, 1) } ∷ w.ready) list → d.is_listed ≡ c.is_listed → after ≡ record vm { machine = after_fork vm.machine }
       → ((t : Tree (Spot Paged)) → Holds depot lease.name c t → StandsAt vm (clone ticket) t → HoldsAfter depot lease.name d (forked_tree ticket t))
@@ -308,7 +310,7 @@ module _ (depot : Shelves) (w : World) (f : Forest) (lease : Lent) (ticket : ℕ
             (forked-may depot w f lease ticket is.start is.broods is.log c s (waits forest u));
       })
 
--- ---- a litter that was made for the CLONE
+-- ---- a prepared that was made for the CLONE
 
 pub stands-clone : (next : Option Call) → IsClone next → (ticket : ℕ) × (Some (Clone ticket) ≡ next)
 stands-clone (Some (Clone ticket)) h = (ticket, refl)
@@ -316,19 +318,19 @@ stands-clone (Some (Join ticket)) h = absurd h
 stands-clone (Some (Kill ticket)) h = absurd h
 stands-clone None h = absurd h
 
-module _ (lease : Lent) (litter : Unborn) (ticket : ℕ) (vm : KeyedMachine) (of : IsLitterOf lease litter) (number : ticket ≡ litter.ticket) (same : vm ≡ vm_of lease) where
-  pub litter-stands : standing_call vm ≡ Some (Clone ticket)
-  litter-stands = ap standing_call same ∙ of.clone ∙ ap (λ t. let call : Call = Clone t in Some call) (sym number)
+module _ (lease : Lent) (prepared : Prepared) (ticket : ℕ) (vm : KeyedMachine) (of : IsPreparedFor lease prepared) (number : ticket ≡ prepared.ticket) (same : vm ≡ vm_of lease) where
+  pub prepared-stands : standing_call vm ≡ Some (Clone ticket)
+  prepared-stands = ap standing_call same ∙ of.clone ∙ ap (λ t. let call : Call = Clone t in Some call) (sym number)
 
-  pub litter-born : (depot : Shelves) (b : Brood) → IsLitterIn depot litter → IsBroodOf litter b → IsNewBrood depot lease.name vm ticket b litter.left
-  litter-born depot b here is =
-      subst (λ v. IsNewBrood depot lease.name v ticket b litter.left) (sym same)
-      (subst (λ t. IsNewBrood depot lease.name (vm_of lease) t b litter.left) (sym number) (record {
+  pub prepared-brood : (depot : Shelves) (b : Brood) → IsPreparedIn depot prepared → IsBroodOf prepared b → IsNewBrood depot lease.name vm ticket b prepared.image
+  prepared-brood depot b here is =
+      subst (λ v. IsNewBrood depot lease.name v ticket b prepared.image) (sym same)
+      (subst (λ t. IsNewBrood depot lease.name (vm_of lease) t b prepared.image) (sym number) (record {
         name = is.name ∙ of.name;
-        young = is.young;
+        image = is.image;
         slots = is.slots ∙ ap (λ n. replicate n Asleep) of.children;
         live = is.live ∙ of.children;
         few = subst (λ n. n ≤ MAX_CLONES) of.children is.few;
         key = here;
-        seeds = subst (λ n. AreSeeds (vm_of lease) litter.left.key n litter.left.seed) of.children of.seeds;
+        seeds = subst (λ n. AreSeeds (vm_of lease) prepared.image.key n prepared.image.seed) of.children of.seeds;
       }))

@@ -1,5 +1,6 @@
 -- A world after a JOIN.
-use Rattle.std.proofs.Common.{◌≡◌, ◌≢◌, ℕ, zero, suc, ◌&&◌, ◌||◌, not, eqb, eqb-true, Bool, true, false, cond, refl, sym, ap, ap₂, ◌∙◌, subst, [], ◌∷◌, ◌++◌, Option, Some, None, is_some, option_and_then}
+use Rattle.std.proofs.Common.{◌≡◌, ◌≢◌, ℕ, zero, suc, ◌&&◌, ◌||◌, not, eqb, eqb-true, Bool, true, false, cond, refl, sym, ap, ap₂, ◌∙◌, subst, []}
+use Rattle.std.proofs.Common.{◌∷◌, ◌++◌, Option, Some, None, is_some, option_and_then}
 use Rattle.std.specs.Option.{IfSome}
 use Rattle.std.specs.BTreeMap.{BTreeMap, WritesThrough, get}
 use Rattle.std.specs.declared.alloc.Global.{Global}
@@ -27,18 +28,18 @@ use Rattle.vm_cell.specs.Keyed.{KeyedMachine, IsOfDepot, paged}
 use Rattle.vm_cell.specs.Standing.{standing_call}
 use Rattle.world_core.specs.declared.cell.Cell.{Cell}
 use Rattle.world_core.specs.declared.cell.State.TheVariants.{Parked}
-use Rattle.world_core.specs.declared.turns.Turn.{Turn}
+use Rattle.ready_queue.specs.Ready.{Ready}
 use Rattle.world_core.specs.declared.world.World.{World}
 use Rattle.world_core.specs.Lent.{Lent, IsLent, vm_of, now_of}
-use Rattle.world_core.specs.Waiting.{IsListed, IsCovered}
-use Rattle.world_core.specs.Turns.{turn_of, turns_from}
+use Rattle.world_core.specs.Listed.{IsListed, IsCovered}
 use Rattle.world_core.specs.Shows.{forest, IsAwake, Holds, HoldsAfter, Shows, StandsAt, joined_tree}
 use Rattle.world_core.specs.World.{Forest, StandsFor}
 use Rattle.world_core.specs.Between.{IsBetween, settled_tree}
 use Rattle.world_core.specs.Answers.{Goes, IsHandedOut}
 use Rattle.world_core.proofs.Returns.{apart-below, apart-outside, some-is, written-here, written-apart, between-stands, below-placed}
 use Rattle.world_core.proofs.Steps.{forest-rules}
-use Rattle.world_core.proofs.Calling.{lent_out, StandsHere, lives-out, spent-sound, spent-goes, whole-gone, below-name, gone-between, same-stands, still-between, kept-goes, none-shown, found-here, Called}
+use Rattle.world_core.proofs.Calling.{lent_out, StandsHere, lives-out, spent-sound, spent-goes, whole-gone, below-name, gone-between, same-stands}
+use Rattle.world_core.proofs.Calling.{still-between, kept-goes, none-shown, found-here, Called}
 use Rattle.world_core.proofs.AtPlaces.{holds-placed, lives-placed}
 
 -- ---- children that have all ended have no cells
@@ -126,7 +127,8 @@ module _ (depot : Shelves) (w : World) (f : Forest) (lease : Lent) (ticket : ℕ
     joined-spend : spend paged_machines joined (node (lent_out (now_of lease)) broods log) ≡ placed home (settled_tree (joined_tree ticket (node (lent_out (now_of lease)) broods log)))
     joined-spend = ap (placed home) (step-join forest (lent_out (now_of lease)) broods log ticket makes-join.lives makes-join.call ready-now)
 
-    joined-machine : (machine (joined_tree ticket (node (lent_out (now_of lease)) broods log))).machine ≡ record (now_of lease) { machine = after_join lease.now (endings forest (brood_of ticket broods)) }
+    joined-machine : (machine (joined_tree ticket (node (lent_out (now_of lease)) broods log))).machine
+        ≡ record (now_of lease) { machine = after_join lease.now (endings forest (brood_of ticket broods)) }
     unfolding spots paged_machines machines
     joined-machine = refl
 
@@ -158,13 +160,13 @@ module _ (depot : Shelves) (w : World) (f : Forest) (lease : Lent) (ticket : ℕ
         by false o none = refl
 
   -- it waits
-  parked-stands : (v : World) (d : Cell) (vm : Box KeyedMachine Global) (turn : Box Turn Global) → have_ended forest (brood_of ticket broods) ≡ false → v.ready ≡ w.ready
+  parked-stands : (v : World) (d : Cell) (vm : Box KeyedMachine Global) (turn : Ready) → have_ended forest (brood_of ticket broods) ≡ false → v.ready ≡ w.ready
       → v.halted ≡ w.halted → v.outcome ≡ w.outcome → get path_cmp v.cells lease.name ≡ Some d
       → ((q : Path) → lease.name ≢ q → get path_cmp v.cells q ≡ get path_cmp w.cells q)
-      → d ≡ record c { state = Parked ticket vm turn } → paged vm.value ≡ now_of lease → IsOfDepot depot vm.value.key → turns_from turn.value ≡ turn_of turn.value ∷ []
-      → turn_of turn.value ≡ record { name = lease.name; children = None }
+      → d ≡ record c { state = Parked ticket vm turn } → paged vm.value ≡ now_of lease → IsOfDepot depot vm.value.key
+      → turn ≡ record { name = lease.name; children = None }
       → Goes depot f (spent waited lease.name lease.ran) v
-  parked-stands v d vm turn lives ready halted outcome found others same now of_depot alone named =
+  parked-stands v d vm turn lives ready halted outcome found others same now of_depot named =
       let u : Tree (Spot Paged) = node (lent_out (now_of lease)) broods log in
       let waiting : waits forest u ≡ true = join-waits ∙ ap not lives in
       let waiting_there : waits forest (placed parked u) ≡ true = waits-placed parked u ∙ waiting in
@@ -180,11 +182,12 @@ module _ (depot : Shelves) (w : World) (f : Forest) (lease : Lent) (ticket : ℕ
       (λ q is. subst (IsListed q) (sym ready) is) (λ q is. subst (IsCovered q) (sym ready) is) (below-placed parked u) sound after halted outcome
       (subst (λ o. Shows depot lease.name o (Some (placed parked u))) (sym (found ∙ ap Some same)) (record {
         awake = after;
-        state = (now, refl, waiting_there, h.at.at_call, alone, named);
+        state = (now, refl, waiting_there, h.at.at_call, named);
         of_depot = of_depot;
         holds = holds-placed depot lease.name c (Parked ticket vm turn) c.is_listed parked u h.holds;
       }))
-      (λ yes. let no : false ≡ true = sym (ap (λ (is : Bool). not (has_ended forest (placed parked u)) && not is) waiting_there ∙ none-and (not (has_ended forest (placed parked u)))) ∙ yes in absurd (cc))
+      (λ yes. let no : false ≡ true = sym (ap (λ (is : Bool). not (has_ended forest (placed parked u)) && not is) waiting_there
+      ∙ none-and (not (has_ended forest (placed parked u)))) ∙ yes in absurd (cc))
       (subst (λ o. IfSome o (λ (cell : Cell). cell.is_listed ≡ true → IsListed lease.name v.ready)) (sym (found ∙ ap Some same)) kept_turn))
     where
       none-and : (b : Bool) → b && false ≡ false
@@ -195,19 +198,19 @@ module _ (depot : Shelves) (w : World) (f : Forest) (lease : Lent) (ticket : ℕ
 
 module _ (depot : Shelves) (w : World) (f : Forest) (lease : Lent) (ticket : ℕ) (c : Cell) (h : StandsFor depot w f) (out_as : IsHandedOut f lease)
     (lent : IsLent lease.start lease.ran lease.now) (at : Some (Join ticket) ≡ standing_call (vm_of lease)) (found : Some c ≡ get path_cmp w.cells lease.name) where
-  pub join-parked : (cells : BTreeMap Path Cell) (vm : Box KeyedMachine Global) (turn : Box Turn Global)
+  pub join-parked : (cells : BTreeMap Path Cell) (vm : Box KeyedMachine Global) (turn : Ready)
       → ((depot : Shelves) (path : Path) (t : Tree (Spot Paged)) → Holds depot path c t → true ≡ not (have_ended forest (brood_of ticket (broods_of t))))
       → WritesThrough path_cmp (path_cmp lease.name) w.cells (record c { state = Parked ticket vm turn }) cells
-      → paged vm.value ≡ now_of lease → IsOfDepot depot vm.value.key → turns_from turn.value ≡ turn_of turn.value ∷ [] → (turn_of turn.value).children ≡ None → (turn_of turn.value).name ≡ lease.name
+      → paged vm.value ≡ now_of lease → IsOfDepot depot vm.value.key → turn.children ≡ None → turn.name ≡ lease.name
       → Goes depot f (spent waited lease.name lease.ran) (record w { cells = cells })
-  join-parked cells vm turn waiting written now of_depot alone one name_is =
+  join-parked cells vm turn waiting written now of_depot one name_is =
       let is = found-here depot w f lease (Join ticket) c h out_as lent at found in
       let u : Tree (Spot Paged) = node (lent_out (now_of lease)) is.broods is.log in
       let d : Cell = record c { state = Parked ticket vm turn } in
       let some = some-is c (get path_cmp w.cells lease.name) found in
       parked-stands depot w f lease ticket is.start is.broods is.log c is.stands (record w { cells = cells }) d vm turn
       (not-true (have_ended forest (brood_of ticket is.broods)) (sym (waiting depot lease.name u is.stands.holds))) refl refl refl
-      (written-here w.cells cells lease.name d written some) (written-apart w.cells cells lease.name d written some) refl now of_depot alone
+      (written-here w.cells cells lease.name d written some) (written-apart w.cells cells lease.name d written some) refl now of_depot
       (ap₂ (λ (name : Path) children. record { name = name; children = children }) name_is one)
 
   module _ (ready : (depot : Shelves) (path : Path) (t : Tree (Spot Paged)) → Holds depot path c t → false ≡ not (have_ended forest (brood_of ticket (broods_of t)))) where

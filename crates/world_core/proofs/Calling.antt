@@ -1,5 +1,6 @@
 -- A world after a machine has made a call.
-use Rattle.std.proofs.Common.{◌≡◌, ◌≢◌, ◌⊎◌, ℕ, zero, suc, ◌+◌, ◌≤◌, ◌&&◌, ◌||◌, not, eqb, Bool, true, false, cond, refl, sym, ap, ap₂, ◌∙◌, subst, inl, inr, arith, List, [], ◌∷◌, ◌++◌, Option, Some, None, is_some, option_and_then}
+use Rattle.std.proofs.Common.{◌≡◌, ◌≢◌, ◌⊎◌, ℕ, zero, suc, ◌+◌, ◌≤◌, ◌&&◌, ◌||◌, not, eqb, Bool, true, false, cond, refl, sym, ap, ap₂, ◌∙◌, subst}
+use Rattle.std.proofs.Common.{inl, inr, arith, List, [], ◌∷◌, ◌++◌, Option, Some, None, is_some, option_and_then}
 use Rattle.std.specs.Option.{IfSome, IsSomeAnd}
 use Rattle.std.specs.BTreeMap.{BTreeMap, get}
 use Rattle.std.specs.Prelude.{Result, Ok, Err}
@@ -31,7 +32,8 @@ use Rattle.world_core.specs.declared.cell.State.{State}
 use Rattle.world_core.specs.declared.reason.Reason.{Reason}
 use Rattle.world_core.specs.declared.world.World.{World}
 use Rattle.world_core.specs.Lent.{Lent, IsLent, vm_of, now_of}
-use Rattle.world_core.specs.Waiting.{Waiting, IsListed}
+use Rattle.ready_queue.specs.Ready.{Ready}
+use Rattle.world_core.specs.Listed.{IsListed}
 use Rattle.world_core.specs.Shows.{forest, IsAwake, Holds, HoldsAfter, StateShows, IsStateOf, Shows, StandsAt, ended_tree}
 use Rattle.world_core.specs.World.{Forest, IsDue, ShowsTree, StandsFor}
 use Rattle.world_core.specs.Between.{IsWhole, IsBetween, with_tree, settled_tree}
@@ -221,7 +223,7 @@ unfolding subtree
 same-below s n broods log after x rest = refl
 
 -- a cell that is as it was, or is gone
-pub still-listed : (o : Option Cell) (p : Option Cell) (n : Path) (list : List Waiting) → (p ≡ o) ⊎ (p ≡ None) → IfSome o (λ (c : Cell). c.is_listed ≡ true → IsListed n list)
+pub still-listed : (o : Option Cell) (p : Option Cell) (n : Path) (list : List Ready) → (p ≡ o) ⊎ (p ≡ None) → IfSome o (λ (c : Cell). c.is_listed ≡ true → IsListed n list)
     → IfSome p (λ (c : Cell). c.is_listed ≡ true → IsListed n list)
 still-listed o p n list (inl e) h = subst (λ q. IfSome q (λ (c : Cell). c.is_listed ≡ true → IsListed n list)) (sym e) h
 still-listed o p n list (inr e) h = subst (λ q. IfSome q (λ (c : Cell). c.is_listed ≡ true → IsListed n list)) (sym e) tt

@@ -1,5 +1,6 @@
 -- What a change of one machine leaves of what a world shows.
-use Rattle.std.proofs.Common.{◌≡◌, ℕ, zero, suc, ◌&&◌, eqb, eqb-true, Bool, true, false, cond, refl, sym, ap, ◌∙◌, subst, arith, List, [], ◌∷◌, ◌++◌, Option, Some, None, is_some, option_and_then, option_map}
+use Rattle.std.proofs.Common.{◌≡◌, ℕ, zero, suc, ◌&&◌, eqb, eqb-true, Bool, true, false, cond, refl, sym, ap, ◌∙◌, subst, arith, List, [], ◌∷◌, ◌++◌}
+use Rattle.std.proofs.Common.{Option, Some, None, is_some, option_and_then, option_map}
 use Rattle.std.specs.BTreeMap.{get}
 use Rattle.std.specs.Ordering.{nat_cmp}
 use Rattle.std.proofs.lemmas.List.{append-nil}
@@ -19,14 +20,14 @@ use Rattle.forest_model.specs.Paged.{Paged, paged_machines}
 use Rattle.image_depot.specs.Key.{Shelves, Key}
 use Rattle.vm_descriptor.specs.declared.descriptor.Descriptor.{Descriptor}
 use Rattle.vm_descriptor.specs.Descriptor.{numbered}
-use Rattle.vm_cell.specs.declared.vm.fork.Brood.{Brood as Young}
+use Rattle.vm_cell.specs.declared.vm.fork.Brood.{Brood as ForkImage}
 use Rattle.run_report.specs.Lines.{lines}
 use Rattle.machine_names.specs.Name.{child_path}
 use Rattle.machine_names.proofs.Below.{beyond-is}
 use Rattle.world_core.specs.declared.cell.Brood.{Brood}
 use Rattle.world_core.specs.declared.cell.Cell.{Cell}
-use Rattle.world_core.specs.declared.cell.Slot.{Slot}
-use Rattle.world_core.specs.declared.cell.Slot.TheVariants.{Asleep, Awake, Ended}
+use Rattle.world_core.specs.declared.cell.ChildSlot.{ChildSlot}
+use Rattle.world_core.specs.declared.cell.ChildSlot.TheVariants.{Asleep, Awake, Ended}
 use Rattle.world_core.specs.Shows.{forest, told_spot, IsAwake, sleeper, SlotShows, SlotsShow, BornShows, BroodAt, StateShows, Holds, CellShows, IsNoCell, Shows}
 
 -- ---- names, by where they lie
@@ -75,7 +76,7 @@ lies name n = lies-by name n (beyond name n) refl
 
 -- the child is changed, and its slot still shows it
 pub record KeepsSlot (g : Tree (Spot Paged) → Tree (Spot Paged)) (a : Tree (Spot Paged)) : Type 0 where
-  pub slot : (path : Path) (key : Key) (seed : Descriptor) (slot : Slot) → SlotShows path key seed slot a → SlotShows path key seed slot (g a)
+  pub slot : (path : Path) (key : Key) (seed : Descriptor) (slot : ChildSlot) → SlotShows path key seed slot a → SlotShows path key seed slot (g a)
   pub ended : has_ended forest (g a) ≡ has_ended forest a
 
 -- a change that is deeper
@@ -87,7 +88,7 @@ keeps-deep f y rest (node s broods log) = record { slot = by; ended = refl }
         → at_path f (y ∷ rest) (node s broods log) ≡ alone forest (sleeper key seed)
     sleeps key seed e = ap (at_path f (y ∷ rest)) e
 
-    by : (path : Path) (key : Key) (seed : Descriptor) (slot : Slot) → SlotShows path key seed slot (node s broods log)
+    by : (path : Path) (key : Key) (seed : Descriptor) (slot : ChildSlot) → SlotShows path key seed slot (node s broods log)
         → SlotShows path key seed slot (at_path f (y ∷ rest) (node s broods log))
     by path key seed Asleep h = record { of_image = h.of_image; born = sleeps key seed h.born; lives = h.lives }
     by path key seed Awake h = record { lives = h.lives; awake = h.awake }
@@ -101,7 +102,7 @@ keeps-awake f a before after = record { slot = by; ended = after.lives ∙ sym b
     never : (ending : Ending) → told_spot.ending (machine a) ≡ Some ending → ⊥
     never ending h = let no : true ≡ false = sym (ap is_some h) ∙ before.lives in absurd (cc)
 
-    by : (path : Path) (key : Key) (seed : Descriptor) (slot : Slot) → SlotShows path key seed slot a → SlotShows path key seed slot (f a)
+    by : (path : Path) (key : Key) (seed : Descriptor) (slot : ChildSlot) → SlotShows path key seed slot a → SlotShows path key seed slot (f a)
     by path key seed Asleep h =
         let no : true ≡ false = sym (ap (λ (t : Tree (Spot Paged)). is_asleep_at (machine t).place) h.born) ∙ before.awake in absurd (cc)
     by path key seed Awake h = after
@@ -112,7 +113,7 @@ module _ (g : Tree (Spot Paged) → Tree (Spot Paged)) where
   abbrev KeepsAt : ℕ → Trees (Spot Paged) → Type 0
   KeepsAt k trees = (a : Tree (Spot Paged)) → child_at k trees ≡ Some a → KeepsSlot g a
 
-  slots-kept : (path : Path) (ticket : ℕ) (key : Key) (j k : ℕ) (seed : Descriptor) (slots : List Slot) (trees : Trees (Spot Paged))
+  slots-kept : (path : Path) (ticket : ℕ) (key : Key) (j k : ℕ) (seed : Descriptor) (slots : List ChildSlot) (trees : Trees (Spot Paged))
       → KeepsAt k trees → SlotsShow path ticket key j seed slots trees → SlotsShow path ticket key j seed slots (at_child g k trees)
   unfolding SlotsShow at_child child_at
   slots-kept path ticket key j k seed [] no_tree keeps h = tt
@@ -132,12 +133,12 @@ module _ (g : Tree (Spot Paged) → Tree (Spot Paged)) where
       let counts = one-child forest g k trees a e in
       omega (arith, same, counts)
 
-  born-kept : (depot : Shelves) (path : Path) (ticket k : ℕ) (young : Option Young) (slots : List Slot) (trees : Trees (Spot Paged)) → KeepsAt k trees
-      → BornShows depot path ticket young slots trees → BornShows depot path ticket young slots (at_child g k trees)
+  born-kept : (depot : Shelves) (path : Path) (ticket k : ℕ) (image : Option ForkImage) (slots : List ChildSlot) (trees : Trees (Spot Paged)) → KeepsAt k trees
+      → BornShows depot path ticket image slots trees → BornShows depot path ticket image slots (at_child g k trees)
   born-kept depot path ticket k None slots trees keeps h =
       (h.0, h.1, h.2, slots-kept path ticket h.0 1 k h.1 slots trees keeps h.3)
-  born-kept depot path ticket k (Some young) slots trees keeps h =
-      (h.0, slots-kept path ticket young.key 1 k young.seed slots trees keeps h.1)
+  born-kept depot path ticket k (Some image) slots trees keeps h =
+      (h.0, slots-kept path ticket image.key 1 k image.seed slots trees keeps h.1)
 
   brood-kept : (depot : Shelves) (path : Path) (ticket k : ℕ) (b : Option Brood) (is : Bool) (trees : Trees (Spot Paged)) → KeepsAt k trees
       → BroodAt depot path ticket b is trees → BroodAt depot path ticket b is (at_child g k trees)
@@ -147,7 +148,7 @@ module _ (g : Tree (Spot Paged) → Tree (Spot Paged)) where
   brood-kept depot path ticket k (Some b) false trees keeps h = absurd h
   brood-kept depot path ticket k (Some b) true trees keeps h = record {
     live = h.live ∙ sym (living-by k trees (child_at k trees) refl keeps);
-    born = born-kept depot path ticket k b.young b.slots.items trees keeps h.born;
+    born = born-kept depot path ticket k b.image b.slots.items trees keeps h.born;
   }
 
   brood-by : (depot : Shelves) (path : Path) (x : Branch) (ticket : ℕ) (b : Option Brood) (is : Bool) (broods : Broods (Spot Paged)) (same : Bool)

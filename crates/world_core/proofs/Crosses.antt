@@ -10,26 +10,18 @@ use Rattle.machine_names.specs.contracts.name.NameOrd.TheImpl as ord
 use Rattle.machine_names.specs.contracts.name.NamePartialEq.TheImpl as eq
 use Rattle.machine_names.specs.contracts.name.NamePartialOrd.TheImpl as partial
 use Rattle.machine_names.proofs.name.Name.TheSendSync as name
+use Rattle.ready_queue.proofs.Crosses.{queue_send, turn_send}
 use Rattle.run_report.proofs.line.Line.TheSendSync as line
 use Rattle.run_report.proofs.report.Outcome.TheSendSync as outcome
 use Rattle.vm_cell.proofs.Crosses.{vm_send}
 use Rattle.world_core.specs.contracts.cell.Cell as Cell
 use Rattle.world_core.specs.contracts.cell.State as State
 use Rattle.world_core.specs.contracts.lease.Lease as Lease
-use Rattle.world_core.specs.contracts.turns.Turn as Turn
-use Rattle.world_core.specs.contracts.turns.Turns as Turns
 use Rattle.world_core.specs.contracts.world.World as World
 use Rattle.world_core.proofs.cell.Brood.TheSendSync as brood
-use Rattle.world_core.proofs.turns.Turn.TheLaws.TheKnot as turn
-
-turn_send : IsSend Turn.the_row
-turn_send = search (turn.send-Turn, sendable, crosses, name.the_send) depth 40
 
 pub lease_send : IsSend Lease.the_row
 lease_send = search (sendable, crosses, turn_send, vm_send) depth 40
-
-turns_send : IsSend Turns.the_row
-turns_send = search (sendable, crosses, turn_send) depth 40
 
 state_send : IsSend State.the_row
 state_send = search (sendable, crosses, vm_send, turn_send) depth 40
@@ -53,7 +45,7 @@ world_send =
     struct_send (shape World.the_type) (
       BTreeMap-send Name.the_row Cell.the_row ord.ghosts eq.ghosts partial.ghosts name.the_send cell_send,
       (
-        turns_send,
+        queue_send,
         (
           search sendable depth 20,
           (

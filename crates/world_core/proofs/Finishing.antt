@@ -20,7 +20,7 @@ use Rattle.run_report.specs.Report.{Ended, lines_of}
 use Rattle.world_core.specs.declared.cell.Brood.{Brood}
 use Rattle.world_core.specs.declared.cell.Cell.{Cell}
 use Rattle.world_core.specs.declared.world.World.{World}
-use Rattle.world_core.specs.Waiting.{IsListed}
+use Rattle.world_core.specs.Listed.{IsListed}
 use Rattle.world_core.specs.Shows.{forest, told_spot, TallyAt, Tallies, HoldsAfter, IsAwake, CellShows, Shows, child_of, ended_tree}
 use Rattle.world_core.specs.World.{Forest, IsDue, StandsFor}
 use Rattle.world_core.specs.Between.{HasLeft, IsBetween, IsLeaving, IsWhole, TakesOut, with_tree}

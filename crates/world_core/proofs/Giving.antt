@@ -152,7 +152,13 @@ back-wanted w lease lent some = by (handed some.0 w some.1.0 lease some.1.1 some
         (sym cell) tt
     by (there start broods log c is_as is) =
         subst (λ o. IfSome o (λ (c : Cell). (depot : Shelves) × (f : Forest) × (a : Tree (Spot Paged)) × IsBetween depot w f lease.name a × ((machine a).machine ≡ now_of lease)))
-        (sym is.cell) (some.0, some.1.0, back some.0 w some.1.0 lease start (has-run lease (node (lent_out start) broods log) lent is_as) some.1.1 broods log c is, back-between some.0 w some.1.0 lease start (has-run lease (node (lent_out start) broods log) lent is_as) some.1.1 broods log c is, refl)
+        (sym is.cell) (
+          some.0,
+          some.1.0,
+          back some.0 w some.1.0 lease start (has-run lease (node (lent_out start) broods log) lent is_as) some.1.1 broods log c is,
+          back-between some.0 w some.1.0 lease start (has-run lease (node (lent_out start) broods log) lent is_as) some.1.1 broods log c is,
+          refl,
+        )
 
 -- the answers to a machine that lives, and to one that has ended
 module _ (depot : Shelves) (w : World) (f : Forest) (lease : Lent) (lent : IsLent lease.start lease.ran lease.now) (stands : StandsFor depot w f)

@@ -1,5 +1,5 @@
 -- Which image the machines of a brood have, where cells change.
-use Rattle.std.proofs.Common.{◌≡◌, ℕ, Bool, true, false, cond, eqb, eqb-true, [], ◌∷◌, ◌++◌, ◌⊎◌, inl, inr, Option, Some, None, refl, sym, ap, ◌∙◌, subst}
+use Rattle.std.proofs.Common.{◌≡◌, ℕ, Bool, true, false, cond, eqb, eqb-true, [], ◌∷◌, ◌⊎◌, inl, inr, Option, Some, None, refl, sym, ap, ◌∙◌, subst}
 use Rattle.std.specs.Option.{IfSome}
 use Rattle.std.specs.Prelude.{Result, Ok, Err}
 use Rattle.std.specs.Result.{IfOk, IsErr}
@@ -18,16 +18,15 @@ use Rattle.vm_descriptor.specs.declared.descriptor.Descriptor.{Descriptor}
 use Rattle.vm_cell.specs.Keyed.{KeyedMachine}
 use Rattle.vm_cell.specs.Woken.{woken}
 use Rattle.vm_cell.specs.Standing.{standing_call}
-use Rattle.vm_cell.specs.declared.vm.fork.Brood.{Brood as Young}
+use Rattle.vm_cell.specs.declared.vm.fork.Brood.{Brood as ForkImage}
 use Rattle.world_core.specs.declared.cell.Brood.{Brood}
 use Rattle.world_core.specs.declared.cell.Cell.{Cell}
 use Rattle.world_core.specs.declared.cell.State.{State}
 use Rattle.world_core.specs.declared.cell.State.TheVariants.{Home, Parked, Out}
 use Rattle.world_core.specs.Between.{TakesOut}
-use Rattle.world_core.specs.Images.{AreBroodsAt, HasImages, HaveImages, Images, IsBroodAt, IsImageAt, IsLentAt, IsStateAt, IsUnbornAt, image_at}
+use Rattle.world_core.specs.Images.{AreBroodsAt, HasImages, HaveImages, Images, IsBroodAt, IsImageAt, IsLentAt, IsStateAt, IsPreparedAt, image_at}
 use Rattle.world_core.specs.Lent.{Lent, vm_of}
-use Rattle.world_core.specs.Litter.{IsBroodOf, IsLitterOf, Unborn}
-use Rattle.world_core.specs.Shows.{IsLeft}
+use Rattle.world_core.specs.PreparedFork.{IsBroodOf, IsPreparedFor, Prepared}
 use Rattle.world_core.specs.Unparked.{unparked}
 use Rattle.world_core.proofs.Changes.{Lies, here, below, parent, above, apart, lies}
 use Rattle.world_core.proofs.Leaving.{if-some-is}
@@ -44,10 +43,10 @@ at-child images (b ∷ (c ∷ rest)) ticket k = at-child (λ path. images (b ∷
 
 module _ (images : Images) (path : Path) where
   -- what its children start with is let go, or is of the image that it was of
-  pub left-by : {A : Type 0} (ticket : ℕ) (old young : Option Young) → (young ≡ old) ⊎ ((young ≡ None) × A) → IfSome old (λ y. images path ticket ≡ number_of y.key)
-      → IfSome young (λ y. images path ticket ≡ number_of y.key)
-  left-by ticket old young (inl kept) h = subst (λ o. IfSome o (λ (y : Young). images path ticket ≡ number_of y.key)) (sym kept) h
-  left-by ticket old young (inr gone) h = subst (λ o. IfSome o (λ (y : Young). images path ticket ≡ number_of y.key)) (sym gone.0) tt
+  pub left-by : {A : Type 0} (ticket : ℕ) (old image : Option ForkImage) → (image ≡ old) ⊎ ((image ≡ None) × A) → IfSome old (λ y. images path ticket ≡ number_of y.key)
+      → IfSome image (λ y. images path ticket ≡ number_of y.key)
+  left-by ticket old image (inl kept) h = subst (λ o. IfSome o (λ (y : ForkImage). images path ticket ≡ number_of y.key)) (sym kept) h
+  left-by ticket old image (inr gone) h = subst (λ o. IfSome o (λ (y : ForkImage). images path ticket ≡ number_of y.key)) (sym gone.0) tt
 
   pub brood-written : (old new : BTreeMap ℕ Brood) (ticket : ℕ) (b d : Brood) → get nat_cmp old ticket ≡ Some b
       → WritesThrough nat_cmp (nat_cmp ticket) old d new → (IsBroodAt images path ticket b → IsBroodAt images path ticket d)
@@ -98,15 +97,15 @@ module _ (images : Images) (path : Path) where
   unparked-at ticket (Out start) h = h
 
   -- a child wakes with the key of its brood
-  pub woken-at : (ticket index : ℕ) (b : Brood) (young : Young) (seed : Descriptor) (r : Result KeyedMachine AllocError) (c : Cell) → HasImages images path c
-      → get nat_cmp c.broods ticket ≡ Some b → b.young ≡ Some young → IfOk r (λ v. v ≡ woken seed young.key)
+  pub woken-at : (ticket index : ℕ) (b : Brood) (image : ForkImage) (seed : Descriptor) (r : Result KeyedMachine AllocError) (c : Cell) → HasImages images path c
+      → get nat_cmp c.broods ticket ≡ Some b → b.image ≡ Some image → IfOk r (λ v. v ≡ woken seed image.key)
       → IfOk r (λ v. IsImageAt images (child_path path ticket index) v.key)
   unfolding woken
-  woken-at ticket index b young seed (Ok v) c h found is wakes =
+  woken-at ticket index b image seed (Ok v) c h found is wakes =
       let at : IsBroodAt images path ticket b = if-some-is (get nat_cmp c.broods ticket) b (IsBroodAt images path ticket) (sym found) (h.broods ticket) in
-      let number : images path ticket ≡ number_of young.key = subst (λ o. IfSome o (λ (y : Young). images path ticket ≡ number_of y.key)) is at in
+      let number : images path ticket ≡ number_of image.key = subst (λ o. IfSome o (λ (y : ForkImage). images path ticket ≡ number_of y.key)) is at in
       subst (λ (w : KeyedMachine). IsImageAt images (child_path path ticket index) w.key) (sym wakes) (at-child images path ticket index ∙ ap Some number)
-  woken-at ticket index b young seed (Err e) c h found is wakes = tt
+  woken-at ticket index b image seed (Err e) c h found is wakes = tt
 
   -- the cell with another brood for a ticket, and where its machine may wait no more
   pub cell-written : (c : Cell) (broods : BTreeMap ℕ Brood) (ticket : ℕ) (b d : Brood) → get nat_cmp c.broods ticket ≡ Some b
@@ -187,11 +186,11 @@ module _ (images : Images) where
   lent-key lease name v named same h = subst (λ n. IsImageAt images n v.key) (sym named) (subst (IsImageAt images lease.name) (sym same) h)
 
   -- the brood of a CLONE is of the image that is told for it
-  pub unborn-at : (lease : Lent) (litter : Unborn) (ticket : ℕ) (b : Brood) → IsLitterOf lease litter → ticket ≡ litter.ticket → IsBroodOf litter b
-      → IsUnbornAt images litter → IsBroodAt images lease.name ticket b
-  unborn-at lease litter ticket b of same brood at =
-      subst (λ o. IfSome o (λ (y : Young). images lease.name ticket ≡ number_of y.key)) (sym brood.young)
-      (ap (images lease.name) same ∙ ap (λ n. images n litter.ticket) (sym of.name) ∙ at)
+  pub prepared-at : (lease : Lent) (prepared : Prepared) (ticket : ℕ) (b : Brood) → IsPreparedFor lease prepared → ticket ≡ prepared.ticket → IsBroodOf prepared b
+      → IsPreparedAt images prepared → IsBroodAt images lease.name ticket b
+  prepared-at lease prepared ticket b of same brood at =
+      subst (λ o. IfSome o (λ (y : ForkImage). images lease.name ticket ≡ number_of y.key)) (sym brood.image)
+      (ap (images lease.name) same ∙ ap (λ n. images n prepared.ticket) (sym of.name) ∙ at)
 
   pub no-lent : {A : Type 0} (r : Result A AllocError) (P : A → Type 0) → IsErr r → IfOk r P
   no-lent (Ok a) P failed = absurd (cc)
@@ -200,17 +199,17 @@ module _ (images : Images) where
 -- ---- the children of a CLONE
 
 -- the number of their image, if they were made ready
-pub unborn-number : Result Unborn AllocError → ℕ
-unborn-number (Ok litter) = number_of litter.left.key
-unborn-number (Err e) = 0
+pub prepared-number : Result Prepared AllocError → ℕ
+prepared-number (Ok prepared) = number_of prepared.image.key
+prepared-number (Err e) = 0
 
 same-ticket : (call : Option Call) (t u : ℕ) → call ≡ Some (Clone t) → call ≡ Some (Clone u) → t ≡ u
 same-ticket call t u a b = let e : Some (Clone t) ≡ Some (Clone u) = sym a ∙ b in cc
 
-pub fork-unborn : (images : Images) (lease : Lent) (ticket : ℕ) (r : Result Unborn AllocError) → standing_call (vm_of lease) ≡ Some (Clone ticket)
-    → images lease.name ticket ≡ unborn-number r → IfOk r (IsLitterOf lease) → IfOk r (IsUnbornAt images)
-unfolding unborn-number
-fork-unborn images lease ticket (Ok litter) stands at of =
-    ap (images litter.name) (same-ticket (standing_call (vm_of lease)) litter.ticket ticket of.clone stands)
+pub fork-prepared : (images : Images) (lease : Lent) (ticket : ℕ) (r : Result Prepared AllocError) → standing_call (vm_of lease) ≡ Some (Clone ticket)
+    → images lease.name ticket ≡ prepared-number r → IfOk r (IsPreparedFor lease) → IfOk r (IsPreparedAt images)
+unfolding prepared-number
+fork-prepared images lease ticket (Ok prepared) stands at of =
+    ap (images prepared.name) (same-ticket (standing_call (vm_of lease)) prepared.ticket ticket of.clone stands)
     ∙ ap (λ n. images n ticket) of.name ∙ at
-fork-unborn images lease ticket (Err e) stands at of = tt
+fork-prepared images lease ticket (Err e) stands at of = tt

@@ -1,5 +1,6 @@
 -- A machine that has ended leaves its world.
-use Rattle.std.proofs.Common.{◌≡◌, ◌≢◌, ◌⊎◌, ◌&&◌, Bool, true, false, not, cond, refl, sym, ap, ap₂, ◌∙◌, subst, inl, inr, List, [], ◌∷◌, ◌++◌, append_assoc, Option, Some, None, is_some, option_and_then, option_map}
+use Rattle.std.proofs.Common.{◌≡◌, ◌≢◌, ◌⊎◌, ◌&&◌, Bool, true, false, not, cond, refl, sym, ap, ap₂, ◌∙◌, subst, inl, inr, List, [], ◌∷◌, ◌++◌}
+use Rattle.std.proofs.Common.{append_assoc, Option, Some, None, is_some, option_and_then, option_map}
 use Rattle.std.specs.Option.{IfSome}
 use Rattle.std.specs.BTreeMap.{BTreeMap, UpdatesBy, WritesThrough, btree_map_len, get, is_at}
 use Rattle.std.specs.List.{filter}
@@ -21,7 +22,8 @@ use Rattle.machine_names.specs.NameOrder.{path_cmp}
 use Rattle.machine_names.proofs.NameMaps.{updated-here, updated-apart, yes-same}
 use Rattle.world_core.specs.declared.cell.Cell.{Cell}
 use Rattle.world_core.specs.declared.world.World.{World}
-use Rattle.world_core.specs.Waiting.{Waiting, IsListed, IsCovered}
+use Rattle.ready_queue.specs.Ready.{Ready}
+use Rattle.world_core.specs.Listed.{IsListed, IsCovered}
 use Rattle.world_core.specs.Shows.{forest, IsAwake, CellShows, Shows, with_child, child_of}
 use Rattle.world_core.specs.World.{Forest, IsDue, ShowsTree, StandsFor}
 use Rattle.world_core.specs.Between.{HasLeft, IsLeaving, TakesOut, with_tree}
@@ -252,7 +254,7 @@ if-some-is (Some b) a P e h = subst P (sym (some-same a b e)) h
 -- the world once the parent's cell knows of the end
 pub end-child : (depot : Shelves) (w : World) (f : Forest) (parent : Path) (x : Branch) (b : Tree (Spot Paged)) (outcome : Ended)
     → IsLeaving depot w f (parent ++ (x ∷ [])) → HasLeft (parent ++ (x ∷ [])) b outcome → IsSound forest (with_tree (parent ++ (x ∷ [])) b f).tree
-    → (c d : Cell) (cells : BTreeMap Path Cell) (list : List Waiting)
+    → (c d : Cell) (cells : BTreeMap Path Cell) (list : List Ready)
     → Some c ≡ get path_cmp w.cells parent → WritesThrough path_cmp (path_cmp parent) w.cells d cells
     → ((p a : Tree (Spot Paged)) → CellShows depot parent c p → child_of x.ticket x.child p ≡ Some a → IsAwake a
     → CellShows depot parent d (with_child x.ticket x.child b p))

@@ -1,4 +1,3 @@
-pub mod TurnLists
 mod TurnOrder
 pub mod Steps
 pub mod Receiving

@@ -7,21 +7,22 @@ use Rattle.forest_history.specs.World.{is_ready_at, lives_ready, holds, is_ready
 use Rattle.forest_history.proofs.Changes.{at_path-within, at_path-here, at_path-machine}
 use Rattle.forest_history.proofs.Lives.{waits-deep, waits-child}
 use Rattle.forest_model.specs.Paged.{Paged, paged_machines}
-use Rattle.world_core.specs.Waiting.{Waiting, IsListed, IsCovered}
+use Rattle.ready_queue.specs.Ready.{Ready}
+use Rattle.world_core.specs.Listed.{IsListed, IsCovered}
 use Rattle.world_core.specs.Shows.{forest}
 use Rattle.world_core.proofs.Changes.{is_one, Lies, here, below, parent, above, apart, lies, child-there, outside, outside-apart}
 
 -- one more in the list
-pub IsListed-more : (n : Path) (w : Waiting) (list : List Waiting) → IsListed n list → IsListed n (w ∷ list)
+pub IsListed-more : (n : Path) (w : Ready) (list : List Ready) → IsListed n list → IsListed n (w ∷ list)
 unfolding IsListed
 IsListed-more n w list h = inr h
 
-pub IsCovered-more : (n : Path) (w : Waiting) (list : List Waiting) → IsCovered n list → IsCovered n (w ∷ list)
+pub IsCovered-more : (n : Path) (w : Ready) (list : List Ready) → IsCovered n list → IsCovered n (w ∷ list)
 unfolding IsCovered
 IsCovered-more n w list h = inr h
 
 -- a machine that its turn names
-pub IsListed-first : (n : Path) (w : Waiting) (list : List Waiting) → w ≡ record { name = n; children = None } → IsListed n (w ∷ list)
+pub IsListed-first : (n : Path) (w : Ready) (list : List Ready) → w ≡ record { name = n; children = None } → IsListed n (w ∷ list)
 unfolding IsListed
 IsListed-first n w list e = subst (λ v. IsListed n (v ∷ list)) (sym e) (inl refl)
 

@@ -12,21 +12,22 @@ use Rattle.run_report.specs.Report.{Ended as Report}
 use Rattle.world_core.specs.declared.cell.Cell.{Cell}
 use Rattle.world_core.specs.declared.reason.Reason.{Reason}
 use Rattle.world_core.specs.declared.world.World.{World}
-use Rattle.world_core.specs.Waiting.{Waiting, IsListed, Keeps}
+use Rattle.ready_queue.specs.Ready.{Ready}
+use Rattle.world_core.specs.Listed.{IsListed, Keeps}
 use Rattle.world_core.specs.World.{Forest, IsDue, ShowsTree, StandsFor}
 use Rattle.world_core.specs.Between.{IsBetween}
 use Rattle.world_core.specs.Answers.{Goes}
 
-due-reordered : (old new : List Waiting) → Keeps old new → (c : Option Cell) (n : Path) → IsDue c n old → IsDue c n new
+due-reordered : (old new : List Ready) → Keeps old new → (c : Option Cell) (n : Path) → IsDue c n old → IsDue c n new
 due-reordered old new k None n h = k.covered n h
 due-reordered old new k (Some c) n h = k.listed n h
 
-listed-reordered : (old new : List Waiting) → Keeps old new → (o : Option Cell) (n : Path) → IfSome o (λ (c : Cell). c.is_listed ≡ true → IsListed n old)
+listed-reordered : (old new : List Ready) → Keeps old new → (o : Option Cell) (n : Path) → IfSome o (λ (c : Cell). c.is_listed ≡ true → IsListed n old)
     → IfSome o (λ (c : Cell). c.is_listed ≡ true → IsListed n new)
 listed-reordered old new k None n h = tt
 listed-reordered old new k (Some c) n h = λ is. k.listed n (h is)
 
-module _ (depot : Shelves) (w : World) (list : List Waiting) (f : Forest) (k : Keeps w.ready list) where
+module _ (depot : Shelves) (w : World) (list : List Ready) (f : Forest) (k : Keeps w.ready list) where
   shows-reordered : (o : Option Report) (t : Tree (Spot Paged)) → ShowsTree o depot w t → ShowsTree o depot (record w { ready = list }) t
   shows-reordered None t h = record {
     root = h.root;
@@ -35,9 +36,6 @@ module _ (depot : Shelves) (w : World) (list : List Waiting) (f : Forest) (k : K
     listed = λ n. listed-reordered w.ready list k (get path_cmp w.cells n) n (h.listed n);
   }
   shows-reordered (Some outcome) t h = record { ended = h.ended; home = h.home; lines = h.lines; cells = h.cells }
-
-  pub stands-reordered : StandsFor depot w f → StandsFor depot (record w { ready = list }) f
-  stands-reordered h = record { sound = h.sound; halted = h.halted; tree = shows-reordered w.outcome f.tree h.tree }
 
   pub goes-reordered : (row : Row Reason) → Goes depot f row w → Goes depot f row (record w { ready = list })
   goes-reordered row h = record { allowed = h.allowed; after = stands-then h.after }

@@ -1,5 +1,6 @@
 -- A world after a machine has come back, and other changes that leave most of it.
-use Rattle.std.proofs.Common.{◌≡◌, ◌≢◌, Bool, true, false, refl, sym, ap, ◌∙◌, subst, inl, inr, ◌⊎◌, List, [], ◌∷◌, ◌++◌, Option, Some, None, IsSome, is_some, MatchOption, option_and_then, length, length-append, arith, ◌+◌, suc}
+use Rattle.std.proofs.Common.{◌≡◌, ◌≢◌, Bool, true, false, refl, sym, ap, ◌∙◌, subst, inl, inr, ◌⊎◌, List, [], ◌∷◌, ◌++◌, Option, Some, None, IsSome}
+use Rattle.std.proofs.Common.{is_some, MatchOption, option_and_then, length, length-append, arith, ◌+◌, suc}
 use Rattle.std.specs.Option.{IfSome, IsSomeAnd}
 use Rattle.std.specs.declared.alloc.Global.{Global}
 use Rattle.std.specs.declared.boxed.Box.{Box}
@@ -23,7 +24,8 @@ use Rattle.world_core.specs.declared.reason.Reason.{Reason}
 use Rattle.world_core.specs.declared.cell.Cell.{Cell}
 use Rattle.world_core.specs.declared.cell.State.TheVariants.{Home}
 use Rattle.world_core.specs.declared.world.World.{World}
-use Rattle.world_core.specs.Waiting.{Waiting, IsListed, IsCovered}
+use Rattle.ready_queue.specs.Ready.{Ready}
+use Rattle.world_core.specs.Listed.{IsListed, IsCovered}
 use Rattle.world_core.specs.Shows.{forest, IsAwake, HoldsAfter, CellShows, Shows}
 use Rattle.world_core.specs.Lent.{Lent}
 use Rattle.world_core.specs.Answers.{IsOutAs, IsHandedOut}
@@ -119,7 +121,7 @@ root-awake (x ∷ rest) (node s broods log) b h after = record { lives = h.lives
 
 -- a machine that is awake and lives has a cell, and so is due by its own turn
 has-cell : (depot : Shelves) (name : Path) (c : Option Cell) (b : Tree (Spot Paged)) → IsAwake b → Shows depot name c (Some b)
-    → (list : List Waiting) → IsListed name list → IsDue c name list
+    → (list : List Ready) → IsListed name list → IsDue c name list
 has-cell depot name None b awake (inl over) list h = let no : true ≡ false = sym over.0 ∙ awake.lives in absurd (cc)
 has-cell depot name None b awake (inr sleeps) list h = let no : true ≡ false = sym sleeps ∙ awake.awake in absurd (cc)
 has-cell depot name (Some c) b awake shows list h = h
@@ -191,7 +193,7 @@ unfolding subtree
 below-placed place (node s broods log) x rest = refl
 
 pub home-stands : (depot : Shelves) (w : World) (f : Forest) (name : Path) (a : Tree (Spot Paged)) (vm : Box KeyedMachine Global) (cells : BTreeMap Path Cell)
-    (list : List Waiting) (c : Cell) (listed : Bool) → IsBetween depot w f name a → (machine a).machine ≡ paged vm.value → IsOfDepot depot vm.value.key → has_ended forest a ≡ false
+    (list : List Ready) (c : Cell) (listed : Bool) → IsBetween depot w f name a → (machine a).machine ≡ paged vm.value → IsOfDepot depot vm.value.key → has_ended forest a ≡ false
     → IsSound forest (with_tree name (placed home a) f).tree → get path_cmp w.cells name ≡ Some c
     → get path_cmp cells name ≡ Some (record c { state = Home vm; is_listed = listed }) → ((n : Path) → name ≢ n → get path_cmp cells n ≡ get path_cmp w.cells n)
     → IsListed name list → ((n : Path) → IsListed n w.ready → IsListed n list) → ((n : Path) → IsCovered n w.ready → IsCovered n list)
@@ -218,7 +220,7 @@ some-is a None e = absurd (cc)
 some-is a (Some b) e = refl
 
 pub home-written : (depot : Shelves) (w : World) (f : Forest) (name : Path) (a : Tree (Spot Paged)) (vm : Box KeyedMachine Global) (cells : BTreeMap Path Cell)
-    (list : List Waiting) (c : Cell) (listed : Bool) → IsBetween depot w f name a → (machine a).machine ≡ paged vm.value → IsOfDepot depot vm.value.key → has_ended forest a ≡ false
+    (list : List Ready) (c : Cell) (listed : Bool) → IsBetween depot w f name a → (machine a).machine ≡ paged vm.value → IsOfDepot depot vm.value.key → has_ended forest a ≡ false
     → IsSound forest (with_tree name (placed home a) f).tree → Some c ≡ get path_cmp w.cells name
     → WritesThrough path_cmp (path_cmp name) w.cells (record c { state = Home vm; is_listed = listed }) cells
     → IsListed name list → ((n : Path) → IsListed n w.ready → IsListed n list) → ((n : Path) → IsCovered n w.ready → IsCovered n list)

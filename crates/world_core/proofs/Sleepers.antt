@@ -1,5 +1,6 @@
 -- Which children of a machine are still descriptors, and the first of a ticket that is.
-use Rattle.std.proofs.Common.{◌≡◌, ℕ, zero, suc, ◌-◌, ◌≤◌, ◌<◌, ◌&&◌, not, Bool, true, false, ltb, lt-ltb, max, refl, sym, ap, ◌∙◌, subst, arith, inl, inr, List, ◌∷◌, Option, Some, None, MatchOption, slice_get, []}
+use Rattle.std.proofs.Common.{◌≡◌, ℕ, zero, suc, ◌-◌, ◌≤◌, ◌<◌, ◌&&◌, not, Bool, true, false, ltb, lt-ltb, max, refl, sym, ap, ◌∙◌, subst, arith, inl}
+use Rattle.std.proofs.Common.{inr, List, ◌∷◌, Option, Some, None, MatchOption, slice_get, []}
 use Rattle.std.specs.BTreeMap.{BTreeMap, get}
 use Rattle.std.specs.Ordering.{nat_cmp}
 use Rattle.image_depot.specs.Key.{Shelves}
@@ -14,11 +15,11 @@ use Rattle.machine_names.specs.Name.{child_path}
 use Rattle.machine_names.specs.NameOrder.{path_cmp}
 use Rattle.vm_descriptor.specs.declared.descriptor.Descriptor.{Descriptor}
 use Rattle.vm_descriptor.specs.Descriptor.{numbered}
-use Rattle.vm_cell.specs.declared.vm.fork.Brood.{Brood as Young}
+use Rattle.vm_cell.specs.declared.vm.fork.Brood.{Brood as ForkImage}
 use Rattle.world_core.specs.declared.cell.Brood.{Brood}
 use Rattle.world_core.specs.declared.cell.Cell.{Cell}
-use Rattle.world_core.specs.declared.cell.Slot.{Slot}
-use Rattle.world_core.specs.declared.cell.Slot.TheVariants.{Asleep, Awake, Ended}
+use Rattle.world_core.specs.declared.cell.ChildSlot.{ChildSlot}
+use Rattle.world_core.specs.declared.cell.ChildSlot.TheVariants.{Asleep, Awake, Ended}
 use Rattle.world_core.specs.Shows.{forest, SlotShows, SlotsShow, BornShows, CellShows, IsNoCell, Shows, is_asleep_slot, IsNotAsleep, child_of, slot_at}
 use Rattle.world_core.specs.Popped.{ShowsCells, sleeps, IsFirstAsleep}
 use Rattle.world_core.proofs.Awake.{child-below, slot-ended, never-both, awake-there}
@@ -68,7 +69,7 @@ wakes-there None wake = absurd (cc)
 wakes-there (Some a) wake = (a, refl)
 
 -- a tree by its slot
-pub wakes-slot : (path : Path) (key : Key) (seed : Descriptor) (slot : Slot) (a : Tree (Spot Paged)) → SlotShows path key seed slot a
+pub wakes-slot : (path : Path) (key : Key) (seed : Descriptor) (slot : ChildSlot) (a : Tree (Spot Paged)) → SlotShows path key seed slot a
     → wakes (Some a) ≡ is_asleep_slot (Some slot)
 wakes-slot path key seed Asleep a h =
     wakes-yes (has_ended forest a) (waits forest a) (machine a).place h.lives (ap (λ (u : Tree (Spot Paged)). is_asleep_at (machine u).place) h.born)
@@ -95,7 +96,7 @@ module _ (depot : Shelves) (cells : BTreeMap Path Cell) (t : Tree (Spot Paged)) 
           ]
 
 -- what a slot that is asleep or not is of
-slot-sleeps : (path : Path) (ticket : ℕ) (key : Key) (k : ℕ) (seed : Descriptor) (slots : List Slot) (trees : Trees (Spot Paged)) (j : ℕ)
+slot-sleeps : (path : Path) (ticket : ℕ) (key : Key) (k : ℕ) (seed : Descriptor) (slots : List ChildSlot) (trees : Trees (Spot Paged)) (j : ℕ)
     → SlotsShow path ticket key k seed slots trees → slice_get slots j ≡ Some Asleep → wakes (child_at (suc j) trees) ≡ true
 unfolding SlotsShow child_at
 slot-sleeps path ticket key k seed [] no_tree j h there = absurd (cc)
@@ -106,7 +107,7 @@ slot-sleeps path ticket key k seed (slot ∷ slots) (tree t rest) zero h there =
 slot-sleeps path ticket key k seed (slot ∷ slots) (tree t rest) (suc j) h there =
     slot-sleeps path ticket key (suc k) seed slots rest j h.1 there
 
-slot-wakes : (path : Path) (ticket : ℕ) (key : Key) (k : ℕ) (seed : Descriptor) (slots : List Slot) (trees : Trees (Spot Paged)) (j : ℕ)
+slot-wakes : (path : Path) (ticket : ℕ) (key : Key) (k : ℕ) (seed : Descriptor) (slots : List ChildSlot) (trees : Trees (Spot Paged)) (j : ℕ)
     → SlotsShow path ticket key k seed slots trees → IsNotAsleep (slice_get slots j) → wakes (child_at (suc j) trees) ≡ false
 unfolding SlotsShow child_at
 slot-wakes path ticket key k seed [] no_tree j h there = refl
@@ -115,7 +116,7 @@ slot-wakes path ticket key k seed (slot ∷ slots) no_tree j h there = absurd h
 slot-wakes path ticket key k seed (slot ∷ slots) (tree t rest) zero h there =
     wakes-slot (child_path path ticket k) key (numbered k seed) slot t h.0 ∙ by slot there
   where
-    by : (slot : Slot) → IsNotAsleep (Some slot) → is_asleep_slot (Some slot) ≡ false
+    by : (slot : ChildSlot) → IsNotAsleep (Some slot) → is_asleep_slot (Some slot) ≡ false
     by Asleep there = absurd there
     by Awake there = refl
     by (Ended outcome) there = refl
@@ -127,38 +128,38 @@ unfolding child_at
 not-zero no_tree = refl
 not-zero (tree t rest) = refl
 
-born-sleeps : (depot : Shelves) (path : Path) (ticket k : ℕ) (young : Option Young) (slots : List Slot) (trees : Trees (Spot Paged))
-    → BornShows depot path ticket young slots trees → 1 ≤ k → slot_at k slots ≡ Some Asleep → wakes (child_at k trees) ≡ true
+born-sleeps : (depot : Shelves) (path : Path) (ticket k : ℕ) (image : Option ForkImage) (slots : List ChildSlot) (trees : Trees (Spot Paged))
+    → BornShows depot path ticket image slots trees → 1 ≤ k → slot_at k slots ≡ Some Asleep → wakes (child_at k trees) ≡ true
 born-sleeps depot path ticket k None slots trees h one there = absurd (subst IsNotAsleep there (h.2 (k - 1)))
-born-sleeps depot path ticket zero (Some young) slots trees h one there = absurd (omega arith)
-born-sleeps depot path ticket (suc j) (Some young) slots trees h one there =
+born-sleeps depot path ticket zero (Some image) slots trees h one there = absurd (omega arith)
+born-sleeps depot path ticket (suc j) (Some image) slots trees h one there =
     let same : suc j - 1 ≡ j = omega arith in
-    slot-sleeps path ticket young.key 1 young.seed slots trees j h.1 (ap (slice_get slots) (sym same) ∙ there)
+    slot-sleeps path ticket image.key 1 image.seed slots trees j h.1 (ap (slice_get slots) (sym same) ∙ there)
 
-shown-wakes : (path : Path) (ticket k : ℕ) (key : Key) (seed : Descriptor) (slots : List Slot) (trees : Trees (Spot Paged))
+shown-wakes : (path : Path) (ticket k : ℕ) (key : Key) (seed : Descriptor) (slots : List ChildSlot) (trees : Trees (Spot Paged))
     → SlotsShow path ticket key 1 seed slots trees → (1 ≤ k → IsNotAsleep (slot_at k slots)) → wakes (child_at k trees) ≡ false
 shown-wakes path ticket zero key seed slots trees h there = not-zero trees
 shown-wakes path ticket (suc j) key seed slots trees h there =
     let same : suc j - 1 ≡ j = omega arith in
     slot-wakes path ticket key 1 seed slots trees j h (subst (λ i. IsNotAsleep (slice_get slots i)) same (there (omega arith)))
 
-born-wakes : (depot : Shelves) (path : Path) (ticket k : ℕ) (young : Option Young) (slots : List Slot) (trees : Trees (Spot Paged))
-    → BornShows depot path ticket young slots trees → (1 ≤ k → IsNotAsleep (slot_at k slots)) → wakes (child_at k trees) ≡ false
+born-wakes : (depot : Shelves) (path : Path) (ticket k : ℕ) (image : Option ForkImage) (slots : List ChildSlot) (trees : Trees (Spot Paged))
+    → BornShows depot path ticket image slots trees → (1 ≤ k → IsNotAsleep (slot_at k slots)) → wakes (child_at k trees) ≡ false
 born-wakes depot path ticket k None slots trees h there = shown-wakes path ticket k h.0 h.1 slots trees h.3 there
-born-wakes depot path ticket k (Some young) slots trees h there = shown-wakes path ticket k young.key young.seed slots trees h.1 there
+born-wakes depot path ticket k (Some image) slots trees h there = shown-wakes path ticket k image.key image.seed slots trees h.1 there
 
 -- a child's slot tells whether it is still a descriptor
-born-slot : (depot : Shelves) (path : Path) (ticket k : ℕ) (young : Option Young) (slots : List Slot) (trees : Trees (Spot Paged))
-    → BornShows depot path ticket young slots trees → ltb 0 k && is_asleep_slot (slot_at k slots) ≡ wakes (child_at k trees)
-born-slot depot path ticket zero young slots trees h = sym (not-zero trees)
-born-slot depot path ticket (suc j) young slots trees h =
+born-slot : (depot : Shelves) (path : Path) (ticket k : ℕ) (image : Option ForkImage) (slots : List ChildSlot) (trees : Trees (Spot Paged))
+    → BornShows depot path ticket image slots trees → ltb 0 k && is_asleep_slot (slot_at k slots) ≡ wakes (child_at k trees)
+born-slot depot path ticket zero image slots trees h = sym (not-zero trees)
+born-slot depot path ticket (suc j) image slots trees h =
     ap (λ first. first && is_asleep_slot (slot_at (suc j) slots)) (lt-ltb 0 (suc j) (omega arith)) ∙ by (slot_at (suc j) slots) refl
   where
-    by : (o : Option Slot) → slot_at (suc j) slots ≡ o → is_asleep_slot (slot_at (suc j) slots) ≡ wakes (child_at (suc j) trees)
-    by None e = ap is_asleep_slot e ∙ sym (born-wakes depot path ticket (suc j) young slots trees h (λ one. subst IsNotAsleep (sym e) tt))
-    by (Some Asleep) e = ap is_asleep_slot e ∙ sym (born-sleeps depot path ticket (suc j) young slots trees h (omega arith) e)
-    by (Some Awake) e = ap is_asleep_slot e ∙ sym (born-wakes depot path ticket (suc j) young slots trees h (λ one. subst IsNotAsleep (sym e) tt))
-    by (Some (Ended outcome)) e = ap is_asleep_slot e ∙ sym (born-wakes depot path ticket (suc j) young slots trees h (λ one. subst IsNotAsleep (sym e) tt))
+    by : (o : Option ChildSlot) → slot_at (suc j) slots ≡ o → is_asleep_slot (slot_at (suc j) slots) ≡ wakes (child_at (suc j) trees)
+    by None e = ap is_asleep_slot e ∙ sym (born-wakes depot path ticket (suc j) image slots trees h (λ one. subst IsNotAsleep (sym e) tt))
+    by (Some Asleep) e = ap is_asleep_slot e ∙ sym (born-sleeps depot path ticket (suc j) image slots trees h (omega arith) e)
+    by (Some Awake) e = ap is_asleep_slot e ∙ sym (born-wakes depot path ticket (suc j) image slots trees h (λ one. subst IsNotAsleep (sym e) tt))
+    by (Some (Ended outcome)) e = ap is_asleep_slot e ∙ sym (born-wakes depot path ticket (suc j) image slots trees h (λ one. subst IsNotAsleep (sym e) tt))
 
 -- the cell, where there is one, shows the machine of its name
 pub cell-shows : (depot : Shelves) (path : Path) (c : Option Cell) (cell : Cell) (u : Option (Tree (Spot Paged))) → c ≡ Some cell → Shows depot path c u
@@ -183,7 +184,7 @@ module _ (depot : Shelves) (cells : BTreeMap Path Cell) (t : Tree (Spot Paged)) 
       → ltb 0 first && is_asleep_slot (slot_at first b.slots.items) ≡ sleeps parent ticket first t
   sleeps-slot c b some held =
       let shown = cell-shows depot parent (get path_cmp cells parent) c (subtree parent t) some (h.shows parent) in
-      born-slot depot parent ticket first b.young b.slots.items (brood_of ticket (broods_of shown.0))
+      born-slot depot parent ticket first b.image b.slots.items (brood_of ticket (broods_of shown.0))
       (one-held depot parent c shown.0 shown.2.holds ticket b held).born
       ∙ sym (sleeps-by parent ticket first t shown.0 shown.1)
 
@@ -197,8 +198,8 @@ module _ (depot : Shelves) (cells : BTreeMap Path Cell) (t : Tree (Spot Paged)) 
       let born = (one-held depot parent c shown.0 shown.2.holds ticket b held).born in
       by r found
       (λ k. sleeps-by parent ticket k t shown.0 shown.1)
-      (λ k one there. born-sleeps depot parent ticket k b.young b.slots.items trees born one there)
-      (λ k there. born-wakes depot parent ticket k b.young b.slots.items trees born there)
+      (λ k one there. born-sleeps depot parent ticket k b.image b.slots.items trees born one there)
+      (λ k there. born-wakes depot parent ticket k b.image b.slots.items trees born there)
     where
       by : {W : ℕ → Bool} (r : Option ℕ)
           → MatchOption r ((k : ℕ) → from ≤ k → IsNotAsleep (slot_at k b.slots.items))

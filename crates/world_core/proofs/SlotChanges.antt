@@ -20,12 +20,12 @@ use Rattle.std.specs.Prelude.{Result, Ok, Err}
 use Rattle.std.specs.declared.alloc.AllocError.{AllocError}
 use Rattle.vm_cell.specs.Keyed.{KeyedMachine, IsOfDepot, paged}
 use Rattle.vm_cell.specs.Woken.{woken}
-use Rattle.vm_cell.specs.declared.vm.fork.Brood.{Brood as Young}
+use Rattle.vm_cell.specs.declared.vm.fork.Brood.{Brood as ForkImage}
 use Rattle.machine_names.specs.Name.{child_path}
 use Rattle.world_core.specs.declared.cell.Brood.{Brood}
 use Rattle.world_core.specs.declared.cell.Cell.{Cell}
-use Rattle.world_core.specs.declared.cell.Slot.{Slot}
-use Rattle.world_core.specs.declared.cell.Slot.TheVariants.{Asleep, Awake, Ended}
+use Rattle.world_core.specs.declared.cell.ChildSlot.{ChildSlot}
+use Rattle.world_core.specs.declared.cell.ChildSlot.TheVariants.{Asleep, Awake, Ended}
 use Rattle.world_core.specs.Shows.{forest, Sleeps, SlotShows, SlotsShow, IsNotAsleep, AreAwake, BornShows, IsTallied, TallyAt, Holds, child_of, slot_at}
 use Rattle.world_core.proofs.Slots.{HasSlot, slot-of, not-first}
 use Rattle.world_core.proofs.SlotWaits.{none-held, one-held}
@@ -38,48 +38,48 @@ no-brood-no-child depot path c t a ticket index h found none =
     let gone : child_of ticket index t ≡ None = ap (child_at index) (none-held depot path c t h ticket none) in cc
 
 -- the slot of child `index`
-pub record IsChildSlot (depot : Shelves) (path : Path) (ticket index : ℕ) (young : Young) (slots : List Slot) (a : Tree (Spot Paged)) : Type 0 where
+pub record IsChildSlot (depot : Shelves) (path : Path) (ticket index : ℕ) (image : ForkImage) (slots : List ChildSlot) (a : Tree (Spot Paged)) : Type 0 where
   pub first : 1 ≤ index
-  pub key : IsKeyOf depot young.key
-  pub has : HasSlot path ticket young.key 1 (index - 1) young.seed slots a
+  pub key : IsKeyOf depot image.key
+  pub has : HasSlot path ticket image.key 1 (index - 1) image.seed slots a
 
-slot-at : (path : Path) (ticket index : ℕ) (key : Key) (seed : Descriptor) (slots : List Slot) (trees : Trees (Spot Paged)) (a : Tree (Spot Paged))
+slot-at : (path : Path) (ticket index : ℕ) (key : Key) (seed : Descriptor) (slots : List ChildSlot) (trees : Trees (Spot Paged)) (a : Tree (Spot Paged))
     → SlotsShow path ticket key 1 seed slots trees → child_at index trees ≡ Some a
     → (1 ≤ index) × HasSlot path ticket key 1 (index - 1) seed slots a
 slot-at path ticket zero key seed slots trees a h found = absurd (not-first trees a found)
 slot-at path ticket (suc j) key seed slots trees a h found =
     (omega arith, subst (λ i. HasSlot path ticket key 1 i seed slots a) (omega arith) (slot-of path ticket key 1 seed slots trees j a h found))
 
-child-slot-by : (depot : Shelves) (path : Path) (ticket index : ℕ) (born : Option Young) (young : Young) (slots : List Slot) (trees : Trees (Spot Paged))
-    (a : Tree (Spot Paged)) → BornShows depot path ticket born slots trees → born ≡ Some young → child_at index trees ≡ Some a
-    → IsChildSlot depot path ticket index young slots a
-child-slot-by depot path ticket index born young slots trees a h is found =
-    let shown : BornShows depot path ticket (Some young) slots trees = subst (λ y. BornShows depot path ticket y slots trees) is h in
-    let at = slot-at path ticket index young.key young.seed slots trees a shown.1 found in
+child-slot-by : (depot : Shelves) (path : Path) (ticket index : ℕ) (born : Option ForkImage) (image : ForkImage) (slots : List ChildSlot) (trees : Trees (Spot Paged))
+    (a : Tree (Spot Paged)) → BornShows depot path ticket born slots trees → born ≡ Some image → child_at index trees ≡ Some a
+    → IsChildSlot depot path ticket index image slots a
+child-slot-by depot path ticket index born image slots trees a h is found =
+    let shown : BornShows depot path ticket (Some image) slots trees = subst (λ y. BornShows depot path ticket y slots trees) is h in
+    let at = slot-at path ticket index image.key image.seed slots trees a shown.1 found in
     record { first = at.0; key = shown.0; has = at.1 }
 
-pub child-slot : (depot : Shelves) (path : Path) (c : Cell) (t a : Tree (Spot Paged)) (ticket index : ℕ) (b : Brood) (young : Young) → Holds depot path c t
-    → child_of ticket index t ≡ Some a → get nat_cmp c.broods ticket ≡ Some b → b.young ≡ Some young
-    → IsChildSlot depot path ticket index young b.slots.items a
-child-slot depot path c t a ticket index b young h found some is =
-    child-slot-by depot path ticket index b.young young b.slots.items (brood_of ticket (broods_of t)) a (one-held depot path c t h ticket b some).born is found
+pub child-slot : (depot : Shelves) (path : Path) (c : Cell) (t a : Tree (Spot Paged)) (ticket index : ℕ) (b : Brood) (image : ForkImage) → Holds depot path c t
+    → child_of ticket index t ≡ Some a → get nat_cmp c.broods ticket ≡ Some b → b.image ≡ Some image
+    → IsChildSlot depot path ticket index image b.slots.items a
+child-slot depot path c t a ticket index b image h found some is =
+    child-slot-by depot path ticket index b.image image b.slots.items (brood_of ticket (broods_of t)) a (one-held depot path c t h ticket b some).born is found
 
 -- the place of a child among the slots
-place-shown : (path : Path) (ticket index : ℕ) (key : Key) (seed : Descriptor) (slots : List Slot) (trees : Trees (Spot Paged)) (a : Tree (Spot Paged))
+place-shown : (path : Path) (ticket index : ℕ) (key : Key) (seed : Descriptor) (slots : List ChildSlot) (trees : Trees (Spot Paged)) (a : Tree (Spot Paged))
     → SlotsShow path ticket key 1 seed slots trees → child_at index trees ≡ Some a → (1 ≤ index) × (index - 1 < length slots)
 place-shown path ticket index key seed slots trees a h found =
     let at = slot-at path ticket index key seed slots trees a h found in
     (at.0, slice_get_within slots (index - 1) at.1.slot at.1.slot_at)
 
-place-by : (depot : Shelves) (path : Path) (ticket index : ℕ) (born : Option Young) (slots : List Slot) (trees : Trees (Spot Paged)) (a : Tree (Spot Paged))
+place-by : (depot : Shelves) (path : Path) (ticket index : ℕ) (born : Option ForkImage) (slots : List ChildSlot) (trees : Trees (Spot Paged)) (a : Tree (Spot Paged))
     → BornShows depot path ticket born slots trees → child_at index trees ≡ Some a → (1 ≤ index) × (index - 1 < length slots)
 place-by depot path ticket index None slots trees a h found = place-shown path ticket index h.0 h.1 slots trees a h.3 found
-place-by depot path ticket index (Some young) slots trees a h found = place-shown path ticket index young.key young.seed slots trees a h.1 found
+place-by depot path ticket index (Some image) slots trees a h found = place-shown path ticket index image.key image.seed slots trees a h.1 found
 
 pub child-place : (depot : Shelves) (path : Path) (c : Cell) (t a : Tree (Spot Paged)) (ticket index : ℕ) (b : Brood) → Holds depot path c t
     → child_of ticket index t ≡ Some a → get nat_cmp c.broods ticket ≡ Some b → (1 ≤ index) × (index - 1 < vec_len b.slots)
 child-place depot path c t a ticket index b h found some =
-    let at = place-by depot path ticket index b.young b.slots.items (brood_of ticket (broods_of t)) a (one-held depot path c t h ticket b some).born found in
+    let at = place-by depot path ticket index b.image b.slots.items (brood_of ticket (broods_of t)) a (one-held depot path c t h ticket b some).born found in
     (at.0, subst (λ n. index - 1 < n) (sym b.slots.ok.0) at.1)
 
 -- a brood has no more slots than a ticket may have children
@@ -95,7 +95,7 @@ few-slots depot path c t ticket b h some =
     (subst (λ o. TallyAt path count o (is_cloned forest (machine t) ticket)) some (h.tallies.broods ticket))).few
 
 -- the seed of a child that is still a descriptor
-sleeps-by : (path : Path) (key : Key) (seed : Descriptor) (slot : Slot) (a : Tree (Spot Paged)) → SlotShows path key seed slot a
+sleeps-by : (path : Path) (key : Key) (seed : Descriptor) (slot : ChildSlot) (a : Tree (Spot Paged)) → SlotShows path key seed slot a
     → is_asleep_at (machine a).place ≡ true → has_ended forest a ≡ false → Sleeps key seed a
 unfolding spots paged_machines machines
 sleeps-by path key seed Asleep a h asleep lives = h
@@ -103,13 +103,13 @@ sleeps-by path key seed Awake a h asleep lives = let no : true ≡ false = sym a
 sleeps-by path key seed (Ended outcome) a h asleep lives = let no : true ≡ false = sym (ap is_some h.0) ∙ lives in absurd (cc)
 
 -- no slot from the first on is of a descriptor
-pub all-awake : (slots : List Slot) (P : ℕ → Type 0) (r : Option ℕ) → is_some r ≡ false
+pub all-awake : (slots : List ChildSlot) (P : ℕ → Type 0) (r : Option ℕ) → is_some r ≡ false
     → MatchOption r ((k : ℕ) → 1 ≤ k → IsNotAsleep (slot_at k slots)) P → AreAwake slots
 all-awake slots P None none h k = subst (λ i. IsNotAsleep (slice_get slots i)) (omega arith) (h (suc k) (omega arith))
 all-awake slots P (Some index) none h k = let no : true ≡ false = none in absurd (cc)
 
 -- where nothing is left for the children, none of them is a descriptor
-never-awake : (path : Path) (key : Key) (seed : Descriptor) (slot : Slot) (a : Tree (Spot Paged)) → SlotShows path key seed slot a → IsNotAsleep (Some slot)
+never-awake : (path : Path) (key : Key) (seed : Descriptor) (slot : ChildSlot) (a : Tree (Spot Paged)) → SlotShows path key seed slot a → IsNotAsleep (Some slot)
     → is_asleep_at (machine a).place ≡ true → has_ended forest a ≡ false → ⊥
 unfolding spots paged_machines machines
 never-awake path key seed Asleep a h awake asleep lives = awake
@@ -118,7 +118,7 @@ never-awake path key seed (Ended outcome) a h awake asleep lives = let no : true
 
 pub none-left : (depot : Shelves) (path : Path) (c : Cell) (t a : Tree (Spot Paged)) (ticket index : ℕ) (b : Brood) → Holds depot path c t
     → child_of ticket index t ≡ Some a → is_asleep_at (machine a).place ≡ true → has_ended forest a ≡ false → get nat_cmp c.broods ticket ≡ Some b
-    → b.young ≡ None → ⊥
+    → b.image ≡ None → ⊥
 none-left depot path c t a ticket index b h found asleep lives some none =
     let trees : Trees (Spot Paged) = brood_of ticket (broods_of t) in
     let shown = subst (λ y. BornShows depot path ticket y b.slots.items trees) none (one-held depot path c t h ticket b some).born in
@@ -126,33 +126,33 @@ none-left depot path c t a ticket index b h found asleep lives some none =
     never-awake (child_path path ticket (1 + (index - 1))) shown.0 (numbered (1 + (index - 1)) shown.1) at.1.slot a at.1.shows
     (subst IsNotAsleep at.1.slot_at (shown.2 (index - 1))) asleep lives
 
-pub record IsSleepersSeed (depot : Shelves) (index : ℕ) (young : Young) (a : Tree (Spot Paged)) : Type 0 where
+pub record IsSleepersSeed (depot : Shelves) (index : ℕ) (image : ForkImage) (a : Tree (Spot Paged)) : Type 0 where
   pub first : 1 ≤ index
-  pub key : IsKeyOf depot young.key
-  pub sleeps : Sleeps young.key (numbered index young.seed) a
+  pub key : IsKeyOf depot image.key
+  pub sleeps : Sleeps image.key (numbered index image.seed) a
 
-pub sleepers-seed : (depot : Shelves) (path : Path) (c : Cell) (t a : Tree (Spot Paged)) (ticket index : ℕ) (b : Brood) (young : Young) → Holds depot path c t
+pub sleepers-seed : (depot : Shelves) (path : Path) (c : Cell) (t a : Tree (Spot Paged)) (ticket index : ℕ) (b : Brood) (image : ForkImage) → Holds depot path c t
     → child_of ticket index t ≡ Some a → is_asleep_at (machine a).place ≡ true → has_ended forest a ≡ false → get nat_cmp c.broods ticket ≡ Some b
-    → b.young ≡ Some young → IsSleepersSeed depot index young a
-sleepers-seed depot path c t a ticket index b young h found asleep lives some is =
-    let at = child-slot depot path c t a ticket index b young h found some is in
+    → b.image ≡ Some image → IsSleepersSeed depot index image a
+sleepers-seed depot path c t a ticket index b image h found asleep lives some is =
+    let at = child-slot depot path c t a ticket index b image h found some is in
     let first : 1 ≤ index = at.first in
     let same : 1 + (index - 1) ≡ index = omega arith in
     record {
       first = at.first;
       key = at.key;
-      sleeps = subst (λ n. Sleeps young.key (numbered n young.seed) a) same
-          (sleeps-by (child_path path ticket (1 + (index - 1))) young.key (numbered (1 + (index - 1)) young.seed) at.has.slot a at.has.shows asleep lives);
+      sleeps = subst (λ n. Sleeps image.key (numbered n image.seed) a) same
+          (sleeps-by (child_path path ticket (1 + (index - 1))) image.key (numbered (1 + (index - 1)) image.seed) at.has.slot a at.has.shows asleep lives);
     }
 
 -- the machine that the seed wakes to, by its number
-pub wakes-to : (depot : Shelves) (index : ℕ) (young : Young) (a : Tree (Spot Paged)) (seed : Descriptor) (r : Result KeyedMachine AllocError)
-    → IsSleepersSeed depot index young a → seed ≡ numbered index young.seed → IfOk r (λ v. v ≡ woken seed young.key)
+pub wakes-to : (depot : Shelves) (index : ℕ) (image : ForkImage) (a : Tree (Spot Paged)) (seed : Descriptor) (r : Result KeyedMachine AllocError)
+    → IsSleepersSeed depot index image a → seed ≡ numbered index image.seed → IfOk r (λ v. v ≡ woken seed image.key)
     → IfOk r (λ v. (paged v ≡ (machine a).machine) × IsOfDepot depot v.key)
 unfolding woken
-wakes-to depot index young a seed (Ok v) h is wakes = (
-  ap paged wakes ∙ ap (λ d. paged (woken d young.key)) is
+wakes-to depot index image a seed (Ok v) h is wakes = (
+  ap paged wakes ∙ ap (λ d. paged (woken d image.key)) is
       ∙ sym (ap (λ (u : Tree (Spot Paged)). (machine u).machine) h.sleeps.born),
-  subst (λ (w : KeyedMachine). IsOfDepot depot w.key) (sym wakes) (λ key is_key. subst (IsKeyOf depot) (some-same young.key key is_key) h.key),
+  subst (λ (w : KeyedMachine). IsOfDepot depot w.key) (sym wakes) (λ key is_key. subst (IsKeyOf depot) (some-same image.key key is_key) h.key),
 )
-wakes-to depot index young a seed (Err e) h is wakes = tt
+wakes-to depot index image a seed (Err e) h is wakes = tt

@@ -1,5 +1,6 @@
 -- A cell once a child of its machine has woken or ended.
-use Rattle.std.proofs.Common.{◌≡◌, ℕ, ◌+◌, ◌-◌, ◌≤◌, ◌⊎◌, inl, inr, ◌&&◌, not, Bool, true, false, cond, eqb, eqb-true, eq-eqb, Option, Some, IsSome, is_some, refl, sym, ap, ◌∙◌, subst, slice_set, arith}
+use Rattle.std.proofs.Common.{◌≡◌, ℕ, ◌+◌, ◌-◌, ◌≤◌, ◌⊎◌, inl, inr, ◌&&◌, not, Bool, true, false, cond, eqb, eqb-true, eq-eqb, Option, Some, IsSome}
+use Rattle.std.proofs.Common.{is_some, refl, sym, ap, ◌∙◌, subst, slice_set, arith}
 use Rattle.std.proofs.lemmas.Bool.{eqb-false, ne_eqb}
 use Rattle.std.specs.Ordering.{nat_cmp}
 use Rattle.std.specs.BTreeMap.{BTreeMap, get, WritesThrough}
@@ -16,12 +17,12 @@ use Rattle.forest_model.specs.Paged.{Paged, paged_machines}
 use Rattle.machine_names.specs.Name.{child_path}
 use Rattle.run_report.specs.Lines.{lines}
 use Rattle.run_report.specs.Report.{Ended as Line, lines_of}
-use Rattle.vm_cell.specs.declared.vm.fork.Brood.{Brood as Young}
+use Rattle.vm_cell.specs.declared.vm.fork.Brood.{Brood as ForkImage}
 use Rattle.world_core.specs.declared.cell.Brood.{Brood}
 use Rattle.world_core.specs.declared.cell.Cell.{Cell}
 use Rattle.world_core.specs.declared.cell.State.{State}
 use Rattle.world_core.specs.declared.cell.State.TheVariants.{Home, Parked, Out}
-use Rattle.world_core.specs.declared.cell.Slot.TheVariants.{Awake, Ended}
+use Rattle.world_core.specs.declared.cell.ChildSlot.TheVariants.{Awake, Ended}
 use Rattle.world_core.specs.Shows.{forest, told_spot, IsAwake, IsLeft, StateShows, IsStateOf, Holds, CellShows, child_of, with_child}
 use Rattle.world_core.specs.Unparked.{unparked, is_parked_for}
 use Rattle.world_core.proofs.SlotPlaces.{awake-placed, both, ready-home}
@@ -30,19 +31,19 @@ use Rattle.world_core.proofs.SlotSteps.{brood_with, written, holds-with}
 use Rattle.world_core.proofs.AtPlaces.{lives-placed}
 
 -- a child has a cell of its own from now on
-pub wakes-shows : (depot : Shelves) (path : Path) (ticket index : ℕ) (c : Cell) (broods : BTreeMap ℕ Brood) (old : Brood) (young : Option Young) (t a : Tree (Spot Paged))
+pub wakes-shows : (depot : Shelves) (path : Path) (ticket index : ℕ) (c : Cell) (broods : BTreeMap ℕ Brood) (old : Brood) (image : Option ForkImage) (t a : Tree (Spot Paged))
     → CellShows depot path c t → child_of ticket index t ≡ Some a → has_ended forest a ≡ false → get nat_cmp c.broods ticket ≡ Some old
-    → WritesThrough nat_cmp (nat_cmp ticket) c.broods (brood_with old young index Awake old.live) broods
-    → IsLeft old.young (slice_set old.slots.items (index - 1) Awake) young
+    → WritesThrough nat_cmp (nat_cmp ticket) c.broods (brood_with old image index Awake old.live) broods
+    → IsLeft old.image (slice_set old.slots.items (index - 1) Awake) image
     → CellShows depot path (record c { broods = broods }) (with_child ticket index (placed out a) t)
-wakes-shows depot path ticket index c broods old young (node s trees log) a h found lives some w left =
+wakes-shows depot path ticket index c broods old image (node s trees log) a h found lives some w left =
     let still : has_ended forest (placed out a) ≡ false = lives-placed out a ∙ lives in record {
       awake = record { lives = h.awake.lives; awake = h.awake.awake };
       state = subst (StateShows path c.state s) (sym (waits-still ticket index a (placed out a) trees found lives (forest.call s) still)) h.state;
       of_depot = h.of_depot;
-      holds = holds-with depot path ticket index a (placed out a) Awake tt (λ key seed. awake-placed out refl a lives) c broods old young old.live
+      holds = holds-with depot path ticket index a (placed out a) Awake tt (λ key seed. awake-placed out refl a lives) c broods old image old.live
           (node s trees log) h.holds found some
-          (written c.broods broods ticket (brood_with old young index Awake old.live) w (subst IsSome (sym some) refl))
+          (written c.broods broods ticket (brood_with old image index Awake old.live) w (subst IsSome (sym some) refl))
           (ap (λ ended. old.live + cond ended 0 1) (sym (lives-placed out a))) left;
     }
 
@@ -92,7 +93,7 @@ module _ (path : Path) (ticket index : ℕ) (s : Spot Paged) (before : Broods (S
   state-kept : (state : State) → 1 ≤ left → StateShows path state s waited → StateShows path state s waiting
   unfolding spots
   state-kept (Home vm) some h = (h.0, home-kept h.1)
-  state-kept (Parked u vm turn) some h = (h.0, h.1, still-by u (eqb ticket u) refl some h.3 h.2, h.3, h.4, h.5)
+  state-kept (Parked u vm turn) some h = (h.0, h.1, still-by u (eqb ticket u) refl some h.3 h.2, h.3, h.4)
   state-kept (Out start) some h = h
 
   -- no child lives
@@ -106,7 +107,7 @@ module _ (path : Path) (ticket index : ℕ) (s : Spot Paged) (before : Broods (S
       by true e =
           (h.0, inr (h.1, waits-here ticket index a b before found lives (forest.call s) u h.3 (swap-true ticket u e) ∙ ap (λ n. not (eqb n 0)) none))
       by false e =
-          (h.0, h.1, waits-elsewhere ticket index a b before found lives (forest.call s) u h.3 (swap-false ticket u e) ∙ h.2, h.3, h.4, h.5)
+          (h.0, h.1, waits-elsewhere ticket index a b before found lives (forest.call s) u h.3 (swap-false ticket u e) ∙ h.2, h.3, h.4)
   state-unparked (Out start) none h = h
 
   -- what is ready then was ready, or waited for this ticket
@@ -166,11 +167,11 @@ module _ (depot : Shelves) (path : Path) (ticket index : ℕ) (c : Cell) (old : 
       one-child forest (λ a. b) index (brood_of ticket (broods_of t)) a found in
       omega (arith, one-before, none-after, (one-held depot path c t h.holds ticket old some).live)
 
-  holds-ended : (broods : BTreeMap ℕ Brood) → WritesThrough nat_cmp (nat_cmp ticket) c.broods (brood_with old old.young index (Ended outcome) (old.live - 1)) broods
+  holds-ended : (broods : BTreeMap ℕ Brood) → WritesThrough nat_cmp (nat_cmp ticket) c.broods (brood_with old old.image index (Ended outcome) (old.live - 1)) broods
       → lines_of outcome ≡ lines told_spot (child_path path ticket index) b → Holds depot path (record c { broods = broods }) (with_child ticket index b t)
   holds-ended broods w said =
-      holds-with depot path ticket index a b (Ended outcome) tt (λ key seed. (told, said)) c broods old old.young (old.live - 1) t h.holds found some
-      (written c.broods broods ticket (brood_with old old.young index (Ended outcome) (old.live - 1)) w (subst IsSome (sym some) refl))
+      holds-with depot path ticket index a b (Ended outcome) tt (λ key seed. (told, said)) c broods old old.image (old.live - 1) t h.holds found some
+      (written c.broods broods ticket (brood_with old old.image index (Ended outcome) (old.live - 1)) w (subst IsSome (sym some) refl))
       (omega (arith, one-before, none-after, some-live depot path ticket index c old t a h.holds found is some)) (inl refl)
 
 abbrev live_then : ℕ → ℕ → Tree (Spot Paged) → Tree (Spot Paged) → ℕ
@@ -206,7 +207,7 @@ pub ended-shows : (depot : Shelves) (path : Path) (ticket index : ℕ) (c : Cell
     (t a b : Tree (Spot Paged)) → CellShows depot path c t → child_of ticket index t ≡ Some a → IsAwake a
     → told_spot.ending (machine b) ≡ Some outcome.ending → lines_of outcome ≡ lines told_spot (child_path path ticket index) b
     → get nat_cmp c.broods ticket ≡ Some old
-    → WritesThrough nat_cmp (nat_cmp ticket) c.broods (brood_with old old.young index (Ended outcome) (old.live - 1)) broods → 1 ≤ old.live - 1
+    → WritesThrough nat_cmp (nat_cmp ticket) c.broods (brood_with old old.image index (Ended outcome) (old.live - 1)) broods → 1 ≤ old.live - 1
     → CellShows depot path (record c { broods = broods }) (with_child ticket index b t)
 ended-shows depot path ticket index c broods old outcome t a b h found is told said some w more = record {
   awake = awake-with ticket index b t h.awake;
@@ -231,7 +232,7 @@ pub ended-unparks : (depot : Shelves) (path : Path) (ticket index : ℕ) (c d : 
     (t a b : Tree (Spot Paged)) → CellShows depot path c t → child_of ticket index t ≡ Some a → IsAwake a
     → told_spot.ending (machine b) ≡ Some outcome.ending → lines_of outcome ≡ lines told_spot (child_path path ticket index) b
     → get nat_cmp c.broods ticket ≡ Some old
-    → WritesThrough nat_cmp (nat_cmp ticket) c.broods (brood_with old old.young index (Ended outcome) (old.live - 1)) broods → old.live - 1 ≡ 0
+    → WritesThrough nat_cmp (nat_cmp ticket) c.broods (brood_with old old.image index (Ended outcome) (old.live - 1)) broods → old.live - 1 ≡ 0
     → d.state ≡ unparked ticket c.state → d.broods ≡ broods → d.log ≡ c.log → CellShows depot path d (with_child ticket index b t)
 ended-unparks depot path ticket index c d broods old outcome t a b h found is told said some w none state same_broods same_log = record {
   awake = awake-with ticket index b t h.awake;

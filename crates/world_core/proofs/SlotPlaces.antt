@@ -13,7 +13,7 @@ use Rattle.std.specs.declared.snapshot.Snapshot.{Snapshot}
 use Rattle.world_core.specs.declared.cell.Cell.{Cell}
 use Rattle.world_core.specs.declared.cell.State.{State}
 use Rattle.world_core.specs.declared.cell.State.TheVariants.{Home, Parked, Out}
-use Rattle.world_core.specs.declared.turns.Turn.{Turn}
+use Rattle.ready_queue.specs.Ready.{Ready}
 use Rattle.vm_cell.specs.Keyed.{KeyedMachine, IsOfDepot, paged}
 use Rattle.world_core.specs.Shows.{forest, IsAwake, StateShows, IsStateOf, CellShows}
 use Rattle.world_core.proofs.AtPlaces.{holds-placed, lives-placed}
@@ -61,10 +61,11 @@ lends-home depot path c vm back start new t at_home same is after h =
       ready.1,
       ap (λ b. paged b.value) one ∙ ready.0,
       subst (IsStateOf depot) (sym same) h.of_depot,
-      subst (λ s. CellShows depot path (record c { state = s }) (placed out t)) (sym after) (out-shows depot path c start t (ap (λ (v : KeyedMachine). v.machine) is ∙ ap (λ (p : Paged). p.machine) ready.0) h),
+      subst (λ s. CellShows depot path (record c { state = s }) (placed out t)) (sym after)
+          (out-shows depot path c start t (ap (λ (v : KeyedMachine). v.machine) is ∙ ap (λ (p : Paged). p.machine) ready.0) h),
     )
 
-pub lends-parked : (depot : Shelves) (path : Path) (c : Cell) (ticket other : ℕ) (vm back : Box KeyedMachine Global) (turn kept : Box Turn Global) (start : Snapshot KeyedMachine)
+pub lends-parked : (depot : Shelves) (path : Path) (c : Cell) (ticket other : ℕ) (vm back : Box KeyedMachine Global) (turn kept : Ready) (start : Snapshot KeyedMachine)
     (new : State) (t : Tree (Spot Paged)) → c.state ≡ Parked ticket vm turn → Parked other back kept ≡ c.state → start.value ≡ vm.value → new ≡ Out start
     → CellShows depot path c t
     → (lives_at_home paged_machines t ≡ true) × (paged back.value ≡ (machine t).machine) × IsOfDepot depot back.value.key × CellShows depot path (record c { state = new }) (placed out t)
@@ -74,11 +75,12 @@ lends-parked depot path c ticket other vm back turn kept start new t waits_home 
       both (has_ended forest t) (is_at_home_at (machine t).place) h.awake.lives (ap is_at_home_at shown.1),
       ap (λ b. paged b.value) one ∙ shown.0,
       subst (IsStateOf depot) (sym same) h.of_depot,
-      subst (λ s. CellShows depot path (record c { state = s }) (placed out t)) (sym after) (out-shows depot path c start t (ap (λ (v : KeyedMachine). v.machine) is ∙ ap (λ (p : Paged). p.machine) shown.0) h),
+      subst (λ s. CellShows depot path (record c { state = s }) (placed out t)) (sym after)
+          (out-shows depot path c start t (ap (λ (v : KeyedMachine). v.machine) is ∙ ap (λ (p : Paged). p.machine) shown.0) h),
     )
 
 -- a machine that is not handed out as one that is ready, nor as one that waits, is not at home
-at-home-by : (path : Path) (c : Cell) (state : State) (t : Tree (Spot Paged)) → ((ticket : ℕ) (vm : Box KeyedMachine Global) (turn : Box Turn Global) → state ≡ Parked ticket vm turn → ⊥)
+at-home-by : (path : Path) (c : Cell) (state : State) (t : Tree (Spot Paged)) → ((ticket : ℕ) (vm : Box KeyedMachine Global) (turn : Ready) → state ≡ Parked ticket vm turn → ⊥)
     → has_ended forest t ≡ false → StateShows path state (machine t) (waits forest t) → lives_ready paged_machines t ≡ false → lives_at_home paged_machines t ≡ false
 at-home-by path c (Home vm) t apart lives shown ready =
     let is : true ≡ false = sym (both (has_ended forest t) (is_ready_at (machine t).place (waits forest t)) lives (ready-home (machine t).place (waits forest t) shown.1)) ∙ ready in
@@ -94,7 +96,7 @@ home-where-ready false is_waiting out h = absurd (cc)
 home-where-ready false is_waiting parked h = refl
 
 pub lends-other : (depot : Shelves) (path : Path) (c new : Cell) (r : Option (Box KeyedMachine Global)) (t : Tree (Spot Paged))
-    → ((ticket : ℕ) (vm : Box KeyedMachine Global) (turn : Box Turn Global) → c.state ≡ Parked ticket vm turn → ⊥) → CellShows depot path c t
+    → ((ticket : ℕ) (vm : Box KeyedMachine Global) (turn : Ready) → c.state ≡ Parked ticket vm turn → ⊥) → CellShows depot path c t
     → MatchOption r ((lives_ready paged_machines t ≡ false) × (new ≡ c))
     (λ vm. (lives_ready paged_machines t ≡ true) × (paged vm.value ≡ (machine t).machine) × IsOfDepot depot vm.value.key × CellShows depot path new (placed out t))
     → MatchOption r ((lives_at_home paged_machines t ≡ false) × (new ≡ c))

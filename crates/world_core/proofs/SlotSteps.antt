@@ -1,5 +1,6 @@
 -- A cell once a child of its machine has changed.
-use Rattle.std.proofs.Common.{◌≡◌, ℕ, zero, suc, ◌+◌, ◌-◌, ◌≤◌, Bool, true, false, cond, eqb, eqb-true, List, [], ◌∷◌, Option, Some, None, IsSome, inl, inr, slice_set, vec_len, vec_capacity, refl, sym, ap, ◌∙◌, subst, arith}
+use Rattle.std.proofs.Common.{◌≡◌, ℕ, zero, suc, ◌+◌, ◌-◌, ◌≤◌, Bool, true, false, cond, eqb, eqb-true, List, [], ◌∷◌, Option, Some, None, IsSome}
+use Rattle.std.proofs.Common.{inl, inr, slice_set, vec_len, vec_capacity, refl, sym, ap, ◌∙◌, subst, arith}
 use Rattle.std.proofs.lemmas.Bool.{eqb-false}
 use Rattle.std.proofs.lemmas.Map.Lookups.{exact_unsigned}
 use Rattle.std.specs.declared.cmp.Ordering.{Ordering}
@@ -18,11 +19,11 @@ use Rattle.forest_model.specs.Paged.{Paged}
 use Rattle.image_depot.specs.Key.{Shelves, Key}
 use Rattle.vm_descriptor.specs.declared.descriptor.Descriptor.{Descriptor}
 use Rattle.vm_descriptor.specs.Descriptor.{numbered}
-use Rattle.vm_cell.specs.declared.vm.fork.Brood.{Brood as Young}
+use Rattle.vm_cell.specs.declared.vm.fork.Brood.{Brood as ForkImage}
 use Rattle.machine_names.specs.Name.{child_path}
 use Rattle.world_core.specs.declared.cell.Brood.{Brood}
 use Rattle.world_core.specs.declared.cell.Cell.{Cell}
-use Rattle.world_core.specs.declared.cell.Slot.{Slot}
+use Rattle.world_core.specs.declared.cell.ChildSlot.{ChildSlot}
 use Rattle.world_core.specs.Shows.{forest, SlotShows, SlotsShow, IsNotAsleep, AreAwake, BornShows, IsLeft, BroodShows, BroodAt, TallyAt, Holds, child_of, with_child}
 use Rattle.world_core.proofs.Slots.{with-slot, not-first}
 
@@ -54,10 +55,10 @@ written old new ticket b h some =
     }
 
 -- a brood with another slot, and so many that live, and what is left for its children then
-abbrev pub brood_with : Brood → Option Young → ℕ → Slot → ℕ → Brood
-brood_with b young index slot live = record { name = b.name; young = young; slots = with_item b.slots (index - 1) slot; live = live }
+abbrev pub brood_with : Brood → Option ForkImage → ℕ → ChildSlot → ℕ → Brood
+brood_with b image index slot live = record { name = b.name; image = image; slots = with_item b.slots (index - 1) slot; live = live }
 
-slots-with : (path : Path) (ticket index : ℕ) (key : Key) (a b : Tree (Spot Paged)) (slot : Slot) (seed : Descriptor) (slots : List Slot)
+slots-with : (path : Path) (ticket index : ℕ) (key : Key) (a b : Tree (Spot Paged)) (slot : ChildSlot) (seed : Descriptor) (slots : List ChildSlot)
     (trees : Trees (Spot Paged)) → ((seed : Descriptor) → SlotShows (child_path path ticket index) key seed slot b)
     → SlotsShow path ticket key 1 seed slots trees → child_at index trees ≡ Some a
     → SlotsShow path ticket key 1 seed (slice_set slots (index - 1) slot) (at_child (λ a. b) index trees)
@@ -68,7 +69,7 @@ slots-with path ticket (suc j) key a b slot seed slots trees shows h found =
     (with-slot path ticket key 1 seed slots trees j b slot h (subst (λ i. SlotShows (child_path path ticket i) key (numbered i seed) slot b) next (shows (numbered (suc j) seed))))
 
 -- slots that are awake, with another that is
-AreAwake-with : (slots : List Slot) (at : ℕ) (slot : Slot) → IsNotAsleep (Some slot) → AreAwake slots → AreAwake (slice_set slots at slot)
+AreAwake-with : (slots : List ChildSlot) (at : ℕ) (slot : ChildSlot) → IsNotAsleep (Some slot) → AreAwake slots → AreAwake (slice_set slots at slot)
 AreAwake-with [] at slot awake h k = h k
 AreAwake-with (first ∷ slots) zero slot awake h zero = awake
 AreAwake-with (first ∷ slots) zero slot awake h (suc k) = h (suc k)
@@ -76,58 +77,58 @@ AreAwake-with (first ∷ slots) (suc at) slot awake h zero = h zero
 AreAwake-with (first ∷ slots) (suc at) slot awake h (suc k) = AreAwake-with slots at slot awake (λ j. h (suc j)) k
 
 -- where none is a descriptor any more, nothing need be left for them
-born-gone : (depot : Shelves) (path : Path) (ticket : ℕ) (old : Option Young) (slots : List Slot) (trees : Trees (Spot Paged)) → AreAwake slots
+born-gone : (depot : Shelves) (path : Path) (ticket : ℕ) (old : Option ForkImage) (slots : List ChildSlot) (trees : Trees (Spot Paged)) → AreAwake slots
     → BornShows depot path ticket old slots trees → BornShows depot path ticket None slots trees
 born-gone depot path ticket None slots trees awake h = h
-born-gone depot path ticket (Some young) slots trees awake h = (young.key, young.seed, awake, h.1)
+born-gone depot path ticket (Some image) slots trees awake h = (image.key, image.seed, awake, h.1)
 
-born-left : (depot : Shelves) (path : Path) (ticket : ℕ) (old young : Option Young) (slots : List Slot) (trees : Trees (Spot Paged))
-    → IsLeft old slots young → BornShows depot path ticket old slots trees → BornShows depot path ticket young slots trees
-born-left depot path ticket old young slots trees (inl same) h = subst (λ o. BornShows depot path ticket o slots trees) (sym same) h
-born-left depot path ticket old young slots trees (inr gone) h =
+born-left : (depot : Shelves) (path : Path) (ticket : ℕ) (old image : Option ForkImage) (slots : List ChildSlot) (trees : Trees (Spot Paged))
+    → IsLeft old slots image → BornShows depot path ticket old slots trees → BornShows depot path ticket image slots trees
+born-left depot path ticket old image slots trees (inl same) h = subst (λ o. BornShows depot path ticket o slots trees) (sym same) h
+born-left depot path ticket old image slots trees (inr gone) h =
     subst (λ o. BornShows depot path ticket o slots trees) (sym gone.0) (born-gone depot path ticket old slots trees gone.1 h)
 
-module _ (depot : Shelves) (path : Path) (ticket index : ℕ) (a b : Tree (Spot Paged)) (slot : Slot) (awake : IsNotAsleep (Some slot))
+module _ (depot : Shelves) (path : Path) (ticket index : ℕ) (a b : Tree (Spot Paged)) (slot : ChildSlot) (awake : IsNotAsleep (Some slot))
     (shows : (key : Key) (seed : Descriptor) → SlotShows (child_path path ticket index) key seed slot b) where
-  born-with : (young : Option Young) (slots : List Slot) (trees : Trees (Spot Paged)) → BornShows depot path ticket young slots trees
-      → child_at index trees ≡ Some a → BornShows depot path ticket young (slice_set slots (index - 1) slot) (at_child (λ a. b) index trees)
+  born-with : (image : Option ForkImage) (slots : List ChildSlot) (trees : Trees (Spot Paged)) → BornShows depot path ticket image slots trees
+      → child_at index trees ≡ Some a → BornShows depot path ticket image (slice_set slots (index - 1) slot) (at_child (λ a. b) index trees)
   born-with None slots trees h found = (
     h.0,
     h.1,
     AreAwake-with slots (index - 1) slot awake h.2,
     slots-with path ticket index h.0 a b slot h.1 slots trees (shows h.0) h.3 found,
   )
-  born-with (Some young) slots trees h found =
-      (h.0, slots-with path ticket index young.key a b slot young.seed slots trees (shows young.key) h.1 found)
+  born-with (Some image) slots trees h found =
+      (h.0, slots-with path ticket index image.key a b slot image.seed slots trees (shows image.key) h.1 found)
 
-  brood-with : (old : Brood) (young : Option Young) (live : ℕ) (trees : Trees (Spot Paged)) → child_at index trees ≡ Some a
-      → live + life forest a ≡ old.live + life forest b → IsLeft old.young (slice_set old.slots.items (index - 1) slot) young
-      → BroodShows depot path ticket old trees → BroodShows depot path ticket (brood_with old young index slot live) (at_child (λ a. b) index trees)
-  brood-with old young live trees found lives left h = record {
+  brood-with : (old : Brood) (image : Option ForkImage) (live : ℕ) (trees : Trees (Spot Paged)) → child_at index trees ≡ Some a
+      → live + life forest a ≡ old.live + life forest b → IsLeft old.image (slice_set old.slots.items (index - 1) slot) image
+      → BroodShows depot path ticket old trees → BroodShows depot path ticket (brood_with old image index slot live) (at_child (λ a. b) index trees)
+  brood-with old image live trees found lives left h = record {
     live = let one : living forest (at_child (λ a. b) index trees) + life forest a ≡ living forest trees + life forest b =
         one-child forest (λ a. b) index trees a found in
         omega (arith, h.live);
-    born = born-left depot path ticket old.young young (slice_set old.slots.items (index - 1) slot) (at_child (λ a. b) index trees) left
-        (born-with old.young old.slots.items trees h.born found);
+    born = born-left depot path ticket old.image image (slice_set old.slots.items (index - 1) slot) (at_child (λ a. b) index trees) left
+        (born-with old.image old.slots.items trees h.born found);
   }
 
-  brood-at-with : (old : Brood) (young : Option Young) (live : ℕ) (cloned : Bool) (trees : Trees (Spot Paged)) → child_at index trees ≡ Some a
-      → live + life forest a ≡ old.live + life forest b → IsLeft old.young (slice_set old.slots.items (index - 1) slot) young
+  brood-at-with : (old : Brood) (image : Option ForkImage) (live : ℕ) (cloned : Bool) (trees : Trees (Spot Paged)) → child_at index trees ≡ Some a
+      → live + life forest a ≡ old.live + life forest b → IsLeft old.image (slice_set old.slots.items (index - 1) slot) image
       → BroodAt depot path ticket (Some old) cloned trees
-      → BroodAt depot path ticket (Some (brood_with old young index slot live)) cloned (at_child (λ a. b) index trees)
-  brood-at-with old young live true trees found lives left h = brood-with old young live trees found lives left h
-  brood-at-with old young live false trees found lives left h = absurd h
+      → BroodAt depot path ticket (Some (brood_with old image index slot live)) cloned (at_child (λ a. b) index trees)
+  brood-at-with old image live true trees found lives left h = brood-with old image live trees found lives left h
+  brood-at-with old image live false trees found lives left h = absurd h
 
-  tally-with : (old : Brood) (young : Option Young) (live count : ℕ) (cloned : Bool) → TallyAt path count (Some old) cloned
-      → TallyAt path count (Some (brood_with old young index slot live)) cloned
-  tally-with old young live count true h = record { name = h.name; size = h.size; few = h.few }
-  tally-with old young live count false h = absurd h
+  tally-with : (old : Brood) (image : Option ForkImage) (live count : ℕ) (cloned : Bool) → TallyAt path count (Some old) cloned
+      → TallyAt path count (Some (brood_with old image index slot live)) cloned
+  tally-with old image live count true h = record { name = h.name; size = h.size; few = h.few }
+  tally-with old image live count false h = absurd h
 
-  pub holds-with : (c : Cell) (broods : BTreeMap ℕ Brood) (old : Brood) (young : Option Young) (live : ℕ) (t : Tree (Spot Paged)) → Holds depot path c t
-      → child_of ticket index t ≡ Some a → get nat_cmp c.broods ticket ≡ Some old → IsWritten c.broods broods ticket (brood_with old young index slot live)
-      → live + life forest a ≡ old.live + life forest b → IsLeft old.young (slice_set old.slots.items (index - 1) slot) young
+  pub holds-with : (c : Cell) (broods : BTreeMap ℕ Brood) (old : Brood) (image : Option ForkImage) (live : ℕ) (t : Tree (Spot Paged)) → Holds depot path c t
+      → child_of ticket index t ≡ Some a → get nat_cmp c.broods ticket ≡ Some old → IsWritten c.broods broods ticket (brood_with old image index slot live)
+      → live + life forest a ≡ old.live + life forest b → IsLeft old.image (slice_set old.slots.items (index - 1) slot) image
       → Holds depot path (record c { broods = broods }) (with_child ticket index b t)
-  holds-with c broods old young live (node s trees log) h found some w lives is_left = record {
+  holds-with c broods old image live (node s trees log) h found some w lives is_left = record {
     tallies = record {
       log = h.tallies.log;
       room = subst (λ n. vec_len c.log + n ≤ vec_capacity c.log) (sym w.length) h.tallies.room;
@@ -140,7 +141,7 @@ module _ (depot : Shelves) (path : Path) (ticket index : ℕ) (a b : Tree (Spot 
       tally u true e =
           subst (λ u. TallyAt path ((forest.grant s u).children) (get nat_cmp broods u) (is_cloned forest s u)) (eqb-true ticket u e)
           (subst (λ g. TallyAt path ((forest.grant s ticket).children) g (is_cloned forest s ticket)) (sym w.here)
-          (tally-with old young live ((forest.grant s ticket).children) (is_cloned forest s ticket)
+          (tally-with old image live ((forest.grant s ticket).children) (is_cloned forest s ticket)
           (subst (λ g. TallyAt path ((forest.grant s ticket).children) g (is_cloned forest s ticket)) some (h.tallies.broods ticket))))
       tally u false e =
           subst (λ g. TallyAt path ((forest.grant s u).children) g (is_cloned forest s u)) (sym (w.others u e)) (h.tallies.broods u)
@@ -158,8 +159,8 @@ module _ (depot : Shelves) (path : Path) (ticket index : ℕ) (a b : Tree (Spot 
           (eqb-true ticket u e)
           (subst (λ g. BroodAt depot path ticket g (is_cloned forest s ticket) (brood_of ticket (at_brood (at_child (λ a. b) index) ticket trees)))
           (sym w.here)
-          (subst (BroodAt depot path ticket (Some (brood_with old young index slot live)) (is_cloned forest s ticket)) (sym (left ticket true (eqb-same ticket)))
-          (brood-at-with old young live (is_cloned forest s ticket) (brood_of ticket trees) found lives is_left
+          (subst (BroodAt depot path ticket (Some (brood_with old image index slot live)) (is_cloned forest s ticket)) (sym (left ticket true (eqb-same ticket)))
+          (brood-at-with old image live (is_cloned forest s ticket) (brood_of ticket trees) found lives is_left
           (subst (λ g. BroodAt depot path ticket g (is_cloned forest s ticket) (brood_of ticket trees)) some (h.broods ticket)))))
       brood u false e =
           subst (λ g. BroodAt depot path u g (is_cloned forest s u) (brood_of u (at_brood (at_child (λ a. b) index) ticket trees))) (sym (w.others u e))

@@ -8,21 +8,21 @@ use Rattle.image_depot.specs.Key.{Key}
 use Rattle.vm_descriptor.specs.declared.descriptor.Descriptor.{Descriptor}
 use Rattle.vm_descriptor.specs.Descriptor.{numbered}
 use Rattle.machine_names.specs.Name.{child_path}
-use Rattle.world_core.specs.declared.cell.Slot.{Slot}
+use Rattle.world_core.specs.declared.cell.ChildSlot.{ChildSlot}
 use Rattle.world_core.specs.Shows.{SlotShows, SlotsShow}
 
 -- a child has a slot at its place, and is born of the seed by its number
-pub record HasSlot (path : Path) (ticket : ℕ) (key : Key) (k j : ℕ) (seed : Descriptor) (slots : List Slot) (a : Tree (Spot Paged)) : Type 0 where
-  pub slot : Slot
+pub record HasSlot (path : Path) (ticket : ℕ) (key : Key) (k j : ℕ) (seed : Descriptor) (slots : List ChildSlot) (a : Tree (Spot Paged)) : Type 0 where
+  pub slot : ChildSlot
   pub slot_at : slice_get slots j ≡ Some slot
   pub shows : SlotShows (child_path path ticket (k + j)) key (numbered (k + j) seed) slot a
 
 module _ (path : Path) (ticket : ℕ) (key : Key) where
-  cast-shows : (seed : Descriptor) (slot : Slot) (a : Tree (Spot Paged)) (n m : ℕ) → n ≡ m → SlotShows (child_path path ticket n) key (numbered n seed) slot a
+  cast-shows : (seed : Descriptor) (slot : ChildSlot) (a : Tree (Spot Paged)) (n m : ℕ) → n ≡ m → SlotShows (child_path path ticket n) key (numbered n seed) slot a
       → SlotShows (child_path path ticket m) key (numbered m seed) slot a
   cast-shows seed slot a n m e h = subst (λ i. SlotShows (child_path path ticket i) key (numbered i seed) slot a) e h
 
-  pub slot-of : (k : ℕ) (seed : Descriptor) (slots : List Slot) (trees : Trees (Spot Paged)) (j : ℕ) (a : Tree (Spot Paged))
+  pub slot-of : (k : ℕ) (seed : Descriptor) (slots : List ChildSlot) (trees : Trees (Spot Paged)) (j : ℕ) (a : Tree (Spot Paged))
       → SlotsShow path ticket key k seed slots trees → child_at (suc j) trees ≡ Some a → HasSlot path ticket key k j seed slots a
   unfolding SlotsShow child_at
   slot-of k seed slots no_tree j a h found = absurd (cc)
@@ -41,7 +41,7 @@ module _ (path : Path) (ticket : ℕ) (key : Key) where
       }
 
   -- a child in another slot
-  pub with-slot : (k : ℕ) (seed : Descriptor) (slots : List Slot) (trees : Trees (Spot Paged)) (j : ℕ) (b : Tree (Spot Paged)) (slot : Slot)
+  pub with-slot : (k : ℕ) (seed : Descriptor) (slots : List ChildSlot) (trees : Trees (Spot Paged)) (j : ℕ) (b : Tree (Spot Paged)) (slot : ChildSlot)
       → SlotsShow path ticket key k seed slots trees → SlotShows (child_path path ticket (k + j)) key (numbered (k + j) seed) slot b
       → SlotsShow path ticket key k seed (slice_set slots j slot) (at_child (λ a. b) (suc j) trees)
   unfolding SlotsShow at_child

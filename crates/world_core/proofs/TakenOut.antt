@@ -17,7 +17,7 @@ use Rattle.machine_names.specs.NameOrder.{path_cmp}
 use Rattle.world_core.specs.declared.cell.Cell.{Cell}
 use Rattle.world_core.specs.Shows.{forest, IsAwake, Shows}
 use Rattle.world_core.specs.declared.world.World.{World}
-use Rattle.world_core.specs.Waiting.{IsListed}
+use Rattle.world_core.specs.Listed.{IsListed}
 use Rattle.world_core.specs.World.{Forest, IsDue, ShowsTree, StandsFor}
 use Rattle.world_core.specs.Popped.{ShowsCells}
 use Rattle.world_core.proofs.Changes.{is_one, shows-changed, beyond-parent}

@@ -13,13 +13,13 @@ use Rattle.world_core.specs.Shows.{forest}
 use Rattle.world_core.specs.declared.world.World.{World}
 use Rattle.world_core.specs.declared.reason.Reason.{Reason}
 use Rattle.run_report.specs.Report.{Ended as Report}
-use Rattle.world_core.specs.Waiting.{Waiting, IsListed, IsCovered, Keeps}
+use Rattle.ready_queue.specs.Ready.{Ready}
+use Rattle.world_core.specs.Listed.{IsListed, IsCovered}
 use Rattle.world_core.specs.Images.{AreOfImages, Images}
 use Rattle.world_core.specs.Told.{told_of}
 use Rattle.world_core.specs.World.{Forest, IsDue, ShowsLive, ShowsTree, StandsFor}
 use Rattle.world_core.specs.Answers.{Goes}
 use Rattle.world_core.specs.Popped.{with_turn}
-use Rattle.world_core.proofs.Reordered.{stands-reordered}
 
 -- what a world stood for before its turns were taken out, it stands for still
 pub record IsTaking (depot : Shelves) (first now : World) : Type 0 where
@@ -29,9 +29,9 @@ pub record IsTaking (depot : Shelves) (first now : World) : Type 0 where
   pub images : (images : Images) → AreOfImages images first → AreOfImages images now
   pub stands : (f : Forest) → StandsFor depot first f → StandsFor depot now f
 
-pub with-popped : (depot : Shelves) (w : World) (turn : Waiting) (rest : List Waiting) (f : Forest) → Keeps w.ready (turn ∷ rest) → StandsFor depot w f
+pub with-popped : (depot : Shelves) (w : World) (turn : Ready) (rest : List Ready) (f : Forest) → w.ready ≡ turn ∷ rest → StandsFor depot w f
     → StandsFor depot (with_turn turn (record w { ready = rest })) f
-with-popped depot w turn rest f k h = stands-reordered depot w (turn ∷ rest) f k h
+with-popped depot w turn rest f e h = subst (λ list. StandsFor depot (record w { ready = list }) f) e h
 
 pub over-goes : (depot : Shelves) (w : World) (f : Forest) → StandsFor depot w f → is_some w.outcome ≡ true → Goes depot f over w
 unfolding Allows does
@@ -55,7 +55,7 @@ unfolding IsListed IsCovered
 none-due None name h = h
 none-due (Some c) name h = h
 
-pub idle-goes : (depot : Shelves) (w : World) (turns : List Waiting) (f : Forest) → StandsFor depot w f → w.outcome ≡ None → w.halted ≡ None → w.ready ≡ []
+pub idle-goes : (depot : Shelves) (w : World) (turns : List Ready) (f : Forest) → StandsFor depot w f → w.outcome ≡ None → w.halted ≡ None → w.ready ≡ []
     → turns ≡ [] → Goes depot f idle (record w { ready = turns })
 unfolding Allows does
 idle-goes depot w turns f h going unhalted empty empty_then =
@@ -74,7 +74,7 @@ idle-goes depot w turns f h going unhalted empty empty_then =
     never-due false no_turn = refl
 
 -- a turn gave nothing
-pub goes-on : (depot : Shelves) (first w v : World) (turn : Waiting) (rest : List Waiting) → IsTaking depot first w → Keeps w.ready (turn ∷ rest)
+pub goes-on : (depot : Shelves) (first w v : World) (turn : Ready) (rest : List Ready) → IsTaking depot first w → w.ready ≡ turn ∷ rest
     → ((f : Forest) → StandsFor depot (with_turn turn (record w { ready = rest })) f → StandsFor depot v f) → v.outcome ≡ None → v.halted ≡ None
     → told_of v ≡ told_of w → ((images : Images) → AreOfImages images w → AreOfImages images v) → IsTaking depot first v
 goes-on depot first w v turn rest h e after going unhalted told images = record {

@@ -1,5 +1,5 @@
 -- A child that is handed out by a turn of its parent's children.
-use Rattle.std.proofs.Common.{◌≡◌, ◌≢◌, ◌⊎◌, ℕ, ◌≤◌, ◌<◌, ◌&&◌, Bool, true, false, leb, refl, sym, ap, ◌∙◌, subst, inl, inr, List, ◌∷◌, Option, Some, None, is_some, []}
+use Rattle.std.proofs.Common.{◌≡◌, ◌≢◌, ◌⊎◌, ℕ, ◌≤◌, ◌<◌, ◌&&◌, Bool, true, false, leb, refl, sym, ap, ◌∙◌, subst, inl, inr, List, ◌∷◌, Option, Some, None, is_some}
 use Rattle.std.proofs.lemmas.Bool.Decides.{leb_tells}
 use Rattle.std.specs.Option.{IfSome}
 use Rattle.std.specs.BTreeMap.{get}
@@ -15,31 +15,16 @@ use Rattle.machine_names.specs.Name.{child_path}
 use Rattle.machine_names.specs.NameOrder.{path_cmp}
 use Rattle.world_core.specs.declared.cell.Cell.{Cell}
 use Rattle.world_core.specs.Shows.{forest, Shows}
-use Rattle.world_core.specs.declared.turns.Turn.{Turn, Turn-F, out-Turn, roll-Turn}
 use Rattle.world_core.specs.declared.world.World.{World}
 use Rattle.world_core.specs.Lent.{Lent, now_of}
-use Rattle.world_core.specs.Turns.{turns_from, turns_of, turn_of}
-use Rattle.world_core.specs.Waiting.{Waiting, CoversBy, IsListed, IsCovered}
+use Rattle.ready_queue.specs.Ready.{Ready}
+use Rattle.world_core.specs.Listed.{CoversBy, IsListed, IsCovered}
 use Rattle.world_core.specs.World.{Forest, IsDue, ShowsLive, ShowsTree, StandsFor}
 use Rattle.world_core.specs.Answers.{Goes, IsLentOf, Starts}
 use Rattle.world_core.specs.Popped.{ShowsCells, IsFirstAsleep, is_listed_in, with_turn}
-use Rattle.world_core.proofs.TurnLists.{turns_from_roll, turns_from_out, turn_of_roll}
 use Rattle.world_core.proofs.Sleepers.{wakes, wakes-there, dead-not}
 use Rattle.world_core.proofs.TakenOut.{taken, allows-took}
 use Rattle.world_core.proofs.TurnOut.{shown-with}
-
--- a turn with nothing behind it, from another child on
-pub children_turn : (t : Turn) (children : Option (ℕ × ℕ)) → turns_from t ≡ turn_of t ∷ []
-    → turns_from (roll-Turn record { name = (out-Turn t).name; children = children; next = (out-Turn t).next })
-    ≡ turn_of (roll-Turn record { name = (out-Turn t).name; children = children; next = (out-Turn t).next }) ∷ []
-children_turn t children single =
-    let x : Turn-F Turn = record { name = (out-Turn t).name; children = children; next = (out-Turn t).next } in
-    let behind : turns_of (out-Turn t).next ≡ [] = rest-none (turn_of t) (turns_of (out-Turn t).next) (sym (turns_from_out t) ∙ single) in
-    turns_from_roll x ∙ ap (λ rest. record { name = (out-Turn t).name; children = children } ∷ rest) behind ∙ ap (λ w. w ∷ []) (sym (turn_of_roll x))
-  where
-    rest-none : (w : Waiting) (rest : List Waiting) → w ∷ rest ≡ w ∷ [] → rest ≡ []
-    rest-none w [] e = refl
-    rest-none w (v ∷ rest) e = absurd (cc)
 
 -- a machine that has no cell and is ready is still a descriptor
 ready-asleep : (depot : Shelves) (n : Path) (u : Option (Tree (Spot Paged))) → Shows depot n None u → holds paged_machines (lives_ready paged_machines) u ≡ true → wakes u ≡ true
@@ -62,13 +47,13 @@ pub listed-in : {X : Type 0} (o : Option Cell) → IfSome o (λ (c : Cell). c.is
 listed-in None h is = absurd (cc)
 listed-in (Some c) h is = h is
 
-pub due-alike : (a b : Option Cell) (n : Path) (turns : List Waiting) → is_some b ≡ is_some a → IsDue a n turns → IsDue b n turns
+pub due-alike : (a b : Option Cell) (n : Path) (turns : List Ready) → is_some b ≡ is_some a → IsDue a n turns → IsDue b n turns
 due-alike None None n turns e h = h
 due-alike None (Some d) n turns e h = absurd (cc)
 due-alike (Some c) None n turns e h = absurd (cc)
 due-alike (Some c) (Some d) n turns e h = h
 
-module _ (depot : Shelves) (turn : Waiting) (ticket first : ℕ) (w : World) (f : Forest) (children : turn.children ≡ Some (ticket, first))
+module _ (depot : Shelves) (turn : Ready) (ticket first : ℕ) (w : World) (f : Forest) (children : turn.children ≡ Some (ticket, first))
     (h : StandsFor depot (with_turn turn w) f) (going : w.outcome ≡ None) where
   shows-children : ShowsLive depot (with_turn turn w) f.tree
   shows-children = shown-with depot turn w f h going
@@ -82,7 +67,7 @@ module _ (depot : Shelves) (turn : Waiting) (ticket first : ℕ) (w : World) (f 
   not-own : (n : Path) → IsListed n (turn ∷ w.ready) → IsListed n w.ready
   unfolding IsListed
   not-own n (inl e) =
-      let no : ◌≡◌ {A = Option (ℕ × ℕ)} (Some (ticket, first)) None = sym children ∙ ap (λ (v : Waiting). v.children) e in absurd (cc)
+      let no : ◌≡◌ {A = Option (ℕ × ℕ)} (Some (ticket, first)) None = sym children ∙ ap (λ (v : Ready). v.children) e in absurd (cc)
   not-own n (inr listed) = listed
 
   -- covered by the turn, or by another
@@ -113,7 +98,7 @@ module _ (depot : Shelves) (turn : Waiting) (ticket first : ℕ) (w : World) (f 
       due n ready (Some c) e listed = not-own n listed
 
   -- the first of them that is a descriptor
-  module _ (index : ℕ) (found : IsFirstAsleep turn.name ticket first f.tree (Some index)) (v : World) (later : Waiting)
+  module _ (index : ℕ) (found : IsFirstAsleep turn.name ticket first f.tree (Some index)) (v : World) (later : Ready)
       (is : later ≡ record { name = turn.name; children = Some (ticket, index) }) (ready : v.ready ≡ later ∷ w.ready) where
     listed-later : (n : Path) → IsListed n (turn ∷ w.ready) → IsListed n v.ready
     unfolding IsListed

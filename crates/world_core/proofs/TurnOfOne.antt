@@ -12,7 +12,8 @@ use Rattle.machine_names.specs.NameOrder.{path_cmp}
 use Rattle.world_core.specs.declared.cell.Cell.{Cell}
 use Rattle.world_core.specs.Shows.{CellShows, Shows}
 use Rattle.world_core.specs.declared.world.World.{World}
-use Rattle.world_core.specs.Waiting.{Waiting, IsListed}
+use Rattle.ready_queue.specs.Ready.{Ready}
+use Rattle.world_core.specs.Listed.{IsListed}
 use Rattle.world_core.specs.World.{Forest, IsDue, ShowsLive, StandsFor}
 use Rattle.vm_cell.specs.Keyed.{KeyedMachine, IsOfDepot, paged}
 use Rattle.world_core.specs.Lent.{lent_as}
@@ -34,7 +35,7 @@ relisted depot path c listed t h = record {
   holds = record { tallies = record { log = h.holds.tallies.log; room = h.holds.tallies.room; broods = h.holds.tallies.broods }; broods = h.holds.broods };
 }
 
-module _ (depot : Shelves) (turn : Waiting) (w : World) (f : Forest) (one : turn.children ≡ None) (h : StandsFor depot (with_turn turn w) f)
+module _ (depot : Shelves) (turn : Ready) (w : World) (f : Forest) (one : turn.children ≡ None) (h : StandsFor depot (with_turn turn w) f)
     (going : w.outcome ≡ None) where
   shows-turn : ShowsLive depot (with_turn turn w) f.tree
   shows-turn = shown-with depot turn w f h going

@@ -10,29 +10,30 @@ use Rattle.machine_names.specs.NameOrder.{path_cmp}
 use Rattle.world_core.specs.declared.cell.Cell.{Cell}
 use Rattle.world_core.specs.Shows.{Shows}
 use Rattle.world_core.specs.declared.world.World.{World}
-use Rattle.world_core.specs.Waiting.{Waiting, CoversBy, IsListed, IsCovered}
+use Rattle.ready_queue.specs.Ready.{Ready}
+use Rattle.world_core.specs.Listed.{CoversBy, IsListed, IsCovered}
 use Rattle.world_core.specs.World.{Forest, IsDue, ShowsLive, ShowsTree, StandsFor}
 use Rattle.world_core.specs.Popped.{is_listed_in, with_turn}
 use Rattle.world_core.proofs.Returns.{same-or-apart}
 
 -- another machine's turn is not that of this one
-listed-rest : (n name : Path) (turn : Waiting) (turns : List Waiting) → turn.name ≡ name → name ≢ n → IsListed n (turn ∷ turns) → IsListed n turns
+listed-rest : (n name : Path) (turn : Ready) (turns : List Ready) → turn.name ≡ name → name ≢ n → IsListed n (turn ∷ turns) → IsListed n turns
 unfolding IsListed
-listed-rest n name turn turns of other (inl e) = absurd (other (sym of ∙ ap (λ (w : Waiting). w.name) e))
+listed-rest n name turn turns of other (inl e) = absurd (other (sym of ∙ ap (λ (w : Ready). w.name) e))
 listed-rest n name turn turns of other (inr h) = h
 
-pub covered-rest : (n : Path) (turn : Waiting) (turns : List Waiting) → turn.children ≡ None → IsCovered n (turn ∷ turns) → IsCovered n turns
+pub covered-rest : (n : Path) (turn : Ready) (turns : List Ready) → turn.children ≡ None → IsCovered n (turn ∷ turns) → IsCovered n turns
 unfolding IsCovered
 covered-rest n turn turns one (inl h) = absurd (subst (CoversBy n turn.name) one h)
 covered-rest n turn turns one (inr h) = h
 
 -- what the world showed with its turn
-pub shown-with : (depot : Shelves) (turn : Waiting) (w : World) (f : Forest) → StandsFor depot (with_turn turn w) f → w.outcome ≡ None
+pub shown-with : (depot : Shelves) (turn : Ready) (w : World) (f : Forest) → StandsFor depot (with_turn turn w) f → w.outcome ≡ None
     → ShowsLive depot (with_turn turn w) f.tree
 shown-with depot turn w f h going = subst (λ o. ShowsTree o depot (with_turn turn w) f.tree) going h.tree
 
 -- a machine whose turn was taken out is not ready, or is due by another
-module _ (depot : Shelves) (turn : Waiting) (w v : World) (f : Forest) (one : turn.children ≡ None) (h : StandsFor depot (with_turn turn w) f)
+module _ (depot : Shelves) (turn : Ready) (w v : World) (f : Forest) (one : turn.children ≡ None) (h : StandsFor depot (with_turn turn w) f)
     (going : w.outcome ≡ None) (going_on : v.outcome ≡ None) (halted : v.halted ≡ w.halted) (ready : v.ready ≡ w.ready)
     (others : (n : Path) → turn.name ≢ n → get path_cmp v.cells n ≡ get path_cmp w.cells n) where
   shows-before : ShowsLive depot (with_turn turn w) f.tree

@@ -1,5 +1,6 @@
 -- A child that wakes, and is handed out.
-use Rattle.std.proofs.Common.{◌≡◌, ◌≢◌, ℕ, zero, suc, not, Bool, true, false, cond, eqb, eqb-true, refl, sym, ap, ap₂, ◌∙◌, subst, arith, inl, inr, ◌∷◌, ◌++◌, Option, Some, None, is_some, option_map, []}
+use Rattle.std.proofs.Common.{◌≡◌, ◌≢◌, ℕ, zero, suc, not, Bool, true, false, cond, eqb, eqb-true, refl, sym, ap, ap₂, ◌∙◌, subst, arith, inl, inr}
+use Rattle.std.proofs.Common.{◌∷◌, ◌++◌, Option, Some, None, is_some, option_map, []}
 use Rattle.std.specs.BTreeMap.{BTreeMap, Updates, WritesThrough, get}
 use Rattle.std.specs.Ordering.{nat_cmp}
 use Rattle.std.specs.Option.{IfSome}
@@ -24,8 +25,8 @@ use Rattle.machine_names.specs.NameOrder.{path_cmp}
 use Rattle.machine_names.proofs.NameMaps.{updated-here, updated-apart}
 use Rattle.vm_descriptor.specs.declared.descriptor.Descriptor.{Descriptor}
 use Rattle.world_core.specs.declared.cell.Cell.{Cell}
-use Rattle.world_core.specs.declared.cell.Slot.{Slot}
-use Rattle.world_core.specs.declared.cell.Slot.TheVariants.{Asleep, Awake, Ended}
+use Rattle.world_core.specs.declared.cell.ChildSlot.{ChildSlot}
+use Rattle.world_core.specs.declared.cell.ChildSlot.TheVariants.{Asleep, Awake, Ended}
 use Rattle.world_core.specs.Shows.{forest, SlotShows, BroodAt, StateShows, CellShows, Shows, child_of, with_child}
 use Rattle.world_core.specs.Popped.{ShowsCells, sleeps, is_listed_in}
 use Rattle.world_core.specs.Lent.{Lent, now_of}
@@ -100,7 +101,7 @@ with-child-path depot path c f b (node s broods log) a found h =
         at_child-agree (λ v. f a) (at_path f []) b.child (brood_of u broods) a (ap (λ i. child_at b.child (brood_of i broods)) (sym (eqb-true b.ticket u e)) ∙ found) refl
 
 -- a child that is still a descriptor is as it was born
-born-alone : (path : Path) (key : Key) (seed : Descriptor) (slot : Slot) (a : Tree (Spot Paged)) → SlotShows path key seed slot a → wakes (Some a) ≡ true
+born-alone : (path : Path) (key : Key) (seed : Descriptor) (slot : ChildSlot) (a : Tree (Spot Paged)) → SlotShows path key seed slot a → wakes (Some a) ≡ true
     → a ≡ alone forest (machine a)
 born-alone path key seed Asleep a h is = h.born ∙ sym (ap (λ (u : Tree (Spot Paged)). alone forest (machine u)) h.born)
 born-alone path key seed Awake a h is = let no : true ≡ false = sym is ∙ wakes-slot path key seed Awake a h in absurd (cc)
@@ -238,11 +239,6 @@ module _ (cells mid : BTreeMap Path Cell) (parent : Path) (ticket index : ℕ) (
         ∙ ap (option_map (at_beyond (placed out) (Some (b ∷ [])))) s.at))
         (with-child-path depot parent d (placed out) b s.above s.child s.is_child waked))))
 
--- the machine that woke
-pub woken-machine : (m : Paged) (o : Option (Tree (Spot Paged))) (a b : Tree (Spot Paged)) → m ≡ (machine a).machine → o ≡ Some a → o ≡ Some b
-    → m ≡ (machine b).machine
-woken-machine m o a b woke one other = woke ∙ ap (λ (t : Tree (Spot Paged)). (machine t).machine) (some-same a b (sym one ∙ other))
-
 -- a machine that is still a descriptor has no cell
 pub sleeper-no_cell : (depot : Shelves) (cells : BTreeMap Path Cell) (parent : Path) (ticket index : ℕ) (t : Tree (Spot Paged)) (c : Cell) → ShowsCells depot cells t
     → IsSleeper depot parent ticket index t c → get path_cmp cells (child_path parent ticket index) ≡ None
@@ -255,14 +251,10 @@ sleeper-no_cell depot cells parent ticket index t c h s =
     by (Some cell) h = let no : true ≡ false = sym s.asleep ∙ h.awake.awake in absurd (cc)
 
 -- the parent keeps its cell as a child gets one
-pub parent-still : (cells mid : BTreeMap Path Cell) (parent : Path) (ticket index : ℕ) (name : Path) (e c : Cell) → name ≡ child_path parent ticket index
-    → Updates path_cmp cells mid name (Some e) → Some c ≡ get path_cmp cells parent → None ≡ get path_cmp mid parent → ⊥
-parent-still cells mid parent ticket index name e c named inserted had none =
-    let no : Some c ≡ None
-    = had
-    ∙ sym
-    (updated-apart cells mid name (Some e) inserted parent (λ same. apart-below parent (record { ticket = ticket; child = index }) [] (sym same ∙ named)))
-    ∙ sym none in cc
+pub parent-still : (cells mid : BTreeMap Path Cell) (parent : Path) (ticket index : ℕ) (name : Path) (e : Cell) → name ≡ child_path parent ticket index
+    → Updates path_cmp cells mid name (Some e) → get path_cmp mid parent ≡ get path_cmp cells parent
+parent-still cells mid parent ticket index name e named inserted =
+    updated-apart cells mid name (Some e) inserted parent (λ same. apart-below parent (record { ticket = ticket; child = index }) [] (sym same ∙ named))
 
 -- ---- a child that does not wake for want of memory
 

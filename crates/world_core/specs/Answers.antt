@@ -9,7 +9,8 @@ use Rattle.forest_tree.specs.Tree.{Tree, node, machine, Path, subtree}
 use Rattle.forest_tree.specs.Settle.{has_ended, waits}
 use Rattle.forest_history.specs.Places.{out, Spot}
 use Rattle.forest_history.specs.World.{is_at_home}
-use Rattle.forest_history.specs.Rows.{How, gave, ended, forked, joined, killed, waited, Row, over, stopped, idle, took, nothing, spent, dropped, kept, Allows, does}
+use Rattle.forest_history.specs.Rows.{How, gave, ended, forked, joined, killed, waited, Row, over, stopped, idle, took, nothing, spent, dropped, kept}
+use Rattle.forest_history.specs.Rows.{Allows, does}
 use Rattle.world_core.specs.declared.reason.Reason.{Reason}
 use Rattle.world_core.specs.declared.world.World.{World}
 use Rattle.world_core.specs.declared.world.Placed.{Placed}
@@ -120,7 +121,8 @@ Takes depot f taken.Memory new = Goes depot f nothing new
 abbrev pub TakesNamed : Shelves → Forest → Path → Result (Option Lent) AllocError → World → Type 0
 TakesNamed depot f name (Ok None) new = (is_at_home paged_machines name f.tree ≡ false) × StandsFor depot new f
 TakesNamed depot f name (Ok (Some lease)) new =
-    (is_at_home paged_machines name f.tree ≡ true) × (lease.name ≡ name) × Starts f lease × IsLentOf depot lease × StandsFor depot new (does paged_machines (took name) f)
+    (is_at_home paged_machines name f.tree ≡ true) × (lease.name ≡ name) × Starts f lease × IsLentOf depot lease
+    × StandsFor depot new (does paged_machines (took name) f)
 TakesNamed depot f name (Err e) new = StandsFor depot new f
 
 -- the tree with its machine as it stands now

@@ -15,7 +15,7 @@ use Rattle.run_report.specs.Lines.{lines}
 use Rattle.run_report.specs.Report.{Ended, lines_of}
 use Rattle.world_core.specs.declared.cell.Cell.{Cell}
 use Rattle.world_core.specs.declared.world.World.{World}
-use Rattle.world_core.specs.Waiting.{IsListed}
+use Rattle.world_core.specs.Listed.{IsListed}
 use Rattle.world_core.specs.Shows.{forest, told_spot, IsAwake, HoldsAfter, Shows}
 use Rattle.world_core.specs.World.{Forest, IsDue}
 

@@ -5,27 +5,27 @@ use Rattle.fork_port.specs.declared.ending.Ending.{Ending}
 use Rattle.run_report.specs.Lines.{Line, ticket_line}
 use Rattle.run_report.specs.Report.{lines_of}
 use Rattle.world_core.specs.declared.cell.Brood.{Brood}
-use Rattle.world_core.specs.declared.cell.Slot.{Slot}
-use Rattle.world_core.specs.declared.cell.Slot.TheVariants.{Asleep, Awake, Ended}
+use Rattle.world_core.specs.declared.cell.ChildSlot.{ChildSlot}
+use Rattle.world_core.specs.declared.cell.ChildSlot.TheVariants.{Asleep, Awake, Ended}
 
 -- how the child in a slot ended, if it has
-abbrev pub endings_in : Slot → List Ending
+abbrev pub endings_in : ChildSlot → List Ending
 endings_in Asleep = []
 endings_in Awake = []
 endings_in (Ended outcome) = outcome.ending ∷ []
 
 -- how the children ended that have, in order
-abbrev pub slot_endings : List Slot → List Ending
+abbrev pub slot_endings : List ChildSlot → List Ending
 slot_endings slots = flat_map endings_in slots
 
 -- the lines of the child in a slot, if it has ended
-abbrev pub lines_in : Slot → List Line
+abbrev pub lines_in : ChildSlot → List Line
 lines_in Asleep = []
 lines_in Awake = []
 lines_in (Ended outcome) = lines_of outcome
 
 -- the lines of the children that have ended, in order
-abbrev pub slot_lines : List Slot → List Line
+abbrev pub slot_lines : List ChildSlot → List Line
 slot_lines slots = flat_map lines_in slots
 
 -- the line of a brood by its ticket, where the ticket is killed

@@ -13,7 +13,7 @@ use Rattle.world_core.specs.declared.world.Taken.{Taken}
 use Rattle.world_core.specs.declared.world.Taken.TheVariants as taken
 use Rattle.world_core.specs.declared.world.World.{World}
 use Rattle.world_core.specs.Lent.{Lent}
-use Rattle.world_core.specs.Litter.{Unborn}
+use Rattle.world_core.specs.PreparedFork.{Prepared}
 
 -- the number of the image of each brood, by the name of the parent and the ticket
 abbrev pub Images : Type 0
@@ -36,7 +36,7 @@ IsStateAt images path (Out start) = IsImageAt images path start.value.key
 
 -- what the children of a ticket start with, as long as it is kept, is of the image of their brood
 abbrev pub IsBroodAt : Images → Path → ℕ → Brood → Type 0
-IsBroodAt images path ticket b = IfSome b.young (λ young. images path ticket ≡ number_of young.key)
+IsBroodAt images path ticket b = IfSome b.image (λ image. images path ticket ≡ number_of image.key)
 
 abbrev pub AreBroodsAt : Images → Path → BTreeMap ℕ Brood → Type 0
 AreBroodsAt images path broods = (ticket : ℕ) → IfSome (get nat_cmp broods ticket) (IsBroodAt images path ticket)
@@ -69,5 +69,5 @@ AreTakenAt images None = Unit {0}
 AreTakenAt images (Some t) = IsTakenAt images t
 
 -- the children that a CLONE is to have are of the image that is told for their brood
-abbrev pub IsUnbornAt : Images → Unborn → Type 0
-IsUnbornAt images litter = images litter.name litter.ticket ≡ number_of litter.left.key
+abbrev pub IsPreparedAt : Images → Prepared → Type 0
+IsPreparedAt images prepared = images prepared.name prepared.ticket ≡ number_of prepared.image.key

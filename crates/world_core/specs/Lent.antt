@@ -1,9 +1,10 @@
 -- A machine on lease.
-use Rattle.std.specs.Prelude.{◌≡◌, ℕ, ◌+◌, Option}
+use Rattle.std.specs.Prelude.{◌≡◌, ℕ, ◌+◌, Option, None}
 use Rattle.forest_tree.specs.Tree.{Path}
 use Rattle.forest_model.specs.Machine.{Machine, after_steps}
 use Rattle.image_depot.specs.Key.{Key}
 use Rattle.forest_model.specs.Paged.{Pages, Paged, advanced_by}
+use Rattle.ready_queue.specs.Ready.{Ready}
 use Rattle.vm_cell.specs.Keyed.{KeyedMachine, paged}
 
 pub record Lent : Type 0 where
@@ -38,6 +39,12 @@ pub record IsLent (start : Machine) (ran : ℕ) (now : Machine) : Type 0 where
 -- from something that was known of the machine's pages when it was taken, its steps led to what is known of them now
 abbrev pub HasLed : Lent → Type 0
 HasLed lease = (pages : Pages) × ((advanced_by lease.ran (record { machine = lease.start; pages = pages })).pages ≡ lease.pages)
+
+-- a lease has its machine's own turn, and the steps since it was taken
+pub record IsLease (turn : Ready) (start : Machine) (ran : ℕ) (vm : KeyedMachine) : Type 0 where
+  pub own : turn.children ≡ None
+  pub made : IsLent start ran vm.machine
+  pub led : HasLed (lent_as turn.name start ran vm)
 
 -- the machine of the lease is the one that was taken, and has the same image
 pub record IsSameLease (old new : Lent) : Type 0 where

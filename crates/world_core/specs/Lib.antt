@@ -1,7 +1,6 @@
 pub mod Lent
-pub mod Waiting
-pub mod Turns
-pub mod Litter
+pub mod Listed
+pub mod PreparedFork
 pub mod Broods
 pub mod Shows
 pub mod Unparked

@@ -12,13 +12,13 @@ use Rattle.machine_names.specs.NameOrder.{path_cmp}
 use Rattle.world_core.specs.declared.cell.Cell.{Cell}
 use Rattle.world_core.specs.declared.world.Taken.{Taken}
 use Rattle.world_core.specs.declared.world.World.{World}
-use Rattle.world_core.specs.Waiting.{Waiting}
+use Rattle.ready_queue.specs.Ready.{Ready}
 use Rattle.world_core.specs.Shows.{forest, IsAwake, Shows}
 use Rattle.world_core.specs.World.{Forest, StandsFor}
 use Rattle.world_core.specs.Answers.{Takes}
 
 -- the world with the turn
-abbrev pub with_turn : Waiting → World → World
+abbrev pub with_turn : Ready → World → World
 with_turn turn w = record w { ready = turn ∷ w.ready }
 
 -- the turn took this out, or none of it was ready, and the world stands for the forest without it

@@ -5,7 +5,8 @@ use Rattle.std.specs.BTreeMap.{get, btree_map_len}
 use Rattle.fork_port.specs.declared.ending.Ending.{Ending}
 use Rattle.forest_tree.specs.Operations.{Operations, Call, join, is_cloned}
 use Rattle.forest_tree.specs.Sound.{IsSound}
-use Rattle.forest_tree.specs.Tree.{Tree, node, Trees, no_tree, tree, no_brood, brood, joined, killed, machine, broods_of, log_of, brood_of, without, child_at, at_child, at_brood, Path}
+use Rattle.forest_tree.specs.Tree.{Tree, node, Trees, no_tree, tree, no_brood, brood, joined, killed, machine, broods_of, log_of, brood_of, without}
+use Rattle.forest_tree.specs.Tree.{child_at, at_child, at_brood, Path}
 use Rattle.forest_tree.specs.Settle.{alone, has_ended, waits, endings, children, log_killed}
 use Rattle.forest_history.specs.Places.{asleep, home, out, parked, Spot, spots}
 use Rattle.forest_history.specs.World.{is_asleep_at, is_out_at}
@@ -20,14 +21,13 @@ use Rattle.vm_cell.specs.Woken.{IsOfImage, woken_machine, woken_pages}
 use Rattle.run_report.specs.Lines.{Told, lines, log_lines}
 use Rattle.machine_names.specs.Name.{child_path}
 use Rattle.run_report.specs.Report.{lines_of, told}
-use Rattle.vm_cell.specs.declared.vm.fork.Brood.{Brood as Young}
+use Rattle.vm_cell.specs.declared.vm.fork.Brood.{Brood as ForkImage}
 use Rattle.world_core.specs.declared.cell.Brood.{Brood}
 use Rattle.world_core.specs.declared.cell.Cell.{Cell}
-use Rattle.world_core.specs.declared.cell.Slot.{Slot}
-use Rattle.world_core.specs.declared.cell.Slot.TheVariants.{Asleep, Awake, Ended}
+use Rattle.world_core.specs.declared.cell.ChildSlot.{ChildSlot}
+use Rattle.world_core.specs.declared.cell.ChildSlot.TheVariants.{Asleep, Awake, Ended}
 use Rattle.world_core.specs.declared.cell.State.{State}
 use Rattle.world_core.specs.declared.cell.State.TheVariants.{Home, Parked, Out}
-use Rattle.world_core.specs.Turns.{turn_of, turns_from}
 
 -- the machines of a world, each with what is known of its pages, at its place
 abbrev pub forest : Operations (Spot Paged) Ending
@@ -52,13 +52,13 @@ pub record Sleeps (key : Key) (seed : Descriptor) (t : Tree (Spot Paged)) : Type
   pub lives : has_ended forest t ≡ false
 
 -- a slot shows the child at a path, which was born of a seed
-abbrev pub SlotShows : Path → Key → Descriptor → Slot → Tree (Spot Paged) → Type 0
+abbrev pub SlotShows : Path → Key → Descriptor → ChildSlot → Tree (Spot Paged) → Type 0
 SlotShows path key seed Asleep t = Sleeps key seed t
 SlotShows path key seed Awake t = IsAwake t
 SlotShows path key seed (Ended outcome) t = (told_spot.ending (machine t) ≡ Some outcome.ending) × (lines_of outcome ≡ lines told_spot path t)
 
 -- the slots show the children of a ticket, from child k on, each born of the seed by its number
-unfoldable pub SlotsShow : Path → ℕ → Key → ℕ → Descriptor → List Slot → Trees (Spot Paged) → Type 0
+unfoldable pub SlotsShow : Path → ℕ → Key → ℕ → Descriptor → List ChildSlot → Trees (Spot Paged) → Type 0
 SlotsShow path ticket key k seed [] no_tree = Unit {0}
 SlotsShow path ticket key k seed [] (tree t rest) = ⊥
 SlotsShow path ticket key k seed (slot ∷ slots) no_tree = ⊥
@@ -66,31 +66,31 @@ SlotsShow path ticket key k seed (slot ∷ slots) (tree t rest) =
     SlotShows (child_path path ticket k) key (numbered k seed) slot t × SlotsShow path ticket key (suc k) seed slots rest
 
 -- a slot is of no child that is still a descriptor
-abbrev pub IsNotAsleep : Option Slot → Type 0
+abbrev pub IsNotAsleep : Option ChildSlot → Type 0
 IsNotAsleep None = Unit {0}
 IsNotAsleep (Some Asleep) = ⊥
 IsNotAsleep (Some Awake) = Unit {0}
 IsNotAsleep (Some (Ended outcome)) = Unit {0}
 
 -- none of them is still a descriptor
-abbrev pub AreAwake : List Slot → Type 0
+abbrev pub AreAwake : List ChildSlot → Type 0
 AreAwake slots = (k : ℕ) → IsNotAsleep (slice_get slots k)
 
 -- what the fork of a brood left for its children, which is kept as long as one of them is still a descriptor
-abbrev pub BornShows : Shelves → Path → ℕ → Option Young → List Slot → Trees (Spot Paged) → Type 0
+abbrev pub BornShows : Shelves → Path → ℕ → Option ForkImage → List ChildSlot → Trees (Spot Paged) → Type 0
 BornShows depot path ticket None slots trees =
     (key : Key) × (seed : Descriptor) × AreAwake slots × SlotsShow path ticket key 1 seed slots trees
-BornShows depot path ticket (Some young) slots trees =
-    IsKeyOf depot young.key × SlotsShow path ticket young.key 1 young.seed slots trees
+BornShows depot path ticket (Some image) slots trees =
+    IsKeyOf depot image.key × SlotsShow path ticket image.key 1 image.seed slots trees
 
 -- it is kept, or let go where none of them is
-abbrev pub IsLeft : Option Young → List Slot → Option Young → Type 0
-IsLeft old slots young = (young ≡ old) ⊎ ((young ≡ None) × AreAwake slots)
+abbrev pub IsLeft : Option ForkImage → List ChildSlot → Option ForkImage → Type 0
+IsLeft old slots image = (image ≡ old) ⊎ ((image ≡ None) × AreAwake slots)
 
 -- a brood shows the children of a ticket of the machine at a path
 pub record BroodShows (depot : Shelves) (path : Path) (ticket : ℕ) (b : Brood) (trees : Trees (Spot Paged)) : Type 0 where
   pub live : b.live ≡ living forest trees
-  pub born : BornShows depot path ticket b.young b.slots.items trees
+  pub born : BornShows depot path ticket b.image b.slots.items trees
 
 -- there is a brood exactly where the ticket is cloned, and else no child
 abbrev pub BroodAt : Shelves → Path → ℕ → Option Brood → Bool → Trees (Spot Paged) → Type 0
@@ -104,7 +104,7 @@ abbrev pub StateShows : Path → State → Spot Paged → Bool → Type 0
 StateShows path (Home vm) s is_waiting = (paged vm.value ≡ s.machine) × ((s.place ≡ home) ⊎ ((s.place ≡ parked) × (is_waiting ≡ false)))
 StateShows path (Parked ticket vm turn) s is_waiting =
     (paged vm.value ≡ s.machine) × (s.place ≡ parked) × (is_waiting ≡ true) × (paged_machines.call s.machine ≡ Some (join ticket))
-    × (turns_from turn.value ≡ turn_of turn.value ∷ []) × (turn_of turn.value ≡ record { name = path; children = None })
+    × (turn ≡ record { name = path; children = None })
 StateShows path (Out start) s is_waiting = (start.value.machine ≡ s.machine.machine) × (s.place ≡ out)
 
 -- the absent pages of a machine at home, if it has some, are in an image of this depot
@@ -189,11 +189,11 @@ abbrev pub HoldsAfter : Shelves → Path → Cell → Tree (Spot Paged) → Type
 HoldsAfter depot path c t = Tallies path c t × (has_ended forest t ≡ false → Holds depot path c t)
 
 -- slot k, from 1
-abbrev pub slot_at : ℕ → List Slot → Option Slot
+abbrev pub slot_at : ℕ → List ChildSlot → Option ChildSlot
 slot_at k slots = slice_get slots (k - 1)
 
 -- a child is there, and is still a descriptor
-abbrev pub is_asleep_slot : Option Slot → Bool
+abbrev pub is_asleep_slot : Option ChildSlot → Bool
 is_asleep_slot None = false
 is_asleep_slot (Some Asleep) = true
 is_asleep_slot (Some Awake) = false

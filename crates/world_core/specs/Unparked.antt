@@ -1,10 +1,8 @@
 -- A cell whose machine waits no more.
 use Rattle.std.specs.Prelude.{ℕ, ◌==◌, Bool, false, if◌then◌else◌, Option, Some, None}
-use Rattle.std.specs.declared.alloc.Global.{Global}
-use Rattle.std.specs.declared.boxed.Box.{Box}
 use Rattle.world_core.specs.declared.cell.State.{State}
 use Rattle.world_core.specs.declared.cell.State.TheVariants.{Home, Parked, Out}
-use Rattle.world_core.specs.declared.turns.Turn.{Turn}
+use Rattle.ready_queue.specs.Ready.{Ready}
 
 -- the machine is at home, if it waited for this ticket
 abbrev pub unparked : ℕ → State → State
@@ -18,7 +16,7 @@ is_parked_for ticket (Parked waited vm turn) = waited == ticket
 is_parked_for ticket (Out start) = false
 
 -- the turn that a machine keeps which waits
-abbrev pub kept_turn : State → Option (Box Turn Global)
+abbrev pub kept_turn : State → Option Ready
 kept_turn (Home vm) = None
 kept_turn (Parked waited vm turn) = Some turn
 kept_turn (Out start) = None

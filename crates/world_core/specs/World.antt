@@ -16,7 +16,8 @@ use Rattle.run_report.specs.Report.{Ended, lines_of}
 use Rattle.world_core.specs.declared.reason.Reason.{Reason}
 use Rattle.world_core.specs.declared.world.World.{World}
 use Rattle.world_core.specs.declared.cell.Cell.{Cell}
-use Rattle.world_core.specs.Waiting.{Waiting, IsListed, IsCovered}
+use Rattle.ready_queue.specs.Ready.{Ready}
+use Rattle.world_core.specs.Listed.{IsListed, IsCovered}
 use Rattle.world_core.specs.Shows.{forest, told_spot, IsAwake, Shows}
 
 -- a forest of machines, each at its place, and the first reason to stop
@@ -24,7 +25,7 @@ abbrev pub Forest : Type 0
 Forest = history.World Paged Reason
 
 -- a machine that is ready has a turn: its own where it has a cell, and else one with the children of its ticket
-abbrev pub IsDue : Option Cell → Path → List Waiting → Type 0
+abbrev pub IsDue : Option Cell → Path → List Ready → Type 0
 IsDue None name turns = IsCovered name turns
 IsDue (Some c) name turns = IsListed name turns
 

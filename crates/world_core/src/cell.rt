@@ -1,4 +1,4 @@
-ghost use Rattle.std.specs.Prelude.{◌≡◌, ◌+◌, ◌≤◌, ◌<◌, ◌⊎◌, ◌∷◌, ℕ, [], ◌&&◌, true, false, not, nat_lt, Option, Some, None, IfOk, IfSome, OnOk, OnErr, MatchOption, vec_len};
+ghost use Rattle.std.specs.Prelude.{◌≡◌, ◌+◌, ◌≤◌, ◌<◌, ◌⊎◌, ℕ, ◌&&◌, true, false, not, nat_lt, Option, Some, None, IfOk, IfSome, OnOk, OnErr, MatchOption, vec_len};
 ghost use Rattle.image_depot.specs.Key.{Shelves};
 ghost use Rattle.forest_tree.specs.Operations.{clone, join, kill, is_cloned};
 ghost use Rattle.forest_tree.specs.Tree.{Tree, machine, brood_of, broods_of, Path};
@@ -15,22 +15,21 @@ ghost use Rattle.vm_cell.specs.Keyed.{IsOfDepot, paged};
 ghost use Rattle.vm_cell.specs.Standing.{IsClone, IsJoin, IsKill, standing_call};
 ghost use Rattle.vm_descriptor.specs.declared.descriptor.TheConstants.{MAX_CLONES};
 ghost use Rattle.world_core.specs.Images.{HasImages, Images, IsImageAt};
-ghost use Rattle.world_core.specs.Turns.{turn_of, turns_from};
 ghost use Rattle.world_core.specs.Unparked.{unparked, is_parked_for, kept_turn};
 ghost use Rattle.world_core.specs.Shows.{CellShows, Holds, HoldsAfter, IsAwake, IsLeft, IsNotAsleep, StandsAt, Tallies, child_of, is_asleep_slot, slot_at, ended_tree, forest, forked_tree, joined_tree, killed_tree, told_spot, with_child};
 
-use crate::turns::Turn;
 use forest_model::Ending;
 use fork_port::Call;
 use image_depot::Depot;
 use machine_names::Name;
+use ready_queue::ReadyTurn;
 use run_report::{Line, Outcome};
 use std::alloc::{AllocError, Global};
 use std::collections::BTreeMap;
 use std::mem;
 use std::snapshot::Snapshot;
 use std::sync::Wait;
-use vm_cell::{Brood as Young, Vm};
+use vm_cell::{Brood as ForkImage, Vm};
 
 mod broods;
 mod calls;
@@ -53,7 +52,7 @@ pub(crate) enum State {
     /// It is at home, and can be handed out.
     Home(Box<Vm>),
     /// It is at home, and waits for the children of a ticket. It keeps the room for its turn.
-    Parked(u32, Box<Vm>, Box<Turn>),
+    Parked(u32, Box<Vm>, ReadyTurn),
     /// It is on lease. Contracts see the machine that was handed out.
     Out(Snapshot<Vm>),
 }
@@ -64,16 +63,16 @@ pub(crate) struct Brood {
     /// The name of their parent, for the line of the log where the ticket is killed.
     pub(crate) name: Name,
     /// What they start with, as long as one of them is still a descriptor.
-    pub(crate) young: Option<Young>,
+    pub(crate) image: Option<ForkImage>,
     /// One for each of them, in order.
-    pub(crate) slots: Vec<Slot>,
+    pub(crate) slots: Vec<ChildSlot>,
     /// How many of them have not ended.
     pub(crate) live: u32,
 }
 
 /// A child of a ticket.
 #[derive(Drop)]
-pub(crate) enum Slot {
+pub(crate) enum ChildSlot {
     /// It is still a descriptor.
     Asleep,
     /// It lives, in a cell of its own.
@@ -180,11 +179,11 @@ impl Cell {
         let Some(brood) = self.broods.get(&ticket) else {
             unreachable!();
         };
-        let Some(young) = &brood.young else {
+        let Some(image) = &brood.image else {
             unreachable!();
         };
-        let seed = young.seed.through_bytes(alloc, index)?;
-        Vm::wake(alloc, &seed, &young.key, depot)
+        let seed = image.seed.through_bytes(alloc, index)?;
+        Vm::wake(alloc, &seed, &image.key, depot)
     }
 
     /// A child has a cell of its own from now on.
@@ -200,7 +199,7 @@ impl Cell {
         let Some(brood) = self.broods.get_mut(&ticket) else {
             unreachable!();
         };
-        brood.slots[index as usize - 1] = Slot::Awake;
+        brood.slots[index as usize - 1] = ChildSlot::Awake;
         brood.let_go();
     }
 
@@ -210,14 +209,14 @@ impl Cell {
         ticket: u32,
         index: u32,
         outcome: Outcome,
-    ) -> Option<Box<Turn>>
+    ) -> Option<ReadyTurn>
         requires { (depot : Shelves) × (path : Path) × (t a : Tree (Spot Paged)) × CellShows depot path self.old t × (child_of ticket index t ≡ Some a) × IsAwake a }
         ensures shows { (depot : Shelves) (path : Path) (t a b : Tree (Spot Paged)) → CellShows depot path self.old t
             → child_of ticket index t ≡ Some a → IsAwake a → (told_spot.ending (machine b) ≡ Some outcome.ending)
             → (lines_of outcome ≡ lines told_spot (child_path path ticket index) b) → CellShows depot path self.new (with_child ticket index b t) }
         ensures images { (images : Images) (path : Path) → HasImages images path self.old → HasImages images path self.new }
         ensures turn { (depot : Shelves) (path : Path) (t : Tree (Spot Paged)) → CellShows depot path self.old t
-            → IfSome result (λ turn. (turns_from turn.value ≡ turn_of turn.value ∷ []) × (turn_of turn.value ≡ record { name = path; children = None })) }
+            → IfSome result (λ turn. turn ≡ record { name = path; children = None }) }
         ensures listed { MatchOption result (self.new.is_listed ≡ self.old.is_listed) (λ turn. self.new.is_listed ≡ true) }
         ensures ready { (depot : Shelves) (path : Path) (t a b : Tree (Spot Paged)) → CellShows depot path self.old t → child_of ticket index t ≡ Some a → IsAwake a
             → (told_spot.ending (machine b) ≡ Some outcome.ending) → lives_ready paged_machines (with_child ticket index b t) ≡ true
@@ -226,7 +225,7 @@ impl Cell {
         let Some(brood) = self.broods.get_mut(&ticket) else {
             unreachable!();
         };
-        brood.slots[index as usize - 1] = Slot::Ended(outcome);
+        brood.slots[index as usize - 1] = ChildSlot::Ended(outcome);
         brood.live -= 1;
         if brood.live > 0 {
             return None;
@@ -235,7 +234,7 @@ impl Cell {
     }
 
     /// Ends the wait for the children of a ticket. The machine's turn comes back where it is to be listed.
-    fn unpark(&mut self, ticket: u32) -> Option<Box<Turn>>
+    fn unpark(&mut self, ticket: u32) -> Option<ReadyTurn>
         ensures state { self.new.state ≡ unparked ticket self.old.state }
         ensures rest { (self.new.broods ≡ self.old.broods) × (self.new.log ≡ self.old.log) }
         ensures turn { IfSome result (λ turn. kept_turn self.old.state ≡ Some turn) }
@@ -266,21 +265,21 @@ impl Brood {
     pub(crate) fn is_asleep(&self, index: u32) -> bool
         ensures { result ≡ nat_lt 0 index && is_asleep_slot (slot_at index self.now.slots.items) }
     {
-        index > 0 && matches!(self.slots.get(index as usize - 1), Some(Slot::Asleep))
+        index > 0 && matches!(self.slots.get(index as usize - 1), Some(ChildSlot::Asleep))
     }
 
     /// Lets go of what the children start with, where none of them is a descriptor any more. Most wake in their order, so
     /// while the last has not, there is no look at the others.
     fn let_go(&mut self)
         requires few { vec_len self.old.slots ≤ MAX_CLONES }
-        ensures young { IsLeft self.old.young self.old.slots.items self.new.young }
-        ensures rest { self.new ≡ record self.old { young = self.new.young } }
+        ensures image { IsLeft self.old.image self.old.slots.items self.new.image }
+        ensures rest { self.new ≡ record self.old { image = self.new.image } }
     {
         let last = self.slots.len() as u32;
         if self.is_asleep(last) || self.asleep_from(1).is_some() {
             return;
         }
-        self.young = None;
+        self.image = None;
     }
 
     /// The first child, from one on, that is still a descriptor.
@@ -288,12 +287,12 @@ impl Brood {
         requires first { 1 ≤ first }
         requires few { vec_len self.now.slots ≤ MAX_CLONES }
         ensures { MatchOption result ((k : ℕ) → first ≤ k → IsNotAsleep (slot_at k self.now.slots.items))
-            (λ index. (first ≤ index) × (slot_at index self.now.slots.items ≡ Some Slot.Asleep)
+            (λ index. (first ≤ index) × (slot_at index self.now.slots.items ≡ Some ChildSlot.Asleep)
             × ((k : ℕ) → first ≤ k → k < index → IsNotAsleep (slot_at k self.now.slots.items))) }
     {
         let mut index = first;
         while index as usize <= self.slots.len() {
-            if let Slot::Asleep = &self.slots[index as usize - 1] {
+            if let ChildSlot::Asleep = &self.slots[index as usize - 1] {
                 return Some(index);
             }
             index += 1;

@@ -1,4 +1,4 @@
-ghost use Rattle.std.specs.Prelude.{◌≡◌, ◌≢◌, ◌≤◌, ◌<◌, ◌+◌, ◌-◌, ◌∷◌, [], length, slice_index_or, false, IfOk, OnErr, None};
+ghost use Rattle.std.specs.Prelude.{◌≡◌, ◌≢◌, ◌≤◌, ◌<◌, ◌+◌, ◌-◌, length, slice_index_or, false, IfOk, OnErr, None};
 ghost use Rattle.std.specs.Option.{option_copied};
 ghost use Rattle.image_depot.specs.Key.{IsKeyOf, Shelves};
 ghost use Rattle.forest_model.specs.Machine.{after_steps};
@@ -11,48 +11,43 @@ ghost use Rattle.vm_cell.specs.Steps.{IsFreeFor, Stands, moved_by};
 ghost use Rattle.world_core.specs.Answers.{IsHandedOut, IsOutSince, join_ticket};
 ghost use Rattle.world_core.specs.Arrived.{StillHandedOut, after_arrival};
 ghost use Rattle.world_core.specs.Lent.{HasLed, IsSameLease, lent_as, vm_of};
-ghost use Rattle.world_core.specs.Turns.{turn_of, turns_from};
 ghost use Rattle.world_core.specs.World.{Forest, StandsFor};
 ghost use Rattle.world_core.specs.declared.world.World.{World};
 
-use crate::turns::Turn;
 use forest_model::Ending;
 use fork_port::Call;
 use image_depot::{Depot, ImageKey, Parcel};
 use machine_names::Name;
+use ready_queue::ReadyTurn;
 use std::alloc::{AllocError, Global};
 use std::marker::Model;
 use std::snapshot::Snapshot;
 use vm_cell::{Arrived, Ran, Stepped, Vm};
 
 /// A machine on lease. It runs by itself, and nothing else runs it meanwhile. A lease cannot be let go: it is
-/// spent by the world that handed it out, in `give`, `end`, `fork`, `bear`, `join` or `kill`.
+/// spent by the world that handed it out, in `give`, `end`, `fork`, `commit_fork`, `join` or `kill`.
 pub struct Lease {
-    pub(crate) turn: Box<Turn>,
+    pub(crate) turn: ReadyTurn,
     pub(crate) vm: Box<Vm>,
     pub(crate) ran: u64,
     pub(crate) start: Snapshot<Vm>,
 }
 
 impl Model for Lease {
-    ghost use Rattle.std.specs.Prelude.{◌≡◌, ◌∷◌, [], None};
-    ghost use Rattle.world_core.specs.Lent.{Lent, IsLent, HasLed, lent_as};
-    ghost use Rattle.world_core.specs.Turns.{turn_of, turns_from};
+    ghost use Rattle.world_core.specs.Lent.{Lent, IsLease, lent_as};
 
     ghost Value = { Lent };
 
-    ghost view = { λ l. lent_as (turn_of l.turn.value).name l.start.value.machine l.ran l.vm.value };
+    ghost view = { λ l. lent_as l.turn.name l.start.value.machine l.ran l.vm.value };
 
-    ghost invariant = { λ l. IsLent l.start.value.machine l.ran l.vm.value.machine × (turns_from l.turn.value ≡ turn_of l.turn.value ∷ []) × ((turn_of l.turn.value).children ≡ None)
-        × HasLed (lent_as (turn_of l.turn.value).name l.start.value.machine l.ran l.vm.value) };
+    ghost invariant = { λ l. IsLease l.turn l.start.value.machine l.ran l.vm.value };
 }
 
 impl Lease {
     /// A machine that is handed out, with the turn of its name.
-    pub(crate) fn new(turn: Box<Turn>, vm: Box<Vm>) -> Lease
-        requires alone { turns_from turn.value ≡ turn_of turn.value ∷ [] }
-        requires one { (turn_of turn.value).children ≡ None }
-        ensures { result ≡ lent_as (turn_of turn.value).name vm.value.machine 0 vm.value }
+    pub(crate) fn new(turn: ReadyTurn, vm: Box<Vm>) -> Lease
+        requires { turn.children ≡ None }
+        ensures { result ≡ lent_as turn.name vm.value.machine 0 vm.value }
     {
         let start = Snapshot::of(&*vm);
         Lease {
@@ -77,7 +72,7 @@ impl Lease {
     pub fn name(&self) -> &Name
         ensures { result.now ≡ self.now.name }
     {
-        &self.turn.name
+        self.turn.name()
     }
 
     /// The steps that the machine has made since it was handed out. They led to what it is, and to what is known of its

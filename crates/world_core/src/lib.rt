@@ -4,13 +4,12 @@
 
 mod cell;
 mod lease;
-mod litter;
+mod prepared_fork;
 mod reason;
 mod receiver;
-mod turns;
 mod world;
 
 pub use lease::Lease;
-pub use litter::Litter;
+pub use prepared_fork::PreparedFork;
 pub use reason::Reason;
 pub use world::{Placed, Taken, World};

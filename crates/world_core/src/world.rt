@@ -1,4 +1,4 @@
-ghost use Rattle.std.specs.Prelude.{◌≡◌, [], ◌∷◌, length, None, Some, true, false, IfOk, OnOk, OnErr, IfSome, IsSome, IsSomeAnd, MatchOption};
+ghost use Rattle.std.specs.Prelude.{◌≡◌, [], length, None, Some, true, false, IfOk, OnOk, OnErr, IfSome, IsSome, IsSomeAnd, MatchOption};
 ghost use Rattle.std.specs.BTreeMap.{Updates, get};
 ghost use Rattle.image_depot.specs.Key.{Shelves};
 ghost use Rattle.forest_tree.specs.Settle.{has_ended};
@@ -17,7 +17,6 @@ ghost use Rattle.vm_cell.specs.Keyed.{IsOfDepot, paged};
 ghost use Rattle.world_core.specs.Images.{AreOfImages, HasImages, Images, IsImageAt, IsLentAt};
 ghost use Rattle.world_core.specs.Lent.{vm_of};
 ghost use Rattle.world_core.specs.Told.{told_of};
-ghost use Rattle.world_core.specs.Turns.{turns_from, turn_of};
 ghost use Rattle.world_core.specs.Shows.{CellShows, IsAwake, child_of, forest, told_spot, ended_tree};
 ghost use Rattle.world_core.specs.World.{Forest, IsReached, StandsFor};
 ghost use Rattle.world_core.specs.Between.{HasLeft, IsBetween, IsLeaving, IsSameWorld, TakesOut, with_tree};
@@ -26,10 +25,10 @@ ghost use Rattle.world_core.specs.Answers.{Answers, HandedOut, IsHandedOut, IsLe
 use crate::cell::{Cell, State};
 use crate::lease::Lease;
 use crate::reason::Reason;
-use crate::turns::{Turn, Turns};
 use forest_model::Ending;
 use image_depot::{Depot, Sent};
 use machine_names::Name;
+use ready_queue::{ReadyQueue, ReadyTurn};
 use run_report::Outcome;
 use std::alloc::{AllocError, Global};
 use std::collections::BTreeMap;
@@ -70,7 +69,7 @@ pub struct World {
     /// Those that live and are no descriptors any more, by name.
     pub(crate) cells: BTreeMap<Name, Cell>,
     /// Those that are ready, and maybe some that are no longer.
-    pub(crate) ready: Turns,
+    pub(crate) ready: ReadyQueue,
     pub(crate) halted: Option<Reason>,
     /// The replies that were told, for others to hear.
     pub(crate) told: Vec<Sent>,
@@ -123,7 +122,7 @@ impl World {
         let told = Vec::new(alloc);
         Ok(World {
             cells: BTreeMap::new(alloc),
-            ready: Turns::new(),
+            ready: ReadyQueue::new(),
             halted: None,
             told,
             outcome: Some(Outcome::new(root, ending, steps, output, log)),
@@ -141,10 +140,11 @@ impl World {
         ensures images { IfOk result (λ world. (images : Images) → AreOfImages images world) }
     {
         let vm = Box::new(alloc, vm)?;
-        let (name, turn) = Turn::root(alloc)?;
+        let name = Name::root(alloc)?;
+        let turn = ReadyTurn::of_machine(alloc, name.copy()?)?;
         let mut cells = BTreeMap::new(alloc);
         seat(&mut cells, name, Cell::of_root(alloc, vm))?;
-        let mut ready = Turns::new();
+        let mut ready = ReadyQueue::new();
         ready.push(turn);
         let told = Vec::new(alloc);
         Ok(World {
@@ -210,15 +210,6 @@ impl World {
     }
 
     /// How the family ended, once the root has.
-    pub fn finished(&self) -> Option<&Outcome>
-        ensures { (depot : Shelves) (f : Forest) → StandsFor depot self.now f
-            → MatchOption result (has_ended forest f.tree ≡ false)
-            (λ outcome. (has_ended forest f.tree ≡ true) × (lines_of outcome.now ≡ lines told_spot [] f.tree)) }
-    {
-        self.outcome.as_ref()
-    }
-
-    /// The same, of a world that is needed no more.
     pub fn into_finished(self) -> Option<Outcome>
         ensures { (depot : Shelves) (f : Forest) → StandsFor depot self f
             → MatchOption result (has_ended forest f.tree ≡ false)
@@ -265,18 +256,17 @@ impl World {
     }
 
     /// Puts a live machine home, which is ready then.
-    fn home(&mut self, turn: Box<Turn>, vm: Box<Vm>) -> Placed
-        requires alone { turns_from turn.value ≡ turn_of turn.value ∷ [] }
-        requires one { (turn_of turn.value).children ≡ None }
-        ensures gone { get path_cmp self.old.cells (turn_of turn.value).name ≡ None → (result ≡ Placed.Dropped) × IsSameWorld self.old self.new }
-        ensures home { (depot : Shelves) (f : Forest) (a : Tree (Spot Paged)) → IsBetween depot self.old f (turn_of turn.value).name a
+    fn home(&mut self, turn: ReadyTurn, vm: Box<Vm>) -> Placed
+        requires { turn.children ≡ None }
+        ensures gone { get path_cmp self.old.cells turn.name ≡ None → (result ≡ Placed.Dropped) × IsSameWorld self.old self.new }
+        ensures home { (depot : Shelves) (f : Forest) (a : Tree (Spot Paged)) → IsBetween depot self.old f turn.name a
             → (machine a).machine ≡ paged vm.value → IsOfDepot depot vm.value.key → has_ended forest a ≡ false
-            → IsSound forest (with_tree (turn_of turn.value).name (placed home a) f).tree
-            → (result ≡ Placed.Done) × StandsFor depot self.new (with_tree (turn_of turn.value).name (placed home a) f) }
+            → IsSound forest (with_tree turn.name (placed home a) f).tree
+            → (result ≡ Placed.Done) × StandsFor depot self.new (with_tree turn.name (placed home a) f) }
         ensures told { told_of self.new ≡ told_of self.old }
-        ensures images { (images : Images) → AreOfImages images self.old → IsImageAt images (turn_of turn.value).name vm.value.key → AreOfImages images self.new }
+        ensures images { (images : Images) → AreOfImages images self.old → IsImageAt images turn.name vm.value.key → AreOfImages images self.new }
     {
-        let Some(cell) = self.cells.get_mut(&turn.name) else {
+        let Some(cell) = self.cells.get_mut(turn.name()) else {
             return Placed::Dropped;
         };
         cell.state = State::Home(vm);
@@ -289,20 +279,20 @@ impl World {
 
     /// Puts what a machine left that has ended into its parent's brood, or keeps it where it is the root's.
     /// Its descendants are dropped.
-    fn finish(&mut self, turn: Box<Turn>, vm: Box<Vm>, ending: Ending) -> Placed
+    fn finish(&mut self, turn: ReadyTurn, vm: Box<Vm>, ending: Ending) -> Placed
         requires ended { vm.value.machine.ending ≡ Some ending }
-        requires between { IfSome (get path_cmp self.old.cells (turn_of turn.value).name)
-            (λ c. (depot : Shelves) × (f : Forest) × (a : Tree (Spot Paged)) × IsBetween depot self.old f (turn_of turn.value).name a
+        requires between { IfSome (get path_cmp self.old.cells turn.name)
+            (λ c. (depot : Shelves) × (f : Forest) × (a : Tree (Spot Paged)) × IsBetween depot self.old f turn.name a
             × ((machine a).machine ≡ paged vm.value)) }
-        ensures gone { get path_cmp self.old.cells (turn_of turn.value).name ≡ None → (result ≡ Placed.Dropped) × IsSameWorld self.old self.new }
-        ensures finished { (depot : Shelves) (f : Forest) (a : Tree (Spot Paged)) → IsBetween depot self.old f (turn_of turn.value).name a
+        ensures gone { get path_cmp self.old.cells turn.name ≡ None → (result ≡ Placed.Dropped) × IsSameWorld self.old self.new }
+        ensures finished { (depot : Shelves) (f : Forest) (a : Tree (Spot Paged)) → IsBetween depot self.old f turn.name a
             → (machine a).machine ≡ paged vm.value
-            → IsSound forest (with_tree (turn_of turn.value).name (placed home (ended_tree a)) f).tree
-            → (result ≡ Placed.Done) × StandsFor depot self.new (with_tree (turn_of turn.value).name (placed home (ended_tree a)) f) }
+            → IsSound forest (with_tree turn.name (placed home (ended_tree a)) f).tree
+            → (result ≡ Placed.Done) × StandsFor depot self.new (with_tree turn.name (placed home (ended_tree a)) f) }
         ensures told { told_of self.new ≡ told_of self.old }
         ensures images { (images : Images) → AreOfImages images self.old → AreOfImages images self.new }
     {
-        let mut name = Box::into_inner(turn).into_name();
+        let mut name = turn.into_name();
         let Some((key, cell)) = take_out(&mut self.cells, &name) else {
             return Placed::Dropped;
         };

@@ -1,7 +1,7 @@
 //! What accesses come to.
 
 ghost use Rattle.std.specs.Prelude.{◌≡◌, ◌-◌, ◌/◌, ◌≤◌, ◌<◌, ◌↔◌, if◌then◌else◌, ℕ, length, IfSome, IsNone, MatchBool, Some, None, true, false};
-ghost use Rattle.forest_model.specs.Access.{fault_cause, fetch_access, is_aligned_for, misaligned_cause, page_for, uses};
+ghost use Rattle.forest_model.specs.Access.{fault_cause, fetch_access, is_aligned_for, is_allowed, misaligned_cause, page_for, right_for, uses};
 ghost use Rattle.forest_model.specs.Atomic.{conditional_access, is_reserved};
 ghost use Rattle.forest_model.specs.Execute.{fetched};
 ghost use Rattle.forest_model.specs.State.{is_in_ram, is_timer_due};
@@ -19,6 +19,7 @@ use forest_model::cause::{
     LOAD_ADDRESS_MISALIGNED, STORE_ACCESS_FAULT, STORE_ADDRESS_MISALIGNED,
 };
 use forest_model::{Access, Direction};
+use guest_pmp::Access as Right;
 use instruction_slots::Fields;
 use rv_decode::{Group, Instr, decode};
 use rv_exec::{load_width, store_width};
@@ -55,8 +56,7 @@ impl Hart {
         }
     }
 
-    /// The offset in RAM of an access, or what it comes to where it is not aligned or not of RAM. Here alone that is
-    /// tested, also for fast steps, which learn from the memory itself whether the page is here.
+    /// The offset in RAM of an access, or what it comes to where it is not aligned, not allowed or not of RAM.
     #[inline(always)]
     pub(super) fn offset_of(&self, access: Access) -> Result<u32, Reach>
         requires { IsWidth access.width }
@@ -66,14 +66,59 @@ impl Hart {
             return Err(Reach::Faulted(misaligned_cause(access.direction)));
         }
         match self.ram_offset(access.address) {
-            Some(offset) => Ok(offset),
-            None => Err(outside_ram(access.direction)),
+            Some(offset) => {
+                if !self.is_allowed(access) {
+                    return Err(Reach::Faulted(fault_cause(access.direction)));
+                }
+                Ok(offset)
+            }
+            None => Err(self.outside(access)),
         }
+    }
+
+    /// What an access outside RAM comes to. Where no port may have it, memory protection makes no difference.
+    #[inline(always)]
+    fn outside(&self, access: Access) -> Reach
+        requires aligned { is_aligned_for access.direction access.address access.width ≡ true }
+        requires outside { is_in_ram self.now.state.ram access.address ≡ false }
+        ensures { Reaches self.now access result }
+    {
+        match outside_ram(access.direction) {
+            Reach::Port => {
+                if self.is_allowed(access) {
+                    Reach::Port
+                } else {
+                    Reach::Faulted(fault_cause(access.direction))
+                }
+            }
+            refused => refused,
+        }
+    }
+
+    /// Whether memory protection allows an access. Mostly it allows all.
+    #[inline(always)]
+    fn is_allowed(&self, access: Access) -> bool
+        ensures { result ≡ is_allowed access self.now.state }
+    {
+        if self.csrs.is_unrestricted() {
+            return true;
+        }
+        self.is_permitted(access)
+    }
+
+    /// The same, by the entries. The first byte of an access tells of all.
+    #[cold]
+    #[inline(never)]
+    fn is_permitted(&self, access: Access) -> bool
+        ensures { result ≡ is_allowed access self.now.state }
+    {
+        self.csrs
+            .allows(right_for(access.direction), access.address, 1)
     }
 
     /// Whether a page of RAM is here for an access of it, which may need none.
     #[inline(always)]
-    fn has_page(&self, direction: Direction, page: u32) -> bool
+    pub(super) fn has_page(&self, direction: Direction, page: u32) -> bool
         requires { page < length self.now.pages.here }
         ensures { MatchBool result
             (IfSome (page_for direction page) (IsHere self.now.pages))
@@ -240,9 +285,22 @@ pub(super) fn word_access(address: u32, direction: Direction) -> Access
     }
 }
 
+/// What memory protection is asked for.
+#[inline(always)]
+fn right_for(direction: Direction) -> Right
+    ensures { result ≡ right_for (uses direction) }
+{
+    match direction {
+        Direction::Fetch => Right::Fetch,
+        Direction::Load | Direction::Reserve => Right::Load,
+        Direction::Store | Direction::Conditional(_) => Right::Store,
+        Direction::Update => Right::Amo,
+    }
+}
+
 /// Whether an access is aligned. A fetch is: the pc is a multiple of 4.
 #[inline(always)]
-fn is_aligned(access: Access) -> bool
+pub(super) fn is_aligned(access: Access) -> bool
     requires { IsWidth access.width }
     ensures { result ≡ is_aligned_for access.direction access.address access.width }
 {
@@ -266,7 +324,7 @@ fn misaligned_cause(direction: Direction) -> u32
     }
 }
 
-/// The cause of an access that neither RAM nor a port has.
+/// The cause of an access that is denied, or that neither RAM nor a port has.
 #[inline(always)]
 fn fault_cause(direction: Direction) -> u32
     ensures { result ≡ fault_cause direction }
@@ -278,7 +336,7 @@ fn fault_cause(direction: Direction) -> u32
     }
 }
 
-/// What an access outside RAM comes to.
+/// What an access outside RAM comes to, where it is allowed.
 #[inline(always)]
 fn outside_ram(direction: Direction) -> Reach
     ensures { IsOutside direction result }

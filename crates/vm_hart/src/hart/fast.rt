@@ -1,6 +1,6 @@
 //! Fast steps, which are counted together: each retires an instruction that looks at no counter and reaches no port.
 
-ghost use Rattle.std.specs.Prelude.{◌≡◌, ◌≢◌, ◌%◌, ◌≤◌, ◌<◌, ℕ, length, MatchBool, None};
+ghost use Rattle.std.specs.Prelude.{◌≡◌, ◌≢◌, ◌%◌, ◌≤◌, ◌<◌, ℕ, length, MatchBool, None, true};
 ghost use Rattle.rv_exec.specs.Memory.{IsWidth, store_width};
 ghost use Rattle.forest_model.specs.declared.Written.TheVariants.{Nothing};
 ghost use Rattle.forest_model.specs.Action.{retire_next};
@@ -9,17 +9,20 @@ ghost use Rattle.rv_decode.specs.Instruction.{Instruction};
 ghost use Rattle.rv_decode.specs.Kinds.{group_of};
 ghost use Rattle.vm_hart.specs.Acts.{ActsAlone};
 ghost use Rattle.instruction_slots.specs.Slots.{ForgetsAt};
-ghost use Rattle.vm_hart.specs.Kept.{IsComing, Keeps, stored_at};
+ghost use Rattle.rv_traps.specs.Protection.{is_unrestricted};
+ghost use Rattle.vm_hart.specs.Kept.{IsComing, Keeps, mode_tag, stored_at};
 ghost use Rattle.vm_hart.specs.Keyed.{KeyedState};
 ghost use Rattle.vm_hart.specs.Fast.{ActsFast, AreMade, IsFastStep, IsQuiet, IsStretch, counted_since};
 ghost use Rattle.vm_hart.specs.Tries.{IsTry};
+ghost use Rattle.vm_hart.specs.Windows.{AreOpen, IsOpen};
 
+use super::window::Windows;
 use super::{Acted, Hart};
 use forest_model::Written;
 use fork_port::refusals::TICKETS_END;
+use guest_pmp::{Access as Right, Span};
 use instruction_slots::{Fields, Slot, forget};
 use rv_decode::Kind;
-use rv_traps::{CsrRegisters, Csrs};
 
 /// What came of a try at a fast step.
 #[derive(Clone, Copy)]
@@ -46,9 +49,27 @@ impl Hart {
         ensures same_length { length slots.new ≡ length slots.old }
     {
         let most = most.min(self.quiet_steps());
-        let made = self.fast_steps(slots, epoch, most);
+        let made = self.stretch(slots, epoch, most);
         self.count_many(made);
         made
+    }
+
+    /// Makes the fast steps that come, at most `most`, and answers how many. They are not counted yet. No fast step
+    /// changes what memory protection allows, so it is asked once whether that is all.
+    #[inline(always)]
+    fn stretch(&mut self, slots: &mut [Slot], epoch: u32, most: u64) -> u64
+        requires some { 0 < length slots.old }
+        requires keeps { Keeps self.old epoch slots.old }
+        ensures stretch { IsStretch result self.old self.new }
+        ensures most { result ≤ most }
+        ensures keeps { Keeps self.new epoch slots.new }
+        ensures same_length { length slots.new ≡ length slots.old }
+    {
+        if self.csrs.is_unrestricted() {
+            self.fast_steps::<true>(slots, epoch, most)
+        } else {
+            self.fast_steps::<false>(slots, epoch, most)
+        }
     }
 
     /// So many steps are made before the timer interrupt comes, if they write no counter: it is the limit of mtime
@@ -63,10 +84,11 @@ impl Hart {
         timer.mtimecmp.saturating_sub(timer.mtime)
     }
 
-    /// Makes the fast steps that come, at most `most`, and answers how many. They are not counted yet. It is apart and
-    /// never inlined, so that its loop has the processor's registers for itself.
+    /// The same, where `FREE` tells that memory protection allows all. It is apart and never inlined, so that its loop has
+    /// the processor's registers for itself.
     #[inline(never)]
-    fn fast_steps(&mut self, slots: &mut [Slot], epoch: u32, most: u64) -> u64
+    fn fast_steps<const FREE: bool>(&mut self, slots: &mut [Slot], epoch: u32, most: u64) -> u64
+        requires free { FREE ≡ true → is_unrestricted self.old.state.csrs ≡ true }
         requires some { 0 < length slots.old }
         requires keeps { Keeps self.old epoch slots.old }
         ensures stretch { IsStretch result self.old self.new }
@@ -74,8 +96,10 @@ impl Hart {
         ensures keeps { Keeps self.new epoch slots.new }
         ensures same_length { length slots.new ≡ length slots.old }
     {
+        let tag = self.mode_tag::<FREE>();
+        let mut windows = Windows::shut();
         let mut left = most;
-        while left > 0 && self.step_fast(slots, epoch) {
+        while left > 0 && self.step_fast::<FREE>(slots, epoch, tag, &mut windows) {
             left -= 1;
         }
         most - left
@@ -83,31 +107,49 @@ impl Hart {
 
     /// Makes the coming step if it is fast, with no look at the interrupt. Else nothing changes.
     #[inline(always)]
-    fn step_fast(&mut self, slots: &mut [Slot], epoch: u32) -> bool
+    fn step_fast<const FREE: bool>(
+        &mut self,
+        slots: &mut [Slot],
+        epoch: u32,
+        tag: u32,
+        windows: &mut Windows,
+    ) -> bool
+        requires free { FREE ≡ true → is_unrestricted self.old.state.csrs ≡ true }
         requires some { 0 < length slots.old }
         requires keeps { Keeps self.old epoch slots.old }
+        requires tag { tag ≡ mode_tag self.old.state.csrs.mode }
+        requires is_open { AreOpen self.old.state.csrs windows.old }
         ensures made { MatchBool result (IsFastStep self.old self.new) (self.new ≡ self.old) }
         ensures keeps { Keeps self.new epoch slots.new }
         ensures same_length { length slots.new ≡ length slots.old }
+        ensures is_open { AreOpen self.old.state.csrs windows.new }
     {
-        let Some(number) = self.slot_at_pc(slots, epoch) else {
+        let Some(number) = self.slot_at_pc(slots, epoch, tag) else {
             return false;
         };
-        self.step_by(slots, number)
+        self.step_by::<FREE>(slots, number, windows)
     }
 
     /// Makes the coming step, whose instruction is in the slot of this number, if it is fast. Else nothing changes. What
     /// is kept of a word that it stores to is forgotten.
     #[inline(always)]
-    fn step_by(&mut self, slots: &mut [Slot], number: usize) -> bool
+    fn step_by<const FREE: bool>(
+        &mut self,
+        slots: &mut [Slot],
+        number: usize,
+        windows: &mut Windows,
+    ) -> bool
+        requires free { FREE ≡ true → is_unrestricted self.old.state.csrs ≡ true }
         requires coming { IsComing self.old slots.old number }
+        requires is_open { AreOpen self.old.state.csrs windows.old }
         ensures made { MatchBool result (IsFastStep self.old self.new) (self.new ≡ self.old) }
         ensures keeps { (epoch : ℕ) → Keeps self.old epoch slots.old → Keeps self.new epoch slots.new }
         ensures same_length { length slots.new ≡ length slots.old }
+        ensures is_open { AreOpen self.old.state.csrs windows.new }
     {
         self.has_whole_words();
         let instr = slots[number].instr();
-        let tried = self.execute_fast(instr, instr.kind());
+        let tried = self.execute_fast::<FREE>(instr, instr.kind(), windows);
         self.forget_stored(slots, tried);
         tried.is_made
     }
@@ -139,9 +181,17 @@ impl Hart {
     /// so that one jump leads to what it does.
     #[inline(always)]
     #[tactic(auto, unfolding(rv_decode::specs::Kinds::group_of))]
-    fn execute_fast(&mut self, instr: &Fields, kind: Kind) -> Tried
+    fn execute_fast<const FREE: bool>(
+        &mut self,
+        instr: &Fields,
+        kind: Kind,
+        windows: &mut Windows,
+    ) -> Tried
         requires kind { kind ≡ instr.now.kind }
-        ensures { IsTry self.old self.new instr.now result }
+        requires free { FREE ≡ true → is_unrestricted self.old.state.csrs ≡ true }
+        requires is_open { AreOpen self.old.state.csrs windows.old }
+        ensures tried { IsTry self.old self.new instr.now result }
+        ensures is_open { AreOpen self.old.state.csrs windows.new }
     {
         match kind {
             Kind::Lui => not_a_store(self.load_upper_fast(instr, Kind::Lui), self.pc),
@@ -154,11 +204,26 @@ impl Hart {
             Kind::Bge => not_a_store(self.branch_fast(instr, Kind::Bge), self.pc),
             Kind::Bltu => not_a_store(self.branch_fast(instr, Kind::Bltu), self.pc),
             Kind::Bgeu => not_a_store(self.branch_fast(instr, Kind::Bgeu), self.pc),
-            Kind::Lb => not_a_store(self.load_fast(instr, Kind::Lb, 1), self.pc),
-            Kind::Lh => not_a_store(self.load_fast(instr, Kind::Lh, 2), self.pc),
-            Kind::Lw => not_a_store(self.load_fast(instr, Kind::Lw, 4), self.pc),
-            Kind::Lbu => not_a_store(self.load_fast(instr, Kind::Lbu, 1), self.pc),
-            Kind::Lhu => not_a_store(self.load_fast(instr, Kind::Lhu, 2), self.pc),
+            Kind::Lb => not_a_store(
+                self.load_fast::<FREE>(instr, Kind::Lb, 1, &mut windows.loads),
+                self.pc,
+            ),
+            Kind::Lh => not_a_store(
+                self.load_fast::<FREE>(instr, Kind::Lh, 2, &mut windows.loads),
+                self.pc,
+            ),
+            Kind::Lw => not_a_store(
+                self.load_fast::<FREE>(instr, Kind::Lw, 4, &mut windows.loads),
+                self.pc,
+            ),
+            Kind::Lbu => not_a_store(
+                self.load_fast::<FREE>(instr, Kind::Lbu, 1, &mut windows.loads),
+                self.pc,
+            ),
+            Kind::Lhu => not_a_store(
+                self.load_fast::<FREE>(instr, Kind::Lhu, 2, &mut windows.loads),
+                self.pc,
+            ),
             Kind::Addi => not_a_store(self.compute_immediate_fast(instr, Kind::Addi), self.pc),
             Kind::Slti => not_a_store(self.compute_immediate_fast(instr, Kind::Slti), self.pc),
             Kind::Sltiu => not_a_store(self.compute_immediate_fast(instr, Kind::Sltiu), self.pc),
@@ -189,9 +254,9 @@ impl Hart {
             Kind::Fence => not_a_store(self.retire_fast(instr, Kind::Fence), self.pc),
             Kind::FenceI => not_a_store(self.retire_fast(instr, Kind::FenceI), self.pc),
             Kind::Wfi => not_a_store(self.retire_fast(instr, Kind::Wfi), self.pc),
-            Kind::Sb => self.store_fast(instr, Kind::Sb, 1),
-            Kind::Sh => self.store_fast(instr, Kind::Sh, 2),
-            Kind::Sw => self.store_fast(instr, Kind::Sw, 4),
+            Kind::Sb => self.store_fast::<FREE>(instr, Kind::Sb, 1, &mut windows.stores),
+            Kind::Sh => self.store_fast::<FREE>(instr, Kind::Sh, 2, &mut windows.stores),
+            Kind::Sw => self.store_fast::<FREE>(instr, Kind::Sw, 4, &mut windows.stores),
             // None is left out, so that no test of the kind goes before the jump.
             Kind::Ecall | Kind::Ebreak | Kind::Mret => not_a_store(false, self.pc),
             Kind::Csrrw | Kind::Csrrs | Kind::Csrrc => not_a_store(false, self.pc),
@@ -206,15 +271,24 @@ impl Hart {
 
     /// A store, as a fast step. It tells to which address, also where it is not made.
     #[inline(always)]
-    fn store_fast(&mut self, instr: &Fields, kind: Kind, width: u32) -> Tried
+    fn store_fast<const FREE: bool>(
+        &mut self,
+        instr: &Fields,
+        kind: Kind,
+        width: u32,
+        window: &mut Span,
+    ) -> Tried
         requires kind { kind ≡ instr.now.kind }
         requires group { group_of kind ≡ group.Store }
         requires width { width ≡ store_width kind }
         requires widths { IsWidth width }
-        ensures { IsTry self.old self.new instr.now result }
+        requires free { FREE ≡ true → is_unrestricted self.old.state.csrs ≡ true }
+        requires is_open { IsOpen self.old.state.csrs Right.Store window.old }
+        ensures tried { IsTry self.old self.new instr.now result }
+        ensures is_open { IsOpen self.old.state.csrs Right.Store window.new }
     {
         let address = self.data_address(instr);
-        let is_made = self.store_here(instr, address, kind, width);
+        let is_made = self.store_here::<FREE>(instr, address, kind, width, window);
         let next = self.pc;
         Tried {
             is_made,
@@ -326,12 +400,7 @@ impl Hart {
         if steps == 0 {
             return;
         }
-        let fields = self.csrs.fields();
-        self.csrs = Csrs::of_fields(CsrRegisters {
-            mcycle: fields.mcycle.wrapping_add(steps),
-            minstret: fields.minstret.wrapping_add(steps),
-            ..fields
-        });
+        self.csrs.count_retired(steps);
         self.ports.count_times(steps);
     }
 }

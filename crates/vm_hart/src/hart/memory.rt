@@ -1,29 +1,36 @@
 //! Loads and stores.
 
-ghost use Rattle.std.specs.Prelude.{◌≡◌, ◌/◌, ◌%◌, ◌<◌, if◌then◌else◌, length, true, IfSome, IsNone, MatchBool, None, Ok, OnErr, OnOk};
+ghost use Rattle.std.specs.Prelude.{◌≡◌, ◌+◌, ◌-◌, ◌^◌, ◌/◌, ◌%◌, ◌<◌, ◌≤◌, if◌then◌else◌, [], ◌∷◌, length, true, IfSome, IsNone, IsTrue, MatchBool, None, Ok, OnErr, OnOk};
 ghost use Rattle.rv_decode.specs.declared.kinds.Group.TheVariants as group;
 ghost use Rattle.rv_decode.specs.Kinds.{group_of};
 ghost use Rattle.byteorder.specs.Endian.{little_bytes};
 ghost use Rattle.forest_model.specs.Access.{reached};
 ghost use Rattle.forest_model.specs.Action.{rs2};
 ghost use Rattle.forest_model.specs.Ports.{port_load};
-ghost use Rattle.forest_model.specs.Memory.{data_address, load_access, load_by, read_action, load, store, store_access, store_action, to_load, to_store, port_outcome, is_page_range, zeroed};
+ghost use Rattle.forest_model.specs.Memory.{bytes_at, data_address, is_byte_range, load_access, load_by, read_action, load, store, store_access, store_action, to_load, to_store, port_outcome, is_page_range, zeroed};
 ghost use Rattle.forest_model.specs.Footprint.{no_change, no_footprint, zeroes};
 ghost use Rattle.forest_model.specs.Paged.{pages_after};
 ghost use Rattle.forest_model.specs.Touch.{footprint_of_access};
 ghost use Rattle.rv_exec.specs.Memory.{IsWidth, load_width, store_width};
-ghost use Rattle.elf_load.specs.declared.image.TheConstants.{PAGE_SIZE};
+ghost use Rattle.rv_traps.specs.Protection.{is_unrestricted};
 ghost use Rattle.flat_memory.specs.Flat.{put_bytes};
-ghost use Rattle.vm_hart.specs.Acts.{Acts, AccessGrows, InstructionGrows, IsMet, IsPut, StoreGrows, WaitsAt};
+ghost use Rattle.vm_hart.specs.Acts.{Acts, AccessGrows, HandsOver, InstructionGrows, IsMet, IsPut, IsReadable, StoreGrows, WaitsAt, bytes_needs};
+ghost use Rattle.fork_port.specs.Handed.{handed_of};
 ghost use Rattle.vm_hart.specs.Kept.{stored_at};
 ghost use Rattle.vm_hart.specs.Keyed.{IsHere};
 ghost use Rattle.vm_hart.specs.Fast.{ActsFast};
+ghost use Rattle.vm_hart.specs.Windows.{IsOpen};
 
 use super::access::Reach;
 use super::{Acted, Hart, trapped};
+use elf_load::{PAGE_SIZE, RAM_BASE};
 use forest_model::cause::{LOAD_ACCESS_FAULT, STORE_ACCESS_FAULT};
+use forest_model::port_map::FORK_BASE;
 use forest_model::{Access, Direction, Written};
 use fork_port::refusals::{BAD_ARGUMENT, TICKETS_END};
+use fork_port::registers::FORK_COMMAND;
+use fork_port::{Asked, Handed, MOST_HANDED};
+use guest_pmp::{Access as Right, Span};
 use instruction_slots::Fields;
 use port_error::PortError;
 use rv_decode::Kind;
@@ -164,8 +171,11 @@ impl Hart {
             Ok(Effect::Call(call)) => Ok(Acted::Asked(call)),
             Ok(Effect::Exit(value)) => {
                 self.retire();
-                Ok(Acted::Exited(value))
+                Ok(exited(value, 0, 0))
             }
+            Ok(Effect::ExitWith(value, address, count)) => Ok(self.hand_over(
+                value, address, count,
+            )),
             Ok(Effect::Zero(first, count)) => {
                 self.zero(first, count)?;
                 Ok(self.retire())
@@ -175,33 +185,137 @@ impl Hart {
         }
     }
 
-    /// The page that a store to a port waits for, if it waits for one. It is asked for before the store.
-    #[inline(always)]
+    /// The page that a store to a port waits for, if it waits for one. It is asked for before the store. EXIT with bytes
+    /// alone needs pages, and a page that ZERO clears need not be here.
     pub(super) fn wanted_at_port(&self, address: u32, width: u32, word: u32) -> Option<u32>
         ensures some { IfSome result (WaitsAt (port_outcome address width word self.now.state).footprint.needs self.now.pages) }
         ensures none { IsNone result → IsMet (port_outcome address width word self.now.state).footprint.needs self.now.pages }
     {
-        // No port has a command that reads or writes RAM, and a page that ZERO clears need not be here.
-        let _ = (address, width, word);
+        match self.bytes_asked(address, width, word) {
+            Some((from, count)) => self.wanted_bytes(from, count),
+            None => None,
+        }
+    }
+
+    /// The bytes that a store to a port asks to hand over, by the address of the first and how many they are. It is EXIT with
+    /// bytes, and no other store to a port needs a page.
+    fn bytes_asked(&self, address: u32, width: u32, word: u32) -> Option<(u32, u32)>
+        ensures some { IfSome result (λ bytes. (port_outcome address width word self.now.state).footprint.needs ≡ bytes_needs self.now.state bytes.0 bytes.1) }
+        ensures none { IsNone result → (port_outcome address width word self.now.state).footprint.needs ≡ [] }
+    {
+        if width != 4 {
+            return None;
+        }
+        if address != FORK_BASE + FORK_COMMAND {
+            return None;
+        }
+        match self.ports.asked(word) {
+            Asked::ExitWith(_, from, count) => Some((from, count)),
+            _ => None,
+        }
+    }
+
+    /// The page that bytes which are to be handed over wait for, if they wait for one.
+    #[cold]
+    fn wanted_bytes(&self, address: u32, count: u32) -> Option<u32>
+        ensures some { IfSome result (WaitsAt (bytes_needs self.now.state address count) self.now.pages) }
+        ensures none { IsNone result → IsMet (bytes_needs self.now.state address count) self.now.pages }
+    {
+        if count == 0 {
+            return None;
+        }
+        if !self.has_bytes(address, count) {
+            return None;
+        }
+        let first = address - RAM_BASE;
+        let last = first + (count - 1);
+        self.absent_among(first / PAGE_SIZE as u32, last / PAGE_SIZE as u32)
+    }
+
+    /// The first of two pages that is not here, if one is not.
+    fn absent_among(&self, first: u32, last: u32) -> Option<u32>
+        requires first { first < length self.now.pages.here }
+        requires last { last < length self.now.pages.here }
+        ensures some { IfSome result (WaitsAt (first ∷ last ∷ []) self.now.pages) }
+        ensures none { IsNone result → IsMet (first ∷ last ∷ []) self.now.pages }
+    {
+        if !self.has_page(Direction::Load, first) {
+            return Some(first);
+        }
+        if !self.has_page(Direction::Load, last) {
+            return Some(last);
+        }
         None
+    }
+
+    /// Whether bytes of an address on, so many, are bytes of RAM.
+    fn has_bytes(&self, address: u32, count: u32) -> bool
+        ensures value { result ≡ is_byte_range address count self.now.state.ram }
+        ensures pages { IsTrue result → 0 < count → (RAM_BASE ≤ address) × (address - RAM_BASE + (count - 1) < 2 ^ 32) × ((address - RAM_BASE + (count - 1)) / PAGE_SIZE < length self.now.pages.here) }
+    {
+        // The call tells that RAM has whole pages.
+        let _ = self.memory.pages();
+        let end = u64::from(address) + u64::from(count);
+        count == 0
+            || address >= RAM_BASE && end <= u64::from(RAM_BASE) + u64::from(self.memory.size())
+    }
+
+    /// Ends the machine with bytes of RAM, or tells that they are not bytes of RAM.
+    #[cold]
+    fn hand_over(&mut self, value: u32, address: u32, count: u32) -> Acted
+        requires few { count ≤ MOST_HANDED }
+        requires met { IsMet (bytes_needs self.old.state address count) self.old.pages }
+        ensures { HandsOver self.old self.new value address count result }
+    {
+        if self.has_bytes(address, count) {
+            self.retire();
+            return exited(value, address, count);
+        }
+        self.ports.refuse(BAD_ARGUMENT);
+        self.retire()
+    }
+
+    /// Bytes of RAM, so many from an address on, that can be handed over.
+    #[cold]
+    #[inline(never)]
+    pub fn handed(&self, address: u32, count: u32) -> Handed
+        requires { IsReadable self.now address count }
+        ensures { result ≡ handed_of (bytes_at address count self.now.state) }
+    {
+        if count == 0 {
+            return Handed::none();
+        }
+        let mut room = [0u8; MOST_HANDED];
+        let bytes = &mut room[..count as usize];
+        self.memory.read(address - RAM_BASE, bytes);
+        Handed::of(bytes)
     }
 
     /// Loads from RAM, from a page that is here. Else nothing changes. One look-up tells both.
     #[inline(always)]
-    pub(super) fn load_fast(&mut self, instr: &Fields, kind: Kind, width: u32) -> bool
+    pub(super) fn load_fast<const FREE: bool>(
+        &mut self,
+        instr: &Fields,
+        kind: Kind,
+        width: u32,
+        window: &mut Span,
+    ) -> bool
         requires kind { kind ≡ instr.now.kind }
         requires group { group_of kind ≡ group.Load }
         requires width { width ≡ load_width kind }
         requires widths { IsWidth width }
+        requires free { FREE ≡ true → is_unrestricted self.old.state.csrs ≡ true }
+        requires is_open { IsOpen self.old.state.csrs Right.Load window.old }
         ensures acts { MatchBool result (ActsFast self.old self.new instr.now) (self.new ≡ self.old) }
         ensures stored { stored_at (group_of instr.now.kind) instr.now self.old.state ≡ None }
+        ensures is_open { IsOpen self.old.state.csrs Right.Load window.new }
     {
         let access = Access {
             address: self.data_address(instr),
             width,
             direction: Direction::Load,
         };
-        let Ok(offset) = self.offset_of(access) else {
+        let Some(offset) = self.place_in::<FREE>(access, Right::Load, window) else {
             return false;
         };
         let Ok(number) = self.memory.load(offset, width) else {
@@ -213,26 +327,30 @@ impl Hart {
 
     /// Stores to RAM, to a page that is here. Else the hart stays. One look-up tells both.
     #[inline(always)]
-    pub(super) fn store_here(
+    pub(super) fn store_here<const FREE: bool>(
         &mut self,
         instr: &Fields,
         address: u32,
         kind: Kind,
         width: u32,
+        window: &mut Span,
     ) -> bool
         requires address { address ≡ data_address instr.now self.old.state }
         requires kind { kind ≡ instr.now.kind }
         requires group { group_of kind ≡ group.Store }
         requires width { width ≡ store_width kind }
         requires widths { IsWidth width }
-        ensures { MatchBool result (ActsFast self.old self.new instr.now) (self.new ≡ self.old) }
+        requires free { FREE ≡ true → is_unrestricted self.old.state.csrs ≡ true }
+        requires is_open { IsOpen self.old.state.csrs Right.Store window.old }
+        ensures acts { MatchBool result (ActsFast self.old self.new instr.now) (self.new ≡ self.old) }
+        ensures is_open { IsOpen self.old.state.csrs Right.Store window.new }
     {
         let access = Access {
             address,
             width,
             direction: Direction::Store,
         };
-        let Ok(offset) = self.offset_of(access) else {
+        let Some(offset) = self.place_in::<FREE>(access, Right::Store, window) else {
             return false;
         };
         let word = self.register(instr.rs2());
@@ -276,5 +394,17 @@ impl Hart {
             self.ports.refuse(BAD_ARGUMENT);
         }
         Ok(())
+    }
+}
+
+/// The answer of a machine that ends.
+#[inline(always)]
+fn exited(value: u32, address: u32, count: u32) -> Acted
+    ensures { result ≡ Acted.Exited value address count }
+{
+    Acted::Exited {
+        value,
+        address,
+        count,
     }
 }

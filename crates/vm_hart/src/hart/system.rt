@@ -1,24 +1,44 @@
 //! Accesses to control and status registers, and the return from a trap.
 
 ghost use Rattle.std.specs.Prelude.{◌≡◌};
+ghost use Rattle.forest_model.specs.Execute.{environment_call_cause};
 ghost use Rattle.forest_model.specs.System.{operand, operation_of, csr_value, reads, writes, write_action, csr_access, trap_return};
 ghost use Rattle.vm_hart.specs.Acts.{ActsAlone};
 
 use super::{Acted, Hart, trapped};
-use forest_model::cause::ILLEGAL_INSTRUCTION;
+use forest_model::cause::{
+    ENVIRONMENT_CALL_FROM_MACHINE, ENVIRONMENT_CALL_FROM_USER, ILLEGAL_INSTRUCTION,
+};
 use forest_model::{CsrOperation, Written};
+use guest_pmp::Mode;
 use instruction_slots::Fields;
 use rv_decode::Kind;
 use rv_traps::Wrote;
 
 impl Hart {
-    /// MRET.
+    /// MRET, as `word` encodes. It is not lawful in user mode.
     #[tactic(auto, unfolding(forest_model::specs::System::trap_return))]
-    pub(super) fn trap_return(&mut self) -> Acted
-        ensures { ActsAlone self.old self.new (trap_return self.old.state) result }
+    pub(super) fn trap_return(&mut self, word: u32) -> Acted
+        ensures { ActsAlone self.old self.new (trap_return word self.old.state) result }
     {
-        self.pc = self.csrs.mret();
-        Acted::Retired(Written::Nothing)
+        match self.csrs.mret() {
+            Some(pc) => {
+                self.pc = pc;
+                Acted::Retired(Written::Nothing)
+            }
+            None => trapped(ILLEGAL_INSTRUCTION, word),
+        }
+    }
+
+    /// ECALL. Its cause tells the mode that it comes from.
+    pub(super) fn environment_call(&self) -> Acted
+        ensures { result ≡ Acted.Trapped (environment_call_cause self.now.state.csrs.mode) 0 }
+    {
+        let cause = match self.csrs.mode() {
+            Mode::User => ENVIRONMENT_CALL_FROM_USER,
+            Mode::Machine => ENVIRONMENT_CALL_FROM_MACHINE,
+        };
+        trapped(cause, 0)
     }
 
     /// Reads and writes a CSR, as `word` encodes.

@@ -4,7 +4,7 @@ ghost use Rattle.std.specs.Prelude.{◌≡◌, ◌+◌, ◌≤◌, ◌<◌, ◌^
 ghost use Rattle.run_report.specs.Lines.{ticket_line};
 ghost use Rattle.world_core.specs.Broods.{slot_endings, slot_lines};
 
-use crate::cell::{Brood, Slot};
+use crate::cell::{Brood, ChildSlot};
 use forest_model::Ending;
 use run_report::Line;
 use std::alloc::{AllocError, Global};
@@ -16,7 +16,7 @@ impl Brood {
     {
         let mut endings = Vec::with_capacity(alloc, self.slots.len())?;
         for slot in &self.slots {
-            if let Slot::Ended(outcome) = slot {
+            if let ChildSlot::Ended(outcome) = slot {
                 endings.push(outcome.ending())?;
             }
         }
@@ -30,7 +30,7 @@ impl Brood {
     {
         let mut count = 0usize;
         for slot in &self.slots {
-            if let Slot::Ended(outcome) = slot {
+            if let ChildSlot::Ended(outcome) = slot {
                 count = count.saturating_add(outcome.line_count());
             }
         }
@@ -45,7 +45,7 @@ impl Brood {
         ensures capacity { vec_capacity log.old ≤ vec_capacity log.new }
     {
         for slot in self.slots {
-            if let Slot::Ended(outcome) = slot {
+            if let ChildSlot::Ended(outcome) = slot {
                 outcome.into_log(log);
             }
         }

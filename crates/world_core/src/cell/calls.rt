@@ -15,10 +15,10 @@ ghost use Rattle.run_report.specs.Lines.{lines};
 ghost use Rattle.run_report.specs.Report.{lines_of};
 ghost use Rattle.vm_cell.specs.Keyed.{paged};
 ghost use Rattle.vm_cell.specs.Standing.{standing_call};
-ghost use Rattle.vm_cell.specs.declared.vm.fork.Brood.{Brood as Young};
+ghost use Rattle.vm_cell.specs.declared.vm.fork.Brood.{Brood as ForkImage};
 ghost use Rattle.world_core.specs.Broods.{killed_line};
 ghost use Rattle.world_core.specs.Images.{HasImages, Images, IsBroodAt};
-ghost use Rattle.world_core.specs.Litter.{IsNewBrood};
+ghost use Rattle.world_core.specs.PreparedFork.{IsNewBrood};
 ghost use Rattle.world_core.specs.Shows.{Holds, HoldsAfter, StandsAt, Tallies, ended_tree, forest, forked_tree, joined_tree, killed_tree, told_spot};
 
 use crate::cell::{Brood, Cell};
@@ -36,7 +36,7 @@ impl Cell {
         requires clones { standing_call vm.old ≡ Some (Call.Clone ticket) }
         ensures ok { OnOk result (vm.new ≡ record vm.old { machine = forked vm.old.machine }) }
         ensures err { OnErr result (vm.new ≡ vm.old) }
-        ensures holds { OnOk result ((depot : Shelves) (path : Path) (left : Young) → IsNewBrood depot path vm.old ticket brood left
+        ensures holds { OnOk result ((depot : Shelves) (path : Path) (left : ForkImage) → IsNewBrood depot path vm.old ticket brood left
             → (t : Tree (Spot Paged)) → Holds depot path self.old t → StandsAt (paged vm.old) (clone ticket) t → HoldsAfter depot path self.new (forked_tree ticket t)) }
         ensures still { OnErr result ((depot : Shelves) (path : Path) (t : Tree (Spot Paged)) → Holds depot path self.old t → Holds depot path self.new t) }
         ensures images { (images : Images) (path : Path) → HasImages images path self.old → IsBroodAt images path ticket brood → HasImages images path self.new }

@@ -1,4 +1,4 @@
-ghost use Rattle.std.specs.Prelude.{◌≡◌, ℕ, [], ◌∷◌, None, Some, IfOk, if◌then◌else◌};
+ghost use Rattle.std.specs.Prelude.{◌≡◌, ℕ, None, Some, IfOk, if◌then◌else◌};
 ghost use Rattle.std.specs.BTreeMap.{get};
 ghost use Rattle.image_depot.specs.Key.{Shelves};
 ghost use Rattle.forest_tree.specs.Sound.{IsSound};
@@ -11,24 +11,23 @@ ghost use Rattle.machine_names.specs.NameOrder.{path_cmp};
 ghost use Rattle.vm_cell.specs.Keyed.{IsOfDepot, paged};
 ghost use Rattle.vm_cell.specs.Standing.{IsClone, IsKill, standing_call};
 ghost use Rattle.world_core.specs.Between.{IsBetween, settled_tree, with_tree};
-ghost use Rattle.world_core.specs.Images.{AreOfImages, Images, IsImageAt, IsLentAt, IsUnbornAt};
+ghost use Rattle.world_core.specs.Images.{AreOfImages, Images, IsImageAt, IsLentAt, IsPreparedAt};
 ghost use Rattle.world_core.specs.Lent.{vm_of};
-ghost use Rattle.world_core.specs.Litter.{IsLitterIn, IsLitterOf};
+ghost use Rattle.world_core.specs.PreparedFork.{IsPreparedIn, IsPreparedFor};
 ghost use Rattle.world_core.specs.Shows.{forest};
 ghost use Rattle.world_core.specs.Told.{told_of};
-ghost use Rattle.world_core.specs.Turns.{turn_of, turns_from};
-ghost use Rattle.world_core.specs.Waiting.{Keeps};
+ghost use Rattle.world_core.specs.Listed.{Keeps};
 ghost use Rattle.world_core.specs.World.{Forest, StandsFor};
 ghost use Rattle.world_core.specs.Answers.{Answers, HandedOut, HandedOutIn, IsHandedOut, IsJoinCall, IsLentOf};
 
 use crate::cell::{Cell, State};
 use crate::lease::Lease;
-use crate::litter::Litter;
-use crate::turns::{Turn, Turns};
+use crate::prepared_fork::PreparedFork;
 use crate::world::{Placed, World};
 use fork_port::Call;
 use image_depot::Depot;
 use machine_names::Name;
+use ready_queue::{ReadyQueue, ReadyTurn};
 use std::alloc::{AllocError, Global};
 use std::collections::BTreeMap;
 use std::sync::Wait;
@@ -51,29 +50,33 @@ impl World {
             lease.discard();
             return Placed::Dropped;
         }
-        let litter = lease.litter(rt, alloc, depot);
-        self.bear(lease, litter)
+        let prepared = lease.prepare_fork(rt, alloc, depot);
+        self.commit_fork(lease, prepared)
     }
 
     /// Makes the CLONE at which a machine stands, with the children that were made ready for it. Where memory was
     /// wanting for them, the lease comes back. This is short, and waits for nobody.
-    pub fn bear(&mut self, lease: Lease, litter: Result<Litter, AllocError>) -> Placed
-        requires lent { (depot : Shelves) × HandedOutIn depot self.old lease × IfOk litter (IsLitterIn depot) }
+    pub fn commit_fork(
+        &mut self,
+        lease: Lease,
+        prepared: Result<PreparedFork, AllocError>,
+    ) -> Placed
+        requires lent { (depot : Shelves) × HandedOutIn depot self.old lease × IfOk prepared (IsPreparedIn depot) }
         requires clone { IsClone (standing_call (vm_of lease)) }
-        requires litter { IfOk litter (IsLitterOf lease) }
+        requires prepared { IfOk prepared (IsPreparedFor lease) }
         ensures answers { (depot : Shelves) (f : Forest) → StandsFor depot self.old f → IsHandedOut f lease → IsLentOf depot lease
-            → IfOk litter (IsLitterIn depot) → Answers depot f forked lease result self.new }
+            → IfOk prepared (IsPreparedIn depot) → Answers depot f forked lease result self.new }
         ensures told { told_of self.new ≡ told_of self.old }
-        ensures images { (images : Images) → AreOfImages images self.old → IsLentAt images lease → IfOk litter (IsUnbornAt images) → AreOfImages images self.new }
+        ensures images { (images : Images) → AreOfImages images self.old → IsLentAt images lease → IfOk prepared (IsPreparedAt images) → AreOfImages images self.new }
     {
         let Some(cell) = self.cells.get_mut(lease.name()) else {
             lease.discard();
             return Placed::Dropped;
         };
-        let Ok(litter) = litter else {
+        let Ok(prepared) = prepared else {
             return Placed::Memory(lease);
         };
-        let (ticket, brood, children) = litter.into_brood();
+        let (ticket, brood, children) = prepared.into_brood();
         let Lease {
             turn,
             mut vm,
@@ -116,7 +119,7 @@ impl World {
             start,
         } = lease;
         if cell.waits(ticket) {
-            raise_asleep(&mut self.ready, cell, &turn.name, ticket);
+            raise_asleep(&mut self.ready, cell, turn.name(), ticket);
             cell.state = State::Parked(ticket, vm, turn);
             return Placed::Parked;
         }
@@ -155,22 +158,21 @@ impl World {
             start: _,
         } = lease;
         cell.kill(&mut vm, ticket);
-        drop_below(&mut self.cells, &turn.name, ticket);
+        drop_below(&mut self.cells, turn.name(), ticket);
         self.place(turn, vm)
     }
 
     /// Puts a machine home after its call, or ends it.
-    fn place(&mut self, turn: Box<Turn>, vm: Box<Vm>) -> Placed
-        requires alone { turns_from turn.value ≡ turn_of turn.value ∷ [] }
-        requires one { (turn_of turn.value).children ≡ None }
-        requires between { (depot : Shelves) × (f : Forest) × (a : Tree (Spot Paged)) × IsBetween depot self.old f (turn_of turn.value).name a
+    fn place(&mut self, turn: ReadyTurn, vm: Box<Vm>) -> Placed
+        requires one { turn.children ≡ None }
+        requires between { (depot : Shelves) × (f : Forest) × (a : Tree (Spot Paged)) × IsBetween depot self.old f turn.name a
             × ((machine a).machine ≡ paged vm.value) × IsOfDepot depot vm.value.key }
-        ensures placed { (depot : Shelves) (f : Forest) (a : Tree (Spot Paged)) → IsBetween depot self.old f (turn_of turn.value).name a
+        ensures placed { (depot : Shelves) (f : Forest) (a : Tree (Spot Paged)) → IsBetween depot self.old f turn.name a
             → (machine a).machine ≡ paged vm.value → IsOfDepot depot vm.value.key
-            → IsSound forest (with_tree (turn_of turn.value).name (placed home (settled_tree a)) f).tree
-            → (result ≡ Placed.Done) × StandsFor depot self.new (with_tree (turn_of turn.value).name (placed home (settled_tree a)) f) }
+            → IsSound forest (with_tree turn.name (placed home (settled_tree a)) f).tree
+            → (result ≡ Placed.Done) × StandsFor depot self.new (with_tree turn.name (placed home (settled_tree a)) f) }
         ensures told { told_of self.new ≡ told_of self.old }
-        ensures images { (images : Images) → AreOfImages images self.old → IsImageAt images (turn_of turn.value).name vm.value.key → AreOfImages images self.new }
+        ensures images { (images : Images) → AreOfImages images self.old → IsImageAt images turn.name vm.value.key → AreOfImages images self.new }
     {
         match vm.ended() {
             Some(ending) => self.finish(turn, vm, ending),
@@ -180,13 +182,13 @@ impl World {
 }
 
 /// Lets the children of a ticket be next, as far as they are still descriptors.
-fn raise_asleep(ready: &mut Turns, cell: &Cell, name: &Name, ticket: u32)
+fn raise_asleep(ready: &mut ReadyQueue, cell: &Cell, name: &Name, ticket: u32)
     ensures { Keeps ready.old ready.new }
 {
     let Some(brood) = cell.broods.get(&ticket) else {
         return;
     };
-    if brood.young.is_some() {
+    if brood.image.is_some() {
         ready.raise(name, ticket);
     }
 }

@@ -1,25 +1,25 @@
-ghost use Rattle.std.specs.Prelude.{◌≡◌, ◌≢◌, ◌∷◌, [], None, Some, true, is_some, IfNone, IfSome, IfOk, OnErr, OnOk};
+ghost use Rattle.std.specs.Prelude.{◌≡◌, ◌≢◌, None, Some, true, is_some, IfNone, IfSome, IfOk, OnErr, OnOk};
 ghost use Rattle.std.specs.BTreeMap.{BTreeMap, get};
 ghost use Rattle.image_depot.specs.Key.{Shelves};
 ghost use Rattle.forest_tree.specs.Tree.{Tree, Path, machine, subtree};
 ghost use Rattle.forest_history.specs.Places.{Spot, at_path, out, placed};
 ghost use Rattle.forest_model.specs.Paged.{Paged};
-ghost use Rattle.world_core.specs.Images.{AreOfImages, AreTakenAt, HaveImages, Images, IsLentAt, IsTakenAt};
+ghost use Rattle.world_core.specs.Images.{AreOfImages, AreTakenAt, HaveImages, Images, IsImageAt, IsLentAt, IsTakenAt};
+ghost use Rattle.vm_cell.specs.Keyed.{IsOfDepot, paged};
 ghost use Rattle.world_core.specs.Lent.{now_of};
 ghost use Rattle.machine_names.specs.Name.{child_path};
 ghost use Rattle.machine_names.specs.NameOrder.{path_cmp};
 ghost use Rattle.world_core.specs.Told.{told_of};
-ghost use Rattle.world_core.specs.Turns.{turn_of, turns_from};
 ghost use Rattle.world_core.specs.World.{Forest, StandsFor, IsWorld};
 ghost use Rattle.world_core.specs.Answers.{IsLentOf, Takes, TakesNamed};
 ghost use Rattle.world_core.specs.Popped.{TakesBy, ShowsCells, IsFirstAsleep, is_listed_in, sleeps, with_turn};
 
 use crate::cell::Cell;
 use crate::lease::Lease;
-use crate::turns::Turn;
 use crate::world::{Taken, World, seat};
 use image_depot::Depot;
 use machine_names::Name;
+use ready_queue::ReadyTurn;
 use std::alloc::{AllocError, Global};
 use vm_cell::Vm;
 
@@ -47,36 +47,34 @@ impl World {
     }
 
     /// Hands out a machine by its turn, or nothing where none of the turn is ready any more.
-    fn take_by(&mut self, alloc: Global, depot: &Depot, turn: Box<Turn>) -> Option<Taken>
-        requires alone { turns_from turn.value ≡ turn_of turn.value ∷ [] }
-        requires world { IsWorld depot.now (with_turn (turn_of turn.value) self.old) }
+    fn take_by(&mut self, alloc: Global, depot: &Depot, turn: ReadyTurn) -> Option<Taken>
+        requires world { IsWorld depot.now (with_turn turn self.old) }
         requires going { (self.old.outcome ≡ None) × (self.old.halted ≡ None) }
-        ensures takes { (f : Forest) → StandsFor depot.now (with_turn (turn_of turn.value) self.old) f
+        ensures takes { (f : Forest) → StandsFor depot.now (with_turn turn self.old) f
             → TakesBy depot.now f result self.new }
         ensures going { (self.new.outcome ≡ None) × (self.new.halted ≡ None) }
         ensures turns { IfNone result (self.new.ready ≡ self.old.ready) }
         ensures told { told_of self.new ≡ told_of self.old }
         ensures images { (images : Images) → AreOfImages images self.old → AreOfImages images self.new × AreTakenAt images result }
     {
-        match turn.children {
+        match turn.children() {
             None => self.take_awake(turn),
             Some((ticket, first)) => self.take_asleep(alloc, depot, turn, ticket, first),
         }
     }
 
     /// Hands out the machine of a turn, if it is ready.
-    fn take_awake(&mut self, turn: Box<Turn>) -> Option<Taken>
-        requires alone { turns_from turn.value ≡ turn_of turn.value ∷ [] }
-        requires one { (turn_of turn.value).children ≡ None }
+    fn take_awake(&mut self, turn: ReadyTurn) -> Option<Taken>
+        requires one { turn.children ≡ None }
         requires going { (self.old.outcome ≡ None) × (self.old.halted ≡ None) }
-        ensures takes { (depot : Shelves) (f : Forest) → StandsFor depot (with_turn (turn_of turn.value) self.old) f
+        ensures takes { (depot : Shelves) (f : Forest) → StandsFor depot (with_turn turn self.old) f
             → TakesBy depot f result self.new }
         ensures going { (self.new.outcome ≡ None) × (self.new.halted ≡ None) }
         ensures turns { self.new.ready ≡ self.old.ready }
         ensures told { told_of self.new ≡ told_of self.old }
         ensures images { (images : Images) → AreOfImages images self.old → AreOfImages images self.new × AreTakenAt images result }
     {
-        let cell = self.cells.get_mut(&turn.name)?;
+        let cell = self.cells.get_mut(turn.name())?;
         cell.is_listed = false;
         let vm = cell.lend()?;
         Some(Taken::Took(Lease::new(turn, vm)))
@@ -87,25 +85,24 @@ impl World {
         &mut self,
         alloc: Global,
         depot: &Depot,
-        turn: Box<Turn>,
+        turn: ReadyTurn,
         ticket: u32,
         first: u32,
     ) -> Option<Taken>
-        requires alone { turns_from turn.value ≡ turn_of turn.value ∷ [] }
-        requires children { (turn_of turn.value).children ≡ Some (ticket, first) }
-        requires world { IsWorld depot.now (with_turn (turn_of turn.value) self.old) }
+        requires children { turn.children ≡ Some (ticket, first) }
+        requires world { IsWorld depot.now (with_turn turn self.old) }
         requires going { (self.old.outcome ≡ None) × (self.old.halted ≡ None) }
-        ensures takes { (f : Forest) → StandsFor depot.now (with_turn (turn_of turn.value) self.old) f
+        ensures takes { (f : Forest) → StandsFor depot.now (with_turn turn self.old) f
             → TakesBy depot.now f result self.new }
         ensures going { (self.new.outcome ≡ None) × (self.new.halted ≡ None) }
         ensures turns { IfNone result (self.new.ready ≡ self.old.ready) }
         ensures told { told_of self.new ≡ told_of self.old }
         ensures images { (images : Images) → AreOfImages images self.old → AreOfImages images self.new × AreTakenAt images result }
     {
-        let index = self.asleep_from(&turn.name, ticket, first)?;
-        let woken = self.wake(alloc, depot, &turn.name, ticket, index);
+        let index = self.asleep_from(turn.name(), ticket, first)?;
+        let woken = self.wake(alloc, depot, turn.name(), ticket, index);
         let mut turn = turn;
-        turn.children = Some((ticket, index));
+        turn.set_children(ticket, index);
         self.ready.push(turn);
         match woken {
             Ok(lease) => Some(Taken::Took(lease)),
@@ -129,7 +126,7 @@ impl World {
             return Ok(None);
         }
         if let Some(cell) = self.cells.get_mut(name) {
-            let turn = Turn::of_machine(alloc, name.copy()?)?;
+            let turn = ReadyTurn::of_machine(alloc, name.copy()?)?;
             let Some(vm) = cell.lend_named() else {
                 return Ok(None);
             };
@@ -192,18 +189,40 @@ impl World {
         ensures told { told_of self.new ≡ told_of self.old }
         ensures images { (images : Images) → AreOfImages images self.old → AreOfImages images self.new × IfOk result (IsLentAt images) }
     {
-        let name = parent.child(alloc, ticket, index)?;
-        let turn = Turn::of_machine(alloc, name.copy()?)?;
-        let Some(cell) = self.cells.get(parent) else {
-            unreachable!();
-        };
-        let vm = cell.woken(alloc, depot, ticket, index)?;
-        let vm = Box::new(alloc, vm)?;
+        let (name, turn, vm) = self.woken_child(alloc, depot, parent, ticket, index)?;
         seat(&mut self.cells, name, Cell::of_lent(alloc, &vm))?;
         let Some(cell) = self.cells.get_mut(parent) else {
             unreachable!();
         };
         cell.child_wakes(ticket, index);
         Ok(Lease::new(turn, vm))
+    }
+
+    /// A child that is still a descriptor, as it wakes: its name, its turn and its machine.
+    fn woken_child(
+        &self,
+        alloc: Global,
+        depot: &Depot,
+        parent: &Name,
+        ticket: u32,
+        index: u32,
+    ) -> Result<(Name, ReadyTurn, Box<Vm>), AllocError>
+        requires { (t : Tree (Spot Paged)) × ShowsCells depot.now self.now.cells t × (sleeps parent.now ticket index t ≡ true) }
+        ensures name { IfOk result (λ woken. woken.0 ≡ child_path parent.now ticket index) }
+        ensures turn { IfOk result (λ woken. woken.1 ≡ record { name = child_path parent.now ticket index; children = None }) }
+        ensures machine { (t : Tree (Spot Paged)) → ShowsCells depot.now self.now.cells t → sleeps parent.now ticket index t ≡ true
+            → IfOk result (λ woken. IfSome (subtree (child_path parent.now ticket index) t) (λ a. (machine a).machine ≡ paged woken.2.value)) }
+        ensures of_depot { IfOk result (λ woken. IsOfDepot depot.now woken.2.value.key) }
+        ensures images { (images : Images) → AreOfImages images self.now
+            → IfOk result (λ woken. IsImageAt images (child_path parent.now ticket index) woken.2.value.key) }
+    {
+        let name = parent.child(alloc, ticket, index)?;
+        let turn = ReadyTurn::of_machine(alloc, name.copy()?)?;
+        let Some(cell) = self.cells.get(parent) else {
+            unreachable!();
+        };
+        let vm = cell.woken(alloc, depot, ticket, index)?;
+        let vm = Box::new(alloc, vm)?;
+        Ok((name, turn, vm))
     }
 }

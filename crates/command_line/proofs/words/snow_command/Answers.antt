@@ -10,11 +10,14 @@ returns c =
     let bare : app_of c.no_binary_name-command.result ≡ without_own_name (app_of c.new.result) = search rules in
     let top = bare ∙ ap without_own_name c.new.ensures.app in
     let run =
-    subcommand-known c.run_command.result (app_of c.no_binary_name-command.result) (app_of c.in_ok-command.command) run_app c.in_ok-command.ensures c.run_command.ensures.app c.run_command.ensures.local
+    subcommand-known c.run_command.result (app_of c.no_binary_name-command.result) (app_of c.in_ok-command.command) run_app c.in_ok-command.ensures
+    c.run_command.ensures.app c.run_command.ensures.local
     ∙ ap (λ (app : App). with_subcommand app run_app.top) top in
     let drive =
-    subcommand-known c.drive_command.result (app_of c.in_ok-command.command) (app_of c.in_ok-command-2.command) drive_app c.in_ok-command-2.ensures c.drive_command.ensures.app c.drive_command.ensures.local
+    subcommand-known c.drive_command.result (app_of c.in_ok-command.command) (app_of c.in_ok-command-2.command) drive_app c.in_ok-command-2.ensures
+    c.drive_command.ensures.app c.drive_command.ensures.local
     ∙ ap (λ (app : App). with_subcommand app drive_app.top) run in
     IfOk-weaker c.with_made-3.result _ _
-    (λ command adds. subcommand-known c.generated_command.result (app_of c.in_ok-command-2.command) (app_of command) generated_app adds c.generated_command.ensures.app c.generated_command.ensures.local
+    (λ command adds. subcommand-known c.generated_command.result (app_of c.in_ok-command-2.command) (app_of command) generated_app adds
+    c.generated_command.ensures.app c.generated_command.ensures.local
     ∙ ap (λ (app : App). with_subcommand app generated_app.top) drive) c.with_made-3.ensures

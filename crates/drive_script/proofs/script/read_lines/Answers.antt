@@ -17,7 +17,8 @@ loop-text-init c = record {
 
 pub loop-text-preserved-then-is_empty : goal.loop-text-preserved-then-is_empty
 loop-text-preserved-then-is_empty c =
-    let turn = YieldsList-turn (YieldsList-from_slice_split _ (λ b. b == 10) c.args.bytes.now (cc) (cc) (cc) (λ x b q k. search (rules, tests))) c.loop-text.yielded _ c.loop-text.yielded_by _ _ c.in-Some.text c.in-Some.is c.next.ensures.steps in
+    let turn = YieldsList-turn (YieldsList-from_slice_split _ (λ b. b == 10) c.args.bytes.now (cc) (cc) (cc) (λ x b q k. search (rules, tests)))
+    c.loop-text.yielded _ c.loop-text.yielded_by _ _ c.in-Some.text c.in-Some.is c.next.ensures.steps in
     let counted = c.loop-text.invariant.counted in
     let within : c.loop-text.number < length (parts 10 c.args.bytes.now) = omega (arith, turn.0) in
     let here = rw (← counted) at turn.1 in
@@ -29,7 +30,8 @@ loop-text-preserved-then-is_empty c =
 
 pub loop-text-preserved : goal.loop-text-preserved
 loop-text-preserved c =
-    let turn = YieldsList-turn (YieldsList-from_slice_split _ (λ b. b == 10) c.args.bytes.now (cc) (cc) (cc) (λ x b q k. search (rules, tests))) c.loop-text.yielded _ c.loop-text.yielded_by _ _ c.in-Some.text c.in-Some.is c.next.ensures.steps in
+    let turn = YieldsList-turn (YieldsList-from_slice_split _ (λ b. b == 10) c.args.bytes.now (cc) (cc) (cc) (λ x b q k. search (rules, tests)))
+    c.loop-text.yielded _ c.loop-text.yielded_by _ _ c.in-Some.text c.in-Some.is c.next.ensures.steps in
     let counted = c.loop-text.invariant.counted in
     let within : c.loop-text.number < length (parts 10 c.args.bytes.now) = omega (arith, turn.0) in
     let here = rw (← counted) at turn.1 in
@@ -46,17 +48,20 @@ loop-text-preserved c =
 
 pub returns-in-Err-Refused-clause-refuses : goal.returns-in-Err-Refused-clause-refuses
 returns-in-Err-Refused-clause-refuses c =
-    let turn = YieldsList-turn (YieldsList-from_slice_split _ (λ b. b == 10) c.args.bytes.now (cc) (cc) (cc) (λ x b q k. search (rules, tests))) c.loop-text.yielded _ c.loop-text.yielded_by _ _ c.in-Some.text c.in-Some.is c.next.ensures.steps in
+    let turn = YieldsList-turn (YieldsList-from_slice_split _ (λ b. b == 10) c.args.bytes.now (cc) (cc) (cc) (λ x b q k. search (rules, tests)))
+    c.loop-text.yielded _ c.loop-text.yielded_by _ _ c.in-Some.text c.in-Some.is c.next.ensures.steps in
     let counted = c.loop-text.invariant.counted in
     let within : c.loop-text.number < length (parts 10 c.args.bytes.now) = omega (arith, turn.0) in
     let here = rw (← counted) at turn.1 in
     let long = some-text c.in-Some.text.now (sym c.if-is_empty.ensures) in
-    let next = from-refused (lines_read c.loop-text.lines.items) c.loop-text.number c.in-Err-Refused.kind (parts 10 c.args.bytes.now) c.in-Some.text.now within here long (rw c.in-Err-Refused.field-0-is at c.in-Err-Refused.ensures.refuses) in
+    let next = from-refused (lines_read c.loop-text.lines.items) c.loop-text.number c.in-Err-Refused.kind (parts 10 c.args.bytes.now)
+    c.in-Some.text.now within here long (rw c.in-Err-Refused.field-0-is at c.in-Err-Refused.ensures.refuses) in
     sym c.loop-text.invariant.read ∙ next ∙ ap (λ kind. Err (c.loop-text.number + 1, kind)) (sym c.in-Err-Refused.kind-is)
 
 pub returns-clause-reads : goal.returns-clause-reads
 returns-clause-reads c =
-    let all = YieldsList-end (YieldsList-from_slice_split _ (λ b. b == 10) c.args.bytes.now (cc) (cc) (cc) (λ x b q k. search (rules, tests))) c.loop-text.yielded _ c.loop-text.yielded_by _ _ c.in-None.is c.next.ensures.steps in
+    let all = YieldsList-end (YieldsList-from_slice_split _ (λ b. b == 10) c.args.bytes.now (cc) (cc) (cc) (λ x b q k. search (rules, tests)))
+    c.loop-text.yielded _ c.loop-text.yielded_by _ _ c.in-None.is c.next.ensures.steps in
     let counted = c.loop-text.invariant.counted in
     let past : length (parts 10 c.args.bytes.now) ≤ c.loop-text.number = omega (arith, all.1) in
     sym c.loop-text.invariant.read ∙ from-end (lines_read c.loop-text.lines.items) c.loop-text.number (parts 10 c.args.bytes.now) past

@@ -5,9 +5,9 @@ use Rattle.vm_cell.specs.Standing.{standing_call}
 use Rattle.world_core.specs.Answers.{stands_waiting_of}
 use Rattle.world_core.specs.Lent.{vm_of}
 use Rattle.std.specs.declared.alloc.AllocError.{AllocError}
-use Rattle.drive_script.specs.declared.turn.Turn.{Turn}
-use Rattle.drive_script.specs.declared.turn.Turn.TheVariants.{Stopped, Called}
-use Rattle.drive_script.specs.Turned.{Turns}
+use Rattle.drive_script.specs.declared.turn.TurnOutcome.{TurnOutcome}
+use Rattle.drive_script.specs.declared.turn.TurnOutcome.TheVariants.{Stopped, Called}
+use Rattle.drive_script.specs.Turned.{EndsTurn}
 use Rattle.std.proofs.lemmas.Result.{err_from_is_err_and}
 use Rattle.drive_script.proofs.Lent.{lent-handed, stands-here, taken}
 use Rattle.drive_script.proofs.Turning.{lent-failed, lent-ran, may-call, stops-ended, stops-waiting, turn-called, turn-failed, turn-stopped}
@@ -29,7 +29,7 @@ returns-in_default-clause-turns g c t h =
     let lent = lent-failed depot c.args.world.now t c.args.lease later c.in_default.ensures.same c.in_default.ensures.err_ran c.in_default.ensures.err c.in_default.ensures.err_free h in
     let few = c.in_default.ensures.err_most in
     let none = c.requires.new in
-    subst (λ name. Turns depot name c.args.most t (Err c.in_default.field-0) c.give_back.new.world) c.in_default.ensures.same.name
+    subst (λ name. EndsTurn depot name c.args.most t (Err c.in_default.field-0) c.give_back.new.world) c.in_default.ensures.same.name
     (turn-failed depot c.args.world.now t later lent c.give_back.new.world (c.give_back.ensures.back depot t lent) c.args.most (omega (arith, few, none)))
 
 pub make_call-requires-clause-lent : goal.make_call-requires-clause-lent
@@ -57,8 +57,8 @@ returns-in_err-make_call-clause-turns g c t h =
     let within = c.in-Ok.ensures.most in
     let none = c.requires.new in
     let exit = err_from_is_err_and c.from_residual.result c.from_residual.ensures.1 in
-    subst (λ (r : Result Turn AllocError). Turns depot c.args.lease.name c.args.most t r c.make_call.new.world) (sym exit.1)
-    (subst (λ name. Turns depot name c.args.most t (Err exit.0) c.make_call.new.world) c.in-Ok.ensures.same.name
+    subst (λ (r : Result TurnOutcome AllocError). EndsTurn depot c.args.lease.name c.args.most t r c.make_call.new.world) (sym exit.1)
+    (subst (λ name. EndsTurn depot name c.args.most t (Err exit.0) c.make_call.new.world) c.in-Ok.ensures.same.name
     (turn-failed depot c.args.world.now t later lent c.make_call.new.world (c.in_err-make_call.ensures.made t lent) c.args.most (omega (arith, ran, within, none))))
 
 pub returns-then-not-waits-clause-turns : goal.returns-then-not-waits-clause-turns
@@ -69,7 +69,7 @@ returns-then-not-waits-clause-turns g c t h =
     let ran = c.in-Ok.ensures.now.0 in
     let below = c.if-ran-most.true in
     let none = c.requires.new in
-    subst (λ name. Turns depot name c.args.most t (Ok (Called (c.in-Ok.ran.steps + 1))) c.make_call.new.world) c.in-Ok.ensures.same.name
+    subst (λ name. EndsTurn depot name c.args.most t (Ok (Called (c.in-Ok.ran.steps + 1))) c.make_call.new.world) c.in-Ok.ensures.same.name
     (turn-called depot c.args.world.now t later lent c.args.most c.in-Ok.ran.steps c.make_call.new.world (omega (arith, ran, none)) below
     (c.in_ok-make_call.ensures.made t lent))
 
@@ -88,11 +88,12 @@ returns-clause-turns g c t h =
     let lent = lent-ran depot c.args.world.now t c.args.lease later c.in-Ok.ran.steps c.in-Ok.ensures.same c.in-Ok.ensures.now.0 c.in-Ok.ensures.now.1 c.in-Ok.ensures.free h in
     let ran = c.in-Ok.ensures.now.0 in
     let none = c.requires.new in
-    subst (λ name. Turns depot name c.args.most t (Ok (Stopped c.in-Ok.ran.steps c.why_it_stops-why.result)) c.give_back-2.new.world) c.in-Ok.ensures.same.name
+    subst (λ name. EndsTurn depot name c.args.most t (Ok (Stopped c.in-Ok.ran.steps c.why_it_stops-why.result)) c.give_back-2.new.world) c.in-Ok.ensures.same.name
     (turn-stopped depot c.args.world.now t later lent c.give_back-2.new.world (c.give_back-2.ensures.back depot t lent) c.args.most c.in-Ok.ran.steps
     c.why_it_stops-why.result (omega (arith, ran, none)) c.in-Ok.ensures.most (c.why_it_stops-why.ensures depot t lent)
     (elim c.else-ran-most.branch [
-      | else-ran-most-via-then-ran-most+then-is_some+else-not-waits w ↦ inr (stops-waiting depot c.args.world.now t later lent (stands-here (vm_of later) (sym (ap is_some w.call.ensures) ∙ sym w.if-is_some.ensures))
+      | else-ran-most-via-then-ran-most+then-is_some+else-not-waits w ↦
+          inr (stops-waiting depot c.args.world.now t later lent (stands-here (vm_of later) (sym (ap is_some w.call.ensures) ∙ sym w.if-is_some.ensures))
           (subst (λ (b : Bool). MatchOption (subtree later.name (taken depot c.args.world.now t later lent).tree) (b ≡ false) (λ a. b ≡ stands_waiting_of (vm_of later) a))
           w.if-not-waits.false
           (w.waits.ensures depot (taken depot c.args.world.now t later lent) lent.stands (lent-handed depot c.args.world.now t later lent))))

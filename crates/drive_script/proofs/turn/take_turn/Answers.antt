@@ -4,8 +4,8 @@ use Rattle.std.specs.declared.alloc.AllocError.{AllocError}
 use Rattle.world_core.specs.Lent.{Lent}
 use Rattle.world_core.specs.Answers.{TakesNamed}
 use Rattle.drive_script.specs.Told.{made_at}
-use Rattle.drive_script.specs.declared.turn.Turn.{Turn}
-use Rattle.drive_script.specs.Turned.{Turns}
+use Rattle.drive_script.specs.declared.turn.TurnOutcome.{TurnOutcome}
+use Rattle.drive_script.specs.Turned.{EndsTurn}
 use Rattle.drive_script.proofs.Driving.{made-none}
 use Rattle.drive_script.proofs.Lent.{named-kept, named-lent, named-none}
 use Rattle.drive_script.proofs.Reasons.{named-reason}
@@ -14,7 +14,7 @@ use Rattle.drive_script.proofs.turn.take_turn.Goals as goal
 pub returns-in_err-lease-clause-turns : goal.returns-in_err-lease-clause-turns
 returns-in_err-lease-clause-turns g c t h =
     let exit = err_from_is_err_and c.from_residual.result c.from_residual.ensures.1 in
-    subst (λ (r : Result Turn AllocError). Turns c.args.depot.now c.args.name.now c.args.most t r c.take_named.new.self) (sym exit.1)
+    subst (λ (r : Result TurnOutcome AllocError). EndsTurn c.args.depot.now c.args.name.now c.args.most t r c.take_named.new.self) (sym exit.1)
     (made-none c.args.depot.now c.take_named.new.self (replicate (made_at c.args.most c.args.name.now t) c.args.name.now) t
     (named-kept c.args.depot.now c.args.world.now c.take_named.new.self t c.args.name.now h (c.in_err-lease.ensures.takes h.forest h.stands)))
 
@@ -23,7 +23,7 @@ returns-in-Some-clause-turns g c t h =
     let named = subst (λ (o : Option Lent). TakesNamed c.args.depot.now h.forest c.args.name.now (Ok o) c.take_named.new.self) c.in-Some.is
     (c.in_ok-lease.ensures.takes h.forest h.stands) in
     let lent = named-lent c.args.depot.now c.args.world.now c.take_named.new.self t c.args.name.now h c.in-Some.lease named in
-    subst (λ name. Turns c.args.depot.now name c.args.most t c.run_turn.result c.run_turn.new.world) named.1 (c.run_turn.ensures.turns t lent)
+    subst (λ name. EndsTurn c.args.depot.now name c.args.most t c.run_turn.result c.run_turn.new.world) named.1 (c.run_turn.ensures.turns t lent)
 
 pub returns-in-None-clause-turns : goal.returns-in-None-clause-turns
 returns-in-None-clause-turns g c t h =

@@ -1,4 +1,4 @@
-use Rattle.std.proofs.Common.{◌≡◌, ap}
+use Rattle.std.proofs.Common.{ap}
 use Rattle.guest_pmp.specs.Allowed.{decided}
 use Rattle.guest_pmp.proofs.Deciding.{deciding-alike}
 use Rattle.guest_pmp.proofs.laws.words_are_allowed_whole.Goals as goal

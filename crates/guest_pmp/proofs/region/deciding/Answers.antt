@@ -1,4 +1,4 @@
-use Rattle.std.proofs.Common.{◌≡◌, ℕ, ◌∙◌, sym, refl, arith}
+use Rattle.std.proofs.Common.{◌∙◌, sym, refl, arith}
 use Rattle.guest_pmp.specs.Regions.{deciding}
 use Rattle.guest_pmp.proofs.Deciding.{matches_here, matches_behind, matches_nowhere}
 use Rattle.guest_pmp.proofs.region.deciding.Goals as goal

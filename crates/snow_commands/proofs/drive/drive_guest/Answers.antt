@@ -41,5 +41,6 @@ returns-clause-gives g c =
 pub returns-clause-loads : goal.returns-clause-loads
 returns-clause-loads g c =
     always-ok c.drive_files.result _
-    (asked-both (guest_loads c.args.guest.now) (load_of SCRIPT_LOAD c.args.script.now ∷ []) (g.S.Shelf.asked c.args.shelf.now) (g.S.Shelf.asked c.read_guest.new.shelf) (g.S.Shelf.asked c.load_script.new.shelf)
+    (asked-both (guest_loads c.args.guest.now) (load_of SCRIPT_LOAD c.args.script.now ∷ []) (g.S.Shelf.asked c.args.shelf.now)
+    (g.S.Shelf.asked c.read_guest.new.shelf) (g.S.Shelf.asked c.load_script.new.shelf)
     c.in_ok-files.ensures.asked c.in_ok-text.ensures.asked)

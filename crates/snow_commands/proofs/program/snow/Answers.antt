@@ -63,7 +63,8 @@ returns-in-Err-ImageRefused-clause-complete g c =
 pub returns-in-Err-ImageRefused-clause-fileless : goal.returns-in-Err-ImageRefused-clause-fileless
 returns-in-Err-ImageRefused-clause-fileless g c =
     rw c.new-in-Err-ImageRefused.ensures
-    (ends-fileless (meaning c.in-Ok-Some.command) (c.in-Err-ImageRefused.is ∙ ap Err c.in-Err-ImageRefused.field-0-is) (means c.in-Ok-Some.field-0-is c.in-Ok-Some.ensures) c.write_text.ensures.fileless)
+    (ends-fileless (meaning c.in-Ok-Some.command) (c.in-Err-ImageRefused.is ∙ ap Err c.in-Err-ImageRefused.field-0-is)
+    (means c.in-Ok-Some.field-0-is c.in-Ok-Some.ensures) c.write_text.ensures.fileless)
 
 pub returns-in-Err-DataRefused-clause-complete : goal.returns-in-Err-DataRefused-clause-complete
 returns-in-Err-DataRefused-clause-complete g c =
@@ -87,7 +88,8 @@ returns-in-Err-ScriptRefused-clause-complete g c =
 pub returns-in-Err-ScriptRefused-clause-fileless : goal.returns-in-Err-ScriptRefused-clause-fileless
 returns-in-Err-ScriptRefused-clause-fileless g c =
     rw c.of_script.ensures
-    (ends-fileless (meaning c.in-Ok-Some.command) (c.in-Err-ScriptRefused.is ∙ ap Err c.in-Err-ScriptRefused.field-0-is) (means c.in-Ok-Some.field-0-is c.in-Ok-Some.ensures) c.write_text.ensures.fileless)
+    (ends-fileless (meaning c.in-Ok-Some.command) (c.in-Err-ScriptRefused.is ∙ ap Err c.in-Err-ScriptRefused.field-0-is)
+    (means c.in-Ok-Some.field-0-is c.in-Ok-Some.ensures) c.write_text.ensures.fileless)
 
 pub returns-in-Err-WriteFault-clause-complete : goal.returns-in-Err-WriteFault-clause-complete
 returns-in-Err-WriteFault-clause-complete g c =
@@ -125,40 +127,48 @@ returns-in-Err-Memory-clause-fileless g c =
 
 pub returns-in-Ok-clause-loads : goal.returns-in-Ok-clause-loads
 returns-in-Ok-clause-loads g c = λ code.
-    ends-ok (λ m. AreLoaded m (g.S.Shelf.asked c.args.shelf.now) (g.S.Shelf.asked c.write_text.new.shelf)) (meaning c.in-Ok-Some.command) c.in-Ok.is (means c.in-Ok-Some.field-0-is c.in-Ok-Some.ensures)
+    ends-ok (λ m. AreLoaded m (g.S.Shelf.asked c.args.shelf.now) (g.S.Shelf.asked c.write_text.new.shelf)) (meaning c.in-Ok-Some.command) c.in-Ok.is
+    (means c.in-Ok-Some.field-0-is c.in-Ok-Some.ensures)
     c.write_text.ensures.loads
 
 pub returns-in-Ok-clause-seeded : goal.returns-in-Ok-clause-seeded
 returns-in-Ok-clause-seeded g c =
     rw c.new.ensures
-    (ends-run (λ m. AreSeeded m g.W.Wire.seeds c.args.wires.now.items c.write_text.new.wires.items) (meaning c.in-Ok-Some.command) c.in-Ok.is (means c.in-Ok-Some.field-0-is c.in-Ok-Some.ensures) c.write_text.ensures.seeded)
+    (ends-run (λ m. AreSeeded m g.W.Wire.seeds c.args.wires.now.items c.write_text.new.wires.items) (meaning c.in-Ok-Some.command) c.in-Ok.is
+    (means c.in-Ok-Some.field-0-is c.in-Ok-Some.ensures) c.write_text.ensures.seeded)
 
 pub returns-in-Err-ReadFault-clause-seeded : goal.returns-in-Err-ReadFault-clause-seeded
 returns-in-Err-ReadFault-clause-seeded g c =
     rw c.new-in-Err-ReadFault.ensures
-    (ends-run (λ m. AreSeeded m g.W.Wire.seeds c.args.wires.now.items c.write_text.new.wires.items) (meaning c.in-Ok-Some.command) (c.in-Err-ReadFault.is ∙ ap Err c.in-Err-ReadFault.field-0-is) (means c.in-Ok-Some.field-0-is c.in-Ok-Some.ensures) c.write_text.ensures.seeded)
+    (ends-run (λ m. AreSeeded m g.W.Wire.seeds c.args.wires.now.items c.write_text.new.wires.items) (meaning c.in-Ok-Some.command)
+    (c.in-Err-ReadFault.is ∙ ap Err c.in-Err-ReadFault.field-0-is) (means c.in-Ok-Some.field-0-is c.in-Ok-Some.ensures) c.write_text.ensures.seeded)
 
 pub returns-in-Err-ImageRefused-clause-seeded : goal.returns-in-Err-ImageRefused-clause-seeded
 returns-in-Err-ImageRefused-clause-seeded g c =
     rw c.new-in-Err-ImageRefused.ensures
-    (ends-run (λ m. AreSeeded m g.W.Wire.seeds c.args.wires.now.items c.write_text.new.wires.items) (meaning c.in-Ok-Some.command) (c.in-Err-ImageRefused.is ∙ ap Err c.in-Err-ImageRefused.field-0-is) (means c.in-Ok-Some.field-0-is c.in-Ok-Some.ensures) c.write_text.ensures.seeded)
+    (ends-run (λ m. AreSeeded m g.W.Wire.seeds c.args.wires.now.items c.write_text.new.wires.items) (meaning c.in-Ok-Some.command)
+    (c.in-Err-ImageRefused.is ∙ ap Err c.in-Err-ImageRefused.field-0-is) (means c.in-Ok-Some.field-0-is c.in-Ok-Some.ensures) c.write_text.ensures.seeded)
 
 pub returns-in-Err-DataRefused-clause-seeded : goal.returns-in-Err-DataRefused-clause-seeded
 returns-in-Err-DataRefused-clause-seeded g c =
     rw c.new-in-Err-DataRefused.ensures
-    (ends-run (λ m. AreSeeded m g.W.Wire.seeds c.args.wires.now.items c.write_text.new.wires.items) (meaning c.in-Ok-Some.command) (c.in-Err-DataRefused.is ∙ ap Err c.in-Err-DataRefused.field-0-is) (means c.in-Ok-Some.field-0-is c.in-Ok-Some.ensures) c.write_text.ensures.seeded)
+    (ends-run (λ m. AreSeeded m g.W.Wire.seeds c.args.wires.now.items c.write_text.new.wires.items) (meaning c.in-Ok-Some.command)
+    (c.in-Err-DataRefused.is ∙ ap Err c.in-Err-DataRefused.field-0-is) (means c.in-Ok-Some.field-0-is c.in-Ok-Some.ensures) c.write_text.ensures.seeded)
 
 pub returns-in-Err-ScriptRefused-clause-seeded : goal.returns-in-Err-ScriptRefused-clause-seeded
 returns-in-Err-ScriptRefused-clause-seeded g c =
     rw c.of_script.ensures
-    (ends-run (λ m. AreSeeded m g.W.Wire.seeds c.args.wires.now.items c.write_text.new.wires.items) (meaning c.in-Ok-Some.command) (c.in-Err-ScriptRefused.is ∙ ap Err c.in-Err-ScriptRefused.field-0-is) (means c.in-Ok-Some.field-0-is c.in-Ok-Some.ensures) c.write_text.ensures.seeded)
+    (ends-run (λ m. AreSeeded m g.W.Wire.seeds c.args.wires.now.items c.write_text.new.wires.items) (meaning c.in-Ok-Some.command)
+    (c.in-Err-ScriptRefused.is ∙ ap Err c.in-Err-ScriptRefused.field-0-is) (means c.in-Ok-Some.field-0-is c.in-Ok-Some.ensures) c.write_text.ensures.seeded)
 
 pub returns-in-Err-WriteFault-clause-seeded : goal.returns-in-Err-WriteFault-clause-seeded
 returns-in-Err-WriteFault-clause-seeded g c =
     rw c.new-in-Err-WriteFault.ensures
-    (ends-run (λ m. AreSeeded m g.W.Wire.seeds c.args.wires.now.items c.write_text.new.wires.items) (meaning c.in-Ok-Some.command) (c.in-Err-WriteFault.is ∙ ap Err c.in-Err-WriteFault.field-0-is) (means c.in-Ok-Some.field-0-is c.in-Ok-Some.ensures) c.write_text.ensures.seeded)
+    (ends-run (λ m. AreSeeded m g.W.Wire.seeds c.args.wires.now.items c.write_text.new.wires.items) (meaning c.in-Ok-Some.command)
+    (c.in-Err-WriteFault.is ∙ ap Err c.in-Err-WriteFault.field-0-is) (means c.in-Ok-Some.field-0-is c.in-Ok-Some.ensures) c.write_text.ensures.seeded)
 
 pub returns-in-Err-Wire-clause-seeded : goal.returns-in-Err-Wire-clause-seeded
 returns-in-Err-Wire-clause-seeded g c =
     rw c.new-in-Err-Wire.ensures
-    (ends-run (λ m. AreSeeded m g.W.Wire.seeds c.args.wires.now.items c.write_text.new.wires.items) (meaning c.in-Ok-Some.command) (c.in-Err-Wire.is ∙ ap Err c.in-Err-Wire.field-0-is) (means c.in-Ok-Some.field-0-is c.in-Ok-Some.ensures) c.write_text.ensures.seeded)
+    (ends-run (λ m. AreSeeded m g.W.Wire.seeds c.args.wires.now.items c.write_text.new.wires.items) (meaning c.in-Ok-Some.command)
+    (c.in-Err-Wire.is ∙ ap Err c.in-Err-Wire.field-0-is) (means c.in-Ok-Some.field-0-is c.in-Ok-Some.ensures) c.write_text.ensures.seeded)

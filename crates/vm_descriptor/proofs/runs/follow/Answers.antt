@@ -1,11 +1,10 @@
-use Rattle.std.proofs.Common.{rules, ◌≡◌, ◌<◌, ◌≤◌, ◌∷◌, ℕ, List, false, length, take, drop, ap, sym, ◌∙◌}
+use Rattle.std.proofs.Common.{rules, ◌≡◌, ◌<◌, ◌≤◌, ◌∷◌, ℕ, List, length, take, drop, ap, sym, ◌∙◌}
 use Rattle.vm_descriptor.specs.Maps.{halves}
-use Rattle.vm_descriptor.proofs.RunLengths.{fill, fill_next, halves_end, halves_step, none_fill, none_left, too_many}
+use Rattle.vm_descriptor.proofs.RunLengths.{fill, fill_next, halves_end, halves_step, none_fill, none_left}
 use Rattle.vm_descriptor.proofs.runs.follow.Goals as goal
-use Rattle.vm_descriptor.proofs.runs.follow.Goals.{then-run-eq0-via-then-run-eq0, then-run-eq0-via-else-run-eq0+then-pages_left-run}
 
-pub returns-then-run-eq0 : goal.returns-then-run-eq0
-returns-then-run-eq0 c =
+pub returns-then-not-is_run : goal.returns-then-not-is_run
+returns-then-not-is_run c =
     let left = c.loop-run.left.now in
     let later = halves c.in-Some.behind.now in
     let enough : 2 ≤ length left = search rules in
@@ -13,12 +12,8 @@ returns-then-run-eq0 c =
     let rest : c.in-Some.behind.now ≡ drop 2 left = search rules in
     let step : halves left ≡ c.from-run.result ∷ later =
     halves_step left c.in-Some.run'.now c.in-Some.behind.now enough first rest ∙ ap (λ (n : ℕ). n ∷ later) (sym (c.from-run.ensures ∙ c.read_half.ensures)) in
-    let refused : false ≡ fill c.loop-run.pages_left (c.from-run.result ∷ later) =
-    elim c.then-run-eq0.branch [
-      | then-run-eq0-via-then-run-eq0 w ↦ none_fill c.loop-run.pages_left c.from-run.result later w.if-run-eq0.true
-      | then-run-eq0-via-else-run-eq0+then-pages_left-run w ↦ too_many c.loop-run.pages_left c.from-run.result later w.if-pages_left-run.true
-    ] in
-    refused ∙ ap (λ (ls : List ℕ). fill c.loop-run.pages_left ls) (sym step) ∙ c.loop-run.invariant
+    none_fill c.loop-run.pages_left c.from-run.result later (sym c.is_run.ensures ∙ c.if-not-is_run.true)
+    ∙ ap (λ (ls : List ℕ). fill c.loop-run.pages_left ls) (sym step) ∙ c.loop-run.invariant
 
 pub loop-run-preserved : goal.loop-run-preserved
 loop-run-preserved c =
@@ -29,7 +24,7 @@ loop-run-preserved c =
     let rest : c.in-Some.behind.now ≡ drop 2 left = search rules in
     let step : halves left ≡ c.from-run.result ∷ later =
     halves_step left c.in-Some.run'.now c.in-Some.behind.now enough first rest ∙ ap (λ (n : ℕ). n ∷ later) (sym (c.from-run.ensures ∙ c.read_half.ensures)) in
-    fill_next c.loop-run.pages_left c.from-run.result later c.if-run-eq0.false c.if-pages_left-run.false
+    fill_next c.loop-run.pages_left c.from-run.result later (sym c.is_run.ensures ∙ c.if-not-is_run.false)
     ∙ ap (λ (ls : List ℕ). fill c.loop-run.pages_left ls) (sym step) ∙ c.loop-run.invariant
 
 pub returns : goal.returns

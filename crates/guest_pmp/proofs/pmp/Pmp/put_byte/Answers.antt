@@ -1,4 +1,4 @@
-use Rattle.std.proofs.Common.{◌≡◌, Bool, true, get_or, arith}
+use Rattle.std.proofs.Common.{◌≡◌, true, get_or, arith}
 use Rattle.std.proofs.lemmas.List.Elements.{All-set}
 use Rattle.guest_pmp.specs.Registers.{is_configuration}
 use Rattle.guest_pmp.proofs.Bytes.{written_byte-is_configuration}

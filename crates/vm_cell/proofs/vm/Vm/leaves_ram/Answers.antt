@@ -6,8 +6,5 @@ use Rattle.vm_cell.proofs.vm.Vm.leaves_ram.Goals as goal
 pub leaves_ram-requires-clause-keeps : goal.leaves_ram-requires-clause-keeps
 leaves_ram-requires-clause-keeps c = subst (λ (v : KeyedMachine). Keeps (hart_in v) c.args.epoch c.args.slots.now) (sym c.self.view_is) c.requires.keeps
 
-pub returns-clause-told : goal.returns-clause-told
-returns-clause-told c = λ told. subst (λ (v : KeyedMachine). ComesAside (hart_in v)) c.self.view_is (c.leaves_ram.ensures.told told)
-
-pub returns-clause-keeps : goal.returns-clause-keeps
-returns-clause-keeps c = subst (λ (v : KeyedMachine). Keeps (hart_in v) c.args.epoch c.leaves_ram.new.slots) c.self.view_is c.leaves_ram.ensures.keeps
+pub returns : goal.returns
+returns c = λ told. subst (λ (v : KeyedMachine). ComesAside (hart_in v)) c.self.view_is (c.leaves_ram.ensures told)

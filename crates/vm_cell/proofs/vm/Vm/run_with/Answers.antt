@@ -40,13 +40,13 @@ loop-steps-preserved c =
     let run = IsRun-join _ _ _ _ _ c.loop-steps.invariant.0 c.make_fast-made.ensures.run in
     let counted = c.make_fast-made.ensures.run.counted in
     let kept =
-    kept-on before after c.leaves_ram-is_left.result c.loop-steps.epoch c.epoch_after-epoch-in-loop-steps.result part.steps c.leaves_ram-is_left.new.slots
+    kept-on before after c.leaves_ram-is_left.result c.loop-steps.epoch c.epoch_after-epoch-in-loop-steps.result part.steps c.make_fast-made.new.slots
     c.make_fast-made.ensures.live is.run some (omega (arith, c.loop-steps.invariant.4, counted)) (λ left. let one = c.count_alone-count.ensures.one left in omega (arith, one, within))
-    c.leaves_ram-is_left.ensures.told c.epoch_after-epoch-in-loop-steps.ensures c.leaves_ram-is_left.ensures.keeps in (
+    c.leaves_ram-is_left.ensures c.epoch_after-epoch-in-loop-steps.ensures c.make_fast-made.ensures.keeps in (
       IsRun-join _ _ _ _ _ run is.run,
       omega (arith, within, c.count_alone-count.ensures.within, c.make_fast-made.ensures.most),
       kept.0,
-      c.leaves_ram-is_left.ensures.same_length ∙ c.make_fast-made.ensures.same_length ∙ c.loop-steps.invariant.3,
+      c.make_fast-made.ensures.same_length ∙ c.loop-steps.invariant.3,
       kept.1,
     )
 

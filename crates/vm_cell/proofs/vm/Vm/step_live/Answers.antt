@@ -1,5 +1,6 @@
-use Rattle.std.proofs.Common.{◌≡◌, ◌+◌, None, Some, rules, ap, ◌∙◌, subst}
+use Rattle.std.proofs.Common.{◌≡◌, ◌+◌, None, Some, rules, sym, ap, ◌∙◌, subst}
 use Rattle.fork_port.specs.declared.ending.Ending.TheVariants.{Exit}
+use Rattle.fork_port.specs.declared.handed.Handed.{Handed}
 use Rattle.forest_model.specs.Paged.{stalled_at}
 use Rattle.vm_hart.specs.Acts.{waits_for}
 use Rattle.vm_hart.specs.Keyed.{KeyedMachine, KeyedState, hart_in, machine_of, paged}
@@ -21,7 +22,12 @@ pub invariant_of-self-in-Exited : goal.invariant_of-self-in-Exited
 invariant_of-self-in-Exited c =
     let exited = rw c.in-Exited.is at c.in_ok-page.ensures.acts in
     counted_exit _ _ _ _ _ _ _ c.self.invariant (rw (← c.self.view_is) at c.requires)
-    (ap (λ (h : KeyedState). h.state.ports.fork) c.count-in-Exited.ensures) (rises_exited _ _ _ exited.1.tells) (funded_exited _ _ _ c.self.invariant.funded exited.1.tells)
+    (ap (λ (h : KeyedState). h.state.ports.fork) c.count-in-Exited.ensures) (rises_exited _ _ _ _ exited.1.tells.0) (funded_exited _ _ _ _ c.self.invariant.funded exited.1.tells.0)
+
+pub handed-bytes-requires : goal.handed-bytes-requires
+handed-bytes-requires c =
+    let exited = rw c.in-Exited.is at c.in_ok-page.ensures.acts in
+    exited.1.tells.1
 
 pub returns-in_err-page-clause-here : goal.returns-in_err-page-clause-here
 returns-in_err-page-clause-here c =
@@ -62,8 +68,10 @@ pub returns-in-Exited-clause-goes : goal.returns-in-Exited-clause-goes
 returns-in-Exited-clause-goes c =
     let v : KeyedMachine = machine_of c.self.inside.hart c.self.inside.steps c.self.inside.limit c.self.inside.ending in
     let acts = rw c.in-Exited.is at c.in_ok-page.ensures.acts in
-    subst (λ (n : KeyedMachine). GoesOn n (machine_of c.count-in-Exited.new.self (c.self.inside.steps + 1) c.self.inside.limit (Some (Exit c.in-Exited.value))) None) c.self.view_is
-    (goes_exited v c.act.new.self (rw (← c.self.view_is) at c.requires) c.in-Exited.value _ acts c.count-in-Exited.ensures)
+    let value = c.in-Exited.value in
+    subst (λ (n : KeyedMachine). GoesOn n (machine_of c.count-in-Exited.new.self (c.self.inside.steps + 1) c.self.inside.limit (Some (Exit value c.handed-bytes.result))) None) c.self.view_is
+    (subst (λ (h : Handed). GoesOn v (machine_of c.count-in-Exited.new.self (c.self.inside.steps + 1) c.self.inside.limit (Some (Exit value h))) None) (sym c.handed-bytes.ensures)
+    (goes_exited v c.act.new.self (rw (← c.self.view_is) at c.requires) value c.in-Exited.address c.in-Exited.count _ acts c.count-in-Exited.ensures))
 
 pub returns-in-Asked-clause-goes : goal.returns-in-Asked-clause-goes
 returns-in-Asked-clause-goes c =

@@ -1,9 +1,9 @@
-use Rattle.std.proofs.Common.{rules, ◌≡◌, ◌<◌, ℕ, List, None, Some, true, false, drop, ap, sym, subst, ◌∙◌, arith}
+use Rattle.std.proofs.Common.{rules, ◌≡◌, ◌<◌, ℕ, None, Some, ap, sym, subst, ◌∙◌, arith}
 use Rattle.std.specs.Prelude.{Bool, if◌then◌else◌, Option}
 use Rattle.std.proofs.Math.ListN.{get_or}
 use Rattle.std.proofs.lemmas.Result.{err_from_is_err_and}
 use Rattle.vm_descriptor.specs.declared.descriptor.Descriptor.{Descriptor}
-use Rattle.vm_descriptor.specs.Described.{IsSpelling, read_as, refused}
+use Rattle.vm_descriptor.specs.Described.{IsSpelling, refused}
 use Rattle.vm_descriptor.specs.Descriptor.{IsInRange}
 use Rattle.vm_descriptor.specs.Fields.{number_in}
 use Rattle.vm_descriptor.proofs.Accepted.{accepted, in_range}

@@ -5,6 +5,8 @@ use Rattle.block_port.specs.declared.status.Status.TheVariants.{Done, BadSector,
 use Rattle.vm_descriptor.specs.Fields.{Field, number, row, reserved_of, address_of}
 use Rattle.vm_descriptor.specs.Fields.{Image, Pages, CloneId, Share, Pc, Mstatus, Mie, Mtvec, Mscratch, Mepc, Mcause, Mtval, Mcycle, Minstret, Mtime, Mtimecmp}
 use Rattle.vm_descriptor.specs.Fields.{Steps, Limit, Reserved, Reservation, Place, LineControl, Sector, BlockStatus, Argument0, Argument1, JoinSelect, Granted}
+use Rattle.rv_traps.specs.Registers.{interrupt_enable, modifies_privilege, previous_interrupt_enable, previous_mode}
+use Rattle.vm_descriptor.proofs.Modes.{mstatus_small, word_fits}
 use Rattle.vm_descriptor.proofs.descriptor.Descriptor.fits.Goals as goal
 
 reserved_fits : (r : Option ℕ) → reserved_of r < 2 ^ 32
@@ -23,6 +25,7 @@ status_fits UnknownCommand = omega arith
 pub returns : goal.returns
 returns c =
     let d = c.args.self.now in
+    let small = mstatus_small d.csrs.mstatus (interrupt_enable d.csrs) (previous_interrupt_enable d.csrs) (previous_mode d.csrs) (modifies_privilege d.csrs) c.requires.csrs.mstatus in
     let line_control = c.console_fits.ensures.line_control in
     let numbers = λ (f : Field). elim f as (λ f. number d f < 256 ^ (row f).width) [
       | Image ↦ c.numbers_fit.ensures.image
@@ -30,7 +33,7 @@ returns c =
       | CloneId ↦ c.numbers_fit.ensures.clone_id
       | Share ↦ c.numbers_fit.ensures.share
       | Pc ↦ c.numbers_fit.ensures.pc
-      | Mstatus ↦ c.csrs_fit.ensures.mstatus
+      | Mstatus ↦ word_fits d.csrs.mode d.csrs.mstatus small
       | Mie ↦ c.csrs_fit.ensures.mie
       | Mtvec ↦ c.csrs_fit.ensures.mtvec
       | Mscratch ↦ c.csrs_fit.ensures.mscratch
@@ -56,10 +59,14 @@ returns c =
     ] in
     record {
       numbers = numbers;
+      mstatus = small;
       line_control = line_control;
       registers = c.registers_fit.ensures.words;
       each = c.registers_fit.ensures.each;
       buffer = c.block_fits.ensures.buffer;
+      configurations = c.entries_fit.ensures.configurations;
+      addresses = c.entries_fit.ensures.addresses;
+      words = c.entries_fit.ensures.words;
       map = c.requires.ram.one_bit_a_page;
       runs = let most = c.requires.ram.most in omega (arith, most);
     }

@@ -1,7 +1,7 @@
-use Rattle.std.proofs.Common.{ℕ, ◌++◌, ◌∷◌, [], ap, ◌∙◌}
+use Rattle.std.proofs.Common.{ℕ, ◌+◌, ◌++◌, ◌∷◌, [], ap, ◌∙◌}
 use Rattle.std.specs.List.{flat_map}
 use Rattle.block_port.specs.Block.{status_word}
-use Rattle.vm_descriptor.specs.Fields.{address_of, reserved_of}
+use Rattle.vm_descriptor.specs.Fields.{address_of, mode_bit, reserved_of}
 use Rattle.vm_descriptor.specs.Described.{word, double}
 use Rattle.vm_descriptor.proofs.Appended.{onto}
 use Rattle.vm_descriptor.proofs.descriptor.Descriptor.push_fields.Goals as goal
@@ -14,7 +14,7 @@ returns c =
     let as_read = ap (λ line. with_ports line c.word.result) c.from.ensures ∙ ap (with_ports d.console.line_control) c.word.ensures in
     let reserved = flat_map word (reserved_of d.reservation ∷ address_of d.reservation ∷ []) in
     let counters = flat_map double (d.csrs.mcycle ∷ d.csrs.minstret ∷ d.timer.mtime ∷ d.timer.mtimecmp ∷ d.steps ∷ d.limit ∷ []) in
-    let csrs = flat_map word (d.csrs.mstatus ∷ d.csrs.mie ∷ d.csrs.mtvec ∷ d.csrs.mscratch ∷ d.csrs.mepc ∷ d.csrs.mcause ∷ d.csrs.mtval ∷ []) in
+    let csrs = flat_map word ((mode_bit d.csrs.mode + d.csrs.mstatus) ∷ d.csrs.mie ∷ d.csrs.mtvec ∷ d.csrs.mscratch ∷ d.csrs.mepc ∷ d.csrs.mcause ∷ d.csrs.mtval ∷ []) in
     let registers = flat_map word d.registers in
     let first = flat_map word (d.image ∷ d.pages ∷ d.clone_id ∷ d.share ∷ d.pc ∷ []) in
     onto c.args.bytes.now.items c.args.version.now.mark (first ++ (registers ++ (csrs ++ (counters ++ (reserved ++ ports))))) c.in_ok-extend_from_slice.ensures.items

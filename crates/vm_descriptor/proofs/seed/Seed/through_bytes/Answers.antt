@@ -1,4 +1,4 @@
-use Rattle.std.proofs.Common.{◌≡◌, ◌∙◌, arith}
+use Rattle.std.proofs.Common.{◌≡◌, ◌∙◌, refl, arith}
 use Rattle.std.proofs.lemmas.Result.{IfOk-weaker}
 use Rattle.vm_descriptor.specs.Descriptor.{numbered}
 use Rattle.vm_descriptor.specs.Described.{described}
@@ -11,7 +11,7 @@ read_fields-requires c =
     let is : c.deref.result.now ≡ described d = c.deref.ensures.value ∙ c.in_ok-bytes.ensures.value in
     let fits = c.in_ok-bytes.ensures.fits in
     record {
-      known = record { fields = omega arith; few = omega arith; least = omega arith; most = omega arith };
+      known = record { fields = omega arith; few = omega arith; entries = refl; least = omega arith; most = omega arith };
       whole = long_kept d c.deref.result.now fits c.requires is;
       line_control = line_control_kept d c.deref.result.now fits c.requires is;
     }

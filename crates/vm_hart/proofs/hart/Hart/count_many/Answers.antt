@@ -16,8 +16,7 @@ returns c =
     let n = c.args.steps in
     let h = c.self.inside in
     let some : 0 < n = omega arith in
-    let csrs : c.of_fields-self-inside.result ≡ retired_by n h.csrs =
-    c.of_fields-self-inside.ensures ∙ sym (retired_by-is n c.fields-fields.result some) ∙ ap (retired_by n) c.fields-fields.ensures.value in
+    let csrs : c.count_retired.new.self ≡ retired_by n h.csrs = c.count_retired.ensures ∙ sym (retired_by-is n h.csrs some) in
     let ports : c.count_times.new.self ≡ record h.ports { timer = timed_by n h.ports.timer } =
     c.count_times.ensures ∙ ap (λ (t : TimerRegisters). record h.ports { timer = t }) (sym (timed_by-is n h.ports.timer some)) in
     ap (λ (x : CsrRegisters). hart_of h.registers h.pc x h.reservation h.memory c.count_times.new.self) (csrs ∙ sym (retired_by-counters n h.csrs))

@@ -24,44 +24,44 @@ four : (i : Instruction) (s : State) (k a b d e : Kind) → (k ≡ a) ⊎ ((k �
 four i s k a b d e (inl is) told w x y z = subst (StoresNothing i s) (sym is ∙ told) w
 four i s k a b d e (inr others) told w x y z = three i s k b d e others told x y z
 
-pub returns-in-Ecall : goal.returns-in-Ecall
+pub returns-in-Ecall-clause-tried : goal.returns-in-Ecall-clause-tried
 unfolding group_of
-returns-in-Ecall c =
+returns-in-Ecall-clause-tried g c =
     c.not_a_store-in-Ecall.ensures c.args.self.now c.args.self.now c.args.instr.now refl
     (three c.args.instr.now c.args.self.now.state c.args.kind Ecall Ebreak Mret c.in-Ecall.is c.requires.kind refl refl refl)
     (ap (λ (h : KeyedState). h.state.pc) c.self-in-Ecall.view_is)
 
-pub returns-in-Csrrw : goal.returns-in-Csrrw
+pub returns-in-Csrrw-clause-tried : goal.returns-in-Csrrw-clause-tried
 unfolding group_of
-returns-in-Csrrw c =
+returns-in-Csrrw-clause-tried g c =
     c.not_a_store-in-Csrrw.ensures c.args.self.now c.args.self.now c.args.instr.now refl
     (three c.args.instr.now c.args.self.now.state c.args.kind Csrrw Csrrs Csrrc c.in-Csrrw.is c.requires.kind refl refl refl)
     (ap (λ (h : KeyedState). h.state.pc) c.self-in-Csrrw.view_is)
 
-pub returns-in-Csrrwi : goal.returns-in-Csrrwi
+pub returns-in-Csrrwi-clause-tried : goal.returns-in-Csrrwi-clause-tried
 unfolding group_of
-returns-in-Csrrwi c =
+returns-in-Csrrwi-clause-tried g c =
     c.not_a_store-in-Csrrwi.ensures c.args.self.now c.args.self.now c.args.instr.now refl
     (three c.args.instr.now c.args.self.now.state c.args.kind Csrrwi Csrrsi Csrrci c.in-Csrrwi.is c.requires.kind refl refl refl)
     (ap (λ (h : KeyedState). h.state.pc) c.self-in-Csrrwi.view_is)
 
-pub returns-in-LrW : goal.returns-in-LrW
+pub returns-in-LrW-clause-tried : goal.returns-in-LrW-clause-tried
 unfolding group_of
-returns-in-LrW c =
+returns-in-LrW-clause-tried g c =
     c.not_a_store-in-LrW.ensures c.args.self.now c.args.self.now c.args.instr.now refl
     (four c.args.instr.now c.args.self.now.state c.args.kind LrW ScW AmoswapW AmoaddW c.in-LrW.is c.requires.kind refl refl refl refl)
     (ap (λ (h : KeyedState). h.state.pc) c.self-in-LrW.view_is)
 
-pub returns-in-AmoxorW : goal.returns-in-AmoxorW
+pub returns-in-AmoxorW-clause-tried : goal.returns-in-AmoxorW-clause-tried
 unfolding group_of
-returns-in-AmoxorW c =
+returns-in-AmoxorW-clause-tried g c =
     c.not_a_store-in-AmoxorW.ensures c.args.self.now c.args.self.now c.args.instr.now refl
     (three c.args.instr.now c.args.self.now.state c.args.kind AmoxorW AmoandW AmoorW c.in-AmoxorW.is c.requires.kind refl refl refl)
     (ap (λ (h : KeyedState). h.state.pc) c.self-in-AmoxorW.view_is)
 
-pub returns-in-AmominW : goal.returns-in-AmominW
+pub returns-in-AmominW-clause-tried : goal.returns-in-AmominW-clause-tried
 unfolding group_of
-returns-in-AmominW c =
+returns-in-AmominW-clause-tried g c =
     c.not_a_store-in-AmominW.ensures c.args.self.now c.args.self.now c.args.instr.now refl
     (four c.args.instr.now c.args.self.now.state c.args.kind AmominW AmomaxW AmominuW AmomaxuW c.in-AmominW.is c.requires.kind refl refl refl refl)
     (ap (λ (h : KeyedState). h.state.pc) c.self-in-AmominW.view_is)

@@ -2,6 +2,6 @@ use Rattle.std.proofs.Common.{refl, sym, ◌∙◌, inr}
 use Rattle.world_core.proofs.SlotChanges.{all-awake}
 use Rattle.world_core.proofs.cell.Brood.let_go.Goals as goal
 
-pub returns-clause-young : goal.returns-clause-young
-returns-clause-young c =
+pub returns-clause-image : goal.returns-clause-image
+returns-clause-image c =
     inr (refl, all-awake c.args.self.now.slots.items _ c.asleep_from.result (sym c.is_some.ensures ∙ c.if-is_some.false) c.asleep_from.ensures)

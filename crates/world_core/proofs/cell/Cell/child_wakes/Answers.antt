@@ -24,11 +24,11 @@ index_mut-requires c =
 pub returns-clause-shows : goal.returns-clause-shows
 returns-clause-shows c depot path t a h found asleep lives =
     let broods = c.get_mut.follows.lender c.let_go.new.self in
-    wakes-shows depot path c.args.ticket c.args.index c.args.self.now broods c.in-Some.brood.now c.let_go.new.self.young t a h found lives
+    wakes-shows depot path c.args.ticket c.args.index c.args.self.now broods c.in-Some.brood.now c.let_go.new.self.image t a h found lives
     (sym c.in-Some.ensures.value)
     (subst (λ b. WritesThrough nat_cmp (nat_cmp c.args.ticket) c.args.self.now.broods b broods) c.let_go.ensures.rest
     (c.get_mut.follows.holds c.let_go.new.self))
-    c.let_go.ensures.young
+    c.let_go.ensures.image
 
 pub let_go-requires : goal.let_go-requires
 let_go-requires c =
@@ -40,5 +40,5 @@ returns-clause-images c images path h = record {
   state = h.state;
   broods = brood-written images path c.args.self.now.broods (c.get_mut.follows.lender c.let_go.new.self) c.args.ticket c.in-Some.brood.now c.let_go.new.self
       (sym c.in-Some.ensures.value) (c.get_mut.follows.holds c.let_go.new.self)
-      (left-by images path c.args.ticket c.in-Some.brood.now.young c.let_go.new.self.young c.let_go.ensures.young) h.broods;
+      (left-by images path c.args.ticket c.in-Some.brood.now.image c.let_go.new.self.image c.let_go.ensures.image) h.broods;
 }

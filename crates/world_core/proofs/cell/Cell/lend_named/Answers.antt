@@ -19,7 +19,8 @@ returns-clause-shows c depot path t h =
 pub returns-in-Parked-clause-images : goal.returns-in-Parked-clause-images
 returns-in-Parked-clause-images c images path h =
     let at : IsStateAt images path (Parked c.in-Parked.field-0 c.in-Parked.vm c.in-Parked.field-2) = subst (IsStateAt images path) c.in-Parked.is h.state in
-    let back : IsStateAt images path (Parked c.in-Parked-replace.field-0 c.in-Parked-replace.vm c.in-Parked-replace.field-2) = subst (IsStateAt images path) (sym c.in-Parked-replace.ensures.value) h.state in (
+    let back : IsStateAt images path (Parked c.in-Parked-replace.field-0 c.in-Parked-replace.vm c.in-Parked-replace.field-2)
+    = subst (IsStateAt images path) (sym c.in-Parked-replace.ensures.value) h.state in (
       record {
         state = subst (IsStateAt images path) (sym c.replace.ensures.after)
             (key-alike images path c.in-Parked.vm.value.key c.of.result.value.key (ap (λ (v : KeyedMachine). v.key) (c.of.ensures ∙ c.deref.ensures)) at);

@@ -1,5 +1,5 @@
 use Rattle.world_core.proofs.Images.{woken-at}
-use Rattle.std.proofs.Common.{sym, subst, ap, ◌∙◌}
+use Rattle.std.proofs.Common.{sym, subst}
 use Rattle.vm_cell.specs.Woken.{IsOfImage}
 use Rattle.world_core.proofs.SlotChanges.{no-brood-no-child, none-left, sleepers-seed, wakes-to}
 use Rattle.world_core.proofs.cell.Cell.woken.Goals as goal
@@ -9,34 +9,34 @@ unreachable-requires c =
     let r = c.requires in
     no-brood-no-child c.args.depot.now r.0 c.args.self.now r.1 r.2 c.args.ticket c.args.index r.3 r.4 (sym c.in_default.ensures.value)
 
-pub unreachable-requires-in_default-young : goal.unreachable-requires-in_default-young
-unreachable-requires-in_default-young c =
+pub unreachable-requires-in_default-image : goal.unreachable-requires-in_default-image
+unreachable-requires-in_default-image c =
     let r = c.requires in
     none-left c.args.depot.now r.0 c.args.self.now r.1 r.2 c.args.ticket c.args.index c.in-Some.brood.now r.3 r.4 r.5 r.6 (sym c.in-Some.ensures.value)
-    c.in_default-young.is
+    c.in_default-image.is
 
 pub through_bytes-requires : goal.through_bytes-requires
 through_bytes-requires c =
     let r = c.requires in
-    (sleepers-seed c.args.depot.now r.0 c.args.self.now r.1 r.2 c.args.ticket c.args.index c.in-Some.brood.now c.in-Some-young.young r.3 r.4 r.5 r.6
-    (sym c.in-Some.ensures.value) c.in-Some-young.is).sleeps.of_image.in_range
+    (sleepers-seed c.args.depot.now r.0 c.args.self.now r.1 r.2 c.args.ticket c.args.index c.in-Some.brood.now c.in-Some-image.image r.3 r.4 r.5 r.6
+    (sym c.in-Some.ensures.value) c.in-Some-image.is).sleeps.of_image.in_range
 
 pub wake-requires : goal.wake-requires
 wake-requires c =
-    let r = c.requires in let young = c.in-Some-young.young in
-    let at = sleepers-seed c.args.depot.now r.0 c.args.self.now r.1 r.2 c.args.ticket c.args.index c.in-Some.brood.now young r.3 r.4 r.5 r.6
-    (sym c.in-Some.ensures.value) c.in-Some-young.is in
-    record { of_depot = at.key; of_image = subst (IsOfImage young.key) (sym c.in_ok-seed.ensures) at.sleeps.of_image }
+    let r = c.requires in let image = c.in-Some-image.image in
+    let at = sleepers-seed c.args.depot.now r.0 c.args.self.now r.1 r.2 c.args.ticket c.args.index c.in-Some.brood.now image r.3 r.4 r.5 r.6
+    (sym c.in-Some.ensures.value) c.in-Some-image.is in
+    record { of_depot = at.key; of_image = subst (IsOfImage image.key) (sym c.in_ok-seed.ensures) at.sleeps.of_image }
 
 pub returns-clause-shows : goal.returns-clause-shows
 returns-clause-shows c path t a h found asleep lives =
-    let young = c.in-Some-young.young in
-    wakes-to c.args.depot.now c.args.index young a c.in_ok-seed.seed c.wake.result
-    (sleepers-seed c.args.depot.now path c.args.self.now t a c.args.ticket c.args.index c.in-Some.brood.now young h found asleep lives
-    (sym c.in-Some.ensures.value) c.in-Some-young.is)
+    let image = c.in-Some-image.image in
+    wakes-to c.args.depot.now c.args.index image a c.in_ok-seed.seed c.wake.result
+    (sleepers-seed c.args.depot.now path c.args.self.now t a c.args.ticket c.args.index c.in-Some.brood.now image h found asleep lives
+    (sym c.in-Some.ensures.value) c.in-Some-image.is)
     c.in_ok-seed.ensures c.wake.ensures
 
 pub returns-clause-images : goal.returns-clause-images
 returns-clause-images c images path h =
-    woken-at images path c.args.ticket c.args.index c.in-Some.brood.now c.in-Some-young.young c.in_ok-seed.seed c.wake.result c.args.self.now h
-    (sym c.in-Some.ensures.value) c.in-Some-young.is c.wake.ensures
+    woken-at images path c.args.ticket c.args.index c.in-Some.brood.now c.in-Some-image.image c.in_ok-seed.seed c.wake.result c.args.self.now h
+    (sym c.in-Some.ensures.value) c.in-Some-image.is c.wake.ensures

@@ -5,10 +5,10 @@ use Rattle.world_core.proofs.Arriving.{still-led}
 use Rattle.world_core.proofs.lease.Lease.ran.Goals as goal
 
 pub returns-clause-after : goal.returns-clause-after
-returns-clause-after c = subst (λ (l : Lent). l.now ≡ after_steps l.ran l.start) c.self.view_is c.self.invariant.0.after
+returns-clause-after c = subst (λ (l : Lent). l.now ≡ after_steps l.ran l.start) c.self.view_is c.self.invariant.made.after
 
 pub returns-clause-led : goal.returns-clause-led
-returns-clause-led c = subst HasLed c.self.view_is c.self.invariant.3
+returns-clause-led c = subst HasLed c.self.view_is c.self.invariant.led
 
 pub returns-clause-handed : goal.returns-clause-handed
-returns-clause-handed c depot w f stands since = still-led depot w f c.args.self.now (subst HasLed c.self.view_is c.self.invariant.3) stands since
+returns-clause-handed c depot w f stands since = still-led depot w f c.args.self.now (subst HasLed c.self.view_is c.self.invariant.led) stands since

@@ -8,7 +8,6 @@ use Rattle.vm_cell.specs.Steps.{moved_by}
 use Rattle.vm_cell.specs.declared.vm.Ran.{Ran}
 use Rattle.world_core.specs.Answers.{IsHandedOut}
 use Rattle.world_core.specs.Lent.{Lent, IsLent, lent_as}
-use Rattle.world_core.specs.Turns.{turn_of}
 use Rattle.world_core.proofs.Arriving.{handed-run, led-run}
 use Rattle.world_core.proofs.lease.Lease.run.Goals as goal
 
@@ -51,7 +50,7 @@ invariant_of-self c =
     let start = c.self.inside.start.value.machine in
     let old = c.deref_mut.result.now in let new = c.run-ran.new.self in
     let held : IsLent start c.self.inside.ran old.machine =
-    subst (λ (v : KeyedMachine). IsLent start c.self.inside.ran v.machine) (sym c.deref_mut.ensures.value) c.self.invariant.0 in
+    subst (λ (v : KeyedMachine). IsLent start c.self.inside.ran v.machine) (sym c.deref_mut.ensures.value) c.self.invariant.made in
     let before : c.steps-before.result ≡ old.machine.steps =
     c.steps-before.ensures ∙ ap (λ (v : KeyedMachine). v.machine.steps) (c.deref.ensures ∙ sym c.deref_mut.ensures.value) in
     let after : c.steps.result ≡ new.machine.steps = c.steps.ensures ∙ ap (λ (v : KeyedMachine). v.machine.steps) c.deref-2.ensures in
@@ -62,16 +61,16 @@ invariant_of-self c =
     let moved : new ≡ moved_by since c.self.inside.vm.value =
     moved-since since c.self.inside.vm.value old new c.run-ran.result c.deref_mut.ensures.value more c.run-ran.ensures.steps c.run-ran.ensures.each_made
     c.run-ran.ensures.err in
-    let lease_of : ℕ → KeyedMachine → Lent = λ ran v. lent_as (turn_of c.self.inside.turn.value).name start ran v in
-    let led = led-run (lease_of c.self.inside.ran c.self.inside.vm.value) (lease_of (c.self.inside.ran + since) new) since refl c.self.invariant.0 refl moved
-    c.self.invariant.3 in
-    (subst (λ n. IsLent start (c.self.inside.ran + n) new.machine) (sym more) lent, c.self.invariant.1, c.self.invariant.2, led)
+    let lease_of : ℕ → KeyedMachine → Lent = λ ran v. lent_as c.self.inside.turn.name start ran v in
+    let led = led-run (lease_of c.self.inside.ran c.self.inside.vm.value) (lease_of (c.self.inside.ran + since) new) since refl c.self.invariant.made refl moved
+    c.self.invariant.led in
+    record { own = c.self.invariant.own; made = subst (λ n. IsLent start (c.self.inside.ran + n) new.machine) (sym more) lent; led = led }
 
 pub returns-clause-handed : goal.returns-clause-handed
 returns-clause-handed c = λ f out_as.
     let inside = c.self.inside in
     let start = inside.start.value.machine in
-    let name = (turn_of inside.turn.value).name in
+    let name = inside.turn.name in
     let old : Lent = lent_as name start inside.ran inside.vm.value in
     let mid = c.deref_mut.result.now in
     let new = c.run-ran.new.self in
@@ -83,4 +82,4 @@ returns-clause-handed c = λ f out_as.
     moved-since since inside.vm.value mid new c.run-ran.result c.deref_mut.ensures.value (ap₂ (λ a b. a - b) after before)
     c.run-ran.ensures.steps c.run-ran.ensures.each_made c.run-ran.ensures.err in
     handed-run f old (lent_as name start (inside.ran + since) new) since (record { name = refl; start = refl; key = ap (λ (v : KeyedMachine). v.key) moved })
-    c.self.invariant.0 refl moved (subst (IsHandedOut f) (sym c.self.view_is) out_as)
+    c.self.invariant.made refl moved (subst (IsHandedOut f) (sym c.self.view_is) out_as)

@@ -1,44 +1,31 @@
 use Rattle.world_core.proofs.Images.{written}
-use Rattle.std.proofs.Common.{◌≡◌, ◌∷◌, true, Some, sym, ◌∙◌, subst}
+use Rattle.std.proofs.Common.{◌≡◌, ◌∷◌, true, sym, ◌∙◌, subst}
 use Rattle.std.specs.BTreeMap.{get}
-use Rattle.std.specs.Option.{IsSomeAnd}
-use Rattle.image_depot.specs.Key.{Shelves}
-use Rattle.forest_tree.specs.Tree.{Tree, Branch}
-use Rattle.forest_history.specs.Places.{Spot}
-use Rattle.forest_model.specs.Paged.{Paged}
+use Rattle.forest_tree.specs.Tree.{Branch}
 use Rattle.machine_names.specs.Name.{child_path}
 use Rattle.machine_names.specs.NameOrder.{path_cmp}
 use Rattle.world_core.specs.declared.cell.Cell.{Cell}
-use Rattle.world_core.specs.Turns.{turn_of}
-use Rattle.world_core.specs.Waiting.{IsListed}
-use Rattle.world_core.specs.Shows.{CellShows, IsAwake, child_of}
+use Rattle.world_core.specs.Listed.{IsListed}
 use Rattle.world_core.specs.World.{StandsFor}
 use Rattle.world_core.specs.Between.{with_tree}
 use Rattle.world_core.proofs.Ready.{IsListed-more, IsListed-first, IsCovered-more}
 use Rattle.world_core.proofs.Leaving.{end-child, if-some-is}
 use Rattle.world_core.proofs.world.World.end_child.Goals as goal
 
-pub push-requires : goal.push-requires
-push-requires c =
-    let parent = c.args.parent.now in
-    let Known : Cell → Type 0 = λ cell. (depot : Shelves) × (t a : Tree (Spot Paged))
-    × CellShows depot parent cell t × (child_of c.args.ticket c.args.index t ≡ Some a) × IsAwake a in
-    let known = subst (λ o. IsSomeAnd o Known) (sym c.in-Some.ensures.value) c.requires in
-    (c.in-Some-child_ended.ensures.turn known.0 parent known.1 known.3).0
-
 pub returns-in-Some-child_ended-clause-stands : goal.returns-in-Some-child_ended-clause-stands
 returns-in-Some-child_ended-clause-stands c depot f b leaving left sound =
     let x : Branch = record { ticket = c.args.ticket; child = c.args.index } in
     let parent = c.args.parent.now in
     let turn = c.in-Some-child_ended.turn in
-    subst (λ list. StandsFor depot (record c.args.self.now { cells = c.get_mut.follows.lender c.child_ended.new.self; ready = list }) (with_tree (child_path parent c.args.ticket c.args.index) b f)) (sym c.push.ensures)
+    subst (λ list. StandsFor depot (record c.args.self.now { cells = c.get_mut.follows.lender c.child_ended.new.self; ready = list })
+    (with_tree (child_path parent c.args.ticket c.args.index) b f)) (sym c.push.ensures)
     (end-child depot c.args.self.now f parent x b c.args.outcome leaving left sound c.in-Some.cell.now c.child_ended.new.self
-    (c.get_mut.follows.lender c.child_ended.new.self) (turn_of turn.value ∷ c.args.self.now.ready) c.in-Some.ensures.value
+    (c.get_mut.follows.lender c.child_ended.new.self) (turn ∷ c.args.self.now.ready) c.in-Some.ensures.value
     (c.get_mut.follows.holds c.child_ended.new.self)
     (λ p a shows there awake. c.child_ended.ensures.shows depot parent p a b shows there awake left.ending left.lines)
     (λ p a shows there awake. c.child_ended.ensures.ready depot parent p a b shows there awake left.ending)
-    (λ n. IsListed-more n (turn_of turn.value) c.args.self.now.ready) (λ n. IsCovered-more n (turn_of turn.value) c.args.self.now.ready)
-    (λ p shows is. IsListed-first parent (turn_of turn.value) c.args.self.now.ready (c.in-Some-child_ended.ensures.turn depot parent p shows).1))
+    (λ n. IsListed-more n turn c.args.self.now.ready) (λ n. IsCovered-more n turn c.args.self.now.ready)
+    (λ p shows is. IsListed-first parent turn c.args.self.now.ready (c.in-Some-child_ended.ensures.turn depot parent p shows)))
 
 pub returns-in_default-child_ended-clause-stands : goal.returns-in_default-child_ended-clause-stands
 returns-in_default-child_ended-clause-stands c depot f b leaving left sound =

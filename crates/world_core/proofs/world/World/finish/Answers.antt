@@ -12,9 +12,7 @@ use Rattle.machine_names.specs.Name.{child_path}
 use Rattle.vm_cell.specs.Keyed.{paged}
 use Rattle.machine_names.specs.NameOrder.{path_cmp}
 use Rattle.world_core.specs.declared.cell.Cell.{Cell}
-use Rattle.world_core.specs.declared.turns.Turn.{out-Turn}
 use Rattle.world_core.specs.declared.world.World.{World}
-use Rattle.world_core.specs.Turns.{turn_of}
 use Rattle.world_core.specs.Shows.{forest, ended_tree}
 use Rattle.world_core.specs.World.{Forest, StandsFor}
 use Rattle.world_core.specs.Between.{HasLeft, IsBetween, IsLeaving, TakesOut, with_tree}
@@ -38,9 +36,9 @@ known-by w new name vm cell taken h = if-some-is (get path_cmp w.cells name) cel
 pub into_outcome-outcome-requires : goal.into_outcome-outcome-requires
 into_outcome-outcome-requires c =
     let w = c.args.self.now in
-    let name = (turn_of c.args.turn.value).name in
+    let name = c.args.turn.name in
     let cell = c.in-Some.cell in
-    let named = c.into_name-name.ensures ∙ ap (λ t. (out-Turn t).name) c.into_inner.ensures in
+    let named = c.into_name-name.ensures in
     let taken = taken-by w.cells c.take_out.new.cells name c.into_name-name.result cell named c.in-Some.ensures.1 in
     let k = known-by w c.take_out.new.cells name (paged c.args.vm.value) cell taken c.requires.between in
     outcome-wanted k.0 name cell k.2 (paged c.args.vm.value) c.args.ending k.4 c.requires.ended
@@ -49,9 +47,9 @@ into_outcome-outcome-requires c =
 pub end_child-requires : goal.end_child-requires
 end_child-requires c =
     let w = c.args.self.now in
-    let name = (turn_of c.args.turn.value).name in
+    let name = c.args.turn.name in
     let cell = c.in-Some.cell in
-    let named = c.into_name-name.ensures ∙ ap (λ t. (out-Turn t).name) c.into_inner.ensures in
+    let named = c.into_name-name.ensures in
     let taken = taken-by w.cells c.take_out.new.cells name c.into_name-name.result cell named c.in-Some.ensures.1 in
     let k = known-by w c.take_out.new.cells name (paged c.args.vm.value) cell taken c.requires.between in
     let x : Branch = record { ticket = c.in-Some-pop.ticket; child = c.in-Some-pop.index } in
@@ -62,16 +60,16 @@ end_child-requires c =
 pub returns-clause-finished : goal.returns-clause-finished
 returns-clause-finished c depot f a between same sound =
     let w = c.args.self.now in
-    let name = (turn_of c.args.turn.value).name in
+    let name = c.args.turn.name in
     let cell = c.in-Some.cell in
     let b : Tree (Spot Paged) = placed home (ended_tree a) in
-    let named = c.into_name-name.ensures ∙ ap (λ t. (out-Turn t).name) c.into_inner.ensures in
+    let named = c.into_name-name.ensures in
     let taken = taken-by w.cells c.take_out.new.cells name c.into_name-name.result cell named c.in-Some.ensures.1 in
     let leaving = between-leaves depot w f name a between c.take_out.new.cells cell taken in
     let outcome = c.into_outcome-outcome.result in
     let left = left-by depot name cell a (paged c.args.vm.value) c.args.ending same c.requires.ended
     (taken-holds depot w f name a between c.take_out.new.cells cell taken) between.whole c.in-Some.key (c.in-Some.ensures.0 ∙ named)
-    (paged c.into_inner-2.result) (ap paged c.into_inner-2.ensures) outcome c.into_outcome-outcome.ensures.ending c.into_outcome-outcome.ensures.lines in (
+    (paged c.into_inner.result) (ap paged c.into_inner.ensures) outcome c.into_outcome-outcome.ensures.ending c.into_outcome-outcome.ensures.lines in (
       refl,
       elim c.match-pop.branch [
         | in-Some-pop v ↦

@@ -2,7 +2,6 @@ use Rattle.world_core.specs.Images.{IsImageAt}
 use Rattle.std.proofs.Common.{◌≡◌, None, is_some, sym, ap, ◌∙◌, subst}
 use Rattle.forest_tree.proofs.Rests.{lives-none}
 use Rattle.world_core.specs.Lent.{Lent, lent_as}
-use Rattle.world_core.specs.Turns.{turn_of}
 use Rattle.world_core.specs.Answers.{Answers, IsHandedOut, IsLentOf, home_by}
 use Rattle.world_core.proofs.Giving.{gave-answers}
 use Rattle.world_core.proofs.world.World.give.Goals as goal
@@ -10,11 +9,11 @@ use Rattle.world_core.proofs.world.World.give.Goals as goal
 pub returns-clause-answers : goal.returns-clause-answers
 returns-clause-answers c depot f stands out_as of_depot =
     let i = c.lease.inside in
-    let lease : Lent = lent_as (turn_of i.turn.value).name i.start.value.machine i.ran i.vm.value in
+    let lease : Lent = lent_as i.turn.name i.start.value.machine i.ran i.vm.value in
     let lives : c.args.lease.now.ending ≡ None = lives-none c.args.lease.now.ending (ap is_some (sym c.ended.ensures) ∙ sym c.if-is_some.ensures) in
     subst (λ e. Answers depot f (home_by e) c.args.lease c.home.result c.home.new.self) (sym lives)
     (subst (λ l. Answers depot f (home_by None) l c.home.result c.home.new.self) c.lease.view_is
-    (gave-answers depot c.args.self.now f lease c.lease.invariant.0 stands (subst (IsHandedOut f) (sym c.lease.view_is) out_as) c.home.result
+    (gave-answers depot c.args.self.now f lease c.lease.invariant.made stands (subst (IsHandedOut f) (sym c.lease.view_is) out_as) c.home.result
     c.home.new.self c.home.ensures.gone (ap (λ (l : Lent). l.now.ending) c.lease.view_is ∙ lives)
     (λ a between same lives sound. c.home.ensures.home depot f a between same (subst (IsLentOf depot) (sym c.lease.view_is) of_depot) lives sound)))
 

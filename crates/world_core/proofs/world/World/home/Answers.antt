@@ -8,9 +8,7 @@ use Rattle.forest_history.specs.Places.{home, placed}
 use Rattle.machine_names.specs.NameOrder.{path_cmp}
 use Rattle.world_core.specs.declared.cell.Cell.{Cell}
 use Rattle.world_core.specs.declared.cell.State.TheVariants.{Home}
-use Rattle.world_core.specs.declared.turns.Turn.{out-Turn}
-use Rattle.world_core.specs.Turns.{turn_of}
-use Rattle.world_core.specs.Waiting.{IsListed, IsCovered}
+use Rattle.world_core.specs.Listed.{IsListed, IsCovered}
 use Rattle.world_core.specs.World.{StandsFor}
 use Rattle.world_core.specs.Between.{with_tree}
 use Rattle.world_core.proofs.Ready.{IsListed-more, IsListed-first, IsCovered-more}
@@ -20,11 +18,11 @@ use Rattle.world_core.proofs.world.World.home.Goals.{then-not-cell, else-not-cel
 
 pub returns-clause-home : goal.returns-clause-home
 returns-clause-home c depot f a between same of_depot lives sound =
-    let name : Path = (turn_of c.args.turn.value).name in
-    let found = c.in-Some.ensures.value ∙ ap (λ t. get_by (path_cmp (out-Turn t).name) c.args.self.now.cells) c.deref.ensures in
+    let name : Path = c.args.turn.name in
+    let found = c.in-Some.ensures.value ∙ ap (λ n. get_by (path_cmp n) c.args.self.now.cells) c.name.ensures in
     let after : Bool → Cell = λ listed. record c.in-Some.cell.now { state = Home c.args.vm; is_listed = listed } in
-    let written = λ (cell : Cell). subst (λ t. WritesThrough path_cmp (path_cmp (out-Turn t).name) c.args.self.now.cells cell (c.get_mut.follows.lender cell))
-    c.deref.ensures (c.get_mut.follows.holds cell) in (
+    let written = λ (cell : Cell). subst (λ n. WritesThrough path_cmp (path_cmp n) c.args.self.now.cells cell (c.get_mut.follows.lender cell))
+    c.name.ensures (c.get_mut.follows.holds cell) in (
       refl,
       elim c.if-not-cell.branch [
         | then-not-cell w ↦
@@ -32,9 +30,9 @@ returns-clause-home c depot f a between same of_depot lives sound =
             (home-written depot c.args.self.now f name a c.args.vm (c.get_mut.follows.lender (after true)) w.push.new.self c.in-Some.cell.now true
             between same of_depot lives sound found (written (after true))
             (subst (IsListed name) (sym w.push.ensures)
-            (IsListed-first name (turn_of c.args.turn.value) c.args.self.now.ready (ap (λ o. record { name = name; children = o }) c.requires.one)))
-            (λ n is. subst (IsListed n) (sym w.push.ensures) (IsListed-more n (turn_of c.args.turn.value) c.args.self.now.ready is))
-            (λ n is. subst (IsCovered n) (sym w.push.ensures) (IsCovered-more n (turn_of c.args.turn.value) c.args.self.now.ready is)))
+            (IsListed-first name c.args.turn c.args.self.now.ready (ap (λ o. record { name = name; children = o }) c.requires)))
+            (λ n is. subst (IsListed n) (sym w.push.ensures) (IsListed-more n c.args.turn c.args.self.now.ready is))
+            (λ n is. subst (IsCovered n) (sym w.push.ensures) (IsCovered-more n c.args.turn c.args.self.now.ready is)))
         | else-not-cell w ↦
             let was : Bool = c.in-Some.cell.now.is_listed in
             subst (λ v. StandsFor depot v (with_tree name (placed home a) f)) (sym w.self-is)
@@ -50,11 +48,11 @@ returns-in_default-clause-images c images h at = subst (HaveImages images) (sym 
 
 pub returns-clause-images : goal.returns-clause-images
 returns-clause-images c images h at =
-    let name : Path = (turn_of c.args.turn.value).name in
-    let found = c.in-Some.ensures.value ∙ ap (λ t. get_by (path_cmp (out-Turn t).name) c.args.self.now.cells) c.deref.ensures in
+    let name : Path = c.args.turn.name in
+    let found = c.in-Some.ensures.value ∙ ap (λ n. get_by (path_cmp n) c.args.self.now.cells) c.name.ensures in
     let after : Bool → Cell = λ listed. record c.in-Some.cell.now { state = Home c.args.vm; is_listed = listed } in
-    let through = λ (cell : Cell). subst (λ t. WritesThrough path_cmp (path_cmp (out-Turn t).name) c.args.self.now.cells cell (c.get_mut.follows.lender cell))
-    c.deref.ensures (c.get_mut.follows.holds cell) in
+    let through = λ (cell : Cell). subst (λ n. WritesThrough path_cmp (path_cmp n) c.args.self.now.cells cell (c.get_mut.follows.lender cell))
+    c.name.ensures (c.get_mut.follows.holds cell) in
     let kept = λ (listed : Bool). written images c.args.self.now.cells (c.get_mut.follows.lender (after listed)) name c.in-Some.cell.now (after listed) found
     (through (after listed)) (λ was. record { state = at; broods = was.broods }) h in
     elim c.if-not-cell.branch [

@@ -11,7 +11,6 @@ use Rattle.machine_names.specs.NameOrder.{path_cmp}
 use Rattle.world_core.specs.declared.cell.Cell.{Cell}
 use Rattle.world_core.specs.declared.cell.State.TheVariants.{Parked}
 use Rattle.world_core.specs.Lent.{Lent, IsLent, lent_as, now_of}
-use Rattle.world_core.specs.Turns.{turn_of}
 use Rattle.world_core.specs.Shows.{forest, Holds, HoldsAfter, joined_tree}
 use Rattle.world_core.specs.Answers.{Answers, IsLentOf}
 use Rattle.world_core.proofs.Reordered.{goes-reordered}
@@ -32,19 +31,19 @@ returns-then-waits-clause-answers c depot f stands out_as of_depot =
       goes-reordered depot (record c.args.self.now { cells = c.get_mut.follows.lender parked }) c.raise_asleep.new.ready f c.raise_asleep.ensures
           (spent waited c.args.lease.name c.args.lease.ran)
           (join-parked depot c.args.self.now f c.args.lease c.in-Some-Join.ticket c.in-Some.cell.now stands out_as
-          (subst (λ (l : Lent). IsLent l.start l.ran l.now) c.lease.view_is c.lease.invariant.0) (ap Some (sym c.in-Some-Join.field-0-is) ∙ c.in-Some-Join.ensures)
+          (subst (λ (l : Lent). IsLent l.start l.ran l.now) c.lease.view_is c.lease.invariant.made) (ap Some (sym c.in-Some-Join.field-0-is) ∙ c.in-Some-Join.ensures)
           (c.in-Some.ensures.value ∙ ap (λ n. get_by (path_cmp n) c.args.self.now.cells) c.name.ensures)
           (c.get_mut.follows.lender parked) c.lease.inside.vm c.lease.inside.turn (λ depot path t holds. sym c.if-waits.true ∙ c.waits.ensures depot path t holds)
           (subst (λ n. WritesThrough path_cmp (path_cmp n) c.args.self.now.cells parked (c.get_mut.follows.lender parked)) c.name.ensures
           (c.get_mut.follows.holds parked))
-          (ap now_of c.lease.view_is) (subst (IsLentOf depot) (sym c.lease.view_is) of_depot) c.lease.invariant.1 c.lease.invariant.2 (ap (λ (l : Lent). l.name) c.lease.view_is)),
+          (ap now_of c.lease.view_is) (subst (IsLentOf depot) (sym c.lease.view_is) of_depot) c.lease.invariant.own (ap (λ (l : Lent). l.name) c.lease.view_is)),
     )
 
 pub join-requires-clause-ended : goal.join-requires-clause-ended
 join-requires-clause-ended c =
     let lent = c.requires.lent in
     join-asked lent.0 c.args.self.now lent.1.0 c.args.lease c.in-Some-Join.ticket c.in-Some.cell.now lent.1.1 lent.1.2
-    (subst (λ (l : Lent). IsLent l.start l.ran l.now) c.lease.view_is c.lease.invariant.0) (ap Some (sym c.in-Some-Join.field-0-is) ∙ c.in-Some-Join.ensures)
+    (subst (λ (l : Lent). IsLent l.start l.ran l.now) c.lease.view_is c.lease.invariant.made) (ap Some (sym c.in-Some-Join.field-0-is) ∙ c.in-Some-Join.ensures)
     (c.in-Some.ensures.value ∙ ap (λ n. get_by (path_cmp n) c.args.self.now.cells) c.name.ensures)
     (λ depot path t holds. sym c.if-waits.false ∙ c.waits.ensures depot path t holds) (paged c.deref_mut.result.now) (ap paged c.deref_mut.ensures.value ∙ ap now_of c.lease.view_is)
 
@@ -52,11 +51,11 @@ pub returns-then-is_err-clause-answers : goal.returns-then-is_err-clause-answers
 returns-then-is_err-clause-answers c depot f stands out_as of_depot =
     let failed = sym c.is_err.ensures.value ∙ c.if-is_err.true in
     let inside = c.lease.inside in
-    let lease_of : KeyedMachine → Lent = λ v. lent_as (turn_of inside.turn.value).name inside.start.value.machine inside.ran v in (
+    let lease_of : KeyedMachine → Lent = λ v. lent_as inside.turn.name inside.start.value.machine inside.ran v in (
       tt,
       ap lease_of (at-err (c.join.new.vm ≡ c.deref_mut.result.now) c.join.result failed c.join.ensures.err ∙ c.deref_mut.ensures.value) ∙ c.lease.view_is,
       join-kept depot c.args.self.now f c.args.lease c.in-Some-Join.ticket c.in-Some.cell.now stands out_as
-          (subst (λ (l : Lent). IsLent l.start l.ran l.now) c.lease.view_is c.lease.invariant.0) (ap Some (sym c.in-Some-Join.field-0-is) ∙ c.in-Some-Join.ensures)
+          (subst (λ (l : Lent). IsLent l.start l.ran l.now) c.lease.view_is c.lease.invariant.made) (ap Some (sym c.in-Some-Join.field-0-is) ∙ c.in-Some-Join.ensures)
           (c.in-Some.ensures.value ∙ ap (λ n. get_by (path_cmp n) c.args.self.now.cells) c.name.ensures)
           (λ depot path t holds. sym c.if-waits.false ∙ c.waits.ensures depot path t holds) (c.get_mut.follows.lender c.join.new.self) c.join.new.self
           (subst (λ n. WritesThrough path_cmp (path_cmp n) c.args.self.now.cells c.join.new.self (c.get_mut.follows.lender c.join.new.self)) c.name.ensures
@@ -69,7 +68,7 @@ pub place-requires-clause-between : goal.place-requires-clause-between
 place-requires-clause-between c =
     let lent = c.requires.lent in
     let k = join-called lent.0 c.args.self.now lent.1.0 c.args.lease c.in-Some-Join.ticket c.in-Some.cell.now lent.1.1 lent.1.2
-    (subst (λ (l : Lent). IsLent l.start l.ran l.now) c.lease.view_is c.lease.invariant.0) (ap Some (sym c.in-Some-Join.field-0-is) ∙ c.in-Some-Join.ensures)
+    (subst (λ (l : Lent). IsLent l.start l.ran l.now) c.lease.view_is c.lease.invariant.made) (ap Some (sym c.in-Some-Join.field-0-is) ∙ c.in-Some-Join.ensures)
     (c.in-Some.ensures.value ∙ ap (λ n. get_by (path_cmp n) c.args.self.now.cells) c.name.ensures)
     (λ depot path t holds. sym c.if-waits.false ∙ c.waits.ensures depot path t holds) (c.get_mut.follows.lender c.join.new.self) c.join.new.self _ (paged c.deref_mut.result.now) (paged c.join.new.vm)
     (ap (λ (l : Lent). l.name) c.lease.view_is) (ap paged c.deref_mut.ensures.value ∙ ap now_of c.lease.view_is)
@@ -92,7 +91,7 @@ place-requires-clause-between c =
 pub returns-clause-answers : goal.returns-clause-answers
 returns-clause-answers c depot f stands out_as of_depot =
     let k = join-called depot c.args.self.now f c.args.lease c.in-Some-Join.ticket c.in-Some.cell.now stands out_as
-    (subst (λ (l : Lent). IsLent l.start l.ran l.now) c.lease.view_is c.lease.invariant.0) (ap Some (sym c.in-Some-Join.field-0-is) ∙ c.in-Some-Join.ensures)
+    (subst (λ (l : Lent). IsLent l.start l.ran l.now) c.lease.view_is c.lease.invariant.made) (ap Some (sym c.in-Some-Join.field-0-is) ∙ c.in-Some-Join.ensures)
     (c.in-Some.ensures.value ∙ ap (λ n. get_by (path_cmp n) c.args.self.now.cells) c.name.ensures)
     (λ depot path t holds. sym c.if-waits.false ∙ c.waits.ensures depot path t holds) (c.get_mut.follows.lender c.join.new.self) c.join.new.self _ (paged c.deref_mut.result.now) (paged c.join.new.vm)
     (ap (λ (l : Lent). l.name) c.lease.view_is) (ap paged c.deref_mut.ensures.value ∙ ap now_of c.lease.view_is)
@@ -138,5 +137,5 @@ returns-clause-images c images h lent =
     (c.in-Some.ensures.value ∙ ap (λ n. get_by (path_cmp n) c.args.self.now.cells) c.name.ensures)
     (subst (λ n. WritesThrough path_cmp (path_cmp n) c.args.self.now.cells c.join.new.self (c.get_mut.follows.lender c.join.new.self)) c.name.ensures (c.get_mut.follows.holds c.join.new.self))
     (c.join.ensures.images images c.args.lease.name) h)
-    (lent-key images c.args.lease (turn_of c.lease.inside.turn.value).name c.join.new.vm (ap (λ (l : Lent). l.name) c.lease.view_is)
+    (lent-key images c.args.lease c.lease.inside.turn.name c.join.new.vm (ap (λ (l : Lent). l.name) c.lease.view_is)
     (c.join.ensures.key ∙ ap (λ (v : KeyedMachine). v.key) c.deref_mut.ensures.value ∙ ap (λ (l : Lent). l.key) c.lease.view_is) lent)

@@ -11,7 +11,6 @@ use Rattle.forest_model.specs.Paged.{Paged}
 use Rattle.vm_cell.specs.Keyed.{KeyedMachine, paged}
 use Rattle.machine_names.specs.NameOrder.{path_cmp}
 use Rattle.world_core.specs.Lent.{Lent, IsLent, now_of}
-use Rattle.world_core.specs.Turns.{turn_of}
 use Rattle.world_core.specs.Shows.{StandsAt}
 use Rattle.world_core.specs.Answers.{Answers}
 use Rattle.world_core.proofs.Calling.{found-here, gone-here, lent_out, same-image}
@@ -28,7 +27,7 @@ pub kill-requires-clause-holds : goal.kill-requires-clause-holds
 kill-requires-clause-holds c =
     let lent = c.requires.lent in
     let h = found-here lent.0 c.args.self.now lent.1.0 c.args.lease (Kill c.in-Some-Kill.ticket) c.in-Some.cell.now lent.1.1 lent.1.2
-    (subst (λ (l : Lent). IsLent l.start l.ran l.now) c.lease.view_is c.lease.invariant.0) (ap Some (sym c.in-Some-Kill.field-0-is) ∙ c.in-Some-Kill.ensures)
+    (subst (λ (l : Lent). IsLent l.start l.ran l.now) c.lease.view_is c.lease.invariant.made) (ap Some (sym c.in-Some-Kill.field-0-is) ∙ c.in-Some-Kill.ensures)
     (c.in-Some.ensures.value ∙ ap (λ n. get_by (path_cmp n) c.args.self.now.cells) c.name.ensures) in
     let t : Tree (Spot Paged) = node (lent_out (now_of c.args.lease)) h.broods h.log in (
       lent.0,
@@ -43,9 +42,9 @@ place-requires-clause-between c =
     let lent = c.requires.lent in
     let k = kill-called lent.0 c.args.self.now lent.1.0 c.args.lease c.in-Some-Kill.ticket c.in-Some.cell.now c.kill.new.self (c.get_mut.follows.lender c.kill.new.self)
     c.drop_below.new.cells _ _ (paged c.deref_mut.result.now) (paged c.kill.new.vm) lent.1.1 lent.1.2
-    (subst (λ (l : Lent). IsLent l.start l.ran l.now) c.lease.view_is c.lease.invariant.0) (ap Some (sym c.in-Some-Kill.field-0-is) ∙ c.in-Some-Kill.ensures)
+    (subst (λ (l : Lent). IsLent l.start l.ran l.now) c.lease.view_is c.lease.invariant.made) (ap Some (sym c.in-Some-Kill.field-0-is) ∙ c.in-Some-Kill.ensures)
     (c.in-Some.ensures.value ∙ ap (λ n. get_by (path_cmp n) c.args.self.now.cells) c.name.ensures) (ap (λ (l : Lent). l.name) c.lease.view_is)
-    (ap (λ t. (turn_of t).name) c.deref.ensures ∙ ap (λ (l : Lent). l.name) c.lease.view_is)
+    (c.name-2.ensures ∙ ap (λ (l : Lent). l.name) c.lease.view_is)
     (ap paged c.deref_mut.ensures.value ∙ ap now_of c.lease.view_is)
     (subst (λ n. WritesThrough path_cmp (path_cmp n) c.args.self.now.cells c.kill.new.self (c.get_mut.follows.lender c.kill.new.self)) c.name.ensures
     (c.get_mut.follows.holds c.kill.new.self))
@@ -63,9 +62,9 @@ pub returns-clause-answers : goal.returns-clause-answers
 returns-clause-answers c depot f stands out_as of_depot =
     let k = kill-called depot c.args.self.now f c.args.lease c.in-Some-Kill.ticket c.in-Some.cell.now c.kill.new.self (c.get_mut.follows.lender c.kill.new.self)
     c.drop_below.new.cells _ _ (paged c.deref_mut.result.now) (paged c.kill.new.vm) stands out_as
-    (subst (λ (l : Lent). IsLent l.start l.ran l.now) c.lease.view_is c.lease.invariant.0) (ap Some (sym c.in-Some-Kill.field-0-is) ∙ c.in-Some-Kill.ensures)
+    (subst (λ (l : Lent). IsLent l.start l.ran l.now) c.lease.view_is c.lease.invariant.made) (ap Some (sym c.in-Some-Kill.field-0-is) ∙ c.in-Some-Kill.ensures)
     (c.in-Some.ensures.value ∙ ap (λ n. get_by (path_cmp n) c.args.self.now.cells) c.name.ensures) (ap (λ (l : Lent). l.name) c.lease.view_is)
-    (ap (λ t. (turn_of t).name) c.deref.ensures ∙ ap (λ (l : Lent). l.name) c.lease.view_is)
+    (c.name-2.ensures ∙ ap (λ (l : Lent). l.name) c.lease.view_is)
     (ap paged c.deref_mut.ensures.value ∙ ap now_of c.lease.view_is)
     (subst (λ n. WritesThrough path_cmp (path_cmp n) c.args.self.now.cells c.kill.new.self (c.get_mut.follows.lender c.kill.new.self)) c.name.ensures
     (c.get_mut.follows.holds c.kill.new.self))
@@ -87,5 +86,5 @@ returns-clause-images c images h lent =
     (c.in-Some.ensures.value ∙ ap (λ n. get_by (path_cmp n) c.args.self.now.cells) c.name.ensures)
     (subst (λ n. WritesThrough path_cmp (path_cmp n) c.args.self.now.cells c.kill.new.self (c.get_mut.follows.lender c.kill.new.self)) c.name.ensures (c.get_mut.follows.holds c.kill.new.self))
     (c.kill.ensures.images images c.args.lease.name) h))
-    (lent-key images c.args.lease (turn_of c.lease.inside.turn.value).name c.kill.new.vm (ap (λ (l : Lent). l.name) c.lease.view_is)
+    (lent-key images c.args.lease c.lease.inside.turn.name c.kill.new.vm (ap (λ (l : Lent). l.name) c.lease.view_is)
     (ap (λ (v : KeyedMachine). v.key) c.kill.ensures.vm ∙ ap (λ (v : KeyedMachine). v.key) c.deref_mut.ensures.value ∙ ap (λ (l : Lent). l.key) c.lease.view_is) lent)

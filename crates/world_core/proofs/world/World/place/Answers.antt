@@ -4,7 +4,6 @@ use Rattle.forest_tree.specs.Tree.{Path}
 use Rattle.forest_history.specs.Places.{home, placed}
 use Rattle.vm_cell.specs.Keyed.{paged}
 use Rattle.world_core.specs.declared.world.Placed.TheVariants.{Done}
-use Rattle.world_core.specs.Turns.{turn_of}
 use Rattle.world_core.specs.Shows.{forest}
 use Rattle.world_core.specs.World.{StandsFor}
 use Rattle.world_core.specs.Between.{with_tree}
@@ -13,14 +12,14 @@ use Rattle.world_core.proofs.world.World.place.Goals as goal
 
 pub returns-in-Some-clause-placed : goal.returns-in-Some-clause-placed
 returns-in-Some-clause-placed c depot f a between same of_depot sound =
-    let name : Path = (turn_of c.args.turn.value).name in
+    let name : Path = c.args.turn.name in
     let is = settled-ended a (paged c.args.vm.value) c.in-Some.ending same (c.in-Some.ensures.ending ∙ ap (λ v. v.machine.ending) c.deref.ensures) in
     subst (λ t. (c.finish.result ≡ Done) × StandsFor depot c.finish.new.self (with_tree name (placed home t) f)) is
     (c.finish.ensures.finished depot f a between same (subst (λ t. IsSound forest (with_tree name (placed home t) f).tree) (sym is) sound))
 
 pub returns-in-None-clause-placed : goal.returns-in-None-clause-placed
 returns-in-None-clause-placed c depot f a between same of_depot sound =
-    let name : Path = (turn_of c.args.turn.value).name in
+    let name : Path = c.args.turn.name in
     let none = c.in-None.ensures.ending ∙ ap (λ v. v.machine.ending) c.deref.ensures in
     let is = settled-lives a (paged c.args.vm.value) same none in
     subst (λ t. (c.home.result ≡ Done) × StandsFor depot c.home.new.self (with_tree name (placed home t) f)) is

@@ -1,7 +1,6 @@
-use Rattle.std.proofs.Common.{◌≡◌, ◌<◌, length, refl, sym, ap, subst, arith}
+use Rattle.std.proofs.Common.{◌≡◌, ◌<◌, suc, length, refl, sym, ap, subst, arith}
 use Rattle.forest_tree.proofs.Rests.{lives-none}
 use Rattle.std.specs.Option.{IfNone}
-use Rattle.world_core.specs.Turns.{turn_of}
 use Rattle.world_core.proofs.TurnByTurn.{over-goes, stopped-goes, idle-goes, with-popped, goes-on}
 use Rattle.world_core.proofs.world.World.take.Goals as goal
 
@@ -25,7 +24,7 @@ pub take_by-requires-clause-world : goal.take_by-requires-clause-world
 take_by-requires-clause-world c =
     let r = c.requires in (
       r.0,
-      with-popped c.args.depot.now c.loop-turn.self (turn_of c.in-Some-pop.turn.value) c.pop.new.self r.0 c.in-Some-pop.ensures.next
+      with-popped c.args.depot.now c.loop-turn.self c.in-Some-pop.turn c.pop.new.self r.0 c.in-Some-pop.ensures
           (c.loop-turn.invariant.stands r.0 r.1),
     )
 
@@ -35,7 +34,7 @@ take_by-requires-clause-going c = (c.loop-turn.invariant.going, c.loop-turn.inva
 pub returns-in-Some-take_by-clause-takes : goal.returns-in-Some-take_by-clause-takes
 returns-in-Some-take_by-clause-takes c = λ f h.
     c.in-Some-take_by.ensures.takes f
-    (with-popped c.args.depot.now c.loop-turn.self (turn_of c.in-Some-pop.turn.value) c.pop.new.self f c.in-Some-pop.ensures.next
+    (with-popped c.args.depot.now c.loop-turn.self c.in-Some-pop.turn c.pop.new.self f c.in-Some-pop.ensures
     (c.loop-turn.invariant.stands f h))
 
 pub loop-turn-smaller : goal.loop-turn-smaller
@@ -43,19 +42,19 @@ loop-turn-smaller c =
     let same : c.take_by.new.self.ready ≡ c.pop.new.self
     = subst (λ r. IfNone r (c.take_by.new.self.ready ≡ c.pop.new.self)) c.in_default-take_by.is c.take_by.ensures.turns in
     let left : length c.take_by.new.self.ready ≡ length c.pop.new.self = ap length same in
-    let was = c.in-Some-pop.ensures.fewer in
+    let was : length c.loop-turn.self.ready ≡ suc (length c.pop.new.self) = ap length c.in-Some-pop.ensures in
     let less : length c.take_by.new.self.ready < length c.loop-turn.self.ready = omega arith in
     less
 
 pub loop-turn-preserved : goal.loop-turn-preserved
 loop-turn-preserved c =
-    goes-on c.args.depot.now c.args.self.now c.loop-turn.self c.take_by.new.self (turn_of c.in-Some-pop.turn.value) c.pop.new.self c.loop-turn.invariant
-    c.in-Some-pop.ensures.next c.in_default-take_by.ensures.takes c.take_by.ensures.going.0 c.take_by.ensures.going.1 c.take_by.ensures.told
+    goes-on c.args.depot.now c.args.self.now c.loop-turn.self c.take_by.new.self c.in-Some-pop.turn c.pop.new.self c.loop-turn.invariant
+    c.in-Some-pop.ensures c.in_default-take_by.ensures.takes c.take_by.ensures.going.0 c.take_by.ensures.going.1 c.take_by.ensures.told
     (λ images h. (c.in_default-take_by.ensures.images images h).0)
 
 pub returns-clause-takes : goal.returns-clause-takes
 returns-clause-takes c = λ f h.
-    let left = c.in_default-pop.ensures.next in
+    let left = c.in_default-pop.ensures in
     idle-goes c.args.depot.now c.loop-turn.self c.pop.new.self f (c.loop-turn.invariant.stands f h) c.loop-turn.invariant.going c.loop-turn.invariant.unhalted
     left.0 left.1
 

@@ -1,15 +1,13 @@
 use Rattle.world_core.proofs.Leaving.{if-some-is}
-use Rattle.world_core.specs.Images.{AreOfImages, AreTakenAt, HaveImages, IsLentAt, HasImages}
+use Rattle.world_core.specs.Images.{AreTakenAt, HaveImages, IsLentAt, HasImages}
 use Rattle.world_core.proofs.Images.{written}
 use Rattle.std.proofs.Common.{sym, ap, ◌∙◌, subst}
 use Rattle.std.specs.BTreeMap.{WritesThrough, get, get_by}
 use Rattle.machine_names.specs.NameOrder.{path_cmp}
 use Rattle.forest_tree.specs.Tree.{Path}
 use Rattle.forest_history.specs.Rows.{took}
-use Rattle.world_core.specs.declared.turns.Turn.{out-Turn}
 use Rattle.world_core.specs.declared.world.World.{World}
 use Rattle.world_core.specs.Lent.{Lent}
-use Rattle.world_core.specs.Turns.{turn_of}
 use Rattle.world_core.specs.Answers.{Goes, IsLentOf, Starts}
 use Rattle.world_core.specs.Popped.{TakesBy}
 use Rattle.world_core.proofs.TurnOfOne.{awake-gone, awake-idle, awake-taken}
@@ -20,31 +18,31 @@ returns-in_err-cell-clause-takes c = λ depot f h.
     let cells = c.get_mut.follows.lender-at-none in
     let after : World = record c.args.self.now { cells = cells } in
     subst (λ r. TakesBy depot f r after) (sym c.from_residual.ensures)
-    (awake-gone depot (turn_of c.args.turn.value) c.args.self.now f c.requires.one h c.requires.going.0 cells
-    (c.in_err-cell.ensures.value ∙ ap (λ t. get_by (path_cmp (out-Turn t).name) c.args.self.now.cells) c.deref.ensures)
+    (awake-gone depot c.args.turn c.args.self.now f c.requires.one h c.requires.going.0 cells
+    (c.in_err-cell.ensures.value ∙ ap (λ n. get_by (path_cmp n) c.args.self.now.cells) c.name.ensures)
     (λ n. ap (λ cells. get path_cmp cells n) c.get_mut.follows.holds-at-none))
 
 pub returns-in_err-vm-clause-takes : goal.returns-in_err-vm-clause-takes
 returns-in_err-vm-clause-takes c = λ depot f h.
-    let name : Path = (turn_of c.args.turn.value).name in
+    let name : Path = c.args.turn.name in
     let cells = c.get_mut.follows.lender c.lend.new.self in
     let after : World = record c.args.self.now { cells = cells } in
     subst (λ r. TakesBy depot f r after) (sym c.from_residual-in_err-vm.ensures)
-    (awake-idle depot (turn_of c.args.turn.value) c.args.self.now f c.requires.one h c.requires.going.0 c.in_ok-cell.cell.now
-    (c.in_ok-cell.ensures.value ∙ ap (λ t. get_by (path_cmp (out-Turn t).name) c.args.self.now.cells) c.deref.ensures) cells c.lend.new.self
-    (subst (λ t. WritesThrough path_cmp (path_cmp (out-Turn t).name) c.args.self.now.cells c.lend.new.self cells) c.deref.ensures
+    (awake-idle depot c.args.turn c.args.self.now f c.requires.one h c.requires.going.0 c.in_ok-cell.cell.now
+    (c.in_ok-cell.ensures.value ∙ ap (λ n. get_by (path_cmp n) c.args.self.now.cells) c.name.ensures) cells c.lend.new.self
+    (subst (λ n. WritesThrough path_cmp (path_cmp n) c.args.self.now.cells c.lend.new.self cells) c.name.ensures
     (c.get_mut.follows.holds c.lend.new.self))
     (c.in_err-vm.ensures.shows depot name))
 
 pub returns-clause-takes : goal.returns-clause-takes
 returns-clause-takes c = λ depot f h.
-    let name : Path = (turn_of c.args.turn.value).name in
+    let name : Path = c.args.turn.name in
     let cells = c.get_mut.follows.lender c.lend.new.self in
     let after : World = record c.args.self.now { cells = cells } in
     subst (λ (lease : Lent). Goes depot f (took lease.name) after × Starts f lease × IsLentOf depot lease) (sym c.new.ensures)
-    (awake-taken depot (turn_of c.args.turn.value) c.args.self.now f c.requires.one h c.requires.going.0 c.in_ok-cell.cell.now
-    (c.in_ok-cell.ensures.value ∙ ap (λ t. get_by (path_cmp (out-Turn t).name) c.args.self.now.cells) c.deref.ensures) cells c.lend.new.self
-    (subst (λ t. WritesThrough path_cmp (path_cmp (out-Turn t).name) c.args.self.now.cells c.lend.new.self cells) c.deref.ensures
+    (awake-taken depot c.args.turn c.args.self.now f c.requires.one h c.requires.going.0 c.in_ok-cell.cell.now
+    (c.in_ok-cell.ensures.value ∙ ap (λ n. get_by (path_cmp n) c.args.self.now.cells) c.name.ensures) cells c.lend.new.self
+    (subst (λ n. WritesThrough path_cmp (path_cmp n) c.args.self.now.cells c.lend.new.self cells) c.name.ensures
     (c.get_mut.follows.holds c.lend.new.self))
     c.in_ok-vm.vm.value c.requires.going.1 c.in_ok-vm.ensures.place (c.in_ok-vm.ensures.shows depot name))
 
@@ -56,11 +54,11 @@ returns-in_err-cell-clause-images c = λ images h. (
 
 pub returns-in_err-vm-clause-images : goal.returns-in_err-vm-clause-images
 returns-in_err-vm-clause-images c = λ images h.
-    let name : Path = (turn_of c.args.turn.value).name in
+    let name : Path = c.args.turn.name in
     let cells = c.get_mut.follows.lender c.lend.new.self in (
       written images c.args.self.now.cells cells name c.in_ok-cell.cell.now c.lend.new.self
-          (c.in_ok-cell.ensures.value ∙ ap (λ t. get_by (path_cmp (out-Turn t).name) c.args.self.now.cells) c.deref.ensures)
-          (subst (λ t. WritesThrough path_cmp (path_cmp (out-Turn t).name) c.args.self.now.cells c.lend.new.self cells) c.deref.ensures
+          (c.in_ok-cell.ensures.value ∙ ap (λ n. get_by (path_cmp n) c.args.self.now.cells) c.name.ensures)
+          (subst (λ n. WritesThrough path_cmp (path_cmp n) c.args.self.now.cells c.lend.new.self cells) c.name.ensures
           (c.get_mut.follows.holds c.lend.new.self))
           (λ was. (c.in_err-vm.ensures.images images name (record { state = was.state; broods = was.broods })).0) h,
       subst (AreTakenAt images) (sym c.from_residual-in_err-vm.ensures) tt,
@@ -68,13 +66,13 @@ returns-in_err-vm-clause-images c = λ images h.
 
 pub returns-clause-images : goal.returns-clause-images
 returns-clause-images c = λ images h.
-    let name : Path = (turn_of c.args.turn.value).name in
+    let name : Path = c.args.turn.name in
     let cells = c.get_mut.follows.lender c.lend.new.self in
-    let found = c.in_ok-cell.ensures.value ∙ ap (λ t. get_by (path_cmp (out-Turn t).name) c.args.self.now.cells) c.deref.ensures in
+    let found = c.in_ok-cell.ensures.value ∙ ap (λ n. get_by (path_cmp n) c.args.self.now.cells) c.name.ensures in
     let was = if-some-is (get path_cmp c.args.self.now.cells name) c.in_ok-cell.cell.now (HasImages images name) found (h name) in
     let lent = c.in_ok-vm.ensures.images images name (record { state = was.state; broods = was.broods }) in (
       written images c.args.self.now.cells cells name c.in_ok-cell.cell.now c.lend.new.self found
-          (subst (λ t. WritesThrough path_cmp (path_cmp (out-Turn t).name) c.args.self.now.cells c.lend.new.self cells) c.deref.ensures
+          (subst (λ n. WritesThrough path_cmp (path_cmp n) c.args.self.now.cells c.lend.new.self cells) c.name.ensures
           (c.get_mut.follows.holds c.lend.new.self))
           (λ same. lent.0) h,
       subst (IsLentAt images) (sym c.new.ensures) lent.1,

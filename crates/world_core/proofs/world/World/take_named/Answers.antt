@@ -1,6 +1,6 @@
 use Rattle.std.specs.Option.{IfSome}
 use Rattle.world_core.proofs.Leaving.{if-some-is}
-use Rattle.world_core.specs.Images.{AreOfImages, HasImages, HaveImages, IsLentAt, Images}
+use Rattle.world_core.specs.Images.{HasImages, HaveImages, IsLentAt, Images}
 use Rattle.world_core.proofs.Images.{alike, written, no-lent}
 use Rattle.std.proofs.Common.{◌≡◌, ℕ, true, None, refl, sym, ap, ◌∙◌, subst, Option}
 use Rattle.std.specs.BTreeMap.{get}
@@ -9,10 +9,9 @@ use Rattle.forest_tree.proofs.Rests.{lives-none}
 use Rattle.machine_names.specs.Name.{child_path}
 use Rattle.machine_names.specs.NameOrder.{path_cmp}
 use Rattle.world_core.specs.declared.world.World.{World}
-use Rattle.world_core.specs.Waiting.{Waiting}
+use Rattle.ready_queue.specs.Ready.{Ready}
 use Rattle.world_core.specs.Popped.{ShowsCells, sleeps}
 use Rattle.world_core.specs.Lent.{lent_as, Lent}
-use Rattle.world_core.specs.Turns.{turn_of}
 use Rattle.world_core.specs.World.{StandsFor}
 use Rattle.world_core.proofs.ByName.{over-nobody, stands-same, rewritten, named-error, named-idle, named-taken, root-cell, before-named, no_cell-home, named-woken}
 use Rattle.world_core.proofs.world.World.take_named.Goals as goal
@@ -47,8 +46,8 @@ pub returns-in-Some-clause-takes : goal.returns-in-Some-clause-takes
 returns-in-Some-clause-takes c = λ f h.
     let lent = c.lend_named.new.self in
     let v = c.in-Some-lend_named.vm.value in
-    let name : (turn_of c.in_ok-turn.turn.value).name ≡ c.args.name.now
-    = ap (λ (w : Waiting). w.name) c.in_ok-turn.ensures.value ∙ c.in_ok-copy.ensures in
+    let name : c.in_ok-turn.turn.name ≡ c.args.name.now
+    = ap (λ (w : Ready). w.name) c.in_ok-turn.ensures ∙ c.in_ok-copy.ensures in
     let is : c.new.result ≡ lent_as c.args.name.now v.machine 0 v = c.new.ensures ∙ ap (λ n. lent_as n v.machine 0 v) name in
     named-taken c.args.depot.now c.args.self.now f c.args.name.now h (lives-none c.args.self.now.outcome (sym c.if-is_some.ensures)) c.in-Some.cell.now
     c.in-Some.ensures.value (c.get_mut.follows.lender lent) lent (c.get_mut.follows.holds lent) c.new.result v is c.in-Some-lend_named.ensures.place
@@ -133,8 +132,8 @@ pub returns-in-Some-clause-images : goal.returns-in-Some-clause-images
 returns-in-Some-clause-images c = λ images h.
     let lent = c.lend_named.new.self in
     let v = c.in-Some-lend_named.vm.value in
-    let name : (turn_of c.in_ok-turn.turn.value).name ≡ c.args.name.now
-    = ap (λ (w : Waiting). w.name) c.in_ok-turn.ensures.value ∙ c.in_ok-copy.ensures in
+    let name : c.in_ok-turn.turn.name ≡ c.args.name.now
+    = ap (λ (w : Ready). w.name) c.in_ok-turn.ensures ∙ c.in_ok-copy.ensures in
     let is : c.new.result ≡ lent_as c.args.name.now v.machine 0 v = c.new.ensures ∙ ap (λ n. lent_as n v.machine 0 v) name in
     let was = if-some-is (get path_cmp c.args.self.now.cells c.args.name.now) c.in-Some.cell.now (HasImages images c.args.name.now) c.in-Some.ensures.value
     (h c.args.name.now) in

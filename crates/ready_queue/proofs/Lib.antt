@@ -1,0 +1,3 @@
+pub mod NodeLists
+mod Orders
+pub mod Crosses

@@ -1,0 +1,7 @@
+use Rattle.std.proofs.Common.{ap}
+use Rattle.vm_descriptor.specs.declared.descriptor.Descriptor.{Descriptor}
+use Rattle.vm_cell.specs.Woken.{woken}
+use Rattle.vm_cell.proofs.laws.spellings_wake_alike.Goals as goal
+
+pub returns : goal.returns
+returns c = λ d key bytes fits is. ap (λ (e : Descriptor). woken e key) (c.descriptors_are_read_back.ensures.read d bytes fits is)

@@ -1,0 +1,5 @@
+use Rattle.world_core.proofs.TurnOrder.{keeps-raised}
+use Rattle.world_core.proofs.world.calls.raise_asleep.Goals as goal
+
+pub returns-then-is_some : goal.returns-then-is_some
+returns-then-is_some c = keeps-raised c.args.name.now c.args.ticket c.args.ready.now c.raise.new.self c.raise.ensures
