@@ -2,7 +2,7 @@
 
 mod guests;
 
-use crate::equal::{are_equal, made};
+use crate::equal::{are_equal, succeeds};
 use elf_load::{ImageError, load_elf};
 use guests::{
     ECHO_BYTE, ECHO_BYTE_WORDS, EXIT_SEVEN, EXIT_SEVEN_WORDS, GRANDCHILD, GRANDCHILD_WORDS,
@@ -28,7 +28,7 @@ const HEADERS: [u8; 68] = *b"\x7fELF\x01\x01\x01\0\0\0\0\0\0\0\0\0\
 
 /// A line of a guest, with its operands in the order of the assembly language.
 #[derive(Clone, Copy)]
-enum Line {
+enum GuestLine {
     /// rd, and the upper 20 bits.
     Upper(Kind, u32, u32),
     /// rd, rs1 and rs2.
@@ -66,41 +66,41 @@ fn branch_to(
 }
 
 /// The kind of a line's instruction, and its rd, rs1, rs2 and immediate, which is 0 where a label gives it.
-fn fields_of(line: Line) -> Option<(Kind, u32, u32, u32, i32)> {
+fn fields_of(line: GuestLine) -> Option<(Kind, u32, u32, u32, i32)> {
     match line {
-        Line::Upper(kind, rd, upper) => {
+        GuestLine::Upper(kind, rd, upper) => {
             let imm = (upper & 0xf_ffff) << 12;
             Some((kind, rd, 0, 0, imm.cast_signed()))
         }
-        Line::Registers(kind, rd, rs1, rs2) => Some((kind, rd, rs1, rs2, 0)),
-        Line::Immediate(kind, rd, rs1, imm) => Some((kind, rd, rs1, 0, imm)),
-        Line::Load(kind, rd, imm, rs1) => Some((kind, rd, rs1, 0, imm)),
-        Line::Csr(kind, rd, imm, rs1) => Some((kind, rd, rs1, 0, imm)),
-        Line::Store(kind, rs2, imm, rs1) => Some((kind, 0, rs1, rs2, imm)),
-        Line::Bare(kind) => Some((kind, 0, 0, 0, 0)),
-        Line::Branch(kind, rs1, rs2, _) => Some((kind, 0, rs1, rs2, 0)),
-        Line::Jump(rd, _) => Some((Kind::Jal, rd, 0, 0, 0)),
-        Line::Label(_) => None,
+        GuestLine::Registers(kind, rd, rs1, rs2) => Some((kind, rd, rs1, rs2, 0)),
+        GuestLine::Immediate(kind, rd, rs1, imm) => Some((kind, rd, rs1, 0, imm)),
+        GuestLine::Load(kind, rd, imm, rs1) => Some((kind, rd, rs1, 0, imm)),
+        GuestLine::Csr(kind, rd, imm, rs1) => Some((kind, rd, rs1, 0, imm)),
+        GuestLine::Store(kind, rs2, imm, rs1) => Some((kind, 0, rs1, rs2, imm)),
+        GuestLine::Bare(kind) => Some((kind, 0, 0, 0, 0)),
+        GuestLine::Branch(kind, rs1, rs2, _) => Some((kind, 0, rs1, rs2, 0)),
+        GuestLine::Jump(rd, _) => Some((Kind::Jal, rd, 0, 0, 0)),
+        GuestLine::Label(_) => None,
     }
 }
 
 /// The instruction of a line.
-fn instruction_of(rt: &impl Abort, line: Line) -> Instr {
+fn instruction_of(rt: &impl Abort, line: GuestLine) -> Instr {
     let (kind, rd, rs1, rs2, imm) = fields_of(line).expect(rt, "a line with an instruction");
     instruction(rt, kind, rd, rs1, rs2, imm)
 }
 
-fn add_line(rt: &impl Abort, program: &mut Program, line: Line) -> Result<(), AsmError> {
+fn add_line(rt: &impl Abort, program: &mut Program, line: GuestLine) -> Result<(), AsmError> {
     match line {
-        Line::Label(label) => program.place_label(label),
-        Line::Branch(_, _, _, label) | Line::Jump(_, label) => {
+        GuestLine::Label(label) => program.place_label(label),
+        GuestLine::Branch(_, _, _, label) | GuestLine::Jump(_, label) => {
             branch_to(rt, program, instruction_of(rt, line), label)
         }
         _ => program.push(instruction_of(rt, line)),
     }
 }
 
-fn add_lines(rt: &impl Abort, program: &mut Program, lines: &[Line]) -> Result<(), AsmError> {
+fn add_lines(rt: &impl Abort, program: &mut Program, lines: &[GuestLine]) -> Result<(), AsmError> {
     for line in lines {
         add_line(rt, program, *line)?;
     }
@@ -108,19 +108,19 @@ fn add_lines(rt: &impl Abort, program: &mut Program, lines: &[Line]) -> Result<(
 }
 
 /// The words of these lines.
-fn assembled(rt: &impl Abort, alloc: Global, lines: &[Line]) -> Result<Vec<u32>, AsmError> {
+fn assembled(rt: &impl Abort, alloc: Global, lines: &[GuestLine]) -> Result<Vec<u32>, AsmError> {
     let mut program = Program::new(alloc, BASE);
     add_lines(rt, &mut program, lines)?;
     program.finish()
 }
 
 /// An instruction that does nothing.
-const NOTHING: Line = Line::Immediate(Kind::Addi, 0, 0, 0);
+const NOTHING: GuestLine = GuestLine::Immediate(Kind::Addi, 0, 0, 0);
 
 /// The image of these words.
 fn image_of(rt: &impl Abort, alloc: Global, words: &[u32]) -> Vec<u8> {
     let size = u32::try_from(4 * words.len().min(MAX_WORDS)).unwrap_or(0);
-    let mut image = made(rt, Vec::from_slice(alloc, &HEADERS));
+    let mut image = succeeds(rt, Vec::from_slice(alloc, &HEADERS));
     push_words(rt, &mut image, &[size, size, 7, 4]);
     push_words(rt, &mut image, words);
     image
@@ -129,7 +129,7 @@ fn image_of(rt: &impl Abort, alloc: Global, words: &[u32]) -> Vec<u8> {
 /// Adds words, their lowest bytes first.
 fn push_words(rt: &impl Abort, image: &mut Vec<u8>, words: &[u32]) {
     for word in words {
-        made(rt, image.extend_from_slice(&word.to_le_bytes()));
+        succeeds(rt, image.extend_from_slice(&word.to_le_bytes()));
     }
 }
 
@@ -137,14 +137,14 @@ fn push_words(rt: &impl Abort, image: &mut Vec<u8>, words: &[u32]) {
 fn is_image_of(rt: &impl Abort, alloc: Global, words: &[u32], want: &[u32]) {
     are_equal(rt, &words, &want);
     assert!(rt; words.len() <= MAX_WORDS);
-    let image = made(rt, elf_of(alloc, BASE, words));
+    let image = succeeds(rt, elf_of(alloc, BASE, words));
     let stored = image_of(rt, alloc, want);
     are_equal(rt, &image.as_slice(), &stored.as_slice());
 }
 
 /// These lines are assembled to the words that are wanted.
-fn is_assembled(rt: &impl Abort, alloc: Global, lines: &[Line], want: &[u32]) {
-    let words = made(rt, assembled(rt, alloc, lines));
+fn is_assembled(rt: &impl Abort, alloc: Global, lines: &[GuestLine], want: &[u32]) {
+    let words = succeeds(rt, assembled(rt, alloc, lines));
     is_image_of(rt, alloc, &words, want);
 }
 
@@ -171,29 +171,34 @@ fn assembles_the_example_guests(rt: HostRuntime) {
 }
 
 /// Three lines, and their first and last word and how many there are.
-static LABELLED: [(Line, Line, Line, Result<(u32, u32, usize), AsmError>); 4] = [
+static LABELLED: [(
+    GuestLine,
+    GuestLine,
+    GuestLine,
+    Result<(u32, u32, usize), AsmError>,
+); 4] = [
     (
-        Line::Jump(0, 1),
+        GuestLine::Jump(0, 1),
         NOTHING,
-        Line::Label(1),
+        GuestLine::Label(1),
         Ok((0x0080_006f, 0x0000_0013, 2)),
     ),
     (
-        Line::Label(1),
+        GuestLine::Label(1),
         NOTHING,
-        Line::Branch(Kind::Bne, 1, 2, 1),
+        GuestLine::Branch(Kind::Bne, 1, 2, 1),
         Ok((0x0000_0013, 0xfe20_9ee3, 2)),
     ),
     (
-        Line::Jump(0, 1),
+        GuestLine::Jump(0, 1),
         NOTHING,
         NOTHING,
         Err(AsmError::UnplacedLabel),
     ),
     (
-        Line::Label(1),
+        GuestLine::Label(1),
         NOTHING,
-        Line::Label(1),
+        GuestLine::Label(1),
         Err(AsmError::LabelPlacedTwice),
     ),
 ];
@@ -207,7 +212,7 @@ fn ends_of(words: &[u32]) -> (u32, u32, usize) {
 fn ends_of_lines(
     rt: &impl Abort,
     alloc: Global,
-    lines: &[Line],
+    lines: &[GuestLine],
 ) -> Result<(u32, u32, usize), AsmError> {
     let words = assembled(rt, alloc, lines)?;
     Ok(ends_of(&words))
@@ -225,8 +230,8 @@ fn takes_labels_before_and_behind(rt: HostRuntime) {
 fn add_before_a_far_label(
     rt: &impl Abort,
     program: &mut Program,
-    first: Line,
-    second: Line,
+    first: GuestLine,
+    second: GuestLine,
 ) -> Result<(), AsmError> {
     add_lines(rt, program, &[first, second])?;
     for _ in 0..1025 {
@@ -239,8 +244,8 @@ fn add_before_a_far_label(
 fn error_of(
     rt: &impl Abort,
     alloc: Global,
-    first: Line,
-    second: Line,
+    first: GuestLine,
+    second: GuestLine,
 ) -> Result<Option<AsmError>, AsmError> {
     let mut program = Program::new(alloc, BASE);
     add_before_a_far_label(rt, &mut program, first, second)?;
@@ -248,12 +253,12 @@ fn error_of(
 }
 
 /// A branch to a label that is too far away for it.
-const FAR: Line = Line::Branch(Kind::Beq, 0, 0, 1);
+const FAR: GuestLine = GuestLine::Branch(Kind::Beq, 0, 0, 1);
 
 /// A jump to a label that is placed nowhere.
-const UNPLACED: Line = Line::Jump(0, 2);
+const UNPLACED: GuestLine = GuestLine::Jump(0, 2);
 
-static FIRST_ERRORS: [(Line, Line, Option<AsmError>); 3] = [
+static FIRST_ERRORS: [(GuestLine, GuestLine, Option<AsmError>); 3] = [
     (FAR, UNPLACED, Some(AsmError::OffsetOutOfRange)),
     (UNPLACED, FAR, Some(AsmError::UnplacedLabel)),
     (NOTHING, NOTHING, None),
@@ -269,14 +274,14 @@ fn names_the_first_error(rt: HostRuntime) {
 
 /// Places the label 1 a second time, between its place and a jump to it.
 fn place_twice(rt: &impl Abort, program: &mut Program) {
-    made(rt, program.place_label(1));
-    made(rt, add_line(rt, program, NOTHING));
+    succeeds(rt, program.place_label(1));
+    succeeds(rt, add_line(rt, program, NOTHING));
     are_equal(
         rt,
         &program.place_label(1),
         &Err(AsmError::LabelPlacedTwice),
     );
-    made(rt, add_line(rt, program, Line::Jump(0, 1)));
+    succeeds(rt, add_line(rt, program, GuestLine::Jump(0, 1)));
     are_equal(rt, &program.base(), &BASE);
 }
 
@@ -284,7 +289,7 @@ fn place_twice(rt: &impl Abort, program: &mut Program) {
 fn a_label_that_is_placed_twice_stays(rt: HostRuntime) {
     let mut program = Program::new(rt.alloc(), BASE);
     place_twice(&rt, &mut program);
-    let words = made(&rt, program.finish());
+    let words = succeeds(&rt, program.finish());
     are_equal(
         &rt,
         &words.as_slice(),
@@ -303,7 +308,7 @@ fn add_nothing(rt: &impl Abort, program: &mut Program, count: usize) -> Result<(
 fn add_far(
     rt: &impl Abort,
     program: &mut Program,
-    branch: Line,
+    branch: GuestLine,
     ahead: usize,
     behind: usize,
 ) -> Result<(), AsmError> {
@@ -323,7 +328,7 @@ fn add_far(
 fn far_word(
     rt: &impl Abort,
     alloc: Global,
-    branch: Line,
+    branch: GuestLine,
     ahead: usize,
     behind: usize,
 ) -> Result<u32, AsmError> {
@@ -333,22 +338,22 @@ fn far_word(
 }
 
 /// A branch, how many words its label is ahead or behind, and the word.
-static REACHES: [(Line, usize, usize, Result<u32, AsmError>); 9] = [
+static REACHES: [(GuestLine, usize, usize, Result<u32, AsmError>); 9] = [
     (FAR, 1023, 0, Ok(0x7e00_0ee3)),
     (FAR, 1024, 0, Err(AsmError::OffsetOutOfRange)),
     (FAR, 1025, 0, Err(AsmError::OffsetOutOfRange)),
     (FAR, 0, 1024, Ok(0x8000_0063)),
     (FAR, 0, 1025, Err(AsmError::OffsetOutOfRange)),
-    (Line::Jump(0, 1), 0x3_ffff, 0, Ok(0x7fdf_f06f)),
+    (GuestLine::Jump(0, 1), 0x3_ffff, 0, Ok(0x7fdf_f06f)),
     (
-        Line::Jump(0, 1),
+        GuestLine::Jump(0, 1),
         0x4_0000,
         0,
         Err(AsmError::OffsetOutOfRange),
     ),
-    (Line::Jump(0, 1), 0, 0x4_0000, Ok(0x8000_006f)),
+    (GuestLine::Jump(0, 1), 0, 0x4_0000, Ok(0x8000_006f)),
     (
-        Line::Jump(0, 1),
+        GuestLine::Jump(0, 1),
         0,
         0x4_0001,
         Err(AsmError::OffsetOutOfRange),
@@ -395,7 +400,7 @@ static PLACES: [(u32, usize, Result<u32, ImageError>); 6] = [
 fn entry_of(rt: &impl Abort, alloc: Global, base: u32, words: &[u32]) -> Result<u32, ImageError> {
     assert!(rt; base % 4 == 0);
     assert!(rt; words.len() <= MAX_WORDS);
-    let image = made(rt, elf_of(alloc, base, words));
+    let image = succeeds(rt, elf_of(alloc, base, words));
     load_elf(alloc, &image, 16).map(|loaded| loaded.entry())
 }
 

@@ -1,6 +1,6 @@
 //! The block port.
 
-use crate::equal::{are_equal, made};
+use crate::equal::{are_equal, succeeds};
 use block_port::{BlockFields, BlockPort, Status};
 use cow_disk::{Disk, FrozenDisk};
 use port_error::{Fault, PortError};
@@ -11,13 +11,13 @@ use std::thread::Threads;
 
 /// A frozen disk of one sector of bytes AA.
 fn frozen_disk(rt: &impl Abort, alloc: Global) -> FrozenDisk {
-    let disk = made(rt, Disk::from_bytes(alloc, &[0xaa; 512]));
-    made(rt, disk.freeze())
+    let disk = succeeds(rt, Disk::from_bytes(alloc, &[0xaa; 512]));
+    succeeds(rt, disk.freeze())
 }
 
 /// A port over this disk, which is opened now.
 fn port_over(rt: &impl Abort, frozen: &FrozenDisk) -> BlockPort {
-    BlockPort::new(made(rt, frozen.open()))
+    BlockPort::new(succeeds(rt, frozen.open()))
 }
 
 /// A port over that disk.
@@ -173,8 +173,8 @@ fn has_fields(rt: &impl Abort, port: &mut BlockPort, fields: &BlockFields) {
 
 /// A port of the same fields over a disk that is opened now.
 fn same_port(rt: &impl Abort, port: &BlockPort) -> BlockPort {
-    let frozen = made(rt, port.disk().freeze());
-    BlockPort::of_fields(port.fields(), made(rt, frozen.open()))
+    let frozen = succeeds(rt, port.disk().freeze());
+    BlockPort::of_fields(port.fields(), succeeds(rt, frozen.open()))
 }
 
 fn is_equal_to_its_same(rt: &impl Abort, port: &BlockPort) {

@@ -1,6 +1,6 @@
 //! The bus: each port at its addresses.
 
-use crate::equal::{are_equal, made};
+use crate::equal::{are_equal, succeeds};
 use cow_disk::Disk;
 use port_error::{Fault, PortError};
 use std::alloc::Global;
@@ -9,8 +9,8 @@ use vm_bus::{Effect, Ports};
 
 /// The ports of a machine with a disk of one sector of bytes AA, one byte of input and 3 clones.
 fn ports_at_start(rt: &impl Abort, alloc: Global) -> Ports {
-    let disk = made(rt, Disk::from_bytes(alloc, &[0xaa; 512]));
-    made(rt, Ports::new(alloc, disk, b"Z", 3))
+    let disk = succeeds(rt, Disk::from_bytes(alloc, &[0xaa; 512]));
+    succeeds(rt, Ports::new(alloc, disk, b"Z", 3))
 }
 
 /// What a load of so many bytes at an address gives a machine that starts.

@@ -2,7 +2,7 @@
 
 ghost use Rattle.std.specs.Prelude.{◌≤◌, length};
 
-use crate::equal::{are_equal, made};
+use crate::equal::{are_equal, succeeds};
 use console_port::{ConsoleFields, ConsolePort, Input};
 use port_error::{Fault, PortError};
 use std::alloc::{AllocError, Global};
@@ -41,7 +41,7 @@ fn takes_bytes(rt: &impl Abort, port: &mut ConsolePort) {
 
 #[test]
 fn takes_bytes_at_eight_offsets(rt: HostRuntime) {
-    let mut port = made(&rt, ConsolePort::new(rt.alloc(), b"Z"));
+    let mut port = succeeds(&rt, ConsolePort::new(rt.alloc(), b"Z"));
     takes_bytes(&rt, &mut port);
 }
 
@@ -87,7 +87,7 @@ fn loads_and_stores(rt: &impl Abort, port: &mut ConsolePort) {
 
 #[test]
 fn loads_and_stores_by_the_table(rt: HostRuntime) {
-    let mut port = made(&rt, ConsolePort::new(rt.alloc(), b"YZ"));
+    let mut port = succeeds(&rt, ConsolePort::new(rt.alloc(), b"YZ"));
     loads_and_stores(&rt, &mut port);
     let output = port.into_output();
     are_equal(&rt, &output.as_slice(), &b"AB".as_slice());
@@ -103,7 +103,7 @@ fn starts_with(rt: &impl Abort, port: &mut ConsolePort, read: [u32; 8]) {
 fn is_read_of(rt: &impl Abort, alloc: Global, input: &[u8], read: [u32; 8])
     requires { length input.now ≤ 65536 }
 {
-    let mut port = made(rt, ConsolePort::new(alloc, input));
+    let mut port = succeeds(rt, ConsolePort::new(alloc, input));
     starts_with(rt, &mut port, read);
 }
 
@@ -140,7 +140,7 @@ fn a_latched_console_keeps_its_input(rt: HostRuntime) {
         place: 1,
         line_control: 0x83,
     };
-    let input = made(&rt, input_of_two(rt.alloc()));
+    let input = succeeds(&rt, input_of_two(rt.alloc()));
     let mut port = ConsolePort::of_fields(rt.alloc(), fields, input);
     keeps_its_input(&rt, &mut port, fields);
 }
@@ -153,6 +153,6 @@ fn byte_of_moved<R: Threads>(rt: &R, mut port: ConsolePort) -> Result<u32, Fault
 
 #[test]
 fn moves_between_threads(rt: HostRuntime) {
-    let byte = byte_of_moved(&rt, made(&rt, ConsolePort::new(rt.alloc(), b"Z")));
+    let byte = byte_of_moved(&rt, succeeds(&rt, ConsolePort::new(rt.alloc(), b"Z")));
     are_equal(&rt, &byte, &Ok(0x5a));
 }

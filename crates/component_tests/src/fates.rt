@@ -1,6 +1,6 @@
 //! The fates of replies: those that seeds draw, and those of a list.
 
-use crate::equal::{are_equal, made};
+use crate::equal::{are_equal, succeeds};
 use std::process::Abort;
 use wire_fates::{Fate, LONGEST_STREAK, MAX_SEEDED_STREAK, Scripted, Seeded, Wire};
 
@@ -25,7 +25,7 @@ fn a_seed_draws_fates(rt: HostRuntime) {
 #[test]
 fn a_list_is_told_and_then_all_is_given(rt: HostRuntime) {
     let fates = vec![in rt.alloc(); Fate::Again(7), Fate::Lose(4)];
-    let mut wire = Scripted::new(made(&rt, fates));
+    let mut wire = Scripted::new(succeeds(&rt, fates));
     are_next(
         &rt,
         &mut wire,

@@ -2,7 +2,7 @@
 
 ghost use Rattle.std.specs.Prelude.{◌≤◌, length};
 
-use crate::equal::{are_equal, made};
+use crate::equal::{are_equal, succeeds};
 use fork_port::{Asked, Call, Effect, Ending, ForkFields, ForkPort, Handed};
 use port_error::{Fault, PortError};
 use std::process::Abort;
@@ -29,12 +29,12 @@ fn carry_out(rt: &impl Abort, port: &mut ForkPort, command: u32, endings: &[Endi
             if let Some((children, _, _)) = port.find(number)
                 && children as usize == endings.len()
             {
-                made(rt, port.joined(number, endings));
+                succeeds(rt, port.joined(number, endings));
             }
         }
         _ => {
             if port.fields().next_ticket < TICKETS_END {
-                made(rt, port.store(8, 4, command));
+                succeeds(rt, port.store(8, 4, command));
             }
         }
     }
@@ -49,10 +49,10 @@ fn run(
     second: u32,
     endings: &[Ending],
 ) -> u32 {
-    made(rt, port.store(0, 4, first));
-    made(rt, port.store(4, 4, second));
+    succeeds(rt, port.store(0, 4, first));
+    succeeds(rt, port.store(4, 4, second));
     carry_out(rt, port, command, endings);
-    made(rt, port.load(12, 4))
+    succeeds(rt, port.load(12, 4))
 }
 
 /// GRANTED and ALLOT.

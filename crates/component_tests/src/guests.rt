@@ -1,6 +1,6 @@
 //! Guests of a few seeds: their lengths, checksums and first words.
 
-use crate::equal::{are_equal, made};
+use crate::equal::{are_equal, succeeds};
 use elf_load::load_elf;
 use guest_gen::guest_of;
 use std::alloc::Global;
@@ -44,7 +44,7 @@ fn fnv_1a(bytes: &[u8]) -> u64 {
 fn bytes_of(rt: &impl Abort, alloc: Global, words: &[u32]) -> Vec<u8> {
     let mut bytes = Vec::new(alloc);
     for word in words {
-        made(rt, bytes.extend_from_slice(&word.to_le_bytes()));
+        succeeds(rt, bytes.extend_from_slice(&word.to_le_bytes()));
     }
     bytes
 }
@@ -60,7 +60,7 @@ fn is_guest(rt: &impl Abort, image: &[u8], words: usize, hash: u64, first: &[u8]
 
 fn generates(rt: &impl Abort, alloc: Global, row: &(u32, usize, u64, [u32; 9])) {
     let (seed, words, hash, first) = row;
-    let image = made(rt, guest_of(alloc, *seed));
+    let image = succeeds(rt, guest_of(alloc, *seed));
     let first = bytes_of(rt, alloc, first);
     is_guest(rt, &image, *words, *hash, &first);
 }
@@ -78,12 +78,12 @@ const PAGES: u32 = 64;
 /// The headers and at most 16 pages, and the loader takes it.
 fn fits(rt: &impl Abort, alloc: Global, image: &[u8]) {
     are_equal(rt, &(image.len() <= HEADERS_SIZE + 16 * 4096), &true);
-    let loaded = made(rt, load_elf(alloc, image, PAGES));
+    let loaded = succeeds(rt, load_elf(alloc, image, PAGES));
     are_equal(rt, &loaded.entry(), &0x8000_0000);
 }
 
 fn is_loaded(rt: &impl Abort, alloc: Global, seed: u32) {
-    let image = made(rt, guest_of(alloc, seed));
+    let image = succeeds(rt, guest_of(alloc, seed));
     fits(rt, alloc, &image);
 }
 

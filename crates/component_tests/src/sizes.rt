@@ -6,7 +6,7 @@ use console_port::MAX_INPUT;
 use console_port::registers::CONSOLE_SIZE;
 use fork_port::refusals::TICKETS_END;
 use fork_port::registers::FORK_SIZE;
-use vm_bus::addresses::{BLOCK_BASE, CONSOLE_BASE, FORK_BASE, TIMER_BASE};
+use port_map::{BLOCK_BASE, CONSOLE_BASE, FORK_BASE, TIMER_BASE};
 
 #[test]
 fn bases_by_their_numbers(rt: HostRuntime) {

@@ -1,7 +1,8 @@
 -- The console: bytes that come in and bytes that go out, at the registers of a serial port.
 use Rattle.std.specs.Prelude.{ℕ, ◌+◌, ◌%◌, ◌≤◌, ◌==◌, ◌&&◌, Bool, nat_lt, if◌then◌else◌, List, [], ◌∷◌, ◌++◌, length, slice_index, Option, Some, None}
 use Rattle.std.specs.Int.{bit_at}
-use Rattle.console_port.specs.declared.registers.TheConstants.{CONSOLE_SIZE, CONSOLE_DATA, CONSOLE_LINE_CONTROL, CONSOLE_LINE_STATUS, TRANSMITTER_IDLE, DATA_READY}
+use Rattle.console_port.specs.declared.registers.TheConstants.{CONSOLE_SIZE, CONSOLE_DATA, CONSOLE_LINE_CONTROL}
+use Rattle.console_port.specs.declared.registers.TheConstants.{CONSOLE_LINE_STATUS, TRANSMITTER_IDLE, DATA_READY}
 use Rattle.console_port.specs.declared.port.TheConstants.{MAX_INPUT}
 
 pub record ConsoleRegisters : Type 0 where

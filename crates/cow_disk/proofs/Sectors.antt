@@ -34,5 +34,6 @@ sector_at-with_sector_other disk bytes n other there full differs =
     (λ k within.
     let below : k < SECTOR_SIZE = omega (arith, length-sector_at (with_sector disk n bytes) other) in
     get_or-sector_at (with_sector disk n bytes) other k below
-    ∙ get_or-put_bytes_outside disk bytes (SECTOR_SIZE * n) (SECTOR_SIZE * other + k) (omega arith) (subst (λ size. (SECTOR_SIZE * other + k < SECTOR_SIZE * n) ⊎ (SECTOR_SIZE * n + size ≤ SECTOR_SIZE * other + k)) (sym full) (apart n other k differs below))
+    ∙ get_or-put_bytes_outside disk bytes (SECTOR_SIZE * n) (SECTOR_SIZE * other + k) (omega arith)
+    (subst (λ size. (SECTOR_SIZE * other + k < SECTOR_SIZE * n) ⊎ (SECTOR_SIZE * n + size ≤ SECTOR_SIZE * other + k)) (sym full) (apart n other k differs below))
     ∙ sym (get_or-sector_at disk other k below))

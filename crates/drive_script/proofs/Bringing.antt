@@ -30,7 +30,7 @@ use Rattle.world_core.proofs.Arriving.{flags-taken, flags-whole}
 use Rattle.drive_script.specs.declared.answer.Answer.{Answer}
 use Rattle.drive_script.specs.declared.answer.Answer.TheVariants.{Give}
 use Rattle.drive_script.specs.Driven.{DrivesLine, HasMachines, Keeps}
-use Rattle.drive_script.specs.Replies.{coming, page_at, paged_with, siblings_of, tree_with, with_arrival}
+use Rattle.drive_script.specs.Replies.{arrived_by, page_at, paged_with, siblings_of, tree_with, with_arrival}
 use Rattle.drive_script.specs.Script.{give}
 use Rattle.drive_script.specs.Steps.{after_steps, live_at}
 use Rattle.drive_script.specs.Told.{Driven, answer_by, arrived_at, given}
@@ -113,7 +113,7 @@ module _ (depot : Shelves) (w : World) (t : Tree Paged) (old : Lent) (h : HasLen
         → Brings depot w t page old (Ok (Some arrived)) new
     brought page reply key (Got got) some is a stands =
         let same_page : got ≡ page = a.0 ∙ ap (λ (r : Reply). r.page) is in (
-          ap (λ n. Some (Got n)) same_page ∙ sym (ap (λ here. coming here page) (ap (slice_get old.pages.here) (sym same_page) ∙ a.2)),
+          ap (λ n. Some (Got n)) same_page ∙ sym (ap (λ here. arrived_by here page) (ap (slice_get old.pages.here) (sym same_page) ∙ a.2)),
           same.name,
           ran ∙ none,
           lent-got got a.3 stands,
@@ -121,7 +121,7 @@ module _ (depot : Shelves) (w : World) (t : Tree Paged) (old : Lent) (h : HasLen
     brought page reply key (Had had) some is a stands =
         let same_page : had ≡ page = a.0 ∙ ap (λ (r : Reply). r.page) is in
         let of_image : IsOfImage old.key reply = subst (λ o. IsOfImage o reply) (sym some) (ap (λ (r : Reply). number_of r.key) (sym is)) in (
-          ap (λ n. Some (Had n)) same_page ∙ sym (ap (λ here. coming here page) (ap (slice_get old.pages.here) (sym same_page) ∙ a.2 of_image)),
+          ap (λ n. Some (Had n)) same_page ∙ sym (ap (λ here. arrived_by here page) (ap (slice_get old.pages.here) (sym same_page) ∙ a.2 of_image)),
           same.name,
           ran ∙ none,
           lent-same a.1,
@@ -130,7 +130,7 @@ module _ (depot : Shelves) (w : World) (t : Tree Paged) (old : Lent) (h : HasLen
   -- RAM has no such page
   pub brings-none : (page : ℕ) → length old.pages.here ≤ page → Brings depot w t page old (Ok None) old
   brings-none page past = (
-    sym (ap (λ here. coming here page) (slice_get_past old.pages.here page past)),
+    sym (ap (λ here. arrived_by here page) (slice_get_past old.pages.here page past)),
     refl,
     none,
     h,
@@ -146,7 +146,7 @@ module _ (depot : Shelves) (w : World) (t : Tree Paged) (old : Lent) (h : HasLen
   brings-had page within no_key has =
       let here : slice_get old.pages.here page ≡ Some true =
       is-here (slice_get old.pages.here page) (λ past. (let there = slice_get-get_or old.pages.here page false within in cc)) ((subst (λ o. HasImage o old.pages) no_key has) page) in (
-        sym (ap (λ there. coming there page) here),
+        sym (ap (λ there. arrived_by there page) here),
         refl,
         none,
         h,
@@ -183,7 +183,7 @@ module _ (depot : Shelves) (w mid last : World) (s : Driven) (name : Path) (plac
       subst (λ n. live_at paged_machines n s.tree ≡ Some own) named.1 (lent-live depot mid s.tree lease lent) in
       let pages : (machine own).pages ≡ lease.pages = ap (λ (p : Paged). p.pages) (lent-first depot mid s.tree lease lent named.2.ran) in
       let comes : arrived ≡ arrived_at (page_at (siblings_of name) place s.sent) (Some own) =
-      brings.0 ∙ sym (ap (λ (p : Pages). coming (slice_get p.here page) page) pages) ∙ ap (λ n. arrived_at n (Some own)) at in
+      brings.0 ∙ sym (ap (λ (p : Pages). arrived_by (slice_get p.here page) page) pages) ∙ ap (λ n. arrived_at n (Some own)) at in
       let same : arrived ≡ given name place s = comes ∙ ap (arrived_at (page_at (siblings_of name) place s.sent)) (sym live) in (
         ap Give comes ∙ sym (ap (answer_by (give name place) s) live),
         subst (λ a. HasMachines depot last (with_arrival name a s.tree)) same

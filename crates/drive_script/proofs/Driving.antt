@@ -24,7 +24,7 @@ use Rattle.drive_script.specs.Driven.{BreaksOff, DrivesLine, HasBrokenOff, HasMa
 use Rattle.drive_script.specs.declared.line.ScriptLine.{ScriptLine as Read}
 use Rattle.drive_script.specs.Lines.{line_read, lines_read}
 use Rattle.drive_script.specs.Replies.{Replies, page_at, place_of, reply_to, siblings_of, with_arrival, with_reply}
-use Rattle.drive_script.specs.Script.{Line, step, ask, push, give, peek, regs}
+use Rattle.drive_script.specs.Script.{ScriptLine, step, ask, push, give, peek, regs}
 use Rattle.drive_script.specs.Steps.{after_steps, live_at}
 use Rattle.drive_script.specs.Told.{Driven, name_in, asked_of, pushed_of, arrived_at, given, steps_of, after_line, after_script, answer, answer_by}
 use Rattle.drive_script.specs.Told.{unanswered, made_at, told, told_line, told_text, begun}
@@ -51,7 +51,7 @@ made-behind depot w before steps t h = record {
 }
 
 -- memory was wanting in a line before its first step
-pub breaks-first : (depot : Shelves) (w : World) (line : Line) (s : Driven) → HasMachines depot w s.tree → BreaksOff depot line s w
+pub breaks-first : (depot : Shelves) (w : World) (line : ScriptLine) (s : Driven) → HasMachines depot w s.tree → BreaksOff depot line s w
 breaks-first depot w line s h = inl (made-none depot w (steps_of line s.tree) s.tree h)
 
 -- ---- where no live machine has the name
@@ -71,7 +71,7 @@ give-stays path place s none =
     ap (arrived_at page) none ∙ nothing-comes page
 
 -- a line does nothing
-pub line-stays : (line : Line) (s : Driven) → live_at paged_machines (name_in line) s.tree ≡ None → (after_line line s).tree ≡ s.tree
+pub line-stays : (line : ScriptLine) (s : Driven) → live_at paged_machines (name_in line) s.tree ≡ None → (after_line line s).tree ≡ s.tree
 line-stays (step path most) s none = step-stays path most s.tree none
 line-stays (ask path) s none = refl
 line-stays (push path page) s none = refl
@@ -84,7 +84,7 @@ not-sent : (path : Path) (s : Driven) (of : Tree Paged → Option ℕ) → live_
 not-sent path s of none = no-page (siblings_of path) (option_and_then of (live_at paged_machines path s.tree)) (ap (option_and_then of) none)
 
 -- and sends nothing
-pub none-kept : (line : Line) (s : Driven) (lists : BTreeMap Path (Vec ℕ Global)) → live_at paged_machines (name_in line) s.tree ≡ None → Keeps lists s.sent
+pub none-kept : (line : ScriptLine) (s : Driven) (lists : BTreeMap Path (Vec ℕ Global)) → live_at paged_machines (name_in line) s.tree ≡ None → Keeps lists s.sent
     → Keeps lists (after_line line s).sent
 none-kept (step path most) s lists none h = h
 none-kept (ask path) s lists none h = subst (λ reply. Keeps lists (with_reply reply s.sent)) (sym (not-sent path s asked_of none)) h
@@ -94,34 +94,34 @@ none-kept (peek path address) s lists none h = h
 none-kept (regs path) s lists none h = h
 
 -- and tells so. Its name may not even be looked for
-pub not-looked-for : (depot : Shelves) (w : World) (line : Line) (s : Driven) (a : Answer) → HasMachines depot w s.tree
+pub not-looked-for : (depot : Shelves) (w : World) (line : ScriptLine) (s : Driven) (a : Answer) → HasMachines depot w s.tree
     → live_at paged_machines (name_in line) s.tree ≡ None → a ≡ unanswered line → DrivesLine depot line s (Ok a) w
 not-looked-for depot w line s a h none is = (
   is ∙ sym (ap (answer_by line s) none),
   subst (HasMachines depot w) (sym (line-stays line s none)) h,
 )
 
-pub looks-at-none : (depot : Shelves) (w new : World) (line : Line) (s : Driven) (h : HasMachines depot w s.tree)
+pub looks-at-none : (depot : Shelves) (w new : World) (line : ScriptLine) (s : Driven) (h : HasMachines depot w s.tree)
     → TakesNamed depot h.forest (name_in line) (Ok None) new → DrivesLine depot line s (Ok (unanswered line)) new
 looks-at-none depot w new line s h named =
     let none = named-none depot w new s.tree (name_in line) h named in
     not-looked-for depot new line s (unanswered line) none.1 none.0 refl
 
-pub looked-at-none : (depot : Shelves) (w new : World) (line : Line) (s : Driven) (h : HasMachines depot w s.tree)
+pub looked-at-none : (depot : Shelves) (w new : World) (line : ScriptLine) (s : Driven) (h : HasMachines depot w s.tree)
     → TakesNamed depot h.forest (name_in line) (Ok None) new → live_at paged_machines (name_in line) s.tree ≡ None
 looked-at-none depot w new line s h named = (named-none depot w new s.tree (name_in line) h named).0
 
 -- memory was wanting as the machine was taken
-pub looks-not : (depot : Shelves) (w new : World) (line : Line) (s : Driven) (h : HasMachines depot w s.tree) (e f : AllocError)
+pub looks-not : (depot : Shelves) (w new : World) (line : ScriptLine) (s : Driven) (h : HasMachines depot w s.tree) (e f : AllocError)
     → TakesNamed depot h.forest (name_in line) (Err e) new → DrivesLine depot line s (Err f) new
 looks-not depot w new line s h e f stands = breaks-first depot new line s (named-kept depot w new s.tree (name_in line) h stands)
 
 -- a line, by what it does with its name put together
-pub by-name : (depot : Shelves) (w : World) (s : Driven) (line : Line) (of : Path → Line) (name path : Path) (r : Result Answer AllocError)
+pub by-name : (depot : Shelves) (w : World) (s : Driven) (line : ScriptLine) (of : Path → ScriptLine) (name path : Path) (r : Result Answer AllocError)
     → line ≡ of path → name_in (of path) ≡ path → name ≡ name_in line → DrivesLine depot (of name) s r w → DrivesLine depot line s r w
 by-name depot w s line of name path r is at named h = subst (λ l. DrivesLine depot l s r w) (ap of (named ∙ ap name_in is ∙ at) ∙ sym is) h
 
-pub keeps-by-name : (lists : BTreeMap Path (Vec ℕ Global)) (s : Driven) (line : Line) (of : Path → Line) (name path : Path) (r : Result Answer AllocError)
+pub keeps-by-name : (lists : BTreeMap Path (Vec ℕ Global)) (s : Driven) (line : ScriptLine) (of : Path → ScriptLine) (name path : Path) (r : Result Answer AllocError)
     → line ≡ of path → name_in (of path) ≡ path → name ≡ name_in line → IfOk r (λ answered. Keeps lists (after_line (of name) s).sent)
     → IfOk r (λ answered. Keeps lists (after_line line s).sent)
 keeps-by-name lists s line of name path r is at named h =
@@ -202,18 +202,18 @@ module _ (depot : Shelves) (w : World) (s : Driven) (name : Path) (now : Paged) 
 -- ---- scripts
 
 -- one more line
-pub script-next : (done : List Line) (line : Line) (s : Driven) → after_script (done ++ line ∷ []) s ≡ after_line line (after_script done s)
+pub script-next : (done : List ScriptLine) (line : ScriptLine) (s : Driven) → after_script (done ++ line ∷ []) s ≡ after_line line (after_script done s)
 unfolding after_script
 script-next [] line s = refl
 script-next (first ∷ rest) line s = script-next rest line (after_line first s)
 
-told-next : (done : List Line) (line : Line) (s : Driven)
+told-next : (done : List ScriptLine) (line : ScriptLine) (s : Driven)
     → told (done ++ line ∷ []) s ≡ told done s ++ (name_in line, answer line (after_script done s)) ∷ []
 unfolding after_script told
 told-next [] line s = refl
 told-next (first ∷ rest) line s = ap (λ more. (name_in first, answer first s) ∷ more) (told-next rest line (after_line first s))
 
-pub text-next : (done : List Line) (line : Line) (t : Tree Paged)
+pub text-next : (done : List ScriptLine) (line : ScriptLine) (t : Tree Paged)
     → told_text (done ++ line ∷ []) t ≡ told_text done t ++ told_line (name_in line, answer line (after_script done (begun t)))
 unfolding told_text
 text-next done line t =
@@ -233,6 +233,6 @@ module _ (items : List Read) (i : ℕ) (item : Read) (within : i < length items)
       ∙ ap (λ done. done ++ drop (i + 1) (lines_read items)) (sym take-next) ∙ take-append-drop (i + 1) (lines_read items)
 
 -- memory was wanting in a line of a script
-pub script-breaks : (depot : Shelves) (w : World) (lines done : List Line) (line : Line) (rest : List Line) (s : Driven)
+pub script-breaks : (depot : Shelves) (w : World) (lines done : List ScriptLine) (line : ScriptLine) (rest : List ScriptLine) (s : Driven)
     → done ++ (line ∷ rest) ≡ lines → BreaksOff depot line (after_script done s) w → HasBrokenOff depot lines s w
 script-breaks depot w lines done line rest s all h = record { done = done; line = line; rest = rest; all = sym all; breaks = h }

@@ -41,7 +41,7 @@ unfolding settle_all
 no-step t = refl
 
 -- a line makes its steps of the machines with every page
-pub line-steps : (line : script.Line) (s : Driven) → whole (after_line line s).tree ≡ settle_all machines (steps_of line s.tree) (whole s.tree)
+pub line-steps : (line : script.ScriptLine) (s : Driven) → whole (after_line line s).tree ≡ settle_all machines (steps_of line s.tree) (whole s.tree)
 line-steps (script.step path most) s =
     sym (settle_all-map paged_machines machines (λ (p : Paged). p.machine) paged-projects (replicate (made_at most path s.tree) path) s.tree)
 line-steps (script.ask path) s = sym (no-step (whole s.tree))
@@ -52,7 +52,7 @@ line-steps (script.regs path) s = sym (no-step (whole s.tree))
 
 -- ---- one machine
 
-pub others : (line : script.Line) (at : Path) (s : Driven) → at ≢ name_in line → is_below (name_in line) at ≡ false
+pub others : (line : script.ScriptLine) (at : Path) (s : Driven) → at ≢ name_in line → is_below (name_in line) at ≡ false
     → option_map machine (subtree at (after_line line s).tree) ≡ option_map machine (subtree at s.tree)
 others (script.step path most) at s other apart = others-stay paged_machines (made_at most path s.tree) path at s.tree other apart
 others (script.ask path) at s other apart = refl
@@ -61,7 +61,7 @@ others (script.give path place) at s other apart = others-arrival path (given pa
 others (script.peek path address) at s other apart = refl
 others (script.regs path) at s other apart = refl
 
-pub logs : (line : script.Line) (at : Path) (s : Driven) → at ≢ name_in line → is_below (name_in line) at ≡ false
+pub logs : (line : script.ScriptLine) (at : Path) (s : Driven) → at ≢ name_in line → is_below (name_in line) at ≡ false
     → option_map log_of (subtree at (after_line line s).tree) ≡ option_map log_of (subtree at s.tree)
 logs (script.step path most) at s other apart = logs-stay paged_machines (made_at most path s.tree) path at s.tree other apart
 logs (script.ask path) at s other apart = refl
@@ -70,7 +70,7 @@ logs (script.give path place) at s other apart = logs-arrival path (given path p
 logs (script.peek path address) at s other apart = refl
 logs (script.regs path) at s other apart = refl
 
-pub apart : (line : script.Line) (at : Path) (s : Driven) → is_below (name_in line) at ≡ false → beyond at (name_in line) ≡ None
+pub apart : (line : script.ScriptLine) (at : Path) (s : Driven) → is_below (name_in line) at ≡ false → beyond at (name_in line) ≡ None
     → subtree at (after_line line s).tree ≡ subtree at s.tree
 apart (script.step path most) at s under off = apart-stays paged_machines (made_at most path s.tree) path at s.tree under off
 apart (script.ask path) at s under off = refl
@@ -79,7 +79,7 @@ apart (script.give path place) at s under off = apart-arrival path (given path p
 apart (script.peek path address) at s under off = refl
 apart (script.regs path) at s under off = refl
 
-pub below : (line : script.Line) (at : Path) (s : Driven) (a b : Tree Paged) → IsSound paged_machines s.tree → is_below (name_in line) at ≡ true
+pub below : (line : script.ScriptLine) (at : Path) (s : Driven) (a b : Tree Paged) → IsSound paged_machines s.tree → is_below (name_in line) at ≡ true
     → subtree at s.tree ≡ Some a → subtree at (after_line line s).tree ≡ Some b → b ≡ a
 below (script.step path most) at s a b h under here there = below-stays paged_machines paged-rules (made_at most path s.tree) path at s.tree a b h under here there
 below (script.ask path) at s a b h under here there = some-same b a (sym there ∙ here)
@@ -96,7 +96,7 @@ some-none c a some none = cc
 goes-below : (path : Path) (b : Branch) (rest : Path) → is_below path (path ++ (b ∷ rest)) ≡ true
 goes-below path b rest = ap goes_on (beyond-append path (b ∷ rest))
 
-pub gone : (line : script.Line) (b : Branch) (rest : Path) (s : Driven) (a : Tree Paged) → IsSound paged_machines s.tree
+pub gone : (line : script.ScriptLine) (b : Branch) (rest : Path) (s : Driven) (a : Tree Paged) → IsSound paged_machines s.tree
     → subtree (name_in line ++ (b ∷ rest)) s.tree ≡ Some a → subtree (name_in line ++ (b ∷ rest)) (after_line line s).tree ≡ None
     → (n : ℕ) × (n < length (steps_of line s.tree)) × (x : Tree Paged)
     × (subtree (name_in line) (after_steps paged_machines n (name_in line) s.tree) ≡ Some x) × Drops paged_machines b.ticket x
@@ -225,7 +225,7 @@ join-made path s p broods log ticket there lives here call ready =
 
 -- ---- scripts
 
-pub script-steps : (lines : List script.Line) (s : Driven)
+pub script-steps : (lines : List script.ScriptLine) (s : Driven)
     → whole (after_script lines s).tree ≡ settle_all machines (steps_of_script lines s) (whole s.tree)
 unfolding after_script steps_of_script settle_all
 script-steps [] s = refl
@@ -234,18 +234,18 @@ script-steps (line ∷ rest) s =
     script-steps rest next ∙ ap (settle_all machines (steps_of_script rest next)) (line-steps line s)
     ∙ sym (all-both machines (steps_of line s.tree) (steps_of_script rest next) (whole s.tree))
 
-pub script-sound : (lines : List script.Line) (s : Driven) → IsSound machines (whole s.tree) → IsSound machines (whole (after_script lines s).tree)
+pub script-sound : (lines : List script.ScriptLine) (s : Driven) → IsSound machines (whole s.tree) → IsSound machines (whole (after_script lines s).tree)
 script-sound lines s h = subst (IsSound machines) (sym (script-steps lines s)) (settle_all-keeps machines machines-rules (steps_of_script lines s) (whole s.tree) h).sound
 
-pub script-end : (lines : List script.Line) (s : Driven) → IsSound machines (whole s.tree) → finish (whole (after_script lines s).tree) ≡ finish (whole s.tree)
+pub script-end : (lines : List script.ScriptLine) (s : Driven) → IsSound machines (whole s.tree) → finish (whole (after_script lines s).tree) ≡ finish (whole s.tree)
 script-end lines s h = ap finish (script-steps lines s) ∙ finish-settle_all machines machines-rules (steps_of_script lines s) (whole s.tree) h
 
-pub script-alone : (lines : List script.Line) (at : Path) (s : Driven) (a b : Tree Machine) → IsSound machines (whole s.tree)
+pub script-alone : (lines : List script.ScriptLine) (at : Path) (s : Driven) (a b : Tree Machine) → IsSound machines (whole s.tree)
     → subtree at (whole s.tree) ≡ Some a → subtree at (whole (after_script lines s).tree) ≡ Some b → b ≡ settle_all machines (beyond_all at (steps_of_script lines s)) a
 script-alone lines at s a b h here there =
     settle_all-at machines machines-rules at (steps_of_script lines s) (whole s.tree) a b h here (sym (ap (subtree at) (script-steps lines s)) ∙ there)
 
-pub script-counts : (lines : List script.Line) (at : Path) (s : Driven) (a b : Tree Machine) → IsSound machines (whole s.tree)
+pub script-counts : (lines : List script.ScriptLine) (at : Path) (s : Driven) (a b : Tree Machine) → IsSound machines (whole s.tree)
     → subtree at (whole s.tree) ≡ Some a → subtree at (whole (after_script lines s).tree) ≡ Some b
     → machines.left (machine a) ≡ own_steps machines (beyond_all at (steps_of_script lines s)) a + machines.left (machine b)
 script-counts lines at s a b h here there =
@@ -269,7 +269,7 @@ reply-siblings None page to n h = absurd (cc)
 reply-siblings (Some s) None to n h = absurd (cc)
 reply-siblings (Some s) (Some p) to n h = ap (option_map (λ (x : Siblings × ℕ). x.0)) h
 
-pub lists : (line : script.Line) (to : Siblings) (s : Driven) → siblings_of (name_in line) ≢ Some to → (after_line line s).sent to ≡ s.sent to
+pub lists : (line : script.ScriptLine) (to : Siblings) (s : Driven) → siblings_of (name_in line) ≢ Some to → (after_line line s).sent to ≡ s.sent to
 lists (script.step path most) to s apart = refl
 lists (script.ask path) to s apart =
     other-list (asked path s) to s.sent (λ them page is same. apart (reply-siblings (siblings_of path) _ them page is ∙ ap Some same))

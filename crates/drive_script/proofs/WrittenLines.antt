@@ -15,7 +15,7 @@ use Rattle.drive_script.specs.declared.line.Word.{Word}
 use Rattle.drive_script.specs.declared.line.Word.TheVariants.{Step, Ask, Push, Give, Peek, Regs}
 use Rattle.drive_script.specs.declared.error.TheConstants.{BAD_ADDRESS, BAD_NUMBER}
 use Rattle.drive_script.specs.declared.line.TheConstants.{MAX_PAGE, MAX_PLACE, MAX_STEPS}
-use Rattle.drive_script.specs.Script.{Line, step, ask, push, give, peek, regs, address_of, addressed, fields, line_before, line_by, line_named}
+use Rattle.drive_script.specs.Script.{ScriptLine, step, ask, push, give, peek, regs, address_of, addressed, fields, line_before, line_by, line_named}
 use Rattle.drive_script.specs.Script.{line_of, line_valued, lines_from, name_of, named, named_by, number_within, numbered, one_of, parts, script}
 use Rattle.drive_script.specs.Script.{two_of, valued_by, with_word, word_of}
 use Rattle.drive_script.specs.Told.{word_text}
@@ -61,7 +61,7 @@ two-fields : (word name : List ℕ) → All (λ x. 45 < x) word → All (λ x. 4
 two-fields word name a b =
     parts-first 32 word name (free-above 45 32 word (omega arith) a) ∙ ap (λ more. word ∷ more) (parts-last 32 name (free-above 45 32 name (omega arith) b))
 
-line-numbered : (word : List ℕ) (make : Path → ℕ → Line) (path : Path) (most n : ℕ) → All (λ x. 45 < x) word → AreForks path → n ≤ most → most < 2 ^ 32
+line-numbered : (word : List ℕ) (make : Path → ℕ → ScriptLine) (path : Path) (most n : ℕ) → All (λ x. 45 < x) word → AreForks path → n ≤ most → most < 2 ^ 32
     → ((texts : List (List ℕ)) → line_by (word ∷ texts) ≡ line_valued make (numbered most (two_of texts)))
     → line_by (fields (word ++ (32 ∷ (name_text path ++ (32 ∷ decimal n))))) ≡ Ok (make path n)
 line-numbered word make path most n free forks within small is =
@@ -70,7 +70,7 @@ line-numbered word make path most n free forks within small is =
     ∙ is (name_text path ∷ (decimal n ∷ []))
     ∙ ap₂ (λ a b. line_valued make (valued_by BAD_NUMBER a b)) (name-written path forks) (within-decimal 0 most n (omega arith) within (omega (arith, within, small)))
 
-line-only-named : (word : List ℕ) (make : Path → Line) (path : Path) → All (λ x. 45 < x) word → AreForks path
+line-only-named : (word : List ℕ) (make : Path → ScriptLine) (path : Path) → All (λ x. 45 < x) word → AreForks path
     → ((texts : List (List ℕ)) → line_by (word ∷ texts) ≡ line_named make (named (one_of texts)))
     → line_by (fields (word ++ (32 ∷ name_text path))) ≡ Ok (make path)
 line-only-named word make path free forks is =
@@ -78,7 +78,7 @@ line-only-named word make path free forks is =
     ∙ is (name_text path ∷ [])
     ∙ ap (λ a. line_named make (named_by a)) (name-written path forks)
 
-line-written : (line : Line) → IsInForm line → line_of (line_text line) ≡ Ok line
+line-written : (line : ScriptLine) → IsInForm line → line_of (line_text line) ≡ Ok line
 unfolding line_of
 line-written (step path most) is = line-numbered (codes "step") step path MAX_STEPS most (above-test 45 (codes "step") refl) is.0 is.1 (omega arith) (λ texts. refl)
 line-written (ask path) is = line-only-named (codes "ask") ask path (above-test 45 (codes "ask") refl) is (λ texts. refl)
@@ -102,7 +102,7 @@ numbered-above word path n free forks small =
 named-above : (word : List ℕ) (path : Path) → All (λ x. 31 < x) word → AreForks path → All (λ x. 31 < x) (word ++ name_text path)
 named-above word path free forks = All-append (λ x. 31 < x) word (name_text path) free (weaker 31 45 (name_text path) (omega arith) (name-above path forks))
 
-line-above : (line : Line) → IsInForm line → All (λ x. 31 < x) (line_text line)
+line-above : (line : ScriptLine) → IsInForm line → All (λ x. 31 < x) (line_text line)
 line-above (step path most) is = numbered-above (codes "step ") path most (above-test 31 (codes "step ") refl) is.0 (omega (arith, is.1))
 line-above (ask path) is = named-above (codes "ask ") path (above-test 31 (codes "ask ") refl) is
 line-above (push path page) is = numbered-above (codes "push ") path page (above-test 31 (codes "push ") refl) is.0 (omega (arith, is.1))
@@ -113,7 +113,7 @@ line-above (peek path address) is =
     (All-append (λ x. 31 < x) (codes " ") (word_text address) (above-test 31 (codes " ") refl) (weaker 31 47 (word_text address) (omega arith) (word-above address))))
 line-above (regs path) is = named-above (codes "regs ") path (above-test 31 (codes "regs ") refl) is
 
-line-long : (line : Line) → 0 < length (line_text line)
+line-long : (line : ScriptLine) → 0 < length (line_text line)
 line-long (step path most) = omega arith
 line-long (ask path) = omega arith
 line-long (push path page) = omega arith
@@ -121,7 +121,7 @@ line-long (give path place) = omega arith
 line-long (peek path address) = omega arith
 line-long (regs path) = omega arith
 
-texts-read : (number : ℕ) (lines : List Line) → AreInForm lines → lines_from number (parts 10 (script_text lines)) ≡ Ok lines
+texts-read : (number : ℕ) (lines : List ScriptLine) → AreInForm lines → lines_from number (parts 10 (script_text lines)) ≡ Ok lines
 unfolding script_text lines_from
 texts-read number [] is = refl
 texts-read number (line ∷ rest) is =
@@ -130,19 +130,19 @@ texts-read number (line ∷ rest) is =
     ∙ lines_from-more [] number (line_text line) line (parts 10 (script_text rest)) (line-long line) (line-written line is.0)
     ∙ ap (after_lines (line ∷ [])) (texts-read (number + 1) rest is.1)
 
-pub script-written : (lines : List Line) → AreInForm lines → script (script_text lines) ≡ Ok lines
+pub script-written : (lines : List ScriptLine) → AreInForm lines → script (script_text lines) ≡ Ok lines
 unfolding script
 script-written lines is = texts-read 1 lines is
 
 -- ---- the texts of lines
 
-valued-parts : (kind : ℕ) (make : Path → ℕ → Line) (a : Option Path) (b : Option ℕ) (line : Line) → line_valued make (valued_by kind a b) ≡ Ok line
+valued-parts : (kind : ℕ) (make : Path → ℕ → ScriptLine) (a : Option Path) (b : Option ℕ) (line : ScriptLine) → line_valued make (valued_by kind a b) ≡ Ok line
     → (path : Path) × (value : ℕ) × (a ≡ Some path) × (b ≡ Some value) × (make path value ≡ line)
 valued-parts kind make None b line h = cc h
 valued-parts kind make (Some path) None line h = cc h
 valued-parts kind make (Some path) (Some value) line h = (path, value, refl, refl, cc h)
 
-named-parts : (make : Path → Line) (a : Option Path) (line : Line) → line_named make (named_by a) ≡ Ok line → (path : Path) × (a ≡ Some path) × (make path ≡ line)
+named-parts : (make : Path → ScriptLine) (a : Option Path) (line : ScriptLine) → line_named make (named_by a) ≡ Ok line → (path : Path) × (a ≡ Some path) × (make path ≡ line)
 named-parts make None line h = cc h
 named-parts make (Some path) line h = (path, refl, cc h)
 
@@ -173,13 +173,13 @@ word-is word w =
     (first-word word (bytes_eq word (codes "regs")) Regs w None (bytes_eq-Decides word (codes "regs")).0 (no-word word w))))))
 
 -- what a text tells of the line that it is
-abbrev pub IsRead : List ℕ → Line → Type 0
+abbrev pub IsRead : List ℕ → ScriptLine → Type 0
 IsRead text line = IsInForm line × IsTextOf text line
 
 abbrev joined : List (List ℕ) → List ℕ
 joined texts = join_with_byte 32 texts
 
-numbered-read : (spelled : List ℕ) (make : Path → ℕ → Line) (most : ℕ) (word : List ℕ) (texts : List (List ℕ)) (line : Line)
+numbered-read : (spelled : List ℕ) (make : Path → ℕ → ScriptLine) (most : ℕ) (word : List ℕ) (texts : List (List ℕ)) (line : ScriptLine)
     → ((path : Path) (n : ℕ) (text : List ℕ) → AreForks path → n ≤ most → text ≡ spelled ++ (32 ∷ (name_text path ++ (32 ∷ decimal n))) → IsRead text (make path n))
     → word ≡ spelled → line_valued make (numbered most (two_of texts)) ≡ Ok line → IsRead (joined (word ∷ texts)) line
 numbered-read spelled make most word [] line read w h = cc h
@@ -192,7 +192,7 @@ numbered-read spelled make most word (name ∷ (last ∷ [])) line read w h =
     let text = ap₂ (λ a b. a ++ (32 ∷ b)) w (ap₂ (λ a b. a ++ (32 ∷ b)) named.0 number.0) in
     subst (IsRead (joined (word ∷ (name ∷ (last ∷ []))))) is.4 (read is.0 is.1 _ named.1 number.3 text)
 
-peek-read : (word : List ℕ) (texts : List (List ℕ)) (line : Line) → word ≡ codes "peek" → line_valued peek (addressed (two_of texts)) ≡ Ok line → IsRead (joined (word ∷ texts)) line
+peek-read : (word : List ℕ) (texts : List (List ℕ)) (line : ScriptLine) → word ≡ codes "peek" → line_valued peek (addressed (two_of texts)) ≡ Ok line → IsRead (joined (word ∷ texts)) line
 peek-read word [] line w h = cc h
 peek-read word (name ∷ []) line w h = cc h
 peek-read word (name ∷ (last ∷ (more ∷ rest))) line w h = cc h
@@ -203,7 +203,7 @@ peek-read word (name ∷ (last ∷ [])) line w h =
     let text = ap₂ (λ a b. a ++ (32 ∷ (b ++ (32 ∷ last)))) w named.0 in
     subst (IsRead (joined (word ∷ (name ∷ (last ∷ []))))) is.4 ((named.1, address.1), (last, text, address.0))
 
-named-read : (spelled : List ℕ) (make : Path → Line) (word : List ℕ) (texts : List (List ℕ)) (line : Line)
+named-read : (spelled : List ℕ) (make : Path → ScriptLine) (word : List ℕ) (texts : List (List ℕ)) (line : ScriptLine)
     → ((path : Path) (text : List ℕ) → AreForks path → text ≡ spelled ++ (32 ∷ name_text path) → IsRead text (make path))
     → word ≡ spelled → line_named make (named (one_of texts)) ≡ Ok line → IsRead (joined (word ∷ texts)) line
 named-read spelled make word [] line read w h = cc h
@@ -214,7 +214,7 @@ named-read spelled make word (name ∷ []) line read w h =
     let text = ap₂ (λ a b. a ++ (32 ∷ b)) w named.0 in
     subst (IsRead (joined (word ∷ (name ∷ [])))) is.2 (read is.0 _ named.1 text)
 
-worded-read : (word : List ℕ) (texts : List (List ℕ)) (line : Line) (w : Option Word) → word_of word ≡ w → with_word w texts ≡ Ok line → IsRead (joined (word ∷ texts)) line
+worded-read : (word : List ℕ) (texts : List (List ℕ)) (line : ScriptLine) (w : Option Word) → word_of word ≡ w → with_word w texts ≡ Ok line → IsRead (joined (word ∷ texts)) line
 worded-read word texts line None e h = cc h
 worded-read word texts line (Some Step) e h = numbered-read (codes "step") step MAX_STEPS word texts line (λ path n text forks within is. ((forks, within), is)) (word-is word Step e) h
 worded-read word texts line (Some Ask) e h = named-read (codes "ask") ask word texts line (λ path text forks is. (forks, is)) (word-is word Ask e) h
@@ -223,23 +223,23 @@ worded-read word texts line (Some Give) e h = numbered-read (codes "give") give 
 worded-read word texts line (Some Peek) e h = peek-read word texts line (word-is word Peek e) h
 worded-read word texts line (Some Regs) e h = named-read (codes "regs") regs word texts line (λ path text forks is. (forks, is)) (word-is word Regs e) h
 
-fields-read : (texts : List (List ℕ)) (line : Line) → line_by texts ≡ Ok line → IsRead (joined texts) line
+fields-read : (texts : List (List ℕ)) (line : ScriptLine) → line_by texts ≡ Ok line → IsRead (joined texts) line
 fields-read [] line h = cc h
 fields-read (word ∷ texts) line h = worded-read word texts line (word_of word) refl h
 
-pub line-read : (text : List ℕ) (line : Line) → line_of text ≡ Ok line → IsRead text line
+pub line-read : (text : List ℕ) (line : ScriptLine) → line_of text ≡ Ok line → IsRead text line
 unfolding line_of
 line-read text line h = subst (λ bytes. IsRead bytes line) (join_with_byte-slice_split 32 text) (fields-read (fields text) line h)
 
 -- ---- the lines of scripts
 
-before-parts : (number : ℕ) (read : Result Line ℕ) (rest : Result (List Line) (ℕ × ℕ)) (lines : List Line) → line_before number read rest ≡ Ok lines
-    → (line : Line) × (others : List Line) × (read ≡ Ok line) × (rest ≡ Ok others) × (line ∷ others ≡ lines)
+before-parts : (number : ℕ) (read : Result ScriptLine ℕ) (rest : Result (List ScriptLine) (ℕ × ℕ)) (lines : List ScriptLine) → line_before number read rest ≡ Ok lines
+    → (line : ScriptLine) × (others : List ScriptLine) × (read ≡ Ok line) × (rest ≡ Ok others) × (line ∷ others ≡ lines)
 before-parts number (Err kind) rest lines h = cc h
 before-parts number (Ok line) (Err refusal) lines h = cc h
 before-parts number (Ok line) (Ok others) lines h = (line, others, refl, refl, cc h)
 
-texts-in-form : (number : ℕ) (texts : List (List ℕ)) (lines : List Line) → lines_from number texts ≡ Ok lines → AreInForm lines
+texts-in-form : (number : ℕ) (texts : List (List ℕ)) (lines : List ScriptLine) → lines_from number texts ≡ Ok lines → AreInForm lines
 unfolding lines_from
 texts-in-form number [] lines h = (let none : [] ≡ lines = cc h in subst AreInForm none tt)
 texts-in-form number ([] ∷ rest) lines h = texts-in-form (number + 1) rest lines h
@@ -247,6 +247,6 @@ texts-in-form number ((byte ∷ bytes) ∷ rest) lines h =
     let is = before-parts number (line_of (byte ∷ bytes)) (lines_from (number + 1) rest) lines h in
     subst AreInForm is.4 ((line-read (byte ∷ bytes) is.0 is.2).0, texts-in-form (number + 1) rest is.1 is.3)
 
-pub script-in-form : (text : List ℕ) (lines : List Line) → script text ≡ Ok lines → AreInForm lines
+pub script-in-form : (text : List ℕ) (lines : List ScriptLine) → script text ≡ Ok lines → AreInForm lines
 unfolding script
 script-in-form text lines h = texts-in-form 1 (parts 10 text) lines h

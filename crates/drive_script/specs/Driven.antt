@@ -14,7 +14,7 @@ use Rattle.machine_names.specs.NameOrder.{path_cmp}
 use Rattle.world_core.specs.declared.world.World.{World}
 use Rattle.world_core.specs.World.{Forest, StandsFor}
 use Rattle.drive_script.specs.declared.answer.Answer.{Answer}
-use Rattle.drive_script.specs.Script.{Line}
+use Rattle.drive_script.specs.Script.{ScriptLine}
 use Rattle.drive_script.specs.Replies.{Siblings, Replies}
 use Rattle.drive_script.specs.Steps.{live_at}
 use Rattle.drive_script.specs.Told.{Driven, after_line, after_script, answer, begun, steps_of, told_text}
@@ -49,24 +49,24 @@ Keeps lists sent = (to : Siblings) → pages_in (get path_cmp lists (first_of to
 -- ---- lines and scripts
 
 -- memory was wanting in a line: the first of its steps were made, or all that it makes of the forest
-abbrev pub BreaksOff : Shelves → Line → Driven → World → Type 0
+abbrev pub BreaksOff : Shelves → ScriptLine → Driven → World → Type 0
 BreaksOff depot line s w = HasMade depot (steps_of line s.tree) s.tree w ⊎ HasMachines depot w (after_line line s).tree
 
 -- a line, and its answer
-abbrev pub DrivesLine : Shelves → Line → Driven → Result Answer AllocError → World → Type 0
+abbrev pub DrivesLine : Shelves → ScriptLine → Driven → Result Answer AllocError → World → Type 0
 DrivesLine depot line s (Ok a) w = (a ≡ answer line s) × HasMachines depot w (after_line line s).tree
 DrivesLine depot line s (Err e) w = BreaksOff depot line s w
 
 -- memory was wanting in one of the lines, and those before it are done
-pub record HasBrokenOff (depot : Shelves) (lines : List Line) (s : Driven) (w : World) : Type 0 where
-  pub done : List Line
-  pub line : Line
-  pub rest : List Line
+pub record HasBrokenOff (depot : Shelves) (lines : List ScriptLine) (s : Driven) (w : World) : Type 0 where
+  pub done : List ScriptLine
+  pub line : ScriptLine
+  pub rest : List ScriptLine
   pub all : lines ≡ done ++ (line ∷ rest)
   pub breaks : BreaksOff depot line (after_script done s) w
 
 -- the script is done and this is its text, or memory was wanting on the way
-abbrev pub Drives : Shelves → List Line → Tree Paged → Result (Vec ℕ Global) AllocError → World → Type 0
+abbrev pub Drives : Shelves → List ScriptLine → Tree Paged → Result (Vec ℕ Global) AllocError → World → Type 0
 Drives depot lines t (Ok text) w = (text.items ≡ told_text lines t) × HasMachines depot w (after_script lines (begun t)).tree
 Drives depot lines t (Err e) w = HasBrokenOff depot lines (begun t) w
 

@@ -60,10 +60,10 @@ page_at (Some to) place sent = slice_get (sent to) place
 -- ---- what comes
 
 -- what comes of a page, by whether it is here. There is nothing where RAM has no such page
-abbrev pub coming : Option Bool → ℕ → Option Arrived
-coming None page = None
-coming (Some true) page = Some (Had page)
-coming (Some false) page = Some (Got page)
+abbrev pub arrived_by : Option Bool → ℕ → Option Arrived
+arrived_by None page = None
+arrived_by (Some true) page = Some (Had page)
+arrived_by (Some false) page = Some (Got page)
 
 -- the machine with a page that has come, and the tree whose machine has it
 abbrev pub paged_with : ℕ → Paged → Paged

@@ -17,19 +17,19 @@ use Rattle.drive_script.specs.declared.line.Word.{Word}
 use Rattle.drive_script.specs.declared.line.Word.TheVariants.{Step, Ask, Push, Give, Peek, Regs}
 
 -- a line, by the path to the machine that it names
-pub data Line : Type 0 where
+pub data ScriptLine : Type 0 where
   -- at most so many steps
-  step : Path → ℕ → Line
+  step : Path → ℕ → ScriptLine
   -- a reply with the page that the next step waits for is sent to the children of the same ticket
-  ask : Path → Line
+  ask : Path → ScriptLine
   -- a reply with any page is
-  push : Path → ℕ → Line
+  push : Path → ℕ → ScriptLine
   -- the reply at a place among those that were sent arrives
-  give : Path → ℕ → Line
+  give : Path → ℕ → ScriptLine
   -- the word at an address
-  peek : Path → ℕ → Line
+  peek : Path → ℕ → ScriptLine
   -- the registers
-  regs : Path → Line
+  regs : Path → ScriptLine
 
 -- the parts of a text between separators
 abbrev pub parts : ℕ → List ℕ → List (List ℕ)
@@ -140,16 +140,16 @@ addressed None = Err WRONG_FIELDS
 addressed (Some two) = valued_by BAD_ADDRESS (name_of two.0) (address_of two.1)
 
 -- the line of what was read
-abbrev pub line_named : (Path → Line) → Result Path ℕ → Result Line ℕ
+abbrev pub line_named : (Path → ScriptLine) → Result Path ℕ → Result ScriptLine ℕ
 line_named make (Err kind) = Err kind
 line_named make (Ok path) = Ok (make path)
 
-abbrev pub line_valued : (Path → ℕ → Line) → Result (Path × ℕ) ℕ → Result Line ℕ
+abbrev pub line_valued : (Path → ℕ → ScriptLine) → Result (Path × ℕ) ℕ → Result ScriptLine ℕ
 line_valued make (Err kind) = Err kind
 line_valued make (Ok two) = Ok (make two.0 two.1)
 
 -- `step N K`, `ask N`, `push N P`, `give N I`, `peek N ADDR`, `regs N`
-abbrev pub with_fields : Word → List (List ℕ) → Result Line ℕ
+abbrev pub with_fields : Word → List (List ℕ) → Result ScriptLine ℕ
 with_fields Step fields = line_valued step (numbered MAX_STEPS (two_of fields))
 with_fields Ask fields = line_named ask (named (one_of fields))
 with_fields Push fields = line_valued push (numbered MAX_PAGE (two_of fields))
@@ -157,28 +157,28 @@ with_fields Give fields = line_valued give (numbered MAX_PLACE (two_of fields))
 with_fields Peek fields = line_valued peek (addressed (two_of fields))
 with_fields Regs fields = line_named regs (named (one_of fields))
 
-abbrev pub with_word : Option Word → List (List ℕ) → Result Line ℕ
+abbrev pub with_word : Option Word → List (List ℕ) → Result ScriptLine ℕ
 with_word None fields = Err UNKNOWN_WORD
 with_word (Some word) fields = with_fields word fields
 
-abbrev pub line_by : List (List ℕ) → Result Line ℕ
+abbrev pub line_by : List (List ℕ) → Result ScriptLine ℕ
 line_by [] = Err UNKNOWN_WORD
 line_by (word ∷ fields) = with_word (word_of word) fields
 
 -- the line that a text is, or the kind of what is not in form. One space stands between two fields
-unfoldable pub line_of : List ℕ → Result Line ℕ
+unfoldable pub line_of : List ℕ → Result ScriptLine ℕ
 line_of text = line_by (fields text)
 
 -- ---- scripts
 
 -- a line before others. The first that is not in form refuses them
-abbrev pub line_before : ℕ → Result Line ℕ → Result (List Line) (ℕ × ℕ) → Result (List Line) (ℕ × ℕ)
+abbrev pub line_before : ℕ → Result ScriptLine ℕ → Result (List ScriptLine) (ℕ × ℕ) → Result (List ScriptLine) (ℕ × ℕ)
 line_before number (Err kind) rest = Err (number, kind)
 line_before number (Ok line) (Err refusal) = Err refusal
 line_before number (Ok line) (Ok lines) = Ok (line ∷ lines)
 
 -- the lines that these texts are, of which the first has this number. One that is empty is skipped
-unfoldable pub lines_from : ℕ → List (List ℕ) → Result (List Line) (ℕ × ℕ)
+unfoldable pub lines_from : ℕ → List (List ℕ) → Result (List ScriptLine) (ℕ × ℕ)
 lines_from number [] = Ok []
 lines_from number ([] ∷ rest) = lines_from (number + 1) rest
 lines_from number ((byte ∷ bytes) ∷ rest) = line_before number (line_of (byte ∷ bytes)) (lines_from (number + 1) rest)
@@ -186,7 +186,7 @@ lines_from number ((byte ∷ bytes) ∷ rest) = line_before number (line_of (byt
 -- the lines that a text is as a script, or else the number of the first line that is not in form, and its
 -- kind. A line ends with a newline, which the last may lack: nothing stands then behind the last newline,
 -- which is skipped like an empty line
-unfoldable pub script : List ℕ → Result (List Line) (ℕ × ℕ)
+unfoldable pub script : List ℕ → Result (List ScriptLine) (ℕ × ℕ)
 script text = lines_from 1 (parts NEWLINE text)
 
 -- when each error comes. Out of memory may come at any time

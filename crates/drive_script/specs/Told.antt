@@ -13,16 +13,16 @@ use Rattle.forest_model.specs.Paged.{Paged, paged_machines, stalled_at}
 use Rattle.run_report.specs.Lines.{ending_text}
 use Rattle.machine_names.specs.Name.{name_text}
 use Rattle.vm_cell.specs.Shown.{peeked, shown_registers}
-use Rattle.drive_script.specs.Script.{Line, step, ask, push, give, peek, regs}
+use Rattle.drive_script.specs.Script.{ScriptLine, step, ask, push, give, peek, regs}
 use Rattle.drive_script.specs.declared.answer.Answer.{Answer}
 use Rattle.drive_script.specs.declared.answer.Answer.TheVariants.{NoMachine, Ran, Ask, Push, Give, Word, Registers}
 use Rattle.drive_script.specs.declared.answer.SentPlace.{SentPlace}
 use Rattle.drive_script.specs.declared.answer.Why.{Why}
 use Rattle.drive_script.specs.declared.answer.Why.TheVariants.{Ended, Stalls, Waits, MayGoOn}
-use Rattle.drive_script.specs.Replies.{Siblings, Replies, siblings_of, none_sent, reply_to, with_reply, place_of, page_at, coming, with_arrival}
+use Rattle.drive_script.specs.Replies.{Siblings, Replies, siblings_of, none_sent, reply_to, with_reply, place_of, page_at, arrived_by, with_arrival}
 use Rattle.drive_script.specs.Steps.{steps_made, after_steps, why, live_at}
 
-abbrev pub name_in : Line → Path
+abbrev pub name_in : ScriptLine → Path
 name_in (step path most) = path
 name_in (ask path) = path
 name_in (push path page) = path
@@ -50,7 +50,7 @@ abbrev pub made_at : ℕ → Path → Tree Paged → ℕ
 made_at most path t = steps_made paged_machines stalled_at most path t
 
 -- the steps that a line makes. Only `step` makes some
-abbrev pub steps_of : Line → Tree Paged → List Path
+abbrev pub steps_of : ScriptLine → Tree Paged → List Path
 steps_of (step path most) t = replicate (made_at most path t) path
 steps_of (ask path) t = []
 steps_of (push path page) t = []
@@ -77,14 +77,14 @@ pushed path page s = reply_to (siblings_of path) (option_and_then (pushed_of pag
 abbrev pub arrived_at : Option ℕ → Option (Tree Paged) → Option Arrived
 arrived_at None a = None
 arrived_at (Some page) None = None
-arrived_at (Some page) (Some a) = coming (slice_get (machine a).pages.here page) page
+arrived_at (Some page) (Some a) = arrived_by (slice_get (machine a).pages.here page) page
 
 -- `give`: the reply at a place of those that were sent to the machine and its siblings arrives
 abbrev pub given : Path → ℕ → Driven → Option Arrived
 given path place s = arrived_at (page_at (siblings_of path) place s.sent) (live_at paged_machines path s.tree)
 
 -- what the script comes to by a line
-abbrev pub after_line : Line → Driven → Driven
+abbrev pub after_line : ScriptLine → Driven → Driven
 after_line (step path most) s = record s { tree = after_steps paged_machines (made_at most path s.tree) path s.tree }
 after_line (ask path) s = record s { sent = with_reply (asked path s) s.sent }
 after_line (push path page) s = record s { sent = with_reply (pushed path page s) s.sent }
@@ -93,11 +93,11 @@ after_line (peek path address) s = s
 after_line (regs path) s = s
 
 -- the same after a script
-unfoldable pub after_script : List Line → Driven → Driven
+unfoldable pub after_script : List ScriptLine → Driven → Driven
 after_script [] s = s
 after_script (line ∷ rest) s = after_script rest (after_line line s)
 
-unfoldable pub steps_of_script : List Line → Driven → List Path
+unfoldable pub steps_of_script : List ScriptLine → Driven → List Path
 steps_of_script [] s = []
 steps_of_script (line ∷ rest) s = steps_of line s.tree ++ steps_of_script rest (after_line line s)
 
@@ -113,7 +113,7 @@ abbrev pub ran : Path → ℕ → Tree Paged → Answer
 ran path steps t = ran_by steps (subtree path (after_steps paged_machines steps path t))
 
 -- the answer of a line, by the tree of the live machine that it names
-abbrev pub answer_of : Line → Driven → Tree Paged → Answer
+abbrev pub answer_of : ScriptLine → Driven → Tree Paged → Answer
 answer_of (step path most) s a = ran path (made_at most path s.tree) s.tree
 answer_of (ask path) s a = Ask (place_of (reply_to (siblings_of path) (asked_of a)) s.sent)
 answer_of (push path page) s a = Push (place_of (reply_to (siblings_of path) (pushed_of page a)) s.sent)
@@ -122,7 +122,7 @@ answer_of (peek path address) s a = Word (peeked (machine a).machine.state addre
 answer_of (regs path) s a = Registers (shown_registers (machine a).machine.state)
 
 -- where none lives
-abbrev pub unanswered : Line → Answer
+abbrev pub unanswered : ScriptLine → Answer
 unanswered (step path most) = NoMachine
 unanswered (ask path) = Ask None
 unanswered (push path page) = Push None
@@ -130,16 +130,16 @@ unanswered (give path place) = Give None
 unanswered (peek path address) = NoMachine
 unanswered (regs path) = NoMachine
 
-abbrev pub answer_by : Line → Driven → Option (Tree Paged) → Answer
+abbrev pub answer_by : ScriptLine → Driven → Option (Tree Paged) → Answer
 answer_by line s None = unanswered line
 answer_by line s (Some a) = answer_of line s a
 
 -- the answer of a line
-abbrev pub answer : Line → Driven → Answer
+abbrev pub answer : ScriptLine → Driven → Answer
 answer line s = answer_by line s (live_at paged_machines (name_in line) s.tree)
 
 -- the answers of a script, line by line, each with the machine that it is of
-unfoldable pub told : List Line → Driven → List (Path × Answer)
+unfoldable pub told : List ScriptLine → Driven → List (Path × Answer)
 told [] s = []
 told (line ∷ rest) s = (name_in line, answer line s) ∷ told rest (after_line line s)
 
@@ -194,5 +194,5 @@ abbrev pub told_line : Path × Answer → List ℕ
 told_line (path, answer) = name_text path ++ (codes " " ++ (answer_text answer ++ codes "\n"))
 
 -- what a script writes of a forest
-unfoldable pub told_text : List Line → Tree Paged → List ℕ
+unfoldable pub told_text : List ScriptLine → Tree Paged → List ℕ
 told_text lines t = flat_map told_line (told lines (begun t))

@@ -20,7 +20,7 @@ use Rattle.world_core.specs.World.{Forest, StandsFor}
 use Rattle.drive_script.specs.declared.answer.Why.{Why}
 use Rattle.drive_script.specs.declared.turn.TurnOutcome.{TurnOutcome}
 use Rattle.drive_script.specs.declared.turn.TurnOutcome.TheVariants.{NoMachine, Stopped, Called}
-use Rattle.drive_script.specs.Replies.{coming, with_arrival}
+use Rattle.drive_script.specs.Replies.{arrived_by, with_arrival}
 use Rattle.drive_script.specs.Steps.{after_steps, why, live_at}
 use Rattle.drive_script.specs.Told.{made_at}
 use Rattle.drive_script.specs.Driven.{HasMachines, HasMade}
@@ -67,7 +67,7 @@ pub record HasBack (depot : Shelves) (w : World) (t : Tree Paged) (lease : Lent)
 -- the answer where a page comes to a machine on lease that has made no step
 abbrev pub Brings : Shelves → World → Tree Paged → ℕ → Lent → Result (Option Arrived) AllocError → Lent → Type 0
 Brings depot w t page old (Ok arrived) new =
-    (arrived ≡ coming (slice_get old.pages.here page) page) × (new.name ≡ old.name) × (new.ran ≡ 0) × HasLent depot w (with_arrival old.name arrived t) new
+    (arrived ≡ arrived_by (slice_get old.pages.here page) page) × (new.name ≡ old.name) × (new.ran ≡ 0) × HasLent depot w (with_arrival old.name arrived t) new
 Brings depot w t page old (Err e) new = new ≡ old
 
 -- ---- its call

@@ -11,7 +11,7 @@ ghost use Rattle.forest_model.specs.Machine.{Machine};
 ghost use Rattle.forest_model.specs.Forest.{finish, machines, port_of};
 ghost use Rattle.forest_model.specs.Paged.{Paged, paged_machines, stalled_at};
 ghost use Rattle.machine_names.specs.Name.{name_text};
-ghost use Rattle.drive_script.specs.Script.{Line, address_of, ask, give, line_of, name_of, number_within, push, script, step};
+ghost use Rattle.drive_script.specs.Script.{ScriptLine, address_of, ask, give, line_of, name_of, number_within, push, script, step};
 ghost use Rattle.drive_script.specs.declared.answer.Answer.TheVariants.{Ran};
 ghost use Rattle.drive_script.specs.declared.answer.Why.TheVariants.{MayGoOn};
 ghost use Rattle.drive_script.specs.Replies.{Siblings, siblings_of};
@@ -33,9 +33,9 @@ pub fn fields_have_one_text()
 /// Each list of lines within the limits has a text that is read as just these lines. All that is read is within
 /// the limits, and a line is read from its one text alone.
 pub fn scripts_are_read_as_written()
-    ensures written { (lines : List Line) → AreInForm lines → script (script_text lines) ≡ Ok lines }
-    ensures in_form { (text : List ℕ) (lines : List Line) → script text ≡ Ok lines → AreInForm lines }
-    ensures line { (text : List ℕ) (line : Line) → line_of text ≡ Ok line → IsTextOf text line }
+    ensures written { (lines : List ScriptLine) → AreInForm lines → script (script_text lines) ≡ Ok lines }
+    ensures in_form { (text : List ℕ) (lines : List ScriptLine) → script text ≡ Ok lines → AreInForm lines }
+    ensures line { (text : List ℕ) (line : ScriptLine) → line_of text ≡ Ok line → IsTextOf text line }
 {}
 
 /// A line about one machine changes no other. What is not below it keeps its machine and its log, and what it
@@ -43,19 +43,19 @@ pub fn scripts_are_read_as_written()
 /// more was dropped by a step of the line: a kill of its ticket or an end, or a join that took it with all
 /// children of the ticket, which had ended. And what was sent to others than the machine and its siblings stays.
 pub fn lines_change_one_machine()
-    ensures others { (line : Line) (at : Path) (s : Driven) → at ≢ name_in line → is_below (name_in line) at ≡ false
+    ensures others { (line : ScriptLine) (at : Path) (s : Driven) → at ≢ name_in line → is_below (name_in line) at ≡ false
         → option_map machine (subtree at (after_line line s).tree) ≡ option_map machine (subtree at s.tree) }
-    ensures logs { (line : Line) (at : Path) (s : Driven) → at ≢ name_in line → is_below (name_in line) at ≡ false
+    ensures logs { (line : ScriptLine) (at : Path) (s : Driven) → at ≢ name_in line → is_below (name_in line) at ≡ false
         → option_map log_of (subtree at (after_line line s).tree) ≡ option_map log_of (subtree at s.tree) }
-    ensures apart { (line : Line) (at : Path) (s : Driven) → is_below (name_in line) at ≡ false → beyond at (name_in line) ≡ None
+    ensures apart { (line : ScriptLine) (at : Path) (s : Driven) → is_below (name_in line) at ≡ false → beyond at (name_in line) ≡ None
         → subtree at (after_line line s).tree ≡ subtree at s.tree }
-    ensures below { (line : Line) (at : Path) (s : Driven) (a b : Tree Paged) → IsSound paged_machines s.tree → is_below (name_in line) at ≡ true
+    ensures below { (line : ScriptLine) (at : Path) (s : Driven) (a b : Tree Paged) → IsSound paged_machines s.tree → is_below (name_in line) at ≡ true
         → subtree at s.tree ≡ Some a → subtree at (after_line line s).tree ≡ Some b → b ≡ a }
-    ensures gone { (line : Line) (b : Branch) (rest : Path) (s : Driven) (a : Tree Paged) → IsSound paged_machines s.tree
+    ensures gone { (line : ScriptLine) (b : Branch) (rest : Path) (s : Driven) (a : Tree Paged) → IsSound paged_machines s.tree
         → subtree (name_in line ++ (b ∷ rest)) s.tree ≡ Some a → subtree (name_in line ++ (b ∷ rest)) (after_line line s).tree ≡ None
         → (n : ℕ) × (n < length (steps_of line s.tree)) × (x : Tree Paged)
         × (subtree (name_in line) (after_steps paged_machines n (name_in line) s.tree) ≡ Some x) × Drops paged_machines b.ticket x }
-    ensures lists { (line : Line) (to : Siblings) (s : Driven) → siblings_of (name_in line) ≢ Some to → (after_line line s).sent to ≡ s.sent to }
+    ensures lists { (line : ScriptLine) (to : Siblings) (s : Driven) → siblings_of (name_in line) ≢ Some to → (after_line line s).sent to ≡ s.sent to }
 {}
 
 /// A line of steps is one line of the first of them and then one of the others.
@@ -104,13 +104,13 @@ pub fn replies_change_no_machine()
 /// the forest comes to. What becomes of a machine with all below it is what the steps at its place and below make
 /// of it alone, in their order, and as many of them are its own as it has counted.
 pub fn scripts_are_steps()
-    ensures steps { (lines : List Line) (s : Driven) → whole (after_script lines s).tree ≡ settle_all machines (steps_of_script lines s) (whole s.tree) }
-    ensures sound { (lines : List Line) (s : Driven) → IsSound machines (whole s.tree) → IsSound machines (whole (after_script lines s).tree) }
-    ensures end { (lines : List Line) (s : Driven) → IsSound machines (whole s.tree) → finish (whole (after_script lines s).tree) ≡ finish (whole s.tree) }
-    ensures alone { (lines : List Line) (at : Path) (s : Driven) (a b : Tree Machine) → IsSound machines (whole s.tree)
+    ensures steps { (lines : List ScriptLine) (s : Driven) → whole (after_script lines s).tree ≡ settle_all machines (steps_of_script lines s) (whole s.tree) }
+    ensures sound { (lines : List ScriptLine) (s : Driven) → IsSound machines (whole s.tree) → IsSound machines (whole (after_script lines s).tree) }
+    ensures end { (lines : List ScriptLine) (s : Driven) → IsSound machines (whole s.tree) → finish (whole (after_script lines s).tree) ≡ finish (whole s.tree) }
+    ensures alone { (lines : List ScriptLine) (at : Path) (s : Driven) (a b : Tree Machine) → IsSound machines (whole s.tree)
         → subtree at (whole s.tree) ≡ Some a → subtree at (whole (after_script lines s).tree) ≡ Some b
         → b ≡ settle_all machines (beyond_all at (steps_of_script lines s)) a }
-    ensures counted { (lines : List Line) (at : Path) (s : Driven) (a b : Tree Machine) → IsSound machines (whole s.tree)
+    ensures counted { (lines : List ScriptLine) (at : Path) (s : Driven) (a b : Tree Machine) → IsSound machines (whole s.tree)
         → subtree at (whole s.tree) ≡ Some a → subtree at (whole (after_script lines s).tree) ≡ Some b
         → machines.left (machine a) ≡ own_steps machines (beyond_all at (steps_of_script lines s)) a + machines.left (machine b) }
 {}

@@ -24,7 +24,7 @@ impl Model for Script {
     ghost use Rattle.drive_script.specs.Lines.{lines_read};
     ghost use Rattle.drive_script.specs.Script as told;
 
-    ghost Value = { List told.Line };
+    ghost Value = { List told.ScriptLine };
 
     ghost view = { λ s. lines_read s.lines.items };
 }

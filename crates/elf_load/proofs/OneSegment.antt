@@ -1,5 +1,6 @@
 -- Files that `elf_of` writes, and the image that they load.
-use Rattle.std.proofs.Common.{◌≡◌, ℕ, ◌+◌, ◌-◌, ◌*◌, ◌/◌, ◌%◌, ◌<◌, ◌≤◌, ◌^◌, Bool, true, false, not, cond, eqb, ltb, leb, max, min, List, [], ◌∷◌, ◌++◌, length, get_or, drop, Some, None, Ok, refl, sym, ap, ◌∙◌, inl, inr, arith}
+use Rattle.std.proofs.Common.{◌≡◌, ℕ, ◌+◌, ◌-◌, ◌*◌, ◌/◌, ◌%◌, ◌<◌, ◌≤◌, ◌^◌, Bool, true, false, not, cond, eqb, ltb, leb, max, min}
+use Rattle.std.proofs.Common.{List, [], ◌∷◌, ◌++◌, length, get_or, drop, Some, None, Ok, refl, sym, ap, ◌∙◌, inl, inr, arith}
 use Rattle.std.specs.Prelude.{◌||◌, ◌&&◌, ◌⊎◌, map, filter}
 use Rattle.std.specs.List.{list_any, range_with_len, starts_with}
 use Rattle.std.proofs.lemmas.Bool.{cases_Bool, cases_lt, cond-true, cond-false, le-ltb, lt-ltb, ltb-false, le-leb, lt-leb, eq-eqb, and_from, and_left, and_right, or_from, not_from_true}
@@ -8,9 +9,13 @@ use Rattle.std.proofs.lemmas.List.FromFn.{fill_by_all, length-map-range_with_len
 use Rattle.std.proofs.lemmas.List.Sorted.{IsPermutation-refl}
 use Rattle.flat_memory.specs.Flat.{half_at, word_at, zeros}
 use Rattle.flat_memory.proofs.Zeros.{length-zeros, get_or-zeros}
-use Rattle.elf_load.specs.Elf.{e_type, e_machine, e_version, e_entry, e_phoff, e_phentsize, e_phnum, p_type, segment_at, header_rules, place_rules, rules_of, first_broken, loads_among, loads_of, segments_of, non_empty, loaded, unless_refused, image_of, covers, touches, segment_byte, byte_at, ram_of, pages_of, ram_end, page_start, end_of, is_entry, is_cut, is_outside, is_overfull, overlap}
+use Rattle.elf_load.specs.Elf.{e_type, e_machine, e_version, e_entry, e_phoff, e_phentsize, e_phnum, p_type, segment_at}
+use Rattle.elf_load.specs.Elf.{header_rules, place_rules, rules_of, first_broken, loads_among, loads_of, segments_of, non_empty}
+use Rattle.elf_load.specs.Elf.{loaded, unless_refused, image_of, covers, touches, segment_byte, byte_at, ram_of}
+use Rattle.elf_load.specs.Elf.{pages_of, ram_end, page_start, end_of, is_entry, is_cut, is_outside, is_overfull, overlap}
 use Rattle.elf_load.specs.OneSegment.{headers, elf_of, image_of_code}
-use Rattle.elf_load.specs.declared.image.TheConstants.{RAM_BASE, PAGE_SIZE, MAX_PAGES}
+use Rattle.elf_load.specs.declared.image.TheConstants.{RAM_BASE, MAX_PAGES}
+use Rattle.page_frames.specs.declared.page.TheConstants.{PAGE_SIZE}
 use Rattle.elf_load.specs.declared.header.TheConstants.{MAGIC}
 use Rattle.elf_load.specs.declared.segment.Segment.{Segment}
 use Rattle.elf_load.proofs.Order.{same_map}

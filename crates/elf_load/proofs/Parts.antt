@@ -12,7 +12,7 @@ use Rattle.page_frames.specs.declared.entry.Entry.TheVariants.{Held}
 use Rattle.page_frames.specs.Tables.{entry_at, entry_bytes, is_own, laid_over}
 use Rattle.page_frames.proofs.Memory.{length-laid_over, write_in_page}
 use Rattle.elf_load.specs.Elf.{part_in}
-use Rattle.elf_load.specs.declared.image.TheConstants.{PAGE_SIZE}
+use Rattle.page_frames.specs.declared.page.TheConstants.{PAGE_SIZE}
 
 -- no bytes change nothing
 put_none : (memory : List ℕ) (at : ℕ) → put_bytes memory at [] ≡ memory

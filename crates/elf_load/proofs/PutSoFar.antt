@@ -10,7 +10,7 @@ use Rattle.page_frames.specs.Tables.{entry_at, entry_bytes, is_own, laid_over}
 use Rattle.page_frames.proofs.Memory.{length-laid_over}
 use Rattle.elf_load.specs.Image.{IsWhole, held_pages, is_held}
 use Rattle.elf_load.specs.Elf.{part_in}
-use Rattle.elf_load.specs.declared.image.TheConstants.{PAGE_SIZE}
+use Rattle.page_frames.specs.declared.page.TheConstants.{PAGE_SIZE}
 use Rattle.elf_load.proofs.Parts.{IsPutTo, put_first, put_last, put_next}
 use Rattle.elf_load.proofs.RamPages.{AreSet, set_more, set_none}
 

@@ -1,5 +1,6 @@
 -- What the rules that are broken, or not, tell of a file.
-use Rattle.std.proofs.Common.{◌≡◌, ℕ, ◌+◌, ◌*◌, ◌%◌, ◌<◌, ◌≤◌, Bool, true, false, not, cond, eqb, ltb, leb, List, [], ◌∷◌, ◌++◌, length, Option, Some, None, Ok, Err, refl, sym, ap, ◌∙◌, inl, inr, arith}
+use Rattle.std.proofs.Common.{◌≡◌, ℕ, ◌+◌, ◌*◌, ◌%◌, ◌<◌, ◌≤◌, Bool, true, false, not, cond, eqb, ltb, leb, List, []}
+use Rattle.std.proofs.Common.{◌∷◌, ◌++◌, length, Option, Some, None, Ok, Err, refl, sym, ap, ◌∙◌, inl, inr, arith}
 use Rattle.std.specs.Prelude.{All, ◌&&◌}
 use Rattle.std.specs.List.{AllPairs, list_any}
 use Rattle.std.specs.List.Sorted.{IsPermutation}
@@ -7,10 +8,12 @@ use Rattle.std.proofs.lemmas.Bool.{cases_Bool, cond-true, cond-false, both_ways,
 use Rattle.std.proofs.lemmas.List.Elements.{All-filter, All-weaker, filter_passes}
 use Rattle.std.proofs.lemmas.List.Folds.{list_any_at}
 use Rattle.std.proofs.lemmas.List.Sorted.{All-permutation, list_any-IsPermutation}
-use Rattle.elf_load.specs.Elf.{header_rules, place_rules, rules_of, first_broken, loads_of, segments_of, non_empty, e_entry, is_overfull, is_cut, is_outside, overlap, is_entry, loaded, image_of, unless_refused, end_of, ram_end, IsRefused, NamesRule, IsInFile, IsInRam}
+use Rattle.elf_load.specs.Elf.{header_rules, place_rules, rules_of, first_broken, loads_of, segments_of, non_empty, e_entry, is_overfull, is_cut, is_outside}
+use Rattle.elf_load.specs.Elf.{overlap, is_entry, loaded, image_of, unless_refused, end_of, ram_end, IsRefused, NamesRule, IsInFile, IsInRam}
 use Rattle.elf_load.specs.declared.error.ImageError.{ImageError}
 use Rattle.elf_load.specs.declared.error.ImageError.TheVariants.{Refused, Memory}
-use Rattle.elf_load.specs.declared.image.TheConstants.{RAM_BASE, PAGE_SIZE}
+use Rattle.elf_load.specs.declared.image.TheConstants.{RAM_BASE}
+use Rattle.page_frames.specs.declared.page.TheConstants.{PAGE_SIZE}
 use Rattle.elf_load.specs.declared.segment.Segment.{Segment}
 use Rattle.elf_load.proofs.Overlap.{overlap-IsPermutation}
 

@@ -13,7 +13,8 @@ use Rattle.page_frames.specs.Tables.{byte_over, entry_at, is_own, laid_over}
 use Rattle.page_frames.proofs.Memory.{get_or-laid_over, length-laid_over}
 use Rattle.elf_load.specs.Image.{IsWhole, held_pages, is_held}
 use Rattle.elf_load.specs.Elf.{IsBelow, IsInFile, IsInRam, byte_at, end_of, pages_of, ram_of, touches}
-use Rattle.elf_load.specs.declared.image.TheConstants.{RAM_BASE, PAGE_SIZE}
+use Rattle.elf_load.specs.declared.image.TheConstants.{RAM_BASE}
+use Rattle.page_frames.specs.declared.page.TheConstants.{PAGE_SIZE}
 use Rattle.elf_load.specs.declared.segment.Segment.{Segment}
 use Rattle.elf_load.proofs.RamBytes.{bytes_put, in_order_before}
 

@@ -1,6 +1,7 @@
 -- Which files are loaded, and what loading one gives: ELF executables for RV32.
 -- System V gABI, "ELF Header" and "Program Header"; RISC-V ELF psABI, "File Header"
-use Rattle.std.specs.Prelude.{◌≡◌, ℕ, ◌+◌, ◌-◌, ◌*◌, ◌%◌, ◌<◌, ◌≤◌, ◌==◌, Bool, true, false, not, ◌&&◌, ◌||◌, nat_eq, nat_lt, nat_le, max, min, if◌then◌else◌, List, [], ◌∷◌, ◌++◌, length, map, filter, slice_index, Option, Some, None, Result, Ok, Err, ⊤}
+use Rattle.std.specs.Prelude.{◌≡◌, ℕ, ◌+◌, ◌-◌, ◌*◌, ◌%◌, ◌<◌, ◌≤◌, ◌==◌, Bool, true, false, not, ◌&&◌, ◌||◌, nat_eq, nat_lt, nat_le, max, min}
+use Rattle.std.specs.Prelude.{if◌then◌else◌, List, [], ◌∷◌, ◌++◌, length, map, filter, slice_index, Option, Some, None, Result, Ok, Err, ⊤}
 use Rattle.std.specs.List.{list_any, range_with_len, slice_range, starts_with}
 use Rattle.flat_memory.specs.Flat.{half_at, word_at}
 use Rattle.elf_load.specs.Image.{Image}
@@ -8,7 +9,8 @@ use Rattle.elf_load.specs.declared.error.ImageError.{ImageError}
 use Rattle.elf_load.specs.declared.error.ImageError.TheVariants.{Refused, Memory}
 use Rattle.elf_load.specs.declared.header.Header.{Header}
 use Rattle.elf_load.specs.declared.header.TheConstants.{MAGIC, HEADER_SIZE, ELFCLASS32, ELFDATA2LSB, EV_CURRENT, ET_EXEC, EM_RISCV, PN_XNUM}
-use Rattle.elf_load.specs.declared.image.TheConstants.{RAM_BASE, PAGE_SIZE}
+use Rattle.elf_load.specs.declared.image.TheConstants.{RAM_BASE}
+use Rattle.page_frames.specs.declared.page.TheConstants.{PAGE_SIZE}
 use Rattle.elf_load.specs.declared.segment.Segment.{Segment}
 use Rattle.elf_load.specs.declared.segment.TheConstants.{PROGRAM_HEADER_SIZE, PT_LOAD}
 

@@ -3,7 +3,8 @@ use Rattle.std.specs.Prelude.{◌≡◌, ℕ, ◌+◌, ◌*◌, ◌/◌, ◌%◌
 use Rattle.page_frames.specs.declared.entry.Entry.{Entry}
 use Rattle.page_frames.specs.declared.entry.Entry.TheVariants.{Held, Blank, Absent}
 use Rattle.page_frames.specs.Tables.{is_own, laid_over}
-use Rattle.elf_load.specs.declared.image.TheConstants.{RAM_BASE, PAGE_SIZE, MIN_PAGES, MAX_PAGES}
+use Rattle.elf_load.specs.declared.image.TheConstants.{RAM_BASE, MIN_PAGES, MAX_PAGES}
+use Rattle.page_frames.specs.declared.page.TheConstants.{PAGE_SIZE}
 
 -- what an image puts into a machine: the bytes of RAM, the address of the first instruction, and for
 -- each page of RAM whether a byte of a segment falls in it

@@ -2,14 +2,11 @@ ghost use Rattle.std.specs.Prelude.{◌≡◌, ◌+◌, ◌*◌, ◌%◌, ◌<�
 ghost use Rattle.page_frames.specs.Tables.{laid_over};
 ghost use Rattle.elf_load.specs.Image.{IsWhole, held_pages};
 
-use page_frames::PageTable;
+use page_frames::{PAGE_SIZE, PageTable};
 use std::marker::Model;
 
 /// The address of the first byte of RAM.
 pub const RAM_BASE: u32 = 0x8000_0000;
-
-/// The bytes of a page.
-pub const PAGE_SIZE: usize = 4096;
 
 /// The fewest pages that RAM has.
 pub const MIN_PAGES: u32 = 16;

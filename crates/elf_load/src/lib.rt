@@ -9,5 +9,5 @@ mod memory;
 mod segment;
 
 pub use error::ImageError;
-pub use image::{Loaded, MAX_PAGES, MIN_PAGES, PAGE_SIZE, RAM_BASE};
+pub use image::{Loaded, MAX_PAGES, MIN_PAGES, RAM_BASE};
 pub use loader::{load_elf, one_segment};

@@ -6,9 +6,10 @@ ghost use Rattle.elf_load.specs.OneSegment.{elf_of, bytes_of_words, words_of, im
 
 use crate::error::ImageError;
 use crate::header::Header;
-use crate::image::{Loaded, MAX_PAGES, MIN_PAGES, PAGE_SIZE, RAM_BASE};
+use crate::image::{Loaded, MAX_PAGES, MIN_PAGES, RAM_BASE};
 use crate::memory::table_of;
 use crate::segment::{Segment, segments_by_address};
+use page_frames::PAGE_SIZE;
 use std::alloc::{AllocError, Global};
 
 /// Loads an ELF executable for RISC-V of 32 bits into RAM of `ram_pages` pages. Each segment goes to its

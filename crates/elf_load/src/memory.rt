@@ -7,9 +7,9 @@ ghost use Rattle.page_frames.specs.Tables.{entry_at, entry_bytes, laid_over};
 ghost use Rattle.elf_load.specs.Image.{IsWhole, held_pages};
 ghost use Rattle.elf_load.specs.Elf.{IsInFile, IsInRam, IsBelow, pages_of, part_in, ram_of, touches};
 
-use crate::image::{MAX_PAGES, PAGE_SIZE, RAM_BASE};
+use crate::image::{MAX_PAGES, RAM_BASE};
 use crate::segment::Segment;
-use page_frames::{Entry, PageTable, write_page};
+use page_frames::{Entry, PAGE_SIZE, PageTable, write_page};
 use shared_leaves::SharedList;
 use std::alloc::{AllocError, Global};
 

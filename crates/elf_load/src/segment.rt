@@ -5,8 +5,9 @@ ghost use Rattle.elf_load.specs.Elf.{segment_at, end_of, is_outside, loads_of, s
 
 use crate::error::ImageError;
 use crate::header::Header;
-use crate::image::{PAGE_SIZE, RAM_BASE};
+use crate::image::RAM_BASE;
 use flat_memory::read_word;
+use page_frames::PAGE_SIZE;
 use std::alloc::{AllocError, Global};
 
 /// The bytes of a program header.

@@ -2,7 +2,8 @@
 use Rattle.std.proofs.Common.{◌≡◌, ℕ, zero, suc, ◌&&◌, not, eqb, Bool, true, false, cond, refl, sym, ap, ap₂, ◌∙◌, [], ◌∷◌, ◌++◌, replicate, Option, Some, None, option_and_then, option_map, is_some}
 use Rattle.std.proofs.lemmas.Bool.{and_parts, not-true}
 use Rattle.forest_tree.specs.Operations.{Operations}
-use Rattle.forest_tree.specs.Tree.{Tree, node, Trees, no_tree, tree, Broods, no_brood, brood, Log, machine, log_of, at_child, child_at, brood_of, at_brood, Branch, Path, subtree, beyond, goes_on, is_below}
+use Rattle.forest_tree.specs.Tree.{Tree, node, Trees, no_tree, tree, Broods, no_brood, brood, Log, machine, log_of, at_child}
+use Rattle.forest_tree.specs.Tree.{child_at, brood_of, at_brood, Branch, Path, subtree, beyond, goes_on, is_below}
 use Rattle.forest_tree.specs.Settle.{settled_by, settled, step, settle, settle_all}
 use Rattle.forest_tree.proofs.Broods.{eqb-same}
 use Rattle.forest_tree.proofs.Places.{branch-sym, child-moved}

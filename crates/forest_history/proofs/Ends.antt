@@ -14,7 +14,7 @@ use Rattle.forest_tree.proofs.Schedules.{settle_all-keeps, finish-settle_all}
 use Rattle.forest_tree.proofs.Projected.{step-map, finish-map}
 use Rattle.forest_history.specs.Places.{at_path, Place, home, out, parked, Spot, placed, bare, spots, steps}
 use Rattle.forest_history.specs.World.{World, world_of}
-use Rattle.forest_history.specs.Rows.{How, gave, ended, forked, joined, killed, waited, Row, over, stopped, idle, took, nothing, spent, dropped, kept, halted, spend, came_back, does}
+use Rattle.forest_history.specs.Rows.{How, gave, ended, forked, joined, killed, waited, Row, over, stopped, idle, took, wake_failed, spent, dropped, kept, halted, spend, came_back, does}
 use Rattle.forest_history.proofs.Changes.{at_path-agree, at_path-leaves, at_path-twice, settle-changes, settle_all-changes}
 use Rattle.forest_history.proofs.Spots.{projects, machine-spots}
 
@@ -221,7 +221,7 @@ module _ {M E : Type 0} (o : Operations M E) where
     does-sound idle w h = h
     does-sound (took name) w h =
         (at_path-keeps (spots o) (machine-spots o rules) (placed out) (λ t sound. placed-keeps out t sound) name w.tree h).sound
-    does-sound nothing w h = h
+    does-sound wake_failed w h = h
     does-sound (spent how name k) w h =
         (at_path-keeps (spots o) (machine-spots o rules) (came_back o how k) (λ t sound. came_back-keeps how k t sound) name w.tree h).sound
     does-sound (dropped name) w h = h
@@ -237,7 +237,7 @@ module _ {M E : Type 0} (o : Operations M E) where
     does-leaves (took name) w h =
         ap (finish o)
         (at_path-map inner (placed out) (λ u. u) (λ u. bare-placed out u) name w.tree ∙ at_path-leaves (λ u. u) (λ u. refl) name (bare w.tree))
-    does-leaves nothing w h = refl
+    does-leaves wake_failed w h = refl
     does-leaves (spent how name k) w h = spent-leaves how k name w.tree h
     does-leaves (dropped name) w h = refl
     does-leaves (kept name k) w h = refl

@@ -1,8 +1,8 @@
 -- Names that are the same, and who holds them.
-use Rattle.std.proofs.Common.{◌≡◌, ℕ, ◌&&◌, eqb, eqb-true, Bool, true, false, cond, refl, sym, ap, ap₂, ◌∙◌, List, [], ◌∷◌, Some, None}
+use Rattle.std.proofs.Common.{◌≡◌, ◌≢◌, ℕ, ◌&&◌, eqb, eqb-true, Bool, true, false, cond, refl, sym, ap, ap₂, ◌∙◌, subst, List, [], ◌∷◌, Option, Some, None, IsSomeAnd}
 use Rattle.forest_tree.specs.Tree.{Branch, Path, beyond}
 use Rattle.forest_tree.proofs.Broods.{eqb-same}
-use Rattle.forest_history.specs.Histories.{Holding, is_nothing_left, is_same_path, holding, without_name}
+use Rattle.forest_history.specs.Histories.{Seat, Holding, is_nothing_left, is_same_path, holding, without_name, IsHeldBy}
 
 abbrev branch : ℕ → ℕ → Branch
 branch ticket child = record { ticket = ticket; child = child }
@@ -61,3 +61,26 @@ module _ {M : Type 0} where
           let not_it : is_same_path h.name name ≡ false = ap (λ a. is_same_path a name) (same-is h.name other e) ∙ apart in
           down ∙ sym (ap (λ b. cond b (Some h) (holding name rest)) not_it)
       by false e down = ap (cond (is_same_path h.name name) (Some h)) down
+
+  -- a name that is held after another was handed back is not that one, and was held
+  pub left-held : (other name : Path) (held : List (Holding M)) (x : Holding M) → holding name (without_name other held) ≡ Some x
+      → (is_same_path other name ≡ false) × (holding name held ≡ Some x)
+  left-held other name held x found = by (is_same_path other name) refl
+    where
+      by : (same : Bool) → is_same_path other name ≡ same → (is_same_path other name ≡ false) × (holding name held ≡ Some x)
+      by true e =
+          let none : None ≡ Some x = sym (without-same name held) ∙ ap (λ n. holding name (without_name n held)) (sym (same-is other name e)) ∙ found in
+          absurd (cc)
+      by false e = (e, sym (without-other other name held e) ∙ found)
+
+  -- what one seat holds no other hands back
+  pub left-holds : (seat giver : Seat) (other name : Path) (held : List (Holding M)) (x : Holding M) → giver ≢ seat → IsHeldBy giver other held
+      → holding name held ≡ Some x → x.seat ≡ seat → holding name (without_name other held) ≡ Some x
+  left-holds seat giver other name held x unlike back found mine = by (is_same_path other name) refl
+    where
+      by : (same : Bool) → is_same_path other name ≡ same → holding name (without_name other held) ≡ Some x
+      by false e = without-other other name held e ∙ found
+      by true e =
+          let is : x.seat ≡ giver =
+          subst (λ (c : Option (Holding M)). IsSomeAnd c (λ (h : Holding M). h.seat ≡ giver)) found (subst (λ n. IsHeldBy giver n held) (same-is other name e) back) in
+          absurd (unlike (sym is ∙ mine))

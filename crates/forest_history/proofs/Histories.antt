@@ -4,7 +4,7 @@ use Rattle.forest_tree.specs.Operations.{Operations, IsMachine}
 use Rattle.forest_tree.specs.Sound.{IsSound}
 use Rattle.forest_tree.specs.Finish.{finish}
 use Rattle.forest_history.specs.Places.{bare, spots}
-use Rattle.forest_history.specs.Histories.{Seat, Entry, row, told, heard, mute, deaf, History, Record, Permits, record_after, replay, IsLegal}
+use Rattle.forest_history.specs.Histories.{Seat, Entry, row, told, heard, tell_failed, hear_failed, History, Record, Permits, record_after, replay, IsLegal}
 use Rattle.forest_history.proofs.Ends.{does-sound, does-leaves}
 
 module _ {M E : Type 0} (o : Operations M E) where
@@ -46,8 +46,8 @@ module _ {M E : Type 0} (o : Operations M E) where
     after-sound seat (row x) r h = does-sound o rules x r.world h
     after-sound seat (told image page) r h = h
     after-sound seat (heard place) r h = h
-    after-sound seat mute r h = h
-    after-sound seat (deaf place) r h = h
+    after-sound seat tell_failed r h = h
+    after-sound seat (hear_failed place) r h = h
 
     pub replay-sound : {R : Type 0} (history : History R) (r : Record M R) → IsSound (spots o) r.world.tree
         → IsSound (spots o) (replay o history r).world.tree
@@ -61,8 +61,8 @@ module _ {M E : Type 0} (o : Operations M E) where
     after-leaves seat (row x) r h = does-leaves o rules x r.world h
     after-leaves seat (told image page) r h = refl
     after-leaves seat (heard place) r h = refl
-    after-leaves seat mute r h = refl
-    after-leaves seat (deaf place) r h = refl
+    after-leaves seat tell_failed r h = refl
+    after-leaves seat (hear_failed place) r h = refl
 
     pub replay-leaves : {R : Type 0} (history : History R) (r : Record M R) → IsSound (spots o) r.world.tree
         → finish o (bare (replay o history r).world.tree) ≡ finish o (bare r.world.tree)

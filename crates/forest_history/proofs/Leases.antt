@@ -1,5 +1,6 @@
 -- A machine that a seat holds stands as it was taken, or has left the tree for good.
-use Rattle.std.proofs.Common.{◌≡◌, ◌≢◌, ◌⊎◌, inl, inr, ℕ, zero, suc, ◌&&◌, eqb, not, Bool, true, false, cond, refl, sym, ap, ◌∙◌, subst, List, [], ◌∷◌, ◌++◌, replicate, Option, Some, None, IfSome, IsSomeAnd, All, option_and_then, option_map}
+use Rattle.std.proofs.Common.{◌≡◌, ◌≢◌, ◌⊎◌, inl, inr, ℕ, zero, suc, ◌&&◌, eqb, not, Bool, true, false, cond, refl, sym, ap, ◌∙◌, subst}
+use Rattle.std.proofs.Common.{List, [], ◌∷◌, ◌++◌, replicate, Option, Some, None, IfSome, All, option_and_then, option_map}
 use Rattle.std.proofs.lemmas.Bool.{and_parts}
 use Rattle.std.proofs.lemmas.List.Elements.{All-head, All-tail}
 use Rattle.forest_tree.specs.Operations.{Operations, IsMachine}
@@ -10,11 +11,13 @@ use Rattle.forest_tree.proofs.Places.{some-same, branch-sym, child-moved}
 use Rattle.forest_tree.proofs.Names.{settle_all-at}
 use Rattle.forest_history.specs.Places.{at_path, Place, out, Spot, placed, bare, spots}
 use Rattle.forest_history.specs.World.{World, is_ready_at, lives_ready, holds}
-use Rattle.forest_history.specs.Rows.{Row, over, stopped, idle, took, nothing, spent, dropped, kept, halted, came_back, Allows, does}
-use Rattle.forest_history.specs.Histories.{Seat, Entry, row, told, heard, mute, deaf, History, Holding, Record, is_nothing_left, is_same_path, holding, without_name, IsHeldBy, HandsBack, with_taken, holdings_after, record_of, Permits, record_after, replay, IsLegal}
+use Rattle.forest_history.specs.Rows.{Row, over, stopped, idle, took, wake_failed, spent, dropped, kept, halted, came_back, Allows, does}
+use Rattle.forest_history.specs.Histories.{Seat, Entry, row, told, heard, tell_failed, hear_failed, History, Holding, Record}
+use Rattle.forest_history.specs.Histories.{is_nothing_left, is_same_path, holding, without_name, HandsBack}
+use Rattle.forest_history.specs.Histories.{with_taken, holdings_after, record_of, Permits, record_after, replay, IsLegal}
 use Rattle.forest_history.proofs.Changes.{at_path-here}
 use Rattle.forest_history.proofs.Spots.{machine-spots}
-use Rattle.forest_history.proofs.Held.{same-is, apart-sym, without-same, without-other}
+use Rattle.forest_history.proofs.Held.{same-is, apart-sym, left-held, left-holds}
 use Rattle.forest_history.proofs.Histories.{after-sound, legal-apart, replay-append, replay-sound}
 use Rattle.forest_history.proofs.Moves.{IsLost, lost-settles, back, made, moved, spent-moves, took-moves, bare-moved, gone-none, moved-lost}
 
@@ -127,13 +130,9 @@ module _ {M E : Type 0} (o : Operations M E) where
 
     -- a name that was handed back is not held
     left-stands : (other name : Path) (t after : Tree (Spot M)) (held : List (Holding M)) (x : Holding M) → AllStand t held
-        → (same : Bool) → is_same_path other name ≡ same → holding name (without_name other held) ≡ Some x
-        → (is_same_path other name ≡ false → Stands name x.found t → Stands name x.found after) → Stands name x.found after
-    left-stands other name t after held x inv true e found goes =
-        let none : None ≡ Some x = sym (without-same name held) ∙ ap (λ n. holding name (without_name n held)) (sym (same-is other name e)) ∙ found in
-        absurd (cc)
-    left-stands other name t after held x inv false e found goes =
-        goes e (inv name x (sym (without-other other name held e) ∙ found))
+        → holding name (without_name other held) ≡ Some x → (is_same_path other name ≡ false → Stands name x.found t → Stands name x.found after)
+        → Stands name x.found after
+    left-stands other name t after held x inv found goes = let left = left-held other name held x found in goes left.0 (inv name x left.1)
 
     row-stands : {R : Type 0} (seat : Seat) (x : Row R) (w : World M R) (held : List (Holding M)) → IsSound (spots o) w.tree → Allows o x w
         → AllStand w.tree held → AllStand (does o x w).tree (holdings_after seat x w held)
@@ -143,13 +142,13 @@ module _ {M E : Type 0} (o : Operations M E) where
     row-stands seat idle w held h allowed inv = inv
     row-stands seat (took other) w held h allowed inv =
         λ name x found. taken-stands seat other name w.tree held x h inv (subtree other w.tree) refl allowed.1 (is_same_path other name) refl found
-    row-stands seat nothing w held h allowed inv = inv
+    row-stands seat wake_failed w held h allowed inv = inv
     row-stands seat (spent how other k) w held h allowed inv =
-        λ name x found. left-stands other name w.tree (at_path (came_back o how k) other w.tree) held x inv (is_same_path other name) refl found
+        λ name x found. left-stands other name w.tree (at_path (came_back o how k) other w.tree) held x inv found
         (λ apart stands. subst (Stands name x.found) (sym (spent-moves o how k other w.tree))
         (moved-stands (back how) name other (made how k) x.found w.tree h apart stands))
     row-stands seat (dropped other) w held h allowed inv =
-        λ name x found. left-stands other name w.tree w.tree held x inv (is_same_path other name) refl found (λ apart stands. stands)
+        λ name x found. left-stands other name w.tree w.tree held x inv found (λ apart stands. stands)
     row-stands seat (kept name k) w held h allowed inv = inv
     row-stands seat (halted r) w held h allowed inv = inv
 
@@ -159,8 +158,8 @@ module _ {M E : Type 0} (o : Operations M E) where
     after-stands seat (row x) r h may inv = row-stands seat x r.world r.holdings h may.0 inv
     after-stands seat (told image page) r h may inv = inv
     after-stands seat (heard place) r h may inv = inv
-    after-stands seat mute r h may inv = inv
-    after-stands seat (deaf place) r h may inv = inv
+    after-stands seat tell_failed r h may inv = inv
+    after-stands seat (hear_failed place) r h may inv = inv
 
     replay-stands : {R : Type 0} (history : History R) (r : Record M R) → IsSound (spots o) r.world.tree → IsLegal o history r
         → AllStand r.world.tree r.holdings → AllStand (replay o history r).world.tree (replay o history r).holdings
@@ -222,15 +221,6 @@ module _ {M E : Type 0} (o : Operations M E) where
         let new : Holding M = record { name = other; seat = by; found = (machine a).machine } in
         ap (λ b. cond b (Some new) (holding name held)) e ∙ found
 
-    -- what one seat holds no other hands back
-    left-holds : (seat by : Seat) (other name : Path) (held : List (Holding M)) (x : Holding M) → by ≢ seat → IsHeldBy by other held
-        → holding name held ≡ Some x → x.seat ≡ seat → (same : Bool) → is_same_path other name ≡ same
-        → holding name (without_name other held) ≡ Some x
-    left-holds seat by other name held x unlike back found mine false e = without-other other name held e ∙ found
-    left-holds seat by other name held x unlike back found mine true e =
-        let is : x.seat ≡ by = subst (λ (c : Option (Holding M)). IsSomeAnd c (λ (h : Holding M). h.seat ≡ by)) found (subst (λ n. IsHeldBy by n held) (same-is other name e) back) in
-        absurd (unlike (sym is ∙ mine))
-
     row-holds : {R : Type 0} (seat by : Seat) (y : Row R) (w : World M R) (held : List (Holding M)) → Allows o y w → HandsBack by y held
         → AllStand w.tree held → by ≢ seat → (name : Path) (x : Holding M) → holding name held ≡ Some x → x.seat ≡ seat
         → holding name (holdings_after by y w held) ≡ Some x
@@ -240,11 +230,11 @@ module _ {M E : Type 0} (o : Operations M E) where
     row-holds seat by idle w held allowed back inv unlike name x found mine = found
     row-holds seat by (took other) w held allowed back inv unlike name x found mine =
         taken-leaves by other name w.tree held x inv found (subtree other w.tree) refl allowed.1 (is_same_path other name) refl
-    row-holds seat by nothing w held allowed back inv unlike name x found mine = found
+    row-holds seat by wake_failed w held allowed back inv unlike name x found mine = found
     row-holds seat by (spent how other k) w held allowed back inv unlike name x found mine =
-        left-holds seat by other name held x unlike back found mine (is_same_path other name) refl
+        left-holds seat by other name held x unlike back found mine
     row-holds seat by (dropped other) w held allowed back inv unlike name x found mine =
-        left-holds seat by other name held x unlike back found mine (is_same_path other name) refl
+        left-holds seat by other name held x unlike back found mine
     row-holds seat by (kept other k) w held allowed back inv unlike name x found mine = found
     row-holds seat by (halted r) w held allowed back inv unlike name x found mine = found
 
@@ -256,8 +246,8 @@ module _ {M E : Type 0} (o : Operations M E) where
         row-holds seat by y r.world r.holdings may.0 may.1 inv unlike name x found mine
     after-holds seat by (told image page) r may inv unlike name x found mine = found
     after-holds seat by (heard place) r may inv unlike name x found mine = found
-    after-holds seat by mute r may inv unlike name x found mine = found
-    after-holds seat by (deaf place) r may inv unlike name x found mine = found
+    after-holds seat by tell_failed r may inv unlike name x found mine = found
+    after-holds seat by (hear_failed place) r may inv unlike name x found mine = found
 
     replay-holds : {R : Type 0} (seat : Seat) (between : History R) (r : Record M R) → IsSound (spots o) r.world.tree → IsLegal o between r
         → AllStand r.world.tree r.holdings → All (λ (e : Seat × Entry R). e.0 ≢ seat) between

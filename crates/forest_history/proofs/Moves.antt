@@ -8,8 +8,8 @@ use Rattle.forest_tree.proofs.Names.{lost-stays}
 use Rattle.forest_tree.proofs.Projected.{subtree-map, settle_all-map}
 use Rattle.forest_history.specs.Places.{at_path, Place, home, out, parked, Spot, placed, bare, spots, steps}
 use Rattle.forest_history.specs.World.{World}
-use Rattle.forest_history.specs.Rows.{How, gave, ended, forked, joined, killed, waited, Row, over, stopped, idle, took, nothing, spent, dropped, kept, halted, came_back, does}
-use Rattle.forest_history.specs.Histories.{Seat, Entry, row, told, heard, mute, deaf, History, Record, record_of, record_after, replay}
+use Rattle.forest_history.specs.Rows.{How, gave, ended, forked, joined, killed, waited, Row, over, stopped, idle, took, wake_failed, spent, dropped, kept, halted, came_back, does}
+use Rattle.forest_history.specs.Histories.{Seat, Entry, row, told, heard, tell_failed, hear_failed, History, Record, record_of, record_after, replay}
 use Rattle.forest_history.proofs.Changes.{at_path-agree, at_path-leaves, at_path-twice, settle_all-changes}
 use Rattle.forest_history.proofs.Spots.{projects}
 use Rattle.forest_history.proofs.Ends.{at_path-map, bare-sound, bare-placed}
@@ -131,7 +131,7 @@ module _ {M E : Type 0} (o : Operations M E) where
   row-settles (stopped r) w = ([], refl)
   row-settles idle w = ([], refl)
   row-settles (took name) w = (replicate 0 name, ap bare (took-moves name w.tree) ∙ bare-moved out name 0 w.tree)
-  row-settles nothing w = ([], refl)
+  row-settles wake_failed w = ([], refl)
   row-settles (spent how name k) w =
       (replicate (made how k) name, ap bare (spent-moves how k name w.tree) ∙ bare-moved (back how) name (made how k) w.tree)
   row-settles (dropped name) w = ([], refl)
@@ -144,8 +144,8 @@ module _ {M E : Type 0} (o : Operations M E) where
   after-settles seat (row x) r = row-settles x r.world
   after-settles seat (told image page) r = ([], refl)
   after-settles seat (heard place) r = ([], refl)
-  after-settles seat mute r = ([], refl)
-  after-settles seat (deaf place) r = ([], refl)
+  after-settles seat tell_failed r = ([], refl)
+  after-settles seat (hear_failed place) r = ([], refl)
 
   pub replay-settles : {R : Type 0} (history : History R) (r : Record M R)
       → (paths : List Path) × (bare (replay o history r).world.tree ≡ settle_all o paths (bare r.world.tree))

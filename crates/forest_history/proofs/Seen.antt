@@ -7,7 +7,9 @@ use Rattle.forest_tree.specs.Projection.{map_tree, map_trees, map_broods, Projec
 use Rattle.forest_tree.proofs.Projected.{subtree-map, step-map}
 use Rattle.forest_history.specs.Places.{Place, asleep, home, out, parked, Spot, placed, spots, advanced, may_run, steps}
 use Rattle.forest_history.specs.World.{World, is_ready_at, is_asleep_at, lives_ready, holds, is_ready, is_to_wake, world_of}
-use Rattle.forest_history.specs.Rows.{How, gave, ended, forked, joined, killed, waited, Row, over, stopped, idle, took, nothing, spent, dropped, kept, halted, is_clone, is_join, is_kill, stands_at, may_spend, spend, came_back, RanOut, Spends, Keeps, IfThere, IsGoing, Allows, does}
+use Rattle.forest_history.specs.Rows.{How, gave, ended, forked, joined, killed, waited, Row, over, stopped, idle, took}
+use Rattle.forest_history.specs.Rows.{wake_failed, spent, dropped, kept, halted, is_clone, is_join, is_kill, stands_at}
+use Rattle.forest_history.specs.Rows.{may_spend, spend, came_back, RanOut, Spends, Keeps, IfThere, IsGoing, Allows, does}
 use Rattle.forest_history.specs.Seen.{spot_seen, seen}
 use Rattle.forest_history.proofs.Ends.{at_path-map}
 
@@ -150,7 +152,7 @@ module _ {M N E : Type 0} (o : Operations M E) (p : Operations N E) (f : M → N
     does-seen idle w = refl
     does-seen (took name) w =
         ap (with_tree w.halted) (at_path-map (spot_seen f) (placed out) (placed out) (see-placed f out) name w.tree)
-    does-seen nothing w = refl
+    does-seen wake_failed w = refl
     does-seen (spent how name k) w =
         ap (with_tree w.halted) (at_path-map (spot_seen f) (came_back o how k) (came_back p how k) (came_back-seen how k) name w.tree)
     does-seen (dropped name) w = refl
@@ -228,7 +230,7 @@ module _ {M N E : Type 0} (o : Operations M E) (p : Operations N E) (f : M → N
     allows-seen (stopped r) w h = (ended-seen w.tree ∙ h.0, h.1)
     allows-seen idle w h = (going-seen w h.0, λ name. ready-seen name w.tree ∙ h.1 name)
     allows-seen (took name) w h = (going-seen w h.0, ready-seen name w.tree ∙ h.1)
-    allows-seen nothing w h = (going-seen w h.0, (h.1.0, wake-seen h.1.0 w.tree ∙ h.1.1))
+    allows-seen wake_failed w h = (going-seen w h.0, (h.1.0, wake-seen h.1.0 w.tree ∙ h.1.1))
     allows-seen (spent how name k) w h = there-seen (Spends o how k) (Spends p how k) (spends-seen how k) name w.tree h
     allows-seen (dropped name) w h = subtree-map (spot_seen f) name w.tree ∙ ap (option_map (see f)) h
     allows-seen (kept name k) w h = there-seen (Keeps o k) (Keeps p k) (keeps-seen k) name w.tree h

@@ -18,14 +18,14 @@ use Rattle.forest_tree.proofs.Ahead.{own_under, under, weigh-within, weigh-lives
 use Rattle.forest_history.proofs.Weigh.{steps-within, steps-fall, at_path-falls}
 
 -- a place counts at most one
-place-low : (place : Place) → place_weight place ≤ 1
+pub place-low : (place : Place) → place_weight place ≤ 1
 place-low asleep = omega arith
 place-low home = omega arith
 place-low out = omega arith
 place-low parked = omega arith
 
 -- where a machine that waits is ready, its place counts
-ready-waiting : (place : Place) → is_ready_at place true ≡ true → place_weight place ≡ 1
+pub ready-waiting : (place : Place) → is_ready_at place true ≡ true → place_weight place ≡ 1
 ready-waiting asleep ready = refl
 ready-waiting home ready = refl
 ready-waiting out ready = absurd (cc)

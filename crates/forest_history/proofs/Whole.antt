@@ -1,7 +1,8 @@
 -- Forests with no machine on lease.
 use Rattle.std.proofs.Common.{◌≡◌, ℕ, zero, suc, ◌&&◌, ◌||◌, not, eqb, Bool, true, false, cond, refl, sym, subst, [], ◌∷◌, Option, Some, None, option_and_then, option_map}
 use Rattle.forest_tree.specs.Operations.{Call, clone, join, kill, Operations}
-use Rattle.forest_tree.specs.Tree.{Tree, node, Trees, no_tree, Broods, no_brood, brood, Log, no_entry, joined, killed, machine, broods_of, at_child, child_at, brood_of, without, at_brood, Path, subtree}
+use Rattle.forest_tree.specs.Tree.{Tree, node, Trees, no_tree, Broods, no_brood, brood, Log, no_entry, joined, killed}
+use Rattle.forest_tree.specs.Tree.{machine, broods_of, at_child, child_at, brood_of, without, at_brood, Path, subtree}
 use Rattle.forest_tree.specs.Settle.{has_ended, have_ended, endings, alone, children_from, children, settled_by, settled, waits, join_by, step_by, step_from, step, rests}
 use Rattle.forest_tree.proofs.Places.{brood_of-without, child-moved}
 use Rattle.forest_tree.proofs.Ahead.{live-moves}

@@ -4,7 +4,7 @@ use Rattle.forest_tree.specs.Operations.{Operations}
 use Rattle.forest_tree.specs.Tree.{Tree, machine, Path, subtree, beyond}
 use Rattle.forest_history.specs.Places.{Spot}
 use Rattle.forest_history.specs.World.{World}
-use Rattle.forest_history.specs.Rows.{Row, over, stopped, idle, took, nothing, spent, dropped, kept, halted, Allows, does}
+use Rattle.forest_history.specs.Rows.{Row, over, stopped, idle, took, wake_failed, spent, dropped, kept, halted, Allows, does}
 
 -- the number of a seat: the first has none, and the k-th that is split off from a seat has its number and k
 abbrev pub Seat : Type 0
@@ -18,9 +18,9 @@ pub data Entry (R : Type 0) : Type 0 where
   -- the reply at a place was heard, or none where none is there
   heard : ℕ → Entry R
   -- want of memory to tell a reply
-  mute : Entry R
+  tell_failed : Entry R
   -- want of memory to hear the reply at a place
-  deaf : ℕ → Entry R
+  hear_failed : ℕ → Entry R
 
 -- the first entry comes first, each with the seat that made it
 abbrev pub History : Type 0 → Type 0
@@ -71,7 +71,7 @@ HandsBack seat over held = Unit {0}
 HandsBack seat (stopped r) held = Unit {0}
 HandsBack seat idle held = Unit {0}
 HandsBack seat (took name) held = Unit {0}
-HandsBack seat nothing held = Unit {0}
+HandsBack seat wake_failed held = Unit {0}
 HandsBack seat (spent how name k) held = IsHeldBy seat name held
 HandsBack seat (dropped name) held = IsHeldBy seat name held
 HandsBack seat (kept name k) held = IsHeldBy seat name held
@@ -87,7 +87,7 @@ holdings_after seat over w held = held
 holdings_after seat (stopped r) w held = held
 holdings_after seat idle w held = held
 holdings_after seat (took name) w held = with_taken seat name (subtree name w.tree) held
-holdings_after seat nothing w held = held
+holdings_after seat wake_failed w held = held
 holdings_after seat (spent how name k) w held = without_name name held
 holdings_after seat (dropped name) w held = without_name name held
 holdings_after seat (kept name k) w held = held
@@ -105,16 +105,16 @@ module _ {M E : Type 0} (o : Operations M E) where
   Permits seat (row x) r = Allows o x r.world × HandsBack seat x r.holdings
   Permits seat (told image page) r = Unit {0}
   Permits seat (heard place) r = Unit {0}
-  Permits seat mute r = Unit {0}
-  Permits seat (deaf place) r = place < length r.told
+  Permits seat tell_failed r = Unit {0}
+  Permits seat (hear_failed place) r = place < length r.told
 
   -- what is on record after it
   unfoldable pub record_after : {R : Type 0} → Seat → Entry R → Record M R → Record M R
   record_after seat (row x) r = record r { world = does o x r.world; holdings = holdings_after seat x r.world r.holdings }
   record_after seat (told image page) r = record r { told = r.told ++ (image, page) ∷ [] }
   record_after seat (heard place) r = r
-  record_after seat mute r = r
-  record_after seat (deaf place) r = r
+  record_after seat tell_failed r = r
+  record_after seat (hear_failed place) r = r
 
   -- what is on record after a history
   unfoldable pub replay : {R : Type 0} → History R → Record M R → Record M R

@@ -25,7 +25,7 @@ pub data Row (R : Type 0) : Type 0 where
   idle : Row R
   took : Path → Row R
   -- want of memory to wake a machine
-  nothing : Row R
+  wake_failed : Row R
   -- the machine of this name came back after so many steps of its own
   spent : How → Path → ℕ → Row R
   -- the same, and its name was gone
@@ -96,7 +96,8 @@ module _ {M E : Type 0} (o : Operations M E) where
   -- it is to fork, or to join children that have all ended
   pub record Keeps (k : ℕ) (t : Tree (Spot M)) : Type 0 where
     pub ran : RanOut k t
-    pub call : may_spend forked (advanced o k (machine t).machine) false || may_spend joined (advanced o k (machine t).machine) (waits (spots o) (steps (spots o) k t)) ≡ true
+    pub call : may_spend forked (advanced o k (machine t).machine) false || may_spend joined (advanced o k (machine t).machine)
+        (waits (spots o) (steps (spots o) k t)) ≡ true
 
   abbrev pub IfThere : (Tree (Spot M) → Type 0) → Option (Tree (Spot M)) → Type 0
   IfThere P None = ⊥
@@ -111,7 +112,7 @@ module _ {M E : Type 0} (o : Operations M E) where
   Allows (stopped r) w = (has_ended (spots o) w.tree ≡ false) × (w.halted ≡ Some r)
   Allows idle w = IsGoing w × ((name : Path) → is_ready o name w.tree ≡ false)
   Allows (took name) w = IsGoing w × (is_ready o name w.tree ≡ true)
-  Allows nothing w = IsGoing w × ((name : Path) × (is_to_wake o name w.tree ≡ true))
+  Allows wake_failed w = IsGoing w × ((name : Path) × (is_to_wake o name w.tree ≡ true))
   Allows (spent how name k) w = IfThere (Spends how k) (subtree name w.tree)
   Allows (dropped name) w = subtree name w.tree ≡ None
   Allows (kept name k) w = IfThere (Keeps k) (subtree name w.tree)
@@ -123,7 +124,7 @@ module _ {M E : Type 0} (o : Operations M E) where
   does (stopped r) w = w
   does idle w = w
   does (took name) w = record w { tree = at_path (placed out) name w.tree }
-  does nothing w = w
+  does wake_failed w = w
   does (spent how name k) w = record w { tree = at_path (came_back how k) name w.tree }
   does (dropped name) w = w
   does (kept name k) w = w

@@ -1,5 +1,6 @@
 -- No step makes a page absent, and an arrival leaves one absent page fewer. It is the same before a step as after it.
-use Rattle.std.proofs.Common.{◌≡◌, ℕ, zero, suc, ◌+◌, ◌≤◌, Bool, true, false, cond, List, [], ◌∷◌, ◌++◌, take, drop, replicate, set, Option, Some, None, refl, sym, ap, ◌∙◌, subst, arith, suc-add, zero-add}
+use Rattle.std.proofs.Common.{◌≡◌, ℕ, zero, suc, ◌+◌, ◌≤◌, Bool, true, false, List, [], ◌∷◌, ◌++◌, take, drop}
+use Rattle.std.proofs.Common.{replicate, set, Some, refl, sym, ap, ◌∙◌, subst, arith, suc-add, zero-add}
 use Rattle.std.specs.Prelude.{slice_get}
 use Rattle.std.proofs.lemmas.List.{drop-drop}
 use Rattle.forest_model.specs.Footprint.{Change, no_change, puts, zeroes}

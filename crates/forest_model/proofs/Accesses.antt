@@ -3,13 +3,14 @@
 use Rattle.std.proofs.Common.{◌≡◌, ℕ, ◌*◌, ◌<◌, Bool, true, false, cond, List, length, Option, Some, None, refl, sym, ap, ◌∙◌, subst, arith}
 use Rattle.std.specs.Option.{IfSome}
 use Rattle.std.proofs.lemmas.Bool.Decides.{nat_tests}
-use Rattle.elf_load.specs.declared.image.TheConstants.{PAGE_SIZE}
+use Rattle.page_frames.specs.declared.page.TheConstants.{PAGE_SIZE}
 use Rattle.rv_decode.specs.Instruction.{Instruction}
 use Rattle.rv_decode.specs.Table.{decoded}
 use Rattle.rv_traps.specs.Trap.{takes_interrupt}
 use Rattle.forest_model.specs.declared.access.Access.{Access}
 use Rattle.forest_model.specs.State.{State, is_in_ram, is_timer_due}
-use Rattle.forest_model.specs.Access.{Reached, faulted, of_ram, of_port, uses, is_made, is_aligned_for, misaligned_cause, fault_cause, is_allowed, outside_ram, page_of, page_for, reached_if, reached_by, reached, fetch_access}
+use Rattle.forest_model.specs.Access.{faulted, of_ram, of_port, uses, is_made, is_aligned_for, misaligned_cause, fault_cause}
+use Rattle.forest_model.specs.Access.{is_allowed, outside_ram, page_of, page_for, reached_if, reached_by, reached, fetch_access}
 use Rattle.forest_model.specs.Execute.{action, action_by, execute, decoded_action, fetched, fetch_action, coming_instruction, instruction_at, instruction_by}
 
 pub record IsOfRam (a : Access) (s : State) (page : Option ℕ) : Type 0 where

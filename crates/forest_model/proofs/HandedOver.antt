@@ -1,12 +1,13 @@
 -- Bytes that a machine hands over as it ends.
-use Rattle.std.proofs.Common.{◌≡◌, ℕ, ◌+◌, ◌-◌, ◌/◌, ◌<◌, ◌≤◌, ◌⊎◌, ◌&&◌, ◌||◌, inl, inr, Bool, true, false, cond, eqb, leb, List, [], ◌∷◌, length, take, drop, get_or, length-drop, refl, sym, ap, ◌∙◌, subst, arith, leb-true, eqb-true}
+use Rattle.std.proofs.Common.{◌≡◌, ℕ, ◌+◌, ◌-◌, ◌<◌, ◌≤◌, ◌⊎◌, ◌&&◌, ◌||◌, inl, inr, Bool, true, false, cond, eqb, leb, []}
+use Rattle.std.proofs.Common.{◌∷◌, length, drop, get_or, length-drop, refl, sym, ap, ◌∙◌, subst, arith, leb-true, eqb-true}
 use Rattle.std.specs.List.{Contains}
 use Rattle.std.proofs.lemmas.Bool.{and_parts}
 use Rattle.std.proofs.lemmas.Bool.Decides.{nat_tests, leb_tells}
 use Rattle.std.proofs.lemmas.List.{get_or-drop, get_or-take, length-take-le}
-use Rattle.elf_load.specs.declared.image.TheConstants.{RAM_BASE, PAGE_SIZE}
+use Rattle.elf_load.specs.declared.image.TheConstants.{RAM_BASE}
 use Rattle.fork_port.specs.declared.commands.Effect.TheVariants.{ExitWith}
-use Rattle.fork_port.specs.declared.handed.TheConstants.{MOST_HANDED}
+use Rattle.fork_port.specs.declared.handed.TheConstants.{MAX_HANDED}
 use Rattle.fork_port.specs.declared.refusals.TheConstants.{BAD_ARGUMENT}
 use Rattle.fork_port.specs.Registers.{refused}
 use Rattle.forest_model.specs.declared.Written.TheVariants.{Nothing}
@@ -30,7 +31,7 @@ fits true address count size e h = let is : count ≡ 0 = eqb-true count 0 e in 
 fits false address count size e h = let both = from-base address count size e h in omega (arith, both.0, both.1)
 
 -- each of these bytes lies in the page of the first or in that of the last
-pub page-of-either : (address count k : ℕ) → RAM_BASE ≤ address → count ≤ MOST_HANDED → k < count
+pub page-of-either : (address count k : ℕ) → RAM_BASE ≤ address → count ≤ MAX_HANDED → k < count
     → (page_of (address + k) ≡ page_of address) ⊎ (page_of (address + k) ≡ page_of (address + (count - 1)))
 page-of-either address count k from few below = elim (leb_tells (page_of (address + k)) (page_of address)) [
   | inl first ↦ inl (omega (arith, first.1))
@@ -60,7 +61,7 @@ module _ (s : State) where
       ∙ get_or-drop (address - RAM_BASE) s.ram k 0
       ∙ ap (λ at. get_or s.ram at 0) (omega (arith, both.0))
 
-  pub handed-pages : (value address count k : ℕ) → is_byte_range address count s.ram ≡ true → count ≤ MOST_HANDED → k < count
+  pub handed-pages : (value address count k : ℕ) → is_byte_range address count s.ram ≡ true → count ≤ MAX_HANDED → k < count
       → Contains (outcome (ExitWith value address count) s).footprint.needs (page_of (address + k))
   handed-pages value address count k e few below =
       let some : eqb count 0 ≡ false = grind (arith, nat_tests) in

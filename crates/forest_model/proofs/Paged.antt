@@ -1,7 +1,7 @@
 -- A machine of which some pages may be absent, seen as the machine with every page; and the page at which it stops.
-use Rattle.std.proofs.Common.{◌≡◌, ◌≢◌, ℕ, zero, suc, ◌+◌, ◌<◌, ◌*◌, Bool, true, false, cond, List, [], ◌∷◌, length, get_or, Option, Some, None, IsSome, IsTrue, refl, sym, ap, ◌∙◌, subst, arith, suc-add, zero-add}
-use Rattle.std.specs.List.{All, Contains}
-use Rattle.elf_load.specs.declared.image.TheConstants.{PAGE_SIZE}
+use Rattle.std.proofs.Common.{◌≡◌, ℕ, zero, suc, ◌+◌, Bool, true, false, cond, List, [], ◌∷◌, get_or}
+use Rattle.std.proofs.Common.{Some, None, IsSome, refl, ap, ◌∙◌, subst, arith, suc-add, zero-add}
+use Rattle.std.specs.List.{Contains}
 use Rattle.forest_tree.specs.Operations.{IsMachine}
 use Rattle.forest_tree.specs.Tree.{Tree}
 use Rattle.forest_tree.specs.Finish as tree
@@ -10,7 +10,7 @@ use Rattle.forest_tree.proofs.Projected.{IsMachine-projected, finish-map}
 use Rattle.forest_model.specs.Machine.{Machine, after_steps}
 use Rattle.forest_model.specs.Forest.{machines, finish}
 use Rattle.forest_model.specs.Touch.{touch}
-use Rattle.forest_model.specs.Paged.{Paged, Pages, advanced, advanced_by, first_absent, paged_machines, stalled_at}
+use Rattle.forest_model.specs.Paged.{Paged, advanced, advanced_by, first_absent, paged_machines, stalled_at}
 use Rattle.forest_model.proofs.Once.{Contains-later}
 use Rattle.forest_model.proofs.Rules.{machines-rules}
 use Rattle.forest_model.proofs.Touch.{touch-IsSome}

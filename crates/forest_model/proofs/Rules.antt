@@ -9,7 +9,8 @@ use Rattle.fork_port.specs.Registers.{ForkRegisters, ticket_found, holding, at_s
 use Rattle.fork_port.specs.Children as fork
 use Rattle.port_rules.specs.Rules as port
 use Rattle.port_rules.specs.Rules.{cloned_numbers, grant_of, is_accounted, IsPortStep}
-use Rattle.port_rules.proofs.Tickets.{accounted-is, is-accounted, among-cloned, cloned-once, clone-may, cloned-has, clone-affords, port-same, port-clone, port-join, port-kill, child-good, child-holding, child-fits}
+use Rattle.port_rules.proofs.Tickets.{accounted-is, is-accounted, among-cloned, cloned-once, clone-may, cloned-has, clone-affords}
+use Rattle.port_rules.proofs.Tickets.{port-same, port-clone, port-join, port-kill, child-good, child-holding, child-fits}
 use Rattle.port_rules.proofs.Stores.{port-stored}
 use Rattle.forest_tree.specs.Operations as tree
 use Rattle.forest_tree.specs.Operations.{is_among, is_cloned, Makes, IsStep, IsChild, IsMachine}

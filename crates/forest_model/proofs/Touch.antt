@@ -1,12 +1,14 @@
 -- The pages that a step touches: they are few and of RAM, and RAM changes nowhere else.
-use Rattle.std.proofs.Common.{◌≡◌, ◌≢◌, ℕ, ◌+◌, ◌-◌, ◌*◌, ◌/◌, ◌%◌, ◌<◌, ◌≤◌, ◌⊎◌, inl, inr, Bool, true, false, eqb, ltb, leb, ◌&&◌, ◌||◌, List, [], ◌∷◌, length, get_or, Option, Some, None, IsSome, refl, sym, ap, ◌∙◌, subst, cond, arith}
+use Rattle.std.proofs.Common.{◌≡◌, ◌≢◌, ℕ, ◌+◌, ◌-◌, ◌*◌, ◌/◌, ◌%◌, ◌<◌, ◌≤◌, ◌⊎◌, inl, inr, Bool, true, false, eqb, ltb, leb}
+use Rattle.std.proofs.Common.{List, [], ◌∷◌, length, get_or, Option, Some, None, IsSome, refl, sym, ap, ◌∙◌, subst, cond, arith}
 use Rattle.std.specs.Option.{IfSome}
 use Rattle.std.specs.Int.{to_le_bytes, w32}
 use Rattle.std.specs.List.{All, AllPairs, Contains}
 use Rattle.std.proofs.lemmas.Bool.{eqb-true}
 use Rattle.std.proofs.lemmas.Bool.Decides.{nat_tests}
 use Rattle.std.proofs.lemmas.List.Elements.{All-nil, All-cons}
-use Rattle.elf_load.specs.declared.image.TheConstants.{RAM_BASE, PAGE_SIZE}
+use Rattle.elf_load.specs.declared.image.TheConstants.{RAM_BASE}
+use Rattle.page_frames.specs.declared.page.TheConstants.{PAGE_SIZE}
 use Rattle.flat_memory.specs.Flat.{put_bytes}
 use Rattle.flat_memory.proofs.Bytes.{get_or-put_bytes_outside}
 use Rattle.rv_decode.specs.Instruction.{Instruction}
@@ -14,7 +16,9 @@ use Rattle.rv_decode.specs.Table.{decoded}
 use Rattle.rv_decode.specs.declared.kinds.Kind.{Kind}
 use Rattle.rv_decode.specs.declared.kinds.Kind.TheVariants.{Sb, Sh, Sw}
 use Rattle.rv_decode.specs.declared.kinds.Group.{Group}
-use Rattle.rv_decode.specs.declared.kinds.Group.TheVariants.{LoadUpper, AddUpper, Jump, JumpRegister, Branch, Load, Store, ComputeImmediate, Compute, Nothing, EnvironmentCall, Breakpoint, TrapReturn, Csr, LoadReserved, StoreConditional, Amo}
+use Rattle.rv_decode.specs.declared.kinds.Group.TheVariants.{LoadUpper, AddUpper, Jump, JumpRegister, Branch, Load, Store}
+use Rattle.rv_decode.specs.declared.kinds.Group.TheVariants.{ComputeImmediate, Compute, Nothing, EnvironmentCall, Breakpoint}
+use Rattle.rv_decode.specs.declared.kinds.Group.TheVariants.{TrapReturn, Csr, LoadReserved, StoreConditional, Amo}
 use Rattle.rv_decode.specs.Kinds.{group_of}
 use Rattle.rv_exec.specs.Memory.{IsWidth, load_width, store_bytes, store_width}
 use Rattle.fork_port.specs.declared.ending.Ending.{Ending}
@@ -25,12 +29,13 @@ use Rattle.forest_model.specs.declared.access.Access.{Access}
 use Rattle.forest_model.specs.declared.access.Direction.{Direction}
 use Rattle.forest_model.specs.declared.access.Direction.TheVariants as access
 use Rattle.forest_model.specs.Footprint.{Footprint, code_and_data, each_once}
-use Rattle.forest_model.specs.State.{State, is_in_ram, is_timer_due, at_next_instruction}
+use Rattle.forest_model.specs.State.{State, is_timer_due, at_next_instruction}
 use Rattle.forest_model.specs.Action.{Action, trap, interrupt, retire, exit, ask, rs1, rs2}
 use Rattle.forest_model.specs.Compute.{load_upper, add_upper, compute_immediate, compute}
 use Rattle.forest_model.specs.Control.{aligned_jump, jump, jump_register, branch_by, branch, relative, linked}
 use Rattle.forest_model.specs.Access.{Reached, faulted, of_ram, of_port, uses, is_made, is_aligned, right_for, reached, page_of, fetch_access}
-use Rattle.forest_model.specs.Memory.{data_address, read_action, load_by, load_access, load, is_page_range, zeroed, zeroing, is_byte_range, handing_over, outcome, stored_outcome, store_by, to_store, store_access, store_action, stored_bytes, store}
+use Rattle.forest_model.specs.Memory.{data_address, read_action, load_by, load_access, load, is_page_range, zeroed, zeroing, is_byte_range, handing_over}
+use Rattle.forest_model.specs.Memory.{outcome, stored_outcome, store_by, to_store, store_access, store_action, stored_bytes, store}
 use Rattle.forest_model.specs.Atomic.{is_reserved, reserve_by, reserve_access, load_reserved, conditional_action, conditional_by, conditional_access, store_conditional, amo_by, amo_access, amo}
 use Rattle.guest_pmp.specs.declared.access.Access.TheVariants as right
 use Rattle.rv_traps.specs.Protection.{allows}
@@ -40,7 +45,8 @@ use Rattle.rv_traps.specs.declared.registers.CsrRegisters.{CsrRegisters}
 use Rattle.forest_model.specs.System.{operation_of, reads, writes, written_action, write_action, old_action, old_value, csr_access, returned_action, trap_return}
 use Rattle.forest_model.specs.Execute.{action, action_by, execute_group, execute, decoded_action, fetched, fetch_action}
 use Rattle.forest_model.specs.Machine.{Machine, advance, advance_from, applied}
-use Rattle.forest_model.specs.Touch.{footprint_in, footprint_at_port, footprint_reached, data_footprint, access_by, access_of, footprint_of, footprint_at, footprint_step, footprint_from, footprint, touch, change, IsZeroedBy, IsZeroed}
+use Rattle.forest_model.specs.Touch.{footprint_in, footprint_at_port, footprint_reached, data_footprint, access_by, access_of, footprint_of}
+use Rattle.forest_model.specs.Touch.{footprint_at, footprint_step, footprint_from, footprint, touch, IsZeroedBy, IsZeroed}
 use Rattle.forest_model.proofs.Accesses.{of_ram-is, page_of-begins, begins-for}
 use Rattle.forest_model.proofs.Finish.{IsSome-ended}
 use Rattle.forest_model.proofs.HandedOver.{from-base}

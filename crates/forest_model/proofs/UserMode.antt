@@ -1,5 +1,5 @@
 -- What a step in user mode leaves: the registers of control and status, but for their counters.
-use Rattle.std.proofs.Common.{◌≡◌, ℕ, ◌%◌, ◌^◌, ◌+◌, Bool, true, false, not, eqb, List, Option, Some, None, refl, sym, ap, ◌∙◌, subst}
+use Rattle.std.proofs.Common.{◌≡◌, ℕ, ◌%◌, Bool, true, false, eqb, List, Option, Some, None, refl, sym, ap, subst}
 use Rattle.guest_pmp.specs.declared.access.Mode.TheVariants.{User}
 use Rattle.rv_decode.specs.Instruction.{Instruction}
 use Rattle.rv_decode.specs.Table.{decoded}
@@ -7,9 +7,7 @@ use Rattle.rv_decode.specs.Kinds.{group_of}
 use Rattle.rv_decode.specs.declared.kinds.Group.{Group}
 use Rattle.rv_decode.specs.declared.kinds.Group.TheVariants.{LoadUpper, AddUpper, Jump, JumpRegister, Branch, Load, Store, ComputeImmediate}
 use Rattle.rv_decode.specs.declared.kinds.Group.TheVariants.{Compute, Nothing, EnvironmentCall, Breakpoint, TrapReturn, Csr, LoadReserved, StoreConditional, Amo}
-use Rattle.rv_exec.specs.Branch.{branch_taken}
 use Rattle.rv_exec.specs.Memory.{load_width, store_width}
-use Rattle.rv_traps.specs.Access.{csr_read, csr_write}
 use Rattle.rv_traps.specs.Counters.{with_counters_of}
 use Rattle.rv_traps.specs.Trap.{mret, takes_interrupt}
 use Rattle.rv_traps.specs.declared.registers.CsrRegisters.{CsrRegisters}
@@ -26,7 +24,8 @@ use Rattle.forest_model.specs.Action.{Action, trap, interrupt, retire, exit, ask
 use Rattle.forest_model.specs.Access.{Reached, faulted, of_ram, of_port, reached, fetch_access}
 use Rattle.forest_model.specs.Compute.{load_upper, add_upper, compute_immediate, compute}
 use Rattle.forest_model.specs.Control.{aligned_jump, jump, jump_register, branch_by, branch, relative, linked}
-use Rattle.forest_model.specs.Memory.{data_address, read_action, load_by, load_access, load, is_page_range, zeroed, is_byte_range, handing_over, outcome, stored_outcome, store_by, store_access, store_action, stored_bytes, store}
+use Rattle.forest_model.specs.Memory.{data_address, read_action, load_by, load_access, load, is_page_range, zeroed, is_byte_range, handing_over}
+use Rattle.forest_model.specs.Memory.{outcome, stored_outcome, store_by, store_access, store_action, stored_bytes, store}
 use Rattle.forest_model.specs.Atomic.{is_reserved, reserve_by, reserve_access, load_reserved, conditional_action, conditional_by, conditional_access, store_conditional, amo_by, amo_access, amo}
 use Rattle.forest_model.specs.System.{csr_value, operand, operation_of, reads, writes, written_action, write_action, old_action, old_value, csr_access, returned_action, trap_return}
 use Rattle.forest_model.specs.Execute.{action, action_by, execute_group, execute, decoded_action, fetched, fetch_action}

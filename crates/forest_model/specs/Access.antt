@@ -2,15 +2,17 @@
 -- needs are told here, and nowhere else: what the coming step does, which pages it touches and what it writes of them
 -- are read off this.
 -- RISC-V Unprivileged ISA 20191213, section 2.6 and chapter 8, and Privileged ISA 20211203, section 3.7
-use Rattle.std.specs.Prelude.{ℕ, ◌-◌, ◌/◌, ◌%◌, ◌==◌, ◌||◌, ◌&&◌, Bool, true, false, if◌then◌else◌, Option, Some, None}
-use Rattle.elf_load.specs.declared.image.TheConstants.{RAM_BASE, PAGE_SIZE}
+use Rattle.std.specs.Prelude.{ℕ, ◌-◌, ◌/◌, ◌%◌, ◌==◌, ◌||◌, Bool, true, false, if◌then◌else◌, Option, Some, None}
+use Rattle.elf_load.specs.declared.image.TheConstants.{RAM_BASE}
+use Rattle.page_frames.specs.declared.page.TheConstants.{PAGE_SIZE}
 use Rattle.guest_pmp.specs.declared.access.Access as protection
 use Rattle.guest_pmp.specs.declared.access.Access.TheVariants as right
 use Rattle.rv_traps.specs.Protection.{allows}
 use Rattle.forest_model.specs.declared.access.Access.{Access}
 use Rattle.forest_model.specs.declared.access.Direction.{Direction}
 use Rattle.forest_model.specs.declared.access.Direction.TheVariants.{Fetch, Load, Store, Reserve, Conditional, Update}
-use Rattle.forest_model.specs.declared.cause.TheConstants.{INSTRUCTION_ADDRESS_MISALIGNED, INSTRUCTION_ACCESS_FAULT, LOAD_ADDRESS_MISALIGNED, LOAD_ACCESS_FAULT, STORE_ADDRESS_MISALIGNED, STORE_ACCESS_FAULT}
+use Rattle.forest_model.specs.declared.cause.TheConstants.{INSTRUCTION_ADDRESS_MISALIGNED, INSTRUCTION_ACCESS_FAULT, LOAD_ADDRESS_MISALIGNED}
+use Rattle.forest_model.specs.declared.cause.TheConstants.{LOAD_ACCESS_FAULT, STORE_ADDRESS_MISALIGNED, STORE_ACCESS_FAULT}
 use Rattle.forest_model.specs.Footprint.{Page}
 use Rattle.forest_model.specs.State.{State, is_in_ram}
 

@@ -6,12 +6,15 @@ use Rattle.flat_memory.specs.Flat.{word_at}
 use Rattle.guest_pmp.specs.declared.access.Mode.{Mode}
 use Rattle.guest_pmp.specs.declared.access.Mode.TheVariants.{User, Machine}
 use Rattle.rv_decode.specs.declared.kinds.Group.{Group}
-use Rattle.rv_decode.specs.declared.kinds.Group.TheVariants.{LoadUpper, AddUpper, Jump, JumpRegister, Branch, Load, Store, ComputeImmediate, Compute, Nothing, EnvironmentCall, Breakpoint, TrapReturn, Csr, LoadReserved, StoreConditional, Amo}
+use Rattle.rv_decode.specs.declared.kinds.Group.TheVariants.{LoadUpper, AddUpper, Jump, JumpRegister, Branch, Load, Store}
+use Rattle.rv_decode.specs.declared.kinds.Group.TheVariants.{ComputeImmediate, Compute, Nothing, EnvironmentCall, Breakpoint}
+use Rattle.rv_decode.specs.declared.kinds.Group.TheVariants.{TrapReturn, Csr, LoadReserved, StoreConditional, Amo}
 use Rattle.rv_decode.specs.Kinds.{group_of}
 use Rattle.rv_decode.specs.Instruction.{Instruction}
 use Rattle.rv_decode.specs.Table.{decoded}
 use Rattle.rv_traps.specs.Trap.{takes_interrupt}
-use Rattle.forest_model.specs.declared.cause.TheConstants.{INSTRUCTION_ACCESS_FAULT, ILLEGAL_INSTRUCTION, BREAKPOINT, ENVIRONMENT_CALL_FROM_USER, ENVIRONMENT_CALL_FROM_MACHINE}
+use Rattle.forest_model.specs.declared.cause.TheConstants.{INSTRUCTION_ACCESS_FAULT, ILLEGAL_INSTRUCTION, BREAKPOINT}
+use Rattle.forest_model.specs.declared.cause.TheConstants.{ENVIRONMENT_CALL_FROM_USER, ENVIRONMENT_CALL_FROM_MACHINE}
 use Rattle.forest_model.specs.State.{State, is_timer_due}
 use Rattle.forest_model.specs.Action.{Action, trap, interrupt, retire_next}
 use Rattle.forest_model.specs.Access.{Reached, faulted, of_ram, of_port, reached, fetch_access}

@@ -1,7 +1,8 @@
 -- A machine of which some pages may be absent. A page that is not here would read as RAM has it, so the machine
 -- is the one with every page; beside it stands what is known of its pages. These flags decide where a step stops,
 -- and nothing that it does.
-use Rattle.std.specs.Prelude.{ℕ, zero, suc, ◌+◌, Bool, true, false, not, if◌then◌else◌, List, [], ◌∷◌, ◌++◌, map, take, drop, replicate, slice_index_or, slice_set, Option, Some, None}
+use Rattle.std.specs.Prelude.{ℕ, zero, suc, ◌+◌, Bool, true, false, not, if◌then◌else◌, List, [], ◌∷◌, ◌++◌}
+use Rattle.std.specs.Prelude.{map, take, drop, replicate, slice_index_or, slice_set, Option, Some, None}
 use Rattle.elf_load.specs.Image.{Image}
 use Rattle.fork_port.specs.declared.ending.Ending.{Ending}
 use Rattle.forest_tree.specs.Operations.{Operations}

@@ -29,9 +29,10 @@ ghost use Rattle.forest_model.specs.Touch.{IsZeroed, touch};
 ghost use Rattle.forest_model.specs.Paged.{Paged, Pages, absent_count, advanced_by, paged_machines, pages_arrived, stalled_at};
 
 use crate::{Ending, Options, Written};
-use elf_load::{PAGE_SIZE, RAM_BASE};
+use elf_load::RAM_BASE;
 use fork_port::refusals::BAD_ARGUMENT;
-use fork_port::{Effect, MOST_HANDED};
+use fork_port::{Effect, MAX_HANDED};
+use page_frames::PAGE_SIZE;
 use rv_traps::TIMER_INTERRUPT;
 
 /// A step of a live machine is counted, unless it is a call, and none moves the limit. A machine that has
@@ -90,7 +91,7 @@ pub fn bytes_are_handed_over()
     ensures size { (s : State) (address count : ℕ) → is_byte_range address count s.ram ≡ true → length (bytes_at address count s) ≡ count }
     ensures bytes { (s : State) (address count k : ℕ) → is_byte_range address count s.ram ≡ true → k < count
         → slice_index (bytes_at address count s) k ≡ slice_index s.ram (address + k - RAM_BASE) }
-    ensures pages { (s : State) (value address count k : ℕ) → is_byte_range address count s.ram ≡ true → count ≤ MOST_HANDED → k < count
+    ensures pages { (s : State) (value address count k : ℕ) → is_byte_range address count s.ram ≡ true → count ≤ MAX_HANDED → k < count
         → Contains (outcome (Effect.ExitWith value address count) s).footprint.needs (page_of (address + k)) }
     ensures refused { (s : State) (value address count : ℕ) → is_byte_range address count s.ram ≡ false
         → outcome (Effect.ExitWith value address count) s ≡ memory.alone (retire Written.Nothing (with_fork (refused (fork_of s) BAD_ARGUMENT) s)) }

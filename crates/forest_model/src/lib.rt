@@ -5,7 +5,6 @@
 mod access;
 pub mod cause;
 pub mod laws;
-pub mod port_map;
 
 pub use access::{Access, Direction};
 pub use fork_port::{Ending, Handed};

@@ -1,9 +1,11 @@
 -- Each step lowers what is ahead by more than a place counts, and a tree whose root lives has a machine that
 -- makes one.
-use Rattle.std.proofs.Common.{◌≡◌, ℕ, zero, suc, ◌+◌, ◌*◌, ◌<◌, ◌≤◌, ◌&&◌, ◌||◌, not, eqb, Bool, true, false, cond, refl, sym, ap, ◌∙◌, subst, arith, le_refl, [], ◌∷◌, Option, Some, None, is_some, option_and_then}
+use Rattle.std.proofs.Common.{◌≡◌, ℕ, zero, suc, ◌+◌, ◌*◌, ◌<◌, ◌≤◌, ◌&&◌, ◌||◌, not, eqb, Bool, true, false, cond, refl}
+use Rattle.std.proofs.Common.{sym, ap, ◌∙◌, subst, arith, le_refl, [], ◌∷◌, Option, Some, None, is_some, option_and_then}
 use Rattle.std.proofs.lemmas.Bool.{not-true, or_parts}
 use Rattle.forest_tree.specs.Operations.{Call, clone, join, kill, Operations, is_cloned, Makes, IsStep, IsChild, IsMachine}
-use Rattle.forest_tree.specs.Tree.{Tree, node, Trees, no_tree, tree, Broods, no_brood, brood, Log, joined, killed, machine, at_child, child_at, brood_of, without, at_brood, broods_with, Branch, Path, subtree}
+use Rattle.forest_tree.specs.Tree.{Tree, node, Trees, no_tree, tree, Broods, no_brood, brood, Log, joined, killed, machine}
+use Rattle.forest_tree.specs.Tree.{at_child, child_at, brood_of, without, at_brood, broods_with, Branch, Path, subtree}
 use Rattle.forest_tree.specs.Settle.{has_ended, have_ended, endings, alone, children_from, children, settled_by, settled, waits_by, join_by, step_by, step, settle, rests}
 use Rattle.forest_tree.specs.Sound.{IsSound}
 use Rattle.forest_tree.specs.Ahead.{most_ahead, own_weight, weigh, weigh_trees, weigh_broods, ahead}

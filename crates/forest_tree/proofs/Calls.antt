@@ -1,6 +1,6 @@
 -- What a step is, by the call that it makes.
 use Rattle.std.proofs.Common.{◌≡◌, ℕ, zero, suc, ◌+◌, ◌<◌, ◌≤◌, not, Bool, true, false, refl, sym, ap, ◌∙◌, arith, List, Option, Some, None, is_some, slice_get}
-use Rattle.std.proofs.lemmas.Bool.{and_parts}
+use Rattle.std.proofs.lemmas.Bool.{and_parts, not-false}
 use Rattle.forest_tree.specs.Operations.{clone, join, kill, Operations, IsMachine}
 use Rattle.forest_tree.specs.Tree.{Tree, node, Trees, no_tree, tree, Broods, brood, Log, joined, killed, machine, size, child_at, brood_of, without}
 use Rattle.forest_tree.specs.Settle.{have_ended, with_ending, endings, alone, children_from, children, settled, waits_by, waits, join_by, step}
@@ -8,10 +8,6 @@ use Rattle.forest_tree.specs.Sound.{IsSound}
 use Rattle.forest_tree.proofs.Settle.{root-sound, size-children_from, size-cloned}
 use Rattle.forest_tree.proofs.Run.{step-lives}
 use Rattle.forest_tree.proofs.Places.{some-same}
-
-not-not : (b : Bool) → not b ≡ false → b ≡ true
-not-not true h = refl
-not-not false h = absurd (cc)
 
 module _ {M E : Type 0} (o : Operations M E) where
   pub step-own : (m : M) (broods : Broods M) (log : Log M) → o.ending m ≡ None → o.call m ≡ None
@@ -44,7 +40,7 @@ module _ {M E : Type 0} (o : Operations M E) where
   pub ready-ended : (m : M) (broods : Broods M) (log : Log M) (t : ℕ) → o.call m ≡ Some (join t)
       → waits o (node m broods log) ≡ false → have_ended o (brood_of t broods) ≡ true
   ready-ended m broods log t call ready =
-      not-not (have_ended o (brood_of t broods)) (ap (λ next. waits_by o next broods) (sym call) ∙ ready)
+      not-false (have_ended o (brood_of t broods)) (ap (λ next. waits_by o next broods) (sym call) ∙ ready)
 
   pub step-join : (m : M) (broods : Broods M) (log : Log M) (t : ℕ) → o.ending m ≡ None → o.call m ≡ Some (join t)
       → waits o (node m broods log) ≡ false

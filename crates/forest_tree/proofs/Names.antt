@@ -1,8 +1,10 @@
 -- A place that is gone does not come back, so what becomes of a tree is what is done in it.
-use Rattle.std.proofs.Common.{◌≡◌, ℕ, suc, ◌+◌, ◌&&◌, ◌||◌, not, eqb, ◌⊎◌, Bool, true, false, cond, refl, sym, ap, ◌∙◌, subst, arith, inl, inr, List, [], ◌∷◌, Option, Some, None, IsSome, is_some, option_and_then, option_map}
+use Rattle.std.proofs.Common.{◌≡◌, ℕ, suc, ◌+◌, ◌&&◌, ◌||◌, not, eqb, ◌⊎◌, Bool, true, false, cond, refl, sym, ap, ◌∙◌, subst}
+use Rattle.std.proofs.Common.{arith, inl, inr, List, [], ◌∷◌, Option, Some, None, IsSome, is_some, option_and_then, option_map}
 use Rattle.std.proofs.lemmas.Bool.{or_parts}
 use Rattle.forest_tree.specs.Operations.{Call, clone, join, kill, Operations, is_cloned, Makes, IsStep, IsMachine}
-use Rattle.forest_tree.specs.Tree.{Tree, node, Trees, Broods, Log, brood, joined, killed, machine, broods_of, child_at, brood_of, without, broods_with, Branch, Path, subtree, beyond, with_path, beyond_all}
+use Rattle.forest_tree.specs.Tree.{Tree, node, Trees, Broods, Log, brood, joined, killed, machine, broods_of, child_at}
+use Rattle.forest_tree.specs.Tree.{brood_of, without, broods_with, Branch, Path, subtree, beyond, with_path, beyond_all}
 use Rattle.forest_tree.specs.Settle.{have_ended, endings, children, settled, waits_by, join_by, step_by, step, settle, settle_all, settle_beyond, rests, is_own, own_steps}
 use Rattle.forest_tree.specs.Sound.{IsSound}
 use Rattle.forest_tree.proofs.Broods.{one_if}
@@ -38,7 +40,7 @@ module _ {M E : Type 0} (o : Operations M E) (rules : IsMachine o) where
       settled-once m (o.after_kill m) _ (without t broods) (killed log t (o.grant m t).children) (rules.after_kill m t makes) u may
 
   -- a ticket is past where it is not to be cloned, or the machine has ended
-  abbrev IsPast : M → ℕ → Type 0
+  abbrev pub IsPast : M → ℕ → Type 0
   IsPast m t = (o.may_clone m t ≡ false) ⊎ IsSome (o.ending m)
 
   false-before : (before after : Bool) → (after ≡ true → before ≡ true) → before ≡ false → after ≡ false
@@ -73,15 +75,15 @@ module _ {M E : Type 0} (o : Operations M E) (rules : IsMachine o) where
       is-one false e = let none : None ≡ Some c = ap (child_at k) (sym (brood_of-none t broods e)) ∙ found in absurd (cc)
 
   -- a place that is gone: on the way there no child is, and its ticket is past
-  GoneIn : (Tree M → Type 0) → Option (Tree M) → M → ℕ → Type 0
+  unfoldable pub GoneIn : (Tree M → Type 0) → Option (Tree M) → M → ℕ → Type 0
   GoneIn gone None m t = IsPast m t
   GoneIn gone (Some c) m t = gone c
 
-  IsGone : Path → Tree M → Type 0
+  unfoldable pub IsGone : Path → Tree M → Type 0
   IsGone [] t = ⊥
   IsGone (b ∷ way) t = GoneIn (IsGone way) (child_at b.child (brood_of b.ticket (broods_of t))) (machine t) b.ticket
 
-  gone-none : (at : Path) (t : Tree M) → IsGone at t → subtree at t ≡ None
+  pub gone-none : (at : Path) (t : Tree M) → IsGone at t → subtree at t ≡ None
   unfolding IsGone GoneIn subtree
   gone-none [] t gone = absurd gone
   gone-none (b ∷ way) t gone = by (child_at b.child (brood_of b.ticket (broods_of t))) gone (λ c. gone-none way c)
@@ -129,7 +131,7 @@ module _ {M E : Type 0} (o : Operations M E) (rules : IsMachine o) where
   ]
 
   -- after a step below
-  gone-below : (gone : Tree M → Type 0) (f : Tree M → Tree M) (m : M) (t : ℕ) (same : Bool) (c : Option (Tree M))
+  pub gone-below : (gone : Tree M → Type 0) (f : Tree M → Tree M) (m : M) (t : ℕ) (same : Bool) (c : Option (Tree M))
       → GoneIn gone c m t → ((u : Tree M) → c ≡ Some u → gone u → gone (f u)) → GoneIn gone (cond same (option_map f c) c) m t
   unfolding GoneIn
   gone-below gone f m t true None h down = h
@@ -137,7 +139,7 @@ module _ {M E : Type 0} (o : Operations M E) (rules : IsMachine o) where
   gone-below gone f m t true (Some u) h down = down u refl h
   gone-below gone f m t false (Some u) h down = h
 
-  gone-settle : (at path : Path) (t : Tree M) → IsSound o t → IsGone at t → IsGone at (settle o path t)
+  pub gone-settle : (at path : Path) (t : Tree M) → IsSound o t → IsGone at t → IsGone at (settle o path t)
   unfolding IsGone settle
   gone-settle [] path t h gone = gone
   gone-settle (b ∷ way) [] (node m broods log) h gone = gone-root b way m broods log h gone
@@ -184,7 +186,7 @@ module _ {M E : Type 0} (o : Operations M E) (rules : IsMachine o) where
   lost-below gone f way m t true (Some u) a here there down = down u refl here there
   lost-below gone f way m t false (Some u) a here there down = let no : None ≡ Some a = sym there ∙ here in absurd (cc)
 
-  lost-gone : (at path : Path) (t a : Tree M) → IsSound o t → subtree at t ≡ Some a → subtree at (settle o path t) ≡ None
+  pub lost-gone : (at path : Path) (t a : Tree M) → IsSound o t → subtree at t ≡ Some a → subtree at (settle o path t) ≡ None
       → IsGone at (settle o path t)
   unfolding IsGone settle subtree
   lost-gone [] path t a h here there = absurd (cc)

@@ -1,6 +1,7 @@
 -- A step at a path changes the tree exactly where a machine is there that lives and does not wait; and
 -- what a join stores.
-use Rattle.std.proofs.Common.{◌≡◌, ℕ, zero, suc, ◌+◌, ◌≤◌, ◌||◌, ◌↔◌, not, eqb, Bool, true, false, cond, refl, sym, ap, ap₂, ◌∙◌, subst, arith, inl, inr, [], ◌∷◌, Option, Some, None, IsSome, is_some, option_and_then, option_map}
+use Rattle.std.proofs.Common.{◌≡◌, ℕ, zero, suc, ◌+◌, ◌≤◌, ◌||◌, ◌↔◌, not, eqb, Bool, true, false, cond, refl, sym, ap, ap₂, ◌∙◌}
+use Rattle.std.proofs.Common.{subst, arith, inl, inr, [], ◌∷◌, Option, Some, None, IsSome, is_some, option_and_then, option_map}
 use Rattle.forest_tree.specs.Operations.{Call, clone, join, kill, Operations, is_cloned, IsMachine}
 use Rattle.forest_tree.specs.Tree.{Tree, node, Trees, no_tree, tree, Broods, no_brood, brood, Log, machine, at_child, child_at, brood_of, at_brood, broods_with, Path, subtree}
 use Rattle.forest_tree.specs.Settle.{have_ended, waits_by, join_by, step, settle, rests}

@@ -1,8 +1,10 @@
 -- A step keeps soundness and what each machine holds.
-use Rattle.std.proofs.Common.{◌≡◌, ℕ, zero, suc, ◌+◌, ◌<◌, ◌≤◌, ◌&&◌, ◌||◌, not, Bool, true, false, cond, eqb, eqb-true, refl, sym, ap, ◌∙◌, subst, arith, List, [], ◌∷◌, length, Option, Some, None, IsSome, is_some}
+use Rattle.std.proofs.Common.{◌≡◌, ℕ, zero, suc, ◌+◌, ◌<◌, ◌≤◌, ◌&&◌, ◌||◌, not, Bool, true, false, cond, eqb, eqb-true, refl}
+use Rattle.std.proofs.Common.{sym, ap, ◌∙◌, subst, arith, List, [], ◌∷◌, length, Option, Some, None, IsSome, is_some}
 use Rattle.std.proofs.lemmas.Bool.{and_parts}
 use Rattle.forest_tree.specs.Operations.{Call, clone, join, kill, Grant, Operations, is_among, is_cloned, Makes, IsStep, IsChild, IsMachine}
-use Rattle.forest_tree.specs.Tree.{Tree, node, Trees, no_tree, tree, Broods, no_brood, brood, Log, joined, killed, machine, size, each, at_child, brood_of, without, at_brood, each_brood, broods_with, Path}
+use Rattle.forest_tree.specs.Tree.{Tree, node, Trees, no_tree, tree, Broods, no_brood, brood, Log, joined, killed, machine}
+use Rattle.forest_tree.specs.Tree.{size, each, at_child, brood_of, without, at_brood, each_brood, broods_with, Path}
 use Rattle.forest_tree.specs.Settle.{have_ended, with_ending, endings, alone, children_from, children, settled_by, settled, join_by, step_by, step_from, step, settle}
 use Rattle.forest_tree.specs.Sound.{IsSoundMachine, IsSound, AreSound, Hold}
 use Rattle.forest_tree.proofs.All.{AllTrees, AllBroods}

@@ -1,7 +1,8 @@
 -- One step of one machine of a tree.
 use Rattle.std.specs.Prelude.{ℕ, zero, suc, ◌+◌, Bool, true, false, not, ◌&&◌, ◌||◌, if◌then◌else◌, List, [], ◌∷◌, Option, Some, None, is_some}
 use Rattle.forest_tree.specs.Operations.{Call, clone, join, kill, Operations}
-use Rattle.forest_tree.specs.Tree.{Tree, node, Trees, no_tree, tree, Broods, no_brood, brood, Log, no_entry, joined, killed, machine, at_child, brood_of, without, at_brood, Path}
+use Rattle.forest_tree.specs.Tree.{Tree, node, Trees, no_tree, tree, Broods, no_brood, brood, Log, no_entry}
+use Rattle.forest_tree.specs.Tree.{joined, killed, machine, at_child, brood_of, without, at_brood, Path}
 
 module _ {M E : Type 0} (o : Operations M E) where
   abbrev pub has_ended : Tree M → Bool

@@ -1,6 +1,7 @@
 -- A small machine with one ticket at a time, which carries out a list of orders. It keeps all the rules of
 -- a machine in a forest.
-use Rattle.std.specs.Prelude.{ℕ, suc, pred, ◌+◌, ◌-◌, ◌*◌, ◌==◌, ◌&&◌, ◌||◌, Bool, true, false, nat_lt, nat_le, if◌then◌else◌, List, [], ◌∷◌, ◌++◌, map, Option, Some, None, is_some}
+use Rattle.std.specs.Prelude.{ℕ, suc, pred, ◌+◌, ◌-◌, ◌*◌, ◌==◌, ◌&&◌, ◌||◌, Bool, true, false, nat_lt, nat_le}
+use Rattle.std.specs.Prelude.{if◌then◌else◌, List, [], ◌∷◌, ◌++◌, map, Option, Some, None, is_some}
 use Rattle.forest_tree.specs.Operations.{Call, clone, join, kill, Grant, Operations}
 use Rattle.forest_tree.specs.Tree.{Log, no_entry, joined, killed}
 use Rattle.forest_tree.specs.Settle.{endings}

@@ -7,7 +7,7 @@ use Rattle.std.proofs.lemmas.List.{map-append, length-map}
 use Rattle.std.proofs.lemmas.List.Elements.{All-push}
 use Rattle.image_depot.specs.Key.{Shelves}
 use Rattle.image_depot.specs.Reply.{Delivery, IsSentOf, sent_image, sent_page}
-use Rattle.forest_history.specs.Histories.{told, heard, mute, deaf, History, Record, Seat, record_after}
+use Rattle.forest_history.specs.Histories.{told, heard, tell_failed, hear_failed, History, Record, Seat, record_after}
 use Rattle.forest_model.specs.Forest.{machines}
 use Rattle.forest_model.specs.Machine.{Machine}
 use Rattle.world_core.specs.declared.reason.Reason.{Reason}
@@ -19,7 +19,7 @@ use Rattle.fork_board.specs.Answers.{Hears}
 use Rattle.fork_board.specs.Follows.{Follows, IsWorldOf, depot_of, pair_of, record_at}
 use Rattle.fork_board.specs.Notes.{heard_entry, told_entry}
 use Rattle.fork_board.specs.Passes.{BoardValue, PassValue}
-use Rattle.fork_board.proofs.Records.{heard-told, permits-deaf, permits-heard, permits-mute, permits-told, record-more}
+use Rattle.fork_board.proofs.Records.{heard-told, permits-hear_failed, permits-heard, permits-tell_failed, permits-told, record-more}
 use Rattle.fork_board.proofs.Worlds.{follows-more}
 
 module _ (depot : Shelves) (seat : Seat) (r : Record Machine Reason) (old new : World) (was : IsWorldOf depot r old) where
@@ -34,10 +34,10 @@ module _ (depot : Shelves) (seat : Seat) (r : Record Machine Reason) (old new : 
     kept = subst (All (IsSentOf depot)) (sym more) (All-push (IsSentOf depot) (told_of old) sent was.kept is);
   }
 
-  world-mute : told_of new ≡ told_of old → ((d : Shelves) (f : Forest) → StandsFor d old f → StandsFor d new f)
-      → IsWorldOf depot (record_after machines seat mute r) new
+  world-tell_failed : told_of new ≡ told_of old → ((d : Shelves) (f : Forest) → StandsFor d old f → StandsFor d new f)
+      → IsWorldOf depot (record_after machines seat tell_failed r) new
   unfolding record_after
-  world-mute same stays = record {
+  world-tell_failed same stays = record {
     forest = was.forest;
     stands = stays depot was.forest was.stands;
     family = was.family;
@@ -50,9 +50,9 @@ module _ (depot : Shelves) (seat : Seat) (r : Record Machine Reason) (w : World)
   unfolding record_after
   world-heard = was
 
-  world-deaf : IsWorldOf depot (record_after machines seat (deaf place) r) w
+  world-hear_failed : IsWorldOf depot (record_after machines seat (hear_failed place) r) w
   unfolding record_after
-  world-deaf = was
+  world-hear_failed = was
 
 module _ (opening : Opening) (log : History Reason) (seat : Seat) where
   -- the reply is told, or memory is wanting
@@ -65,8 +65,8 @@ module _ (opening : Opening) (log : History Reason) (seat : Seat) where
       (permits-told seat (sent_image sent) (sent_page sent) (record_at opening log))
       (world-told (depot_of opening) seat (record_at opening log) old new h.world sent more stays is)
   follows-told sent (Err e) old new h more same stays is =
-      follows-more opening log seat mute old new h (permits-mute seat (record_at opening log))
-      (world-mute (depot_of opening) seat (record_at opening log) old new h.world same stays)
+      follows-more opening log seat tell_failed old new h (permits-tell_failed seat (record_at opening log))
+      (world-tell_failed (depot_of opening) seat (record_at opening log) old new h.world same stays)
 
   -- a reply is heard, or none is there, or memory is wanting
   pub follows-heard : (place : ℕ) (r : Result (Option Delivery) AllocError) (w : World) → Follows opening log w
@@ -75,10 +75,10 @@ module _ (opening : Opening) (log : History Reason) (seat : Seat) where
       follows-more opening log seat (heard place) w w h (permits-heard seat place (record_at opening log))
       (world-heard (depot_of opening) seat (record_at opening log) w h.world place)
   follows-heard place (Err e) w h beyond =
-      follows-more opening log seat (deaf place) w w h
-      (permits-deaf seat place (record_at opening log)
+      follows-more opening log seat (hear_failed place) w w h
+      (permits-hear_failed seat place (record_at opening log)
       (subst (λ n. place < n) (sym (length-map (told_of w) pair_of) ∙ ap length h.world.replies) beyond))
-      (world-deaf (depot_of opening) seat (record_at opening log) w h.world place)
+      (world-hear_failed (depot_of opening) seat (record_at opening log) w h.world place)
 
   told-then : (place : ℕ) → (record_at opening (log ++ (seat, heard place) ∷ [])).told ≡ (record_at opening log).told
   told-then place = ap (λ (r : Record Machine Reason). r.told) (record-more opening log seat (heard place)) ∙ heard-told seat place (record_at opening log)

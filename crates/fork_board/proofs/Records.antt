@@ -8,8 +8,8 @@ use Rattle.forest_tree.specs.Sound.{IsSound}
 use Rattle.forest_history.specs.Places.{Spot, out, spots}
 use Rattle.forest_history.specs.World as history
 use Rattle.forest_history.specs.World.{world_of}
-use Rattle.forest_history.specs.Rows.{Row, over, stopped, idle, took, nothing, spent, dropped, kept, halted, Allows, does}
-use Rattle.forest_history.specs.Histories.{Entry, row, told, heard, mute, deaf, History, Holding, HandsBack, IsLegal, Permits, Record, Seat, holding}
+use Rattle.forest_history.specs.Rows.{Row, over, stopped, idle, took, wake_failed, spent, dropped, kept, halted, Allows, does}
+use Rattle.forest_history.specs.Histories.{Entry, row, told, heard, tell_failed, hear_failed, History, Holding, HandsBack, IsLegal, Permits, Record, Seat, holding}
 use Rattle.forest_history.specs.Histories.{holdings_after, is_same_path, record_after, replay, with_taken, without_name}
 use Rattle.forest_history.proofs.Held.{same-is, same-self, without-other, without-same}
 use Rattle.forest_history.proofs.Histories as histories
@@ -45,13 +45,13 @@ module _ (seat : Seat) where
   unfolding Permits
   permits-heard place r = tt
 
-  pub permits-mute : (r : Record Machine Reason) → Permits machines seat mute r
+  pub permits-tell_failed : (r : Record Machine Reason) → Permits machines seat tell_failed r
   unfolding Permits
-  permits-mute r = tt
+  permits-tell_failed r = tt
 
-  pub permits-deaf : (place : ℕ) (r : Record Machine Reason) → place < length r.told → Permits machines seat (deaf place) r
+  pub permits-hear_failed : (place : ℕ) (r : Record Machine Reason) → place < length r.told → Permits machines seat (hear_failed place) r
   unfolding Permits
-  permits-deaf place r there = there
+  permits-hear_failed place r there = there
 
   stays : (name : Path) (k : ℕ) (r : Record Machine Reason) → (record_after machines seat (row (kept name k)) r).holdings ≡ r.holdings
   unfolding record_after
@@ -147,7 +147,7 @@ module _ (seat by : Seat) (name : Path) (unlike : by ≢ seat) where
   free-row (stopped r) w held h = h
   free-row idle w held h = h
   free-row (took other) w held h = free-taken seat by name other held h (inl unlike) (subtree other w.tree)
-  free-row nothing w held h = h
+  free-row wake_failed w held h = h
   free-row (spent how other k) w held h = free-left seat by name other held h
   free-row (dropped other) w held h = free-left seat by name other held h
   free-row (kept other k) w held h = h
@@ -158,8 +158,8 @@ module _ (seat by : Seat) (name : Path) (unlike : by ≢ seat) where
   free-entry (row x) r h = free-row x r.world r.holdings h
   free-entry (told image page) r h = h
   free-entry (heard place) r h = h
-  free-entry mute r h = h
-  free-entry (deaf place) r h = h
+  free-entry tell_failed r h = h
+  free-entry (hear_failed place) r h = h
 
 module _ (seat : Seat) (name : Path) where
   -- others give it nothing
@@ -182,7 +182,7 @@ module _ (seat : Seat) (name : Path) where
   free-own-row (stopped r) w held h = h
   free-own-row idle w held h = h
   free-own-row (took other) w held h = free-taken seat seat name other held h.1 (inr h.0) (subtree other w.tree)
-  free-own-row nothing w held h = h
+  free-own-row wake_failed w held h = h
   free-own-row (spent how other k) w held h = left other held h
   free-own-row (dropped other) w held h = left other held h
   free-own-row (kept other k) w held h = h
@@ -194,8 +194,8 @@ module _ (seat : Seat) (name : Path) where
   free-own (row x) r h = free-own-row x r.world r.holdings h
   free-own (told image page) r h = h
   free-own (heard place) r h = h
-  free-own mute r h = h
-  free-own (deaf place) r h = h
+  free-own tell_failed r h = h
+  free-own (hear_failed place) r h = h
 
   left-over : (A B : Type 0) → (A → B) → (P : Type 0) → P ⊎ A → P ⊎ B
   left-over A B goes P (inl p) = inl p
@@ -206,15 +206,15 @@ module _ (seat : Seat) (name : Path) where
   free-after (row (stopped r)) A B goes h = goes h
   free-after (row idle) A B goes h = goes h
   free-after (row (took other)) A B goes h = (h.0, goes h.1)
-  free-after (row nothing) A B goes h = goes h
+  free-after (row wake_failed) A B goes h = goes h
   free-after (row (spent how other k)) A B goes h = left-over A B goes (other ≡ name) h
   free-after (row (dropped other)) A B goes h = left-over A B goes (other ≡ name) h
   free-after (row (kept other k)) A B goes h = goes h
   free-after (row (halted r)) A B goes h = goes h
   free-after (told image page) A B goes h = goes h
   free-after (heard place) A B goes h = goes h
-  free-after mute A B goes h = goes h
-  free-after (deaf place) A B goes h = goes h
+  free-after tell_failed A B goes h = goes h
+  free-after (hear_failed place) A B goes h = goes h
 
   pub free-more : (opening : Opening) (log between : History Reason) → entries_by seat between ≡ [] → Free seat name (record_at opening log).holdings
       → Free seat name (record_at opening (log ++ between)).holdings
@@ -247,7 +247,7 @@ module _ (seat : Seat) (name : Path) where
   held-row (stopped r) w held h = refl
   held-row idle w held h = refl
   held-row (took other) w held h = held-taken other (subtree other w.tree) held h
-  held-row nothing w held h = refl
+  held-row wake_failed w held h = refl
   held-row (spent how other k) w held h = without-other other name held (unlike other h)
   held-row (dropped other) w held h = without-other other name held (unlike other h)
   held-row (kept other k) w held h = refl
@@ -259,5 +259,5 @@ module _ (seat : Seat) (name : Path) where
   held-own (row x) r h = held-row x r.world r.holdings h
   held-own (told image page) r h = refl
   held-own (heard place) r h = refl
-  held-own mute r h = refl
-  held-own (deaf place) r h = refl
+  held-own tell_failed r h = refl
+  held-own (hear_failed place) r h = refl

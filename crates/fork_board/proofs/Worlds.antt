@@ -13,7 +13,7 @@ use Rattle.forest_tree.proofs.Projected.{subtree-map}
 use Rattle.forest_history.specs.Places.{Spot, out, spots}
 use Rattle.forest_history.specs.World as history
 use Rattle.forest_history.specs.World.{holds, lives_ready, world_of}
-use Rattle.forest_history.specs.Rows.{How, Row, dropped, kept, over, stopped, idle, took, nothing, spent, waited, Allows, does}
+use Rattle.forest_history.specs.Rows.{How, Row, dropped, kept, over, stopped, idle, took, wake_failed, spent, waited, Allows, does}
 use Rattle.forest_history.specs.Seen.{spot_seen}
 use Rattle.forest_history.specs.Histories.{Entry, row, History, Holding, HandsBack, IsHeldBy, IsLegal, Permits, Record, Seat, holding, record_after, replay, with_taken}
 use Rattle.forest_model.specs.Forest.{machines}
@@ -196,7 +196,7 @@ module _ (opening : Opening) (log : History Reason) (seat : Seat) where
   follows-taken old new h (taken.Stopped reason) a told = follows-row opening log seat (stopped reason) h.world.forest old new h h.world.family tt a told
   follows-taken old new h taken.Idle a told = follows-row opening log seat idle h.world.forest old new h h.world.family tt a told
   follows-taken old new h (taken.Took lease) a told = follows-row opening log seat (took lease.name) h.world.forest old new h h.world.family tt a.0 told
-  follows-taken old new h taken.Memory a told = follows-row opening log seat nothing h.world.forest old new h h.world.family tt a told
+  follows-taken old new h taken.Memory a told = follows-row opening log seat wake_failed h.world.forest old new h h.world.family tt a told
 
 pub takes : (now new : PassValue) (old w : World) (h : Follows now.board.opening now.seen old) (answer : Taken) → new.board ≡ now.board
     → new.number ≡ now.number → new.seen ≡ now.seen ++ (now.number, taken_entry answer) ∷ []

@@ -2,8 +2,8 @@
 use Rattle.std.specs.Prelude.{ℕ, map, Option, Result, Ok, Err}
 use Rattle.std.specs.declared.alloc.AllocError.{AllocError}
 use Rattle.forest_tree.specs.Tree.{Path}
-use Rattle.forest_history.specs.Rows.{How, spent, waited, over, stopped, idle, took, nothing, dropped, kept, halted, gave, ended, forked, joined, killed}
-use Rattle.forest_history.specs.Histories.{Entry, row, told, heard, mute, deaf, History}
+use Rattle.forest_history.specs.Rows.{How, spent, waited, over, stopped, idle, took, wake_failed, dropped, kept, halted, gave, ended, forked, joined, killed}
+use Rattle.forest_history.specs.Histories.{Entry, row, told, heard, tell_failed, hear_failed, History}
 use Rattle.image_depot.specs.Reply.{Delivery}
 use Rattle.turn_board.specs.History as notes
 use Rattle.world_core.specs.declared.reason.Reason.{Reason}
@@ -19,7 +19,7 @@ entry_of note.Over = row over
 entry_of (note.Stopped reason) = row (stopped reason)
 entry_of note.Idle = row idle
 entry_of (note.Took name) = row (took name.value)
-entry_of note.Nothing = row nothing
+entry_of note.WakeFailed = row wake_failed
 entry_of (note.Gave name ran) = row (spent gave name.value ran)
 entry_of (note.Ended name ran) = row (spent ended name.value ran)
 entry_of (note.Forked name ran) = row (spent forked name.value ran)
@@ -31,8 +31,8 @@ entry_of (note.Kept name ran) = row (kept name.value ran)
 entry_of (note.Halted reason) = row (halted reason)
 entry_of (note.Told image page) = told image page
 entry_of (note.Heard place) = heard place
-entry_of note.Mute = mute
-entry_of (note.Deaf place) = deaf place
+entry_of note.TellFailed = tell_failed
+entry_of (note.HearFailed place) = hear_failed place
 
 -- the history of the notes
 abbrev pub entries : notes.History Note → History Reason
@@ -45,7 +45,7 @@ taken_entry taken.Over = row over
 taken_entry (taken.Stopped reason) = row (stopped reason)
 taken_entry taken.Idle = row idle
 taken_entry (taken.Took lease) = row (took lease.name)
-taken_entry taken.Memory = row nothing
+taken_entry taken.Memory = row wake_failed
 
 -- of a machine that comes back so, after so many steps
 abbrev pub placed_entry : How → Path → ℕ → Placed → Entry Reason
@@ -56,8 +56,8 @@ placed_entry how name ran (placed.Memory lease) = row (kept name ran)
 
 abbrev pub told_entry : ℕ → ℕ → Result (Unit {0}) AllocError → Entry Reason
 told_entry image page (Ok u) = told image page
-told_entry image page (Err e) = mute
+told_entry image page (Err e) = tell_failed
 
 abbrev pub heard_entry : ℕ → Result (Option Delivery) AllocError → Entry Reason
 heard_entry place (Ok sent) = heard place
-heard_entry place (Err e) = deaf place
+heard_entry place (Err e) = hear_failed place

@@ -3,8 +3,8 @@ use Rattle.std.specs.Prelude.{◌≡◌, ◌≢◌, ◌⊎◌, ℕ, ◌≤◌, t
 use Rattle.std.specs.Option.{IfSome}
 use Rattle.atomic_table.specs.Seated.{TableId}
 use Rattle.forest_tree.specs.Tree.{Path}
-use Rattle.forest_history.specs.Histories.{Entry, row, told, heard, mute, deaf, History, IsLegal, Record, Seat, holding}
-use Rattle.forest_history.specs.Rows.{over, stopped, idle, took, nothing, spent, dropped, kept, halted}
+use Rattle.forest_history.specs.Histories.{Entry, row, told, heard, tell_failed, hear_failed, History, IsLegal, Record, Seat, holding}
+use Rattle.forest_history.specs.Rows.{over, stopped, idle, took, wake_failed, spent, dropped, kept, halted}
 use Rattle.forest_model.specs.Forest.{machines}
 use Rattle.forest_model.specs.Machine.{Machine}
 use Rattle.turn_board.specs.History.{entries_by}
@@ -59,15 +59,15 @@ FreeAfter (row over) name before = before
 FreeAfter (row (stopped reason)) name before = before
 FreeAfter (row idle) name before = before
 FreeAfter (row (took other)) name before = (other ≢ name) × before
-FreeAfter (row nothing) name before = before
+FreeAfter (row wake_failed) name before = before
 FreeAfter (row (spent how other k)) name before = (other ≡ name) ⊎ before
 FreeAfter (row (dropped other)) name before = (other ≡ name) ⊎ before
 FreeAfter (row (kept other k)) name before = before
 FreeAfter (row (halted reason)) name before = before
 FreeAfter (told image page) name before = before
 FreeAfter (heard place) name before = before
-FreeAfter mute name before = before
-FreeAfter (deaf place) name before = before
+FreeAfter tell_failed name before = before
+FreeAfter (hear_failed place) name before = before
 
 -- who makes the entry neither takes the machine of this name nor hands it back
 abbrev pub Leaves : Entry Reason → Path → Type 0
@@ -75,15 +75,15 @@ Leaves (row over) name = Unit {0}
 Leaves (row (stopped reason)) name = Unit {0}
 Leaves (row idle) name = Unit {0}
 Leaves (row (took other)) name = other ≢ name
-Leaves (row nothing) name = Unit {0}
+Leaves (row wake_failed) name = Unit {0}
 Leaves (row (spent how other k)) name = other ≢ name
 Leaves (row (dropped other)) name = other ≢ name
 Leaves (row (kept other k)) name = Unit {0}
 Leaves (row (halted reason)) name = Unit {0}
 Leaves (told image page) name = Unit {0}
 Leaves (heard place) name = Unit {0}
-Leaves mute name = Unit {0}
-Leaves (deaf place) name = Unit {0}
+Leaves tell_failed name = Unit {0}
+Leaves (hear_failed place) name = Unit {0}
 
 -- the history has one entry more of the pass behind those that others made since, and is legal with it
 pub record Makes (old new : PassValue) (entry : Entry Reason) : Type 0 where

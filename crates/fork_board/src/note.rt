@@ -25,7 +25,7 @@ pub enum Note {
     Idle,
     Took(Snapshot<Name>),
     /// Want of memory to wake a machine.
-    Nothing,
+    WakeFailed,
     Gave(Snapshot<Name>, u64),
     Ended(Snapshot<Name>, u64),
     Forked(Snapshot<Name>, u64),
@@ -43,7 +43,7 @@ pub enum Note {
     /// The reply at a place was heard, or that none is there.
     Heard(usize),
     /// Want of memory to tell a reply.
-    Mute,
+    TellFailed,
     /// Want of memory to hear the reply at a place.
-    Deaf(usize),
+    HearFailed(usize),
 }

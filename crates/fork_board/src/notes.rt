@@ -20,7 +20,7 @@ pub(crate) fn taken_note(taken: &Taken) -> Note
         Taken::Stopped(reason) => Note::Stopped(*reason),
         Taken::Idle => Note::Idle,
         Taken::Took(lease) => Note::Took(Snapshot::of(lease.name())),
-        Taken::Memory => Note::Nothing,
+        Taken::Memory => Note::WakeFailed,
     }
 }
 
@@ -42,7 +42,7 @@ pub(crate) fn told_note(image: u32, page: u32, told: &Result<(), AllocError>) ->
 {
     match told {
         Ok(()) => Note::Told(image, page),
-        Err(_) => Note::Mute,
+        Err(_) => Note::TellFailed,
     }
 }
 
@@ -52,6 +52,6 @@ pub(crate) fn heard_note(place: usize, heard: &Result<Option<Sent>, AllocError>)
 {
     match heard {
         Ok(_) => Note::Heard(place),
-        Err(_) => Note::Deaf(place),
+        Err(_) => Note::HearFailed(place),
     }
 }

@@ -8,7 +8,8 @@ use Rattle.fork_port.specs.Registers.{ForkRegisters, holding, refused, ticket_fo
 use Rattle.fork_port.specs.declared.refusals.TheConstants.{TICKETS_END, BAD_ARGUMENT, NOTHING_GRANTED}
 use Rattle.fork_port.specs.Children.{IsBalanced, IsAccounted, children_granted, new_ticket, with_ticket, after_ticket, after_clone, given_back, joined_from, after_join, killed_from, after_kill}
 use mathlib.Core.Bool.{false≢true}
-use Rattle.fork_port.proofs.TicketLemmas.{all_push, all_weaker, all_with_cloned, all_without, held_push, held_with_cloned, held_without, rising_push, rising_with_cloned, rising_without, ticket_of_without}
+use Rattle.fork_port.proofs.TicketLemmas.{all_push, all_weaker, all_with_cloned, all_without, held_push, held_with_cloned}
+use Rattle.fork_port.proofs.TicketLemmas.{held_without, rising_push, rising_with_cloned, rising_without, ticket_of_without}
 
 pub balanced_push : (allot opening next : ℕ) (tickets : List Ticket) (ticket : Ticket) → IsBalanced allot opening next tickets
     → ticket.number ≡ next → 0 < ticket.children → cost ticket ≤ allot → IsBalanced (allot - cost ticket) opening (next + 1) (tickets ++ ticket ∷ [])

@@ -7,7 +7,7 @@ use Rattle.fork_port.specs.declared.commands.Asked.TheVariants as asked
 use Rattle.fork_port.specs.declared.commands.Call.TheVariants as call
 use Rattle.fork_port.specs.declared.tickets.Ticket.{Ticket}
 use Rattle.fork_port.specs.declared.refusals.TheConstants.{ALREADY_CLONED, NOT_CLONED, BAD_ARGUMENT}
-use Rattle.fork_port.specs.declared.handed.TheConstants.{MOST_HANDED}
+use Rattle.fork_port.specs.declared.handed.TheConstants.{MAX_HANDED}
 use Rattle.fork_port.specs.declared.registers.TheConstants.{TICKET_COMMAND, CLONE_COMMAND, JOIN_COMMAND, KILL_COMMAND, EXIT_COMMAND, ZERO_COMMAND, HAND_OVER_COMMAND}
 use Rattle.fork_port.specs.Registers.{ForkRegisters, ticket_found}
 use Rattle.fork_port.specs.Commands.{IsAnswerable, clone_asks, join_asks, kill_asks, hand_over_asks, fork_command}
@@ -43,11 +43,11 @@ module _ (f : ForkRegisters) (command : ℕ) where
   new_ticket_answerable false other tells rest = rest
 
   hand_over_answerable : (value address count : ℕ) → IsAnswerable f command (hand_over_asks value address count)
-  hand_over_answerable value address count = by_room (ltb MOST_HANDED count) refl
+  hand_over_answerable value address count = by_room (ltb MAX_HANDED count) refl
     where
-      by_room : (b : Bool) → ltb MOST_HANDED count ≡ b → IsAnswerable f command (cond b (asked.Refused BAD_ARGUMENT) (asked.ExitWith value address count))
+      by_room : (b : Bool) → ltb MAX_HANDED count ≡ b → IsAnswerable f command (cond b (asked.Refused BAD_ARGUMENT) (asked.ExitWith value address count))
       by_room true over = tt
-      by_room false within = ltb-false MOST_HANDED count within
+      by_room false within = ltb-false MAX_HANDED count within
 
   pub answerable : IsAnswerable f command (fork_command f command)
   unfolding fork_command

@@ -5,7 +5,7 @@ use Rattle.fork_port.specs.declared.commands.Call.{Call}
 use Rattle.fork_port.specs.declared.commands.Asked.{Asked}
 use Rattle.fork_port.specs.declared.commands.Asked.TheVariants as asked
 use Rattle.fork_port.specs.declared.commands.Effect.TheVariants as effect
-use Rattle.fork_port.specs.declared.handed.TheConstants.{MOST_HANDED}
+use Rattle.fork_port.specs.declared.handed.TheConstants.{MAX_HANDED}
 use Rattle.fork_port.specs.declared.registers.TheConstants.{FORK_FIRST_ARGUMENT, FORK_SECOND_ARGUMENT, FORK_COMMAND, FORK_JOIN_SELECT}
 use Rattle.fork_port.specs.Tickets.{IsRising}
 use Rattle.fork_port.specs.Registers.{ForkRegisters, RegisterStored, holding}
@@ -80,14 +80,14 @@ module _ (f : ForkRegisters) where
   zero_answered first count (asked.Zero from size) is = refl
 
   handing_answered : (command value address count : ℕ) (a : Asked) → IsAnswerable f command a → effect_of a ≡ effect.ExitWith value address count
-      → (answered a f ≡ f) × (count ≤ MOST_HANDED)
+      → (answered a f ≡ f) × (count ≤ MAX_HANDED)
   handing_answered command value address count (asked.Refused word) met is = no_handing value address count is
   handing_answered command value address count asked.NewTicket met is = no_handing value address count is
   handing_answered command value address count (asked.Discard number) met is = no_handing value address count is
   handing_answered command value address count (asked.Call c) met is = absurd cc
   handing_answered command value address count (asked.Exit other) met is = absurd cc
   handing_answered command value address count (asked.ExitWith other from size) met is =
-      (refl, let same : size ≡ count = cc in subst (λ (n : ℕ). n ≤ MOST_HANDED) same met)
+      (refl, let same : size ≡ count = cc in subst (λ (n : ℕ). n ≤ MAX_HANDED) same met)
   handing_answered command value address count (asked.Zero first size) met is = absurd cc
 
   pub holding_stored : (offset width word : ℕ) → IsRising f.tickets → IfSome (fork_store f offset width word) (λ s. holding s.fork ≡ holding f)
@@ -111,8 +111,8 @@ module _ (f : ForkRegisters) where
       (λ is. no_zero first count is) (λ is. no_zero first count is) (λ is. no_zero first count is) (zero_answered first count (fork_command f word))
 
   pub handing_stored : (offset width word value address count : ℕ)
-      → IfSome (fork_store f offset width word) (λ s. s.effect ≡ effect.ExitWith value address count → (s.fork ≡ f) × (count ≤ MOST_HANDED))
+      → IfSome (fork_store f offset width word) (λ s. s.effect ≡ effect.ExitWith value address count → (s.fork ≡ f) × (count ≤ MAX_HANDED))
   handing_stored offset width word value address count =
-      each_store (λ s. s.effect ≡ effect.ExitWith value address count → (s.fork ≡ f) × (count ≤ MOST_HANDED)) f offset width word
+      each_store (λ s. s.effect ≡ effect.ExitWith value address count → (s.fork ≡ f) × (count ≤ MAX_HANDED)) f offset width word
       (λ is. no_handing value address count is) (λ is. no_handing value address count is) (λ is. no_handing value address count is)
       (handing_answered word value address count (fork_command f word) (answerable f word))

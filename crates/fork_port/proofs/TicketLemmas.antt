@@ -1,5 +1,6 @@
 -- Tickets in the order of their numbers: what finding, marking, adding and taking out one does.
-use Rattle.std.proofs.Common.{◌≡◌, ◌≢◌, ℕ, zero, suc, ◌+◌, ◌<◌, ◌≤◌, Bool, true, false, not, cond, eqb, List, [], ◌∷◌, ◌++◌, length, get_or, set, Some, None, Option, option_map, Ordering, Result, Ok, Err, IfOk, OnErr, refl, sym, ap, ◌∙◌, subst, inl, inr, arith}
+use Rattle.std.proofs.Common.{◌≡◌, ◌≢◌, ℕ, zero, suc, ◌+◌, ◌<◌, ◌≤◌, Bool, true, false, not, cond, eqb, List, [], ◌∷◌, ◌++◌, length, get_or, set}
+use Rattle.std.proofs.Common.{Some, None, Option, option_map, Ordering, Result, Ok, Err, IfOk, OnErr, refl, sym, ap, ◌∙◌, subst, inl, inr, arith}
 use Rattle.std.specs.List.{AllByRecursion, remove}
 use Rattle.std.specs.List.Sorted.{IsSearchInRange, IsBinarySearchResult, IsNonDecreasingBy}
 use Rattle.std.specs.Ordering.{nat_cmp, ordering_index}
@@ -43,7 +44,8 @@ module _ (tickets : List Ticket) (rising : IsRising tickets) (number : ℕ) wher
   comparisons_rise : IsNonDecreasingBy (λ (ticket : Ticket). ordering_index (nat_cmp ticket.number number)) tickets
   comparisons_rise i j d le within = elim (cases_lt i j) [
     | inl before ↦ let up = rising_at tickets rising i j d before within in grind (arith, nat_tests)
-    | inr after ↦ let same : i ≡ j = omega arith in subst (λ (k : ℕ). ordering_index (nat_cmp (get_or tickets i d).number number) ≤ ordering_index (nat_cmp (get_or tickets k d).number number)) same (omega arith)
+    | inr after ↦ let same : i ≡ j = omega arith in subst
+        (λ (k : ℕ). ordering_index (nat_cmp (get_or tickets i d).number number) ≤ ordering_index (nat_cmp (get_or tickets k d).number number)) same (omega arith)
   ]
 
   pub searched : (r : Result ℕ ℕ) → IsSearchInRange r (length tickets) → IsBinarySearchResult (λ (ticket : Ticket). nat_cmp ticket.number number) tickets r

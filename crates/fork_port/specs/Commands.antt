@@ -7,9 +7,10 @@ use Rattle.fork_port.specs.declared.commands.Asked.{Asked}
 use Rattle.fork_port.specs.declared.commands.Asked.TheVariants as asked
 use Rattle.fork_port.specs.declared.commands.Effect.{Effect}
 use Rattle.fork_port.specs.declared.commands.Effect.TheVariants as effect
-use Rattle.fork_port.specs.declared.handed.TheConstants.{MOST_HANDED}
+use Rattle.fork_port.specs.declared.handed.TheConstants.{MAX_HANDED}
 use Rattle.fork_port.specs.declared.refusals.TheConstants.{NO_SUCH_TICKET, ALREADY_CLONED, NOT_CLONED, BAD_ARGUMENT, UNKNOWN_COMMAND}
-use Rattle.fork_port.specs.declared.registers.TheConstants.{TICKET_COMMAND, CLONE_COMMAND, JOIN_COMMAND, KILL_COMMAND, EXIT_COMMAND, ZERO_COMMAND, HAND_OVER_COMMAND}
+use Rattle.fork_port.specs.declared.registers.TheConstants.{TICKET_COMMAND, CLONE_COMMAND, JOIN_COMMAND, KILL_COMMAND}
+use Rattle.fork_port.specs.declared.registers.TheConstants.{EXIT_COMMAND, ZERO_COMMAND, HAND_OVER_COMMAND}
 use Rattle.fork_port.specs.Registers.{ForkRegisters, HasTicket, ticket_found, refused}
 use Rattle.fork_port.specs.Children.{after_ticket, after_kill}
 
@@ -29,7 +30,7 @@ kill_asks number (Some ticket) = if ticket.is_cloned then asked.Call (call.Kill 
 
 -- What a command that is none of these asks for: EXIT with bytes, by its low byte, and so many as its other bits tell.
 abbrev pub hand_over_asks : ℕ → ℕ → ℕ → Asked
-hand_over_asks value address count = if nat_lt MOST_HANDED count then asked.Refused BAD_ARGUMENT else asked.ExitWith value address count
+hand_over_asks value address count = if nat_lt MAX_HANDED count then asked.Refused BAD_ARGUMENT else asked.ExitWith value address count
 
 abbrev pub other_asks : ℕ → ℕ → ℕ → Asked
 other_asks command value address =
@@ -78,5 +79,5 @@ IsAnswerable f command asked.NewTicket = command ≡ TICKET_COMMAND
 IsAnswerable f command (asked.Discard number) = HasTicket f number false
 IsAnswerable f command (asked.Call c) = IsMakeable f c
 IsAnswerable f command (asked.Exit value) = Unit {0}
-IsAnswerable f command (asked.ExitWith value address count) = count ≤ MOST_HANDED
+IsAnswerable f command (asked.ExitWith value address count) = count ≤ MAX_HANDED
 IsAnswerable f command (asked.Zero first count) = Unit {0}

@@ -5,8 +5,10 @@ use Rattle.fork_port.specs.declared.tickets.Ticket.{Ticket}
 use Rattle.fork_port.specs.declared.commands.Stored.{Stored}
 use Rattle.fork_port.specs.declared.commands.Stored.TheVariants.{Register, Command}
 use Rattle.fork_port.specs.declared.port.ForkFields.{ForkFields}
-use Rattle.fork_port.specs.declared.registers.TheConstants.{FORK_FIRST_ARGUMENT, FORK_SECOND_ARGUMENT, FORK_COMMAND, FORK_RESULT, FORK_CLONE_ID, FORK_ALLOT, FORK_JOIN_SELECT, FORK_JOIN_KIND, FORK_JOIN_VALUE, FORK_GRANTED, FORK_JOIN_LENGTH, FORK_JOIN_BYTES}
-use Rattle.fork_port.specs.declared.handed.TheConstants.{MOST_HANDED}
+use Rattle.fork_port.specs.declared.registers.TheConstants.{FORK_FIRST_ARGUMENT, FORK_SECOND_ARGUMENT, FORK_COMMAND, FORK_RESULT}
+use Rattle.fork_port.specs.declared.registers.TheConstants.{FORK_CLONE_ID, FORK_ALLOT, FORK_JOIN_SELECT, FORK_JOIN_KIND}
+use Rattle.fork_port.specs.declared.registers.TheConstants.{FORK_JOIN_VALUE, FORK_GRANTED, FORK_JOIN_LENGTH, FORK_JOIN_BYTES}
+use Rattle.fork_port.specs.declared.handed.TheConstants.{MAX_HANDED}
 use Rattle.fork_port.specs.Ending.{join_kind, join_value, join_count, join_word}
 use Rattle.fork_port.specs.Tickets.{ticket_of, held}
 
@@ -59,7 +61,7 @@ join_result f = if f.join_select == 0 then None else slice_get f.joined (f.join_
 
 -- the words of the bytes that it handed over
 abbrev pub is_join_word : ℕ → Bool
-is_join_word offset = nat_le FORK_JOIN_BYTES offset && (nat_lt offset (FORK_JOIN_BYTES + MOST_HANDED) && (offset % 4 == 0))
+is_join_word offset = nat_le FORK_JOIN_BYTES offset && (nat_lt offset (FORK_JOIN_BYTES + MAX_HANDED) && (offset % 4 == 0))
 
 -- the registers that tell of it, and of the last ticket
 abbrev pub told_load : ForkRegisters → ℕ → Option ℕ

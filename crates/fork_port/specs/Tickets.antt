@@ -1,5 +1,6 @@
 -- Tickets, in the order of their numbers.
-use Rattle.std.specs.Prelude.{◌≡◌, ℕ, ◌+◌, ◌*◌, ◌<◌, ◌==◌, Bool, true, not, if◌then◌else◌, List, [], ◌∷◌, length, slice_index_or, find, filter, map, sum_by, Option}
+use Rattle.std.specs.Prelude.{◌≡◌, ℕ, ◌+◌, ◌*◌, ◌<◌, ◌==◌, Bool, true, not, if◌then◌else◌, List}
+use Rattle.std.specs.Prelude.{[], ◌∷◌, length, slice_index_or, find, filter, map, sum_by, Option}
 use Rattle.std.specs.List.{AllByRecursion}
 use Rattle.fork_port.specs.declared.tickets.Ticket.{Ticket}
 

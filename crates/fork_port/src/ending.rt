@@ -1,7 +1,7 @@
 ghost use Rattle.std.specs.Prelude.{◌≡◌, ◌+◌, ◌≤◌};
 ghost use Rattle.fork_port.specs.Ending.{ending_count, ending_kind, ending_value, ending_word};
 
-use crate::handed::{Handed, MOST_HANDED};
+use crate::handed::{Handed, MAX_HANDED};
 
 /// How a machine ended.
 #[derive(Clone, Copy, Debug, PartialEq, Eq)]
@@ -45,7 +45,7 @@ impl Ending {
 
     /// The word that a join tells at a place of these bytes and of the zeros behind them.
     pub fn handed_word(self, at: usize) -> u32
-        requires { at + 4 ≤ MOST_HANDED }
+        requires { at + 4 ≤ MAX_HANDED }
         ensures { result ≡ ending_word self at }
     {
         match self {

@@ -13,7 +13,7 @@ ghost use Rattle.flat_memory.specs.Flat.{word_at};
 ghost use Rattle.fork_port.specs.Children.{IsAccounted, after_clone, after_join, after_kill, after_ticket, child_registers, children_granted, new_ticket, with_ticket};
 
 use crate::commands::Effect;
-use crate::handed::MOST_HANDED;
+use crate::handed::MAX_HANDED;
 use crate::refusals::TICKETS_END;
 use crate::registers::{FORK_JOIN_BYTES, FORK_JOIN_LENGTH};
 
@@ -82,13 +82,13 @@ pub fn calls_wait()
 /// A store that is EXIT with bytes leaves the registers as they are, and hands over 64 bytes at most.
 pub fn handing_over_waits()
     ensures { (f : ForkRegisters) (offset width word value address count : ℕ)
-        → IfSome (fork_store f offset width word) (λ s. s.effect ≡ Effect.ExitWith value address count → (s.fork ≡ f) × (count ≤ MOST_HANDED)) }
+        → IfSome (fork_store f offset width word) (λ s. s.effect ≡ Effect.ExitWith value address count → (s.fork ≡ f) × (count ≤ MAX_HANDED)) }
 {}
 
 /// Bytes that are handed over are told as they are, and as words with zeros behind them.
 pub fn handed_bytes_are_told()
     ensures count { (bytes : List ℕ) → handed_count (handed_of bytes) ≡ length bytes }
-    ensures bytes { (bytes : List ℕ) → length bytes ≤ MOST_HANDED → handed_bytes (handed_of bytes) ≡ bytes }
+    ensures bytes { (bytes : List ℕ) → length bytes ≤ MAX_HANDED → handed_bytes (handed_of bytes) ≡ bytes }
     ensures words { (bytes : List ℕ) (at : ℕ) → handed_word (handed_of bytes) at ≡ word_at bytes at }
     ensures zeros_behind { (bytes : List ℕ) (at : ℕ) → length bytes ≤ at → handed_word (handed_of bytes) at ≡ 0 }
 {}
@@ -98,7 +98,7 @@ pub fn joins_tell_bytes()
     ensures count { (f : ForkRegisters) (value : ℕ) (bytes : List ℕ) → join_result f ≡ Some (Ending.Exit value (handed_of bytes))
         → fork_load f FORK_JOIN_LENGTH 4 ≡ Some (length bytes) }
     ensures words { (f : ForkRegisters) (value : ℕ) (bytes : List ℕ) (at : ℕ) → join_result f ≡ Some (Ending.Exit value (handed_of bytes))
-        → at % 4 ≡ 0 → at < MOST_HANDED → fork_load f (FORK_JOIN_BYTES + at) 4 ≡ Some (word_at bytes at) }
+        → at % 4 ≡ 0 → at < MAX_HANDED → fork_load f (FORK_JOIN_BYTES + at) 4 ≡ Some (word_at bytes at) }
 {}
 
 /// A child's registers depend on no ticket of its parent: before and after CLONE they are the same.

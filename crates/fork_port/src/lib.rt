@@ -13,6 +13,6 @@ mod tickets;
 
 pub use commands::{Asked, Call, Effect, Stored};
 pub use ending::Ending;
-pub use handed::{Handed, MOST_HANDED};
+pub use handed::{Handed, MAX_HANDED};
 pub use port::{ForkFields, ForkPort};
 pub use tickets::Ticket;

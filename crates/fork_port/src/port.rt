@@ -8,7 +8,7 @@ ghost use Rattle.fork_port.specs.Fork.{GrantsTicket, fork_load, fork_store};
 
 use crate::commands::{Asked, Call, Effect, Stored};
 use crate::ending::Ending;
-use crate::handed::MOST_HANDED;
+use crate::handed::MAX_HANDED;
 use crate::refusals::{
     ALREADY_CLONED, BAD_ARGUMENT, NO_SUCH_TICKET, NOT_CLONED, NOTHING_GRANTED, TICKETS_END,
     UNKNOWN_COMMAND,
@@ -206,7 +206,7 @@ impl ForkPort {
 
     // The word at a place of the bytes that the selected child of the last join handed over.
     fn join_word(&self, at: usize) -> u32
-        requires { at + 4 ≤ MOST_HANDED }
+        requires { at + 4 ≤ MAX_HANDED }
         ensures { result ≡ join_word (join_result self.now) at }
     {
         match self.join_result() {
@@ -427,11 +427,11 @@ impl ForkPort {
 
 // The place among the bytes that a child handed over of the word at an offset, if one of their words is there.
 fn join_bytes_place(offset: u32) -> Option<usize>
-    ensures inside { IfSome result (λ at. (is_join_word offset ≡ true) × (at ≡ offset - FORK_JOIN_BYTES) × (at + 4 ≤ MOST_HANDED)) }
+    ensures inside { IfSome result (λ at. (is_join_word offset ≡ true) × (at ≡ offset - FORK_JOIN_BYTES) × (at + 4 ≤ MAX_HANDED)) }
     ensures outside { IsNone result ↔ (is_join_word offset ≡ false) }
 {
     let at = offset.checked_sub(FORK_JOIN_BYTES)? as usize;
-    if at < MOST_HANDED && at % 4 == 0 {
+    if at < MAX_HANDED && at % 4 == 0 {
         Some(at)
     } else {
         None
@@ -446,7 +446,7 @@ fn other_asked(command: u32, value: u32, address: u32) -> Asked
         return Asked::Refused(UNKNOWN_COMMAND);
     }
     let count = command / 256;
-    if count > MOST_HANDED as u32 {
+    if count > MAX_HANDED as u32 {
         Asked::Refused(BAD_ARGUMENT)
     } else {
         Asked::ExitWith(value, address, count)

@@ -9,11 +9,12 @@ ghost use Rattle.guest_mem.specs.Ram.{IsRamOf, cloned};
 ghost use Rattle.guest_mem.specs.Answers.{Arrives};
 
 use crate::memory::GuestMem;
+use crate::table::table_of;
 use console_port::Input;
 use cow_disk::FrozenDisk;
 use image_depot::{Arrived, Depot, Frozen, ImageKey, Parcel};
 use page_frames::Entry;
-use shared_leaves::{SharedList, Steps};
+use shared_leaves::Steps;
 use std::alloc::{AllocError, Global};
 use std::marker::Brand;
 use std::sync::ledger::{Blank, Ledger};
@@ -65,15 +66,8 @@ impl GuestMem {
         ensures cost { OnOk result (steps.new ≡ steps.old + choice_steps descriptor.now.blank) }
         ensures most { steps.new ≤ steps.old + choice_steps descriptor.now.blank }
     {
-        let blank = descriptor.blank.flags();
         Ok(GuestMem {
-            entries: SharedList::chosen_counted(
-                alloc,
-                blank,
-                &Entry::Blank,
-                &Entry::Absent,
-                steps,
-            )?,
+            entries: table_of(alloc, descriptor.pages, &descriptor.blank, steps)?,
             key: Some(key),
         })
     }

@@ -15,14 +15,19 @@ use Rattle.guest_pmp.proofs.Words.{has-alike}
 configuration-entry_of : (byte below word : ℕ) → (entry_of byte below word).configuration ≡ byte
 configuration-entry_of byte below word = grind arith
 
-pub matches_here : (address below i : ℕ) (bytes words : List ℕ) → i < length bytes → i < length words → has address (entry_of (get_or bytes i 0) below (get_or words i 0)) ≡ true → deciding_from below (drop i bytes) (drop i words) address ≡ Some (get_or bytes i 0)
+pub matches_here : (address below i : ℕ) (bytes words : List ℕ) → i < length bytes → i < length words
+    → has address (entry_of (get_or bytes i 0) below (get_or words i 0)) ≡ true → deciding_from below (drop i bytes) (drop i words) address ≡ Some (get_or bytes i 0)
 matches_here address below i bytes words in_bytes in_words h = rw (drop-cons bytes i 0, drop-cons words i 0, h) (ap Some (configuration-entry_of (get_or bytes i 0) below (get_or words i 0)))
 
-pub matches_behind : (address below i : ℕ) (bytes words : List ℕ) → i < length bytes → i < length words → has address (entry_of (get_or bytes i 0) below (get_or words i 0)) ≡ false → deciding_from below (drop i bytes) (drop i words) address ≡ deciding_from (get_or words i 0) (drop (i + 1) bytes) (drop (i + 1) words) address
+pub matches_behind : (address below i : ℕ) (bytes words : List ℕ) → i < length bytes → i < length words
+    → has address (entry_of (get_or bytes i 0) below (get_or words i 0)) ≡ false
+    → deciding_from below (drop i bytes) (drop i words) address ≡ deciding_from (get_or words i 0) (drop (i + 1) bytes) (drop (i + 1) words) address
 matches_behind address below i bytes words in_bytes in_words h = rw (drop-cons bytes i 0, drop-cons words i 0, h, add-one i)
 
 -- the choice of the first entry that matches, by two tests that are the same
-decided_at : (p q : Bool) → p ≡ q → (byte : ℕ) (e : Entry) (x y : Option Entry) → e.configuration ≡ byte → option_map (λ (s : Entry). s.configuration) x ≡ option_map (λ (s : Entry). s.configuration) y → option_map (λ (s : Entry). s.configuration) (cond p (Some e) x) ≡ option_map (λ (s : Entry). s.configuration) (cond q (Some e) y)
+decided_at : (p q : Bool) → p ≡ q → (byte : ℕ) (e : Entry) (x y : Option Entry) → e.configuration ≡ byte
+    → option_map (λ (s : Entry). s.configuration) x ≡ option_map (λ (s : Entry). s.configuration) y
+    → option_map (λ (s : Entry). s.configuration) (cond p (Some e) x) ≡ option_map (λ (s : Entry). s.configuration) (cond q (Some e) y)
 decided_at true q h byte e x y same behind = rw (← h) refl
 decided_at false q h byte e x y same behind = rw (← h) behind
 
@@ -42,7 +47,8 @@ pub matches_nowhere : (address below i : ℕ) (bytes words : List ℕ) → lengt
 matches_nowhere address below i bytes words h = rw (drop_all i bytes h)
 
 -- machine mode, by the choice of the first entry that matches
-free_at : (p : Bool) (access : Access) (byte : ℕ) (e : Entry) (x : Option Entry) → e.configuration ≡ byte → is_locked byte ≡ false → decided (option_map (λ (s : Entry). s.configuration) x) access Machine ≡ true → decided (option_map (λ (s : Entry). s.configuration) (cond p (Some e) x)) access Machine ≡ true
+free_at : (p : Bool) (access : Access) (byte : ℕ) (e : Entry) (x : Option Entry) → e.configuration ≡ byte → is_locked byte ≡ false
+    → decided (option_map (λ (s : Entry). s.configuration) x) access Machine ≡ true → decided (option_map (λ (s : Entry). s.configuration) (cond p (Some e) x)) access Machine ≡ true
 free_at true access byte e x same free behind = rw (same, free)
 free_at false access byte e x same free behind = behind
 

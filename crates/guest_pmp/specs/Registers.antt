@@ -1,6 +1,7 @@
 -- What the registers of physical memory protection hold, read and keep.
 -- RISC-V Privileged ISA 20211203, sections 3.7.1 and 3.7.1.2
-use Rattle.std.specs.Prelude.{ℕ, ◌+◌, ◌-◌, ◌*◌, ◌/◌, ◌%◌, ◌^◌, ◌≤◌, ◌⊎◌, ◌==◌, ◌&&◌, ◌||◌, not, Bool, nat_le, nat_lt, if◌then◌else◌, List, replicate, slice_index, slice_set, bit_and}
+use Rattle.std.specs.Prelude.{ℕ, ◌+◌, ◌-◌, ◌*◌, ◌/◌, ◌%◌, ◌^◌, ◌≤◌, ◌⊎◌, ◌==◌, ◌&&◌, ◌||◌, not, Bool, nat_le}
+use Rattle.std.specs.Prelude.{nat_lt, if◌then◌else◌, List, replicate, slice_index, slice_set, bit_and}
 use Rattle.std.specs.List.{AllPass, list_any}
 use Rattle.guest_pmp.specs.declared.registers.PmpRegisters.{PmpRegisters}
 use Rattle.guest_pmp.specs.declared.registers.TheConstants.{PMPCFG0, PMPCFG3, PMPADDR0, PMPADDR15}

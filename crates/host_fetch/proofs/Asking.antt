@@ -1,5 +1,6 @@
 -- Pages that are asked for, and replies that wait.
-use Rattle.std.proofs.Common.{◌≡◌, ℕ, zero, suc, ◌+◌, ◌-◌, ◌<◌, ◌≤◌, Bool, true, false, not, cond, List, [], ◌∷◌, ◌++◌, length, map, take, get_or, slice_get, slice_set, Option, Some, refl, sym, ap, ◌∙◌, subst, arith, append_assoc, add-one, length-append}
+use Rattle.std.proofs.Common.{◌≡◌, ℕ, zero, suc, ◌+◌, ◌-◌, ◌<◌, ◌≤◌, Bool, true, false, not, cond, List, [], ◌∷◌, ◌++◌, length, map, take, get_or}
+use Rattle.std.proofs.Common.{slice_get, slice_set, Option, Some, refl, sym, ap, ◌∙◌, subst, arith, append_assoc, add-one, length-append}
 use Rattle.std.specs.List.{All, remove, take-map, drop-map}
 use Rattle.std.proofs.lemmas.List.{append-nil, map-append, set-get_or}
 use Rattle.std.proofs.lemmas.List.Elements.{All-append, All-cons, All-nil}

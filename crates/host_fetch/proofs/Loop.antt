@@ -1,5 +1,7 @@
 -- A fetch goes on fate by fate, and comes to an end.
-use Rattle.std.proofs.Common.{◌≡◌, ℕ, zero, suc, ◌+◌, ◌-◌, ◌*◌, ◌<◌, ◌≤◌, Bool, true, false, cond, if◌then◌else◌, ◌||◌, eqb, eqb-true, eq-eqb, List, [], ◌∷◌, ◌++◌, length, map, take, get_or, slice_get, slice_set, Option, Some, refl, sym, ap, ◌∙◌, subst, arith, inl, inr, Err, length-append}
+use Rattle.std.proofs.Common.{◌≡◌, ℕ, zero, suc, ◌+◌, ◌-◌, ◌*◌, ◌<◌, ◌≤◌, Bool, true, false, cond, if◌then◌else◌, ◌||◌}
+use Rattle.std.proofs.Common.{eqb, eqb-true, eq-eqb, List, [], ◌∷◌, ◌++◌, length, map, take, get_or, slice_get, slice_set}
+use Rattle.std.proofs.Common.{Option, Some, refl, sym, ap, ◌∙◌, subst, arith, inl, inr, Err, length-append}
 use Rattle.std.specs.List.{All, remove, list_any}
 use Rattle.std.proofs.lemmas.List.{length-map, length-set, append-nil}
 use Rattle.std.proofs.lemmas.List.Edits.{length-remove}

@@ -52,7 +52,8 @@ pub data Comes {W : Type 0} (tells : W → ℕ → Fate → W → Type 0) (strea
       → Comes tells streak page first start new (asked_again page (after_fate fate f))
 
 -- one fate more brings it to its end, with these pages here and these asked for
-pub record Ends {W : Type 0} (tells : W → ℕ → Fate → W → Type 0) (streak : W → ℕ) (page : ℕ) (first : W) (start : Fetching) (last : W) (here : List Bool) (asked : List ℕ) : Type 0 where
+pub record Ends {W : Type 0} (tells : W → ℕ → Fate → W → Type 0) (streak : W → ℕ) (page : ℕ) (first : W) (start : Fetching) (last : W)
+    (here : List Bool) (asked : List ℕ) : Type 0 where
   pub before : W
   pub f : Fetching
   pub fate : Fate
@@ -69,7 +70,8 @@ pub record StopsAsking {W : Type 0} (first : W) (start : Fetching) (last : W) (h
   pub wire_is : last ≡ first
 
 -- one fate more was told, and memory was wanting to take its reply in: the pages that are here are as before it
-pub record StopsGiving {W : Type 0} (tells : W → ℕ → Fate → W → Type 0) (streak : W → ℕ) (page : ℕ) (first : W) (start : Fetching) (last : W) (here : List Bool) (asked : List ℕ) : Type 0 where
+pub record StopsGiving {W : Type 0} (tells : W → ℕ → Fate → W → Type 0) (streak : W → ℕ) (page : ℕ) (first : W) (start : Fetching) (last : W)
+    (here : List Bool) (asked : List ℕ) : Type 0 where
   pub before : W
   pub f : Fetching
   pub fate : Fate
@@ -83,7 +85,8 @@ pub record StopsGiving {W : Type 0} (tells : W → ℕ → Fate → W → Type 0
 -- reply in, or to ask for the page again, which is absent after a fate
 abbrev pub Finishes : {W : Type 0} → (W → ℕ → Fate → W → Type 0) → (W → ℕ) → ℕ → W → Fetching → W → List Bool → List ℕ → Result (Unit {0}) FetchError → Type 0
 Finishes tells streak page first start last here asked (Ok _) = Ends tells streak page first start last here asked × IsHere here page
-Finishes tells streak page first start last here asked (Err Wire) = Ends tells streak page first start last here asked × IsAbsent here page × (streak last ≡ LONGEST_STREAK)
+Finishes tells streak page first start last here asked (Err Wire) = Ends tells streak page first start last here asked × IsAbsent here page
+    × (streak last ≡ LONGEST_STREAK)
 Finishes tells streak page first start last here asked (Err Memory) =
     StopsAsking first start last here asked
     ⊎ (StopsGiving tells streak page first start last here asked

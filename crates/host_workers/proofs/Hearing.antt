@@ -5,7 +5,7 @@ use Rattle.std.specs.declared.alloc.AllocError.{AllocError}
 use Rattle.std.proofs.lemmas.Bool.{cases_eq}
 use Rattle.std.proofs.lemmas.Option.{slice_get_within}
 use Rattle.image_depot.specs.Reply.{Delivery, IsSentOf, sent_image, sent_page}
-use Rattle.forest_history.specs.Histories.{Entry, row, told, heard, mute, deaf, History, Record, Seat, record_after, replay}
+use Rattle.forest_history.specs.Histories.{Entry, row, told, heard, tell_failed, hear_failed, History, Record, Seat, record_after, replay}
 use Rattle.forest_history.proofs.Histories.{replay-append}
 use Rattle.forest_model.specs.Forest.{machines}
 use Rattle.forest_model.specs.Machine.{Machine}
@@ -43,8 +43,8 @@ module _ (P : ℕ × ℕ → Type 0) where
   told-after place seat (row x) r h = h
   told-after place seat (told image page) r h = some-longer r.told ((image, page) ∷ []) place h
   told-after place seat (heard at) r h = h
-  told-after place seat mute r h = h
-  told-after place seat (deaf at) r h = h
+  told-after place seat tell_failed r h = h
+  told-after place seat (hear_failed at) r h = h
 
   told-later : (place : ℕ) (log : History Reason) (r : Record Machine Reason) → IsSomeAnd (slice_get r.told place) P
       → IsSomeAnd (slice_get (replay machines log r).told place) P

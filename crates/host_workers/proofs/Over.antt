@@ -6,8 +6,9 @@ use Rattle.forest_tree.specs.Tree.{Tree, node, Path, subtree}
 use Rattle.forest_tree.specs.Settle.{has_ended}
 use Rattle.forest_history.specs.Places.{Spot, advanced, at_path, may_run, spots, steps}
 use Rattle.forest_history.specs.World.{World}
-use Rattle.forest_history.specs.Rows.{How, gave, ended, forked, joined, killed, waited, Row, over, stopped, idle, took, nothing, spent, dropped, kept, halted, Allows, IfThere, Spends, came_back, does}
-use Rattle.forest_history.specs.Histories.{Entry, row, told, heard, mute, deaf, History, IsLegal, Permits, Record, Seat, record_after, replay}
+use Rattle.forest_history.specs.Rows.{How, gave, ended, forked, joined, killed, waited, Row, over, stopped, idle, took, wake_failed}
+use Rattle.forest_history.specs.Rows.{spent, dropped, kept, halted, Allows, IfThere, Spends, came_back, does}
+use Rattle.forest_history.specs.Histories.{Entry, row, told, heard, tell_failed, hear_failed, History, IsLegal, Permits, Record, Seat, record_after, replay}
 use Rattle.forest_history.proofs.Changes.{at_path-machine}
 use Rattle.forest_history.proofs.Histories.{legal-apart, replay-append}
 use Rattle.forest_model.specs.Forest.{machines}
@@ -50,7 +51,7 @@ module _ {M E : Type 0} (o : Operations M E) where
   ended-row (stopped r) w may has = has
   ended-row idle w may has = has
   ended-row (took name) w may has = absurd (true≢false (sym has ∙ may.0.0))
-  ended-row nothing w may has = has
+  ended-row wake_failed w may has = has
   ended-row (spent how name k) w may has = ended-path how name k w.tree may has
   ended-row (dropped name) w may has = has
   ended-row (kept name k) w may has = has
@@ -62,8 +63,8 @@ module _ {M E : Type 0} (o : Operations M E) where
   ended-entry seat (row x) r may has = ended-row x r.world may.0 has
   ended-entry seat (told image page) r may has = has
   ended-entry seat (heard place) r may has = has
-  ended-entry seat mute r may has = has
-  ended-entry seat (deaf place) r may has = has
+  ended-entry seat tell_failed r may has = has
+  ended-entry seat (hear_failed place) r may has = has
 
   pub ended-stays : {R : Type 0} (log : History R) (r : Record M R) → IsLegal o log r → has_ended (spots o) r.world.tree ≡ true
       → has_ended (spots o) (replay o log r).world.tree ≡ true

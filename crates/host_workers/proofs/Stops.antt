@@ -2,8 +2,8 @@
 use Rattle.std.proofs.Common.{◌≡◌, ◌≢◌, [], ◌∷◌, ◌++◌, Bool, true, false, cond, Option, Some, None, option_map, refl, sym, ap, ◌∙◌}
 use Rattle.std.specs.Prelude.{IsSome}
 use Rattle.forest_history.specs.World as history
-use Rattle.forest_history.specs.Rows.{Row, over, stopped, idle, took, nothing, spent, dropped, kept, halted, does, first_reason}
-use Rattle.forest_history.specs.Histories.{Entry, row, told, heard, mute, deaf, History, Record, Seat, record_after, replay}
+use Rattle.forest_history.specs.Rows.{Row, over, stopped, idle, took, wake_failed, spent, dropped, kept, halted, does, first_reason}
+use Rattle.forest_history.specs.Histories.{Entry, row, told, heard, tell_failed, hear_failed, History, Record, Seat, record_after, replay}
 use Rattle.forest_model.specs.Forest.{machines}
 use Rattle.forest_model.specs.Machine.{Machine}
 use Rattle.turn_board.specs.History.{entries_by}
@@ -71,7 +71,7 @@ row-halted over w = refl
 row-halted (stopped r) w = refl
 row-halted idle w = refl
 row-halted (took name) w = refl
-row-halted nothing w = refl
+row-halted wake_failed w = refl
 row-halted (spent how name k) w = refl
 row-halted (dropped name) w = refl
 row-halted (kept name k) w = refl
@@ -83,8 +83,8 @@ unfolding record_after
 entry-halted seat (row x) r = row-halted x r.world
 entry-halted seat (told image page) r = refl
 entry-halted seat (heard place) r = refl
-entry-halted seat mute r = refl
-entry-halted seat (deaf place) r = refl
+entry-halted seat tell_failed r = refl
+entry-halted seat (hear_failed place) r = refl
 
 first-then : (seat : Seat) (o before : Option Reason) (stop : Option (Seat × Reason))
     → first_of (halted_by o before) stop ≡ first_of before (stop_or seat o stop)

@@ -4,8 +4,8 @@ use Rattle.std.specs.Option.{IfSome}
 use Rattle.forest_tree.specs.Tree.{Path}
 use Rattle.forest_tree.specs.Settle.{has_ended}
 use Rattle.forest_history.specs.Places.{spots}
-use Rattle.forest_history.specs.Rows.{Row, over, stopped, idle, took, nothing, spent, dropped, kept, halted}
-use Rattle.forest_history.specs.Histories.{Entry, row, told, heard, mute, deaf, History, IsLegal, Seat, holding}
+use Rattle.forest_history.specs.Rows.{Row, over, stopped, idle, took, wake_failed, spent, dropped, kept, halted}
+use Rattle.forest_history.specs.Histories.{Entry, row, told, heard, tell_failed, hear_failed, History, IsLegal, Seat, holding}
 use Rattle.forest_model.specs.Forest.{machines}
 use Rattle.turn_board.specs.History.{entries_by}
 use Rattle.world_core.specs.declared.reason.Reason.{Reason}
@@ -34,7 +34,7 @@ reason_of_row over = None
 reason_of_row (stopped reason) = None
 reason_of_row idle = None
 reason_of_row (took name) = None
-reason_of_row nothing = None
+reason_of_row wake_failed = None
 reason_of_row (spent how name k) = None
 reason_of_row (dropped name) = None
 reason_of_row (kept name k) = None
@@ -44,8 +44,8 @@ abbrev pub reason_of : {R : Type 0} → Entry R → Option R
 reason_of (row x) = reason_of_row x
 reason_of (told image page) = None
 reason_of (heard place) = None
-reason_of mute = None
-reason_of (deaf place) = None
+reason_of tell_failed = None
+reason_of (hear_failed place) = None
 
 -- the reason of this seat, or what was given later
 abbrev pub stop_or : {R : Type 0} → Seat → Option R → Option (Seat × R) → Option (Seat × R)

@@ -1,7 +1,7 @@
 -- What a worker does, entry by entry.
 use Rattle.std.specs.Prelude.{◌≡◌, [], ◌∷◌}
-use Rattle.forest_history.specs.Rows.{over, stopped, idle, took, nothing, spent, dropped, kept, halted}
-use Rattle.forest_history.specs.Histories.{Entry, row, told, heard, mute, deaf, History}
+use Rattle.forest_history.specs.Rows.{over, stopped, idle, took, wake_failed, spent, dropped, kept, halted}
+use Rattle.forest_history.specs.Histories.{Entry, row, told, heard, tell_failed, hear_failed, History}
 use Rattle.world_core.specs.declared.reason.Reason.{Reason}
 use Rattle.world_core.specs.declared.reason.Reason.TheVariants.{Memory}
 
@@ -44,15 +44,15 @@ Steps from (row over) then = (from ≡ free) × (then ≡ done)
 Steps from (row (stopped reason)) then = (from ≡ free) × (then ≡ done)
 Steps from (row idle) then = (from ≡ free) × (then ≡ free)
 Steps from (row (took name)) then = (from ≡ free) × (then ≡ runs)
-Steps from (row nothing) then = (from ≡ free) × (then ≡ short)
+Steps from (row wake_failed) then = (from ≡ free) × (then ≡ short)
 Steps from (row (spent how name k)) then = MayReturn from × (then ≡ free)
 Steps from (row (dropped name)) then = MayReturn from × (then ≡ free)
 Steps from (row (kept name k)) then = (from ≡ runs) × (then ≡ stuck)
 Steps from (row (halted reason)) then = Halts from reason then
 Steps from (told image page) then = (from ≡ runs) × (then ≡ runs)
 Steps from (heard place) then = (from ≡ runs) × (then ≡ runs)
-Steps from mute then = (from ≡ runs) × (then ≡ runs)
-Steps from (deaf place) then = (from ≡ runs) × (then ≡ runs)
+Steps from tell_failed then = (from ≡ runs) × (then ≡ runs)
+Steps from (hear_failed place) then = (from ≡ runs) × (then ≡ runs)
 
 -- with these entries, one after another
 unfoldable pub Goes : Stage → History Reason → Stage → Type 0

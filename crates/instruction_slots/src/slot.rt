@@ -100,10 +100,7 @@ impl Slot {
         if self.word == word {
             return Some(self.instr);
         }
-        match decode(word) {
-            Some(instr) => Some(Fields::of(instr)),
-            None => None,
-        }
+        decode_anew(word)
     }
 
     /// Keeps nothing more.
@@ -113,6 +110,29 @@ impl Slot {
     {
         self.place = NOWHERE;
     }
+}
+
+/// The instruction that a word encodes, or `None` where it encodes none.
+#[inline(always)]
+fn decode_anew(word: u32) -> Option<Fields>
+    ensures { result ≡ decoded word }
+{
+    match decode(word) {
+        Some(instr) => Some(Fields::of(instr)),
+        None => None,
+    }
+}
+
+/// The instruction that a word at an address encodes, or `None` where it encodes none. It is known where the slot of the
+/// address, if there are slots, has the word, wherever that was.
+#[inline(always)]
+pub fn decode_by(slots: &[Slot], address: u32, word: u32) -> Option<Fields>
+    ensures { result ≡ decoded word }
+{
+    if slots.is_empty() {
+        return decode_anew(word);
+    }
+    slots[slot_of(address, slots.len())].decode(word)
 }
 
 /// Forgets what is kept of the word that has the byte at an address.

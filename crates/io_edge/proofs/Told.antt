@@ -1,5 +1,6 @@
 -- What the clauses of a shelf and a sink in memory tell of the counts, the files and the bytes that are gone.
-use Rattle.std.proofs.Common.{◌≡◌, ℕ, ◌+◌, ◌<◌, ◌≤◌, ◌⊎◌, inl, inr, Bool, true, false, cond, List, length, take, ◌++◌, min, Option, Some, None, Result, Ok, Err, IfOk, OnErr, IsErrOf, IsSomeAnd, refl, sym, ap, ◌∙◌, subst, arith, Vec, vec_len, Global}
+use Rattle.std.proofs.Common.{◌≡◌, ℕ, ◌+◌, ◌<◌, ◌≤◌, ◌⊎◌, inl, inr, Bool, true, false, cond, List, length, take, ◌++◌, min, Option, Some, None}
+use Rattle.std.proofs.Common.{Result, Ok, Err, IfOk, OnErr, IsErrOf, IsSomeAnd, refl, sym, ap, ◌∙◌, subst, arith, Vec, vec_len, Global}
 use Rattle.std.proofs.lemmas.Bool.{cases_lt}
 use Rattle.io_edge.specs.declared.outside.ShelfError.{ShelfError}
 use Rattle.io_edge.specs.declared.outside.ShelfError.TheVariants.{Fault, TooLong, Memory}

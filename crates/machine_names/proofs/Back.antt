@@ -59,7 +59,15 @@ pub run-back : (left right ours theirs : Path) (begin rest : ℕ) → begin ≤ 
 run-back left right ours theirs begin rest order l r ours-is theirs-is =
     let whole : begin + (rest - begin) ≡ rest = omega arith in
     let as_long : length ours ≡ length theirs =
-    omega (arith, ap length ours-is, ap length theirs-is, length-take (rest - begin) (drop begin left), length-drop begin left, length-take (rest - begin) (drop begin right), length-drop begin right) in
+    omega (
+      arith,
+      ap length ours-is,
+      ap length theirs-is,
+      length-take (rest - begin) (drop begin left),
+      length-drop begin left,
+      length-take (rest - begin) (drop begin right),
+      length-drop begin right,
+    ) in
     ap₂ back_cmp (ap (λ n. take n left) (sym whole) ∙ take-add begin (rest - begin) left ∙ ap (λ run. take begin left ++ run) (sym ours-is))
     (ap (λ n. take n right) (sym whole) ∙ take-add begin (rest - begin) right ∙ ap (λ run. take begin right ++ run) (sym theirs-is))
     ∙ back-parts (take begin left) (take begin right) ours theirs as_long

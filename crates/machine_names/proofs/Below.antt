@@ -1,5 +1,6 @@
 -- What is left of a path beyond a way.
-use Rattle.std.proofs.Common.{◌≡◌, ◌<◌, ◌≤◌, ◌+◌, ◌&&◌, ◌==◌, eqb, eqb-true, eq-eqb, ℕ, Bool, true, false, cond, is_some, refl, sym, ap, ap₂, ◌∙◌, [], ◌∷◌, ◌++◌, length, take, drop, get_or, take-append-drop, take_at, Option, Some, None, arith}
+use Rattle.std.proofs.Common.{◌≡◌, ◌<◌, ◌≤◌, ◌+◌, ◌&&◌, ◌==◌, eqb, eqb-true, eq-eqb, ℕ, Bool, true, false, cond, is_some, refl, sym, ap}
+use Rattle.std.proofs.Common.{ap₂, ◌∙◌, [], ◌∷◌, ◌++◌, length, take, drop, get_or, take-append-drop, take_at, Option, Some, None, arith}
 use Rattle.std.specs.Ordering.{is_ne}
 use Rattle.std.proofs.lemmas.List.{drop_more}
 use Rattle.forest_tree.specs.Tree.{Branch, Path, beyond, goes_on}

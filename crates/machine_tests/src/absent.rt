@@ -16,10 +16,10 @@ use image_depot::Depot;
 use std::alloc::{AllocError, Global};
 use std::process::Abort;
 use std::sync::Wait;
-use vm_cell::{Arrived, Brood, Stepped, Vm};
+use vm_cell::{Arrived, ForkImage, Stepped, Vm};
 
 // The child of a brood of one.
-fn first_of(alloc: Global, brood: &Brood, depot: &Depot) -> Result<Vm, AllocError>
+fn first_of(alloc: Global, brood: &ForkImage, depot: &Depot) -> Result<Vm, AllocError>
     requires here { IsKeyOf depot.now brood.now.key }
     requires seeds { AreOfImage brood.now.key 1 brood.now.seed }
     ensures { IfOk result (λ vm. IsOfDepot depot.now vm.key) }

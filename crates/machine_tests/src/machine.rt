@@ -15,7 +15,7 @@ use image_depot::Depot;
 use std::alloc::{AllocError, Global};
 use std::process::Abort;
 use std::sync::Wait;
-use vm_cell::{Brood, Stepped, Vm};
+use vm_cell::{ForkImage, Stepped, Vm};
 use vm_descriptor::{DescError, Descriptor};
 
 static EXIT_SEVEN: [u32; 5] = [0x100022b7, 0x00700313, 0x0062a023, 0x00500313, 0x0062a423];
@@ -131,7 +131,7 @@ fn fork<R: Wait>(
     vm: &mut Vm,
     children: u32,
     depot: &Depot,
-) -> Result<Brood, AllocError>
+) -> Result<ForkImage, AllocError>
     requires { IsOfDepot depot.now vm.old.key }
     ensures here { IfOk result (λ brood. IsKeyOf depot.now brood.key) }
     ensures seeds { IfOk result (λ brood. AreOfImage brood.key children brood.seed) }
@@ -151,7 +151,7 @@ pub(crate) fn run_and_fork<R: Abort + Wait>(
     vm: &mut Vm,
     children: u32,
     depot: &Depot,
-) -> Brood
+) -> ForkImage
     requires { IsOfDepot depot.now vm.old.key }
     ensures here { IsKeyOf depot.now result.key }
     ensures seeds { AreOfImage result.key children result.seed }
@@ -161,7 +161,7 @@ pub(crate) fn run_and_fork<R: Abort + Wait>(
 }
 
 // A child of a brood of two.
-fn child_of(alloc: Global, brood: &Brood, number: u32, depot: &Depot) -> Result<Vm, AllocError>
+fn child_of(alloc: Global, brood: &ForkImage, number: u32, depot: &Depot) -> Result<Vm, AllocError>
     requires here { IsKeyOf depot.now brood.now.key }
     requires seeds { AreOfImage brood.now.key 2 brood.now.seed }
     requires first { 1 ≤ number }
@@ -176,7 +176,7 @@ fn child_of(alloc: Global, brood: &Brood, number: u32, depot: &Depot) -> Result<
 fn end_of(
     rt: &impl Abort,
     alloc: Global,
-    brood: &Brood,
+    brood: &ForkImage,
     number: u32,
     depot: &Depot,
 ) -> Option<Ending>

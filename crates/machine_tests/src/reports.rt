@@ -8,7 +8,7 @@ ghost use Rattle.machine_names.specs.NameOrder.{path_cmp};
 use crate::equal::{are_equal, succeeds};
 use crate::names::has_text;
 use forest_model::{Ending, Handed};
-use fork_port::MOST_HANDED;
+use fork_port::MAX_HANDED;
 use io_edge::MemSink;
 use machine_names::Name;
 use run_report::{Line, Outcome, report_into};
@@ -198,7 +198,7 @@ fn bytes_that_are_handed_over_are_told(rt: HostRuntime) {
 }
 
 fn hands_over(rt: &impl Abort, alloc: Global, bytes: &[u8], text: &[u8]) {
-    assert!(rt; bytes.len() <= MOST_HANDED);
+    assert!(rt; bytes.len() <= MAX_HANDED);
     let root = succeeds(rt, Name::root(alloc));
     let ending = Ending::Exit(7, Handed::of(bytes));
     let outcome = silent(root, ending, 7, Vec::new(alloc), alloc);

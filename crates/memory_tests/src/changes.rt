@@ -1,6 +1,6 @@
 //! Bytes that are changed at some places.
 
-use crate::equal::made;
+use crate::equal::succeeds;
 use flat_memory::write_bytes;
 use std::alloc::Global;
 use std::process::Abort;
@@ -22,8 +22,8 @@ pub fn changed(
     length: usize,
     changes: &[(usize, u32)],
 ) -> Vec<u8> {
-    let mut changed = made(rt, Vec::from_slice(alloc, bytes));
-    made(rt, changed.resize(length, 0));
+    let mut changed = succeeds(rt, Vec::from_slice(alloc, bytes));
+    succeeds(rt, changed.resize(length, 0));
     change(&mut changed, changes);
     changed
 }

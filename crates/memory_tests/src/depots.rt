@@ -5,7 +5,7 @@ ghost use Rattle.std.specs.Prelude.{◌≡◌, ◌≤◌, length, IfOk, IfSome};
 ghost use Rattle.image_depot.specs.Image.{IsWhole};
 ghost use Rattle.image_depot.specs.Key.{IsKeyOf};
 
-use crate::equal::{are_equal, made};
+use crate::equal::{are_equal, succeeds};
 use console_port::Input;
 use cow_disk::{BadSector, Disk, FrozenDisk};
 use image_depot::{Depot, Frozen, ImageKey};
@@ -28,25 +28,25 @@ fn entries_of(alloc: Global, byte: u8) -> Result<PageTable, AllocError>
 
 /// The disk of these bytes, which are whole sectors.
 fn disk_of(rt: &impl Abort, alloc: Global, bytes: &[u8]) -> FrozenDisk {
-    let disk = made(rt, Disk::from_bytes(alloc, bytes));
-    made(rt, disk.freeze())
+    let disk = succeeds(rt, Disk::from_bytes(alloc, bytes));
+    succeeds(rt, disk.freeze())
 }
 
 /// The image of a page of these bytes, a blank page and a page of one more, with a disk and an input
 /// of this byte.
 fn image_of(rt: &impl Abort, alloc: Global, byte: u8) -> Frozen {
-    let entries = made(rt, entries_of(alloc, byte));
+    let entries = succeeds(rt, entries_of(alloc, byte));
     let disk = disk_of(rt, alloc, &[byte; 512]);
-    let input = made(rt, vec![in alloc; byte; 2]);
-    let input = made(rt, Input::new(alloc, input));
-    made(rt, Frozen::new(alloc, entries, disk, input))
+    let input = succeeds(rt, vec![in alloc; byte; 2]);
+    let input = succeeds(rt, Input::new(alloc, input));
+    succeeds(rt, Frozen::new(alloc, entries, disk, input))
 }
 
 /// The key to the image of a byte.
 pub fn frozen<R: Abort + Wait>(rt: &R, alloc: Global, depot: &Depot, byte: u8) -> ImageKey
     ensures { IsKeyOf depot.now result }
 {
-    made(rt, depot.freeze(rt, image_of(rt, alloc, byte)))
+    succeeds(rt, depot.freeze(rt, image_of(rt, alloc, byte)))
 }
 
 /// Words of all three pages of an image, if it has as many.
@@ -71,7 +71,7 @@ fn last_byte(disk: &Disk) -> Result<u8, BadSector> {
 
 /// An image has these words, and a disk that ends so.
 fn has_words(rt: &impl Abort, image: &Frozen, words: [u32; 4], byte: u8) {
-    let disk = made(rt, image.disk().open());
+    let disk = succeeds(rt, image.disk().open());
     let found = (words_of(image), last_byte(&disk));
     are_equal(rt, &found, &(Some(words), Ok(byte)));
 }
@@ -89,7 +89,7 @@ fn are_lent<R: Abort + Wait>(rt: &R, alloc: Global, depot: &Depot) {
 
 #[test]
 fn lends_what_was_frozen(rt: HostRuntime) {
-    let depot = made(&rt, Depot::new(rt.alloc()));
+    let depot = succeeds(&rt, Depot::new(rt.alloc()));
     are_lent(&rt, rt.alloc(), &depot);
 }
 
@@ -113,7 +113,7 @@ fn freeze_and_lend<'a, R: Abort + Wait>(
     byte: u8,
 ) -> (u32, &'a [u8], usize) {
     let key = frozen(rt, alloc, depot, byte);
-    let again = made(rt, key.again());
+    let again = succeeds(rt, key.again());
     parts_of(depot, &again)
 }
 
@@ -126,7 +126,7 @@ fn parts_are_lent<R: Abort + Wait>(rt: &R, alloc: Global, depot: &Depot) {
 
 #[test]
 fn lends_the_parts_of_an_image(rt: HostRuntime) {
-    let depot = made(&rt, Depot::new(rt.alloc()));
+    let depot = succeeds(&rt, Depot::new(rt.alloc()));
     parts_are_lent(&rt, rt.alloc(), &depot);
 }
 
@@ -142,10 +142,10 @@ fn first_word(depot: &Depot, key: &ImageKey) -> Option<u32>
 
 /// The image of one page, with no disk and no input.
 fn image_of_page(rt: &impl Abort, alloc: Global, page: &Page) -> Frozen {
-    let entries = made(rt, entries_of_page(alloc, page));
+    let entries = succeeds(rt, entries_of_page(alloc, page));
     let disk = disk_of(rt, alloc, &[]);
-    let input = made(rt, Input::new(alloc, Vec::new(alloc)));
-    made(rt, Frozen::new(alloc, entries, disk, input))
+    let input = succeeds(rt, Input::new(alloc, Vec::new(alloc)));
+    succeeds(rt, Frozen::new(alloc, entries, disk, input))
 }
 
 /// One page alone.
@@ -159,16 +159,16 @@ fn entries_of_page(alloc: Global, page: &Page) -> Result<PageTable, AllocError>
 
 /// A page of bytes 0xaa is written so, after an image of it was frozen.
 fn a_page_is_written<R: Abort + Wait>(rt: &R, alloc: Global, depot: &Depot) {
-    let mut page = made(rt, Page::from_slice(alloc, &[0xaa; PAGE_SIZE]));
-    let key = made(rt, depot.freeze(rt, image_of_page(rt, alloc, &page)));
-    made(rt, page.write(0, &[0x11]));
+    let mut page = succeeds(rt, Page::from_slice(alloc, &[0xaa; PAGE_SIZE]));
+    let key = succeeds(rt, depot.freeze(rt, image_of_page(rt, alloc, &page)));
+    succeeds(rt, page.write(0, &[0x11]));
     let found = (first_word(depot, &key), page.word(0));
     are_equal(rt, &found, &(Some(0xaaaa_aaaa), 0xaaaa_aa11));
 }
 
 #[test]
 fn a_write_to_a_page_shows_in_no_image(rt: HostRuntime) {
-    let depot = made(&rt, Depot::new(rt.alloc()));
+    let depot = succeeds(&rt, Depot::new(rt.alloc()));
     a_page_is_written(&rt, rt.alloc(), &depot);
 }
 
@@ -243,7 +243,7 @@ fn freeze_and_read_in_threads<R: Abort + Threads + Wait + Sync>(
 
 #[test]
 fn threads_freeze_and_read_side_by_side(rt: HostRuntime) {
-    let depot = made(&rt, Depot::new(rt.alloc()));
+    let depot = succeeds(&rt, Depot::new(rt.alloc()));
     freeze_and_read_in_threads(&rt, rt.alloc(), &depot);
 }
 
@@ -263,6 +263,6 @@ fn keeps_when_moved<R: Abort + Threads + Wait>(rt: &R, alloc: Global, depot: Dep
 #[test]
 fn moves_between_threads(rt: HostRuntime) {
     let image = image_of(&rt, rt.alloc(), 0xaa);
-    let depot = made(&rt, Depot::new(rt.alloc()));
+    let depot = succeeds(&rt, Depot::new(rt.alloc()));
     keeps_when_moved(&rt, rt.alloc(), depot, image);
 }

@@ -2,7 +2,7 @@
 //! for each reason why there are none.
 
 use crate::changes::changed;
-use crate::equal::{are_equal, made};
+use crate::equal::{are_equal, succeeds};
 use block_port::{BlockFields, Status};
 use console_port::ConsoleFields;
 use guest_pmp::{Mode, PmpRegisters};
@@ -16,7 +16,7 @@ use vm_descriptor::{DescError, Descriptor, PageMap};
 
 /// A map of so many pages, all blank but one.
 fn map_of(rt: &impl Abort, alloc: Global, pages: usize, held: usize) -> PageMap {
-    let mut blank = made(rt, vec![in alloc; true; pages]);
+    let mut blank = succeeds(rt, vec![in alloc; true; pages]);
     if let Some(page) = blank.get_mut(held) {
         *page = false;
     }
@@ -121,7 +121,7 @@ fn numbered_entries() -> PmpRegisters {
 
 /// A descriptor whose fields all differ, with 20 pages of which the first and the last are blank.
 fn numbered(rt: &impl Abort, alloc: Global) -> Descriptor {
-    let mut blank = made(rt, vec![in alloc; false; 20]);
+    let mut blank = succeeds(rt, vec![in alloc; false; 20]);
     for page in [0, 19] {
         if let Some(flag) = blank.get_mut(page) {
             *flag = true;
@@ -309,13 +309,13 @@ fn again(alloc: Global, bytes: &[u8], format: Format) -> Result<Vec<u8>, DescErr
 /// The bytes of the first child.
 fn first_bytes(rt: &impl Abort, alloc: Global, format: Format) -> Vec<u8> {
     let descriptor = first_child(rt, alloc);
-    made(rt, bytes_in(alloc, descriptor, format))
+    succeeds(rt, bytes_in(alloc, descriptor, format))
 }
 
 /// The bytes of the descriptor whose fields all differ.
 fn numbered_bytes(rt: &impl Abort, alloc: Global, format: Format) -> Vec<u8> {
     let descriptor = numbered(rt, alloc);
-    made(rt, bytes_in(alloc, descriptor, format))
+    succeeds(rt, bytes_in(alloc, descriptor, format))
 }
 
 fn are_placed(rt: &impl Abort, bytes: &[u8], rows: &[(usize, &[u8])]) {
@@ -326,7 +326,7 @@ fn are_placed(rt: &impl Abort, bytes: &[u8], rows: &[(usize, &[u8])]) {
 fn protected_bytes(rt: &impl Abort, alloc: Global) -> Vec<u8> {
     let mut descriptor = numbered(rt, alloc);
     descriptor.csrs.pmp = numbered_entries();
-    made(rt, bytes_in(alloc, descriptor, Format::New))
+    succeeds(rt, bytes_in(alloc, descriptor, Format::New))
 }
 
 #[test]
@@ -363,12 +363,12 @@ fn fields_of_the_first_version_stand_at_their_places(rt: HostRuntime) {
 }
 
 fn is_read(rt: &impl Abort, alloc: Global, bytes: &[u8], format: Format) {
-    let spelled = made(rt, again(alloc, bytes, format));
+    let spelled = succeeds(rt, again(alloc, bytes, format));
     are_equal(rt, &spelled.as_slice(), &bytes);
 }
 
 fn is_migrated(rt: &impl Abort, alloc: Global, bytes: &[u8], new: &[u8]) {
-    let migrated = made(rt, Descriptor::migrate(alloc, bytes));
+    let migrated = succeeds(rt, Descriptor::migrate(alloc, bytes));
     are_equal(rt, &migrated.as_slice(), &new);
 }
 
@@ -621,7 +621,7 @@ fn are_maps(rt: &impl Abort, alloc: Global, format: Format, fields: usize) {
     let first = first_bytes(rt, alloc, format);
     for (pages, rest, number) in &MAPS {
         let mut bytes = changed(rt, alloc, &first, fields, &[(8, *pages)]);
-        made(rt, bytes.extend_from_slice(rest));
+        succeeds(rt, bytes.extend_from_slice(rest));
         is_refused(rt, alloc, &bytes, format, *number);
     }
 }
@@ -637,7 +637,7 @@ fn bytes_of(rt: &impl Abort, alloc: Global, pages: u32, held: usize, format: For
     let mut descriptor = first_child(rt, alloc);
     descriptor.pages = pages;
     descriptor.blank = map_of(rt, alloc, pages as usize, held);
-    made(rt, bytes_in(alloc, descriptor, format))
+    succeeds(rt, bytes_in(alloc, descriptor, format))
 }
 
 /// The end of the map of 1,024 pages in the first version, which are the most that it tells of.
@@ -660,7 +660,7 @@ fn runs_of_one(rt: &impl Abort, alloc: Global, runs: usize) -> PageMap {
     let mut blank = Vec::new(alloc);
     for page in 0..16_384 {
         let last = runs.saturating_sub(1).min(page);
-        made(rt, blank.push(last % 2 == 1));
+        succeeds(rt, blank.push(last % 2 == 1));
     }
     PageMap::from_vec(blank)
 }
@@ -670,7 +670,7 @@ fn form_of_runs(rt: &impl Abort, alloc: Global, runs: usize) -> (usize, Option<u
     let mut descriptor = first_child(rt, alloc);
     descriptor.pages = 16_384;
     descriptor.blank = runs_of_one(rt, alloc, runs);
-    let bytes = made(rt, bytes_in(alloc, descriptor, Format::New));
+    let bytes = succeeds(rt, bytes_in(alloc, descriptor, Format::New));
     is_read(rt, alloc, &bytes, Format::New);
     (bytes.len(), bytes.get(816).copied())
 }
@@ -704,9 +704,11 @@ fn counts(flags: &[bool]) -> (usize, usize) {
 #[test]
 fn a_map_is_copied(rt: HostRuntime) {
     let map = map_of(&rt, rt.alloc(), 16, 0);
-    let copy = made(&rt, map.clone());
-    are_equal(&rt, &copy.flags(), &map.flags());
-    are_equal(&rt, &counts(copy.flags()), &(16, 15));
+    let copy = succeeds(&rt, map.clone());
+    let flags = succeeds(&rt, map.flags(rt.alloc()));
+    let copied = succeeds(&rt, copy.flags(rt.alloc()));
+    are_equal(&rt, &copied, &flags);
+    are_equal(&rt, &counts(&copied), &(16, 15));
 }
 
 /// Whether a descriptor is in range, which is told in a thread.

@@ -11,7 +11,7 @@ pub fn are_equal<T: PartialEq + Debug>(rt: &impl Abort, found: &T, want: &T) {
 }
 
 /// What a call gave that is to succeed.
-pub fn made<T, E: Debug>(rt: &impl Abort, found: Result<T, E>) -> T
+pub fn succeeds<T, E: Debug>(rt: &impl Abort, found: Result<T, E>) -> T
     ensures { found ≡ Ok result }
 {
     found.expect(rt, "it is to succeed")

@@ -2,7 +2,7 @@
 
 ghost use Rattle.guest_mem.specs.Ram.{IsRamOf};
 
-use crate::equal::{are_equal, made};
+use crate::equal::{are_equal, succeeds};
 use crate::guests::{bare_clone, booted, frozen};
 use crate::waiting::Guest;
 use host_fetch::{FetchError, fetch};
@@ -19,7 +19,7 @@ fn waiting_clone<R: Abort + Wait>(rt: &R, alloc: Global, depot: &Depot) -> Guest
 {
     let memory = booted(rt, alloc, 16);
     let key = frozen(rt, alloc, &memory, depot);
-    let none = PageMap::from_vec(made(rt, vec![in alloc; false; 16]));
+    let none = PageMap::from_vec(succeeds(rt, vec![in alloc; false; 16]));
     Guest {
         memory: bare_clone(rt, alloc, &key, none, depot),
         page: 0,
@@ -47,7 +47,7 @@ fn fetched_by<R: Wait>(
 /// The same of a clone that is made in a depot of its own, over a wire of these fates.
 fn fetched<R: Abort + Wait>(rt: &R, alloc: Global, fates: Vec<Fate>) -> Fetched {
     let mut wire = Scripted::new(fates);
-    let depot = made(rt, Depot::new(alloc));
+    let depot = succeeds(rt, Depot::new(alloc));
     let mut guest = waiting_clone(rt, alloc, &depot);
     fetched_by(rt, alloc, &mut guest, &depot, &mut wire)
 }
@@ -68,14 +68,14 @@ fn first_here(guest: &Guest) -> [bool; 3] {
 fn fetched_after<R: Abort + Wait>(rt: &R, alloc: Global, fate: Fate, count: usize) -> Fetched {
     let mut fates = Vec::new(alloc);
     for _ in 0..count {
-        made(rt, fates.push(fate));
+        succeeds(rt, fates.push(fate));
     }
     fetched(rt, alloc, fates)
 }
 
 #[test]
 fn replies_come_in_another_order(rt: HostRuntime) {
-    let fates = made(&rt, vec![in rt.alloc(); Fate::Give(1), Fate::Give(0)]);
+    let fates = succeeds(&rt, vec![in rt.alloc(); Fate::Give(1), Fate::Give(0)]);
     let found = fetched(&rt, rt.alloc(), fates);
     are_equal(&rt, &found, &(None, [true, true, false], 2));
 }

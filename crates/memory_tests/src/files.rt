@@ -1,7 +1,7 @@
 //! Images of programs: that they are loaded where there is memory, and a file for each rule.
 
 use crate::changes::changed;
-use crate::equal::{are_equal, made};
+use crate::equal::{are_equal, succeeds};
 use elf_load::{ImageError, Loaded, load_elf};
 use page_frames::Entry;
 use std::alloc::Global;
@@ -40,7 +40,7 @@ fn push_header(rt: &impl Abort, image: &mut Vec<u8>, header: &ProgramHeader) {
         u32::MAX,
     ];
     for word in words {
-        made(rt, image.extend_from_slice(&word.to_le_bytes()));
+        succeeds(rt, image.extend_from_slice(&word.to_le_bytes()));
     }
 }
 
@@ -54,7 +54,7 @@ fn push_file_header(rt: &impl Abort, image: &mut Vec<u8>, entry: u32, count: u16
         b"\xff\xff\xff\xff\xff\xff",
     ];
     for part in parts {
-        made(rt, image.extend_from_slice(part));
+        succeeds(rt, image.extend_from_slice(part));
     }
 }
 
@@ -73,7 +73,7 @@ fn image_of(
     for header in headers {
         push_header(rt, &mut image, header);
     }
-    made(rt, image.extend_from_slice(bytes));
+    succeeds(rt, image.extend_from_slice(bytes));
     image
 }
 
@@ -125,7 +125,7 @@ fn is_exit_seven(rt: &impl Abort, loaded: &Loaded) {
 
 #[test]
 fn loads_exit_seven(rt: HostRuntime) {
-    let loaded = made(&rt, load_elf(rt.alloc(), &EXIT_SEVEN, 64));
+    let loaded = succeeds(&rt, load_elf(rt.alloc(), &EXIT_SEVEN, 64));
     is_exit_seven(&rt, &loaded);
 }
 
@@ -155,7 +155,7 @@ fn loaded_of(
     bytes: &[u8],
 ) -> Loaded {
     let image = image_of(rt, alloc, entry, headers, bytes);
-    made(rt, load_elf(alloc, &image, 16))
+    succeeds(rt, load_elf(alloc, &image, 16))
 }
 
 #[test]
@@ -174,7 +174,7 @@ fn refusal(alloc: Global, file: &[u8]) -> Option<ImageError> {
 fn most_headers(rt: &impl Abort, alloc: Global) -> Vec<ProgramHeader> {
     let mut headers = Vec::new(alloc);
     for n in 0..65_534 {
-        made(rt, headers.push([1, 0, 0x8000_fffd - n, 1, 1]));
+        succeeds(rt, headers.push([1, 0, 0x8000_fffd - n, 1, 1]));
     }
     headers
 }
@@ -191,9 +191,9 @@ fn loads_as_many_segments_as_there_may_be(rt: HostRuntime) {
 fn headers_of_zeros(rt: &impl Abort, alloc: Global, last: u32) -> Vec<ProgramHeader> {
     let mut headers = Vec::new(alloc);
     for address in 0x8000_0000..0x8000_fffd {
-        made(rt, headers.push([1, 0, address, 0, 1]));
+        succeeds(rt, headers.push([1, 0, address, 0, 1]));
     }
-    made(rt, headers.push([1, 0, last, 0, 1]));
+    succeeds(rt, headers.push([1, 0, last, 0, 1]));
     headers
 }
 

@@ -1,6 +1,6 @@
 //! Frames: that a page is put into one and read from it, and that other bytes are none.
 
-use crate::equal::{are_equal, made};
+use crate::equal::{are_equal, succeeds};
 use fetch_proto::{decode_frame, encode_reply};
 use std::process::Abort;
 
@@ -50,7 +50,7 @@ fn is_whole(rt: &impl Abort, bytes: &[u8]) {
 
 #[test]
 fn a_page_goes_in_a_frame(rt: HostRuntime) {
-    let bytes = made(&rt, encode_reply(rt.alloc(), 3, 1, &[0; 4096]));
+    let bytes = succeeds(&rt, encode_reply(rt.alloc(), 3, 1, &[0; 4096]));
     is_placed(&rt, &bytes);
     is_whole(&rt, &bytes);
 }
@@ -68,8 +68,8 @@ fn change_first(bytes: &mut [u8]) {
 
 #[test]
 fn other_bytes_are_no_frame(rt: HostRuntime) {
-    let mut bytes = made(&rt, encode_reply(rt.alloc(), 3, 1, &[0; 4096]));
-    made(&rt, bytes.push(0));
+    let mut bytes = succeeds(&rt, encode_reply(rt.alloc(), 3, 1, &[0; 4096]));
+    succeeds(&rt, bytes.push(0));
     is_no_frame(&rt, &bytes);
     bytes.pop();
     change_first(&mut bytes);

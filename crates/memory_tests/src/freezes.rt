@@ -3,7 +3,7 @@
 ghost use Rattle.std.specs.Prelude.{◌≡◌, ◌+◌, ◌<◌, length, OnOk};
 ghost use Rattle.guest_mem.specs.Ram.{IsRamOf};
 
-use crate::equal::{are_equal, made};
+use crate::equal::{are_equal, succeeds};
 use crate::guests::{SIZES, booted, first_word, frozen_disk, input};
 use console_port::Input;
 use cow_disk::FrozenDisk;
@@ -84,7 +84,7 @@ fn has_every_page(rt: &impl Abort, alloc: Global, pages: u32, depot: &Depot) {
 
 #[test]
 fn a_counted_freeze_has_every_page(rt: HostRuntime) {
-    let depot = made(&rt, Depot::new(rt.alloc()));
+    let depot = succeeds(&rt, Depot::new(rt.alloc()));
     for pages in SIZES.iter() {
         has_every_page(&rt, rt.alloc(), *pages, &depot);
     }

@@ -5,7 +5,7 @@ ghost use Rattle.std.specs.Prelude.{◌≡◌, ◌≤◌, None};
 ghost use Rattle.image_depot.specs.Key.{IsKeyOf};
 ghost use Rattle.guest_mem.specs.Ram.{IsRamOf};
 
-use crate::equal::{are_equal, made};
+use crate::equal::{are_equal, succeeds};
 use crate::process::{are_few, resident_bytes};
 use block_port::{BlockFields, Status};
 use console_port::{ConsoleFields, Input};
@@ -37,9 +37,9 @@ pub fn booted(rt: &impl Abort, alloc: Global, pages: u32) -> GuestMem
     requires most { pages ≤ MAX_PAGES }
     ensures { result.key ≡ None }
 {
-    let file = made(rt, elf_of(alloc, RAM_BASE + SECOND, &WORDS));
-    let loaded = made(rt, load_elf(alloc, &file, pages));
-    made(rt, GuestMem::booted(&loaded))
+    let file = succeeds(rt, elf_of(alloc, RAM_BASE + SECOND, &WORDS));
+    let loaded = succeeds(rt, load_elf(alloc, &file, pages));
+    succeeds(rt, GuestMem::booted(&loaded))
 }
 
 /// What comes of a store of the low bytes of a word, where there is a place for it.
@@ -105,13 +105,13 @@ fn descriptor_of(pages: u32, blank: PageMap) -> Descriptor
 
 /// A disk without sectors.
 pub fn frozen_disk(rt: &impl Abort, alloc: Global) -> FrozenDisk {
-    let disk = made(rt, Disk::from_bytes(alloc, &[]));
-    made(rt, disk.freeze())
+    let disk = succeeds(rt, Disk::from_bytes(alloc, &[]));
+    succeeds(rt, disk.freeze())
 }
 
 pub fn input(rt: &impl Abort, alloc: Global) -> Input {
-    let bytes = made(rt, Vec::from_slice(alloc, b"in"));
-    made(rt, Input::new(alloc, bytes))
+    let bytes = succeeds(rt, Vec::from_slice(alloc, b"in"));
+    succeeds(rt, Input::new(alloc, bytes))
 }
 
 /// The key to an image of this memory.
@@ -120,8 +120,8 @@ pub fn frozen<R: Abort + Wait>(rt: &R, alloc: Global, memory: &GuestMem, depot: 
     ensures { IsKeyOf depot.now result }
 {
     let disk = frozen_disk(rt, alloc);
-    let image = made(rt, memory.freeze(alloc, depot, disk, input(rt, alloc)));
-    made(rt, depot.freeze(rt, image))
+    let image = succeeds(rt, memory.freeze(alloc, depot, disk, input(rt, alloc)));
+    succeeds(rt, depot.freeze(rt, image))
 }
 
 /// A clone that starts with an image, with these blank pages, and nothing else here.
@@ -137,8 +137,8 @@ pub fn bare_clone(
 {
     let descriptor = descriptor_of(depot.pages(key), blank);
     assert!(rt; descriptor.is_in_range());
-    let key = made(rt, key.again());
-    made(rt, GuestMem::clone_of(alloc, key, &descriptor))
+    let key = succeeds(rt, key.again());
+    succeeds(rt, GuestMem::clone_of(alloc, key, &descriptor))
 }
 
 /// A clone that starts with an image of this memory, and has its blank pages and nothing else here.
@@ -152,7 +152,7 @@ fn bare_clone_of<R: Abort + Wait>(
     ensures { IsRamOf depot.now result }
 {
     let key = frozen(rt, alloc, memory, depot);
-    let blank = made(rt, memory.blank(alloc));
+    let blank = succeeds(rt, memory.blank(alloc));
     bare_clone(rt, alloc, &key, blank, depot)
 }
 
@@ -170,8 +170,8 @@ fn send(
     ensures { IsRamOf depot.now memory.new }
 {
     assert!(rt; page < depot.pages(key));
-    let parcel = made(rt, depot.answer(key, page));
-    made(rt, memory.arrive(alloc, depot, &parcel))
+    let parcel = succeeds(rt, depot.answer(key, page));
+    succeeds(rt, memory.arrive(alloc, depot, &parcel))
 }
 
 /// Sends the first two pages.
@@ -204,7 +204,7 @@ fn make_blank(rt: &impl Abort, memory: &mut GuestMem, page: u32)
     ensures { memory.new.key ≡ memory.old.key }
 {
     assert!(rt; page < memory.pages());
-    made(rt, memory.zero_pages(page, 1));
+    succeeds(rt, memory.zero_pages(page, 1));
 }
 
 /// Stores 16 bytes around the border of two pages.
@@ -283,7 +283,7 @@ fn zero_and_store(rt: &impl Abort, memory: &mut GuestMem) {
     let end = memory.size();
     are_equal(rt, &store(memory, end - 1, 1, 0x11), &STORED);
     assert!(rt; memory.pages() == 1024);
-    made(rt, memory.zero_pages(1, 1023));
+    succeeds(rt, memory.zero_pages(1, 1023));
     are_equal(rt, &store(memory, 2 * SECOND, 4, 0x22), &STORED);
 }
 
@@ -307,8 +307,8 @@ fn are_blank(rt: &impl Abort, flags: &[bool]) {
 fn are_zeroed(rt: &impl Abort, alloc: Global, memory: &GuestMem) {
     let words = [Some(0), Some(0), Some(0x22)];
     are_equal(rt, &words_of_zeroed(memory), &words);
-    let map = made(rt, memory.blank(alloc));
-    are_blank(rt, map.flags());
+    let map = succeeds(rt, memory.blank(alloc));
+    are_blank(rt, &succeeds(rt, map.flags(alloc)));
 }
 
 #[test]
@@ -359,9 +359,9 @@ fn clones_store_apart(
 )
     requires { IsKeyOf depot.now key.now }
 {
-    let blank = made(rt, parent.blank(alloc));
+    let blank = succeeds(rt, parent.blank(alloc));
     let mut first = clone_of(rt, alloc, key, blank, depot);
-    let blank = made(rt, parent.blank(alloc));
+    let blank = succeeds(rt, parent.blank(alloc));
     let mut second = clone_of(rt, alloc, key, blank, depot);
     store_two(rt, &mut second, 3);
     store_two(rt, &mut first, 2);
@@ -410,9 +410,9 @@ fn stays_as_frozen<R: Abort + Wait>(
 
 #[test]
 fn a_store_after_a_freeze_shows_in_one_guest_and_in_no_image(rt: HostRuntime) {
-    let depot = made(&rt, Depot::new(rt.alloc()));
+    let depot = succeeds(&rt, Depot::new(rt.alloc()));
     let mut parent = booted(&rt, rt.alloc(), 16);
-    let blank = made(&rt, parent.blank(rt.alloc()));
+    let blank = succeeds(&rt, parent.blank(rt.alloc()));
     stays_as_frozen(&rt, rt.alloc(), &mut parent, blank, &depot);
 }
 
@@ -428,9 +428,9 @@ fn written_clone(
 ) -> GuestMem
     requires { IsKeyOf depot.now parcel.now.key }
 {
-    let blank = made(rt, parent.blank(alloc));
+    let blank = succeeds(rt, parent.blank(alloc));
     let mut clone = bare_clone(rt, alloc, parcel.key(), blank, depot);
-    made(rt, clone.arrive(alloc, depot, parcel));
+    succeeds(rt, clone.arrive(alloc, depot, parcel));
     are_equal(rt, &store(&mut clone, SECOND, 4, word), &STORED);
     clone
 }
@@ -447,7 +447,7 @@ fn written_clones(
 {
     let mut clones = Vec::new(alloc);
     for n in 0..1000 {
-        made(
+        succeeds(
             rt,
             clones.push(written_clone(rt, alloc, parent, parcel, depot, n)),
         );
@@ -499,13 +499,13 @@ fn share_an_image<R: Abort + Alloc + Files + Wait>(
 {
     let key = frozen(rt, alloc, parent, depot);
     assert!(rt; 1 < depot.pages(&key));
-    let parcel = made(rt, depot.answer(&key, 1));
+    let parcel = succeeds(rt, depot.answer(&key, 1));
     take_few_bytes(rt, alloc, parent, &parcel, depot)
 }
 
 #[test]
 fn a_thousand_clones_share_an_image(rt: HostRuntime) -> Result<(), Fail> {
-    let depot = made(&rt, Depot::new(rt.alloc()));
+    let depot = succeeds(&rt, Depot::new(rt.alloc()));
     let parent = booted(&rt, rt.alloc(), 16);
     share_an_image(&rt, rt.alloc(), &parent, &depot)
 }
@@ -533,7 +533,7 @@ fn clone_gets_one<R: Abort + Wait>(rt: &R, alloc: Global, parent: &GuestMem, dep
     requires { IsRamOf depot.now parent.now }
 {
     let key = frozen(rt, alloc, parent, depot);
-    let blank = made(rt, parent.blank(alloc));
+    let blank = succeeds(rt, parent.blank(alloc));
     let mut memory = bare_clone(rt, alloc, &key, blank, depot);
     gets_one(rt, alloc, &mut memory, &key, depot);
 }
@@ -541,7 +541,7 @@ fn clone_gets_one<R: Abort + Wait>(rt: &R, alloc: Global, parent: &GuestMem, dep
 // The guest has stored to two pages.
 #[test]
 fn a_page_that_is_here_does_not_come_again(rt: HostRuntime) {
-    let depot = made(&rt, Depot::new(rt.alloc()));
+    let depot = succeeds(&rt, Depot::new(rt.alloc()));
     let mut parent = booted(&rt, rt.alloc(), 16);
     store_two(&rt, &mut parent, 1);
     clone_gets_one(&rt, rt.alloc(), &parent, &depot);
@@ -585,7 +585,7 @@ fn grandchild_reads<R: Abort + Wait>(rt: &R, alloc: Global, child: &GuestMem, de
     requires { IsRamOf depot.now child.now }
 {
     let key = frozen(rt, alloc, child, depot);
-    let blank = made(rt, child.blank(alloc));
+    let blank = succeeds(rt, child.blank(alloc));
     let mut memory = bare_clone(rt, alloc, &key, blank, depot);
     peeks_and_gets(rt, alloc, &mut memory, &key, depot);
 }
@@ -612,7 +612,7 @@ fn comes_from_below<R: Abort + Wait>(rt: &R, alloc: Global, pages: u32, depot: &
 
 #[test]
 fn an_absent_page_is_refused_until_it_is_blank_or_comes_from_below(rt: HostRuntime) {
-    let depot = made(&rt, Depot::new(rt.alloc()));
+    let depot = succeeds(&rt, Depot::new(rt.alloc()));
     for pages in SIZES.iter() {
         comes_from_below(&rt, rt.alloc(), *pages, &depot);
     }

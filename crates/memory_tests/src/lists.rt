@@ -3,7 +3,7 @@
 
 ghost use Rattle.std.specs.Prelude.{◌≡◌, ◌+◌, ◌<◌, true, false, [], ◌∷◌, length, replicate, OnOk};
 
-use crate::equal::{are_equal, made};
+use crate::equal::{are_equal, succeeds};
 use crate::token::Token;
 use shared_leaves::{SharedList, Steps};
 use std::alloc::{AllocError, Global};
@@ -15,11 +15,11 @@ use std::thread::Threads;
 
 /// The list of the numbers below `count`.
 fn counted(rt: &impl Abort, alloc: Global, count: u32) -> SharedList<Token> {
-    let mut tokens = made(rt, Vec::with_capacity(alloc, count as usize));
+    let mut tokens = succeeds(rt, Vec::with_capacity(alloc, count as usize));
     for number in 0..count {
-        made(rt, tokens.push(made(rt, Token::new(alloc, number))));
+        succeeds(rt, tokens.push(succeeds(rt, Token::new(alloc, number))));
     }
-    made(rt, SharedList::from_vec(alloc, tokens))
+    succeeds(rt, SharedList::from_vec(alloc, tokens))
 }
 
 /// Whether a list has the numbers below `count`, in their order.
@@ -68,9 +68,9 @@ fn fill(
     end: usize,
     number: u32,
 ) -> usize {
-    let token = made(rt, Token::new(list.allocator(), number));
+    let token = succeeds(rt, Token::new(list.allocator(), number));
     if first <= end && end <= list.len() {
-        made(rt, list.fill(first, end, &token));
+        succeeds(rt, list.fill(first, end, &token));
     }
     token.owners() - 1
 }
@@ -168,7 +168,7 @@ static WRITTEN: [(u32, usize); 7] = [
 
 /// Two entries of the second leaf are written in a share.
 fn one_leaf_is_copied(rt: &impl Abort, before: &SharedList<Token>) {
-    let mut after = made(rt, before.share());
+    let mut after = succeeds(rt, before.share());
     let written = [write(&mut after, 65, 1000), write(&mut after, 127, 1001)];
     are_equal(rt, &written, &[Ok(true), Ok(true)]);
     let found = [held(before, PLACES), held(&after, PLACES)];
@@ -193,7 +193,7 @@ static FILLED: [(u32, usize); 7] = [
 
 /// A run is set in a share.
 fn whole_leaves_are_shared(rt: &impl Abort, before: &SharedList<Token>) {
-    let mut after = made(rt, before.share());
+    let mut after = succeeds(rt, before.share());
     let holders = fill(rt, &mut after, 63, 129, 7);
     are_equal(rt, &(is_counted(before, 130), holders), &(true, 1 + 64 + 1));
     are_equal(rt, &held(&after, PLACES), &FILLED.map(Some));
@@ -213,6 +213,21 @@ fn chosen(alloc: Global, set: &Token, unset: &Token) -> Result<SharedList<Token>
     choose_of_ledger::<Brand>(alloc, &flags, set, unset, Blank::new(1))
 }
 
+/// The same list by the lengths of its runs.
+fn chosen_in_runs<L: Ledger>(
+    alloc: Global,
+    set: &Token,
+    unset: &Token,
+    blank: Blank,
+) -> Result<SharedList<Token>, AllocError>
+    requires name { blank.name ≡ L.name }
+    requires parts { blank.parts ≡ L.parts }
+    requires some { 0 < blank.parts }
+{
+    let mut steps = Steps::<L>::new(blank);
+    SharedList::chosen_in_runs_counted(alloc, 257, &[100, 1, 156], set, unset, &mut steps)
+}
+
 /// Three whole leaves of the one number are one, and the entries of the leaf with both are apart.
 fn has_one_leaf(rt: &impl Abort, list: &SharedList<Token>) {
     are_equal(rt, &list.len(), &257);
@@ -224,10 +239,18 @@ fn has_one_leaf(rt: &impl Abort, list: &SharedList<Token>) {
 
 #[test]
 fn equal_entries_are_one_leaf(rt: HostRuntime) {
-    let set = made(&rt, Token::new(rt.alloc(), 7));
-    let unset = made(&rt, Token::new(rt.alloc(), 8));
-    let list = made(&rt, chosen(rt.alloc(), &set, &unset));
+    let set = succeeds(&rt, Token::new(rt.alloc(), 7));
+    let unset = succeeds(&rt, Token::new(rt.alloc(), 8));
+    let list = succeeds(&rt, chosen(rt.alloc(), &set, &unset));
     has_one_leaf(&rt, &list);
+}
+
+#[test]
+fn equal_entries_of_runs_are_one_leaf(rt: HostRuntime) {
+    let set = succeeds(&rt, Token::new(rt.alloc(), 7));
+    let unset = succeeds(&rt, Token::new(rt.alloc(), 8));
+    let made_in_runs = chosen_in_runs::<Brand>(rt.alloc(), &set, &unset, Blank::new(1));
+    has_one_leaf(&rt, &succeeds(&rt, made_in_runs));
 }
 
 /// Whether a counted share of a list of 1,024 entries has them in their order.
@@ -259,5 +282,5 @@ fn is_written_apart<R: Abort + Threads>(
 #[test]
 fn lists_move_between_threads(rt: HostRuntime) {
     let list = counted(&rt, rt.alloc(), 65);
-    is_written_apart(&rt, made(&rt, list.share()), &list);
+    is_written_apart(&rt, succeeds(&rt, list.share()), &list);
 }

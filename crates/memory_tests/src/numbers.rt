@@ -17,12 +17,6 @@ fn limits_are_those_of_the_formats(rt: HostRuntime) {
 
 #[test]
 fn sizes_are_those_of_the_formats(rt: HostRuntime) {
-    let sizes = [
-        elf_load::PAGE_SIZE,
-        PAGE_SIZE,
-        SECTOR_SIZE,
-        FRAME_SIZE,
-        MAX_INPUT,
-    ];
-    are_equal(&rt, &sizes, &[4096, 4096, 512, 4108, 65_536]);
+    let sizes = [PAGE_SIZE, SECTOR_SIZE, FRAME_SIZE, MAX_INPUT];
+    are_equal(&rt, &sizes, &[4096, 512, 4108, 65_536]);
 }

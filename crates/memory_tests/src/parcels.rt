@@ -6,7 +6,7 @@ ghost use Rattle.image_depot.specs.Key.{IsKeyOf};
 ghost use Rattle.image_depot.specs.Reply.{IsSentOf};
 
 use crate::depots::frozen;
-use crate::equal::{are_equal, made};
+use crate::equal::{are_equal, succeeds};
 use image_depot::{Depot, ImageKey, Parcel, Sent};
 use std::alloc::Global;
 use std::process::Abort;
@@ -71,7 +71,7 @@ fn second_is_carried<R: Abort + Wait>(rt: &R, alloc: Global, depot: &Depot) {
 
 #[test]
 fn a_reply_carries_its_page(rt: HostRuntime) {
-    let depot = made(&rt, Depot::new(rt.alloc()));
+    let depot = succeeds(&rt, Depot::new(rt.alloc()));
     second_is_carried(&rt, rt.alloc(), &depot);
 }
 
@@ -100,7 +100,7 @@ fn are_there<R: Abort + Wait>(rt: &R, depot: &Depot, key: &ImageKey)
 {
     let first = pushed(rt, depot, key, 2).expect(rt, "a parcel");
     let second = pushed(rt, depot, key, 0).expect(rt, "a parcel");
-    let again = made(rt, first.again());
+    let again = succeeds(rt, first.again());
     let all = [
         told(depot, &first),
         told(depot, &second),
@@ -121,7 +121,7 @@ fn are_there_of_frozen<R: Abort + Wait>(rt: &R, alloc: Global, depot: &Depot) {
 
 #[test]
 fn what_was_pushed_is_there(rt: HostRuntime) {
-    let depot = made(&rt, Depot::new(rt.alloc()));
+    let depot = succeeds(&rt, Depot::new(rt.alloc()));
     are_there_of_frozen(&rt, rt.alloc(), &depot);
 }
 
@@ -190,7 +190,7 @@ fn push_and_read_in_threads<R: Abort + Threads + Wait + Sync>(
 
 #[test]
 fn threads_push_and_read_side_by_side(rt: HostRuntime) {
-    let depot = made(&rt, Depot::new(rt.alloc()));
+    let depot = succeeds(&rt, Depot::new(rt.alloc()));
     push_and_read_in_threads(&rt, rt.alloc(), &depot);
 }
 
@@ -209,6 +209,6 @@ fn length_and_page<R: Abort + Threads + Wait>(rt: &R, alloc: Global, depot: &Dep
 
 #[test]
 fn moves_between_threads(rt: HostRuntime) {
-    let depot = made(&rt, Depot::new(rt.alloc()));
+    let depot = succeeds(&rt, Depot::new(rt.alloc()));
     length_and_page(&rt, rt.alloc(), &depot);
 }

@@ -12,24 +12,24 @@ pub const PAGE_SIZE: usize = 4096;
 
 /// The bytes of a page, which are copied in one piece.
 #[derive(Drop)]
-struct Frame {
+struct PageBytes {
     bytes: [u8; PAGE_SIZE],
 }
 
-impl Clone for Frame {
+impl Clone for PageBytes {
     ghost use Rattle.std.specs.Prelude.{◌≡◌};
 
     ghost is_clone = { λ frame copy. copy ≡ frame };
 
-    fn clone(&self) -> Result<Frame, AllocError> {
-        Ok(Frame { bytes: self.bytes })
+    fn clone(&self) -> Result<PageBytes, AllocError> {
+        Ok(PageBytes { bytes: self.bytes })
     }
 }
 
 /// A page of memory, which is shared until it is written. Contracts see it as its bytes.
 #[derive(Drop)]
 pub struct Page {
-    frame: Arc<Frame>,
+    frame: Arc<PageBytes>,
 }
 
 impl Model for Page {
@@ -57,7 +57,7 @@ impl Page {
         ensures { IfOk result (λ page. page ≡ bytes.now) }
     {
         Ok(Page {
-            frame: Arc::new(alloc, Frame { bytes: *bytes })?,
+            frame: Arc::new(alloc, PageBytes { bytes: *bytes })?,
         })
     }
 
@@ -124,7 +124,7 @@ impl Page {
 
 /// Writes bytes of a frame, of which this owner gets a copy first where there are others.
 #[inline(always)]
-fn write_frame(frame: &mut Arc<Frame>, at: usize, bytes: &[u8]) -> Result<(), AllocError>
+fn write_frame(frame: &mut Arc<PageBytes>, at: usize, bytes: &[u8]) -> Result<(), AllocError>
     requires { at + length bytes.now ≤ length (arc_value frame.old).bytes }
     ensures ok { OnOk result ((arc_value frame.new).bytes ≡ put_bytes (arc_value frame.old).bytes at bytes.now) }
     ensures err { OnErr result ((arc_value frame.new).bytes ≡ (arc_value frame.old).bytes) }
@@ -140,7 +140,7 @@ fn write_frame(frame: &mut Arc<Frame>, at: usize, bytes: &[u8]) -> Result<(), Al
 /// one owner is short.
 #[cold]
 #[inline(never)]
-fn write_copy(frame: &mut Arc<Frame>, at: usize, bytes: &[u8]) -> Result<(), AllocError>
+fn write_copy(frame: &mut Arc<PageBytes>, at: usize, bytes: &[u8]) -> Result<(), AllocError>
     requires { at + length bytes.now ≤ length (arc_value frame.old).bytes }
     ensures ok { OnOk result ((arc_value frame.new).bytes ≡ put_bytes (arc_value frame.old).bytes at bytes.now) }
     ensures err { OnErr result ((arc_value frame.new).bytes ≡ (arc_value frame.old).bytes) }

@@ -1,5 +1,7 @@
 -- The fork port keeps what a forest asks of the tickets of a machine.
-use Rattle.std.proofs.Common.{◌≡◌, ℕ, zero, suc, ◌+◌, ◌*◌, ◌^◌, ◌<◌, ◌≤◌, ◌&&◌, ◌||◌, not, eqb, ltb, leb, Bool, true, false, cond, refl, sym, ap, ◌∙◌, subst, arith, ltb-true, lt-ltb, leb-true, le-leb, eqb-true, eq-eqb, List, [], ◌∷◌, Option, Some, None, IsSome, IsSomeAnd, option_map, is_some}
+use Rattle.std.proofs.Common.{◌≡◌, ℕ, zero, suc, ◌+◌, ◌*◌, ◌^◌, ◌<◌, ◌≤◌, ◌&&◌, ◌||◌, not, eqb, ltb, leb, Bool, true}
+use Rattle.std.proofs.Common.{false, cond, refl, sym, ap, ◌∙◌, subst, arith, ltb-true, lt-ltb, leb-true, le-leb, eqb-true}
+use Rattle.std.proofs.Common.{eq-eqb, List, [], ◌∷◌, Option, Some, None, IsSome, IsSomeAnd, option_map, is_some}
 use Rattle.std.proofs.lemmas.Bool.{eqb-false, lt-leb, and_parts, and_from}
 use Rattle.std.proofs.lemmas.Bool.Decides.{nat_tests}
 use Rattle.std.specs.List.{AllByRecursion}
@@ -11,7 +13,8 @@ use Rattle.fork_port.specs.Tickets.{ticket_of, as_cloned, cost, held, IsRising}
 use Rattle.fork_port.specs.Registers.{ForkRegisters, HasTicket, holding, ticket_found}
 use Rattle.fork_port.specs.Children.{IsAccounted, children_granted, new_ticket, with_ticket, after_ticket, after_clone, joined_from, after_join, killed_from, after_kill, child_registers}
 use Rattle.fork_port.proofs.TicketLemmas.{held_without, ticket_of_push, ticket_of_with_cloned}
-use Rattle.fork_port.proofs.Balance.{unless, holding_after_ticket, holding_after_clone, holding_after_join, holding_after_kill, accounted_after_ticket, accounted_after_clone, accounted_after_join, accounted_after_kill, found_after_join, found_after_kill}
+use Rattle.fork_port.proofs.Balance.{unless, holding_after_ticket, holding_after_clone, holding_after_join, holding_after_kill, accounted_after_ticket}
+use Rattle.fork_port.proofs.Balance.{accounted_after_clone, accounted_after_join, accounted_after_kill, found_after_join, found_after_kill}
 use Rattle.port_rules.specs.Rules.{cloned_numbers, is_cloned, is_uncloned, grant_of, may_clone, are_below, are_above, are_for_children, are_rising, is_accounted, IsPortStep}
 
 or-left : (a b c : Bool) → (b ≡ true → a || c ≡ true) → a || b ≡ true → a || c ≡ true

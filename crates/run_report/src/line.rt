@@ -10,13 +10,13 @@ ghost use Rattle.run_report.specs.Summary.{IsWithin, with_line};
 
 use crate::summary::Summary;
 use forest_model::Ending;
-use fork_port::MOST_HANDED;
+use fork_port::MAX_HANDED;
 use io_edge::{Sink, SinkBuffer, WriteFault};
 use machine_names::Name;
 use std::marker::Model;
 
 /// The most hexadecimal digits of bytes that a machine hands over.
-const MOST_DIGITS: usize = 2 * MOST_HANDED;
+const MAX_DIGITS: usize = 2 * MAX_HANDED;
 
 /// What a report says of a machine that has ended.
 #[derive(Drop)]
@@ -242,7 +242,7 @@ fn put_handed<K: Sink>(
 
 /// Puts out bytes that were handed over, each in two hexadecimal digits.
 fn put_bytes<K: Sink>(bytes: &[u8], buffer: &mut SinkBuffer, sink: &mut K) -> Result<(), WriteFault>
-    requires { length bytes.now ≤ MOST_HANDED }
+    requires { length bytes.now ≤ MAX_HANDED }
     ensures counts { K.faults sink.old ≤ K.faults sink.new }
     ensures fault { OnErr result (HasRisen (K.faults sink.old) (K.faults sink.new)) }
     ensures streams { Streams (K.gone sink.old) (K.gone sink.new) buffer.old (bytes_text bytes.now) buffer.new result }
@@ -250,7 +250,7 @@ fn put_bytes<K: Sink>(bytes: &[u8], buffer: &mut SinkBuffer, sink: &mut K) -> Re
     if bytes.is_empty() {
         return buffer.put(sink, b"");
     }
-    let mut room = [0u8; MOST_DIGITS];
+    let mut room = [0u8; MAX_DIGITS];
     let digits = &mut room[..2 * bytes.len()];
     let Ok(()) = hex::encode_to_slice(bytes, digits) else {
         unreachable!();

@@ -5,7 +5,7 @@ use Rattle.rv_decode.specs.Instruction.{Instruction}
 use Rattle.rv_asm.specs.Encode.{encoded}
 use Rattle.rv_asm.specs.Listing.{Listing, instruction_of, then_words, assembled_from, assembled, FailsFirst}
 use Rattle.rv_asm.specs.declared.error.AsmError.{AsmError}
-use Rattle.rv_asm.specs.declared.line.Line.{Line}
+use Rattle.rv_asm.specs.declared.line.ProgramLine.{ProgramLine}
 
 -- the words of a line and of those that follow
 record AreWords (r : Result Instruction AsmError) (rest : Result (List ℕ) AsmError) (words : List ℕ) : Type 0 where
@@ -26,7 +26,7 @@ then_words-err (Ok i) (Ok others) error e = absurd (let no_error : ⊥ = cc in n
 then_words-err (Ok i) (Err other) error e = inr (refl, e)
 then_words-err (Err other) rest error e = inl (let same : other ≡ error = cc in ap Err same)
 
-count_from : (p : Listing) (at : ℕ) (lines : List Line) (words : List ℕ) → assembled_from p at lines ≡ Ok words → length words ≡ length lines
+count_from : (p : Listing) (at : ℕ) (lines : List ProgramLine) (words : List ℕ) → assembled_from p at lines ≡ Ok words → length words ≡ length lines
 unfolding assembled_from
 count_from p at [] words e = let none : words ≡ [] = cc in ap length none
 count_from p at (line ∷ lines) words e =
@@ -34,7 +34,7 @@ count_from p at (line ∷ lines) words e =
     omega (arith, ap length w.are, count_from p (at + 1) lines w.others w.rest_is)
 
 -- at a place that is so many lines behind the first
-each_from : (p : Listing) (at : ℕ) (lines : List Line) (words : List ℕ) (k place : ℕ) (line : Line) → place ≡ at + k → assembled_from p at lines ≡ Ok words
+each_from : (p : Listing) (at : ℕ) (lines : List ProgramLine) (words : List ℕ) (k place : ℕ) (line : ProgramLine) → place ≡ at + k → assembled_from p at lines ≡ Ok words
     → slice_get lines k ≡ Some line → IsOkAnd (instruction_of p place line) (λ i. slice_get words k ≡ Some (encoded i))
 unfolding assembled_from
 each_from p at [] words k place line behind e is = absurd (let no_line : ⊥ = cc in no_line)
@@ -48,30 +48,30 @@ each_from p at (first ∷ lines) words (suc k) place line behind e is =
     subst (λ words. IsOkAnd (instruction_of p place line) (λ i. slice_get words (suc k) ≡ Some (encoded i))) (sym w.are)
     (each_from p (at + 1) lines w.others k place line (omega arith) w.rest_is is)
 
-pub each : (p : Listing) (words : List ℕ) (k : ℕ) (line : Line) → assembled p ≡ Ok words → slice_get p.lines k ≡ Some line
+pub each : (p : Listing) (words : List ℕ) (k : ℕ) (line : ProgramLine) → assembled p ≡ Ok words → slice_get p.lines k ≡ Some line
     → IsOkAnd (instruction_of p k line) (λ i. slice_get words k ≡ Some (encoded i))
 each p words k line e is = each_from p 0 p.lines words k k line (omega arith) e is
 
 pub count : (p : Listing) (words : List ℕ) → assembled p ≡ Ok words → length words ≡ length p.lines
 count p words e = count_from p 0 p.lines words e
 
-record FailsFrom (p : Listing) (at : ℕ) (lines : List Line) (error : AsmError) : Type 0 where
+record FailsFrom (p : Listing) (at : ℕ) (lines : List ProgramLine) (error : AsmError) : Type 0 where
   place : ℕ
-  line : Line
+  line : ProgramLine
   is : slice_get lines place ≡ Some line
   gives : instruction_of p (at + place) line ≡ Err error
-  before : (k : ℕ) (other : Line) → k < place → slice_get lines k ≡ Some other → IsOk (instruction_of p (at + k) other)
+  before : (k : ℕ) (other : ProgramLine) → k < place → slice_get lines k ≡ Some other → IsOk (instruction_of p (at + k) other)
 
-before_more : (p : Listing) (at : ℕ) (line : Line) (lines : List Line) (place : ℕ) → IsOk (instruction_of p at line)
-    → ((k : ℕ) (other : Line) → k < place → slice_get lines k ≡ Some other → IsOk (instruction_of p (at + 1 + k) other))
-    → (k : ℕ) (other : Line) → k < suc place → slice_get (line ∷ lines) k ≡ Some other → IsOk (instruction_of p (at + k) other)
+before_more : (p : Listing) (at : ℕ) (line : ProgramLine) (lines : List ProgramLine) (place : ℕ) → IsOk (instruction_of p at line)
+    → ((k : ℕ) (other : ProgramLine) → k < place → slice_get lines k ≡ Some other → IsOk (instruction_of p (at + 1 + k) other))
+    → (k : ℕ) (other : ProgramLine) → k < suc place → slice_get (line ∷ lines) k ≡ Some other → IsOk (instruction_of p (at + k) other)
 before_more p at line lines place first rest zero other within is =
     let same : line ≡ other = cc in
     subst (λ line. IsOk (instruction_of p (at + 0) line)) same (subst (λ n. IsOk (instruction_of p n line)) (omega arith) first)
 before_more p at line lines place first rest (suc k) other within is =
     subst (λ n. IsOk (instruction_of p n other)) (omega arith) (rest k other (omega arith) is)
 
-fails_from : (p : Listing) (at : ℕ) (lines : List Line) (error : AsmError) → assembled_from p at lines ≡ Err error → FailsFrom p at lines error
+fails_from : (p : Listing) (at : ℕ) (lines : List ProgramLine) (error : AsmError) → assembled_from p at lines ≡ Err error → FailsFrom p at lines error
 unfolding assembled_from
 fails_from p at [] error e = absurd (let no_error : ⊥ = cc in no_error)
 fails_from p at (line ∷ lines) error e =

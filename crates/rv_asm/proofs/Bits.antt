@@ -43,5 +43,16 @@ and_first a m b n of_a of_b apart =
     let bitwise : bit_and (bit_or a b) m ≡ a =
     same_from_bits (bit_and (bit_or a b) m) a
     (λ i.
-    omega (arith, bit_at_and (bit_or a b) m i, bit_at_or a b i, bit_at_and a m i, bit_at_and b n i, bit_at_and m n i, bit_at-zero i, ap (λ x. bit_at x i) of_a.same, ap (λ x. bit_at x i) of_b.same, ap (λ x. bit_at x i) apart)) in
+    omega (
+      arith,
+      bit_at_and (bit_or a b) m i,
+      bit_at_or a b i,
+      bit_at_and a m i,
+      bit_at_and b n i,
+      bit_at_and m n i,
+      bit_at-zero i,
+      ap (λ x. bit_at x i) of_a.same,
+      ap (λ x. bit_at x i) of_b.same,
+      ap (λ x. bit_at x i) apart,
+    )) in
     rw sum at bitwise

@@ -1,5 +1,6 @@
 -- What the lines of a program give.
-use Rattle.std.proofs.Common.{◌≡◌, ℕ, append_assoc, add-one, drop-cons, suc, ◌+◌, ◌<◌, ◌≤◌, List, [], ◌∷◌, ◌++◌, length, get_or, drop, Some, None, Option, Ok, Err, Result, inl, inr, refl, sym, ap, ◌∙◌, subst}
+use Rattle.std.proofs.Common.{◌≡◌, ℕ, append_assoc, add-one, drop-cons, suc, ◌+◌, ◌<◌, ◌≤◌, List, [], ◌∷◌, ◌++◌, length}
+use Rattle.std.proofs.Common.{get_or, drop, Some, None, Option, Ok, Err, Result, inl, inr, refl, sym, ap, ◌∙◌, subst}
 use Rattle.std.specs.Prelude.{ℤ, SomeIff}
 use Rattle.std.specs.Option.{ok_or}
 use Rattle.std.proofs.lemmas.List.{append-nil}
@@ -11,8 +12,8 @@ use Rattle.rv_asm.specs.Offset.{reach, offset, reaches}
 use Rattle.rv_asm.specs.Listing.{Listing, place_of, with_offset, instruction_of, then_words, assembled_from, assembled, IsRefused}
 use Rattle.rv_asm.specs.declared.error.AsmError.{AsmError}
 use Rattle.rv_asm.specs.declared.error.AsmError.TheVariants.{UnplacedLabel, OffsetOutOfRange, LabelPlacedTwice, Memory}
-use Rattle.rv_asm.specs.declared.line.Line.{Line}
-use Rattle.rv_asm.specs.declared.line.Line.TheVariants.{Plain, ToLabel}
+use Rattle.rv_asm.specs.declared.line.ProgramLine.{ProgramLine}
+use Rattle.rv_asm.specs.declared.line.ProgramLine.TheVariants.{Plain, ToLabel}
 use Rattle.rv_asm.proofs.Assembled.{first_error}
 use Rattle.rv_asm.proofs.Offsets.{IsMultiple-offset, IsSigned-reaches, reaches-IsSigned}
 
@@ -52,20 +53,20 @@ after_words_more : (words : List ℕ) (i : Instruction) (rest : Result (List ℕ
 after_words_more words i (Ok rest) = ap Ok (sym (append_assoc words (encoded i ∷ []) rest))
 after_words_more words i (Err error) = refl
 
-assembled_from-line : (p : Listing) (at : ℕ) (line : Line) → at < length p.lines → get_or p.lines at line ≡ line
+assembled_from-line : (p : Listing) (at : ℕ) (line : ProgramLine) → at < length p.lines → get_or p.lines at line ≡ line
     → assembled_from p at (drop at p.lines) ≡ then_words (instruction_of p at line) (assembled_from p (at + 1) (drop (at + 1) p.lines))
 unfolding assembled_from
 assembled_from-line p at line within is =
     ap (assembled_from p at)
-    (drop-cons p.lines at line within ∙ ap (λ (l : Line). l ∷ drop (suc at) p.lines) is ∙ ap (λ n. line ∷ drop n p.lines) (sym (add-one at)))
+    (drop-cons p.lines at line within ∙ ap (λ (l : ProgramLine). l ∷ drop (suc at) p.lines) is ∙ ap (λ n. line ∷ drop n p.lines) (sym (add-one at)))
 
-pub AreWordsBefore-more : (p : Listing) (at : ℕ) (line : Line) (i : Instruction) (words : List ℕ) → at < length p.lines → get_or p.lines at line ≡ line
+pub AreWordsBefore-more : (p : Listing) (at : ℕ) (line : ProgramLine) (i : Instruction) (words : List ℕ) → at < length p.lines → get_or p.lines at line ≡ line
     → instruction_of p at line ≡ Ok i → AreWordsBefore p at words → AreWordsBefore p (at + 1) (words ++ encoded i ∷ [])
 AreWordsBefore-more p at line i words within is gives before =
     let rest = assembled_from p (at + 1) (drop (at + 1) p.lines) in
     before ∙ ap (after_words words) (assembled_from-line p at line within is ∙ ap (λ r. then_words r rest) gives) ∙ after_words_more words i rest
 
-pub AreWordsBefore-error : (p : Listing) (at : ℕ) (line : Line) (error : AsmError) (words : List ℕ) → at < length p.lines → get_or p.lines at line ≡ line
+pub AreWordsBefore-error : (p : Listing) (at : ℕ) (line : ProgramLine) (error : AsmError) (words : List ℕ) → at < length p.lines → get_or p.lines at line ≡ line
     → instruction_of p at line ≡ Err error → AreWordsBefore p at words → assembled p ≡ Err error
 AreWordsBefore-error p at line error words within is gives before =
     before
@@ -86,7 +87,7 @@ with_offset-placed_twice i at (Some place) gives =
       | inr far_away ↦ (let other = sym (cond-false _ _ _ far_away) ∙ gives in let no_error : ⊥ = cc in no_error)
     ]
 
-instruction_of-placed_twice : (p : Listing) (at : ℕ) (line : Line) → instruction_of p at line ≡ Err LabelPlacedTwice → ⊥
+instruction_of-placed_twice : (p : Listing) (at : ℕ) (line : ProgramLine) → instruction_of p at line ≡ Err LabelPlacedTwice → ⊥
 instruction_of-placed_twice p at (Plain i) gives = cc
 instruction_of-placed_twice p at (ToLabel b) gives = with_offset-placed_twice b.instruction at (place_of p b.label) gives
 

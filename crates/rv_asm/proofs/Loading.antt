@@ -1,5 +1,6 @@
 -- How the loader takes an image of words.
-use Rattle.std.proofs.Common.{◌≡◌, ℕ, zero, suc, ◌+◌, ◌-◌, ◌*◌, ◌/◌, ◌%◌, ◌<◌, ◌≤◌, ◌^◌, ◌⊎◌, true, false, not, cond, ltb, List, [], ◌∷◌, ◌++◌, length, get_or, Some, None, Ok, Err, refl, sym, ap, ◌∙◌, inl, inr, subst, arith}
+use Rattle.std.proofs.Common.{◌≡◌, ℕ, zero, suc, ◌+◌, ◌-◌, ◌*◌, ◌/◌, ◌%◌, ◌<◌, ◌≤◌, ◌^◌, ◌⊎◌, true, false, not, cond, ltb, List}
+use Rattle.std.proofs.Common.{[], ◌∷◌, ◌++◌, length, get_or, Some, None, Ok, Err, refl, sym, ap, ◌∙◌, inl, inr, subst, arith}
 use Rattle.std.specs.Prelude.{◌||◌, All}
 use Rattle.std.specs.List.{list_any}
 use Rattle.std.proofs.lemmas.Bool.{cases_Bool, cond-true, cond-false, le-ltb, lt-ltb, ltb-true, ltb-false, leb-true, and_parts, or_from, or_left, or_parts}
@@ -72,7 +73,8 @@ not_entered base pages aligned misses =
 broken_entry : (base pages : ℕ) → is_entry pages base ≡ false → first_broken (place_rules (elf_of base []) pages (non_empty (segment_at (elf_of base []) 52 ∷ [])) base) ≡ Some 12
 unfolding place_rules
 broken_entry base pages outside =
-    ap (λ b. first_broken (place_rules (elf_of base []) pages (cond b (segment_at (elf_of base []) 52 ∷ []) []) base)) (le-ltb 0 (segment_at (elf_of base []) 52).memory_size (omega (arith, memory_size_of base [] (omega arith))))
+    ap (λ b. first_broken (place_rules (elf_of base []) pages (cond b (segment_at (elf_of base []) 52 ∷ []) []) base))
+    (le-ltb 0 (segment_at (elf_of base []) 52).memory_size (omega (arith, memory_size_of base [] (omega arith))))
     ∙ ap (λ b. first_broken ((12, not b) ∷ [])) outside
 
 -- with words the segment is

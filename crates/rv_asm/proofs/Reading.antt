@@ -59,7 +59,8 @@ b_read bits rs1 rs2 imm low free small_rs1 small_rs2 fits even =
     let read : field word 31 31 * 2 ^ 12 + field word 7 7 * 2 ^ 11 + field word 30 25 * 2 ^ 5 + field word 11 8 * 2 ≡ u % 0x2000 = omega arith in
     ap (signed 0x1000) read ∙ signed_b imm fits
 
-i_read : (bits rs1 rd : ℕ) (imm : ℤ) → bits % 0x1000 < 0x80 → bits < 0x8000 → rs1 < 32 → rd < 32 → IsSigned 0x800 imm → i_immediate (bits + (i_bits (cast_unsigned w32 imm) + rs1_bits rs1 + rd_bits rd)) ≡ imm
+i_read : (bits rs1 rd : ℕ) (imm : ℤ) → bits % 0x1000 < 0x80 → bits < 0x8000 → rs1 < 32 → rd < 32 → IsSigned 0x800 imm
+    → i_immediate (bits + (i_bits (cast_unsigned w32 imm) + rs1_bits rs1 + rd_bits rd)) ≡ imm
 i_read bits rs1 rd imm low free small_rs1 small_rd fits =
     let u = cast_unsigned w32 imm in
     let word = bits + (i_bits u + rs1_bits rs1 + rd_bits rd) in

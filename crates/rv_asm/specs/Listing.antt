@@ -9,18 +9,18 @@ use Rattle.rv_asm.specs.Encode.{encoded}
 use Rattle.rv_asm.specs.Offset.{offset, reaches}
 use Rattle.rv_asm.specs.declared.error.AsmError.{AsmError}
 use Rattle.rv_asm.specs.declared.error.AsmError.TheVariants.{UnplacedLabel, OffsetOutOfRange, LabelPlacedTwice, Memory}
-use Rattle.rv_asm.specs.declared.line.Line.{Line}
-use Rattle.rv_asm.specs.declared.line.Line.TheVariants.{Plain, ToLabel}
+use Rattle.rv_asm.specs.declared.line.ProgramLine.{ProgramLine}
+use Rattle.rv_asm.specs.declared.line.ProgramLine.TheVariants.{Plain, ToLabel}
 
 -- a line with an instruction as it is, and one with a jump or a branch to a label
-abbrev pub plain : Instruction → Line
+abbrev pub plain : Instruction → ProgramLine
 plain i = Plain i
 
-abbrev pub to_label : Instruction → ℕ → Line
+abbrev pub to_label : Instruction → ℕ → ProgramLine
 to_label i label = ToLabel (record { instruction = i; label = label })
 
 abbrev pub Lines : Type 0
-Lines = List Line
+Lines = List ProgramLine
 
 -- the address of the first word, the lines, and each label with its place, in the order of the labels
 pub record Listing : Type 0 where
@@ -31,7 +31,7 @@ pub record Listing : Type 0 where
 abbrev pub empty : ℕ → Listing
 empty base = record { base = base; lines = []; labels = [] }
 
-abbrev pub with_line : Listing → Line → Listing
+abbrev pub with_line : Listing → ProgramLine → Listing
 with_line p line = record p { lines = p.lines ++ line ∷ [] }
 
 -- where a label is placed, if it is
@@ -50,7 +50,7 @@ abbrev pub with_offset : Instruction → ℕ → Option ℕ → Result Instructi
 with_offset i at None = Err UnplacedLabel
 with_offset i at (Some place) = if reaches i.kind at place then Ok (record i { imm = offset at place }) else Err OffsetOutOfRange
 
-abbrev pub instruction_of : Listing → ℕ → Line → Result Instruction AsmError
+abbrev pub instruction_of : Listing → ℕ → ProgramLine → Result Instruction AsmError
 instruction_of p at (Plain i) = Ok i
 instruction_of p at (ToLabel b) = with_offset b.instruction at (place_of p b.label)
 
@@ -71,10 +71,10 @@ assembled p = assembled_from p 0 p.lines
 -- the first line that gives an error gives this one
 pub record FailsFirst (p : Listing) (error : AsmError) : Type 0 where
   pub place : ℕ
-  pub line : Line
+  pub line : ProgramLine
   pub is : slice_get p.lines place ≡ Some line
   pub gives : instruction_of p place line ≡ Err error
-  pub before : (k : ℕ) (other : Line) → k < place → slice_get p.lines k ≡ Some other → IsOk (instruction_of p k other)
+  pub before : (k : ℕ) (other : ProgramLine) → k < place → slice_get p.lines k ≡ Some other → IsOk (instruction_of p k other)
 
 -- when each error comes. Out of memory may come at any time
 abbrev pub IsRefused : Listing → AsmError → Type 0

@@ -11,7 +11,7 @@ ghost use Rattle.rv_asm.specs.Encode.{encoded};
 ghost use Rattle.rv_asm.specs.Offset.{takes_label, offset, reaches};
 ghost use Rattle.rv_asm.specs.Listing.{Listing, instruction_of, assembled, FailsFirst};
 ghost use Rattle.rv_asm.specs.declared.error.AsmError.{AsmError};
-ghost use Rattle.rv_asm.specs.declared.line.Line.{Line};
+ghost use Rattle.rv_asm.specs.declared.line.ProgramLine.{ProgramLine};
 ghost use Rattle.rv_asm.specs.Fit.{IsBuilt, FitsInRam, misfit};
 
 /// The word of an instruction decodes to it.
@@ -29,7 +29,7 @@ pub fn reach_is_the_range()
 /// that gives an error names it.
 pub fn lines_give_words()
     ensures count { (p : Listing) (words : List ℕ) → assembled p ≡ Ok words → length words ≡ length p.lines }
-    ensures each { (p : Listing) (words : List ℕ) (k : ℕ) (line : Line) → assembled p ≡ Ok words → slice_get p.lines k ≡ Some line
+    ensures each { (p : Listing) (words : List ℕ) (k : ℕ) (line : ProgramLine) → assembled p ≡ Ok words → slice_get p.lines k ≡ Some line
         → IsOkAnd (instruction_of p k line) (λ i. slice_get words k ≡ Some (encoded i)) }
     ensures first_error { (p : Listing) (error : AsmError) → assembled p ≡ Err error → FailsFirst p error }
 {}

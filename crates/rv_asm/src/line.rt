@@ -21,21 +21,21 @@ pub fn takes_label(kind: Kind) -> bool
 
 /// A line of a program, which is one word.
 #[derive(Clone, Copy)]
-pub(crate) enum Line {
+pub(crate) enum ProgramLine {
     /// An instruction as it is.
     Plain(Instr),
     /// An instruction whose immediate is the offset to a label.
-    ToLabel(Branch),
+    ToLabel(LabelledJump),
 }
 
 /// A jump or a branch to a label.
 #[derive(Clone, Copy)]
-pub(crate) struct Branch {
+pub(crate) struct LabelledJump {
     instruction: Instr,
     label: u32,
 }
 
-impl Model for Branch {
+impl Model for LabelledJump {
     ghost use Rattle.std.specs.Prelude.{IsTrue};
     ghost use Rattle.rv_asm.specs.Offset.{BranchTo, takes_label};
 
@@ -48,12 +48,12 @@ impl Model for Branch {
     ghost inverse = { λ v. record { instruction = v.instruction; label = v.label } };
 }
 
-impl Branch {
-    pub(crate) fn new(instruction: Instr, label: u32) -> Branch
+impl LabelledJump {
+    pub(crate) fn new(instruction: Instr, label: u32) -> LabelledJump
         requires { IsTrue (takes_label instruction.kind) }
         ensures { result ≡ record { instruction = instruction; label = label } }
     {
-        Branch { instruction, label }
+        LabelledJump { instruction, label }
     }
 
     pub(crate) fn instruction(self) -> Instr

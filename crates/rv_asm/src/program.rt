@@ -4,7 +4,7 @@ ghost use Rattle.rv_asm.specs.Listing.{empty, plain, to_label, with_line, place_
 
 use crate::encoder::encode;
 use crate::error::AsmError;
-use crate::line::{Branch, Line, offset, with_immediate};
+use crate::line::{LabelledJump, ProgramLine, offset, with_immediate};
 use rv_decode::Instr;
 use std::alloc::Global;
 use std::collections::BTreeMap;
@@ -15,7 +15,7 @@ use std::marker::Model;
 #[derive(Drop)]
 pub struct Program {
     base: u32,
-    lines: Vec<Line>,
+    lines: Vec<ProgramLine>,
     labels: BTreeMap<u32, usize>,
 }
 
@@ -53,7 +53,7 @@ impl Program {
         ensures memory { IfErr result (λ error. error ≡ AsmError.Memory) }
         ensures err { OnErr result (self.new ≡ self.old) }
     {
-        self.lines.push(Line::Plain(instruction))?;
+        self.lines.push(ProgramLine::Plain(instruction))?;
         Ok(())
     }
 
@@ -65,8 +65,7 @@ impl Program {
         ensures memory { IfErr result (λ error. error ≡ AsmError.Memory) }
         ensures err { OnErr result (self.new ≡ self.old) }
     {
-        self.lines
-            .push(Line::ToLabel(Branch::new(instruction, label)))?;
+        self.lines.push(ProgramLine::ToLabel(LabelledJump::new(instruction, label)))?;
         Ok(())
     }
 
@@ -101,12 +100,12 @@ impl Program {
     }
 
     /// The instruction of a line at this place.
-    fn instruction_of(&self, at: usize, line: &Line) -> Result<Instr, AsmError>
+    fn instruction_of(&self, at: usize, line: &ProgramLine) -> Result<Instr, AsmError>
         ensures { result ≡ instruction_of self.now at line.now }
     {
         match *line {
-            Line::Plain(instruction) => Ok(instruction),
-            Line::ToLabel(branch) => {
+            ProgramLine::Plain(instruction) => Ok(instruction),
+            ProgramLine::ToLabel(branch) => {
                 let place = self.labels.get(&branch.label()).copied();
                 with_offset(branch.instruction(), at, place)
             }

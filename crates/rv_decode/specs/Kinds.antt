@@ -1,6 +1,10 @@
 -- The kinds of instructions, by the format of their words and by what executes them.
 use Rattle.rv_decode.specs.declared.kinds.Kind.{Kind}
-use Rattle.rv_decode.specs.declared.kinds.Kind.TheVariants.{Lui, Auipc, Jal, Jalr, Beq, Bne, Blt, Bge, Bltu, Bgeu, Lb, Lh, Lw, Lbu, Lhu, Sb, Sh, Sw, Addi, Slti, Sltiu, Xori, Ori, Andi, Slli, Srli, Srai, Add, Sub, Sll, Slt, Sltu, Xor, Srl, Sra, Or, And, Mul, Mulh, Mulhsu, Mulhu, Div, Divu, Rem, Remu, Fence, FenceI, Ecall, Ebreak, Mret, Wfi, Csrrw, Csrrs, Csrrc, Csrrwi, Csrrsi, Csrrci, LrW, ScW, AmoswapW, AmoaddW, AmoxorW, AmoandW, AmoorW, AmominW, AmomaxW, AmominuW, AmomaxuW}
+use Rattle.rv_decode.specs.declared.kinds.Kind.TheVariants.{Lui, Auipc, Jal, Jalr, Beq, Bne, Blt, Bge, Bltu, Bgeu, Lb, Lh, Lw, Lbu, Lhu, Sb, Sh}
+use Rattle.rv_decode.specs.declared.kinds.Kind.TheVariants.{Sw, Addi, Slti, Sltiu, Xori, Ori, Andi, Slli, Srli, Srai, Add, Sub, Sll, Slt, Sltu}
+use Rattle.rv_decode.specs.declared.kinds.Kind.TheVariants.{Xor, Srl, Sra, Or, And, Mul, Mulh, Mulhsu, Mulhu, Div, Divu, Rem, Remu, Fence, FenceI}
+use Rattle.rv_decode.specs.declared.kinds.Kind.TheVariants.{Ecall, Ebreak, Mret, Wfi, Csrrw, Csrrs, Csrrc, Csrrwi, Csrrsi, Csrrci, LrW, ScW}
+use Rattle.rv_decode.specs.declared.kinds.Kind.TheVariants.{AmoswapW, AmoaddW, AmoxorW, AmoandW, AmoorW, AmominW, AmomaxW, AmominuW, AmomaxuW}
 use Rattle.rv_decode.specs.declared.kinds.Format.{Format}
 use Rattle.rv_decode.specs.declared.kinds.Format.TheVariants as format
 use Rattle.rv_decode.specs.declared.kinds.Group.{Group}

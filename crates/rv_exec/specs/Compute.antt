@@ -2,7 +2,8 @@
 -- immediate. RISC-V Unprivileged ISA 20191213, sections 2.4, 7.1 and 7.2
 use Rattle.std.specs.Prelude.{ℕ, ◌+◌, ◌-◌, ◌*◌, ◌/◌, ◌%◌, ◌^◌, ◌==◌, pos, ◌-ℤ◌, ◌*ℤ◌, nat_lt, int_lt, int_div, int_rem, if◌then◌else◌, bit_and, bit_or, bit_xor}
 use Rattle.rv_decode.specs.declared.kinds.Kind.{Kind}
-use Rattle.rv_decode.specs.declared.kinds.Kind.TheVariants.{Addi, Slti, Sltiu, Xori, Ori, Andi, Slli, Srli, Srai, Add, Sub, Sll, Slt, Sltu, Xor, Srl, Sra, Or, And, Mul, Mulh, Mulhsu, Mulhu, Div, Divu, Rem, Remu}
+use Rattle.rv_decode.specs.declared.kinds.Kind.TheVariants.{Addi, Slti, Sltiu, Xori, Ori, Andi, Slli, Srli, Srai, Add, Sub, Sll, Slt, Sltu}
+use Rattle.rv_decode.specs.declared.kinds.Kind.TheVariants.{Xor, Srl, Sra, Or, And, Mul, Mulh, Mulhsu, Mulhu, Div, Divu, Rem, Remu}
 use Rattle.rv_exec.specs.Words.{signed, word_of, floor_div}
 
 abbrev pub sum : ℕ → ℕ → ℕ

@@ -4,7 +4,9 @@
 use Rattle.std.specs.Prelude.{ℕ, Bool, ◌&&◌, nat_le, if◌then◌else◌, List, [], ◌∷◌, Option, find}
 use Rattle.std.specs.Option.{option_map}
 use Rattle.rv_traps.specs.declared.number.Csr.{Csr}
-use Rattle.rv_traps.specs.declared.number.Csr.TheVariants.{Information, Mstatus, Misa, Mie, Mtvec, Mcounteren, Menvcfg, Mstatush, Menvcfgh, Mcountinhibit, Mhpmevent, Mscratch, Mepc, Mcause, Mtval, Mip, Pmp, Mcycle, Minstret, Mhpmcounter, Mcycleh, Minstreth, Mhpmcounterh}
+use Rattle.rv_traps.specs.declared.number.Csr.TheVariants.{Information, Mstatus, Misa, Mie, Mtvec, Mcounteren, Menvcfg, Mstatush}
+use Rattle.rv_traps.specs.declared.number.Csr.TheVariants.{Menvcfgh, Mcountinhibit, Mhpmevent, Mscratch, Mepc, Mcause, Mtval, Mip}
+use Rattle.rv_traps.specs.declared.number.Csr.TheVariants.{Pmp, Mcycle, Minstret, Mhpmcounter, Mcycleh, Minstreth, Mhpmcounterh}
 use Rattle.guest_pmp.specs.Registers.{reading as pmp_reading}
 use Rattle.rv_traps.specs.declared.registers.CsrRegisters.{CsrRegisters}
 use Rattle.rv_traps.specs.Registers.{low_half, high_half}

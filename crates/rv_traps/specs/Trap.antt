@@ -5,7 +5,8 @@ use Rattle.guest_pmp.specs.declared.access.Mode.TheVariants.{User, Machine}
 use Rattle.guest_pmp.specs.Allowed.{is_machine}
 use Rattle.rv_traps.specs.declared.csrs.TheConstants.{TIMER_INTERRUPT}
 use Rattle.rv_traps.specs.declared.registers.CsrRegisters.{CsrRegisters}
-use Rattle.rv_traps.specs.Registers.{has_bit, mstatus_of, interrupt_enable, previous_interrupt_enable, previous_mode, modifies_privilege, timer_interrupt_enable}
+use Rattle.rv_traps.specs.Registers.{has_bit, mstatus_of, interrupt_enable, previous_interrupt_enable}
+use Rattle.rv_traps.specs.Registers.{previous_mode, modifies_privilege, timer_interrupt_enable}
 
 -- an address with its bits 1:0 cleared
 abbrev pub aligned : ℕ → ℕ

@@ -1,5 +1,6 @@
 -- Lists in which each entry is one of two.
-use Rattle.std.proofs.Common.{◌≡◌, ℕ, zero, suc, ◌+◌, ◌*◌, ◌/◌, ◌<◌, ◌≤◌, Bool, true, false, List, [], ◌∷◌, ◌++◌, length, take, drop, get_or, replicate, Option, Some, refl, sym, ap, ap₂, ◌∙◌, take-add, arith}
+use Rattle.std.proofs.Common.{◌≡◌, ℕ, zero, suc, ◌+◌, ◌*◌, ◌/◌, ◌<◌, ◌≤◌, Bool, true, false, List, [], ◌∷◌, ◌++◌, length}
+use Rattle.std.proofs.Common.{take, drop, get_or, replicate, Option, Some, refl, sym, ap, ap₂, ◌∙◌, take-add, arith}
 use Rattle.std.specs.Simd.{first_chunks}
 use Rattle.std.proofs.lemmas.List.{map-append, length-drop, length-map, drop_more, take_more, take-append-drop}
 use Rattle.shared_leaves.specs.declared.leaf.TheConstants.{LEAF_ENTRIES}

@@ -1,9 +1,12 @@
 -- Reads and writes of a list that is cut into leaves.
-use Rattle.std.proofs.Common.{◌≡◌, ℕ, zero, suc, ◌+◌, ◌-◌, ◌*◌, ◌/◌, ◌%◌, ◌<◌, ◌≤◌, List, [], ◌∷◌, ◌++◌, length, take, drop, get_or, replicate, sym, ap, ap₂, ◌∙◌, subst, append_assoc, length-append, get_or-drop, take-add, take_all, arith, refl}
+use Rattle.std.proofs.Common.{◌≡◌, ℕ, zero, suc, ◌+◌, ◌-◌, ◌*◌, ◌/◌, ◌%◌, ◌<◌, ◌≤◌, List, [], ◌∷◌, ◌++◌, length, take, drop, get_or, replicate}
+use Rattle.std.proofs.Common.{sym, ap, ap₂, ◌∙◌, subst, append_assoc, length-append, get_or-drop, take-add, take_all, arith, refl}
 use Rattle.std.specs.List.{splice}
 use Rattle.std.proofs.Math.ListN.{set, get_or-append}
 use Rattle.std.proofs.Math.Seq.{take-append-add, drop-append-add}
-use Rattle.std.proofs.lemmas.List.{append-nil, drop_at, drop-drop, get_or-append-add, get_or_read, length-drop, length-replicate, length-set, length-take-le, replicate-append-replicate, set-append_left, set-append_right, set-get_or, set_split, take-append-drop, take_at, take_more}
+use Rattle.std.proofs.lemmas.List.{append-nil, drop_at, drop-drop, get_or-append-add, get_or_read, length-drop, length-replicate}
+use Rattle.std.proofs.lemmas.List.{length-set, length-take-le, replicate-append-replicate, set-append_left}
+use Rattle.std.proofs.lemmas.List.{set-append_right, set-get_or, set_split, take-append-drop, take_at, take_more}
 use Rattle.shared_leaves.specs.declared.leaf.TheConstants.{LEAF_ENTRIES}
 use Rattle.shared_leaves.specs.Leaves.{joined, IsCut, leaf_count}
 

@@ -54,7 +54,8 @@ unset-bound (suc count) flags set unset none =
     let piece = take LEAF_ENTRIES flags in
     let parts = neither (has true piece) (has true (drop LEAF_ENTRIES flags)) (has-parts LEAF_ENTRIES flags ∙ none) in
     let rest = unset-bound count (drop LEAF_ENTRIES flags) set true parts.1 in
-    subst (λ some. steps_by some (has false piece) piece (record { set = set; unset = unset }) + pieces_steps (made_by some (has false piece) (record { set = set; unset = unset })) (first_chunks LEAF_ENTRIES count (drop LEAF_ENTRIES flags)) ≤ suc count + LEAF_ENTRIES * one_if_not unset)
+    subst (λ some. steps_by some (has false piece) piece (record { set = set; unset = unset }) + pieces_steps
+    (made_by some (has false piece) (record { set = set; unset = unset })) (first_chunks LEAF_ENTRIES count (drop LEAF_ENTRIES flags)) ≤ suc count + LEAF_ENTRIES * one_if_not unset)
     (sym parts.0) (omega (arith, rest, equal-bound unset piece (omega (arith, length-take LEAF_ENTRIES flags))))
 
 pub none_set-bound : (flags : List Bool) → has true flags ≡ false → choice_steps flags ≤ length flags / LEAF_ENTRIES + LEAF_ENTRIES + length flags % LEAF_ENTRIES

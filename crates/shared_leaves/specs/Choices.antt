@@ -1,5 +1,5 @@
 -- Lists in which each entry is one of two, and how many steps it takes to make them.
-use Rattle.std.specs.Prelude.{◌≡◌, ℕ, ◌+◌, ◌/◌, ◌%◌, Bool, true, false, List, [], ◌∷◌, length, map, replicate, Option, is_some}
+use Rattle.std.specs.Prelude.{◌≡◌, ℕ, ◌+◌, ◌/◌, ◌%◌, Bool, true, false, not, List, [], ◌∷◌, ◌++◌, length, map, replicate, Option, is_some}
 use Rattle.std.specs.List.{list_any}
 use Rattle.std.specs.Option.{ForSome}
 use Rattle.std.specs.Bool.{beq}
@@ -84,3 +84,8 @@ mixed_pieces (piece ∷ pieces) = one_if_mixed (has true piece) (has false piece
 
 abbrev pub mixed_leaves : List Bool → ℕ
 mixed_leaves flags = mixed_pieces (whole_pieces flags)
+
+-- the flags of runs by their lengths, the first of which has flags that are this
+unfoldable pub flags_of_runs : Bool → List ℕ → List Bool
+flags_of_runs flag [] = []
+flags_of_runs flag (run ∷ runs) = replicate run flag ++ flags_of_runs (not flag) runs

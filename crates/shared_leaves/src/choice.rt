@@ -15,9 +15,9 @@ use std::sync::ledger::Ledger;
 
 /// The leaves of equal entries that are made.
 #[derive(Drop)]
-struct Made<T: Handle> {
-    set: Option<Leaf<T>>,
-    unset: Option<Leaf<T>>,
+pub(crate) struct Made<T: Handle> {
+    pub(crate) set: Option<Leaf<T>>,
+    pub(crate) unset: Option<Leaf<T>>,
 }
 
 impl<T: Handle> SharedList<T> {
@@ -96,7 +96,7 @@ fn push_leaves<T: Handle, L: Ledger>(
 }
 
 /// The leaf that has these flags: a handle on one that is made where the flags are equal.
-fn leaf_of<T: Handle, L: Ledger>(
+pub(crate) fn leaf_of<T: Handle, L: Ledger>(
     alloc: Global,
     piece: &[bool; LEAF_ENTRIES],
     set: &T,
@@ -121,7 +121,7 @@ fn leaf_of<T: Handle, L: Ledger>(
 }
 
 /// A handle on the leaf that has these flags, which are equal. It is made where it is not yet.
-fn equal_leaf<T: Handle, L: Ledger>(
+pub(crate) fn equal_leaf<T: Handle, L: Ledger>(
     alloc: Global,
     piece: &[bool],
     set: &T,
@@ -147,7 +147,7 @@ fn equal_leaf<T: Handle, L: Ledger>(
 }
 
 /// The leaf that has these flags, entry by entry.
-fn written_leaf<T: Handle, L: Ledger>(
+pub(crate) fn written_leaf<T: Handle, L: Ledger>(
     alloc: Global,
     flags: &[bool],
     set: &T,

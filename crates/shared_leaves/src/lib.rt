@@ -8,6 +8,7 @@ pub mod laws;
 mod leaf;
 mod list;
 mod make;
+mod runs;
 mod steps;
 
 pub use handle::Handle;

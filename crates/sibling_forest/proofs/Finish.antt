@@ -1,5 +1,6 @@
 -- A tree run to its end, in whatever order steps are made.
-use Rattle.std.proofs.Common.{◌≡◌, ◌≢◌, ℕ, zero, suc, ◌<◌, ◌≤◌, eqb, eqb-true, ◌⊎◌, inl, inr, Bool, true, false, not, refl, sym, ap, ap₂, ◌∙◌, subst, arith, le_refl, List, [], ◌∷◌, Option, Some, None, IsSome, is_some}
+use Rattle.std.proofs.Common.{◌≡◌, ◌≢◌, ℕ, zero, suc, ◌<◌, ◌≤◌, eqb, eqb-true, ◌⊎◌, inl, inr, Bool, true, false, not, refl}
+use Rattle.std.proofs.Common.{sym, ap, ap₂, ◌∙◌, subst, arith, le_refl, List, [], ◌∷◌, Option, Some, None, IsSome, is_some}
 use Rattle.std.proofs.lemmas.Bool.{eqb-false}
 use Rattle.forest_tree.specs.Operations.{Operations, IsMachine}
 use Rattle.forest_tree.specs.Tree.{Tree, machine, Branch, Path}

@@ -17,6 +17,7 @@ pub mod Members
 pub mod Others
 pub mod Wakes
 pub mod SmallTalk
+pub mod Computing
 pub mod Holdings
 pub mod Projected
 pub mod WhatIsRead

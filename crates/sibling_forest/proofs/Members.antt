@@ -1,5 +1,6 @@
 -- A step keeps the queues of each brood: one for each ordered pair of its members, of at most 8 words, and none to one that has ended.
-use Rattle.std.proofs.Common.{◌≡◌, ◌≢◌, ℕ, zero, suc, ◌+◌, ◌<◌, ◌≤◌, Bool, true, false, cond, eqb, not, ◌&&◌, refl, sym, ap, ◌∙◌, subst, arith, List, [], ◌∷◌, length, length-append, replicate, Option, Some, None, IsSome, is_some, option_map, inl, inr}
+use Rattle.std.proofs.Common.{◌≡◌, ◌≢◌, ℕ, zero, suc, ◌+◌, ◌<◌, ◌≤◌, Bool, true, false, cond, eqb, not, ◌&&◌, refl, sym, ap, ◌∙◌, subst, arith}
+use Rattle.std.proofs.Common.{List, [], ◌∷◌, length, length-append, replicate, Option, Some, None, IsSome, is_some, option_map, inl, inr}
 use Rattle.std.proofs.lemmas.Bool.{leb-false}
 use Rattle.forest_tree.specs.Operations.{Call, clone, join, kill, Grant, Operations, Makes, IsMachine}
 use Rattle.forest_tree.specs.Tree.{Tree, node, Trees, no_tree, tree, Broods, no_brood, brood, Log, joined, killed, machine, size, at_child, child_at, brood_of, without, at_brood, Path}

@@ -8,7 +8,8 @@ use Rattle.forest_tree.specs.Finish.{with_broods}
 use Rattle.forest_tree.specs.Projection.{map_tree, map_trees, map_broods, map_log, Projects}
 use Rattle.forest_tree.proofs.Projected.{step-map}
 use Rattle.sibling_forest.specs.Talk.{Talk, send, receive, Talks, Inbox, queue, at_queue, first_taken, Box, kept_by, after, after_receive, advance_by, born_by, boxed}
-use Rattle.sibling_forest.specs.Settle.{is_empty, box_at, lives_there, is_full_there, waits_by, sibling_rests, sibling_rests_by, heard_by, delivered, deliver_by, sibling_step, sibling_step_by, settle, rests_there, rests_at}
+use Rattle.sibling_forest.specs.Settle.{is_empty, box_at, lives_there, is_full_there, waits_by, sibling_rests, sibling_rests_by, heard_by}
+use Rattle.sibling_forest.specs.Settle.{delivered, deliver_by, sibling_step, sibling_step_by, settle, rests_there, rests_at}
 use Rattle.sibling_forest.specs.Fuel.{fuel, own_fuel, fuel_of, fuel_of_trees, fuel_of_broods}
 use Rattle.sibling_forest.specs.Finish.{paths, paths_of_broods, paths_of_trees, found_by, first_not, first_path, next_by, next_path, go_on, run, finish}
 use Rattle.sibling_forest.specs.Laws.{TalksAlike, box_of}

@@ -8,7 +8,8 @@ use Rattle.forest_tree.specs.Finish.{with_broods}
 use Rattle.forest_tree.proofs.Places.{some-same, child_at-same, child_at-other}
 use Rattle.forest_tree.proofs.Rests.{lives-none}
 use Rattle.sibling_forest.specs.Talk.{Talk, send, receive, Talks, queue, Box, kept_by, boxed}
-use Rattle.sibling_forest.specs.Settle.{with_word, is_empty, is_full, box_at, lives_there, is_full_there, sibling_rests, sibling_rests_by, heard_by, delivered, deliver_by, sibling_step_by, sibling_step}
+use Rattle.sibling_forest.specs.Settle.{with_word, is_empty, is_full, box_at, lives_there, is_full_there, sibling_rests}
+use Rattle.sibling_forest.specs.Settle.{sibling_rests_by, heard_by, delivered, deliver_by, sibling_step_by, sibling_step}
 use Rattle.sibling_forest.specs.Settle as told
 use Rattle.sibling_forest.proofs.Families.{at_child-swap, at_child-id}
 use Rattle.sibling_forest.proofs.Queues.{queue-other, words-stay}
@@ -308,7 +309,8 @@ module _ {M E : Type 0} (o : Operations M E) (k : Talks M) where
       let s : Tree (Box M) → Tree (Box M) = step (boxed o k) in
       then-other j i (λ e. apart (sym e)) trees other one b a
       ∙ ap (at_child f x) (step-passes j i (λ e. apart (sym e)) trees other one b a)
-      ∙ at_child-swap f g x y (at_child s i (at_child s j trees)) (λ t here found. brings-swap (k.talk (machine one).machine) (k.talk (machine other).machine) i j (k.word (machine one).machine) (k.word (machine other).machine) t apart)
+      ∙ at_child-swap f g x y (at_child s i (at_child s j trees))
+      (λ t here found. brings-swap (k.talk (machine one).machine) (k.talk (machine other).machine) i j (k.word (machine one).machine) (k.word (machine other).machine) t apart)
       ∙ ap (λ (u : Trees (Box M)). at_child g y (at_child f x u)) (at_child-swap s s i j trees (λ t here. absurd (apart here)))
       ∙ ap (at_child g y) (sym (step-passes i j apart trees one other a b))
       ∙ sym (then-other i j apart trees one other a b)

@@ -1,5 +1,6 @@
 -- Who waits goes on waiting after a step of another, but for a child that it joins and the sibling that its talk names.
-use Rattle.std.proofs.Common.{◌≡◌, ◌≢◌, ℕ, zero, suc, eqb, eqb-true, eq-eqb, Bool, true, false, cond, not, ◌&&◌, ◌||◌, ◌⊎◌, inl, inr, refl, sym, ap, ap₂, ◌∙◌, [], ◌∷◌, ◌++◌, Option, Some, None, is_some, option_map, option_and_then}
+use Rattle.std.proofs.Common.{◌≡◌, ◌≢◌, ℕ, zero, suc, eqb, eqb-true, eq-eqb, Bool, true, false, cond, not, ◌&&◌, ◌||◌, ◌⊎◌, inl, inr}
+use Rattle.std.proofs.Common.{refl, sym, ap, ap₂, ◌∙◌, [], ◌∷◌, ◌++◌, Option, Some, None, is_some, option_map, option_and_then}
 use Rattle.std.proofs.lemmas.Bool.{eqb-false, or_left, or_right}
 use Rattle.forest_tree.specs.Operations.{Call, clone, join, kill, Operations, IsMachine}
 use Rattle.forest_tree.specs.Tree.{Tree, node, Trees, no_tree, tree, Broods, Log, machine, broods_of, at_child, child_at, brood_of, at_brood, Branch, Path, subtree}
@@ -8,7 +9,8 @@ use Rattle.forest_tree.specs.Settle as former
 use Rattle.forest_tree.specs.Sound.{IsSound}
 use Rattle.forest_tree.proofs.Places.{some-same, brood_of-at, child_at-same, child_at-other, below-at, Kept, stays, goes, is_new, kept-step}
 use Rattle.sibling_forest.specs.Talk.{Talk, send, receive, peer, Talks, queue, Box, boxed, IsTalking}
-use Rattle.sibling_forest.specs.Settle.{with_word, is_empty, is_full, box_at, lives_there, is_full_there, waits_by, heard_by, sibling_rests, sibling_rests_by, sibling_step, sibling_step_by, settle, rests_there, rests_at}
+use Rattle.sibling_forest.specs.Settle.{with_word, is_empty, is_full, box_at, lives_there, is_full_there, waits_by, heard_by, sibling_rests}
+use Rattle.sibling_forest.specs.Settle.{sibling_rests_by, sibling_step, sibling_step_by, settle, rests_there, rests_at}
 use Rattle.sibling_forest.specs.Laws.{child_number, is_sibling}
 use Rattle.sibling_forest.proofs.Boxes.{boxed-machine}
 use Rattle.sibling_forest.proofs.Queues.{queue-other}

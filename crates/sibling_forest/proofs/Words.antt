@@ -1,5 +1,6 @@
 -- A word that comes to a machine, before its step or after it.
-use Rattle.std.proofs.Common.{◌≡◌, ◌≢◌, ℕ, zero, suc, ◌≤◌, nat_le, eqb, eqb-true, Bool, true, false, not, ◌||◌, refl, sym, ap, ◌∙◌, subst, arith, le_refl, List, [], ◌∷◌, length, Option, Some, None, is_some}
+use Rattle.std.proofs.Common.{◌≡◌, ◌≢◌, ℕ, zero, suc, ◌≤◌, nat_le, eqb, eqb-true, Bool, true, false, not, ◌||◌, refl}
+use Rattle.std.proofs.Common.{sym, ap, ◌∙◌, subst, arith, le_refl, List, [], ◌∷◌, length, Option, Some, None, is_some}
 use Rattle.std.proofs.lemmas.Bool.{eqb-false, leb-false, lt-leb}
 use Rattle.forest_tree.specs.Operations.{Call, clone, join, kill, Operations}
 use Rattle.forest_tree.specs.Tree.{Tree, node, tree, Broods, no_brood, brood, Log, joined, killed, machine, broods_of, brood_of, without}

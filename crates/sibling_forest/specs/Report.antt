@@ -8,11 +8,11 @@ use Rattle.forest_tree.specs.Tree.{Tree, node, Trees, no_tree, tree, Broods, no_
 use Rattle.sibling_forest.specs.Talk.{Box}
 
 -- a line, in which a name is the path to the machine
-pub data Line (E : Type 0) : Type 0 where
+pub data FamilyLine (E : Type 0) : Type 0 where
   -- a machine: its name, how it ended, or none where it is stuck, its steps and its output
-  machine_line : Path → Option E → ℕ → List ℕ → Line E
+  machine_line : Path → Option E → ℕ → List ℕ → FamilyLine E
   -- a killed ticket: the name of its machine, its number, and how many children it had
-  ticket_line : Path → ℕ → ℕ → Line E
+  ticket_line : Path → ℕ → ℕ → FamilyLine E
 
 abbrev pub branch_text : Branch → List ℕ
 branch_text b = codes "." ++ (decimal b.ticket ++ (codes "." ++ decimal b.child))
@@ -26,7 +26,7 @@ ending_text said None = codes "stuck"
 ending_text said (Some ending) = said ending
 
 -- what is put out of a line: the line, and after that of a machine its output and a newline
-unfoldable pub line_text : {E : Type 0} → (E → List ℕ) → Line E → List ℕ
+unfoldable pub line_text : {E : Type 0} → (E → List ℕ) → FamilyLine E → List ℕ
 line_text said (machine_line name ending steps output) =
     codes "machine "
     ++ (name_text name
@@ -56,14 +56,14 @@ pub record Told (M : Type 0) : Type 0 where
 -- the lines of the children of a ticket
 pub record Block (E : Type 0) : Type 0 where
   pub ticket : ℕ
-  pub lines : List (Line E)
+  pub lines : List (FamilyLine E)
 
-unfoldable pub block_of : {E : Type 0} → ℕ → List (Block E) → List (Line E)
+unfoldable pub block_of : {E : Type 0} → ℕ → List (Block E) → List (FamilyLine E)
 block_of t [] = []
 block_of t (b ∷ rest) = if b.ticket == t then b.lines else block_of t rest
 
 -- those of the tickets, in the order of these
-unfoldable pub in_order : {E : Type 0} → List ℕ → List (Block E) → List (Line E)
+unfoldable pub in_order : {E : Type 0} → List ℕ → List (Block E) → List (FamilyLine E)
 in_order [] blocks = []
 in_order (t ∷ tickets) blocks = block_of t blocks ++ in_order tickets blocks
 
@@ -71,19 +71,19 @@ module _ {M E : Type 0} (o : Operations M E) (told : Told M) where
   unfoldable mutual
     -- the lines of a tree at a path: of the machine itself, then of its log, then of its children, by ticket and child in
     -- order. A machine that has ended has no children any more
-    pub lines : Path → Tree (Box M) → List (Line E)
+    pub lines : Path → Tree (Box M) → List (FamilyLine E)
     lines path (node b broods log) =
         machine_line path (o.ending b.machine) (told.steps b.machine) (told.output b.machine)
         ∷ (log_lines path log ++ in_order (o.cloned b.machine) (blocks path broods))
 
     -- the lines of children of ticket t, from child k on
-    pub trees_lines : Path → ℕ → ℕ → Trees (Box M) → List (Line E)
+    pub trees_lines : Path → ℕ → ℕ → Trees (Box M) → List (FamilyLine E)
     trees_lines path t k no_tree = []
     trees_lines path t k (tree child rest) =
         lines (path ++ record { ticket = t; child = k } ∷ []) child ++ trees_lines path t (suc k) rest
 
     -- the lines of the log of the machine at a path
-    pub log_lines : Path → Log (Box M) → List (Line E)
+    pub log_lines : Path → Log (Box M) → List (FamilyLine E)
     log_lines path no_entry = []
     log_lines path (joined log t trees) = log_lines path log ++ trees_lines path t 1 trees
     log_lines path (killed log t count) = log_lines path log ++ ticket_line path t count ∷ []

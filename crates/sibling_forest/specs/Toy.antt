@@ -3,7 +3,8 @@ use Rattle.std.specs.Prelude.{ℕ, zero, suc, ◌-◌, ◌==◌, ◌&&◌, not, 
 use Rattle.forest_tree.specs.Operations.{Operations}
 use Rattle.forest_tree.specs.Tree.{Tree, Log, no_entry, joined, killed}
 use Rattle.forest_tree.specs.Settle.{alone, endings}
-use Rattle.forest_tree.specs.Toy.{Order, pause, request, clone_children, join_children, kill_children, exit, Toy, ToyEnding, order_of, ticket_grant, toy, toy_start}
+use Rattle.forest_tree.specs.Toy.{Order, pause, request, clone_children, join_children, kill_children}
+use Rattle.forest_tree.specs.Toy.{exit, Toy, ToyEnding, order_of, ticket_grant, toy, toy_start}
 use Rattle.sibling_forest.specs.Talk.{Talk, send, receive, peer, Talks, Box, boxed}
 use Rattle.sibling_forest.specs.Report.{Told}
 

@@ -5,7 +5,7 @@ use Rattle.std.specs.Option.{IfSome, option_map}
 use Rattle.std.specs.Result.{IsOkAnd}
 use Rattle.elf_load.specs.Image.{Image}
 use Rattle.elf_load.specs.Elf.{loaded}
-use Rattle.drive_script.specs.Script.{Line, script}
+use Rattle.drive_script.specs.Script.{ScriptLine, script}
 use Rattle.drive_script.specs.declared.script.TheConstants.{MAX_SCRIPT}
 use Rattle.command_line.specs.Words.{GuestValues, RunValues, run}
 use Rattle.guest_files.specs.declared.stop.TheConstants.{INPUT_LOAD, SCRIPT_LOAD}
@@ -32,7 +32,7 @@ image-after : (final : ℕ) (values : GuestValues) (guest : Guest) → final ≤
 unfolding guest_image
 image-after final values guest = by_loaded final guest (loaded guest.image values.pages)
 
-by_lines : (final : ℕ) (r : Result (List Line) (ℕ × ℕ)) → final ≤ last_load final (lines_of r)
+by_lines : (final : ℕ) (r : Result (List ScriptLine) (ℕ × ℕ)) → final ≤ last_load final (lines_of r)
 by_lines final (Ok lines) = omega arith
 by_lines final (Err refusal) = omega arith
 

@@ -22,7 +22,7 @@ use Rattle.run_report.specs.Summary.{summary}
 use Rattle.flat_memory.specs.Flat.{zeros}
 use Rattle.guest_gen.specs.Guest.{guest as guest_image_of}
 use Rattle.snow_commands.specs.declared.generated.TheConstants.{SECTORS}
-use Rattle.drive_script.specs.Script.{Line, script}
+use Rattle.drive_script.specs.Script.{ScriptLine, script}
 use Rattle.drive_script.specs.Told.{told_text}
 use Rattle.drive_script.specs.declared.script.TheConstants.{MAX_SCRIPT}
 use Rattle.command_line.specs.Words.{Command, GeneratedValues, GuestValues, run, drive, generated, generated_guest, meant}
@@ -91,7 +91,7 @@ unfoldable pub run_text : GuestValues → Files → Result (List ℕ) Refusal
 run_text values files = and_then (run_with values) (guest_read values files)
 
 -- `drive`: what the script tells of the family
-abbrev pub lines_of : Result (List Line) (ℕ × ℕ) → Result (List Line) Refusal
+abbrev pub lines_of : Result (List ScriptLine) (ℕ × ℕ) → Result (List ScriptLine) Refusal
 lines_of (Ok lines) = Ok lines
 lines_of (Err refusal) = Err (script_refused refusal.0 refusal.1)
 

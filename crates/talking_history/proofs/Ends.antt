@@ -22,7 +22,7 @@ use Rattle.forest_history.proofs.Ends.{at_path-map, at_path-keeps}
 use Rattle.forest_history.proofs.Spots.{projects, machine-spots}
 use Rattle.talking_history.specs.Places.{placed, bare, spot_talks, boxes}
 use Rattle.talking_history.specs.World.{World, is_resting, world_of}
-use Rattle.talking_history.specs.Rows.{Row, over, stopped, stuck, idle, took, nothing, spent, dropped, kept, halted, back, made, run_at, does}
+use Rattle.talking_history.specs.Rows.{Row, over, stopped, stuck, idle, took, wake_failed, spent, dropped, kept, halted, back, made, run_at, does}
 use Rattle.talking_history.proofs.Spots.{talks-alike, talking-spots, machine-boxes}
 
 module _ {M E : Type 0} (o : Operations M E) (k : Talks M) where
@@ -169,7 +169,7 @@ module _ {M E : Type 0} (o : Operations M E) (k : Talks M) where
     does-sound stuck w h = h
     does-sound idle w h = h
     does-sound (took name) w h = put-sound out name w.tree h
-    does-sound nothing w h = h
+    does-sound wake_failed w h = h
     does-sound (spent how name n) w h =
         put-sound (back how) name (run_at o k name (made how n) w.tree) (run-sound name (made how n) w.tree h)
     does-sound (dropped name) w h = h
@@ -184,7 +184,7 @@ module _ {M E : Type 0} (o : Operations M E) (k : Talks M) where
     does-whole stuck w h = h
     does-whole idle w h = h
     does-whole (took name) w h = put-whole out name w.tree h
-    does-whole nothing w h = h
+    does-whole wake_failed w h = h
     does-whole (spent how name n) w h =
         put-whole (back how) name (run_at o k name (made how n) w.tree) (all-whole (replicate (made how n) name) w.tree h)
     does-whole (dropped name) w h = h
@@ -199,7 +199,7 @@ module _ {M E : Type 0} (o : Operations M E) (k : Talks M) where
     does-leaves stuck w h = refl
     does-leaves idle w h = refl
     does-leaves (took name) w h = ap (finish o k) (bare-put out name w.tree)
-    does-leaves nothing w h = refl
+    does-leaves wake_failed w h = refl
     does-leaves (spent how name n) w h =
         ap (finish o k) (bare-put (back how) name (run_at o k name (made how n) w.tree)) ∙ run-leaves name (made how n) w.tree h
     does-leaves (dropped name) w h = refl

@@ -8,7 +8,7 @@ use Rattle.sibling_forest.specs.Members.{IsWholeForest}
 use Rattle.forest_history.specs.Places.{spots}
 use Rattle.forest_history.specs.Histories.{Seat}
 use Rattle.talking_history.specs.Places.{bare, spot_talks, boxes}
-use Rattle.talking_history.specs.Histories.{Entry, row, told, heard, mute, deaf, History, Record, Permits, record_after, replay, IsLegal}
+use Rattle.talking_history.specs.Histories.{Entry, row, told, heard, tell_failed, hear_failed, History, Record, Permits, record_after, replay, IsLegal}
 use Rattle.talking_history.proofs.Ends.{does-sound, does-whole, does-leaves}
 
 module _ {M E : Type 0} (o : Operations M E) (k : Talks M) where
@@ -50,8 +50,8 @@ module _ {M E : Type 0} (o : Operations M E) (k : Talks M) where
     after-sound seat (row x) r h = does-sound o k rules talking x r.world h
     after-sound seat (told image page) r h = h
     after-sound seat (heard place) r h = h
-    after-sound seat mute r h = h
-    after-sound seat (deaf place) r h = h
+    after-sound seat tell_failed r h = h
+    after-sound seat (hear_failed place) r h = h
 
     pub replay-sound : {R : Type 0} (history : History R) (r : Record M R) → IsSound (boxes o k) r.world.tree
         → IsSound (boxes o k) (replay o k history r).world.tree
@@ -65,8 +65,8 @@ module _ {M E : Type 0} (o : Operations M E) (k : Talks M) where
     after-whole seat (row x) r h = does-whole o k rules talking x r.world h
     after-whole seat (told image page) r h = h
     after-whole seat (heard place) r h = h
-    after-whole seat mute r h = h
-    after-whole seat (deaf place) r h = h
+    after-whole seat tell_failed r h = h
+    after-whole seat (hear_failed place) r h = h
 
     pub replay-whole : {R : Type 0} (history : History R) (r : Record M R) → IsWholeForest (spots o) (spot_talks k) r.world.tree
         → IsWholeForest (spots o) (spot_talks k) (replay o k history r).world.tree
@@ -80,8 +80,8 @@ module _ {M E : Type 0} (o : Operations M E) (k : Talks M) where
     after-leaves seat (row x) r h = does-leaves o k rules talking x r.world h
     after-leaves seat (told image page) r h = refl
     after-leaves seat (heard place) r h = refl
-    after-leaves seat mute r h = refl
-    after-leaves seat (deaf place) r h = refl
+    after-leaves seat tell_failed r h = refl
+    after-leaves seat (hear_failed place) r h = refl
 
     pub replay-leaves : {R : Type 0} (history : History R) (r : Record M R) → IsSound (boxes o k) r.world.tree
         → finish o k (bare (replay o k history r).world.tree) ≡ finish o k (bare r.world.tree)

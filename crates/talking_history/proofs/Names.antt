@@ -10,11 +10,12 @@ use Rattle.forest_history.specs.Histories.{Seat}
 use Rattle.forest_history.proofs.Spots.{machine-spots}
 use Rattle.talking_history.specs.Places.{placed, spot_talks, boxes}
 use Rattle.talking_history.specs.World.{World}
-use Rattle.talking_history.specs.Rows.{Row, over, stopped, stuck, idle, took, nothing, spent, dropped, kept, halted, back, made, run_at, does}
-use Rattle.talking_history.specs.Histories.{Entry, row, told, heard, mute, deaf, History, Record, record_of, record_after, replay}
+use Rattle.talking_history.specs.Rows.{Row, over, stopped, stuck, idle, took, wake_failed, spent, dropped, kept, halted, back, made, run_at, does}
+use Rattle.talking_history.specs.Histories.{Entry, row, told, heard, tell_failed, hear_failed, History, Record, record_of, record_after, replay}
 use Rattle.talking_history.proofs.Spots.{machine-placed, talking-spots}
 use Rattle.talking_history.proofs.Histories.{after-sound, replay-append, replay-sound}
-use Rattle.talking_history.proofs.Gone.{path-seen, gone-none}
+use Rattle.forest_tree.proofs.Names.{gone-none}
+use Rattle.talking_history.proofs.Gone.{path-seen}
 use Rattle.talking_history.proofs.Leases.{none-seen, gone-stays, lost-goes, all, Gone, placed-below, put-gone, step_of, step-sound}
 
 module _ {M E : Type 0} (o : Operations M E) (k : Talks M) (rules : IsMachine o) (talking : IsTalking o k) where
@@ -61,7 +62,7 @@ module _ {M E : Type 0} (o : Operations M E) (k : Talks M) (rules : IsMachine o)
   row-gone name stuck w h gone = gone
   row-gone name idle w h gone = gone
   row-gone name (took other) w h gone = put-gone o k rules talking out name other w.tree gone
-  row-gone name nothing w h gone = gone
+  row-gone name wake_failed w h gone = gone
   row-gone name (spent how other n) w h gone =
       put-gone o k rules talking (back how) name other (run_at o k other (made how n) w.tree) (run-gone name other (made how n) w.tree h gone)
   row-gone name (dropped other) w h gone = gone
@@ -79,7 +80,7 @@ module _ {M E : Type 0} (o : Operations M E) (k : Talks M) (rules : IsMachine o)
   row-lost name stuck w a h here there = absurd (still-there (subtree name w.tree) a here there)
   row-lost name idle w a h here there = absurd (still-there (subtree name w.tree) a here there)
   row-lost name (took other) w a h here there = absurd (still-there (subtree name w.tree) a here (put-none out name other w.tree there))
-  row-lost name nothing w a h here there = absurd (still-there (subtree name w.tree) a here there)
+  row-lost name wake_failed w a h here there = absurd (still-there (subtree name w.tree) a here there)
   row-lost name (spent how other n) w a h here there =
       let u : Tree (Box (Spot M)) = run_at o k other (made how n) w.tree in
       put-gone o k rules talking (back how) name other u (run-lost name other (made how n) w.tree a h here (put-none (back how) name other u there))
@@ -93,8 +94,8 @@ module _ {M E : Type 0} (o : Operations M E) (k : Talks M) (rules : IsMachine o)
   after-gone name seat (row x) r h gone = row-gone name x r.world h gone
   after-gone name seat (told image page) r h gone = gone
   after-gone name seat (heard place) r h gone = gone
-  after-gone name seat mute r h gone = gone
-  after-gone name seat (deaf place) r h gone = gone
+  after-gone name seat tell_failed r h gone = gone
+  after-gone name seat (hear_failed place) r h gone = gone
 
   after-lost : {R : Type 0} (name : Path) (seat : Seat) (entry : Entry R) (r : Record M R) (a : Tree (Box (Spot M))) → IsSound (boxes o k) r.world.tree
       → subtree name r.world.tree ≡ Some a → subtree name (record_after o k seat entry r).world.tree ≡ None
@@ -103,8 +104,8 @@ module _ {M E : Type 0} (o : Operations M E) (k : Talks M) (rules : IsMachine o)
   after-lost name seat (row x) r a h here there = row-lost name x r.world a h here there
   after-lost name seat (told image page) r a h here there = absurd (still-there (subtree name r.world.tree) a here there)
   after-lost name seat (heard place) r a h here there = absurd (still-there (subtree name r.world.tree) a here there)
-  after-lost name seat mute r a h here there = absurd (still-there (subtree name r.world.tree) a here there)
-  after-lost name seat (deaf place) r a h here there = absurd (still-there (subtree name r.world.tree) a here there)
+  after-lost name seat tell_failed r a h here there = absurd (still-there (subtree name r.world.tree) a here there)
+  after-lost name seat (hear_failed place) r a h here there = absurd (still-there (subtree name r.world.tree) a here there)
 
   -- and histories
   replay-gone : {R : Type 0} (name : Path) (history : History R) (r : Record M R) → IsSound (boxes o k) r.world.tree → IsLost name r.world.tree

@@ -17,7 +17,9 @@ use Rattle.forest_history.proofs.Ends.{at_path-map}
 use Rattle.forest_history.proofs.Seen.{spots-seen}
 use Rattle.talking_history.specs.Places.{placed, spot_talks, boxes, may_run}
 use Rattle.talking_history.specs.World.{World, holds, place_of, is_out, is_resting, lives_ready, is_ready, is_to_wake, world_of}
-use Rattle.talking_history.specs.Rows.{How, gave, ended, forked, joined, killed, sent, received, waited, Row, over, stopped, stuck, idle, took, nothing, spent, dropped, kept, halted, is_send, is_receive, back, made, IfThere, speaks, may_spend, run_at, came_back, RanOut, Spends, Keeps, IsGoing, Allows, does}
+use Rattle.talking_history.specs.Rows.{How, gave, ended, forked, joined, killed, sent, received, waited, Row, over, stopped, stuck}
+use Rattle.talking_history.specs.Rows.{idle, took, wake_failed, spent, dropped, kept, halted, is_send, is_receive, back, made, IfThere}
+use Rattle.talking_history.specs.Rows.{speaks, may_spend, run_at, came_back, RanOut, Spends, Keeps, IsGoing, Allows, does}
 use Rattle.talking_history.specs.Seen.{seen}
 
 module _ {M N : Type 0} (f : M → N) where
@@ -101,7 +103,7 @@ module _ {M N E : Type 0} (o : Operations M E) (p : Operations N E) (k : Talks M
     does-seen stuck w = refl
     does-seen idle w = refl
     does-seen (took name) w = ap (with_tree w.halted) (put-seen out name w.tree)
-    does-seen nothing w = refl
+    does-seen wake_failed w = refl
     does-seen (spent how name n) w = ap (with_tree w.halted) (came_back-seen how name n w.tree)
     does-seen (dropped name) w = refl
     does-seen (kept name n) w = refl
@@ -195,7 +197,7 @@ module _ {M N E : Type 0} (o : Operations M E) (p : Operations N E) (k : Talks M
     allows-seen stuck w h = (going-seen w h.0, λ name. ready-seen name w.tree ∙ h.1 name, λ name. out-seen f name w.tree ∙ h.2 name)
     allows-seen idle w h = (going-seen w h.0, λ name. ready-seen name w.tree ∙ h.1 name, (h.2.0, out-seen f h.2.0 w.tree ∙ h.2.1))
     allows-seen (took name) w h = (going-seen w h.0, ready-seen name w.tree ∙ h.1)
-    allows-seen nothing w h = (going-seen w h.0, (h.1.0, wake-seen h.1.0 w.tree ∙ h.1.1))
+    allows-seen wake_failed w h = (going-seen w h.0, (h.1.0, wake-seen h.1.0 w.tree ∙ h.1.1))
     allows-seen (spent how name n) w h =
         there-seen (Spends o k how n (is_resting o k name (run_at o k name n w.tree))) (Spends p l how n (is_resting p l name (run_at p l name n (see f w.tree))))
         (spends-seen how n (is_resting o k name (run_at o k name n w.tree)) (is_resting p l name (run_at p l name n (see f w.tree))) (resting-run name n w.tree))

@@ -7,8 +7,8 @@ use Rattle.forest_history.specs.Places.{Spot}
 use Rattle.forest_history.specs.World.{is_out_at}
 use Rattle.forest_history.specs.Histories.{Seat}
 use Rattle.talking_history.specs.World.{World, holds, place_of, IsWhole, is_resting}
-use Rattle.talking_history.specs.Rows.{How, Row, over, stopped, stuck, idle, took, nothing, spent, dropped, kept, halted, run_at, Spends, IfThere, NoneReady, Allows, does}
-use Rattle.talking_history.specs.Histories.{Entry, row, told, heard, mute, deaf, History, Record, Permits, record_after, replay, IsLegal}
+use Rattle.talking_history.specs.Rows.{How, Row, over, stopped, stuck, idle, took, wake_failed, spent, dropped, kept, halted, run_at, Spends, IfThere, NoneReady, Allows, does}
+use Rattle.talking_history.specs.Histories.{Entry, row, told, heard, tell_failed, hear_failed, History, Record, Permits, record_after, replay, IsLegal}
 
 module _ {M E : Type 0} (o : Operations M E) (k : Talks M) where
   abbrev is_away : Tree (Box (Spot M)) → Bool
@@ -28,7 +28,7 @@ module _ {M E : Type 0} (o : Operations M E) (k : Talks M) where
   stuck-row stuck w none whole h = refl
   stuck-row idle w none whole h = refl
   stuck-row (took name) w none whole h = let no : false ≡ true = sym (none name) ∙ h.1 in absurd (cc)
-  stuck-row nothing w none whole h = refl
+  stuck-row wake_failed w none whole h = refl
   stuck-row (spent how name n) w none whole h = absurd (none-comes how name n w.tree whole (subtree name w.tree) refl h)
   stuck-row (dropped name) w none whole h = refl
   stuck-row (kept name n) w none whole h = refl
@@ -40,8 +40,8 @@ module _ {M E : Type 0} (o : Operations M E) (k : Talks M) where
   stuck-entry seat (row x) r none whole may = stuck-row x r.world none whole may.0
   stuck-entry seat (told image page) r none whole may = refl
   stuck-entry seat (heard place) r none whole may = refl
-  stuck-entry seat mute r none whole may = refl
-  stuck-entry seat (deaf place) r none whole may = refl
+  stuck-entry seat tell_failed r none whole may = refl
+  stuck-entry seat (hear_failed place) r none whole may = refl
 
   pub stuck-stays : {R : Type 0} (history : History R) (r : Record M R) → NoneReady o k r.world.tree → IsWhole r.world.tree → IsLegal o k history r
       → (replay o k history r).world.tree ≡ r.world.tree

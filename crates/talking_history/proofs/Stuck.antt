@@ -1,6 +1,6 @@
 -- Where some machine is ready, and what a world is in which none is.
 use Rattle.std.proofs.Common.{◌≡◌, ◌⊎◌, inl, inr, ◌&&◌, not, Bool, true, false, refl, sym, ap, ap₂, ◌∙◌, [], ◌∷◌, Option, Some, None, is_some}
-use Rattle.std.proofs.lemmas.Bool.{not-true, or_parts}
+use Rattle.std.proofs.lemmas.Bool.{not-false, not-true, or_parts}
 use Rattle.forest_tree.specs.Operations.{Operations, IsMachine}
 use Rattle.forest_tree.specs.Tree.{Tree, node, machine, child_at, brood_of, Path, subtree}
 use Rattle.forest_tree.specs.Settle as former
@@ -26,10 +26,6 @@ ready-by false home lives inside = refl
 ready-by false out lives inside = absurd (cc)
 ready-by false parked lives inside = refl
 
-not-not : (b : Bool) → not b ≡ false → b ≡ true
-not-not true h = refl
-not-not false h = absurd (cc)
-
 -- a path of a tree of which r holds, if there is one
 module _ {M : Type 0} where
   pub none-found : (r : Path → Bool) (t : Tree M) → first_not (λ path. not (r path)) (paths t) ≡ None
@@ -43,7 +39,7 @@ module _ {M : Type 0} where
       by : (c : Option Path) → first_not (λ path. not (r path)) (paths t) ≡ c
           → ((path : Path) × (r path ≡ true)) ⊎ ((path : Path) (a : Tree M) → subtree path t ≡ Some a → r path ≡ false)
       by None e = inr (λ path a here. none-found r t e path a here)
-      by (Some path) e = inl (path, not-not (r path) (found-is (λ p. not (r p)) (paths t) path e))
+      by (Some path) e = inl (path, not-false (r path) (found-is (λ p. not (r p)) (paths t) path e))
 
 module _ {M E : Type 0} (o : Operations M E) (k : Talks M) where
   -- a machine that makes a step lives, and does not wait for its children

@@ -3,7 +3,8 @@
 use Rattle.std.proofs.Common.{◌≡◌, ℕ, zero, suc, ◌&&◌, not, eqb, Bool, true, false, cond, refl, sym, ap, ◌∙◌, subst, [], ◌∷◌, Option, Some, None, is_some, option_and_then, option_map}
 use Rattle.std.proofs.lemmas.Bool.{and_parts, not-true}
 use Rattle.forest_tree.specs.Operations.{Call, clone, join, kill, Operations, IsMachine}
-use Rattle.forest_tree.specs.Tree.{Tree, node, Trees, no_tree, Broods, no_brood, brood, Log, no_entry, joined, killed, machine, broods_of, at_child, child_at, brood_of, without, at_brood, Path, subtree}
+use Rattle.forest_tree.specs.Tree.{Tree, node, Trees, no_tree, Broods, no_brood, brood, Log, no_entry, joined, killed}
+use Rattle.forest_tree.specs.Tree.{machine, broods_of, at_child, child_at, brood_of, without, at_brood, Path, subtree}
 use Rattle.forest_tree.specs.Settle.{have_ended, endings, alone, children_from, children, settled_by, settled, join_by, step_by, step_from, step}
 use Rattle.forest_tree.specs.Sound.{IsSound}
 use Rattle.forest_tree.specs.Projection.{map_tree, map_broods, map_log}

@@ -11,12 +11,13 @@ use Rattle.forest_tree.proofs.Rests.{lives-none}
 use Rattle.forest_tree.proofs.Ahead.{own_under, under, weigh-within, weigh-lives, step-falls}
 use Rattle.sibling_forest.specs.Talk.{Talks, Box, boxed, IsTalking}
 use Rattle.sibling_forest.specs.Settle.{settle_all}
-use Rattle.forest_history.specs.Places.{at_path, Place, asleep, home, out, parked, Spot, put, spots, advanced, steps}
+use Rattle.forest_history.specs.Places.{at_path, Place, home, out, parked, Spot, put, spots, advanced, steps}
 use Rattle.forest_history.specs.World.{is_ready_at}
 use Rattle.forest_history.specs.Weight.{place_weight}
 use Rattle.forest_history.proofs.Changes.{at_path-here}
 use Rattle.forest_history.proofs.Ends.{steps-keeps}
 use Rattle.forest_history.proofs.Weigh.{steps-within, steps-fall, at_path-falls}
+use Rattle.forest_history.proofs.Turns.{place-low, ready-waiting}
 use Rattle.talking_history.specs.Places.{placed, spot_talks, boxes, may_run}
 use Rattle.talking_history.specs.World.{World, holds, place_of, is_resting, lives_ready}
 use Rattle.talking_history.specs.Rows.{How, gave, ended, forked, joined, killed, sent, received, waited, took, spent, back, run_at, may_spend, Spends, IfThere, Allows, does}
@@ -26,20 +27,6 @@ use Rattle.talking_history.proofs.Changes.{runs-on}
 use Rattle.talking_history.proofs.Ends.{placed-keeps, put-sound, resting-put}
 use Rattle.talking_history.proofs.Stuck.{moves-inside}
 use Rattle.talking_history.proofs.Turned.{ready-end, may_run-spots, turned, steps-last, run-is, turn-is}
-
--- a place counts at most one
-place-low : (place : Place) → place_weight place ≤ 1
-place-low asleep = omega arith
-place-low home = omega arith
-place-low out = omega arith
-place-low parked = omega arith
-
--- where a machine that rests is ready, its place counts
-ready-resting : (place : Place) → is_ready_at place true ≡ true → place_weight place ≡ 1
-ready-resting asleep ready = refl
-ready-resting home ready = refl
-ready-resting out ready = absurd (cc)
-ready-resting parked ready = absurd (cc)
 
 module _ {M E : Type 0} (o : Operations M E) (k : Talks M) where
   abbrev strip : Box (Spot M) → Spot M
@@ -144,7 +131,7 @@ module _ {M E : Type 0} (o : Operations M E) (k : Talks M) where
         → weight o k (placed parked (placed out a)) < weight o k a
     parked-now a resting ready wait =
         let both = and_parts (not (has_ended (boxes o k) a)) (is_ready_at (place_of a) resting) ready in
-        let counts : place_weight (place_of a) ≡ 1 = ready-resting (place_of a) (ap (is_ready_at (place_of a)) (sym wait) ∙ both.1) in
+        let counts : place_weight (place_of a) ≡ 1 = ready-waiting (place_of a) (ap (is_ready_at (place_of a)) (sym wait) ∙ both.1) in
         let lives : (boxes o k).ending (machine a) ≡ None =
         lives-none ((boxes o k).ending (machine a)) (not-true (is_some ((boxes o k).ending (machine a))) both.0) in
         let before : weight o k a ≡ inside a + place_weight (place_of a) = weigh-lives (boxes o k) 1 at_place a lives in

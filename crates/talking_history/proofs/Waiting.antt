@@ -15,7 +15,7 @@ use Rattle.talking_history.specs.Places.{spot_talks, boxes}
 use Rattle.talking_history.specs.World.{is_resting}
 use Rattle.talking_history.specs.Rows.{run_at}
 use Rattle.talking_history.proofs.Spots.{talking-spots}
-use Rattle.talking_history.proofs.Gone.{gone-none}
+use Rattle.forest_tree.proofs.Names.{gone-none}
 use Rattle.talking_history.proofs.Leases.{moves-there, lost-goes, other-stays, all, step_of, step-sound}
 use Rattle.talking_history.proofs.Names.{run-gone}
 

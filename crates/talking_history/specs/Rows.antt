@@ -35,7 +35,7 @@ pub data Row (R : Type 0) : Type 0 where
   idle : Row R
   took : Path → Row R
   -- want of memory to wake a machine
-  nothing : Row R
+  wake_failed : Row R
   -- the machine of this name came back after so many steps of its own
   spent : How → Path → ℕ → Row R
   -- the same, and its name was gone
@@ -134,7 +134,7 @@ module _ {M E : Type 0} (o : Operations M E) (k : Talks M) where
   Allows stuck w = IsGoing w × NoneReady w.tree × IsWhole w.tree
   Allows idle w = IsGoing w × NoneReady w.tree × ((name : Path) × (is_out name w.tree ≡ true))
   Allows (took name) w = IsGoing w × (is_ready o k name w.tree ≡ true)
-  Allows nothing w = IsGoing w × ((name : Path) × (is_to_wake o k name w.tree ≡ true))
+  Allows wake_failed w = IsGoing w × ((name : Path) × (is_to_wake o k name w.tree ≡ true))
   Allows (spent how name n) w = IfThere (Spends how n (is_resting o k name (run_at name n w.tree))) (subtree name w.tree)
   Allows (dropped name) w = subtree name w.tree ≡ None
   Allows (kept name n) w = IfThere (Keeps n (is_resting o k name (run_at name n w.tree))) (subtree name w.tree)
@@ -147,7 +147,7 @@ module _ {M E : Type 0} (o : Operations M E) (k : Talks M) where
   does stuck w = w
   does idle w = w
   does (took name) w = record w { tree = at_path (placed out) name w.tree }
-  does nothing w = w
+  does wake_failed w = w
   does (spent how name n) w = record w { tree = came_back how name n w.tree }
   does (dropped name) w = w
   does (kept name n) w = w

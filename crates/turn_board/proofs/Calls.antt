@@ -34,9 +34,11 @@ module _ {A N T : Type 0} where
   pub passed_me : (me w : Me (Content T N) (View A N)) (v : View A N) (x : T) (snapshot : Snapshot N) (note : N)
       → me ≡ (v, (0, content (Some x) (Some snapshot)) ∷ []) → snapshot.value ≡ note
       → ((value : Option T) (m : Snapshot N) → me.1 ≡ (0, content value (Some m)) ∷ rest me.1 → w ≡ (passed_view me.0 m.value, rest me.1)) → w ≡ (passed_view v note, [])
-  passed_me me w v x snapshot note is noted told = told (Some x) snapshot (holds_slot me v (content (Some x) (Some snapshot)) [] is) ∙ ap (λ m. (passed_view m.0 snapshot.value, rest m.1)) is ∙ ap (λ n. (passed_view v n, [])) noted
+  passed_me me w v x snapshot note is noted told = told (Some x) snapshot (holds_slot me v (content (Some x) (Some snapshot)) [] is)
+      ∙ ap (λ m. (passed_view m.0 snapshot.value, rest m.1)) is ∙ ap (λ n. (passed_view v n, [])) noted
 
-  pub passed_seat : (table : TableId) (key : A) (old new : Seat (Content T N) (View A N)) (note : N) → IsTurn table key old → new.table_id ≡ old.table_id → new.me ≡ (passed_view old.me.0 note, []) → IsSeat table key new
+  pub passed_seat : (table : TableId) (key : A) (old new : Seat (Content T N) (View A N)) (note : N) → IsTurn table key old
+      → new.table_id ≡ old.table_id → new.me ≡ (passed_view old.me.0 note, []) → IsSeat table key new
   passed_seat table key old new note turn here is = record {
     here = here ∙ turn.here;
     empty = ap (λ m. m.1) is;
@@ -47,4 +49,10 @@ module _ {A N T : Type 0} where
   }
 
   pub passed_leaves : (old new : Seat (Content T N) (View A N)) (note : N) → new.me ≡ (passed_view old.me.0 note, []) → Leaves old new note
-  passed_leaves old new note is = record { same_seat = ap (λ m. m.0.seat) is; same_splits = ap (λ m. m.0.splits) is; same_ended = ap (λ m. m.0.ended) is; seen = ap (λ m. m.0.seen) is; mine = ap (λ m. m.0.mine) is }
+  passed_leaves old new note is = record {
+    same_seat = ap (λ m. m.0.seat) is;
+    same_splits = ap (λ m. m.0.splits) is;
+    same_ended = ap (λ m. m.0.ended) is;
+    seen = ap (λ m. m.0.seen) is;
+    mine = ap (λ m. m.0.mine) is;
+  }

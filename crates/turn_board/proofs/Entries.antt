@@ -53,7 +53,8 @@ module _ {N : Type 0} where
       nil_from_length (entries_by seat seen) (omega (arith, length-append (entries_by seat seen) (entries_by seat s.0)))
 
   -- what has the same entries of a seat at its beginning and in all has them in between
-  pub same_between : (seat : List ℕ) (log told seen mine : History N) → StartsWith log told → StartsWith told seen → entries_by seat log ≡ mine → entries_by seat seen ≡ mine → entries_by seat told ≡ mine
+  pub same_between : (seat : List ℕ) (log told seen mine : History N) → StartsWith log told → StartsWith told seen → entries_by seat log ≡ mine
+      → entries_by seat seen ≡ mine → entries_by seat told ≡ mine
   same_between seat log told seen mine s t whole part =
       let up = by_more seat log told s in
       let down = by_more seat told seen t in
@@ -61,5 +62,6 @@ module _ {N : Type 0} where
       let short = ap length down in
       let m = ap length whole in
       let n = ap length part in
-      let nothing : entries_by seat t.0 ≡ [] = nil_from_length (entries_by seat t.0) (omega (arith, length-append (entries_by seat seen) (entries_by seat t.0), length-append (entries_by seat told) (entries_by seat s.0))) in
+      let nothing : entries_by seat t.0 ≡ [] = nil_from_length (entries_by seat t.0)
+      (omega (arith, length-append (entries_by seat seen) (entries_by seat t.0), length-append (entries_by seat told) (entries_by seat s.0))) in
       down ∙ ap (λ l. entries_by seat seen ++ l) nothing ∙ append-nil (entries_by seat seen) ∙ part

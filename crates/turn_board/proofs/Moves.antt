@@ -1,5 +1,6 @@
 -- Each step on the words keeps the rule, and tells what it says.
-use Rattle.std.proofs.Common.{◌≡◌, ◌≢◌, ℕ, suc, ◌+◌, ◌%◌, ◌^◌, ◌<◌, ◌≤◌, List, [], ◌∷◌, ◌++◌, length, set, Bool, true, false, true≢false, Option, Some, None, refl, sym, ap, ◌∙◌, subst, inl, inr, ⊎_elim, arith}
+use Rattle.std.proofs.Common.{◌≡◌, ◌≢◌, ℕ, suc, ◌+◌, ◌%◌, ◌^◌, ◌<◌, ◌≤◌, List, [], ◌∷◌, ◌++◌, length, set, Bool, true}
+use Rattle.std.proofs.Common.{false, true≢false, Option, Some, None, refl, sym, ap, ◌∙◌, subst, inl, inr, ⊎_elim, arith}
 use Rattle.std.specs.Prelude.{slice_index}
 use mathlib.Core.Logic.{dite}
 use mathlib.Core.Option.{none, some, some-ne-none, some-injective}
@@ -73,7 +74,8 @@ module _ {A N : Type 0} where
       at (Some n) e = live_room key made v f.named (f.draws.number_is n e).0
 
   -- a number that is later than those drawn
-  drawn_later : (log : History N) (ticket : ℕ) (about : Option A) (number : Option ℕ) (served : Bool) (seen : History N) → HasDrawn log ticket about number served seen → HasDrawn log (ticket + 1) about number served seen
+  drawn_later : (log : History N) (ticket : ℕ) (about : Option A) (number : Option ℕ) (served : Bool) (seen : History N)
+      → HasDrawn log ticket about number served seen → HasDrawn log (ticket + 1) about number served seen
   drawn_later log ticket about number served seen d = record { number_is = λ n e. (let h = d.number_is n e in (h.0, h.1, omega arith)); served_is = d.served_is }
 
 module _ {A N T : Type 0} (stands : A → History N → T → Type 0) (key : A) where
@@ -135,7 +137,15 @@ module _ {A N T : Type 0} (stands : A → History N → T → Type 0) (key : A) 
               omega arith;
           bound = h.bound;
           fits = each_set (Fits key h.log h.made h.gone (h.ticket + 1)) s.views id w
-              (record { named = f.named; sees = f.sees; draws = record { number_is = λ m e. (let is : n ≡ m = same_number w.number n m refl e in let c = h.count in (live, omega arith, omega arith)); served_is = λ on. off v.served idle on }; outlives = f.outlives })
+              (record {
+                named = f.named;
+                sees = f.sees;
+                draws = record {
+                  number_is = λ m e. (let is : n ≡ m = same_number w.number n m refl e in let c = h.count in (live, omega arith, omega arith));
+                  served_is = λ on. off v.served idle on;
+                };
+                outlives = f.outlives;
+              })
               (λ j u other e. let g = h.fits j u e in record { named = g.named; sees = g.sees; draws = drawn_later h.log h.ticket u.about u.number u.served u.seen g.draws; outlives = g.outlives });
           apart = pairs_set Unlike turned s.views id w h.apart (λ j u other e. (
             (λ m mine theirs. let is : n ≡ m = same_number w.number n m refl mine in let below = ((h.fits j u e).draws.number_is m theirs).2 in absurd (omega arith)),
@@ -166,7 +176,8 @@ module _ {A N T : Type 0} (stands : A → History N → T → Type 0) (key : A) 
       (λ (other : out.0 ≢ id). absurd ((h.apart out.0 id out.1 v other out.2 at).0 (length h.log) ((h.fits out.0 out.1 out.2).draws.served_is out.3).0 drawn)))
       h.home
 
-  comes : (s : Lock) (h : Rule s) (id : ℕ) (v : View A N) (c : List (ℕ × Content T N)) (y : Content T N) → get_elem? s.views id ≡ some v → v.number ≡ Some (length h.log) → length h.log < 9223372036854775808
+  comes : (s : Lock) (h : Rule s) (id : ℕ) (v : View A N) (c : List (ℕ × Content T N)) (y : Content T N) → get_elem? s.views id ≡ some v
+      → v.number ≡ Some (length h.log) → length h.log < 9223372036854775808
       → Rule (stepped s 1 (slice_index s.words 1) id c (served_view v h.log) (takes 0 y))
   comes s h id v c y at drawn few =
       let w = served_view v h.log in
@@ -196,7 +207,8 @@ module _ {A N T : Type 0} (stands : A → History N → T → Type 0) (key : A) 
 
   -- what a look gives
   abbrev Looked : Lock → ℕ → View A N → List (ℕ × Content T N) → Type 0
-  Looked s id v c = (w : View A N) × (a : Act (Content T N)) × Valid s.homes c a × Rule (stepped s 1 (slice_index s.words 1) id c w a) × looked stands (step 1 1 0 0 none) (v, c) (slice_index s.words 1) (w, carried_after c a)
+  Looked s id v c = (w : View A N) × (a : Act (Content T N)) × Valid s.homes c a × Rule (stepped s 1 (slice_index s.words 1) id c w a)
+      × looked stands (step 1 1 0 0 none) (v, c) (slice_index s.words 1) (w, carried_after c a)
 
   waits : (s : Lock) (h : Rule s) (id : ℕ) (v : View A N) (c : List (ℕ × Content T N)) → get_elem? s.views id ≡ some v
       → (v.number ≡ Some (slice_index s.words 1) → slice_index s.words 1 < 9223372036854775808 → ⊥)
@@ -222,7 +234,17 @@ module _ {A N T : Type 0} (stands : A → History N → T → Type 0) (key : A) 
         here.2,
         comes s h id v c (content (Some here.0) here.1) at is few,
         (
-          (λ e lt. record { log = h.log; value = here.0; note = here.1; is = refl; later = f.sees.seen_is; few = few; own = f.sees.mine_is live; unmade = λ k below le. h.fresh (v.seat ++ k ∷ below) (unmade_below h.made h.rooted below v.seat k (f.named.unmade live k le)); stands_for = λ a knew. subst (λ k. stands k h.log here.0) (sym (f.named.about_is a knew)) here.3 }),
+          (λ e lt. record {
+            log = h.log;
+            value = here.0;
+            note = here.1;
+            is = refl;
+            later = f.sees.seen_is;
+            few = few;
+            own = f.sees.mine_is live;
+            unmade = λ k below le. h.fresh (v.seat ++ k ∷ below) (unmade_below h.made h.rooted below v.seat k (f.named.unmade live k le));
+            stands_for = λ a knew. subst (λ k. stands k h.log here.0) (sym (f.named.about_is a knew)) here.3;
+          }),
           (λ many. let lots = many (is ∙ ap Some (sym found)) in absurd (omega arith)),
         ),
       ))
@@ -433,7 +455,8 @@ module _ {A N T : Type 0} (stands : A → History N → T → Type 0) (key : A) 
                 depth = g.named.depth;
                 few = g.named.few;
                 made_is = λ l. has_old h.made x.seat u.seat (g.named.made_is l);
-                unmade = λ l k le. has_not h.made x.seat (u.seat ++ k ∷ []) (λ same. (h.apart id j v u (λ z. other (sym z)) at e).1 live l (same_child v.seat u.seat v.splits k same).0) (g.named.unmade l k le);
+                unmade = λ l k le. has_not h.made x.seat (u.seat ++ k ∷ [])
+                    (λ same. (h.apart id j v u (λ z. other (sym z)) at e).1 live l (same_child v.seat u.seat v.splits k same).0) (g.named.unmade l k le);
               };
               sees = g.sees;
               draws = g.draws;
@@ -443,7 +466,8 @@ module _ {A N T : Type 0} (stands : A → History N → T → Type 0) (key : A) 
             (pairs_set Unlike turned s.views id w h.apart (λ j u other e. h.apart id j v u (λ z. other (sym z)) at e))
             (λ j u e. (
               (λ m n. no_number x.number m refl n),
-              (λ l k same. true≢false (sym (each_set (λ (y : View A N). IsLive y.about → has_seat h.made y.seat ≡ true) s.views id w (λ _. is_made) (λ i y _ there. (h.fits i y there).named.made_is) j u e k) ∙ ap (has_seat h.made) (sym same) ∙ unmade)),
+              (λ l k same. true≢false (sym (each_set (λ (y : View A N). IsLive y.about → has_seat h.made y.seat ≡ true) s.views id w (λ _. is_made)
+                  (λ i y _ there. (h.fits i y there).named.made_is) j u e k) ∙ ap (has_seat h.made) (sym same) ∙ unmade)),
             ));
         rooted = λ seat k has. ⊎_elim
             (λ (same : x.seat ≡ seat ++ k ∷ []). has_old h.made x.seat seat (subst (λ t. has_seat h.made t ≡ true) (same_child v.seat seat v.splits k same).0 is_made))
@@ -454,7 +478,8 @@ module _ {A N T : Type 0} (stands : A → History N → T → Type 0) (key : A) 
         home = pushed s.words (set s.views id w) x (home_set h.log s s.words id v w at (λ on. on) h.home);
       }
     where
-      pushed : (words : List ℕ) (views : List (View A N)) (x : View A N) → Home stands key h.log record { words = words; homes = s.homes; views = views } → Home stands key h.log record { words = words; homes = s.homes; views = views ++ x ∷ [] }
+      pushed : (words : List ℕ) (views : List (View A N)) (x : View A N)
+          → Home stands key h.log record { words = words; homes = s.homes; views = views } → Home stands key h.log record { words = words; homes = s.homes; views = views ++ x ∷ [] }
       pushed words views x home = ⊎_elim
           (λ here. inl here)
           (λ (out : (j : ℕ) × (u : View A N) × (get_elem? views j ≡ some u) × (u.served ≡ true)). inr (out.0, out.1, at_longer views (x ∷ []) out.0 out.1 out.2, out.3))
@@ -548,14 +573,21 @@ module _ {A N T : Type 0} (stands : A → History N → T → Type 0) (key : A) 
         bound = omega arith;
         fits = each_push (Fits key [] ([] ∷ []) [] 0) [] v
             (record {
-              named = record { about_is = λ a e. (let is : key ≡ a = cc in sym is); depth = omega arith; few = omega arith; made_is = λ l. has_new [] []; unmade = λ l k le. has_not [] [] (k ∷ []) (λ same. above_self [] k (sym same)) refl };
+              named = record {
+                about_is = λ a e. (let is : key ≡ a = cc in sym is);
+                depth = omega arith;
+                few = omega arith;
+                made_is = λ l. has_new [] [];
+                unmade = λ l k le. has_not [] [] (k ∷ []) (λ same. above_self [] k (sym same)) refl;
+              };
               sees = record { seen_is = ([], refl); told_is = ([], refl); mine_is = λ l. refl; own_is = λ l. refl };
               draws = record { number_is = λ m e. no_number None m refl e; served_is = λ on. off false refl on };
               outlives = record { here = λ l. refl; ended_is = none_ended [] [] []; told_is = none_ended [] [] [] };
             })
             (λ j u e. absurd (some-ne-none u (sym e)));
         apart = pairs_push Unlike turned [] v (λ i j u w apart e f. absurd (some-ne-none u (sym e))) (λ j u e. absurd (some-ne-none u (sym e)));
-        rooted = λ seat k has. ⊎_elim (λ (same : [] ≡ seat ++ k ∷ []). (let long = ap length same in absurd (omega (arith, length_push seat k)))) (λ (old : false ≡ true). absurd (true≢false (sym old))) (had [] [] (seat ++ k ∷ []) has);
+        rooted = λ seat k has. ⊎_elim (λ (same : [] ≡ seat ++ k ∷ []). (let long = ap length same in absurd (omega (arith, length_push seat k))))
+            (λ (old : false ≡ true). absurd (true≢false (sym old))) (had [] [] (seat ++ k ∷ []) has);
         gone_made = λ seat has. absurd (true≢false (sym has));
         fresh = λ seat unmade. refl;
         home = inl (value, None, refl, stood);

@@ -51,7 +51,8 @@ module _ {V : Type 0} where
   abbrev pub Pairs : (V → V → Type 0) → List V → Type 0
   Pairs R views = (i j : ℕ) (v w : V) → i ≢ j → get_elem? views i ≡ some v → get_elem? views j ≡ some w → R v w
 
-  pub pairs_set : (R : V → V → Type 0) → ((v w : V) → R v w → R w v) → (views : List V) (i : ℕ) (w : V) → Pairs R views → ((j : ℕ) (u : V) → j ≢ i → get_elem? views j ≡ some u → R w u) → Pairs R (set views i w)
+  pub pairs_set : (R : V → V → Type 0) → ((v w : V) → R v w → R w v) → (views : List V) (i : ℕ) (w : V) → Pairs R views
+      → ((j : ℕ) (u : V) → j ≢ i → get_elem? views j ≡ some u → R w u) → Pairs R (set views i w)
   pairs_set R turn views i w pairs mine a b x y apart ea eb = ⊎_elim
       (λ (s : (a ≡ i) × (w ≡ x)). ⊎_elim
       (λ (t : (b ≡ i) × (w ≡ y)). absurd (apart (s.0 ∙ sym t.0)))

@@ -1,9 +1,8 @@
 -- A store to the fork port that is a call, EXIT with bytes or ZERO changes nothing yet.
-use Rattle.std.proofs.Common.{◌≡◌, ℕ, ◌≤◌, Option, Some, None, IfSome, refl, ap, subst, sym, ◌∙◌}
-use Rattle.fork_port.specs.declared.commands.Call.{Call}
+use Rattle.std.proofs.Common.{◌≡◌, ℕ, ◌≤◌, Option, Some, IfSome, refl, ap, subst}
 use Rattle.fork_port.specs.declared.commands.Effect.{Effect}
 use Rattle.fork_port.specs.declared.commands.Effect.TheVariants as effect
-use Rattle.fork_port.specs.declared.handed.TheConstants.{MOST_HANDED}
+use Rattle.fork_port.specs.declared.handed.TheConstants.{MAX_HANDED}
 use Rattle.fork_port.specs.Registers.{ForkRegisters}
 use Rattle.fork_port.specs.Commands.{IsMakeable}
 use Rattle.fork_port.specs.Fork.{ForkStored, fork_store}
@@ -23,7 +22,7 @@ fork-waits b f offset width word (effect.Call c) h =
     (ap (λ (g : ForkRegisters). record b { fork = g }) both.0, both.1)
 fork-waits b f offset width word (effect.Exit value) h = tt
 fork-waits b f offset width word (effect.ExitWith value address count) h =
-    let IsLeft : ForkStored → Type 0 = λ s. s.effect ≡ effect.ExitWith value address count → (s.fork ≡ b.fork) × (count ≤ MOST_HANDED) in
+    let IsLeft : ForkStored → Type 0 = λ s. s.effect ≡ effect.ExitWith value address count → (s.fork ≡ b.fork) × (count ≤ MAX_HANDED) in
     let all : IfSome (fork_store b.fork offset width word) IsLeft = handing_stored b.fork offset width word value address count in
     let one : IsLeft (record { fork = f; effect = effect.ExitWith value address count }) = subst (λ (o : Option ForkStored). IfSome o IsLeft) h all in
     let both = one refl in

@@ -1,5 +1,5 @@
--- The ports by address. Each takes the accesses from its base on; the offset there is its own matter.
-use Rattle.std.specs.Prelude.{◌≡◌, ℕ, ◌-◌, ◌<◌, ◌≤◌, ◌⊎◌, nat_lt, if◌then◌else◌, List, [], length, Option, None, IsSomeAnd}
+-- The ports by address. An access that a port has not is none.
+use Rattle.std.specs.Prelude.{◌≡◌, ℕ, ◌-◌, ◌<◌, ◌≤◌, ◌⊎◌, if◌then◌else◌, List, [], length, Option, None, IsSomeAnd}
 use Rattle.std.specs.Option.{option_map}
 use Rattle.console_port.specs.Console.{ConsoleRegisters, console_load, console_store}
 use Rattle.timer_port.specs.declared.registers.TimerRegisters.{TimerRegisters}
@@ -9,13 +9,16 @@ use Rattle.block_port.specs.Block.{BlockRegisters, WritesSector, block_load, blo
 use Rattle.block_port.specs.Block as block
 use Rattle.fork_port.specs.declared.commands.Effect.{Effect}
 use Rattle.fork_port.specs.declared.commands.Effect.TheVariants.{Done, TimeWritten, Call, Exit, ExitWith, Zero}
-use Rattle.fork_port.specs.declared.handed.TheConstants.{MOST_HANDED}
+use Rattle.fork_port.specs.declared.handed.TheConstants.{MAX_HANDED}
 use Rattle.fork_port.specs.Commands.{IsMakeable}
 use Rattle.fork_port.specs.Registers.{ForkRegisters}
 use Rattle.fork_port.specs.Registers as fork
 use Rattle.fork_port.specs.Fork.{GrantsTicket, fork_load, fork_store}
 use Rattle.vm_bus.specs.declared.ports.PortFields.{PortFields}
-use Rattle.vm_bus.specs.declared.addresses.TheConstants.{TIMER_BASE, CONSOLE_BASE, BLOCK_BASE, FORK_BASE}
+use Rattle.port_map.specs.declared.place.TheConstants.{BLOCK_BASE, FORK_BASE}
+use Rattle.port_map.specs.declared.place.Place.{Place}
+use Rattle.port_map.specs.declared.place.Place.TheVariants as place
+use Rattle.port_map.specs.Ranges.{place_of}
 
 pub record BusRegisters : Type 0 where
   pub timer : TimerRegisters
@@ -76,23 +79,30 @@ fork_stored b offset width word =
 abbrev pub read : BusRegisters → Option ℕ → Option BusLoaded
 read b value = option_map (λ value. record { bus = b; value = value }) value
 
--- below the console's base an address is of the timer, below the block port's of the console, below the
--- fork port's of the block port, and else of the fork port, if it is of a port
-unfoldable pub bus_load : BusRegisters → ℕ → ℕ → Option BusLoaded
-bus_load b address width =
-    if nat_lt address TIMER_BASE then None
-    else (if nat_lt address CONSOLE_BASE then read b (timer_load b.timer (address - TIMER_BASE) width)
-    else (if nat_lt address BLOCK_BASE then option_map (λ l. record { bus = record b { console = l.console }; value = l.value }) (console_load b.console (address - CONSOLE_BASE) width)
-    else (if nat_lt address FORK_BASE then read b (block_load b.block (address - BLOCK_BASE) width)
-    else read b (fork_load b.fork (address - FORK_BASE) width))))
+abbrev pub load_at : Place → BusRegisters → ℕ → Option BusLoaded
+load_at (place.Console offset) b width =
+    option_map (λ l. record { bus = record b { console = l.console }; value = l.value }) (console_load b.console offset width)
+load_at (place.Timer offset) b width = read b (timer_load b.timer offset width)
+load_at (place.Block offset) b width = read b (block_load b.block offset width)
+load_at (place.Fork offset) b width = read b (fork_load b.fork offset width)
+load_at place.NoPort b width = None
 
+-- a load of `width` bytes
+unfoldable pub bus_load : BusRegisters → ℕ → ℕ → Option BusLoaded
+bus_load b address width = load_at (place_of address) b width
+
+abbrev pub store_at : Place → BusRegisters → ℕ → ℕ → Option BusStored
+store_at (place.Console offset) b width word =
+    option_map (λ c. record { bus = record b { console = c }; effect = Done }) (console_store b.console offset width word)
+store_at (place.Timer offset) b width word = timer_stored b offset width word
+store_at (place.Block offset) b width word =
+    option_map (λ k. record { bus = record b { block = k }; effect = Done }) (block_store b.block offset width word)
+store_at (place.Fork offset) b width word = fork_stored b offset width word
+store_at place.NoPort b width word = None
+
+-- a store of the low `width` bytes of a word
 unfoldable pub bus_store : BusRegisters → ℕ → ℕ → ℕ → Option BusStored
-bus_store b address width word =
-    if nat_lt address TIMER_BASE then None
-    else (if nat_lt address CONSOLE_BASE then timer_stored b (address - TIMER_BASE) width word
-    else (if nat_lt address BLOCK_BASE then option_map (λ c. record { bus = record b { console = c }; effect = Done }) (console_store b.console (address - CONSOLE_BASE) width word)
-    else (if nat_lt address FORK_BASE then option_map (λ k. record { bus = record b { block = k }; effect = Done }) (block_store b.block (address - BLOCK_BASE) width word)
-    else fork_stored b (address - FORK_BASE) width word)))
+bus_store b address width word = store_at (place_of address) b width word
 
 -- A store that is a call, EXIT with bytes or ZERO changes nothing yet, since the machine makes it. The call can be made,
 -- and the bytes are not too many.
@@ -101,10 +111,19 @@ Waits old new Done = Unit {0}
 Waits old new TimeWritten = Unit {0}
 Waits old new (Call call) = (new ≡ old) × IsMakeable old.fork call
 Waits old new (Exit value) = Unit {0}
-Waits old new (ExitWith value address count) = (new ≡ old) × (count ≤ MOST_HANDED)
+Waits old new (ExitWith value address count) = (new ≡ old) × (count ≤ MAX_HANDED)
 Waits old new (Zero first count) = new ≡ old
 
--- Memory is wanted where a byte goes to the output, a sector is written, or a ticket is granted.
+-- memory is wanted where a byte goes to the output, a sector is written, or a ticket is granted
+abbrev pub WantsMemoryAt : Place → BusRegisters → ℕ → ℕ → Type 0
+WantsMemoryAt (place.Console offset) b width word =
+    IsSomeAnd (store_at (place.Console offset) b width word) (λ s. length b.console.output < length s.bus.console.output)
+WantsMemoryAt (place.Timer offset) b width word = ⊥
+WantsMemoryAt (place.Block offset) b width word = WritesSector b.block offset width word
+WantsMemoryAt (place.Fork offset) b width word = GrantsTicket b.fork offset width word
+WantsMemoryAt place.NoPort b width word = ⊥
+
+-- the same of an address
 abbrev pub WantsMemory : BusRegisters → ℕ → ℕ → ℕ → Type 0
 WantsMemory b address width word =
     IsSomeAnd (bus_store b address width word) (λ s. length b.console.output < length s.bus.console.output)

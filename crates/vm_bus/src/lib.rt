@@ -1,7 +1,6 @@
 //! The bus: the ports of a machine, each at its addresses.
 #![tactic(auto)]
 
-pub mod addresses;
 mod ports;
 
 pub use fork_port::Effect;

@@ -5,9 +5,8 @@ ghost use Rattle.fork_port.specs.Commands.{fork_command};
 ghost use Rattle.fork_port.specs.Fork.{GrantsTicket};
 ghost use Rattle.fork_port.specs.Registers.{HasTicket, refused, ticket_found, ticket_told};
 ghost use Rattle.fork_port.specs.Children.{after_clone, after_join, after_kill, child_registers};
-ghost use Rattle.vm_bus.specs.Bus.{at_start, bus_load, bus_store, fields_of, fork_stored, ports_of_fields, timer_stored, Waits, WantsMemory};
+ghost use Rattle.vm_bus.specs.Bus.{at_start, bus_load, bus_store, fields_of, fork_stored, load_at, ports_of_fields, store_at, timer_stored, Waits, WantsMemory, WantsMemoryAt};
 
-use crate::addresses::{BLOCK_BASE, CONSOLE_BASE, FORK_BASE, TIMER_BASE};
 use block_port::{BlockFields, BlockPort};
 use console_port::{ConsoleFields, ConsolePort, Input};
 use cow_disk::Disk;
@@ -15,6 +14,7 @@ use fork_port::refusals::TICKETS_END;
 use fork_port::registers::{FORK_COMMAND, TICKET_COMMAND};
 use fork_port::{Asked, Effect, Ending, ForkFields, ForkPort};
 use port_error::{Fault, PortError};
+use port_map::{FORK_BASE, Place, place_of};
 use std::alloc::{AllocError, Global};
 use std::marker::Model;
 use timer_port::{TimerPort, TimerRegisters};
@@ -139,28 +139,16 @@ impl Ports {
     }
 
     /// Loads `width` bytes from the port that `address` is of.
-    #[tactic(auto, unfolding(crate::specs::Bus::bus_load))]
     pub fn load(&mut self, address: u32, width: u32) -> Result<u32, Fault>
         ensures ok { IfOk result (λ value. bus_load self.old address width ≡ Some (record { bus = self.new; value = value })) }
         ensures fault { IsErr result ↔ (bus_load self.old address width ≡ None) }
         ensures err { OnErr result (self.new ≡ self.old) }
     {
-        if address < TIMER_BASE {
-            Err(Fault)
-        } else if address < CONSOLE_BASE {
-            self.timer.load(address - TIMER_BASE, width)
-        } else if address < BLOCK_BASE {
-            self.console.load(address - CONSOLE_BASE, width)
-        } else if address < FORK_BASE {
-            self.block.load(address - BLOCK_BASE, width)
-        } else {
-            self.fork.load(address - FORK_BASE, width)
-        }
+        self.load_at(place_of(address), width)
     }
 
     /// Stores the low `width` bytes of `word` to the port that `address` is of, and answers what that
     /// does to the machine.
-    #[tactic(auto, unfolding(crate::specs::Bus::bus_store))]
     pub fn store(&mut self, address: u32, width: u32, word: u32) -> Result<Effect, PortError>
         requires ticket { address ≡ FORK_BASE + FORK_COMMAND → word ≡ TICKET_COMMAND → self.old.fork.next_ticket < TICKETS_END }
         ensures ok { IfOk result (λ effect. bus_store self.old address width word ≡ Some (record { bus = self.new; effect = effect })) }
@@ -169,19 +157,7 @@ impl Ports {
         ensures err { OnErr result (self.new ≡ self.old) }
         ensures memory { IsErrOf result PortError.Memory → WantsMemory self.old address width word }
     {
-        if address < TIMER_BASE {
-            Err(PortError::Fault)
-        } else if address < CONSOLE_BASE {
-            self.store_timer(address - TIMER_BASE, width, word)
-        } else if address < BLOCK_BASE {
-            self.console.store(address - CONSOLE_BASE, width, word)?;
-            Ok(Effect::Done)
-        } else if address < FORK_BASE {
-            self.block.store(address - BLOCK_BASE, width, word)?;
-            Ok(Effect::Done)
-        } else {
-            self.store_fork(address - FORK_BASE, width, word)
-        }
+        self.store_at(place_of(address), width, word)
     }
 
     /// How many children a ticket is for, the share of each, and whether they were made; `None` where
@@ -269,6 +245,43 @@ impl Ports {
         ensures { result ≡ fork_command self.now.fork command }
     {
         self.fork.asked(command)
+    }
+
+    fn load_at(&mut self, place: Place, width: u32) -> Result<u32, Fault>
+        ensures ok { IfOk result (λ value. load_at place self.old width ≡ Some (record { bus = self.new; value = value })) }
+        ensures fault { IsErr result ↔ (load_at place self.old width ≡ None) }
+        ensures err { OnErr result (self.new ≡ self.old) }
+    {
+        match place {
+            Place::Console(offset) => self.console.load(offset, width),
+            Place::Timer(offset) => self.timer.load(offset, width),
+            Place::Block(offset) => self.block.load(offset, width),
+            Place::Fork(offset) => self.fork.load(offset, width),
+            Place::NoPort => Err(Fault),
+        }
+    }
+
+    fn store_at(&mut self, place: Place, width: u32, word: u32) -> Result<Effect, PortError>
+        requires { place ≡ Place.Fork FORK_COMMAND → word ≡ TICKET_COMMAND → self.old.fork.next_ticket < TICKETS_END }
+        ensures ok { IfOk result (λ effect. store_at place self.old width word ≡ Some (record { bus = self.new; effect = effect })) }
+        ensures waits { IfOk result (Waits self.old self.new) }
+        ensures fault { IsErrOf result PortError.Fault ↔ (store_at place self.old width word ≡ None) }
+        ensures err { OnErr result (self.new ≡ self.old) }
+        ensures memory { IsErrOf result PortError.Memory → WantsMemoryAt place self.old width word }
+    {
+        match place {
+            Place::Console(offset) => {
+                self.console.store(offset, width, word)?;
+                Ok(Effect::Done)
+            }
+            Place::Timer(offset) => self.store_timer(offset, width, word),
+            Place::Block(offset) => {
+                self.block.store(offset, width, word)?;
+                Ok(Effect::Done)
+            }
+            Place::Fork(offset) => self.store_fork(offset, width, word),
+            Place::NoPort => Err(PortError::Fault),
+        }
     }
 
     fn store_fork(&mut self, offset: u32, width: u32, word: u32) -> Result<Effect, PortError>

@@ -7,7 +7,7 @@ use Rattle.std.proofs.lemmas.Bool.{cases_eq}
 use Rattle.std.proofs.lemmas.List.{get_or-set_other}
 use Rattle.std.proofs.lemmas.List.Elements.{All-contains}
 use Rattle.std.proofs.lemmas.Option.{slice_get_read}
-use Rattle.elf_load.specs.declared.image.TheConstants.{PAGE_SIZE}
+use Rattle.page_frames.specs.declared.page.TheConstants.{PAGE_SIZE}
 use Rattle.image_depot.specs.declared.arrived.Arrived.{Arrived}
 use Rattle.image_depot.specs.declared.arrived.Arrived.TheVariants.{Got, Had}
 use Rattle.image_depot.specs.Key.{Key}

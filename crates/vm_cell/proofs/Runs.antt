@@ -23,20 +23,20 @@ use Rattle.forest_model.proofs.Finish.{limit-after_steps}
 use Rattle.forest_model.proofs.Paged.{machine-advanced_by}
 use Rattle.vm_hart.specs.Acts.{Grows}
 use Rattle.vm_hart.specs.Keyed.{KeyedMachine, paged}
-use Rattle.vm_hart.proofs.Runs.{IsRun-join, moved-none}
-use Rattle.vm_cell.specs.Parts.{IsCut, IsPart, Stops}
+use Rattle.vm_hart.proofs.Runs.{IsRun-advance, IsRun-join, IsRun-none}
+use Rattle.vm_cell.specs.Parts.{IsCut, IsMadeUntil, IsPart, Stops}
 use Rattle.vm_hart.specs.Runs.{IsFreeFor, IsRun, moved_by}
 use Rattle.vm_cell.specs.Steps.{GoesOn, IsCounted, IsFunded}
 use Rattle.vm_cell.specs.declared.vm.Part.{Part}
-use Rattle.vm_cell.specs.declared.vm.Stepped.{Stepped}
-use Rattle.vm_cell.specs.declared.vm.Stepped.TheVariants.{Went, Stall, Call, Ended}
+use Rattle.vm_cell.specs.declared.vm.Stop.{Stop}
+use Rattle.vm_cell.specs.declared.vm.Stop.TheVariants.{Page, Call, End}
 
--- it ends at a step that is not made, and changes nothing
-pub not-made : (old new : KeyedMachine) (why : Stepped) → GoesOn old new (Some why) → new ≡ old
-not-made old new Went goes = absurd goes
-not-made old new (Stall page) goes = goes.1
-not-made old new (Call call) goes = goes.2
-not-made old new (Ended ending) goes = absurd goes
+-- a run is of as many steps as the machine counts
+pub run-counted : (old new : KeyedMachine) (made : ℕ) → IsRun old new made → IsRun old new (new.machine.steps - old.machine.steps)
+run-counted old new made run =
+    let counted : new.machine.steps ≡ old.machine.steps + made = run.counted in
+    let same : made ≡ new.machine.steps - old.machine.steps = omega (arith, counted) in
+    subst (IsRun old new) same run
 
 module _ (old mid new : KeyedMachine) (made : ℕ) (run : IsRun old mid made) (is : new ≡ mid) where
   made-counted : made ≡ new.machine.steps - old.machine.steps
@@ -52,12 +52,52 @@ module _ (old mid new : KeyedMachine) (made : ℕ) (run : IsRun old mid made) (i
   pub stopped-free : IsFreeFor (new.machine.steps - old.machine.steps) old
   stopped-free = subst (λ n. IsFreeFor n old) made-counted run.free
 
--- where it stops
-pub stops-there : (old new : KeyedMachine) (why : Stepped) → old.machine.ending ≡ None → GoesOn old new (Some why) → Stops new why
-stops-there old new Went live goes = absurd goes
-stops-there old new (Stall page) live goes = subst (λ v. Stops v (Stall page)) (sym goes.1) (live, goes.0)
-stops-there old new (Call call) live goes = subst (λ v. Stops v (Call call)) (sym goes.2) (live, goes.0, goes.1)
-stops-there old new (Ended ending) live goes = absurd goes
+-- at a step that is not made
+stopped : (until : ℕ) (old mid new : KeyedMachine) (why : Stop) → IsRun old mid (mid.machine.steps - old.machine.steps) → old.machine.steps ≤ mid.machine.steps
+    → mid.machine.steps < until → new ≡ mid → Stops new why → IsMadeUntil until old new (Some why)
+stopped until old mid new why run from before is stops =
+    let same : new.machine.steps ≡ mid.machine.steps = ap (λ (v : KeyedMachine). v.machine.steps) is in
+    record {
+      run = subst (λ v. IsRun old v (v.machine.steps - old.machine.steps)) (sym is) run;
+      from = omega (arith, from, same);
+      within = omega (arith, before, same);
+      stops = stops;
+      all = λ none. absurd (cc);
+    }
+
+-- where it stops, and how many steps it made
+pub stops-there : (until : ℕ) (old mid new : KeyedMachine) (why : Stop) → mid.machine.ending ≡ None → IsRun old mid (mid.machine.steps - old.machine.steps)
+    → old.machine.steps ≤ mid.machine.steps → mid.machine.steps < until → GoesOn mid new (Some why) → IsMadeUntil until old new (Some why)
+stops-there until old mid new (Page page) live run from before goes =
+    stopped until old mid new (Page page) run from before goes.1 (subst (λ v. Stops v (Page page)) (sym goes.1) (live, goes.0))
+stops-there until old mid new (Call call) live run from before goes =
+    stopped until old mid new (Call call) run from before goes.2 (subst (λ v. Stops v (Call call)) (sym goes.2) (live, goes.0, goes.1))
+stops-there until old mid new End live run from before goes =
+    let step = goes.0 in
+    let made : IsRun old new (mid.machine.steps - old.machine.steps + 1) = IsRun-advance old mid new _ run step.0 step.1 step.2 in
+    let counted : new.machine.steps ≡ mid.machine.steps + 1 = step.2 in
+    record {
+      run = run-counted old new _ made;
+      from = omega (arith, from, counted);
+      within = omega (arith, before, counted);
+      stops = goes.1;
+      all = λ none. absurd (cc);
+    }
+
+-- the same after one step, whatever it came to
+pub step-until : (old new : KeyedMachine) (stop : Option Stop) → old.machine.ending ≡ None → GoesOn old new stop → IsMadeUntil (old.machine.steps + 1) old new stop
+step-until old new None live goes =
+    let step = goes.0 in
+    let counted : new.machine.steps ≡ old.machine.steps + 1 = step.2 in
+    record {
+      run = run-counted old new _ (IsRun-advance old old new 0 (IsRun-none old) step.0 step.1 step.2);
+      from = omega (arith, counted);
+      within = omega (arith, counted);
+      stops = tt;
+      all = λ none. (goes.1, counted);
+    }
+step-until old new (Some why) live goes =
+    stops-there (old.machine.steps + 1) old old new why live (run-counted old old 0 (IsRun-none old)) (omega arith) (omega arith) goes
 
 -- a run of as many steps as the limit allows does not leave a machine that lives
 pub enough_made : (old new : KeyedMachine) (made most : ℕ) → IsRun old new made → IsWithinLimit new.machine → new.machine.ending ≡ None → made ≡ most
@@ -69,6 +109,15 @@ enough_made old new made most run within live all enough =
     let below : new.machine.steps < new.machine.limit = within live in
     omega arith
 
+-- a run that was to make as many steps as the limit allows made all that it was to make, if the machine lives
+pub all-made : (most few : ℕ) (old new : KeyedMachine) → IsRun old new (new.machine.steps - old.machine.steps) → old.machine.steps ≤ new.machine.steps
+    → IsWithinLimit new.machine → new.machine.ending ≡ None → new.machine.steps ≡ old.machine.steps + few → few ≤ most
+    → (few < most → old.machine.limit ≤ old.machine.steps + few) → few ≡ most
+all-made most few old new run from within live made less whole = elim (cases_lt few most) [
+  | inl fewer ↦ absurd (enough_made old new (new.machine.steps - old.machine.steps) few run within live (omega (arith, made)) (whole fewer))
+  | inr all ↦ omega (arith, all, less)
+]
+
 -- ---- parts of a run
 
 -- a first part that made all that the run was to make, or was stopped
@@ -79,18 +128,24 @@ part-alone most few old new part less whole is =
       run = is.run;
       within = omega (arith, within, less);
       stops = is.stops;
-      all = λ none live. let made : part.steps ≡ few = is.all none live in made ∙ whole none made;
+      all = λ none. let all = is.all none in (all.0, all.1 ∙ whole none all.1);
     }
 
--- a step that is not made ends a part
-pub part-stopped : (most made : ℕ) (old mid new : KeyedMachine) (why : Stepped) (part : Part) → IsRun old mid made → made ≤ most → mid.machine.ending ≡ None → GoesOn mid new (Some why)
-    → part.steps ≡ made → part.stop ≡ Some why → IsPart most old new part
-part-stopped most made old mid new why part run within live goes steps stop = record {
-  run = subst (IsRun old new) (sym steps) (subst (λ v. IsRun old v made) (sym (not-made mid new why goes)) run);
-  within = omega (arith, steps, within);
-  stops = subst (λ s. IfSome s (Stops new)) (sym stop) (stops-there mid new why live goes);
-  all = λ none alive. absurd (cc);
-}
+-- steps that were to be made until they are so many make a part, where the limit does not allow more than it is to have
+pub part-until : (most few : ℕ) (old new : KeyedMachine) (part : Part) → few ≤ most → IsMadeUntil (old.machine.steps + few) old new part.stop
+    → part.steps ≡ new.machine.steps - old.machine.steps → (new.machine.ending ≡ None → part.steps ≡ few → few ≡ most) → IsPart most old new part
+part-until most few old new part less is steps whole =
+    let from : old.machine.steps ≤ new.machine.steps = is.from in
+    let within : new.machine.steps ≤ old.machine.steps + few = is.within in
+    record {
+      run = subst (IsRun old new) (sym steps) is.run;
+      within = omega (arith, steps, from, within, less);
+      stops = is.stops;
+      all = λ none.
+          let all = is.all none in
+          let made : part.steps ≡ few = let until : new.machine.steps ≡ old.machine.steps + few = all.1 in omega (arith, steps, until) in
+          (all.0, made ∙ whole all.0 made);
+    }
 
 -- memory is wanting for the next step
 pub cut-here : (most made : ℕ) (old mid new : KeyedMachine) → IsRun old mid made → new ≡ mid → made < most → mid.machine.ending ≡ None → stalled_at (paged mid) ≡ None → Grows mid.machine.state
@@ -114,19 +169,15 @@ parts-join most made old mid new rest part run less is steps stop =
       run = subst (IsRun old new) (sym steps) (IsRun-join old mid new made rest.steps run is.run);
       within = omega (arith, steps, within, less);
       stops = subst (λ s. IfSome s (Stops new)) (sym stop) is.stops;
-      all = λ none live. let rests : rest.steps ≡ most - made = is.all (sym stop ∙ none) live in omega (arith, steps, rests, less);
+      all = λ none.
+          let all = is.all (sym stop ∙ none) in
+          let rests : rest.steps ≡ most - made = all.1 in
+          (all.0, omega (arith, steps, rests, less));
     }
 
 -- a part that nothing stopped made a step, if it was to make any
-pub part-moves : (most : ℕ) (old new : KeyedMachine) (part : Part) → 1 ≤ most → old.machine.ending ≡ None → part.stop ≡ None → IsPart most old new part → 1 ≤ part.steps
-part-moves most old new part some live none is = elim (cases_lt 0 part.steps) [
-  | inl moves ↦ omega (arith, moves)
-  | inr still ↦
-      let made : part.steps ≡ 0 = omega (arith, still) in
-      let same : new ≡ old = is.run.steps ∙ moved-none part.steps old made in
-      let all : part.steps ≡ most = is.all none (ap (λ (v : KeyedMachine). v.machine.ending) same ∙ live) in
-      omega (arith, all, some, made)
-]
+pub part-moves : (most : ℕ) (old new : KeyedMachine) (part : Part) → 1 ≤ most → part.stop ≡ None → IsPart most old new part → 1 ≤ part.steps
+part-moves most old new part some none is = let all : part.steps ≡ most = (is.all none).1 in omega (arith, all, some)
 
 pub cut-less : (most few : ℕ) (old new : KeyedMachine) → few ≤ most → IsCut few old new → IsCut most old new
 cut-less most few old new less is =

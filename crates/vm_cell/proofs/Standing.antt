@@ -1,5 +1,5 @@
 -- The call that a machine stands at, and the machine after it.
-use Rattle.std.proofs.Common.{◌≡◌, ℕ, ◌+◌, ◌<◌, ◌≤◌, inl, inr, List, [], ◌∷◌, Bool, true, false, cond, Option, Some, None, IsSome, IsSomeAnd, refl, sym, ap, ◌∙◌, subst, arith, mul-le-mul_right}
+use Rattle.std.proofs.Common.{◌≡◌, ◌≢◌, ℕ, ◌+◌, ◌<◌, ◌≤◌, inl, inr, List, [], ◌∷◌, Bool, true, false, cond, Option, Some, None, IsSome, IsSomeAnd, refl, sym, ap, ◌∙◌, subst, arith, mul-le-mul_right}
 use Rattle.std.specs.Option.{IfSome, is_some, option_map}
 use Rattle.std.specs.List.{AllByRecursion}
 use Rattle.fork_port.specs.declared.commands.Call.{Call}
@@ -27,7 +27,8 @@ use Rattle.vm_hart.specs.Acts.{waits_for}
 use Rattle.vm_hart.specs.Calls.{asked_call, AsksNext, made}
 use Rattle.vm_hart.proofs.Stepping.{stalls_live}
 use Rattle.vm_cell.specs.Standing.{standing_from, standing_by, standing_call, IsAsked}
-use Rattle.vm_cell.specs.Steps.{IsFunded, Stands}
+use Rattle.vm_cell.specs.Steps.{IsAfterStep, IsFunded, Stands}
+use Rattle.vm_cell.specs.declared.vm.Stepped.{Stepped}
 use Rattle.vm_cell.specs.declared.vm.Stepped.TheVariants as stepped
 
 -- ---- what the hart answers, of the machine
@@ -225,3 +226,10 @@ module _ (m : Machine) (t : ℕ) where
           let most : (port_of m).allot + held (port_of m).tickets ≤ MAX_CLONES = funded.most in
           let price = mul-le-mul_right (1 + ticket.share) some in
           omega arith
+
+-- a machine that has ended stands where it does after its last step
+pub stands_ended : (v : KeyedMachine) (why : Stepped) → v.machine.ending ≢ None → IsAfterStep v why → Stands v why
+stands_ended v stepped.Went ended is = absurd (ended is)
+stands_ended v (stepped.Stall page) ended is = absurd is
+stands_ended v (stepped.Call c) ended is = absurd is
+stands_ended v (stepped.Ended ending) ended is = is

@@ -1,7 +1,8 @@
 -- A machine whose hart has made no step, and one that has ended.
-use Rattle.std.proofs.Common.{◌≡◌, ℕ, Some, None, Ok, sym, ap, ◌∙◌, is_some}
+use Rattle.std.proofs.Common.{◌≡◌, ℕ, Bool, true, false, cond, Option, Some, None, Ok, subst, sym, ap, ◌∙◌, is_some}
 use Rattle.fork_port.specs.declared.commands.Call.{Call}
 use Rattle.fork_port.specs.declared.ending.Ending.{Ending}
+use Rattle.fork_port.specs.declared.ending.Ending.TheVariants.{Limit}
 use Rattle.forest_model.specs.Machine.{Machine, next_of, advance}
 use Rattle.forest_model.specs.Footprint.{no_change}
 use Rattle.forest_model.specs.Touch.{change, footprint, footprint_from}
@@ -12,21 +13,24 @@ use Rattle.vm_hart.specs.Acts.{ActsNext}
 use Rattle.vm_hart.specs.Calls.{asked_call}
 use Rattle.vm_hart.specs.Keyed.{KeyedMachine, KeyedState, hart_in, machine_of, paged}
 use Rattle.vm_hart.specs.declared.hart.Acted.TheVariants.{Stalled, Asked}
+use Rattle.vm_hart.specs.Runs.{IsStep}
 use Rattle.vm_hart.proofs.Asks.{call-changes}
 use Rattle.vm_hart.proofs.Stepping.{stalls_live}
 use Rattle.vm_cell.specs.Steps.{GoesOn, Steps}
 use Rattle.vm_cell.specs.declared.vm.Stepped.TheVariants as stepped
+use Rattle.vm_cell.specs.declared.vm.Stop.{Stop}
+use Rattle.vm_cell.specs.declared.vm.Stop.TheVariants as stop
 
 module _ (v : KeyedMachine) (hart : KeyedState) (live : v.machine.ending ≡ None) where
   abbrev m : Machine
   m = v.machine
 
   -- it waits for a page
-  pub goes_stalled : (page : ℕ) → ActsNext (hart_in v) hart (Ok (Stalled page)) → GoesOn v (machine_of hart m.steps m.limit m.ending) (Some (stepped.Stall page))
+  pub goes_stalled : (page : ℕ) → ActsNext (hart_in v) hart (Ok (Stalled page)) → GoesOn v (machine_of hart m.steps m.limit m.ending) (Some (stop.Page page))
   goes_stalled page acts = (stalls_live v live ∙ acts.0, ap (λ h. machine_of h m.steps m.limit m.ending) acts.1)
 
   -- it is to make a call, which changes nothing yet
-  pub goes_asked : (call : Call) → ActsNext (hart_in v) hart (Ok (Asked call)) → GoesOn v (machine_of hart m.steps m.limit m.ending) (Some (stepped.Call call))
+  pub goes_asked : (call : Call) → ActsNext (hart_in v) hart (Ok (Asked call)) → GoesOn v (machine_of hart m.steps m.limit m.ending) (Some (stop.Call call))
   goes_asked call acts =
       let by = acts.1 in
       let pages : hart.pages ≡ v.pages =
@@ -36,6 +40,18 @@ module _ (v : KeyedMachine) (hart : KeyedState) (live : v.machine.ending ≡ Non
       ∙ ap (λ p. record { state = m.state; pages = p; key = hart.key }) pages
       ∙ ap (λ k. record { state = m.state; pages = v.pages; key = k }) by.changed.1 in
       (stalls_live v live ∙ acts.0, ap next_of by.tells.0, ap (λ h. machine_of h m.steps m.limit m.ending) same)
+
+-- a step was made and counted, and ends the machine where it is the last
+goes_counted : (old new : KeyedMachine) (is_last : Bool) → old.machine.ending ≡ None → new.machine.ending ≡ cond is_last (Some Limit) old.machine.ending → IsStep old new
+    → GoesOn old new (cond is_last (Some stop.End) None)
+goes_counted old new true live ends step = (step, λ none. absurd (cc))
+goes_counted old new false live ends step = (step, ends ∙ live)
+
+-- the same, of the machine as its call sees it
+pub goes_told : (seen old new : KeyedMachine) (is_last : Bool) (told : Option Stop) → old ≡ seen → old.machine.ending ≡ None
+    → new.machine.ending ≡ cond is_last (Some Limit) old.machine.ending → told ≡ cond is_last (Some stop.End) None → IsStep old new → GoesOn seen new told
+goes_told seen old new is_last told is live ends stops step =
+    subst (λ v. GoesOn v new told) is (subst (GoesOn old new) (sym stops) (goes_counted old new is_last live ends step))
 
 -- ---- a machine that has ended
 

@@ -1,27 +1,35 @@
 -- The parts that a run is made in.
-use Rattle.std.specs.Prelude.{◌≡◌, ℕ, ◌+◌, ◌-◌, ◌<◌, ◌≤◌, None, IfSome}
+use Rattle.std.specs.Prelude.{◌≡◌, ◌≢◌, ℕ, ◌+◌, ◌-◌, ◌<◌, ◌≤◌, Option, None, IfSome}
 use Rattle.forest_model.specs.Paged.{stalled_at}
 use Rattle.vm_hart.specs.Acts.{Grows}
 use Rattle.vm_hart.specs.Keyed.{KeyedMachine, paged}
 use Rattle.vm_hart.specs.Runs.{IsRun}
 use Rattle.vm_cell.specs.Steps.{Stands}
 use Rattle.vm_cell.specs.declared.vm.Part.{Part}
-use Rattle.vm_cell.specs.declared.vm.Stepped.{Stepped}
-use Rattle.vm_cell.specs.declared.vm.Stepped.TheVariants.{Went, Stall, Call, Ended}
+use Rattle.vm_cell.specs.declared.vm.Stepped.TheVariants as stepped
+use Rattle.vm_cell.specs.declared.vm.Stop.{Stop}
+use Rattle.vm_cell.specs.declared.vm.Stop.TheVariants.{Page, Call, End}
 
--- a live machine stops there
-abbrev pub Stops : KeyedMachine → Stepped → Type 0
-Stops v Went = ⊥
-Stops v (Stall page) = Stands v (Stall page)
-Stops v (Call c) = Stands v (Call c)
-Stops v (Ended ending) = ⊥
+-- a run stops there
+abbrev pub Stops : KeyedMachine → Stop → Type 0
+Stops v (Page page) = Stands v (stepped.Stall page)
+Stops v (Call c) = Stands v (stepped.Call c)
+Stops v End = v.machine.ending ≢ None
 
--- it was to make so many steps: it makes fewer only where it stops or the machine ends
+-- it was to make so many steps: it makes fewer only where it stops, and else the machine lives
 pub record IsPart (most : ℕ) (old new : KeyedMachine) (part : Part) : Type 0 where
   pub run : IsRun old new part.steps
   pub within : part.steps ≤ most
   pub stops : IfSome part.stop (Stops new)
-  pub all : part.stop ≡ None → new.machine.ending ≡ None → part.steps ≡ most
+  pub all : part.stop ≡ None → (new.machine.ending ≡ None) × (part.steps ≡ most)
+
+-- it was to make steps until they are so many in all
+pub record IsMadeUntil (until : ℕ) (old new : KeyedMachine) (stop : Option Stop) : Type 0 where
+  pub run : IsRun old new (new.machine.steps - old.machine.steps)
+  pub from : old.machine.steps ≤ new.machine.steps
+  pub within : new.machine.steps ≤ until
+  pub stops : IfSome stop (Stops new)
+  pub all : stop ≡ None → (new.machine.ending ≡ None) × (new.machine.steps ≡ until)
 
 -- memory was wanting before so many were made
 pub record IsCut (most : ℕ) (old new : KeyedMachine) : Type 0 where

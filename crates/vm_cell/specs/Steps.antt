@@ -1,5 +1,5 @@
 -- How the answers of a machine's calls tell where it stands.
-use Rattle.std.specs.Prelude.{◌≡◌, ℕ, ◌+◌, ◌<◌, ◌≤◌, Option, Some, None}
+use Rattle.std.specs.Prelude.{◌≡◌, ◌≢◌, ℕ, ◌+◌, ◌<◌, ◌≤◌, Option, Some, None}
 use Rattle.fork_port.specs.declared.ending.Ending.{Ending}
 use Rattle.fork_port.specs.Registers.{ForkRegisters, holding}
 use Rattle.fork_port.specs.Children.{IsAccounted}
@@ -8,17 +8,18 @@ use Rattle.forest_model.specs.Machine.{call, next}
 use Rattle.forest_model.specs.Paged.{stalled_at}
 use Rattle.vm_hart.specs.Keyed.{KeyedMachine, paged}
 use Rattle.vm_hart.specs.Runs.{IsStep}
+use Rattle.vm_cell.specs.declared.vm.Stop.{Stop}
+use Rattle.vm_cell.specs.declared.vm.Stop.TheVariants as stop
 use Rattle.vm_cell.specs.declared.vm.Stepped.{Stepped}
 use Rattle.vm_cell.specs.declared.vm.Stepped.TheVariants.{Went, Stall, Call, Ended}
 pub use Rattle.vm_hart.specs.Runs.{IsFree, IsFreeFor, IsRun, moved, moved_by}
 
--- what keeps a machine that lives from its next step, if anything does
-abbrev pub GoesOn : KeyedMachine → KeyedMachine → Option Stepped → Type 0
-GoesOn old new None = IsStep old new
-GoesOn old new (Some Went) = ⊥
-GoesOn old new (Some (Stall page)) = (stalled_at (paged old) ≡ Some page) × (new ≡ old)
-GoesOn old new (Some (Call c)) = (stalled_at (paged old) ≡ None) × (next old.machine ≡ call c) × (new ≡ old)
-GoesOn old new (Some (Ended ending)) = ⊥
+-- a machine that lives makes a step and lives on, or something ends its run: the step that it made, or one that it does not make
+abbrev pub GoesOn : KeyedMachine → KeyedMachine → Option Stop → Type 0
+GoesOn old new None = IsStep old new × (new.machine.ending ≡ None)
+GoesOn old new (Some stop.End) = IsStep old new × (new.machine.ending ≢ None)
+GoesOn old new (Some (stop.Page page)) = (stalled_at (paged old) ≡ Some page) × (new ≡ old)
+GoesOn old new (Some (stop.Call c)) = (stalled_at (paged old) ≡ None) × (next old.machine ≡ call c) × (new ≡ old)
 
 -- the answer of a step
 abbrev pub Steps : KeyedMachine → KeyedMachine → Stepped → Type 0

@@ -6,4 +6,4 @@ mod receiver;
 mod vm;
 
 pub use guest_mem::Arrived;
-pub use vm::{Brood, Ran, Stepped, Vm};
+pub use vm::{ForkImage, Ran, Stepped, Vm};

@@ -1,7 +1,7 @@
 ghost use Rattle.std.specs.Prelude.{◌≡◌, ◌≢◌, ◌+◌, ◌-◌, ◌*◌, ◌≤◌, ◌<◌, ◌==◌, if◌then◌else◌, MatchBool, IsTrue, true, false, length, slice_index_or, None, Some, IfOk, OnErr};
 ghost use Rattle.std.specs.Option.{option_copied};
 ghost use Rattle.console_port.specs.declared.port.TheConstants.{MAX_INPUT};
-ghost use Rattle.elf_load.specs.declared.image.TheConstants.{PAGE_SIZE};
+ghost use Rattle.page_frames.specs.declared.page.TheConstants.{PAGE_SIZE};
 ghost use Rattle.image_depot.specs.Key.{IsKeyOf};
 ghost use Rattle.forest_model.specs.Forest.{machines};
 ghost use Rattle.forest_model.specs.Machine.{IsWithinLimit, boot};
@@ -9,7 +9,7 @@ ghost use Rattle.forest_model.specs.Paged.{pages_at_boot, stalled_at};
 ghost use Rattle.vm_hart.specs.Acts.{Grows};
 ghost use Rattle.vm_hart.specs.Kept.{ComesAside, Keeps};
 ghost use Rattle.vm_hart.specs.Keyed.{Arrives, HasImage, IsOfDepot, hart_in, paged};
-ghost use Rattle.vm_cell.specs.Parts.{IsCut, IsPart};
+ghost use Rattle.vm_cell.specs.Parts.{IsCut, IsMadeUntil, IsPart, Stops};
 ghost use Rattle.vm_hart.specs.Shown.{peeked, shown_registers};
 ghost use Rattle.vm_hart.specs.Runs.{IsFreeFor, IsRun, moved_by};
 ghost use Rattle.vm_cell.specs.Steps.{GoesOn, IsAfterStep, Stands, Steps};
@@ -28,7 +28,7 @@ use vm_hart::{Acted, Hart};
 
 mod fork;
 
-pub use fork::Brood;
+pub use fork::ForkImage;
 
 /// So many steps of a run are made with no slots, which take as long to make as some tens of steps.
 const FEW: u64 = 128;
@@ -62,11 +62,23 @@ pub struct Ran {
     pub why: Stepped,
 }
 
-/// What a part of a run came to: how many steps were made, and the page or the call that stopped it, if one did.
+/// What ends a run of a machine that lives. It is a few bytes, where a `Stepped` has room for all that a machine hands over,
+/// so each step can answer it.
+#[derive(Clone, Copy)]
+enum Stop {
+    /// The next step waits for this page.
+    Page(u32),
+    /// The next step is this call.
+    Call(Call),
+    /// The machine has ended.
+    End,
+}
+
+/// What a part of a run came to: how many steps were made, and what stopped it, if something did.
 #[derive(Clone, Copy)]
 struct Part {
     steps: u64,
-    stop: Option<Stepped>,
+    stop: Option<Stop>,
 }
 
 /// One machine, of which some pages may be absent.
@@ -246,10 +258,11 @@ impl Vm {
         if let Some(ending) = self.ending {
             return Ok(Stepped::Ended(ending));
         }
-        if let Some(stop) = self.step_live()? {
-            return Ok(stop);
+        match self.step_live(&[])? {
+            Some(Stop::Page(page)) => Ok(Stepped::Stall(page)),
+            Some(Stop::Call(call)) => Ok(Stepped::Call(call)),
+            Some(Stop::End) | None => Ok(self.standing()),
         }
-        Ok(self.standing())
     }
 
     /// Makes at most `most` steps, until the machine ends, stalls or is to make a call, and looks at the step after
@@ -270,21 +283,39 @@ impl Vm {
         ensures err_here { OnErr result (stalled_at (paged self.new) ≡ None) }
         ensures err_memory { OnErr result (Grows self.new.machine.state) }
     {
-        let part = self.run_parts(most)?;
-        if let Some(why) = part.stop {
+        if let Some(ending) = self.ending {
             return Ok(Ran {
-                steps: part.steps,
-                why,
+                steps: 0,
+                why: Stepped::Ended(ending),
             });
         }
+        let part = self.run_parts(most)?;
+        let why = match part.stop {
+            Some(stop) => self.stopped_by(stop),
+            None => self.standing_now(),
+        };
         Ok(Ran {
             steps: part.steps,
-            why: self.standing_now(),
+            why,
         })
     }
 
-    /// Makes at most `most` steps, and looks at no step after them.
+    /// Where the machine stands whose run this ended.
+    fn stopped_by(&self, stop: Stop) -> Stepped
+        requires { Stops self.now stop }
+        ensures stands { Stands self.now result }
+        ensures stopped { result ≢ Stepped.Went }
+    {
+        match stop {
+            Stop::Page(page) => Stepped::Stall(page),
+            Stop::Call(call) => Stepped::Call(call),
+            Stop::End => self.standing(),
+        }
+    }
+
+    /// Makes at most `most` steps of a machine that lives, and looks at no step after them.
     fn run_parts(&mut self, most: u64) -> Result<Part, AllocError>
+        requires { self.old.machine.ending ≡ None }
         ensures ok { IfOk result (IsPart most self.old self.new) }
         ensures err { OnErr result (IsCut most self.old self.new) }
     {
@@ -302,27 +333,74 @@ impl Vm {
         })
     }
 
-    /// The same, with each step made by itself. Runs call `step_live` here alone, so it is inlined, and the loop has nothing
-    /// beside it.
-    #[inline(never)]
+    /// The same, with each step made by itself and without slots.
     fn step_some(&mut self, most: u64) -> Result<Part, AllocError>
+        requires { self.old.machine.ending ≡ None }
         ensures ok { IfOk result (IsPart most self.old self.new) }
         ensures err { OnErr result (IsCut most self.old self.new) }
     {
-        let mut steps = 0;
-        while steps < most && self.ending.is_none() {
-            if let Some(why) = self.step_live()? {
-                let stop = Some(why);
-                return Ok(Part { steps, stop });
+        let first = self.steps;
+        let few = most.min(self.limit - first);
+        let stop = self.step_until(first + few)?;
+        Ok(Part {
+            steps: self.steps - first,
+            stop,
+        })
+    }
+
+    /// Makes steps until so many are made in all. `step_live` is inlined, and the loop has nothing beside it: the count of the
+    /// machine's steps is its own.
+    #[inline(never)]
+    fn step_until(&mut self, until: u64) -> Result<Option<Stop>, AllocError>
+        requires live { self.old.machine.ending ≡ None }
+        requires from { self.old.machine.steps ≤ until }
+        ensures ok { IfOk result (IsMadeUntil until self.old self.new) }
+        ensures within { IfOk result (λ stop. IsWithinLimit self.new.machine) }
+        ensures err { OnErr result (IsCut (until - self.old.machine.steps) self.old self.new) }
+    {
+        while self.steps < until {
+            if let Some(stop) = self.step_live(&[])? {
+                return Ok(Some(stop));
             }
-            steps += 1;
         }
-        Ok(Part { steps, stop: None })
+        Ok(None)
+    }
+
+    /// Makes the coming steps by themselves, so many: one where it leaves RAM as it is, as a slot tells, which then has its
+    /// word, too.
+    #[inline(always)]
+    fn step_alone(&mut self, slots: &[Slot], is_left: bool, count: u64) -> Result<Part, AllocError>
+        requires live { self.old.machine.ending ≡ None }
+        requires one { IsTrue is_left → count ≡ 1 }
+        ensures ok { IfOk result (IsPart count self.old self.new) }
+        ensures err { OnErr result (IsCut count self.old self.new) }
+    {
+        if is_left {
+            self.step_kept(slots)
+        } else {
+            self.step_some(count)
+        }
+    }
+
+    /// Makes one step of a machine that lives, by the slots.
+    #[inline(never)]
+    fn step_kept(&mut self, slots: &[Slot]) -> Result<Part, AllocError>
+        requires { self.old.machine.ending ≡ None }
+        ensures ok { IfOk result (IsPart 1 self.old self.new) }
+        ensures err { OnErr result (IsCut 1 self.old self.new) }
+    {
+        let first = self.steps;
+        let stop = self.step_live(slots)?;
+        Ok(Part {
+            steps: self.steps - first,
+            stop,
+        })
     }
 
     /// The same with slots. It is apart and never inlined, so that a short run does not pay for them.
     #[inline(never)]
     fn run_many(&mut self, most: u64) -> Result<Part, AllocError>
+        requires { self.old.machine.ending ≡ None }
         ensures ok { IfOk result (IsPart most self.old self.new) }
         ensures err { OnErr result (IsCut most self.old self.new) }
     {
@@ -333,6 +411,7 @@ impl Vm {
     /// epoch, unless it is one that leaves RAM as it is.
     #[inline(never)]
     fn run_with(&mut self, slots: &mut [Slot], most: u64) -> Result<Part, AllocError>
+        requires live { self.old.machine.ending ≡ None }
         requires some { 0 < length slots.old }
         requires keeps { Keeps (hart_in self.old) self.old.machine.steps slots.old }
         ensures ok { IfOk result (IsPart most self.old self.new) }
@@ -341,13 +420,13 @@ impl Vm {
         let mut steps = 0;
         let mut pause = 1;
         let mut epoch = self.epoch_after(false, 0);
-        while steps < most && self.ending.is_none() {
+        while steps < most {
             let made = self.make_fast(slots, epoch, most - steps - 1);
             steps += made;
             pause = pause_after(pause, made);
             let is_left = self.leaves_ram(slots, epoch, pause);
             let count = count_alone(is_left, pause, most - steps);
-            let part = self.step_some(count)?;
+            let part = self.step_alone(slots, is_left, count)?;
             steps += part.steps;
             if part.stop.is_some() {
                 let stop = part.stop;
@@ -399,32 +478,30 @@ impl Vm {
         made
     }
 
-    /// Makes one step of a machine that lives, or answers what keeps it from that: a page or a call.
-    #[inline]
+    /// Makes one step of a machine that lives, or answers what keeps it from that: a page or a call. It tells where the step
+    /// ended the machine. There may be no slots.
+    #[inline(always)]
     #[tactic(auto, unfolding(forest_model::specs::Machine::advance))]
-    fn step_live(&mut self) -> Result<Option<Stepped>, AllocError>
+    fn step_live(&mut self, slots: &[Slot]) -> Result<Option<Stop>, AllocError>
         requires { self.old.machine.ending ≡ None }
         ensures goes { IfOk result (λ stop. GoesOn self.old self.new stop) }
         ensures err { OnErr result (self.new ≡ self.old) }
         ensures here { OnErr result (stalled_at (paged self.old) ≡ None) }
         ensures memory { OnErr result (Grows self.old.machine.state) }
     {
-        match self.hart.act()? {
-            Acted::Stalled(page) => Ok(Some(Stepped::Stall(page))),
+        match self.hart.act(slots)? {
+            Acted::Stalled(page) => Ok(Some(Stop::Page(page))),
             Acted::Trapped { cause, value } => {
                 self.hart.trap(cause, value);
-                count_step(&mut self.steps, self.limit, &mut self.ending);
-                Ok(None)
+                Ok(count_step(&mut self.steps, self.limit, &mut self.ending))
             }
             Acted::Interrupted => {
                 self.hart.trap(TIMER_INTERRUPT, 0);
-                count_step(&mut self.steps, self.limit, &mut self.ending);
-                Ok(None)
+                Ok(count_step(&mut self.steps, self.limit, &mut self.ending))
             }
             Acted::Retired(written) => {
                 self.hart.count(true, written);
-                count_step(&mut self.steps, self.limit, &mut self.ending);
-                Ok(None)
+                Ok(count_step(&mut self.steps, self.limit, &mut self.ending))
             }
             Acted::Exited {
                 value,
@@ -435,9 +512,9 @@ impl Vm {
                 self.hart.count(true, Written::Nothing);
                 self.steps += 1;
                 self.ending = Some(Ending::Exit(value, bytes));
-                Ok(None)
+                Ok(Some(Stop::End))
             }
-            Acted::Asked(call) => Ok(Some(Stepped::Call(call))),
+            Acted::Asked(call) => Ok(Some(Stop::Call(call))),
         }
     }
 
@@ -502,13 +579,16 @@ fn count_alone(is_left: bool, pause: u64, left: u64) -> u64
 
 /// Counts a step of a machine that lives, which ends it where it reaches the limit.
 #[inline]
-fn count_step(steps: &mut u64, limit: u64, ending: &mut Option<Ending>)
+fn count_step(steps: &mut u64, limit: u64, ending: &mut Option<Ending>) -> Option<Stop>
     requires { steps.old < limit }
     ensures counted { steps.new ≡ steps.old + 1 }
     ensures ends { ending.new ≡ (if steps.old + 1 == limit then Some Ending.Limit else ending.old) }
+    ensures stop { result ≡ (if steps.old + 1 == limit then Some Stop.End else None) }
 {
     *steps += 1;
     if *steps == limit {
         *ending = Some(Ending::Limit);
+        return Some(Stop::End);
     }
+    None
 }

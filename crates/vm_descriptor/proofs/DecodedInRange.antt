@@ -2,7 +2,8 @@
 use Rattle.std.proofs.Common.{◌≡◌, ◌<◌, ◌+◌, ◌*◌, ◌%◌, ℕ, List, drop, refl, true, false, None, Some, arith}
 use Rattle.std.specs.Prelude.{Bool, IfSome, ◌&&◌, ◌==◌, nat_le, nat_lt, if◌then◌else◌}
 use Rattle.std.proofs.lemmas.Bool.{and_parts, eqb-true, leb-true, ltb-true}
-use Rattle.elf_load.specs.declared.image.TheConstants.{RAM_BASE, PAGE_SIZE}
+use Rattle.elf_load.specs.declared.image.TheConstants.{RAM_BASE}
+use Rattle.page_frames.specs.declared.page.TheConstants.{PAGE_SIZE}
 use Rattle.rv_traps.specs.declared.registers.CsrRegisters.{CsrRegisters}
 use Rattle.guest_pmp.specs.Registers.{is_configuration}
 use Rattle.rv_traps.specs.Registers.{IsInRange as AreCsrs, is_mstatus}

@@ -7,7 +7,8 @@ use Rattle.std.proofs.lemmas.List.{length-drop}
 use Rattle.block_port.specs.Block.{status_word}
 use Rattle.block_port.specs.declared.status.Status.{Status}
 use Rattle.block_port.specs.declared.status.Status.TheVariants.{Done, BadSector, UnknownCommand}
-use Rattle.elf_load.specs.declared.image.TheConstants.{RAM_BASE, PAGE_SIZE}
+use Rattle.elf_load.specs.declared.image.TheConstants.{RAM_BASE}
+use Rattle.page_frames.specs.declared.page.TheConstants.{PAGE_SIZE}
 use Rattle.rv_traps.specs.declared.registers.CsrRegisters.{CsrRegisters}
 use Rattle.guest_pmp.specs.Registers.{is_configuration}
 use Rattle.rv_traps.specs.Registers.{IsInRange as AreCsrs, is_mstatus}

@@ -10,12 +10,13 @@ use Rattle.std.proofs.lemmas.List.Sums.{sum_by-cons}
 use Rattle.byteorder.specs.Numbers.{little_number-reads_back}
 use Rattle.byteorder.specs.Endian.{little_number}
 use Rattle.flat_memory.proofs.ByteLists.{AreBytes}
-use Rattle.vm_descriptor.specs.Maps.{are_runs, flags_of_runs, half, halves, runs, runs_behind}
+use Rattle.shared_leaves.specs.Choices.{flags_of_runs}
+use Rattle.vm_descriptor.specs.Maps.{are_runs, half, halves, runs, runs_behind}
 
 abbrev pub some : ℕ → Bool
 some run = nat_lt 0 run
 
-sum_then : (x : ℕ) (xs : List ℕ) → sum (x ∷ xs) ≡ x + sum xs
+pub sum_then : (x : ℕ) (xs : List ℕ) → sum (x ∷ xs) ≡ x + sum xs
 sum_then x xs = sum_by-cons (λ n. n) x xs
 
 one_more : (flag : Bool) (count : ℕ) (flags : List Bool) → replicate (count + 1) flag ++ flags ≡ replicate count flag ++ (flag ∷ flags)

@@ -10,7 +10,8 @@ use Rattle.guest_pmp.specs.declared.registers.PmpRegisters.{PmpRegisters}
 use Rattle.guest_pmp.specs.Registers.{at_reset as no_entries, is_configuration}
 use Rattle.rv_traps.specs.declared.registers.CsrRegisters.{CsrRegisters}
 use Rattle.rv_traps.specs.Registers.{is_mstatus}
-use Rattle.elf_load.specs.declared.image.TheConstants.{RAM_BASE, PAGE_SIZE}
+use Rattle.elf_load.specs.declared.image.TheConstants.{RAM_BASE}
+use Rattle.page_frames.specs.declared.page.TheConstants.{PAGE_SIZE}
 use Rattle.vm_descriptor.specs.declared.error.DescError.{DescError}
 use Rattle.vm_descriptor.specs.declared.error.DescError.TheVariants.{Refused, Memory}
 use Rattle.vm_descriptor.specs.declared.descriptor.Descriptor.{Descriptor}

@@ -1,6 +1,7 @@
 -- Which descriptors there are of machines.
 use Rattle.std.specs.Prelude.{◌≡◌, ℕ, ◌+◌, ◌*◌, ◌%◌, ◌<◌, ◌≤◌, length, IfSome}
-use Rattle.elf_load.specs.declared.image.TheConstants.{RAM_BASE, PAGE_SIZE, MIN_PAGES, MAX_PAGES}
+use Rattle.elf_load.specs.declared.image.TheConstants.{RAM_BASE, MIN_PAGES, MAX_PAGES}
+use Rattle.page_frames.specs.declared.page.TheConstants.{PAGE_SIZE}
 use Rattle.console_port.specs.declared.port.TheConstants.{MAX_INPUT}
 use Rattle.rv_traps.specs.Registers.{IsInRange as AreInRange}
 use Rattle.vm_descriptor.specs.declared.descriptor.Descriptor.{Descriptor}

@@ -2,4 +2,5 @@ pub mod Descriptor
 pub mod Fields
 pub mod Versions
 pub mod Maps
+pub mod PageMaps
 pub mod Described

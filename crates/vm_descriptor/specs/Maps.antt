@@ -1,9 +1,10 @@
 -- The map of pages in its two forms: a bit for each page, or the lengths of runs of equal flags.
 use Rattle.std.specs.Prelude.{ℕ, zero, suc, ◌+◌, ◌*◌, ◌/◌, ◌%◌, ◌-◌, ◌^◌, ◌==◌, slice_index, nat_lt, not, ◌&&◌, Bool, true, false, if◌then◌else◌}
-use Rattle.std.specs.Prelude.{List, [], ◌∷◌, ◌++◌, length, drop, replicate, Option, Some, None}
+use Rattle.std.specs.Prelude.{List, [], ◌∷◌, ◌++◌, length, drop, Option, Some, None}
 use Rattle.std.specs.Bool.{beq}
 use Rattle.std.specs.List.{flat_map, list_all, sum}
 use Rattle.byteorder.specs.Endian.{little_bytes, little_number}
+pub use Rattle.shared_leaves.specs.Choices.{flags_of_runs}
 
 -- ---- a bit for each page
 
@@ -61,11 +62,6 @@ runs_behind flag count (next ∷ flags) =
 -- the lengths of the runs of equal flags, in turn of flags that are not set and of flags that are. Only the first may be 0
 abbrev pub runs : List Bool → List ℕ
 runs flags = runs_behind false 0 flags
-
--- the flags of runs, the first of which has flags that are this
-unfoldable pub flags_of_runs : Bool → List ℕ → List Bool
-flags_of_runs flag [] = []
-flags_of_runs flag (run ∷ runs) = replicate run flag ++ flags_of_runs (not flag) runs
 
 -- lengths of runs that have so many flags, of which none is 0 but maybe the first
 abbrev pub are_runs : ℕ → List ℕ → Bool

@@ -52,12 +52,11 @@ impl Descriptor {
         requires known { IsVersion version.now }
         ensures { IfOk result (λ bytes. bytes.items ≡ described_as version.now self.now) }
     {
-        let flags = self.blank.flags();
-        let mut bytes = Vec::with_capacity(alloc, version.fields + flags.len() / 8 + 2)?;
+        let mut bytes = Vec::with_capacity(alloc, version.fields + self.pages as usize / 8 + 2)?;
         self.push_fields(version, &mut bytes)?;
         bytes.extend_from_slice(&self.block.buffer)?;
         push_entries(&mut bytes, version.has_entries, &self.csrs.pmp)?;
-        push_rest(&mut bytes, version.has_forms, flags)?;
+        push_rest(&mut bytes, version.has_forms, &self.blank)?;
         Ok(bytes)
     }
 

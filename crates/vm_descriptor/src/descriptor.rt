@@ -4,8 +4,9 @@ ghost use Rattle.vm_descriptor.specs.Descriptor.{IsRam, IsRamWord, IsClone, IsWi
 use crate::page_map::PageMap;
 use block_port::BlockFields;
 use console_port::{ConsoleFields, MAX_INPUT};
-use elf_load::{MAX_PAGES, MIN_PAGES, PAGE_SIZE, RAM_BASE};
+use elf_load::{MAX_PAGES, MIN_PAGES, RAM_BASE};
 use guest_pmp::{ENTRIES, PmpRegisters};
+use page_frames::PAGE_SIZE;
 use rv_traps::CsrRegisters;
 use timer_port::TimerRegisters;
 
@@ -76,8 +77,7 @@ impl Descriptor {
     fn is_ram(&self) -> bool
         ensures { IsTrue result ↔ IsRam self.now }
     {
-        (MIN_PAGES..=MAX_PAGES).contains(&self.pages)
-            && self.blank.flags().len() == self.pages as usize
+        (MIN_PAGES..=MAX_PAGES).contains(&self.pages) && self.blank.has(self.pages)
     }
 
     fn is_clone(&self) -> bool

@@ -17,5 +17,5 @@ mod version;
 
 pub use descriptor::{Descriptor, MAX_CLONES, MAX_LIMIT, MAX_SHARE};
 pub use error::DescError;
-pub use page_map::PageMap;
+pub use page_map::{MapForm, PageMap};
 pub use seed::Seed;

@@ -5,7 +5,8 @@ ghost use Rattle.std.specs.Prelude.{◌≡◌, ◌<◌, ◌≤◌, ◌^◌, ◌+
 ghost use Rattle.vm_descriptor.specs.Maps.{due_form, flags_as, form_of, is_due, is_sized, is_whole, map_as, map_in, map_of, misread};
 
 use crate::bits::{has_spare, push_map, read_flags};
-use crate::runs::{are_runs, push_runs, read_runs, run_count};
+use crate::page_map::{MapForm, PageMap};
+use crate::runs::{are_runs, flags_in_runs, push_runs, read_runs, run_count};
 use std::alloc::{AllocError, Global};
 
 /// The form that is due: 1, the lengths of runs, where these have fewer bytes, and else 0, a bit for each page.
@@ -24,8 +25,22 @@ fn due_form(flags: &[bool]) -> u8
 pub(crate) fn push_rest(
     bytes: &mut Vec<u8>,
     has_forms: bool,
-    flags: &[bool],
+    map: &PageMap,
 ) -> Result<(), AllocError>
+    requires { length map.now < 2 ^ 16 }
+    ensures { OnOk result (bytes.new.items ≡ bytes.old.items ++ map_as has_forms map.now) }
+{
+    match map.form() {
+        MapForm::Flags(flags) => push_flags(bytes, has_forms, flags),
+        MapForm::Runs(runs) => {
+            let flags = flags_in_runs(*bytes.allocator(), runs)?;
+            push_flags(bytes, has_forms, &flags)
+        }
+    }
+}
+
+/// Adds flags in the form that is due.
+fn push_flags(bytes: &mut Vec<u8>, has_forms: bool, flags: &[bool]) -> Result<(), AllocError>
     requires { length flags.now < 2 ^ 16 }
     ensures { OnOk result (bytes.new.items ≡ bytes.old.items ++ map_as has_forms flags.now) }
 {
@@ -77,14 +92,14 @@ pub(crate) fn read_map(
     has_forms: bool,
     pages: u32,
     rest: &[u8],
-) -> Result<Vec<bool>, AllocError>
-    ensures { IfOk result (λ flags. flags.items ≡ flags_as has_forms pages rest.now) }
+) -> Result<PageMap, AllocError>
+    ensures { IfOk result (λ flags. flags ≡ flags_as has_forms pages rest.now) }
 {
     let map = map_of(has_forms, rest);
     if form_of(has_forms, rest) == 0 {
-        read_flags(alloc, pages, map)
+        Ok(PageMap::from_vec(read_flags(alloc, pages, map)?))
     } else {
-        read_runs(alloc, pages, map)
+        Ok(PageMap::from_runs(read_runs(alloc, map)?))
     }
 }
 

@@ -1,20 +1,33 @@
-ghost use Rattle.std.specs.Prelude.{◌≡◌};
+ghost use Rattle.std.specs.Prelude.{◌≡◌, ◌↔◌, length, false, IsTrue, IfOk};
+ghost use Rattle.shared_leaves.specs.Choices.{flags_of_runs};
+ghost use Rattle.vm_descriptor.specs.PageMaps.{held};
 
-use std::alloc::AllocError;
+use crate::runs::{are_as_many, flags_in_runs};
+use std::alloc::{AllocError, Global};
 use std::marker::Model;
 
 /// One flag for each page of RAM, in order.
 #[derive(Drop)]
 pub struct PageMap {
-    flags: Vec<bool>,
+    form: MapForm,
+}
+
+/// How a map holds its flags.
+#[derive(Drop)]
+pub enum MapForm {
+    /// One by one.
+    Flags(Vec<bool>),
+    /// By the lengths of the runs of equal flags, the first of flags that are not set.
+    Runs(Vec<u16>),
 }
 
 impl Model for PageMap {
     ghost use Rattle.std.specs.Prelude.{Bool, List};
+    ghost use Rattle.vm_descriptor.specs.PageMaps.{held};
 
     ghost Value = { List Bool };
 
-    ghost view = { λ m. m.flags.items };
+    ghost view = { λ m. held m.form };
 }
 
 impl Clone for PageMap {
@@ -23,9 +36,10 @@ impl Clone for PageMap {
     ghost is_clone = { λ m n. n ≡ m };
 
     fn clone(&self) -> Result<PageMap, AllocError> {
-        Ok(PageMap {
-            flags: self.flags.clone()?,
-        })
+        match &self.form {
+            MapForm::Flags(flags) => Ok(PageMap::from_vec(flags.clone()?)),
+            MapForm::Runs(runs) => Ok(PageMap::from_runs(runs.clone()?)),
+        }
     }
 }
 
@@ -34,13 +48,44 @@ impl PageMap {
     pub fn from_vec(flags: Vec<bool>) -> PageMap
         ensures { result ≡ flags.items }
     {
-        PageMap { flags }
+        PageMap {
+            form: MapForm::Flags(flags),
+        }
     }
 
-    /// The flags.
-    pub fn flags(&self) -> &[bool]
-        ensures { result.now ≡ self.now }
+    /// The map with the flags of these runs. It takes no memory.
+    pub(crate) fn from_runs(runs: Vec<u16>) -> PageMap
+        ensures { result ≡ flags_of_runs false runs.items }
     {
-        &self.flags
+        PageMap {
+            form: MapForm::Runs(runs),
+        }
+    }
+
+    /// The flags one by one.
+    pub fn flags(&self, alloc: Global) -> Result<Vec<bool>, AllocError>
+        ensures { IfOk result (λ flags. flags.items ≡ self.now) }
+    {
+        match &self.form {
+            MapForm::Flags(flags) => Vec::from_slice(alloc, flags),
+            MapForm::Runs(runs) => flags_in_runs(alloc, runs),
+        }
+    }
+
+    /// Whether there are so many flags. It takes no memory.
+    pub(crate) fn has(&self, pages: u32) -> bool
+        ensures { IsTrue result ↔ length self.now ≡ pages }
+    {
+        match &self.form {
+            MapForm::Flags(flags) => flags.len() == pages as usize,
+            MapForm::Runs(runs) => are_as_many(runs, pages),
+        }
+    }
+
+    /// How the flags are held. It takes no memory.
+    pub fn form(&self) -> &MapForm
+        ensures { held result.now ≡ self.now }
+    {
+        &self.form
     }
 }

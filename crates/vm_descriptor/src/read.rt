@@ -11,7 +11,6 @@ ghost use Rattle.vm_descriptor.specs.Described.{Fits, IsGiven, IsReadAs, IsRefus
 use crate::descriptor::{Descriptor, NO_ENTRIES};
 use crate::error::DescError;
 use crate::map::{is_due, read_map};
-use crate::page_map::PageMap;
 use crate::refusal::readable;
 use crate::version::{
     ADDRESSES, BUFFER, COUNTERS, CSRS, HEADER_SIZE, IDENTITY, PORTS, REGISTERS, TIMES, Version,
@@ -40,7 +39,8 @@ impl Descriptor {
         let version = readable(bytes)?;
         let descriptor = read_fields(alloc, version, bytes)?;
         let rest = bytes.split_at(version.fields).1;
-        if !is_due(version.has_forms, rest, descriptor.blank.flags()) {
+        let flags = descriptor.blank.flags(alloc)?;
+        if !is_due(version.has_forms, rest, &flags) {
             return Err(DescError::Refused(7));
         }
         Ok(descriptor)
@@ -111,7 +111,7 @@ pub(crate) fn read_fields(
         argument_1,
         join_select,
         granted,
-        blank: PageMap::from_vec(blank),
+        blank,
     })
 }
 

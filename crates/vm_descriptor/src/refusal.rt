@@ -14,8 +14,9 @@ use crate::map::{form_of, is_whole, map_of, misread};
 use crate::read::{csrs_at, doubles_at, entries_in, words_at};
 use crate::version::{HEADER_SIZE, IDENTITY, PAGES, PORTS, TIMES, Version, version_of};
 use console_port::MAX_INPUT;
-use elf_load::{PAGE_SIZE, RAM_BASE};
+use elf_load::RAM_BASE;
 use flat_memory::read_word;
+use page_frames::PAGE_SIZE;
 use rv_traps::CsrRegisters;
 
 /// The version of bytes that no reason refuses, but maybe that the other form of the map is due, or else the first

@@ -1,6 +1,6 @@
 //! The map of pages as the lengths of runs of equal flags.
 
-ghost use Rattle.std.specs.Prelude.{◌≡◌, ◌+◌, ◌≤◌, ◌<◌, ◌^◌, ◌++◌, ◌&&◌, ◌==◌, nat_le, nat_lt, false, length, replicate, IfOk, OnOk};
+ghost use Rattle.std.specs.Prelude.{◌≡◌, ◌+◌, ◌≤◌, ◌<◌, ◌^◌, ◌++◌, ◌&&◌, ◌==◌, ◌↔◌, nat_le, nat_lt, false, length, replicate, IsTrue, IfOk, OnOk};
 ghost use Rattle.std.specs.List.{flat_map, list_all, sum};
 ghost use Rattle.vm_descriptor.specs.Maps.{are_runs, flags_of_runs, half, halves, runs};
 
@@ -51,19 +51,45 @@ fn push_length(bytes: &mut Vec<u8>, run: u16) -> Result<(), AllocError>
     bytes.extend_from_slice(&run.to_le_bytes())
 }
 
-/// The flags of runs, which are so many.
-pub(crate) fn read_runs(alloc: Global, count: u32, map: &[u8]) -> Result<Vec<bool>, AllocError>
-    ensures { IfOk result (λ flags. flags.items ≡ flags_of_runs false (halves map.now)) }
+/// The numbers of 16 bits in bytes.
+pub(crate) fn read_runs(alloc: Global, map: &[u8]) -> Result<Vec<u16>, AllocError>
+    ensures { IfOk result (λ lengths. lengths.items ≡ halves map.now) }
 {
-    let mut flags = Vec::with_capacity(alloc, count as usize)?;
-    let mut flag = false;
+    let mut lengths = Vec::with_capacity(alloc, map.len() / 2)?;
     let mut left = map;
     while let Some((run, behind)) = left.split_first_chunk::<2>() {
-        push_run(&mut flags, flag, read_half(run, 0))?;
-        flag = !flag;
+        lengths.push(read_half(run, 0))?;
         left = behind;
     }
+    Ok(lengths)
+}
+
+/// The flags of runs.
+pub(crate) fn flags_in_runs(alloc: Global, lengths: &[u16]) -> Result<Vec<bool>, AllocError>
+    ensures { IfOk result (λ flags. flags.items ≡ flags_of_runs false lengths.now) }
+{
+    let mut flags = Vec::new(alloc);
+    let mut flag = false;
+    for run in lengths {
+        push_run(&mut flags, flag, *run)?;
+        flag = !flag;
+    }
     Ok(flags)
+}
+
+/// Whether runs have so many flags.
+pub(crate) fn are_as_many(lengths: &[u16], pages: u32) -> bool
+    ensures { IsTrue result ↔ length (flags_of_runs false lengths.now) ≡ pages }
+{
+    let mut pages_left = pages;
+    for run in lengths {
+        let run = u32::from(*run);
+        if run > pages_left {
+            return false;
+        }
+        pages_left -= run;
+    }
+    pages_left == 0
 }
 
 /// Adds a run.

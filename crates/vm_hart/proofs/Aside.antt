@@ -19,12 +19,15 @@ use Rattle.guest_pmp.specs.Allowed.{is_machine}
 use Rattle.guest_pmp.specs.Registers.{IsNumber}
 use Rattle.fork_port.specs.declared.ending.Ending.{Ending}
 use Rattle.console_port.specs.declared.registers.TheConstants.{CONSOLE_SIZE}
-use Rattle.forest_model.specs.declared.port_map.TheConstants.{CONSOLE_BASE}
+use Rattle.port_map.specs.declared.place.TheConstants.{CONSOLE_BASE}
 use Rattle.forest_model.specs.State.{State, is_in_ram, is_timer_due}
 use Rattle.forest_model.specs.Action.{Action, trap, interrupt, retire, exit, ask, immediate, rs2}
 use Rattle.forest_model.specs.Access.{Reached, faulted, of_ram, of_port, page_of, reached, fetch_access}
 use Rattle.forest_model.specs.Memory.{data_address, stored_outcome, store, store_access, store_action, store_by, stored_bytes}
-use Rattle.forest_model.specs.Ports.{Place, PortRegisters, at_console, console_stored, is_within, place_in, place_of, port_store, store_at}
+use Rattle.forest_model.specs.Ports.{PortRegisters, console_stored, port_store, store_at}
+use Rattle.port_map.specs.declared.place.Place.{Place}
+use Rattle.port_map.specs.declared.place.Place.TheVariants.{Console as at_console}
+use Rattle.port_map.specs.Ranges.{is_within, place_in, place_of}
 use Rattle.forest_model.specs.System.{csr_access, csr_value, old_action, old_value, operand, operation_of, reads, returned_action, trap_return, write_action, writes, written_action}
 use Rattle.forest_model.specs.Execute.{action, action_by, decoded_action, execute, execute_group, fetch_action, fetched}
 use Rattle.forest_model.specs.Machine.{Machine, advance, advance_from, applied}

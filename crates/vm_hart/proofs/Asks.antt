@@ -29,16 +29,20 @@ use Rattle.fork_port.specs.Registers.{ForkRegisters, RegisterStored, register_st
 use Rattle.fork_port.specs.Commands.{answered, effect_of, fork_command}
 use Rattle.fork_port.specs.Fork.{ForkStored, carried_out, fork_store}
 use Rattle.fork_port.proofs.TicketLemmas.{either}
-use Rattle.forest_model.specs.declared.port_map.TheConstants.{CONSOLE_BASE, TIMER_BASE, TIMER_SIZE, BLOCK_BASE, FORK_BASE}
-use Rattle.forest_model.specs.Ports.{PortRegisters, Read, Stored, Place, at_console, at_timer, at_block, at_fork, at_no_port}
-use Rattle.forest_model.specs.Ports.{is_within, place_in, place_of, port_load, console_stored, timer_stored, block_stored, fork_stored, store_at, port_store}
+use Rattle.port_map.specs.declared.place.TheConstants.{CONSOLE_BASE, TIMER_BASE, TIMER_SIZE, BLOCK_BASE, FORK_BASE}
+use Rattle.port_map.specs.declared.place.Place.{Place}
+use Rattle.port_map.specs.declared.place.Place.TheVariants.{Console as at_console, Timer as at_timer, Block as at_block, Fork as at_fork, NoPort as at_no_port}
+use Rattle.port_map.specs.Ranges.{is_within, place_in, place_of}
+use Rattle.forest_model.specs.Ports.{PortRegisters, Read, Stored}
+use Rattle.forest_model.specs.Ports.{port_load, console_stored, timer_stored, block_stored, fork_stored, store_at, port_store}
 use Rattle.forest_model.specs.State.{State, is_timer_due, at_next_instruction}
 use Rattle.forest_model.specs.Action.{Action, rs1, rs2}
 use Rattle.forest_model.specs.Compute.{load_upper, add_upper, compute_immediate, compute}
 use Rattle.forest_model.specs.Control.{aligned_jump, jump, jump_register, branch_by, branch, relative, linked}
 use Rattle.forest_model.specs.declared.access.Access.{Access}
 use Rattle.forest_model.specs.Access.{Reached, faulted, of_ram, of_port, reached, fetch_access}
-use Rattle.forest_model.specs.Memory.{data_address, read_action, load_by, load_access, load, Outcome, is_byte_range, handing_over, outcome, stored_outcome, port_outcome, store_by, store_access, store_action, stored_bytes, store, to_store}
+use Rattle.forest_model.specs.Memory.{data_address, read_action, load_by, load_access, load, Outcome, is_byte_range, handing_over, outcome}
+use Rattle.forest_model.specs.Memory.{stored_outcome, port_outcome, store_by, store_access, store_action, stored_bytes, store, to_store}
 use Rattle.forest_model.specs.Atomic.{is_reserved, reserve_by, reserve_access, load_reserved, conditional_action, conditional_by, conditional_access, store_conditional, amo_by, amo_access, amo}
 use Rattle.forest_model.specs.System.{operation_of, reads, writes, written_action, write_action, old_action, old_value, csr_access, returned_action, trap_return}
 use Rattle.forest_model.specs.Execute.{action, action_by, decoded_action, execute_group, execute, fetch_action, fetched}

@@ -1,8 +1,9 @@
 -- Bytes that a machine hands over, as its hart answers of them.
 use Rattle.std.proofs.Common.{◌≡◌, ℕ, ◌+◌, ◌-◌, ◌/◌, ◌≤◌, Bool, true, false, cond, eqb, List, [], ◌∷◌, length, Option, refl, sym, ap, ◌∙◌, subst, arith}
 use Rattle.std.specs.Option.{IfSome}
-use Rattle.elf_load.specs.declared.image.TheConstants.{RAM_BASE, PAGE_SIZE}
-use Rattle.fork_port.specs.declared.handed.TheConstants.{MOST_HANDED}
+use Rattle.elf_load.specs.declared.image.TheConstants.{RAM_BASE}
+use Rattle.page_frames.specs.declared.page.TheConstants.{PAGE_SIZE}
+use Rattle.fork_port.specs.declared.handed.TheConstants.{MAX_HANDED}
 use Rattle.fork_port.specs.declared.refusals.TheConstants.{BAD_ARGUMENT}
 use Rattle.fork_port.specs.Registers.{refused}
 use Rattle.forest_model.specs.declared.Written.TheVariants.{Nothing}
@@ -21,7 +22,7 @@ module _ (old new : KeyedState) (value address count : ℕ) where
   abbrev next : State
   next = at_next_instruction old.state
 
-  pub handed-acts : is_byte_range address count old.state.ram ≡ true → count ≤ MOST_HANDED → IsMet (bytes_needs old.state address count) old.pages
+  pub handed-acts : is_byte_range address count old.state.ram ≡ true → count ≤ MAX_HANDED → IsMet (bytes_needs old.state address count) old.pages
       → new ≡ record old { state = at_next_instruction old.state } → HandsOver old new value address count (Exited value address count)
   handed-acts in_range few met is =
       let here : IsMet (pages_of_bytes address count) old.pages =

@@ -7,7 +7,8 @@ use Rattle.std.proofs.lemmas.Bool.Decides.{nat_tests}
 use Rattle.std.proofs.lemmas.List.{get_or_default, get_or-replicate, get_or-set_other, get_or-set_same, length-replicate, length-set}
 use Rattle.std.specs.Int.Bits.{bit_and}
 use Rattle.std.specs.Prelude.{◌&&◌, MatchBool, not, nat_le, nat_lt, slice_get}
-use Rattle.elf_load.specs.declared.image.TheConstants.{RAM_BASE, PAGE_SIZE}
+use Rattle.elf_load.specs.declared.image.TheConstants.{RAM_BASE}
+use Rattle.page_frames.specs.declared.page.TheConstants.{PAGE_SIZE}
 use Rattle.flat_memory.specs.Flat.{put_bytes, word_at}
 use Rattle.flat_memory.proofs.Bytes.{get_or-put_bytes_outside, length-put_bytes}
 use Rattle.page_frames.proofs.Memory.{little_from_same}
@@ -42,7 +43,7 @@ use Rattle.forest_model.specs.Paged.{Pages, pages_after}
 use Rattle.forest_model.proofs.Accesses.{of_ram-is, reached-ram}
 use Rattle.vm_hart.specs.Acts.{ReachesRam}
 use Rattle.instruction_slots.specs.Slots.{Forgets, ForgetsAt, KeptInstruction, kept_by, place_of, slot_of}
-use Rattle.vm_hart.specs.Kept.{Comes, IsComing, IsKept, IsWord, Keeps, mode_tag, stored_at, tagged}
+use Rattle.vm_hart.specs.Kept.{Comes, IsSlotAtPc, IsKept, IsWord, Keeps, mode_tag, stored_at, tagged}
 use Rattle.vm_hart.specs.Keyed.{KeyedState}
 use Rattle.vm_hart.specs.Fast.{ActsFast, IsFastIn, IsFastStep}
 use Rattle.instruction_slots.specs.Slots.{KeptInstruction}
@@ -409,7 +410,7 @@ comes-found h epoch count number slot kept at says aligned =
 -- so does the list that has it
 pub comes-at : (h : KeyedState) (epoch number : ℕ) (slots : List KeptInstruction) (d : KeptInstruction) → Keeps h epoch slots → number < length slots
     → (get_or slots number d).place ≡ place_of (tagged h.state.csrs.mode h.state.pc) epoch
-    → decoded (get_or slots number d).word ≡ Some (get_or slots number d).instr → h.state.pc % 4 ≡ 0 → IsComing h slots number
+    → decoded (get_or slots number d).word ≡ Some (get_or slots number d).instr → h.state.pc % 4 ≡ 0 → IsSlotAtPc h slots number
 comes-at h epoch number slots d keeps inside at says aligned =
     let comes = comes-found h epoch (length slots) number (get_or slots number d) (keeps number d inside) at says aligned in
     record {

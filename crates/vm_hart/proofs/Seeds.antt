@@ -1,7 +1,7 @@
 -- The hart of a clone, and what a hart leaves for its clones.
 use Rattle.std.proofs.Common.{◌≡◌, ℕ, ◌*◌, Bool, List, length, Option, Some, None, arith}
 use Rattle.std.specs.Option.{IfSome}
-use Rattle.elf_load.specs.declared.image.TheConstants.{PAGE_SIZE}
+use Rattle.page_frames.specs.declared.page.TheConstants.{PAGE_SIZE}
 use Rattle.page_frames.proofs.Memory.{length-paged}
 use Rattle.vm_descriptor.specs.Descriptor.{IsRamWord}
 use Rattle.guest_mem.specs.Ram.{Ram, IsRam, cleared}

@@ -1,15 +1,17 @@
 -- How a change of a hart meets an action, and when it may want memory.
-use Rattle.std.specs.Prelude.{◌≡◌, ℕ, ◌-◌, ◌/◌, ◌%◌, ◌<◌, ◌≤◌, ◌⊎◌, Bool, true, false, List, [], ◌∷◌, length, Option, Some, None, Result, Ok, Err, IfSome, IsSomeAnd}
+use Rattle.std.specs.Prelude.{◌≡◌, ℕ, ◌-◌, ◌/◌, ◌%◌, ◌<◌, ◌≤◌, ◌⊎◌, Bool, true, false, List, []}
+use Rattle.std.specs.Prelude.{◌∷◌, length, Option, Some, None, Result, Ok, Err, IfSome, IsSomeAnd}
 use Rattle.std.specs.declared.alloc.AllocError.{AllocError}
-use Rattle.elf_load.specs.declared.image.TheConstants.{RAM_BASE, PAGE_SIZE}
+use Rattle.elf_load.specs.declared.image.TheConstants.{RAM_BASE}
+use Rattle.page_frames.specs.declared.page.TheConstants.{PAGE_SIZE}
 use Rattle.block_port.specs.Block.{WritesSector}
-use Rattle.fork_port.specs.declared.handed.TheConstants.{MOST_HANDED}
+use Rattle.fork_port.specs.declared.handed.TheConstants.{MAX_HANDED}
 use Rattle.fork_port.specs.Commands.{IsMakeable}
 use Rattle.fork_port.specs.Fork.{GrantsTicket}
 use Rattle.rv_decode.specs.Instruction.{Instruction}
 use Rattle.forest_model.specs.declared.access.Access.{Access}
 use Rattle.forest_model.specs.declared.access.Direction.{Direction}
-use Rattle.forest_model.specs.declared.port_map.TheConstants.{BLOCK_BASE, FORK_BASE}
+use Rattle.port_map.specs.declared.place.TheConstants.{BLOCK_BASE, FORK_BASE}
 use Rattle.forest_model.specs.Ports.{PortRegisters, port_store}
 use Rattle.forest_model.specs.State.{State, at_next_instruction}
 use Rattle.forest_model.specs.Action.{Action, trap, interrupt, retire, exit, ask, rs2}
@@ -76,7 +78,7 @@ IsPut old new page s = new ≡ record { state = s; pages = pages_after (puts pag
 
 -- these bytes of RAM can be handed over: they are not too many, and their pages are here
 pub record IsReadable (h : KeyedState) (address count : ℕ) : Type 0 where
-  pub few : count ≤ MOST_HANDED
+  pub few : count ≤ MAX_HANDED
   pub in_range : is_byte_range address count h.state.ram ≡ true
   pub met : IsMet (pages_of_bytes address count) h.pages
 

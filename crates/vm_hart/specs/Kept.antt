@@ -3,7 +3,8 @@
 -- of memory protection stay. The mode may change.
 use Rattle.std.specs.Prelude.{◌≡◌, ℕ, suc, ◌+◌, ◌-◌, ◌/◌, ◌<◌, ◌%◌, true, false, List, length, slice_get, slice_index_or, Option, None, Some}
 use Rattle.std.specs.List.{HoldsAt}
-use Rattle.elf_load.specs.declared.image.TheConstants.{RAM_BASE, PAGE_SIZE}
+use Rattle.elf_load.specs.declared.image.TheConstants.{RAM_BASE}
+use Rattle.page_frames.specs.declared.page.TheConstants.{PAGE_SIZE}
 use Rattle.flat_memory.specs.Flat.{word_at}
 use Rattle.guest_pmp.specs.declared.access.Access.TheVariants as right
 use Rattle.guest_pmp.specs.declared.access.Mode.{Mode}
@@ -15,10 +16,10 @@ use Rattle.rv_decode.specs.Instruction.{Instruction}
 use Rattle.rv_decode.specs.Table.{decoded}
 use Rattle.rv_decode.specs.Kinds.{group_of}
 use Rattle.console_port.specs.declared.registers.TheConstants.{CONSOLE_SIZE}
-use Rattle.forest_model.specs.declared.port_map.TheConstants.{CONSOLE_BASE}
+use Rattle.port_map.specs.declared.place.TheConstants.{CONSOLE_BASE}
 use Rattle.forest_model.specs.Action.{immediate}
 use Rattle.forest_model.specs.Memory.{data_address}
-use Rattle.forest_model.specs.Ports.{is_within}
+use Rattle.port_map.specs.Ranges.{is_within}
 use Rattle.forest_model.specs.State.{State, is_in_ram}
 use Rattle.vm_hart.specs.Keyed.{KeyedState}
 use Rattle.vm_hart.specs.declared.hart.kept.TheConstants.{PROTECTION_COUNT, PROTECTION_FIRST}
@@ -61,7 +62,7 @@ pub record Comes (h : KeyedState) (i : Instruction) : Type 0 where
   pub says : decoded word ≡ Some i
 
 -- the slot of this number keeps the coming instruction
-pub record IsComing (h : KeyedState) (slots : List KeptInstruction) (number : ℕ) : Type 0 where
+pub record IsSlotAtPc (h : KeyedState) (slots : List KeptInstruction) (number : ℕ) : Type 0 where
   pub inside : number < length slots
   pub there : HoldsAt (λ slot. Comes h slot.instr) slots number
 

@@ -1,6 +1,7 @@
 -- Where in RAM an access is.
 use Rattle.std.specs.Prelude.{◌≡◌, ℕ, ◌-◌, ◌/◌, ◌<◌, ◌≤◌, true, length, Result, Ok, Err}
-use Rattle.elf_load.specs.declared.image.TheConstants.{RAM_BASE, PAGE_SIZE}
+use Rattle.elf_load.specs.declared.image.TheConstants.{RAM_BASE}
+use Rattle.page_frames.specs.declared.page.TheConstants.{PAGE_SIZE}
 use Rattle.forest_model.specs.declared.access.Access.{Access}
 use Rattle.forest_model.specs.Access.{is_aligned_for, is_allowed}
 use Rattle.forest_model.specs.State.{is_in_ram}

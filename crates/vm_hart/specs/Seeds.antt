@@ -1,6 +1,6 @@
 -- What a hart leaves for its clones, and the hart that a clone starts with.
 use Rattle.std.specs.Prelude.{◌≡◌, ℕ, ◌*◌, ◌/◌, Bool, List, ◌∷◌, length, drop, Some}
-use Rattle.elf_load.specs.declared.image.TheConstants.{PAGE_SIZE}
+use Rattle.page_frames.specs.declared.page.TheConstants.{PAGE_SIZE}
 use Rattle.vm_bus.specs.declared.ports.PortFields.{PortFields}
 use Rattle.vm_bus.specs.Bus.{ports_of_fields}
 use Rattle.vm_descriptor.specs.declared.descriptor.Descriptor.{Descriptor}

@@ -2,7 +2,7 @@ ghost use Rattle.std.specs.Prelude.{◌≡◌, ◌<◌, ◌≤◌, ◌*◌, ◌/
 ghost use Rattle.std.specs.Option.{option_copied};
 ghost use Rattle.byteorder.specs.Endian.{little_bytes};
 ghost use Rattle.flat_memory.specs.Flat.{put_bytes, word_at};
-ghost use Rattle.elf_load.specs.declared.image.TheConstants.{PAGE_SIZE};
+ghost use Rattle.page_frames.specs.declared.page.TheConstants.{PAGE_SIZE};
 ghost use Rattle.image_depot.specs.Key.{IsKeyOf};
 ghost use Rattle.console_port.specs.declared.port.TheConstants.{MAX_INPUT};
 ghost use Rattle.rv_decode.specs.Table.{decoded};
@@ -25,8 +25,8 @@ use fork_port::Call;
 use fork_port::refusals::TICKETS_END;
 use guest_mem::{Arrived, GuestMem, StoreError};
 use image_depot::{Depot, ImageKey, Parcel};
-use instruction_slots::Fields;
-use rv_decode::{Group, decode};
+use instruction_slots::{Fields, Slot, decode_by};
+use rv_decode::Group;
 use rv_traps::{Csrs, Wrote};
 use std::alloc::{AllocError, Global};
 use std::marker::Model;
@@ -226,10 +226,10 @@ impl Hart {
         self.memory.arrive(alloc, depot, parcel)
     }
 
-    /// Makes the coming step, unless it waits for a page.
-    #[inline]
+    /// Makes the coming step, unless it waits for a page. Its word is not decoded where a slot has it. There may be no slots.
+    #[inline(always)]
     #[tactic(auto, unfolding(forest_model::specs::Execute::action, crate::specs::Acts::Grows))]
-    pub fn act(&mut self) -> Result<Acted, AllocError>
+    pub fn act(&mut self, slots: &[Slot]) -> Result<Acted, AllocError>
         requires { self.old.state.ports.fork.next_ticket < TICKETS_END }
         ensures acts { ActsNext self.old self.new result }
         ensures memory { OnErr result (Grows self.old.state) }
@@ -242,7 +242,7 @@ impl Hart {
             Reach::Absent(page) => Ok(Acted::Stalled(page)),
             Reach::Ram(offset) => {
                 let word = self.fetched(offset);
-                self.execute_word(word)
+                self.execute_word(slots, word)
             }
             Reach::Port => Ok(trapped(INSTRUCTION_ACCESS_FAULT, self.pc)),
         }
@@ -250,13 +250,13 @@ impl Hart {
 
     /// Executes the instruction at the pc, which is this word.
     #[inline(always)]
-    fn execute_word(&mut self, word: u32) -> Result<Acted, AllocError>
+    fn execute_word(&mut self, slots: &[Slot], word: u32) -> Result<Acted, AllocError>
         requires { self.old.state.ports.fork.next_ticket < TICKETS_END }
         ensures acts { ActsBy self.old self.new (decoded word) word result }
         ensures memory { OnErr result (IsSomeAnd (decoded word) (λ instr. InstructionGrows instr self.old.state)) }
     {
-        match decode(word) {
-            Some(instr) => self.execute(&Fields::of(instr), word),
+        match decode_by(slots, self.pc, word) {
+            Some(instr) => self.execute(&instr, word),
             None => Ok(trapped(ILLEGAL_INSTRUCTION, word)),
         }
     }

@@ -16,7 +16,7 @@ use Rattle.vm_descriptor.specs.declared.descriptor.Descriptor.{Descriptor}
 use Rattle.vm_descriptor.specs.Descriptor.{numbered}
 use Rattle.vm_cell.specs.Keyed.{KeyedMachine, paged}
 use Rattle.vm_cell.specs.Woken.{AreSeeds, IsSeed, woken, woken_machine, woken_pages}
-use Rattle.vm_cell.specs.declared.vm.fork.Brood.{Brood as ForkImage}
+use Rattle.vm_cell.specs.declared.vm.fork.ForkImage.{ForkImage}
 use Rattle.run_report.specs.Lines.{Line, lines, trees_lines}
 use Rattle.machine_names.specs.Name.{child_path}
 use Rattle.world_core.specs.declared.cell.Brood.{Brood}

@@ -23,7 +23,7 @@ use Rattle.image_depot.specs.Key.{Shelves}
 use Rattle.vm_cell.specs.Standing.{IsJoin}
 use Rattle.vm_cell.specs.Keyed.{KeyedMachine, paged}
 use Rattle.vm_cell.specs.Woken.{AreSeeds}
-use Rattle.vm_cell.specs.declared.vm.fork.Brood.{Brood as ForkImage}
+use Rattle.vm_cell.specs.declared.vm.fork.ForkImage.{ForkImage}
 use Rattle.run_report.specs.Lines.{Line, ticket_line, lines, log_lines}
 use Rattle.world_core.specs.declared.cell.Brood.{Brood}
 use Rattle.world_core.specs.declared.cell.Cell.{Cell}

@@ -21,7 +21,8 @@ use Rattle.forest_model.specs.Calls.{forked as after_fork}
 use Rattle.forest_model.specs.Forest.{machines}
 use Rattle.forest_model.specs.Paged.{Paged, paged_machines}
 use Rattle.machine_names.specs.NameOrder.{path_cmp}
-use Rattle.vm_cell.specs.Keyed.{KeyedMachine}
+use Rattle.vm_cell.specs.Keyed.{KeyedMachine, paged}
+use Rattle.vm_cell.specs.declared.vm.fork.ForkImage.{ForkImage}
 use Rattle.vm_cell.specs.Standing.{IsClone, standing_call}
 use Rattle.vm_cell.specs.Woken.{AreSeeds}
 use Rattle.vm_descriptor.specs.declared.descriptor.TheConstants.{MAX_CLONES}
@@ -334,3 +335,26 @@ module _ (lease : Lent) (prepared : Prepared) (ticket : ℕ) (vm : KeyedMachine)
         key = here;
         seeds = subst (λ n. AreSeeds (vm_of lease) prepared.image.key n prepared.image.seed) of.children of.seeds;
       }))
+
+-- the machine after the CLONE has the key of the one before
+pub forked-key : {before after lent : KeyedMachine} → before ≡ lent → after ≡ record before { machine = after_fork before.machine } → after.key ≡ lent.key
+forked-key same made = ap (λ (v : KeyedMachine). v.key) made ∙ ap (λ (v : KeyedMachine). v.key) same
+
+-- ---- what the commit of a prepared makes of a world
+
+module _ (depot : Shelves) (w : World) (f : Forest) (lease : Lent) (prepared : Prepared) (ticket : ℕ) (c : Cell) (vm : KeyedMachine) (h : StandsFor depot w f)
+    (out_as : IsHandedOut f lease) (lent : IsLent lease.start lease.ran lease.now) (of : IsPreparedFor lease prepared) (number : ticket ≡ prepared.ticket)
+    (same : vm ≡ vm_of lease) (found : Some c ≡ get path_cmp w.cells lease.name) where
+  pub committed : (cells : BTreeMap Path Cell) (d : Cell) (list : List Ready) (name : Path) (b : Brood) (queued : Ready) (after : KeyedMachine) → name ≡ lease.name
+      → WritesThrough path_cmp (path_cmp lease.name) w.cells d cells → IsPreparedIn depot prepared → IsBroodOf prepared b
+      → queued ≡ record { name = prepared.name; children = Some (prepared.ticket, 1) } → Keeps (queued ∷ w.ready) list → d.is_listed ≡ c.is_listed
+      → after ≡ record vm { machine = after_fork vm.machine }
+      → ((left : ForkImage) → IsNewBrood depot lease.name vm ticket b left → (t : Tree (Spot Paged)) → Holds depot lease.name c t → StandsAt (paged vm) (clone ticket) t
+      → HoldsAfter depot lease.name d (forked_tree ticket t))
+      → Called depot (record w { cells = cells; ready = list }) f lease forked name (paged after)
+  committed cells d list name b queued after name_is written here is_brood queued_is keeps listed made holds =
+      fork-called depot w f lease ticket c h out_as lent (sym (prepared-stands lease prepared ticket (vm_of lease) of number refl)) found
+      cells d list name (paged vm) (paged after) name_is (ap paged same) written
+      (subst (λ q. Keeps (q ∷ w.ready) list)
+      (queued_is ∙ ap₂ (λ n k. let q : Ready = record { name = n; children = Some (k, 1) } in q) of.name (sym number)) keeps)
+      listed (ap paged made) (holds prepared.image (prepared-brood lease prepared ticket vm of number same depot b here is_brood))

@@ -18,7 +18,7 @@ use Rattle.vm_descriptor.specs.declared.descriptor.Descriptor.{Descriptor}
 use Rattle.vm_cell.specs.Keyed.{KeyedMachine}
 use Rattle.vm_cell.specs.Woken.{woken}
 use Rattle.vm_cell.specs.Standing.{standing_call}
-use Rattle.vm_cell.specs.declared.vm.fork.Brood.{Brood as ForkImage}
+use Rattle.vm_cell.specs.declared.vm.fork.ForkImage.{ForkImage}
 use Rattle.world_core.specs.declared.cell.Brood.{Brood}
 use Rattle.world_core.specs.declared.cell.Cell.{Cell}
 use Rattle.world_core.specs.declared.cell.State.{State}

@@ -22,6 +22,7 @@ pub mod Waking
 pub mod TurnOfChildren
 pub mod TurnByTurn
 pub mod ByName
+mod AtName
 pub mod Depths
 pub mod Leaving
 mod Images

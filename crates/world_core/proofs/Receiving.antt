@@ -2,7 +2,7 @@
 use Rattle.std.proofs.Common.{◌≡◌, ◌⊎◌, ℕ, ◌*◌, length, Some, Result, Ok, Err, IfOk, OnErr, ap, ap₂, ◌∙◌, subst}
 use Rattle.std.specs.declared.alloc.AllocError.{AllocError}
 use Rattle.std.proofs.lemmas.Result.{IfOk-weaker}
-use Rattle.elf_load.specs.declared.image.TheConstants.{PAGE_SIZE}
+use Rattle.page_frames.specs.declared.page.TheConstants.{PAGE_SIZE}
 use Rattle.image_depot.specs.declared.arrived.Arrived.{Arrived}
 use Rattle.image_depot.specs.Receiver.{IsHad}
 use Rattle.image_depot.specs.Reply.{Reply}

@@ -20,7 +20,7 @@ use Rattle.std.specs.Prelude.{Result, Ok, Err}
 use Rattle.std.specs.declared.alloc.AllocError.{AllocError}
 use Rattle.vm_cell.specs.Keyed.{KeyedMachine, IsOfDepot, paged}
 use Rattle.vm_cell.specs.Woken.{woken}
-use Rattle.vm_cell.specs.declared.vm.fork.Brood.{Brood as ForkImage}
+use Rattle.vm_cell.specs.declared.vm.fork.ForkImage.{ForkImage}
 use Rattle.machine_names.specs.Name.{child_path}
 use Rattle.world_core.specs.declared.cell.Brood.{Brood}
 use Rattle.world_core.specs.declared.cell.Cell.{Cell}

@@ -19,7 +19,7 @@ use Rattle.forest_model.specs.Paged.{Paged}
 use Rattle.image_depot.specs.Key.{Shelves, Key}
 use Rattle.vm_descriptor.specs.declared.descriptor.Descriptor.{Descriptor}
 use Rattle.vm_descriptor.specs.Descriptor.{numbered}
-use Rattle.vm_cell.specs.declared.vm.fork.Brood.{Brood as ForkImage}
+use Rattle.vm_cell.specs.declared.vm.fork.ForkImage.{ForkImage}
 use Rattle.machine_names.specs.Name.{child_path}
 use Rattle.world_core.specs.declared.cell.Brood.{Brood}
 use Rattle.world_core.specs.declared.cell.Cell.{Cell}

@@ -9,7 +9,7 @@ use Rattle.forest_tree.specs.Tree.{Tree, machine, Path, subtree}
 use Rattle.forest_tree.specs.Settle.{has_ended, waits}
 use Rattle.forest_history.specs.Places.{at_path, out, Spot, placed}
 use Rattle.forest_history.specs.World.{is_asleep_at, is_ready_at, lives_ready, holds, is_ready}
-use Rattle.forest_history.specs.Rows.{took, nothing, Allows, does}
+use Rattle.forest_history.specs.Rows.{took, wake_failed, Allows, does}
 use Rattle.forest_model.specs.Paged.{Paged, paged_machines}
 use Rattle.machine_names.specs.Name.{child_path}
 use Rattle.machine_names.specs.NameOrder.{path_cmp}
@@ -153,7 +153,7 @@ module _ (depot : Shelves) (turn : Ready) (ticket first : ℕ) (w : World) (f : 
 
     -- there is no room for it
     pub child-kept : ((n : Path) → get path_cmp v.cells n ≡ get path_cmp w.cells n) → v.halted ≡ w.halted → v.outcome ≡ w.outcome → w.halted ≡ None
-        → Goes depot f nothing v
+        → Goes depot f wake_failed v
     unfolding Allows does
     child-kept cells halted outcome unhalted = record {
       allowed = ((shows-children.root.lives, sym h.halted ∙ unhalted), (child_path turn.name ticket index, found.1));

@@ -180,8 +180,12 @@ module _ (cells mid : BTreeMap Path Cell) (parent : Path) (ticket index : ℕ) (
   not-parent : name ≢ parent
   not-parent same = apart-below parent (record { ticket = ticket; child = index }) [] (sym same ∙ named)
 
-  pub old-parent : Some c ≡ get path_cmp cells parent
+  old-parent : Some c ≡ get path_cmp cells parent
   old-parent = found ∙ updated-apart cells mid name (Some e) inserted parent not-parent
+
+  -- the child was a descriptor in the cells before
+  pub sleeper-at : (depot : Shelves) (t : Tree (Spot Paged)) → ShowsCells depot cells t → sleeps parent ticket index t ≡ true → IsSleeper depot parent ticket index t c
+  sleeper-at depot t h is = sleeper-of depot cells parent ticket index t h is c old-parent
 
   -- and with another for its parent
   module _ (new : BTreeMap Path Cell) (d : Cell) (written : WritesThrough path_cmp (path_cmp parent) mid d new) where

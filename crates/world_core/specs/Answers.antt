@@ -9,7 +9,7 @@ use Rattle.forest_tree.specs.Tree.{Tree, node, machine, Path, subtree}
 use Rattle.forest_tree.specs.Settle.{has_ended, waits}
 use Rattle.forest_history.specs.Places.{out, Spot}
 use Rattle.forest_history.specs.World.{is_at_home}
-use Rattle.forest_history.specs.Rows.{How, gave, ended, forked, joined, killed, waited, Row, over, stopped, idle, took, nothing, spent, dropped, kept}
+use Rattle.forest_history.specs.Rows.{How, gave, ended, forked, joined, killed, waited, Row, over, stopped, idle, took, wake_failed, spent, dropped, kept}
 use Rattle.forest_history.specs.Rows.{Allows, does}
 use Rattle.world_core.specs.declared.reason.Reason.{Reason}
 use Rattle.world_core.specs.declared.world.World.{World}
@@ -115,7 +115,7 @@ Takes depot f taken.Over new = Goes depot f over new
 Takes depot f (taken.Stopped reason) new = Goes depot f (stopped reason) new
 Takes depot f taken.Idle new = Goes depot f idle new
 Takes depot f (taken.Took lease) new = Goes depot f (took lease.name) new × Starts f lease × IsLentOf depot lease
-Takes depot f taken.Memory new = Goes depot f nothing new
+Takes depot f taken.Memory new = Goes depot f wake_failed new
 
 -- the answer of `take_named`, which takes a machine that waits too
 abbrev pub TakesNamed : Shelves → Forest → Path → Result (Option Lent) AllocError → World → Type 0

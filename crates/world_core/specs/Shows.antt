@@ -21,7 +21,7 @@ use Rattle.vm_cell.specs.Woken.{IsOfImage, woken_machine, woken_pages}
 use Rattle.run_report.specs.Lines.{Told, lines, log_lines}
 use Rattle.machine_names.specs.Name.{child_path}
 use Rattle.run_report.specs.Report.{lines_of, told}
-use Rattle.vm_cell.specs.declared.vm.fork.Brood.{Brood as ForkImage}
+use Rattle.vm_cell.specs.declared.vm.fork.ForkImage.{ForkImage}
 use Rattle.world_core.specs.declared.cell.Brood.{Brood}
 use Rattle.world_core.specs.declared.cell.Cell.{Cell}
 use Rattle.world_core.specs.declared.cell.ChildSlot.{ChildSlot}

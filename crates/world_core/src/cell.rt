@@ -29,7 +29,7 @@ use std::collections::BTreeMap;
 use std::mem;
 use std::snapshot::Snapshot;
 use std::sync::Wait;
-use vm_cell::{Brood as ForkImage, Vm};
+use vm_cell::{ForkImage, Vm};
 
 mod broods;
 mod calls;

@@ -15,7 +15,7 @@ use ready_queue::ReadyTurn;
 use std::alloc::{AllocError, Global};
 use std::marker::Model;
 use std::sync::Wait;
-use vm_cell::Brood as ForkImage;
+use vm_cell::ForkImage;
 
 /// The children of a CLONE before they wake, with the room that they take in a world.
 #[derive(Drop)]

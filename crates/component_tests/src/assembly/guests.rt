@@ -1,6 +1,8 @@
 //! Example guests, line by line, and the words that they are.
 
-use super::Line::{self, Bare, Branch, Csr, Immediate, Jump, Label, Load, Registers, Store, Upper};
+use super::GuestLine::{
+    self, Bare, Branch, Csr, Immediate, Jump, Label, Load, Registers, Store, Upper,
+};
 use rv_decode::Kind::{
     Addi, Andi, Auipc, Beq, Bne, Csrrs, Csrrsi, Csrrw, Divu, Ebreak, Ecall, Lb, Lbu, Lhu, Lui, Lw,
     Mret, Mul, Mulhu, Rem, Sb, Sh, Slli, Srli, Sw, Xor,
@@ -8,7 +10,7 @@ use rv_decode::Kind::{
 
 /// Exits with 7.
 #[rattlefmt::skip]
-pub(super) static EXIT_SEVEN: [Line; 5] = [
+pub(super) static EXIT_SEVEN: [GuestLine; 5] = [
     Upper(Lui, 5, 0x10002),
     Immediate(Addi, 6, 0, 7), Store(Sw, 6, 0, 5),
     Immediate(Addi, 6, 0, 5), Store(Sw, 6, 8, 5),
@@ -20,7 +22,7 @@ pub(super) static EXIT_SEVEN_WORDS: [u32; 5] = [
 
 /// Puts out the letter A.
 #[rattlefmt::skip]
-pub(super) static PRINT_LETTER: [Line; 7] = [
+pub(super) static PRINT_LETTER: [GuestLine; 7] = [
     Upper(Lui, 5, 0x10000),
     Immediate(Addi, 6, 0, 65), Store(Sb, 6, 0, 5),
     Upper(Lui, 5, 0x10002),
@@ -34,7 +36,7 @@ pub(super) static PRINT_LETTER_WORDS: [u32; 7] = [
 
 /// Puts out a byte of the input.
 #[rattlefmt::skip]
-pub(super) static ECHO_BYTE: [Line; 7] = [
+pub(super) static ECHO_BYTE: [GuestLine; 7] = [
     Upper(Lui, 5, 0x10000),
     Load(Lbu, 6, 0, 5), Store(Sb, 6, 0, 5),
     Upper(Lui, 5, 0x10002),
@@ -48,7 +50,7 @@ pub(super) static ECHO_BYTE_WORDS: [u32; 7] = [
 
 /// Traps to its handler, and exits with the cause.
 #[rattlefmt::skip]
-pub(super) static TRAP_HANDLER: [Line; 10] = [
+pub(super) static TRAP_HANDLER: [GuestLine; 10] = [
     Upper(Lui, 5, 0x10002),
     Upper(Auipc, 6, 0), Immediate(Addi, 6, 6, 20), Csr(Csrrw, 0, 0x305, 6),
     Bare(Ecall),
@@ -65,7 +67,7 @@ pub(super) static TRAP_HANDLER_WORDS: [u32; 10] = [
 
 /// Is interrupted at once, and exits with the cause. The handler is the eighth entry of the vector.
 #[rattlefmt::skip]
-pub(super) static VECTORED_INTERRUPT: [Line; 19] = [
+pub(super) static VECTORED_INTERRUPT: [GuestLine; 19] = [
     Upper(Lui, 5, 0x10002),
     Upper(Auipc, 6, 0), Immediate(Addi, 6, 6, 29), Csr(Csrrw, 0, 0x305, 6),
     Immediate(Addi, 6, 0, 128), Csr(Csrrw, 0, 0x304, 6),
@@ -86,7 +88,7 @@ pub(super) static VECTORED_INTERRUPT_WORDS: [u32; 19] = [
 
 /// Counts ten interrupts of the timer, and exits with their number. 1 waits, and 2 exits.
 #[rattlefmt::skip]
-pub(super) static TEN_TICKS: [Line; 23] = [
+pub(super) static TEN_TICKS: [GuestLine; 23] = [
     Upper(Lui, 5, 0x10002),
     Upper(Auipc, 6, 0), Immediate(Addi, 6, 6, 44), Csr(Csrrw, 0, 0x305, 6),
     Upper(Lui, 8, 0x2004), Store(Sw, 0, 4, 8),
@@ -111,7 +113,7 @@ pub(super) static TEN_TICKS_WORDS: [u32; 21] = [
 
 /// Computes without end, from 1 on.
 #[rattlefmt::skip]
-pub(super) static LOOP_COMPUTE: [Line; 13] = [
+pub(super) static LOOP_COMPUTE: [GuestLine; 13] = [
     Immediate(Addi, 6, 0, 1),
     Label(1),
     Immediate(Slli, 7, 6, 13), Registers(Xor, 6, 6, 7),
@@ -129,7 +131,7 @@ pub(super) static LOOP_COMPUTE_WORDS: [u32; 11] = [
 
 /// Loads and stores without end, from 1 on through a page.
 #[rattlefmt::skip]
-pub(super) static LOOP_MEMORY: [Line; 15] = [
+pub(super) static LOOP_MEMORY: [GuestLine; 15] = [
     Upper(Lui, 5, 0x80001), Upper(Lui, 6, 0x80002),
     Label(1), Immediate(Addi, 7, 5, 0),
     Label(2),
@@ -147,7 +149,7 @@ pub(super) static LOOP_MEMORY_WORDS: [u32; 13] = [
 
 /// Multiplies and divides without end, from 1 on.
 #[rattlefmt::skip]
-pub(super) static LOOP_MULTIPLY: [Line; 10] = [
+pub(super) static LOOP_MULTIPLY: [GuestLine; 10] = [
     Upper(Lui, 5, 0x196), Immediate(Addi, 5, 5, 1549), Immediate(Addi, 6, 0, 1),
     Label(1),
     Registers(Mul, 6, 6, 5), Immediate(Addi, 6, 6, 1),
@@ -163,7 +165,7 @@ pub(super) static LOOP_MULTIPLY_WORDS: [u32; 9] = [
 /// Two children exit with 40 more than their number, and the parent with what the first exits with. 1 is the
 /// child.
 #[rattlefmt::skip]
-pub(super) static TWO_CHILDREN: [Line; 26] = [
+pub(super) static TWO_CHILDREN: [GuestLine; 26] = [
     Upper(Lui, 5, 0x10002),
     Immediate(Addi, 6, 0, 2), Store(Sw, 6, 0, 5), Store(Sw, 0, 4, 5),
     Immediate(Addi, 6, 0, 1), Store(Sw, 6, 8, 5),
@@ -188,7 +190,7 @@ pub(super) static TWO_CHILDREN_WORDS: [u32; 25] = [
 
 /// As `TWO_CHILDREN`, but the parent kills them, joins the same ticket, and exits with the answer.
 #[rattlefmt::skip]
-pub(super) static KILL_THEN_JOIN: [Line; 26] = [
+pub(super) static KILL_THEN_JOIN: [GuestLine; 26] = [
     Upper(Lui, 5, 0x10002),
     Immediate(Addi, 6, 0, 2), Store(Sw, 6, 0, 5), Store(Sw, 0, 4, 5),
     Immediate(Addi, 6, 0, 1), Store(Sw, 6, 8, 5),
@@ -214,7 +216,7 @@ pub(super) static KILL_THEN_JOIN_WORDS: [u32; 25] = [
 /// A child and a grandchild, each with its own value of one word. 1 is the child, 2 joins, 3 exits, and 4
 /// is the grandchild.
 #[rattlefmt::skip]
-pub(super) static GRANDCHILD: [Line; 44] = [
+pub(super) static GRANDCHILD: [GuestLine; 44] = [
     Upper(Lui, 5, 0x10002), Upper(Lui, 9, 0x80001),
     Immediate(Addi, 10, 0, 17), Store(Sw, 10, 0, 9),
     Immediate(Addi, 6, 0, 1), Store(Sw, 6, 0, 5), Store(Sw, 6, 4, 5), Store(Sw, 6, 8, 5),
@@ -248,7 +250,7 @@ pub(super) static GRANDCHILD_WORDS: [u32; 40] = [
 
 /// The child makes a page zero, and exits with a word of it. 1 is the child.
 #[rattlefmt::skip]
-pub(super) static ZEROED_PAGE: [Line; 29] = [
+pub(super) static ZEROED_PAGE: [GuestLine; 29] = [
     Upper(Lui, 5, 0x10002), Upper(Lui, 9, 0x80001),
     Immediate(Addi, 10, 0, 17), Store(Sw, 10, 0, 9),
     Immediate(Addi, 6, 0, 1), Store(Sw, 6, 0, 5), Store(Sw, 0, 4, 5), Store(Sw, 6, 8, 5),
@@ -274,7 +276,7 @@ pub(super) static ZEROED_PAGE_WORDS: [u32; 28] = [
 
 /// The timer is due at the moment of the fork.
 #[rattlefmt::skip]
-pub(super) static TIMER_AT_FORK: [Line; 19] = [
+pub(super) static TIMER_AT_FORK: [GuestLine; 19] = [
     Upper(Lui, 5, 0x10002), Upper(Lui, 9, 0x2004),
     Upper(Lui, 10, 0x80002), Csr(Csrrw, 0, 0x305, 10), Store(Sw, 5, 0, 10),
     Immediate(Addi, 6, 0, 1), Store(Sw, 6, 0, 5), Store(Sw, 0, 4, 5), Store(Sw, 6, 8, 5),

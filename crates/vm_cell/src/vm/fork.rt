@@ -20,7 +20,7 @@ use vm_hart::Hart;
 
 /// What a machine leaves for its children, when it makes a CLONE.
 #[derive(Drop)]
-pub struct Brood {
+pub struct ForkImage {
     /// The key to the image that all of them start with.
     pub key: ImageKey,
     /// What child 1 starts with beside it, as bytes. The others differ in their number alone.
@@ -54,18 +54,18 @@ impl Vm {
         rt: &R,
         alloc: Global,
         depot: &Depot,
-    ) -> Result<Brood, AllocError>
+    ) -> Result<ForkImage, AllocError>
         requires of_depot { IsOfDepot depot.now self.old.key }
         requires clone { IsClone (standing_call self.old) }
         ensures made { OnOk result (self.new ≡ record self.old { machine = forked self.old.machine }) }
         ensures err { OnErr result (self.new ≡ self.old) }
-        ensures here { IfOk result (λ brood. IsKeyOf depot.now brood.key) }
-        ensures seeds { IfOk result (λ brood. (ticket : ℕ) → standing_call self.old ≡ Some (Call.Clone ticket)
-            → AreSeeds self.old brood.key (machines.grant self.old.machine ticket).children brood.seed) }
+        ensures here { IfOk result (λ image. IsKeyOf depot.now image.key) }
+        ensures seeds { IfOk result (λ image. (ticket : ℕ) → standing_call self.old ≡ Some (Call.Clone ticket)
+            → AreSeeds self.old image.key (machines.grant self.old.machine ticket).children image.seed) }
     {
-        let brood = self.child_left(rt, alloc, depot)?;
+        let image = self.child_left(rt, alloc, depot)?;
         self.cloned();
-        Ok(brood)
+        Ok(image)
     }
 
     /// What the CLONE that is the next step leaves for the children. The machine stays as it is, so this may be done
@@ -75,17 +75,17 @@ impl Vm {
         rt: &R,
         alloc: Global,
         depot: &Depot,
-    ) -> Result<Brood, AllocError>
+    ) -> Result<ForkImage, AllocError>
         requires of_depot { IsOfDepot depot.now self.now.key }
         requires clone { IsClone (standing_call self.now) }
-        ensures here { IfOk result (λ brood. IsKeyOf depot.now brood.key) }
-        ensures seeds { IfOk result (λ brood. (ticket : ℕ) → standing_call self.now ≡ Some (Call.Clone ticket)
-            → AreSeeds self.now brood.key (machines.grant self.now.machine ticket).children brood.seed) }
+        ensures here { IfOk result (λ image. IsKeyOf depot.now image.key) }
+        ensures seeds { IfOk result (λ image. (ticket : ℕ) → standing_call self.now ≡ Some (Call.Clone ticket)
+            → AreSeeds self.now image.key (machines.grant self.now.machine ticket).children image.seed) }
     {
         let ticket = self.cloned_ticket();
         let key = depot.freeze(rt, self.hart.freeze(alloc, depot)?)?;
         let seed = self.seed(alloc, ticket, &key)?;
-        Ok(Brood { key, seed })
+        Ok(ForkImage { key, seed })
     }
 
     /// Makes the CLONE that is the next step. It takes no memory.

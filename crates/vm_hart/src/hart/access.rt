@@ -13,7 +13,7 @@ ghost use Rattle.vm_hart.specs.Placed.{Places};
 ghost use Rattle.vm_hart.specs.Keyed.{IsAbsent, IsHere};
 
 use super::Hart;
-use elf_load::{PAGE_SIZE, RAM_BASE};
+use elf_load::RAM_BASE;
 use forest_model::cause::{
     INSTRUCTION_ACCESS_FAULT, INSTRUCTION_ADDRESS_MISALIGNED, LOAD_ACCESS_FAULT,
     LOAD_ADDRESS_MISALIGNED, STORE_ACCESS_FAULT, STORE_ADDRESS_MISALIGNED,
@@ -21,6 +21,7 @@ use forest_model::cause::{
 use forest_model::{Access, Direction};
 use guest_pmp::Access as Right;
 use instruction_slots::Fields;
+use page_frames::PAGE_SIZE;
 use rv_decode::{Group, Instr, decode};
 use rv_exec::{load_width, store_width};
 

@@ -8,11 +8,11 @@ ghost use Rattle.vm_hart.specs.Calls.{AsksFor, AsksNext, call_asked, made};
 
 use super::Hart;
 use super::access::Reach;
-use forest_model::port_map::FORK_BASE;
 use forest_model::{Access, Direction, Written};
 use fork_port::registers::FORK_COMMAND;
 use fork_port::{Asked, Call, Ending};
 use instruction_slots::Fields;
+use port_map::FORK_BASE;
 use rv_decode::{Instr, Kind, decode};
 use std::alloc::AllocError;
 

@@ -10,7 +10,7 @@ ghost use Rattle.rv_decode.specs.Kinds.{group_of};
 ghost use Rattle.vm_hart.specs.Acts.{ActsAlone};
 ghost use Rattle.instruction_slots.specs.Slots.{ForgetsAt};
 ghost use Rattle.rv_traps.specs.Protection.{is_unrestricted};
-ghost use Rattle.vm_hart.specs.Kept.{IsComing, Keeps, mode_tag, stored_at};
+ghost use Rattle.vm_hart.specs.Kept.{IsSlotAtPc, Keeps, mode_tag, stored_at};
 ghost use Rattle.vm_hart.specs.Keyed.{KeyedState};
 ghost use Rattle.vm_hart.specs.Fast.{ActsFast, AreMade, IsFastStep, IsQuiet, IsStretch, counted_since};
 ghost use Rattle.vm_hart.specs.Tries.{IsTry};
@@ -140,7 +140,7 @@ impl Hart {
         windows: &mut Windows,
     ) -> bool
         requires free { FREE ≡ true → is_unrestricted self.old.state.csrs ≡ true }
-        requires coming { IsComing self.old slots.old number }
+        requires slot_at_pc { IsSlotAtPc self.old slots.old number }
         requires is_open { AreOpen self.old.state.csrs windows.old }
         ensures made { MatchBool result (IsFastStep self.old self.new) (self.new ≡ self.old) }
         ensures keeps { (epoch : ℕ) → Keeps self.old epoch slots.old → Keeps self.new epoch slots.new }

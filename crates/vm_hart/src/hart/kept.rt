@@ -7,17 +7,17 @@ ghost use Rattle.forest_model.specs.Access.{fetch_access};
 ghost use Rattle.forest_model.specs.Execute.{fetched};
 ghost use Rattle.forest_model.specs.Memory.{data_address};
 ghost use Rattle.vm_hart.specs.Acts.{ReachesRam};
-ghost use Rattle.forest_model.specs.Ports.{is_within};
+ghost use Rattle.port_map.specs.Ranges.{is_within};
 ghost use Rattle.instruction_slots.specs.Slots.{place_of};
 ghost use Rattle.rv_traps.specs.Protection.{is_unrestricted};
-ghost use Rattle.vm_hart.specs.Kept.{ComesAside, IsAside, IsComing, Keeps, mode_tag, tagged};
+ghost use Rattle.vm_hart.specs.Kept.{ComesAside, IsAside, IsSlotAtPc, Keeps, mode_tag, tagged};
 
 use super::Hart;
 use super::access::Reach;
 use console_port::registers::CONSOLE_SIZE;
-use forest_model::port_map::CONSOLE_BASE;
 use guest_pmp::Mode;
 use instruction_slots::{Fields, Slot, slot_of};
+use port_map::CONSOLE_BASE;
 use rv_decode::Group;
 
 /// The numbers of the registers of memory protection, pmpcfg0 to pmpaddr15.
@@ -64,7 +64,7 @@ impl Hart {
         requires some { 0 < length slots.old }
         requires keeps { Keeps self.now epoch slots.old }
         requires tag { tag ≡ mode_tag self.now.state.csrs.mode }
-        ensures comes { IfSome result (IsComing self.now slots.new) }
+        ensures comes { IfSome result (IsSlotAtPc self.now slots.new) }
         ensures keeps { Keeps self.now epoch slots.new }
         ensures same_length { length slots.new ≡ length slots.old }
     {

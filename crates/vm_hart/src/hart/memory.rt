@@ -23,16 +23,17 @@ ghost use Rattle.vm_hart.specs.Windows.{IsOpen};
 
 use super::access::Reach;
 use super::{Acted, Hart, trapped};
-use elf_load::{PAGE_SIZE, RAM_BASE};
+use elf_load::RAM_BASE;
 use forest_model::cause::{LOAD_ACCESS_FAULT, STORE_ACCESS_FAULT};
-use forest_model::port_map::FORK_BASE;
 use forest_model::{Access, Direction, Written};
 use fork_port::refusals::{BAD_ARGUMENT, TICKETS_END};
 use fork_port::registers::FORK_COMMAND;
-use fork_port::{Asked, Handed, MOST_HANDED};
+use fork_port::{Asked, Handed, MAX_HANDED};
 use guest_pmp::{Access as Right, Span};
 use instruction_slots::Fields;
+use page_frames::PAGE_SIZE;
 use port_error::PortError;
+use port_map::FORK_BASE;
 use rv_decode::Kind;
 use rv_exec::load_value;
 use std::alloc::AllocError;
@@ -263,7 +264,7 @@ impl Hart {
     /// Ends the machine with bytes of RAM, or tells that they are not bytes of RAM.
     #[cold]
     fn hand_over(&mut self, value: u32, address: u32, count: u32) -> Acted
-        requires few { count ≤ MOST_HANDED }
+        requires few { count ≤ MAX_HANDED }
         requires met { IsMet (bytes_needs self.old.state address count) self.old.pages }
         ensures { HandsOver self.old self.new value address count result }
     {
@@ -285,7 +286,7 @@ impl Hart {
         if count == 0 {
             return Handed::none();
         }
-        let mut room = [0u8; MOST_HANDED];
+        let mut room = [0u8; MAX_HANDED];
         let bytes = &mut room[..count as usize];
         self.memory.read(address - RAM_BASE, bytes);
         Handed::of(bytes)

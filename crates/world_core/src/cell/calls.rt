@@ -15,7 +15,7 @@ ghost use Rattle.run_report.specs.Lines.{lines};
 ghost use Rattle.run_report.specs.Report.{lines_of};
 ghost use Rattle.vm_cell.specs.Keyed.{paged};
 ghost use Rattle.vm_cell.specs.Standing.{standing_call};
-ghost use Rattle.vm_cell.specs.declared.vm.fork.Brood.{Brood as ForkImage};
+ghost use Rattle.vm_cell.specs.declared.vm.fork.ForkImage.{ForkImage};
 ghost use Rattle.world_core.specs.Broods.{killed_line};
 ghost use Rattle.world_core.specs.Images.{HasImages, Images, IsBroodAt};
 ghost use Rattle.world_core.specs.PreparedFork.{IsNewBrood};

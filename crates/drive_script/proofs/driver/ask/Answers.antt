@@ -8,7 +8,7 @@ use Rattle.drive_script.specs.Driven.{DrivesLine}
 use Rattle.drive_script.specs.Script.{ask}
 use Rattle.drive_script.proofs.Driving.{asks, breaks-first, looked, looked-at-none, looks-at-none, looks-not, none-kept}
 use Rattle.drive_script.proofs.Lent.{named-lent}
-use Rattle.drive_script.proofs.Reasons.{named-reason}
+use Rattle.drive_script.proofs.Reasons.{taken-reason}
 use Rattle.drive_script.proofs.driver.ask.Goals as goal
 
 pub returns-in_err-lease-clause-drives : goal.returns-in_err-lease-clause-drives
@@ -61,21 +61,15 @@ returns-in_err-send-clause-drives c s h keeps =
 
 pub returns-in_err-lease-clause-reason : goal.returns-in_err-lease-clause-reason
 returns-in_err-lease-clause-reason c =
-    let h = c.requires.1 in
-    named-reason c.args.depot.now c.args.world.now c.take_named.new.self h.forest h.stands c.args.name.now c.take_named.result
-    (c.take_named.ensures.takes h.forest h.stands)
+    taken-reason c.args.depot.now c.args.world.now c.take_named.new.self c.requires c.args.name.now c.take_named.result c.take_named.ensures.takes
 
 pub returns-in_default-clause-reason : goal.returns-in_default-clause-reason
 returns-in_default-clause-reason c =
-    let h = c.requires.1 in
-    named-reason c.args.depot.now c.args.world.now c.take_named.new.self h.forest h.stands c.args.name.now c.take_named.result
-    (c.take_named.ensures.takes h.forest h.stands)
+    taken-reason c.args.depot.now c.args.world.now c.take_named.new.self c.requires c.args.name.now c.take_named.result c.take_named.ensures.takes
 
 pub returns-clause-reason : goal.returns-clause-reason
 returns-clause-reason c =
-    let h = c.requires.1 in
-    c.give_back.ensures.reason ∙ named-reason c.args.depot.now c.args.world.now c.take_named.new.self h.forest h.stands c.args.name.now c.take_named.result
-    (c.take_named.ensures.takes h.forest h.stands)
+    c.give_back.ensures.reason ∙ taken-reason c.args.depot.now c.args.world.now c.take_named.new.self c.requires c.args.name.now c.take_named.result c.take_named.ensures.takes
 
 pub give_back-requires : goal.give_back-requires
 give_back-requires c =
@@ -89,9 +83,7 @@ give_back-requires c =
 
 pub returns-in_err-send-clause-reason : goal.returns-in_err-send-clause-reason
 returns-in_err-send-clause-reason c =
-    let h = c.requires.1 in
-    c.give_back.ensures.reason ∙ named-reason c.args.depot.now c.args.world.now c.take_named.new.self h.forest h.stands c.args.name.now c.take_named.result
-    (c.take_named.ensures.takes h.forest h.stands)
+    c.give_back.ensures.reason ∙ taken-reason c.args.depot.now c.args.world.now c.take_named.new.self c.requires c.args.name.now c.take_named.result c.take_named.ensures.takes
 
 pub returns-clause-told : goal.returns-clause-told
 returns-clause-told c = c.give_back.ensures.told ∙ c.take_named.ensures.told

@@ -9,7 +9,7 @@ use Rattle.drive_script.specs.Script.{give}
 use Rattle.drive_script.proofs.Bringing.{brings-lent, gives-failed, gives-none, gives-so}
 use Rattle.drive_script.proofs.Driving.{breaks-first, looks-at-none, looks-not}
 use Rattle.drive_script.proofs.Lent.{named-lent}
-use Rattle.drive_script.proofs.Reasons.{named-reason}
+use Rattle.drive_script.proofs.Reasons.{taken-reason}
 use Rattle.drive_script.proofs.driver.give.Goals as goal
 
 pub returns-in_err-page-clause-drives : goal.returns-in_err-page-clause-drives
@@ -68,27 +68,19 @@ returns-clause-drives c s h keeps =
 
 pub returns-in_err-lease-clause-reason : goal.returns-in_err-lease-clause-reason
 returns-in_err-lease-clause-reason c =
-    let h = c.requires.1 in
-    named-reason c.args.depot.now c.args.world.now c.take_named.new.self h.forest h.stands c.args.name.now c.take_named.result
-    (c.take_named.ensures.takes h.forest h.stands)
+    taken-reason c.args.depot.now c.args.world.now c.take_named.new.self c.requires c.args.name.now c.take_named.result c.take_named.ensures.takes
 
 pub returns-in_default-2-clause-reason : goal.returns-in_default-2-clause-reason
 returns-in_default-2-clause-reason c =
-    let h = c.requires.1 in
-    named-reason c.args.depot.now c.args.world.now c.take_named.new.self h.forest h.stands c.args.name.now c.take_named.result
-    (c.take_named.ensures.takes h.forest h.stands)
+    taken-reason c.args.depot.now c.args.world.now c.take_named.new.self c.requires c.args.name.now c.take_named.result c.take_named.ensures.takes
 
 pub returns-in_err-arrived-clause-reason : goal.returns-in_err-arrived-clause-reason
 returns-in_err-arrived-clause-reason c =
-    let h = c.requires.1 in
-    c.give_back.ensures.reason ∙ named-reason c.args.depot.now c.args.world.now c.take_named.new.self h.forest h.stands c.args.name.now c.take_named.result
-    (c.take_named.ensures.takes h.forest h.stands)
+    c.give_back.ensures.reason ∙ taken-reason c.args.depot.now c.args.world.now c.take_named.new.self c.requires c.args.name.now c.take_named.result c.take_named.ensures.takes
 
 pub returns-clause-reason : goal.returns-clause-reason
 returns-clause-reason c =
-    let h = c.requires.1 in
-    c.give_back.ensures.reason ∙ named-reason c.args.depot.now c.args.world.now c.take_named.new.self h.forest h.stands c.args.name.now c.take_named.result
-    (c.take_named.ensures.takes h.forest h.stands)
+    c.give_back.ensures.reason ∙ taken-reason c.args.depot.now c.args.world.now c.take_named.new.self c.requires c.args.name.now c.take_named.result c.take_named.ensures.takes
 
 pub returns-in_err-arrived-clause-told : goal.returns-in_err-arrived-clause-told
 returns-in_err-arrived-clause-told c = c.give_back.ensures.told ∙ c.take_named.ensures.told

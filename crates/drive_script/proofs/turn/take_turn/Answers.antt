@@ -8,7 +8,7 @@ use Rattle.drive_script.specs.declared.turn.TurnOutcome.{TurnOutcome}
 use Rattle.drive_script.specs.Turned.{EndsTurn}
 use Rattle.drive_script.proofs.Driving.{made-none}
 use Rattle.drive_script.proofs.Lent.{named-kept, named-lent, named-none}
-use Rattle.drive_script.proofs.Reasons.{named-reason}
+use Rattle.drive_script.proofs.Reasons.{taken-reason}
 use Rattle.drive_script.proofs.turn.take_turn.Goals as goal
 
 pub returns-in_err-lease-clause-turns : goal.returns-in_err-lease-clause-turns
@@ -33,21 +33,15 @@ returns-in-None-clause-turns g c t h =
 
 pub returns-in_err-lease-clause-reason : goal.returns-in_err-lease-clause-reason
 returns-in_err-lease-clause-reason g c =
-    let h = c.requires.1 in
-    named-reason c.args.depot.now c.args.world.now c.take_named.new.self h.forest h.stands c.args.name.now c.take_named.result
-    (c.take_named.ensures.takes h.forest h.stands)
+    taken-reason c.args.depot.now c.args.world.now c.take_named.new.self c.requires c.args.name.now c.take_named.result c.take_named.ensures.takes
 
 pub returns-in-Some-clause-reason : goal.returns-in-Some-clause-reason
 returns-in-Some-clause-reason g c =
-    let h = c.requires.1 in
-    c.run_turn.ensures.reason ∙ named-reason c.args.depot.now c.args.world.now c.take_named.new.self h.forest h.stands c.args.name.now c.take_named.result
-    (c.take_named.ensures.takes h.forest h.stands)
+    c.run_turn.ensures.reason ∙ taken-reason c.args.depot.now c.args.world.now c.take_named.new.self c.requires c.args.name.now c.take_named.result c.take_named.ensures.takes
 
 pub returns-in-None-clause-reason : goal.returns-in-None-clause-reason
 returns-in-None-clause-reason g c =
-    let h = c.requires.1 in
-    named-reason c.args.depot.now c.args.world.now c.take_named.new.self h.forest h.stands c.args.name.now c.take_named.result
-    (c.take_named.ensures.takes h.forest h.stands)
+    taken-reason c.args.depot.now c.args.world.now c.take_named.new.self c.requires c.args.name.now c.take_named.result c.take_named.ensures.takes
 
 pub run_turn-requires-clause-lent : goal.run_turn-requires-clause-lent
 run_turn-requires-clause-lent g c =

@@ -21,14 +21,26 @@ broken_rule-requires-clause-not_empty c = rw c.deref.ensures.value (all_not_empt
 pub returns-in-Some-clause-refuses : goal.returns-in-Some-clause-refuses
 returns-in-Some-clause-refuses c =
     place_broken c.args.bytes.now c.args.ram_pages c.in_ok-segments.segments.items c.in_ok-header.header.entry c.in-Some.rule
-    (record { unbroken = c.in_ok-header.ensures.unbroken; entered = c.in_ok-header.ensures.header.entry; placed = c.in_ok-segments.ensures.placed; rising = c.in_ok-segments.ensures.rising; fit = c.in_ok-segments.ensures.fit })
+    (record {
+      unbroken = c.in_ok-header.ensures.unbroken;
+      entered = c.in_ok-header.ensures.header.entry;
+      placed = c.in_ok-segments.ensures.placed;
+      rising = c.in_ok-segments.ensures.rising;
+      fit = c.in_ok-segments.ensures.fit;
+    })
     (rw c.deref.ensures.value at (sym c.in-Some.ensures))
 
 pub place-requires : goal.place-requires
 place-requires c =
     let may =
     may_place c.args.bytes.now c.args.ram_pages c.in_ok-segments.segments.items c.in_ok-header.header.entry
-    (record { unbroken = c.in_ok-header.ensures.unbroken; entered = c.in_ok-header.ensures.header.entry; placed = c.in_ok-segments.ensures.placed; rising = c.in_ok-segments.ensures.rising; fit = c.in_ok-segments.ensures.fit })
+    (record {
+      unbroken = c.in_ok-header.ensures.unbroken;
+      entered = c.in_ok-header.ensures.header.entry;
+      placed = c.in_ok-segments.ensures.placed;
+      rising = c.in_ok-segments.ensures.rising;
+      fit = c.in_ok-segments.ensures.fit;
+    })
     (rw c.deref.ensures.value at (sym c.in_default.ensures)) in
     rw c.deref-2.ensures.value (record {
       least = c.requires.least;
@@ -43,6 +55,12 @@ pub returns-clause-loads : goal.returns-clause-loads
 returns-clause-loads c =
     let may =
     may_place c.args.bytes.now c.args.ram_pages c.in_ok-segments.segments.items c.in_ok-header.header.entry
-    (record { unbroken = c.in_ok-header.ensures.unbroken; entered = c.in_ok-header.ensures.header.entry; placed = c.in_ok-segments.ensures.placed; rising = c.in_ok-segments.ensures.rising; fit = c.in_ok-segments.ensures.fit })
+    (record {
+      unbroken = c.in_ok-header.ensures.unbroken;
+      entered = c.in_ok-header.ensures.header.entry;
+      placed = c.in_ok-segments.ensures.placed;
+      rising = c.in_ok-segments.ensures.rising;
+      fit = c.in_ok-segments.ensures.fit;
+    })
     (rw c.deref.ensures.value at (sym c.in_default.ensures)) in
     may.loads ∙ ap Ok (sym (rw c.deref-2.ensures.value at c.in_ok-place.ensures))

@@ -4,7 +4,8 @@ use Rattle.flat_memory.specs.Flat.{put_bytes}
 use Rattle.page_frames.specs.Tables.{laid_over}
 use Rattle.elf_load.specs.Elf.{end_of}
 use Rattle.elf_load.specs.Image.{held_pages, is_held}
-use Rattle.elf_load.specs.declared.image.TheConstants.{RAM_BASE, PAGE_SIZE}
+use Rattle.elf_load.specs.declared.image.TheConstants.{RAM_BASE}
+use Rattle.page_frames.specs.declared.page.TheConstants.{PAGE_SIZE}
 use Rattle.elf_load.proofs.PutSoFar.{so_far_first, so_far_last, so_far_next}
 use Rattle.elf_load.proofs.RamPages.{AreSet, flag_more}
 use Rattle.elf_load.proofs.memory.put_segment.Goals as goal

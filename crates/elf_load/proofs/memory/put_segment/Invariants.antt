@@ -1,5 +1,5 @@
 use Rattle.std.proofs.Common.{◌+◌, ◌/◌, ◌≤◌}
-use Rattle.elf_load.specs.declared.image.TheConstants.{PAGE_SIZE}
+use Rattle.page_frames.specs.declared.page.TheConstants.{PAGE_SIZE}
 use Rattle.elf_load.proofs.PutSoFar.{IsPutSoFar}
 use Rattle.elf_load.proofs.memory.put_segment.Given as goal
 

@@ -35,7 +35,8 @@ returns-in_default-deliver-clause-fetches g c =
     let s = c.loop-waiting.invariant in (
       s.f.asked,
       s.grown,
-      inr (inl (stops _ _ _ _ _ _ _ _ _ _ _ _ _ _ _ _ _ _ _ _ c.next-fate.result c.len.result s (c.len.ensures ∙ c.loop-waiting.waiting.ok.0) c.next-fate.ensures.tells c.in_default-deliver.ensures.err)),
+      inr (inl (stops _ _ _ _ _ _ _ _ _ _ _ _ _ _ _ _ _ _ _ _ c.next-fate.result c.len.result s (c.len.ensures ∙ c.loop-waiting.waiting.ok.0)
+          c.next-fate.ensures.tells c.in_default-deliver.ensures.err)),
     )
 
 pub returns-in_default-deliver-clause-key : goal.returns-in_default-deliver-clause-key

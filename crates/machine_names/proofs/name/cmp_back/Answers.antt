@@ -15,8 +15,10 @@ returns-then-is_ne c =
     let before = back_cmp (take begin left) (take begin right) in
     let parts = run-back left right c.split_at.result.1.now c.split_at-in-runs.result.1.now begin rest (omega arith)
     (omega (arith, c.requires.left, c.runs.invariant.within)) (omega (arith, c.requires.right, c.runs.invariant.within))
-    (last-of-run left c.run_before-ours.result.now c.split_at.result.1.now rest len (omega (arith, c.min-len.ensures)) c.run_before-ours.ensures.most c.run_before-ours.ensures.run c.split_at.ensures.back)
-    (last-of-run right c.run_before-theirs.result.now c.split_at-in-runs.result.1.now rest len (omega (arith, c.min-len.ensures)) c.run_before-theirs.ensures.most c.run_before-theirs.ensures.run c.split_at-in-runs.ensures.back) in
+    (last-of-run left c.run_before-ours.result.now c.split_at.result.1.now rest len (omega (arith, c.min-len.ensures)) c.run_before-ours.ensures.most
+    c.run_before-ours.ensures.run c.split_at.ensures.back)
+    (last-of-run right c.run_before-theirs.result.now c.split_at-in-runs.result.1.now rest len (omega (arith, c.min-len.ensures))
+    c.run_before-theirs.ensures.most c.run_before-theirs.ensures.run c.split_at-in-runs.ensures.back) in
     decided c.cmp_run_back-order.result before (sym c.if-is_ne.ensures) ∙ ap (λ o. ordering_then o before) c.cmp_run_back-order.ensures
     ∙ sym parts ∙ sym c.runs.invariant.same
 
@@ -30,8 +32,10 @@ runs-preserved c =
     let before = back_cmp (take begin left) (take begin right) in
     let parts = run-back left right c.split_at.result.1.now c.split_at-in-runs.result.1.now begin rest (omega arith)
     (omega (arith, c.requires.left, c.runs.invariant.within)) (omega (arith, c.requires.right, c.runs.invariant.within))
-    (last-of-run left c.run_before-ours.result.now c.split_at.result.1.now rest len (omega (arith, c.min-len.ensures)) c.run_before-ours.ensures.most c.run_before-ours.ensures.run c.split_at.ensures.back)
-    (last-of-run right c.run_before-theirs.result.now c.split_at-in-runs.result.1.now rest len (omega (arith, c.min-len.ensures)) c.run_before-theirs.ensures.most c.run_before-theirs.ensures.run c.split_at-in-runs.ensures.back) in
+    (last-of-run left c.run_before-ours.result.now c.split_at.result.1.now rest len (omega (arith, c.min-len.ensures)) c.run_before-ours.ensures.most
+    c.run_before-ours.ensures.run c.split_at.ensures.back)
+    (last-of-run right c.run_before-theirs.result.now c.split_at-in-runs.result.1.now rest len (omega (arith, c.min-len.ensures))
+    c.run_before-theirs.ensures.most c.run_before-theirs.ensures.run c.split_at-in-runs.ensures.back) in
     record {
       within = omega (arith, c.runs.invariant.within);
       same =

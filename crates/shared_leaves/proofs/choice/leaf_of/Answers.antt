@@ -14,7 +14,8 @@ pub returns-then-not-contains-clause-made : goal.returns-then-not-contains-claus
 returns-then-not-contains-clause-made g c =
     let none : has true c.args.piece.now ≡ false = sym c.contains.ensures.value ∙ c.if-not-contains.true in
     let equal = all_unset c.args.set.now c.args.unset.now c.args.piece.now none ∙ ap (λ n. replicate n c.args.unset.now) c.told-piece in
-    IfOk-weaker c.equal_leaf.result _ _ (λ leaf kept. (c.requires.0, λ made is. kept_is c.equal_leaf.new.made (chosen c.args.set.now c.args.unset.now c.args.piece.now) made kept is ∙ equal)) c.equal_leaf.ensures.made
+    IfOk-weaker c.equal_leaf.result _ _
+    (λ leaf kept. (c.requires.0, λ made is. kept_is c.equal_leaf.new.made (chosen c.args.set.now c.args.unset.now c.args.piece.now) made kept is ∙ equal)) c.equal_leaf.ensures.made
 
 pub equal_leaf-requires-then-not-contains-2-clause-made : goal.equal_leaf-requires-then-not-contains-2-clause-made
 equal_leaf-requires-then-not-contains-2-clause-made g c =
@@ -26,12 +27,16 @@ pub returns-then-not-contains-2-clause-made : goal.returns-then-not-contains-2-c
 returns-then-not-contains-2-clause-made g c =
     let none : has false c.args.piece.now ≡ false = sym c.contains-2.ensures.value ∙ c.if-not-contains-2.true in
     let equal = all_set c.args.set.now c.args.unset.now c.args.piece.now none ∙ ap (λ n. replicate n c.args.set.now) c.told-piece in
-    IfOk-weaker c.equal_leaf-then-not-contains-2.result _ _ (λ leaf kept. (λ made is. kept_is c.equal_leaf-then-not-contains-2.new.made (chosen c.args.set.now c.args.unset.now c.args.piece.now) made kept is ∙ equal, c.requires.1)) c.equal_leaf-then-not-contains-2.ensures.made
+    IfOk-weaker c.equal_leaf-then-not-contains-2.result _ _
+    (λ leaf kept. (λ made is. kept_is c.equal_leaf-then-not-contains-2.new.made (chosen c.args.set.now c.args.unset.now c.args.piece.now) made kept is ∙ equal, c.requires.1))
+    c.equal_leaf-then-not-contains-2.ensures.made
 
 pub returns-then-not-contains-clause-after : goal.returns-then-not-contains-clause-after
 returns-then-not-contains-clause-after g c =
     let none : has true c.args.piece.now ≡ false = sym c.contains.ensures.value ∙ c.if-not-contains.true in
-    IfOk-weaker c.equal_leaf.result _ _ (λ leaf made. made-unset c.args.piece.now none c.args.made.now.set c.args.made.now.unset c.equal_leaf.new.made (chosen c.args.set.now c.args.unset.now c.args.piece.now) made) c.equal_leaf.ensures.made
+    IfOk-weaker c.equal_leaf.result _ _
+    (λ leaf made. made-unset c.args.piece.now none c.args.made.now.set c.args.made.now.unset c.equal_leaf.new.made (chosen c.args.set.now c.args.unset.now c.args.piece.now) made)
+    c.equal_leaf.ensures.made
 
 pub returns-then-not-contains-clause-cost : goal.returns-then-not-contains-clause-cost
 returns-then-not-contains-clause-cost g c =
@@ -49,7 +54,9 @@ pub returns-then-not-contains-2-clause-after : goal.returns-then-not-contains-2-
 returns-then-not-contains-2-clause-after g c =
     let some : has true c.args.piece.now ≡ true = sym c.contains.ensures.value ∙ c.if-not-contains.false in
     let all : has false c.args.piece.now ≡ false = sym c.contains-2.ensures.value ∙ c.if-not-contains-2.true in
-    IfOk-weaker c.equal_leaf-then-not-contains-2.result _ _ (λ leaf made. made-set c.args.piece.now some all c.args.made.now.unset c.args.made.now.set c.equal_leaf-then-not-contains-2.new.made (chosen c.args.set.now c.args.unset.now c.args.piece.now) made) c.equal_leaf-then-not-contains-2.ensures.made
+    IfOk-weaker c.equal_leaf-then-not-contains-2.result _ _
+    (λ leaf made. made-set c.args.piece.now some all c.args.made.now.unset c.args.made.now.set c.equal_leaf-then-not-contains-2.new.made
+    (chosen c.args.set.now c.args.unset.now c.args.piece.now) made) c.equal_leaf-then-not-contains-2.ensures.made
 
 pub returns-then-not-contains-2-clause-cost : goal.returns-then-not-contains-2-clause-cost
 returns-then-not-contains-2-clause-cost g c =

@@ -1,11 +1,9 @@
 use Rattle.std.proofs.Common.{refl}
-use Rattle.forest_tree.specs.Operations.{is_among}
-use Rattle.forest_tree.specs.Tree.{size, at_child, child_at, brood_of, without, at_brood, subtree, beyond}
-use Rattle.forest_tree.specs.Settle.{have_ended, endings, children_from, log_killed, step}
+use Rattle.forest_tree.specs.Tree.{subtree, beyond}
 use Rattle.forest_tree.specs.Projection.{map_tree}
-use Rattle.sibling_forest.specs.Talk.{queue, at_queue, emptied, boxed}
-use Rattle.sibling_forest.specs.Settle.{settle, settle_all, rests_at}
-use Rattle.sibling_forest.specs.Toy.{planned, told}
+use Rattle.sibling_forest.specs.Settle.{settle_all}
+use Rattle.sibling_forest.specs.Toy.{told}
+use Rattle.sibling_forest.proofs.Computing.{steps_compute}
 use Rattle.forest_history.specs.Places.{at_path, spots, advanced}
 use Rattle.forest_history.specs.Histories.{holding, without_name}
 use Rattle.talking_history.specs.Places.{spot_talks, may_run}
@@ -14,7 +12,7 @@ use Rattle.talking_history.specs.Histories.{Permits, record_after, replay, IsLeg
 use Rattle.talking_history.proofs.toy.toy_history_is_legal.Goals as goal
 
 pub returns : goal.returns
-unfolding is_among size at_child child_at brood_of without at_brood have_ended endings children_from log_killed step queue at_queue emptied boxed settle rests_at settle_all at_path subtree beyond spots spot_talks may_run advanced holding without_name Allows does Permits record_after replay IsLegal planned told map_tree
+unfolding steps_compute settle_all at_path subtree beyond spots spot_talks may_run advanced holding without_name Allows does Permits record_after replay IsLegal told map_tree
 returns c = record {
   legal = (
     (((refl, refl), refl), tt),

@@ -12,7 +12,7 @@ overflow_cast-result c =
 pub returns : goal.returns
 returns c =
     all_read c.args.version.now c.args.bytes.now c.words_at.result c.doubles_at.result c.words_at-2.result c.words_at-3.result c.csrs_at.result c.reservation_in.result c.status_in.result
-    c.buffer_in.result c.from_vec.result c.words_at.ensures c.doubles_at.ensures c.words_at-2.ensures c.entries_in.result c.words_at-3.ensures c.csrs_at.ensures
+    c.buffer_in.result c.in_ok-blank.blank c.words_at.ensures c.doubles_at.ensures c.words_at-2.ensures c.entries_in.result c.words_at-3.ensures c.csrs_at.ensures
     c.entries_in.ensures c.reservation_in.ensures c.status_in.ensures c.buffer_in.ensures (search rules)
 
 pub entries_in-requires : goal.entries_in-requires

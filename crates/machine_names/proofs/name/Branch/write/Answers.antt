@@ -40,5 +40,14 @@ returns-clause-text c =
     let longer : length text ≡ 22 = omega (arith, long, c.write_digits-ticket.auto.buf, length-set digits (front - 1) 46) in
     let after_front : front - 1 + 1 ≡ front = omega (arith, child, c.write_digits-child.ensures.start) in
     let after_begin : begin - 1 + 1 ≡ begin = omega (arith, child, ticket, c.write_digits-child.ensures.start, c.write_digits-ticket.ensures.start) in
-    rw
-    (← c.self.view_is, drop-set text (begin - 1) 46 (omega (arith, longer, c.write_digits-child.ensures.start, c.write_digits-ticket.ensures.start)), after_begin, c.write_digits-ticket.ensures.written, drop-set digits (front - 1) 46 (omega (arith, long, c.write_digits-child.ensures.start)), after_front, c.write_digits-child.ensures.written, drop_all 22 c.args.bytes.now (omega (arith, c.told-bytes)), append-nil)
+    rw (
+      ← c.self.view_is,
+      drop-set text (begin - 1) 46 (omega (arith, longer, c.write_digits-child.ensures.start, c.write_digits-ticket.ensures.start)),
+      after_begin,
+      c.write_digits-ticket.ensures.written,
+      drop-set digits (front - 1) 46 (omega (arith, long, c.write_digits-child.ensures.start)),
+      after_front,
+      c.write_digits-child.ensures.written,
+      drop_all 22 c.args.bytes.now (omega (arith, c.told-bytes)),
+      append-nil,
+    )

@@ -20,7 +20,13 @@ returns-then-is_empty-clause-value g c =
 
 pub returns-then-is_empty-clause-cost : goal.returns-then-is_empty-clause-cost
 unfolding choice_steps
-returns-then-is_empty-clause-cost g c = omega (arith, ap (pieces_steps no_leaf) c.as_chunks.ensures.front, c.in_ok-list.ensures.cost, c.as_chunks.ensures.back_len, eqb-true (length c.as_chunks.result.1.now) 0 (sym c.is_empty.ensures ∙ c.if-is_empty.true))
+returns-then-is_empty-clause-cost g c = omega (
+  arith,
+  ap (pieces_steps no_leaf) c.as_chunks.ensures.front,
+  c.in_ok-list.ensures.cost,
+  c.as_chunks.ensures.back_len,
+  eqb-true (length c.as_chunks.result.1.now) 0 (sym c.is_empty.ensures ∙ c.if-is_empty.true),
+)
 
 pub returns-then-is_empty-clause-most : goal.returns-then-is_empty-clause-most
 unfolding choice_steps

@@ -37,7 +37,8 @@ returns g c =
         value =
             rw (← c.self.view_is)
             (IfOk-weaker c.entry_mut.result _ _
-            (λ entry read. entry_read c.self.inside.len c.self.inside.leaves.items c.args.i c.self.invariant (rw c.self.view_is c.requires) c.index_mut.result.now c.index_mut.ensures.value entry.now read)
+            (λ entry read. entry_read c.self.inside.len c.self.inside.leaves.items c.args.i c.self.invariant (rw c.self.view_is c.requires)
+            c.index_mut.result.now c.index_mut.ensures.value entry.now read)
             c.entry_mut.ensures.value);
       },
     )

@@ -1,4 +1,4 @@
-use Rattle.std.proofs.Common.{◌≡◌, ◌+◌, ◌-◌, ◌%◌, length, take, drop, ◌∷◌, [], ◌++◌, refl, ap, ◌∙◌, arith}
+use Rattle.std.proofs.Common.{◌-◌, ◌%◌, take, drop, ◌++◌, refl, ap, ◌∙◌, arith}
 use Rattle.shared_leaves.specs.declared.leaf.TheConstants.{LEAF_ENTRIES}
 use Rattle.shared_leaves.proofs.LeafLemmas.{followed, length-front, length-last}
 use Rattle.shared_leaves.proofs.list.SharedList.followed_by.Goals as goal

@@ -24,14 +24,33 @@ leaves-preserved g c =
       parts =
           c.leaves.invariant.parts ∙ ap (λ left. list ++ left) c.next_entries.ensures.parts
           ∙ sym (append_assoc list leaf rest) ∙ ap (λ front. front ++ rest) (sym pushed);
-      full = λ some. omega (arith, some, full, ap length pushed, length-append list leaf, c.next_entries.ensures.most, ap length c.next_entries.ensures.parts, length-append leaf rest, c.next_entries.new.left.rest.ok.0);
+      full = λ some. omega (
+        arith,
+        some,
+        full,
+        ap length pushed,
+        length-append list leaf,
+        c.next_entries.ensures.most,
+        ap length c.next_entries.ensures.parts,
+        length-append leaf rest,
+        c.next_entries.new.left.rest.ok.0,
+      );
     }
 
 pub leaves-smaller : goal.leaves-smaller
 leaves-smaller g c =
     let leaf = c.next_entries.result.items in
     let rest = into_iter_items c.next_entries.new.left in
-    omega (arith, c.leaves-test.true, c.len.ensures, c.next_entries.ensures.most, ap length c.next_entries.ensures.parts, length-append leaf rest, c.leaves.entries.rest.ok.0, c.next_entries.new.left.rest.ok.0)
+    omega (
+      arith,
+      c.leaves-test.true,
+      c.len.ensures,
+      c.next_entries.ensures.most,
+      ap length c.next_entries.ensures.parts,
+      length-append leaf rest,
+      c.leaves.entries.rest.ok.0,
+      c.next_entries.new.left.rest.ok.0,
+    )
 
 pub returns : goal.returns
 returns g c =

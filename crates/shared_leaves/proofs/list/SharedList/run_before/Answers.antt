@@ -1,4 +1,4 @@
-use Rattle.std.proofs.Common.{◌≡◌, ◌-◌, ◌*◌, ◌/◌, ◌≤◌, ap, ap₂, drop, length, length-drop, length-take, sym, take, take-take, ◌∙◌, arith}
+use Rattle.std.proofs.Common.{◌≡◌, ◌-◌, ◌*◌, ◌/◌, ◌≤◌, ap, ap₂, drop, length, length-drop, length-take, take, take-take, ◌∙◌, arith}
 use Rattle.shared_leaves.proofs.list.SharedList.run_before.Goals as goal
 
 pub split_at-requires : goal.split_at-requires

@@ -32,4 +32,5 @@ returns-clause-leaves g c =
     let turn = c.requires.turn in
     let old = c.args.self.seat in
     let home = put_home old.me c.exchange.new.seat.me c.args.self.value c.of.result turn.out c.exchange.ensures.3 in
-    passed_leaves old c.fetch_add-number.new.seat c.args.note.now (passed_me c.exchange.new.seat.me c.fetch_add-number.new.seat.me old.me.0 c.args.self.value c.of.result c.args.note.now home c.of.ensures c.fetch_add-number.ensures.2)
+    passed_leaves old c.fetch_add-number.new.seat c.args.note.now
+    (passed_me c.exchange.new.seat.me c.fetch_add-number.new.seat.me old.me.0 c.args.self.value c.of.result c.args.note.now home c.of.ensures c.fetch_add-number.ensures.2)

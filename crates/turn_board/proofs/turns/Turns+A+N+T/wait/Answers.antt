@@ -7,5 +7,6 @@ load-served-requires g c =
     let i = c.loop.invariant in (
       i.0 ∙ c.requires.here,
       search rules,
-      looks g.T.Kept.stands _ _ _ c.loop.seat.me.0 c.loop.seat.me.1 c.args.number (ap (λ m. m.0.about) i.2 ∙ c.requires.knows) (ap (λ m. m.0.number) i.2 ∙ c.requires.drawn) (ap (λ m. m.0.served) i.2 ∙ c.requires.idle),
+      looks g.T.Kept.stands _ _ _ c.loop.seat.me.0 c.loop.seat.me.1 c.args.number (ap (λ m. m.0.about) i.2 ∙ c.requires.knows)
+          (ap (λ m. m.0.number) i.2 ∙ c.requires.drawn) (ap (λ m. m.0.served) i.2 ∙ c.requires.idle),
     )

@@ -14,7 +14,7 @@ use Rattle.vm_cell.proofs.vm.Vm.run_with.Goals as goal
 pub loop-steps-init : goal.loop-steps-init
 loop-steps-init c =
     let epoch = c.epoch_after-epoch.ensures in
-    (IsRun-none c.args.self.now, omega arith, subst (λ e. Keeps (hart_in c.args.self.now) e c.args.slots.now) (sym epoch) c.requires.keeps, refl, omega (arith, epoch))
+    (IsRun-none c.args.self.now, omega arith, subst (λ e. Keeps (hart_in c.args.self.now) e c.args.slots.now) (sym epoch) c.requires.keeps, refl, omega (arith, epoch), c.requires.live)
 
 -- what is kept after steps that are made by themselves
 kept-on : (before after : KeyedMachine) (is_left : Bool) (epoch next made : ℕ) (slots : List KeptInstruction) → before.machine.ending ≡ None
@@ -31,12 +31,12 @@ kept-on before after false epoch next made slots live run some past one told sam
 pub loop-steps-preserved : goal.loop-steps-preserved
 loop-steps-preserved c =
     let before = c.make_fast-made.new.self in
-    let after = c.step_some.new.self in
+    let after = c.step_alone.new.self in
     let part = c.in_ok-part.part in
     let is : IsPart c.count_alone-count.result before after part = c.in_ok-part.ensures.ok in
     let within : part.steps ≤ c.count_alone-count.result = is.within in
     let none : part.stop ≡ None = grind arith in
-    let some : 1 ≤ part.steps = part-moves _ before after part c.count_alone-count.ensures.some c.make_fast-made.ensures.live none is in
+    let some : 1 ≤ part.steps = part-moves _ before after part c.count_alone-count.ensures.some none is in
     let run = IsRun-join _ _ _ _ _ c.loop-steps.invariant.0 c.make_fast-made.ensures.run in
     let counted = c.make_fast-made.ensures.run.counted in
     let kept =
@@ -48,19 +48,20 @@ loop-steps-preserved c =
       kept.0,
       c.make_fast-made.ensures.same_length ∙ c.loop-steps.invariant.3,
       kept.1,
+      (is.all none).0,
     )
 
 pub loop-steps-smaller : goal.loop-steps-smaller
 loop-steps-smaller c =
     let part = c.in_ok-part.part in
     let none : part.stop ≡ None = grind arith in
-    let some : 1 ≤ part.steps = part-moves _ _ _ part c.count_alone-count.ensures.some c.make_fast-made.ensures.live none c.in_ok-part.ensures.ok in
-    omega (arith, some, c.loop-steps-test.true)
+    let some : 1 ≤ part.steps = part-moves _ _ _ part c.count_alone-count.ensures.some none c.in_ok-part.ensures.ok in
+    omega (arith, some, c.loop-steps-test)
 
 pub returns-in_err-part-clause-err : goal.returns-in_err-part-clause-err
 returns-in_err-part-clause-err c =
     let run = IsRun-join _ _ _ _ _ c.loop-steps.invariant.0 c.make_fast-made.ensures.run in
-    let cut : IsCut c.args.most c.args.self.now c.step_some.new.self =
+    let cut : IsCut c.args.most c.args.self.now c.step_alone.new.self =
     cut-later _ _ _ _ _ run (omega (arith, c.make_fast-made.ensures.most)) (cut-less _ _ _ _ c.count_alone-count.ensures.within c.in_err-part.ensures.err) in
     search rules
 
@@ -70,18 +71,10 @@ returns-then-is_some-clause-ok c =
     let is = part-alone _ _ _ _ c.in_ok-part.part c.count_alone-count.ensures.within (λ none made. absurd (grind arith)) c.in_ok-part.ensures.ok in
     parts-join _ _ _ _ _ c.in_ok-part.part _ run (omega (arith, c.make_fast-made.ensures.most)) is refl refl
 
-pub returns-else-is_none-clause-ok : goal.returns-else-is_none-clause-ok
-returns-else-is_none-clause-ok c = record {
+pub returns-clause-ok : goal.returns-clause-ok
+returns-clause-ok c = record {
   run = c.loop-steps.invariant.0;
   within = c.loop-steps.invariant.1;
   stops = tt;
-  all = λ none live. grind arith;
-}
-
-pub returns-after-loop-steps-clause-ok : goal.returns-after-loop-steps-clause-ok
-returns-after-loop-steps-clause-ok c = record {
-  run = c.loop-steps.invariant.0;
-  within = c.loop-steps.invariant.1;
-  stops = tt;
-  all = λ none live. omega (arith, c.loop-steps.invariant.1);
+  all = λ none. (c.loop-steps.invariant.5, omega (arith, c.loop-steps.invariant.1));
 }

@@ -1,15 +1,15 @@
-use Rattle.std.proofs.Common.{◌≡◌, ◌+◌, None, Some, rules, sym, ap, ◌∙◌, subst}
+use Rattle.std.proofs.Common.{◌≡◌, ◌+◌, ◌==◌, None, Some, rules, sym, ap, ◌∙◌, subst}
 use Rattle.fork_port.specs.declared.ending.Ending.TheVariants.{Exit}
 use Rattle.fork_port.specs.declared.handed.Handed.{Handed}
 use Rattle.forest_model.specs.Paged.{stalled_at}
 use Rattle.vm_hart.specs.Acts.{waits_for}
 use Rattle.vm_hart.specs.Keyed.{KeyedMachine, KeyedState, hart_in, machine_of, paged}
 use Rattle.vm_cell.specs.Steps.{GoesOn}
-use Rattle.vm_cell.specs.declared.vm.Stepped.TheVariants.{Call, Stall}
+use Rattle.vm_cell.specs.declared.vm.Stop.TheVariants.{Call, End, Page}
 use Rattle.vm_cell.proofs.Runs.{rises_retired, rises_exited, funded_retired, funded_exited, counted_step, counted_exit}
 use Rattle.vm_hart.proofs.Stepping.{stalls_live}
 use Rattle.vm_hart.proofs.Stepping.{goes_exited, goes_interrupted, goes_retired, goes_trapped}
-use Rattle.vm_cell.proofs.Stepping.{goes_asked, goes_stalled}
+use Rattle.vm_cell.proofs.Stepping.{goes_asked, goes_stalled, goes_told}
 use Rattle.vm_cell.proofs.vm.Vm.step_live.Goals as goal
 
 pub invariant_of-self-in-Retired : goal.invariant_of-self-in-Retired
@@ -39,39 +39,47 @@ pub returns-in-Stalled-clause-goes : goal.returns-in-Stalled-clause-goes
 returns-in-Stalled-clause-goes c =
     let v : KeyedMachine = machine_of c.self.inside.hart c.self.inside.steps c.self.inside.limit c.self.inside.ending in
     let acts = rw c.in-Stalled.is at c.in_ok-page.ensures.acts in
-    subst (λ (n : KeyedMachine). GoesOn n (machine_of c.act.new.self c.self.inside.steps c.self.inside.limit c.self.inside.ending) (Some (Stall c.in-Stalled.page))) c.self.view_is
+    subst (λ (n : KeyedMachine). GoesOn n (machine_of c.act.new.self c.self.inside.steps c.self.inside.limit c.self.inside.ending) (Some (Page c.in-Stalled.page))) c.self.view_is
     (goes_stalled v c.act.new.self (rw (← c.self.view_is) at c.requires) c.in-Stalled.page acts)
 
 pub returns-in-Trapped-clause-goes : goal.returns-in-Trapped-clause-goes
 returns-in-Trapped-clause-goes c =
     let v : KeyedMachine = machine_of c.self.inside.hart c.self.inside.steps c.self.inside.limit c.self.inside.ending in
     let acts = rw c.in-Trapped.is at c.in_ok-page.ensures.acts in
-    subst (λ (n : KeyedMachine). GoesOn n (machine_of c.trap.new.self c.count_step.new.steps c.self.inside.limit c.count_step.new.ending) None) c.self.view_is
-    (goes_trapped v c.act.new.self (rw (← c.self.view_is) at c.requires) _ _ _ c.count_step.ensures.counted c.count_step.ensures.ends c.in-Trapped.cause c.in-Trapped.value acts c.trap.ensures)
+    let live = rw (← c.self.view_is) at c.requires in
+    let counted = c.count_step in
+    goes_told c.args.self.now v (machine_of c.trap.new.self counted.new.steps c.self.inside.limit counted.new.ending) (c.self.inside.steps + 1 == c.self.inside.limit) counted.result
+    c.self.view_is live counted.ensures.ends counted.ensures.stop
+    (goes_trapped v c.act.new.self live _ _ _ counted.ensures.counted counted.ensures.ends c.in-Trapped.cause c.in-Trapped.value acts c.trap.ensures)
 
 pub returns-in-Interrupted-clause-goes : goal.returns-in-Interrupted-clause-goes
 returns-in-Interrupted-clause-goes c =
     let v : KeyedMachine = machine_of c.self.inside.hart c.self.inside.steps c.self.inside.limit c.self.inside.ending in
     let acts = rw c.in-Interrupted.is at c.in_ok-page.ensures.acts in
     let counted = c.count_step-in-Interrupted in
-    subst (λ (n : KeyedMachine). GoesOn n (machine_of c.trap-in-Interrupted.new.self counted.new.steps c.self.inside.limit counted.new.ending) None) c.self.view_is
-    (goes_interrupted v c.act.new.self (rw (← c.self.view_is) at c.requires) _ _ _ counted.ensures.counted counted.ensures.ends acts c.trap-in-Interrupted.ensures)
+    let live = rw (← c.self.view_is) at c.requires in
+    goes_told c.args.self.now v (machine_of c.trap-in-Interrupted.new.self counted.new.steps c.self.inside.limit counted.new.ending) (c.self.inside.steps + 1 == c.self.inside.limit)
+    counted.result c.self.view_is live counted.ensures.ends counted.ensures.stop
+    (goes_interrupted v c.act.new.self live _ _ _ counted.ensures.counted counted.ensures.ends acts c.trap-in-Interrupted.ensures)
 
 pub returns-in-Retired-clause-goes : goal.returns-in-Retired-clause-goes
 returns-in-Retired-clause-goes c =
     let v : KeyedMachine = machine_of c.self.inside.hart c.self.inside.steps c.self.inside.limit c.self.inside.ending in
     let acts = rw c.in-Retired.is at c.in_ok-page.ensures.acts in
-    subst (λ (n : KeyedMachine). GoesOn n (machine_of c.count.new.self c.count_step-in-Retired.new.steps c.self.inside.limit c.count_step-in-Retired.new.ending) None) c.self.view_is
-    (goes_retired v c.act.new.self (rw (← c.self.view_is) at c.requires) _ _ _ c.count_step-in-Retired.ensures.counted c.count_step-in-Retired.ensures.ends c.in-Retired.written acts c.count.ensures)
+    let counted = c.count_step-in-Retired in
+    let live = rw (← c.self.view_is) at c.requires in
+    goes_told c.args.self.now v (machine_of c.count.new.self counted.new.steps c.self.inside.limit counted.new.ending) (c.self.inside.steps + 1 == c.self.inside.limit) counted.result
+    c.self.view_is live counted.ensures.ends counted.ensures.stop
+    (goes_retired v c.act.new.self live _ _ _ counted.ensures.counted counted.ensures.ends c.in-Retired.written acts c.count.ensures)
 
 pub returns-in-Exited-clause-goes : goal.returns-in-Exited-clause-goes
 returns-in-Exited-clause-goes c =
     let v : KeyedMachine = machine_of c.self.inside.hart c.self.inside.steps c.self.inside.limit c.self.inside.ending in
     let acts = rw c.in-Exited.is at c.in_ok-page.ensures.acts in
     let value = c.in-Exited.value in
-    subst (λ (n : KeyedMachine). GoesOn n (machine_of c.count-in-Exited.new.self (c.self.inside.steps + 1) c.self.inside.limit (Some (Exit value c.handed-bytes.result))) None) c.self.view_is
-    (subst (λ (h : Handed). GoesOn v (machine_of c.count-in-Exited.new.self (c.self.inside.steps + 1) c.self.inside.limit (Some (Exit value h))) None) (sym c.handed-bytes.ensures)
-    (goes_exited v c.act.new.self (rw (← c.self.view_is) at c.requires) value c.in-Exited.address c.in-Exited.count _ acts c.count-in-Exited.ensures))
+    subst (λ (n : KeyedMachine). GoesOn n (machine_of c.count-in-Exited.new.self (c.self.inside.steps + 1) c.self.inside.limit (Some (Exit value c.handed-bytes.result))) (Some End)) c.self.view_is
+    (subst (λ (h : Handed). GoesOn v (machine_of c.count-in-Exited.new.self (c.self.inside.steps + 1) c.self.inside.limit (Some (Exit value h))) (Some End)) (sym c.handed-bytes.ensures)
+    (goes_exited v c.act.new.self (rw (← c.self.view_is) at c.requires) value c.in-Exited.address c.in-Exited.count _ acts c.count-in-Exited.ensures, λ none. absurd (cc)))
 
 pub returns-in-Asked-clause-goes : goal.returns-in-Asked-clause-goes
 returns-in-Asked-clause-goes c =

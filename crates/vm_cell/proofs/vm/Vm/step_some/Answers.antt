@@ -1,42 +1,20 @@
-use Rattle.std.proofs.Common.{◌≡◌, None, arith, refl, rules}
-use Rattle.vm_cell.specs.Parts.{IsCut}
-use Rattle.vm_hart.proofs.Runs.{IsRun-none, IsRun-advance}
-use Rattle.vm_cell.proofs.Runs.{cut-here, part-stopped}
+use Rattle.std.proofs.Common.{◌≡◌, ◌+◌, ◌-◌, ap, arith, inl, inr, rules, subst}
+use Rattle.std.proofs.lemmas.Bool.{cases_lt}
+use Rattle.vm_hart.specs.Keyed.{KeyedMachine}
+use Rattle.vm_hart.specs.Runs.{IsRun}
+use Rattle.vm_cell.specs.Parts.{IsMadeUntil}
+use Rattle.vm_cell.proofs.Runs.{all-made, part-until}
 use Rattle.vm_cell.proofs.vm.Vm.step_some.Goals as goal
 
-pub loop-steps-init : goal.loop-steps-init
-loop-steps-init c = (IsRun-none c.args.self.now, omega arith)
-
-pub loop-steps-preserved : goal.loop-steps-preserved
-loop-steps-preserved c =
-    let goes = rw c.in_default.is at c.in_ok-why.ensures.goes in
-    (IsRun-advance _ _ _ _ c.loop-steps.invariant.0 goes.0 goes.1 goes.2, omega arith)
-
-pub returns-in_err-why-clause-err : goal.returns-in_err-why-clause-err
-returns-in_err-why-clause-err c =
-    let live : c.loop-steps.self.machine.ending ≡ None = grind arith in
-    let cut : IsCut c.args.most c.args.self.now c.step_live.new.self =
-    cut-here _ _ _ _ _ c.loop-steps.invariant.0 c.in_err-why.ensures.err (omega arith) live c.in_err-why.ensures.here c.in_err-why.ensures.memory in
-    search rules
-
-pub returns-in-Some-clause-ok : goal.returns-in-Some-clause-ok
-returns-in-Some-clause-ok c =
-    let live : c.loop-steps.self.machine.ending ≡ None = grind arith in
-    let goes = rw c.in-Some.is at c.in_ok-why.ensures.goes in
-    part-stopped _ _ _ _ _ c.in-Some.why _ c.loop-steps.invariant.0 (omega arith) live goes refl refl
-
-pub returns-else-is_none-clause-ok : goal.returns-else-is_none-clause-ok
-returns-else-is_none-clause-ok c = record {
-  run = c.loop-steps.invariant.0;
-  within = c.loop-steps.invariant.1;
-  stops = tt;
-  all = λ none live. grind arith;
-}
-
-pub returns-after-loop-steps-clause-ok : goal.returns-after-loop-steps-clause-ok
-returns-after-loop-steps-clause-ok c = record {
-  run = c.loop-steps.invariant.0;
-  within = c.loop-steps.invariant.1;
-  stops = tt;
-  all = λ none live. omega (arith, c.loop-steps.invariant.1);
-}
+pub returns-clause-ok : goal.returns-clause-ok
+returns-clause-ok c =
+    let old = c.args.self.now in
+    let new = c.step_until.new.self in
+    let before : c.self.inside.steps ≡ old.machine.steps = ap (λ (v : KeyedMachine). v.machine.steps) c.self.view_is in
+    let limit : c.self.inside.limit ≡ old.machine.limit = ap (λ (v : KeyedMachine). v.machine.limit) c.self.view_is in
+    let after : c.self-2.inside.steps ≡ new.machine.steps = ap (λ (v : KeyedMachine). v.machine.steps) c.self-2.view_is in
+    let is : IsMadeUntil (old.machine.steps + c.min-few.result) old new c.in_ok-stop.stop =
+    subst (λ n. IsMadeUntil (n + c.min-few.result) old new c.in_ok-stop.stop) before c.in_ok-stop.ensures.ok in
+    part-until c.args.most c.min-few.result old new _ (omega arith) is (omega (arith, before, after))
+    (λ live made. all-made c.args.most c.min-few.result old new is.run is.from c.in_ok-stop.ensures.within live (omega (arith, made, before, after))
+    (omega arith) (λ less. omega (arith, less, before, limit, c.min-few.ensures)))

@@ -3,7 +3,8 @@ use Rattle.std.proofs.lemmas.Bool.{eqb-true}
 use Rattle.rv_decode.specs.Kinds.{group_of}
 use Rattle.std.specs.Prelude.{slice_get}
 use Rattle.byteorder.specs.Endian.{little_from}
-use Rattle.elf_load.specs.declared.image.TheConstants.{RAM_BASE, PAGE_SIZE}
+use Rattle.elf_load.specs.declared.image.TheConstants.{RAM_BASE}
+use Rattle.page_frames.specs.declared.page.TheConstants.{PAGE_SIZE}
 use Rattle.guest_pmp.specs.declared.access.Access.TheVariants as right
 use Rattle.rv_exec.specs.Memory.{load_value, load_width}
 use Rattle.rv_traps.specs.Protection.{allows}

@@ -16,7 +16,7 @@ returns-clause-made g c =
     let is : IsTry c.args.self.now c.execute_fast-tried.new.self i tried =
     subst (λ j. IsTry c.args.self.now c.execute_fast-tried.new.self j tried) c.instr-instr.ensures c.execute_fast-tried.ensures.tried in
     subst (λ (h : KeyedState). MatchBool tried.is_made (IsFastStep c.args.self.now h) (h ≡ c.args.self.now)) (sym c.forget_stored.ensures.same)
-    (step-made c.args.self.now c.execute_fast-tried.new.self i tried.is_made (c.requires.coming.there c.index-slots-number.result) is.acts)
+    (step-made c.args.self.now c.execute_fast-tried.new.self i tried.is_made (c.requires.slot_at_pc.there c.index-slots-number.result) is.acts)
 
 pub returns-clause-keeps : goal.returns-clause-keeps
 returns-clause-keeps g c = λ epoch keeps.

@@ -1,5 +1,5 @@
 use Rattle.std.proofs.Common.{◌*◌, length, get_or, ap, ◌∙◌}
-use Rattle.elf_load.specs.declared.image.TheConstants.{PAGE_SIZE}
+use Rattle.page_frames.specs.declared.page.TheConstants.{PAGE_SIZE}
 use Rattle.guest_mem.specs.Ram.{Ram, cloned}
 use Rattle.image_depot.specs.Key.{image_of}
 use Rattle.vm_hart.proofs.Seeds.{length-cleared, reserved}

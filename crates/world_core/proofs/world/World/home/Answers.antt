@@ -1,11 +1,10 @@
 use Rattle.world_core.specs.Images.{AreOfImages, HaveImages}
+use Rattle.world_core.proofs.AtName.{found-by, writes-by}
 use Rattle.world_core.proofs.Images.{written}
-use Rattle.std.proofs.Common.{◌≡◌, Bool, true, refl, sym, ap, ◌∙◌, subst}
-use Rattle.std.specs.BTreeMap.{WritesThrough, get_by}
+use Rattle.std.proofs.Common.{◌≡◌, Bool, true, refl, sym, ap, subst}
 use Rattle.std.specs.Option.{IfSome}
 use Rattle.forest_tree.specs.Tree.{Path}
 use Rattle.forest_history.specs.Places.{home, placed}
-use Rattle.machine_names.specs.NameOrder.{path_cmp}
 use Rattle.world_core.specs.declared.cell.Cell.{Cell}
 use Rattle.world_core.specs.declared.cell.State.TheVariants.{Home}
 use Rattle.world_core.specs.Listed.{IsListed, IsCovered}
@@ -19,10 +18,9 @@ use Rattle.world_core.proofs.world.World.home.Goals.{then-not-cell, else-not-cel
 pub returns-clause-home : goal.returns-clause-home
 returns-clause-home c depot f a between same of_depot lives sound =
     let name : Path = c.args.turn.name in
-    let found = c.in-Some.ensures.value ∙ ap (λ n. get_by (path_cmp n) c.args.self.now.cells) c.name.ensures in
+    let found = found-by c.args.self.now.cells c.name.ensures c.in-Some.ensures.value in
     let after : Bool → Cell = λ listed. record c.in-Some.cell.now { state = Home c.args.vm; is_listed = listed } in
-    let written = λ (cell : Cell). subst (λ n. WritesThrough path_cmp (path_cmp n) c.args.self.now.cells cell (c.get_mut.follows.lender cell))
-    c.name.ensures (c.get_mut.follows.holds cell) in (
+    let written = λ (cell : Cell). writes-by c.args.self.now.cells (c.get_mut.follows.lender cell) cell c.name.ensures (c.get_mut.follows.holds cell) in (
       refl,
       elim c.if-not-cell.branch [
         | then-not-cell w ↦
@@ -49,10 +47,9 @@ returns-in_default-clause-images c images h at = subst (HaveImages images) (sym 
 pub returns-clause-images : goal.returns-clause-images
 returns-clause-images c images h at =
     let name : Path = c.args.turn.name in
-    let found = c.in-Some.ensures.value ∙ ap (λ n. get_by (path_cmp n) c.args.self.now.cells) c.name.ensures in
+    let found = found-by c.args.self.now.cells c.name.ensures c.in-Some.ensures.value in
     let after : Bool → Cell = λ listed. record c.in-Some.cell.now { state = Home c.args.vm; is_listed = listed } in
-    let through = λ (cell : Cell). subst (λ n. WritesThrough path_cmp (path_cmp n) c.args.self.now.cells cell (c.get_mut.follows.lender cell))
-    c.name.ensures (c.get_mut.follows.holds cell) in
+    let through = λ (cell : Cell). writes-by c.args.self.now.cells (c.get_mut.follows.lender cell) cell c.name.ensures (c.get_mut.follows.holds cell) in
     let kept = λ (listed : Bool). written images c.args.self.now.cells (c.get_mut.follows.lender (after listed)) name c.in-Some.cell.now (after listed) found
     (through (after listed)) (λ was. record { state = at; broods = was.broods }) h in
     elim c.if-not-cell.branch [

@@ -1,7 +1,7 @@
 use Rattle.world_core.specs.Images.{HaveImages}
+use Rattle.world_core.proofs.AtName.{found-by, lent-by, writes-by}
 use Rattle.world_core.proofs.Images.{dropped, written, lent-key}
 use Rattle.std.proofs.Common.{Some, sym, ap, ◌∙◌, subst}
-use Rattle.std.specs.BTreeMap.{WritesThrough, get_by}
 use Rattle.fork_port.specs.declared.commands.Call.TheVariants.{Kill}
 use Rattle.forest_tree.specs.Operations.{kill}
 use Rattle.forest_tree.specs.Tree.{Tree, node}
@@ -9,8 +9,7 @@ use Rattle.forest_history.specs.Places.{Spot}
 use Rattle.forest_history.specs.Rows.{killed}
 use Rattle.forest_model.specs.Paged.{Paged}
 use Rattle.vm_cell.specs.Keyed.{KeyedMachine, paged}
-use Rattle.machine_names.specs.NameOrder.{path_cmp}
-use Rattle.world_core.specs.Lent.{Lent, IsLent, now_of}
+use Rattle.world_core.specs.Lent.{Lent, now_of}
 use Rattle.world_core.specs.Shows.{StandsAt}
 use Rattle.world_core.specs.Answers.{Answers}
 use Rattle.world_core.proofs.Calling.{found-here, gone-here, lent_out, same-image}
@@ -20,15 +19,15 @@ use Rattle.world_core.proofs.world.World.kill.Goals as goal
 pub returns-in_default-get_mut-clause-answers : goal.returns-in_default-get_mut-clause-answers
 returns-in_default-get_mut-clause-answers c depot f stands out_as of_depot =
     gone-here depot c.args.self.now _ f c.args.lease stands out_as
-    (c.in_default-get_mut.ensures.value ∙ ap (λ n. get_by (path_cmp n) c.args.self.now.cells) c.name.ensures)
+    (found-by c.args.self.now.cells c.name.ensures c.in_default-get_mut.ensures.value)
     (ap (λ cells. record c.args.self.now { cells = cells }) c.get_mut.follows.holds-at-none)
 
 pub kill-requires-clause-holds : goal.kill-requires-clause-holds
 kill-requires-clause-holds c =
     let lent = c.requires.lent in
     let h = found-here lent.0 c.args.self.now lent.1.0 c.args.lease (Kill c.in-Some-Kill.ticket) c.in-Some.cell.now lent.1.1 lent.1.2
-    (subst (λ (l : Lent). IsLent l.start l.ran l.now) c.lease.view_is c.lease.invariant.made) (ap Some (sym c.in-Some-Kill.field-0-is) ∙ c.in-Some-Kill.ensures)
-    (c.in-Some.ensures.value ∙ ap (λ n. get_by (path_cmp n) c.args.self.now.cells) c.name.ensures) in
+    (lent-by c.lease.view_is c.lease.invariant.made) (ap Some (sym c.in-Some-Kill.field-0-is) ∙ c.in-Some-Kill.ensures)
+    (found-by c.args.self.now.cells c.name.ensures c.in-Some.ensures.value) in
     let t : Tree (Spot Paged) = node (lent_out (now_of c.args.lease)) h.broods h.log in (
       lent.0,
       c.args.lease.name,
@@ -42,12 +41,11 @@ place-requires-clause-between c =
     let lent = c.requires.lent in
     let k = kill-called lent.0 c.args.self.now lent.1.0 c.args.lease c.in-Some-Kill.ticket c.in-Some.cell.now c.kill.new.self (c.get_mut.follows.lender c.kill.new.self)
     c.drop_below.new.cells _ _ (paged c.deref_mut.result.now) (paged c.kill.new.vm) lent.1.1 lent.1.2
-    (subst (λ (l : Lent). IsLent l.start l.ran l.now) c.lease.view_is c.lease.invariant.made) (ap Some (sym c.in-Some-Kill.field-0-is) ∙ c.in-Some-Kill.ensures)
-    (c.in-Some.ensures.value ∙ ap (λ n. get_by (path_cmp n) c.args.self.now.cells) c.name.ensures) (ap (λ (l : Lent). l.name) c.lease.view_is)
+    (lent-by c.lease.view_is c.lease.invariant.made) (ap Some (sym c.in-Some-Kill.field-0-is) ∙ c.in-Some-Kill.ensures)
+    (found-by c.args.self.now.cells c.name.ensures c.in-Some.ensures.value) (ap (λ (l : Lent). l.name) c.lease.view_is)
     (c.name-2.ensures ∙ ap (λ (l : Lent). l.name) c.lease.view_is)
     (ap paged c.deref_mut.ensures.value ∙ ap now_of c.lease.view_is)
-    (subst (λ n. WritesThrough path_cmp (path_cmp n) c.args.self.now.cells c.kill.new.self (c.get_mut.follows.lender c.kill.new.self)) c.name.ensures
-    (c.get_mut.follows.holds c.kill.new.self))
+    (writes-by c.args.self.now.cells (c.get_mut.follows.lender c.kill.new.self) c.kill.new.self c.name.ensures (c.get_mut.follows.holds c.kill.new.self))
     c.drop_below.ensures c.kill.ensures.place.1 c.kill.ensures.after (ap paged c.kill.ensures.vm) in (
       lent.0,
       lent.1.0,
@@ -62,12 +60,11 @@ pub returns-clause-answers : goal.returns-clause-answers
 returns-clause-answers c depot f stands out_as of_depot =
     let k = kill-called depot c.args.self.now f c.args.lease c.in-Some-Kill.ticket c.in-Some.cell.now c.kill.new.self (c.get_mut.follows.lender c.kill.new.self)
     c.drop_below.new.cells _ _ (paged c.deref_mut.result.now) (paged c.kill.new.vm) stands out_as
-    (subst (λ (l : Lent). IsLent l.start l.ran l.now) c.lease.view_is c.lease.invariant.made) (ap Some (sym c.in-Some-Kill.field-0-is) ∙ c.in-Some-Kill.ensures)
-    (c.in-Some.ensures.value ∙ ap (λ n. get_by (path_cmp n) c.args.self.now.cells) c.name.ensures) (ap (λ (l : Lent). l.name) c.lease.view_is)
+    (lent-by c.lease.view_is c.lease.invariant.made) (ap Some (sym c.in-Some-Kill.field-0-is) ∙ c.in-Some-Kill.ensures)
+    (found-by c.args.self.now.cells c.name.ensures c.in-Some.ensures.value) (ap (λ (l : Lent). l.name) c.lease.view_is)
     (c.name-2.ensures ∙ ap (λ (l : Lent). l.name) c.lease.view_is)
     (ap paged c.deref_mut.ensures.value ∙ ap now_of c.lease.view_is)
-    (subst (λ n. WritesThrough path_cmp (path_cmp n) c.args.self.now.cells c.kill.new.self (c.get_mut.follows.lender c.kill.new.self)) c.name.ensures
-    (c.get_mut.follows.holds c.kill.new.self))
+    (writes-by c.args.self.now.cells (c.get_mut.follows.lender c.kill.new.self) c.kill.new.self c.name.ensures (c.get_mut.follows.holds c.kill.new.self))
     c.drop_below.ensures c.kill.ensures.place.1 c.kill.ensures.after (ap paged c.kill.ensures.vm) in
     let p = c.place.ensures.placed depot f k.tree k.between k.is
     (same-image depot c.kill.new.vm c.args.lease
@@ -83,8 +80,8 @@ returns-clause-images c images h lent =
     c.place.ensures.images images
     (dropped images (c.get_mut.follows.lender c.kill.new.self) c.drop_below.new.cells c.in-Some-Kill.ticket _ c.drop_below.ensures
     (written images c.args.self.now.cells (c.get_mut.follows.lender c.kill.new.self) c.args.lease.name c.in-Some.cell.now c.kill.new.self
-    (c.in-Some.ensures.value ∙ ap (λ n. get_by (path_cmp n) c.args.self.now.cells) c.name.ensures)
-    (subst (λ n. WritesThrough path_cmp (path_cmp n) c.args.self.now.cells c.kill.new.self (c.get_mut.follows.lender c.kill.new.self)) c.name.ensures (c.get_mut.follows.holds c.kill.new.self))
+    (found-by c.args.self.now.cells c.name.ensures c.in-Some.ensures.value)
+    (writes-by c.args.self.now.cells (c.get_mut.follows.lender c.kill.new.self) c.kill.new.self c.name.ensures (c.get_mut.follows.holds c.kill.new.self))
     (c.kill.ensures.images images c.args.lease.name) h))
     (lent-key images c.args.lease c.lease.inside.turn.name c.kill.new.vm (ap (λ (l : Lent). l.name) c.lease.view_is)
     (ap (λ (v : KeyedMachine). v.key) c.kill.ensures.vm ∙ ap (λ (v : KeyedMachine). v.key) c.deref_mut.ensures.value ∙ ap (λ (l : Lent). l.key) c.lease.view_is) lent)

@@ -1,6 +1,6 @@
-use Rattle.std.proofs.Common.{◌≡◌, None, Some, is_some, refl, sym, ap, ◌∙◌, subst}
+use Rattle.std.proofs.Common.{◌≡◌, is_some, refl, sym, ap, ◌∙◌, subst}
 use Rattle.std.specs.Option.{IfSome}
-use Rattle.std.specs.BTreeMap.{Updates, WritesThrough, get}
+use Rattle.std.specs.BTreeMap.{get}
 use Rattle.forest_tree.specs.Tree.{Tree, Path, machine, subtree}
 use Rattle.forest_history.specs.Places.{Spot, at_path, out, placed}
 use Rattle.forest_model.specs.Paged.{Paged}
@@ -12,9 +12,8 @@ use Rattle.world_core.specs.Images.{HasImages, IsImageAt, IsLentAt}
 use Rattle.world_core.specs.Lent.{Lent, now_of}
 use Rattle.world_core.specs.Answers.{IsLentOf}
 use Rattle.world_core.specs.Popped.{ShowsCells, is_listed_in}
-use Rattle.world_core.specs.Shows.{CellShows, with_child}
 use Rattle.world_core.proofs.Images.{alike, no-lent, put, written}
-use Rattle.world_core.proofs.Waking.{parent-there, parent-still, sleeper-of, lent-shows, woken-some, woken-listed, woken-cells, old-parent, sleeper-no_cell}
+use Rattle.world_core.proofs.Waking.{parent-there, parent-still, sleeper-at, lent-shows, woken-some, woken-listed, woken-cells, sleeper-no_cell}
 use Rattle.world_core.proofs.Waking.{no-lease, no-start, not-ok, on-err}
 use Rattle.world_core.proofs.world.World.wake.Goals as goal
 
@@ -65,12 +64,10 @@ returns-in_err-seat c =
 
 pub child_wakes-requires : goal.child_wakes-requires
 child_wakes-requires c =
-    let found : Some c.in-Some.cell.now ≡ get path_cmp c.seat.new.cells c.args.parent.now = c.in-Some.ensures.value in
-    let inserted : Updates path_cmp c.args.self.now.cells c.seat.new.cells c.in_ok-name.name (Some c.of_lent.result) = c.in_ok-seat.ensures.ok in
-    let old = old-parent c.args.self.now.cells c.seat.new.cells c.args.parent.now c.args.ticket c.args.index c.in_ok-name.name c.of_lent.result
-    c.in-Some.cell.now c.in_ok-name.ensures.name inserted found in
     let r = c.requires in
-    let s = sleeper-of c.args.depot.now c.args.self.now.cells c.args.parent.now c.args.ticket c.args.index r.0 r.1 r.2 c.in-Some.cell.now old in
+    let cells = c.args.self.now.cells in
+    let s = sleeper-at cells c.seat.new.cells c.args.parent.now c.args.ticket c.args.index c.in_ok-name.name c.of_lent.result c.in-Some.cell.now c.in_ok-name.ensures.name
+    c.in_ok-seat.ensures.ok c.in-Some.ensures.value c.args.depot.now r.0 r.1 r.2 in
     (c.args.depot.now, c.args.parent.now, s.above, s.child, s.shows.holds, s.is_child, s.asleep, s.lives)
 
 pub returns-clause-lease : goal.returns-clause-lease
@@ -90,54 +87,37 @@ returns-clause-start c = λ t h is.
 pub returns-clause-cells : goal.returns-clause-cells
 returns-clause-cells c = λ t h is.
     let cells = c.args.self.now.cells in
-    let mid = c.seat.new.cells in
-    let cell = c.in-Some.cell.now in
     let waked = c.child_wakes.new.self in
-    let found : Some cell ≡ get path_cmp mid c.args.parent.now = c.in-Some.ensures.value in
-    let inserted : Updates path_cmp cells mid c.in_ok-name.name (Some c.of_lent.result) = c.in_ok-seat.ensures.ok in
-    let written : WritesThrough path_cmp (path_cmp c.args.parent.now) mid waked (c.get_mut.follows.lender waked) = c.get_mut.follows.holds waked in
-    let old = old-parent cells mid c.args.parent.now c.args.ticket c.args.index c.in_ok-name.name c.of_lent.result cell c.in_ok-name.ensures.name inserted found in
-    let s = sleeper-of c.args.depot.now cells c.args.parent.now c.args.ticket c.args.index t h is cell old in
+    let s = sleeper-at cells c.seat.new.cells c.args.parent.now c.args.ticket c.args.index c.in_ok-name.name c.of_lent.result c.in-Some.cell.now c.in_ok-name.ensures.name
+    c.in_ok-seat.ensures.ok c.in-Some.ensures.value c.args.depot.now t h is in
     let woke : (machine s.child).machine ≡ paged c.in_ok-name.vm.value
     = subst (λ o. IfSome o (λ (a : Tree (Spot Paged)). (machine a).machine ≡ paged c.in_ok-name.vm.value)) s.there (c.in_ok-name.ensures.machine t h is) in
     let same : paged c.deref.result.now ≡ (machine s.child).machine = ap paged c.deref.ensures ∙ sym woke in
-    let lent = lent-shows c.args.depot.now cells c.args.parent.now c.args.ticket c.args.index t cell c.of_lent.result (paged c.deref.result.now) h s same
-    c.of_lent.ensures.shows in
-    let parent : CellShows c.args.depot.now c.args.parent.now waked (with_child c.args.ticket c.args.index (placed out s.child) s.above)
-    = c.child_wakes.ensures.shows c.args.depot.now c.args.parent.now s.above s.child s.shows s.is_child s.asleep s.lives in
-    woken-cells cells mid c.args.parent.now c.args.ticket c.args.index c.in_ok-name.name c.of_lent.result cell c.in_ok-name.ensures.name inserted found
-    (c.get_mut.follows.lender waked) waked written c.args.depot.now t h s lent parent
+    woken-cells cells c.seat.new.cells c.args.parent.now c.args.ticket c.args.index c.in_ok-name.name c.of_lent.result c.in-Some.cell.now c.in_ok-name.ensures.name
+    c.in_ok-seat.ensures.ok c.in-Some.ensures.value (c.get_mut.follows.lender waked) waked (c.get_mut.follows.holds waked) c.args.depot.now t h s
+    (lent-shows c.args.depot.now cells c.args.parent.now c.args.ticket c.args.index t c.in-Some.cell.now c.of_lent.result (paged c.deref.result.now) h s same
+    c.of_lent.ensures.shows)
+    (c.child_wakes.ensures.shows c.args.depot.now c.args.parent.now s.above s.child s.shows s.is_child s.asleep s.lives)
 
 pub returns-clause-listed : goal.returns-clause-listed
 returns-clause-listed c =
     let cells = c.args.self.now.cells in
-    let mid = c.seat.new.cells in
-    let cell = c.in-Some.cell.now in
     let waked = c.child_wakes.new.self in
-    let named = c.in_ok-name.ensures.name in
-    let found : Some cell ≡ get path_cmp mid c.args.parent.now = c.in-Some.ensures.value in
-    let inserted : Updates path_cmp cells mid c.in_ok-name.name (Some c.of_lent.result) = c.in_ok-seat.ensures.ok in
-    let written : WritesThrough path_cmp (path_cmp c.args.parent.now) mid waked (c.get_mut.follows.lender waked) = c.get_mut.follows.holds waked in
-    let old = old-parent cells mid c.args.parent.now c.args.ticket c.args.index c.in_ok-name.name c.of_lent.result cell named inserted found in
     let r = c.requires in
-    let s = sleeper-of c.args.depot.now cells c.args.parent.now c.args.ticket c.args.index r.0 r.1 r.2 cell old in
-    let none : get path_cmp cells c.in_ok-name.name ≡ None
-    = ap (λ n. get path_cmp cells n) named
-    ∙ sleeper-no_cell c.args.depot.now cells c.args.parent.now c.args.ticket c.args.index r.0 cell r.1 s in
-    woken-listed cells mid c.args.parent.now c.args.ticket c.args.index c.in_ok-name.name c.of_lent.result cell named inserted found
-    (c.get_mut.follows.lender waked) waked written none c.of_lent.ensures.listed c.child_wakes.ensures.place
+    let s = sleeper-at cells c.seat.new.cells c.args.parent.now c.args.ticket c.args.index c.in_ok-name.name c.of_lent.result c.in-Some.cell.now c.in_ok-name.ensures.name
+    c.in_ok-seat.ensures.ok c.in-Some.ensures.value c.args.depot.now r.0 r.1 r.2 in
+    woken-listed cells c.seat.new.cells c.args.parent.now c.args.ticket c.args.index c.in_ok-name.name c.of_lent.result c.in-Some.cell.now c.in_ok-name.ensures.name
+    c.in_ok-seat.ensures.ok c.in-Some.ensures.value (c.get_mut.follows.lender waked) waked (c.get_mut.follows.holds waked)
+    (ap (λ n. get path_cmp cells n) c.in_ok-name.ensures.name
+    ∙ sleeper-no_cell c.args.depot.now cells c.args.parent.now c.args.ticket c.args.index r.0 c.in-Some.cell.now r.1 s)
+    c.of_lent.ensures.listed c.child_wakes.ensures.place
 
 pub returns-clause-others : goal.returns-clause-others
 returns-clause-others c =
     let cells = c.args.self.now.cells in
-    let mid = c.seat.new.cells in
-    let cell = c.in-Some.cell.now in
     let waked = c.child_wakes.new.self in
-    let found : Some cell ≡ get path_cmp mid c.args.parent.now = c.in-Some.ensures.value in
-    let inserted : Updates path_cmp cells mid c.in_ok-name.name (Some c.of_lent.result) = c.in_ok-seat.ensures.ok in
-    let written : WritesThrough path_cmp (path_cmp c.args.parent.now) mid waked (c.get_mut.follows.lender waked) = c.get_mut.follows.holds waked in
-    woken-some cells mid c.args.parent.now c.args.ticket c.args.index c.in_ok-name.name c.of_lent.result cell c.in_ok-name.ensures.name inserted found
-    (c.get_mut.follows.lender waked) waked written
+    woken-some cells c.seat.new.cells c.args.parent.now c.args.ticket c.args.index c.in_ok-name.name c.of_lent.result c.in-Some.cell.now c.in_ok-name.ensures.name
+    c.in_ok-seat.ensures.ok c.in-Some.ensures.value (c.get_mut.follows.lender waked) waked (c.get_mut.follows.holds waked)
 
 pub returns-clause-images : goal.returns-clause-images
 returns-clause-images c = λ images h.
