@@ -1,23 +1,50 @@
 // A plain interpreter of RV32IM over flat RAM, written without a thought of speed: a peer beside which
-// bench/steps_per_second measures the program. It runs one machine from an image of one segment to a limit of steps,
-// and writes its line of the report. It has traps, the CSRs that the guests of the benchmark use, and the console's
-// output; it has no timer, no disk, no fork and no atomic instruction.
+// bench/steps_per_second and bench/clones measure the program. It runs a machine from an image of one segment, and what
+// comes from it by forks, each to the same limit of steps, and writes the report:
+//
+//     interpreter IMAGE LIMIT [PAGES]
+//
+// A child is a copy of the whole machine, and is run to its end where it is made, in the room of the last one that ended. It
+// has traps, the CSRs that the guests of the benchmarks use, the console's output, and of the fork port TICKET, CLONE, JOIN
+// and EXIT with the values of children; it has no timer, no disk, no atomic instruction and no allot.
 
 #include <stdint.h>
 #include <stdio.h>
 #include <stdlib.h>
 #include <string.h>
 
-enum { RAM_SIZE = 64 * 4096 };
-static const uint32_t BASE = 0x80000000, CONSOLE = 0x10000000;
+enum { PAGE_SIZE = 4096, DEEPEST = 16, LONGEST_NAME = 400 };
+static const uint32_t BASE = 0x80000000, CONSOLE = 0x10000000, FORK = 0x10002000;
 
-static uint8_t ram[RAM_SIZE];
+static uint8_t *ram;
+static uint32_t ram_size = 64 * PAGE_SIZE;
 static uint32_t x[32], pc, mtvec, mepc, mcause, mtval, mscratch;
-static uint64_t steps, retired;
+static uint32_t arg0, arg1, result, clone_id, selected;
+static uint64_t steps, retired, limit;
 static uint8_t *output;
 static size_t output_length, output_room;
 
-static int in_ram(uint32_t address) { return address - BASE < RAM_SIZE; }
+// The tickets of the machine, by their number, and the one that was joined last. A child's value is its ending's, or 0.
+struct ticket { uint32_t children, *values, *kinds; };
+static struct ticket *tickets;
+static uint32_t last_ticket, joined;
+static int has_ended;
+static char name[LONGEST_NAME] = "0";
+static int depth;
+
+// The lines of all machines that have ended, but the one that runs and those that it came from.
+static char *lines;
+static size_t lines_length, lines_room;
+
+static void *grown(void *bytes, size_t length, size_t *room) {
+    if (length <= *room) return bytes;
+    *room = length < 4096 ? 4096 : 2 * length;
+    bytes = realloc(bytes, *room);
+    if (!bytes) exit(1);
+    return bytes;
+}
+
+static int in_ram(uint32_t address) { return address - BASE < ram_size; }
 
 static uint32_t load(uint32_t address, int width) {
     uint32_t value = 0;
@@ -33,11 +60,7 @@ static void trap(uint32_t cause, uint32_t value) {
 }
 
 static void put_out(uint8_t byte) {
-    if (output_length == output_room) {
-        output_room = output_room ? 2 * output_room : 4096;
-        output = realloc(output, output_room);
-        if (!output) exit(1);
-    }
+    output = grown(output, output_length + 1, &output_room);
     output[output_length++] = byte;
 }
 
@@ -93,6 +116,95 @@ static int is_taken(int kind, uint32_t a, uint32_t b) {
     }
 }
 
+static void run(void);
+
+static void add_line(const char *ending, uint32_t value) {
+    lines = grown(lines, lines_length + LONGEST_NAME + 100 + output_length, &lines_room);
+    lines_length += sprintf(lines + lines_length, "machine %s %s", name, ending);
+    if (*ending == 'e') lines_length += sprintf(lines + lines_length, " %u", value);
+    lines_length += sprintf(lines + lines_length, " steps %llu out %zu\n", (unsigned long long)steps, output_length);
+    memcpy(lines + lines_length, output, output_length);
+    lines_length += output_length;
+    lines[lines_length++] = '\n';
+}
+
+// What a machine keeps beside its RAM while another one runs.
+struct kept {
+    uint8_t *ram, *output;
+    size_t output_length, output_room, name_length;
+    uint32_t x[32], pc, mtvec, mepc, mcause, mtval, mscratch, arg0, arg1, result, clone_id, selected, last_ticket, joined;
+    struct ticket *tickets;
+    uint64_t steps, retired;
+};
+
+// Runs child k of a ticket to its end, and goes on with its parent.
+static void run_child(uint32_t number, uint32_t k) {
+    static uint8_t *rooms[DEEPEST];
+    if (depth == DEEPEST || (!rooms[depth] && !(rooms[depth] = malloc(ram_size)))) exit(1);
+    struct kept parent = {ram, output, output_length, output_room, strlen(name), {0}, pc, mtvec, mepc, mcause, mtval, mscratch,
+        arg0, arg1, result, clone_id, selected, last_ticket, joined, tickets, steps, retired};
+    memcpy(parent.x, x, sizeof x);
+    ram = memcpy(rooms[depth++], ram, ram_size);
+    snprintf(name + parent.name_length, LONGEST_NAME - parent.name_length, ".%u.%u", number, k);
+    output = NULL, output_length = output_room = 0, tickets = NULL, last_ticket = joined = selected = 0;
+    clone_id = k, result = 0, pc += 4, steps++, retired++;
+    run();
+    parent.tickets[number].kinds[k - 1] = has_ended ? 1 : 2;
+    parent.tickets[number].values[k - 1] = has_ended ? arg0 : 0;
+    for (uint32_t one = 1; one <= last_ticket; one++) free(tickets[one].kinds), free(tickets[one].values);
+    free(output), free(tickets);
+    has_ended = 0, name[parent.name_length] = 0, depth--;
+    memcpy(x, parent.x, sizeof x);
+    ram = parent.ram, output = parent.output, output_length = parent.output_length, output_room = parent.output_room;
+    pc = parent.pc, mtvec = parent.mtvec, mepc = parent.mepc, mcause = parent.mcause, mtval = parent.mtval;
+    mscratch = parent.mscratch, arg0 = parent.arg0, arg1 = parent.arg1, result = parent.result, clone_id = parent.clone_id;
+    selected = parent.selected, last_ticket = parent.last_ticket, joined = parent.joined, tickets = parent.tickets;
+    steps = parent.steps, retired = parent.retired;
+}
+
+static void command(uint32_t number) {
+    switch (number) {
+    case 1:
+        tickets = realloc(tickets, (last_ticket + 2) * sizeof *tickets);
+        if (!tickets) exit(1);
+        result = ++last_ticket;
+        tickets[result] = (struct ticket){arg0, calloc(arg0, 4), calloc(arg0, 4)};
+        if (!tickets[result].values || !tickets[result].kinds) exit(1);
+        break;
+    case 2:
+        for (uint32_t k = 1; k <= tickets[arg0].children; k++) run_child(arg0, k);
+        result = 0;
+        break;
+    case 3: joined = arg0, result = tickets[arg0].children; break;
+    case 5: has_ended = 1; break;
+    default: exit(1);
+    }
+}
+
+static int store_fork(uint32_t offset, uint32_t value) {
+    switch (offset) {
+    case 0: arg0 = value; return 1;
+    case 4: arg1 = value; return 1;
+    case 8: command(value); return 1;
+    case 24: selected = value; return 1;
+    default: return 0;
+    }
+}
+
+static uint32_t load_fork(uint32_t offset) {
+    int is_child = joined && selected - 1 < tickets[joined].children;
+    switch (offset) {
+    case 0: return arg0;
+    case 4: return arg1;
+    case 12: return result;
+    case 16: return clone_id;
+    case 24: return selected;
+    case 28: return is_child ? tickets[joined].kinds[selected - 1] : 0;
+    case 32: return is_child ? tickets[joined].values[selected - 1] : 0;
+    default: exit(1);
+    }
+}
+
 // Makes one step. Answers whether an instruction retired.
 static int step(void) {
     if (!in_ram(pc)) return trap(1, pc), 0;
@@ -117,8 +229,9 @@ static int step(void) {
     case 0x03:
         address = a + immediate;
         if (address & ((1u << (kind & 3)) - 1)) return trap(4, address), 0;
-        if (!in_ram(address)) return trap(5, address), 0;
-        value = load(address, 1 << (kind & 3));
+        if (address - FORK < 128 && kind == 2) value = load_fork(address - FORK);
+        else if (!in_ram(address)) return trap(5, address), 0;
+        else value = load(address, 1 << (kind & 3));
         if (kind == 0) value = (uint32_t)(int8_t)value;
         if (kind == 1) value = (uint32_t)(int16_t)value;
         break;
@@ -127,6 +240,7 @@ static int step(void) {
         address = a + (uint32_t)(((int32_t)word >> 25 << 5) | (word >> 7 & 31));
         if (address & ((1u << kind) - 1)) return trap(6, address), 0;
         if (address == CONSOLE && kind == 0) put_out((uint8_t)b);
+        else if (kind == 2 && store_fork(address - FORK, b)) break;
         else if (!in_ram(address)) return trap(7, address), 0;
         else memcpy(ram + (address - BASE), &b, 1 << kind);
         break;
@@ -150,16 +264,33 @@ static int step(void) {
     return 1;
 }
 
+// Runs the machine to its end, and puts its line before those of its children.
+static void run(void) {
+    size_t before = lines_length;
+    while (!has_ended && steps < limit) {
+        retired += step();
+        steps++;
+    }
+    size_t middle = lines_length;
+    add_line(has_ended ? "exit" : "limit", arg0);
+    if (middle == before) return;
+    size_t line = lines_length - middle;
+    lines = grown(lines, lines_length + line, &lines_room);
+    memmove(lines + before + line, lines + before, lines_length - before);
+    memcpy(lines + before, lines + lines_length, line);
+}
+
 int main(int count, char **words) {
-    FILE *file = count == 3 ? fopen(words[1], "rb") : NULL;
+    FILE *file = count == 3 || count == 4 ? fopen(words[1], "rb") : NULL;
     if (!file) return 2;
     uint8_t header[84];
-    uint64_t limit = strtoull(words[2], NULL, 10);
-    if (fread(header, 1, 84, file) != 84 || fread(ram, 1, RAM_SIZE, file) == 0) return 2;
+    limit = strtoull(words[2], NULL, 10);
+    if (count == 4) ram_size = strtoul(words[3], NULL, 10) * PAGE_SIZE;
+    ram = calloc(ram_size, 1);
+    if (!ram || fread(header, 1, 84, file) != 84 || fread(ram, 1, ram_size, file) == 0) return 2;
     fclose(file);
-    for (pc = BASE; steps < limit; steps++) retired += step();
-    printf("machine 0 limit steps %llu out %zu\n", (unsigned long long)steps, output_length);
-    fwrite(output, 1, output_length, stdout);
-    printf("\n");
+    pc = BASE;
+    run();
+    fwrite(lines, 1, lines_length, stdout);
     return 0;
 }

@@ -1,14 +1,17 @@
-ghost use Rattle.std.specs.Prelude.{◌≡◌, ◌+◌, ◌-◌, ◌<◌, ◌≤◌, ◌↔◌, true, false, Some, None, IsErr, IfOk, OnOk, OnErr, IsErrOf, IfSome, IsNone};
+ghost use Rattle.std.specs.Prelude.{◌≡◌, ℕ, ◌+◌, ◌-◌, ◌*◌, ◌<◌, ◌≤◌, ◌↔◌, true, false, List, Some, None, IsErr, IfOk, OnOk, OnErr, IsErrOf, IfSome, IsNone, IsTrue};
+ghost use Rattle.cow_disk.specs.declared.disk.TheConstants.{PAGE_SECTORS};
 ghost use Rattle.cow_disk.specs.Disk.{sector_count};
-ghost use Rattle.block_port.specs.Block.{WritesSector, at_start, block_load, block_store, commanded, is_in_buffer};
+ghost use Rattle.cow_disk.specs.Paged.{disk_over, here_pages, is_page_here, page_of_sector, Arrives, IsPageBelow};
+ghost use Rattle.block_port.specs.Block.{IsTouchedHere, WritesSector, block_load, block_over, block_store, commanded, is_in_buffer, is_sector_command, parts_at_start, touched_page};
 
 use crate::registers::{
     BLOCK_BUFFER, BLOCK_COMMAND, BLOCK_COUNT, BLOCK_SECTOR, BLOCK_STATUS, READ_COMMAND,
     WRITE_COMMAND,
 };
 use crate::status::Status;
-use cow_disk::{BadSector, Disk, DiskError, SECTOR_SIZE};
+use cow_disk::{Arrived, Disk, PAGE_SECTORS, ReadError, SECTOR_SIZE, WriteError};
 use flat_memory::{read_word, write_bytes};
+use page_frames::PAGE_SIZE;
 use port_error::{Fault, PortError};
 use std::alloc::AllocError;
 use std::marker::Model;
@@ -21,7 +24,8 @@ pub struct BlockFields {
     pub buffer: [u8; SECTOR_SIZE],
 }
 
-/// The block port, with its disk.
+/// The block port, with its disk. Contracts see the disk's pages, and say of the registers what they are
+/// over each disk below.
 #[derive(Drop)]
 pub struct BlockPort {
     sector: u32,
@@ -31,9 +35,9 @@ pub struct BlockPort {
 }
 
 impl Model for BlockPort {
-    ghost use Rattle.block_port.specs.Block.{BlockRegisters};
+    ghost use Rattle.block_port.specs.Block.{BlockParts};
 
-    ghost Value = { BlockRegisters };
+    ghost Value = { BlockParts };
 
     ghost view = { λ p. record { sector = p.sector; status = p.status; buffer = p.buffer; disk = p.disk } };
 }
@@ -42,7 +46,7 @@ impl BlockPort {
     /// A port over this disk, with all registers 0.
     #[tactic(auto, unfolding(flat_memory::specs::Flat::zeros))]
     pub fn new(disk: Disk) -> BlockPort
-        ensures { result ≡ at_start disk }
+        ensures { result ≡ parts_at_start disk }
     {
         BlockPort {
             sector: 0,
@@ -86,10 +90,45 @@ impl BlockPort {
         &self.disk
     }
 
+    /// Whether a page of the disk is here.
+    pub fn is_here(&self, page: u32) -> bool
+        requires { PAGE_SECTORS * page < self.now.disk.sectors }
+        ensures { result ≡ is_page_here self.now.disk page }
+    {
+        self.disk.is_here(page)
+    }
+
+    /// A page of the disk that was sent. The registers stay as they are.
+    pub fn arrive(&mut self, page: u32, bytes: &[u8; PAGE_SIZE]) -> Result<Arrived, AllocError>
+        requires { PAGE_SECTORS * page < self.old.disk.sectors }
+        ensures ok { IfOk result (Arrives self.old.disk page bytes.now self.new.disk) }
+        ensures registers { self.new ≡ record self.old { disk = self.new.disk } }
+        // A page of the disk below changes nothing that is read.
+        ensures reads { (below : List ℕ) → IsPageBelow self.old.disk page bytes.now below → block_over self.new below ≡ block_over self.old below }
+        ensures err { OnErr result (self.new ≡ self.old) }
+    {
+        self.disk.arrive(page, bytes)
+    }
+
+    /// The page of the disk that a store touches: that of the sector which a command reads or writes.
+    pub fn touched(&self, offset: u32, width: u32, word: u32) -> Option<u32>
+        ensures value { (below : List ℕ) → result ≡ touched_page (block_over self.now below) offset width word }
+        ensures there { IfSome result (λ page. PAGE_SECTORS * page < self.now.disk.sectors) }
+        // So a store can be made where no page is touched, or that page is here.
+        ensures none { IsNone result → IsTouchedHere self.now offset width word }
+        ensures here { IfSome result (λ page. IsTrue (is_page_here self.now.disk page) → IsTouchedHere self.now offset width word) }
+    {
+        if is_sector_command(offset, width, word) && self.sector < self.disk.sectors() {
+            Some(self.sector / PAGE_SECTORS)
+        } else {
+            None
+        }
+    }
+
     /// Loads a word. A load changes nothing here.
     pub fn load(&mut self, offset: u32, width: u32) -> Result<u32, Fault>
-        ensures ok { IfOk result (λ word. block_load self.old offset width ≡ Some word) }
-        ensures fault { IsErr result ↔ (block_load self.old offset width ≡ None) }
+        ensures ok { IfOk result (λ word. (below : List ℕ) → block_load (block_over self.old below) offset width ≡ Some word) }
+        ensures fault { (below : List ℕ) → (IsErr result ↔ (block_load (block_over self.old below) offset width ≡ None)) }
         ensures unchanged { self.new ≡ self.old }
     {
         match (offset, width) {
@@ -104,13 +143,16 @@ impl BlockPort {
         }
     }
 
-    /// Stores a word.
+    /// Stores a word. The page that it touches is to be here.
     pub fn store(&mut self, offset: u32, width: u32, word: u32) -> Result<(), PortError>
-        ensures ok { OnOk result (block_store self.old offset width word ≡ Some self.new) }
-        ensures fault { IsErrOf result PortError.Fault ↔ (block_store self.old offset width word ≡ None) }
+        requires { IsTouchedHere self.old offset width word }
+        ensures ok { OnOk result ((below : List ℕ) → block_store (block_over self.old below) offset width word ≡ Some (block_over self.new below)) }
+        ensures fault { (below : List ℕ) → (IsErrOf result PortError.Fault ↔ (block_store (block_over self.old below) offset width word ≡ None)) }
+        ensures pages { here_pages self.new.disk ≡ here_pages self.old.disk }
+        ensures sectors { self.new.disk.sectors ≡ self.old.disk.sectors }
         ensures err { OnErr result (self.new ≡ self.old) }
         // Memory is wanted where a sector is written.
-        ensures memory { IsErrOf result PortError.Memory → WritesSector self.old offset width word }
+        ensures memory { IsErrOf result PortError.Memory → (below : List ℕ) → WritesSector (block_over self.old below) offset width word }
     {
         match (offset, width) {
             (BLOCK_SECTOR, 4) => self.sector = word,
@@ -124,11 +166,14 @@ impl BlockPort {
         Ok(())
     }
 
-    /// Runs a command.
+    /// Runs a command. The page of the sector that it reads or writes is to be here.
     fn command(&mut self, command: u32) -> Result<(), AllocError>
-        ensures ok { OnOk result (self.new ≡ commanded self.old command) }
+        requires { IsTouchedHere self.old BLOCK_COMMAND 4 command }
+        ensures ok { OnOk result ((below : List ℕ) → block_over self.new below ≡ commanded (block_over self.old below) command) }
+        ensures pages { here_pages self.new.disk ≡ here_pages self.old.disk }
+        ensures sectors { self.new.disk.sectors ≡ self.old.disk.sectors }
         ensures err { OnErr result (self.new ≡ self.old) }
-        ensures memory { OnErr result ((command ≡ WRITE_COMMAND) × (self.old.sector < sector_count self.old.disk)) }
+        ensures memory { OnErr result ((command ≡ WRITE_COMMAND) × ((below : List ℕ) → self.old.sector < sector_count (disk_over self.old.disk below))) }
     {
         self.status = match command {
             READ_COMMAND => self.read(),
@@ -141,26 +186,40 @@ impl BlockPort {
 
     /// Reads the sector into the buffer, if there is such a sector.
     fn read(&mut self) -> Status
-        ensures { record self.new { status = result } ≡ commanded self.old READ_COMMAND }
+        requires { self.old.sector < self.old.disk.sectors → IsTrue (is_page_here self.old.disk (page_of_sector self.old.sector)) }
+        ensures value { (below : List ℕ) → record (block_over self.new below) { status = result } ≡ commanded (block_over self.old below) READ_COMMAND }
+        ensures disk { self.new.disk ≡ self.old.disk }
     {
         match self.disk.read_sector(self.sector, &mut self.buffer) {
             Ok(()) => Status::Done,
-            Err(BadSector) => Status::BadSector,
+            Err(ReadError::BadSector) => Status::BadSector,
+            Err(ReadError::Absent(_)) => unreachable!(),
         }
     }
 
     /// Writes the buffer to the sector, if there is such a sector.
     fn write(&mut self) -> Result<Status, AllocError>
-        ensures ok { IfOk result (λ status. record self.new { status = status } ≡ commanded self.old WRITE_COMMAND) }
+        requires { self.old.sector < self.old.disk.sectors → IsTrue (is_page_here self.old.disk (page_of_sector self.old.sector)) }
+        ensures ok { IfOk result (λ status. (below : List ℕ) → record (block_over self.new below) { status = status } ≡ commanded (block_over self.old below) WRITE_COMMAND) }
+        ensures pages { here_pages self.new.disk ≡ here_pages self.old.disk }
+        ensures sectors { self.new.disk.sectors ≡ self.old.disk.sectors }
         ensures err { OnErr result (self.new ≡ self.old) }
-        ensures memory { OnErr result (self.old.sector < sector_count self.old.disk) }
+        ensures memory { OnErr result ((below : List ℕ) → self.old.sector < sector_count (disk_over self.old.disk below)) }
     {
         match self.disk.write_sector(self.sector, &self.buffer) {
             Ok(()) => Ok(Status::Done),
-            Err(DiskError::BadSector) => Ok(Status::BadSector),
-            Err(_) => Err(AllocError),
+            Err(WriteError::BadSector) => Ok(Status::BadSector),
+            Err(WriteError::Absent(_)) => unreachable!(),
+            Err(WriteError::Memory) => Err(AllocError),
         }
     }
+}
+
+/// Whether a store is a command that reads or writes a sector.
+fn is_sector_command(offset: u32, width: u32, word: u32) -> bool
+    ensures { result ≡ is_sector_command offset width word }
+{
+    (word == READ_COMMAND || word == WRITE_COMMAND) && (offset == BLOCK_COMMAND && width == 4)
 }
 
 /// The place in the buffer of the word at an offset, if a word of the buffer is there.

@@ -264,7 +264,9 @@ impl GeneratedWords {
     }
 }
 
-/// What the words ask for, or `None` exactly where they have no meaning.
+/// What the words ask for, or `None` exactly where they have no meaning. It is not inlined, since the parser's values would
+/// have room on the stack while a family runs.
+#[inline(never)]
 pub fn command_asked(alloc: Global, words: &[String]) -> Result<Option<Command<'_>>, AllocError>
     ensures { IfOk result (λ asked. option_map meaning asked ≡ meant (texts words.now)) }
 {

@@ -2,9 +2,9 @@
 
 use crate::equal::{are_equal, succeeds};
 use block_port::{BlockFields, BlockPort, Status};
-use cow_disk::{Disk, FrozenDisk};
+use cow_disk::{Arrived, Disk, FrozenDisk};
 use port_error::{Fault, PortError};
-use std::alloc::Global;
+use std::alloc::{AllocError, Global};
 use std::process::Abort;
 use std::thread;
 use std::thread::Threads;
@@ -23,6 +23,16 @@ fn port_over(rt: &impl Abort, frozen: &FrozenDisk) -> BlockPort {
 /// A port over that disk.
 fn port_at_start(rt: &impl Abort, alloc: Global) -> BlockPort {
     port_over(rt, &frozen_disk(rt, alloc))
+}
+
+/// A store. Where it touches an absent page of the disk, it is not made.
+fn stored(port: &mut BlockPort, offset: u32, width: u32, word: u32) -> Result<(), PortError> {
+    if let Some(page) = port.touched(offset, width, word) {
+        if !port.is_here(page) {
+            return Err(PortError::Memory);
+        }
+    }
+    port.store(offset, width, word)
 }
 
 /// SECTOR, STATUS, COUNT and the ends of the buffer.
@@ -50,7 +60,10 @@ fn expected(offset: u32, width: u32) -> Access {
 }
 
 fn takes_a_word(rt: &impl Abort, port: &mut BlockPort, offset: u32, width: u32) {
-    let found = (port.load(offset, width).err(), port.store(offset, width, 7));
+    let found = (
+        port.load(offset, width).err(),
+        stored(port, offset, width, 7),
+    );
     are_equal(
         rt,
         &(offset, width, found),
@@ -80,7 +93,7 @@ static COMMANDS: [(u32, u32, u32, u32, u32); 8] = [
 
 /// Gives a command.
 fn give(port: &mut BlockPort, sector: u32, command: u32) -> [Result<(), PortError>; 2] {
-    [port.store(0, 4, sector), port.store(4, 4, command)]
+    [stored(port, 0, 4, sector), stored(port, 4, 4, command)]
 }
 
 fn does_a_command(rt: &impl Abort, port: &mut BlockPort, row: &(u32, u32, u32, u32, u32)) {
@@ -101,7 +114,7 @@ fn does_commands(rt: &impl Abort, port: &mut BlockPort) {
 }
 
 fn starts(rt: &impl Abort, port: &mut BlockPort) {
-    let found = (registers(port), port.store(0x3fc, 4, 0x11223344));
+    let found = (registers(port), stored(port, 0x3fc, 4, 0x11223344));
     are_equal(rt, &found, &([0, 0, 1, 0, 0].map(Ok), Ok(())));
 }
 
@@ -129,9 +142,9 @@ const fn read(word: u32) -> Word {
 /// Writes a sector of these bytes, and changes the buffer then.
 fn write_word(port: &mut BlockPort) -> [Result<(), PortError>; 3] {
     [
-        port.store(0x200, 4, 0x11223344),
-        port.store(4, 4, 2),
-        port.store(0x200, 4, 0),
+        stored(port, 0x200, 4, 0x11223344),
+        stored(port, 4, 4, 2),
+        stored(port, 0x200, 4, 0),
     ]
 }
 
@@ -158,9 +171,58 @@ fn a_write_shows_behind_one_port(rt: HostRuntime) {
     is_written_behind_one(&rt, &frozen);
 }
 
+/// The sector, the command, and the page that it touches, of a disk of nine sectors.
+static TOUCHED: [(u32, u32, Option<u32>); 8] = [
+    (0, 1, Some(0)),
+    (7, 2, Some(0)),
+    (8, 1, Some(1)),
+    (8, 2, Some(1)),
+    (9, 1, None),
+    (9, 2, None),
+    (0, 3, None),
+    (0xffff_ffff, 2, None),
+];
+
+fn touches(rt: &impl Abort, port: &mut BlockPort, row: &(u32, u32, Option<u32>)) {
+    let (sector, command, page) = *row;
+    are_equal(rt, &stored(port, 0, 4, sector), &Ok(()));
+    let found = [port.touched(4, 4, command), port.touched(8, 4, command)];
+    are_equal(rt, &(row, found), &(row, [page, None]));
+}
+
+fn touches_a_page(rt: &impl Abort, port: &mut BlockPort) {
+    for row in TOUCHED.iter() {
+        touches(rt, port, row);
+    }
+}
+
+/// The last sector of a disk of nine, whose page comes.
+fn reads_what_came(rt: &impl Abort, port: &mut BlockPort) {
+    are_equal(rt, &give(port, 8, 1), &[Ok(()), Err(PortError::Memory)]);
+    are_equal(rt, &succeeds(rt, arrives(port, 1)), &Some(Arrived::Got(1)));
+    are_equal(rt, &give(port, 8, 1), &[Ok(()), Ok(())]);
+    are_equal(rt, &port.load(0x200, 4), &Ok(0x5555_5555));
+    are_equal(rt, &succeeds(rt, arrives(port, 1)), &Some(Arrived::Had(1)));
+}
+
+/// A page of bytes 55 is sent, where the disk has that page.
+fn arrives(port: &mut BlockPort, page: u32) -> Result<Option<Arrived>, AllocError> {
+    if page >= 1024 || 8 * page >= port.disk().sectors() {
+        return Ok(None);
+    }
+    Ok(Some(port.arrive(page, &[0x55; 4096])?))
+}
+
+#[test]
+fn waits_for_a_page_of_the_disk(rt: HostRuntime) {
+    let mut port = BlockPort::new(succeeds(&rt, Disk::absent(rt.alloc(), 9)));
+    touches_a_page(&rt, &mut port);
+    reads_what_came(&rt, &mut port);
+}
+
 /// Fills a buffer, and gives a command for a sector that is not there.
 fn asks_for_no_sector(rt: &impl Abort, port: &mut BlockPort) {
-    are_equal(rt, &port.store(0x204, 4, 0x11223344), &Ok(()));
+    are_equal(rt, &stored(port, 0x204, 4, 0x11223344), &Ok(()));
     are_equal(rt, &give(port, 9, 1), &[Ok(()), Ok(())]);
 }
 

@@ -1,5 +1,7 @@
 //! The bus: each port at its addresses.
 
+ghost use Rattle.std.specs.Prelude.{◌≡◌, ◌≤◌};
+
 use crate::equal::{are_equal, succeeds};
 use cow_disk::Disk;
 use port_error::{Fault, PortError};
@@ -75,6 +77,18 @@ fn loads_at_each_port_s_edges(rt: HostRuntime) {
     }
 }
 
+/// A store, which grants no ticket. Where it touches an absent page of the disk, it is not made.
+fn stored(ports: &mut Ports, address: u32, width: u32, word: u32) -> Result<Effect, PortError>
+    requires { address ≡ 0x1000_2008 → 2 ≤ word }
+{
+    if let Some(page) = ports.touched(address, width, word) {
+        if !ports.is_here(page) {
+            return Err(PortError::Memory);
+        }
+    }
+    ports.store(address, width, word)
+}
+
 /// What a store of so many low bytes of 5 at an address does to a machine that starts.
 static STORES: [(u32, u32, Result<Effect, PortError>); 37] = [
     (0x0000_0000, 4, Err(PortError::Fault)),
@@ -120,7 +134,8 @@ static STORES: [(u32, u32, Result<Effect, PortError>); 37] = [
 fn stores(rt: &impl Abort, alloc: Global, row: &(u32, u32, Result<Effect, PortError>)) {
     let (address, width, _) = *row;
     let mut ports = ports_at_start(rt, alloc);
-    are_equal(rt, &(address, width, ports.store(address, width, 5)), row);
+    let found = stored(&mut ports, address, width, 5);
+    are_equal(rt, &(address, width, found), row);
 }
 
 #[test]
@@ -140,8 +155,8 @@ fn is_due_and_counts(ports: &mut Ports) -> bool {
 /// mtimecmp becomes 2.
 fn sets_the_time(rt: &impl Abort, ports: &mut Ports) {
     let stores = [
-        ports.store(0x0200_4004, 4, 0),
-        ports.store(0x0200_4000, 4, 2),
+        stored(ports, 0x0200_4004, 4, 0),
+        stored(ports, 0x0200_4000, 4, 2),
     ];
     are_equal(rt, &stores, &[Ok(Effect::Done), Ok(Effect::Done)]);
 }
@@ -160,9 +175,9 @@ fn times(rt: &impl Abort, ports: &mut Ports) {
 
 fn puts_out_and_exits(rt: &impl Abort, ports: &mut Ports) {
     let stores = [
-        ports.store(0x1000_0000, 1, 0x141),
-        ports.store(0x1000_2000, 4, 9),
-        ports.store(0x1000_2008, 4, 5),
+        stored(ports, 0x1000_0000, 1, 0x141),
+        stored(ports, 0x1000_2000, 4, 9),
+        stored(ports, 0x1000_2008, 4, 5),
     ];
     are_equal(
         rt,
@@ -171,9 +186,12 @@ fn puts_out_and_exits(rt: &impl Abort, ports: &mut Ports) {
     );
 }
 
+/// The address of the block port's COMMAND.
+const BLOCK_COMMAND: u32 = 0x1000_1004;
+
 /// Sector 0 goes to the buffer.
 fn reads_the_disk(rt: &impl Abort, ports: &mut Ports) {
-    let read = ports.store(0x1000_1004, 4, 1);
+    let read = stored(ports, BLOCK_COMMAND, 4, 1);
     let word = ports.load(0x1000_1200, 4);
     are_equal(rt, &(read, word), &(Ok(Effect::Done), Ok(0xaaaa_aaaa)));
 }
@@ -181,8 +199,8 @@ fn reads_the_disk(rt: &impl Abort, ports: &mut Ports) {
 /// The buffer goes to sector 0, with another first word.
 fn writes_the_disk(rt: &impl Abort, ports: &mut Ports) {
     let stores = [
-        ports.store(0x1000_1200, 4, 7),
-        ports.store(0x1000_1004, 4, 2),
+        stored(ports, 0x1000_1200, 4, 7),
+        stored(ports, BLOCK_COMMAND, 4, 2),
     ];
     are_equal(rt, &stores, &[Ok(Effect::Done), Ok(Effect::Done)]);
     are_equal(rt, &ports.load(0x1000_1200, 4), &Ok(7));

@@ -1,4 +1,4 @@
-//! Sizes and limits, which other crates take from the ports.
+//! Where the ports begin, and sizes and limits that other crates take from them.
 
 use crate::equal::are_equal;
 use block_port::registers::BLOCK_SIZE;

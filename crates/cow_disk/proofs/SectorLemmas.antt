@@ -1,16 +1,13 @@
 -- Reads and writes of one sector of many.
-use Rattle.std.proofs.Common.{◌≡◌, ℕ, zero, suc, ◌+◌, ◌*◌, ◌<◌, ◌≤◌, List, [], ◌∷◌, ◌++◌, length, take, drop, get_or, sym, ap, ◌∙◌, subst, append_assoc, length-append, arith}
-use Rattle.std.specs.List.{All, concat}
+use Rattle.std.proofs.Common.{◌≡◌, ℕ, zero, suc, ◌+◌, ◌*◌, ◌<◌, List, [], ◌∷◌, ◌++◌, length, take, drop, get_or, sym, ap, ◌∙◌, append_assoc, length-append, arith}
+use Rattle.std.specs.List.{concat}
 use Rattle.std.proofs.Math.ListN.{set}
 use Rattle.std.proofs.Math.Seq.{take-append-add, drop-append-add}
-use Rattle.std.proofs.lemmas.List.{drop_at, take_at, length-set, set-get_or}
-use Rattle.std.proofs.lemmas.List.Elements.{All-head, All-tail, All-set, All-from_get_or}
-use Rattle.cow_disk.specs.declared.disk.TheConstants.{SECTOR_SIZE, MAX_SECTORS}
+use Rattle.std.proofs.lemmas.List.{drop_at, get_or-drop, get_or-take, take_at, set-get_or}
+use Rattle.std.proofs.lemmas.List.Elements.{All-get_or, All-head, All-tail, All-set, All-from_get_or}
+use Rattle.cow_disk.specs.declared.disk.TheConstants.{SECTOR_SIZE}
 use Rattle.cow_disk.specs.Disk.{sector_count, sector_at, with_sector}
-use Rattle.cow_disk.specs.Sectors.{AreSectors}
-
-abbrev AreWhole : List (List ℕ) → Type 0
-AreWhole sectors = All (λ sector. length sector ≡ SECTOR_SIZE) sectors
+use Rattle.cow_disk.specs.Sectors.{AreWhole}
 
 head : (s : List ℕ) (sectors : List (List ℕ)) → AreWhole (s ∷ sectors) → length s ≡ SECTOR_SIZE
 head s sectors whole = All-head (λ sector. length sector ≡ SECTOR_SIZE) s sectors whole
@@ -22,9 +19,8 @@ pub length-concat : (sectors : List (List ℕ)) → AreWhole sectors → length 
 length-concat [] whole = omega arith
 length-concat (s ∷ sectors) whole = omega (arith, length-append s (concat sectors), head s sectors whole, length-concat sectors (tail s sectors whole))
 
--- a sector of the disk is one of the list
-pub there : (sectors : List (List ℕ)) (disk : List ℕ) (n : ℕ) → AreWhole sectors → concat sectors ≡ disk → n < sector_count disk → n < length sectors
-there sectors disk n whole is below = omega (arith, ap length is, length-concat sectors whole)
+pub sector_count-concat : (sectors : List (List ℕ)) → AreWhole sectors → sector_count (concat sectors) ≡ length sectors
+sector_count-concat sectors whole = omega (arith, length-concat sectors whole)
 
 pub sector_at-concat : (sectors : List (List ℕ)) (n : ℕ) → AreWhole sectors → n < length sectors → sector_at (concat sectors) n ≡ get_or sectors n []
 sector_at-concat [] n whole below = absurd (omega arith)
@@ -51,18 +47,23 @@ with_sector-concat (s ∷ sectors) (suc n) bytes whole below full =
     ∙ sym (ap (λ rest. take (SECTOR_SIZE * suc n) (s ++ concat sectors) ++ (bytes ++ rest))
     (ap (λ from. drop from (s ++ concat sectors)) end ∙ drop-append-add s (concat sectors) (SECTOR_SIZE * n + length bytes)))
 
-pub AreSectors-set : (sectors : List (List ℕ)) (n : ℕ) (bytes : List ℕ) → AreSectors sectors → length bytes ≡ SECTOR_SIZE → AreSectors (set sectors n bytes)
-AreSectors-set sectors n bytes are full = record {
-  whole = All-set (λ sector. length sector ≡ SECTOR_SIZE) sectors n bytes full are.whole;
-  most = omega (arith, are.most, length-set sectors n bytes);
-}
+pub AreWhole-set : (sectors : List (List ℕ)) (n : ℕ) (bytes : List ℕ) → AreWhole sectors → length bytes ≡ SECTOR_SIZE → AreWhole (set sectors n bytes)
+AreWhole-set sectors n bytes whole full = All-set (λ sector. length sector ≡ SECTOR_SIZE) sectors n bytes full whole
+
+pub length-of_whole : (sectors : List (List ℕ)) → AreWhole sectors → (n : ℕ) → n < length sectors → length (get_or sectors n []) ≡ SECTOR_SIZE
+length-of_whole sectors whole n there = All-get_or (λ sector. length sector ≡ SECTOR_SIZE) sectors n [] there whole
+
+-- a byte of a sector
+pub byte_of_concat : (sectors : List (List ℕ)) → AreWhole sectors → (n k : ℕ) → n < length sectors → k < SECTOR_SIZE
+    → get_or (get_or sectors n []) k 0 ≡ get_or (concat sectors) (SECTOR_SIZE * n + k) 0
+byte_of_concat sectors whole n k there inside =
+    ap (λ sector. get_or sector k 0) (sym (sector_at-concat sectors n whole there))
+    ∙ get_or-take SECTOR_SIZE (drop (SECTOR_SIZE * n) (concat sectors)) k 0 inside
+    ∙ get_or-drop (SECTOR_SIZE * n) (concat sectors) k 0
 
 -- sectors as they are told
-pub AreSectors-told : (sectors made : List (List ℕ)) → made ≡ sectors → ((i : ℕ) → i < length sectors → length (get_or sectors i []) ≡ SECTOR_SIZE) → length sectors ≤ MAX_SECTORS → AreSectors made
-AreSectors-told sectors made same told most = subst AreSectors (sym same) (record {
-  whole = All-from_get_or (λ sector. length sector ≡ SECTOR_SIZE) sectors [] told;
-  most = most;
-})
+pub AreWhole-told : (sectors : List (List ℕ)) → ((i : ℕ) → i < length sectors → length (get_or sectors i []) ≡ SECTOR_SIZE) → AreWhole sectors
+AreWhole-told sectors told = All-from_get_or (λ sector. length sector ≡ SECTOR_SIZE) sectors [] told
 
 -- a sector that stays as it is
 pub sector_kept : (sectors : List (List ℕ)) (n : ℕ) (before after : List ℕ) → before ≡ get_or sectors n before → after ≡ before → set sectors n after ≡ sectors

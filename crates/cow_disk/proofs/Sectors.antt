@@ -15,10 +15,10 @@ sector_at-with_sector disk bytes n there full =
     ap (λ rest. take SECTOR_SIZE rest) (drop_at (take (SECTOR_SIZE * n) disk) _ (SECTOR_SIZE * n) start) ∙ take_at bytes _ SECTOR_SIZE full
 
 -- a byte of a sector
-get_or-sector_at : (disk : List ℕ) (n k : ℕ) → k < SECTOR_SIZE → get_or (sector_at disk n) k 0 ≡ get_or disk (SECTOR_SIZE * n + k) 0
+pub get_or-sector_at : (disk : List ℕ) (n k : ℕ) → k < SECTOR_SIZE → get_or (sector_at disk n) k 0 ≡ get_or disk (SECTOR_SIZE * n + k) 0
 get_or-sector_at disk n k below = get_or-take SECTOR_SIZE (drop (SECTOR_SIZE * n) disk) k 0 below ∙ get_or-drop (SECTOR_SIZE * n) disk k 0
 
-length-sector_at : (disk : List ℕ) (n : ℕ) → length (sector_at disk n) ≡ min SECTOR_SIZE (length disk - SECTOR_SIZE * n)
+pub length-sector_at : (disk : List ℕ) (n : ℕ) → length (sector_at disk n) ≡ min SECTOR_SIZE (length disk - SECTOR_SIZE * n)
 length-sector_at disk n = length-take SECTOR_SIZE (drop (SECTOR_SIZE * n) disk) ∙ ap (λ left. min SECTOR_SIZE left) (length-drop (SECTOR_SIZE * n) disk)
 
 -- sectors do not overlap

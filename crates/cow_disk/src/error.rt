@@ -1,12 +1,7 @@
 use std::alloc::{AllocError, AllocFailed};
 use thiserror::Error;
 
-/// The disk has no such sector. Nothing has changed then.
-#[derive(Clone, Copy, Debug, PartialEq, Eq, Error)]
-#[error("the disk has no such sector")]
-pub struct BadSector;
-
-/// Why a disk is not made, or a sector not written. Nothing has changed then.
+/// Why bytes make no disk.
 #[derive(Clone, Copy, Debug, PartialEq, Eq, Error)]
 pub enum DiskError {
     /// The bytes are not whole sectors.
@@ -15,23 +10,34 @@ pub enum DiskError {
     /// The bytes are more than a disk has.
     #[error("the bytes are more than a disk has")]
     TooLong,
-    /// The disk has no such sector.
-    #[error("the disk has no such sector")]
-    BadSector,
     /// Out of memory.
     #[error("out of memory")]
     Memory,
 }
 
-impl From<BadSector> for DiskError {
-    ghost use Rattle.std.specs.Prelude.{◌≡◌};
-    ghost use Rattle.cow_disk.specs.declared.error.DiskError.TheVariants.{BadSector};
+/// Why a sector is not read.
+#[derive(Clone, Copy, Debug, PartialEq, Eq, Error)]
+pub enum ReadError {
+    /// The disk has no such sector.
+    #[error("the disk has no such sector")]
+    BadSector,
+    /// The sector is in this page, which is absent.
+    #[error("page {0} of the disk is absent")]
+    Absent(u32),
+}
 
-    ghost from_gives = { λ _ error. error ≡ BadSector };
-
-    fn from(_error: BadSector) -> DiskError {
-        DiskError::BadSector
-    }
+/// Why a sector is not written. Nothing has changed then.
+#[derive(Clone, Copy, Debug, PartialEq, Eq, Error)]
+pub enum WriteError {
+    /// The disk has no such sector.
+    #[error("the disk has no such sector")]
+    BadSector,
+    /// The sector is in this page, which is absent.
+    #[error("page {0} of the disk is absent")]
+    Absent(u32),
+    /// Out of memory.
+    #[error("out of memory")]
+    Memory,
 }
 
 impl From<AllocError> for DiskError {
@@ -53,5 +59,16 @@ impl<T: Drop> From<AllocFailed<T>> for DiskError {
 
     fn from(_error: AllocFailed<T>) -> DiskError {
         DiskError::Memory
+    }
+}
+
+impl From<AllocError> for WriteError {
+    ghost use Rattle.std.specs.Prelude.{◌≡◌};
+    ghost use Rattle.cow_disk.specs.declared.error.WriteError.TheVariants.{Memory};
+
+    ghost from_gives = { λ _ error. error ≡ Memory };
+
+    fn from(_error: AllocError) -> WriteError {
+        WriteError::Memory
     }
 }

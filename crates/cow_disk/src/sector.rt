@@ -1,5 +1,6 @@
 ghost use Rattle.std.specs.Prelude.{◌≡◌, OnOk, OnErr, IfOk};
 ghost use Rattle.std.specs.Arc.{arc_value};
+ghost use Rattle.flat_memory.specs.Flat.{zeros};
 
 use crate::disk::SECTOR_SIZE;
 use shared_leaves::Handle;
@@ -57,6 +58,13 @@ impl Handle for Sector {
 }
 
 impl Sector {
+    /// A sector of zeros, for which no memory is taken.
+    pub fn zeros() -> Sector
+        ensures { result ≡ zeros SECTOR_SIZE }
+    {
+        Sector { bytes: None }
+    }
+
     pub fn new(alloc: Global, bytes: &[u8; SECTOR_SIZE]) -> Result<Sector, AllocError>
         ensures { IfOk result (λ sector. sector ≡ bytes.now) }
     {

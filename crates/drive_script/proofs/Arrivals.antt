@@ -1,7 +1,7 @@
 -- A page that comes changes nothing of a forest but what is known of the pages of its machine.
-use Rattle.std.proofs.Common.{◌≡◌, ◌≢◌, ℕ, Bool, true, false, refl, sym, ap, ◌∙◌, List, [], ◌∷◌, ◌++◌, Option, Some, None, option_map, option_and_then}
-use Rattle.image_depot.specs.declared.arrived.Arrived.{Arrived}
-use Rattle.image_depot.specs.declared.arrived.Arrived.TheVariants.{Got, Had}
+use Rattle.std.proofs.Common.{◌≡◌, ◌≢◌, ℕ, true, false, refl, sym, ap, ◌∙◌, [], ◌∷◌, ◌++◌, Option, Some, None, option_map, option_and_then}
+use Rattle.cow_disk.specs.declared.arrived.Arrived.{Arrived}
+use Rattle.cow_disk.specs.declared.arrived.Arrived.TheVariants.{Got, Had}
 use Rattle.forest_tree.specs.Tree.{Tree, node, Branch, Path, machine, log_of, subtree, beyond, goes_on, is_below}
 use Rattle.forest_tree.specs.Projection.{map_tree}
 use Rattle.forest_tree.proofs.Places.{subtree-parts}

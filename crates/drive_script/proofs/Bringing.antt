@@ -1,16 +1,15 @@
 -- A page that comes to a machine on lease.
-use Rattle.std.proofs.Common.{◌≡◌, ℕ, zero, ◌<◌, ◌≤◌, ◌&&◌, not, Bool, true, false, refl, sym, ap, ap₂, ◌∙◌, subst, arith, List, [], ◌∷◌, length, set}
-use Rattle.std.proofs.Common.{Option, Some, None, IfSome, is_some, option_map, option_and_then, Result, Ok, Err}
+use Rattle.std.proofs.Common.{◌≡◌, ℕ, ◌<◌, ◌≤◌, Bool, true, false, refl, sym, ap, ap₂, ◌∙◌, subst, arith, List, length}
+use Rattle.std.proofs.Common.{Option, Some, None, IfSome, option_map, Result, Ok, Err}
 use Rattle.std.specs.Prelude.{slice_get}
-use Rattle.std.proofs.lemmas.Option.{slice_get-get_or, slice_get_past}
+use Rattle.std.proofs.lemmas.Option.{slice_get-get_or, slice_get_past, slice_get_within}
 use Rattle.std.specs.declared.alloc.AllocError.{AllocError}
 use Rattle.image_depot.specs.Key.{Shelves, Key, number_of}
 use Rattle.image_depot.specs.Reply.{Reply}
-use Rattle.image_depot.specs.declared.arrived.Arrived.{Arrived}
-use Rattle.image_depot.specs.declared.arrived.Arrived.TheVariants.{Got, Had}
+use Rattle.cow_disk.specs.declared.arrived.Arrived.{Arrived}
+use Rattle.cow_disk.specs.declared.arrived.Arrived.TheVariants.{Got, Had}
 use Rattle.guest_mem.specs.Ram.{IsOfImage}
 use Rattle.forest_tree.specs.Tree.{Tree, node, Path, machine, subtree}
-use Rattle.forest_tree.specs.Settle.{settle_all}
 use Rattle.forest_tree.specs.Projection.{map_tree}
 use Rattle.forest_history.specs.Places.{Spot, at_path, bare, spots}
 use Rattle.forest_history.specs.World.{holds, is_at_home, lives_at_home}
@@ -18,22 +17,20 @@ use Rattle.forest_history.specs.Rows.{took, does}
 use Rattle.forest_history.proofs.Changes.{at_path-here}
 use Rattle.forest_history.proofs.Ends.{at_path-map}
 use Rattle.forest_model.specs.Machine.{Machine}
-use Rattle.forest_model.specs.Forest.{machines}
 use Rattle.forest_model.specs.Paged.{Paged, Pages, advanced_by, paged_machines, pages_arrived}
-use Rattle.vm_cell.specs.Keyed.{Arrives, HasImage, IsHere, IsOfDepot}
+use Rattle.vm_cell.specs.Keyed.{Arrives, HasImage, IsOfDepot}
 use Rattle.world_core.specs.declared.world.World.{World}
 use Rattle.world_core.specs.Lent.{Lent, IsSameLease, now_of}
-use Rattle.world_core.specs.World.{Forest, StandsFor}
+use Rattle.world_core.specs.World.{StandsFor}
 use Rattle.world_core.specs.Answers.{TakesNamed}
 use Rattle.world_core.specs.Arrived.{after_arrival, flagged, with_arrived}
 use Rattle.world_core.proofs.Arriving.{flags-taken, flags-whole}
-use Rattle.drive_script.specs.declared.answer.Answer.{Answer}
 use Rattle.drive_script.specs.declared.answer.Answer.TheVariants.{Give}
-use Rattle.drive_script.specs.Driven.{DrivesLine, HasMachines, Keeps}
+use Rattle.drive_script.specs.Driven.{DrivesLine, HasMachines}
 use Rattle.drive_script.specs.Replies.{arrived_by, page_at, paged_with, siblings_of, tree_with, with_arrival}
 use Rattle.drive_script.specs.Script.{give}
 use Rattle.drive_script.specs.Steps.{after_steps, live_at}
-use Rattle.drive_script.specs.Told.{Driven, answer_by, arrived_at, given}
+use Rattle.drive_script.specs.Told.{Driven, IsBelow, answer_by, arrival_told, arrived_at, given}
 use Rattle.drive_script.specs.Turned.{Brings, HasBack, HasLent, RanFrom}
 use Rattle.drive_script.proofs.Driving.{breaks-first}
 use Rattle.drive_script.proofs.Lent.{at-home, begins-by, first, lent-first, lent-live, named-lent, own-tree, taken}
@@ -127,7 +124,7 @@ module _ (depot : Shelves) (w : World) (t : Tree Paged) (old : Lent) (h : HasLen
           lent-same a.1,
         )
 
-  -- RAM has no such page
+  -- the machine has no such page
   pub brings-none : (page : ℕ) → length old.pages.here ≤ page → Brings depot w t page old (Ok None) old
   brings-none page past = (
     sym (ap (λ here. arrived_by here page) (slice_get_past old.pages.here page past)),
@@ -154,6 +151,15 @@ module _ (depot : Shelves) (w : World) (t : Tree Paged) (old : Lent) (h : HasLen
 
 -- ---- the line
 
+-- what came is of a page that the machine has
+pub brought-below : (here : List Bool) (page end : ℕ) (arrived : Option Arrived) → length here ≤ end → arrived ≡ arrived_by (slice_get here page) page → IfSome arrived (IsBelow end)
+brought-below here page end arrived few is = subst (λ a. IfSome a (IsBelow end)) (sym is) (by (slice_get here page) refl)
+  where
+    by : (flag : Option Bool) → slice_get here page ≡ flag → IfSome (arrived_by flag page) (IsBelow end)
+    by None e = tt
+    by (Some true) e = omega (arith, few, slice_get_within here page true e)
+    by (Some false) e = omega (arith, few, slice_get_within here page false e)
+
 -- the machine is on lease still, whatever came
 pub brings-lent : (depot : Shelves) (w : World) (t : Tree Paged) (page : ℕ) (old new : Lent) (r : Result (Option Arrived) AllocError) → HasLent depot w t old
     → Brings depot w t page old r new → (u : Tree Paged) × HasLent depot w u new
@@ -175,9 +181,9 @@ module _ (depot : Shelves) (w mid last : World) (s : Driven) (name : Path) (plac
       breaks-first depot last (give name place) s
       (back-as depot last s.tree new (ap (λ (l : Lent). l.ran) brings ∙ named.2.ran) (gives s.tree (subst (HasLent depot mid s.tree) (sym brings) lent)))
 
-  pub gives-so : (arrived : Option Arrived) → Some page ≡ page_at (siblings_of name) place s.sent → Brings depot mid s.tree page lease (Ok arrived) new
-      → DrivesLine depot (give name place) s (Ok (Give arrived)) last
-  gives-so arrived at brings =
+  pub gives-so : (arrived shown : Option Arrived) → shown ≡ arrival_told (now_of lease) arrived → Some page ≡ page_at (siblings_of name) place s.sent
+      → Brings depot mid s.tree page lease (Ok arrived) new → DrivesLine depot (give name place) s (Ok (Give shown)) last
+  gives-so arrived shown shown_is at brings =
       let own = own-tree depot mid s.tree lease lent in
       let live : live_at paged_machines name s.tree ≡ Some own =
       subst (λ n. live_at paged_machines n s.tree ≡ Some own) named.1 (lent-live depot mid s.tree lease lent) in
@@ -185,7 +191,8 @@ module _ (depot : Shelves) (w mid last : World) (s : Driven) (name : Path) (plac
       let comes : arrived ≡ arrived_at (page_at (siblings_of name) place s.sent) (Some own) =
       brings.0 ∙ sym (ap (λ (p : Pages). arrived_by (slice_get p.here page) page) pages) ∙ ap (λ n. arrived_at n (Some own)) at in
       let same : arrived ≡ given name place s = comes ∙ ap (arrived_at (page_at (siblings_of name) place s.sent)) (sym live) in (
-        ap Give comes ∙ sym (ap (answer_by (give name place) s) live),
+        ap Give (shown_is ∙ ap (λ p. arrival_told p arrived) (sym (lent-first depot mid s.tree lease lent named.2.ran)) ∙ ap (arrival_told (machine own)) comes)
+            ∙ sym (ap (answer_by (give name place) s) live),
         subst (λ a. HasMachines depot last (with_arrival name a s.tree)) same
             (subst (λ n. HasMachines depot last (with_arrival n arrived s.tree)) named.1
             (back-as depot last (with_arrival lease.name arrived s.tree) new brings.2 (gives (with_arrival lease.name arrived s.tree) brings.3))),
@@ -202,4 +209,4 @@ gives-none depot w s name place h none =
   where
     by : (c : Option (Tree Paged)) → answer_by (give name place) s c ≡ Give None
     by None = refl
-    by (Some a) = ap (λ n. Give (arrived_at n (Some a))) (sym none)
+    by (Some a) = ap (λ n. Give (arrival_told (machine a) (arrived_at n (Some a)))) (sym none)

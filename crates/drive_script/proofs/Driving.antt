@@ -1,6 +1,6 @@
 -- Lines of a script over a world of machines.
-use Rattle.std.proofs.Common.{◌≡◌, ℕ, ◌<◌, get_or, refl, sym, ap, ap₂, ◌∙◌, subst, append_assoc, append-nil, inl, inr, List, [], ◌∷◌, ◌++◌, length}
-use Rattle.std.proofs.Common.{take, drop, ◌+◌, cond, nat_lt, false, Vec, Option, Some, None, option_map, option_and_then, Result, Ok, Err, IfOk}
+use Rattle.std.proofs.Common.{◌≡◌, ℕ, ◌<◌, get_or, refl, sym, ap, ap₂, ◌∙◌, subst, append_assoc, append-nil, inl, List, [], ◌∷◌, ◌++◌, length}
+use Rattle.std.proofs.Common.{take, drop, ◌+◌, false, Vec, Option, Some, None, option_and_then, Result, Ok, Err, IfOk}
 use Rattle.std.proofs.Math.Seq.{take-append-add}
 use Rattle.std.proofs.lemmas.Grind.{flat_map-append}
 use Rattle.std.proofs.lemmas.List.{map_more, take-append-drop, take-map}
@@ -18,16 +18,16 @@ use Rattle.world_core.specs.declared.world.World.{World}
 use Rattle.world_core.specs.Answers.{TakesNamed}
 use Rattle.world_core.specs.Lent.{Lent, now_of}
 use Rattle.drive_script.specs.declared.answer.Answer.{Answer}
-use Rattle.drive_script.specs.declared.answer.Answer.TheVariants.{NoMachine, Ask, Push, Word, Registers}
+use Rattle.drive_script.specs.declared.answer.Answer.TheVariants.{Ask, Push, Word, Registers}
 use Rattle.drive_script.specs.declared.answer.SentPlace.{SentPlace}
 use Rattle.drive_script.specs.Driven.{BreaksOff, DrivesLine, HasBrokenOff, HasMachines, HasMade, Keeps}
 use Rattle.drive_script.specs.declared.line.ScriptLine.{ScriptLine as Read}
 use Rattle.drive_script.specs.Lines.{line_read, lines_read}
-use Rattle.drive_script.specs.Replies.{Replies, page_at, place_of, reply_to, siblings_of, with_arrival, with_reply}
+use Rattle.drive_script.specs.Replies.{page_at, place_of, reply_to, siblings_of, with_arrival, with_reply}
 use Rattle.drive_script.specs.Script.{ScriptLine, step, ask, push, give, peek, regs}
-use Rattle.drive_script.specs.Steps.{after_steps, live_at}
+use Rattle.drive_script.specs.Steps.{after_steps, live_at, place_in}
 use Rattle.drive_script.specs.Told.{Driven, name_in, asked_of, pushed_of, arrived_at, given, steps_of, after_line, after_script, answer, answer_by}
-use Rattle.drive_script.specs.Told.{unanswered, made_at, told, told_line, told_text, begun}
+use Rattle.drive_script.specs.Told.{sent_told, unanswered, made_at, told, told_line, told_text, begun}
 use Rattle.drive_script.specs.Turned.{HasBack, HasLent}
 use Rattle.drive_script.proofs.Lent.{lent-live, lent-first, named-kept, named-lent, named-none, own-tree}
 use Rattle.drive_script.proofs.Sending.{IsSent, no-page}
@@ -177,23 +177,30 @@ module _ (depot : Shelves) (w : World) (s : Driven) (name : Path) (now : Paged) 
       → reply_to (siblings_of name) page ≡ reply_to (siblings_of name) (option_and_then of (live_at paged_machines name s.tree))
   reply-is of is = ap (reply_to (siblings_of name)) (is ∙ sym (ap (option_and_then of) look.live))
 
-  pub asks : page ≡ stalled_at now → DrivesLine depot (ask name) s (Ok (Ask placed)) w × Keeps lists (after_line (ask name) s).sent
-  asks is =
+  -- it is told by the number of its page
+  sent-told : (shown : Option SentPlace) (of : Tree Paged → Option ℕ) → shown ≡ sent_told now placed → page ≡ of look.at
+      → shown ≡ sent_told (machine look.at) (place_of (reply_to (siblings_of name) (of look.at)) s.sent)
+  sent-told shown of is at =
+      is ∙ ap (λ p. sent_told p placed) (sym look.is)
+      ∙ ap (sent_told (machine look.at)) (sent.0 ∙ ap (λ n. place_of (reply_to (siblings_of name) n) s.sent) at)
+
+  pub asks : (shown : Option SentPlace) → shown ≡ sent_told now placed → page ≡ stalled_at now
+      → DrivesLine depot (ask name) s (Ok (Ask shown)) w × Keeps lists (after_line (ask name) s).sent
+  asks shown shown_is is =
       let at : page ≡ asked_of look.at = is ∙ sym (ap stalled_at look.is) in (
         (
-          ap Ask (sent.0 ∙ ap (λ n. place_of (reply_to (siblings_of name) n) s.sent) at) ∙ sym (ap (answer_by (ask name) s) look.live),
+          ap Ask (sent-told shown asked_of shown_is at) ∙ sym (ap (answer_by (ask name) s) look.live),
           look.has,
         ),
         subst (λ reply. Keeps lists (with_reply reply s.sent)) (reply-is asked_of at) sent.1,
       )
 
-  pub pushes : (number : ℕ) → page ≡ cond (nat_lt number (length now.pages.here)) (Some number) None
-      → DrivesLine depot (push name number) s (Ok (Push placed)) w × Keeps lists (after_line (push name number) s).sent
-  pushes number is =
-      let at : page ≡ pushed_of number look.at =
-      is ∙ sym (ap (λ (p : Paged). cond (nat_lt number (length p.pages.here)) (Some number) None) look.is) in (
+  pub pushes : (number : ℕ) (shown : Option SentPlace) → shown ≡ sent_told now placed → page ≡ place_in now number
+      → DrivesLine depot (push name number) s (Ok (Push shown)) w × Keeps lists (after_line (push name number) s).sent
+  pushes number shown shown_is is =
+      let at : page ≡ pushed_of number look.at = is ∙ sym (ap (λ (p : Paged). place_in p number) look.is) in (
         (
-          ap Push (sent.0 ∙ ap (λ n. place_of (reply_to (siblings_of name) n) s.sent) at) ∙ sym (ap (answer_by (push name number) s) look.live),
+          ap Push (sent-told shown (pushed_of number) shown_is at) ∙ sym (ap (answer_by (push name number) s) look.live),
           look.has,
         ),
         subst (λ reply. Keeps lists (with_reply reply s.sent)) (reply-is (pushed_of number) at) sent.1,

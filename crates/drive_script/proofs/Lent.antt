@@ -1,5 +1,5 @@
 -- A machine on lease from a world that has all other machines of a tree at home.
-use Rattle.std.proofs.Common.{◌≡◌, ℕ, ◌+◌, ◌<◌, ◌&&◌, ◌||◌, not, Bool, true, false, refl, sym, ap, ap₂, ◌∙◌, subst, arith, Option, Some, None, IfSome}
+use Rattle.std.proofs.Common.{◌≡◌, ℕ, ◌+◌, ◌<◌, ◌&&◌, ◌||◌, not, Bool, true, false, refl, sym, ap, ◌∙◌, subst, arith, Option, Some, None, IfSome}
 use Rattle.std.proofs.Common.{MatchOption, IsSome, IsSomeAnd, is_some, option_map, option_and_then, Ok}
 use Rattle.std.proofs.lemmas.Bool.{and_parts, not-true}
 use Rattle.image_depot.specs.Key.{Shelves}
@@ -17,7 +17,7 @@ use Rattle.forest_history.specs.Rows.{How, gave, ended, forked, joined, killed, 
 use Rattle.forest_history.proofs.Changes.{at_path-here, steps-own}
 use Rattle.forest_history.proofs.Whole.{turn-home}
 use Rattle.forest_history.proofs.Spots.{machine-placed}
-use Rattle.forest_model.specs.Machine.{Machine, next}
+use Rattle.forest_model.specs.Machine.{next}
 use Rattle.forest_model.specs.Forest.{machines, tree_call}
 use Rattle.forest_model.specs.Paged.{Paged, advanced_by, paged_machines, stalled_at}
 use Rattle.vm_cell.specs.Keyed.{KeyedMachine, paged}

@@ -17,6 +17,7 @@ mod Turning
 mod Driving
 mod Stepping
 mod Bringing
+mod Below
 pub mod Started
 mod WrittenNames
 mod NameTexts

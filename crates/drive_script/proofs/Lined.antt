@@ -29,7 +29,7 @@ use Rattle.drive_script.specs.Script as script
 use Rattle.drive_script.specs.declared.answer.Answer.TheVariants.{Ran}
 use Rattle.drive_script.specs.declared.answer.Why.TheVariants.{MayGoOn}
 use Rattle.drive_script.specs.Replies.{Siblings, Replies, are_same, reply_to, siblings_of, with_reply}
-use Rattle.drive_script.specs.Steps.{after_steps, stops, why, live_at, Drops}
+use Rattle.drive_script.specs.Steps.{after_steps, number_in, stall_told, stops, why, live_at, Drops}
 use Rattle.drive_script.specs.Told.{Driven, made_at, whole, asked, pushed, given, ran, ran_by, name_in, steps_of, after_line, after_script, steps_of_script, answer, answer_by}
 use Rattle.drive_script.proofs.Arrivals.{apart-arrival, below-arrival, logs-arrival, others-arrival, whole-arrival}
 use Rattle.drive_script.proofs.Sending.{are-same}
@@ -160,12 +160,19 @@ counts most path s a b h here there =
     ∙ ap₂ (λ n x. n + paged_machines.left (machine x)) own (sym is)
 
 answered-by : (count made : ℕ) (c : Option (Tree Paged)) → ran_by count c ≡ Ran made MayGoOn
-    → (count ≡ made) × ((x : Tree Paged) × (c ≡ Some x) × (why paged_machines stalled_at x ≡ MayGoOn))
+    → (count ≡ made) × ((x : Tree Paged) × (c ≡ Some x) × (why paged_machines stall_told x ≡ MayGoOn))
 answered-by count made None h = cc h
 answered-by count made (Some x) h = (cc h, (x, refl, cc h))
 
-not-ok : (x : Tree Paged) → stops paged_machines stalled_at (Some x) ≡ true → why paged_machines stalled_at x ≡ MayGoOn → ⊥
-not-ok (node m broods log) h k = stops-why paged_machines (paged_machines.ending m) (stalled_at m) (paged_machines.call m) broods h k
+-- a page is told just where there is one
+told-some : (number : ℕ → ℕ) (page : Option ℕ) → is_some (option_map number page) ≡ is_some page
+told-some number None = refl
+told-some number (Some page) = refl
+
+not-ok : (x : Tree Paged) → stops paged_machines stalled_at (Some x) ≡ true → why paged_machines stall_told x ≡ MayGoOn → ⊥
+not-ok (node m broods log) h k =
+    stops-why paged_machines (paged_machines.ending m) (stall_told m) (paged_machines.call m) broods
+    (ap (λ waits. rests paged_machines (Some (node m broods log)) || waits) (told-some (number_in m) (stalled_at m)) ∙ h) k
 
 ok-by : (most made : ℕ) (path : Path) (t : Tree Paged) → ran path (made_at most path t) t ≡ Ran made MayGoOn → made ≡ most
 ok-by most made path t h =

@@ -8,7 +8,6 @@ use Rattle.fork_port.specs.declared.ending.Ending.{Ending}
 use Rattle.fork_port.specs.declared.ending.Ending.TheVariants.{Exit, Limit}
 use Rattle.forest_tree.specs.Tree.{Tree, Path, machine, subtree}
 use Rattle.forest_tree.proofs.Run.{is-some}
-use Rattle.forest_model.specs.Machine.{Machine}
 use Rattle.forest_model.specs.Forest.{machines}
 use Rattle.forest_model.specs.Paged.{Paged, paged_machines, stalled_at}
 use Rattle.world_core.specs.declared.world.World.{World}
@@ -20,7 +19,7 @@ use Rattle.drive_script.specs.declared.turn.TurnOutcome.{TurnOutcome}
 use Rattle.drive_script.specs.declared.turn.TurnOutcome.TheVariants as turn
 use Rattle.drive_script.specs.Driven.{HasMachines, HasMade, DrivesLine}
 use Rattle.drive_script.specs.Script.{step}
-use Rattle.drive_script.specs.Steps.{after_steps, if_lives, live_at, why}
+use Rattle.drive_script.specs.Steps.{after_steps, if_lives, live_at, stall_told, why}
 use Rattle.drive_script.specs.Told.{Driven, made_at, answer, answer_by, ran, ran_by}
 use Rattle.drive_script.specs.Turned.{HasRun, HasStopped, IsLiveOrLimit, Lives, EndsTurn}
 use Rattle.drive_script.proofs.Driving.{made-behind}
@@ -77,7 +76,7 @@ module _ (depot : Shelves) (name : Path) (s : Driven) (made : ℕ) (w : World) (
     all-made = made-all paged_machines stalled_at made most name t within stepping-made
 
     answer-made : (steps : ℕ) (a : Tree Paged) → Lives name t → made_at most name t ≡ steps
-        → subtree name (after_steps paged_machines steps name t) ≡ Some a → answer (step name most) s ≡ Ran steps (why paged_machines stalled_at a)
+        → subtree name (after_steps paged_machines steps name t) ≡ Some a → answer (step name most) s ≡ Ran steps (why paged_machines stall_told a)
     answer-made steps a lives is there =
         ap (answer_by (step name most) s) (is-some (live_at paged_machines name t) lives).1
         ∙ ap (λ n. ran name n t) is ∙ ap (ran_by steps) there
@@ -130,7 +129,7 @@ module _ (depot : Shelves) (name : Path) (s : Driven) (made : ℕ) (w : World) (
           let last = turned (turn.Stopped steps reason) is in
           let stopped : HasStopped depot name (most - made) after-made steps reason new = last.1 in
           let count : made_at most name t ≡ made + steps = all-made ∙ ap (λ n. made + n) stopped.made in
-          let at = there-is (subtree name (after_steps paged_machines steps name after-made)) (λ a. why paged_machines stalled_at a ≡ reason) stopped.there in (
+          let at = there-is (subtree name (after_steps paged_machines steps name after-made)) (λ a. why paged_machines stall_told a ≡ reason) stopped.there in (
             sym (answer-made (made + steps) at.0 (stepping-lives last.0) count (ap (subtree name) (after-more steps) ∙ at.1) ∙ ap (Ran (made + steps)) at.2),
             subst (HasMachines depot new) (sym (ap (λ n. after_steps paged_machines n name t) count ∙ after-more steps)) stopped.has,
           )
@@ -164,7 +163,7 @@ module _ (depot : Shelves) (name : Path) (s : Driven) (made : ℕ) (w : World) (
               let at = there-is (subtree name after-made) (λ (a : Tree Paged). IsLiveOrLimit (machine a).machine.ending) run.1.there in
               let none : if_lives paged_machines (paged_machines.ending (machine at.0)) at.0 ≡ None =
               sym (ap (option_and_then (λ a. if_lives paged_machines (paged_machines.ending (machine a)) a)) at.1) ∙ last.0 in
-              let over = why-ended paged_machines stalled_at at.0 Limit (limit-by (paged_machines.ending (machine at.0)) at.0 none at.2) in (
+              let over = why-ended paged_machines stall_told at.0 Limit (limit-by (paged_machines.ending (machine at.0)) at.0 none at.2) in (
                 sym (answer-made made at.0 run.0 (no-more last.0) at.1 ∙ ap (Ran made) over),
                 subst (HasMachines depot new) (ap (λ n. after_steps paged_machines n name t) (sym (no-more last.0))) last.1,
               )

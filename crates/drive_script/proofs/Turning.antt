@@ -1,5 +1,5 @@
 -- What a machine did in its turn.
-use Rattle.std.proofs.Common.{◌≡◌, ◌≢◌, ℕ, ◌+◌, ◌-◌, ◌<◌, ◌≤◌, ◌⊎◌, ◌&&◌, ◌||◌, not, inl, inr, Bool, true, false, refl, sym, ap, ap₂, ◌∙◌, subst}
+use Rattle.std.proofs.Common.{◌≡◌, ◌≢◌, ℕ, ◌+◌, ◌-◌, ◌<◌, ◌≤◌, ◌⊎◌, ◌&&◌, ◌||◌, not, inl, inr, Bool, true, false, refl, sym, ap, ◌∙◌, subst}
 use Rattle.std.proofs.Common.{arith, replicate, Option, Some, None, IsSome, IfSome, MatchOption, IsSomeAnd, is_some, Ok}
 use Rattle.std.proofs.lemmas.Bool.{cases_lt}
 use Rattle.image_depot.specs.Key.{Shelves}
@@ -12,7 +12,7 @@ use Rattle.forest_tree.proofs.Run.{is-some}
 use Rattle.forest_history.specs.Places.{Spot}
 use Rattle.forest_history.specs.World.{is_at_home}
 use Rattle.forest_history.specs.Rows.{took, does}
-use Rattle.forest_model.specs.Machine.{Machine, next}
+use Rattle.forest_model.specs.Machine.{next}
 use Rattle.forest_model.specs.Forest.{machines}
 use Rattle.forest_model.specs.Paged.{Paged, advanced_by, paged_machines, stalled_at}
 use Rattle.forest_model.proofs.Paged.{advanced_by-add}
@@ -29,7 +29,7 @@ use Rattle.world_core.proofs.Steps.{standing}
 use Rattle.drive_script.specs.declared.answer.Why.{Why}
 use Rattle.drive_script.specs.declared.turn.TurnOutcome.TheVariants.{Stopped, Called}
 use Rattle.drive_script.specs.Driven.{HasMachines, HasMade}
-use Rattle.drive_script.specs.Steps.{after_steps, stops, why}
+use Rattle.drive_script.specs.Steps.{after_steps, stall_told, stops, why}
 use Rattle.drive_script.specs.Told.{made_at}
 use Rattle.drive_script.specs.Turned.{HasBack, HasRun, HasLent, HasStopped, Lives, MayGo, RanFrom, EndsTurn, ran_to, with_machine}
 use Rattle.drive_script.proofs.Lent.{lent-live, lent-shown, lent-shows, lent-waits, own-tree, ran-live, taken}
@@ -121,8 +121,8 @@ call-goes : (v : KeyedMachine) (a : Tree Paged) (c : Call) → standing_call v �
 unfolding paged_machines machines
 call-goes v (node old broods log) c stands h = goes-by v.machine.ending (waits paged_machines (node (paged v) broods log)) (standing v c stands).0 h
 
-why-ran : (now : Paged) (a : Tree Paged) → why paged_machines stalled_at (ran_to now a) ≡ why paged_machines stalled_at (with_machine now a)
-why-ran now (node old broods log) = why-settled paged_machines stalled_at now broods log
+why-ran : (now : Paged) (a : Tree Paged) → why paged_machines stall_told (ran_to now a) ≡ why paged_machines stall_told (with_machine now a)
+why-ran now (node old broods log) = why-settled paged_machines stall_told now broods log
 
 -- one that stands at no call, and did not stop for want of steps, has ended or waits for a page
 stands-stopped : (v : KeyedMachine) (reason : Stepped) → reason ≢ stepped.Went → Stands v reason → standing_call v ≡ None
@@ -172,21 +172,21 @@ module _ (depot : Shelves) (w : World) (t : Tree Paged) (lease : Lent) (h : HasL
       has = subst (HasMachines depot new) (first-made paged_machines stalled_at lease.ran most lease.name t within back.made) back.has;
     }
 
-    stopped-by : (most : ℕ) (reason : Why) → lease.ran ≤ most → IsSomeAnd (subtree lease.name t) (λ a. reason ≡ why paged_machines stalled_at (with_machine (now_of lease) a))
+    stopped-by : (most : ℕ) (reason : Why) → lease.ran ≤ most → IsSomeAnd (subtree lease.name t) (λ a. reason ≡ why paged_machines stall_told (with_machine (now_of lease) a))
         → (lease.ran ≡ most) ⊎ (stops paged_machines stalled_at (Some now-tree) ≡ true) → HasStopped depot lease.name most t lease.ran reason new
     stopped-by most reason within is short = record {
       made = made-stops paged_machines stalled_at lease.ran most lease.name t within back.made (elim short [
         | inl all ↦ inl all
         | inr rest ↦ inr (ap (stops paged_machines stalled_at) there-now ∙ rest)
       ]);
-      there = subst (λ o. IsSomeAnd o (λ a. why paged_machines stalled_at a ≡ reason)) (sym there-now)
+      there = subst (λ o. IsSomeAnd o (λ a. why paged_machines stall_told a ≡ reason)) (sym there-now)
           (why-ran (now_of lease) (own-tree depot w t lease h)
-          ∙ sym (lent-shown depot w t lease h (λ a. reason ≡ why paged_machines stalled_at (with_machine (now_of lease) a)) is));
+          ∙ sym (lent-shown depot w t lease h (λ a. reason ≡ why paged_machines stall_told (with_machine (now_of lease) a)) is));
       has = back.has;
     }
 
     pub turn-stopped : (most steps : ℕ) (reason : Why) → lease.ran ≡ steps → steps ≤ most
-        → IsSomeAnd (subtree lease.name t) (λ a. reason ≡ why paged_machines stalled_at (with_machine (now_of lease) a))
+        → IsSomeAnd (subtree lease.name t) (λ a. reason ≡ why paged_machines stall_told (with_machine (now_of lease) a))
         → (steps ≡ most) ⊎ (stops paged_machines stalled_at (Some now-tree) ≡ true) → EndsTurn depot lease.name most t (Ok (Stopped steps reason)) new
     turn-stopped most steps reason ran within is short = (
       lent-lives,

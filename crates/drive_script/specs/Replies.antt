@@ -1,7 +1,7 @@
--- The replies that are sent to the children of a ticket, and the pages of theirs that come.
+-- The replies that are sent to the children of a ticket, and the pages of theirs that come. A page is told by its place.
 use Rattle.std.specs.Prelude.{ℕ, ◌==◌, ◌&&◌, Bool, true, false, if◌then◌else◌, List, [], ◌∷◌, ◌++◌, length, slice_get, Option, Some, None}
-use Rattle.image_depot.specs.declared.arrived.Arrived.{Arrived}
-use Rattle.image_depot.specs.declared.arrived.Arrived.TheVariants.{Got, Had}
+use Rattle.cow_disk.specs.declared.arrived.Arrived.{Arrived}
+use Rattle.cow_disk.specs.declared.arrived.Arrived.TheVariants.{Got, Had}
 use Rattle.forest_tree.specs.Tree.{Tree, node, Branch, Path}
 use Rattle.forest_history.specs.Places.{at_path}
 use Rattle.forest_history.specs.Histories.{is_same_path}
@@ -59,7 +59,7 @@ page_at (Some to) place sent = slice_get (sent to) place
 
 -- ---- what comes
 
--- what comes of a page, by whether it is here. There is nothing where RAM has no such page
+-- what comes of a page, by whether it is here. There is nothing where the machine has no such page
 abbrev pub arrived_by : Option Bool → ℕ → Option Arrived
 arrived_by None page = None
 arrived_by (Some true) page = Some (Had page)

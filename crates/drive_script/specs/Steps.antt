@@ -1,5 +1,8 @@
 -- The steps of one machine of a tree, and why it stops.
-use Rattle.std.specs.Prelude.{◌≡◌, ℕ, zero, suc, ◌||◌, Bool, true, if◌then◌else◌, replicate, Option, Some, None, IsSome, is_some, option_and_then}
+use Rattle.std.specs.Prelude.{◌≡◌, ℕ, zero, suc, ◌-◌, ◌||◌, Bool, true, if◌then◌else◌, length, replicate}
+use Rattle.std.specs.Prelude.{Option, Some, None, IsSome, is_some, option_and_then, option_map}
+use Rattle.fetch_proto.specs.Number.{page_number, page_place}
+use Rattle.forest_model.specs.Paged.{Paged, stalled_at}
 use Rattle.forest_tree.specs.Operations.{Call, clone, join, kill, Operations}
 use Rattle.forest_tree.specs.Tree.{Tree, node, Broods, machine, broods_of, brood_of, Path, subtree}
 use Rattle.forest_tree.specs.Settle.{have_ended, rests, step, settle, settle_all}
@@ -49,6 +52,20 @@ module _ {M : Type 0} (o : Operations M Ending) where
 -- why the machine at the root stops where it stands
 abbrev pub why : {M : Type 0} → Operations M Ending → (M → Option ℕ) → Tree M → Why
 why o stall (node m broods log) = why_by o (o.ending m) (stall m) (o.call m) broods
+
+-- ---- pages, as a script tells them
+
+-- the number of the page at a place of a machine
+abbrev pub number_in : Paged → ℕ → ℕ
+number_in p place = page_number (length p.pages.blank) place
+
+-- the place of the page with a number, if the machine has it
+abbrev pub place_in : Paged → ℕ → Option ℕ
+place_in p number = page_place (length p.pages.blank) (length p.pages.here - length p.pages.blank) number
+
+-- the number of the page that the next step of a machine waits for
+abbrev pub stall_told : Paged → Option ℕ
+stall_told p = option_map (number_in p) (stalled_at p)
 
 -- the next step of the machine at the root drops the children of a ticket, or takes them where all have ended
 pub data Drops {M E : Type 0} (o : Operations M E) (ticket : ℕ) (t : Tree M) : Type 0 where

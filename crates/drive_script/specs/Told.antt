@@ -1,12 +1,11 @@
 -- What the lines of a script make of a forest of whole machines, and what they answer.
-use Rattle.std.specs.Prelude.{ℕ, zero, suc, ◌/◌, ◌%◌, nat_lt, if◌then◌else◌, List, [], ◌∷◌, ◌++◌, codes, length, replicate, slice_get, slice_index}
+use Rattle.std.specs.Prelude.{ℕ, zero, suc, ◌/◌, ◌%◌, ◌<◌, List, [], ◌∷◌, ◌++◌, codes, replicate, slice_get, slice_index}
 use Rattle.std.specs.Prelude.{Option, Some, None, option_and_then}
 use Rattle.std.specs.Fmt.{decimal}
 use Rattle.std.specs.List.{flat_map}
-use Rattle.image_depot.specs.declared.arrived.Arrived.{Arrived}
-use Rattle.image_depot.specs.declared.arrived.Arrived.TheVariants.{Got, Had}
+use Rattle.cow_disk.specs.declared.arrived.Arrived.{Arrived}
+use Rattle.cow_disk.specs.declared.arrived.Arrived.TheVariants.{Got, Had}
 use Rattle.forest_tree.specs.Tree.{Tree, machine, Path, subtree}
-use Rattle.forest_tree.specs.Settle.{settle_all}
 use Rattle.forest_tree.specs.Projection.{map_tree}
 use Rattle.forest_model.specs.Machine.{Machine}
 use Rattle.forest_model.specs.Paged.{Paged, paged_machines, stalled_at}
@@ -20,7 +19,7 @@ use Rattle.drive_script.specs.declared.answer.SentPlace.{SentPlace}
 use Rattle.drive_script.specs.declared.answer.Why.{Why}
 use Rattle.drive_script.specs.declared.answer.Why.TheVariants.{Ended, Stalls, Waits, MayGoOn}
 use Rattle.drive_script.specs.Replies.{Siblings, Replies, siblings_of, none_sent, reply_to, with_reply, place_of, page_at, arrived_by, with_arrival}
-use Rattle.drive_script.specs.Steps.{steps_made, after_steps, why, live_at}
+use Rattle.drive_script.specs.Steps.{steps_made, after_steps, why, live_at, number_in, place_in, stall_told}
 
 abbrev pub name_in : ScriptLine → Path
 name_in (step path most) = path
@@ -62,9 +61,9 @@ steps_of (regs path) t = []
 abbrev pub asked_of : Tree Paged → Option ℕ
 asked_of a = stalled_at (machine a)
 
--- and the one that `push` sends, which is any of RAM
+-- and the one that `push` sends, which is any that the machine has, by its number
 abbrev pub pushed_of : ℕ → Tree Paged → Option ℕ
-pushed_of page a = if nat_lt page (length (machine a).pages.here) then Some page else None
+pushed_of number a = place_in (machine a) number
 
 -- the replies that these lines send, where a live machine has the name
 abbrev pub asked : Path → Driven → Option (Siblings × ℕ)
@@ -103,10 +102,25 @@ steps_of_script (line ∷ rest) s = steps_of line s.tree ++ steps_of_script rest
 
 -- ---- the answers
 
+-- the page of what came is below an end
+abbrev pub IsBelow : ℕ → Arrived → Type 0
+IsBelow end (Got page) = page < end
+IsBelow end (Had page) = page < end
+
+-- a reply that was sent, and what came of one, by the number of its page
+abbrev pub sent_told : Paged → Option SentPlace → Option SentPlace
+sent_told p None = None
+sent_told p (Some sent) = Some (record { page = number_in p sent.page; place = sent.place })
+
+abbrev pub arrival_told : Paged → Option Arrived → Option Arrived
+arrival_told p None = None
+arrival_told p (Some (Got place)) = Some (Got (number_in p place))
+arrival_told p (Some (Had place)) = Some (Had (number_in p place))
+
 -- the answer of `step`, by the tree in which the machine stopped
 abbrev pub ran_by : ℕ → Option (Tree Paged) → Answer
 ran_by steps None = NoMachine
-ran_by steps (Some a) = Ran steps (why paged_machines stalled_at a)
+ran_by steps (Some a) = Ran steps (why paged_machines stall_told a)
 
 -- the same after so many steps
 abbrev pub ran : Path → ℕ → Tree Paged → Answer
@@ -115,9 +129,9 @@ ran path steps t = ran_by steps (subtree path (after_steps paged_machines steps 
 -- the answer of a line, by the tree of the live machine that it names
 abbrev pub answer_of : ScriptLine → Driven → Tree Paged → Answer
 answer_of (step path most) s a = ran path (made_at most path s.tree) s.tree
-answer_of (ask path) s a = Ask (place_of (reply_to (siblings_of path) (asked_of a)) s.sent)
-answer_of (push path page) s a = Push (place_of (reply_to (siblings_of path) (pushed_of page a)) s.sent)
-answer_of (give path place) s a = Give (arrived_at (page_at (siblings_of path) place s.sent) (Some a))
+answer_of (ask path) s a = Ask (sent_told (machine a) (place_of (reply_to (siblings_of path) (asked_of a)) s.sent))
+answer_of (push path page) s a = Push (sent_told (machine a) (place_of (reply_to (siblings_of path) (pushed_of page a)) s.sent))
+answer_of (give path place) s a = Give (arrival_told (machine a) (arrived_at (page_at (siblings_of path) place s.sent) (Some a)))
 answer_of (peek path address) s a = Word (peeked (machine a).machine.state address)
 answer_of (regs path) s a = Registers (shown_registers (machine a).machine.state)
 

@@ -3,7 +3,7 @@
 use Rattle.std.specs.Prelude.{◌≡◌, true, false, ℕ, ◌<◌, ◌≤◌, Option, Some, None, IsSome, IfSome, IsSomeAnd, slice_get, Result, Ok, Err, replicate}
 use Rattle.std.specs.declared.alloc.AllocError.{AllocError}
 use Rattle.image_depot.specs.Key.{Shelves}
-use Rattle.image_depot.specs.declared.arrived.Arrived.{Arrived}
+use Rattle.cow_disk.specs.declared.arrived.Arrived.{Arrived}
 use Rattle.fork_port.specs.declared.ending.Ending.{Ending}
 use Rattle.fork_port.specs.declared.ending.Ending.TheVariants.{Exit, Limit}
 use Rattle.forest_tree.specs.Tree.{Tree, node, Path, machine, subtree}
@@ -21,7 +21,7 @@ use Rattle.drive_script.specs.declared.answer.Why.{Why}
 use Rattle.drive_script.specs.declared.turn.TurnOutcome.{TurnOutcome}
 use Rattle.drive_script.specs.declared.turn.TurnOutcome.TheVariants.{NoMachine, Stopped, Called}
 use Rattle.drive_script.specs.Replies.{arrived_by, with_arrival}
-use Rattle.drive_script.specs.Steps.{after_steps, why, live_at}
+use Rattle.drive_script.specs.Steps.{after_steps, why, live_at, stall_told}
 use Rattle.drive_script.specs.Told.{made_at}
 use Rattle.drive_script.specs.Driven.{HasMachines, HasMade}
 
@@ -105,7 +105,7 @@ pub record HasRun (depot : Shelves) (name : Path) (steps : ℕ) (t : Tree Paged)
 -- of at most so many steps it has made these, and this is why it stops
 pub record HasStopped (depot : Shelves) (name : Path) (most : ℕ) (t : Tree Paged) (steps : ℕ) (reason : Why) (w : World) : Type 0 where
   pub made : made_at most name t ≡ steps
-  pub there : IsSomeAnd (subtree name (after_steps paged_machines steps name t)) (λ a. why paged_machines stalled_at a ≡ reason)
+  pub there : IsSomeAnd (subtree name (after_steps paged_machines steps name t)) (λ a. why paged_machines stall_told a ≡ reason)
   pub has : HasMachines depot w (after_steps paged_machines steps name t)
 
 -- the answer of a turn of at most so many steps

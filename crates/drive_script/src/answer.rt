@@ -1,10 +1,12 @@
 //! What the lines of a script answer, and the text of it.
 
-ghost use Rattle.std.specs.Prelude.{◌++◌, Some, codes};
+ghost use Rattle.std.specs.Prelude.{◌≡◌, ◌<◌, ◌+◌, ◌++◌, length, IfSome, Some, codes};
 ghost use Rattle.std.specs.Fmt.{WritesOnOk};
 ghost use Rattle.std.specs.List.{flat_map};
-ghost use Rattle.drive_script.specs.Told.{answer_text, arrived_text, register_text, sent_or_none, sent_text, value_text, why_text, word_text};
+ghost use Rattle.forest_model.specs.Paged.{Paged};
+ghost use Rattle.drive_script.specs.Told.{IsBelow, answer_text, arrival_told, arrived_text, register_text, sent_or_none, sent_text, sent_told, value_text, why_text, word_text};
 
+use fetch_proto::{FIRST_DISK_PAGE, page_number};
 use fork_port::Ending;
 use std::{fmt, str};
 use vm_cell::Arrived;
@@ -14,7 +16,7 @@ use vm_cell::Arrived;
 pub(crate) enum Why {
     /// It has ended.
     Ended(Ending),
-    /// Its next step touches this page, which is not here.
+    /// Its next step touches the page of this number, which is not here.
     Stalls(u32),
     /// Its next step is the JOIN of this ticket, of which a child lives.
     Waits(u32),
@@ -36,7 +38,8 @@ impl fmt::Display for Why {
     }
 }
 
-/// A reply that was sent: its page, and its place among those that were sent to the same machines, from 0.
+/// A reply that was sent: its page, by its number once it is told, and its place among those that were sent to the same
+/// machines, from 0.
 #[derive(Clone, Copy)]
 pub(crate) struct SentPlace {
     pub(crate) page: u32,
@@ -85,6 +88,27 @@ impl fmt::Display for Answer {
             Answer::Word(word) => write_word(f, word),
             Answer::Registers(values) => write_registers(f, values),
         }
+    }
+}
+
+/// A reply that was sent, by the number of its page, of a machine with so many pages of RAM.
+pub(crate) fn sent_told(ram_pages: u32, sent: Option<SentPlace>) -> Option<SentPlace>
+    requires { IfSome sent (λ sent. sent.page < ram_pages + FIRST_DISK_PAGE) }
+    ensures { (p : Paged) → length p.pages.blank ≡ ram_pages → result ≡ sent_told p sent }
+{
+    let SentPlace { page, place } = sent?;
+    let page = page_number(ram_pages, page);
+    Some(SentPlace { page, place })
+}
+
+/// What came of a reply, by the number of its page.
+pub(crate) fn arrival_told(ram_pages: u32, arrived: Option<Arrived>) -> Option<Arrived>
+    requires { IfSome arrived (IsBelow (ram_pages + FIRST_DISK_PAGE)) }
+    ensures { (p : Paged) → length p.pages.blank ≡ ram_pages → result ≡ arrival_told p arrived }
+{
+    match arrived? {
+        Arrived::Got(page) => Some(Arrived::Got(page_number(ram_pages, page))),
+        Arrived::Had(page) => Some(Arrived::Had(page_number(ram_pages, page))),
     }
 }
 

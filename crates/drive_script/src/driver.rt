@@ -1,6 +1,6 @@
 //! A world of machines that is driven by a script.
 
-ghost use Rattle.std.specs.Prelude.{◌≡◌, nat_lt, if◌then◌else◌, Some, None, IfOk};
+ghost use Rattle.std.specs.Prelude.{◌≡◌, Some, None, IfOk};
 ghost use Rattle.image_depot.specs.Key.{Shelves};
 ghost use Rattle.forest_tree.specs.Tree.{Tree};
 ghost use Rattle.forest_model.specs.Paged.{Paged};
@@ -11,14 +11,15 @@ ghost use Rattle.drive_script.specs.Lines.{line_read};
 ghost use Rattle.drive_script.specs.Script.{ask, give, peek, push, regs, step};
 ghost use Rattle.drive_script.specs.Told.{Driven, after_line, unanswered};
 
-use crate::answer::{Answer, Why};
+use crate::answer::{Answer, Why, arrival_told, sent_told};
 use crate::line::ScriptLine;
 use crate::name::NameText;
 use crate::replies::Replies;
 use crate::script::Script;
 use crate::turn::{TurnOutcome, bring, give_back, take_turn};
+use fetch_proto::page_place;
 use fork_port::Ending;
-use image_depot::Depot;
+use image_depot::{Depot, Receiver};
 use machine_names::Name;
 use std::alloc::{AllocError, Global};
 use std::fmt::Write;
@@ -158,12 +159,16 @@ fn ask(
     let Some(lease) = world.take_named(alloc, name, depot)? else {
         return Ok(Answer::Ask(None));
     };
-    let page = lease.wanted();
+    let page = Receiver::wanted(&lease);
+    // The call tells that the disk has few pages.
+    let _ = lease.places();
+    let ram_pages = lease.pages();
     give_back(world, lease);
-    Ok(Answer::Ask(replies.send(alloc, name, page)?))
+    let sent = replies.send(alloc, name, page)?;
+    Ok(Answer::Ask(sent_told(ram_pages, sent)))
 }
 
-/// Sends a reply with a page, if RAM has it.
+/// Sends a reply with the page of a number, if the machine has it.
 fn push(
     alloc: Global,
     world: &mut World,
@@ -182,16 +187,11 @@ fn push(
     let Some(lease) = world.take_named(alloc, name, depot)? else {
         return Ok(Answer::Push(None));
     };
-    let page = page_below(page, lease.pages());
+    let ram_pages = lease.pages();
+    let page = page_place(ram_pages, lease.places() - ram_pages, page);
     give_back(world, lease);
-    Ok(Answer::Push(replies.send(alloc, name, page)?))
-}
-
-/// A page, if it is one of so many.
-fn page_below(page: u32, pages: u32) -> Option<u32>
-    ensures { result ≡ (if nat_lt page pages then Some page else None) }
-{
-    if page < pages { Some(page) } else { None }
+    let sent = replies.send(alloc, name, page)?;
+    Ok(Answer::Push(sent_told(ram_pages, sent)))
 }
 
 /// Lets the reply at a place arrive at a machine.
@@ -214,9 +214,12 @@ fn give(
     let Some(mut lease) = world.take_named(alloc, name, depot)? else {
         return Ok(Answer::Give(None));
     };
+    // The call tells that the disk has few pages.
+    let _ = lease.places();
+    let ram_pages = lease.pages();
     let arrived = bring(alloc, &mut lease, depot, page);
     give_back(world, lease);
-    Ok(Answer::Give(arrived?))
+    Ok(Answer::Give(arrival_told(ram_pages, arrived?)))
 }
 
 /// Reads a word of a machine's RAM.

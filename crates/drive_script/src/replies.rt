@@ -1,6 +1,6 @@
 //! The replies that a script sends.
 
-ghost use Rattle.std.specs.Prelude.{◌≡◌, ◌≢◌, ◌++◌, ◌∷◌, [], length, IfOk, OnOk, option_map};
+ghost use Rattle.std.specs.Prelude.{◌≡◌, ◌≢◌, ◌++◌, ◌∷◌, [], length, Some, IfOk, IfSome, OnOk, option_map};
 ghost use Rattle.std.specs.BTreeMap.{get};
 ghost use Rattle.forest_tree.specs.Tree.{Path};
 ghost use Rattle.machine_names.specs.NameOrder.{path_cmp};
@@ -37,9 +37,10 @@ impl Replies {
         name: &Name,
         page: Option<u32>,
     ) -> Result<Option<SentPlace>, AllocError>
-        ensures { (sent : kept.Replies) → Keeps self.old.lists sent
+        ensures sends { (sent : kept.Replies) → Keeps self.old.lists sent
             → IfOk result (λ placed. (placed ≡ place_of (reply_to (siblings_of name.now) page) sent)
             × Keeps self.new.lists (with_reply (reply_to (siblings_of name.now) page) sent)) }
+        ensures same { IfOk result (λ placed. IfSome placed (λ reply. page ≡ Some reply.page)) }
     {
         let Some(page) = page else {
             return Ok(None);

@@ -3,7 +3,7 @@
 ghost use Rattle.std.specs.Prelude.{◌≡◌, ◌+◌, None, IsSome, IsSomeAnd, MatchResult};
 ghost use Rattle.image_depot.specs.Key.{Shelves};
 ghost use Rattle.forest_tree.specs.Tree.{Tree, subtree};
-ghost use Rattle.forest_model.specs.Paged.{Paged, paged_machines, stalled_at};
+ghost use Rattle.forest_model.specs.Paged.{Paged, paged_machines};
 ghost use Rattle.vm_cell.specs.Keyed.{IsOfDepot};
 ghost use Rattle.vm_cell.specs.Standing.{standing_call};
 ghost use Rattle.world_core.specs.Lent.{vm_of, now_of};
@@ -12,16 +12,17 @@ ghost use Rattle.world_core.specs.World.{Forest, StandsFor, reason_of};
 ghost use Rattle.world_core.specs.declared.world.World.{World};
 ghost use Rattle.world_core.specs.Answers.{IsHandedOut, IsLentOf};
 ghost use Rattle.drive_script.specs.Driven.{HasMachines};
-ghost use Rattle.drive_script.specs.Steps.{why};
+ghost use Rattle.drive_script.specs.Steps.{stall_told, why};
 ghost use Rattle.drive_script.specs.Turned.{AnswersCall, Brings, EndsTurn, HasBack, HasLent, HasRun, MayGo, with_machine};
 
 use crate::answer::Why;
+use fetch_proto::page_number;
 use fork_port::Call;
-use image_depot::Depot;
+use image_depot::{Depot, Receiver};
 use machine_names::Name;
 use std::alloc::{AllocError, Global};
 use std::sync::Wait;
-use vm_cell::Arrived;
+use vm_cell::{Arrived, Slots};
 use world_core::{Lease, Placed, World};
 
 /// What a machine did in its turn.
@@ -71,7 +72,7 @@ fn run_turn<R: Wait>(
     ensures reason { reason_of world.new ≡ reason_of world.old }
     ensures told { told_of world.new ≡ told_of world.old }
 {
-    let Ok(ran) = lease.run(most) else {
+    let Ok(ran) = lease.run(&mut Slots::new(alloc), most) else {
         give_back(world, lease);
         return Err(AllocError);
     };
@@ -92,13 +93,15 @@ fn run_turn<R: Wait>(
 /// Why the machine on lease stops where it stands.
 fn why_it_stops(world: &World, lease: &Lease) -> Why
     ensures { (depot : Shelves) (t : Tree Paged) → HasLent depot world.now t lease.now
-        → IsSomeAnd (subtree lease.now.name t) (λ a. result ≡ why paged_machines stalled_at (with_machine (now_of lease.now) a)) }
+        → IsSomeAnd (subtree lease.now.name t) (λ a. result ≡ why paged_machines stall_told (with_machine (now_of lease.now) a)) }
 {
     if let Some(ending) = lease.ended() {
         return Why::Ended(ending);
     }
-    if let Some(page) = lease.wanted() {
-        return Why::Stalls(page);
+    if let Some(page) = Receiver::wanted(lease) {
+        // The call tells that the disk has few pages.
+        let _ = lease.places();
+        return Why::Stalls(page_number(lease.pages(), page));
     }
     let Some(ticket) = lease.joins() else {
         return Why::MayGoOn;
@@ -110,7 +113,7 @@ fn why_it_stops(world: &World, lease: &Lease) -> Why
     }
 }
 
-/// Lets the page of a reply come to a machine that has made no step, if RAM has it. The reply is made here: no
+/// Lets the page of a reply come to a machine that has made no step, if it has such a page. The reply is made here: no
 /// image ever changes, so that it is the one that was sent.
 pub(crate) fn bring(
     alloc: Global,
@@ -122,7 +125,7 @@ pub(crate) fn bring(
     requires new { lease.old.ran ≡ 0 }
     ensures { (w : World) (t : Tree Paged) → HasLent depot.now w t lease.old → Brings depot.now w t page lease.old result lease.new }
 {
-    if page >= lease.pages() {
+    if page >= lease.places() {
         return Ok(None);
     }
     let Some(key) = lease.key() else {

@@ -1,1 +1,2 @@
-mod Frames
+pub mod Frames
+pub mod Numbers

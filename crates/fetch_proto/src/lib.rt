@@ -1,9 +1,13 @@
 //! Replies to requests for a page of a frozen image, as frames of bytes.
 #![tactic(auto)]
 
+pub mod laws;
+mod number;
+
 ghost use Rattle.std.specs.Prelude.{◌≡◌, ◌<◌, ◌^◌, ℕ, List, length, IfOk, IsSomeAnd, MatchOption};
 ghost use Rattle.fetch_proto.specs.Frame.{frame, IsFrameOf, IsNoFrame};
 
+pub use number::{FIRST_DISK_PAGE, page_number, page_place};
 use page_frames::PAGE_SIZE;
 use std::alloc::{AllocError, Global};
 

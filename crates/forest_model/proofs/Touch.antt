@@ -1,12 +1,12 @@
--- The pages that a step touches: they are few and of RAM, and RAM changes nowhere else.
-use Rattle.std.proofs.Common.{◌≡◌, ◌≢◌, ℕ, ◌+◌, ◌-◌, ◌*◌, ◌/◌, ◌%◌, ◌<◌, ◌≤◌, ◌⊎◌, inl, inr, Bool, true, false, eqb, ltb, leb}
-use Rattle.std.proofs.Common.{List, [], ◌∷◌, length, get_or, Option, Some, None, IsSome, refl, sym, ap, ◌∙◌, subst, cond, arith}
+-- The pages that a step touches: they are few, of RAM or of the disk, and RAM changes nowhere else.
+use Rattle.std.proofs.Common.{◌≡◌, ◌≢◌, ℕ, ◌+◌, ◌-◌, ◌*◌, ◌/◌, ◌%◌, ◌<◌, ◌≤◌, ◌⊎◌, inl, inr, Bool, true, false, eqb, ltb, leb, ◌&&◌}
+use Rattle.std.proofs.Common.{List, [], ◌∷◌, ◌++◌, length, get_or, Option, Some, None, IsSome, refl, sym, ap, ◌∙◌, subst, cond, arith}
 use Rattle.std.specs.Option.{IfSome}
 use Rattle.std.specs.Int.{to_le_bytes, w32}
 use Rattle.std.specs.List.{All, AllPairs, Contains}
-use Rattle.std.proofs.lemmas.Bool.{eqb-true}
+use Rattle.std.proofs.lemmas.Bool.{and_parts, eqb-true}
 use Rattle.std.proofs.lemmas.Bool.Decides.{nat_tests}
-use Rattle.std.proofs.lemmas.List.Elements.{All-nil, All-cons}
+use Rattle.std.proofs.lemmas.List.Elements.{All-nil, All-cons, All-weaker, Contains-append_right}
 use Rattle.elf_load.specs.declared.image.TheConstants.{RAM_BASE}
 use Rattle.page_frames.specs.declared.page.TheConstants.{PAGE_SIZE}
 use Rattle.flat_memory.specs.Flat.{put_bytes}
@@ -24,7 +24,13 @@ use Rattle.rv_exec.specs.Memory.{IsWidth, load_width, store_bytes, store_width}
 use Rattle.fork_port.specs.declared.ending.Ending.{Ending}
 use Rattle.fork_port.specs.declared.commands.Effect.{Effect}
 use Rattle.fork_port.specs.declared.commands.Effect.TheVariants.{Done, TimeWritten, Exit, ExitWith, Call, Zero}
-use Rattle.forest_model.specs.Ports.{Read, Stored, port_load, port_store}
+use Rattle.cow_disk.specs.Disk.{sector_count}
+use Rattle.cow_disk.specs.Paged.{disk_pages, page_of_sector}
+use Rattle.block_port.specs.Block.{BlockRegisters, block_store, is_sector_command, touched_page}
+use Rattle.port_map.specs.declared.place.Place.{Place}
+use Rattle.port_map.specs.declared.place.Place.TheVariants.{Console as at_console, Timer as at_timer, Block as at_block, Fork as at_fork, NoPort as at_no_port}
+use Rattle.port_map.specs.Ranges.{place_of}
+use Rattle.forest_model.specs.Ports.{Read, Stored, block_stored, port_load, port_store, store_at}
 use Rattle.forest_model.specs.declared.access.Access.{Access}
 use Rattle.forest_model.specs.declared.access.Direction.{Direction}
 use Rattle.forest_model.specs.declared.access.Direction.TheVariants as access
@@ -34,8 +40,9 @@ use Rattle.forest_model.specs.Action.{Action, trap, interrupt, retire, exit, ask
 use Rattle.forest_model.specs.Compute.{load_upper, add_upper, compute_immediate, compute}
 use Rattle.forest_model.specs.Control.{aligned_jump, jump, jump_register, branch_by, branch, relative, linked}
 use Rattle.forest_model.specs.Access.{Reached, faulted, of_ram, of_port, uses, is_made, is_aligned, right_for, reached, page_of, fetch_access}
-use Rattle.forest_model.specs.Memory.{data_address, read_action, load_by, load_access, load, is_page_range, zeroed, zeroing, is_byte_range, handing_over}
-use Rattle.forest_model.specs.Memory.{outcome, stored_outcome, store_by, to_store, store_access, store_action, stored_bytes, store}
+use Rattle.forest_model.specs.Memory.{data_address, read_action, load_by, load_access, load, is_page_range, zeroed, zeroing}
+use Rattle.forest_model.specs.Memory.{is_byte_range, handing_over, needs_at, outcome, page_on_disk, pages_on_disk, stored_outcome}
+use Rattle.forest_model.specs.Memory.{store_by, to_store, store_access, store_action, stored_bytes, store}
 use Rattle.forest_model.specs.Atomic.{is_reserved, reserve_by, reserve_access, load_reserved, conditional_action, conditional_by, conditional_access, store_conditional, amo_by, amo_access, amo}
 use Rattle.guest_pmp.specs.declared.access.Access.TheVariants as right
 use Rattle.rv_traps.specs.Protection.{allows}
@@ -47,6 +54,7 @@ use Rattle.forest_model.specs.Execute.{action, action_by, execute_group, execute
 use Rattle.forest_model.specs.Machine.{Machine, advance, advance_from, applied}
 use Rattle.forest_model.specs.Touch.{footprint_in, footprint_at_port, footprint_reached, data_footprint, access_by, access_of, footprint_of}
 use Rattle.forest_model.specs.Touch.{footprint_at, footprint_step, footprint_from, footprint, touch, IsZeroedBy, IsZeroed}
+use Rattle.forest_model.specs.Paged.{Pages, AreFlagged, IsPageOf}
 use Rattle.forest_model.proofs.Accesses.{of_ram-is, page_of-begins, begins-for}
 use Rattle.forest_model.proofs.Finish.{IsSome-ended}
 use Rattle.forest_model.proofs.HandedOver.{from-base}
@@ -95,7 +103,7 @@ AreData-handing_over : (in_range : Bool) (value address count : ℕ) (s : State)
 AreData-handing_over false value address count s e = AreData-none s.ram
 AreData-handing_over true value address count s e = AreData-bytes (eqb count 0) address count s.ram refl e
 
--- no other store to a port needs a page
+-- no other effect of a store to a port needs a page
 AreData-outcome : (effect : Effect) (s : State) → AreData s.ram (outcome effect s).footprint.needs
 AreData-outcome Done s = AreData-none s.ram
 AreData-outcome TimeWritten s = AreData-none s.ram
@@ -108,62 +116,117 @@ AreData-stored : (answer : Option Stored) (address : ℕ) (s : State) → AreDat
 AreData-stored None address s = AreData-none s.ram
 AreData-stored (Some stored) address s = AreData-outcome stored.effect (at_next_instruction (record s { ports = stored.ports }))
 
-AreData-port : (writes : Bool) (a : Access) (word : ℕ) (s : State) → AreData s.ram (footprint_at_port writes a word s).needs
-AreData-port false a word s = AreData-none s.ram
-AreData-port true a word s = AreData-stored (port_store s.ports a.address a.width word) a.address s
+-- ---- those of the disk, too
 
-AreData-reached : (r : Reached) (a : Access) (word : ℕ) (s : State) → reached a s ≡ r → AreData s.ram (footprint_reached r a word s).needs
-AreData-reached (faulted cause) a word s e = AreData-none s.ram
-AreData-reached (of_ram page) a word s e = AreData-in a.direction s.ram page (begins-for a s page e)
-AreData-reached of_port a word s e = AreData-port (uses a.direction).writes a word s
+-- the pages of data are of RAM or of the disk, and there are two at most
+record AreNeeded (s : State) (pages : List ℕ) : Type 0 where
+  each : All (IsPageOf s) pages
+  few : length pages ≤ 2
 
-AreData-asked : (asked : Option Access) (word : ℕ) (s : State) → AreData s.ram (data_footprint asked word s).needs
-AreData-asked None word s = AreData-none s.ram
-AreData-asked (Some a) word s = AreData-reached (reached a s) a word s refl
+AreNeeded-none : (s : State) → AreNeeded s []
+AreNeeded-none s = record { each = All-nil (IsPageOf s); few = omega arith }
 
-AreData-of : (i : Option Instruction) (s : State) → AreData s.ram (footprint_of i s).needs
-AreData-of None s = AreData-none s.ram
-AreData-of (Some i) s = AreData-asked (access_of i s) (rs2 i s) s
+AreNeeded-data : (s : State) (pages : List ℕ) → AreData s.ram pages → AreNeeded s pages
+AreNeeded-data s pages are = record {
+  each = All-weaker (λ page. PAGE_SIZE * page < length s.ram) (IsPageOf s) (λ page begins. inl begins) pages are.begin;
+  few = are.few;
+}
 
--- the pages listed begin in RAM, are at most three, and differ
-pub record IsPages (ram : List ℕ) (listed : List ℕ) : Type 0 where
-  pub of_ram : All (λ page. PAGE_SIZE * page < length ram) listed
+-- a command of the block port needs the page of a sector that is there
+sector-page : (b : BlockRegisters) (offset width word : ℕ) (asks : Bool) → is_sector_command offset width word && ltb b.sector (sector_count b.disk) ≡ asks
+    → IfSome (cond asks (Some (page_of_sector b.sector)) None) (λ q. q < disk_pages b.disk)
+sector-page b offset width word true e =
+    let there : ltb b.sector (sector_count b.disk) ≡ true = (and_parts (is_sector_command offset width word) (ltb b.sector (sector_count b.disk)) e).1 in
+    let below : b.sector < sector_count b.disk = grind (arith, nat_tests) in
+    omega (arith, below)
+sector-page b offset width word false e = tt
+
+AreNeeded-page : (s : State) (page : Option ℕ) → IfSome page (λ q. q < disk_pages s.ports.block.disk) → AreNeeded s (pages_on_disk s page ++ [])
+AreNeeded-page s None there = AreNeeded-none s
+AreNeeded-page s (Some q) there = record {
+  each = All-cons (IsPageOf s) (page_on_disk s q) [] (inr (q, there, refl)) (All-nil (IsPageOf s));
+  few = omega arith;
+}
+
+AreNeeded-block : (stored : Option BlockRegisters) (page : Option ℕ) (address : ℕ) (s : State) → IfSome page (λ q. q < disk_pages s.ports.block.disk)
+    → AreNeeded s (pages_on_disk s page ++ (stored_outcome (block_stored stored s.ports) address s).footprint.needs)
+AreNeeded-block None page address s there = AreNeeded-page s page there
+AreNeeded-block (Some b) page address s there = AreNeeded-page s page there
+
+AreNeeded-place : (place : Place) (address width word : ℕ) (s : State)
+    → AreNeeded s (needs_at place width word s ++ (stored_outcome (store_at place s.ports width word) address s).footprint.needs)
+AreNeeded-place (at_console offset) address width word s =
+    AreNeeded-data s (stored_outcome (store_at (at_console offset) s.ports width word) address s).footprint.needs (AreData-stored (store_at (at_console offset) s.ports width word) address s)
+AreNeeded-place (at_timer offset) address width word s =
+    AreNeeded-data s (stored_outcome (store_at (at_timer offset) s.ports width word) address s).footprint.needs (AreData-stored (store_at (at_timer offset) s.ports width word) address s)
+AreNeeded-place (at_block offset) address width word s =
+    AreNeeded-block (block_store s.ports.block offset width word) (touched_page s.ports.block offset width word) address s
+    (sector-page s.ports.block offset width word (is_sector_command offset width word && ltb s.ports.block.sector (sector_count s.ports.block.disk)) refl)
+AreNeeded-place (at_fork offset) address width word s =
+    AreNeeded-data s (stored_outcome (store_at (at_fork offset) s.ports width word) address s).footprint.needs (AreData-stored (store_at (at_fork offset) s.ports width word) address s)
+AreNeeded-place at_no_port address width word s = AreNeeded-none s
+
+AreNeeded-port : (writes : Bool) (a : Access) (word : ℕ) (s : State) → AreNeeded s (footprint_at_port writes a word s).needs
+unfolding port_store
+AreNeeded-port false a word s = AreNeeded-none s
+AreNeeded-port true a word s = AreNeeded-place (place_of a.address) a.address a.width word s
+
+AreNeeded-reached : (r : Reached) (a : Access) (word : ℕ) (s : State) → reached a s ≡ r → AreNeeded s (footprint_reached r a word s).needs
+AreNeeded-reached (faulted cause) a word s e = AreNeeded-none s
+AreNeeded-reached (of_ram page) a word s e = AreNeeded-data s (footprint_in a.direction page).needs (AreData-in a.direction s.ram page (begins-for a s page e))
+AreNeeded-reached of_port a word s e = AreNeeded-port (uses a.direction).writes a word s
+
+AreNeeded-asked : (asked : Option Access) (word : ℕ) (s : State) → AreNeeded s (data_footprint asked word s).needs
+AreNeeded-asked None word s = AreNeeded-none s
+AreNeeded-asked (Some a) word s = AreNeeded-reached (reached a s) a word s refl
+
+AreNeeded-of : (i : Option Instruction) (s : State) → AreNeeded s (footprint_of i s).needs
+AreNeeded-of None s = AreNeeded-none s
+AreNeeded-of (Some i) s = AreNeeded-asked (access_of i s) (rs2 i s) s
+
+-- the pages listed are of RAM or of the disk, are at most three, and differ
+pub record IsPages (s : State) (listed : List ℕ) : Type 0 where
+  pub each : All (IsPageOf s) listed
   pub at_most_three : length listed ≤ 3
   pub none_twice : AllPairs (λ one other. one ≢ other) listed
 
-IsPages-nil : (ram : List ℕ) → IsPages ram []
-IsPages-nil ram = record {
-  of_ram = All-nil (λ page. PAGE_SIZE * page < length ram);
+IsPages-nil : (s : State) → IsPages s []
+IsPages-nil s = record {
+  each = All-nil (IsPageOf s);
   at_most_three = omega arith;
   none_twice = λ i j d before within. absurd (omega arith);
 }
 
-IsPages-both : (ram : List ℕ) (code : ℕ) (pages : List ℕ) → PAGE_SIZE * code < length ram → AreData ram pages → IsPages ram (code_and_data code pages)
-IsPages-both ram code pages begins data_of = record {
-  of_ram = All-each_once (λ page. PAGE_SIZE * page < length ram) (code ∷ pages)
-      (All-cons (λ page. PAGE_SIZE * page < length ram) code pages begins data_of.begin);
-  at_most_three = let fewer = length-each_once (code ∷ pages) in let few : length pages ≤ 2 = data_of.few in omega (arith, fewer, few);
+IsPages-both : (s : State) (code : ℕ) (pages : List ℕ) → PAGE_SIZE * code < length s.ram → AreNeeded s pages → IsPages s (code_and_data code pages)
+IsPages-both s code pages begins needed = record {
+  each = All-each_once (IsPageOf s) (code ∷ pages) (All-cons (IsPageOf s) code pages (inl begins) needed.each);
+  at_most_three = let fewer = length-each_once (code ∷ pages) in let few : length pages ≤ 2 = needed.few in omega (arith, fewer, few);
   none_twice = once-each_once (code ∷ pages);
 }
 
-IsPages-at : (r : Reached) (s : State) → reached (fetch_access s) s ≡ r → IsPages s.ram (footprint_at r s).needs
-IsPages-at (faulted cause) s e = IsPages-nil s.ram
+IsPages-at : (r : Reached) (s : State) → reached (fetch_access s) s ≡ r → IsPages s (footprint_at r s).needs
+IsPages-at (faulted cause) s e = IsPages-nil s
 IsPages-at (of_ram page) s e =
-    IsPages-both s.ram (page_of s.pc) (footprint_of (decoded (fetched s)) s).needs
-    (page_of-begins s.ram s.pc (of_ram-is (fetch_access s) s page e).in_ram) (AreData-of (decoded (fetched s)) s)
-IsPages-at of_port s e = IsPages-nil s.ram
+    IsPages-both s (page_of s.pc) (footprint_of (decoded (fetched s)) s).needs
+    (page_of-begins s.ram s.pc (of_ram-is (fetch_access s) s page e).in_ram) (AreNeeded-of (decoded (fetched s)) s)
+IsPages-at of_port s e = IsPages-nil s
 
-IsPages-step : (taken : Bool) (s : State) → IsPages s.ram (footprint_step taken s).needs
-IsPages-step true s = IsPages-nil s.ram
+IsPages-step : (taken : Bool) (s : State) → IsPages s (footprint_step taken s).needs
+IsPages-step true s = IsPages-nil s
 IsPages-step false s = IsPages-at (reached (fetch_access s) s) s refl
 
-IsPages-from : (ending : Option Ending) (s : State) → IsPages s.ram (footprint_from ending s).needs
+IsPages-from : (ending : Option Ending) (s : State) → IsPages s (footprint_from ending s).needs
 IsPages-from None s = IsPages-step (takes_interrupt s.csrs (is_timer_due s)) s
-IsPages-from (Some ending) s = IsPages-nil s.ram
+IsPages-from (Some ending) s = IsPages-nil s
 
-pub IsPages-touch : (m : Machine) → IsPages m.state.ram (touch m)
+pub IsPages-touch : (m : Machine) → IsPages m.state (touch m)
 unfolding footprint
 IsPages-touch m = IsPages-from m.ending m.state
+
+-- of a machine with a flag for each page there is one for each of these
+pub flagged-page : (s : State) (pages : Pages) → AreFlagged s pages → (page : ℕ) → IsPageOf s page → page < length pages.here
+flagged-page s pages flags page (inl begins) = omega (arith, begins, flags.whole, flags.here)
+flagged-page s pages flags page (inr on_disk) = omega (arith, on_disk.1, on_disk.2, flags.whole, flags.here)
 
 pub touch-IsSome : (m : Machine) → IsSome m.ending → touch m ≡ []
 unfolding footprint
@@ -306,7 +369,14 @@ Leaves-store_by at (of_ram None) address width bytes word s e same widths aside 
 Leaves-store_by at (of_ram (Some page)) address width bytes word s e same widths aside =
     Leaves-put at (to_store address width) page bytes s e refl refl (of_ram-is (to_store address width) s (Some page) e).aligned same widths aside
 Leaves-store_by at of_port address width bytes word s e same widths aside =
-    Leaves-stored at (port_store s.ports address width word) address s aside
+    let stored = (stored_outcome (port_store s.ports address width word) address s).footprint in
+    Leaves-stored at (port_store s.ports address width word) address s (record {
+      spared = elim aside.spared [
+        | inl untouched ↦ inl (λ listed. untouched (Contains-append_right (needs_at (place_of address) width word s) stored.needs (at / PAGE_SIZE) listed))
+        | inr denied ↦ inr denied
+      ];
+      unzeroed = aside.unzeroed;
+    })
 
 -- no load changes RAM
 Leaves-read_action : (at : ℕ) (answer : Option Read) (i : Instruction) (address : ℕ) (s : State) → Leaves at s (read_action answer i address s)

@@ -1,7 +1,8 @@
 -- What a step asks of the pages of a machine: those that must be here, and what it changes of them.
 use Rattle.std.specs.Prelude.{ℕ, ◌==◌, not, List, [], ◌∷◌, filter}
 
--- A page is its place among the pages of a machine. Those of RAM come first, so there it is its number in RAM.
+-- A page is its place among the pages of a machine. Those of RAM come first, so there it is its number in RAM, and behind
+-- them are those of the disk.
 abbrev pub Page : Type 0
 Page = ℕ
 

@@ -1,7 +1,7 @@
 -- Loads and stores, which RAM gives, or else a port.
 -- RISC-V Unprivileged ISA 20191213, section 2.6
-use Rattle.std.specs.Prelude.{ℕ, ◌+◌, ◌-◌, ◌*◌, ◌/◌, ◌%◌, ◌^◌, ◌==◌, ◌&&◌, ◌||◌, not, nat_le, Bool, true}
-use Rattle.std.specs.Prelude.{false, if◌then◌else◌, List, [], ◌∷◌, length, take, drop, Option, Some, None}
+use Rattle.std.specs.Prelude.{ℕ, ◌+◌, ◌-◌, ◌*◌, ◌/◌, ◌%◌, ◌^◌, ◌==◌, ◌&&◌, ◌||◌, not, nat_le, Bool, true, false}
+use Rattle.std.specs.Prelude.{if◌then◌else◌, List, [], ◌∷◌, ◌++◌, length, take, drop, Option, Some, None}
 use Rattle.elf_load.specs.declared.image.TheConstants.{RAM_BASE}
 use Rattle.page_frames.specs.declared.page.TheConstants.{PAGE_SIZE}
 use Rattle.byteorder.specs.Endian.{little_from}
@@ -17,6 +17,10 @@ use Rattle.fork_port.specs.declared.commands.Effect.TheVariants.{Done, TimeWritt
 use Rattle.fork_port.specs.declared.refusals.TheConstants.{BAD_ARGUMENT}
 use Rattle.fork_port.specs.Registers.{ForkRegisters, refused}
 use Rattle.forest_model.specs.Footprint.{Page, Footprint, no_footprint, no_change, zeroes}
+use Rattle.block_port.specs.Block.{touched_page}
+use Rattle.port_map.specs.declared.place.Place.{Place}
+use Rattle.port_map.specs.declared.place.Place.TheVariants as place
+use Rattle.port_map.specs.Ranges.{place_of}
 use Rattle.forest_model.specs.Ports.{Read, Stored, port_load, port_store}
 use Rattle.forest_model.specs.State.{State, at_next_instruction}
 use Rattle.forest_model.specs.Action.{Action, trap, retire, exit, ask, retire_next, with_rd, rs1, rs2, immediate}
@@ -78,6 +82,23 @@ bytes_at address count s = take count (drop (address - RAM_BASE) s.ram)
 abbrev pub pages_of_bytes : ℕ → ℕ → List Page
 pages_of_bytes address count = if count == 0 then [] else page_of address ∷ page_of (address + (count - 1)) ∷ []
 
+-- a page of the disk, behind those of RAM
+abbrev pub page_on_disk : State → ℕ → Page
+page_on_disk s page = length s.ram / PAGE_SIZE + page
+
+abbrev pub pages_on_disk : State → Option ℕ → List Page
+pages_on_disk s None = []
+pages_on_disk s (Some page) = page_on_disk s page ∷ []
+
+-- the page that a store to a port needs for what it does there: a command of the block port needs that of the sector which
+-- it reads or writes
+abbrev pub needs_at : Place → ℕ → ℕ → State → List Page
+needs_at (place.Console offset) width word s = []
+needs_at (place.Timer offset) width word s = []
+needs_at (place.Block offset) width word s = pages_on_disk s (touched_page s.ports.block offset width word)
+needs_at (place.Fork offset) width word s = []
+needs_at place.NoPort width word s = []
+
 -- what an effect of a store to a port comes to: what it asks of the pages, and the action that it is
 pub record Outcome : Type 0 where
   pub footprint : Footprint
@@ -115,9 +136,18 @@ abbrev pub stored_outcome : Option Stored → ℕ → State → Outcome
 stored_outcome None address s = alone (trap STORE_ACCESS_FAULT address)
 stored_outcome (Some stored) address s = outcome stored.effect (at_next_instruction (record s { ports = stored.ports }))
 
+-- what a store of the low `width` bytes of a word to a port does there
+abbrev pub effect_outcome : ℕ → ℕ → ℕ → State → Outcome
+effect_outcome address width word s = stored_outcome (port_store s.ports address width word) address s
+
+-- an outcome that needs these pages, too
+abbrev pub needing : List Page → Outcome → Outcome
+needing pages o = record { footprint = record { needs = pages ++ o.footprint.needs; changes = o.footprint.changes }; action = o.action }
+
 -- a store of the low `width` bytes of a word to the ports
 abbrev pub port_outcome : ℕ → ℕ → ℕ → State → Outcome
-port_outcome address width word s = stored_outcome (port_store s.ports address width word) address s
+port_outcome address width word s =
+    needing (needs_at (place_of address) width word s) (effect_outcome address width word s)
 
 -- the state with bytes at an address of RAM
 abbrev pub with_bytes : ℕ → List ℕ → State → State

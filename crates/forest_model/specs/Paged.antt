@@ -1,21 +1,25 @@
 -- A machine of which some pages may be absent. A page that is not here would read as RAM has it, so the machine
 -- is the one with every page; beside it stands what is known of its pages. These flags decide where a step stops,
 -- and nothing that it does.
-use Rattle.std.specs.Prelude.{ℕ, zero, suc, ◌+◌, Bool, true, false, not, if◌then◌else◌, List, [], ◌∷◌, ◌++◌}
-use Rattle.std.specs.Prelude.{map, take, drop, replicate, slice_index_or, slice_set, Option, Some, None}
+use Rattle.std.specs.Prelude.{◌≡◌, ◌⊎◌, ◌<◌, ℕ, zero, suc, ◌+◌, ◌*◌, Bool, true, false, not, if◌then◌else◌, List, [], ◌∷◌}
+use Rattle.std.specs.Prelude.{◌++◌, length, map, take, drop, replicate, slice_index_or, slice_set, Option, Some, None}
+use Rattle.page_frames.specs.declared.page.TheConstants.{PAGE_SIZE}
 use Rattle.elf_load.specs.Image.{Image}
+use Rattle.cow_disk.specs.Paged.{disk_pages}
 use Rattle.fork_port.specs.declared.ending.Ending.{Ending}
 use Rattle.forest_tree.specs.Operations.{Operations}
 use Rattle.forest_model.specs.Footprint.{Page, Change, no_change, puts, zeroes}
+use Rattle.forest_model.specs.State.{State}
 use Rattle.forest_model.specs.Machine.{Machine, advance}
+use Rattle.forest_model.specs.Memory.{page_on_disk}
 use Rattle.forest_model.specs.Touch.{touch, change}
 use Rattle.forest_model.specs.Forest.{machines}
 
 -- what is known of the pages: a flag for each, at its place
 pub record Pages : Type 0 where
-  -- the page is here
+  -- the page is here: first those of RAM, and then those of the disk
   pub here : List Bool
-  -- the page is blank: it is here and reads as zeros, and a clone starts with it
+  -- the page, which is of RAM, is blank: it is here and reads as zeros, and a clone starts with it
   pub blank : List Bool
 
 pub record Paged : Type 0 where
@@ -53,13 +57,26 @@ absent_count (is_here ∷ rest) = (if is_here then 0 else 1) + absent_count rest
 
 -- ---- the machine with its flags
 
--- at boot all pages are here, and those in which no byte of a segment falls are blank
-abbrev pub pages_at_boot : Image → Pages
-pages_at_boot image = record { here = map (λ falls. true) image.segments; blank = map not image.segments }
+-- a flag for each page of a disk, all of them the same
+abbrev pub flags_of_disk : Bool → List ℕ → List Bool
+flags_of_disk is_here disk = replicate (disk_pages disk) is_here
 
--- a clone starts with the blank pages of its parent, and with no other
-abbrev pub pages_at_birth : Pages → Pages
-pages_at_birth pages = record { here = pages.blank; blank = pages.blank }
+-- at boot, with this disk, all pages are here, and those in which no byte of a segment falls are blank
+abbrev pub pages_at_boot : Image → List ℕ → Pages
+pages_at_boot image disk = record { here = map (λ falls. true) image.segments ++ flags_of_disk true disk; blank = map not image.segments }
+
+-- a clone with this disk starts with the blank pages of its parent, and with no other
+abbrev pub pages_at_birth : List ℕ → Pages → Pages
+pages_at_birth disk pages = record { here = pages.blank ++ flags_of_disk false disk; blank = pages.blank }
+
+-- a page of RAM, which begins in it, or one of the disk
+abbrev pub IsPageOf : State → Page → Type 0
+IsPageOf s page = (PAGE_SIZE * page < length s.ram) ⊎ ((q : ℕ) × (q < disk_pages s.ports.block.disk) × (page ≡ page_on_disk s q))
+
+-- there is a flag for each page of RAM and of the disk
+pub record AreFlagged (s : State) (pages : Pages) : Type 0 where
+  pub whole : length s.ram ≡ PAGE_SIZE * length pages.blank
+  pub here : length pages.here ≡ length pages.blank + disk_pages s.ports.block.disk
 
 -- a page that has come is here
 abbrev pub pages_arrived : Page → Pages → Pages
@@ -87,7 +104,7 @@ paged_machines = record {
   is_good = λ p. machines.is_good p.machine;
   advance = advanced;
   forked = λ p. record p { machine = machines.forked p.machine };
-  child = λ p k. record { machine = machines.child p.machine k; pages = pages_at_birth p.pages };
+  child = λ p k. record { machine = machines.child p.machine k; pages = pages_at_birth p.machine.state.ports.block.disk p.pages };
   after_join = λ p endings. record p { machine = machines.after_join p.machine endings };
   after_kill = λ p. record p { machine = machines.after_kill p.machine };
 }

@@ -1,6 +1,6 @@
 //! Laws of the definitions, each the contract of a function that does nothing.
 
-ghost use Rattle.std.specs.Prelude.{◌≡◌, ◌≢◌, ◌==◌, if◌then◌else◌, ℕ, Bool, true, false, ◌+◌, ◌-◌, ◌*◌, ◌/◌, ◌^◌, ◌<◌, ◌≤◌, List, [], length, slice_get, slice_index, slice_index_or, Some, None, IsSome, All, AllPairs, Contains};
+ghost use Rattle.std.specs.Prelude.{◌≡◌, ◌≢◌, ◌==◌, if◌then◌else◌, ℕ, Bool, true, false, ◌+◌, ◌-◌, ◌/◌, ◌^◌, ◌<◌, ◌≤◌, List, [], length, slice_get, slice_index, slice_index_or, Some, None, IsSome, All, AllPairs, Contains};
 ghost use Rattle.elf_load.specs.Image.{Image};
 ghost use Rattle.guest_pmp.specs.declared.access.Access.TheVariants as right;
 ghost use Rattle.guest_pmp.specs.declared.access.Mode.TheVariants.{User};
@@ -26,7 +26,7 @@ ghost use Rattle.forest_model.specs.Machine.{Machine, IsWithinLimit, exception, 
 ghost use Rattle.forest_model.specs.Calls.{as_in_parent, child, fork_of, forked, after_join, after_kill, share_of};
 ghost use Rattle.forest_model.specs.Forest.{IsChildless, booted, call_of, finish, machines, port_of};
 ghost use Rattle.forest_model.specs.Touch.{IsZeroed, touch};
-ghost use Rattle.forest_model.specs.Paged.{Paged, Pages, absent_count, advanced_by, paged_machines, pages_arrived, stalled_at};
+ghost use Rattle.forest_model.specs.Paged.{IsPageOf, Paged, Pages, absent_count, advanced_by, paged_machines, pages_arrived, stalled_at};
 
 use crate::{Ending, Options, Written};
 use elf_load::RAM_BASE;
@@ -152,10 +152,10 @@ pub fn runs_agree()
         → after_steps a m ≡ after_steps b m }
 {}
 
-/// The pages that a step touches are pages of RAM, at most three, and none is listed twice. A machine
+/// The pages that a step touches are pages of RAM or of the disk, at most three, and none is listed twice. A machine
 /// that has ended touches none.
 pub fn touched_pages()
-    ensures of_ram { (m : Machine) → All (λ page. PAGE_SIZE * page < length m.state.ram) (touch m) }
+    ensures each { (m : Machine) → All (IsPageOf m.state) (touch m) }
     ensures at_most_three { (m : Machine) → length (touch m) ≤ 3 }
     ensures none_twice { (m : Machine) → AllPairs (λ one other. one ≢ other) (touch m) }
     ensures ended { (m : Machine) → IsSome m.ending → touch m ≡ [] }

@@ -1,5 +1,5 @@
 //! The fork port: a guest's calls to the machine that runs it. It keeps the tickets by which a machine
-//! makes its children, and how the children of the last join ended.
+//! makes its children, and how the children of the last join ended, with the bytes that each handed over.
 #![tactic(auto)]
 
 mod commands;

@@ -276,8 +276,8 @@ impl ForkPort {
         }
     }
 
-    /// Does what a command does at once, and answers what it asks for. Calls, EXIT and ZERO are left
-    /// to the machine.
+    /// Does what a command does at once, and answers what it asks for. Calls, EXIT, with bytes or
+    /// without, and ZERO are left to the machine.
     pub fn command(&mut self, command: u32) -> Result<Asked, AllocError>
         requires { command ≡ TICKET_COMMAND → self.old.next_ticket < TICKETS_END }
         ensures asked { IfOk result (λ asked. asked ≡ fork_command self.old command) }

@@ -8,10 +8,12 @@ use Rattle.page_frames.specs.declared.page.TheConstants.{PAGE_SIZE}
 use Rattle.page_frames.specs.declared.entry.Entry.{Entry}
 use Rattle.page_frames.specs.declared.entry.Entry.TheVariants.{Held, Absent}
 use Rattle.page_frames.specs.Tables.{entry_at, is_own, laid_over, own_pages, stacked}
-use Rattle.image_depot.specs.Image.{FrozenImage, page_count, IsWhole}
+use Rattle.image_depot.specs.Image.{FrozenImage, page_count, stacked_disks, IsWhole}
 use Rattle.image_depot.specs.Key.{Key, image_of}
-use Rattle.image_depot.specs.Reply.{Reply, page_bytes}
-use Rattle.guest_mem.specs.Ram.{IsBased, memory_below, ram_of, arrived}
+use Rattle.image_depot.specs.Reply.{Reply, ram_page}
+use Rattle.cow_disk.specs.Disk.{sector_count}
+use Rattle.cow_disk.specs.Paged.{PagedDisk, disk_over, IsWholeDisk}
+use Rattle.guest_mem.specs.Ram.{IsBased, IsDiskBased, disk_below, memory_below, ram_of, arrived}
 use Rattle.guest_mem.proofs.Pages.{here_by_entry, ram_of_arrival}
 
 -- a table over the image of a key has an entry for each page of it
@@ -53,7 +55,27 @@ module _ (entries shared : List Entry) (key : Option Key) (based : IsBased entri
         ap (λ table. laid_over table []) same
         ∙ ap (λ o. laid_over entries (memory_below o)) (sym no_key)
 
--- a page of the image of the key comes
+-- ---- the disk of an image
+
+module _ (disk : PagedDisk) (key : Option Key) (based : IsDiskBased disk key) where
+  -- it lies over that of the image of a key
+  module _ (k : Key) (image : FrozenImage) (is_key : key ≡ Some k) (is_image : image ≡ image_of k) where
+    pub sectors_over : disk.sectors ≡ sector_count image.disk
+    sectors_over = subst (λ (o : Option Key). IsDiskBased disk o) is_key based ∙ ap (λ (i : FrozenImage). sector_count i.disk) (sym is_image)
+
+    pub disk_reads_over : disk_over disk image.disk ≡ disk_over disk (disk_below key)
+    disk_reads_over = ap (λ (i : FrozenImage). disk_over disk i.disk) is_image ∙ ap (λ o. disk_over disk (disk_below o)) (sym is_key)
+
+  -- there is no key
+  module _ (no_key : key ≡ None) where
+    pub disk_is_whole : IsWholeDisk disk
+    disk_is_whole = subst (λ (o : Option Key). IsDiskBased disk o) no_key based
+
+    pub disk_reads_alone : stacked_disks (disk ∷ []) ≡ disk_over disk (disk_below key)
+    disk_reads_alone = ap (λ o. disk_over disk (disk_below o)) (sym no_key)
+
+-- ---- a page of RAM of the image of the key comes
+
 module _ (entries : List Entry) (key : Option Key) (based : IsBased entries key) (k : Key) (is_key : key ≡ Some k) (reply : Reply) (agree : image_of k ≡ image_of reply.key)
     (in_image : reply.page < page_count (image_of reply.key)) (page : ℕ) (is_page : page ≡ reply.page) where
   pub arrival_there : page < length entries
@@ -62,9 +84,9 @@ module _ (entries : List Entry) (key : Option Key) (based : IsBased entries key)
   pub absent_entry : get_or (own_pages entries) page false ≡ false → is_own (entry_at entries page) ≡ false
   absent_entry absent = sym (get_or-map is_own entries page Absent false arrival_there) ∙ absent
 
-  pub ram_of_reply : (content : List ℕ) → get_or (own_pages entries) page false ≡ false → content ≡ page_bytes (image_of reply.key) reply.page
+  pub ram_of_reply : (content : List ℕ) → get_or (own_pages entries) page false ≡ false → content ≡ ram_page (image_of reply.key) reply.page
       → ram_of (set entries page (Held content)) key ≡ arrived (ram_of entries key) page
-  unfolding page_bytes
+  unfolding ram_page
   ram_of_reply content absent is =
       let is_below : content ≡ take PAGE_SIZE (drop (PAGE_SIZE * page) (memory_below key)) =
       is

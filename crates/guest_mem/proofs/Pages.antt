@@ -22,7 +22,7 @@ use Rattle.page_frames.specs.Tables.{entry_at, entry_bytes, byte_over, laid_over
 use Rattle.page_frames.proofs.Memory.{length-laid_over, get_or-laid_over, laid_over_is, laid_over-set_same, number_of_own, number_of_other, byte_of_other, write_in_page}
 use Rattle.image_depot.specs.Image.{IsWhole}
 use Rattle.image_depot.specs.Key.{Key}
-use Rattle.guest_mem.specs.Ram.{Ram, IsRam, IsTable, IsBased, HasAbsent, AreZero, memory_below, ram_of, stored, arrived, zeroed, with_set}
+use Rattle.guest_mem.specs.Ram.{Ram, IsRam, IsTable, IsBased, HasAbsentPages, AreZero, memory_below, ram_of, stored, arrived, zeroed, with_set}
 
 pub same_ram : (reads reads' : List ℕ) (here here' blank blank' : List Bool) (key : Option Key) → reads ≡ reads' → here ≡ here' → blank ≡ blank'
     → record { reads = reads; here = here; blank = blank; key = key } ≡ (let ram : Ram = record { reads = reads'; here = here'; blank = blank'; key = key } in ram)
@@ -62,7 +62,7 @@ pub here_by_entry : (entries : List Entry) (page : ℕ) (is_here : Bool) → pag
 here_by_entry entries page is_here there own =
     slice_get-get_or (own_pages entries) page false (omega (arith, length-map entries is_own)) ∙ ap Some (get_or-map is_own entries page Absent false there ∙ own)
 
-has_absent : (entries : List Entry) (key : Option Key) → IsBased entries key → HasAbsent key (own_pages entries)
+has_absent : (entries : List Entry) (key : Option Key) → IsBased entries key → HasAbsentPages key (own_pages entries)
 has_absent entries (Some key) based = sym based ∙ sym (length-map entries is_own)
 has_absent entries None based = λ page other.
     let there : page < length entries = simp length-map at (slice_get_within (own_pages entries) page false other) in

@@ -1,7 +1,7 @@
 -- What loads, stores and arrivals answer.
 use Rattle.std.specs.Prelude.{◌≡◌, ℕ}
-use Rattle.image_depot.specs.declared.arrived.Arrived.{Arrived}
-use Rattle.image_depot.specs.declared.arrived.Arrived.TheVariants.{Got, Had}
+use Rattle.cow_disk.specs.declared.arrived.Arrived.{Arrived}
+use Rattle.cow_disk.specs.declared.arrived.Arrived.TheVariants.{Got, Had}
 use Rattle.image_depot.specs.Reply.{Reply}
 use Rattle.guest_mem.specs.declared.answers.StoreError.{StoreError}
 use Rattle.guest_mem.specs.declared.answers.StoreError.TheVariants.{Absent, Memory}

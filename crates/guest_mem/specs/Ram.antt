@@ -9,8 +9,10 @@ use Rattle.page_frames.specs.declared.page.TheConstants.{PAGE_SIZE}
 use Rattle.page_frames.specs.declared.entry.Entry.{Entry}
 use Rattle.page_frames.specs.Tables.{paged, laid_over, own_pages, blank_pages}
 use Rattle.image_depot.specs.Image.{page_count, IsWhole}
+use Rattle.cow_disk.specs.Disk.{sector_count}
+use Rattle.cow_disk.specs.Paged.{PagedDisk, IsWholeDisk}
 use Rattle.image_depot.specs.Key.{Shelves, Key, IsKeyOf, image_of}
-pub use Rattle.image_depot.specs.Receiver.{HasAbsent, IsOfImage}
+pub use Rattle.image_depot.specs.Receiver.{IsOfImage}
 
 pub record Ram : Type 0 where
   -- its bytes: an absent page reads as the image of the key has it
@@ -38,6 +40,16 @@ IsRamOf depot ram = ForSome ram.key (IsKeyOf depot)
 abbrev pub memory_below : Option Key → List ℕ
 memory_below (Some key) = (image_of key).contents
 memory_below None = []
+
+-- the disk below that of a machine
+abbrev pub disk_below : Option Key → List ℕ
+disk_below (Some key) = (image_of key).disk
+disk_below None = []
+
+-- a disk lies over that of the image of a key, which has as many sectors; where there is no key, it has every page
+abbrev pub IsDiskBased : PagedDisk → Option Key → Type 0
+IsDiskBased disk (Some key) = disk.sectors ≡ sector_count (image_of key).disk
+IsDiskBased disk None = IsWholeDisk disk
 
 -- the RAM that a page table stands for, over the image of a key
 abbrev pub ram_of : List Entry → Option Key → Ram
@@ -79,6 +91,11 @@ cloned key blank = record { reads = cleared blank (image_of key).contents; here 
 abbrev pub AreZero : List Bool → List ℕ → Type 0
 AreZero blank reads = (at : ℕ) → slice_get blank (at / PAGE_SIZE) ≡ Some true → slice_index reads at ≡ 0
 
+-- every page that is not here is one of RAM of the image of the key; where there is no key, none is absent
+abbrev pub HasAbsentPages : Option Key → List Bool → Type 0
+HasAbsentPages (Some key) here = page_count (image_of key) ≡ length here
+HasAbsentPages None here = (page : ℕ) → slice_get here page ≡ Some false → ⊥
+
 -- what holds of the RAM of every guest
 pub record IsRam (ram : Ram) : Type 0 where
   pub whole_pages : length ram.reads ≡ PAGE_SIZE * length ram.here
@@ -87,7 +104,7 @@ pub record IsRam (ram : Ram) : Type 0 where
   pub most : length ram.here ≤ MAX_PAGES
   pub blank_is_here : (page : ℕ) → slice_index_or ram.blank page false ≡ true → slice_index_or ram.here page false ≡ true
   pub zero : AreZero ram.blank ram.reads
-  pub absent : HasAbsent ram.key ram.here
+  pub absent : HasAbsentPages ram.key ram.here
 
 -- a table is whole, or lies over the image of a key that has as many pages
 abbrev pub IsBased : List Entry → Option Key → Type 0

@@ -2,10 +2,11 @@
 
 ghost use Rattle.std.specs.Prelude.{◌≡◌, ◌+◌, ◌/◌, ◌<◌, ◌≤◌, length, IfOk, OnOk, OnErr};
 ghost use Rattle.shared_leaves.specs.Choices.{choice_steps};
+ghost use Rattle.cow_disk.specs.Paged.{disk_over};
 ghost use Rattle.vm_descriptor.specs.Descriptor.{IsRam as HasMap};
 ghost use Rattle.image_depot.specs.Image.{page_count};
 ghost use Rattle.image_depot.specs.Key.{image_of, IsKeyOf};
-ghost use Rattle.guest_mem.specs.Ram.{IsRamOf, cloned};
+ghost use Rattle.guest_mem.specs.Ram.{IsDiskBased, IsRamOf, cloned, disk_below};
 ghost use Rattle.guest_mem.specs.Answers.{Arrives};
 
 use crate::memory::GuestMem;
@@ -72,7 +73,8 @@ impl GuestMem {
         })
     }
 
-    /// An image of this RAM as it is now, with a disk and an input. It copies no page and no byte of
+    /// An image of this RAM as it is now, with an input and a disk. The disk has as many sectors as that of the image of
+    /// the key, which has its absent pages; where there is no key, every page of it is here. It copies no page and no byte of
     /// the input.
     pub fn freeze(
         &self,
@@ -81,10 +83,11 @@ impl GuestMem {
         disk: FrozenDisk,
         input: Input,
     ) -> Result<Frozen, AllocError>
-        requires { IsRamOf depot.now self.now }
+        requires ram { IsRamOf depot.now self.now }
+        requires disk { IsDiskBased disk self.now.key }
         ensures { IfOk result (λ image. image ≡ record {
           contents = self.now.reads;
-          disk = disk;
+          disk = disk_over disk (disk_below self.now.key);
           input = input;
         }) }
     {
@@ -104,9 +107,10 @@ impl GuestMem {
         requires parts { blank.parts ≡ L.parts }
         requires some { 0 < blank.parts }
         requires ram { IsRamOf depot.now self.now }
+        requires disk { IsDiskBased disk self.now.key }
         ensures { IfOk result (λ image. image ≡ record {
           contents = self.now.reads;
-          disk = disk;
+          disk = disk_over disk (disk_below self.now.key);
           input = input;
         }) }
     {
@@ -114,7 +118,7 @@ impl GuestMem {
     }
 
     /// The same, which counts its steps. A step is a handle on a leaf of this RAM's page table. The handles
-    /// on the tables of the image of the key are not counted.
+    /// on the tables and disks of the image of the key are not counted.
     pub fn freeze_counted<L: Ledger>(
         &self,
         alloc: Global,
@@ -123,10 +127,11 @@ impl GuestMem {
         input: Input,
         steps: &mut Steps<L>,
     ) -> Result<Frozen, AllocError>
-        requires { IsRamOf depot.now self.now }
+        requires ram { IsRamOf depot.now self.now }
+        requires disk { IsDiskBased disk self.now.key }
         ensures value { IfOk result (λ image. image ≡ record {
           contents = self.now.reads;
-          disk = disk;
+          disk = disk_over disk (disk_below self.now.key);
           input = input;
         }) }
         ensures cost { OnOk result (steps.new ≡ steps.old + (length self.now.here + 63) / 64) }
@@ -139,7 +144,7 @@ impl GuestMem {
         }
     }
 
-    /// Takes a page that was sent, where it is absent and one of the image that this RAM started with. The bytes of the
+    /// Takes a page of RAM that was sent, where it is absent and one of the image that this RAM started with. The bytes of the
     /// reply are those of the image's page, so the page is shared with the image where that holds it, and not copied.
     pub fn arrive(
         &mut self,
@@ -149,6 +154,7 @@ impl GuestMem {
     ) -> Result<Arrived, AllocError>
         requires ram { IsRamOf depot.now self.old }
         requires parcel { IsKeyOf depot.now parcel.now.key }
+        requires of_ram { parcel.now.page < page_count (image_of parcel.now.key) }
         ensures ok { IfOk result (Arrives self.old parcel.now self.new) }
         ensures err { OnErr result (self.new ≡ self.old) }
     {
@@ -160,8 +166,6 @@ impl GuestMem {
             return Ok(Arrived::Had(page));
         }
         depot.agree(key, parcel.key());
-        // The call tells that the image has the page.
-        let _ = parcel.bytes();
         if self.is_here(page) {
             return Ok(Arrived::Had(page));
         }

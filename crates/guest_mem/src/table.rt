@@ -1,4 +1,4 @@
-//! What page tables tell.
+//! The page tables of clones, and what page tables tell.
 
 ghost use Rattle.std.specs.Prelude.{◌≡◌, ◌+◌, ◌≤◌, length, IfOk, OnOk};
 ghost use Rattle.page_frames.specs.Tables.{blank_pages};

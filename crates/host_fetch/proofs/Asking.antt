@@ -5,8 +5,8 @@ use Rattle.std.specs.List.{All, remove, take-map, drop-map}
 use Rattle.std.proofs.lemmas.List.{append-nil, map-append, set-get_or}
 use Rattle.std.proofs.lemmas.List.Elements.{All-append, All-cons, All-nil}
 use Rattle.std.proofs.lemmas.Option.{get_or_from_slice_get}
-use Rattle.image_depot.specs.declared.arrived.Arrived.{Arrived}
-use Rattle.image_depot.specs.declared.arrived.Arrived.TheVariants.{Got, Had}
+use Rattle.cow_disk.specs.declared.arrived.Arrived.{Arrived}
+use Rattle.cow_disk.specs.declared.arrived.Arrived.TheVariants.{Got, Had}
 use Rattle.image_depot.specs.Key.{Shelves, Key}
 use Rattle.image_depot.specs.Receiver.{Arrives, IsOfImage}
 use Rattle.image_depot.specs.Reply.{Reply, Delivery, IsSentOf, reply_of}

@@ -11,8 +11,8 @@ use Rattle.std.proofs.lemmas.Map.Lookups.{exact_unsigned}
 use Rattle.std.proofs.lemmas.Option.{slice_get_within}
 use Rattle.image_depot.specs.Key.{Key, number_of}
 use Rattle.image_depot.specs.Reply.{Reply, Delivery, sent_image, sent_page}
-use Rattle.image_depot.specs.declared.arrived.Arrived.{Arrived}
-use Rattle.image_depot.specs.declared.arrived.Arrived.TheVariants.{Got, Had}
+use Rattle.cow_disk.specs.declared.arrived.Arrived.{Arrived}
+use Rattle.cow_disk.specs.declared.arrived.Arrived.TheVariants.{Got, Had}
 use Rattle.image_depot.specs.Receiver.{Arrives, IsAbsent, IsHere, IsOfImage}
 use Rattle.wire_fates.specs.declared.fate.Fate.TheVariants.{Give}
 use Rattle.host_fetch.specs.Fetch.{Grows}

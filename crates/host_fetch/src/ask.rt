@@ -1,8 +1,8 @@
 //! Requests for pages.
 
-ghost use Rattle.std.specs.Prelude.{◌≡◌, ℕ, ◌<◌, ◌==◌, if◌then◌else◌, [], ◌∷◌, ◌++◌, length, map, take, IfOk, OnOk, OnErr};
+ghost use Rattle.std.specs.Prelude.{◌≡◌, ℕ, ◌<◌, ◌≤◌, ◌==◌, if◌then◌else◌, [], ◌∷◌, ◌++◌, length, map, take, IfOk, OnOk, OnErr};
 ghost use Rattle.std.specs.List.{All, list_any};
-ghost use Rattle.image_depot.specs.Image.{page_count};
+ghost use Rattle.image_depot.specs.Image.{place_count};
 ghost use Rattle.image_depot.specs.Key.{IsKeyOf, image_of};
 ghost use Rattle.host_fetch.specs.Asked.{HasGrown, first_asked, reply_with};
 
@@ -10,23 +10,23 @@ use image_depot::{Depot, ImageKey, Parcel, Receiver, Sent};
 use std::alloc::{AllocError, Global};
 use std::sync::Wait;
 
-/// The wanted page, and as many of the absent pages above it, the lowest first.
+/// The wanted page, and as many of the absent pages above it up to an end, the lowest first.
 pub fn first_asked<T: Receiver>(
     alloc: Global,
     receiver: &T,
-    pages: u32,
     page: u32,
+    end: u32,
     ahead: u32,
 ) -> Result<Vec<u32>, AllocError>
-    requires pages { pages ≡ length (T.here receiver.now) }
-    requires there { page < pages }
-    ensures value { IfOk result (λ asked. asked.items ≡ first_asked (T.here receiver.now) page ahead) }
-    ensures there { IfOk result (λ asked. All (λ each. each < pages) asked.items) }
+    requires pages { end ≤ length (T.here receiver.now) }
+    requires there { page < end }
+    ensures value { IfOk result (λ asked. asked.items ≡ first_asked (T.here receiver.now) page end ahead) }
+    ensures there { IfOk result (λ asked. All (λ each. each < length (T.here receiver.now)) asked.items) }
 {
     let ahead = ahead as usize;
     let mut asked = Vec::with_capacity(alloc, ahead + 1)?;
     asked.push(page)?;
-    for next in page + 1..pages {
+    for next in page + 1..end {
         if asked.len() > ahead {
             return Ok(asked);
         }
@@ -48,7 +48,7 @@ pub fn ask_first<'a, R: Wait>(
     pushed: &mut Vec<Sent>,
 ) -> Result<Vec<&'a Parcel>, AllocError>
     requires here { IsKeyOf depot.now key.now }
-    requires there { All (λ page. page < page_count (image_of key.now)) pages.now }
+    requires there { All (λ page. page < place_count (image_of key.now)) pages.now }
     ensures waiting { IfOk result (λ waiting. map (λ parcel. parcel.now) waiting.items ≡ map (reply_with key.now) pages.now) }
     ensures told { OnOk result (HasGrown depot.now key.now pages.now pushed.old.items pushed.new.items) }
     ensures err { OnErr result ((count : ℕ) × HasGrown depot.now key.now (take count pages.now) pushed.old.items pushed.new.items) }
@@ -74,7 +74,7 @@ pub fn ask<'a, R: Wait>(
     pushed: &mut Vec<Sent>,
 ) -> Result<(), AllocError>
     requires here { IsKeyOf depot.now key.now }
-    requires there { page < page_count (image_of key.now) }
+    requires there { page < place_count (image_of key.now) }
     ensures waiting { OnOk result (map (λ parcel. parcel.now) waiting.new.items ≡ map (λ parcel. parcel.now) waiting.old.items ++ reply_with key.now page ∷ []) }
     ensures told { OnOk result (HasGrown depot.now key.now (page ∷ []) pushed.old.items pushed.new.items) }
     ensures err { OnErr result (pushed.new.items ≡ pushed.old.items) }
@@ -98,7 +98,7 @@ pub fn ask_again<'a, R: Wait>(
     pushed: &mut Vec<Sent>,
 ) -> Result<(), AllocError>
     requires here { IsKeyOf depot.now key.now }
-    requires there { page < page_count (image_of key.now) }
+    requires there { page < place_count (image_of key.now) }
     ensures waiting { OnOk result (map (λ parcel. parcel.now) waiting.new.items ≡ map (λ parcel. parcel.now) waiting.old.items
         ++ (if list_any (λ parcel. parcel.now.page == page) waiting.old.items then [] else reply_with key.now page ∷ [])) }
     ensures told { OnOk result (HasGrown depot.now key.now

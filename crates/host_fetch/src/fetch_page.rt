@@ -1,11 +1,11 @@
 ghost use Rattle.std.specs.Prelude.{◌≡◌, ℕ, ◌<◌, ◌≤◌, true, false, List, length, None, Some, Ok, IfErr, OnOk};
 ghost use Rattle.std.specs.List.{All};
 ghost use Rattle.std.specs.Option.{ForSome};
-ghost use Rattle.image_depot.specs.Image.{page_count};
+ghost use Rattle.image_depot.specs.Image.{place_count};
 ghost use Rattle.image_depot.specs.Key.{IsKeyOf, image_of};
 ghost use Rattle.image_depot.specs.Receiver.{IsAbsent, IsHere};
 ghost use Rattle.image_depot.specs.Reply.{IsSentOf};
-ghost use Rattle.host_fetch.specs.Asked.{HasGrown, first_asked};
+ghost use Rattle.host_fetch.specs.Asked.{HasGrown, end_of_kind, first_asked};
 ghost use Rattle.host_fetch.specs.Fetch.{Finishes, Grows, begun};
 
 use crate::ask::{ask_again, ask_first, first_asked};
@@ -19,10 +19,10 @@ use wire_fates::{LONGEST_STREAK, Wire};
 /// The most pages that a fetch asks for beside the wanted one.
 pub const MAX_AHEAD: u32 = 16;
 
-/// Brings the page that a receiver wants, if it wants one. It asks for this page and for the next `ahead` higher ones
-/// that are absent, and the wire tells what becomes of the replies. Where the reply with the wanted page is lost, it
-/// asks for it again. All replies are pushed, and told in `pushed`. The wire has failed where its streak is the
-/// longest after a fate, and the page is not here.
+/// Brings the page that a receiver wants, if it wants one. It asks for this page and for the next `ahead` higher ones of its
+/// kind, of RAM or of the disk, that are absent, and the wire tells what becomes of the replies. Where the reply with the
+/// wanted page is lost, it asks for it again. All replies are pushed, and told in `pushed`. The wire has failed where its
+/// streak is the longest after a fate, and the page is not here.
 pub fn fetch<R: Wait, T: Receiver, W: Wire>(
     rt: &R,
     alloc: Global,
@@ -38,7 +38,7 @@ pub fn fetch<R: Wait, T: Receiver, W: Wire>(
     ensures here { OnOk result (ForSome (T.wanted receiver.old) (IsHere (T.here receiver.new))) }
     ensures fetches { ForSome (T.wanted receiver.old) (λ page. ForSome (T.key receiver.old) (λ key. (asked : List ℕ)
         × HasGrown depot.now key asked pushed.old.items pushed.new.items
-        × Finishes W.tells W.streak page wire.old (begun (T.here receiver.old) (first_asked (T.here receiver.old) page ahead)) wire.new (T.here receiver.new) asked result)) }
+        × Finishes W.tells W.streak page wire.old (begun (T.here receiver.old) (first_asked (T.here receiver.old) page (end_of_kind (image_of key) page) ahead)) wire.new (T.here receiver.new) asked result)) }
     ensures wire { IfErr result (λ error. error ≡ FetchError.Wire → W.streak wire.new ≡ LONGEST_STREAK) }
     ensures kept { All (IsSentOf depot.now) pushed.old.items → All (IsSentOf depot.now) pushed.new.items }
     ensures key { T.key receiver.new ≡ T.key receiver.old }
@@ -73,18 +73,18 @@ fn fetch_page<R: Wait, T: Receiver, W: Wire>(
     requires ahead { ahead ≤ MAX_AHEAD }
     requires of_depot { IsKeyOf depot.now key.now }
     requires of_image { T.key receiver.old ≡ Some key.now }
-    requires pages { page_count (image_of key.now) ≡ length (T.here receiver.old) }
+    requires pages { place_count (image_of key.now) ≡ length (T.here receiver.old) }
     requires absent { IsAbsent (T.here receiver.old) page }
     ensures fetches { (asked : List ℕ)
         × HasGrown depot.now key.now asked pushed.old.items pushed.new.items
-        × Finishes W.tells W.streak page wire.old (begun (T.here receiver.old) (first_asked (T.here receiver.old) page ahead)) wire.new (T.here receiver.new) asked result }
+        × Finishes W.tells W.streak page wire.old (begun (T.here receiver.old) (first_asked (T.here receiver.old) page (end_of_kind (image_of key.now) page) ahead)) wire.new (T.here receiver.new) asked result }
     ensures key { T.key receiver.new ≡ T.key receiver.old }
     ensures seeds { W.seeds wire.new ≡ W.seeds wire.old }
     ensures rest { T.rest receiver.new ≡ T.rest receiver.old }
     ensures grows { Grows (T.here receiver.old) (T.here receiver.new) }
 {
-    let pages = depot.pages(key);
-    let Ok(asked) = first_asked(alloc, receiver, pages, page, ahead) else {
+    let end = end_of_kind(depot, key, page);
+    let Ok(asked) = first_asked(alloc, receiver, page, end, ahead) else {
         return Err(FetchError::Memory);
     };
     let Ok(mut waiting) = ask_first(rt, alloc, depot, key, &asked, pushed) else {
@@ -104,6 +104,22 @@ fn fetch_page<R: Wait, T: Receiver, W: Wire>(
         let Ok(()) = ask_again(rt, depot, key, page, &mut waiting, pushed) else {
             return Err(FetchError::Memory);
         };
+    }
+}
+
+/// Where the pages of the kind of a page end.
+fn end_of_kind(depot: &Depot, key: &ImageKey, page: u32) -> u32
+    requires of_depot { IsKeyOf depot.now key.now }
+    requires there { page < place_count (image_of key.now) }
+    ensures value { result ≡ end_of_kind (image_of key.now) page }
+    ensures above { page < result }
+    ensures most { result ≤ place_count (image_of key.now) }
+{
+    let pages = depot.pages(key);
+    if page < pages {
+        pages
+    } else {
+        depot.places(key)
     }
 }
 

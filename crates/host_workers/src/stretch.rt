@@ -90,7 +90,7 @@ impl Worker {
         let mut pass = pass;
         let mut left = self.pace.steps();
         for _ in rt.forever() {
-            let Ok(ran) = lease.run(left) else {
+            let Ok(ran) = lease.run(&mut self.slots, left) else {
                 return (pass, Err(FetchError::Memory));
             };
             let Stepped::Stall(_) = ran.why else {

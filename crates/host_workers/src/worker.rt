@@ -20,6 +20,7 @@ use fork_port::Call;
 use host_fetch::FetchError;
 use std::alloc::Global;
 use std::sync::Wait;
+use vm_cell::Slots;
 use wire_fates::Wire;
 use world_core::{Lease, Placed, Reason, Taken};
 
@@ -31,6 +32,8 @@ pub(crate) struct Worker {
     pub(crate) hearing: Hearing,
     /// How many replies were told when it heard last.
     pub(crate) told: u64,
+    /// Where the machines that it runs keep instructions.
+    pub(crate) slots: Slots,
 }
 
 /// What came of a worker's turn.
@@ -93,6 +96,7 @@ impl Worker {
             pace: Pace::new(slice),
             hearing: Hearing::new(alloc),
             told: u64::MAX,
+            slots: Slots::new(alloc),
         }
     }
 

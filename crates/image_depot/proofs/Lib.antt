@@ -1,1 +1,3 @@
 mod Stacks
+mod Disks
+pub mod Replies

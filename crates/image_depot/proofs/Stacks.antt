@@ -1,7 +1,7 @@
 -- Tables that lie one over the other, and the pages and words of the contents that they keep.
 use Rattle.std.proofs.Common.{◌≡◌, ℕ, ◌+◌, ◌*◌, ◌/◌, ◌%◌, ◌<◌, ◌≤◌, true, false, inl, inr, List, [], ◌∷◌, length, take, drop, get_or, refl, ap, sym, ◌∙◌, subst, arith}
 use Rattle.std.proofs.lemmas.Bool.{both_ways, cases_lt}
-use Rattle.std.proofs.lemmas.List.{ext_get_or, get_or-take, get_or-drop, length-drop, length-take-le, drop_more, get_or_default, get_or_read}
+use Rattle.std.proofs.lemmas.List.{ext_get_or, get_or-take, get_or-drop, length-drop, length-take-le, drop_more, get_or_read}
 use Rattle.std.proofs.lemmas.List.Elements.{All-from_get_or}
 use Rattle.flat_memory.specs.Flat.{word_at}
 use Rattle.page_frames.specs.declared.page.TheConstants.{PAGE_SIZE}
@@ -9,7 +9,7 @@ use Rattle.page_frames.specs.declared.entry.Entry.{Entry}
 use Rattle.page_frames.specs.declared.entry.Entry.TheVariants.{Absent}
 use Rattle.page_frames.specs.Tables.{is_own, entry_at, entry_bytes, laid_over, stacked}
 use Rattle.page_frames.proofs.Memory.{length-laid_over, byte_of_own, byte_of_other, little_from_same}
-use Rattle.image_depot.specs.Image.{own_table, IsStack, IsWhole}
+use Rattle.image_depot.specs.Image.{own_table, IsLaid, IsStack, IsWhole}
 
 pub length-stacked : (tables : List (List Entry)) → length (stacked tables) ≡ PAGE_SIZE * length (own_table tables)
 length-stacked [] = omega arith
@@ -59,33 +59,27 @@ module _ (page : ℕ) (tables left : List (List Entry)) (table : List Entry) (be
   pub page_in_next : page < length table
   page_in_next = subst (λ ts. page < length (own_table ts)) is_next known.there
 
-  -- the entry of the page in the next table
-  module _ (entries : List Entry) (entry : Entry) (is_table : entries ≡ table) (read : entry ≡ get_or entries page entry) where
-    is_entry : entry_at table page ≡ entry
-    is_entry = get_or_default table page Absent entry page_in_next ∙ ap (λ t. get_or t page entry) (sym is_table) ∙ sym read
+  -- it is not one of its own
+  pub IsLeft-more : is_own (entry_at table page) ≡ false → IsLeft page tables behind
+  IsLeft-more other =
+      let stack : IsStack (table ∷ behind) = subst IsStack is_next known.stack in
+      let below = below_stack table behind page stack page_in_next other in
+      record {
+        stack = below.0;
+        there = subst (λ n. page < n) (sym below.1) page_in_next;
+        bytes = λ at inside.
+            known.bytes at inside
+            ∙ ap (λ ts. get_or (stacked ts) (PAGE_SIZE * page + at) 0) is_next
+            ∙ byte_of_other table (stacked behind) page at page_in_next inside other;
+      }
 
-    -- it is not one of its own
-    pub IsLeft-more : is_own entry ≡ false → IsLeft page tables behind
-    IsLeft-more absent =
-        let other : is_own (entry_at table page) ≡ false = ap is_own is_entry ∙ absent in
-        let stack : IsStack (table ∷ behind) = subst IsStack is_next known.stack in
-        let below = below_stack table behind page stack page_in_next other in
-        record {
-          stack = below.0;
-          there = subst (λ n. page < n) (sym below.1) page_in_next;
-          bytes = λ at inside.
-              known.bytes at inside
-              ∙ ap (λ ts. get_or (stacked ts) (PAGE_SIZE * page + at) 0) is_next
-              ∙ byte_of_other table (stacked behind) page at page_in_next inside other;
-        }
-
-    -- it is one of its own
-    pub bytes_of_next : is_own entry ≡ true → (at : ℕ) → at < PAGE_SIZE → get_or (stacked tables) (PAGE_SIZE * page + at) 0 ≡ get_or (entry_bytes entry) at 0
-    bytes_of_next own at inside =
-        known.bytes at inside
-        ∙ ap (λ ts. get_or (stacked ts) (PAGE_SIZE * page + at) 0) is_next
-        ∙ byte_of_own table (stacked behind) page at page_in_next inside (ap is_own is_entry ∙ own)
-        ∙ ap (λ e. get_or (entry_bytes e) at 0) is_entry
+  -- it is one of its own
+  pub bytes_of_next : is_own (entry_at table page) ≡ true
+      → (at : ℕ) → at < PAGE_SIZE → get_or (stacked tables) (PAGE_SIZE * page + at) 0 ≡ get_or (entry_bytes (entry_at table page)) at 0
+  bytes_of_next own at inside =
+      known.bytes at inside
+      ∙ ap (λ ts. get_or (stacked ts) (PAGE_SIZE * page + at) 0) is_next
+      ∙ byte_of_own table (stacked behind) page at page_in_next inside own
 
 -- all tables are left at first
 pub IsLeft-all : (page : ℕ) (tables : List (List Entry)) → IsStack tables → page < length (own_table tables) → IsLeft page tables tables
@@ -95,9 +89,9 @@ IsLeft-all page tables stack there = record { stack = stack; there = there; byte
 pub none_left : (page : ℕ) (tables left : List (List Entry)) → left ≡ [] → IsLeft page tables left → ⊥
 none_left page tables left none known = subst IsStack none known.stack
 
--- the table at a place, and those behind it
-pub left_next : (tables : List (List Entry)) (i : ℕ) (table : List Entry) → i < length tables → table ≡ get_or tables i table → drop i tables ≡ table ∷ drop (i + 1) tables
-left_next tables i table there read = drop_more tables i table there ∙ ap (λ t. t ∷ drop (i + 1) tables) (sym read)
+-- the layer at a place, and those behind it
+pub left_next : {Layer : Type 0} (layers : List Layer) (i : ℕ) (layer : Layer) → i < length layers → layer ≡ get_or layers i layer → drop i layers ≡ layer ∷ drop (i + 1) layers
+left_next layers i layer there read = drop_more layers i layer there ∙ ap (λ l. l ∷ drop (i + 1) layers) (sym read)
 
 -- ---- a page of contents that has these bytes
 
@@ -118,19 +112,35 @@ module _ (contents bytes : List ℕ) (page : ℕ) (same : (at : ℕ) → at < PA
 
 -- ---- whether a table is whole, page by page
 
-own_by : (table : List Entry) (page : ℕ) (entry : Entry) → page < length table → entry ≡ get_or table page entry → is_own (entry_at table page) ≡ is_own entry
-own_by table page entry there read = sym (ap is_own (get_or_read table page entry there read Absent))
+-- the entry of a page, as it is read
+pub own_by : (table : List Entry) (page : ℕ) (entry : Entry) → page < length table → entry ≡ get_or table page entry → is_own entry ≡ is_own (entry_at table page)
+own_by table page entry there read = ap is_own (get_or_read table page entry there read Absent)
 
-pub own_more : (table : List Entry) (page : ℕ) (entry : Entry) → page < length table → entry ≡ get_or table page entry → is_own entry ≡ true
+pub own_more : (table : List Entry) (page : ℕ) → is_own (entry_at table page) ≡ true
     → ((i : ℕ) → i < page → is_own (entry_at table i) ≡ true) → (i : ℕ) → i < page + 1 → is_own (entry_at table i) ≡ true
-own_more table page entry there read own before i inside = elim (cases_lt i page) [
+own_more table page own before i inside = elim (cases_lt i page) [
   | inl below ↦ before i below
-  | inr from ↦ ap (λ k. is_own (entry_at table k)) (let last : i ≡ page = omega (arith, inside, from) in last) ∙ own_by table page entry there read ∙ own
+  | inr from ↦ ap (λ k. is_own (entry_at table k)) (let last : i ≡ page = omega (arith, inside, from) in last) ∙ own
 ]
 
 pub whole_of : (table : List Entry) (end : ℕ) → length table ≤ end → ((i : ℕ) → i < end → is_own (entry_at table i) ≡ true) → IsWhole table
 whole_of table end past each =
     All-from_get_or (λ entry. is_own entry ≡ true) table Absent (λ i there. each i (omega (arith, past, there)))
 
-pub none_whole : (table : List Entry) (page : ℕ) (entry : Entry) → page < length table → entry ≡ get_or table page entry → is_own entry ≡ false → IsWhole table → ⊥
-none_whole table page entry there read other whole = both_ways _ (own_by table page entry there read ∙ other) (whole page Absent there)
+pub none_whole : (table : List Entry) (page : ℕ) → page < length table → is_own (entry_at table page) ≡ false → IsWhole table → ⊥
+none_whole table page there other whole = both_ways _ other (whole page Absent there)
+
+-- ---- a table that is laid over a stack of its length
+
+module _ (table : List Entry) (tables layers : List (List Entry)) (stack : IsStack tables) (size : length table ≡ length (own_table tables)) (laid : IsLaid table table tables layers) where
+  pub IsStack-laid : IsStack layers
+  IsStack-laid = elim laid [
+    | inl all ↦ subst IsStack (sym all) (IsStack-more table tables stack size)
+    | inr alone ↦ subst IsStack (sym alone.0) alone.1
+  ]
+
+  pub stacked-laid : stacked layers ≡ laid_over table (stacked tables)
+  stacked-laid = elim laid [ inl all ↦ ap stacked all | inr alone ↦ ap stacked alone.0 ∙ whole_alone table (stacked tables) alone.1 ]
+
+  pub length-laid : length (own_table layers) ≡ length table
+  length-laid = elim laid [ inl all ↦ ap (λ ts. length (own_table ts)) all | inr alone ↦ ap (λ ts. length (own_table ts)) alone.0 ]

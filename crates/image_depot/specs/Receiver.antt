@@ -1,8 +1,9 @@
--- What pages of an image are sent to: for each page whether it is here, and the key to the image that has the others.
+-- What pages of an image are sent to: for each page, at its place, whether it is here, and the key to the image that has
+-- the others.
 use Rattle.std.specs.Prelude.{◌≡◌, ⊤, ℕ, Bool, true, false, List, length, slice_get, slice_set, Option, Some, None}
-use Rattle.image_depot.specs.declared.arrived.Arrived.{Arrived}
-use Rattle.image_depot.specs.declared.arrived.Arrived.TheVariants.{Got, Had}
-use Rattle.image_depot.specs.Image.{page_count}
+use Rattle.cow_disk.specs.declared.arrived.Arrived.{Arrived}
+use Rattle.cow_disk.specs.declared.arrived.Arrived.TheVariants.{Got, Had}
+use Rattle.image_depot.specs.Image.{place_count}
 use Rattle.image_depot.specs.Key.{Key, image_of, number_of}
 use Rattle.image_depot.specs.Reply.{Reply}
 
@@ -16,7 +17,7 @@ IsAbsent here page = slice_get here page ≡ Some false
 
 -- every page that is not here is one of the image of the key; where there is no key, none is absent
 abbrev pub HasAbsent : Option Key → List Bool → Type 0
-HasAbsent (Some key) here = page_count (image_of key) ≡ length here
+HasAbsent (Some key) here = place_count (image_of key) ≡ length here
 HasAbsent None here = (page : ℕ) → slice_get here page ≡ Some false → ⊥
 
 -- the reply carries a page of the image that has the absent pages

@@ -1,29 +1,38 @@
 -- Replies to requests for a page of an image.
-use Rattle.std.specs.Prelude.{◌≡◌, ℕ, ◌*◌, ◌<◌, List, length, take, drop}
+use Rattle.std.specs.Prelude.{◌≡◌, ℕ, ◌-◌, ◌*◌, ◌<◌, nat_lt, if◌then◌else◌, List, take, drop}
 use Rattle.boxcar.specs.Table.{Where, Shows}
 use Rattle.fetch_proto.specs.Frame.{frame}
+use Rattle.fetch_proto.specs.Number.{page_number}
 use Rattle.page_frames.specs.declared.page.TheConstants.{PAGE_SIZE}
-use Rattle.image_depot.specs.Image.{FrozenImage, page_count}
+use Rattle.cow_disk.specs.Paged.{disk_page}
+use Rattle.image_depot.specs.Image.{FrozenImage, page_count, place_count}
 use Rattle.image_depot.specs.Key.{Shelves, Key, IsKeyOf, number_of, image_of}
 
--- a page of the image of a key
+-- a page of the image of a key, by its place
 pub record Reply : Type 0 where
   pub key : Key
   pub page : ℕ
 
--- the bytes of a page of an image
-unfoldable pub page_bytes : FrozenImage → ℕ → List ℕ
-page_bytes image page = take PAGE_SIZE (drop (PAGE_SIZE * page) image.contents)
+-- the bytes of a page of RAM of an image
+unfoldable pub ram_page : FrozenImage → ℕ → List ℕ
+ram_page image page = take PAGE_SIZE (drop (PAGE_SIZE * page) image.contents)
 
--- the bytes that carry it: the frame of the page
+-- the bytes of the page at a place of an image
+abbrev pub page_bytes : FrozenImage → ℕ → List ℕ
+page_bytes image place = if nat_lt place (page_count image) then ram_page image place else disk_page image.disk (place - page_count image)
+
+-- the frame of the page at a place of the image of a key, which has its number
+abbrev pub frame_of : Key → ℕ → List ℕ
+frame_of key place = frame (number_of key) (page_number (page_count (image_of key)) place) (page_bytes (image_of key) place)
+
+-- the bytes that carry a reply
 abbrev pub reply_bytes : Reply → List ℕ
-reply_bytes reply = frame (number_of reply.key) reply.page (page_bytes (image_of reply.key) reply.page)
+reply_bytes reply = frame_of reply.key reply.page
 
 -- what holds of every parcel
-pub record IsParcel (key : Key) (page : ℕ) (bytes : List ℕ) : Type 0 where
-  pub there : page < page_count (image_of key)
-  pub whole : length (page_bytes (image_of key) page) ≡ PAGE_SIZE
-  pub is : bytes ≡ frame (number_of key) page (page_bytes (image_of key) page)
+pub record IsParcel (key : Key) (place : ℕ) (bytes : List ℕ) : Type 0 where
+  pub there : place < place_count (image_of key)
+  pub is : bytes ≡ frame_of key place
 
 -- where a depot keeps a reply, and the reply itself
 abbrev pub Delivery : Type 0
@@ -32,7 +41,7 @@ Delivery = Where Reply
 abbrev pub reply_of : Delivery → Reply
 reply_of sent = sent.value
 
--- the number of the image of a delivery, and of the page
+-- the number of the image of a delivery, and the place of the page
 abbrev pub sent_image : Delivery → ℕ
 sent_image sent = number_of (reply_of sent).key
 

@@ -1,15 +1,18 @@
 ghost use Rattle.std.specs.Prelude.{◌≡◌, ◌*◌, ◌^◌, ◌<◌, ◌≤◌, length, IfOk};
-ghost use Rattle.image_depot.specs.Image.{page_count};
+ghost use Rattle.cow_disk.specs.Paged.{disk_page, disk_pages};
+ghost use Rattle.fetch_proto.specs.Frame.{frame};
+ghost use Rattle.image_depot.specs.Image.{page_count, place_count};
 ghost use Rattle.image_depot.specs.Key.{number_of, image_of, IsKeyOf};
-ghost use Rattle.image_depot.specs.Reply.{reply_of, IsSentOf};
+ghost use Rattle.image_depot.specs.Reply.{frame_of, reply_of, IsSentOf};
 
 use crate::frozen::Frozen;
 use crate::key::ImageKey;
 use crate::parcel::Parcel;
 use crate::sent::Sent;
 use boxcar::Pushed;
+use cow_disk::{MAX_SECTORS, PAGE_SECTORS};
 use elf_load::MAX_PAGES;
-use fetch_proto::encode_reply;
+use fetch_proto::{encode_reply, page_number};
 use page_frames::PAGE_SIZE;
 use std::alloc::{AllocError, Global};
 use std::marker::Model;
@@ -77,7 +80,7 @@ impl Depot {
         self.images.value(key.token())
     }
 
-    /// How many pages the image of a key has.
+    /// How many pages of RAM the image of a key has.
     #[inline]
     pub fn pages(&self, key: &ImageKey) -> u32
         requires { IsKeyOf self.now key.now }
@@ -86,6 +89,26 @@ impl Depot {
         ensures most { result ≤ MAX_PAGES }
     {
         self.frozen(key).pages()
+    }
+
+    /// How many pages the disk of the image of a key has.
+    #[inline]
+    pub fn disk_pages(&self, key: &ImageKey) -> u32
+        requires { IsKeyOf self.now key.now }
+        ensures value { result ≡ disk_pages (image_of key.now).disk }
+        ensures most { PAGE_SECTORS * result ≤ MAX_SECTORS }
+    {
+        self.frozen(key).disk_pages()
+    }
+
+    /// How many pages the image of a key has in all. A page is told by its place: those of RAM come first, and then those
+    /// of the disk.
+    #[inline]
+    pub fn places(&self, key: &ImageKey) -> u32
+        requires { IsKeyOf self.now key.now }
+        ensures { result ≡ place_count (image_of key.now) }
+    {
+        self.pages(key) + self.disk_pages(key)
     }
 
     /// Two keys of one number are to the same image.
@@ -98,16 +121,32 @@ impl Depot {
         self.images.agrees(first.token(), second.token());
     }
 
-    /// The reply to a request for a page of an image. The page is copied into it once, and it waits for
-    /// no other thread.
-    pub fn answer(&self, key: &ImageKey, page: u32) -> Result<Parcel, AllocError>
+    /// The reply to a request for the page at a place of an image. It takes memory once for the frame, and it waits for no
+    /// other thread.
+    pub fn answer(&self, key: &ImageKey, place: u32) -> Result<Parcel, AllocError>
         requires here { IsKeyOf self.now key.now }
-        requires there { page < page_count (image_of key.now) }
-        ensures { IfOk result (λ parcel. parcel ≡ record { key = key.now; page = page }) }
+        requires there { place < place_count (image_of key.now) }
+        ensures { IfOk result (λ parcel. parcel ≡ record { key = key.now; page = place }) }
     {
-        let bytes = self.frozen(key).page(page);
-        let reply = encode_reply(self.alloc, key.number(), page, bytes)?;
-        Ok(Parcel::of_reply(key.again()?, page, reply))
+        let reply = self.framed(key, place)?;
+        Ok(Parcel::of_reply(key.again()?, place, reply))
+    }
+
+    /// The frame of the page at a place of an image.
+    fn framed(&self, key: &ImageKey, place: u32) -> Result<Vec<u8>, AllocError>
+        requires here { IsKeyOf self.now key.now }
+        requires there { place < place_count (image_of key.now) }
+        ensures { IfOk result (λ reply. reply.items ≡ frame_of key.now place) }
+    {
+        let image = self.frozen(key);
+        let pages = image.pages();
+        // The call tells that the disk has few pages.
+        let _ = image.disk_pages();
+        let number = page_number(pages, place);
+        if place < pages {
+            return encode_reply(self.alloc, key.number(), number, image.page(place));
+        }
+        disk_frame(self.alloc, key.number(), number, image, place - pages)
     }
 
     /// Keeps a parcel. It may wait for another thread that keeps one.
@@ -132,6 +171,24 @@ impl Depot {
     {
         self.replies.value(sent.token())
     }
+}
+
+/// The frame of a page of the disk of an image, with its number in the frame. It is apart, since it has room for a page, which a
+/// page of RAM does not need.
+#[inline(never)]
+fn disk_frame(
+    alloc: Global,
+    image: u32,
+    number: u32,
+    frozen: &Frozen,
+    page: u32,
+) -> Result<Vec<u8>, AllocError>
+    requires { page < disk_pages frozen.now.disk }
+    ensures { IfOk result (λ reply. reply.items ≡ frame image number (disk_page frozen.now.disk page)) }
+{
+    let mut bytes = [0; PAGE_SIZE];
+    frozen.disk_page(page, &mut bytes);
+    encode_reply(alloc, image, number, &bytes)
 }
 
 /// Waits for ever where a token has a number that no key has.

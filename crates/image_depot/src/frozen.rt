@@ -1,12 +1,14 @@
 ghost use Rattle.std.specs.Prelude.{◌≡◌, ℕ, ◌+◌, ◌*◌, ◌%◌, ◌<◌, ◌≤◌, [], ◌∷◌, length, slice_index, IsTrue, IfOk};
-ghost use Rattle.image_depot.specs.Image.{image_of_tables, own_table, page_count, page_word, IsStack, IsWhole};
-ghost use Rattle.image_depot.specs.Reply.{page_bytes};
+ghost use Rattle.cow_disk.specs.Disk.{sector_count};
+ghost use Rattle.cow_disk.specs.Paged.{disk_over, disk_page, disk_pages, IsWholeDisk};
+ghost use Rattle.image_depot.specs.Image.{image_of_layers, own_table, page_count, page_word, stacked_disks, IsDiskStack, IsStack, IsWhole};
+ghost use Rattle.image_depot.specs.Reply.{ram_page};
 ghost use Rattle.page_frames.specs.Tables.{entry_bytes, is_own, laid_over, stacked};
 
-use crate::stack::{first_own, is_whole, stack_on};
+use crate::stack::{first_own, lay_over};
 use crate::table::Table;
 use console_port::{Input, MAX_INPUT};
-use cow_disk::FrozenDisk;
+use cow_disk::{FrozenDisk, MAX_SECTORS, PAGE_SECTORS, SECTOR_SIZE};
 use elf_load::MAX_PAGES;
 use page_frames::{Entry, PAGE_SIZE, Page, PageTable};
 use std::alloc::{AllocError, Global};
@@ -15,9 +17,9 @@ use std::marker::Model;
 /// The memory, the disk and the input of a machine at one moment, for its clones to start from. It
 /// stays as it is.
 pub struct Frozen {
-    // Its own table is the first, and behind it are those of the image that it is over.
+    // Its own table and its own disk are the first, and behind each are those of the image that it is over.
     tables: Vec<Table>,
-    disk: FrozenDisk,
+    disks: Vec<FrozenDisk>,
     input: Input,
 }
 
@@ -26,24 +28,24 @@ impl Drop for Frozen {
     fn drop(self) {
         let Frozen {
             tables: _,
-            disk: _,
+            disks: _,
             input: _,
         } = self;
     }
 }
 
 impl Model for Frozen {
-    ghost use Rattle.image_depot.specs.Image.{FrozenImage, IsFrozen, image_of_tables};
+    ghost use Rattle.image_depot.specs.Image.{FrozenImage, IsFrozen, image_of_layers};
 
     ghost Value = { FrozenImage };
 
-    ghost view = { λ f. image_of_tables f.tables.items f.disk f.input };
+    ghost view = { λ f. image_of_layers f.tables.items f.disks.items f.input };
 
-    ghost invariant = { λ f. IsFrozen f.tables.items };
+    ghost invariant = { λ f. IsFrozen f.tables.items f.disks.items };
 }
 
 impl Frozen {
-    /// The image with these entries of pages, this disk and this input.
+    /// The image with these entries of pages of RAM, this disk, of which every page is here, and this input.
     pub fn new(
         alloc: Global,
         entries: PageTable,
@@ -52,18 +54,24 @@ impl Frozen {
     ) -> Result<Frozen, AllocError>
         requires whole { IsWhole entries }
         requires pages_fit { length entries ≤ MAX_PAGES }
-        ensures { IfOk result (λ frozen. frozen ≡ image_of_tables (entries ∷ []) disk input) }
+        requires disk_whole { IsWholeDisk disk }
+        ensures { IfOk result (λ frozen. frozen ≡ image_of_layers (entries ∷ []) (disk ∷ []) input) }
     {
+        // The call tells that the disk has an entry for each page.
+        let _ = disk.pages();
         let table = Table::new(alloc, entries)?;
+        let tables = vec![in alloc; table]?;
+        let disks = vec![in alloc; disk]?;
         Ok(Frozen {
-            tables: vec![in alloc; table]?,
-            disk,
+            tables,
+            disks,
             input,
         })
     }
 
-    /// The same over another image, which has the pages that have no entry of their own. Where each page has one,
-    /// nothing of that image is kept, and else it costs one handle for each of its tables.
+    /// The same over another image, which has the pages of RAM that have no entry of their own, and those of the disk that
+    /// are absent. Where the table, or the disk, has each page, nothing of that image's is kept behind it, and else it costs
+    /// one handle for each of them.
     pub fn over(
         alloc: Global,
         base: &Frozen,
@@ -71,40 +79,22 @@ impl Frozen {
         disk: FrozenDisk,
         input: Input,
     ) -> Result<Frozen, AllocError>
-        requires { length entries ≡ page_count base.now }
+        requires pages { length entries ≡ page_count base.now }
+        requires sectors { disk.sectors ≡ sector_count base.now.disk }
         ensures { IfOk result (λ frozen. frozen ≡ record {
           contents = laid_over entries base.now.contents;
-          disk = disk;
+          disk = disk_over disk base.now.disk;
           input = input;
         }) }
     {
-        if is_whole(&entries) {
-            // The call tells that they are not too many.
-            let _ = base.pages();
-            return Frozen::new(alloc, entries, disk, input);
-        }
-        Frozen::stacked_over(alloc, base, entries, disk, input)
-    }
-
-    /// The same with all tables of that image behind these entries.
-    fn stacked_over(
-        alloc: Global,
-        base: &Frozen,
-        entries: PageTable,
-        disk: FrozenDisk,
-        input: Input,
-    ) -> Result<Frozen, AllocError>
-        requires { length entries ≡ page_count base.now }
-        ensures { IfOk result (λ frozen. frozen ≡ record {
-          contents = laid_over entries base.now.contents;
-          disk = disk;
-          input = input;
-        }) }
-    {
+        // The call tells that the disk has an entry for each page.
+        let _ = disk.pages();
         let table = Table::new(alloc, entries)?;
+        let tables = lay_over(alloc, table, &base.tables)?;
+        let disks = lay_over(alloc, disk, &base.disks)?;
         Ok(Frozen {
-            tables: stack_on(alloc, table, &base.tables)?,
-            disk,
+            tables,
+            disks,
             input,
         })
     }
@@ -131,14 +121,51 @@ impl Frozen {
         &self.input
     }
 
+    /// The disks that keep the disk: for each page the first that has one of its own decides, and the last has every page.
     #[inline]
-    pub fn disk(&self) -> &FrozenDisk
-        ensures { result.now ≡ self.now.disk }
+    pub fn disk(&self) -> &[FrozenDisk]
+        ensures own { 0 < length result.now }
+        ensures stack { IsDiskStack (sector_count self.now.disk) result.now }
+        ensures value { stacked_disks result.now ≡ self.now.disk }
     {
-        &self.disk
+        &self.disks
     }
 
-    /// How many pages the image has.
+    /// How many sectors the disk has.
+    #[inline]
+    pub fn sectors(&self) -> u32
+        ensures value { result ≡ sector_count self.now.disk }
+        ensures whole { SECTOR_SIZE * result ≡ length self.now.disk }
+        ensures most { result ≤ MAX_SECTORS }
+    {
+        self.disks[0].sectors()
+    }
+
+    /// How many pages the disk has.
+    #[inline]
+    pub fn disk_pages(&self) -> u32
+        ensures value { result ≡ disk_pages self.now.disk }
+        ensures most { PAGE_SECTORS * result ≤ MAX_SECTORS }
+    {
+        // The call tells how many sectors there are.
+        let _ = self.sectors();
+        self.disks[0].pages()
+    }
+
+    /// Copies a page of the disk, with zeros past its last sector.
+    pub fn disk_page(&self, page: u32, bytes: &mut [u8; PAGE_SIZE])
+        requires { page < disk_pages self.now.disk }
+        ensures { bytes.new ≡ disk_page self.now.disk page }
+    {
+        // The call tells how many pages there are.
+        let _ = self.disk_pages();
+        let disk = first_own(&self.disks, page as usize);
+        // The call tells how many sectors its pages are of.
+        let _ = disk.pages();
+        disk.read_page(page, bytes);
+    }
+
+    /// How many pages of RAM the image has.
     #[inline]
     pub fn pages(&self) -> u32
         ensures value { result ≡ page_count self.now }
@@ -148,7 +175,7 @@ impl Frozen {
         self.tables[0].entries().len() as u32
     }
 
-    /// The word at a place of a page, which is a multiple of 4.
+    /// The word at a place of a page of RAM, which is a multiple of 4.
     #[inline]
     pub fn word(&self, page: u32, at: u32) -> u32
         requires there { page < page_count self.now }
@@ -159,25 +186,25 @@ impl Frozen {
         self.entry(page).word(at)
     }
 
-    /// The bytes of a page.
+    /// The bytes of a page of RAM.
     #[inline]
     pub(crate) fn page(&self, page: u32) -> &[u8; PAGE_SIZE]
         requires { page < page_count self.now }
-        ensures value { result.now ≡ page_bytes self.now page }
-        ensures whole { length (page_bytes self.now page) ≡ PAGE_SIZE }
+        ensures value { result.now ≡ ram_page self.now page }
+        ensures whole { length (ram_page self.now page) ≡ PAGE_SIZE }
     {
         self.entry(page).bytes()
     }
 
-    /// A page as a page of its own, which the image shares where it holds it.
+    /// A page of RAM as a page of its own, which the image shares where it holds it.
     pub fn shared_page(&self, alloc: Global, page: u32) -> Result<Page, AllocError>
         requires { page < page_count self.now }
-        ensures { IfOk result (λ shared. shared ≡ page_bytes self.now page) }
+        ensures { IfOk result (λ shared. shared ≡ ram_page self.now page) }
     {
         page_of(alloc, self.entry(page))
     }
 
-    /// The entry of a page in the first table that has one of its own.
+    /// The entry of a page of RAM in the first table that has one of its own.
     #[inline]
     fn entry(&self, page: u32) -> &Entry
         requires { page < page_count self.now }
@@ -186,7 +213,8 @@ impl Frozen {
         ensures bytes { (at : ℕ) → at < PAGE_SIZE
             → slice_index self.now.contents (PAGE_SIZE * page + at) ≡ slice_index (entry_bytes result.now) at }
     {
-        first_own(&self.tables, page as usize)
+        let page = page as usize;
+        first_own(&self.tables, page).entries().get(page)
     }
 }
 

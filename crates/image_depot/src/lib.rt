@@ -2,17 +2,17 @@
 //! images and replies for all threads.
 #![tactic(auto)]
 
-mod arrived;
 mod depot;
 mod frozen;
 mod key;
+mod layer;
 mod parcel;
 mod receiver;
 mod sent;
 mod stack;
 mod table;
 
-pub use arrived::Arrived;
+pub use cow_disk::Arrived;
 pub use depot::Depot;
 pub use frozen::Frozen;
 pub use key::ImageKey;

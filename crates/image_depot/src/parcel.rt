@@ -1,15 +1,13 @@
-ghost use Rattle.std.specs.Prelude.{◌≡◌, ◌<◌, length};
-ghost use Rattle.fetch_proto.specs.Frame.{frame};
-ghost use Rattle.image_depot.specs.Image.{page_count};
-ghost use Rattle.image_depot.specs.Key.{image_of, number_of};
-ghost use Rattle.image_depot.specs.Reply.{page_bytes, reply_bytes};
+ghost use Rattle.std.specs.Prelude.{◌≡◌, ◌<◌};
+ghost use Rattle.image_depot.specs.Image.{place_count};
+ghost use Rattle.image_depot.specs.Key.{image_of};
+ghost use Rattle.image_depot.specs.Reply.{frame_of, reply_bytes};
 
 use crate::key::ImageKey;
-use page_frames::PAGE_SIZE;
 use std::marker::Model;
 
 /// A page of an image on its way to a clone: the key of the image, and the reply that carries the page.
-/// Contracts see in it the key and the number of the page, and its bytes are the frame of that page.
+/// Contracts see in it the key and the place of the page, and its bytes are the frame of that page.
 pub struct Parcel {
     key: ImageKey,
     page: u32,
@@ -50,13 +48,12 @@ impl Parcel {
     #[inline]
     pub fn bytes(&self) -> &[u8]
         ensures value { result.now ≡ reply_bytes self.now }
-        ensures there { self.now.page < page_count (image_of self.now.key) }
-        ensures whole { length (page_bytes (image_of self.now.key) self.now.page) ≡ PAGE_SIZE }
+        ensures there { self.now.page < place_count (image_of self.now.key) }
     {
         &self.bytes
     }
 
-    /// The number of the page. It takes no memory.
+    /// The place of the page in its image: those of RAM come first, and then those of the disk. It takes no memory.
     #[inline]
     pub fn page(&self) -> u32
         ensures { result ≡ self.now.page }
@@ -65,9 +62,8 @@ impl Parcel {
     }
 
     pub(crate) fn of_reply(key: ImageKey, page: u32, bytes: Vec<u8>) -> Parcel
-        requires there { page < page_count (image_of key) }
-        requires whole { length (page_bytes (image_of key) page) ≡ PAGE_SIZE }
-        requires is { bytes.items ≡ frame (number_of key) page (page_bytes (image_of key) page) }
+        requires there { page < place_count (image_of key) }
+        requires is { bytes.items ≡ frame_of key page }
         ensures { result ≡ record { key = key; page = page } }
     {
         Parcel { key, page, bytes }

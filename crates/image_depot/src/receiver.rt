@@ -3,13 +3,14 @@ ghost use Rattle.std.specs.Option.{option_copied, ForSome};
 ghost use Rattle.image_depot.specs.Key.{Key, IsKeyOf};
 ghost use Rattle.image_depot.specs.Receiver.{Arrives, HasAbsent, IsAbsent, IsHad};
 
-use crate::arrived::Arrived;
 use crate::depot::Depot;
 use crate::key::ImageKey;
 use crate::parcel::Parcel;
+use cow_disk::Arrived;
 use std::alloc::{AllocError, Global};
 
-/// What pages of an image are sent to: a machine, or what holds one.
+/// What pages of an image are sent to: a machine, or what holds one. A page is told by its place: those of RAM come first,
+/// and then those of the disk.
 pub trait Receiver {
     /// For each page, whether it is here.
     ghost here: { Self → List Bool };

@@ -8,7 +8,7 @@ use std::alloc::{AllocError, Global};
 use std::marker::Model;
 use std::sync::Arc;
 
-/// A parcel that a depot keeps for all threads, with the numbers of its image and of its page. Contracts
+/// A parcel that a depot keeps for all threads, with the number of its image and the place of its page. Contracts
 /// see in it the parcel itself, so no later call changes it.
 #[derive(Drop)]
 pub struct Sent {
@@ -38,7 +38,7 @@ impl Sent {
         self.image
     }
 
-    /// The number of the page that the parcel carries. It takes no memory.
+    /// The place of the page that the parcel carries. It takes no memory.
     #[inline]
     pub fn page(&self) -> u32
         ensures { result ≡ sent_page self.now }

@@ -91,7 +91,8 @@ fn find<'a>(files: &'a [(String, Vec<u8>)], name: &str) -> Option<&'a [u8]>
 }
 
 /// Bytes in memory. It takes at most `most` bytes a call, and `room` bytes in all. A call that is
-/// listed as failing, counted from 1, is a fault, and so is one that finds no room left.
+/// listed as failing, counted from 1, is a fault, and so is one that finds no room
+/// left for a piece that is not empty.
 #[derive(Drop)]
 pub struct MemSink {
     bytes: Vec<u8>,

@@ -88,17 +88,17 @@ fn steps(rt: &impl Abort, child: &mut Vm, name: &str, want: &Stepped)
     are_equal_at(rt, name, &stepped, want);
 }
 
-fn runs(rt: &impl Abort, child: &mut Vm, name: &str, want: &Stepped)
+fn runs(rt: &impl Abort, alloc: Global, child: &mut Vm, name: &str, want: &Stepped)
     ensures { child.new.key ≡ child.old.key }
 {
-    let ran = run(rt, child, 1000);
+    let ran = run(rt, alloc, child, 1000);
     are_equal_at(rt, name, &ran.why, want);
 }
 
-fn ends(rt: &impl Abort, child: &mut Vm, name: &str, want: Ending)
+fn ends(rt: &impl Abort, alloc: Global, child: &mut Vm, name: &str, want: Ending)
     ensures { child.new.key ≡ child.old.key }
 {
-    run(rt, child, 1000);
+    run(rt, alloc, child, 1000);
     are_equal_at(rt, name, &child.ended(), &Some(want));
 }
 
@@ -112,10 +112,16 @@ fn does(rt: &impl Abort, alloc: Global, child: &mut Vm, depot: &Depot, name: &st
         Deed::Reads(address, word) => are_equal_at(rt, name, &child.peek(depot, *address), word),
         Deed::Brings(page, want) => is_brought(rt, alloc, child, depot, name, *page, want),
         Deed::Steps(want) => steps(rt, child, name, want),
-        Deed::Runs(want) => runs(rt, child, name, want),
-        Deed::Ends(value) => ends(rt, child, name, Ending::Exit(*value, Handed::none())),
+        Deed::Runs(want) => runs(rt, alloc, child, name, want),
+        Deed::Ends(value) => ends(rt, alloc, child, name, Ending::Exit(*value, Handed::none())),
         Deed::HandsOver(value, bytes) => {
-            ends(rt, child, name, Ending::Exit(*value, Handed::of(bytes)))
+            ends(
+                rt,
+                alloc,
+                child,
+                name,
+                Ending::Exit(*value, Handed::of(bytes)),
+            )
         }
         Deed::Made(made) => are_equal_at(rt, name, &child.steps(), made),
     }

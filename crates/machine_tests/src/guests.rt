@@ -1,6 +1,7 @@
 //! Guests of a few words, and what is done with them.
 
 ghost use Rattle.std.specs.Prelude.{◌≡◌, ◌≤◌, ◌%◌, [], length, IfOk, None};
+ghost use Rattle.cow_disk.specs.Paged.{IsWholeDisk};
 ghost use Rattle.forest_model.specs.Forest.{port_of};
 
 use crate::equal::succeeds;
@@ -10,7 +11,7 @@ use forest_model::Options;
 use rv_asm::elf_of;
 use std::alloc::{AllocError, Global};
 use std::process::Abort;
-use vm_cell::{Ran, Stepped, Vm};
+use vm_cell::{Ran, Slots, Stepped, Vm};
 
 // Makes two children that exit with 40 and their number, joins them, and exits with the value of the first.
 pub(crate) static TWO_CHILDREN: [u32; 25] = [
@@ -69,7 +70,9 @@ pub(crate) static LONG_CHAIN: [u32; 26] = [
 ];
 
 // A disk without sectors.
-pub(crate) fn no_disk(rt: &impl Abort, alloc: Global) -> Disk {
+pub(crate) fn no_disk(rt: &impl Abort, alloc: Global) -> Disk
+    ensures { IsWholeDisk result }
+{
     succeeds(rt, Disk::from_bytes(alloc, b""))
 }
 
@@ -79,6 +82,7 @@ fn booted_of(alloc: Global, image: &Loaded, disk: Disk, options: Options) -> Res
     requires least { 1 ≤ options.limit }
     requires most { options.limit ≤ 1_000_000 }
     requires clones { options.allot ≤ 4096 }
+    requires disk_whole { IsWholeDisk disk }
     ensures no_ticket { IfOk result (λ vm. (port_of vm.machine).tickets ≡ []) }
     ensures no_image { IfOk result (λ vm. vm.key ≡ None) }
 {
@@ -136,10 +140,10 @@ pub(crate) fn booted(rt: &impl Abort, alloc: Global, words: &[u32], clones: u32)
 }
 
 // Lets a machine make at most so many steps.
-pub(crate) fn run(rt: &impl Abort, vm: &mut Vm, most: u64) -> Ran
+pub(crate) fn run(rt: &impl Abort, alloc: Global, vm: &mut Vm, most: u64) -> Ran
     ensures { vm.new.key ≡ vm.old.key }
 {
-    succeeds(rt, vm.run(most))
+    succeeds(rt, vm.run(&mut Slots::new(alloc), most))
 }
 
 // Lets a machine make one step.

@@ -47,8 +47,8 @@ fn goes_its_course<R: Abort + Wait>(
     requires { IsOfDepot depot.now vm.old.key }
 {
     match course {
-        Course::Shows => runs_and_shows(rt, vm, depot),
-        Course::GoesOn => goes_on(rt, vm),
+        Course::Shows => runs_and_shows(rt, alloc, vm, depot),
+        Course::GoesOn => goes_on(rt, alloc, vm),
         Course::Joins => joins_both(rt, alloc, vm, depot),
         Course::Describes => describes_a_child(rt, alloc, vm, depot),
         Course::TellsOfPages(map) => tells_of_pages(rt, alloc, vm, depot, map),
@@ -81,10 +81,10 @@ fn shows_words_and_registers(rt: HostRuntime) {
 }
 
 // The machine that exits with 7, after two steps.
-fn runs_and_shows(rt: &impl Abort, vm: &mut Vm, depot: &Depot)
+fn runs_and_shows(rt: &impl Abort, alloc: Global, vm: &mut Vm, depot: &Depot)
     requires { IsOfDepot depot.now vm.old.key }
 {
-    run(rt, vm, 2);
+    run(rt, alloc, vm, 2);
     shows(rt, vm, depot);
 }
 
@@ -113,10 +113,10 @@ fn stops_and_goes_on(rt: HostRuntime) {
 
 // How many steps a machine makes by a run, by a run after three more steps, and in all; and what comes of the first
 // run and of each of the three steps.
-fn goes_on(rt: &impl Abort, vm: &mut Vm) {
-    let ran = run(rt, vm, 3);
+fn goes_on(rt: &impl Abort, alloc: Global, vm: &mut Vm) {
+    let ran = run(rt, alloc, vm, 3);
     let stops = [ran.why, step(rt, vm), step(rt, vm), step(rt, vm)];
-    let last = run(rt, vm, 3);
+    let last = run(rt, alloc, vm, 3);
     let steps = [ran.steps, last.steps, vm.steps()];
     let ended = Stepped::Ended(exit(7));
     let want = [Stepped::Went, Stepped::Went, ended, ended];
@@ -156,7 +156,7 @@ pub(crate) fn run_and_fork<R: Abort + Wait>(
     ensures here { IsKeyOf depot.now result.key }
     ensures seeds { AreOfImage result.key children result.seed }
 {
-    run(rt, vm, 1000);
+    run(rt, alloc, vm, 1000);
     succeeds(rt, fork(rt, alloc, vm, children, depot))
 }
 
@@ -187,7 +187,7 @@ fn end_of(
 {
     let mut child = succeeds(rt, child_of(alloc, brood, number, depot));
     bring(rt, alloc, &mut child, depot, 0);
-    run(rt, &mut child, 1000);
+    run(rt, alloc, &mut child, 1000);
     child.ended()
 }
 
@@ -210,12 +210,12 @@ fn a_parent_joins_its_children(rt: HostRuntime) {
 fn joins_both<R: Abort + Wait>(rt: &R, alloc: Global, vm: &mut Vm, depot: &Depot)
     requires { IsOfDepot depot.now vm.old.key }
 {
-    let clones = run(rt, vm, 1000).why;
+    let clones = run(rt, alloc, vm, 1000).why;
     let endings = ends_of_both(rt, alloc, vm, depot);
-    let joins = run(rt, vm, 1000).why;
+    let joins = run(rt, alloc, vm, 1000).why;
     let both = endings_of_both();
     join(rt, vm, &both);
-    let ends = run(rt, vm, 1000).why;
+    let ends = run(rt, alloc, vm, 1000).why;
     let stops = [
         Stepped::Call(Call::Clone(1)),
         Stepped::Call(Call::Join(1)),

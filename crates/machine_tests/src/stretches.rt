@@ -293,7 +293,7 @@ fn after(rt: &impl Abort, alloc: Global, guest: &Guest) -> Came {
     };
     let booted = Vm::boot(alloc, &image, no_disk(rt, alloc), b"", options);
     let mut vm = succeeds(rt, booted);
-    run(rt, &mut vm, *most);
+    run(rt, alloc, &mut vm, *most);
     let registers = vm.regs();
     ([registers[5], registers[6], registers[7]], vm.steps())
 }

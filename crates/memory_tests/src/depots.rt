@@ -2,12 +2,13 @@
 //! freeze and read images of one depot side by side.
 
 ghost use Rattle.std.specs.Prelude.{◌≡◌, ◌≤◌, length, IfOk, IfSome};
+ghost use Rattle.cow_disk.specs.Paged.{IsWholeDisk};
 ghost use Rattle.image_depot.specs.Image.{IsWhole};
 ghost use Rattle.image_depot.specs.Key.{IsKeyOf};
 
 use crate::equal::{are_equal, succeeds};
 use console_port::Input;
-use cow_disk::{BadSector, Disk, FrozenDisk};
+use cow_disk::{Disk, FrozenDisk};
 use image_depot::{Depot, Frozen, ImageKey};
 use page_frames::{Entry, PAGE_SIZE, Page, PageTable};
 use std::alloc::{AllocError, Global};
@@ -27,7 +28,9 @@ fn entries_of(alloc: Global, byte: u8) -> Result<PageTable, AllocError>
 }
 
 /// The disk of these bytes, which are whole sectors.
-fn disk_of(rt: &impl Abort, alloc: Global, bytes: &[u8]) -> FrozenDisk {
+fn disk_of(rt: &impl Abort, alloc: Global, bytes: &[u8]) -> FrozenDisk
+    ensures { IsWholeDisk result }
+{
     let disk = succeeds(rt, Disk::from_bytes(alloc, bytes));
     succeeds(rt, disk.freeze())
 }
@@ -62,18 +65,20 @@ fn words_of(image: &Frozen) -> Option<[u32; 4]> {
     ])
 }
 
-/// The last byte of the first sector of a disk.
-fn last_byte(disk: &Disk) -> Result<u8, BadSector> {
-    let mut sector = [0; 512];
-    disk.read_sector(0, &mut sector)?;
-    Ok(sector[511])
+/// The last byte of the first sector of an image's disk, and the one behind it in the first page.
+fn disk_bytes(image: &Frozen) -> Option<[u8; 2]> {
+    if image.disk_pages() == 0 {
+        return None;
+    }
+    let mut page = [0xff; PAGE_SIZE];
+    image.disk_page(0, &mut page);
+    Some([page[511], page[512]])
 }
 
-/// An image has these words, and a disk that ends so.
+/// An image has these words, and a disk of one sector that ends so.
 fn has_words(rt: &impl Abort, image: &Frozen, words: [u32; 4], byte: u8) {
-    let disk = succeeds(rt, image.disk().open());
-    let found = (words_of(image), last_byte(&disk));
-    are_equal(rt, &found, &(Some(words), Ok(byte)));
+    let found = (words_of(image), image.sectors(), disk_bytes(image));
+    are_equal(rt, &found, &(Some(words), 1, Some([byte, 0])));
 }
 
 /// Two keys lend the images of bytes 0x10 and 0x20.

@@ -2,7 +2,7 @@
 
 use crate::equal::are_equal;
 use crate::process::{are_few, resident_bytes};
-use cow_disk::{BadSector, Disk, DiskError, FrozenDisk};
+use cow_disk::{Arrived, Disk, DiskError, FrozenDisk, ReadError, WriteError};
 use std::alloc::{AllocError, Global};
 use std::process::Abort;
 use std::rt::Files;
@@ -18,7 +18,7 @@ fn disk_of(alloc: Global, byte: u8, length: usize) -> Result<Disk, DiskError> {
 }
 
 /// The first byte of sector n.
-fn byte_of(disk: &Disk, n: u32) -> Result<u8, BadSector> {
+fn byte_of(disk: &Disk, n: u32) -> Result<u8, ReadError> {
     let mut sector = [0; 512];
     disk.read_sector(n, &mut sector)?;
     Ok(sector[0])
@@ -48,7 +48,7 @@ fn takes_whole_sectors(rt: HostRuntime) {
 }
 
 /// Writes sector 1 twice.
-fn write_twice(disk: &mut Disk) -> [Result<(), DiskError>; 2] {
+fn write_twice(disk: &mut Disk) -> [Result<(), WriteError>; 2] {
     [
         disk.write_sector(1, &[0x11; 512]),
         disk.write_sector(1, &[0x22; 512]),
@@ -111,20 +111,23 @@ fn refuses_a_sector_past_the_last(rt: HostRuntime) -> Result<(), DiskError> {
 
 fn is_refused(rt: &impl Abort, disk: &mut Disk) {
     let written = disk.write_sector(2, &[0; 512]);
-    are_equal(rt, &written, &Err(DiskError::BadSector));
-    are_equal(rt, &byte_of(disk, 2), &Err(BadSector));
+    are_equal(rt, &written, &Err(WriteError::BadSector));
+    are_equal(rt, &byte_of(disk, 2), &Err(ReadError::BadSector));
 }
 
 /// So many disks, each opened from a frozen one, and each with a sector of its own.
-fn written_disks(alloc: Global, frozen: &FrozenDisk, count: u32) -> Result<Vec<Disk>, DiskError> {
+fn written_disks(alloc: Global, frozen: &FrozenDisk, count: u32) -> Result<Vec<Disk>, WriteError> {
     let mut disks = Vec::new(alloc);
     for n in 0..count {
-        disks.push(written_disk(frozen, n)?)?;
+        let disk = written_disk(frozen, n)?;
+        if disks.push(disk).is_err() {
+            return Err(WriteError::Memory);
+        }
     }
     Ok(disks)
 }
 
-fn written_disk(frozen: &FrozenDisk, n: u32) -> Result<Disk, DiskError> {
+fn written_disk(frozen: &FrozenDisk, n: u32) -> Result<Disk, WriteError> {
     let mut disk = frozen.open()?;
     disk.write_sector(n, &[0x11; 512])?;
     Ok(disk)
@@ -182,4 +185,78 @@ fn are_opened_and_read<R: Abort + Threads>(
 fn moves_between_threads(rt: HostRuntime) -> Result<(), DiskError> {
     let frozen = frozen_of(rt.alloc(), 512)?;
     Ok(are_opened_and_read(&rt, &frozen, frozen.open()?)?)
+}
+
+// ---- disks of which pages are absent
+
+/// A page in which each sector has a byte of its own: sector n of the page has 0x10 and n.
+fn page_of_sectors() -> [u8; 4096] {
+    let mut page = [0; 4096];
+    for at in 0..4096 {
+        page[at] = 0x10 + (at / 512) as u8;
+    }
+    page
+}
+
+/// The sectors of a disk, its last sector, the page of that, and the byte that this sector has in a page.
+type Row = (u32, u32, u32, u8);
+
+static SIZES: [Row; 4] = [
+    (1, 0, 0, 0x10),
+    (8, 7, 0, 0x17),
+    (9, 8, 1, 0x10),
+    (8192, 8191, 1023, 0x17),
+];
+
+/// What is read of the last sector, and of the one behind it.
+fn ends(disk: &Disk, last: u32) -> [Result<u8, ReadError>; 2] {
+    [byte_of(disk, last), byte_of(disk, last.saturating_add(1))]
+}
+
+/// That page is sent.
+fn sent(rt: &impl Abort, disk: &mut Disk, page: u32) -> Result<Arrived, AllocError> {
+    assert!(rt; page < 1024 && 8 * page < disk.sectors());
+    disk.arrive(page, &page_of_sectors())
+}
+
+/// The last page of an absent disk comes, and comes once more when its last sector was written.
+fn comes_and_stays(rt: &impl Abort, disk: &mut Disk, row: &Row) {
+    let (sectors, last, page, byte) = *row;
+    are_equal(rt, &disk.sectors(), &sectors);
+    let absent = [Err(ReadError::Absent(page)), Err(ReadError::BadSector)];
+    are_equal(rt, &ends(disk, last), &absent);
+    are_equal(
+        rt,
+        &disk.write_sector(last, &[0; 512]),
+        &Err(WriteError::Absent(page)),
+    );
+    are_equal(rt, &sent(rt, disk, page), &Ok(Arrived::Got(page)));
+    are_equal(
+        rt,
+        &ends(disk, last),
+        &[Ok(byte), Err(ReadError::BadSector)],
+    );
+    are_equal(rt, &disk.write_sector(last, &[0x77; 512]), &Ok(()));
+    are_equal(rt, &sent(rt, disk, page), &Ok(Arrived::Had(page)));
+    are_equal(
+        rt,
+        &ends(disk, last),
+        &[Ok(0x77), Err(ReadError::BadSector)],
+    );
+    are_equal(rt, &disk.sectors(), &sectors);
+}
+
+fn has_a_last_page(rt: &impl Abort, alloc: Global, row: &Row) -> Result<(), AllocError> {
+    assert!(rt; row.0 <= 8192);
+    let mut disk = Disk::absent(alloc, row.0)?;
+    comes_and_stays(rt, &mut disk, row);
+    Ok(())
+}
+
+#[test]
+fn pages_of_the_disk(rt: HostRuntime) -> Result<(), AllocError> {
+    for row in SIZES.iter() {
+        has_a_last_page(&rt, rt.alloc(), row)?;
+    }
+    Ok(())
 }

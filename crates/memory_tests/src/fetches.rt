@@ -19,11 +19,9 @@ fn waiting_clone<R: Abort + Wait>(rt: &R, alloc: Global, depot: &Depot) -> Guest
 {
     let memory = booted(rt, alloc, 16);
     let key = frozen(rt, alloc, &memory, depot);
+    assert!(rt; depot.disk_pages(&key) == 0);
     let none = PageMap::from_vec(succeeds(rt, vec![in alloc; false; 16]));
-    Guest {
-        memory: bare_clone(rt, alloc, &key, none, depot),
-        page: 0,
-    }
+    Guest::new(bare_clone(rt, alloc, &key, none, depot), 0)
 }
 
 /// What a fetch with one page ahead answers, whether pages 0, 1 and 2 are here then, and how many replies it has told.
@@ -54,14 +52,11 @@ fn fetched<R: Abort + Wait>(rt: &R, alloc: Global, fates: Vec<Fate>) -> Fetched 
 
 /// Whether the first three pages are here.
 fn first_here(guest: &Guest) -> [bool; 3] {
-    if guest.memory.pages() < 3 {
+    let memory = guest.memory();
+    if memory.pages() < 3 {
         return [false; 3];
     }
-    [
-        guest.memory.is_here(0),
-        guest.memory.is_here(1),
-        guest.memory.is_here(2),
-    ]
+    [memory.is_here(0), memory.is_here(1), memory.is_here(2)]
 }
 
 /// What is fetched over a wire that tells a fate so many times first.

@@ -1,7 +1,7 @@
 //! The steps of a freeze, as literal numbers.
 
 ghost use Rattle.std.specs.Prelude.{◌≡◌, ◌+◌, ◌<◌, length, OnOk};
-ghost use Rattle.guest_mem.specs.Ram.{IsRamOf};
+ghost use Rattle.guest_mem.specs.Ram.{IsDiskBased, IsRamOf};
 
 use crate::equal::{are_equal, succeeds};
 use crate::guests::{SIZES, booted, first_word, frozen_disk, input};
@@ -25,7 +25,8 @@ fn freeze_in_steps<L: Ledger>(
     input: Input,
     steps: &mut Steps<L>,
 ) -> Result<Frozen, AllocError>
-    requires { IsRamOf depot.now memory.now }
+    requires ram { IsRamOf depot.now memory.now }
+    requires disk { IsDiskBased disk memory.now.key }
     ensures one_leaf { length memory.now.here ≡ 64 → OnOk result (steps.new ≡ steps.old + 1) }
     ensures a_page_more { length memory.now.here ≡ 65 → OnOk result (steps.new ≡ steps.old + 2) }
     ensures many { length memory.now.here ≡ 1024 → OnOk result (steps.new ≡ steps.old + 16) }
@@ -49,6 +50,7 @@ fn freeze_of_ledger<L: Ledger>(
     requires parts { blank.parts ≡ L.parts }
     requires some { 0 < blank.parts }
     requires ram { IsRamOf depot.now memory.now }
+    requires disk { IsDiskBased disk memory.now.key }
 {
     freeze_in_steps(
         alloc,
@@ -68,7 +70,8 @@ fn parts_of_frozen(
     disk: FrozenDisk,
     input: Input,
 ) -> Result<(u32, Option<u32>), AllocError>
-    requires { IsRamOf depot.now memory.now }
+    requires ram { IsRamOf depot.now memory.now }
+    requires disk { IsDiskBased disk memory.now.key }
 {
     let image = freeze_of_ledger::<Brand>(alloc, memory, depot, disk, input, Blank::new(1))?;
     Ok((image.pages(), first_word(&image, 1)))

@@ -1,9 +1,11 @@
 //! The RAM of guests: that calls succeed, that guests really share their pages until they write them, and that
 //! they move between threads.
 
-ghost use Rattle.std.specs.Prelude.{◌≡◌, ◌≤◌, None};
-ghost use Rattle.image_depot.specs.Key.{IsKeyOf};
-ghost use Rattle.guest_mem.specs.Ram.{IsRamOf};
+ghost use Rattle.std.specs.Prelude.{◌≡◌, ◌<◌, ◌≤◌, Some, None};
+ghost use Rattle.cow_disk.specs.Paged.{IsWholeDisk};
+ghost use Rattle.image_depot.specs.Image.{page_count};
+ghost use Rattle.image_depot.specs.Key.{image_of, IsKeyOf};
+ghost use Rattle.guest_mem.specs.Ram.{IsDiskBased, IsRamOf};
 
 use crate::equal::{are_equal, succeeds};
 use crate::process::{are_few, resident_bytes};
@@ -104,7 +106,9 @@ fn descriptor_of(pages: u32, blank: PageMap) -> Descriptor
 }
 
 /// A disk without sectors.
-pub fn frozen_disk(rt: &impl Abort, alloc: Global) -> FrozenDisk {
+pub fn frozen_disk(rt: &impl Abort, alloc: Global) -> FrozenDisk
+    ensures { IsWholeDisk result }
+{
     let disk = succeeds(rt, Disk::from_bytes(alloc, &[]));
     succeeds(rt, disk.freeze())
 }
@@ -114,12 +118,24 @@ pub fn input(rt: &impl Abort, alloc: Global) -> Input {
     succeeds(rt, Input::new(alloc, bytes))
 }
 
+/// A disk without sectors, which lies over that of the image that this memory started with.
+fn disk_over_none(rt: &impl Abort, alloc: Global, memory: &GuestMem, depot: &Depot) -> FrozenDisk
+    requires { IsRamOf depot.now memory.now }
+    ensures { IsDiskBased result memory.now.key }
+{
+    let disk = frozen_disk(rt, alloc);
+    if let Some(key) = memory.key() {
+        assert!(rt; disk.sectors() == depot.frozen(key).sectors());
+    }
+    disk
+}
+
 /// The key to an image of this memory.
 pub fn frozen<R: Abort + Wait>(rt: &R, alloc: Global, memory: &GuestMem, depot: &Depot) -> ImageKey
     requires { IsRamOf depot.now memory.now }
     ensures { IsKeyOf depot.now result }
 {
-    let disk = frozen_disk(rt, alloc);
+    let disk = disk_over_none(rt, alloc, memory, depot);
     let image = succeeds(rt, memory.freeze(alloc, depot, disk, input(rt, alloc)));
     succeeds(rt, depot.freeze(rt, image))
 }
@@ -133,7 +149,8 @@ pub fn bare_clone(
     depot: &Depot,
 ) -> GuestMem
     requires { IsKeyOf depot.now key.now }
-    ensures { IsRamOf depot.now result }
+    ensures ram { IsRamOf depot.now result }
+    ensures key { result.key ≡ Some key.now }
 {
     let descriptor = descriptor_of(depot.pages(key), blank);
     assert!(rt; descriptor.is_in_range());
@@ -426,7 +443,8 @@ fn written_clone(
     depot: &Depot,
     word: u32,
 ) -> GuestMem
-    requires { IsKeyOf depot.now parcel.now.key }
+    requires key { IsKeyOf depot.now parcel.now.key }
+    requires of_ram { parcel.now.page < page_count (image_of parcel.now.key) }
 {
     let blank = succeeds(rt, parent.blank(alloc));
     let mut clone = bare_clone(rt, alloc, parcel.key(), blank, depot);
@@ -443,7 +461,8 @@ fn written_clones(
     parcel: &Parcel,
     depot: &Depot,
 ) -> Vec<GuestMem>
-    requires { IsKeyOf depot.now parcel.now.key }
+    requires key { IsKeyOf depot.now parcel.now.key }
+    requires of_ram { parcel.now.page < page_count (image_of parcel.now.key) }
 {
     let mut clones = Vec::new(alloc);
     for n in 0..1000 {
@@ -480,7 +499,8 @@ fn take_few_bytes<R: Abort + Alloc + Files>(
     parcel: &Parcel,
     depot: &Depot,
 ) -> Result<(), Fail>
-    requires { IsKeyOf depot.now parcel.now.key }
+    requires key { IsKeyOf depot.now parcel.now.key }
+    requires of_ram { parcel.now.page < page_count (image_of parcel.now.key) }
 {
     let before = resident_bytes(rt)?;
     let clones = written_clones(rt, alloc, parent, parcel, depot);

@@ -14,12 +14,12 @@ use std::sync::Wait;
 use std::thread;
 use std::thread::Threads;
 
-/// The reply that carries a page of an image, if the image has the page.
+/// The reply that carries a page of an image, if the image has the page: one of RAM, or behind those one of the disk.
 fn answered(depot: &Depot, key: &ImageKey, page: u32) -> Option<Parcel>
     requires { IsKeyOf depot.now key.now }
     ensures { IfSome result (λ parcel. parcel.key ≡ key.now) }
 {
-    if page >= depot.pages(key) {
+    if page >= depot.places(key) {
         return None;
     }
     depot.answer(key, page).ok()
@@ -73,6 +73,32 @@ fn second_is_carried<R: Abort + Wait>(rt: &R, alloc: Global, depot: &Depot) {
 fn a_reply_carries_its_page(rt: HostRuntime) {
     let depot = succeeds(&rt, Depot::new(rt.alloc()));
     second_is_carried(&rt, rt.alloc(), &depot);
+}
+
+/// The start of the reply for a page, the last byte of the first sector of the page, and the one behind it.
+fn disk_reply(depot: &Depot, key: &ImageKey, page: u32) -> Option<([u8; 12], [u8; 2])>
+    requires { IsKeyOf depot.now key.now }
+{
+    let reply = answered(depot, key, page)?;
+    let (start, page) = reply.bytes().split_first_chunk::<12>()?;
+    if page.len() != 4096 {
+        return None;
+    }
+    Some((*start, [page[511], page[512]]))
+}
+
+/// The disk of the image of byte 0x20 has one page, behind the three of RAM. It has one sector, and its number is 2^31.
+fn disk_is_carried<R: Abort + Wait>(rt: &R, alloc: Global, depot: &Depot) {
+    let key = frozen(rt, alloc, depot, 0x20);
+    let found = [disk_reply(depot, &key, 3), disk_reply(depot, &key, 4)];
+    let reply = (*b"SFR1\0\0\0\0\0\0\0\x80", [0x20, 0]);
+    are_equal(rt, &found, &[Some(reply), None]);
+}
+
+#[test]
+fn a_reply_carries_a_page_of_the_disk(rt: HostRuntime) {
+    let depot = succeeds(&rt, Depot::new(rt.alloc()));
+    disk_is_carried(&rt, rt.alloc(), &depot);
 }
 
 /// Pushes the reply that carries a page of an image.

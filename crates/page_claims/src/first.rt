@@ -3,7 +3,7 @@ use crate::claims::Claims;
 use std::marker::Model;
 use std::snapshot::Snapshot;
 
-/// The right to push a page of an image: the page was claimed for the first time. Only [`Claims::claim`] makes one.
+/// The token of a page of an image that was claimed for the first time. Only [`Claims::claim`] makes one.
 #[derive(Drop)]
 pub struct First {
     of: Snapshot<Claims>,

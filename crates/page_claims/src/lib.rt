@@ -1,4 +1,4 @@
-//! Which pages were fetched already: each page of each image is claimed once, by whichever thread asks for it first.
+//! Which pages of which images were claimed already: each is claimed once, by whichever thread comes first.
 #![tactic(auto)]
 
 mod claims;

@@ -103,7 +103,7 @@ pub enum Kind {
     Ecall,
     /// Break to a debugger.
     Ebreak,
-    /// Return from a trap to machine mode.
+    /// Return from a trap, to the mode in MPP.
     Mret,
     /// Wait for an interrupt.
     Wfi,

@@ -1,6 +1,7 @@
 ghost use Rattle.std.specs.Prelude.{◌≡◌, ◌↔◌, ◌+◌, ◌%◌, ◌^◌, ◌<◌, ◌≤◌, ℕ, None, Some, IfNone, IfSome, IsNone, OnSome, true, false};
 ghost use Rattle.guest_pmp.specs.Allowed.{IsAccessWidth};
 ghost use Rattle.guest_pmp.specs.Spans.{HasAddress};
+ghost use Rattle.guest_pmp.specs.declared.access.Mode.TheVariants.{Machine};
 ghost use Rattle.rv_traps.specs.Registers.{IsInRange, at_reset};
 ghost use Rattle.rv_traps.specs.Access.{csr_read, csr_write};
 ghost use Rattle.rv_traps.specs.Protection.{allows, acting_mode, is_unrestricted};
@@ -127,7 +128,7 @@ impl Csrs {
         let mie = self.registers.interrupt_enable();
         let mprv = self.registers.modifies_privilege();
         self.registers.mstatus = mstatus(false, mie, self.registers.mode, mprv);
-        self.registers.mode = Mode::Machine;
+        to_machine_mode(&mut self.registers.mode);
         self.registers.mepc = pc / 4 * 4;
         self.registers.mcause = cause;
         self.registers.mtval = value;
@@ -239,5 +240,15 @@ impl Csrs {
         let minstret = counted_if(retired && !wrote.is_of_minstret(), self.registers.minstret);
         self.registers.mcycle = mcycle;
         self.registers.minstret = minstret;
+    }
+}
+
+/// Machine mode from now on. Most traps come from it, and a look costs less than a store.
+#[inline(always)]
+fn to_machine_mode(mode: &mut Mode)
+    ensures { mode.new ≡ Machine }
+{
+    if !mode.is_machine() {
+        *mode = Mode::Machine;
     }
 }

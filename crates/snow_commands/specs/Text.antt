@@ -43,7 +43,7 @@ family_of values guest image = booted image guest.disk guest.input (options_of v
 
 -- the machine that is booted, with what is known of its pages
 abbrev pub booted_paged : Image → List ℕ → List ℕ → Options → Paged
-booted_paged image disk input options = record { machine = boot image disk input options; pages = pages_at_boot image }
+booted_paged image disk input options = record { machine = boot image disk input options; pages = pages_at_boot image disk }
 
 abbrev pub known_guest : GuestValues → Guest → Image → Paged
 known_guest values guest image = booted_paged image guest.disk guest.input (options_of values)

@@ -1,9 +1,9 @@
 //! The command `self`: the family of a guest that is generated from a seed is run to its end.
 
-ghost use Rattle.std.specs.Prelude.{◌≡◌, ◌*◌, ◌<◌, ◌≤◌, map, vec_len, IfOk};
+ghost use Rattle.std.specs.Prelude.{◌≡◌, ◌*◌, ◌<◌, ◌≤◌, map, vec_len, IfOk, OnErr, OnOk};
 ghost use Rattle.cow_disk.specs.declared.disk.TheConstants.{SECTOR_SIZE};
 ghost use Rattle.flat_memory.specs.Flat.{zeros};
-ghost use Rattle.io_edge.specs.Outside.{HasRisen};
+ghost use Rattle.io_edge.specs.Outside.{HasRisen, IsPrefixGone, appended};
 ghost use Rattle.host_workers.specs.Lost.{IsOneLost};
 ghost use Rattle.run_report.specs.Summary.{summary_of};
 ghost use Rattle.command_line.specs.Words.{generated_how};
@@ -46,10 +46,22 @@ pub fn run_and_sum_up<
         Ok(outcome) => outcome,
         Err(stop) => return Err(stop),
     };
-    match summary_into(&outcome, words.seed(), sink) {
+    match write_summary(&outcome, words.seed(), sink) {
         Ok(()) => Ok(()),
         Err(ReportError::Sink) => Err(Stop::WriteFault),
     }
+}
+
+/// Writes what the report of a family comes to. It is not inlined, since its buffer would have room on the stack while the
+/// family runs.
+#[inline(never)]
+fn write_summary<K: Sink>(outcome: &Outcome, seed: u32, sink: &mut K) -> Result<(), ReportError>
+    ensures counts { K.faults sink.old ≤ K.faults sink.new }
+    ensures ok { OnOk result (K.gone sink.new ≡ appended (K.gone sink.old) (summary_of seed outcome.now)) }
+    ensures sink { OnErr result (HasRisen (K.faults sink.old) (K.faults sink.new)) }
+    ensures prefix { IsPrefixGone (K.gone sink.old) (K.gone sink.new) (summary_of seed outcome.now) }
+{
+    summary_into(outcome, seed, sink)
 }
 
 /// Runs the family of the guest of a seed to its end.

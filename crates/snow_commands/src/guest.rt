@@ -1,6 +1,7 @@
 //! The machine of a guest whose files are read is booted.
 
 ghost use Rattle.std.specs.Prelude.{◌≡◌, ◌≤◌, [], length, IfOk};
+ghost use Rattle.cow_disk.specs.Paged.{disk_over, IsWholeDisk};
 ghost use Rattle.guest_files.specs.Parts.{Makes};
 ghost use Rattle.snow_commands.specs.Text.{IsBooted, IsOfMachine, booted_paged, guest_image, image_beside};
 ghost use Rattle.world_core.specs.Told.{told_of};
@@ -52,7 +53,7 @@ fn boot_image(
         Ok(disk) => disk,
         Err(DiskError::NotSectors) => return Err(Stop::DataRefused(DISK_NOT_SECTORS)),
         Err(DiskError::Memory) => return Err(Stop::Memory),
-        Err(DiskError::TooLong | DiskError::BadSector) => unreachable!(),
+        Err(DiskError::TooLong) => unreachable!(),
     };
     let options = Options {
         limit: guest.limit(),
@@ -62,7 +63,7 @@ fn boot_image(
     Ok(made)
 }
 
-/// Boots a machine, which is then the only one of a world.
+/// Boots a machine with a disk of which every page is here. It is then the only one of a world.
 fn boot_machine(
     alloc: Global,
     image: &Loaded,
@@ -75,7 +76,8 @@ fn boot_machine(
     requires least { MIN_LIMIT ≤ options.limit }
     requires most { options.limit ≤ MAX_LIMIT }
     requires clones { options.allot ≤ MAX_CLONES }
-    ensures booted { IfOk result (IsOfMachine depot.now (booted_paged image.now disk input.now options)) }
+    requires disk_whole { IsWholeDisk disk }
+    ensures booted { IfOk result (IsOfMachine depot.now (booted_paged image.now (disk_over disk []) input.now options)) }
     ensures told { IfOk result (λ made. told_of made.0 ≡ []) }
 {
     let vm = Vm::boot(alloc, image, disk, input, options)?;

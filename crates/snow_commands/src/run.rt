@@ -1,8 +1,9 @@
 //! The command `run`: a guest's family is run to its end.
 
-ghost use Rattle.std.specs.Prelude.{◌≡◌, ◌<◌, ◌≤◌, map, OnOk, vec_len};
-ghost use Rattle.io_edge.specs.Outside.{HasRisen};
+ghost use Rattle.std.specs.Prelude.{◌≡◌, ◌<◌, ◌≤◌, map, OnErr, OnOk, vec_len};
+ghost use Rattle.io_edge.specs.Outside.{HasRisen, IsPrefixGone, appended};
 ghost use Rattle.host_workers.specs.Lost.{IsOneLost};
+ghost use Rattle.run_report.specs.Report.{report_of};
 ghost use Rattle.command_line.specs.Words.{run};
 ghost use Rattle.snow_commands.specs.Lost.{IsLostIn};
 ghost use Rattle.snow_commands.specs.Seeded.{IfRun, seeded_for};
@@ -50,10 +51,21 @@ pub fn run_and_report<
 {
     let files = read_guest(rt.alloc(), guest, shelf)?;
     let outcome = run_files(rt, guest, &files, plan, wires)?;
-    match report_into(&outcome, sink) {
+    match write_report(&outcome, sink) {
         Ok(()) => Ok(()),
         Err(ReportError::Sink) => Err(Stop::WriteFault),
     }
+}
+
+/// Writes the report of a family. It is not inlined, since its buffer would have room on the stack while the family runs.
+#[inline(never)]
+fn write_report<K: Sink>(outcome: &Outcome, sink: &mut K) -> Result<(), ReportError>
+    ensures counts { K.faults sink.old ≤ K.faults sink.new }
+    ensures ok { OnOk result (K.gone sink.new ≡ appended (K.gone sink.old) (report_of outcome.now)) }
+    ensures sink { OnErr result (HasRisen (K.faults sink.old) (K.faults sink.new)) }
+    ensures prefix { IsPrefixGone (K.gone sink.old) (K.gone sink.new) (report_of outcome.now) }
+{
+    report_into(outcome, sink)
 }
 
 /// Boots a guest whose files are there, and runs its family to its end, by as many workers as are asked for, but by no more

@@ -7,9 +7,9 @@ use Rattle.fork_port.specs.Registers.{ForkRegisters}
 use Rattle.fork_port.specs.Commands.{IsMakeable}
 use Rattle.fork_port.specs.Fork.{ForkStored, fork_store}
 use Rattle.fork_port.proofs.StoreLemmas.{call_stored, handing_stored, zero_stored}
-use Rattle.vm_bus.specs.Bus.{BusRegisters, Waits}
+use Rattle.vm_bus.specs.Bus.{BusParts, Waits}
 
-pub fork-waits : (b : BusRegisters) (f : ForkRegisters) (offset width word : ℕ) (e : Effect)
+pub fork-waits : (b : BusParts) (f : ForkRegisters) (offset width word : ℕ) (e : Effect)
     → fork_store b.fork offset width word ≡ Some (record { fork = f; effect = e }) → Waits b (record b { fork = f }) e
 fork-waits b f offset width word effect.Done h = tt
 fork-waits b f offset width word effect.TimeWritten h = tt

@@ -1,12 +1,12 @@
 -- The ports by address. An access that a port has not is none.
 use Rattle.std.specs.Prelude.{◌≡◌, ℕ, ◌-◌, ◌<◌, ◌≤◌, ◌⊎◌, if◌then◌else◌, List, [], length, Option, None, IsSomeAnd}
 use Rattle.std.specs.Option.{option_map}
+use Rattle.cow_disk.specs.Paged.{PagedDisk}
 use Rattle.console_port.specs.Console.{ConsoleRegisters, console_load, console_store}
 use Rattle.timer_port.specs.declared.registers.TimerRegisters.{TimerRegisters}
 use Rattle.timer_port.specs.Timer.{timer_load, timer_store, writes_mtime}
 use Rattle.timer_port.specs.Timer as timer
-use Rattle.block_port.specs.Block.{BlockRegisters, WritesSector, block_load, block_store}
-use Rattle.block_port.specs.Block as block
+use Rattle.block_port.specs.Block.{BlockParts, BlockRegisters, IsTouchedHere, WritesSector, block_load, block_over, block_store, parts_at_start, touched_page}
 use Rattle.fork_port.specs.declared.commands.Effect.{Effect}
 use Rattle.fork_port.specs.declared.commands.Effect.TheVariants.{Done, TimeWritten, Call, Exit, ExitWith, Zero}
 use Rattle.fork_port.specs.declared.handed.TheConstants.{MAX_HANDED}
@@ -26,6 +26,17 @@ pub record BusRegisters : Type 0 where
   pub block : BlockRegisters
   pub fork : ForkRegisters
 
+-- the ports, with a disk of which pages may be absent
+pub record BusParts : Type 0 where
+  pub timer : TimerRegisters
+  pub console : ConsoleRegisters
+  pub block : BlockParts
+  pub fork : ForkRegisters
+
+-- their registers, where the disk lies over one that has the absent pages
+abbrev pub bus_over : BusParts → List ℕ → BusRegisters
+bus_over b below = record { timer = b.timer; console = b.console; block = block_over b.block below; fork = b.fork }
+
 -- the number that a load gives, and the ports after it
 pub record BusLoaded : Type 0 where
   pub bus : BusRegisters
@@ -37,11 +48,11 @@ pub record BusStored : Type 0 where
   pub effect : Effect
 
 -- the ports of a machine that starts with this disk and this input, and may have so many clones
-abbrev pub at_start : List ℕ → List ℕ → ℕ → BusRegisters
+abbrev pub at_start : PagedDisk → List ℕ → ℕ → BusParts
 at_start disk input allot = record {
   timer = timer.at_start;
   console = record { input = input; place = 0; output = []; line_control = 0 };
-  block = block.at_start disk;
+  block = parts_at_start disk;
   fork = fork.at_start allot;
 }
 
@@ -56,6 +67,14 @@ fields_of b = record {
 
 abbrev pub ports_of_fields : PortFields → List ℕ → List ℕ → BusRegisters
 ports_of_fields fields disk input = record {
+  timer = fields.timer;
+  console = record { input = input; place = fields.console.place; output = []; line_control = fields.console.line_control };
+  block = record { sector = fields.block.sector; status = fields.block.status; buffer = fields.block.buffer; disk = disk };
+  fork = fork.registers_of fields.fork;
+}
+
+abbrev pub parts_of_fields : PortFields → PagedDisk → List ℕ → BusParts
+parts_of_fields fields disk input = record {
   timer = fields.timer;
   console = record { input = input; place = fields.console.place; output = []; line_control = fields.console.line_control };
   block = record { sector = fields.block.sector; status = fields.block.status; buffer = fields.block.buffer; disk = disk };
@@ -106,7 +125,7 @@ bus_store b address width word = store_at (place_of address) b width word
 
 -- A store that is a call, EXIT with bytes or ZERO changes nothing yet, since the machine makes it. The call can be made,
 -- and the bytes are not too many.
-abbrev pub Waits : BusRegisters → BusRegisters → Effect → Type 0
+abbrev pub Waits : BusParts → BusParts → Effect → Type 0
 Waits old new Done = Unit {0}
 Waits old new TimeWritten = Unit {0}
 Waits old new (Call call) = (new ≡ old) × IsMakeable old.fork call
@@ -128,3 +147,26 @@ abbrev pub WantsMemory : BusRegisters → ℕ → ℕ → ℕ → Type 0
 WantsMemory b address width word =
     IsSomeAnd (bus_store b address width word) (λ s. length b.console.output < length s.bus.console.output)
     ⊎ (WritesSector b.block (address - BLOCK_BASE) width word ⊎ GrantsTicket b.fork (address - FORK_BASE) width word)
+
+-- the page of the disk that a store touches
+abbrev pub disk_page_at : Place → BusRegisters → ℕ → ℕ → Option ℕ
+disk_page_at (place.Console offset) b width word = None
+disk_page_at (place.Timer offset) b width word = None
+disk_page_at (place.Block offset) b width word = touched_page b.block offset width word
+disk_page_at (place.Fork offset) b width word = None
+disk_page_at place.NoPort b width word = None
+
+-- the same of an address
+abbrev pub disk_page_touched : BusRegisters → ℕ → ℕ → ℕ → Option ℕ
+disk_page_touched b address width word = disk_page_at (place_of address) b width word
+
+-- it is here, if the store touches one
+abbrev pub IsDiskPageHereAt : Place → BusParts → ℕ → ℕ → Type 0
+IsDiskPageHereAt (place.Console offset) b width word = Unit {0}
+IsDiskPageHereAt (place.Timer offset) b width word = Unit {0}
+IsDiskPageHereAt (place.Block offset) b width word = IsTouchedHere b.block offset width word
+IsDiskPageHereAt (place.Fork offset) b width word = Unit {0}
+IsDiskPageHereAt place.NoPort b width word = Unit {0}
+
+abbrev pub IsDiskPageHere : BusParts → ℕ → ℕ → ℕ → Type 0
+IsDiskPageHere b address width word = IsDiskPageHereAt (place_of address) b width word

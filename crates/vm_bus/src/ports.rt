@@ -1,18 +1,21 @@
-ghost use Rattle.std.specs.Prelude.{◌≡◌, ◌+◌, ◌%◌, ◌^◌, ◌<◌, ◌≤◌, ◌↔◌, true, false, length, Some, None, Err, IfOk, IsErr, IsSome, IsSomeAnd, OnErr, OnOk, IsErrOf, option_map};
+ghost use Rattle.std.specs.Prelude.{◌≡◌, ℕ, ◌+◌, ◌*◌, ◌%◌, ◌^◌, ◌<◌, ◌≤◌, ◌↔◌, true, false, List, length, Some, None, Err, IfOk, IfSome, IsErr, IsNone, IsSome, IsSomeAnd, IsTrue, OnErr, OnOk, IsErrOf, option_map};
+ghost use Rattle.cow_disk.specs.declared.disk.TheConstants.{PAGE_SECTORS};
+ghost use Rattle.cow_disk.specs.Paged.{here_pages, is_page_here, Arrives, IsPageBelow};
 ghost use Rattle.console_port.specs.declared.port.TheConstants.{MAX_INPUT};
 ghost use Rattle.timer_port.specs.Timer.{is_due, timer_counted};
 ghost use Rattle.fork_port.specs.Commands.{fork_command};
 ghost use Rattle.fork_port.specs.Fork.{GrantsTicket};
 ghost use Rattle.fork_port.specs.Registers.{HasTicket, refused, ticket_found, ticket_told};
 ghost use Rattle.fork_port.specs.Children.{after_clone, after_join, after_kill, child_registers};
-ghost use Rattle.vm_bus.specs.Bus.{at_start, bus_load, bus_store, fields_of, fork_stored, load_at, ports_of_fields, store_at, timer_stored, Waits, WantsMemory, WantsMemoryAt};
+ghost use Rattle.vm_bus.specs.Bus.{at_start, bus_load, bus_over, bus_store, disk_page_touched, fields_of, fork_stored, load_at, parts_of_fields, store_at, timer_stored, IsDiskPageHere, IsDiskPageHereAt, Waits, WantsMemory, WantsMemoryAt};
 
 use block_port::{BlockFields, BlockPort};
 use console_port::{ConsoleFields, ConsolePort, Input};
-use cow_disk::Disk;
+use cow_disk::{Arrived, Disk};
 use fork_port::refusals::TICKETS_END;
 use fork_port::registers::{FORK_COMMAND, TICKET_COMMAND};
 use fork_port::{Asked, Effect, Ending, ForkFields, ForkPort};
+use page_frames::PAGE_SIZE;
 use port_error::{Fault, PortError};
 use port_map::{FORK_BASE, Place, place_of};
 use std::alloc::{AllocError, Global};
@@ -29,7 +32,8 @@ pub struct PortFields {
     pub fork: ForkFields,
 }
 
-/// The ports of a machine.
+/// The ports of a machine. Contracts see the pages of its disk, and say of the registers what they are over
+/// each disk below, which has the absent pages.
 #[derive(Drop)]
 pub struct Ports {
     timer: TimerPort,
@@ -39,9 +43,9 @@ pub struct Ports {
 }
 
 impl Model for Ports {
-    ghost use Rattle.vm_bus.specs.Bus.{BusRegisters};
+    ghost use Rattle.vm_bus.specs.Bus.{BusParts};
 
-    ghost Value = { BusRegisters };
+    ghost Value = { BusParts };
 
     ghost view = { λ p. record { timer = p.timer; console = p.console; block = p.block; fork = p.fork } };
 }
@@ -102,6 +106,40 @@ impl Ports {
         self.block.disk()
     }
 
+    /// Whether a page of the disk is here.
+    pub fn is_here(&self, page: u32) -> bool
+        requires { PAGE_SECTORS * page < self.now.block.disk.sectors }
+        ensures { result ≡ is_page_here self.now.block.disk page }
+    {
+        self.block.is_here(page)
+    }
+
+    /// A page of the disk that was sent. All registers stay as they are.
+    pub fn arrive(&mut self, page: u32, bytes: &[u8; PAGE_SIZE]) -> Result<Arrived, AllocError>
+        requires { PAGE_SECTORS * page < self.old.block.disk.sectors }
+        ensures ok { IfOk result (Arrives self.old.block.disk page bytes.now self.new.block.disk) }
+        ensures registers { self.new ≡ record self.old { block = record self.old.block { disk = self.new.block.disk } } }
+        // A page of the disk below changes nothing that is read.
+        ensures reads { (below : List ℕ) → IsPageBelow self.old.block.disk page bytes.now below → bus_over self.new below ≡ bus_over self.old below }
+        ensures err { OnErr result (self.new ≡ self.old) }
+    {
+        self.block.arrive(page, bytes)
+    }
+
+    /// The page of the disk that a store touches: that of the sector which it has read or written.
+    pub fn touched(&self, address: u32, width: u32, word: u32) -> Option<u32>
+        ensures value { (below : List ℕ) → result ≡ disk_page_touched (bus_over self.now below) address width word }
+        ensures there { IfSome result (λ page. PAGE_SECTORS * page < self.now.block.disk.sectors) }
+        // So a store can be made where no page is touched, or that page is here.
+        ensures none { IsNone result → IsDiskPageHere self.now address width word }
+        ensures here { IfSome result (λ page. IsTrue (is_page_here self.now.block.disk page) → IsDiskPageHere self.now address width word) }
+    {
+        match place_of(address) {
+            Place::Block(offset) => self.block.touched(offset, width, word),
+            _ => None,
+        }
+    }
+
     /// Whether the timer asks for an interrupt.
     #[inline]
     pub fn is_timer_due(&self) -> bool
@@ -140,22 +178,26 @@ impl Ports {
 
     /// Loads `width` bytes from the port that `address` is of.
     pub fn load(&mut self, address: u32, width: u32) -> Result<u32, Fault>
-        ensures ok { IfOk result (λ value. bus_load self.old address width ≡ Some (record { bus = self.new; value = value })) }
-        ensures fault { IsErr result ↔ (bus_load self.old address width ≡ None) }
+        ensures ok { IfOk result (λ value. (below : List ℕ) → bus_load (bus_over self.old below) address width ≡ Some (record { bus = bus_over self.new below; value = value })) }
+        ensures fault { (below : List ℕ) → (IsErr result ↔ (bus_load (bus_over self.old below) address width ≡ None)) }
+        ensures disk { self.new.block.disk ≡ self.old.block.disk }
         ensures err { OnErr result (self.new ≡ self.old) }
     {
         self.load_at(place_of(address), width)
     }
 
     /// Stores the low `width` bytes of `word` to the port that `address` is of, and answers what that
-    /// does to the machine.
+    /// does to the machine. The page of the disk that it touches is to be here.
     pub fn store(&mut self, address: u32, width: u32, word: u32) -> Result<Effect, PortError>
         requires ticket { address ≡ FORK_BASE + FORK_COMMAND → word ≡ TICKET_COMMAND → self.old.fork.next_ticket < TICKETS_END }
-        ensures ok { IfOk result (λ effect. bus_store self.old address width word ≡ Some (record { bus = self.new; effect = effect })) }
+        requires here { IsDiskPageHere self.old address width word }
+        ensures ok { IfOk result (λ effect. (below : List ℕ) → bus_store (bus_over self.old below) address width word ≡ Some (record { bus = bus_over self.new below; effect = effect })) }
         ensures waits { IfOk result (Waits self.old self.new) }
-        ensures fault { IsErrOf result PortError.Fault ↔ (bus_store self.old address width word ≡ None) }
+        ensures fault { (below : List ℕ) → (IsErrOf result PortError.Fault ↔ (bus_store (bus_over self.old below) address width word ≡ None)) }
+        ensures pages { here_pages self.new.block.disk ≡ here_pages self.old.block.disk }
+        ensures sectors { self.new.block.disk.sectors ≡ self.old.block.disk.sectors }
         ensures err { OnErr result (self.new ≡ self.old) }
-        ensures memory { IsErrOf result PortError.Memory → WantsMemory self.old address width word }
+        ensures memory { IsErrOf result PortError.Memory → (below : List ℕ) → WantsMemory (bus_over self.old below) address width word }
     {
         self.store_at(place_of(address), width, word)
     }
@@ -210,7 +252,7 @@ impl Ports {
 
     /// The registers, but for the disk, the input and the output, the tickets and what was joined.
     pub fn fields(&self) -> PortFields
-        ensures value { result ≡ fields_of self.now }
+        ensures value { (below : List ℕ) → result ≡ fields_of (bus_over self.now below) }
         ensures place_fits { result.console.place ≤ MAX_INPUT }
     {
         PortFields {
@@ -224,7 +266,7 @@ impl Ports {
     /// Ports with these registers, this disk and this input, and no output, tickets and join results.
     pub fn of_fields(alloc: Global, fields: PortFields, disk: Disk, input: Input) -> Ports
         requires { fields.console.place ≤ MAX_INPUT }
-        ensures { result ≡ ports_of_fields fields disk input }
+        ensures { result ≡ parts_of_fields fields disk input }
     {
         let PortFields {
             timer,
@@ -248,8 +290,9 @@ impl Ports {
     }
 
     fn load_at(&mut self, place: Place, width: u32) -> Result<u32, Fault>
-        ensures ok { IfOk result (λ value. load_at place self.old width ≡ Some (record { bus = self.new; value = value })) }
-        ensures fault { IsErr result ↔ (load_at place self.old width ≡ None) }
+        ensures ok { IfOk result (λ value. (below : List ℕ) → load_at place (bus_over self.old below) width ≡ Some (record { bus = bus_over self.new below; value = value })) }
+        ensures fault { (below : List ℕ) → (IsErr result ↔ (load_at place (bus_over self.old below) width ≡ None)) }
+        ensures disk { self.new.block.disk ≡ self.old.block.disk }
         ensures err { OnErr result (self.new ≡ self.old) }
     {
         match place {
@@ -262,12 +305,15 @@ impl Ports {
     }
 
     fn store_at(&mut self, place: Place, width: u32, word: u32) -> Result<Effect, PortError>
-        requires { place ≡ Place.Fork FORK_COMMAND → word ≡ TICKET_COMMAND → self.old.fork.next_ticket < TICKETS_END }
-        ensures ok { IfOk result (λ effect. store_at place self.old width word ≡ Some (record { bus = self.new; effect = effect })) }
+        requires ticket { place ≡ Place.Fork FORK_COMMAND → word ≡ TICKET_COMMAND → self.old.fork.next_ticket < TICKETS_END }
+        requires here { IsDiskPageHereAt place self.old width word }
+        ensures ok { IfOk result (λ effect. (below : List ℕ) → store_at place (bus_over self.old below) width word ≡ Some (record { bus = bus_over self.new below; effect = effect })) }
         ensures waits { IfOk result (Waits self.old self.new) }
-        ensures fault { IsErrOf result PortError.Fault ↔ (store_at place self.old width word ≡ None) }
+        ensures fault { (below : List ℕ) → (IsErrOf result PortError.Fault ↔ (store_at place (bus_over self.old below) width word ≡ None)) }
+        ensures pages { here_pages self.new.block.disk ≡ here_pages self.old.block.disk }
+        ensures sectors { self.new.block.disk.sectors ≡ self.old.block.disk.sectors }
         ensures err { OnErr result (self.new ≡ self.old) }
-        ensures memory { IsErrOf result PortError.Memory → WantsMemoryAt place self.old width word }
+        ensures memory { IsErrOf result PortError.Memory → (below : List ℕ) → WantsMemoryAt place (bus_over self.old below) width word }
     {
         match place {
             Place::Console(offset) => {
@@ -286,9 +332,10 @@ impl Ports {
 
     fn store_fork(&mut self, offset: u32, width: u32, word: u32) -> Result<Effect, PortError>
         requires { offset ≡ FORK_COMMAND → word ≡ TICKET_COMMAND → self.old.fork.next_ticket < TICKETS_END }
-        ensures ok { IfOk result (λ effect. fork_stored self.old offset width word ≡ Some (record { bus = self.new; effect = effect })) }
+        ensures ok { IfOk result (λ effect. (below : List ℕ) → fork_stored (bus_over self.old below) offset width word ≡ Some (record { bus = bus_over self.new below; effect = effect })) }
         ensures waits { IfOk result (Waits self.old self.new) }
-        ensures fault { IsErrOf result PortError.Fault ↔ (fork_stored self.old offset width word ≡ None) }
+        ensures fault { (below : List ℕ) → (IsErrOf result PortError.Fault ↔ (fork_stored (bus_over self.old below) offset width word ≡ None)) }
+        ensures disk { self.new.block ≡ self.old.block }
         ensures err { OnErr result (self.new ≡ self.old) }
         ensures memory { IsErrOf result PortError.Memory → GrantsTicket self.old.fork offset width word }
     {
@@ -296,9 +343,10 @@ impl Ports {
     }
 
     fn store_timer(&mut self, offset: u32, width: u32, word: u32) -> Result<Effect, PortError>
-        ensures ok { IfOk result (λ effect. timer_stored self.old offset width word ≡ Some (record { bus = self.new; effect = effect })) }
+        ensures ok { IfOk result (λ effect. (below : List ℕ) → timer_stored (bus_over self.old below) offset width word ≡ Some (record { bus = bus_over self.new below; effect = effect })) }
         ensures waits { IfOk result (Waits self.old self.new) }
-        ensures fault { OnErr result (timer_stored self.old offset width word ≡ None) }
+        ensures fault { OnErr result ((below : List ℕ) → timer_stored (bus_over self.old below) offset width word ≡ None) }
+        ensures disk { self.new.block ≡ self.old.block }
         ensures only { OnErr result (result ≡ Err PortError.Fault) }
         ensures err { OnErr result (self.new ≡ self.old) }
     {

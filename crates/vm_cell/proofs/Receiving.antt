@@ -1,38 +1,36 @@
 -- The page at which a machine stalls, and one that comes.
-use Rattle.std.proofs.Common.{◌≡◌, ◌⊎◌, inl, inr, ⊎_elim, ℕ, zero, suc, ◌*◌, ◌<◌, Bool, true, false, cond, List, [], ◌∷◌}
-use Rattle.std.proofs.Common.{length, get_or, set, slice_get, Option, Some, None, Result, Ok, Err, IfOk, OnErr, refl, sym, ap, ap₂, ◌∙◌, arith}
+use Rattle.std.proofs.Common.{◌≡◌, ◌⊎◌, inl, inr, ⊎_elim, ℕ, zero, suc, Bool, true, false, cond, List, [], ◌∷◌}
+use Rattle.std.proofs.Common.{length, get_or, set, slice_get, Option, Some, None, Result, Ok, Err, IfOk, OnErr, refl, sym, ap, ap₂, ◌∙◌}
 use Rattle.std.specs.Option.{IfSome}
 use Rattle.std.specs.declared.alloc.AllocError.{AllocError}
 use Rattle.std.proofs.lemmas.Bool.{cases_eq}
 use Rattle.std.proofs.lemmas.List.{get_or-set_other}
 use Rattle.std.proofs.lemmas.List.Elements.{All-contains}
 use Rattle.std.proofs.lemmas.Option.{slice_get_read}
-use Rattle.page_frames.specs.declared.page.TheConstants.{PAGE_SIZE}
-use Rattle.image_depot.specs.declared.arrived.Arrived.{Arrived}
-use Rattle.image_depot.specs.declared.arrived.Arrived.TheVariants.{Got, Had}
+use Rattle.cow_disk.specs.declared.arrived.Arrived.{Arrived}
+use Rattle.cow_disk.specs.declared.arrived.Arrived.TheVariants.{Got, Had}
 use Rattle.image_depot.specs.Key.{Key}
 use Rattle.image_depot.specs.Receiver as receiver
 use Rattle.image_depot.specs.Reply.{Reply}
 use Rattle.forest_model.specs.Machine.{Machine}
-use Rattle.forest_model.specs.Paged.{Pages, Paged, first_absent, stalled_at}
+use Rattle.forest_model.specs.Paged.{AreFlagged, IsPageOf, Pages, Paged, first_absent, stalled_at}
 use Rattle.forest_model.specs.Touch.{touch}
 use Rattle.forest_model.proofs.Paged.{stalled-is}
-use Rattle.forest_model.proofs.Touch.{IsPages-touch}
+use Rattle.forest_model.proofs.Touch.{IsPages-touch, flagged-page}
 use Rattle.vm_hart.specs.Keyed.{Arrives, KeyedMachine, paged}
 use Rattle.vm_cell.specs.Received.{without_here}
 
--- it is one of RAM, and absent
-pub stalled-absent : (p : Paged) (page : ℕ) → stalled_at p ≡ Some page → length p.machine.state.ram ≡ PAGE_SIZE * length p.pages.here
-    → slice_get p.pages.here page ≡ Some false
-stalled-absent p page is whole =
+-- it is one of RAM or of the disk, and absent
+pub stalled-absent : (p : Paged) (page : ℕ) → stalled_at p ≡ Some page → AreFlagged p.machine.state p.pages → slice_get p.pages.here page ≡ Some false
+stalled-absent p page is flagged =
     let at = stalled-is p page is in
-    let begins : PAGE_SIZE * page < length p.machine.state.ram = All-contains (λ n. PAGE_SIZE * n < length p.machine.state.ram) (touch p.machine) page (IsPages-touch p.machine).of_ram at.listed in
-    slice_get_read p.pages.here (length p.pages.here) page false refl (omega arith) (sym at.absent)
+    let of_machine : IsPageOf p.machine.state page = All-contains (IsPageOf p.machine.state) (touch p.machine) page (IsPages-touch p.machine).each at.listed in
+    slice_get_read p.pages.here (length p.pages.here) page false refl (flagged-page p.machine.state p.pages flagged page of_machine) (sym at.absent)
 
-pub wanted-absent : (p : Paged) (wanted : Option ℕ) → wanted ≡ stalled_at p → length p.machine.state.ram ≡ PAGE_SIZE * length p.pages.here
+pub wanted-absent : (p : Paged) (wanted : Option ℕ) → wanted ≡ stalled_at p → AreFlagged p.machine.state p.pages
     → IfSome wanted (λ page. slice_get p.pages.here page ≡ Some false)
-wanted-absent p None is whole = tt
-wanted-absent p (Some page) is whole = stalled-absent p page (sym is) whole
+wanted-absent p None is flagged = tt
+wanted-absent p (Some page) is flagged = stalled-absent p page (sym is) flagged
 
 -- ---- a page comes
 

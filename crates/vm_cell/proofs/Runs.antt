@@ -271,3 +271,8 @@ counted_exit steps limit fork mid new_fork ending end counted live same rises fu
       tickets = omega arith;
       funded = subst IsFunded (sym same) funded;
     }
+
+pub counted_end : (steps now limit : ℕ) (ending : Option Ending) (by : Ending) (fork : ForkRegisters) → now ≡ steps → ending ≡ Some by
+    → IsCounted steps limit (Some by) fork → IsCounted now limit ending fork
+counted_end steps now limit ending by fork count ends is =
+    subst (λ n. IsCounted n limit ending fork) (sym count) (subst (λ e. IsCounted steps limit e fork) (sym ends) is)

@@ -25,7 +25,7 @@ use Rattle.vm_cell.specs.Standing.{IsAsked}
 use Rattle.vm_hart.specs.Keyed.{KeyedMachine}
 use Rattle.vm_cell.specs.Steps.{IsCounted, IsFunded}
 use Rattle.vm_hart.specs.Seeds.{IsBlankMap, image_left, port_fields, seed_of}
-use Rattle.vm_cell.specs.Woken.{IsSeed, woken, woken_machine}
+use Rattle.vm_cell.specs.Woken.{IsSeed, woken, woken_machine, woken_pages}
 
 -- ---- the hart of a clone
 
@@ -101,8 +101,9 @@ module _ (v : KeyedMachine) (t k : ℕ) (asked : IsAsked v.machine (Clone t)) wh
       pages = ap (λ (d : Descriptor). d.pages) is ∙ ap (λ (i : FrozenImage). length i.contents / PAGE_SIZE) (sym left);
     };
     wakes = ap (λ d. woken d key) is
-        ∙ ap (λ machine. record { machine = machine; pages = pages_at_birth v.pages; key = Some key })
-        (ap (woken_machine (seeded image share)) left ∙ wakes image share v.pages.blank zero blank.zero same);
+        ∙ ap (λ (i : FrozenImage). record { machine = woken_machine (seeded image share) i; pages = woken_pages (seeded image share) i; key = Some key }) left
+        ∙ ap (λ machine. record { machine = machine; pages = pages_at_birth m.state.ports.block.disk v.pages; key = Some key })
+        (wakes image share v.pages.blank zero blank.zero same);
   }
 
 -- ---- the same by its number

@@ -1,5 +1,5 @@
 -- A machine whose hart has made no step, and one that has ended.
-use Rattle.std.proofs.Common.{◌≡◌, ℕ, Bool, true, false, cond, Option, Some, None, Ok, subst, sym, ap, ◌∙◌, is_some}
+use Rattle.std.proofs.Common.{◌≡◌, ℕ, ◌+◌, Bool, true, false, cond, Option, Some, None, Ok, subst, sym, ap, ◌∙◌, is_some}
 use Rattle.fork_port.specs.declared.commands.Call.{Call}
 use Rattle.fork_port.specs.declared.ending.Ending.{Ending}
 use Rattle.fork_port.specs.declared.ending.Ending.TheVariants.{Limit}
@@ -52,6 +52,14 @@ pub goes_told : (seen old new : KeyedMachine) (is_last : Bool) (told : Option St
     → new.machine.ending ≡ cond is_last (Some Limit) old.machine.ending → told ≡ cond is_last (Some stop.End) None → IsStep old new → GoesOn seen new told
 goes_told seen old new is_last told is live ends stops step =
     subst (λ v. GoesOn v new told) is (subst (GoesOn old new) (sym stops) (goes_counted old new is_last live ends step))
+
+-- a step was made that ends the machine
+pub goes_ended : (seen old : KeyedMachine) (counted : KeyedState) (limit steps : ℕ) (ending : Option Ending) (by : Ending) → old ≡ seen → steps ≡ old.machine.steps + 1
+    → ending ≡ Some by → IsStep old (machine_of counted (old.machine.steps + 1) limit (Some by)) → GoesOn seen (machine_of counted steps limit ending) (Some stop.End)
+goes_ended seen old counted limit steps ending by is count ends step =
+    subst (λ v. GoesOn v (machine_of counted steps limit ending) (Some stop.End)) is
+    (subst (λ n. GoesOn old (machine_of counted n limit ending) (Some stop.End)) (sym count)
+    (subst (λ e. GoesOn old (machine_of counted (old.machine.steps + 1) limit e) (Some stop.End)) (sym ends) (step, λ none. absurd (cc))))
 
 -- ---- a machine that has ended
 

@@ -1,5 +1,7 @@
 -- The parts that a run is made in.
-use Rattle.std.specs.Prelude.{◌≡◌, ◌≢◌, ℕ, ◌+◌, ◌-◌, ◌<◌, ◌≤◌, Option, None, IfSome}
+use Rattle.std.specs.Prelude.{◌≡◌, ◌≢◌, ℕ, suc, ◌+◌, ◌-◌, ◌<◌, ◌≤◌, List, length, slice_index_or, Option, None, IfSome}
+use Rattle.instruction_slots.specs.Slots.{KeptInstruction, place_of}
+use Rattle.instruction_slots.specs.declared.slot.TheConstants.{NOWHERE}
 use Rattle.forest_model.specs.Paged.{stalled_at}
 use Rattle.vm_hart.specs.Acts.{Grows}
 use Rattle.vm_hart.specs.Keyed.{KeyedMachine, paged}
@@ -9,6 +11,14 @@ use Rattle.vm_cell.specs.declared.vm.Part.{Part}
 use Rattle.vm_cell.specs.declared.vm.Stepped.TheVariants as stepped
 use Rattle.vm_cell.specs.declared.vm.Stop.{Stop}
 use Rattle.vm_cell.specs.declared.vm.Stop.TheVariants.{Page, Call, End}
+
+-- what slots keep is of no later epoch
+abbrev pub ArePast : ℕ → List KeptInstruction → Type 0
+ArePast epoch slots = (k : ℕ) (d : KeptInstruction) → k < length slots → (slice_index_or slots k d).place < place_of 0 (suc epoch)
+
+-- no slot keeps anything
+abbrev pub AreNowhere : List KeptInstruction → Type 0
+AreNowhere slots = (k : ℕ) (d : KeptInstruction) → k < length slots → (slice_index_or slots k d).place ≡ NOWHERE
 
 -- a run stops there
 abbrev pub Stops : KeyedMachine → Stop → Type 0

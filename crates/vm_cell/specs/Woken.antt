@@ -23,18 +23,18 @@ woken_machine d image = record {
 -- the machine of a descriptor and the key to its image: its RAM is the image's but for the blank pages, which are
 -- zeros
 unfoldable pub woken : Descriptor → Key → KeyedMachine
-woken d key = record { machine = woken_machine d (image_of key); pages = woken_pages d; key = Some key }
+woken d key = record { machine = woken_machine d (image_of key); pages = woken_pages d (image_of key); key = Some key }
 
 -- child k of a machine, which has its absent pages in the image of this key
 abbrev pub keyed_child : KeyedMachine → ℕ → Key → KeyedMachine
-keyed_child v k key = record { machine = child v.machine k; pages = pages_at_birth v.pages; key = Some key }
+keyed_child v k key = record { machine = child v.machine k; pages = pages_at_birth v.machine.state.ports.block.disk v.pages; key = Some key }
 
 -- the descriptor stands for child k of a machine whose next step is CLONE
 pub record IsSeed (v : KeyedMachine) (k : ℕ) (key : Key) (d : Descriptor) : Type 0 where
   pub of_image : IsOfImage key d
   pub wakes : woken d key ≡ keyed_child v k key
 
--- so is that of each of so many children, by its number
+-- the descriptor of each of so many children, by its number, is of the image of this key
 abbrev pub AreOfImage : Key → ℕ → Descriptor → Type 0
 AreOfImage key children d = (k : ℕ) → 1 ≤ k → k ≤ children → IsOfImage key (numbered k d)
 

@@ -3,7 +3,9 @@
 
 pub mod laws;
 mod receiver;
+mod slots;
 mod vm;
 
 pub use guest_mem::Arrived;
+pub use slots::Slots;
 pub use vm::{ForkImage, Ran, Stepped, Vm};

@@ -1,20 +1,24 @@
-ghost use Rattle.std.specs.Prelude.{◌≡◌, ◌≢◌, ◌+◌, ◌-◌, ◌*◌, ◌≤◌, ◌<◌, ◌==◌, if◌then◌else◌, MatchBool, IsTrue, true, false, length, slice_index_or, None, Some, IfOk, OnErr};
+ghost use Rattle.std.specs.Prelude.{◌≡◌, ◌≢◌, ◌+◌, ◌-◌, ◌*◌, ◌≤◌, ◌<◌, ◌==◌, if◌then◌else◌, MatchBool, IsTrue, true, false, [], length, slice_index_or, None, Some, IfOk, IfSome, OnErr};
 ghost use Rattle.std.specs.Option.{option_copied};
 ghost use Rattle.console_port.specs.declared.port.TheConstants.{MAX_INPUT};
 ghost use Rattle.page_frames.specs.declared.page.TheConstants.{PAGE_SIZE};
+ghost use Rattle.cow_disk.specs.Paged.{disk_over, IsWholeDisk};
 ghost use Rattle.image_depot.specs.Key.{IsKeyOf};
 ghost use Rattle.forest_model.specs.Forest.{machines};
-ghost use Rattle.forest_model.specs.Machine.{IsWithinLimit, boot};
-ghost use Rattle.forest_model.specs.Paged.{pages_at_boot, stalled_at};
-ghost use Rattle.vm_hart.specs.Acts.{Grows};
+ghost use Rattle.fork_port.specs.Handed.{handed_of};
+ghost use Rattle.forest_model.specs.Machine.{IsWithinLimit, boot, count};
+ghost use Rattle.forest_model.specs.Memory.{bytes_at};
+ghost use Rattle.forest_model.specs.Paged.{AreFlagged, pages_at_boot, stalled_at};
+ghost use Rattle.vm_hart.specs.Acts.{Grows, IsReadable};
 ghost use Rattle.vm_hart.specs.Kept.{ComesAside, Keeps};
 ghost use Rattle.vm_hart.specs.Keyed.{Arrives, HasImage, IsOfDepot, hart_in, paged};
-ghost use Rattle.vm_cell.specs.Parts.{IsCut, IsMadeUntil, IsPart, Stops};
+ghost use Rattle.vm_cell.specs.Parts.{ArePast, IsCut, IsMadeUntil, IsPart, Stops};
 ghost use Rattle.vm_hart.specs.Shown.{peeked, shown_registers};
 ghost use Rattle.vm_hart.specs.Runs.{IsFreeFor, IsRun, moved_by};
 ghost use Rattle.vm_cell.specs.Steps.{GoesOn, IsAfterStep, Stands, Steps};
 
-use cow_disk::Disk;
+use crate::slots::{Slots, begin_epoch, make_slots};
+use cow_disk::{Disk, MAX_SECTORS, PAGE_SECTORS};
 use elf_load::Loaded;
 use forest_model::{Ending, Options, Written};
 use fork_port::Call;
@@ -30,11 +34,9 @@ mod fork;
 
 pub use fork::ForkImage;
 
-/// So many steps of a run are made with no slots, which take as long to make as some tens of steps.
-const FEW: u64 = 128;
-
-/// The slots of a long run. It is a power of 2, so that they are used alike.
-const SLOTS: usize = 512;
+/// So many steps of a run are made with no slots. Most of their words are met for the first time, so that a slot would save
+/// nothing, and a machine that makes no more pays for none.
+const FEW: u64 = 16;
 
 /// The most steps that are made with no try at fast ones. It is odd, so that a try comes at another place of a short loop.
 const LONGEST_PAUSE: u64 = 255;
@@ -47,7 +49,7 @@ const LONG_PAUSE: u64 = 16;
 pub enum Stepped {
     /// The step was made, and the machine lives.
     Went,
-    /// The next step waits for this page: the first that it touches and that is absent. It was not made.
+    /// The next step waits for the page at this place: the first that it touches and that is absent. It was not made.
     Stall(u32),
     /// The next step is a call, which the machine is to make. It was not made.
     Call(Call),
@@ -113,7 +115,8 @@ impl Model for Vm {
 }
 
 impl Vm {
-    /// The machine that starts from an image, with this disk and this input. All its pages are here.
+    /// The machine that starts from an image, with this disk, of which every page is here, and this input. All
+    /// its pages are here.
     #[tactic(auto, unfolding(forest_model::specs::Machine::boot))]
     pub fn boot(
         alloc: Global,
@@ -126,7 +129,8 @@ impl Vm {
         requires least { 1 ≤ options.limit }
         requires most { options.limit ≤ 1_000_000_000 }
         requires allot { options.allot ≤ 4096 }
-        ensures { IfOk result (λ vm. vm ≡ record { machine = boot image.now disk input.now options; pages = pages_at_boot image.now; key = None }) }
+        requires disk_whole { IsWholeDisk disk }
+        ensures { IfOk result (λ vm. vm ≡ record { machine = boot image.now (disk_over disk []) input.now options; pages = pages_at_boot image.now (disk_over disk []); key = None }) }
     {
         Ok(Vm {
             hart: Hart::new(alloc, image, disk, input, options.allot)?,
@@ -202,7 +206,7 @@ impl Vm {
         self.hart.key()
     }
 
-    /// The page at which the next step stalls, if it stalls.
+    /// The place of the page at which the next step stalls, if it stalls.
     pub fn wanted(&self) -> Option<u32>
         ensures { result ≡ stalled_at (paged self.now) }
     {
@@ -214,10 +218,19 @@ impl Vm {
 
     /// The pages of RAM.
     pub fn pages(&self) -> u32
-        ensures value { result ≡ length self.now.pages.here }
-        ensures whole { length self.now.machine.state.ram ≡ PAGE_SIZE * length self.now.pages.here }
+        ensures value { result ≡ length self.now.pages.blank }
+        ensures flagged { AreFlagged self.now.machine.state self.now.pages }
     {
         self.hart.pages()
+    }
+
+    /// All pages. One is told by its place: those of RAM come first, and then those of the disk.
+    pub fn places(&self) -> u32
+        ensures value { result ≡ length self.now.pages.here }
+        ensures least { length self.now.pages.blank ≤ result }
+        ensures few { PAGE_SECTORS * result ≤ PAGE_SECTORS * length self.now.pages.blank + MAX_SECTORS }
+    {
+        self.hart.places()
     }
 
     /// Whether a page is here. One that is not is absent.
@@ -266,8 +279,8 @@ impl Vm {
     }
 
     /// Makes at most `most` steps, until the machine ends, stalls or is to make a call, and looks at the step after
-    /// them. After an `Err` the steps before it stand.
-    pub fn run(&mut self, most: u64) -> Result<Ran, AllocError>
+    /// them. After an `Err` the steps before it stand. The slots may be those of runs of other machines.
+    pub fn run(&mut self, slots: &mut Slots, most: u64) -> Result<Ran, AllocError>
         ensures steps { IfOk result (λ ran. self.new ≡ moved_by ran.steps self.old) }
         ensures free { IfOk result (λ ran. IsFreeFor ran.steps self.old) }
         ensures each_made { IfOk result (λ ran. self.new.machine.steps ≡ self.old.machine.steps + ran.steps) }
@@ -289,15 +302,23 @@ impl Vm {
                 why: Stepped::Ended(ending),
             });
         }
-        let part = self.run_parts(most)?;
-        let why = match part.stop {
-            Some(stop) => self.stopped_by(stop),
-            None => self.standing_now(),
-        };
+        let part = self.run_parts(slots, most)?;
         Ok(Ran {
             steps: part.steps,
-            why,
+            why: self.standing_by(part.stop),
         })
+    }
+
+    /// Where the machine stands whose run this ended, if anything did, with a look at the next step.
+    fn standing_by(&self, stop: Option<Stop>) -> Stepped
+        requires { IfSome stop (Stops self.now) }
+        ensures stands { Stands self.now result }
+        ensures went { result ≡ Stepped.Went → (stop ≡ None) × IsWithinLimit self.now.machine }
+    {
+        match stop {
+            Some(stop) => self.stopped_by(stop),
+            None => self.standing_now(),
+        }
     }
 
     /// Where the machine stands whose run this ended.
@@ -314,7 +335,7 @@ impl Vm {
     }
 
     /// Makes at most `most` steps of a machine that lives, and looks at no step after them.
-    fn run_parts(&mut self, most: u64) -> Result<Part, AllocError>
+    fn run_parts(&mut self, slots: &mut Slots, most: u64) -> Result<Part, AllocError>
         requires { self.old.machine.ending ≡ None }
         ensures ok { IfOk result (IsPart most self.old self.new) }
         ensures err { OnErr result (IsCut most self.old self.new) }
@@ -326,11 +347,24 @@ impl Vm {
         if first.steps < FEW {
             return Ok(first);
         }
-        let rest = self.run_many(most - first.steps)?;
+        let rest = self.run_on(slots, most - first.steps)?;
         Ok(Part {
             steps: first.steps + rest.steps,
             stop: rest.stop,
         })
+    }
+
+    /// The same with slots, where there is memory for them.
+    fn run_on(&mut self, slots: &mut Slots, most: u64) -> Result<Part, AllocError>
+        requires { self.old.machine.ending ≡ None }
+        ensures ok { IfOk result (IsPart most self.old self.new) }
+        ensures err { OnErr result (IsCut most self.old self.new) }
+    {
+        make_slots(&mut slots.slots, slots.epoch, slots.alloc);
+        if slots.slots.is_empty() {
+            return self.step_some(most);
+        }
+        self.run_with(slots.slots.as_mut_slice(), &mut slots.epoch, most)
     }
 
     /// The same, with each step made by itself and without slots.
@@ -397,34 +431,31 @@ impl Vm {
         })
     }
 
-    /// The same with slots. It is apart and never inlined, so that a short run does not pay for them.
+    /// The same with slots. What they keep for an epoch holds while fast steps are made, so steps that are made by themselves begin an epoch, unless it is one that leaves
+    /// RAM as it is.
     #[inline(never)]
-    fn run_many(&mut self, most: u64) -> Result<Part, AllocError>
-        requires { self.old.machine.ending ≡ None }
-        ensures ok { IfOk result (IsPart most self.old self.new) }
-        ensures err { OnErr result (IsCut most self.old self.new) }
-    {
-        self.run_with(&mut [Slot::empty(); SLOTS], most)
-    }
-
-    /// What the slots keep for an epoch holds while fast steps are made, so steps that are made by themselves begin an
-    /// epoch, unless it is one that leaves RAM as it is.
-    #[inline(never)]
-    fn run_with(&mut self, slots: &mut [Slot], most: u64) -> Result<Part, AllocError>
+    fn run_with(
+        &mut self,
+        slots: &mut [Slot],
+        epoch: &mut u32,
+        most: u64,
+    ) -> Result<Part, AllocError>
         requires live { self.old.machine.ending ≡ None }
         requires some { 0 < length slots.old }
-        requires keeps { Keeps (hart_in self.old) self.old.machine.steps slots.old }
+        requires past { ArePast epoch.old slots.old }
         ensures ok { IfOk result (IsPart most self.old self.new) }
         ensures err { OnErr result (IsCut most self.old self.new) }
+        ensures past { ArePast epoch.new slots.new }
+        ensures same_length { length slots.new ≡ length slots.old }
     {
+        begin_epoch(slots, epoch);
         let mut steps = 0;
         let mut pause = 1;
-        let mut epoch = self.epoch_after(false, 0);
         while steps < most {
-            let made = self.make_fast(slots, epoch, most - steps - 1);
+            let made = self.make_fast(slots, *epoch, most - steps - 1);
             steps += made;
             pause = pause_after(pause, made);
-            let is_left = self.leaves_ram(slots, epoch, pause);
+            let is_left = self.leaves_ram(slots, *epoch, pause);
             let count = count_alone(is_left, pause, most - steps);
             let part = self.step_alone(slots, is_left, count)?;
             steps += part.steps;
@@ -432,18 +463,11 @@ impl Vm {
                 let stop = part.stop;
                 return Ok(Part { steps, stop });
             }
-            epoch = self.epoch_after(is_left, epoch);
+            if !is_left {
+                begin_epoch(slots, epoch);
+            }
         }
         Ok(Part { steps, stop: None })
-    }
-
-    /// The epoch after steps that are made by themselves: the same where RAM was left as it was, and else the count of steps,
-    /// which is above all epochs before.
-    #[inline(always)]
-    fn epoch_after(&self, is_left: bool, epoch: u32) -> u32
-        ensures { MatchBool is_left (result ≡ epoch) (result ≡ self.now.machine.steps) }
-    {
-        if is_left { epoch } else { self.steps as u32 }
     }
 
     /// Whether the coming step leaves RAM as it is, which pages are here, and what may be fetched. Before a long pause that
@@ -500,7 +524,7 @@ impl Vm {
                 Ok(count_step(&mut self.steps, self.limit, &mut self.ending))
             }
             Acted::Retired(written) => {
-                self.hart.count(true, written);
+                count_retired(&mut self.hart, written);
                 Ok(count_step(&mut self.steps, self.limit, &mut self.ending))
             }
             Acted::Exited {
@@ -508,10 +532,15 @@ impl Vm {
                 address,
                 count,
             } => {
-                let bytes = self.hart.handed(address, count);
-                self.hart.count(true, Written::Nothing);
-                self.steps += 1;
-                self.ending = Some(Ending::Exit(value, bytes));
+                let steps = &mut self.steps;
+                end(
+                    &mut self.hart,
+                    value,
+                    address,
+                    count,
+                    steps,
+                    &mut self.ending,
+                );
                 Ok(Some(Stop::End))
             }
             Acted::Asked(call) => Ok(Some(Stop::Call(call))),
@@ -575,6 +604,41 @@ fn count_alone(is_left: bool, pause: u64, left: u64) -> u64
     ensures one { IsTrue is_left → result ≡ 1 }
 {
     if is_left { 1 } else { pause.min(left) }
+}
+
+/// Counts a step that retired an instruction and wrote this of the counters: mostly nothing, which is known there, so that
+/// each counter is one addition.
+#[inline(always)]
+fn count_retired(hart: &mut Hart, written: Written)
+    ensures { hart.new ≡ record hart.old { state = count true written hart.old.state } }
+{
+    match written {
+        Written::Nothing => hart.count(true, Written::Nothing),
+        Written::Counter(_) | Written::Time => hart.count(true, written),
+    }
+}
+
+/// Counts the step that ends a machine by EXIT, with this value and so many bytes from an address on. It is apart, since the
+/// bytes have a room that no other step is to make.
+#[cold]
+#[inline(never)]
+fn end(
+    hart: &mut Hart,
+    value: u32,
+    address: u32,
+    number: u32,
+    steps: &mut u64,
+    ending: &mut Option<Ending>,
+)
+    requires readable { IsReadable hart.old address number }
+    requires steps { steps.old ≤ 1_000_000_000 }
+    ensures hart { hart.new ≡ record hart.old { state = count true Written.Nothing hart.old.state } }
+    ensures steps { steps.new ≡ steps.old + 1 }
+    ensures ending { ending.new ≡ Some (Ending.Exit value (handed_of (bytes_at address number hart.old.state))) }
+{
+    *ending = Some(Ending::Exit(value, hart.handed(address, number)));
+    hart.count(true, Written::Nothing);
+    *steps += 1;
 }
 
 /// Counts a step of a machine that lives, which ends it where it reaches the limit.

@@ -41,8 +41,9 @@ use Rattle.forest_model.specs.Compute.{load_upper, add_upper, compute_immediate,
 use Rattle.forest_model.specs.Control.{aligned_jump, jump, jump_register, branch_by, branch, relative, linked}
 use Rattle.forest_model.specs.declared.access.Access.{Access}
 use Rattle.forest_model.specs.Access.{Reached, faulted, of_ram, of_port, reached, fetch_access}
-use Rattle.forest_model.specs.Memory.{data_address, read_action, load_by, load_access, load, Outcome, is_byte_range, handing_over, outcome}
-use Rattle.forest_model.specs.Memory.{stored_outcome, port_outcome, store_by, store_access, store_action, stored_bytes, store, to_store}
+use Rattle.forest_model.specs.Memory.{data_address, read_action, load_by, load_access, load, Outcome, is_byte_range}
+use Rattle.forest_model.specs.Memory.{handing_over, outcome, stored_outcome, effect_outcome, needing, needs_at, port_outcome}
+use Rattle.forest_model.specs.Memory.{store_by, store_access, store_action, stored_bytes, store, to_store}
 use Rattle.forest_model.specs.Atomic.{is_reserved, reserve_by, reserve_access, load_reserved, conditional_action, conditional_by, conditional_access, store_conditional, amo_by, amo_access, amo}
 use Rattle.forest_model.specs.System.{operation_of, reads, writes, written_action, write_action, old_action, old_value, csr_access, returned_action, trap_return}
 use Rattle.forest_model.specs.Execute.{action, action_by, decoded_action, execute_group, execute, fetch_action, fetched}
@@ -337,14 +338,14 @@ command i word s a is at reaches here =
 -- ---- the pages that a store to a port needs
 
 -- a store of a word for the command
-pub command-needs : (word : ℕ) (s : State) → port_outcome (FORK_BASE + FORK_COMMAND) 4 word s
+pub command-needs : (word : ℕ) (s : State) → effect_outcome (FORK_BASE + FORK_COMMAND) 4 word s
     ≡ outcome (effect_of (fork_command s.ports.fork word)) (at_next_instruction (record s { ports = record s.ports { fork = answered (fork_command s.ports.fork word) s.ports.fork } }))
 unfolding port_store place_in fork_store
 command-needs word s = refl
 
--- no other store to a port needs one
+-- no other store to a port needs a page for what it does to the machine
 pub elsewhere-needs : (address width word : ℕ) (s : State) → (eqb width 4 ≡ false) ⊎ (eqb address (FORK_BASE + FORK_COMMAND) ≡ false)
-    → (port_outcome address width word s).footprint.needs ≡ []
+    → (effect_outcome address width word s).footprint.needs ≡ []
 unfolding port_store
 elsewhere-needs address width word s (inl e) =
     needs-stored (port_store s.ports address width word) address s
@@ -364,18 +365,18 @@ asks-none (asked.ExitWith value address count) s other = absurd (other value add
 asks-none (asked.Zero first count) s other = refl
 
 pub command-needs-none : (word : ℕ) (s : State) → ((value address count : ℕ) → fork_command s.ports.fork word ≡ asked.ExitWith value address count → ⊥)
-    → (port_outcome (FORK_BASE + FORK_COMMAND) 4 word s).footprint.needs ≡ []
+    → (effect_outcome (FORK_BASE + FORK_COMMAND) 4 word s).footprint.needs ≡ []
 command-needs-none word s other =
     ap (λ (o : Outcome). o.footprint.needs) (command-needs word s)
     ∙ asks-none (fork_command s.ports.fork word) (at_next_instruction (record s { ports = record s.ports { fork = answered (fork_command s.ports.fork word) s.ports.fork } })) other
 
-handed-needs : (in_range : Bool) (value address count : ℕ) (s : State)
+pub handed-needs : (in_range : Bool) (value address count : ℕ) (s : State)
     → (handing_over in_range value address count (at_next_instruction s)).footprint.needs ≡ (handing_over in_range 0 address count s).footprint.needs
 handed-needs false value address count s = refl
 handed-needs true value address count s = refl
 
 pub command-needs-bytes : (word : ℕ) (s : State) (value address count : ℕ) → fork_command s.ports.fork word ≡ asked.ExitWith value address count
-    → (port_outcome (FORK_BASE + FORK_COMMAND) 4 word s).footprint.needs ≡ bytes_needs s address count
+    → (effect_outcome (FORK_BASE + FORK_COMMAND) 4 word s).footprint.needs ≡ bytes_needs s address count
 command-needs-bytes word s value address count is =
     ap (λ (o : Outcome). o.footprint.needs) (command-needs word s)
     ∙ ap (λ a. (outcome (effect_of a) (at_next_instruction (record s { ports = record s.ports { fork = answered a s.ports.fork } }))).footprint.needs) is
@@ -397,12 +398,30 @@ call-port : (o : Option Stored) (address : ℕ) (s : State) (c : Call) → asked
 call-port None address s c is = refl
 call-port (Some stored) address s c is = call-outcome stored.effect (at_next_instruction (record s { ports = stored.ports })) c is
 
+-- no command of the block port is a call
+call-block : (b : Option BlockRegisters) (address : ℕ) (s : State) (c : Call) → asked_call (next_of (stored_outcome (block_stored b s.ports) address s).action) ≡ Some c → ⊥
+call-block None address s c is = cc
+call-block (Some b) address s c is = cc
+
+call-place : (place : Place) (address width word : ℕ) (s : State) (c : Call) → asked_call (next_of (stored_outcome (store_at place s.ports width word) address s).action) ≡ Some c
+    → (needing (needs_at place width word s) (stored_outcome (store_at place s.ports width word) address s)).footprint ≡ no_footprint
+call-place (at_console offset) address width word s c is = call-port (store_at (at_console offset) s.ports width word) address s c is
+call-place (at_timer offset) address width word s c is = call-port (store_at (at_timer offset) s.ports width word) address s c is
+call-place (at_block offset) address width word s c is = absurd (call-block (block_store s.ports.block offset width word) address s c is)
+call-place (at_fork offset) address width word s c is = call-port (store_at (at_fork offset) s.ports width word) address s c is
+call-place at_no_port address width word s c is = refl
+
+call-at-port : (address width word : ℕ) (s : State) (c : Call) → asked_call (next_of (effect_outcome address width word s).action) ≡ Some c
+    → (port_outcome address width word s).footprint ≡ no_footprint
+unfolding port_store
+call-at-port address width word s c is = call-place (place_of address) address width word s c is
+
 call-stored : (r : Reached) (i : Instruction) (s : State) (c : Call)
     → asked_call (next_of (store_by r (data_address i s) (store_width i.kind) (stored_bytes i s) (rs2 i s) s)) ≡ Some c
     → footprint_reached r (store_access i s) (rs2 i s) s ≡ no_footprint
 call-stored (faulted cause) i s c is = refl
 call-stored (of_ram page) i s c is = absurd (cc)
-call-stored of_port i s c is = call-port (port_store s.ports (data_address i s) (store_width i.kind) (rs2 i s)) (data_address i s) s c is
+call-stored of_port i s c is = call-at-port (data_address i s) (store_width i.kind) (rs2 i s) s c is
 
 call-by : (group : Group) (i : Instruction) (word : ℕ) (s : State) (c : Call) → asked_call (next_of (execute_group group i word s)) ≡ Some c
     → data_footprint (access_by group i s) (rs2 i s) s ≡ no_footprint

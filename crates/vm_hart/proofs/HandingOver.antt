@@ -1,5 +1,5 @@
 -- Bytes that a machine hands over, as its hart answers of them.
-use Rattle.std.proofs.Common.{◌≡◌, ℕ, ◌+◌, ◌-◌, ◌/◌, ◌≤◌, Bool, true, false, cond, eqb, List, [], ◌∷◌, length, Option, refl, sym, ap, ◌∙◌, subst, arith}
+use Rattle.std.proofs.Common.{◌≡◌, inl, inr, ℕ, ◌+◌, ◌-◌, ◌*◌, ◌/◌, ◌<◌, ◌≤◌, Bool, true, false, cond, eqb, List, [], ◌∷◌, ◌++◌, length, slice_get, Option, Some, refl, sym, ap, ◌∙◌, subst, arith}
 use Rattle.std.specs.Option.{IfSome}
 use Rattle.elf_load.specs.declared.image.TheConstants.{RAM_BASE}
 use Rattle.page_frames.specs.declared.page.TheConstants.{PAGE_SIZE}
@@ -11,11 +11,12 @@ use Rattle.forest_model.specs.State.{State, at_next_instruction}
 use Rattle.forest_model.specs.Access.{page_of}
 use Rattle.forest_model.specs.Action.{retire, exit}
 use Rattle.forest_model.specs.Memory.{bytes_at, handing_over, is_byte_range, pages_of_bytes, with_fork}
-use Rattle.forest_model.proofs.HandedOver.{from-base}
+use Rattle.forest_model.proofs.HandedOver.{from-base, page-of-either}
 use Rattle.forest_model.specs.Paged.{Pages}
 use Rattle.vm_hart.specs.Acts.{HasActed, HandsOver, IsMet, IsReadable, WaitsAt, bytes_needs}
 use Rattle.vm_hart.specs.Keyed.{KeyedState}
 use Rattle.vm_hart.specs.declared.hart.Acted.TheVariants.{Exited, Retired}
+use Rattle.vm_hart.proofs.Disks.{get-ram}
 
 -- what EXIT with bytes comes to, by whether they are bytes of RAM
 module _ (old new : KeyedState) (value address count : ℕ) where
@@ -80,3 +81,21 @@ waits-alike pages needs other same page waits = subst (λ n. IfSome page (WaitsA
 
 pub met-alike : (pages : Pages) (needs other : List ℕ) → needs ≡ other → IsMet other pages → IsMet needs pages
 met-alike pages needs other same met = subst (λ n. IsMet n pages) (sym same) met
+
+-- each byte that can be handed over lies in a page of RAM that is here
+pub byte-here : (ram disk blank : List Bool) (reads : List ℕ) (address count k : ℕ) → length reads ≡ PAGE_SIZE * length ram → count ≤ MAX_HANDED
+    → is_byte_range address count reads ≡ true → eqb count 0 ≡ false → IsMet (pages_of_bytes address count) (record { here = ram ++ disk; blank = blank })
+    → k < count → slice_get ram ((address - RAM_BASE + k) / PAGE_SIZE) ≡ Some true
+byte-here ram disk blank reads address count k whole few in_range some met within =
+    let from = from-base address count (length reads) some in_range in
+    let page : ℕ = (address - RAM_BASE + k) / PAGE_SIZE in
+    let pages : Pages = record { here = ram ++ disk; blank = blank } in
+    let both : IsMet (page_of address ∷ page_of (address + (count - 1)) ∷ []) pages =
+    subst (λ (b : Bool). IsMet (cond b [] (page_of address ∷ page_of (address + (count - 1)) ∷ [])) pages) some met in
+    let inside : page < length ram = omega (arith, whole, within, from.0, from.1) in
+    let place : page ≡ page_of (address + k) = omega (arith, from.0) in
+    sym (get-ram ram disk page inside)
+    ∙ elim (page-of-either address count k from.0 few within) [
+      | inl first ↦ ap (slice_get (ram ++ disk)) (place ∙ first) ∙ both.0
+      | inr last ↦ ap (slice_get (ram ++ disk)) (place ∙ last) ∙ both.1.0
+    ]

@@ -2,9 +2,13 @@ pub mod Waiting
 pub mod Reaching
 pub mod Asks
 pub mod HandingOver
-pub mod Seeds
 pub mod Runs
 pub mod PortChoice
+pub mod Disks
+pub mod Arriving
+pub mod Seeds
+pub mod Ports
+pub mod Storing
 pub mod Acting
 pub mod Answering
 pub mod Stepping

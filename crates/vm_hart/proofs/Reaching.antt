@@ -35,7 +35,7 @@ aligned_at false width address offset widths aligned from place = aligned_offset
 -- an access at an offset in RAM
 pub is-placed :
     (h : KeyedState) (a : Access) (offset : ℕ) → IsWidth a.width → is_aligned_for a.direction a.address a.width ≡ true → is_allowed a h.state ≡ true
-    → (is_in_ram h.state.ram a.address ≡ true) × (RAM_BASE ≤ a.address) × (offset ≡ a.address - RAM_BASE) × (offset < length h.state.ram) × (offset / PAGE_SIZE < length h.pages.here)
+    → (is_in_ram h.state.ram a.address ≡ true) × (RAM_BASE ≤ a.address) × (offset ≡ a.address - RAM_BASE) × (offset < length h.state.ram) × (offset / PAGE_SIZE < length h.pages.blank)
     → IsPlaced h a offset
 is-placed h a offset width aligned right there = record {
   aligned = aligned;

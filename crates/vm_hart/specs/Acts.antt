@@ -5,6 +5,8 @@ use Rattle.std.specs.declared.alloc.AllocError.{AllocError}
 use Rattle.elf_load.specs.declared.image.TheConstants.{RAM_BASE}
 use Rattle.page_frames.specs.declared.page.TheConstants.{PAGE_SIZE}
 use Rattle.block_port.specs.Block.{WritesSector}
+use Rattle.fork_port.specs.declared.commands.Effect.{Effect}
+use Rattle.fork_port.specs.declared.commands.Effect.TheVariants.{Done, TimeWritten, Call, Exit, ExitWith, Zero}
 use Rattle.fork_port.specs.declared.handed.TheConstants.{MAX_HANDED}
 use Rattle.fork_port.specs.Commands.{IsMakeable}
 use Rattle.fork_port.specs.Fork.{GrantsTicket}
@@ -12,7 +14,7 @@ use Rattle.rv_decode.specs.Instruction.{Instruction}
 use Rattle.forest_model.specs.declared.access.Access.{Access}
 use Rattle.forest_model.specs.declared.access.Direction.{Direction}
 use Rattle.port_map.specs.declared.place.TheConstants.{BLOCK_BASE, FORK_BASE}
-use Rattle.forest_model.specs.Ports.{PortRegisters, port_store}
+use Rattle.forest_model.specs.Ports.{PortRegisters, port_load, port_store}
 use Rattle.forest_model.specs.State.{State, at_next_instruction}
 use Rattle.forest_model.specs.Action.{Action, trap, interrupt, retire, exit, ask, rs2}
 use Rattle.forest_model.specs.Access.{Reached, faulted, of_ram, of_port, outside_ram, page_for, reached, uses}
@@ -21,6 +23,8 @@ use Rattle.forest_model.specs.Memory.{Outcome, bytes_at, handing_over, is_byte_r
 use Rattle.forest_model.specs.Execute.{action, coming_instruction, decoded_action}
 use Rattle.forest_model.specs.Touch.{access_of, footprint_from, footprint_in, footprint_of}
 use Rattle.forest_model.specs.Paged.{Pages, first_absent, pages_after}
+use Rattle.guest_mem.specs.declared.answers.StoreError.{StoreError}
+use Rattle.guest_mem.specs.declared.answers.StoreError.TheVariants.{Absent, Memory}
 use Rattle.vm_hart.specs.Keyed.{KeyedState, IsHere, IsAbsent}
 use Rattle.vm_hart.specs.declared.hart.Acted.{Acted}
 use Rattle.vm_hart.specs.declared.hart.Acted.TheVariants.{Stalled, Trapped, Interrupted, Retired, Exited, Asked}
@@ -76,6 +80,11 @@ HasChanged change old new = (new.pages ≡ pages_after change old.pages) × (new
 abbrev pub IsPut : KeyedState → KeyedState → ℕ → State → Type 0
 IsPut old new page s = new ≡ record { state = s; pages = pages_after (puts page) old.pages; key = old.key }
 
+-- bytes are not put just where the page is absent. Memory is wanting only where it is here
+abbrev pub IsUnput : Pages → ℕ → StoreError → Type 0
+IsUnput pages page (Absent absent) = IsAbsent pages page
+IsUnput pages page Memory = IsHere pages page
+
 -- these bytes of RAM can be handed over: they are not too many, and their pages are here
 pub record IsReadable (h : KeyedState) (address count : ℕ) : Type 0 where
   pub few : count ≤ MAX_HANDED
@@ -113,6 +122,27 @@ ActsAlone old new action acted = Acts old new no_footprint action (Ok acted)
 -- the same of an instruction that a word says, if it says one
 abbrev pub ActsBy : KeyedState → KeyedState → Option Instruction → ℕ → Result Acted AllocError → Type 0
 ActsBy old new i word result = Acts old new (footprint_of i old.state) (decoded_action i word old.state) result
+
+-- a store to a port that is a call, EXIT with bytes or ZERO changes nothing yet. The call can be made, and the bytes are
+-- not too many
+abbrev pub LeavesTo : KeyedState → KeyedState → Effect → Type 0
+LeavesTo old new Done = Unit {0}
+LeavesTo old new TimeWritten = Unit {0}
+LeavesTo old new (Call call) = (new ≡ old) × IsMakeable old.state.ports.fork call
+LeavesTo old new (Exit value) = Unit {0}
+LeavesTo old new (ExitWith value address count) = (new ≡ old) × (count ≤ MAX_HANDED)
+LeavesTo old new (Zero first count) = new ≡ old
+
+-- a store to the ports, which change alone, and what it does to the machine
+pub record HasStored (old new : KeyedState) (address width word : ℕ) (effect : Effect) : Type 0 where
+  pub is : port_store old.state.ports address width word ≡ Some (record { ports = new.state.ports; effect = effect })
+  pub rest : new ≡ record old { state = record old.state { ports = new.state.ports } }
+  pub leaves : LeavesTo old new effect
+
+-- the number that a load of the ports gives, which change alone
+pub record HasRead (old new : KeyedState) (address width value : ℕ) : Type 0 where
+  pub is : port_load old.state.ports address width ≡ Some (record { ports = new.state.ports; value = value })
+  pub rest : new ≡ record old { state = record old.state { ports = new.state.ports } }
 
 -- the pages that bytes which are to be handed over need, if they are bytes of RAM
 abbrev pub bytes_needs : State → ℕ → ℕ → List Page

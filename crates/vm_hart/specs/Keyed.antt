@@ -1,13 +1,15 @@
 -- What contracts see of a hart and of a machine: the one with every page, what is known of its pages, and the key to
 -- the image that has those that are absent.
-use Rattle.std.specs.Prelude.{◌≡◌, ℕ, true, false, slice_get, Option, Some}
+use Rattle.std.specs.Prelude.{◌≡◌, ℕ, ◌++◌, true, false, slice_get, Option, Some}
 use Rattle.std.specs.Option.{ForSome}
 use Rattle.fork_port.specs.declared.ending.Ending.{Ending}
 use Rattle.image_depot.specs.Key.{Shelves, Key, IsKeyOf}
 use Rattle.image_depot.specs.Reply.{Reply}
-use Rattle.image_depot.specs.declared.arrived.Arrived.{Arrived}
-use Rattle.image_depot.specs.declared.arrived.Arrived.TheVariants.{Got, Had}
-use Rattle.guest_mem.specs.Ram.{Ram, HasAbsent, IsOfImage}
+use Rattle.cow_disk.specs.declared.arrived.Arrived.{Arrived}
+use Rattle.cow_disk.specs.declared.arrived.Arrived.TheVariants.{Got, Had}
+use Rattle.cow_disk.specs.Paged.{PagedDisk, here_pages}
+use Rattle.image_depot.specs.Receiver.{HasAbsent, IsOfImage}
+use Rattle.guest_mem.specs.Ram.{Ram}
 use Rattle.forest_model.specs.State.{State}
 use Rattle.forest_model.specs.Machine.{Machine}
 use Rattle.forest_model.specs.Paged.{Pages, Paged, pages_arrived}
@@ -36,8 +38,9 @@ machine_of h steps limit ending = record {
 abbrev pub hart_in : KeyedMachine → KeyedState
 hart_in v = record { state = v.machine.state; pages = v.pages; key = v.key }
 
-abbrev pub pages_of : Ram → Pages
-pages_of ram = record { here = ram.here; blank = ram.blank }
+-- the pages of RAM, and behind them those of the disk
+abbrev pub pages_of : Ram → PagedDisk → Pages
+pages_of ram disk = record { here = ram.here ++ here_pages disk; blank = ram.blank }
 
 -- the machine and its pages, without the key
 abbrev pub paged : KeyedMachine → Paged

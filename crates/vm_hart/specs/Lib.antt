@@ -10,3 +10,4 @@ pub mod Seeds
 pub mod Shown
 pub mod Tries
 pub mod Windows
+pub mod AtPlace

@@ -17,7 +17,7 @@ pub record IsPlaced (h : KeyedState) (a : Access) (offset : ℕ) : Type 0 where
   pub from_base : RAM_BASE ≤ a.address
   pub place : offset ≡ a.address - RAM_BASE
   pub inside : offset < length h.state.ram
-  pub page : offset / PAGE_SIZE < length h.pages.here
+  pub page : offset / PAGE_SIZE < length h.pages.blank
   pub aligned_offset : IsAlignedAt a.direction offset a.width
 
 -- the answer tells the offset in RAM of an access that is aligned and allowed, or what another comes to

@@ -1,5 +1,5 @@
 -- What a hart leaves for its clones, and the hart that a clone starts with.
-use Rattle.std.specs.Prelude.{◌≡◌, ℕ, ◌*◌, ◌/◌, Bool, List, ◌∷◌, length, drop, Some}
+use Rattle.std.specs.Prelude.{◌≡◌, ℕ, ◌*◌, ◌/◌, Bool, false, List, ◌∷◌, ◌++◌, length, drop, Some}
 use Rattle.page_frames.specs.declared.page.TheConstants.{PAGE_SIZE}
 use Rattle.vm_bus.specs.declared.ports.PortFields.{PortFields}
 use Rattle.vm_bus.specs.Bus.{ports_of_fields}
@@ -9,7 +9,7 @@ use Rattle.image_depot.specs.Image.{FrozenImage, page_count}
 use Rattle.image_depot.specs.Key.{Key, number_of, image_of}
 use Rattle.guest_mem.specs.Ram.{cleared}
 use Rattle.forest_model.specs.State.{State}
-use Rattle.forest_model.specs.Paged.{Pages}
+use Rattle.forest_model.specs.Paged.{Pages, flags_of_disk}
 use Rattle.vm_hart.specs.Hart.{ports_of}
 use Rattle.vm_hart.specs.Keyed.{KeyedState}
 
@@ -42,12 +42,12 @@ woken_state d image = record {
   ports = ports_of (ports_of_fields (port_fields d) image.disk image.input);
 }
 
--- a clone starts with its blank pages alone
-abbrev pub woken_pages : Descriptor → Pages
-woken_pages d = record { here = d.blank; blank = d.blank }
+-- a clone starts with its blank pages alone, and with no page of the disk
+abbrev pub woken_pages : Descriptor → FrozenImage → Pages
+woken_pages d image = record { here = d.blank ++ flags_of_disk false image.disk; blank = d.blank }
 
 abbrev pub woken_hart : Descriptor → Key → KeyedState
-woken_hart d key = record { state = woken_state d (image_of key); pages = woken_pages d; key = Some key }
+woken_hart d key = record { state = woken_state d (image_of key); pages = woken_pages d (image_of key); key = Some key }
 
 -- the image that a machine leaves for its children
 abbrev pub image_left : State → FrozenImage

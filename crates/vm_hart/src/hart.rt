@@ -1,9 +1,10 @@
-ghost use Rattle.std.specs.Prelude.{◌≡◌, ◌<◌, ◌≤◌, ◌*◌, ◌/◌, ◌%◌, ◌∷◌, length, drop, slice_index_or, IfOk, IsSomeAnd, OnOk, OnErr, Some, None, false};
+ghost use Rattle.std.specs.Prelude.{◌≡◌, ◌<◌, ◌≤◌, ◌+◌, ◌*◌, ◌/◌, ◌%◌, [], ◌∷◌, length, drop, slice_index_or, IfErr, IfOk, IsSomeAnd, MatchResult, OnOk, OnErr, Some, None, false};
 ghost use Rattle.std.specs.Option.{option_copied};
-ghost use Rattle.byteorder.specs.Endian.{little_bytes};
+ghost use Rattle.byteorder.specs.Endian.{little_bytes, little_from};
 ghost use Rattle.flat_memory.specs.Flat.{put_bytes, word_at};
-ghost use Rattle.page_frames.specs.declared.page.TheConstants.{PAGE_SIZE};
-ghost use Rattle.image_depot.specs.Key.{IsKeyOf};
+ghost use Rattle.cow_disk.specs.Paged.{disk_over, IsWholeDisk};
+ghost use Rattle.image_depot.specs.Image.{page_count};
+ghost use Rattle.image_depot.specs.Key.{IsKeyOf, image_of};
 ghost use Rattle.console_port.specs.declared.port.TheConstants.{MAX_INPUT};
 ghost use Rattle.rv_decode.specs.Table.{decoded};
 ghost use Rattle.rv_exec.specs.Memory.{IsWidth};
@@ -12,20 +13,23 @@ ghost use Rattle.forest_model.specs.Ports.{ports_at_start};
 ghost use Rattle.forest_model.specs.State.{at_next_instruction, register, with_register};
 ghost use Rattle.forest_model.specs.Action.{with_rd};
 ghost use Rattle.forest_model.specs.Machine.{registers_at_start, trapped, count};
-ghost use Rattle.forest_model.specs.Paged.{pages_at_boot};
-ghost use Rattle.vm_hart.specs.Acts.{ActsBy, ActsNext, Grows, InstructionGrows, IsPut};
-ghost use Rattle.vm_hart.specs.Keyed.{Arrives, HasImage, IsHere, IsOfDepot};
+ghost use Rattle.forest_model.specs.Paged.{AreFlagged, pages_at_boot};
+ghost use Rattle.guest_mem.specs.Ram.{IsDiskBased, disk_below};
+ghost use Rattle.vm_hart.specs.Acts.{ActsBy, ActsNext, Grows, InstructionGrows, IsPut, IsUnput};
+ghost use Rattle.vm_hart.specs.AtPlace.{at_place};
+ghost use Rattle.vm_hart.specs.Keyed.{Arrives, HasImage, IsAbsent, IsHere, IsOfDepot};
 ghost use Rattle.vm_hart.specs.Shown.{peeked, shown_registers};
 
-use cow_disk::Disk;
+use cow_disk::{Disk, MAX_SECTORS, PAGE_SECTORS};
 use elf_load::Loaded;
 use forest_model::Written;
 use forest_model::cause::{BREAKPOINT, ILLEGAL_INSTRUCTION, INSTRUCTION_ACCESS_FAULT};
 use fork_port::Call;
 use fork_port::refusals::TICKETS_END;
-use guest_mem::{Arrived, GuestMem, StoreError};
+use guest_mem::{Absent, Arrived, GuestMem, StoreError};
 use image_depot::{Depot, ImageKey, Parcel};
 use instruction_slots::{Fields, Slot, decode_by};
+use page_frames::PAGE_SIZE;
 use rv_decode::Group;
 use rv_traps::{Csrs, Wrote};
 use std::alloc::{AllocError, Global};
@@ -34,6 +38,7 @@ use vm_bus::Ports;
 
 mod access;
 mod atomic;
+mod bus;
 mod call;
 mod compute;
 mod control;
@@ -90,12 +95,12 @@ impl Model for Hart {
 
     ghost view = { λ h. hart_of h.registers h.pc h.csrs h.reservation h.memory h.ports };
 
-    ghost invariant = { λ h. IsHart (hart_of h.registers h.pc h.csrs h.reservation h.memory h.ports).state };
+    ghost invariant = { λ h. IsHart (hart_of h.registers h.pc h.csrs h.reservation h.memory h.ports).state h.memory.key h.ports.block.disk };
 }
 
 impl Hart {
-    /// A hart with an image in its RAM, at the entry, with this disk and this input, that may have `allot`
-    /// clones.
+    /// A hart with an image in its RAM, at the entry, with this disk, of which every page is here, and this
+    /// input, that may have `allot` clones.
     #[tactic(auto, unfolding(forest_model::specs::Machine::registers_at_start))]
     pub fn new(
         alloc: Global,
@@ -104,7 +109,8 @@ impl Hart {
         input: &[u8],
         allot: u32,
     ) -> Result<Hart, AllocError>
-        requires { length input.now ≤ MAX_INPUT }
+        requires input_fits { length input.now ≤ MAX_INPUT }
+        requires disk_whole { IsWholeDisk disk }
         ensures { IfOk result (λ hart. hart ≡ record {
           state = record {
             registers = registers_at_start;
@@ -112,12 +118,14 @@ impl Hart {
             csrs = at_reset;
             reservation = None;
             ram = image.now.ram;
-            ports = ports_at_start disk input.now allot;
+            ports = ports_at_start (disk_over disk []) input.now allot;
           };
-          pages = pages_at_boot image.now;
+          pages = pages_at_boot image.now (disk_over disk []);
           key = None;
         }) }
     {
+        // The call tells that there is a flag for each page of the disk.
+        let _ = disk.pages();
         Ok(Hart {
             registers: [0; 32],
             pc: image.entry(),
@@ -136,9 +144,10 @@ impl Hart {
         self.ports.input()
     }
 
-    /// The disk.
+    /// The disk. Its absent pages are on that of the image of the key.
     pub fn disk(&self) -> &Disk
-        ensures { result.now ≡ self.now.state.ports.block.disk }
+        ensures value { disk_over result.now (disk_below self.now.key) ≡ self.now.state.ports.block.disk }
+        ensures based { IsDiskBased result.now self.now.key }
     {
         self.ports.disk()
     }
@@ -189,17 +198,28 @@ impl Hart {
         ensures value { option_copied result ≡ self.now.key }
         ensures absent { HasImage self.now.key self.now.pages }
     {
-        // The call tells that the image has the absent pages.
+        // The call tells that the image has the absent pages of RAM.
         let _ = self.memory.pages();
         self.memory.key()
     }
 
     /// The pages of RAM.
     pub fn pages(&self) -> u32
-        ensures value { result ≡ length self.now.pages.here }
-        ensures whole { length self.now.state.ram ≡ PAGE_SIZE * length self.now.pages.here }
+        ensures value { result ≡ length self.now.pages.blank }
+        ensures flagged { AreFlagged self.now.state self.now.pages }
     {
+        // The call tells how many sectors its disk has.
+        let _ = self.ports.disk().sectors();
         self.memory.pages()
+    }
+
+    /// All pages: those of RAM, and behind them those of the disk.
+    pub fn places(&self) -> u32
+        ensures value { result ≡ length self.now.pages.here }
+        ensures least { length self.now.pages.blank ≤ result }
+        ensures few { PAGE_SECTORS * result ≤ PAGE_SECTORS * length self.now.pages.blank + MAX_SECTORS }
+    {
+        self.memory.pages() + self.ports.disk().pages()
     }
 
     /// Whether a page is here.
@@ -207,7 +227,12 @@ impl Hart {
         requires { page < length self.now.pages.here }
         ensures { result ≡ slice_index_or self.now.pages.here page false }
     {
-        self.memory.is_here(page)
+        let pages = self.memory.pages();
+        if page < pages {
+            self.memory.is_here(page)
+        } else {
+            self.ports.is_here(page - pages)
+        }
     }
 
     /// Takes a page that was sent, where it is absent and one of the image of the key.
@@ -223,7 +248,55 @@ impl Hart {
         ensures rest { (self.new.state ≡ self.old.state) × (self.new.key ≡ self.old.key) }
         ensures err { OnErr result (self.new ≡ self.old) }
     {
+        if parcel.page() < depot.pages(parcel.key()) {
+            self.arrive_in_ram(alloc, depot, parcel)
+        } else {
+            self.arrive_on_disk(depot, parcel)
+        }
+    }
+
+    /// The same of a page of RAM.
+    fn arrive_in_ram(
+        &mut self,
+        alloc: Global,
+        depot: &Depot,
+        parcel: &Parcel,
+    ) -> Result<Arrived, AllocError>
+        requires hart { IsOfDepot depot.now self.old.key }
+        requires parcel { IsKeyOf depot.now parcel.now.key }
+        requires of_ram { parcel.now.page < page_count (image_of parcel.now.key) }
+        ensures arrives { IfOk result (Arrives self.old.key self.old.pages parcel.now self.new.pages) }
+        ensures rest { (self.new.state ≡ self.old.state) × (self.new.key ≡ self.old.key) }
+        ensures err { OnErr result (self.new ≡ self.old) }
+    {
         self.memory.arrive(alloc, depot, parcel)
+    }
+
+    /// The same of a page of the disk. The bytes of the reply are those of the image's page.
+    fn arrive_on_disk(&mut self, depot: &Depot, parcel: &Parcel) -> Result<Arrived, AllocError>
+        requires hart { IsOfDepot depot.now self.old.key }
+        requires parcel { IsKeyOf depot.now parcel.now.key }
+        requires on_disk { page_count (image_of parcel.now.key) ≤ parcel.now.page }
+        ensures arrives { IfOk result (Arrives self.old.key self.old.pages parcel.now self.new.pages) }
+        ensures rest { (self.new.state ≡ self.old.state) × (self.new.key ≡ self.old.key) }
+        ensures err { OnErr result (self.new ≡ self.old) }
+    {
+        let place = parcel.page();
+        let Some(key) = self.memory.key() else {
+            return Ok(Arrived::Had(place));
+        };
+        if key.number() != parcel.key().number() {
+            return Ok(Arrived::Had(place));
+        }
+        depot.agree(key, parcel.key());
+        // The call tells that the image has the page.
+        let _ = parcel.bytes();
+        let page = place - depot.pages(key);
+        // The call tells that the image has as many pages of RAM.
+        let _ = self.memory.pages();
+        let mut bytes = [0; PAGE_SIZE];
+        depot.frozen(key).disk_page(page, &mut bytes);
+        Ok(at_place(self.ports.arrive(page, &bytes)?, place))
     }
 
     /// Makes the coming step, unless it waits for a page. Its word is not decoded where a slot has it. There may be no slots.
@@ -266,7 +339,7 @@ impl Hart {
         ensures { self.new ≡ record self.old { state = trapped cause value self.old.state } }
     {
         self.pc = self.csrs.enter(cause, value, self.pc);
-        self.reservation = None;
+        clear(&mut self.reservation);
     }
 
     /// Takes a trap, and counts it as a step that retired nothing.
@@ -352,10 +425,37 @@ impl Hart {
         requires here { IsHere self.now.pages (offset / PAGE_SIZE) }
         ensures { result ≡ word_at self.now.state.ram offset }
     {
-        match self.memory.load(offset, 4) {
+        match self.load_at(offset, 4) {
             Ok(word) => word,
             Err(_) => unreachable!(),
         }
+    }
+
+    /// The number in the `width` bytes from an offset in RAM on, which is a multiple of the width, where its page is here.
+    #[inline(always)]
+    fn load_at(&self, offset: u32, width: u32) -> Result<u32, Absent>
+        requires width { IsWidth width }
+        requires aligned { offset % width ≡ 0 }
+        requires inside { offset < length self.now.state.ram }
+        ensures { MatchResult result
+            (λ number. (number ≡ little_from offset width self.now.state.ram) × IsHere self.now.pages (offset / PAGE_SIZE))
+            (λ absent. IsAbsent self.now.pages (offset / PAGE_SIZE)) }
+    {
+        self.memory.load(offset, width)
+    }
+
+    /// Stores the low `width` bytes of a word from an offset in RAM on, which is a multiple of the width, where its page is
+    /// here.
+    #[inline(always)]
+    fn put_at(&mut self, offset: u32, width: u32, word: u32) -> Result<(), StoreError>
+        requires width { IsWidth width }
+        requires aligned { offset % width ≡ 0 }
+        requires inside { offset < length self.old.state.ram }
+        ensures ok { OnOk result (IsHere self.old.pages (offset / PAGE_SIZE) × IsPut self.old self.new (offset / PAGE_SIZE)
+            (record self.old.state { ram = put_bytes self.old.state.ram offset (little_bytes width word) })) }
+        ensures err { IfErr result (λ error. (self.new ≡ self.old) × IsUnput self.old.pages (offset / PAGE_SIZE) error) }
+    {
+        self.memory.store(offset, width, word)
     }
 
     /// Stores the low `width` bytes of a word from an offset in RAM on, which is a multiple of the width. The page is
@@ -370,7 +470,7 @@ impl Hart {
             (record self.old.state { ram = put_bytes self.old.state.ram offset (little_bytes width word) })) }
         ensures err { OnErr result (self.new ≡ self.old) }
     {
-        match self.memory.store(offset, width, word) {
+        match self.put_at(offset, width, word) {
             Ok(()) => Ok(()),
             Err(StoreError::Memory) => Err(AllocError),
             Err(StoreError::Absent(_)) => unreachable!(),
@@ -403,6 +503,26 @@ fn with_pc(registers: &[u32; 32], pc: u32) -> [u32; 32]
     let mut shown = *registers;
     shown[0] = pc;
     shown
+}
+
+/// Ends a reservation. Mostly there is none, and a look costs less than a store.
+#[inline(always)]
+fn clear(reservation: &mut Option<u32>)
+    ensures { reservation.new ≡ None }
+{
+    if reservation.is_some() {
+        *reservation = None;
+    }
+}
+
+/// The answer to a page that came, by its place.
+fn at_place(arrived: Arrived, place: u32) -> Arrived
+    ensures { result ≡ at_place place arrived }
+{
+    match arrived {
+        Arrived::Got(_) => Arrived::Got(place),
+        Arrived::Had(_) => Arrived::Had(place),
+    }
 }
 
 /// The answer of an exception.

@@ -5,8 +5,8 @@ use Rattle.std.specs.BTreeMap.{get}
 use Rattle.std.specs.declared.alloc.AllocError.{AllocError}
 use Rattle.image_depot.specs.Key.{Shelves, Key}
 use Rattle.image_depot.specs.Reply.{Reply}
-use Rattle.image_depot.specs.declared.arrived.Arrived.{Arrived}
-use Rattle.image_depot.specs.declared.arrived.Arrived.TheVariants.{Got, Had}
+use Rattle.cow_disk.specs.declared.arrived.Arrived.{Arrived}
+use Rattle.cow_disk.specs.declared.arrived.Arrived.TheVariants.{Got, Had}
 use Rattle.forest_tree.specs.Tree.{Tree, node, Broods, Log, machine, Branch, Path, subtree}
 use Rattle.forest_tree.specs.Settle.{waits}
 use Rattle.forest_tree.specs.Sound.{IsSound}

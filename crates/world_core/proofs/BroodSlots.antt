@@ -85,7 +85,7 @@ module _ (depot : Shelves) (path : Path) (ticket : ℕ) where
 
 -- ---- children that are born
 
-woken-paged : (d : Descriptor) (key : Key) → paged (woken d key) ≡ record { machine = woken_machine d (image_of key); pages = woken_pages d }
+woken-paged : (d : Descriptor) (key : Key) → paged (woken d key) ≡ record { machine = woken_machine d (image_of key); pages = woken_pages d (image_of key) }
 unfolding woken
 woken-paged d key = refl
 
@@ -113,7 +113,7 @@ module _ (path : Path) (ticket : ℕ) (v : KeyedMachine) (key : Key) (seed : Des
   born_shows zero k h = tt
   born_shows (suc n) k h =
       let first : IsSeed v k key (numbered k seed) = h k (omega arith) (omega arith) in
-      let wakes : paged_machines.child s.machine k ≡ record { machine = woken_machine (numbered k seed) (image_of key); pages = woken_pages (numbered k seed) } =
+      let wakes : paged_machines.child s.machine k ≡ record { machine = woken_machine (numbered k seed) (image_of key); pages = woken_pages (numbered k seed) (image_of key) } =
       ap (λ p. paged_machines.child p k) is ∙ ap paged (sym first.wakes) ∙ woken-paged (numbered k seed) key in (
         record {
           of_image = first.of_image;

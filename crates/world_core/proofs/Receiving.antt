@@ -1,14 +1,13 @@
 -- A page comes to a machine on lease.
-use Rattle.std.proofs.Common.{◌≡◌, ◌⊎◌, ℕ, ◌*◌, length, Some, Result, Ok, Err, IfOk, OnErr, ap, ap₂, ◌∙◌, subst}
+use Rattle.std.proofs.Common.{◌≡◌, ◌⊎◌, ℕ, Some, Result, Ok, Err, IfOk, OnErr, ap, ap₂, ◌∙◌, subst}
 use Rattle.std.specs.declared.alloc.AllocError.{AllocError}
 use Rattle.std.proofs.lemmas.Result.{IfOk-weaker}
-use Rattle.page_frames.specs.declared.page.TheConstants.{PAGE_SIZE}
-use Rattle.image_depot.specs.declared.arrived.Arrived.{Arrived}
+use Rattle.cow_disk.specs.declared.arrived.Arrived.{Arrived}
 use Rattle.image_depot.specs.Receiver.{IsHad}
 use Rattle.image_depot.specs.Reply.{Reply}
 use Rattle.forest_tree.specs.Tree.{Path}
 use Rattle.forest_model.specs.Machine.{Machine}
-use Rattle.forest_model.specs.Paged.{stalled_at}
+use Rattle.forest_model.specs.Paged.{AreFlagged, stalled_at}
 use Rattle.vm_cell.specs.Keyed.{Arrives, KeyedMachine, paged}
 use Rattle.vm_cell.proofs.Receiving as vm
 use Rattle.world_core.specs.Lent.{Lent, IsSameLease, lent_as, vm_of}
@@ -43,7 +42,6 @@ had-arrived old new reply r same ran now h =
     (λ answer stays had. same-as new.name old.name new.start old.start new.ran old.ran _ _ same.name same.start ran (stays had))
     (vm.had-arrived (vm_of old) (vm_of new) reply r now same.key h)
 
--- a lease has as many pages as its machine's RAM
-pub whole-of : (v : KeyedMachine) (lease : Lent) → v ≡ vm_of lease → length v.machine.state.ram ≡ PAGE_SIZE * length v.pages.here
-    → length lease.now.state.ram ≡ PAGE_SIZE * length lease.pages.here
-whole-of v lease same whole = subst (λ (u : KeyedMachine). length u.machine.state.ram ≡ PAGE_SIZE * length u.pages.here) same whole
+-- a lease has a flag for each page of its machine
+pub flagged-of : (v : KeyedMachine) (lease : Lent) → v ≡ vm_of lease → AreFlagged v.machine.state v.pages → AreFlagged lease.now.state lease.pages
+flagged-of v lease same flagged = subst (λ (u : KeyedMachine). AreFlagged u.machine.state u.pages) same flagged

@@ -1,8 +1,8 @@
 -- A page that has come to a machine on lease, and what a world stands for then.
 use Rattle.std.specs.Prelude.{ℕ}
 use Rattle.image_depot.specs.Key.{Shelves}
-use Rattle.image_depot.specs.declared.arrived.Arrived.{Arrived}
-use Rattle.image_depot.specs.declared.arrived.Arrived.TheVariants.{Got, Had}
+use Rattle.cow_disk.specs.declared.arrived.Arrived.{Arrived}
+use Rattle.cow_disk.specs.declared.arrived.Arrived.TheVariants.{Got, Had}
 use Rattle.forest_tree.specs.Tree.{Tree, node, Path}
 use Rattle.forest_history.specs.Places.{at_path, Spot}
 use Rattle.forest_model.specs.Paged.{Paged, Pages, pages_arrived}

@@ -43,7 +43,7 @@ pub record IsAwake (t : Tree (Spot Paged)) : Type 0 where
   pub awake : is_asleep_at (machine t).place ≡ false
 
 abbrev pub sleeper : Key → Descriptor → Spot Paged
-sleeper key seed = record { machine = record { machine = woken_machine seed (image_of key); pages = woken_pages seed }; place = asleep }
+sleeper key seed = record { machine = record { machine = woken_machine seed (image_of key); pages = woken_pages seed (image_of key) }; place = asleep }
 
 -- a child that is still a descriptor, which is of the brood's image
 pub record Sleeps (key : Key) (seed : Descriptor) (t : Tree (Spot Paged)) : Type 0 where

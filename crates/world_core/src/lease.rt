@@ -1,4 +1,4 @@
-ghost use Rattle.std.specs.Prelude.{◌≡◌, ◌≢◌, ◌≤◌, ◌<◌, ◌+◌, ◌-◌, length, slice_index_or, false, IfOk, OnErr, None};
+ghost use Rattle.std.specs.Prelude.{◌≡◌, ◌≢◌, ◌≤◌, ◌<◌, ◌+◌, ◌-◌, ◌*◌, length, slice_index_or, false, IfOk, OnErr, None};
 ghost use Rattle.std.specs.Option.{option_copied};
 ghost use Rattle.image_depot.specs.Key.{IsKeyOf, Shelves};
 ghost use Rattle.forest_model.specs.Machine.{after_steps};
@@ -14,6 +14,7 @@ ghost use Rattle.world_core.specs.Lent.{HasLed, IsSameLease, lent_as, vm_of};
 ghost use Rattle.world_core.specs.World.{Forest, StandsFor};
 ghost use Rattle.world_core.specs.declared.world.World.{World};
 
+use cow_disk::{MAX_SECTORS, PAGE_SECTORS};
 use forest_model::Ending;
 use fork_port::Call;
 use image_depot::{Depot, ImageKey, Parcel};
@@ -22,7 +23,7 @@ use ready_queue::ReadyTurn;
 use std::alloc::{AllocError, Global};
 use std::marker::Model;
 use std::snapshot::Snapshot;
-use vm_cell::{Arrived, Ran, Stepped, Vm};
+use vm_cell::{Arrived, Ran, Slots, Stepped, Vm};
 
 /// A machine on lease. It runs by itself, and nothing else runs it meanwhile. A lease cannot be let go: it is
 /// spent by the world that handed it out, in `give`, `end`, `fork`, `commit_fork`, `join` or `kill`.
@@ -134,7 +135,7 @@ impl Lease {
         self.vm.key()
     }
 
-    /// The page at which the next step stalls, if it stalls.
+    /// The place of the page at which the next step stalls, if it stalls.
     pub fn wanted(&self) -> Option<u32>
         ensures { result ≡ stalled_at (paged (vm_of self.now)) }
     {
@@ -143,9 +144,18 @@ impl Lease {
 
     /// The pages of RAM.
     pub fn pages(&self) -> u32
-        ensures { result ≡ length self.now.pages.here }
+        ensures { result ≡ length self.now.pages.blank }
     {
         self.vm.pages()
+    }
+
+    /// All pages. One is told by its place: those of RAM come first, and then those of the disk.
+    pub fn places(&self) -> u32
+        ensures value { result ≡ length self.now.pages.here }
+        ensures least { length self.now.pages.blank ≤ result }
+        ensures few { PAGE_SECTORS * result ≤ PAGE_SECTORS * length self.now.pages.blank + MAX_SECTORS }
+    {
+        self.vm.places()
     }
 
     /// Whether a page is here. One that is not is absent.
@@ -184,8 +194,8 @@ impl Lease {
     }
 
     /// Makes at most `most` steps, until the machine ends, stalls or is to make a call. After an `Err` the steps
-    /// before it stand, and `ran` tells them.
-    pub fn run(&mut self, most: u64) -> Result<Ran, AllocError>
+    /// before it stand, and `ran` tells them. The slots may be those of runs of other machines.
+    pub fn run(&mut self, slots: &mut Slots, most: u64) -> Result<Ran, AllocError>
         ensures same { IsSameLease self.old self.new }
         ensures now { IfOk result (λ ran. (self.new.ran ≡ self.old.ran + ran.steps) × (vm_of self.new ≡ moved_by ran.steps (vm_of self.old))) }
         ensures free { IfOk result (λ ran. IsFreeFor ran.steps (vm_of self.old)) }
@@ -205,7 +215,7 @@ impl Lease {
         ensures handed { (f : Forest) → IsHandedOut f self.old → IsHandedOut f self.new }
     {
         let before = self.vm.steps();
-        let ran = self.vm.run(most);
+        let ran = self.vm.run(slots, most);
         self.ran += self.vm.steps() - before;
         ran
     }

@@ -24,7 +24,7 @@ impl Receiver for Lease {
     }
 
     fn wanted(&self) -> Option<u32> {
-        // The call tells that RAM has no other page, and a step touches none but those of RAM.
+        // The call tells that there is a flag for each page that a step touches.
         let _ = self.vm.pages();
         Lease::wanted(self)
     }

@@ -125,8 +125,8 @@ impl Vm {
         }
     }
 
-    /// The machine of a descriptor, which is of the image of a key. Its blank pages alone are here, and it shares
-    /// the image's sectors until it writes them.
+    /// The machine of a descriptor, which is of the image of a key. Its blank pages alone are here, and no page of its
+    /// disk.
     #[tactic(auto, unfolding(crate::specs::Woken::woken))]
     pub fn wake(
         alloc: Global,

@@ -120,7 +120,7 @@ impl Hart {
     /// Whether a page of RAM is here for an access of it, which may need none.
     #[inline(always)]
     pub(super) fn has_page(&self, direction: Direction, page: u32) -> bool
-        requires { page < length self.now.pages.here }
+        requires { page < length self.now.pages.blank }
         ensures { MatchBool result
             (IfSome (page_for direction page) (IsHere self.now.pages))
             ((page_for direction page ≡ Some page) × IsAbsent self.now.pages page) }
@@ -128,6 +128,8 @@ impl Hart {
         if !needs_page(direction) {
             return true;
         }
+        // The call tells that each page of RAM has both flags.
+        let _ = self.memory.pages();
         self.memory.is_here(page)
     }
 
@@ -135,7 +137,7 @@ impl Hart {
     #[inline(always)]
     pub(super) fn ram_offset(&self, address: u32) -> Option<u32>
         ensures outside { IsNone result ↔ (is_in_ram self.now.state.ram address ≡ false) }
-        ensures inside { IfSome result (λ offset. (is_in_ram self.now.state.ram address ≡ true) × (RAM_BASE ≤ address) × (offset ≡ address - RAM_BASE) × (offset < length self.now.state.ram) × (offset / PAGE_SIZE < length self.now.pages.here)) }
+        ensures inside { IfSome result (λ offset. (is_in_ram self.now.state.ram address ≡ true) × (RAM_BASE ≤ address) × (offset ≡ address - RAM_BASE) × (offset < length self.now.state.ram) × (offset / PAGE_SIZE < length self.now.pages.blank)) }
     {
         // Below RAM it wraps to an offset behind RAM.
         let offset = address.wrapping_sub(RAM_BASE);

@@ -84,8 +84,8 @@ impl Hart {
         timer.mtimecmp.saturating_sub(timer.mtime)
     }
 
-    /// The same, where `FREE` tells that memory protection allows all. It is apart and never inlined, so that its loop has
-    /// the processor's registers for itself.
+    /// Makes the fast steps that come, at most `most`, and answers how many. They are not counted yet. `FREE` tells that memory
+    /// protection allows all. It is apart and never inlined, so that its loop has the processor's registers for itself.
     #[inline(never)]
     fn fast_steps<const FREE: bool>(&mut self, slots: &mut [Slot], epoch: u32, most: u64) -> u64
         requires free { FREE ≡ true → is_unrestricted self.old.state.csrs ≡ true }

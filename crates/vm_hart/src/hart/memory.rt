@@ -7,7 +7,7 @@ ghost use Rattle.byteorder.specs.Endian.{little_bytes};
 ghost use Rattle.forest_model.specs.Access.{reached};
 ghost use Rattle.forest_model.specs.Action.{rs2};
 ghost use Rattle.forest_model.specs.Ports.{port_load};
-ghost use Rattle.forest_model.specs.Memory.{bytes_at, data_address, is_byte_range, load_access, load_by, read_action, load, store, store_access, store_action, to_load, to_store, port_outcome, is_page_range, zeroed};
+ghost use Rattle.forest_model.specs.Memory.{bytes_at, data_address, effect_outcome, is_byte_range, load_access, load_by, read_action, load, store, store_access, store_action, to_load, to_store, port_outcome, is_page_range, with_zeros, zeroed};
 ghost use Rattle.forest_model.specs.Footprint.{no_change, no_footprint, zeroes};
 ghost use Rattle.forest_model.specs.Paged.{pages_after};
 ghost use Rattle.forest_model.specs.Touch.{footprint_of_access};
@@ -86,7 +86,7 @@ impl Hart {
             Reach::Faulted(cause) => trapped(cause, address),
             Reach::Absent(page) => Acted::Stalled(page),
             Reach::Ram(offset) => {
-                let Ok(number) = self.memory.load(offset, width) else {
+                let Ok(number) = self.load_at(offset, width) else {
                     unreachable!()
                 };
                 self.retire_with(instr, load_value(kind, number))
@@ -96,12 +96,11 @@ impl Hart {
     }
 
     /// Loads the `width` bytes from a port.
-    #[tactic(auto, using(crate::proofs::PortChoice::same_load))]
     fn load_from_port(&mut self, instr: &Fields, address: u32, width: u32) -> Acted
         requires group { group_of instr.now.kind ≡ group.Load }
         ensures { Acts self.old self.new no_footprint (read_action (port_load self.old.state.ports address width) instr.now address self.old.state) (Ok result) }
     {
-        match self.ports.load(address, width) {
+        match self.load_port(address, width) {
             Ok(number) => self.retire_with(instr, load_value(instr.kind(), number)),
             Err(_) => trapped(LOAD_ACCESS_FAULT, address),
         }
@@ -153,7 +152,6 @@ impl Hart {
     }
 
     /// Stores the low `width` bytes of `word` to a port.
-    #[tactic(auto, using(crate::proofs::PortChoice::same_store))]
     fn store_to_port(&mut self, address: u32, width: u32, word: u32) -> Result<Acted, AllocError>
         requires { self.old.state.ports.fork.next_ticket < TICKETS_END }
         ensures acts { Acts self.old self.new (port_outcome address width word self.old.state).footprint
@@ -163,7 +161,7 @@ impl Hart {
         if let Some(page) = self.wanted_at_port(address, width, word) {
             return Ok(Acted::Stalled(page));
         }
-        match self.ports.store(address, width, word) {
+        match self.store_port(address, width, word) {
             Ok(Effect::Done) => Ok(self.retire()),
             Ok(Effect::TimeWritten) => {
                 self.retire();
@@ -186,12 +184,16 @@ impl Hart {
         }
     }
 
-    /// The page that a store to a port waits for, if it waits for one. It is asked for before the store. EXIT with bytes
-    /// alone needs pages, and a page that ZERO clears need not be here.
+    /// The page that a store to a port waits for, if it waits for one. It is asked for before the store. A command of the
+    /// block port needs the page of its sector, EXIT with bytes those of the bytes, and a page that ZERO clears need not be
+    /// here.
     pub(super) fn wanted_at_port(&self, address: u32, width: u32, word: u32) -> Option<u32>
         ensures some { IfSome result (WaitsAt (port_outcome address width word self.now.state).footprint.needs self.now.pages) }
         ensures none { IsNone result → IsMet (port_outcome address width word self.now.state).footprint.needs self.now.pages }
     {
+        if let Some(page) = self.wanted_on_disk(address, width, word) {
+            return Some(page);
+        }
         match self.bytes_asked(address, width, word) {
             Some((from, count)) => self.wanted_bytes(from, count),
             None => None,
@@ -199,10 +201,10 @@ impl Hart {
     }
 
     /// The bytes that a store to a port asks to hand over, by the address of the first and how many they are. It is EXIT with
-    /// bytes, and no other store to a port needs a page.
+    /// bytes, and no other store to a port needs a page for what it does to the machine.
     fn bytes_asked(&self, address: u32, width: u32, word: u32) -> Option<(u32, u32)>
-        ensures some { IfSome result (λ bytes. (port_outcome address width word self.now.state).footprint.needs ≡ bytes_needs self.now.state bytes.0 bytes.1) }
-        ensures none { IsNone result → (port_outcome address width word self.now.state).footprint.needs ≡ [] }
+        ensures some { IfSome result (λ bytes. (effect_outcome address width word self.now.state).footprint.needs ≡ bytes_needs self.now.state bytes.0 bytes.1) }
+        ensures none { IsNone result → (effect_outcome address width word self.now.state).footprint.needs ≡ [] }
     {
         if width != 4 {
             return None;
@@ -235,8 +237,8 @@ impl Hart {
 
     /// The first of two pages that is not here, if one is not.
     fn absent_among(&self, first: u32, last: u32) -> Option<u32>
-        requires first { first < length self.now.pages.here }
-        requires last { last < length self.now.pages.here }
+        requires first { first < length self.now.pages.blank }
+        requires last { last < length self.now.pages.blank }
         ensures some { IfSome result (WaitsAt (first ∷ last ∷ []) self.now.pages) }
         ensures none { IsNone result → IsMet (first ∷ last ∷ []) self.now.pages }
     {
@@ -252,7 +254,7 @@ impl Hart {
     /// Whether bytes of an address on, so many, are bytes of RAM.
     fn has_bytes(&self, address: u32, count: u32) -> bool
         ensures value { result ≡ is_byte_range address count self.now.state.ram }
-        ensures pages { IsTrue result → 0 < count → (RAM_BASE ≤ address) × (address - RAM_BASE + (count - 1) < 2 ^ 32) × ((address - RAM_BASE + (count - 1)) / PAGE_SIZE < length self.now.pages.here) }
+        ensures pages { IsTrue result → 0 < count → (RAM_BASE ≤ address) × (address - RAM_BASE + (count - 1) < 2 ^ 32) × ((address - RAM_BASE + (count - 1)) / PAGE_SIZE < length self.now.pages.blank) }
     {
         // The call tells that RAM has whole pages.
         let _ = self.memory.pages();
@@ -286,6 +288,8 @@ impl Hart {
         if count == 0 {
             return Handed::none();
         }
+        // The call tells that RAM has whole pages.
+        let _ = self.memory.pages();
         let mut room = [0u8; MAX_HANDED];
         let bytes = &mut room[..count as usize];
         self.memory.read(address - RAM_BASE, bytes);
@@ -319,7 +323,7 @@ impl Hart {
         let Some(offset) = self.place_in::<FREE>(access, Right::Load, window) else {
             return false;
         };
-        let Ok(number) = self.memory.load(offset, width) else {
+        let Ok(number) = self.load_at(offset, width) else {
             return false;
         };
         self.retire_with(instr, load_value(kind, number));
@@ -373,7 +377,7 @@ impl Hart {
             (record self.old.state { ram = put_bytes self.old.state.ram offset (little_bytes width word) }))
             (self.new ≡ self.old) }
     {
-        match self.memory.store(offset, width, word) {
+        match self.put_at(offset, width, word) {
             Ok(()) => true,
             Err(_) => false,
         }
@@ -388,13 +392,24 @@ impl Hart {
         ensures memory { OnErr result (is_page_range first count self.old.state.ram ≡ true) }
     {
         let end = u64::from(first) + u64::from(count);
-        if count != 0 && end <= u64::from(self.memory.pages()) {
-            self.memory.zero_pages(first, count)?;
+        if count != 0 && end <= u64::from(self.pages()) {
+            self.zero_at(first, count)?;
             self.ports.refuse(0);
         } else {
             self.ports.refuse(BAD_ARGUMENT);
         }
         Ok(())
+    }
+
+    /// Makes pages of RAM read as zeros. They are here then, and blank.
+    fn zero_at(&mut self, first: u32, count: u32) -> Result<(), AllocError>
+        requires { first + count ≤ length self.old.pages.blank }
+        ensures ok { OnOk result (self.new ≡ record self.old { state = with_zeros first count self.old.state; pages = pages_after (zeroes first count) self.old.pages }) }
+        ensures err { OnErr result (self.new ≡ self.old) }
+    {
+        // The call tells that there is a flag for each page.
+        let _ = self.memory.pages();
+        self.memory.zero_pages(first, count)
     }
 }
 

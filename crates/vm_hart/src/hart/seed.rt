@@ -10,6 +10,7 @@ ghost use Rattle.vm_hart.specs.Keyed.{IsOfDepot};
 ghost use Rattle.vm_hart.specs.Seeds.{IsBlankMap, IsOfImage, image_left, port_fields, seed_of, woken_hart};
 
 use super::Hart;
+use cow_disk::Disk;
 use fork_port::ForkFields;
 use guest_mem::GuestMem;
 use image_depot::{Depot, Frozen, ImageKey};
@@ -78,7 +79,8 @@ impl Hart {
         })
     }
 
-    /// The hart that a descriptor and the key to its image stand for. Its blank pages alone are here.
+    /// The hart that a descriptor and the key to its image stand for. Its blank pages alone are here, and no page of its
+    /// disk.
     pub fn woken(
         alloc: Global,
         descriptor: &Descriptor,
@@ -90,7 +92,7 @@ impl Hart {
         ensures { IfOk result (λ hart. hart ≡ woken_hart descriptor.now key.now) }
     {
         let image = depot.frozen(key);
-        let disk = image.disk().open()?;
+        let disk = Disk::absent(alloc, image.sectors())?;
         let input = image.input().share()?;
         Ok(Hart {
             registers: with_zero(&descriptor.registers),

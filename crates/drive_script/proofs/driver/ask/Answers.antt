@@ -1,4 +1,4 @@
-use Rattle.std.proofs.Common.{Option, Result, Ok, refl, sym, ◌∙◌, subst}
+use Rattle.std.proofs.Common.{ℕ, ◌<◌, Option, IfSome, Result, Ok, sym, ◌∙◌, subst, arith}
 use Rattle.std.proofs.lemmas.Result.{err_from_is_err_and}
 use Rattle.std.specs.declared.alloc.AllocError.{AllocError}
 use Rattle.world_core.specs.Answers.{TakesNamed}
@@ -6,6 +6,7 @@ use Rattle.world_core.specs.Lent.{Lent, now_of}
 use Rattle.drive_script.specs.declared.answer.Answer.{Answer}
 use Rattle.drive_script.specs.Driven.{DrivesLine}
 use Rattle.drive_script.specs.Script.{ask}
+use Rattle.drive_script.proofs.Below.{sent-below, wanted-there}
 use Rattle.drive_script.proofs.Driving.{asks, breaks-first, looked, looked-at-none, looks-at-none, looks-not, none-kept}
 use Rattle.drive_script.proofs.Lent.{named-lent}
 use Rattle.drive_script.proofs.Reasons.{taken-reason}
@@ -37,8 +38,8 @@ returns-clause-drives c s h keeps =
     let look = looked depot c.args.world.now c.take_named.new.self c.give_back.new.world s.tree c.args.name.now h c.in-Some.lease
     (subst (λ (o : Option Lent). TakesNamed depot h.forest c.args.name.now (Ok o) c.take_named.new.self) c.in-Some.is (c.in_ok-lease.ensures.takes h.forest h.stands))
     (c.give_back.ensures.back depot s.tree) in
-    (asks depot c.give_back.new.world s c.args.name.now (now_of c.in-Some.lease) look c.send.new.self.lists _ c.in_ok-send.field-0
-    (c.in_ok-send.ensures s.sent keeps) c.wanted-page.ensures).0
+    (asks depot c.give_back.new.world s c.args.name.now (now_of c.in-Some.lease) look c.send.new.self.lists _ c.in_ok-sent.sent
+    (c.in_ok-sent.ensures.sends s.sent keeps) c.sent_told.result (c.sent_told.ensures (now_of c.in-Some.lease) (sym c.pages-ram_pages.ensures)) c.wanted-page.ensures.value).0
 
 pub returns-clause-keeps : goal.returns-clause-keeps
 returns-clause-keeps c s h keeps =
@@ -46,16 +47,16 @@ returns-clause-keeps c s h keeps =
     let look = looked depot c.args.world.now c.take_named.new.self c.give_back.new.world s.tree c.args.name.now h c.in-Some.lease
     (subst (λ (o : Option Lent). TakesNamed depot h.forest c.args.name.now (Ok o) c.take_named.new.self) c.in-Some.is (c.in_ok-lease.ensures.takes h.forest h.stands))
     (c.give_back.ensures.back depot s.tree) in
-    (asks depot c.give_back.new.world s c.args.name.now (now_of c.in-Some.lease) look c.send.new.self.lists _ c.in_ok-send.field-0
-    (c.in_ok-send.ensures s.sent keeps) c.wanted-page.ensures).1
+    (asks depot c.give_back.new.world s c.args.name.now (now_of c.in-Some.lease) look c.send.new.self.lists _ c.in_ok-sent.sent
+    (c.in_ok-sent.ensures.sends s.sent keeps) c.sent_told.result (c.sent_told.ensures (now_of c.in-Some.lease) (sym c.pages-ram_pages.ensures)) c.wanted-page.ensures.value).1
 
-pub returns-in_err-send-clause-drives : goal.returns-in_err-send-clause-drives
-returns-in_err-send-clause-drives c s h keeps =
+pub returns-in_err-sent-clause-drives : goal.returns-in_err-sent-clause-drives
+returns-in_err-sent-clause-drives c s h keeps =
     let depot = c.args.depot.now in
     let look = looked depot c.args.world.now c.take_named.new.self c.give_back.new.world s.tree c.args.name.now h c.in-Some.lease
     (subst (λ (o : Option Lent). TakesNamed depot h.forest c.args.name.now (Ok o) c.take_named.new.self) c.in-Some.is (c.in_ok-lease.ensures.takes h.forest h.stands))
     (c.give_back.ensures.back depot s.tree) in
-    let exit = err_from_is_err_and c.from_residual-in_err-send.result c.from_residual-in_err-send.ensures.1 in
+    let exit = err_from_is_err_and c.from_residual-in_err-sent.result c.from_residual-in_err-sent.ensures.1 in
     subst (λ (r : Result Answer AllocError). DrivesLine depot (ask c.args.name.now) s r c.give_back.new.world) (sym exit.1)
     (breaks-first depot c.give_back.new.world (ask c.args.name.now) s look.has)
 
@@ -81,12 +82,19 @@ give_back-requires c =
           (c.in_ok-lease.ensures.takes h.forest h.stands)),
     )
 
-pub returns-in_err-send-clause-reason : goal.returns-in_err-send-clause-reason
-returns-in_err-send-clause-reason c =
+pub returns-in_err-sent-clause-reason : goal.returns-in_err-sent-clause-reason
+returns-in_err-sent-clause-reason c =
     c.give_back.ensures.reason ∙ taken-reason c.args.depot.now c.args.world.now c.take_named.new.self c.requires c.args.name.now c.take_named.result c.take_named.ensures.takes
 
 pub returns-clause-told : goal.returns-clause-told
 returns-clause-told c = c.give_back.ensures.told ∙ c.take_named.ensures.told
 
-pub returns-in_err-send-clause-told : goal.returns-in_err-send-clause-told
-returns-in_err-send-clause-told c = c.give_back.ensures.told ∙ c.take_named.ensures.told
+pub returns-in_err-sent-clause-told : goal.returns-in_err-sent-clause-told
+returns-in_err-sent-clause-told c = c.give_back.ensures.told ∙ c.take_named.ensures.told
+
+-- the page that was sent is the one that is wanted
+pub sent_told-requires : goal.sent_told-requires
+sent_told-requires c =
+    let there = wanted-there c.in-Some.lease.pages.here c.wanted-page.result c.wanted-page.ensures.absent in
+    sent-below c.pages-ram_pages.result c.places.result (omega (arith, c.places.ensures.few, c.pages-ram_pages.ensures)) c.wanted-page.result c.in_ok-sent.sent
+    (subst (λ (n : ℕ). IfSome c.wanted-page.result (λ page. page < n)) (sym c.places.ensures.value) there) c.in_ok-sent.ensures.same

@@ -4,7 +4,7 @@ use Rattle.std.specs.declared.alloc.AllocError.{AllocError}
 use Rattle.std.specs.declared.alloc.Global.{Global}
 use Rattle.drive_script.specs.Driven.{Drives, HasMachines, Keeps}
 use Rattle.drive_script.specs.Lines.{line_read, lines_read}
-use Rattle.drive_script.specs.Told.{Driven, after_line, after_script, begun, told, told_line, told_text}
+use Rattle.drive_script.specs.Told.{Driven, after_script, begun, told, told_line, told_text}
 use Rattle.drive_script.proofs.Driving.{all-lines, script-breaks, script-next, take-next, text-next}
 use Rattle.drive_script.proofs.driver.drive.Goals as goal
 

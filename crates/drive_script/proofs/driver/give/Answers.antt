@@ -1,12 +1,13 @@
-use Rattle.std.proofs.Common.{Option, Result, Ok, refl, sym, ◌∙◌, subst}
+use Rattle.std.proofs.Common.{Option, Result, Ok, sym, ◌∙◌, subst, arith}
 use Rattle.std.proofs.lemmas.Result.{err_from_is_err_and}
 use Rattle.std.specs.declared.alloc.AllocError.{AllocError}
 use Rattle.world_core.specs.Answers.{TakesNamed}
-use Rattle.world_core.specs.Lent.{Lent}
+use Rattle.world_core.specs.Lent.{Lent, now_of}
 use Rattle.drive_script.specs.declared.answer.Answer.{Answer}
 use Rattle.drive_script.specs.Driven.{DrivesLine}
 use Rattle.drive_script.specs.Script.{give}
-use Rattle.drive_script.proofs.Bringing.{brings-lent, gives-failed, gives-none, gives-so}
+use Rattle.drive_script.proofs.Below.{few-places}
+use Rattle.drive_script.proofs.Bringing.{brings-lent, brought-below, gives-failed, gives-none, gives-so}
 use Rattle.drive_script.proofs.Driving.{breaks-first, looks-at-none, looks-not}
 use Rattle.drive_script.proofs.Lent.{named-lent}
 use Rattle.drive_script.proofs.Reasons.{taken-reason}
@@ -64,7 +65,8 @@ returns-clause-drives c s h keeps =
     let named = subst (λ (o : Option Lent). TakesNamed depot h.forest c.args.name.now (Ok o) mid) c.in-Some-2.is (c.in_ok-lease.ensures.takes h.forest h.stands) in
     let held = named-lent depot c.args.world.now mid s.tree c.args.name.now h c.in-Some-2.lease named in
     gives-so depot c.args.world.now mid c.give_back.new.world s c.args.name.now c.args.place c.in-Some.page h c.in-Some-2.lease c.bring-arrived.new.lease named
-    (λ u. c.give_back.ensures.back depot u) c.in_ok-arrived.field-0 (sym c.in-Some.is ∙ c.in_ok-page.ensures s.sent keeps) (c.in_ok-arrived.ensures mid s.tree held)
+    (λ u. c.give_back.ensures.back depot u) c.in_ok-arrived.field-0 c.arrival_told.result
+    (c.arrival_told.ensures (now_of c.in-Some-2.lease) (sym c.pages-ram_pages.ensures)) (sym c.in-Some.is ∙ c.in_ok-page.ensures s.sent keeps) (c.in_ok-arrived.ensures mid s.tree held)
 
 pub returns-in_err-lease-clause-reason : goal.returns-in_err-lease-clause-reason
 returns-in_err-lease-clause-reason c =
@@ -87,3 +89,15 @@ returns-in_err-arrived-clause-told c = c.give_back.ensures.told ∙ c.take_named
 
 pub returns-clause-told : goal.returns-clause-told
 returns-clause-told c = c.give_back.ensures.told ∙ c.take_named.ensures.told
+
+-- what came is a page of the machine's
+pub arrival_told-requires : goal.arrival_told-requires
+arrival_told-requires c =
+    let depot = c.args.depot.now in
+    let mid = c.take_named.new.self in
+    let h = c.requires.1 in
+    let held = named-lent depot c.args.world.now mid c.requires.0 c.args.name.now h c.in-Some-2.lease
+    (subst (λ (o : Option Lent). TakesNamed depot h.forest c.args.name.now (Ok o) mid) c.in-Some-2.is (c.in_ok-lease.ensures.takes h.forest h.stands)) in
+    let few = few-places c.pages-ram_pages.result c.places.result (omega (arith, c.places.ensures.few, c.pages-ram_pages.ensures)) in
+    brought-below c.in-Some-2.lease.pages.here c.in-Some.page _ c.in_ok-arrived.field-0 (omega (arith, few, c.places.ensures.value))
+    (c.in_ok-arrived.ensures mid c.requires.0 held).0

@@ -1,4 +1,4 @@
-use Rattle.std.proofs.Common.{Option, Result, Ok, refl, sym, ◌∙◌, subst}
+use Rattle.std.proofs.Common.{Option, Result, Ok, sym, ◌∙◌, subst}
 use Rattle.std.proofs.lemmas.Result.{err_from_is_err_and}
 use Rattle.std.specs.declared.alloc.AllocError.{AllocError}
 use Rattle.world_core.specs.Answers.{TakesNamed}

@@ -3,16 +3,16 @@ use Rattle.drive_script.proofs.Bringing.{brings-had, brings-none, brought}
 use Rattle.drive_script.proofs.Lent.{lent-handed, taken}
 use Rattle.drive_script.proofs.turn.bring.Goals as goal
 
-pub returns-then-page-pages : goal.returns-then-page-pages
-returns-then-page-pages c w t h =
-    let count = c.pages.ensures in
-    let past = c.if-page-pages.true in
+pub returns-then-page-places : goal.returns-then-page-places
+returns-then-page-places c w t h =
+    let count = c.places.ensures.value in
+    let past = c.if-page-places.true in
     brings-none c.args.depot.now w t c.args.lease.now h c.requires.new c.args.page (omega (arith, count, past))
 
 pub returns-in_default : goal.returns-in_default
 returns-in_default c w t h =
-    let count = c.pages.ensures in
-    let within = c.if-page-pages.false in
+    let count = c.places.ensures.value in
+    let within = c.if-page-places.false in
     brings-had c.args.depot.now w t c.args.lease.now h c.requires.new c.args.page (omega (arith, count, within)) (sym c.in_default.ensures.value) c.in_default.ensures.absent
 
 pub returns : goal.returns

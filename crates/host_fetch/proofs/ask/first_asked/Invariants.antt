@@ -5,8 +5,8 @@ use Rattle.host_fetch.proofs.ask.first_asked.Given as goal
 
 abbrev pub invariant-loop-next : goal.invariant-loop-next
 invariant-loop-next g l = record {
-  there : All (λ each. each < l.pages) l.asked.items;
+  there : All (λ each. each < length (g.T.Receiver.here l.receiver)) l.asked.items;
   most : length l.asked.items ≤ l.ahead + 1;
-  is : l.asked.items ++ take (l.ahead + 1 - length l.asked.items) (absent_among (g.T.Receiver.here l.receiver) l.next (l.pages - l.next))
-      ≡ first_asked (g.T.Receiver.here l.receiver) l.page l.ahead;
+  is : l.asked.items ++ take (l.ahead + 1 - length l.asked.items) (absent_among (g.T.Receiver.here l.receiver) l.next (l.end - l.next))
+      ≡ first_asked (g.T.Receiver.here l.receiver) l.page l.end l.ahead;
 }

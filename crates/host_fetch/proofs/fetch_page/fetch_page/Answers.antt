@@ -1,12 +1,14 @@
 use Rattle.std.proofs.Common.{List, refl, sym, ap, ◌∙◌, subst, map, inl, inr}
+use Rattle.image_depot.specs.Key.{image_of}
 use Rattle.image_depot.specs.Reply.{Delivery}
-use Rattle.host_fetch.specs.Asked.{HasGrown, first_asked, reply_with}
+use Rattle.host_fetch.specs.Asked.{HasGrown, end_of_kind, first_asked, reply_with}
 use Rattle.host_fetch.proofs.Loop.{Grows-same, below_after, ended, grown_on, grows_none, is_absent, is_present, keys_of, less, none_asked, part_asked, stands, stands_on, stops}
 use Rattle.host_fetch.proofs.fetch_page.fetch_page.Goals as goal
 
 pub returns-in_default-clause-fetches : goal.returns-in_default-clause-fetches
 returns-in_default-clause-fetches g c =
-    none_asked _ _ _ c.args.depot.now c.args.key.now _ _ (first_asked (g.T.Receiver.here c.args.receiver.now) c.args.page c.args.ahead) c.args.pushed.now.items
+    none_asked _ _ _ c.args.depot.now c.args.key.now _ _
+    (first_asked (g.T.Receiver.here c.args.receiver.now) c.args.page (end_of_kind (image_of c.args.key.now) c.args.page) c.args.ahead) c.args.pushed.now.items
 
 pub returns-in_default-clause-grows : goal.returns-in_default-clause-grows
 returns-in_default-clause-grows g c = grows_none _
@@ -17,11 +19,12 @@ returns-in_default-ask_first-clause-grows g c = grows_none _
 pub returns-in_default-ask_first-clause-fetches : goal.returns-in_default-ask_first-clause-fetches
 returns-in_default-ask_first-clause-fetches g c =
     let e = c.in_default-ask_first.ensures.err in
-    part_asked _ _ _ c.args.depot.now c.args.key.now _ _ _ c.deref.result.now e.0 _ _ (c.deref.ensures.value ∙ c.in-Ok.ensures.value) e.1
+    let same = c.deref.ensures.value ∙ c.in-Ok.ensures.value ∙ ap (λ end. first_asked (g.T.Receiver.here c.args.receiver.now) c.args.page end c.args.ahead) c.end_of_kind-end.ensures.value in
+    part_asked _ _ _ c.args.depot.now c.args.key.now _ _ _ c.deref.result.now e.0 _ _ same e.1
 
 pub loop-waiting-init : goal.loop-waiting-init
 loop-waiting-init g c =
-    let same = c.deref.ensures.value ∙ c.in-Ok.ensures.value in
+    let same = c.deref.ensures.value ∙ c.in-Ok.ensures.value ∙ ap (λ end. first_asked (g.T.Receiver.here c.args.receiver.now) c.args.page end c.args.ahead) c.end_of_kind-end.ensures.value in
     stands _ _ _ _ _ _ _ c.args.depot.now c.args.key.now c.args.page _ _ _ _ _ _ _ _ _ refl refl refl
     (c.in-Ok-ask_first.ensures.waiting ∙ ap (map (reply_with c.args.key.now)) same)
     (subst (λ l. HasGrown c.args.depot.now c.args.key.now l c.args.pushed.now.items c.ask_first.new.pushed.items) same c.in-Ok-ask_first.ensures.told)

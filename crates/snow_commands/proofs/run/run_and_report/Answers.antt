@@ -70,7 +70,7 @@ returns-in-Ok-clause-writes g c =
     let files = g.S.Shelf.files c.args.shelf.now in
     let outcome = c.in_ok-outcome.outcome in
     let lost = (0 < guest.clones) × IsOneLost g.W.Wire.streak c.run_files.new.wires.items in
-    text-then guest files (report_of outcome) (λ told. g.K.Sink.gone c.report_into.new.sink ≡ appended (g.K.Sink.gone c.args.sink.now) told)
+    text-then guest files (report_of outcome) (λ told. g.K.Sink.gone c.write_report.new.sink ≡ appended (g.K.Sink.gone c.args.sink.now) told)
     (over-gives lost guest files (λ load. IsGuestLoad guest load) c.in_ok-files.files shows (Ok outcome) c.in_ok-files.ensures.gives
     (family-made report report_of outcome-report lost guest c.in_ok-files.files (Ok outcome) c.in_ok-outcome.ensures.makes))
     c.in-Ok.ensures.ok
@@ -82,8 +82,8 @@ returns-clause-writes g c =
     let outcome = c.in_ok-outcome.outcome in
     let lost = (0 < guest.clones) × IsOneLost g.W.Wire.streak c.run_files.new.wires.items in (
       c.in-Err-Sink.ensures.sink,
-      text-then guest files (report_of outcome) (IsPrefixGone (g.K.Sink.gone c.args.sink.now) (g.K.Sink.gone c.report_into.new.sink))
+      text-then guest files (report_of outcome) (IsPrefixGone (g.K.Sink.gone c.args.sink.now) (g.K.Sink.gone c.write_report.new.sink))
           (over-gives lost guest files (λ load. IsGuestLoad guest load) c.in_ok-files.files shows (Ok outcome) c.in_ok-files.ensures.gives
           (family-made report report_of outcome-report lost guest c.in_ok-files.files (Ok outcome) c.in_ok-outcome.ensures.makes))
-          c.report_into.ensures.prefix,
+          c.write_report.ensures.prefix,
     )

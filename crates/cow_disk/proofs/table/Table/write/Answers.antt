@@ -1,30 +1,31 @@
-use Rattle.std.proofs.Common.{length, sym, ap, ◌∙◌, subst}
+use Rattle.std.proofs.Common.{List, ℕ, ap, ◌∙◌}
 use Rattle.std.specs.List.{concat}
-use Rattle.std.proofs.Math.ListN.{set}
-use Rattle.std.proofs.lemmas.Result.{err_from_is_err_and}
-use Rattle.cow_disk.specs.Sectors.{AreSectors}
-use Rattle.cow_disk.proofs.SectorLemmas.{there, sector_kept, with_sector-concat, AreSectors-set}
+use Rattle.cow_disk.specs.Disk.{sector_count}
+use Rattle.cow_disk.specs.Paged.{disk_over, here_pages, paged_disk}
+use Rattle.cow_disk.proofs.Tables.{in_list, reads_written, pages_written, count_written}
 use Rattle.cow_disk.proofs.table.Table.write.Goals as goal
 
-pub entry_mut-requires : goal.entry_mut-requires
-entry_mut-requires c = there c.self.inside.sectors c.args.self.now c.args.n c.self.invariant.whole c.self.view_is c.requires
-
-pub invariant_of-self-in_err-write : goal.invariant_of-self-in_err-write
-invariant_of-self-in_err-write c =
-    subst AreSectors (sym (sector_kept c.self.inside.sectors c.args.n c.in_ok-sector.sector.now c.write.new.self c.in_ok-sector.ensures.value c.in_err-write.ensures.err)) c.self.invariant
-
-pub returns-in_err-write-clause-err : goal.returns-in_err-write-clause-err
-returns-in_err-write-clause-err c =
-    let kept = sector_kept c.self.inside.sectors c.args.n c.in_ok-sector.sector.now c.write.new.self c.in_ok-sector.ensures.value c.in_err-write.ensures.err in
-    let exit = err_from_is_err_and c.from_residual-in_err-write.result c.from_residual-in_err-write.ensures.1 in
-    rw exit.1 (ap concat kept ∙ c.self.view_is)
-
-pub invariant_of-self-2 : goal.invariant_of-self-2
-invariant_of-self-2 c = AreSectors-set c.self.inside.sectors c.args.n c.write.new.self c.self.invariant (ap length c.in_ok-write.ensures.ok ∙ c.told-bytes)
+pub write_one-requires : goal.write_one-requires
+write_one-requires c = in_list c.self.inside.sectors c.self.inside.here.items c.self.invariant c.args.self.now c.self.view_is c.args.n c.requires.there
 
 pub returns-clause-ok : goal.returns-clause-ok
 returns-clause-ok c =
-    let below = there c.self.inside.sectors c.args.self.now c.args.n c.self.invariant.whole c.self.view_is c.requires in
-    rw (← c.self.view_is)
-    (ap (λ sector. concat (set c.self.inside.sectors c.args.n sector)) c.in_ok-write.ensures.ok
-    ∙ with_sector-concat c.self.inside.sectors c.args.n c.args.bytes.now c.self.invariant.whole below c.told-bytes)
+    let here = c.self.inside.here.items in
+    let wrote = c.in_ok-write_one.ensures in
+    λ below.
+    ap (λ (s : List (List ℕ)). disk_over (paged_disk (concat s) here) below) wrote.ok
+    ∙ reads_written c.self.inside.sectors here c.self.invariant c.args.self.now c.self.view_is c.args.n c.requires c.args.bytes.now wrote.full below
+
+pub returns-clause-pages : goal.returns-clause-pages
+returns-clause-pages c =
+    let here = c.self.inside.here.items in
+    let wrote = c.in_ok-write_one.ensures in
+    ap (λ (s : List (List ℕ)). here_pages (paged_disk (concat s) here)) wrote.ok
+    ∙ pages_written c.self.inside.sectors here c.self.invariant c.args.self.now c.self.view_is c.args.n c.requires c.args.bytes.now wrote.full
+
+pub returns-clause-sectors : goal.returns-clause-sectors
+returns-clause-sectors c =
+    let here = c.self.inside.here.items in
+    let wrote = c.in_ok-write_one.ensures in
+    ap (λ (s : List (List ℕ)). sector_count (concat s)) wrote.ok
+    ∙ count_written c.self.inside.sectors here c.self.invariant c.args.self.now c.self.view_is c.args.n c.requires c.args.bytes.now wrote.full

@@ -2,7 +2,7 @@ use Rattle.std.proofs.Common.{◌≡◌, ℕ, zero, suc, Bool, true, false, List
 use Rattle.std.specs.Prelude.{slice_get}
 use Rattle.page_frames.specs.Tables.{own_pages}
 use Rattle.image_depot.specs.Key.{Key, image_of, number_of}
-use Rattle.image_depot.specs.Reply.{page_bytes}
+use Rattle.image_depot.specs.Reply.{ram_page}
 use Rattle.guest_mem.specs.Ram.{IsOfImage, ram_of, arrived}
 use Rattle.guest_mem.proofs.Images.{ram_of_reply, reply_was_absent}
 use Rattle.guest_mem.proofs.memory.GuestMem.arrive.Goals as goal
@@ -16,15 +16,15 @@ returns-clause-ok c =
     let agree : image_of c.in-Some.key ≡ image_of reply.key = c.agree.ensures ∙ ap image_of c.key-2.ensures in
     let absent : get_or (own_pages entries) page false ≡ false = ap (λ ram. get_or ram.here page false) c.self.view_is ∙ sym c.is_here.ensures ∙ c.if-is_here.false in
     let content =
-    c.in_ok-shared_page.ensures ∙ ap (λ image. page_bytes image page) (c.frozen.ensures ∙ agree)
-    ∙ ap (page_bytes (image_of reply.key)) c.page-page.ensures in (
+    c.in_ok-shared_page.ensures ∙ ap (λ image. ram_page image page) (c.frozen.ensures ∙ agree)
+    ∙ ap (ram_page (image_of reply.key)) c.page-page.ensures in (
       c.page-page.ensures,
       subst (λ (o : Option Key). IsOfImage o reply) (sym c.in-Some.is ∙ ap (λ ram. ram.key) c.self.view_is)
           (sym c.number.ensures ∙ c.if-number.false ∙ c.number-2.ensures ∙ ap number_of c.key.ensures),
       ap (λ ram. slice_get ram.here page) (sym c.self.view_is)
-          ∙ reply_was_absent entries key c.self.invariant.based c.in-Some.key c.in-Some.is reply agree c.bytes.ensures.there page c.page-page.ensures absent,
+          ∙ reply_was_absent entries key c.self.invariant.based c.in-Some.key c.in-Some.is reply agree c.requires.of_ram page c.page-page.ensures absent,
       ap (λ table. ram_of table key) c.in_ok-set.ensures.ok
-          ∙ ram_of_reply entries key c.self.invariant.based c.in-Some.key c.in-Some.is reply agree c.bytes.ensures.there page c.page-page.ensures c.in_ok-shared_page.field-0 absent content
+          ∙ ram_of_reply entries key c.self.invariant.based c.in-Some.key c.in-Some.is reply agree c.requires.of_ram page c.page-page.ensures c.in_ok-shared_page.field-0 absent content
           ∙ ap (λ ram. arrived ram page) c.self.view_is,
     )
 

@@ -15,7 +15,7 @@ returns-then-first-lt-FEW-clause-ok c = part-alone _ _ _ _ c.in_ok-first.first (
 
 pub returns-in_err-rest-clause-err : goal.returns-in_err-rest-clause-err
 returns-in_err-rest-clause-err c =
-    let cut : IsCut c.args.most c.args.self.now c.run_many.new.self =
+    let cut : IsCut c.args.most c.args.self.now c.run_on.new.self =
     cut-later _ _ _ _ _ c.in_ok-first.ensures.ok.run (omega (arith, c.in_ok-first.ensures.ok.within)) c.in_err-rest.ensures.err in
     search rules
 

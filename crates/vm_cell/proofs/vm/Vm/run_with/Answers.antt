@@ -1,32 +1,30 @@
-use Rattle.std.proofs.Common.{◌≡◌, None, refl, sym, ap, ◌∙◌, subst, rules, arith, ℕ, Bool, true, false, List, ◌≤◌}
-use Rattle.std.specs.Prelude.{IsTrue, MatchBool}
+use Rattle.std.proofs.Common.{◌≡◌, None, refl, ap, ◌∙◌, rules, arith, ℕ, false, List, ◌≤◌}
 use Rattle.vm_hart.specs.Keyed.{KeyedMachine, hart_in}
 use Rattle.vm_cell.specs.Parts.{IsCut, IsPart}
 use Rattle.vm_hart.specs.Runs.{IsRun, moved, moved_by}
 use Rattle.vm_hart.specs.Kept.{ComesAside, Keeps}
 use Rattle.instruction_slots.specs.Slots.{KeptInstruction}
 use Rattle.vm_hart.proofs.Aside.{aside-keeps}
-use Rattle.vm_hart.proofs.Kept.{keeps-later}
 use Rattle.vm_hart.proofs.Runs.{IsRun-none, IsRun-join, moved-once}
 use Rattle.vm_cell.proofs.Runs.{cut-later, cut-less, part-alone, part-moves, parts-join}
 use Rattle.vm_cell.proofs.vm.Vm.run_with.Goals as goal
 
 pub loop-steps-init : goal.loop-steps-init
-loop-steps-init c =
-    let epoch = c.epoch_after-epoch.ensures in
-    (IsRun-none c.args.self.now, omega arith, subst (λ e. Keeps (hart_in c.args.self.now) e c.args.slots.now) (sym epoch) c.requires.keeps, refl, omega (arith, epoch), c.requires.live)
+loop-steps-init c = (
+  IsRun-none c.args.self.now,
+  omega arith,
+  c.begin_epoch.ensures.keeps (hart_in c.args.self.now),
+  c.begin_epoch.ensures.same_length,
+  c.requires.live,
+)
 
--- what is kept after steps that are made by themselves
-kept-on : (before after : KeyedMachine) (is_left : Bool) (epoch next made : ℕ) (slots : List KeptInstruction) → before.machine.ending ≡ None
-    → IsRun before after made → 1 ≤ made → epoch ≤ before.machine.steps
-    → (IsTrue is_left → made ≤ 1) → (IsTrue is_left → ComesAside (hart_in before)) → MatchBool is_left (next ≡ epoch) (next ≡ after.machine.steps) → Keeps (hart_in before) epoch slots
-    → Keeps (hart_in after) next slots × (next ≤ after.machine.steps)
-kept-on before after true epoch next made slots live run some past one told same keeps =
-    let once : made ≡ 1 = let most = one refl in omega (arith, most, some) in
+-- what is kept after a step that is made by itself and leaves RAM as it is
+kept-on : (before after : KeyedMachine) (epoch made : ℕ) (slots : List KeptInstruction) → before.machine.ending ≡ None
+    → IsRun before after made → 1 ≤ made → made ≤ 1 → ComesAside (hart_in before) → Keeps (hart_in before) epoch slots → Keeps (hart_in after) epoch slots
+kept-on before after epoch made slots live run some one aside keeps =
+    let once : made ≡ 1 = omega (arith, one, some) in
     let is : after ≡ moved before = run.steps ∙ ap (λ n. moved_by n before) once ∙ moved-once before in
-    (subst (λ e. Keeps (hart_in after) e slots) (sym same) (aside-keeps before after epoch slots live (told refl) is keeps), omega (arith, same, past, run.counted))
-kept-on before after false epoch next made slots live run some past one told same keeps =
-    (keeps-later (hart_in before) (hart_in after) epoch next slots (omega (arith, same, past, some, run.counted)) keeps, omega (arith, same))
+    aside-keeps before after epoch slots live aside is keeps
 
 pub loop-steps-preserved : goal.loop-steps-preserved
 loop-steps-preserved c =
@@ -37,22 +35,39 @@ loop-steps-preserved c =
     let within : part.steps ≤ c.count_alone-count.result = is.within in
     let none : part.stop ≡ None = grind arith in
     let some : 1 ≤ part.steps = part-moves _ before after part c.count_alone-count.ensures.some none is in
-    let run = IsRun-join _ _ _ _ _ c.loop-steps.invariant.0 c.make_fast-made.ensures.run in
-    let counted = c.make_fast-made.ensures.run.counted in
-    let kept =
-    kept-on before after c.leaves_ram-is_left.result c.loop-steps.epoch c.epoch_after-epoch-in-loop-steps.result part.steps c.make_fast-made.new.slots
-    c.make_fast-made.ensures.live is.run some (omega (arith, c.loop-steps.invariant.4, counted)) (λ left. let one = c.count_alone-count.ensures.one left in omega (arith, one, within))
-    c.leaves_ram-is_left.ensures c.epoch_after-epoch-in-loop-steps.ensures c.make_fast-made.ensures.keeps in (
-      IsRun-join _ _ _ _ _ run is.run,
+    let aside = c.if-not-is_left.false in
+    let one = c.count_alone-count.ensures.one aside in (
+      IsRun-join _ _ _ _ _ (IsRun-join _ _ _ _ _ c.loop-steps.invariant.0 c.make_fast-made.ensures.run) is.run,
       omega (arith, within, c.count_alone-count.ensures.within, c.make_fast-made.ensures.most),
-      kept.0,
+      kept-on before after c.loop-steps.epoch part.steps c.make_fast-made.new.slots c.make_fast-made.ensures.live is.run some (omega (arith, one, within))
+          (c.leaves_ram-is_left.ensures aside) c.make_fast-made.ensures.keeps,
       c.make_fast-made.ensures.same_length ∙ c.loop-steps.invariant.3,
-      kept.1,
+      (is.all none).0,
+    )
+
+pub loop-steps-preserved-then-not-is_left : goal.loop-steps-preserved-then-not-is_left
+loop-steps-preserved-then-not-is_left c =
+    let after = c.step_alone.new.self in
+    let part = c.in_ok-part.part in
+    let is : IsPart c.count_alone-count.result c.make_fast-made.new.self after part = c.in_ok-part.ensures.ok in
+    let within : part.steps ≤ c.count_alone-count.result = is.within in
+    let none : part.stop ≡ None = grind arith in (
+      IsRun-join _ _ _ _ _ (IsRun-join _ _ _ _ _ c.loop-steps.invariant.0 c.make_fast-made.ensures.run) is.run,
+      omega (arith, within, c.count_alone-count.ensures.within, c.make_fast-made.ensures.most),
+      c.begin_epoch-then-not-is_left.ensures.keeps (hart_in after),
+      c.begin_epoch-then-not-is_left.ensures.same_length ∙ c.make_fast-made.ensures.same_length ∙ c.loop-steps.invariant.3,
       (is.all none).0,
     )
 
 pub loop-steps-smaller : goal.loop-steps-smaller
 loop-steps-smaller c =
+    let part = c.in_ok-part.part in
+    let none : part.stop ≡ None = grind arith in
+    let some : 1 ≤ part.steps = part-moves _ _ _ part c.count_alone-count.ensures.some none c.in_ok-part.ensures.ok in
+    omega (arith, some, c.loop-steps-test)
+
+pub loop-steps-smaller-then-not-is_left : goal.loop-steps-smaller-then-not-is_left
+loop-steps-smaller-then-not-is_left c =
     let part = c.in_ok-part.part in
     let none : part.stop ≡ None = grind arith in
     let some : 1 ≤ part.steps = part-moves _ _ _ part c.count_alone-count.ensures.some none c.in_ok-part.ensures.ok in
@@ -76,5 +91,5 @@ returns-clause-ok c = record {
   run = c.loop-steps.invariant.0;
   within = c.loop-steps.invariant.1;
   stops = tt;
-  all = λ none. (c.loop-steps.invariant.5, omega (arith, c.loop-steps.invariant.1));
+  all = λ none. (c.loop-steps.invariant.4, omega (arith, c.loop-steps.invariant.1));
 }

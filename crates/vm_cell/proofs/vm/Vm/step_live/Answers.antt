@@ -1,31 +1,30 @@
-use Rattle.std.proofs.Common.{◌≡◌, ◌+◌, ◌==◌, None, Some, rules, sym, ap, ◌∙◌, subst}
-use Rattle.fork_port.specs.declared.ending.Ending.TheVariants.{Exit}
-use Rattle.fork_port.specs.declared.handed.Handed.{Handed}
+use Rattle.std.proofs.Common.{◌≡◌, ◌+◌, ◌==◌, None, Some, rules, ap, ◌∙◌, subst}
 use Rattle.forest_model.specs.Paged.{stalled_at}
 use Rattle.vm_hart.specs.Acts.{waits_for}
 use Rattle.vm_hart.specs.Keyed.{KeyedMachine, KeyedState, hart_in, machine_of, paged}
 use Rattle.vm_cell.specs.Steps.{GoesOn}
-use Rattle.vm_cell.specs.declared.vm.Stop.TheVariants.{Call, End, Page}
-use Rattle.vm_cell.proofs.Runs.{rises_retired, rises_exited, funded_retired, funded_exited, counted_step, counted_exit}
+use Rattle.vm_cell.specs.declared.vm.Stop.TheVariants.{Call, Page}
+use Rattle.vm_cell.proofs.Runs.{rises_retired, rises_exited, funded_retired, funded_exited, counted_step, counted_end, counted_exit}
 use Rattle.vm_hart.proofs.Stepping.{stalls_live}
 use Rattle.vm_hart.proofs.Stepping.{goes_exited, goes_interrupted, goes_retired, goes_trapped}
-use Rattle.vm_cell.proofs.Stepping.{goes_asked, goes_stalled, goes_told}
+use Rattle.vm_cell.proofs.Stepping.{goes_asked, goes_ended, goes_stalled, goes_told}
 use Rattle.vm_cell.proofs.vm.Vm.step_live.Goals as goal
 
 pub invariant_of-self-in-Retired : goal.invariant_of-self-in-Retired
 invariant_of-self-in-Retired c =
     let retired = rw c.in-Retired.is at c.in_ok-page.ensures.acts in
     counted_step _ _ _ _ _ _ _ _ c.self.invariant (rw (← c.self.view_is) at c.requires) c.count_step-in-Retired.ensures.counted c.count_step-in-Retired.ensures.ends
-    (ap (λ (h : KeyedState). h.state.ports.fork) c.count.ensures) (rises_retired _ _ _ retired.1.tells) (funded_retired _ _ _ c.self.invariant.funded retired.1.tells)
+    (ap (λ (h : KeyedState). h.state.ports.fork) c.count_retired.ensures) (rises_retired _ _ _ retired.1.tells) (funded_retired _ _ _ c.self.invariant.funded retired.1.tells)
 
 pub invariant_of-self-in-Exited : goal.invariant_of-self-in-Exited
 invariant_of-self-in-Exited c =
     let exited = rw c.in-Exited.is at c.in_ok-page.ensures.acts in
-    counted_exit _ _ _ _ _ _ _ c.self.invariant (rw (← c.self.view_is) at c.requires)
-    (ap (λ (h : KeyedState). h.state.ports.fork) c.count-in-Exited.ensures) (rises_exited _ _ _ _ exited.1.tells.0) (funded_exited _ _ _ _ c.self.invariant.funded exited.1.tells.0)
+    counted_end _ _ _ _ _ _ c.end.ensures.steps c.end.ensures.ending
+    (counted_exit _ _ _ _ _ _ _ c.self.invariant (rw (← c.self.view_is) at c.requires)
+    (ap (λ (h : KeyedState). h.state.ports.fork) c.end.ensures.hart) (rises_exited _ _ _ _ exited.1.tells.0) (funded_exited _ _ _ _ c.self.invariant.funded exited.1.tells.0))
 
-pub handed-bytes-requires : goal.handed-bytes-requires
-handed-bytes-requires c =
+pub end-requires-clause-readable : goal.end-requires-clause-readable
+end-requires-clause-readable c =
     let exited = rw c.in-Exited.is at c.in_ok-page.ensures.acts in
     exited.1.tells.1
 
@@ -68,18 +67,17 @@ returns-in-Retired-clause-goes c =
     let acts = rw c.in-Retired.is at c.in_ok-page.ensures.acts in
     let counted = c.count_step-in-Retired in
     let live = rw (← c.self.view_is) at c.requires in
-    goes_told c.args.self.now v (machine_of c.count.new.self counted.new.steps c.self.inside.limit counted.new.ending) (c.self.inside.steps + 1 == c.self.inside.limit) counted.result
+    goes_told c.args.self.now v (machine_of c.count_retired.new.hart counted.new.steps c.self.inside.limit counted.new.ending) (c.self.inside.steps + 1 == c.self.inside.limit) counted.result
     c.self.view_is live counted.ensures.ends counted.ensures.stop
-    (goes_retired v c.act.new.self live _ _ _ counted.ensures.counted counted.ensures.ends c.in-Retired.written acts c.count.ensures)
+    (goes_retired v c.act.new.self live _ _ _ counted.ensures.counted counted.ensures.ends c.in-Retired.written acts c.count_retired.ensures)
 
 pub returns-in-Exited-clause-goes : goal.returns-in-Exited-clause-goes
 returns-in-Exited-clause-goes c =
     let v : KeyedMachine = machine_of c.self.inside.hart c.self.inside.steps c.self.inside.limit c.self.inside.ending in
     let acts = rw c.in-Exited.is at c.in_ok-page.ensures.acts in
-    let value = c.in-Exited.value in
-    subst (λ (n : KeyedMachine). GoesOn n (machine_of c.count-in-Exited.new.self (c.self.inside.steps + 1) c.self.inside.limit (Some (Exit value c.handed-bytes.result))) (Some End)) c.self.view_is
-    (subst (λ (h : Handed). GoesOn v (machine_of c.count-in-Exited.new.self (c.self.inside.steps + 1) c.self.inside.limit (Some (Exit value h))) (Some End)) (sym c.handed-bytes.ensures)
-    (goes_exited v c.act.new.self (rw (← c.self.view_is) at c.requires) value c.in-Exited.address c.in-Exited.count _ acts c.count-in-Exited.ensures, λ none. absurd (cc)))
+    let exited =
+    goes_exited v c.act.new.self (rw (← c.self.view_is) at c.requires) c.in-Exited.value c.in-Exited.address c.in-Exited.count _ acts c.end.ensures.hart in
+    goes_ended c.args.self.now v c.end.new.hart c.self.inside.limit c.end.new.steps c.end.new.ending _ c.self.view_is c.end.ensures.steps c.end.ensures.ending exited
 
 pub returns-in-Asked-clause-goes : goal.returns-in-Asked-clause-goes
 returns-in-Asked-clause-goes c =

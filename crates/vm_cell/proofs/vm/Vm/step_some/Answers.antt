@@ -1,7 +1,5 @@
-use Rattle.std.proofs.Common.{◌≡◌, ◌+◌, ◌-◌, ap, arith, inl, inr, rules, subst}
-use Rattle.std.proofs.lemmas.Bool.{cases_lt}
+use Rattle.std.proofs.Common.{◌≡◌, ◌+◌, ◌-◌, ap, arith, subst}
 use Rattle.vm_hart.specs.Keyed.{KeyedMachine}
-use Rattle.vm_hart.specs.Runs.{IsRun}
 use Rattle.vm_cell.specs.Parts.{IsMadeUntil}
 use Rattle.vm_cell.proofs.Runs.{all-made, part-until}
 use Rattle.vm_cell.proofs.vm.Vm.step_some.Goals as goal

@@ -1,4 +1,4 @@
-use Rattle.std.proofs.Common.{◌≡◌, ◌+◌, ◌-◌, ◌<◌, None, ap, arith, rules}
+use Rattle.std.proofs.Common.{◌≡◌, ◌-◌, ap, arith, rules}
 use Rattle.vm_cell.specs.Parts.{IsCut}
 use Rattle.vm_hart.specs.Keyed.{KeyedMachine}
 use Rattle.vm_hart.proofs.Runs.{IsRun-none, IsRun-advance}

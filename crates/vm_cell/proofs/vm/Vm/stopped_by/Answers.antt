@@ -1,4 +1,3 @@
-use Rattle.std.proofs.Common.{◌≡◌, None}
 use Rattle.vm_cell.proofs.Standing.{stands_ended}
 use Rattle.vm_cell.proofs.vm.Vm.stopped_by.Goals as goal
 
