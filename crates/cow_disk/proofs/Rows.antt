@@ -1,6 +1,6 @@
 -- Sectors that are written in a row.
 use Rattle.std.proofs.Common.{◌≡◌, ℕ, zero, suc, ◌+◌, ◌-◌, ◌*◌, ◌<◌, ◌≤◌, ◌⊎◌, inl, inr, min, List, [], ◌∷◌, ◌++◌, length}
-use Rattle.std.proofs.Common.{take, drop, get_or, refl, sym, ap, ◌∙◌, subst, length-append, take-append-drop, arith}
+use Rattle.std.proofs.Common.{take, drop, get_or, refl, sym, ap, ◌∙◌, subst, length-append, arith}
 use Rattle.std.specs.List.{concat}
 use Rattle.std.specs.Simd.{first_chunks}
 use Rattle.std.proofs.Math.ListN.{set, length-set}
@@ -10,14 +10,11 @@ use Rattle.std.proofs.lemmas.List.{append-nil, ext_get_or, get_or-append_right, 
 use Rattle.std.proofs.lemmas.List.Elements.{All-get_or, All-take}
 use Rattle.std.proofs.lemmas.List.Folds.{concat-append}
 use Rattle.flat_memory.specs.Flat.{put_bytes}
-use Rattle.flat_memory.proofs.Bytes.{get_or-put_bytes, get_or-put_bytes_outside, length-put_bytes}
+use Rattle.flat_memory.proofs.Bytes.{get_or-put_bytes, get_or-put_bytes_outside, length-put_bytes, put_none}
 use Rattle.page_frames.specs.declared.page.TheConstants.{PAGE_SIZE}
 use Rattle.cow_disk.specs.declared.disk.TheConstants.{SECTOR_SIZE, PAGE_SECTORS}
 use Rattle.cow_disk.specs.Sectors.{AreWhole}
 use Rattle.cow_disk.proofs.SectorLemmas.{length-concat, with_sector-concat, AreWhole-set}
-
-put_none : (memory : List ℕ) (at : ℕ) → put_bytes memory at [] ≡ memory
-put_none memory at = ap (λ i. take at memory ++ drop i memory) (omega arith) ∙ take-append-drop at memory
 
 -- bytes, and others behind them
 module _ (memory : List ℕ) (at : ℕ) (first more : List ℕ) (room : at + length first + length more ≤ length memory) where

@@ -1,22 +1,17 @@
 -- Bytes that are put into RAM page by page.
-use Rattle.std.proofs.Common.{◌≡◌, ℕ, ◌+◌, ◌-◌, ◌*◌, ◌<◌, ◌≤◌, true, List, [], ◌++◌, length, take, drop, get_or, min, max, refl, sym, ap, ◌∙◌, inl, inr, arith, take-append-drop}
-use Rattle.std.specs.Prelude.{All}
+use Rattle.std.proofs.Common.{◌≡◌, ℕ, ◌+◌, ◌-◌, ◌*◌, ◌<◌, ◌≤◌, true, List, [], length, take, drop, get_or, min, sym, ap, ◌∙◌, inl, inr, arith}
 use Rattle.std.specs.List.{slice_range}
 use Rattle.std.proofs.Math.ListN.{set}
 use Rattle.std.proofs.lemmas.Bool.{cases_lt}
 use Rattle.std.proofs.lemmas.List.{ext_get_or, get_or-drop, get_or-take, length-take, length-drop, take_all}
 use Rattle.flat_memory.specs.Flat.{put_bytes}
-use Rattle.flat_memory.proofs.Bytes.{get_or-put_bytes, get_or-put_bytes_outside, length-put_bytes}
+use Rattle.flat_memory.proofs.Bytes.{get_or-put_bytes, get_or-put_bytes_outside, length-put_bytes, put_none}
 use Rattle.page_frames.specs.declared.entry.Entry.{Entry}
 use Rattle.page_frames.specs.declared.entry.Entry.TheVariants.{Held}
 use Rattle.page_frames.specs.Tables.{entry_at, entry_bytes, is_own, laid_over}
-use Rattle.page_frames.proofs.Memory.{length-laid_over, write_in_page}
+use Rattle.page_frames.proofs.Memory.{write_in_page}
 use Rattle.elf_load.specs.Elf.{part_in}
 use Rattle.page_frames.specs.declared.page.TheConstants.{PAGE_SIZE}
-
--- no bytes change nothing
-put_none : (memory : List ℕ) (at : ℕ) → put_bytes memory at [] ≡ memory
-put_none memory at = ap (λ i. take at memory ++ drop i memory) (omega arith) ∙ take-append-drop at memory
 
 -- the first bytes, and then more of them behind those
 module _ (memory : List ℕ) (start : ℕ) (content : List ℕ) (room : start + length content ≤ length memory) (a b : ℕ) (order : a ≤ b) (within : b ≤ length content) where

@@ -1,5 +1,5 @@
 -- The bytes of a memory after a write.
-use Rattle.std.proofs.Common.{◌≡◌, ℕ, ◌+◌, ◌-◌, ◌<◌, ◌≤◌, ◌⊎◌, inl, inr, List, ◌++◌, length, take, drop, get_or, refl, ap, length-append, length-drop, ◌∙◌, arith}
+use Rattle.std.proofs.Common.{◌≡◌, ℕ, ◌+◌, ◌-◌, ◌<◌, ◌≤◌, ◌⊎◌, inl, inr, List, [], ◌++◌, length, take, drop, get_or, refl, ap, length-append, length-drop, take-append-drop, ◌∙◌, arith}
 use Rattle.std.proofs.lemmas.List.{get_or-append_right, get_or_append_left, get_or-drop, get_or-take, length-take-le}
 use Rattle.flat_memory.specs.Flat.{put_bytes}
 
@@ -36,3 +36,7 @@ get_or-put_bytes_outside memory bytes at k within (inr after) = get_or-put_bytes
 pub length-put_bytes : (memory bytes : List ℕ) (at : ℕ) → at + length bytes ≤ length memory → length (put_bytes memory at bytes) ≡ length memory
 length-put_bytes memory bytes at within =
     simp (length-append, length-drop) (let start : length (take at memory) ≡ at = length-take-le at memory (omega arith) in omega arith)
+
+-- no bytes change nothing
+pub put_none : (memory : List ℕ) (at : ℕ) → put_bytes memory at [] ≡ memory
+put_none memory at = ap (λ i. take at memory ++ drop i memory) (omega arith) ∙ take-append-drop at memory

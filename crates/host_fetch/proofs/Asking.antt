@@ -1,16 +1,22 @@
 -- Pages that are asked for, and replies that wait.
-use Rattle.std.proofs.Common.{◌≡◌, ℕ, zero, suc, ◌+◌, ◌-◌, ◌<◌, ◌≤◌, Bool, true, false, not, cond, List, [], ◌∷◌, ◌++◌, length, map, take, get_or}
+use Rattle.std.proofs.Common.{◌≡◌, ◌⊎◌, inl, inr, Result, Ok, Err, OnOk, OnErr, IfOk, ℕ, zero, suc, ◌+◌, ◌-◌, ◌<◌, ◌≤◌, Bool, true, false, not, cond, List, [], ◌∷◌, ◌++◌, length, map, take, get_or}
 use Rattle.std.proofs.Common.{slice_get, slice_set, Option, Some, refl, sym, ap, ◌∙◌, subst, arith, append_assoc, add-one, length-append}
 use Rattle.std.specs.List.{All, remove, take-map, drop-map}
 use Rattle.std.proofs.lemmas.List.{append-nil, map-append, set-get_or}
-use Rattle.std.proofs.lemmas.List.Elements.{All-append, All-cons, All-nil}
+use Rattle.std.proofs.lemmas.List.Elements.{All-push}
 use Rattle.std.proofs.lemmas.Option.{get_or_from_slice_get}
 use Rattle.cow_disk.specs.declared.arrived.Arrived.{Arrived}
 use Rattle.cow_disk.specs.declared.arrived.Arrived.TheVariants.{Got, Had}
-use Rattle.image_depot.specs.Key.{Shelves, Key}
+use Rattle.image_depot.specs.Key.{Shelves, Key, number_of}
 use Rattle.image_depot.specs.Receiver.{Arrives, IsOfImage}
-use Rattle.image_depot.specs.Reply.{Reply, Delivery, IsSentOf, reply_of}
-use Rattle.host_fetch.specs.Asked.{HasGrown, absent_among, reply_with}
+use Rattle.image_depot.specs.Reply.{Reply, Delivery, IsSentOf}
+use Rattle.page_claims.specs.declared.first.Claimed.{Claimed}
+use Rattle.page_claims.specs.declared.first.Claimed.TheVariants.{First, Repeat, Outside}
+use Rattle.page_claims.specs.Calls.{Answers, IsSamePass}
+use Rattle.page_claims.specs.Values.{ClaimsValue, PassValue}
+use Rattle.host_fetch.specs.declared.error.FetchError.{FetchError}
+use Rattle.host_fetch.specs.declared.error.FetchError.TheVariants.{Wire, Memory}
+use Rattle.host_fetch.specs.Asked.{AreAsked, HasAsked, IsAsked, IsTold, IsUntold, Telling, absent_among, reply_with}
 
 -- a page that was here is set here once more
 set_again : (here : List Bool) (page : ℕ) → slice_get here page ≡ Some true → slice_set here page true ≡ here
@@ -80,33 +86,79 @@ found_all here next pages room found whole past is =
     let empty : take room (absent_among here next (pages - next)) ≡ [] = ap (λ n. take room (absent_among here next n)) none ∙ take_none room in
     sym (append-nil found) ∙ ap (λ l. found ++ l) (sym empty) ∙ is
 
-pub grown_none : (depot : Shelves) (key : Key) (sent : List Delivery) → HasGrown depot key [] sent sent
-grown_none depot key sent = record { grown = []; by = sym (append-nil sent); kept = λ k d below. absurd (omega (arith, below)); replies = refl }
+-- ---- results
 
-pub grown_one : (depot : Shelves) (key : Key) (page : ℕ) (sent : Delivery) (old new : List Delivery) → new ≡ old ++ sent ∷ [] → IsSentOf depot sent
-    → reply_of sent ≡ reply_with key page → HasGrown depot key (page ∷ []) old new
-grown_one depot key page sent old new is here same = record {
-  grown = sent ∷ [];
-  by = is;
-  kept = All-cons (IsSentOf depot) sent [] here (All-nil (IsSentOf depot));
-  replies = ap (λ r. r ∷ []) same;
-}
+pub err-with : {E : Type 0} {P Q : Type 0} (r : Result (Unit {0}) E) → (P → Q) → OnErr r P → OnErr r Q
+err-with (Ok v) f h = tt
+err-with (Err e) f h = f h
 
-pub grown_more : (depot : Shelves) (key : Key) (pages more : List ℕ) (old middle new : List Delivery)
-    → HasGrown depot key pages old middle → HasGrown depot key more middle new → HasGrown depot key (pages ++ more) old new
-grown_more depot key pages more old middle new a b = record {
-  grown = a.grown ++ b.grown;
-  by = b.by ∙ ap (λ l. l ++ b.grown) a.by ∙ append_assoc old a.grown b.grown;
-  kept = All-append (IsSentOf depot) a.grown b.grown a.kept b.kept;
-  replies = map-append reply_of a.grown b.grown ∙ ap (λ l. l ++ map reply_of b.grown) a.replies ∙ ap (λ l. map (reply_with key) pages ++ l) b.replies
-      ∙ sym (map-append (reply_with key) pages more);
-}
+pub err-any : {E : Type 0} {Q : Type 0} (r : Result (Unit {0}) E) → Q → OnErr r Q
+err-any (Ok v) q = tt
+err-any (Err e) q = q
 
--- all are kept, where those before were
-pub grown_kept : (depot : Shelves) (key : Key) (pages : List ℕ) (old new : List Delivery) → HasGrown depot key pages old new → All (IsSentOf depot) old
-    → All (IsSentOf depot) new
-grown_kept depot key pages old new h kept =
-    subst (All (IsSentOf depot)) (sym h.by) (All-append (IsSentOf depot) old h.grown kept h.kept)
+pub ok-of : {A E : Type 0} (P : A → Type 0) (r : Result A E) (x : A) → r ≡ Ok x → IfOk r P → P x
+ok-of P (Ok y) x is h = let same : y ≡ x = cc in subst P same h
+ok-of P (Err e) x is h = absurd (cc)
+
+pub ok-on : {A E : Type 0} {P : Type 0} (r : Result A E) (x : A) → r ≡ Ok x → OnOk r P → P
+ok-on (Ok y) x is h = h
+ok-on (Err e) x is h = absurd (cc)
+
+pub err-of : {A E : Type 0} {P : Type 0} (r : Result A E) (e : E) → r ≡ Err e → OnErr r P → P
+err-of (Ok y) e is h = absurd (cc)
+err-of (Err f) e is h = h
+
+-- ---- what was asked for
+
+pub asked_one : (depot : Shelves) (claims : ClaimsValue) (key : Key) (page : ℕ) (old new : Telling) → IsAsked depot claims key page old new → AreAsked depot claims key (page ∷ []) old new
+asked_one depot claims key page old new asked = (new, asked, refl)
+
+pub asked_more : (depot : Shelves) (claims : ClaimsValue) (key : Key) (pages more : List ℕ) (old middle new : Telling)
+    → AreAsked depot claims key pages old middle → AreAsked depot claims key more middle new → AreAsked depot claims key (pages ++ more) old new
+asked_more depot claims key [] more old middle new a b = subst (λ t. AreAsked depot claims key more t new) a b
+asked_more depot claims key (page ∷ pages) more old middle new a b = (a.0, a.1, asked_more depot claims key pages more a.0 middle new a.2 b)
+
+told_kept : (depot : Shelves) (reply : Reply) (claimed : Claimed) (old new : List Delivery) → IsTold depot reply claimed old new → All (IsSentOf depot) old → All (IsSentOf depot) new
+told_kept depot reply (First token) old new told kept = subst (All (IsSentOf depot)) (sym told.3) (All-push (IsSentOf depot) old told.0 kept told.1)
+told_kept depot reply Repeat old new told kept = subst (All (IsSentOf depot)) (sym told) kept
+told_kept depot reply Outside old new told kept = subst (All (IsSentOf depot)) (sym told) kept
+
+pub asked_kept : (depot : Shelves) (claims : ClaimsValue) (key : Key) (pages : List ℕ) (old new : Telling) → AreAsked depot claims key pages old new
+    → All (IsSentOf depot) old.sent → All (IsSentOf depot) new.sent
+asked_kept depot claims key [] old new same kept = subst (λ (t : Telling). All (IsSentOf depot) t.sent) (sym same) kept
+asked_kept depot claims key (page ∷ pages) old new asked kept =
+    asked_kept depot claims key pages asked.0 new asked.2 (told_kept depot (reply_with key page) asked.1.claimed old.sent asked.0.sent asked.1.told kept)
+
+partly_kept : (depot : Shelves) (claims : ClaimsValue) (key : Key) (old new : Telling) → (new ≡ old) ⊎ IsUntold claims key old new → All (IsSentOf depot) old.sent → All (IsSentOf depot) new.sent
+partly_kept depot claims key old new (inl same) kept = subst (λ (t : Telling). All (IsSentOf depot) t.sent) (sym same) kept
+partly_kept depot claims key old new (inr untold) kept = subst (All (IsSentOf depot)) (sym untold.sent) kept
+
+-- all that was told is kept, where what was told before is
+pub fetched_kept : (depot : Shelves) (claims : ClaimsValue) (key : Key) (r : Result (Unit {0}) FetchError) (pages : List ℕ) (old new : Telling) → HasAsked depot claims key r pages old new
+    → All (IsSentOf depot) old.sent → All (IsSentOf depot) new.sent
+fetched_kept depot claims key (Ok done) pages old new asked kept = asked_kept depot claims key pages old new asked kept
+fetched_kept depot claims key (Err Wire) pages old new asked kept = asked_kept depot claims key pages old new asked kept
+fetched_kept depot claims key (Err Memory) pages old new partly kept =
+    partly_kept depot claims key partly.middle new partly.last (asked_kept depot claims key pages old partly.middle partly.asked kept)
+
+-- ---- a pass stays of the same claims, with as many parts
+
+pub same_pass : (pass : PassValue) → IsSamePass pass pass
+same_pass pass = record { table = refl; parts = refl }
+
+pub same_more : (a b c : PassValue) → IsSamePass a b → IsSamePass b c → IsSamePass a c
+same_more a b c h k = record { table = k.table ∙ h.table; parts = k.parts ∙ h.parts }
+
+same_claimed : (claims : ClaimsValue) (image page : ℕ) (old new : PassValue) (claimed : Claimed) → Answers claims image page old new claimed → IsSamePass old new
+same_claimed claims image page old new (First token) h = record { table = ap (λ (p : PassValue). p.table) h.2; parts = ap (λ (p : PassValue). p.parts) h.2 }
+same_claimed claims image page old new Repeat h = record { table = ap (λ (p : PassValue). p.table) h.1; parts = ap (λ (p : PassValue). p.parts) h.1 }
+same_claimed claims image page old new Outside h = record { table = ap (λ (p : PassValue). p.table) h.1; parts = ap (λ (p : PassValue). p.parts) h.1 }
+
+pub same_asked : (depot : Shelves) (claims : ClaimsValue) (key : Key) (pages : List ℕ) (old new : Telling) → AreAsked depot claims key pages old new → IsSamePass old.pass new.pass
+same_asked depot claims key [] old new same = subst (λ (t : Telling). IsSamePass old.pass t.pass) (sym same) (same_pass old.pass)
+same_asked depot claims key (page ∷ pages) old new asked =
+    same_more old.pass asked.0.pass new.pass (same_claimed claims (number_of key) page old.pass asked.0.pass asked.1.claimed asked.1.answers)
+    (same_asked depot claims key pages asked.0 new asked.2)
 
 -- one reply more waits
 pub waits_more : (key : Key) (pages : List ℕ) (page : ℕ) (old new : List Reply)

@@ -1,7 +1,7 @@
 -- A fetch goes on fate by fate, and comes to an end.
 use Rattle.std.proofs.Common.{◌≡◌, ℕ, zero, suc, ◌+◌, ◌-◌, ◌*◌, ◌<◌, ◌≤◌, Bool, true, false, cond, if◌then◌else◌, ◌||◌}
 use Rattle.std.proofs.Common.{eqb, eqb-true, eq-eqb, List, [], ◌∷◌, ◌++◌, length, map, take, get_or, slice_get, slice_set}
-use Rattle.std.proofs.Common.{Option, Some, refl, sym, ap, ◌∙◌, subst, arith, inl, inr, Err, length-append}
+use Rattle.std.proofs.Common.{Option, Some, refl, sym, ap, ◌∙◌, subst, arith, inl, Err, length-append}
 use Rattle.std.specs.List.{All, remove, list_any}
 use Rattle.std.proofs.lemmas.List.{length-map, length-set, append-nil}
 use Rattle.std.proofs.lemmas.List.Edits.{length-remove}
@@ -12,21 +12,22 @@ use Rattle.wire_fates.specs.declared.fate.Fate.{Fate}
 use Rattle.wire_fates.specs.declared.fate.Fate.TheVariants.{Give, Again, Lose}
 use Rattle.image_depot.specs.Key.{Shelves, Key}
 use Rattle.image_depot.specs.Receiver.{IsHere, IsAbsent}
-use Rattle.image_depot.specs.Reply.{Reply, Delivery}
-use Rattle.host_fetch.specs.Asked.{HasGrown, reply_with}
+use Rattle.image_depot.specs.Reply.{Reply}
+use Rattle.page_claims.specs.Values.{ClaimsValue}
+use Rattle.host_fetch.specs.Asked.{AreAsked, ArePartlyAsked, Telling, reply_with}
 use Rattle.host_fetch.specs.declared.error.FetchError.TheVariants.{Memory}
 use Rattle.host_fetch.specs.Fetch.{Fetching, Comes, Ends, Finishes, Grows, StopsGiving, after_fate, asked_again, begun, here_after, waiting_after, waits}
 use Rattle.host_fetch.specs.Fetch.Comes.{begins, goes_on}
-use Rattle.host_fetch.proofs.Asking.{map-remove, grown_more, grown_none, waits_more}
+use Rattle.host_fetch.proofs.Asking.{asked_more, map-remove, waits_more}
 
 -- where a fetch stands between two fates
 pub record Stands {T W X : Type 0} (here : T → List Bool) (key : T → Option Key) (rest : T → T) (tells : W → ℕ → Fate → W → Type 0) (streak : W → ℕ) (seeds : W → Option (List ℕ)) (now : X → Reply)
-    (depot : Shelves) (k : Key) (page : ℕ) (first : List ℕ) (t0 : T) (w0 : W) (sent0 : List Delivery) (t : T) (w : W) (items : List X) (sent : List Delivery) : Type 0 where
+    (depot : Shelves) (claims : ClaimsValue) (k : Key) (page : ℕ) (first : List ℕ) (t0 : T) (w0 : W) (sent0 : Telling) (t : T) (w : W) (items : List X) (sent : Telling) : Type 0 where
   pub f : Fetching
   pub comes : Comes tells streak page w0 (begun (here t0) first) w f
   pub here_is : f.here ≡ here t
   pub replies : map now items ≡ map (reply_with k) f.waiting
-  pub grown : HasGrown depot k f.asked sent0 sent
+  pub grown : AreAsked depot claims k f.asked sent0 sent
   pub waits_is : waits page f.waiting ≡ true
   pub seeds_is : seeds w ≡ seeds w0
   pub key_is : key t ≡ Some k
@@ -136,10 +137,10 @@ again_replies : (b : Bool) (k : Key) (page : ℕ) (f : Fetching) (old new : List
 again_replies true k page f old new is more = more ∙ append-nil old ∙ is
 again_replies false k page f old new is more = waits_more k f.waiting page old new more is
 
-again_grown : (b : Bool) (depot : Shelves) (k : Key) (page : ℕ) (f : Fetching) (old middle new : List Delivery) → HasGrown depot k f.asked old middle
-    → HasGrown depot k (cond b [] (page ∷ [])) middle new → HasGrown depot k (again b page f).asked old new
-again_grown true depot k page f old middle new g h = subst (λ l. HasGrown depot k l old new) (append-nil f.asked) (grown_more depot k f.asked [] old middle new g h)
-again_grown false depot k page f old middle new g h = grown_more depot k f.asked (page ∷ []) old middle new g h
+again_grown : (b : Bool) (depot : Shelves) (claims : ClaimsValue) (k : Key) (page : ℕ) (f : Fetching) (old middle new : Telling) → AreAsked depot claims k f.asked old middle
+    → AreAsked depot claims k (cond b [] (page ∷ [])) middle new → AreAsked depot claims k (again b page f).asked old new
+again_grown true depot claims k page f old middle new g h = subst (λ l. AreAsked depot claims k l old new) (append-nil f.asked) (asked_more depot claims k f.asked [] old middle new g h)
+again_grown false depot claims k page f old middle new g h = asked_more depot claims k f.asked (page ∷ []) old middle new g h
 
 again_length : (b : Bool) (page : ℕ) (f : Fetching) → length (again b page f).waiting ≤ length f.waiting + 1
 again_length true page f = omega arith
@@ -170,30 +171,30 @@ pub is_absent : (here : List Bool) (page : ℕ) → page < length here → get_o
 is_absent here page below e = slice_get_read here (length here) page false refl below (sym e)
 
 -- where memory was wanting, some of the first pages were asked for
-pub part_asked : {W : Type 0} (tells : W → ℕ → Fate → W → Type 0) (streak : W → ℕ) (page : ℕ) (depot : Shelves) (k : Key) (here : List Bool) (w : W)
-    (first asked : List ℕ) (count : ℕ) (old new : List Delivery) → asked ≡ first → HasGrown depot k (take count asked) old new
-    → (x : List ℕ) × HasGrown depot k x old new × Finishes tells streak page w (begun here first) w here x (Err Memory)
-part_asked tells streak page depot k here w first asked count old new same grown =
-    (take count asked, grown, inl (record { count = count; asked_is = ap (take count) same; here_is = refl; wire_is = refl }))
+pub part_asked : {W : Type 0} (tells : W → ℕ → Fate → W → Type 0) (streak : W → ℕ) (page : ℕ) (depot : Shelves) (claims : ClaimsValue) (k : Key) (here : List Bool) (w : W)
+    (first asked : List ℕ) (count : ℕ) (old new : Telling) → asked ≡ first → ArePartlyAsked depot claims k (take count asked) old new
+    → (x : List ℕ) × ArePartlyAsked depot claims k x old new × Finishes tells streak page w (begun here first) w here x (Err Memory)
+part_asked tells streak page depot claims k here w first asked count old new same partly =
+    (take count asked, partly, inl (record { count = count; asked_is = ap (take count) same; here_is = refl; wire_is = refl }))
 
-pub none_asked : {W : Type 0} (tells : W → ℕ → Fate → W → Type 0) (streak : W → ℕ) (page : ℕ) (depot : Shelves) (k : Key) (here : List Bool) (w : W)
-    (first : List ℕ) (sent : List Delivery) → (x : List ℕ) × HasGrown depot k x sent sent × Finishes tells streak page w (begun here first) w here x (Err Memory)
-none_asked tells streak page depot k here w first sent =
-    part_asked tells streak page depot k here w first first 0 sent sent refl (grown_none depot k sent)
+pub none_asked : {W : Type 0} (tells : W → ℕ → Fate → W → Type 0) (streak : W → ℕ) (page : ℕ) (depot : Shelves) (claims : ClaimsValue) (k : Key) (here : List Bool) (w : W)
+    (first : List ℕ) (t : Telling) → (x : List ℕ) × ArePartlyAsked depot claims k x t t × Finishes tells streak page w (begun here first) w here x (Err Memory)
+none_asked tells streak page depot claims k here w first t =
+    part_asked tells streak page depot claims k here w first first 0 t t refl (record { middle = t; asked = refl; last = inl refl })
 
 -- the replies that wait are those of the pages that wait
 same_count : {X : Type 0} (now : X → Reply) (k : Key) (items : List X) (pages : List ℕ) → map now items ≡ map (reply_with k) pages → length items ≡ length pages
 same_count now k items pages e = sym (length-map items now) ∙ ap length e ∙ length-map pages (reply_with k)
 
 module _ {T W X : Type 0} (here : T → List Bool) (key : T → Option Key) (rest : T → T) (tells : W → ℕ → Fate → W → Type 0) (streak : W → ℕ) (seeds : W → Option (List ℕ)) (now : X → Reply)
-    (depot : Shelves) (k : Key) (page : ℕ) (first : List ℕ) (t0 : T) (w0 : W) (sent0 : List Delivery) where
+    (depot : Shelves) (claims : ClaimsValue) (k : Key) (page : ℕ) (first : List ℕ) (t0 : T) (w0 : W) (sent0 : Telling) where
   -- the replies that were asked for at first wait
-  pub stands : (t : T) (w : W) (items : List X) (sent : List Delivery) (more : List ℕ) → first ≡ page ∷ more → t ≡ t0 → w ≡ w0 → map now items ≡ map (reply_with k) first
-      → HasGrown depot k first sent0 sent → key t0 ≡ Some k → IsAbsent (here t0) page
-      → Stands here key rest tells streak seeds now depot k page first t0 w0 sent0 t w items sent
+  pub stands : (t : T) (w : W) (items : List X) (sent : Telling) (more : List ℕ) → first ≡ page ∷ more → t ≡ t0 → w ≡ w0 → map now items ≡ map (reply_with k) first
+      → AreAsked depot claims k first sent0 sent → key t0 ≡ Some k → IsAbsent (here t0) page
+      → Stands here key rest tells streak seeds now depot claims k page first t0 w0 sent0 t w items sent
   stands t w items sent more is_first same_t same_w replies grown key_is absent =
-      subst (λ t. Stands here key rest tells streak seeds now depot k page first t0 w0 sent0 t w items sent) (sym same_t)
-      (subst (λ w. Stands here key rest tells streak seeds now depot k page first t0 w0 sent0 t0 w items sent) (sym same_w) (record {
+      subst (λ t. Stands here key rest tells streak seeds now depot claims k page first t0 w0 sent0 t w items sent) (sym same_t)
+      (subst (λ w. Stands here key rest tells streak seeds now depot claims k page first t0 w0 sent0 t0 w items sent) (sym same_w) (record {
         f = begun (here t0) first;
         comes = begins;
         here_is = refl;
@@ -213,8 +214,8 @@ module _ {T W X : Type 0} (here : T → List Bool) (key : T → Option Key) (res
   after_is t t2 items f fate here_is replies h =
       h ∙ ap (λ l. here_after fate l (here t)) (pages_are now k items f.waiting replies) ∙ ap (here_after fate f.waiting) (sym here_is)
 
-  pub ended : (t t2 : T) (w w2 : W) (items : List X) (sent : List Delivery) (fate : Fate) (count : ℕ)
-      → (s : Stands here key rest tells streak seeds now depot k page first t0 w0 sent0 t w items sent) → count ≡ length items → tells w count fate w2
+  pub ended : (t t2 : T) (w w2 : W) (items : List X) (sent : Telling) (fate : Fate) (count : ℕ)
+      → (s : Stands here key rest tells streak seeds now depot claims k page first t0 w0 sent0 t w items sent) → count ≡ length items → tells w count fate w2
       → here t2 ≡ here_after fate (map (λ x. (now x).page) items) (here t)
       → Ends tells streak page w0 (begun (here t0) first) w2 (here t2) s.f.asked
   ended t t2 w w2 items sent fate count s counted told h = record {
@@ -228,8 +229,8 @@ module _ {T W X : Type 0} (here : T → List Bool) (key : T → Option Key) (res
   }
 
   -- memory was wanting to take the reply of a fate in
-  pub stops : (t t2 : T) (w w2 : W) (items : List X) (sent : List Delivery) (fate : Fate) (count : ℕ)
-      → (s : Stands here key rest tells streak seeds now depot k page first t0 w0 sent0 t w items sent) → count ≡ length items → tells w count fate w2 → t2 ≡ t
+  pub stops : (t t2 : T) (w w2 : W) (items : List X) (sent : Telling) (fate : Fate) (count : ℕ)
+      → (s : Stands here key rest tells streak seeds now depot claims k page first t0 w0 sent0 t w items sent) → count ≡ length items → tells w count fate w2 → t2 ≡ t
       → StopsGiving tells streak page w0 (begun (here t0) first) w2 (here t2) s.f.asked
   stops t t2 w w2 items sent fate count s counted told same = record {
     before = w;
@@ -241,7 +242,7 @@ module _ {T W X : Type 0} (here : T → List Bool) (key : T → Option Key) (res
     asked_is = refl;
   }
 
-  pub below_after : (t t2 : T) (w : W) (items : List X) (sent : List Delivery) (fate : Fate) → Stands here key rest tells streak seeds now depot k page first t0 w0 sent0 t w items sent
+  pub below_after : (t t2 : T) (w : W) (items : List X) (sent : Telling) (fate : Fate) → Stands here key rest tells streak seeds now depot claims k page first t0 w0 sent0 t w items sent
       → here t2 ≡ here_after fate (map (λ x. (now x).page) items) (here t) → page < length (here t2)
   below_after t t2 w items sent fate s h =
       omega (arith, slice_get_within (here t) page false s.absent, ap length h, (fate_grows fate (map (λ x. (now x).page) items) (here t)).pages)
@@ -253,13 +254,13 @@ module _ {T W X : Type 0} (here : T → List Bool) (key : T → Option Key) (res
       → map now items2 ≡ map (reply_with k) (after_fate fate f).waiting
   replies_after items items2 f fate replies e = e ∙ ap (waiting_after fate) replies ∙ sym (waiting_map (reply_with k) fate f.waiting)
 
-  pub stands_on : (t t2 : T) (w w2 : W) (items items2 items3 : List X) (sent sent3 : List Delivery) (fate : Fate) (count : ℕ)
-      → Stands here key rest tells streak seeds now depot k page first t0 w0 sent0 t w items sent → count ≡ length items → tells w count fate w2
+  pub stands_on : (t t2 : T) (w w2 : W) (items items2 items3 : List X) (sent sent3 : Telling) (fate : Fate) (count : ℕ)
+      → Stands here key rest tells streak seeds now depot claims k page first t0 w0 sent0 t w items sent → count ≡ length items → tells w count fate w2
       → here t2 ≡ here_after fate (map (λ x. (now x).page) items) (here t) → map now items2 ≡ waiting_after fate (map now items) → seeds w2 ≡ seeds w → key t2 ≡ key t → rest t2 ≡ rest t
       → IsAbsent (here t2) page → streak w2 < 64
       → map now items3 ≡ map now items2 ++ cond (list_any (λ x. eqb (now x).page page) items2) [] (reply_with k page ∷ [])
-      → HasGrown depot k (cond (list_any (λ x. eqb (now x).page page) items2) [] (page ∷ [])) sent sent3
-      → Stands here key rest tells streak seeds now depot k page first t0 w0 sent0 t2 w2 items3 sent3
+      → AreAsked depot claims k (cond (list_any (λ x. eqb (now x).page page) items2) [] (page ∷ [])) sent sent3
+      → Stands here key rest tells streak seeds now depot claims k page first t0 w0 sent0 t2 w2 items3 sent3
   stands_on t t2 w w2 items items2 items3 sent sent3 fate count s counted told h waiting same_seeds same_key same_rest absent less more grown =
       let f2 : Fetching = after_fate fate s.f in
       let b : Bool = waits page f2.waiting in
@@ -271,7 +272,7 @@ module _ {T W X : Type 0} (here : T → List Bool) (key : T → Option Key) (res
         comes = goes_on w w2 fate s.f s.comes (subst (λ n. tells w n fate w2) (counted ∙ same_count now k items s.f.waiting s.replies) told) (subst (λ l. IsAbsent l page) here2 absent) less;
         here_is = again_here b page f2 ∙ sym here2;
         replies = again_replies b k page f2 _ _ replies2 (subst (λ c. map now items3 ≡ map now items2 ++ cond c [] (reply_with k page ∷ [])) same more);
-        grown = again_grown b depot k page f2 sent0 sent sent3 s.grown (subst (λ c. HasGrown depot k (cond c [] (page ∷ [])) sent sent3) same grown);
+        grown = again_grown b depot claims k page f2 sent0 sent sent3 s.grown (subst (λ c. AreAsked depot claims k (cond c [] (page ∷ [])) sent sent3) same grown);
         waits_is = again_waits b page f2 refl;
         seeds_is = same_seeds ∙ s.seeds_is;
         key_is = same_key ∙ s.key_is;
@@ -280,8 +281,8 @@ module _ {T W X : Type 0} (here : T → List Bool) (key : T → Option Key) (res
         absent = absent;
       }
 
-  pub less : (t t2 : T) (w w2 : W) (items items2 items3 : List X) (sent : List Delivery) (fate : Fate) (count : ℕ)
-      → Stands here key rest tells streak seeds now depot k page first t0 w0 sent0 t w items sent → count ≡ length items → place_of fate < count
+  pub less : (t t2 : T) (w w2 : W) (items items2 items3 : List X) (sent : Telling) (fate : Fate) (count : ℕ)
+      → Stands here key rest tells streak seeds now depot claims k page first t0 w0 sent0 t w items sent → count ≡ length items → place_of fate < count
       → here t2 ≡ here_after fate (map (λ x. (now x).page) items) (here t) → map now items2 ≡ waiting_after fate (map now items)
       → IsAbsent (here t2) page → streak w2 ≡ streak_after fate (streak w) → streak w2 < 64
       → map now items3 ≡ map now items2 ++ cond (list_any (λ x. eqb (now x).page page) items2) [] (reply_with k page ∷ [])
@@ -298,7 +299,11 @@ module _ {T W X : Type 0} (here : T → List Bool) (key : T → Option Key) (res
       let fall = falls fate page s.f (streak w) (streak w2) (omega (arith, among, counted, n)) below s.waits_is (subst (λ l. IsAbsent l page) here2 absent) longer short in
       omega (arith, fall, n, n3)
 
+  -- a reply waits
+  pub some_wait : (t : T) (w : W) (items : List X) (sent : Telling) → Stands here key rest tells streak seeds now depot claims k page first t0 w0 sent0 t w items sent → 0 < length items
+  some_wait t w items sent s = omega (arith, waits_some page s.f.waiting s.waits_is, same_count now k items s.f.waiting s.replies)
+
   -- what may be given to the receiver
-  pub keys_of : (t : T) (w : W) (items : List X) (sent : List Delivery) → Stands here key rest tells streak seeds now depot k page first t0 w0 sent0 t w items sent
+  pub keys_of : (t : T) (w : W) (items : List X) (sent : Telling) → Stands here key rest tells streak seeds now depot claims k page first t0 w0 sent0 t w items sent
       → All (λ x. key t ≡ Some (now x).key) items
   keys_of t w items sent s i d below = s.key_is ∙ ap (λ c. Some c) (sym (keys_are now k items s.f.waiting s.replies i d below))

@@ -1,9 +1,18 @@
 -- The pages that a fetch asks for, and the replies to it.
-use Rattle.std.specs.Prelude.{◌≡◌, ℕ, ◌+◌, ◌-◌, Bool, false, nat_lt, not, if◌then◌else◌, List, ◌∷◌, ◌++◌, map, take, filter, slice_index_or}
-use Rattle.std.specs.List.{All, range_with_len}
+use Rattle.std.specs.Prelude.{◌≡◌, ◌⊎◌, ℕ, ◌+◌, ◌-◌, Bool, false, nat_lt, not, if◌then◌else◌, List, [], ◌∷◌, ◌++◌, take, filter, slice_index_or}
+use Rattle.std.specs.Prelude.{Result, Ok, Err}
+use Rattle.std.specs.List.{range_with_len}
+use Rattle.page_claims.specs.declared.first.Claimed.{Claimed}
+use Rattle.page_claims.specs.declared.first.Claimed.TheVariants.{First, Repeat, Outside}
+use Rattle.page_claims.specs.Calls.{Answers}
+use Rattle.page_claims.specs.Values.{ClaimsValue, PassValue}
 use Rattle.image_depot.specs.Image.{FrozenImage, page_count, place_count}
-use Rattle.image_depot.specs.Key.{Shelves, Key}
+use Rattle.image_depot.specs.Key.{Shelves, Key, number_of}
 use Rattle.image_depot.specs.Reply.{Reply, Delivery, IsSentOf, reply_of}
+use Rattle.host_fetch.specs.declared.error.FetchError.{FetchError}
+use Rattle.host_fetch.specs.declared.error.FetchError.TheVariants.{Wire, Memory}
+use Rattle.host_fetch.specs.declared.waiting.Waiting.{Waiting}
+use Rattle.host_fetch.specs.declared.waiting.Waiting.TheVariants.{Kept, Own}
 
 -- those of `count` pages, from `first` on, that are absent
 abbrev pub absent_among : List Bool → ℕ → ℕ → List ℕ
@@ -25,9 +34,47 @@ first_asked here page end ahead = page ∷ take ahead (absent_above here page en
 abbrev pub reply_with : Key → ℕ → Reply
 reply_with key page = record { key = key; page = page }
 
--- a list of deliveries has grown by those of the replies with these pages, which a depot keeps
-pub record HasGrown (depot : Shelves) (key : Key) (pages : List ℕ) (old new : List Delivery) : Type 0 where
-  pub grown : List Delivery
-  pub by : new ≡ old ++ grown
-  pub kept : All (IsSentOf depot) grown
-  pub replies : map reply_of grown ≡ map (reply_with key) pages
+-- the replies that were told, and what a pass has claimed
+pub record Telling : Type 0 where
+  pub sent : List Delivery
+  pub pass : PassValue
+
+-- a reply is told just where its page was claimed for the first time. The depot keeps it then
+abbrev pub IsTold : Shelves → Reply → Claimed → List Delivery → List Delivery → Type 0
+IsTold depot reply (First token) old new = (sent : Delivery) × IsSentOf depot sent × (reply_of sent ≡ reply) × (new ≡ old ++ sent ∷ [])
+IsTold depot reply Repeat old new = new ≡ old
+IsTold depot reply Outside old new = new ≡ old
+
+-- a page of the image of a key was asked for: it was claimed, and the reply was told if that claim was the first
+pub record IsAsked (depot : Shelves) (claims : ClaimsValue) (key : Key) (page : ℕ) (old new : Telling) : Type 0 where
+  pub claimed : Claimed
+  pub answers : Answers claims (number_of key) page old.pass new.pass claimed
+  pub told : IsTold depot (reply_with key page) claimed old.sent new.sent
+
+-- these pages were asked for, in their order
+abbrev pub AreAsked : Shelves → ClaimsValue → Key → List ℕ → Telling → Telling → Type 0
+AreAsked depot claims key [] old new = new ≡ old
+AreAsked depot claims key (page ∷ pages) old new = (middle : Telling) × IsAsked depot claims key page old middle × AreAsked depot claims key pages middle new
+
+-- memory was wanting for the reply with a page: it may have been claimed, and nothing was told
+pub record IsUntold (claims : ClaimsValue) (key : Key) (old new : Telling) : Type 0 where
+  pub page : ℕ
+  pub sent : new.sent ≡ old.sent
+  pub pass : (new.pass ≡ old.pass) ⊎ ((claimed : Claimed) × Answers claims (number_of key) page old.pass new.pass claimed)
+
+-- these pages were asked for, and memory may have been wanting for the next
+pub record ArePartlyAsked (depot : Shelves) (claims : ClaimsValue) (key : Key) (pages : List ℕ) (old new : Telling) : Type 0 where
+  pub middle : Telling
+  pub asked : AreAsked depot claims key pages old middle
+  pub last : (new ≡ middle) ⊎ IsUntold claims key middle new
+
+-- what a fetch asked for that ended so
+abbrev pub HasAsked : Shelves → ClaimsValue → Key → Result (Unit {0}) FetchError → List ℕ → Telling → Telling → Type 0
+HasAsked depot claims key (Ok _) asked old new = AreAsked depot claims key asked old new
+HasAsked depot claims key (Err Wire) asked old new = AreAsked depot claims key asked old new
+HasAsked depot claims key (Err Memory) asked old new = ArePartlyAsked depot claims key asked old new
+
+-- what a reply that waits carries
+abbrev pub reply_in : Waiting → Reply
+reply_in (Kept parcel) = parcel.now
+reply_in (Own parcel) = parcel

@@ -4,9 +4,13 @@ ghost use Rattle.std.specs.Prelude.{◌≡◌, ℕ, ◌<◌, ◌≤◌, ◌==◌
 ghost use Rattle.std.specs.List.{All, list_any};
 ghost use Rattle.image_depot.specs.Image.{place_count};
 ghost use Rattle.image_depot.specs.Key.{IsKeyOf, image_of};
-ghost use Rattle.host_fetch.specs.Asked.{HasGrown, first_asked, reply_with};
+ghost use Rattle.image_depot.specs.Reply.{IsClaimOf};
+ghost use Rattle.page_claims.specs.Calls.{IsSamePass};
+ghost use Rattle.host_fetch.specs.Asked.{AreAsked, ArePartlyAsked, IsAsked, IsTold, IsUntold, first_asked, reply_in, reply_with};
 
+use crate::waiting::Waiting;
 use image_depot::{Depot, ImageKey, Parcel, Receiver, Sent};
+use page_claims::{ClaimPass, Claimed, Claims, First};
 use std::alloc::{AllocError, Global};
 use std::sync::Wait;
 
@@ -38,53 +42,113 @@ pub fn first_asked<T: Receiver>(
     Ok(asked)
 }
 
-/// Asks for these pages of an image, and gives the replies, which wait. Each is pushed, and told.
+/// Asks for these pages of an image, and gives the replies, which wait. Each page is claimed, and what was claimed for the first
+/// time is pushed, and told.
 pub fn ask_first<'a, R: Wait>(
     rt: &R,
     alloc: Global,
     depot: &'a Depot,
     key: &ImageKey,
     pages: &[u32],
+    claims: &Claims,
+    claiming: ClaimPass,
     pushed: &mut Vec<Sent>,
-) -> Result<Vec<&'a Parcel>, AllocError>
+) -> (ClaimPass, Result<Vec<Waiting<'a>>, AllocError>)
     requires here { IsKeyOf depot.now key.now }
     requires there { All (λ page. page < place_count (image_of key.now)) pages.now }
-    ensures waiting { IfOk result (λ waiting. map (λ parcel. parcel.now) waiting.items ≡ map (reply_with key.now) pages.now) }
-    ensures told { OnOk result (HasGrown depot.now key.now pages.now pushed.old.items pushed.new.items) }
-    ensures err { OnErr result ((count : ℕ) × HasGrown depot.now key.now (take count pages.now) pushed.old.items pushed.new.items) }
+    requires claims { claiming.table ≡ claims.now.table }
+    ensures waiting { IfOk result.1 (λ waiting. map reply_in waiting.items ≡ map (reply_with key.now) pages.now) }
+    ensures asked { OnOk result.1 (AreAsked depot.now claims.now key.now pages.now
+        (record { sent = pushed.old.items; pass = claiming }) (record { sent = pushed.new.items; pass = result.0 })) }
+    ensures err { OnErr result.1 ((count : ℕ) × ArePartlyAsked depot.now claims.now key.now (take count pages.now)
+        (record { sent = pushed.old.items; pass = claiming }) (record { sent = pushed.new.items; pass = result.0 })) }
+    ensures same { IsSamePass claiming result.0 }
 {
     let Ok(mut waiting) = Vec::with_capacity(alloc, pages.len()) else {
-        return Err(AllocError);
+        return (claiming, Err(AllocError));
     };
+    let mut claiming = claiming;
     for page in pages {
-        let Ok(()) = ask(rt, depot, key, *page, &mut waiting, pushed) else {
-            return Err(AllocError);
+        let (after, asked) = ask(
+            rt,
+            depot,
+            key,
+            *page,
+            claims,
+            claiming,
+            &mut waiting,
+            pushed,
+        );
+        claiming = after;
+        let Ok(()) = asked else {
+            return (claiming, Err(AllocError));
         };
     }
-    Ok(waiting)
+    (claiming, Ok(waiting))
 }
 
-/// Asks for a page of an image. The reply waits behind the others, and it is pushed, and told.
+/// Asks for a page of an image. The reply waits behind the others. The page is claimed, and where that is the first claim the
+/// reply is pushed, and told.
 pub fn ask<'a, R: Wait>(
     rt: &R,
     depot: &'a Depot,
     key: &ImageKey,
     page: u32,
-    waiting: &mut Vec<&'a Parcel>,
+    claims: &Claims,
+    claiming: ClaimPass,
+    waiting: &mut Vec<Waiting<'a>>,
     pushed: &mut Vec<Sent>,
-) -> Result<(), AllocError>
+) -> (ClaimPass, Result<(), AllocError>)
     requires here { IsKeyOf depot.now key.now }
     requires there { page < place_count (image_of key.now) }
-    ensures waiting { OnOk result (map (λ parcel. parcel.now) waiting.new.items ≡ map (λ parcel. parcel.now) waiting.old.items ++ reply_with key.now page ∷ []) }
-    ensures told { OnOk result (HasGrown depot.now key.now (page ∷ []) pushed.old.items pushed.new.items) }
+    requires claims { claiming.table ≡ claims.now.table }
+    ensures waiting { OnOk result.1 (map reply_in waiting.new.items ≡ map reply_in waiting.old.items ++ reply_with key.now page ∷ []) }
+    ensures asked { OnOk result.1 (IsAsked depot.now claims.now key.now page
+        (record { sent = pushed.old.items; pass = claiming }) (record { sent = pushed.new.items; pass = result.0 })) }
+    ensures err { OnErr result.1 (IsUntold claims.now key.now
+        (record { sent = pushed.old.items; pass = claiming }) (record { sent = pushed.new.items; pass = result.0 })) }
+    ensures same { IsSamePass claiming result.0 }
+{
+    let Ok(parcel) = depot.answer(key, page) else {
+        return (claiming, Err(AllocError));
+    };
+    let (claiming, claimed) = claims.claim(claiming, key.number(), page);
+    match claimed {
+        Claimed::First(first) => (claiming, keep(rt, depot, first, parcel, waiting, pushed)),
+        Claimed::Repeat => (claiming, hold(parcel, waiting)),
+        Claimed::Outside => (claiming, hold(parcel, waiting)),
+    }
+}
+
+/// Pushes a reply whose page was claimed for the first time, and tells it. It waits behind the others.
+fn keep<'a, R: Wait>(
+    rt: &R,
+    depot: &'a Depot,
+    first: First,
+    parcel: Parcel,
+    waiting: &mut Vec<Waiting<'a>>,
+    pushed: &mut Vec<Sent>,
+) -> Result<(), AllocError>
+    requires of_depot { IsKeyOf depot.now parcel.key }
+    requires claimed { IsClaimOf parcel first }
+    ensures waiting { OnOk result (map reply_in waiting.new.items ≡ map reply_in waiting.old.items ++ parcel ∷ []) }
+    ensures told { OnOk result (IsTold depot.now parcel (Claimed.First first) pushed.old.items pushed.new.items) }
     ensures err { OnErr result (pushed.new.items ≡ pushed.old.items) }
 {
     // What was pushed is told: there is room for it before.
     waiting.reserve(1)?;
     pushed.reserve(1)?;
-    let sent = depot.push(rt, depot.answer(key, page)?)?;
-    waiting.push(depot.sent(&sent))?;
+    let sent = depot.push(rt, first, parcel)?;
+    waiting.push(Waiting::Kept(depot.sent(&sent)))?;
     pushed.push(sent)?;
+    Ok(())
+}
+
+/// A reply that is not pushed waits behind the others.
+fn hold<'a>(parcel: Parcel, waiting: &mut Vec<Waiting<'a>>) -> Result<(), AllocError>
+    ensures { OnOk result (map reply_in waiting.new.items ≡ map reply_in waiting.old.items ++ parcel ∷ []) }
+{
+    waiting.push(Waiting::Own(parcel))?;
     Ok(())
 }
 
@@ -94,26 +158,32 @@ pub fn ask_again<'a, R: Wait>(
     depot: &'a Depot,
     key: &ImageKey,
     page: u32,
-    waiting: &mut Vec<&'a Parcel>,
+    claims: &Claims,
+    claiming: ClaimPass,
+    waiting: &mut Vec<Waiting<'a>>,
     pushed: &mut Vec<Sent>,
-) -> Result<(), AllocError>
+) -> (ClaimPass, Result<(), AllocError>)
     requires here { IsKeyOf depot.now key.now }
     requires there { page < place_count (image_of key.now) }
-    ensures waiting { OnOk result (map (λ parcel. parcel.now) waiting.new.items ≡ map (λ parcel. parcel.now) waiting.old.items
-        ++ (if list_any (λ parcel. parcel.now.page == page) waiting.old.items then [] else reply_with key.now page ∷ [])) }
-    ensures told { OnOk result (HasGrown depot.now key.now
-        (if list_any (λ parcel. parcel.now.page == page) waiting.old.items then [] else page ∷ []) pushed.old.items pushed.new.items) }
-    ensures err { OnErr result (pushed.new.items ≡ pushed.old.items) }
+    requires claims { claiming.table ≡ claims.now.table }
+    ensures waiting { OnOk result.1 (map reply_in waiting.new.items ≡ map reply_in waiting.old.items
+        ++ (if list_any (λ w. (reply_in w).page == page) waiting.old.items then [] else reply_with key.now page ∷ [])) }
+    ensures asked { OnOk result.1 (AreAsked depot.now claims.now key.now
+        (if list_any (λ w. (reply_in w).page == page) waiting.old.items then [] else page ∷ [])
+        (record { sent = pushed.old.items; pass = claiming }) (record { sent = pushed.new.items; pass = result.0 })) }
+    ensures err { OnErr result.1 (IsUntold claims.now key.now
+        (record { sent = pushed.old.items; pass = claiming }) (record { sent = pushed.new.items; pass = result.0 })) }
+    ensures same { IsSamePass claiming result.0 }
 {
     if waits(waiting, page) {
-        return Ok(());
+        return (claiming, Ok(()));
     }
-    ask(rt, depot, key, page, waiting, pushed)
+    ask(rt, depot, key, page, claims, claiming, waiting, pushed)
 }
 
 /// Whether a reply with a page waits.
-fn waits(waiting: &[&Parcel], page: u32) -> bool
-    ensures { result ≡ list_any (λ parcel. parcel.now.page == page) waiting.now }
+fn waits(waiting: &[Waiting<'_>], page: u32) -> bool
+    ensures { result ≡ list_any (λ w. (reply_in w).page == page) waiting.now }
 {
-    waiting.iter().any(|parcel| parcel.page() == page)
+    waiting.iter().any(|one| one.parcel().page() == page)
 }

@@ -5,13 +5,15 @@ ghost use Rattle.image_depot.specs.Image.{place_count};
 ghost use Rattle.image_depot.specs.Key.{IsKeyOf, image_of};
 ghost use Rattle.image_depot.specs.Receiver.{IsAbsent, IsHere};
 ghost use Rattle.image_depot.specs.Reply.{IsSentOf};
-ghost use Rattle.host_fetch.specs.Asked.{HasGrown, end_of_kind, first_asked};
+ghost use Rattle.page_claims.specs.Calls.{IsSamePass};
+ghost use Rattle.host_fetch.specs.Asked.{HasAsked, end_of_kind, first_asked};
 ghost use Rattle.host_fetch.specs.Fetch.{Finishes, Grows, begun};
 
 use crate::ask::{ask_again, ask_first, first_asked};
 use crate::deliver::deliver;
 use crate::error::FetchError;
 use image_depot::{Depot, ImageKey, Receiver, Sent};
+use page_claims::{ClaimPass, Claims};
 use std::alloc::Global;
 use std::sync::Wait;
 use wire_fates::{LONGEST_STREAK, Wire};
@@ -21,8 +23,9 @@ pub const MAX_AHEAD: u32 = 16;
 
 /// Brings the page that a receiver wants, if it wants one. It asks for this page and for the next `ahead` higher ones of its
 /// kind, of RAM or of the disk, that are absent, and the wire tells what becomes of the replies. Where the reply with the
-/// wanted page is lost, it asks for it again. All replies are pushed, and told in `pushed`. The wire has failed where its
-/// streak is the longest after a fate, and the page is not here.
+/// wanted page is lost, it asks for it again. Each page that it asks for is claimed, and the replies whose pages were claimed for
+/// the first time are pushed, and told in `pushed`; all come to the receiver alike. The pass comes back. The wire has failed
+/// where its streak is the longest after a fate, and the page is not here.
 pub fn fetch<R: Wait, T: Receiver, W: Wire>(
     rt: &R,
     alloc: Global,
@@ -30,16 +33,21 @@ pub fn fetch<R: Wait, T: Receiver, W: Wire>(
     depot: &Depot,
     wire: &mut W,
     ahead: u32,
+    claims: &Claims,
+    claiming: ClaimPass,
     pushed: &mut Vec<Sent>,
-) -> Result<(), FetchError>
+) -> (ClaimPass, Result<(), FetchError>)
     requires ahead { ahead ≤ MAX_AHEAD }
+    requires claims { claiming.table ≡ claims.now.table }
     requires of_depot { ForSome (T.key receiver.old) (IsKeyOf depot.now) }
-    ensures none { T.wanted receiver.old ≡ None → (result ≡ Ok tt) × (receiver.new ≡ receiver.old) × (wire.new ≡ wire.old) × (pushed.new.items ≡ pushed.old.items) }
-    ensures here { OnOk result (ForSome (T.wanted receiver.old) (IsHere (T.here receiver.new))) }
+    ensures none { T.wanted receiver.old ≡ None → (result ≡ (claiming, Ok tt)) × (receiver.new ≡ receiver.old) × (wire.new ≡ wire.old) × (pushed.new.items ≡ pushed.old.items) }
+    ensures here { OnOk result.1 (ForSome (T.wanted receiver.old) (IsHere (T.here receiver.new))) }
     ensures fetches { ForSome (T.wanted receiver.old) (λ page. ForSome (T.key receiver.old) (λ key. (asked : List ℕ)
-        × HasGrown depot.now key asked pushed.old.items pushed.new.items
-        × Finishes W.tells W.streak page wire.old (begun (T.here receiver.old) (first_asked (T.here receiver.old) page (end_of_kind (image_of key) page) ahead)) wire.new (T.here receiver.new) asked result)) }
-    ensures wire { IfErr result (λ error. error ≡ FetchError.Wire → W.streak wire.new ≡ LONGEST_STREAK) }
+        × HasAsked depot.now claims.now key result.1 asked
+        (record { sent = pushed.old.items; pass = claiming }) (record { sent = pushed.new.items; pass = result.0 })
+        × Finishes W.tells W.streak page wire.old (begun (T.here receiver.old) (first_asked (T.here receiver.old) page (end_of_kind (image_of key) page) ahead)) wire.new (T.here receiver.new) asked result.1)) }
+    ensures wire { IfErr result.1 (λ error. error ≡ FetchError.Wire → W.streak wire.new ≡ LONGEST_STREAK) }
+    ensures same { IsSamePass claiming result.0 }
     ensures kept { All (IsSentOf depot.now) pushed.old.items → All (IsSentOf depot.now) pushed.new.items }
     ensures key { T.key receiver.new ≡ T.key receiver.old }
     ensures seeds { W.seeds wire.new ≡ W.seeds wire.old }
@@ -47,15 +55,17 @@ pub fn fetch<R: Wait, T: Receiver, W: Wire>(
     ensures grows { Grows (T.here receiver.old) (T.here receiver.new) }
 {
     let Some(page) = receiver.wanted() else {
-        return Ok(());
+        return (claiming, Ok(()));
     };
     let Some(key) = receiver.key() else {
         unreachable!()
     };
     let Ok(key) = key.again() else {
-        return Err(FetchError::Memory);
+        return (claiming, Err(FetchError::Memory));
     };
-    fetch_page(rt, alloc, receiver, depot, wire, &key, page, ahead, pushed)
+    fetch_page(
+        rt, alloc, receiver, depot, wire, &key, page, ahead, claims, claiming, pushed,
+    )
 }
 
 /// Brings a page that is absent.
@@ -68,16 +78,21 @@ fn fetch_page<R: Wait, T: Receiver, W: Wire>(
     key: &ImageKey,
     page: u32,
     ahead: u32,
+    claims: &Claims,
+    claiming: ClaimPass,
     pushed: &mut Vec<Sent>,
-) -> Result<(), FetchError>
+) -> (ClaimPass, Result<(), FetchError>)
     requires ahead { ahead ≤ MAX_AHEAD }
+    requires claims { claiming.table ≡ claims.now.table }
     requires of_depot { IsKeyOf depot.now key.now }
     requires of_image { T.key receiver.old ≡ Some key.now }
     requires pages { place_count (image_of key.now) ≡ length (T.here receiver.old) }
     requires absent { IsAbsent (T.here receiver.old) page }
     ensures fetches { (asked : List ℕ)
-        × HasGrown depot.now key.now asked pushed.old.items pushed.new.items
-        × Finishes W.tells W.streak page wire.old (begun (T.here receiver.old) (first_asked (T.here receiver.old) page (end_of_kind (image_of key.now) page) ahead)) wire.new (T.here receiver.new) asked result }
+        × HasAsked depot.now claims.now key.now result.1 asked
+        (record { sent = pushed.old.items; pass = claiming }) (record { sent = pushed.new.items; pass = result.0 })
+        × Finishes W.tells W.streak page wire.old (begun (T.here receiver.old) (first_asked (T.here receiver.old) page (end_of_kind (image_of key.now) page) ahead)) wire.new (T.here receiver.new) asked result.1 }
+    ensures same { IsSamePass claiming result.0 }
     ensures key { T.key receiver.new ≡ T.key receiver.old }
     ensures seeds { W.seeds wire.new ≡ W.seeds wire.old }
     ensures rest { T.rest receiver.new ≡ T.rest receiver.old }
@@ -85,24 +100,37 @@ fn fetch_page<R: Wait, T: Receiver, W: Wire>(
 {
     let end = end_of_kind(depot, key, page);
     let Ok(asked) = first_asked(alloc, receiver, page, end, ahead) else {
-        return Err(FetchError::Memory);
+        return (claiming, Err(FetchError::Memory));
     };
-    let Ok(mut waiting) = ask_first(rt, alloc, depot, key, &asked, pushed) else {
-        return Err(FetchError::Memory);
+    let (claiming, replies) = ask_first(rt, alloc, depot, key, &asked, claims, claiming, pushed);
+    let mut claiming = claiming;
+    let Ok(mut waiting) = replies else {
+        return (claiming, Err(FetchError::Memory));
     };
     loop {
         let fate = wire.next(waiting.len());
         let Ok(()) = deliver(alloc, receiver, depot, &mut waiting, fate) else {
-            return Err(FetchError::Memory);
+            return (claiming, Err(FetchError::Memory));
         };
         if receiver.is_here(page) {
-            return Ok(());
+            return (claiming, Ok(()));
         }
         if has_failed(wire) {
-            return Err(FetchError::Wire);
+            return (claiming, Err(FetchError::Wire));
         }
-        let Ok(()) = ask_again(rt, depot, key, page, &mut waiting, pushed) else {
-            return Err(FetchError::Memory);
+        let (after, asked) = ask_again(
+            rt,
+            depot,
+            key,
+            page,
+            claims,
+            claiming,
+            &mut waiting,
+            pushed,
+        );
+        claiming = after;
+        let Ok(()) = asked else {
+            return (claiming, Err(FetchError::Memory));
         };
     }
 }

@@ -7,6 +7,7 @@ mod error;
 mod fetch_page;
 mod heard;
 mod offer_page;
+mod waiting;
 
 pub use error::FetchError;
 pub use fetch_page::{MAX_AHEAD, fetch};

@@ -9,15 +9,17 @@ use Rattle.std.proofs.Common.{ℕ, List, [], ◌∷◌}
 use Rattle.std.proofs.Crossing.{crosses}
 use Rattle.image_depot.proofs.depot.Depot.TheSendSync as depot
 use Rattle.fork_board.proofs.Crosses.{board_sync, pass_send}
+use Rattle.page_claims.proofs.claims.ClaimPass.TheSendSync as claim_pass
+use Rattle.page_claims.proofs.claims.Claims.TheSendSync as claims
 use Rattle.host_workers.specs.contracts.shared.Shared as Shared
 use Rattle.host_workers.specs.contracts.shared.State as State
 use Rattle.host_workers.proofs.shared.Settings.TheSendSync as settings
 
 state_send : IsSend State.the_row
-state_send = search (sendable, pass_send) depth 40
+state_send = search (sendable, pass_send, claim_pass.the_send) depth 40
 
 shared_sync : (ℓ : NamedLft) (G : RattleType) → IsSync G → IsSync (Shared.the_row ℓ G)
-shared_sync ℓ G g = search (sendable, crosses, board_sync, depot.the_sync, settings.the_sync) depth 40
+shared_sync ℓ G g = search (sendable, crosses, board_sync, claims.the_sync, depot.the_sync, settings.the_sync) depth 40
 
 -- what the closure takes along that lets half of the workers work
 pub half_send : (name : List ℕ) (runtime all inside states wires : NamedLft) (R W G : RattleType)

@@ -31,7 +31,12 @@ use Rattle.fork_board.specs.Notes.{heard_entry, placed_entry, taken_entry, told_
 use Rattle.fork_board.specs.Passes.{BoardValue, FreeAfter, IsFree, Leaves, Makes, PassValue}
 use Rattle.fork_board.proofs.Returning.{held-same}
 use Rattle.host_workers.specs.Finishes.{IsStopped, IsStoppedBy, first_stop, reason_of, stop_or}
+use Rattle.page_claims.specs.Values.{ClaimsValue, PassValue as ClaimValue}
+use Rattle.host_workers.specs.Claiming.{IsShare}
+use Rattle.host_workers.specs.Fit.{IsFit}
 use Rattle.host_workers.specs.Lost.{IsLost}
+use Rattle.host_workers.specs.declared.replies.Hearing.{Hearing}
+use Rattle.host_workers.specs.declared.worker.Worker.{Worker}
 use Rattle.host_fetch.specs.declared.error.FetchError.{FetchError}
 use Rattle.host_fetch.specs.declared.error.FetchError.TheVariants as fault
 use Rattle.host_workers.specs.Stages.{Goes, Stage, Steps, free, halting, runs}
@@ -419,3 +424,15 @@ pub stays-heard : (old new : PassValue) (place : ℕ) (answer : Result (Option D
 stays-heard old new place answer m =
     stays-one old new (heard_entry place answer) m (leaves-heard place answer) (λ name h. free-heard place answer name (IsFree old name) h)
     (steps-heard place answer) (silent-heard place answer)
+
+-- ---- a worker between calls
+
+-- it is fit after a call that leaves what it has heard, and what it claims by
+pub fit-on : (claims : ClaimsValue) (depot : Shelves) (old new : Worker) → new.hearing ≡ old.hearing → new.claimant ≡ old.claimant → IsFit claims depot old → IsFit claims depot new
+fit-on claims depot old new hearing claimant fit = record {
+  heard = subst (λ (h : Hearing). AreHeardOf depot h.heard) (sym hearing) fit.heard;
+  claims_are = claimant ∙ fit.claims_are;
+}
+
+pub share-of : (claims own : ClaimsValue) (pass : ClaimValue) → own ≡ claims → IsShare own pass → IsShare claims pass
+share-of claims own pass same is = subst (λ (c : ClaimsValue). IsShare c pass) same is

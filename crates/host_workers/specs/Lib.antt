@@ -1,6 +1,8 @@
 pub mod Lost
 pub mod Stages
+pub mod Claiming
 pub mod Finishes
+pub mod Fit
 pub mod Hears
 pub mod Stays
 pub mod Spread

@@ -4,6 +4,9 @@ use Rattle.turn_board.specs.History.{entries_by}
 use Rattle.turn_board.specs.Seats.{has_seat}
 use Rattle.world_core.specs.declared.reason.Reason.TheVariants as reason
 use Rattle.fork_board.specs.Passes.{BoardValue, HoldsNone, PassValue}
+use Rattle.page_claims.specs.Calls.{IsSamePass}
+use Rattle.page_claims.specs.Values.{ClaimsValue}
+use Rattle.host_workers.specs.Claiming.{IsShare, share}
 use Rattle.host_workers.specs.Finishes.{AreDone, Finishes, IsStopped, IsStoppedElsewhere, WorkedAll}
 use Rattle.host_workers.specs.Lost.{IsOneLost}
 use Rattle.host_workers.specs.Stages.{done, free}
@@ -28,21 +31,21 @@ finish_of (Stopped r) second = second
 -- ---- states
 
 -- the states of so many workers and one more, which are due under this number and the next ones: each but the last has a pass
--- that is split off, one after another
-unfoldable pub states_of : ℕ → PassValue → ℕ → List State
-states_of first pass zero = Due first pass ∷ []
-states_of first pass (suc k) = Due first (child pass) ∷ states_of (first + 1) (parent pass) k
+-- that is split off, one after another, and each has a share of these claims
+unfoldable pub states_of : ClaimsValue → ℕ → PassValue → ℕ → List State
+states_of claims first pass zero = Due first pass (share claims) ∷ []
+states_of claims first pass (suc k) = Due first (child pass) (share claims) ∷ states_of claims (first + 1) (parent pass) k
 
 -- the pass is of this board, and holds no machine
 pub record IsReady (board : BoardValue) (pass : PassValue) : Type 0 where
   pub of_board : pass.board ≡ board
   pub none : HoldsNone pass
 
--- the worker is to work, with a pass that is ready
-abbrev pub IsDue : BoardValue → State → Type 0
-IsDue board (Due number pass) = IsReady board pass
-IsDue board Begun = ⊥
-IsDue board (Done pass finish) = ⊥
+-- the worker is to work, with a pass that is ready, and with a share of these claims
+abbrev pub IsDue : BoardValue → ClaimsValue → State → Type 0
+IsDue board claims (Due number pass claiming) = IsReady board pass × IsShare claims claiming
+IsDue board claims Begun = ⊥
+IsDue board claims (Done pass claiming finish) = ⊥
 
 -- one worker has worked over this wire
 pub record Works {W : Type 0} (streak : W → ℕ) (wire : W) (old new : PassValue) (finish : Finish) : Type 0 where
@@ -51,13 +54,13 @@ pub record Works {W : Type 0} (streak : W → ℕ) (wire : W) (old new : PassVal
   pub end : Finishes new finish
   pub blames : Blames streak wire old new
 
--- a worker that was to work has done so, over this wire
+-- a worker that was to work has done so, over this wire, and has as large a share of the claims as before
 abbrev pub HasWorked : {W : Type 0} → (W → ℕ) → W → State → State → Type 0
-HasWorked streak wire (Due number old) (Done new finish) = Works streak wire old new finish
-HasWorked streak wire (Due number old) (Due other new) = ⊥
-HasWorked streak wire (Due number old) Begun = ⊥
+HasWorked streak wire (Due number old claiming) (Done new claimed finish) = Works streak wire old new finish × IsSamePass claiming claimed
+HasWorked streak wire (Due number old claiming) (Due other new claimed) = ⊥
+HasWorked streak wire (Due number old claiming) Begun = ⊥
 HasWorked streak wire Begun new = ⊥
-HasWorked streak wire (Done old end) new = ⊥
+HasWorked streak wire (Done old claiming end) new = ⊥
 
 -- the same of each of them, over a wire of its own
 unfoldable pub HaveWorked : {W : Type 0} → (W → ℕ) → List W → List State → List State → Type 0

@@ -1,10 +1,11 @@
 //! All workers of a board, one to a wire.
 
-ghost use Rattle.std.specs.Prelude.{◌≡◌, ◌⊎◌, ℕ, ◌+◌, ◌<◌, ◌≤◌, length, map};
+ghost use Rattle.std.specs.Prelude.{◌≡◌, ◌⊎◌, ℕ, ◌+◌, ◌-◌, ◌<◌, ◌≤◌, length, map};
 ghost use Rattle.std.specs.List.{All};
 ghost use Rattle.std.specs.Thread.{IsSend, IsSync};
 ghost use Rattle.fork_board.specs.Follows.{depot_of};
 ghost use Rattle.fork_board.specs.Passes.{HoldsNone, PassValue};
+ghost use Rattle.page_claims.specs.Calls.{IsSamePass};
 ghost use Rattle.host_workers.specs.Finishes.{AreDone, Finishes, IsStopped, IsStoppedElsewhere, WorkedAll};
 ghost use Rattle.host_workers.specs.Lost.{IsOneLost};
 ghost use Rattle.host_workers.specs.Spread.{HasWorked, HaveWorked, IsDue, WorkAll, finish_of, states_of};
@@ -17,6 +18,7 @@ use crate::worker::work;
 use arrayvec::ArrayVec;
 use fork_board::{Board, Pass};
 use image_depot::Depot;
+use page_claims::{ClaimPass, Claims};
 use std::marker::{Send, Sync};
 use std::mem;
 use std::sync::Wait;
@@ -38,17 +40,22 @@ fn finish_of(first: Finish, second: Finish) -> Finish
 }
 
 /// Lets a worker for each of the wires take machines and run them, on a thread of its own where there can be one, until
-/// the root has ended or the world was stopped. Their passes are split off from this one, and are joined to it again.
+/// the root has ended or the world was stopped. Their passes, by which they enter turns and claim pages, are split off from
+/// these, and are joined to them again.
 /// The workers have the numbers from 0 on at the gate.
 pub fn run_hosts<R: AllocGlobal + Threads + Wait + Sync, W: Wire + Send, G: Gate + Sync>(
     rt: &R,
     board: &Board,
     pass: Pass,
+    claims: &Claims,
+    claiming: ClaimPass,
     depot: &Depot,
     wires: &mut [W],
     settings: &Settings<G>,
-) -> (Pass, Finish)
+) -> (Pass, ClaimPass, Finish)
     requires board { pass.board ≡ board.now }
+    requires claims { claiming.table ≡ claims.now.table }
+    requires shares { length wires.old < claiming.parts }
     requires depot { depot_of board.now.opening ≡ depot.now }
     requires none { HoldsNone pass }
     requires wires { (1 ≤ length wires.old) × (length wires.old ≤ MAX_WORKERS) }
@@ -56,23 +63,26 @@ pub fn run_hosts<R: AllocGlobal + Threads + Wait + Sync, W: Wire + Send, G: Gate
     requires splits { pass.splits + length wires.old ≤ 65535 }
     ensures worked { WorkedAll pass result.0 }
     ensures none { HoldsNone result.0 }
-    ensures finish { Finishes result.0 result.1 }
+    ensures claims { IsSamePass claiming result.1 }
+    ensures finish { Finishes result.0 result.2 }
     ensures done { AreDone (length wires.new) pass result.0 }
-    ensures wire { result.1 ≡ Finish.Stopped Reason.Wire → IsOneLost W.streak wires.new ⊎ (IsStopped pass ⊎ IsStoppedElsewhere pass result.0) }
+    ensures wire { result.2 ≡ Finish.Stopped Reason.Wire → IsOneLost W.streak wires.new ⊎ (IsStopped pass ⊎ IsStoppedElsewhere pass result.0) }
     ensures seeds { map W.seeds wires.new ≡ map W.seeds wires.old }
     ensures len { length wires.new ≡ length wires.old }
 {
     let shared = Shared {
         board,
+        claims,
         depot,
         settings,
         lookout: Lookout::new(wires.len(), processors(rt, wires.len())),
         alloc: rt.alloc(),
     };
-    let mut dealt = deal(board, pass, wires.len());
+    let (claiming, mut dealt) = deal(board, pass, claims, claiming, wires.len());
     let states = dealt.as_mut_slice();
     work_all(rt, &shared, states, wires);
-    gather(board, states, wires)
+    let (pass, claimed, finish) = gather(board, claims, states, wires);
+    (pass, claims.join(claiming, claimed), finish)
 }
 
 /// How many workers may run at once, of so many. One has no use for the answer, which is read from files of the system.
@@ -86,26 +96,40 @@ fn processors<R: Threads>(rt: &R, workers: usize) -> usize {
     }
 }
 
-/// The states of so many workers. Each of these but the last has a pass that is split off.
-fn deal(board: &Board, pass: Pass, count: usize) -> ArrayVec<State, MAX_WORKERS>
+/// The states of so many workers, and what is left of the pass to claim by. Each has a pass that is split off from that one, and
+/// each but the last one that is split off from the other.
+fn deal(
+    board: &Board,
+    pass: Pass,
+    claims: &Claims,
+    claiming: ClaimPass,
+    count: usize,
+) -> (ClaimPass, ArrayVec<State, MAX_WORKERS>)
     requires board { pass.board ≡ board.now }
+    requires claims { claiming.table ≡ claims.now.table }
+    requires shares { count < claiming.parts }
     requires parts { length pass.number < 3 }
     requires splits { pass.splits + count ≤ 65535 }
     requires none { HoldsNone pass }
     requires count { (1 ≤ count) × (count ≤ MAX_WORKERS) }
-    ensures states { (k : ℕ) → count ≡ k + 1 → result.items ≡ states_of 0 pass k }
-    ensures due { All (IsDue board.now) result.items }
-    ensures len { length result.items ≡ count }
+    ensures states { (k : ℕ) → count ≡ k + 1 → result.1.items ≡ states_of claims.now 0 pass k }
+    ensures due { All (IsDue board.now claims.now) result.1.items }
+    ensures len { length result.1.items ≡ count }
+    ensures left { result.0 ≡ record claiming { parts = claiming.parts - count } }
 {
     let mut pass = pass;
+    let mut claiming = claiming;
     let mut states = ArrayVec::new();
     for number in 0..count - 1 {
         let (rest, split) = board.split(pass);
-        states.push(State::Due(number as u32, split));
+        let (left, share) = claims.split(claiming);
+        states.push(State::Due(number as u32, split, share));
         pass = rest;
+        claiming = left;
     }
-    states.push(State::Due((count - 1) as u32, pass));
-    states
+    let (left, share) = claims.split(claiming);
+    states.push(State::Due((count - 1) as u32, pass, share));
+    (left, states)
 }
 
 /// Lets the workers work, each from its state on and over its wire. They are halved again and again, and one half goes to
@@ -117,7 +141,7 @@ fn work_all<R: Threads + Wait + Sync, W: Wire + Send, G: Gate + Sync>(
     states: &mut [State],
     wires: &mut [W],
 )
-    requires due { All (IsDue shared.now.board.now) states.old }
+    requires due { All (IsDue shared.now.board.now shared.now.claims.now) states.old }
     requires each { length states.old ≡ length wires.old }
     requires some { 1 ≤ length wires.old }
     ensures worked { HaveWorked W.streak wires.new states.old states.new }
@@ -145,20 +169,20 @@ fn work_halves<R: Threads + Wait + Sync, W: Wire + Send, G: Gate + Sync>(
     there: &mut [W],
 )
     requires crosses { IsSync R.row × IsSend W.row × IsSync G.row }
-    requires first { All (IsDue shared.now.board.now) first.old × (length first.old ≡ length here.old) × (1 ≤ length here.old) }
-    requires second { All (IsDue shared.now.board.now) second.old × (length second.old ≡ length there.old) × (1 ≤ length there.old) }
+    requires first { All (IsDue shared.now.board.now shared.now.claims.now) first.old × (length first.old ≡ length here.old) × (1 ≤ length here.old) }
+    requires second { All (IsDue shared.now.board.now shared.now.claims.now) second.old × (length second.old ≡ length there.old) × (1 ≤ length there.old) }
     ensures first { HaveWorked W.streak here.new first.old first.new × (length here.new ≡ length here.old) × (map W.seeds here.new ≡ map W.seeds here.old) }
     ensures second { HaveWorked W.streak there.new second.old second.new × (length there.new ≡ length there.old) × (map W.seeds there.new ≡ map W.seeds there.old) }
 {
     let mut front = move ||
         requires { IsSync R.row × IsSend W.row × IsSync G.row
-            × All (IsDue shared.now.board.now) first.now × (length first.now ≡ length here.now) × (1 ≤ length here.now) }
+            × All (IsDue shared.now.board.now shared.now.claims.now) first.now × (length first.now ≡ length here.now) × (1 ≤ length here.now) }
         ensures { HaveWorked W.streak here.exit.now first.entry.now first.exit.now × (length here.exit.now ≡ length here.entry.now)
             × (map W.seeds here.exit.now ≡ map W.seeds here.entry.now) }
     { work_all(rt, shared, first, here) };
     let mut back = move ||
         requires { IsSync R.row × IsSend W.row × IsSync G.row
-            × All (IsDue shared.now.board.now) second.now × (length second.now ≡ length there.now) × (1 ≤ length there.now) }
+            × All (IsDue shared.now.board.now shared.now.claims.now) second.now × (length second.now ≡ length there.now) × (1 ≤ length there.now) }
         ensures { HaveWorked W.streak there.exit.now second.entry.now second.exit.now × (length there.exit.now ≡ length there.entry.now)
             × (map W.seeds there.exit.now ≡ map W.seeds there.entry.now) }
     { work_all(rt, shared, second, there) };
@@ -167,26 +191,33 @@ fn work_halves<R: Threads + Wait + Sync, W: Wire + Send, G: Gate + Sync>(
 
 /// Lets one worker work.
 fn work_in<R: Wait, W: Wire, G: Gate>(rt: &R, shared: &Shared<G>, state: &mut State, wire: &mut W)
-    requires { IsDue shared.now.board.now state.old }
+    requires { IsDue shared.now.board.now shared.now.claims.now state.old }
     ensures worked { HasWorked W.streak wire.new state.old state.new }
     ensures seeds { W.seeds wire.new ≡ W.seeds wire.old }
 {
-    let State::Due(number, pass) = mem::replace(state, State::Begun) else {
+    let State::Due(number, pass, claiming) = mem::replace(state, State::Begun) else {
         unreachable!()
     };
-    let (pass, finish) = work(rt, shared, number, pass, wire);
-    *state = State::Done(pass, finish);
+    let (pass, claiming, finish) = work(rt, shared, number, pass, claiming, wire);
+    *state = State::Done(pass, claiming, finish);
 }
 
 /// Joins the passes of all workers again, and tells how their work ended.
 #[cycle(gather)]
-fn gather<W: Wire>(board: &Board, states: &mut [State], wires: &[W]) -> (Pass, Finish)
+fn gather<W: Wire>(
+    board: &Board,
+    claims: &Claims,
+    states: &mut [State],
+    wires: &[W],
+) -> (Pass, ClaimPass, Finish)
     requires some { 1 ≤ length wires.now }
     requires each { length states.old ≡ length wires.now }
     requires worked { (first : ℕ) × (pass : PassValue) × (k : ℕ) × (pass.board ≡ board.now) × (length wires.now ≡ k + 1)
-        × HaveWorked W.streak wires.now (states_of first pass k) states.old }
-    ensures { (first : ℕ) (pass : PassValue) (k : ℕ) → length wires.now ≡ k + 1 → HaveWorked W.streak wires.now (states_of first pass k) states.old
-        → WorkAll W.streak wires.now pass result.0 result.1 }
+        × HaveWorked W.streak wires.now (states_of claims.now first pass k) states.old }
+    ensures worked { (first : ℕ) (pass : PassValue) (k : ℕ) → length wires.now ≡ k + 1 → HaveWorked W.streak wires.now (states_of claims.now first pass k) states.old
+        → WorkAll W.streak wires.now pass result.0 result.2 }
+    ensures claims { result.1.table ≡ claims.now.table }
+    ensures parts { result.1.parts ≡ length wires.now }
 {
     let Some((state, states)) = states.split_first_mut() else {
         unreachable!()
@@ -194,12 +225,13 @@ fn gather<W: Wire>(board: &Board, states: &mut [State], wires: &[W]) -> (Pass, F
     let Some((_, wires)) = wires.split_first() else {
         unreachable!()
     };
-    let State::Done(split, one) = mem::replace(state, State::Begun) else {
+    let State::Done(split, share, one) = mem::replace(state, State::Begun) else {
         unreachable!()
     };
     if wires.is_empty() {
-        return (split, one);
+        return (split, share, one);
     }
-    let (pass, all) = gather(board, states, wires);
-    (board.join_pass(pass, split), finish_of(one, all))
+    let (pass, claiming, all) = gather(board, claims, states, wires);
+    let pass = board.join_pass(pass, split);
+    (pass, claims.join(claiming, share), finish_of(one, all))
 }

@@ -1,6 +1,7 @@
 //! Workers that run one family on one board: each has a wire, and a thread of its own where there can be one.
 #![tactic(auto)]
 
+mod claimant;
 mod finish;
 mod gate;
 mod hosts;

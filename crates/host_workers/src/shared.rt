@@ -9,6 +9,7 @@ use crate::lookout::Lookout;
 use fork_board::{Board, Pass};
 use host_fetch::MAX_AHEAD;
 use image_depot::Depot;
+use page_claims::{ClaimPass, Claims};
 use std::alloc::Global;
 use std::default::Default;
 
@@ -28,6 +29,7 @@ pub struct Settings<G> {
 #[derive(Drop)]
 pub(crate) struct Shared<'a, G> {
     pub(crate) board: &'a Board,
+    pub(crate) claims: &'a Claims,
     pub(crate) depot: &'a Depot,
     pub(crate) settings: &'a Settings<G>,
     pub(crate) lookout: Lookout,
@@ -38,12 +40,12 @@ pub(crate) struct Shared<'a, G> {
 /// How far a worker is.
 #[derive(Drop)]
 pub(crate) enum State {
-    /// It is to work, under this number and with this pass.
-    Due(u32, Pass),
+    /// It is to work, under this number, with a pass to enter turns by and one to claim pages by.
+    Due(u32, Pass, ClaimPass),
     /// It works.
     Begun,
-    /// It has worked, with this pass, to this end.
-    Done(Pass, Finish),
+    /// It has worked, with these passes, to this end.
+    Done(Pass, ClaimPass, Finish),
 }
 
 impl Default for State {

@@ -1,25 +1,26 @@
 //! How a worker runs a machine that it holds.
 
 ghost use Rattle.std.specs.Prelude.{◌≡◌, IfErr};
-ghost use Rattle.host_fetch.specs.Heard.{AreHeardOf};
 ghost use Rattle.world_core.specs.Answers.{IsLentOf};
 ghost use Rattle.world_core.specs.Lent.{IsSameLease};
+ghost use Rattle.host_workers.specs.Fit.{IsFit};
 ghost use Rattle.host_workers.specs.Lost.{IsLost};
 ghost use Rattle.host_workers.specs.Stays.{Stays};
 
+use crate::claimant::Claimant;
 use crate::lookout::Lookout;
 use crate::replies::tell_all;
 use crate::shared::Shared;
 use crate::worker::Worker;
 use fork_board::Pass;
-use host_fetch::{FetchError, fetch, offer};
+use host_fetch::{FetchError, offer};
 use std::alloc::AllocError;
 use std::sync::Wait;
 use vm_cell::Stepped;
 use wire_fates::Wire;
 use world_core::Lease;
 
-impl Worker {
+impl Worker<'_> {
     /// Runs a machine to its end or to a call, or until there is nothing more to be done after a stretch.
     pub(crate) fn run_on<R: Wait, W: Wire, G>(
         &mut self,
@@ -31,10 +32,10 @@ impl Worker {
     ) -> (Pass, Result<(), FetchError>)
         requires board { pass.board ≡ shared.now.board.now }
         requires of_depot { IsLentOf shared.now.depot.now lease.old }
-        requires heard { AreHeardOf shared.now.depot.now self.old.hearing.heard }
+        requires fit { IsFit shared.now.claims.now shared.now.depot.now self.old }
         ensures same { IsSameLease lease.old lease.new }
         ensures stays { Stays pass result.0 }
-        ensures heard { AreHeardOf shared.now.depot.now self.new.hearing.heard }
+        ensures fit { IsFit shared.now.claims.now shared.now.depot.now self.new }
         ensures wire { IfErr result.1 (λ error. error ≡ FetchError.Wire → IsLost W.streak wire.new) }
         ensures seeds { W.seeds wire.new ≡ W.seeds wire.old }
     {
@@ -56,7 +57,8 @@ impl Worker {
 
     /// After a stretch that its machine made whole. Where the run has come to be long, others look for machines.
     fn look_up(&mut self, lookout: &Lookout)
-        ensures { self.new.hearing ≡ self.old.hearing }
+        ensures hearing { self.new.hearing ≡ self.old.hearing }
+        ensures claims { self.new.claimant ≡ self.old.claimant }
     {
         let was_long = self.pace.is_long();
         self.pace.lengthen();
@@ -80,10 +82,10 @@ impl Worker {
     ) -> (Pass, Result<Stepped, FetchError>)
         requires board { pass.board ≡ shared.now.board.now }
         requires of_depot { IsLentOf shared.now.depot.now lease.old }
-        requires heard { AreHeardOf shared.now.depot.now self.old.hearing.heard }
+        requires fit { IsFit shared.now.claims.now shared.now.depot.now self.old }
         ensures same { IsSameLease lease.old lease.new }
         ensures stays { Stays pass result.0 }
-        ensures heard { AreHeardOf shared.now.depot.now self.new.hearing.heard }
+        ensures fit { IsFit shared.now.claims.now shared.now.depot.now self.new }
         ensures wire { IfErr result.1 (λ error. error ≡ FetchError.Wire → IsLost W.streak wire.new) }
         ensures seeds { W.seeds wire.new ≡ W.seeds wire.old }
     {
@@ -107,7 +109,7 @@ impl Worker {
     }
 
     /// Brings the page at which a machine stalls: from what was heard before, or from what was told since, if anything was.
-    /// Else it comes over the wire, and all that was asked for is told.
+    /// Else it comes over the wire, and all that was pushed is told.
     fn bring<R: Wait, W: Wire, G>(
         &mut self,
         rt: &R,
@@ -118,10 +120,10 @@ impl Worker {
     ) -> (Pass, Result<(), FetchError>)
         requires board { pass.board ≡ shared.now.board.now }
         requires of_depot { IsLentOf shared.now.depot.now lease.old }
-        requires heard { AreHeardOf shared.now.depot.now self.old.hearing.heard }
+        requires fit { IsFit shared.now.claims.now shared.now.depot.now self.old }
         ensures same { IsSameLease lease.old lease.new }
         ensures stays { Stays pass result.0 }
-        ensures heard { AreHeardOf shared.now.depot.now self.new.hearing.heard }
+        ensures fit { IsFit shared.now.claims.now shared.now.depot.now self.new }
         ensures wire { IfErr result.1 (λ error. error ≡ FetchError.Wire → IsLost W.streak wire.new) }
         ensures seeds { W.seeds wire.new ≡ W.seeds wire.old }
     {
@@ -133,7 +135,7 @@ impl Worker {
         let (pass, offered) = self.hear_and_offer(rt, shared, pass, lease);
         match offered {
             Ok(true) => (pass, Ok(())),
-            Ok(false) => fetch_and_tell(rt, shared, pass, lease, wire),
+            Ok(false) => fetch_and_tell(rt, shared, pass, lease, wire, &mut self.claimant),
             Err(_) => (pass, Err(FetchError::Memory)),
         }
     }
@@ -149,10 +151,10 @@ impl Worker {
     ) -> (Pass, Result<bool, AllocError>)
         requires board { pass.board ≡ shared.now.board.now }
         requires of_depot { IsLentOf shared.now.depot.now lease.old }
-        requires heard { AreHeardOf shared.now.depot.now self.old.hearing.heard }
+        requires fit { IsFit shared.now.claims.now shared.now.depot.now self.old }
         ensures same { IsSameLease lease.old lease.new }
         ensures stays { Stays pass result.0 }
-        ensures heard { AreHeardOf shared.now.depot.now self.new.hearing.heard }
+        ensures fit { IsFit shared.now.claims.now shared.now.depot.now self.new }
     {
         let told = shared.lookout.told();
         if told == self.told {
@@ -168,32 +170,25 @@ impl Worker {
     }
 }
 
-/// Fetches the page at which a machine stalls over the wire, and tells all that was asked for.
+/// Fetches the page at which a machine stalls over the wire, and tells all that was pushed.
 fn fetch_and_tell<R: Wait, W: Wire, G>(
     rt: &R,
     shared: &Shared<G>,
     pass: Pass,
     lease: &mut Lease,
     wire: &mut W,
+    claimant: &mut Claimant<'_>,
 ) -> (Pass, Result<(), FetchError>)
     requires board { pass.board ≡ shared.now.board.now }
     requires of_depot { IsLentOf shared.now.depot.now lease.old }
+    ensures claims { claimant.new ≡ claimant.old }
     ensures same { IsSameLease lease.old lease.new }
     ensures stays { Stays pass result.0 }
     ensures wire { IfErr result.1 (λ error. error ≡ FetchError.Wire → IsLost W.streak wire.new) }
     ensures seeds { W.seeds wire.new ≡ W.seeds wire.old }
 {
-    let ahead = shared.settings.ahead;
     let mut pushed = Vec::new(shared.alloc);
-    if let Err(error) = fetch(
-        rt,
-        shared.alloc,
-        lease,
-        shared.depot,
-        wire,
-        ahead,
-        &mut pushed,
-    ) {
+    if let Err(error) = claimant.fetch(rt, shared, lease, wire, &mut pushed) {
         return (pass, Err(error));
     }
     match tell_all(rt, shared.board, pass, &pushed) {

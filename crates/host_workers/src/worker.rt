@@ -1,14 +1,16 @@
 //! A worker: it takes machines out of the world of a board, runs them, and hands them back.
 
 ghost use Rattle.std.specs.Prelude.{◌≡◌, ◌≢◌, ◌⊎◌, []};
-ghost use Rattle.host_fetch.specs.Heard.{AreHeardOf};
 ghost use Rattle.fork_board.specs.Holds.{HoldsOne, HoldsPlaced};
 ghost use Rattle.fork_board.specs.Passes.{HoldsNone};
+ghost use Rattle.host_workers.specs.Claiming.{IsShare};
 ghost use Rattle.host_workers.specs.Finishes.{Finishes, IsStopped, IsStoppedBy};
+ghost use Rattle.host_workers.specs.Fit.{IsFit};
 ghost use Rattle.host_workers.specs.Lost.{IsLost};
 ghost use Rattle.host_workers.specs.Stages.{Halts, Stage, done, free, halting, runs};
 ghost use Rattle.host_workers.specs.Stays.{Blames, GoesBackStopped, Spares, Turns, Worked, reason_for, stage_placed, stage_turned};
 
+use crate::claimant::Claimant;
 use crate::finish::Finish;
 use crate::gate::{Gate, Point};
 use crate::lookout::Lookout;
@@ -18,6 +20,7 @@ use crate::shared::Shared;
 use fork_board::Pass;
 use fork_port::Call;
 use host_fetch::FetchError;
+use page_claims::ClaimPass;
 use std::alloc::Global;
 use std::sync::Wait;
 use vm_cell::Slots;
@@ -26,7 +29,7 @@ use world_core::{Lease, Placed, Reason, Taken};
 
 /// What a worker has by itself.
 #[derive(Drop)]
-pub(crate) struct Worker {
+pub(crate) struct Worker<'a> {
     number: u32,
     pub(crate) pace: Pace,
     pub(crate) hearing: Hearing,
@@ -34,6 +37,8 @@ pub(crate) struct Worker {
     pub(crate) told: u64,
     /// Where the machines that it runs keep instructions.
     pub(crate) slots: Slots,
+    /// What it claims pages by.
+    pub(crate) claimant: Claimant<'a>,
 }
 
 /// What came of a worker's turn.
@@ -51,17 +56,22 @@ pub(crate) fn work<R: Wait, W: Wire, G: Gate>(
     shared: &Shared<G>,
     number: u32,
     pass: Pass,
+    claiming: ClaimPass,
     wire: &mut W,
-) -> (Pass, Finish)
+) -> (Pass, ClaimPass, Finish)
     requires board { pass.board ≡ shared.now.board.now }
     requires none { HoldsNone pass }
+    requires share { IsShare shared.now.claims.now claiming }
     ensures worked { Worked free done pass result.0 }
     ensures none { HoldsNone result.0 }
-    ensures finish { Finishes result.0 result.1 }
+    ensures share { IsShare shared.now.claims.now result.1 }
+    ensures finish { Finishes result.0 result.2 }
     ensures wire { IsStoppedBy result.0.number Reason.Wire result.0 → IsLost W.streak wire.new ⊎ IsStopped pass }
     ensures seeds { W.seeds wire.new ≡ W.seeds wire.old }
 {
-    let mut worker = Worker::new(shared.alloc, number, u64::from(shared.settings.slice));
+    let claimant = Claimant::new(shared.claims, claiming);
+    let slice = u64::from(shared.settings.slice);
+    let mut worker = Worker::new(shared.alloc, number, slice, claimant);
     let mut pass = pass;
     if number > 0 {
         shared.lookout.sleep(rt);
@@ -74,7 +84,7 @@ pub(crate) fn work<R: Wait, W: Wire, G: Gate>(
             Turned::Finished(finish) => {
                 shared.lookout.end();
                 shared.settings.gate.at(rt, number, Point::Done);
-                return (pass, finish);
+                return (pass, worker.into_claimant().into_pass(), finish);
             }
             Turned::Idle => {
                 shared.settings.gate.at(rt, number, Point::Idle);
@@ -86,10 +96,11 @@ pub(crate) fn work<R: Wait, W: Wire, G: Gate>(
     unreachable!()
 }
 
-impl Worker {
+impl<'a> Worker<'a> {
     /// A worker that has heard nothing.
-    fn new(alloc: Global, number: u32, slice: u64) -> Worker
-        ensures { result.hearing.heard ≡ [] }
+    fn new(alloc: Global, number: u32, slice: u64, claimant: Claimant<'a>) -> Worker<'a>
+        ensures heard { result.hearing.heard ≡ [] }
+        ensures claims { result.claimant ≡ claimant.entry }
     {
         Worker {
             number,
@@ -97,12 +108,21 @@ impl Worker {
             hearing: Hearing::new(alloc),
             told: u64::MAX,
             slots: Slots::new(alloc),
+            claimant,
         }
+    }
+
+    /// What it claims pages by. All else of it is let go.
+    fn into_claimant(self) -> Claimant<'a>
+        ensures { result ≡ self.entry.claimant }
+    {
+        self.claimant
     }
 
     /// It handed its machine back.
     fn come_back<R: Wait>(&mut self, rt: &R, lookout: &Lookout)
-        ensures { self.new.hearing ≡ self.old.hearing }
+        ensures hearing { self.new.hearing ≡ self.old.hearing }
+        ensures claims { self.new.claimant ≡ self.old.claimant }
     {
         let was_long = self.pace.is_long();
         self.pace.begin_anew();
@@ -119,11 +139,11 @@ impl Worker {
     ) -> (Pass, Turned)
         requires board { pass.board ≡ shared.now.board.now }
         requires none { HoldsNone pass }
-        requires heard { AreHeardOf shared.now.depot.now self.old.hearing.heard }
+        requires fit { IsFit shared.now.claims.now shared.now.depot.now self.old }
         ensures worked { Worked free (stage_turned result.1) pass result.0 }
         ensures none { HoldsNone result.0 }
         ensures turns { Turns result.0 result.1 }
-        ensures heard { AreHeardOf shared.now.depot.now self.new.hearing.heard }
+        ensures fit { IsFit shared.now.claims.now shared.now.depot.now self.new }
         ensures wire { Blames W.streak wire.new pass result.0 }
         ensures seeds { W.seeds wire.new ≡ W.seeds wire.old }
         ensures stopped { IsStopped pass → wire.new ≡ wire.old }
@@ -154,10 +174,10 @@ impl Worker {
     ) -> Pass
         requires board { pass.board ≡ shared.now.board.now }
         requires one { HoldsOne pass lease }
-        requires heard { AreHeardOf shared.now.depot.now self.old.hearing.heard }
+        requires fit { IsFit shared.now.claims.now shared.now.depot.now self.old }
         ensures worked { Worked runs free pass result }
         ensures none { HoldsNone result }
-        ensures heard { AreHeardOf shared.now.depot.now self.new.hearing.heard }
+        ensures fit { IsFit shared.now.claims.now shared.now.depot.now self.new }
         ensures wire { Blames W.streak wire.new pass result }
         ensures seeds { W.seeds wire.new ≡ W.seeds wire.old }
     {

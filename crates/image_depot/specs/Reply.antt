@@ -3,6 +3,7 @@ use Rattle.std.specs.Prelude.{◌≡◌, ℕ, ◌-◌, ◌*◌, ◌<◌, nat_lt,
 use Rattle.boxcar.specs.Table.{Where, Shows}
 use Rattle.fetch_proto.specs.Frame.{frame}
 use Rattle.fetch_proto.specs.Number.{page_number}
+use Rattle.page_claims.specs.Values.{PageName}
 use Rattle.page_frames.specs.declared.page.TheConstants.{PAGE_SIZE}
 use Rattle.cow_disk.specs.Paged.{disk_page}
 use Rattle.image_depot.specs.Image.{FrozenImage, page_count, place_count}
@@ -33,6 +34,11 @@ reply_bytes reply = frame_of reply.key reply.page
 pub record IsParcel (key : Key) (place : ℕ) (bytes : List ℕ) : Type 0 where
   pub there : place < place_count (image_of key)
   pub is : bytes ≡ frame_of key place
+
+-- the reply is of the page that was claimed: the one at this place of the image with this number
+pub record IsClaimOf (reply : Reply) (first : PageName) : Type 0 where
+  pub image : first.image ≡ number_of reply.key
+  pub page : first.page ≡ reply.page
 
 -- where a depot keeps a reply, and the reply itself
 abbrev pub Delivery : Type 0

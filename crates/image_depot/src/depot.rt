@@ -3,7 +3,7 @@ ghost use Rattle.cow_disk.specs.Paged.{disk_page, disk_pages};
 ghost use Rattle.fetch_proto.specs.Frame.{frame};
 ghost use Rattle.image_depot.specs.Image.{page_count, place_count};
 ghost use Rattle.image_depot.specs.Key.{number_of, image_of, IsKeyOf};
-ghost use Rattle.image_depot.specs.Reply.{frame_of, reply_of, IsSentOf};
+ghost use Rattle.image_depot.specs.Reply.{frame_of, reply_of, IsClaimOf, IsSentOf};
 
 use crate::frozen::Frozen;
 use crate::key::ImageKey;
@@ -13,6 +13,7 @@ use boxcar::Pushed;
 use cow_disk::{MAX_SECTORS, PAGE_SECTORS};
 use elf_load::MAX_PAGES;
 use fetch_proto::{encode_reply, page_number};
+use page_claims::First;
 use page_frames::PAGE_SIZE;
 use std::alloc::{AllocError, Global};
 use std::marker::Model;
@@ -149,18 +150,18 @@ impl Depot {
         disk_frame(self.alloc, key.number(), number, image, place - pages)
     }
 
-    /// Keeps a parcel. It may wait for another thread that keeps one.
-    pub fn push<R: Wait>(&self, rt: &R, parcel: Parcel) -> Result<Sent, AllocError>
-        requires { IsKeyOf self.now parcel.key }
+    /// Keeps a parcel, by the first claim of its page. The claim is spent, also where memory is wanting: so what is claimed at
+    /// one place is kept once at most. It may wait for another thread that keeps one.
+    pub fn push<R: Wait>(&self, rt: &R, first: First, parcel: Parcel) -> Result<Sent, AllocError>
+        requires of_depot { IsKeyOf self.now parcel.key }
+        requires claimed { IsClaimOf parcel first }
         ensures here { IfOk result (λ sent. IsSentOf self.now sent) }
         ensures value { IfOk result (λ sent. reply_of sent ≡ parcel) }
     {
-        let image = parcel.key().number();
-        let page = parcel.page();
         let Ok(token) = self.replies.push_shown(rt, parcel) else {
             return Err(AllocError);
         };
-        Sent::of_token(self.alloc, token, image, page)
+        Sent::of_token(self.alloc, token, first.image(), first.page())
     }
 
     /// The parcel that was pushed. No later call changes it, and it takes no memory.

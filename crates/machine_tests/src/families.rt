@@ -11,6 +11,7 @@ use crate::guests::{TWO_CHILDREN, booted};
 use fork_board::{Board, Pass};
 use host_workers::{Finish, Gate, MAX_WORKERS, OpenGate, Settings, run_hosts};
 use image_depot::{Depot, Sent};
+use page_claims::Claims;
 use run_report::Outcome;
 use std::alloc::{AllocError, Global};
 use std::marker::{Send, Sync};
@@ -33,7 +34,7 @@ pub struct Ended {
 }
 
 /// The board of the family of the machine of these words, and the one pass to it.
-fn board_of(
+pub(crate) fn board_of(
     rt: &impl Abort,
     alloc: Global,
     words: &[u32],
@@ -64,7 +65,7 @@ fn board_of_machine(alloc: Global, vm: Vm, depot: &Depot) -> Result<(Board, Pass
 }
 
 /// A gate that holds nobody, slices of so many steps, and so many pages more with a wanted one.
-fn ungated(slice: u32, ahead: u32) -> Settings<OpenGate>
+pub(crate) fn ungated(slice: u32, ahead: u32) -> Settings<OpenGate>
     requires { ahead ≤ 16 }
 {
     Settings {
@@ -75,7 +76,7 @@ fn ungated(slice: u32, ahead: u32) -> Settings<OpenGate>
 }
 
 /// Lets a worker for each wire run the family of a board, of which nobody holds a machine.
-fn run_family<R: AllocGlobal + Threads + Wait + Sync, W: Wire + Send, G: Gate + Sync>(
+fn run_family<R: AllocGlobal + Threads + Wait + Abort + Sync, W: Wire + Send, G: Gate + Sync>(
     rt: &R,
     board: &Board,
     pass: Pass,
@@ -91,7 +92,9 @@ fn run_family<R: AllocGlobal + Threads + Wait + Sync, W: Wire + Send, G: Gate + 
     requires splits { pass.splits ≡ 0 }
     ensures { result.0.board ≡ board.now }
 {
-    run_hosts(rt, board, pass, depot, wires, settings)
+    let (claims, claiming) = succeeds(rt, Claims::new(rt.alloc(), 256, 64, 8));
+    let (pass, _, finish) = run_hosts(rt, board, pass, &claims, claiming, depot, wires, settings);
+    (pass, finish)
 }
 
 /// Ends a board. The outcome of its family, once its root has ended.
@@ -129,7 +132,7 @@ pub fn end_over<R: AllocGlobal + Threads + Wait + Abort + Sync, W: Wire + Send, 
 }
 
 /// So many wires, each of a seed of its own.
-fn seeded(alloc: Global, count: u32) -> Result<Vec<Seeded>, AllocError>
+pub(crate) fn seeded(alloc: Global, count: u32) -> Result<Vec<Seeded>, AllocError>
     ensures { IfOk result (λ wires. length wires.items ≡ count) }
 {
     let mut wires = Vec::new(alloc);

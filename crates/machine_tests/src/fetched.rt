@@ -7,6 +7,7 @@ use crate::equal::{are_equal, succeeds};
 use elf_load::RAM_BASE;
 use host_fetch::fetch;
 use image_depot::Depot;
+use page_claims::Claims;
 use std::alloc::Global;
 use std::process::Abort;
 use std::sync::Wait;
@@ -37,7 +38,10 @@ pub(crate) fn fetches_two<R: Abort + Wait>(rt: &R, alloc: Global, child: &mut Vm
     let mut wire = Scripted::new(succeeds(rt, fates));
     let mut told = Vec::new(alloc);
     let before = first_here(child);
-    let answer = fetch(rt, alloc, child, depot, &mut wire, 1, &mut told);
+    let (claims, claiming) = succeeds(rt, Claims::new(alloc, 8, 16, 0));
+    let (_, answer) = fetch(
+        rt, alloc, child, depot, &mut wire, 1, &claims, claiming, &mut told,
+    );
     let fetched = (before, answer, first_here(child), told.len());
     let want = ([false, false, true], Ok(()), [true, true, true], 2);
     are_equal(rt, &fetched, &want);

@@ -16,6 +16,8 @@ mod families;
 #[cfg(test)]
 mod fetched;
 #[cfg(test)]
+mod firsts;
+#[cfg(test)]
 mod guests;
 #[cfg(test)]
 mod machine;

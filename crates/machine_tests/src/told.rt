@@ -6,6 +6,7 @@ use crate::machine::run_and_fork;
 use crate::worlds::{Deed, does};
 use elf_load::RAM_BASE;
 use image_depot::{Depot, Sent};
+use page_claims::{Claimed, Claims};
 use std::alloc::Global;
 use std::process::Abort;
 use std::sync::Wait;
@@ -17,7 +18,12 @@ fn reply<R: Abort + Wait>(rt: &R, alloc: Global, depot: &Depot) -> Sent {
     let brood = run_and_fork(rt, alloc, &mut vm, 2, depot);
     assert!(rt; depot.pages(&brood.key) > 0);
     let parcel = succeeds(rt, depot.answer(&brood.key, 0));
-    succeeds(rt, depot.push(rt, parcel))
+    let (claims, claiming) = succeeds(rt, Claims::new(alloc, 1, 16, 0));
+    let (_, claimed) = claims.claim(claiming, brood.key.number(), 0);
+    match claimed {
+        Claimed::First(first) => succeeds(rt, depot.push(rt, first, parcel)),
+        Claimed::Repeat | Claimed::Outside => panic!(rt; "the first claim"),
+    }
 }
 
 #[test]

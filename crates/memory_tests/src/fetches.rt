@@ -7,6 +7,7 @@ use crate::guests::{bare_clone, booted, frozen};
 use crate::waiting::Guest;
 use host_fetch::{FetchError, fetch};
 use image_depot::Depot;
+use page_claims::Claims;
 use std::alloc::Global;
 use std::process::Abort;
 use std::sync::Wait;
@@ -28,7 +29,7 @@ fn waiting_clone<R: Abort + Wait>(rt: &R, alloc: Global, depot: &Depot) -> Guest
 type Fetched = (Option<FetchError>, [bool; 3], usize);
 
 /// The same of a clone, over a wire.
-fn fetched_by<R: Wait>(
+fn fetched_by<R: Abort + Wait>(
     rt: &R,
     alloc: Global,
     guest: &mut Guest,
@@ -38,8 +39,11 @@ fn fetched_by<R: Wait>(
     requires { IsRamOf depot.now guest.old.memory }
 {
     let mut told = Vec::new(alloc);
-    let answer = fetch(rt, alloc, guest, depot, wire, 1, &mut told).err();
-    (answer, first_here(guest), told.len())
+    let (claims, claiming) = succeeds(rt, Claims::new(alloc, 1, 16, 0));
+    let (_, answer) = fetch(
+        rt, alloc, guest, depot, wire, 1, &claims, claiming, &mut told,
+    );
+    (answer.err(), first_here(guest), told.len())
 }
 
 /// The same of a clone that is made in a depot of its own, over a wire of these fates.

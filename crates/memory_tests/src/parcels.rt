@@ -8,6 +8,7 @@ ghost use Rattle.image_depot.specs.Reply.{IsSentOf};
 use crate::depots::frozen;
 use crate::equal::{are_equal, succeeds};
 use image_depot::{Depot, ImageKey, Parcel, Sent};
+use page_claims::{Claimed, Claims, First};
 use std::alloc::Global;
 use std::process::Abort;
 use std::sync::Wait;
@@ -17,7 +18,7 @@ use std::thread::Threads;
 /// The reply that carries a page of an image, if the image has the page: one of RAM, or behind those one of the disk.
 fn answered(depot: &Depot, key: &ImageKey, page: u32) -> Option<Parcel>
     requires { IsKeyOf depot.now key.now }
-    ensures { IfSome result (λ parcel. parcel.key ≡ key.now) }
+    ensures { IfSome result (λ parcel. (parcel.key ≡ key.now) × (parcel.page ≡ page)) }
 {
     if page >= depot.places(key) {
         return None;
@@ -101,12 +102,26 @@ fn a_reply_carries_a_page_of_the_disk(rt: HostRuntime) {
     disk_is_carried(&rt, rt.alloc(), &depot);
 }
 
-/// Pushes the reply that carries a page of an image.
-fn pushed<R: Wait>(rt: &R, depot: &Depot, key: &ImageKey, page: u32) -> Option<Sent>
+/// The first claim of a page of an image, of claims that were made for it.
+fn first_claim(alloc: Global, image: u32, page: u32) -> Option<First>
+    ensures { IfSome result (λ first. (first.image ≡ image) × (first.page ≡ page)) }
+{
+    let (claims, claiming) = Claims::new(alloc, 8, 16, 8).ok()?;
+    let (_, claimed) = claims.claim(claiming, image, page);
+    match claimed {
+        Claimed::First(first) => Some(first),
+        Claimed::Repeat | Claimed::Outside => None,
+    }
+}
+
+/// Claims a page of an image, and pushes the reply that carries it.
+fn pushed<R: AllocGlobal + Wait>(rt: &R, depot: &Depot, key: &ImageKey, page: u32) -> Option<Sent>
     requires { IsKeyOf depot.now key.now }
     ensures { IfSome result (λ sent. IsSentOf depot.now sent) }
 {
-    depot.push(rt, answered(depot, key, page)?).ok()
+    let parcel = answered(depot, key, page)?;
+    let first = first_claim(rt.alloc(), key.number(), page)?;
+    depot.push(rt, first, parcel).ok()
 }
 
 /// The numbers of the image and of the page of a parcel, and the last byte that it has.
@@ -121,7 +136,7 @@ fn told(depot: &Depot, sent: &Sent) -> Told
 }
 
 /// A page of an image is pushed, and then another. The first is told once more, too.
-fn are_there<R: Abort + Wait>(rt: &R, depot: &Depot, key: &ImageKey)
+fn are_there<R: AllocGlobal + Abort + Wait>(rt: &R, depot: &Depot, key: &ImageKey)
     requires { IsKeyOf depot.now key.now }
 {
     let first = pushed(rt, depot, key, 2).expect(rt, "a parcel");
@@ -140,7 +155,7 @@ fn are_there<R: Abort + Wait>(rt: &R, depot: &Depot, key: &ImageKey)
 }
 
 /// The same of an image that is frozen for it.
-fn are_there_of_frozen<R: Abort + Wait>(rt: &R, alloc: Global, depot: &Depot) {
+fn are_there_of_frozen<R: AllocGlobal + Abort + Wait>(rt: &R, alloc: Global, depot: &Depot) {
     let key = frozen(rt, alloc, depot, 0x30);
     are_there(rt, depot, &key);
 }
@@ -153,7 +168,12 @@ fn what_was_pushed_is_there(rt: HostRuntime) {
 
 /// Pushes a page of an image a hundred times, and reads what was pushed each time. `None` where it is
 /// not there.
-fn push_hundred<R: Wait>(rt: &R, depot: &Depot, key: &ImageKey, page: u32) -> Option<Sent>
+fn push_hundred<R: AllocGlobal + Wait>(
+    rt: &R,
+    depot: &Depot,
+    key: &ImageKey,
+    page: u32,
+) -> Option<Sent>
     requires { IsKeyOf depot.now key.now }
     ensures { IfSome result (λ sent. IsSentOf depot.now sent) }
 {
@@ -167,7 +187,7 @@ fn push_hundred<R: Wait>(rt: &R, depot: &Depot, key: &ImageKey, page: u32) -> Op
     Some(last)
 }
 
-fn push_in_two_threads<R: Threads + Wait + Sync>(
+fn push_in_two_threads<R: AllocGlobal + Threads + Wait + Sync>(
     rt: &R,
     depot: &Depot,
     key: &ImageKey,
@@ -196,7 +216,11 @@ fn read_in_two_threads<R: Threads>(
     thread::join(rt, || told(depot, second), || told(depot, first))
 }
 
-fn pushed_and_read<R: Abort + Threads + Wait + Sync>(rt: &R, depot: &Depot, key: &ImageKey)
+fn pushed_and_read<R: AllocGlobal + Abort + Threads + Wait + Sync>(
+    rt: &R,
+    depot: &Depot,
+    key: &ImageKey,
+)
     requires { IsKeyOf depot.now key.now }
 {
     let sents = push_in_two_threads(rt, depot, key);
@@ -205,7 +229,7 @@ fn pushed_and_read<R: Abort + Threads + Wait + Sync>(rt: &R, depot: &Depot, key:
     are_equal(rt, &read, &((0, 2, Some(0x41)), (0, 0, Some(0x40))));
 }
 
-fn push_and_read_in_threads<R: Abort + Threads + Wait + Sync>(
+fn push_and_read_in_threads<R: AllocGlobal + Abort + Threads + Wait + Sync>(
     rt: &R,
     alloc: Global,
     depot: &Depot,
@@ -226,7 +250,7 @@ fn moved<R: Threads>(rt: &R, parcel: Parcel, sent: Sent) -> (usize, u32) {
     thread::join(rt, move || parcel.bytes().len(), move || sent.page())
 }
 
-fn length_and_page<R: Abort + Threads + Wait>(rt: &R, alloc: Global, depot: &Depot) {
+fn length_and_page<R: AllocGlobal + Abort + Threads + Wait>(rt: &R, alloc: Global, depot: &Depot) {
     let key = frozen(rt, alloc, depot, 0x50);
     let sent = pushed(rt, depot, &key, 2).expect(rt, "a parcel");
     let parcel = answered(depot, &key, 0).expect(rt, "a reply");

@@ -3,6 +3,7 @@ ghost use Rattle.guest_pmp.specs.Allowed.{IsAccessWidth};
 ghost use Rattle.guest_pmp.specs.Spans.{HasAddress};
 ghost use Rattle.guest_pmp.specs.declared.access.Mode.TheVariants.{Machine};
 ghost use Rattle.rv_traps.specs.Registers.{IsInRange, at_reset};
+ghost use Rattle.rv_traps.specs.declared.registers.CsrRegisters.{CsrRegisters};
 ghost use Rattle.rv_traps.specs.Access.{csr_read, csr_write};
 ghost use Rattle.rv_traps.specs.Protection.{allows, acting_mode, is_unrestricted};
 ghost use Rattle.rv_traps.specs.Trap.{handler, trap, mret, takes_interrupt};
@@ -125,19 +126,15 @@ impl Csrs {
         ensures goes { result ≡ handler self.old cause }
         ensures aligned { result % 4 ≡ 0 }
     {
+        let goes = handler(self.registers.mtvec, cause);
         let mie = self.registers.interrupt_enable();
         let mprv = self.registers.modifies_privilege();
-        self.registers.mstatus = mstatus(false, mie, self.registers.mode, mprv);
-        to_machine_mode(&mut self.registers.mode);
+        let before = to_machine_mode(&mut self.registers.mode);
+        self.registers.mstatus = mstatus(false, mie, before, mprv);
         self.registers.mepc = pc / 4 * 4;
         self.registers.mcause = cause;
         self.registers.mtval = value;
-        let base = self.registers.mtvec / 4 * 4;
-        if cause == TIMER_INTERRUPT && has_bit(self.registers.mtvec, 0) {
-            base.wrapping_add(TIMER_HANDLER)
-        } else {
-            base
-        }
+        goes
     }
 
     /// Returns from a trap into the mode in MPP, and answers the new pc. `None`, with nothing changed, exactly in user
@@ -243,12 +240,41 @@ impl Csrs {
     }
 }
 
-/// Machine mode from now on. Most traps come from it, and a look costs less than a store.
+/// Where a trap with this cause goes, by the register mtvec.
 #[inline(always)]
-fn to_machine_mode(mode: &mut Mode)
-    ensures { mode.new ≡ Machine }
+fn handler(mtvec: u32, cause: u32) -> u32
+    ensures goes { (c : CsrRegisters) → c.mtvec ≡ mtvec → result ≡ handler c cause }
+    ensures aligned { result % 4 ≡ 0 }
 {
-    if !mode.is_machine() {
-        *mode = Mode::Machine;
+    if cause == TIMER_INTERRUPT {
+        return interrupt_handler(mtvec);
     }
+    mtvec / 4 * 4
+}
+
+/// Where the timer interrupt goes. It is not inlined, so that an exception has no part of it.
+#[inline(never)]
+fn interrupt_handler(mtvec: u32) -> u32
+    ensures goes { (c : CsrRegisters) → c.mtvec ≡ mtvec → result ≡ handler c TIMER_INTERRUPT }
+    ensures aligned { result % 4 ≡ 0 }
+{
+    let base = mtvec / 4 * 4;
+    if has_bit(mtvec, 0) {
+        base.wrapping_add(TIMER_HANDLER)
+    } else {
+        base
+    }
+}
+
+/// Machine mode from now on. Answers the mode before, which is machine mode mostly: a look costs less than a store.
+#[inline(always)]
+fn to_machine_mode(mode: &mut Mode) -> Mode
+    ensures new { mode.new ≡ Machine }
+    ensures before { result ≡ mode.old }
+{
+    if mode.is_machine() {
+        return Mode::Machine;
+    }
+    *mode = Mode::Machine;
+    Mode::User
 }

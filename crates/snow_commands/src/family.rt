@@ -1,6 +1,7 @@
 //! The family of a machine is run to its end, by workers on a board.
 
-ghost use Rattle.std.specs.Prelude.{◌≡◌, ◌⊎◌, ◌+◌, ◌<◌, ◌≤◌, [], true, length, map, IfErr, IfOk};
+ghost use Rattle.std.specs.Prelude.{◌≡◌, ◌⊎◌, ◌+◌, ◌*◌, ◌^◌, ◌<◌, ◌≤◌, [], true, length, map, IfErr, IfOk};
+ghost use Rattle.page_claims.specs.Calls.{fresh};
 ghost use Rattle.forest_tree.specs.Settle.{alone};
 ghost use Rattle.forest_history.specs.World.{world_of};
 ghost use Rattle.forest_model.specs.Forest.{finish, machines};
@@ -20,6 +21,7 @@ use command_line::RunWords;
 use fork_board::{Board, Pass};
 use host_workers::{Finish, Gate, MAX_WORKERS, Settings, run_hosts};
 use image_depot::Depot;
+use page_claims::{ClaimPass, Claims};
 use run_report::Outcome;
 use std::snapshot::Snapshot;
 use std::sync::Wait;
@@ -35,11 +37,22 @@ pub struct Plan<'a, G> {
     pub gate: &'a G,
 }
 
+/// The images whose pages are claimed. A page of a later image comes to who asks for it alone.
+pub const CLAIMED_IMAGES: u32 = 256;
+
+/// How many machines may be cloned, and how many pages of RAM and of the disk each has.
+#[derive(Clone, Copy)]
+pub struct Extent {
+    pub clones: u32,
+    pub pages: u32,
+    pub disk_pages: u32,
+}
+
 /// Gives each wire the seed of the words, and runs the family of a machine to its end, by a worker for each of them. Where
 /// no machine may be cloned, none of them fetches a page, and one worker runs them all over a wire of its own.
 pub fn run_family<R: AllocGlobal + Threads + Wait + Sync, W: Wire + Send, G: Gate + Sync>(
     rt: &R,
-    clones: u32,
+    extent: Extent,
     family: (World, Snapshot<Vm>),
     depot: &Depot,
     plan: &Plan<'_, G>,
@@ -48,17 +61,18 @@ pub fn run_family<R: AllocGlobal + Threads + Wait + Sync, W: Wire + Send, G: Gat
     requires stands { StandsFor depot.now family.0 (world_of paged_machines (paged family.1.value)) }
     requires told { told_of family.0 ≡ [] }
     requires wires { (1 ≤ length wires.old) × (length wires.old ≤ MAX_WORKERS) }
+    requires pages { CLAIMED_IMAGES * (extent.pages + extent.disk_pages) < 2 ^ 32 }
     ensures lines { IfOk result (λ outcome. lines_of outcome ≡ lines told [] (finish (alone machines family.1.value.machine))) }
-    ensures wire { IfErr result (λ reason. reason ≡ Reason.Wire → (0 < clones) × IsOneLost W.streak wires.new) }
+    ensures wire { IfErr result (λ reason. reason ≡ Reason.Wire → (0 < extent.clones) × IsOneLost W.streak wires.new) }
     ensures seeded { IfRan result (map W.seeds wires.new ≡ all_seeded plan.now.how.now.seed (map W.seeds wires.old)) }
     ensures len { length wires.new ≡ length wires.old }
 {
-    if clones > 0 {
-        return run_to_end(rt, family, depot, plan, wires);
+    if extent.clones > 0 {
+        return run_claiming(rt, CLAIMED_IMAGES, extent, family, depot, plan, wires);
     }
     seed_all(wires, plan.how.seed());
     let mut unused = [Seeded::new()];
-    let ran = run_to_end(rt, family, depot, plan, &mut unused);
+    let ran = run_claiming(rt, 0, extent, family, depot, plan, &mut unused);
     // The call tells that this wire is not lost.
     let _ = unused[0].streak();
     ran
@@ -74,14 +88,43 @@ fn seed_all<W: Wire>(wires: &mut [W], seed: u32)
     }
 }
 
-/// Runs the family of a machine to its end, by a worker for each wire.
-fn run_to_end<R: AllocGlobal + Threads + Wait + Sync, W: Wire + Send, G: Gate + Sync>(
+/// Makes claims for the pages of so many images, and runs the family of a machine to its end.
+fn run_claiming<R: AllocGlobal + Threads + Wait + Sync, W: Wire + Send, G: Gate + Sync>(
     rt: &R,
+    images: u32,
+    extent: Extent,
     family: (World, Snapshot<Vm>),
     depot: &Depot,
     plan: &Plan<'_, G>,
     wires: &mut [W],
 ) -> Result<Outcome, Reason>
+    requires images { images ≤ CLAIMED_IMAGES }
+    requires pages { CLAIMED_IMAGES * (extent.pages + extent.disk_pages) < 2 ^ 32 }
+    requires stands { StandsFor depot.now family.0 (world_of paged_machines (paged family.1.value)) }
+    requires told { told_of family.0 ≡ [] }
+    requires wires { (1 ≤ length wires.old) × (length wires.old ≤ MAX_WORKERS) }
+    ensures lines { IfOk result (λ outcome. lines_of outcome ≡ lines told [] (finish (alone machines family.1.value.machine))) }
+    ensures wire { IfErr result (λ reason. reason ≡ Reason.Wire → IsOneLost W.streak wires.new) }
+    ensures seeded { IfRan result (map W.seeds wires.new ≡ all_seeded plan.now.how.now.seed (map W.seeds wires.old)) }
+    ensures len { length wires.new ≡ length wires.old }
+{
+    let Ok((claims, claiming)) = Claims::new(rt.alloc(), images, extent.pages, extent.disk_pages)
+    else {
+        return Err(Reason::Memory);
+    };
+    run_to_end(rt, (&claims, claiming), family, depot, plan, wires)
+}
+
+/// Runs the family of a machine to its end, by a worker for each wire.
+fn run_to_end<R: AllocGlobal + Threads + Wait + Sync, W: Wire + Send, G: Gate + Sync>(
+    rt: &R,
+    claims: (&Claims, ClaimPass),
+    family: (World, Snapshot<Vm>),
+    depot: &Depot,
+    plan: &Plan<'_, G>,
+    wires: &mut [W],
+) -> Result<Outcome, Reason>
+    requires claims { claims.1 ≡ fresh claims.0.now.table 65536 }
     requires stands { StandsFor depot.now family.0 (world_of paged_machines (paged family.1.value)) }
     requires told { told_of family.0 ≡ [] }
     requires wires { (1 ≤ length wires.old) × (length wires.old ≤ MAX_WORKERS) }
@@ -94,7 +137,7 @@ fn run_to_end<R: AllocGlobal + Threads + Wait + Sync, W: Wire + Send, G: Gate + 
     let Ok((board, pass)) = Board::new(rt.alloc(), world, first, depot) else {
         return Err(Reason::Memory);
     };
-    let (pass, finish) = run_seeded(rt, &board, pass, depot, plan, wires);
+    let (pass, finish) = run_seeded(rt, &board, pass, claims, depot, plan, wires);
     match finish {
         Finish::Over => Ok(outcome_of(rt, board, pass)),
         Finish::Stopped(reason) => Err(reason),
@@ -107,11 +150,13 @@ fn run_seeded<R: AllocGlobal + Threads + Wait + Sync, W: Wire + Send, G: Gate + 
     rt: &R,
     board: &Board,
     pass: Pass,
+    claims: (&Claims, ClaimPass),
     depot: &Depot,
     plan: &Plan<'_, G>,
     wires: &mut [W],
 ) -> (Pass, Finish)
     requires board { pass.board ≡ board.now }
+    requires claims { claims.1 ≡ fresh claims.0.now.table 65536 }
     requires depot { depot_of board.now.opening ≡ depot.now }
     requires none { HoldsNone pass }
     requires wires { (1 ≤ length wires.old) × (length wires.old ≤ MAX_WORKERS) }
@@ -130,7 +175,9 @@ fn run_seeded<R: AllocGlobal + Threads + Wait + Sync, W: Wire + Send, G: Gate + 
         slice: plan.how.slice(),
         ahead: plan.how.ahead(),
     };
-    run_hosts(rt, board, pass, depot, wires, &settings)
+    let (claims, claiming) = claims;
+    let (pass, _, finish) = run_hosts(rt, board, pass, claims, claiming, depot, wires, &settings);
+    (pass, finish)
 }
 
 /// What came of a family whose root has ended.

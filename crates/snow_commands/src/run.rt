@@ -11,9 +11,10 @@ ghost use Rattle.snow_commands.specs.Text.{HasLines, guest_image};
 ghost use Rattle.guest_files.specs.Parts.{AreAsked, IsFaultOf, guest_loads, loads_of};
 ghost use Rattle.snow_commands.specs.Writes.{IsSilent, MakesOver, Writes};
 
-use crate::family::{Plan, run_family};
+use crate::family::{Extent, Plan, run_family};
 use crate::guest::boot;
 use command_line::GuestWords;
+use cow_disk::{PAGE_SECTORS, SECTOR_SIZE};
 use guest_files::{GuestFiles, Stop, read_guest};
 use host_workers::{Gate, MAX_WORKERS};
 use image_depot::Depot;
@@ -87,7 +88,15 @@ pub fn run_files<R: AllocGlobal + Threads + Wait + Sync, W: Wire + Send, G: Gate
     let family = boot(rt.alloc(), guest, files, &depot)?;
     let workers = wires.len().min(plan.how.workers() as usize);
     let (working, _) = wires.split_at_mut(workers);
-    match run_family(rt, guest.clones(), family, &depot, plan, working) {
+    let extent = Extent {
+        clones: guest.clones(),
+        pages: guest.pages(),
+        disk_pages: files
+            .disk()
+            .len()
+            .div_ceil(SECTOR_SIZE * PAGE_SECTORS as usize) as u32,
+    };
+    match run_family(rt, extent, family, &depot, plan, working) {
         Ok(outcome) => Ok(outcome),
         Err(Reason::Wire) => Err(Stop::Wire),
         Err(Reason::Memory) => Err(Stop::Memory),

@@ -59,7 +59,7 @@ impl Ports {
         Ok(Ports {
             timer: TimerPort::new(),
             console: ConsolePort::new(alloc, input)?,
-            block: BlockPort::new(disk),
+            block: BlockPort::new(alloc, disk)?,
             fork: ForkPort::new(alloc, allot),
         })
     }
@@ -264,22 +264,21 @@ impl Ports {
     }
 
     /// Ports with these registers, this disk and this input, and no output, tickets and join results.
-    pub fn of_fields(alloc: Global, fields: PortFields, disk: Disk, input: Input) -> Ports
-        requires { fields.console.place ≤ MAX_INPUT }
-        ensures { result ≡ parts_of_fields fields disk input }
+    pub fn of_fields(
+        alloc: Global,
+        fields: &PortFields,
+        disk: Disk,
+        input: Input,
+    ) -> Result<Ports, AllocError>
+        requires { fields.now.console.place ≤ MAX_INPUT }
+        ensures { IfOk result (λ ports. ports ≡ parts_of_fields fields.now disk input) }
     {
-        let PortFields {
-            timer,
-            console,
-            block,
-            fork,
-        } = fields;
-        Ports {
-            timer: TimerPort::of_fields(timer),
-            console: ConsolePort::of_fields(alloc, console, input),
-            block: BlockPort::of_fields(block, disk),
-            fork: ForkPort::of_fields(alloc, fork),
-        }
+        Ok(Ports {
+            timer: TimerPort::of_fields(fields.timer),
+            console: ConsolePort::of_fields(alloc, fields.console, input),
+            block: BlockPort::of_fields(alloc, &fields.block, disk)?,
+            fork: ForkPort::of_fields(alloc, fields.fork),
+        })
     }
 
     /// What a command of the fork port asks for.

@@ -99,12 +99,16 @@ step-until old new None live goes =
 step-until old new (Some why) live goes =
     stops-there (old.machine.steps + 1) old old new why live (run-counted old old 0 (IsRun-none old)) (omega arith) (omega arith) goes
 
+-- a run leaves the limit
+pub run-limit : (old new : KeyedMachine) (made : ℕ) → IsRun old new made → new.machine.limit ≡ old.machine.limit
+run-limit old new made run =
+    ap (λ (v : KeyedMachine). v.machine.limit) run.steps ∙ ap (λ (m : Machine). m.limit) (machine-advanced_by made (paged old)) ∙ limit-after_steps made old.machine
+
 -- a run of as many steps as the limit allows does not leave a machine that lives
 pub enough_made : (old new : KeyedMachine) (made most : ℕ) → IsRun old new made → IsWithinLimit new.machine → new.machine.ending ≡ None → made ≡ most
     → old.machine.limit ≤ old.machine.steps + most → ⊥
 enough_made old new made most run within live all enough =
-    let limit : new.machine.limit ≡ old.machine.limit =
-    ap (λ (v : KeyedMachine). v.machine.limit) run.steps ∙ ap (λ (m : Machine). m.limit) (machine-advanced_by made (paged old)) ∙ limit-after_steps made old.machine in
+    let limit : new.machine.limit ≡ old.machine.limit = run-limit old new made run in
     let counted : new.machine.steps ≡ old.machine.steps + made = run.counted in
     let below : new.machine.steps < new.machine.limit = within live in
     omega arith
@@ -198,6 +202,32 @@ cut-later most made old mid new run less is =
       here = is.here;
       memory = is.memory;
     }
+
+-- one step more, which is the last that the limit allows
+module _ (until : ℕ) (old mid new : KeyedMachine) (run : IsRun old mid (mid.machine.steps - old.machine.steps)) (from : old.machine.steps ≤ mid.machine.steps)
+    (before : mid.machine.steps < until) where
+  pub part-last : (part : Part) → old.machine.limit ≤ mid.machine.steps + 1 → IsWithinLimit new.machine → IsPart 1 mid new part → IsMadeUntil until old new part.stop
+  part-last part last alive is =
+      let made : IsRun old new (mid.machine.steps - old.machine.steps + part.steps) = IsRun-join old mid new (mid.machine.steps - old.machine.steps) part.steps run is.run in
+      let counted : new.machine.steps ≡ mid.machine.steps + part.steps = is.run.counted in
+      let within : part.steps ≤ 1 = is.within in
+      record {
+        run = run-counted old new _ made;
+        from = omega (arith, from, counted);
+        within = omega (arith, before, counted, within);
+        stops = is.stops;
+        all = λ none.
+            let all = is.all none in
+            let below : new.machine.steps < new.machine.limit = alive all.0 in
+            let limit : new.machine.limit ≡ old.machine.limit = run-limit old new _ made in
+            let one : part.steps ≡ 1 = all.1 in
+            absurd (omega (arith, below, limit, last, counted, one));
+      }
+
+  pub cut-last : IsCut 1 mid new → IsCut (until - old.machine.steps) old new
+  cut-last is =
+      cut-later (until - old.machine.steps) (mid.machine.steps - old.machine.steps) old mid new run (omega (arith, from, before))
+      (cut-less (until - old.machine.steps - (mid.machine.steps - old.machine.steps)) 1 mid new (omega (arith, from, before)) is)
 
 -- a step gives a number to a ticket at most
 pub rises_retired : (s new : State) (written : Written) → action s ≡ retire written new → new.ports.fork.next_ticket ≤ s.ports.fork.next_ticket + 1

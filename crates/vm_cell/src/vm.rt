@@ -271,7 +271,7 @@ impl Vm {
         if let Some(ending) = self.ending {
             return Ok(Stepped::Ended(ending));
         }
-        match self.step_live(&[])? {
+        match self.step_live(&[], true)? {
             Some(Stop::Page(page)) => Ok(Stepped::Stall(page)),
             Some(Stop::Call(call)) => Ok(Stepped::Call(call)),
             Some(Stop::End) | None => Ok(self.standing()),
@@ -383,7 +383,7 @@ impl Vm {
     }
 
     /// Makes steps until so many are made in all. `step_live` is inlined, and the loop has nothing beside it: the count of the
-    /// machine's steps is its own.
+    /// machine's steps is its own, and the step that may come to the limit is apart.
     #[inline(never)]
     fn step_until(&mut self, until: u64) -> Result<Option<Stop>, AllocError>
         requires live { self.old.machine.ending ≡ None }
@@ -392,10 +392,15 @@ impl Vm {
         ensures within { IfOk result (λ stop. IsWithinLimit self.new.machine) }
         ensures err { OnErr result (IsCut (until - self.old.machine.steps) self.old self.new) }
     {
-        while self.steps < until {
-            if let Some(stop) = self.step_live(&[])? {
+        let below = until.min(self.limit - 1);
+        while self.steps < below {
+            if let Some(stop) = self.step_live(&[], false)? {
                 return Ok(Some(stop));
             }
+        }
+        if self.steps < until {
+            let last = self.step_kept(&[])?;
+            return Ok(last.stop);
         }
         Ok(None)
     }
@@ -421,10 +426,11 @@ impl Vm {
     fn step_kept(&mut self, slots: &[Slot]) -> Result<Part, AllocError>
         requires { self.old.machine.ending ≡ None }
         ensures ok { IfOk result (IsPart 1 self.old self.new) }
+        ensures within { IfOk result (λ part. IsWithinLimit self.new.machine) }
         ensures err { OnErr result (IsCut 1 self.old self.new) }
     {
         let first = self.steps;
-        let stop = self.step_live(slots)?;
+        let stop = self.step_live(slots, true)?;
         Ok(Part {
             steps: self.steps - first,
             stop,
@@ -503,11 +509,12 @@ impl Vm {
     }
 
     /// Makes one step of a machine that lives, or answers what keeps it from that: a page or a call. It tells where the step
-    /// ended the machine. There may be no slots.
+    /// ended the machine. There may be no slots. A step that cannot be the last one does not look at the limit.
     #[inline(always)]
     #[tactic(auto, unfolding(forest_model::specs::Machine::advance))]
-    fn step_live(&mut self, slots: &[Slot]) -> Result<Option<Stop>, AllocError>
-        requires { self.old.machine.ending ≡ None }
+    fn step_live(&mut self, slots: &[Slot], may_be_last: bool) -> Result<Option<Stop>, AllocError>
+        requires live { self.old.machine.ending ≡ None }
+        requires below { may_be_last ≡ false → self.old.machine.steps + 1 < self.old.machine.limit }
         ensures goes { IfOk result (λ stop. GoesOn self.old self.new stop) }
         ensures err { OnErr result (self.new ≡ self.old) }
         ensures here { OnErr result (stalled_at (paged self.old) ≡ None) }
@@ -517,15 +524,15 @@ impl Vm {
             Acted::Stalled(page) => Ok(Some(Stop::Page(page))),
             Acted::Trapped { cause, value } => {
                 self.hart.trap(cause, value);
-                Ok(count_step(&mut self.steps, self.limit, &mut self.ending))
+                Ok(count_step(&mut self.steps, self.limit, &mut self.ending, may_be_last))
             }
             Acted::Interrupted => {
                 self.hart.trap(TIMER_INTERRUPT, 0);
-                Ok(count_step(&mut self.steps, self.limit, &mut self.ending))
+                Ok(count_step(&mut self.steps, self.limit, &mut self.ending, may_be_last))
             }
             Acted::Retired(written) => {
                 count_retired(&mut self.hart, written);
-                Ok(count_step(&mut self.steps, self.limit, &mut self.ending))
+                Ok(count_step(&mut self.steps, self.limit, &mut self.ending, may_be_last))
             }
             Acted::Exited {
                 value,
@@ -642,15 +649,21 @@ fn end(
 }
 
 /// Counts a step of a machine that lives, which ends it where it reaches the limit.
-#[inline]
-fn count_step(steps: &mut u64, limit: u64, ending: &mut Option<Ending>) -> Option<Stop>
-    requires { steps.old < limit }
+#[inline(always)]
+fn count_step(
+    steps: &mut u64,
+    limit: u64,
+    ending: &mut Option<Ending>,
+    may_be_last: bool,
+) -> Option<Stop>
+    requires within { steps.old < limit }
+    requires below { may_be_last ≡ false → steps.old + 1 < limit }
     ensures counted { steps.new ≡ steps.old + 1 }
     ensures ends { ending.new ≡ (if steps.old + 1 == limit then Some Ending.Limit else ending.old) }
     ensures stop { result ≡ (if steps.old + 1 == limit then Some Stop.End else None) }
 {
     *steps += 1;
-    if *steps == limit {
+    if may_be_last && *steps == limit {
         *ending = Some(Ending::Limit);
         return Some(Stop::End);
     }

@@ -95,7 +95,7 @@ impl Vm {
     {
         let ticket = self.cloned_ticket();
         self.hart.fork(ticket);
-        count_step(&mut self.steps, self.limit, &mut self.ending);
+        count_step(&mut self.steps, self.limit, &mut self.ending, true);
     }
 
     /// What child 1 of the CLONE that is the next step starts with, beside the image of a key.
@@ -154,7 +154,7 @@ impl Vm {
     {
         let ticket = self.joined_ticket(endings);
         self.hart.join(ticket, endings)?;
-        count_step(&mut self.steps, self.limit, &mut self.ending);
+        count_step(&mut self.steps, self.limit, &mut self.ending, true);
         Ok(())
     }
 
@@ -165,7 +165,7 @@ impl Vm {
     {
         let ticket = self.killed_ticket();
         self.hart.kill(ticket);
-        count_step(&mut self.steps, self.limit, &mut self.ending);
+        count_step(&mut self.steps, self.limit, &mut self.ending, true);
     }
 
     /// The ticket of the CLONE that is the next step.

@@ -1,9 +1,10 @@
 use Rattle.std.proofs.Common.{◌≡◌, map, take}
-use Rattle.host_fetch.specs.Asked.{HasGrown, reply_with}
+use Rattle.host_fetch.specs.Asked.{AreAsked, reply_in, reply_with}
 use Rattle.host_fetch.proofs.ask.ask_first.Given as goal
 
 abbrev pub invariant-loop-page : goal.invariant-loop-page
 invariant-loop-page g l = record {
-  waiting : map (λ parcel. parcel.now) l.waiting.items ≡ map (reply_with l.key) (take l.page-index l.pages);
-  told : HasGrown l.depot l.key (take l.page-index l.pages) l.initial.pushed.items l.pushed.items;
+  waiting : map reply_in l.waiting.items ≡ map (reply_with l.key) (take l.page-index l.pages);
+  asked : AreAsked l.depot l.claims l.key (take l.page-index l.pages)
+      (record { sent = l.initial.pushed.items; pass = l.initial.claiming }) (record { sent = l.pushed.items; pass = l.claiming });
 }

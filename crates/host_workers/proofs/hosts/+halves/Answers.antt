@@ -28,7 +28,7 @@ pub work_all-work_halves-requires : goal.work_all-work_halves-requires
 work_all-work_halves-requires g t c κs within =
     let wires = c.split_at_mut-here in
     let states = c.split_at_mut-first in
-    let both = both-due c.args.shared.now.board.now c.args.states.now states.result.0.now states.result.1.now states.ensures.value c.requires.due in
+    let both = both-due c.args.shared.now.board.now c.args.shared.now.claims.now c.args.states.now states.result.0.now states.result.1.now states.ensures.value c.requires.due in
     let low : length wires.result.0.now ≡ length c.args.wires.now / 2 = wires.ensures.front_len in
     let high : length wires.result.0.now + length wires.result.1.now ≡ length c.args.wires.now = omega (arith, wires.ensures.front_len, wires.ensures.back_len) in
     let more : 2 ≤ length c.args.wires.now = omega (arith, c.requires.some, c.if-wires-eq1.false) in (

@@ -7,7 +7,7 @@ use Rattle.host_fetch.specs.Heard.{AreHeardOf, Replies}
 use Rattle.host_workers.specs.Stages.{free}
 use Rattle.host_workers.specs.Stays.{Turns, Worked, stage_turned}
 use Rattle.host_workers.specs.declared.replies.Hearing.{Hearing}
-use Rattle.host_workers.proofs.Working.{blames-on, spares-none, worked-board, worked-then}
+use Rattle.host_workers.proofs.Working.{blames-on, fit-on, share-of, spares-none, worked-board, worked-then}
 use Rattle.host_workers.proofs.worker.work.Goals as goal
 
 pub loop-init : goal.loop-init
@@ -16,7 +16,10 @@ loop-init g c = record {
   ends = tt;
   worked = inl refl;
   none = c.requires.none;
-  heard = subst (λ (es : Replies). All (IsSentOf c.args.shared.now.depot.now) (values_of es)) (sym c.new-worker.ensures) (All-nil (IsSentOf c.args.shared.now.depot.now));
+  fit = record {
+    heard = subst (λ (es : Replies). All (IsSentOf c.args.shared.now.depot.now) (values_of es)) (sym c.new-worker.ensures.heard) (All-nil (IsSentOf c.args.shared.now.depot.now));
+    claims_are = c.new-worker.ensures.claims ∙ c.new-claimant.ensures;
+  };
   wire = λ by. inr (spares-none c.args.pass by);
   seeds = refl {a = g.W.Wire.seeds c.args.wire.now};
 }
@@ -32,6 +35,7 @@ returns-in-Finished g c =
       worked = worked-then c.args.pass c.loop.pass new c.loop.invariant.worked
           (subst (λ t. Worked free (stage_turned t) c.loop.pass new) c.in-Finished.is e.worked);
       none = e.none;
+      share = share-of _ _ _ (c.into_claimant.ensures ∙ e.fit.claims_are) c.into_pass.ensures;
       finish = subst (Turns new) c.in-Finished.is e.turns;
       wire = blames-on g.W.Wire.streak c.loop.wire c.turn-after.new.wire c.args.pass c.loop.pass new c.loop.invariant.wire e.worked e.stopped e.wire;
       seeds = e.seeds ∙ c.loop.invariant.seeds;
@@ -47,7 +51,7 @@ loop-preserved-in-Idle g c =
       ends = tt;
       worked = inr (worked-then c.args.pass c.loop.pass new was.worked (subst (λ t. Worked free (stage_turned t) c.loop.pass new) c.in-Idle.is e.worked));
       none = e.none;
-      heard = e.heard;
+      fit = e.fit;
       wire = blames-on g.W.Wire.streak c.loop.wire c.turn-after.new.wire c.args.pass c.loop.pass new was.wire e.worked e.stopped e.wire;
       seeds = e.seeds ∙ was.seeds;
     }
@@ -62,7 +66,7 @@ loop-preserved g c =
       ends = tt;
       worked = inr (worked-then c.args.pass c.loop.pass new was.worked (subst (λ t. Worked free (stage_turned t) c.loop.pass new) c.in-Ran.is e.worked));
       none = e.none;
-      heard = subst (λ (h : Hearing). AreHeardOf c.args.shared.now.depot.now h.heard) (sym c.come_back.ensures) e.heard;
+      fit = fit-on _ _ _ _ c.come_back.ensures.hearing c.come_back.ensures.claims e.fit;
       wire = blames-on g.W.Wire.streak c.loop.wire c.turn-after.new.wire c.args.pass c.loop.pass new was.wire e.worked e.stopped e.wire;
       seeds = e.seeds ∙ was.seeds;
     }

@@ -1,5 +1,5 @@
 use Rattle.std.proofs.Common.{◌≡◌, ◌⊎◌}
-use Rattle.host_fetch.specs.Heard.{AreHeardOf}
+use Rattle.host_workers.specs.Fit.{IsFit}
 use Rattle.fork_board.specs.Passes.{HoldsNone}
 use Rattle.host_workers.specs.Stages.{free}
 use Rattle.host_workers.specs.Stays.{Blames, Worked}
@@ -11,7 +11,7 @@ invariant-loop g l = record {
   ends : (goal.iterator-loop g).is_finite l.iterator';
   worked : (l.pass ≡ l.initial.pass) ⊎ Worked free free l.initial.pass l.pass;
   none : HoldsNone l.pass;
-  heard : AreHeardOf l.shared.depot.now l.worker.hearing.heard;
+  fit : IsFit l.shared.claims.now l.shared.depot.now l.worker;
   seeds : g.W.Wire.seeds l.wire ≡ g.W.Wire.seeds l.initial.wire;
   wire : Blames g.W.Wire.streak l.wire l.initial.pass l.pass;
 }

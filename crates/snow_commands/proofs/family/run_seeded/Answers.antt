@@ -4,4 +4,4 @@ use Rattle.snow_commands.proofs.family.run_seeded.Goals as goal
 
 pub returns-clause-seeded : goal.returns-clause-seeded
 returns-clause-seeded g c =
-    c.run_hosts.ensures.seeds ∙ c.seed_all.ensures.seeded ∙ ap (λ n. all_seeded n (map g.W.Wire.seeds c.args.wires.now)) c.seed.ensures
+    c.run_hosts-pass.ensures.seeds ∙ c.seed_all.ensures.seeded ∙ ap (λ n. all_seeded n (map g.W.Wire.seeds c.args.wires.now)) c.seed.ensures

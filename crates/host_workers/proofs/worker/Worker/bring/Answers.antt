@@ -6,13 +6,13 @@ pub offer-requires-clause-of_depot : goal.offer-requires-clause-of_depot
 offer-requires-clause-of_depot g c = c.requires.of_depot
 
 pub offer-requires-clause-heard : goal.offer-requires-clause-heard
-offer-requires-clause-heard g c = c.requires.heard
+offer-requires-clause-heard g c = c.requires.fit.heard
 
 pub returns-in-Ok-true : goal.returns-in-Ok-true
 returns-in-Ok-true g c = record {
   same = same-fetched c.args.lease.now c.offer.new.receiver c.offer.ensures.rest;
   stays = stays-none c.args.pass;
-  heard = c.requires.heard;
+  fit = c.requires.fit;
   wire = tt;
   seeds = refl {a = g.W.Wire.seeds c.args.wire.now};
 }
@@ -21,7 +21,7 @@ pub returns-in-Err : goal.returns-in-Err
 returns-in-Err g c = record {
   same = same-fetched c.args.lease.now c.offer.new.receiver c.offer.ensures.rest;
   stays = stays-none c.args.pass;
-  heard = c.requires.heard;
+  fit = c.requires.fit;
   wire = lost-none g.W.Wire.streak c.args.wire.now;
   seeds = refl {a = g.W.Wire.seeds c.args.wire.now};
 }
@@ -34,8 +34,8 @@ hear_and_offer-pass-requires-clause-of_depot g c =
     let lease = c.offer.new.receiver in
     lent-on c.args.shared.now.depot.now c.args.lease.now lease (same-fetched c.args.lease.now lease c.offer.ensures.rest) c.requires.of_depot
 
-pub hear_and_offer-pass-requires-clause-heard : goal.hear_and_offer-pass-requires-clause-heard
-hear_and_offer-pass-requires-clause-heard g c = c.requires.heard
+pub hear_and_offer-pass-requires-clause-fit : goal.hear_and_offer-pass-requires-clause-fit
+hear_and_offer-pass-requires-clause-fit g c = c.requires.fit
 
 pub fetch_and_tell-requires-clause-board : goal.fetch_and_tell-requires-clause-board
 fetch_and_tell-requires-clause-board g c = c.hear_and_offer-pass.ensures.stays.same_board ∙ c.requires.board
@@ -56,7 +56,7 @@ returns-in-Ok-true-offered g c =
     record {
       same = same-then first then heard.new.lease (same-fetched first then c.offer.ensures.rest) heard.ensures.same;
       stays = heard.ensures.stays;
-      heard = heard.ensures.heard;
+      fit = heard.ensures.fit;
       wire = tt;
       seeds = refl {a = g.W.Wire.seeds c.args.wire.now};
     }
@@ -71,7 +71,7 @@ returns-in-Ok-false-offered g c =
     record {
       same = same-then first heard.new.lease c.fetch_and_tell.new.lease same told.same;
       stays = stays-more c.args.pass heard.result.0 c.fetch_and_tell.result.0 heard.ensures.stays told.stays;
-      heard = heard.ensures.heard;
+      fit = record { heard = heard.ensures.fit.heard; claims_are = told.claims ∙ heard.ensures.fit.claims_are };
       wire = told.wire;
       seeds = told.seeds;
     }
@@ -84,7 +84,7 @@ returns-in-Err-offered g c =
     record {
       same = same-then first then heard.new.lease (same-fetched first then c.offer.ensures.rest) heard.ensures.same;
       stays = heard.ensures.stays;
-      heard = heard.ensures.heard;
+      fit = heard.ensures.fit;
       wire = lost-none g.W.Wire.streak c.args.wire.now;
       seeds = refl {a = g.W.Wire.seeds c.args.wire.now};
     }

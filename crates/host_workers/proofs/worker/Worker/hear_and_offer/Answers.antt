@@ -5,7 +5,7 @@ pub returns-then-told-self : goal.returns-then-told-self
 returns-then-told-self g c = record {
   same = same-none c.args.lease.now;
   stays = stays-none c.args.pass;
-  heard = c.requires.heard;
+  fit = c.requires.fit;
 }
 
 pub listen-pass-requires : goal.listen-pass-requires
@@ -17,7 +17,11 @@ returns-then-is_err g c =
     record {
       same = same-none c.args.lease.now;
       stays = heard.stays;
-      heard = heard-on c.args.shared.now.board.now c.args.shared.now.depot.now c.args.self.now.hearing.heard c.listen-pass.new.self.heard c.args.shared.now.of_board heard.heard c.requires.heard;
+      fit = record {
+        heard = heard-on c.args.shared.now.board.now c.args.shared.now.depot.now c.args.self.now.hearing.heard
+            c.listen-pass.new.self.heard c.args.shared.now.of_board heard.heard c.requires.fit.heard;
+        claims_are = c.requires.fit.claims_are;
+      };
     }
 
 pub offer-offered-requires-clause-of_depot : goal.offer-offered-requires-clause-of_depot
@@ -26,7 +30,7 @@ offer-offered-requires-clause-of_depot g c = c.requires.of_depot
 pub offer-offered-requires-clause-heard : goal.offer-offered-requires-clause-heard
 offer-offered-requires-clause-heard g c =
     heard-on c.args.shared.now.board.now c.args.shared.now.depot.now c.args.self.now.hearing.heard c.listen-pass.new.self.heard c.args.shared.now.of_board c.listen-pass.ensures.heard
-    c.requires.heard
+    c.requires.fit.heard
 
 pub returns : goal.returns
 returns g c =
@@ -34,5 +38,9 @@ returns g c =
     record {
       same = same-fetched c.args.lease.now c.offer-offered.new.receiver c.offer-offered.ensures.rest;
       stays = heard.stays;
-      heard = heard-on c.args.shared.now.board.now c.args.shared.now.depot.now c.args.self.now.hearing.heard c.listen-pass.new.self.heard c.args.shared.now.of_board heard.heard c.requires.heard;
+      fit = record {
+        heard = heard-on c.args.shared.now.board.now c.args.shared.now.depot.now c.args.self.now.hearing.heard
+            c.listen-pass.new.self.heard c.args.shared.now.of_board heard.heard c.requires.fit.heard;
+        claims_are = c.requires.fit.claims_are;
+      };
     }

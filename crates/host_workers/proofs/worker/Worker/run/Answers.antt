@@ -12,8 +12,8 @@ pub run_on-pass-requires-clause-of_depot : goal.run_on-pass-requires-clause-of_d
 run_on-pass-requires-clause-of_depot g c =
     lent-of c.args.pass c.args.shared.now.board.now c.args.shared.now.depot.now c.args.lease c.requires.board c.args.shared.now.of_board c.requires.one
 
-pub run_on-pass-requires-clause-heard : goal.run_on-pass-requires-clause-heard
-run_on-pass-requires-clause-heard g c = c.requires.heard
+pub run_on-pass-requires-clause-fit : goal.run_on-pass-requires-clause-fit
+run_on-pass-requires-clause-fit g c = c.requires.fit
 
 pub spend-requires-clause-board : goal.spend-requires-clause-board
 spend-requires-clause-board g c = c.run_on-pass.ensures.stays.same_board ∙ c.requires.board
@@ -38,7 +38,7 @@ returns-in-Ok g c =
     record {
       worked = stays-worked c.args.pass ran.result.0 c.spend.result ran.ensures.stays spent.worked;
       none = spent.none;
-      heard = ran.ensures.heard;
+      fit = ran.ensures.fit;
       wire = λ by. inr (spares-worked c.args.pass ran.result.0 c.spend.result spent.worked ran.ensures.stays.spares spent.spares by);
       seeds = ran.ensures.seeds;
     }
@@ -52,7 +52,7 @@ returns-in-Err g c =
     record {
       worked = stays-worked c.args.pass ran.result.0 c.give_up.result ran.ensures.stays back;
       none = gave.none;
-      heard = ran.ensures.heard;
+      fit = ran.ensures.fit;
       wire = blames-given-up g.W.Wire.streak ran.new.wire c.args.pass ran.result.0 c.give_up.result c.in-Err.error c.stop_for.result c.stop_for.ensures lost
           ran.ensures.stays.spares back gave.spares;
       seeds = ran.ensures.seeds;

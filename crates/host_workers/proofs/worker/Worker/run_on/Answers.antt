@@ -3,7 +3,7 @@ use Rattle.host_fetch.specs.declared.error.FetchError.TheVariants as fault
 use Rattle.host_fetch.specs.Heard.{AreHeardOf}
 use Rattle.host_workers.specs.Lost.{IsLost}
 use Rattle.host_workers.specs.declared.replies.Hearing.{Hearing}
-use Rattle.host_workers.proofs.Working.{lent-on, same-none, same-then, stays-more, stays-none}
+use Rattle.host_workers.proofs.Working.{fit-on, lent-on, same-none, same-then, stays-more, stays-none}
 use Rattle.host_workers.proofs.worker.Worker.run_on.Goals as goal
 
 pub loop-init : goal.loop-init
@@ -12,7 +12,7 @@ loop-init g c = record {
   ends = tt;
   stays = stays-none c.args.pass;
   same = same-none c.args.lease.now;
-  heard = c.requires.heard;
+  fit = c.requires.fit;
   seeds = refl {a = g.W.Wire.seeds c.args.wire.now};
 }
 
@@ -22,8 +22,8 @@ run_stretch-after-requires-clause-board g c = c.loop.invariant.stays.same_board 
 pub run_stretch-after-requires-clause-of_depot : goal.run_stretch-after-requires-clause-of_depot
 run_stretch-after-requires-clause-of_depot g c = lent-on c.args.shared.now.depot.now c.args.lease.now c.loop.lease c.loop.invariant.same c.requires.of_depot
 
-pub run_stretch-after-requires-clause-heard : goal.run_stretch-after-requires-clause-heard
-run_stretch-after-requires-clause-heard g c = c.loop.invariant.heard
+pub run_stretch-after-requires-clause-fit : goal.run_stretch-after-requires-clause-fit
+run_stretch-after-requires-clause-fit g c = c.loop.invariant.fit
 
 pub returns-in-Ok : goal.returns-in-Ok
 returns-in-Ok g c =
@@ -32,7 +32,7 @@ returns-in-Ok g c =
     record {
       same = same-then c.args.lease.now c.loop.lease c.run_stretch-after.new.lease was.same e.same;
       stays = stays-more c.args.pass c.loop.pass c.run_stretch-after.result.0 was.stays e.stays;
-      heard = e.heard;
+      fit = e.fit;
       wire = tt;
       seeds = e.seeds ∙ was.seeds;
     }
@@ -44,7 +44,7 @@ returns-in-Err g c =
     record {
       same = same-then c.args.lease.now c.loop.lease c.run_stretch-after.new.lease was.same e.same;
       stays = stays-more c.args.pass c.loop.pass c.run_stretch-after.result.0 was.stays e.stays;
-      heard = e.heard;
+      fit = e.fit;
       wire = subst (λ r. IfErr r (λ error. error ≡ fault.Wire → IsLost g.W.Wire.streak c.run_stretch-after.new.wire)) c.in-Err.is e.wire;
       seeds = e.seeds ∙ was.seeds;
     }
@@ -56,7 +56,7 @@ returns-then-is_over g c =
     record {
       same = same-then c.args.lease.now c.loop.lease c.run_stretch-after.new.lease was.same e.same;
       stays = stays-more c.args.pass c.loop.pass c.run_stretch-after.result.0 was.stays e.stays;
-      heard = subst (λ (h : Hearing). AreHeardOf c.args.shared.now.depot.now h.heard) (sym c.look_up.ensures) e.heard;
+      fit = fit-on _ _ _ _ c.look_up.ensures.hearing c.look_up.ensures.claims e.fit;
       wire = tt;
       seeds = e.seeds ∙ was.seeds;
     }
@@ -70,6 +70,6 @@ loop-preserved g c =
       ends = tt;
       stays = stays-more c.args.pass c.loop.pass c.run_stretch-after.result.0 was.stays e.stays;
       same = same-then c.args.lease.now c.loop.lease c.run_stretch-after.new.lease was.same e.same;
-      heard = subst (λ (h : Hearing). AreHeardOf c.args.shared.now.depot.now h.heard) (sym c.look_up.ensures) e.heard;
+      fit = fit-on _ _ _ _ c.look_up.ensures.hearing c.look_up.ensures.claims e.fit;
       seeds = e.seeds ∙ was.seeds;
     }

@@ -10,7 +10,7 @@ loop-init g c = record {
   ends = tt;
   stays = stays-none c.args.pass;
   same = same-none c.args.lease.now;
-  heard = c.requires.heard;
+  fit = c.requires.fit;
   seeds = refl {a = g.W.Wire.seeds c.args.wire.now};
 }
 
@@ -20,7 +20,7 @@ returns-in_default g c =
     record {
       same = same-then c.args.lease.now c.loop.lease c.run.new.self was.same c.run.ensures.same;
       stays = was.stays;
-      heard = was.heard;
+      fit = was.fit;
       wire = lost-none g.W.Wire.streak c.loop.wire;
       seeds = was.seeds;
     }
@@ -31,7 +31,7 @@ returns-in_default-why g c =
     record {
       same = same-then c.args.lease.now c.loop.lease c.run.new.self was.same c.run.ensures.same;
       stays = was.stays;
-      heard = was.heard;
+      fit = was.fit;
       wire = tt;
       seeds = was.seeds;
     }
@@ -44,8 +44,8 @@ bring-after-requires-clause-of_depot g c =
     let same = same-then c.args.lease.now c.loop.lease c.run.new.self c.loop.invariant.same c.run.ensures.same in
     lent-on c.args.shared.now.depot.now c.args.lease.now c.run.new.self same c.requires.of_depot
 
-pub bring-after-requires-clause-heard : goal.bring-after-requires-clause-heard
-bring-after-requires-clause-heard g c = c.loop.invariant.heard
+pub bring-after-requires-clause-fit : goal.bring-after-requires-clause-fit
+bring-after-requires-clause-fit g c = c.loop.invariant.fit
 
 pub returns-in-Err : goal.returns-in-Err
 returns-in-Err g c =
@@ -55,7 +55,7 @@ returns-in-Err g c =
       same = same-then c.args.lease.now c.run.new.self c.bring-after.new.lease
           (same-then c.args.lease.now c.loop.lease c.run.new.self was.same c.run.ensures.same) e.same;
       stays = stays-more c.args.pass c.loop.pass c.bring-after.result.0 was.stays e.stays;
-      heard = e.heard;
+      fit = e.fit;
       wire = subst (λ r. IfErr r (λ error. error ≡ fault.Wire → IsLost g.W.Wire.streak c.bring-after.new.wire)) c.in-Err.is e.wire;
       seeds = e.seeds ∙ was.seeds;
     }
@@ -70,6 +70,6 @@ loop-preserved g c =
       stays = stays-more c.args.pass c.loop.pass c.bring-after.result.0 was.stays e.stays;
       same = same-then c.args.lease.now c.run.new.self c.bring-after.new.lease
           (same-then c.args.lease.now c.loop.lease c.run.new.self was.same c.run.ensures.same) e.same;
-      heard = e.heard;
+      fit = e.fit;
       seeds = e.seeds ∙ was.seeds;
     }

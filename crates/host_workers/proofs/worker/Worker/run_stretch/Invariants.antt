@@ -1,5 +1,5 @@
 use Rattle.std.proofs.Common.{◌≡◌}
-use Rattle.host_fetch.specs.Heard.{AreHeardOf}
+use Rattle.host_workers.specs.Fit.{IsFit}
 use Rattle.world_core.specs.Lent.{IsSameLease}
 use Rattle.host_workers.specs.Stays.{Stays}
 use Rattle.host_workers.proofs.worker.Worker.run_stretch.Given as goal
@@ -10,6 +10,6 @@ invariant-loop g l = record {
   ends : (goal.iterator-loop g).is_finite l.iterator';
   stays : Stays l.initial.pass l.pass;
   same : IsSameLease l.initial.lease l.lease;
-  heard : AreHeardOf l.shared.depot.now l.self.hearing.heard;
+  fit : IsFit l.shared.claims.now l.shared.depot.now l.self;
   seeds : g.W.Wire.seeds l.wire ≡ g.W.Wire.seeds l.initial.wire;
 }

@@ -30,8 +30,8 @@ run-requires-clause-one g c =
     holds-taken c.args.pass r.0 c.in-Took.lease (subst (λ (t : Taken). Makes c.args.pass r.0 (taken_entry t)) c.in-Took.is c.take-pass.ensures.makes)
     (subst (Takes r.0) c.in-Took.is c.take-pass.ensures.takes) c.requires.none
 
-pub run-requires-clause-heard : goal.run-requires-clause-heard
-run-requires-clause-heard g c = c.requires.heard
+pub run-requires-clause-fit : goal.run-requires-clause-fit
+run-requires-clause-fit g c = c.requires.fit
 
 pub returns-in-Over : goal.returns-in-Over
 returns-in-Over g c =
@@ -43,7 +43,7 @@ returns-in-Over g c =
       worked = worked-one {a = free} {b = done} c.args.pass r.0 (taken_entry taken.Over) makes (refl, refl);
       none = λ name. makes.free name (c.requires.none name);
       turns = ends-over c.args.pass r.0 makes;
-      heard = c.requires.heard;
+      fit = c.requires.fit;
       wire = λ by. inr (spares-taken c.args.pass r.0 r.1 e.makes by);
       stopped = λ was. refl {a = c.args.wire.now};
       seeds = refl {a = g.W.Wire.seeds c.args.wire.now};
@@ -59,7 +59,7 @@ returns-in-Stopped g c =
       worked = worked-one {a = free} {b = done} c.args.pass r.0 (taken_entry (taken.Stopped c.in-Stopped.reason)) makes (refl, refl);
       none = λ name. makes.free name (c.requires.none name);
       turns = ends-stopped c.args.pass r.0 c.in-Stopped.reason makes;
-      heard = c.requires.heard;
+      fit = c.requires.fit;
       wire = λ by. inr (spares-taken c.args.pass r.0 r.1 e.makes by);
       stopped = λ was. refl {a = c.args.wire.now};
       seeds = refl {a = g.W.Wire.seeds c.args.wire.now};
@@ -75,7 +75,7 @@ returns-in-Idle g c =
       worked = worked-one {a = free} {b = free} c.args.pass r.0 (taken_entry taken.Idle) makes (refl, refl);
       none = λ name. makes.free name (c.requires.none name);
       turns = tt;
-      heard = c.requires.heard;
+      fit = c.requires.fit;
       wire = λ by. inr (spares-taken c.args.pass r.0 r.1 e.makes by);
       stopped = λ was. refl {a = c.args.wire.now};
       seeds = refl {a = g.W.Wire.seeds c.args.wire.now};
@@ -94,7 +94,7 @@ returns-in-Memory g c =
       worked = worked-more c.args.pass r.0 new (worked-one {a = free} {b = short} c.args.pass r.0 (taken_entry taken.Memory) makes (refl, refl)) stopped;
       none = λ name. stops.free name (makes.free name (c.requires.none name));
       turns = tt;
-      heard = c.requires.heard;
+      fit = c.requires.fit;
       wire = λ by. inr (spares-worked c.args.pass r.0 new stopped (spares-taken c.args.pass r.0 r.1 e.makes)
           (spares-halted r.0 new reason.Memory stops (λ same. let no : reason.Memory ≡ reason.Wire = same in cc)) by);
       stopped = λ was. refl {a = c.args.wire.now};
@@ -114,7 +114,7 @@ returns-in-Took g c =
       worked = worked-more c.args.pass r.0 c.run.result work ran.worked;
       none = ran.none;
       turns = tt;
-      heard = ran.heard;
+      fit = ran.fit;
       wire = blames-worked g.W.Wire.streak c.run.new.wire c.args.pass r.0 c.run.result ran.worked (spares-taken c.args.pass r.0 r.1 e.makes) ran.wire;
       stopped = λ was.
           absurd (taken-going c.args.pass r.0 lease.name makes (stopped-later c.args.pass r.0 work.rest work.seen was));

@@ -4,7 +4,7 @@ use Rattle.rv_traps.proofs.csrs.Csrs.enter.Goals as goal
 
 pub invariant_of-self : goal.invariant_of-self
 invariant_of-self c = record {
-  mstatus = mstatus-made c.mstatus-self-inside.result false c.interrupt_enable-mie.result c.self.inside.registers.mode c.modifies_privilege-mprv.result c.mstatus-self-inside.ensures;
+  mstatus = mstatus-made c.mstatus-self-inside.result false c.interrupt_enable-mie.result c.to_machine_mode-before.result c.modifies_privilege-mprv.result c.mstatus-self-inside.ensures;
   mie = c.self.invariant.mie;
   mtvec = c.self.invariant.mtvec;
   mepc = omega arith;
