@@ -1,2 +1,3 @@
+pub mod Forks
 pub mod Name
 pub mod NameOrder

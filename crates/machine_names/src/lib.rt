@@ -1,6 +1,7 @@
 //! The names of machines, which are keys of maps.
 #![tactic(auto)]
 
+mod forks;
 pub mod laws;
 mod name;
 

@@ -9,9 +9,10 @@ ghost use Rattle.io_edge.specs.Streamed.{Streams};
 ghost use Rattle.machine_names.specs.Name.{begins_with, branch_text, child_path, name_text, next_of};
 ghost use Rattle.machine_names.specs.NameOrder.{back_cmp};
 
+use crate::forks::Forks;
 use io_edge::{Sink, SinkBuffer, WriteFault};
 use itoa::write_digits;
-use shared_leaves::{Handle, SharedList};
+use shared_leaves::Handle;
 use std::alloc::{AllocError, Global};
 use std::cmp::Ordering;
 use std::fmt;
@@ -175,7 +176,7 @@ impl Ord for Branch {
 #[derive(Drop)]
 pub struct Name {
     /// The forks of this name, and maybe others behind them.
-    branches: Arc<SharedList<Branch>>,
+    branches: Arc<Forks>,
     /// How many of them are of this name.
     depth: usize,
 }
@@ -197,18 +198,18 @@ impl Name {
     pub fn root(alloc: Global) -> Result<Name, AllocError>
         ensures { IfOk result (λ name. name ≡ []) }
     {
-        Name::of_list(alloc, SharedList::new(alloc))
+        Name::of_forks(alloc, Forks::few(Vec::new(alloc)))
     }
 
     /// The name that has these forks, from the root on.
     pub fn from_branches(alloc: Global, branches: Vec<Branch>) -> Result<Name, AllocError>
         ensures { IfOk result (λ name. name ≡ branches.items) }
     {
-        Name::of_list(alloc, SharedList::from_vec(alloc, branches)?)
+        Name::of_forks(alloc, Forks::few(branches))
     }
 
-    /// The name that has all forks of a list.
-    fn of_list(alloc: Global, branches: SharedList<Branch>) -> Result<Name, AllocError>
+    /// The name that has all forks of a row.
+    fn of_forks(alloc: Global, branches: Forks) -> Result<Name, AllocError>
         ensures { IfOk result (λ name. name ≡ branches) }
     {
         let depth = branches.len();
@@ -218,13 +219,13 @@ impl Name {
         })
     }
 
-    /// The name of a child of this machine. It costs a handle for each 64 forks of this name, and copies of
-    /// the forks behind these, which are less than 64.
+    /// The name of a child of this machine. Where its forks are many it costs a handle for each 64 forks of this
+    /// name, and copies of the forks behind these, which are less than 64; else a copy of this name's forks.
     pub fn child(&self, alloc: Global, ticket: u32, index: u32) -> Result<Name, AllocError>
         ensures { IfOk result (λ name. name ≡ child_path self.now ticket index) }
     {
         let last = Branch::new(ticket, index);
-        Name::of_list(alloc, self.branches.followed_by(self.depth, last)?)
+        Name::of_forks(alloc, self.branches.followed_by(alloc, self.depth, last)?)
     }
 
     /// The same name once more. It costs one handle.
@@ -307,7 +308,7 @@ impl Name {
 
 /// Puts out the first forks of a list in text, one after another.
 fn put_first<K: Sink>(
-    branches: &SharedList<Branch>,
+    branches: &Forks,
     count: usize,
     buffer: &mut SinkBuffer,
     sink: &mut K,
@@ -324,7 +325,7 @@ fn put_first<K: Sink>(
 }
 
 /// How the first forks of two lists compare, as many as `count` tells, from the last of them back.
-fn cmp_back(left: &SharedList<Branch>, right: &SharedList<Branch>, count: usize) -> Ordering
+fn cmp_back(left: &Forks, right: &Forks, count: usize) -> Ordering
     requires left { count ≤ length left.now }
     requires right { count ≤ length right.now }
     ensures { result ≡ back_cmp (take count left.now) (take count right.now) }
@@ -450,7 +451,7 @@ impl fmt::Display for Name {
 /// Writes the first forks of a list in text, one after another.
 fn write_first<W: fmt::Write>(
     f: &mut fmt::Formatter<W>,
-    branches: &SharedList<Branch>,
+    branches: &Forks,
     count: usize,
 ) -> fmt::Result
     requires { count ≤ length branches.now }

@@ -490,9 +490,9 @@ impl Hart {
         requires { number < 32 }
         ensures { self.new ≡ record self.old { state = record self.old.state { registers = with_register self.old.state.registers number value } } }
     {
-        if number != 0 {
-            self.registers[number as usize] = value;
-        }
+        // x0 becomes 0 again: a store costs less than a branch on the number.
+        self.registers[number as usize] = value;
+        self.registers[0] = 0;
     }
 }
 

@@ -1,4 +1,4 @@
-use Rattle.std.proofs.Common.{◌≡◌, ◌≤◌, length, take, get_or, eqb-true, sym, ◌∙◌, subst, arith}
+use Rattle.std.proofs.Common.{◌≡◌, get_or, eqb-true, sym, ◌∙◌, subst, arith}
 use Rattle.std.proofs.lemmas.List.{take_all}
 use Rattle.forest_tree.specs.Tree.{Branch}
 use Rattle.machine_names.proofs.Same.{same-more}

@@ -1,6 +1,5 @@
-use Rattle.std.proofs.Common.{◌≡◌, ◌≤◌, ◌-◌, ◌+◌, ℕ, take, drop, length, sym, ap, ◌∙◌, arith}
+use Rattle.std.proofs.Common.{◌-◌, take, sym, ap, ◌∙◌, arith}
 use Rattle.std.specs.Ordering.{ordering_then}
-use Rattle.forest_tree.specs.Tree.{Path}
 use Rattle.machine_names.specs.NameOrder.{back_cmp}
 use Rattle.machine_names.proofs.Back.{decided, last-of-run, run-back, undecided}
 use Rattle.machine_names.proofs.name.cmp_back.Goals as goal
