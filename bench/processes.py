@@ -6,6 +6,10 @@ import subprocess
 import sys
 import time
 
+# As ./snow has it.
+TUNABLES = ("hugetlb=1", "mmap_threshold=33554432", "trim_threshold=268435456")
+os.environ.setdefault("GLIBC_TUNABLES", ":".join(f"glibc.malloc.{one}" for one in TUNABLES))
+
 
 def seconds(command):
     """Returns the processor time of a run, whose report nobody reads."""

@@ -21,6 +21,10 @@ def sw(rs2, offset, rs1):
     return (offset >> 5 & 0x7F) << 25 | rs2 << 20 | rs1 << 15 | 2 << 12 | (offset & 0x1F) << 7 | 0x23
 
 
+def sb(rs2, offset, rs1):
+    return sw(rs2, offset, rs1) & ~0x7000
+
+
 def bne(rs1, rs2, offset):
     return (
         (offset >> 12 & 1) << 31
@@ -41,3 +45,30 @@ def jal(offset):
 def number(rd, value):
     """Returns the two words that put a number into a register."""
     return [lui(rd, value + 0x800 >> 12), addi(rd, rd, value)]
+
+
+def beq(rs1, rs2, offset):
+    return bne(rs1, rs2, offset) & ~0x7000
+
+
+def placed(lines):
+    """Returns the words of lines. A text names the place of the next word, and `to` makes a word that leads to one."""
+    places, at = {}, 0
+    for line in lines:
+        if isinstance(line, str):
+            places[line] = 4 * at
+        else:
+            at += 1
+    words = []
+    for line in lines:
+        if isinstance(line, tuple):
+            branch, registers, name = line
+            words.append(branch(*registers, places[name] - 4 * len(words)))
+        elif not isinstance(line, str):
+            words.append(line)
+    return words
+
+
+def to(branch, *registers, place):
+    """Returns a line of a branch, or of a jump, to a place that a line names."""
+    return branch, registers, place

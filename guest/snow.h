@@ -1,8 +1,8 @@
 /* The machine of `snow` for guests in C: its registers and commands, and inline calls for them.
  *
  * A guest runs on one hart, in machine mode, and its tasks in user mode (docs/machine.md). Outside RAM it has a
- * timer, a console, a disk and the fork port. The registers of the console are bytes, and all others are words:
- * an access of another width is a trap. guest/cc makes an image of C files that include this.
+ * timer, a console, a disk, the fork port and the sibling port. The registers of the console are bytes, and all
+ * others are words: an access of another width is a trap. guest/cc makes an image of C files that include this.
  */
 
 #ifndef SNOW_H
@@ -103,9 +103,10 @@ static inline uint32_t snow_granted(void)
 
 /* Makes the children of a ticket. Each is a copy of this machine: its memory, its disk, its place in the
  * input, its timer and its count of steps; but it has no output, no ticket and nothing joined. From then on
- * they share nothing. Returns 0 in this machine, and in child k the number k. Where it is refused, since
- * the ticket was refused, joined or killed (SNOW_NO_TICKET) or its children were made already (SNOW_CLONED),
- * there are no children, and it returns 0, too: only a child goes a child's way. snow_result tells why. */
+ * they share nothing, and have words for one another alone (snow_send). Returns 0 in this machine, and in child
+ * k the number k. Where it is refused, since the ticket was refused, joined or killed (SNOW_NO_TICKET) or its
+ * children were made already (SNOW_CLONED), there are no children, and it returns 0, too: only a child goes a
+ * child's way. snow_result tells why. */
 static inline uint32_t snow_clone(uint32_t ticket)
 {
     uint32_t result;
@@ -193,6 +194,64 @@ static inline uint32_t snow_zero(uint32_t page, uint32_t pages)
     SNOW_FORK_PORT->command = SNOW_ZERO;
     __asm__ volatile("" ::: "memory");
     return SNOW_FORK_PORT->result;
+}
+
+/* ---- Siblings: the sibling port, at 0x10003000 ---- */
+
+/* The children of one ticket are siblings, and they have words of 32 bits to say to one another. For each two of
+ * them there is a queue each way, which holds eight words. A machine that waits here makes no step, so neither its
+ * limit nor its timer ends that: a family in which each waits for another is stuck, and its report says so. */
+struct snow_sibling_port {
+    uint32_t peer;     /* which child of the ticket the next command talks to, from 1 */
+    uint32_t data;     /* the word that is sent, and the one that was received */
+    uint32_t command;  /* written: does one of the commands below */
+    uint32_t result;   /* read: what became of the last command */
+    uint32_t siblings; /* read: how many children the ticket has made, and 0 in the machine that was booted */
+};
+
+#define SNOW_SIBLING_PORT ((volatile struct snow_sibling_port *)0x10003000)
+
+/* The commands. */
+enum {
+    SNOW_SEND = 1,
+    SNOW_RECEIVE = 2
+};
+
+#define SNOW_QUEUE 8 /* how many words to one sibling may wait until it receives them */
+
+/* What snow_receive returns where the sibling has ended and left no more words. It is no refusal. */
+#define SNOW_ENDED 0xFFFFFFF9u
+
+/* Returns how many children the ticket of this machine has made, itself among them, or 0 in the machine that was
+ * booted. They have the numbers from 1 to that, of which its own is snow_id(). */
+static inline uint32_t snow_siblings(void)
+{
+    return SNOW_SIBLING_PORT->siblings;
+}
+
+/* Sends a word to a sibling, by its number. Waits while eight words of this machine wait there already. Where the
+ * sibling has ended, the word is dropped. Returns 0. Refusal: SNOW_BAD_ARGUMENT where no other sibling has the number. */
+static inline uint32_t snow_send(uint32_t peer, uint32_t word)
+{
+    SNOW_SIBLING_PORT->peer = peer;
+    SNOW_SIBLING_PORT->data = word;
+    SNOW_SIBLING_PORT->command = SNOW_SEND;
+    return SNOW_SIBLING_PORT->result;
+}
+
+/* Receives the oldest word that a sibling has sent to this machine and that has not been received. Waits while there
+ * is none and the sibling lives. Returns 0; or SNOW_ENDED where there is none and the sibling has ended, and then the
+ * word stays as it is. Refusal: SNOW_BAD_ARGUMENT, as of snow_send. */
+static inline uint32_t snow_receive(uint32_t peer, uint32_t *word)
+{
+    uint32_t result;
+
+    SNOW_SIBLING_PORT->peer = peer;
+    SNOW_SIBLING_PORT->command = SNOW_RECEIVE;
+    result = SNOW_SIBLING_PORT->result;
+    if (result == 0)
+        *word = SNOW_SIBLING_PORT->data;
+    return result;
 }
 
 /* ---- Traps ---- */

@@ -16,7 +16,7 @@ fn ports_at_start(rt: &impl Abort, alloc: Global) -> Ports {
 }
 
 /// What a load of so many bytes at an address gives a machine that starts.
-static LOADS: [(u32, u32, Result<u32, Fault>); 44] = [
+static LOADS: [(u32, u32, Result<u32, Fault>); 52] = [
     (0x0000_0000, 4, Err(Fault)),
     (0x0200_3ffc, 4, Err(Fault)),
     (0x0200_4000, 4, Ok(0xffff_ffff)),
@@ -60,6 +60,14 @@ static LOADS: [(u32, u32, Result<u32, Fault>); 44] = [
     (0x1000_207c, 4, Ok(0)),
     (0x1000_207e, 4, Err(Fault)),
     (0x1000_2080, 4, Err(Fault)),
+    (0x1000_2ffc, 4, Err(Fault)),
+    (0x1000_3000, 4, Ok(0)),
+    (0x1000_3000, 1, Err(Fault)),
+    (0x1000_3004, 4, Ok(0)),
+    (0x1000_3008, 4, Err(Fault)),
+    (0x1000_300c, 4, Ok(0)),
+    (0x1000_3010, 4, Ok(0)),
+    (0x1000_3014, 4, Err(Fault)),
     (0xffff_ffff, 1, Err(Fault)),
 ];
 
@@ -90,7 +98,7 @@ fn stored(ports: &mut Ports, address: u32, width: u32, word: u32) -> Result<Effe
 }
 
 /// What a store of so many low bytes of 5 at an address does to a machine that starts.
-static STORES: [(u32, u32, Result<Effect, PortError>); 37] = [
+static STORES: [(u32, u32, Result<Effect, PortError>); 45] = [
     (0x0000_0000, 4, Err(PortError::Fault)),
     (0x0200_3ffc, 4, Err(PortError::Fault)),
     (0x0200_4000, 4, Ok(Effect::Done)),
@@ -127,6 +135,14 @@ static STORES: [(u32, u32, Result<Effect, PortError>); 37] = [
     (0x1000_202c, 4, Err(PortError::Fault)),
     (0x1000_2040, 4, Err(PortError::Fault)),
     (0x1000_207c, 4, Err(PortError::Fault)),
+    (0x1000_2ffc, 4, Err(PortError::Fault)),
+    (0x1000_3000, 4, Ok(Effect::Done)),
+    (0x1000_3000, 2, Err(PortError::Fault)),
+    (0x1000_3004, 4, Ok(Effect::Done)),
+    (0x1000_3008, 4, Ok(Effect::Done)),
+    (0x1000_300c, 4, Err(PortError::Fault)),
+    (0x1000_3010, 4, Err(PortError::Fault)),
+    (0x1000_3014, 4, Err(PortError::Fault)),
     (0xffff_ffff, 1, Err(PortError::Fault)),
 ];
 

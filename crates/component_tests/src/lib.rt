@@ -33,6 +33,8 @@ mod protection;
 #[cfg(test)]
 mod rows;
 #[cfg(test)]
+mod sibling;
+#[cfg(test)]
 mod sizes;
 #[cfg(test)]
 mod timer;

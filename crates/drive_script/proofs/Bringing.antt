@@ -10,26 +10,32 @@ use Rattle.cow_disk.specs.declared.arrived.Arrived.{Arrived}
 use Rattle.cow_disk.specs.declared.arrived.Arrived.TheVariants.{Got, Had}
 use Rattle.guest_mem.specs.Ram.{IsOfImage}
 use Rattle.forest_tree.specs.Tree.{Tree, node, Path, machine, subtree}
+use Rattle.sibling_forest.specs.Laws.{box_of}
+use Rattle.sibling_forest.specs.Talk.{boxed}
 use Rattle.forest_tree.specs.Projection.{map_tree}
-use Rattle.forest_history.specs.Places.{Spot, at_path, bare, spots}
-use Rattle.forest_history.specs.World.{holds, is_at_home, lives_at_home}
-use Rattle.forest_history.specs.Rows.{took, does}
-use Rattle.forest_history.proofs.Changes.{at_path-here}
+use Rattle.forest_history.specs.Places.{Spot, at_path, out, spots}
+use Rattle.talking_history.specs.Places.{bare, placed}
+use Rattle.talking_history.specs.World.{holds, is_at_home, lives_at_home}
+use Rattle.talking_history.specs.Rows.{took, does}
+use Rattle.forest_history.proofs.Changes.{at_path-here, at_path-twice}
 use Rattle.forest_history.proofs.Ends.{at_path-map}
 use Rattle.forest_model.specs.Machine.{Machine}
-use Rattle.forest_model.specs.Paged.{Paged, Pages, advanced_by, paged_machines, pages_arrived}
+use Rattle.forest_model.specs.Paged.{Paged, Pages, advanced_by, paged_machines, paged_talks, pages_arrived}
 use Rattle.vm_cell.specs.Keyed.{Arrives, HasImage, IsOfDepot}
 use Rattle.world_core.specs.declared.world.World.{World}
 use Rattle.world_core.specs.Lent.{Lent, IsSameLease, now_of}
-use Rattle.world_core.specs.World.{StandsFor}
+use Rattle.world_core.specs.Shows.{Member, forest, paged_of}
+use Rattle.world_core.specs.World.{Forest, IsForest, StandsFor}
 use Rattle.world_core.specs.Answers.{TakesNamed}
 use Rattle.world_core.specs.Arrived.{after_arrival, flagged, with_arrived}
 use Rattle.world_core.proofs.Arriving.{flags-taken, flags-whole}
+use Rattle.world_core.proofs.Resting.{put-forest}
+use Rattle.world_core.proofs.Spending.{at_path-there}
 use Rattle.drive_script.specs.declared.answer.Answer.TheVariants.{Give}
 use Rattle.drive_script.specs.Driven.{DrivesLine, HasMachines}
 use Rattle.drive_script.specs.Replies.{arrived_by, page_at, paged_with, siblings_of, tree_with, with_arrival}
 use Rattle.drive_script.specs.Script.{give}
-use Rattle.drive_script.specs.Steps.{after_steps, live_at}
+use Rattle.drive_script.specs.Steps.{Family, after_steps, live_at}
 use Rattle.drive_script.specs.Told.{Driven, IsBelow, answer_by, arrival_told, arrived_at, given}
 use Rattle.drive_script.specs.Turned.{Brings, HasBack, HasLent, RanFrom}
 use Rattle.drive_script.proofs.Driving.{breaks-first}
@@ -38,22 +44,38 @@ use Rattle.drive_script.proofs.Steps.{after-none}
 
 -- ---- the forest in which the page is here
 
-bare-arrived : (page : ℕ) (t : Tree (Spot Paged)) → bare (flagged (pages_arrived page) t) ≡ tree_with page (bare t)
+bare-arrived : (page : ℕ) (t : Tree Member) → bare (flagged (pages_arrived page) t) ≡ tree_with page (bare t)
 unfolding map_tree
 bare-arrived page (node s broods log) = refl
 
-home-by : (page : ℕ) (c : Option (Tree (Spot Paged))) → holds paged_machines (lives_at_home paged_machines) (option_map (flagged (pages_arrived page)) c)
-    ≡ holds paged_machines (lives_at_home paged_machines) c
-unfolding spots paged_machines
+home-by : (page : ℕ) (c : Option (Tree Member)) → holds (lives_at_home paged_machines paged_talks) (option_map (flagged (pages_arrived page)) c)
+    ≡ holds (lives_at_home paged_machines paged_talks) c
+unfolding boxed spots paged_machines
 home-by page None = refl
 home-by page (Some (node s broods log)) = refl
 
+back-again : (page : ℕ) (t : Tree Member) → placed (machine t).machine.place (flagged (pages_arrived page) (placed out t)) ≡ flagged (pages_arrived page) t
+back-again page (node s broods log) = refl
+
+-- it is one that machines can come to, since it is while the machine is out
+arrived-forest : (page : ℕ) (name : Path) (f : Forest) (a : Tree Member) → IsForest f.tree → subtree name f.tree ≡ Some a
+    → IsForest (with_arrived name page (does paged_machines paged_talks (took name) f)).tree → IsForest (with_arrived name page f).tree
+unfolding does
+arrived-forest page name f a whole there arrived =
+    let arrives : Tree Member → Tree Member = flagged (pages_arrived page) in
+    let back : Tree Member → Tree Member = placed (machine a).machine.place in
+    subst IsForest
+    (at_path-twice arrives back name (at_path (placed out) name f.tree) ∙ at_path-twice (placed out) (λ u. back (arrives u)) name f.tree
+    ∙ at_path-there forest (λ u. back (arrives (placed out u))) name f.tree a whole.sound there
+    ∙ ap (λ u. at_path (λ b. u) name f.tree) (back-again page a) ∙ sym (at_path-there forest arrives name f.tree a whole.sound there))
+    (put-forest (machine a).machine.place name (at_path arrives name (at_path (placed out) name f.tree)) arrived)
+
 -- ---- the lease
 
-machine-arrived : (page : ℕ) (t : Tree (Spot Paged)) → (machine (flagged (pages_arrived page) t)).machine ≡ paged_with page (machine t).machine
+machine-arrived : (page : ℕ) (t : Tree Member) → paged_of (machine (flagged (pages_arrived page) t)) ≡ paged_with page (paged_of (machine t))
 machine-arrived page (node s broods log) = refl
 
-module _ (depot : Shelves) (w : World) (t : Tree Paged) (old : Lent) (h : HasLent depot w t old) (none : old.ran ≡ 0) where
+module _ (depot : Shelves) (w : World) (t : Family) (old : Lent) (h : HasLent depot w t old) (none : old.ran ≡ 0) where
   as-taken : first depot w t old h ≡ now_of old
   unfolding advanced_by
   as-taken = sym (ap (λ k. advanced_by k (first depot w t old h)) none) ∙ (at-home depot w t old h).ran.now
@@ -62,7 +84,7 @@ module _ (depot : Shelves) (w : World) (t : Tree Paged) (old : Lent) (h : HasLen
   from-start = sym (ap (λ (p : Paged). p.machine) as-taken) ∙ (at-home depot w t old h).ran.start
 
   module _ (new : Lent) (same : IsSameLease old new) (ran : new.ran ≡ old.ran) (now : new.now ≡ old.now) where
-    begins : (tree : Option (Tree (Spot Paged))) → IfSome tree (λ (a : Tree (Spot Paged)). (machine a).machine ≡ now_of new) → IfSome tree (λ a. RanFrom new (machine a).machine)
+    begins : (tree : Option (Tree Member)) → IfSome tree (λ (a : Tree Member). paged_of (machine a) ≡ now_of new) → IfSome tree (λ a. RanFrom new (paged_of (machine a)))
     begins tree is = begins-by new tree (ran ∙ none) (now ∙ from-start ∙ sym same.start) is
 
     stands-as : (pages : Pages) → new.pages ≡ pages → record { machine = old.now; pages = pages } ≡ now_of new
@@ -72,14 +94,15 @@ module _ (depot : Shelves) (w : World) (t : Tree Paged) (old : Lent) (h : HasLen
     lent-same : new.pages ≡ old.pages → HasLent depot w t new
     lent-same is = record {
       forest = h.forest;
+      sound = h.sound;
       whole = h.whole;
       same = h.same;
-      lives = ap (λ n. is_at_home paged_machines n h.forest.tree) same.name ∙ h.lives;
+      lives = ap (λ n. is_at_home paged_machines paged_talks n h.forest.tree) same.name ∙ h.lives;
       begins = begins (subtree new.name h.forest.tree)
-          (subst (λ n. IfSome (subtree n h.forest.tree) (λ (a : Tree (Spot Paged)). (machine a).machine ≡ now_of new)) (sym same.name)
-          (subst (λ o. IfSome o (λ (a : Tree (Spot Paged)). (machine a).machine ≡ now_of new)) (sym (at-home depot w t old h).there) (as-taken ∙ stands-as old.pages is)));
+          (subst (λ n. IfSome (subtree n h.forest.tree) (λ (a : Tree Member). paged_of (machine a) ≡ now_of new)) (sym same.name)
+          (subst (λ o. IfSome o (λ (a : Tree Member). paged_of (machine a) ≡ now_of new)) (sym (at-home depot w t old h).there) (as-taken ∙ stands-as old.pages is)));
       of_depot = subst (IsOfDepot depot) (sym same.key) h.of_depot;
-      stands = subst (λ n. StandsFor depot w (does paged_machines (took n) h.forest)) (sym same.name) h.stands;
+      stands = subst (λ n. StandsFor depot w (does paged_machines paged_talks (took n) h.forest)) (sym same.name) h.stands;
     }
 
     -- it is here now
@@ -87,19 +110,20 @@ module _ (depot : Shelves) (w : World) (t : Tree Paged) (old : Lent) (h : HasLen
         → HasLent depot w (with_arrival old.name (Some (Got page)) t) new
     lent-got page is stands = record {
       forest = with_arrived old.name page h.forest;
+      sound = arrived-forest page old.name h.forest (at-home depot w t old h).at h.sound (at-home depot w t old h).there stands.whole;
       whole = flags-whole old.name (pages_arrived page) h.forest h.whole;
-      same = at_path-map (λ (s : Spot Paged). s.machine) (flagged (pages_arrived page)) (tree_with page) (λ u. bare-arrived page u) old.name h.forest.tree
+      same = at_path-map (box_of (λ (s : Spot Paged). s.machine)) (flagged (pages_arrived page)) (tree_with page) (λ u. bare-arrived page u) old.name h.forest.tree
           ∙ ap (at_path (tree_with page) old.name) h.same;
-      lives = ap (λ n. is_at_home paged_machines n (with_arrived old.name page h.forest).tree) same.name
-          ∙ ap (holds paged_machines (lives_at_home paged_machines)) (at_path-here (flagged (pages_arrived page)) old.name h.forest.tree)
+      lives = ap (λ n. is_at_home paged_machines paged_talks n (with_arrived old.name page h.forest).tree) same.name
+          ∙ ap (holds (lives_at_home paged_machines paged_talks)) (at_path-here (flagged (pages_arrived page)) old.name h.forest.tree)
           ∙ home-by page (subtree old.name h.forest.tree) ∙ h.lives;
       begins = begins (subtree new.name (with_arrived old.name page h.forest).tree)
-          (subst (λ n. IfSome (subtree n (with_arrived old.name page h.forest).tree) (λ (a : Tree (Spot Paged)). (machine a).machine ≡ now_of new)) (sym same.name)
-          (subst (λ o. IfSome o (λ (a : Tree (Spot Paged)). (machine a).machine ≡ now_of new))
+          (subst (λ n. IfSome (subtree n (with_arrived old.name page h.forest).tree) (λ (a : Tree Member). paged_of (machine a) ≡ now_of new)) (sym same.name)
+          (subst (λ o. IfSome o (λ (a : Tree Member). paged_of (machine a) ≡ now_of new))
           (sym (at_path-here (flagged (pages_arrived page)) old.name h.forest.tree ∙ ap (option_map (flagged (pages_arrived page))) (at-home depot w t old h).there))
           (machine-arrived page (at-home depot w t old h).at ∙ ap (paged_with page) as-taken ∙ stands-as (pages_arrived page old.pages) is)));
       of_depot = subst (IsOfDepot depot) (sym same.key) h.of_depot;
-      stands = subst (λ n. StandsFor depot w (does paged_machines (took n) (with_arrived old.name page h.forest))) (sym same.name)
+      stands = subst (λ n. StandsFor depot w (does paged_machines paged_talks (took n) (with_arrived old.name page h.forest))) (sym same.name)
           (subst (StandsFor depot w) (flags-taken old.name (pages_arrived page) h.forest) stands);
     }
 
@@ -161,18 +185,18 @@ brought-below here page end arrived few is = subst (λ a. IfSome a (IsBelow end)
     by (Some false) e = omega (arith, few, slice_get_within here page false e)
 
 -- the machine is on lease still, whatever came
-pub brings-lent : (depot : Shelves) (w : World) (t : Tree Paged) (page : ℕ) (old new : Lent) (r : Result (Option Arrived) AllocError) → HasLent depot w t old
-    → Brings depot w t page old r new → (u : Tree Paged) × HasLent depot w u new
+pub brings-lent : (depot : Shelves) (w : World) (t : Family) (page : ℕ) (old new : Lent) (r : Result (Option Arrived) AllocError) → HasLent depot w t old
+    → Brings depot w t page old r new → (u : Family) × HasLent depot w u new
 brings-lent depot w t page old new (Ok arrived) h brings = (with_arrival old.name arrived t, brings.3)
 brings-lent depot w t page old new (Err e) h brings = (t, subst (HasLent depot w t) (sym brings) h)
 
 -- it is back
-back-as : (depot : Shelves) (w : World) (t : Tree Paged) (lease : Lent) → lease.ran ≡ 0 → HasBack depot w t lease → HasMachines depot w t
+back-as : (depot : Shelves) (w : World) (t : Family) (lease : Lent) → lease.ran ≡ 0 → HasBack depot w t lease → HasMachines depot w t
 back-as depot w t lease none back =
-    subst (HasMachines depot w) (ap (λ k. after_steps paged_machines k lease.name t) none ∙ after-none paged_machines lease.name t) back.has
+    subst (HasMachines depot w) (ap (λ k. after_steps paged_machines paged_talks k lease.name t) none ∙ after-none paged_machines paged_talks lease.name t) back.has
 
 module _ (depot : Shelves) (w mid last : World) (s : Driven) (name : Path) (place page : ℕ) (h : HasMachines depot w s.tree) (lease new : Lent)
-    (named : TakesNamed depot h.forest name (Ok (Some lease)) mid) (gives : (u : Tree Paged) → HasLent depot mid u new → HasBack depot last u new) where
+    (named : TakesNamed depot h.forest name (Ok (Some lease)) mid) (gives : (u : Family) → HasLent depot mid u new → HasBack depot last u new) where
   lent : HasLent depot mid s.tree lease
   lent = named-lent depot w mid s.tree name h lease named
 
@@ -187,11 +211,11 @@ module _ (depot : Shelves) (w mid last : World) (s : Driven) (name : Path) (plac
       let own = own-tree depot mid s.tree lease lent in
       let live : live_at paged_machines name s.tree ≡ Some own =
       subst (λ n. live_at paged_machines n s.tree ≡ Some own) named.1 (lent-live depot mid s.tree lease lent) in
-      let pages : (machine own).pages ≡ lease.pages = ap (λ (p : Paged). p.pages) (lent-first depot mid s.tree lease lent named.2.ran) in
+      let pages : (machine own).machine.pages ≡ lease.pages = ap (λ (p : Paged). p.pages) (lent-first depot mid s.tree lease lent named.2.ran) in
       let comes : arrived ≡ arrived_at (page_at (siblings_of name) place s.sent) (Some own) =
       brings.0 ∙ sym (ap (λ (p : Pages). arrived_by (slice_get p.here page) page) pages) ∙ ap (λ n. arrived_at n (Some own)) at in
       let same : arrived ≡ given name place s = comes ∙ ap (arrived_at (page_at (siblings_of name) place s.sent)) (sym live) in (
-        ap Give (shown_is ∙ ap (λ p. arrival_told p arrived) (sym (lent-first depot mid s.tree lease lent named.2.ran)) ∙ ap (arrival_told (machine own)) comes)
+        ap Give (shown_is ∙ ap (λ p. arrival_told p arrived) (sym (lent-first depot mid s.tree lease lent named.2.ran)) ∙ ap (arrival_told (machine own).machine) comes)
             ∙ sym (ap (answer_by (give name place) s) live),
         subst (λ a. HasMachines depot last (with_arrival name a s.tree)) same
             (subst (λ n. HasMachines depot last (with_arrival n arrived s.tree)) named.1
@@ -207,6 +231,6 @@ gives-none depot w s name place h none =
       subst (λ a. HasMachines depot w (with_arrival name a s.tree)) (sym nothing) h,
     )
   where
-    by : (c : Option (Tree Paged)) → answer_by (give name place) s c ≡ Give None
+    by : (c : Option (Family)) → answer_by (give name place) s c ≡ Give None
     by None = refl
-    by (Some a) = ap (λ n. Give (arrival_told (machine a) (arrived_at n (Some a)))) (sym none)
+    by (Some a) = ap (λ n. Give (arrival_told (machine a).machine (arrived_at n (Some a)))) (sym none)

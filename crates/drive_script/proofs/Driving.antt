@@ -9,10 +9,10 @@ use Rattle.std.specs.List.{flat_map}
 use Rattle.std.specs.declared.alloc.AllocError.{AllocError}
 use Rattle.std.specs.declared.alloc.Global.{Global}
 use Rattle.image_depot.specs.Key.{Shelves}
-use Rattle.forest_tree.specs.Tree.{Tree, Path, machine}
-use Rattle.forest_tree.specs.Settle.{settle_all}
-use Rattle.forest_history.specs.World.{is_at_home}
-use Rattle.forest_model.specs.Paged.{Paged, paged_machines, stalled_at}
+use Rattle.forest_tree.specs.Tree.{Path, machine}
+use Rattle.sibling_forest.specs.Settle.{settle_all}
+use Rattle.talking_history.specs.World.{is_at_home}
+use Rattle.forest_model.specs.Paged.{Paged, paged_machines, paged_talks, stalled_at}
 use Rattle.vm_cell.specs.Shown.{peeked, shown_registers}
 use Rattle.world_core.specs.declared.world.World.{World}
 use Rattle.world_core.specs.Answers.{TakesNamed}
@@ -25,7 +25,7 @@ use Rattle.drive_script.specs.declared.line.ScriptLine.{ScriptLine as Read}
 use Rattle.drive_script.specs.Lines.{line_read, lines_read}
 use Rattle.drive_script.specs.Replies.{page_at, place_of, reply_to, siblings_of, with_arrival, with_reply}
 use Rattle.drive_script.specs.Script.{ScriptLine, step, ask, push, give, peek, regs}
-use Rattle.drive_script.specs.Steps.{after_steps, live_at, place_in}
+use Rattle.drive_script.specs.Steps.{Family, after_steps, live_at, place_in}
 use Rattle.drive_script.specs.Told.{Driven, name_in, asked_of, pushed_of, arrived_at, given, steps_of, after_line, after_script, answer, answer_by}
 use Rattle.drive_script.specs.Told.{sent_told, unanswered, made_at, told, told_line, told_text, begun}
 use Rattle.drive_script.specs.Turned.{HasBack, HasLent}
@@ -34,20 +34,20 @@ use Rattle.drive_script.proofs.Sending.{IsSent, no-page}
 use Rattle.drive_script.proofs.Steps.{after-none, all-both, made-none as no-step-made, nobody-stops}
 
 -- no step was made
-none-made : (steps : List Path) (t : Tree Paged) → settle_all paged_machines (take 0 steps) t ≡ t
+none-made : (steps : List Path) (t : Family) → settle_all paged_machines paged_talks (take 0 steps) t ≡ t
 unfolding settle_all
 none-made steps t = refl
 
-pub made-none : (depot : Shelves) (w : World) (steps : List Path) (t : Tree Paged) → HasMachines depot w t → HasMade depot steps t w
+pub made-none : (depot : Shelves) (w : World) (steps : List Path) (t : Family) → HasMachines depot w t → HasMade depot steps t w
 made-none depot w steps t h = record { made = 0; has = subst (HasMachines depot w) (sym (none-made steps t)) h }
 
 -- of some steps so many were made, behind others
-pub made-behind : (depot : Shelves) (w : World) (before steps : List Path) (t : Tree Paged) → HasMade depot steps (settle_all paged_machines before t) w
+pub made-behind : (depot : Shelves) (w : World) (before steps : List Path) (t : Family) → HasMade depot steps (settle_all paged_machines paged_talks before t) w
     → HasMade depot (before ++ steps) t w
 made-behind depot w before steps t h = record {
   made = length before + h.made;
   has = subst (HasMachines depot w)
-      (sym (ap (λ paths. settle_all paged_machines paths t) (take-append-add before steps h.made) ∙ all-both paged_machines before (take h.made steps) t)) h.has;
+      (sym (ap (λ paths. settle_all paged_machines paged_talks paths t) (take-append-add before steps h.made) ∙ all-both paged_machines paged_talks before (take h.made steps) t)) h.has;
 }
 
 -- memory was wanting in a line before its first step
@@ -56,10 +56,10 @@ breaks-first depot w line s h = inl (made-none depot w (steps_of line s.tree) s.
 
 -- ---- where no live machine has the name
 
-step-stays : (path : Path) (most : ℕ) (t : Tree Paged) → live_at paged_machines path t ≡ None → after_steps paged_machines (made_at most path t) path t ≡ t
+step-stays : (path : Path) (most : ℕ) (t : Family) → live_at paged_machines path t ≡ None → after_steps paged_machines paged_talks (made_at most path t) path t ≡ t
 step-stays path most t none =
-    ap (λ n. after_steps paged_machines n path t) (no-step-made paged_machines stalled_at most path t (nobody-stops paged_machines stalled_at path t none))
-    ∙ after-none paged_machines path t
+    ap (λ n. after_steps paged_machines paged_talks n path t) (no-step-made paged_machines paged_talks stalled_at most path t (nobody-stops paged_machines paged_talks stalled_at path t none))
+    ∙ after-none paged_machines paged_talks path t
 
 nothing-comes : (page : Option ℕ) → arrived_at page None ≡ None
 nothing-comes None = refl
@@ -79,7 +79,7 @@ line-stays (give path place) s none = ap (λ arrived. with_arrival path arrived 
 line-stays (peek path address) s none = refl
 line-stays (regs path) s none = refl
 
-not-sent : (path : Path) (s : Driven) (of : Tree Paged → Option ℕ) → live_at paged_machines path s.tree ≡ None
+not-sent : (path : Path) (s : Driven) (of : Family → Option ℕ) → live_at paged_machines path s.tree ≡ None
     → reply_to (siblings_of path) (option_and_then of (live_at paged_machines path s.tree)) ≡ None
 not-sent path s of none = no-page (siblings_of path) (option_and_then of (live_at paged_machines path s.tree)) (ap (option_and_then of) none)
 
@@ -128,20 +128,20 @@ keeps-by-name lists s line of name path r is at named h =
     subst (λ l. IfOk r (λ answered. Keeps lists (after_line l s).sent)) (ap of (named ∙ ap name_in is ∙ at) ∙ sym is) h
 
 -- no live machine has a name of so many forks
-pub too-far : (depot : Shelves) (w : World) (t : Tree Paged) (name : Path) (h : HasMachines depot w t) → is_at_home paged_machines name h.forest.tree ≡ false
+pub too-far : (depot : Shelves) (w : World) (t : Family) (name : Path) (h : HasMachines depot w t) → is_at_home paged_machines paged_talks name h.forest.tree ≡ false
     → live_at paged_machines name t ≡ None
 too-far depot w t name h away = (named-none depot w w t name h (away, h.stands)).0
 
 -- ---- lines that look
 
 -- a machine that was taken and given back, with no step between
-pub record Looked (depot : Shelves) (t : Tree Paged) (name : Path) (now : Paged) (w : World) : Type 0 where
-  pub at : Tree Paged
+pub record Looked (depot : Shelves) (t : Family) (name : Path) (now : Paged) (w : World) : Type 0 where
+  pub at : Family
   pub live : live_at paged_machines name t ≡ Some at
-  pub is : machine at ≡ now
+  pub is : (machine at).machine ≡ now
   pub has : HasMachines depot w t
 
-pub looked : (depot : Shelves) (w mid new : World) (t : Tree Paged) (name : Path) (h : HasMachines depot w t) (lease : Lent)
+pub looked : (depot : Shelves) (w mid new : World) (t : Family) (name : Path) (h : HasMachines depot w t) (lease : Lent)
     → TakesNamed depot h.forest name (Ok (Some lease)) mid → (HasLent depot mid t lease → HasBack depot new t lease) → Looked depot t name (now_of lease) new
 looked depot w mid new t name h lease named gives =
     let lent = named-lent depot w mid t name h lease named in
@@ -150,7 +150,7 @@ looked depot w mid new t name h lease named gives =
       at = own-tree depot mid t lease lent;
       live = subst (λ n. live_at paged_machines n t ≡ Some (own-tree depot mid t lease lent)) named.1 (lent-live depot mid t lease lent);
       is = lent-first depot mid t lease lent named.2.ran;
-      has = subst (HasMachines depot new) (ap (λ k. after_steps paged_machines k lease.name t) named.2.ran ∙ after-none paged_machines lease.name t) back.has;
+      has = subst (HasMachines depot new) (ap (λ k. after_steps paged_machines paged_talks k lease.name t) named.2.ran ∙ after-none paged_machines paged_talks lease.name t) back.has;
     }
 
 pub peeks : (depot : Shelves) (w : World) (s : Driven) (name : Path) (address : ℕ) (word : Option ℕ) (now : Paged) → word ≡ peeked now.machine.state address
@@ -173,16 +173,16 @@ shows depot w s name values now is look = (
 module _ (depot : Shelves) (w : World) (s : Driven) (name : Path) (now : Paged) (look : Looked depot s.tree name now w)
     (lists : BTreeMap Path (Vec ℕ Global)) (page : Option ℕ) (placed : Option SentPlace)
     (sent : IsSent lists s.sent (reply_to (siblings_of name) page) placed) where
-  reply-is : (of : Tree Paged → Option ℕ) → page ≡ of look.at
+  reply-is : (of : Family → Option ℕ) → page ≡ of look.at
       → reply_to (siblings_of name) page ≡ reply_to (siblings_of name) (option_and_then of (live_at paged_machines name s.tree))
   reply-is of is = ap (reply_to (siblings_of name)) (is ∙ sym (ap (option_and_then of) look.live))
 
   -- it is told by the number of its page
-  sent-told : (shown : Option SentPlace) (of : Tree Paged → Option ℕ) → shown ≡ sent_told now placed → page ≡ of look.at
-      → shown ≡ sent_told (machine look.at) (place_of (reply_to (siblings_of name) (of look.at)) s.sent)
+  sent-told : (shown : Option SentPlace) (of : Family → Option ℕ) → shown ≡ sent_told now placed → page ≡ of look.at
+      → shown ≡ sent_told (machine look.at).machine (place_of (reply_to (siblings_of name) (of look.at)) s.sent)
   sent-told shown of is at =
       is ∙ ap (λ p. sent_told p placed) (sym look.is)
-      ∙ ap (sent_told (machine look.at)) (sent.0 ∙ ap (λ n. place_of (reply_to (siblings_of name) n) s.sent) at)
+      ∙ ap (sent_told (machine look.at).machine) (sent.0 ∙ ap (λ n. place_of (reply_to (siblings_of name) n) s.sent) at)
 
   pub asks : (shown : Option SentPlace) → shown ≡ sent_told now placed → page ≡ stalled_at now
       → DrivesLine depot (ask name) s (Ok (Ask shown)) w × Keeps lists (after_line (ask name) s).sent
@@ -220,7 +220,7 @@ unfolding after_script told
 told-next [] line s = refl
 told-next (first ∷ rest) line s = ap (λ more. (name_in first, answer first s) ∷ more) (told-next rest line (after_line first s))
 
-pub text-next : (done : List ScriptLine) (line : ScriptLine) (t : Tree Paged)
+pub text-next : (done : List ScriptLine) (line : ScriptLine) (t : Family)
     → told_text (done ++ line ∷ []) t ≡ told_text done t ++ told_line (name_in line, answer line (after_script done (begun t)))
 unfolding told_text
 text-next done line t =

@@ -5,6 +5,8 @@ mod Names
 mod Scripts
 mod Steps
 mod OneMachine
+mod Ways
+mod Stories
 mod Arrivals
 mod Sending
 mod Lined

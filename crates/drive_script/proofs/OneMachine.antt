@@ -1,22 +1,25 @@
--- What steps of one machine leave at each place of a tree.
-use Rattle.std.proofs.Common.{◌≡◌, ◌≢◌, ℕ, zero, suc, ◌<◌, ◌&&◌, eqb, eqb-true, Bool, true, false, cond, refl, sym, ap, ap₂, ◌∙◌, subst, arith, ◌⊎◌}
-use Rattle.std.proofs.Common.{inl, inr, [], ◌∷◌, ◌++◌, replicate, Option, Some, None, IsSome, option_and_then, option_map}
-use Rattle.std.proofs.lemmas.Bool.{and_parts}
+-- What steps of one machine leave at each place of a family.
+use Rattle.std.proofs.Common.{◌≡◌, ◌≢◌, ℕ, zero, suc, ◌&&◌, eqb, eqb-true, eq-eqb, Bool, true, false, cond, refl, sym, ap, ap₂, ◌∙◌, subst, ◌⊎◌}
+use Rattle.std.proofs.Common.{inl, inr, [], ◌∷◌, Option, Some, None, IsSome, option_and_then, option_map}
+use Rattle.std.proofs.lemmas.Bool.{and_parts, eqb-false}
 use Rattle.forest_tree.specs.Operations.{Call, clone, join, kill, Operations, is_cloned, Makes, IsMachine}
-use Rattle.forest_tree.specs.Tree.{Tree, node, Trees, no_tree, Broods, brood, Log, joined, killed, machine, log_of, broods_of, child_at, brood_of}
-use Rattle.forest_tree.specs.Tree.{without, Branch, Path, subtree, beyond, goes_on, is_below, beyond_all, with_path}
-use Rattle.forest_tree.specs.Settle.{have_ended, endings, children, settled_by, settled, join_by, step_by, step, settle, settle_all}
+use Rattle.forest_tree.specs.Tree.{Tree, node, Trees, no_tree, Broods, brood, Log, joined, killed, machine, log_of, broods_of, at_child, child_at, brood_of}
+use Rattle.forest_tree.specs.Tree.{at_brood, without, Branch, Path, subtree, beyond, goes_on, is_below}
+use Rattle.forest_tree.specs.Settle.{have_ended, endings, children, settled_by, settled, join_by, step_by, step}
+use Rattle.forest_tree.specs.Finish.{with_broods}
 use Rattle.forest_tree.specs.Sound.{IsSound}
 use Rattle.forest_tree.proofs.Broods.{one_if}
-use Rattle.forest_tree.proofs.Settle.{clone-is-new, machine-settled, root-sound, settle-keeps}
+use Rattle.forest_tree.proofs.Settle.{clone-is-new, machine-settled, root-sound}
 use Rattle.forest_tree.proofs.Run.{cases-ending, step-ended, step-lives}
-use Rattle.forest_tree.proofs.Places.{some-same, brood_of-none, brood_of-without, is-within, subtree-parts, subtree-sound}
-use Rattle.forest_tree.proofs.Rests.{settle-here}
-use Rattle.forest_tree.proofs.Names.{settle_all-at}
-use Rattle.forest_history.specs.Places.{at_beyond, steps}
-use Rattle.forest_history.proofs.Changes.{at_path-elsewhere, at_path-log, at_path-machine, settle_all-changes}
-use Rattle.drive_script.proofs.Steps.{after-first, after-none}
+use Rattle.forest_tree.proofs.Places.{some-same, brood_of-at, brood_of-none, brood_of-without, child_at-same, child_at-other}
+use Rattle.sibling_forest.specs.Talk.{Talk, send, receive, Talks, queue, Box}
+use Rattle.sibling_forest.specs.Settle.{sibling_rests, sibling_step, sibling_step_by, settle}
+use Rattle.sibling_forest.specs.Laws.{child_number, is_sibling}
+use Rattle.sibling_forest.proofs.Inner.{inner, settle-is, inner-none, brings-subtree}
+use Rattle.sibling_forest.proofs.Others.{queues-stay as queues-one}
+use Rattle.sibling_forest.proofs.Siblings.{brings, brings-machine, sibling-moves, after-one}
 use Rattle.drive_script.specs.Steps.{after_steps, Drops, by_kill, by_join, by_end}
+use Rattle.drive_script.proofs.Steps.{after-first, after-none}
 
 -- ---- paths
 
@@ -57,63 +60,197 @@ below-apart (a ∷ path) (b ∷ at) h =
     if-none (eqb a.ticket b.ticket && eqb a.child b.child) (beyond at path)
     (below-apart path at (if-goes (eqb b.ticket a.ticket && eqb b.child a.child) (beyond path at) h))
 
-pub beyond-all-none : (at path : Path) (n : ℕ) → beyond at path ≡ None → beyond_all at (replicate n path) ≡ []
-unfolding beyond_all
-beyond-all-none at path zero h = refl
-beyond-all-none at path (suc n) h = ap (λ first. with_path first (beyond_all at (replicate n path))) h ∙ beyond-all-none at path n h
+-- ---- trees that are not below
 
--- ---- machines that are not below
+-- what a view of a tree shows of it, where it overlooks what may change there
+module _ {M E : Type 0} (o : Operations M E) (k : Talks M) {A : Type 0} (view : Tree (Box M) → A) where
+  abbrev seen : Option (Tree (Box M)) → Option A
+  seen c = option_map view c
 
-module _ {M : Type 0} where
-  pub apart-by : (f : Tree M → Tree M) (rest : Option Path) (c : Option (Tree M)) → rest ≡ None → option_map (at_beyond f rest) c ≡ c
-  apart-by f None None h = refl
-  apart-by f None (Some t) h = refl
-  apart-by f (Some rest) c h = cc h
+  -- it overlooks the children
+  abbrev pub Shallow : Type 0
+  Shallow = (f : Broods (Box M) → Broods (Box M)) (t : Tree (Box M)) → view (with_broods f t) ≡ view t
 
-  pub machine-by : (f : Tree M → Tree M) (rest : Option Path) (c : Option (Tree M)) → rest ≢ Some [] → option_map machine (option_map (at_beyond f rest) c) ≡ option_map machine c
-  machine-by f None None h = refl
-  machine-by f None (Some t) h = refl
-  machine-by f (Some []) c h = absurd (h refl)
-  machine-by f (Some (b ∷ rest)) None h = refl
-  machine-by f (Some (b ∷ rest)) (Some t) h = ap Some (at_path-machine f b rest t)
+  -- and what child i of the same ticket says
+  abbrev pub Deaf : ℕ → Type 0
+  Deaf i = (what : Option Talk) (word : ℕ) (t : Tree (Box M)) → view (brings o k what i word t) ≡ view t
 
-  pub log-by : (f : Tree M → Tree M) (rest : Option Path) (c : Option (Tree M)) → rest ≢ Some [] → option_map log_of (option_map (at_beyond f rest) c) ≡ option_map log_of c
-  log-by f None None h = refl
-  log-by f None (Some t) h = refl
-  log-by f (Some []) c h = absurd (h refl)
-  log-by f (Some (b ∷ rest)) None h = refl
-  log-by f (Some (b ∷ rest)) (Some t) h = ap Some (at_path-log f b rest t)
+  -- another child of the ticket, and below it
+  sibling-seen : (way : Path) (i j : ℕ) (trees : Trees (Box M)) → i ≢ j → (way ≡ [] → Deaf i) → (rest : Bool) → sibling_rests o k i trees ≡ rest
+      → seen (option_and_then (subtree way) (child_at j (sibling_step o k i trees))) ≡ seen (option_and_then (subtree way) (child_at j trees))
+  unfolding subtree
+  sibling-seen way i j trees other deaf true e =
+      ap (λ left. seen (option_and_then (subtree way) (child_at j left))) (ap (λ rest. sibling_step_by o k rest (child_at i trees) i trees) e)
+  sibling-seen way i j trees other deaf false e =
+      let a = sibling-moves o k i trees e in
+      ap (λ left. seen (option_and_then (subtree way) (child_at j left))) (a.1).steps
+      ∙ after-one o k i trees a.0 a.1 (λ c. seen (option_and_then (subtree way) c) ≡ seen (option_and_then (subtree way) (child_at j trees))) j refl
+      (λ here. absurd (other here))
+      (λ t was. hears way deaf (k.talk (machine a.0).machine) (k.word (machine a.0).machine) t ∙ was)
+    where
+      hears : (way : Path) → (way ≡ [] → Deaf i) → (what : Option Talk) (word : ℕ) (t : Tree (Box M))
+          → seen (subtree way (brings o k what i word t)) ≡ seen (subtree way t)
+      hears [] deaf what word t = ap Some (deaf refl what word t)
+      hears (z ∷ way) deaf what word t = ap seen (brings-subtree o k what i word z way t)
+
+  inside-seen : (c : Branch) (p way : Path) (there : Option (Tree (Box M)))
+      → ((u : Tree (Box M)) → seen (subtree way (settle o k (c ∷ p) u)) ≡ seen (subtree way u))
+      → seen (option_and_then (subtree way) (option_map (settle o k (c ∷ p)) there)) ≡ seen (option_and_then (subtree way) there)
+  inside-seen c p way None down = refl
+  inside-seen c p way (Some u) down = down u
+
+  -- how the ways go on
+  abbrev OnWay : Path → Path → Type 0
+  OnWay at path = (beyond at path ≡ None → ⊥) → Shallow
+
+  abbrev Beside : Path → Path → Type 0
+  Beside at path = is_sibling path at ≡ true → Deaf (child_number path)
+
+  -- of two ways that begin alike
+  goes-alike : (b y : Branch) (p way : Path) → b.ticket ≡ y.ticket → b.child ≡ y.child → beyond (y ∷ way) (b ∷ p) ≡ beyond way p
+  unfolding beyond
+  goes-alike b y p way ticket child =
+      ap₂ (λ s c. cond (s && c) (beyond way p) None) (eq-eqb b.ticket y.ticket ticket) (eq-eqb b.child y.child child)
+
+  below-alike : (b y : Branch) (p way : Path) → b.ticket ≡ y.ticket → b.child ≡ y.child → is_below (b ∷ p) (y ∷ way) ≡ false → is_below p way ≡ false
+  unfolding beyond
+  below-alike b y p way ticket child h =
+      sym (ap₂ (λ s c. goes_on (cond (s && c) (beyond p way) None))
+      (eq-eqb y.ticket b.ticket (sym ticket)) (eq-eqb y.child b.child (sym child))) ∙ h
+
+  on-way : (b y : Branch) (p way : Path) → b.ticket ≡ y.ticket → b.child ≡ y.child → OnWay (y ∷ way) (b ∷ p) → OnWay way p
+  on-way b y p way ticket child h there = h (λ none. there (sym (goes-alike b y p way ticket child) ∙ none))
+
+  not-below : (way : Path) → is_below [] way ≡ false → way ≡ []
+  unfolding beyond
+  not-below [] h = refl
+  not-below (z ∷ way) h = absurd (cc)
+
+  branch-is : (b y : Branch) → b.ticket ≡ y.ticket → b.child ≡ y.child → y ≡ b
+  branch-is b y ticket child = ap₂ (λ (t c : ℕ). record { ticket = t; child = c }) (sym ticket) (sym child)
+
+  -- what goes on below a branch
+  abbrev Down : Path → Path → Type 0
+  Down p way = (u : Tree (Box M)) → way ≢ p → is_below p way ≡ false → OnWay way p → Beside way p
+      → seen (subtree way (settle o k p u)) ≡ seen (subtree way u)
+
+  branch-seen : (p way : Path) (b y : Branch) (trees : Trees (Box M)) (child : Bool) → eqb b.child y.child ≡ child → b.ticket ≡ y.ticket
+      → (y ∷ way) ≢ (b ∷ p) → is_below (b ∷ p) (y ∷ way) ≡ false → OnWay (y ∷ way) (b ∷ p) → Beside (y ∷ way) (b ∷ p) → Down p way
+      → seen (option_and_then (subtree way) (child_at y.child (inner o k p b.child trees))) ≡ seen (option_and_then (subtree way) (child_at y.child trees))
+  unfolding is_sibling child_number
+  branch-seen [] way b y trees true e ticket other below on deaf down =
+      let child : b.child ≡ y.child = eqb-true b.child y.child e in
+      absurd (other (ap₂ (λ (v : Branch) (w : Path). v ∷ w) (branch-is b y ticket child) (not-below way (below-alike b y [] way ticket child below))))
+  branch-seen [] way b y trees false e ticket other below on deaf down =
+      sibling-seen way b.child y.child trees (eqb-false b.child y.child e)
+      (λ none. deaf (ap (λ w. is_sibling (b ∷ []) (y ∷ w)) none ∙ eq-eqb b.ticket y.ticket ticket)) (sibling_rests o k b.child trees) refl
+  branch-seen (c ∷ p) way b y trees false e ticket other below on deaf down =
+      ap (λ d. seen (option_and_then (subtree way) d)) (child_at-other (settle o k (c ∷ p)) b.child y.child trees (eqb-false b.child y.child e))
+  branch-seen (c ∷ p) way b y trees true e ticket other below on deaf down =
+      let child : b.child ≡ y.child = eqb-true b.child y.child e in
+      ap (λ n. seen (option_and_then (subtree way) (child_at y.child (at_child (settle o k (c ∷ p)) n trees)))) child
+      ∙ ap (λ d. seen (option_and_then (subtree way) d)) (child_at-same (settle o k (c ∷ p)) y.child trees)
+      ∙ inside-seen c p way (child_at y.child trees) (λ u. down u
+      (λ same. other (ap₂ (λ (v : Branch) (w : Path). v ∷ w) (branch-is b y ticket child) same))
+      (below-alike b y (c ∷ p) way ticket child below)
+      (on-way b y (c ∷ p) way ticket child on)
+      (λ is. deaf (ap₂ (λ s d. s && d && is_sibling (c ∷ p) way) (eq-eqb b.ticket y.ticket ticket) e ∙ is)))
+
+  in-root : (y : Branch) (way : Path) → is_below [] (y ∷ way) ≡ false → ⊥
+  unfolding beyond
+  in-root y way h = absurd (cc)
+
+  -- where nothing is left of a way the view is shallow
+  on-first : (b : Branch) (p : Path) → OnWay [] (b ∷ p) → Shallow
+  unfolding beyond
+  on-first b p on = on (λ none. absurd (cc none))
+
+  view-stays : (path at : Path) (t : Tree (Box M)) → at ≢ path → is_below path at ≡ false → OnWay at path → Beside at path
+      → seen (subtree at (settle o k path t)) ≡ seen (subtree at t)
+  unfolding subtree
+  view-stays [] [] t other below on deaf = absurd (other refl)
+  view-stays [] (y ∷ way) t other below on deaf = absurd (in-root y way below)
+  view-stays (b ∷ p) [] t other below on deaf =
+      ap (λ u. Some (view u)) (settle-is o k b p t)
+      ∙ ap Some (on-first b p on (at_brood (inner o k p b.child) b.ticket) t)
+  view-stays (b ∷ p) (y ∷ way) (node x broods log) other below on deaf =
+      ap (λ u. seen (subtree (y ∷ way) u)) (settle-is o k b p (node x broods log))
+      ∙ ap (λ trees. seen (option_and_then (subtree way) (child_at y.child trees))) (brood_of-at (inner o k p b.child) (inner-none o k p b.child) b.ticket y.ticket broods)
+      ∙ by (eqb b.ticket y.ticket) refl (λ u. view-stays p way u)
+    where
+      by : (ticket : Bool) → eqb b.ticket y.ticket ≡ ticket → Down p way
+          → seen (option_and_then (subtree way) (child_at y.child (cond ticket (inner o k p b.child (brood_of y.ticket broods)) (brood_of y.ticket broods))))
+          ≡ seen (option_and_then (subtree way) (child_at y.child (brood_of y.ticket broods)))
+      by false e down = refl
+      by true e down =
+          branch-seen p way b y (brood_of y.ticket broods) (eqb b.child y.child) refl (eqb-true b.ticket y.ticket e) other below on deaf down
+
+  -- it is the same after any steps of the machine at a path
+  pub views-stay : (n : ℕ) (path at : Path) (t : Tree (Box M)) → at ≢ path → is_below path at ≡ false → ((beyond at path ≡ None → ⊥) → Shallow)
+      → (is_sibling path at ≡ true → Deaf (child_number path))
+      → option_map view (subtree at (after_steps o k n path t)) ≡ option_map view (subtree at t)
+  views-stay zero path at t other below on deaf = ap (λ u. option_map view (subtree at u)) (after-none o k path t)
+  views-stay (suc n) path at t other below on deaf =
+      ap (λ u. option_map view (subtree at u)) (after-first o k n path t)
+      ∙ views-stay n path at (settle o k path t) other below on deaf ∙ view-stays path at t other below on deaf
+
+module _ {M E : Type 0} (o : Operations M E) (k : Talks M) where
+  shallow-machine : (f : Broods (Box M) → Broods (Box M)) (t : Tree (Box M)) → machine (with_broods f t) ≡ machine t
+  shallow-machine f (node b broods log) = refl
+
+  shallow-log : (f : Broods (Box M) → Broods (Box M)) (t : Tree (Box M)) → log_of (with_broods f t) ≡ log_of t
+  shallow-log f (node b broods log) = refl
+
+  deaf-log : (what : Option Talk) (i word : ℕ) (t : Tree (Box M)) → log_of (brings o k what i word t) ≡ log_of t
+  deaf-log None i word t = refl
+  deaf-log (Some (send j)) i word (node b broods log) = refl
+  deaf-log (Some (receive j)) i word t = refl
+
+  pub others-stay : (n : ℕ) (path at : Path) (t : Tree (Box M)) → at ≢ path → is_below path at ≡ false
+      → option_map (λ (a : Tree (Box M)). (machine a).machine) (subtree at (after_steps o k n path t)) ≡ option_map (λ (a : Tree (Box M)). (machine a).machine) (subtree at t)
+  others-stay n path at t other below =
+      views-stay o k (λ a. (machine a).machine) n path at t other below (λ on f u. ap (λ (b : Box M). b.machine) (shallow-machine f u))
+      (λ is what word u. brings-machine o k what (child_number path) word u)
+
+  pub words-stay : (n : ℕ) (path at : Path) (from : ℕ) (t : Tree (Box M)) → at ≢ path → is_below path at ≡ false
+      → (is_sibling path at ≡ true → from ≢ child_number path)
+      → option_map (λ (a : Tree (Box M)). queue from (machine a).inbox) (subtree at (after_steps o k n path t))
+      ≡ option_map (λ (a : Tree (Box M)). queue from (machine a).inbox) (subtree at t)
+  words-stay zero path at from t other below apart = ap (λ u. option_map (λ (a : Tree (Box M)). queue from (machine a).inbox) (subtree at u)) (after-none o k path t)
+  words-stay (suc n) path at from t other below apart =
+      ap (λ u. option_map (λ (a : Tree (Box M)). queue from (machine a).inbox) (subtree at u)) (after-first o k n path t)
+      ∙ words-stay n path at from (settle o k path t) other below apart ∙ queues-one o k path at from t other below apart
+
+  pub logs-stay : (n : ℕ) (path at : Path) (t : Tree (Box M)) → at ≢ path → is_below path at ≡ false
+      → option_map log_of (subtree at (after_steps o k n path t)) ≡ option_map log_of (subtree at t)
+  logs-stay n path at t other below =
+      views-stay o k log_of n path at t other below (λ on f u. shallow-log f u) (λ is what word u. deaf-log what (child_number path) word u)
+
+  same-option : (c : Option (Tree (Box M))) → option_map (λ (a : Tree (Box M)). a) c ≡ c
+  same-option None = refl
+  same-option (Some a) = refl
+
+  pub itself-on : (at : Path) → beyond at at ≡ Some []
+  unfolding beyond
+  itself-on [] = refl
+  itself-on (y ∷ way) = ap₂ (λ s c. cond (s && c) (beyond way way) None) (eq-eqb y.ticket y.ticket refl) (eq-eqb y.child y.child refl) ∙ itself-on way
+
+  pub off-other : (at path : Path) → beyond at path ≡ None → at ≢ path
+  off-other at path off same = let no : Some [] ≡ None = sym (itself-on at) ∙ ap (beyond at) same ∙ off in absurd (cc)
+
+  pub apart-stays : (n : ℕ) (path at : Path) (t : Tree (Box M)) → is_below path at ≡ false → beyond at path ≡ None → is_sibling path at ≡ false
+      → subtree at (after_steps o k n path t) ≡ subtree at t
+  apart-stays n path at t below off beside =
+      sym (same-option (subtree at (after_steps o k n path t)))
+      ∙ views-stay o k (λ a. a) n path at t (off-other at path off) below (λ on. absurd (on off)) (λ is. absurd (yes-no (is_sibling path at) is beside))
+      ∙ same-option (subtree at t)
+    where
+      yes-no : (b : Bool) → b ≡ true → b ≡ false → ⊥
+      yes-no b h n = cc
+
+-- ---- what is dropped
 
 module _ {M E : Type 0} (o : Operations M E) where
-  elsewhere : (n : ℕ) (path at : Path) (t : Tree M) → is_below path at ≡ false
-      → subtree at (after_steps o n path t) ≡ option_map (at_beyond (steps o n) (beyond at path)) (subtree at t)
-  elsewhere n path at t apart = ap (subtree at) (settle_all-changes o n path t) ∙ at_path-elsewhere (steps o n) path at t apart
-
-  pub others-stay : (n : ℕ) (path at : Path) (t : Tree M) → at ≢ path → is_below path at ≡ false
-      → option_map machine (subtree at (after_steps o n path t)) ≡ option_map machine (subtree at t)
-  others-stay n path at t other apart =
-      ap (option_map machine) (elsewhere n path at t apart)
-      ∙ machine-by (steps o n) (beyond at path) (subtree at t) (λ h. other (beyond-itself at path h))
-
-  pub logs-stay : (n : ℕ) (path at : Path) (t : Tree M) → at ≢ path → is_below path at ≡ false
-      → option_map log_of (subtree at (after_steps o n path t)) ≡ option_map log_of (subtree at t)
-  logs-stay n path at t other apart =
-      ap (option_map log_of) (elsewhere n path at t apart)
-      ∙ log-by (steps o n) (beyond at path) (subtree at t) (λ h. other (beyond-itself at path h))
-
-  pub apart-stays : (n : ℕ) (path at : Path) (t : Tree M) → is_below path at ≡ false → beyond at path ≡ None
-      → subtree at (after_steps o n path t) ≡ subtree at t
-  apart-stays n path at t below apart = elsewhere n path at t below ∙ apart-by (steps o n) (beyond at path) (subtree at t) apart
-
-  pub below-stays : IsMachine o → (n : ℕ) (path at : Path) (t a b : Tree M) → IsSound o t → is_below path at ≡ true
-      → subtree at t ≡ Some a → subtree at (after_steps o n path t) ≡ Some b → b ≡ a
-  unfolding settle_all
-  below-stays rules n path at t a b h below here there =
-      settle_all-at o rules at (replicate n path) t a b h here there
-      ∙ ap (λ paths. settle_all o paths a) (beyond-all-none at path n (below-apart path at below))
-
-  -- ---- what is dropped
-
   broods-settled : (m : M) (broods : Broods M) (log : Log M) → o.ending (machine (settled o m broods log)) ≡ None → broods_of (settled o m broods log) ≡ broods
   broods-settled m broods log lives =
       ap (λ e. broods_of (settled_by o e m broods log)) (sym (ap o.ending (machine-settled o m broods log)) ∙ lives)
@@ -176,7 +313,7 @@ module _ {M E : Type 0} (o : Operations M E) where
       ]
     ]
 
-    gone-by : (b : Branch) (rest : Path) (x a : Tree M) → IsSound o x → subtree (b ∷ rest) x ≡ Some a → subtree (b ∷ rest) (step o x) ≡ None → Drops o b.ticket x
+    pub gone-by : (b : Branch) (rest : Path) (x a : Tree M) → IsSound o x → subtree (b ∷ rest) x ≡ Some a → subtree (b ∷ rest) (step o x) ≡ None → Drops o b.ticket x
     unfolding subtree child_at
     gone-by b rest x a h here there =
         let within : Trees M → Option (Tree M) = λ trees. option_and_then (subtree rest) (child_at b.child trees) in
@@ -184,31 +321,4 @@ module _ {M E : Type 0} (o : Operations M E) where
         elim (left-step x h b.ticket some) [
           | inl same ↦ (let no : None ≡ Some a = sym there ∙ ap within same ∙ here in absurd (cc))
           | inr drops ↦ drops
-        ]
-
-    gone-step : (path : Path) (b : Branch) (rest : Path) (t a : Tree M) → IsSound o t → subtree (path ++ (b ∷ rest)) t ≡ Some a
-        → subtree (path ++ (b ∷ rest)) (settle o path t) ≡ None → (x : Tree M) × (subtree path t ≡ Some x) × Drops o b.ticket x
-    gone-step path b rest t a h here there =
-        let is = is-within o (b ∷ rest) (subtree path t) a (sym (subtree-parts path (b ∷ rest) t) ∙ here) in
-        let moved = settle-here o rules path t is.0 is.1 in
-        let gone : subtree (b ∷ rest) (step o is.0) ≡ None =
-        sym (subtree-parts path (b ∷ rest) (settle o path t) ∙ ap (option_and_then (subtree (b ∷ rest))) moved) ∙ there in
-        (is.0, is.1, gone-by b rest is.0 a (subtree-sound o path t is.0 h is.1) is.2 gone)
-
-    -- what is below and gone was dropped by one of the steps
-    pub gone-steps : (n : ℕ) (path : Path) (b : Branch) (rest : Path) (t a : Tree M) → IsSound o t → subtree (path ++ (b ∷ rest)) t ≡ Some a
-        → subtree (path ++ (b ∷ rest)) (after_steps o n path t) ≡ None
-        → (k : ℕ) × (k < n) × (x : Tree M) × (subtree path (after_steps o k path t) ≡ Some x) × Drops o b.ticket x
-    gone-steps zero path b rest t a h here there =
-        let no : None ≡ Some a = sym there ∙ ap (subtree (path ++ (b ∷ rest))) (after-none o path t) ∙ here in absurd (cc)
-    gone-steps (suc n) path b rest t a h here there =
-        let first = after-first o n path t in
-        elim (cases-ending (subtree (path ++ (b ∷ rest)) (settle o path t))) [
-          | inl found ↦
-              let later = gone-steps n path b rest (settle o path t) found.0 (settle-keeps o rules path t h).sound found.1
-              (sym (ap (subtree (path ++ (b ∷ rest))) first) ∙ there) in
-              (suc later.0, omega arith, later.2, ap (subtree path) (after-first o later.0 path t) ∙ later.3, later.4)
-          | inr lost ↦
-              let now = gone-step path b rest t a h here lost in
-              (0, omega arith, now.0, ap (subtree path) (after-none o path t) ∙ now.1, now.2)
         ]

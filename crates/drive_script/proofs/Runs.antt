@@ -1,241 +1,299 @@
--- What rows of a world make of the tree of whole machines, and how many steps of a machine they are.
-use Rattle.std.proofs.Common.{◌≡◌, ℕ, zero, suc, ◌+◌, ◌<◌, ◌&&◌, ◌||◌, not, eqb, Bool, true, false, cond, refl, sym, ap, ap₂, ◌∙◌, arith, [], replicate, Option, Some, None, option_map, is_some}
-use Rattle.std.proofs.lemmas.Bool.{and_parts, not-true}
-use Rattle.forest_tree.specs.Operations.{Call, clone, join, kill, Operations}
-use Rattle.forest_tree.specs.Tree.{Tree, node, Trees, no_tree, tree, Broods, no_brood, brood, Log, Path, machine, brood_of, subtree}
-use Rattle.forest_tree.specs.Settle.{have_ended, waits_by, waits, rests, settled_by, settled, step, settle}
-use Rattle.forest_tree.specs.Projection.{map_tree, map_trees, map_broods}
-use Rattle.forest_tree.proofs.Calls.{step-own}
-use Rattle.forest_tree.proofs.Projected.{settle-map, settle_all-map}
+-- What rows of a world make of the family of whole machines, and how many steps of a machine they are.
+use Rattle.std.proofs.Common.{◌≡◌, ◌≢◌, ℕ, zero, suc, ◌+◌, ◌<◌, ◌&&◌, ◌||◌, not, Bool, true, false, refl, sym, ap, ap₂, ◌∙◌, subst, arith, inl, inr}
+use Rattle.std.proofs.Common.{List, [], ◌∷◌, replicate, Option, Some, None, IsSome, is_some, option_map}
+use Rattle.std.proofs.lemmas.Bool.{and_parts, not-true, or_from}
+use Rattle.forest_tree.specs.Operations.{Operations, IsMachine}
+use Rattle.forest_tree.specs.Tree.{Tree, node, Broods, Log, Path, machine, subtree, beyond, is_below}
+use Rattle.forest_tree.specs.Settle.{settled_by, settled, step}
+use Rattle.forest_tree.specs.Projection.{map_tree}
+use Rattle.forest_tree.proofs.Places.{some-same}
+use Rattle.forest_tree.proofs.Projected.{step-map, subtree-map}
 use Rattle.forest_tree.proofs.Rests.{lives-none}
-use Rattle.forest_tree.proofs.Settle.{machine-settled}
-use Rattle.forest_history.specs.Places.{at_path, Place, home, out, parked, Spot, placed, bare, spots, advanced, may_run, steps}
-use Rattle.forest_history.specs.Rows.{How, gave, ended, forked, joined, killed, waited, is_clone, is_join, is_kill, may_spend, spend, came_back}
-use Rattle.forest_history.proofs.Changes.{at_path-here, at_path-leaves, at_path-twice, settle-changes, settle_all-changes}
+use Rattle.sibling_forest.specs.Talk.{Talk, peer, Talks, Inbox, Box, kept_by, after, boxed, IsTalking}
+use Rattle.sibling_forest.specs.Settle.{settle, settle_all, rests_at}
+use Rattle.sibling_forest.specs.Laws.{box_of, child_number, is_sibling, read_of}
+use Rattle.sibling_forest.specs.Members.{IsWholeForest}
+use Rattle.sibling_forest.proofs.Finish.{same-path}
+use Rattle.sibling_forest.proofs.Members.{settle-whole}
+use Rattle.sibling_forest.proofs.Others.{own-step}
+use Rattle.sibling_forest.proofs.Projected.{boxes-project, settle-map}
+use Rattle.sibling_forest.proofs.WhatIsRead.{read-rests}
+use Rattle.forest_history.specs.Places.{at_path, at_beyond, out, Spot, spots, advanced, steps}
+use Rattle.forest_history.proofs.Changes.{at_path-elsewhere, at_path-here}
 use Rattle.forest_history.proofs.Ends.{at_path-map}
-use Rattle.forest_history.proofs.Spots.{projects}
-use Rattle.fork_port.specs.declared.ending.Ending.{Ending}
-use Rattle.drive_script.specs.declared.answer.Why.{Why}
-use Rattle.drive_script.specs.declared.answer.Why.TheVariants.{Ended, Stalls, Waits, MayGoOn}
-use Rattle.drive_script.specs.Steps.{steps_made, stops, after_steps, why_at, why_by, why}
+use Rattle.forest_history.proofs.Spots.{machine-spots, projects}
+use Rattle.talking_history.specs.Places.{placed, bare, spot_talks, boxes, may_run}
+use Rattle.talking_history.specs.Rows.{How, back, made, run_at, came_back}
+use Rattle.talking_history.proofs.Beside.{rests-parts, silent-waits}
+use Rattle.talking_history.proofs.Changes.{machine-after, runs-on, steps-own}
+use Rattle.talking_history.proofs.Ends.{bare-put}
+use Rattle.talking_history.proofs.Spots.{talking-spots, talks-alike}
+use Rattle.talking_history.proofs.Turned.{run-is}
+use Rattle.drive_script.specs.Steps.{steps_made, stops, after_steps, with_machine}
 use Rattle.drive_script.proofs.Steps.{after-both, after-first, after-none, made-both, made-more, made-zero}
+use Rattle.drive_script.proofs.Stories.{number-is}
+use Rattle.drive_script.proofs.Ways.{beyond-beside, no-sibling, sibling-is}
 
--- how many steps a row adds to those that the machine made by itself
-abbrev pub calls : How → ℕ
-calls gave = 0
-calls ended = 0
-calls forked = 1
-calls joined = 1
-calls killed = 1
-calls waited = 0
+module _ {M E : Type 0} (o : Operations M E) (k : Talks M) where
+  -- ---- the family of whole machines
 
-module _ {M E : Type 0} (o : Operations M E) where
-  abbrev inner : Spot M → M
-  inner s = s.machine
+  pub bare-run : (n : ℕ) (name : Path) (t : Tree (Box (Spot M))) → bare (run_at o k name n t) ≡ after_steps o k n name (bare t)
+  unfolding settle_all
+  bare-run zero name t = refl
+  bare-run (suc n) name t =
+      bare-run n name (settle (spots o) (spot_talks k) name t)
+      ∙ ap (after_steps o k n name) (sym (settle-map (spots o) o (spot_talks k) k (λ (s : Spot M). s.machine) (projects o) (talks-alike k) name t))
 
-  -- ---- the tree of whole machines
+  -- a machine that is taken and comes back has made its own steps, and its call or its talk
+  pub bare-turned : (how : How) (name : Path) (n : ℕ) (t : Tree (Box (Spot M)))
+      → bare (came_back o k how name n (at_path (placed out) name t)) ≡ after_steps o k (made how n) name (bare t)
+  bare-turned how name n t =
+      bare-put o k (back how) name (run_at o k name (made how n) (at_path (placed out) name t))
+      ∙ bare-run (made how n) name (at_path (placed out) name t)
+      ∙ ap (after_steps o k (made how n) name) (bare-put o k out name t)
 
-  pub bare-placed : (place : Place) (t : Tree (Spot M)) → bare (placed place t) ≡ bare t
+  pub bare-machine : (u : Tree (Box (Spot M))) → (machine (bare u)).machine ≡ (machine u).machine.machine
   unfolding map_tree
-  bare-placed place (node s broods log) = refl
+  bare-machine (node b broods log) = refl
 
-  -- another place changes no machine
-  pub bare-put : (place : Place) (name : Path) (t : Tree (Spot M)) → bare (at_path (placed place) name t) ≡ bare t
-  bare-put place name t =
-      at_path-map inner (placed place) (λ u. u) (λ u. bare-placed place u) name t ∙ at_path-leaves (λ u. u) (λ u. refl) name (bare t)
-
-  bare-steps : (k : ℕ) (name : Path) (t : Tree (Spot M)) → bare (at_path (steps (spots o) k) name t) ≡ after_steps o k name (bare t)
-  bare-steps k name t =
-      ap bare (sym (settle_all-changes (spots o) k name t)) ∙ sym (settle_all-map (spots o) o inner (projects o) (replicate k name) t)
-
-  bare-called : (name : Path) (t : Tree (Spot M)) → bare (at_path (λ a. placed home (step (spots o) a)) name t) ≡ after_steps o 1 name (bare t)
-  bare-called name t =
-      ap bare (sym (at_path-twice (step (spots o)) (placed home) name t)) ∙ bare-put home name (at_path (step (spots o)) name t)
-      ∙ ap bare (sym (settle-changes (spots o) name t)) ∙ sym (settle-map (spots o) o inner (projects o) name t)
-      ∙ sym (after-first o 0 name (bare t) ∙ after-none o name (settle o name (bare t)))
-
-  bare-spend : (how : How) (name : Path) (t : Tree (Spot M)) → bare (at_path (spend o how) name t) ≡ after_steps o (calls how) name (bare t)
-  bare-spend gave name t = bare-put home name t ∙ sym (after-none o name (bare t))
-  bare-spend ended name t = bare-put home name t ∙ sym (after-none o name (bare t))
-  bare-spend forked name t = bare-called name t
-  bare-spend joined name t = bare-called name t
-  bare-spend killed name t = bare-called name t
-  bare-spend waited name t = bare-put parked name t ∙ sym (after-none o name (bare t))
-
-  -- a machine that is taken and comes back has made its own steps, and its call
-  pub bare-turned : (how : How) (name : Path) (k : ℕ) (t : Tree (Spot M))
-      → bare (at_path (came_back o how k) name (at_path (placed out) name t)) ≡ after_steps o (k + calls how) name (bare t)
-  bare-turned how name k t =
-      let taken : Tree (Spot M) = at_path (placed out) name t in
-      ap bare (sym (at_path-twice (steps (spots o) k) (spend o how) name taken))
-      ∙ bare-spend how name (at_path (steps (spots o) k) name taken)
-      ∙ ap (after_steps o (calls how) name) (bare-steps k name taken ∙ ap (after_steps o k name) (bare-put out name t))
-      ∙ sym (after-both o k (calls how) name (bare t))
-
-  -- the tree of the machine itself
-  pub bare-alone : (k : ℕ) (t : Tree (Spot M)) → bare (steps (spots o) k t) ≡ steps o k (bare t)
-  unfolding at_path
-  bare-alone k t = bare-steps k [] t ∙ settle_all-changes o k [] (bare t)
-
-  -- ---- steps
-
-  pub steps-at : (k : ℕ) (name : Path) (t a : Tree M) → subtree name t ≡ Some a → subtree name (after_steps o k name t) ≡ Some (steps o k a)
-  steps-at k name t a here =
-      ap (subtree name) (settle_all-changes o k name t) ∙ at_path-here (steps o k) name t ∙ ap (option_map (steps o k)) here
-
-  pub step-at : (name : Path) (t a : Tree M) → subtree name t ≡ Some a → subtree name (settle o name t) ≡ Some (step o a)
-  step-at name t a here = ap (subtree name) (settle-changes o name t) ∙ at_path-here (step o) name t ∙ ap (option_map (step o)) here
+  -- ---- own steps
 
   -- a machine whose next steps are its own makes the first
-  record OwnStep (k : ℕ) (a : Tree M) : Type 0 where
-    goes : rests o (Some a) ≡ false
-    is : machine (step o a) ≡ o.advance (machine a)
-    later : may_run o k (o.advance (machine a)) ≡ true
+  record OwnStep (n : ℕ) (path : Path) (t a : Tree (Box M)) : Type 0 where
+    goes : rests_at o k path t ≡ false
+    moved : subtree path (settle o k path t) ≡ Some (step (boxed o k) a)
+    is : (machine (step (boxed o k) a)).machine ≡ o.advance (machine a).machine
+    later : may_run o k n (o.advance (machine a).machine) ≡ true
 
-  own-step : (k : ℕ) (a : Tree M) → may_run o (suc k) (machine a) ≡ true → OwnStep k a
-  unfolding may_run
-  own-step k (node m broods log) own =
-      let first = and_parts (not (is_some (o.ending m))) (not (is_some (o.call m)) && may_run o k (o.advance m)) own in
-      let then = and_parts (not (is_some (o.call m))) (may_run o k (o.advance m)) first.1 in
-      let lives : o.ending m ≡ None = lives-none (o.ending m) (not-true (is_some (o.ending m)) first.0) in
-      let call : o.call m ≡ None = lives-none (o.call m) (not-true (is_some (o.call m)) then.0) in
+  none-said : (what : Option Talk) (said : Talk) → what ≡ None → what ≡ Some said → ⊥
+  none-said what said none some = cc
+
+  own-one : (n : ℕ) (path : Path) (t a : Tree (Box M)) → subtree path t ≡ Some a → may_run o k (suc n) (machine a).machine ≡ true → OwnStep n path t a
+  unfolding may_run steps advanced
+  own-one n path t a here own =
+      let m : M = (machine a).machine in
+      let first = and_parts (not (is_some (o.ending m))) (not (is_some (o.call m)) && (not (is_some (k.talk m)) && may_run o k n (o.advance m))) own in
+      let then = and_parts (not (is_some (o.call m))) (not (is_some (k.talk m)) && may_run o k n (o.advance m)) first.1 in
+      let last = and_parts (not (is_some (k.talk m))) (may_run o k n (o.advance m)) then.1 in
+      let quiet : k.talk m ≡ None = lives-none (k.talk m) (not-true (is_some (k.talk m)) last.0) in
+      let one : may_run o k 1 m ≡ true = ap₂ (λ x y. x && (y && (not (is_some (k.talk m)) && true))) first.0 then.0 ∙ ap (λ z. z && true) last.0 in
+      let moves : rests_at o k path t ≡ false = rests-parts o k path t a here ∙ or_from _ _ (runs-on o k n a own) (silent-waits o k path t a here quiet) in
       record {
-        goes = ap₂ (λ e c. is_some e || waits_by o c broods) lives call;
-        is = ap machine (step-own o m broods log lives call) ∙ machine-settled o (o.advance m) broods log;
-        later = then.1;
+        goes = moves;
+        moved = own-step o k path t a here moves (λ said talks. absurd (none-said (k.talk m) said quiet talks));
+        is = machine-after o k 1 a one;
+        later = last.1;
       }
 
-  -- and stands then where they lead
-  pub run-machine : (k : ℕ) (a : Tree M) → may_run o k (machine a) ≡ true → machine (steps o k a) ≡ advanced o k (machine a)
-  unfolding steps advanced
-  run-machine zero a own = refl
-  run-machine (suc k) a own =
-      let one = own-step k a own in
-      run-machine k (step o a) (ap (may_run o k) one.is ∙ one.later) ∙ ap (advanced o k) one.is
+  -- ---- whether a machine rests
 
-  -- ---- whether a machine waits
+  unchanged : (f : Tree (Box M) → Tree (Box M)) (left : Option Path) (c : Option (Tree (Box M))) → left ≡ None → option_map (at_beyond f left) c ≡ c
+  unchanged f None None h = refl
+  unchanged f None (Some t) h = refl
+  unchanged f (Some rest) c h = cc h
 
-  have_ended-bare : (trees : Trees (Spot M)) → have_ended o (map_trees inner trees) ≡ have_ended (spots o) trees
-  unfolding have_ended map_trees map_tree spots
-  have_ended-bare no_tree = refl
-  have_ended-bare (tree (node s broods log) rest) = ap (λ all. is_some (o.ending s.machine) && all) (have_ended-bare rest)
-
-  brood-bare : (t : ℕ) (broods : Broods (Spot M)) → have_ended o (brood_of t (map_broods inner broods)) ≡ have_ended (spots o) (brood_of t broods)
-  unfolding brood_of map_broods
-  brood-bare t no_brood = have_ended-bare no_tree
-  brood-bare t (brood u trees rest) = by (eqb u t) (brood-bare t rest)
+  beside-stays : (f : Tree (Box M) → Tree (Box M)) (name at : Path) (t : Tree (Box M)) → is_sibling name at ≡ true → at ≢ name
+      → subtree at (at_path f name t) ≡ subtree at t
+  unfolding is_sibling
+  beside-stays f [] at t beside other = absurd (cc)
+  beside-stays f (b ∷ path) at t beside other =
+      let is : at ≡ _ = sibling-is (b ∷ path) at beside in
+      at_path-elsewhere f (b ∷ path) at t (not-below (is_below (b ∷ path) at) refl)
+      ∙ elim (beyond-beside (child_number at) b path) [
+        | inl off ↦ unchanged f (beyond at (b ∷ path)) (subtree at t) (ap (λ p. beyond p (b ∷ path)) is ∙ off)
+        | inr same ↦ absurd (other (is ∙ same))
+      ]
     where
-      by : (here : Bool) → have_ended o (brood_of t (map_broods inner rest)) ≡ have_ended (spots o) (brood_of t rest)
-          → have_ended o (cond here (map_trees inner trees) (brood_of t (map_broods inner rest))) ≡ have_ended (spots o) (cond here trees (brood_of t rest))
-      by true later = have_ended-bare trees
-      by false later = later
+      not-below : (under : Bool) → is_below (b ∷ path) at ≡ under → is_below (b ∷ path) at ≡ false
+      not-below false e = e
+      not-below true e = let no : true ≡ false = sym beside ∙ no-sibling (b ∷ path) at e in absurd (cc)
 
-  pub waits-bare : (t : Tree (Spot M)) → waits o (bare t) ≡ waits (spots o) t
-  unfolding map_tree spots
-  waits-bare (node s broods log) = by (o.call s.machine)
+  -- it is told of its own tree, and of those beside it
+  pub rests-same : (f g : Tree (Box M) → Tree (Box M)) (name : Path) (t a : Tree (Box M)) → subtree name t ≡ Some a → f a ≡ g a
+      → rests_at o k name (at_path f name t) ≡ rests_at o k name (at_path g name t)
+  rests-same f g name t a here same =
+      read-rests o k name (at_path g name t) (at_path f name t) (record {
+        there = subst IsSome (sym (at-name g)) refl;
+        own = own;
+        siblings = λ at beside. ap (read_of o (child_number name)) (elim (same-path at name) [
+          | inl is ↦ ap (λ p. subtree p (at_path f name t)) is ∙ own ∙ sym (ap (λ p. subtree p (at_path g name t)) is)
+          | inr other ↦ beside-stays f name at t beside other ∙ sym (beside-stays g name at t beside other)
+        ]);
+      })
     where
-      by : (c : Option Call) → waits_by o c (map_broods inner broods) ≡ waits_by (spots o) c broods
-      by None = refl
-      by (Some (clone t)) = refl
-      by (Some (join t)) = ap not (brood-bare t broods)
-      by (Some (kill t)) = refl
+      at-name : (h : Tree (Box M) → Tree (Box M)) → subtree name (at_path h name t) ≡ Some (h a)
+      at-name h = at_path-here h name t ∙ ap (option_map h) here
 
-  -- a machine that makes a call does not rest
-  clone-goes : (e : Option E) (c : Option Call) (broods : Broods M) → not (is_some e) && is_clone c ≡ true → is_some e || waits_by o c broods ≡ false
-  clone-goes None None broods h = refl
-  clone-goes None (Some (clone t)) broods h = refl
-  clone-goes None (Some (join t)) broods h = cc h
-  clone-goes None (Some (kill t)) broods h = refl
-  clone-goes (Some ending) c broods h = absurd (cc)
+      own : subtree name (at_path f name t) ≡ subtree name (at_path g name t)
+      own = at-name f ∙ ap Some same ∙ sym (at-name g)
 
-  kill-goes : (e : Option E) (c : Option Call) (broods : Broods M) → not (is_some e) && is_kill c ≡ true → is_some e || waits_by o c broods ≡ false
-  kill-goes None None broods h = refl
-  kill-goes None (Some (clone t)) broods h = refl
-  kill-goes None (Some (join t)) broods h = cc h
-  kill-goes None (Some (kill t)) broods h = refl
-  kill-goes (Some ending) c broods h = absurd (cc)
+  alive : (m : M) (inbox : Inbox) (broods : Broods (Box M)) (log : Log (Box M)) → o.ending m ≡ None
+      → settled (boxed o k) (after o k m inbox) broods log ≡ node (record { machine = m; inbox = inbox }) broods log
+  unfolding boxed
+  alive m inbox broods log lives =
+      ap (λ e. settled_by (boxed o k) e (after o k m inbox) broods log) lives
+      ∙ ap (λ e. node (record { machine = m; inbox = kept_by o k e inbox }) broods log) lives
 
-  join-goes : (e : Option E) (c : Option Call) (broods : Broods M) (test : Bool) → (not (is_some e) && test) && not (waits_by o c broods) ≡ true
-      → is_some e || waits_by o c broods ≡ false
-  join-goes None c broods test h = not-true (waits_by o c broods) (and_parts test (not (waits_by o c broods)) h).1
-  join-goes (Some ending) c broods test h = cc h
+  ran-live : (n : ℕ) (a : Tree (Box M)) → o.ending (machine a).machine ≡ None → may_run o k n (machine a).machine ≡ true
+      → o.ending (advanced o n (machine a).machine) ≡ None → steps (boxed o k) n a ≡ with_machine (advanced o n (machine a).machine) a
+  ran-live n (node b broods log) begins own lives =
+      steps-own o k n b broods log begins own ∙ alive (advanced o n b.machine) b.inbox broods log lives
 
-  pub call-goes : (how : How) (a : Tree M) (m : M) (waiting : Bool) → machine a ≡ m → waits o a ≡ waiting → calls how ≡ 1
-      → may_spend o how m waiting ≡ true → rests o (Some a) ≡ false
-  call-goes how (node n broods log) m waiting is same one may =
-      by how one
-      (ap (λ w. may_spend o how n w) same ∙ ap (λ k. may_spend o how k waiting) is ∙ may)
+  one-machine : (m : M) (a : Tree (Box M)) → (machine (with_machine m a)).machine ≡ m
+  one-machine m (node b broods log) = refl
+
+  pub ended-rests : (name : Path) (t a : Tree (Box M)) → subtree name t ≡ Some a → is_some (o.ending (machine a).machine) ≡ true → rests_at o k name t ≡ true
+  unfolding boxed
+  ended-rests name t a here over = rests-parts o k name t a here ∙ by (is_some (o.ending (machine a).machine)) _ _ over
     where
-      by : (how : How) → calls how ≡ 1 → may_spend o how n (waits_by o (o.call n) broods) ≡ true → is_some (o.ending n) || waits_by o (o.call n) broods ≡ false
-      by gave one may = absurd (omega (arith, one))
-      by ended one may = absurd (omega (arith, one))
-      by forked one may = clone-goes (o.ending n) (o.call n) broods may
-      by joined one may = join-goes (o.ending n) (o.call n) broods (is_join (o.call n)) may
-      by killed one may = kill-goes (o.ending n) (o.call n) broods may
-      by waited one may = absurd (omega (arith, one))
+      by : (x y z : Bool) → x ≡ true → (x || y) || z ≡ true
+      by true y z h = refl
+      by false y z h = absurd (cc)
 
-module _ {M E : Type 0} (o : Operations M E) (stall : M → Option ℕ) where
+  -- after its own steps a machine rests where it rests as it stands then
+  module _ (n : ℕ) (name : Path) (t a : Tree (Box M)) (here : subtree name t ≡ Some a) (begins : o.ending (machine a).machine ≡ None)
+      (own : may_run o k n (machine a).machine ≡ true) where
+    abbrev pub now : M
+    now = advanced o n (machine a).machine
+
+    abbrev pub ran : Tree (Box M)
+    ran = at_path (steps (boxed o k) n) name t
+
+    abbrev pub stands : Tree (Box M)
+    stands = at_path (with_machine now) name t
+
+    pub ran-there : subtree name ran ≡ Some (steps (boxed o k) n a)
+    ran-there = at_path-here (steps (boxed o k) n) name t ∙ ap (option_map (steps (boxed o k) n)) here
+
+    pub stands-there : subtree name stands ≡ Some (with_machine now a)
+    stands-there = at_path-here (with_machine now) name t ∙ ap (option_map (with_machine now)) here
+
+    pub ran-machine : (machine (steps (boxed o k) n a)).machine ≡ now
+    ran-machine = machine-after o k n a own
+
+    pub stands-machine : (machine (with_machine now a)).machine ≡ now
+    stands-machine = one-machine now a
+
+    pub ran-rests : rests_at o k name ran ≡ rests_at o k name stands
+    ran-rests = by (o.ending now) refl
+      where
+        by : (e : Option E) → o.ending now ≡ e → rests_at o k name ran ≡ rests_at o k name stands
+        by None e = rests-same (steps (boxed o k) n) (with_machine now) name t a here (ran-live n a begins own e)
+        by (Some ending) e =
+            ended-rests name ran (steps (boxed o k) n a) ran-there (ap (λ m. is_some (o.ending m)) ran-machine ∙ ap is_some e)
+            ∙ sym (ended-rests name stands (with_machine now a) stands-there (ap (λ m. is_some (o.ending m)) stands-machine ∙ ap is_some e))
+
+module _ {M E : Type 0} (o : Operations M E) (k : Talks M) (stall : M → Option ℕ) where
   -- a machine that does not rest and waits for no page goes on
-  pub goes-on : (a : Tree M) → rests o (Some a) ≡ false → stall (machine a) ≡ None → stops o stall (Some a) ≡ false
-  goes-on a goes here = ap₂ (λ rest page. rest || is_some page) goes here
+  pub goes-on : (path : Path) (t a : Tree (Box M)) → subtree path t ≡ Some a → rests_at o k path t ≡ false → stall (machine a).machine ≡ None
+      → stops o k stall path t ≡ false
+  goes-on path t a there goes here =
+      ap₂ (λ rest stalled. rest || stalled) goes
+      (ap (λ c. stalls-in c) there ∙ ap (λ page. is_some page) here)
+    where
+      stalls-in : Option (Tree (Box M)) → Bool
+      stalls-in None = false
+      stalls-in (Some b) = is_some (stall (machine b).machine)
 
   -- its own steps are made, where it waits for a page at none of them
-  pub run-made : (k : ℕ) (name : Path) (t a : Tree M) → subtree name t ≡ Some a → may_run o k (machine a) ≡ true
-      → ((j : ℕ) → j < k → stall (advanced o j (machine a)) ≡ None) → steps_made o stall k name t ≡ k
+  pub run-made : (n : ℕ) (name : Path) (t a : Tree (Box M)) → subtree name t ≡ Some a → may_run o k n (machine a).machine ≡ true
+      → ((j : ℕ) → j < n → stall (advanced o j (machine a).machine) ≡ None) → steps_made o k stall n name t ≡ n
   unfolding advanced
-  run-made zero name t a there own here = made-zero o stall name t
-  run-made (suc k) name t a there own here =
-      let one = own-step o k a own in
-      made-more o stall k name t (ap (stops o stall) there ∙ goes-on a one.goes (here 0 (omega arith)))
-      ∙ ap suc (run-made k name (settle o name t) (step o a) (step-at o name t a there) (ap (may_run o k) one.is ∙ one.later)
+  run-made zero name t a there own here = made-zero o k stall name t
+  run-made (suc n) name t a there own here =
+      let one = own-one o k n name t a there own in
+      made-more o k stall n name t (goes-on name t a there one.goes (here 0 (omega arith)))
+      ∙ ap suc (run-made n name (settle o k name t) (step (boxed o k) a) one.moved (ap (may_run o k n) one.is ∙ one.later)
       (λ j below. ap (λ m. stall (advanced o j m)) one.is ∙ here (suc j) (omega (arith, below))))
 
   -- one more is made where it does not stop
-  pub more-made : (k : ℕ) (name : Path) (t : Tree M) → steps_made o stall k name t ≡ k → stops o stall (subtree name (after_steps o k name t)) ≡ false
-      → steps_made o stall (k + 1) name t ≡ k + 1
-  more-made k name t made goes =
-      let is : after_steps o (steps_made o stall k name t) name t ≡ after_steps o k name t = ap (λ n. after_steps o n name t) made in
-      made-both o stall k 1 name t
-      ∙ ap₂ (λ n u. n + steps_made o stall 1 name u) made is
-      ∙ ap (λ n. k + n) (made-more o stall 0 name (after_steps o k name t) goes ∙ ap suc (made-zero o stall name (settle o name (after_steps o k name t))))
+  pub more-made : (n : ℕ) (name : Path) (t : Tree (Box M)) → steps_made o k stall n name t ≡ n → stops o k stall name (after_steps o k n name t) ≡ false
+      → steps_made o k stall (n + 1) name t ≡ n + 1
+  more-made n name t made goes =
+      let is : after_steps o k (steps_made o k stall n name t) name t ≡ after_steps o k n name t = ap (λ x. after_steps o k x name t) made in
+      made-both o k stall n 1 name t
+      ∙ ap₂ (λ x u. x + steps_made o k stall 1 name u) made is
+      ∙ ap (λ x. n + x) (made-more o k stall 0 name (after_steps o k n name t) goes ∙ ap suc (made-zero o k stall name (settle o k name (after_steps o k n name t))))
 
-module _ {M : Type 0} (o : Operations M Ending) (stall : M → Option ℕ) where
-  -- ---- why a machine stops
-
-  -- a machine that ends drops its children, and stops for its end with them or without
-  why-settled-by : (e : Option Ending) (m : M) (broods : Broods M) (log : Log M) → o.ending m ≡ e
-      → why o stall (settled_by o e m broods log) ≡ why_by o e (stall m) (o.call m) broods
-  why-settled-by None m broods log is = ap (λ e. why_by o e (stall m) (o.call m) broods) is
-  why-settled-by (Some ending) m broods log is = ap (λ e. why_by o e (stall m) (o.call m) no_brood) is
-
-  pub why-settled : (m : M) (broods : Broods M) (log : Log M) → why o stall (settled o m broods log) ≡ why o stall (node m broods log)
-  why-settled m broods log = why-settled-by (o.ending m) m broods log refl
-
-  pub why-ended : (t : Tree M) (ending : Ending) → o.ending (machine t) ≡ Some ending → why o stall t ≡ Ended ending
-  why-ended (node m broods log) ending over = ap (λ e. why_by o e (stall m) (o.call m) broods) over
-
-  pub why-stalls : (t : Tree M) (page : ℕ) → o.ending (machine t) ≡ None → stall (machine t) ≡ Some page → why o stall t ≡ Stalls page
-  why-stalls (node m broods log) page lives waits_for = ap₂ (λ e p. why_by o e p (o.call m) broods) lives waits_for
-
-  pub why-waits : (t : Tree M) (ticket : ℕ) → o.ending (machine t) ≡ None → stall (machine t) ≡ None → o.call (machine t) ≡ Some (join ticket)
-      → waits o t ≡ true → why o stall t ≡ Waits ticket
-  why-waits (node m broods log) ticket lives here call waiting =
-      ap₂ (λ e p. why_by o e p (o.call m) broods) lives here ∙ ap (λ c. why_at o c broods) call
-      ∙ by (have_ended o (brood_of ticket broods)) (ap (λ c. waits_by o c broods) (sym call) ∙ waiting)
+  -- it stops where it does as it stands
+  pub ran-stops : (n : ℕ) (name : Path) (t a : Tree (Box M)) (here : subtree name t ≡ Some a) (begins : o.ending (machine a).machine ≡ None)
+      (own : may_run o k n (machine a).machine ≡ true)
+      → stops o k stall name (ran o k n name t a here begins own) ≡ stops o k stall name (stands o k n name t a here begins own)
+  ran-stops n name t a here begins own =
+      ap₂ (λ rest stalled. rest || stalled) (ran-rests o k n name t a here begins own)
+      (ap (λ c. stalls-in c) (ran-there o k n name t a here begins own)
+      ∙ ap (λ m. is_some (stall m)) (ran-machine o k n name t a here begins own ∙ sym (stands-machine o k n name t a here begins own))
+      ∙ sym (ap (λ c. stalls-in c) (stands-there o k n name t a here begins own)))
     where
-      by : (all : Bool) → not all ≡ true → ◌≡◌ {A = Why} (cond all MayGoOn (Waits ticket)) (Waits ticket)
-      by true h = absurd (cc)
-      by false h = refl
+      stalls-in : Option (Tree (Box M)) → Bool
+      stalls-in None = false
+      stalls-in (Some b) = is_some (stall (machine b).machine)
 
-  pub why-goes : (t : Tree M) → o.ending (machine t) ≡ None → stall (machine t) ≡ None → waits o t ≡ false → why o stall t ≡ MayGoOn
-  why-goes (node m broods log) lives here ready = ap₂ (λ e p. why_by o e p (o.call m) broods) lives here ∙ by (o.call m) ready
-    where
-      ready-join : (ticket : ℕ) (all : Bool) → not all ≡ false → ◌≡◌ {A = Why} (cond all MayGoOn (Waits ticket)) MayGoOn
-      ready-join ticket true h = refl
-      ready-join ticket false h = absurd (cc)
+-- ---- a talk names another
 
-      by : (c : Option Call) → waits_by o c broods ≡ false → why_at o c broods ≡ MayGoOn
-      by None h = refl
-      by (Some (clone ticket)) h = refl
-      by (Some (join ticket)) h = ready-join ticket (have_ended o (brood_of ticket broods)) h
-      by (Some (kill ticket)) h = refl
+module _ {M E : Type 0} (o : Operations M E) (k : Talks M) (rules : IsMachine o) (talking : IsTalking o k) where
+  pub names-other : (path : Path) (t a : Tree (Box M)) → IsWholeForest o k t → subtree path t ≡ Some a → (what : Talk) → k.talk (machine a).machine ≡ Some what
+      → peer what ≢ child_number path
+  unfolding subtree
+  names-other [] t a h found what talks e =
+      let least = talking.first (machine a).machine what talks in
+      let most = talking.last (machine a).machine what talks in
+      let root : k.siblings (machine a).machine ≡ 0 = ap (λ (u : Tree (Box M)). k.siblings (machine u).machine) (some-same a t (sym found)) ∙ h.root in
+      absurd (omega (arith, least, most, root))
+  names-other (b ∷ path) t a h found what talks e =
+      talking.other (machine a).machine what talks (e ∙ sym (number-is o k b path t a h.members found))
+
+  pub all-whole : (paths : List Path) (t : Tree (Box M)) → IsWholeForest o k t → IsWholeForest o k (settle_all o k paths t)
+  unfolding settle_all
+  all-whole [] t h = h
+  all-whole (path ∷ rest) t h = all-whole rest (settle o k path t) (settle-whole o k rules talking path t h)
+
+-- ---- of machines at their places
+
+module _ {M E : Type 0} (o : Operations M E) (k : Talks M) (rules : IsMachine o) (talking : IsTalking o k) where
+  bare-step : (u : Tree (Box (Spot M))) → bare (step (boxes o k) u) ≡ step (boxed o k) (bare u)
+  bare-step u =
+      sym (step-map (boxes o k) (boxed o k) (box_of (λ (s : Spot M). s.machine))
+      (boxes-project (spots o) o (spot_talks k) k (λ (s : Spot M). s.machine) (projects o) (talks-alike k)) u)
+
+  bare-steps : (n : ℕ) (u : Tree (Box (Spot M))) → bare (steps (boxes o k) n u) ≡ steps (boxed o k) n (bare u)
+  unfolding steps
+  bare-steps zero u = refl
+  bare-steps (suc n) u = bare-steps n (step (boxes o k) u) ∙ ap (steps (boxed o k) n) (bare-step u)
+
+  module _ (n : ℕ) (name : Path) (t a : Tree (Box (Spot M))) (h : IsWholeForest (spots o) (spot_talks k) t) (here : subtree name t ≡ Some a)
+      (own : may_run o k n (machine a).machine.machine ≡ true) where
+    -- its own steps are a change at its path
+    pub ran-is : after_steps o k n name (bare t) ≡ at_path (steps (boxed o k) n) name (bare t)
+    ran-is =
+        sym (bare-run o k n name t) ∙ ap bare (run-is o k rules talking name n t a h.sound here own)
+        ∙ at_path-map (box_of (λ (s : Spot M). s.machine)) (steps (boxes o k) n) (steps (boxed o k) n) (λ u. bare-steps n u) name t
+
+    pub bare-here : subtree name (bare t) ≡ Some (bare a)
+    bare-here = subtree-map (box_of (λ (s : Spot M). s.machine)) name t ∙ ap (option_map bare) here
+
+    ran-here : subtree name (after_steps o k n name (bare t)) ≡ Some (steps (boxed o k) n (bare a))
+    ran-here = ap (subtree name) ran-is ∙ at_path-here (steps (boxed o k) n) name (bare t) ∙ ap (option_map (steps (boxed o k) n)) bare-here
+
+    -- as it stands then its talk names another
+    spot-here : subtree name (run_at o k name n t) ≡ Some (steps (boxes o k) n a)
+    spot-here =
+        ap (subtree name) (run-is o k rules talking name n t a h.sound here own)
+        ∙ at_path-here (steps (boxes o k) n) name t ∙ ap (option_map (steps (boxes o k) n)) here
+
+    same-talk : k.talk (machine (steps (boxes o k) n a)).machine.machine ≡ k.talk (machine (steps (boxed o k) n (bare a))).machine
+    same-talk = ap k.talk (sym (bare-machine o k (steps (boxes o k) n a)) ∙ ap (λ (u : Tree (Box M)). (machine u).machine) (bare-steps n a))
+
+    then-other : (what : Talk) → k.talk (machine (steps (boxed o k) n (bare a))).machine ≡ Some what → peer what ≢ child_number name
+    unfolding spot_talks
+    then-other what talks =
+        names-other (spots o) (spot_talks k) (machine-spots o rules) (talking-spots o k talking) name (run_at o k name n t) (steps (boxes o k) n a)
+        (all-whole (spots o) (spot_talks k) (machine-spots o rules) (talking-spots o k talking) (replicate n name) t h) spot-here what (same-talk ∙ talks)
+
+    -- and then it makes its call or its talk
+    pub called-here : rests_at o k name (after_steps o k n name (bare t)) ≡ false
+        → subtree name (after_steps o k (n + 1) name (bare t)) ≡ Some (step (boxed o k) (steps (boxed o k) n (bare a)))
+    called-here moves =
+        let before : Tree (Box M) = after_steps o k n name (bare t) in
+        ap (subtree name) (after-both o k n 1 name (bare t) ∙ after-first o k 0 name before ∙ after-none o k name (settle o k name before))
+        ∙ own-step o k name before (steps (boxed o k) n (bare a)) ran-here moves then-other

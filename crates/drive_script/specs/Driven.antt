@@ -4,11 +4,11 @@ use Rattle.std.specs.BTreeMap.{BTreeMap, get}
 use Rattle.std.specs.declared.alloc.AllocError.{AllocError}
 use Rattle.std.specs.declared.alloc.Global.{Global}
 use Rattle.image_depot.specs.Key.{Shelves}
-use Rattle.forest_tree.specs.Tree.{Tree, Path}
-use Rattle.forest_tree.specs.Settle.{settle_all}
-use Rattle.forest_history.specs.Places.{bare}
-use Rattle.forest_history.specs.World.{IsWhole}
-use Rattle.forest_model.specs.Paged.{Paged, paged_machines}
+use Rattle.forest_tree.specs.Tree.{Path}
+use Rattle.sibling_forest.specs.Settle.{settle_all}
+use Rattle.talking_history.specs.Places.{bare}
+use Rattle.talking_history.specs.World.{IsWhole}
+use Rattle.forest_model.specs.Paged.{paged_machines, paged_talks}
 use Rattle.machine_names.specs.Name.{child_path}
 use Rattle.machine_names.specs.NameOrder.{path_cmp}
 use Rattle.world_core.specs.declared.world.World.{World}
@@ -16,21 +16,21 @@ use Rattle.world_core.specs.World.{Forest, StandsFor}
 use Rattle.drive_script.specs.declared.answer.Answer.{Answer}
 use Rattle.drive_script.specs.Script.{ScriptLine}
 use Rattle.drive_script.specs.Replies.{Siblings, Replies}
-use Rattle.drive_script.specs.Steps.{live_at}
+use Rattle.drive_script.specs.Steps.{Family, live_at}
 use Rattle.drive_script.specs.Told.{Driven, after_line, after_script, answer, begun, steps_of, told_text}
 
 -- the world has these machines, and none of them is on lease
-pub record HasMachines (depot : Shelves) (w : World) (t : Tree Paged) : Type 0 where
+pub record HasMachines (depot : Shelves) (w : World) (t : Family) : Type 0 where
   -- with a place for each
   pub forest : Forest
   pub stands : StandsFor depot w forest
-  pub whole : IsWhole paged_machines forest.tree
+  pub whole : IsWhole forest.tree
   pub same : bare forest.tree ≡ t
 
 -- of these steps so many were made, the first ones
-pub record HasMade (depot : Shelves) (steps : List Path) (t : Tree Paged) (w : World) : Type 0 where
+pub record HasMade (depot : Shelves) (steps : List Path) (t : Family) (w : World) : Type 0 where
   pub made : ℕ
-  pub has : HasMachines depot w (settle_all paged_machines (take made steps) t)
+  pub has : HasMachines depot w (settle_all paged_machines paged_talks (take made steps) t)
 
 -- ---- what was sent
 
@@ -66,12 +66,12 @@ pub record HasBrokenOff (depot : Shelves) (lines : List ScriptLine) (s : Driven)
   pub breaks : BreaksOff depot line (after_script done s) w
 
 -- the script is done and this is its text, or memory was wanting on the way
-abbrev pub Drives : Shelves → List ScriptLine → Tree Paged → Result (Vec ℕ Global) AllocError → World → Type 0
+abbrev pub Drives : Shelves → List ScriptLine → Family → Result (Vec ℕ Global) AllocError → World → Type 0
 Drives depot lines t (Ok text) w = (text.items ≡ told_text lines t) × HasMachines depot w (after_script lines (begun t)).tree
 Drives depot lines t (Err e) w = HasBrokenOff depot lines (begun t) w
 
 -- the name of a line is put together, or no live machine has it
-abbrev pub IsNameIn : Path → Tree Paged → Result (Option Path) AllocError → Type 0
+abbrev pub IsNameIn : Path → Family → Result (Option Path) AllocError → Type 0
 IsNameIn path t (Ok None) = live_at paged_machines path t ≡ None
 IsNameIn path t (Ok (Some name)) = name ≡ path
 IsNameIn path t (Err e) = Unit {0}

@@ -2,6 +2,7 @@ pub mod Script
 pub mod NameTexts
 pub mod Lines
 pub mod Steps
+pub mod Story
 pub mod Replies
 pub mod Told
 pub mod Written

@@ -2,10 +2,11 @@
 use Rattle.std.specs.Prelude.{ℕ, ◌==◌, ◌&&◌, Bool, true, false, if◌then◌else◌, List, [], ◌∷◌, ◌++◌, length, slice_get, Option, Some, None}
 use Rattle.cow_disk.specs.declared.arrived.Arrived.{Arrived}
 use Rattle.cow_disk.specs.declared.arrived.Arrived.TheVariants.{Got, Had}
-use Rattle.forest_tree.specs.Tree.{Tree, node, Branch, Path}
+use Rattle.forest_tree.specs.Tree.{node, Branch, Path}
 use Rattle.forest_history.specs.Places.{at_path}
 use Rattle.forest_history.specs.Histories.{is_same_path}
 use Rattle.forest_model.specs.Paged.{Paged, pages_arrived}
+use Rattle.drive_script.specs.Steps.{Family}
 use Rattle.drive_script.specs.declared.answer.SentPlace.{SentPlace}
 
 -- ---- to whom
@@ -69,11 +70,11 @@ arrived_by (Some false) page = Some (Got page)
 abbrev pub paged_with : ℕ → Paged → Paged
 paged_with page p = record p { pages = pages_arrived page p.pages }
 
-abbrev pub tree_with : ℕ → Tree Paged → Tree Paged
-tree_with page (node p broods log) = node (paged_with page p) broods log
+abbrev pub tree_with : ℕ → Family → Family
+tree_with page (node b broods log) = node (record b { machine = paged_with page b.machine }) broods log
 
 -- the forest after a page has come to the machine at a path, or was here
-abbrev pub with_arrival : Path → Option Arrived → Tree Paged → Tree Paged
+abbrev pub with_arrival : Path → Option Arrived → Family → Family
 with_arrival path None t = t
 with_arrival path (Some (Had page)) t = t
 with_arrival path (Some (Got page)) t = at_path (tree_with page) path t

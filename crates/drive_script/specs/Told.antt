@@ -5,10 +5,12 @@ use Rattle.std.specs.Fmt.{decimal}
 use Rattle.std.specs.List.{flat_map}
 use Rattle.cow_disk.specs.declared.arrived.Arrived.{Arrived}
 use Rattle.cow_disk.specs.declared.arrived.Arrived.TheVariants.{Got, Had}
-use Rattle.forest_tree.specs.Tree.{Tree, machine, Path, subtree}
+use Rattle.forest_tree.specs.Tree.{Tree, machine, Path}
 use Rattle.forest_tree.specs.Projection.{map_tree}
+use Rattle.sibling_forest.specs.Talk.{Box}
+use Rattle.sibling_forest.specs.Laws.{box_of}
 use Rattle.forest_model.specs.Machine.{Machine}
-use Rattle.forest_model.specs.Paged.{Paged, paged_machines, stalled_at}
+use Rattle.forest_model.specs.Paged.{Paged, paged_machines, paged_talks, stalled_at}
 use Rattle.run_report.specs.Lines.{ending_text}
 use Rattle.machine_names.specs.Name.{name_text}
 use Rattle.vm_cell.specs.Shown.{peeked, shown_registers}
@@ -17,9 +19,9 @@ use Rattle.drive_script.specs.declared.answer.Answer.{Answer}
 use Rattle.drive_script.specs.declared.answer.Answer.TheVariants.{NoMachine, Ran, Ask, Push, Give, Word, Registers}
 use Rattle.drive_script.specs.declared.answer.SentPlace.{SentPlace}
 use Rattle.drive_script.specs.declared.answer.Why.{Why}
-use Rattle.drive_script.specs.declared.answer.Why.TheVariants.{Ended, Stalls, Waits, MayGoOn}
+use Rattle.drive_script.specs.declared.answer.Why.TheVariants.{Ended, Stalls, Waits, Sends, Receives, MayGoOn}
 use Rattle.drive_script.specs.Replies.{Siblings, Replies, siblings_of, none_sent, reply_to, with_reply, place_of, page_at, arrived_by, with_arrival}
-use Rattle.drive_script.specs.Steps.{steps_made, after_steps, why, live_at, number_in, place_in, stall_told}
+use Rattle.drive_script.specs.Steps.{Family, steps_made, after_steps, why_at, live_at, number_in, place_in, stall_told}
 
 abbrev pub name_in : ScriptLine → Path
 name_in (step path most) = path
@@ -31,25 +33,25 @@ name_in (regs path) = path
 
 -- ---- the forest
 
--- what a script has come to: the forest, with what is known of the pages of each machine, and the replies that
--- were sent
+-- what a script has come to: the forest, with what is known of the pages of each machine and the words to it, and the
+-- replies that were sent
 pub record Driven : Type 0 where
-  pub tree : Tree Paged
+  pub tree : Family
   pub sent : Replies
 
 -- before its first line
-abbrev pub begun : Tree Paged → Driven
+abbrev pub begun : Family → Driven
 begun t = record { tree = t; sent = none_sent }
 
 -- the machines with every page
-abbrev pub whole : Tree Paged → Tree Machine
-whole t = map_tree (λ (p : Paged). p.machine) t
+abbrev pub whole : Family → Tree (Box Machine)
+whole t = map_tree (box_of (λ (p : Paged). p.machine)) t
 
-abbrev pub made_at : ℕ → Path → Tree Paged → ℕ
-made_at most path t = steps_made paged_machines stalled_at most path t
+abbrev pub made_at : ℕ → Path → Family → ℕ
+made_at most path t = steps_made paged_machines paged_talks stalled_at most path t
 
 -- the steps that a line makes. Only `step` makes some
-abbrev pub steps_of : ScriptLine → Tree Paged → List Path
+abbrev pub steps_of : ScriptLine → Family → List Path
 steps_of (step path most) t = replicate (made_at most path t) path
 steps_of (ask path) t = []
 steps_of (push path page) t = []
@@ -58,12 +60,12 @@ steps_of (peek path address) t = []
 steps_of (regs path) t = []
 
 -- the page that `ask` sends: the one that the machine waits for
-abbrev pub asked_of : Tree Paged → Option ℕ
-asked_of a = stalled_at (machine a)
+abbrev pub asked_of : Family → Option ℕ
+asked_of a = stalled_at (machine a).machine
 
 -- and the one that `push` sends, which is any that the machine has, by its number
-abbrev pub pushed_of : ℕ → Tree Paged → Option ℕ
-pushed_of number a = place_in (machine a) number
+abbrev pub pushed_of : ℕ → Family → Option ℕ
+pushed_of number a = place_in (machine a).machine number
 
 -- the replies that these lines send, where a live machine has the name
 abbrev pub asked : Path → Driven → Option (Siblings × ℕ)
@@ -73,10 +75,10 @@ abbrev pub pushed : Path → ℕ → Driven → Option (Siblings × ℕ)
 pushed path page s = reply_to (siblings_of path) (option_and_then (pushed_of page) (live_at paged_machines path s.tree))
 
 -- what comes of a page that was sent, where it comes to a live machine
-abbrev pub arrived_at : Option ℕ → Option (Tree Paged) → Option Arrived
+abbrev pub arrived_at : Option ℕ → Option Family → Option Arrived
 arrived_at None a = None
 arrived_at (Some page) None = None
-arrived_at (Some page) (Some a) = arrived_by (slice_get (machine a).pages.here page) page
+arrived_at (Some page) (Some a) = arrived_by (slice_get (machine a).machine.pages.here page) page
 
 -- `give`: the reply at a place of those that were sent to the machine and its siblings arrives
 abbrev pub given : Path → ℕ → Driven → Option Arrived
@@ -84,7 +86,7 @@ given path place s = arrived_at (page_at (siblings_of path) place s.sent) (live_
 
 -- what the script comes to by a line
 abbrev pub after_line : ScriptLine → Driven → Driven
-after_line (step path most) s = record s { tree = after_steps paged_machines (made_at most path s.tree) path s.tree }
+after_line (step path most) s = record s { tree = after_steps paged_machines paged_talks (made_at most path s.tree) path s.tree }
 after_line (ask path) s = record s { sent = with_reply (asked path s) s.sent }
 after_line (push path page) s = record s { sent = with_reply (pushed path page s) s.sent }
 after_line (give path place) s = record s { tree = with_arrival path (given path place s) s.tree }
@@ -117,23 +119,23 @@ arrival_told p None = None
 arrival_told p (Some (Got place)) = Some (Got (number_in p place))
 arrival_told p (Some (Had place)) = Some (Had (number_in p place))
 
--- the answer of `step`, by the tree in which the machine stopped
-abbrev pub ran_by : ℕ → Option (Tree Paged) → Answer
+-- the answer of `step`, by why the machine stopped
+abbrev pub ran_by : ℕ → Option Why → Answer
 ran_by steps None = NoMachine
-ran_by steps (Some a) = Ran steps (why paged_machines stall_told a)
+ran_by steps (Some why) = Ran steps why
 
 -- the same after so many steps
-abbrev pub ran : Path → ℕ → Tree Paged → Answer
-ran path steps t = ran_by steps (subtree path (after_steps paged_machines steps path t))
+abbrev pub ran : Path → ℕ → Family → Answer
+ran path steps t = ran_by steps (why_at paged_machines paged_talks stall_told path (after_steps paged_machines paged_talks steps path t))
 
 -- the answer of a line, by the tree of the live machine that it names
-abbrev pub answer_of : ScriptLine → Driven → Tree Paged → Answer
+abbrev pub answer_of : ScriptLine → Driven → Family → Answer
 answer_of (step path most) s a = ran path (made_at most path s.tree) s.tree
-answer_of (ask path) s a = Ask (sent_told (machine a) (place_of (reply_to (siblings_of path) (asked_of a)) s.sent))
-answer_of (push path page) s a = Push (sent_told (machine a) (place_of (reply_to (siblings_of path) (pushed_of page a)) s.sent))
-answer_of (give path place) s a = Give (arrival_told (machine a) (arrived_at (page_at (siblings_of path) place s.sent) (Some a)))
-answer_of (peek path address) s a = Word (peeked (machine a).machine.state address)
-answer_of (regs path) s a = Registers (shown_registers (machine a).machine.state)
+answer_of (ask path) s a = Ask (sent_told (machine a).machine (place_of (reply_to (siblings_of path) (asked_of a)) s.sent))
+answer_of (push path page) s a = Push (sent_told (machine a).machine (place_of (reply_to (siblings_of path) (pushed_of page a)) s.sent))
+answer_of (give path place) s a = Give (arrival_told (machine a).machine (arrived_at (page_at (siblings_of path) place s.sent) (Some a)))
+answer_of (peek path address) s a = Word (peeked (machine a).machine.machine.state address)
+answer_of (regs path) s a = Registers (shown_registers (machine a).machine.machine.state)
 
 -- where none lives
 abbrev pub unanswered : ScriptLine → Answer
@@ -144,7 +146,7 @@ unanswered (give path place) = Give None
 unanswered (peek path address) = NoMachine
 unanswered (regs path) = NoMachine
 
-abbrev pub answer_by : ScriptLine → Driven → Option (Tree Paged) → Answer
+abbrev pub answer_by : ScriptLine → Driven → Option Family → Answer
 answer_by line s None = unanswered line
 answer_by line s (Some a) = answer_of line s a
 
@@ -172,6 +174,8 @@ abbrev pub why_text : Why → List ℕ
 why_text (Ended ending) = ending_text ending
 why_text (Stalls page) = codes "stall " ++ decimal page
 why_text (Waits ticket) = codes "wait " ++ decimal ticket
+why_text (Sends to) = codes "send " ++ decimal to
+why_text (Receives from) = codes "receive " ++ decimal from
 why_text MayGoOn = codes "ok"
 
 abbrev pub sent_text : SentPlace → List ℕ
@@ -208,5 +212,5 @@ abbrev pub told_line : Path × Answer → List ℕ
 told_line (path, answer) = name_text path ++ (codes " " ++ (answer_text answer ++ codes "\n"))
 
 -- what a script writes of a forest
-unfoldable pub told_text : List ScriptLine → Tree Paged → List ℕ
+unfoldable pub told_text : List ScriptLine → Family → List ℕ
 told_text lines t = flat_map told_line (told lines (begun t))

@@ -4,7 +4,8 @@ ghost use Rattle.std.specs.Prelude.{◌≡◌, ◌<◌, ◌+◌, ◌++◌, lengt
 ghost use Rattle.std.specs.Fmt.{WritesOnOk};
 ghost use Rattle.std.specs.List.{flat_map};
 ghost use Rattle.forest_model.specs.Paged.{Paged};
-ghost use Rattle.drive_script.specs.Told.{IsBelow, answer_text, arrival_told, arrived_text, register_text, sent_or_none, sent_text, sent_told, value_text, why_text, word_text};
+ghost use Rattle.drive_script.specs.Told.{IsBelow, answer_text, arrival_told, arrived_text, register_text};
+ghost use Rattle.drive_script.specs.Told.{sent_or_none, sent_text, sent_told, value_text, why_text, word_text};
 
 use fetch_proto::{FIRST_DISK_PAGE, page_number};
 use fork_port::Ending;
@@ -20,6 +21,10 @@ pub(crate) enum Why {
     Stalls(u32),
     /// Its next step is the JOIN of this ticket, of which a child lives.
     Waits(u32),
+    /// Its next step is a SEND to this sibling, which lives, and the queue to it is full.
+    Sends(u32),
+    /// Its next step is a RECEIVE from this sibling, which lives, and no word of it is there.
+    Receives(u32),
     /// All steps that were asked for are made. It may go on.
     MayGoOn,
 }
@@ -33,6 +38,8 @@ impl fmt::Display for Why {
             Why::Ended(Ending::Limit) => write!(f, "limit"),
             Why::Stalls(page) => write!(f, "stall {page}"),
             Why::Waits(ticket) => write!(f, "wait {ticket}"),
+            Why::Sends(to) => write!(f, "send {to}"),
+            Why::Receives(from) => write!(f, "receive {from}"),
             Why::MayGoOn => write!(f, "ok"),
         }
     }

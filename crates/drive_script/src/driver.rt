@@ -2,13 +2,12 @@
 
 ghost use Rattle.std.specs.Prelude.{◌≡◌, Some, None, IfOk};
 ghost use Rattle.image_depot.specs.Key.{Shelves};
-ghost use Rattle.forest_tree.specs.Tree.{Tree};
-ghost use Rattle.forest_model.specs.Paged.{Paged};
 ghost use Rattle.world_core.specs.Told.{told_of};
 ghost use Rattle.world_core.specs.World.{reason_of};
 ghost use Rattle.drive_script.specs.Driven.{Drives, DrivesLine, HasMachines, IsNameIn, Keeps};
 ghost use Rattle.drive_script.specs.Lines.{line_read};
 ghost use Rattle.drive_script.specs.Script.{ask, give, peek, push, regs, step};
+ghost use Rattle.drive_script.specs.Steps.{Family};
 ghost use Rattle.drive_script.specs.Told.{Driven, after_line, unanswered};
 
 use crate::answer::{Answer, Why, arrival_told, sent_told};
@@ -37,8 +36,8 @@ pub fn drive<R: Wait>(
     world: &mut World,
     depot: &Depot,
 ) -> Result<Vec<u8>, AllocError>
-    requires { (t : Tree Paged) × HasMachines depot.now world.old t }
-    ensures drives { (t : Tree Paged) → HasMachines depot.now world.old t → Drives depot.now script.now t result world.new }
+    requires { (t : Family) × HasMachines depot.now world.old t }
+    ensures drives { (t : Family) → HasMachines depot.now world.old t → Drives depot.now script.now t result world.new }
     ensures reason { reason_of world.new ≡ reason_of world.old }
     ensures told { told_of world.new ≡ told_of world.old }
 {
@@ -61,7 +60,7 @@ fn answer_line<R: Wait>(
     line: &ScriptLine,
     depot: &Depot,
 ) -> Result<Answer, AllocError>
-    requires { (t : Tree Paged) × HasMachines depot.now world.old t }
+    requires { (t : Family) × HasMachines depot.now world.old t }
     ensures drives { (s : Driven) → HasMachines depot.now world.old s.tree → Keeps replies.old.lists s.sent
         → DrivesLine depot.now (line_read line.now) s result world.new }
     ensures keeps { (s : Driven) → HasMachines depot.now world.old s.tree → Keeps replies.old.lists s.sent
@@ -97,7 +96,7 @@ fn not_answered(line: &ScriptLine) -> Answer
 
 /// The name of a line put together, or nothing where no machine has a name of so many forks.
 fn name_for(alloc: Global, world: &World, name: &NameText) -> Result<Option<Name>, AllocError>
-    ensures { (depot : Shelves) (t : Tree Paged) → HasMachines depot world.now t → IsNameIn name.now t result }
+    ensures { (depot : Shelves) (t : Family) → HasMachines depot world.now t → IsNameIn name.now t result }
 {
     if !world.reaches(name.depth()) {
         return Ok(None);
@@ -114,7 +113,7 @@ fn step<R: Wait>(
     most: u64,
     depot: &Depot,
 ) -> Result<Answer, AllocError>
-    requires { (t : Tree Paged) × HasMachines depot.now world.old t }
+    requires { (t : Family) × HasMachines depot.now world.old t }
     ensures drives { (s : Driven) → HasMachines depot.now world.old s.tree → DrivesLine depot.now (step name.now most) s result world.new }
     ensures reason { reason_of world.new ≡ reason_of world.old }
     ensures told { told_of world.new ≡ told_of world.old }
@@ -130,7 +129,7 @@ fn step<R: Wait>(
                 });
             }
             TurnOutcome::NoMachine if made == 0 => return Ok(Answer::NoMachine),
-            // A machine that has ended at a call has ended by its limit.
+            // A machine that has ended at a call or a talk has ended by its limit.
             TurnOutcome::NoMachine => {
                 return Ok(Answer::Ran {
                     steps: made,
@@ -149,8 +148,9 @@ fn ask(
     name: &Name,
     depot: &Depot,
 ) -> Result<Answer, AllocError>
-    requires { (t : Tree Paged) × HasMachines depot.now world.old t }
-    ensures drives { (s : Driven) → HasMachines depot.now world.old s.tree → Keeps replies.old.lists s.sent → DrivesLine depot.now (ask name.now) s result world.new }
+    requires { (t : Family) × HasMachines depot.now world.old t }
+    ensures drives { (s : Driven) → HasMachines depot.now world.old s.tree → Keeps replies.old.lists s.sent
+        → DrivesLine depot.now (ask name.now) s result world.new }
     ensures keeps { (s : Driven) → HasMachines depot.now world.old s.tree → Keeps replies.old.lists s.sent
         → IfOk result (λ answer. Keeps replies.new.lists (after_line (ask name.now) s).sent) }
     ensures reason { reason_of world.new ≡ reason_of world.old }
@@ -177,8 +177,9 @@ fn push(
     page: u32,
     depot: &Depot,
 ) -> Result<Answer, AllocError>
-    requires { (t : Tree Paged) × HasMachines depot.now world.old t }
-    ensures drives { (s : Driven) → HasMachines depot.now world.old s.tree → Keeps replies.old.lists s.sent → DrivesLine depot.now (push name.now page) s result world.new }
+    requires { (t : Family) × HasMachines depot.now world.old t }
+    ensures drives { (s : Driven) → HasMachines depot.now world.old s.tree → Keeps replies.old.lists s.sent
+        → DrivesLine depot.now (push name.now page) s result world.new }
     ensures keeps { (s : Driven) → HasMachines depot.now world.old s.tree → Keeps replies.old.lists s.sent
         → IfOk result (λ answer. Keeps replies.new.lists (after_line (push name.now page) s).sent) }
     ensures reason { reason_of world.new ≡ reason_of world.old }
@@ -203,8 +204,9 @@ fn give(
     place: u32,
     depot: &Depot,
 ) -> Result<Answer, AllocError>
-    requires { (t : Tree Paged) × HasMachines depot.now world.old t }
-    ensures drives { (s : Driven) → HasMachines depot.now world.old s.tree → Keeps replies.now.lists s.sent → DrivesLine depot.now (give name.now place) s result world.new }
+    requires { (t : Family) × HasMachines depot.now world.old t }
+    ensures drives { (s : Driven) → HasMachines depot.now world.old s.tree → Keeps replies.now.lists s.sent
+        → DrivesLine depot.now (give name.now place) s result world.new }
     ensures reason { reason_of world.new ≡ reason_of world.old }
     ensures told { told_of world.new ≡ told_of world.old }
 {
@@ -230,7 +232,7 @@ fn peek(
     address: u32,
     depot: &Depot,
 ) -> Result<Answer, AllocError>
-    requires { (t : Tree Paged) × HasMachines depot.now world.old t }
+    requires { (t : Family) × HasMachines depot.now world.old t }
     ensures drives { (s : Driven) → HasMachines depot.now world.old s.tree → DrivesLine depot.now (peek name.now address) s result world.new }
     ensures reason { reason_of world.new ≡ reason_of world.old }
     ensures told { told_of world.new ≡ told_of world.old }
@@ -245,7 +247,7 @@ fn peek(
 
 /// Reads a machine's pc and its registers.
 fn regs(alloc: Global, world: &mut World, name: &Name, depot: &Depot) -> Result<Answer, AllocError>
-    requires { (t : Tree Paged) × HasMachines depot.now world.old t }
+    requires { (t : Family) × HasMachines depot.now world.old t }
     ensures drives { (s : Driven) → HasMachines depot.now world.old s.tree → DrivesLine depot.now (regs name.now) s result world.new }
     ensures reason { reason_of world.new ≡ reason_of world.old }
     ensures told { told_of world.new ≡ told_of world.old }

@@ -1,7 +1,8 @@
 //! The fields of a line.
 
 ghost use Rattle.std.specs.Prelude.{◌≡◌, ◌∷◌, ◌<◌, length, IfSome, MatchOption, option_map};
-ghost use Rattle.drive_script.specs.Script.{address_of, fields_beyond, fork_before, forks_of, has_leading_zero, is_decimal, number_of, number_within, one_of, parts, parts_beyond, two_of};
+ghost use Rattle.drive_script.specs.Script.{address_of, fields_beyond, fork_before, forks_of, has_leading_zero, is_decimal};
+ghost use Rattle.drive_script.specs.Script.{number_of, number_within, one_of, parts, parts_beyond, two_of};
 
 use hex::FromHex;
 use std::str;

@@ -1,21 +1,27 @@
 //! Laws of the definitions, each the contract of a function that does nothing.
 
-ghost use Rattle.std.specs.Prelude.{◌≡◌, ◌≢◌, ◌+◌, ◌<◌, ◌≤◌, ◌++◌, ◌∷◌, ℕ, suc, true, false, List, Some, None, IsSome, option_map, slice_get, length, map, Ok, ◌^◌};
+ghost use Rattle.std.specs.Prelude.{◌≡◌, ◌≢◌, ◌+◌, ◌<◌, ◌≤◌, ◌++◌, ◌∷◌, ℕ, suc, true};
+ghost use Rattle.std.specs.Prelude.{false, List, Some, None, IsSome, option_map, slice_get, length, map, Ok, ◌^◌};
 ghost use Rattle.std.specs.Char.{to_ascii_lowercase};
 ghost use Rattle.std.specs.Fmt.{decimal};
 ghost use Rattle.forest_tree.specs.Operations.{join};
-ghost use Rattle.forest_tree.specs.Tree.{Tree, node, Broods, Log, Branch, Path, machine, log_of, size, child_at, brood_of, subtree, beyond, beyond_all, is_below};
-ghost use Rattle.forest_tree.specs.Settle.{own_steps, settle_all, waits};
+ghost use Rattle.forest_tree.specs.Tree.{Tree, node, Broods, Log, Branch, Path, machine, log_of, size, child_at, brood_of, subtree, beyond, is_below};
+ghost use Rattle.forest_tree.specs.Settle.{waits};
 ghost use Rattle.forest_tree.specs.Sound.{IsSound};
+ghost use Rattle.sibling_forest.specs.Talk.{Box, boxed, queue};
+ghost use Rattle.sibling_forest.specs.Settle.{settle_all};
+ghost use Rattle.sibling_forest.specs.Laws.{child_number, is_sibling};
+ghost use Rattle.sibling_forest.specs.Members.{IsWholeForest};
 ghost use Rattle.forest_model.specs.Machine.{Machine};
-ghost use Rattle.forest_model.specs.Forest.{finish, machines, port_of};
-ghost use Rattle.forest_model.specs.Paged.{Paged, paged_machines, stalled_at};
+ghost use Rattle.forest_model.specs.Forest.{machines, port_of, talked_out, talks};
+ghost use Rattle.forest_model.specs.Paged.{Paged, paged_machines, paged_talks, stalled_at};
 ghost use Rattle.machine_names.specs.Name.{name_text};
 ghost use Rattle.drive_script.specs.Script.{ScriptLine, address_of, ask, give, line_of, name_of, number_within, push, script, step};
 ghost use Rattle.drive_script.specs.declared.answer.Answer.TheVariants.{Ran};
 ghost use Rattle.drive_script.specs.declared.answer.Why.TheVariants.{MayGoOn};
 ghost use Rattle.drive_script.specs.Replies.{Siblings, siblings_of};
-ghost use Rattle.drive_script.specs.Steps.{after_steps, stops, Drops};
+ghost use Rattle.drive_script.specs.Steps.{Family, after_steps, stops, Drops};
+ghost use Rattle.drive_script.specs.Story.{events, own_steps, story};
 ghost use Rattle.drive_script.specs.Written.{AreForks, AreInForm, IsTextOf, script_text};
 ghost use Rattle.drive_script.specs.Told.{Driven, made_at, whole, name_in, steps_of, after_line, after_script, steps_of_script, answer, word_text};
 
@@ -38,23 +44,31 @@ pub fn scripts_are_read_as_written()
     ensures line { (text : List ℕ) (line : ScriptLine) → line_of text ≡ Ok line → IsTextOf text line }
 {}
 
-/// A line about one machine changes no other. What is not below it keeps its machine and its log, and what it
-/// is not below either stays as it is. What is below it and still there is as it was. What is not there any
-/// more was dropped by a step of the line: a kill of its ticket or an end, or a join that took it with all
-/// children of the ticket, which had ended. And what was sent to others than the machine and its siblings stays.
+/// A line about one machine changes no other. What is not below it keeps its machine and its log, and the words to it but
+/// those that the machine sends to a sibling. What it is not below either stays as it is, unless it is a sibling. What is
+/// below it and still there is as it was. What is not there any more was dropped by a step of the line: a kill of its
+/// ticket or an end, or a join that took it with all children of the ticket, which had ended. And what was sent to others
+/// than the machine and its siblings stays.
 pub fn lines_change_one_machine()
     ensures others { (line : ScriptLine) (at : Path) (s : Driven) → at ≢ name_in line → is_below (name_in line) at ≡ false
-        → option_map machine (subtree at (after_line line s).tree) ≡ option_map machine (subtree at s.tree) }
+        → option_map (λ (a : Family). (machine a).machine) (subtree at (after_line line s).tree)
+        ≡ option_map (λ (a : Family). (machine a).machine) (subtree at s.tree) }
+    ensures words { (line : ScriptLine) (at : Path) (from : ℕ) (s : Driven) → at ≢ name_in line → is_below (name_in line) at ≡ false
+        → (is_sibling (name_in line) at ≡ true → from ≢ child_number (name_in line))
+        → option_map (λ (a : Family). queue from (machine a).inbox) (subtree at (after_line line s).tree)
+        ≡ option_map (λ (a : Family). queue from (machine a).inbox) (subtree at s.tree) }
     ensures logs { (line : ScriptLine) (at : Path) (s : Driven) → at ≢ name_in line → is_below (name_in line) at ≡ false
         → option_map log_of (subtree at (after_line line s).tree) ≡ option_map log_of (subtree at s.tree) }
     ensures apart { (line : ScriptLine) (at : Path) (s : Driven) → is_below (name_in line) at ≡ false → beyond at (name_in line) ≡ None
-        → subtree at (after_line line s).tree ≡ subtree at s.tree }
-    ensures below { (line : ScriptLine) (at : Path) (s : Driven) (a b : Tree Paged) → IsSound paged_machines s.tree → is_below (name_in line) at ≡ true
+        → is_sibling (name_in line) at ≡ false → subtree at (after_line line s).tree ≡ subtree at s.tree }
+    ensures below { (line : ScriptLine) (at : Path) (s : Driven) (a b : Family) → IsSound (boxed paged_machines paged_talks) s.tree
+        → is_below (name_in line) at ≡ true
         → subtree at s.tree ≡ Some a → subtree at (after_line line s).tree ≡ Some b → b ≡ a }
-    ensures gone { (line : ScriptLine) (b : Branch) (rest : Path) (s : Driven) (a : Tree Paged) → IsSound paged_machines s.tree
+    ensures gone { (line : ScriptLine) (b : Branch) (rest : Path) (s : Driven) (a : Family) → IsSound (boxed paged_machines paged_talks) s.tree
         → subtree (name_in line ++ (b ∷ rest)) s.tree ≡ Some a → subtree (name_in line ++ (b ∷ rest)) (after_line line s).tree ≡ None
-        → (n : ℕ) × (n < length (steps_of line s.tree)) × (x : Tree Paged)
-        × (subtree (name_in line) (after_steps paged_machines n (name_in line) s.tree) ≡ Some x) × Drops paged_machines b.ticket x }
+        → (n : ℕ) × (n < length (steps_of line s.tree)) × (x : Family)
+        × (subtree (name_in line) (after_steps paged_machines paged_talks n (name_in line) s.tree) ≡ Some x)
+        × Drops (boxed paged_machines paged_talks) b.ticket x }
     ensures lists { (line : ScriptLine) (to : Siblings) (s : Driven) → siblings_of (name_in line) ≢ Some to → (after_line line s).sent to ≡ s.sent to }
 {}
 
@@ -66,30 +80,32 @@ pub fn steps_in_pieces()
         → after_line (step path (first + more)) s ≡ after_line (step path more) (after_line (step path first) s) }
 {}
 
-/// A machine makes at most as many steps as a line asks for. Before each of them it lives, waits for no child and
-/// touches no page that is not here, and it makes fewer only where one of these then fails: `ok` is answered after
-/// all of them. It has counted just these.
+/// A machine makes at most as many steps as a line asks for. Before each of them it lives, waits for no child and no
+/// sibling, and touches no page that is not here, and it makes fewer only where one of these then fails: `ok` is answered
+/// after all of them. It has counted just these.
 pub fn steps_stop_short()
-    ensures at_most { (most : ℕ) (path : Path) (t : Tree Paged) → made_at most path t ≤ most }
-    ensures each { (most n : ℕ) (path : Path) (t : Tree Paged) → n < made_at most path t
-        → stops paged_machines stalled_at (subtree path (after_steps paged_machines n path t)) ≡ false }
+    ensures at_most { (most : ℕ) (path : Path) (t : Family) → made_at most path t ≤ most }
+    ensures each { (most n : ℕ) (path : Path) (t : Family) → n < made_at most path t
+        → stops paged_machines paged_talks stalled_at path (after_steps paged_machines paged_talks n path t) ≡ false }
     ensures short { (most : ℕ) (path : Path) (s : Driven) → made_at most path s.tree < most
-        → stops paged_machines stalled_at (subtree path (after_line (step path most) s).tree) ≡ true }
-    ensures counted { (most : ℕ) (path : Path) (s : Driven) (a b : Tree Paged) → IsSound paged_machines s.tree → subtree path s.tree ≡ Some a
+        → stops paged_machines paged_talks stalled_at path (after_line (step path most) s).tree ≡ true }
+    ensures counted { (most : ℕ) (path : Path) (s : Driven) (a b : Family) → IsSound (boxed paged_machines paged_talks) s.tree → subtree path s.tree ≡ Some a
         → subtree path (after_line (step path most) s).tree ≡ Some b
-        → paged_machines.left (machine a) ≡ made_at most path s.tree + paged_machines.left (machine b) }
+        → paged_machines.left (machine a).machine ≡ made_at most path s.tree + paged_machines.left (machine b).machine }
     ensures ok { (most made : ℕ) (path : Path) (s : Driven) → answer (step path most) s ≡ Ran made MayGoOn → made ≡ most }
 {}
 
 /// Where a machine stands at a join that does not wait, and the pages that it touches are here, a line of one step
 /// makes the join: what it stores is how the children of the ticket ended, in their order, and all of them had ended.
 pub fn joins_store_endings()
-    ensures { (path : Path) (s : Driven) (p : Paged) (broods : Broods Paged) (log : Log Paged) (ticket : ℕ)
-        → subtree path s.tree ≡ Some (node p broods log) → p.machine.ending ≡ None → stalled_at p ≡ None → machines.call p.machine ≡ Some (join ticket)
-        → waits paged_machines (node p broods log) ≡ false
-        → (x : Tree Paged) × (subtree path (after_line (step path 1) s).tree ≡ Some x) × (length (port_of (machine x).machine).joined ≡ size (brood_of ticket broods))
-        × ((i : ℕ) (child : Tree Paged) → child_at (suc i) (brood_of ticket broods) ≡ Some child
-        → (slice_get (port_of (machine x).machine).joined i ≡ (machine child).machine.ending) × IsSome (machine child).machine.ending) }
+    ensures { (path : Path) (s : Driven) (p : Box Paged) (broods : Broods (Box Paged)) (log : Log (Box Paged)) (ticket : ℕ)
+        → subtree path s.tree ≡ Some (node p broods log) → p.machine.machine.ending ≡ None → stalled_at p.machine ≡ None
+        → machines.call p.machine.machine ≡ Some (join ticket)
+        → waits (boxed paged_machines paged_talks) (node p broods log) ≡ false
+        → (x : Family) × (subtree path (after_line (step path 1) s).tree ≡ Some x)
+        × (length (port_of (machine x).machine.machine).joined ≡ size (brood_of ticket broods))
+        × ((i : ℕ) (child : Family) → child_at (suc i) (brood_of ticket broods) ≡ Some child
+        → (slice_get (port_of (machine x).machine.machine).joined i ≡ (machine child).machine.machine.ending) × IsSome (machine child).machine.machine.ending) }
 {}
 
 /// Asking, pushing and giving change no byte that a machine reads, nor anything else of the machines: of a forest
@@ -100,17 +116,24 @@ pub fn replies_change_no_machine()
     ensures give { (path : Path) (place : ℕ) (s : Driven) → whole (after_line (give path place) s).tree ≡ whole s.tree }
 {}
 
-/// A script makes steps alone of the machines with every page. So it keeps a forest sound, and leaves the end that
-/// the forest comes to. What becomes of a machine with all below it is what the steps at its place and below make
-/// of it alone, in their order, and as many of them are its own as it has counted.
+/// A script makes steps alone of the machines with every page. So it keeps a forest sound, with the queues that it is to
+/// have, and leaves the end that the forest comes to. What becomes of a machine with all below it is what happened to it
+/// alone, in order: the steps at its place and below, and the words that siblings sent to it. As many of the steps are
+/// its own as it has counted.
 pub fn scripts_are_steps()
-    ensures steps { (lines : List ScriptLine) (s : Driven) → whole (after_script lines s).tree ≡ settle_all machines (steps_of_script lines s) (whole s.tree) }
-    ensures sound { (lines : List ScriptLine) (s : Driven) → IsSound machines (whole s.tree) → IsSound machines (whole (after_script lines s).tree) }
-    ensures end { (lines : List ScriptLine) (s : Driven) → IsSound machines (whole s.tree) → finish (whole (after_script lines s).tree) ≡ finish (whole s.tree) }
-    ensures alone { (lines : List ScriptLine) (at : Path) (s : Driven) (a b : Tree Machine) → IsSound machines (whole s.tree)
+    ensures steps { (lines : List ScriptLine) (s : Driven) → whole (after_script lines s).tree
+        ≡ settle_all machines talks (steps_of_script lines s) (whole s.tree) }
+    ensures sound { (lines : List ScriptLine) (s : Driven) → IsSound (boxed machines talks) (whole s.tree)
+        → IsSound (boxed machines talks) (whole (after_script lines s).tree) }
+    ensures queues { (lines : List ScriptLine) (s : Driven) → IsWholeForest machines talks (whole s.tree)
+        → IsWholeForest machines talks (whole (after_script lines s).tree) }
+    ensures end { (lines : List ScriptLine) (s : Driven) → IsSound (boxed machines talks) (whole s.tree)
+        → talked_out (whole (after_script lines s).tree) ≡ talked_out (whole s.tree) }
+    ensures alone { (lines : List ScriptLine) (at : Path) (s : Driven) (a b : Tree (Box Machine)) → IsWholeForest machines talks (whole s.tree)
         → subtree at (whole s.tree) ≡ Some a → subtree at (whole (after_script lines s).tree) ≡ Some b
-        → b ≡ settle_all machines (beyond_all at (steps_of_script lines s)) a }
-    ensures counted { (lines : List ScriptLine) (at : Path) (s : Driven) (a b : Tree Machine) → IsSound machines (whole s.tree)
+        → b ≡ story machines talks (events machines talks at (steps_of_script lines s) (whole s.tree)) a }
+    ensures counted { (lines : List ScriptLine) (at : Path) (s : Driven) (a b : Tree (Box Machine)) → IsWholeForest machines talks (whole s.tree)
         → subtree at (whole s.tree) ≡ Some a → subtree at (whole (after_script lines s).tree) ≡ Some b
-        → machines.left (machine a) ≡ own_steps machines (beyond_all at (steps_of_script lines s)) a + machines.left (machine b) }
+        → machines.left (machine a).machine ≡ own_steps (events machines talks at (steps_of_script lines s) (whole s.tree))
+        + machines.left (machine b).machine }
 {}

@@ -3,7 +3,8 @@
 ghost use Rattle.std.specs.Prelude.{◌≡◌, IfOk, IfErr, option_map};
 ghost use Rattle.drive_script.specs.Lines.{line_read};
 ghost use Rattle.drive_script.specs.Told.{name_in};
-ghost use Rattle.drive_script.specs.Script.{IsLineRefused, IsNameRefused, addressed, fields_beyond, line_of, name_of, named, numbered, one_of, two_of, with_fields, word_of};
+ghost use Rattle.drive_script.specs.Script.{IsLineRefused, IsNameRefused, addressed, fields_beyond, line_of, name_of};
+ghost use Rattle.drive_script.specs.Script.{named, numbered, one_of, two_of, with_fields, word_of};
 
 use crate::error::{BAD_ADDRESS, BAD_NAME, BAD_NUMBER, LineError, UNKNOWN_WORD, WRONG_FIELDS};
 use crate::fields::{SPACE, address_of, cut, number_within, one_field, two_fields};

@@ -19,11 +19,19 @@ use Rattle.forest_tree.specs.Settle.{alone, log_killed, settled_by, step_by, ste
 use Rattle.forest_tree.specs.Finish as tree
 use Rattle.elf_load.specs.Image.{Image}
 use Rattle.forest_model.specs.declared.Options.{Options}
-use Rattle.forest_model.specs.Action.{Action, trap, interrupt, retire, exit, ask}
+use Rattle.forest_model.specs.State.{State}
+use Rattle.forest_model.specs.Action.{Action, trap, interrupt, retire, exit, ask, speak}
 use Rattle.forest_model.specs.Execute.{action}
 use Rattle.forest_model.specs.Machine.{Machine, IsWithinLimit, next_of, next, advance, after_steps, boot}
-use Rattle.forest_model.specs.Forest.{call_of, port_of, machines, finish, IsChildless}
-use Rattle.forest_model.proofs.ForkPort.{IsKept, Ported, action-ported, port-advance}
+use Rattle.sibling_port.specs.Registers.{SiblingRegisters}
+use Rattle.sibling_port.specs.Commands.{sibling_command}
+use Rattle.sibling_port.proofs.Peers.{root_is_alone}
+use Rattle.sibling_port.proofs.Stores.{siblings_commanded}
+use Rattle.sibling_port.proofs.Stores as siblings
+use Rattle.forest_model.specs.Calls.{fork_of}
+use Rattle.forest_model.specs.Forest.{call_of, talk_of, port_of, machines, finish, IsChildless}
+use Rattle.forest_model.proofs.PortWalk.{IsKept, Ported, action-ported, port-advance, sibling_of}
+use Rattle.forest_model.proofs.Spoken.{stepped-own}
 use Rattle.forest_model.proofs.Finish.{advance-ended, after_steps-ended, after_steps-agree, cases-ending, steps-advance, limit-advance, IsWithinLimit-advance}
 
 -- nothing to give, and nothing given
@@ -69,20 +77,29 @@ IsBare-answered f h (asked.Exit value) = h
 IsBare-answered f h (asked.ExitWith value address count) = h
 IsBare-answered f h (asked.Zero first count) = h
 
-IsBare-kept : (f : ForkRegisters) → IsBare f → IsKept IsBare f
-IsBare-kept f h = record {
-  before = h;
-  after_store = λ offset width word.
-      each_store (λ s. IsBare s.fork) f offset width word
-      (record { no_allot = h.no_allot; no_ticket = h.no_ticket }) (record { no_allot = h.no_allot; no_ticket = h.no_ticket })
-      (record { no_allot = h.no_allot; no_ticket = h.no_ticket }) (IsBare-answered f h (fork_command f word));
-  after_answer = λ g word k. record { no_allot = k.no_allot; no_ticket = k.no_ticket };
-}
+-- the same, and no siblings
+abbrev IsAlone : ForkRegisters → SiblingRegisters → Type 0
+IsAlone f r = IsBare f × (r.siblings ≡ 0)
+
+IsAlone-kept : (f : ForkRegisters) (r : SiblingRegisters) → IsBare f → r.siblings ≡ 0 → IsKept IsAlone f r
+IsAlone-kept f r h none =
+    record {
+      before = (h, none);
+      after_store = λ offset width word.
+          each_store (λ s. IsAlone s.fork r) f offset width word
+          (record { no_allot = h.no_allot; no_ticket = h.no_ticket }, none) (record { no_allot = h.no_allot; no_ticket = h.no_ticket }, none)
+          (record { no_allot = h.no_allot; no_ticket = h.no_ticket }, none) (IsBare-answered f h (fork_command f word), none);
+      after_word = λ offset width word.
+          siblings.each_store (λ t. IsAlone f t.port) f.clone_id r offset width word
+          (h, none) (h, none) (h, siblings_commanded (sibling_command f.clone_id r word) r ∙ none);
+      after_answer = λ g q word k. (record { no_allot = k.0.no_allot; no_ticket = k.0.no_ticket }, k.1);
+    }
 
 pub IsChildless-advance : (m : Machine) → IsChildless m → IsChildless (advance m)
 IsChildless-advance m h =
-    let k : IsBare (port_of (advance m)) = port-advance IsBare m (IsBare-kept (port_of m) (bare m h)) in
-    record { no_allot = k.no_allot; no_ticket = k.no_ticket }
+    let k : IsAlone (port_of (advance m)) (sibling_of (advance m).state) =
+    port-advance IsAlone m (IsAlone-kept (port_of m) (sibling_of m.state) (bare m h) h.no_siblings) in
+    record { no_allot = k.0.no_allot; no_ticket = k.0.no_ticket; no_siblings = k.1 }
 
 pub IsChildless-after_steps : (n : ℕ) (m : Machine) → IsChildless m → IsChildless (after_steps n m)
 unfolding after_steps
@@ -98,15 +115,32 @@ no-call-makeable f h (call.Clone t) has = no-ticket f h t false has
 no-call-makeable f h (call.Join t) has = no-ticket f h t true has
 no-call-makeable f h (call.Kill t) has = no-ticket f h t true has
 
-no-call-by : (f : ForkRegisters) → IsBare f → (a : Action) → Ported IsBare f a → call_of (next_of a) ≡ None
-no-call-by f h (trap cause value) p = refl
-no-call-by f h interrupt p = refl
-no-call-by f h (retire written s) p = refl
-no-call-by f h (exit value bytes s) p = refl
-no-call-by f h (ask c s) p = absurd (no-call-makeable f h c p.1)
+module _ (at : State) (h : IsBare (fork_of at)) (none : (sibling_of at).siblings ≡ 0) where
+  no-call-by : (a : Action) → Ported IsAlone at a → call_of (next_of a) ≡ None
+  no-call-by (trap cause value) p = refl
+  no-call-by interrupt p = refl
+  no-call-by (retire written s) p = refl
+  no-call-by (exit value bytes s) p = refl
+  no-call-by (ask c s) p = absurd (no-call-makeable (fork_of at) h c p.possible)
+  no-call-by (speak t s) p = refl
 
-pub no-call : (m : Machine) → IsChildless m → call_of (next m) ≡ None
-no-call m h = no-call-by (port_of m) (bare m h) (action m.state) (action-ported IsBare m.state (IsBare-kept (port_of m) (bare m h)))
+  no-talk-by : (a : Action) → Ported IsAlone at a → talk_of (next_of a) ≡ None
+  no-talk-by (trap cause value) p = refl
+  no-talk-by interrupt p = refl
+  no-talk-by (retire written s) p = refl
+  no-talk-by (exit value bytes s) p = refl
+  no-talk-by (ask c s) p = refl
+  no-talk-by (speak t s) p = absurd (root_is_alone (fork_of at).clone_id (sibling_of at) none p.possible.0.0)
+
+module _ (m : Machine) (h : IsChildless m) where
+  alone-action : Ported IsAlone m.state (action m.state)
+  alone-action = action-ported IsAlone m.state (IsAlone-kept (port_of m) (sibling_of m.state) (bare m h) h.no_siblings)
+
+  pub no-call : call_of (next m) ≡ None
+  no-call = no-call-by m.state (bare m h) h.no_siblings (action m.state) alone-action
+
+  pub no-talk : talk_of (next m) ≡ None
+  no-talk = no-talk-by m.state (bare m h) h.no_siblings (action m.state) alone-action
 
 -- its steps are those of its tree
 settled-alone : (ending : Option Ending) (m : Machine) → (port_of m).tickets ≡ []
@@ -120,6 +154,7 @@ step-alone-by : (ending : Option Ending) (m : Machine) → m.ending ≡ ending �
 unfolding machines
 step-alone-by None m e h =
     ap (λ c. step_by machines c m no_brood no_entry) (no-call m h)
+    ∙ ap (λ (n : Machine). settled_by machines n.ending n no_brood no_entry) (stepped-own m (no-talk m h))
     ∙ settled-alone (advance m).ending (advance m) (IsChildless-advance m h).no_ticket
 step-alone-by (Some ending) m e h = ap (alone machines) (sym (advance-ended m ending e))
 
@@ -144,7 +179,7 @@ ended-after_steps zero m h within reached = elim (cases-ending m.ending) [
 ended-after_steps (suc n) m h within reached = elim (cases-ending m.ending) [
   | inl ended ↦ subst (λ (k : Machine). IsSome k.ending) (sym (after_steps-ended (suc n) m ended.0 ended.1)) (subst IsSome (sym ended.1) refl)
   | inr live ↦
-      let steps : (advance m).steps ≡ m.steps + 1 = steps-advance m live (no-call m h) in
+      let steps : (advance m).steps ≡ m.steps + 1 = steps-advance m live (no-call m h) (no-talk m h) in
       let limit : (advance m).limit ≡ m.limit = limit-advance m in
       ended-after_steps n (advance m) (IsChildless-advance m h) (IsWithinLimit-advance m within) (omega arith)
 ]
@@ -161,4 +196,4 @@ finish-childless n m h within ended =
 
 pub booted-childless : (image : Image) (disk input : List ℕ) (options : Options) → options.allot ≡ 0 → IsChildless (boot image disk input options)
 unfolding boot
-booted-childless image disk input options none = record { no_allot = none; no_ticket = refl }
+booted-childless image disk input options none = record { no_allot = none; no_ticket = refl; no_siblings = refl }

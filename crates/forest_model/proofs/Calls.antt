@@ -13,35 +13,41 @@ use Rattle.forest_model.specs.State.{State}
 use Rattle.forest_model.specs.Action.{Action, ask}
 use Rattle.forest_model.specs.Execute.{action}
 use Rattle.forest_model.specs.Machine.{Machine, next_of, next}
-use Rattle.forest_model.specs.Calls.{called, fork_of, forked_by, forked, share_of, as_in_parent, child_by, child, joined_by, after_join, killed_by, after_kill}
+use Rattle.forest_model.specs.Calls.{called, fork_of, forked_by, forked, share_of, children_of, as_in_parent, child_by, child, joined_by, after_join, killed_by, after_kill}
 use Rattle.forest_model.specs.Forest.{call_of, port_of}
-use Rattle.forest_model.proofs.ForkPort.{IsKept, Ported, action-ported}
+use Rattle.sibling_port.specs.Registers.{SiblingRegisters}
+use Rattle.sibling_port.specs.Registers as sibling
+use Rattle.forest_model.proofs.PortWalk.{IsKept, Ported, action-ported, fork-kept, same-fork, same-sibling, sibling_of}
 
-abbrev Anything : ForkRegisters → Type 0
+abbrev pub Anything : ForkRegisters → Type 0
 Anything f = Unit {0}
 
 any-store : (stored : Option ForkStored) → IfSome stored (λ s. Anything s.fork)
 any-store None = tt
 any-store (Some s) = tt
 
-any-kept : (f : ForkRegisters) → IsKept Anything f
-any-kept f = record {
-  before = tt;
-  after_store = λ offset width word. any-store (fork_store f offset width word);
-  after_answer = λ g word h. tt;
-}
+any-kept : (f : ForkRegisters) (r : SiblingRegisters) → IsKept (λ g q. Anything g) f r
+any-kept f r = fork-kept Anything f r tt (λ offset width word. any-store (fork_store f offset width word)) (λ g word h. tt)
+
+-- what holds of the ports after the coming action, where nothing is asked of them
+abbrev pub Leads : Machine → Action → Type 0
+Leads m a = Ported (λ g q. Anything g) m.state a
+
+pub leads : (m : Machine) → Leads m (action m.state)
+leads m = action-ported (λ g q. Anything g) m.state (any-kept (port_of m) (sibling_of m.state))
 
 -- a call that is asked for: the registers are as before, and its ticket is there
 pub record Asks (m : Machine) (c : Call) : Type 0 where
   pub state : State
   pub is : action m.state ≡ ask c state
   pub same : fork_of state ≡ port_of m
+  pub alike : sibling_of state ≡ sibling_of m.state
   pub makeable : IsMakeable (port_of m) c
 
 asks-by : (m : Machine) (c : Call) (s : State) → action m.state ≡ ask c s → Asks m c
 asks-by m c s e =
-    let h = subst (Ported Anything (port_of m)) e (action-ported Anything m.state (any-kept (port_of m))) in
-    record { state = s; is = e; same = h.0; makeable = h.1 }
+    let h = subst (Leads m) e (leads m) in
+    record { state = s; is = e; same = same-fork h; alike = same-sibling h; makeable = h.possible }
 
 clone-action : (a : Action) (t : ℕ) → call_of (next_of a) ≡ Some (tree.clone t) → (s : State) × (a ≡ ask (Clone t) s)
 clone-action (ask (Clone u) s) t e = let same : u ≡ t = cc in (s, ap (λ k. ask (Clone k) s) same)
@@ -114,6 +120,12 @@ module _ (m : Machine) (t : ℕ) where
       ap port_of (child-is k a)
       ∙ ap (λ f. fork.child_registers (fork.after_clone (fork_of a.state) t) k (share_of (ticket_found f t))) a.same
       ∙ ap (λ n. fork.child_registers (port_of n) k (share_of (ticket_found (port_of m) t))) (sym (forked-is a))
+
+  pub sibling-child : (k : ℕ) → call_of (next m) ≡ Some (tree.clone t)
+      → sibling_of (child m k).state ≡ sibling.at_start (children_of (ticket_found (port_of m) t))
+  sibling-child k is =
+      let a = clone-asks is in
+      ap (λ (n : Machine). sibling_of n.state) (child-is k a) ∙ ap (λ f. sibling.at_start (children_of (ticket_found f t))) a.same
 
 -- all else is as in its parent
 pub child-as-parent : (m : Machine) (k : ℕ) → as_in_parent (child m k) (forked m) ≡ forked m

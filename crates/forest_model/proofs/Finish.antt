@@ -9,10 +9,10 @@ use Rattle.forest_model.specs.declared.Written.TheVariants.{Nothing}
 use Rattle.rv_traps.specs.declared.csrs.TheConstants.{TIMER_INTERRUPT}
 use Rattle.rv_traps.specs.Trap.{takes_interrupt}
 use Rattle.forest_model.specs.State.{State, is_timer_due}
-use Rattle.forest_model.specs.Action.{Action, trap, interrupt, retire, exit, ask}
+use Rattle.forest_model.specs.Action.{Action, trap, interrupt, retire, exit, ask, speak}
 use Rattle.forest_model.specs.Execute.{action, action_by}
 use Rattle.forest_model.specs.Machine.{Machine, IsWithinLimit, exception, timer_interrupt, next_of, next, limited, count, trapped, advance, advance_from, applied, after_steps}
-use Rattle.forest_model.specs.Forest.{call_of}
+use Rattle.forest_model.specs.Forest.{call_of, talk_of}
 
 -- an ended machine stays as it is
 pub advance-ended : (m : Machine) (e : Ending) → m.ending ≡ Some e → advance m ≡ m
@@ -46,6 +46,7 @@ limit-applied interrupt m = refl
 limit-applied (retire written s) m = refl
 limit-applied (exit value bytes s) m = refl
 limit-applied (ask c s) m = refl
+limit-applied (speak t s) m = refl
 
 limit-advance_from : (e : Option Ending) (m : Machine) → (advance_from e m).limit ≡ m.limit
 limit-advance_from None m = limit-applied (action m.state) m
@@ -60,16 +61,17 @@ unfolding after_steps
 limit-after_steps zero m = refl
 limit-after_steps (suc n) m = limit-after_steps n (advance m) ∙ limit-advance m
 
--- each step of a live machine is counted, but for a call
-steps-applied : (a : Action) (m : Machine) → call_of (next_of a) ≡ None → (applied a m).steps ≡ m.steps + 1
-steps-applied (trap cause value) m own = refl
-steps-applied interrupt m own = refl
-steps-applied (retire written s) m own = refl
-steps-applied (exit value bytes s) m own = refl
-steps-applied (ask c s) m own = absurd (cc)
+-- each step of a live machine is counted, but for a call and a talk
+steps-applied : (a : Action) (m : Machine) → call_of (next_of a) ≡ None → talk_of (next_of a) ≡ None → (applied a m).steps ≡ m.steps + 1
+steps-applied (trap cause value) m own silent = refl
+steps-applied interrupt m own silent = refl
+steps-applied (retire written s) m own silent = refl
+steps-applied (exit value bytes s) m own silent = refl
+steps-applied (ask c s) m own silent = absurd (cc)
+steps-applied (speak t s) m own silent = absurd (cc)
 
-pub steps-advance : (m : Machine) → m.ending ≡ None → call_of (next m) ≡ None → (advance m).steps ≡ m.steps + 1
-steps-advance m h own = ap (λ (n : Machine). n.steps) (advance-live m h) ∙ steps-applied (action m.state) m own
+pub steps-advance : (m : Machine) → m.ending ≡ None → call_of (next m) ≡ None → talk_of (next m) ≡ None → (advance m).steps ≡ m.steps + 1
+steps-advance m h own silent = ap (λ (n : Machine). n.steps) (advance-live m h) ∙ steps-applied (action m.state) m own silent
 
 -- a machine whose next step is a call waits
 waits-applied : (a : Action) (m : Machine) → IsSome (call_of (next_of a)) → applied a m ≡ m
@@ -78,6 +80,7 @@ waits-applied interrupt m is = absurd (cc)
 waits-applied (retire written s) m is = absurd (cc)
 waits-applied (exit value bytes s) m is = absurd (cc)
 waits-applied (ask c s) m is = refl
+waits-applied (speak t s) m is = refl
 
 waits-advance_from : (e : Option Ending) (m : Machine) → IsSome (call_of (next m)) → advance_from e m ≡ m
 waits-advance_from None m is = waits-applied (action m.state) m is
@@ -86,6 +89,23 @@ waits-advance_from (Some e) m is = refl
 pub waits-advance : (m : Machine) → IsSome (call_of (next m)) → advance m ≡ m
 unfolding advance
 waits-advance m is = waits-advance_from m.ending m is
+
+-- and so does one whose next step is a talk
+talks-applied : (a : Action) (m : Machine) → IsSome (talk_of (next_of a)) → applied a m ≡ m
+talks-applied (trap cause value) m is = absurd (cc)
+talks-applied interrupt m is = absurd (cc)
+talks-applied (retire written s) m is = absurd (cc)
+talks-applied (exit value bytes s) m is = absurd (cc)
+talks-applied (ask c s) m is = refl
+talks-applied (speak t s) m is = refl
+
+talks-advance_from : (e : Option Ending) (m : Machine) → IsSome (talk_of (next m)) → advance_from e m ≡ m
+talks-advance_from None m is = talks-applied (action m.state) m is
+talks-advance_from (Some e) m is = refl
+
+pub talks-advance : (m : Machine) → IsSome (talk_of (next m)) → advance m ≡ m
+unfolding advance
+talks-advance m is = talks-advance_from m.ending m is
 
 -- a step that is an exception is a trap
 applied-exception : (a : Action) (m : Machine) (cause value : ℕ) → next_of a ≡ exception cause value
@@ -98,6 +118,7 @@ applied-exception interrupt m c v h = absurd (cc)
 applied-exception (retire written s) m c v h = absurd (cc)
 applied-exception (exit value bytes s) m c v h = absurd (cc)
 applied-exception (ask k s) m c v h = absurd (cc)
+applied-exception (speak t s) m c v h = absurd (cc)
 
 pub advance-exception : (m : Machine) (cause value : ℕ) → m.ending ≡ None → next m ≡ exception cause value
     → advance m ≡ limited (count false Nothing (trapped cause value m.state)) m
@@ -129,6 +150,7 @@ within-applied interrupt m h live = below-made m h live
 within-applied (retire written s) m h live = below-made m h live
 within-applied (exit value bytes s) m h live = cc
 within-applied (ask c s) m h live = h
+within-applied (speak t s) m h live = h
 
 -- EXIT ends a machine, and else its limit does
 exit-applied : (a : Action) (m : Machine) (value : ℕ) (bytes : List ℕ) (s : State) → a ≡ exit value bytes s → (applied a m).ending ≡ Some (Exit value (handed_of bytes))
@@ -138,17 +160,18 @@ pub exit-advance : (m : Machine) (value : ℕ) (bytes : List ℕ) (s : State) �
     → (advance m).ending ≡ Some (Exit value (handed_of bytes))
 exit-advance m value bytes s live e = ap (λ (n : Machine). n.ending) (advance-live m live) ∙ exit-applied (action m.state) m value bytes s e
 
-limit-reached : (a : Action) (m : Machine) → call_of (next_of a) ≡ None → ((value : ℕ) (bytes : List ℕ) (s : State) → a ≢ exit value bytes s)
+limit-reached : (a : Action) (m : Machine) → call_of (next_of a) ≡ None → talk_of (next_of a) ≡ None → ((value : ℕ) (bytes : List ℕ) (s : State) → a ≢ exit value bytes s)
     → (applied a m).ending ≡ cond (eqb (m.steps + 1) m.limit) (Some Limit) None
-limit-reached (trap cause value) m own other = refl
-limit-reached interrupt m own other = refl
-limit-reached (retire written s) m own other = refl
-limit-reached (exit value bytes s) m own other = absurd (other value bytes s refl)
-limit-reached (ask c s) m own other = absurd (cc)
+limit-reached (trap cause value) m own silent other = refl
+limit-reached interrupt m own silent other = refl
+limit-reached (retire written s) m own silent other = refl
+limit-reached (exit value bytes s) m own silent other = absurd (other value bytes s refl)
+limit-reached (ask c s) m own silent other = absurd (cc)
+limit-reached (speak t s) m own silent other = absurd (cc)
 
-pub limit-ends : (m : Machine) → m.ending ≡ None → call_of (next m) ≡ None → ((value : ℕ) (bytes : List ℕ) (s : State) → action m.state ≢ exit value bytes s)
+pub limit-ends : (m : Machine) → m.ending ≡ None → call_of (next m) ≡ None → talk_of (next m) ≡ None → ((value : ℕ) (bytes : List ℕ) (s : State) → action m.state ≢ exit value bytes s)
     → (advance m).ending ≡ cond (eqb (m.steps + 1) m.limit) (Some Limit) None
-limit-ends m live own other = ap (λ (n : Machine). n.ending) (advance-live m live) ∙ limit-reached (action m.state) m own other
+limit-ends m live own silent other = ap (λ (n : Machine). n.ending) (advance-live m live) ∙ limit-reached (action m.state) m own silent other
 
 -- a machine has ended, or it lives
 pub cases-ending : (e : Option Ending) → ((ending : Ending) × (e ≡ Some ending)) ⊎ (e ≡ None)

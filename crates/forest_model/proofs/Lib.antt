@@ -4,10 +4,12 @@ pub mod Zero
 pub mod HandedOver
 pub mod Once
 pub mod Touch
-pub mod ForkPort
+pub mod PortWalk
 pub mod Numbers
 pub mod Calls
+pub mod Spoken
 pub mod Rules
+pub mod Talking
 pub mod Alone
 pub mod Paged
 pub mod Absent

@@ -15,7 +15,8 @@ use Rattle.forest_model.specs.Execute.{action}
 use Rattle.forest_model.specs.Machine.{Machine, advance}
 use Rattle.forest_model.specs.Calls as calls
 use Rattle.forest_model.specs.Forest.{port_of}
-use Rattle.forest_model.proofs.ForkPort.{IsKept, Ported, action-ported, port-advance}
+use Rattle.sibling_port.specs.Registers.{SiblingRegisters}
+use Rattle.forest_model.proofs.PortWalk.{IsKept, Ported, action-ported, fork-kept, port-advance, same-fork, sibling_of}
 
 abbrev Rises : ForkRegisters → ForkRegisters → Type 0
 Rises f g = g.next_ticket ≤ f.next_ticket + 1
@@ -50,42 +51,44 @@ Rises-answered f (asked.Exit value) = omega arith
 Rises-answered f (asked.ExitWith value address count) = omega arith
 Rises-answered f (asked.Zero first count) = omega arith
 
-Rises-kept : (f : ForkRegisters) → IsKept (Rises f) f
-Rises-kept f = record {
-  before = omega arith;
-  after_store = λ offset width word.
-      each_store (λ s. Rises f s.fork) f offset width word (omega arith) (omega arith) (omega arith) (Rises-answered f (fork_command f word));
-  after_answer = λ g word h. h;
-}
+Rises-kept : (f : ForkRegisters) (r : SiblingRegisters) → IsKept (λ g q. Rises f g) f r
+Rises-kept f r =
+    fork-kept (Rises f) f r (omega arith)
+    (λ offset width word.
+    each_store (λ s. Rises f s.fork) f offset width word (omega arith) (omega arith) (omega arith) (Rises-answered f (fork_command f word)))
+    (λ g word h. h)
 
 pub next-advance : (m : Machine) → (port_of (advance m)).next_ticket ≤ (port_of m).next_ticket + 1
-next-advance m = port-advance (Rises (port_of m)) m (Rises-kept (port_of m))
+next-advance m = port-advance (λ g q. Rises (port_of m) g) m (Rises-kept (port_of m) (sibling_of m.state))
 
 -- a call gives none
 module _ (m : Machine) where
-  asked-port : Ported (Rises (port_of m)) (port_of m) (action m.state)
-  asked-port = action-ported (Rises (port_of m)) m.state (Rises-kept (port_of m))
+  abbrev Leads : Action → Type 0
+  Leads a = Ported (λ g q. Rises (port_of m) g) m.state a
+
+  asked-port : Leads (action m.state)
+  asked-port = action-ported (λ g q. Rises (port_of m) g) m.state (Rises-kept (port_of m) (sibling_of m.state))
 
   pub next-forked : (port_of (calls.forked m)).next_ticket ≡ (port_of m).next_ticket
   unfolding calls.forked
   next-forked = by (action m.state) asked-port
     where
-      by : (a : Action) → Ported (Rises (port_of m)) (port_of m) a → (port_of (calls.forked_by a m)).next_ticket ≡ (port_of m).next_ticket
-      by (ask (call.Clone t) s) h = ap (λ (f : ForkRegisters). f.next_ticket) h.0
+      by : (a : Action) → Leads a → (port_of (calls.forked_by a m)).next_ticket ≡ (port_of m).next_ticket
+      by (ask (call.Clone t) s) h = ap (λ (f : ForkRegisters). f.next_ticket) (same-fork h)
       by _ h = refl
 
   pub next-joined : (endings : List Ending) → (port_of (calls.after_join m endings)).next_ticket ≡ (port_of m).next_ticket
   unfolding calls.after_join
   next-joined endings = by (action m.state) asked-port
     where
-      by : (a : Action) → Ported (Rises (port_of m)) (port_of m) a → (port_of (calls.joined_by a m endings)).next_ticket ≡ (port_of m).next_ticket
-      by (ask (call.Join t) s) h = next-after_join (calls.fork_of s) t endings ∙ ap (λ (f : ForkRegisters). f.next_ticket) h.0
+      by : (a : Action) → Leads a → (port_of (calls.joined_by a m endings)).next_ticket ≡ (port_of m).next_ticket
+      by (ask (call.Join t) s) h = next-after_join (calls.fork_of s) t endings ∙ ap (λ (f : ForkRegisters). f.next_ticket) (same-fork h)
       by _ h = refl
 
   pub next-killed : (port_of (calls.after_kill m)).next_ticket ≡ (port_of m).next_ticket
   unfolding calls.after_kill
   next-killed = by (action m.state) asked-port
     where
-      by : (a : Action) → Ported (Rises (port_of m)) (port_of m) a → (port_of (calls.killed_by a m)).next_ticket ≡ (port_of m).next_ticket
-      by (ask (call.Kill t) s) h = next-after_kill (calls.fork_of s) t ∙ ap (λ (f : ForkRegisters). f.next_ticket) h.0
+      by : (a : Action) → Leads a → (port_of (calls.killed_by a m)).next_ticket ≡ (port_of m).next_ticket
+      by (ask (call.Kill t) s) h = next-after_kill (calls.fork_of s) t ∙ ap (λ (f : ForkRegisters). f.next_ticket) (same-fork h)
       by _ h = refl

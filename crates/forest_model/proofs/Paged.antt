@@ -1,18 +1,21 @@
 -- A machine of which some pages may be absent, seen as the machine with every page; and the page at which it stops.
 use Rattle.std.proofs.Common.{◌≡◌, ℕ, zero, suc, ◌+◌, Bool, true, false, cond, List, [], ◌∷◌, get_or}
-use Rattle.std.proofs.Common.{Some, None, IsSome, refl, ap, ◌∙◌, subst, arith, suc-add, zero-add}
+use Rattle.std.proofs.Common.{Option, Some, None, IsSome, refl, ap, ◌∙◌, subst, arith, suc-add, zero-add}
 use Rattle.std.specs.List.{Contains}
-use Rattle.forest_tree.specs.Operations.{IsMachine}
+use Rattle.forest_tree.specs.Operations.{Call, IsMachine, IsStep, Makes, is_cloned}
 use Rattle.forest_tree.specs.Tree.{Tree}
 use Rattle.forest_tree.specs.Finish as tree
 use Rattle.forest_tree.specs.Projection.{map_tree, Projects}
 use Rattle.forest_tree.proofs.Projected.{IsMachine-projected, finish-map}
 use Rattle.forest_model.specs.Machine.{Machine, after_steps}
-use Rattle.forest_model.specs.Forest.{machines, finish}
+use Rattle.sibling_forest.specs.Talk.{HasNumberOf, IsTalking}
+use Rattle.sibling_forest.specs.Laws.{TalksAlike}
+use Rattle.forest_model.specs.Forest.{machines, talks, finish}
 use Rattle.forest_model.specs.Touch.{touch}
-use Rattle.forest_model.specs.Paged.{Paged, advanced, advanced_by, first_absent, paged_machines, stalled_at}
+use Rattle.forest_model.specs.Paged.{Paged, advanced, advanced_by, first_absent, paged_machines, paged_talks, stalled_at}
 use Rattle.forest_model.proofs.Once.{Contains-later}
 use Rattle.forest_model.proofs.Rules.{machines-rules}
+use Rattle.forest_model.proofs.Talking.{machines-talk}
 use Rattle.forest_model.proofs.Touch.{touch-IsSome}
 
 -- ---- the machine with every page
@@ -43,6 +46,49 @@ paged-rules = IsMachine-projected paged_machines machines inner paged-projects m
 
 pub paged-finish : (t : Tree Paged) → finish (map_tree inner t) ≡ map_tree inner (tree.finish paged_machines t)
 paged-finish t = finish-map paged_machines machines inner paged-projects t
+
+-- they talk as the machine with every page does
+pub paged-alike : TalksAlike paged_talks talks inner
+unfolding paged_talks
+paged-alike = record { talk = λ p. refl; word = λ p. refl; received = λ p word. refl }
+
+paged-makes : (p : Paged) (next : Option Call) → Makes paged_machines p next → Makes machines p.machine next
+unfolding paged_machines
+paged-makes p next h = record { good = h.good; lives = h.lives; call = h.call }
+
+paged-step : (p q : Paged) → IsStep machines p.machine q.machine (is_cloned machines p.machine) → IsStep paged_machines p q (is_cloned paged_machines p)
+unfolding paged_machines
+paged-step p q h = record {
+  good = h.good;
+  counted = h.counted;
+  holding = h.holding;
+  tickets = h.tickets;
+  grants = h.grants;
+  once = h.once;
+}
+
+paged-number : (p q : Paged) → HasNumberOf machines talks p.machine q.machine → HasNumberOf paged_machines paged_talks p q
+unfolding paged_talks
+paged-number p q h = record { number = h.number; siblings = h.siblings }
+
+pub paged-talk : IsTalking paged_machines paged_talks
+unfolding paged_machines paged_talks
+paged-talk =
+    let t = machines-talk in
+    record {
+      received = λ p j word makes is.
+          paged-step p (paged_talks.received p word) (t.received p.machine j word (paged-makes p None makes) is);
+      first = λ p what is. t.first p.machine what is;
+      last = λ p what is. t.last p.machine what is;
+      other = λ p what is. t.other p.machine what is;
+      advance_numbers = λ p. paged-number p (paged_machines.advance p) (t.advance_numbers p.machine);
+      received_numbers = λ p word. paged-number p (paged_talks.received p word) (t.received_numbers p.machine word);
+      forked_numbers = λ p. paged-number p (paged_machines.forked p) (t.forked_numbers p.machine);
+      join_numbers = λ p endings. paged-number p (paged_machines.after_join p endings) (t.join_numbers p.machine endings);
+      kill_numbers = λ p. paged-number p (paged_machines.after_kill p) (t.kill_numbers p.machine);
+      child_number = λ p u i makes low high. t.child_number p.machine u i (paged-makes p _ makes) low high;
+      child_siblings = λ p u i makes low high. t.child_siblings p.machine u i (paged-makes p _ makes) low high;
+    }
 
 pub machine-advanced_by : (n : ℕ) (p : Paged) → (advanced_by n p).machine ≡ after_steps n p.machine
 unfolding advanced_by after_steps

@@ -19,12 +19,18 @@ use Rattle.forest_tree.proofs.Settle.{start-sound}
 use Rattle.elf_load.specs.Image.{Image}
 use Rattle.forest_model.specs.declared.Options.{Options}
 use Rattle.forest_model.specs.State.{State}
-use Rattle.forest_model.specs.Action.{Action, trap, interrupt, retire, exit, ask}
+use Rattle.forest_model.specs.Action.{Action, trap, interrupt, retire, exit, ask, speak}
 use Rattle.forest_model.specs.Execute.{action}
-use Rattle.forest_model.specs.Machine.{Machine, next_of, limited, applied, advance, boot}
+use Rattle.sibling_port.specs.Registers.{SiblingRegisters}
+use Rattle.sibling_port.specs.declared.talk.Talk as said
+use Rattle.sibling_port.specs.Registers as sibling
+use Rattle.sibling_forest.specs.Talk.{Talk}
+use Rattle.forest_model.specs.Machine.{Machine, next_of, next, limited, applied, advance, boot}
+use Rattle.forest_model.specs.Talks.{spoken, talked, received, stepped}
 use Rattle.forest_model.specs.Calls.{called, fork_of, forked, share_of, child_by, child, after_join, after_kill}
-use Rattle.forest_model.specs.Forest.{call_of, port_of, is_good, machines, booted}
-use Rattle.forest_model.proofs.ForkPort.{IsKept, Ported, action-ported, port-applied}
+use Rattle.forest_model.specs.Forest.{call_of, talk_of, port_of, is_good, machines, booted}
+use Rattle.forest_model.proofs.PortWalk.{IsKept, Ported, action-ported, fork-kept, port-applied, sibling_of}
+use Rattle.forest_model.proofs.Spoken.{Speaks, Kind, own, says, kind-of, answer_of, received-talked, stepped-own, stepped-talk, talked-is, talks-at}
 use Rattle.forest_model.proofs.Finish.{advance-live}
 use Rattle.forest_model.proofs.Calls.{Asks, clone-asks, join-asks, kill-asks, forked-is, child-is, joined-is, killed-is}
 
@@ -53,12 +59,13 @@ live-limited steps limit false e fits = lt-ltb steps limit (let differs = eqb-fa
 counted-limited : (s : State) (m : Machine) → m.steps < m.limit → IsCounted m (limited s m)
 counted-limited s m h = record { steps = refl; limit = refl; live = live-limited (m.steps + 1) m.limit (eqb (m.steps + 1) m.limit) refl (omega arith) }
 
-counted-applied : (a : Action) (m : Machine) → call_of (next_of a) ≡ None → m.steps < m.limit → IsCounted m (applied a m)
-counted-applied (trap cause value) m own h = counted-limited _ m h
-counted-applied interrupt m own h = counted-limited _ m h
-counted-applied (retire written s) m own h = counted-limited _ m h
-counted-applied (exit value bytes s) m own h = record { steps = refl; limit = refl; live = refl }
-counted-applied (ask c s) m own h = absurd (cc)
+counted-applied : (a : Action) (m : Machine) → call_of (next_of a) ≡ None → talk_of (next_of a) ≡ None → m.steps < m.limit → IsCounted m (applied a m)
+counted-applied (trap cause value) m calls silent h = counted-limited _ m h
+counted-applied interrupt m calls silent h = counted-limited _ m h
+counted-applied (retire written s) m calls silent h = counted-limited _ m h
+counted-applied (exit value bytes s) m calls silent h = record { steps = refl; limit = refl; live = refl }
+counted-applied (ask c s) m calls silent h = absurd (cc)
+counted-applied (speak t s) m calls silent h = absurd (cc)
 
 -- what a step owes, by what it does to the fork port
 module _ (m : Machine) (good : is_good m ≡ true) where
@@ -66,11 +73,11 @@ module _ (m : Machine) (good : is_good m ≡ true) where
       → is_among t (cloned_numbers (port_of n).tickets) ≡ port.is_cloned (ticket_found (port_of n) t)
   among n accounts t = among-cloned (port_of n).tickets (accounted-is (port_of n) accounts).rising t
 
-  stepped : (n : Machine) (then : ℕ → Bool → Bool) → m.ending ≡ None → IsCounted m n
+  stepping : (n : Machine) (then : ℕ → Bool → Bool) → m.ending ≡ None → IsCounted m n
       → IsPortStep (port_of m) (port_of n) (λ t. then t (port.is_cloned (ticket_found (port_of m) t)))
       → IsStep machines m n (λ t. then t (is_cloned machines m t))
   unfolding machines
-  stepped n then lives counts s = record {
+  stepping n then lives counts s = record {
     good = and_from (is_accounted (port_of n)) (is_some n.ending || ltb n.steps n.limit) s.good counts.live;
     counted = let under : m.steps < m.limit = below m good lives in
         let steps : n.steps ≡ m.steps + 1 = counts.steps in
@@ -86,15 +93,17 @@ module _ (m : Machine) (good : is_good m ≡ true) where
 abbrev Steps : ForkRegisters → ForkRegisters → Type 0
 Steps f g = IsPortStep f g (λ t. port.is_cloned (ticket_found f t))
 
-Steps-kept : (f : ForkRegisters) → is_accounted f ≡ true → IsKept (Steps f) f
-Steps-kept f h = record {
-  before = port-same f f h refl refl refl refl;
-  after_store = λ offset width word. port-stored f offset width word h;
-  after_answer = λ g word s. record { good = s.good; holding = s.holding; tickets = s.tickets; grants = s.grants; once = s.once };
-}
+Steps-kept : (f : ForkRegisters) (r : SiblingRegisters) → is_accounted f ≡ true → IsKept (λ g q. Steps f g) f r
+Steps-kept f r h =
+    fork-kept (Steps f) f r (port-same f f h refl refl refl refl)
+    (λ offset width word. port-stored f offset width word h)
+    (λ g word s. record { good = s.good; holding = s.holding; tickets = s.tickets; grants = s.grants; once = s.once })
 
-ported : (m : Machine) → is_good m ≡ true → Ported (Steps (port_of m)) (port_of m) (action m.state)
-ported m good = action-ported (Steps (port_of m)) m.state (Steps-kept (port_of m) (accounted m good))
+ported : (m : Machine) → is_good m ≡ true → Ported (λ g q. Steps (port_of m) g) m.state (action m.state)
+ported m good = action-ported (λ g q. Steps (port_of m) g) m.state (Steps-kept (port_of m) (sibling_of m.state) (accounted m good))
+
+same-port : (m : Machine) → is_good m ≡ true → Steps (port_of m) (port_of m)
+same-port m good = port-same (port_of m) (port_of m) (accounted m good) refl refl refl refl
 
 -- the call that its next step is
 module _ (m : Machine) (t : ℕ) where
@@ -111,21 +120,43 @@ module _ (m : Machine) (t : ℕ) where
   makes-kill makes = kill-asks m t makes.call
 
 -- the machine's own step
-own-steps : (m : Machine) → Makes machines m None → IsStep machines m (advance m) (is_cloned machines m)
+advance-steps : (m : Machine) → Makes machines m None → talk_of (next m) ≡ None → IsStep machines m (advance m) (is_cloned machines m)
 unfolding machines
-own-steps m makes =
+advance-steps m makes silent =
     subst (λ n. IsStep machines m n (is_cloned machines m)) (sym (advance-live m makes.lives))
-    (stepped m makes.good (applied (action m.state) m) (λ t b. b) makes.lives
-    (counted-applied (action m.state) m makes.call (below m makes.good makes.lives))
-    (port-applied (Steps (port_of m)) (action m.state) m (ported m makes.good)
-    (port-same (port_of m) (port_of m) (accounted m makes.good) refl refl refl refl)))
+    (stepping m makes.good (applied (action m.state) m) (λ t b. b) makes.lives
+    (counted-applied (action m.state) m makes.call silent (below m makes.good makes.lives))
+    (port-applied (λ g q. Steps (port_of m) g) (action m.state) m (ported m makes.good) (same-port m makes.good)))
+
+-- a talk is a step too, whatever it brings
+talked-steps : (m : Machine) (t : said.Talk) (word : Option ℕ) (answer : ℕ) → Makes machines m None → Speaks m t
+    → IsStep machines m (talked m word answer) (is_cloned machines m)
+unfolding machines
+talked-steps m t word answer makes a =
+    let r : SiblingRegisters = sibling.talked word answer (sibling_of a.state) in
+    subst (λ n. IsStep machines m n (is_cloned machines m)) (sym (talked-is m t word answer a))
+    (stepping m makes.good (spoken a.state r m) (λ t b. b) makes.lives (counted-limited _ m (below m makes.good makes.lives))
+    (subst (Steps (port_of m)) (sym a.same) (same-port m makes.good)))
+
+own-steps : (m : Machine) → Makes machines m None → IsStep machines m (stepped m) (is_cloned machines m)
+own-steps m makes = by (kind-of m)
+  where
+    by : Kind m → IsStep machines m (stepped m) (is_cloned machines m)
+    by (own silent) = subst (λ n. IsStep machines m n (is_cloned machines m)) (sym (stepped-own m silent)) (advance-steps m makes silent)
+    by (says t a) = subst (λ n. IsStep machines m n (is_cloned machines m)) (sym (stepped-talk m t a)) (talked-steps m t None _ makes a)
+
+pub received-steps : (m : Machine) (what : Talk) (word : Option ℕ) → Makes machines m None → talk_of (next m) ≡ Some what
+    → IsStep machines m (received m word) (is_cloned machines m)
+received-steps m what word makes is =
+    let a = talks-at m what is in
+    subst (λ n. IsStep machines m n (is_cloned machines m)) (sym (received-talked m word)) (talked-steps m a.said word (answer_of word) makes a.speaks)
 
 -- a call is counted, and does to the fork port what it says
 called-steps : (m : Machine) (s : State) (f : ForkRegisters) (then : ℕ → Bool → Bool) → is_good m ≡ true → m.ending ≡ None
     → IsPortStep (port_of m) f (λ t. then t (port.is_cloned (ticket_found (port_of m) t)))
     → IsStep machines m (called s f m) (λ t. then t (is_cloned machines m t))
 called-steps m s f then good lives steps =
-    stepped m good (called s f m) then lives (counted-limited _ m (below m good lives)) steps
+    stepping m good (called s f m) then lives (counted-limited _ m (below m good lives)) steps
 
 forked-steps : (m : Machine) (t : ℕ) → Makes machines m (Some (tree.clone t)) → IsStep machines m (forked m) (λ u. eqb t u || is_cloned machines m u)
 unfolding machines
@@ -211,9 +242,14 @@ start-accounted : (allot : ℕ) → allot < 2 ^ 32 → is_accounted (at_start al
 start-accounted allot fits =
     is-accounted (at_start allot) (record { balanced = record { kept = omega arith; fits = fits; below = tt; for_children = tt }; rising = tt })
 
+pub booted-good : (image : Image) (disk input : List ℕ) (options : Options) → 0 < options.limit → options.allot < 2 ^ 32
+    → is_good (boot image disk input options) ≡ true
+unfolding boot
+booted-good image disk input options some fits =
+    and_from (is_accounted (at_start options.allot)) (ltb 0 options.limit) (start-accounted options.allot fits) (lt-ltb 0 options.limit some)
+
 pub booted-sound : (image : Image) (disk input : List ℕ) (options : Options) → 0 < options.limit → options.allot < 2 ^ 32
     → IsSound machines (booted image disk input options)
 unfolding machines boot cloned_numbers
 booted-sound image disk input options some fits =
-    start-sound machines (boot image disk input options)
-    (and_from (is_accounted (at_start options.allot)) (ltb 0 options.limit) (start-accounted options.allot fits) (lt-ltb 0 options.limit some)) refl
+    start-sound machines (boot image disk input options) (booted-good image disk input options some fits) refl

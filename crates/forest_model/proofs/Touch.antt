@@ -23,12 +23,12 @@ use Rattle.rv_decode.specs.Kinds.{group_of}
 use Rattle.rv_exec.specs.Memory.{IsWidth, load_width, store_bytes, store_width}
 use Rattle.fork_port.specs.declared.ending.Ending.{Ending}
 use Rattle.fork_port.specs.declared.commands.Effect.{Effect}
-use Rattle.fork_port.specs.declared.commands.Effect.TheVariants.{Done, TimeWritten, Exit, ExitWith, Call, Zero}
+use Rattle.fork_port.specs.declared.commands.Effect.TheVariants.{Done, TimeWritten, Exit, ExitWith, Call, Talk, Zero}
 use Rattle.cow_disk.specs.Disk.{sector_count}
 use Rattle.cow_disk.specs.Paged.{disk_pages, page_of_sector}
 use Rattle.block_port.specs.Block.{BlockRegisters, block_store, is_sector_command, touched_page}
 use Rattle.port_map.specs.declared.place.Place.{Place}
-use Rattle.port_map.specs.declared.place.Place.TheVariants.{Console as at_console, Timer as at_timer, Block as at_block, Fork as at_fork, NoPort as at_no_port}
+use Rattle.port_map.specs.declared.place.Place.TheVariants.{Console as at_console, Timer as at_timer, Block as at_block, Fork as at_fork, Sibling as at_sibling, NoPort as at_no_port}
 use Rattle.port_map.specs.Ranges.{place_of}
 use Rattle.forest_model.specs.Ports.{Read, Stored, block_stored, port_load, port_store, store_at}
 use Rattle.forest_model.specs.declared.access.Access.{Access}
@@ -36,7 +36,7 @@ use Rattle.forest_model.specs.declared.access.Direction.{Direction}
 use Rattle.forest_model.specs.declared.access.Direction.TheVariants as access
 use Rattle.forest_model.specs.Footprint.{Footprint, code_and_data, each_once}
 use Rattle.forest_model.specs.State.{State, is_timer_due, at_next_instruction}
-use Rattle.forest_model.specs.Action.{Action, trap, interrupt, retire, exit, ask, rs1, rs2}
+use Rattle.forest_model.specs.Action.{Action, trap, interrupt, retire, exit, ask, speak, rs1, rs2}
 use Rattle.forest_model.specs.Compute.{load_upper, add_upper, compute_immediate, compute}
 use Rattle.forest_model.specs.Control.{aligned_jump, jump, jump_register, branch_by, branch, relative, linked}
 use Rattle.forest_model.specs.Access.{Reached, faulted, of_ram, of_port, uses, is_made, is_aligned, right_for, reached, page_of, fetch_access}
@@ -110,6 +110,7 @@ AreData-outcome TimeWritten s = AreData-none s.ram
 AreData-outcome (Exit value) s = AreData-none s.ram
 AreData-outcome (ExitWith value address count) s = AreData-handing_over (is_byte_range address count s.ram) value address count s refl
 AreData-outcome (Call call) s = AreData-none s.ram
+AreData-outcome (Talk t) s = AreData-none s.ram
 AreData-outcome (Zero first count) s = AreData-none s.ram
 
 AreData-stored : (answer : Option Stored) (address : ℕ) (s : State) → AreData s.ram (stored_outcome answer address s).footprint.needs
@@ -164,6 +165,8 @@ AreNeeded-place (at_block offset) address width word s =
     (sector-page s.ports.block offset width word (is_sector_command offset width word && ltb s.ports.block.sector (sector_count s.ports.block.disk)) refl)
 AreNeeded-place (at_fork offset) address width word s =
     AreNeeded-data s (stored_outcome (store_at (at_fork offset) s.ports width word) address s).footprint.needs (AreData-stored (store_at (at_fork offset) s.ports width word) address s)
+AreNeeded-place (at_sibling offset) address width word s =
+    AreNeeded-data s (stored_outcome (store_at (at_sibling offset) s.ports width word) address s).footprint.needs (AreData-stored (store_at (at_sibling offset) s.ports width word) address s)
 AreNeeded-place at_no_port address width word s = AreNeeded-none s
 
 AreNeeded-port : (writes : Bool) (a : Access) (word : ℕ) (s : State) → AreNeeded s (footprint_at_port writes a word s).needs
@@ -243,13 +246,14 @@ touch-interrupt m h = interrupt-from m.ending m.state h
 
 -- ---- the bytes that a step leaves
 
--- RAM after an action. A call waits
+-- RAM after an action. A call and a talk wait
 abbrev ram_after : Action → State → List ℕ
 ram_after (trap cause value) s = s.ram
 ram_after interrupt s = s.ram
 ram_after (retire written new) s = new.ram
 ram_after (exit value bytes new) s = new.ram
 ram_after (ask c new) s = s.ram
+ram_after (speak t new) s = s.ram
 
 -- the action leaves the byte at `at`
 abbrev Leaves : ℕ → State → Action → Type 0
@@ -326,6 +330,7 @@ Leaves-outcome at (Exit value) new s e aside = ap (λ ram. get_or ram at 0) e
 Leaves-outcome at (ExitWith value address count) new s e aside =
     Leaves-handing_over at (is_byte_range address count new.ram) value address count new s e
 Leaves-outcome at (Call call) new s e aside = refl
+Leaves-outcome at (Talk t) new s e aside = refl
 Leaves-outcome at (Zero first count) new s e aside =
     Leaves-zeroed at (is_page_range first count new.ram) first count new refl aside.unzeroed ∙ ap (λ ram. get_or ram at 0) e
 
@@ -507,6 +512,7 @@ ram-applied interrupt m = refl
 ram-applied (retire written s) m = refl
 ram-applied (exit value bytes s) m = refl
 ram-applied (ask c s) m = refl
+ram-applied (speak t s) m = refl
 
 leaves-from : (at : ℕ) (ending : Option Ending) (m : Machine) → IsSpared m.state at (footprint_from ending m.state)
     → get_or (advance_from ending m).state.ram at 0 ≡ get_or m.state.ram at 0

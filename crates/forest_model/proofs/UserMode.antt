@@ -20,7 +20,7 @@ use Rattle.forest_model.specs.declared.CsrOperation.{CsrOperation}
 use Rattle.forest_model.specs.declared.CsrOperation.TheVariants.{Write, SetBits, ClearBits}
 use Rattle.forest_model.specs.Ports.{Read, Stored, port_load, port_store}
 use Rattle.forest_model.specs.State.{State, is_timer_due, at_next_instruction}
-use Rattle.forest_model.specs.Action.{Action, trap, interrupt, retire, exit, ask, immediate, rs1, rs2}
+use Rattle.forest_model.specs.Action.{Action, trap, interrupt, retire, exit, ask, speak, immediate, rs1, rs2}
 use Rattle.forest_model.specs.Access.{Reached, faulted, of_ram, of_port, reached, fetch_access}
 use Rattle.forest_model.specs.Compute.{load_upper, add_upper, compute_immediate, compute}
 use Rattle.forest_model.specs.Control.{aligned_jump, jump, jump_register, branch_by, branch, relative, linked}
@@ -30,6 +30,7 @@ use Rattle.forest_model.specs.Atomic.{is_reserved, reserve_by, reserve_access, l
 use Rattle.forest_model.specs.System.{csr_value, operand, operation_of, reads, writes, written_action, write_action, old_action, old_value, csr_access, returned_action, trap_return}
 use Rattle.forest_model.specs.Execute.{action, action_by, execute_group, execute, decoded_action, fetched, fetch_action}
 use Rattle.forest_model.specs.Machine.{Machine, plain, next, next_of, advance, advance_from, applied}
+use Rattle.forest_model.specs.Talks.{talked_by, talked}
 use Rattle.forest_model.specs.Calls.{forked, forked_by, after_join, joined_by, after_kill, killed_by}
 
 -- bits are set or cleared by what was read, so what does not read writes
@@ -39,13 +40,14 @@ writes-unread SetBits i unread = absurd (cc)
 writes-unread ClearBits i unread = absurd (cc)
 
 module _ (s : State) where
-  -- an action that is no trap leaves the registers, and a call RAM too
+  -- an action that is no trap leaves the registers, and a call or a talk RAM too
   abbrev Stays : Action → Type 0
   Stays (trap cause value) = Unit {0}
   Stays interrupt = Unit {0}
   Stays (retire written new) = new.csrs ≡ s.csrs
   Stays (exit value bytes new) = new.csrs ≡ s.csrs
   Stays (ask c new) = (new.csrs ≡ s.csrs) × (new.ram ≡ s.ram)
+  Stays (speak t new) = (new.csrs ≡ s.csrs) × (new.ram ≡ s.ram)
 
   Stays-zeroed : (in_range : Bool) (first count : ℕ) (new : State) → new.csrs ≡ s.csrs → (zeroed in_range first count new).csrs ≡ s.csrs
   Stays-zeroed false first count new e = e
@@ -61,6 +63,7 @@ module _ (s : State) where
   Stays-outcome (effect.Exit value) new csrs ram = csrs
   Stays-outcome (effect.ExitWith value address count) new csrs ram = Stays-handing_over (is_byte_range address count new.ram) value address count new csrs
   Stays-outcome (effect.Call c) new csrs ram = (csrs, ram)
+  Stays-outcome (effect.Talk t) new csrs ram = (csrs, ram)
   Stays-outcome (effect.Zero first count) new csrs ram = Stays-zeroed (is_page_range first count new.ram) first count new csrs
 
   Stays-stored : (answer : Option Stored) (address : ℕ) → Stays (stored_outcome answer address s).action
@@ -176,6 +179,7 @@ applied-keeps interrupt m stays is = absurd (cc)
 applied-keeps (retire written new) m stays is = kept-same m new.csrs stays
 applied-keeps (exit value bytes new) m stays is = kept-same m new.csrs stays
 applied-keeps (ask c new) m stays is = refl
+applied-keeps (speak t new) m stays is = refl
 
 advance-keeps : (ending : Option Ending) (m : Machine) → m.state.csrs.mode ≡ User → next m ≡ plain → AreKept m (advance_from ending m)
 advance-keeps None m user is = applied-keeps (action m.state) m (Stays-action m.state user) is
@@ -202,6 +206,10 @@ killed-keeps : (a : Action) (m : Machine) → Stays m.state a → LeavesBoth m (
 killed-keeps (ask (Kill t) new) m stays = record { registers = kept-same m new.csrs stays.0; ram = stays.1 }
 killed-keeps _ m stays = record { registers = refl; ram = refl }
 
+talked-keeps : (a : Action) (m : Machine) (word : Option ℕ) (answer : ℕ) → Stays m.state a → LeavesBoth m (talked_by a m word answer)
+talked-keeps (speak t new) m word answer stays = record { registers = kept-same m new.csrs stays.0; ram = stays.1 }
+talked-keeps _ m word answer stays = record { registers = refl; ram = refl }
+
 module _ (m : Machine) (user : m.state.csrs.mode ≡ User) where
   pub clone-keeps : LeavesBoth m (forked m)
   unfolding forked
@@ -214,3 +222,7 @@ module _ (m : Machine) (user : m.state.csrs.mode ≡ User) where
   pub kill-keeps : LeavesBoth m (after_kill m)
   unfolding after_kill
   kill-keeps = killed-keeps (action m.state) m (Stays-action m.state user)
+
+  pub talk-keeps : (word : Option ℕ) (answer : ℕ) → LeavesBoth m (talked m word answer)
+  unfolding talked
+  talk-keeps word answer = talked-keeps (action m.state) m word answer (Stays-action m.state user)

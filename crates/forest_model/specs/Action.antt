@@ -3,6 +3,7 @@ use Rattle.std.specs.Prelude.{ℕ, List}
 use Rattle.std.specs.Int.{cast_unsigned, w32}
 use Rattle.rv_decode.specs.Instruction.{Instruction}
 use Rattle.fork_port.specs.declared.commands.Call.{Call}
+use Rattle.sibling_port.specs.declared.talk.Talk.{Talk}
 use Rattle.forest_model.specs.declared.Written.{Written}
 use Rattle.forest_model.specs.declared.Written.TheVariants.{Nothing}
 use Rattle.forest_model.specs.State.{State, register, with_register, at_next_instruction}
@@ -18,6 +19,8 @@ pub data Action : Type 0 where
   exit : ℕ → List ℕ → State → Action
   -- the machine asks for a call, and the state after the instruction but for what the call does
   ask : Call → State → Action
+  -- the machine is to talk to a sibling, and the state after the instruction but for what the talk leaves
+  speak : Talk → State → Action
 
 -- the instruction retires, and the next one follows
 abbrev pub retire_next : State → Action

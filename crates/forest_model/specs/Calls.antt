@@ -5,6 +5,7 @@ use Rattle.fork_port.specs.declared.ending.Ending.{Ending}
 use Rattle.fork_port.specs.declared.tickets.Ticket.{Ticket}
 use Rattle.fork_port.specs.Registers.{ForkRegisters, ticket_found}
 use Rattle.fork_port.specs.Children as fork
+use Rattle.sibling_port.specs.Registers as sibling
 use Rattle.forest_model.specs.declared.Written.TheVariants.{Nothing}
 use Rattle.forest_model.specs.State.{State}
 use Rattle.forest_model.specs.Action.{Action, ask}
@@ -27,11 +28,13 @@ forked_by _ m = m
 unfoldable pub forked : Machine → Machine
 forked m = forked_by (action m.state) m
 
--- a child has its parent's state, with a fork port of its own and no output
-abbrev pub born : ℕ → ℕ → State → State
-born k share s = record s {
+-- a child has its parent's state, with a fork port and a sibling port of its own, and no output. It is child k of so
+-- many, and has this share
+abbrev pub born : ℕ → ℕ → ℕ → State → State
+born k children share s = record s {
   ports = record s.ports {
     fork = fork.child_registers s.ports.fork k share;
+    sibling = sibling.at_start children;
     console = record s.ports.console { output = [] };
   };
 }
@@ -40,22 +43,28 @@ abbrev pub share_of : Option Ticket → ℕ
 share_of None = 0
 share_of (Some ticket) = ticket.share
 
+abbrev pub children_of : Option Ticket → ℕ
+children_of None = 0
+children_of (Some ticket) = ticket.children
+
 -- child k of the ticket that CLONE names: the parent after its step, as a child
 abbrev pub child_by : Action → Machine → ℕ → Machine
 child_by (ask (Clone t) s) m k =
-    let parent : Machine = called s (fork.after_clone (fork_of s) t) m
-    in record parent { state = born k (share_of (ticket_found (fork_of s) t)) parent.state }
+    let parent : Machine = called s (fork.after_clone (fork_of s) t) m in
+    let ticket : Option Ticket = ticket_found (fork_of s) t in
+    record parent { state = born k (children_of ticket) (share_of ticket) parent.state }
 child_by _ m k = m
 
 unfoldable pub child : Machine → ℕ → Machine
 child m k = child_by (action m.state) m k
 
--- a child with its parent's output and fork port
+-- a child with its parent's output, fork port and sibling port
 abbrev pub as_in_parent : Machine → Machine → Machine
 as_in_parent child parent = record child {
   state = record child.state {
     ports = record child.state.ports {
       fork = fork_of parent.state;
+      sibling = parent.state.ports.sibling;
       console = record child.state.ports.console { output = parent.state.ports.console.output };
     };
   };

@@ -9,11 +9,16 @@ use Rattle.forest_tree.specs.Operations as tree
 use Rattle.forest_tree.specs.Tree.{Tree}
 use Rattle.forest_tree.specs.Settle.{alone}
 use Rattle.forest_tree.specs.Finish as run
+use Rattle.sibling_port.specs.declared.talk.Talk as port
+use Rattle.sibling_port.specs.declared.talk.Talk.TheVariants.{Send, Receive}
+use Rattle.sibling_forest.specs.Talk.{Talk, send, receive, Talks, Box, boxed}
+use Rattle.sibling_forest.specs.Finish as talking
 use Rattle.port_rules.specs.Rules.{cloned_numbers, grant_of, may_clone, is_accounted}
 use Rattle.elf_load.specs.Image.{Image}
 use Rattle.forest_model.specs.declared.Options.{Options}
-use Rattle.forest_model.specs.Machine.{Machine, Next, exception, timer_interrupt, plain, call, next, advance, boot}
+use Rattle.forest_model.specs.Machine.{Machine, Next, exception, timer_interrupt, plain, call, talk, next, boot}
 use Rattle.forest_model.specs.Calls.{forked, child, after_join, after_kill}
+use Rattle.forest_model.specs.Talks.{received, stepped}
 
 -- the call that the next step is, if it is one
 abbrev pub tree_call : Call → tree.Call
@@ -26,6 +31,19 @@ call_of (exception cause value) = None
 call_of timer_interrupt = None
 call_of plain = None
 call_of (call c) = Some (tree_call c)
+call_of (talk t) = None
+
+-- the talk that the next step is, if it is one
+abbrev pub tree_talk : port.Talk → Talk
+tree_talk (Send j) = send j
+tree_talk (Receive j) = receive j
+
+abbrev pub talk_of : Next → Option Talk
+talk_of (exception cause value) = None
+talk_of timer_interrupt = None
+talk_of plain = None
+talk_of (call c) = None
+talk_of (talk t) = Some (tree_talk t)
 
 abbrev pub port_of : Machine → ForkRegisters
 port_of m = m.state.ports.fork
@@ -45,22 +63,42 @@ machines = record {
   grant = λ m t. grant_of (ticket_found (port_of m) t);
   may_clone = λ m t. may_clone (port_of m) t;
   is_good = is_good;
-  advance = advance;
+  advance = stepped;
   forked = forked;
   child = child;
   after_join = after_join;
   after_kill = after_kill;
 }
 
+-- how they talk. What is sent is DATA, and the number of a machine is CLONE ID
+unfoldable pub talks : Talks Machine
+talks = record {
+  talk = λ m. talk_of (next m);
+  word = λ m. m.state.ports.sibling.word;
+  received = received;
+  number = λ m. (port_of m).clone_id;
+  siblings = λ m. m.state.ports.sibling.siblings;
+}
+
 -- the forest that starts with one machine, which is booted
 abbrev pub booted : Image → List ℕ → List ℕ → Options → Tree Machine
 booted image disk input options = alone machines (boot image disk input options)
+
+-- the same, with no words to it
+abbrev pub booted_box : Image → List ℕ → List ℕ → Options → Tree (Box Machine)
+booted_box image disk input options =
+    alone (boxed machines talks) (record { machine = boot image disk input options; inbox = [] })
 
 -- a forest run to its end
 abbrev pub finish : Tree Machine → Tree Machine
 finish t = run.finish machines t
 
--- a machine that may have no clones, and has no ticket
+-- the same, of machines with the words to them
+abbrev pub talked_out : Tree (Box Machine) → Tree (Box Machine)
+talked_out t = talking.finish machines talks t
+
+-- a machine that may have no clones, and has no ticket and no siblings
 pub record IsChildless (m : Machine) : Type 0 where
   pub no_allot : (port_of m).allot ≡ 0
   pub no_ticket : (port_of m).tickets ≡ []
+  pub no_siblings : m.state.ports.sibling.siblings ≡ 0

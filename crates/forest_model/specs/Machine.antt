@@ -3,6 +3,7 @@ use Rattle.std.specs.Prelude.{◌≡◌, ℕ, Bool, true, false, ◌<◌, zero, 
 use Rattle.elf_load.specs.Image.{Image}
 use Rattle.fork_port.specs.declared.commands.Call.{Call}
 use Rattle.fork_port.specs.declared.ending.Ending.{Ending}
+use Rattle.sibling_port.specs.declared.talk.Talk.{Talk}
 use Rattle.fork_port.specs.declared.ending.Ending.TheVariants.{Exit, Limit}
 use Rattle.fork_port.specs.Handed.{handed_of}
 use Rattle.forest_model.specs.declared.Options.{Options}
@@ -17,7 +18,7 @@ use Rattle.rv_traps.specs.Counters.{counted}
 use Rattle.rv_traps.specs.Trap as csr
 use Rattle.forest_model.specs.Ports.{ports_at_start}
 use Rattle.forest_model.specs.State.{State}
-use Rattle.forest_model.specs.Action.{Action, trap, interrupt, retire, exit, ask}
+use Rattle.forest_model.specs.Action.{Action, trap, interrupt, retire, exit, ask, speak}
 use Rattle.forest_model.specs.Execute.{action}
 
 pub record Machine : Type 0 where
@@ -38,6 +39,7 @@ pub data Next : Type 0 where
   timer_interrupt : Next
   plain : Next
   call : Call → Next
+  talk : Talk → Next
 
 abbrev pub next_of : Action → Next
 next_of (trap cause value) = exception cause value
@@ -45,6 +47,7 @@ next_of interrupt = timer_interrupt
 next_of (retire written s) = plain
 next_of (exit value bytes s) = plain
 next_of (ask c s) = call c
+next_of (speak t s) = talk t
 
 abbrev pub next : Machine → Next
 next m = next_of (action m.state)
@@ -85,13 +88,14 @@ applied interrupt m = limited (count false Nothing (trapped TIMER_INTERRUPT 0 m.
 applied (retire written s) m = limited (count true written s) m
 applied (exit value bytes s) m = ended (count true Nothing s) (Exit value (handed_of bytes)) m
 applied (ask c s) m = m
+applied (speak t s) m = m
 
 abbrev pub advance_from : Option Ending → Machine → Machine
 advance_from None m = applied (action m.state) m
 advance_from (Some ending) m = m
 
--- the machine after one step, or itself where it has ended, and where its next step is a call: that takes
--- other machines too
+-- the machine after one step, or itself where it has ended, and where its next step is a call or a talk:
+-- these take other machines too
 unfoldable pub advance : Machine → Machine
 advance m = advance_from m.ending m
 

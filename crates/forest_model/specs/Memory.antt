@@ -13,9 +13,10 @@ use Rattle.forest_model.specs.declared.access.Access.{Access}
 use Rattle.forest_model.specs.declared.access.Direction.TheVariants as access
 use Rattle.forest_model.specs.declared.cause.TheConstants.{LOAD_ACCESS_FAULT, STORE_ACCESS_FAULT}
 use Rattle.fork_port.specs.declared.commands.Effect.{Effect}
-use Rattle.fork_port.specs.declared.commands.Effect.TheVariants.{Done, TimeWritten, Exit, ExitWith, Call, Zero}
+use Rattle.fork_port.specs.declared.commands.Effect.TheVariants.{Done, TimeWritten, Exit, ExitWith, Call, Talk, Zero}
 use Rattle.fork_port.specs.declared.refusals.TheConstants.{BAD_ARGUMENT}
 use Rattle.fork_port.specs.Registers.{ForkRegisters, refused}
+use Rattle.sibling_port.specs.Registers.{SiblingRegisters}
 use Rattle.forest_model.specs.Footprint.{Page, Footprint, no_footprint, no_change, zeroes}
 use Rattle.block_port.specs.Block.{touched_page}
 use Rattle.port_map.specs.declared.place.Place.{Place}
@@ -23,7 +24,7 @@ use Rattle.port_map.specs.declared.place.Place.TheVariants as place
 use Rattle.port_map.specs.Ranges.{place_of}
 use Rattle.forest_model.specs.Ports.{Read, Stored, port_load, port_store}
 use Rattle.forest_model.specs.State.{State, at_next_instruction}
-use Rattle.forest_model.specs.Action.{Action, trap, retire, exit, ask, retire_next, with_rd, rs1, rs2, immediate}
+use Rattle.forest_model.specs.Action.{Action, trap, retire, exit, ask, speak, retire_next, with_rd, rs1, rs2, immediate}
 use Rattle.forest_model.specs.Access.{Reached, faulted, of_ram, of_port, reached, page_of}
 
 -- the address of a load or a store
@@ -58,6 +59,10 @@ load i s = load_by (reached (load_access i s) s) i (data_address i s) s
 -- the state with these registers of the fork port
 abbrev pub with_fork : ForkRegisters → State → State
 with_fork fork s = record s { ports = record s.ports { fork = fork } }
+
+-- with these registers of the sibling port
+abbrev pub with_sibling : SiblingRegisters → State → State
+with_sibling sibling s = record s { ports = record s.ports { sibling = sibling } }
 
 -- ZERO: the pages from `first` on read as zeros, or RESULT tells that they are not pages of RAM
 abbrev pub is_page_range : ℕ → ℕ → List ℕ → Bool
@@ -97,6 +102,7 @@ needs_at (place.Console offset) width word s = []
 needs_at (place.Timer offset) width word s = []
 needs_at (place.Block offset) width word s = pages_on_disk s (touched_page s.ports.block offset width word)
 needs_at (place.Fork offset) width word s = []
+needs_at (place.Sibling offset) width word s = []
 needs_at place.NoPort width word s = []
 
 -- what an effect of a store to a port comes to: what it asks of the pages, and the action that it is
@@ -129,6 +135,7 @@ outcome TimeWritten s = alone (retire Time s)
 outcome (Exit value) s = alone (exit value [] s)
 outcome (ExitWith value address count) s = handing_over (is_byte_range address count s.ram) value address count s
 outcome (Call call) s = alone (ask call s)
+outcome (Talk talk) s = alone (speak talk s)
 outcome (Zero first count) s = zeroing (is_page_range first count s.ram) first count s
 
 -- a store to a port, which may have no such access

@@ -13,7 +13,8 @@ use Rattle.forest_model.specs.State.{State}
 use Rattle.forest_model.specs.Machine.{Machine, advance}
 use Rattle.forest_model.specs.Memory.{page_on_disk}
 use Rattle.forest_model.specs.Touch.{touch, change}
-use Rattle.forest_model.specs.Forest.{machines}
+use Rattle.sibling_forest.specs.Talk.{Talks}
+use Rattle.forest_model.specs.Forest.{machines, talks}
 
 -- what is known of the pages: a flag for each, at its place
 pub record Pages : Type 0 where
@@ -102,9 +103,19 @@ paged_machines = record {
   grant = λ p t. machines.grant p.machine t;
   may_clone = λ p t. machines.may_clone p.machine t;
   is_good = λ p. machines.is_good p.machine;
-  advance = advanced;
+  advance = λ p. record { machine = machines.advance p.machine; pages = pages_after (change p.machine) p.pages };
   forked = λ p. record p { machine = machines.forked p.machine };
   child = λ p k. record { machine = machines.child p.machine k; pages = pages_at_birth p.machine.state.ports.block.disk p.pages };
   after_join = λ p endings. record p { machine = machines.after_join p.machine endings };
   after_kill = λ p. record p { machine = machines.after_kill p.machine };
+}
+
+-- how they talk
+unfoldable pub paged_talks : Talks Paged
+paged_talks = record {
+  talk = λ p. talks.talk p.machine;
+  word = λ p. talks.word p.machine;
+  received = λ p word. record p { machine = talks.received p.machine word };
+  number = λ p. talks.number p.machine;
+  siblings = λ p. talks.siblings p.machine;
 }

@@ -1,6 +1,6 @@
 //! Laws of the definitions, each the contract of a function that does nothing.
 
-ghost use Rattle.std.specs.Prelude.{◌≡◌, ◌≢◌, ◌==◌, if◌then◌else◌, ℕ, Bool, true, false, ◌+◌, ◌-◌, ◌/◌, ◌^◌, ◌<◌, ◌≤◌, List, [], length, slice_get, slice_index, slice_index_or, Some, None, IsSome, All, AllPairs, Contains};
+ghost use Rattle.std.specs.Prelude.{◌≡◌, ◌≢◌, ◌==◌, if◌then◌else◌, ℕ, Bool, true, false, ◌+◌, ◌-◌, ◌/◌, ◌^◌, ◌<◌, ◌≤◌, List, [], ◌∷◌, length, slice_get, slice_index, slice_index_or, Option, Some, None, IsSome, All, AllPairs, Contains};
 ghost use Rattle.elf_load.specs.Image.{Image};
 ghost use Rattle.guest_pmp.specs.declared.access.Access.TheVariants as right;
 ghost use Rattle.guest_pmp.specs.declared.access.Mode.TheVariants.{User};
@@ -10,23 +10,30 @@ ghost use Rattle.rv_traps.specs.Trap.{takes_interrupt};
 ghost use Rattle.fork_port.specs.Registers.{ticket_found, refused};
 ghost use Rattle.fork_port.specs.Children as fork;
 ghost use Rattle.fork_port.specs.Handed.{handed_of};
+ghost use Rattle.sibling_port.specs.Registers as sibling;
+ghost use Rattle.sibling_port.specs.Commands.{HasSibling, named};
+ghost use Rattle.sibling_forest.specs.Talk.{Box, IsTalking, boxed};
+ghost use Rattle.sibling_forest.specs.Laws.{IsSilent, TalksAlike};
+ghost use Rattle.sibling_forest.specs.Members.{IsWholeForest};
 ghost use Rattle.forest_tree.specs.Operations.{clone, join, kill, IsMachine};
 ghost use Rattle.forest_tree.specs.Tree.{Tree};
 ghost use Rattle.forest_tree.specs.Finish as tree;
 ghost use Rattle.forest_tree.specs.Projection.{map_tree, Projects};
 ghost use Rattle.forest_tree.specs.Settle.{alone};
 ghost use Rattle.forest_tree.specs.Sound.{IsSound};
-ghost use Rattle.forest_model.specs.State.{State, is_timer_due};
+ghost use Rattle.forest_model.specs.State.{State, at_next_instruction, is_timer_due};
 ghost use Rattle.forest_model.specs.Access.{page_of};
+ghost use Rattle.forest_model.specs.Footprint.{no_change};
 ghost use Rattle.forest_model.specs.Action.{exit, retire};
 ghost use Rattle.forest_model.specs.Memory as memory;
 ghost use Rattle.forest_model.specs.Memory.{bytes_at, is_byte_range, is_page_range, outcome, with_fork, zeroed};
 ghost use Rattle.forest_model.specs.Execute.{action};
-ghost use Rattle.forest_model.specs.Machine.{Machine, IsWithinLimit, exception, plain, timer_interrupt, next, limited, count, trapped, advance, after_steps, boot};
-ghost use Rattle.forest_model.specs.Calls.{as_in_parent, child, fork_of, forked, after_join, after_kill, share_of};
-ghost use Rattle.forest_model.specs.Forest.{IsChildless, booted, call_of, finish, machines, port_of};
-ghost use Rattle.forest_model.specs.Touch.{IsZeroed, touch};
-ghost use Rattle.forest_model.specs.Paged.{IsPageOf, Paged, Pages, absent_count, advanced_by, paged_machines, pages_arrived, stalled_at};
+ghost use Rattle.forest_model.specs.Machine.{Machine, IsWithinLimit, exception, plain, talk, timer_interrupt, next, limited, count, trapped, advance, after_steps, boot};
+ghost use Rattle.forest_model.specs.Calls.{as_in_parent, child, children_of, fork_of, forked, after_join, after_kill, share_of};
+ghost use Rattle.forest_model.specs.Talks.{spoken, talked};
+ghost use Rattle.forest_model.specs.Forest.{IsChildless, booted, booted_box, call_of, finish, machines, port_of, talk_of, talked_out, talks};
+ghost use Rattle.forest_model.specs.Touch.{IsZeroed, change, touch};
+ghost use Rattle.forest_model.specs.Paged.{IsPageOf, Paged, Pages, absent_count, advanced_by, paged_machines, paged_talks, pages_arrived, stalled_at};
 
 use crate::{Ending, Options, Written};
 use elf_load::RAM_BASE;
@@ -34,23 +41,26 @@ use fork_port::refusals::BAD_ARGUMENT;
 use fork_port::{Effect, MAX_HANDED};
 use page_frames::PAGE_SIZE;
 use rv_traps::TIMER_INTERRUPT;
+use sibling_port::Talk;
 
-/// A step of a live machine is counted, unless it is a call, and none moves the limit. A machine that has
-/// ended stays, and so does one whose next step is a call.
+/// A step of a live machine is counted, unless it is a call or a talk, and none moves the limit. A machine that has
+/// ended stays, and so does one whose next step is a call or a talk.
 pub fn advance_counts()
-    ensures counted { (m : Machine) → m.ending ≡ None → call_of (next m) ≡ None → (advance m).steps ≡ m.steps + 1 }
+    ensures counted { (m : Machine) → m.ending ≡ None → call_of (next m) ≡ None → talk_of (next m) ≡ None
+        → (advance m).steps ≡ m.steps + 1 }
     ensures limit_stays { (m : Machine) → (advance m).limit ≡ m.limit }
     ensures within { (m : Machine) → IsWithinLimit m → IsWithinLimit (advance m) }
     ensures ended { (m : Machine) → IsSome m.ending → advance m ≡ m }
     ensures waits { (m : Machine) → IsSome (call_of (next m)) → advance m ≡ m }
+    ensures talks { (m : Machine) → IsSome (talk_of (next m)) → advance m ≡ m }
 {}
 
 /// EXIT ends a live machine with its value and the bytes that it hands over, also in the last step that the limit leaves. A step that is
-/// neither EXIT nor a call ends it exactly where it is the last.
+/// neither EXIT nor a call nor a talk ends it exactly where it is the last.
 pub fn machines_end()
     ensures exit { (m : Machine) (value : ℕ) (bytes : List ℕ) (s : State) → m.ending ≡ None → action m.state ≡ exit value bytes s
         → (advance m).ending ≡ Some (Ending.Exit value (handed_of bytes)) }
-    ensures limit { (m : Machine) → m.ending ≡ None → call_of (next m) ≡ None
+    ensures limit { (m : Machine) → m.ending ≡ None → call_of (next m) ≡ None → talk_of (next m) ≡ None
         → ((value : ℕ) (bytes : List ℕ) (s : State) → action m.state ≢ exit value bytes s)
         → (advance m).ending ≡ (if m.steps + 1 == m.limit then Some Ending.Limit else None) }
 {}
@@ -108,13 +118,25 @@ pub fn calls_change_the_port()
     ensures kill { (m : Machine) (t : ℕ) → call_of (next m) ≡ Some (kill t) → port_of (after_kill m) ≡ fork.after_kill (port_of m) t }
 {}
 
-/// A child is its parent after the clone, but for its fork port and its output: it has no output yet, and
-/// the registers that child k of a ticket with this share starts with.
+/// A child is its parent after the clone, but for its fork port, its sibling port and its output: it has no output
+/// yet, the registers that child k of a ticket with this share starts with, and a sibling port that is new, with
+/// the number of the ticket's children.
 pub fn children_are_their_parent()
     ensures as_parent { (m : Machine) (k : ℕ) → as_in_parent (child m k) (forked m) ≡ forked m }
     ensures no_output { (m : Machine) (t k : ℕ) → call_of (next m) ≡ Some (clone t) → (child m k).state.ports.console.output ≡ [] }
     ensures own_port { (m : Machine) (t k : ℕ) → call_of (next m) ≡ Some (clone t)
         → port_of (child m k) ≡ fork.child_registers (port_of (forked m)) k (share_of (ticket_found (port_of m) t)) }
+    ensures own_siblings { (m : Machine) (t k : ℕ) → call_of (next m) ≡ Some (clone t)
+        → (child m k).state.ports.sibling ≡ sibling.at_start (children_of (ticket_found (port_of m) t)) }
+{}
+
+/// A talk is with the sibling that PEER names. It is a step to the next instruction, which is counted, and else it changes
+/// DATA and RESULT alone.
+pub fn talks_change_two_registers()
+    ensures named { (m : Machine) (what : Talk) → next m ≡ talk what
+        → HasSibling (port_of m).clone_id m.state.ports.sibling × (named what ≡ m.state.ports.sibling.peer) }
+    ensures talked { (m : Machine) (what : Talk) (word : Option ℕ) (answer : ℕ) → next m ≡ talk what
+        → talked m word answer ≡ spoken (at_next_instruction m.state) (sibling.talked word answer m.state.ports.sibling) m }
 {}
 
 /// The numbers of tickets are given in turn: a step of a machine gives one at most, and a call none.
@@ -125,18 +147,28 @@ pub fn tickets_rise()
     ensures kill { (m : Machine) → (port_of (after_kill m)).next_ticket ≡ (port_of m).next_ticket }
 {}
 
-/// The machines keep the rules of a forest: the laws of its trees hold of them. A machine that is booted
-/// is a sound tree alone. (Every allot that the type has is below 2 ^ 32.)
+/// The machines keep the rules of a forest, and those of one whose machines talk: the laws of its trees hold of
+/// them. A machine that is booted is a sound tree alone. (Every allot that the type has is below 2 ^ 32.)
 pub fn machines_keep_the_rules()
     ensures rules { IsMachine machines }
+    ensures talks { IsTalking machines talks }
     ensures booted { (image : Image) (disk input : List ℕ) (options : Options) → 0 < options.limit → options.allot < 2 ^ 32
         → IsSound machines (booted image disk input options) }
+    ensures whole { (image : Image) (disk input : List ℕ) (options : Options) → 0 < options.limit → options.allot < 2 ^ 32
+        → IsWholeForest machines talks (booted_box image disk input options) }
 {}
 
-/// A machine that may have no clones and has no ticket never makes a call, and neither does it after any
-/// steps. So it is run to its end by its own steps alone.
+/// A family whose machines never talk comes to what it comes to without words.
+pub fn silent_families_finish_alike()
+    ensures { (t : Tree (Box Machine)) → IsSound (boxed machines talks) t → IsSilent machines talks t
+        → map_tree (λ (b : Box Machine). b.machine) (talked_out t) ≡ finish (map_tree (λ (b : Box Machine). b.machine) t) }
+{}
+
+/// A machine that may have no clones and has no ticket and no siblings never makes a call or a talk, and neither does it
+/// after any steps. So it is run to its end by its own steps alone.
 pub fn childless_machines_run_alone()
     ensures no_call { (m : Machine) → IsChildless m → call_of (next m) ≡ None }
+    ensures no_talk { (m : Machine) → IsChildless m → talk_of (next m) ≡ None }
     ensures stays { (n : ℕ) (m : Machine) → IsChildless m → IsChildless (after_steps n m) }
     ensures ends { (n : ℕ) (m : Machine) → IsChildless m → IsWithinLimit m → m.limit ≤ m.steps + n → IsSome (after_steps n m).ending }
     ensures finish { (n : ℕ) (m : Machine) → IsChildless m → IsWithinLimit m → IsSome (after_steps n m).ending
@@ -159,6 +191,12 @@ pub fn touched_pages()
     ensures at_most_three { (m : Machine) → length (touch m) ≤ 3 }
     ensures none_twice { (m : Machine) → AllPairs (λ one other. one ≢ other) (touch m) }
     ensures ended { (m : Machine) → IsSome m.ending → touch m ≡ [] }
+{}
+
+/// A machine that is to talk needs the page of its code, and no other. Its talk changes no page.
+pub fn talks_touch_their_code()
+    ensures needs { (m : Machine) (what : Talk) → m.ending ≡ None → next m ≡ talk what → touch m ≡ page_of m.state.pc ∷ [] }
+    ensures changes { (m : Machine) (what : Talk) → next m ≡ talk what → change m ≡ no_change }
 {}
 
 /// A step changes RAM only in the pages that it touches, and in those that it zeroes.
@@ -184,6 +222,8 @@ pub fn user_mode_keeps_registers()
         → (with_counters_of m.state.csrs (after_join m endings).state.csrs ≡ m.state.csrs) × ((after_join m endings).state.ram ≡ m.state.ram) }
     ensures kill { (m : Machine) → m.state.csrs.mode ≡ User
         → (with_counters_of m.state.csrs (after_kill m).state.csrs ≡ m.state.csrs) × ((after_kill m).state.ram ≡ m.state.ram) }
+    ensures talk { (m : Machine) (word : Option ℕ) (answer : ℕ) → m.state.csrs.mode ≡ User
+        → (with_counters_of m.state.csrs (talked m word answer).state.csrs ≡ m.state.csrs) × ((talked m word answer).state.ram ≡ m.state.ram) }
 {}
 
 /// What is known of a machine's pages changes nothing that the machine does: seen without it, machines of which
@@ -191,6 +231,8 @@ pub fn user_mode_keeps_registers()
 pub fn absent_pages_add_nothing()
     ensures projects { Projects paged_machines machines (λ (p : Paged). p.machine) }
     ensures rules { IsMachine paged_machines }
+    ensures alike { TalksAlike paged_talks talks (λ (p : Paged). p.machine) }
+    ensures talking { IsTalking paged_machines paged_talks }
     ensures steps { (n : ℕ) (p : Paged) → (advanced_by n p).machine ≡ after_steps n p.machine }
     ensures finish { (t : Tree Paged) → finish (map_tree (λ (p : Paged). p.machine) t) ≡ map_tree (λ (p : Paged). p.machine) (tree.finish paged_machines t) }
 {}

@@ -7,8 +7,9 @@ use Rattle.std.proofs.lemmas.List.{map-append, length-map}
 use Rattle.std.proofs.lemmas.List.Elements.{All-push}
 use Rattle.image_depot.specs.Key.{Shelves}
 use Rattle.image_depot.specs.Reply.{Delivery, IsSentOf, sent_image, sent_page}
-use Rattle.forest_history.specs.Histories.{told, heard, tell_failed, hear_failed, History, Record, Seat, record_after}
-use Rattle.forest_model.specs.Forest.{machines}
+use Rattle.forest_history.specs.Histories.{Seat}
+use Rattle.talking_history.specs.Histories.{told, heard, tell_failed, hear_failed, History, Record, record_after}
+use Rattle.forest_model.specs.Forest.{machines, talks}
 use Rattle.forest_model.specs.Machine.{Machine}
 use Rattle.world_core.specs.declared.reason.Reason.{Reason}
 use Rattle.world_core.specs.declared.world.World.{World}
@@ -24,7 +25,7 @@ use Rattle.fork_board.proofs.Worlds.{follows-more}
 
 module _ (depot : Shelves) (seat : Seat) (r : Record Machine Reason) (old new : World) (was : IsWorldOf depot r old) where
   world-told : (sent : Delivery) → told_of new ≡ told_of old ++ sent ∷ [] → ((d : Shelves) (f : Forest) → StandsFor d old f → StandsFor d new f)
-      → IsSentOf depot sent → IsWorldOf depot (record_after machines seat (told (sent_image sent) (sent_page sent)) r) new
+      → IsSentOf depot sent → IsWorldOf depot (record_after machines talks seat (told (sent_image sent) (sent_page sent)) r) new
   unfolding record_after
   world-told sent more stays is = record {
     forest = was.forest;
@@ -35,7 +36,7 @@ module _ (depot : Shelves) (seat : Seat) (r : Record Machine Reason) (old new : 
   }
 
   world-tell_failed : told_of new ≡ told_of old → ((d : Shelves) (f : Forest) → StandsFor d old f → StandsFor d new f)
-      → IsWorldOf depot (record_after machines seat tell_failed r) new
+      → IsWorldOf depot (record_after machines talks seat tell_failed r) new
   unfolding record_after
   world-tell_failed same stays = record {
     forest = was.forest;
@@ -46,11 +47,11 @@ module _ (depot : Shelves) (seat : Seat) (r : Record Machine Reason) (old new : 
   }
 
 module _ (depot : Shelves) (seat : Seat) (r : Record Machine Reason) (w : World) (was : IsWorldOf depot r w) (place : ℕ) where
-  world-heard : IsWorldOf depot (record_after machines seat (heard place) r) w
+  world-heard : IsWorldOf depot (record_after machines talks seat (heard place) r) w
   unfolding record_after
   world-heard = was
 
-  world-hear_failed : IsWorldOf depot (record_after machines seat (hear_failed place) r) w
+  world-hear_failed : IsWorldOf depot (record_after machines talks seat (hear_failed place) r) w
   unfolding record_after
   world-hear_failed = was
 

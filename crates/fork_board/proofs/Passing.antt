@@ -1,13 +1,16 @@
 -- What a turn of a seat is to its pass.
 use Rattle.std.proofs.Common.{◌≡◌, ◌≢◌, ℕ, ◌≤◌, List, [], ◌∷◌, ◌++◌, Some, length, length-append, refl, sym, ap, ap₂, ◌∙◌, subst, ◌⊎◌, inl, inr, arith}
 use Rattle.std.proofs.lemmas.List.{map-append}
+use Rattle.std.specs.Prelude.{Box}
+use Rattle.std.specs.declared.alloc.Global.{Global}
 use Rattle.forest_tree.specs.Tree.{Path}
-use Rattle.forest_history.specs.Histories.{Entry, History, Holding, IsLegal, Record, Seat, holding, replay}
+use Rattle.forest_history.specs.Histories.{Holding, Seat, holding}
+use Rattle.talking_history.specs.Histories.{Entry, History, IsLegal, Record, replay}
 use Rattle.forest_model.specs.Machine.{Machine}
-use Rattle.forest_model.specs.Forest.{machines}
+use Rattle.forest_model.specs.Forest.{machines, talks}
 use Rattle.atomic_table.specs.Seated.{TableId}
 use Rattle.turn_board.specs.History as notes
-use Rattle.turn_board.specs.History.{entries_by, StartsWith}
+use Rattle.turn_board.specs.History.{HasEnded, entries_by, StartsWith}
 use Rattle.turn_board.proofs.Entries.{entries_by-push_other}
 use Rattle.turn_board.specs.Calls as turn
 use Rattle.turn_board.specs.Calls.{IsSeat, IsTurn, Enters}
@@ -25,8 +28,8 @@ use Rattle.fork_board.proofs.Records.{Free, free-after, free-more, free-own, hel
 use Rattle.fork_board.proofs.Worlds.{IsHeldAt, held-still}
 
 -- what lies under the lock, as `Kept` says it
-abbrev pub kept : Opening → notes.History Note → World → Type 0
-kept opening log w = Follows opening (entries log) w
+abbrev pub kept : Opening → notes.History Note → Box World Global → Type 0
+kept opening log w = Follows opening (entries log) w.value
 
 pub entries-append : (log more : notes.History Note) → entries (log ++ more) ≡ entries log ++ entries more
 entries-append log more = map-append (entered_as entry_of) log more
@@ -43,8 +46,8 @@ no-others seat rest none = entries-by seat rest ∙ ap entries none
 
 module _ (board : BoardValue) where
   -- the seat's turn has come
-  pub entered : (old new : Place) (w : World) → IsSeat board.table board.opening old → IsTurn board.table board.opening new
-      → Enters kept board.opening old new w → Visits (pass_of board old) (pass_of board new) w
+  pub entered : (old new : Place) (w : Box World Global) → IsSeat board.table board.opening old → IsTurn board.table board.opening new
+      → Enters kept board.opening old new w → Visits (pass_of board old) (pass_of board new) w.value
   entered old new w seat at e = record {
     same_board = refl;
     same_number = e.same_seat;
@@ -91,15 +94,19 @@ module _ (board : BoardValue) where
       legal = legal;
       free = free;
       held = held;
+      unmade = λ k below le. no-others (new.me.0.seat ++ k ∷ below) new.me.0.seen (j.unmade k below le);
       ended = j.ended;
-      still = λ s has. as-entries s seat (j.still s has);
-      last = λ s has. as-entries s other (j.last s has);
+      still = λ s splits has. as-entries s splits seat (j.still s splits has);
+      last = λ s splits has. as-entries s splits other (j.last s splits has);
     },
   )
     where
-      as-entries : (s : Seat) (old : Place) → entries_by s new.me.0.seen ≡ entries_by s old.me.0.seen
-          → entries_by s (entries new.me.0.seen) ≡ entries_by s (entries old.me.0.seen)
-      as-entries s old same = entries-by s new.me.0.seen ∙ ap entries same ∙ sym (entries-by s old.me.0.seen)
+      as-entries : (s : Seat) (splits : ℕ) (old : Place) → HasEnded s splits old.me.0.seen new.me.0.seen
+          → HasEnded s splits (entries old.me.0.seen) (entries new.me.0.seen)
+      as-entries s splits old h = record {
+        all = entries-by s new.me.0.seen ∙ ap entries h.all ∙ sym (entries-by s old.me.0.seen);
+        none = λ k below le. no-others (s ++ k ∷ below) new.me.0.seen (h.none k below le);
+      }
 
       none : entries_by seat.me.0.seat (entries j.seen.0) ≡ []
       none =
@@ -111,11 +118,11 @@ module _ (board : BoardValue) where
       all = ap entries j.seen.1 ∙ entries-append seat.me.0.seen j.seen.0
 
       legal-by : (new.me.0.seen ≡ seat.me.0.seen) ⊎ (new.me.0.seen ≡ other.me.0.seen)
-          → IsLegal machines (entries new.me.0.seen) (opening_record board.opening)
-      legal-by (inl e) = subst (λ l. IsLegal machines (entries l) (opening_record board.opening)) (sym e) is.legal
-      legal-by (inr e) = subst (λ l. IsLegal machines (entries l) (opening_record board.opening)) (sym e) was.legal
+          → IsLegal machines talks (entries new.me.0.seen) (opening_record board.opening)
+      legal-by (inl e) = subst (λ l. IsLegal machines talks (entries l) (opening_record board.opening)) (sym e) is.legal
+      legal-by (inr e) = subst (λ l. IsLegal machines talks (entries l) (opening_record board.opening)) (sym e) was.legal
 
-      legal : IsLegal machines (entries new.me.0.seen) (opening_record board.opening)
+      legal : IsLegal machines talks (entries new.me.0.seen) (opening_record board.opening)
       legal = legal-by j.either
 
       held : (lease : Lent) → IsHeld (pass_of board seat) lease → IsHeld (pass_of board new) lease
@@ -123,7 +130,7 @@ module _ (board : BoardValue) where
           let x : Holding Machine = record { name = lease.name; seat = seat.me.0.seat; found = lease.start } in
           ap (λ l. holding lease.name (record_at board.opening l).holdings) all
           ∙ others-keep board.opening (entries seat.me.0.seen) is.start (entries j.seen.0) lease.name x
-          (subst (λ l. IsLegal machines l (opening_record board.opening)) all legal) none h
+          (subst (λ l. IsLegal machines talks l (opening_record board.opening)) all legal) none h
           ∙ ap (λ s. Some (record { name = lease.name; seat = s; found = lease.start })) (sym j.same_seat)
 
       free : (name : Path) → IsFree (pass_of board seat) name → IsFree (pass_of board new) name
@@ -142,7 +149,7 @@ module _ (board : BoardValue) where
       later part s = (entries s.0, ap entries s.1 ∙ entries-append part s.0)
 
   -- the lock has ended
-  pub closed : (seat : Place) (w : World) → turn.Closes kept board.opening seat w → Closes (pass_of board seat) w
+  pub closed : (seat : Place) (w : Box World Global) → turn.Closes kept board.opening seat w → Closes (pass_of board seat) w.value
   closed seat w c = record {
     log = entries c.log;
     between = entries c.later.0;
@@ -165,15 +172,15 @@ held-now pass now w lease v held =
     let x : Holding Machine = record { name = lease.name; seat = pass.number; found = lease.start } in
     let first : holding lease.name (record_at opening pass.seen).holdings ≡ Some x =
     ap (λ (b : BoardValue). holding lease.name (record_at b.opening pass.seen).holdings) v.same_board ∙ held in
-    let legal : IsLegal machines (pass.seen ++ v.between) (opening_record opening) =
-    subst (λ l. IsLegal machines l (opening_record opening)) v.seen v.follows.legal in
+    let legal : IsLegal machines talks (pass.seen ++ v.between) (opening_record opening) =
+    subst (λ l. IsLegal machines talks l (opening_record opening)) v.seen v.follows.legal in
     ap (λ l. holding lease.name (record_at opening l).holdings) v.seen
     ∙ others-keep opening pass.seen v.follows.start v.between lease.name x legal v.others first
     ∙ ap (λ s. Some (record { name = lease.name; seat = s; found = lease.start })) (sym v.same_number)
 
 -- the pass has made an entry more, which is the note's
 pub noted : (pass now new : PassValue) (w : World) (note : Note) (entry : Entry Reason) → Visits pass now w → Passed now new note → entry_of note ≡ entry
-    → IsLegal machines (now.seen ++ (now.number, entry_of note) ∷ []) (opening_record now.board.opening) → Makes pass new entry
+    → IsLegal machines talks (now.seen ++ (now.number, entry_of note) ∷ []) (opening_record now.board.opening) → Makes pass new entry
 noted pass now new w note entry v p is legal = record {
   same_board = p.same_board ∙ v.same_board;
   same_number = p.same_number ∙ v.same_number;
@@ -186,8 +193,8 @@ noted pass now new w note entry v p is legal = record {
   own = p.own;
   unmade = unmade;
   legal =
-      subst (λ (b : BoardValue). IsLegal machines new.seen (opening_record b.opening)) v.same_board
-      (subst (λ l. IsLegal machines l (opening_record now.board.opening)) (sym p.seen) legal);
+      subst (λ (b : BoardValue). IsLegal machines talks new.seen (opening_record b.opening)) v.same_board
+      (subst (λ l. IsLegal machines talks l (opening_record now.board.opening)) (sym p.seen) legal);
   free = free;
   held = held;
 }
@@ -258,7 +265,7 @@ pub first-place : (table : TableId) (key about : Opening) (seat : Place) (w : Wo
     → Follows key [] w → IsPlace (record { table = seat.table_id; opening = about }) seat
 first-place table key about seat w is same none follows =
     subst (λ (b : BoardValue). IsPlace b seat) (ap₂ (λ t o. record { table = t; opening = o }) (sym is.here) (sym same))
-    (record { seat = is; start = follows.start; legal = subst (λ l. IsLegal machines (entries l) (opening_record key)) (sym none) follows.legal })
+    (record { seat = is; start = follows.start; legal = subst (λ l. IsLegal machines talks (entries l) (opening_record key)) (sym none) follows.legal })
 
 -- a seat that has seen what another had
 kept-place : (board : BoardValue) (old new : Place) → IsPlace board old → IsSeat board.table board.opening new → new.me.0.seen ≡ old.me.0.seen
@@ -266,7 +273,7 @@ kept-place : (board : BoardValue) (old new : Place) → IsPlace board old → Is
 kept-place board old new h is same = record {
   seat = is;
   start = h.start;
-  legal = subst (λ l. IsLegal machines (entries l) (opening_record board.opening)) (sym same) h.legal;
+  legal = subst (λ l. IsLegal machines talks (entries l) (opening_record board.opening)) (sym same) h.legal;
 }
 
 -- a seat whose turn has passed has seen what the world follows
@@ -276,7 +283,7 @@ passed-place : (board : BoardValue) (now new : Place) (note : Note) (w : World) 
 passed-place board now new note w seat p follows = record {
   seat = seat;
   start = follows.start;
-  legal = subst (λ l. IsLegal machines l (opening_record board.opening)) (sym p.seen) follows.legal;
+  legal = subst (λ l. IsLegal machines talks l (opening_record board.opening)) (sym p.seen) follows.legal;
 }
 
 -- the pass is that of its seat at the board
@@ -303,16 +310,16 @@ module _ (board : BoardValue) (pass : PassValue) (about : Opening) (seat : Place
     pub turn-at : (new : Place) → IsTurn table key new → IsTurn board.table board.opening new
     turn-at new h = at-board (λ t o. IsTurn t o new) board table opening key lock fixed h
 
-    pub visits-at : (new : Place) (w : World) → IsPlace (record { table = seat.table_id; opening = about }) seat → IsTurn table key new → Enters kept key seat new w
-        → Visits pass (pass_of board new) w
+    pub visits-at : (new : Place) (w : Box World Global) → IsPlace (record { table = seat.table_id; opening = about }) seat → IsTurn table key new → Enters kept key seat new w
+        → Visits pass (pass_of board new) w.value
     visits-at new w h turn enters =
-        subst (λ p. Visits p (pass_of board new) w) pass-at
+        subst (λ p. Visits p (pass_of board new) w.value) pass-at
         (entered board seat new w (place-at h).seat (turn-at new turn)
         (at-board (λ t o. Enters kept o seat new w) board table opening key lock fixed enters))
 
-    pub closed-at : (w : World) → turn.Closes kept key seat w → Closes pass w
+    pub closed-at : (w : Box World Global) → turn.Closes kept key seat w → Closes pass w.value
     closed-at w c =
-        subst (λ p. Closes p w) pass-at (closed board seat w (at-board (λ t o. turn.Closes kept o seat w) board table opening key lock fixed c))
+        subst (λ p. Closes p w.value) pass-at (closed board seat w (at-board (λ t o. turn.Closes kept o seat w) board table opening key lock fixed c))
 
 -- the pass of a seat whose turn has passed, or to which another was joined
 module _ (board : BoardValue) (table : TableId) (opening key : Opening)

@@ -2,8 +2,9 @@
 use Rattle.std.proofs.Common.{◌≡◌, ℕ, [], ◌∷◌, ◌++◌, Some, sym, ap, ap₂, ◌∙◌, subst}
 use Rattle.image_depot.specs.Key.{Shelves}
 use Rattle.forest_tree.specs.Tree.{Path}
-use Rattle.forest_history.specs.Rows.{How, spent}
-use Rattle.forest_history.specs.Histories.{Entry, row, Holding, holding}
+use Rattle.talking_history.specs.Rows.{How, spent}
+use Rattle.forest_history.specs.Histories.{Holding, holding}
+use Rattle.talking_history.specs.Histories.{Entry, row}
 use Rattle.forest_model.specs.Machine.{Machine}
 use Rattle.world_core.specs.declared.reason.Reason.{Reason}
 use Rattle.world_core.specs.declared.world.World.{World}

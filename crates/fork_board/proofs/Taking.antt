@@ -3,9 +3,9 @@ use Rattle.std.proofs.Common.{◌≡◌, ℕ, ◌<◌, [], ◌∷◌, ◌++◌, 
 use Rattle.std.specs.declared.alloc.AllocError.{AllocError}
 use Rattle.image_depot.specs.Key.{Shelves}
 use Rattle.image_depot.specs.Reply.{Delivery, IsSentOf, sent_image, sent_page}
-use Rattle.forest_history.specs.Rows.{Allows, halted, does}
-use Rattle.forest_history.specs.Histories.{Entry, row}
-use Rattle.forest_model.specs.Paged.{paged_machines}
+use Rattle.talking_history.specs.Rows.{Allows, halted, does}
+use Rattle.talking_history.specs.Histories.{Entry, row}
+use Rattle.forest_model.specs.Paged.{paged_machines, paged_talks}
 use Rattle.world_core.specs.declared.reason.Reason.{Reason}
 use Rattle.world_core.specs.declared.world.World.{World}
 use Rattle.world_core.specs.declared.world.Taken.{Taken}
@@ -57,7 +57,7 @@ module _ (pass now : PassValue) (w next : World) (depot : Shelves) (answer : Tak
 
 -- a reason to stop
 pub stopped-on : (pass now : PassValue) (w next : World) (v : Visits pass now w) (reason : Reason)
-    → ((depot : Shelves) (f : Forest) → StandsFor depot w f → StandsFor depot next (does paged_machines (halted reason) f)) → told_of next ≡ told_of w
+    → ((depot : Shelves) (f : Forest) → StandsFor depot w f → StandsFor depot next (does paged_machines paged_talks (halted reason) f)) → told_of next ≡ told_of w
     → Follows now.board.opening (now.seen ++ (now.number, row (halted reason)) ∷ []) next
 unfolding Allows
 stopped-on pass now w next v reason stands told =

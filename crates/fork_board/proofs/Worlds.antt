@@ -1,5 +1,5 @@
 -- A world that follows a history, and makes an entry more.
-use Rattle.std.proofs.Common.{◌≡◌, List, [], ◌∷◌, ◌++◌, map, true, Option, Some, None, option_map, refl, sym, ap, ap₂, ◌∙◌, subst, cond}
+use Rattle.std.proofs.Common.{◌≡◌, List, [], ◌∷◌, ◌++◌, map, true, Option, Some, None, option_map, refl, sym, ap, ap₂, ◌∙◌, subst, cond, Bool}
 use Rattle.std.specs.Option.{IfSome}
 use Rattle.std.specs.Prelude.{IsSomeAnd}
 use Rattle.std.specs.List.{All}
@@ -10,15 +10,19 @@ use Rattle.forest_tree.specs.Tree.{Tree, broods_with, node, machine, Path, subtr
 use Rattle.forest_tree.specs.Projection.{map_tree}
 use Rattle.forest_tree.specs.Sound.{AreSound, IsSound}
 use Rattle.forest_tree.proofs.Projected.{subtree-map}
+use Rattle.sibling_forest.specs.Talk.{Box, boxed}
+use Rattle.sibling_forest.specs.Laws.{box_of}
 use Rattle.forest_history.specs.Places.{Spot, out, spots}
-use Rattle.forest_history.specs.World as history
-use Rattle.forest_history.specs.World.{holds, lives_ready, world_of}
-use Rattle.forest_history.specs.Rows.{How, Row, dropped, kept, over, stopped, idle, took, wake_failed, spent, waited, Allows, does}
+use Rattle.talking_history.specs.Places.{boxes}
+use Rattle.talking_history.specs.World as history
+use Rattle.talking_history.specs.World.{holds, is_resting, lives_ready, world_of}
+use Rattle.talking_history.specs.Rows.{How, Row, dropped, kept, over, stopped, stuck, idle, took, wake_failed, spent, waited, Allows, does}
 use Rattle.forest_history.specs.Seen.{spot_seen}
-use Rattle.forest_history.specs.Histories.{Entry, row, History, Holding, HandsBack, IsHeldBy, IsLegal, Permits, Record, Seat, holding, record_after, replay, with_taken}
-use Rattle.forest_model.specs.Forest.{machines}
+use Rattle.forest_history.specs.Histories.{Holding, IsHeldBy, Seat, holding}
+use Rattle.talking_history.specs.Histories.{Entry, row, History, HandsBack, IsLegal, Permits, Record, record_after, replay, with_taken}
+use Rattle.forest_model.specs.Forest.{machines, talks}
 use Rattle.forest_model.specs.Machine.{Machine}
-use Rattle.forest_model.specs.Paged.{Paged, Pages, paged_machines}
+use Rattle.forest_model.specs.Paged.{Paged, Pages, paged_machines, paged_talks}
 use Rattle.vm_cell.specs.Keyed.{paged}
 use Rattle.world_core.specs.declared.reason.Reason.{Reason}
 use Rattle.world_core.specs.declared.world.World.{World}
@@ -31,6 +35,7 @@ use Rattle.world_core.specs.Answers.{Answers, Goes, HandedOut, HandedOutIn, IsHa
 use Rattle.world_core.specs.Answers.{IsOutSince}
 use Rattle.world_core.specs.Arrived.{StillHandedOut, with_flags}
 use Rattle.world_core.specs.Lent.{Lent, now_of}
+use Rattle.world_core.specs.Shows.{Member, paged_of}
 use Rattle.world_core.specs.Told.{told_of}
 use Rattle.world_core.specs.World.{Forest, StandsFor}
 use Rattle.world_core.proofs.Arriving.{flags-family}
@@ -44,20 +49,20 @@ use Rattle.fork_board.proofs.Records.{allows-family, does-family, kept-holdings,
 -- ---- one entry more
 
 stands-row : (depot : Shelves) (seat : Seat) (x : Row Reason) (f : Forest) (old new : World) (r : Record Machine Reason) → family_of f ≡ r.world
-    → IsWorldOf depot r old → Goes depot f x new → told_of new ≡ told_of old → IsWorldOf depot (record_after machines seat (row x) r) new
+    → IsWorldOf depot r old → Goes depot f x new → told_of new ≡ told_of old → IsWorldOf depot (record_after machines talks seat (row x) r) new
 unfolding record_after
 stands-row depot seat x f old new r family was goes told = record {
-  forest = does paged_machines x f;
+  forest = does paged_machines paged_talks x f;
   stands = goes.after;
-  family = does-family x f ∙ ap (does machines x) family;
+  family = does-family x f ∙ ap (does machines talks x) family;
   replies = ap (map pair_of) told ∙ was.replies;
   kept = subst (All (IsSentOf depot)) (sym told) was.kept;
 }
 
 module _ (opening : Opening) (log : History Reason) (seat : Seat) where
   -- the entry may come, and the world stands for what is on record after it
-  pub follows-more : (entry : Entry Reason) (old new : World) → Follows opening log old → Permits machines seat entry (record_at opening log)
-      → IsWorldOf (depot_of opening) (record_after machines seat entry (record_at opening log)) new → Follows opening (log ++ (seat, entry) ∷ []) new
+  pub follows-more : (entry : Entry Reason) (old new : World) → Follows opening log old → Permits machines talks seat entry (record_at opening log)
+      → IsWorldOf (depot_of opening) (record_after machines talks seat entry (record_at opening log)) new → Follows opening (log ++ (seat, entry) ∷ []) new
   follows-more entry old new h permits is = record {
     start = h.start;
     legal = legal-more opening log seat entry h.legal permits;
@@ -70,7 +75,7 @@ module _ (opening : Opening) (log : History Reason) (seat : Seat) where
       → Follows opening (log ++ (seat, row x) ∷ []) new
   follows-row x f old new h family hands goes told =
       follows-more (row x) old new h
-      (permits-row seat x (record_at opening log) (subst (Allows machines x) family (allows-family x f goes.allowed)) hands)
+      (permits-row seat x (record_at opening log) (subst (Allows machines talks x) family (allows-family x f goes.allowed)) hands)
       (stands-row (depot_of opening) seat x f old new (record_at opening log) family h.world goes told)
 
 -- ---- a machine on lease
@@ -86,19 +91,20 @@ abbrev pub IsHeldAt : Opening → History Reason → Seat → Lent → Type 0
 IsHeldAt opening log seat lease = holding lease.name (record_at opening log).holdings ≡ Some (record { name = lease.name; seat = seat; found = lease.start })
 
 -- a forest that shows the machine as it was taken
-out-seen : (start : Machine) (u : Option (Tree (Spot Paged)))
-    → IfSome (option_map (map_tree (spot_seen (λ (p : Paged). p.machine))) u) (λ (t : Tree (Spot Machine)). ((machine t).place ≡ out) × ((machine t).machine ≡ start))
-    → IfSome u (λ t. ((machine t).place ≡ out) × ((machine t).machine.machine ≡ start))
+out-seen : (start : Machine) (u : Option (Tree Member))
+    → IfSome (option_map (map_tree (box_of (spot_seen (λ (p : Paged). p.machine)))) u)
+    (λ (t : Tree (Box (Spot Machine))). ((machine t).machine.place ≡ out) × ((machine t).machine.machine ≡ start))
+    → IfSome u (λ t. ((machine t).machine.place ≡ out) × ((paged_of (machine t)).machine ≡ start))
 unfolding map_tree
 out-seen start None h = tt
 out-seen start (Some (node s broods log)) h = h
 
-out-since : (f : Forest) (lease : Lent) (w : Tree (Spot Machine)) → (family_of f).tree ≡ w
-    → IfSome (subtree lease.name w) (λ (t : Tree (Spot Machine)). ((machine t).place ≡ out) × ((machine t).machine ≡ lease.start)) → IsOutSince f lease
+out-since : (f : Forest) (lease : Lent) (w : Tree (Box (Spot Machine))) → (family_of f).tree ≡ w
+    → IfSome (subtree lease.name w) (λ (t : Tree (Box (Spot Machine))). ((machine t).machine.place ≡ out) × ((machine t).machine.machine ≡ lease.start)) → IsOutSince f lease
 out-since f lease w same h =
     out-seen lease.start (subtree lease.name f.tree)
-    (subst (λ u. IfSome u (λ (t : Tree (Spot Machine)). ((machine t).place ≡ out) × ((machine t).machine ≡ lease.start)))
-    (ap (subtree lease.name) (sym same) ∙ subtree-map (spot_seen (λ (p : Paged). p.machine)) lease.name f.tree) h)
+    (subst (λ u. IfSome u (λ (t : Tree (Box (Spot Machine))). ((machine t).machine.place ≡ out) × ((machine t).machine.machine ≡ lease.start)))
+    (ap (subtree lease.name) (sym same) ∙ subtree-map (box_of (spot_seen (λ (p : Paged). p.machine))) lease.name f.tree) h)
 
 same-family : (name : Path) (flags : Pages → Pages) (f : Forest) → family_of (with_flags name flags f) ≡ family_of f
 same-family name flags f = ap (λ t. record { tree = t; halted = f.halted }) (flags-family name flags f)
@@ -161,39 +167,40 @@ places how lease depot f now new (placed.Memory back) w held board number seen a
 -- ---- a machine is taken
 
 module _ (opening : Opening) (log : History Reason) (seat : Seat) where
-  taken-from : (lease : Lent) (u : Option (Tree (Spot Paged))) (held : List (Holding Machine)) → lease.now ≡ lease.start
-      → holds paged_machines (lives_ready paged_machines) u ≡ true → IfSome u (λ t. (machine t).machine ≡ now_of lease)
-      → holding lease.name (with_taken seat lease.name (option_map (map_tree (spot_seen (λ (p : Paged). p.machine))) u) held)
+  taken-from : (resting : Bool) (lease : Lent) (u : Option (Tree Member)) (held : List (Holding Machine)) → lease.now ≡ lease.start
+      → holds (lives_ready paged_machines paged_talks resting) u ≡ true → IfSome u (λ t. paged_of (machine t) ≡ now_of lease)
+      → holding lease.name (with_taken seat lease.name (option_map (map_tree (box_of (spot_seen (λ (p : Paged). p.machine)))) u) held)
       ≡ Some (record { name = lease.name; seat = seat; found = lease.start })
   unfolding map_tree holding
-  taken-from lease None held now ready start = absurd (cc)
-  taken-from lease (Some (node s broods l)) held now ready start =
-      let was : Holding Machine = record { name = lease.name; seat = seat; found = s.machine.machine } in
+  taken-from resting lease None held now ready start = absurd (cc)
+  taken-from resting lease (Some (node s broods l)) held now ready start =
+      let was : Holding Machine = record { name = lease.name; seat = seat; found = (paged_of s).machine } in
       ap (λ b. cond b (Some was) (holding lease.name held)) (same-path lease.name)
       ∙ ap (λ m. Some (record { name = lease.name; seat = seat; found = m })) (ap (λ (p : Paged). p.machine) start ∙ now)
 
-  taken-after : (f : Forest) (lease : Lent) (r : Record Machine Reason) → family_of f ≡ r.world
-      → holds paged_machines (lives_ready paged_machines) (subtree lease.name f.tree) ≡ true → Starts f lease
-      → holding lease.name (record_after machines seat (row (took lease.name)) r).holdings
+  taken-after : (resting : Bool) (f : Forest) (lease : Lent) (r : Record Machine Reason) → family_of f ≡ r.world
+      → holds (lives_ready paged_machines paged_talks resting) (subtree lease.name f.tree) ≡ true → Starts f lease
+      → holding lease.name (record_after machines talks seat (row (took lease.name)) r).holdings
       ≡ Some (record { name = lease.name; seat = seat; found = lease.start })
   unfolding record_after
-  taken-after f lease r same ready starts =
+  taken-after resting f lease r same ready starts =
       ap (λ u. holding lease.name (with_taken seat lease.name u r.holdings))
-      (ap (λ (v : history.World Machine Reason). subtree lease.name v.tree) (sym same) ∙ subtree-map (spot_seen (λ (p : Paged). p.machine)) lease.name f.tree)
-      ∙ taken-from lease (subtree lease.name f.tree) r.holdings starts.now ready starts.start
+      (ap (λ (v : history.World Machine Reason). subtree lease.name v.tree) (sym same) ∙ subtree-map (box_of (spot_seen (λ (p : Paged). p.machine))) lease.name f.tree)
+      ∙ taken-from resting lease (subtree lease.name f.tree) r.holdings starts.now ready starts.start
 
   -- the seat holds it then
-  taken-held : (f : Forest) (lease : Lent) → family_of f ≡ (record_at opening log).world → Allows paged_machines (took lease.name) f → Starts f lease
+  taken-held : (f : Forest) (lease : Lent) → family_of f ≡ (record_at opening log).world → Allows paged_machines paged_talks (took lease.name) f → Starts f lease
       → IsHeldAt opening (log ++ (seat, row (took lease.name)) ∷ []) seat lease
   unfolding Allows
   taken-held f lease family allowed starts =
       ap (λ (r : Record Machine Reason). holding lease.name r.holdings) (record-more opening log seat (row (took lease.name)))
-      ∙ taken-after f lease (record_at opening log) family allowed.1 starts
+      ∙ taken-after (is_resting paged_machines paged_talks lease.name f.tree) f lease (record_at opening log) family allowed.1 starts
 
   pub follows-taken : (old new : World) (h : Follows opening log old) (answer : Taken) → core.Takes (depot_of opening) h.world.forest answer new
       → told_of new ≡ told_of old → Follows opening (log ++ (seat, taken_entry answer) ∷ []) new
   follows-taken old new h taken.Over a told = follows-row opening log seat over h.world.forest old new h h.world.family tt a told
   follows-taken old new h (taken.Stopped reason) a told = follows-row opening log seat (stopped reason) h.world.forest old new h h.world.family tt a told
+  follows-taken old new h taken.Stuck a told = follows-row opening log seat stuck h.world.forest old new h h.world.family tt a told
   follows-taken old new h taken.Idle a told = follows-row opening log seat idle h.world.forest old new h h.world.family tt a told
   follows-taken old new h (taken.Took lease) a told = follows-row opening log seat (took lease.name) h.world.forest old new h h.world.family tt a.0 told
   follows-taken old new h taken.Memory a told = follows-row opening log seat wake_failed h.world.forest old new h h.world.family tt a told
@@ -203,6 +210,7 @@ pub takes : (now new : PassValue) (old w : World) (h : Follows now.board.opening
     → core.Takes (depot_of now.board.opening) h.world.forest answer w → Takes new answer
 takes now new old w h taken.Over board number seen a = tt
 takes now new old w h (taken.Stopped reason) board number seen a = tt
+takes now new old w h taken.Stuck board number seen a = tt
 takes now new old w h taken.Idle board number seen a = tt
 takes now new old w h (taken.Took lease) board number seen a = record {
   ran = a.1.ran;
@@ -216,23 +224,23 @@ takes now new old w h taken.Memory board number seen a = tt
 
 -- ---- the world as it was made
 
-sound-first : (p : Paged) → IsSound (spots paged_machines) (world_of paged_machines {R = Reason} p).tree
-    → IsSound (spots machines) (world_of machines {R = Reason} p.machine).tree
-unfolding IsSound AreSound broods_with spots paged_machines
+sound-first : (p : Paged) → IsSound (boxes paged_machines paged_talks) (world_of paged_machines paged_talks {R = Reason} p).tree
+    → IsSound (boxes machines talks) (world_of machines talks {R = Reason} p.machine).tree
+unfolding IsSound AreSound broods_with boxed spots paged_machines
 sound-first p h = (record { good = h.0.good; ended = λ e. refl; one_each = h.0.one_each }, tt)
 
-same-first : (p : Paged) → family_of (world_of paged_machines p) ≡ world_of machines p.machine
+same-first : (p : Paged) → family_of (world_of paged_machines paged_talks p) ≡ world_of machines talks p.machine
 unfolding map_tree
 same-first p = refl
 
-pub begins : (opening : Opening) (w : World) → StandsFor (depot_of opening) w (world_of paged_machines (paged opening.first.value)) → told_of w ≡ []
+pub begins : (opening : Opening) (w : World) → StandsFor (depot_of opening) w (world_of paged_machines paged_talks (paged opening.first.value)) → told_of w ≡ []
     → Follows opening [] w
 unfolding replay IsLegal
 begins opening w h none = record {
-  start = sound-first (paged opening.first.value) h.sound;
+  start = sound-first (paged opening.first.value) h.whole.sound;
   legal = tt;
   world = record {
-    forest = world_of paged_machines (paged opening.first.value);
+    forest = world_of paged_machines paged_talks (paged opening.first.value);
     stands = h;
     family = same-first (paged opening.first.value);
     replies = ap (map pair_of) none;

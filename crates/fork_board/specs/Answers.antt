@@ -1,6 +1,6 @@
 -- What comes with the answers of a board.
 use Rattle.std.specs.Prelude.{◌≡◌, ℕ, ◌<◌, length, Option, Result, Ok, Err, option_map, slice_get}
-use Rattle.forest_history.specs.Rows.{How}
+use Rattle.talking_history.specs.Rows.{How}
 use Rattle.image_depot.specs.Reply.{Delivery, IsSentOf}
 use Rattle.std.specs.Option.{ForSome}
 use Rattle.std.specs.declared.alloc.AllocError.{AllocError}
@@ -24,6 +24,7 @@ pub record IsTaken (new : PassValue) (lease : Lent) : Type 0 where
 abbrev pub Takes : PassValue → Taken → Type 0
 Takes new taken.Over = Unit {0}
 Takes new (taken.Stopped reason) = Unit {0}
+Takes new taken.Stuck = Unit {0}
 Takes new taken.Idle = Unit {0}
 Takes new (taken.Took lease) = IsTaken new lease
 Takes new taken.Memory = Unit {0}

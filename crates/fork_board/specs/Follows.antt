@@ -3,13 +3,13 @@ use Rattle.std.specs.Prelude.{◌≡◌, ℕ, map}
 use Rattle.image_depot.specs.Key.{Shelves}
 use Rattle.image_depot.specs.Reply.{Delivery, sent_image, sent_page}
 use Rattle.forest_tree.specs.Sound.{IsSound}
-use Rattle.forest_history.specs.Places.{spots}
-use Rattle.forest_history.specs.World.{world_of}
-use Rattle.forest_history.specs.World as history
-use Rattle.forest_history.specs.Seen.{seen}
-use Rattle.forest_history.specs.Histories.{Record, History, IsLegal, record_of, replay}
+use Rattle.talking_history.specs.Places.{boxes}
+use Rattle.talking_history.specs.World.{world_of}
+use Rattle.talking_history.specs.World as history
+use Rattle.talking_history.specs.Seen.{seen}
+use Rattle.talking_history.specs.Histories.{Record, History, IsLegal, record_of, replay}
 use Rattle.forest_model.specs.Machine.{Machine}
-use Rattle.forest_model.specs.Forest.{machines}
+use Rattle.forest_model.specs.Forest.{machines, talks}
 use Rattle.forest_model.specs.Paged.{Paged}
 use Rattle.world_core.specs.declared.reason.Reason.{Reason}
 use Rattle.world_core.specs.declared.world.World.{World}
@@ -20,17 +20,17 @@ use Rattle.fork_board.specs.declared.note.Opening.{Opening}
 abbrev pub depot_of : Opening → Shelves
 depot_of opening = opening.depot.value
 
--- the machines of a forest at their places, whatever is known of their pages
+-- the machines of a forest at their places, with the words to them, whatever is known of their pages
 abbrev pub family_of : Forest → history.World Machine Reason
 family_of f = seen (λ (p : Paged). p.machine) f
 
 -- the family of one machine, of which nothing was told
 abbrev pub opening_record : Opening → Record Machine Reason
-opening_record opening = record_of (world_of machines opening.first.value.machine)
+opening_record opening = record_of (world_of machines talks opening.first.value.machine)
 
 -- what is on record after a history of the board
 abbrev pub record_at : Opening → History Reason → Record Machine Reason
-record_at opening log = replay machines log (opening_record opening)
+record_at opening log = replay machines talks log (opening_record opening)
 
 -- the number of the image of a reply, and its page
 abbrev pub pair_of : Delivery → ℕ × ℕ
@@ -46,6 +46,6 @@ pub record IsWorldOf (depot : Shelves) (r : Record Machine Reason) (w : World) :
 
 -- the history is legal, and the world stands for what it leads to
 pub record Follows (opening : Opening) (log : History Reason) (w : World) : Type 0 where
-  pub start : IsSound (spots machines) (opening_record opening).world.tree
-  pub legal : IsLegal machines log (opening_record opening)
+  pub start : IsSound (boxes machines talks) (opening_record opening).world.tree
+  pub legal : IsLegal machines talks log (opening_record opening)
   pub world : IsWorldOf (depot_of opening) (record_at opening log) w

@@ -2,8 +2,9 @@
 use Rattle.std.specs.Prelude.{ℕ, map, Option, Result, Ok, Err}
 use Rattle.std.specs.declared.alloc.AllocError.{AllocError}
 use Rattle.forest_tree.specs.Tree.{Path}
-use Rattle.forest_history.specs.Rows.{How, spent, waited, over, stopped, idle, took, wake_failed, dropped, kept, halted, gave, ended, forked, joined, killed}
-use Rattle.forest_history.specs.Histories.{Entry, row, told, heard, tell_failed, hear_failed, History}
+use Rattle.talking_history.specs.Rows.{How, gave, ended, forked, joined, killed, sent, received, waited}
+use Rattle.talking_history.specs.Rows.{spent, over, stopped, stuck, idle, took, wake_failed, dropped, kept, halted}
+use Rattle.talking_history.specs.Histories.{Entry, row, told, heard, tell_failed, hear_failed, History}
 use Rattle.image_depot.specs.Reply.{Delivery}
 use Rattle.turn_board.specs.History as notes
 use Rattle.world_core.specs.declared.reason.Reason.{Reason}
@@ -17,6 +18,7 @@ use Rattle.fork_board.specs.declared.note.Note.TheVariants as note
 abbrev pub entry_of : Note → Entry Reason
 entry_of note.Over = row over
 entry_of (note.Stopped reason) = row (stopped reason)
+entry_of note.Stuck = row stuck
 entry_of note.Idle = row idle
 entry_of (note.Took name) = row (took name.value)
 entry_of note.WakeFailed = row wake_failed
@@ -25,6 +27,8 @@ entry_of (note.Ended name ran) = row (spent ended name.value ran)
 entry_of (note.Forked name ran) = row (spent forked name.value ran)
 entry_of (note.Joined name ran) = row (spent joined name.value ran)
 entry_of (note.Killed name ran) = row (spent killed name.value ran)
+entry_of (note.Sent name ran) = row (spent sent name.value ran)
+entry_of (note.Received name ran) = row (spent received name.value ran)
 entry_of (note.Parked name ran) = row (spent waited name.value ran)
 entry_of (note.Dropped name) = row (dropped name.value)
 entry_of (note.Kept name ran) = row (kept name.value ran)
@@ -43,6 +47,7 @@ entries log = map (λ e. (e.0, entry_of e.1)) log
 abbrev pub taken_entry : Taken → Entry Reason
 taken_entry taken.Over = row over
 taken_entry (taken.Stopped reason) = row (stopped reason)
+taken_entry taken.Stuck = row stuck
 taken_entry taken.Idle = row idle
 taken_entry (taken.Took lease) = row (took lease.name)
 taken_entry taken.Memory = row wake_failed
@@ -59,5 +64,5 @@ told_entry image page (Ok u) = told image page
 told_entry image page (Err e) = tell_failed
 
 abbrev pub heard_entry : ℕ → Result (Option Delivery) AllocError → Entry Reason
-heard_entry place (Ok sent) = heard place
+heard_entry place (Ok reply) = heard place
 heard_entry place (Err e) = hear_failed place

@@ -3,12 +3,13 @@ use Rattle.std.specs.Prelude.{◌≡◌, ◌≢◌, ◌⊎◌, ℕ, ◌≤◌, t
 use Rattle.std.specs.Option.{IfSome}
 use Rattle.atomic_table.specs.Seated.{TableId}
 use Rattle.forest_tree.specs.Tree.{Path}
-use Rattle.forest_history.specs.Histories.{Entry, row, told, heard, tell_failed, hear_failed, History, IsLegal, Record, Seat, holding}
-use Rattle.forest_history.specs.Rows.{over, stopped, idle, took, wake_failed, spent, dropped, kept, halted}
-use Rattle.forest_model.specs.Forest.{machines}
+use Rattle.forest_history.specs.Histories.{Seat, holding}
+use Rattle.talking_history.specs.Histories.{Entry, row, told, heard, tell_failed, hear_failed, History, IsLegal, Record}
+use Rattle.talking_history.specs.Rows.{over, stopped, stuck, idle, took, wake_failed, spent, dropped, kept, halted}
+use Rattle.forest_model.specs.Forest.{machines, talks}
 use Rattle.forest_model.specs.Machine.{Machine}
-use Rattle.turn_board.specs.History.{entries_by}
-use Rattle.turn_board.specs.Seats.{has_seat}
+use Rattle.turn_board.specs.History.{HasEnded, entries_by}
+use Rattle.turn_board.specs.Seats.{has_seat, next_seat}
 use Rattle.world_core.specs.declared.reason.Reason.{Reason}
 use Rattle.world_core.specs.declared.world.World.{World}
 use Rattle.world_core.specs.Lent.{Lent}
@@ -30,7 +31,7 @@ pub record PassValue : Type 0 where
   pub seen : History Reason
   -- the entries that it made
   pub mine : History Reason
-  -- the numbers of the passes that were joined to it, and to those
+  -- the passes that were joined to it, and to those, each by the number that it would have given next
   pub ended : List Seat
 
 -- the first pass of a board
@@ -57,6 +58,7 @@ HoldsNone pass = (name : Path) → IsFree pass name
 abbrev pub FreeAfter : Entry Reason → Path → Type 0 → Type 0
 FreeAfter (row over) name before = before
 FreeAfter (row (stopped reason)) name before = before
+FreeAfter (row stuck) name before = before
 FreeAfter (row idle) name before = before
 FreeAfter (row (took other)) name before = (other ≢ name) × before
 FreeAfter (row wake_failed) name before = before
@@ -73,6 +75,7 @@ FreeAfter (hear_failed place) name before = before
 abbrev pub Leaves : Entry Reason → Path → Type 0
 Leaves (row over) name = Unit {0}
 Leaves (row (stopped reason)) name = Unit {0}
+Leaves (row stuck) name = Unit {0}
 Leaves (row idle) name = Unit {0}
 Leaves (row (took other)) name = other ≢ name
 Leaves (row wake_failed) name = Unit {0}
@@ -99,13 +102,13 @@ pub record Makes (old new : PassValue) (entry : Entry Reason) : Type 0 where
   pub own : entries_by new.number new.seen ≡ new.mine
   -- no pass that is yet to be split off from it has made an entry, nor has one that would be split off from such
   pub unmade : (k : ℕ) (below : Seat) → new.splits ≤ k → entries_by (new.number ++ k ∷ below) new.seen ≡ []
-  pub legal : IsLegal machines new.seen (opening_record old.board.opening)
+  pub legal : IsLegal machines talks new.seen (opening_record old.board.opening)
   pub free : (name : Path) → FreeAfter entry name (IsFree old name) → IsFree new name
   pub held : (lease : Lent) → IsHeld old lease → Leaves entry lease.name → IsHeld new lease
 
 -- the pass has seen the longer of what two had seen, of which the other is the beginning. All of it is legal, and the
 -- pass holds what it held, and has no entries but its own. The second has ended: of it, and of those that ended before, the
--- pass has seen all entries
+-- pass has seen all entries, and there is none of a pass that one of these had yet to split off
 pub record Joins (pass other new : PassValue) : Type 0 where
   pub same_board : new.board ≡ pass.board
   pub same_number : new.number ≡ pass.number
@@ -115,12 +118,14 @@ pub record Joins (pass other new : PassValue) : Type 0 where
   pub seen : (rest : History Reason) × (new.seen ≡ pass.seen ++ rest)
   pub others : (rest : History Reason) × (new.seen ≡ other.seen ++ rest)
   pub own : entries_by new.number new.seen ≡ new.mine
-  pub legal : IsLegal machines new.seen (opening_record new.board.opening)
+  pub legal : IsLegal machines talks new.seen (opening_record new.board.opening)
   pub free : (name : Path) → IsFree pass name → IsFree new name
   pub held : (lease : Lent) → IsHeld pass lease → IsHeld new lease
-  pub ended : new.ended ≡ pass.ended ++ other.number ∷ other.ended
-  pub still : (seat : Seat) → has_seat pass.ended seat ≡ true → entries_by seat new.seen ≡ entries_by seat pass.seen
-  pub last : (seat : Seat) → has_seat (other.number ∷ other.ended) seat ≡ true → entries_by seat new.seen ≡ entries_by seat other.seen
+  pub unmade : (k : ℕ) (below : Seat) → new.splits ≤ k → entries_by (new.number ++ k ∷ below) new.seen ≡ []
+  pub ended : new.ended ≡ pass.ended ++ next_seat other.number other.splits ∷ other.ended
+  pub still : (seat : Seat) (splits : ℕ) → has_seat pass.ended (next_seat seat splits) ≡ true → HasEnded seat splits pass.seen new.seen
+  pub last : (seat : Seat) (splits : ℕ) → has_seat (next_seat other.number other.splits ∷ other.ended) (next_seat seat splits) ≡ true
+      → HasEnded seat splits other.seen new.seen
 
 -- the whole history begins with what the pass had seen, and has no more entries of its number. The world follows it
 pub record Closes (pass : PassValue) (w : World) : Type 0 where

@@ -1,9 +1,10 @@
 -- A turn of a pass, between its start and its end.
-use Rattle.std.specs.Prelude.{◌≡◌, ℕ, ◌≤◌, List, [], ◌∷◌, ◌++◌}
+use Rattle.std.specs.Prelude.{◌≡◌, ℕ, ◌≤◌, List, [], ◌∷◌, ◌++◌, Box}
+use Rattle.std.specs.declared.alloc.Global.{Global}
 use Rattle.forest_tree.specs.Sound.{IsSound}
-use Rattle.forest_history.specs.Places.{spots}
-use Rattle.forest_history.specs.Histories.{History, IsLegal}
-use Rattle.forest_model.specs.Forest.{machines}
+use Rattle.talking_history.specs.Places.{boxes}
+use Rattle.talking_history.specs.Histories.{History, IsLegal}
+use Rattle.forest_model.specs.Forest.{machines, talks}
 use Rattle.atomic_table.specs.declared.shared.Seat.{Seat}
 use Rattle.turn_board.specs.declared.view.Content.{Content}
 use Rattle.turn_board.specs.declared.view.View.{View}
@@ -19,7 +20,7 @@ use Rattle.fork_board.specs.Passes.{BoardValue, PassValue}
 
 -- a seat at the lock
 abbrev pub Place : Type 0
-Place = Seat (Content World Note) (View Opening Note)
+Place = Seat (Content (Box World Global) Note) (View Opening Note)
 
 -- the pass as its seat has it
 abbrev pub pass_of : BoardValue → Place → PassValue
@@ -35,8 +36,8 @@ pass_of board seat = record {
 -- the seat is one of this board and has no turn, and what it has seen is legal from the machine of the opening on
 pub record IsPlace (board : BoardValue) (place : Place) : Type 0 where
   pub seat : IsSeat board.table board.opening place
-  pub start : IsSound (spots machines) (opening_record board.opening).world.tree
-  pub legal : IsLegal machines (entries place.me.0.seen) (opening_record board.opening)
+  pub start : IsSound (boxes machines talks) (opening_record board.opening).world.tree
+  pub legal : IsLegal machines talks (entries place.me.0.seen) (opening_record board.opening)
 
 -- the turn of the pass has come: others made entries since, and the world follows all
 pub record Visits (pass now : PassValue) (w : World) : Type 0 where

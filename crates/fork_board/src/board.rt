@@ -1,7 +1,7 @@
 //! The board, and the passes of its threads.
 ghost use Rattle.std.specs.Prelude.{◌≡◌, ◌+◌, ◌<◌, [], ◌∷◌, ◌++◌, length, IfOk};
-ghost use Rattle.forest_history.specs.World.{world_of};
-ghost use Rattle.forest_model.specs.Paged.{paged_machines};
+ghost use Rattle.talking_history.specs.World.{world_of};
+ghost use Rattle.forest_model.specs.Paged.{paged_machines, paged_talks};
 ghost use Rattle.vm_cell.specs.Keyed.{paged};
 ghost use Rattle.turn_board.specs.Calls.{IsTurn};
 ghost use Rattle.world_core.specs.Told.{told_of};
@@ -25,7 +25,7 @@ use world_core::World;
 #[derive(Drop)]
 pub struct Board {
     opening: Opening,
-    turns: Turns<Opening, Note, World>,
+    turns: Turns<Opening, Note, Box<World>>,
 }
 
 impl Model for Board {
@@ -43,7 +43,7 @@ impl Model for Board {
 #[derive(Drop)]
 pub struct Pass {
     opening: Snapshot<Opening>,
-    seat: Seat<Opening, Note, World>,
+    seat: Seat<Opening, Note, Box<World>>,
 }
 
 impl Model for Pass {
@@ -60,7 +60,7 @@ impl Model for Pass {
 /// A pass whose turn has come, with the world.
 pub(crate) struct Visit {
     opening: Snapshot<Opening>,
-    pub(crate) turn: Turn<Opening, Note, World>,
+    pub(crate) turn: Turn<Opening, Note, Box<World>>,
 }
 
 impl Board {
@@ -72,7 +72,7 @@ impl Board {
         first: Snapshot<Vm>,
         depot: &Depot,
     ) -> Result<(Board, Pass), AllocError>
-        requires world { StandsFor depot.now world (world_of paged_machines (paged first.value)) }
+        requires world { StandsFor depot.now world (world_of paged_machines paged_talks (paged first.value)) }
         requires told { told_of world ≡ [] }
         ensures opening { IfOk result (λ made. (made.0.opening.first.value ≡ first.value) × (made.0.opening.depot.value ≡ depot.now)) }
         ensures pass { IfOk result (λ made. made.1 ≡ first_pass made.0) }
@@ -82,6 +82,7 @@ impl Board {
             first,
             depot: Snapshot::of(depot),
         };
+        let world = Box::new(alloc, world)?;
         let (turns, seat) = Turns::new(alloc, &opening, world)?;
         let pass = Pass {
             opening: Snapshot::of(&opening),
@@ -130,7 +131,7 @@ impl Board {
     {
         let Pass { opening: _, seat } = pass;
         let Board { opening: _, turns } = self;
-        turns.close(rt, seat)
+        Box::into_inner(turns.close(rt, seat))
     }
 
     /// Waits for the pass's turn.
@@ -138,7 +139,7 @@ impl Board {
         requires { pass.board ≡ self.now }
         ensures turn { IsTurn self.now.table self.now.opening result.turn.seat }
         ensures opening { result.opening.value ≡ self.now.opening }
-        ensures visits { Visits pass (pass_of self.now result.turn.seat) result.turn.value }
+        ensures visits { Visits pass (pass_of self.now result.turn.seat) result.turn.value.value }
     {
         let Pass { opening, seat } = pass;
         Visit {
@@ -151,7 +152,7 @@ impl Board {
     pub(crate) fn leave(&self, visit: Visit, note: &Note) -> Pass
         requires turn { IsTurn self.now.table self.now.opening visit.turn.seat }
         requires opening { visit.opening.value ≡ self.now.opening }
-        requires follows { Follows self.now.opening (entries (visit.turn.seat.me.0.seen) ++ (visit.turn.seat.me.0.seat, entry_of note.now) ∷ []) visit.turn.value }
+        requires follows { Follows self.now.opening (entries (visit.turn.seat.me.0.seen) ++ (visit.turn.seat.me.0.seat, entry_of note.now) ∷ []) visit.turn.value.value }
         ensures { Passed (pass_of self.now visit.turn.seat) result note.now }
     {
         let Visit { opening, turn } = visit;

@@ -1,9 +1,9 @@
 //! The calls of a world, each in a turn of its pass.
-ghost use Rattle.std.specs.Prelude.{◌≡◌};
-ghost use Rattle.forest_history.specs.Histories.{row};
-ghost use Rattle.forest_history.specs.Rows.{forked, halted, joined, killed};
-ghost use Rattle.vm_cell.specs.Standing.{IsClone, IsKill, standing_call};
-ghost use Rattle.world_core.specs.Answers.{IsJoinCall, IsLentOf, home_by};
+ghost use Rattle.std.specs.Prelude.{◌≡◌, IfSome, IsSome};
+ghost use Rattle.talking_history.specs.Histories.{row};
+ghost use Rattle.talking_history.specs.Rows.{forked, halted, joined, killed};
+ghost use Rattle.vm_cell.specs.Standing.{IsClone, IsKill, standing_call, standing_talk};
+ghost use Rattle.world_core.specs.Answers.{IsJoinCall, IsLentOf, home_by, said_by};
 ghost use Rattle.world_core.specs.Lent.{vm_of};
 ghost use Rattle.fork_board.specs.Answers.{Places, Takes};
 ghost use Rattle.fork_board.specs.Deeds.{MayDo, how_of};
@@ -91,6 +91,21 @@ impl Board {
         self.hand_back(rt, pass, lease, Deed::Kill)
     }
 
+    /// Makes the SEND or the RECEIVE at which a machine stands, or parks the machine where it waits for its sibling.
+    pub fn talk<R: Wait>(&self, rt: &R, alloc: Global, pass: Pass, lease: Lease) -> (Pass, Placed)
+        requires board { pass.board ≡ self.now }
+        requires held { IsHeld pass lease }
+        requires of_depot { IsLentOf (depot_of self.now.opening) lease }
+        requires talks { IsSome (standing_talk (vm_of lease)) }
+        ensures makes { IfSome (standing_talk (vm_of lease)) (λ what. Makes pass result.0 (placed_entry (said_by what) lease.name lease.ran result.1)) }
+        ensures places { IfSome (standing_talk (vm_of lease)) (λ what. Places (said_by what) lease result.0 result.1) }
+    {
+        let Some(what) = lease.talk() else {
+            unreachable!();
+        };
+        self.hand_back(rt, pass, lease, Deed::Talk(alloc, what))
+    }
+
     /// Takes a lease back in a turn of the pass, by a call of the world.
     fn hand_back<R: Wait>(&self, rt: &R, pass: Pass, lease: Lease, deed: Deed) -> (Pass, Placed)
         requires board { pass.board ≡ self.now }
@@ -104,7 +119,7 @@ impl Board {
         let ran = lease.ran();
         let done = deed.note(&lease);
         let mut visit = self.enter(rt, pass);
-        let placed = deed.on(&mut visit.turn.value, lease);
+        let placed = deed.on(&mut *visit.turn.value, lease);
         let note = placed_note(done, name, ran, &placed);
         (self.leave(visit, &note), placed)
     }

@@ -2,8 +2,8 @@
 
 ghost use Rattle.std.specs.Prelude.{◌≡◌};
 ghost use Rattle.image_depot.specs.Key.{Shelves};
-ghost use Rattle.forest_history.specs.Histories.{row};
-ghost use Rattle.forest_history.specs.Rows.{spent};
+ghost use Rattle.talking_history.specs.Histories.{row};
+ghost use Rattle.talking_history.specs.Rows.{spent};
 ghost use Rattle.world_core.specs.Answers.{Answers, HandedOutIn, IsHandedOut, IsLentOf};
 ghost use Rattle.world_core.specs.Told.{told_of};
 ghost use Rattle.world_core.specs.World.{Forest, StandsFor};
@@ -11,6 +11,7 @@ ghost use Rattle.fork_board.specs.Deeds.{MayDo, how_of};
 ghost use Rattle.fork_board.specs.Notes.{entry_of};
 
 use crate::note::Note;
+use sibling_port::Talk;
 use std::alloc::{AllocError, Global};
 use std::snapshot::Snapshot;
 use world_core::{Lease, Placed, PreparedFork, World};
@@ -26,6 +27,8 @@ pub(crate) enum Deed {
     Join(Global),
     /// The KILL at which it stands.
     Kill,
+    /// The SEND or the RECEIVE at which it stands, which is this one.
+    Talk(Global, Talk),
 }
 
 impl Deed {
@@ -41,6 +44,7 @@ impl Deed {
             Deed::Fork(prepared) => world.commit_fork(lease, prepared),
             Deed::Join(alloc) => world.join(alloc, lease),
             Deed::Kill => world.kill(lease),
+            Deed::Talk(alloc, _) => world.talk(alloc, lease),
         }
     }
 
@@ -58,6 +62,8 @@ impl Deed {
             Deed::Fork(_) => Note::Forked(name, ran),
             Deed::Join(_) => Note::Joined(name, ran),
             Deed::Kill => Note::Killed(name, ran),
+            Deed::Talk(_, Talk::Send(_)) => Note::Sent(name, ran),
+            Deed::Talk(_, Talk::Receive(_)) => Note::Received(name, ran),
         }
     }
 }

@@ -1,12 +1,12 @@
-//! A world may lie under the lock.
+//! A world may lie under the lock, in a box: with each turn it moves in and out.
 
 use crate::note::{Note, Opening};
 use turn_board::Kept;
 use world_core::World;
 
-impl Kept<Opening, Note> for World {
+impl Kept<Opening, Note> for Box<World> {
     ghost use Rattle.fork_board.specs.Notes.{entries};
     ghost use Rattle.fork_board.specs.Follows.{Follows};
 
-    ghost stands = { λ opening log w. Follows opening (entries log) w };
+    ghost stands = { λ opening log w. Follows opening (entries log) w.value };
 }

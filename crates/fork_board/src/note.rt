@@ -21,7 +21,9 @@ pub enum Note {
     Over,
     /// The world was stopped for this reason.
     Stopped(Reason),
-    /// No machine was ready.
+    /// No machine was ready, and none was on lease.
+    Stuck,
+    /// No machine was ready, and one was on lease.
     Idle,
     Took(Snapshot<Name>),
     /// Want of memory to wake a machine.
@@ -31,7 +33,9 @@ pub enum Note {
     Forked(Snapshot<Name>, u64),
     Joined(Snapshot<Name>, u64),
     Killed(Snapshot<Name>, u64),
-    /// Its join waits.
+    Sent(Snapshot<Name>, u64),
+    Received(Snapshot<Name>, u64),
+    /// Its join or its talk waits.
     Parked(Snapshot<Name>, u64),
     /// The name was gone.
     Dropped(Snapshot<Name>),

@@ -1,7 +1,7 @@
 //! The notes of answers.
 ghost use Rattle.std.specs.Prelude.{◌≡◌};
-ghost use Rattle.forest_history.specs.Histories.{row};
-ghost use Rattle.forest_history.specs.Rows.{How, spent};
+ghost use Rattle.talking_history.specs.Histories.{row};
+ghost use Rattle.talking_history.specs.Rows.{How, spent};
 ghost use Rattle.fork_board.specs.Notes.{entry_of, heard_entry, placed_entry, taken_entry, told_entry};
 
 use crate::note::Note;
@@ -18,6 +18,7 @@ pub(crate) fn taken_note(taken: &Taken) -> Note
     match taken {
         Taken::Over => Note::Over,
         Taken::Stopped(reason) => Note::Stopped(*reason),
+        Taken::Stuck => Note::Stuck,
         Taken::Idle => Note::Idle,
         Taken::Took(lease) => Note::Took(Snapshot::of(lease.name())),
         Taken::Memory => Note::WakeFailed,

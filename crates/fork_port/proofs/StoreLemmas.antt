@@ -1,10 +1,11 @@
 -- What holds of each store.
-use Rattle.std.proofs.Common.{◌≡◌, ℕ, ◌≤◌, eqb, Option, None, IfSome, option_map, refl, subst}
+use Rattle.std.proofs.Common.{◌≡◌, ◌≢◌, ℕ, ◌≤◌, eqb, Option, None, IfSome, option_map, refl, subst}
 use Rattle.fork_port.specs.declared.commands.Stored.TheVariants.{Command}
 use Rattle.fork_port.specs.declared.commands.Call.{Call}
 use Rattle.fork_port.specs.declared.commands.Asked.{Asked}
 use Rattle.fork_port.specs.declared.commands.Asked.TheVariants as asked
 use Rattle.fork_port.specs.declared.commands.Effect.TheVariants as effect
+use Rattle.sibling_port.specs.declared.talk.Talk.{Talk}
 use Rattle.fork_port.specs.declared.handed.TheConstants.{MAX_HANDED}
 use Rattle.fork_port.specs.declared.registers.TheConstants.{FORK_FIRST_ARGUMENT, FORK_SECOND_ARGUMENT, FORK_COMMAND, FORK_JOIN_SELECT}
 use Rattle.fork_port.specs.Tickets.{IsRising}
@@ -116,3 +117,18 @@ module _ (f : ForkRegisters) where
       each_store (λ s. s.effect ≡ effect.ExitWith value address count → (s.fork ≡ f) × (count ≤ MAX_HANDED)) f offset width word
       (λ is. no_handing value address count is) (λ is. no_handing value address count is) (λ is. no_handing value address count is)
       (handing_answered word value address count (fork_command f word) (answerable f word))
+
+  -- no store to the fork port is a talk
+  talk_answered : (t : Talk) (a : Asked) → effect_of a ≢ effect.Talk t
+  talk_answered t (asked.Refused word) is = absurd cc
+  talk_answered t asked.NewTicket is = absurd cc
+  talk_answered t (asked.Discard number) is = absurd cc
+  talk_answered t (asked.Call c) is = absurd cc
+  talk_answered t (asked.Exit value) is = absurd cc
+  talk_answered t (asked.ExitWith value address count) is = absurd cc
+  talk_answered t (asked.Zero first count) is = absurd cc
+
+  pub talk_stored : (offset width word : ℕ) (t : Talk) → IfSome (fork_store f offset width word) (λ s. s.effect ≢ effect.Talk t)
+  talk_stored offset width word t =
+      each_store (λ s. s.effect ≢ effect.Talk t) f offset width word
+      (λ is. absurd cc) (λ is. absurd cc) (λ is. absurd cc) (talk_answered t (fork_command f word))

@@ -3,6 +3,8 @@
 ghost use Rattle.std.specs.Prelude.{◌≡◌};
 ghost use Rattle.fork_port.specs.Commands.{effect_of};
 
+use sibling_port::Talk;
+
 /// What a store to a register was.
 #[derive(Clone, Copy)]
 pub enum Stored {
@@ -50,6 +52,8 @@ pub enum Effect {
     TimeWritten,
     /// The machine is to make this call. The registers are as before.
     Call(Call),
+    /// The machine is to make this talk. The registers are as before.
+    Talk(Talk),
     /// The machine ends with this value.
     Exit(u32),
     /// It ends with this value and hands over bytes of RAM: the address of the first, and how many. The registers

@@ -1,9 +1,10 @@
 //! Laws of the definitions, each the contract of a function that does nothing.
 
-ghost use Rattle.std.specs.Prelude.{◌≡◌, ℕ, ◌+◌, ◌*◌, ◌%◌, ◌^◌, ◌<◌, ◌≤◌, ◌==◌, ◌↔◌, true, if◌then◌else◌, List, Some, None, IsSome, IfSome, option_map, length};
+ghost use Rattle.std.specs.Prelude.{◌≡◌, ◌≢◌, ℕ, ◌+◌, ◌*◌, ◌%◌, ◌^◌, ◌<◌, ◌≤◌, ◌==◌, ◌↔◌, true, if◌then◌else◌, List, Some, None, IsSome, IfSome, option_map, length};
 ghost use Rattle.std.specs.List.{AllByRecursion};
 ghost use Rattle.fork_port.specs.declared.ending.Ending.{Ending};
 ghost use Rattle.fork_port.specs.declared.commands.Call.{Call};
+ghost use Rattle.sibling_port.specs.declared.talk.Talk.{Talk};
 ghost use Rattle.fork_port.specs.Tickets.{IsRising, as_cloned};
 ghost use Rattle.fork_port.specs.Registers.{ForkRegisters, holding, join_result, ticket_found};
 ghost use Rattle.fork_port.specs.Commands.{IsAnswerable, IsMakeable, fork_command};
@@ -16,6 +17,7 @@ use crate::commands::Effect;
 use crate::handed::MAX_HANDED;
 use crate::refusals::TICKETS_END;
 use crate::registers::{FORK_JOIN_BYTES, FORK_JOIN_LENGTH};
+use sibling_port::Talk;
 
 /// A grant is the greatest that was asked for and can be paid.
 pub fn grant_is_the_greatest()
@@ -83,6 +85,12 @@ pub fn calls_wait()
 pub fn handing_over_waits()
     ensures { (f : ForkRegisters) (offset width word value address count : ℕ)
         → IfSome (fork_store f offset width word) (λ s. s.effect ≡ Effect.ExitWith value address count → (s.fork ≡ f) × (count ≤ MAX_HANDED)) }
+{}
+
+/// No store to the fork port is a talk with a sibling.
+pub fn no_store_is_a_talk()
+    ensures { (f : ForkRegisters) (offset width word : ℕ) (talk : Talk)
+        → IfSome (fork_store f offset width word) (λ s. s.effect ≢ Effect.Talk talk) }
 {}
 
 /// Bytes that are handed over are told as they are, and as words with zeros behind them.

@@ -143,6 +143,13 @@ impl ForkPort {
         }
     }
 
+    /// 0 in a machine that started from a program, and else which child of its ticket the machine is.
+    pub fn clone_id(&self) -> u32
+        ensures { result ≡ self.now.clone_id }
+    {
+        self.clone_id
+    }
+
     /// What is true of every fork port. It does nothing.
     pub fn accounts(&self)
         ensures { IsAccounted self.now }

@@ -5,9 +5,10 @@ use Rattle.std.specs.declared.alloc.AllocError.{AllocError}
 use Rattle.std.proofs.lemmas.Bool.{cases_eq}
 use Rattle.std.proofs.lemmas.Option.{slice_get_within}
 use Rattle.image_depot.specs.Reply.{Delivery, IsSentOf, sent_image, sent_page}
-use Rattle.forest_history.specs.Histories.{Entry, row, told, heard, tell_failed, hear_failed, History, Record, Seat, record_after, replay}
-use Rattle.forest_history.proofs.Histories.{replay-append}
-use Rattle.forest_model.specs.Forest.{machines}
+use Rattle.forest_history.specs.Histories.{Seat}
+use Rattle.talking_history.specs.Histories.{Entry, row, told, heard, tell_failed, hear_failed, History, Record, record_after, replay}
+use Rattle.talking_history.proofs.Histories.{replay-append}
+use Rattle.forest_model.specs.Forest.{machines, talks}
 use Rattle.forest_model.specs.Machine.{Machine}
 use Rattle.host_fetch.specs.Heard.{KeepsOthers, Place, Replies, found}
 use Rattle.world_core.specs.declared.reason.Reason.{Reason}
@@ -38,7 +39,7 @@ module _ (P : ℕ × ℕ → Type 0) where
   some-longer (x ∷ xs) ys (suc i) h = some-longer xs ys i h
 
   told-after : (place : ℕ) (seat : Seat) (e : Entry Reason) (r : Record Machine Reason) → IsSomeAnd (slice_get r.told place) P
-      → IsSomeAnd (slice_get (record_after machines seat e r).told place) P
+      → IsSomeAnd (slice_get (record_after machines talks seat e r).told place) P
   unfolding record_after
   told-after place seat (row x) r h = h
   told-after place seat (told image page) r h = some-longer r.told ((image, page) ∷ []) place h
@@ -47,18 +48,18 @@ module _ (P : ℕ × ℕ → Type 0) where
   told-after place seat (hear_failed at) r h = h
 
   told-later : (place : ℕ) (log : History Reason) (r : Record Machine Reason) → IsSomeAnd (slice_get r.told place) P
-      → IsSomeAnd (slice_get (replay machines log r).told place) P
+      → IsSomeAnd (slice_get (replay machines talks log r).told place) P
   unfolding replay
   told-later place [] r h = h
-  told-later place (e ∷ rest) r h = told-later place rest (record_after machines e.0 e.1 r) (told-after place e.0 e.1 r h)
+  told-later place (e ∷ rest) r h = told-later place rest (record_after machines talks e.0 e.1 r) (told-after place e.0 e.1 r h)
 
   -- for a pass that has seen more, too
   told-still : (old new : PassValue) (place : ℕ) → Stays old new → IsSomeAnd (slice_get (seen_record old).told place) P
       → IsSomeAnd (slice_get (seen_record new).told place) P
   told-still old new place s h =
-      let grown : seen_record new ≡ replay machines s.rest (seen_record old) =
+      let grown : seen_record new ≡ replay machines talks s.rest (seen_record old) =
       ap₂ (λ (b : BoardValue) (l : History Reason). record_at b.opening l) s.same_board s.seen
-      ∙ replay-append machines old.seen s.rest (opening_record old.board.opening) in
+      ∙ replay-append machines talks old.seen s.rest (opening_record old.board.opening) in
       subst (λ (r : Record Machine Reason). IsSomeAnd (slice_get r.told place) P) (sym grown) (told-later place s.rest (seen_record old) h)
 
 some-then : (P Q : ℕ × ℕ → Type 0) (o : Option (ℕ × ℕ)) → ((reply : ℕ × ℕ) → P reply → Q reply) → IsSomeAnd o P → IsSomeAnd o Q

@@ -1,13 +1,16 @@
 -- What several workers know, when their passes are joined.
 use Rattle.std.proofs.Common.{◌≡◌, ◌≢◌, ◌⊎◌, inl, inr, ℕ, zero, suc, ◌+◌, ◌<◌, ◌≤◌, Bool, true, false, List, [], ◌∷◌, ◌++◌, append_assoc, append-nil}
-use Rattle.std.proofs.Common.{length, Option, Some, None, option_map, IsSomeAnd, refl, sym, ap, ap₂, ◌∙◌, subst, arith}
+use Rattle.std.proofs.Common.{length, Option, Some, None, option_map, IsSomeAnd, refl, sym, ap, ap₂, ◌∙◌, subst, arith, ◌-◌}
+use mathlib.Core.Logic.{dite}
+use native.Mathlib.Decide.{dec_lt}
 use Rattle.std.proofs.lemmas.Bool.{cases_eq}
 use Rattle.std.proofs.lemmas.List.Elements.{filter-append}
 use Rattle.std.proofs.lemmas.Slice.Eq.{bytes_eq-Decides}
-use Rattle.forest_history.specs.Histories.{Entry, History, IsLegal, Seat}
-use Rattle.forest_model.specs.Forest.{machines}
-use Rattle.turn_board.specs.History.{entries_by}
-use Rattle.turn_board.specs.Seats.{has_seat, is_seat}
+use Rattle.forest_history.specs.Histories.{Seat}
+use Rattle.talking_history.specs.Histories.{Entry, History, IsLegal}
+use Rattle.forest_model.specs.Forest.{machines, talks}
+use Rattle.turn_board.specs.History.{HasEnded, entries_by}
+use Rattle.turn_board.specs.Seats.{has_seat, is_seat, next_seat}
 use Rattle.turn_board.proofs.Names.{has_back, has_front, has_new, same_is}
 use Rattle.world_core.specs.declared.reason.Reason.{Reason}
 use Rattle.world_core.specs.declared.reason.Reason.TheVariants as reason
@@ -15,15 +18,15 @@ use Rattle.fork_board.specs.Follows.{opening_record, record_at}
 use Rattle.fork_board.specs.Passes.{BoardValue, HoldsNone, Joins, PassValue, seen_record}
 use Rattle.fork_board.proofs.Entries.{none-between}
 use Rattle.fork_board.proofs.Records.{Free, free-more}
-use Rattle.host_workers.specs.Finishes.{AreDone, Finishes, IsDone, IsForeign, IsStopped, IsStoppedElsewhere, WorkedAll, first_stop, is_over}
+use Rattle.host_workers.specs.Finishes.{AreDone, Finishes, IsDone, IsForeign, IsStopped, HasStuck, IsStoppedElsewhere, WorkedAll, first_stop, is_over}
 use Rattle.host_workers.specs.Lost.{IsLost, IsOneLost}
 use Rattle.host_workers.specs.Spread.{BlamesOne, WorkAll, Works, child, finish_of, parent}
 use Rattle.host_workers.specs.Stages.{Goes, done, free}
 use Rattle.host_workers.specs.Stays.{Blames, Worked}
 use Rattle.host_workers.specs.declared.finish.Finish.{Finish}
-use Rattle.host_workers.specs.declared.finish.Finish.TheVariants.{Over, Stopped}
+use Rattle.host_workers.specs.declared.finish.Finish.TheVariants.{Over, Stopped, Stuck}
 use Rattle.host_workers.proofs.Over.{over-later, over-same}
-use Rattle.host_workers.proofs.Stops.{seen-halted, stops-by, stops-on}
+use Rattle.host_workers.proofs.Stops.{seen-halted, stops-by, stops-later, stops-on, unstopped}
 
 -- ---- who stopped the world
 
@@ -141,6 +144,16 @@ alone-done old new w none = record {
   others = λ k below. absurd (omega (arith, below));
 }
 
+-- who has made no entry at all has made none later
+none-later : (seen more all : History Reason) → all ≡ seen ++ more → (seat : Seat) → entries_by seat all ≡ [] → entries_by seat more ≡ []
+none-later seen more all is seat none =
+    no-back (entries_by seat seen) (entries_by seat more)
+    (sym (filter-append (λ (e : Seat × Entry Reason). is_seat e.0 seat) seen more) ∙ ap (entries_by seat) (sym is) ∙ none)
+  where
+    no-back : (xs ys : History Reason) → xs ++ ys ≡ [] → ys ≡ []
+    no-back [] ys e = e
+    no-back (x ∷ xs) ys e = absurd (cc)
+
 -- ---- one worker alone
 
 pub alone-works : {W : Type 0} (streak : W → ℕ) (wire : W) (old new : PassValue) (finish : Finish) → Works streak wire old new finish
@@ -156,6 +169,7 @@ alone-works streak wire old new finish w = record {
   none = w.none;
   end = w.end;
   own = w.worked.own;
+  unmade = w.worked.unmade;
   ended = λ k below. absurd (omega (arith, below));
   are_done = alone-done old new w.worked w.none;
   blames = λ is. blames is;
@@ -180,12 +194,12 @@ module _ {W : Type 0} (streak : W → ℕ) (wire : W) (wires : List W) (pass fir
   board : new.board ≡ pass.board
   board = j.same_board ∙ others.worked.same_board
 
-  legal : IsLegal machines new.seen (opening_record pass.board.opening)
+  legal : IsLegal machines talks new.seen (opening_record pass.board.opening)
   legal = by j.either
     where
-      by : (new.seen ≡ rest.seen) ⊎ (new.seen ≡ first.seen) → IsLegal machines new.seen (opening_record pass.board.opening)
-      by (inl same) = subst (λ l. IsLegal machines l (opening_record pass.board.opening)) (sym same) others.worked.legal
-      by (inr same) = subst (λ l. IsLegal machines l (opening_record pass.board.opening)) (sym same) one.worked.legal
+      by : (new.seen ≡ rest.seen) ⊎ (new.seen ≡ first.seen) → IsLegal machines talks new.seen (opening_record pass.board.opening)
+      by (inl same) = subst (λ l. IsLegal machines talks l (opening_record pass.board.opening)) (sym same) others.worked.legal
+      by (inr same) = subst (λ l. IsLegal machines talks l (opening_record pass.board.opening)) (sym same) one.worked.legal
 
   worked-all : WorkedAll pass new
   worked-all = record {
@@ -201,11 +215,11 @@ module _ {W : Type 0} (streak : W → ℕ) (wire : W) (wires : List W) (pass fir
 
   over-first : is_over first ≡ true → is_over new ≡ true
   over-first = over-later first new j.others.0 first-board j.others.1
-      (subst (λ (b : BoardValue). IsLegal machines new.seen (opening_record b.opening)) (sym one.worked.same_board) legal)
+      (subst (λ (b : BoardValue). IsLegal machines talks new.seen (opening_record b.opening)) (sym one.worked.same_board) legal)
 
   over-rest : is_over rest ≡ true → is_over new ≡ true
   over-rest = over-later rest new j.seen.0 j.same_board j.seen.1
-      (subst (λ (b : BoardValue). IsLegal machines new.seen (opening_record b.opening)) (sym others.worked.same_board) legal)
+      (subst (λ (b : BoardValue). IsLegal machines talks new.seen (opening_record b.opening)) (sym others.worked.same_board) legal)
 
   lives : is_over first ≡ false → is_over rest ≡ false → is_over new ≡ false
   lives here there = by j.either
@@ -214,21 +228,55 @@ module _ {W : Type 0} (streak : W → ℕ) (wire : W) (wires : List W) (pass fir
       by (inl same) = over-same rest new j.same_board same ∙ there
       by (inr same) = over-same first new first-board same ∙ here
 
+  -- the joined pass has seen what one of the two has, and ends as it does
+  stuck-first : new.seen ≡ first.seen → Finishes first Stuck → Finishes new Stuck
+  stuck-first same is = record {
+    lives = over-same first new first-board same ∙ is.lives;
+    going = ap₂ (λ (b : BoardValue) (l : History Reason). (record_at b.opening l).world.halted) first-board same ∙ is.going;
+    found = subst (λ (l : History Reason). HasStuck l) (sym same) is.found;
+  }
+
+  stuck-rest : new.seen ≡ rest.seen → Finishes rest Stuck → Finishes new Stuck
+  stuck-rest same is = record {
+    lives = over-same rest new j.same_board same ∙ is.lives;
+    going = ap₂ (λ (b : BoardValue) (l : History Reason). (record_at b.opening l).world.halted) j.same_board same ∙ is.going;
+    found = subst (λ (l : History Reason). HasStuck l) (sym same) is.found;
+  }
+
+  both-stuck : Finishes first Stuck → Finishes rest Stuck → Finishes new Stuck
+  both-stuck here there = by j.either
+    where
+      by : (new.seen ≡ rest.seen) ⊎ (new.seen ≡ first.seen) → Finishes new Stuck
+      by (inl same) = stuck-rest same there
+      by (inr same) = stuck-first same here
+
   ends : (a b : Finish) → Finishes first a → Finishes rest b → Finishes new (finish_of a b)
   ends Over b here there = over-first here
   ends (Stopped r) Over here there = over-rest there
   ends (Stopped r) (Stopped s) here there = (lives here.0 there.0, halted-later rest new j.seen.0 j.seen.1 s there.1)
+  ends (Stopped r) Stuck here there = (lives here.0 there.lives, halted-later first new j.others.0 j.others.1 r here.1)
+  ends Stuck Over here there = over-rest there
+  ends Stuck (Stopped s) here there = (lives here.lives there.0, halted-later rest new j.seen.0 j.seen.1 s there.1)
+  ends Stuck Stuck here there = both-stuck here there
 
   abbrev first-number : Seat
   first-number = pass.number ++ pass.splits ∷ []
 
   -- the first is the one that was split off just before, and the rest were split off after it
+  first-next : next_seat first.number first.splits ≡ next_seat first-number 0
+  first-next = ap₂ next_seat one.worked.same_number one.worked.same_splits
+
+  first-ended : HasEnded first-number 0 first.seen new.seen
+  first-ended =
+      j.last first-number 0
+      (subst (λ s. has_seat (s ∷ first.ended) (next_seat first-number 0) ≡ true) (sym first-next) (has_new first.ended (next_seat first-number 0)))
+
+  rest-ended : (k : ℕ) → k + 1 < length wires → HasEnded (pass.number ++ ((pass.splits + 1) + k) ∷ []) 0 rest.seen new.seen
+  rest-ended k below = j.still (pass.number ++ ((pass.splits + 1) + k) ∷ []) 0 (others.ended k below)
+
   done-first : IsDone first-number pass.seen new
   done-first =
-      let number : first.number ≡ first-number = one.worked.same_number in
-      let is-last : has_seat (first.number ∷ first.ended) first-number ≡ true =
-      subst (λ s. has_seat (s ∷ first.ended) first-number ≡ true) (sym number) (has_new first.ended first-number) in
-      done-later first-number pass.seen first new first-board j.others.0 j.others.1 (j.last first-number is-last)
+      done-later first-number pass.seen first new first-board j.others.0 j.others.1 first-ended.all
       (worked-done (child pass) first one.worked one.none)
 
   done-each : (k : ℕ) → k + 1 < length (wire ∷ wires) → IsDone (pass.number ++ (pass.splits + k) ∷ []) pass.seen new
@@ -239,22 +287,23 @@ module _ {W : Type 0} (streak : W → ℕ) (wire : W) (wires : List W) (pass fir
       let at : pass.splits + suc k ≡ (pass.splits + 1) + k = omega arith in
       let seat : Seat = pass.number ++ ((pass.splits + 1) + k) ∷ [] in
       subst (λ n. IsDone (pass.number ++ n ∷ []) pass.seen new) (sym at)
-      (done-later seat pass.seen rest new j.same_board j.seen.0 j.seen.1 (j.still seat (others.ended k (omega (arith, below))))
+      (done-later seat pass.seen rest new j.same_board j.seen.0 j.seen.1 (rest-ended k (omega (arith, below))).all
       (others.are_done.others k (omega (arith, below))))
 
-  ended-each : (k : ℕ) → k + 1 < length (wire ∷ wires) → has_seat new.ended (pass.number ++ (pass.splits + k) ∷ []) ≡ true
+  ended-each : (k : ℕ) → k + 1 < length (wire ∷ wires) → has_seat new.ended (next_seat (pass.number ++ (pass.splits + k) ∷ []) 0) ≡ true
   ended-each zero below =
       let at : pass.splits + 0 ≡ pass.splits = omega arith in
-      subst (λ l. has_seat l (pass.number ++ (pass.splits + 0) ∷ []) ≡ true) (sym j.ended)
-      (has_back rest.ended (first.number ∷ first.ended) (pass.number ++ (pass.splits + 0) ∷ [])
-      (subst (λ s. has_seat (s ∷ first.ended) (pass.number ++ (pass.splits + 0) ∷ []) ≡ true)
-      (ap (λ n. pass.number ++ n ∷ []) at ∙ sym one.worked.same_number)
-      (has_new first.ended (pass.number ++ (pass.splits + 0) ∷ []))))
+      let seat = next_seat (pass.number ++ (pass.splits + 0) ∷ []) 0 in
+      let same : next_seat first.number first.splits ≡ seat = first-next ∙ ap (λ n. next_seat (pass.number ++ n ∷ []) 0) (sym at) in
+      subst (λ l. has_seat l seat ≡ true) (sym j.ended)
+      (has_back rest.ended (next_seat first.number first.splits ∷ first.ended) seat
+      (subst (λ s. has_seat (s ∷ first.ended) seat ≡ true) (sym same) (has_new first.ended seat)))
   ended-each (suc k) below =
       let at : pass.splits + suc k ≡ (pass.splits + 1) + k = omega arith in
-      subst (λ l. has_seat l (pass.number ++ (pass.splits + suc k) ∷ []) ≡ true) (sym j.ended)
-      (has_front rest.ended (first.number ∷ first.ended) (pass.number ++ (pass.splits + suc k) ∷ [])
-      (subst (λ n. has_seat rest.ended (pass.number ++ n ∷ []) ≡ true) (sym at) (others.ended k (omega (arith, below)))))
+      let seat = next_seat (pass.number ++ (pass.splits + suc k) ∷ []) 0 in
+      subst (λ l. has_seat l seat ≡ true) (sym j.ended)
+      (has_front rest.ended (next_seat first.number first.splits ∷ first.ended) seat
+      (subst (λ n. has_seat rest.ended (next_seat (pass.number ++ n ∷ []) 0) ≡ true) (sym at) (others.ended k (omega (arith, below)))))
 
   own-still : entries_by pass.number new.seen ≡ entries_by pass.number rest.seen
   own-still =
@@ -299,11 +348,105 @@ module _ {W : Type 0} (streak : W → ℕ) (wire : W) (wires : List W) (pass fir
       (worker-blames streak wire (child pass) first one.worked one.blames t.0 (s.1.0 ∙ sym after-first ∙ after-rest) t.1.1)
       (beside refl)
 
+  -- ---- the rest had found the world stuck when it was stopped
+
+  after-rest : (seat : Seat) → entries_by seat new.seen ≡ entries_by seat rest.seen → entries_by seat j.seen.0 ≡ []
+  after-rest seat all = none-between seat rest.seen j.seen.0 (entries_by seat rest.seen) refl (ap (entries_by seat) (sym j.seen.1) ∙ all)
+
+  none-after : (seat : Seat) → entries_by seat new.seen ≡ [] → entries_by seat j.seen.0 ≡ []
+  none-after seat none = none-later rest.seen j.seen.0 new.seen j.seen.1 seat none
+
+  -- so none of the rest stopped it, nor one that would be split off from them
+  module _ (stop : Seat × Reason) (is : first_stop new.seen ≡ Some stop) (going : first_stop rest.seen ≡ None) where
+    after-stop : first_stop j.seen.0 ≡ Some stop
+    after-stop = sym (ap first_stop j.seen.1 ∙ stops-later rest.seen j.seen.0 going) ∙ is
+
+    not-by : (seat : Seat) → entries_by seat j.seen.0 ≡ [] → stop.0 ≢ seat
+    not-by seat none = stops-by seat j.seen.0 stop none after-stop
+
+    splits-rest : rest.splits + 1 ≡ (pass.splits + 1) + length wires
+    splits-rest = others.are_done.splits
+
+    in-rest : (k : ℕ) (below : Seat) → k + 1 < length wires → stop.0 ≢ pass.number ++ ((pass.splits + 1) + k) ∷ below
+    in-rest k [] few = not-by (pass.number ++ ((pass.splits + 1) + k) ∷ []) (after-rest (pass.number ++ ((pass.splits + 1) + k) ∷ []) (rest-ended k few).all)
+    in-rest k (n ∷ below) few =
+        let seat : Seat = pass.number ++ ((pass.splits + 1) + k) ∷ n ∷ below in
+        let same : (pass.number ++ ((pass.splits + 1) + k) ∷ []) ++ n ∷ below ≡ seat = append_assoc pass.number (((pass.splits + 1) + k) ∷ []) (n ∷ below) in
+        not-by seat (none-after seat (ap (λ s. entries_by s new.seen) (sym same) ∙ (rest-ended k few).none n below (omega arith)))
+
+    beyond : (k : ℕ) (below : Seat) → rest.splits ≤ k → stop.0 ≢ pass.number ++ k ∷ below
+    beyond k below most =
+        let number : new.number ≡ pass.number = j.same_number ∙ others.worked.same_number in
+        not-by (pass.number ++ k ∷ below) (none-after (pass.number ++ k ∷ below)
+        (ap (λ s. entries_by (s ++ k ∷ below) new.seen) (sym number) ∙ j.unmade k below (omega (arith, most, j.same_splits))))
+
+    not-of-rest : IsForeign (parent pass) stop.0
+    not-of-rest = record {
+      not_own = not-by pass.number (after-rest pass.number own-still);
+      not_below = λ k below most. dite (dec_lt k rest.splits) (λ (few : k < rest.splits). within k below most few) (λ (far : k < rest.splits → ⊥). beyond k below (omega (arith, far)));
+    }
+      where
+        within : (k : ℕ) (below : Seat) → pass.splits + 1 ≤ k → k < rest.splits → stop.0 ≢ pass.number ++ k ∷ below
+        within k below most few =
+            let at : (pass.splits + 1) + (k - (pass.splits + 1)) ≡ k = omega (arith, most) in
+            subst (λ n. stop.0 ≢ pass.number ++ n ∷ below) at (in-rest (k - (pass.splits + 1)) below (omega (arith, most, few, splits-rest)))
+
+    by-first : IsLost streak wire ⊎ (IsStopped (child pass) ⊎ IsForeign (child pass) stop.0) → Blamed
+    by-first (inl lost) = inl (inl lost)
+    by-first (inr (inl stopped)) = inr (inl stopped)
+    by-first (inr (inr foreign)) = inr (inr (elsewhere pass new stop is (both-foreign pass stop.0 foreign not-of-rest)))
+
+  -- nor did the first, where it had found the world stuck
+  module _ (stop : Seat × Reason) (is : first_stop new.seen ≡ Some stop) (going : first_stop first.seen ≡ None) where
+    later-stop : first_stop j.others.0 ≡ Some stop
+    later-stop = sym (ap first_stop j.others.1 ∙ stops-later first.seen j.others.0 going) ∙ is
+
+    not-first-by : (seat : Seat) → entries_by seat j.others.0 ≡ [] → stop.0 ≢ seat
+    not-first-by seat none = stops-by seat j.others.0 stop none later-stop
+
+    not-of-first : IsForeign (child pass) stop.0
+    not-of-first = record {
+      not_own = not-first-by first-number
+          (none-between first-number first.seen j.others.0 (entries_by first-number first.seen) refl (ap (entries_by first-number) (sym j.others.1) ∙ first-ended.all));
+      not_below = λ k below most. not-first-by (first-number ++ k ∷ below)
+          (none-later first.seen j.others.0 new.seen j.others.1 (first-number ++ k ∷ below) (first-ended.none k below most));
+    }
+
+    by-rest : IsOneLost streak wires ⊎ (IsStopped (parent pass) ⊎ IsForeign (parent pass) stop.0) → Blamed
+    by-rest (inl lost) = inl (inr lost)
+    by-rest (inr (inl stopped)) = inr (inl stopped)
+    by-rest (inr (inr foreign)) = inr (inr (elsewhere pass new stop is (both-foreign pass stop.0 not-of-first foreign)))
+
+  blames-first : (r : Reason) → Finishes first (Stopped r) → Finishes rest Stuck → r ≡ reason.Wire → Blamed
+  blames-first r here there for_wire =
+      let s : StopFor first r = stop-for first r here.1 in
+      let after-first : first_stop new.seen ≡ Some s.0 = stop-later first new j.others.0 j.others.1 s.0 s.1.0 in
+      by-first s.0 after-first (unstopped rest there.going)
+      (worker-blames streak wire (child pass) first one.worked one.blames s.0 s.1.0 (s.1.1 ∙ for_wire))
+
+  blames-rest : Finishes first Stuck → Finishes rest (Stopped reason.Wire) → BlamesOne streak wires (parent pass) rest (Stopped reason.Wire) → Blamed
+  blames-rest here there beside =
+      let t : StopFor rest reason.Wire = stop-for rest reason.Wire there.1 in
+      let after : first_stop new.seen ≡ Some t.0 = stop-later rest new j.seen.0 j.seen.1 t.0 t.1.0 in
+      by-rest t.0 after (unstopped first here.going) (near t.0 t.1.0 (beside refl))
+    where
+      near : (stop : Seat × Reason) → first_stop rest.seen ≡ Some stop → IsOneLost streak wires ⊎ (IsStopped (parent pass) ⊎ IsStoppedElsewhere (parent pass) rest)
+          → IsOneLost streak wires ⊎ (IsStopped (parent pass) ⊎ IsForeign (parent pass) stop.0)
+      near stop is (inl lost) = inl lost
+      near stop is (inr (inl stopped)) = inr (inl stopped)
+      near stop is (inr (inr foreign)) = inr (inr (subst (λ o. IsSomeAnd o (λ s. IsForeign (parent pass) s.0)) is foreign))
+
   blames-all : (a b : Finish) → Finishes first a → Finishes rest b → BlamesOne streak wires (parent pass) rest b
       → BlamesOne streak (wire ∷ wires) pass new (finish_of a b)
   blames-all Over b here there beside e = absurd (cc)
-  blames-all (Stopped r) b here there beside e =
+  blames-all (Stopped r) Over here there beside e = absurd (cc)
+  blames-all (Stopped r) (Stopped s) here there beside e =
       blames-both r here (subst (Finishes rest) e there) (subst (BlamesOne streak wires (parent pass) rest) e beside)
+  blames-all (Stopped r) Stuck here there beside e = blames-first r here there (let same : Stopped r ≡ Stopped reason.Wire = e in cc)
+  blames-all Stuck Over here there beside e = absurd (cc)
+  blames-all Stuck (Stopped s) here there beside e =
+      blames-rest here (subst (Finishes rest) e there) (subst (BlamesOne streak wires (parent pass) rest) e beside)
+  blames-all Stuck Stuck here there beside e = absurd (cc)
 
   pub both-work : WorkAll streak (wire ∷ wires) pass new (finish_of f g)
   both-work = record {
@@ -311,6 +454,7 @@ module _ {W : Type 0} (streak : W → ℕ) (wire : W) (wires : List W) (pass fir
     none = λ name. j.free name (others.none name);
     end = ends f g one.end others.end;
     own = j.own;
+    unmade = j.unmade;
     ended = ended-each;
     are_done = done-all;
     blames = blames-all f g one.end others.end others.blames;

@@ -7,7 +7,7 @@ use Rattle.std.proofs.lemmas.List.Elements.{All-append, All-cons, All-drop, All-
 use Rattle.fork_board.specs.Passes.{BoardValue, HoldsNone, Joins, PassValue}
 use Rattle.page_claims.specs.Calls.{IsSamePass}
 use Rattle.page_claims.specs.Values.{ClaimsValue, PassValue as ClaimValue}
-use Rattle.host_workers.specs.Claiming.{IsShare, share}
+use Rattle.host_workers.specs.Claiming.{share}
 use Rattle.host_workers.specs.Spread.{HasWorked, HaveWorked, IsDue, WorkAll, Works, child, finish_of, parent, states_of}
 use Rattle.host_workers.specs.declared.shared.State.{State}
 use Rattle.host_workers.specs.declared.shared.State.TheVariants.{Due, Begun, Done}

@@ -1,10 +1,12 @@
 -- The first reason to stop in a history.
 use Rattle.std.proofs.Common.{◌≡◌, ◌≢◌, [], ◌∷◌, ◌++◌, Bool, true, false, cond, Option, Some, None, option_map, refl, sym, ap, ◌∙◌}
 use Rattle.std.specs.Prelude.{IsSome}
-use Rattle.forest_history.specs.World as history
-use Rattle.forest_history.specs.Rows.{Row, over, stopped, idle, took, wake_failed, spent, dropped, kept, halted, does, first_reason}
-use Rattle.forest_history.specs.Histories.{Entry, row, told, heard, tell_failed, hear_failed, History, Record, Seat, record_after, replay}
-use Rattle.forest_model.specs.Forest.{machines}
+use Rattle.talking_history.specs.World as history
+use Rattle.talking_history.specs.Rows.{Row, over, stopped, stuck, idle, took, wake_failed, spent, dropped, kept, halted, does}
+use Rattle.forest_history.specs.Rows.{first_reason}
+use Rattle.forest_history.specs.Histories.{Seat}
+use Rattle.talking_history.specs.Histories.{Entry, row, told, heard, tell_failed, hear_failed, History, Record, record_after, replay}
+use Rattle.forest_model.specs.Forest.{machines, talks}
 use Rattle.forest_model.specs.Machine.{Machine}
 use Rattle.turn_board.specs.History.{entries_by}
 use Rattle.turn_board.specs.Seats.{is_seat}
@@ -65,10 +67,11 @@ abbrev halted_by : {R : Type 0} → Option R → Option R → Option R
 halted_by None before = before
 halted_by (Some r) before = first_reason before r
 
-row-halted : (x : Row Reason) (w : history.World Machine Reason) → (does machines x w).halted ≡ halted_by (reason_of_row x) w.halted
+row-halted : (x : Row Reason) (w : history.World Machine Reason) → (does machines talks x w).halted ≡ halted_by (reason_of_row x) w.halted
 unfolding does
 row-halted over w = refl
 row-halted (stopped r) w = refl
+row-halted stuck w = refl
 row-halted idle w = refl
 row-halted (took name) w = refl
 row-halted wake_failed w = refl
@@ -78,7 +81,7 @@ row-halted (kept name k) w = refl
 row-halted (halted r) w = refl
 
 entry-halted : (seat : Seat) (e : Entry Reason) (r : Record Machine Reason)
-    → (record_after machines seat e r).world.halted ≡ halted_by (reason_of e) r.world.halted
+    → (record_after machines talks seat e r).world.halted ≡ halted_by (reason_of e) r.world.halted
 unfolding record_after
 entry-halted seat (row x) r = row-halted x r.world
 entry-halted seat (told image page) r = refl
@@ -98,11 +101,11 @@ first-none (Some r) = refl
 
 -- a world's reason to stop is the first of its history
 pub replay-halted : (log : History Reason) (r : Record Machine Reason)
-    → (replay machines log r).world.halted ≡ first_of r.world.halted (first_stop log)
+    → (replay machines talks log r).world.halted ≡ first_of r.world.halted (first_stop log)
 unfolding replay first_stop
 replay-halted [] r = first-none r.world.halted
 replay-halted (e ∷ rest) r =
-    replay-halted rest (record_after machines e.0 e.1 r) ∙ ap (λ h. first_of h (first_stop rest)) (entry-halted e.0 e.1 r)
+    replay-halted rest (record_after machines talks e.0 e.1 r) ∙ ap (λ h. first_of h (first_stop rest)) (entry-halted e.0 e.1 r)
     ∙ first-then e.0 (reason_of e.1) r.world.halted (first_stop rest)
 
 pub seen-halted : (pass : PassValue) → (seen_record pass).world.halted ≡ option_map (λ s. s.1) (first_stop pass.seen)
@@ -114,3 +117,11 @@ going-unstopped pass going was = at (first_stop pass.seen) was (sym (seen-halted
     at : (stop : Option (Seat × Reason)) → IsSome stop → option_map (λ s. s.1) stop ≡ None → ⊥
     at None h e = absurd (cc)
     at (Some s) h e = absurd (cc)
+
+-- where there is no reason on record, none was given
+pub unstopped : (pass : PassValue) → (seen_record pass).world.halted ≡ None → first_stop pass.seen ≡ None
+unstopped pass going = at (first_stop pass.seen) refl (sym (seen-halted pass) ∙ going)
+  where
+    at : (o : Option (Seat × Reason)) → first_stop pass.seen ≡ o → option_map (λ s. s.1) o ≡ None → first_stop pass.seen ≡ None
+    at None is e = is
+    at (Some s) is e = absurd (cc)

@@ -1,6 +1,7 @@
 -- What a pass keeps from entry to entry, and whom it blames.
 use Rattle.std.proofs.Common.{◌≡◌, ◌≢◌, ◌⊎◌, inl, inr, ℕ, [], ◌∷◌, ◌++◌, append_assoc, append-nil, Option, Some, None, Result, Ok, Err, refl, sym, ap, ◌∙◌, subst}
 use Rattle.std.specs.Prelude.{is_some, IsSome}
+use Rattle.std.specs.Option.{IfSome}
 use Rattle.std.specs.declared.alloc.AllocError.{AllocError}
 use Rattle.std.proofs.lemmas.List.Elements.{filter-append}
 use Rattle.turn_board.specs.History.{entries_by}
@@ -10,9 +11,10 @@ use Rattle.image_depot.specs.Key.{Shelves}
 use Rattle.image_depot.specs.Reply.{Delivery}
 use Rattle.host_fetch.specs.Heard.{AreHeardOf, Replies}
 use Rattle.forest_tree.specs.Tree.{Path}
-use Rattle.forest_history.specs.Rows.{How, halted}
-use Rattle.forest_history.specs.Histories.{Entry, row, History, IsLegal, Seat}
-use Rattle.forest_model.specs.Forest.{machines}
+use Rattle.talking_history.specs.Rows.{How, halted}
+use Rattle.forest_history.specs.Histories.{Seat}
+use Rattle.talking_history.specs.Histories.{Entry, row, History, IsLegal}
+use Rattle.forest_model.specs.Forest.{machines, talks}
 use Rattle.vm_cell.specs.Keyed.{IsOfDepot}
 use Rattle.world_core.specs.declared.reason.Reason.{Reason}
 use Rattle.world_core.specs.declared.reason.Reason.TheVariants as reason
@@ -20,15 +22,17 @@ use Rattle.world_core.specs.declared.world.Placed.{Placed}
 use Rattle.world_core.specs.declared.world.Placed.TheVariants.{Done, Parked, Dropped, Memory}
 use Rattle.world_core.specs.declared.world.Taken.{Taken}
 use Rattle.world_core.specs.declared.world.Taken.TheVariants as taken
-use Rattle.world_core.specs.Answers.{IsLentOf, home_by}
+use Rattle.sibling_port.specs.declared.talk.Talk.{Talk}
+use Rattle.world_core.specs.Answers.{IsLentOf, home_by, said_by}
 use Rattle.world_core.proofs.Giving.{home-wants-none}
 use Rattle.world_core.specs.Lent.{IsSameLease, Lent}
 use Rattle.world_core.specs.Received.{lent_without_here}
 use Rattle.fork_board.specs.Answers.{IsTaken, Places}
 use Rattle.fork_board.specs.Follows.{depot_of, opening_record}
-use Rattle.fork_board.specs.Holds.{HoldsOne}
+use Rattle.fork_board.specs.Holds.{HoldsOne, HoldsPlaced}
 use Rattle.fork_board.specs.Notes.{heard_entry, placed_entry, taken_entry, told_entry}
 use Rattle.fork_board.specs.Passes.{BoardValue, FreeAfter, IsFree, Leaves, Makes, PassValue}
+use Rattle.fork_board.proofs.Holding.{holds-placed}
 use Rattle.fork_board.proofs.Returning.{held-same}
 use Rattle.host_workers.specs.Finishes.{IsStopped, IsStoppedBy, first_stop, reason_of, stop_or}
 use Rattle.page_claims.specs.Values.{ClaimsValue, PassValue as ClaimValue}
@@ -48,6 +52,7 @@ use Rattle.host_workers.proofs.Stops.{stops-by, stops-later, stops-on}
 pub silent-taken : (answer : Taken) → reason_of (taken_entry answer) ≡ None
 silent-taken taken.Over = refl
 silent-taken (taken.Stopped r) = refl
+silent-taken taken.Stuck = refl
 silent-taken taken.Idle = refl
 silent-taken (taken.Took lease) = refl
 silent-taken taken.Memory = refl
@@ -230,7 +235,7 @@ worked-last {a} {b} {c} first then last board number splits rest seen goes w = r
   goes = goes-both a b c first.number then.number number rest w.rest goes w.goes;
   own = w.own;
   unmade = w.unmade;
-  legal = subst (λ (v : BoardValue). IsLegal machines last.seen (opening_record v.opening)) board w.legal;
+  legal = subst (λ (v : BoardValue). IsLegal machines talks last.seen (opening_record v.opening)) board w.legal;
 }
 
 pub stays-worked : {c : Stage} (first then last : PassValue) → Stays first then → Worked runs c then last → Worked runs c first last
@@ -436,3 +441,24 @@ fit-on claims depot old new hearing claimant fit = record {
 
 pub share-of : (claims own : ClaimsValue) (pass : ClaimValue) → own ≡ claims → IsShare own pass → IsShare claims pass
 share-of claims own pass same is = subst (λ (c : ClaimsValue). IsShare c pass) same is
+
+-- ---- a machine that is handed back
+
+-- it came back, or memory was wanting for its call or its talk
+pub record CameBack (old new : PassValue) (placed : Placed) : Type 0 where
+  pub worked : Worked runs (stage_placed placed) old new
+  pub holds : HoldsPlaced new placed
+  pub spares : Spares old new
+
+module _ (old new : PassValue) (lease : Lent) (one : HoldsOne old lease) (placed : Placed) where
+  pub came-back : (how : How) → Makes old new (placed_entry how lease.name lease.ran placed) → Places how lease new placed → CameBack old new placed
+  came-back how made places = record {
+    worked = worked-one old new (placed_entry how lease.name lease.ran placed) made (steps-placed how lease.name lease.ran placed);
+    holds = holds-placed old new lease one how placed made places;
+    spares = spares-placed old new how lease.name lease.ran placed made;
+  }
+
+  pub said-back : (what : Option Talk) → IsSome what → IfSome what (λ said. Makes old new (placed_entry (said_by said) lease.name lease.ran placed))
+      → IfSome what (λ said. Places (said_by said) lease new placed) → CameBack old new placed
+  said-back None there made places = absurd (cc)
+  said-back (Some said) there made places = came-back (said_by said) made places

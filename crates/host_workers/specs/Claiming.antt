@@ -1,5 +1,5 @@
 -- What workers claim pages by.
-use Rattle.std.specs.Prelude.{◌≡◌, ℕ}
+use Rattle.std.specs.Prelude.{◌≡◌}
 use Rattle.page_claims.specs.Calls.{fresh}
 use Rattle.page_claims.specs.Values.{ClaimsValue, PassValue}
 

@@ -1,12 +1,15 @@
--- How the work on a board ends: the root has ended, or the world was stopped; and which pass stopped it.
-use Rattle.std.specs.Prelude.{◌≡◌, ◌≢◌, ℕ, ◌+◌, ◌<◌, ◌≤◌, Bool, true, false, [], ◌∷◌, ◌++◌, Option, Some, None, IsSome, IsSomeAnd}
+-- How the work on a board ends: the root has ended, or the world was stopped, or no machine makes a step any more; and which
+-- pass stopped it.
+use Rattle.std.specs.Prelude.{◌≡◌, ◌≢◌, ◌⊎◌, ℕ, ◌+◌, ◌<◌, ◌≤◌, Bool, true, false, [], ◌∷◌, ◌++◌, Option, Some, None, IsSome, IsSomeAnd}
 use Rattle.std.specs.Option.{IfSome}
 use Rattle.forest_tree.specs.Tree.{Path}
 use Rattle.forest_tree.specs.Settle.{has_ended}
-use Rattle.forest_history.specs.Places.{spots}
-use Rattle.forest_history.specs.Rows.{Row, over, stopped, idle, took, wake_failed, spent, dropped, kept, halted}
-use Rattle.forest_history.specs.Histories.{Entry, row, told, heard, tell_failed, hear_failed, History, IsLegal, Seat, holding}
-use Rattle.forest_model.specs.Forest.{machines}
+use Rattle.sibling_forest.specs.Finish.{rests}
+use Rattle.talking_history.specs.Places.{bare, boxes}
+use Rattle.talking_history.specs.Rows.{Row, over, stopped, stuck, idle, took, wake_failed, spent, dropped, kept, halted}
+use Rattle.forest_history.specs.Histories.{Seat, holding}
+use Rattle.talking_history.specs.Histories.{Entry, row, told, heard, tell_failed, hear_failed, History, IsLegal}
+use Rattle.forest_model.specs.Forest.{machines, talks}
 use Rattle.turn_board.specs.History.{entries_by}
 use Rattle.world_core.specs.declared.reason.Reason.{Reason}
 use Rattle.fork_board.specs.Follows.{opening_record}
@@ -19,12 +22,40 @@ use Rattle.host_workers.specs.declared.finish.Finish.TheVariants as finish
 
 -- the root has ended, after all that the pass has seen
 abbrev pub is_over : PassValue → Bool
-is_over pass = has_ended (spots machines) (seen_record pass).world.tree
+is_over pass = has_ended (boxes machines talks) (seen_record pass).world.tree
 
--- the answer of the work: the root has ended, or it lives, and this is the first reason to stop
+-- an entry of the history tells that the world is stuck: none of its machines makes a step any more
+pub record HasStuck {R : Type 0} (log : History R) : Type 0 where
+  pub before : History R
+  pub seat : Seat
+  pub later : History R
+  pub entry : log ≡ before ++ (seat, row stuck) ∷ later
+
+-- the root lives, there is no reason to stop, and the pass has seen that the world is stuck
+pub record IsStuck (pass : PassValue) : Type 0 where
+  pub lives : is_over pass ≡ false
+  pub going : (seen_record pass).world.halted ≡ None
+  pub found : HasStuck pass.seen
+
+-- the answer of the work: the root has ended; or it lives, and this is the first reason to stop; or the world is stuck
 abbrev pub Finishes : PassValue → Finish → Type 0
 Finishes pass finish.Over = is_over pass ≡ true
 Finishes pass (finish.Stopped reason) = (is_over pass ≡ false) × ((seen_record pass).world.halted ≡ Some reason)
+Finishes pass finish.Stuck = IsStuck pass
+
+-- the reason for which the world was stopped, if it was
+abbrev pub stopped_for : Finish → Option Reason
+stopped_for finish.Over = None
+stopped_for (finish.Stopped reason) = Some reason
+stopped_for finish.Stuck = None
+
+-- the family has come to its end: the root has ended, or no machine makes a step any more
+abbrev pub IsAtEnd : PassValue → Type 0
+IsAtEnd pass = (is_over pass ≡ true) ⊎ IsStuck pass
+
+-- no machine of the family makes a step, after all that the pass has seen
+abbrev pub is_at_rest : PassValue → Bool
+is_at_rest pass = rests machines talks (bare (seen_record pass).world.tree)
 
 -- ---- who stopped the world
 
@@ -32,6 +63,7 @@ Finishes pass (finish.Stopped reason) = (is_over pass ≡ false) × ((seen_recor
 abbrev pub reason_of_row : {R : Type 0} → Row R → Option R
 reason_of_row over = None
 reason_of_row (stopped reason) = None
+reason_of_row stuck = None
 reason_of_row idle = None
 reason_of_row (took name) = None
 reason_of_row wake_failed = None
@@ -82,7 +114,7 @@ pub record WorkedAll (old new : PassValue) : Type 0 where
   pub same_number : new.number ≡ old.number
   pub rest : History Reason
   pub seen : new.seen ≡ old.seen ++ rest
-  pub legal : IsLegal machines new.seen (opening_record old.board.opening)
+  pub legal : IsLegal machines talks new.seen (opening_record old.board.opening)
 
 -- ---- how many have worked
 

@@ -1,7 +1,8 @@
 -- Work that is spread over passes which were split off from one.
-use Rattle.std.specs.Prelude.{◌≡◌, ◌⊎◌, ℕ, zero, suc, ◌+◌, ◌<◌, true, List, length, [], ◌∷◌, ◌++◌}
+use Rattle.std.specs.Prelude.{◌≡◌, ◌⊎◌, ℕ, zero, suc, ◌+◌, ◌<◌, ◌≤◌, true, List, length, [], ◌∷◌, ◌++◌}
+use Rattle.forest_history.specs.Histories.{Seat}
 use Rattle.turn_board.specs.History.{entries_by}
-use Rattle.turn_board.specs.Seats.{has_seat}
+use Rattle.turn_board.specs.Seats.{has_seat, next_seat}
 use Rattle.world_core.specs.declared.reason.Reason.TheVariants as reason
 use Rattle.fork_board.specs.Passes.{BoardValue, HoldsNone, PassValue}
 use Rattle.page_claims.specs.Calls.{IsSamePass}
@@ -14,7 +15,7 @@ use Rattle.host_workers.specs.Stays.{Blames, Worked}
 use Rattle.host_workers.specs.declared.shared.State.{State}
 use Rattle.host_workers.specs.declared.shared.State.TheVariants.{Due, Begun, Done}
 use Rattle.host_workers.specs.declared.finish.Finish.{Finish}
-use Rattle.host_workers.specs.declared.finish.Finish.TheVariants.{Over, Stopped}
+use Rattle.host_workers.specs.declared.finish.Finish.TheVariants.{Over, Stopped, Stuck}
 
 -- the pass after one was split off, and that one
 abbrev pub parent : PassValue → PassValue
@@ -23,10 +24,13 @@ parent pass = record pass { splits = pass.splits + 1 }
 abbrev pub child : PassValue → PassValue
 child pass = record pass { number = pass.number ++ pass.splits ∷ []; splits = 0; mine = []; ended = [] }
 
--- the end of two, of whom each came to one
+-- the end of two, of whom each came to one: a world in which no machine makes a step may still be stopped
 abbrev pub finish_of : Finish → Finish → Finish
 finish_of Over second = Over
-finish_of (Stopped r) second = second
+finish_of (Stopped r) Over = Over
+finish_of (Stopped r) (Stopped s) = Stopped s
+finish_of (Stopped r) Stuck = Stopped r
+finish_of Stuck second = second
 
 -- ---- states
 
@@ -84,6 +88,7 @@ pub record WorkAll {W : Type 0} (streak : W → ℕ) (wires : List W) (old new :
   pub none : HoldsNone new
   pub end : Finishes new finish
   pub own : entries_by new.number new.seen ≡ new.mine
-  pub ended : (k : ℕ) → k + 1 < length wires → has_seat new.ended (old.number ++ (old.splits + k) ∷ []) ≡ true
+  pub unmade : (k : ℕ) (below : Seat) → new.splits ≤ k → entries_by (new.number ++ k ∷ below) new.seen ≡ []
+  pub ended : (k : ℕ) → k + 1 < length wires → has_seat new.ended (next_seat (old.number ++ (old.splits + k) ∷ []) 0) ≡ true
   pub are_done : AreDone (length wires) old new
   pub blames : BlamesOne streak wires old new finish

@@ -1,7 +1,7 @@
 -- What a worker does, entry by entry.
 use Rattle.std.specs.Prelude.{◌≡◌, [], ◌∷◌}
-use Rattle.forest_history.specs.Rows.{over, stopped, idle, took, wake_failed, spent, dropped, kept, halted}
-use Rattle.forest_history.specs.Histories.{Entry, row, told, heard, tell_failed, hear_failed, History}
+use Rattle.talking_history.specs.Rows.{over, stopped, stuck, idle, took, wake_failed, spent, dropped, kept, halted}
+use Rattle.talking_history.specs.Histories.{Entry, row, told, heard, tell_failed, hear_failed, History}
 use Rattle.world_core.specs.declared.reason.Reason.{Reason}
 use Rattle.world_core.specs.declared.reason.Reason.TheVariants.{Memory}
 
@@ -14,7 +14,7 @@ pub data Stage : Type 0 where
   -- memory was wanting to wake one
   short : Stage
   -- memory was wanting for the call of the one that it runs
-  stuck : Stage
+  wanting : Stage
   -- it has stopped the world, and is to give its machine back
   halting : Stage
   -- it has found that there is nothing more to be done
@@ -25,7 +25,7 @@ abbrev pub MayReturn : Stage → Type 0
 MayReturn free = ⊥
 MayReturn runs = Unit {0}
 MayReturn short = ⊥
-MayReturn stuck = ⊥
+MayReturn wanting = ⊥
 MayReturn halting = Unit {0}
 MayReturn done = ⊥
 
@@ -34,7 +34,7 @@ abbrev pub Halts : Stage → Reason → Stage → Type 0
 Halts free reason then = ⊥
 Halts runs reason then = then ≡ halting
 Halts short reason then = (reason ≡ Memory) × (then ≡ free)
-Halts stuck reason then = (reason ≡ Memory) × (then ≡ halting)
+Halts wanting reason then = (reason ≡ Memory) × (then ≡ halting)
 Halts halting reason then = ⊥
 Halts done reason then = ⊥
 
@@ -42,12 +42,13 @@ Halts done reason then = ⊥
 abbrev pub Steps : Stage → Entry Reason → Stage → Type 0
 Steps from (row over) then = (from ≡ free) × (then ≡ done)
 Steps from (row (stopped reason)) then = (from ≡ free) × (then ≡ done)
+Steps from (row stuck) then = (from ≡ free) × (then ≡ done)
 Steps from (row idle) then = (from ≡ free) × (then ≡ free)
 Steps from (row (took name)) then = (from ≡ free) × (then ≡ runs)
 Steps from (row wake_failed) then = (from ≡ free) × (then ≡ short)
 Steps from (row (spent how name k)) then = MayReturn from × (then ≡ free)
 Steps from (row (dropped name)) then = MayReturn from × (then ≡ free)
-Steps from (row (kept name k)) then = (from ≡ runs) × (then ≡ stuck)
+Steps from (row (kept name k)) then = (from ≡ runs) × (then ≡ wanting)
 Steps from (row (halted reason)) then = Halts from reason then
 Steps from (told image page) then = (from ≡ runs) × (then ≡ runs)
 Steps from (heard place) then = (from ≡ runs) × (then ≡ runs)

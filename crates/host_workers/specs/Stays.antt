@@ -1,8 +1,9 @@
 -- What a worker does on its way.
 use Rattle.std.specs.Prelude.{◌≡◌, ◌⊎◌, ℕ, ◌≤◌, [], ◌∷◌, ◌++◌}
 use Rattle.forest_tree.specs.Tree.{Path}
-use Rattle.forest_history.specs.Histories.{History, IsLegal, Seat}
-use Rattle.forest_model.specs.Forest.{machines}
+use Rattle.forest_history.specs.Histories.{Seat}
+use Rattle.talking_history.specs.Histories.{History, IsLegal}
+use Rattle.forest_model.specs.Forest.{machines, talks}
 use Rattle.host_fetch.specs.declared.error.FetchError.{FetchError}
 use Rattle.host_fetch.specs.declared.error.FetchError.TheVariants as fault
 use Rattle.world_core.specs.declared.reason.Reason.{Reason}
@@ -17,7 +18,7 @@ use Rattle.fork_board.specs.Notes.{placed_entry}
 use Rattle.fork_board.specs.Passes.{IsFree, IsHeld, Makes, PassValue}
 use Rattle.host_workers.specs.Finishes.{Finishes, IsStopped, IsStoppedBy}
 use Rattle.host_workers.specs.Lost.{IsLost}
-use Rattle.host_workers.specs.Stages.{Goes, Stage, done, free, runs, stuck}
+use Rattle.host_workers.specs.Stages.{Goes, Stage, done, free, runs, wanting}
 use Rattle.host_workers.specs.declared.worker.Turned.{Turned}
 use Rattle.host_workers.specs.declared.worker.Turned.TheVariants.{Finished, Idle, Ran}
 
@@ -50,7 +51,7 @@ pub record Worked (from then : Stage) (old new : PassValue) : Type 0 where
   pub own : entries_by new.number new.seen ≡ new.mine
   -- no pass that is yet to be split off from it has made an entry, nor has one that would be split off from such
   pub unmade : (k : ℕ) (below : Seat) → new.splits ≤ k → entries_by (new.number ++ k ∷ below) new.seen ≡ []
-  pub legal : IsLegal machines new.seen (opening_record old.board.opening)
+  pub legal : IsLegal machines talks new.seen (opening_record old.board.opening)
 
 -- while it runs a machine, the pass may have told and heard, and has seen the entries of others. It holds the machines that
 -- it held, and no others, and has not stopped the world
@@ -83,7 +84,7 @@ abbrev pub stage_placed : Placed → Stage
 stage_placed Done = free
 stage_placed Parked = free
 stage_placed Dropped = free
-stage_placed (Memory lease) = stuck
+stage_placed (Memory lease) = wanting
 
 -- the pass has given back this machine, into a world that it had seen to be stopped
 pub record GoesBackStopped (lease : Lent) (new : PassValue) : Type 0 where

@@ -1,12 +1,12 @@
 //! All workers of a board, one to a wire.
 
-ghost use Rattle.std.specs.Prelude.{◌≡◌, ◌⊎◌, ℕ, ◌+◌, ◌-◌, ◌<◌, ◌≤◌, length, map};
+ghost use Rattle.std.specs.Prelude.{◌≡◌, ◌⊎◌, ℕ, ◌+◌, ◌-◌, ◌<◌, ◌≤◌, true, length, map};
 ghost use Rattle.std.specs.List.{All};
 ghost use Rattle.std.specs.Thread.{IsSend, IsSync};
 ghost use Rattle.fork_board.specs.Follows.{depot_of};
 ghost use Rattle.fork_board.specs.Passes.{HoldsNone, PassValue};
 ghost use Rattle.page_claims.specs.Calls.{IsSamePass};
-ghost use Rattle.host_workers.specs.Finishes.{AreDone, Finishes, IsStopped, IsStoppedElsewhere, WorkedAll};
+ghost use Rattle.host_workers.specs.Finishes.{AreDone, Finishes, IsStopped, IsStoppedElsewhere, WorkedAll, is_at_rest};
 ghost use Rattle.host_workers.specs.Lost.{IsOneLost};
 ghost use Rattle.host_workers.specs.Spread.{HasWorked, HaveWorked, IsDue, WorkAll, finish_of, states_of};
 
@@ -35,12 +35,16 @@ fn finish_of(first: Finish, second: Finish) -> Finish
 {
     match first {
         Finish::Over => Finish::Over,
-        Finish::Stopped(_) => second,
+        Finish::Stopped(reason) => match second {
+            Finish::Stuck => Finish::Stopped(reason),
+            Finish::Over | Finish::Stopped(_) => second,
+        },
+        Finish::Stuck => second,
     }
 }
 
 /// Lets a worker for each of the wires take machines and run them, on a thread of its own where there can be one, until
-/// the root has ended or the world was stopped. Their passes, by which they enter turns and claim pages, are split off from
+/// the root has ended, the world was stopped, or no machine makes a step any more. Their passes, by which they enter turns and claim pages, are split off from
 /// these, and are joined to them again.
 /// The workers have the numbers from 0 on at the gate.
 pub fn run_hosts<R: AllocGlobal + Threads + Wait + Sync, W: Wire + Send, G: Gate + Sync>(
@@ -65,6 +69,7 @@ pub fn run_hosts<R: AllocGlobal + Threads + Wait + Sync, W: Wire + Send, G: Gate
     ensures none { HoldsNone result.0 }
     ensures claims { IsSamePass claiming result.1 }
     ensures finish { Finishes result.0 result.2 }
+    ensures rests { result.2 ≡ Finish.Stuck → is_at_rest result.0 ≡ true }
     ensures done { AreDone (length wires.new) pass result.0 }
     ensures wire { result.2 ≡ Finish.Stopped Reason.Wire → IsOneLost W.streak wires.new ⊎ (IsStopped pass ⊎ IsStoppedElsewhere pass result.0) }
     ensures seeds { map W.seeds wires.new ≡ map W.seeds wires.old }

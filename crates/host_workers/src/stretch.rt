@@ -1,8 +1,9 @@
 //! How a worker runs a machine that it holds.
 
-ghost use Rattle.std.specs.Prelude.{◌≡◌, IfErr};
+ghost use Rattle.std.specs.Prelude.{◌≡◌, IfErr, IfOk};
+ghost use Rattle.vm_cell.specs.Steps.{Stands};
 ghost use Rattle.world_core.specs.Answers.{IsLentOf};
-ghost use Rattle.world_core.specs.Lent.{IsSameLease};
+ghost use Rattle.world_core.specs.Lent.{IsSameLease, vm_of};
 ghost use Rattle.host_workers.specs.Fit.{IsFit};
 ghost use Rattle.host_workers.specs.Lost.{IsLost};
 ghost use Rattle.host_workers.specs.Stays.{Stays};
@@ -21,7 +22,8 @@ use wire_fates::Wire;
 use world_core::Lease;
 
 impl Worker<'_> {
-    /// Runs a machine to its end or to a call, or until there is nothing more to be done after a stretch.
+    /// Runs a machine to its end, to a call or to a talk, or until there is nothing more to be done after a stretch. It tells
+    /// where the machine stands then.
     pub(crate) fn run_on<R: Wait, W: Wire, G>(
         &mut self,
         rt: &R,
@@ -29,11 +31,12 @@ impl Worker<'_> {
         pass: Pass,
         lease: &mut Lease,
         wire: &mut W,
-    ) -> (Pass, Result<(), FetchError>)
+    ) -> (Pass, Result<Stepped, FetchError>)
         requires board { pass.board ≡ shared.now.board.now }
         requires of_depot { IsLentOf shared.now.depot.now lease.old }
         requires fit { IsFit shared.now.claims.now shared.now.depot.now self.old }
         ensures same { IsSameLease lease.old lease.new }
+        ensures stands { IfOk result.1 (Stands (vm_of lease.new)) }
         ensures stays { Stays pass result.0 }
         ensures fit { IsFit shared.now.claims.now shared.now.depot.now self.new }
         ensures wire { IfErr result.1 (λ error. error ≡ FetchError.Wire → IsLost W.streak wire.new) }
@@ -45,11 +48,11 @@ impl Worker<'_> {
             pass = after;
             match ran {
                 Ok(Stepped::Went) => self.look_up(&shared.lookout),
-                Ok(_) => return (pass, Ok(())),
+                Ok(why) => return (pass, Ok(why)),
                 Err(error) => return (pass, Err(error)),
             }
             if shared.lookout.is_over() {
-                return (pass, Ok(()));
+                return (pass, Ok(Stepped::Went));
             }
         }
         unreachable!()
@@ -84,6 +87,7 @@ impl Worker<'_> {
         requires of_depot { IsLentOf shared.now.depot.now lease.old }
         requires fit { IsFit shared.now.claims.now shared.now.depot.now self.old }
         ensures same { IsSameLease lease.old lease.new }
+        ensures stands { IfOk result.1 (Stands (vm_of lease.new)) }
         ensures stays { Stays pass result.0 }
         ensures fit { IsFit shared.now.claims.now shared.now.depot.now self.new }
         ensures wire { IfErr result.1 (λ error. error ≡ FetchError.Wire → IsLost W.streak wire.new) }

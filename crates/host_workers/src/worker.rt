@@ -1,6 +1,8 @@
 //! A worker: it takes machines out of the world of a board, runs them, and hands them back.
 
 ghost use Rattle.std.specs.Prelude.{◌≡◌, ◌≢◌, ◌⊎◌, []};
+ghost use Rattle.vm_cell.specs.Steps.{Stands};
+ghost use Rattle.world_core.specs.Lent.{vm_of};
 ghost use Rattle.fork_board.specs.Holds.{HoldsOne, HoldsPlaced};
 ghost use Rattle.fork_board.specs.Passes.{HoldsNone};
 ghost use Rattle.host_workers.specs.Claiming.{IsShare};
@@ -23,7 +25,7 @@ use host_fetch::FetchError;
 use page_claims::ClaimPass;
 use std::alloc::Global;
 use std::sync::Wait;
-use vm_cell::Slots;
+use vm_cell::{Slots, Stepped};
 use wire_fates::Wire;
 use world_core::{Lease, Placed, Reason, Taken};
 
@@ -45,12 +47,13 @@ pub(crate) struct Worker<'a> {
 enum Turned {
     /// There is nothing more to be done.
     Finished(Finish),
-    /// No machine was ready.
+    /// No machine was ready, and another worker runs one.
     Idle,
     Ran,
 }
 
-/// Takes machines and runs them until the root has ended or the world was stopped. The pages of clones come over a wire.
+/// Takes machines and runs them until the root has ended, the world was stopped, or no machine makes a step any more. The
+/// pages of clones come over a wire.
 pub(crate) fn work<R: Wait, W: Wire, G: Gate>(
     rt: &R,
     shared: &Shared<G>,
@@ -153,6 +156,7 @@ impl<'a> Worker<'a> {
         match taken {
             Taken::Over => (pass, Turned::Finished(Finish::Over)),
             Taken::Stopped(reason) => (pass, Turned::Finished(Finish::Stopped(reason))),
+            Taken::Stuck => (pass, Turned::Finished(Finish::Stuck)),
             Taken::Idle => (pass, Turned::Idle),
             Taken::Memory => (board.stop(rt, pass, Reason::Memory), Turned::Ran),
             Taken::Took(lease) => {
@@ -184,7 +188,7 @@ impl<'a> Worker<'a> {
         let mut lease = lease;
         let (pass, ran) = self.run_on(rt, shared, pass, &mut lease, wire);
         match ran {
-            Ok(()) => spend(rt, shared, pass, lease),
+            Ok(why) => spend(rt, shared, pass, lease, why),
             Err(error) => give_up(rt, shared, pass, lease, stop_for(error)),
         }
     }
@@ -201,33 +205,42 @@ fn stop_for(error: FetchError) -> Reason
 }
 
 /// Hands a machine back. Where memory is wanting for its call, the world is stopped.
-fn spend<R: Wait, G>(rt: &R, shared: &Shared<G>, pass: Pass, lease: Lease) -> Pass
+fn spend<R: Wait, G>(rt: &R, shared: &Shared<G>, pass: Pass, lease: Lease, why: Stepped) -> Pass
     requires board { pass.board ≡ shared.now.board.now }
     requires one { HoldsOne pass lease }
+    requires stands { Stands (vm_of lease) why }
     ensures worked { Worked runs free pass result }
     ensures none { HoldsNone result }
     ensures spares { Spares pass result }
 {
-    match hand_back(rt, shared, pass, lease) {
+    match hand_back(rt, shared, pass, lease, why) {
         (pass, Placed::Done | Placed::Parked | Placed::Dropped) => pass,
         (pass, Placed::Memory(lease)) => give_up(rt, shared, pass, lease, Reason::Memory),
     }
 }
 
-/// Makes the call at which a machine stands, or gives it back.
-fn hand_back<R: Wait, G>(rt: &R, shared: &Shared<G>, pass: Pass, lease: Lease) -> (Pass, Placed)
+/// Makes the call or the talk at which a machine stands, or gives it back.
+fn hand_back<R: Wait, G>(
+    rt: &R,
+    shared: &Shared<G>,
+    pass: Pass,
+    lease: Lease,
+    why: Stepped,
+) -> (Pass, Placed)
     requires board { pass.board ≡ shared.now.board.now }
     requires one { HoldsOne pass lease }
+    requires stands { Stands (vm_of lease) why }
     ensures worked { Worked runs (stage_placed result.1) pass result.0 }
     ensures holds { HoldsPlaced result.0 result.1 }
     ensures spares { Spares pass result.0 }
 {
     let board = shared.board;
-    match lease.call() {
-        Some(Call::Clone(_)) => board.fork(rt, shared.alloc, pass, lease, shared.depot),
-        Some(Call::Join(_)) => board.join(rt, shared.alloc, pass, lease),
-        Some(Call::Kill(_)) => board.kill(rt, pass, lease),
-        None => board.give(rt, pass, lease),
+    match why {
+        Stepped::Talk(_) => board.talk(rt, shared.alloc, pass, lease),
+        Stepped::Call(Call::Clone(_)) => board.fork(rt, shared.alloc, pass, lease, shared.depot),
+        Stepped::Call(Call::Join(_)) => board.join(rt, shared.alloc, pass, lease),
+        Stepped::Call(Call::Kill(_)) => board.kill(rt, pass, lease),
+        _ => board.give(rt, pass, lease),
     }
 }
 

@@ -3,7 +3,7 @@
 ghost use Rattle.std.specs.Prelude.{◌≡◌, ◌<◌, ◌≤◌, [], drop, length, take, IfOk, IsTrue, MatchOption, OnErr, string_bytes};
 ghost use Rattle.std.specs.Fmt.{WritesOnOk};
 ghost use Rattle.std.specs.List.{flat_map};
-ghost use Rattle.forest_tree.specs.Tree.{beyond, is_below};
+ghost use Rattle.forest_tree.specs.Tree.{Path, beyond, is_below};
 ghost use Rattle.io_edge.specs.Outside.{HasRisen};
 ghost use Rattle.io_edge.specs.Streamed.{Streams};
 ghost use Rattle.machine_names.specs.Name.{begins_with, branch_text, child_path, name_text, next_of};
@@ -21,6 +21,9 @@ use std::sync::Arc;
 
 /// The bytes of the longest fork in text: two points, and two numbers of ten digits.
 const BRANCH_LENGTH: usize = 22;
+
+/// As many forks as a processor compares at once.
+const AT_ONCE: usize = 4;
 
 /// A fork on the way to a machine: the ticket, and which child of the ticket it is.
 #[derive(Copy)]
@@ -275,6 +278,17 @@ impl Name {
         Some((last.ticket, last.child))
     }
 
+    /// The last fork, its ticket and its child's number, or `None` in the root's name. It takes no memory.
+    pub fn last(&self) -> Option<(u32, u32)>
+        ensures { MatchOption result (self.now ≡ []) (λ last. (parent : Path) × (self.now ≡ child_path parent last.0 last.1)) }
+    {
+        if self.depth == 0 {
+            return None;
+        }
+        let last = *self.branches.get(self.depth - 1);
+        Some((last.ticket, last.child))
+    }
+
     /// Whether this name goes on from another by a child of a ticket.
     pub fn is_below(&self, name: &Name, ticket: u32) -> bool
         ensures { result ≡ begins_with ticket (beyond name.now self.now) }
@@ -366,12 +380,16 @@ fn cmp_run_back(left: &[Branch], right: &[Branch]) -> Ordering
     Ordering::Equal
 }
 
-/// Whether two runs of as many forks are the same. It looks at all of them, so that several are compared at once.
+/// Whether two runs of as many forks are known to be the same. It looks at all of them, so that several are compared at
+/// once. Of fewer than that it answers no at once: one by one they are compared as fast.
 #[inline]
 fn are_same(left: &[Branch], right: &[Branch]) -> bool
     requires { length left.now ≡ length right.now }
     ensures { IsTrue result → left.now ≡ right.now }
 {
+    if left.len() < AT_ONCE {
+        return false;
+    }
     let mut difference = 0;
     'branches: for at in 0..left.len() {
         let (ours, theirs) = (left[at], right[at]);

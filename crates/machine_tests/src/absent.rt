@@ -25,7 +25,7 @@ fn first_of(alloc: Global, brood: &ForkImage, depot: &Depot) -> Result<Vm, Alloc
     ensures { IfOk result (λ vm. IsOfDepot depot.now vm.key) }
 {
     let seed = brood.seed.through_bytes(alloc, 1)?;
-    Ok(Vm::wake(alloc, &seed, &brood.key, depot)?)
+    Ok(Vm::wake(alloc, &seed, 1, &brood.key, depot)?)
 }
 
 // Brings a page to a clone, from its image.

@@ -7,7 +7,8 @@ ghost use Rattle.fork_board.specs.Passes.{HoldsNone, IsHeld};
 ghost use Rattle.world_core.specs.Answers.{IsLentOf};
 
 use crate::equal::succeeds;
-use crate::guests::{TWO_CHILDREN, booted};
+use crate::guests::{TWO_CHILDREN, booted, with_clones};
+use forest_model::Options;
 use fork_board::{Board, Pass};
 use host_workers::{Finish, Gate, MAX_WORKERS, OpenGate, Settings, run_hosts};
 use image_depot::{Depot, Sent};
@@ -24,9 +25,9 @@ use wire_fates::{Seeded, Wire};
 use world_core::{Lease, Placed, Reason, Taken, World};
 
 /// How many pages a worker asks for beside a wanted one.
-const AHEAD: u32 = 4;
+pub(crate) const AHEAD: u32 = 4;
 
-/// How the work on a family ended, and the family, once its root had.
+/// How the work on a family ended, and the family, once it had come to its end.
 #[derive(Drop)]
 pub struct Ended {
     pub finish: Finish,
@@ -38,22 +39,25 @@ pub(crate) fn board_of(
     rt: &impl Abort,
     alloc: Global,
     words: &[u32],
-    clones: u32,
+    options: Options,
     depot: &Depot,
 ) -> (Board, Pass)
     requires words { length words.now ≤ 64 }
-    requires clones { clones ≤ 4096 }
+    requires least { 1 ≤ options.limit }
+    requires most { options.limit ≤ 1_000_000 }
+    requires clones { options.allot ≤ 4096 }
     ensures depot { depot_of result.0.opening ≡ depot.now }
     ensures pass { result.1 ≡ record { board = result.0; number = []; splits = 0; seen = []; mine = []; ended = [] } }
     ensures none { HoldsNone result.1 }
 {
-    let vm = booted(rt, alloc, words, clones);
+    let vm = booted(rt, alloc, words, options);
     succeeds(rt, board_of_machine(alloc, vm, depot))
 }
 
 /// The same of a machine.
 fn board_of_machine(alloc: Global, vm: Vm, depot: &Depot) -> Result<(Board, Pass), AllocError>
     requires no_ticket { (port_of vm.machine).tickets ≡ [] }
+    requires no_siblings { vm.machine.state.ports.sibling.siblings ≡ 0 }
     requires no_image { vm.key ≡ None }
     ensures depot { IfOk result (λ made. depot_of made.0.opening ≡ depot.now) }
     ensures pass { IfOk result (λ made. made.1 ≡ record { board = made.0; number = []; splits = 0; seen = []; mine = []; ended = [] }) }
@@ -64,15 +68,18 @@ fn board_of_machine(alloc: Global, vm: Vm, depot: &Depot) -> Result<(Board, Pass
     Board::new(alloc, world, first, depot)
 }
 
-/// A gate that holds nobody, slices of so many steps, and so many pages more with a wanted one.
+/// This gate, slices of so many steps, and so many pages more with a wanted one.
+pub(crate) fn gated<G>(gate: G, slice: u32, ahead: u32) -> Settings<G>
+    requires { ahead ≤ 16 }
+{
+    Settings { gate, slice, ahead }
+}
+
+/// The same with a gate that holds nobody.
 pub(crate) fn ungated(slice: u32, ahead: u32) -> Settings<OpenGate>
     requires { ahead ≤ 16 }
 {
-    Settings {
-        gate: OpenGate,
-        slice,
-        ahead,
-    }
+    gated(OpenGate, slice, ahead)
 }
 
 /// Lets a worker for each wire run the family of a board, of which nobody holds a machine.
@@ -97,37 +104,38 @@ fn run_family<R: AllocGlobal + Threads + Wait + Abort + Sync, W: Wire + Send, G:
     (pass, finish)
 }
 
-/// Ends a board. The outcome of its family, once its root has ended.
-fn finished<R: Wait>(rt: &R, board: Board, pass: Pass) -> Option<Outcome>
+/// Ends a board. The outcome of its family, once it has come to its end or is stuck.
+pub(crate) fn finished<R: Abort + Wait>(
+    rt: &R,
+    alloc: Global,
+    board: Board,
+    pass: Pass,
+) -> Option<Outcome>
     requires { pass.board ≡ board }
 {
-    board.close(rt, pass).into_finished()
+    succeeds(rt, board.close(rt, pass).outcome(alloc))
 }
 
 /// Lets a worker for each wire run the family of the machine of these words, in a depot of its own.
 pub fn end_over<R: AllocGlobal + Threads + Wait + Abort + Sync, W: Wire + Send, G: Gate + Sync>(
     rt: &R,
     words: &[u32],
-    clones: u32,
+    options: Options,
     wires: &mut [W],
-    gate: &G,
-    slice: u32,
+    settings: &Settings<G>,
 ) -> Ended
     requires words { length words.now ≤ 64 }
-    requires clones { clones ≤ 4096 }
+    requires least { 1 ≤ options.limit }
+    requires most { options.limit ≤ 1_000_000 }
+    requires clones { options.allot ≤ 4096 }
     requires wires { (1 ≤ length wires.old) × (length wires.old ≤ MAX_WORKERS) }
 {
     let depot = succeeds(rt, Depot::new(rt.alloc()));
-    let (board, pass) = board_of(rt, rt.alloc(), words, clones, &depot);
-    let settings = Settings {
-        gate,
-        slice,
-        ahead: AHEAD,
-    };
-    let (pass, finish) = run_family(rt, &board, pass, &depot, wires, &settings);
+    let (board, pass) = board_of(rt, rt.alloc(), words, options, &depot);
+    let (pass, finish) = run_family(rt, &board, pass, &depot, wires, settings);
     Ended {
         finish,
-        outcome: finished(rt, board, pass),
+        outcome: finished(rt, rt.alloc(), board, pass),
     }
 }
 
@@ -148,35 +156,37 @@ pub(crate) fn seeded(alloc: Global, count: u32) -> Result<Vec<Seeded>, AllocErro
 pub fn end_by<R: AllocGlobal + Threads + Wait + Abort + Sync>(
     rt: &R,
     words: &[u32],
-    clones: u32,
+    options: Options,
     workers: u32,
     slice: u32,
 ) -> Ended
     requires words { length words.now ≤ 64 }
-    requires clones { clones ≤ 4096 }
+    requires least { 1 ≤ options.limit }
+    requires most { options.limit ≤ 1_000_000 }
+    requires clones { options.allot ≤ 4096 }
     requires workers { (1 ≤ workers) × (workers ≤ MAX_WORKERS) }
 {
     let mut wires = succeeds(rt, seeded(rt.alloc(), workers));
-    end_over(rt, words, clones, &mut wires, &OpenGate, slice)
+    end_over(rt, words, options, &mut wires, &ungated(slice, AHEAD))
 }
 
 /// Whether two children come to no end, whose board is stopped first.
 pub fn is_stopped<R: AllocGlobal + Threads + Wait + Abort + Sync>(rt: &R) -> bool {
     let depot = succeeds(rt, Depot::new(rt.alloc()));
-    let (board, pass) = board_of(rt, rt.alloc(), &TWO_CHILDREN, 2, &depot);
+    let (board, pass) = board_of(rt, rt.alloc(), &TWO_CHILDREN, with_clones(2), &depot);
     let pass = board.stop(rt, pass, Reason::Wire);
     let mut wires = [Seeded::new(), Seeded::new()];
     let (pass, finish) = run_family(rt, &board, pass, &depot, &mut wires, &ungated(1, AHEAD));
-    let lives = finished(rt, board, pass).is_none();
+    let lives = finished(rt, rt.alloc(), board, pass).is_none();
     lives && matches!(finish, Finish::Stopped(Reason::Wire))
 }
 
 /// The same of a board that nobody comes to, of which passes are split and joined.
 pub fn is_left<R: Abort + Wait>(rt: &R, alloc: Global) -> bool {
     let depot = succeeds(rt, Depot::new(alloc));
-    let (board, pass) = board_of(rt, alloc, &TWO_CHILDREN, 2, &depot);
+    let (board, pass) = board_of(rt, alloc, &TWO_CHILDREN, with_clones(2), &depot);
     let pass = split_and_joined(&board, pass);
-    finished(rt, board, pass).is_none()
+    finished(rt, alloc, board, pass).is_none()
 }
 
 /// Splits a pass, and each of the two again, and joins them all.
@@ -198,9 +208,9 @@ fn split_and_joined(board: &Board, pass: Pass) -> Pass
 /// Whether a machine is given back by a pass that was split, and joined again, since the machine was taken.
 pub fn is_given_after_a_join<R: Abort + Wait>(rt: &R, alloc: Global) -> bool {
     let depot = succeeds(rt, Depot::new(alloc));
-    let (board, pass) = board_of(rt, alloc, &TWO_CHILDREN, 2, &depot);
+    let (board, pass) = board_of(rt, alloc, &TWO_CHILDREN, with_clones(2), &depot);
     let (pass, is_given) = takes_and_joins(rt, alloc, &board, pass, &depot);
-    is_given && finished(rt, board, pass).is_none()
+    is_given && finished(rt, alloc, board, pass).is_none()
 }
 
 /// Takes a machine, and gives it back after a join.
@@ -219,7 +229,9 @@ fn takes_and_joins<R: Wait>(
     let (pass, taken) = board.take(rt, alloc, pass, depot);
     match taken {
         Taken::Took(lease) => joins_and_gives(rt, board, pass, lease),
-        Taken::Over | Taken::Stopped(_) | Taken::Idle | Taken::Memory => (pass, false),
+        Taken::Over | Taken::Stopped(_) | Taken::Stuck | Taken::Idle | Taken::Memory => {
+            (pass, false)
+        }
     }
 }
 
@@ -285,10 +297,10 @@ fn heard_after<R: AllocGlobal + Threads + Wait + Abort + Sync>(
 /// The same of the first reply before a worker runs the family of one child, and of the first two after.
 pub fn heard_of<R: AllocGlobal + Threads + Wait + Abort + Sync>(rt: &R) -> [Option<(u32, u32)>; 3] {
     let depot = succeeds(rt, Depot::new(rt.alloc()));
-    let (board, pass) = board_of(rt, rt.alloc(), &TWO_CHILDREN, 1, &depot);
+    let (board, pass) = board_of(rt, rt.alloc(), &TWO_CHILDREN, with_clones(1), &depot);
     let (pass, other) = board.split(pass);
     let (pass, before) = numbers_at(rt, &board, pass, 0);
     let [told, beyond] = heard_after(rt, &board, other, &depot);
-    let _ = finished(rt, board, pass);
+    let _ = finished(rt, rt.alloc(), board, pass);
     [before, told, beyond]
 }

@@ -4,7 +4,7 @@ ghost use Rattle.std.specs.Prelude.{◌≤◌, length};
 
 use crate::equal::{are_equal, succeeds};
 use crate::families::{board_of, seeded, ungated};
-use crate::guests::{GRANDCHILD, LONG_CHAIN, THOUSAND_CHILDREN, TWO_CHILDREN};
+use crate::guests::{GRANDCHILD, LONG_CHAIN, THOUSAND_CHILDREN, TWO_CHILDREN, with_clones};
 use host_workers::{Finish, MAX_WORKERS, run_hosts};
 use image_depot::{Depot, Sent};
 use page_claims::Claims;
@@ -43,7 +43,7 @@ fn claimed_by<R: AllocGlobal + Threads + Wait + Abort + Sync>(
 {
     let alloc = rt.alloc();
     let depot = succeeds(rt, Depot::new(alloc));
-    let (board, pass) = board_of(rt, alloc, words, clones, &depot);
+    let (board, pass) = board_of(rt, alloc, words, with_clones(clones), &depot);
     let (claims, claiming) = succeeds(rt, Claims::new(alloc, IMAGES, 64, 0));
     let mut wires = succeeds(rt, seeded(alloc, workers));
     let settings = ungated(slice, 4);

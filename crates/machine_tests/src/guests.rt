@@ -84,6 +84,7 @@ fn booted_of(alloc: Global, image: &Loaded, disk: Disk, options: Options) -> Res
     requires clones { options.allot ≤ 4096 }
     requires disk_whole { IsWholeDisk disk }
     ensures no_ticket { IfOk result (λ vm. (port_of vm.machine).tickets ≡ []) }
+    ensures no_siblings { IfOk result (λ vm. vm.machine.state.ports.sibling.siblings ≡ 0) }
     ensures no_image { IfOk result (λ vm. vm.key ≡ None) }
 {
     Vm::boot(alloc, image, disk, b"", options)
@@ -114,6 +115,7 @@ pub(crate) fn booted_at(rt: &impl Abort, alloc: Global, base: u32, words: &[u32]
     requires least { 16 ≤ pages }
     requires most { pages ≤ 16_384 }
     ensures no_ticket { (port_of result.machine).tickets ≡ [] }
+    ensures no_siblings { result.machine.state.ports.sibling.siblings ≡ 0 }
     ensures no_image { result.key ≡ None }
 {
     let image = loaded_at(rt, alloc, base, words, pages);
@@ -124,19 +126,28 @@ pub(crate) fn booted_at(rt: &impl Abort, alloc: Global, base: u32, words: &[u32]
     succeeds(rt, booted_of(alloc, &image, no_disk(rt, alloc), options))
 }
 
-// The machine of these words, with 16 pages, that makes at most 10,000 steps and may have so many clones.
-pub(crate) fn booted(rt: &impl Abort, alloc: Global, words: &[u32], clones: u32) -> Vm
+// The machine of these words, with 16 pages, and the limit and the allot of these options.
+pub(crate) fn booted(rt: &impl Abort, alloc: Global, words: &[u32], options: Options) -> Vm
     requires words { length words.now ≤ 64 }
-    requires clones { clones ≤ 4096 }
+    requires least { 1 ≤ options.limit }
+    requires most { options.limit ≤ 1_000_000 }
+    requires clones { options.allot ≤ 4096 }
     ensures no_ticket { (port_of result.machine).tickets ≡ [] }
+    ensures no_siblings { result.machine.state.ports.sibling.siblings ≡ 0 }
     ensures no_image { result.key ≡ None }
 {
     let image = loaded_at(rt, alloc, RAM_BASE, words, 16);
-    let options = Options {
-        limit: 10_000,
-        allot: clones,
-    };
     succeeds(rt, booted_of(alloc, &image, no_disk(rt, alloc), options))
+}
+
+// That a machine may have so many clones, and makes at most 10,000 steps.
+pub(crate) fn with_clones(allot: u32) -> Options
+    ensures { result ≡ record { limit = 10_000; allot = allot } }
+{
+    Options {
+        limit: 10_000,
+        allot,
+    }
 }
 
 // Lets a machine make at most so many steps.

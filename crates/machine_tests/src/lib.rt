@@ -34,6 +34,8 @@ mod reports;
 #[cfg(test)]
 mod scripts;
 #[cfg(test)]
+mod siblings;
+#[cfg(test)]
 mod stretches;
 #[cfg(test)]
 mod texts;

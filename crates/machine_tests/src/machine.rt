@@ -169,7 +169,7 @@ fn child_of(alloc: Global, brood: &ForkImage, number: u32, depot: &Depot) -> Res
     ensures { IfOk result (λ vm. IsOfDepot depot.now vm.key) }
 {
     let seed = brood.seed.through_bytes(alloc, number)?;
-    Ok(Vm::wake(alloc, &seed, &brood.key, depot)?)
+    Ok(Vm::wake(alloc, &seed, 2, &brood.key, depot)?)
 }
 
 // How a child of a brood of two ends, which the page of its code is enough for.

@@ -11,17 +11,19 @@ use forest_model::cause::{
 };
 use host_fetch::MAX_AHEAD;
 use page_frames::PAGE_SIZE;
-use port_map::{BLOCK_BASE, CONSOLE_BASE, FORK_BASE, TIMER_BASE};
+use port_map::{BLOCK_BASE, CONSOLE_BASE, FORK_BASE, SIBLING_BASE, TIMER_BASE};
 use rv_traps::TIMER_INTERRUPT;
+use sibling_words::MAX_WORDS;
 use std::process::Abort;
 use vm_descriptor::{MAX_CLONES, MAX_LIMIT, MAX_SHARE};
 
 /// Where RAM and the ports begin.
-static ADDRESSES: [(u32, u32); 5] = [
+static ADDRESSES: [(u32, u32); 6] = [
     (RAM_BASE, 0x8000_0000),
     (CONSOLE_BASE, 0x1000_0000),
     (BLOCK_BASE, 0x1000_1000),
     (FORK_BASE, 0x1000_2000),
+    (SIBLING_BASE, 0x1000_3000),
     (TIMER_BASE, 0x0200_4000),
 ];
 
@@ -53,11 +55,12 @@ static LIMITS: [(u32, u32); 8] = [
     (MAX_PLACE, 4_294_967_295),
 ];
 
-/// The bytes of a page, and the most of an input and of a script.
-static SIZES: [(usize, usize); 3] = [
+/// The bytes of a page, and the most of an input and of a script; and the most words that wait from one sibling to another.
+static SIZES: [(usize, usize); 4] = [
     (PAGE_SIZE, 4096),
     (MAX_INPUT, 65_536),
     (MAX_SCRIPT, 1_048_576),
+    (MAX_WORDS, 8),
 ];
 
 fn are_these(rt: &impl Abort, table: &[(u32, u32)]) {

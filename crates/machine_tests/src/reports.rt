@@ -88,7 +88,7 @@ fn is_reported(rt: &impl Abort, alloc: Global, outcome: &Outcome, text: &[u8]) {
 
 /// An outcome with no output.
 fn silent(name: Name, ending: Ending, steps: u64, log: Vec<Line>, alloc: Global) -> Outcome {
-    Outcome::new(name, ending, steps, Vec::new(alloc), log)
+    Outcome::new(name, Some(ending), steps, Vec::new(alloc), log)
 }
 
 /// A log of a killed ticket.
@@ -111,12 +111,30 @@ fn one_machine_puts_out_its_bytes(rt: HostRuntime) {
     let root = succeeds(&rt, Name::root(alloc));
     let name = succeeds(&rt, root.child(alloc, 1, 2));
     let output = succeeds(&rt, Vec::from_slice(alloc, b"A"));
-    let outcome = Outcome::new(name, Ending::Limit, 10, output, Vec::new(alloc));
+    let outcome = Outcome::new(name, Some(Ending::Limit), 10, output, Vec::new(alloc));
     is_reported(
         &rt,
         alloc,
         &outcome,
         b"machine 0.1.2 limit steps 10 out 1\nA\n",
+    );
+}
+
+#[test]
+fn machines_that_wait_are_stuck(rt: HostRuntime) {
+    let alloc = rt.alloc();
+    let root = succeeds(&rt, Name::root(alloc));
+    let child = succeeds(&rt, root.child(alloc, 1, 1));
+    let child = Outcome::new(child, None, 2, Vec::new(alloc), Vec::new(alloc));
+    let mut log = Vec::new(alloc);
+    join(&rt, &mut log, child);
+    let output = succeeds(&rt, Vec::from_slice(alloc, b"A"));
+    let outcome = Outcome::new(root, None, 4, output, log);
+    is_reported(
+        &rt,
+        alloc,
+        &outcome,
+        b"machine 0 stuck steps 4 out 1\nA\nmachine 0.1.1 stuck steps 2 out 0\n\n",
     );
 }
 
@@ -362,7 +380,7 @@ fn a_long_output_goes_out_as_it_lies(rt: HostRuntime) {
     let output = succeeds(&rt, vec![in alloc; b'A'; 10_000]);
     let text = long_text(&rt, alloc, &output);
     let root = succeeds(&rt, Name::root(alloc));
-    let outcome = Outcome::new(root, Ending::Limit, 10, output, Vec::new(alloc));
+    let outcome = Outcome::new(root, Some(Ending::Limit), 10, output, Vec::new(alloc));
     is_cut_at_each_fault(&rt, alloc, &outcome, &text, &LONG_CUTS);
 }
 

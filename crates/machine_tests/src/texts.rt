@@ -17,7 +17,7 @@ pub static GRANDCHILD: &[u8] =
     b"machine 0 exit 17 steps 26 out 0\n\nmachine 0.1.1 exit 17 steps 35 out 0\n\nmachine 0.1.1.1.1 exit 17 steps 29 out 0\n\n";
 
 /// The line of a machine that put out nothing.
-fn line_of(alloc: Global, name: &str, value: u32, steps: u32) -> Result<String, AllocError> {
+pub fn line_of(alloc: Global, name: &str, value: u32, steps: u32) -> Result<String, AllocError> {
     format!(in alloc; "machine {name} exit {value} steps {steps} out 0\n\n")
 }
 

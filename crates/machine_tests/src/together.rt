@@ -3,12 +3,12 @@
 ghost use Rattle.std.specs.Prelude.{◌≡◌, length};
 
 use crate::equal::{are_equal, succeeds};
-use crate::families::{Ended, end_over};
-use crate::guests::TWO_CHILDREN;
+use crate::families::{AHEAD, Ended, end_over, gated, ungated};
+use crate::guests::{TWO_CHILDREN, with_clones};
 use crate::meeting::{Meeting, MeetingWire};
 use crate::texts;
 use crate::workers::ends_with;
-use host_workers::{Finish, OpenGate};
+use host_workers::Finish;
 use std::alloc::Global;
 use std::process::Abort;
 use std::sync::Wait;
@@ -16,28 +16,30 @@ use std::thread::Threads;
 use wire_fates::{Fate, Scripted, Seeded};
 use world_core::Reason;
 
-/// The root has ended, and the report is that of its family.
-fn is_whole(rt: &impl Abort, alloc: Global, ended: &Ended) {
+/// The root has ended, and this is the report of its family.
+pub(crate) fn is_whole(rt: &impl Abort, alloc: Global, ended: &Ended, text: &[u8]) {
     are_equal(rt, &matches!(ended.finish, Finish::Over), &true);
-    ends_with(rt, alloc, ended, texts::TWO_CHILDREN);
+    ends_with(rt, alloc, ended, text);
 }
 
 #[test]
 fn two_workers_run_at_once(rt: HostRuntime) {
     let meeting = Meeting::new();
     let mut wires = [Seeded::new(), Seeded::new()];
-    let ended = end_over(&rt, &TWO_CHILDREN, 2, &mut wires, &meeting, 1000);
+    let settings = gated(&meeting, 1000, AHEAD);
+    let ended = end_over(&rt, &TWO_CHILDREN, with_clones(2), &mut wires, &settings);
     are_equal(&rt, &meeting.was_held(), &true);
-    is_whole(&rt, rt.alloc(), &ended);
+    is_whole(&rt, rt.alloc(), &ended, texts::TWO_CHILDREN);
 }
 
 #[test]
 fn two_wires_are_asked_at_once(rt: HostRuntime) {
     let meeting = Meeting::new();
     let mut wires = [MeetingWire::new(&meeting, 0), MeetingWire::new(&meeting, 1)];
-    let ended = end_over(&rt, &TWO_CHILDREN, 2, &mut wires, &OpenGate, 1000);
+    let settings = ungated(1000, AHEAD);
+    let ended = end_over(&rt, &TWO_CHILDREN, with_clones(2), &mut wires, &settings);
     are_equal(&rt, &meeting.was_held(), &true);
-    is_whole(&rt, rt.alloc(), &ended);
+    is_whole(&rt, rt.alloc(), &ended, texts::TWO_CHILDREN);
 }
 
 /// A wire that loses 64 replies.
@@ -54,7 +56,13 @@ fn lost_wires_stop_the_world(rt: HostRuntime) {
 fn stop_the_world<R: AllocGlobal + Threads + Wait + Abort + Sync>(rt: &R, wires: &mut [Scripted])
     requires { length wires.old ≡ 2 }
 {
-    let ended = end_over(rt, &TWO_CHILDREN, 2, wires, &OpenGate, 1000);
+    let ended = end_over(
+        rt,
+        &TWO_CHILDREN,
+        with_clones(2),
+        wires,
+        &ungated(1000, AHEAD),
+    );
     let is_stopped = matches!(ended.finish, Finish::Stopped(Reason::Wire));
     are_equal(rt, &[is_stopped, ended.outcome.is_none()], &[true; 2]);
 }

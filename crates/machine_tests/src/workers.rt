@@ -6,10 +6,11 @@ use crate::equal::{are_equal, succeeds};
 use crate::families::{Ended, end_by, heard_of, is_given_after_a_join, is_left, is_stopped};
 use crate::guests::{
     GRANDCHILD, JOIN_BYTES, KILL_BUSY_CHILDREN, KILL_THEN_JOIN, LONG_CHAIN, THOUSAND_CHILDREN,
-    TWO_CHILDREN,
+    TWO_CHILDREN, with_clones,
 };
 use crate::texts;
-use host_workers::MAX_WORKERS;
+use forest_model::Options;
+use host_workers::{Finish, MAX_WORKERS};
 use io_edge::MemSink;
 use run_report::{Outcome, report_into};
 use std::alloc::Global;
@@ -35,26 +36,39 @@ pub(crate) fn ends_with(rt: &impl Abort, alloc: Global, ended: &Ended, text: &[u
     }
 }
 
+/// The root has ended, or its family is stuck, as the report tells.
+fn has_finished(rt: &impl Abort, finish: &Finish, text: &[u8]) {
+    let is_stuck = text.starts_with(b"machine 0 stuck ");
+    let found = [
+        matches!(finish, Finish::Over),
+        matches!(finish, Finish::Stuck),
+    ];
+    are_equal(rt, &found, &[!is_stuck, is_stuck]);
+}
+
 /// So many workers with such a first stretch bring a family of these words to this end.
 fn family_ends_with<R: AllocGlobal + Threads + Wait + Abort + Sync>(
     rt: &R,
     words: &[u32],
-    clones: u32,
+    options: Options,
     workers: u32,
     slice: u32,
     text: &[u8],
 )
     requires words { length words.now ≤ 64 }
-    requires clones { clones ≤ 4096 }
+    requires least { 1 ≤ options.limit }
+    requires most { options.limit ≤ 1_000_000 }
+    requires clones { options.allot ≤ 4096 }
     requires workers { (1 ≤ workers) × (workers ≤ MAX_WORKERS) }
 {
-    let ended = end_by(rt, words, clones, workers, slice);
+    let ended = end_by(rt, words, options, workers, slice);
+    has_finished(rt, &ended.finish, text);
     ends_with(rt, rt.alloc(), &ended, text);
 }
 
 /// How many workers there are, and the steps of their first stretch: each number with each stretch.
 #[rattlefmt::skip]
-static ALL: [(u32, u32); 24] = [
+pub(crate) static ALL: [(u32, u32); 24] = [
     (1, 1), (1, 3), (1, 1_000), (1, 1_000_000),
     (2, 1), (2, 3), (2, 1_000), (2, 1_000_000),
     (3, 1), (3, 3), (3, 1_000), (3, 1_000_000),
@@ -64,60 +78,93 @@ static ALL: [(u32, u32); 24] = [
 ];
 
 /// The same for a large family, with one stretch for each number: the more they are, the longer.
-static SOME: [(u32, u32); 6] = [(1, 1), (2, 1), (3, 3), (4, 3), (8, 1_000), (64, 1_000_000)];
+pub(crate) static SOME: [(u32, u32); 6] = [
+    (1, 1),
+    (2, 1),
+    (3, 3),
+    (4, 3),
+    (8, 1_000),
+    (64, 1_000_000),
+];
 
 /// Workers bring a family of these words to this end, so many with such a first stretch each time.
-fn each_ends_with<R: AllocGlobal + Threads + Wait + Abort + Sync>(
+pub(crate) fn each_ends_with<R: AllocGlobal + Threads + Wait + Abort + Sync>(
     rt: &R,
     words: &[u32],
-    clones: u32,
+    options: Options,
     runs: &[(u32, u32)],
     text: &[u8],
 )
     requires words { length words.now ≤ 64 }
-    requires clones { clones ≤ 4096 }
+    requires least { 1 ≤ options.limit }
+    requires most { options.limit ≤ 1_000_000 }
+    requires clones { options.allot ≤ 4096 }
 {
     for (workers, slice) in runs {
         let workers = (*workers).clamp(1, 64);
-        family_ends_with(rt, words, clones, workers, *slice, text);
+        family_ends_with(rt, words, options, workers, *slice, text);
     }
 }
 
 #[test]
 fn two_children(rt: HostRuntime) {
-    each_ends_with(&rt, &TWO_CHILDREN, 2, &ALL, texts::TWO_CHILDREN);
+    each_ends_with(
+        &rt,
+        &TWO_CHILDREN,
+        with_clones(2),
+        &ALL,
+        texts::TWO_CHILDREN,
+    );
 }
 
 #[test]
 fn thousand_children(rt: HostRuntime) {
     let text = succeeds(&rt, texts::thousand_children(rt.alloc()));
-    each_ends_with(&rt, &THOUSAND_CHILDREN, 1000, &SOME, text.as_bytes());
+    each_ends_with(
+        &rt,
+        &THOUSAND_CHILDREN,
+        with_clones(1000),
+        &SOME,
+        text.as_bytes(),
+    );
 }
 
 #[test]
 fn long_chain(rt: HostRuntime) {
     let text = succeeds(&rt, texts::long_chain(rt.alloc(), 200));
-    each_ends_with(&rt, &LONG_CHAIN, 200, &SOME, text.as_bytes());
+    each_ends_with(&rt, &LONG_CHAIN, with_clones(200), &SOME, text.as_bytes());
 }
 
 #[test]
 fn grandchild(rt: HostRuntime) {
-    each_ends_with(&rt, &GRANDCHILD, 2, &ALL, texts::GRANDCHILD);
+    each_ends_with(&rt, &GRANDCHILD, with_clones(2), &ALL, texts::GRANDCHILD);
 }
 
 #[test]
 fn join_bytes(rt: HostRuntime) {
-    each_ends_with(&rt, &JOIN_BYTES, 2, &ALL, texts::JOIN_BYTES);
+    each_ends_with(&rt, &JOIN_BYTES, with_clones(2), &ALL, texts::JOIN_BYTES);
 }
 
 #[test]
 fn kill_then_join(rt: HostRuntime) {
-    each_ends_with(&rt, &KILL_THEN_JOIN, 2, &ALL, texts::KILL_THEN_JOIN);
+    each_ends_with(
+        &rt,
+        &KILL_THEN_JOIN,
+        with_clones(2),
+        &ALL,
+        texts::KILL_THEN_JOIN,
+    );
 }
 
 #[test]
 fn kill_busy_children(rt: HostRuntime) {
-    each_ends_with(&rt, &KILL_BUSY_CHILDREN, 2, &ALL, texts::KILL_THEN_JOIN);
+    each_ends_with(
+        &rt,
+        &KILL_BUSY_CHILDREN,
+        with_clones(2),
+        &ALL,
+        texts::KILL_THEN_JOIN,
+    );
 }
 
 // The one child wants its first page, and no other is asked for.

@@ -1,27 +1,36 @@
 //! Worlds of machines: that their calls succeed, where there is memory.
 
-ghost use Rattle.std.specs.Prelude.{IfOk};
-ghost use Rattle.forest_tree.specs.Tree.{Tree};
-ghost use Rattle.forest_model.specs.Paged.{Paged};
+ghost use Rattle.std.specs.Prelude.{◌≤◌, IfOk, length};
 ghost use Rattle.drive_script.specs.Driven.{HasMachines};
+ghost use Rattle.drive_script.specs.Steps.{Family};
 
 use crate::equal::{are_equal, succeeds};
-use crate::guests::{TWO_CHILDREN, booted_at};
+use crate::guests::{TWO_CHILDREN, booted, with_clones};
 use crate::scripts::in_form;
 use crate::told::tells;
 use drive_script::drive;
-use elf_load::RAM_BASE;
+use forest_model::Options;
 use image_depot::Depot;
 use std::alloc::{AllocError, Global};
 use std::process::Abort;
 use std::sync::Wait;
 use world_core::{Placed, Taken, World};
 
-// The world of the machine of two children.
-fn started(rt: &impl Abort, alloc: Global, depot: &Depot) -> Result<World, AllocError>
-    ensures { IfOk result (λ world. (t : Tree Paged) × HasMachines depot.now world t) }
+// The world of the machine of these words.
+fn started(
+    rt: &impl Abort,
+    alloc: Global,
+    words: &[u32],
+    options: Options,
+    depot: &Depot,
+) -> Result<World, AllocError>
+    requires words { length words.now ≤ 64 }
+    requires least { 1 ≤ options.limit }
+    requires most { options.limit ≤ 1_000_000 }
+    requires clones { options.allot ≤ 4096 }
+    ensures { IfOk result (λ world. (t : Family) × HasMachines depot.now world t) }
 {
-    let vm = booted_at(rt, alloc, RAM_BASE, &TWO_CHILDREN, 16);
+    let vm = booted(rt, alloc, words, options);
     let world = World::new(alloc, vm, depot)?;
     Ok(world)
 }
@@ -36,43 +45,72 @@ static TOLD: &[u8] =
 
 // What is done with a world that was just made.
 #[derive(Clone, Copy)]
-pub(crate) enum Deed {
-    // A script drives it.
-    Drive,
+pub(crate) enum Deed<'a> {
+    // A script drives it, and writes this.
+    Drive(&'a [u8], &'a [u8]),
     // A machine is taken and given back.
     GiveBack,
     // A reply is told, and heard.
     Tell,
 }
 
-fn world_does<R: Abort + Wait>(rt: &R, alloc: Global, world: &mut World, depot: &Depot, deed: Deed)
-    requires { (t : Tree Paged) × HasMachines depot.now world.old t }
+fn world_does<R: Abort + Wait>(
+    rt: &R,
+    alloc: Global,
+    world: &mut World,
+    depot: &Depot,
+    deed: Deed<'_>,
+)
+    requires { (t : Family) × HasMachines depot.now world.old t }
 {
     match deed {
-        Deed::Drive => drives(rt, alloc, world, depot),
+        Deed::Drive(script, text) => drives(rt, alloc, world, depot, script, text),
         Deed::GiveBack => gives_back(rt, alloc, world, depot),
         Deed::Tell => tells(rt, alloc, world, depot),
     }
 }
 
-// Does this with the world of the machine of two children.
-pub(crate) fn does<R: Abort + Wait>(rt: &R, alloc: Global, deed: Deed) {
+// Does this with the world of the machine of these words.
+pub(crate) fn family_does<R: Abort + Wait>(
+    rt: &R,
+    alloc: Global,
+    words: &[u32],
+    options: Options,
+    deed: Deed<'_>,
+)
+    requires words { length words.now ≤ 64 }
+    requires least { 1 ≤ options.limit }
+    requires most { options.limit ≤ 1_000_000 }
+    requires clones { options.allot ≤ 4096 }
+{
     let depot = succeeds(rt, Depot::new(alloc));
-    let mut world = succeeds(rt, started(rt, alloc, &depot));
+    let mut world = succeeds(rt, started(rt, alloc, words, options, &depot));
     world_does(rt, alloc, &mut world, &depot, deed);
+}
+
+// Does this with the world of the machine of two children.
+pub(crate) fn does<R: Abort + Wait>(rt: &R, alloc: Global, deed: Deed<'_>) {
+    family_does(rt, alloc, &TWO_CHILDREN, with_clones(2), deed);
 }
 
 #[test]
 fn a_script_drives_a_family(rt: HostRuntime) {
-    does(&rt, rt.alloc(), Deed::Drive);
+    does(&rt, rt.alloc(), Deed::Drive(SCRIPT, TOLD));
 }
 
-fn drives<R: Abort + Wait>(rt: &R, alloc: Global, world: &mut World, depot: &Depot)
-    requires { (t : Tree Paged) × HasMachines depot.now world.old t }
+fn drives<R: Abort + Wait>(
+    rt: &R,
+    alloc: Global,
+    world: &mut World,
+    depot: &Depot,
+    script: &[u8],
+    text: &[u8],
+)
+    requires { (t : Family) × HasMachines depot.now world.old t }
 {
-    let script = in_form(rt, alloc, SCRIPT);
+    let script = in_form(rt, alloc, script);
     let told = succeeds(rt, drive(rt, alloc, &script, world, depot));
-    are_equal(rt, &told.as_slice(), &TOLD);
+    are_equal(rt, &told.as_slice(), &text);
 }
 
 #[test]
@@ -81,7 +119,7 @@ fn a_machine_is_taken_and_given_back(rt: HostRuntime) {
 }
 
 fn gives_back(rt: &impl Abort, alloc: Global, world: &mut World, depot: &Depot)
-    requires { (t : Tree Paged) × HasMachines depot.now world.old t }
+    requires { (t : Family) × HasMachines depot.now world.old t }
 {
     let is_so = succeeds(rt, is_given_back(alloc, world, depot));
     are_equal(rt, &is_so, &true);
@@ -89,12 +127,12 @@ fn gives_back(rt: &impl Abort, alloc: Global, world: &mut World, depot: &Depot)
 
 // Whether a machine is taken, and comes back.
 fn is_given_back(alloc: Global, world: &mut World, depot: &Depot) -> Result<bool, AllocError>
-    requires { (t : Tree Paged) × HasMachines depot.now world.old t }
+    requires { (t : Family) × HasMachines depot.now world.old t }
 {
     let lease = match world.take(alloc, depot) {
         Taken::Took(lease) => lease,
         Taken::Memory => return Err(AllocError),
-        Taken::Over | Taken::Idle | Taken::Stopped(_) => return Ok(false),
+        Taken::Over | Taken::Idle | Taken::Stuck | Taken::Stopped(_) => return Ok(false),
     };
     match world.give(lease) {
         Placed::Done => Ok(true),

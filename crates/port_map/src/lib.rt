@@ -3,4 +3,6 @@
 
 mod place;
 
-pub use place::{BLOCK_BASE, CONSOLE_BASE, FORK_BASE, Place, TIMER_BASE, TIMER_SIZE, place_of};
+pub use place::{
+    BLOCK_BASE, CONSOLE_BASE, FORK_BASE, Place, SIBLING_BASE, TIMER_BASE, TIMER_SIZE, place_of,
+};

@@ -6,6 +6,7 @@ ghost use Rattle.port_map.specs.Ranges.{IsAt, is_within, place_of};
 use block_port::registers::BLOCK_SIZE;
 use console_port::registers::CONSOLE_SIZE;
 use fork_port::registers::FORK_SIZE;
+use sibling_port::registers::SIBLING_SIZE;
 
 /// The address of the console.
 pub const CONSOLE_BASE: u32 = 0x1000_0000;
@@ -22,6 +23,9 @@ pub const BLOCK_BASE: u32 = 0x1000_1000;
 /// The address of the fork port.
 pub const FORK_BASE: u32 = 0x1000_2000;
 
+/// The address of the sibling port.
+pub const SIBLING_BASE: u32 = 0x1000_3000;
+
 /// The port that an address is of, with the offset there.
 #[derive(Clone, Copy)]
 pub enum Place {
@@ -29,6 +33,7 @@ pub enum Place {
     Timer(u32),
     Block(u32),
     Fork(u32),
+    Sibling(u32),
     NoPort,
 }
 
@@ -49,6 +54,9 @@ pub fn place_of(address: u32) -> Place
     }
     if let Some(offset) = offset_within(FORK_BASE, FORK_SIZE, address) {
         return Place::Fork(offset);
+    }
+    if let Some(offset) = offset_within(SIBLING_BASE, SIBLING_SIZE, address) {
+        return Place::Sibling(offset);
     }
     Place::NoPort
 }

@@ -5,14 +5,14 @@ use Rattle.run_report.specs.declared.line.MachineLine.{MachineLine}
 use Rattle.run_report.specs.Said.{line_of_machine}
 use Rattle.machine_names.specs.Name.{name_text}
 use Rattle.run_report.specs.Report.{Ended, lines_of, report_of}
-use Rattle.run_report.specs.Lines.{Line, ending_text, handed_text, line_text, text_of}
+use Rattle.run_report.specs.Lines.{Line, end_text, handed_text, line_text, text_of}
 
 -- a machine's line, whose output and its length are at hand
 pub machine-text : (m : MachineLine) (count : ℕ) (output : List ℕ) → count ≡ length m.output.items → output ≡ m.output.items
     → codes "machine "
     ++ (name_text m.name
     ++ (codes " "
-    ++ (ending_text m.ending
+    ++ (end_text m.ending
     ++ (codes " steps "
     ++ (decimal m.steps
     ++ (codes " out "

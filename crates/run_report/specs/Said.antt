@@ -7,7 +7,7 @@ use Rattle.run_report.specs.declared.line.Said.{Said}
 use Rattle.run_report.specs.declared.line.Said.TheVariants.{Machine, Ticket}
 use Rattle.run_report.specs.declared.line.Piece.{Piece}
 use Rattle.run_report.specs.declared.line.Piece.TheVariants.{Text, Named, Ended, HandedOver, Number, Sum}
-use Rattle.run_report.specs.Lines.{Line, machine_line, ticket_line, ending_text, handed_text}
+use Rattle.run_report.specs.Lines.{Line, machine_line, ticket_line, end_text, handed_text}
 use Rattle.machine_names.specs.Name.{name_text}
 
 abbrev pub line_of_machine : MachineLine → Line
@@ -23,7 +23,7 @@ line_of (Ticket t) = line_of_ticket t
 abbrev pub piece_text : Piece → List ℕ
 piece_text (Text bytes) = bytes.now
 piece_text (Named name) = name_text name.now
-piece_text (Ended ending) = ending_text ending
+piece_text (Ended ending) = end_text ending
 piece_text (HandedOver ending) = handed_text ending
 piece_text (Number n) = decimal n
 piece_text (Sum n) = decimal n

@@ -1,13 +1,14 @@
--- What a report comes to: how many machines have ended, and sums over its lines.
-use Rattle.std.specs.Prelude.{ℕ, ◌+◌, ◌≤◌, ◌%◌, ◌^◌, List, [], ◌++◌, length, codes, sum_by}
+-- What a report comes to: how many machines it tells of, and sums over its lines.
+use Rattle.std.specs.Prelude.{ℕ, ◌+◌, ◌≤◌, ◌%◌, ◌^◌, List, [], ◌++◌, length, codes, sum_by, Option, Some, None}
 use Rattle.std.specs.Fmt.{decimal}
 use Rattle.fork_port.specs.declared.ending.Ending.{Ending}
 use Rattle.fork_port.specs.declared.ending.Ending.TheVariants.{Exit, Limit}
 use Rattle.forest_tree.specs.Tree.{Tree}
+use Rattle.sibling_forest.specs.Talk.{Box}
 use Rattle.forest_model.specs.Machine.{Machine}
 use Rattle.run_report.specs.declared.summary.Summary.{Summary}
 use Rattle.run_report.specs.Lines.{Line, machine_line, ticket_line, lines}
-use Rattle.run_report.specs.Report.{Ended, lines_of, told}
+use Rattle.run_report.specs.Report.{Ended, lines_of, told_box}
 
 -- ---- what a line adds to each number
 
@@ -19,10 +20,11 @@ abbrev pub steps_of : Line → ℕ
 steps_of (machine_line name ending steps output) = steps
 steps_of (ticket_line name ticket count) = 0
 
--- a machine that met its limit has no value
-abbrev pub value_of : Ending → ℕ
-value_of (Exit value handed) = value
-value_of Limit = 0
+-- a machine that met its limit or is stuck has no value
+abbrev pub value_of : Option Ending → ℕ
+value_of None = 0
+value_of (Some (Exit value handed)) = value
+value_of (Some Limit) = 0
 
 abbrev pub exit_of : Line → ℕ
 exit_of (machine_line name ending steps output) = value_of ending
@@ -66,10 +68,10 @@ summary_text seed s =
     ++ codes "\n")))))))))))
 
 -- the summary of the forest of the machine that was booted from the guest of a seed
-unfoldable pub summary : ℕ → Tree Machine → List ℕ
-summary seed t = summary_text seed (summed (lines told [] t))
+unfoldable pub summary : ℕ → Tree (Box Machine) → List ℕ
+summary seed t = summary_text seed (summed (lines told_box [] t))
 
--- what is put out of a machine that has ended and its log
+-- what is put out of a machine that has come to its end, with the lines behind its own
 unfoldable pub summary_of : ℕ → Ended → List ℕ
 summary_of seed e = summary_text seed (summed (lines_of e))
 

@@ -1,4 +1,4 @@
-//! The report of machines that have ended.
+//! The report of a family that has come to its end.
 #![tactic(auto)]
 
 pub mod laws;

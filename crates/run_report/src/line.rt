@@ -4,7 +4,7 @@ ghost use Rattle.std.specs.Prelude.{◌≡◌, ℕ, ◌+◌, ◌-◌, ◌^◌, �
 ghost use Rattle.std.specs.List.{flat_map};
 ghost use Rattle.io_edge.specs.Outside.{HasRisen};
 ghost use Rattle.io_edge.specs.Streamed.{Streams};
-ghost use Rattle.run_report.specs.Lines.{bytes_text, ending_text, handed_text, line_text, ticket_line};
+ghost use Rattle.run_report.specs.Lines.{bytes_text, end_text, ending_text, handed_text, line_text, ticket_line};
 ghost use Rattle.run_report.specs.Said.{line_of_machine, line_of_ticket, piece_text};
 ghost use Rattle.run_report.specs.Summary.{IsWithin, with_line};
 
@@ -18,11 +18,12 @@ use std::marker::Model;
 /// The most hexadecimal digits of bytes that a machine hands over.
 const MAX_DIGITS: usize = 2 * MAX_HANDED;
 
-/// What a report says of a machine that has ended.
+/// What a report says of a machine.
 #[derive(Drop)]
 pub(crate) struct MachineLine {
     pub(crate) name: Name,
-    pub(crate) ending: Ending,
+    /// None where it is stuck.
+    pub(crate) ending: Option<Ending>,
     pub(crate) steps: u64,
     pub(crate) output: Vec<u8>,
 }
@@ -92,7 +93,7 @@ enum Said {
     Ticket(TicketLine),
 }
 
-/// A line of a report: of a machine that has ended, or of a ticket that was killed.
+/// A line of a report: of a machine that has ended or is stuck, or of a ticket that was killed.
 #[derive(Drop)]
 pub struct Line {
     said: Said,
@@ -109,7 +110,7 @@ impl Model for Line {
 }
 
 impl Line {
-    /// The line of a machine that has ended.
+    /// The line of a machine.
     pub(crate) fn of_machine(line: MachineLine) -> Line
         ensures { result ≡ line_of_machine line }
     {
@@ -165,8 +166,8 @@ impl Line {
 pub(crate) enum Piece<'a> {
     Text(&'a [u8]),
     Named(&'a Name),
-    Ended(Ending),
-    HandedOver(Ending),
+    Ended(Option<Ending>),
+    HandedOver(Option<Ending>),
     Number(u64),
     Sum(u128),
 }
@@ -181,7 +182,7 @@ impl Piece<'_> {
         match self {
             Piece::Text(text) => buffer.put(sink, text),
             Piece::Named(name) => name.put(buffer, sink),
-            Piece::Ended(ending) => put_ending(*ending, buffer, sink),
+            Piece::Ended(ending) => put_end(*ending, buffer, sink),
             Piece::HandedOver(ending) => put_handed(*ending, buffer, sink),
             Piece::Number(number) => buffer.put_number(sink, *number),
             Piece::Sum(sum) => buffer.put(sink, itoa::Buffer::new().format(*sum).as_bytes()),
@@ -205,6 +206,22 @@ pub(crate) fn put_pieces<K: Sink>(
     Ok(())
 }
 
+/// Puts out how a machine came to its end, in words.
+fn put_end<K: Sink>(
+    ending: Option<Ending>,
+    buffer: &mut SinkBuffer,
+    sink: &mut K,
+) -> Result<(), WriteFault>
+    ensures counts { K.faults sink.old ≤ K.faults sink.new }
+    ensures fault { OnErr result (HasRisen (K.faults sink.old) (K.faults sink.new)) }
+    ensures streams { Streams (K.gone sink.old) (K.gone sink.new) buffer.old (end_text ending) buffer.new result }
+{
+    match ending {
+        Some(ending) => put_ending(ending, buffer, sink),
+        None => buffer.put(sink, b"stuck"),
+    }
+}
+
 /// Puts out how a machine ended, in words.
 fn put_ending<K: Sink>(
     ending: Ending,
@@ -226,7 +243,7 @@ fn put_ending<K: Sink>(
 
 /// Puts out the bytes that a machine handed over, if there are any.
 fn put_handed<K: Sink>(
-    ending: Ending,
+    ending: Option<Ending>,
     buffer: &mut SinkBuffer,
     sink: &mut K,
 ) -> Result<(), WriteFault>
@@ -235,8 +252,8 @@ fn put_handed<K: Sink>(
     ensures streams { Streams (K.gone sink.old) (K.gone sink.new) buffer.old (handed_text ending) buffer.new result }
 {
     match ending {
-        Ending::Exit(_, handed) => put_bytes(handed.as_slice(), buffer, sink),
-        Ending::Limit => buffer.put(sink, b""),
+        Some(Ending::Exit(_, handed)) => put_bytes(handed.as_slice(), buffer, sink),
+        _ => buffer.put(sink, b""),
     }
 }
 

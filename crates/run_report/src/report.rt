@@ -1,4 +1,4 @@
-//! The report of a machine that has ended, with what its log tells.
+//! The report of a machine that has come to its end, with what its log tells.
 
 ghost use Rattle.std.specs.Prelude.{◌≡◌, ◌+◌, ◌≤◌, ◌++◌, length, vec_len, vec_capacity, OnOk, OnErr};
 ghost use Rattle.io_edge.specs.Outside.{HasRisen, appended, IsPrefixGone};
@@ -17,7 +17,8 @@ use std::marker::Model;
 use thiserror::Error;
 
 /// A machine that has ended, and the lines of its log: those of the children that it joined, with theirs,
-/// and of the tickets that were killed, in order.
+/// and of the tickets that were killed, in order. Or one that is stuck: it lives, and makes no step any more. The lines of
+/// its children follow those of its log.
 #[derive(Drop)]
 pub struct Outcome {
     own: MachineLine,
@@ -33,7 +34,14 @@ impl Model for Outcome {
 }
 
 impl Outcome {
-    pub fn new(name: Name, ending: Ending, steps: u64, output: Vec<u8>, log: Vec<Line>) -> Outcome
+    /// A machine of this name, with how it ended, or none where it is stuck.
+    pub fn new(
+        name: Name,
+        ending: Option<Ending>,
+        steps: u64,
+        output: Vec<u8>,
+        log: Vec<Line>,
+    ) -> Outcome
         ensures { result ≡ record { name = name; ending = ending; steps = steps; output = output.items; log = log.items } }
     {
         Outcome {
@@ -54,8 +62,8 @@ impl Outcome {
         &self.own.name
     }
 
-    /// How it ended.
-    pub fn ending(&self) -> Ending
+    /// How it ended, or none where it is stuck.
+    pub fn ending(&self) -> Option<Ending>
         ensures { result ≡ self.now.ending }
     {
         self.own.ending
@@ -115,7 +123,7 @@ impl From<WriteFault> for ReportError {
     }
 }
 
-/// Writes the report of a machine and its log, piece by piece as it walks them. After a fault of the sink a
+/// Writes the report of a machine and the lines behind its own, piece by piece as it walks them. After a fault of the sink a
 /// prefix of the report is out. It takes no memory.
 #[tactic(auto, unfolding(crate::specs::Report::lines_of))]
 pub fn report_into<K: Sink>(outcome: &Outcome, sink: &mut K) -> Result<(), ReportError>

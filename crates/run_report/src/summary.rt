@@ -11,7 +11,7 @@ use crate::{Line, Outcome, ReportError};
 use forest_model::Ending;
 use io_edge::{Sink, SinkBuffer, WriteFault};
 
-/// How many machines have ended, and sums over the lines of a report. There are fewer than 2^64 lines, and each adds less
+/// How many machines there are, and sums over the lines of a report. There are fewer than 2^64 lines, and each adds less
 /// than 2^64 to a sum, so 128 bits are enough for each of them.
 #[derive(Drop)]
 pub(crate) struct Summary {
@@ -53,7 +53,7 @@ impl Summary {
         summary
     }
 
-    /// Adds a machine that has ended.
+    /// Adds a machine.
     #[tactic(auto, unfolding(crate::specs::Summary::with_line))]
     pub(crate) fn add_machine(&mut self, line: &MachineLine)
         requires { IsWithin (2 ^ 128 - 2 ^ 64) self.old }
@@ -107,17 +107,17 @@ impl Summary {
     }
 }
 
-/// The value of a machine that has ended: 0 where it met its limit.
-fn exit_value(ending: Ending) -> u32
+/// The value of a machine that has ended: 0 where it met its limit or is stuck.
+fn exit_value(ending: Option<Ending>) -> u32
     ensures { result ≡ value_of ending }
 {
     match ending {
-        Ending::Exit(value, _) => value,
-        Ending::Limit => 0,
+        Some(Ending::Exit(value, _)) => value,
+        _ => 0,
     }
 }
 
-/// Writes what the report of a machine and its log comes to, as one line with the seed of its guest. After a fault of the
+/// Writes what the report of a machine and the lines behind its own comes to, as one line with the seed of its guest. After a fault of the
 /// sink a prefix of the line is out. It takes no memory.
 #[tactic(auto, unfolding(crate::specs::Summary::summary_of))]
 pub fn summary_into<K: Sink>(outcome: &Outcome, seed: u32, sink: &mut K) -> Result<(), ReportError>

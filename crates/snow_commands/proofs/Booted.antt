@@ -9,63 +9,66 @@ use Rattle.guest_files.specs.declared.stop.Stop.{Stop}
 use Rattle.guest_files.specs.Parts.{Makes}
 use Rattle.guest_files.specs.Reads.{Guest, Refusal, and_then}
 use Rattle.drive_script.specs.Driven.{HasMachines}
+use Rattle.drive_script.specs.Steps.{Family}
 use Rattle.forest_tree.specs.Projection.{map_tree}
-use Rattle.forest_tree.specs.Settle.{alone}
-use Rattle.forest_tree.specs.Tree.{Tree}
-use Rattle.forest_history.specs.Places.{bare}
-use Rattle.forest_history.specs.World.{world_of}
-use Rattle.forest_history.proofs.Whole.{start-home}
+use Rattle.talking_history.specs.Places.{bare}
+use Rattle.talking_history.specs.World.{world_of}
+use Rattle.talking_history.proofs.Turned.{start-home}
 use Rattle.forest_model.specs.declared.Options.{Options}
 use Rattle.forest_model.specs.Machine.{boot}
-use Rattle.forest_model.specs.Forest.{finish, machines, port_of}
-use Rattle.forest_model.specs.Paged.{Paged, paged_machines}
+use Rattle.forest_model.specs.Forest.{port_of, talked_out}
+use Rattle.forest_model.specs.Paged.{Paged, paged_machines, paged_talks}
 use Rattle.run_report.specs.Lines.{lines}
-use Rattle.run_report.specs.Report.{Ended as Outcome, lines_of, told as machine_told}
+use Rattle.run_report.specs.Report.{Ended as Outcome, lines_of, told_box}
 use Rattle.vm_cell.specs.Keyed.{KeyedMachine, paged}
 use Rattle.world_core.specs.declared.reason.Reason.{Reason}
 use Rattle.world_core.specs.declared.world.World.{World}
 use Rattle.world_core.specs.World.{StandsFor}
-use Rattle.snow_commands.specs.Text.{HasLines, IsBooted, IsOfMachine, known_family, known_guest, told_by}
+use Rattle.snow_commands.specs.Text.{HasLines, IsBooted, IsOfMachine, first_family, first_known, known_family, known_guest, told_by}
 
 pub boot-ticketless : (image : Image) (disk input : List ℕ) (options : Options) → (port_of (boot image disk input options)).tickets ≡ []
 unfolding boot
 boot-ticketless image disk input options = refl
 
-world-bare : (p : Paged) → bare (world_of paged_machines {R = Reason} p).tree ≡ alone paged_machines p
+pub boot-alone : (image : Image) (disk input : List ℕ) (options : Options) → (boot image disk input options).state.ports.sibling.siblings ≡ 0
+unfolding boot
+boot-alone image disk input options = refl
+
+world-bare : (p : Paged) → bare (world_of paged_machines paged_talks {R = Reason} p).tree ≡ first_known p
 unfolding map_tree
 world-bare p = refl
 
 -- the world has the machine alone, at home
 pub has-machine : (depot : Shelves) (p : Paged) (made : World × Snapshot KeyedMachine) → IsOfMachine depot p made
-    → HasMachines depot made.0 (alone paged_machines p)
+    → HasMachines depot made.0 (first_known p)
 has-machine depot p made h = record {
-  forest = world_of paged_machines (paged made.1.value);
+  forest = world_of paged_machines paged_talks (paged made.1.value);
   stands = h.stands;
-  whole = start-home paged_machines Reason (paged made.1.value);
-  same = world-bare (paged made.1.value) ∙ ap (alone paged_machines) h.is;
+  whole = start-home paged_machines paged_talks Reason (paged made.1.value);
+  same = world-bare (paged made.1.value) ∙ ap first_known h.is;
 }
 
 module _ (values : GuestValues) (guest : Guest) (depot : Shelves) (made : World × Snapshot KeyedMachine) where
   -- what has the lines of the family of that machine has those of the machine that is booted from the image
   pub family-lines : (image : Result Image Refusal) (outcome : Outcome) → IsOkAnd image (IsBooted depot values guest made)
-      → lines_of outcome ≡ lines machine_told [] (finish (alone machines made.1.value.machine))
+      → lines_of outcome ≡ lines told_box [] (talked_out (first_family made.1.value.machine))
       → IsOkAnd image (HasLines values guest outcome)
-  family-lines (Ok image) outcome is ran = ran ∙ ap (λ (p : Paged). lines machine_told [] (finish (alone machines p.machine))) is.is
+  family-lines (Ok image) outcome is ran = ran ∙ ap (λ (p : Paged). lines told_box [] (talked_out (first_family p.machine))) is.is
   family-lines (Err refusal) outcome is ran = absurd is
 
   pub made-stands : (image : Result Image Refusal) → IsOkAnd image (IsBooted depot values guest made)
-      → StandsFor depot made.0 (world_of paged_machines (paged made.1.value))
+      → StandsFor depot made.0 (world_of paged_machines paged_talks (paged made.1.value))
   made-stands (Ok image) is = is.stands
   made-stands (Err refusal) is = absurd is
 
   -- it has machines
-  pub family-there : (image : Result Image Refusal) → IsOkAnd image (IsBooted depot values guest made) → (t : Tree Paged) × HasMachines depot made.0 t
+  pub family-there : (image : Result Image Refusal) → IsOkAnd image (IsBooted depot values guest made) → (t : Family) × HasMachines depot made.0 t
   family-there (Ok image) is = (known_family values guest image, has-machine depot (known_guest values guest image) made is)
   family-there (Err refusal) is = absurd is
 
   -- what a script tells of them is what it tells of the machine that is booted
   pub drives : {A : Type 0} (text : List ℕ) (image : Result Image Refusal) (shows : A → List ℕ → Type 0) (result : Result A Stop)
-      → IsOkAnd image (IsBooted depot values guest made) → ((t : Tree Paged) → HasMachines depot made.0 t → Makes (told_by text t) shows result)
+      → IsOkAnd image (IsBooted depot values guest made) → ((t : Family) → HasMachines depot made.0 t → Makes (told_by text t) shows result)
       → Makes (and_then (λ image. told_by text (known_family values guest image)) image) shows result
   drives text (Ok image) shows result is told = told (known_family values guest image) (has-machine depot (known_guest values guest image) made is)
   drives text (Err refusal) shows result is told = absurd is

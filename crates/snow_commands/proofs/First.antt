@@ -1,32 +1,69 @@
 -- The first pass of a new board: no seat is foreign to it, and it has seen nothing.
-use Rattle.std.proofs.Common.{◌≡◌, ◌⊎◌, inl, inr, true, false, [], ◌∷◌, Option, Some, None, refl, subst, arith}
+use Rattle.std.proofs.Common.{◌≡◌, ◌⊎◌, inl, inr, ℕ, ◌<◌, true, false, List, [], ◌∷◌, get_or, length, Option, Some, None, Result, Ok, Err, IfErr, IfOk, refl, ap, ◌∙◌, subst, arith}
 use Rattle.std.specs.Option.{IsSomeAnd}
 use Rattle.forest_history.specs.Histories.{Seat}
+use Rattle.forest_model.specs.Forest.{talked_out}
+use Rattle.forest_model.specs.Machine.{Machine}
+use Rattle.run_report.specs.Lines.{lines}
+use Rattle.run_report.specs.Report.{Ended as Outcome, lines_of, told_box}
+use Rattle.wire_fates.specs.declared.fate.TheConstants.{LONGEST_STREAK}
+use Rattle.vm_cell.specs.Keyed.{KeyedMachine}
 use Rattle.world_core.specs.declared.reason.Reason.{Reason}
-use Rattle.fork_board.specs.Passes.{BoardValue, PassValue}
-use Rattle.host_workers.specs.Finishes.{IsForeign, IsStopped, IsStoppedElsewhere, first_stop}
+use Rattle.world_core.specs.declared.reason.Reason.TheVariants as why
+use Rattle.fork_board.specs.Passes.{BoardValue, PassValue, first_pass}
+use Rattle.host_workers.specs.Finishes.{IsForeign, IsStopped, IsStoppedElsewhere, WorkedAll, first_stop}
+use Rattle.host_workers.specs.Lost.{IsOneLost}
+use Rattle.host_workers.specs.declared.finish.Finish.{Finish}
+use Rattle.host_workers.specs.declared.finish.Finish.TheVariants.{Stopped}
+use Rattle.snow_commands.specs.Text.{first_family}
 
-abbrev pub first_of : BoardValue → PassValue
-first_of board = record { board = board; number = []; splits = 0; seen = []; mine = []; ended = [] }
-
-not-foreign : (board : BoardValue) (seat : Seat) → IsForeign (first_of board) seat → ⊥
+not-foreign : (board : BoardValue) (seat : Seat) → IsForeign (first_pass board) seat → ⊥
 not-foreign board [] f = f.not_own refl
 not-foreign board (k ∷ below) f = f.not_below k below (omega arith) refl
 
 -- so if the world was stopped, it was by the pass or by one that was split off from it
-elsewhere-not : (board : BoardValue) (stop : Option (Seat × Reason)) → IsSomeAnd stop (λ s. IsForeign (first_of board) s.0) → ⊥
+elsewhere-not : (board : BoardValue) (stop : Option (Seat × Reason)) → IsSomeAnd stop (λ s. IsForeign (first_pass board) s.0) → ⊥
 elsewhere-not board None h = h
 elsewhere-not board (Some s) h = not-foreign board s.0 h
 
-unstopped : (board : BoardValue) → IsStopped (first_of board) → ⊥
+unstopped : (board : BoardValue) → IsStopped (first_pass board) → ⊥
 unfolding first_stop
 unstopped board stopped = let no : false ≡ true = stopped in cc
 
-pub first-blames : {Lost : Type 0} (board : BoardValue) (pass later : PassValue) → pass ≡ first_of board
+pub first-blames : {Lost : Type 0} (board : BoardValue) (pass later : PassValue) → pass ≡ first_pass board
     → Lost ⊎ (IsStopped pass ⊎ IsStoppedElsewhere pass later) → Lost
 first-blames {Lost} board pass later is blame = by (subst (λ (p : PassValue). Lost ⊎ (IsStopped p ⊎ IsStoppedElsewhere p later)) is blame)
   where
-    by : Lost ⊎ (IsStopped (first_of board) ⊎ IsStoppedElsewhere (first_of board) later) → Lost
+    by : Lost ⊎ (IsStopped (first_pass board) ⊎ IsStoppedElsewhere (first_pass board) later) → Lost
     by (inl lost) = lost
     by (inr (inl stopped)) = absurd (unstopped board stopped)
     by (inr (inr elsewhere)) = absurd (elsewhere-not board (first_stop later.seen) elsewhere)
+
+-- a family that is told to have lost a wire was stopped for that
+pub told-blames : {A : Type 0} (Lost : Type 0) (r : Result A Reason) (finish : Finish) → IfErr r (λ reason. finish ≡ Stopped reason ⊎ reason ≡ why.Memory)
+    → (finish ≡ Stopped why.Wire → Lost) → IfErr r (λ reason. reason ≡ why.Wire → Lost)
+told-blames Lost (Ok value) finish told lost = tt
+told-blames Lost (Err reason) finish told lost = λ wire. by wire told
+  where
+    by : reason ≡ why.Wire → finish ≡ Stopped reason ⊎ reason ≡ why.Memory → Lost
+    by wire (inl stopped) = lost (stopped ∙ ap Stopped wire)
+    by wire (inr memory) = let no : why.Memory ≡ why.Wire = cc in absurd (cc)
+
+-- the only one of the wires is not lost
+pub only-kept : {W : Type 0} (streak : W → ℕ) (wires : List W) (default : W) (count : ℕ) → IsOneLost streak wires → length wires ≡ 1
+    → count ≡ streak (get_or wires 0 default) → count < LONGEST_STREAK → ⊥
+only-kept streak [] default count lost one is kept = lost
+only-kept streak (wire ∷ []) default count (inl lost) one is kept = let here : count ≡ streak wire = is in absurd (omega (arith, here, kept, lost))
+only-kept streak (wire ∷ []) default count (inr lost) one is kept = lost
+only-kept streak (wire ∷ second ∷ rest) default count lost one is kept = absurd (omega (arith, one))
+
+-- the lines that are told of the machine that a board began with
+pub first-lines : (board : BoardValue) (pass later : PassValue) (first : KeyedMachine) (r : Result Outcome Reason) → board.opening.first.value ≡ first
+    → pass ≡ first_pass board → WorkedAll pass later
+    → IfOk r (λ outcome. lines_of outcome ≡ lines told_box [] (talked_out (first_family later.board.opening.first.value.machine)))
+    → IfOk r (λ outcome. lines_of outcome ≡ lines told_box [] (talked_out (first_family first.machine)))
+first-lines board pass later first r opened is worked told =
+    let same : later.board.opening.first.value.machine ≡ first.machine =
+    ap (λ (b : BoardValue). b.opening.first.value.machine) (worked.same_board ∙ ap (λ (p : PassValue). p.board) is)
+    ∙ ap (λ (v : KeyedMachine). v.machine) opened in
+    subst (λ (m : Machine). IfOk r (λ (o : Outcome). lines_of o ≡ lines told_box [] (talked_out (first_family m)))) same told

@@ -10,19 +10,21 @@ use Rattle.elf_load.specs.Elf.{loaded}
 use Rattle.forest_tree.specs.Tree.{Tree}
 use Rattle.forest_tree.specs.Settle.{alone}
 use Rattle.forest_model.specs.declared.Options.{Options}
-use Rattle.forest_model.specs.Forest.{booted, finish}
-use Rattle.forest_history.specs.World.{world_of}
+use Rattle.forest_model.specs.Forest.{booted_box, machines, talked_out, talks}
+use Rattle.sibling_forest.specs.Talk.{Box, boxed}
+use Rattle.talking_history.specs.World.{world_of}
 use Rattle.forest_model.specs.Machine.{Machine, boot}
-use Rattle.forest_model.specs.Paged.{Paged, pages_at_boot, paged_machines}
+use Rattle.forest_model.specs.Paged.{Paged, pages_at_boot, paged_machines, paged_talks}
 use Rattle.vm_cell.specs.Keyed.{KeyedMachine, paged}
 use Rattle.world_core.specs.World.{StandsFor}
 use Rattle.run_report.specs.Lines.{lines}
-use Rattle.run_report.specs.Report.{Ended as Outcome, lines_of as outcome_lines, report, told}
+use Rattle.run_report.specs.Report.{Ended as Outcome, lines_of as outcome_lines, report, told_box}
 use Rattle.run_report.specs.Summary.{summary}
 use Rattle.flat_memory.specs.Flat.{zeros}
 use Rattle.guest_gen.specs.Guest.{guest as guest_image_of}
 use Rattle.snow_commands.specs.declared.generated.TheConstants.{SECTORS}
 use Rattle.drive_script.specs.Script.{ScriptLine, script}
+use Rattle.drive_script.specs.Steps.{Family}
 use Rattle.drive_script.specs.Told.{told_text}
 use Rattle.drive_script.specs.declared.script.TheConstants.{MAX_SCRIPT}
 use Rattle.command_line.specs.Words.{Command, GeneratedValues, GuestValues, run, drive, generated, generated_guest, meant}
@@ -38,8 +40,12 @@ script_read name files = file_read SCRIPT_LOAD MAX_SCRIPT script_too_long (files
 abbrev pub options_of : GuestValues → Options
 options_of values = record { limit = values.limit; allot = values.clones }
 
-abbrev pub family_of : GuestValues → Guest → Image → Tree Machine
-family_of values guest image = booted image guest.disk guest.input (options_of values)
+-- the family of a machine alone, to which no word was sent
+abbrev pub first_family : Machine → Tree (Box Machine)
+first_family m = alone (boxed machines talks) (record { machine = m; inbox = [] })
+
+abbrev pub family_of : GuestValues → Guest → Image → Tree (Box Machine)
+family_of values guest image = booted_box image guest.disk guest.input (options_of values)
 
 -- the machine that is booted, with what is known of its pages
 abbrev pub booted_paged : Image → List ℕ → List ℕ → Options → Paged
@@ -49,8 +55,11 @@ abbrev pub known_guest : GuestValues → Guest → Image → Paged
 known_guest values guest image = booted_paged image guest.disk guest.input (options_of values)
 
 -- the family, with what is known of the pages
-abbrev pub known_family : GuestValues → Guest → Image → Tree Paged
-known_family values guest image = alone paged_machines (known_guest values guest image)
+abbrev pub first_known : Paged → Family
+first_known p = alone (boxed paged_machines paged_talks) (record { machine = p; inbox = [] })
+
+abbrev pub known_family : GuestValues → Guest → Image → Family
+known_family values guest image = first_known (known_guest values guest image)
 
 -- the image that it is booted from, with a disk of whole sectors
 abbrev pub image_beside : Guest → Image → Result Image Refusal
@@ -66,7 +75,7 @@ guest_image values guest = image_from guest (loaded guest.image values.pages)
 
 -- the world is of this machine alone, as it was made, with the machine as it was then
 pub record IsOfMachine (depot : Shelves) (p : Paged) (made : World × Snapshot KeyedMachine) : Type 0 where
-  pub stands : StandsFor depot made.0 (world_of paged_machines (paged made.1.value))
+  pub stands : StandsFor depot made.0 (world_of paged_machines paged_talks (paged made.1.value))
   pub is : paged made.1.value ≡ p
 
 -- the world is of the machine that is booted from this image
@@ -75,13 +84,13 @@ IsBooted depot values guest made image = IsOfMachine depot (known_guest values g
 
 -- an outcome has the lines of the family of the machine that is booted from this image, run to its end
 abbrev pub HasLines : GuestValues → Guest → Outcome → Image → Type 0
-HasLines values guest outcome image = outcome_lines outcome ≡ lines told [] (finish (family_of values guest image))
+HasLines values guest outcome image = outcome_lines outcome ≡ lines told_box [] (talked_out (family_of values guest image))
 
 -- ---- the texts
 
 -- what is told of the family, run to its end
-abbrev pub family_text : (Tree Machine → List ℕ) → GuestValues → Guest → Result (List ℕ) Refusal
-family_text tell values guest = and_then (λ image. Ok (tell (finish (family_of values guest image)))) (guest_image values guest)
+abbrev pub family_text : (Tree (Box Machine) → List ℕ) → GuestValues → Guest → Result (List ℕ) Refusal
+family_text tell values guest = and_then (λ image. Ok (tell (talked_out (family_of values guest image)))) (guest_image values guest)
 
 -- `run`: the report
 abbrev pub run_with : GuestValues → Guest → Result (List ℕ) Refusal
@@ -95,7 +104,7 @@ abbrev pub lines_of : Result (List ScriptLine) (ℕ × ℕ) → Result (List Scr
 lines_of (Ok lines) = Ok lines
 lines_of (Err refusal) = Err (script_refused refusal.0 refusal.1)
 
-abbrev pub told_by : List ℕ → Tree Paged → Result (List ℕ) Refusal
+abbrev pub told_by : List ℕ → Family → Result (List ℕ) Refusal
 told_by text t = and_then (λ lines. Ok (told_text lines t)) (lines_of (script text))
 
 abbrev pub drive_with : GuestValues → Guest → List ℕ → Result (List ℕ) Refusal

@@ -4,8 +4,7 @@ ghost use Rattle.std.specs.Prelude.{◌≡◌, ◌≤◌, [], ◌∷◌, length,
 ghost use Rattle.std.specs.Option.{option_map};
 ghost use Rattle.drive_script.specs.Driven.{HasMachines};
 ghost use Rattle.drive_script.specs.Script.{script};
-ghost use Rattle.forest_tree.specs.Tree.{Tree};
-ghost use Rattle.forest_model.specs.Paged.{Paged};
+ghost use Rattle.drive_script.specs.Steps.{Family};
 ghost use Rattle.io_edge.specs.Outside.{HasRisen};
 ghost use Rattle.command_line.specs.Words.{drive};
 ghost use Rattle.snow_commands.specs.Text.{drive_text, drive_with, lines_of, script_read, told_by};
@@ -31,7 +30,8 @@ pub fn drive_and_write<R: AllocGlobal + Wait, S: Shelf, K: Sink>(
     sink: &mut K,
 ) -> Result<(), Stop>
     ensures writes { Writes (drive guest.now script.now) (S.files shelf.old)
-        (λ load. HasRisen (S.faults shelf.old) (S.faults shelf.new) × IsFaultOf (loads_of (drive guest.now script.now)) load (S.asked shelf.old) (S.asked shelf.new))
+        (λ load. HasRisen (S.faults shelf.old) (S.faults shelf.new)
+        × IsFaultOf (loads_of (drive guest.now script.now)) load (S.asked shelf.old) (S.asked shelf.new))
         (HasRisen (K.faults sink.old) (K.faults sink.new)) ⊥
         (K.gone sink.old) (K.gone sink.new) result }
     ensures loads { OnOk result (AreAsked (loads_of (drive guest.now script.now)) (S.asked shelf.old) (S.asked shelf.new)) }
@@ -115,8 +115,8 @@ fn drive_world<R: AllocGlobal + Wait>(
     depot: &Depot,
 ) -> Result<Vec<u8>, Stop>
     requires most { length text.now ≤ MAX_SCRIPT }
-    requires family { (t : Tree Paged) × HasMachines depot.now world.old t }
-    ensures { (t : Tree Paged) → HasMachines depot.now world.old t → Makes (told_by text.now t) (λ text told. text.items ≡ told) result }
+    requires family { (t : Family) × HasMachines depot.now world.old t }
+    ensures { (t : Family) → HasMachines depot.now world.old t → Makes (told_by text.now t) (λ text told. text.items ≡ told) result }
 {
     let script = script_of(rt.alloc(), text)?;
     let told = drive(rt, rt.alloc(), &script, world, depot)?;

@@ -1,21 +1,22 @@
-//! The family of a machine is run to its end, by workers on a board.
+//! The family of a machine is run to its end, by workers on a board: until the root has ended, or no machine makes a step any
+//! more.
 
-ghost use Rattle.std.specs.Prelude.{◌≡◌, ◌⊎◌, ◌+◌, ◌*◌, ◌^◌, ◌<◌, ◌≤◌, [], true, length, map, IfErr, IfOk};
+ghost use Rattle.std.specs.Prelude.{◌≡◌, ◌⊎◌, ◌+◌, ◌*◌, ◌^◌, ◌<◌, ◌≤◌, [], length, map, IfErr, IfOk};
 ghost use Rattle.page_claims.specs.Calls.{fresh};
-ghost use Rattle.forest_tree.specs.Settle.{alone};
-ghost use Rattle.forest_history.specs.World.{world_of};
-ghost use Rattle.forest_model.specs.Forest.{finish, machines};
-ghost use Rattle.forest_model.specs.Paged.{paged_machines};
+ghost use Rattle.talking_history.specs.World.{world_of};
+ghost use Rattle.forest_model.specs.Forest.{talked_out};
+ghost use Rattle.forest_model.specs.Paged.{paged_machines, paged_talks};
 ghost use Rattle.run_report.specs.Lines.{lines};
-ghost use Rattle.run_report.specs.Report.{lines_of, told};
+ghost use Rattle.run_report.specs.Report.{lines_of, told_box};
 ghost use Rattle.vm_cell.specs.Keyed.{paged};
 ghost use Rattle.world_core.specs.Told.{told_of};
 ghost use Rattle.world_core.specs.World.{StandsFor};
 ghost use Rattle.fork_board.specs.Follows.{depot_of};
 ghost use Rattle.fork_board.specs.Passes.{HoldsNone};
-ghost use Rattle.host_workers.specs.Finishes.{AreDone, Finishes, IsStopped, IsStoppedElsewhere, WorkedAll, is_over};
+ghost use Rattle.host_workers.specs.Finishes.{AreDone, Finishes, IsStopped, IsStoppedElsewhere, WorkedAll};
 ghost use Rattle.host_workers.specs.Lost.{IsOneLost};
 ghost use Rattle.snow_commands.specs.Seeded.{IfRan, all_seeded};
+ghost use Rattle.snow_commands.specs.Text.{first_family};
 
 use command_line::RunWords;
 use fork_board::{Board, Pass};
@@ -58,24 +59,42 @@ pub fn run_family<R: AllocGlobal + Threads + Wait + Sync, W: Wire + Send, G: Gat
     plan: &Plan<'_, G>,
     wires: &mut [W],
 ) -> Result<Outcome, Reason>
-    requires stands { StandsFor depot.now family.0 (world_of paged_machines (paged family.1.value)) }
+    requires stands { StandsFor depot.now family.0 (world_of paged_machines paged_talks (paged family.1.value)) }
     requires told { told_of family.0 ≡ [] }
     requires wires { (1 ≤ length wires.old) × (length wires.old ≤ MAX_WORKERS) }
     requires pages { CLAIMED_IMAGES * (extent.pages + extent.disk_pages) < 2 ^ 32 }
-    ensures lines { IfOk result (λ outcome. lines_of outcome ≡ lines told [] (finish (alone machines family.1.value.machine))) }
+    ensures lines { IfOk result (λ outcome. lines_of outcome ≡ lines told_box [] (talked_out (first_family family.1.value.machine))) }
     ensures wire { IfErr result (λ reason. reason ≡ Reason.Wire → (0 < extent.clones) × IsOneLost W.streak wires.new) }
     ensures seeded { IfRan result (map W.seeds wires.new ≡ all_seeded plan.now.how.now.seed (map W.seeds wires.old)) }
     ensures len { length wires.new ≡ length wires.old }
 {
+    let images = if extent.clones > 0 { CLAIMED_IMAGES } else { 0 };
+    let Ok((claims, claiming)) = Claims::new(rt.alloc(), images, extent.pages, extent.disk_pages)
+    else {
+        return Err(Reason::Memory);
+    };
+    let (world, first) = family;
+    let Ok((board, pass)) = Board::new(rt.alloc(), world, first, depot) else {
+        return Err(Reason::Memory);
+    };
     if extent.clones > 0 {
-        return run_claiming(rt, CLAIMED_IMAGES, extent, family, depot, plan, wires);
+        let (pass, finish) = run_seeded(rt, &board, pass, (&claims, claiming), depot, plan, wires);
+        return outcome_of(rt, board, pass, finish);
     }
     seed_all(wires, plan.how.seed());
     let mut unused = [Seeded::new()];
-    let ran = run_claiming(rt, 0, extent, family, depot, plan, &mut unused);
+    let (pass, finish) = run_seeded(
+        rt,
+        &board,
+        pass,
+        (&claims, claiming),
+        depot,
+        plan,
+        &mut unused,
+    );
     // The call tells that this wire is not lost.
     let _ = unused[0].streak();
-    ran
+    outcome_of(rt, board, pass, finish)
 }
 
 /// Seeds each wire.
@@ -88,64 +107,8 @@ fn seed_all<W: Wire>(wires: &mut [W], seed: u32)
     }
 }
 
-/// Makes claims for the pages of so many images, and runs the family of a machine to its end.
-fn run_claiming<R: AllocGlobal + Threads + Wait + Sync, W: Wire + Send, G: Gate + Sync>(
-    rt: &R,
-    images: u32,
-    extent: Extent,
-    family: (World, Snapshot<Vm>),
-    depot: &Depot,
-    plan: &Plan<'_, G>,
-    wires: &mut [W],
-) -> Result<Outcome, Reason>
-    requires images { images ≤ CLAIMED_IMAGES }
-    requires pages { CLAIMED_IMAGES * (extent.pages + extent.disk_pages) < 2 ^ 32 }
-    requires stands { StandsFor depot.now family.0 (world_of paged_machines (paged family.1.value)) }
-    requires told { told_of family.0 ≡ [] }
-    requires wires { (1 ≤ length wires.old) × (length wires.old ≤ MAX_WORKERS) }
-    ensures lines { IfOk result (λ outcome. lines_of outcome ≡ lines told [] (finish (alone machines family.1.value.machine))) }
-    ensures wire { IfErr result (λ reason. reason ≡ Reason.Wire → IsOneLost W.streak wires.new) }
-    ensures seeded { IfRan result (map W.seeds wires.new ≡ all_seeded plan.now.how.now.seed (map W.seeds wires.old)) }
-    ensures len { length wires.new ≡ length wires.old }
-{
-    let Ok((claims, claiming)) = Claims::new(rt.alloc(), images, extent.pages, extent.disk_pages)
-    else {
-        return Err(Reason::Memory);
-    };
-    run_to_end(rt, (&claims, claiming), family, depot, plan, wires)
-}
-
-/// Runs the family of a machine to its end, by a worker for each wire.
-fn run_to_end<R: AllocGlobal + Threads + Wait + Sync, W: Wire + Send, G: Gate + Sync>(
-    rt: &R,
-    claims: (&Claims, ClaimPass),
-    family: (World, Snapshot<Vm>),
-    depot: &Depot,
-    plan: &Plan<'_, G>,
-    wires: &mut [W],
-) -> Result<Outcome, Reason>
-    requires claims { claims.1 ≡ fresh claims.0.now.table 65536 }
-    requires stands { StandsFor depot.now family.0 (world_of paged_machines (paged family.1.value)) }
-    requires told { told_of family.0 ≡ [] }
-    requires wires { (1 ≤ length wires.old) × (length wires.old ≤ MAX_WORKERS) }
-    ensures lines { IfOk result (λ outcome. lines_of outcome ≡ lines told [] (finish (alone machines family.1.value.machine))) }
-    ensures wire { IfErr result (λ reason. reason ≡ Reason.Wire → IsOneLost W.streak wires.new) }
-    ensures seeded { IfRan result (map W.seeds wires.new ≡ all_seeded plan.now.how.now.seed (map W.seeds wires.old)) }
-    ensures len { length wires.new ≡ length wires.old }
-{
-    let (world, first) = family;
-    let Ok((board, pass)) = Board::new(rt.alloc(), world, first, depot) else {
-        return Err(Reason::Memory);
-    };
-    let (pass, finish) = run_seeded(rt, &board, pass, claims, depot, plan, wires);
-    match finish {
-        Finish::Over => Ok(outcome_of(rt, board, pass)),
-        Finish::Stopped(reason) => Err(reason),
-    }
-}
-
-/// Gives each wire the seed of the words, and lets a worker for each of them work on a board, until the root has ended or
-/// the world was stopped.
+/// Gives each wire the seed of the words, and lets a worker for each of them work on a board, until the root has ended, the
+/// world was stopped, or no machine makes a step any more.
 fn run_seeded<R: AllocGlobal + Threads + Wait + Sync, W: Wire + Send, G: Gate + Sync>(
     rt: &R,
     board: &Board,
@@ -180,14 +143,25 @@ fn run_seeded<R: AllocGlobal + Threads + Wait + Sync, W: Wire + Send, G: Gate + 
     (pass, finish)
 }
 
-/// What came of a family whose root has ended.
-fn outcome_of<R: Wait>(rt: &R, board: Board, pass: Pass) -> Outcome
+/// What came of a family, of which a pass has seen that it was stopped, that its root has ended, or that no machine makes a step any
+/// more. Else than by a stop only memory can be wanting.
+fn outcome_of<R: AllocGlobal + Wait>(
+    rt: &R,
+    board: Board,
+    pass: Pass,
+    finish: Finish,
+) -> Result<Outcome, Reason>
     requires board { pass.board ≡ board }
-    requires over { is_over pass ≡ true }
-    ensures { lines_of result ≡ lines told [] (finish (alone machines pass.board.opening.first.value.machine)) }
+    requires finish { Finishes pass finish }
+    ensures lines { IfOk result (λ outcome. lines_of outcome ≡ lines told_box [] (talked_out (first_family pass.board.opening.first.value.machine))) }
+    ensures reason { IfErr result (λ reason. finish ≡ Finish.Stopped reason ⊎ reason ≡ Reason.Memory) }
 {
-    match board.close(rt, pass).into_finished() {
-        Some(outcome) => outcome,
-        None => unreachable!(),
+    if let Some(reason) = finish.reason() {
+        return Err(reason);
+    }
+    match board.close(rt, pass).outcome(rt.alloc()) {
+        Ok(Some(outcome)) => Ok(outcome),
+        Ok(None) => unreachable!(),
+        Err(_) => Err(Reason::Memory),
     }
 }

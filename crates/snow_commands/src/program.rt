@@ -8,7 +8,8 @@ ghost use Rattle.guest_files.specs.Parts.{AreAsked, IsDataRefusal, IsFaultOf, Is
 ghost use Rattle.snow_commands.specs.Lost.{IsLost, IsLostIn};
 ghost use Rattle.snow_commands.specs.Seeded.{AreSeeded, AreSeededIn, IfRun, is_run};
 ghost use Rattle.snow_commands.specs.Writes.{IsGenerated, IsSilent, IsUnrefused, Writes};
-ghost use Rattle.snow_commands.specs.Status.{AreLoaded, IsFileless, IsWritten, IsPrefixOut, IsRefused, IsFaultAsked, IsLoadAsked, IsReached, Completes, IsStatus};
+ghost use Rattle.snow_commands.specs.Status.{AreLoaded, Completes, IsFaultAsked, IsFileless, IsLoadAsked, IsPrefixOut};
+ghost use Rattle.snow_commands.specs.Status.{IsReached, IsRefused, IsStatus, IsWritten};
 
 use crate::drive::drive_and_write;
 use crate::family::Plan;

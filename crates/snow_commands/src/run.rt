@@ -43,7 +43,8 @@ pub fn run_and_report<
     requires some { 0 < vec_len wires.old }
     requires most { vec_len wires.old ≤ MAX_WORKERS }
     ensures writes { Writes (run guest.now plan.now.how.now) (S.files shelf.old)
-        (λ load. HasRisen (S.faults shelf.old) (S.faults shelf.new) × IsFaultOf (loads_of (run guest.now plan.now.how.now)) load (S.asked shelf.old) (S.asked shelf.new))
+        (λ load. HasRisen (S.faults shelf.old) (S.faults shelf.new)
+        × IsFaultOf (loads_of (run guest.now plan.now.how.now)) load (S.asked shelf.old) (S.asked shelf.new))
         (HasRisen (K.faults sink.old) (K.faults sink.new)) (IsLostIn (run guest.now plan.now.how.now) W.streak wires.new.items)
         (K.gone sink.old) (K.gone sink.new) result }
     ensures loads { OnOk result (AreAsked (guest_loads guest.now) (S.asked shelf.old) (S.asked shelf.new)) }

@@ -15,6 +15,8 @@ mod numbers;
 #[cfg(test)]
 mod seeds;
 #[cfg(test)]
+mod siblings;
+#[cfg(test)]
 mod tests;
 #[cfg(test)]
 mod workers;

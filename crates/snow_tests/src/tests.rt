@@ -89,7 +89,7 @@ fn wire_of(rt: &impl Abort, alloc: Global, gives: usize, fate: Fate, times: usiz
 
 /// So many wires, of each of which this is told: it gives so many replies, then tells a fate so many times, and then
 /// gives again.
-type Wires = (usize, usize, Fate, usize);
+pub(crate) type Wires = (usize, usize, Fate, usize);
 
 /// Wires that give each reply.
 const GIVING: Wires = (8, 0, Fate::Give(0), 0);
@@ -374,7 +374,7 @@ fn compare_code<R: Abort>(rt: &R, line: &str, found: &Status, sink: &MemSink, co
 }
 
 /// Runs a line over an image and wires, and compares its code.
-fn has_code<R: AllocGlobal + Threads + Wait + Sync + Abort>(
+pub(crate) fn has_code<R: AllocGlobal + Threads + Wait + Sync + Abort>(
     rt: &R,
     line: &str,
     image: &[u8],

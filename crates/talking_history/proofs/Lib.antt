@@ -10,5 +10,6 @@ pub mod Turned
 pub mod Turns
 pub mod Seen
 pub mod Waiting
+pub mod Beside
 pub mod Stays
 pub mod CameBack

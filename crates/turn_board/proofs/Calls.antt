@@ -1,18 +1,23 @@
 -- From what the steps tell to what the calls ensure.
-use Rattle.std.proofs.Common.{◌≡◌, ℕ, ◌+◌, ◌%◌, ◌^◌, List, [], ◌∷◌, ◌++◌, true, Option, Some, None, sym, ap, ◌∙◌, subst}
+use Rattle.std.proofs.Common.{◌≡◌, ◌⊎◌, inl, inr, ℕ, ◌+◌, ◌%◌, ◌^◌, ◌≤◌, List, [], ◌∷◌, ◌++◌, length, Bool, true, false, Option, Some, None, refl, sym, ap, ◌∙◌, subst}
+use Rattle.std.specs.Prelude.{nat_lt, if◌then◌else◌}
 use mathlib.Core.Option.{none}
 use Rattle.std.specs.declared.snapshot.Snapshot.{Snapshot}
 use Rattle.atomic_table.specs.declared.shared.Seat.{Seat}
 use Rattle.atomic_table.specs.Seated.{TableId}
-use Rattle.atomic_table.specs.Table.{Me, step, rest, Allows}
+use Rattle.atomic_table.specs.Table.{Me, Step, step, rest, Allows}
 use Rattle.turn_board.specs.declared.view.Content.{Content}
 use Rattle.turn_board.specs.declared.view.View.{View}
-use Rattle.turn_board.specs.History.{History, entries_by}
-use Rattle.turn_board.specs.Rule.{content, Turning}
-use Rattle.turn_board.specs.Steps.{passed_view, passed}
-use Rattle.turn_board.specs.Calls.{IsSeat, IsTurn, Leaves}
+use Rattle.turn_board.specs.History.{History, HasEnded, StartsWith, entries_by, longer}
+use Rattle.turn_board.specs.Rule.{content, informed, IsLive, Turning}
+use Rattle.turn_board.specs.Steps.{learned, passed_view, passed}
+use Rattle.turn_board.specs.Calls.{IsSeat, IsTurn, Joins, Leaves}
 use Rattle.turn_board.proofs.Entries.{entries_by-push_same}
 use Rattle.turn_board.proofs.Moves.{passes}
+
+one_of : {N : Type 0} (shorter : Bool) (xs ys : History N) → ((if shorter then ys else xs) ≡ xs) ⊎ ((if shorter then ys else xs) ≡ ys)
+one_of true xs ys = inr refl
+one_of false xs ys = inl refl
 
 module _ {A N T : Type 0} where
   -- the turn passes from a seat that has put the value home
@@ -56,3 +61,28 @@ module _ {A N T : Type 0} where
     seen = ap (λ m. m.0.seen) is;
     mine = ap (λ m. m.0.mine) is;
   }
+
+  -- the seat after it has learned what the other had seen
+  pub joined_seats : (seat other new : Seat (Content T N) (View A N)) (mid : Me (Content T N) (View A N)) (by : Step (Content T N)) (n : ℕ)
+      → IsLive seat.me.0.about → mid ≡ (informed seat.me.0 other.me.0, seat.me.1) → learned by mid n new.me → Joins seat other new
+  joined_seats seat other new mid by n live is told = from (subst (λ m. learned by m n new.me) is told)
+    where
+      from : learned by (informed seat.me.0 other.me.0, seat.me.1) n new.me → Joins seat other new
+      from l =
+          let seen : new.me.0.seen ≡ longer seat.me.0.seen other.me.0.seen = ap (λ m. m.0.seen) l.is in
+          record {
+            same_seat = ap (λ m. m.0.seat) l.is;
+            same_splits = ap (λ m. m.0.splits) l.is;
+            same_mine = ap (λ m. m.0.mine) l.is;
+            either =
+                subst (λ (s : History N). (s ≡ seat.me.0.seen) ⊎ (s ≡ other.me.0.seen)) (sym seen)
+                (one_of (nat_lt (length seat.me.0.seen) (length other.me.0.seen)) seat.me.0.seen other.me.0.seen);
+            seen = subst (λ s. StartsWith s seat.me.0.seen) (sym seen) l.seen;
+            told = subst (λ s. StartsWith s other.me.0.seen) (sym seen) l.told;
+            unmade = λ k below le.
+                ap (λ m. entries_by (m.0.seat ++ k ∷ below) m.0.seen) l.is
+                ∙ l.unmade live k below (subst (λ m. m.0.splits ≤ k) l.is le);
+            ended = ap (λ m. m.0.ended) l.is;
+            still = λ s splits has. subst (HasEnded s splits seat.me.0.seen) (sym seen) (l.still s splits has);
+            last = λ s splits has. subst (HasEnded s splits other.me.0.seen) (sym seen) (l.last s splits has);
+          }

@@ -14,9 +14,9 @@ use Rattle.atomic_table.specs.Table.{Joins as Absorbs}
 use Rattle.atomic_table.proofs.Lists.{set_here, set_else, set_again, at_longer}
 use Rattle.turn_board.specs.declared.view.Content.{Content}
 use Rattle.turn_board.specs.declared.view.View.{View}
-use Rattle.turn_board.specs.Seats.{has_seat, room}
-use Rattle.turn_board.specs.History.{History, StartsWith, entries_by, longer}
-use Rattle.turn_board.specs.Rule.{content, count_if, IsLive, room_of, drawn_of, newcomer, parent, child, informed, spent, IsNamed, HasAll, HasDrawn, Outlives, Fits, Unlike, Home, Turning}
+use Rattle.turn_board.specs.Seats.{has_seat, next_seat, room}
+use Rattle.turn_board.specs.History.{History, HasEnded, StartsWith, entries_by, longer}
+use Rattle.turn_board.specs.Rule.{content, count_if, IsLive, room_of, drawn_of, newcomer, parent, child, informed, spent, IsNamed, IsOver, HasAll, HasDrawn, Outlives, Fits, Unlike, Home, Turning}
 use Rattle.turn_board.specs.Steps.{drawn_view, served_view, learned_view, passed_view, drew, looked, passed, learned}
 use Rattle.turn_board.proofs.Views.{total_set, total_push, total_le, set_at, each_set, each_push, each_two, pairs_set, pairs_push}
 use Rattle.turn_board.proofs.Names.{not_true, has_new, has_old, has_not, had, had_append, had_not, unmade_below, above_self, same_child, room_split, room_pos}
@@ -40,19 +40,36 @@ ended_apart gone seat s lives has same = true≢false (sym has ∙ ap (has_seat 
 
 -- what was seen of the seats that have ended
 module _ {N : Type 0} where
-  none_ended : (log : History N) (gone : List (List ℕ)) (seen : History N) → HasAll log gone [] seen
-  none_ended log gone seen s has = absurd (true≢false (sym has))
+  none_ended : (log : History N) (made gone : List (List ℕ)) (seen : History N) → HasAll log made gone [] seen
+  none_ended log made gone seen s splits has = absurd (true≢false (sym has))
 
   -- another makes an entry
-  all_other : (log : History N) (gone ended : List (List ℕ)) (seen : History N) (seat : List ℕ) (note : N) → has_seat gone seat ≡ false
-      → HasAll log gone ended seen → HasAll (log ++ (seat, note) ∷ []) gone ended seen
-  all_other log gone ended seen seat note lives all s has =
-      let h = all s has in (h.0, entries_by-push_other s seat log note (ended_apart gone seat s lives h.0) ∙ h.1)
+  all_other : (log : History N) (made gone ended : List (List ℕ)) (seen : History N) (seat : List ℕ) (note : N) → has_seat gone seat ≡ false
+      → HasAll log made gone ended seen → HasAll (log ++ (seat, note) ∷ []) made gone ended seen
+  all_other log made gone ended seen seat note lives all s splits has =
+      let h = all s splits has in
+      record {
+        is_gone = h.is_gone;
+        all = entries_by-push_other s seat log note (ended_apart gone seat s lives h.is_gone) ∙ h.all;
+        unmade = h.unmade;
+      }
 
   -- one more has ended
-  all_gone : (log : History N) (gone ended : List (List ℕ)) (seen : History N) (seat : List ℕ) → HasAll log gone ended seen
-      → HasAll log (seat ∷ gone) ended seen
-  all_gone log gone ended seen seat all s has = let h = all s has in (has_old gone seat s h.0, h.1)
+  all_gone : (log : History N) (made gone ended : List (List ℕ)) (seen : History N) (seat : List ℕ) → HasAll log made gone ended seen
+      → HasAll log made (seat ∷ gone) ended seen
+  all_gone log made gone ended seen seat all s splits has =
+      let h = all s splits has in record { is_gone = has_old gone seat s h.is_gone; all = h.all; unmade = h.unmade }
+
+  -- one more is made, which is split off from a seat that lives
+  all_made : (log : History N) (made gone ended : List (List ℕ)) (seen : History N) (seat : List ℕ) (n : ℕ) → has_seat gone seat ≡ false
+      → HasAll log made gone ended seen → HasAll log (next_seat seat n ∷ made) gone ended seen
+  all_made log made gone ended seen seat n lives all s splits has =
+      let h = all s splits has in
+      record {
+        is_gone = h.is_gone;
+        all = h.all;
+        unmade = λ k le. has_not made (next_seat seat n) (s ++ k ∷ []) (λ same. ended_apart gone seat s lives h.is_gone (same_child seat s n k same).0) (h.unmade k le);
+      }
 
   -- of a history between what was seen and the whole
   all_between : (log seen later : History N) (s : List ℕ) → StartsWith log later → StartsWith later seen → entries_by s log ≡ entries_by s seen
@@ -195,7 +212,11 @@ module _ {A N T : Type 0} (stands : A → History N → T → Type 0) (key : A) 
               named = f.named;
               sees = record { seen_is = begins_self h.log; told_is = f.sees.told_is; mine_is = f.sees.mine_is; own_is = f.sees.mine_is };
               draws = record { number_is = f.draws.number_is; served_is = λ on. (drawn, refl, few) };
-              outlives = record { here = f.outlives.here; ended_is = λ s has. ((f.outlives.ended_is s has).0, refl); told_is = f.outlives.told_is };
+              outlives = record {
+                here = f.outlives.here;
+                ended_is = λ s splits has. (let o = f.outlives.ended_is s splits has in record { is_gone = o.is_gone; all = refl; unmade = o.unmade });
+                told_is = f.outlives.told_is;
+              };
             })
             (λ j u other e. h.fits j u e);
         apart = pairs_set Unlike turned s.views id w h.apart (λ j u other e. h.apart id j v u (λ k. other (sym k)) at e);
@@ -294,8 +315,10 @@ module _ {A N T : Type 0} (stands : A → History N → T → Type 0) (key : A) 
                 draws = record { number_is = λ m e. no_number w.number m refl e; served_is = λ on. off w.served refl on };
                 outlives = record {
                   here = f.outlives.here;
-                  ended_is = λ s has. ((f.outlives.ended_is s has).0, ap (λ l. entries_by s (l ++ entry ∷ [])) (sym mine.1));
-                  told_is = all_other h.log h.gone v.told_ended v.told v.seat note.value (f.outlives.here live) f.outlives.told_is;
+                  ended_is = λ s splits has. (
+                      let o = f.outlives.ended_is s splits has in
+                      record { is_gone = o.is_gone; all = ap (λ l. entries_by s (l ++ entry ∷ [])) (sym mine.1); unmade = o.unmade });
+                  told_is = all_other h.log h.made h.gone v.told_ended v.told v.seat note.value (f.outlives.here live) f.outlives.told_is;
                 };
               })
               (λ j u other e.
@@ -318,8 +341,8 @@ module _ {A N T : Type 0} (stands : A → History N → T → Type 0) (key : A) 
                 };
                 outlives = record {
                   here = g.outlives.here;
-                  ended_is = all_other h.log h.gone u.ended u.seen v.seat note.value (f.outlives.here live) g.outlives.ended_is;
-                  told_is = all_other h.log h.gone u.told_ended u.told v.seat note.value (f.outlives.here live) g.outlives.told_is;
+                  ended_is = all_other h.log h.made h.gone u.ended u.seen v.seat note.value (f.outlives.here live) g.outlives.ended_is;
+                  told_is = all_other h.log h.made h.gone u.told_ended u.told v.seat note.value (f.outlives.here live) g.outlives.told_is;
                 };
               });
           apart = pairs_set Unlike turned s.views id w h.apart (λ j u other e. ((λ m e. no_number w.number m refl e), (h.apart id j v u (λ k. other (sym k)) at e).1));
@@ -340,6 +363,20 @@ module _ {A N T : Type 0} (stands : A → History N → T → Type 0) (key : A) 
       same_note : (m n : Snapshot N) → Some m ≡ Some n → m ≡ n
       same_note m n e = cc
 
+  -- a beginning of the history has no entry of a seat that is not made, nor of one that would be split off from it
+  unseen : (s : Lock) (h : Rule s) (seen : History N) → StartsWith h.log seen → (seat : List ℕ) (k : ℕ) (below : List ℕ)
+      → has_seat h.made (seat ++ k ∷ []) ≡ false → entries_by (seat ++ k ∷ below) seen ≡ []
+  unseen s h seen part seat k below unmade =
+      none_before (seat ++ k ∷ below) h.log seen part (h.fresh (seat ++ k ∷ below) (unmade_below h.made h.rooted below seat k unmade))
+
+  -- one that begins with what was seen has no more entries of a seat that had ended
+  over : (s : Lock) (h : Rule s) (seen later : History N) (seat : List ℕ) (splits : ℕ) → StartsWith h.log later → StartsWith later seen
+      → IsOver h.log h.made h.gone seat splits seen → HasEnded seat splits seen later
+  over s h seen later seat splits whole part o = record {
+    all = all_between h.log seen later seat whole part o.all;
+    none = λ k below le. unseen s h later whole seat k below (o.unmade k le);
+  }
+
   -- a seat learns which is longer, what it had seen or what it was told
   pub learns : (slots id : ℕ) (v : View A N) (c : List (ℕ × Content T N)) → v.served ≡ false → Allows Rule slots id (v, c) 0 (λ n. n) (learned (step slots 0 0 0 none) (v, c))
   learns slots id v c idle s h slots_are at fit =
@@ -347,10 +384,13 @@ module _ {A N T : Type 0} (stands : A → History N → T → Type 0) (key : A) 
       let f = h.fits id v at in
       let l = longer_is h.log v.seen v.told f.sees.seen_is f.sees.told_is in
       let own = λ (live : IsLive v.about). same_between v.seat h.log (longer v.seen v.told) v.seen v.mine l.all l.first (f.sees.mine_is live) (f.sees.own_is live) in
-      let still : (s : List ℕ) → has_seat v.ended s ≡ true → entries_by s (longer v.seen v.told) ≡ entries_by s v.seen =
-      λ s has. all_between h.log v.seen (longer v.seen v.told) s l.all l.first (f.outlives.ended_is s has).1 in
-      let last : (s : List ℕ) → has_seat v.told_ended s ≡ true → entries_by s (longer v.seen v.told) ≡ entries_by s v.told =
-      λ s has. all_between h.log v.told (longer v.seen v.told) s l.all l.second (f.outlives.told_is s has).1 in (
+      let later = longer v.seen v.told in
+      let unmade = λ (live : IsLive v.about) (k : ℕ) (below : List ℕ) (le : v.splits ≤ k).
+      unseen s h later l.all v.seat k below (f.named.unmade live k le) in
+      let still : (s : List ℕ) (splits : ℕ) → has_seat v.ended (next_seat s splits) ≡ true → HasEnded s splits v.seen later =
+      λ t splits has. over s h v.seen later t splits l.all l.first (f.outlives.ended_is t splits has) in
+      let last : (s : List ℕ) (splits : ℕ) → has_seat v.told_ended (next_seat s splits) ≡ true → HasEnded s splits v.told later =
+      λ t splits has. over s h v.told later t splits l.all l.second (f.outlives.told_is t splits has) in (
         w,
         keeps,
         tt,
@@ -370,11 +410,15 @@ module _ {A N T : Type 0} (stands : A → History N → T → Type 0) (key : A) 
                 draws = record { number_is = f.draws.number_is; served_is = λ on. off v.served idle on };
                 outlives = record {
                   here = f.outlives.here;
-                  ended_is = λ s has. ⊎_elim
-                      (λ (old : has_seat v.ended s ≡ true). ((f.outlives.ended_is s old).0, (f.outlives.ended_is s old).1 ∙ sym (still s old)))
-                      (λ (new : has_seat v.told_ended s ≡ true). ((f.outlives.told_is s new).0, (f.outlives.told_is s new).1 ∙ sym (last s new)))
-                      (had_append v.ended v.told_ended s has);
-                  told_is = none_ended h.log h.gone [];
+                  ended_is = λ t splits has. ⊎_elim
+                      (λ (old : has_seat v.ended (next_seat t splits) ≡ true).
+                      let o = f.outlives.ended_is t splits old in
+                      record { is_gone = o.is_gone; all = o.all ∙ sym (still t splits old).all; unmade = o.unmade })
+                      (λ (new : has_seat v.told_ended (next_seat t splits) ≡ true).
+                      let o = f.outlives.told_is t splits new in
+                      record { is_gone = o.is_gone; all = o.all ∙ sym (last t splits new).all; unmade = o.unmade })
+                      (had_append v.ended v.told_ended (next_seat t splits) has);
+                  told_is = none_ended h.log h.made h.gone [];
                 };
               })
               (λ j u other e. h.fits j u e);
@@ -384,7 +428,7 @@ module _ {A N T : Type 0} (stands : A → History N → T → Type 0) (key : A) 
           fresh = h.fresh;
           home = home_set h.log s (set s.words 0 (slice_index s.words 0)) id v w at (λ on. on) h.home;
         },
-        record { is = refl; seen = l.first; told = l.second; own = own; still = still; last = last },
+        record { is = refl; seen = l.first; told = l.second; own = own; unmade = unmade; still = still; last = last },
       )
 
   -- a seat is split off
@@ -432,8 +476,8 @@ module _ {A N T : Type 0} (stands : A → History N → T → Type 0) (key : A) 
               draws = record { number_is = λ m e. no_number x.number m refl e; served_is = λ on. off x.served refl on };
               outlives = record {
                 here = λ l. not_true (has_seat h.gone x.seat) (λ has. true≢false (sym (h.gone_made x.seat has) ∙ unmade));
-                ended_is = none_ended h.log h.gone v.seen;
-                told_is = none_ended h.log h.gone [];
+                ended_is = none_ended h.log made h.gone v.seen;
+                told_is = none_ended h.log made h.gone [];
               };
             })
             (each_set (Fits key h.log made h.gone h.ticket) s.views id w
@@ -447,7 +491,11 @@ module _ {A N T : Type 0} (stands : A → History N → T → Type 0) (key : A) 
               };
               sees = f.sees;
               draws = f.draws;
-              outlives = f.outlives;
+              outlives = record {
+                here = f.outlives.here;
+                ended_is = all_made h.log h.made h.gone v.ended v.seen v.seat v.splits (f.outlives.here live) f.outlives.ended_is;
+                told_is = all_made h.log h.made h.gone v.told_ended v.told v.seat v.splits (f.outlives.here live) f.outlives.told_is;
+              };
             })
             (λ j u other e. let g = h.fits j u e in record {
               named = record {
@@ -460,7 +508,11 @@ module _ {A N T : Type 0} (stands : A → History N → T → Type 0) (key : A) 
               };
               sees = g.sees;
               draws = g.draws;
-              outlives = g.outlives;
+              outlives = record {
+                here = g.outlives.here;
+                ended_is = all_made h.log h.made h.gone u.ended u.seen v.seat v.splits (f.outlives.here live) g.outlives.ended_is;
+                told_is = all_made h.log h.made h.gone u.told_ended u.told v.seat v.splits (f.outlives.here live) g.outlives.told_is;
+              };
             }));
         apart = pairs_push Unlike turned (set s.views id w) x
             (pairs_set Unlike turned s.views id w h.apart (λ j u other e. h.apart id j v u (λ z. other (sym z)) at e))
@@ -494,7 +546,14 @@ module _ {A N T : Type 0} (stands : A → History N → T → Type 0) (key : A) 
       let live : IsLive w.about = (key, knows) in
       let f = h.fits id v at in
       let g = h.fits other w old in
-      let gone = w.seat ∷ h.gone in record {
+      let gone = w.seat ∷ h.gone in
+      let ends : IsOver h.log h.made gone w.seat w.splits w.seen = record {
+        is_gone = has_new h.gone w.seat;
+        all = g.sees.mine_is live ∙ sym (g.sees.own_is live);
+        unmade = g.named.unmade live;
+      } in
+      let ends_now = λ (s : List ℕ) (splits : ℕ) (same : (w.seat ≡ s) × (w.splits ≡ splits)).
+      subst (λ n. IsOver h.log h.made gone s n w.seen) same.1 (subst (λ t. IsOver h.log h.made gone t w.splits w.seen) same.0 ends) in record {
         log = h.log;
         made = h.made;
         gone = gone;
@@ -519,19 +578,18 @@ module _ {A N T : Type 0} (stands : A → History N → T → Type 0) (key : A) 
               draws = f.draws;
               outlives = record {
                 here = λ l. has_not h.gone w.seat v.seat ((h.apart other id w v apart old at).1 live l) (f.outlives.here l);
-                ended_is = all_gone h.log h.gone v.ended v.seen w.seat f.outlives.ended_is;
-                told_is = λ s has. ⊎_elim
-                    (λ (same : w.seat ≡ s). subst (λ t. (has_seat gone t ≡ true) × (entries_by t h.log ≡ entries_by t w.seen)) same
-                    (has_new h.gone w.seat, g.sees.mine_is live ∙ sym (g.sees.own_is live)))
-                    (λ (had : has_seat w.ended s ≡ true). all_gone h.log h.gone w.ended w.seen w.seat g.outlives.ended_is s had)
-                    (had w.ended w.seat s has);
+                ended_is = all_gone h.log h.made h.gone v.ended v.seen w.seat f.outlives.ended_is;
+                told_is = λ s splits has. ⊎_elim
+                    (λ (same : next_seat w.seat w.splits ≡ next_seat s splits). ends_now s splits (same_child w.seat s w.splits splits same))
+                    (λ (had : has_seat w.ended (next_seat s splits) ≡ true). all_gone h.log h.made h.gone w.ended w.seen w.seat g.outlives.ended_is s splits had)
+                    (had w.ended (next_seat w.seat w.splits) (next_seat s splits) has);
               };
             })
             (record {
               named = record { about_is = λ a e. absurd (not_live a e); depth = omega arith; few = omega arith; made_is = λ l. absurd (not_live l.0 l.1); unmade = λ l. absurd (not_live l.0 l.1) };
               sees = record { seen_is = (h.log, refl); told_is = (h.log, refl); mine_is = λ l. absurd (not_live l.0 l.1); own_is = λ l. absurd (not_live l.0 l.1) };
               draws = record { number_is = λ m e. no_number None m refl e; served_is = λ on. off false refl on };
-              outlives = record { here = λ l. absurd (not_live l.0 l.1); ended_is = none_ended h.log gone []; told_is = none_ended h.log gone [] };
+              outlives = record { here = λ l. absurd (not_live l.0 l.1); ended_is = none_ended h.log h.made gone []; told_is = none_ended h.log h.made gone [] };
             })
             (λ j u this that e. let k = h.fits j u e in record {
               named = k.named;
@@ -539,8 +597,8 @@ module _ {A N T : Type 0} (stands : A → History N → T → Type 0) (key : A) 
               draws = k.draws;
               outlives = record {
                 here = λ l. has_not h.gone w.seat u.seat ((h.apart other j w u (λ z. that (sym z)) old e).1 live l) (k.outlives.here l);
-                ended_is = all_gone h.log h.gone u.ended u.seen w.seat k.outlives.ended_is;
-                told_is = all_gone h.log h.gone u.told_ended u.told w.seat k.outlives.told_is;
+                ended_is = all_gone h.log h.made h.gone u.ended u.seen w.seat k.outlives.ended_is;
+                told_is = all_gone h.log h.made h.gone u.told_ended u.told w.seat k.outlives.told_is;
               };
             });
         apart = pairs_set Unlike turned (set s.views id x) other spent
@@ -582,7 +640,7 @@ module _ {A N T : Type 0} (stands : A → History N → T → Type 0) (key : A) 
               };
               sees = record { seen_is = ([], refl); told_is = ([], refl); mine_is = λ l. refl; own_is = λ l. refl };
               draws = record { number_is = λ m e. no_number None m refl e; served_is = λ on. off false refl on };
-              outlives = record { here = λ l. refl; ended_is = none_ended [] [] []; told_is = none_ended [] [] [] };
+              outlives = record { here = λ l. refl; ended_is = none_ended [] ([] ∷ []) [] []; told_is = none_ended [] ([] ∷ []) [] [] };
             })
             (λ j u e. absurd (some-ne-none u (sym e)));
         apart = pairs_push Unlike turned [] v (λ i j u w apart e f. absurd (some-ne-none u (sym e))) (λ j u e. absurd (some-ne-none u (sym e)));

@@ -4,8 +4,8 @@ use Rattle.atomic_table.specs.declared.shared.Seat.{Seat}
 use Rattle.atomic_table.specs.Seated.{TableId}
 use Rattle.turn_board.specs.declared.view.Content.{Content}
 use Rattle.turn_board.specs.declared.view.View.{View}
-use Rattle.turn_board.specs.Seats.{has_seat}
-use Rattle.turn_board.specs.History.{History, entries_by, StartsWith}
+use Rattle.turn_board.specs.Seats.{has_seat, next_seat}
+use Rattle.turn_board.specs.History.{History, HasEnded, entries_by, StartsWith}
 use Rattle.turn_board.specs.Rule.{content}
 use Rattle.turn_board.specs.Steps.{Served}
 
@@ -63,7 +63,7 @@ module _ {A N T : Type 0} where
     pub mine : new.me.0.mine ≡ old.me.0.mine ++ (old.me.0.seat, note) ∷ []
 
   -- the seat has seen what either had, of which one begins the other. The second has ended: the first has seen all entries
-  -- of its number, and of those of the seats that ended before
+  -- of it, and of the seats that ended before. Each of them is known by the number that it would have given next
   pub record Joins (seat other new : Seat (Content T N) (View A N)) : Type 0 where
     pub same_seat : new.me.0.seat ≡ seat.me.0.seat
     pub same_splits : new.me.0.splits ≡ seat.me.0.splits
@@ -71,9 +71,11 @@ module _ {A N T : Type 0} where
     pub either : (new.me.0.seen ≡ seat.me.0.seen) ⊎ (new.me.0.seen ≡ other.me.0.seen)
     pub seen : StartsWith new.me.0.seen seat.me.0.seen
     pub told : StartsWith new.me.0.seen other.me.0.seen
-    pub ended : new.me.0.ended ≡ seat.me.0.ended ++ other.me.0.seat ∷ other.me.0.ended
-    pub still : (s : List ℕ) → has_seat seat.me.0.ended s ≡ true → entries_by s new.me.0.seen ≡ entries_by s seat.me.0.seen
-    pub last : (s : List ℕ) → has_seat (other.me.0.seat ∷ other.me.0.ended) s ≡ true → entries_by s new.me.0.seen ≡ entries_by s other.me.0.seen
+    pub unmade : (k : ℕ) (below : List ℕ) → new.me.0.splits ≤ k → entries_by (new.me.0.seat ++ k ∷ below) new.me.0.seen ≡ []
+    pub ended : new.me.0.ended ≡ seat.me.0.ended ++ next_seat other.me.0.seat other.me.0.splits ∷ other.me.0.ended
+    pub still : (s : List ℕ) (splits : ℕ) → has_seat seat.me.0.ended (next_seat s splits) ≡ true → HasEnded s splits seat.me.0.seen new.me.0.seen
+    pub last : (s : List ℕ) (splits : ℕ) → has_seat (next_seat other.me.0.seat other.me.0.splits ∷ other.me.0.ended) (next_seat s splits) ≡ true
+        → HasEnded s splits other.me.0.seen new.me.0.seen
 
   -- the value stands for the whole history, which begins with what the seat had seen, and has no more entries of its number than its own
   pub record Closes (stands : A → History N → T → Type 0) (about : A) (seat : Seat (Content T N) (View A N)) (value : T) : Type 0 where

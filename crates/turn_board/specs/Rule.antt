@@ -6,7 +6,7 @@ use Rattle.atomic_table.specs.Table.{State}
 use Rattle.std.specs.declared.snapshot.Snapshot.{Snapshot}
 use Rattle.turn_board.specs.declared.view.Content.{Content}
 use Rattle.turn_board.specs.declared.view.View.{View}
-use Rattle.turn_board.specs.Seats.{has_seat, room}
+use Rattle.turn_board.specs.Seats.{has_seat, next_seat, room}
 use Rattle.turn_board.specs.History.{History, entries_by, StartsWith}
 
 abbrev pub content : {T N : Type 0} → Option T → Option (Snapshot N) → Content T N
@@ -34,9 +34,15 @@ pub record IsNamed {A : Type 0} (key : A) (made : List (List ℕ)) (about : Opti
   pub made_is : IsLive about → has_seat made seat ≡ true
   pub unmade : IsLive about → (k : ℕ) → splits ≤ k → has_seat made (seat ++ k ∷ []) ≡ false
 
--- of these seats, which have ended, what was seen has all entries
-abbrev pub HasAll : {N : Type 0} → History N → List (List ℕ) → List (List ℕ) → History N → Type 0
-HasAll log gone ended seen = (s : List ℕ) → has_seat ended s ≡ true → (has_seat gone s ≡ true) × (entries_by s log ≡ entries_by s seen)
+-- a seat that has ended after so many splits: of it what was seen has all entries, and no more are split off from it
+pub record IsOver {N : Type 0} (log : History N) (made gone : List (List ℕ)) (seat : List ℕ) (splits : ℕ) (seen : History N) : Type 0 where
+  pub is_gone : has_seat gone seat ≡ true
+  pub all : entries_by seat log ≡ entries_by seat seen
+  pub unmade : (k : ℕ) → splits ≤ k → has_seat made (seat ++ k ∷ []) ≡ false
+
+-- so have those that would have given these numbers next
+abbrev pub HasAll : {N : Type 0} → History N → List (List ℕ) → List (List ℕ) → List (List ℕ) → History N → Type 0
+HasAll log made gone ended seen = (s : List ℕ) (splits : ℕ) → has_seat ended (next_seat s splits) ≡ true → IsOver log made gone s splits seen
 
 module _ {A N : Type 0} where
   -- how many seats may yet come of it, itself among them; of a spent one none
@@ -83,7 +89,7 @@ module _ {A N : Type 0} where
 
   -- the first seat, told what the second had seen, which ends
   abbrev pub informed : View A N → View A N → View A N
-  informed v w = record v { told = w.seen; told_ended = w.seat ∷ w.ended }
+  informed v w = record v { told = w.seen; told_ended = next_seat w.seat w.splits ∷ w.ended }
 
   -- what is left of a seat that was joined to another
   abbrev pub spent : View A N
@@ -102,18 +108,18 @@ module _ {A N : Type 0} where
     pub served_is : served ≡ true → (number ≡ Some (length log)) × (seen ≡ log) × (length log < 9223372036854775808)
 
   -- a seat that lives has not ended
-  pub record Outlives (log : History N) (gone : List (List ℕ)) (about : Option A) (seat : List ℕ) (ended told_ended : List (List ℕ)) (seen told : History N)
-      : Type 0 where
+  pub record Outlives (log : History N) (made gone : List (List ℕ)) (about : Option A) (seat : List ℕ) (ended told_ended : List (List ℕ))
+      (seen told : History N) : Type 0 where
     pub here : IsLive about → has_seat gone seat ≡ false
-    pub ended_is : HasAll log gone ended seen
-    pub told_is : HasAll log gone told_ended told
+    pub ended_is : HasAll log made gone ended seen
+    pub told_is : HasAll log made gone told_ended told
 
   -- what the lock keeps true of one seat
   pub record Fits (key : A) (log : History N) (made gone : List (List ℕ)) (ticket : ℕ) (v : View A N) : Type 0 where
     pub named : IsNamed key made v.about v.seat v.splits
     pub sees : HasSeen log v.about v.seat v.seen v.told v.mine
     pub draws : HasDrawn log ticket v.about v.number v.served v.seen
-    pub outlives : Outlives log gone v.about v.seat v.ended v.told_ended v.seen v.told
+    pub outlives : Outlives log made gone v.about v.seat v.ended v.told_ended v.seen v.told
 
   -- two seats have drawn two numbers, and have two numbers of their own
   abbrev pub Unlike : View A N → View A N → Type 0

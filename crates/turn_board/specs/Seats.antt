@@ -1,10 +1,14 @@
 -- Seats are named by lists of numbers: the first seat by the empty list, and the k-th seat split off from s by s with k appended.
-use Rattle.std.proofs.Common.{ℕ, zero, suc, ◌-◌, ◌*◌, List, Bool}
+use Rattle.std.proofs.Common.{ℕ, zero, suc, ◌-◌, ◌*◌, List, [], ◌∷◌, ◌++◌, Bool}
 use Rattle.std.specs.List.{list_any}
 use Rattle.std.specs.Str.{bytes_eq}
 
 abbrev pub is_seat : List ℕ → List ℕ → Bool
 is_seat = bytes_eq
+
+-- the number of the seat that is split off from one after so many others
+abbrev pub next_seat : List ℕ → ℕ → List ℕ
+next_seat seat splits = seat ++ splits ∷ []
 
 -- the seat is among these
 abbrev pub has_seat : List (List ℕ) → List ℕ → Bool

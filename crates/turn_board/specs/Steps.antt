@@ -4,8 +4,8 @@ use Rattle.atomic_table.specs.Table.{Me, Step, rest}
 use Rattle.std.specs.declared.snapshot.Snapshot.{Snapshot}
 use Rattle.turn_board.specs.declared.view.Content.{Content}
 use Rattle.turn_board.specs.declared.view.View.{View}
-use Rattle.turn_board.specs.Seats.{has_seat}
-use Rattle.turn_board.specs.History.{History, entries_by, StartsWith, longer}
+use Rattle.turn_board.specs.Seats.{has_seat, next_seat}
+use Rattle.turn_board.specs.History.{History, HasEnded, entries_by, StartsWith, longer}
 use Rattle.turn_board.specs.Rule.{content, IsLive}
 
 module _ {A N : Type 0} where
@@ -54,6 +54,7 @@ module _ {A N : Type 0} where
       pub seen : StartsWith (longer v.0.seen v.0.told) v.0.seen
       pub told : StartsWith (longer v.0.seen v.0.told) v.0.told
       pub own : IsLive v.0.about → entries_by v.0.seat (longer v.0.seen v.0.told) ≡ v.0.mine
-      -- the seats that have ended have made no entry since
-      pub still : (s : List ℕ) → has_seat v.0.ended s ≡ true → entries_by s (longer v.0.seen v.0.told) ≡ entries_by s v.0.seen
-      pub last : (s : List ℕ) → has_seat v.0.told_ended s ≡ true → entries_by s (longer v.0.seen v.0.told) ≡ entries_by s v.0.told
+      pub unmade : IsLive v.0.about → (k : ℕ) (below : List ℕ) → v.0.splits ≤ k → entries_by (v.0.seat ++ k ∷ below) (longer v.0.seen v.0.told) ≡ []
+      -- what was seen has all of the seats that have ended
+      pub still : (s : List ℕ) (splits : ℕ) → has_seat v.0.ended (next_seat s splits) ≡ true → HasEnded s splits v.0.seen (longer v.0.seen v.0.told)
+      pub last : (s : List ℕ) (splits : ℕ) → has_seat v.0.told_ended (next_seat s splits) ≡ true → HasEnded s splits v.0.told (longer v.0.seen v.0.told)

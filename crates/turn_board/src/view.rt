@@ -33,11 +33,12 @@ pub struct View<A, N> {
     pub seen: LinkedList<(LinkedList<u64>, N)>,
     /// The entries that it made.
     pub mine: LinkedList<(LinkedList<u64>, N)>,
-    /// The numbers of the seats that were joined to it, and to those: it has seen all their entries, and they make none.
+    /// The seats that were joined to it, and to those, each by the number that it would have given next: it has seen all their
+    /// entries, and they make none, nor does a seat that they had yet to split off.
     pub ended: LinkedList<LinkedList<u64>>,
     /// What a seat that was joined to it had seen, until it next looks.
     pub told: LinkedList<(LinkedList<u64>, N)>,
-    /// That seat, and those that were joined to it.
+    /// That seat, and those that were joined to it, by the same.
     pub told_ended: LinkedList<LinkedList<u64>>,
     /// The number of the turn that it has drawn and not passed.
     pub number: Option<u64>,

@@ -20,4 +20,5 @@ wants-memory b address width word (place.Block offset) is at h =
 wants-memory b address width word (place.Fork offset) is at h =
     let same : offset ≡ address - FORK_BASE = omega arith in
     inr (inr (subst (λ n. GrantsTicket b.fork n width word) same h))
+wants-memory b address width word (place.Sibling offset) is at h = absurd h
 wants-memory b address width word place.NoPort is at h = absurd h

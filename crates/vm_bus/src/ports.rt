@@ -7,7 +7,9 @@ ghost use Rattle.fork_port.specs.Commands.{fork_command};
 ghost use Rattle.fork_port.specs.Fork.{GrantsTicket};
 ghost use Rattle.fork_port.specs.Registers.{HasTicket, refused, ticket_found, ticket_told};
 ghost use Rattle.fork_port.specs.Children.{after_clone, after_join, after_kill, child_registers};
-ghost use Rattle.vm_bus.specs.Bus.{at_start, bus_load, bus_over, bus_store, disk_page_touched, fields_of, fork_stored, load_at, parts_of_fields, store_at, timer_stored, IsDiskPageHere, IsDiskPageHereAt, Waits, WantsMemory, WantsMemoryAt};
+ghost use Rattle.sibling_port.specs.Commands.{sibling_command};
+ghost use Rattle.sibling_port.specs.Registers.{talked};
+ghost use Rattle.vm_bus.specs.Bus.{at_start, bus_load, bus_over, bus_store, disk_page_touched, fields_of, fork_stored, load_at, parts_of_fields, sibling_stored, store_at, talk_effect, timer_stored, IsDiskPageHere, IsDiskPageHereAt, Waits, WantsMemory, WantsMemoryAt};
 
 use block_port::{BlockFields, BlockPort};
 use console_port::{ConsoleFields, ConsolePort, Input};
@@ -18,12 +20,13 @@ use fork_port::{Asked, Effect, Ending, ForkFields, ForkPort};
 use page_frames::PAGE_SIZE;
 use port_error::{Fault, PortError};
 use port_map::{FORK_BASE, Place, place_of};
+use sibling_port::{SiblingPort, Talk};
 use std::alloc::{AllocError, Global};
 use std::marker::Model;
 use timer_port::{TimerPort, TimerRegisters};
 
 /// The registers of the ports, but for the disk, the input and the output, the tickets and what was
-/// joined.
+/// joined, and those of the sibling port, which is new in each machine.
 #[derive(Clone, Copy)]
 pub struct PortFields {
     pub timer: TimerRegisters,
@@ -40,6 +43,7 @@ pub struct Ports {
     console: ConsolePort,
     block: BlockPort,
     fork: ForkPort,
+    sibling: SiblingPort,
 }
 
 impl Model for Ports {
@@ -47,7 +51,7 @@ impl Model for Ports {
 
     ghost Value = { BusParts };
 
-    ghost view = { λ p. record { timer = p.timer; console = p.console; block = p.block; fork = p.fork } };
+    ghost view = { λ p. record { timer = p.timer; console = p.console; block = p.block; fork = p.fork; sibling = p.sibling } };
 }
 
 impl Ports {
@@ -61,6 +65,7 @@ impl Ports {
             console: ConsolePort::new(alloc, input)?,
             block: BlockPort::new(alloc, disk)?,
             fork: ForkPort::new(alloc, allot),
+            sibling: SiblingPort::new(0),
         })
     }
 
@@ -95,6 +100,7 @@ impl Ports {
             console,
             block: _,
             fork: _,
+            sibling: _,
         } = self;
         console.into_output()
     }
@@ -250,7 +256,23 @@ impl Ports {
         self.fork.child(k, share)
     }
 
-    /// The registers, but for the disk, the input and the output, the tickets and what was joined.
+    /// The word that a send of the machine sends.
+    pub fn data(&self) -> u32
+        ensures { result ≡ self.now.sibling.word }
+    {
+        self.sibling.data()
+    }
+
+    /// A talk was made: the word that it brought, if there is one, goes to DATA, and RESULT of the sibling port is
+    /// the answer.
+    pub fn talked(&mut self, word: Option<u32>, answer: u32)
+        ensures { self.new ≡ record self.old { sibling = talked word answer self.old.sibling } }
+    {
+        self.sibling.talked(word, answer);
+    }
+
+    /// The registers, but for the disk, the input and the output, the tickets and what was joined, and those of the
+    /// sibling port.
     pub fn fields(&self) -> PortFields
         ensures value { (below : List ℕ) → result ≡ fields_of (bus_over self.now below) }
         ensures place_fits { result.console.place ≤ MAX_INPUT }
@@ -263,21 +285,24 @@ impl Ports {
         }
     }
 
-    /// Ports with these registers, this disk and this input, and no output, tickets and join results.
+    /// Ports with these registers, this disk and this input, and no output, tickets and join results, of a child
+    /// of a ticket for so many.
     pub fn of_fields(
         alloc: Global,
         fields: &PortFields,
         disk: Disk,
         input: Input,
+        siblings: u32,
     ) -> Result<Ports, AllocError>
         requires { fields.now.console.place ≤ MAX_INPUT }
-        ensures { IfOk result (λ ports. ports ≡ parts_of_fields fields.now disk input) }
+        ensures { IfOk result (λ ports. ports ≡ parts_of_fields fields.now disk input siblings) }
     {
         Ok(Ports {
             timer: TimerPort::of_fields(fields.timer),
             console: ConsolePort::of_fields(alloc, fields.console, input),
             block: BlockPort::of_fields(alloc, &fields.block, disk)?,
             fork: ForkPort::of_fields(alloc, fields.fork),
+            sibling: SiblingPort::new(siblings),
         })
     }
 
@@ -286,6 +311,13 @@ impl Ports {
         ensures { result ≡ fork_command self.now.fork command }
     {
         self.fork.asked(command)
+    }
+
+    /// What a command of the sibling port asks for.
+    pub fn asked_of_sibling(&self, command: u32) -> sibling_port::Asked
+        ensures { result ≡ sibling_command self.now.fork.clone_id self.now.sibling command }
+    {
+        self.sibling.asked(self.fork.clone_id(), command)
     }
 
     fn load_at(&mut self, place: Place, width: u32) -> Result<u32, Fault>
@@ -299,6 +331,7 @@ impl Ports {
             Place::Timer(offset) => self.timer.load(offset, width),
             Place::Block(offset) => self.block.load(offset, width),
             Place::Fork(offset) => self.fork.load(offset, width),
+            Place::Sibling(offset) => self.sibling.load(offset, width),
             Place::NoPort => Err(Fault),
         }
     }
@@ -325,8 +358,22 @@ impl Ports {
                 Ok(Effect::Done)
             }
             Place::Fork(offset) => self.store_fork(offset, width, word),
+            Place::Sibling(offset) => self.store_sibling(offset, width, word),
             Place::NoPort => Err(PortError::Fault),
         }
+    }
+
+    fn store_sibling(&mut self, offset: u32, width: u32, word: u32) -> Result<Effect, PortError>
+        ensures ok { IfOk result (λ effect. (below : List ℕ) → sibling_stored (bus_over self.old below) offset width word ≡ Some (record { bus = bus_over self.new below; effect = effect })) }
+        ensures waits { IfOk result (Waits self.old self.new) }
+        ensures fault { OnErr result ((below : List ℕ) → sibling_stored (bus_over self.old below) offset width word ≡ None) }
+        ensures disk { self.new.block ≡ self.old.block }
+        ensures only { OnErr result (result ≡ Err PortError.Fault) }
+        ensures err { OnErr result (self.new ≡ self.old) }
+    {
+        let number = self.fork.clone_id();
+        let talk = self.sibling.store(number, offset, width, word)?;
+        Ok(talk_effect(talk))
     }
 
     fn store_fork(&mut self, offset: u32, width: u32, word: u32) -> Result<Effect, PortError>
@@ -356,4 +403,11 @@ impl Ports {
             Effect::Done
         })
     }
+}
+
+// What a store to the sibling port does to the machine.
+fn talk_effect(talk: Option<Talk>) -> Effect
+    ensures { result ≡ talk_effect talk }
+{
+    talk.map_or(Effect::Done, Effect::Talk)
 }

@@ -8,7 +8,8 @@ use Rattle.fork_port.specs.Children.{IsAccounted}
 use Rattle.fork_port.specs.Fork.{ForkStored, fork_store}
 use Rattle.fork_port.proofs.StoreLemmas.{accounted_stored, holding_stored}
 use Rattle.vm_descriptor.specs.declared.descriptor.TheConstants.{MAX_CLONES}
-use Rattle.forest_model.proofs.ForkPort.{IsKept, Ported, action-ported}
+use Rattle.sibling_port.specs.Registers.{SiblingRegisters}
+use Rattle.forest_model.proofs.PortWalk.{IsKept, Ported, action-ported, fork-kept}
 use Rattle.fork_port.specs.declared.ending.Ending.{Ending}
 use Rattle.fork_port.specs.declared.ending.Ending.TheVariants.{Limit}
 use Rattle.forest_model.specs.declared.Written.{Written}
@@ -29,7 +30,7 @@ use Rattle.vm_hart.specs.Runs.{IsFreeFor, IsRun, moved_by}
 use Rattle.vm_cell.specs.Steps.{GoesOn, IsCounted, IsFunded}
 use Rattle.vm_cell.specs.declared.vm.Part.{Part}
 use Rattle.vm_cell.specs.declared.vm.Stop.{Stop}
-use Rattle.vm_cell.specs.declared.vm.Stop.TheVariants.{Page, Call, End}
+use Rattle.vm_cell.specs.declared.vm.Stop.TheVariants.{Page, Call, Talk, End}
 
 -- a run is of as many steps as the machine counts
 pub run-counted : (old new : KeyedMachine) (made : ℕ) → IsRun old new made → IsRun old new (new.machine.steps - old.machine.steps)
@@ -72,6 +73,8 @@ stops-there until old mid new (Page page) live run from before goes =
     stopped until old mid new (Page page) run from before goes.1 (subst (λ v. Stops v (Page page)) (sym goes.1) (live, goes.0))
 stops-there until old mid new (Call call) live run from before goes =
     stopped until old mid new (Call call) run from before goes.2 (subst (λ v. Stops v (Call call)) (sym goes.2) (live, goes.0, goes.1))
+stops-there until old mid new (Talk talk) live run from before goes =
+    stopped until old mid new (Talk talk) run from before goes.2 (subst (λ v. Stops v (Talk talk)) (sym goes.2) (live, goes.0, goes.1))
 stops-there until old mid new End live run from before goes =
     let step = goes.0 in
     let made : IsRun old new (mid.machine.steps - old.machine.steps + 1) = IsRun-advance old mid new _ run step.0 step.1 step.2 in
@@ -249,22 +252,22 @@ stored-funded : (f : ForkRegisters) (o : Option ForkStored) → holding f ≤ MA
 stored-funded f None most accounted same = tt
 stored-funded f (Some s) most accounted same = record { accounted = accounted; most = omega (arith, same) }
 
-funded-kept : (f : ForkRegisters) → IsFunded f → IsKept IsFunded f
-funded-kept f funded = record {
-  before = funded;
-  after_store = λ offset width word. stored-funded f (fork_store f offset width word) funded.most
-      (accounted_stored f offset width word funded.accounted) (holding_stored f offset width word funded.accounted.rising);
-  after_answer = λ g word h. record {
-    accounted = record { balanced = h.accounted.balanced; rising = h.accounted.rising };
-    most = h.most;
-  };
-}
+-- after a step of the machine's own
+abbrev Funded : ForkRegisters → SiblingRegisters → Type 0
+Funded f r = IsFunded f
+
+funded-kept : (f : ForkRegisters) (r : SiblingRegisters) → IsFunded f → IsKept Funded f r
+funded-kept f r funded =
+    fork-kept IsFunded f r funded
+    (λ offset width word. stored-funded f (fork_store f offset width word) funded.most
+    (accounted_stored f offset width word funded.accounted) (holding_stored f offset width word funded.accounted.rising))
+    (λ g word h. record { accounted = record { balanced = h.accounted.balanced; rising = h.accounted.rising }; most = h.most })
 
 pub funded_retired : (s new : State) (written : Written) → IsFunded s.ports.fork → action s ≡ retire written new → IsFunded new.ports.fork
-funded_retired s new written funded is = subst (Ported IsFunded s.ports.fork) is (action-ported IsFunded s (funded-kept s.ports.fork funded))
+funded_retired s new written funded is = subst (Ported Funded s) is (action-ported Funded s (funded-kept s.ports.fork s.ports.sibling funded))
 
 pub funded_exited : (s new : State) (value : ℕ) (bytes : List ℕ) → IsFunded s.ports.fork → action s ≡ exit value bytes new → IsFunded new.ports.fork
-funded_exited s new value bytes funded is = subst (Ported IsFunded s.ports.fork) is (action-ported IsFunded s (funded-kept s.ports.fork funded))
+funded_exited s new value bytes funded is = subst (Ported Funded s) is (action-ported Funded s (funded-kept s.ports.fork s.ports.sibling funded))
 
 -- ---- the counts of a machine after a step
 

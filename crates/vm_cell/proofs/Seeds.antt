@@ -17,7 +17,7 @@ use Rattle.image_depot.specs.Key.{Key, number_of, image_of}
 use Rattle.guest_mem.specs.Ram.{cleared}
 use Rattle.forest_model.specs.State.{State}
 use Rattle.forest_model.specs.Machine.{Machine, limited}
-use Rattle.forest_model.specs.Calls.{born, child, child_by, share_of}
+use Rattle.forest_model.specs.Calls.{born, child, child_by, children_of, share_of}
 use Rattle.forest_model.specs.Forest.{machines}
 use Rattle.forest_model.specs.Paged.{pages_at_birth}
 use Rattle.vm_hart.specs.Calls.{made}
@@ -62,6 +62,14 @@ granted_share : (m : Machine) (t : ℕ) → (machines.grant m t).share ≡ share
 unfolding machines
 granted_share m t = shared (ticket_found m.state.ports.fork t)
 
+counted_children : (found : Option Ticket) → (grant_of found).children ≡ children_of found
+counted_children None = refl
+counted_children (Some ticket) = refl
+
+granted_children : (m : Machine) (t : ℕ) → (machines.grant m t).children ≡ children_of (ticket_found m.state.ports.fork t)
+unfolding machines
+granted_children m t = counted_children (ticket_found m.state.ports.fork t)
+
 module _ (v : KeyedMachine) (t k : ℕ) (asked : IsAsked v.machine (Clone t)) where
   abbrev m : Machine
   m = v.machine
@@ -69,22 +77,23 @@ module _ (v : KeyedMachine) (t k : ℕ) (asked : IsAsked v.machine (Clone t)) wh
   abbrev parent : State
   parent = made (after_clone m.state.ports.fork t) m.state
 
-  -- the child with other registers, RAM and share
-  abbrev as_child : List ℕ → List ℕ → ℕ → Machine
-  as_child registers ram share =
-      record (limited parent m) { state = record (born k share parent) { registers = registers; ram = ram } }
+  -- the child with other registers, RAM, share and number of siblings
+  abbrev as_child : List ℕ → List ℕ → ℕ → ℕ → Machine
+  as_child registers ram share children =
+      record (limited parent m) { state = record (born k children share parent) { registers = registers; ram = ram } }
 
-  child_made : child m k ≡ as_child m.state.registers m.state.ram (share_of (ticket_found m.state.ports.fork t))
+  child_made : child m k ≡ as_child m.state.registers m.state.ram (share_of (ticket_found m.state.ports.fork t)) (children_of (ticket_found m.state.ports.fork t))
   unfolding child
   child_made = ap (λ a. child_by a m k) asked.is
 
   wakes : (image share : ℕ) (blank : List Bool) → 0 ∷ drop 1 m.state.registers ≡ m.state.registers → cleared blank m.state.ram ≡ m.state.ram
       → share ≡ (machines.grant m t).share
-      → woken_machine (seed_of (made m.state.ports.fork m.state) image k share (m.steps + 1) m.limit blank) (image_left m.state) ≡ child m k
+      → woken_machine (seed_of (made m.state.ports.fork m.state) image k share (m.steps + 1) m.limit blank) (machines.grant m t).children (image_left m.state) ≡ child m k
   wakes image share blank zero clear same =
-      ap (λ registers. as_child registers (cleared blank m.state.ram) share) zero
-      ∙ ap (λ ram. as_child m.state.registers ram share) clear
-      ∙ ap (as_child m.state.registers m.state.ram) (same ∙ granted_share m t)
+      ap (λ registers. as_child registers (cleared blank m.state.ram) share (machines.grant m t).children) zero
+      ∙ ap (λ ram. as_child m.state.registers ram share (machines.grant m t).children) clear
+      ∙ ap (λ part. as_child m.state.registers m.state.ram part (machines.grant m t).children) (same ∙ granted_share m t)
+      ∙ ap (as_child m.state.registers m.state.ram (share_of (ticket_found m.state.ports.fork t))) (granted_children m t)
       ∙ sym child_made
 
   abbrev seeded : ℕ → ℕ → Descriptor
@@ -92,7 +101,7 @@ module _ (v : KeyedMachine) (t k : ℕ) (asked : IsAsked v.machine (Clone t)) wh
 
   pub is_seed : (key : Key) (image share : ℕ) (seed : Descriptor) → image_of key ≡ image_left m.state → image ≡ number_of key
       → share ≡ (machines.grant m t).share → 0 ∷ drop 1 m.state.registers ≡ m.state.registers
-      → seed ≡ seeded image share → IsBlankMap m.state.ram v.pages.blank → IsInRange seed → IsSeed v k key seed
+      → seed ≡ seeded image share → IsBlankMap m.state.ram v.pages.blank → IsInRange seed → IsSeed v k (machines.grant m t).children key seed
   unfolding woken
   is_seed key image share seed left number same zero is blank in_range = record {
     of_image = record {
@@ -100,8 +109,8 @@ module _ (v : KeyedMachine) (t k : ℕ) (asked : IsAsked v.machine (Clone t)) wh
       number = ap (λ (d : Descriptor). d.image) is ∙ number;
       pages = ap (λ (d : Descriptor). d.pages) is ∙ ap (λ (i : FrozenImage). length i.contents / PAGE_SIZE) (sym left);
     };
-    wakes = ap (λ d. woken d key) is
-        ∙ ap (λ (i : FrozenImage). record { machine = woken_machine (seeded image share) i; pages = woken_pages (seeded image share) i; key = Some key }) left
+    wakes = ap (λ d. woken d (machines.grant m t).children key) is
+        ∙ ap (λ (i : FrozenImage). record { machine = woken_machine (seeded image share) (machines.grant m t).children i; pages = woken_pages (seeded image share) i; key = Some key }) left
         ∙ ap (λ machine. record { machine = machine; pages = pages_at_birth m.state.ports.block.disk v.pages; key = Some key })
         (wakes image share v.pages.blank zero blank.zero same);
   }

@@ -1,4 +1,4 @@
--- The call that a machine stands at, and the machine after it.
+-- The call or the talk that a machine stands at, and the machine after it.
 use Rattle.std.proofs.Common.{◌≡◌, ◌≢◌, ℕ, ◌+◌, ◌<◌, ◌≤◌, inl, inr, List, [], ◌∷◌, Bool, true, false, cond, Option, Some, None, IsSome, IsSomeAnd, refl, sym, ap, ◌∙◌, subst, arith, mul-le-mul_right}
 use Rattle.std.specs.Option.{IfSome, is_some, option_map}
 use Rattle.std.specs.List.{AllByRecursion}
@@ -13,20 +13,28 @@ use Rattle.port_rules.specs.Rules.{grant_of}
 use Rattle.fork_port.specs.Children as fork
 use Rattle.fork_port.specs.Children.{joined_from, killed_from}
 use Rattle.fork_port.proofs.Balance.{accounted_after_clone, accounted_after_join, accounted_after_kill, holding_after_clone, holding_after_join, holding_after_kill}
-use Rattle.forest_model.specs.State.{at_next_instruction}
-use Rattle.forest_model.specs.Action.{ask}
+use Rattle.forest_model.specs.State.{State, at_next_instruction}
+use Rattle.forest_model.specs.Action.{ask, speak}
 use Rattle.forest_model.specs.Execute.{action}
-use Rattle.forest_model.specs.Machine.{Machine, Next, exception, timer_interrupt, plain, call, next_of, next, limited}
+use Rattle.forest_model.specs.Machine.{Machine, Next, exception, timer_interrupt, plain, call, talk, next_of, next, limited}
 use Rattle.forest_model.specs.Calls.{forked_by, forked, joined_by, after_join, killed_by, after_kill}
-use Rattle.forest_model.specs.Forest.{call_of, machines, port_of}
+use Rattle.forest_model.specs.Forest.{call_of, machines, port_of, talk_of, tree_talk}
+use Rattle.forest_model.specs.Talks.{talked, talked_by}
 use Rattle.forest_model.specs.Paged.{stalled_at}
 use Rattle.forest_model.proofs.Calls.{clone-asks, join-asks, kill-asks}
+use Rattle.forest_model.proofs.Spoken.{talks-at}
+use Rattle.sibling_port.specs.declared.talk.Talk as port
+use Rattle.sibling_port.specs.Commands.{named}
 use Rattle.vm_descriptor.specs.declared.descriptor.TheConstants.{MAX_CLONES, MAX_SHARE}
 use Rattle.vm_hart.specs.Keyed.{KeyedMachine, hart_in, paged}
 use Rattle.vm_hart.specs.Acts.{waits_for}
-use Rattle.vm_hart.specs.Calls.{asked_call, AsksNext, made}
+use Rattle.vm_hart.specs.Calls.{asked_call, asked_talk, AsksNext, made, made_talk}
+use Rattle.vm_hart.specs.Requests.{asks_for, requested}
+use Rattle.vm_hart.specs.declared.hart.Request.{Request}
+use Rattle.vm_hart.specs.declared.hart.Request.TheVariants as request
 use Rattle.vm_hart.proofs.Stepping.{stalls_live}
-use Rattle.vm_cell.specs.Standing.{standing_from, standing_by, standing_call, IsAsked}
+use Rattle.vm_cell.specs.Parts.{Stops, stop_at}
+use Rattle.vm_cell.specs.Standing.{call_in, talk_in, standing_from, standing_by, standing_call, talk_from, talk_by, standing_talk, IsAsked, IsSpoken}
 use Rattle.vm_cell.specs.Steps.{IsAfterStep, IsFunded, Stands}
 use Rattle.vm_cell.specs.declared.vm.Stepped.{Stepped}
 use Rattle.vm_cell.specs.declared.vm.Stepped.TheVariants as stepped
@@ -41,16 +49,70 @@ none_by_step : (waited : Option ℕ) (ending : Option Ending) (step : Next) → 
 none_by_step None ending step live h = sym h ∙ ap (λ e. standing_from e step) (sym live)
 none_by_step (Some page) ending step live h = refl
 
-pub is_standing : (v : KeyedMachine) (c : Option Call) → v.machine.ending ≡ None → AsksNext (hart_in v) c → c ≡ standing_call v
+-- a step that asks for nothing is no call and no talk
+no_call_asked : (step : Next) → requested step ≡ None → (asked_call step ≡ None) × (call_of step ≡ None)
+no_call_asked (exception cause value) e = (refl, refl)
+no_call_asked timer_interrupt e = (refl, refl)
+no_call_asked plain e = (refl, refl)
+no_call_asked (call c) e = absurd (cc)
+no_call_asked (talk t) e = absurd (cc)
+
+no_talk_asked : (step : Next) → requested step ≡ None → (asked_talk step ≡ None) × (talk_of step ≡ None)
+no_talk_asked (exception cause value) e = (refl, refl)
+no_talk_asked timer_interrupt e = (refl, refl)
+no_talk_asked plain e = (refl, refl)
+no_talk_asked (call c) e = absurd (cc)
+no_talk_asked (talk t) e = absurd (cc)
+
+call_in_request : (r : Request) (s : State) → call_in (Some r) ≡ asked_call (next_of (asks_for r s))
+call_in_request (request.Call c) s = refl
+call_in_request (request.Talk t) s = refl
+
+talk_in_request : (r : Request) (s : State) → talk_in (Some r) ≡ asked_talk (next_of (asks_for r s))
+talk_in_request (request.Call c) s = refl
+talk_in_request (request.Talk t) s = refl
+
+pub is_standing : (v : KeyedMachine) (r : Option Request) → v.machine.ending ≡ None → AsksNext (hart_in v) r → call_in r ≡ standing_call v
 unfolding standing_call
 is_standing v None live h = elim h [
   | inl waits ↦ none_by_wait (stalled_at (paged v)) v.machine.ending (next v.machine) (subst IsSome (sym (stalls_live v live)) waits)
-  | inr none ↦ none_by_step (stalled_at (paged v)) v.machine.ending (next v.machine) live none
+  | inr none ↦ none_by_step (stalled_at (paged v)) v.machine.ending (next v.machine) live (no_call_asked (next v.machine) none).0
 ]
-is_standing v (Some c) live h =
-    ap (λ a. asked_call (next_of a)) (sym h.1)
+is_standing v (Some r) live h =
+    call_in_request r (at_next_instruction v.machine.state)
+    ∙ ap (λ a. asked_call (next_of a)) (sym h.1)
     ∙ ap (λ ending. standing_from ending (next v.machine)) (sym live)
     ∙ ap (λ waited. standing_by waited v.machine.ending (next v.machine)) (sym (stalls_live v live ∙ h.0))
+
+-- the same of a talk
+silent_by_wait : (waited : Option ℕ) (ending : Option Ending) (step : Next) → IsSome waited → None ≡ talk_by waited ending step
+silent_by_wait None ending step h = absurd (cc)
+silent_by_wait (Some page) ending step h = refl
+
+silent_by_step : (waited : Option ℕ) (ending : Option Ending) (step : Next) → ending ≡ None → asked_talk step ≡ None → None ≡ talk_by waited ending step
+silent_by_step None ending step live h = sym h ∙ ap (λ e. talk_from e step) (sym live)
+silent_by_step (Some page) ending step live h = refl
+
+pub is_talking : (v : KeyedMachine) (r : Option Request) → v.machine.ending ≡ None → AsksNext (hart_in v) r → talk_in r ≡ standing_talk v
+unfolding standing_talk
+is_talking v None live h = elim h [
+  | inl waits ↦ silent_by_wait (stalled_at (paged v)) v.machine.ending (next v.machine) (subst IsSome (sym (stalls_live v live)) waits)
+  | inr none ↦ silent_by_step (stalled_at (paged v)) v.machine.ending (next v.machine) live (no_talk_asked (next v.machine) none).0
+]
+is_talking v (Some r) live h =
+    talk_in_request r (at_next_instruction v.machine.state)
+    ∙ ap (λ a. asked_talk (next_of a)) (sym h.1)
+    ∙ ap (λ ending. talk_from ending (next v.machine)) (sym live)
+    ∙ ap (λ waited. talk_by waited v.machine.ending (next v.machine)) (sym (stalls_live v live ∙ h.0))
+
+pub ended_silent : (v : KeyedMachine) → IsSome v.machine.ending → None ≡ standing_talk v
+unfolding standing_talk
+ended_silent v h = by (stalled_at (paged v)) v.machine.ending h
+  where
+    by : (waited : Option ℕ) (ending : Option Ending) → IsSome ending → None ≡ talk_by waited ending (next v.machine)
+    by waited None h = absurd (cc)
+    by None (Some ending) h = refl
+    by (Some page) (Some ending) h = refl
 
 pub ended_stands : (v : KeyedMachine) → IsSome v.machine.ending → None ≡ standing_call v
 unfolding standing_call
@@ -69,28 +131,55 @@ is_asked_by m (Join t) live is =
 is_asked_by m (Kill t) live is =
     record { live = live; is = is; makeable = (kill-asks m t (ap (λ a. call_of (next_of a)) is)).makeable }
 
-pub is_asked : (v : KeyedMachine) (c : Option Call) → v.machine.ending ≡ None → AsksNext (hart_in v) c → IfSome c (IsAsked v.machine)
+pub is_asked : (v : KeyedMachine) (r : Option Request) → v.machine.ending ≡ None → AsksNext (hart_in v) r → IfSome (call_in r) (IsAsked v.machine)
 is_asked v None live h = tt
-is_asked v (Some c) live h = is_asked_by v.machine c live h.1
+is_asked v (Some (request.Call c)) live h = is_asked_by v.machine c live h.1
+is_asked v (Some (request.Talk t)) live h = tt
+
+is_spoken_by : (m : Machine) (t : port.Talk) → m.ending ≡ None → action m.state ≡ speak t (at_next_instruction m.state) → IsSpoken m t
+is_spoken_by m t live is =
+    let comes = talks-at m (tree_talk t) (ap (λ a. talk_of (next_of a)) is) in
+    let both : speak comes.said comes.speaks.state ≡ speak t (at_next_instruction m.state) = sym comes.speaks.is ∙ is in
+    let same : comes.said ≡ t = cc in
+    record {
+      live = live;
+      is = is;
+      sibling = comes.speaks.names.0;
+      with_peer = ap named (sym same) ∙ comes.speaks.names.1;
+    }
+
+pub is_spoken : (v : KeyedMachine) (r : Option Request) → v.machine.ending ≡ None → AsksNext (hart_in v) r → IfSome (talk_in r) (IsSpoken v.machine)
+is_spoken v None live h = tt
+is_spoken v (Some (request.Call c)) live h = tt
+is_spoken v (Some (request.Talk t)) live h = is_spoken_by v.machine t live h.1
+
+-- the talk of a machine that stands at one
+spoken_there : (m : Machine) (told stands : Option port.Talk) → told ≡ stands → IfSome told (IsSpoken m) → IsSome stands → (t : port.Talk) × IsSpoken m t
+spoken_there m None stands is h some = let none = subst IsSome (sym is) some in absurd (cc)
+spoken_there m (Some t) stands is h some = (t, h)
+
+pub talk_there : (v : KeyedMachine) (told : Option port.Talk) → told ≡ standing_talk v → IfSome told (IsSpoken v.machine) → IsSome (standing_talk v)
+    → (t : port.Talk) × IsSpoken v.machine t
+talk_there v told is h some = spoken_there v.machine told (standing_talk v) is h some
 
 -- ---- where a machine stands
-
-no_call_of : (step : Next) → asked_call step ≡ None → call_of step ≡ None
-no_call_of (exception cause value) e = refl
-no_call_of timer_interrupt e = refl
-no_call_of plain e = refl
-no_call_of (call c) e = absurd (cc)
 
 pub stands_stalled : (v : KeyedMachine) (page : ℕ) → v.machine.ending ≡ None → waits_for (hart_in v) ≡ Some page → Stands v (stepped.Stall page)
 stands_stalled v page live waits = (live, stalls_live v live ∙ waits)
 
-pub stands_called : (v : KeyedMachine) (c : Call) → v.machine.ending ≡ None → waits_for (hart_in v) ≡ None → AsksNext (hart_in v) (Some c) → Stands v (stepped.Call c)
-stands_called v c live here asks = (live, stalls_live v live ∙ here, ap next_of asks.1)
+pub stands_asking : (v : KeyedMachine) (r : Request) → v.machine.ending ≡ None → waits_for (hart_in v) ≡ None → AsksNext (hart_in v) (Some r) → Stops v (stop_at r)
+stands_asking v (request.Call c) live here asks = (live, stalls_live v live ∙ here, ap next_of asks.1)
+stands_asking v (request.Talk t) live here asks = (live, stalls_live v live ∙ here, ap next_of asks.1)
 
 pub stands_free : (v : KeyedMachine) → v.machine.ending ≡ None → waits_for (hart_in v) ≡ None → AsksNext (hart_in v) None → Stands v stepped.Went
 stands_free v live here asks = elim asks [
   | inl waits ↦ let waits_too = subst IsSome here waits in absurd (cc)
-  | inr none ↦ record { live = live; here = stalls_live v live ∙ here; own = no_call_of (next v.machine) none }
+  | inr none ↦ record {
+    live = live;
+    here = stalls_live v live ∙ here;
+    own = (no_call_asked (next v.machine) none).1;
+    silent = (no_talk_asked (next v.machine) none).1;
+  }
 ]
 
 -- ---- the machine after a call
@@ -107,6 +196,10 @@ joined_made m t endings asked = ap (λ a. joined_by a m endings) asked.is
 pub forked_made : (m : Machine) (t : ℕ) → IsAsked m (Clone t) → forked m ≡ limited (made (fork.after_clone m.state.ports.fork t) m.state) m
 unfolding forked
 forked_made m t asked = ap (λ a. forked_by a m) asked.is
+
+pub talked_made : (m : Machine) (t : port.Talk) (word : Option ℕ) (answer : ℕ) → IsSpoken m t → talked m word answer ≡ limited (made_talk word answer m.state) m
+unfolding talked
+talked_made m t word answer spoken = ap (λ a. talked_by a m word answer) spoken.is
 
 -- ---- its fork port
 
@@ -232,4 +325,5 @@ pub stands_ended : (v : KeyedMachine) (why : Stepped) → v.machine.ending ≢ N
 stands_ended v stepped.Went ended is = absurd (ended is)
 stands_ended v (stepped.Stall page) ended is = absurd is
 stands_ended v (stepped.Call c) ended is = absurd is
+stands_ended v (stepped.Talk t) ended is = absurd is
 stands_ended v (stepped.Ended ending) ended is = is

@@ -1,21 +1,26 @@
 -- A machine whose hart has made no step, and one that has ended.
 use Rattle.std.proofs.Common.{◌≡◌, ℕ, ◌+◌, Bool, true, false, cond, Option, Some, None, Ok, subst, sym, ap, ◌∙◌, is_some}
-use Rattle.fork_port.specs.declared.commands.Call.{Call}
 use Rattle.fork_port.specs.declared.ending.Ending.{Ending}
 use Rattle.fork_port.specs.declared.ending.Ending.TheVariants.{Limit}
+use Rattle.forest_model.specs.State.{State, at_next_instruction}
+use Rattle.forest_model.specs.Execute.{action}
 use Rattle.forest_model.specs.Machine.{Machine, next_of, advance}
 use Rattle.forest_model.specs.Footprint.{no_change}
 use Rattle.forest_model.specs.Touch.{change, footprint, footprint_from}
-use Rattle.forest_model.specs.Paged.{pages_after}
+use Rattle.forest_model.specs.Paged.{pages_after, stalled_at}
 use Rattle.forest_model.proofs.Finish.{advance-ended}
 use Rattle.forest_model.proofs.Paged.{ended-stalls}
 use Rattle.vm_hart.specs.Acts.{ActsNext}
-use Rattle.vm_hart.specs.Calls.{asked_call}
+use Rattle.vm_hart.specs.Requests.{asks_for, requested}
+use Rattle.vm_hart.specs.declared.hart.Request.{Request}
+use Rattle.vm_hart.specs.declared.hart.Request.TheVariants as request
 use Rattle.vm_hart.specs.Keyed.{KeyedMachine, KeyedState, hart_in, machine_of, paged}
 use Rattle.vm_hart.specs.declared.hart.Acted.TheVariants.{Stalled, Asked}
 use Rattle.vm_hart.specs.Runs.{IsStep}
-use Rattle.vm_hart.proofs.Asks.{call-changes}
+use Rattle.vm_hart.proofs.Acting.{asked-for}
+use Rattle.vm_hart.proofs.Asks.{request-changes}
 use Rattle.vm_hart.proofs.Stepping.{stalls_live}
+use Rattle.vm_cell.specs.Parts.{stop_at}
 use Rattle.vm_cell.specs.Steps.{GoesOn, Steps}
 use Rattle.vm_cell.specs.declared.vm.Stepped.TheVariants as stepped
 use Rattle.vm_cell.specs.declared.vm.Stop.{Stop}
@@ -29,17 +34,21 @@ module _ (v : KeyedMachine) (hart : KeyedState) (live : v.machine.ending ≡ Non
   pub goes_stalled : (page : ℕ) → ActsNext (hart_in v) hart (Ok (Stalled page)) → GoesOn v (machine_of hart m.steps m.limit m.ending) (Some (stop.Page page))
   goes_stalled page acts = (stalls_live v live ∙ acts.0, ap (λ h. machine_of h m.steps m.limit m.ending) acts.1)
 
-  -- it is to make a call, which changes nothing yet
-  pub goes_asked : (call : Call) → ActsNext (hart_in v) hart (Ok (Asked call)) → GoesOn v (machine_of hart m.steps m.limit m.ending) (Some (stop.Call call))
-  goes_asked call acts =
+  asked_goes : (r : Request) (s : State) (new : KeyedMachine) → stalled_at (paged v) ≡ None → action m.state ≡ asks_for r s → new ≡ v → GoesOn v new (Some (stop_at r))
+  asked_goes (request.Call c) s new here is same = (here, ap next_of is, same)
+  asked_goes (request.Talk t) s new here is same = (here, ap next_of is, same)
+
+  -- it is to make a call or a talk, which changes nothing yet
+  pub goes_asked : (r : Request) → ActsNext (hart_in v) hart (Ok (Asked r)) → GoesOn v (machine_of hart m.steps m.limit m.ending) (Some (stop_at r))
+  goes_asked r acts =
       let by = acts.1 in
-      let pages : hart.pages ≡ v.pages =
-      by.changed.0 ∙ ap (λ c. pages_after c v.pages) (call-changes m.state call (ap (λ a. asked_call (next_of a)) by.tells.0)) in
+      let asks : requested (next_of (action m.state)) ≡ Some r = ap (λ a. requested (next_of a)) by.tells.0 ∙ asked-for r (at_next_instruction m.state) in
+      let pages : hart.pages ≡ v.pages = by.changed.0 ∙ ap (λ c. pages_after c v.pages) (request-changes m.state r asks) in
       let same : hart ≡ hart_in v =
       ap (λ s. record { state = s; pages = hart.pages; key = hart.key }) by.tells.1
       ∙ ap (λ p. record { state = m.state; pages = p; key = hart.key }) pages
       ∙ ap (λ k. record { state = m.state; pages = v.pages; key = k }) by.changed.1 in
-      (stalls_live v live ∙ acts.0, ap next_of by.tells.0, ap (λ h. machine_of h m.steps m.limit m.ending) same)
+      asked_goes r (at_next_instruction m.state) _ (stalls_live v live ∙ acts.0) by.tells.0 (ap (λ h. machine_of h m.steps m.limit m.ending) same)
 
 -- a step was made and counted, and ends the machine where it is the last
 goes_counted : (old new : KeyedMachine) (is_last : Bool) → old.machine.ending ≡ None → new.machine.ending ≡ cond is_last (Some Limit) old.machine.ending → IsStep old new

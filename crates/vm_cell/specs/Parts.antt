@@ -10,7 +10,9 @@ use Rattle.vm_cell.specs.Steps.{Stands}
 use Rattle.vm_cell.specs.declared.vm.Part.{Part}
 use Rattle.vm_cell.specs.declared.vm.Stepped.TheVariants as stepped
 use Rattle.vm_cell.specs.declared.vm.Stop.{Stop}
-use Rattle.vm_cell.specs.declared.vm.Stop.TheVariants.{Page, Call, End}
+use Rattle.vm_cell.specs.declared.vm.Stop.TheVariants.{Page, Call, Talk, End}
+use Rattle.vm_hart.specs.declared.hart.Request.{Request}
+use Rattle.vm_hart.specs.declared.hart.Request.TheVariants as request
 
 -- what slots keep is of no later epoch
 abbrev pub ArePast : ℕ → List KeptInstruction → Type 0
@@ -20,10 +22,16 @@ ArePast epoch slots = (k : ℕ) (d : KeptInstruction) → k < length slots → (
 abbrev pub AreNowhere : List KeptInstruction → Type 0
 AreNowhere slots = (k : ℕ) (d : KeptInstruction) → k < length slots → (slice_index_or slots k d).place ≡ NOWHERE
 
+-- what stops a run where this is asked for
+abbrev pub stop_at : Request → Stop
+stop_at (request.Call c) = Call c
+stop_at (request.Talk t) = Talk t
+
 -- a run stops there
 abbrev pub Stops : KeyedMachine → Stop → Type 0
 Stops v (Page page) = Stands v (stepped.Stall page)
 Stops v (Call c) = Stands v (stepped.Call c)
+Stops v (Talk t) = Stands v (stepped.Talk t)
 Stops v End = v.machine.ending ≢ None
 
 -- it was to make so many steps: it makes fewer only where it stops, and else the machine lives

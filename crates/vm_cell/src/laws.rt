@@ -11,7 +11,8 @@ use vm_descriptor::laws::descriptors_are_read_back;
 /// Whichever spelling of a descriptor it is read from, in an older version of the format or in the newest, the same machine
 /// wakes.
 pub fn spellings_wake_alike()
-    ensures { (d : Descriptor) (key : Key) (bytes : List ℕ) → Fits d → IsSpelling d bytes → woken (read bytes) key ≡ woken d key }
+    ensures { (d : Descriptor) (siblings : ℕ) (key : Key) (bytes : List ℕ) → Fits d → IsSpelling d bytes
+        → woken (read bytes) siblings key ≡ woken d siblings key }
 {
     descriptors_are_read_back();
 }

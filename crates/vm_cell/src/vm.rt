@@ -12,7 +12,7 @@ ghost use Rattle.forest_model.specs.Paged.{AreFlagged, pages_at_boot, stalled_at
 ghost use Rattle.vm_hart.specs.Acts.{Grows, IsReadable};
 ghost use Rattle.vm_hart.specs.Kept.{ComesAside, Keeps};
 ghost use Rattle.vm_hart.specs.Keyed.{Arrives, HasImage, IsOfDepot, hart_in, paged};
-ghost use Rattle.vm_cell.specs.Parts.{ArePast, IsCut, IsMadeUntil, IsPart, Stops};
+ghost use Rattle.vm_cell.specs.Parts.{ArePast, IsCut, IsMadeUntil, IsPart, Stops, stop_at};
 ghost use Rattle.vm_hart.specs.Shown.{peeked, shown_registers};
 ghost use Rattle.vm_hart.specs.Runs.{IsFreeFor, IsRun, moved_by};
 ghost use Rattle.vm_cell.specs.Steps.{GoesOn, IsAfterStep, Stands, Steps};
@@ -26,9 +26,10 @@ use guest_mem::Arrived;
 use image_depot::{Depot, ImageKey, Parcel};
 use instruction_slots::Slot;
 use rv_traps::TIMER_INTERRUPT;
+use sibling_port::Talk;
 use std::alloc::{AllocError, Global};
 use std::marker::Model;
-use vm_hart::{Acted, Hart};
+use vm_hart::{Acted, Hart, Request};
 
 mod fork;
 
@@ -53,6 +54,8 @@ pub enum Stepped {
     Stall(u32),
     /// The next step is a call, which the machine is to make. It was not made.
     Call(Call),
+    /// The next step is a talk with a sibling, which the machine is to make. It was not made.
+    Talk(Talk),
     /// The step ended the machine, or it had ended before.
     Ended(Ending),
 }
@@ -72,6 +75,8 @@ enum Stop {
     Page(u32),
     /// The next step is this call.
     Call(Call),
+    /// The next step is this talk.
+    Talk(Talk),
     /// The machine has ended.
     End,
 }
@@ -186,6 +191,7 @@ impl Vm {
     }
 
     /// The same, of a machine that is needed no more.
+    #[inline]
     pub fn into_output(self) -> Vec<u8>
         ensures { result.items ≡ self.machine.state.ports.console.output }
     {
@@ -257,7 +263,7 @@ impl Vm {
         self.hart.arrive(alloc, depot, parcel)
     }
 
-    /// Makes one step, if the machine lives, the pages that the step touches are here, and it is no call.
+    /// Makes one step, if the machine lives, the pages that the step touches are here, and it is no call and no talk.
     #[inline]
     #[tactic(auto, unfolding(forest_model::specs::Machine::advance))]
     pub fn step(&mut self) -> Result<Stepped, AllocError>
@@ -274,12 +280,13 @@ impl Vm {
         match self.step_live(&[], true)? {
             Some(Stop::Page(page)) => Ok(Stepped::Stall(page)),
             Some(Stop::Call(call)) => Ok(Stepped::Call(call)),
+            Some(Stop::Talk(talk)) => Ok(Stepped::Talk(talk)),
             Some(Stop::End) | None => Ok(self.standing()),
         }
     }
 
-    /// Makes at most `most` steps, until the machine ends, stalls or is to make a call, and looks at the step after
-    /// them. After an `Err` the steps before it stand. The slots may be those of runs of other machines.
+    /// Makes at most `most` steps, until the machine ends, stalls or is to make a call or a talk, and looks at the step
+    /// after them. After an `Err` the steps before it stand. The slots may be those of runs of other machines.
     pub fn run(&mut self, slots: &mut Slots, most: u64) -> Result<Ran, AllocError>
         ensures steps { IfOk result (λ ran. self.new ≡ moved_by ran.steps self.old) }
         ensures free { IfOk result (λ ran. IsFreeFor ran.steps self.old) }
@@ -330,6 +337,7 @@ impl Vm {
         match stop {
             Stop::Page(page) => Stepped::Stall(page),
             Stop::Call(call) => Stepped::Call(call),
+            Stop::Talk(talk) => Stepped::Talk(talk),
             Stop::End => self.standing(),
         }
     }
@@ -508,7 +516,7 @@ impl Vm {
         made
     }
 
-    /// Makes one step of a machine that lives, or answers what keeps it from that: a page or a call. It tells where the step
+    /// Makes one step of a machine that lives, or answers what keeps it from that: a page, a call or a talk. It tells where the step
     /// ended the machine. There may be no slots. A step that cannot be the last one does not look at the limit.
     #[inline(always)]
     #[tactic(auto, unfolding(forest_model::specs::Machine::advance))]
@@ -550,7 +558,7 @@ impl Vm {
                 );
                 Ok(Some(Stop::End))
             }
-            Acted::Asked(call) => Ok(Some(Stop::Call(call))),
+            Acted::Asked(request) => Ok(Some(stop_at(request))),
         }
     }
 
@@ -577,10 +585,21 @@ impl Vm {
         if let Some(page) = self.hart.wanted() {
             return Stepped::Stall(page);
         }
-        match self.hart.call() {
-            Some(call) => Stepped::Call(call),
+        match self.hart.request() {
+            Some(request) => self.stopped_by(stop_at(request)),
             None => Stepped::Went,
         }
+    }
+}
+
+/// What stops a run where the machine asks for this.
+#[inline(always)]
+fn stop_at(request: Request) -> Stop
+    ensures { result ≡ stop_at request }
+{
+    match request {
+        Request::Call(call) => Stop::Call(call),
+        Request::Talk(talk) => Stop::Talk(talk),
     }
 }
 

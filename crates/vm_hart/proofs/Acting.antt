@@ -1,15 +1,14 @@
--- The coming step of a hart: the page that it waits for, what it does, and the call that it is.
+-- The coming step of a hart: the page that it waits for, what it does, and the call or the talk that it is.
 use Rattle.std.proofs.Common.{◌≡◌, ℕ, ◌⊎◌, inl, inr, true, false, List, [], ◌∷◌, Option, Some, None, Result, Ok, Err, IsSome, refl, sym, ap, ◌∙◌, subst}
 use Rattle.std.specs.Option.{IfSome}
 use Rattle.std.specs.Prelude.{IsNone, IsSomeAnd, OnErr}
 use Rattle.std.specs.declared.alloc.AllocError.{AllocError}
-use Rattle.fork_port.specs.declared.commands.Call.{Call}
 use Rattle.rv_decode.specs.Instruction.{Instruction}
 use Rattle.rv_decode.specs.Table.{decoded}
 use Rattle.rv_traps.specs.Trap.{takes_interrupt}
 use Rattle.forest_model.specs.declared.cause.TheConstants.{INSTRUCTION_ACCESS_FAULT}
-use Rattle.forest_model.specs.State.{is_timer_due, at_next_instruction}
-use Rattle.forest_model.specs.Action.{Action, trap, interrupt, ask}
+use Rattle.forest_model.specs.State.{State, is_timer_due, at_next_instruction}
+use Rattle.forest_model.specs.Action.{Action, trap, interrupt}
 use Rattle.forest_model.specs.Access.{Reached, faulted, of_ram, of_port, page_of, reached, fetch_access}
 use Rattle.forest_model.specs.Footprint.{Footprint, no_footprint}
 use Rattle.forest_model.specs.Execute.{action, action_by, coming_instruction, decoded_action, execute, fetch_action, fetched, instruction_at, instruction_by}
@@ -20,13 +19,21 @@ use Rattle.forest_model.proofs.Accesses.{of_ram-is}
 use Rattle.forest_model.proofs.Once.{absent-each_once}
 use Rattle.vm_hart.specs.Acts.{Acts, ActsBy, ActsNext, Grows, HasActed, HasChanged, InstructionGrows, IsMet, Reaches, Tells, WaitsAt, changing, waits_for}
 use Rattle.vm_hart.specs.Keyed.{KeyedState, IsAbsent, IsHere}
-use Rattle.vm_hart.specs.Calls.{AsksFor, AsksNext, asked_call}
+use Rattle.vm_hart.specs.Calls.{AsksFor, AsksNext}
+use Rattle.vm_hart.specs.Requests.{asks_for, requested}
+use Rattle.vm_hart.specs.declared.hart.Request.{Request}
+use Rattle.vm_hart.specs.declared.hart.Request.TheVariants as request
 use Rattle.vm_hart.specs.declared.hart.Acted.{Acted}
 use Rattle.vm_hart.specs.declared.hart.Acted.TheVariants.{Stalled, Trapped, Interrupted, Retired, Exited, Asked}
 use Rattle.vm_hart.specs.declared.hart.access.Reach.{Reach}
 use Rattle.vm_hart.specs.declared.hart.access.Reach.TheVariants as reach
-use Rattle.vm_hart.proofs.Asks.{call-asks-nothing}
+use Rattle.vm_hart.proofs.Asks.{request-asks-nothing}
 use Rattle.vm_hart.proofs.Waiting.{met-none, one-absent, one-here, waits-first}
+
+-- what an action asks for
+pub asked-for : (r : Request) (s : State) → requested (next_of (asks_for r s)) ≡ Some r
+asked-for (request.Call c) s = refl
+asked-for (request.Talk t) s = refl
 
 -- ---- an interrupt
 
@@ -88,7 +95,7 @@ module _ (h : KeyedState) (taken : takes_interrupt h.state.csrs (is_timer_due h.
       )
 
       pub fault-asks : AsksNext h None
-      fault-asks = inr (ap (λ a. asked_call (next_of a)) (action-by ∙ is))
+      fault-asks = inr (ap (λ a. requested (next_of a)) (action-by ∙ is))
 
   -- it reaches no RAM
   pub outside-waits : (r : Reach) → Reaches h (fetch_access h.state) r → ((cause : ℕ) × (r ≡ reach.Faulted cause)) ⊎ (r ≡ reach.Port)
@@ -153,7 +160,7 @@ module _ (h : KeyedState) (taken : takes_interrupt h.state.csrs (is_timer_due h.
       next-by new (Ok Interrupted) acts = done new Interrupted acts
       next-by new (Ok (Retired written)) acts = done new (Retired written) acts
       next-by new (Ok (Exited value address count)) acts = done new (Exited value address count) acts
-      next-by new (Ok (Asked call)) acts = done new (Asked call) acts
+      next-by new (Ok (Asked r)) acts = done new (Asked r) acts
       next-by new (Err e) acts = (data-waits acts.0, (tt, acts.1))
 
       pub next-acts : (new : KeyedState) (word : ℕ) (result : Result Acted AllocError) → word ≡ fetched h.state
@@ -181,13 +188,13 @@ module _ (h : KeyedState) (taken : takes_interrupt h.state.csrs (is_timer_due h.
         wanted-is None some none = sym (data-waits (subst (λ n. IsMet n h.pages) (sym asked-is) (none refl)))
         wanted-is (Some p) some none = sym (data-waits_for p (subst (λ n. WaitsAt n h.pages p) (sym asked-is) some))
 
-        pub instruction-asks : (c : Option Call) → ((word : ℕ) → AsksFor (execute i word h.state) h.state c) → AsksNext h c
-        instruction-asks None asks = inr (ap (λ a. asked_call (next_of a)) executes ∙ asks (fetched h.state))
-        instruction-asks (Some c) asks =
-            let call : execute i (fetched h.state) h.state ≡ ask c (at_next_instruction h.state) = asks (fetched h.state) in
+        pub instruction-asks : (r : Option Request) → ((word : ℕ) → AsksFor (execute i word h.state) h.state r) → AsksNext h r
+        instruction-asks None asks = inr (ap (λ a. requested (next_of a)) executes ∙ asks (fetched h.state))
+        instruction-asks (Some r) asks =
+            let is_asked : execute i (fetched h.state) h.state ≡ asks_for r (at_next_instruction h.state) = asks (fetched h.state) in
             let none : needs ≡ [] =
-            ap (λ (f : Footprint). f.needs) (call-asks-nothing i (fetched h.state) h.state c (ap (λ a. asked_call (next_of a)) call)) in
-            (data-waits (subst (λ n. IsMet n h.pages) (sym (asked-is ∙ none)) tt), executes ∙ call)
+            ap (λ (f : Footprint). f.needs) (request-asks-nothing i (fetched h.state) h.state r (ap (λ a. requested (next_of a)) is_asked ∙ asked-for r (at_next_instruction h.state))) in
+            (data-waits (subst (λ n. IsMet n h.pages) (sym (asked-is ∙ none)) tt), executes ∙ is_asked)
 
       -- or by a word that says none
       module _ (is : decoded (fetched h.state) ≡ None) where

@@ -21,7 +21,7 @@ use Rattle.fork_port.specs.declared.ending.Ending.{Ending}
 use Rattle.console_port.specs.declared.registers.TheConstants.{CONSOLE_SIZE}
 use Rattle.port_map.specs.declared.place.TheConstants.{CONSOLE_BASE}
 use Rattle.forest_model.specs.State.{State, is_in_ram, is_timer_due}
-use Rattle.forest_model.specs.Action.{Action, trap, interrupt, retire, exit, ask, immediate, rs2}
+use Rattle.forest_model.specs.Action.{Action, trap, interrupt, retire, exit, ask, speak, immediate, rs2}
 use Rattle.forest_model.specs.Access.{Reached, faulted, of_ram, of_port, page_of, reached, fetch_access}
 use Rattle.forest_model.specs.Memory.{data_address, stored_outcome, store, store_access, store_action, store_by, stored_bytes}
 use Rattle.forest_model.specs.Ports.{PortRegisters, console_stored, port_store, store_at}
@@ -53,6 +53,7 @@ Leaves s interrupt = Unit {0}
 Leaves s (retire written new) = AreLeft s new
 Leaves s (exit value bytes new) = AreLeft s new
 Leaves s (ask call new) = Unit {0}
+Leaves s (speak talk new) = Unit {0}
 
 -- the change leaves the pages that are here
 abbrev LeavesPages : Change → Type 0
@@ -215,6 +216,7 @@ applied-leaves interrupt m leaves = record { ram = refl; entries = refl }
 applied-leaves (retire written new) m leaves = record { ram = leaves.ram; entries = leaves.entries }
 applied-leaves (exit value bytes new) m leaves = record { ram = leaves.ram; entries = leaves.entries }
 applied-leaves (ask call new) m leaves = record { ram = refl; entries = refl }
+applied-leaves (speak talk new) m leaves = record { ram = refl; entries = refl }
 
 advance-leaves : (m : Machine) → m.ending ≡ None → Leaves m.state (action m.state) → AreLeft m.state (advance m).state
 unfolding advance

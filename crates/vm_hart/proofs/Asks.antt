@@ -1,4 +1,4 @@
--- Which call the coming step is: none but a store of a word to the fork port's command is one.
+-- Which call or talk the coming step is: none but a store of a word to the command of the fork port or of the sibling port is one.
 use Rattle.std.proofs.Common.{◌≡◌, ℕ, ◌+◌, ◌-◌, ◌%◌, ◌⊎◌, inl, inr, List, [], Bool, true, false, cond, eqb, Option, Some, None, refl, sym, ap, ◌∙◌, subst, arith}
 use Rattle.std.specs.Option.{IfSome, option_map}
 use Rattle.std.proofs.lemmas.Bool.Decides.{nat_tests}
@@ -21,7 +21,6 @@ use Rattle.block_port.specs.declared.registers.TheConstants.{BLOCK_SIZE}
 use Rattle.block_port.specs.Block.{BlockRegisters, block_store}
 use Rattle.fork_port.specs.declared.commands.Asked.{Asked}
 use Rattle.fork_port.specs.declared.commands.Asked.TheVariants as asked
-use Rattle.fork_port.specs.declared.commands.Call.{Call}
 use Rattle.fork_port.specs.declared.commands.Effect.{Effect}
 use Rattle.fork_port.specs.declared.commands.Effect.TheVariants as effect
 use Rattle.fork_port.specs.declared.registers.TheConstants.{FORK_SIZE, FORK_FIRST_ARGUMENT, FORK_SECOND_ARGUMENT, FORK_COMMAND, FORK_JOIN_SELECT}
@@ -29,12 +28,20 @@ use Rattle.fork_port.specs.Registers.{ForkRegisters, RegisterStored, register_st
 use Rattle.fork_port.specs.Commands.{answered, effect_of, fork_command}
 use Rattle.fork_port.specs.Fork.{ForkStored, carried_out, fork_store}
 use Rattle.fork_port.proofs.TicketLemmas.{either}
-use Rattle.port_map.specs.declared.place.TheConstants.{CONSOLE_BASE, TIMER_BASE, TIMER_SIZE, BLOCK_BASE, FORK_BASE}
+use Rattle.sibling_port.specs.declared.talk.Asked as sibling
+use Rattle.sibling_port.specs.declared.talk.Asked.TheVariants as talk_asked
+use Rattle.sibling_port.specs.declared.talk.Talk.{Talk}
+use Rattle.sibling_port.specs.declared.registers.TheConstants.{SIBLING_SIZE, SIBLING_PEER, SIBLING_DATA, SIBLING_COMMAND}
+use Rattle.sibling_port.specs.Registers.{SiblingRegisters}
+use Rattle.sibling_port.specs.Commands.{SiblingStored, sibling_command}
+use Rattle.sibling_port.specs.Commands as sibling_port
+use Rattle.sibling_port.specs.Sibling.{sibling_store}
+use Rattle.port_map.specs.declared.place.TheConstants.{CONSOLE_BASE, TIMER_BASE, TIMER_SIZE, BLOCK_BASE, FORK_BASE, SIBLING_BASE}
 use Rattle.port_map.specs.declared.place.Place.{Place}
-use Rattle.port_map.specs.declared.place.Place.TheVariants.{Console as at_console, Timer as at_timer, Block as at_block, Fork as at_fork, NoPort as at_no_port}
+use Rattle.port_map.specs.declared.place.Place.TheVariants.{Console as at_console, Timer as at_timer, Block as at_block, Fork as at_fork, Sibling as at_sibling, NoPort as at_no_port}
 use Rattle.port_map.specs.Ranges.{is_within, place_in, place_of}
 use Rattle.forest_model.specs.Ports.{PortRegisters, Read, Stored}
-use Rattle.forest_model.specs.Ports.{port_load, console_stored, timer_stored, block_stored, fork_stored, store_at, port_store}
+use Rattle.forest_model.specs.Ports.{port_load, console_stored, timer_stored, block_stored, fork_stored, sibling_stored, talk_effect, store_at, port_store}
 use Rattle.forest_model.specs.State.{State, is_timer_due, at_next_instruction}
 use Rattle.forest_model.specs.Action.{Action, rs1, rs2}
 use Rattle.forest_model.specs.Compute.{load_upper, add_upper, compute_immediate, compute}
@@ -51,111 +58,188 @@ use Rattle.forest_model.specs.Machine.{next_of}
 use Rattle.forest_model.specs.Footprint.{Footprint, no_change, no_footprint}
 use Rattle.forest_model.specs.Touch.{access_by, data_footprint, footprint_at, footprint_from, footprint_of, footprint_reached, footprint_step}
 use Rattle.vm_hart.specs.Acts.{bytes_needs}
-use Rattle.vm_hart.specs.Calls.{asked_call, call_asked, AsksFor}
+use Rattle.vm_hart.specs.Calls.{call_asked, talk_asked_for, AsksFor}
+use Rattle.vm_hart.specs.Requests.{requested}
+use Rattle.vm_hart.specs.declared.hart.Request.{Request}
 
-abbrev NoCall : Action → Type 0
-NoCall a = asked_call (next_of a) ≡ None
+abbrev AsksNothing : Action → Type 0
+AsksNothing a = requested (next_of a) ≡ None
 
 -- ---- stores
 
--- an effect that is no call, and needs no page
-abbrev IsOther : Effect → Type 0
-IsOther (effect.Call c) = ⊥
-IsOther (effect.ExitWith value address count) = ⊥
-IsOther effect.Done = Unit {0}
-IsOther effect.TimeWritten = Unit {0}
-IsOther (effect.Exit value) = Unit {0}
-IsOther (effect.Zero first count) = Unit {0}
+-- an effect that needs no page
+abbrev IsNeedless : Effect → Type 0
+IsNeedless (effect.ExitWith value address count) = ⊥
+IsNeedless effect.Done = Unit {0}
+IsNeedless effect.TimeWritten = Unit {0}
+IsNeedless (effect.Call c) = Unit {0}
+IsNeedless (effect.Talk t) = Unit {0}
+IsNeedless (effect.Exit value) = Unit {0}
+IsNeedless (effect.Zero first count) = Unit {0}
 
-other-outcome : (e : Effect) (s : State) → IsOther e → NoCall (outcome e s).action
-other-outcome effect.Done s h = refl
-other-outcome effect.TimeWritten s h = refl
-other-outcome (effect.Exit value) s h = refl
-other-outcome (effect.Call c) s h = absurd h
-other-outcome (effect.ExitWith value address count) s h = absurd h
-other-outcome (effect.Zero first count) s h = refl
-
-needs-none : (e : Effect) (s : State) → IsOther e → (outcome e s).footprint.needs ≡ []
+needs-none : (e : Effect) (s : State) → IsNeedless e → (outcome e s).footprint.needs ≡ []
 needs-none effect.Done s h = refl
 needs-none effect.TimeWritten s h = refl
 needs-none (effect.Exit value) s h = refl
-needs-none (effect.Call c) s h = absurd h
+needs-none (effect.Call c) s h = refl
+needs-none (effect.Talk t) s h = refl
 needs-none (effect.ExitWith value address count) s h = absurd h
 needs-none (effect.Zero first count) s h = refl
 
-needs-stored : (o : Option Stored) (address : ℕ) (s : State) → IfSome o (λ stored. IsOther stored.effect) → (stored_outcome o address s).footprint.needs ≡ []
+needs-stored : (o : Option Stored) (address : ℕ) (s : State) → IfSome o (λ stored. IsNeedless stored.effect) → (stored_outcome o address s).footprint.needs ≡ []
 needs-stored None address s h = refl
 needs-stored (Some stored) address s h = needs-none stored.effect (at_next_instruction (record s { ports = stored.ports })) h
 
-other-port : (o : Option Stored) (address : ℕ) (s : State) → IfSome o (λ stored. IsOther stored.effect) → NoCall (stored_outcome o address s).action
-other-port None address s h = refl
-other-port (Some stored) address s h = other-outcome stored.effect (at_next_instruction (record s { ports = stored.ports })) h
+-- an effect that is no call and no talk
+abbrev IsOwn : Effect → Type 0
+IsOwn (effect.Call c) = ⊥
+IsOwn (effect.Talk t) = ⊥
+IsOwn (effect.ExitWith value address count) = Unit {0}
+IsOwn effect.Done = Unit {0}
+IsOwn effect.TimeWritten = Unit {0}
+IsOwn (effect.Exit value) = Unit {0}
+IsOwn (effect.Zero first count) = Unit {0}
 
-other-time : (b : Bool) → IsOther (cond b effect.TimeWritten effect.Done)
-other-time true = tt
-other-time false = tt
+handed-own : (in_range : Bool) (value address count : ℕ) (s : State) → AsksNothing (handing_over in_range value address count s).action
+handed-own true value address count s = refl
+handed-own false value address count s = refl
 
--- the store is no word for the command
+own-outcome : (e : Effect) (s : State) → IsOwn e → AsksNothing (outcome e s).action
+own-outcome effect.Done s h = refl
+own-outcome effect.TimeWritten s h = refl
+own-outcome (effect.Exit value) s h = refl
+own-outcome (effect.Call c) s h = absurd h
+own-outcome (effect.Talk t) s h = absurd h
+own-outcome (effect.ExitWith value address count) s h = handed-own (is_byte_range address count s.ram) value address count s
+own-outcome (effect.Zero first count) s h = refl
+
+own-stored : (o : Option Stored) (address : ℕ) (s : State) → IfSome o (λ stored. IsOwn stored.effect) → AsksNothing (stored_outcome o address s).action
+own-stored None address s h = refl
+own-stored (Some stored) address s h = own-outcome stored.effect (at_next_instruction (record s { ports = stored.ports })) h
+
+-- the store is no word for the command of the fork port
 abbrev IsElsewhere : ℕ → Place → Type 0
 IsElsewhere width (at_fork offset) = (eqb width 4 ≡ false) ⊎ (eqb offset FORK_COMMAND ≡ false)
 IsElsewhere width (at_console offset) = Unit {0}
 IsElsewhere width (at_timer offset) = Unit {0}
 IsElsewhere width (at_block offset) = Unit {0}
+IsElsewhere width (at_sibling offset) = Unit {0}
 IsElsewhere width at_no_port = Unit {0}
 
-other-console : (o : Option ConsoleRegisters) (ports : PortRegisters) → IfSome (console_stored o ports) (λ stored. IsOther stored.effect)
-other-console None ports = tt
-other-console (Some console) ports = tt
+-- nor is it one for that of the sibling port
+abbrev IsSilent : ℕ → Place → Type 0
+IsSilent width (at_sibling offset) = (eqb width 4 ≡ false) ⊎ (eqb offset SIBLING_COMMAND ≡ false)
+IsSilent width (at_console offset) = Unit {0}
+IsSilent width (at_timer offset) = Unit {0}
+IsSilent width (at_block offset) = Unit {0}
+IsSilent width (at_fork offset) = Unit {0}
+IsSilent width at_no_port = Unit {0}
 
-other-timer : (o : Option TimerRegisters) (offset : ℕ) (ports : PortRegisters) → IfSome (timer_stored o offset ports) (λ stored. IsOther stored.effect)
-other-timer None offset ports = tt
-other-timer (Some timer) offset ports = other-time (writes_mtime offset)
+-- what holds of the effects of all stores but commands
+module _ (P : Effect → Type 0) (done : P effect.Done) (timed : P effect.TimeWritten) where
+  abbrev Stores : Option Stored → Type 0
+  Stores o = IfSome o (λ stored. P stored.effect)
 
-other-block : (o : Option BlockRegisters) (ports : PortRegisters) → IfSome (block_stored o ports) (λ stored. IsOther stored.effect)
-other-block None ports = tt
-other-block (Some block) ports = tt
+  stores-console : (o : Option ConsoleRegisters) (ports : PortRegisters) → Stores (console_stored o ports)
+  stores-console None ports = tt
+  stores-console (Some console) ports = done
 
-other-fork : (o : Option ForkStored) (ports : PortRegisters) → IfSome o (λ s. IsOther s.effect) → IfSome (fork_stored o ports) (λ stored. IsOther stored.effect)
-other-fork None ports h = tt
-other-fork (Some s) ports h = h
+  time-effect : (b : Bool) → P (cond b effect.TimeWritten effect.Done)
+  time-effect true = timed
+  time-effect false = done
 
-other-register : (f : ForkRegisters) (offset word : ℕ) → eqb offset FORK_COMMAND ≡ false
-    → IfSome (option_map carried_out (register_store f offset word)) (λ s. IsOther s.effect)
-other-register f offset word e =
-    let Q : Option RegisterStored → Type 0 = λ o. IfSome (option_map carried_out o) (λ s. IsOther s.effect) in
-    either Q (eqb offset FORK_FIRST_ARGUMENT) _ _ tt
-    (either Q (eqb offset FORK_SECOND_ARGUMENT) _ _ tt
-    (rw e (either Q (eqb offset FORK_JOIN_SELECT) _ None tt tt)))
+  stores-timer : (o : Option TimerRegisters) (offset : ℕ) (ports : PortRegisters) → Stores (timer_stored o offset ports)
+  stores-timer None offset ports = tt
+  stores-timer (Some timer) offset ports = time-effect (writes_mtime offset)
 
-other-fork_store : (f : ForkRegisters) (offset width word : ℕ) → (eqb width 4 ≡ false) ⊎ (eqb offset FORK_COMMAND ≡ false)
-    → IfSome (fork_store f offset width word) (λ s. IsOther s.effect)
-unfolding fork_store
-other-fork_store f offset width word (inl narrow) = rw narrow tt
-other-fork_store f offset width word (inr e) =
-    either (λ (o : Option ForkStored). IfSome o (λ s. IsOther s.effect)) (eqb width 4) _ None (other-register f offset word e) tt
+  stores-block : (o : Option BlockRegisters) (ports : PortRegisters) → Stores (block_stored o ports)
+  stores-block None ports = tt
+  stores-block (Some block) ports = done
 
-other-at : (place : Place) (ports : PortRegisters) (width word : ℕ) → IsElsewhere width place → IfSome (store_at place ports width word) (λ stored. IsOther stored.effect)
-other-at (at_console offset) ports width word h = other-console (console_store ports.console offset width word) ports
-other-at (at_timer offset) ports width word h = other-timer (timer_store ports.timer offset width word) offset ports
-other-at (at_block offset) ports width word h = other-block (block_store ports.block offset width word) ports
-other-at (at_fork offset) ports width word h = other-fork (fork_store ports.fork offset width word) ports (other-fork_store ports.fork offset width word h)
-other-at at_no_port ports width word h = tt
+  stores-fork : (o : Option ForkStored) (ports : PortRegisters) → IfSome o (λ s. P s.effect) → Stores (fork_stored o ports)
+  stores-fork None ports h = tt
+  stores-fork (Some s) ports h = h
+
+  stores-sibling : (o : Option SiblingStored) (ports : PortRegisters) → IfSome o (λ s. P (talk_effect s.talk)) → Stores (sibling_stored o ports)
+  stores-sibling None ports h = tt
+  stores-sibling (Some s) ports h = h
+
+  fork-register : (f : ForkRegisters) (offset word : ℕ) → eqb offset FORK_COMMAND ≡ false
+      → IfSome (option_map carried_out (register_store f offset word)) (λ s. P s.effect)
+  fork-register f offset word e =
+      let Q : Option RegisterStored → Type 0 = λ o. IfSome (option_map carried_out o) (λ s. P s.effect) in
+      either Q (eqb offset FORK_FIRST_ARGUMENT) _ _ done
+      (either Q (eqb offset FORK_SECOND_ARGUMENT) _ _ done
+      (rw e (either Q (eqb offset FORK_JOIN_SELECT) _ None done tt)))
+
+  fork-elsewhere : (f : ForkRegisters) (offset width word : ℕ) → (eqb width 4 ≡ false) ⊎ (eqb offset FORK_COMMAND ≡ false)
+      → IfSome (fork_store f offset width word) (λ s. P s.effect)
+  unfolding fork_store
+  fork-elsewhere f offset width word (inl narrow) = rw narrow tt
+  fork-elsewhere f offset width word (inr e) =
+      either (λ (o : Option ForkStored). IfSome o (λ s. P s.effect)) (eqb width 4) _ None (fork-register f offset word e) tt
+
+  sibling-silent : (number : ℕ) (r : SiblingRegisters) (offset width word : ℕ) → (eqb width 4 ≡ false) ⊎ (eqb offset SIBLING_COMMAND ≡ false)
+      → IfSome (sibling_store number r offset width word) (λ s. P (talk_effect s.talk))
+  unfolding sibling_store
+  sibling-silent number r offset width word (inl narrow) = rw narrow tt
+  sibling-silent number r offset width word (inr e) =
+      let Q : Option SiblingStored → Type 0 = λ o. IfSome o (λ s. P (talk_effect s.talk)) in
+      either Q (eqb width 4) _ None
+      (either Q (eqb offset SIBLING_PEER) _ _ done (either Q (eqb offset SIBLING_DATA) _ _ done (rw e tt))) tt
+
+  stores-at : (place : Place) (ports : PortRegisters) (width word : ℕ) → IsElsewhere width place
+      → ((offset : ℕ) → place ≡ at_sibling offset → IfSome (sibling_store ports.fork.clone_id ports.sibling offset width word) (λ s. P (talk_effect s.talk)))
+      → Stores (store_at place ports width word)
+  stores-at (at_console offset) ports width word h talks = stores-console (console_store ports.console offset width word) ports
+  stores-at (at_timer offset) ports width word h talks = stores-timer (timer_store ports.timer offset width word) offset ports
+  stores-at (at_block offset) ports width word h talks = stores-block (block_store ports.block offset width word) ports
+  stores-at (at_fork offset) ports width word h talks = stores-fork (fork_store ports.fork offset width word) ports (fork-elsewhere ports.fork offset width word h)
+  stores-at (at_sibling offset) ports width word h talks =
+      stores-sibling (sibling_store ports.fork.clone_id ports.sibling offset width word) ports (talks offset refl)
+  stores-at at_no_port ports width word h talks = tt
+
+-- a talk needs no page, so no store elsewhere does
+needless-talk : (said : Option Talk) → IsNeedless (talk_effect said)
+needless-talk None = tt
+needless-talk (Some t) = tt
+
+needless-sibling : (o : Option SiblingStored) → IfSome o (λ s. IsNeedless (talk_effect s.talk))
+needless-sibling None = tt
+needless-sibling (Some s) = needless-talk s.talk
+
+needless-at : (place : Place) (ports : PortRegisters) (width word : ℕ) → IsElsewhere width place → IfSome (store_at place ports width word) (λ stored. IsNeedless stored.effect)
+needless-at place ports width word h =
+    stores-at IsNeedless tt tt place ports width word h (λ offset at. needless-sibling (sibling_store ports.fork.clone_id ports.sibling offset width word))
+
+own-at : (place : Place) (ports : PortRegisters) (width word : ℕ) → IsElsewhere width place → IsSilent width place → IfSome (store_at place ports width word) (λ stored. IsOwn stored.effect)
+own-at place ports width word h silent =
+    stores-at IsOwn tt tt place ports width word h
+    (λ offset at. sibling-silent IsOwn tt tt ports.fork.clone_id ports.sibling offset width word (subst (IsSilent width) at silent))
 
 elsewhere-narrow : (width : ℕ) (place : Place) → eqb width 4 ≡ false → IsElsewhere width place
 elsewhere-narrow width (at_fork offset) e = inl e
 elsewhere-narrow width (at_console offset) e = tt
 elsewhere-narrow width (at_timer offset) e = tt
 elsewhere-narrow width (at_block offset) e = tt
+elsewhere-narrow width (at_sibling offset) e = tt
 elsewhere-narrow width at_no_port e = tt
+
+silent-narrow : (width : ℕ) (place : Place) → eqb width 4 ≡ false → IsSilent width place
+silent-narrow width (at_sibling offset) e = inl e
+silent-narrow width (at_console offset) e = tt
+silent-narrow width (at_timer offset) e = tt
+silent-narrow width (at_block offset) e = tt
+silent-narrow width (at_fork offset) e = tt
+silent-narrow width at_no_port e = tt
 
 -- what holds of both choices, each where it is taken, holds of the choice
 by_test : {A : Type 0} (P : A → Type 0) (b : Bool) (x y : A) → (b ≡ true → P x) → P y → P (cond b x y)
 by_test P true x y p q = p refl
 by_test P false x y p q = q
 
-offset-other : (address : ℕ) → eqb address (FORK_BASE + FORK_COMMAND) ≡ false → is_within FORK_BASE FORK_SIZE address ≡ true
-    → eqb (address - FORK_BASE) FORK_COMMAND ≡ false
-offset-other address e inside = grind (arith, nat_tests)
+offset-other : (base size command address : ℕ) → eqb address (base + command) ≡ false → is_within base size address ≡ true → eqb (address - base) command ≡ false
+offset-other base size command address e inside = grind (arith, nat_tests)
 
 elsewhere-address : (width address : ℕ) → eqb address (FORK_BASE + FORK_COMMAND) ≡ false → IsElsewhere width (place_of address)
 unfolding place_in
@@ -164,20 +248,33 @@ elsewhere-address width address e =
     either P (is_within CONSOLE_BASE CONSOLE_SIZE address) _ _ tt
     (either P (is_within TIMER_BASE TIMER_SIZE address) _ _ tt
     (either P (is_within BLOCK_BASE BLOCK_SIZE address) _ _ tt
-    (by_test P (is_within FORK_BASE FORK_SIZE address) (at_fork (address - FORK_BASE)) at_no_port (λ inside. inr (offset-other address e inside)) tt)))
+    (by_test P (is_within FORK_BASE FORK_SIZE address) (at_fork (address - FORK_BASE)) _ (λ inside. inr (offset-other FORK_BASE FORK_SIZE FORK_COMMAND address e inside))
+    (either P (is_within SIBLING_BASE SIBLING_SIZE address) _ _ tt tt))))
 
-other-store_by : (r : Reached) (address width : ℕ) (bytes : List ℕ) (word : ℕ) (s : State) → IsElsewhere width (place_of address)
-    → NoCall (store_by r address width bytes word s)
+silent-address : (width address : ℕ) → eqb address (SIBLING_BASE + SIBLING_COMMAND) ≡ false → IsSilent width (place_of address)
+unfolding place_in
+silent-address width address e =
+    let P : Place → Type 0 = IsSilent width in
+    either P (is_within CONSOLE_BASE CONSOLE_SIZE address) _ _ tt
+    (either P (is_within TIMER_BASE TIMER_SIZE address) _ _ tt
+    (either P (is_within BLOCK_BASE BLOCK_SIZE address) _ _ tt
+    (either P (is_within FORK_BASE FORK_SIZE address) _ _ tt
+    (by_test P (is_within SIBLING_BASE SIBLING_SIZE address) (at_sibling (address - SIBLING_BASE)) at_no_port
+    (λ inside. inr (offset-other SIBLING_BASE SIBLING_SIZE SIBLING_COMMAND address e inside)) tt))))
+
+own-store_by : (r : Reached) (address width : ℕ) (bytes : List ℕ) (word : ℕ) (s : State) → IsElsewhere width (place_of address) → IsSilent width (place_of address)
+    → AsksNothing (store_by r address width bytes word s)
 unfolding port_store
-other-store_by (faulted cause) address width bytes word s h = refl
-other-store_by (of_ram page) address width bytes word s h = refl
-other-store_by of_port address width bytes word s h =
-    other-port (port_store s.ports address width word) address s (other-at (place_of address) s.ports width word h)
+own-store_by (faulted cause) address width bytes word s h silent = refl
+own-store_by (of_ram page) address width bytes word s h silent = refl
+own-store_by of_port address width bytes word s h silent =
+    own-stored (port_store s.ports address width word) address s (own-at (place_of address) s.ports width word h silent)
 
-other-store : (i : Instruction) (s : State) → IsElsewhere (store_width i.kind) (place_of (data_address i s)) → NoCall (store i s)
+own-store : (i : Instruction) (s : State) → IsElsewhere (store_width i.kind) (place_of (data_address i s)) → IsSilent (store_width i.kind) (place_of (data_address i s))
+    → AsksNothing (store i s)
 unfolding store store_action
-other-store i s h =
-    other-store_by (reached (store_access i s) s) (data_address i s) (store_width i.kind) (stored_bytes i s) (rs2 i s) s h
+own-store i s h silent =
+    own-store_by (reached (store_access i s) s) (data_address i s) (store_width i.kind) (stored_bytes i s) (rs2 i s) s h silent
 
 narrow : (kind : Kind) → group_of kind ≡ Store → (kind ≡ Sw → ⊥) → eqb (store_width kind) 4 ≡ false
 unfolding group_of
@@ -188,60 +285,60 @@ narrow _ h other = absurd (cc)
 
 -- ---- all other instructions
 
-none-read_action : (answer : Option Read) (i : Instruction) (address : ℕ) (s : State) → NoCall (read_action answer i address s)
+none-read_action : (answer : Option Read) (i : Instruction) (address : ℕ) (s : State) → AsksNothing (read_action answer i address s)
 none-read_action None i address s = refl
 none-read_action (Some read) i address s = refl
 
-none-load_by : (r : Reached) (i : Instruction) (address : ℕ) (s : State) → NoCall (load_by r i address s)
+none-load_by : (r : Reached) (i : Instruction) (address : ℕ) (s : State) → AsksNothing (load_by r i address s)
 none-load_by (faulted cause) i address s = refl
 none-load_by (of_ram page) i address s = refl
 none-load_by of_port i address s = none-read_action (port_load s.ports address (load_width i.kind)) i address s
 
-none-aligned_jump : (aligned : Bool) (target : ℕ) (new : State) → NoCall (aligned_jump aligned target new)
+none-aligned_jump : (aligned : Bool) (target : ℕ) (new : State) → AsksNothing (aligned_jump aligned target new)
 none-aligned_jump false target new = refl
 none-aligned_jump true target new = refl
 
-none-branch_by : (taken : Bool) (i : Instruction) (s : State) → NoCall (branch_by taken i s)
+none-branch_by : (taken : Bool) (i : Instruction) (s : State) → AsksNothing (branch_by taken i s)
 none-branch_by false i s = refl
 none-branch_by true i s = none-aligned_jump (eqb (relative i s % 4) 0) (relative i s) s
 
-none-reserve_by : (r : Reached) (i : Instruction) (address : ℕ) (s : State) → NoCall (reserve_by r i address s)
+none-reserve_by : (r : Reached) (i : Instruction) (address : ℕ) (s : State) → AsksNothing (reserve_by r i address s)
 none-reserve_by (faulted cause) i address s = refl
 none-reserve_by (of_ram page) i address s = refl
 none-reserve_by of_port i address s = refl
 
-none-conditional_action : (reserved : Bool) (i : Instruction) (address : ℕ) (s : State) → NoCall (conditional_action reserved i address s)
+none-conditional_action : (reserved : Bool) (i : Instruction) (address : ℕ) (s : State) → AsksNothing (conditional_action reserved i address s)
 none-conditional_action false i address s = refl
 none-conditional_action true i address s = refl
 
-none-conditional_by : (r : Reached) (i : Instruction) (address : ℕ) (s : State) → NoCall (conditional_by r i address s)
+none-conditional_by : (r : Reached) (i : Instruction) (address : ℕ) (s : State) → AsksNothing (conditional_by r i address s)
 none-conditional_by (faulted cause) i address s = refl
 none-conditional_by (of_ram page) i address s = none-conditional_action (is_reserved s.reservation address) i address s
 none-conditional_by of_port i address s = refl
 
-none-amo_by : (r : Reached) (i : Instruction) (address : ℕ) (s : State) → NoCall (amo_by r i address s)
+none-amo_by : (r : Reached) (i : Instruction) (address : ℕ) (s : State) → AsksNothing (amo_by r i address s)
 none-amo_by (faulted cause) i address s = refl
 none-amo_by (of_ram page) i address s = refl
 none-amo_by of_port i address s = refl
 
-none-written_action : (csrs : Option CsrRegisters) (old : ℕ) (i : Instruction) (word : ℕ) (s : State) → NoCall (written_action csrs old i word s)
+none-written_action : (csrs : Option CsrRegisters) (old : ℕ) (i : Instruction) (word : ℕ) (s : State) → AsksNothing (written_action csrs old i word s)
 none-written_action None old i word s = refl
 none-written_action (Some csrs) old i word s = refl
 
-none-write_action : (does_write : Bool) (old : ℕ) (i : Instruction) (word : ℕ) (s : State) → NoCall (write_action does_write old i word s)
+none-write_action : (does_write : Bool) (old : ℕ) (i : Instruction) (word : ℕ) (s : State) → AsksNothing (write_action does_write old i word s)
 none-write_action false old i word s = refl
 none-write_action true old i word s = none-written_action _ old i word s
 
-none-old_action : (old : Option ℕ) (i : Instruction) (word : ℕ) (s : State) → NoCall (old_action old i word s)
+none-old_action : (old : Option ℕ) (i : Instruction) (word : ℕ) (s : State) → AsksNothing (old_action old i word s)
 none-old_action None i word s = refl
 none-old_action (Some old) i word s = none-write_action (writes (operation_of i.kind) i) old i word s
 
-none-returned : (csrs : Option CsrRegisters) (word : ℕ) (s : State) → NoCall (returned_action csrs word s)
+none-returned : (csrs : Option CsrRegisters) (word : ℕ) (s : State) → AsksNothing (returned_action csrs word s)
 none-returned None word s = refl
 none-returned (Some csrs) word s = refl
 
 none-execute_group : (group : Group) (i : Instruction) (word : ℕ) (s : State) → group_of i.kind ≡ group → (i.kind ≡ Sw → ⊥)
-    → NoCall (execute_group group i word s)
+    → AsksNothing (execute_group group i word s)
 unfolding load_upper add_upper compute_immediate compute jump jump_register branch load load_reserved store_conditional amo csr_access trap_return
 none-execute_group LoadUpper i word s e other = refl
 none-execute_group AddUpper i word s e other = refl
@@ -250,7 +347,8 @@ none-execute_group JumpRegister i word s e other = none-aligned_jump _ _ (linked
 none-execute_group Branch i word s e other = none-branch_by _ i s
 none-execute_group Load i word s e other = none-load_by (reached (load_access i s) s) i (data_address i s) s
 none-execute_group Store i word s e other =
-    other-store i s (elsewhere-narrow (store_width i.kind) (place_of (data_address i s)) (narrow i.kind e other))
+    let thin = narrow i.kind e other in
+    own-store i s (elsewhere-narrow (store_width i.kind) (place_of (data_address i s)) thin) (silent-narrow (store_width i.kind) (place_of (data_address i s)) thin)
 none-execute_group ComputeImmediate i word s e other = refl
 none-execute_group Compute i word s e other = refl
 none-execute_group Nothing i word s e other = refl
@@ -265,7 +363,7 @@ none-execute_group Amo i word s e other = none-amo_by (reached (amo_access i s) 
 -- ---- what the coming instruction is
 
 -- an instruction that is no store of a word
-pub no-word : (i : Instruction) (word : ℕ) (s : State) → (i.kind ≡ Sw → ⊥) → asked_call (next_of (execute i word s)) ≡ None
+pub no-word : (i : Instruction) (word : ℕ) (s : State) → (i.kind ≡ Sw → ⊥) → requested (next_of (execute i word s)) ≡ None
 unfolding execute
 no-word i word s other = none-execute_group (group_of i.kind) i word s refl other
 
@@ -278,14 +376,11 @@ differ a b other = grind (arith, nat_tests)
 
 -- a store of a word to another address
 pub no-command : (i : Instruction) (word : ℕ) (s : State) → i.kind ≡ Sw → (data_address i s ≡ FORK_BASE + FORK_COMMAND → ⊥)
-    → asked_call (next_of (execute i word s)) ≡ None
-no-command i word s is other =
-    ap (λ a. asked_call (next_of a)) (word-stored i word s is)
-    ∙ other-store i s (elsewhere-address (store_width i.kind) (data_address i s) (differ (data_address i s) (FORK_BASE + FORK_COMMAND) other))
-
-handed-no-call : (in_range : Bool) (value address count : ℕ) (s : State) → NoCall (handing_over in_range value address count s).action
-handed-no-call true value address count s = refl
-handed-no-call false value address count s = refl
+    → (data_address i s ≡ SIBLING_BASE + SIBLING_COMMAND → ⊥) → requested (next_of (execute i word s)) ≡ None
+no-command i word s is other silent =
+    ap (λ a. requested (next_of a)) (word-stored i word s is)
+    ∙ own-store i s (elsewhere-address (store_width i.kind) (data_address i s) (differ (data_address i s) (FORK_BASE + FORK_COMMAND) other))
+    (silent-address (store_width i.kind) (data_address i s) (differ (data_address i s) (SIBLING_BASE + SIBLING_COMMAND) silent))
 
 -- what a command asks for, of which a call waits
 commanded : (a : Asked) (s : State)
@@ -297,13 +392,26 @@ commanded (asked.Call c) s = refl
 commanded (asked.Exit value) s = refl
 commanded (asked.ExitWith value address count) s =
     let next : State = at_next_instruction s in
-    handed-no-call (is_byte_range address count next.ram) value address count next
+    handed-own (is_byte_range address count next.ram) value address count next
 commanded (asked.Zero first count) s = refl
 
 store-commands : (bytes : List ℕ) (word : ℕ) (s : State) → store_by of_port (FORK_BASE + FORK_COMMAND) 4 bytes word s
     ≡ (outcome (effect_of (fork_command s.ports.fork word)) (at_next_instruction (record s { ports = record s.ports { fork = answered (fork_command s.ports.fork word) s.ports.fork } }))).action
 unfolding port_store place_in fork_store
 store-commands bytes word s = refl
+
+-- what a command of the sibling port asks for, of which a talk waits
+said : (a : sibling.Asked) (s : State)
+    → AsksFor (outcome (talk_effect (sibling_port.commanded a s.ports.sibling).talk)
+    (at_next_instruction (record s { ports = record s.ports { sibling = (sibling_port.commanded a s.ports.sibling).port } }))).action s (talk_asked_for a)
+said (talk_asked.Refused word) s = refl
+said (talk_asked.Talk t) s = refl
+
+store-says : (bytes : List ℕ) (word : ℕ) (s : State) → store_by of_port (SIBLING_BASE + SIBLING_COMMAND) 4 bytes word s
+    ≡ (outcome (talk_effect (sibling_port.commanded (sibling_command s.ports.fork.clone_id s.ports.sibling word) s.ports.sibling).talk)
+    (at_next_instruction (record s { ports = record s.ports { sibling = (sibling_port.commanded (sibling_command s.ports.fork.clone_id s.ports.sibling word) s.ports.sibling).port } }))).action
+unfolding port_store place_in sibling_store
+store-says bytes word s = refl
 
 -- a store of a word, by what its access comes to
 stored-by : (i : Instruction) (word : ℕ) (s : State) (a : Access) (r : Reached) → i.kind ≡ Sw → a ≡ to_store (data_address i s) 4 → reached a s ≡ r
@@ -314,16 +422,16 @@ stored-by i word s a r is at reaches =
     ∙ ap (λ width. store_action (data_address i s) width (stored_bytes i s) (rs2 i s) s) (ap store_width is)
     ∙ ap (λ x. store_by x (data_address i s) 4 (stored_bytes i s) (rs2 i s) s) (ap (λ x. reached x s) (sym at) ∙ reaches)
 
-none-store_by : (r : Reached) (address width : ℕ) (bytes : List ℕ) (word : ℕ) (s : State) → (r ≡ of_port → ⊥) → NoCall (store_by r address width bytes word s)
+none-store_by : (r : Reached) (address width : ℕ) (bytes : List ℕ) (word : ℕ) (s : State) → (r ≡ of_port → ⊥) → AsksNothing (store_by r address width bytes word s)
 none-store_by (faulted cause) address width bytes word s other = refl
 none-store_by (of_ram page) address width bytes word s other = refl
 none-store_by of_port address width bytes word s other = absurd (other refl)
 
 -- a store of a word that reaches no port
 pub no-port-stored : (i : Instruction) (word : ℕ) (s : State) (a : Access) → i.kind ≡ Sw → a ≡ to_store (data_address i s) 4 → (reached a s ≡ of_port → ⊥)
-    → asked_call (next_of (execute i word s)) ≡ None
+    → requested (next_of (execute i word s)) ≡ None
 no-port-stored i word s a is at other =
-    ap (λ x. asked_call (next_of x)) (stored-by i word s a (reached a s) is at refl)
+    ap (λ x. requested (next_of x)) (stored-by i word s a (reached a s) is at refl)
     ∙ none-store_by (reached a s) (data_address i s) 4 (stored_bytes i s) (rs2 i s) s other
 
 -- a store of a word that reaches the command
@@ -334,6 +442,16 @@ command i word s a is at reaches here =
     ∙ ap (λ address. store_by of_port address 4 (stored_bytes i s) (rs2 i s) s) here
     ∙ store-commands (stored_bytes i s) (rs2 i s) s in
     subst (λ a. AsksFor a s (call_asked (fork_command s.ports.fork (rs2 i s)))) (sym same) (commanded (fork_command s.ports.fork (rs2 i s)) s)
+
+-- the same of the command of the sibling port
+pub talk-command : (i : Instruction) (word : ℕ) (s : State) (a : Access) → i.kind ≡ Sw → a ≡ to_store (data_address i s) 4 → reached a s ≡ of_port
+    → data_address i s ≡ SIBLING_BASE + SIBLING_COMMAND → AsksFor (execute i word s) s (talk_asked_for (sibling_command s.ports.fork.clone_id s.ports.sibling (rs2 i s)))
+talk-command i word s a is at reaches here =
+    let same = stored-by i word s a of_port is at reaches
+    ∙ ap (λ address. store_by of_port address 4 (stored_bytes i s) (rs2 i s) s) here
+    ∙ store-says (stored_bytes i s) (rs2 i s) s in
+    subst (λ b. AsksFor b s (talk_asked_for (sibling_command s.ports.fork.clone_id s.ports.sibling (rs2 i s)))) (sym same)
+    (said (sibling_command s.ports.fork.clone_id s.ports.sibling (rs2 i s)) s)
 
 -- ---- the pages that a store to a port needs
 
@@ -349,10 +467,10 @@ pub elsewhere-needs : (address width word : ℕ) (s : State) → (eqb width 4 �
 unfolding port_store
 elsewhere-needs address width word s (inl e) =
     needs-stored (port_store s.ports address width word) address s
-    (other-at (place_of address) s.ports width word (elsewhere-narrow width (place_of address) e))
+    (needless-at (place_of address) s.ports width word (elsewhere-narrow width (place_of address) e))
 elsewhere-needs address width word s (inr e) =
     needs-stored (port_store s.ports address width word) address s
-    (other-at (place_of address) s.ports width word (elsewhere-address width address e))
+    (needless-at (place_of address) s.ports width word (elsewhere-address width address e))
 
 -- and a command needs none but as EXIT with bytes
 asks-none : (a : Asked) (s : State) → ((value address count : ℕ) → a ≡ asked.ExitWith value address count → ⊥) → (outcome (effect_of a) s).footprint.needs ≡ []
@@ -382,90 +500,92 @@ command-needs-bytes word s value address count is =
     ∙ ap (λ a. (outcome (effect_of a) (at_next_instruction (record s { ports = record s.ports { fork = answered a s.ports.fork } }))).footprint.needs) is
     ∙ handed-needs (is_byte_range address count s.ram) value address count s
 
--- ---- a call asks nothing of the pages
+-- ---- a call and a talk ask nothing of the pages
 
-call-outcome : (e : Effect) (s : State) (c : Call) → asked_call (next_of (outcome e s).action) ≡ Some c → (outcome e s).footprint ≡ no_footprint
-call-outcome effect.Done s c is = refl
-call-outcome effect.TimeWritten s c is = refl
-call-outcome (effect.Exit value) s c is = refl
-call-outcome (effect.ExitWith value address count) s c is =
-    let none = handed-no-call (is_byte_range address count s.ram) value address count s in absurd (cc)
-call-outcome (effect.Call call) s c is = refl
-call-outcome (effect.Zero first count) s c is = absurd (cc)
+request-outcome : (e : Effect) (s : State) (q : Request) → requested (next_of (outcome e s).action) ≡ Some q → (outcome e s).footprint ≡ no_footprint
+request-outcome effect.Done s q is = refl
+request-outcome effect.TimeWritten s q is = refl
+request-outcome (effect.Exit value) s q is = refl
+request-outcome (effect.ExitWith value address count) s q is =
+    let none = handed-own (is_byte_range address count s.ram) value address count s in absurd (cc)
+request-outcome (effect.Call c) s q is = refl
+request-outcome (effect.Talk t) s q is = refl
+request-outcome (effect.Zero first count) s q is = absurd (cc)
 
-call-port : (o : Option Stored) (address : ℕ) (s : State) (c : Call) → asked_call (next_of (stored_outcome o address s).action) ≡ Some c
+request-port : (o : Option Stored) (address : ℕ) (s : State) (q : Request) → requested (next_of (stored_outcome o address s).action) ≡ Some q
     → (stored_outcome o address s).footprint ≡ no_footprint
-call-port None address s c is = refl
-call-port (Some stored) address s c is = call-outcome stored.effect (at_next_instruction (record s { ports = stored.ports })) c is
+request-port None address s q is = refl
+request-port (Some stored) address s q is = request-outcome stored.effect (at_next_instruction (record s { ports = stored.ports })) q is
 
--- no command of the block port is a call
-call-block : (b : Option BlockRegisters) (address : ℕ) (s : State) (c : Call) → asked_call (next_of (stored_outcome (block_stored b s.ports) address s).action) ≡ Some c → ⊥
-call-block None address s c is = cc
-call-block (Some b) address s c is = cc
+-- no command of the block port is one
+request-block : (b : Option BlockRegisters) (address : ℕ) (s : State) (q : Request) → requested (next_of (stored_outcome (block_stored b s.ports) address s).action) ≡ Some q → ⊥
+request-block None address s q is = cc
+request-block (Some b) address s q is = cc
 
-call-place : (place : Place) (address width word : ℕ) (s : State) (c : Call) → asked_call (next_of (stored_outcome (store_at place s.ports width word) address s).action) ≡ Some c
+request-place : (place : Place) (address width word : ℕ) (s : State) (q : Request) → requested (next_of (stored_outcome (store_at place s.ports width word) address s).action) ≡ Some q
     → (needing (needs_at place width word s) (stored_outcome (store_at place s.ports width word) address s)).footprint ≡ no_footprint
-call-place (at_console offset) address width word s c is = call-port (store_at (at_console offset) s.ports width word) address s c is
-call-place (at_timer offset) address width word s c is = call-port (store_at (at_timer offset) s.ports width word) address s c is
-call-place (at_block offset) address width word s c is = absurd (call-block (block_store s.ports.block offset width word) address s c is)
-call-place (at_fork offset) address width word s c is = call-port (store_at (at_fork offset) s.ports width word) address s c is
-call-place at_no_port address width word s c is = refl
+request-place (at_console offset) address width word s q is = request-port (store_at (at_console offset) s.ports width word) address s q is
+request-place (at_timer offset) address width word s q is = request-port (store_at (at_timer offset) s.ports width word) address s q is
+request-place (at_block offset) address width word s q is = absurd (request-block (block_store s.ports.block offset width word) address s q is)
+request-place (at_fork offset) address width word s q is = request-port (store_at (at_fork offset) s.ports width word) address s q is
+request-place (at_sibling offset) address width word s q is = request-port (store_at (at_sibling offset) s.ports width word) address s q is
+request-place at_no_port address width word s q is = refl
 
-call-at-port : (address width word : ℕ) (s : State) (c : Call) → asked_call (next_of (effect_outcome address width word s).action) ≡ Some c
+request-at-port : (address width word : ℕ) (s : State) (q : Request) → requested (next_of (effect_outcome address width word s).action) ≡ Some q
     → (port_outcome address width word s).footprint ≡ no_footprint
 unfolding port_store
-call-at-port address width word s c is = call-place (place_of address) address width word s c is
+request-at-port address width word s q is = request-place (place_of address) address width word s q is
 
-call-stored : (r : Reached) (i : Instruction) (s : State) (c : Call)
-    → asked_call (next_of (store_by r (data_address i s) (store_width i.kind) (stored_bytes i s) (rs2 i s) s)) ≡ Some c
+request-stored : (r : Reached) (i : Instruction) (s : State) (q : Request)
+    → requested (next_of (store_by r (data_address i s) (store_width i.kind) (stored_bytes i s) (rs2 i s) s)) ≡ Some q
     → footprint_reached r (store_access i s) (rs2 i s) s ≡ no_footprint
-call-stored (faulted cause) i s c is = refl
-call-stored (of_ram page) i s c is = absurd (cc)
-call-stored of_port i s c is = call-at-port (data_address i s) (store_width i.kind) (rs2 i s) s c is
+request-stored (faulted cause) i s q is = refl
+request-stored (of_ram page) i s q is = absurd (cc)
+request-stored of_port i s q is = request-at-port (data_address i s) (store_width i.kind) (rs2 i s) s q is
 
-call-by : (group : Group) (i : Instruction) (word : ℕ) (s : State) (c : Call) → asked_call (next_of (execute_group group i word s)) ≡ Some c
+request-by : (group : Group) (i : Instruction) (word : ℕ) (s : State) (q : Request) → requested (next_of (execute_group group i word s)) ≡ Some q
     → data_footprint (access_by group i s) (rs2 i s) s ≡ no_footprint
 unfolding load store store_action load_reserved store_conditional amo
-call-by Load i word s c is = let none = none-load_by (reached (load_access i s) s) i (data_address i s) s in absurd (cc)
-call-by Store i word s c is = call-stored (reached (store_access i s) s) i s c is
-call-by LoadReserved i word s c is = let none = none-reserve_by (reached (reserve_access i s) s) i (rs1 i s) s in absurd (cc)
-call-by StoreConditional i word s c is = let none = none-conditional_by (reached (conditional_access i s) s) i (rs1 i s) s in absurd (cc)
-call-by Amo i word s c is = let none = none-amo_by (reached (amo_access i s) s) i (rs1 i s) s in absurd (cc)
-call-by LoadUpper i word s c is = refl
-call-by AddUpper i word s c is = refl
-call-by Jump i word s c is = refl
-call-by JumpRegister i word s c is = refl
-call-by Branch i word s c is = refl
-call-by ComputeImmediate i word s c is = refl
-call-by Compute i word s c is = refl
-call-by Nothing i word s c is = refl
-call-by EnvironmentCall i word s c is = refl
-call-by Breakpoint i word s c is = refl
-call-by TrapReturn i word s c is = refl
-call-by Csr i word s c is = refl
+request-by Load i word s q is = let none = none-load_by (reached (load_access i s) s) i (data_address i s) s in absurd (cc)
+request-by Store i word s q is = request-stored (reached (store_access i s) s) i s q is
+request-by LoadReserved i word s q is = let none = none-reserve_by (reached (reserve_access i s) s) i (rs1 i s) s in absurd (cc)
+request-by StoreConditional i word s q is = let none = none-conditional_by (reached (conditional_access i s) s) i (rs1 i s) s in absurd (cc)
+request-by Amo i word s q is = let none = none-amo_by (reached (amo_access i s) s) i (rs1 i s) s in absurd (cc)
+request-by LoadUpper i word s q is = refl
+request-by AddUpper i word s q is = refl
+request-by Jump i word s q is = refl
+request-by JumpRegister i word s q is = refl
+request-by Branch i word s q is = refl
+request-by ComputeImmediate i word s q is = refl
+request-by Compute i word s q is = refl
+request-by Nothing i word s q is = refl
+request-by EnvironmentCall i word s q is = refl
+request-by Breakpoint i word s q is = refl
+request-by TrapReturn i word s q is = refl
+request-by Csr i word s q is = refl
 
-pub call-asks-nothing : (i : Instruction) (word : ℕ) (s : State) (c : Call) → asked_call (next_of (execute i word s)) ≡ Some c
+pub request-asks-nothing : (i : Instruction) (word : ℕ) (s : State) (q : Request) → requested (next_of (execute i word s)) ≡ Some q
     → footprint_of (Some i) s ≡ no_footprint
 unfolding execute
-call-asks-nothing i word s c is = call-by (group_of i.kind) i word s c is
+request-asks-nothing i word s q is = request-by (group_of i.kind) i word s q is
 
 -- nor does the step, but for the page of its code
 
-module _ (s : State) (c : Call) where
-  decoded-changes : (i : Option Instruction) (word : ℕ) → asked_call (next_of (decoded_action i word s)) ≡ Some c
+module _ (s : State) (q : Request) where
+  decoded-changes : (i : Option Instruction) (word : ℕ) → requested (next_of (decoded_action i word s)) ≡ Some q
       → (footprint_of i s).changes ≡ no_change
   decoded-changes None word is = refl
-  decoded-changes (Some i) word is = ap (λ (f : Footprint). f.changes) (call-asks-nothing i word s c is)
+  decoded-changes (Some i) word is = ap (λ (f : Footprint). f.changes) (request-asks-nothing i word s q is)
 
-  fetch-changes : (r : Reached) → asked_call (next_of (fetch_action r s)) ≡ Some c → (footprint_at r s).changes ≡ no_change
+  fetch-changes : (r : Reached) → requested (next_of (fetch_action r s)) ≡ Some q → (footprint_at r s).changes ≡ no_change
   fetch-changes (faulted cause) is = refl
   fetch-changes (of_ram page) is = decoded-changes (decoded (fetched s)) (fetched s) is
   fetch-changes of_port is = refl
 
-  step-changes : (taken : Bool) → asked_call (next_of (action_by taken s)) ≡ Some c → (footprint_step taken s).changes ≡ no_change
+  step-changes : (taken : Bool) → requested (next_of (action_by taken s)) ≡ Some q → (footprint_step taken s).changes ≡ no_change
   step-changes true is = refl
   step-changes false is = fetch-changes (reached (fetch_access s) s) is
 
-  pub call-changes : asked_call (next_of (action s)) ≡ Some c → (footprint_from None s).changes ≡ no_change
+  pub request-changes : requested (next_of (action s)) ≡ Some q → (footprint_from None s).changes ≡ no_change
   unfolding action
-  call-changes is = step-changes (takes_interrupt s.csrs (is_timer_due s)) is
+  request-changes is = step-changes (takes_interrupt s.csrs (is_timer_due s)) is

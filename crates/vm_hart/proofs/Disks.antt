@@ -26,7 +26,7 @@ use Rattle.guest_mem.specs.Answers.{IsRefused}
 use Rattle.guest_mem.specs.Ram.{HasAbsentPages, IsDiskBased, Ram, at_boot, with_set}
 use Rattle.vm_hart.specs.Acts.{IsUnput}
 use Rattle.port_map.specs.declared.place.Place.{Place}
-use Rattle.port_map.specs.declared.place.Place.TheVariants.{Console as at_console, Timer as at_timer, Block as at_block, Fork as at_fork, NoPort as at_no_port}
+use Rattle.port_map.specs.declared.place.Place.TheVariants.{Console as at_console, Timer as at_timer, Block as at_block, Fork as at_fork, Sibling as at_sibling, NoPort as at_no_port}
 use Rattle.vm_bus.specs.Bus.{BusRegisters, disk_page_at}
 use Rattle.forest_model.specs.Memory.{needs_at, pages_on_disk}
 use Rattle.forest_model.specs.Footprint.{zeroes}
@@ -206,4 +206,5 @@ needs-is (at_console offset) b width word s same = refl
 needs-is (at_timer offset) b width word s same = refl
 needs-is (at_block offset) b width word s same = ap (λ (k : BlockRegisters). pages_on_disk s (touched_page k offset width word)) same
 needs-is (at_fork offset) b width word s same = refl
+needs-is (at_sibling offset) b width word s same = refl
 needs-is at_no_port b width word s same = refl

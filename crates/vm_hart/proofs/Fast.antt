@@ -25,7 +25,7 @@ use Rattle.forest_model.specs.declared.access.Access.{Access}
 use Rattle.forest_model.specs.Ports.{PortRegisters}
 use Rattle.forest_model.specs.State.{State, at_next_instruction, is_in_ram}
 use Rattle.forest_model.proofs.Accesses.{reached-ram}
-use Rattle.forest_model.specs.Action.{Action, trap, interrupt, retire, exit, ask, retire_next, rs1, rs2, immediate, with_rd}
+use Rattle.forest_model.specs.Action.{Action, trap, interrupt, retire, exit, ask, speak, retire_next, rs1, rs2, immediate, with_rd}
 use Rattle.forest_model.specs.Access.{Reached, faulted, of_ram, of_port, is_aligned_for, is_allowed, page_of, reached, reached_by, reached_if, right_for, uses, fetch_access}
 use Rattle.forest_model.specs.Compute.{load_upper, add_upper, compute_immediate, compute}
 use Rattle.forest_model.specs.Control.{aligned_jump, branch, branch_by, jump, jump_register, even, linked, relative}
@@ -39,6 +39,7 @@ use Rattle.forest_model.specs.Touch.{access_by, data_footprint, footprint_of, fo
 use Rattle.forest_model.specs.Paged.{pages_after}
 use Rattle.vm_hart.specs.declared.hart.Acted.{Acted}
 use Rattle.vm_hart.specs.declared.hart.Acted.TheVariants.{Stalled, Trapped, Interrupted, Retired, Exited, Asked}
+use Rattle.vm_hart.specs.declared.hart.Request.TheVariants as request
 use Rattle.vm_hart.specs.Acts.{Acts, ActsBy, IsMet, ReachesRam}
 use Rattle.vm_hart.specs.Kept.{stored_at}
 use Rattle.vm_hart.specs.Keyed.{IsHere, KeyedMachine, KeyedState, machine_of}
@@ -75,6 +76,7 @@ recounted_action c t interrupt = interrupt
 recounted_action c t (retire written s) = retire written (with_counters c t s)
 recounted_action c t (exit value bytes s) = exit value bytes (with_counters c t s)
 recounted_action c t (ask call s) = ask call (with_counters c t s)
+recounted_action c t (speak talk s) = speak talk (with_counters c t s)
 
 -- what a fast instruction does, and what it does to the pages: it traps and changes none, or retires and leaves counters and ports
 abbrev IsFastAction : State → Action → Change → Type 0
@@ -85,6 +87,7 @@ IsFastAction s (retire (Counter half) new) ch = ⊥
 IsFastAction s (retire Time new) ch = ⊥
 IsFastAction s (exit value bytes new) ch = ⊥
 IsFastAction s (ask call new) ch = ⊥
+IsFastAction s (speak talk new) ch = ⊥
 
 module _ (i : Instruction) (s : State) where
   jump-fast : (aligned : Bool) (target : ℕ) (new : State) → new.csrs ≡ s.csrs → new.ports ≡ s.ports → IsFastAction s (aligned_jump aligned target new) no_change
@@ -225,6 +228,7 @@ told-retired s new (trap cause value) ch written h e = absurd (cc)
 told-retired s new interrupt ch written h e = absurd (cc)
 told-retired s new (exit value bytes n) ch written h e = absurd (cc)
 told-retired s new (ask call n) ch written h e = absurd (cc)
+told-retired s new (speak talk n) ch written h e = absurd (cc)
 
 module _ (old new : KeyedState) (i : Instruction) (word : ℕ) (fast : IsFast i old.state) where
   is-fast : IsFastAction old.state (execute i word old.state) (footprint_of (Some i) old.state).changes
@@ -270,7 +274,8 @@ module _ (old new : KeyedState) (i : Instruction) (word : ℕ) (fast : IsFast i 
   fast-none (Retired written) acts differs =
       absurd (differs (ap Retired (told-retired old.state new.state (execute i word old.state) (footprint_of (Some i) old.state).changes written is-fast acts.tells)))
   fast-none (Exited value address count) acts differs = absurd (subst (λ a. IsFastAction old.state a (footprint_of (Some i) old.state).changes) acts.tells.0 is-fast)
-  fast-none (Asked call) acts differs = absurd (subst (λ a. IsFastAction old.state a (footprint_of (Some i) old.state).changes) acts.tells.0 is-fast)
+  fast-none (Asked (request.Call call)) acts differs = absurd (subst (λ a. IsFastAction old.state a (footprint_of (Some i) old.state).changes) acts.tells.0 is-fast)
+  fast-none (Asked (request.Talk talk)) acts differs = absurd (subst (λ a. IsFastAction old.state a (footprint_of (Some i) old.state).changes) acts.tells.0 is-fast)
 
 by-retired : (old new : KeyedState) (i : Instruction) (acted : Acted) (is_retired : Bool) → IsFast i old.state
     → ((word : ℕ) → ActsBy old new (Some i) word (Ok acted)) → MatchBool is_retired (acted ≡ Retired Nothing) (acted ≢ Retired Nothing)

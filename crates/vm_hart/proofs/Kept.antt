@@ -31,7 +31,7 @@ use Rattle.rv_traps.specs.Protection.{allows, data_mode, is_unrestricted}
 use Rattle.rv_exec.specs.Branch.{branch_taken}
 use Rattle.rv_exec.specs.Memory.{IsWidth, store_bytes, store_width}
 use Rattle.forest_model.specs.State.{State, is_in_ram}
-use Rattle.forest_model.specs.Action.{Action, trap, interrupt, retire, exit, ask, rs1, rs2, immediate}
+use Rattle.forest_model.specs.Action.{Action, trap, interrupt, retire, exit, ask, speak, rs1, rs2, immediate}
 use Rattle.forest_model.specs.Access.{Reached, faulted, of_ram, of_port, reached, fetch_access}
 use Rattle.forest_model.specs.Compute.{load_upper, add_upper, compute_immediate, compute}
 use Rattle.forest_model.specs.Control.{aligned_jump, branch, branch_by, jump, jump_register, even, linked, relative}
@@ -141,6 +141,7 @@ IsRamAction g i s interrupt = Unit {0}
 IsRamAction g i s (retire written new) = RamAfter g i s new
 IsRamAction g i s (exit value bytes new) = Unit {0}
 IsRamAction g i s (ask call new) = Unit {0}
+IsRamAction g i s (speak talk new) = Unit {0}
 
 module _ (i : Instruction) (s : State) where
   jump-ram : (aligned : Bool) (target : ℕ) (new : State) → new.ram ≡ s.ram → IsRamAction Jump i s (aligned_jump aligned target new)

@@ -1,5 +1,5 @@
 -- Loads and stores of the bus, over the disk of the image of the key, as those of the hart.
-use Rattle.std.proofs.Common.{◌≡◌, inl, inr, refl, ℕ, ◌+◌, ◌-◌, ◌*◌, ◌<◌, true, false, Bool, List, [], ◌∷◌, ◌++◌, length, slice_get}
+use Rattle.std.proofs.Common.{◌≡◌, inl, inr, refl, ℕ, ◌+◌, ◌*◌, ◌<◌, true, false, Bool, List, [], ◌∷◌, ◌++◌, length, slice_get}
 use Rattle.std.proofs.Common.{Option, Some, None, Result, Ok, Err, IfOk, IsSomeAnd, option_map, sym, ap, ◌∙◌, subst, arith}
 use Rattle.std.proofs.lemmas.Bool.Decides.{nat_tests}
 use Rattle.std.proofs.lemmas.Option.{get_or_from_slice_get}
@@ -11,12 +11,11 @@ use Rattle.cow_disk.proofs.Whole.{whole_stays}
 use Rattle.block_port.specs.Block.{block_over, touched_page}
 use Rattle.fork_port.specs.declared.commands.Effect.{Effect}
 use Rattle.fork_port.specs.declared.commands.Effect.TheVariants as effect
-use Rattle.fork_port.specs.Commands.{IsMakeable}
 use Rattle.image_depot.specs.Key.{Key}
 use Rattle.rv_traps.specs.declared.registers.CsrRegisters.{CsrRegisters}
 use Rattle.guest_mem.specs.Ram.{IsDiskBased, Ram, disk_below}
 use Rattle.port_map.specs.declared.place.Place.{Place}
-use Rattle.port_map.specs.declared.place.Place.TheVariants.{Console as at_console, Timer as at_timer, Block as at_block, Fork as at_fork, NoPort as at_no_port}
+use Rattle.port_map.specs.declared.place.Place.TheVariants.{Console as at_console, Timer as at_timer, Block as at_block, Fork as at_fork, Sibling as at_sibling, NoPort as at_no_port}
 use Rattle.forest_model.specs.Memory.{needs_at, page_on_disk, pages_on_disk}
 use Rattle.forest_model.specs.Paged.{Pages}
 use Rattle.forest_model.specs.Ports.{PortRegisters, Stored, port_load, port_store}
@@ -25,6 +24,8 @@ use Rattle.vm_bus.specs.Bus.{BusParts, BusRegisters, BusStored, IsDiskPageHereAt
 use Rattle.vm_hart.specs.Acts.{IsMet, LeavesTo, PortGrows, WaitsAt}
 use Rattle.vm_hart.specs.Hart.{hart_of, ports_of}
 use Rattle.vm_hart.specs.Keyed.{KeyedState}
+use Rattle.vm_hart.specs.Requests.{IsPossible}
+use Rattle.vm_hart.specs.declared.hart.Request.TheVariants as request
 use Rattle.vm_hart.proofs.Disks.{flag-disk, get-disk, length-here, needs-is}
 use Rattle.vm_hart.proofs.PortChoice.{as_read, as_stored, same_load, same_store}
 
@@ -58,10 +59,12 @@ port-grows b address width word (inl puts) =
 port-grows b address width word (inr other) = inr other
 
 -- what waits on the bus is left to the machine
-pub leaves-to : (make : BusParts → KeyedState) (old new : BusParts) (e : Effect) → ((b : BusParts) → (make b).state.ports.fork ≡ b.fork) → Waits old new e → LeavesTo (make old) (make new) e
+pub leaves-to : (make : BusParts → KeyedState) (old new : BusParts) (e : Effect)
+    → ((b : BusParts) → (make b).state.ports ≡ ports_of (bus_over b (disk_below (make b).key))) → Waits old new e → LeavesTo (make old) (make new) e
 leaves-to make old new effect.Done is h = tt
 leaves-to make old new effect.TimeWritten is h = tt
-leaves-to make old new (effect.Call c) is h = (ap make h.0, subst (λ f. IsMakeable f c) (sym (is old)) h.1)
+leaves-to make old new (effect.Call c) is h = (ap make h.0, subst (λ p. IsPossible p (request.Call c)) (sym (is old)) h.1)
+leaves-to make old new (effect.Talk t) is h = (ap make h.0, subst (λ p. IsPossible p (request.Talk t)) (sym (is old)) h.1)
 leaves-to make old new (effect.Exit value) is h = tt
 leaves-to make old new (effect.ExitWith value address count) is h = (ap make h.0, h.1)
 leaves-to make old new (effect.Zero first count) is h = ap make h
@@ -90,6 +93,7 @@ module _ (ram : List Bool) (parts : BusParts) (below : List ℕ) (count : length
       ∙ ap (λ here. slice_get here (length ram + page_of_sector parts.block.sector)) (sym is_here)
       ∙ ap (slice_get flags.here) (sym (place-is (page_of_sector parts.block.sector))) ∙ one.0)
   bus-here (at_fork offset) width word flags is_here met = tt
+  bus-here (at_sibling offset) width word flags is_here met = tt
   bus-here at_no_port width word flags is_here met = tt
 
   -- the page of the disk that is needed, if one is

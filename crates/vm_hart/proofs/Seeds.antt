@@ -73,12 +73,12 @@ booted-is registers image disk input allot count whole =
     ap with_pages (booted-pages image disk count whole)
 
 -- the hart of a clone, whose disk is absent and so reads as that of the image
-woken-is : (d : Descriptor) (key : Key) (disk : PagedDisk) → disk ≡ absent_disk (sector_count (image_of key).disk)
+woken-is : (d : Descriptor) (siblings : ℕ) (key : Key) (disk : PagedDisk) → disk ≡ absent_disk (sector_count (image_of key).disk)
     → SECTOR_SIZE * sector_count (image_of key).disk ≡ length (image_of key).disk
-    → hart_of (0 ∷ d.registers) d.pc d.csrs d.reservation (cloned key d.blank) (parts_of_fields (port_fields d) disk (image_of key).input) ≡ woken_hart d key
-woken-is d key disk is whole =
+    → hart_of (0 ∷ d.registers) d.pc d.csrs d.reservation (cloned key d.blank) (parts_of_fields (port_fields d) disk (image_of key).input siblings) ≡ woken_hart d siblings key
+woken-is d siblings key disk is whole =
     let image = image_of key in
-    let with_disk : PagedDisk → KeyedState = λ dk. hart_of (0 ∷ d.registers) d.pc d.csrs d.reservation (cloned key d.blank) (parts_of_fields (port_fields d) dk image.input) in
+    let with_disk : PagedDisk → KeyedState = λ dk. hart_of (0 ∷ d.registers) d.pc d.csrs d.reservation (cloned key d.blank) (parts_of_fields (port_fields d) dk image.input siblings) in
     let that_reads : List ℕ → List Bool → KeyedState = λ reads flags. record {
       state = record {
         registers = 0 ∷ d.registers;
@@ -86,7 +86,7 @@ woken-is d key disk is whole =
         csrs = d.csrs;
         reservation = d.reservation;
         ram = cleared d.blank image.contents;
-        ports = ports_of (ports_of_fields (port_fields d) reads image.input);
+        ports = ports_of (ports_of_fields (port_fields d) reads image.input siblings);
       };
       pages = record { here = d.blank ++ flags; blank = d.blank };
       key = Some key;
@@ -96,12 +96,12 @@ woken-is d key disk is whole =
     ∙ ap (that_reads image.disk) (absent-flags image.disk)
 
 -- the same of its parts
-pub woken-by : (d : Descriptor) (key : Key) (disk : PagedDisk) (registers : List ℕ) (csrs : CsrRegisters) (memory : Ram) (ports : BusParts) → registers ≡ 0 ∷ d.registers → csrs ≡ d.csrs
-    → memory ≡ cloned key d.blank → ports ≡ parts_of_fields (port_fields d) disk (image_of key).input → disk ≡ absent_disk (sector_count (image_of key).disk)
-    → SECTOR_SIZE * sector_count (image_of key).disk ≡ length (image_of key).disk → hart_of registers d.pc csrs d.reservation memory ports ≡ woken_hart d key
-woken-by d key disk registers csrs memory ports same_registers same_csrs same_memory same_ports absent whole =
+pub woken-by : (d : Descriptor) (siblings : ℕ) (key : Key) (disk : PagedDisk) (registers : List ℕ) (csrs : CsrRegisters) (memory : Ram) (ports : BusParts) → registers ≡ 0 ∷ d.registers → csrs ≡ d.csrs
+    → memory ≡ cloned key d.blank → ports ≡ parts_of_fields (port_fields d) disk (image_of key).input siblings → disk ≡ absent_disk (sector_count (image_of key).disk)
+    → SECTOR_SIZE * sector_count (image_of key).disk ≡ length (image_of key).disk → hart_of registers d.pc csrs d.reservation memory ports ≡ woken_hart d siblings key
+woken-by d siblings key disk registers csrs memory ports same_registers same_csrs same_memory same_ports absent whole =
     ap (λ r. hart_of r d.pc csrs d.reservation memory ports) same_registers
     ∙ ap (λ s. hart_of (0 ∷ d.registers) d.pc s d.reservation memory ports) same_csrs
     ∙ ap (λ m. hart_of (0 ∷ d.registers) d.pc d.csrs d.reservation m ports) same_memory
     ∙ ap (λ p. hart_of (0 ∷ d.registers) d.pc d.csrs d.reservation (cloned key d.blank) p) same_ports
-    ∙ woken-is d key disk absent whole
+    ∙ woken-is d siblings key disk absent whole

@@ -11,7 +11,7 @@ use Rattle.forest_model.specs.Action.{Action, trap, interrupt, retire, exit}
 use Rattle.forest_model.specs.Execute.{action}
 use Rattle.forest_model.specs.Memory.{bytes_at}
 use Rattle.forest_model.specs.Machine.{Machine, next_of, trapped, count, limited, advance, applied}
-use Rattle.forest_model.specs.Forest.{call_of}
+use Rattle.forest_model.specs.Forest.{call_of, talk_of}
 use Rattle.forest_model.specs.Touch.{change, footprint, footprint_from}
 use Rattle.forest_model.specs.Paged.{first_absent, pages_after, stalled_at}
 use Rattle.forest_model.proofs.Finish.{advance-live}
@@ -60,10 +60,15 @@ module _ (v : KeyedMachine) (hart : KeyedState) (live : v.machine.ending ≡ Non
 
   -- it was free to make a step of its own, and has made it
   goes : (a : Action) (acted : Acted) (new : KeyedMachine) → waits_for (hart_in v) ≡ None → action m.state ≡ a
-      → HasActed (hart_in v) hart (changing (footprint_from None m.state)) (action m.state) acted → call_of (next_of a) ≡ None
+      → HasActed (hart_in v) hart (changing (footprint_from None m.state)) (action m.state) acted → call_of (next_of a) ≡ None → talk_of (next_of a) ≡ None
       → (applied a m).steps ≡ m.steps + 1 → new ≡ after a → IsStep v new
-  goes a acted new here is by own counted new_is = (
-    record { live = live; here = stalls_live v live ∙ here; own = ap (λ b. call_of (next_of b)) is ∙ own },
+  goes a acted new here is by own silent counted new_is = (
+    record {
+      live = live;
+      here = stalls_live v live ∙ here;
+      own = ap (λ b. call_of (next_of b)) is ∙ own;
+      silent = ap (λ b. talk_of (next_of b)) is ∙ silent;
+    },
     new_is ∙ moved-is a acted is by,
     ap (λ (n : KeyedMachine). n.machine.steps) new_is ∙ counted,
   )
@@ -84,24 +89,24 @@ module _ (v : KeyedMachine) (hart : KeyedState) (live : v.machine.ending ≡ Non
     pub goes_trapped : (cause value : ℕ) → ActsNext (hart_in v) hart (Ok (Trapped cause value))
         → counted ≡ record hart { state = count false Nothing (trapped cause value hart.state) } → Goes
     goes_trapped cause value acts traps =
-        goes (trap cause value) (Trapped cause value) _ acts.0 acts.1.tells.0 acts.1 refl refl
+        goes (trap cause value) (Trapped cause value) _ acts.0 acts.1.tells.0 acts.1 refl refl refl
         (is_counted _ (is_trapped cause value acts.1.tells.1 traps))
 
     pub goes_interrupted : ActsNext (hart_in v) hart (Ok Interrupted)
         → counted ≡ record hart { state = count false Nothing (trapped TIMER_INTERRUPT 0 hart.state) } → Goes
     goes_interrupted acts traps =
-        goes interrupt Interrupted _ acts.0 acts.1.tells.0 acts.1 refl refl
+        goes interrupt Interrupted _ acts.0 acts.1.tells.0 acts.1 refl refl refl
         (is_counted _ (is_trapped TIMER_INTERRUPT 0 acts.1.tells.1 traps))
 
     pub goes_retired : (written : Written) → ActsNext (hart_in v) hart (Ok (Retired written))
         → counted ≡ record hart { state = count true written hart.state } → Goes
     goes_retired written acts counts =
-        goes (retire written hart.state) (Retired written) _ acts.0 acts.1.tells acts.1 refl refl (is_counted _ counts)
+        goes (retire written hart.state) (Retired written) _ acts.0 acts.1.tells acts.1 refl refl refl (is_counted _ counts)
 
   pub goes_exited : (value address size : ℕ) (counted : KeyedState) → ActsNext (hart_in v) hart (Ok (Exited value address size))
       → counted ≡ record hart { state = count true Nothing hart.state }
       → IsStep v (machine_of counted (m.steps + 1) m.limit (Some (Exit value (handed_of (bytes_at address size hart.state)))))
   goes_exited value address size counted acts counts =
       let bytes = bytes_at address size hart.state in
-      goes (exit value bytes hart.state) (Exited value address size) _ acts.0 acts.1.tells.0 acts.1 refl refl
+      goes (exit value bytes hart.state) (Exited value address size) _ acts.0 acts.1.tells.0 acts.1 refl refl refl
       (ap (λ (h : KeyedState). machine_of h (m.steps + 1) m.limit (Some (Exit value (handed_of bytes)))) counts)

@@ -4,12 +4,13 @@ use Rattle.std.specs.declared.alloc.AllocError.{AllocError}
 use Rattle.rv_decode.specs.Instruction.{Instruction}
 use Rattle.rv_exec.specs.Memory.{load_value}
 use Rattle.fork_port.specs.declared.commands.Call.{Call}
+use Rattle.sibling_port.specs.declared.talk.Talk.{Talk}
 use Rattle.fork_port.specs.declared.commands.Effect.{Effect}
 use Rattle.fork_port.specs.declared.commands.Effect.TheVariants as effect
 use Rattle.port_map.specs.Ranges.{place_of}
 use Rattle.forest_model.specs.declared.Written.TheVariants.{Nothing, Time}
 use Rattle.forest_model.specs.declared.cause.TheConstants.{LOAD_ACCESS_FAULT, STORE_ACCESS_FAULT}
-use Rattle.forest_model.specs.Action.{ask, exit, retire, retire_next, with_rd}
+use Rattle.forest_model.specs.Action.{ask, speak, exit, retire, retire_next, with_rd}
 use Rattle.forest_model.specs.Footprint.{no_change, no_footprint, zeroes}
 use Rattle.forest_model.specs.Memory.{Outcome, bytes_at, effect_outcome, is_byte_range, is_page_range, needs_at, outcome, port_outcome, read_action, stored_outcome, zeroed}
 use Rattle.forest_model.specs.Paged.{Pages, pages_after}
@@ -19,6 +20,7 @@ use Rattle.vm_hart.specs.Acts.{Acts, HandsOver, HasActed, HasChanged, HasRead, H
 use Rattle.vm_hart.specs.Keyed.{KeyedState}
 use Rattle.vm_hart.specs.declared.hart.Acted.{Acted}
 use Rattle.vm_hart.specs.declared.hart.Acted.TheVariants.{Stalled, Trapped, Interrupted, Retired, Exited, Asked}
+use Rattle.vm_hart.specs.declared.hart.Request.TheVariants as request
 use Rattle.vm_hart.proofs.Asks.{handed-needs}
 use Rattle.vm_hart.proofs.Waiting.{met-first, met-second, waits-after}
 
@@ -105,7 +107,7 @@ module _ (old between : KeyedState) (address width word : ℕ) (met : IsMet (por
     by-acts new Interrupted h = by-outcome new Interrupted h.tells h.changed
     by-acts new (Retired written) h = by-outcome new (Retired written) h.tells h.changed
     by-acts new (Exited value from count) h = by-outcome new (Exited value from count) h.tells h.changed
-    by-acts new (Asked call) h = by-outcome new (Asked call) h.tells h.changed
+    by-acts new (Asked r) h = by-outcome new (Asked r) h.tells h.changed
 
   pub done-acts : (new : KeyedState) (acted : Acted) → HasStored old between address width word effect.Done → acted ≡ Retired Nothing
       → new ≡ record between { state = at_next_instruction between.state } → StoreActs new (Ok acted)
@@ -119,10 +121,16 @@ module _ (old between : KeyedState) (address width word : ℕ) (met : IsMet (por
       by-outcome effect.TimeWritten stored new (Retired Time) (ap (λ (h : KeyedState). retire Time h.state) (sym is))
       (next-changed old between address width word effect.TimeWritten stored new (at_next_instruction between.state) is)
 
-  pub call-acts : (call : Call) → HasStored old between address width word (effect.Call call) → StoreActs between (Ok (Asked call))
+  pub call-acts : (call : Call) → HasStored old between address width word (effect.Call call) → StoreActs between (Ok (Asked (request.Call call)))
   call-acts call stored =
-      by-outcome (effect.Call call) stored between (Asked call)
+      by-outcome (effect.Call call) stored between (Asked (request.Call call))
       (ap (λ (h : KeyedState). ask call (at_next_instruction h.state)) stored.leaves.0, ap (λ (h : KeyedState). h.state) stored.leaves.0, stored.leaves.1)
+      (ap (λ (h : KeyedState). h.pages) stored.leaves.0, ap (λ (h : KeyedState). h.key) stored.leaves.0)
+
+  pub talk-acts : (talk : Talk) → HasStored old between address width word (effect.Talk talk) → StoreActs between (Ok (Asked (request.Talk talk)))
+  talk-acts talk stored =
+      by-outcome (effect.Talk talk) stored between (Asked (request.Talk talk))
+      (ap (λ (h : KeyedState). speak talk (at_next_instruction h.state)) stored.leaves.0, ap (λ (h : KeyedState). h.state) stored.leaves.0, stored.leaves.1)
       (ap (λ (h : KeyedState). h.pages) stored.leaves.0, ap (λ (h : KeyedState). h.key) stored.leaves.0)
 
   -- EXIT hands over no bytes

@@ -6,9 +6,8 @@ use Rattle.elf_load.specs.declared.image.TheConstants.{RAM_BASE}
 use Rattle.page_frames.specs.declared.page.TheConstants.{PAGE_SIZE}
 use Rattle.block_port.specs.Block.{WritesSector}
 use Rattle.fork_port.specs.declared.commands.Effect.{Effect}
-use Rattle.fork_port.specs.declared.commands.Effect.TheVariants.{Done, TimeWritten, Call, Exit, ExitWith, Zero}
+use Rattle.fork_port.specs.declared.commands.Effect.TheVariants.{Done, TimeWritten, Call, Talk, Exit, ExitWith, Zero}
 use Rattle.fork_port.specs.declared.handed.TheConstants.{MAX_HANDED}
-use Rattle.fork_port.specs.Commands.{IsMakeable}
 use Rattle.fork_port.specs.Fork.{GrantsTicket}
 use Rattle.rv_decode.specs.Instruction.{Instruction}
 use Rattle.forest_model.specs.declared.access.Access.{Access}
@@ -16,7 +15,7 @@ use Rattle.forest_model.specs.declared.access.Direction.{Direction}
 use Rattle.port_map.specs.declared.place.TheConstants.{BLOCK_BASE, FORK_BASE}
 use Rattle.forest_model.specs.Ports.{PortRegisters, port_load, port_store}
 use Rattle.forest_model.specs.State.{State, at_next_instruction}
-use Rattle.forest_model.specs.Action.{Action, trap, interrupt, retire, exit, ask, rs2}
+use Rattle.forest_model.specs.Action.{Action, trap, interrupt, retire, exit, rs2}
 use Rattle.forest_model.specs.Access.{Reached, faulted, of_ram, of_port, outside_ram, page_for, reached, uses}
 use Rattle.forest_model.specs.Footprint.{Page, Change, no_change, puts, zeroes, Footprint, no_footprint}
 use Rattle.forest_model.specs.Memory.{Outcome, bytes_at, handing_over, is_byte_range, pages_of_bytes, port_outcome}
@@ -26,8 +25,10 @@ use Rattle.forest_model.specs.Paged.{Pages, first_absent, pages_after}
 use Rattle.guest_mem.specs.declared.answers.StoreError.{StoreError}
 use Rattle.guest_mem.specs.declared.answers.StoreError.TheVariants.{Absent, Memory}
 use Rattle.vm_hart.specs.Keyed.{KeyedState, IsHere, IsAbsent}
+use Rattle.vm_hart.specs.Requests.{IsPossible, asks_for}
 use Rattle.vm_hart.specs.declared.hart.Acted.{Acted}
 use Rattle.vm_hart.specs.declared.hart.Acted.TheVariants.{Stalled, Trapped, Interrupted, Retired, Exited, Asked}
+use Rattle.vm_hart.specs.declared.hart.Request.TheVariants as request
 use Rattle.vm_hart.specs.declared.hart.access.Reach.{Reach}
 use Rattle.vm_hart.specs.declared.hart.access.Reach.TheVariants as reach
 
@@ -100,8 +101,8 @@ Tells old new action Interrupted = (action ≡ interrupt) × (new.state ≡ old.
 Tells old new action (Retired written) = action ≡ retire written new.state
 Tells old new action (Exited value address count) =
     (action ≡ exit value (bytes_at address count new.state) new.state) × IsReadable new address count
-Tells old new action (Asked call) =
-    (action ≡ ask call (at_next_instruction old.state)) × (new.state ≡ old.state) × IsMakeable old.state.ports.fork call
+Tells old new action (Asked r) =
+    (action ≡ asks_for r (at_next_instruction old.state)) × (new.state ≡ old.state) × IsPossible old.state.ports r
 
 -- the pages that it needs are here; its action is told; and it does to the pages what it changes of them
 pub record HasActed (old new : KeyedState) (asks : Footprint) (action : Action) (acted : Acted) : Type 0 where
@@ -123,12 +124,13 @@ ActsAlone old new action acted = Acts old new no_footprint action (Ok acted)
 abbrev pub ActsBy : KeyedState → KeyedState → Option Instruction → ℕ → Result Acted AllocError → Type 0
 ActsBy old new i word result = Acts old new (footprint_of i old.state) (decoded_action i word old.state) result
 
--- a store to a port that is a call, EXIT with bytes or ZERO changes nothing yet. The call can be made, and the bytes are
--- not too many
+-- a store to a port that is a call, a talk, EXIT with bytes or ZERO changes nothing yet. The call can be made, the talk is
+-- with a sibling, and the bytes are not too many
 abbrev pub LeavesTo : KeyedState → KeyedState → Effect → Type 0
 LeavesTo old new Done = Unit {0}
 LeavesTo old new TimeWritten = Unit {0}
-LeavesTo old new (Call call) = (new ≡ old) × IsMakeable old.state.ports.fork call
+LeavesTo old new (Call call) = (new ≡ old) × IsPossible old.state.ports (request.Call call)
+LeavesTo old new (Talk talk) = (new ≡ old) × IsPossible old.state.ports (request.Talk talk)
 LeavesTo old new (Exit value) = Unit {0}
 LeavesTo old new (ExitWith value address count) = (new ≡ old) × (count ≤ MAX_HANDED)
 LeavesTo old new (Zero first count) = new ≡ old

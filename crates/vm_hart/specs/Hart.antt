@@ -12,7 +12,7 @@ use Rattle.vm_hart.specs.Keyed.{KeyedState, pages_of}
 
 -- what the bus holds
 abbrev pub ports_of : BusRegisters → PortRegisters
-ports_of b = record { console = b.console; timer = b.timer; block = b.block; fork = b.fork }
+ports_of b = record { console = b.console; timer = b.timer; block = b.block; fork = b.fork; sibling = b.sibling }
 
 -- what a hart of these parts is. Its disk lies over that of the image of its key
 abbrev pub hart_of : List ℕ → ℕ → CsrRegisters → Option ℕ → Ram → BusParts → KeyedState

@@ -5,6 +5,7 @@ pub mod Kept
 pub mod Keyed
 pub mod Fast
 pub mod Placed
+pub mod Requests
 pub mod Runs
 pub mod Seeds
 pub mod Shown

@@ -1,7 +1,7 @@
 -- Steps that a machine makes by its hart, each by itself and so many.
 use Rattle.std.specs.Prelude.{◌≡◌, ℕ, ◌+◌, ◌<◌, None}
 use Rattle.forest_model.specs.Machine.{next}
-use Rattle.forest_model.specs.Forest.{call_of}
+use Rattle.forest_model.specs.Forest.{call_of, talk_of}
 use Rattle.forest_model.specs.Paged.{advanced, advanced_by, stalled_at}
 use Rattle.vm_hart.specs.Keyed.{KeyedMachine, keyed, paged}
 
@@ -12,11 +12,12 @@ moved v = keyed v.key (advanced (paged v))
 abbrev pub moved_by : ℕ → KeyedMachine → KeyedMachine
 moved_by n v = keyed v.key (advanced_by n (paged v))
 
--- a machine lives, the pages that its next step touches are here, and the step is its own
+-- a machine lives, the pages that its next step touches are here, and the step is its own: no call and no talk
 pub record IsFree (v : KeyedMachine) : Type 0 where
   pub live : v.machine.ending ≡ None
   pub here : stalled_at (paged v) ≡ None
   pub own : call_of (next v.machine) ≡ None
+  pub silent : talk_of (next v.machine) ≡ None
 
 -- so are the steps that it makes, so many
 abbrev pub IsFreeFor : ℕ → KeyedMachine → Type 0

@@ -14,7 +14,7 @@ use Rattle.vm_hart.specs.Hart.{ports_of}
 use Rattle.vm_hart.specs.Keyed.{KeyedState}
 
 -- the registers of the ports that a descriptor tells: a clone has no ticket yet, and the first of its own
--- is 1
+-- is 1. Its sibling port is new, and tells how many children its ticket made
 abbrev pub port_fields : Descriptor → PortFields
 port_fields d = record {
   timer = d.timer;
@@ -32,22 +32,22 @@ port_fields d = record {
   };
 }
 
-abbrev pub woken_state : Descriptor → FrozenImage → State
-woken_state d image = record {
+abbrev pub woken_state : Descriptor → ℕ → FrozenImage → State
+woken_state d siblings image = record {
   registers = 0 ∷ d.registers;
   pc = d.pc;
   csrs = d.csrs;
   reservation = d.reservation;
   ram = cleared d.blank image.contents;
-  ports = ports_of (ports_of_fields (port_fields d) image.disk image.input);
+  ports = ports_of (ports_of_fields (port_fields d) image.disk image.input siblings);
 }
 
 -- a clone starts with its blank pages alone, and with no page of the disk
 abbrev pub woken_pages : Descriptor → FrozenImage → Pages
 woken_pages d image = record { here = d.blank ++ flags_of_disk false image.disk; blank = d.blank }
 
-abbrev pub woken_hart : Descriptor → Key → KeyedState
-woken_hart d key = record { state = woken_state d (image_of key); pages = woken_pages d (image_of key); key = Some key }
+abbrev pub woken_hart : Descriptor → ℕ → Key → KeyedState
+woken_hart d siblings key = record { state = woken_state d siblings (image_of key); pages = woken_pages d (image_of key); key = Some key }
 
 -- the image that a machine leaves for its children
 abbrev pub image_left : State → FrozenImage

@@ -32,6 +32,7 @@ use instruction_slots::{Fields, Slot, decode_by};
 use page_frames::PAGE_SIZE;
 use rv_decode::Group;
 use rv_traps::{Csrs, Wrote};
+use sibling_port::Talk;
 use std::alloc::{AllocError, Global};
 use std::marker::Model;
 use vm_bus::Ports;
@@ -50,6 +51,15 @@ mod system;
 mod window;
 
 use access::Reach;
+
+/// What a machine asks of others. It makes no step of its own there.
+#[derive(Clone, Copy)]
+pub enum Request {
+    /// A call, which concerns its children.
+    Call(Call),
+    /// A talk with another child of its ticket.
+    Talk(Talk),
+}
 
 /// What a step came to.
 #[derive(Clone, Copy)]
@@ -72,8 +82,8 @@ pub enum Acted {
         address: u32,
         count: u32,
     },
-    /// The machine is to make this call. Nothing has changed.
-    Asked(Call),
+    /// The machine is to make this call or talk. Nothing has changed.
+    Asked(Request),
 }
 
 /// A hardware thread with its memory and ports: what an instruction sees of a machine.

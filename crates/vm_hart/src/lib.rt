@@ -3,4 +3,4 @@
 
 mod hart;
 
-pub use hart::{Acted, Hart};
+pub use hart::{Acted, Hart, Request};

@@ -1,4 +1,9 @@
 -- What a world stands for where a page comes to a machine on lease, and while the machine makes steps.
+use Rattle.sibling_forest.specs.Talk.{Box, Inbox, boxed}
+use Rattle.sibling_forest.specs.Laws.{box_of}
+use Rattle.sibling_forest.specs.Members.{HaveMembers}
+use Rattle.sibling_forest.specs.Settle.{rests_at}
+use Rattle.sibling_forest.proofs.Projected.{rests-map}
 use Rattle.std.proofs.Common.{◌≡◌, ℕ, ◌+◌, Bool, true, false, Result, Ok, Err, IfOk, OnErr, refl, sym, ap, ap₂, ◌∙◌, subst, inl, inr, ◌⊎◌, [], ◌∷◌, ◌++◌, Option, Some, None, option_map}
 use Rattle.std.specs.Option.{IfSome}
 use Rattle.std.specs.BTreeMap.{get}
@@ -8,22 +13,24 @@ use Rattle.image_depot.specs.Reply.{Reply}
 use Rattle.cow_disk.specs.declared.arrived.Arrived.{Arrived}
 use Rattle.cow_disk.specs.declared.arrived.Arrived.TheVariants.{Got, Had}
 use Rattle.forest_tree.specs.Tree.{Tree, node, Broods, Log, machine, Branch, Path, subtree}
-use Rattle.forest_tree.specs.Settle.{waits}
 use Rattle.forest_tree.specs.Sound.{IsSound}
 use Rattle.forest_tree.specs.Projection.{map_tree}
 use Rattle.forest_tree.proofs.Settle.{KeepsTo, root-sound}
 use Rattle.forest_tree.proofs.Places.{subtree-sound}
 use Rattle.forest_tree.proofs.Projected.{subtree-map}
-use Rattle.forest_history.specs.Places.{at_path, home, out, parked, placed, Spot, spots}
-use Rattle.forest_history.specs.World.{IsWhole, holds, is_out, is_out_at, lives_ready}
-use Rattle.forest_history.specs.Rows.{took, does}
+use Rattle.forest_history.specs.Places.{at_path, home, out, parked, Spot, spots}
+use Rattle.talking_history.specs.Places.{bare, placed, spot_talks}
+use Rattle.talking_history.proofs.Ends.{rests-bare}
+use Rattle.forest_history.specs.World.{is_out_at}
+use Rattle.talking_history.specs.World.{IsWhole, holds, is_out, lives_ready}
+use Rattle.talking_history.specs.Rows.{took, does}
 use Rattle.forest_history.proofs.Changes.{at_path-agree, at_path-here, at_path-leaves, at_path-twice}
 use Rattle.forest_history.proofs.Ends.{at_path-keeps, at_path-map}
 use Rattle.forest_model.specs.Machine.{Machine, after_steps}
-use Rattle.forest_model.specs.Forest.{machines}
-use Rattle.forest_model.specs.Paged.{Paged, Pages, advanced_by, paged_machines, pages_arrived}
+use Rattle.forest_model.specs.Forest.{machines, talks}
+use Rattle.forest_model.specs.Paged.{Paged, Pages, advanced_by, paged_machines, paged_talks, pages_arrived}
 use Rattle.forest_model.proofs.Absent.{arrived-advanced_by}
-use Rattle.forest_model.proofs.Paged.{advanced_by-add, machine-advanced_by}
+use Rattle.forest_model.proofs.Paged.{advanced_by-add, machine-advanced_by, paged-alike, paged-projects}
 use Rattle.machine_names.specs.NameOrder.{path_cmp}
 use Rattle.vm_cell.specs.Keyed.{Arrives, KeyedMachine}
 use Rattle.vm_cell.specs.Steps.{moved_by}
@@ -32,15 +39,17 @@ use Rattle.world_core.specs.declared.cell.State.{State}
 use Rattle.world_core.specs.declared.cell.State.TheVariants.{Home, Parked, Out}
 use Rattle.world_core.specs.declared.world.World.{World}
 use Rattle.world_core.specs.Lent.{Lent, HasLed, IsLent, IsSameLease, lent_as, now_of, vm_of}
-use Rattle.world_core.specs.Shows.{forest, CellShows, IsAwake, Shows, StateShows}
-use Rattle.world_core.specs.World.{Forest, IsDue, ShowsTree, StandsFor}
+use Rattle.world_core.specs.Shows.{Member, paged_of, siblings_of, forest, CellShows, IsAwake, Shows, StateShows}
+use Rattle.world_core.specs.World.{Forest, IsDue, IsForest, ShowsTree, StandsFor, is_ready_in, rests_in}
 use Rattle.world_core.specs.Answers.{IsHandedOut, IsOutAs, IsOutFrom, IsOutSince, Starts}
 use Rattle.world_core.specs.Arrived.{StillHandedOut, after_arrival, flagged, with_arrived, with_flags}
-use Rattle.world_core.proofs.Calling.{at_path-gone, below-name, lent_out}
+use Rattle.world_core.proofs.Calling.{below-name}
+use Rattle.world_core.proofs.MembersKept.{MemberStays, path-members}
+use Rattle.world_core.proofs.Spending.{at_path-gone}
 use Rattle.world_core.proofs.Changes.{parent-awake, shows-changed}
-use Rattle.world_core.proofs.Ready.{parent-ready, ready-changed}
-use Rattle.world_core.proofs.Returns.{IsOutHere, out-here}
-use Rattle.world_core.proofs.Steps.{Holds-same, Paged-same, SameTickets, forest-rules}
+use Rattle.world_core.proofs.Ready.{ready-changed}
+use Rattle.world_core.proofs.Returns.{IsOutHere, away-noted, out-here}
+use Rattle.world_core.proofs.Steps.{Holds-same, Paged-same, SameTickets, forest-rules, lent_out}
 
 not-home : (waiting : Bool) → (out ≡ home) ⊎ ((out ≡ parked) × (waiting ≡ false)) → ⊥
 not-home waiting (inl at) = cc
@@ -48,122 +57,185 @@ not-home waiting (inr at) = let no : out ≡ parked = at.0 in cc
 
 -- ---- other flags of one machine
 
+-- the machines alone, each with the words to it, whatever is known of their pages
+abbrev family : Tree (Box Paged) → Tree (Box Machine)
+family t = map_tree (box_of (λ (p : Paged). p.machine)) t
+
+rests-family : (name : Path) (t : Tree Member) → rests_at machines talks name (family (bare t)) ≡ rests_in t name
+rests-family name t =
+    rests-map paged_machines machines paged_talks talks (λ (p : Paged). p.machine) paged-projects paged-alike name (bare t)
+    ∙ rests-bare paged_machines paged_talks name t
+
 module _ (flags : Pages → Pages) where
-  flagged-keeps : (t : Tree (Spot Paged)) → IsSound forest t → KeepsTo forest t (flagged flags t)
-  unfolding IsSound spots paged_machines
+  flagged-keeps : (t : Tree Member) → IsSound forest t → KeepsTo forest t (flagged flags t)
+  unfolding IsSound boxed spots paged_machines
   flagged-keeps (node s broods log) h =
       record { sound = (record { good = h.0.good; ended = h.0.ended; one_each = h.0.one_each }, h.1); holding = refl }
 
-  flagged-sound : (name : Path) (t : Tree (Spot Paged)) → IsSound forest t → IsSound forest (at_path (flagged flags) name t)
-  flagged-sound name t sound = (at_path-keeps forest forest-rules (flagged flags) (λ u h. flagged-keeps u h) name t sound).sound
+  flagged-member : MemberStays (spots paged_machines) (spot_talks paged_talks) (flagged flags)
+  unfolding spots spot_talks paged_machines paged_talks
+  flagged-member count i (node b broods log) h =
+      record { number = h.number; siblings = h.siblings; one_each = h.one_each; within = h.within; own = h.own; ended = h.ended }
 
-  flagged-awake : (a : Tree (Spot Paged)) → IsAwake a → IsAwake (flagged flags a)
-  unfolding spots paged_machines
+  flagged-have : (t : Tree Member) → HaveMembers (spots paged_machines) (spot_talks paged_talks) t
+      → HaveMembers (spots paged_machines) (spot_talks paged_talks) (flagged flags t)
+  unfolding HaveMembers
+  flagged-have (node b broods log) h = h
+
+  flagged-siblings : (name : Path) (t : Tree Member) → siblings_of (machine (at_path (flagged flags) name t)) ≡ siblings_of (machine t)
+  unfolding spot_talks paged_talks at_path
+  flagged-siblings [] (node b broods log) = refl
+  flagged-siblings (x ∷ name) (node b broods log) = refl
+
+  flagged-whole : (name : Path) (t : Tree Member) → IsForest t → IsForest (at_path (flagged flags) name t)
+  flagged-whole name t h = record {
+    sound = (at_path-keeps forest forest-rules (flagged flags) (λ u sound. flagged-keeps u sound) name t h.sound).sound;
+    members = path-members (spots paged_machines) (spot_talks paged_talks) (flagged flags) flagged-member flagged-have name t h.members;
+    root = flagged-siblings name t ∙ h.root;
+  }
+
+  -- who rests is told of the machines
+  abbrev bare_flagged : Tree (Box Paged) → Tree (Box Paged)
+  bare_flagged (node b broods log) = node (record b { machine = record b.machine { pages = flags b.machine.pages } }) broods log
+
+  flagged-bare : (t : Tree Member) → bare (flagged flags t) ≡ bare_flagged (bare t)
+  unfolding map_tree
+  flagged-bare (node b broods log) = refl
+
+  flagged-family : (t : Tree (Box Paged)) → family (bare_flagged t) ≡ family t
+  unfolding map_tree
+  flagged-family (node b broods log) = refl
+
+  flagged-rests : (name n : Path) (t : Tree Member) → rests_in (at_path (flagged flags) name t) n ≡ rests_in t n
+  flagged-rests name n t =
+      sym (rests-family n (at_path (flagged flags) name t))
+      ∙ ap (rests_at machines talks n)
+      (ap family (at_path-map (box_of (λ (s : Spot Paged). s.machine)) (flagged flags) bare_flagged flagged-bare name t)
+      ∙ at_path-map (box_of (λ (p : Paged). p.machine)) bare_flagged (λ u. u) flagged-family name (bare t)
+      ∙ at_path-leaves (λ (u : Tree (Box Machine)). u) (λ u. refl) name (family (bare t)))
+      ∙ rests-family n t
+
+  flagged-awake : (a : Tree Member) → IsAwake a → IsAwake (flagged flags a)
+  unfolding boxed spots paged_machines
   flagged-awake (node s broods log) h = record { lives = h.lives; awake = h.awake }
 
-  flagged-root : (name : Path) (t : Tree (Spot Paged)) → IsAwake t → IsAwake (at_path (flagged flags) name t)
+  flagged-root : (name : Path) (t : Tree Member) → IsAwake t → IsAwake (at_path (flagged flags) name t)
   unfolding at_path
   flagged-root [] t h = flagged-awake t h
   flagged-root (x ∷ rest) (node s broods log) h = record { lives = h.lives; awake = h.awake }
 
-  flagged-below : (a : Tree (Spot Paged)) (x : Branch) (rest : Path) → subtree (x ∷ rest) (flagged flags a) ≡ subtree (x ∷ rest) a
+  flagged-below : (a : Tree Member) (x : Branch) (rest : Path) → subtree (x ∷ rest) (flagged flags a) ≡ subtree (x ∷ rest) a
   unfolding subtree
   flagged-below (node s broods log) x rest = refl
 
-  flagged-ready : (a : Tree (Spot Paged)) → lives_ready paged_machines (flagged flags a) ≡ lives_ready paged_machines a
-  unfolding spots paged_machines
-  flagged-ready (node s broods log) = refl
+  flagged-ready : (resting : Bool) (a : Tree Member)
+      → lives_ready paged_machines paged_talks resting (flagged flags a) ≡ lives_ready paged_machines paged_talks resting a
+  unfolding boxed spots paged_machines
+  flagged-ready resting (node s broods log) = refl
 
   -- nothing is told of the flags of a machine that is out
-  out-state : (path : Path) (state : State) (p : Paged) (waiting then : Bool) → StateShows path state (lent_out p) waiting
-      → StateShows path state (lent_out (record p { pages = flags p.pages })) then
-  out-state path (Home vm) p waiting then h = absurd (not-home waiting h.1)
-  out-state path (Parked ticket vm turn) p waiting then h = let no : out ≡ parked = h.1 in absurd (cc)
-  out-state path (Out start) p waiting then h = h
+  out-state : (path : Path) (state : State) (inbox : Inbox) (p : Paged) (before after : Bool) → StateShows path state (lent_out inbox p) before
+      → StateShows path state (lent_out inbox (record p { pages = flags p.pages })) after
+  out-state path (Home vm) inbox p before after h = absurd (not-home before h.1)
+  out-state path (Parked awaited vm turn) inbox p before after h = let no : out ≡ parked = h.1 in absurd (cc)
+  out-state path (Out start) inbox p before after h = h
 
-  same-tickets : (p : Paged) → forest.is_good (lent_out p) ≡ true → SameTickets (lent_out p) (lent_out (record p { pages = flags p.pages }))
-  unfolding spots paged_machines
-  same-tickets p good = record { good = good; cloned = λ t. refl; grants = λ t is. refl }
+  same-tickets : (inbox : Inbox) (p : Paged) → forest.is_good (lent_out inbox p) ≡ true
+      → SameTickets (lent_out inbox p) (lent_out inbox (record p { pages = flags p.pages }))
+  unfolding boxed spots paged_machines
+  same-tickets inbox p good = record { good = good; cloned = λ t. refl; grants = λ t is. refl }
 
   module _ (depot : Shelves) (w : World) (f : Forest) (name : Path) (h : StandsFor depot w f) where
-    module _ (start : Paged) (broods : Broods (Spot Paged)) (log : Log (Spot Paged)) (c : Cell)
-        (is : IsOutHere depot w f name (node (lent_out start) broods log) c) where
-      abbrev a : Tree (Spot Paged)
-      a = node (lent_out start) broods log
+    abbrev then : Tree Member
+    then = at_path (flagged flags) name f.tree
 
-      flagged-cell : CellShows depot name c (flagged flags a)
+    module _ (start : Paged) (inbox : Inbox) (broods : Broods Member) (log : Log Member) (c : Cell)
+        (is : IsOutHere depot w f name (node (lent_out inbox start) broods log) c) where
+      abbrev a : Tree Member
+      a = node (lent_out inbox start) broods log
+
+      flagged-cell : CellShows depot name (rests_in then name) c (flagged flags a)
       flagged-cell =
-          let sound = subtree-sound forest name f.tree a h.sound is.there in
+          let sound = subtree-sound forest name f.tree a h.whole.sound is.there in
           let n : Paged = record start { pages = flags start.pages } in
           record {
             awake = flagged-awake a is.shows.awake;
-            state = out-state name c.state start (waits forest a) (waits forest (flagged flags a)) is.shows.state;
+            kin = is.shows.kin;
+            state = out-state name c.state inbox start (rests_in f.tree name) (rests_in then name) is.shows.state;
             of_depot = is.shows.of_depot;
-            holds = Holds-same depot name c (lent_out start) (lent_out n) broods log (same-tickets start (root-sound forest (lent_out start) broods log sound).good)
-                is.shows.holds;
+            holds = Holds-same depot name c (lent_out inbox start) (lent_out inbox n) broods log
+                (same-tickets inbox start (root-sound forest (lent_out inbox start) broods log sound).good) is.shows.holds;
           }
 
-      flagged-shows : (n : Path) → Shows depot n (get path_cmp w.cells n) (subtree n (at_path (flagged flags) name f.tree))
-      flagged-shows =
-          shows-changed (flagged flags) depot name f.tree a (get path_cmp w.cells) is.there
-          (subst (λ o. Shows depot name o (Some (flagged flags a))) (sym is.cell) flagged-cell)
-          (λ x rest.
-          subst (Shows depot (name ++ (x ∷ rest)) (get path_cmp w.cells (name ++ (x ∷ rest))))
-          (below-name name f.tree a x rest is.there ∙ sym (flagged-below a x rest)) (is.live.cells (name ++ (x ∷ rest))))
-          (λ n none one. is.live.cells n)
-          (λ n x none e.
-          parent-awake (flagged flags) depot name n f.tree a x (get path_cmp w.cells n) none e is.there is.shows.awake (flagged-awake a is.shows.awake)
-          (is.live.cells n))
+      each-shows : (n : Path) → Shows depot n (rests_in then n) (get path_cmp w.cells n) (subtree n f.tree)
+      each-shows n =
+          subst (λ resting. Shows depot n resting (get path_cmp w.cells n) (subtree n f.tree)) (sym (flagged-rests name n f.tree)) (is.live.each.cells n)
 
-      flagged-due : (n : Path) → holds paged_machines (lives_ready paged_machines) (subtree n (at_path (flagged flags) name f.tree)) ≡ true
-          → IsDue (get path_cmp w.cells n) n w.ready
+      flagged-shows : (n : Path) → Shows depot n (rests_in then n) (get path_cmp w.cells n) (subtree n then)
+      flagged-shows =
+          shows-changed (flagged flags) depot (rests_in then) name f.tree a (get path_cmp w.cells) is.there
+          (subst (λ o. Shows depot name (rests_in then name) o (Some (flagged flags a))) (sym is.cell) flagged-cell)
+          (λ x rest.
+          subst (Shows depot (name ++ (x ∷ rest)) (rests_in then (name ++ (x ∷ rest))) (get path_cmp w.cells (name ++ (x ∷ rest))))
+          (below-name name f.tree a x rest is.there ∙ sym (flagged-below a x rest)) (each-shows (name ++ (x ∷ rest))))
+          (λ n none one. each-shows n)
+          (λ n x none e.
+          parent-awake (flagged flags) depot name n (rests_in then n) f.tree a x (get path_cmp w.cells n) none e is.there is.shows.awake
+          (flagged-awake a is.shows.awake) refl
+          (away-noted (get path_cmp w.cells n) x a (flagged flags a) (λ is_parked. let no : out ≡ parked = is_parked in absurd (cc)))
+          (each-shows n))
+
+      was-ready : (n : Path) → is_ready_in (rests_in then) n f.tree ≡ true → is_ready_in (rests_in f.tree) n f.tree ≡ true
+      was-ready n ready =
+          ap (λ resting. holds (lives_ready paged_machines paged_talks resting) (subtree n f.tree)) (sym (flagged-rests name n f.tree)) ∙ ready
+
+      flagged-due : (n : Path) → is_ready_in (rests_in then) n then ≡ true → IsDue (get path_cmp w.cells n) n w.ready
       flagged-due =
-          ready-changed (flagged flags) (λ n. IsDue (get path_cmp w.cells n) n w.ready) name f.tree a is.there
+          ready-changed (flagged flags) (λ n. IsDue (get path_cmp w.cells n) n w.ready) (rests_in then) name f.tree a is.there
           (λ ready.
-          is.live.ready name (ap (holds paged_machines (lives_ready paged_machines)) is.there ∙ sym (flagged-ready a) ∙ ready))
+          is.live.each.ready name
+          (was-ready name
+          (ap (holds (lives_ready paged_machines paged_talks (rests_in then name))) is.there ∙ sym (flagged-ready (rests_in then name) a) ∙ ready)))
           (λ x rest ready.
-          is.live.ready (name ++ (x ∷ rest))
-          (ap (holds paged_machines (lives_ready paged_machines)) (below-name name f.tree a x rest is.there ∙ sym (flagged-below a x rest)) ∙ ready))
-          (λ n none one ready. is.live.ready n ready)
-          (λ n x none e ready.
-          is.live.ready n
-          (sym (parent-ready (flagged flags) name n f.tree a x none e is.there ((flagged-awake a is.shows.awake).lives ∙ sym is.shows.awake.lives)) ∙ ready))
+          is.live.each.ready (name ++ (x ∷ rest))
+          (was-ready (name ++ (x ∷ rest))
+          (ap (holds (lives_ready paged_machines paged_talks (rests_in then (name ++ (x ∷ rest)))))
+          (below-name name f.tree a x rest is.there ∙ sym (flagged-below a x rest)) ∙ ready)))
+          (λ n none ready. is.live.each.ready n (was-ready n ready))
 
       flagged-there : StandsFor depot w (with_flags name flags f)
       flagged-there = record {
-        sound = flagged-sound name f.tree h.sound;
+        whole = flagged-whole name f.tree h.whole;
         halted = h.halted;
-        tree = subst (λ o. ShowsTree o depot w (at_path (flagged flags) name f.tree)) (sym is.going) (record {
+        tree = subst (λ o. ShowsTree o depot w then) (sym is.going) (record {
           root = flagged-root name f.tree is.live.root;
-          cells = flagged-shows;
-          ready = flagged-due;
-          listed = is.live.listed;
+          each = record { cells = flagged-shows; ready = flagged-due; listed = is.live.each.listed };
         });
       }
 
     flagged-gone : subtree name f.tree ≡ None → StandsFor depot w (with_flags name flags f)
     flagged-gone none =
-        subst (λ t. StandsFor depot w (record f { tree = t })) (sym (at_path-gone forest (flagged flags) name f.tree h.sound none)) h
+        subst (λ t. StandsFor depot w (record f { tree = t })) (sym (at_path-gone forest (flagged flags) name f.tree h.whole.sound none)) h
 
 -- a world tells no flags of a machine that is out
 pub flags-free : (flags : Pages → Pages) (depot : Shelves) (w : World) (f : Forest) (name : Path) → StandsFor depot w f
-    → IfSome (subtree name f.tree) (λ t. (machine t).place ≡ out) → StandsFor depot w (with_flags name flags f)
+    → IfSome (subtree name f.tree) (λ t. (machine t).machine.place ≡ out) → StandsFor depot w (with_flags name flags f)
 flags-free flags depot w f name h away = by (subtree name f.tree) refl away
   where
-    by : (u : Option (Tree (Spot Paged))) → subtree name f.tree ≡ u → IfSome u (λ t. (machine t).place ≡ out) → StandsFor depot w (with_flags name flags f)
+    by : (u : Option (Tree Member)) → subtree name f.tree ≡ u → IfSome u (λ t. (machine t).machine.place ≡ out) → StandsFor depot w (with_flags name flags f)
     by None none is = flagged-gone flags depot w f name h none
     by (Some (node s broods log)) e is =
-        let at : subtree name f.tree ≡ Some (node (lent_out s.machine) broods log) =
-        e ∙ ap (λ place. Some (node (record { machine = s.machine; place = place }) broods log)) is in
-        let found = out-here depot w f name (node (lent_out s.machine) broods log) h at refl in
-        flagged-there flags depot w f name h s.machine broods log found.0 found.1
+        let at : subtree name f.tree ≡ Some (node (lent_out s.inbox (paged_of s)) broods log) =
+        e ∙ ap (λ place. Some (node (record { machine = record { machine = paged_of s; place = place }; inbox = s.inbox }) broods log)) is in
+        let found = out-here depot w f name (node (lent_out s.inbox (paged_of s)) broods log) h at refl in
+        flagged-there flags depot w f name h (paged_of s) s.inbox broods log found.0 found.1
 
 -- nor of one on lease
 pub flags-stand : (flags : Pages → Pages) (depot : Shelves) (w : World) (f : Forest) (lease : Lent) → StandsFor depot w f → IsHandedOut f lease
     → StandsFor depot w (with_flags lease.name flags f)
 flags-stand flags depot w f lease h out_as = flags-free flags depot w f lease.name h (away (subtree lease.name f.tree) out_as)
   where
-    away : (u : Option (Tree (Spot Paged))) → IfSome u (IsOutAs lease) → IfSome u (λ t. (machine t).place ≡ out)
+    away : (u : Option (Tree Member)) → IfSome u (IsOutAs lease) → IfSome u (λ t. (machine t).machine.place ≡ out)
     away None is = tt
     away (Some t) is = is.is_out
 
@@ -171,10 +243,10 @@ flags-stand flags depot w f lease h out_as = flags-free flags depot w f lease.na
 
 out-flagged : (flags : Pages → Pages) (old new : Lent) → new.start ≡ old.start
     → ((p : Paged) → (advanced_by old.ran p).pages ≡ old.pages → (advanced_by new.ran (record p { pages = flags p.pages })).pages ≡ new.pages)
-    → (t : Option (Tree (Spot Paged))) → IfSome t (IsOutAs old) → IfSome (option_map (flagged flags) t) (IsOutAs new)
+    → (t : Option (Tree Member)) → IfSome t (IsOutAs old) → IfSome (option_map (flagged flags) t) (IsOutAs new)
 out-flagged flags old new start pages None h = tt
 out-flagged flags old new start pages (Some (node s broods log)) h =
-    record { is_out = h.is_out; start = h.start ∙ sym start; pages = pages s.machine h.pages }
+    record { is_out = h.is_out; start = h.start ∙ sym start; pages = pages (paged_of s) h.pages }
 
 handed-flagged : (flags : Pages → Pages) (f : Forest) (old new : Lent) → new.name ≡ old.name → new.start ≡ old.start
     → ((p : Paged) → (advanced_by old.ran p).pages ≡ old.pages → (advanced_by new.ran (record p { pages = flags p.pages })).pages ≡ new.pages)
@@ -198,12 +270,12 @@ handed-arrived f page old new name start ran pages h =
     handed-flagged (pages_arrived page) f old new name start (λ p same. pages-arrived page old new p ran pages same) h
 
 -- where it is out so on one lease, it is on the other
-some-out : (old new : Lent) → ((t : Tree (Spot Paged)) → IsOutAs old t → IsOutAs new t) → (t : Option (Tree (Spot Paged))) → IfSome t (IsOutAs old)
+some-out : (old new : Lent) → ((t : Tree Member) → IsOutAs old t → IsOutAs new t) → (t : Option (Tree Member)) → IfSome t (IsOutAs old)
     → IfSome t (IsOutAs new)
 some-out old new each None h = tt
 some-out old new each (Some t) h = each t h
 
-handed-as : (f : Forest) (old new : Lent) → new.name ≡ old.name → ((t : Tree (Spot Paged)) → IsOutAs old t → IsOutAs new t) → IsHandedOut f old
+handed-as : (f : Forest) (old new : Lent) → new.name ≡ old.name → ((t : Tree Member) → IsOutAs old t → IsOutAs new t) → IsHandedOut f old
     → IsHandedOut f new
 handed-as f old new name each h =
     subst (λ n. IfSome (subtree n f.tree) (IsOutAs new)) (sym name) (some-out old new each (subtree old.name f.tree) h)
@@ -216,7 +288,7 @@ handed-same f old new name start ran pages h =
     (λ t is. record {
       is_out = is.is_out;
       start = is.start ∙ sym start;
-      pages = ap (λ n. (advanced_by n (machine t).machine).pages) ran ∙ is.pages ∙ sym pages;
+      pages = ap (λ n. (advanced_by n (paged_of (machine t))).pages) ran ∙ is.pages ∙ sym pages;
     })
     h
 
@@ -237,7 +309,7 @@ handed-run f old new more same lent ran now h =
     (λ t is. record {
       is_out = is.is_out;
       start = is.start ∙ sym same.start;
-      pages = pages-run old new more (machine t).machine is.start lent ran now is.pages;
+      pages = pages-run old new more (paged_of (machine t)) is.start lent ran now is.pages;
     })
     h
 
@@ -292,12 +364,12 @@ led-arrives old new key reply (Ok (Had page)) start ran come failed led = led-sa
 led-arrives old new key reply (Err e) start ran come failed led = led-same old new start ran (ap (λ (v : KeyedMachine). v.pages) failed) led
 
 -- a machine that is out so, is out
-since-out : (lease : Lent) (u : Option (Tree (Spot Paged))) → IfSome u (IsOutFrom lease) → IfSome u (λ t. (machine t).place ≡ out)
+since-out : (lease : Lent) (u : Option (Tree Member)) → IfSome u (IsOutFrom lease) → IfSome u (λ t. (machine t).machine.place ≡ out)
 since-out lease None is = tt
 since-out lease (Some t) is = is.0
 
 -- with the flags from which its steps led there, it is handed out
-out-led : (lease : Lent) (led : HasLed lease) (u : Option (Tree (Spot Paged))) → IfSome u (IsOutFrom lease)
+out-led : (lease : Lent) (led : HasLed lease) (u : Option (Tree Member)) → IfSome u (IsOutFrom lease)
     → IfSome (option_map (flagged (λ _. led.0)) u) (IsOutAs lease)
 out-led lease led None is = tt
 out-led lease led (Some (node s broods log)) is = record {
@@ -320,17 +392,17 @@ still-led depot w f lease led stands h = record {
 
 -- ---- a machine that was taken
 
-taken-as : (lease : Lent) → lease.ran ≡ 0 → lease.now ≡ lease.start → (t : Option (Tree (Spot Paged))) → IfSome t (λ a. (machine a).machine ≡ now_of lease)
+taken-as : (lease : Lent) → lease.ran ≡ 0 → lease.now ≡ lease.start → (t : Option (Tree Member)) → IfSome t (λ a. paged_of (machine a) ≡ now_of lease)
     → IfSome (option_map (placed out) t) (IsOutAs lease)
 unfolding advanced_by
 taken-as lease ran now None h = tt
 taken-as lease ran now (Some (node s broods log)) h = record {
   is_out = refl;
   start = ap (λ (p : Paged). p.machine) h ∙ now;
-  pages = ap (λ n. (advanced_by n s.machine).pages) ran ∙ ap (λ (p : Paged). p.pages) h;
+  pages = ap (λ n. (advanced_by n (paged_of s)).pages) ran ∙ ap (λ (p : Paged). p.pages) h;
 }
 
-pub taken-handed : (f : Forest) (lease : Lent) → Starts f lease → IsHandedOut (does paged_machines (took lease.name) f) lease
+pub taken-handed : (f : Forest) (lease : Lent) → Starts f lease → IsHandedOut (does paged_machines paged_talks (took lease.name) f) lease
 unfolding does
 taken-handed f lease starts =
     subst (λ o. IfSome o (IsOutAs lease)) (sym (at_path-here (placed out) lease.name f.tree))
@@ -338,22 +410,22 @@ taken-handed f lease starts =
 
 -- ---- what other flags leave as it was
 
--- the same machine, whatever is known of its pages
-abbrev pub every_page : Spot Paged → Spot Machine
-every_page s = record { machine = s.machine.machine; place = s.place }
+-- the same machine with the same words, whatever is known of its pages
+abbrev pub every_page : Member → Box (Spot Machine)
+every_page b = record { machine = record { machine = (paged_of b).machine; place = b.machine.place }; inbox = b.inbox }
 
 module _ (name : Path) (flags : Pages → Pages) (f : Forest) where
-  flagged-every : (t : Tree (Spot Paged)) → map_tree every_page (flagged flags t) ≡ map_tree every_page t
+  flagged-every : (t : Tree Member) → map_tree every_page (flagged flags t) ≡ map_tree every_page t
   unfolding map_tree
   flagged-every (node s broods log) = refl
 
   pub flags-family : map_tree every_page (with_flags name flags f).tree ≡ map_tree every_page f.tree
   flags-family =
       at_path-map every_page (flagged flags) (λ u. u) flagged-every name f.tree
-      ∙ at_path-leaves (λ (u : Tree (Spot Machine)). u) (λ u. refl) name (map_tree every_page f.tree)
+      ∙ at_path-leaves (λ (u : Tree (Box (Spot Machine))). u) (λ u. refl) name (map_tree every_page f.tree)
 
   -- the machine is handed out before or after
-  pub flags-taken : with_flags name flags (does paged_machines (took name) f) ≡ does paged_machines (took name) (with_flags name flags f)
+  pub flags-taken : with_flags name flags (does paged_machines paged_talks (took name) f) ≡ does paged_machines paged_talks (took name) (with_flags name flags f)
   unfolding does
   flags-taken =
       ap (λ t. record f { tree = t })
@@ -361,23 +433,23 @@ module _ (name : Path) (flags : Pages → Pages) (f : Forest) where
       ∙ at_path-agree (λ a. flagged flags (placed out a)) (λ a. placed out (flagged flags a)) same name f.tree
       ∙ sym (at_path-twice (flagged flags) (placed out) name f.tree))
     where
-      same : (a : Tree (Spot Paged)) → flagged flags (placed out a) ≡ placed out (flagged flags a)
+      same : (a : Tree Member) → flagged flags (placed out a) ≡ placed out (flagged flags a)
       same (node s broods log) = refl
 
 -- whether a machine is out is told of the family
-abbrev out-of : Tree (Spot Machine) → Bool
-out-of a = is_out_at (machine a).place
+abbrev out-of : Tree (Box (Spot Machine)) → Bool
+out-of a = is_out_at (machine a).machine.place
 
-seen-out : (u : Option (Tree (Spot Paged))) → holds machines out-of (option_map (map_tree every_page) u) ≡ holds paged_machines (λ a. is_out_at (machine a).place) u
+seen-out : (u : Option (Tree Member)) → holds out-of (option_map (map_tree every_page) u) ≡ holds (λ (a : Tree Member). is_out_at (machine a).machine.place) u
 unfolding map_tree
 seen-out None = refl
 seen-out (Some (node s broods log)) = refl
 
-away-seen : (n : Path) (t : Tree (Spot Paged)) → holds machines out-of (subtree n (map_tree every_page t)) ≡ is_out paged_machines n t
-away-seen n t = ap (holds machines out-of) (subtree-map every_page n t) ∙ seen-out (subtree n t)
+away-seen : (n : Path) (t : Tree Member) → holds out-of (subtree n (map_tree every_page t)) ≡ is_out n t
+away-seen n t = ap (holds out-of) (subtree-map every_page n t) ∙ seen-out (subtree n t)
 
-pub flags-whole : (name : Path) (flags : Pages → Pages) (f : Forest) → IsWhole paged_machines f.tree → IsWhole paged_machines (with_flags name flags f).tree
+pub flags-whole : (name : Path) (flags : Pages → Pages) (f : Forest) → IsWhole f.tree → IsWhole (with_flags name flags f).tree
 flags-whole name flags f whole n =
     sym (away-seen n (with_flags name flags f).tree)
-    ∙ ap (λ t. holds machines out-of (subtree n t)) (flags-family name flags f)
+    ∙ ap (λ t. holds out-of (subtree n t)) (flags-family name flags f)
     ∙ away-seen n f.tree ∙ whole n

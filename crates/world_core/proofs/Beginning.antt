@@ -1,5 +1,6 @@
 -- The world of one machine.
-use Rattle.std.proofs.Common.{◌≡◌, ◌≢◌, ℕ, true, false, refl, sym, ap, ◌∙◌, subst, List, [], ◌∷◌, ◌++◌, Some, None, is_some}
+use Rattle.sibling_forest.specs.Talk.{boxed}
+use Rattle.std.proofs.Common.{◌≡◌, ◌≢◌, ℕ, true, false, refl, sym, ap, ◌∙◌, subst, List, [], ◌∷◌, Some, None, is_some}
 use Rattle.std.specs.Global.{Vec}
 use Rattle.std.specs.Option.{IfSome}
 use Rattle.std.specs.BTreeMap.{BTreeMap, Updates, get}
@@ -7,15 +8,17 @@ use Rattle.image_depot.specs.Key.{Shelves}
 use Rattle.image_depot.specs.Reply.{Delivery}
 use Rattle.port_rules.specs.Rules.{cloned_numbers}
 use Rattle.forest_tree.specs.Operations.{is_among, is_cloned}
-use Rattle.forest_tree.specs.Tree.{Tree, child_at, brood_of, Branch, Path, subtree}
+use Rattle.forest_tree.specs.Tree.{Tree, no_entry, child_at, brood_of, Branch, Path, subtree}
 use Rattle.forest_tree.specs.Settle.{alone}
 use Rattle.fork_port.specs.declared.ending.Ending.{Ending}
-use Rattle.forest_history.specs.Places.{home, Spot, spots}
-use Rattle.forest_history.specs.World.{world_of, holds, is_ready, lives_ready}
-use Rattle.forest_history.proofs.Ends.{start-whole}
-use Rattle.forest_model.specs.Forest.{machines, port_of}
-use Rattle.forest_model.specs.Paged.{Paged, paged_machines}
-use Rattle.run_report.specs.Lines.{machine_line, lines, own_lines_by}
+use Rattle.forest_history.specs.Places.{home, spots}
+use Rattle.talking_history.specs.World.{world_of, holds, lives_ready}
+use Rattle.talking_history.proofs.Ends.{start-whole}
+use Rattle.forest_model.proofs.Paged.{paged-rules, paged-talk}
+use Rattle.forest_model.specs.Forest.{machines, port_of, talks}
+use Rattle.forest_model.specs.Paged.{Paged, paged_machines, paged_talks}
+use Rattle.run_report.specs.Lines.{machine_line, lines}
+use Rattle.run_report.proofs.Begin.{lines-ended}
 use Rattle.machine_names.specs.NameOrder.{path_cmp}
 use Rattle.run_report.specs.Report.{Ended, lines_of}
 use Rattle.machine_names.proofs.NameMaps.{updated-here, updated-apart}
@@ -24,8 +27,8 @@ use Rattle.world_core.specs.declared.reason.Reason.{Reason}
 use Rattle.world_core.specs.declared.world.World.{World}
 use Rattle.ready_queue.specs.Ready.{Ready}
 use Rattle.world_core.specs.Listed.{IsListed}
-use Rattle.world_core.specs.Shows.{forest, told_spot, CellShows, Shows}
-use Rattle.world_core.specs.World.{IsDue, StandsFor}
+use Rattle.world_core.specs.Shows.{Member, forest, told_member, CellShows, Shows}
+use Rattle.world_core.specs.World.{IsDue, IsForest, StandsFor, is_ready_in, rests_in}
 use Rattle.world_core.proofs.Ready.{IsListed-first}
 
 -- a machine without tickets has cloned none
@@ -37,20 +40,30 @@ pub none-cloned : (vm : Paged) → (port_of vm.machine).tickets ≡ [] → (tick
 unfolding is_among
 none-cloned vm none ticket = ap (is_among ticket) (no-ticket vm none)
 
+-- a machine at home, to which no word waits
+abbrev pub at_start : Paged → Member
+at_start vm = record { machine = record { machine = vm; place = home }; inbox = [] }
+
+start-forest : (vm : Paged) → (port_of vm.machine).tickets ≡ [] → vm.machine.state.ports.sibling.siblings ≡ 0 → machines.is_good vm.machine ≡ true
+    → IsForest (world_of paged_machines paged_talks {R = Reason} vm).tree
+unfolding paged_machines paged_talks talks
+start-forest vm none single good = start-whole paged_machines paged_talks paged-rules paged-talk Reason vm good (no-ticket vm none) single
+
 -- ---- a machine that has ended
 
 own-line : (vm : Paged) (ending : Ending) → vm.machine.ending ≡ Some ending
-    → lines told_spot [] (alone forest (record { machine = vm; place = home })) ≡ machine_line [] ending vm.machine.steps vm.machine.state.ports.console.output ∷ []
+    → lines told_member [] (alone forest (at_start vm)) ≡ machine_line [] (Some ending) vm.machine.steps vm.machine.state.ports.console.output ∷ []
 unfolding lines
-own-line vm ending over = ap (λ e. own_lines_by told_spot e [] (record { machine = vm; place = home }) ++ []) over
+own-line vm ending over = lines-ended told_member [] (at_start vm) no_entry ending over
 
 pub end-stands : (depot : Shelves) (vm : Paged) (ending : Ending) (outcome : Ended) (cells : BTreeMap Path Cell) (list : List Ready) (told : Vec Delivery)
-    → vm.machine.ending ≡ Some ending → (port_of vm.machine).tickets ≡ [] → machines.is_good vm.machine ≡ true → ((name : Path) → get path_cmp cells name ≡ None)
-    → outcome ≡ record { name = []; ending = ending; steps = vm.machine.steps; output = vm.machine.state.ports.console.output; log = [] }
-    → StandsFor depot (record { cells = cells; ready = list; halted = None; told = told; outcome = Some outcome }) (world_of paged_machines vm)
-unfolding spots paged_machines machines lines_of
-end-stands depot vm ending outcome cells list told over none good empty is = record {
-  sound = start-whole paged_machines Reason vm good (no-ticket vm none);
+    → vm.machine.ending ≡ Some ending → (port_of vm.machine).tickets ≡ [] → vm.machine.state.ports.sibling.siblings ≡ 0 → machines.is_good vm.machine ≡ true
+    → ((name : Path) → get path_cmp cells name ≡ None)
+    → outcome ≡ record { name = []; ending = Some ending; steps = vm.machine.steps; output = vm.machine.state.ports.console.output; log = [] }
+    → StandsFor depot (record { cells = cells; ready = list; halted = None; told = told; outcome = Some outcome }) (world_of paged_machines paged_talks vm)
+unfolding boxed spots paged_machines machines lines_of
+end-stands depot vm ending outcome cells list told over none single good empty is = record {
+  whole = start-forest vm none single good;
   halted = refl;
   tree = record {
     ended = ap is_some over;
@@ -63,8 +76,8 @@ end-stands depot vm ending outcome cells list told over none good empty is = rec
 -- ---- a machine that lives
 
 module _ (depot : Shelves) (vm : Paged) (old cells : BTreeMap Path Cell) (list : List Ready) (cell : Cell) (told : Vec Delivery) where
-  abbrev first : Tree (Spot Paged)
-  first = alone forest (record { machine = vm; place = home })
+  abbrev first : Tree Member
+  first = alone forest (at_start vm)
 
   abbrev start : World
   start = record { cells = cells; ready = list; halted = None; told = told; outcome = None }
@@ -76,18 +89,17 @@ module _ (depot : Shelves) (vm : Paged) (old cells : BTreeMap Path Cell) (list :
   root-apart : (x : Branch) (rest : Path) → [] ≢ x ∷ rest
   root-apart x rest e = cc
 
-  pub start-stands : vm.machine.ending ≡ None → (port_of vm.machine).tickets ≡ [] → machines.is_good vm.machine ≡ true → ((name : Path) → get path_cmp old name ≡ None)
-      → Updates path_cmp old cells [] (Some cell) → CellShows depot [] cell first → list ≡ record { name = []; children = None } ∷ []
-      → StandsFor depot start (world_of paged_machines vm)
+  pub start-stands : vm.machine.ending ≡ None → (port_of vm.machine).tickets ≡ [] → vm.machine.state.ports.sibling.siblings ≡ 0 → machines.is_good vm.machine ≡ true
+      → ((name : Path) → get path_cmp old name ≡ None)
+      → Updates path_cmp old cells [] (Some cell) → CellShows depot [] (rests_in first []) cell first → list ≡ record { name = []; children = None } ∷ []
+      → StandsFor depot start (world_of paged_machines paged_talks vm)
   unfolding subtree paged_machines
-  start-stands lives none good empty inserted shows listed = record {
-    sound = start-whole paged_machines Reason vm good (no-ticket vm none);
+  start-stands lives none single good empty inserted shows listed = record {
+    whole = start-forest vm none single good;
     halted = refl;
     tree = record {
       root = shows.awake;
-      cells = at;
-      ready = due;
-      listed = turn;
+      each = record { cells = at; ready = due; listed = turn };
     };
   }
     where
@@ -100,16 +112,16 @@ module _ (depot : Shelves) (vm : Paged) (old cells : BTreeMap Path Cell) (list :
       named : IsListed [] list
       named = subst (IsListed []) (sym listed) (IsListed-first [] (record { name = []; children = None }) [] refl)
 
-      at : (name : Path) → Shows depot name (get path_cmp cells name) (subtree name first)
-      at [] = subst (λ o. Shows depot [] o (Some first)) (sym here_is) shows
+      at : (name : Path) → Shows depot name (rests_in first name) (get path_cmp cells name) (subtree name first)
+      at [] = subst (λ o. Shows depot [] (rests_in first []) o (Some first)) (sym here_is) shows
       at (x ∷ rest) =
-          subst (λ o. Shows depot (x ∷ rest) o (subtree (x ∷ rest) first)) (sym (gone_is x rest))
-          (subst (Shows depot (x ∷ rest) None) (sym (none-below x rest)) tt)
+          subst (λ o. Shows depot (x ∷ rest) (rests_in first (x ∷ rest)) o (subtree (x ∷ rest) first)) (sym (gone_is x rest))
+          (subst (Shows depot (x ∷ rest) (rests_in first (x ∷ rest)) None) (sym (none-below x rest)) tt)
 
-      due : (name : Path) → is_ready paged_machines name first ≡ true → IsDue (get path_cmp cells name) name list
+      due : (name : Path) → is_ready_in (rests_in first) name first ≡ true → IsDue (get path_cmp cells name) name list
       due [] ready = subst (λ o. IsDue o [] list) (sym here_is) named
       due (x ∷ rest) ready =
-          let no : false ≡ true = sym (ap (holds paged_machines (lives_ready paged_machines)) (none-below x rest)) ∙ ready in absurd (cc)
+          let no : false ≡ true = sym (ap (holds (lives_ready paged_machines paged_talks (rests_in first (x ∷ rest)))) (none-below x rest)) ∙ ready in absurd (cc)
 
       turn : (name : Path) → IfSome (get path_cmp cells name) (λ (c : Cell). c.is_listed ≡ true → IsListed name list)
       turn [] = subst (λ o. IfSome o (λ (c : Cell). c.is_listed ≡ true → IsListed [] list)) (sym here_is) (λ is. named)

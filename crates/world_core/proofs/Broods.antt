@@ -1,4 +1,5 @@
 -- A cell before and after the calls of its machine.
+use Rattle.sibling_forest.specs.Talk.{boxed}
 use Rattle.std.proofs.Common.{◌≡◌, ℕ, ◌+◌, ◌≤◌, ◌&&◌, ◌||◌, not, Bool, true, false, cond, eqb, eqb-true, List, [], ◌∷◌, ◌++◌, length, replicate}
 use Rattle.std.proofs.Common.{Option, Some, None, refl, sym, ap, ◌∙◌, subst, arith, vec_len, vec_capacity}
 use Rattle.std.specs.BTreeMap.{btree_map_len, get, is_at}
@@ -14,10 +15,8 @@ use Rattle.forest_tree.specs.Settle.{have_ended, endings, children}
 use Rattle.forest_tree.proofs.Settle.{root-sound, join-step, size-cloned, length-endings}
 use Rattle.forest_tree.proofs.Rests.{lives-none}
 use Rattle.forest_tree.proofs.Places.{brood_of-without}
-use Rattle.forest_history.specs.Places.{Spot, spots}
-use Rattle.forest_history.proofs.Spots.{machine-spots}
+use Rattle.forest_history.specs.Places.{spots}
 use Rattle.forest_model.specs.Forest.{machines}
-use Rattle.forest_model.proofs.Paged.{paged-rules}
 use Rattle.forest_model.specs.Paged.{Paged, paged_machines}
 use Rattle.image_depot.specs.Key.{Shelves}
 use Rattle.vm_cell.specs.Standing.{IsJoin}
@@ -30,18 +29,19 @@ use Rattle.world_core.specs.declared.cell.Cell.{Cell}
 use Rattle.world_core.specs.declared.cell.ChildSlot.{ChildSlot}
 use Rattle.world_core.specs.declared.cell.ChildSlot.TheVariants.{Asleep}
 use Rattle.world_core.specs.Broods.{slot_endings, slot_lines}
-use Rattle.world_core.specs.PreparedFork.{IsNewBrood}
-use Rattle.world_core.specs.Shows.{forest, told_spot, BroodAt, BroodShows, TallyAt, IsTallied, Tallies, Holds, HoldsAfter, StandsAt, killed_tree, joined_tree, forked_tree}
+use Rattle.world_core.specs.PreparedFork.{IsNewBrood, IsSilent}
+use Rattle.world_core.specs.Shows.{Member, paged_of, forest, told_member, BroodAt, BroodShows, TallyAt, IsTallied, Tallies, Holds, HoldsAfter, StandsAt, killed_tree, joined_tree, forked_tree}
+use Rattle.world_core.proofs.Steps.{forest-rules}
 use Rattle.world_core.proofs.BroodSlots.{brood_born, brood_endings, brood_lines}
 
 -- ---- machines at their places
 
 rules : IsMachine forest
-rules = machine-spots paged_machines paged-rules
+rules = forest-rules
 
 module _ (vm : Paged) (next : Call) where
-  makes : (t : Tree (Spot Paged)) → StandsAt vm next t → Makes forest (machine t) (Some next)
-  unfolding spots paged_machines machines
+  makes : (t : Tree Member) → StandsAt vm next t → Makes forest (machine t) (Some next)
+  unfolding boxed spots paged_machines machines
   makes (node s broods log) at = record {
     good = (root-sound forest s broods log at.sound).good;
     lives = ap (λ (p : Paged). p.machine.ending) at.is ∙ at.lives;
@@ -56,7 +56,7 @@ tallied path count o b cloned found is h = subst (λ (p : Option Brood). TallyAt
 untallied : (path : Path) (count : ℕ) (o : Option Brood) (cloned : Bool) → o ≡ None → cloned ≡ true → TallyAt path count o cloned → ⊥
 untallied path count o cloned found is h = subst (λ (p : Option Brood). TallyAt path count p true) found (subst (TallyAt path count o) is h)
 
-shown : (depot : Shelves) (path : Path) (u : ℕ) (o : Option Brood) (b : Brood) (cloned : Bool) (trees : Trees (Spot Paged)) → o ≡ Some b → cloned ≡ true
+shown : (depot : Shelves) (path : Path) (u : ℕ) (o : Option Brood) (b : Brood) (cloned : Bool) (trees : Trees Member) → o ≡ Some b → cloned ≡ true
     → BroodAt depot path u o cloned trees → BroodShows depot path u b trees
 shown depot path u o b cloned trees found is h =
     subst (λ (p : Option Brood). BroodAt depot path u p true trees) found (subst (λ (c : Bool). BroodAt depot path u o c trees) is h)
@@ -75,13 +75,13 @@ gone_tally path before after o false true counts h = subst (λ n. TallyAt path n
 gone_tally path before after None false false counts h = tt
 gone_tally path before after (Some b) false false counts h = absurd h
 
-gone_brood : (depot : Shelves) (path : Path) (u : ℕ) (o : Option Brood) (same cloned : Bool) (trees : Trees (Spot Paged)) → BroodAt depot path u o cloned trees
+gone_brood : (depot : Shelves) (path : Path) (u : ℕ) (o : Option Brood) (same cloned : Bool) (trees : Trees Member) → BroodAt depot path u o cloned trees
     → BroodAt depot path u (cond same None o) (not same && cloned) (cond same no_tree trees)
 gone_brood depot path u o true cloned trees h = refl
 gone_brood depot path u o false cloned trees h = h
 
 -- the machine n comes from s, and one ticket is gone
-module _ (ticket : ℕ) (s n : Spot Paged) (step : IsStep forest s n (λ u. not (eqb ticket u) && is_cloned forest s u)) (c new : Cell)
+module _ (ticket : ℕ) (s n : Member) (step : IsStep forest s n (λ u. not (eqb ticket u) && is_cloned forest s u)) (c new : Cell)
     (updates : (u : ℕ) → get nat_cmp new.broods u ≡ cond (is_at (nat_cmp ticket) u) None (get nat_cmp c.broods u)) where
   looked_up : (u : ℕ) → get nat_cmp new.broods u ≡ cond (eqb ticket u) None (get nat_cmp c.broods u)
   looked_up u = updates u ∙ ap (λ (b : Bool). cond b None (get nat_cmp c.broods u)) (same_number ticket u)
@@ -94,7 +94,7 @@ module _ (ticket : ℕ) (s n : Spot Paged) (step : IsStep forest s n (λ u. not 
       (gone_tally path (forest.grant s u).children (forest.grant n u).children (get nat_cmp c.broods u) (eqb ticket u) (is_cloned forest s u)
       (λ is. ap (λ (g : Grant). g.children) (step.grants u (step.tickets u ∙ is))) (h u)))
 
-  gone_broods : (depot : Shelves) (path : Path) (broods : Broods (Spot Paged))
+  gone_broods : (depot : Shelves) (path : Path) (broods : Broods Member)
       → ((u : ℕ) → BroodAt depot path u (get nat_cmp c.broods u) (is_cloned forest s u) (brood_of u broods))
       → (u : ℕ) → BroodAt depot path u (get nat_cmp new.broods u) (is_cloned forest n u) (brood_of u (without ticket broods))
   gone_broods depot path broods h u =
@@ -108,7 +108,7 @@ module _ (ticket : ℕ) (s n : Spot Paged) (step : IsStep forest s n (λ u. not 
 module _ (depot : Shelves) (path : Path) (vm : Paged) (ticket : ℕ) (c new : Cell) (b : Brood) (found : get nat_cmp c.broods ticket ≡ Some b)
     (updates : (u : ℕ) → get nat_cmp new.broods u ≡ cond (is_at (nat_cmp ticket) u) None (get nat_cmp c.broods u))
     (room : vec_len new.log + btree_map_len new.broods ≤ vec_capacity new.log) where
-  pub killed_after : (t : Tree (Spot Paged)) → new.log.items ≡ c.log.items ++ ticket_line b.name ticket (vec_len b.slots) ∷ []
+  pub killed_after : (t : Tree Member) → new.log.items ≡ c.log.items ++ ticket_line b.name ticket (vec_len b.slots) ∷ []
       → Holds depot path c t → StandsAt vm (kill ticket) t → HoldsAfter depot path new (killed_tree ticket t)
   unfolding lines
   killed_after (node s broods log) told h at =
@@ -119,14 +119,14 @@ module _ (depot : Shelves) (path : Path) (vm : Paged) (ticket : ℕ) (c new : Ce
       let one = tallied path count (get nat_cmp c.broods ticket) b (is_cloned forest s ticket) found (rules.kill_is_cloned s ticket m) (h.tallies.broods ticket) in
       let tallies : Tallies path new (killed_tree ticket (node s broods log)) = record {
         log = told ∙ ap (λ (items : List Line). items ++ ticket_line b.name ticket (vec_len b.slots) ∷ []) h.tallies.log
-            ∙ ap (λ (p : Path). log_lines told_spot path log ++ ticket_line p ticket (vec_len b.slots) ∷ []) one.name
-            ∙ ap (λ (size : ℕ). log_lines told_spot path log ++ ticket_line path ticket size ∷ []) one.size;
+            ∙ ap (λ (p : Path). log_lines told_member path log ++ ticket_line p ticket (vec_len b.slots) ∷ []) one.name
+            ∙ ap (λ (size : ℕ). log_lines told_member path log ++ ticket_line path ticket size ∷ []) one.size;
         room = room;
         broods = gone_tallies ticket s n step c new updates path h.tallies.broods;
       } in
       (tallies, λ lives. record { tallies = tallies; broods = gone_broods ticket s n step c new updates depot path broods h.broods })
 
-  pub joined_after : (t : Tree (Spot Paged)) → new.log.items ≡ c.log.items ++ slot_lines b.slots.items → have_ended forest (brood_of ticket (broods_of t)) ≡ true
+  pub joined_after : (t : Tree Member) → new.log.items ≡ c.log.items ++ slot_lines b.slots.items → have_ended forest (brood_of ticket (broods_of t)) ≡ true
       → Holds depot path c t → StandsAt vm (join ticket) t → HoldsAfter depot path new (joined_tree ticket t)
   unfolding lines
   joined_after (node s broods log) told all h at =
@@ -137,7 +137,7 @@ module _ (depot : Shelves) (path : Path) (vm : Paged) (ticket : ℕ) (c new : Ce
       let one = shown depot path ticket (get nat_cmp c.broods ticket) b (is_cloned forest s ticket) trees found (rules.join_is_cloned s ticket m) (h.broods ticket) in
       let tallies : Tallies path new (joined_tree ticket (node s broods log)) = record {
         log = told ∙ ap (λ (items : List Line). items ++ slot_lines b.slots.items) h.tallies.log
-            ∙ ap (λ (items : List Line). log_lines told_spot path log ++ items) (brood_lines depot path ticket b trees one all);
+            ∙ ap (λ (items : List Line). log_lines told_member path log ++ items) (brood_lines depot path ticket b trees one all);
         room = room;
         broods = gone_tallies ticket s n step c new updates path h.tallies.broods;
       } in
@@ -145,17 +145,17 @@ module _ (depot : Shelves) (path : Path) (vm : Paged) (ticket : ℕ) (c new : Ce
 
 module _ (depot : Shelves) (path : Path) (vm : Paged) (ticket : ℕ) (c : Cell) where
   -- a machine that kills or joins a ticket has a brood of it
-  pub killed_there : (t : Tree (Spot Paged)) → get nat_cmp c.broods ticket ≡ None → Holds depot path c t → StandsAt vm (kill ticket) t → ⊥
+  pub killed_there : (t : Tree Member) → get nat_cmp c.broods ticket ≡ None → Holds depot path c t → StandsAt vm (kill ticket) t → ⊥
   killed_there (node s broods log) none h at =
       untallied path (forest.grant s ticket).children (get nat_cmp c.broods ticket) (is_cloned forest s ticket) none
       (rules.kill_is_cloned s ticket (makes vm (kill ticket) (node s broods log) at)) (h.tallies.broods ticket)
 
-  pub joined_there : (t : Tree (Spot Paged)) → get nat_cmp c.broods ticket ≡ None → Holds depot path c t → StandsAt vm (join ticket) t → ⊥
+  pub joined_there : (t : Tree Member) → get nat_cmp c.broods ticket ≡ None → Holds depot path c t → StandsAt vm (join ticket) t → ⊥
   joined_there (node s broods log) none h at =
       untallied path (forest.grant s ticket).children (get nat_cmp c.broods ticket) (is_cloned forest s ticket) none
       (rules.join_is_cloned s ticket (makes vm (join ticket) (node s broods log) at)) (h.tallies.broods ticket)
 
-  pub joined_endings : (t : Tree (Spot Paged)) (b : Brood) → get nat_cmp c.broods ticket ≡ Some b → Holds depot path c t → StandsAt vm (join ticket) t
+  pub joined_endings : (t : Tree Member) (b : Brood) → get nat_cmp c.broods ticket ≡ Some b → Holds depot path c t → StandsAt vm (join ticket) t
       → have_ended forest (brood_of ticket (broods_of t)) ≡ true → slot_endings b.slots.items ≡ endings forest (brood_of ticket (broods_of t))
   joined_endings (node s broods log) b found h at all =
       let m = makes vm (join ticket) (node s broods log) at in
@@ -163,11 +163,11 @@ module _ (depot : Shelves) (path : Path) (vm : Paged) (ticket : ℕ) (c : Cell) 
       brood_endings depot path ticket b trees
       (shown depot path ticket (get nat_cmp c.broods ticket) b (is_cloned forest s ticket) trees found (rules.join_is_cloned s ticket m) (h.broods ticket)) all
 
-  granted : (s : Spot Paged) → s.machine ≡ vm → forest.grant s ticket ≡ paged_machines.grant vm ticket
-  unfolding spots
+  granted : (s : Member) → paged_of s ≡ vm → forest.grant s ticket ≡ paged_machines.grant vm ticket
+  unfolding boxed spots
   granted s is = ap (λ (p : Paged). paged_machines.grant p ticket) is
 
-  pub as_many : (t : Tree (Spot Paged)) → StandsAt vm (join ticket) t → have_ended forest (brood_of ticket (broods_of t)) ≡ true
+  pub as_many : (t : Tree Member) → StandsAt vm (join ticket) t → have_ended forest (brood_of ticket (broods_of t)) ≡ true
       → length (endings forest (brood_of ticket (broods_of t))) ≡ (machines.grant vm.machine ticket).children
   unfolding paged_machines
   as_many (node s broods log) at all =
@@ -189,7 +189,7 @@ come_tally path before after o b false true counts one h = subst (λ n. TallyAt 
 come_tally path before after None b false false counts one h = tt
 come_tally path before after (Some other) b false false counts one h = absurd h
 
-come_brood : (depot : Shelves) (path : Path) (u : ℕ) (o : Option Brood) (b : Brood) (same cloned : Bool) (kids trees : Trees (Spot Paged))
+come_brood : (depot : Shelves) (path : Path) (u : ℕ) (o : Option Brood) (b : Brood) (same cloned : Bool) (kids trees : Trees Member)
     → (same ≡ true → BroodShows depot path u b kids) → BroodAt depot path u o cloned trees
     → BroodAt depot path u (cond same (Some b) o) (same || cloned) (cond same kids trees)
 come_brood depot path u o b true cloned kids trees one h = one refl
@@ -200,7 +200,7 @@ module _ (depot : Shelves) (path : Path) (keyed : KeyedMachine) (ticket : ℕ) (
   abbrev vm : Paged
   vm = paged keyed
 
-  pub forked_after : (b : Brood) (image : ForkImage) (t : Tree (Spot Paged)) → IsNewBrood depot path keyed ticket b image
+  pub forked_after : (b : Brood) (image : ForkImage) (t : Tree Member) → IsNewBrood depot path keyed ticket b image
       → ((u : ℕ) → get nat_cmp new.broods u ≡ cond (is_at (nat_cmp ticket) u) (Some b) (get nat_cmp c.broods u))
       → Holds depot path c t → StandsAt vm (clone ticket) t → HoldsAfter depot path new (forked_tree ticket t)
   unfolding brood_of paged_machines
@@ -230,8 +230,8 @@ module _ (depot : Shelves) (path : Path) (keyed : KeyedMachine) (ticket : ℕ) (
         tallies,
         λ lives.
             let shows : BroodShows depot path ticket b kids =
-            brood_born depot path ticket keyed s b image at.is (lives-none (forest.ending n) lives) born.image
-            (born.slots ∙ ap (λ k. replicate k Asleep) count) (born.live ∙ count) born.key
+            brood_born depot path ticket keyed s b image at.is m (lives-none (forest.ending n) lives) born.image
+            (born.slots ∙ ap (λ k. replicate k Asleep) count) (born.live ∙ count) born.wordless (subst (λ k. IsSilent k b.notes) count born.silent) born.key
             (subst (λ k. AreSeeds keyed image.key k image.seed) count born.seeds) in
             record {
               tallies = tallies;

@@ -21,7 +21,7 @@ use Rattle.world_core.specs.contracts.world.World as World
 use Rattle.world_core.proofs.cell.Brood.TheSendSync as brood
 
 pub lease_send : IsSend Lease.the_row
-lease_send = search (sendable, crosses, turn_send, vm_send) depth 40
+lease_send = search (sendable, crosses, name.the_send, turn_send, vm_send) depth 40 fits 4000
 
 state_send : IsSend State.the_row
 state_send = search (sendable, crosses, vm_send, turn_send) depth 40
@@ -29,12 +29,15 @@ state_send = search (sendable, crosses, vm_send, turn_send) depth 40
 cell_send : IsSend Cell.the_row
 cell_send =
     declared_send Cell.the_type (
-      state_send,
+      search (sendable, name.the_send) depth 20,
       (
-        search sendable,
+        state_send,
         (
-          search (BTreeMap-send, sendable, brood.the_send) depth 20,
-          (search (sendable, crosses, line.the_send) depth 20, tt),
+          search sendable,
+          (
+            search (BTreeMap-send, sendable, brood.the_send) depth 20,
+            (search (sendable, crosses, line.the_send) depth 20, tt),
+          ),
         ),
       ),
     )

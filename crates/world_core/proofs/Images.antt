@@ -21,13 +21,14 @@ use Rattle.vm_cell.specs.Standing.{standing_call}
 use Rattle.vm_cell.specs.declared.vm.fork.ForkImage.{ForkImage}
 use Rattle.world_core.specs.declared.cell.Brood.{Brood}
 use Rattle.world_core.specs.declared.cell.Cell.{Cell}
+use Rattle.world_core.specs.declared.cell.Change.{Change}
 use Rattle.world_core.specs.declared.cell.State.{State}
 use Rattle.world_core.specs.declared.cell.State.TheVariants.{Home, Parked, Out}
 use Rattle.world_core.specs.Between.{TakesOut}
 use Rattle.world_core.specs.Images.{AreBroodsAt, HasImages, HaveImages, Images, IsBroodAt, IsImageAt, IsLentAt, IsStateAt, IsPreparedAt, image_at}
 use Rattle.world_core.specs.Lent.{Lent, vm_of}
 use Rattle.world_core.specs.PreparedFork.{IsBroodOf, IsPreparedFor, Prepared}
-use Rattle.world_core.specs.Unparked.{unparked}
+use Rattle.world_core.specs.Unparked.{ends_wait, unparked}
 use Rattle.world_core.proofs.Changes.{Lies, here, below, parent, above, apart, lies}
 use Rattle.world_core.proofs.Leaving.{if-some-is}
 use Rattle.world_core.proofs.Returns.{same-or-apart, some-is, written-here, written-apart}
@@ -87,25 +88,25 @@ module _ (images : Images) (path : Path) where
   no-brood broods empty ticket = subst (λ o. IfSome o (IsBroodAt images path ticket)) (sym (ap (lookup (is_at (nat_cmp ticket))) empty)) tt
 
   -- a machine that waited is at home
-  pub unparked-at : (ticket : ℕ) (state : State) → IsStateAt images path state → IsStateAt images path (unparked ticket state)
-  unparked-at ticket (Home vm) h = h
-  unparked-at ticket (Parked waited vm turn) h = by (eqb waited ticket)
+  pub unparked-at : (change : Change) (state : State) → IsStateAt images path state → IsStateAt images path (unparked change state)
+  unparked-at change (Home vm) h = h
+  unparked-at change (Parked awaited vm turn) h = by (ends_wait change awaited)
     where
-      by : (b : Bool) → IsStateAt images path (cond b (Home vm) (Parked waited vm turn))
+      by : (b : Bool) → IsStateAt images path (cond b (Home vm) (Parked awaited vm turn))
       by true = h
       by false = h
-  unparked-at ticket (Out start) h = h
+  unparked-at change (Out start) h = h
 
   -- a child wakes with the key of its brood
-  pub woken-at : (ticket index : ℕ) (b : Brood) (image : ForkImage) (seed : Descriptor) (r : Result KeyedMachine AllocError) (c : Cell) → HasImages images path c
-      → get nat_cmp c.broods ticket ≡ Some b → b.image ≡ Some image → IfOk r (λ v. v ≡ woken seed image.key)
+  pub woken-at : (ticket index siblings : ℕ) (b : Brood) (image : ForkImage) (seed : Descriptor) (r : Result KeyedMachine AllocError) (c : Cell) → HasImages images path c
+      → get nat_cmp c.broods ticket ≡ Some b → b.image ≡ Some image → IfOk r (λ v. v ≡ woken seed siblings image.key)
       → IfOk r (λ v. IsImageAt images (child_path path ticket index) v.key)
   unfolding woken
-  woken-at ticket index b image seed (Ok v) c h found is wakes =
+  woken-at ticket index siblings b image seed (Ok v) c h found is wakes =
       let at : IsBroodAt images path ticket b = if-some-is (get nat_cmp c.broods ticket) b (IsBroodAt images path ticket) (sym found) (h.broods ticket) in
       let number : images path ticket ≡ number_of image.key = subst (λ o. IfSome o (λ (y : ForkImage). images path ticket ≡ number_of y.key)) is at in
       subst (λ (w : KeyedMachine). IsImageAt images (child_path path ticket index) w.key) (sym wakes) (at-child images path ticket index ∙ ap Some number)
-  woken-at ticket index b image seed (Err e) c h found is wakes = tt
+  woken-at ticket index siblings b image seed (Err e) c h found is wakes = tt
 
   -- the cell with another brood for a ticket, and where its machine may wait no more
   pub cell-written : (c : Cell) (broods : BTreeMap ℕ Brood) (ticket : ℕ) (b d : Brood) → get nat_cmp c.broods ticket ≡ Some b
@@ -113,11 +114,11 @@ module _ (images : Images) (path : Path) where
       → HasImages images path c → HasImages images path (record c { broods = broods })
   cell-written c broods ticket b d found w step h = record { state = h.state; broods = brood-written c.broods broods ticket b d found w step h.broods }
 
-  pub cell-unparked : (c new : Cell) (broods : BTreeMap ℕ Brood) (ticket : ℕ) (b d : Brood) → get nat_cmp c.broods ticket ≡ Some b
+  pub cell-unparked : (change : Change) (c new : Cell) (broods : BTreeMap ℕ Brood) (ticket : ℕ) (b d : Brood) → get nat_cmp c.broods ticket ≡ Some b
       → WritesThrough nat_cmp (nat_cmp ticket) c.broods d broods → (IsBroodAt images path ticket b → IsBroodAt images path ticket d)
-      → new.state ≡ unparked ticket c.state → new.broods ≡ broods → HasImages images path c → HasImages images path new
-  cell-unparked c new broods ticket b d found w step state same h = record {
-    state = subst (IsStateAt images path) (sym state) (unparked-at ticket c.state h.state);
+      → new.state ≡ unparked change c.state → new.broods ≡ broods → HasImages images path c → HasImages images path new
+  cell-unparked change c new broods ticket b d found w step state same h = record {
+    state = subst (IsStateAt images path) (sym state) (unparked-at change c.state h.state);
     broods = subst (AreBroodsAt images path) (sym same) (brood-written c.broods broods ticket b d found w step h.broods);
   }
 

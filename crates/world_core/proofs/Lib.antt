@@ -4,8 +4,20 @@ pub mod Receiving
 pub mod Changes
 pub mod AtPlaces
 pub mod Ready
+pub mod Resting
 pub mod Returns
 mod Reordered
+mod MembersKept
+mod Waiting
+mod Siblings
+mod Skipping
+mod Saying
+mod Heard
+mod Hearing
+mod Stirs
+mod Telling
+mod Talked
+mod Made
 pub mod Slots
 pub mod SlotPlaces
 pub mod SlotBegins
@@ -29,7 +41,10 @@ mod Images
 pub mod Finishing
 mod LogKilled
 mod BroodSlots
+mod AllRest
+mod Stuck
 mod Broods
+pub mod Spending
 mod Calling
 mod CallKill
 mod CallJoin

@@ -1,6 +1,7 @@
 -- The lines of the tickets that a machine had cloned, where it has ended.
+use Rattle.sibling_forest.specs.Talk.{boxed}
 use Rattle.std.proofs.Common.{Less, ◌≡◌, ℕ, ◌^◌, ◌<◌, ◌≤◌, ◌||◌, Bool, true, false, cond, eqb, ltb, eqb-true, List, [], ◌∷◌, ◌++◌, map, Option, Some}
-use Rattle.std.proofs.Common.{None, is_some, refl, sym, ap, ◌∙◌, subst, inl, inr, arith, append_assoc, vec_len}
+use Rattle.std.proofs.Common.{None, is_some, refl, sym, ap, ap₂, ◌∙◌, subst, inl, inr, arith, append_assoc, vec_len}
 use Rattle.std.specs.List.{AllByRecursion}
 use Rattle.std.specs.List.Sorted.{IsStrictlySortedBy}
 use Rattle.std.specs.Map.{lookup, keys_of}
@@ -24,27 +25,28 @@ use Rattle.forest_tree.specs.Settle.{log_killed}
 use Rattle.forest_tree.specs.Sound.{IsSound}
 use Rattle.forest_tree.proofs.Settle.{root-sound}
 use Rattle.forest_tree.proofs.Broods.{eqb-same}
-use Rattle.forest_history.specs.Places.{Spot, spots}
+use Rattle.forest_history.specs.Places.{spots}
 use Rattle.forest_model.specs.Forest.{machines, port_of}
 use Rattle.forest_model.specs.Paged.{Paged, paged_machines}
-use Rattle.run_report.specs.Lines.{Line, machine_line, ticket_line, own_lines_by, lines, log_lines}
+use Rattle.run_report.specs.Lines.{Line, machine_line, ticket_line, own_line as own_line_of, lines, log_lines}
+use Rattle.run_report.proofs.Begin.{lines-childless}
 use Rattle.world_core.specs.declared.cell.Brood.{Brood}
 use Rattle.world_core.specs.declared.cell.Cell.{Cell}
 use Rattle.world_core.specs.Broods.{killed_line}
-use Rattle.world_core.specs.Shows.{TallyAt, IsTallied, Tallies, forest, told_spot, ended_tree}
+use Rattle.world_core.specs.Shows.{Member, paged_of, TallyAt, IsTallied, Tallies, forest, told_member, ended_tree}
 
 -- ---- the log of killed tickets
 
 abbrev pub ticket_lines : Path → (ℕ → ℕ) → List ℕ → List Line
 ticket_lines path count tickets = map (λ (ticket : ℕ). ticket_line path ticket (count ticket)) tickets
 
-lines_killed : (path : Path) (s : Spot Paged) (tickets : List ℕ) (log : Log (Spot Paged))
-    → log_lines told_spot path (log_killed forest s tickets log) ≡ log_lines told_spot path log ++ ticket_lines path (λ t. (forest.grant s t).children) tickets
+lines_killed : (path : Path) (s : Member) (tickets : List ℕ) (log : Log Member)
+    → log_lines told_member path (log_killed forest s tickets log) ≡ log_lines told_member path log ++ ticket_lines path (λ t. (forest.grant s t).children) tickets
 unfolding log_killed lines
-lines_killed path s [] log = sym (append-nil (log_lines told_spot path log))
+lines_killed path s [] log = sym (append-nil (log_lines told_member path log))
 lines_killed path s (t ∷ rest) log =
     lines_killed path s rest (killed log t (forest.grant s t).children)
-    ∙ append_assoc (log_lines told_spot path log) (ticket_line path t (forest.grant s t).children ∷ []) (ticket_lines path (λ u. (forest.grant s u).children) rest)
+    ∙ append_assoc (log_lines told_member path log) (ticket_line path t (forest.grant s t).children ∷ []) (ticket_lines path (λ u. (forest.grant s u).children) rest)
 
 -- ---- numbers in order
 
@@ -84,53 +86,58 @@ looked_up_first e es u same = grind (arith, nat_tests)
 looked_up_rest : {X : Type 0} (e : ℕ × X) (es : List (ℕ × X)) (u : ℕ) → eqb e.0 u ≡ false → lookup (is_at (nat_cmp u)) (e ∷ es) ≡ lookup (is_at (nat_cmp u)) es
 looked_up_rest e es u differs = grind (arith, nat_tests)
 
--- ---- broods that are killed in order
+-- ---- broods in the order of their tickets
 
-module _ (path : Path) (count : ℕ → ℕ) where
-  abbrev AreTallied : List (ℕ × Brood) → List ℕ → Type 0
-  AreTallied entries tickets = (u : ℕ) → TallyAt path (count u) (lookup (is_at (nat_cmp u)) entries) (is_among u tickets)
+module _ (IsOf : ℕ → Brood → Type 0) where
+  -- there is a brood exactly where the ticket is cloned, and it is of the ticket
+  abbrev pub BroodOf : ℕ → Option Brood → Bool → Type 0
+  BroodOf u None false = Unit {0}
+  BroodOf u None true = ⊥
+  BroodOf u (Some b) false = ⊥
+  BroodOf u (Some b) true = IsOf u b
 
-  tallied : (o : Option Brood) (among : Bool) (b : Brood) (u : ℕ) → o ≡ Some b → among ≡ true → TallyAt path (count u) o among → IsTallied path (count u) b
-  tallied o among b u found is h =
-      subst (λ (p : Option Brood). TallyAt path (count u) p true) found (subst (TallyAt path (count u) o) is h)
+  abbrev pub AreOf : List (ℕ × Brood) → List ℕ → Type 0
+  AreOf entries tickets = (u : ℕ) → BroodOf u (lookup (is_at (nat_cmp u)) entries) (is_among u tickets)
 
-  no_brood_for : (o : Option Brood) (among : Bool) (u : ℕ) → o ≡ None → among ≡ true → TallyAt path (count u) o among → ⊥
-  no_brood_for o among u found is h =
-      subst (λ (p : Option Brood). TallyAt path (count u) p true) found (subst (TallyAt path (count u) o) is h)
+  -- each brood with its ticket
+  unfoldable pub Paired : List (ℕ × Brood) → List ℕ → Type 0
+  Paired [] [] = Unit {0}
+  Paired [] (t ∷ ts) = ⊥
+  Paired (e ∷ es) [] = ⊥
+  Paired (e ∷ es) (t ∷ ts) = (e.0 ≡ t) × IsOf t e.1 × Paired es ts
 
-  no_ticket_for : (o : Option Brood) (among : Bool) (b : Brood) (u : ℕ) → o ≡ Some b → among ≡ false → TallyAt path (count u) o among → ⊥
-  no_ticket_for o among b u found is h =
-      subst (λ (p : Option Brood). TallyAt path (count u) p false) found (subst (TallyAt path (count u) o) is h)
+  is_of : (o : Option Brood) (among : Bool) (b : Brood) (u : ℕ) → o ≡ Some b → among ≡ true → BroodOf u o among → IsOf u b
+  is_of o among b u found is h = subst (λ (p : Option Brood). BroodOf u p true) found (subst (BroodOf u o) is h)
 
-  line_tallied : (e : ℕ × Brood) (t : ℕ) → e.0 ≡ t → IsTallied path (count t) e.1 → killed_line e ≡ ticket_line path t (count t)
-  line_tallied e t same h =
-      ap (λ (p : Path). ticket_line p e.0 (vec_len e.1.slots)) h.name
-      ∙ ap (λ (n : ℕ). ticket_line path n (vec_len e.1.slots)) same
-      ∙ ap (ticket_line path t) h.size
+  no_brood_for : (o : Option Brood) (among : Bool) (u : ℕ) → o ≡ None → among ≡ true → BroodOf u o among → ⊥
+  no_brood_for o among u found is h = subst (λ (p : Option Brood). BroodOf u p true) found (subst (BroodOf u o) is h)
 
-  tallied_rest : (e : ℕ × Brood) (es : List (ℕ × Brood)) (t : ℕ) (ts : List ℕ) → e.0 ≡ t → AreAbove t (keys_of es) → AreAbove t ts
-      → AreTallied (e ∷ es) (t ∷ ts) → AreTallied es ts
-  tallied_rest e es t ts same above_keys above h u = by (eqb t u) refl
+  no_ticket_for : (o : Option Brood) (among : Bool) (b : Brood) (u : ℕ) → o ≡ Some b → among ≡ false → BroodOf u o among → ⊥
+  no_ticket_for o among b u found is h = subst (λ (p : Option Brood). BroodOf u p false) found (subst (BroodOf u o) is h)
+
+  of_rest : (e : ℕ × Brood) (es : List (ℕ × Brood)) (t : ℕ) (ts : List ℕ) → e.0 ≡ t → AreAbove t (keys_of es) → AreAbove t ts
+      → AreOf (e ∷ es) (t ∷ ts) → AreOf es ts
+  of_rest e es t ts same above_keys above h u = by (eqb t u) refl
     where
-      by : (here : Bool) → eqb t u ≡ here → TallyAt path (count u) (lookup (is_at (nat_cmp u)) es) (is_among u ts)
+      by : (here : Bool) → eqb t u ≡ here → BroodOf u (lookup (is_at (nat_cmp u)) es) (is_among u ts)
       by true is =
           let it : t ≡ u = eqb-true t u is in
           let none = not_looked_up u es (subst (λ n. AreAbove n (keys_of es)) it above_keys) in
           let not_there = not_among u ts (subst (λ n. AreAbove n ts) it above) in
-          subst (λ (o : Option Brood). TallyAt path (count u) o (is_among u ts)) (sym none) (subst (TallyAt path (count u) None) (sym not_there) tt)
+          subst (λ (o : Option Brood). BroodOf u o (is_among u ts)) (sym none) (subst (BroodOf u None) (sym not_there) tt)
       by false is =
           let there = looked_up_rest e es u (ap (λ n. eqb n u) same ∙ is) in
-          subst (λ (o : Option Brood). TallyAt path (count u) o (is_among u ts)) there
-          (subst (TallyAt path (count u) (lookup (is_at (nat_cmp u)) (e ∷ es))) (among_rest u t ts is) (h u))
+          subst (λ (o : Option Brood). BroodOf u o (is_among u ts)) there
+          (subst (BroodOf u (lookup (is_at (nat_cmp u)) (e ∷ es))) (among_rest u t ts is) (h u))
 
-  killed_entries : (entries : List (ℕ × Brood)) (tickets : List ℕ) → IsStrictlySortedBy nat_cmp (keys_of entries) → IsStrictlySortedBy nat_cmp tickets
-      → AreTallied entries tickets → map killed_line entries ≡ ticket_lines path count tickets
-  unfolding is_among
-  killed_entries [] [] keys numbers h = refl
-  killed_entries [] (t ∷ ts) keys numbers h = absurd (no_brood_for None (is_among t (t ∷ ts)) t refl (among_first t ts) (h t))
-  killed_entries (e ∷ es) [] keys numbers h =
+  pub in_pairs : (entries : List (ℕ × Brood)) (tickets : List ℕ) → IsStrictlySortedBy nat_cmp (keys_of entries) → IsStrictlySortedBy nat_cmp tickets
+      → AreOf entries tickets → Paired entries tickets
+  unfolding is_among Paired
+  in_pairs [] [] keys numbers h = tt
+  in_pairs [] (t ∷ ts) keys numbers h = absurd (no_brood_for None (is_among t (t ∷ ts)) t refl (among_first t ts) (h t))
+  in_pairs (e ∷ es) [] keys numbers h =
       absurd (no_ticket_for (lookup (is_at (nat_cmp e.0)) (e ∷ es)) (is_among e.0 []) e.1 e.0 (looked_up_first e es e.0 refl) refl (h e.0))
-  killed_entries (e ∷ es) (t ∷ ts) keys numbers h = elim (cases_lt e.0 t) [
+  in_pairs (e ∷ es) (t ∷ ts) keys numbers h = elim (cases_lt e.0 t) [
     | inl before ↦
         let above = above_first t e.0 ts (omega arith) (sorted_head nat_cmp t ts numbers) in
         absurd (no_ticket_for (lookup (is_at (nat_cmp e.0)) (e ∷ es)) (is_among e.0 (t ∷ ts)) e.1 e.0 (looked_up_first e es e.0 refl)
@@ -141,14 +148,46 @@ module _ (path : Path) (count : ℕ → ℕ) where
           absurd (no_brood_for (lookup (is_at (nat_cmp t)) (e ∷ es)) (is_among t (t ∷ ts)) t (not_looked_up t (e ∷ es) (before, above)) (among_first t ts) (h t))
       | inr under ↦
           let same : e.0 ≡ t = omega arith in
-          let first = tallied (lookup (is_at (nat_cmp t)) (e ∷ es)) (is_among t (t ∷ ts)) e.1 t (looked_up_first e es t same) (among_first t ts) (h t) in
+          let first = is_of (lookup (is_at (nat_cmp t)) (e ∷ es)) (is_among t (t ∷ ts)) e.1 t (looked_up_first e es t same) (among_first t ts) (h t) in
           let above_keys = above_first e.0 t (keys_of es) (omega arith) (sorted_head nat_cmp e.0 (keys_of es) keys) in
-          let above = above_first t t ts (omega arith) (sorted_head nat_cmp t ts numbers) in
-          ap (λ (line : Line). line ∷ map killed_line es) (line_tallied e t same first)
-          ∙ ap (λ (rest : List Line). ticket_line path t (count t) ∷ rest)
-          (killed_entries es ts (sorted_tail nat_cmp e.0 (keys_of es) keys) (sorted_tail nat_cmp t ts numbers) (tallied_rest e es t ts same above_keys above h))
+          let above = above_first t t ts (omega arith) (sorted_head nat_cmp t ts numbers) in (
+            same,
+            first,
+            in_pairs es ts (sorted_tail nat_cmp e.0 (keys_of es) keys) (sorted_tail nat_cmp t ts numbers) (of_rest e es t ts same above_keys above h),
+          )
     ]
   ]
+
+-- ---- broods that are killed in order
+
+module _ (path : Path) (count : ℕ → ℕ) where
+  line_tallied : (e : ℕ × Brood) (t : ℕ) → e.0 ≡ t → IsTallied path (count t) e.1 → killed_line e ≡ ticket_line path t (count t)
+  line_tallied e t same h =
+      ap (λ (p : Path). ticket_line p e.0 (vec_len e.1.slots)) h.name
+      ∙ ap (λ (n : ℕ). ticket_line path n (vec_len e.1.slots)) same
+      ∙ ap (ticket_line path t) h.size
+
+  killed_paired : (entries : List (ℕ × Brood)) (tickets : List ℕ) → Paired (λ u. IsTallied path (count u)) entries tickets
+      → map killed_line entries ≡ ticket_lines path count tickets
+  unfolding Paired
+  killed_paired [] [] h = refl
+  killed_paired [] (t ∷ ts) h = absurd h
+  killed_paired (e ∷ es) [] h = absurd h
+  killed_paired (e ∷ es) (t ∷ ts) h = ap₂ (λ (line : Line) (rest : List Line). line ∷ rest) (line_tallied e t h.0 h.1) (killed_paired es ts h.2)
+
+  tallied_of : (u : ℕ) (o : Option Brood) (among : Bool) → TallyAt path (count u) o among → BroodOf (λ v. IsTallied path (count v)) u o among
+  tallied_of u None false h = tt
+  tallied_of u None true h = absurd h
+  tallied_of u (Some b) false h = absurd h
+  tallied_of u (Some b) true h = h
+
+  killed_entries : (entries : List (ℕ × Brood)) (tickets : List ℕ) → IsStrictlySortedBy nat_cmp (keys_of entries) → IsStrictlySortedBy nat_cmp tickets
+      → ((u : ℕ) → TallyAt path (count u) (lookup (is_at (nat_cmp u)) entries) (is_among u tickets))
+      → map killed_line entries ≡ ticket_lines path count tickets
+  killed_entries entries tickets keys numbers h =
+      killed_paired entries tickets
+      (in_pairs (λ u. IsTallied path (count u)) entries tickets keys numbers
+      (λ u. tallied_of u (lookup (is_at (nat_cmp u)) entries) (is_among u tickets) (h u)))
 
 -- ---- the cloned tickets of a good machine
 
@@ -173,18 +212,19 @@ sorted_cloned (x ∷ xs) rising = by x.is_cloned (above_cloned x.number xs risin
     by true first rest = (first, rest)
     by false first rest = rest
 
-accounted : (s : Spot Paged) → forest.is_good s ≡ true → is_accounted (port_of s.machine.machine) ≡ true
-unfolding spots paged_machines machines
-accounted s good = (and_parts (is_accounted (port_of s.machine.machine)) (is_some s.machine.machine.ending || ltb s.machine.machine.steps s.machine.machine.limit) good).0
+accounted : (s : Member) → forest.is_good s ≡ true → is_accounted (port_of s.machine.machine.machine) ≡ true
+unfolding boxed spots paged_machines machines
+accounted s good =
+    (and_parts (is_accounted (port_of s.machine.machine.machine)) (is_some s.machine.machine.machine.ending || ltb s.machine.machine.machine.steps s.machine.machine.machine.limit) good).0
 
-good_sorted : (s : Spot Paged) → forest.is_good s ≡ true → IsStrictlySortedBy nat_cmp (forest.cloned s)
-unfolding spots paged_machines machines
-good_sorted s good = sorted_cloned (port_of s.machine.machine).tickets (accounted-is (port_of s.machine.machine) (accounted s good)).rising
+pub good_sorted : (s : Member) → forest.is_good s ≡ true → IsStrictlySortedBy nat_cmp (forest.cloned s)
+unfolding boxed spots paged_machines machines
+good_sorted s good = sorted_cloned (port_of s.machine.machine.machine).tickets (accounted-is (port_of s.machine.machine.machine) (accounted s good)).rising
 
 -- ---- what a machine leaves that has ended
 
-pub ended_lines : (path : Path) (c : Cell) (t : Tree (Spot Paged)) → Tallies path c t → IsSound forest t → IsOrdered nat_cmp c.broods
-    → log_lines told_spot path (log_of (ended_tree t)) ≡ c.log.items ++ map killed_line c.broods.entries
+pub ended_lines : (path : Path) (c : Cell) (t : Tree Member) → Tallies path c t → IsSound forest t → IsOrdered nat_cmp c.broods
+    → log_lines told_member path (log_of (ended_tree t)) ≡ c.log.items ++ map killed_line c.broods.entries
 ended_lines path c (node s broods log) h sound ordered =
     let count : ℕ → ℕ = λ t. (forest.grant s t).children in
     lines_killed path s (forest.cloned s) log
@@ -197,23 +237,24 @@ tally_fits path count None among h = tt
 tally_fits path count (Some b) false h = absurd h
 tally_fits path count (Some b) true h = omega (arith, h.few)
 
-pub broods_fit : (path : Path) (c : Cell) (t : Tree (Spot Paged)) → Tallies path c t → (number : ℕ) → IfSome (get nat_cmp c.broods number) (λ b. vec_len b.slots < 2 ^ 32)
+pub broods_fit : (path : Path) (c : Cell) (t : Tree Member) → Tallies path c t → (number : ℕ) → IfSome (get nat_cmp c.broods number) (λ b. vec_len b.slots < 2 ^ 32)
 broods_fit path c t h number =
     tally_fits path (forest.grant (machine t) number).children (get nat_cmp c.broods number) (is_cloned forest (machine t) number) (h.broods number)
 
-own_line : (path : Path) (s : Spot Paged) (vm : Paged) (ending : Ending) (steps : ℕ) (output : List ℕ) → s.machine ≡ vm → vm.machine.ending ≡ Some ending
+own_line : (path : Path) (s : Member) (vm : Paged) (ending : Ending) (steps : ℕ) (output : List ℕ) → paged_of s ≡ vm → vm.machine.ending ≡ Some ending
     → steps ≡ vm.machine.steps → output ≡ vm.machine.state.ports.console.output
-    → machine_line path ending steps output ∷ [] ≡ own_lines_by told_spot (told_spot.ending s) path s
+    → machine_line path (Some ending) steps output ≡ own_line_of told_member path s
 own_line path s vm ending steps output is ended made put =
-    ap (λ (n : ℕ). machine_line path ending n output ∷ []) (made ∙ ap (λ (p : Paged). p.machine.steps) (sym is))
-    ∙ ap (λ (bytes : List ℕ). machine_line path ending s.machine.machine.steps bytes ∷ []) (put ∙ ap (λ (p : Paged). p.machine.state.ports.console.output) (sym is))
-    ∙ ap (λ (e : Option Ending). own_lines_by told_spot e path s) (sym (ap (λ (p : Paged). p.machine.ending) is ∙ ended))
+    ap (λ (n : ℕ). machine_line path (Some ending) n output) (made ∙ ap (λ (p : Paged). p.machine.steps) (sym is))
+    ∙ ap (λ (bytes : List ℕ). machine_line path (Some ending) s.machine.machine.machine.steps bytes) (put ∙ ap (λ (p : Paged). p.machine.state.ports.console.output) (sym is))
+    ∙ ap (λ (e : Option Ending). machine_line path e s.machine.machine.machine.steps s.machine.machine.machine.state.ports.console.output)
+    (sym (ap (λ (p : Paged). p.machine.ending) is ∙ ended))
 
-pub outcome_lines : (path : Path) (c : Cell) (t : Tree (Spot Paged)) (vm : Paged) (ending : Ending) (steps : ℕ) (output : List ℕ) (log : List Line)
+pub outcome_lines : (path : Path) (c : Cell) (t : Tree Member) (vm : Paged) (ending : Ending) (steps : ℕ) (output : List ℕ) (log : List Line)
     → Tallies path c t → IsSound forest t → IsOrdered nat_cmp c.broods → log ≡ c.log.items ++ map killed_line c.broods.entries
-    → (machine t).machine ≡ vm → vm.machine.ending ≡ Some ending → steps ≡ vm.machine.steps → output ≡ vm.machine.state.ports.console.output
-    → machine_line path ending steps output ∷ log ≡ lines told_spot path (ended_tree t)
-unfolding lines
+    → paged_of (machine t) ≡ vm → vm.machine.ending ≡ Some ending → steps ≡ vm.machine.steps → output ≡ vm.machine.state.ports.console.output
+    → machine_line path (Some ending) steps output ∷ log ≡ lines told_member path (ended_tree t)
 outcome_lines path c (node s broods log') vm ending steps output log h sound ordered told is ended made put =
-    ap (λ (rest : List Line). machine_line path ending steps output ∷ rest) (told ∙ sym (ended_lines path c (node s broods log') h sound ordered))
-    ∙ ap (λ (own : List Line). own ++ log_lines told_spot path (log_of (ended_tree (node s broods log')))) (own_line path s vm ending steps output is ended made put)
+    ap₂ (λ (own : Line) (rest : List Line). own ∷ rest) (own_line path s vm ending steps output is ended made put)
+    (told ∙ sym (ended_lines path c (node s broods log') h sound ordered))
+    ∙ sym (lines-childless told_member path s (log_of (ended_tree (node s broods log'))))

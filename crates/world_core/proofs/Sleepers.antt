@@ -5,11 +5,12 @@ use Rattle.std.specs.BTreeMap.{BTreeMap, get}
 use Rattle.std.specs.Ordering.{nat_cmp}
 use Rattle.image_depot.specs.Key.{Shelves}
 use Rattle.forest_tree.specs.Tree.{Tree, Trees, no_tree, tree, no_brood, machine, broods_of, brood_of, child_at, Path, subtree}
-use Rattle.forest_tree.specs.Settle.{has_ended, waits}
+use Rattle.forest_tree.specs.Settle.{has_ended}
 use Rattle.forest_tree.proofs.Places.{some-same}
-use Rattle.forest_history.specs.Places.{Place, asleep, home, out, parked, Spot}
-use Rattle.forest_history.specs.World.{is_asleep_at, is_ready_at, lives_ready, holds}
-use Rattle.forest_model.specs.Paged.{Paged, paged_machines}
+use Rattle.forest_history.specs.Places.{Place, asleep, home, out, parked}
+use Rattle.forest_history.specs.World.{is_asleep_at, is_ready_at}
+use Rattle.talking_history.specs.World.{lives_ready, holds, is_resting}
+use Rattle.forest_model.specs.Paged.{paged_machines, paged_talks}
 use Rattle.image_depot.specs.Key.{Key}
 use Rattle.machine_names.specs.Name.{child_path}
 use Rattle.machine_names.specs.NameOrder.{path_cmp}
@@ -20,17 +21,35 @@ use Rattle.world_core.specs.declared.cell.Brood.{Brood}
 use Rattle.world_core.specs.declared.cell.Cell.{Cell}
 use Rattle.world_core.specs.declared.cell.ChildSlot.{ChildSlot}
 use Rattle.world_core.specs.declared.cell.ChildSlot.TheVariants.{Asleep, Awake, Ended}
-use Rattle.world_core.specs.Shows.{forest, SlotShows, SlotsShow, BornShows, CellShows, IsNoCell, Shows, is_asleep_slot, IsNotAsleep, child_of, slot_at}
+use Rattle.world_core.specs.Shows.{Member, forest, SlotShows, SlotsShow, BornShows, CellShows, IsNoCell, Shows, is_asleep_slot, IsNotAsleep, child_of, slot_at}
 use Rattle.world_core.specs.Popped.{ShowsCells, sleeps, IsFirstAsleep}
+use Rattle.world_core.specs.World.{rests_in}
 use Rattle.world_core.proofs.Awake.{child-below, slot-ended, never-both, awake-there}
 use Rattle.world_core.proofs.SlotWaits.{none-held, one-held}
 
 -- ready, and still a descriptor
-abbrev pub wakes : Option (Tree (Spot Paged)) → Bool
-wakes u = holds paged_machines (lives_ready paged_machines) u && holds paged_machines (λ a. is_asleep_at (machine a).place) u
+abbrev pub wakes : Option (Tree Member) → Bool
+wakes u = holds (lives_ready paged_machines paged_talks false) u && holds (λ (a : Tree Member). is_asleep_at (machine a).machine.place) u
 
-pub sleeps-by : (parent : Path) (ticket k : ℕ) (t p : Tree (Spot Paged)) → subtree parent t ≡ Some p → sleeps parent ticket k t ≡ wakes (child_of ticket k p)
-sleeps-by parent ticket k t p there = ap wakes (child-below parent ticket k t (Some p) there)
+-- one that rests is ready all the same
+any-rest : (ended resting : Bool) (place : Place)
+    → (not ended && is_ready_at place resting) && is_asleep_at place ≡ (not ended && is_ready_at place false) && is_asleep_at place
+any-rest true resting place = refl
+any-rest false resting asleep = refl
+any-rest false resting home = refl
+any-rest false resting out = refl
+any-rest false true parked = refl
+any-rest false false parked = refl
+
+pub wakes-any : (resting : Bool) (u : Option (Tree Member))
+    → holds (lives_ready paged_machines paged_talks resting) u && holds (λ (a : Tree Member). is_asleep_at (machine a).machine.place) u ≡ wakes u
+wakes-any resting None = refl
+wakes-any resting (Some a) = any-rest (has_ended forest a) resting (machine a).machine.place
+
+pub sleeps-by : (parent : Path) (ticket k : ℕ) (t p : Tree Member) → subtree parent t ≡ Some p → sleeps parent ticket k t ≡ wakes (child_of ticket k p)
+sleeps-by parent ticket k t p there =
+    wakes-any (is_resting paged_machines paged_talks (child_path parent ticket k) t) (subtree (child_path parent ticket k) t)
+    ∙ ap wakes (child-below parent ticket k t (Some p) there)
 
 -- what has ended is nothing else
 pub dead-not : (ended is : Bool) → ended ≡ true → not ended && is ≡ false
@@ -61,42 +80,44 @@ wakes-awake : (ready there : Bool) → there ≡ false → ready && there ≡ fa
 wakes-awake true there h = h
 wakes-awake false there h = refl
 
-pub wakes-is : (a : Tree (Spot Paged)) → wakes (Some a) ≡ true → (has_ended forest a ≡ false) × (is_asleep_at (machine a).place ≡ true)
-wakes-is a h = wakes-parts (has_ended forest a) (waits forest a) (machine a).place h
+pub wakes-is : (a : Tree Member) → wakes (Some a) ≡ true → (has_ended forest a ≡ false) × (is_asleep_at (machine a).machine.place ≡ true)
+wakes-is a h = wakes-parts (has_ended forest a) false (machine a).machine.place h
 
-pub wakes-there : (u : Option (Tree (Spot Paged))) → wakes u ≡ true → (a : Tree (Spot Paged)) × (u ≡ Some a)
+pub wakes-there : (u : Option (Tree Member)) → wakes u ≡ true → (a : Tree Member) × (u ≡ Some a)
 wakes-there None wake = absurd (cc)
 wakes-there (Some a) wake = (a, refl)
 
 -- a tree by its slot
-pub wakes-slot : (path : Path) (key : Key) (seed : Descriptor) (slot : ChildSlot) (a : Tree (Spot Paged)) → SlotShows path key seed slot a
+pub wakes-slot : (path : Path) (key : Key) (seed : Descriptor) (slot : ChildSlot) (a : Tree Member) → SlotShows path key seed slot a
     → wakes (Some a) ≡ is_asleep_slot (Some slot)
 wakes-slot path key seed Asleep a h =
-    wakes-yes (has_ended forest a) (waits forest a) (machine a).place h.lives (ap (λ (u : Tree (Spot Paged)). is_asleep_at (machine u).place) h.born)
-wakes-slot path key seed Awake a h = wakes-awake (lives_ready paged_machines a) (is_asleep_at (machine a).place) h.awake
+    wakes-yes (has_ended forest a) false (machine a).machine.place h.lives (ap (λ (u : Tree Member). is_asleep_at (machine u).machine.place) h.born)
+wakes-slot path key seed (Awake name) a h = wakes-awake (lives_ready paged_machines paged_talks false a) (is_asleep_at (machine a).machine.place) h.0.awake
 wakes-slot path key seed (Ended outcome) a h =
-    wakes-ended (has_ended forest a) (is_ready_at (machine a).place (waits forest a)) (is_asleep_at (machine a).place) (slot-ended outcome.ending a h.0)
+    wakes-ended (has_ended forest a) (is_ready_at (machine a).machine.place false) (is_asleep_at (machine a).machine.place) (slot-ended outcome.ending a h.0)
 
-childless : (ticket k : ℕ) (p : Tree (Spot Paged)) → broods_of p ≡ no_brood → wakes (child_of ticket k p) ≡ false
+childless : (ticket k : ℕ) (p : Tree Member) → broods_of p ≡ no_brood → wakes (child_of ticket k p) ≡ false
 unfolding brood_of child_at
 childless ticket k p empty = ap (λ broods. wakes (child_at k (brood_of ticket broods))) empty
 
-module _ (depot : Shelves) (cells : BTreeMap Path Cell) (t : Tree (Spot Paged)) (h : ShowsCells depot cells t) where
+module _ (depot : Shelves) (cells : BTreeMap Path Cell) (t : Tree Member) (h : ShowsCells depot cells t) where
   pub none-sleeps : (parent : Path) (ticket k : ℕ) → get path_cmp cells parent ≡ None → sleeps parent ticket k t ≡ false
   unfolding subtree
   none-sleeps parent ticket k none = by (subtree parent t) refl
     where
-      by : (u : Option (Tree (Spot Paged))) → subtree parent t ≡ u → sleeps parent ticket k t ≡ false
-      by None e = ap wakes (child-below parent ticket k t None e)
+      by : (u : Option (Tree Member)) → subtree parent t ≡ u → sleeps parent ticket k t ≡ false
+      by None e = wakes-any (is_resting paged_machines paged_talks (child_path parent ticket k) t) (subtree (child_path parent ticket k) t)
+          ∙ ap wakes (child-below parent ticket k t None e)
       by (Some p) e =
-          let no_cell : IsNoCell p = subst (λ c. Shows depot parent c (Some p)) none (subst (Shows depot parent (get path_cmp cells parent)) e (h.shows parent)) in
-          elim (awake-there depot cells t h.sound parent (λ way b rest is. h.shows way) p h.root e) [
+          let no_cell : IsNoCell p = subst (λ c. Shows depot parent (rests_in t parent) c (Some p)) none
+          (subst (Shows depot parent (rests_in t parent) (get path_cmp cells parent)) e (h.shows parent)) in
+          elim (awake-there depot cells t h.whole.sound parent (rests_in t) (λ way b rest is. h.shows way) p h.root e) [
             | inl awake ↦ absurd (never-both p awake no_cell)
             | inr empty ↦ sleeps-by parent ticket k t p e ∙ childless ticket k p empty
           ]
 
 -- what a slot that is asleep or not is of
-slot-sleeps : (path : Path) (ticket : ℕ) (key : Key) (k : ℕ) (seed : Descriptor) (slots : List ChildSlot) (trees : Trees (Spot Paged)) (j : ℕ)
+slot-sleeps : (path : Path) (ticket : ℕ) (key : Key) (k : ℕ) (seed : Descriptor) (slots : List ChildSlot) (trees : Trees Member) (j : ℕ)
     → SlotsShow path ticket key k seed slots trees → slice_get slots j ≡ Some Asleep → wakes (child_at (suc j) trees) ≡ true
 unfolding SlotsShow child_at
 slot-sleeps path ticket key k seed [] no_tree j h there = absurd (cc)
@@ -107,7 +128,7 @@ slot-sleeps path ticket key k seed (slot ∷ slots) (tree t rest) zero h there =
 slot-sleeps path ticket key k seed (slot ∷ slots) (tree t rest) (suc j) h there =
     slot-sleeps path ticket key (suc k) seed slots rest j h.1 there
 
-slot-wakes : (path : Path) (ticket : ℕ) (key : Key) (k : ℕ) (seed : Descriptor) (slots : List ChildSlot) (trees : Trees (Spot Paged)) (j : ℕ)
+slot-wakes : (path : Path) (ticket : ℕ) (key : Key) (k : ℕ) (seed : Descriptor) (slots : List ChildSlot) (trees : Trees Member) (j : ℕ)
     → SlotsShow path ticket key k seed slots trees → IsNotAsleep (slice_get slots j) → wakes (child_at (suc j) trees) ≡ false
 unfolding SlotsShow child_at
 slot-wakes path ticket key k seed [] no_tree j h there = refl
@@ -118,17 +139,17 @@ slot-wakes path ticket key k seed (slot ∷ slots) (tree t rest) zero h there =
   where
     by : (slot : ChildSlot) → IsNotAsleep (Some slot) → is_asleep_slot (Some slot) ≡ false
     by Asleep there = absurd there
-    by Awake there = refl
+    by (Awake name) there = refl
     by (Ended outcome) there = refl
 slot-wakes path ticket key k seed (slot ∷ slots) (tree t rest) (suc j) h there =
     slot-wakes path ticket key (suc k) seed slots rest j h.1 there
 
-not-zero : (trees : Trees (Spot Paged)) → wakes (child_at 0 trees) ≡ false
+not-zero : (trees : Trees Member) → wakes (child_at 0 trees) ≡ false
 unfolding child_at
 not-zero no_tree = refl
 not-zero (tree t rest) = refl
 
-born-sleeps : (depot : Shelves) (path : Path) (ticket k : ℕ) (image : Option ForkImage) (slots : List ChildSlot) (trees : Trees (Spot Paged))
+born-sleeps : (depot : Shelves) (path : Path) (ticket k : ℕ) (image : Option ForkImage) (slots : List ChildSlot) (trees : Trees Member)
     → BornShows depot path ticket image slots trees → 1 ≤ k → slot_at k slots ≡ Some Asleep → wakes (child_at k trees) ≡ true
 born-sleeps depot path ticket k None slots trees h one there = absurd (subst IsNotAsleep there (h.2 (k - 1)))
 born-sleeps depot path ticket zero (Some image) slots trees h one there = absurd (omega arith)
@@ -136,20 +157,20 @@ born-sleeps depot path ticket (suc j) (Some image) slots trees h one there =
     let same : suc j - 1 ≡ j = omega arith in
     slot-sleeps path ticket image.key 1 image.seed slots trees j h.1 (ap (slice_get slots) (sym same) ∙ there)
 
-shown-wakes : (path : Path) (ticket k : ℕ) (key : Key) (seed : Descriptor) (slots : List ChildSlot) (trees : Trees (Spot Paged))
+shown-wakes : (path : Path) (ticket k : ℕ) (key : Key) (seed : Descriptor) (slots : List ChildSlot) (trees : Trees Member)
     → SlotsShow path ticket key 1 seed slots trees → (1 ≤ k → IsNotAsleep (slot_at k slots)) → wakes (child_at k trees) ≡ false
 shown-wakes path ticket zero key seed slots trees h there = not-zero trees
 shown-wakes path ticket (suc j) key seed slots trees h there =
     let same : suc j - 1 ≡ j = omega arith in
     slot-wakes path ticket key 1 seed slots trees j h (subst (λ i. IsNotAsleep (slice_get slots i)) same (there (omega arith)))
 
-born-wakes : (depot : Shelves) (path : Path) (ticket k : ℕ) (image : Option ForkImage) (slots : List ChildSlot) (trees : Trees (Spot Paged))
+born-wakes : (depot : Shelves) (path : Path) (ticket k : ℕ) (image : Option ForkImage) (slots : List ChildSlot) (trees : Trees Member)
     → BornShows depot path ticket image slots trees → (1 ≤ k → IsNotAsleep (slot_at k slots)) → wakes (child_at k trees) ≡ false
 born-wakes depot path ticket k None slots trees h there = shown-wakes path ticket k h.0 h.1 slots trees h.3 there
 born-wakes depot path ticket k (Some image) slots trees h there = shown-wakes path ticket k image.key image.seed slots trees h.1 there
 
 -- a child's slot tells whether it is still a descriptor
-born-slot : (depot : Shelves) (path : Path) (ticket k : ℕ) (image : Option ForkImage) (slots : List ChildSlot) (trees : Trees (Spot Paged))
+born-slot : (depot : Shelves) (path : Path) (ticket k : ℕ) (image : Option ForkImage) (slots : List ChildSlot) (trees : Trees Member)
     → BornShows depot path ticket image slots trees → ltb 0 k && is_asleep_slot (slot_at k slots) ≡ wakes (child_at k trees)
 born-slot depot path ticket zero image slots trees h = sym (not-zero trees)
 born-slot depot path ticket (suc j) image slots trees h =
@@ -158,24 +179,24 @@ born-slot depot path ticket (suc j) image slots trees h =
     by : (o : Option ChildSlot) → slot_at (suc j) slots ≡ o → is_asleep_slot (slot_at (suc j) slots) ≡ wakes (child_at (suc j) trees)
     by None e = ap is_asleep_slot e ∙ sym (born-wakes depot path ticket (suc j) image slots trees h (λ one. subst IsNotAsleep (sym e) tt))
     by (Some Asleep) e = ap is_asleep_slot e ∙ sym (born-sleeps depot path ticket (suc j) image slots trees h (omega arith) e)
-    by (Some Awake) e = ap is_asleep_slot e ∙ sym (born-wakes depot path ticket (suc j) image slots trees h (λ one. subst IsNotAsleep (sym e) tt))
+    by (Some (Awake name)) e = ap is_asleep_slot e ∙ sym (born-wakes depot path ticket (suc j) image slots trees h (λ one. subst IsNotAsleep (sym e) tt))
     by (Some (Ended outcome)) e = ap is_asleep_slot e ∙ sym (born-wakes depot path ticket (suc j) image slots trees h (λ one. subst IsNotAsleep (sym e) tt))
 
 -- the cell, where there is one, shows the machine of its name
-pub cell-shows : (depot : Shelves) (path : Path) (c : Option Cell) (cell : Cell) (u : Option (Tree (Spot Paged))) → c ≡ Some cell → Shows depot path c u
-    → (t : Tree (Spot Paged)) × (u ≡ Some t) × CellShows depot path cell t
-cell-shows depot path None cell u e h = absurd (cc)
-cell-shows depot path (Some c) cell None e h = absurd h
-cell-shows depot path (Some c) cell (Some t) e h = (t, refl, subst (λ d. CellShows depot path d t) (some-same c cell e) h)
+pub cell-shows : (depot : Shelves) (path : Path) (resting : Bool) (c : Option Cell) (cell : Cell) (u : Option (Tree Member)) → c ≡ Some cell
+    → Shows depot path resting c u → (t : Tree Member) × (u ≡ Some t) × CellShows depot path resting cell t
+cell-shows depot path resting None cell u e h = absurd (cc)
+cell-shows depot path resting (Some c) cell None e h = absurd h
+cell-shows depot path resting (Some c) cell (Some t) e h = (t, refl, subst (λ d. CellShows depot path resting d t) (some-same c cell e) h)
 
-module _ (depot : Shelves) (cells : BTreeMap Path Cell) (t : Tree (Spot Paged)) (h : ShowsCells depot cells t) (parent : Path) (ticket first : ℕ) where
+module _ (depot : Shelves) (cells : BTreeMap Path Cell) (t : Tree Member) (h : ShowsCells depot cells t) (parent : Path) (ticket first : ℕ) where
   pub first-no_cell : get path_cmp cells parent ≡ None → IsFirstAsleep parent ticket first t None
   first-no_cell none = λ k le. none-sleeps depot cells t h parent ticket k none
 
   pub first-no_brood : (c : Cell) → get path_cmp cells parent ≡ Some c → get nat_cmp c.broods ticket ≡ None → IsFirstAsleep parent ticket first t None
   unfolding child_at
   first-no_brood c some none =
-      let shown = cell-shows depot parent (get path_cmp cells parent) c (subtree parent t) some (h.shows parent) in
+      let shown = cell-shows depot parent (rests_in t parent) (get path_cmp cells parent) c (subtree parent t) some (h.shows parent) in
       λ k le.
       sleeps-by parent ticket k t shown.0 shown.1
       ∙ ap (λ trees. wakes (child_at k trees)) (none-held depot parent c shown.0 shown.2.holds ticket none)
@@ -183,7 +204,7 @@ module _ (depot : Shelves) (cells : BTreeMap Path Cell) (t : Tree (Spot Paged)) 
   pub sleeps-slot : (c : Cell) (b : Brood) → get path_cmp cells parent ≡ Some c → get nat_cmp c.broods ticket ≡ Some b
       → ltb 0 first && is_asleep_slot (slot_at first b.slots.items) ≡ sleeps parent ticket first t
   sleeps-slot c b some held =
-      let shown = cell-shows depot parent (get path_cmp cells parent) c (subtree parent t) some (h.shows parent) in
+      let shown = cell-shows depot parent (rests_in t parent) (get path_cmp cells parent) c (subtree parent t) some (h.shows parent) in
       born-slot depot parent ticket first b.image b.slots.items (brood_of ticket (broods_of shown.0))
       (one-held depot parent c shown.0 shown.2.holds ticket b held).born
       ∙ sym (sleeps-by parent ticket first t shown.0 shown.1)
@@ -193,8 +214,8 @@ module _ (depot : Shelves) (cells : BTreeMap Path Cell) (t : Tree (Spot Paged)) 
       (λ index. (from ≤ index) × (slot_at index b.slots.items ≡ Some Asleep) × ((k : ℕ) → from ≤ k → k < index → IsNotAsleep (slot_at k b.slots.items)))
       → IsFirstAsleep parent ticket first t r
   first-in c b from r some held start found =
-      let shown = cell-shows depot parent (get path_cmp cells parent) c (subtree parent t) some (h.shows parent) in
-      let trees : Trees (Spot Paged) = brood_of ticket (broods_of shown.0) in
+      let shown = cell-shows depot parent (rests_in t parent) (get path_cmp cells parent) c (subtree parent t) some (h.shows parent) in
+      let trees : Trees Member = brood_of ticket (broods_of shown.0) in
       let born = (one-held depot parent c shown.0 shown.2.holds ticket b held).born in
       by r found
       (λ k. sleeps-by parent ticket k t shown.0 shown.1)

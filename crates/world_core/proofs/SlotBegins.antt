@@ -1,4 +1,5 @@
 -- The cell of a machine that has no ticket.
+use Rattle.sibling_forest.specs.Talk.{Inbox, boxed}
 use Rattle.std.proofs.Common.{◌≡◌, ℕ, false, [], length, None, is_some, vec_len, refl, sym, ap, subst, arith}
 use Rattle.std.specs.Ordering.{nat_cmp}
 use Rattle.std.specs.BTreeMap.{get, is_at, btree_map_len}
@@ -24,10 +25,10 @@ pub record IsEmptyCell (c : Cell) : Type 0 where
 none-got : (c : Cell) (ticket : ℕ) → IsEmptyCell c → get nat_cmp c.broods ticket ≡ None
 none-got c ticket h = ap (lookup (is_at (nat_cmp ticket))) h.no_brood
 
-pub alone-holds : (depot : Shelves) (path : Path) (c : Cell) (m : Paged) (place : Place) → IsEmptyCell c → ((ticket : ℕ) → is_cloned paged_machines m ticket ≡ false)
-    → Holds depot path c (alone forest (record { machine = m; place = place }))
-unfolding spots log_lines brood_of
-alone-holds depot path c m place h none = record {
+pub alone-holds : (depot : Shelves) (path : Path) (c : Cell) (m : Paged) (place : Place) (inbox : Inbox) → IsEmptyCell c → ((ticket : ℕ) → is_cloned paged_machines m ticket ≡ false)
+    → Holds depot path c (alone forest (record { machine = record { machine = m; place = place }; inbox = inbox }))
+unfolding boxed spots log_lines brood_of
+alone-holds depot path c m place inbox h none = record {
   tallies = record {
     log = h.no_line;
     room = let n : btree_map_len c.broods ≡ 0 = ap length h.no_brood in omega (arith, h.no_length);
@@ -40,6 +41,7 @@ alone-holds depot path c m place h none = record {
       (subst (λ cloned. BroodAt depot path ticket None cloned no_tree) (sym (none ticket)) refl);
 }
 
-pub alone-awake : (m : Paged) (place : Place) → m.machine.ending ≡ None → is_asleep_at place ≡ false → IsAwake (alone forest (record { machine = m; place = place }))
-unfolding spots paged_machines machines
-alone-awake m place lives awake = record { lives = ap is_some lives; awake = awake }
+pub alone-awake : (m : Paged) (place : Place) (inbox : Inbox) → m.machine.ending ≡ None → is_asleep_at place ≡ false
+    → IsAwake (alone forest (record { machine = record { machine = m; place = place }; inbox = inbox }))
+unfolding boxed spots paged_machines machines
+alone-awake m place inbox lives awake = record { lives = ap is_some lives; awake = awake }

@@ -9,26 +9,24 @@ use Rattle.forest_tree.specs.Operations.{Call, clone, join, kill, is_cloned}
 use Rattle.forest_tree.specs.Tree.{Tree, Trees, no_tree, tree, Broods, machine, broods_of, brood_of, child_at, at_child, at_brood, Path}
 use Rattle.forest_tree.specs.Settle.{has_ended, have_ended, waits_by}
 use Rattle.forest_tree.proofs.Places.{some-same, brood_of-at, at_child-none}
-use Rattle.forest_history.specs.Places.{Spot}
 use Rattle.forest_history.specs.Children.{life, living}
 use Rattle.forest_history.proofs.Lives.{none-lives, one-child}
-use Rattle.forest_model.specs.Paged.{Paged}
 use Rattle.world_core.specs.declared.cell.Brood.{Brood}
 use Rattle.world_core.specs.declared.cell.Cell.{Cell}
-use Rattle.world_core.specs.Shows.{forest, BroodShows, BroodAt, Holds}
+use Rattle.world_core.specs.Shows.{Member, forest, BroodShows, BroodAt, Holds}
 
 -- where a ticket has no brood, it has no child
-pub no-child : (depot : Shelves) (path : Path) (ticket : ℕ) (cloned : Bool) (trees : Trees (Spot Paged)) → BroodAt depot path ticket None cloned trees
+pub no-child : (depot : Shelves) (path : Path) (ticket : ℕ) (cloned : Bool) (trees : Trees Member) → BroodAt depot path ticket None cloned trees
     → trees ≡ no_tree
 no-child depot path ticket true trees h = absurd h
 no-child depot path ticket false trees h = h
 
-pub brood-shows : (depot : Shelves) (path : Path) (ticket : ℕ) (b : Brood) (cloned : Bool) (trees : Trees (Spot Paged))
+pub brood-shows : (depot : Shelves) (path : Path) (ticket : ℕ) (b : Brood) (cloned : Bool) (trees : Trees Member)
     → BroodAt depot path ticket (Some b) cloned trees → BroodShows depot path ticket b trees
 brood-shows depot path ticket b true trees h = h
 brood-shows depot path ticket b false trees h = absurd h
 
-module _ (depot : Shelves) (path : Path) (c : Cell) (t : Tree (Spot Paged)) (h : Holds depot path c t) (ticket : ℕ) where
+module _ (depot : Shelves) (path : Path) (c : Cell) (t : Tree Member) (h : Holds depot path c t) (ticket : ℕ) where
   pub none-held : get nat_cmp c.broods ticket ≡ None → brood_of ticket (broods_of t) ≡ no_tree
   none-held none =
       no-child depot path ticket (is_cloned forest (machine t) ticket) (brood_of ticket (broods_of t))
@@ -43,20 +41,20 @@ some-live : (n : ℕ) → nat_lt 0 n ≡ not (eqb n 0)
 some-live n = grind (arith, nat_tests)
 
 -- some child lives
-pub waits-by-brood : (depot : Shelves) (path : Path) (c : Cell) (t : Tree (Spot Paged)) (ticket : ℕ) (b : Brood) → Holds depot path c t
+pub waits-by-brood : (depot : Shelves) (path : Path) (c : Cell) (t : Tree Member) (ticket : ℕ) (b : Brood) → Holds depot path c t
     → get nat_cmp c.broods ticket ≡ Some b → nat_lt 0 b.live ≡ not (have_ended forest (brood_of ticket (broods_of t)))
 waits-by-brood depot path c t ticket b h some =
     some-live b.live
     ∙ ap (λ n. not (eqb n 0)) (one-held depot path c t h ticket b some).live
     ∙ sym (ap not (none-lives forest (brood_of ticket (broods_of t))))
 
-pub waits-for-none : (depot : Shelves) (path : Path) (c : Cell) (t : Tree (Spot Paged)) (ticket : ℕ) → Holds depot path c t
+pub waits-for-none : (depot : Shelves) (path : Path) (c : Cell) (t : Tree Member) (ticket : ℕ) → Holds depot path c t
     → get nat_cmp c.broods ticket ≡ None → false ≡ not (have_ended forest (brood_of ticket (broods_of t)))
 unfolding have_ended
 waits-for-none depot path c t ticket h none = sym (ap (λ trees. not (have_ended forest trees)) (none-held depot path c t h ticket none))
 
 -- a child that lives is one of those that do
-pub has-life : (k : ℕ) (trees : Trees (Spot Paged)) (a : Tree (Spot Paged)) → child_at k trees ≡ Some a → life forest a ≤ living forest trees
+pub has-life : (k : ℕ) (trees : Trees Member) (a : Tree Member) → child_at k trees ≡ Some a → life forest a ≤ living forest trees
 unfolding living child_at
 has-life k no_tree a found = absurd (cc)
 has-life zero (tree t rest) a found = absurd (cc)
@@ -64,9 +62,9 @@ has-life (suc zero) (tree t rest) a found = subst (λ u. life forest u ≤ life 
 has-life (suc (suc k)) (tree t rest) a found = let later : life forest a ≤ living forest rest = has-life (suc k) rest a found in omega arith
 
 -- a child is another, of which so many live then
-module _ (ticket index : ℕ) (a b : Tree (Spot Paged)) (before : Broods (Spot Paged)) (found : child_at index (brood_of ticket before) ≡ Some a)
+module _ (ticket index : ℕ) (a b : Tree Member) (before : Broods Member) (found : child_at index (brood_of ticket before) ≡ Some a)
     (lives : has_ended forest a ≡ false) where
-  abbrev after : Broods (Spot Paged)
+  abbrev after : Broods Member
   after = at_brood (at_child (λ a. b) index) ticket before
 
   abbrev left : ℕ

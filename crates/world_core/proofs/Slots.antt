@@ -2,27 +2,25 @@
 use Rattle.std.proofs.Common.{◌≡◌, ℕ, zero, suc, ◌+◌, List, [], ◌∷◌, Some, slice_get, slice_set, refl, subst, arith}
 use Rattle.forest_tree.specs.Tree.{Tree, Trees, no_tree, tree, at_child, child_at, Path}
 use Rattle.forest_tree.proofs.Places.{some-same}
-use Rattle.forest_history.specs.Places.{Spot}
-use Rattle.forest_model.specs.Paged.{Paged}
 use Rattle.image_depot.specs.Key.{Key}
 use Rattle.vm_descriptor.specs.declared.descriptor.Descriptor.{Descriptor}
 use Rattle.vm_descriptor.specs.Descriptor.{numbered}
 use Rattle.machine_names.specs.Name.{child_path}
 use Rattle.world_core.specs.declared.cell.ChildSlot.{ChildSlot}
-use Rattle.world_core.specs.Shows.{SlotShows, SlotsShow}
+use Rattle.world_core.specs.Shows.{Member, SlotShows, SlotsShow}
 
 -- a child has a slot at its place, and is born of the seed by its number
-pub record HasSlot (path : Path) (ticket : ℕ) (key : Key) (k j : ℕ) (seed : Descriptor) (slots : List ChildSlot) (a : Tree (Spot Paged)) : Type 0 where
+pub record HasSlot (path : Path) (ticket : ℕ) (key : Key) (k j : ℕ) (seed : Descriptor) (slots : List ChildSlot) (a : Tree Member) : Type 0 where
   pub slot : ChildSlot
   pub slot_at : slice_get slots j ≡ Some slot
   pub shows : SlotShows (child_path path ticket (k + j)) key (numbered (k + j) seed) slot a
 
 module _ (path : Path) (ticket : ℕ) (key : Key) where
-  cast-shows : (seed : Descriptor) (slot : ChildSlot) (a : Tree (Spot Paged)) (n m : ℕ) → n ≡ m → SlotShows (child_path path ticket n) key (numbered n seed) slot a
+  cast-shows : (seed : Descriptor) (slot : ChildSlot) (a : Tree Member) (n m : ℕ) → n ≡ m → SlotShows (child_path path ticket n) key (numbered n seed) slot a
       → SlotShows (child_path path ticket m) key (numbered m seed) slot a
   cast-shows seed slot a n m e h = subst (λ i. SlotShows (child_path path ticket i) key (numbered i seed) slot a) e h
 
-  pub slot-of : (k : ℕ) (seed : Descriptor) (slots : List ChildSlot) (trees : Trees (Spot Paged)) (j : ℕ) (a : Tree (Spot Paged))
+  pub slot-of : (k : ℕ) (seed : Descriptor) (slots : List ChildSlot) (trees : Trees Member) (j : ℕ) (a : Tree Member)
       → SlotsShow path ticket key k seed slots trees → child_at (suc j) trees ≡ Some a → HasSlot path ticket key k j seed slots a
   unfolding SlotsShow child_at
   slot-of k seed slots no_tree j a h found = absurd (cc)
@@ -41,7 +39,7 @@ module _ (path : Path) (ticket : ℕ) (key : Key) where
       }
 
   -- a child in another slot
-  pub with-slot : (k : ℕ) (seed : Descriptor) (slots : List ChildSlot) (trees : Trees (Spot Paged)) (j : ℕ) (b : Tree (Spot Paged)) (slot : ChildSlot)
+  pub with-slot : (k : ℕ) (seed : Descriptor) (slots : List ChildSlot) (trees : Trees Member) (j : ℕ) (b : Tree Member) (slot : ChildSlot)
       → SlotsShow path ticket key k seed slots trees → SlotShows (child_path path ticket (k + j)) key (numbered (k + j) seed) slot b
       → SlotsShow path ticket key k seed (slice_set slots j slot) (at_child (λ a. b) (suc j) trees)
   unfolding SlotsShow at_child
@@ -54,7 +52,7 @@ module _ (path : Path) (ticket : ℕ) (key : Key) where
       (h.0, with-slot (suc k) seed slots rest j b slot h.1 (cast-shows seed slot b (k + suc j) (suc k + j) (omega arith) shows))
 
 -- a child's number is one at least
-pub not-first : (trees : Trees (Spot Paged)) (a : Tree (Spot Paged)) → child_at 0 trees ≡ Some a → ⊥
+pub not-first : (trees : Trees Member) (a : Tree Member) → child_at 0 trees ≡ Some a → ⊥
 unfolding child_at
 not-first no_tree a found = cc
 not-first (tree t rest) a found = cc

@@ -4,15 +4,13 @@ use Rattle.std.specs.Option.{IfSome}
 use Rattle.std.specs.BTreeMap.{get}
 use Rattle.image_depot.specs.Key.{Shelves}
 use Rattle.forest_tree.specs.Tree.{Path, subtree}
-use Rattle.forest_history.specs.World.{is_ready}
-use Rattle.forest_model.specs.Paged.{paged_machines}
 use Rattle.machine_names.specs.NameOrder.{path_cmp}
 use Rattle.world_core.specs.declared.cell.Cell.{Cell}
 use Rattle.world_core.specs.Shows.{Shows}
 use Rattle.world_core.specs.declared.world.World.{World}
 use Rattle.ready_queue.specs.Ready.{Ready}
 use Rattle.world_core.specs.Listed.{CoversBy, IsListed, IsCovered}
-use Rattle.world_core.specs.World.{Forest, IsDue, ShowsLive, ShowsTree, StandsFor}
+use Rattle.world_core.specs.World.{Forest, IsDue, ShowsLive, ShowsTree, StandsFor, is_ready_in, rests_in}
 use Rattle.world_core.specs.Popped.{is_listed_in, with_turn}
 use Rattle.world_core.proofs.Returns.{same-or-apart}
 
@@ -50,7 +48,7 @@ module _ (depot : Shelves) (turn : Ready) (w v : World) (f : Forest) (one : turn
   listed-apart n other =
       subst (λ o. IfSome o (λ (c : Cell). c.is_listed ≡ true → IsListed n v.ready)) (sym (others n other))
       (subst (λ turns. IfSome (get path_cmp w.cells n) (λ (c : Cell). c.is_listed ≡ true → IsListed n turns)) (sym ready)
-      (by (get path_cmp w.cells n) (shows-before.listed n)))
+      (by (get path_cmp w.cells n) (shows-before.each.listed n)))
     where
       by : (o : Option Cell) → IfSome o (λ (c : Cell). c.is_listed ≡ true → IsListed n (turn ∷ w.ready)) → IfSome o (λ (c : Cell). c.is_listed ≡ true → IsListed n w.ready)
       by None listed = tt
@@ -70,18 +68,20 @@ module _ (depot : Shelves) (turn : Ready) (w v : World) (f : Forest) (one : turn
   ]
 
   -- none is taken
-  pub popped : Shows depot turn.name (get path_cmp v.cells turn.name) (subtree turn.name f.tree)
-      → (is_ready paged_machines turn.name f.tree ≡ true → IsDue (get path_cmp v.cells turn.name) turn.name v.ready)
+  pub popped : Shows depot turn.name (rests_in f.tree turn.name) (get path_cmp v.cells turn.name) (subtree turn.name f.tree)
+      → (is_ready_in (rests_in f.tree) turn.name f.tree ≡ true → IsDue (get path_cmp v.cells turn.name) turn.name v.ready)
       → is_listed_in (get path_cmp v.cells turn.name) ≡ false → StandsFor depot v f
   popped at due none = record {
-    sound = h.sound;
+    whole = h.whole;
     halted = halted ∙ h.halted;
     tree = subst (λ o. ShowsTree o depot v f.tree) (sym going_on) (record {
       root = shows-before.root;
-      cells = all-apart {P = λ n. Shows depot n (get path_cmp v.cells n) (subtree n f.tree)} at
-          (λ n other. subst (λ c. Shows depot n c (subtree n f.tree)) (sym (others n other)) (shows-before.cells n));
-      ready = all-apart {P = λ n. is_ready paged_machines n f.tree ≡ true → IsDue (get path_cmp v.cells n) n v.ready} due
-          (λ n other is. due-apart n other (shows-before.ready n is));
-      listed = all-apart {P = λ n. IfSome (get path_cmp v.cells n) (λ (c : Cell). c.is_listed ≡ true → IsListed n v.ready)} (unlisted turn.name none) listed-apart;
+      each = record {
+        cells = all-apart {P = λ n. Shows depot n (rests_in f.tree n) (get path_cmp v.cells n) (subtree n f.tree)} at
+            (λ n other. subst (λ c. Shows depot n (rests_in f.tree n) c (subtree n f.tree)) (sym (others n other)) (shows-before.each.cells n));
+        ready = all-apart {P = λ n. is_ready_in (rests_in f.tree) n f.tree ≡ true → IsDue (get path_cmp v.cells n) n v.ready} due
+            (λ n other is. due-apart n other (shows-before.each.ready n is));
+        listed = all-apart {P = λ n. IfSome (get path_cmp v.cells n) (λ (c : Cell). c.is_listed ≡ true → IsListed n v.ready)} (unlisted turn.name none) listed-apart;
+      };
     });
   }

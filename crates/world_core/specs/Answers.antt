@@ -5,40 +5,42 @@ use Rattle.std.specs.declared.alloc.AllocError.{AllocError}
 use Rattle.fork_port.specs.declared.commands.Call.{Call}
 use Rattle.fork_port.specs.declared.commands.Call.TheVariants.{Clone, Join, Kill}
 use Rattle.fork_port.specs.declared.ending.Ending.{Ending}
+use Rattle.sibling_port.specs.declared.talk.Talk.{Talk}
+use Rattle.sibling_port.specs.declared.talk.Talk.TheVariants.{Send, Receive}
 use Rattle.forest_tree.specs.Tree.{Tree, node, machine, Path, subtree}
-use Rattle.forest_tree.specs.Settle.{has_ended, waits}
-use Rattle.forest_history.specs.Places.{out, Spot}
-use Rattle.forest_history.specs.World.{is_at_home}
-use Rattle.forest_history.specs.Rows.{How, gave, ended, forked, joined, killed, waited, Row, over, stopped, idle, took, wake_failed, spent, dropped, kept}
-use Rattle.forest_history.specs.Rows.{Allows, does}
+use Rattle.forest_tree.specs.Settle.{has_ended}
+use Rattle.forest_history.specs.Places.{at_path, out}
+use Rattle.talking_history.specs.World.{holds, is_at_home, is_resting}
+use Rattle.talking_history.specs.Rows.{How, gave, ended, forked, joined, killed, sent, received, waited}
+use Rattle.talking_history.specs.Rows.{Row, over, stopped, stuck, idle, took, wake_failed, spent, dropped, kept, Allows, does}
 use Rattle.world_core.specs.declared.reason.Reason.{Reason}
 use Rattle.world_core.specs.declared.world.World.{World}
 use Rattle.world_core.specs.declared.world.Placed.{Placed}
 use Rattle.world_core.specs.declared.world.Placed.TheVariants.{Done, Parked, Dropped, Memory}
 use Rattle.world_core.specs.declared.world.Taken.{Taken}
 use Rattle.world_core.specs.declared.world.Taken.TheVariants as taken
-use Rattle.forest_model.specs.Paged.{stalled_at, paged_machines, Paged, advanced_by}
+use Rattle.forest_model.specs.Paged.{stalled_at, paged_machines, paged_talks, Paged, advanced_by}
 use Rattle.std.specs.Option.{IfSome}
 use Rattle.vm_cell.specs.Keyed.{IsOfDepot, KeyedMachine, paged}
 use Rattle.world_core.specs.Lent.{Lent, now_of}
-use Rattle.world_core.specs.Shows.{forest}
+use Rattle.world_core.specs.Shows.{Member, forest, paged_of}
 use Rattle.world_core.specs.World.{Forest, StandsFor}
 
 -- the call is this row of the forest, and the world stands for what the row makes of it
 pub record Goes (depot : Shelves) (f : Forest) (row : Row Reason) (new : World) : Type 0 where
-  pub allowed : Allows paged_machines row f
-  pub after : StandsFor depot new (does paged_machines row f)
+  pub allowed : Allows paged_machines paged_talks row f
+  pub after : StandsFor depot new (does paged_machines paged_talks row f)
 
 -- the forest's machine is out, as it was when it was taken, with the pages that the steps on this lease lead to what
 -- is known of them now
-pub record IsOutAs (lease : Lent) (t : Tree (Spot Paged)) : Type 0 where
-  pub is_out : (machine t).place ≡ out
-  pub start : (machine t).machine.machine ≡ lease.start
-  pub pages : (advanced_by lease.ran (machine t).machine).pages ≡ lease.pages
+pub record IsOutAs (lease : Lent) (t : Tree Member) : Type 0 where
+  pub is_out : (machine t).machine.place ≡ out
+  pub start : (paged_of (machine t)).machine ≡ lease.start
+  pub pages : (advanced_by lease.ran (paged_of (machine t))).pages ≡ lease.pages
 
 -- the forest's machine is out, as it was when it was taken, whatever was known of its pages
-abbrev pub IsOutFrom : Lent → Tree (Spot Paged) → Type 0
-IsOutFrom lease t = ((machine t).place ≡ out) × ((machine t).machine.machine ≡ lease.start)
+abbrev pub IsOutFrom : Lent → Tree Member → Type 0
+IsOutFrom lease t = ((machine t).machine.place ≡ out) × ((paged_of (machine t)).machine ≡ lease.start)
 
 -- the machine of this name is out so, or the name is gone
 abbrev pub IsOutSince : Forest → Lent → Type 0
@@ -73,6 +75,11 @@ join_ticket (Some (Clone ticket)) = None
 join_ticket (Some (Join ticket)) = Some ticket
 join_ticket (Some (Kill ticket)) = None
 
+-- how a machine comes back that makes this talk
+abbrev pub said_by : Talk → How
+said_by (Send j) = sent
+said_by (Receive j) = received
+
 -- which calls may want memory
 abbrev pub MayWant : How → Type 0
 MayWant gave = ⊥
@@ -80,6 +87,8 @@ MayWant ended = ⊥
 MayWant forked = Unit {0}
 MayWant joined = Unit {0}
 MayWant killed = ⊥
+MayWant sent = Unit {0}
+MayWant received = ⊥
 MayWant waited = ⊥
 
 -- which may find that the machine waits
@@ -89,6 +98,8 @@ MayWait ended = ⊥
 MayWait forked = ⊥
 MayWait joined = Unit {0}
 MayWait killed = ⊥
+MayWait sent = Unit {0}
+MayWait received = Unit {0}
 MayWait waited = ⊥
 
 -- the answer to a lease that comes back so
@@ -107,32 +118,33 @@ home_by (Some ending) = ended
 pub record Starts (f : Forest) (lease : Lent) : Type 0 where
   pub ran : lease.ran ≡ 0
   pub now : lease.now ≡ lease.start
-  pub start : IfSome (subtree lease.name f.tree) (λ t. (machine t).machine ≡ now_of lease)
+  pub start : IfSome (subtree lease.name f.tree) (λ t. paged_of (machine t) ≡ now_of lease)
 
 -- the answer of `take`
 abbrev pub Takes : Shelves → Forest → Taken → World → Type 0
 Takes depot f taken.Over new = Goes depot f over new
 Takes depot f (taken.Stopped reason) new = Goes depot f (stopped reason) new
+Takes depot f taken.Stuck new = Goes depot f stuck new
 Takes depot f taken.Idle new = Goes depot f idle new
 Takes depot f (taken.Took lease) new = Goes depot f (took lease.name) new × Starts f lease × IsLentOf depot lease
 Takes depot f taken.Memory new = Goes depot f wake_failed new
 
 -- the answer of `take_named`, which takes a machine that waits too
 abbrev pub TakesNamed : Shelves → Forest → Path → Result (Option Lent) AllocError → World → Type 0
-TakesNamed depot f name (Ok None) new = (is_at_home paged_machines name f.tree ≡ false) × StandsFor depot new f
+TakesNamed depot f name (Ok None) new = (is_at_home paged_machines paged_talks name f.tree ≡ false) × StandsFor depot new f
 TakesNamed depot f name (Ok (Some lease)) new =
-    (is_at_home paged_machines name f.tree ≡ true) × (lease.name ≡ name) × Starts f lease × IsLentOf depot lease
-    × StandsFor depot new (does paged_machines (took name) f)
+    (is_at_home paged_machines paged_talks name f.tree ≡ true) × (lease.name ≡ name) × Starts f lease × IsLentOf depot lease
+    × StandsFor depot new (does paged_machines paged_talks (took name) f)
 TakesNamed depot f name (Err e) new = StandsFor depot new f
 
 -- the tree with its machine as it stands now
-abbrev pub with_machine : Paged → Tree (Spot Paged) → Tree (Spot Paged)
-with_machine m (node s broods log) = node (record s { machine = m }) broods log
+abbrev pub with_machine : Paged → Tree Member → Tree Member
+with_machine m (node b broods log) = node (record b { machine = record b.machine { machine = m } }) broods log
 
--- its machine stands at the JOIN of a ticket of which a child lives
-abbrev pub stands_waiting : Tree (Spot Paged) → Bool
-stands_waiting t = not (has_ended forest t) && waits forest t
+-- a live machine of this name waits: for a child of the ticket that it joins, or with its talk for a sibling
+abbrev pub stands_waiting : Path → Tree Member → Bool
+stands_waiting name t = holds (λ a. not (has_ended forest a)) (subtree name t) && is_resting paged_machines paged_talks name t
 
--- so does this one in its place: one whose next step stalls stands at no call
-abbrev pub stands_waiting_of : KeyedMachine → Tree (Spot Paged) → Bool
-stands_waiting_of v t = not (is_some (stalled_at (paged v))) && stands_waiting (with_machine (paged v) t)
+-- so does this one in its place: one whose next step stalls stands at no call and no talk
+abbrev pub stands_waiting_of : KeyedMachine → Path → Tree Member → Bool
+stands_waiting_of v name t = not (is_some (stalled_at (paged v))) && stands_waiting name (at_path (with_machine (paged v)) name t)

@@ -4,16 +4,18 @@ use Rattle.image_depot.specs.Key.{Shelves}
 use Rattle.cow_disk.specs.declared.arrived.Arrived.{Arrived}
 use Rattle.cow_disk.specs.declared.arrived.Arrived.TheVariants.{Got, Had}
 use Rattle.forest_tree.specs.Tree.{Tree, node, Path}
-use Rattle.forest_history.specs.Places.{at_path, Spot}
-use Rattle.forest_model.specs.Paged.{Paged, Pages, pages_arrived}
+use Rattle.forest_history.specs.Places.{at_path}
+use Rattle.forest_model.specs.Paged.{Pages, pages_arrived}
 use Rattle.world_core.specs.declared.world.World.{World}
 use Rattle.world_core.specs.Lent.{Lent}
+use Rattle.world_core.specs.Shows.{Member, paged_of}
 use Rattle.world_core.specs.World.{Forest, StandsFor}
 use Rattle.world_core.specs.Answers.{IsHandedOut}
 
 -- the tree, with other flags of its machine's pages
-abbrev pub flagged : (Pages → Pages) → Tree (Spot Paged) → Tree (Spot Paged)
-flagged flags (node s broods log) = node (record s { machine = record s.machine { pages = flags s.machine.pages } }) broods log
+abbrev pub flagged : (Pages → Pages) → Tree Member → Tree Member
+flagged flags (node b broods log) =
+    node (record b { machine = record b.machine { machine = record (paged_of b) { pages = flags (paged_of b).pages } } }) broods log
 
 -- the forest, with other flags of the pages of the machine of this name
 abbrev pub with_flags : Path → (Pages → Pages) → Forest → Forest

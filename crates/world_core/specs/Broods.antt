@@ -1,5 +1,5 @@
 -- What the slots of a brood tell of its children.
-use Rattle.std.specs.Prelude.{ℕ, List, [], ◌∷◌, vec_len}
+use Rattle.std.specs.Prelude.{ℕ, List, [], ◌∷◌, Option, Some, None, vec_len}
 use Rattle.std.specs.List.{flat_map}
 use Rattle.fork_port.specs.declared.ending.Ending.{Ending}
 use Rattle.run_report.specs.Lines.{Line, ticket_line}
@@ -8,11 +8,15 @@ use Rattle.world_core.specs.declared.cell.Brood.{Brood}
 use Rattle.world_core.specs.declared.cell.ChildSlot.{ChildSlot}
 use Rattle.world_core.specs.declared.cell.ChildSlot.TheVariants.{Asleep, Awake, Ended}
 
+abbrev pub listed_ending : Option Ending → List Ending
+listed_ending None = []
+listed_ending (Some ending) = ending ∷ []
+
 -- how the child in a slot ended, if it has
 abbrev pub endings_in : ChildSlot → List Ending
 endings_in Asleep = []
-endings_in Awake = []
-endings_in (Ended outcome) = outcome.ending ∷ []
+endings_in (Awake name) = []
+endings_in (Ended outcome) = listed_ending outcome.ending
 
 -- how the children ended that have, in order
 abbrev pub slot_endings : List ChildSlot → List Ending
@@ -21,7 +25,7 @@ slot_endings slots = flat_map endings_in slots
 -- the lines of the child in a slot, if it has ended
 abbrev pub lines_in : ChildSlot → List Line
 lines_in Asleep = []
-lines_in Awake = []
+lines_in (Awake name) = []
 lines_in (Ended outcome) = lines_of outcome
 
 -- the lines of the children that have ended, in order
@@ -31,3 +35,7 @@ slot_lines slots = flat_map lines_in slots
 -- the line of a brood by its ticket, where the ticket is killed
 abbrev pub killed_line : ℕ × Brood → Line
 killed_line entry = ticket_line entry.1.name entry.0 (vec_len entry.1.slots)
+
+-- those of the children of a brood
+abbrev pub brood_lines : ℕ × Brood → List Line
+brood_lines entry = slot_lines entry.1.slots.items

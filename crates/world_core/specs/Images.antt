@@ -31,7 +31,7 @@ IsImageAt images path key = IfSome key (λ k. image_at images path ≡ Some (num
 
 abbrev pub IsStateAt : Images → Path → State → Type 0
 IsStateAt images path (Home vm) = IsImageAt images path vm.value.key
-IsStateAt images path (Parked ticket vm turn) = IsImageAt images path vm.value.key
+IsStateAt images path (Parked awaited vm turn) = IsImageAt images path vm.value.key
 IsStateAt images path (Out start) = IsImageAt images path start.value.key
 
 -- what the children of a ticket start with, as long as it is kept, is of the image of their brood
@@ -60,6 +60,7 @@ IsLentAt images lease = IsImageAt images lease.name lease.key
 abbrev pub IsTakenAt : Images → Taken → Type 0
 IsTakenAt images taken.Over = Unit {0}
 IsTakenAt images (taken.Stopped reason) = Unit {0}
+IsTakenAt images taken.Stuck = Unit {0}
 IsTakenAt images taken.Idle = Unit {0}
 IsTakenAt images (taken.Took lease) = IsLentAt images lease
 IsTakenAt images taken.Memory = Unit {0}

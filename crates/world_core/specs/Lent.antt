@@ -6,6 +6,7 @@ use Rattle.image_depot.specs.Key.{Key}
 use Rattle.forest_model.specs.Paged.{Pages, Paged, advanced_by}
 use Rattle.ready_queue.specs.Ready.{Ready}
 use Rattle.vm_cell.specs.Keyed.{KeyedMachine, paged}
+use Rattle.world_core.specs.Kin.{IsKin}
 
 pub record Lent : Type 0 where
   pub name : Path
@@ -40,9 +41,10 @@ pub record IsLent (start : Machine) (ran : ℕ) (now : Machine) : Type 0 where
 abbrev pub HasLed : Lent → Type 0
 HasLed lease = (pages : Pages) × ((advanced_by lease.ran (record { machine = lease.start; pages = pages })).pages ≡ lease.pages)
 
--- a lease has its machine's own turn, and the steps since it was taken
-pub record IsLease (turn : Ready) (start : Machine) (ran : ℕ) (vm : KeyedMachine) : Type 0 where
+-- a lease has its machine's own turn, the name of its parent, and the steps since it was taken
+pub record IsLease (turn : Ready) (parent : Option Path) (start : Machine) (ran : ℕ) (vm : KeyedMachine) : Type 0 where
   pub own : turn.children ≡ None
+  pub kin : IsKin parent turn.name
   pub made : IsLent start ran vm.machine
   pub led : HasLed (lent_as turn.name start ran vm)
 

@@ -1,3 +1,4 @@
+pub mod Kin
 pub mod Lent
 pub mod Listed
 pub mod PreparedFork
@@ -12,3 +13,7 @@ pub mod Popped
 pub mod Received
 pub mod Told
 pub mod Images
+pub mod Talking
+pub mod Stirring
+pub mod Spoken
+pub mod Outcome

@@ -1,5 +1,5 @@
 -- The children of a CLONE, before they wake.
-use Rattle.std.specs.Prelude.{◌≡◌, ℕ, ◌≤◌, List, replicate, Some}
+use Rattle.std.specs.Prelude.{◌≡◌, ℕ, ◌≤◌, ◌<◌, List, [], replicate, Some}
 use Rattle.fork_port.specs.declared.commands.Call.TheVariants.{Clone}
 use Rattle.forest_tree.specs.Tree.{Path}
 use Rattle.forest_model.specs.Forest.{machines}
@@ -13,6 +13,10 @@ use Rattle.world_core.specs.declared.cell.Brood.{Brood}
 use Rattle.world_core.specs.declared.cell.ChildSlot.{ChildSlot}
 use Rattle.world_core.specs.declared.cell.ChildSlot.TheVariants.{Asleep}
 use Rattle.ready_queue.specs.Ready.{Ready}
+use Rattle.sibling_words.specs.declared.words.SiblingWords.{SiblingWords}
+use Rattle.sibling_words.specs.declared.notes.SiblingNotes.{SiblingNotes}
+use Rattle.sibling_words.specs.Words.{words_of}
+use Rattle.sibling_words.specs.Notes.{noted, room_of}
 use Rattle.world_core.specs.Lent.{Lent, vm_of}
 
 -- the children of a CLONE
@@ -36,9 +40,17 @@ pub record IsPreparedFor (lease : Lent) (prepared : Prepared) : Type 0 where
 abbrev pub IsPreparedIn : Shelves → Prepared → Type 0
 IsPreparedIn depot prepared = IsKeyOf depot prepared.image.key
 
+-- none of so many children waited for a sibling yet
+pub record IsSilent (children : ℕ) (notes : SiblingNotes) : Type 0 where
+  pub none : (k : ℕ) → noted notes k ≡ 0
+  pub room : children < room_of notes
+
 -- so many of them, before they wake: a slot for each, and a turn
-pub record IsPrepared (name : Path) (ticket children : ℕ) (items : List ChildSlot) (turn : Ready) : Type 0 where
+pub record IsPrepared (name : Path) (ticket children : ℕ) (items : List ChildSlot) (words : SiblingWords) (notes : SiblingNotes) (turn : Ready)
+    : Type 0 where
   pub slots : items ≡ replicate children Asleep
+  pub wordless : (to from : ℕ) → words_of words to from ≡ []
+  pub silent : IsSilent children notes
   pub few : children ≤ MAX_CLONES
   pub queued : turn ≡ record { name = name; children = Some (ticket, 1) }
 
@@ -48,6 +60,8 @@ pub record IsBroodOf (prepared : Prepared) (b : Brood) : Type 0 where
   pub image : b.image ≡ Some prepared.image
   pub slots : b.slots.items ≡ replicate prepared.children Asleep
   pub live : b.live ≡ prepared.children
+  pub wordless : (to from : ℕ) → words_of b.words to from ≡ []
+  pub silent : IsSilent prepared.children b.notes
   pub few : prepared.children ≤ MAX_CLONES
 
 -- the brood is of the ticket of this machine, which stands at its CLONE
@@ -56,6 +70,8 @@ pub record IsNewBrood (depot : Shelves) (path : Path) (vm : KeyedMachine) (ticke
   pub image : b.image ≡ Some left
   pub slots : b.slots.items ≡ replicate (machines.grant vm.machine ticket).children Asleep
   pub live : b.live ≡ (machines.grant vm.machine ticket).children
+  pub wordless : (to from : ℕ) → words_of b.words to from ≡ []
+  pub silent : IsSilent (machines.grant vm.machine ticket).children b.notes
   pub few : (machines.grant vm.machine ticket).children ≤ MAX_CLONES
   pub key : IsKeyOf depot left.key
   pub seeds : AreSeeds vm left.key (machines.grant vm.machine ticket).children left.seed

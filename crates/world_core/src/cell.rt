@@ -1,22 +1,24 @@
-ghost use Rattle.std.specs.Prelude.{◌≡◌, ◌+◌, ◌≤◌, ◌<◌, ◌⊎◌, ℕ, ◌&&◌, true, false, not, nat_lt, Option, Some, None, IfOk, IfSome, OnOk, OnErr, MatchOption, vec_len};
+ghost use Rattle.std.specs.Prelude.{◌≡◌, ◌+◌, ◌≤◌, ◌<◌, ◌⊎◌, ℕ, ◌&&◌, Bool, true, false, not};
+ghost use Rattle.std.specs.Prelude.{nat_lt, [], Option, Some, None, IfOk, IfSome, MatchOption, vec_len};
 ghost use Rattle.image_depot.specs.Key.{Shelves};
-ghost use Rattle.forest_tree.specs.Operations.{clone, join, kill, is_cloned};
-ghost use Rattle.forest_tree.specs.Tree.{Tree, machine, brood_of, broods_of, Path};
-ghost use Rattle.forest_tree.specs.Settle.{alone, endings, has_ended, have_ended};
-ghost use Rattle.forest_tree.specs.Sound.{IsSound};
-ghost use Rattle.forest_history.specs.Places.{Spot, home, out, placed};
-ghost use Rattle.forest_history.specs.World.{is_asleep_at, lives_ready, lives_at_home};
-ghost use Rattle.forest_model.specs.Calls.{after_join, after_kill, forked};
-ghost use Rattle.forest_model.specs.Paged.{Paged, paged_machines};
-ghost use Rattle.run_report.specs.Lines.{lines};
+ghost use Rattle.forest_tree.specs.Operations.{is_cloned};
+ghost use Rattle.forest_tree.specs.Tree.{Tree, machine, brood_of, broods_of, size, Path};
+ghost use Rattle.forest_tree.specs.Settle.{alone, has_ended, have_ended};
+ghost use Rattle.sibling_forest.specs.Talk.{Inbox};
+ghost use Rattle.forest_history.specs.Places.{home, out};
+ghost use Rattle.forest_history.specs.World.{is_asleep_at};
+ghost use Rattle.talking_history.specs.Places.{placed};
+ghost use Rattle.talking_history.specs.World.{lives_ready, lives_at_home};
+ghost use Rattle.forest_model.specs.Paged.{paged_machines, paged_talks};
 ghost use Rattle.machine_names.specs.Name.{child_path};
-ghost use Rattle.run_report.specs.Report.{lines_of};
 ghost use Rattle.vm_cell.specs.Keyed.{IsOfDepot, paged};
-ghost use Rattle.vm_cell.specs.Standing.{IsClone, IsJoin, IsKill, standing_call};
 ghost use Rattle.vm_descriptor.specs.declared.descriptor.TheConstants.{MAX_CLONES};
+ghost use Rattle.world_core.specs.Kin.{IsKin};
 ghost use Rattle.world_core.specs.Images.{HasImages, Images, IsImageAt};
-ghost use Rattle.world_core.specs.Unparked.{unparked, is_parked_for, kept_turn};
-ghost use Rattle.world_core.specs.Shows.{CellShows, Holds, HoldsAfter, IsAwake, IsLeft, IsNotAsleep, StandsAt, Tallies, child_of, is_asleep_slot, slot_at, ended_tree, forest, forked_tree, joined_tree, killed_tree, told_spot, with_child};
+ghost use Rattle.world_core.specs.Between.{HasLeft};
+ghost use Rattle.world_core.specs.Unparked.{JoinsAlone, ends_wait, is_parked_for, kept_turn, rests_with, unparked};
+ghost use Rattle.world_core.specs.Shows.{CellShows, Holds, IsAwake, IsLeft, IsNotAsleep, Member, child_of};
+ghost use Rattle.world_core.specs.Shows.{is_asleep_slot, slot_at, forest, paged_of, siblings_of, with_child};
 
 use forest_model::Ending;
 use fork_port::Call;
@@ -24,6 +26,8 @@ use image_depot::Depot;
 use machine_names::Name;
 use ready_queue::ReadyTurn;
 use run_report::{Line, Outcome};
+use sibling_port::Talk;
+use sibling_words::{SiblingNotes, SiblingWords};
 use std::alloc::{AllocError, Global};
 use std::collections::BTreeMap;
 use std::mem;
@@ -33,10 +37,13 @@ use vm_cell::{ForkImage, Vm};
 
 mod broods;
 mod calls;
+pub(crate) mod talks;
 
 /// A machine that lives and is no descriptor any more.
 #[derive(Drop)]
 pub(crate) struct Cell {
+    /// The name of its parent, where it has one. While the machine is on lease, the lease has it.
+    pub(crate) kin: Option<Name>,
     pub(crate) state: State,
     /// A turn for it is among those of its world.
     pub(crate) is_listed: bool,
@@ -51,10 +58,32 @@ pub(crate) struct Cell {
 pub(crate) enum State {
     /// It is at home, and can be handed out.
     Home(Box<Vm>),
-    /// It is at home, and waits for the children of a ticket. It keeps the room for its turn.
-    Parked(u32, Box<Vm>, ReadyTurn),
+    /// It is at home, and waits. It keeps the room for its turn.
+    Parked(Awaited, Box<Vm>, ReadyTurn),
     /// It is on lease. Contracts see the machine that was handed out.
     Out(Snapshot<Vm>),
+}
+
+/// What a parked machine waits for.
+#[derive(Clone, Copy)]
+pub(crate) enum Awaited {
+    /// That all children of a ticket have ended.
+    Children(u32),
+    /// That it need not wait with its next step, which is this talk.
+    Sibling(Talk),
+}
+
+/// What may end a wait.
+#[derive(Clone, Copy)]
+pub(crate) enum Change {
+    /// All children of this ticket have ended.
+    AllEnded(u32),
+    /// A word of this sibling has come.
+    Word(u32),
+    /// This sibling has taken a word.
+    Room(u32),
+    /// This sibling has ended.
+    Ended(u32),
 }
 
 /// The children of a ticket.
@@ -68,6 +97,10 @@ pub(crate) struct Brood {
     pub(crate) slots: Vec<ChildSlot>,
     /// How many of them have not ended.
     pub(crate) live: u32,
+    /// The words that wait between them.
+    pub(crate) words: SiblingWords,
+    /// Which of them came to wait for which.
+    pub(crate) notes: SiblingNotes,
 }
 
 /// A child of a ticket.
@@ -75,20 +108,22 @@ pub(crate) struct Brood {
 pub(crate) enum ChildSlot {
     /// It is still a descriptor.
     Asleep,
-    /// It lives, in a cell of its own.
-    Awake,
+    /// It lives, in the cell of this name.
+    Awake(Name),
     Ended(Outcome),
 }
 
 impl Cell {
     /// The cell of a machine that is handed out as it wakes.
     pub(crate) fn of_lent(alloc: Global, vm: &Vm) -> Cell
-        ensures shows { (depot : Shelves) (path : Path) → vm.now.machine.ending ≡ None → ((ticket : ℕ) → is_cloned paged_machines (paged vm.now) ticket ≡ false)
-            → CellShows depot path result (alone forest (record { machine = paged vm.now; place = out })) }
+        ensures shows { (depot : Shelves) (path : Path) (resting : Bool) (inbox : Inbox) → vm.now.machine.ending ≡ None
+            → ((ticket : ℕ) → is_cloned paged_machines (paged vm.now) ticket ≡ false)
+            → CellShows depot path resting result (alone forest (record { machine = record { machine = paged vm.now; place = out }; inbox = inbox })) }
         ensures images { (images : Images) (path : Path) → IsImageAt images path vm.now.key → HasImages images path result }
         ensures listed { result.is_listed ≡ false }
     {
         Cell {
+            kin: None,
             state: State::Out(Snapshot::of(vm)),
             is_listed: false,
             broods: BTreeMap::new(alloc),
@@ -98,12 +133,14 @@ impl Cell {
 
     /// The cell of a machine that is at home from its start on, and whose turn is listed.
     pub(crate) fn of_root(alloc: Global, vm: Box<Vm>) -> Cell
-        ensures shows { (depot : Shelves) (path : Path) → vm.value.machine.ending ≡ None → IsOfDepot depot vm.value.key → ((ticket : ℕ) → is_cloned paged_machines (paged vm.value) ticket ≡ false)
-            → CellShows depot path result (alone forest (record { machine = paged vm.value; place = home })) }
+        ensures shows { (depot : Shelves) (resting : Bool) (inbox : Inbox) → vm.value.machine.ending ≡ None → IsOfDepot depot vm.value.key
+            → ((ticket : ℕ) → is_cloned paged_machines (paged vm.value) ticket ≡ false)
+            → CellShows depot [] resting result (alone forest (record { machine = record { machine = paged vm.value; place = home }; inbox = inbox })) }
         ensures images { (images : Images) (path : Path) → IsImageAt images path vm.value.key → HasImages images path result }
         ensures listed { result.is_listed ≡ true }
     {
         Cell {
+            kin: None,
             state: State::Home(vm),
             is_listed: true,
             broods: BTreeMap::new(alloc),
@@ -113,7 +150,7 @@ impl Cell {
 
     /// Whether a child of the ticket lives.
     pub(crate) fn waits(&self, ticket: u32) -> bool
-        ensures { (depot : Shelves) (path : Path) (t : Tree (Spot Paged)) → Holds depot path self.now t
+        ensures { (depot : Shelves) (path : Path) (t : Tree Member) → Holds depot path self.now t
             → result ≡ not (have_ended forest (brood_of ticket (broods_of t))) }
     {
         match self.broods.get(&ticket) {
@@ -124,12 +161,13 @@ impl Cell {
 
     /// Hands out the machine, if it is at home and does not wait.
     pub(crate) fn lend(&mut self) -> Option<Box<Vm>>
-        ensures shows { (depot : Shelves) (path : Path) (t : Tree (Spot Paged)) → CellShows depot path self.old t
-            → MatchOption result ((lives_ready paged_machines t ≡ false) × (self.new ≡ self.old))
-            (λ vm. (lives_ready paged_machines t ≡ true) × (paged vm.value ≡ (machine t).machine) × IsOfDepot depot vm.value.key × CellShows depot path self.new (placed out t)) }
+        ensures shows { (depot : Shelves) (path : Path) (resting : Bool) (t : Tree Member) → CellShows depot path resting self.old t
+            → MatchOption result ((lives_ready paged_machines paged_talks resting t ≡ false) × (self.new ≡ self.old))
+            (λ vm. (lives_ready paged_machines paged_talks resting t ≡ true) × (paged vm.value ≡ paged_of (machine t)) × IsOfDepot depot vm.value.key
+            × IsKin self.old.kin path × CellShows depot path resting self.new (placed out t)) }
         ensures images { (images : Images) (path : Path) → HasImages images path self.old
             → HasImages images path self.new × IfSome result (λ vm. IsImageAt images path vm.value.key) }
-        ensures place { self.new.is_listed ≡ self.old.is_listed }
+        ensures place { (self.new.is_listed ≡ self.old.is_listed) × (self.new.kin ≡ self.old.kin) }
     {
         if let State::Home(vm) = &self.state {
             let out = State::Out(Snapshot::of(&**vm));
@@ -143,12 +181,13 @@ impl Cell {
 
     /// Hands out the machine, if it is at home, where it waits too.
     pub(crate) fn lend_named(&mut self) -> Option<Box<Vm>>
-        ensures shows { (depot : Shelves) (path : Path) (t : Tree (Spot Paged)) → CellShows depot path self.old t
-            → MatchOption result ((lives_at_home paged_machines t ≡ false) × (self.new ≡ self.old))
-            (λ vm. (lives_at_home paged_machines t ≡ true) × (paged vm.value ≡ (machine t).machine) × IsOfDepot depot vm.value.key × CellShows depot path self.new (placed out t)) }
+        ensures shows { (depot : Shelves) (path : Path) (resting : Bool) (t : Tree Member) → CellShows depot path resting self.old t
+            → MatchOption result ((lives_at_home paged_machines paged_talks t ≡ false) × (self.new ≡ self.old))
+            (λ vm. (lives_at_home paged_machines paged_talks t ≡ true) × (paged vm.value ≡ paged_of (machine t)) × IsOfDepot depot vm.value.key
+            × IsKin self.old.kin path × CellShows depot path resting self.new (placed out t)) }
         ensures images { (images : Images) (path : Path) → HasImages images path self.old
             → HasImages images path self.new × IfSome result (λ vm. IsImageAt images path vm.value.key) }
-        ensures place { self.new.is_listed ≡ self.old.is_listed }
+        ensures place { (self.new.is_listed ≡ self.old.is_listed) × (self.new.kin ≡ self.old.kin) }
     {
         if let State::Parked(_, vm, _) = &self.state {
             let out = State::Out(Snapshot::of(&**vm));
@@ -168,11 +207,11 @@ impl Cell {
         ticket: u32,
         index: u32,
     ) -> Result<Vm, AllocError>
-        requires { (path : Path) × (t a : Tree (Spot Paged)) × Holds depot.now path self.now t × (child_of ticket index t ≡ Some a) × (is_asleep_at (machine a).place ≡ true)
-            × (has_ended forest a ≡ false) }
-        ensures shows { (path : Path) (t a : Tree (Spot Paged)) → Holds depot.now path self.now t → child_of ticket index t ≡ Some a
-            → is_asleep_at (machine a).place ≡ true → has_ended forest a ≡ false
-            → IfOk result (λ vm. (paged vm ≡ (machine a).machine) × IsOfDepot depot.now vm.key) }
+        requires { (path : Path) × (t a : Tree Member) × Holds depot.now path self.now t × (child_of ticket index t ≡ Some a)
+            × (is_asleep_at (machine a).machine.place ≡ true) × (has_ended forest a ≡ false) }
+        ensures shows { (path : Path) (t a : Tree Member) → Holds depot.now path self.now t → child_of ticket index t ≡ Some a
+            → is_asleep_at (machine a).machine.place ≡ true → has_ended forest a ≡ false → siblings_of (machine a) ≡ size (brood_of ticket (broods_of t))
+            → IfOk result (λ vm. (paged vm ≡ paged_of (machine a)) × IsOfDepot depot.now vm.key) }
         ensures images { (images : Images) (path : Path) → HasImages images path self.now
             → IfOk result (λ vm. IsImageAt images (child_path path ticket index) vm.key) }
     {
@@ -183,68 +222,74 @@ impl Cell {
             unreachable!();
         };
         let seed = image.seed.through_bytes(alloc, index)?;
-        Vm::wake(alloc, &seed, &image.key, depot)
+        Vm::wake(alloc, &seed, brood.slots.len() as u32, &image.key, depot)
     }
 
-    /// A child has a cell of its own from now on.
-    pub(crate) fn child_wakes(&mut self, ticket: u32, index: u32)
-        requires { (depot : Shelves) × (path : Path) × (t a : Tree (Spot Paged)) × Holds depot path self.old t × (child_of ticket index t ≡ Some a) × (is_asleep_at (machine a).place ≡ true)
-            × (has_ended forest a ≡ false) }
-        ensures shows { (depot : Shelves) (path : Path) (t a : Tree (Spot Paged)) → CellShows depot path self.old t → child_of ticket index t ≡ Some a
-            → is_asleep_at (machine a).place ≡ true → has_ended forest a ≡ false
-            → CellShows depot path self.new (with_child ticket index (placed out a) t) }
+    /// A child has a cell of its own from now on, of this name.
+    pub(crate) fn child_wakes(&mut self, ticket: u32, index: u32, name: Name)
+        requires { (depot : Shelves) × (path : Path) × (t a : Tree Member) × Holds depot path self.old t × (child_of ticket index t ≡ Some a)
+            × (is_asleep_at (machine a).machine.place ≡ true) × (has_ended forest a ≡ false) }
+        ensures shows { (depot : Shelves) (path : Path) (resting : Bool) (t a : Tree Member) → CellShows depot path resting self.old t
+            → child_of ticket index t ≡ Some a → is_asleep_at (machine a).machine.place ≡ true → has_ended forest a ≡ false
+            → name ≡ child_path path ticket index → CellShows depot path resting self.new (with_child ticket index (placed out a) t) }
         ensures images { (images : Images) (path : Path) → HasImages images path self.old → HasImages images path self.new }
-        ensures place { self.new.is_listed ≡ self.old.is_listed }
+        ensures place { (self.new.is_listed ≡ self.old.is_listed) × (self.new.kin ≡ self.old.kin) }
     {
         let Some(brood) = self.broods.get_mut(&ticket) else {
             unreachable!();
         };
-        brood.slots[index as usize - 1] = ChildSlot::Awake;
+        brood.slots[index as usize - 1] = ChildSlot::Awake(name);
         brood.let_go();
     }
 
-    /// A child of the machine has ended. The machine's turn comes back where it waited for that.
+    /// A child of the machine has ended, and the words to it are dropped. The machine's turn comes back where it waited
+    /// for that.
     pub(crate) fn child_ended(
         &mut self,
         ticket: u32,
         index: u32,
         outcome: Outcome,
     ) -> Option<ReadyTurn>
-        requires { (depot : Shelves) × (path : Path) × (t a : Tree (Spot Paged)) × CellShows depot path self.old t × (child_of ticket index t ≡ Some a) × IsAwake a }
-        ensures shows { (depot : Shelves) (path : Path) (t a b : Tree (Spot Paged)) → CellShows depot path self.old t
-            → child_of ticket index t ≡ Some a → IsAwake a → (told_spot.ending (machine b) ≡ Some outcome.ending)
-            → (lines_of outcome ≡ lines told_spot (child_path path ticket index) b) → CellShows depot path self.new (with_child ticket index b t) }
+        requires { (depot : Shelves) × (path : Path) × (resting : Bool) × (t a : Tree Member) × CellShows depot path resting self.old t
+            × (child_of ticket index t ≡ Some a) × IsAwake a }
+        ensures shows { (depot : Shelves) (path : Path) (by_talk : Bool) (t a b : Tree Member) → JoinsAlone by_talk t
+            → CellShows depot path (rests_with by_talk t) self.old t → child_of ticket index t ≡ Some a → IsAwake a
+            → HasLeft (child_path path ticket index) b outcome
+            → CellShows depot path (rests_with by_talk (with_child ticket index b t)) self.new (with_child ticket index b t) }
         ensures images { (images : Images) (path : Path) → HasImages images path self.old → HasImages images path self.new }
-        ensures turn { (depot : Shelves) (path : Path) (t : Tree (Spot Paged)) → CellShows depot path self.old t
+        ensures turn { (depot : Shelves) (path : Path) (resting : Bool) (t : Tree Member) → CellShows depot path resting self.old t
             → IfSome result (λ turn. turn ≡ record { name = path; children = None }) }
         ensures listed { MatchOption result (self.new.is_listed ≡ self.old.is_listed) (λ turn. self.new.is_listed ≡ true) }
-        ensures ready { (depot : Shelves) (path : Path) (t a b : Tree (Spot Paged)) → CellShows depot path self.old t → child_of ticket index t ≡ Some a → IsAwake a
-            → (told_spot.ending (machine b) ≡ Some outcome.ending) → lives_ready paged_machines (with_child ticket index b t) ≡ true
-            → (lives_ready paged_machines t ≡ true) ⊎ (self.new.is_listed ≡ true) }
+        ensures ready { (depot : Shelves) (path : Path) (by_talk : Bool) (t a b : Tree Member) → JoinsAlone by_talk t
+            → CellShows depot path (rests_with by_talk t) self.old t → child_of ticket index t ≡ Some a → IsAwake a
+            → HasLeft (child_path path ticket index) b outcome
+            → lives_ready paged_machines paged_talks (rests_with by_talk (with_child ticket index b t)) (with_child ticket index b t) ≡ true
+            → (lives_ready paged_machines paged_talks (rests_with by_talk t) t ≡ true) ⊎ (self.new.is_listed ≡ true) }
     {
         let Some(brood) = self.broods.get_mut(&ticket) else {
             unreachable!();
         };
         brood.slots[index as usize - 1] = ChildSlot::Ended(outcome);
+        brood.words.clear(index);
         brood.live -= 1;
         if brood.live > 0 {
             return None;
         }
-        self.unpark(ticket)
+        self.unpark(Change::AllEnded(ticket))
     }
 
-    /// Ends the wait for the children of a ticket. The machine's turn comes back where it is to be listed.
-    fn unpark(&mut self, ticket: u32) -> Option<ReadyTurn>
-        ensures state { self.new.state ≡ unparked ticket self.old.state }
-        ensures rest { (self.new.broods ≡ self.old.broods) × (self.new.log ≡ self.old.log) }
+    /// Ends a wait, where the change ends it. The machine's turn comes back where it is to be listed.
+    pub(crate) fn unpark(&mut self, change: Change) -> Option<ReadyTurn>
+        ensures state { self.new.state ≡ unparked change self.old.state }
+        ensures rest { (self.new.broods ≡ self.old.broods) × (self.new.log ≡ self.old.log) × (self.new.kin ≡ self.old.kin) }
         ensures turn { IfSome result (λ turn. kept_turn self.old.state ≡ Some turn) }
         ensures listed { MatchOption result (self.new.is_listed ≡ self.old.is_listed) (λ turn. self.new.is_listed ≡ true) }
-        ensures ready { is_parked_for ticket self.old.state ≡ true → self.new.is_listed ≡ true }
+        ensures ready { is_parked_for change self.old.state ≡ true → self.new.is_listed ≡ true }
     {
-        let State::Parked(waited, vm, _) = &self.state else {
+        let State::Parked(awaited, vm, _) = &self.state else {
             return None;
         };
-        if *waited != ticket {
+        if !change.ends(*awaited) {
             return None;
         }
         let out = State::Out(Snapshot::of(&**vm));
@@ -257,6 +302,22 @@ impl Cell {
         }
         self.is_listed = true;
         Some(turn)
+    }
+}
+
+impl Change {
+    /// Whether it ends a wait for this.
+    fn ends(self, awaited: Awaited) -> bool
+        ensures { result ≡ ends_wait self awaited }
+    {
+        match (self, awaited) {
+            (Change::AllEnded(ticket), Awaited::Children(waited)) => ticket == waited,
+            (Change::Word(from), Awaited::Sibling(Talk::Receive(peer))) => from == peer,
+            (Change::Room(to), Awaited::Sibling(Talk::Send(peer))) => to == peer,
+            (Change::Ended(sibling), Awaited::Sibling(Talk::Send(peer))) => sibling == peer,
+            (Change::Ended(sibling), Awaited::Sibling(Talk::Receive(peer))) => sibling == peer,
+            _ => false,
+        }
     }
 }
 

@@ -6,11 +6,12 @@ ghost use Rattle.forest_model.specs.Paged.{stalled_at};
 ghost use Rattle.vm_cell.specs.Acts.{Grows};
 ghost use Rattle.vm_cell.specs.Keyed.{Arrives, HasImage, IsOfDepot, paged};
 ghost use Rattle.vm_cell.specs.Shown.{peeked, shown_registers};
-ghost use Rattle.vm_cell.specs.Standing.{standing_call};
+ghost use Rattle.vm_cell.specs.Standing.{standing_call, standing_talk};
 ghost use Rattle.vm_cell.specs.Steps.{IsFreeFor, Stands, moved_by};
 ghost use Rattle.world_core.specs.Answers.{IsHandedOut, IsOutSince, join_ticket};
 ghost use Rattle.world_core.specs.Arrived.{StillHandedOut, after_arrival};
 ghost use Rattle.world_core.specs.Lent.{HasLed, IsSameLease, lent_as, vm_of};
+ghost use Rattle.world_core.specs.Kin.{IsKin};
 ghost use Rattle.world_core.specs.World.{Forest, StandsFor};
 ghost use Rattle.world_core.specs.declared.world.World.{World};
 
@@ -20,15 +21,18 @@ use fork_port::Call;
 use image_depot::{Depot, ImageKey, Parcel};
 use machine_names::Name;
 use ready_queue::ReadyTurn;
+use sibling_port::Talk;
 use std::alloc::{AllocError, Global};
 use std::marker::Model;
 use std::snapshot::Snapshot;
 use vm_cell::{Arrived, Ran, Slots, Stepped, Vm};
 
 /// A machine on lease. It runs by itself, and nothing else runs it meanwhile. A lease cannot be let go: it is
-/// spent by the world that handed it out, in `give`, `end`, `fork`, `commit_fork`, `join` or `kill`.
+/// spent by the world that handed it out, in `give`, `end`, `fork`, `commit_fork`, `join`, `kill` or `talk`.
 pub struct Lease {
     pub(crate) turn: ReadyTurn,
+    /// The name of its parent, or `None` where it is the root.
+    pub(crate) kin: Option<Name>,
     pub(crate) vm: Box<Vm>,
     pub(crate) ran: u64,
     pub(crate) start: Snapshot<Vm>,
@@ -41,18 +45,20 @@ impl Model for Lease {
 
     ghost view = { λ l. lent_as l.turn.name l.start.value.machine l.ran l.vm.value };
 
-    ghost invariant = { λ l. IsLease l.turn l.start.value.machine l.ran l.vm.value };
+    ghost invariant = { λ l. IsLease l.turn l.kin l.start.value.machine l.ran l.vm.value };
 }
 
 impl Lease {
-    /// A machine that is handed out, with the turn of its name.
-    pub(crate) fn new(turn: ReadyTurn, vm: Box<Vm>) -> Lease
-        requires { turn.children ≡ None }
+    /// A machine that is handed out, with the turn of its name and the name of its parent.
+    pub(crate) fn new(turn: ReadyTurn, kin: Option<Name>, vm: Box<Vm>) -> Lease
+        requires own { turn.children ≡ None }
+        requires kin { IsKin kin turn.name }
         ensures { result ≡ lent_as turn.name vm.value.machine 0 vm.value }
     {
         let start = Snapshot::of(&*vm);
         Lease {
             turn,
+            kin,
             vm,
             ran: 0,
             start,
@@ -63,6 +69,7 @@ impl Lease {
     pub(crate) fn discard(self) {
         let Lease {
             turn: _,
+            kin: _,
             vm: _,
             ran: _,
             start: _,
@@ -100,6 +107,13 @@ impl Lease {
         ensures { result ≡ standing_call (vm_of self.now) }
     {
         self.vm.call()
+    }
+
+    /// The talk that the machine is to make next, if it is to make one.
+    pub fn talk(&self) -> Option<Talk>
+        ensures { result ≡ standing_talk (vm_of self.now) }
+    {
+        self.vm.talk()
     }
 
     /// The ticket of the JOIN that the machine is to make next, if it is to make one.
@@ -181,7 +195,8 @@ impl Lease {
         ensures err { OnErr result (self.new ≡ self.old) }
         // A world stands for the forest in which the page is here.
         ensures handed { (w : World) (f : Forest) → StandsFor depot.now w f → IsHandedOut f self.old
-            → IfOk result (λ arrived. StandsFor depot.now w (after_arrival self.old.name arrived f) × IsHandedOut (after_arrival self.old.name arrived f) self.new) }
+            → IfOk result (λ arrived. StandsFor depot.now w (after_arrival self.old.name arrived f)
+            × IsHandedOut (after_arrival self.old.name arrived f) self.new) }
     {
         self.vm.arrive(alloc, depot, parcel)
     }
@@ -193,7 +208,7 @@ impl Lease {
         self.vm.regs()
     }
 
-    /// Makes at most `most` steps, until the machine ends, stalls or is to make a call. After an `Err` the steps
+    /// Makes at most `most` steps, until the machine ends, stalls or is to make a call or a talk. After an `Err` the steps
     /// before it stand, and `ran` tells them. The slots may be those of runs of other machines.
     pub fn run(&mut self, slots: &mut Slots, most: u64) -> Result<Ran, AllocError>
         ensures same { IsSameLease self.old self.new }

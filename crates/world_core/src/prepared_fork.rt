@@ -12,6 +12,7 @@ use fork_port::Call;
 use image_depot::Depot;
 use machine_names::Name;
 use ready_queue::ReadyTurn;
+use sibling_words::{SiblingNotes, SiblingWords};
 use std::alloc::{AllocError, Global};
 use std::marker::Model;
 use std::sync::Wait;
@@ -26,6 +27,8 @@ pub struct PreparedFork {
     image: ForkImage,
     /// One for each of them. All are asleep.
     slots: Vec<ChildSlot>,
+    words: SiblingWords,
+    notes: SiblingNotes,
     turn: ReadyTurn,
 }
 
@@ -37,7 +40,7 @@ impl Model for PreparedFork {
 
     ghost view = { λ l. record { name = l.name; ticket = l.ticket; children = vec_len l.slots; image = l.image } };
 
-    ghost invariant = { λ l. IsPrepared l.name l.ticket (vec_len l.slots) l.slots.items l.turn };
+    ghost invariant = { λ l. IsPrepared l.name l.ticket (vec_len l.slots) l.slots.items l.words l.notes l.turn };
 }
 
 impl Lease {
@@ -58,6 +61,7 @@ impl Lease {
             unreachable!();
         };
         let slots = all_asleep(alloc, self.vm.granted(ticket))?;
+        let notes = SiblingNotes::with_room(alloc, slots.len() as u32)?;
         let turn = ReadyTurn::of_children(alloc, self.name().copy()?, ticket)?;
         let name = self.name().copy()?;
         // Last, since the depot keeps the image, whatever fails after it.
@@ -67,6 +71,8 @@ impl Lease {
             ticket,
             image,
             slots,
+            words: SiblingWords::new(alloc),
+            notes,
             turn,
         })
     }
@@ -84,6 +90,8 @@ impl PreparedFork {
             ticket,
             image,
             slots,
+            words,
+            notes,
             turn,
         } = self;
         let live = slots.len() as u32;
@@ -92,6 +100,8 @@ impl PreparedFork {
             image: Some(image),
             slots,
             live,
+            words,
+            notes,
         };
         (ticket, brood, turn)
     }

@@ -1,25 +1,27 @@
-ghost use Rattle.std.specs.Prelude.{◌≡◌, [], length, None, Some, true, false, IfOk, OnOk, OnErr, IfSome, IsSome, IsSomeAnd, MatchOption};
+ghost use Rattle.std.specs.Prelude.{◌≡◌, [], length, None, Some, true, false, IfOk, OnOk, OnErr, IfSome, IsSome, IsSomeAnd, MatchOption, Bool};
 ghost use Rattle.std.specs.BTreeMap.{Updates, get};
 ghost use Rattle.image_depot.specs.Key.{Shelves};
 ghost use Rattle.forest_tree.specs.Settle.{has_ended};
-ghost use Rattle.forest_tree.specs.Sound.{IsSound};
 ghost use Rattle.forest_tree.specs.Tree.{Path, Tree, machine, subtree};
-ghost use Rattle.forest_history.specs.Places.{Spot, home, placed};
-ghost use Rattle.forest_history.specs.World.{is_at_home, world_of};
-ghost use Rattle.forest_history.specs.Rows.{gave, ended, halted, does};
+ghost use Rattle.forest_history.specs.Places.{home};
+ghost use Rattle.talking_history.specs.Places.{placed};
+ghost use Rattle.talking_history.specs.World.{is_at_home, world_of};
+ghost use Rattle.talking_history.specs.Rows.{ended, halted, does};
 ghost use Rattle.forest_model.specs.Forest.{machines, port_of};
-ghost use Rattle.forest_model.specs.Paged.{Paged, paged_machines};
+ghost use Rattle.forest_model.specs.Paged.{paged_machines, paged_talks};
 ghost use Rattle.run_report.specs.Lines.{lines};
 ghost use Rattle.machine_names.specs.Name.{child_path};
 ghost use Rattle.machine_names.specs.NameOrder.{path_cmp};
 ghost use Rattle.run_report.specs.Report.{lines_of};
 ghost use Rattle.vm_cell.specs.Keyed.{IsOfDepot, paged};
-ghost use Rattle.world_core.specs.Images.{AreOfImages, HasImages, Images, IsImageAt, IsLentAt};
+ghost use Rattle.world_core.specs.Images.{AreOfImages, Images, IsImageAt, IsLentAt};
+ghost use Rattle.world_core.specs.Kin.{IsKin};
 ghost use Rattle.world_core.specs.Lent.{vm_of};
 ghost use Rattle.world_core.specs.Told.{told_of};
-ghost use Rattle.world_core.specs.Shows.{CellShows, IsAwake, child_of, forest, told_spot, ended_tree};
-ghost use Rattle.world_core.specs.World.{Forest, IsReached, StandsFor};
+ghost use Rattle.world_core.specs.Shows.{CellShows, IsAwake, Member, child_of, forest, told_member, ended_tree, paged_of};
+ghost use Rattle.world_core.specs.World.{Forest, IsForest, IsReached, StandsFor};
 ghost use Rattle.world_core.specs.Between.{HasLeft, IsBetween, IsLeaving, IsSameWorld, TakesOut, with_tree};
+ghost use Rattle.world_core.specs.Stirring.{IsStirring};
 ghost use Rattle.world_core.specs.Answers.{Answers, HandedOut, IsHandedOut, IsLentOf, home_by, stands_waiting_of};
 
 use crate::cell::{Cell, State};
@@ -35,7 +37,9 @@ use std::collections::BTreeMap;
 use vm_cell::Vm;
 
 mod calls;
+mod outcome;
 mod take;
+mod talks;
 mod told;
 
 /// What `take` hands out.
@@ -44,7 +48,9 @@ pub enum Taken {
     Over,
     /// The root lives, and this was the first reason to stop.
     Stopped(Reason),
-    /// Each live machine is on lease, or waits for children.
+    /// No machine is ready and none is on lease: each that lives waits, and none makes a step any more.
+    Stuck,
+    /// No machine is ready, and one is on lease.
     Idle,
     /// A machine that was ready.
     Took(Lease),
@@ -56,7 +62,7 @@ pub enum Taken {
 pub enum Placed {
     /// The change was made.
     Done,
-    /// The machine waits for a child that lives, and is parked at home.
+    /// The machine waits for a child that lives or for a sibling, and is parked at home.
     Parked,
     /// The machine's name is no longer in the forest, and the machine is dropped.
     Dropped,
@@ -91,11 +97,12 @@ impl Drop for World {
 }
 
 impl World {
-    /// The world of one machine, which has no ticket, and which has no absent page.
+    /// The world of one machine, which has no ticket, no siblings and no absent page.
     pub fn new(alloc: Global, vm: Vm, depot: &Depot) -> Result<World, AllocError>
         requires no_ticket { (port_of vm.machine).tickets ≡ [] }
+        requires no_siblings { vm.machine.state.ports.sibling.siblings ≡ 0 }
         requires every_page { vm.key ≡ None }
-        ensures stands { IfOk result (λ world. StandsFor depot.now world (world_of paged_machines (paged vm))) }
+        ensures stands { IfOk result (λ world. StandsFor depot.now world (world_of paged_machines paged_talks (paged vm))) }
         ensures told { IfOk result (λ world. told_of world ≡ []) }
         ensures images { IfOk result (λ world. (images : Images) → AreOfImages images world) }
     {
@@ -110,8 +117,9 @@ impl World {
     fn of_ended(alloc: Global, vm: Vm, ending: Ending) -> Result<World, AllocError>
         requires ended { vm.machine.ending ≡ Some ending }
         requires no_ticket { (port_of vm.machine).tickets ≡ [] }
+        requires no_siblings { vm.machine.state.ports.sibling.siblings ≡ 0 }
         requires good { machines.is_good vm.machine ≡ true }
-        ensures stands { IfOk result (λ world. (depot : Shelves) → StandsFor depot world (world_of paged_machines (paged vm))) }
+        ensures stands { IfOk result (λ world. (depot : Shelves) → StandsFor depot world (world_of paged_machines paged_talks (paged vm))) }
         ensures told { IfOk result (λ world. told_of world ≡ []) }
         ensures images { IfOk result (λ world. (images : Images) → AreOfImages images world) }
     {
@@ -125,7 +133,7 @@ impl World {
             ready: ReadyQueue::new(),
             halted: None,
             told,
-            outcome: Some(Outcome::new(root, ending, steps, output, log)),
+            outcome: Some(Outcome::new(root, Some(ending), steps, output, log)),
         })
     }
 
@@ -133,9 +141,10 @@ impl World {
     fn of_live(alloc: Global, vm: Vm) -> Result<World, AllocError>
         requires lives { vm.machine.ending ≡ None }
         requires no_ticket { (port_of vm.machine).tickets ≡ [] }
+        requires no_siblings { vm.machine.state.ports.sibling.siblings ≡ 0 }
         requires every_page { vm.key ≡ None }
         requires good { machines.is_good vm.machine ≡ true }
-        ensures stands { IfOk result (λ world. (depot : Shelves) → StandsFor depot world (world_of paged_machines (paged vm))) }
+        ensures stands { IfOk result (λ world. (depot : Shelves) → StandsFor depot world (world_of paged_machines paged_talks (paged vm))) }
         ensures told { IfOk result (λ world. told_of world ≡ []) }
         ensures images { IfOk result (λ world. (images : Images) → AreOfImages images world) }
     {
@@ -157,6 +166,7 @@ impl World {
     }
 
     /// Takes a machine back. It takes no memory.
+    #[inline]
     pub fn give(&mut self, lease: Lease) -> Placed
         requires { HandedOut self.old lease }
         ensures answers { (depot : Shelves) (f : Forest) → StandsFor depot self.old f → IsHandedOut f lease → IsLentOf depot lease
@@ -169,11 +179,12 @@ impl World {
         }
         let Lease {
             turn,
+            kin,
             vm,
             ran: _,
             start: _,
         } = lease;
-        self.home(turn, vm)
+        self.home(turn, kin, vm)
     }
 
     /// Takes back a machine that has ended, and drops its descendants. It takes no memory.
@@ -187,6 +198,7 @@ impl World {
     {
         let Lease {
             turn,
+            kin: _,
             vm,
             ran: _,
             start: _,
@@ -200,7 +212,7 @@ impl World {
     /// No machine is handed out from now on, for the first reason that is given.
     pub fn stop(&mut self, reason: Reason)
         ensures stands { (depot : Shelves) (f : Forest) → StandsFor depot self.old f
-            → StandsFor depot self.new (does paged_machines (halted reason) f) }
+            → StandsFor depot self.new (does paged_machines paged_talks (halted reason) f) }
         ensures told { told_of self.new ≡ told_of self.old }
         ensures images { (images : Images) → AreOfImages images self.old → AreOfImages images self.new }
     {
@@ -209,29 +221,13 @@ impl World {
         }
     }
 
-    /// How the family ended, once the root has.
-    pub fn into_finished(self) -> Option<Outcome>
-        ensures { (depot : Shelves) (f : Forest) → StandsFor depot self f
-            → MatchOption result (has_ended forest f.tree ≡ false)
-            (λ outcome. (has_ended forest f.tree ≡ true) × (lines_of outcome ≡ lines told_spot [] f.tree)) }
-    {
-        let World {
-            cells: _,
-            ready: _,
-            halted: _,
-            told: _,
-            outcome,
-        } = self;
-        outcome
-    }
-
     /// Whether a machine may be at home whose name has so many forks. Where it answers no, none is, and where it
     /// answers yes, one is awake whose name has as many, or all but one of them, or more. It looks at
     /// the longest name of a machine that is awake: a child that is still a descriptor has one fork more than its
     /// parent, which is awake.
     pub fn reaches(&self, depth: usize) -> bool
         ensures far { (depot : Shelves) (f : Forest) → StandsFor depot self.now f → result ≡ false
-            → (name : Path) → length name ≡ depth → is_at_home paged_machines name f.tree ≡ false }
+            → (name : Path) → length name ≡ depth → is_at_home paged_machines paged_talks name f.tree ≡ false }
         ensures near { (depot : Shelves) (f : Forest) → StandsFor depot self.now f → result ≡ true → IsReached depth f }
     {
         let Some((longest, _)) = self.cells.last_key_value() else {
@@ -240,28 +236,32 @@ impl World {
         depth.saturating_sub(longest.depth()) <= 1
     }
 
-    /// Whether the machine on lease stands at the JOIN of a ticket of which a child lives. A machine whose name
-    /// is gone does not.
+    /// Whether the machine on lease stands at the JOIN of a ticket of which a child lives, or at a SEND or a RECEIVE that
+    /// waits for its sibling. A machine whose name is gone does not. It takes no memory.
     pub fn waits(&self, lease: &Lease) -> bool
         ensures { (depot : Shelves) (f : Forest) → StandsFor depot self.now f → IsHandedOut f lease.now
-            → MatchOption (subtree lease.now.name f.tree) (result ≡ false) (λ t. result ≡ stands_waiting_of (vm_of lease.now) t) }
+            → MatchOption (subtree lease.now.name f.tree) (result ≡ false) (λ t. result ≡ stands_waiting_of (vm_of lease.now) lease.now.name f.tree) }
     {
-        let Some(ticket) = lease.joins() else {
+        let Some(cell) = self.cells.get(lease.name()) else {
             return false;
         };
-        match self.cells.get(lease.name()) {
-            Some(cell) => cell.waits(ticket),
+        if let Some(talk) = lease.talk() {
+            return self.talk_waits(lease, talk);
+        }
+        match lease.joins() {
+            Some(ticket) => cell.waits(ticket),
             None => false,
         }
     }
 
     /// Puts a live machine home, which is ready then.
-    fn home(&mut self, turn: ReadyTurn, vm: Box<Vm>) -> Placed
-        requires { turn.children ≡ None }
+    fn home(&mut self, turn: ReadyTurn, kin: Option<Name>, vm: Box<Vm>) -> Placed
+        requires own { turn.children ≡ None }
+        requires kin { IsKin kin turn.name }
         ensures gone { get path_cmp self.old.cells turn.name ≡ None → (result ≡ Placed.Dropped) × IsSameWorld self.old self.new }
-        ensures home { (depot : Shelves) (f : Forest) (a : Tree (Spot Paged)) → IsBetween depot self.old f turn.name a
-            → (machine a).machine ≡ paged vm.value → IsOfDepot depot vm.value.key → has_ended forest a ≡ false
-            → IsSound forest (with_tree turn.name (placed home a) f).tree
+        ensures home { (depot : Shelves) (f : Forest) (a : Tree Member) → IsBetween depot self.old f turn.name a
+            → paged_of (machine a) ≡ paged vm.value → IsOfDepot depot vm.value.key → has_ended forest a ≡ false
+            → IsForest (with_tree turn.name (placed home a) f).tree
             → (result ≡ Placed.Done) × StandsFor depot self.new (with_tree turn.name (placed home a) f) }
         ensures told { told_of self.new ≡ told_of self.old }
         ensures images { (images : Images) → AreOfImages images self.old → IsImageAt images turn.name vm.value.key → AreOfImages images self.new }
@@ -269,6 +269,7 @@ impl World {
         let Some(cell) = self.cells.get_mut(turn.name()) else {
             return Placed::Dropped;
         };
+        cell.kin = kin;
         cell.state = State::Home(vm);
         if !cell.is_listed {
             cell.is_listed = true;
@@ -282,12 +283,12 @@ impl World {
     fn finish(&mut self, turn: ReadyTurn, vm: Box<Vm>, ending: Ending) -> Placed
         requires ended { vm.value.machine.ending ≡ Some ending }
         requires between { IfSome (get path_cmp self.old.cells turn.name)
-            (λ c. (depot : Shelves) × (f : Forest) × (a : Tree (Spot Paged)) × IsBetween depot self.old f turn.name a
-            × ((machine a).machine ≡ paged vm.value)) }
+            (λ c. (depot : Shelves) × (f : Forest) × (a : Tree Member) × IsBetween depot self.old f turn.name a
+            × (paged_of (machine a) ≡ paged vm.value)) }
         ensures gone { get path_cmp self.old.cells turn.name ≡ None → (result ≡ Placed.Dropped) × IsSameWorld self.old self.new }
-        ensures finished { (depot : Shelves) (f : Forest) (a : Tree (Spot Paged)) → IsBetween depot self.old f turn.name a
-            → (machine a).machine ≡ paged vm.value
-            → IsSound forest (with_tree turn.name (placed home (ended_tree a)) f).tree
+        ensures finished { (depot : Shelves) (f : Forest) (a : Tree Member) → IsBetween depot self.old f turn.name a
+            → paged_of (machine a) ≡ paged vm.value
+            → IsForest (with_tree turn.name (placed home (ended_tree a)) f).tree
             → (result ≡ Placed.Done) × StandsFor depot self.new (with_tree turn.name (placed home (ended_tree a)) f) }
         ensures told { told_of self.new ≡ told_of self.old }
         ensures images { (images : Images) → AreOfImages images self.old → AreOfImages images self.new }
@@ -298,19 +299,22 @@ impl World {
         };
         let outcome = cell.into_outcome(key, Box::into_inner(vm), ending);
         match name.pop() {
-            Some((ticket, index)) => self.end_child(&name, ticket, index, outcome),
+            Some((ticket, index)) => {
+                self.end_child(&name, ticket, index, outcome);
+                self.stir_siblings(&name, ticket, index);
+            }
             None => self.outcome = Some(outcome),
         }
         Placed::Done
     }
 
-    /// Tells a machine how a child of it has ended. It may be ready then.
+    /// Tells a machine how a child of it has ended. It may be ready then. The siblings are not told.
     fn end_child(&mut self, parent: &Name, ticket: u32, index: u32, outcome: Outcome)
-        requires { IsSomeAnd (get path_cmp self.old.cells parent.now) (λ c. (depot : Shelves) × (t a : Tree (Spot Paged))
-            × CellShows depot parent.now c t × (child_of ticket index t ≡ Some a) × IsAwake a) }
-        ensures stands { (depot : Shelves) (f : Forest) (b : Tree (Spot Paged)) → IsLeaving depot self.old f (child_path parent.now ticket index)
-            → HasLeft (child_path parent.now ticket index) b outcome → IsSound forest (with_tree (child_path parent.now ticket index) b f).tree
-            → StandsFor depot self.new (with_tree (child_path parent.now ticket index) b f) }
+        requires { IsSomeAnd (get path_cmp self.old.cells parent.now) (λ c. (depot : Shelves) × (resting : Bool) × (t a : Tree Member)
+            × CellShows depot parent.now resting c t × (child_of ticket index t ≡ Some a) × IsAwake a) }
+        ensures stirs { (depot : Shelves) (f : Forest) (b : Tree Member) → IsLeaving depot self.old f (child_path parent.now ticket index)
+            → HasLeft (child_path parent.now ticket index) b outcome → IsForest (with_tree (child_path parent.now ticket index) b f).tree
+            → IsStirring depot self.new f parent.now ticket index b 1 }
         ensures told { told_of self.new ≡ told_of self.old }
         ensures images { (images : Images) → AreOfImages images self.old → AreOfImages images self.new }
     {

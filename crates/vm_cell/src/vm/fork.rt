@@ -1,11 +1,12 @@
-//! The calls of a machine, which concern its children: CLONE, JOIN and KILL.
+//! The calls of a machine, which concern its children: CLONE, JOIN and KILL; and its talks with siblings: SEND and RECEIVE.
 
-ghost use Rattle.std.specs.Prelude.{◌≡◌, ◌≤◌, ◌==◌, if◌then◌else◌, ℕ, Some, None, IfSome, IfOk, OnOk, OnErr, length};
+ghost use Rattle.std.specs.Prelude.{◌≡◌, ◌≤◌, ◌==◌, if◌then◌else◌, ℕ, Some, None, IfSome, IfOk, IsSome, OnOk, OnErr, length};
 ghost use Rattle.image_depot.specs.Key.{IsKeyOf, image_of};
 ghost use Rattle.forest_model.specs.Calls.{after_join, after_kill, forked};
 ghost use Rattle.forest_model.specs.Forest.{machines};
+ghost use Rattle.forest_model.specs.Talks.{talked};
 ghost use Rattle.vm_hart.specs.Keyed.{IsOfDepot};
-ghost use Rattle.vm_cell.specs.Standing.{IsAsked, IsClone, IsJoin, IsKill, standing_call};
+ghost use Rattle.vm_cell.specs.Standing.{IsAsked, IsClone, IsJoin, IsKill, IsSpoken, call_in, standing_call, standing_talk, talk_in};
 ghost use Rattle.vm_hart.specs.Seeds.{IsOfImage, image_left};
 ghost use Rattle.vm_cell.specs.Woken.{AreSeeds, woken};
 
@@ -13,10 +14,11 @@ use super::{Vm, count_step};
 use forest_model::Ending;
 use fork_port::Call;
 use image_depot::{Depot, ImageKey};
+use sibling_port::Talk;
 use std::alloc::{AllocError, Global};
 use std::sync::Wait;
 use vm_descriptor::{Descriptor, MAX_CLONES, Seed};
-use vm_hart::Hart;
+use vm_hart::{Hart, Request};
 
 /// What a machine leaves for its children, when it makes a CLONE.
 #[derive(Drop)]
@@ -36,7 +38,37 @@ impl Vm {
         if self.ending.is_some() {
             return None;
         }
-        self.hart.call()
+        call_in(self.hart.request())
+    }
+
+    /// The talk that `step` would answer, if it would answer one. It takes no memory.
+    pub fn talk(&self) -> Option<Talk>
+        ensures value { result ≡ standing_talk self.now }
+        ensures asked { IfSome result (IsSpoken self.now.machine) }
+    {
+        if self.ending.is_some() {
+            return None;
+        }
+        talk_in(self.hart.request())
+    }
+
+    /// The word that a SEND of the machine sends.
+    pub fn data(&self) -> u32
+        ensures { result ≡ self.now.machine.state.ports.sibling.word }
+    {
+        self.hart.data()
+    }
+
+    /// Makes the SEND or the RECEIVE that is the next step: the word that it brought, if there is one, goes into DATA, and
+    /// RESULT is the answer. It takes no memory.
+    pub fn talked(&mut self, word: Option<u32>, answer: u32)
+        requires { IsSome (standing_talk self.old) }
+        ensures { self.new ≡ record self.old { machine = talked self.old.machine word answer } }
+    {
+        // The call tells that the machine lives, and is at a talk.
+        let _ = self.talk();
+        self.hart.talked(word, answer);
+        count_step(&mut self.steps, self.limit, &mut self.ending, true);
     }
 
     /// How many children a ticket was granted, which is 0 where there is no such ticket.
@@ -125,21 +157,24 @@ impl Vm {
         }
     }
 
-    /// The machine of a descriptor, which is of the image of a key. Its blank pages alone are here, and no page of its
-    /// disk.
+    /// The machine of a descriptor, which is of the image of a key, as a child of a ticket that made `siblings` children.
+    /// Its blank pages alone are here, and no page of its disk.
     #[tactic(auto, unfolding(crate::specs::Woken::woken))]
     pub fn wake(
         alloc: Global,
         descriptor: &Descriptor,
+        siblings: u32,
         key: &ImageKey,
         depot: &Depot,
     ) -> Result<Vm, AllocError>
         requires of_depot { IsKeyOf depot.now key.now }
         requires of_image { IsOfImage key.now descriptor.now }
-        ensures { IfOk result (λ vm. vm ≡ woken descriptor.now key.now) }
+        requires least { descriptor.now.clone_id ≤ siblings }
+        requires most { siblings ≤ MAX_CLONES }
+        ensures { IfOk result (λ vm. vm ≡ woken descriptor.now siblings key.now) }
     {
         Ok(Vm {
-            hart: Hart::woken(alloc, descriptor, key, depot)?,
+            hart: Hart::woken(alloc, descriptor, siblings, key, depot)?,
             steps: descriptor.steps,
             limit: descriptor.limit,
             ending: ending_at(descriptor.steps, descriptor.limit),
@@ -200,6 +235,26 @@ impl Vm {
             Some(Call::Join(ticket)) => ticket,
             _ => unreachable!(),
         }
+    }
+}
+
+/// The call that is asked for, if it is one.
+fn call_in(request: Option<Request>) -> Option<Call>
+    ensures { result ≡ call_in request }
+{
+    match request {
+        Some(Request::Call(call)) => Some(call),
+        Some(Request::Talk(_)) | None => None,
+    }
+}
+
+/// The talk that is asked for, if it is one.
+fn talk_in(request: Option<Request>) -> Option<Talk>
+    ensures { result ≡ talk_in request }
+{
+    match request {
+        Some(Request::Talk(talk)) => Some(talk),
+        Some(Request::Call(_)) | None => None,
     }
 }
 

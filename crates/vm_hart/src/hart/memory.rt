@@ -22,7 +22,7 @@ ghost use Rattle.vm_hart.specs.Fast.{ActsFast};
 ghost use Rattle.vm_hart.specs.Windows.{IsOpen};
 
 use super::access::Reach;
-use super::{Acted, Hart, trapped};
+use super::{Acted, Hart, Request, trapped};
 use elf_load::RAM_BASE;
 use forest_model::cause::{LOAD_ACCESS_FAULT, STORE_ACCESS_FAULT};
 use forest_model::{Access, Direction, Written};
@@ -167,7 +167,8 @@ impl Hart {
                 self.retire();
                 Ok(Acted::Retired(Written::Time))
             }
-            Ok(Effect::Call(call)) => Ok(Acted::Asked(call)),
+            Ok(Effect::Call(call)) => Ok(Acted::Asked(Request::Call(call))),
+            Ok(Effect::Talk(talk)) => Ok(Acted::Asked(Request::Talk(talk))),
             Ok(Effect::Exit(value)) => {
                 self.retire();
                 Ok(exited(value, 0, 0))

@@ -79,17 +79,18 @@ impl Hart {
         })
     }
 
-    /// The hart that a descriptor and the key to its image stand for. Its blank pages alone are here, and no page of its
-    /// disk.
+    /// The hart that a descriptor and the key to its image stand for, of a child of a ticket that made so many. Its blank
+    /// pages alone are here, and no page of its disk.
     pub fn woken(
         alloc: Global,
         descriptor: &Descriptor,
+        siblings: u32,
         key: &ImageKey,
         depot: &Depot,
     ) -> Result<Hart, AllocError>
         requires of_depot { IsKeyOf depot.now key.now }
         requires of_image { IsOfImage key.now descriptor.now }
-        ensures { IfOk result (λ hart. hart ≡ woken_hart descriptor.now key.now) }
+        ensures { IfOk result (λ hart. hart ≡ woken_hart descriptor.now siblings key.now) }
     {
         let image = depot.frozen(key);
         let disk = Disk::absent(alloc, image.sectors())?;
@@ -100,7 +101,7 @@ impl Hart {
             csrs: Csrs::of_fields(descriptor.csrs),
             reservation: descriptor.reservation,
             memory: GuestMem::clone_of(alloc, key.again()?, descriptor)?,
-            ports: Ports::of_fields(alloc, &port_fields(descriptor), disk, input)?,
+            ports: Ports::of_fields(alloc, &port_fields(descriptor), disk, input, siblings)?,
         })
     }
 }

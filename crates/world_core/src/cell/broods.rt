@@ -17,7 +17,9 @@ impl Brood {
         let mut endings = Vec::with_capacity(alloc, self.slots.len())?;
         for slot in &self.slots {
             if let ChildSlot::Ended(outcome) = slot {
-                endings.push(outcome.ending())?;
+                if let Some(ending) = outcome.ending() {
+                    endings.push(ending)?;
+                }
             }
         }
         Ok(endings)
@@ -25,7 +27,7 @@ impl Brood {
 
     /// How many lines a log gets of the children that have ended, or `usize::MAX` where they are more: no log
     /// has room for so many.
-    pub(super) fn line_count(&self) -> usize
+    pub(crate) fn line_count(&self) -> usize
         ensures { result ≡ min (length (slot_lines self.now.slots.items)) usize.MAX }
     {
         let mut count = 0usize;
@@ -38,7 +40,7 @@ impl Brood {
     }
 
     /// Moves the lines of the children that have ended to a log, which has room for them.
-    pub(super) fn into_log(self, log: &mut Vec<Line>)
+    pub(crate) fn into_log(self, log: &mut Vec<Line>)
         requires { vec_len log.old + length (slot_lines self.slots.items) ≤ vec_capacity log.old }
         ensures lines { log.new.items ≡ log.old.items ++ slot_lines self.slots.items }
         ensures len { vec_len log.new ≡ vec_len log.old + length (slot_lines self.slots.items) }

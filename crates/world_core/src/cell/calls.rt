@@ -8,9 +8,7 @@ ghost use Rattle.forest_tree.specs.Operations.{clone, join, kill};
 ghost use Rattle.forest_tree.specs.Tree.{Path, Tree, brood_of, broods_of, machine};
 ghost use Rattle.forest_tree.specs.Settle.{endings, have_ended};
 ghost use Rattle.forest_tree.specs.Sound.{IsSound};
-ghost use Rattle.forest_history.specs.Places.{Spot};
 ghost use Rattle.forest_model.specs.Calls.{after_join, after_kill, forked};
-ghost use Rattle.forest_model.specs.Paged.{Paged};
 ghost use Rattle.run_report.specs.Lines.{lines};
 ghost use Rattle.run_report.specs.Report.{lines_of};
 ghost use Rattle.vm_cell.specs.Keyed.{paged};
@@ -19,7 +17,8 @@ ghost use Rattle.vm_cell.specs.declared.vm.fork.ForkImage.{ForkImage};
 ghost use Rattle.world_core.specs.Broods.{killed_line};
 ghost use Rattle.world_core.specs.Images.{HasImages, Images, IsBroodAt};
 ghost use Rattle.world_core.specs.PreparedFork.{IsNewBrood};
-ghost use Rattle.world_core.specs.Shows.{Holds, HoldsAfter, StandsAt, Tallies, ended_tree, forest, forked_tree, joined_tree, killed_tree, told_spot};
+ghost use Rattle.world_core.specs.Shows.{Holds, HoldsAfter, Member, StandsAt, Tallies, ended_tree};
+ghost use Rattle.world_core.specs.Shows.{forest, forked_tree, joined_tree, killed_tree, paged_of, told_member};
 
 use crate::cell::{Brood, Cell};
 use forest_model::Ending;
@@ -37,10 +36,12 @@ impl Cell {
         ensures ok { OnOk result (vm.new ≡ record vm.old { machine = forked vm.old.machine }) }
         ensures err { OnErr result (vm.new ≡ vm.old) }
         ensures holds { OnOk result ((depot : Shelves) (path : Path) (left : ForkImage) → IsNewBrood depot path vm.old ticket brood left
-            → (t : Tree (Spot Paged)) → Holds depot path self.old t → StandsAt (paged vm.old) (clone ticket) t → HoldsAfter depot path self.new (forked_tree ticket t)) }
-        ensures still { OnErr result ((depot : Shelves) (path : Path) (t : Tree (Spot Paged)) → Holds depot path self.old t → Holds depot path self.new t) }
-        ensures images { (images : Images) (path : Path) → HasImages images path self.old → IsBroodAt images path ticket brood → HasImages images path self.new }
-        ensures place { (self.new.state ≡ self.old.state) × (self.new.is_listed ≡ self.old.is_listed) }
+            → (t : Tree Member) → Holds depot path self.old t → StandsAt (paged vm.old) (clone ticket) t
+            → HoldsAfter depot path self.new (forked_tree ticket t)) }
+        ensures still { OnErr result ((depot : Shelves) (path : Path) (t : Tree Member) → Holds depot path self.old t → Holds depot path self.new t) }
+        ensures images { (images : Images) (path : Path) → HasImages images path self.old → IsBroodAt images path ticket brood
+            → HasImages images path self.new }
+        ensures place { (self.new.state ≡ self.old.state) × (self.new.is_listed ≡ self.old.is_listed) × (self.new.kin ≡ self.old.kin) }
     {
         self.log.reserve(self.broods.len() + 1)?;
         self.broods.insert(ticket, brood)?;
@@ -51,17 +52,17 @@ impl Cell {
     /// Makes the JOIN that the machine stands at, whose children have all ended.
     pub(crate) fn join(&mut self, alloc: Global, vm: &mut Vm, ticket: u32) -> Result<(), AllocError>
         requires joins { standing_call vm.old ≡ Some (Call.Join ticket) }
-        requires ended { (depot : Shelves) × (path : Path) × (t : Tree (Spot Paged)) × Holds depot path self.old t × StandsAt (paged vm.old) (join ticket) t
+        requires ended { (depot : Shelves) × (path : Path) × (t : Tree Member) × Holds depot path self.old t × StandsAt (paged vm.old) (join ticket) t
             × (have_ended forest (brood_of ticket (broods_of t)) ≡ true) }
-        ensures ok { (t : Tree (Spot Paged)) (depot : Shelves) (path : Path) → Holds depot path self.old t → StandsAt (paged vm.old) (join ticket) t
+        ensures ok { (t : Tree Member) (depot : Shelves) (path : Path) → Holds depot path self.old t → StandsAt (paged vm.old) (join ticket) t
             → have_ended forest (brood_of ticket (broods_of t)) ≡ true
             → OnOk result ((vm.new ≡ record vm.old { machine = after_join vm.old.machine (endings forest (brood_of ticket (broods_of t))) })
             × HoldsAfter depot path self.new (joined_tree ticket t)) }
         ensures err { OnErr result (vm.new ≡ vm.old) }
         ensures key { vm.new.key ≡ vm.old.key }
-        ensures still { (t : Tree (Spot Paged)) (depot : Shelves) (path : Path) → Holds depot path self.old t → OnErr result (Holds depot path self.new t) }
+        ensures still { (t : Tree Member) (depot : Shelves) (path : Path) → Holds depot path self.old t → OnErr result (Holds depot path self.new t) }
         ensures images { (images : Images) (path : Path) → HasImages images path self.old → HasImages images path self.new }
-        ensures place { (self.new.state ≡ self.old.state) × (self.new.is_listed ≡ self.old.is_listed) }
+        ensures place { (self.new.state ≡ self.old.state) × (self.new.is_listed ≡ self.old.is_listed) × (self.new.kin ≡ self.old.kin) }
     {
         let Some(brood) = self.broods.get(&ticket) else {
             unreachable!();
@@ -80,12 +81,12 @@ impl Cell {
     /// Makes the KILL that the machine stands at.
     pub(crate) fn kill(&mut self, vm: &mut Vm, ticket: u32)
         requires kills { standing_call vm.old ≡ Some (Call.Kill ticket) }
-        requires holds { (depot : Shelves) × (path : Path) × (t : Tree (Spot Paged)) × Holds depot path self.old t × StandsAt (paged vm.old) (kill ticket) t }
+        requires holds { (depot : Shelves) × (path : Path) × (t : Tree Member) × Holds depot path self.old t × StandsAt (paged vm.old) (kill ticket) t }
         ensures vm { vm.new ≡ record vm.old { machine = after_kill vm.old.machine } }
-        ensures after { (t : Tree (Spot Paged)) (depot : Shelves) (path : Path) → Holds depot path self.old t → StandsAt (paged vm.old) (kill ticket) t
+        ensures after { (t : Tree Member) (depot : Shelves) (path : Path) → Holds depot path self.old t → StandsAt (paged vm.old) (kill ticket) t
             → HoldsAfter depot path self.new (killed_tree ticket t) }
         ensures images { (images : Images) (path : Path) → HasImages images path self.old → HasImages images path self.new }
-        ensures place { (self.new.state ≡ self.old.state) × (self.new.is_listed ≡ self.old.is_listed) }
+        ensures place { (self.new.state ≡ self.old.state) × (self.new.is_listed ≡ self.old.is_listed) × (self.new.kin ≡ self.old.kin) }
     {
         vm.killed();
         let Some(brood) = self.broods.remove(&ticket) else {
@@ -96,12 +97,13 @@ impl Cell {
 
     /// What a machine that has ended leaves. The tickets that it had cloned are killed.
     pub(crate) fn into_outcome(self, name: Name, vm: Vm, ending: Ending) -> Outcome
-        requires { (t : Tree (Spot Paged)) × Tallies name self t × IsSound forest t }
-        ensures ending { result.ending ≡ ending }
-        ensures lines { (t : Tree (Spot Paged)) → Tallies name self t → IsSound forest t → (machine t).machine ≡ paged vm → vm.machine.ending ≡ Some ending
-            → lines_of result ≡ lines told_spot name (ended_tree t) }
+        requires { (t : Tree Member) × Tallies name self t × IsSound forest t }
+        ensures ending { result.ending ≡ Some ending }
+        ensures lines { (t : Tree Member) → Tallies name self t → IsSound forest t → paged_of (machine t) ≡ paged vm → vm.machine.ending ≡ Some ending
+            → lines_of result ≡ lines told_member name (ended_tree t) }
     {
         let Cell {
+            kin: _,
             state: _,
             is_listed: _,
             broods,
@@ -109,7 +111,7 @@ impl Cell {
         } = self;
         log_killed(broods, &mut log);
         let steps = vm.steps();
-        Outcome::new(name, ending, steps, vm.into_output(), log)
+        Outcome::new(name, Some(ending), steps, vm.into_output(), log)
     }
 }
 
@@ -120,6 +122,10 @@ fn log_killed(broods: BTreeMap<u32, Brood>, log: &mut Vec<Line>)
     ensures lines { log.new.items ≡ log.old.items ++ map killed_line broods.entries }
     ensures ordered { IsOrdered nat_cmp broods }
 {
+    // Most machines have none, and an iterator takes long to make.
+    if broods.is_empty() {
+        return;
+    }
     'broods: for (ticket, brood) in broods {
         log.push_reserved(brood.into_line(ticket));
     }

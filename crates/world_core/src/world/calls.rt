@@ -1,26 +1,26 @@
 ghost use Rattle.std.specs.Prelude.{◌≡◌, ℕ, None, Some, IfOk, if◌then◌else◌};
 ghost use Rattle.std.specs.BTreeMap.{get};
 ghost use Rattle.image_depot.specs.Key.{Shelves};
-ghost use Rattle.forest_tree.specs.Sound.{IsSound};
 ghost use Rattle.forest_tree.specs.Tree.{Path, Tree, beyond, machine};
-ghost use Rattle.forest_history.specs.Places.{Spot, home, placed};
-ghost use Rattle.forest_history.specs.Rows.{forked, joined, killed};
-ghost use Rattle.forest_model.specs.Paged.{Paged};
+ghost use Rattle.forest_history.specs.Places.{home};
+ghost use Rattle.talking_history.specs.Places.{placed};
+ghost use Rattle.talking_history.specs.Rows.{forked, joined, killed};
 ghost use Rattle.machine_names.specs.Name.{begins_with};
 ghost use Rattle.machine_names.specs.NameOrder.{path_cmp};
 ghost use Rattle.vm_cell.specs.Keyed.{IsOfDepot, paged};
 ghost use Rattle.vm_cell.specs.Standing.{IsClone, IsKill, standing_call};
 ghost use Rattle.world_core.specs.Between.{IsBetween, settled_tree, with_tree};
 ghost use Rattle.world_core.specs.Images.{AreOfImages, Images, IsImageAt, IsLentAt, IsPreparedAt};
+ghost use Rattle.world_core.specs.Kin.{IsKin};
 ghost use Rattle.world_core.specs.Lent.{vm_of};
 ghost use Rattle.world_core.specs.PreparedFork.{IsPreparedIn, IsPreparedFor};
-ghost use Rattle.world_core.specs.Shows.{forest};
+ghost use Rattle.world_core.specs.Shows.{Member, paged_of};
 ghost use Rattle.world_core.specs.Told.{told_of};
 ghost use Rattle.world_core.specs.Listed.{Keeps};
-ghost use Rattle.world_core.specs.World.{Forest, StandsFor};
+ghost use Rattle.world_core.specs.World.{Forest, IsForest, StandsFor};
 ghost use Rattle.world_core.specs.Answers.{Answers, HandedOut, HandedOutIn, IsHandedOut, IsJoinCall, IsLentOf};
 
-use crate::cell::{Cell, State};
+use crate::cell::{Awaited, Cell, State};
 use crate::lease::Lease;
 use crate::prepared_fork::PreparedFork;
 use crate::world::{Placed, World};
@@ -42,7 +42,8 @@ impl World {
             → Answers depot.now f forked lease result self.new }
         ensures told { told_of self.new ≡ told_of self.old }
         // The children have one image, of a number that no brood before told.
-        ensures images { (number : ℕ) × ((images : Images) (ticket : ℕ) → standing_call (vm_of lease) ≡ Some (Call.Clone ticket) → images lease.name ticket ≡ number
+        ensures images { (number : ℕ) × ((images : Images) (ticket : ℕ) → standing_call (vm_of lease) ≡ Some (Call.Clone ticket)
+            → images lease.name ticket ≡ number
             → AreOfImages images self.old → IsLentAt images lease → AreOfImages images self.new) }
     {
         // Nothing is kept in the depot for a name that is gone.
@@ -67,7 +68,8 @@ impl World {
         ensures answers { (depot : Shelves) (f : Forest) → StandsFor depot self.old f → IsHandedOut f lease → IsLentOf depot lease
             → IfOk prepared (IsPreparedIn depot) → Answers depot f forked lease result self.new }
         ensures told { told_of self.new ≡ told_of self.old }
-        ensures images { (images : Images) → AreOfImages images self.old → IsLentAt images lease → IfOk prepared (IsPreparedAt images) → AreOfImages images self.new }
+        ensures images { (images : Images) → AreOfImages images self.old → IsLentAt images lease
+            → IfOk prepared (IsPreparedAt images) → AreOfImages images self.new }
     {
         let Some(cell) = self.cells.get_mut(lease.name()) else {
             lease.discard();
@@ -79,6 +81,7 @@ impl World {
         let (ticket, brood, children) = prepared.into_brood();
         let Lease {
             turn,
+            kin,
             mut vm,
             ran,
             start,
@@ -86,13 +89,14 @@ impl World {
         if cell.fork(&mut vm, ticket, brood).is_err() {
             return Placed::Memory(Lease {
                 turn,
+                kin,
                 vm,
                 ran,
                 start,
             });
         }
         self.ready.push_last(children);
-        self.place(turn, vm)
+        self.place(turn, kin, vm)
     }
 
     /// Makes the JOIN at which a machine stands, or parks the machine where a child of the ticket lives. Its children are
@@ -114,24 +118,27 @@ impl World {
         };
         let Lease {
             turn,
+            kin,
             mut vm,
             ran,
             start,
         } = lease;
         if cell.waits(ticket) {
             raise_asleep(&mut self.ready, cell, turn.name(), ticket);
-            cell.state = State::Parked(ticket, vm, turn);
+            cell.kin = kin;
+            cell.state = State::Parked(Awaited::Children(ticket), vm, turn);
             return Placed::Parked;
         }
         if cell.join(alloc, &mut vm, ticket).is_err() {
             return Placed::Memory(Lease {
                 turn,
+                kin,
                 vm,
                 ran,
                 start,
             });
         }
-        self.place(turn, vm)
+        self.place(turn, kin, vm)
     }
 
     /// Makes the KILL at which a machine stands. The children of the ticket are dropped, with theirs. It
@@ -153,30 +160,32 @@ impl World {
         };
         let Lease {
             turn,
+            kin,
             mut vm,
             ran: _,
             start: _,
         } = lease;
         cell.kill(&mut vm, ticket);
         drop_below(&mut self.cells, turn.name(), ticket);
-        self.place(turn, vm)
+        self.place(turn, kin, vm)
     }
 
     /// Puts a machine home after its call, or ends it.
-    fn place(&mut self, turn: ReadyTurn, vm: Box<Vm>) -> Placed
+    pub(crate) fn place(&mut self, turn: ReadyTurn, kin: Option<Name>, vm: Box<Vm>) -> Placed
         requires one { turn.children ≡ None }
-        requires between { (depot : Shelves) × (f : Forest) × (a : Tree (Spot Paged)) × IsBetween depot self.old f turn.name a
-            × ((machine a).machine ≡ paged vm.value) × IsOfDepot depot vm.value.key }
-        ensures placed { (depot : Shelves) (f : Forest) (a : Tree (Spot Paged)) → IsBetween depot self.old f turn.name a
-            → (machine a).machine ≡ paged vm.value → IsOfDepot depot vm.value.key
-            → IsSound forest (with_tree turn.name (placed home (settled_tree a)) f).tree
+        requires kin { IsKin kin turn.name }
+        requires between { (depot : Shelves) × (f : Forest) × (a : Tree Member) × IsBetween depot self.old f turn.name a
+            × (paged_of (machine a) ≡ paged vm.value) × IsOfDepot depot vm.value.key }
+        ensures placed { (depot : Shelves) (f : Forest) (a : Tree Member) → IsBetween depot self.old f turn.name a
+            → paged_of (machine a) ≡ paged vm.value → IsOfDepot depot vm.value.key
+            → IsForest (with_tree turn.name (placed home (settled_tree a)) f).tree
             → (result ≡ Placed.Done) × StandsFor depot self.new (with_tree turn.name (placed home (settled_tree a)) f) }
         ensures told { told_of self.new ≡ told_of self.old }
         ensures images { (images : Images) → AreOfImages images self.old → IsImageAt images turn.name vm.value.key → AreOfImages images self.new }
     {
         match vm.ended() {
             Some(ending) => self.finish(turn, vm, ending),
-            None => self.home(turn, vm),
+            None => self.home(turn, kin, vm),
         }
     }
 }

@@ -1,20 +1,21 @@
-ghost use Rattle.std.specs.Prelude.{◌≡◌, ◌≢◌, None, Some, true, is_some, IfNone, IfSome, IfOk, OnErr, OnOk};
-ghost use Rattle.std.specs.BTreeMap.{BTreeMap, get};
+ghost use Rattle.std.specs.Prelude.{◌≡◌, ◌≢◌, None, Some, true, is_some, IfNone, IfSome, IfOk, OnErr, OnOk, false, MatchBool};
+ghost use Rattle.std.specs.BTreeMap.{get};
 ghost use Rattle.image_depot.specs.Key.{Shelves};
 ghost use Rattle.forest_tree.specs.Tree.{Tree, Path, machine, subtree};
-ghost use Rattle.forest_history.specs.Places.{Spot, at_path, out, placed};
-ghost use Rattle.forest_model.specs.Paged.{Paged};
-ghost use Rattle.world_core.specs.Images.{AreOfImages, AreTakenAt, HaveImages, Images, IsImageAt, IsLentAt, IsTakenAt};
+ghost use Rattle.forest_history.specs.Places.{at_path, out};
+ghost use Rattle.talking_history.specs.Places.{placed};
+ghost use Rattle.world_core.specs.Images.{AreOfImages, AreTakenAt, Images, IsImageAt, IsLentAt, IsTakenAt};
 ghost use Rattle.vm_cell.specs.Keyed.{IsOfDepot, paged};
 ghost use Rattle.world_core.specs.Lent.{now_of};
 ghost use Rattle.machine_names.specs.Name.{child_path};
 ghost use Rattle.machine_names.specs.NameOrder.{path_cmp};
 ghost use Rattle.world_core.specs.Told.{told_of};
+ghost use Rattle.world_core.specs.Shows.{Member, is_out_cell, paged_of};
 ghost use Rattle.world_core.specs.World.{Forest, StandsFor, IsWorld};
 ghost use Rattle.world_core.specs.Answers.{IsLentOf, Takes, TakesNamed};
 ghost use Rattle.world_core.specs.Popped.{TakesBy, ShowsCells, IsFirstAsleep, is_listed_in, sleeps, with_turn};
 
-use crate::cell::Cell;
+use crate::cell::{Cell, State};
 use crate::lease::Lease;
 use crate::world::{Taken, World, seat};
 use image_depot::Depot;
@@ -43,7 +44,25 @@ impl World {
                 return taken;
             }
         }
-        Taken::Idle
+        if self.is_one_out() {
+            Taken::Idle
+        } else {
+            Taken::Stuck
+        }
+    }
+
+    /// Whether a machine is on lease whose name is still in the forest. It looks over the machines that are awake until it
+    /// finds one.
+    fn is_one_out(&self) -> bool
+        ensures { MatchBool result ((name : Path) × (is_out_cell (get path_cmp self.now.cells name) ≡ true))
+            ((name : Path) → is_out_cell (get path_cmp self.now.cells name) ≡ false) }
+    {
+        for (_, cell) in &self.cells {
+            if let State::Out(_) = &cell.state {
+                return true;
+            }
+        }
+        false
     }
 
     /// Hands out a machine by its turn, or nothing where none of the turn is ready any more.
@@ -66,6 +85,7 @@ impl World {
     /// Hands out the machine of a turn, if it is ready.
     fn take_awake(&mut self, turn: ReadyTurn) -> Option<Taken>
         requires one { turn.children ≡ None }
+        requires world { (depot : Shelves) × IsWorld depot (with_turn turn self.old) }
         requires going { (self.old.outcome ≡ None) × (self.old.halted ≡ None) }
         ensures takes { (depot : Shelves) (f : Forest) → StandsFor depot (with_turn turn self.old) f
             → TakesBy depot f result self.new }
@@ -77,7 +97,8 @@ impl World {
         let cell = self.cells.get_mut(turn.name())?;
         cell.is_listed = false;
         let vm = cell.lend()?;
-        Some(Taken::Took(Lease::new(turn, vm)))
+        let kin = cell.kin.take();
+        Some(Taken::Took(Lease::new(turn, kin, vm)))
     }
 
     /// Wakes the first child of a turn that is still a descriptor, if there is one, and hands it out.
@@ -130,7 +151,8 @@ impl World {
             let Some(vm) = cell.lend_named() else {
                 return Ok(None);
             };
-            return Ok(Some(Lease::new(turn, vm)));
+            let kin = cell.kin.take();
+            return Ok(Some(Lease::new(turn, kin, vm)));
         }
         let mut parent = name.copy()?;
         let Some((ticket, index)) = parent.pop() else {
@@ -144,7 +166,7 @@ impl World {
 
     /// Whether a child is still a descriptor.
     fn is_asleep(&self, parent: &Name, ticket: u32, index: u32) -> bool
-        ensures { (depot : Shelves) (t : Tree (Spot Paged)) → ShowsCells depot self.now.cells t → result ≡ sleeps parent.now ticket index t }
+        ensures { (depot : Shelves) (t : Tree Member) → ShowsCells depot self.now.cells t → result ≡ sleeps parent.now ticket index t }
     {
         let Some(cell) = self.cells.get(parent) else {
             return false;
@@ -157,8 +179,8 @@ impl World {
 
     /// The first child of a ticket, from one on, that is still a descriptor.
     fn asleep_from(&self, parent: &Name, ticket: u32, first: u32) -> Option<u32>
-        requires { (depot : Shelves) × (t : Tree (Spot Paged)) × ShowsCells depot self.now.cells t }
-        ensures { (depot : Shelves) (t : Tree (Spot Paged)) → ShowsCells depot self.now.cells t
+        requires { (depot : Shelves) × (t : Tree Member) × ShowsCells depot self.now.cells t }
+        ensures { (depot : Shelves) (t : Tree Member) → ShowsCells depot self.now.cells t
             → IsFirstAsleep parent.now ticket first t result }
     {
         let cell = self.cells.get(parent)?;
@@ -176,26 +198,30 @@ impl World {
         ticket: u32,
         index: u32,
     ) -> Result<Lease, AllocError>
-        requires { (t : Tree (Spot Paged)) × ShowsCells depot.now self.old.cells t × (sleeps parent.now ticket index t ≡ true) }
-        ensures lease { IfOk result (λ lease. (lease.name ≡ child_path parent.now ticket index) × (lease.ran ≡ 0) × (lease.now ≡ lease.start) × IsLentOf depot.now lease) }
-        ensures start { (t : Tree (Spot Paged)) → ShowsCells depot.now self.old.cells t → sleeps parent.now ticket index t ≡ true
-            → IfOk result (λ lease. IfSome (subtree lease.name t) (λ a. (machine a).machine ≡ now_of lease)) }
-        ensures cells { (t : Tree (Spot Paged)) → ShowsCells depot.now self.old.cells t → sleeps parent.now ticket index t ≡ true
+        requires { (t : Tree Member) × ShowsCells depot.now self.old.cells t × (sleeps parent.now ticket index t ≡ true) }
+        ensures lease { IfOk result (λ lease. (lease.name ≡ child_path parent.now ticket index) × (lease.ran ≡ 0)
+            × (lease.now ≡ lease.start) × IsLentOf depot.now lease) }
+        ensures start { (t : Tree Member) → ShowsCells depot.now self.old.cells t → sleeps parent.now ticket index t ≡ true
+            → IfOk result (λ lease. IfSome (subtree lease.name t) (λ a. paged_of (machine a) ≡ now_of lease)) }
+        ensures cells { (t : Tree Member) → ShowsCells depot.now self.old.cells t → sleeps parent.now ticket index t ≡ true
             → OnOk result (ShowsCells depot.now self.new.cells (at_path (placed out) (child_path parent.now ticket index) t)) }
         ensures same { OnErr result ((name : Path) → get path_cmp self.new.cells name ≡ get path_cmp self.old.cells name) }
         ensures listed { (name : Path) → is_listed_in (get path_cmp self.new.cells name) ≡ is_listed_in (get path_cmp self.old.cells name) }
-        ensures others { (name : Path) → name ≢ child_path parent.now ticket index → is_some (get path_cmp self.new.cells name) ≡ is_some (get path_cmp self.old.cells name) }
+        ensures others { (name : Path) → name ≢ child_path parent.now ticket index
+            → is_some (get path_cmp self.new.cells name) ≡ is_some (get path_cmp self.old.cells name) }
         ensures rest { (self.new.ready ≡ self.old.ready) × (self.new.halted ≡ self.old.halted) × (self.new.outcome ≡ self.old.outcome) }
         ensures told { told_of self.new ≡ told_of self.old }
         ensures images { (images : Images) → AreOfImages images self.old → AreOfImages images self.new × IfOk result (IsLentAt images) }
     {
         let (name, turn, vm) = self.woken_child(alloc, depot, parent, ticket, index)?;
+        let again = name.copy()?;
+        let kin = parent.copy()?;
         seat(&mut self.cells, name, Cell::of_lent(alloc, &vm))?;
         let Some(cell) = self.cells.get_mut(parent) else {
             unreachable!();
         };
-        cell.child_wakes(ticket, index);
-        Ok(Lease::new(turn, vm))
+        cell.child_wakes(ticket, index, again);
+        Ok(Lease::new(turn, Some(kin), vm))
     }
 
     /// A child that is still a descriptor, as it wakes: its name, its turn and its machine.
@@ -207,11 +233,11 @@ impl World {
         ticket: u32,
         index: u32,
     ) -> Result<(Name, ReadyTurn, Box<Vm>), AllocError>
-        requires { (t : Tree (Spot Paged)) × ShowsCells depot.now self.now.cells t × (sleeps parent.now ticket index t ≡ true) }
+        requires { (t : Tree Member) × ShowsCells depot.now self.now.cells t × (sleeps parent.now ticket index t ≡ true) }
         ensures name { IfOk result (λ woken. woken.0 ≡ child_path parent.now ticket index) }
         ensures turn { IfOk result (λ woken. woken.1 ≡ record { name = child_path parent.now ticket index; children = None }) }
-        ensures machine { (t : Tree (Spot Paged)) → ShowsCells depot.now self.now.cells t → sleeps parent.now ticket index t ≡ true
-            → IfOk result (λ woken. IfSome (subtree (child_path parent.now ticket index) t) (λ a. (machine a).machine ≡ paged woken.2.value)) }
+        ensures machine { (t : Tree Member) → ShowsCells depot.now self.now.cells t → sleeps parent.now ticket index t ≡ true
+            → IfOk result (λ woken. IfSome (subtree (child_path parent.now ticket index) t) (λ a. paged_of (machine a) ≡ paged woken.2.value)) }
         ensures of_depot { IfOk result (λ woken. IsOfDepot depot.now woken.2.value.key) }
         ensures images { (images : Images) → AreOfImages images self.now
             → IfOk result (λ woken. IsImageAt images (child_path parent.now ticket index) woken.2.value.key) }

@@ -1,10 +1,8 @@
 use Rattle.std.proofs.Common.{subst, inl, inr, sym, ◌∙◌}
-use Rattle.forest_tree.proofs.Run.{is-some}
-use Rattle.vm_cell.specs.Standing.{standing_call}
 use Rattle.world_core.specs.Lent.{vm_of}
 use Rattle.world_core.specs.declared.world.Placed.{Placed}
 use Rattle.drive_script.specs.Turned.{AnswersCall, HasBack, HasLent}
-use Rattle.drive_script.proofs.Lent.{call-dropped, call-kept, call-made, call-parked, lent-handed, taken}
+use Rattle.drive_script.proofs.Lent.{asks, call-dropped, call-kept, call-made, call-parked, lent-handed, taken}
 use Rattle.drive_script.proofs.Reasons.{answered-reason}
 use Rattle.drive_script.proofs.turn.make_call.Goals as goal
 
@@ -34,8 +32,7 @@ unreachable-requires g c =
 pub returns-in-Done-clause-made : goal.returns-in-Done-clause-made
 returns-in-Done-clause-made g c t h =
     let depot = c.args.depot.now in
-    let call = is-some (standing_call (vm_of c.args.lease)) c.requires.call in
-    call-made depot c.args.world.now t c.args.lease h call.0 call.1 c.try_call.new.world
+    call-made depot c.args.world.now t c.args.lease h (asks (vm_of c.args.lease) c.requires.asks) c.try_call.new.world
     (c.in-Done.ensures.answers (taken depot c.args.world.now t c.args.lease h) h.stands (lent-handed depot c.args.world.now t c.args.lease h) h.of_depot)
 
 pub returns-in-Memory-clause-made : goal.returns-in-Memory-clause-made

@@ -1,18 +1,14 @@
-use Rattle.std.proofs.Common.{rules, ◌≡◌, ◌+◌, false, MatchOption, IsSome, is_some, Result, Ok, Err, sym, ap, ◌∙◌, subst, arith, inl, inr, Bool}
-use Rattle.forest_tree.specs.Tree.{subtree}
-use Rattle.forest_tree.proofs.Rests.{lives-none}
-use Rattle.vm_cell.specs.Standing.{standing_call}
-use Rattle.world_core.specs.Answers.{stands_waiting_of}
+use Rattle.std.proofs.Common.{rules, ◌≡◌, ◌+◌, true, Result, Ok, Err, sym, ◌∙◌, subst, arith, inl, inr}
 use Rattle.world_core.specs.Lent.{vm_of}
 use Rattle.std.specs.declared.alloc.AllocError.{AllocError}
 use Rattle.drive_script.specs.declared.turn.TurnOutcome.{TurnOutcome}
 use Rattle.drive_script.specs.declared.turn.TurnOutcome.TheVariants.{Stopped, Called}
-use Rattle.drive_script.specs.Turned.{EndsTurn}
+use Rattle.drive_script.specs.Turned.{EndsTurn, is_asking}
 use Rattle.std.proofs.lemmas.Result.{err_from_is_err_and}
-use Rattle.drive_script.proofs.Lent.{lent-handed, stands-here, taken}
-use Rattle.drive_script.proofs.Turning.{lent-failed, lent-ran, may-call, stops-ended, stops-waiting, turn-called, turn-failed, turn-stopped}
+use Rattle.drive_script.proofs.Lent.{lent-handed, taken}
+use Rattle.drive_script.proofs.Turning.{Waits, lent-failed, lent-ran, may-call, stops-ended, stops-waiting, turn-called, turn-failed, turn-stopped}
 use Rattle.drive_script.proofs.turn.run_turn.Goals as goal
-use Rattle.drive_script.proofs.turn.run_turn.Goals.{else-ran-most-via-then-ran-most+then-is_some+else-not-waits, else-ran-most-via-then-ran-most+else-is_some, else-ran-most-via-else-ran-most}
+use Rattle.drive_script.proofs.turn.run_turn.Goals.{else-ran-most-via-then-ran-most+then-is_asking+else-not-waits, else-ran-most-via-then-ran-most+else-is_asking, else-ran-most-via-else-ran-most}
 
 pub give_back-requires : goal.give_back-requires
 give_back-requires g c = (
@@ -39,13 +35,12 @@ make_call-requires-clause-lent g c =
     let later = c.run.new.self in
     let lent = lent-ran depot c.args.world.now t c.args.lease later c.in-Ok.ran.steps c.in-Ok.ensures.same c.in-Ok.ensures.now.0 c.in-Ok.ensures.now.1
     c.in-Ok.ensures.free c.requires.lent.1 in
-    let some : IsSome (standing_call (vm_of later)) = search rules in
+    let some : is_asking (vm_of later) ≡ true = search rules in
     let waits = c.waits.ensures depot (taken depot c.args.world.now t later lent) lent.stands (lent-handed depot c.args.world.now t later lent) in (
       t,
       lent,
-      may-call depot c.args.world.now t later lent (stands-here (vm_of later) some) some
-          (subst (λ (b : Bool). MatchOption (subtree later.name (taken depot c.args.world.now t later lent).tree) (b ≡ false) (λ a. b ≡ stands_waiting_of (vm_of later) a))
-          c.if-not-waits.true waits),
+      may-call depot c.args.world.now t later lent some
+          (subst (Waits depot c.args.world.now t later lent) c.if-not-waits.true waits),
     )
 
 pub returns-in_err-make_call-clause-turns : goal.returns-in_err-make_call-clause-turns
@@ -92,14 +87,13 @@ returns-clause-turns g c t h =
     (turn-stopped depot c.args.world.now t later lent c.give_back-2.new.world (c.give_back-2.ensures.back depot t lent) c.args.most c.in-Ok.ran.steps
     c.why_it_stops-why.result (omega (arith, ran, none)) c.in-Ok.ensures.most (c.why_it_stops-why.ensures depot t lent)
     (elim c.else-ran-most.branch [
-      | else-ran-most-via-then-ran-most+then-is_some+else-not-waits w ↦
-          inr (stops-waiting depot c.args.world.now t later lent (stands-here (vm_of later) (sym (ap is_some w.call.ensures) ∙ sym w.if-is_some.ensures))
-          (subst (λ (b : Bool). MatchOption (subtree later.name (taken depot c.args.world.now t later lent).tree) (b ≡ false) (λ a. b ≡ stands_waiting_of (vm_of later) a))
-          w.if-not-waits.false
+      | else-ran-most-via-then-ran-most+then-is_asking+else-not-waits w ↦
+          inr (stops-waiting depot c.args.world.now t later lent (sym w.is_asking.ensures ∙ w.if-is_asking.true)
+          (subst (Waits depot c.args.world.now t later lent) w.if-not-waits.false
           (w.waits.ensures depot (taken depot c.args.world.now t later lent) lent.stands (lent-handed depot c.args.world.now t later lent))))
-      | else-ran-most-via-then-ran-most+else-is_some w ↦ inr (stops-ended depot c.args.world.now t later lent c.in-Ok.ran.why
+      | else-ran-most-via-then-ran-most+else-is_asking w ↦ inr (stops-ended depot c.args.world.now t later lent c.in-Ok.ran.why
           (λ went. let all = c.in-Ok.ensures.all_made went in let below = w.if-ran-most.true in absurd (omega (arith, all, below)))
-          c.in-Ok.ensures.stands (sym w.call.ensures ∙ lives-none w.call.result (sym w.if-is_some.ensures)))
+          c.in-Ok.ensures.stands (sym w.is_asking.ensures ∙ w.if-is_asking.false))
       | else-ran-most-via-else-ran-most w ↦
           let over = w.if-ran-most.false in
           let within = c.in-Ok.ensures.most in

@@ -1,4 +1,4 @@
-use Rattle.forest_model.proofs.Finish.{steps-advance, limit-advance, IsWithinLimit-advance, advance-IsSome, waits-advance}
+use Rattle.forest_model.proofs.Finish.{steps-advance, limit-advance, IsWithinLimit-advance, advance-IsSome, talks-advance, waits-advance}
 use Rattle.forest_model.proofs.laws.advance_counts.Goals as goal
 
 pub returns : goal.returns
@@ -8,4 +8,5 @@ returns c = record {
   within = IsWithinLimit-advance;
   ended = advance-IsSome;
   waits = waits-advance;
+  talks = talks-advance;
 }

@@ -1,5 +1,7 @@
-use Rattle.std.proofs.Common.{length, ap, ◌∙◌, arith}
+use Rattle.std.proofs.Common.{length, ap, subst, ◌∙◌, arith}
 use Rattle.page_claims.specs.Values.{PassValue as ClaimValue}
+use Rattle.host_workers.specs.Finishes.{Finishes}
+use Rattle.host_workers.proofs.Ending.{stuck-at-rest}
 use Rattle.host_workers.proofs.States.{as-dealt}
 use Rattle.host_workers.proofs.hosts.run_hosts.Goals as goal
 
@@ -33,6 +35,7 @@ returns g c =
         );
       };
       finish = all.end;
+      rests = λ same. stuck-at-rest c.args.pass c.gather-pass.result.0 all.worked (subst (Finishes c.gather-pass.result.0) same all.end);
       done = all.are_done;
       wire = all.blames;
       seeds = c.work_all.ensures.seeds;

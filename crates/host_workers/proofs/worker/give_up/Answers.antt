@@ -1,8 +1,8 @@
 use Rattle.world_core.specs.Answers.{home_by}
 use Rattle.fork_board.specs.Notes.{placed_entry}
 use Rattle.fork_board.proofs.Holding.{home-again}
-use Rattle.forest_history.specs.Histories.{row}
-use Rattle.forest_history.specs.Rows.{halted}
+use Rattle.talking_history.specs.Histories.{row}
+use Rattle.talking_history.specs.Rows.{halted}
 use Rattle.host_workers.specs.Stages.{free, halting}
 use Rattle.host_workers.proofs.Working.{halted-stops, holds-halted, spares-halted, spares-placed, spares-worked, steps-home, worked-more, worked-one}
 use Rattle.host_workers.proofs.worker.give_up.Goals as goal

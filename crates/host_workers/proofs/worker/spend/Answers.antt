@@ -1,6 +1,6 @@
 use Rattle.std.proofs.Common.{◌≡◌, refl, subst}
 use Rattle.world_core.specs.declared.reason.Reason.TheVariants as reason
-use Rattle.host_workers.specs.Stages.{runs, stuck}
+use Rattle.host_workers.specs.Stages.{runs, wanting}
 use Rattle.host_workers.specs.Stays.{Worked, stage_placed}
 use Rattle.host_workers.proofs.Working.{spares-worked, worked-more}
 use Rattle.host_workers.proofs.worker.spend.Goals as goal
@@ -9,7 +9,7 @@ pub returns-in_default-Memory : goal.returns-in_default-Memory
 returns-in_default-Memory g c =
     let handed = c.hand_back.ensures in
     let gave = c.give_up.ensures in
-    let back = gave.worked stuck (refl, refl) in
+    let back = gave.worked wanting (refl, refl) in
     record {
       worked = worked-more c.args.pass c.hand_back.result.0 c.give_up.result
           (subst (λ p. Worked runs (stage_placed p) c.args.pass c.hand_back.result.0) c.in_default-Memory.is-1 handed.worked) back;

@@ -3,10 +3,9 @@ use Rattle.std.specs.List.{All}
 use Rattle.std.specs.Map.{values_of}
 use Rattle.std.proofs.lemmas.List.Elements.{All-nil}
 use Rattle.image_depot.specs.Reply.{IsSentOf}
-use Rattle.host_fetch.specs.Heard.{AreHeardOf, Replies}
+use Rattle.host_fetch.specs.Heard.{Replies}
 use Rattle.host_workers.specs.Stages.{free}
 use Rattle.host_workers.specs.Stays.{Turns, Worked, stage_turned}
-use Rattle.host_workers.specs.declared.replies.Hearing.{Hearing}
 use Rattle.host_workers.proofs.Working.{blames-on, fit-on, share-of, spares-none, worked-board, worked-then}
 use Rattle.host_workers.proofs.worker.work.Goals as goal
 

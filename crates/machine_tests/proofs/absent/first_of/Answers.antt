@@ -1,5 +1,6 @@
 use Rattle.std.proofs.Common.{◌≡◌, ◌≤◌, Some, ap, ◌∙◌, subst, sym, arith}
 use Rattle.image_depot.specs.Key.{IsKeyOf}
+use Rattle.vm_descriptor.specs.declared.descriptor.Descriptor.{Descriptor}
 use Rattle.vm_cell.specs.Keyed.{KeyedMachine}
 use Rattle.vm_cell.specs.Woken.{IsOfImage, woken}
 use Rattle.machine_tests.proofs.absent.first_of.Goals as goal
@@ -13,6 +14,9 @@ through_bytes-requires c = (c.requires.seeds 1 one one).in_range
 pub wake-requires-clause-of_image : goal.wake-requires-clause-of_image
 wake-requires-clause-of_image c =
     subst (IsOfImage c.args.brood.now.key) (sym c.in_ok-seed.ensures) (c.requires.seeds 1 one one)
+
+pub wake-requires-clause-least : goal.wake-requires-clause-least
+wake-requires-clause-least c = omega (arith, ap (λ (d : Descriptor). d.clone_id) c.in_ok-seed.ensures)
 
 pub returns : goal.returns
 unfolding woken

@@ -1,7 +1,7 @@
 use Rattle.std.proofs.Common.{◌≡◌, subst}
 use Rattle.image_depot.specs.Key.{Shelves}
-use Rattle.forest_history.specs.Rows.{took, does}
-use Rattle.forest_model.specs.Paged.{paged_machines}
+use Rattle.talking_history.specs.Rows.{took, does}
+use Rattle.forest_model.specs.Paged.{paged_machines, paged_talks}
 use Rattle.world_core.specs.Answers.{HandedOut, Takes}
 use Rattle.world_core.specs.Lent.{Lent}
 use Rattle.world_core.specs.World.{Forest}
@@ -15,7 +15,7 @@ use Rattle.machine_tests.proofs.worlds.is_given_back.Goals as goal
 handed-out : (depot : Shelves) (f : Forest) (r : Taken) (lease : Lent) (new : World) → r ≡ taken.Took lease → Takes depot f r new → HandedOut new lease
 handed-out depot f r lease new is takes =
     let took_so = subst (λ (t : Taken). Takes depot f t new) is takes in
-    (depot, (does paged_machines (took lease.name) f, took_so.0.after, taken-handed f lease took_so.1, took_so.2))
+    (depot, (does paged_machines paged_talks (took lease.name) f, took_so.0.after, taken-handed f lease took_so.1, took_so.2))
 
 pub take-requires : goal.take-requires
 take-requires c = let h = c.requires.1 in (h.forest, h.stands)

@@ -1,17 +1,29 @@
+use Rattle.std.proofs.Common.{Ok, inl, sym, ap, ◌∙◌}
 use Rattle.fork_board.specs.Follows.{depot_of}
-use Rattle.snow_commands.proofs.Ended.{closed-over, ended-lines, finished-not}
+use Rattle.host_workers.proofs.Ending.{is-stopped}
+use Rattle.snow_commands.proofs.Ended.{closed-ends, ended-lines, outcome-there, unstopped-end}
 use Rattle.snow_commands.proofs.family.outcome_of.Goals as goal
+
+pub outcome-requires : goal.outcome-requires
+outcome-requires g c =
+    let is = c.close.ensures.follows.world in (depot_of c.args.pass.board.opening, (is.forest, is.stands))
 
 pub unreachable-requires : goal.unreachable-requires
 unreachable-requires g c =
     let opening = c.args.pass.board.opening in
     let h = c.close.ensures in
-    finished-not opening h.log c.close.result h.follows (closed-over c.args.pass c.close.result h c.requires.over) c.into_finished.result
-    (c.into_finished.ensures (depot_of opening) h.follows.world.forest h.follows.world.stands) c.in-None.is
+    let ends = unstopped-end c.args.pass c.args.finish c.reason.result c.requires.finish c.reason.ensures c.in_default.not-Some in
+    outcome-there opening h.log c.close.result h.follows (closed-ends c.args.pass c.close.result h ends) c.outcome.result
+    (c.outcome.ensures (depot_of opening) h.follows.world.forest h.follows.world.stands) (c.in-Ok-None.is ∙ ap Ok c.in-Ok-None.field-0-is)
 
-pub returns : goal.returns
-returns g c =
+pub returns-in-Ok-Some-clause-lines : goal.returns-in-Ok-Some-clause-lines
+returns-in-Ok-Some-clause-lines g c =
     let opening = c.args.pass.board.opening in
     let h = c.close.ensures in
-    ended-lines opening h.log c.close.result h.follows (closed-over c.args.pass c.close.result h c.requires.over) c.into_finished.result
-    c.in-Some.outcome (c.into_finished.ensures (depot_of opening) h.follows.world.forest h.follows.world.stands) c.in-Some.is
+    let ends = unstopped-end c.args.pass c.args.finish c.reason.result c.requires.finish c.reason.ensures c.in_default.not-Some in
+    ended-lines opening h.log c.close.result h.follows (closed-ends c.args.pass c.close.result h ends) c.outcome.result
+    c.in-Ok-Some.outcome (c.outcome.ensures (depot_of opening) h.follows.world.forest h.follows.world.stands)
+    (c.in-Ok-Some.is ∙ ap Ok c.in-Ok-Some.field-0-is)
+
+pub returns-in-Some-clause-reason : goal.returns-in-Some-clause-reason
+returns-in-Some-clause-reason g c = inl (is-stopped c.args.finish c.in-Some.reason (sym c.reason.ensures ∙ c.in-Some.is))

@@ -1,15 +1,15 @@
-use Rattle.std.proofs.Common.{◌≡◌, ap₂, ◌∙◌}
+use Rattle.std.proofs.Common.{◌≡◌, sym, ap₂, ◌∙◌, subst}
 use Rattle.image_depot.specs.Reply.{sent_image, sent_page}
 use Rattle.fork_board.specs.Notes.{entry_of, told_entry}
-use Rattle.fork_board.specs.Visits.{pass_of}
+use Rattle.fork_board.specs.Visits.{Visits, pass_of}
 use Rattle.fork_board.proofs.Taking.{goes-on, made, told-on}
 use Rattle.fork_board.proofs.board.Board.tell.Goals as goal
 
 pub leave-requires-clause-follows : goal.leave-requires-clause-follows
 leave-requires-clause-follows g c =
     let now = pass_of c.args.self.now c.enter-visit.result.turn.seat in
-    let w = c.enter-visit.result.turn.value in
-    let v = c.enter-visit.ensures.visits in
+    let w = c.deref_mut.result.now in
+    let v = subst (Visits c.args.pass now) (sym c.deref_mut.ensures.value) c.enter-visit.ensures.visits in
     let sent = c.args.sent in
     let r = c.tell-told.result in
     let is : entry_of c.told_note-note.result ≡ told_entry (sent_image sent) (sent_page sent) r =
@@ -20,8 +20,8 @@ leave-requires-clause-follows g c =
 pub returns : goal.returns
 returns g c =
     let now = pass_of c.args.self.now c.enter-visit.result.turn.seat in
-    let w = c.enter-visit.result.turn.value in
-    let v = c.enter-visit.ensures.visits in
+    let w = c.deref_mut.result.now in
+    let v = subst (Visits c.args.pass now) (sym c.deref_mut.ensures.value) c.enter-visit.ensures.visits in
     let sent = c.args.sent in
     let r = c.tell-told.result in
     let is : entry_of c.told_note-note.result ≡ told_entry (sent_image sent) (sent_page sent) r =

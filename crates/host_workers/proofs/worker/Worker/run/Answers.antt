@@ -1,5 +1,7 @@
-use Rattle.std.proofs.Common.{◌≡◌, inr, IfErr, refl, subst, ◌∙◌}
+use Rattle.std.proofs.Common.{◌≡◌, inr, IfErr, IfOk, refl, subst, ◌∙◌}
 use Rattle.host_fetch.specs.declared.error.FetchError.TheVariants as fault
+use Rattle.vm_cell.specs.Steps.{Stands}
+use Rattle.world_core.specs.Lent.{vm_of}
 use Rattle.host_workers.specs.Lost.{IsLost}
 use Rattle.host_workers.specs.Stages.{runs}
 use Rattle.host_workers.proofs.Working.{blames-given-up, holds-on, lent-of, spares-worked, stays-worked}
@@ -22,6 +24,10 @@ pub spend-requires-clause-one : goal.spend-requires-clause-one
 spend-requires-clause-one g c =
     let ran = c.run_on-pass in
     holds-on c.args.pass ran.result.0 c.args.lease ran.new.lease ran.ensures.stays ran.ensures.same c.requires.one
+
+pub spend-requires-clause-stands : goal.spend-requires-clause-stands
+spend-requires-clause-stands g c =
+    let ran = c.run_on-pass in subst (λ r. IfOk r (Stands (vm_of ran.new.lease))) c.in-Ok.is ran.ensures.stands
 
 pub give_up-requires-clause-board : goal.give_up-requires-clause-board
 give_up-requires-clause-board g c = c.run_on-pass.ensures.stays.same_board ∙ c.requires.board

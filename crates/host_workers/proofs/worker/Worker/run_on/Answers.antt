@@ -1,8 +1,8 @@
-use Rattle.std.proofs.Common.{◌≡◌, IfErr, refl, sym, subst, ◌∙◌}
+use Rattle.std.proofs.Common.{◌≡◌, IfErr, IfOk, Ok, ap, refl, subst, ◌∙◌}
 use Rattle.host_fetch.specs.declared.error.FetchError.TheVariants as fault
-use Rattle.host_fetch.specs.Heard.{AreHeardOf}
+use Rattle.vm_cell.specs.Steps.{Stands}
+use Rattle.world_core.specs.Lent.{vm_of}
 use Rattle.host_workers.specs.Lost.{IsLost}
-use Rattle.host_workers.specs.declared.replies.Hearing.{Hearing}
 use Rattle.host_workers.proofs.Working.{fit-on, lent-on, same-none, same-then, stays-more, stays-none}
 use Rattle.host_workers.proofs.worker.Worker.run_on.Goals as goal
 
@@ -31,6 +31,7 @@ returns-in-Ok g c =
     let was = c.loop.invariant in
     record {
       same = same-then c.args.lease.now c.loop.lease c.run_stretch-after.new.lease was.same e.same;
+      stands = subst (λ r. IfOk r (Stands (vm_of c.run_stretch-after.new.lease))) c.in-Ok.is e.stands;
       stays = stays-more c.args.pass c.loop.pass c.run_stretch-after.result.0 was.stays e.stays;
       fit = e.fit;
       wire = tt;
@@ -43,6 +44,7 @@ returns-in-Err g c =
     let was = c.loop.invariant in
     record {
       same = same-then c.args.lease.now c.loop.lease c.run_stretch-after.new.lease was.same e.same;
+      stands = tt;
       stays = stays-more c.args.pass c.loop.pass c.run_stretch-after.result.0 was.stays e.stays;
       fit = e.fit;
       wire = subst (λ r. IfErr r (λ error. error ≡ fault.Wire → IsLost g.W.Wire.streak c.run_stretch-after.new.wire)) c.in-Err.is e.wire;
@@ -53,8 +55,10 @@ pub returns-then-is_over : goal.returns-then-is_over
 returns-then-is_over g c =
     let e = c.run_stretch-after.ensures in
     let was = c.loop.invariant in
+    let went = rw c.in-Ok-Went.is at c.in-Ok-Went.field-0-is in
     record {
       same = same-then c.args.lease.now c.loop.lease c.run_stretch-after.new.lease was.same e.same;
+      stands = subst (λ r. IfOk r (Stands (vm_of c.run_stretch-after.new.lease))) (c.in-Ok-Went.is ∙ ap Ok went) e.stands;
       stays = stays-more c.args.pass c.loop.pass c.run_stretch-after.result.0 was.stays e.stays;
       fit = fit-on _ _ _ _ c.look_up.ensures.hearing c.look_up.ensures.claims e.fit;
       wire = tt;

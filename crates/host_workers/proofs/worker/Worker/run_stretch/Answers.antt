@@ -19,6 +19,7 @@ returns-in_default g c =
     let was = c.loop.invariant in
     record {
       same = same-then c.args.lease.now c.loop.lease c.run.new.self was.same c.run.ensures.same;
+      stands = tt;
       stays = was.stays;
       fit = was.fit;
       wire = lost-none g.W.Wire.streak c.loop.wire;
@@ -30,6 +31,7 @@ returns-in_default-why g c =
     let was = c.loop.invariant in
     record {
       same = same-then c.args.lease.now c.loop.lease c.run.new.self was.same c.run.ensures.same;
+      stands = c.in-Ok.ensures.stands;
       stays = was.stays;
       fit = was.fit;
       wire = tt;
@@ -54,6 +56,7 @@ returns-in-Err g c =
     record {
       same = same-then c.args.lease.now c.run.new.self c.bring-after.new.lease
           (same-then c.args.lease.now c.loop.lease c.run.new.self was.same c.run.ensures.same) e.same;
+      stands = tt;
       stays = stays-more c.args.pass c.loop.pass c.bring-after.result.0 was.stays e.stays;
       fit = e.fit;
       wire = subst (λ r. IfErr r (λ error. error ≡ fault.Wire → IsLost g.W.Wire.streak c.bring-after.new.wire)) c.in-Err.is e.wire;

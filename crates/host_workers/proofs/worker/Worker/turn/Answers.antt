@@ -1,6 +1,6 @@
 use Rattle.std.proofs.Common.{◌≡◌, inr, refl, subst, ◌∙◌}
-use Rattle.forest_history.specs.Histories.{row}
-use Rattle.forest_history.specs.Rows.{halted, took}
+use Rattle.talking_history.specs.Histories.{row}
+use Rattle.talking_history.specs.Rows.{halted, took}
 use Rattle.world_core.specs.declared.reason.Reason.TheVariants as reason
 use Rattle.world_core.specs.declared.world.Taken.{Taken}
 use Rattle.world_core.specs.declared.world.Taken.TheVariants as taken
@@ -8,7 +8,7 @@ use Rattle.fork_board.specs.Answers.{Takes}
 use Rattle.fork_board.specs.Notes.{taken_entry}
 use Rattle.fork_board.specs.Passes.{Makes}
 use Rattle.host_workers.specs.Stages.{done, free, runs, short}
-use Rattle.host_workers.proofs.Ending.{ends-over, ends-stopped, taken-going}
+use Rattle.host_workers.proofs.Ending.{ends-over, ends-stopped, ends-stuck, taken-going}
 use Rattle.host_workers.proofs.Working.{blames-worked, holds-taken, spares-halted, spares-taken, spares-worked, stopped-later, worked-more, worked-one}
 use Rattle.host_workers.proofs.worker.Worker.turn.Goals as goal
 
@@ -59,6 +59,22 @@ returns-in-Stopped g c =
       worked = worked-one {a = free} {b = done} c.args.pass r.0 (taken_entry (taken.Stopped c.in-Stopped.reason)) makes (refl, refl);
       none = λ name. makes.free name (c.requires.none name);
       turns = ends-stopped c.args.pass r.0 c.in-Stopped.reason makes;
+      fit = c.requires.fit;
+      wire = λ by. inr (spares-taken c.args.pass r.0 r.1 e.makes by);
+      stopped = λ was. refl {a = c.args.wire.now};
+      seeds = refl {a = g.W.Wire.seeds c.args.wire.now};
+    }
+
+pub returns-in-Stuck : goal.returns-in-Stuck
+returns-in-Stuck g c =
+    let r = c.take-pass.result in
+    let e = c.take-pass.ensures in
+    let makes : Makes c.args.pass r.0 (taken_entry taken.Stuck) =
+    subst (λ (t : Taken). Makes c.args.pass r.0 (taken_entry t)) c.in-Stuck.is e.makes in
+    record {
+      worked = worked-one {a = free} {b = done} c.args.pass r.0 (taken_entry taken.Stuck) makes (refl, refl);
+      none = λ name. makes.free name (c.requires.none name);
+      turns = ends-stuck c.args.pass r.0 makes;
       fit = c.requires.fit;
       wire = λ by. inr (spares-taken c.args.pass r.0 r.1 e.makes by);
       stopped = λ was. refl {a = c.args.wire.now};

@@ -1,4 +1,4 @@
-use Rattle.std.proofs.Common.{◌≡◌, None, refl, ap, ◌∙◌, rules, arith, ℕ, false, List, ◌≤◌}
+use Rattle.std.proofs.Common.{◌≡◌, None, refl, ap, ◌∙◌, rules, arith, ℕ, List, ◌≤◌}
 use Rattle.vm_hart.specs.Keyed.{KeyedMachine, hart_in}
 use Rattle.vm_cell.specs.Parts.{IsCut, IsPart}
 use Rattle.vm_hart.specs.Runs.{IsRun, moved, moved_by}

@@ -1,9 +1,9 @@
-use Rattle.std.proofs.Common.{◌≡◌, ◌+◌, ◌==◌, None, Some, rules, ap, ◌∙◌, subst}
+use Rattle.std.proofs.Common.{◌≡◌, ◌+◌, ◌==◌, None, Some, rules, sym, ap, ◌∙◌, subst}
 use Rattle.forest_model.specs.Paged.{stalled_at}
 use Rattle.vm_hart.specs.Acts.{waits_for}
 use Rattle.vm_hart.specs.Keyed.{KeyedMachine, KeyedState, hart_in, machine_of, paged}
 use Rattle.vm_cell.specs.Steps.{GoesOn}
-use Rattle.vm_cell.specs.declared.vm.Stop.TheVariants.{Call, Page}
+use Rattle.vm_cell.specs.declared.vm.Stop.TheVariants.{Page}
 use Rattle.vm_cell.proofs.Runs.{rises_retired, rises_exited, funded_retired, funded_exited, counted_step, counted_end, counted_exit}
 use Rattle.vm_hart.proofs.Stepping.{stalls_live}
 use Rattle.vm_hart.proofs.Stepping.{goes_exited, goes_interrupted, goes_retired, goes_trapped}
@@ -83,5 +83,6 @@ pub returns-in-Asked-clause-goes : goal.returns-in-Asked-clause-goes
 returns-in-Asked-clause-goes c =
     let v : KeyedMachine = machine_of c.self.inside.hart c.self.inside.steps c.self.inside.limit c.self.inside.ending in
     let acts = rw c.in-Asked.is at c.in_ok-page.ensures.acts in
-    subst (λ (n : KeyedMachine). GoesOn n (machine_of c.act.new.self c.self.inside.steps c.self.inside.limit c.self.inside.ending) (Some (Call c.in-Asked.call))) c.self.view_is
-    (goes_asked v c.act.new.self (rw (← c.self.view_is) at c.requires.live) c.in-Asked.call acts)
+    let new : KeyedMachine = machine_of c.act.new.self c.self.inside.steps c.self.inside.limit c.self.inside.ending in
+    subst (λ (n : KeyedMachine). GoesOn n new (Some c.stop_at.result)) c.self.view_is
+    (subst (λ s. GoesOn v new (Some s)) (sym c.stop_at.ensures) (goes_asked v c.act.new.self (rw (← c.self.view_is) at c.requires.live) c.in-Asked.request acts))

@@ -1,4 +1,4 @@
-use Rattle.std.proofs.Common.{◌≡◌, ◌+◌, ◌-◌, ap, arith, subst}
+use Rattle.std.proofs.Common.{◌≡◌, ◌+◌, ap, arith, subst}
 use Rattle.vm_hart.specs.Keyed.{KeyedMachine}
 use Rattle.vm_cell.specs.Parts.{IsMadeUntil}
 use Rattle.vm_cell.proofs.Runs.{all-made, part-until}

@@ -1,7 +1,7 @@
 use Rattle.std.proofs.Common.{Err, ap, ◌∙◌}
 use Rattle.std.specs.Option.{is_some}
 use Rattle.std.proofs.lemmas.Result.{err_from_is_err_and}
-use Rattle.vm_hart.proofs.Storing.{bytes-acts, bytes-met, call-acts, disk-met, done-acts, exit-acts, fault-acts, time-acts, unzeroed, zero-acts, zero-grows}
+use Rattle.vm_hart.proofs.Storing.{bytes-acts, bytes-met, call-acts, disk-met, done-acts, exit-acts, fault-acts, talk-acts, time-acts, unzeroed, zero-acts, zero-grows}
 use Rattle.vm_hart.proofs.hart.Hart.store_to_port.Goals as goal
 
 pub store_port-requires-clause-here : goal.store_port-requires-clause-here
@@ -24,6 +24,11 @@ pub returns-in-Ok-Call-clause-acts : goal.returns-in-Ok-Call-clause-acts
 returns-in-Ok-Call-clause-acts c =
     let stored = rw c.in-Ok-Call.field-0-is at c.in-Ok-Call.ensures.ok in
     call-acts c.args.self.now c.store_port.new.self c.args.address c.args.width c.args.word (c.wanted_at_port.ensures.none (ap is_some c.in_default.is)) c.in-Ok-Call.call stored
+
+pub returns-in-Ok-Talk-clause-acts : goal.returns-in-Ok-Talk-clause-acts
+returns-in-Ok-Talk-clause-acts c =
+    let stored = rw c.in-Ok-Talk.field-0-is at c.in-Ok-Talk.ensures.ok in
+    talk-acts c.args.self.now c.store_port.new.self c.args.address c.args.width c.args.word (c.wanted_at_port.ensures.none (ap is_some c.in_default.is)) c.in-Ok-Talk.talk stored
 
 pub returns-in-Ok-Exit-clause-acts : goal.returns-in-Ok-Exit-clause-acts
 returns-in-Ok-Exit-clause-acts c =

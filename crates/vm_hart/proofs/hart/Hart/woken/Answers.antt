@@ -37,8 +37,8 @@ returns c =
     let sectors = c.sectors.ensures.value ∙ ap (λ (i : FrozenImage). sector_count i.disk) image in
     let whole = ap (λ n. SECTOR_SIZE * n) (sym sectors) ∙ c.sectors.ensures.whole ∙ ap (λ (i : FrozenImage). length i.disk) image in
     let disk = c.in_ok-disk.disk in
-    woken-by d c.args.key.now disk c.with_zero.result c.of_fields.result c.in_ok-clone_of.field-0 c.in_ok-of_fields.field-0 c.with_zero.ensures c.of_fields.ensures
+    woken-by d c.args.siblings c.args.key.now disk c.with_zero.result c.of_fields.result c.in_ok-clone_of.field-0 c.in_ok-of_fields.field-0 c.with_zero.ensures c.of_fields.ensures
     (c.in_ok-clone_of.ensures ∙ ap (λ key. cloned key d.blank) c.in_ok-again.ensures)
-    (c.in_ok-of_fields.ensures ∙ ap (λ fields. parts_of_fields fields disk c.in_ok-input.input) c.port_fields.ensures
-    ∙ ap (parts_of_fields (port_fields d) disk) (c.in_ok-input.ensures ∙ c.input.ensures.value ∙ ap (λ (i : FrozenImage). i.input) image))
+    (c.in_ok-of_fields.ensures ∙ ap (λ fields. parts_of_fields fields disk c.in_ok-input.input c.args.siblings) c.port_fields.ensures
+    ∙ ap (λ input. parts_of_fields (port_fields d) disk input c.args.siblings) (c.in_ok-input.ensures ∙ c.input.ensures.value ∙ ap (λ (i : FrozenImage). i.input) image))
     (c.in_ok-disk.ensures ∙ ap absent_disk sectors) whole

@@ -22,10 +22,10 @@ index_mut-requires c =
     (child-place r.0 r.1 c.args.self.now r.2 r.3 c.args.ticket c.args.index c.in-Some.brood.now r.4 r.5 (sym c.in-Some.ensures.value)).1
 
 pub returns-clause-shows : goal.returns-clause-shows
-returns-clause-shows c depot path t a h found asleep lives =
+returns-clause-shows c depot path resting t a h found asleep lives named =
     let broods = c.get_mut.follows.lender c.let_go.new.self in
-    wakes-shows depot path c.args.ticket c.args.index c.args.self.now broods c.in-Some.brood.now c.let_go.new.self.image t a h found lives
-    (sym c.in-Some.ensures.value)
+    wakes-shows depot path c.args.ticket c.args.index resting c.args.self.now broods c.in-Some.brood.now c.let_go.new.self.image c.args.name t a h found lives
+    named (sym c.in-Some.ensures.value)
     (subst (λ b. WritesThrough nat_cmp (nat_cmp c.args.ticket) c.args.self.now.broods b broods) c.let_go.ensures.rest
     (c.get_mut.follows.holds c.let_go.new.self))
     c.let_go.ensures.image

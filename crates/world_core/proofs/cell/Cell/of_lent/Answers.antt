@@ -6,11 +6,12 @@ use Rattle.world_core.proofs.SlotBegins.{alone-awake, alone-holds}
 use Rattle.world_core.proofs.cell.Cell.of_lent.Goals as goal
 
 pub returns-clause-shows : goal.returns-clause-shows
-returns-clause-shows c depot path lives none = record {
-  awake = alone-awake (paged c.args.vm.now) out lives refl;
+returns-clause-shows c depot path resting inbox lives none = record {
+  awake = alone-awake (paged c.args.vm.now) out inbox lives refl;
+  kin = tt;
   state = (ap (λ (v : KeyedMachine). v.machine) c.of.ensures, refl);
   of_depot = tt;
-  holds = alone-holds depot path _ (paged c.args.vm.now) out
+  holds = alone-holds depot path _ (paged c.args.vm.now) out inbox
       (record { no_brood = c.new.ensures.empty; no_line = c.new-2.ensures.items; no_length = c.new-2.ensures.len }) none;
 }
 

@@ -20,6 +20,7 @@ invariant_of-self c =
     let same : new.machine ≡ old.machine = c.arrive.ensures.rest.0 ∙ ap (λ (v : KeyedMachine). v.machine) c.deref_mut.ensures.value in
     record {
       own = c.self.invariant.own;
+      kin = c.self.invariant.kin;
       made = subst (IsLent start inside.ran) (sym same) c.self.invariant.made;
       led = led-arrives (lease_of old) (lease_of new) old.key c.args.parcel.now c.arrive.result refl refl come failed c.self.invariant.led;
     }

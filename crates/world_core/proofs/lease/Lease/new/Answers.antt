@@ -15,7 +15,8 @@ invariant_of-result c =
     let name = c.args.turn.name in
     let same : vm ≡ c.of-start.result.value = sym (c.of-start.ensures ∙ c.deref.ensures) in
     record {
-      own = c.requires;
+      own = c.requires.own;
+      kin = c.requires.kin;
       made = subst (λ (v : KeyedMachine). IsLent v.machine 0 vm.machine) same (lent-none vm.machine);
       led = subst (λ (v : KeyedMachine). HasLed (lent_as name v.machine 0 vm)) same (led-none name vm);
     }

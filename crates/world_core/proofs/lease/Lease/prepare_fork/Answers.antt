@@ -1,4 +1,4 @@
-use Rattle.std.proofs.Common.{◌≡◌, ℕ, ◌≤◌, List, length, replicate, Some, sym, ap, ◌∙◌, subst, vec_len}
+use Rattle.std.proofs.Common.{◌≡◌, ℕ, ◌≤◌, arith, List, length, replicate, Some, sym, ap, ◌∙◌, subst, vec_len}
 use Rattle.std.proofs.Math.ListN.{length-replicate}
 use Rattle.fork_port.specs.declared.commands.Call.TheVariants.{Clone}
 use Rattle.forest_model.specs.Forest.{machines}
@@ -19,6 +19,11 @@ invariant_of-result g c =
     slots.ok.0 ∙ ap (λ (items : List ChildSlot). length items) c.in_ok-slots.ensures ∙ length-replicate c.granted.result Asleep in
     record {
       slots = c.in_ok-slots.ensures ∙ ap (λ (n : ℕ). replicate n Asleep) (sym count);
+      wordless = c.new.ensures;
+      silent = record {
+        none = c.in_ok-notes.ensures.none;
+        room = omega (arith, c.in_ok-notes.ensures.room, c.len.ensures, count, c.granted.ensures.most);
+      };
       few = subst (λ n. n ≤ MAX_CLONES) (sym count) c.granted.ensures.most;
       queued = c.in_ok-turn.ensures
           ∙ ap (λ n. let turn : Ready = record { name = n; children = Some (c.in-Some-Clone.ticket, 1) } in turn)

@@ -64,7 +64,7 @@ invariant_of-self c =
     let lease_of : ℕ → KeyedMachine → Lent = λ ran v. lent_as c.self.inside.turn.name start ran v in
     let led = led-run (lease_of c.self.inside.ran c.self.inside.vm.value) (lease_of (c.self.inside.ran + since) new) since refl c.self.invariant.made refl moved
     c.self.invariant.led in
-    record { own = c.self.invariant.own; made = subst (λ n. IsLent start (c.self.inside.ran + n) new.machine) (sym more) lent; led = led }
+    record { own = c.self.invariant.own; kin = c.self.invariant.kin; made = subst (λ n. IsLent start (c.self.inside.ran + n) new.machine) (sym more) lent; led = led }
 
 pub returns-clause-handed : goal.returns-clause-handed
 returns-clause-handed c = λ f out_as.

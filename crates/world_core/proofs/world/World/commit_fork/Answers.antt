@@ -6,16 +6,14 @@ use Rattle.std.specs.Result.{IfOk}
 use Rattle.image_depot.specs.Key.{Shelves}
 use Rattle.forest_tree.specs.Operations.{clone}
 use Rattle.forest_tree.specs.Tree.{Tree, Path}
-use Rattle.forest_history.specs.Places.{Spot}
-use Rattle.forest_history.specs.Rows as rows
+use Rattle.talking_history.specs.Rows as rows
 use Rattle.forest_model.specs.Calls.{forked}
-use Rattle.forest_model.specs.Paged.{Paged}
 use Rattle.vm_cell.specs.Keyed.{KeyedMachine, paged}
 use Rattle.vm_cell.specs.Standing.{standing_call}
 use Rattle.vm_cell.specs.declared.vm.fork.ForkImage.{ForkImage}
 use Rattle.world_core.specs.Lent.{Lent, lent_as, vm_of}
 use Rattle.world_core.specs.PreparedFork.{IsPreparedIn, IsPreparedFor, IsNewBrood, Prepared}
-use Rattle.world_core.specs.Shows.{Holds, HoldsAfter, StandsAt, forked_tree}
+use Rattle.world_core.specs.Shows.{Member, Holds, HoldsAfter, StandsAt, forked_tree}
 use Rattle.world_core.specs.Answers.{Answers}
 use Rattle.world_core.proofs.Calling.{gone-here, at-ok, at-err, same-image}
 use Rattle.world_core.proofs.CallFork.{committed, forked-key, fork-kept, prepared-stands, stands-clone}
@@ -38,7 +36,7 @@ returns-in_default-prepared-clause-answers c depot f stands out_as of_depot kept
           (found-by c.args.self.now.cells c.name.ensures c.in-Some.ensures.value)
           (c.get_mut.follows.lender c.in-Some.cell.now) c.in-Some.cell.now
           (writes-by c.args.self.now.cells (c.get_mut.follows.lender c.in-Some.cell.now) c.in-Some.cell.now c.name.ensures (c.get_mut.follows.holds c.in-Some.cell.now))
-          refl refl (λ t holds. holds),
+          refl refl refl (λ t holds. holds),
     )
 
 pub fork-requires : goal.fork-requires
@@ -68,8 +66,8 @@ returns-then-is_err-clause-answers c depot f stands out_as of_depot kept =
           (found-by c.args.self.now.cells c.name.ensures c.in-Some.ensures.value)
           (c.get_mut.follows.lender c.fork.new.self) c.fork.new.self
           (writes-by c.args.self.now.cells (c.get_mut.follows.lender c.fork.new.self) c.fork.new.self c.name.ensures (c.get_mut.follows.holds c.fork.new.self))
-          c.fork.ensures.place.0 c.fork.ensures.place.1
-          (λ t holds. at-err ((depot : Shelves) (path : Path) (t : Tree (Spot Paged)) → Holds depot path c.in-Some.cell.now t → Holds depot path c.fork.new.self t)
+          c.fork.ensures.place.0 c.fork.ensures.place.2 c.fork.ensures.place.1
+          (λ t holds. at-err ((depot : Shelves) (path : Path) (t : Tree Member) → Holds depot path c.in-Some.cell.now t → Holds depot path c.fork.new.self t)
           c.fork.result failed c.fork.ensures.still depot c.args.lease.name t holds),
     )
 
@@ -85,7 +83,7 @@ place-requires-clause-between c =
     let vm_made = at-ok (c.fork.new.vm ≡ record c.deref_mut.result.now { machine = forked c.deref_mut.result.now.machine }) c.fork.result made c.fork.ensures.ok in
     let key = forked-key is_vm vm_made in
     let holds = at-ok ((depot : Shelves) (path : Path) (left : ForkImage) → IsNewBrood depot path c.deref_mut.result.now ticket c.into_brood-ticket.result.1 left
-    → (t : Tree (Spot Paged)) → Holds depot path c.in-Some.cell.now t → StandsAt (paged c.deref_mut.result.now) (clone ticket) t
+    → (t : Tree Member) → Holds depot path c.in-Some.cell.now t → StandsAt (paged c.deref_mut.result.now) (clone ticket) t
     → HoldsAfter depot path c.fork.new.self (forked_tree ticket t)) c.fork.result made c.fork.ensures.holds in
     let k = committed lent.0 c.args.self.now lent.1.0 c.args.lease prepared ticket c.in-Some.cell.now c.deref_mut.result.now lent.1.1 lent.1.2
     (lent-by c.lease.view_is c.lease.invariant.made) of c.into_brood-ticket.ensures.ticket is_vm (found-by c.args.self.now.cells c.name.ensures c.in-Some.ensures.value)
@@ -108,7 +106,7 @@ returns-clause-answers c depot f stands out_as of_depot kept =
     let vm_made = at-ok (c.fork.new.vm ≡ record c.deref_mut.result.now { machine = forked c.deref_mut.result.now.machine }) c.fork.result made c.fork.ensures.ok in
     let key = forked-key is_vm vm_made in
     let holds = at-ok ((depot : Shelves) (path : Path) (left : ForkImage) → IsNewBrood depot path c.deref_mut.result.now ticket c.into_brood-ticket.result.1 left
-    → (t : Tree (Spot Paged)) → Holds depot path c.in-Some.cell.now t → StandsAt (paged c.deref_mut.result.now) (clone ticket) t
+    → (t : Tree Member) → Holds depot path c.in-Some.cell.now t → StandsAt (paged c.deref_mut.result.now) (clone ticket) t
     → HoldsAfter depot path c.fork.new.self (forked_tree ticket t)) c.fork.result made c.fork.ensures.holds in
     let k = committed depot c.args.self.now f c.args.lease prepared ticket c.in-Some.cell.now c.deref_mut.result.now stands out_as
     (lent-by c.lease.view_is c.lease.invariant.made) of c.into_brood-ticket.ensures.ticket is_vm (found-by c.args.self.now.cells c.name.ensures c.in-Some.ensures.value)
@@ -118,7 +116,7 @@ returns-clause-answers c depot f stands out_as of_depot kept =
     (subst (λ o. IfOk o (IsPreparedIn depot)) is_there kept) c.into_brood-ticket.ensures.brood c.into_brood-ticket.ensures.turn
     (keeps-last c.into_brood-ticket.result.2 c.args.self.now.ready c.push_last.new.self c.push_last.ensures) c.fork.ensures.place.1 vm_made
     (holds depot c.args.lease.name) in
-    let p = c.place.ensures.placed depot f k.tree k.between k.is (same-image depot c.fork.new.vm c.args.lease key of_depot) k.sound in
+    let p = c.place.ensures.placed depot f k.tree k.between k.is (same-image depot c.fork.new.vm c.args.lease key of_depot) k.whole in
     subst (λ r. Answers depot f rows.forked c.args.lease r c.place.new.self) (sym p.0) (k.goes c.place.new.self p.1)
 
 pub returns-in_default-clause-images : goal.returns-in_default-clause-images

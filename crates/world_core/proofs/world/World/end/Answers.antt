@@ -1,5 +1,5 @@
 use Rattle.std.proofs.Common.{sym, ap, ◌∙◌, subst}
-use Rattle.forest_history.specs.Rows.{ended}
+use Rattle.talking_history.specs.Rows.{ended}
 use Rattle.world_core.specs.Lent.{Lent, lent_as}
 use Rattle.world_core.specs.Answers.{Answers, HandedOut, IsHandedOut}
 use Rattle.world_core.proofs.Giving.{back-wanted, ended-answers}

@@ -4,11 +4,13 @@ use Rattle.world_core.proofs.Images.{written, lent-key}
 use Rattle.std.proofs.Common.{◌≡◌, Some, sym, ap, ◌∙◌, subst, refl}
 use Rattle.forest_tree.specs.Settle.{endings}
 use Rattle.forest_tree.specs.Tree.{brood_of, broods_of}
-use Rattle.forest_history.specs.Rows.{joined, spent, waited}
+use Rattle.talking_history.specs.Rows.{joined, spent, waited}
 use Rattle.forest_model.specs.Calls.{after_join}
 use Rattle.vm_cell.specs.Keyed.{KeyedMachine, paged}
 use Rattle.world_core.specs.declared.cell.Cell.{Cell}
+use Rattle.world_core.specs.declared.cell.Awaited.TheVariants.{Children}
 use Rattle.world_core.specs.declared.cell.State.TheVariants.{Parked}
+use Rattle.world_core.specs.Kin.{IsKin}
 use Rattle.world_core.specs.Lent.{Lent, lent_as, now_of}
 use Rattle.world_core.specs.Shows.{forest, Holds, HoldsAfter, joined_tree}
 use Rattle.world_core.specs.Answers.{Answers, IsLentOf}
@@ -25,15 +27,19 @@ returns-in_default-get_mut-clause-answers c depot f stands out_as of_depot =
 
 pub returns-then-waits-clause-answers : goal.returns-then-waits-clause-answers
 returns-then-waits-clause-answers c depot f stands out_as of_depot =
-    let parked : Cell = record c.in-Some.cell.now { state = Parked c.in-Some-Join.ticket c.lease.inside.vm c.lease.inside.turn } in (
+    let parked : Cell = record c.in-Some.cell.now {
+      kin = c.lease.inside.kin;
+      state = Parked (Children c.in-Some-Join.ticket) c.lease.inside.vm c.lease.inside.turn;
+    } in (
       tt,
       goes-reordered depot (record c.args.self.now { cells = c.get_mut.follows.lender parked }) c.raise_asleep.new.ready f c.raise_asleep.ensures
           (spent waited c.args.lease.name c.args.lease.ran)
           (join-parked depot c.args.self.now f c.args.lease c.in-Some-Join.ticket c.in-Some.cell.now stands out_as
           (lent-by c.lease.view_is c.lease.invariant.made) (ap Some (sym c.in-Some-Join.field-0-is) ∙ c.in-Some-Join.ensures)
           (found-by c.args.self.now.cells c.name.ensures c.in-Some.ensures.value)
-          (c.get_mut.follows.lender parked) c.lease.inside.vm c.lease.inside.turn (λ depot path t holds. sym c.if-waits.true ∙ c.waits.ensures depot path t holds)
+          (c.get_mut.follows.lender parked) c.lease.inside.vm c.lease.inside.kin c.lease.inside.turn (λ depot path t holds. sym c.if-waits.true ∙ c.waits.ensures depot path t holds)
           (writes-by c.args.self.now.cells (c.get_mut.follows.lender parked) parked c.name.ensures (c.get_mut.follows.holds parked))
+          (subst (IsKin c.lease.inside.kin) (ap (λ (l : Lent). l.name) c.lease.view_is) c.lease.invariant.kin)
           (ap now_of c.lease.view_is) (subst (IsLentOf depot) (sym c.lease.view_is) of_depot) c.lease.invariant.own (ap (λ (l : Lent). l.name) c.lease.view_is)),
     )
 
@@ -57,7 +63,7 @@ returns-then-is_err-clause-answers c depot f stands out_as of_depot =
           (found-by c.args.self.now.cells c.name.ensures c.in-Some.ensures.value)
           (λ depot path t holds. sym c.if-waits.false ∙ c.waits.ensures depot path t holds) (c.get_mut.follows.lender c.join.new.self) c.join.new.self
           (writes-by c.args.self.now.cells (c.get_mut.follows.lender c.join.new.self) c.join.new.self c.name.ensures (c.get_mut.follows.holds c.join.new.self))
-          c.join.ensures.place.0 c.join.ensures.place.1
+          c.join.ensures.place.0 c.join.ensures.place.2 c.join.ensures.place.1
           (λ t depot path holds. at-err (Holds depot path c.join.new.self t) c.join.result failed (c.join.ensures.still t depot path holds)),
     )
 
@@ -100,7 +106,7 @@ returns-clause-answers c depot f stands out_as of_depot =
     let p = c.place.ensures.placed depot f k.tree k.between k.is
     (same-image depot c.join.new.vm c.args.lease
     (c.join.ensures.key ∙ ap (λ (v : KeyedMachine). v.key) c.deref_mut.ensures.value ∙ ap (λ (l : Lent). l.key) c.lease.view_is) of_depot)
-    k.sound in
+    k.whole in
     subst (λ r. Answers depot f joined c.args.lease r c.place.new.self) (sym p.0) (k.goes c.place.new.self p.1)
 
 pub returns-in_default-get_mut-clause-images : goal.returns-in_default-get_mut-clause-images
@@ -109,7 +115,7 @@ returns-in_default-get_mut-clause-images c images h lent = subst (HaveImages ima
 pub returns-then-waits-clause-images : goal.returns-then-waits-clause-images
 returns-then-waits-clause-images c images h lent =
     let inside = c.lease.inside in
-    let parked : Cell = record c.in-Some.cell.now { state = Parked c.in-Some-Join.ticket inside.vm inside.turn } in
+    let parked : Cell = record c.in-Some.cell.now { kin = inside.kin; state = Parked (Children c.in-Some-Join.ticket) inside.vm inside.turn } in
     written images c.args.self.now.cells (c.get_mut.follows.lender parked) c.args.lease.name c.in-Some.cell.now parked
     (found-by c.args.self.now.cells c.name.ensures c.in-Some.ensures.value)
     (writes-by c.args.self.now.cells (c.get_mut.follows.lender parked) parked c.name.ensures (c.get_mut.follows.holds parked))

@@ -5,14 +5,13 @@ use Rattle.std.proofs.Common.{Some, sym, ap, ◌∙◌, subst}
 use Rattle.fork_port.specs.declared.commands.Call.TheVariants.{Kill}
 use Rattle.forest_tree.specs.Operations.{kill}
 use Rattle.forest_tree.specs.Tree.{Tree, node}
-use Rattle.forest_history.specs.Places.{Spot}
-use Rattle.forest_history.specs.Rows.{killed}
-use Rattle.forest_model.specs.Paged.{Paged}
+use Rattle.talking_history.specs.Rows.{killed}
 use Rattle.vm_cell.specs.Keyed.{KeyedMachine, paged}
 use Rattle.world_core.specs.Lent.{Lent, now_of}
-use Rattle.world_core.specs.Shows.{StandsAt}
+use Rattle.world_core.specs.Shows.{Member, StandsAt}
 use Rattle.world_core.specs.Answers.{Answers}
-use Rattle.world_core.proofs.Calling.{found-here, gone-here, lent_out, same-image}
+use Rattle.world_core.proofs.Calling.{found-here, gone-here, same-image}
+use Rattle.world_core.proofs.Steps.{lent_out}
 use Rattle.world_core.proofs.CallKill.{kill-called}
 use Rattle.world_core.proofs.world.World.kill.Goals as goal
 
@@ -28,7 +27,7 @@ kill-requires-clause-holds c =
     let h = found-here lent.0 c.args.self.now lent.1.0 c.args.lease (Kill c.in-Some-Kill.ticket) c.in-Some.cell.now lent.1.1 lent.1.2
     (lent-by c.lease.view_is c.lease.invariant.made) (ap Some (sym c.in-Some-Kill.field-0-is) ∙ c.in-Some-Kill.ensures)
     (found-by c.args.self.now.cells c.name.ensures c.in-Some.ensures.value) in
-    let t : Tree (Spot Paged) = node (lent_out (now_of c.args.lease)) h.broods h.log in (
+    let t : Tree Member = node (lent_out h.inbox (now_of c.args.lease)) h.broods h.log in (
       lent.0,
       c.args.lease.name,
       t,
@@ -69,7 +68,7 @@ returns-clause-answers c depot f stands out_as of_depot =
     let p = c.place.ensures.placed depot f k.tree k.between k.is
     (same-image depot c.kill.new.vm c.args.lease
     (ap (λ (v : KeyedMachine). v.key) (c.kill.ensures.vm) ∙ ap (λ (v : KeyedMachine). v.key) c.deref_mut.ensures.value ∙ ap (λ (l : Lent). l.key) c.lease.view_is) of_depot)
-    k.sound in
+    k.whole in
     subst (λ r. Answers depot f killed c.args.lease r c.place.new.self) (sym p.0) (k.goes c.place.new.self p.1)
 
 pub returns-in_default-get_mut-clause-images : goal.returns-in_default-get_mut-clause-images

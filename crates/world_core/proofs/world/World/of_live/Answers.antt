@@ -4,13 +4,13 @@ use Rattle.std.proofs.Common.{◌≡◌, [], ◌∷◌, Some, None, sym, ap, ap�
 use Rattle.std.specs.BTreeMap.{Updates, is_at}
 use Rattle.std.specs.Map.{lookup}
 use Rattle.forest_tree.specs.Settle.{alone}
-use Rattle.forest_history.specs.Places.{home}
 use Rattle.forest_model.specs.Paged.{Paged}
 use Rattle.machine_names.specs.NameOrder.{path_cmp}
 use Rattle.vm_cell.specs.Keyed.{KeyedMachine, IsOfDepot, paged}
 use Rattle.ready_queue.specs.Ready.{Ready}
 use Rattle.world_core.specs.Shows.{forest, CellShows}
-use Rattle.world_core.proofs.Beginning.{none-cloned, start-stands}
+use Rattle.world_core.specs.World.{rests_in}
+use Rattle.world_core.proofs.Beginning.{at_start, none-cloned, start-stands}
 use Rattle.world_core.proofs.world.World.of_live.Goals as goal
 
 pub returns-clause-stands : goal.returns-clause-stands
@@ -24,11 +24,12 @@ returns-clause-stands c = λ depot.
     (c.in_ok-turn.ensures ∙ ap (λ n. let own : Ready = record { name = n; children = None } in own) (c.in_ok-copy.ensures ∙ c.in_ok-name.ensures)) c.new-ready.ensures in
     let inserted : Updates path_cmp c.new-cells.result c.seat.new.cells [] (Some c.of_root.result) =
     subst (λ name. Updates path_cmp c.new-cells.result c.seat.new.cells name (Some c.of_root.result)) c.in_ok-name.ensures c.in_ok-seat.ensures.ok in
-    let shows : CellShows depot [] c.of_root.result (alone forest (record { machine = vm; place = home })) =
-    subst (λ m. CellShows depot [] c.of_root.result (alone forest (record { machine = m; place = home }))) same
-    (c.of_root.ensures.shows depot [] (ap (λ (p : Paged). p.machine.ending) same ∙ c.requires.lives) of_depot
+    let resting = rests_in (alone forest (at_start vm)) [] in
+    let shows : CellShows depot [] resting c.of_root.result (alone forest (at_start vm)) =
+    subst (λ m. CellShows depot [] resting c.of_root.result (alone forest (at_start m))) same
+    (c.of_root.ensures.shows depot resting [] (ap (λ (p : Paged). p.machine.ending) same ∙ c.requires.lives) of_depot
     (none-cloned (paged c.in_ok-vm.vm.value) (ap (λ (p : Paged). p.machine.state.ports.fork.tickets) same ∙ c.requires.no_ticket))) in
-    start-stands depot vm c.new-cells.result c.seat.new.cells c.push.new.self c.of_root.result c.new-told.result c.requires.lives c.requires.no_ticket c.requires.good
+    start-stands depot vm c.new-cells.result c.seat.new.cells c.push.new.self c.of_root.result c.new-told.result c.requires.lives c.requires.no_ticket c.requires.no_siblings c.requires.good
     (λ name. ap (lookup (is_at (path_cmp name))) c.new-cells.ensures.empty) inserted shows list
 
 pub returns-clause-images : goal.returns-clause-images

@@ -1,8 +1,28 @@
-use Rattle.std.proofs.Common.{◌≡◌, ◌<◌, suc, length, refl, sym, ap, subst, arith}
+use Rattle.std.proofs.Common.{◌≡◌, ◌<◌, suc, Bool, true, false, length, refl, sym, ap, subst, arith}
 use Rattle.forest_tree.proofs.Rests.{lives-none}
 use Rattle.std.specs.Option.{IfNone}
-use Rattle.world_core.proofs.TurnByTurn.{over-goes, stopped-goes, idle-goes, with-popped, goes-on}
+use Rattle.std.specs.BTreeMap.{get}
+use Rattle.forest_tree.specs.Tree.{Path}
+use Rattle.machine_names.specs.NameOrder.{path_cmp}
+use Rattle.world_core.specs.declared.world.World.{World}
+use Rattle.world_core.specs.Shows.{is_out_cell}
+use Rattle.world_core.proofs.TurnByTurn.{over-goes, stopped-goes, idle-goes, stuck-goes, with-popped, goes-on}
+use Rattle.std.specs.Prelude.{MatchBool}
 use Rattle.world_core.proofs.world.World.take.Goals as goal
+
+abbrev OneOut : World → Type 0
+OneOut w = (name : Path) × (is_out_cell (get path_cmp w.cells name) ≡ true)
+
+abbrev NoneOut : World → Type 0
+NoneOut w = (name : Path) → is_out_cell (get path_cmp w.cells name) ≡ false
+
+one-out : (b : Bool) (P Q : Type 0) → b ≡ true → MatchBool b P Q → P
+one-out true P Q e h = h
+one-out false P Q e h = absurd (cc)
+
+none-out : (b : Bool) (P Q : Type 0) → b ≡ false → MatchBool b P Q → Q
+none-out true P Q e h = absurd (cc)
+none-out false P Q e h = h
 
 pub returns-then-is_some-clause-takes : goal.returns-then-is_some-clause-takes
 returns-then-is_some-clause-takes c = λ f h. over-goes c.args.depot.now c.args.self.now f h (sym c.if-is_some.ensures)
@@ -52,14 +72,24 @@ loop-turn-preserved c =
     c.in-Some-pop.ensures c.in_default-take_by.ensures.takes c.take_by.ensures.going.0 c.take_by.ensures.going.1 c.take_by.ensures.told
     (λ images h. (c.in_default-take_by.ensures.images images h).0)
 
-pub returns-clause-takes : goal.returns-clause-takes
-returns-clause-takes c = λ f h.
+pub returns-then-is_one_out-clause-takes : goal.returns-then-is_one_out-clause-takes
+returns-then-is_one_out-clause-takes c = λ f h.
     let left = c.in_default-pop.ensures in
+    let away = one-out c.is_one_out.result (OneOut c.loop-turn.self) (NoneOut c.loop-turn.self) c.if-is_one_out.true c.is_one_out.ensures in
     idle-goes c.args.depot.now c.loop-turn.self c.pop.new.self f (c.loop-turn.invariant.stands f h) c.loop-turn.invariant.going c.loop-turn.invariant.unhalted
-    left.0 left.1
+    left.0 left.1 away.0 away.1
+
+pub returns-else-is_one_out-clause-takes : goal.returns-else-is_one_out-clause-takes
+returns-else-is_one_out-clause-takes c = λ f h.
+    let left = c.in_default-pop.ensures in
+    stuck-goes c.args.depot.now c.loop-turn.self c.pop.new.self f (c.loop-turn.invariant.stands f h) c.loop-turn.invariant.going c.loop-turn.invariant.unhalted
+    left.0 left.1 (none-out c.is_one_out.result (OneOut c.loop-turn.self) (NoneOut c.loop-turn.self) c.if-is_one_out.false c.is_one_out.ensures)
 
 pub returns-in-Some-take_by-clause-images : goal.returns-in-Some-take_by-clause-images
 returns-in-Some-take_by-clause-images c = λ images h. c.in-Some-take_by.ensures.images images (c.loop-turn.invariant.images images h)
 
-pub returns-clause-images : goal.returns-clause-images
-returns-clause-images c = λ images h. (c.loop-turn.invariant.images images h, tt)
+pub returns-then-is_one_out-clause-images : goal.returns-then-is_one_out-clause-images
+returns-then-is_one_out-clause-images c = λ images h. (c.loop-turn.invariant.images images h, tt)
+
+pub returns-else-is_one_out-clause-images : goal.returns-else-is_one_out-clause-images
+returns-else-is_one_out-clause-images c = λ images h. (c.loop-turn.invariant.images images h, tt)

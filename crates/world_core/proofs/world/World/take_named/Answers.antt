@@ -2,7 +2,7 @@ use Rattle.std.specs.Option.{IfSome}
 use Rattle.world_core.proofs.Leaving.{if-some-is}
 use Rattle.world_core.specs.Images.{HasImages, HaveImages, IsLentAt, Images}
 use Rattle.world_core.proofs.Images.{alike, written, no-lent}
-use Rattle.std.proofs.Common.{◌≡◌, ℕ, true, None, refl, sym, ap, ◌∙◌, subst, Option}
+use Rattle.std.proofs.Common.{◌≡◌, ℕ, true, None, refl, sym, ap, ◌∙◌, subst, Option, rules}
 use Rattle.std.specs.BTreeMap.{get}
 use Rattle.forest_tree.specs.Tree.{Path}
 use Rattle.forest_tree.proofs.Rests.{lives-none}
@@ -11,9 +11,12 @@ use Rattle.machine_names.specs.NameOrder.{path_cmp}
 use Rattle.world_core.specs.declared.world.World.{World}
 use Rattle.ready_queue.specs.Ready.{Ready}
 use Rattle.world_core.specs.Popped.{ShowsCells, sleeps}
+use Rattle.world_core.specs.Kin.{IsKin}
 use Rattle.world_core.specs.Lent.{lent_as, Lent}
-use Rattle.world_core.specs.World.{StandsFor}
-use Rattle.world_core.proofs.ByName.{over-nobody, stands-same, rewritten, named-error, named-idle, named-taken, root-cell, before-named, no_cell-home, named-woken}
+use Rattle.world_core.specs.World.{StandsFor, rests_in}
+use Rattle.world_core.specs.declared.cell.Cell.{Cell}
+use Rattle.world_core.proofs.TurnOfOne.{kin-free}
+use Rattle.world_core.proofs.ByName.{over-nobody, stands-same, rewritten, named-error, named-idle, named-kin, named-taken, root-cell, before-named, no_cell-home, named-woken}
 use Rattle.world_core.proofs.world.World.take_named.Goals as goal
 
 pub returns-then-is_some-clause-takes : goal.returns-then-is_some-clause-takes
@@ -40,18 +43,32 @@ returns-in_default-lend_named-clause-takes c = λ f h.
     let lent = c.lend_named.new.self in
     named-idle c.args.depot.now c.args.self.now f c.args.name.now h (lives-none c.args.self.now.outcome (sym c.if-is_some.ensures)) c.in-Some.cell.now
     c.in-Some.ensures.value (c.get_mut.follows.lender lent) lent (c.get_mut.follows.holds lent)
-    (c.in_default-lend_named.ensures.shows c.args.depot.now c.args.name.now)
+    (c.in_default-lend_named.ensures.shows c.args.depot.now c.args.name.now (rests_in f.tree c.args.name.now))
 
 pub returns-in-Some-clause-takes : goal.returns-in-Some-clause-takes
 returns-in-Some-clause-takes c = λ f h.
-    let lent = c.lend_named.new.self in
+    let lent : Cell = record c.lend_named.new.self { kin = c.take-kin.new.self } in
     let v = c.in-Some-lend_named.vm.value in
     let name : c.in_ok-turn.turn.name ≡ c.args.name.now
     = ap (λ (w : Ready). w.name) c.in_ok-turn.ensures ∙ c.in_ok-copy.ensures in
     let is : c.new.result ≡ lent_as c.args.name.now v.machine 0 v = c.new.ensures ∙ ap (λ n. lent_as n v.machine 0 v) name in
     named-taken c.args.depot.now c.args.self.now f c.args.name.now h (lives-none c.args.self.now.outcome (sym c.if-is_some.ensures)) c.in-Some.cell.now
-    c.in-Some.ensures.value (c.get_mut.follows.lender lent) lent (c.get_mut.follows.holds lent) c.new.result v is c.in-Some-lend_named.ensures.place
-    (c.in-Some-lend_named.ensures.shows c.args.depot.now c.args.name.now)
+    c.in-Some.ensures.value (c.get_mut.follows.lender lent) lent (c.get_mut.follows.holds lent) c.new.result v is c.in-Some-lend_named.ensures.place.0
+    (λ t shows.
+    let is = c.in-Some-lend_named.ensures.shows c.args.depot.now c.args.name.now (rests_in f.tree c.args.name.now) t shows in
+    (is.0, is.1, is.2, is.3, kin-free c.args.depot.now c.args.name.now (rests_in f.tree c.args.name.now) c.lend_named.new.self c.take-kin.new.self t is.4))
+
+pub new-requires-clause-kin : goal.new-requires-clause-kin
+new-requires-clause-kin c =
+    let r = c.requires in
+    let depot = c.args.depot.now in
+    let path : Path = c.args.name.now in
+    let name : c.in_ok-turn.turn.name ≡ path = ap (λ (w : Ready). w.name) c.in_ok-turn.ensures ∙ c.in_ok-copy.ensures in
+    let same : c.take-kin.result ≡ c.lend_named.new.self.kin = search rules in
+    subst (IsKin c.take-kin.result) (sym name)
+    (subst (λ kin. IsKin kin path) (sym (same ∙ c.in-Some-lend_named.ensures.place.1))
+    (named-kin depot c.args.self.now r.0 path r.1 (lives-none c.args.self.now.outcome (sym c.if-is_some.ensures)) c.in-Some.cell.now c.in-Some.ensures.value
+    (λ t shows. c.in-Some-lend_named.ensures.shows depot path (rests_in r.0.tree path) t shows)))
 
 pub unreachable-requires : goal.unreachable-requires
 unreachable-requires c =
@@ -130,7 +147,7 @@ returns-in_default-lend_named-clause-images c = λ images h.
 
 pub returns-in-Some-clause-images : goal.returns-in-Some-clause-images
 returns-in-Some-clause-images c = λ images h.
-    let lent = c.lend_named.new.self in
+    let lent : Cell = record c.lend_named.new.self { kin = c.take-kin.new.self } in
     let v = c.in-Some-lend_named.vm.value in
     let name : c.in_ok-turn.turn.name ≡ c.args.name.now
     = ap (λ (w : Ready). w.name) c.in_ok-turn.ensures ∙ c.in_ok-copy.ensures in
@@ -139,7 +156,7 @@ returns-in-Some-clause-images c = λ images h.
     (h c.args.name.now) in
     let after = c.in-Some-lend_named.ensures.images images c.args.name.now was in (
       written images c.args.self.now.cells (c.get_mut.follows.lender lent) c.args.name.now c.in-Some.cell.now lent c.in-Some.ensures.value
-          (c.get_mut.follows.holds lent) (λ same. after.0) h,
+          (c.get_mut.follows.holds lent) (λ same. record { state = after.0.state; broods = after.0.broods }) h,
       subst (IsLentAt images) (sym is) after.1,
     )
 

@@ -2,8 +2,8 @@ use Rattle.std.proofs.Common.{◌≡◌, is_some, refl, sym, ap, ◌∙◌, subs
 use Rattle.std.specs.Option.{IfSome}
 use Rattle.std.specs.BTreeMap.{get}
 use Rattle.forest_tree.specs.Tree.{Tree, Path, machine, subtree}
-use Rattle.forest_history.specs.Places.{Spot, at_path, out, placed}
-use Rattle.forest_model.specs.Paged.{Paged}
+use Rattle.forest_history.specs.Places.{at_path, out}
+use Rattle.talking_history.specs.Places.{placed}
 use Rattle.machine_names.specs.Name.{child_path}
 use Rattle.machine_names.specs.NameOrder.{path_cmp}
 use Rattle.ready_queue.specs.Ready.{Ready}
@@ -16,6 +16,8 @@ use Rattle.world_core.proofs.Images.{alike, no-lent, put, written}
 use Rattle.world_core.proofs.Waking.{parent-there, parent-still, sleeper-at, lent-shows, woken-some, woken-listed, woken-cells, sleeper-no_cell}
 use Rattle.world_core.proofs.Waking.{no-lease, no-start, not-ok, on-err}
 use Rattle.world_core.proofs.world.World.wake.Goals as goal
+use Rattle.world_core.specs.Shows.{Member, paged_of}
+use Rattle.world_core.specs.World.{rests_in}
 
 pub unreachable-requires : goal.unreachable-requires
 unreachable-requires c =
@@ -29,6 +31,42 @@ pub returns-in_err-name : goal.returns-in_err-name
 returns-in_err-name c =
     let r = c.from_residual.result in
     let failed = c.from_residual.ensures.0 in
+    let path : Path = child_path c.args.parent.now c.args.ticket c.args.index in
+    let cells = c.args.self.now.cells in
+    record {
+      lease = no-lease c.args.depot.now path r failed;
+      start = λ t h is. no-start t r failed;
+      cells = λ t h is. not-ok (ShowsCells c.args.depot.now cells (at_path (placed out) path t)) r failed;
+      same = on-err ((name : Path) → get path_cmp cells name ≡ get path_cmp cells name) r (λ name. refl);
+      listed = λ name. refl;
+      others = λ name other. refl;
+      rest = (refl, refl, refl);
+      told = refl;
+      images = λ images h. (h, no-lent images r (IsLentAt images) failed);
+    }
+
+pub returns-in_err-again : goal.returns-in_err-again
+returns-in_err-again c =
+    let r = c.from_residual-in_err-again.result in
+    let failed = c.from_residual-in_err-again.ensures.0 in
+    let path : Path = child_path c.args.parent.now c.args.ticket c.args.index in
+    let cells = c.args.self.now.cells in
+    record {
+      lease = no-lease c.args.depot.now path r failed;
+      start = λ t h is. no-start t r failed;
+      cells = λ t h is. not-ok (ShowsCells c.args.depot.now cells (at_path (placed out) path t)) r failed;
+      same = on-err ((name : Path) → get path_cmp cells name ≡ get path_cmp cells name) r (λ name. refl);
+      listed = λ name. refl;
+      others = λ name other. refl;
+      rest = (refl, refl, refl);
+      told = refl;
+      images = λ images h. (h, no-lent images r (IsLentAt images) failed);
+    }
+
+pub returns-in_err-kin : goal.returns-in_err-kin
+returns-in_err-kin c =
+    let r = c.from_residual-in_err-kin.result in
+    let failed = c.from_residual-in_err-kin.ensures.0 in
     let path : Path = child_path c.args.parent.now c.args.ticket c.args.index in
     let cells = c.args.self.now.cells in
     record {
@@ -80,8 +118,8 @@ returns-clause-lease c =
 pub returns-clause-start : goal.returns-clause-start
 returns-clause-start c = λ t h is.
     let named : c.in_ok-name.turn.name ≡ child_path c.args.parent.now c.args.ticket c.args.index = ap (λ (w : Ready). w.name) c.in_ok-name.ensures.turn in
-    subst (λ (l : Lent). IfSome (subtree l.name t) (λ (a : Tree (Spot Paged)). (machine a).machine ≡ now_of l)) (sym c.new.ensures)
-    (subst (λ n. IfSome (subtree n t) (λ (a : Tree (Spot Paged)). (machine a).machine ≡ paged c.in_ok-name.vm.value)) (sym named)
+    subst (λ (l : Lent). IfSome (subtree l.name t) (λ (a : Tree Member). paged_of (machine a) ≡ now_of l)) (sym c.new.ensures)
+    (subst (λ n. IfSome (subtree n t) (λ (a : Tree Member). paged_of (machine a) ≡ paged c.in_ok-name.vm.value)) (sym named)
     (c.in_ok-name.ensures.machine t h is))
 
 pub returns-clause-cells : goal.returns-clause-cells
@@ -90,14 +128,15 @@ returns-clause-cells c = λ t h is.
     let waked = c.child_wakes.new.self in
     let s = sleeper-at cells c.seat.new.cells c.args.parent.now c.args.ticket c.args.index c.in_ok-name.name c.of_lent.result c.in-Some.cell.now c.in_ok-name.ensures.name
     c.in_ok-seat.ensures.ok c.in-Some.ensures.value c.args.depot.now t h is in
-    let woke : (machine s.child).machine ≡ paged c.in_ok-name.vm.value
-    = subst (λ o. IfSome o (λ (a : Tree (Spot Paged)). (machine a).machine ≡ paged c.in_ok-name.vm.value)) s.there (c.in_ok-name.ensures.machine t h is) in
-    let same : paged c.deref.result.now ≡ (machine s.child).machine = ap paged c.deref.ensures ∙ sym woke in
+    let woke : paged_of (machine s.child) ≡ paged c.in_ok-name.vm.value
+    = subst (λ o. IfSome o (λ (a : Tree Member). paged_of (machine a) ≡ paged c.in_ok-name.vm.value)) s.there (c.in_ok-name.ensures.machine t h is) in
+    let same : paged c.deref.result.now ≡ paged_of (machine s.child) = ap paged c.deref.ensures ∙ sym woke in
     woken-cells cells c.seat.new.cells c.args.parent.now c.args.ticket c.args.index c.in_ok-name.name c.of_lent.result c.in-Some.cell.now c.in_ok-name.ensures.name
     c.in_ok-seat.ensures.ok c.in-Some.ensures.value (c.get_mut.follows.lender waked) waked (c.get_mut.follows.holds waked) c.args.depot.now t h s
     (lent-shows c.args.depot.now cells c.args.parent.now c.args.ticket c.args.index t c.in-Some.cell.now c.of_lent.result (paged c.deref.result.now) h s same
     c.of_lent.ensures.shows)
-    (c.child_wakes.ensures.shows c.args.depot.now c.args.parent.now s.above s.child s.shows s.is_child s.asleep s.lives)
+    (c.child_wakes.ensures.shows c.args.depot.now c.args.parent.now (rests_in t c.args.parent.now) s.above s.child s.shows s.is_child s.asleep s.lives
+    (c.in_ok-again.ensures ∙ c.in_ok-name.ensures.name))
 
 pub returns-clause-listed : goal.returns-clause-listed
 returns-clause-listed c =
@@ -110,7 +149,7 @@ returns-clause-listed c =
     c.in_ok-seat.ensures.ok c.in-Some.ensures.value (c.get_mut.follows.lender waked) waked (c.get_mut.follows.holds waked)
     (ap (λ n. get path_cmp cells n) c.in_ok-name.ensures.name
     ∙ sleeper-no_cell c.args.depot.now cells c.args.parent.now c.args.ticket c.args.index r.0 c.in-Some.cell.now r.1 s)
-    c.of_lent.ensures.listed c.child_wakes.ensures.place
+    c.of_lent.ensures.listed c.child_wakes.ensures.place.0
 
 pub returns-clause-others : goal.returns-clause-others
 returns-clause-others c =
@@ -136,3 +175,10 @@ returns-clause-images c = λ images h.
           (put images cells mid c.in_ok-name.name c.of_lent.result c.in_ok-seat.ensures.ok lent h),
       subst (IsLentAt images) (sym c.new.ensures) (subst (λ n. IsImageAt images n c.in_ok-name.vm.value.key) (sym named) boxed),
     )
+
+pub new-requires-clause-own : goal.new-requires-clause-own
+new-requires-clause-own c = ap (λ (w : Ready). w.children) c.in_ok-name.ensures.turn
+
+pub new-requires-clause-kin : goal.new-requires-clause-kin
+new-requires-clause-kin c =
+    (c.args.ticket, c.args.index, ap (λ (w : Ready). w.name) c.in_ok-name.ensures.turn ∙ ap (λ p. child_path p c.args.ticket c.args.index) (sym c.in_ok-kin.ensures))

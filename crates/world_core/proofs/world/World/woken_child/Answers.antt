@@ -2,16 +2,15 @@ use Rattle.std.proofs.Common.{◌≡◌, None, sym, ap, ◌∙◌, subst}
 use Rattle.std.specs.Option.{IfSome}
 use Rattle.std.specs.BTreeMap.{get}
 use Rattle.forest_tree.specs.Tree.{Tree, machine}
-use Rattle.forest_history.specs.Places.{Spot}
-use Rattle.forest_model.specs.Paged.{Paged}
 use Rattle.machine_names.specs.Name.{child_path}
 use Rattle.machine_names.specs.NameOrder.{path_cmp}
 use Rattle.ready_queue.specs.Ready.{Ready}
 use Rattle.vm_cell.specs.Keyed.{KeyedMachine, IsOfDepot, paged}
 use Rattle.world_core.specs.Images.{HasImages, IsImageAt}
 use Rattle.world_core.proofs.Leaving.{if-some-is}
-use Rattle.world_core.proofs.Waking.{parent-there, sleeper-of}
+use Rattle.world_core.proofs.Waking.{parent-there, sleeper-of, sleeper-siblings}
 use Rattle.world_core.proofs.world.World.woken_child.Goals as goal
+use Rattle.world_core.specs.Shows.{Member, paged_of}
 
 pub unreachable-requires : goal.unreachable-requires
 unreachable-requires c =
@@ -31,15 +30,17 @@ returns-clause-turn c =
 pub returns-clause-machine : goal.returns-clause-machine
 returns-clause-machine c = λ t h is.
     let s = sleeper-of c.args.depot.now c.args.self.now.cells c.args.parent.now c.args.ticket c.args.index t h is c.in-Some.cell.now c.in-Some.ensures.value in
-    let woke = c.in_ok-vm.ensures.shows c.args.parent.now s.above s.child s.shows.holds s.is_child s.asleep s.lives in
-    subst (λ o. IfSome o (λ (a : Tree (Spot Paged)). (machine a).machine ≡ paged c.in_ok-vm-2.vm.value)) (sym s.there)
+    let woke = c.in_ok-vm.ensures.shows c.args.parent.now s.above s.child s.shows.holds s.is_child s.asleep s.lives
+    (sleeper-siblings c.args.depot.now c.args.self.now.cells c.args.parent.now c.args.ticket c.args.index t c.in-Some.cell.now h s) in
+    subst (λ o. IfSome o (λ (a : Tree Member). paged_of (machine a) ≡ paged c.in_ok-vm-2.vm.value)) (sym s.there)
     (sym (ap paged c.in_ok-vm-2.ensures.ok ∙ woke.0))
 
 pub returns-clause-of_depot : goal.returns-clause-of_depot
 returns-clause-of_depot c =
     let r = c.requires in
     let s = sleeper-of c.args.depot.now c.args.self.now.cells c.args.parent.now c.args.ticket c.args.index r.0 r.1 r.2 c.in-Some.cell.now c.in-Some.ensures.value in
-    let woke = c.in_ok-vm.ensures.shows c.args.parent.now s.above s.child s.shows.holds s.is_child s.asleep s.lives in
+    let woke = c.in_ok-vm.ensures.shows c.args.parent.now s.above s.child s.shows.holds s.is_child s.asleep s.lives
+    (sleeper-siblings c.args.depot.now c.args.self.now.cells c.args.parent.now c.args.ticket c.args.index r.0 c.in-Some.cell.now r.1 s) in
     subst (λ (v : KeyedMachine). IsOfDepot c.args.depot.now v.key) (sym c.in_ok-vm-2.ensures.ok) woke.1
 
 pub returns-clause-images : goal.returns-clause-images
