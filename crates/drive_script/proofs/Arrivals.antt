@@ -2,14 +2,13 @@
 use Rattle.std.proofs.Common.{◌≡◌, ◌≢◌, ℕ, true, false, refl, sym, ap, ◌∙◌, [], ◌∷◌, ◌++◌, Option, Some, None, option_map, option_and_then}
 use Rattle.cow_disk.specs.declared.arrived.Arrived.{Arrived}
 use Rattle.cow_disk.specs.declared.arrived.Arrived.TheVariants.{Got, Had}
-use Rattle.forest_tree.specs.Tree.{node, Branch, Path, machine, log_of, subtree, beyond, goes_on, is_below}
+use Rattle.forest_tree.specs.Tree.{node, Branch, Path, machine, log_of, subtree, beyond, goes_on, is_below, at_path, at_beyond}
 use Rattle.forest_tree.specs.Projection.{map_tree}
 use Rattle.forest_tree.proofs.Places.{subtree-parts}
 use Rattle.sibling_forest.specs.Talk.{Box, queue}
 use Rattle.sibling_forest.specs.Laws.{box_of}
-use Rattle.forest_history.specs.Places.{at_path, at_beyond}
-use Rattle.forest_history.proofs.Changes.{at_path-elsewhere, at_path-leaves, at_path-log, at_path-machine, at_path-within}
-use Rattle.forest_history.proofs.Ends.{at_path-map}
+use Rattle.forest_tree.proofs.Changes.{at_path-elsewhere, at_path-leaves, at_path-log, at_path-machine, at_path-within}
+use Rattle.forest_tree.proofs.Projected.{at_path-map}
 use Rattle.forest_model.specs.Paged.{Paged}
 use Rattle.machine_names.proofs.Below.{beyond-is}
 use Rattle.drive_script.specs.Replies.{tree_with, with_arrival}

@@ -9,16 +9,15 @@ use Rattle.image_depot.specs.Reply.{Reply}
 use Rattle.cow_disk.specs.declared.arrived.Arrived.{Arrived}
 use Rattle.cow_disk.specs.declared.arrived.Arrived.TheVariants.{Got, Had}
 use Rattle.guest_mem.specs.Ram.{IsOfImage}
-use Rattle.forest_tree.specs.Tree.{Tree, node, Path, machine, subtree}
+use Rattle.forest_tree.specs.Tree.{Tree, node, Path, machine, subtree, at_path}
 use Rattle.sibling_forest.specs.Laws.{box_of}
 use Rattle.sibling_forest.specs.Talk.{boxed}
 use Rattle.forest_tree.specs.Projection.{map_tree}
-use Rattle.forest_history.specs.Places.{Spot, at_path, out, spots}
-use Rattle.talking_history.specs.Places.{bare, placed}
+use Rattle.talking_history.specs.Places.{Spot, out, spots, bare, placed}
 use Rattle.talking_history.specs.World.{holds, is_at_home, lives_at_home}
 use Rattle.talking_history.specs.Rows.{took, does}
-use Rattle.forest_history.proofs.Changes.{at_path-here, at_path-twice}
-use Rattle.forest_history.proofs.Ends.{at_path-map}
+use Rattle.forest_tree.proofs.Changes.{at_path-here, at_path-twice}
+use Rattle.forest_tree.proofs.Projected.{at_path-map}
 use Rattle.forest_model.specs.Machine.{Machine}
 use Rattle.forest_model.specs.Paged.{Paged, Pages, advanced_by, paged_machines, paged_talks, pages_arrived}
 use Rattle.vm_cell.specs.Keyed.{Arrives, HasImage, IsOfDepot}

@@ -7,21 +7,18 @@ use Rattle.fork_port.specs.declared.commands.Call.{Call}
 use Rattle.fork_port.specs.declared.ending.Ending.{Ending}
 use Rattle.sibling_port.specs.declared.talk.Talk.{Talk}
 use Rattle.sibling_port.specs.declared.talk.Talk.TheVariants.{Send, Receive}
-use Rattle.forest_tree.specs.Tree.{Tree, node, Path, machine, subtree}
-use Rattle.forest_tree.specs.Settle.{has_ended, waits, step}
+use Rattle.forest_tree.specs.Tree.{Tree, node, Path, machine, subtree, at_path}
+use Rattle.forest_tree.specs.Step.{has_ended, waits, step, advanced, steps}
 use Rattle.forest_tree.specs.Projection.{map_tree}
-use Rattle.forest_tree.proofs.Projected.{subtree-map}
+use Rattle.forest_tree.proofs.Projected.{subtree-map, at_path-map}
 use Rattle.forest_tree.proofs.Rests.{lives-none}
-use Rattle.forest_tree.proofs.Run.{is-some}
+use Rattle.forest_tree.proofs.Steps.{is-some}
 use Rattle.sibling_forest.specs.Talk.{boxed}
 use Rattle.sibling_forest.specs.Settle.{rests_at}
 use Rattle.sibling_forest.specs.Laws.{box_of}
-use Rattle.forest_history.specs.Places.{at_path, Place, asleep, home, out, parked, Spot, spots, advanced, steps}
-use Rattle.forest_history.specs.World.{is_at_home_at, is_out_at}
-use Rattle.forest_history.proofs.Changes.{at_path-here}
-use Rattle.forest_history.proofs.Ends.{at_path-map}
-use Rattle.talking_history.specs.Places.{bare, may_run, placed}
-use Rattle.talking_history.specs.World.{holds, is_at_home, is_resting, lives_at_home}
+use Rattle.talking_history.specs.Places.{Place, asleep, home, out, parked, Spot, spots, bare, may_run, placed}
+use Rattle.talking_history.specs.World.{is_at_home_at, is_out_at, holds, is_at_home, is_resting, lives_at_home}
+use Rattle.forest_tree.proofs.Changes.{at_path-here}
 use Rattle.talking_history.specs.Rows.{How, gave, ended, forked, joined, killed, sent, received, waited, made, took, spent, may_spend, run_at, Spends, IfThere, Allows, does}
 use Rattle.talking_history.proofs.Beside.{rests-parts}
 use Rattle.talking_history.proofs.Ends.{bare-put, rests-bare}

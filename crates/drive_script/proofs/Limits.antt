@@ -6,10 +6,10 @@ use Rattle.fork_port.specs.declared.ending.Ending.TheVariants.{Limit}
 use Rattle.sibling_port.specs.declared.answers.TheConstants.{DONE, SIBLING_ENDED}
 use Rattle.forest_tree.specs.Operations.{Call, clone, join, kill}
 use Rattle.forest_tree.specs.Tree.{node, Broods, Log, brood, joined, killed, machine, brood_of, without}
-use Rattle.forest_tree.specs.Settle.{children, endings, settled, waits, step}
+use Rattle.forest_tree.specs.Step.{children, endings, settled, waits, step}
 use Rattle.forest_tree.proofs.Calls.{step-clone, step-join, step-own}
-use Rattle.forest_tree.proofs.Run.{step-lives}
-use Rattle.forest_tree.proofs.Settle.{machine-settled}
+use Rattle.forest_tree.proofs.Steps.{step-lives}
+use Rattle.forest_tree.proofs.Sound.{machine-settled}
 use Rattle.sibling_forest.specs.Talk.{Talk, send, receive, Box, advance_by, after_receive, boxed, queue}
 use Rattle.forest_model.specs.Action.{Action, ask, speak}
 use Rattle.forest_model.specs.Execute.{action}

@@ -7,11 +7,11 @@ use Rattle.std.specs.Prelude.{slice_get}
 use Rattle.forest_tree.specs.Operations.{Call, clone, join, kill}
 use Rattle.forest_tree.specs.Tree.{Tree, node, Trees, no_tree, tree, Broods, Log, Branch, Path, machine, log_of, size, child_at, brood_of, without}
 use Rattle.forest_tree.specs.Tree.{joined, subtree, beyond, goes_on, is_below}
-use Rattle.forest_tree.specs.Settle as former
-use Rattle.forest_tree.specs.Settle.{have_ended, endings, waits, rests, step}
+use Rattle.forest_tree.specs.Step as own
+use Rattle.forest_tree.specs.Step.{have_ended, endings, waits, rests, step}
 use Rattle.forest_tree.specs.Sound.{IsSound}
 use Rattle.forest_tree.proofs.Calls.{step-join, ready-ended, endings-at}
-use Rattle.forest_tree.proofs.Settle.{length-endings, machine-settled}
+use Rattle.forest_tree.proofs.Sound.{length-endings, machine-settled}
 use Rattle.forest_tree.proofs.Places.{some-same, subtree-sound}
 use Rattle.sibling_forest.specs.Talk.{Talk, send, receive, queue, Box, boxed}
 use Rattle.sibling_forest.specs.Settle.{settle, settle_all, rests_at}
@@ -25,7 +25,7 @@ use Rattle.talking_history.specs.World.{holds}
 use Rattle.talking_history.proofs.Beside.{rests-parts, silent-waits, talk_waits}
 use Rattle.fork_port.specs.declared.ending.Ending.{Ending}
 use Rattle.forest_model.specs.Machine.{Machine}
-use Rattle.forest_model.specs.Forest.{machines, port_of, talked_out, talks}
+use Rattle.forest_model.specs.Forest.{machines, port_of, finish, talks}
 use Rattle.forest_model.specs.Paged.{Paged, paged_machines, paged_talks, stalled_at}
 use Rattle.forest_model.proofs.Calls.{values-joined}
 use Rattle.forest_model.proofs.Paged.{paged-alike, paged-projects, paged-rules, paged-talk}
@@ -223,16 +223,16 @@ awaits : (p : Paged) (path : Path) (t a : Family) → subtree path t ≡ Some a 
 unfolding boxed
 awaits p path t (node b broods log) here same lives rests may = by (paged_talks.talk p) refl (paged_machines.call p) refl may
   where
-    quiet : paged_talks.talk p ≡ None → former.waits_by (boxed paged_machines paged_talks) (paged_machines.call b.machine) broods ≡ false → rests_at paged_machines paged_talks path t ≡ false
+    quiet : paged_talks.talk p ≡ None → own.waits_by (boxed paged_machines paged_talks) (paged_machines.call b.machine) broods ≡ false → rests_at paged_machines paged_talks path t ≡ false
     quiet none ready =
         rests-parts paged_machines paged_talks path t (node b broods log) here
         ∙ or_from _ _ (or_from _ _ (ap (λ q. is_some (paged_machines.ending q)) same ∙ ap is_some lives) ready)
         (silent-waits paged_machines paged_talks path t (node b broods log) here (ap paged_talks.talk same ∙ none))
 
-    not-so : (call : Option Call) → paged_machines.call p ≡ call → former.waits_by (boxed paged_machines paged_talks) call broods ≡ false → paged_talks.talk p ≡ None → ⊥
+    not-so : (call : Option Call) → paged_machines.call p ≡ call → own.waits_by (boxed paged_machines paged_talks) call broods ≡ false → paged_talks.talk p ≡ None → ⊥
     not-so call is ready none =
-        let no : true ≡ false = sym rests ∙ quiet none (ap (λ q. former.waits_by (boxed paged_machines paged_talks) (paged_machines.call q) broods) same
-        ∙ ap (λ c. former.waits_by (boxed paged_machines paged_talks) c broods) is ∙ ready) in
+        let no : true ≡ false = sym rests ∙ quiet none (ap (λ q. own.waits_by (boxed paged_machines paged_talks) (paged_machines.call q) broods) same
+        ∙ ap (λ c. own.waits_by (boxed paged_machines paged_talks) c broods) is ∙ ready) in
         cc
 
     by : (what : Option Talk) → paged_talks.talk p ≡ what → (call : Option Call) → paged_machines.call p ≡ call → awaited what (joined_ticket call) ≡ MayGoOn → ⊥
@@ -357,9 +357,9 @@ pub script-whole : (lines : List script.ScriptLine) (s : Driven) → IsWholeFore
 script-whole lines s h =
     subst (IsWholeForest machines talks) (sym (script-steps lines s)) (all-whole machines talks machines-rules machines-talk (steps_of_script lines s) (whole s.tree) h)
 
-pub script-end : (lines : List script.ScriptLine) (s : Driven) → IsSound (boxed machines talks) (whole s.tree) → talked_out (whole (after_script lines s).tree) ≡ talked_out (whole s.tree)
+pub script-end : (lines : List script.ScriptLine) (s : Driven) → IsSound (boxed machines talks) (whole s.tree) → finish (whole (after_script lines s).tree) ≡ finish (whole s.tree)
 script-end lines s h =
-    ap talked_out (script-steps lines s) ∙ finish-settle_all machines talks machines-rules machines-talk (steps_of_script lines s) (whole s.tree) h
+    ap finish (script-steps lines s) ∙ finish-settle_all machines talks machines-rules machines-talk (steps_of_script lines s) (whole s.tree) h
 
 pub script-alone : (lines : List script.ScriptLine) (at : Path) (s : Driven) (a b : Tree (Box Machine)) → IsWholeForest machines talks (whole s.tree)
     → subtree at (whole s.tree) ≡ Some a → subtree at (whole (after_script lines s).tree) ≡ Some b

@@ -3,14 +3,13 @@ use Rattle.std.proofs.Common.{◌≡◌, ◌≢◌, ℕ, zero, suc, ◌&&◌, eq
 use Rattle.std.proofs.Common.{inl, inr, [], ◌∷◌, Option, Some, None, IsSome, option_and_then, option_map}
 use Rattle.std.proofs.lemmas.Bool.{and_parts, eqb-false}
 use Rattle.forest_tree.specs.Operations.{Call, clone, join, kill, Operations, is_cloned, Makes, IsMachine}
-use Rattle.forest_tree.specs.Tree.{Tree, node, Trees, no_tree, Broods, brood, Log, joined, killed, machine, log_of, broods_of, at_child, child_at, brood_of}
-use Rattle.forest_tree.specs.Tree.{at_brood, without, Branch, Path, subtree, beyond, goes_on, is_below}
-use Rattle.forest_tree.specs.Settle.{have_ended, endings, children, settled_by, settled, join_by, step_by, step}
-use Rattle.forest_tree.specs.Finish.{with_broods}
+use Rattle.forest_tree.specs.Tree.{Tree, node, Trees, no_tree, Broods, brood, Log, joined, killed, machine, log_of, broods_of, at_child, child_at, brood_of, with_broods, at_brood, without, Branch}
+use Rattle.forest_tree.specs.Tree.{Path, subtree, beyond, goes_on, is_below}
+use Rattle.forest_tree.specs.Step.{have_ended, endings, children, settled_by, settled, join_by, step_by, step}
 use Rattle.forest_tree.specs.Sound.{IsSound}
 use Rattle.forest_tree.proofs.Broods.{one_if}
-use Rattle.forest_tree.proofs.Settle.{clone-is-new, machine-settled, root-sound}
-use Rattle.forest_tree.proofs.Run.{cases-ending, step-ended, step-lives}
+use Rattle.forest_tree.proofs.Sound.{clone-is-new, machine-settled, root-sound}
+use Rattle.forest_tree.proofs.Steps.{cases-ending, step-ended, step-lives}
 use Rattle.forest_tree.proofs.Places.{some-same, brood_of-at, brood_of-none, brood_of-without, child_at-same, child_at-other}
 use Rattle.sibling_forest.specs.Talk.{Talk, send, receive, Talks, queue, Box}
 use Rattle.sibling_forest.specs.Settle.{sibling_rests, sibling_step, sibling_step_by, settle}

@@ -3,11 +3,11 @@ use Rattle.std.proofs.Common.{◌≡◌, ◌≢◌, ℕ, zero, suc, ◌+◌, ◌
 use Rattle.std.proofs.Common.{List, [], ◌∷◌, replicate, Option, Some, None, IsSome, is_some, option_map}
 use Rattle.std.proofs.lemmas.Bool.{and_parts, not-true, or_from}
 use Rattle.forest_tree.specs.Operations.{Operations, IsMachine}
-use Rattle.forest_tree.specs.Tree.{Tree, node, Broods, Log, Path, machine, subtree, beyond, is_below}
-use Rattle.forest_tree.specs.Settle.{settled_by, settled, step}
+use Rattle.forest_tree.specs.Tree.{Tree, node, Broods, Log, Path, machine, subtree, beyond, is_below, at_path, at_beyond}
+use Rattle.forest_tree.specs.Step.{settled_by, settled, step, advanced, steps}
 use Rattle.forest_tree.specs.Projection.{map_tree}
 use Rattle.forest_tree.proofs.Places.{some-same}
-use Rattle.forest_tree.proofs.Projected.{step-map, subtree-map}
+use Rattle.forest_tree.proofs.Projected.{step-map, subtree-map, at_path-map}
 use Rattle.forest_tree.proofs.Rests.{lives-none}
 use Rattle.sibling_forest.specs.Talk.{Talk, peer, Talks, Inbox, Box, kept_by, after, boxed, IsTalking}
 use Rattle.sibling_forest.specs.Settle.{settle, settle_all, rests_at}
@@ -18,16 +18,13 @@ use Rattle.sibling_forest.proofs.Members.{settle-whole}
 use Rattle.sibling_forest.proofs.Others.{own-step}
 use Rattle.sibling_forest.proofs.Projected.{boxes-project, settle-map}
 use Rattle.sibling_forest.proofs.WhatIsRead.{read-rests}
-use Rattle.forest_history.specs.Places.{at_path, at_beyond, out, Spot, spots, advanced, steps}
-use Rattle.forest_history.proofs.Changes.{at_path-elsewhere, at_path-here}
-use Rattle.forest_history.proofs.Ends.{at_path-map}
-use Rattle.forest_history.proofs.Spots.{machine-spots, projects}
-use Rattle.talking_history.specs.Places.{placed, bare, spot_talks, boxes, may_run}
+use Rattle.talking_history.specs.Places.{out, Spot, spots, placed, bare, spot_talks, boxes, may_run}
+use Rattle.forest_tree.proofs.Changes.{at_path-elsewhere, at_path-here}
+use Rattle.talking_history.proofs.Spots.{machine-spots, projects, talking-spots, talks-alike}
 use Rattle.talking_history.specs.Rows.{How, back, made, run_at, came_back}
 use Rattle.talking_history.proofs.Beside.{rests-parts, silent-waits}
 use Rattle.talking_history.proofs.Changes.{machine-after, runs-on, steps-own}
 use Rattle.talking_history.proofs.Ends.{bare-put}
-use Rattle.talking_history.proofs.Spots.{talking-spots, talks-alike}
 use Rattle.talking_history.proofs.Turned.{run-is}
 use Rattle.drive_script.specs.Steps.{steps_made, stops, after_steps, with_machine}
 use Rattle.drive_script.proofs.Steps.{after-both, after-first, after-none, made-both, made-more, made-zero}

@@ -5,8 +5,8 @@ use Rattle.std.specs.declared.alloc.Global.{Global}
 use Rattle.std.proofs.lemmas.Bool.{and_parts}
 use Rattle.forest_tree.specs.Tree.{Path}
 use Rattle.forest_tree.proofs.Places.{some-same}
-use Rattle.forest_history.specs.Histories.{is_same_path}
-use Rattle.forest_history.proofs.Held.{same-self, same-is}
+use Rattle.talking_history.specs.Histories.{is_same_path}
+use Rattle.talking_history.proofs.Held.{same-self, same-is}
 use Rattle.machine_names.specs.Name.{child_path}
 use Rattle.machine_names.specs.NameOrder.{path_cmp}
 use Rattle.machine_names.proofs.NameMaps.{updated-apart, updated-here}

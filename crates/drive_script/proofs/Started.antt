@@ -2,7 +2,7 @@
 use Rattle.std.proofs.Common.{◌≡◌, [], refl}
 use Rattle.image_depot.specs.Key.{Shelves}
 use Rattle.forest_tree.specs.Projection.{map_tree}
-use Rattle.forest_tree.specs.Settle.{alone}
+use Rattle.forest_tree.specs.Step.{alone}
 use Rattle.sibling_forest.specs.Talk.{boxed}
 use Rattle.talking_history.specs.Places.{bare}
 use Rattle.talking_history.specs.World.{world_of}

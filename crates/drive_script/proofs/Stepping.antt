@@ -7,7 +7,7 @@ use Rattle.image_depot.specs.Key.{Shelves}
 use Rattle.fork_port.specs.declared.ending.Ending.{Ending}
 use Rattle.fork_port.specs.declared.ending.Ending.TheVariants.{Exit, Limit}
 use Rattle.forest_tree.specs.Tree.{Path, machine, subtree}
-use Rattle.forest_tree.proofs.Run.{is-some}
+use Rattle.forest_tree.proofs.Steps.{is-some}
 use Rattle.forest_model.specs.Forest.{machines}
 use Rattle.forest_model.specs.Paged.{Paged, paged_machines, paged_talks, stalled_at}
 use Rattle.world_core.specs.declared.world.World.{World}

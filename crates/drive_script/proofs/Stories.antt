@@ -1,15 +1,16 @@
 -- What becomes of one machine of a family is what happened to it.
-use Rattle.std.proofs.Common.{◌≡◌, ◌≢◌, ◌⊎◌, inl, inr, ℕ, zero, suc, ◌+◌, ◌<◌, ◌&&◌, ◌||◌, ◌==◌, not, eqb-true, eq-eqb, Bool, true, false, cond, refl, sym, ap, ap₂, ◌∙◌, subst, arith}
+use Rattle.std.proofs.Common.{◌≡◌, ◌≢◌, ◌⊎◌, inl, inr, ℕ, zero, suc, ◌+◌, ◌<◌, ◌&&◌, ◌||◌, ◌==◌, eqb-true, eq-eqb, Bool, true, false, cond, refl, sym, ap, ap₂, ◌∙◌, subst, arith}
 use Rattle.std.proofs.Common.{List, [], ◌∷◌, ◌++◌, replicate, Option, Some, None, option_and_then, option_map}
 use Rattle.std.proofs.lemmas.Bool.{and_parts}
 use Rattle.forest_tree.specs.Operations.{Operations, IsMachine}
 use Rattle.forest_tree.specs.Tree.{Tree, node, Trees, no_tree, tree, Broods, no_brood, brood, machine, broods_of, size, at_child, child_at, brood_of, Branch, Path, subtree, beyond, goes_on, is_below}
-use Rattle.forest_tree.specs.Settle as former
-use Rattle.forest_tree.specs.Settle.{rests, step, settle_beyond}
+use Rattle.forest_tree.specs.Tree.{at_path, at_beyond}
+use Rattle.forest_tree.specs.Step.{rests, step}
 use Rattle.forest_tree.specs.Sound.{IsSound}
-use Rattle.forest_tree.proofs.Names.{IsGone, gone-none, left-own}
-use Rattle.forest_tree.proofs.Places.{some-same, is-within, child_at-same, settle-at, subtree-parts, subtree-sound}
-use Rattle.forest_tree.proofs.Run.{cases-ending}
+use Rattle.forest_tree.proofs.Names.{IsGone, gone-none}
+use Rattle.forest_tree.proofs.Places.{some-same, is-within, child_at-same, stepped-at, subtree-parts, subtree-sound}
+use Rattle.forest_tree.proofs.Rests.{step-one}
+use Rattle.forest_tree.proofs.Steps.{cases-ending}
 use Rattle.sibling_forest.specs.Talk.{Talk, send, receive, peer, Talks, Box, boxed, IsTalking}
 use Rattle.sibling_forest.specs.Settle.{delivered, settle, settle_all, rests_at}
 use Rattle.sibling_forest.specs.Laws.{child_number, is_sibling}
@@ -23,15 +24,13 @@ use Rattle.sibling_forest.proofs.Members.{settle-whole}
 use Rattle.sibling_forest.proofs.Others.{own-step}
 use Rattle.sibling_forest.proofs.Resting.{settle-rests}
 use Rattle.sibling_forest.proofs.Sound.{settle-keeps}
-use Rattle.sibling_forest.proofs.Words.{delivered-below, delivered-machine}
-use Rattle.forest_history.specs.Places.{at_path, at_beyond}
-use Rattle.forest_history.proofs.Changes.{at_path-here, at_path-elsewhere, at_path-within, settle-changes}
+use Rattle.sibling_forest.proofs.Words.{delivered-machine}
+use Rattle.forest_tree.proofs.Changes.{at_path-here, at_path-elsewhere, at_path-within}
 use Rattle.machine_names.proofs.Below.{beyond-is, beyond-append}
 use Rattle.talking_history.specs.Changes.{to_sibling, told}
 use Rattle.talking_history.proofs.Beside.{rests-parts, sibling-apart}
 use Rattle.talking_history.proofs.Changes.{step-changes}
-use Rattle.talking_history.proofs.Gone.{path-seen}
-use Rattle.talking_history.proofs.Leases.{moves-there, gone-stays, lost-goes}
+use Rattle.talking_history.proofs.Leases.{moves-there, word-machine, gone-stays, lost-goes}
 use Rattle.drive_script.specs.Story.{Event, makes, hears, own_steps, after_event, story, heard_of, event_by, event_of, event_at, events}
 use Rattle.drive_script.specs.Steps.{after_steps, Drops}
 use Rattle.drive_script.proofs.OneMachine.{below-apart, beyond-itself, gone-by}
@@ -281,38 +280,28 @@ module _ {M E : Type 0} (o : Operations M E) (k : Talks M) (rules : IsMachine o)
       let found = some-of o k (story o k (heard_of o k what word at path)) (subtree at u) b
       (sym there ∙ ap (subtree at) (step-changes o k path t m h is moves) ∙ off-said o k at path what word u off) in
       let same : found.0 ≡ a =
-      settle-at (boxed o k) all at path t h a found.0 here (ap (subtree at) (settle-changes (boxed o k) path t) ∙ found.1)
-      ∙ ap (λ left. settle_beyond (boxed o k) left a) off in
+      stepped-at (boxed o k) all at path t h a found.0 here found.1 ∙ ap (λ left. at_beyond (step (boxed o k)) left a) off in
       let after : b ≡ story o k (heard_of o k what word at path) a = found.2 ∙ ap (story o k (heard_of o k what word at path)) same in
       let none = heard-own o k what word at path in
       let kept : o.left (machine b).machine ≡ o.left (machine a).machine =
       ap (λ (t : Tree (Box M)). o.left (machine t).machine) after ∙ ap o.left (heard-machine o k what word at path a) in
       record { story_is = after; counted = omega (arith, none, kept) }
 
-  -- a word changes no machine
-  said-machine : (what : Option Talk) (word : ℕ) (path at : Path) (t : Tree (Box M))
-      → option_map (λ (u : Tree (Box M)). (machine u).machine) (subtree at (told o k what word path t)) ≡ option_map (λ (u : Tree (Box M)). (machine u).machine) (subtree at t)
-  said-machine None word path at t = refl
-  said-machine (Some (send j)) word path at t =
-      path-seen (λ (b : Box M). b.machine) (delivered o k (child_number path) word) (λ u. delivered-below o k (child_number path) word u) (to_sibling j path) at t
-      (λ e u. delivered-machine o k (child_number path) word u)
-  said-machine (Some (receive j)) word path at t = refl
-
   -- the machine that makes a step, after it
   pub settled-machine : (path : Path) (t a : Tree (Box M)) → IsSound (boxed o k) t → subtree path t ≡ Some a → rests_at o k path t ≡ false
       → option_map (λ (u : Tree (Box M)). (machine u).machine) (subtree path (settle o k path t)) ≡ Some (machine (step (boxed o k) a)).machine
   settled-machine path t a h here moves =
       ap (λ u. option_map (λ (v : Tree (Box M)). (machine v).machine) (subtree path u)) (step-changes o k path t a h here moves)
-      ∙ said-machine (k.talk (machine a).machine) (k.word (machine a).machine) path path (at_path (step (boxed o k)) path t)
+      ∙ word-machine o k (k.talk (machine a).machine) (k.word (machine a).machine) path path (at_path (step (boxed o k)) path t)
       ∙ ap (option_map (λ (v : Tree (Box M)). (machine v).machine)) (at_path-here (step (boxed o k)) path t ∙ ap (option_map (step (boxed o k))) here)
 
   -- its own step
   pub own-counts : (a : Tree (Box M)) → IsSound (boxed o k) a → rests (boxed o k) (Some a) ≡ false
       → o.left (machine a).machine ≡ 1 + o.left (machine (step (boxed o k) a)).machine
-  unfolding boxed former.own_steps former.settle_all former.settle
+  unfolding boxed
   own-counts a h moves =
-      left-own (boxed o k) all ([] ∷ []) a h
-      ∙ ap (λ rest. (cond (not rest) 1 0) + 0 + o.left (machine (step (boxed o k) a)).machine) moves
+      let counts : o.left (machine a).machine ≡ suc (o.left (machine (step (boxed o k) a)).machine) = step-one (boxed o k) all a h moves in
+      omega arith
 
   own-story : (at : Path) (t a b : Tree (Box M)) → IsWholeForest o k t → subtree at t ≡ Some a → subtree at (settle o k at t) ≡ Some b
       → rests_at o k at t ≡ false → IsAfter o k (makes [] ∷ []) a b

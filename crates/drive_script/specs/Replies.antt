@@ -2,9 +2,8 @@
 use Rattle.std.specs.Prelude.{ℕ, ◌==◌, ◌&&◌, Bool, true, false, if◌then◌else◌, List, [], ◌∷◌, ◌++◌, length, slice_get, Option, Some, None}
 use Rattle.cow_disk.specs.declared.arrived.Arrived.{Arrived}
 use Rattle.cow_disk.specs.declared.arrived.Arrived.TheVariants.{Got, Had}
-use Rattle.forest_tree.specs.Tree.{node, Branch, Path}
-use Rattle.forest_history.specs.Places.{at_path}
-use Rattle.forest_history.specs.Histories.{is_same_path}
+use Rattle.forest_tree.specs.Tree.{node, Branch, Path, at_path}
+use Rattle.talking_history.specs.Histories.{is_same_path}
 use Rattle.forest_model.specs.Paged.{Paged, pages_arrived}
 use Rattle.drive_script.specs.Steps.{Family}
 use Rattle.drive_script.specs.declared.answer.SentPlace.{SentPlace}

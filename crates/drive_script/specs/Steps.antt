@@ -5,7 +5,7 @@ use Rattle.fetch_proto.specs.Number.{page_number, page_place}
 use Rattle.forest_model.specs.Paged.{Paged, stalled_at}
 use Rattle.forest_tree.specs.Operations.{Call, clone, join, kill, Operations}
 use Rattle.forest_tree.specs.Tree.{Tree, node, machine, broods_of, brood_of, Path, subtree}
-use Rattle.forest_tree.specs.Settle.{have_ended, step}
+use Rattle.forest_tree.specs.Step.{have_ended, step}
 use Rattle.sibling_forest.specs.Talk.{Talk, send, receive, Talks, Box}
 use Rattle.sibling_forest.specs.Settle.{settle, settle_all, rests_at}
 use Rattle.talking_history.specs.World.{holds}

@@ -9,9 +9,8 @@ use Rattle.fork_port.specs.declared.ending.Ending.{Ending}
 use Rattle.fork_port.specs.declared.ending.Ending.TheVariants.{Exit, Limit}
 use Rattle.sibling_port.specs.declared.talk.Talk.{Talk}
 use Rattle.sibling_port.specs.declared.talk.Talk.TheVariants.{Send, Receive}
-use Rattle.forest_tree.specs.Tree.{Path, machine, subtree}
+use Rattle.forest_tree.specs.Tree.{Path, machine, subtree, at_path}
 use Rattle.sibling_forest.specs.Settle.{rests_at}
-use Rattle.forest_history.specs.Places.{at_path}
 use Rattle.talking_history.specs.Places.{bare}
 use Rattle.talking_history.specs.World.{IsWhole, is_at_home}
 use Rattle.talking_history.specs.Rows.{How, gave, ended, forked, joined, killed, sent, received, waited, took, does}

@@ -6,14 +6,14 @@ ghost use Rattle.std.specs.Char.{to_ascii_lowercase};
 ghost use Rattle.std.specs.Fmt.{decimal};
 ghost use Rattle.forest_tree.specs.Operations.{join};
 ghost use Rattle.forest_tree.specs.Tree.{Tree, node, Broods, Log, Branch, Path, machine, log_of, size, child_at, brood_of, subtree, beyond, is_below};
-ghost use Rattle.forest_tree.specs.Settle.{waits};
+ghost use Rattle.forest_tree.specs.Step.{waits};
 ghost use Rattle.forest_tree.specs.Sound.{IsSound};
 ghost use Rattle.sibling_forest.specs.Talk.{Box, boxed, queue};
 ghost use Rattle.sibling_forest.specs.Settle.{settle_all};
 ghost use Rattle.sibling_forest.specs.Laws.{child_number, is_sibling};
 ghost use Rattle.sibling_forest.specs.Members.{IsWholeForest};
 ghost use Rattle.forest_model.specs.Machine.{Machine};
-ghost use Rattle.forest_model.specs.Forest.{machines, port_of, talked_out, talks};
+ghost use Rattle.forest_model.specs.Forest.{machines, port_of, finish, talks};
 ghost use Rattle.forest_model.specs.Paged.{Paged, paged_machines, paged_talks, stalled_at};
 ghost use Rattle.machine_names.specs.Name.{name_text};
 ghost use Rattle.drive_script.specs.Script.{ScriptLine, address_of, ask, give, line_of, name_of, number_within, push, script, step};
@@ -128,7 +128,7 @@ pub fn scripts_are_steps()
     ensures queues { (lines : List ScriptLine) (s : Driven) → IsWholeForest machines talks (whole s.tree)
         → IsWholeForest machines talks (whole (after_script lines s).tree) }
     ensures end { (lines : List ScriptLine) (s : Driven) → IsSound (boxed machines talks) (whole s.tree)
-        → talked_out (whole (after_script lines s).tree) ≡ talked_out (whole s.tree) }
+        → finish (whole (after_script lines s).tree) ≡ finish (whole s.tree) }
     ensures alone { (lines : List ScriptLine) (at : Path) (s : Driven) (a b : Tree (Box Machine)) → IsWholeForest machines talks (whole s.tree)
         → subtree at (whole s.tree) ≡ Some a → subtree at (whole (after_script lines s).tree) ≡ Some b
         → b ≡ story machines talks (events machines talks at (steps_of_script lines s) (whole s.tree)) a }

@@ -1,5 +1,6 @@
 -- A machine that may have no clones and has no ticket is run by its own steps.
-use Rattle.std.proofs.Common.{◌≡◌, ℕ, zero, suc, ◌+◌, ◌-◌, ◌/◌, ◌<◌, ◌≤◌, inl, inr, Bool, true, false, eqb, List, [], Option, Some, None, IsSome, IsSomeAnd, refl, sym, ap, ◌∙◌, subst, arith}
+use Rattle.std.proofs.Common.{◌≡◌, ℕ, zero, suc, ◌+◌, ◌-◌, ◌/◌, ◌<◌, ◌≤◌, ◌||◌, inl, inr, Bool, true, false, eqb, List, [], Option, Some, None, IsSome}
+use Rattle.std.proofs.Common.{IsSomeAnd, is_some, refl, sym, ap, ◌∙◌, subst, arith}
 use Rattle.std.proofs.lemmas.Bool.{eqb-false}
 use Rattle.fork_port.specs.declared.commands.Call.{Call}
 use Rattle.fork_port.specs.declared.commands.Call.TheVariants as call
@@ -8,15 +9,20 @@ use Rattle.fork_port.specs.declared.commands.Asked.TheVariants as asked
 use Rattle.fork_port.specs.declared.ending.Ending.{Ending}
 use Rattle.fork_port.specs.declared.tickets.Ticket.{Ticket}
 use Rattle.fork_port.specs.Tickets.{ticket_of}
-use Rattle.fork_port.specs.Registers.{ForkRegisters, HasTicket, ticket_found}
+use Rattle.fork_port.specs.Registers.{ForkRegisters, HasTicket, ticket_found, holding}
 use Rattle.fork_port.specs.Children.{children_granted, after_ticket, killed_from, after_kill}
 use Rattle.fork_port.specs.Commands.{IsMakeable, answered, fork_command}
 use Rattle.fork_port.proofs.Balance.{unless}
 use Rattle.fork_port.proofs.StoreLemmas.{each_store}
 use Rattle.port_rules.specs.Rules.{cloned_numbers}
-use Rattle.forest_tree.specs.Tree.{node, no_brood, no_entry, each_brood}
-use Rattle.forest_tree.specs.Settle.{alone, log_killed, settled_by, step_by, step_from, step}
-use Rattle.forest_tree.specs.Finish as tree
+use Rattle.forest_tree.specs.Operations.{Operations}
+use Rattle.forest_tree.specs.Tree.{Tree, node, no_brood, no_entry}
+use Rattle.forest_tree.specs.Step.{alone, log_killed, settled_by, settled, waits_by, step_by, step_from, step}
+use Rattle.forest_tree.specs.Ahead.{most_ahead, own_weight, weigh, ahead}
+use Rattle.sibling_forest.specs.Talk.{Box, emptied, kept_by, after, advance_by, boxed}
+use Rattle.sibling_forest.specs.Settle.{settle, rests_at}
+use Rattle.sibling_forest.specs.Finish.{paths, first_not, found_by, first_path, next_by, next_path, go_on, run}
+use Rattle.sibling_forest.specs.Finish as forest
 use Rattle.elf_load.specs.Image.{Image}
 use Rattle.forest_model.specs.declared.Options.{Options}
 use Rattle.forest_model.specs.State.{State}
@@ -29,7 +35,8 @@ use Rattle.sibling_port.proofs.Peers.{root_is_alone}
 use Rattle.sibling_port.proofs.Stores.{siblings_commanded}
 use Rattle.sibling_port.proofs.Stores as siblings
 use Rattle.forest_model.specs.Calls.{fork_of}
-use Rattle.forest_model.specs.Forest.{call_of, talk_of, port_of, machines, finish, IsChildless}
+use Rattle.forest_model.specs.Talks.{stepped}
+use Rattle.forest_model.specs.Forest.{call_of, talk_of, port_of, machines, talks, finish, IsChildless}
 use Rattle.forest_model.proofs.PortWalk.{IsKept, Ported, action-ported, port-advance, sibling_of}
 use Rattle.forest_model.proofs.Spoken.{stepped-own}
 use Rattle.forest_model.proofs.Finish.{advance-ended, after_steps-ended, after_steps-agree, cases-ending, steps-advance, limit-advance, IsWithinLimit-advance}
@@ -143,31 +150,67 @@ module _ (m : Machine) (h : IsChildless m) where
   no-talk = no-talk-by m.state (bare m h) h.no_siblings (action m.state) alone-action
 
 -- its steps are those of its tree
+abbrev boxes : Operations (Box Machine) Ending
+boxes = boxed machines talks
+
+abbrev wordless : Machine → Box Machine
+wordless m = record { machine = m; inbox = [] }
+
+abbrev lone : Machine → Tree (Box Machine)
+lone m = alone boxes (wordless m)
+
+kept-none : (e : Option Ending) → kept_by machines talks e [] ≡ []
+unfolding emptied
+kept-none None = refl
+kept-none (Some ending) = refl
+
+after-none : (m : Machine) → after machines talks m [] ≡ wordless m
+after-none m = ap (λ (inbox : List (List ℕ)). record { machine = m; inbox = inbox }) (kept-none (machines.ending m))
+
 settled-alone : (ending : Option Ending) (m : Machine) → (port_of m).tickets ≡ []
-    → settled_by machines ending m no_brood no_entry ≡ alone machines m
-unfolding machines log_killed cloned_numbers
+    → settled_by boxes ending (wordless m) no_brood no_entry ≡ lone m
+unfolding boxed machines log_killed cloned_numbers
 settled-alone None m none = refl
-settled-alone (Some ending) m none = ap (λ tickets. node m no_brood (log_killed machines m (cloned_numbers tickets) no_entry)) none
+settled-alone (Some ending) m none =
+    ap (λ tickets. node (wordless m) no_brood (log_killed boxes (wordless m) (cloned_numbers tickets) no_entry)) none
 
 step-alone-by : (ending : Option Ending) (m : Machine) → m.ending ≡ ending → IsChildless m
-    → step_from machines ending m no_brood no_entry ≡ alone machines (advance m)
-unfolding machines
+    → step_from boxes ending (wordless m) no_brood no_entry ≡ lone (advance m)
+unfolding boxed machines talks
 step-alone-by None m e h =
-    ap (λ c. step_by machines c m no_brood no_entry) (no-call m h)
-    ∙ ap (λ (n : Machine). settled_by machines n.ending n no_brood no_entry) (stepped-own m (no-talk m h))
+    ap (λ c. step_by boxes c (wordless m) no_brood no_entry) (no-call m h)
+    ∙ ap (λ what. settled boxes (advance_by machines talks what (wordless m)) no_brood no_entry) (no-talk m h)
+    ∙ ap (λ b. settled boxes b no_brood no_entry) (after-none (stepped m))
+    ∙ ap (λ (n : Machine). settled_by boxes n.ending (wordless n) no_brood no_entry) (stepped-own m (no-talk m h))
     ∙ settled-alone (advance m).ending (advance m) (IsChildless-advance m h).no_ticket
-step-alone-by (Some ending) m e h = ap (alone machines) (sym (advance-ended m ending e))
+step-alone-by (Some ending) m e h = ap lone (sym (advance-ended m ending e))
 
-step-alone : (m : Machine) → IsChildless m → step machines (alone machines m) ≡ alone machines (advance m)
-unfolding step machines
+step-alone : (m : Machine) → IsChildless m → step boxes (lone m) ≡ lone (advance m)
+unfolding step boxed machines
 step-alone m h = step-alone-by m.ending m refl h
 
-run-alone : (n : ℕ) (m : Machine) → IsChildless m → tree.run machines n (alone machines m) ≡ alone machines (after_steps n m)
-unfolding tree.run each_brood after_steps
+-- the next of them is its own, until it has ended
+next-lives : (m : Machine) → IsChildless m → m.ending ≡ None → next_path machines talks (lone m) ≡ Some []
+unfolding paths first_not rests_at boxed machines
+next-lives m h lives =
+    ap (λ e. next_by machines talks (is_some e) (found_by (is_some e || waits_by boxes (call_of (next m)) no_brood) [] None)) lives
+    ∙ ap (λ c. next_by machines talks false (found_by (false || waits_by boxes c no_brood) [] None)) (no-call m h)
+
+next-ended : (m : Machine) (ending : Ending) → m.ending ≡ Some ending → next_path machines talks (lone m) ≡ None
+unfolding boxed machines
+next-ended m ending e = ap (λ f. next_by machines talks (is_some f) (first_path machines talks (lone m))) e
+
+run-alone : (n : ℕ) (m : Machine) → IsChildless m → run machines talks n (lone m) ≡ lone (after_steps n m)
+unfolding run settle after_steps
 run-alone zero m h = refl
-run-alone (suc n) m h =
-    ap (λ t. tree.run machines n (tree.with_broods (each_brood (tree.run machines n)) t)) (step-alone m h)
-    ∙ run-alone n (advance m) (IsChildless-advance m h)
+run-alone (suc n) m h = elim (cases-ending m.ending) [
+  | inl ended ↦
+      ap (λ path. go_on machines talks path (λ p. run machines talks n (settle machines talks p (lone m))) (lone m)) (next-ended m ended.0 ended.1)
+      ∙ ap lone (sym (after_steps-ended (suc n) m ended.0 ended.1))
+  | inr live ↦
+      ap (λ path. go_on machines talks path (λ p. run machines talks n (settle machines talks p (lone m))) (lone m)) (next-lives m h live)
+      ∙ ap (run machines talks n) (step-alone m h) ∙ run-alone n (advance m) (IsChildless-advance m h)
+]
 
 -- it has ended when its limit is reached
 pub ended-after_steps : (n : ℕ) (m : Machine) → IsChildless m → IsWithinLimit m → m.limit ≤ m.steps + n → IsSome (after_steps n m).ending
@@ -184,15 +227,35 @@ ended-after_steps (suc n) m h within reached = elim (cases-ending m.ending) [
       ended-after_steps n (advance m) (IsChildless-advance m h) (IsWithinLimit-advance m within) (omega arith)
 ]
 
-finish-alone : (m : Machine) → IsChildless m → finish (alone machines m) ≡ alone machines (after_steps (m.limit - m.steps) m)
-unfolding tree.finish machines
-finish-alone m h = run-alone (m.limit - m.steps) m h
+-- as many steps as are ahead of it are enough
+left-ahead : (left held : ℕ) → left ≤ most_ahead 0 left held
+unfolding most_ahead
+left-ahead zero held = omega arith
+left-ahead (suc left) held = let down : left ≤ most_ahead 0 left held = left-ahead left held in omega (arith, down)
+
+ahead-alone : (m : Machine) → m.ending ≡ None → ahead boxes (lone m) ≡ most_ahead 0 (m.limit - m.steps) (holding (port_of m)) + 0 + 0
+unfolding weigh boxed machines
+ahead-alone m lives = ap (λ e. own_weight boxes 0 (λ b. 0) e (wordless m) + 0) lives
+
+ahead-ends : (m : Machine) → IsChildless m → IsWithinLimit m → IsSome (after_steps (ahead boxes (lone m)) m).ending
+ahead-ends m h within = elim (cases-ending m.ending) [
+  | inl ended ↦
+      subst (λ (k : Machine). IsSome k.ending) (sym (after_steps-ended (ahead boxes (lone m)) m ended.0 ended.1)) (subst IsSome (sym ended.1) refl)
+  | inr live ↦
+      let same = ahead-alone m live in
+      let many = left-ahead (m.limit - m.steps) (holding (port_of m)) in
+      ended-after_steps (ahead boxes (lone m)) m h within (omega (arith, same, many))
+]
+
+finish-alone : (m : Machine) → IsChildless m → finish (lone m) ≡ lone (after_steps (ahead boxes (lone m)) m)
+unfolding forest.finish
+finish-alone m h = run-alone (ahead boxes (lone m)) m h
 
 pub finish-childless : (n : ℕ) (m : Machine) → IsChildless m → IsWithinLimit m → IsSome (after_steps n m).ending
-    → finish (alone machines m) ≡ alone machines (after_steps n m)
+    → finish (alone (boxed machines talks) (record { machine = m; inbox = [] }))
+    ≡ alone (boxed machines talks) (record { machine = after_steps n m; inbox = [] })
 finish-childless n m h within ended =
-    finish-alone m h
-    ∙ ap (alone machines) (after_steps-agree (m.limit - m.steps) n m (ended-after_steps (m.limit - m.steps) m h within (omega arith)) ended)
+    finish-alone m h ∙ ap lone (after_steps-agree (ahead boxes (lone m)) n m (ahead-ends m h within) ended)
 
 pub booted-childless : (image : Image) (disk input : List ℕ) (options : Options) → options.allot ≡ 0 → IsChildless (boot image disk input options)
 unfolding boot

@@ -4,12 +4,13 @@ use Rattle.std.proofs.Common.{Option, Some, None, IsSome, refl, ap, ◌∙◌, s
 use Rattle.std.specs.List.{Contains}
 use Rattle.forest_tree.specs.Operations.{Call, IsMachine, IsStep, Makes, is_cloned}
 use Rattle.forest_tree.specs.Tree.{Tree}
-use Rattle.forest_tree.specs.Finish as tree
 use Rattle.forest_tree.specs.Projection.{map_tree, Projects}
-use Rattle.forest_tree.proofs.Projected.{IsMachine-projected, finish-map}
+use Rattle.forest_tree.proofs.Projected.{IsMachine-projected}
 use Rattle.forest_model.specs.Machine.{Machine, after_steps}
-use Rattle.sibling_forest.specs.Talk.{HasNumberOf, IsTalking}
-use Rattle.sibling_forest.specs.Laws.{TalksAlike}
+use Rattle.sibling_forest.specs.Talk.{Box, HasNumberOf, IsTalking}
+use Rattle.sibling_forest.specs.Finish as forest
+use Rattle.sibling_forest.specs.Laws.{TalksAlike, box_of}
+use Rattle.sibling_forest.proofs.Projected.{finish-map}
 use Rattle.forest_model.specs.Forest.{machines, talks, finish}
 use Rattle.forest_model.specs.Touch.{touch}
 use Rattle.forest_model.specs.Paged.{Paged, advanced, advanced_by, first_absent, paged_machines, paged_talks, stalled_at}
@@ -44,13 +45,13 @@ paged-projects = record {
 pub paged-rules : IsMachine paged_machines
 paged-rules = IsMachine-projected paged_machines machines inner paged-projects machines-rules
 
-pub paged-finish : (t : Tree Paged) → finish (map_tree inner t) ≡ map_tree inner (tree.finish paged_machines t)
-paged-finish t = finish-map paged_machines machines inner paged-projects t
-
 -- they talk as the machine with every page does
 pub paged-alike : TalksAlike paged_talks talks inner
 unfolding paged_talks
 paged-alike = record { talk = λ p. refl; word = λ p. refl; received = λ p word. refl }
+
+pub paged-finish : (t : Tree (Box Paged)) → finish (map_tree (box_of inner) t) ≡ map_tree (box_of inner) (forest.finish paged_machines paged_talks t)
+paged-finish t = finish-map paged_machines machines paged_talks talks inner paged-projects paged-alike t
 
 paged-makes : (p : Paged) (next : Option Call) → Makes paged_machines p next → Makes machines p.machine next
 unfolding paged_machines

@@ -14,8 +14,6 @@ use Rattle.port_rules.proofs.Tickets.{port-same, port-clone, port-join, port-kil
 use Rattle.port_rules.proofs.Stores.{port-stored}
 use Rattle.forest_tree.specs.Operations as tree
 use Rattle.forest_tree.specs.Operations.{is_among, is_cloned, Makes, IsStep, IsChild, IsMachine}
-use Rattle.forest_tree.specs.Sound.{IsSound}
-use Rattle.forest_tree.proofs.Settle.{start-sound}
 use Rattle.elf_load.specs.Image.{Image}
 use Rattle.forest_model.specs.declared.Options.{Options}
 use Rattle.forest_model.specs.State.{State}
@@ -28,7 +26,7 @@ use Rattle.sibling_forest.specs.Talk.{Talk}
 use Rattle.forest_model.specs.Machine.{Machine, next_of, next, limited, applied, advance, boot}
 use Rattle.forest_model.specs.Talks.{spoken, talked, received, stepped}
 use Rattle.forest_model.specs.Calls.{called, fork_of, forked, share_of, child_by, child, after_join, after_kill}
-use Rattle.forest_model.specs.Forest.{call_of, talk_of, port_of, is_good, machines, booted}
+use Rattle.forest_model.specs.Forest.{call_of, talk_of, port_of, is_good, machines}
 use Rattle.forest_model.proofs.PortWalk.{IsKept, Ported, action-ported, fork-kept, port-applied, sibling_of}
 use Rattle.forest_model.proofs.Spoken.{Speaks, Kind, own, says, kind-of, answer_of, received-talked, stepped-own, stepped-talk, talked-is, talks-at}
 use Rattle.forest_model.proofs.Finish.{advance-live}
@@ -247,9 +245,3 @@ pub booted-good : (image : Image) (disk input : List ℕ) (options : Options) �
 unfolding boot
 booted-good image disk input options some fits =
     and_from (is_accounted (at_start options.allot)) (ltb 0 options.limit) (start-accounted options.allot fits) (lt-ltb 0 options.limit some)
-
-pub booted-sound : (image : Image) (disk input : List ℕ) (options : Options) → 0 < options.limit → options.allot < 2 ^ 32
-    → IsSound machines (booted image disk input options)
-unfolding machines boot cloned_numbers
-booted-sound image disk input options some fits =
-    start-sound machines (boot image disk input options) (booted-good image disk input options some fits) refl

@@ -30,7 +30,7 @@ use Rattle.forest_model.specs.Execute.{action}
 use Rattle.forest_model.specs.Machine.{Machine, next, advance, boot}
 use Rattle.forest_model.specs.Calls.{fork_of, forked_by, forked, children_of, child, joined_by, after_join, killed_by, after_kill}
 use Rattle.forest_model.specs.Talks.{talked_by, talked, received, stepped}
-use Rattle.forest_model.specs.Forest.{port_of, talk_of, tree_talk, machines, talks, booted_box}
+use Rattle.forest_model.specs.Forest.{port_of, talk_of, tree_talk, machines, talks, booted}
 use Rattle.forest_model.proofs.PortWalk.{IsKept, port-advance, same-fork, same-sibling, sibling_of}
 use Rattle.forest_model.proofs.Calls.{Leads, leads, clone-asks, child-is, sibling-child}
 use Rattle.forest_model.proofs.Spoken.{ComesTo, Kind, own, says, kind-of, answer_of, received-talked, stepped-own, stepped-talk, talks-at}
@@ -212,7 +212,7 @@ machines-talk = record {
 
 -- a machine that is booted has no siblings
 pub booted-whole : (image : Image) (disk input : List ℕ) (options : Options) → 0 < options.limit → options.allot < 2 ^ 32
-    → IsWholeForest machines talks (booted_box image disk input options)
+    → IsWholeForest machines talks (booted image disk input options)
 unfolding machines talks boot cloned_numbers
 booted-whole image disk input options some fits =
     alone-whole machines talks machines-rules machines-talk (boot image disk input options) []

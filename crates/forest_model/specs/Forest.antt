@@ -7,12 +7,11 @@ use Rattle.fork_port.specs.Registers.{ForkRegisters, ticket_found, holding}
 use Rattle.forest_tree.specs.Operations.{Operations}
 use Rattle.forest_tree.specs.Operations as tree
 use Rattle.forest_tree.specs.Tree.{Tree}
-use Rattle.forest_tree.specs.Settle.{alone}
-use Rattle.forest_tree.specs.Finish as run
+use Rattle.forest_tree.specs.Step.{alone}
 use Rattle.sibling_port.specs.declared.talk.Talk as port
 use Rattle.sibling_port.specs.declared.talk.Talk.TheVariants.{Send, Receive}
 use Rattle.sibling_forest.specs.Talk.{Talk, send, receive, Talks, Box, boxed}
-use Rattle.sibling_forest.specs.Finish as talking
+use Rattle.sibling_forest.specs.Finish as forest
 use Rattle.port_rules.specs.Rules.{cloned_numbers, grant_of, may_clone, is_accounted}
 use Rattle.elf_load.specs.Image.{Image}
 use Rattle.forest_model.specs.declared.Options.{Options}
@@ -80,22 +79,14 @@ talks = record {
   siblings = λ m. m.state.ports.sibling.siblings;
 }
 
--- the forest that starts with one machine, which is booted
-abbrev pub booted : Image → List ℕ → List ℕ → Options → Tree Machine
-booted image disk input options = alone machines (boot image disk input options)
-
--- the same, with no words to it
-abbrev pub booted_box : Image → List ℕ → List ℕ → Options → Tree (Box Machine)
-booted_box image disk input options =
+-- the forest that starts with one machine, which is booted, with no words to it
+abbrev pub booted : Image → List ℕ → List ℕ → Options → Tree (Box Machine)
+booted image disk input options =
     alone (boxed machines talks) (record { machine = boot image disk input options; inbox = [] })
 
--- a forest run to its end
-abbrev pub finish : Tree Machine → Tree Machine
-finish t = run.finish machines t
-
--- the same, of machines with the words to them
-abbrev pub talked_out : Tree (Box Machine) → Tree (Box Machine)
-talked_out t = talking.finish machines talks t
+-- a forest run until its root has ended or it rests
+abbrev pub finish : Tree (Box Machine) → Tree (Box Machine)
+finish t = forest.finish machines talks t
 
 -- a machine that may have no clones, and has no ticket and no siblings
 pub record IsChildless (m : Machine) : Type 0 where

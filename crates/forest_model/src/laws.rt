@@ -13,13 +13,13 @@ ghost use Rattle.fork_port.specs.Handed.{handed_of};
 ghost use Rattle.sibling_port.specs.Registers as sibling;
 ghost use Rattle.sibling_port.specs.Commands.{HasSibling, named};
 ghost use Rattle.sibling_forest.specs.Talk.{Box, IsTalking, boxed};
-ghost use Rattle.sibling_forest.specs.Laws.{IsSilent, TalksAlike};
+ghost use Rattle.sibling_forest.specs.Laws.{IsSilent, TalksAlike, box_of};
+ghost use Rattle.sibling_forest.specs.Finish as forest;
 ghost use Rattle.sibling_forest.specs.Members.{IsWholeForest};
 ghost use Rattle.forest_tree.specs.Operations.{clone, join, kill, IsMachine};
-ghost use Rattle.forest_tree.specs.Tree.{Tree};
-ghost use Rattle.forest_tree.specs.Finish as tree;
+ghost use Rattle.forest_tree.specs.Tree.{Tree, machine};
 ghost use Rattle.forest_tree.specs.Projection.{map_tree, Projects};
-ghost use Rattle.forest_tree.specs.Settle.{alone};
+ghost use Rattle.forest_tree.specs.Step.{alone};
 ghost use Rattle.forest_tree.specs.Sound.{IsSound};
 ghost use Rattle.forest_model.specs.State.{State, at_next_instruction, is_timer_due};
 ghost use Rattle.forest_model.specs.Access.{page_of};
@@ -31,7 +31,7 @@ ghost use Rattle.forest_model.specs.Execute.{action};
 ghost use Rattle.forest_model.specs.Machine.{Machine, IsWithinLimit, exception, plain, talk, timer_interrupt, next, limited, count, trapped, advance, after_steps, boot};
 ghost use Rattle.forest_model.specs.Calls.{as_in_parent, child, children_of, fork_of, forked, after_join, after_kill, share_of};
 ghost use Rattle.forest_model.specs.Talks.{spoken, talked};
-ghost use Rattle.forest_model.specs.Forest.{IsChildless, booted, booted_box, call_of, finish, machines, port_of, talk_of, talked_out, talks};
+ghost use Rattle.forest_model.specs.Forest.{IsChildless, booted, call_of, finish, machines, port_of, talk_of, talks};
 ghost use Rattle.forest_model.specs.Touch.{IsZeroed, change, touch};
 ghost use Rattle.forest_model.specs.Paged.{IsPageOf, Paged, Pages, absent_count, advanced_by, paged_machines, paged_talks, pages_arrived, stalled_at};
 
@@ -148,20 +148,18 @@ pub fn tickets_rise()
 {}
 
 /// The machines keep the rules of a forest, and those of one whose machines talk: the laws of its trees hold of
-/// them. A machine that is booted is a sound tree alone. (Every allot that the type has is below 2 ^ 32.)
+/// them. A machine that is booted is a sound tree alone, with the queues that it is to have. (Every allot that the type
+/// has is below 2 ^ 32.)
 pub fn machines_keep_the_rules()
     ensures rules { IsMachine machines }
     ensures talks { IsTalking machines talks }
     ensures booted { (image : Image) (disk input : List ℕ) (options : Options) → 0 < options.limit → options.allot < 2 ^ 32
-        → IsSound machines (booted image disk input options) }
-    ensures whole { (image : Image) (disk input : List ℕ) (options : Options) → 0 < options.limit → options.allot < 2 ^ 32
-        → IsWholeForest machines talks (booted_box image disk input options) }
+        → IsWholeForest machines talks (booted image disk input options) }
 {}
 
-/// A family whose machines never talk comes to what it comes to without words.
-pub fn silent_families_finish_alike()
-    ensures { (t : Tree (Box Machine)) → IsSound (boxed machines talks) t → IsSilent machines talks t
-        → map_tree (λ (b : Box Machine). b.machine) (talked_out t) ≡ finish (map_tree (λ (b : Box Machine). b.machine) t) }
+/// A family whose machines never come to a talk is run until its root has ended.
+pub fn silent_families_end()
+    ensures { (t : Tree (Box Machine)) → IsSound (boxed machines talks) t → IsSilent machines talks t → IsSome (machine (finish t)).machine.ending }
 {}
 
 /// A machine that may have no clones and has no ticket and no siblings never makes a call or a talk, and neither does it
@@ -172,7 +170,8 @@ pub fn childless_machines_run_alone()
     ensures stays { (n : ℕ) (m : Machine) → IsChildless m → IsChildless (after_steps n m) }
     ensures ends { (n : ℕ) (m : Machine) → IsChildless m → IsWithinLimit m → m.limit ≤ m.steps + n → IsSome (after_steps n m).ending }
     ensures finish { (n : ℕ) (m : Machine) → IsChildless m → IsWithinLimit m → IsSome (after_steps n m).ending
-        → finish (alone machines m) ≡ alone machines (after_steps n m) }
+        → finish (alone (boxed machines talks) (record { machine = m; inbox = [] }))
+        ≡ alone (boxed machines talks) (record { machine = after_steps n m; inbox = [] }) }
     ensures boots { (image : Image) (disk input : List ℕ) (options : Options) → options.allot ≡ 0 → IsChildless (boot image disk input options) }
 {}
 
@@ -234,7 +233,8 @@ pub fn absent_pages_add_nothing()
     ensures alike { TalksAlike paged_talks talks (λ (p : Paged). p.machine) }
     ensures talking { IsTalking paged_machines paged_talks }
     ensures steps { (n : ℕ) (p : Paged) → (advanced_by n p).machine ≡ after_steps n p.machine }
-    ensures finish { (t : Tree Paged) → finish (map_tree (λ (p : Paged). p.machine) t) ≡ map_tree (λ (p : Paged). p.machine) (tree.finish paged_machines t) }
+    ensures finish { (t : Tree (Box Paged)) → finish (map_tree (box_of (λ (p : Paged). p.machine)) t)
+        ≡ map_tree (box_of (λ (p : Paged). p.machine)) (forest.finish paged_machines paged_talks t) }
 {}
 
 /// The page at which a machine stops is one that its next step touches and that is not here. A machine that has

@@ -1,18 +1,18 @@
 -- Each step lowers what is ahead by more than a place counts, and a tree whose root lives has a machine that
 -- makes one.
-use Rattle.std.proofs.Common.{◌≡◌, ℕ, zero, suc, ◌+◌, ◌*◌, ◌<◌, ◌≤◌, ◌&&◌, ◌||◌, not, eqb, Bool, true, false, cond, refl}
-use Rattle.std.proofs.Common.{sym, ap, ◌∙◌, subst, arith, le_refl, [], ◌∷◌, Option, Some, None, is_some, option_and_then}
+use Rattle.std.proofs.Common.{◌≡◌, ℕ, zero, suc, ◌+◌, ◌*◌, ◌<◌, ◌≤◌, ◌&&◌, ◌||◌, not, eqb, Bool, true, false, cond, refl, pred, sym, ap, ◌∙◌, subst, arith, le_refl, [], ◌∷◌, Option, Some, None}
+use Rattle.std.proofs.Common.{is_some, option_and_then}
 use Rattle.std.proofs.lemmas.Bool.{not-true, or_parts}
 use Rattle.forest_tree.specs.Operations.{Call, clone, join, kill, Operations, is_cloned, Makes, IsStep, IsChild, IsMachine}
-use Rattle.forest_tree.specs.Tree.{Tree, node, Trees, no_tree, tree, Broods, no_brood, brood, Log, joined, killed, machine}
-use Rattle.forest_tree.specs.Tree.{at_child, child_at, brood_of, without, at_brood, broods_with, Branch, Path, subtree}
-use Rattle.forest_tree.specs.Settle.{has_ended, have_ended, endings, alone, children_from, children, settled_by, settled, waits_by, join_by, step_by, step, settle, rests}
+use Rattle.forest_tree.specs.Tree.{Tree, node, Trees, no_tree, tree, Broods, no_brood, brood, Log, joined, killed, machine, at_path, at_child, child_at, brood_of, without, at_brood, broods_with}
+use Rattle.forest_tree.specs.Tree.{Branch, Path, subtree}
+use Rattle.forest_tree.specs.Step.{has_ended, have_ended, endings, alone, children_from, children, settled_by, settled, waits_by, join_by, step_by, step, rests, steps}
 use Rattle.forest_tree.specs.Sound.{IsSound}
 use Rattle.forest_tree.specs.Ahead.{most_ahead, own_weight, weigh, weigh_trees, weigh_broods, ahead}
 use Rattle.forest_tree.proofs.All.{AllTrees, AllBroods, AllTrees-brood_of, tree-below}
 use Rattle.forest_tree.proofs.Broods.{one_if}
-use Rattle.forest_tree.proofs.Settle.{root-sound, join-step}
-use Rattle.forest_tree.proofs.Run.{step-lives}
+use Rattle.forest_tree.proofs.Sound.{root-sound, join-step, step-keeps}
+use Rattle.forest_tree.proofs.Steps.{step-lives}
 use Rattle.forest_tree.proofs.Places.{some-same, below-at, is-within}
 use Rattle.forest_tree.proofs.Rests.{lives-none, step-rests, one-brood, at_brood-absent}
 
@@ -61,42 +61,45 @@ module _ {M E : Type 0} (o : Operations M E) where
   pub live-moves : (t : Tree M) → has_ended o t ≡ false → Moves t
   live-moves t lives = tree-below LivesMoves moves-root t lives
 
+product : (a b x y : ℕ) → a ≤ b → x ≤ y → a * x ≤ b * y
+product a b x y h k = grind arith
+
+pred-le : (a b : ℕ) → a ≤ b → pred a ≤ pred b
+pred-le zero b h = omega arith
+pred-le (suc a) zero h = absurd (omega arith)
+pred-le (suc a) (suc b) h = omega arith
+
 -- more to hold, more ahead
 most-grows : (worth left less more : ℕ) → less ≤ more → most_ahead worth left less ≤ most_ahead worth left more
 unfolding most_ahead
 most-grows worth zero less more h = le_refl 0
 most-grows worth (suc left) less more h =
-    let down : most_ahead worth left less ≤ most_ahead worth left more = most-grows worth left less more h in
-    product less more (worth + most_ahead worth left less) (worth + most_ahead worth left more) h (omega arith)
-  where
-    product : (a b x y : ℕ) → a ≤ b → x ≤ y → 1 + (1 + a) * x ≤ 1 + (1 + b) * y
-    product a b x y h k = grind arith
+    let same : most_ahead worth left less ≤ most_ahead worth left more = most-grows worth left less more h in
+    let down : most_ahead worth left (pred less) ≤ most_ahead worth left (pred more) =
+    most-grows worth left (pred less) (pred more) (pred-le less more h) in
+    let below : less * (worth + most_ahead worth left (pred less)) ≤ more * (worth + most_ahead worth left (pred more)) =
+    product less more (worth + most_ahead worth left (pred less)) (worth + most_ahead worth left (pred more)) h (omega (arith, down)) in
+    omega (arith, same, below)
 
 -- a step of a machine's own, and a clone
 own-falls : (worth left h : ℕ) → most_ahead worth left h + worth < most_ahead worth (suc left) h
 unfolding most_ahead
-own-falls worth left h = by (worth + most_ahead worth left h) h (omega arith)
-  where
-    by : (x h : ℕ) {y : ℕ} → y ≡ x → y < 1 + (1 + h) * x
-    by x h same = grind arith
+own-falls worth left h = omega arith
 
-fewer : (h n less most : ℕ) → n ≤ h → less ≤ most → n * less + most < 1 + (1 + h) * most
-fewer h n less most within down = grind arith
+less-each : (n share held : ℕ) → suc n * (1 + share) ≤ held → (suc n ≤ held) × (share ≤ pred held)
+less-each n share zero fits = absurd (omega arith)
+less-each n share (suc held) fits = (omega arith, omega arith)
 
 fewer-born : (worth n share h left : ℕ) → n * (1 + share) ≤ h
     → n * (most_ahead worth left share + worth) + (most_ahead worth left h + worth) < most_ahead worth (suc left) h
 unfolding most_ahead
-fewer-born worth zero share h left fits = none (most_ahead worth left share + worth) (most_ahead worth left h) h
-  where
-    none : (x y h : ℕ) → 0 * x + (y + worth) < 1 + (1 + h) * (worth + y)
-    none x y h = grind arith
+fewer-born worth zero share h left fits = omega arith
 fewer-born worth (suc n) share h left fits =
-    let within : suc n ≤ h = omega arith in
-    let less : share ≤ h = omega arith in
-    let down : most_ahead worth left share ≤ most_ahead worth left h = most-grows worth left share h less in
-    let turned : worth + most_ahead worth left h ≡ most_ahead worth left h + worth = omega arith in
-    subst (λ most. suc n * (most_ahead worth left share + worth) + (most_ahead worth left h + worth) < 1 + (1 + h) * most) (sym turned)
-    (fewer h (suc n) (most_ahead worth left share + worth) (most_ahead worth left h + worth) within (omega arith))
+    let each = less-each n share h fits in
+    let down : most_ahead worth left share ≤ most_ahead worth left (pred h) = most-grows worth left share (pred h) each.1 in
+    let below : suc n * (most_ahead worth left share + worth) ≤ h * (worth + most_ahead worth left (pred h)) =
+    product (suc n) h (most_ahead worth left share + worth) (worth + most_ahead worth left (pred h)) each.0 (omega (arith, down)) in
+    omega (arith, below)
 
 one-more : (n y a b : ℕ) → a ≤ y → b ≤ n * y → a + b ≤ suc n * y
 one-more n y a b first rest = omega arith
@@ -264,6 +267,21 @@ module _ {M E : Type 0} (o : Operations M E) (worth : ℕ) (at : M → ℕ) wher
         by true e = let same : under (step o t) ≡ under t = ap under (step-rests o t e) in omega arith
         by false e = let falls : under (step o t) + worth < under t = step-falls t h e in omega arith
 
+    pub steps-within : (k : ℕ) (t : Tree M) → IsSound o t → under (steps o k t) ≤ under t
+    unfolding steps
+    steps-within zero t h = le_refl _
+    steps-within (suc k) t h =
+        let first : under (step o t) ≤ under t = step-within t h in
+        let then : under (steps o k (step o t)) ≤ under (step o t) = steps-within k (step o t) (step-keeps o rules t h).sound in
+        omega arith
+
+    pub steps-fall : (k : ℕ) (t : Tree M) → IsSound o t → rests o (Some t) ≡ false → under (steps o (suc k) t) + worth < under t
+    unfolding steps
+    steps-fall k t h moves =
+        let first : under (step o t) + worth < under t = step-falls t h moves in
+        let then : under (steps o k (step o t)) ≤ under (step o t) = steps-within k (step o t) (step-keeps o rules t h).sound in
+        omega arith
+
   -- a change that lowers the weight at a path lowers that of the whole
   pub child-falls : (f : Tree M → Tree M) (k : ℕ) (trees : Trees M) (c : Tree M) → child_at k trees ≡ Some c → weigh o worth at (f c) < weigh o worth at c
       → weigh_trees o worth at (at_child f k trees) < weigh_trees o worth at trees
@@ -294,11 +312,25 @@ module _ {M E : Type 0} (o : Operations M E) (worth : ℕ) (at : M → ℕ) wher
       by false fits here absent down =
           let fell : weigh_broods o worth at (at_brood g t rest) < weigh_broods o worth at rest = down (omega arith) here in omega arith
 
+  pub at_path-falls : (f : Tree M → Tree M) (path : Path) (t a : Tree M) → IsSound o t → subtree path t ≡ Some a
+      → (IsSound o a → weigh o worth at (f a) < weigh o worth at a) → weigh o worth at (at_path f path t) < weigh o worth at t
+  unfolding weigh at_path subtree
+  at_path-falls f [] t a h found falls =
+      subst (λ u. weigh o worth at (f u) < weigh o worth at u) (sym (some-same t a found)) (falls (subst (IsSound o) (some-same t a found) h))
+  at_path-falls f (b ∷ path) (node m broods log) a h found falls =
+      let is = is-within o path (child_at b.child (brood_of b.ticket broods)) a found in
+      let sound : IsSound o is.0 = below-at o m broods log b.ticket b.child is.0 h is.1 in
+      let below : weigh_broods o worth at (at_brood (at_child (at_path f path) b.child) b.ticket broods) < weigh_broods o worth at broods =
+      brood-falls (at_child (at_path f path) b.child) b.ticket broods (one-brood o m broods log h b.ticket)
+      (child-falls (at_path f path) b.child (brood_of b.ticket broods) is.0 is.1 (at_path-falls f path is.0 a sound is.2 falls)) in
+      omega arith
+
+-- where no place counts
 module _ {M E : Type 0} (o : Operations M E) (rules : IsMachine o) where
   none-low : (m : M) → 0 ≤ 0
   none-low m = le_refl 0
 
-  step-ahead : (t : Tree M) → IsSound o t → rests o (Some t) ≡ false → ahead o (step o t) < ahead o t
+  pub step-ahead : (t : Tree M) → IsSound o t → rests o (Some t) ≡ false → ahead o (step o t) < ahead o t
   step-ahead (node m broods log) h moves =
       let t : Tree M = node m broods log in
       let lives : o.ending m ≡ None = lives-none (o.ending m) (or_parts (is_some (o.ending m)) (waits_by o (o.call m) broods) moves).0 in
@@ -306,21 +338,3 @@ module _ {M E : Type 0} (o : Operations M E) (rules : IsMachine o) where
       let falls : under o 0 (λ m. 0) (step o t) + 0 < under o 0 (λ m. 0) t = step-falls o 0 (λ m. 0) rules none-low t h moves in
       let before : ahead o t ≡ under o 0 (λ m. 0) t + 0 = weigh-lives o 0 (λ m. 0) t lives in
       omega (arith, after, falls, before)
-
-  pub settle-falls : (path : Path) (t : Tree M) → IsSound o t → rests o (subtree path t) ≡ false → ahead o (settle o path t) < ahead o t
-  unfolding settle subtree weigh
-  settle-falls [] t h moves = step-ahead t h moves
-  settle-falls (b ∷ path) (node m broods log) h moves =
-      let there = child-there path (child_at b.child (brood_of b.ticket broods)) refl moves in
-      let sound : IsSound o there.0 = below-at o m broods log b.ticket b.child there.0 h there.1 in
-      let below : weigh_broods o 0 (λ m. 0) (at_brood (at_child (settle o path) b.child) b.ticket broods) < weigh_broods o 0 (λ m. 0) broods =
-      brood-falls o 0 (λ m. 0) (at_child (settle o path) b.child) b.ticket broods (one-brood o m broods log h b.ticket)
-      (child-falls o 0 (λ m. 0) (settle o path) b.child (brood_of b.ticket broods) there.0 there.1 (settle-falls path there.0 sound there.2)) in
-      omega arith
-    where
-      -- the child on the way to a step
-      child-there : (path : Path) {there : Option (Tree M)} (c : Option (Tree M)) → there ≡ c
-          → rests o (option_and_then (subtree path) c) ≡ false
-          → (u : Tree M) × (there ≡ Some u) × (rests o (subtree path u) ≡ false)
-      child-there path None e moves = absurd (cc)
-      child-there path (Some u) e moves = (u, e, moves)

@@ -1,7 +1,7 @@
 -- Broods by ticket: how many there are of one, and what a change of them keeps.
 use Rattle.std.proofs.Common.{◌≡◌, ℕ, zero, suc, ◌+◌, ◌≤◌, Bool, true, false, cond, eqb, eqb-true, eq-eqb, refl, sym, ap, ◌∙◌, arith}
 use Rattle.std.proofs.lemmas.Bool.{eqb-false}
-use Rattle.forest_tree.specs.Tree.{Tree, Trees, no_tree, tree, Broods, no_brood, brood, size, each, at_child, without, at_brood, each_brood, broods_with}
+use Rattle.forest_tree.specs.Tree.{Tree, Trees, no_tree, tree, Broods, no_brood, brood, size, at_child, without, at_brood, broods_with}
 
 -- one for true
 abbrev pub one_if : Bool → ℕ
@@ -55,11 +55,6 @@ module _ {M : Type 0} where
   broods_with-at_brood f t u no_brood = refl
   broods_with-at_brood f t u (brood v trees rest) = ap (λ n. one_if (eqb v u) + n) (broods_with-at_brood f t u rest)
 
-  pub broods_with-each_brood : (f : Tree M → Tree M) (u : ℕ) (broods : Broods M) → broods_with u (each_brood f broods) ≡ broods_with u broods
-  unfolding broods_with each_brood
-  broods_with-each_brood f u no_brood = refl
-  broods_with-each_brood f u (brood v trees rest) = ap (λ n. one_if (eqb v u) + n) (broods_with-each_brood f u rest)
-
   -- no brood of t stays without it, and those of other tickets do
   without-head : (v t u : ℕ) (trees : Trees M) (rest left : Broods M) (same : Bool) → eqb v t ≡ same
       → broods_with u left ≡ cond (eqb t u) 0 (broods_with u rest)
@@ -74,11 +69,6 @@ module _ {M : Type 0} where
   broods_with-without t u no_brood = zero_either (eqb t u)
   broods_with-without t u (brood v trees rest) =
       without-head v t u trees rest (without t rest) (eqb v t) refl (broods_with-without t u rest)
-
-  pub size-each : (f : Tree M → Tree M) (trees : Trees M) → size (each f trees) ≡ size trees
-  unfolding size each
-  size-each f no_tree = refl
-  size-each f (tree t rest) = ap suc (size-each f rest)
 
   pub size-at_child : (f : Tree M → Tree M) (k : ℕ) (trees : Trees M) → size (at_child f k trees) ≡ size trees
   unfolding size at_child

@@ -1,12 +1,12 @@
 -- What a step is, by the call that it makes.
-use Rattle.std.proofs.Common.{◌≡◌, ℕ, zero, suc, ◌+◌, ◌<◌, ◌≤◌, not, Bool, true, false, refl, sym, ap, ◌∙◌, arith, List, Option, Some, None, is_some, slice_get}
+use Rattle.std.proofs.Common.{◌≡◌, ℕ, zero, suc, ◌+◌, ◌<◌, ◌≤◌, true, false, refl, sym, ap, ◌∙◌, arith, List, Option, Some, None, is_some, slice_get}
 use Rattle.std.proofs.lemmas.Bool.{and_parts, not-false}
 use Rattle.forest_tree.specs.Operations.{clone, join, kill, Operations, IsMachine}
 use Rattle.forest_tree.specs.Tree.{Tree, node, Trees, no_tree, tree, Broods, brood, Log, joined, killed, machine, size, child_at, brood_of, without}
-use Rattle.forest_tree.specs.Settle.{have_ended, with_ending, endings, alone, children_from, children, settled, waits_by, waits, join_by, step}
+use Rattle.forest_tree.specs.Step.{have_ended, with_ending, endings, alone, children_from, children, settled, waits_by, waits, join_by, step}
 use Rattle.forest_tree.specs.Sound.{IsSound}
-use Rattle.forest_tree.proofs.Settle.{root-sound, size-children_from, size-cloned}
-use Rattle.forest_tree.proofs.Run.{step-lives}
+use Rattle.forest_tree.proofs.Sound.{root-sound, size-children_from, size-cloned}
+use Rattle.forest_tree.proofs.Steps.{step-lives}
 use Rattle.forest_tree.proofs.Places.{some-same}
 
 module _ {M E : Type 0} (o : Operations M E) where

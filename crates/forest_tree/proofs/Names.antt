@@ -1,18 +1,13 @@
--- A place that is gone does not come back, so what becomes of a tree is what is done in it.
-use Rattle.std.proofs.Common.{◌≡◌, ℕ, suc, ◌+◌, ◌&&◌, ◌||◌, not, eqb, ◌⊎◌, Bool, true, false, cond, refl, sym, ap, ◌∙◌, subst}
-use Rattle.std.proofs.Common.{arith, inl, inr, List, [], ◌∷◌, Option, Some, None, IsSome, is_some, option_and_then, option_map}
-use Rattle.std.proofs.lemmas.Bool.{or_parts}
+-- A place that is gone does not come back.
+use Rattle.std.proofs.Common.{◌≡◌, ℕ, ◌&&◌, not, eqb, ◌⊎◌, Bool, true, false, cond, refl, sym, ap, ◌∙◌, subst, inl, inr, [], ◌∷◌, Option, Some, None, IsSome, option_and_then, option_map}
 use Rattle.forest_tree.specs.Operations.{Call, clone, join, kill, Operations, is_cloned, Makes, IsStep, IsMachine}
-use Rattle.forest_tree.specs.Tree.{Tree, node, Trees, Broods, Log, brood, joined, killed, machine, broods_of, child_at}
-use Rattle.forest_tree.specs.Tree.{brood_of, without, broods_with, Branch, Path, subtree, beyond, with_path, beyond_all}
-use Rattle.forest_tree.specs.Settle.{have_ended, endings, children, settled, waits_by, join_by, step_by, step, settle, settle_all, settle_beyond, rests, is_own, own_steps}
+use Rattle.forest_tree.specs.Tree.{Tree, node, Trees, Broods, Log, brood, joined, killed, machine, broods_of, child_at, brood_of, without, broods_with, Branch, Path, subtree, at_path}
+use Rattle.forest_tree.specs.Step.{have_ended, endings, children, settled, join_by, step_by, step}
 use Rattle.forest_tree.specs.Sound.{IsSound}
 use Rattle.forest_tree.proofs.Broods.{one_if}
-use Rattle.forest_tree.proofs.Settle.{root-sound, machine-settled, join-step, settle-keeps}
-use Rattle.forest_tree.proofs.Run.{cases-ending, step-ended, step-lives, step-counts}
-use Rattle.forest_tree.proofs.Places.{some-same, Kept, stays, goes, is_new, brood_of-none, kept-step, below-at, is-within, child-moved, settle-at}
-use Rattle.forest_tree.proofs.Rests.{lives-none, step-rests}
-use Rattle.forest_tree.proofs.Schedules.{settle_all-keeps}
+use Rattle.forest_tree.proofs.Sound.{root-sound, machine-settled, join-step}
+use Rattle.forest_tree.proofs.Steps.{cases-ending, step-ended, step-lives}
+use Rattle.forest_tree.proofs.Places.{Kept, stays, goes, is_new, brood_of-none, kept-step, below-at, is-within, child-moved}
 
 module _ {M E : Type 0} (o : Operations M E) (rules : IsMachine o) where
   -- no number comes back in a step
@@ -139,15 +134,15 @@ module _ {M E : Type 0} (o : Operations M E) (rules : IsMachine o) where
   gone-below gone f m t true (Some u) h down = down u refl h
   gone-below gone f m t false (Some u) h down = h
 
-  pub gone-settle : (at path : Path) (t : Tree M) → IsSound o t → IsGone at t → IsGone at (settle o path t)
-  unfolding IsGone settle
-  gone-settle [] path t h gone = gone
-  gone-settle (b ∷ way) [] (node m broods log) h gone = gone-root b way m broods log h gone
-  gone-settle (b ∷ way) (y ∷ path) (node m broods log) h gone =
-      subst (λ c. GoneIn (IsGone way) c m b.ticket) (sym (child-moved (settle o path) b y broods))
-      (gone-below (IsGone way) (settle o path) m b.ticket (eqb y.ticket b.ticket && eqb y.child b.child)
+  pub gone-stepped : (at path : Path) (t : Tree M) → IsSound o t → IsGone at t → IsGone at (at_path (step o) path t)
+  unfolding IsGone at_path
+  gone-stepped [] path t h gone = gone
+  gone-stepped (b ∷ way) [] (node m broods log) h gone = gone-root b way m broods log h gone
+  gone-stepped (b ∷ way) (y ∷ path) (node m broods log) h gone =
+      subst (λ c. GoneIn (IsGone way) c m b.ticket) (sym (child-moved (at_path (step o) path) b y broods))
+      (gone-below (IsGone way) (at_path (step o) path) m b.ticket (eqb y.ticket b.ticket && eqb y.child b.child)
       (child_at b.child (brood_of b.ticket broods)) gone
-      (λ u found inside. gone-settle way path u (below-at o m broods log b.ticket b.child u h found) inside))
+      (λ u found inside. gone-stepped way path u (below-at o m broods log b.ticket b.child u h found) inside))
 
   -- what was there and is not after a step is gone
   lost-root : (gone : Tree M → Type 0) (b : Branch) (way : Path) (m n : M) (before after : Trees M) (a : Tree M)
@@ -186,96 +181,14 @@ module _ {M E : Type 0} (o : Operations M E) (rules : IsMachine o) where
   lost-below gone f way m t true (Some u) a here there down = down u refl here there
   lost-below gone f way m t false (Some u) a here there down = let no : None ≡ Some a = sym there ∙ here in absurd (cc)
 
-  pub lost-gone : (at path : Path) (t a : Tree M) → IsSound o t → subtree at t ≡ Some a → subtree at (settle o path t) ≡ None
-      → IsGone at (settle o path t)
-  unfolding IsGone settle subtree
-  lost-gone [] path t a h here there = absurd (cc)
-  lost-gone (b ∷ way) [] (node m broods log) a h here there = lost-step b way m broods log a h here there
-  lost-gone (b ∷ way) (y ∷ path) (node m broods log) a h here there =
-      let moved = child-moved (settle o path) b y broods in
+  pub lost-stepped : (at path : Path) (t a : Tree M) → IsSound o t → subtree at t ≡ Some a → subtree at (at_path (step o) path t) ≡ None
+      → IsGone at (at_path (step o) path t)
+  unfolding IsGone at_path subtree
+  lost-stepped [] path t a h here there = absurd (cc)
+  lost-stepped (b ∷ way) [] (node m broods log) a h here there = lost-step b way m broods log a h here there
+  lost-stepped (b ∷ way) (y ∷ path) (node m broods log) a h here there =
+      let moved = child-moved (at_path (step o) path) b y broods in
       subst (λ c. GoneIn (IsGone way) c m b.ticket) (sym moved)
-      (lost-below (IsGone way) (settle o path) way m b.ticket (eqb y.ticket b.ticket && eqb y.child b.child)
+      (lost-below (IsGone way) (at_path (step o) path) way m b.ticket (eqb y.ticket b.ticket && eqb y.child b.child)
       (child_at b.child (brood_of b.ticket broods)) a here (ap (option_and_then (subtree way)) (sym moved) ∙ there)
-      (λ u found inside outside. lost-gone way path u a (below-at o m broods log b.ticket b.child u h found) inside outside))
-
-  -- over steps in any order
-  stay-gone : (at : Path) (paths : List Path) (t : Tree M) → IsSound o t → IsGone at t → IsGone at (settle_all o paths t)
-  unfolding settle_all
-  stay-gone at [] t h gone = gone
-  stay-gone at (path ∷ rest) t h gone =
-      stay-gone at rest (settle o path t) (settle-keeps o rules path t h).sound (gone-settle at path t h gone)
-
-  -- a tree that is there, or not
-  cases-there : (t : Option (Tree M)) → ((a : Tree M) × (t ≡ Some a)) ⊎ (t ≡ None)
-  cases-there None = inr refl
-  cases-there (Some a) = inl (a, refl)
-
-  lost-all : (at : Path) (paths : List Path) (t a : Tree M) → IsSound o t → subtree at t ≡ Some a → subtree at (settle_all o paths t) ≡ None
-      → IsGone at (settle_all o paths t)
-  unfolding settle_all
-  lost-all at [] t a h here there = let no : None ≡ Some a = sym there ∙ here in absurd (cc)
-  lost-all at (path ∷ rest) t a h here there =
-      let sound : IsSound o (settle o path t) = (settle-keeps o rules path t h).sound in
-      elim (cases-there (subtree at (settle o path t))) [
-        | inl found ↦ lost-all at rest (settle o path t) found.0 sound found.1 there
-        | inr lost ↦ stay-gone at rest (settle o path t) sound (lost-gone at path t a h here lost)
-      ]
-
-  -- a place that a tree has left stays empty
-  pub lost-stays : (at : Path) (paths more : List Path) (t a : Tree M) → IsSound o t → subtree at t ≡ Some a
-      → subtree at (settle_all o paths t) ≡ None → subtree at (settle_all o more (settle_all o paths t)) ≡ None
-  lost-stays at paths more t a h here lost =
-      gone-none at (settle_all o more (settle_all o paths t))
-      (stay-gone at more (settle_all o paths t) (settle_all-keeps o rules paths t h).sound (lost-all at paths t a h here lost))
-
-  -- what becomes of a tree that stays is what is done in it
-  beyond-first : (beyond_first : Option Path) (rest : List Path) (a : Tree M)
-      → settle_all o (with_path beyond_first rest) a ≡ settle_all o rest (settle_beyond o beyond_first a)
-  unfolding settle_all
-  beyond-first None rest a = refl
-  beyond-first (Some path) rest a = refl
-
-  pub settle_all-at : (at : Path) (paths : List Path) (t a b : Tree M) → IsSound o t → subtree at t ≡ Some a
-      → subtree at (settle_all o paths t) ≡ Some b → b ≡ settle_all o (beyond_all at paths) a
-  unfolding settle_all beyond_all
-  settle_all-at at [] t a b h here there = some-same b a (sym there ∙ here)
-  settle_all-at at (path ∷ rest) t a b h here there =
-      let sound : IsSound o (settle o path t) = (settle-keeps o rules path t h).sound in
-      elim (cases-there (subtree at (settle o path t))) [
-        | inl found ↦
-            settle_all-at at rest (settle o path t) found.0 b sound found.1 there
-            ∙ ap (settle_all o (beyond_all at rest)) (settle-at o rules at path t h a found.0 here found.1)
-            ∙ sym (beyond-first (beyond at path) (beyond_all at rest) a)
-        | inr lost ↦
-            let no : None ≡ Some b =
-            sym (gone-none at (settle_all o rest (settle o path t)) (stay-gone at rest (settle o path t) sound (lost-gone at path t a h here lost)))
-            ∙ there in
-            absurd (cc)
-      ]
-
-  -- the steps of the root's own machine are those that were left to it
-  own-first : (m : M) (broods : Broods M) (log : Log M) → IsSound o (node m broods log) → (resting : Bool) → rests o (Some (node m broods log)) ≡ resting
-      → o.left m ≡ one_if (not resting) + o.left (machine (step o (node m broods log)))
-  own-first m broods log h true e =
-      let same : o.left (machine (step o (node m broods log))) ≡ o.left m = ap (λ (t : Tree M). o.left (machine t)) (step-rests o (node m broods log) e) in
-      omega arith
-  own-first m broods log h false e =
-      let parts = or_parts (is_some (o.ending m)) (waits_by o (o.call m) broods) e in
-      let counts : o.left m ≡ suc (o.left (machine (step o (node m broods log)))) =
-      step-counts o rules m broods log h (lives-none (o.ending m) parts.0) parts.1 in
-      omega arith
-
-  own-settle : (path : Path) (t : Tree M) → IsSound o t → o.left (machine t) ≡ one_if (is_own o path t) + o.left (machine (settle o path t))
-  unfolding settle
-  own-settle [] (node m broods log) h = own-first m broods log h (rests o (Some (node m broods log))) refl
-  own-settle (b ∷ path) (node m broods log) h = omega arith
-
-  pub left-own : (paths : List Path) (t : Tree M) → IsSound o t
-      → o.left (machine t) ≡ own_steps o paths t + o.left (machine (settle_all o paths t))
-  unfolding settle_all own_steps
-  left-own [] t h = omega arith
-  left-own (path ∷ rest) t h =
-      let first : o.left (machine t) ≡ one_if (is_own o path t) + o.left (machine (settle o path t)) = own-settle path t h in
-      let later : o.left (machine (settle o path t)) ≡ own_steps o rest (settle o path t) + o.left (machine (settle_all o rest (settle o path t))) =
-      left-own rest (settle o path t) (settle-keeps o rules path t h).sound in
-      omega arith
+      (λ u found inside outside. lost-stepped way path u a (below-at o m broods log b.ticket b.child u h found) inside outside))

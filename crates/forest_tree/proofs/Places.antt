@@ -1,15 +1,15 @@
 -- What one step leaves at each place of a tree.
-use Rattle.std.proofs.Common.{◌≡◌, ◌≢◌, ℕ, zero, suc, ◌+◌, ◌&&◌, eqb, eqb-true, Bool, true, false, cond, refl, sym, ap, ap₂}
-use Rattle.std.proofs.Common.{◌∙◌, subst, arith, inl, inr, [], ◌∷◌, ◌++◌, Option, Some, None, option_and_then, option_map}
+use Rattle.std.proofs.Common.{◌≡◌, ◌≢◌, ℕ, zero, suc, ◌+◌, ◌&&◌, eqb, eqb-true, Bool, true, false, cond, refl, sym, ap, ap₂, ◌∙◌, subst, arith, inl, inr, [], ◌∷◌, ◌++◌, Option, Some, None}
+use Rattle.std.proofs.Common.{option_and_then, option_map}
 use Rattle.std.proofs.lemmas.Bool.{eqb-false}
 use Rattle.forest_tree.specs.Operations.{Call, clone, join, kill, Grant, Operations, is_cloned, Makes, IsMachine}
-use Rattle.forest_tree.specs.Tree.{Tree, node, Trees, no_tree, tree, Broods, no_brood, brood, Log, joined, killed, machine, broods_of, at_child}
-use Rattle.forest_tree.specs.Tree.{child_at, brood_of, without, at_brood, broods_with, Branch, Path, subtree, beyond, goes_on, is_below}
-use Rattle.forest_tree.specs.Settle.{have_ended, endings, children, settled_by, settled, join_by, step_by, step, settle, settle_beyond}
+use Rattle.forest_tree.specs.Tree.{Tree, node, Trees, no_tree, tree, Broods, no_brood, brood, Log, joined, killed, machine, broods_of, at_child, at_beyond, at_path, child_at, brood_of, without}
+use Rattle.forest_tree.specs.Tree.{at_brood, broods_with, Branch, Path, subtree, beyond}
+use Rattle.forest_tree.specs.Step.{have_ended, endings, children, settled_by, settled, join_by, step_by, step}
 use Rattle.forest_tree.specs.Sound.{IsSound, AreSound, Hold}
 use Rattle.forest_tree.proofs.Broods.{one_if, eqb-sym}
-use Rattle.forest_tree.proofs.Settle.{clone-is-new, root-sound, below-sound, settle-keeps}
-use Rattle.forest_tree.proofs.Run.{cases-ending, step-ended, step-lives}
+use Rattle.forest_tree.proofs.Sound.{clone-is-new, root-sound, below-sound, step-keeps}
+use Rattle.forest_tree.proofs.Steps.{cases-ending, step-ended, step-lives}
 
 pub branch-sym : (rest : Option Path) (t u k j : ℕ) → cond (eqb t u && eqb k j) rest None ≡ cond (eqb u t && eqb j k) rest None
 branch-sym rest t u k j = ap₂ (λ a b. cond (a && b) rest None) (eqb-sym t u) (eqb-sym k j)
@@ -185,17 +185,6 @@ module _ {M E : Type 0} (o : Operations M E) where
   kept-within way k may before after a b (is_new _ e) f g =
       let none : None ≡ Some a = sym (ap (within way k) e) ∙ f in cc
 
-  -- nothing is changed where there is no step beyond
-  same : (t : Option (Tree M)) → option_map (settle_beyond o None) t ≡ t
-  same None = refl
-  same (Some t) = refl
-
-  moved : (way p : Path) (f : Tree M → Tree M) (c : Option (Tree M))
-      → ((t : Tree M) → c ≡ Some t → subtree way (f t) ≡ option_map (settle_beyond o (beyond way p)) (subtree way t))
-      → option_and_then (subtree way) (option_map f c) ≡ option_map (settle_beyond o (beyond way p)) (option_and_then (subtree way) c)
-  moved way p f None h = refl
-  moved way p f (Some t) h = h t refl
-
   -- trees below a sound one are sound
   child-sound : (share k : ℕ) (trees : Trees M) (c : Tree M) → Hold o share trees → child_at k trees ≡ Some c → IsSound o c
   unfolding IsSound child_at
@@ -234,31 +223,6 @@ module _ {M E : Type 0} (o : Operations M E) where
       let is = is-within way (child_at x.child (brood_of x.ticket broods)) a e in
       subtree-sound way is.0 a (below-at m broods log x.ticket x.child is.0 h is.1) is.2
 
-  -- a step changes nothing that is not below its path, but by a step in it
-  elsewhere-by : (way p : Path) (f : Tree M → Tree M) (k j : ℕ) (trees : Trees M) (ticket child : Bool) → eqb k j ≡ child
-      → goes_on (cond (ticket && child) (beyond p way) None) ≡ false
-      → ((c : Tree M) → child_at j trees ≡ Some c → goes_on (beyond p way) ≡ false
-      → subtree way (f c) ≡ option_map (settle_beyond o (beyond way p)) (subtree way c))
-      → within way j (cond ticket (at_child f k trees) trees)
-      ≡ option_map (settle_beyond o (cond (ticket && child) (beyond way p) None)) (within way j trees)
-  elsewhere-by way p f k j trees false child e apart below = sym (same (within way j trees))
-  elsewhere-by way p f k j trees true false e apart below =
-      ap (option_and_then (subtree way)) (child_at-other f k j trees (eqb-false k j e)) ∙ sym (same (within way j trees))
-  elsewhere-by way p f k j trees true true e apart below =
-      ap (option_and_then (subtree way)) (ap (λ i. child_at j (at_child f i trees)) (eqb-true k j e) ∙ child_at-same f j trees)
-      ∙ moved way p f (child_at j trees) (λ c found. below c found apart)
-
-  pub settle-elsewhere : (at path : Path) (t : Tree M) → is_below path at ≡ false
-      → subtree at (settle o path t) ≡ option_map (settle_beyond o (beyond at path)) (subtree at t)
-  unfolding settle subtree beyond
-  settle-elsewhere [] path t apart = refl
-  settle-elsewhere (x ∷ way) [] t apart = absurd (cc)
-  settle-elsewhere (x ∷ way) (y ∷ p) (node m broods log) apart =
-      ap (within way x.child) (brood_of-at (at_child (settle o p) y.child) (at_child-none (settle o p) y.child) y.ticket x.ticket broods)
-      ∙ elsewhere-by way p (settle o p) y.child x.child (brood_of x.ticket broods) (eqb y.ticket x.ticket) (eqb y.child x.child) refl
-      (ap goes_on (branch-sym (beyond p way) y.ticket x.ticket y.child x.child) ∙ apart)
-      (λ c found down. settle-elsewhere way p c down)
-
   module _ (rules : IsMachine o) where
     new-brood : (m : M) (t : ℕ) (broods : Broods M) (log : Log M) → Makes o m (Some (clone t)) → IsSound o (node m broods log)
         → (u : ℕ) → eqb t u ≡ true → brood_of u broods ≡ no_tree
@@ -288,42 +252,32 @@ module _ {M E : Type 0} (o : Operations M E) where
           (kept-step_by (o.call m) m broods log (record { good = (root-sound o m broods log h).good; lives = lives; call = refl }) h u)
     ]
 
-    -- a step beyond, by whether the ticket and the child are the same
-    beyond-by : (way p : Path) (f : Tree M → Tree M) (k j : ℕ) (trees : Trees M) (ticket child : Bool) → eqb k j ≡ child
-        → ((c a b : Tree M) → child_at j trees ≡ Some c → subtree way c ≡ Some a → subtree way (f c) ≡ Some b
-        → b ≡ settle_beyond o (beyond way p) a)
-        → (a b : Tree M) → within way j trees ≡ Some a → within way j (cond ticket (at_child f k trees) trees) ≡ Some b
-        → b ≡ settle_beyond o (cond (ticket && child) (beyond way p) None) a
-    beyond-by way p f k j trees false child e below a b here there = some-same b a (sym there ∙ here)
-    beyond-by way p f k j trees true false e below a b here there =
-        some-same b a (sym there ∙ ap (option_and_then (subtree way)) (child_at-other f k j trees (eqb-false k j e)) ∙ here)
-    beyond-by way p f k j trees true true e below a b here there =
-        let is = is-within way (child_at j trees) a here in
-        let moved : child_at j (at_child f k trees) ≡ Some (f is.0) =
-        ap (λ i. child_at j (at_child f i trees)) (eqb-true k j e) ∙ child_at-same f j trees ∙ ap (option_map f) is.1 in
-        below is.0 a b is.1 is.2 (sym (ap (option_and_then (subtree way)) moved) ∙ there)
+    -- what stands at a path after a step of one machine, where a machine is there still
+    stepped-by : (way p : Path) (f : Tree M → Tree M) (same : Bool) (c : Option (Tree M))
+        → ((u a b : Tree M) → c ≡ Some u → subtree way u ≡ Some a → subtree way (f u) ≡ Some b → b ≡ at_beyond (step o) (beyond way p) a)
+        → (a b : Tree M) → option_and_then (subtree way) c ≡ Some a → option_and_then (subtree way) (cond same (option_map f c) c) ≡ Some b
+        → b ≡ at_beyond (step o) (cond same (beyond way p) None) a
+    stepped-by way p f same None down a b here there = absurd (cc)
+    stepped-by way p f false (Some u) down a b here there = some-same b a (sym there ∙ here)
+    stepped-by way p f true (Some u) down a b here there = down u a b refl here there
 
-    pub settle-at : (at path : Path) (t : Tree M) → IsSound o t → (a b : Tree M) → subtree at t ≡ Some a → subtree at (settle o path t) ≡ Some b
-        → b ≡ settle_beyond o (beyond at path) a
-    unfolding settle subtree beyond
-    settle-at [] path t h a b here there = some-same b (settle o path t) (sym there) ∙ ap (settle o path) (some-same t a here)
-    settle-at (x ∷ way) [] (node m broods log) h a b here there =
+    pub stepped-at : (at path : Path) (t : Tree M) → IsSound o t → (a b : Tree M) → subtree at t ≡ Some a
+        → subtree at (at_path (step o) path t) ≡ Some b → b ≡ at_beyond (step o) (beyond at path) a
+    unfolding at_path subtree beyond
+    stepped-at [] path t h a b here there = some-same b (at_path (step o) path t) (sym there) ∙ ap (at_path (step o) path) (some-same t a here)
+    stepped-at (x ∷ way) [] (node m broods log) h a b here there =
         kept-within way x.child (o.may_clone m x.ticket) (brood_of x.ticket broods) (brood_of x.ticket (broods_of (step o (node m broods log)))) a b
         (kept-step m broods log h x.ticket) here there
-    settle-at (x ∷ way) (y ∷ p) (node m broods log) h a b here there =
-        let f : Tree M → Tree M = settle o p in
-        let moved = brood_of-at (at_child f y.child) (at_child-none f y.child) y.ticket x.ticket broods in
-        beyond-by way p f y.child x.child (brood_of x.ticket broods) (eqb y.ticket x.ticket) (eqb y.child x.child) refl
-        (λ c d e found. settle-at way p c (below-at m broods log x.ticket x.child c h found) d e)
-        a b here (sym (ap (within way x.child) moved) ∙ there)
+    stepped-at (x ∷ way) (y ∷ p) (node m broods log) h a b here there =
+        stepped-by way p (at_path (step o) p) (eqb y.ticket x.ticket && eqb y.child x.child) (child_at x.child (brood_of x.ticket broods))
+        (λ u c d found. stepped-at way p u (below-at m broods log x.ticket x.child u h found) c d)
+        a b here (sym (ap (option_and_then (subtree way)) (child-moved (at_path (step o) p) x y broods)) ∙ there)
 
-    holding-beyond : (rest : Option Path) (a : Tree M) → IsSound o a → o.holding (machine (settle_beyond o rest a)) ≡ o.holding (machine a)
-    holding-beyond None a h = refl
-    holding-beyond (Some path) a h = (settle-keeps o rules path a h).holding
-
-    -- each machine holds what it did
-    pub settle-holding : (at path : Path) (t : Tree M) → IsSound o t → (a b : Tree M) → subtree at t ≡ Some a → subtree at (settle o path t) ≡ Some b
+    -- each machine that is there still holds what it did
+    pub step-holding : (at : Path) (t : Tree M) → IsSound o t → (a b : Tree M) → subtree at t ≡ Some a → subtree at (step o t) ≡ Some b
         → o.holding (machine b) ≡ o.holding (machine a)
-    settle-holding at path t h a b here there =
-        ap (λ (u : Tree M). o.holding (machine u)) (settle-at at path t h a b here there)
-        ∙ holding-beyond (beyond at path) a (subtree-sound at t a h here)
+    unfolding at_path subtree beyond
+    step-holding [] t h a b here there =
+        ap (λ (u : Tree M). o.holding (machine u)) (some-same b (step o t) (sym there)) ∙ (step-keeps o rules t h).holding
+        ∙ ap (λ (u : Tree M). o.holding (machine u)) (some-same t a here)
+    step-holding (x ∷ way) t h a b here there = ap (λ (u : Tree M). o.holding (machine u)) (stepped-at (x ∷ way) [] t h a b here there)

@@ -1,11 +1,10 @@
 -- A forest of machines with more inside is, seen as machines with less, a forest of these.
-use Rattle.std.proofs.Common.{◌≡◌, ℕ, zero, suc, ◌+◌, ◌*◌, ◌<◌, ◌≤◌, ◌&&◌, ◌||◌, not, eqb, Bool, true, false, cond, refl, sym}
-use Rattle.std.proofs.Common.{ap, ap₂, ◌∙◌, subst, List, [], ◌∷◌, Option, Some, None, option_map, option_and_then, is_some}
+use Rattle.std.proofs.Common.{◌≡◌, ℕ, zero, suc, ◌+◌, ◌*◌, ◌<◌, ◌≤◌, ◌&&◌, ◌||◌, not, eqb, Bool, true, false, cond, refl, sym, ap, ap₂, ◌∙◌, subst, List, [], ◌∷◌, Option, Some, None, option_map}
+use Rattle.std.proofs.Common.{option_and_then, is_some}
 use Rattle.forest_tree.specs.Operations.{Call, clone, join, kill, Grant, Operations, is_among, is_cloned, Makes, IsStep, IsChild, IsMachine}
-use Rattle.forest_tree.specs.Tree.{Tree, node, Trees, no_tree, tree, Broods, no_brood, brood, Log, joined, killed, machine, broods_of}
-use Rattle.forest_tree.specs.Tree.{each, at_child, child_at, brood_of, without, at_brood, each_brood, Path, subtree}
-use Rattle.forest_tree.specs.Settle.{have_ended, with_ending, endings, alone, children_from, children, log_killed, settled_by, settled, join_by, step_by, step_from, step, settle, settle_all}
-use Rattle.forest_tree.specs.Finish.{with_broods, run, finish, finish_trees, finish_broods}
+use Rattle.forest_tree.specs.Tree.{Tree, node, Trees, no_tree, tree, Broods, no_brood, brood, Log, joined, killed, machine, broods_of, at_path, at_child, child_at, brood_of, without, at_brood, Path}
+use Rattle.forest_tree.specs.Tree.{subtree}
+use Rattle.forest_tree.specs.Step.{have_ended, with_ending, endings, alone, children_from, children, log_killed, settled_by, settled, join_by, step_by, step_from, step}
 use Rattle.forest_tree.specs.Projection.{map_tree, map_trees, map_broods, map_log, Projects}
 
 module _ {M N : Type 0} (f : M → N) where
@@ -18,7 +17,7 @@ module _ {M N : Type 0} (f : M → N) where
   if-broods true a b = refl
   if-broods false a b = refl
 
-  brood_of-map : (t : ℕ) (broods : Broods M) → brood_of t (map_broods f broods) ≡ map_trees f (brood_of t broods)
+  pub brood_of-map : (t : ℕ) (broods : Broods M) → brood_of t (map_broods f broods) ≡ map_trees f (brood_of t broods)
   unfolding map_broods brood_of
   brood_of-map t no_brood = refl
   brood_of-map t (brood u trees rest) =
@@ -31,14 +30,14 @@ module _ {M N : Type 0} (f : M → N) where
       ap (λ left. cond (eqb u t) left (brood u (map_trees f trees) left)) (without-map t rest)
       ∙ sym (if-broods (eqb u t) (without t rest) (brood u trees (without t rest)))
 
-  child_at-map : (k : ℕ) (trees : Trees M) → child_at k (map_trees f trees) ≡ option_map (map_tree f) (child_at k trees)
+  pub child_at-map : (k : ℕ) (trees : Trees M) → child_at k (map_trees f trees) ≡ option_map (map_tree f) (child_at k trees)
   unfolding map_trees child_at
   child_at-map k no_tree = refl
   child_at-map zero (tree t rest) = refl
   child_at-map (suc zero) (tree t rest) = refl
   child_at-map (suc (suc k)) (tree t rest) = child_at-map (suc k) rest
 
-  at_child-map : (g : Tree M → Tree M) (h : Tree N → Tree N) → ((t : Tree M) → h (map_tree f t) ≡ map_tree f (g t)) → (k : ℕ) (trees : Trees M)
+  pub at_child-map : (g : Tree M → Tree M) (h : Tree N → Tree N) → ((t : Tree M) → h (map_tree f t) ≡ map_tree f (g t)) → (k : ℕ) (trees : Trees M)
       → at_child h k (map_trees f trees) ≡ map_trees f (at_child g k trees)
   unfolding map_trees at_child
   at_child-map g h same k no_tree = refl
@@ -46,7 +45,7 @@ module _ {M N : Type 0} (f : M → N) where
   at_child-map g h same (suc zero) (tree t rest) = ap (λ u. tree u (map_trees f rest)) (same t)
   at_child-map g h same (suc (suc k)) (tree t rest) = ap (tree (map_tree f t)) (at_child-map g h same (suc k) rest)
 
-  at_brood-map : (g : Trees M → Trees M) (h : Trees N → Trees N) → ((trees : Trees M) → h (map_trees f trees) ≡ map_trees f (g trees))
+  pub at_brood-map : (g : Trees M → Trees M) (h : Trees N → Trees N) → ((trees : Trees M) → h (map_trees f trees) ≡ map_trees f (g trees))
       → (t : ℕ) (broods : Broods M) → at_brood h t (map_broods f broods) ≡ map_broods f (at_brood g t broods)
   unfolding map_broods at_brood
   at_brood-map g h same t no_brood = refl
@@ -55,23 +54,21 @@ module _ {M N : Type 0} (f : M → N) where
       (ap (λ changed. cond (eqb u t) changed (map_trees f trees)) (same trees) ∙ sym (if-trees (eqb u t) (g trees) trees))
       (at_brood-map g h same t rest)
 
-  each-map : (g : Tree M → Tree M) (h : Tree N → Tree N) → ((t : Tree M) → h (map_tree f t) ≡ map_tree f (g t)) → (trees : Trees M)
-      → each h (map_trees f trees) ≡ map_trees f (each g trees)
-  unfolding map_trees each
-  each-map g h same no_tree = refl
-  each-map g h same (tree t rest) = ap₂ tree (same t) (each-map g h same rest)
+  -- a change at a path
+  pub at_path-map : (g : Tree M → Tree M) (h : Tree N → Tree N) → ((t : Tree M) → map_tree f (g t) ≡ h (map_tree f t)) → (path : Path) (t : Tree M)
+      → map_tree f (at_path g path t) ≡ at_path h path (map_tree f t)
+  unfolding map_tree at_path
+  at_path-map g h same [] t = same t
+  at_path-map g h same (b ∷ path) (node m broods log) =
+      ap (λ after. node (f m) after (map_log f log))
+      (sym (at_brood-map (at_child (at_path g path) b.child) (at_child (at_path h path) b.child)
+      (λ trees. at_child-map (at_path g path) (at_path h path) (λ t. sym (at_path-map g h same path t)) b.child trees) b.ticket broods))
 
-  each_brood-map : (g : Tree M → Tree M) (h : Tree N → Tree N) → ((t : Tree M) → h (map_tree f t) ≡ map_tree f (g t)) → (broods : Broods M)
-      → each_brood h (map_broods f broods) ≡ map_broods f (each_brood g broods)
-  unfolding map_broods each_brood
-  each_brood-map g h same no_brood = refl
-  each_brood-map g h same (brood u trees rest) = ap₂ (brood u) (each-map g h same trees) (each_brood-map g h same rest)
-
-  machine-map : (t : Tree M) → machine (map_tree f t) ≡ f (machine t)
+  pub machine-map : (t : Tree M) → machine (map_tree f t) ≡ f (machine t)
   unfolding map_tree
   machine-map (node m broods log) = refl
 
-  broods-map : (t : Tree M) → broods_of (map_tree f t) ≡ map_broods f (broods_of t)
+  pub broods-map : (t : Tree M) → broods_of (map_tree f t) ≡ map_broods f (broods_of t)
   unfolding map_tree
   broods-map (node m broods log) = refl
 
@@ -91,7 +88,7 @@ module _ {M N : Type 0} (f : M → N) where
       inside (Some u) down = down u
 
 module _ {M N E : Type 0} (o : Operations M E) (p : Operations N E) (f : M → N) (is : Projects o p f) where
-  have_ended-map : (trees : Trees M) → have_ended p (map_trees f trees) ≡ have_ended o trees
+  pub have_ended-map : (trees : Trees M) → have_ended p (map_trees f trees) ≡ have_ended o trees
   unfolding map_trees have_ended
   have_ended-map no_tree = refl
   have_ended-map (tree t rest) =
@@ -169,48 +166,6 @@ module _ {M N E : Type 0} (o : Operations M E) (p : Operations N E) (f : M → N
   unfolding map_tree step
   step-map (node m broods log) =
       ap (λ e. step_from p e (f m) (map_broods f broods) (map_log f log)) (is.ending m) ∙ step_from-map (o.ending m) m broods log
-
-  pub settle-map : (path : Path) (t : Tree M) → settle p path (map_tree f t) ≡ map_tree f (settle o path t)
-  unfolding map_tree settle
-  settle-map [] t = step-map t
-  settle-map (b ∷ path) (node m broods log) =
-      ap (λ after. node (f m) after (map_log f log))
-      (at_brood-map f (at_child (settle o path) b.child) (at_child (settle p path) b.child)
-      (at_child-map f (settle o path) (settle p path) (λ t. settle-map path t) b.child) b.ticket broods)
-
-  pub settle_all-map : (paths : List Path) (t : Tree M) → settle_all p paths (map_tree f t) ≡ map_tree f (settle_all o paths t)
-  unfolding settle_all
-  settle_all-map [] t = refl
-  settle_all-map (path ∷ rest) t = ap (settle_all p rest) (settle-map path t) ∙ settle_all-map rest (settle o path t)
-
-  with_broods-map : (g : Tree M → Tree M) (h : Tree N → Tree N) → ((t : Tree M) → h (map_tree f t) ≡ map_tree f (g t)) → (t : Tree M)
-      → with_broods (each_brood h) (map_tree f t) ≡ map_tree f (with_broods (each_brood g) t)
-  unfolding map_tree
-  with_broods-map g h same (node m broods log) = ap (λ after. node (f m) after (map_log f log)) (each_brood-map f g h same broods)
-
-  run-map : (n : ℕ) (t : Tree M) → run p n (map_tree f t) ≡ map_tree f (run o n t)
-  unfolding run
-  run-map zero t = refl
-  run-map (suc n) t =
-      ap (λ u. run p n (with_broods (each_brood (run p n)) u)) (step-map t)
-      ∙ ap (run p n) (with_broods-map (run o n) (run p n) (λ u. run-map n u) (step o t))
-      ∙ run-map n (with_broods (each_brood (run o n)) (step o t))
-
-  mutual
-    unfolding map_tree finish
-
-    pub finish-map : (t : Tree M) → finish p (map_tree f t) ≡ map_tree f (finish o t)
-    finish-map (node m broods log) =
-        ap₂ (λ n after. run p n (node (f m) after (map_log f log))) (is.left m) (finish_broods-map broods)
-        ∙ run-map (o.left m) (node m (finish_broods o broods) log)
-
-    finish_trees-map : (trees : Trees M) → finish_trees p (map_trees f trees) ≡ map_trees f (finish_trees o trees)
-    finish_trees-map no_tree = refl
-    finish_trees-map (tree t rest) = ap₂ tree (finish-map t) (finish_trees-map rest)
-
-    finish_broods-map : (broods : Broods M) → finish_broods p (map_broods f broods) ≡ map_broods f (finish_broods o broods)
-    finish_broods-map no_brood = refl
-    finish_broods-map (brood t trees rest) = ap₂ (brood t) (finish_trees-map trees) (finish_broods-map rest)
 
   -- what the machine with less keeps, the one with more does
   makes-map : (m : M) (next : Option Call) → Makes o m next → Makes p (f m) next

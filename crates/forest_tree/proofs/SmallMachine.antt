@@ -1,12 +1,12 @@
 -- The small machine keeps the rules of a machine in a forest.
-use Rattle.std.proofs.Common.{◌≡◌, ℕ, zero, suc, pred, ◌+◌, ◌<◌, ◌≤◌, ◌&&◌, ◌||◌, not, eqb, ltb, leb, Bool, true, false, cond, refl, sym}
-use Rattle.std.proofs.Common.{ap, ◌∙◌, subst, arith, ltb-true, lt-ltb, leb-true, le-leb, eqb-true, [], Option, Some, None, is_some}
+use Rattle.std.proofs.Common.{◌≡◌, ℕ, zero, suc, pred, ◌+◌, ◌<◌, ◌≤◌, ◌&&◌, ◌||◌, not, eqb, ltb, leb, Bool, true, false, cond, refl, sym, ap, ◌∙◌, subst, arith, ltb-true, lt-ltb, leb-true, le-leb}
+use Rattle.std.proofs.Common.{eqb-true, [], Option, Some, None, is_some}
 use Rattle.std.proofs.lemmas.Bool.{eqb-false, lt-leb, and_parts, and_from}
 use Rattle.forest_tree.proofs.Broods.{eqb-same}
 use Rattle.forest_tree.specs.Operations.{Call, clone, join, kill, Grant, is_among, is_cloned, Makes, IsStep, IsChild, IsMachine}
-use Rattle.forest_tree.specs.Toy.{Order, pause, request, clone_children, join_children, kill_children, exit, Ticket, no_ticket, granted, cloned, ToyEnding}
-use Rattle.forest_tree.specs.Toy.{by_limit, Toy, cost, ticket_cost, ticket_grant, cloned_numbers, order_of, call_of, given_back, requested}
-use Rattle.forest_tree.specs.Toy.{obeyed, set_cloned, is_uncloned, is_numbered_below, ending_after, counted, total, toy_forked, toy_child, toy}
+use Rattle.forest_tree.specs.Toy.{Order, pause, request, clone_children, join_children, kill_children, exit, Ticket, no_ticket, granted, cloned, ToyEnding, by_limit, Toy, cost, ticket_cost}
+use Rattle.forest_tree.specs.Toy.{ticket_grant, cloned_numbers, order_of, call_of, given_back, requested, obeyed, set_cloned, is_uncloned, is_numbered_below, ending_after, counted, total, toy_forked}
+use Rattle.forest_tree.specs.Toy.{toy_child, toy}
 
 -- a machine that lives has steps left
 left-some : (e : Option ToyEnding) (left : ℕ) → is_some e || ltb 0 left ≡ true → e ≡ None → 0 < left

@@ -1,17 +1,19 @@
 -- How much is ahead of the machines of a tree: the steps that they may still make, and beside them what the
 -- place at which a machine is counts.
-use Rattle.std.specs.Prelude.{ℕ, zero, suc, ◌+◌, ◌*◌, Option, Some, None}
+use Rattle.std.specs.Prelude.{ℕ, zero, suc, pred, ◌+◌, ◌*◌, Option, Some, None}
 use Rattle.forest_tree.specs.Operations.{Operations}
 use Rattle.forest_tree.specs.Tree.{Tree, node, Trees, no_tree, tree, Broods, no_brood, brood}
 
--- the most of a machine with so many steps left, and of all its descendants, where it holds so much and a place
--- counts `worth` at most: a step is worth more than a place, and a clone more than its children and their
--- places. A child is born with fewer left, and all children of a clone hold less together
+-- the most of a machine with so many steps left that holds so much, and of all that come of it, where a place counts
+-- `worth` at most: a step counts more than a place, and a clone more than its children and their places. A child is
+-- born with fewer left and holds less, and there are as many of them as it holds, at most
 unfoldable pub most_ahead : ℕ → ℕ → ℕ → ℕ
 most_ahead worth zero held = 0
-most_ahead worth (suc left) held = 1 + (1 + held) * (worth + most_ahead worth left held)
+most_ahead worth (suc left) held =
+    1 + ((worth + most_ahead worth left held) + held * (worth + most_ahead worth left (pred held)))
 
 module _ {M E : Type 0} (o : Operations M E) (worth : ℕ) (at : M → ℕ) where
+  -- a machine that has ended makes no step
   abbrev pub own_weight : Option E → M → ℕ
   own_weight None m = most_ahead worth (o.left m) (o.holding m) + at m
   own_weight (Some ending) m = 0

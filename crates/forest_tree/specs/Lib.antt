@@ -1,8 +1,8 @@
 pub mod Operations
 pub mod Tree
-pub mod Settle
+pub mod Step
 pub mod Sound
-pub mod Finish
 pub mod Ahead
+pub mod Children
 pub mod Projection
 pub mod Toy

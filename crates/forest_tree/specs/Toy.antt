@@ -1,10 +1,9 @@
 -- A small machine with one ticket at a time, which carries out a list of orders. It keeps all the rules of
 -- a machine in a forest.
-use Rattle.std.specs.Prelude.{ℕ, suc, pred, ◌+◌, ◌-◌, ◌*◌, ◌==◌, ◌&&◌, ◌||◌, Bool, true, false, nat_lt, nat_le}
-use Rattle.std.specs.Prelude.{if◌then◌else◌, List, [], ◌∷◌, ◌++◌, map, Option, Some, None, is_some}
+use Rattle.std.specs.Prelude.{ℕ, suc, pred, ◌+◌, ◌-◌, ◌*◌, ◌==◌, ◌&&◌, ◌||◌, Bool, true, false, nat_lt, nat_le, if◌then◌else◌, List, [], ◌∷◌, Option, Some}
+use Rattle.std.specs.Prelude.{None, is_some}
 use Rattle.forest_tree.specs.Operations.{Call, clone, join, kill, Grant, Operations}
-use Rattle.forest_tree.specs.Tree.{Log, no_entry, joined, killed}
-use Rattle.forest_tree.specs.Settle.{endings}
+use Rattle.forest_tree.specs.Step.{endings}
 
 pub data Order : Type 0 where
   pause : Order
@@ -145,17 +144,3 @@ toy_start orders allot limit = record {
   left = limit;
   ending = None;
 }
-
--- a machine with two children, which it joins: it ends with the sum of what they end with
-abbrev pub two_children : List Order
-two_children = request 2 1 ∷ (clone_children ∷ (join_children ∷ (exit ∷ [])))
-
--- one that kills them
-abbrev pub killed_children : List Order
-killed_children = request 2 1 ∷ (clone_children ∷ (kill_children ∷ (exit ∷ [])))
-
--- the endings that a log tells of, in order, and none for each killed ticket
-unfoldable pub told_endings : Log Toy → List (Option ToyEnding)
-told_endings no_entry = []
-told_endings (joined log t trees) = told_endings log ++ map Some (endings toy trees)
-told_endings (killed log t n) = told_endings log ++ (None ∷ [])

@@ -35,11 +35,6 @@ unfoldable pub size : {M : Type 0} → Trees M → ℕ
 size no_tree = 0
 size (tree t rest) = suc (size rest)
 
--- the trees with f of each
-unfoldable pub each : {M : Type 0} → (Tree M → Tree M) → Trees M → Trees M
-each f no_tree = no_tree
-each f (tree t rest) = tree (f t) (each f rest)
-
 -- the trees with f of the k-th, from 1
 unfoldable pub at_child : {M : Type 0} → (Tree M → Tree M) → ℕ → Trees M → Trees M
 at_child f k no_tree = no_tree
@@ -69,10 +64,9 @@ unfoldable pub at_brood : {M : Type 0} → (Trees M → Trees M) → ℕ → Bro
 at_brood f t no_brood = no_brood
 at_brood f t (brood u trees rest) = brood u (if u == t then f trees else trees) (at_brood f t rest)
 
--- the broods with f of each tree in them
-unfoldable pub each_brood : {M : Type 0} → (Tree M → Tree M) → Broods M → Broods M
-each_brood f no_brood = no_brood
-each_brood f (brood u trees rest) = brood u (each f trees) (each_brood f rest)
+-- the tree with f of its broods
+abbrev pub with_broods : {M : Type 0} → (Broods M → Broods M) → Tree M → Tree M
+with_broods f (node m broods log) = node m (f broods) log
 
 -- how many of the broods are of ticket t
 unfoldable pub broods_with : {M : Type 0} → ℕ → Broods M → ℕ
@@ -107,11 +101,12 @@ goes_on (Some (b ∷ rest)) = true
 abbrev pub is_below : Path → Path → Bool
 is_below way path = goes_on (beyond way path)
 
--- what is left of those paths that go a way, in order
-abbrev pub with_path : Option Path → List Path → List Path
-with_path None rest = rest
-with_path (Some path) rest = path ∷ rest
+-- the tree with f of the tree at a path, where one is
+unfoldable pub at_path : {M : Type 0} → (Tree M → Tree M) → Path → Tree M → Tree M
+at_path f [] t = f t
+at_path f (b ∷ path) (node m broods log) = node m (at_brood (at_child (at_path f path) b.child) b.ticket broods) log
 
-unfoldable pub beyond_all : Path → List Path → List Path
-beyond_all way [] = []
-beyond_all way (path ∷ rest) = with_path (beyond way path) (beyond_all way rest)
+-- the same of what is left of a path, if anything is
+abbrev pub at_beyond : {M : Type 0} → (Tree M → Tree M) → Option Path → Tree M → Tree M
+at_beyond f None t = t
+at_beyond f (Some path) t = at_path f path t

@@ -7,8 +7,7 @@ use Rattle.std.proofs.lemmas.List.{map-append, length-map}
 use Rattle.std.proofs.lemmas.List.Elements.{All-push}
 use Rattle.image_depot.specs.Key.{Shelves}
 use Rattle.image_depot.specs.Reply.{Delivery, IsSentOf, sent_image, sent_page}
-use Rattle.forest_history.specs.Histories.{Seat}
-use Rattle.talking_history.specs.Histories.{told, heard, tell_failed, hear_failed, History, Record, record_after}
+use Rattle.talking_history.specs.Histories.{Seat, told, heard, tell_failed, hear_failed, History, Record, record_after}
 use Rattle.forest_model.specs.Forest.{machines, talks}
 use Rattle.forest_model.specs.Machine.{Machine}
 use Rattle.world_core.specs.declared.reason.Reason.{Reason}

@@ -1,9 +1,9 @@
 -- What a pass holds after its one machine was handed back.
 use Rattle.std.proofs.Common.{◌≡◌, ◌≢◌, ◌⊎◌, inl, inr, Bool, true, false, refl, sym, ap, ◌∙◌, subst}
 use Rattle.forest_tree.specs.Tree.{Path}
-use Rattle.forest_history.specs.Histories.{is_same_path}
+use Rattle.talking_history.specs.Histories.{is_same_path}
 use Rattle.talking_history.specs.Rows.{How}
-use Rattle.forest_history.proofs.Held.{same-is, same-self}
+use Rattle.talking_history.proofs.Held.{same-is, same-self}
 use Rattle.world_core.specs.declared.world.Placed.{Placed}
 use Rattle.world_core.specs.declared.world.Placed.TheVariants.{Done, Parked, Dropped, Memory}
 use Rattle.world_core.specs.Answers.{IsLentOf, home_by}

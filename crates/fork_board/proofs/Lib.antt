@@ -5,5 +5,6 @@ pub mod Worlds
 pub mod Returning
 pub mod Delivered
 pub mod Taking
+pub mod Swapping
 pub mod Crosses
 pub mod Holding

@@ -1,11 +1,11 @@
 -- What a turn of a seat is to its pass.
 use Rattle.std.proofs.Common.{◌≡◌, ◌≢◌, ℕ, ◌≤◌, List, [], ◌∷◌, ◌++◌, Some, length, length-append, refl, sym, ap, ap₂, ◌∙◌, subst, ◌⊎◌, inl, inr, arith}
-use Rattle.std.proofs.lemmas.List.{map-append}
 use Rattle.std.specs.Prelude.{Box}
 use Rattle.std.specs.declared.alloc.Global.{Global}
 use Rattle.forest_tree.specs.Tree.{Path}
-use Rattle.forest_history.specs.Histories.{Holding, Seat, holding}
-use Rattle.talking_history.specs.Histories.{Entry, History, IsLegal, Record, replay}
+use Rattle.talking_history.specs.Histories.{Holding, Seat, holding, Entry, History, IsLegal, Record, replay}
+use Rattle.forest_tree.specs.Sound.{IsSound}
+use Rattle.talking_history.specs.Places.{boxes}
 use Rattle.forest_model.specs.Machine.{Machine}
 use Rattle.forest_model.specs.Forest.{machines, talks}
 use Rattle.atomic_table.specs.Seated.{TableId}
@@ -18,31 +18,27 @@ use Rattle.world_core.specs.declared.reason.Reason.{Reason}
 use Rattle.world_core.specs.declared.world.World.{World}
 use Rattle.world_core.specs.Lent.{Lent}
 use Rattle.fork_board.specs.declared.note.Note.{Note}
+use Rattle.fork_board.specs.declared.note.TurnNote.{TurnNote}
+use Rattle.fork_board.specs.declared.note.TurnNote.TheVariants.{One}
 use Rattle.fork_board.specs.declared.note.Opening.{Opening}
-use Rattle.fork_board.specs.Notes.{entries, entry_of}
+use Rattle.fork_board.specs.Notes.{entries, entry_of, turn_entries}
 use Rattle.fork_board.specs.Follows.{Follows, opening_record, record_at}
 use Rattle.fork_board.specs.Passes.{BoardValue, FreeAfter, HoldsNone, IsFree, IsHeld, Leaves, PassValue, Makes, Joins, Closes}
 use Rattle.fork_board.specs.Visits.{IsPlace, Place, Passed, Visits, pass_of}
-use Rattle.fork_board.proofs.Entries.{by-map, entered_as, none-between}
+use Rattle.fork_board.proofs.Entries.{by-entries, entries-append, entries-push, none-between}
 use Rattle.fork_board.proofs.Records.{Free, free-after, free-more, free-own, held-own, others-keep, record-more}
 use Rattle.fork_board.proofs.Worlds.{IsHeldAt, held-still}
 
 -- what lies under the lock, as `Kept` says it
-abbrev pub kept : Opening → notes.History Note → Box World Global → Type 0
+abbrev pub kept : Opening → notes.History TurnNote → Box World Global → Type 0
 kept opening log w = Follows opening (entries log) w.value
 
-pub entries-append : (log more : notes.History Note) → entries (log ++ more) ≡ entries log ++ entries more
-entries-append log more = map-append (entered_as entry_of) log more
-
-entries-by : (seat : List ℕ) (log : notes.History Note) → entries_by seat (entries log) ≡ entries (entries_by seat log)
-entries-by seat log = by-map entry_of seat log
-
 -- the entries of its number in what a seat has seen are its own
-own-entries : (seat : List ℕ) (seen mine : notes.History Note) → entries_by seat seen ≡ mine → entries_by seat (entries seen) ≡ entries mine
-own-entries seat seen mine own = entries-by seat seen ∙ ap entries own
+own-entries : (seat : List ℕ) (seen mine : notes.History TurnNote) → entries_by seat seen ≡ mine → entries_by seat (entries seen) ≡ entries mine
+own-entries seat seen mine own = by-entries seat seen ∙ ap entries own
 
-no-others : (seat : List ℕ) (rest : notes.History Note) → entries_by seat rest ≡ [] → entries_by seat (entries rest) ≡ []
-no-others seat rest none = entries-by seat rest ∙ ap entries none
+no-others : (seat : List ℕ) (rest : notes.History TurnNote) → entries_by seat rest ≡ [] → entries_by seat (entries rest) ≡ []
+no-others seat rest none = by-entries seat rest ∙ ap entries none
 
 module _ (board : BoardValue) where
   -- the seat's turn has come
@@ -60,20 +56,21 @@ module _ (board : BoardValue) where
         no-others old.me.0.seat e.later.0
         (none-between old.me.0.seat old.me.0.seen e.later.0 old.me.0.mine seat.own
         (ap (entries_by old.me.0.seat) (sym e.later.1) ∙ ap (λ s. entries_by s new.me.0.seen) (sym e.same_seat) ∙ at.own ∙ e.same_mine));
+    own = own-entries new.me.0.seat new.me.0.seen new.me.0.mine at.own;
     unmade = λ k below le. no-others (new.me.0.seat ++ k ∷ below) new.me.0.seen (e.unmade k below le);
     follows = e.stands_for;
   }
 
   -- it has passed
-  pub passed : (now new : Place) (note : Note) → IsSeat board.table board.opening new → turn.Leaves now new note
+  pub passed : (now new : Place) (note : TurnNote) → IsSeat board.table board.opening new → turn.Leaves now new note
       → Passed (pass_of board now) (pass_of board new) note
   passed now new note seat l = record {
     same_board = refl;
     same_number = l.same_seat;
     same_splits = l.same_splits;
     same_ended = l.same_ended;
-    seen = ap entries l.seen ∙ entries-append now.me.0.seen ((now.me.0.seat, note) ∷ []);
-    mine = ap entries l.mine ∙ entries-append now.me.0.mine ((now.me.0.seat, note) ∷ []);
+    seen = ap entries l.seen ∙ entries-push now.me.0.seen now.me.0.seat note;
+    mine = ap entries l.mine ∙ entries-push now.me.0.mine now.me.0.seat note;
     own = own-entries new.me.0.seat new.me.0.seen new.me.0.mine seat.own;
   }
 
@@ -104,7 +101,7 @@ module _ (board : BoardValue) where
       as-entries : (s : Seat) (splits : ℕ) (old : Place) → HasEnded s splits old.me.0.seen new.me.0.seen
           → HasEnded s splits (entries old.me.0.seen) (entries new.me.0.seen)
       as-entries s splits old h = record {
-        all = entries-by s new.me.0.seen ∙ ap entries h.all ∙ sym (entries-by s old.me.0.seen);
+        all = by-entries s new.me.0.seen ∙ ap entries h.all ∙ sym (by-entries s old.me.0.seen);
         none = λ k below le. no-others (s ++ k ∷ below) new.me.0.seen (h.none k below le);
       }
 
@@ -145,7 +142,7 @@ module _ (board : BoardValue) where
       either (inl e) = inl (ap entries e)
       either (inr e) = inr (ap entries e)
 
-      later : (part : notes.History Note) → StartsWith new.me.0.seen part → (rest : History Reason) × (entries new.me.0.seen ≡ entries part ++ rest)
+      later : (part : notes.History TurnNote) → StartsWith new.me.0.seen part → (rest : History Reason) × (entries new.me.0.seen ≡ entries part ++ rest)
       later part s = (entries s.0, ap entries s.1 ∙ entries-append part s.0)
 
   -- the lock has ended
@@ -161,27 +158,57 @@ module _ (board : BoardValue) where
 
 -- ---- a turn from its start to its end
 
-unlike-below : (seat : Seat) (k : ℕ) (below : Seat) → seat ≢ seat ++ k ∷ below
+pub unlike-below : (seat : Seat) (k : ℕ) (below : Seat) → seat ≢ seat ++ k ∷ below
 unlike-below seat k below same = let longer = ap length same in absurd (omega (arith, length-append seat (k ∷ below)))
 
+-- the pass in its turn, whatever the world is
+pub record Sees (pass now : PassValue) : Type 0 where
+  pub same_board : now.board ≡ pass.board
+  pub same_number : now.number ≡ pass.number
+  pub same_splits : now.splits ≡ pass.splits
+  pub same_mine : now.mine ≡ pass.mine
+  pub same_ended : now.ended ≡ pass.ended
+  pub between : History Reason
+  pub seen : now.seen ≡ pass.seen ++ between
+  pub others : entries_by pass.number between ≡ []
+  pub own : entries_by now.number now.seen ≡ now.mine
+  pub unmade : (k : ℕ) (below : List ℕ) → now.splits ≤ k → entries_by (now.number ++ k ∷ below) now.seen ≡ []
+  pub start : IsSound (boxes machines talks) (opening_record now.board.opening).world.tree
+  pub legal : IsLegal machines talks now.seen (opening_record now.board.opening)
+
+pub sees-now : (pass now : PassValue) (w : World) → Visits pass now w → Sees pass now
+sees-now pass now w v = record {
+  same_board = v.same_board;
+  same_number = v.same_number;
+  same_splits = v.same_splits;
+  same_mine = v.same_mine;
+  same_ended = v.same_ended;
+  between = v.between;
+  seen = v.seen;
+  others = v.others;
+  own = v.own;
+  unmade = v.unmade;
+  start = v.follows.start;
+  legal = v.follows.legal;
+}
+
 -- what others did meanwhile leaves it with the pass
-pub held-now : (pass now : PassValue) (w : World) (lease : Lent) → Visits pass now w → IsHeld pass lease
-    → IsHeldAt now.board.opening now.seen now.number lease
-held-now pass now w lease v held =
+pub held-now : (pass now : PassValue) (lease : Lent) → Sees pass now → IsHeld pass lease → IsHeldAt now.board.opening now.seen now.number lease
+held-now pass now lease v held =
     let opening = now.board.opening in
     let x : Holding Machine = record { name = lease.name; seat = pass.number; found = lease.start } in
     let first : holding lease.name (record_at opening pass.seen).holdings ≡ Some x =
     ap (λ (b : BoardValue). holding lease.name (record_at b.opening pass.seen).holdings) v.same_board ∙ held in
     let legal : IsLegal machines talks (pass.seen ++ v.between) (opening_record opening) =
-    subst (λ l. IsLegal machines talks l (opening_record opening)) v.seen v.follows.legal in
+    subst (λ l. IsLegal machines talks l (opening_record opening)) v.seen v.legal in
     ap (λ l. holding lease.name (record_at opening l).holdings) v.seen
-    ∙ others-keep opening pass.seen v.follows.start v.between lease.name x legal v.others first
+    ∙ others-keep opening pass.seen v.start v.between lease.name x legal v.others first
     ∙ ap (λ s. Some (record { name = lease.name; seat = s; found = lease.start })) (sym v.same_number)
 
 -- the pass has made an entry more, which is the note's
-pub noted : (pass now new : PassValue) (w : World) (note : Note) (entry : Entry Reason) → Visits pass now w → Passed now new note → entry_of note ≡ entry
+pub noted : (pass now new : PassValue) (note : Note) (entry : Entry Reason) → Sees pass now → Passed now new (One note) → entry_of note ≡ entry
     → IsLegal machines talks (now.seen ++ (now.number, entry_of note) ∷ []) (opening_record now.board.opening) → Makes pass new entry
-noted pass now new w note entry v p is legal = record {
+noted pass now new note entry v p is legal = record {
   same_board = p.same_board ∙ v.same_board;
   same_number = p.same_number ∙ v.same_number;
   same_splits = p.same_splits ∙ v.same_splits;
@@ -231,7 +258,7 @@ noted pass now new w note entry v p is legal = record {
         held-still new now.board.opening now.seen now.number entry lease (ap (λ (b : BoardValue). b.opening) p.same_board) p.same_number
         (p.seen ∙ ap (λ e. now.seen ++ (now.number, e) ∷ []) is)
         (ap (λ (r : Record Machine Reason). holding lease.name r.holdings) (record-more now.board.opening now.seen now.number entry)
-        ∙ held-own now.number lease.name entry (record_at now.board.opening now.seen) leaves ∙ held-now pass now w lease v h)
+        ∙ held-own now.number lease.name entry (record_at now.board.opening now.seen) leaves ∙ held-now pass now lease v h)
 
     last : ◌≡◌ {A = Seat × Entry Reason} (now.number, entry_of note) (pass.number, entry)
     last = ap₂ (λ s (e : Entry Reason). (s, e)) v.same_number is
@@ -277,9 +304,9 @@ kept-place board old new h is same = record {
 }
 
 -- a seat whose turn has passed has seen what the world follows
-passed-place : (board : BoardValue) (now new : Place) (note : Note) (w : World) → IsSeat board.table board.opening new
+passed-place : (board : BoardValue) (now new : Place) (note : TurnNote) (w : World) → IsSeat board.table board.opening new
     → Passed (pass_of board now) (pass_of board new) note
-    → Follows board.opening (entries now.me.0.seen ++ (now.me.0.seat, entry_of note) ∷ []) w → IsPlace board new
+    → Follows board.opening (entries now.me.0.seen ++ turn_entries now.me.0.seat note) w → IsPlace board new
 passed-place board now new note w seat p follows = record {
   seat = seat;
   start = follows.start;
@@ -340,14 +367,14 @@ module _ (board : BoardValue) (table : TableId) (opening key : Opening)
       → IsPlace (record { table = seat.table_id; opening = about }) seat
   place-here about seat is same h = subst (λ (b : BoardValue). IsPlace b seat) (sym (board-here about seat is same)) h
 
-  pub passed-at : (now : Place) (about : Opening) → about ≡ board.opening → (new : Place) (note : Note) → IsSeat table key new → turn.Leaves now new note
+  pub passed-at : (now : Place) (about : Opening) → about ≡ board.opening → (new : Place) (note : TurnNote) → IsSeat table key new → turn.Leaves now new note
       → Passed (pass_of board now) (pass_of (record { table = new.table_id; opening = about }) new) note
   passed-at now about same new note is leaves =
       subst (λ p. Passed (pass_of board now) p note) (here-at about new is same)
       (passed board now new note (at-board (λ t o. IsSeat t o new) board table opening key lock fixed is) leaves)
 
-  pub passed-place-at : (now : Place) (about : Opening) → about ≡ board.opening → (new : Place) (note : Note) (w : World) → IsSeat table key new
-      → turn.Leaves now new note → Follows board.opening (entries now.me.0.seen ++ (now.me.0.seat, entry_of note) ∷ []) w
+  pub passed-place-at : (now : Place) (about : Opening) → about ≡ board.opening → (new : Place) (note : TurnNote) (w : World) → IsSeat table key new
+      → turn.Leaves now new note → Follows board.opening (entries now.me.0.seen ++ turn_entries now.me.0.seat note) w
       → IsPlace (record { table = new.table_id; opening = about }) new
   passed-place-at now about same new note w is leaves follows =
       let here = at-board (λ t o. IsSeat t o new) board table opening key lock fixed is in

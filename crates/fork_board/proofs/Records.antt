@@ -6,16 +6,12 @@ use Rattle.std.proofs.lemmas.List.Elements.{All-cons, All-head, All-nil, All-tai
 use Rattle.forest_tree.specs.Tree.{Tree, machine, Path, subtree}
 use Rattle.forest_tree.specs.Sound.{IsSound}
 use Rattle.sibling_forest.specs.Talk.{Box}
-use Rattle.forest_history.specs.Places.{Spot, out}
-use Rattle.talking_history.specs.Places.{boxes}
+use Rattle.talking_history.specs.Places.{Spot, out, boxes}
 use Rattle.talking_history.specs.World as history
-use Rattle.talking_history.specs.World.{world_of}
 use Rattle.talking_history.specs.Rows.{Row, over, stopped, stuck, idle, took, wake_failed, spent, dropped, kept, halted, Allows, does}
-use Rattle.forest_history.specs.Histories.{Holding, Seat, holding}
-use Rattle.talking_history.specs.Histories.{Entry, row, told, heard, tell_failed, hear_failed, History, HandsBack, IsLegal, Permits, Record}
-use Rattle.forest_history.specs.Histories.{is_same_path, without_name}
+use Rattle.talking_history.specs.Histories.{Holding, Seat, holding, is_same_path, without_name, Entry, row, told, heard, tell_failed, hear_failed, History, HandsBack, IsLegal, Permits, Record}
 use Rattle.talking_history.specs.Histories.{holdings_after, record_after, replay, with_taken}
-use Rattle.forest_history.proofs.Held.{same-is, same-self, without-other, without-same}
+use Rattle.talking_history.proofs.Held.{same-is, same-self, without-other, without-same}
 use Rattle.talking_history.proofs.Histories as histories
 use Rattle.talking_history.proofs.Leases as leases
 use Rattle.talking_history.proofs.Seen as seen

@@ -3,8 +3,7 @@ use Rattle.std.proofs.Common.{◌≡◌, ℕ, [], ◌∷◌, ◌++◌, Some, sym
 use Rattle.image_depot.specs.Key.{Shelves}
 use Rattle.forest_tree.specs.Tree.{Path}
 use Rattle.talking_history.specs.Rows.{How, spent}
-use Rattle.forest_history.specs.Histories.{Holding, holding}
-use Rattle.talking_history.specs.Histories.{Entry, row}
+use Rattle.talking_history.specs.Histories.{Holding, holding, Entry, row}
 use Rattle.forest_model.specs.Machine.{Machine}
 use Rattle.world_core.specs.declared.reason.Reason.{Reason}
 use Rattle.world_core.specs.declared.world.World.{World}
@@ -16,13 +15,14 @@ use Rattle.world_core.specs.Lent.{IsSameLease, Lent}
 use Rattle.world_core.specs.Told.{told_of}
 use Rattle.world_core.specs.World.{Forest, StandsFor}
 use Rattle.fork_board.specs.declared.note.Note.{Note}
+use Rattle.fork_board.specs.declared.note.TurnNote.TheVariants.{One}
 use Rattle.fork_board.specs.Answers.{Places}
 use Rattle.fork_board.specs.Follows.{Follows, depot_of}
 use Rattle.fork_board.specs.Notes.{entry_of, placed_entry}
 use Rattle.fork_board.specs.Passes.{IsHeld, Makes, PassValue, seen_record}
 use Rattle.fork_board.specs.Visits.{Passed, Visits}
 use Rattle.fork_board.proofs.Worlds.{IsHeldAt, IsLentOut, follows-placed, lent-out, places}
-use Rattle.fork_board.proofs.Passing.{held-now, noted}
+use Rattle.fork_board.proofs.Passing.{held-now, noted, sees-now}
 
 -- what `Lease::ran` says of a lease
 abbrev pub HasLedThere : Lent → Type 0
@@ -44,7 +44,7 @@ pub record Comes (pass now : PassValue) (w : World) (lease : Lent) : Type 0 wher
 pub comes : (pass now : PassValue) (w : World) (lease : Lent) → Visits pass now w → IsHeld pass lease → HasLedThere lease
     → IsLentOf (depot_of now.board.opening) lease → Comes pass now w lease
 comes pass now w lease v held led of_depot =
-    let here = held-now pass now w lease v held in
+    let here = held-now pass now lease (sees-now pass now w v) held in
     record {
       visits = v;
       held = here;
@@ -75,10 +75,10 @@ module _ (pass now : PassValue) (w : World) (lease : Lent) (h : Comes pass now w
         subst (λ e. Follows now.board.opening (now.seen ++ (now.number, e) ∷ []) next) (sym noted_as)
         (follows-placed now.board.opening now.seen w lease now.number h.visits.follows how h.out answer next h.held a told)
 
-    pub returned : (new : PassValue) → Passed now new note
+    pub returned : (new : PassValue) → Passed now new (One note)
         → Makes pass new (placed_entry how lease.name lease.ran answer) × Places how lease new answer
     returned new p = (
-      noted pass now new w note (placed_entry how lease.name lease.ran answer) h.visits p noted_as follows-back.legal,
+      noted pass now new note (placed_entry how lease.name lease.ran answer) (sees-now pass now w h.visits) p noted_as follows-back.legal,
       places how lease (depot_of now.board.opening) h.out.forest now new answer next h.held p.same_board p.same_number
           (p.seen ∙ ap (λ e. now.seen ++ (now.number, e) ∷ []) noted_as) a,
     )

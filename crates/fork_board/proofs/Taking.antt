@@ -14,6 +14,7 @@ use Rattle.world_core.specs.Answers.{Goes}
 use Rattle.world_core.specs.Told.{told_of}
 use Rattle.world_core.specs.World.{Forest, StandsFor}
 use Rattle.fork_board.specs.declared.note.Note.{Note}
+use Rattle.fork_board.specs.declared.note.TurnNote.TheVariants.{One}
 use Rattle.fork_board.specs.Answers.{Takes}
 use Rattle.fork_board.specs.Follows.{Follows, depot_of}
 use Rattle.fork_board.specs.Notes.{entry_of, heard_entry, taken_entry, told_entry}
@@ -21,7 +22,7 @@ use Rattle.fork_board.specs.Passes.{Makes, PassValue}
 use Rattle.fork_board.specs.Visits.{Passed, Visits}
 use Rattle.fork_board.proofs.Worlds.{follows-row, follows-taken, takes}
 use Rattle.fork_board.proofs.Delivered.{follows-heard, follows-told}
-use Rattle.fork_board.proofs.Passing.{noted}
+use Rattle.fork_board.proofs.Passing.{noted, sees-now}
 
 -- the note is this entry, by which the world goes on
 module _ (pass now : PassValue) (w : World) (v : Visits pass now w) (entry : Entry Reason) (n : Note) (is : entry_of n ≡ entry) (next : World)
@@ -29,10 +30,10 @@ module _ (pass now : PassValue) (w : World) (v : Visits pass now w) (entry : Ent
   pub goes-on : Follows now.board.opening (now.seen ++ (now.number, entry_of n) ∷ []) next
   goes-on = subst (λ e. Follows now.board.opening (now.seen ++ (now.number, e) ∷ []) next) (sym is) on
 
-  pub made : (new : PassValue) → Passed now new n → Makes pass new entry
-  made new p = noted pass now new w n entry v p is goes-on.legal
+  pub made : (new : PassValue) → Passed now new (One n) → Makes pass new entry
+  made new p = noted pass now new n entry (sees-now pass now w v) p is goes-on.legal
 
-  pub seen-then : (new : PassValue) → Passed now new n → new.seen ≡ now.seen ++ (now.number, entry) ∷ []
+  pub seen-then : (new : PassValue) → Passed now new (One n) → new.seen ≡ now.seen ++ (now.number, entry) ∷ []
   seen-then new p = p.seen ∙ ap (λ e. now.seen ++ (now.number, e) ∷ []) is
 
 module _ (pass now : PassValue) (w next : World) (depot : Shelves) (answer : Taken) (n : Note) (v : Visits pass now w)
@@ -49,7 +50,7 @@ module _ (pass now : PassValue) (w next : World) (depot : Shelves) (answer : Tak
   pub followed : Follows now.board.opening (now.seen ++ (now.number, entry_of n) ∷ []) next
   followed = goes-on pass now w v (taken_entry answer) n is next on
 
-  pub taken : (new : PassValue) → Passed now new n → Makes pass new (taken_entry answer) × Takes new answer
+  pub taken : (new : PassValue) → Passed now new (One n) → Makes pass new (taken_entry answer) × Takes new answer
   taken new p = (
     made pass now w v (taken_entry answer) n is next on new p,
     takes now new w next v.follows answer p.same_board p.same_number (seen-then pass now w v (taken_entry answer) n is next on new p) answered,

@@ -12,14 +12,12 @@ use Rattle.forest_tree.specs.Sound.{AreSound, IsSound}
 use Rattle.forest_tree.proofs.Projected.{subtree-map}
 use Rattle.sibling_forest.specs.Talk.{Box, boxed}
 use Rattle.sibling_forest.specs.Laws.{box_of}
-use Rattle.forest_history.specs.Places.{Spot, out, spots}
-use Rattle.talking_history.specs.Places.{boxes}
+use Rattle.talking_history.specs.Places.{Spot, out, spots, boxes}
 use Rattle.talking_history.specs.World as history
 use Rattle.talking_history.specs.World.{holds, is_resting, lives_ready, world_of}
 use Rattle.talking_history.specs.Rows.{How, Row, dropped, kept, over, stopped, stuck, idle, took, wake_failed, spent, waited, Allows, does}
-use Rattle.forest_history.specs.Seen.{spot_seen}
-use Rattle.forest_history.specs.Histories.{Holding, IsHeldBy, Seat, holding}
-use Rattle.talking_history.specs.Histories.{Entry, row, History, HandsBack, IsLegal, Permits, Record, record_after, replay, with_taken}
+use Rattle.talking_history.specs.Seen.{spot_seen}
+use Rattle.talking_history.specs.Histories.{Holding, IsHeldBy, Seat, holding, Entry, row, History, HandsBack, IsLegal, Permits, Record, record_after, replay, with_taken}
 use Rattle.forest_model.specs.Forest.{machines, talks}
 use Rattle.forest_model.specs.Machine.{Machine}
 use Rattle.forest_model.specs.Paged.{Paged, Pages, paged_machines, paged_talks}
@@ -31,35 +29,76 @@ use Rattle.world_core.specs.declared.world.Placed.TheVariants as placed
 use Rattle.world_core.specs.declared.world.Taken.{Taken}
 use Rattle.world_core.specs.declared.world.Taken.TheVariants as taken
 use Rattle.world_core.specs.Answers as core
-use Rattle.world_core.specs.Answers.{Answers, Goes, HandedOut, HandedOutIn, IsHandedOut, IsLentOf, MayWait, MayWant, Starts}
+use Rattle.world_core.specs.Answers.{Answers, Goes, IsHandedOut, IsLentOf, Starts}
 use Rattle.world_core.specs.Answers.{IsOutSince}
 use Rattle.world_core.specs.Arrived.{StillHandedOut, with_flags}
 use Rattle.world_core.specs.Lent.{Lent, now_of}
 use Rattle.world_core.specs.Shows.{Member, paged_of}
-use Rattle.world_core.specs.Told.{told_of}
+use Rattle.world_core.specs.Told.{AreKept, told_of}
 use Rattle.world_core.specs.World.{Forest, StandsFor}
 use Rattle.world_core.proofs.Arriving.{flags-family}
 use Rattle.fork_board.specs.declared.note.Opening.{Opening}
 use Rattle.fork_board.specs.Answers.{Places, Takes}
-use Rattle.fork_board.specs.Follows.{Follows, IsWorldOf, depot_of, family_of, pair_of, record_at}
+use Rattle.fork_board.specs.Follows.{Follows, IsWorldOf, depot_of, family_of, opening_record, pair_of, record_at}
 use Rattle.fork_board.specs.Notes.{placed_entry, taken_entry}
 use Rattle.fork_board.specs.Passes.{BoardValue, IsHeld, PassValue}
 use Rattle.fork_board.proofs.Records.{allows-family, does-family, kept-holdings, legal-more, out-as-taken, permits-row, record-more, same-path}
 
 -- ---- one entry more
 
-stands-row : (depot : Shelves) (seat : Seat) (x : Row Reason) (f : Forest) (old new : World) (r : Record Machine Reason) → family_of f ≡ r.world
-    → IsWorldOf depot r old → Goes depot f x new → told_of new ≡ told_of old → IsWorldOf depot (record_after machines talks seat (row x) r) new
-unfolding record_after
-stands-row depot seat x f old new r family was goes told = record {
-  forest = does paged_machines paged_talks x f;
-  stands = goes.after;
-  family = does-family x f ∙ ap (does machines talks x) family;
-  replies = ap (map pair_of) told ∙ was.replies;
-  kept = subst (All (IsSentOf depot)) (sym told) was.kept;
+-- the history is legal and leads to the forest, and to the replies that were told to the world, which need not stand for it
+pub record Leads (opening : Opening) (log : History Reason) (f : Forest) (w : World) : Type 0 where
+  pub start : IsSound (boxes machines talks) (opening_record opening).world.tree
+  pub legal : IsLegal machines talks log (opening_record opening)
+  pub family : family_of f ≡ (record_at opening log).world
+  pub replies : map pair_of (told_of w) ≡ (record_at opening log).told
+  pub kept : AreKept (depot_of opening) w
+
+pub leads-now : (opening : Opening) (log : History Reason) (f : Forest) (w : World) → Follows opening log w → family_of f ≡ (record_at opening log).world
+    → Leads opening log f w
+leads-now opening log f w h family =
+    record { start = h.start; legal = h.legal; family = family; replies = h.world.replies; kept = h.world.kept }
+
+-- once a world stands for the forest, it follows the history
+pub follows-there : (opening : Opening) (log : History Reason) (f : Forest) (old new : World) → Leads opening log f old
+    → StandsFor (depot_of opening) new f → told_of new ≡ told_of old → Follows opening log new
+follows-there opening log f old new h stands told = record {
+  start = h.start;
+  legal = h.legal;
+  world = record {
+    forest = f;
+    stands = stands;
+    family = h.family;
+    replies = ap (map pair_of) told ∙ h.replies;
+    kept = subst (All (IsSentOf (depot_of opening))) (sym told) h.kept;
+  };
 }
 
+row-after : (seat : Seat) (x : Row Reason) (r : Record Machine Reason) → (record_after machines talks seat (row x) r).world ≡ does machines talks x r.world
+unfolding record_after
+row-after seat x r = refl
+
+row-told : (seat : Seat) (x : Row Reason) (r : Record Machine Reason) → (record_after machines talks seat (row x) r).told ≡ r.told
+unfolding record_after
+row-told seat x r = refl
+
 module _ (opening : Opening) (log : History Reason) (seat : Seat) where
+  -- a row of the forest
+  pub leads-row : (x : Row Reason) (f : Forest) (w : World) → Leads opening log f w → Allows paged_machines paged_talks x f
+      → HandsBack seat x (record_at opening log).holdings → Leads opening (log ++ (seat, row x) ∷ []) (does paged_machines paged_talks x f) w
+  leads-row x f w h allowed hands =
+      let more = record-more opening log seat (row x) in
+      let before = record_at opening log in
+      record {
+        start = h.start;
+        legal = legal-more opening log seat (row x) h.legal
+            (permits-row seat x before (subst (Allows machines talks x) h.family (allows-family x f allowed)) hands);
+        family = does-family x f ∙ ap (does machines talks x) h.family ∙ sym (row-after seat x before)
+            ∙ ap (λ (r : Record Machine Reason). r.world) (sym more);
+        replies = h.replies ∙ sym (row-told seat x before) ∙ ap (λ (r : Record Machine Reason). r.told) (sym more);
+        kept = h.kept;
+      }
+
   -- the entry may come, and the world stands for what is on record after it
   pub follows-more : (entry : Entry Reason) (old new : World) → Follows opening log old → Permits machines talks seat entry (record_at opening log)
       → IsWorldOf (depot_of opening) (record_after machines talks seat entry (record_at opening log)) new → Follows opening (log ++ (seat, entry) ∷ []) new
@@ -74,9 +113,8 @@ module _ (opening : Opening) (log : History Reason) (seat : Seat) where
       → HandsBack seat x (record_at opening log).holdings → Goes (depot_of opening) f x new → told_of new ≡ told_of old
       → Follows opening (log ++ (seat, row x) ∷ []) new
   follows-row x f old new h family hands goes told =
-      follows-more (row x) old new h
-      (permits-row seat x (record_at opening log) (subst (Allows machines talks x) family (allows-family x f goes.allowed)) hands)
-      (stands-row (depot_of opening) seat x f old new (record_at opening log) family h.world goes told)
+      follows-there opening (log ++ (seat, row x) ∷ []) (does paged_machines paged_talks x f) old new
+      (leads-row x f old (leads-now opening log f old h family) goes.allowed hands) goes.after told
 
 -- ---- a machine on lease
 
@@ -189,7 +227,7 @@ module _ (opening : Opening) (log : History Reason) (seat : Seat) where
       ∙ taken-from resting lease (subtree lease.name f.tree) r.holdings starts.now ready starts.start
 
   -- the seat holds it then
-  taken-held : (f : Forest) (lease : Lent) → family_of f ≡ (record_at opening log).world → Allows paged_machines paged_talks (took lease.name) f → Starts f lease
+  pub taken-held : (f : Forest) (lease : Lent) → family_of f ≡ (record_at opening log).world → Allows paged_machines paged_talks (took lease.name) f → Starts f lease
       → IsHeldAt opening (log ++ (seat, row (took lease.name)) ∷ []) seat lease
   unfolding Allows
   taken-held f lease family allowed starts =

@@ -1,10 +1,10 @@
 -- What the notes of a board stand for in a history.
-use Rattle.std.specs.Prelude.{ℕ, map, Option, Result, Ok, Err}
+use Rattle.std.specs.Prelude.{ℕ, [], ◌∷◌, ◌++◌, Option, Result, Ok, Err}
 use Rattle.std.specs.declared.alloc.AllocError.{AllocError}
 use Rattle.forest_tree.specs.Tree.{Path}
+use Rattle.talking_history.specs.Histories.{Seat, Entry, row, told, heard, tell_failed, hear_failed, History}
 use Rattle.talking_history.specs.Rows.{How, gave, ended, forked, joined, killed, sent, received, waited}
 use Rattle.talking_history.specs.Rows.{spent, over, stopped, stuck, idle, took, wake_failed, dropped, kept, halted}
-use Rattle.talking_history.specs.Histories.{Entry, row, told, heard, tell_failed, hear_failed, History}
 use Rattle.image_depot.specs.Reply.{Delivery}
 use Rattle.turn_board.specs.History as notes
 use Rattle.world_core.specs.declared.reason.Reason.{Reason}
@@ -14,6 +14,8 @@ use Rattle.world_core.specs.declared.world.Taken.{Taken}
 use Rattle.world_core.specs.declared.world.Taken.TheVariants as taken
 use Rattle.fork_board.specs.declared.note.Note.{Note}
 use Rattle.fork_board.specs.declared.note.Note.TheVariants as note
+use Rattle.fork_board.specs.declared.note.TurnNote.{TurnNote}
+use Rattle.fork_board.specs.declared.note.TurnNote.TheVariants.{One, Two}
 
 abbrev pub entry_of : Note → Entry Reason
 entry_of note.Over = row over
@@ -38,9 +40,15 @@ entry_of (note.Heard place) = heard place
 entry_of note.TellFailed = tell_failed
 entry_of (note.HearFailed place) = hear_failed place
 
+-- the entries that a seat made in one turn, in their order
+abbrev pub turn_entries : Seat → TurnNote → History Reason
+turn_entries seat (One call) = (seat, entry_of call) ∷ []
+turn_entries seat (Two first then) = (seat, entry_of first) ∷ (seat, entry_of then) ∷ []
+
 -- the history of the notes
-abbrev pub entries : notes.History Note → History Reason
-entries log = map (λ e. (e.0, entry_of e.1)) log
+abbrev pub entries : notes.History TurnNote → History Reason
+entries [] = []
+entries (e ∷ log) = turn_entries e.0 e.1 ++ entries log
 
 -- ---- the entry of each answer
 

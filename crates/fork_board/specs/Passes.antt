@@ -3,8 +3,7 @@ use Rattle.std.specs.Prelude.{◌≡◌, ◌≢◌, ◌⊎◌, ℕ, ◌≤◌, t
 use Rattle.std.specs.Option.{IfSome}
 use Rattle.atomic_table.specs.Seated.{TableId}
 use Rattle.forest_tree.specs.Tree.{Path}
-use Rattle.forest_history.specs.Histories.{Seat, holding}
-use Rattle.talking_history.specs.Histories.{Entry, row, told, heard, tell_failed, hear_failed, History, IsLegal, Record}
+use Rattle.talking_history.specs.Histories.{Seat, holding, Entry, row, told, heard, tell_failed, hear_failed, History, IsLegal, Record}
 use Rattle.talking_history.specs.Rows.{over, stopped, stuck, idle, took, wake_failed, spent, dropped, kept, halted}
 use Rattle.forest_model.specs.Forest.{machines, talks}
 use Rattle.forest_model.specs.Machine.{Machine}

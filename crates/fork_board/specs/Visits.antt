@@ -12,15 +12,15 @@ use Rattle.turn_board.specs.Calls.{IsSeat}
 use Rattle.turn_board.specs.History.{entries_by}
 use Rattle.world_core.specs.declared.reason.Reason.{Reason}
 use Rattle.world_core.specs.declared.world.World.{World}
-use Rattle.fork_board.specs.declared.note.Note.{Note}
+use Rattle.fork_board.specs.declared.note.TurnNote.{TurnNote}
 use Rattle.fork_board.specs.declared.note.Opening.{Opening}
 use Rattle.fork_board.specs.Follows.{Follows, opening_record}
-use Rattle.fork_board.specs.Notes.{entries, entry_of}
+use Rattle.fork_board.specs.Notes.{entries, turn_entries}
 use Rattle.fork_board.specs.Passes.{BoardValue, PassValue}
 
 -- a seat at the lock
 abbrev pub Place : Type 0
-Place = Seat (Content (Box World Global) Note) (View Opening Note)
+Place = Seat (Content (Box World Global) TurnNote) (View Opening TurnNote)
 
 -- the pass as its seat has it
 abbrev pub pass_of : BoardValue → Place → PassValue
@@ -49,15 +49,16 @@ pub record Visits (pass now : PassValue) (w : World) : Type 0 where
   pub between : History Reason
   pub seen : now.seen ≡ pass.seen ++ between
   pub others : entries_by pass.number between ≡ []
+  pub own : entries_by now.number now.seen ≡ now.mine
   pub unmade : (k : ℕ) (below : List ℕ) → now.splits ≤ k → entries_by (now.number ++ k ∷ below) now.seen ≡ []
   pub follows : Follows now.board.opening now.seen w
 
--- the turn has passed with one entry more
-pub record Passed (now new : PassValue) (note : Note) : Type 0 where
+-- the turn has passed with the entries of its note
+pub record Passed (now new : PassValue) (note : TurnNote) : Type 0 where
   pub same_board : new.board ≡ now.board
   pub same_number : new.number ≡ now.number
   pub same_splits : new.splits ≡ now.splits
   pub same_ended : new.ended ≡ now.ended
-  pub seen : new.seen ≡ now.seen ++ (now.number, entry_of note) ∷ []
-  pub mine : new.mine ≡ now.mine ++ (now.number, entry_of note) ∷ []
+  pub seen : new.seen ≡ now.seen ++ turn_entries now.number note
+  pub mine : new.mine ≡ now.mine ++ turn_entries now.number note
   pub own : entries_by new.number new.seen ≡ new.mine

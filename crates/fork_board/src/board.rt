@@ -7,11 +7,11 @@ ghost use Rattle.turn_board.specs.Calls.{IsTurn};
 ghost use Rattle.world_core.specs.Told.{told_of};
 ghost use Rattle.world_core.specs.World.{StandsFor};
 ghost use Rattle.fork_board.specs.Follows.{Follows};
-ghost use Rattle.fork_board.specs.Notes.{entries, entry_of};
+ghost use Rattle.fork_board.specs.Notes.{entries, turn_entries};
 ghost use Rattle.fork_board.specs.Passes.{Closes, HoldsNone, Joins, first_pass};
 ghost use Rattle.fork_board.specs.Visits.{Passed, Visits, pass_of};
 
-use crate::note::{Note, Opening};
+use crate::note::{Opening, TurnNote};
 use image_depot::Depot;
 use std::alloc::{AllocError, Global};
 use std::marker::Model;
@@ -25,7 +25,7 @@ use world_core::World;
 #[derive(Drop)]
 pub struct Board {
     opening: Opening,
-    turns: Turns<Opening, Note, Box<World>>,
+    turns: Turns<Opening, TurnNote, Box<World>>,
 }
 
 impl Model for Board {
@@ -43,7 +43,7 @@ impl Model for Board {
 #[derive(Drop)]
 pub struct Pass {
     opening: Snapshot<Opening>,
-    seat: Seat<Opening, Note, Box<World>>,
+    seat: Seat<Opening, TurnNote, Box<World>>,
 }
 
 impl Model for Pass {
@@ -60,7 +60,7 @@ impl Model for Pass {
 /// A pass whose turn has come, with the world.
 pub(crate) struct Visit {
     opening: Snapshot<Opening>,
-    pub(crate) turn: Turn<Opening, Note, Box<World>>,
+    pub(crate) turn: Turn<Opening, TurnNote, Box<World>>,
 }
 
 impl Board {
@@ -148,11 +148,11 @@ impl Board {
         }
     }
 
-    /// Passes the turn on, with a note of what was done.
-    pub(crate) fn leave(&self, visit: Visit, note: &Note) -> Pass
+    /// Passes the turn on, with a note of what was done in it.
+    pub(crate) fn leave(&self, visit: Visit, note: &TurnNote) -> Pass
         requires turn { IsTurn self.now.table self.now.opening visit.turn.seat }
         requires opening { visit.opening.value ≡ self.now.opening }
-        requires follows { Follows self.now.opening (entries (visit.turn.seat.me.0.seen) ++ (visit.turn.seat.me.0.seat, entry_of note.now) ∷ []) visit.turn.value.value }
+        requires follows { Follows self.now.opening (entries (visit.turn.seat.me.0.seen) ++ turn_entries visit.turn.seat.me.0.seat note.now) visit.turn.value.value }
         ensures { Passed (pass_of self.now visit.turn.seat) result note.now }
     {
         let Visit { opening, turn } = visit;

@@ -13,7 +13,7 @@ ghost use Rattle.fork_board.specs.Passes.{IsHeld, Makes};
 
 use crate::board::{Board, Pass};
 use crate::deed::Deed;
-use crate::note::Note;
+use crate::note::{Note, TurnNote};
 use crate::notes::{placed_note, taken_note};
 use image_depot::Depot;
 use std::alloc::Global;
@@ -32,7 +32,7 @@ impl Board {
         let mut visit = self.enter(rt, pass);
         let taken = visit.turn.value.take(alloc, depot);
         let note = taken_note(&taken);
-        (self.leave(visit, &note), taken)
+        (self.leave(visit, &TurnNote::One(note)), taken)
     }
 
     /// Takes a machine back, which may have ended.
@@ -121,7 +121,7 @@ impl Board {
         let mut visit = self.enter(rt, pass);
         let placed = deed.on(&mut *visit.turn.value, lease);
         let note = placed_note(done, name, ran, &placed);
-        (self.leave(visit, &note), placed)
+        (self.leave(visit, &TurnNote::One(note)), placed)
     }
 
     /// No machine is handed out from now on, for the first reason that was given.
@@ -131,6 +131,6 @@ impl Board {
     {
         let mut visit = self.enter(rt, pass);
         visit.turn.value.stop(reason);
-        self.leave(visit, &Note::Halted(reason))
+        self.leave(visit, &TurnNote::One(Note::Halted(reason)))
     }
 }

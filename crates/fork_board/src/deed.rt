@@ -4,7 +4,7 @@ ghost use Rattle.std.specs.Prelude.{◌≡◌};
 ghost use Rattle.image_depot.specs.Key.{Shelves};
 ghost use Rattle.talking_history.specs.Histories.{row};
 ghost use Rattle.talking_history.specs.Rows.{spent};
-ghost use Rattle.world_core.specs.Answers.{Answers, HandedOutIn, IsHandedOut, IsLentOf};
+ghost use Rattle.world_core.specs.Answers.{Answers, HandedOutIn, IsHandedOut, IsLentOf, TalksOn};
 ghost use Rattle.world_core.specs.Told.{told_of};
 ghost use Rattle.world_core.specs.World.{Forest, StandsFor};
 ghost use Rattle.fork_board.specs.Deeds.{MayDo, how_of};
@@ -14,7 +14,7 @@ use crate::note::Note;
 use sibling_port::Talk;
 use std::alloc::{AllocError, Global};
 use std::snapshot::Snapshot;
-use world_core::{Lease, Placed, PreparedFork, World};
+use world_core::{Lease, Placed, PreparedFork, Talked, World};
 
 /// By which call a lease is handed back.
 #[derive(Drop)]
@@ -45,6 +45,19 @@ impl Deed {
             Deed::Join(alloc) => world.join(alloc, lease),
             Deed::Kill => world.kill(lease),
             Deed::Talk(alloc, _) => world.talk(alloc, lease),
+        }
+    }
+
+    /// The same, where a machine that has made its talk may stay on lease.
+    pub(crate) fn on_still(self, world: &mut World, lease: Lease) -> Talked
+        requires { (depot : Shelves) × HandedOutIn depot world.old lease × MayDo depot self lease }
+        ensures answers { (depot : Shelves) (f : Forest) → StandsFor depot world.old f → IsHandedOut f lease → IsLentOf depot lease
+            → MayDo depot self lease → TalksOn depot f (how_of self lease.now.ending) lease result world.new }
+        ensures told { told_of world.new ≡ told_of world.old }
+    {
+        match self {
+            Deed::Talk(alloc, what) => world.talk_on(alloc, lease, what),
+            other => Talked::Placed(other.on(world, lease)),
         }
     }
 

@@ -9,6 +9,8 @@ mod kept;
 mod note;
 mod notes;
 mod replies;
+mod swaps;
 
 pub use board::{Board, Pass};
-pub use note::{Note, Opening};
+pub use note::{Note, Opening, TurnNote};
+pub use swaps::{Back, Swapped};

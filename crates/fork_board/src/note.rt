@@ -51,3 +51,11 @@ pub enum Note {
     /// Want of memory to hear the reply at a place.
     HearFailed(usize),
 }
+
+/// What is written of a turn of the lock, in which a machine may be handed back and then one be taken.
+#[derive(Drop)]
+pub enum TurnNote {
+    One(Note),
+    /// Of two calls, the first first.
+    Two(Note, Note),
+}

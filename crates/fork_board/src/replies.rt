@@ -7,6 +7,7 @@ ghost use Rattle.fork_board.specs.Notes.{heard_entry, told_entry};
 ghost use Rattle.fork_board.specs.Passes.{Makes};
 
 use crate::board::{Board, Pass};
+use crate::note::TurnNote;
 use crate::notes::{heard_note, told_note};
 use image_depot::Sent;
 use std::alloc::AllocError;
@@ -24,7 +25,7 @@ impl Board {
         let mut visit = self.enter(rt, pass);
         let told = visit.turn.value.tell(sent);
         let note = told_note(image, page, &told);
-        (self.leave(visit, &note), told)
+        (self.leave(visit, &TurnNote::One(note)), told)
     }
 
     /// The reply at a place, from 0, among those that were told, or `None` behind the last. It is the same reply once
@@ -44,6 +45,6 @@ impl Board {
         let _ = visit.turn.value.told();
         let heard = visit.turn.value.hear(place);
         let note = heard_note(place, &heard);
-        (self.leave(visit, &note), heard)
+        (self.leave(visit, &TurnNote::One(note)), heard)
     }
 }

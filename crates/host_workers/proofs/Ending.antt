@@ -1,14 +1,13 @@
 -- How a worker's work ends.
 use Rattle.std.proofs.Common.{◌≡◌, inl, inr, [], ◌∷◌, ◌++◌, Some, None, refl, sym, true, ap, ap₂, ◌∙◌, subst}
-use Rattle.forest_tree.specs.Settle.{has_ended}
+use Rattle.forest_tree.specs.Step.{has_ended}
 use Rattle.forest_tree.specs.Tree.{Path}
 use Rattle.sibling_forest.specs.Finish.{rests}
 use Rattle.talking_history.specs.Places.{bare, boxes}
 use Rattle.talking_history.specs.World as history
 use Rattle.talking_history.specs.World.{IsWhole}
 use Rattle.talking_history.specs.Rows.{Row, over, stopped, stuck, took, Allows, NoneReady, does}
-use Rattle.forest_history.specs.Histories.{Seat}
-use Rattle.talking_history.specs.Histories.{Entry, row, History, IsLegal, Permits, Record, record_after}
+use Rattle.talking_history.specs.Histories.{Seat, Entry, row, History, IsLegal, Permits, Record, record_after}
 use Rattle.talking_history.proofs.Histories.{legal-apart, replay-append}
 use Rattle.talking_history.proofs.Stuck.{stuck-rests}
 use Rattle.talking_history.proofs.Stays.{stuck-record}

@@ -6,8 +6,7 @@ use native.Mathlib.Decide.{dec_lt}
 use Rattle.std.proofs.lemmas.Bool.{cases_eq}
 use Rattle.std.proofs.lemmas.List.Elements.{filter-append}
 use Rattle.std.proofs.lemmas.Slice.Eq.{bytes_eq-Decides}
-use Rattle.forest_history.specs.Histories.{Seat}
-use Rattle.talking_history.specs.Histories.{Entry, History, IsLegal}
+use Rattle.talking_history.specs.Histories.{Seat, Entry, History, IsLegal}
 use Rattle.forest_model.specs.Forest.{machines, talks}
 use Rattle.turn_board.specs.History.{HasEnded, entries_by}
 use Rattle.turn_board.specs.Seats.{has_seat, is_seat, next_seat}

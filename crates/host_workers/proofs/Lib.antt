@@ -1,5 +1,6 @@
 pub mod Stops
 pub mod Working
+pub mod Swapping
 pub mod Standing
 pub mod Ending
 pub mod Hearing

@@ -1,16 +1,14 @@
 -- A root that has ended stays so, whatever comes after.
 use Rattle.std.proofs.Common.{◌≡◌, true, true≢false, [], ◌∷◌, ◌++◌, List, replicate, Option, Some, None, is_some, refl, sym, ap, ap₂, ◌∙◌, subst}
 use Rattle.forest_tree.specs.Operations.{Operations}
-use Rattle.forest_tree.specs.Tree.{Tree, node, Path}
-use Rattle.forest_tree.specs.Settle.{has_ended, step, step_from}
+use Rattle.forest_tree.specs.Tree.{Tree, node, Path, at_path}
+use Rattle.forest_tree.specs.Step.{has_ended, step, step_from}
 use Rattle.sibling_forest.specs.Talk.{Talks, Box, boxed}
 use Rattle.sibling_forest.specs.Settle.{settle, settle_all}
-use Rattle.forest_history.specs.Places.{Place, Spot, at_path, spots}
-use Rattle.forest_history.specs.Histories.{Seat}
-use Rattle.talking_history.specs.Places.{boxes, placed, spot_talks}
+use Rattle.talking_history.specs.Places.{Place, Spot, spots, boxes, placed, spot_talks}
+use Rattle.talking_history.specs.Histories.{Seat, Entry, row, told, heard, tell_failed, hear_failed, History, IsLegal, Permits, Record, record_after, replay}
 use Rattle.talking_history.specs.World.{World}
 use Rattle.talking_history.specs.Rows.{Row, over, stopped, stuck, idle, took, wake_failed, spent, dropped, kept, halted, Allows, back, does, made, run_at}
-use Rattle.talking_history.specs.Histories.{Entry, row, told, heard, tell_failed, hear_failed, History, IsLegal, Permits, Record, record_after, replay}
 use Rattle.talking_history.proofs.Histories.{legal-apart, replay-append}
 use Rattle.forest_model.specs.Forest.{machines, talks}
 use Rattle.forest_model.specs.Machine.{Machine}

@@ -1,6 +1,5 @@
 -- Where a machine stands that a run has left.
 use Rattle.std.proofs.Common.{◌≡◌, Some, ap, ◌∙◌}
-use Rattle.std.specs.Prelude.{IsSome, is_some}
 use Rattle.fork_port.specs.declared.commands.Call.{Call}
 use Rattle.sibling_port.specs.declared.talk.Talk.{Talk}
 use Rattle.forest_model.specs.Machine.{next}
@@ -16,8 +15,7 @@ stands-call v c h =
     ap (λ page. standing_by page v.machine.ending (next v.machine)) h.1 ∙ ap (λ ending. standing_from ending (next v.machine)) h.0 ∙ ap asked_call h.2
 
 -- or at the talk
-pub stands-talk : (v : KeyedMachine) (t : Talk) → Stands v (stepped.Talk t) → IsSome (standing_talk v)
+pub stands-talk : (v : KeyedMachine) (t : Talk) → Stands v (stepped.Talk t) → standing_talk v ≡ Some t
 unfolding standing_talk
 stands-talk v t h =
-    ap is_some
-    (ap (λ page. talk_by page v.machine.ending (next v.machine)) h.1 ∙ ap (λ ending. talk_from ending (next v.machine)) h.0 ∙ ap asked_talk h.2)
+    ap (λ page. talk_by page v.machine.ending (next v.machine)) h.1 ∙ ap (λ ending. talk_from ending (next v.machine)) h.0 ∙ ap asked_talk h.2

@@ -2,10 +2,8 @@
 use Rattle.std.proofs.Common.{◌≡◌, ◌≢◌, [], ◌∷◌, ◌++◌, Bool, true, false, cond, Option, Some, None, option_map, refl, sym, ap, ◌∙◌}
 use Rattle.std.specs.Prelude.{IsSome}
 use Rattle.talking_history.specs.World as history
-use Rattle.talking_history.specs.Rows.{Row, over, stopped, stuck, idle, took, wake_failed, spent, dropped, kept, halted, does}
-use Rattle.forest_history.specs.Rows.{first_reason}
-use Rattle.forest_history.specs.Histories.{Seat}
-use Rattle.talking_history.specs.Histories.{Entry, row, told, heard, tell_failed, hear_failed, History, Record, record_after, replay}
+use Rattle.talking_history.specs.Rows.{Row, over, stopped, stuck, idle, took, wake_failed, spent, dropped, kept, halted, does, first_reason}
+use Rattle.talking_history.specs.Histories.{Seat, Entry, row, told, heard, tell_failed, hear_failed, History, Record, record_after, replay}
 use Rattle.forest_model.specs.Forest.{machines, talks}
 use Rattle.forest_model.specs.Machine.{Machine}
 use Rattle.turn_board.specs.History.{entries_by}

@@ -12,8 +12,7 @@ use Rattle.image_depot.specs.Reply.{Delivery}
 use Rattle.host_fetch.specs.Heard.{AreHeardOf, Replies}
 use Rattle.forest_tree.specs.Tree.{Path}
 use Rattle.talking_history.specs.Rows.{How, halted}
-use Rattle.forest_history.specs.Histories.{Seat}
-use Rattle.talking_history.specs.Histories.{Entry, row, History, IsLegal}
+use Rattle.talking_history.specs.Histories.{Seat, Entry, row, History, IsLegal}
 use Rattle.forest_model.specs.Forest.{machines, talks}
 use Rattle.vm_cell.specs.Keyed.{IsOfDepot}
 use Rattle.world_core.specs.declared.reason.Reason.{Reason}
@@ -95,7 +94,7 @@ goes-one : (a b : Stage) (e : Seat × Entry Reason) → Steps a e.1 b → Goes a
 unfolding Goes
 goes-one a b e steps = (b, (steps, refl))
 
-goes-none : (a : Stage) → Goes a [] a
+pub goes-none : (a : Stage) → Goes a [] a
 unfolding Goes
 goes-none a = refl
 

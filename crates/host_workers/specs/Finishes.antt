@@ -3,12 +3,11 @@
 use Rattle.std.specs.Prelude.{◌≡◌, ◌≢◌, ◌⊎◌, ℕ, ◌+◌, ◌<◌, ◌≤◌, Bool, true, false, [], ◌∷◌, ◌++◌, Option, Some, None, IsSome, IsSomeAnd}
 use Rattle.std.specs.Option.{IfSome}
 use Rattle.forest_tree.specs.Tree.{Path}
-use Rattle.forest_tree.specs.Settle.{has_ended}
+use Rattle.forest_tree.specs.Step.{has_ended}
 use Rattle.sibling_forest.specs.Finish.{rests}
 use Rattle.talking_history.specs.Places.{bare, boxes}
 use Rattle.talking_history.specs.Rows.{Row, over, stopped, stuck, idle, took, wake_failed, spent, dropped, kept, halted}
-use Rattle.forest_history.specs.Histories.{Seat, holding}
-use Rattle.talking_history.specs.Histories.{Entry, row, told, heard, tell_failed, hear_failed, History, IsLegal}
+use Rattle.talking_history.specs.Histories.{Seat, holding, Entry, row, told, heard, tell_failed, hear_failed, History, IsLegal}
 use Rattle.forest_model.specs.Forest.{machines, talks}
 use Rattle.turn_board.specs.History.{entries_by}
 use Rattle.world_core.specs.declared.reason.Reason.{Reason}

@@ -4,5 +4,6 @@ pub mod Claiming
 pub mod Finishes
 pub mod Fit
 pub mod Hears
+pub mod Next
 pub mod Stays
 pub mod Spread

@@ -1,6 +1,6 @@
 -- Work that is spread over passes which were split off from one.
 use Rattle.std.specs.Prelude.{◌≡◌, ◌⊎◌, ℕ, zero, suc, ◌+◌, ◌<◌, ◌≤◌, true, List, length, [], ◌∷◌, ◌++◌}
-use Rattle.forest_history.specs.Histories.{Seat}
+use Rattle.talking_history.specs.Histories.{Seat}
 use Rattle.turn_board.specs.History.{entries_by}
 use Rattle.turn_board.specs.Seats.{has_seat, next_seat}
 use Rattle.world_core.specs.declared.reason.Reason.TheVariants as reason

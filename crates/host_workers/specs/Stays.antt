@@ -1,8 +1,7 @@
 -- What a worker does on its way.
 use Rattle.std.specs.Prelude.{◌≡◌, ◌⊎◌, ℕ, ◌≤◌, [], ◌∷◌, ◌++◌}
 use Rattle.forest_tree.specs.Tree.{Path}
-use Rattle.forest_history.specs.Histories.{Seat}
-use Rattle.talking_history.specs.Histories.{History, IsLegal}
+use Rattle.talking_history.specs.Histories.{Seat, History, IsLegal}
 use Rattle.forest_model.specs.Forest.{machines, talks}
 use Rattle.host_fetch.specs.declared.error.FetchError.{FetchError}
 use Rattle.host_fetch.specs.declared.error.FetchError.TheVariants as fault

@@ -85,11 +85,23 @@ impl Lookout {
         self.on_duty.fetch_sub(1, Ordering::SeqCst);
     }
 
-    /// A worker handed its machine back. It stays on duty after a long run, and after a short one if nobody else is.
-    pub(crate) fn come_back<R: Wait>(&self, rt: &R, was_long: bool) {
+    /// Whether nobody but the worker that asks is on duty.
+    pub(crate) fn is_alone(&self) -> bool {
+        self.on_duty.load(Ordering::SeqCst) <= 1
+    }
+
+    /// A worker handed its machine back, and stays on duty.
+    pub(crate) fn swap(&self, was_long: bool) {
         self.returns.fetch_add(1, Ordering::SeqCst);
         if was_long {
             self.on_duty.fetch_add(1, Ordering::SeqCst);
+        }
+    }
+
+    /// A worker handed its machine back. It stays on duty after a long run, and after a short one if nobody else is.
+    pub(crate) fn come_back<R: Wait>(&self, rt: &R, was_long: bool) {
+        self.swap(was_long);
+        if was_long {
             return;
         }
         let on_duty = self.on_duty.load(Ordering::SeqCst);

@@ -6,6 +6,9 @@ const LONG: u64 = 1000;
 /// The steps after which it is very long. That is also the longest stretch.
 const VERY_LONG: u64 = 256_000;
 
+/// For so many steps a talk counts after which its machine goes on.
+const TALK: u64 = 10;
+
 /// The most slices that are run at once.
 const MAX_SLICES: u64 = 256;
 
@@ -52,6 +55,11 @@ impl Pace {
         self.made = self.made.saturating_add(self.steps());
         let most = self.slice.saturating_mul(MAX_SLICES);
         self.steps = self.steps.saturating_mul(GROWTH).min(most);
+    }
+
+    /// The machine goes on after a talk. Who talks on and on runs for long.
+    pub(crate) fn count_talk(&mut self) {
+        self.made = self.made.saturating_add(TALK);
     }
 
     pub(crate) fn begin_anew(&mut self) {

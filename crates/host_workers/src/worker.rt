@@ -9,6 +9,7 @@ ghost use Rattle.host_workers.specs.Claiming.{IsShare};
 ghost use Rattle.host_workers.specs.Finishes.{Finishes, IsStopped, IsStoppedBy};
 ghost use Rattle.host_workers.specs.Fit.{IsFit};
 ghost use Rattle.host_workers.specs.Lost.{IsLost};
+ghost use Rattle.host_workers.specs.Next.{HasNext, HasSwapped, HasTaken, IsMachine, stage_next, stage_swapped, stage_taken};
 ghost use Rattle.host_workers.specs.Stages.{Halts, Stage, done, free, halting, runs};
 ghost use Rattle.host_workers.specs.Stays.{Blames, GoesBackStopped, Spares, Turns, Worked, reason_for, stage_placed, stage_turned};
 
@@ -19,7 +20,7 @@ use crate::lookout::Lookout;
 use crate::pace::Pace;
 use crate::replies::Hearing;
 use crate::shared::Shared;
-use fork_board::Pass;
+use fork_board::{Pass, Swapped};
 use fork_port::Call;
 use host_fetch::FetchError;
 use page_claims::ClaimPass;
@@ -39,6 +40,8 @@ pub(crate) struct Worker<'a> {
     pub(crate) told: u64,
     /// Where the machines that it runs keep instructions.
     pub(crate) slots: Slots,
+    /// How often a machine had been handed back before it looked for one last.
+    returns: u64,
     /// What it claims pages by.
     pub(crate) claimant: Claimant<'a>,
 }
@@ -80,7 +83,6 @@ pub(crate) fn work<R: Wait, W: Wire, G: Gate>(
         shared.lookout.sleep(rt);
     }
     for _ in rt.forever() {
-        let returns = shared.lookout.returns();
         let (after, turned) = worker.turn(rt, shared, pass, wire);
         pass = after;
         match turned {
@@ -91,7 +93,7 @@ pub(crate) fn work<R: Wait, W: Wire, G: Gate>(
             }
             Turned::Idle => {
                 shared.settings.gate.at(rt, number, Point::Idle);
-                shared.lookout.find_none(rt, returns);
+                shared.lookout.find_none(rt, worker.returns);
             }
             Turned::Ran => worker.come_back(rt, &shared.lookout),
         }
@@ -111,6 +113,7 @@ impl<'a> Worker<'a> {
             hearing: Hearing::new(alloc),
             told: u64::MAX,
             slots: Slots::new(alloc),
+            returns: 0,
             claimant,
         }
     }
@@ -132,6 +135,49 @@ impl<'a> Worker<'a> {
         lookout.come_back(rt, was_long);
     }
 
+    /// It is to look for a machine. What is handed back from then on it does not miss.
+    fn look(&mut self, lookout: &Lookout)
+        ensures hearing { self.new.hearing ≡ self.old.hearing }
+        ensures claims { self.new.claimant ≡ self.old.claimant }
+    {
+        self.returns = lookout.returns();
+    }
+
+    /// Whether it is to sleep once its machine is back: it ran it for a short time, and another worker is on duty.
+    fn is_relieved(&self, lookout: &Lookout) -> bool {
+        !self.pace.is_long() && !lookout.is_alone()
+    }
+
+    /// It has another machine. Others look for one, too.
+    fn go_on(&mut self, lookout: &Lookout)
+        ensures hearing { self.new.hearing ≡ self.old.hearing }
+        ensures claims { self.new.claimant ≡ self.old.claimant }
+    {
+        let was_long = self.pace.is_long();
+        self.pace.begin_anew();
+        lookout.swap(was_long);
+        self.returns = self.returns.wrapping_add(1);
+    }
+
+    /// It goes on with its own machine, which has made a talk. Where its run has come to be long, others look for machines.
+    fn stay(&mut self, lookout: &Lookout, may_be_ready: bool)
+        ensures hearing { self.new.hearing ≡ self.old.hearing }
+        ensures claims { self.new.claimant ≡ self.old.claimant }
+    {
+        let was_long = self.pace.is_long();
+        self.pace.count_talk();
+        if may_be_ready {
+            lookout.swap(false);
+            self.returns = self.returns.wrapping_add(1);
+        }
+        if self.pace.is_long() {
+            if !was_long {
+                lookout.leave();
+            }
+            lookout.call(self.pace.is_very_long());
+        }
+    }
+
     /// Takes a machine and runs it, if one is ready. A world that was stopped is not run on.
     fn turn<R: Wait, W: Wire, G: Gate>(
         &mut self,
@@ -151,23 +197,56 @@ impl<'a> Worker<'a> {
         ensures seeds { W.seeds wire.new ≡ W.seeds wire.old }
         ensures stopped { IsStopped pass → wire.new ≡ wire.old }
     {
-        let board = shared.board;
-        let (pass, taken) = board.take(rt, shared.alloc, pass, shared.depot);
-        match taken {
-            Taken::Over => (pass, Turned::Finished(Finish::Over)),
-            Taken::Stopped(reason) => (pass, Turned::Finished(Finish::Stopped(reason))),
-            Taken::Stuck => (pass, Turned::Finished(Finish::Stuck)),
-            Taken::Idle => (pass, Turned::Idle),
-            Taken::Memory => (board.stop(rt, pass, Reason::Memory), Turned::Ran),
-            Taken::Took(lease) => {
-                let point = Point::Took(lease.name().depth());
-                shared.settings.gate.at(rt, self.number, point);
-                (self.run(rt, shared, pass, lease, wire), Turned::Ran)
-            }
-        }
+        self.look(&shared.lookout);
+        let (pass, taken) = shared.board.take(rt, shared.alloc, pass, shared.depot);
+        self.run_taken(rt, shared, pass, taken, wire)
     }
 
-    /// Runs a machine, and hands it back. Where it cannot be run on, the world is stopped.
+    /// Runs the machine that was taken, and those that are taken as the ones before come back.
+    fn run_taken<R: Wait, W: Wire, G: Gate>(
+        &mut self,
+        rt: &R,
+        shared: &Shared<G>,
+        pass: Pass,
+        taken: Taken,
+        wire: &mut W,
+    ) -> (Pass, Turned)
+        requires board { pass.board ≡ shared.now.board.now }
+        requires taken { HasTaken pass taken }
+        requires fit { IsFit shared.now.claims.now shared.now.depot.now self.old }
+        ensures worked { Worked (stage_taken taken) (stage_turned result.1) pass result.0 }
+        ensures none { HoldsNone result.0 }
+        ensures turns { Turns result.0 result.1 }
+        ensures fit { IsFit shared.now.claims.now shared.now.depot.now self.new }
+        ensures wire { Blames W.streak wire.new pass result.0 }
+        ensures seeds { W.seeds wire.new ≡ W.seeds wire.old }
+        ensures still { (wire.new ≡ wire.old) ⊎ IsMachine taken }
+    {
+        let mut pass = pass;
+        let mut taken = taken;
+        for _ in rt.forever() {
+            let lease = match taken {
+                Taken::Over => return (pass, Turned::Finished(Finish::Over)),
+                Taken::Stopped(reason) => return (pass, Turned::Finished(Finish::Stopped(reason))),
+                Taken::Stuck => return (pass, Turned::Finished(Finish::Stuck)),
+                Taken::Idle => return (pass, Turned::Idle),
+                Taken::Memory => return (shared.board.stop(rt, pass, Reason::Memory), Turned::Ran),
+                Taken::Took(lease) => lease,
+            };
+            let point = Point::Took(lease.name().depth());
+            shared.settings.gate.at(rt, self.number, point);
+            let (after, next) = self.run(rt, shared, pass, lease, wire);
+            pass = after;
+            match next {
+                Some(next) => taken = next,
+                None => return (pass, Turned::Ran),
+            }
+        }
+        unreachable!()
+    }
+
+    /// Runs a machine and hands it back, and goes on with it where it only made a talk. Answers what was taken in the turn in
+    /// which it came back: nothing, where this worker is to sleep. Where it cannot be run on, the world is stopped.
     fn run<R: Wait, W: Wire, G>(
         &mut self,
         rt: &R,
@@ -175,22 +254,73 @@ impl<'a> Worker<'a> {
         pass: Pass,
         lease: Lease,
         wire: &mut W,
-    ) -> Pass
+    ) -> (Pass, Option<Taken>)
         requires board { pass.board ≡ shared.now.board.now }
         requires one { HoldsOne pass lease }
         requires fit { IsFit shared.now.claims.now shared.now.depot.now self.old }
-        ensures worked { Worked runs free pass result }
-        ensures none { HoldsNone result }
+        ensures worked { Worked runs (stage_next result.1) pass result.0 }
+        ensures next { HasNext result.0 result.1 }
         ensures fit { IsFit shared.now.claims.now shared.now.depot.now self.new }
-        ensures wire { Blames W.streak wire.new pass result }
+        ensures wire { Blames W.streak wire.new pass result.0 }
         ensures seeds { W.seeds wire.new ≡ W.seeds wire.old }
     {
+        let mut pass = pass;
         let mut lease = lease;
-        let (pass, ran) = self.run_on(rt, shared, pass, &mut lease, wire);
-        match ran {
-            Ok(why) => spend(rt, shared, pass, lease, why),
-            Err(error) => give_up(rt, shared, pass, lease, stop_for(error)),
+        for _ in rt.forever() {
+            let (after, ran) = self.run_on(rt, shared, pass, &mut lease, wire);
+            let why = match ran {
+                Ok(why) => why,
+                Err(error) => {
+                    return (give_up(rt, shared, after, lease, stop_for(error)), None);
+                }
+            };
+            if self.is_relieved(&shared.lookout) {
+                return (spend(rt, shared, after, lease, why), None);
+            }
+            self.look(&shared.lookout);
+            let (after, swapped) = swap(rt, shared, after, lease, why);
+            match swapped {
+                Swapped::Goes(next, may_be_ready) => {
+                    self.stay(&shared.lookout, may_be_ready);
+                    pass = after;
+                    lease = next;
+                }
+                Swapped::Took(_, taken) => {
+                    self.go_on(&shared.lookout);
+                    return (after, Some(taken));
+                }
+                Swapped::Memory(kept) => {
+                    return (give_up(rt, shared, after, kept, Reason::Memory), None);
+                }
+            }
         }
+        unreachable!()
+    }
+}
+
+/// Makes the talk at which a machine stands and goes on with it, or makes its call or gives it back and takes another in the
+/// same turn.
+fn swap<R: Wait, G>(
+    rt: &R,
+    shared: &Shared<G>,
+    pass: Pass,
+    lease: Lease,
+    why: Stepped,
+) -> (Pass, Swapped)
+    requires board { pass.board ≡ shared.now.board.now }
+    requires one { HoldsOne pass lease }
+    requires stands { Stands (vm_of lease) why }
+    ensures worked { Worked runs (stage_swapped result.1) pass result.0 }
+    ensures holds { HasSwapped result.0 result.1 }
+    ensures spares { Spares pass result.0 }
+{
+    let (board, alloc, depot) = (shared.board, shared.alloc, shared.depot);
+    match why {
+        Stepped::Talk(what) => board.talk_on(rt, alloc, pass, lease, what, depot),
+        Stepped::Call(Call::Clone(_)) => board.fork_and_take(rt, alloc, pass, lease, depot),
+        Stepped::Call(Call::Join(_)) => board.join_and_take(rt, alloc, pass, lease, depot),
+        Stepped::Call(Call::Kill(_)) => board.kill_and_take(rt, alloc, pass, lease, depot),
+        _ => board.give_and_take(rt, alloc, pass, lease, depot),
     }
 }
 

@@ -1,5 +1,5 @@
 -- Instructions that are kept in slots, by the place of their words.
-use Rattle.std.specs.Prelude.{◌≡◌, ◌≢◌, ℕ, ◌+◌, ◌-◌, ◌*◌, ◌/◌, List, length, slice_index_or, Option, None, Some}
+use Rattle.std.specs.Prelude.{◌≡◌, ◌≢◌, ◌⊎◌, ℕ, ◌+◌, ◌-◌, ◌*◌, ◌/◌, List, length, slice_index_or, Option, None, Some}
 use Rattle.std.specs.Int.Bits.{bit_and}
 use Rattle.rv_decode.specs.Instruction.{Instruction}
 use Rattle.instruction_slots.specs.declared.slot.TheConstants.{NOWHERE}
@@ -33,3 +33,12 @@ pub record Forgets (number : ℕ) (old new : List KeptInstruction) : Type 0 wher
 abbrev pub ForgetsAt : Option ℕ → List KeptInstruction → List KeptInstruction → Type 0
 ForgetsAt None old new = new ≡ old
 ForgetsAt (Some address) old new = Forgets (slot_of address (length old)) old new
+
+-- a slot keeps what it kept, or another instruction at no place
+abbrev pub IsLearnt : KeptInstruction → KeptInstruction → Type 0
+IsLearnt old new = (new ≡ old) ⊎ (new.place ≡ NOWHERE)
+
+-- so does each
+pub record Learns (old new : List KeptInstruction) : Type 0 where
+  pub same_length : length new ≡ length old
+  pub each : (k : ℕ) (d : KeptInstruction) → IsLearnt (slice_index_or old k d) (slice_index_or new k d)

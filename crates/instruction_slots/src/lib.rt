@@ -5,4 +5,4 @@ mod fields;
 mod slot;
 
 pub use fields::Fields;
-pub use slot::{NOWHERE, Slot, decode_by, forget, slot_of};
+pub use slot::{NOWHERE, Slot, forget, slot_of, slot_with};

@@ -1,8 +1,9 @@
 //! What is kept of an instruction, and by which number it is found.
 
-ghost use Rattle.std.specs.Prelude.{◌≡◌, ◌<◌, ◌↔◌, IsTrue, Some, length};
+ghost use Rattle.std.specs.Prelude.{◌≡◌, ◌<◌, ◌↔◌, IfSome, IsTrue, MatchBool, MatchOption, None, Some, length};
+ghost use Rattle.std.specs.List.{HoldsAt};
 ghost use Rattle.rv_decode.specs.Table.{decoded};
-ghost use Rattle.instruction_slots.specs.Slots.{Forgets, kept_by, place_of, slot_of};
+ghost use Rattle.instruction_slots.specs.Slots.{Forgets, IsLearnt, Learns, kept_by, place_of, slot_of};
 
 use crate::fields::Fields;
 use rv_decode::decode;
@@ -53,10 +54,19 @@ impl Slot {
         let Some(instr) = decode(NOP) else {
             unreachable!()
         };
+        Slot::nowhere(NOP, Fields::of(instr))
+    }
+
+    /// A slot that keeps nothing, and has a word with what it encodes.
+    #[inline(always)]
+    fn nowhere(word: u32, instr: Fields) -> Slot
+        requires { decoded word ≡ Some instr }
+        ensures { result ≡ record { place = NOWHERE; word = word; instr = instr } }
+    {
         Slot {
             place: NOWHERE,
-            word: NOP,
-            instr: Fields::of(instr),
+            word,
+            instr,
         }
     }
 
@@ -103,6 +113,33 @@ impl Slot {
         decode_anew(word)
     }
 
+    /// Has a word from then on, at no place where it had another, and answers that it encodes an instruction. Where it
+    /// encodes none the slot stays.
+    #[inline(always)]
+    fn learn(&mut self, word: u32) -> bool
+        ensures learnt { IsLearnt self.old self.new }
+        ensures says { MatchBool result (decoded word ≡ Some self.new.instr) (decoded word ≡ None) }
+    {
+        if self.word != word {
+            return self.learn_anew(word);
+        }
+        true
+    }
+
+    /// The same of another word.
+    #[cold]
+    #[inline(never)]
+    fn learn_anew(&mut self, word: u32) -> bool
+        ensures learnt { IsLearnt self.old self.new }
+        ensures says { MatchBool result (decoded word ≡ Some self.new.instr) (decoded word ≡ None) }
+    {
+        let Some(instr) = decode_anew(word) else {
+            return false;
+        };
+        *self = Slot::nowhere(word, instr);
+        true
+    }
+
     /// Keeps nothing more.
     #[inline(always)]
     fn clear(&mut self)
@@ -123,16 +160,21 @@ fn decode_anew(word: u32) -> Option<Fields>
     }
 }
 
-/// The instruction that a word at an address encodes, or `None` where it encodes none. It is known where the slot of the
-/// address, if there are slots, has the word, wherever that was.
+/// The number of the slot of an address, which has a word there and what it encodes from then on, or `None` where it encodes
+/// none. It is not decoded where the slot has it, wherever that was.
 #[inline(always)]
-pub fn decode_by(slots: &[Slot], address: u32, word: u32) -> Option<Fields>
-    ensures { result ≡ decoded word }
+pub fn slot_with(slots: &mut [Slot], address: u32, word: u32) -> Option<usize>
+    requires { 0 < length slots.old }
+    ensures learns { Learns slots.old slots.new }
+    ensures inside { IfSome result (λ number. number < length slots.new) }
+    ensures says { MatchOption result (decoded word ≡ None) (HoldsAt (λ slot. decoded word ≡ Some slot.instr) slots.new) }
 {
-    if slots.is_empty() {
-        return decode_anew(word);
+    let number = slot_of(address, slots.len());
+    if slots[number].learn(word) {
+        Some(number)
+    } else {
+        None
     }
-    slots[slot_of(address, slots.len())].decode(word)
 }
 
 /// Forgets what is kept of the word that has the byte at an address.

@@ -1,5 +1,5 @@
 -- Paths are compared from their last forks back.
-use Rattle.std.proofs.Common.{◌≡◌, ℕ, ◌+◌, ◌-◌, ◌<◌, ◌≤◌, true, false, refl, sym, ap, ap₂, ◌∙◌, [], ◌∷◌, ◌++◌, length, reverse, take, drop, get_or, length-drop, length-take, take-add, arith}
+use Rattle.std.proofs.Common.{◌≡◌, ℕ, ◌+◌, ◌-◌, ◌<◌, ◌≤◌, true, false, refl, sym, ap, ap₂, ◌∙◌, [], ◌∷◌, ◌++◌, length, reverse, take, drop, get_or, length-drop, length-take, subst, take-add, arith}
 use Rattle.std.specs.declared.cmp.Ordering.{Ordering}
 use Rattle.std.specs.declared.cmp.Ordering.TheVariants.{Less, Equal, Greater}
 use Rattle.std.specs.Ordering.{is_ne, ordering_then}
@@ -51,6 +51,15 @@ one-back left right rest x y l r x-is y-is =
     ap₂ back_cmp (take_more left rest x l ∙ ap (λ e. take rest left ++ e ∷ []) (sym x-is)) (take_more right rest y r ∙ ap (λ e. take rest right ++ e ∷ []) (sym y-is))
     ∙ back-parts (take rest left) (take rest right) (x ∷ []) (y ∷ []) refl
     ∙ ap (λ o. ordering_then o (back_cmp (take rest left) (take rest right))) (then-equal (branch_cmp x y))
+
+-- the last fork of each
+pub by-last : (left right : Path) (count : ℕ) (x y : Branch) → 0 < count → count ≤ length left → count ≤ length right
+    → x ≡ get_or left (count - 1) x → y ≡ get_or right (count - 1) y
+    → back_cmp (take count left) (take count right) ≡ ordering_then (branch_cmp x y) (back_cmp (take (count - 1) left) (take (count - 1) right))
+by-last left right count x y some l r x-is y-is =
+    let whole : count - 1 + 1 ≡ count = omega arith in
+    subst (λ n. back_cmp (take n left) (take n right) ≡ ordering_then (branch_cmp x y) (back_cmp (take (count - 1) left) (take (count - 1) right))) whole
+    (one-back left right (count - 1) x y (omega arith) (omega arith) x-is y-is)
 
 -- a run of each, from one place up to another
 pub run-back : (left right ours theirs : Path) (begin rest : ℕ) → begin ≤ rest → rest ≤ length left → rest ≤ length right

@@ -4,8 +4,8 @@ use Rattle.std.specs.Ordering.{is_ne, nat_cmp, ordering_then}
 use Rattle.std.proofs.lemmas.List.{take_more}
 use Rattle.forest_tree.specs.Tree.{Branch, Path, beyond}
 use Rattle.machine_names.specs.Name.{next_of}
-use Rattle.machine_names.specs.NameOrder.{back_cmp, path_cmp}
-use Rattle.machine_names.proofs.Back.{decided, undecided}
+use Rattle.machine_names.specs.NameOrder.{back_cmp, branch_cmp, path_cmp}
+use Rattle.machine_names.proofs.Back.{by-last, decided, undecided}
 use Rattle.machine_names.proofs.Below.{next-apart, next-short, next-there}
 use Rattle.machine_names.proofs.NameMaps.{back-same, same-number}
 
@@ -50,10 +50,18 @@ module _ (list path : Path) (depth : ℕ) (fits : depth ≤ length list) (is : t
     unfolding path_cmp
     cmp-apart apart = decided (nat_cmp depth depth-way) (back_cmp path way) apart ∙ ap (λ o. ordering_then o (back_cmp path way)) by-depth
 
-    pub cmp-alike : is_ne (nat_cmp depth depth-way) ≡ false → back_cmp (take depth list) (take depth other) ≡ path_cmp path way
+    -- both have as many forks
+    pub as-deep : is_ne (nat_cmp depth depth-way) ≡ false → length path ≡ length way
+    as-deep alike = deep ∙ same-number depth depth-way (undecided (nat_cmp depth depth-way) alike) ∙ sym long
+
+    pub cmp-alike : is_ne (nat_cmp depth depth-way) ≡ false → back_cmp path way ≡ path_cmp path way
     unfolding path_cmp
-    cmp-alike alike =
-        let equal = undecided (nat_cmp depth depth-way) alike in
-        let same : depth ≡ depth-way = same-number depth depth-way equal in
-        ap₂ back_cmp is (ap (λ n. take n other) same ∙ is-way)
-        ∙ ap (λ o. ordering_then o (back_cmp path way)) (sym equal ∙ by-depth)
+    cmp-alike alike = ap (λ o. ordering_then o (back_cmp path way)) (sym (undecided (nat_cmp depth depth-way) alike) ∙ by-depth)
+
+    -- by the last fork of each, and then by those before it
+    pub cmp-last : (x y : Branch) → length path ≡ length way → 0 < depth → x ≡ get_or list (depth - 1) x → (0 < depth-way → y ≡ get_or other (depth-way - 1) y)
+        → back_cmp path way ≡ ordering_then (branch_cmp x y) (back_cmp (take (depth - 1) list) (take (depth - 1) other))
+    cmp-last x y as_long some x-is y-is =
+        let same : depth-way ≡ depth = sym long ∙ sym as_long ∙ deep in
+        ap₂ back_cmp (sym is) (sym is-way ∙ ap (λ n. take n other) same)
+        ∙ by-last list other depth x y some fits (omega (arith, fits-way, same)) x-is (y-is (omega (arith, same)) ∙ ap (λ n. get_or other (n - 1) y) same)

@@ -182,18 +182,21 @@ pub struct Name {
     branches: Arc<Forks>,
     /// How many of them are of this name.
     depth: usize,
+    /// The last of these, if there is one. It decides most comparisons, which look at no row then.
+    last: Branch,
 }
 
 impl Model for Name {
-    ghost use Rattle.std.specs.Prelude.{◌≤◌, length, take};
+    ghost use Rattle.std.specs.Prelude.{take};
     ghost use Rattle.std.specs.Arc.{arc_value};
     ghost use Rattle.forest_tree.specs.Tree.{Path};
+    ghost use Rattle.machine_names.specs.Forks.{IsNamed};
 
     ghost Value = { Path };
 
     ghost view = { λ n. take n.depth (arc_value n.branches) };
 
-    ghost invariant = { λ n. n.depth ≤ length (arc_value n.branches) };
+    ghost invariant = { λ n. IsNamed n.depth n.last (arc_value n.branches) };
 }
 
 impl Name {
@@ -216,9 +219,11 @@ impl Name {
         ensures { IfOk result (λ name. name ≡ branches) }
     {
         let depth = branches.len();
+        let last = branches.last_of(depth);
         Ok(Name {
             branches: Arc::new(alloc, branches)?,
             depth,
+            last,
         })
     }
 
@@ -238,6 +243,7 @@ impl Name {
         Ok(Name {
             branches: Arc::try_clone(&self.branches)?,
             depth: self.depth,
+            last: self.last,
         })
     }
 
@@ -273,8 +279,9 @@ impl Name {
         if self.depth == 0 {
             return None;
         }
-        let last = *self.branches.get(self.depth - 1);
+        let last = self.last;
         self.depth -= 1;
+        self.last = self.branches.last_of(self.depth);
         Some((last.ticket, last.child))
     }
 
@@ -285,8 +292,7 @@ impl Name {
         if self.depth == 0 {
             return None;
         }
-        let last = *self.branches.get(self.depth - 1);
-        Some((last.ticket, last.child))
+        Some((self.last.ticket, self.last.child))
     }
 
     /// Whether this name goes on from another by a child of a ticket.
@@ -318,6 +324,23 @@ impl Name {
         }
         Some(*self.branches.get(name.depth))
     }
+
+    /// How it compares with a name of as many forks, from the last of them back.
+    #[inline]
+    fn cmp_as_deep(&self, other: &Name) -> Ordering
+        requires { length self.now ≡ length other.now }
+        ensures { result ≡ back_cmp self.now other.now }
+    {
+        if self.depth == 0 {
+            return Ordering::Equal;
+        }
+        // Siblings differ in the last.
+        let order = self.last.cmp(&other.last);
+        if order.is_ne() {
+            return order;
+        }
+        cmp_back(&self.branches, &other.branches, self.depth - 1)
+    }
 }
 
 /// Puts out the first forks of a list in text, one after another.
@@ -339,6 +362,7 @@ fn put_first<K: Sink>(
 }
 
 /// How the first forks of two lists compare, as many as `count` tells, from the last of them back.
+#[inline(never)]
 fn cmp_back(left: &Forks, right: &Forks, count: usize) -> Ordering
     requires left { count ≤ length left.now }
     requires right { count ≤ length right.now }
@@ -450,7 +474,7 @@ impl Ord for Name {
         if order.is_ne() {
             return order;
         }
-        cmp_back(&self.branches, &other.branches, self.depth)
+        self.cmp_as_deep(other)
     }
 }
 

@@ -23,7 +23,7 @@ line_of (Ticket t) = line_of_ticket t
 abbrev pub piece_text : Piece → List ℕ
 piece_text (Text bytes) = bytes.now
 piece_text (Named name) = name_text name.now
-piece_text (Ended ending) = end_text ending
-piece_text (HandedOver ending) = handed_text ending
+piece_text (Ended ending) = end_text ending.now
+piece_text (HandedOver ending) = handed_text ending.now
 piece_text (Number n) = decimal n
 piece_text (Sum n) = decimal n

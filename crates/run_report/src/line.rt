@@ -44,12 +44,12 @@ impl MachineLine {
             Piece::Text(b"machine "),
             Piece::Named(&self.name),
             Piece::Text(b" "),
-            Piece::Ended(self.ending),
+            Piece::Ended(&self.ending),
             Piece::Text(b" steps "),
             Piece::Number(self.steps),
             Piece::Text(b" out "),
             Piece::Number(self.output.len() as u64),
-            Piece::HandedOver(self.ending),
+            Piece::HandedOver(&self.ending),
             Piece::Text(b"\n"),
             Piece::Text(&self.output),
             Piece::Text(b"\n"),
@@ -166,8 +166,8 @@ impl Line {
 pub(crate) enum Piece<'a> {
     Text(&'a [u8]),
     Named(&'a Name),
-    Ended(Option<Ending>),
-    HandedOver(Option<Ending>),
+    Ended(&'a Option<Ending>),
+    HandedOver(&'a Option<Ending>),
     Number(u64),
     Sum(u128),
 }
@@ -182,8 +182,8 @@ impl Piece<'_> {
         match self {
             Piece::Text(text) => buffer.put(sink, text),
             Piece::Named(name) => name.put(buffer, sink),
-            Piece::Ended(ending) => put_end(*ending, buffer, sink),
-            Piece::HandedOver(ending) => put_handed(*ending, buffer, sink),
+            Piece::Ended(ending) => put_end(ending, buffer, sink),
+            Piece::HandedOver(ending) => put_handed(ending, buffer, sink),
             Piece::Number(number) => buffer.put_number(sink, *number),
             Piece::Sum(sum) => buffer.put(sink, itoa::Buffer::new().format(*sum).as_bytes()),
         }
@@ -208,13 +208,13 @@ pub(crate) fn put_pieces<K: Sink>(
 
 /// Puts out how a machine came to its end, in words.
 fn put_end<K: Sink>(
-    ending: Option<Ending>,
+    ending: &Option<Ending>,
     buffer: &mut SinkBuffer,
     sink: &mut K,
 ) -> Result<(), WriteFault>
     ensures counts { K.faults sink.old ≤ K.faults sink.new }
     ensures fault { OnErr result (HasRisen (K.faults sink.old) (K.faults sink.new)) }
-    ensures streams { Streams (K.gone sink.old) (K.gone sink.new) buffer.old (end_text ending) buffer.new result }
+    ensures streams { Streams (K.gone sink.old) (K.gone sink.new) buffer.old (end_text ending.now) buffer.new result }
 {
     match ending {
         Some(ending) => put_ending(ending, buffer, sink),
@@ -224,18 +224,18 @@ fn put_end<K: Sink>(
 
 /// Puts out how a machine ended, in words.
 fn put_ending<K: Sink>(
-    ending: Ending,
+    ending: &Ending,
     buffer: &mut SinkBuffer,
     sink: &mut K,
 ) -> Result<(), WriteFault>
     ensures counts { K.faults sink.old ≤ K.faults sink.new }
     ensures fault { OnErr result (HasRisen (K.faults sink.old) (K.faults sink.new)) }
-    ensures streams { Streams (K.gone sink.old) (K.gone sink.new) buffer.old (ending_text ending) buffer.new result }
+    ensures streams { Streams (K.gone sink.old) (K.gone sink.new) buffer.old (ending_text ending.now) buffer.new result }
 {
     match ending {
         Ending::Exit(value, _) => {
             buffer.put(sink, b"exit ")?;
-            buffer.put_number(sink, value as u64)
+            buffer.put_number(sink, *value as u64)
         }
         Ending::Limit => buffer.put(sink, b"limit"),
     }
@@ -243,13 +243,13 @@ fn put_ending<K: Sink>(
 
 /// Puts out the bytes that a machine handed over, if there are any.
 fn put_handed<K: Sink>(
-    ending: Option<Ending>,
+    ending: &Option<Ending>,
     buffer: &mut SinkBuffer,
     sink: &mut K,
 ) -> Result<(), WriteFault>
     ensures counts { K.faults sink.old ≤ K.faults sink.new }
     ensures fault { OnErr result (HasRisen (K.faults sink.old) (K.faults sink.new)) }
-    ensures streams { Streams (K.gone sink.old) (K.gone sink.new) buffer.old (handed_text ending) buffer.new result }
+    ensures streams { Streams (K.gone sink.old) (K.gone sink.new) buffer.old (handed_text ending.now) buffer.new result }
 {
     match ending {
         Some(Ending::Exit(_, handed)) => put_bytes(handed.as_slice(), buffer, sink),

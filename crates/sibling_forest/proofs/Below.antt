@@ -1,13 +1,12 @@
 -- A step of a machine, and a change of one of its broods.
 use Rattle.std.proofs.Common.{◌≡◌, ℕ, not, eqb, eqb-true, Bool, true, false, cond, refl, sym, ap, ap₂, ◌∙◌, subst, Option, Some, None}
 use Rattle.forest_tree.specs.Operations.{Call, clone, join, kill, Operations, is_cloned, Makes, IsMachine}
-use Rattle.forest_tree.specs.Tree.{Tree, node, Trees, no_tree, Broods, brood, Log, joined, killed, broods_of, brood_of, without, at_brood}
-use Rattle.forest_tree.specs.Settle.{have_ended, endings, children, settled_by, settled, waits_by, join_by, step_by, step}
+use Rattle.forest_tree.specs.Tree.{Tree, node, Trees, no_tree, Broods, brood, Log, joined, killed, broods_of, brood_of, without, at_brood, with_broods}
+use Rattle.forest_tree.specs.Step.{have_ended, endings, children, settled_by, settled, waits_by, join_by, step_by, step}
 use Rattle.forest_tree.specs.Sound.{IsSound}
-use Rattle.forest_tree.specs.Finish.{with_broods}
 use Rattle.forest_tree.proofs.Broods.{one_if, eqb-sym}
-use Rattle.forest_tree.proofs.Settle.{root-sound, clone-is-new}
-use Rattle.forest_tree.proofs.Run.{step-lives}
+use Rattle.forest_tree.proofs.Sound.{root-sound, clone-is-new}
+use Rattle.forest_tree.proofs.Steps.{step-lives}
 use Rattle.forest_tree.proofs.Places.{brood_of-at, brood_of-without, brood_of-none}
 use Rattle.sibling_forest.proofs.Families.{without-at, without-gone}
 

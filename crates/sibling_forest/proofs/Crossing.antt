@@ -1,7 +1,6 @@
 -- Two changes that commute, or of which one drops what the other changes; and both of a part of something.
 use Rattle.std.proofs.Common.{◌≡◌, ℕ, ◌≤◌, eqb, Bool, false, cond, sym, ap, ◌∙◌, subst, Some, None, option_map, option_and_then}
-use Rattle.forest_tree.specs.Tree.{Tree, node, Trees, no_tree, Broods, Log, broods_of, at_child, child_at, brood_of, at_brood, broods_with, Path, subtree}
-use Rattle.forest_tree.specs.Finish.{with_broods}
+use Rattle.forest_tree.specs.Tree.{Tree, node, Trees, no_tree, Broods, Log, broods_of, at_child, child_at, brood_of, at_brood, broods_with, Path, subtree, with_broods}
 use Rattle.forest_tree.proofs.Broods.{eqb-same, eqb-sym}
 use Rattle.forest_tree.proofs.Places.{some-same, brood_of-at, child_at-same}
 use Rattle.sibling_forest.specs.Settle.{rests_there}

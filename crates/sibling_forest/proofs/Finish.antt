@@ -1,14 +1,14 @@
 -- A tree run to its end, in whatever order steps are made.
-use Rattle.std.proofs.Common.{◌≡◌, ◌≢◌, ℕ, zero, suc, ◌<◌, ◌≤◌, eqb, eqb-true, ◌⊎◌, inl, inr, Bool, true, false, not, refl}
-use Rattle.std.proofs.Common.{sym, ap, ap₂, ◌∙◌, subst, arith, le_refl, List, [], ◌∷◌, Option, Some, None, IsSome, is_some}
+use Rattle.std.proofs.Common.{◌≡◌, ◌≢◌, ℕ, zero, suc, ◌<◌, ◌≤◌, eqb, eqb-true, ◌⊎◌, inl, inr, Bool, true, false, not, refl, sym, ap, ap₂, ◌∙◌, subst, arith, le_refl, List, [], ◌∷◌, Option, Some, None}
+use Rattle.std.proofs.Common.{IsSome, is_some}
 use Rattle.std.proofs.lemmas.Bool.{eqb-false}
 use Rattle.forest_tree.specs.Operations.{Operations, IsMachine}
 use Rattle.forest_tree.specs.Tree.{Tree, machine, Branch, Path}
-use Rattle.forest_tree.specs.Settle.{has_ended}
+use Rattle.forest_tree.specs.Step.{has_ended}
 use Rattle.forest_tree.specs.Sound.{IsSound}
-use Rattle.forest_tree.proofs.Settle.{KeepsTo}
+use Rattle.forest_tree.specs.Ahead.{ahead}
+use Rattle.forest_tree.proofs.Sound.{KeepsTo}
 use Rattle.sibling_forest.specs.Talk.{Talks, Box, boxed, IsTalking}
-use Rattle.sibling_forest.specs.Fuel.{fuel_of}
 use Rattle.sibling_forest.specs.Settle.{settle, settle_all, rests_at}
 use Rattle.sibling_forest.specs.Finish.{first_path, rests, next_by, next_path, go_on, run, finish, IsFinish}
 use Rattle.sibling_forest.specs.Laws.{Meet, commute, drops, dropped}
@@ -49,7 +49,7 @@ same-path (b ∷ p) (d ∷ q) = by (eqb b.ticket d.ticket) refl (eqb b.child d.c
 
 module _ {M E : Type 0} (o : Operations M E) (k : Talks M) (rules : IsMachine o) (talking : IsTalking o k) where
   abbrev left : Tree (Box M) → ℕ
-  left t = fuel_of (boxed o k) t
+  left t = ahead (boxed o k) t
 
   -- as many steps as are ahead are enough
   run-zero : (n : ℕ) (t : Tree (Box M)) → next_path o k t ≡ None → run o k n t ≡ t
@@ -219,6 +219,10 @@ module _ {M E : Type 0} (o : Operations M E) (k : Talks M) (rules : IsMachine o)
   -- two orders that come to an end come to one tree
   pub settle_all-over : (paths : List Path) (t : Tree (Box M)) → IsSound (boxed o k) t → IsOver (settle_all o k paths t) → settle_all o k paths t ≡ finish o k t
   settle_all-over paths t h over = sym (finish-over (settle_all o k paths t) over) ∙ finish-settle_all paths t h
+
+  pub settle_all-agree : (one other : List Path) (t : Tree (Box M)) → IsSound (boxed o k) t → IsOver (settle_all o k one t) → IsOver (settle_all o k other t)
+      → settle_all o k one t ≡ settle_all o k other t
+  settle_all-agree one other t h first second = settle_all-over one t h first ∙ sym (settle_all-over other t h second)
 
   -- the finish meets its equations, and no other function does
   first-next : (t : Tree (Box M)) (path : Path) → o.ending (machine t).machine ≡ None → first_path o k t ≡ Some path → next_path o k t ≡ Some path

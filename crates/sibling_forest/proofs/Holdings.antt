@@ -3,10 +3,9 @@ use Rattle.std.proofs.Common.{◌≡◌, ℕ, eqb, eqb-true, Bool, true, false, 
 use Rattle.std.proofs.lemmas.Bool.{eqb-false}
 use Rattle.forest_tree.specs.Operations.{Operations, IsMachine}
 use Rattle.forest_tree.specs.Tree.{Tree, node, Trees, Broods, Log, machine, at_child, child_at, brood_of, Branch, Path, subtree}
-use Rattle.forest_tree.specs.Settle as former
-use Rattle.forest_tree.specs.Settle.{step}
+use Rattle.forest_tree.specs.Step.{step}
 use Rattle.forest_tree.specs.Sound.{IsSound}
-use Rattle.forest_tree.proofs.Places.{some-same, brood_of-at, child_at-same, child_at-other, below-at, settle-holding}
+use Rattle.forest_tree.proofs.Places.{some-same, brood_of-at, child_at-same, child_at-other, below-at, step-holding}
 use Rattle.sibling_forest.specs.Talk.{Talk, Talks, Box, boxed, IsTalking}
 use Rattle.sibling_forest.specs.Settle.{sibling_rests, sibling_step, sibling_step_by, settle}
 use Rattle.sibling_forest.proofs.Boxes.{boxed-machine}
@@ -19,8 +18,8 @@ module _ {M E : Type 0} (o : Operations M E) (k : Talks M) (rules : IsMachine o)
   holds t = o.holding (machine t).machine
 
   own-holds : (at : Path) (t a b : Tree (Box M)) → IsSound (boxed o k) t → subtree at t ≡ Some a → subtree at (step (boxed o k) t) ≡ Some b → holds b ≡ holds a
-  unfolding former.settle boxed
-  own-holds at t a b sound here there = settle-holding (boxed o k) (boxed-machine o k rules talking) at [] t sound a b here there
+  unfolding boxed
+  own-holds at t a b sound here there = step-holding (boxed o k) (boxed-machine o k rules talking) at t sound a b here there
 
   -- a tree in the child that came of another
   abbrev Holds : Path → Tree (Box M) → Option (Tree (Box M)) → Type 0

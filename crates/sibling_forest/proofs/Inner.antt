@@ -2,11 +2,10 @@
 use Rattle.std.proofs.Common.{◌≡◌, ℕ, zero, suc, Bool, true, ◌&&◌, refl, sym, ap, ◌∙◌, [], ◌∷◌, Option, Some, None, IsSome, is_some, option_map, option_and_then}
 use Rattle.std.proofs.lemmas.Bool.{and_parts, or_left}
 use Rattle.forest_tree.specs.Operations.{Operations}
-use Rattle.forest_tree.specs.Tree.{Tree, node, Trees, no_tree, tree, Broods, no_brood, machine, broods_of, at_child, child_at, brood_of, at_brood, Branch, Path, subtree}
-use Rattle.forest_tree.specs.Settle.{has_ended, have_ended, waits}
+use Rattle.forest_tree.specs.Tree.{Tree, node, Trees, no_tree, tree, Broods, no_brood, machine, broods_of, at_child, child_at, brood_of, at_brood, Branch, Path, subtree, with_broods}
+use Rattle.forest_tree.specs.Step.{has_ended, have_ended, waits}
 use Rattle.forest_tree.specs.Sound.{IsSound}
-use Rattle.forest_tree.specs.Finish.{with_broods}
-use Rattle.forest_tree.proofs.Settle.{root-sound}
+use Rattle.forest_tree.proofs.Sound.{root-sound}
 use Rattle.forest_tree.proofs.Places.{some-same}
 use Rattle.sibling_forest.specs.Talk.{Talk, send, receive, Talks, queue, Box, boxed}
 use Rattle.sibling_forest.specs.Settle.{is_empty, box_at, lives_there, is_full_there, waits_by, sibling_rests, sibling_rests_by, sibling_step, settle, rests_there, rests_at}

@@ -9,10 +9,8 @@ pub mod Sound
 pub mod Crossing
 pub mod Meets
 pub mod Resting
-pub mod Fuel
 pub mod Falls
 pub mod Finish
-pub mod Former
 pub mod Members
 pub mod Others
 pub mod Wakes

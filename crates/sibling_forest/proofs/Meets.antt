@@ -2,14 +2,13 @@
 use Rattle.std.proofs.Common.{◌≡◌, ◌≢◌, ℕ, eqb, eqb-true, Bool, true, false, refl, sym, ap, ap₂, ◌∙◌, subst, [], ◌∷◌, Option, Some, None, option_map, option_and_then}
 use Rattle.std.proofs.lemmas.Bool.{eqb-false, or_from}
 use Rattle.forest_tree.specs.Operations.{Operations, IsMachine}
-use Rattle.forest_tree.specs.Tree.{Tree, node, Trees, no_tree, Broods, Log, machine, broods_of, at_child, child_at, brood_of, at_brood, Branch, Path, subtree}
-use Rattle.forest_tree.specs.Settle.{step}
+use Rattle.forest_tree.specs.Tree.{Tree, node, Trees, no_tree, Broods, Log, machine, broods_of, at_child, child_at, brood_of, at_brood, Branch, Path, subtree, with_broods}
+use Rattle.forest_tree.specs.Step.{step}
 use Rattle.forest_tree.specs.Sound.{IsSound}
-use Rattle.forest_tree.specs.Finish.{with_broods}
 use Rattle.forest_tree.proofs.Places.{some-same, child_at-same, child_at-other, below-at}
 use Rattle.forest_tree.proofs.Rests.{one-brood}
 use Rattle.sibling_forest.specs.Talk.{Talks, Box, boxed, IsTalking}
-use Rattle.sibling_forest.specs.Settle.{box_at, sibling_rests, sibling_rests_by, sibling_step, settle, rests_there, rests_at}
+use Rattle.sibling_forest.specs.Settle.{sibling_rests, sibling_rests_by, sibling_step, settle, rests_there, rests_at}
 use Rattle.sibling_forest.specs.Settle as told
 use Rattle.sibling_forest.specs.Laws.{Meet, commute, drops, dropped}
 use Rattle.sibling_forest.proofs.Boxes.{boxed-machine}

@@ -1,14 +1,14 @@
 -- A step keeps the queues of each brood: one for each ordered pair of its members, of at most 8 words, and none to one that has ended.
-use Rattle.std.proofs.Common.{◌≡◌, ◌≢◌, ℕ, zero, suc, ◌+◌, ◌<◌, ◌≤◌, Bool, true, false, cond, eqb, not, ◌&&◌, refl, sym, ap, ◌∙◌, subst, arith}
-use Rattle.std.proofs.Common.{List, [], ◌∷◌, length, length-append, replicate, Option, Some, None, IsSome, is_some, option_map, inl, inr}
+use Rattle.std.proofs.Common.{◌≡◌, ◌≢◌, ℕ, zero, suc, ◌+◌, ◌<◌, ◌≤◌, Bool, true, false, cond, eqb, not, ◌&&◌, refl, sym, ap, ◌∙◌, subst, arith, List, [], ◌∷◌, length, length-append, replicate, Option}
+use Rattle.std.proofs.Common.{Some, None, IsSome, is_some, option_map, inl, inr}
 use Rattle.std.proofs.lemmas.Bool.{leb-false}
 use Rattle.forest_tree.specs.Operations.{Call, clone, join, kill, Grant, Operations, Makes, IsMachine}
 use Rattle.forest_tree.specs.Tree.{Tree, node, Trees, no_tree, tree, Broods, no_brood, brood, Log, joined, killed, machine, size, at_child, child_at, brood_of, without, at_brood, Path}
-use Rattle.forest_tree.specs.Settle.{have_ended, endings, alone, children_from, children, settled_by, settled, join_by, step_by, step}
+use Rattle.forest_tree.specs.Step.{have_ended, endings, alone, children_from, children, settled_by, settled, join_by, step_by, step}
 use Rattle.forest_tree.specs.Sound.{IsSound, AreSound, Hold}
 use Rattle.forest_tree.proofs.Broods.{size-at_child}
-use Rattle.forest_tree.proofs.Settle.{root-sound, below-sound, machine-settled, size-children_from, start-sound}
-use Rattle.forest_tree.proofs.Run.{cases-ending, step-ended, step-lives}
+use Rattle.forest_tree.proofs.Sound.{root-sound, below-sound, machine-settled, size-children_from, start-sound}
+use Rattle.forest_tree.proofs.Steps.{cases-ending, step-ended, step-lives}
 use Rattle.forest_tree.proofs.Places.{some-same, child_at-other}
 use Rattle.sibling_forest.specs.Talk.{Talk, send, receive, Talks, Inbox, queue, at_queue, emptied, first_taken, Box, kept_by, after, after_receive, advance_by, born_by, boxed, HasNumberOf, IsTalking}
 use Rattle.sibling_forest.specs.Settle.{with_word, is_full, lives_there, is_full_there, waits_by, heard_by, delivered, sibling_rests, sibling_rests_by, sibling_step_by, sibling_step, settle}

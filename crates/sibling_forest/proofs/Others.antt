@@ -3,7 +3,7 @@ use Rattle.std.proofs.Common.{◌≡◌, ◌≢◌, ℕ, eqb, eqb-true, eq-eqb, 
 use Rattle.std.proofs.lemmas.Bool.{eqb-false}
 use Rattle.forest_tree.specs.Operations.{Operations}
 use Rattle.forest_tree.specs.Tree.{Tree, node, Trees, machine, at_child, child_at, brood_of, at_brood, Branch, Path, subtree, beyond, goes_on, is_below}
-use Rattle.forest_tree.specs.Settle.{step}
+use Rattle.forest_tree.specs.Step.{step}
 use Rattle.forest_tree.proofs.Places.{some-same, brood_of-at, child_at-same, child_at-other}
 use Rattle.sibling_forest.specs.Talk.{Talk, send, receive, peer, Talks, queue, Box, boxed}
 use Rattle.sibling_forest.specs.Settle.{with_word, sibling_rests, sibling_step, sibling_step_by, settle, heard_by, rests_there, rests_at}

@@ -1,64 +1,23 @@
 -- Machines with more inside, seen as machines with less: their steps and ends are those of what is seen.
-use Rattle.std.proofs.Common.{◌≡◌, ℕ, zero, suc, ◌+◌, eqb, Bool, true, false, cond, not, ◌&&◌, ◌||◌, refl, ap, ap₂, ◌∙◌, List, [], ◌∷◌, ◌++◌, map, replicate, Option, Some, None, is_some, option_map}
+use Rattle.std.proofs.Common.{◌≡◌, ℕ, zero, suc, ◌+◌, Bool, true, false, not, ◌&&◌, ◌||◌, refl, ap, ap₂, ◌∙◌, List, [], ◌∷◌, ◌++◌, map, replicate, Option, Some, None, is_some, option_map}
 use Rattle.forest_tree.specs.Operations.{Call, clone, join, kill, Grant, Operations}
-use Rattle.forest_tree.specs.Tree.{Tree, node, Trees, no_tree, tree, Broods, no_brood, brood, machine, broods_of, at_child, child_at, brood_of, at_brood, Path}
-use Rattle.forest_tree.specs.Settle as former
-use Rattle.forest_tree.specs.Settle.{has_ended, have_ended, step}
-use Rattle.forest_tree.specs.Finish.{with_broods}
+use Rattle.forest_tree.specs.Tree.{Tree, node, Trees, no_tree, tree, Broods, no_brood, brood, machine, broods_of, at_child, child_at, brood_of, at_brood, Path, with_broods}
+use Rattle.forest_tree.specs.Step as own
+use Rattle.forest_tree.specs.Step.{have_ended, step}
+use Rattle.forest_tree.specs.Ahead.{most_ahead, own_weight, weigh, weigh_trees, weigh_broods, ahead}
 use Rattle.forest_tree.specs.Projection.{map_tree, map_trees, map_broods, map_log, Projects}
-use Rattle.forest_tree.proofs.Projected.{step-map}
+use Rattle.forest_tree.proofs.Projected.{child_at-map, at_child-map, brood_of-map, at_brood-map, machine-map, broods-map, have_ended-map, step-map}
 use Rattle.sibling_forest.specs.Talk.{Talk, send, receive, Talks, Inbox, queue, at_queue, first_taken, Box, kept_by, after, after_receive, advance_by, born_by, boxed}
-use Rattle.sibling_forest.specs.Settle.{is_empty, box_at, lives_there, is_full_there, waits_by, sibling_rests, sibling_rests_by, heard_by}
-use Rattle.sibling_forest.specs.Settle.{delivered, deliver_by, sibling_step, sibling_step_by, settle, rests_there, rests_at}
-use Rattle.sibling_forest.specs.Fuel.{fuel, own_fuel, fuel_of, fuel_of_trees, fuel_of_broods}
+use Rattle.sibling_forest.specs.Settle.{is_empty, box_at, lives_there, is_full_there, waits_by, sibling_rests, sibling_rests_by, heard_by, delivered, deliver_by, sibling_step, sibling_step_by, settle}
+use Rattle.sibling_forest.specs.Settle.{rests_there, rests_at}
 use Rattle.sibling_forest.specs.Finish.{paths, paths_of_broods, paths_of_trees, found_by, first_not, first_path, next_by, next_path, go_on, run, finish}
 use Rattle.sibling_forest.specs.Laws.{TalksAlike, box_of}
 
 module _ {M N : Type 0} (f : M → N) where
-  child_at-map : (i : ℕ) (trees : Trees M) → child_at i (map_trees f trees) ≡ option_map (map_tree f) (child_at i trees)
-  unfolding child_at map_tree
-  child_at-map i no_tree = refl
-  child_at-map zero (tree t rest) = refl
-  child_at-map (suc zero) (tree t rest) = refl
-  child_at-map (suc (suc i)) (tree t rest) = child_at-map (suc i) rest
-
-  at_child-map : (g : Tree M → Tree M) (h : Tree N → Tree N) → ((t : Tree M) → h (map_tree f t) ≡ map_tree f (g t)) → (i : ℕ) (trees : Trees M)
-      → at_child h i (map_trees f trees) ≡ map_trees f (at_child g i trees)
-  unfolding at_child map_tree
-  at_child-map g h same i no_tree = refl
-  at_child-map g h same zero (tree t rest) = refl
-  at_child-map g h same (suc zero) (tree t rest) = ap (λ u. tree u (map_trees f rest)) (same t)
-  at_child-map g h same (suc (suc i)) (tree t rest) = ap (tree (map_tree f t)) (at_child-map g h same (suc i) rest)
-
-  either-map : (b : Bool) (one other : Trees M) → cond b (map_trees f one) (map_trees f other) ≡ map_trees f (cond b one other)
-  either-map true one other = refl
-  either-map false one other = refl
-
-  brood_of-map : (t : ℕ) (broods : Broods M) → brood_of t (map_broods f broods) ≡ map_trees f (brood_of t broods)
-  unfolding brood_of map_tree
-  brood_of-map t no_brood = refl
-  brood_of-map t (brood u trees rest) =
-      ap (cond (eqb u t) (map_trees f trees)) (brood_of-map t rest) ∙ either-map (eqb u t) trees (brood_of t rest)
-
-  at_brood-map : (g : Trees M → Trees M) (h : Trees N → Trees N) → ((trees : Trees M) → h (map_trees f trees) ≡ map_trees f (g trees))
-      → (t : ℕ) (broods : Broods M) → at_brood h t (map_broods f broods) ≡ map_broods f (at_brood g t broods)
-  unfolding at_brood map_tree
-  at_brood-map g h same t no_brood = refl
-  at_brood-map g h same t (brood u trees rest) =
-      ap₂ (brood u) (ap (λ x. cond (eqb u t) x (map_trees f trees)) (same trees) ∙ either-map (eqb u t) (g trees) trees) (at_brood-map g h same t rest)
-
   with-map : (g : Broods M → Broods M) (h : Broods N → Broods N) → ((broods : Broods M) → h (map_broods f broods) ≡ map_broods f (g broods)) → (t : Tree M)
       → with_broods h (map_tree f t) ≡ map_tree f (with_broods g t)
   unfolding map_tree
   with-map g h same (node m broods log) = ap (λ b. node (f m) b (map_log f log)) (same broods)
-
-  machine-map : (t : Tree M) → machine (map_tree f t) ≡ f (machine t)
-  unfolding map_tree
-  machine-map (node m broods log) = refl
-
-  broods-map : (t : Tree M) → broods_of (map_tree f t) ≡ map_broods f (broods_of t)
-  unfolding map_tree
-  broods-map (node m broods log) = refl
 
   mutual
     unfolding paths map_tree
@@ -130,22 +89,17 @@ module _ {M N E : Type 0} (o : Operations M E) (p : Operations N E) (k : Talks M
     after_kill = λ b. ap (λ n. after p l n b.inbox) (is.after_kill b.machine) ∙ after-map (o.after_kill b.machine) b.inbox;
   }
 
-  ended-map : (trees : Trees (Box M)) → have_ended (boxed p l) (map_trees g trees) ≡ have_ended (boxed o k) trees
-  unfolding have_ended map_tree boxed
-  ended-map no_tree = refl
-  ended-map (tree t rest) = ap₂ (λ a b. is_some a && b) (ap (λ (b : Box N). p.ending b.machine) (machine-map g t) ∙ is.ending (machine t).machine) (ended-map rest)
-
-  waits-map : (call : Option Call) (broods : Broods (Box M)) → former.waits_by (boxed p l) call (map_broods g broods) ≡ former.waits_by (boxed o k) call broods
+  waits-map : (call : Option Call) (broods : Broods (Box M)) → own.waits_by (boxed p l) call (map_broods g broods) ≡ own.waits_by (boxed o k) call broods
   waits-map None broods = refl
   waits-map (Some (clone t)) broods = refl
-  waits-map (Some (join t)) broods = ap not (ap (have_ended (boxed p l)) (brood_of-map g t broods) ∙ ended-map (brood_of t broods))
+  waits-map (Some (join t)) broods = ap not (ap (have_ended (boxed p l)) (brood_of-map g t broods) ∙ have_ended-map (boxed o k) (boxed p l) g boxes-project (brood_of t broods))
   waits-map (Some (kill t)) broods = refl
 
-  own-rests-map : (t : Tree (Box M)) → former.rests (boxed p l) (Some (map_tree g t)) ≡ former.rests (boxed o k) (Some t)
+  own-rests-map : (t : Tree (Box M)) → own.rests (boxed p l) (Some (map_tree g t)) ≡ own.rests (boxed o k) (Some t)
   unfolding map_tree boxed
   own-rests-map (node b broods log) =
       ap₂ (λ e w. is_some e || w) (is.ending b.machine)
-      (ap (λ call. former.waits_by (boxed p l) call (map_broods g broods)) (is.call b.machine) ∙ waits-map (o.call b.machine) broods)
+      (ap (λ call. own.waits_by (boxed p l) call (map_broods g broods)) (is.call b.machine) ∙ waits-map (o.call b.machine) broods)
 
   box_at-map : (j : ℕ) (trees : Trees (Box M)) → box_at p l j (map_trees g trees) ≡ option_map g (box_at o k j trees)
   box_at-map j trees = ap (option_map machine) (child_at-map g j trees) ∙ by (child_at j trees)
@@ -245,25 +199,25 @@ module _ {M N E : Type 0} (o : Operations M E) (p : Operations N E) (k : Talks M
       ∙ ap (rests_there (rests_at p l (c ∷ path))) (child_at-map g b.child (brood_of b.ticket (broods_of t)))
       ∙ there-map (c ∷ path) (child_at b.child (brood_of b.ticket (broods_of t))) (λ u. rests-map (c ∷ path) u)
 
-  own-fuel-map : (e : Option E) (b : Box M) → own_fuel (boxed p l) e (g b) ≡ own_fuel (boxed o k) e b
+  own-weight-map : (e : Option E) (b : Box M) → own_weight (boxed p l) 0 (λ b. 0) e (g b) ≡ own_weight (boxed o k) 0 (λ b. 0) e b
   unfolding boxed
-  own-fuel-map None b = ap₂ fuel (is.holding b.machine) (is.left b.machine)
-  own-fuel-map (Some ending) b = refl
+  own-weight-map None b = ap₂ (λ (x y : ℕ). most_ahead 0 x y + 0) (is.left b.machine) (is.holding b.machine)
+  own-weight-map (Some ending) b = refl
 
   mutual
-    unfolding fuel_of map_tree boxed
+    unfolding weigh map_tree boxed
 
-    fuel-map : (t : Tree (Box M)) → fuel_of (boxed p l) (map_tree g t) ≡ fuel_of (boxed o k) t
-    fuel-map (node b broods log) =
-        ap₂ (λ (x y : ℕ). x + y) (ap (λ e. own_fuel (boxed p l) e (g b)) (is.ending b.machine) ∙ own-fuel-map (o.ending b.machine) b) (fuel-broods-map broods)
+    ahead-map : (t : Tree (Box M)) → ahead (boxed p l) (map_tree g t) ≡ ahead (boxed o k) t
+    ahead-map (node b broods log) =
+        ap₂ (λ (x y : ℕ). x + y) (ap (λ e. own_weight (boxed p l) 0 (λ b. 0) e (g b)) (is.ending b.machine) ∙ own-weight-map (o.ending b.machine) b) (ahead-broods-map broods)
 
-    fuel-trees-map : (trees : Trees (Box M)) → fuel_of_trees (boxed p l) (map_trees g trees) ≡ fuel_of_trees (boxed o k) trees
-    fuel-trees-map no_tree = refl
-    fuel-trees-map (tree t rest) = ap₂ (λ (x y : ℕ). x + y) (fuel-map t) (fuel-trees-map rest)
+    ahead-trees-map : (trees : Trees (Box M)) → weigh_trees (boxed p l) 0 (λ b. 0) (map_trees g trees) ≡ weigh_trees (boxed o k) 0 (λ b. 0) trees
+    ahead-trees-map no_tree = refl
+    ahead-trees-map (tree t rest) = ap₂ (λ (x y : ℕ). x + y) (ahead-map t) (ahead-trees-map rest)
 
-    fuel-broods-map : (broods : Broods (Box M)) → fuel_of_broods (boxed p l) (map_broods g broods) ≡ fuel_of_broods (boxed o k) broods
-    fuel-broods-map no_brood = refl
-    fuel-broods-map (brood t trees rest) = ap₂ (λ (x y : ℕ). x + y) (fuel-trees-map trees) (fuel-broods-map rest)
+    ahead-broods-map : (broods : Broods (Box M)) → weigh_broods (boxed p l) 0 (λ b. 0) (map_broods g broods) ≡ weigh_broods (boxed o k) 0 (λ b. 0) broods
+    ahead-broods-map no_brood = refl
+    ahead-broods-map (brood t trees rest) = ap₂ (λ (x y : ℕ). x + y) (ahead-trees-map trees) (ahead-broods-map rest)
 
   next-map : (t : Tree (Box M)) → next_path p l (map_tree g t) ≡ next_path o k t
   unfolding boxed
@@ -293,4 +247,4 @@ module _ {M N E : Type 0} (o : Operations M E) (p : Operations N E) (k : Talks M
 
   pub finish-map : (t : Tree (Box M)) → finish p l (map_tree g t) ≡ map_tree g (finish o k t)
   unfolding finish
-  finish-map t = ap (λ n. run p l n (map_tree g t)) (fuel-map t) ∙ run-map (fuel_of (boxed o k) t) t
+  finish-map t = ap (λ n. run p l n (map_tree g t)) (ahead-map t) ∙ run-map (ahead (boxed o k) t) t

@@ -1,10 +1,10 @@
 -- Where a machine rests its step changes nothing, and the search for a machine that can make a step passes over none.
-use Rattle.std.proofs.Common.{◌≡◌, ℕ, zero, suc, ◌+◌, ◌≤◌, eqb, eqb-true, Bool, true, false, cond, not, refl, sym, ap, ap₂}
-use Rattle.std.proofs.Common.{◌∙◌, subst, arith, List, [], ◌∷◌, ◌++◌, map, Option, Some, None, is_some, option_and_then}
+use Rattle.std.proofs.Common.{◌≡◌, ℕ, zero, suc, ◌+◌, ◌≤◌, eqb, eqb-true, Bool, true, false, cond, not, refl, sym, ap, ap₂, ◌∙◌, subst, arith, List, [], ◌∷◌, ◌++◌, map, Option, Some, None, is_some}
+use Rattle.std.proofs.Common.{option_and_then}
 use Rattle.std.proofs.lemmas.Bool.{or_left}
 use Rattle.forest_tree.specs.Operations.{Operations}
 use Rattle.forest_tree.specs.Tree.{Tree, node, Trees, no_tree, tree, Broods, no_brood, brood, broods_of, at_child, child_at, brood_of, at_brood, broods_with, Path, subtree}
-use Rattle.forest_tree.specs.Settle.{has_ended, waits}
+use Rattle.forest_tree.specs.Step.{has_ended, waits}
 use Rattle.forest_tree.specs.Sound.{IsSound}
 use Rattle.forest_tree.proofs.Places.{some-same, below-at}
 use Rattle.forest_tree.proofs.Rests.{step-rests, one-brood}

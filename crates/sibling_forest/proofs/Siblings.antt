@@ -2,14 +2,13 @@
 use Rattle.std.proofs.Common.{◌≡◌, ◌≢◌, ℕ, eqb, eqb-true, ◌⊎◌, inl, inr, Bool, true, false, not, ◌&&◌, refl, sym, ap, ap₂, ◌∙◌, subst, length, Option, Some, None, is_some, option_map}
 use Rattle.std.proofs.lemmas.Bool.{eqb-false, and_cases, and_left, and_right, or_parts, or_from}
 use Rattle.forest_tree.specs.Operations.{Operations}
-use Rattle.forest_tree.specs.Tree.{Tree, node, Trees, Broods, Log, machine, broods_of, at_child, child_at}
-use Rattle.forest_tree.specs.Settle.{waits, step, rests}
-use Rattle.forest_tree.specs.Finish.{with_broods}
+use Rattle.forest_tree.specs.Tree.{Tree, node, Trees, Broods, Log, machine, broods_of, at_child, child_at, with_broods}
+use Rattle.forest_tree.specs.Step.{waits, step, rests}
 use Rattle.forest_tree.proofs.Places.{some-same, child_at-same, child_at-other}
 use Rattle.forest_tree.proofs.Rests.{lives-none}
 use Rattle.sibling_forest.specs.Talk.{Talk, send, receive, Talks, queue, Box, kept_by, boxed}
-use Rattle.sibling_forest.specs.Settle.{with_word, is_empty, is_full, box_at, lives_there, is_full_there, sibling_rests}
-use Rattle.sibling_forest.specs.Settle.{sibling_rests_by, heard_by, delivered, deliver_by, sibling_step_by, sibling_step}
+use Rattle.sibling_forest.specs.Settle.{with_word, is_empty, is_full, box_at, lives_there, is_full_there, sibling_rests, sibling_rests_by, heard_by, delivered, deliver_by, sibling_step_by}
+use Rattle.sibling_forest.specs.Settle.{sibling_step}
 use Rattle.sibling_forest.specs.Settle as told
 use Rattle.sibling_forest.proofs.Families.{at_child-swap, at_child-id}
 use Rattle.sibling_forest.proofs.Queues.{queue-other, words-stay}

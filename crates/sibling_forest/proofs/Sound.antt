@@ -1,12 +1,11 @@
 -- A step keeps soundness and what each machine holds.
 use Rattle.std.proofs.Common.{◌≡◌, ℕ, Bool, true, false, refl, sym, ap, ◌∙◌, subst, List, [], ◌∷◌, Option, Some, None}
 use Rattle.forest_tree.specs.Operations.{Operations, IsMachine}
-use Rattle.forest_tree.specs.Tree.{Tree, node, Trees, Broods, Log, machine, size, at_child, child_at, at_brood, Path}
-use Rattle.forest_tree.specs.Settle.{step}
+use Rattle.forest_tree.specs.Tree.{Tree, node, Trees, Broods, Log, machine, size, at_child, child_at, at_brood, Path, with_broods}
+use Rattle.forest_tree.specs.Step.{step}
 use Rattle.forest_tree.specs.Sound.{IsSound, Hold}
-use Rattle.forest_tree.specs.Finish.{with_broods}
 use Rattle.forest_tree.proofs.Broods.{broods_with-at_brood, size-at_child}
-use Rattle.forest_tree.proofs.Settle.{below-sound, KeepsTo, Keeps, Hold-at_child, AreSound-at_brood, broods-sound, at_brood-none, step-keeps}
+use Rattle.forest_tree.proofs.Sound.{below-sound, KeepsTo, Keeps, Hold-at_child, AreSound-at_brood, broods-sound, at_brood-none, step-keeps}
 use Rattle.sibling_forest.specs.Talk.{Talk, send, receive, Talks, Box, boxed, IsTalking}
 use Rattle.sibling_forest.specs.Settle.{heard_by, sibling_rests, sibling_step_by, sibling_step, settle, settle_all}
 use Rattle.sibling_forest.proofs.Boxes.{boxed-machine}

@@ -1,13 +1,13 @@
 -- A step of a machine that lives after it leaves waiting each sibling that its talk does not name.
-use Rattle.std.proofs.Common.{◌≡◌, ◌≢◌, ℕ, eqb, eqb-true, not, ◌&&◌, ◌||◌, ◌⊎◌, inl, inr, Bool, true, false, refl, sym, ap}
-use Rattle.std.proofs.Common.{ap₂, ◌∙◌, subst, List, [], ◌∷◌, Option, Some, None, is_some, option_map, option_and_then}
+use Rattle.std.proofs.Common.{◌≡◌, ◌≢◌, ℕ, eqb, eqb-true, not, ◌&&◌, ◌||◌, ◌⊎◌, inl, inr, Bool, true, false, refl, sym, ap, ap₂, ◌∙◌, subst, List, [], ◌∷◌, Option, Some, None, is_some, option_map}
+use Rattle.std.proofs.Common.{option_and_then}
 use Rattle.std.proofs.lemmas.Bool.{and_parts, or_left, or_right}
 use Rattle.forest_tree.specs.Operations.{Call, clone, join, kill, Operations}
 use Rattle.forest_tree.specs.Tree.{Tree, node, Trees, Broods, brood, Log, joined, killed, machine, at_child, child_at, brood_of, without, at_brood, Branch, Path, subtree}
-use Rattle.forest_tree.specs.Settle.{have_ended, endings, children, settled, join_by, step_by, step, rests}
-use Rattle.forest_tree.specs.Settle as former
-use Rattle.forest_tree.proofs.Settle.{machine-settled}
-use Rattle.forest_tree.proofs.Run.{step-lives}
+use Rattle.forest_tree.specs.Step.{have_ended, endings, children, settled, join_by, step_by, step, rests}
+use Rattle.forest_tree.specs.Step as own
+use Rattle.forest_tree.proofs.Sound.{machine-settled}
+use Rattle.forest_tree.proofs.Steps.{step-lives}
 use Rattle.forest_tree.proofs.Places.{some-same, child_at-same, child_at-other, is-within}
 use Rattle.sibling_forest.specs.Talk.{Talk, send, receive, peer, Talks, Inbox, queue, at_queue, first_taken, Box, kept_by, after, after_receive, advance_by, boxed}
 use Rattle.sibling_forest.specs.Settle.{is_empty, is_full, box_at, lives_there, is_full_there, waits_by, sibling_rests, sibling_rests_by, sibling_step, sibling_step_by, settle, rests_there, rests_at}
@@ -54,7 +54,7 @@ module _ {M E : Type 0} (o : Operations M E) (k : Talks M) where
   advance-queue i b (Some (receive j)) names = receive-queue i b j (queue j b.inbox) (names (receive j) refl)
 
   step_by-queue : (i : ℕ) (next : Option Call) (b : Box M) (broods : Broods (Box M)) (log : Log (Box M)) → NotNamed i (k.talk b.machine)
-      → former.waits_by (boxed o k) next broods ≡ false → SameQueue i b (machine (step_by (boxed o k) next b broods log))
+      → own.waits_by (boxed o k) next broods ≡ false → SameQueue i b (machine (step_by (boxed o k) next b broods log))
   unfolding boxed
   step_by-queue i None b broods log names ready =
       let s = advance-queue i b (k.talk b.machine) names in

@@ -1,16 +1,16 @@
 -- Who waits goes on waiting after a step of another, but for a child that it joins and the sibling that its talk names.
-use Rattle.std.proofs.Common.{◌≡◌, ◌≢◌, ℕ, zero, suc, eqb, eqb-true, eq-eqb, Bool, true, false, cond, not, ◌&&◌, ◌||◌, ◌⊎◌, inl, inr}
-use Rattle.std.proofs.Common.{refl, sym, ap, ap₂, ◌∙◌, [], ◌∷◌, ◌++◌, Option, Some, None, is_some, option_map, option_and_then}
+use Rattle.std.proofs.Common.{◌≡◌, ◌≢◌, ℕ, zero, suc, eqb, eqb-true, eq-eqb, Bool, true, false, cond, not, ◌&&◌, ◌||◌, ◌⊎◌, inl, inr, refl, sym, ap, ap₂, ◌∙◌, [], ◌∷◌, ◌++◌, Option, Some, None}
+use Rattle.std.proofs.Common.{is_some, option_map, option_and_then}
 use Rattle.std.proofs.lemmas.Bool.{eqb-false, or_left, or_right}
 use Rattle.forest_tree.specs.Operations.{Call, clone, join, kill, Operations, IsMachine}
 use Rattle.forest_tree.specs.Tree.{Tree, node, Trees, no_tree, tree, Broods, Log, machine, broods_of, at_child, child_at, brood_of, at_brood, Branch, Path, subtree}
-use Rattle.forest_tree.specs.Settle.{has_ended, have_ended, waits, step, rests}
-use Rattle.forest_tree.specs.Settle as former
+use Rattle.forest_tree.specs.Step.{has_ended, have_ended, step, rests}
+use Rattle.forest_tree.specs.Step as own
 use Rattle.forest_tree.specs.Sound.{IsSound}
 use Rattle.forest_tree.proofs.Places.{some-same, brood_of-at, child_at-same, child_at-other, below-at, Kept, stays, goes, is_new, kept-step}
 use Rattle.sibling_forest.specs.Talk.{Talk, send, receive, peer, Talks, queue, Box, boxed, IsTalking}
-use Rattle.sibling_forest.specs.Settle.{with_word, is_empty, is_full, box_at, lives_there, is_full_there, waits_by, heard_by, sibling_rests}
-use Rattle.sibling_forest.specs.Settle.{sibling_rests_by, sibling_step, sibling_step_by, settle, rests_there, rests_at}
+use Rattle.sibling_forest.specs.Settle.{with_word, is_empty, is_full, box_at, lives_there, is_full_there, waits_by, heard_by, sibling_rests, sibling_rests_by, sibling_step, sibling_step_by, settle}
+use Rattle.sibling_forest.specs.Settle.{rests_there, rests_at}
 use Rattle.sibling_forest.specs.Laws.{child_number, is_sibling}
 use Rattle.sibling_forest.proofs.Boxes.{boxed-machine}
 use Rattle.sibling_forest.proofs.Queues.{queue-other}
@@ -40,7 +40,7 @@ module _ {M E : Type 0} (o : Operations M E) (k : Talks M) where
   joined-stays d (c ∷ p) u broods other true e = ended-stay (settle o k (c ∷ p)) (below-stays o k c p) d.child (brood_of u broods)
 
   call-waits : (call : Option Call) (d : Branch) (p : Path) (broods : Broods (Box M)) → (p ≡ [] → call ≢ Some (join d.ticket))
-      → former.waits_by (boxed o k) call broods ≡ true → former.waits_by (boxed o k) call (at_brood (inner o k p d.child) d.ticket broods) ≡ true
+      → own.waits_by (boxed o k) call broods ≡ true → own.waits_by (boxed o k) call (at_brood (inner o k p d.child) d.ticket broods) ≡ true
   call-waits None d p broods other h = absurd (cc)
   call-waits (Some (clone u)) d p broods other h = absurd (cc)
   call-waits (Some (kill u)) d p broods other h = absurd (cc)
@@ -52,10 +52,10 @@ module _ {M E : Type 0} (o : Operations M E) (k : Talks M) where
       → rests (boxed o k) (Some t) ≡ true → rests (boxed o k) (Some (settle o k (d ∷ p) t)) ≡ true
   unfolding boxed
   own-waits d p (node x broods log) other h =
-      ap (λ u. rests (boxed o k) (Some u)) (settle-is o k d p (node x broods log)) ∙ by (or-cases (is_some (o.ending x.machine)) (former.waits_by (boxed o k) (o.call x.machine) broods) h)
+      ap (λ u. rests (boxed o k) (Some u)) (settle-is o k d p (node x broods log)) ∙ by (or-cases (is_some (o.ending x.machine)) (own.waits_by (boxed o k) (o.call x.machine) broods) h)
     where
-      by : (is_some (o.ending x.machine) ≡ true) ⊎ (former.waits_by (boxed o k) (o.call x.machine) broods ≡ true)
-          → is_some (o.ending x.machine) || former.waits_by (boxed o k) (o.call x.machine) (at_brood (inner o k p d.child) d.ticket broods) ≡ true
+      by : (is_some (o.ending x.machine) ≡ true) ⊎ (own.waits_by (boxed o k) (o.call x.machine) broods ≡ true)
+          → is_some (o.ending x.machine) || own.waits_by (boxed o k) (o.call x.machine) (at_brood (inner o k p d.child) d.ticket broods) ≡ true
       by (inl ended) = or_left _ _ ended
       by (inr waiting) = or_right _ _ (call-waits (o.call x.machine) d p broods other waiting)
 

@@ -1,15 +1,15 @@
 -- A step reads its own machine, what is below it, and of each sibling whether it lives and the queue to it.
-use Rattle.std.proofs.Common.{◌≡◌, ℕ, zero, suc, eqb, eqb-true, not, ◌&&◌, ◌||◌, Bool, true, false, cond, refl, sym, ap, ap₂}
-use Rattle.std.proofs.Common.{◌∙◌, subst, List, [], ◌∷◌, Option, Some, None, IsSome, is_some, option_map, option_and_then}
+use Rattle.std.proofs.Common.{◌≡◌, ℕ, zero, suc, eqb, eqb-true, not, ◌&&◌, ◌||◌, Bool, true, false, cond, refl, sym, ap, ap₂, ◌∙◌, subst, List, [], ◌∷◌, Option, Some, None, IsSome, is_some}
+use Rattle.std.proofs.Common.{option_map, option_and_then}
 use Rattle.std.proofs.lemmas.Bool.{eqb-false}
 use Rattle.forest_tree.specs.Operations.{Operations}
 use Rattle.forest_tree.specs.Tree.{Tree, node, Trees, no_tree, Broods, Log, machine, at_child, child_at, brood_of, at_brood, Branch, Path, subtree}
-use Rattle.forest_tree.specs.Settle.{step, rests}
+use Rattle.forest_tree.specs.Step.{step, rests}
 use Rattle.forest_tree.proofs.Broods.{eqb-same}
 use Rattle.forest_tree.proofs.Places.{child_at-same, child_at-other, is-within}
 use Rattle.sibling_forest.specs.Talk.{Talk, send, receive, Talks, Inbox, queue, at_queue, Box, boxed}
-use Rattle.sibling_forest.specs.Settle.{with_word, is_empty, is_full, box_at, lives_there, is_full_there, waits_by, sibling_rests}
-use Rattle.sibling_forest.specs.Settle.{sibling_rests_by, heard_by, sibling_step, sibling_step_by, settle, rests_there, rests_at}
+use Rattle.sibling_forest.specs.Settle.{with_word, is_empty, is_full, box_at, lives_there, is_full_there, waits_by, sibling_rests, sibling_rests_by, heard_by, sibling_step, sibling_step_by, settle}
+use Rattle.sibling_forest.specs.Settle.{rests_there, rests_at}
 use Rattle.sibling_forest.specs.Laws.{child_number, is_sibling, queue_from, read_of, ReadAlike}
 use Rattle.sibling_forest.proofs.Words.{heard-machine}
 use Rattle.sibling_forest.proofs.Crossing.{changed-brood}

@@ -1,13 +1,12 @@
 -- A word that comes to a machine, before its step or after it.
-use Rattle.std.proofs.Common.{◌≡◌, ◌≢◌, ℕ, zero, suc, ◌≤◌, nat_le, eqb, eqb-true, Bool, true, false, not, ◌||◌, refl}
-use Rattle.std.proofs.Common.{sym, ap, ◌∙◌, subst, arith, le_refl, List, [], ◌∷◌, length, Option, Some, None, is_some}
+use Rattle.std.proofs.Common.{◌≡◌, ◌≢◌, ℕ, zero, suc, ◌≤◌, nat_le, eqb, eqb-true, Bool, true, false, not, ◌||◌, refl, sym, ap, ◌∙◌, subst, arith, le_refl, List, [], ◌∷◌, length, Option, Some, None}
+use Rattle.std.proofs.Common.{is_some}
 use Rattle.std.proofs.lemmas.Bool.{eqb-false, leb-false, lt-leb}
 use Rattle.forest_tree.specs.Operations.{Call, clone, join, kill, Operations}
-use Rattle.forest_tree.specs.Tree.{Tree, node, tree, Broods, no_brood, brood, Log, joined, killed, machine, broods_of, brood_of, without}
-use Rattle.forest_tree.specs.Settle.{have_ended, endings, alone, children_from, children, log_killed, settled_by, settled, waits_by, join_by, step_by, step, rests}
-use Rattle.forest_tree.specs.Finish.{with_broods}
-use Rattle.forest_tree.proofs.Settle.{machine-settled}
-use Rattle.forest_tree.proofs.Run.{step-lives}
+use Rattle.forest_tree.specs.Tree.{Tree, node, tree, Broods, no_brood, brood, Log, joined, killed, machine, broods_of, brood_of, without, with_broods}
+use Rattle.forest_tree.specs.Step.{have_ended, endings, alone, children_from, children, log_killed, settled_by, settled, waits_by, join_by, step_by, step, rests}
+use Rattle.forest_tree.proofs.Sound.{machine-settled}
+use Rattle.forest_tree.proofs.Steps.{step-lives}
 use Rattle.sibling_forest.specs.Talk.{Talk, send, receive, Talks, Inbox, queue, at_queue, emptied, first_taken, Box, kept_by, after, after_receive, advance_by, boxed}
 use Rattle.sibling_forest.specs.Settle.{with_word, is_empty, heard_by, delivered}
 use Rattle.sibling_forest.proofs.Queues.{at_queue-swap, queue-other, queue-same, emptied-at, taken-within, comes-and-goes}

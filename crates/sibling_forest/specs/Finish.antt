@@ -2,10 +2,10 @@
 use Rattle.std.specs.Prelude.{◌≡◌, ℕ, zero, suc, Bool, true, false, List, [], ◌∷◌, ◌++◌, map, Option, Some, None, IsSome, is_some, not}
 use Rattle.forest_tree.specs.Operations.{Operations}
 use Rattle.forest_tree.specs.Tree.{Tree, node, Trees, no_tree, tree, Broods, no_brood, brood, machine, Path}
-use Rattle.forest_tree.specs.Settle.{has_ended}
+use Rattle.forest_tree.specs.Step.{has_ended}
 use Rattle.forest_tree.specs.Sound.{IsSound}
+use Rattle.forest_tree.specs.Ahead.{ahead}
 use Rattle.sibling_forest.specs.Talk.{Talks, Box, boxed}
-use Rattle.sibling_forest.specs.Fuel.{fuel_of}
 use Rattle.sibling_forest.specs.Settle.{settle, rests_at}
 
 -- the paths to all machines of a tree: a machine first, then what is below it, by ticket and child in order
@@ -58,7 +58,7 @@ module _ {M E : Type 0} (o : Operations M E) (k : Talks M) where
 
   -- as many steps as are ahead at most, and so to its end
   unfoldable pub finish : Tree (Box M) → Tree (Box M)
-  finish t = run (fuel_of (boxed o k) t) t
+  finish t = run (ahead (boxed o k) t) t
 
   -- f runs each sound tree to its end: it leaves one whose root has ended or that rests, and else it goes on after
   -- the step at the first path at which one can be made

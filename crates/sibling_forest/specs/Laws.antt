@@ -51,10 +51,6 @@ module _ {M E : Type 0} (o : Operations M E) where
     pub siblings : (at : Path) → is_sibling path at ≡ true
         → read_of (child_number path) (subtree at u) ≡ read_of (child_number path) (subtree at t)
 
--- the machines talk no more
-abbrev pub silenced : {M : Type 0} → Talks M → Talks M
-silenced k = record k { talk = λ m. None }
-
 -- no live machine of the tree comes to a talk, whichever machines make steps
 abbrev pub IsSilent : {M E : Type 0} → Operations M E → Talks M → Tree (Box M) → Type 0
 IsSilent {M} o k t = (paths : List Path) (at : Path) (a : Tree (Box M)) → subtree at (settle_all o k paths t) ≡ Some a

@@ -1,6 +1,5 @@
 pub mod Talk
 pub mod Settle
-pub mod Fuel
 pub mod Finish
 pub mod Members
 pub mod Laws

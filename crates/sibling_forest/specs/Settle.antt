@@ -1,9 +1,8 @@
 -- One step of one machine of a tree whose machines talk.
 use Rattle.std.specs.Prelude.{ℕ, Bool, true, false, not, ◌&&◌, ◌||◌, nat_le, List, [], ◌∷◌, ◌++◌, length, Option, Some, None, is_some, option_map}
 use Rattle.forest_tree.specs.Operations.{Operations}
-use Rattle.forest_tree.specs.Tree.{Tree, node, Trees, machine, broods_of, at_child, child_at, brood_of, at_brood, Path}
-use Rattle.forest_tree.specs.Settle.{step, rests}
-use Rattle.forest_tree.specs.Finish.{with_broods}
+use Rattle.forest_tree.specs.Tree.{Tree, node, Trees, machine, broods_of, at_child, child_at, brood_of, at_brood, Path, with_broods}
+use Rattle.forest_tree.specs.Step.{step, rests}
 use Rattle.sibling_forest.specs.Talk.{Talk, send, receive, Talks, queue, at_queue, Box, boxed}
 
 abbrev pub with_word : ℕ → List ℕ → List ℕ

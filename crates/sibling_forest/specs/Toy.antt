@@ -1,10 +1,10 @@
 -- The small machine of `forest_tree`, which talks where it pauses. It keeps all the rules of a machine that talks.
-use Rattle.std.specs.Prelude.{ℕ, zero, suc, ◌-◌, ◌==◌, ◌&&◌, not, Bool, true, false, nat_le, List, [], ◌∷◌, ◌++◌, Option, Some, None}
+use Rattle.std.specs.Prelude.{ℕ, zero, suc, ◌-◌, ◌==◌, ◌&&◌, not, Bool, true, false, nat_le, List, [], ◌∷◌, ◌++◌, map, Option, Some, None}
 use Rattle.forest_tree.specs.Operations.{Operations}
 use Rattle.forest_tree.specs.Tree.{Tree, Log, no_entry, joined, killed}
-use Rattle.forest_tree.specs.Settle.{alone, endings}
-use Rattle.forest_tree.specs.Toy.{Order, pause, request, clone_children, join_children, kill_children}
-use Rattle.forest_tree.specs.Toy.{exit, Toy, ToyEnding, order_of, ticket_grant, toy, toy_start}
+use Rattle.forest_tree.specs.Step.{alone, endings}
+use Rattle.forest_tree.specs.Toy.{Order, pause, request, clone_children, join_children, kill_children, exit, Toy, ToyEnding, order_of, ticket_grant, toy}
+use Rattle.forest_tree.specs.Toy.{toy_start}
 use Rattle.sibling_forest.specs.Talk.{Talk, send, receive, peer, Talks, Box, boxed}
 use Rattle.sibling_forest.specs.Report.{Told}
 
@@ -80,18 +80,23 @@ speech = record {
   siblings = λ m. m.siblings;
 }
 
--- a machine that has two children with these talks, joins them, and ends
-abbrev pub start : List (List Talk) → Tree (Box Speaker)
-start plan = alone (boxed speakers speech) (record {
-  machine = record {
-    toy = toy_start (request 2 0 ∷ (clone_children ∷ (pause ∷ (pause ∷ (join_children ∷ (exit ∷ [])))))) 2 10;
-    number = 0;
-    siblings = 0;
-    says = [];
-    plan = plan;
-  };
+-- a machine that starts with these orders, has so much to hold and so many steps, and gives its children these talks
+abbrev pub started : List Order → ℕ → ℕ → List (List Talk) → Tree (Box Speaker)
+started orders allot limit plan = alone (boxed speakers speech) (record {
+  machine = record { toy = toy_start orders allot limit; number = 0; siblings = 0; says = []; plan = plan };
   inbox = [];
 })
+
+-- one that has two children with these talks, joins them, and ends
+abbrev pub start : List (List Talk) → Tree (Box Speaker)
+start plan = started (request 2 0 ∷ (clone_children ∷ (pause ∷ (pause ∷ (join_children ∷ (exit ∷ [])))))) 2 10 plan
+
+-- one whose two children do not talk: it joins them, and ends with the sum of what they end with; or it kills them
+abbrev pub two_children : List Order
+two_children = request 2 1 ∷ (clone_children ∷ (join_children ∷ (exit ∷ [])))
+
+abbrev pub killed_children : List Order
+killed_children = request 2 1 ∷ (clone_children ∷ (kill_children ∷ (exit ∷ [])))
 
 -- each sends its number and then receives; or each receives first
 abbrev pub swap : List (List Talk)
@@ -100,11 +105,11 @@ swap = (send 2 ∷ (receive 2 ∷ [])) ∷ ((send 1 ∷ (receive 1 ∷ [])) ∷ 
 abbrev pub both_wait : List (List Talk)
 both_wait = (receive 2 ∷ []) ∷ ((receive 1 ∷ []) ∷ [])
 
--- what the children that were joined ended with, in order
-unfoldable pub told : Log (Box Speaker) → List ToyEnding
+-- the endings that a log tells of, in order, and none for each killed ticket
+unfoldable pub told : Log (Box Speaker) → List (Option ToyEnding)
 told no_entry = []
-told (joined log t trees) = told log ++ endings (boxed speakers speech) trees
-told (killed log t n) = told log
+told (joined log t trees) = told log ++ map Some (endings (boxed speakers speech) trees)
+told (killed log t n) = told log ++ (None ∷ [])
 
 -- what a report says of the small machine, which starts with 10 steps left: it puts out its value, as one byte
 abbrev pub told_of : Told Speaker

@@ -1,19 +1,18 @@
 //! Laws of the definitions, each the contract of a function that does nothing. They hold for all machines that keep
 //! the rules.
 
-ghost use Rattle.std.specs.Prelude.{◌≡◌, ◌≢◌, ◌↔◌, ◌⊎◌, ◌<◌, ℕ, true, false, List, [], ◌∷◌, ◌++◌, Option, Some, None, IsSome, option_map};
+ghost use Rattle.std.specs.Prelude.{◌≡◌, ◌≢◌, ◌↔◌, ◌⊎◌, ◌<◌, ℕ, true, false, List, [], ◌∷◌, ◌++◌, Some, None, IsSome, option_map};
 ghost use Rattle.forest_tree.specs.Operations.{join, Operations, IsMachine};
 ghost use Rattle.forest_tree.specs.Tree.{Tree, machine, Branch, Path, subtree, is_below};
-ghost use Rattle.forest_tree.specs.Settle.{alone, step};
+ghost use Rattle.forest_tree.specs.Step.{alone, step};
 ghost use Rattle.forest_tree.specs.Sound.{IsSound};
-ghost use Rattle.forest_tree.specs.Finish as former;
+ghost use Rattle.forest_tree.specs.Ahead.{ahead};
 ghost use Rattle.forest_tree.specs.Projection.{map_tree, Projects};
 ghost use Rattle.sibling_forest.specs.Talk.{Talk, peer, Talks, queue, Box, boxed, IsTalking};
 ghost use Rattle.sibling_forest.specs.Settle.{settle, settle_all, rests_at};
-ghost use Rattle.sibling_forest.specs.Fuel.{fuel_of};
 ghost use Rattle.sibling_forest.specs.Finish.{rests, finish, IsFinish};
 ghost use Rattle.sibling_forest.specs.Members.{IsWholeForest};
-ghost use Rattle.sibling_forest.specs.Laws.{Meet, child_number, is_sibling, ReadAlike, silenced, IsSilent, TalksAlike, box_of};
+ghost use Rattle.sibling_forest.specs.Laws.{Meet, child_number, is_sibling, ReadAlike, IsSilent, TalksAlike, box_of};
 
 /// Machines with the words to them keep the rules of machines.
 pub fn words_add_nothing<M, E>()
@@ -76,13 +75,13 @@ pub fn steps_meet<M, E>()
 {}
 
 /// A step changes nothing exactly where no machine is at the path that can make one. A step that can be made lowers the
-/// fuel of the machines that live, which bounds the steps that are ahead of them. A tree rests exactly where no path can
+/// number of steps that are ahead of the machines that live, at most. A tree rests exactly where no path can
 /// make a step.
 pub fn steps_run_out<M, E>()
     ensures resting { (o : Operations M E) (k : Talks M) → IsMachine o → IsTalking o k → (path : Path) (t : Tree (Box M))
         → IsSound (boxed o k) t → (settle o k path t ≡ t) ↔ (rests_at o k path t ≡ true) }
     ensures fewer_ahead { (o : Operations M E) (k : Talks M) → IsMachine o → IsTalking o k → (path : Path) (t : Tree (Box M))
-        → IsSound (boxed o k) t → rests_at o k path t ≡ false → fuel_of (boxed o k) (settle o k path t) < fuel_of (boxed o k) t }
+        → IsSound (boxed o k) t → rests_at o k path t ≡ false → ahead (boxed o k) (settle o k path t) < ahead (boxed o k) t }
     ensures none_can { (o : Operations M E) (k : Talks M) (t : Tree (Box M)) → rests o k t ≡ true
         → (path : Path) → rests_at o k path t ≡ true }
     ensures some_can { (o : Operations M E) (k : Talks M) (t : Tree (Box M)) → ((path : Path) → rests_at o k path t ≡ true)
@@ -128,34 +127,32 @@ pub fn finish_stays<M, E>()
         → IsSound (boxed o k) t → finish o k (settle o k path t) ≡ finish o k t }
 {}
 
-/// Steps in any order leave the finish, and where they come to an end, since the root has ended or the tree rests, the
-/// tree is the finish. So two orders that come to an end come to one tree.
+/// Steps in any order keep a tree sound and leave the finish, and where they come to an end, since the root has ended or the
+/// tree rests, the tree is the finish. So two orders that come to an end come to one tree.
 pub fn orders_agree<M, E>()
+    ensures sound { (o : Operations M E) (k : Talks M) → IsMachine o → IsTalking o k → (paths : List Path) (t : Tree (Box M))
+        → IsSound (boxed o k) t → IsSound (boxed o k) (settle_all o k paths t) }
     ensures leaves { (o : Operations M E) (k : Talks M) → IsMachine o → IsTalking o k → (paths : List Path) (t : Tree (Box M))
         → IsSound (boxed o k) t → finish o k (settle_all o k paths t) ≡ finish o k t }
     ensures ended { (o : Operations M E) (k : Talks M) → IsMachine o → IsTalking o k → (paths : List Path) (t : Tree (Box M))
         → IsSound (boxed o k) t
         → IsSome (o.ending (machine (settle_all o k paths t)).machine) ⊎ (rests o k (settle_all o k paths t) ≡ true)
         → settle_all o k paths t ≡ finish o k t }
+    ensures agree { (o : Operations M E) (k : Talks M) → IsMachine o → IsTalking o k → (one other : List Path) (t : Tree (Box M))
+        → IsSound (boxed o k) t
+        → IsSome (o.ending (machine (settle_all o k one t)).machine) ⊎ (rests o k (settle_all o k one t) ≡ true)
+        → IsSome (o.ending (machine (settle_all o k other t)).machine) ⊎ (rests o k (settle_all o k other t) ≡ true)
+        → settle_all o k one t ≡ settle_all o k other t }
 {}
 
-/// Where no machine talks, a tree comes to what it comes to without words.
-pub fn silent_machines_finish_alike<M, E>()
-    ensures boxes { (o : Operations M E) (k : Talks M) → ((m : M) → k.talk m ≡ None) → IsMachine o → IsTalking o k
-        → (t : Tree (Box M)) → IsSound (boxed o k) t → finish o k t ≡ former.finish (boxed o k) t }
-    ensures bare { (o : Operations M E) (k : Talks M) → ((m : M) → k.talk m ≡ None) → IsMachine o → IsTalking o k
-        → (t : Tree (Box M)) → IsSound (boxed o k) t
-        → map_tree (λ (b : Box M). b.machine) (finish o k t) ≡ former.finish o (map_tree (λ (b : Box M). b.machine) t) }
-{}
-
-/// Where no machine of a tree comes to a talk, the tree comes to what it comes to without words, and no word is said: the
-/// boxes are those of machines that cannot talk.
-pub fn silent_trees_finish_alike<M, E>()
-    ensures boxes { (o : Operations M E) (k : Talks M) → IsMachine o → IsTalking o k → (t : Tree (Box M)) → IsSound (boxed o k) t
-        → IsSilent o k t → finish o k t ≡ former.finish (boxed o (silenced k)) t }
-    ensures bare { (o : Operations M E) (k : Talks M) → IsMachine o → IsTalking o k → (t : Tree (Box M)) → IsSound (boxed o k) t
-        → IsSilent o k t
-        → map_tree (λ (b : Box M). b.machine) (finish o k t) ≡ former.finish o (map_tree (λ (b : Box M). b.machine) t) }
+/// Where a tree rests while its root lives, some live machine is at a talk. So a tree in which no machine ever comes to a
+/// talk comes to the end of its root.
+pub fn stuck_machines_talk<M, E>()
+    ensures waits { (o : Operations M E) (k : Talks M) (t : Tree (Box M)) → rests o k t ≡ true → o.ending (machine t).machine ≡ None
+        → (path : Path) × (a : Tree (Box M)) × (subtree path t ≡ Some a) × (o.ending (machine a).machine ≡ None)
+        × IsSome (k.talk (machine a).machine) }
+    ensures silent { (o : Operations M E) (k : Talks M) → IsMachine o → IsTalking o k → (t : Tree (Box M)) → IsSound (boxed o k) t
+        → IsSilent o k t → IsSome (o.ending (machine (finish o k t)).machine) }
 {}
 
 /// Machines with more inside that talk alike have the steps and the finish of what is seen of them.

@@ -3,7 +3,7 @@
 ghost use Rattle.std.specs.Prelude.{◌≡◌, ◌≢◌, ◌<◌, ◌&&◌, ◌==◌, ℕ, [], ◌∷◌, ◌++◌, if◌then◌else◌, true, length, nat_le, MatchOption, OnOk, OnErr};
 ghost use Rattle.std.specs.BTreeMap.{get};
 ghost use Rattle.std.specs.Ordering.{nat_cmp};
-ghost use Rattle.sibling_words.specs.Words.{HaveSame, is_empty, words_in, words_of};
+ghost use Rattle.sibling_words.specs.Words.{HaveSame, is_empty, words_at, words_in, words_of};
 
 use arrayvec::ArrayVec;
 use std::alloc::{AllocError, Global};
@@ -15,28 +15,32 @@ pub const MAX_WORDS: usize = 8;
 /// The words from one child to another, the oldest first.
 type Queue = ArrayVec<u32, MAX_WORDS>;
 
-/// The words that wait between the children of a ticket. Only the queues that have a word take room.
+/// Queues by the child that they are for, and then by the one that sent their words.
+type Inboxes = BTreeMap<u32, BTreeMap<u32, Queue>>;
+
+/// The words that wait between the children of a ticket. Only the queues that have a word take room, and where no child
+/// ever sent one, all is a pointer to nothing.
 #[derive(Drop)]
 pub struct SiblingWords {
-    /// By the child that they are for, and then by the one that sent them.
-    inboxes: BTreeMap<u32, BTreeMap<u32, Queue>>,
+    inboxes: Option<Box<Inboxes>>,
 }
 
 impl SiblingWords {
     /// No words.
-    pub fn new(alloc: Global) -> SiblingWords
+    pub fn new() -> SiblingWords
         ensures { (to from : ℕ) → words_of result to from ≡ [] }
     {
-        SiblingWords {
-            inboxes: BTreeMap::new(alloc),
-        }
+        SiblingWords { inboxes: None }
     }
 
     /// Whether so many words wait for a child from another as may.
     pub fn is_full(&self, to: u32, from: u32) -> bool
         ensures { result ≡ nat_le MAX_WORDS (length (words_of self.now to from)) }
     {
-        let Some(inbox) = self.inboxes.get(&to) else {
+        let Some(inboxes) = &self.inboxes else {
+            return false;
+        };
+        let Some(inbox) = inboxes.get(&to) else {
             return false;
         };
         match inbox.get(&from) {
@@ -49,7 +53,10 @@ impl SiblingWords {
     pub fn is_empty(&self, to: u32, from: u32) -> bool
         ensures { result ≡ is_empty (words_of self.now to from) }
     {
-        let Some(inbox) = self.inboxes.get(&to) else {
+        let Some(inboxes) = &self.inboxes else {
+            return true;
+        };
+        let Some(inbox) = inboxes.get(&to) else {
             return true;
         };
         match inbox.get(&from) {
@@ -65,12 +72,12 @@ impl SiblingWords {
             ≡ (if (t == to) && (f == from) then words_of self.old to from ++ word ∷ [] else words_of self.old t f)) }
         ensures err { OnErr result (HaveSame self.old self.new) }
     {
-        if let Some(inbox) = self.inboxes.get_mut(&to) {
-            return put(inbox, from, word);
+        if let Some(inboxes) = &mut self.inboxes {
+            return put_in(inboxes, alloc, to, from, word);
         }
-        let mut inbox = BTreeMap::new(alloc);
-        put(&mut inbox, from, word)?;
-        self.inboxes.insert(to, inbox)?;
+        let mut inboxes = Box::new(alloc, BTreeMap::new(alloc))?;
+        put_in(&mut inboxes, alloc, to, from, word)?;
+        self.inboxes = Some(inboxes);
         Ok(())
     }
 
@@ -80,10 +87,11 @@ impl SiblingWords {
         ensures none { MatchOption result (HaveSame self.old self.new) (λ word. Unit {0}) }
         ensures others { (t f : ℕ) → ((t == to) && (f == from)) ≢ true → words_of self.new t f ≡ words_of self.old t f }
     {
-        let inbox = self.inboxes.get_mut(&to)?;
+        let inboxes = self.inboxes.as_mut()?;
+        let inbox = inboxes.get_mut(&to)?;
         let word = take_first(inbox, from)?;
         if inbox.is_empty() {
-            self.inboxes.remove(&to);
+            inboxes.remove(&to);
         }
         Some(word)
     }
@@ -92,8 +100,32 @@ impl SiblingWords {
     pub fn clear(&mut self, to: u32)
         ensures { (t f : ℕ) → words_of self.new t f ≡ (if t == to then [] else words_of self.old t f) }
     {
-        self.inboxes.remove(&to);
+        if let Some(inboxes) = &mut self.inboxes {
+            inboxes.remove(&to);
+        }
     }
+}
+
+/// Puts a word behind those for a child from another. Where memory is wanting, all stay as they are.
+fn put_in(
+    inboxes: &mut Inboxes,
+    alloc: Global,
+    to: u32,
+    from: u32,
+    word: u32,
+) -> Result<(), AllocError>
+    requires { length (words_at inboxes.old to from) < MAX_WORDS }
+    ensures ok { OnOk result ((t f : ℕ) → words_at inboxes.new t f
+        ≡ (if (t == to) && (f == from) then words_at inboxes.old to from ++ word ∷ [] else words_at inboxes.old t f)) }
+    ensures err { OnErr result ((t f : ℕ) → words_at inboxes.new t f ≡ words_at inboxes.old t f) }
+{
+    if let Some(inbox) = inboxes.get_mut(&to) {
+        return put(inbox, from, word);
+    }
+    let mut inbox = BTreeMap::new(alloc);
+    put(&mut inbox, from, word)?;
+    inboxes.insert(to, inbox)?;
+    Ok(())
 }
 
 /// Puts a word behind those from a child. Where memory is wanting, they stay as they are.

@@ -16,7 +16,7 @@ use Rattle.talking_history.specs.World.{world_of}
 use Rattle.talking_history.proofs.Turned.{start-home}
 use Rattle.forest_model.specs.declared.Options.{Options}
 use Rattle.forest_model.specs.Machine.{boot}
-use Rattle.forest_model.specs.Forest.{port_of, talked_out}
+use Rattle.forest_model.specs.Forest.{port_of, finish}
 use Rattle.forest_model.specs.Paged.{Paged, paged_machines, paged_talks}
 use Rattle.run_report.specs.Lines.{lines}
 use Rattle.run_report.specs.Report.{Ended as Outcome, lines_of, told_box}
@@ -51,9 +51,9 @@ has-machine depot p made h = record {
 module _ (values : GuestValues) (guest : Guest) (depot : Shelves) (made : World × Snapshot KeyedMachine) where
   -- what has the lines of the family of that machine has those of the machine that is booted from the image
   pub family-lines : (image : Result Image Refusal) (outcome : Outcome) → IsOkAnd image (IsBooted depot values guest made)
-      → lines_of outcome ≡ lines told_box [] (talked_out (first_family made.1.value.machine))
+      → lines_of outcome ≡ lines told_box [] (finish (first_family made.1.value.machine))
       → IsOkAnd image (HasLines values guest outcome)
-  family-lines (Ok image) outcome is ran = ran ∙ ap (λ (p : Paged). lines told_box [] (talked_out (first_family p.machine))) is.is
+  family-lines (Ok image) outcome is ran = ran ∙ ap (λ (p : Paged). lines told_box [] (finish (first_family p.machine))) is.is
   family-lines (Err refusal) outcome is ran = absurd is
 
   pub made-stands : (image : Result Image Refusal) → IsOkAnd image (IsBooted depot values guest made)

@@ -2,24 +2,22 @@
 use Rattle.std.proofs.Common.{◌≡◌, ◌⊎◌, inl, inr, true, false, ◌++◌, append_assoc, [], ◌∷◌, Option, Some, None, option_map, Result, Ok, Err, refl, sym, ap, ◌∙◌}
 use Rattle.std.specs.declared.alloc.AllocError.{AllocError}
 use Rattle.forest_tree.specs.Tree.{Tree, node, Path, subtree}
-use Rattle.forest_tree.specs.Settle.{has_ended}
+use Rattle.forest_tree.specs.Step.{has_ended}
 use Rattle.forest_tree.specs.Projection.{map_tree}
 use Rattle.sibling_forest.specs.Talk.{Box, boxed}
 use Rattle.sibling_forest.specs.Laws.{box_of}
-use Rattle.forest_history.specs.Places.{Spot, spots}
-use Rattle.forest_history.specs.World.{is_out_at}
+use Rattle.talking_history.specs.Places.{Spot, spots, bare, boxes}
+use Rattle.talking_history.specs.World.{is_out_at, holds, is_out, is_ready, place_of, world_of}
 use Rattle.forest_tree.proofs.Projected.{subtree-map}
-use Rattle.forest_history.specs.Seen.{spot_seen}
-use Rattle.talking_history.specs.Places.{bare, boxes}
+use Rattle.talking_history.specs.Seen.{spot_seen}
 use Rattle.talking_history.specs.World as history
-use Rattle.talking_history.specs.World.{holds, is_out, is_ready, place_of, world_of}
 use Rattle.talking_history.specs.Rows.{Allows, stuck, took}
 use Rattle.talking_history.specs.Histories.{History, row}
 use Rattle.talking_history.proofs.Ends.{over-ends, rests-ends}
 use Rattle.talking_history.proofs.Histories.{replay-leaves}
 use Rattle.talking_history.proofs.Seen.{allows-seen}
 use Rattle.forest_model.specs.Machine.{Machine}
-use Rattle.forest_model.specs.Forest.{machines, talked_out, talks}
+use Rattle.forest_model.specs.Forest.{machines, finish, talks}
 use Rattle.forest_model.specs.Paged.{Paged, paged_machines, paged_talks}
 use Rattle.forest_model.proofs.Paged.{paged-alike, paged-projects}
 use Rattle.forest_model.proofs.Rules.{machines-rules}
@@ -117,13 +115,13 @@ module _ (opening : Opening) (log : History Reason) (w : World) (h : Follows ope
   Family = history.World Machine Reason
 
   -- it is what the first machine's family comes to
-  at-end : EndsAt opening log → bare (record_at opening log).world.tree ≡ talked_out (first_family opening.first.value.machine)
+  at-end : EndsAt opening log → bare (record_at opening log).world.tree ≡ finish (first_family opening.first.value.machine)
   at-end ends =
       sym (same ends)
       ∙ replay-leaves machines talks machines-rules machines-talk log (opening_record opening) h.start
-      ∙ ap talked_out (first-bare opening.first.value.machine)
+      ∙ ap finish (first-bare opening.first.value.machine)
     where
-      same : EndsAt opening log → talked_out (bare (record_at opening log).world.tree) ≡ bare (record_at opening log).world.tree
+      same : EndsAt opening log → finish (bare (record_at opening log).world.tree) ≡ bare (record_at opening log).world.tree
       same (over has) = over-ends machines talks machines-rules machines-talk (record_at opening log).world.tree has
       same (at_rest s) = rests-ends machines talks machines-rules machines-talk (record_at opening log).world.tree s.resting
 
@@ -163,7 +161,7 @@ module _ (opening : Opening) (log : History Reason) (w : World) (h : Follows ope
   some-same a b e = cc
 
   pub ended-lines : EndsAt opening log → (r : Result (Option Outcome) AllocError) (outcome : Outcome) → TellsOutcome now.tree r → r ≡ Ok (Some outcome)
-      → lines_of outcome ≡ lines told_box [] (talked_out (first_family opening.first.value.machine))
+      → lines_of outcome ≡ lines told_box [] (finish (first_family opening.first.value.machine))
   ended-lines ends (Ok None) outcome tells e = absurd (goes-not ends tells)
   ended-lines ends (Ok (Some o)) outcome tells e =
       sym (ap lines_of (some-same o outcome e)) ∙ tells.1 ∙ family-lines now
@@ -171,7 +169,7 @@ module _ (opening : Opening) (log : History Reason) (w : World) (h : Follows ope
   ended-lines ends (Err error) outcome tells e = absurd (cc)
 
 -- where a pass has seen no stop, the family is at its end
-pub unstopped-end : (pass : PassValue) (finish : Finish) (reason : Option Reason) → Finishes pass finish → reason ≡ stopped_for finish
+pub unstopped-end : (pass : PassValue) (end : Finish) (reason : Option Reason) → Finishes pass end → reason ≡ stopped_for end
     → ((r : Reason) → reason ≡ Some r → ⊥) → IsAtEnd pass
-unstopped-end pass finish None end is none = at-its-end pass finish end (sym is)
-unstopped-end pass finish (Some r) end is none = absurd (none r refl)
+unstopped-end pass end None ends is none = at-its-end pass end ends (sym is)
+unstopped-end pass end (Some r) ends is none = absurd (none r refl)

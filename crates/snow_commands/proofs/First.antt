@@ -1,8 +1,8 @@
 -- The first pass of a new board: no seat is foreign to it, and it has seen nothing.
 use Rattle.std.proofs.Common.{◌≡◌, ◌⊎◌, inl, inr, ℕ, ◌<◌, true, false, List, [], ◌∷◌, get_or, length, Option, Some, None, Result, Ok, Err, IfErr, IfOk, refl, ap, ◌∙◌, subst, arith}
 use Rattle.std.specs.Option.{IsSomeAnd}
-use Rattle.forest_history.specs.Histories.{Seat}
-use Rattle.forest_model.specs.Forest.{talked_out}
+use Rattle.talking_history.specs.Histories.{Seat}
+use Rattle.forest_model.specs.Forest.{finish}
 use Rattle.forest_model.specs.Machine.{Machine}
 use Rattle.run_report.specs.Lines.{lines}
 use Rattle.run_report.specs.Report.{Ended as Outcome, lines_of, told_box}
@@ -40,12 +40,12 @@ first-blames {Lost} board pass later is blame = by (subst (λ (p : PassValue). L
     by (inr (inr elsewhere)) = absurd (elsewhere-not board (first_stop later.seen) elsewhere)
 
 -- a family that is told to have lost a wire was stopped for that
-pub told-blames : {A : Type 0} (Lost : Type 0) (r : Result A Reason) (finish : Finish) → IfErr r (λ reason. finish ≡ Stopped reason ⊎ reason ≡ why.Memory)
-    → (finish ≡ Stopped why.Wire → Lost) → IfErr r (λ reason. reason ≡ why.Wire → Lost)
-told-blames Lost (Ok value) finish told lost = tt
-told-blames Lost (Err reason) finish told lost = λ wire. by wire told
+pub told-blames : {A : Type 0} (Lost : Type 0) (r : Result A Reason) (end : Finish) → IfErr r (λ reason. end ≡ Stopped reason ⊎ reason ≡ why.Memory)
+    → (end ≡ Stopped why.Wire → Lost) → IfErr r (λ reason. reason ≡ why.Wire → Lost)
+told-blames Lost (Ok value) end told lost = tt
+told-blames Lost (Err reason) end told lost = λ wire. by wire told
   where
-    by : reason ≡ why.Wire → finish ≡ Stopped reason ⊎ reason ≡ why.Memory → Lost
+    by : reason ≡ why.Wire → end ≡ Stopped reason ⊎ reason ≡ why.Memory → Lost
     by wire (inl stopped) = lost (stopped ∙ ap Stopped wire)
     by wire (inr memory) = let no : why.Memory ≡ why.Wire = cc in absurd (cc)
 
@@ -60,10 +60,10 @@ only-kept streak (wire ∷ second ∷ rest) default count lost one is kept = abs
 -- the lines that are told of the machine that a board began with
 pub first-lines : (board : BoardValue) (pass later : PassValue) (first : KeyedMachine) (r : Result Outcome Reason) → board.opening.first.value ≡ first
     → pass ≡ first_pass board → WorkedAll pass later
-    → IfOk r (λ outcome. lines_of outcome ≡ lines told_box [] (talked_out (first_family later.board.opening.first.value.machine)))
-    → IfOk r (λ outcome. lines_of outcome ≡ lines told_box [] (talked_out (first_family first.machine)))
+    → IfOk r (λ outcome. lines_of outcome ≡ lines told_box [] (finish (first_family later.board.opening.first.value.machine)))
+    → IfOk r (λ outcome. lines_of outcome ≡ lines told_box [] (finish (first_family first.machine)))
 first-lines board pass later first r opened is worked told =
     let same : later.board.opening.first.value.machine ≡ first.machine =
     ap (λ (b : BoardValue). b.opening.first.value.machine) (worked.same_board ∙ ap (λ (p : PassValue). p.board) is)
     ∙ ap (λ (v : KeyedMachine). v.machine) opened in
-    subst (λ (m : Machine). IfOk r (λ (o : Outcome). lines_of o ≡ lines told_box [] (talked_out (first_family m)))) same told
+    subst (λ (m : Machine). IfOk r (λ (o : Outcome). lines_of o ≡ lines told_box [] (finish (first_family m)))) same told

@@ -16,7 +16,7 @@ use Rattle.guest_files.specs.Reads.{Guest, Refusal, and_then, disk_not_sectors}
 use Rattle.guest_files.specs.Parts.{IsDataRefusal, IsImageRefusal, IsScriptRefusal}
 use Rattle.forest_tree.specs.Tree.{Tree}
 use Rattle.sibling_forest.specs.Talk.{Box}
-use Rattle.forest_model.specs.Forest.{talked_out}
+use Rattle.forest_model.specs.Forest.{finish}
 use Rattle.forest_model.specs.Machine.{Machine}
 use Rattle.run_report.specs.Lines.{lines}
 use Rattle.run_report.specs.Report.{Ended as Outcome, lines_of, told_box}
@@ -32,11 +32,11 @@ module _ (tell : Tree (Box Machine) → List ℕ) (tell_of : Outcome → List �
   shows outcome text = tell_of outcome ≡ text
 
   abbrev of_image : Result Image Refusal → Result (List ℕ) Refusal
-  of_image image = and_then (λ image. Ok (tell (talked_out (family_of values guest image)))) image
+  of_image image = and_then (λ image. Ok (tell (finish (family_of values guest image)))) image
 
   text-made : (image : Result Image Refusal) (result : Result Outcome Stop) → MakesOver lost image (HasLines values guest) result
       → MakesOver lost (of_image image) shows result
-  text-made (Ok image) (Ok outcome) h = same outcome (talked_out (family_of values guest image)) h
+  text-made (Ok image) (Ok outcome) h = same outcome (finish (family_of values guest image)) h
   text-made (Ok image) (Err (ReadFault load)) h = absurd h.0
   text-made (Ok image) (Err (ImageRefused number)) h = absurd h
   text-made (Ok image) (Err (DataRefused number)) h = absurd h
@@ -98,9 +98,9 @@ generated-image seed =
 pub generated-there : (values : GeneratedValues) → (bytes : List ℕ) × (generated_text values ≡ Ok bytes)
 unfolding generated_text
 generated-there values =
-    let tell : Image → Result (List ℕ) Refusal = λ image. Ok (summary values.seed (talked_out (family_of generated_guest (generated_files values.seed) image))) in
+    let tell : Image → Result (List ℕ) Refusal = λ image. Ok (summary values.seed (finish (family_of generated_guest (generated_files values.seed) image))) in
     let image = image_of_code RAM_BASE (bytes_of_words (words values.seed)) DEFAULT_PAGES in
-    (summary values.seed (talked_out (family_of generated_guest (generated_files values.seed) image)), ap (and_then tell) (generated-image values.seed))
+    (summary values.seed (finish (family_of generated_guest (generated_files values.seed) image)), ap (and_then tell) (generated-image values.seed))
 
 -- a run of a generated guest that stopped, with a text that is there
 pub fileless-stops : {A : Type 0} (lost write_fault : Type 0) (text : Result (List ℕ) Refusal) (bytes : List ℕ) (old new : Option (List ℕ))

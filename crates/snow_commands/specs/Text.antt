@@ -8,9 +8,9 @@ use Rattle.image_depot.specs.Key.{Shelves}
 use Rattle.world_core.specs.declared.world.World.{World}
 use Rattle.elf_load.specs.Elf.{loaded}
 use Rattle.forest_tree.specs.Tree.{Tree}
-use Rattle.forest_tree.specs.Settle.{alone}
+use Rattle.forest_tree.specs.Step.{alone}
 use Rattle.forest_model.specs.declared.Options.{Options}
-use Rattle.forest_model.specs.Forest.{booted_box, machines, talked_out, talks}
+use Rattle.forest_model.specs.Forest.{booted, machines, finish, talks}
 use Rattle.sibling_forest.specs.Talk.{Box, boxed}
 use Rattle.talking_history.specs.World.{world_of}
 use Rattle.forest_model.specs.Machine.{Machine, boot}
@@ -45,7 +45,7 @@ abbrev pub first_family : Machine → Tree (Box Machine)
 first_family m = alone (boxed machines talks) (record { machine = m; inbox = [] })
 
 abbrev pub family_of : GuestValues → Guest → Image → Tree (Box Machine)
-family_of values guest image = booted_box image guest.disk guest.input (options_of values)
+family_of values guest image = booted image guest.disk guest.input (options_of values)
 
 -- the machine that is booted, with what is known of its pages
 abbrev pub booted_paged : Image → List ℕ → List ℕ → Options → Paged
@@ -84,13 +84,13 @@ IsBooted depot values guest made image = IsOfMachine depot (known_guest values g
 
 -- an outcome has the lines of the family of the machine that is booted from this image, run to its end
 abbrev pub HasLines : GuestValues → Guest → Outcome → Image → Type 0
-HasLines values guest outcome image = outcome_lines outcome ≡ lines told_box [] (talked_out (family_of values guest image))
+HasLines values guest outcome image = outcome_lines outcome ≡ lines told_box [] (finish (family_of values guest image))
 
 -- ---- the texts
 
 -- what is told of the family, run to its end
 abbrev pub family_text : (Tree (Box Machine) → List ℕ) → GuestValues → Guest → Result (List ℕ) Refusal
-family_text tell values guest = and_then (λ image. Ok (tell (talked_out (family_of values guest image)))) (guest_image values guest)
+family_text tell values guest = and_then (λ image. Ok (tell (finish (family_of values guest image)))) (guest_image values guest)
 
 -- `run`: the report
 abbrev pub run_with : GuestValues → Guest → Result (List ℕ) Refusal

@@ -4,7 +4,7 @@
 ghost use Rattle.std.specs.Prelude.{◌≡◌, ◌⊎◌, ◌+◌, ◌*◌, ◌^◌, ◌<◌, ◌≤◌, [], length, map, IfErr, IfOk};
 ghost use Rattle.page_claims.specs.Calls.{fresh};
 ghost use Rattle.talking_history.specs.World.{world_of};
-ghost use Rattle.forest_model.specs.Forest.{talked_out};
+ghost use Rattle.forest_model.specs.Forest.{finish};
 ghost use Rattle.forest_model.specs.Paged.{paged_machines, paged_talks};
 ghost use Rattle.run_report.specs.Lines.{lines};
 ghost use Rattle.run_report.specs.Report.{lines_of, told_box};
@@ -63,7 +63,7 @@ pub fn run_family<R: AllocGlobal + Threads + Wait + Sync, W: Wire + Send, G: Gat
     requires told { told_of family.0 ≡ [] }
     requires wires { (1 ≤ length wires.old) × (length wires.old ≤ MAX_WORKERS) }
     requires pages { CLAIMED_IMAGES * (extent.pages + extent.disk_pages) < 2 ^ 32 }
-    ensures lines { IfOk result (λ outcome. lines_of outcome ≡ lines told_box [] (talked_out (first_family family.1.value.machine))) }
+    ensures lines { IfOk result (λ outcome. lines_of outcome ≡ lines told_box [] (finish (first_family family.1.value.machine))) }
     ensures wire { IfErr result (λ reason. reason ≡ Reason.Wire → (0 < extent.clones) × IsOneLost W.streak wires.new) }
     ensures seeded { IfRan result (map W.seeds wires.new ≡ all_seeded plan.now.how.now.seed (map W.seeds wires.old)) }
     ensures len { length wires.new ≡ length wires.old }
@@ -78,12 +78,12 @@ pub fn run_family<R: AllocGlobal + Threads + Wait + Sync, W: Wire + Send, G: Gat
         return Err(Reason::Memory);
     };
     if extent.clones > 0 {
-        let (pass, finish) = run_seeded(rt, &board, pass, (&claims, claiming), depot, plan, wires);
-        return outcome_of(rt, board, pass, finish);
+        let (pass, end) = run_seeded(rt, &board, pass, (&claims, claiming), depot, plan, wires);
+        return outcome_of(rt, board, pass, end);
     }
     seed_all(wires, plan.how.seed());
     let mut unused = [Seeded::new()];
-    let (pass, finish) = run_seeded(
+    let (pass, end) = run_seeded(
         rt,
         &board,
         pass,
@@ -94,7 +94,7 @@ pub fn run_family<R: AllocGlobal + Threads + Wait + Sync, W: Wire + Send, G: Gat
     );
     // The call tells that this wire is not lost.
     let _ = unused[0].streak();
-    outcome_of(rt, board, pass, finish)
+    outcome_of(rt, board, pass, end)
 }
 
 /// Seeds each wire.
@@ -126,7 +126,7 @@ fn run_seeded<R: AllocGlobal + Threads + Wait + Sync, W: Wire + Send, G: Gate + 
     requires parts { length pass.number < 3 }
     requires splits { pass.splits + length wires.old ≤ 65535 }
     ensures worked { WorkedAll pass result.0 }
-    ensures finish { Finishes result.0 result.1 }
+    ensures ends { Finishes result.0 result.1 }
     ensures done { AreDone (length wires.new) pass result.0 }
     ensures wire { result.1 ≡ Finish.Stopped Reason.Wire → IsOneLost W.streak wires.new ⊎ (IsStopped pass ⊎ IsStoppedElsewhere pass result.0) }
     ensures seeded { map W.seeds wires.new ≡ all_seeded plan.now.how.now.seed (map W.seeds wires.old) }
@@ -139,8 +139,8 @@ fn run_seeded<R: AllocGlobal + Threads + Wait + Sync, W: Wire + Send, G: Gate + 
         ahead: plan.how.ahead(),
     };
     let (claims, claiming) = claims;
-    let (pass, _, finish) = run_hosts(rt, board, pass, claims, claiming, depot, wires, &settings);
-    (pass, finish)
+    let (pass, _, end) = run_hosts(rt, board, pass, claims, claiming, depot, wires, &settings);
+    (pass, end)
 }
 
 /// What came of a family, of which a pass has seen that it was stopped, that its root has ended, or that no machine makes a step any
@@ -149,14 +149,14 @@ fn outcome_of<R: AllocGlobal + Wait>(
     rt: &R,
     board: Board,
     pass: Pass,
-    finish: Finish,
+    end: Finish,
 ) -> Result<Outcome, Reason>
     requires board { pass.board ≡ board }
-    requires finish { Finishes pass finish }
-    ensures lines { IfOk result (λ outcome. lines_of outcome ≡ lines told_box [] (talked_out (first_family pass.board.opening.first.value.machine))) }
-    ensures reason { IfErr result (λ reason. finish ≡ Finish.Stopped reason ⊎ reason ≡ Reason.Memory) }
+    requires ends { Finishes pass end }
+    ensures lines { IfOk result (λ outcome. lines_of outcome ≡ lines told_box [] (finish (first_family pass.board.opening.first.value.machine))) }
+    ensures reason { IfErr result (λ reason. end ≡ Finish.Stopped reason ⊎ reason ≡ Reason.Memory) }
 {
-    if let Some(reason) = finish.reason() {
+    if let Some(reason) = end.reason() {
         return Err(reason);
     }
     match board.close(rt, pass).outcome(rt.alloc()) {

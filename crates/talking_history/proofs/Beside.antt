@@ -1,20 +1,20 @@
 -- Who rests after a change of the tree of one machine: those beside it that read the same of it as before, and those above it.
-use Rattle.std.proofs.Common.{◌≡◌, ◌≢◌, ◌⊎◌, inl, inr, ℕ, eqb, eqb-true, ◌&&◌, ◌||◌, not, Bool, true, false, cond, refl, sym, ap, ap₂, ◌∙◌, subst, [], ◌∷◌, ◌++◌, Option, Some, None, IsSome, is_some, option_map, option_and_then}
+use Rattle.std.proofs.Common.{◌≡◌, ◌⊎◌, inl, inr, ℕ, eqb, eqb-true, ◌&&◌, ◌||◌, not, Bool, true, false, cond, refl, sym, ap, ap₂, ◌∙◌, subst, [], ◌∷◌, ◌++◌}
+use Rattle.std.proofs.Common.{Option, Some, None, IsSome, is_some, option_map, option_and_then}
 use Rattle.std.proofs.Math.Bool.{or-false}
 use Rattle.std.proofs.lemmas.Bool.{and_parts}
 use Rattle.forest_tree.proofs.Broods.{eqb-same}
 use Rattle.forest_tree.specs.Operations.{Operations}
-use Rattle.forest_tree.specs.Tree.{Tree, node, Trees, machine, broods_of, at_child, child_at, brood_of, Branch, Path, subtree, beyond, goes_on, is_below}
-use Rattle.forest_tree.specs.Settle.{rests}
-use Rattle.forest_tree.proofs.Places.{some-same, at_child-none, brood_of-at, child_at-same, child_at-other, is-within}
-use Rattle.sibling_forest.specs.Talk.{Talk, send, receive, peer, Talks, queue, Box, boxed}
-use Rattle.sibling_forest.specs.Settle.{is_empty, box_at, lives_there, is_full_there, waits_by, sibling_rests_by, rests_there, rests_at}
-use Rattle.sibling_forest.specs.Laws.{child_number, is_sibling, queue_from, read_of, ReadAlike}
+use Rattle.forest_tree.specs.Tree.{Tree, node, Trees, machine, broods_of, at_child, child_at, brood_of, Branch, Path, subtree, beyond, goes_on, at_path, at_beyond}
+use Rattle.forest_tree.specs.Step.{rests}
+use Rattle.forest_tree.proofs.Places.{some-same, at_child-none, child_at-same, is-within}
+use Rattle.sibling_forest.specs.Talk.{Talks, Box, boxed}
+use Rattle.sibling_forest.specs.Settle.{box_at, waits_by, sibling_rests_by, rests_there, rests_at}
+use Rattle.sibling_forest.specs.Laws.{child_number, is_sibling, queue_from, read_of}
 use Rattle.sibling_forest.proofs.Crossing.{changed-brood}
 use Rattle.sibling_forest.proofs.Inner.{boxes-stay, waits-stay}
 use Rattle.sibling_forest.proofs.WhatIsRead.{read-rests}
-use Rattle.forest_history.specs.Places.{at_path, at_beyond}
-use Rattle.forest_history.proofs.Changes.{at_path-elsewhere, at_path-here, at_path-machine}
+use Rattle.forest_tree.proofs.Changes.{at_path-elsewhere, at_path-here, at_path-machine}
 
 module _ {M E : Type 0} (o : Operations M E) (k : Talks M) where
   -- child i waits with its talk for a sibling, if it is there

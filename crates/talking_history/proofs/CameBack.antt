@@ -1,13 +1,12 @@
 -- A machine that comes back, as changes of the tree: its steps at its name, a word at its sibling's, and its place.
 use Rattle.std.proofs.Common.{◌≡◌, ℕ, zero, suc, true, false, refl, ap, ◌∙◌, arith, Some, option_map}
 use Rattle.forest_tree.specs.Operations.{Operations, IsMachine}
-use Rattle.forest_tree.specs.Tree.{Tree, machine, Path, subtree}
-use Rattle.forest_tree.specs.Settle.{step}
+use Rattle.forest_tree.specs.Tree.{Tree, machine, Path, subtree, at_path}
+use Rattle.forest_tree.specs.Step.{step, advanced, steps}
 use Rattle.forest_tree.specs.Sound.{IsSound}
 use Rattle.sibling_forest.specs.Talk.{Talks, Box, IsTalking}
-use Rattle.forest_history.specs.Places.{at_path, Place, home, parked, Spot, spots, advanced, steps}
-use Rattle.forest_history.proofs.Changes.{at_path-agree, at_path-twice, at_path-here}
-use Rattle.talking_history.specs.Places.{placed, spot_talks, boxes, may_run}
+use Rattle.talking_history.specs.Places.{Place, home, parked, Spot, spots, placed, spot_talks, boxes, may_run}
+use Rattle.forest_tree.proofs.Changes.{at_path-agree, at_path-twice, at_path-here}
 use Rattle.talking_history.specs.World.{is_resting}
 use Rattle.talking_history.specs.Rows.{How, gave, ended, forked, joined, killed, sent, received, waited, back, made, run_at, came_back, Spends}
 use Rattle.talking_history.specs.Changes.{told}

@@ -1,35 +1,25 @@
 -- A step of a machine as a change at its path, and one at the path of the sibling to which it sends.
-use Rattle.std.proofs.Common.{◌≡◌, ℕ, zero, suc, ◌&&◌, eqb, not, Bool, true, false, cond, refl, sym, ap, ap₂, ◌∙◌, subst, List, [], ◌∷◌, replicate, Option, Some, None, is_some, option_map}
+use Rattle.std.proofs.Common.{◌≡◌, ℕ, zero, suc, ◌&&◌, not, true, false, refl, sym, ap, ◌∙◌, subst, List, [], ◌∷◌, replicate, Option, Some, None, is_some, option_map}
 use Rattle.std.proofs.lemmas.Bool.{and_parts, not-true, or_from}
 use Rattle.forest_tree.specs.Operations.{Operations, IsMachine}
-use Rattle.forest_tree.specs.Tree.{Tree, node, Trees, Broods, no_brood, brood, Log, machine, at_child, child_at, brood_of, at_brood, Branch, Path, subtree}
-use Rattle.forest_tree.specs.Settle as former
-use Rattle.forest_tree.specs.Settle.{settled_by, settled, step, rests}
+use Rattle.forest_tree.specs.Tree.{Tree, node, Trees, Broods, Log, machine, at_child, child_at, brood_of, at_brood, Branch, Path, subtree, at_path}
+use Rattle.forest_tree.specs.Step as own
+use Rattle.forest_tree.specs.Step.{settled_by, settled, step, rests, advanced, steps}
 use Rattle.forest_tree.specs.Sound.{IsSound}
-use Rattle.forest_tree.proofs.Settle.{machine-settled}
+use Rattle.forest_tree.proofs.Sound.{machine-settled}
 use Rattle.forest_tree.proofs.Places.{some-same, below-at, is-within}
 use Rattle.forest_tree.proofs.Rests.{lives-none, one-brood}
 use Rattle.forest_tree.proofs.Calls.{step-own}
 use Rattle.sibling_forest.specs.Talk.{Talk, send, receive, Talks, Inbox, at_queue, Box, kept_by, after, advance_by, boxed, IsTalking}
-use Rattle.sibling_forest.specs.Settle.{with_word, waits_by, sibling_rests_by, heard_by, delivered, sibling_step, settle, settle_all, rests_there, rests_at}
+use Rattle.sibling_forest.specs.Settle.{with_word, heard_by, delivered, sibling_step, settle, settle_all, rests_there, rests_at}
 use Rattle.sibling_forest.specs.Laws.{child_number}
 use Rattle.sibling_forest.proofs.Families.{at_child-id, at_child-agree, at_child-twice, at_brood-agree, at_brood-twice}
 use Rattle.sibling_forest.proofs.Siblings.{brings, target, sibling-moves}
 use Rattle.sibling_forest.proofs.Sound.{settle-keeps}
-use Rattle.forest_history.specs.Places.{at_path, advanced, steps}
-use Rattle.forest_history.proofs.Changes.{at_path-agree, at_path-leaves, at_path-twice, at_path-here}
+use Rattle.sibling_forest.proofs.Silent.{moves-here}
+use Rattle.forest_tree.proofs.Changes.{at_brood-leaves, at_path-agree, at_path-leaves, at_path-twice, at_path-here}
 use Rattle.talking_history.specs.Places.{may_run}
 use Rattle.talking_history.specs.Changes.{to_sibling, told}
-
-module _ {M : Type 0} where
-  at_brood-id : (f : Trees M → Trees M) → ((trees : Trees M) → f trees ≡ trees) → (t : ℕ) (broods : Broods M) → at_brood f t broods ≡ broods
-  unfolding at_brood
-  at_brood-id f same t no_brood = refl
-  at_brood-id f same t (brood u trees rest) = ap₂ (brood u) (by (eqb u t)) (at_brood-id f same t rest)
-    where
-      by : (here : Bool) → cond here (f trees) trees ≡ trees
-      by true = same trees
-      by false = refl
 
 at_queue-none : (f : List ℕ → List ℕ) (inbox : Inbox) → at_queue f 0 inbox ≡ inbox
 unfolding at_queue
@@ -54,7 +44,7 @@ module _ {M E : Type 0} (o : Operations M E) (k : Talks M) where
   -- what is said to a sibling, in its brood
   brood-none : (b : Branch) (x : Box M) (broods : Broods (Box M)) (log : Log (Box M))
       → node x broods log ≡ node x (at_brood (at_child (λ u. u) 0) b.ticket broods) log
-  brood-none b x broods log = ap (λ left. node x left log) (sym (at_brood-id (at_child (λ u. u) 0) (λ trees. at_child-id 0 trees) b.ticket broods))
+  brood-none b x broods log = ap (λ left. node x left log) (sym (at_brood-leaves (at_child (λ u. u) 0) (λ trees. at_child-id 0 trees) b.ticket broods))
 
   told-child : (what : Option Talk) (word : ℕ) (b : Branch) (x : Box M) (broods : Broods (Box M)) (log : Log (Box M))
       → told o k what word (b ∷ []) (node x broods log)
@@ -67,7 +57,7 @@ module _ {M E : Type 0} (o : Operations M E) (k : Talks M) where
   told-quiet : (b : Branch) (x : Box M) (broods : Broods (Box M)) (log : Log (Box M))
       → node x broods log ≡ node x (at_brood (at_child (λ u. u) b.child) b.ticket broods) log
   told-quiet b x broods log =
-      ap (λ left. node x left log) (sym (at_brood-id (at_child (λ u. u) b.child) (λ trees. at_child-id b.child trees) b.ticket broods))
+      ap (λ left. node x left log) (sym (at_brood-leaves (at_child (λ u. u) b.child) (λ trees. at_child-id b.child trees) b.ticket broods))
 
   told-below : (what : Option Talk) (word : ℕ) (b c : Branch) (path : Path) (x : Box M) (broods : Broods (Box M)) (log : Log (Box M))
       → told o k what word (b ∷ (c ∷ path)) (node x broods log)
@@ -119,22 +109,9 @@ module _ {M E : Type 0} (o : Operations M E) (k : Talks M) where
       ∙ sym (at_brood-twice (at_child (told o k what word (c ∷ path)) b.child) (at_child (at_path (step (boxed o k)) (c ∷ path)) b.child) b.ticket broods))
       ∙ sym (told-below what word b c path x (at_brood (at_child (at_path (step (boxed o k)) (c ∷ path)) b.child) b.ticket broods) log)
 
-  -- a machine that makes a step of its own
-  moves-here : (path : Path) (t a : Tree (Box M)) → subtree path t ≡ Some a → rests (boxed o k) (Some a) ≡ false
-      → k.talk (machine a).machine ≡ None → rests_at o k path t ≡ false
-  unfolding rests_at subtree
-  moves-here [] t a here moves quiet = ap (λ (u : Tree (Box M)). rests (boxed o k) (Some u)) (some-same t a here) ∙ moves
-  moves-here (b ∷ []) (node x broods log) a here moves quiet =
-      let is = is-within (boxed o k) [] (child_at b.child (brood_of b.ticket broods)) a here in
-      ap (λ c. sibling_rests_by o k c b.child (brood_of b.ticket broods)) (is.1 ∙ is.2)
-      ∙ or_from _ _ moves (ap (λ what. waits_by o k what b.child (machine a) (brood_of b.ticket broods)) quiet)
-  moves-here (b ∷ (c ∷ path)) (node x broods log) a here moves quiet =
-      let is = is-within (boxed o k) (c ∷ path) (child_at b.child (brood_of b.ticket broods)) a here in
-      ap (rests_there (rests_at o k (c ∷ path))) is.1 ∙ moves-here (c ∷ path) is.0 a is.2 moves quiet
-
   own-moves : (a : Tree (Box M)) → o.ending (machine a).machine ≡ None → o.call (machine a).machine ≡ None → rests (boxed o k) (Some a) ≡ false
   unfolding boxed
-  own-moves (node b broods log) lives call = or_from _ _ (ap is_some lives) (ap (λ next. former.waits_by (boxed o k) next broods) call)
+  own-moves (node b broods log) lives call = or_from _ _ (ap is_some lives) (ap (λ next. own.waits_by (boxed o k) next broods) call)
 
   own-after : (a : Tree (Box M)) → o.ending (machine a).machine ≡ None → o.call (machine a).machine ≡ None → k.talk (machine a).machine ≡ None
       → (machine (step (boxed o k) a)).machine ≡ o.advance (machine a).machine
@@ -185,7 +162,7 @@ module _ {M E : Type 0} (o : Operations M E) (k : Talks M) where
     own-changes (suc n) path t a h here own =
         let first = own-first n (machine a).machine own in
         let one : settle o k path t ≡ at_path (step (boxed o k)) path t =
-        step-changes path t a h here (moves-here path t a here (own-moves a first.lives first.call) first.quiet)
+        step-changes path t a h here (moves-here o k path t a here (own-moves a first.lives first.call) first.quiet)
         ∙ ap (λ what. told o k what (k.word (machine a).machine) path (at_path (step (boxed o k)) path t)) first.quiet in
         own-changes n path (settle o k path t) (step (boxed o k) a) (settle-keeps o k rules talking path t h).sound
         (ap (subtree path) one ∙ at_path-here (step (boxed o k)) path t ∙ ap (option_map (step (boxed o k))) here)

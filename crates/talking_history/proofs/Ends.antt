@@ -1,12 +1,12 @@
 -- What the rows leave of a forest, and where it ends.
 use Rattle.std.proofs.Common.{◌≡◌, ℕ, zero, suc, Bool, true, false, eqb, cond, refl, sym, ap, ◌∙◌, subst, List, [], ◌∷◌, replicate, Option, Some, None, IsSome, is_some, inl, inr}
 use Rattle.forest_tree.specs.Operations.{Operations, IsMachine}
-use Rattle.forest_tree.specs.Tree.{Tree, node, Trees, no_tree, tree, Broods, no_brood, brood, machine, size, at_child, at_brood, Path}
-use Rattle.forest_tree.specs.Settle.{has_ended}
+use Rattle.forest_tree.specs.Tree.{Tree, node, Trees, no_tree, tree, Broods, no_brood, brood, machine, size, at_child, at_brood, Path, at_path}
+use Rattle.forest_tree.specs.Step.{has_ended}
 use Rattle.forest_tree.specs.Sound.{IsSound}
 use Rattle.forest_tree.specs.Projection.{map_tree}
 use Rattle.forest_tree.proofs.Broods.{size-at_child}
-use Rattle.forest_tree.proofs.Settle.{KeepsTo}
+use Rattle.forest_tree.proofs.Sound.{KeepsTo, at_path-keeps}
 use Rattle.sibling_forest.specs.Talk.{Talks, Box, boxed, IsTalking}
 use Rattle.sibling_forest.specs.Settle.{settle, settle_all, rests_at}
 use Rattle.sibling_forest.specs.Finish.{rests, finish}
@@ -16,14 +16,12 @@ use Rattle.sibling_forest.proofs.Sound.{settle_all-keeps}
 use Rattle.sibling_forest.proofs.Finish.{IsOver, finish-settle_all, finish-over}
 use Rattle.sibling_forest.proofs.Members.{settle-whole, alone-whole}
 use Rattle.sibling_forest.proofs.Projected.{finish-map, rests-map}
-use Rattle.forest_history.specs.Places.{at_path, Place, home, out, Spot, spots}
-use Rattle.forest_history.proofs.Changes.{at_path-leaves}
-use Rattle.forest_history.proofs.Ends.{at_path-map, at_path-keeps}
-use Rattle.forest_history.proofs.Spots.{projects, machine-spots}
-use Rattle.talking_history.specs.Places.{placed, bare, spot_talks, boxes}
+use Rattle.talking_history.specs.Places.{Place, home, out, Spot, spots, placed, bare, spot_talks, boxes}
+use Rattle.forest_tree.proofs.Changes.{at_path-leaves}
+use Rattle.forest_tree.proofs.Projected.{at_path-map}
+use Rattle.talking_history.proofs.Spots.{projects, machine-spots, talks-alike, talking-spots, machine-boxes}
 use Rattle.talking_history.specs.World.{World, is_resting, world_of}
 use Rattle.talking_history.specs.Rows.{Row, over, stopped, stuck, idle, took, wake_failed, spent, dropped, kept, halted, back, made, run_at, does}
-use Rattle.talking_history.proofs.Spots.{talks-alike, talking-spots, machine-boxes}
 
 module _ {M E : Type 0} (o : Operations M E) (k : Talks M) where
   abbrev inner : Spot M → M

@@ -1,14 +1,10 @@
--- A name that is gone does not come back: neither by a step, nor by a change that leaves what a machine may clone.
+-- A name that is gone does not come back by a change that leaves what a machine may clone.
 use Rattle.std.proofs.Common.{◌≡◌, ℕ, ◌&&◌, eqb, Bool, true, false, cond, refl, sym, ap, ◌∙◌, subst, inl, inr, [], ◌∷◌, Option, Some, None, IsSome, option_and_then, option_map}
 use Rattle.forest_tree.specs.Operations.{Operations, IsMachine}
-use Rattle.forest_tree.specs.Tree.{Tree, node, Broods, machine, broods_of, child_at, brood_of, Branch, Path, subtree, beyond}
-use Rattle.forest_tree.specs.Settle.{step}
-use Rattle.forest_tree.specs.Sound.{IsSound}
+use Rattle.forest_tree.specs.Tree.{Tree, node, Broods, machine, broods_of, child_at, brood_of, Branch, Path, subtree, beyond, at_path}
 use Rattle.forest_tree.proofs.Places.{branch-sym, child-moved}
-use Rattle.forest_tree.proofs.Names.{IsPast, GoneIn, IsGone, gone-below, gone-settle, lost-gone}
-use Rattle.forest_history.specs.Places.{at_path}
-use Rattle.forest_history.specs.Histories.{is_nothing_left, is_same_path}
-use Rattle.forest_history.proofs.Changes.{settle-changes}
+use Rattle.forest_tree.proofs.Names.{IsPast, GoneIn, IsGone, gone-below}
+use Rattle.talking_history.specs.Histories.{is_nothing_left, is_same_path}
 
 -- what is seen at a path after a change that leaves what is below a machine
 module _ {M A : Type 0} (f : M → A) (g : Tree M → Tree M) (below : (t : Tree M) → broods_of (g t) ≡ broods_of t) where
@@ -65,12 +61,3 @@ module _ {M E : Type 0} (o : Operations M E) (rules : IsMachine o) where
       subst (λ c. GoneIn o rules (IsGone o rules way) c m b.ticket) (sym (child-moved (at_path g path) b y broods))
       (gone-below o rules (IsGone o rules way) (at_path g path) m b.ticket (eqb y.ticket b.ticket && eqb y.child b.child)
       (child_at b.child (brood_of b.ticket broods)) gone (λ u found inside. gone-changed g is way path u inside))
-
-  -- the same of a step, as a change
-  pub gone-stepped : (at path : Path) (t : Tree M) → IsSound o t → IsGone o rules at t → IsGone o rules at (at_path (step o) path t)
-  gone-stepped at path t h gone = subst (IsGone o rules at) (settle-changes o path t) (gone-settle o rules at path t h gone)
-
-  pub lost-stepped : (at path : Path) (t a : Tree M) → IsSound o t → subtree at t ≡ Some a → subtree at (at_path (step o) path t) ≡ None
-      → IsGone o rules at (at_path (step o) path t)
-  lost-stepped at path t a h here there =
-      subst (IsGone o rules at) (settle-changes o path t) (lost-gone o rules at path t a h here (ap (subtree at) (settle-changes o path t) ∙ there))

@@ -5,10 +5,8 @@ use Rattle.forest_tree.specs.Sound.{IsSound}
 use Rattle.sibling_forest.specs.Talk.{Talks, IsTalking}
 use Rattle.sibling_forest.specs.Finish.{finish}
 use Rattle.sibling_forest.specs.Members.{IsWholeForest}
-use Rattle.forest_history.specs.Places.{spots}
-use Rattle.forest_history.specs.Histories.{Seat}
-use Rattle.talking_history.specs.Places.{bare, spot_talks, boxes}
-use Rattle.talking_history.specs.Histories.{Entry, row, told, heard, tell_failed, hear_failed, History, Record, Permits, record_after, replay, IsLegal}
+use Rattle.talking_history.specs.Places.{spots, bare, spot_talks, boxes}
+use Rattle.talking_history.specs.Histories.{Seat, Entry, row, told, heard, tell_failed, hear_failed, History, Record, Permits, record_after, replay, IsLegal}
 use Rattle.talking_history.proofs.Ends.{does-sound, does-whole, does-leaves}
 
 module _ {M E : Type 0} (o : Operations M E) (k : Talks M) where

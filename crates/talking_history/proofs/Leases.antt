@@ -1,14 +1,12 @@
 -- A machine that a seat holds stands as it was taken, or has left the tree for good.
-use Rattle.std.proofs.Common.{◌≡◌, ◌≢◌, ℕ, zero, suc, not, Bool, true, false, cond, refl, sym, ap, ◌∙◌, subst, List}
-use Rattle.std.proofs.Common.{[], ◌∷◌, ◌++◌, Option, Some, None, IfSome, All, option_map, option_and_then}
+use Rattle.std.proofs.Common.{◌≡◌, ◌≢◌, ℕ, zero, suc, not, Bool, true, false, cond, refl, sym, ap, ◌∙◌, subst, List, [], ◌∷◌, ◌++◌, Option, Some, None, IfSome, All, option_map, option_and_then}
 use Rattle.std.proofs.lemmas.Bool.{and_parts}
 use Rattle.std.proofs.lemmas.List.Elements.{All-head, All-tail}
 use Rattle.forest_tree.specs.Operations.{Operations, IsMachine}
-use Rattle.forest_tree.specs.Tree.{Tree, node, machine, broods_of, child_at, brood_of, Path, subtree, beyond}
-use Rattle.forest_tree.specs.Settle as former
-use Rattle.forest_tree.specs.Settle.{has_ended, step, settle_beyond}
+use Rattle.forest_tree.specs.Tree.{Tree, node, machine, broods_of, child_at, brood_of, Path, subtree, beyond, at_path, at_beyond}
+use Rattle.forest_tree.specs.Step.{has_ended, step}
 use Rattle.forest_tree.specs.Sound.{IsSound}
-use Rattle.forest_tree.proofs.Places.{some-same, settle-at}
+use Rattle.forest_tree.proofs.Places.{some-same, stepped-at}
 use Rattle.sibling_forest.specs.Talk.{Talk, send, receive, Talks, Box, boxed, IsTalking}
 use Rattle.sibling_forest.specs.Settle.{delivered, settle, settle_all, rests_there, rests_at}
 use Rattle.sibling_forest.specs.Laws.{child_number}
@@ -16,23 +14,20 @@ use Rattle.sibling_forest.proofs.Words.{delivered-machine, delivered-below}
 use Rattle.sibling_forest.proofs.Siblings.{sibling-moves}
 use Rattle.sibling_forest.proofs.Sound.{settle-keeps}
 use Rattle.sibling_forest.proofs.Resting.{settle-rests}
-use Rattle.forest_history.specs.Places.{at_path, Place, out, Spot, spots}
-use Rattle.forest_history.specs.World.{is_ready_at}
-use Rattle.forest_history.specs.Histories.{Seat, Holding, is_nothing_left, is_same_path, holding, without_name}
-use Rattle.forest_history.proofs.Changes.{at_path-here, settle-changes}
-use Rattle.forest_history.proofs.Held.{same-is, apart-sym, left-held, left-holds}
-use Rattle.forest_history.proofs.Spots.{machine-spots}
-use Rattle.talking_history.specs.Places.{placed, spot_talks, boxes}
-use Rattle.talking_history.specs.World.{World, is_resting, lives_ready, holds}
+use Rattle.talking_history.specs.Places.{Place, out, Spot, spots, placed, spot_talks, boxes}
+use Rattle.talking_history.specs.World.{is_ready_at, World, is_resting, lives_ready, holds}
+use Rattle.talking_history.specs.Histories.{Seat, Holding, is_nothing_left, is_same_path, holding, without_name, Entry, row, heard, tell_failed, hear_failed, History, Record, HandsBack, with_taken}
+use Rattle.talking_history.specs.Histories.{holdings_after, record_of, Permits, record_after, replay, IsLegal}
+use Rattle.forest_tree.proofs.Changes.{at_path-here}
+use Rattle.talking_history.proofs.Held.{same-is, apart-sym, left-held, left-holds}
+use Rattle.talking_history.proofs.Spots.{machine-spots, machine-placed, talking-spots, machine-boxes}
 use Rattle.talking_history.specs.Rows.{Row, over, stopped, stuck, idle, took, wake_failed, spent, dropped, kept, halted, back, made, run_at, came_back, Allows, does}
 use Rattle.talking_history.specs.Changes.{to_sibling, told}
 use Rattle.talking_history.specs.Histories as history
-use Rattle.talking_history.specs.Histories.{Entry, row, heard, tell_failed, hear_failed, History, Record, HandsBack, with_taken, holdings_after, record_of, Permits, record_after, replay, IsLegal}
-use Rattle.talking_history.proofs.Spots.{machine-placed, talking-spots, machine-boxes}
 use Rattle.talking_history.proofs.Changes.{step-changes}
 use Rattle.talking_history.proofs.Histories.{after-sound, legal-apart, replay-append, replay-sound}
-use Rattle.forest_tree.proofs.Names.{IsGone, gone-none}
-use Rattle.talking_history.proofs.Gone.{path-seen, IsBeside, gone-changed, gone-stepped, lost-stepped}
+use Rattle.forest_tree.proofs.Names.{IsGone, gone-none, gone-stepped, lost-stepped}
+use Rattle.talking_history.proofs.Gone.{path-seen, IsBeside, gone-changed}
 
 -- ---- one step of a tree whose machines talk
 
@@ -53,7 +48,7 @@ module _ {M E : Type 0} (o : Operations M E) (k : Talks M) where
       let down = moves-there (c ∷ path) is.0 is.2 in
       (down.0, ap (option_and_then (subtree (c ∷ path))) is.1 ∙ down.1)
 
-  word-machine : (what : Option Talk) (word : ℕ) (path at : Path) (t : Tree (Box M))
+  pub word-machine : (what : Option Talk) (word : ℕ) (path at : Path) (t : Tree (Box M))
       → option_map (λ (u : Tree (Box M)). (machine u).machine) (subtree at (told o k what word path t)) ≡ option_map (λ (u : Tree (Box M)). (machine u).machine) (subtree at t)
   word-machine None word path at t = refl
   word-machine (Some (send j)) word path at t =
@@ -110,8 +105,8 @@ module _ {M E : Type 0} (o : Operations M E) (k : Talks M) where
             (sym (ap (subtree at) is) ∙ there))))
 
     -- the machine of another name makes a step
-    root-stays : (left : Option Path) (a : Tree (Box M)) → is_nothing_left left ≡ false → machine (settle_beyond (boxed o k) left a) ≡ machine a
-    unfolding former.settle
+    root-stays : (left : Option Path) (a : Tree (Box M)) → is_nothing_left left ≡ false → machine (at_beyond (step (boxed o k)) left a) ≡ machine a
+    unfolding at_path
     root-stays None a apart = refl
     root-stays (Some []) a apart = absurd (cc)
     root-stays (Some (b ∷ path)) (node x broods log) apart = refl
@@ -126,7 +121,7 @@ module _ {M E : Type 0} (o : Operations M E) (k : Talks M) where
         stepped (Some c) is said =
             some-same (machine b).machine (machine c).machine (sym said)
             ∙ ap (λ (u : Tree (Box M)). (machine u).machine)
-            (settle-at (boxed o k) all at path t h a c here (ap (subtree at) (settle-changes (boxed o k) path t) ∙ is))
+            (stepped-at (boxed o k) all at path t h a c here is)
             ∙ ap (λ (x : Box M). x.machine) (root-stays (beyond at path) a apart)
 
         by : (rest : Bool) → rests_at o k path t ≡ rest → (machine b).machine ≡ (machine a).machine

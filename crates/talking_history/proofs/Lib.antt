@@ -1,5 +1,6 @@
 pub mod Spots
 pub mod Ends
+pub mod Held
 pub mod Histories
 pub mod Changes
 pub mod Gone

@@ -1,52 +1,68 @@
--- A machine that has left the tree does not come back, over histories.
-use Rattle.std.proofs.Common.{◌≡◌, ℕ, zero, suc, refl, sym, ap, ◌∙◌, [], ◌∷◌, ◌++◌, Option, Some, None, IsSome}
+-- A machine that has left the tree does not come back, over steps in any order and over histories.
+use Rattle.std.proofs.Common.{◌≡◌, ℕ, refl, sym, ap, ◌∙◌, List, [], ◌∷◌, ◌++◌, replicate, inl, inr, Option, Some, None, IsSome}
 use Rattle.forest_tree.specs.Operations.{Operations, IsMachine}
-use Rattle.forest_tree.specs.Tree.{Tree, machine, Path, subtree}
+use Rattle.forest_tree.specs.Tree.{Tree, machine, Path, subtree, at_path}
 use Rattle.forest_tree.specs.Sound.{IsSound}
-use Rattle.sibling_forest.specs.Talk.{Talks, Box, IsTalking}
-use Rattle.sibling_forest.specs.Settle.{settle_all}
-use Rattle.forest_history.specs.Places.{at_path, Place, out, Spot, spots}
-use Rattle.forest_history.specs.Histories.{Seat}
-use Rattle.forest_history.proofs.Spots.{machine-spots}
-use Rattle.talking_history.specs.Places.{placed, spot_talks, boxes}
+use Rattle.forest_tree.proofs.Steps.{cases-ending}
+use Rattle.sibling_forest.specs.Talk.{Talks, Box, boxed, IsTalking}
+use Rattle.sibling_forest.specs.Settle.{settle, settle_all}
+use Rattle.sibling_forest.proofs.Boxes.{boxed-machine}
+use Rattle.sibling_forest.proofs.Sound.{settle-keeps, settle_all-keeps}
+use Rattle.talking_history.specs.Places.{Place, out, Spot, spots, placed, spot_talks, boxes}
+use Rattle.talking_history.specs.Histories.{Seat, Entry, row, told, heard, tell_failed, hear_failed, History, Record, record_of, record_after, replay}
+use Rattle.talking_history.proofs.Spots.{machine-spots, machine-placed, talking-spots}
 use Rattle.talking_history.specs.World.{World}
 use Rattle.talking_history.specs.Rows.{Row, over, stopped, stuck, idle, took, wake_failed, spent, dropped, kept, halted, back, made, run_at, does}
-use Rattle.talking_history.specs.Histories.{Entry, row, told, heard, tell_failed, hear_failed, History, Record, record_of, record_after, replay}
-use Rattle.talking_history.proofs.Spots.{machine-placed, talking-spots}
 use Rattle.talking_history.proofs.Histories.{after-sound, replay-append, replay-sound}
-use Rattle.forest_tree.proofs.Names.{gone-none}
+use Rattle.forest_tree.proofs.Names.{IsGone, gone-none}
 use Rattle.talking_history.proofs.Gone.{path-seen}
-use Rattle.talking_history.proofs.Leases.{none-seen, gone-stays, lost-goes, all, Gone, placed-below, put-gone, step_of, step-sound}
+use Rattle.talking_history.proofs.Leases.{none-seen, gone-stays, lost-goes, all, Gone, placed-below, put-gone}
+
+-- steps in any order
+module _ {M E : Type 0} (o : Operations M E) (k : Talks M) (rules : IsMachine o) (talking : IsTalking o k) (boxes_rules : IsMachine (boxed o k)) where
+  pub steps-gone : (at : Path) (paths : List Path) (t : Tree (Box M)) → IsSound (boxed o k) t → IsGone (boxed o k) boxes_rules at t
+      → IsGone (boxed o k) boxes_rules at (settle_all o k paths t)
+  unfolding settle_all
+  steps-gone at [] t h gone = gone
+  steps-gone at (path ∷ rest) t h gone =
+      steps-gone at rest (settle o k path t) (settle-keeps o k rules talking path t h).sound (gone-stays o k rules talking boxes_rules at path t h gone)
+
+  pub steps-lost : (at : Path) (paths : List Path) (t a : Tree (Box M)) → IsSound (boxed o k) t → subtree at t ≡ Some a
+      → subtree at (settle_all o k paths t) ≡ None → IsGone (boxed o k) boxes_rules at (settle_all o k paths t)
+  unfolding settle_all
+  steps-lost at [] t a h here there = let no : None ≡ Some a = sym there ∙ here in absurd (cc)
+  steps-lost at (path ∷ rest) t a h here there =
+      let sound : IsSound (boxed o k) (settle o k path t) = (settle-keeps o k rules talking path t h).sound in
+      elim (cases-ending (subtree at (settle o k path t))) [
+        | inl found ↦ steps-lost at rest (settle o k path t) found.0 sound found.1 there
+        | inr lost ↦ steps-gone at rest (settle o k path t) sound (lost-goes o k rules talking boxes_rules at path t a h here lost)
+      ]
+
+  left-by : (at : Path) (paths more : List Path) (t : Tree (Box M)) → IsSound (boxed o k) t → (c : Option (Tree (Box M))) → subtree at t ≡ c → IsSome c
+      → subtree at (settle_all o k paths t) ≡ None → subtree at (settle_all o k more (settle_all o k paths t)) ≡ None
+  left-by at paths more t h None here there lost = absurd (cc)
+  left-by at paths more t h (Some a) here there lost =
+      gone-none (boxed o k) boxes_rules at (settle_all o k more (settle_all o k paths t))
+      (steps-gone at more (settle_all o k paths t) (settle_all-keeps o k rules talking paths t h).sound (steps-lost at paths t a h here lost))
+
+module _ {M E : Type 0} (o : Operations M E) (k : Talks M) (rules : IsMachine o) (talking : IsTalking o k) where
+  pub left-by-steps : (at : Path) (paths more : List Path) (t : Tree (Box M)) → IsSound (boxed o k) t → IsSome (subtree at t)
+      → subtree at (settle_all o k paths t) ≡ None → subtree at (settle_all o k more (settle_all o k paths t)) ≡ None
+  left-by-steps at paths more t h there lost =
+      left-by o k rules talking (boxed-machine o k rules talking) at paths more t h (subtree at t) refl there lost
 
 module _ {M E : Type 0} (o : Operations M E) (k : Talks M) (rules : IsMachine o) (talking : IsTalking o k) where
   abbrev IsLost : Path → Tree (Box (Spot M)) → Type 0
   IsLost name t = Gone o k rules talking name t
 
-  step-gone : (name other : Path) (t : Tree (Box (Spot M))) → IsSound (boxes o k) t → IsLost name t → IsLost name (step_of o k rules talking other t)
-  step-gone name other t h gone =
-      gone-stays (spots o) (spot_talks k) (machine-spots o rules) (talking-spots o k talking) (all o k rules talking) name other t h gone
-
   pub run-gone : (name other : Path) (n : ℕ) (t : Tree (Box (Spot M))) → IsSound (boxes o k) t → IsLost name t → IsLost name (run_at o k other n t)
-  unfolding settle_all
-  run-gone name other zero t h gone = gone
-  run-gone name other (suc n) t h gone =
-      run-gone name other n (step_of o k rules talking other t) (step-sound o k rules talking other t h) (step-gone name other t h gone)
+  run-gone name other n t h gone =
+      steps-gone (spots o) (spot_talks k) (machine-spots o rules) (talking-spots o k talking) (all o k rules talking) name (replicate n other) t h gone
 
   run-lost : (name other : Path) (n : ℕ) (t a : Tree (Box (Spot M))) → IsSound (boxes o k) t → subtree name t ≡ Some a
       → subtree name (run_at o k other n t) ≡ None → IsLost name (run_at o k other n t)
-  unfolding settle_all
-  run-lost name other zero t a h here there = let no : None ≡ Some a = sym there ∙ here in absurd (cc)
-  run-lost name other (suc n) t a h here there =
-      by (subtree name (step_of o k rules talking other t)) refl
-      (λ b found. run-lost name other n (step_of o k rules talking other t) b (step-sound o k rules talking other t h) found there)
-    where
-      by : (c : Option (Tree (Box (Spot M)))) → subtree name (step_of o k rules talking other t) ≡ c
-          → ((b : Tree (Box (Spot M))) → subtree name (step_of o k rules talking other t) ≡ Some b → IsLost name (run_at o k other n (step_of o k rules talking other t)))
-          → IsLost name (run_at o k other n (step_of o k rules talking other t))
-      by None e down =
-          run-gone name other n (step_of o k rules talking other t) (step-sound o k rules talking other t h)
-          (lost-goes (spots o) (spot_talks k) (machine-spots o rules) (talking-spots o k talking) (all o k rules talking) name other t a h here e)
-      by (Some b) e down = down b e
+  run-lost name other n t a h here there =
+      steps-lost (spots o) (spot_talks k) (machine-spots o rules) (talking-spots o k talking) (all o k rules talking) name (replicate n other) t a h here there
 
   put-none : (place : Place) (name other : Path) (t : Tree (Box (Spot M))) → subtree name (at_path (placed place) other t) ≡ None → subtree name t ≡ None
   put-none place name other t none =

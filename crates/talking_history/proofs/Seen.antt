@@ -1,26 +1,41 @@
 -- A row of machines with more inside is that row of what is seen of them.
 use Rattle.std.proofs.Common.{◌≡◌, ℕ, zero, suc, ◌&&◌, ◌||◌, not, Bool, refl, sym, ap, ap₂, ◌∙◌, subst, Option, Some, None, option_map, is_some}
 use Rattle.forest_tree.specs.Operations.{Call, Operations}
-use Rattle.forest_tree.specs.Tree.{Tree, node, machine, Path, subtree}
-use Rattle.forest_tree.specs.Settle.{has_ended}
+use Rattle.forest_tree.specs.Tree.{Tree, node, machine, Path, subtree, at_path}
+use Rattle.forest_tree.specs.Step.{has_ended, advanced}
 use Rattle.forest_tree.specs.Projection.{map_tree, Projects}
-use Rattle.forest_tree.proofs.Projected.{subtree-map}
+use Rattle.forest_tree.proofs.Projected.{subtree-map, at_path-map}
 use Rattle.sibling_forest.specs.Talk.{Talk, Talks, Box, boxed}
 use Rattle.sibling_forest.specs.Settle.{settle, settle_all}
 use Rattle.sibling_forest.specs.Laws.{TalksAlike, box_of}
 use Rattle.sibling_forest.proofs.Projected.{settle-map, rests-map}
-use Rattle.forest_history.specs.Places.{at_path, Place, Spot, spots, out, advanced}
-use Rattle.forest_history.specs.World.{is_ready_at, is_asleep_at, is_out_at}
-use Rattle.forest_history.specs.Rows.{is_clone, is_join, is_kill, stands_at}
-use Rattle.forest_history.specs.Seen.{spot_seen}
-use Rattle.forest_history.proofs.Ends.{at_path-map}
-use Rattle.forest_history.proofs.Seen.{spots-seen}
-use Rattle.talking_history.specs.Places.{placed, spot_talks, boxes, may_run}
-use Rattle.talking_history.specs.World.{World, holds, place_of, is_out, is_resting, lives_ready, is_ready, is_to_wake, world_of}
-use Rattle.talking_history.specs.Rows.{How, gave, ended, forked, joined, killed, sent, received, waited, Row, over, stopped, stuck}
-use Rattle.talking_history.specs.Rows.{idle, took, wake_failed, spent, dropped, kept, halted, is_send, is_receive, back, made, IfThere}
-use Rattle.talking_history.specs.Rows.{speaks, may_spend, run_at, came_back, RanOut, Spends, Keeps, IsGoing, Allows, does}
-use Rattle.talking_history.specs.Seen.{seen}
+use Rattle.talking_history.specs.Places.{Place, Spot, spots, out, asleep, placed, spot_talks, boxes, may_run}
+use Rattle.talking_history.specs.World.{is_ready_at, is_asleep_at, is_out_at, World, holds, place_of, is_out, is_resting, lives_ready, is_ready, is_to_wake, world_of}
+use Rattle.talking_history.specs.Rows.{is_clone, is_join, is_kill, stands_at, How, gave, ended, forked, joined, killed, sent, received, waited, Row, over, stopped, stuck, idle, took, wake_failed}
+use Rattle.talking_history.specs.Rows.{spent, dropped, kept, halted, is_send, is_receive, back, made, IfThere, speaks, may_spend, run_at, came_back, RanOut, Spends, Keeps, IsGoing, Allows, does}
+use Rattle.talking_history.specs.Seen.{spot_seen, seen}
+
+module _ {M N E : Type 0} (o : Operations M E) (p : Operations N E) (f : M → N) (is : Projects o p f) where
+  abbrev at_place : Place → N → Spot N
+  at_place place m = record { machine = m; place = place }
+
+  pub spots-seen : Projects (spots o) (spots p) (spot_seen f)
+  unfolding spots
+  spots-seen = record {
+    ending = λ s. is.ending s.machine;
+    call = λ s. is.call s.machine;
+    left = λ s. is.left s.machine;
+    holding = λ s. is.holding s.machine;
+    cloned = λ s. is.cloned s.machine;
+    grant = λ s t. is.grant s.machine t;
+    may_clone = λ s t. is.may_clone s.machine t;
+    is_good = λ s. is.is_good s.machine;
+    advance = λ s. ap (at_place s.place) (is.advance s.machine);
+    forked = λ s. ap (at_place s.place) (is.forked s.machine);
+    child = λ s k. ap (at_place asleep) (is.child s.machine k);
+    after_join = λ s endings. ap (at_place s.place) (is.after_join s.machine endings);
+    after_kill = λ s. ap (at_place s.place) (is.after_kill s.machine);
+  }
 
 module _ {M N : Type 0} (f : M → N) where
   abbrev see : Tree (Box (Spot M)) → Tree (Box (Spot N))

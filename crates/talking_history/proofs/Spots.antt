@@ -5,13 +5,35 @@ use Rattle.forest_tree.specs.Tree.{Tree, node, machine}
 use Rattle.sibling_forest.specs.Talk.{Talks, Box, HasNumberOf, IsTalking}
 use Rattle.sibling_forest.specs.Laws.{TalksAlike}
 use Rattle.sibling_forest.proofs.Boxes.{boxed-machine}
-use Rattle.forest_history.specs.Places.{Place, Spot, put, spots}
-use Rattle.forest_history.proofs.Spots.{machine-spots}
-use Rattle.talking_history.specs.Places.{placed, spot_talks, boxes}
+use Rattle.talking_history.specs.Places.{Place, Spot, put, spots, placed, spot_talks, boxes}
+use Rattle.forest_tree.specs.Projection.{Projects}
+use Rattle.forest_tree.proofs.Projected.{IsMachine-projected}
 
 -- a machine that is put at a place
 pub machine-placed : {M : Type 0} (place : Place) (t : Tree (Box (Spot M))) → (machine (placed place t)).machine ≡ put place (machine t).machine
 machine-placed place (node b broods log) = refl
+
+module _ {M E : Type 0} (o : Operations M E) where
+  pub projects : Projects (spots o) o (λ (s : Spot M). s.machine)
+  unfolding spots
+  projects = record {
+    ending = λ s. refl;
+    call = λ s. refl;
+    left = λ s. refl;
+    holding = λ s. refl;
+    cloned = λ s. refl;
+    grant = λ s t. refl;
+    may_clone = λ s t. refl;
+    is_good = λ s. refl;
+    advance = λ s. refl;
+    forked = λ s. refl;
+    child = λ s k. refl;
+    after_join = λ s endings. refl;
+    after_kill = λ s. refl;
+  }
+
+  pub machine-spots : IsMachine o → IsMachine (spots o)
+  machine-spots rules = IsMachine-projected (spots o) o (λ (s : Spot M). s.machine) projects rules
 
 module _ {M : Type 0} (k : Talks M) where
   pub talks-alike : TalksAlike (spot_talks k) k (λ (s : Spot M). s.machine)

@@ -3,12 +3,10 @@ use Rattle.std.proofs.Common.{◌≡◌, ℕ, Bool, true, false, refl, sym, ap, 
 use Rattle.forest_tree.specs.Operations.{Operations}
 use Rattle.forest_tree.specs.Tree.{Tree, Path, subtree}
 use Rattle.sibling_forest.specs.Talk.{Talks, Box}
-use Rattle.forest_history.specs.Places.{Spot}
-use Rattle.forest_history.specs.World.{is_out_at}
-use Rattle.forest_history.specs.Histories.{Seat}
-use Rattle.talking_history.specs.World.{World, holds, place_of, IsWhole, is_resting}
+use Rattle.talking_history.specs.Places.{Spot}
+use Rattle.talking_history.specs.World.{is_out_at, World, holds, place_of, IsWhole, is_resting}
+use Rattle.talking_history.specs.Histories.{Seat, Entry, row, told, heard, tell_failed, hear_failed, History, Record, Permits, record_after, replay, IsLegal}
 use Rattle.talking_history.specs.Rows.{How, Row, over, stopped, stuck, idle, took, wake_failed, spent, dropped, kept, halted, run_at, Spends, IfThere, NoneReady, Allows, does}
-use Rattle.talking_history.specs.Histories.{Entry, row, told, heard, tell_failed, hear_failed, History, Record, Permits, record_after, replay, IsLegal}
 
 module _ {M E : Type 0} (o : Operations M E) (k : Talks M) where
   abbrev is_away : Tree (Box (Spot M)) → Bool

@@ -3,17 +3,15 @@ use Rattle.std.proofs.Common.{◌≡◌, ◌⊎◌, inl, inr, ◌&&◌, not, Boo
 use Rattle.std.proofs.lemmas.Bool.{not-false, not-true, or_parts}
 use Rattle.forest_tree.specs.Operations.{Operations, IsMachine}
 use Rattle.forest_tree.specs.Tree.{Tree, node, machine, child_at, brood_of, Path, subtree}
-use Rattle.forest_tree.specs.Settle as former
-use Rattle.forest_tree.specs.Settle.{has_ended, waits}
+use Rattle.forest_tree.specs.Step as own
+use Rattle.forest_tree.specs.Step.{has_ended, waits}
 use Rattle.forest_tree.proofs.Places.{some-same, is-within}
 use Rattle.sibling_forest.specs.Talk.{Talks, Box, boxed, IsTalking}
 use Rattle.sibling_forest.specs.Settle.{waits_by, sibling_rests_by, rests_there, rests_at}
 use Rattle.sibling_forest.specs.Finish.{paths, first_not, first_path, rests, finish}
 use Rattle.sibling_forest.proofs.Resting.{found-is, all-paths, all-rests}
-use Rattle.forest_history.specs.Places.{Place, asleep, home, out, parked, Spot, spots}
-use Rattle.forest_history.specs.World.{is_ready_at, is_out_at}
-use Rattle.talking_history.specs.Places.{bare, spot_talks, boxes}
-use Rattle.talking_history.specs.World.{World, holds, place_of, is_out, IsWhole, is_resting, lives_ready, is_ready}
+use Rattle.talking_history.specs.Places.{Place, asleep, home, out, parked, Spot, spots, bare, spot_talks, boxes}
+use Rattle.talking_history.specs.World.{is_ready_at, is_out_at, World, holds, place_of, is_out, IsWhole, is_resting, lives_ready, is_ready}
 use Rattle.talking_history.specs.Rows.{stuck, idle, took, IsGoing, NoneReady, Allows}
 use Rattle.talking_history.proofs.Ends.{rests-bare, rests-ends}
 use Rattle.talking_history.proofs.Leases.{moves-there}
@@ -44,12 +42,12 @@ module _ {M : Type 0} where
 module _ {M E : Type 0} (o : Operations M E) (k : Talks M) where
   -- a machine that makes a step lives, and does not wait for its children
   pub moves-inside : (path : Path) (t a : Tree (Box M)) → subtree path t ≡ Some a → rests_at o k path t ≡ false
-      → former.rests (boxed o k) (Some a) ≡ false
+      → own.rests (boxed o k) (Some a) ≡ false
   unfolding rests_at subtree
-  moves-inside [] t a here moves = ap (λ (u : Tree (Box M)). former.rests (boxed o k) (Some u)) (sym (some-same t a here)) ∙ moves
+  moves-inside [] t a here moves = ap (λ (u : Tree (Box M)). own.rests (boxed o k) (Some u)) (sym (some-same t a here)) ∙ moves
   moves-inside (b ∷ []) (node x broods log) a here moves =
       let is = is-within (boxed o k) [] (child_at b.child (brood_of b.ticket broods)) a here in
-      (or_parts (former.rests (boxed o k) (Some a)) (waits_by o k (k.talk (machine a).machine) b.child (machine a) (brood_of b.ticket broods))
+      (or_parts (own.rests (boxed o k) (Some a)) (waits_by o k (k.talk (machine a).machine) b.child (machine a) (brood_of b.ticket broods))
       (ap (λ c. sibling_rests_by o k c b.child (brood_of b.ticket broods)) (sym (is.1 ∙ is.2)) ∙ moves)).0
   moves-inside (b ∷ (c ∷ path)) (node x broods log) a here moves =
       let is = is-within (boxed o k) (c ∷ path) (child_at b.child (brood_of b.ticket broods)) a here in

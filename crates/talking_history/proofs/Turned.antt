@@ -3,28 +3,23 @@
 use Rattle.std.proofs.Common.{◌≡◌, ℕ, zero, suc, ◌&&◌, not, eqb, Bool, true, false, cond, refl, sym, ap, ◌∙◌, subst, [], ◌∷◌, Option, Some, None, is_some, option_and_then, option_map}
 use Rattle.std.proofs.lemmas.Bool.{and_parts, not-true}
 use Rattle.forest_tree.specs.Operations.{Call, clone, join, kill, Operations, IsMachine}
-use Rattle.forest_tree.specs.Tree.{Tree, node, Trees, no_tree, Broods, no_brood, brood, Log, no_entry, joined, killed}
-use Rattle.forest_tree.specs.Tree.{machine, broods_of, at_child, child_at, brood_of, without, at_brood, Path, subtree}
-use Rattle.forest_tree.specs.Settle.{have_ended, endings, alone, children_from, children, settled_by, settled, join_by, step_by, step_from, step}
+use Rattle.forest_tree.specs.Tree.{Tree, node, Trees, no_tree, Broods, no_brood, brood, Log, no_entry, joined, killed, at_path, machine, broods_of, at_child, child_at, brood_of, without, at_brood}
+use Rattle.forest_tree.specs.Tree.{Path, subtree}
+use Rattle.forest_tree.specs.Step.{have_ended, endings, alone, children_from, children, settled_by, settled, join_by, step_by, step_from, step, steps}
 use Rattle.forest_tree.specs.Sound.{IsSound}
 use Rattle.forest_tree.specs.Projection.{map_tree, map_broods, map_log}
 use Rattle.forest_tree.proofs.Places.{brood_of-without, child-moved}
-use Rattle.forest_tree.proofs.Projected.{subtree-map}
+use Rattle.forest_tree.proofs.Projected.{subtree-map, at_path-map}
 use Rattle.sibling_forest.specs.Talk.{Talk, send, receive, Talks, Box, boxed, IsTalking}
 use Rattle.sibling_forest.specs.Settle.{delivered, settle, settle_all}
 use Rattle.sibling_forest.specs.Laws.{child_number}
 use Rattle.sibling_forest.proofs.Words.{heard-machine}
-use Rattle.forest_history.specs.Places.{at_path, Place, home, out, parked, Spot, spots, steps}
-use Rattle.forest_history.specs.Places as bare_places
-use Rattle.forest_history.specs.World.{is_out_at}
-use Rattle.forest_history.proofs.Spots.{machine-spots}
-use Rattle.forest_history.proofs.Ends.{at_path-map}
-use Rattle.forest_history.proofs.Changes.{at_path-agree, at_path-leaves, at_path-twice}
-use Rattle.talking_history.specs.Places.{placed, spot_talks, boxes, may_run}
-use Rattle.talking_history.specs.World.{World, holds, place_of, is_out, IsWhole, is_resting, world_of}
+use Rattle.talking_history.specs.Places.{Place, home, out, parked, Spot, put, spots, placed, spot_talks, boxes, may_run}
+use Rattle.talking_history.specs.World.{is_out_at, World, holds, place_of, is_out, IsWhole, is_resting, world_of}
+use Rattle.talking_history.proofs.Spots.{machine-spots, talking-spots}
+use Rattle.forest_tree.proofs.Changes.{at_path-agree, at_path-leaves, at_path-twice}
 use Rattle.talking_history.specs.Rows.{How, gave, ended, forked, joined, killed, sent, received, waited, took, spent, back, made, run_at, came_back, Spends, IfThere, Allows, does}
 use Rattle.talking_history.specs.Changes.{to_sibling, told}
-use Rattle.talking_history.proofs.Spots.{talking-spots}
 use Rattle.talking_history.proofs.Changes.{step-changes, own-changes}
 use Rattle.talking_history.proofs.Ends.{put-sound, run-sound}
 use Rattle.talking_history.proofs.Leases.{moves-there}
@@ -45,7 +40,10 @@ module _ {M E : Type 0} (o : Operations M E) (k : Talks M) where
   abbrev strip : Tree (Box (Spot M)) → Tree (Spot M)
   strip t = map_tree (λ b. b.machine) t
 
-  strip-placed : (place : Place) (t : Tree (Box (Spot M))) → strip (placed place t) ≡ bare_places.placed place (strip t)
+  abbrev spot_placed : Place → Tree (Spot M) → Tree (Spot M)
+  spot_placed place (node s broods log) = node (put place s) broods log
+
+  strip-placed : (place : Place) (t : Tree (Box (Spot M))) → strip (placed place t) ≡ spot_placed place (strip t)
   unfolding map_tree
   strip-placed place (node b broods log) = refl
 
@@ -63,15 +61,15 @@ module _ {M E : Type 0} (o : Operations M E) (k : Talks M) where
       ∙ at_path-leaves (λ u. u) (λ u. refl) (to_sibling j path) (strip t)
   strip-told (Some (receive j)) word path t = refl
 
-  strip-put : (place : Place) (name : Path) (t : Tree (Box (Spot M))) → strip (at_path (placed place) name t) ≡ at_path (bare_places.placed place) name (strip t)
+  strip-put : (place : Place) (name : Path) (t : Tree (Box (Spot M))) → strip (at_path (placed place) name t) ≡ at_path (spot_placed place) name (strip t)
   strip-put place name t =
-      at_path-map (λ (b : Box (Spot M)). b.machine) (placed place) (bare_places.placed place) (λ u. strip-placed place u) name t
+      at_path-map (λ (b : Box (Spot M)). b.machine) (placed place) (spot_placed place) (λ u. strip-placed place u) name t
 
   strip-said : (place : Place) (name : Path) (what : Option Talk) (word : ℕ) (t : Tree (Box (Spot M)))
       → strip (at_path (placed place) name (told (spots o) (spot_talks k) what word name t)) ≡ strip (at_path (placed place) name t)
   strip-said place name what word t =
       strip-put place name (told (spots o) (spot_talks k) what word name t)
-      ∙ ap (at_path (bare_places.placed place) name) (strip-told what word name t) ∙ sym (strip-put place name t)
+      ∙ ap (at_path (spot_placed place) name) (strip-told what word name t) ∙ sym (strip-put place name t)
 
   -- the machine that comes back, with its steps
   abbrev pub turned : How → ℕ → Tree (Box (Spot M)) → Tree (Box (Spot M))
@@ -249,7 +247,7 @@ module _ {M E : Type 0} (o : Operations M E) (k : Talks M) where
   steps-home (suc n) t h = steps-home n (step (boxes o k) t) (step-home t h)
 
   put-home : (place : Place) → is_out_at place ≡ false → (t : Tree (Box (Spot M))) → AreHome (broods_of t) → IsWhole (placed place t)
-  put-home place inside (node b broods log) h = whole-node (record b { machine = bare_places.put place b.machine }) broods log inside h
+  put-home place inside (node b broods log) h = whole-node (record b { machine = put place b.machine }) broods log inside h
 
   -- a change that lets no machine out
   changed-home : (f : Tree (Box (Spot M)) → Tree (Box (Spot M))) (same : Bool) (c : Option (Tree (Box (Spot M))))

@@ -2,31 +2,40 @@
 use Rattle.std.proofs.Common.{◌≡◌, ◌≢◌, ℕ, zero, suc, ◌+◌, ◌<◌, ◌≤◌, ◌⊎◌, inl, inr, not, Bool, true, false, refl, sym, ap, ap₂, ◌∙◌, subst, arith, Option, Some, None, option_map, is_some}
 use Rattle.std.proofs.lemmas.Bool.{and_parts, not-true}
 use Rattle.forest_tree.specs.Operations.{Operations, IsMachine}
-use Rattle.forest_tree.specs.Tree.{Tree, node, Trees, no_tree, tree, Broods, no_brood, brood, machine, Path, subtree}
-use Rattle.forest_tree.specs.Settle.{has_ended, step, rests}
+use Rattle.forest_tree.specs.Tree.{Tree, node, Trees, no_tree, tree, Broods, no_brood, brood, machine, Path, subtree, at_path}
+use Rattle.forest_tree.specs.Step.{has_ended, step, rests, advanced, steps}
 use Rattle.forest_tree.specs.Sound.{IsSound}
 use Rattle.forest_tree.specs.Ahead.{own_weight, weigh, weigh_trees, weigh_broods}
 use Rattle.forest_tree.specs.Projection.{map_tree, map_trees, map_broods}
 use Rattle.forest_tree.proofs.Rests.{lives-none}
-use Rattle.forest_tree.proofs.Ahead.{own_under, under, weigh-within, weigh-lives, step-falls}
+use Rattle.forest_tree.proofs.Ahead.{own_under, under, weigh-within, weigh-lives, step-falls, steps-within, steps-fall, at_path-falls}
 use Rattle.sibling_forest.specs.Talk.{Talks, Box, boxed, IsTalking}
 use Rattle.sibling_forest.specs.Settle.{settle_all}
-use Rattle.forest_history.specs.Places.{at_path, Place, home, out, parked, Spot, put, spots, advanced, steps}
-use Rattle.forest_history.specs.World.{is_ready_at}
-use Rattle.forest_history.specs.Weight.{place_weight}
-use Rattle.forest_history.proofs.Changes.{at_path-here}
-use Rattle.forest_history.proofs.Ends.{steps-keeps}
-use Rattle.forest_history.proofs.Weigh.{steps-within, steps-fall, at_path-falls}
-use Rattle.forest_history.proofs.Turns.{place-low, ready-waiting}
-use Rattle.talking_history.specs.Places.{placed, spot_talks, boxes, may_run}
-use Rattle.talking_history.specs.World.{World, holds, place_of, is_resting, lives_ready}
+use Rattle.talking_history.specs.Places.{Place, asleep, home, out, parked, Spot, put, spots, placed, spot_talks, boxes, may_run}
+use Rattle.talking_history.specs.World.{is_ready_at, World, holds, place_of, is_resting, lives_ready}
+use Rattle.talking_history.specs.Weight.{place_weight, weight}
+use Rattle.forest_tree.proofs.Changes.{at_path-here}
+use Rattle.forest_tree.proofs.Sound.{steps-keeps}
 use Rattle.talking_history.specs.Rows.{How, gave, ended, forked, joined, killed, sent, received, waited, took, spent, back, run_at, may_spend, Spends, IfThere, Allows, does}
-use Rattle.talking_history.specs.Weight.{weight}
 use Rattle.talking_history.proofs.Spots.{machine-placed, machine-boxes}
 use Rattle.talking_history.proofs.Changes.{runs-on}
 use Rattle.talking_history.proofs.Ends.{placed-keeps, put-sound, resting-put}
 use Rattle.talking_history.proofs.Stuck.{moves-inside}
 use Rattle.talking_history.proofs.Turned.{ready-end, may_run-spots, turned, steps-last, run-is, turn-is}
+
+-- a place counts at most one
+place-low : (place : Place) → place_weight place ≤ 1
+place-low asleep = omega arith
+place-low home = omega arith
+place-low out = omega arith
+place-low parked = omega arith
+
+-- where a machine that waits is ready, its place counts
+ready-waiting : (place : Place) → is_ready_at place true ≡ true → place_weight place ≡ 1
+ready-waiting asleep ready = refl
+ready-waiting home ready = refl
+ready-waiting out ready = absurd (cc)
+ready-waiting parked ready = absurd (cc)
 
 module _ {M E : Type 0} (o : Operations M E) (k : Talks M) where
   abbrev strip : Box (Spot M) → Spot M

@@ -7,14 +7,12 @@ use Rattle.sibling_forest.specs.Talk.{Talk, peer, Talks, Box, IsTalking}
 use Rattle.sibling_forest.specs.Settle.{settle_all}
 use Rattle.sibling_forest.specs.Laws.{child_number, is_sibling}
 use Rattle.sibling_forest.proofs.Wakes.{waits-on}
-use Rattle.forest_history.specs.Places.{Spot, spots}
-use Rattle.forest_history.specs.Histories.{is_same_path}
-use Rattle.forest_history.proofs.Held.{same-is}
-use Rattle.forest_history.proofs.Spots.{machine-spots}
-use Rattle.talking_history.specs.Places.{spot_talks, boxes}
+use Rattle.talking_history.specs.Places.{Spot, spots, spot_talks, boxes}
+use Rattle.talking_history.specs.Histories.{is_same_path}
+use Rattle.talking_history.proofs.Held.{same-is}
+use Rattle.talking_history.proofs.Spots.{machine-spots, talking-spots}
 use Rattle.talking_history.specs.World.{is_resting}
 use Rattle.talking_history.specs.Rows.{run_at}
-use Rattle.talking_history.proofs.Spots.{talking-spots}
 use Rattle.forest_tree.proofs.Names.{gone-none}
 use Rattle.talking_history.proofs.Leases.{moves-there, lost-goes, other-stays, all, step_of, step-sound}
 use Rattle.talking_history.proofs.Names.{run-gone}

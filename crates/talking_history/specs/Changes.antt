@@ -1,11 +1,10 @@
 -- A step of a machine as changes at two paths: its own, and that of the sibling to which it sends.
 use Rattle.std.specs.Prelude.{ℕ, [], ◌∷◌, Option, Some, None}
 use Rattle.forest_tree.specs.Operations.{Operations}
-use Rattle.forest_tree.specs.Tree.{Tree, Path}
+use Rattle.forest_tree.specs.Tree.{Tree, Path, at_path}
 use Rattle.sibling_forest.specs.Talk.{Talk, send, receive, Talks, Box}
 use Rattle.sibling_forest.specs.Settle.{delivered}
 use Rattle.sibling_forest.specs.Laws.{child_number}
-use Rattle.forest_history.specs.Places.{at_path}
 
 -- the path to child j of the ticket of which a path leads to a child
 unfoldable pub to_sibling : ℕ → Path → Path

@@ -1,13 +1,15 @@
--- Histories of a world: what its seats did, one entry after another, and what is on record after them. Seats, and who holds
--- what, are those of `forest_history`.
-use Rattle.std.specs.Prelude.{ℕ, ◌<◌, List, [], ◌∷◌, ◌++◌, length, Option, Some, None}
+-- Histories of a world: what its seats did, one entry after another, and what is on record after them.
+use Rattle.std.specs.Prelude.{ℕ, ◌<◌, List, [], ◌∷◌, ◌++◌, length, Option, Some, None, ◌≡◌, Bool, true, false, if◌then◌else◌, IsSomeAnd}
 use Rattle.forest_tree.specs.Operations.{Operations}
-use Rattle.forest_tree.specs.Tree.{Tree, machine, Path, subtree}
+use Rattle.forest_tree.specs.Tree.{Tree, machine, Path, subtree, beyond}
 use Rattle.sibling_forest.specs.Talk.{Talks, Box}
-use Rattle.forest_history.specs.Places.{Spot}
-use Rattle.forest_history.specs.Histories.{Seat, Holding, without_name, IsHeldBy}
+use Rattle.talking_history.specs.Places.{Spot}
 use Rattle.talking_history.specs.World.{World}
 use Rattle.talking_history.specs.Rows.{Row, over, stopped, stuck, idle, took, wake_failed, spent, dropped, kept, halted, Allows, does}
+
+-- the number of a seat: the first has none, and the k-th that is split off from a seat has its number and k
+abbrev pub Seat : Type 0
+Seat = List ℕ
 
 pub data Entry (R : Type 0) : Type 0 where
   -- a call on the forest, by its row
@@ -25,6 +27,13 @@ pub data Entry (R : Type 0) : Type 0 where
 abbrev pub History : Type 0 → Type 0
 History R = List (Seat × Entry R)
 
+-- a machine that a seat took and has not handed back
+pub record Holding (M : Type 0) : Type 0 where
+  pub name : Path
+  pub seat : Seat
+  -- as the seat found it there
+  pub found : M
+
 -- what is on record of a world
 pub record Record (M R : Type 0) : Type 0 where
   pub world : World M R
@@ -32,6 +41,30 @@ pub record Record (M R : Type 0) : Type 0 where
   pub holdings : List (Holding M)
   -- the replies that were told: the number of each one's image, and its page
   pub told : List (ℕ × ℕ)
+
+-- ---- who holds what
+
+abbrev pub is_nothing_left : Option Path → Bool
+is_nothing_left None = false
+is_nothing_left (Some []) = true
+is_nothing_left (Some (b ∷ rest)) = false
+
+abbrev pub is_same_path : Path → Path → Bool
+is_same_path a b = is_nothing_left (beyond a b)
+
+-- the holding of this name, if it is held
+unfoldable pub holding : {M : Type 0} → Path → List (Holding M) → Option (Holding M)
+holding name [] = None
+holding name (h ∷ rest) = if is_same_path h.name name then Some h else holding name rest
+
+-- the holdings but those of this name
+unfoldable pub without_name : {M : Type 0} → Path → List (Holding M) → List (Holding M)
+without_name name [] = []
+without_name name (h ∷ rest) = if is_same_path h.name name then without_name name rest else h ∷ without_name name rest
+
+-- the seat holds the machine of this name
+abbrev pub IsHeldBy : {M : Type 0} → Seat → Path → List (Holding M) → Type 0
+IsHeldBy seat name held = IsSomeAnd (holding name held) (λ h. h.seat ≡ seat)
 
 -- only who holds a machine hands it back
 abbrev pub HandsBack : {M R : Type 0} → Seat → Row R → List (Holding M) → Type 0
@@ -62,6 +95,8 @@ holdings_after seat (spent how name n) w held = without_name name held
 holdings_after seat (dropped name) w held = without_name name held
 holdings_after seat (kept name n) w held = held
 holdings_after seat (halted r) w held = held
+
+-- ---- histories
 
 -- what is on record of a world as it was made
 abbrev pub record_of : {M R : Type 0} → World M R → Record M R

@@ -1,13 +1,11 @@
 -- What the calls on a world do: for each answer, where it is allowed, and what the world is after it.
 use Rattle.std.specs.Prelude.{◌≡◌, ℕ, suc, Bool, true, false, not, ◌&&◌, ◌||◌, replicate, Option, Some, None, is_some}
-use Rattle.forest_tree.specs.Operations.{Operations}
-use Rattle.forest_tree.specs.Tree.{Tree, machine, Path, subtree}
-use Rattle.forest_tree.specs.Settle.{has_ended}
+use Rattle.forest_tree.specs.Operations.{Operations, Call, clone, join, kill}
+use Rattle.forest_tree.specs.Tree.{Tree, machine, Path, subtree, at_path}
+use Rattle.forest_tree.specs.Step.{has_ended, advanced}
 use Rattle.sibling_forest.specs.Talk.{Talk, send, receive, Talks, Box}
 use Rattle.sibling_forest.specs.Settle.{settle_all}
-use Rattle.forest_history.specs.Places.{at_path, Place, home, out, parked, Spot, spots, advanced}
-use Rattle.forest_history.specs.Rows.{is_clone, is_join, is_kill, first_reason, stands_at}
-use Rattle.talking_history.specs.Places.{placed, spot_talks, boxes, may_run}
+use Rattle.talking_history.specs.Places.{Place, home, out, parked, Spot, spots, placed, spot_talks, boxes, may_run}
 use Rattle.talking_history.specs.World.{World, place_of, is_out, IsWhole, is_resting, is_ready, is_to_wake}
 
 -- what becomes of a machine that comes back, after its own steps
@@ -44,6 +42,29 @@ pub data Row (R : Type 0) : Type 0 where
   kept : Path → ℕ → Row R
   halted : R → Row R
 
+abbrev pub is_clone : Option Call → Bool
+is_clone None = false
+is_clone (Some (clone t)) = true
+is_clone (Some (join t)) = false
+is_clone (Some (kill t)) = false
+
+abbrev pub is_join : Option Call → Bool
+is_join None = false
+is_join (Some (clone t)) = false
+is_join (Some (join t)) = true
+is_join (Some (kill t)) = false
+
+abbrev pub is_kill : Option Call → Bool
+is_kill None = false
+is_kill (Some (clone t)) = false
+is_kill (Some (join t)) = false
+is_kill (Some (kill t)) = true
+
+-- the first reason stays
+abbrev pub first_reason : {R : Type 0} → Option R → R → Option R
+first_reason None r = Some r
+first_reason (Some first) r = Some first
+
 abbrev pub is_send : Option Talk → Bool
 is_send None = false
 is_send (Some (send j)) = true
@@ -79,6 +100,11 @@ made waited n = n
 abbrev pub IfThere : {A : Type 0} → (A → Type 0) → Option A → Type 0
 IfThere P None = ⊥
 IfThere P (Some a) = P a
+
+module _ {M E : Type 0} (o : Operations M E) where
+  -- a live machine makes this call next
+  abbrev pub stands_at : (Option Call → Bool) → M → Bool
+  stands_at test m = not (is_some (o.ending m)) && test (o.call m)
 
 module _ {M E : Type 0} (o : Operations M E) (k : Talks M) where
   -- a live machine makes this talk next

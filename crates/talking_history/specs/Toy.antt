@@ -4,10 +4,9 @@ use Rattle.std.specs.Prelude.{ℕ, [], ◌∷◌, List}
 use Rattle.forest_tree.specs.Tree.{machine, Path}
 use Rattle.sibling_forest.specs.Talk.{Talk}
 use Rattle.sibling_forest.specs.Toy.{Speaker, speakers, speech, start}
-use Rattle.forest_history.specs.Histories.{Seat}
+use Rattle.talking_history.specs.Histories.{Seat, row, History, Record, record_of}
 use Rattle.talking_history.specs.World.{world_of}
 use Rattle.talking_history.specs.Rows.{How, forked, joined, sent, received, waited, ended, over, took, spent}
-use Rattle.talking_history.specs.Histories.{row, History, Record, record_of}
 
 -- the machine that starts, whose children have these talks, and what is on record of its world
 abbrev pub first_record : List (List Talk) → Record Speaker ℕ

@@ -4,9 +4,14 @@ use Rattle.forest_tree.specs.Operations.{Operations}
 use Rattle.forest_tree.specs.Tree.{Tree}
 use Rattle.forest_tree.specs.Ahead.{weigh}
 use Rattle.sibling_forest.specs.Talk.{Talks, Box}
-use Rattle.forest_history.specs.Places.{Spot}
-use Rattle.forest_history.specs.Weight.{place_weight}
-use Rattle.talking_history.specs.Places.{boxes}
+use Rattle.talking_history.specs.Places.{Spot, Place, asleep, home, out, parked, boxes}
+
+-- a machine that came to wait counts nothing for its place
+abbrev pub place_weight : Place → ℕ
+place_weight asleep = 1
+place_weight home = 1
+place_weight out = 1
+place_weight parked = 0
 
 module _ {M E : Type 0} (o : Operations M E) (k : Talks M) where
   abbrev pub weight : Tree (Box (Spot M)) → ℕ

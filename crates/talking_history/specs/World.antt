@@ -1,18 +1,41 @@
 -- What a world of machines that talk stands for: the tree of its machines, each with its place and the words to it.
-use Rattle.std.specs.Prelude.{◌≡◌, Bool, false, not, ◌&&◌, [], Option, Some, None}
+use Rattle.std.specs.Prelude.{◌≡◌, Bool, false, not, ◌&&◌, [], Option, Some, None, true}
 use Rattle.forest_tree.specs.Operations.{Operations}
 use Rattle.forest_tree.specs.Tree.{Tree, machine, Path, subtree}
-use Rattle.forest_tree.specs.Settle.{alone, has_ended}
+use Rattle.forest_tree.specs.Step.{alone, has_ended}
 use Rattle.sibling_forest.specs.Talk.{Talks, Box}
 use Rattle.sibling_forest.specs.Settle.{rests_at}
-use Rattle.forest_history.specs.Places.{Place, home, Spot, spots}
-use Rattle.forest_history.specs.World.{is_ready_at, is_at_home_at, is_asleep_at, is_out_at}
-use Rattle.talking_history.specs.Places.{spot_talks, boxes}
+use Rattle.talking_history.specs.Places.{Place, home, Spot, spots, asleep, out, parked, spot_talks, boxes}
 
 pub record World (M R : Type 0) : Type 0 where
   pub tree : Tree (Box (Spot M))
   -- the first reason to stop, if any was given
   pub halted : Option R
+
+-- a machine at this place may be handed out, where it waits or not
+abbrev pub is_ready_at : Place → Bool → Bool
+is_ready_at asleep is_waiting = true
+is_ready_at home is_waiting = true
+is_ready_at out is_waiting = false
+is_ready_at parked is_waiting = not is_waiting
+
+abbrev pub is_at_home_at : Place → Bool
+is_at_home_at asleep = true
+is_at_home_at home = true
+is_at_home_at out = false
+is_at_home_at parked = true
+
+abbrev pub is_asleep_at : Place → Bool
+is_asleep_at asleep = true
+is_asleep_at home = false
+is_asleep_at out = false
+is_asleep_at parked = false
+
+abbrev pub is_out_at : Place → Bool
+is_out_at asleep = false
+is_out_at home = false
+is_out_at out = true
+is_out_at parked = false
 
 abbrev pub holds : {A : Type 0} → (A → Bool) → Option A → Bool
 holds test None = false

@@ -1,10 +1,10 @@
 //! Laws of the definitions, each the contract of a function that does nothing. They hold for all machines that keep
 //! the rules.
 
-ghost use Rattle.std.specs.Prelude.{◌≡◌, ◌≢◌, ◌⊎◌, ◌<◌, ℕ, suc, true, false, [], ◌∷◌, ◌++◌, replicate, Some, None, IsSome, IfSome, option_map, All};
+ghost use Rattle.std.specs.Prelude.{◌≡◌, ◌≢◌, ◌⊎◌, ◌<◌, ℕ, suc, true, false, List, [], ◌∷◌, ◌++◌, replicate, Some, None, IsSome, IfSome, option_map, All};
 ghost use Rattle.forest_tree.specs.Operations.{join, Operations, IsMachine};
-ghost use Rattle.forest_tree.specs.Tree.{Tree, node, Broods, Log, machine, Branch, Path, subtree};
-ghost use Rattle.forest_tree.specs.Settle.{has_ended, settled, step};
+ghost use Rattle.forest_tree.specs.Tree.{Tree, node, Broods, Log, machine, Branch, Path, subtree, at_path};
+ghost use Rattle.forest_tree.specs.Step.{has_ended, settled, step, advanced, steps};
 ghost use Rattle.forest_tree.specs.Sound.{IsSound};
 ghost use Rattle.forest_tree.specs.Projection.{map_tree, Projects};
 ghost use Rattle.sibling_forest.specs.Talk.{Talk, peer, Talks, Box, after, boxed, IsTalking};
@@ -12,19 +12,17 @@ ghost use Rattle.sibling_forest.specs.Settle.{settle, settle_all, rests_at};
 ghost use Rattle.sibling_forest.specs.Finish.{rests, finish};
 ghost use Rattle.sibling_forest.specs.Members.{IsWholeForest};
 ghost use Rattle.sibling_forest.specs.Laws.{child_number, is_sibling, TalksAlike, box_of};
-ghost use Rattle.forest_history.specs.Places.{at_path, Place, home, out, Spot, spots, advanced, steps};
-ghost use Rattle.forest_history.specs.Seen.{spot_seen};
-ghost use Rattle.forest_history.specs.Histories.{Seat, Holding, holding};
-ghost use Rattle.talking_history.specs.Places.{placed, bare, spot_talks, boxes, may_run};
+ghost use Rattle.talking_history.specs.Places.{Place, home, out, Spot, spots, placed, bare, spot_talks, boxes, may_run};
+ghost use Rattle.talking_history.specs.Seen.{spot_seen, seen};
+ghost use Rattle.talking_history.specs.Histories.{Seat, Holding, holding, Entry, History, Record, record_of, replay, IsLegal};
 ghost use Rattle.talking_history.specs.World.{World, IsWhole, is_resting, is_ready, world_of};
 ghost use Rattle.talking_history.specs.Rows.{How, gave, Row, stuck, idle, took, spent, back, made, run_at, came_back, Spends, IsGoing, Allows, does};
 ghost use Rattle.talking_history.specs.Changes.{told};
 ghost use Rattle.talking_history.specs.Weight.{weight};
-ghost use Rattle.talking_history.specs.Seen.{seen};
-ghost use Rattle.talking_history.specs.Histories.{Entry, History, Record, record_of, replay, IsLegal};
 
 /// Machines at their places talk as they do without, and keep the rules of machines that talk.
 pub fn places_add_nothing<M, E>()
+    ensures projects { (o : Operations M E) → Projects (spots o) o (λ s. s.machine) }
     ensures alike { (k : Talks M) → TalksAlike (spot_talks k) k (λ s. s.machine) }
     ensures talking { (o : Operations M E) (k : Talks M) → IsTalking o k → IsTalking (spots o) (spot_talks k) }
     ensures machines { (o : Operations M E) (k : Talks M) → IsMachine o → IsTalking o k → IsMachine (boxes o k) }
@@ -178,9 +176,12 @@ pub fn others_keep_what_is_held<M, E, R>()
         → holding name (replay o k (before ++ between) (record_of w)).holdings ≡ Some x }
 {}
 
-/// A machine that was there and has left the tree does not come back, and no other has its name.
+/// A machine that was there and has left the tree does not come back, and no other has its name: neither by steps nor by entries.
 pub fn names_do_not_come_back<M, E, R>()
-    ensures { (o : Operations M E) (k : Talks M) → IsMachine o → IsTalking o k → (name : Path) (before between more : History R) (w : World M R)
+    ensures steps { (o : Operations M E) (k : Talks M) → IsMachine o → IsTalking o k → (name : Path) (paths more : List Path) (t : Tree (Box M))
+        → IsSound (boxed o k) t → IsSome (subtree name t) → subtree name (settle_all o k paths t) ≡ None
+        → subtree name (settle_all o k more (settle_all o k paths t)) ≡ None }
+    ensures entries { (o : Operations M E) (k : Talks M) → IsMachine o → IsTalking o k → (name : Path) (before between more : History R) (w : World M R)
         → IsSound (boxes o k) w.tree → IsLegal o k (before ++ (between ++ more)) (record_of w)
         → IsSome (subtree name (replay o k before (record_of w)).world.tree)
         → subtree name (replay o k (before ++ between) (record_of w)).world.tree ≡ None

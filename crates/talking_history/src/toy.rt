@@ -1,7 +1,7 @@
 //! A history of the small machine that talks is legal, and comes to what its family comes to; and one whose children wait for
 //! each other comes to a world that is stuck.
 
-ghost use Rattle.std.specs.Prelude.{◌≡◌, [], ◌∷◌};
+ghost use Rattle.std.specs.Prelude.{◌≡◌, [], ◌∷◌, Some};
 ghost use Rattle.forest_tree.specs.Tree.{log_of};
 ghost use Rattle.forest_tree.specs.Toy.{by_exit};
 ghost use Rattle.sibling_forest.specs.Toy.{speakers, speech, swap, both_wait, told};
@@ -14,7 +14,7 @@ ghost use Rattle.talking_history.specs.Toy.{first_record, swap_history, waiting_
 /// ended with each other's.
 pub fn toy_history_is_legal()
     ensures legal { IsLegal speakers speech swap_history (first_record swap) }
-    ensures told { told (log_of (bare (replay speakers speech swap_history (first_record swap)).world.tree)) ≡ by_exit 2 ∷ (by_exit 1 ∷ []) }
+    ensures told { told (log_of (bare (replay speakers speech swap_history (first_record swap)).world.tree)) ≡ Some (by_exit 2) ∷ (Some (by_exit 1) ∷ []) }
 {}
 
 /// Where both children receive first, each entry comes where it may, and the world is stuck then.

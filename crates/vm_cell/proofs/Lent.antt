@@ -1,12 +1,12 @@
 -- What slots keep that are lent to one run after the other.
-use Rattle.std.proofs.Common.{◌≡◌, ℕ, ◌+◌, ◌<◌, inl, inr, List, [], ◌∷◌, ◌++◌, length, get_or, sym, ap, ◌∙◌, subst, arith}
+use Rattle.std.proofs.Common.{◌≡◌, ℕ, suc, ◌+◌, ◌<◌, inl, inr, List, [], ◌∷◌, ◌++◌, length, get_or, sym, ap, ◌∙◌, subst, arith}
 use Rattle.std.proofs.Math.ListN.{set}
 use Rattle.std.proofs.lemmas.Bool.{cases_eq}
 use Rattle.std.proofs.lemmas.List.{get_or-set_other, get_or-set_same}
 use Rattle.std.proofs.lemmas.List.Elements.{All-push}
-use Rattle.instruction_slots.specs.Slots.{KeptInstruction}
+use Rattle.instruction_slots.specs.Slots.{IsLearnt, KeptInstruction, Learns, place_of}
 use Rattle.instruction_slots.specs.declared.slot.TheConstants.{NOWHERE}
-use Rattle.vm_hart.specs.Kept.{Keeps}
+use Rattle.vm_hart.specs.Kept.{IsKept, Keeps}
 use Rattle.vm_hart.specs.Keyed.{KeyedState}
 use Rattle.vm_hart.proofs.Kept.{keeps-nothing}
 use Rattle.vm_cell.specs.Parts.{AreNowhere, ArePast}
@@ -47,3 +47,23 @@ nowhere-set number slots slot nowhere inside before k d below = elim (cases_eq k
       (ap (λ (s : KeptInstruction). s.place) (get_or-set_same slots number slot d inside) ∙ nowhere)
   | inr other ↦ ap (λ (s : KeptInstruction). s.place) (get_or-set_other slots number k slot d other) ∙ before k d (omega (arith, below, other))
 ]
+
+-- a slot that has learnt keeps no more than it kept
+past-slot : (epoch : ℕ) (old new : KeptInstruction) → IsLearnt old new → old.place < place_of 0 (suc epoch) → new.place < place_of 0 (suc epoch)
+past-slot epoch old new (inl same) below = omega (arith, ap (λ (s : KeptInstruction). s.place) same, below)
+past-slot epoch old new (inr nowhere) below = omega (arith, nowhere)
+
+kept-slot : (h : KeyedState) (epoch count number : ℕ) (old new : KeptInstruction) → IsLearnt old new → IsKept h epoch count number old
+    → IsKept h epoch count number new
+kept-slot h epoch count number old new (inl same) kept = subst (λ (s : KeptInstruction). IsKept h epoch count number s) (sym same) kept
+kept-slot h epoch count number old new (inr nowhere) kept = keeps-nothing h epoch count number new nowhere
+
+-- so do slots
+pub past-learnt : (epoch : ℕ) (old new : List KeptInstruction) → Learns old new → ArePast epoch old → ArePast epoch new
+past-learnt epoch old new learns past k d below =
+    past-slot epoch (get_or old k d) (get_or new k d) (learns.each k d) (past k d (omega (arith, below, learns.same_length)))
+
+pub keeps-learnt : (h : KeyedState) (epoch : ℕ) (old new : List KeptInstruction) → Learns old new → Keeps h epoch old → Keeps h epoch new
+keeps-learnt h epoch old new learns keeps k d below =
+    subst (λ n. IsKept h epoch n k (get_or new k d)) (sym learns.same_length)
+    (kept-slot h epoch (length old) k (get_or old k d) (get_or new k d) (learns.each k d) (keeps k d (omega (arith, below, learns.same_length))))

@@ -1,5 +1,5 @@
 -- The call or the talk that a machine stands at, and the machine after it.
-use Rattle.std.proofs.Common.{◌≡◌, ◌≢◌, ℕ, ◌+◌, ◌<◌, ◌≤◌, inl, inr, List, [], ◌∷◌, Bool, true, false, cond, Option, Some, None, IsSome, IsSomeAnd, refl, sym, ap, ◌∙◌, subst, arith, mul-le-mul_right}
+use Rattle.std.proofs.Common.{◌≡◌, ◌≢◌, ℕ, ◌+◌, ◌<◌, ◌≤◌, inl, inr, List, [], ◌∷◌, Bool, true, false, cond, Option, Some, None, IsSome, IsSomeAnd, refl, sym, ap, ap₂, ◌∙◌, subst, arith, mul-le-mul_right}
 use Rattle.std.specs.Option.{IfSome, is_some, option_map}
 use Rattle.std.specs.List.{AllByRecursion}
 use Rattle.fork_port.specs.declared.commands.Call.{Call}
@@ -153,14 +153,34 @@ is_spoken v None live h = tt
 is_spoken v (Some (request.Call c)) live h = tt
 is_spoken v (Some (request.Talk t)) live h = is_spoken_by v.machine t live h.1
 
--- the talk of a machine that stands at one
-spoken_there : (m : Machine) (told stands : Option port.Talk) → told ≡ stands → IfSome told (IsSpoken m) → IsSome stands → (t : port.Talk) × IsSpoken m t
-spoken_there m None stands is h some = let none = subst IsSome (sym is) some in absurd (cc)
-spoken_there m (Some t) stands is h some = (t, h)
+spoken_next : (m : Machine) (t : port.Talk) → m.ending ≡ None → next m ≡ talk t → IsSpoken m t
+spoken_next m t live is =
+    let comes = talks-at m (tree_talk t) (ap talk_of is) in
+    let both : talk comes.said ≡ talk t = sym (ap next_of comes.speaks.is) ∙ is in
+    let same : comes.said ≡ t = cc in
+    is_spoken_by m t live (comes.speaks.is ∙ ap₂ speak same comes.speaks.next_one)
 
-pub talk_there : (v : KeyedMachine) (told : Option port.Talk) → told ≡ standing_talk v → IfSome told (IsSpoken v.machine) → IsSome (standing_talk v)
-    → (t : port.Talk) × IsSpoken v.machine t
-talk_there v told is h some = spoken_there v.machine told (standing_talk v) is h some
+talk_from_lives : (ending : Option Ending) (step : Next) (t : port.Talk) → talk_from ending step ≡ Some t → (ending ≡ None) × (step ≡ talk t)
+talk_from_lives None (exception cause value) t e = absurd (cc)
+talk_from_lives None timer_interrupt t e = absurd (cc)
+talk_from_lives None plain t e = absurd (cc)
+talk_from_lives None (call c) t e = absurd (cc)
+talk_from_lives None (talk u) t e = let same : u ≡ t = cc in (refl, ap talk same)
+talk_from_lives (Some ending) step t e = absurd (cc)
+
+talk_by_lives : (waited : Option ℕ) (ending : Option Ending) (step : Next) (t : port.Talk) → talk_by waited ending step ≡ Some t → (ending ≡ None) × (step ≡ talk t)
+talk_by_lives None ending step t e = talk_from_lives ending step t e
+talk_by_lives (Some page) ending step t e = absurd (cc)
+
+-- the talk of a machine that stands at one
+pub talk_there : (v : KeyedMachine) → IsSome (standing_talk v) → (t : port.Talk) × IsSpoken v.machine t
+unfolding standing_talk
+talk_there v some = by (standing_talk v) refl some
+  where
+    by : (o : Option port.Talk) → standing_talk v ≡ o → IsSome o → (t : port.Talk) × IsSpoken v.machine t
+    by None e some = absurd (cc)
+    by (Some t) e some =
+        let is = talk_by_lives (stalled_at (paged v)) v.machine.ending (next v.machine) t e in (t, spoken_next v.machine t is.0 is.1)
 
 -- ---- where a machine stands
 

@@ -13,8 +13,8 @@ use std::marker::Model;
 const SLOTS: usize = 512;
 
 /// Slots for decoded instructions. Who runs machines has them, and lends them to each run: it begins an epoch, so what
-/// another machine left in them says nothing, and none of them is touched for that. They take memory once a machine runs on
-/// for more than a few steps, and where it is wanting machines run without.
+/// another machine left in them says nothing, and none of them is touched for that. They take memory at the first run, and
+/// where it is wanting machines run without.
 #[derive(Drop)]
 pub struct Slots {
     pub(crate) slots: Vec<Slot>,

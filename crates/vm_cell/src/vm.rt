@@ -4,6 +4,7 @@ ghost use Rattle.console_port.specs.declared.port.TheConstants.{MAX_INPUT};
 ghost use Rattle.page_frames.specs.declared.page.TheConstants.{PAGE_SIZE};
 ghost use Rattle.cow_disk.specs.Paged.{disk_over, IsWholeDisk};
 ghost use Rattle.image_depot.specs.Key.{IsKeyOf};
+ghost use Rattle.instruction_slots.specs.Slots.{Learns};
 ghost use Rattle.forest_model.specs.Forest.{machines};
 ghost use Rattle.fork_port.specs.Handed.{handed_of};
 ghost use Rattle.forest_model.specs.Machine.{IsWithinLimit, boot, count};
@@ -35,8 +36,8 @@ mod fork;
 
 pub use fork::ForkImage;
 
-/// So many steps of a run are made with no slots. Most of their words are met for the first time, so that a slot would save
-/// nothing, and a machine that makes no more pays for none.
+/// So many steps of a run are made one by one before fast ones are tried: those of a run that stops soon, at a page, a call or
+/// a talk, take less so.
 const FEW: u64 = 16;
 
 /// The most steps that are made with no try at fast ones. It is odd, so that a try comes at another place of a short loop.
@@ -191,7 +192,6 @@ impl Vm {
     }
 
     /// The same, of a machine that is needed no more.
-    #[inline]
     pub fn into_output(self) -> Vec<u8>
         ensures { result.items ≡ self.machine.state.ports.console.output }
     {
@@ -277,7 +277,7 @@ impl Vm {
         if let Some(ending) = self.ending {
             return Ok(Stepped::Ended(ending));
         }
-        match self.step_live(&[], true)? {
+        match self.step_live(&mut [Slot::empty()], true)? {
             Some(Stop::Page(page)) => Ok(Stepped::Stall(page)),
             Some(Stop::Call(call)) => Ok(Stepped::Call(call)),
             Some(Stop::Talk(talk)) => Ok(Stepped::Talk(talk)),
@@ -348,7 +348,7 @@ impl Vm {
         ensures ok { IfOk result (IsPart most self.old self.new) }
         ensures err { OnErr result (IsCut most self.old self.new) }
     {
-        let first = self.step_some(most.min(FEW))?;
+        let first = self.step_first(slots, most.min(FEW))?;
         if first.stop.is_some() {
             return Ok(first);
         }
@@ -362,28 +362,51 @@ impl Vm {
         })
     }
 
-    /// The same with slots, where there is memory for them.
-    fn run_on(&mut self, slots: &mut Slots, most: u64) -> Result<Part, AllocError>
+    /// The same, with each step made by itself. The slots are made here, where there is memory for them.
+    fn step_first(&mut self, slots: &mut Slots, most: u64) -> Result<Part, AllocError>
         requires { self.old.machine.ending ≡ None }
         ensures ok { IfOk result (IsPart most self.old self.new) }
         ensures err { OnErr result (IsCut most self.old self.new) }
     {
         make_slots(&mut slots.slots, slots.epoch, slots.alloc);
         if slots.slots.is_empty() {
-            return self.step_some(most);
+            return self.step_alike(most);
         }
-        self.run_with(slots.slots.as_mut_slice(), &mut slots.epoch, most)
+        self.step_some(slots.slots.as_mut_slice(), most)
     }
 
-    /// The same, with each step made by itself and without slots.
-    fn step_some(&mut self, most: u64) -> Result<Part, AllocError>
+    /// The same where there is no memory for slots.
+    fn step_alike(&mut self, most: u64) -> Result<Part, AllocError>
         requires { self.old.machine.ending ≡ None }
         ensures ok { IfOk result (IsPart most self.old self.new) }
         ensures err { OnErr result (IsCut most self.old self.new) }
     {
+        self.step_some(&mut [Slot::empty()], most)
+    }
+
+    /// The same with fast steps, where there are slots.
+    fn run_on(&mut self, slots: &mut Slots, most: u64) -> Result<Part, AllocError>
+        requires { self.old.machine.ending ≡ None }
+        ensures ok { IfOk result (IsPart most self.old self.new) }
+        ensures err { OnErr result (IsCut most self.old self.new) }
+    {
+        if slots.slots.is_empty() {
+            return self.step_alike(most);
+        }
+        self.run_with(slots.slots.as_mut_slice(), &mut slots.epoch, most)
+    }
+
+    /// The same, with each step made by itself. Its word is not decoded where its slot has it, and else its slot has it then.
+    fn step_some(&mut self, slots: &mut [Slot], most: u64) -> Result<Part, AllocError>
+        requires live { self.old.machine.ending ≡ None }
+        requires some { 0 < length slots.old }
+        ensures ok { IfOk result (IsPart most self.old self.new) }
+        ensures err { OnErr result (IsCut most self.old self.new) }
+        ensures learns { Learns slots.old slots.new }
+    {
         let first = self.steps;
         let few = most.min(self.limit - first);
-        let stop = self.step_until(first + few)?;
+        let stop = self.step_until(slots, first + few)?;
         Ok(Part {
             steps: self.steps - first,
             stop,
@@ -393,21 +416,23 @@ impl Vm {
     /// Makes steps until so many are made in all. `step_live` is inlined, and the loop has nothing beside it: the count of the
     /// machine's steps is its own, and the step that may come to the limit is apart.
     #[inline(never)]
-    fn step_until(&mut self, until: u64) -> Result<Option<Stop>, AllocError>
+    fn step_until(&mut self, slots: &mut [Slot], until: u64) -> Result<Option<Stop>, AllocError>
         requires live { self.old.machine.ending ≡ None }
         requires from { self.old.machine.steps ≤ until }
+        requires some { 0 < length slots.old }
         ensures ok { IfOk result (IsMadeUntil until self.old self.new) }
         ensures within { IfOk result (λ stop. IsWithinLimit self.new.machine) }
         ensures err { OnErr result (IsCut (until - self.old.machine.steps) self.old self.new) }
+        ensures learns { Learns slots.old slots.new }
     {
         let below = until.min(self.limit - 1);
         while self.steps < below {
-            if let Some(stop) = self.step_live(&[], false)? {
+            if let Some(stop) = self.step_live(slots, false)? {
                 return Ok(Some(stop));
             }
         }
         if self.steps < until {
-            let last = self.step_kept(&[])?;
+            let last = self.step_kept(slots)?;
             return Ok(last.stop);
         }
         Ok(None)
@@ -416,26 +441,35 @@ impl Vm {
     /// Makes the coming steps by themselves, so many: one where it leaves RAM as it is, as a slot tells, which then has its
     /// word, too.
     #[inline(always)]
-    fn step_alone(&mut self, slots: &[Slot], is_left: bool, count: u64) -> Result<Part, AllocError>
+    fn step_alone(
+        &mut self,
+        slots: &mut [Slot],
+        is_left: bool,
+        count: u64,
+    ) -> Result<Part, AllocError>
         requires live { self.old.machine.ending ≡ None }
         requires one { IsTrue is_left → count ≡ 1 }
+        requires some { 0 < length slots.old }
         ensures ok { IfOk result (IsPart count self.old self.new) }
         ensures err { OnErr result (IsCut count self.old self.new) }
+        ensures learns { Learns slots.old slots.new }
     {
         if is_left {
             self.step_kept(slots)
         } else {
-            self.step_some(count)
+            self.step_some(slots, count)
         }
     }
 
     /// Makes one step of a machine that lives, by the slots.
     #[inline(never)]
-    fn step_kept(&mut self, slots: &[Slot]) -> Result<Part, AllocError>
-        requires { self.old.machine.ending ≡ None }
+    fn step_kept(&mut self, slots: &mut [Slot]) -> Result<Part, AllocError>
+        requires live { self.old.machine.ending ≡ None }
+        requires some { 0 < length slots.old }
         ensures ok { IfOk result (IsPart 1 self.old self.new) }
         ensures within { IfOk result (λ part. IsWithinLimit self.new.machine) }
         ensures err { OnErr result (IsCut 1 self.old self.new) }
+        ensures learns { Learns slots.old slots.new }
     {
         let first = self.steps;
         let stop = self.step_live(slots, true)?;
@@ -517,13 +551,19 @@ impl Vm {
     }
 
     /// Makes one step of a machine that lives, or answers what keeps it from that: a page, a call or a talk. It tells where the step
-    /// ended the machine. There may be no slots. A step that cannot be the last one does not look at the limit.
+    /// ended the machine. A step that cannot be the last one does not look at the limit.
     #[inline(always)]
     #[tactic(auto, unfolding(forest_model::specs::Machine::advance))]
-    fn step_live(&mut self, slots: &[Slot], may_be_last: bool) -> Result<Option<Stop>, AllocError>
+    fn step_live(
+        &mut self,
+        slots: &mut [Slot],
+        may_be_last: bool,
+    ) -> Result<Option<Stop>, AllocError>
         requires live { self.old.machine.ending ≡ None }
         requires below { may_be_last ≡ false → self.old.machine.steps + 1 < self.old.machine.limit }
+        requires some { 0 < length slots.old }
         ensures goes { IfOk result (λ stop. GoesOn self.old self.new stop) }
+        ensures learns { Learns slots.old slots.new }
         ensures err { OnErr result (self.new ≡ self.old) }
         ensures here { OnErr result (stalled_at (paged self.old) ≡ None) }
         ensures memory { OnErr result (Grows self.old.machine.state) }

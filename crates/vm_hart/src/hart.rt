@@ -17,6 +17,7 @@ ghost use Rattle.forest_model.specs.Paged.{AreFlagged, pages_at_boot};
 ghost use Rattle.guest_mem.specs.Ram.{IsDiskBased, disk_below};
 ghost use Rattle.vm_hart.specs.Acts.{ActsBy, ActsNext, Grows, InstructionGrows, IsPut, IsUnput};
 ghost use Rattle.vm_hart.specs.AtPlace.{at_place};
+ghost use Rattle.instruction_slots.specs.Slots.{Learns};
 ghost use Rattle.vm_hart.specs.Keyed.{Arrives, HasImage, IsAbsent, IsHere, IsOfDepot};
 ghost use Rattle.vm_hart.specs.Shown.{peeked, shown_registers};
 
@@ -28,7 +29,7 @@ use fork_port::Call;
 use fork_port::refusals::TICKETS_END;
 use guest_mem::{Absent, Arrived, GuestMem, StoreError};
 use image_depot::{Depot, ImageKey, Parcel};
-use instruction_slots::{Fields, Slot, decode_by};
+use instruction_slots::{Fields, Slot, slot_with};
 use page_frames::PAGE_SIZE;
 use rv_decode::Group;
 use rv_traps::{Csrs, Wrote};
@@ -309,12 +310,14 @@ impl Hart {
         Ok(at_place(self.ports.arrive(page, &bytes)?, place))
     }
 
-    /// Makes the coming step, unless it waits for a page. Its word is not decoded where a slot has it. There may be no slots.
+    /// Makes the coming step, unless it waits for a page. Its word is not decoded where its slot has it.
     #[inline(always)]
     #[tactic(auto, unfolding(forest_model::specs::Execute::action, crate::specs::Acts::Grows))]
-    pub fn act(&mut self, slots: &[Slot]) -> Result<Acted, AllocError>
-        requires { self.old.state.ports.fork.next_ticket < TICKETS_END }
+    pub fn act(&mut self, slots: &mut [Slot]) -> Result<Acted, AllocError>
+        requires tickets { self.old.state.ports.fork.next_ticket < TICKETS_END }
+        requires some { 0 < length slots.old }
         ensures acts { ActsNext self.old self.new result }
+        ensures learns { Learns slots.old slots.new }
         ensures memory { OnErr result (Grows self.old.state) }
     {
         if self.takes_interrupt() {
@@ -333,15 +336,18 @@ impl Hart {
 
     /// Executes the instruction at the pc, which is this word.
     #[inline(always)]
-    fn execute_word(&mut self, slots: &[Slot], word: u32) -> Result<Acted, AllocError>
-        requires { self.old.state.ports.fork.next_ticket < TICKETS_END }
+    fn execute_word(&mut self, slots: &mut [Slot], word: u32) -> Result<Acted, AllocError>
+        requires tickets { self.old.state.ports.fork.next_ticket < TICKETS_END }
+        requires some { 0 < length slots.old }
+        ensures learns { Learns slots.old slots.new }
         ensures acts { ActsBy self.old self.new (decoded word) word result }
         ensures memory { OnErr result (IsSomeAnd (decoded word) (λ instr. InstructionGrows instr self.old.state)) }
     {
-        match decode_by(slots, self.pc, word) {
-            Some(instr) => self.execute(&instr, word),
-            None => Ok(trapped(ILLEGAL_INSTRUCTION, word)),
-        }
+        let Some(number) = slot_with(slots, self.pc, word) else {
+            return Ok(trapped(ILLEGAL_INSTRUCTION, word));
+        };
+        let instr = slots[number].instr();
+        self.execute(instr, word)
     }
 
     /// Takes a trap.

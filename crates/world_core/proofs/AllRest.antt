@@ -12,11 +12,10 @@ use Rattle.std.specs.BTreeMap.{get}
 use Rattle.image_depot.specs.Key.{Key, Shelves}
 use Rattle.forest_tree.specs.Operations.{is_cloned}
 use Rattle.forest_tree.specs.Tree.{Tree, Trees, no_tree, tree, machine, broods_of, brood_of, child_at, Path, subtree}
-use Rattle.forest_tree.specs.Settle.{has_ended}
+use Rattle.forest_tree.specs.Step.{has_ended}
 use Rattle.forest_tree.proofs.Places.{subtree-sound}
-use Rattle.forest_history.specs.Places.{parked}
-use Rattle.forest_history.specs.World.{is_ready_at}
-use Rattle.talking_history.specs.World.{holds, is_at_home, is_out, is_ready, lives_at_home, lives_ready}
+use Rattle.talking_history.specs.Places.{parked}
+use Rattle.talking_history.specs.World.{is_ready_at, holds, is_at_home, is_out, is_ready, lives_at_home, lives_ready}
 use Rattle.forest_model.specs.Paged.{paged_machines, paged_talks}
 use Rattle.machine_names.specs.Name.{child_path}
 use Rattle.machine_names.specs.NameOrder.{path_cmp}

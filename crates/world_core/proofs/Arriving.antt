@@ -12,20 +12,17 @@ use Rattle.image_depot.specs.Key.{Shelves, Key}
 use Rattle.image_depot.specs.Reply.{Reply}
 use Rattle.cow_disk.specs.declared.arrived.Arrived.{Arrived}
 use Rattle.cow_disk.specs.declared.arrived.Arrived.TheVariants.{Got, Had}
-use Rattle.forest_tree.specs.Tree.{Tree, node, Broods, Log, machine, Branch, Path, subtree}
+use Rattle.forest_tree.specs.Tree.{Tree, node, Broods, Log, machine, Branch, Path, subtree, at_path}
 use Rattle.forest_tree.specs.Sound.{IsSound}
 use Rattle.forest_tree.specs.Projection.{map_tree}
-use Rattle.forest_tree.proofs.Settle.{KeepsTo, root-sound}
+use Rattle.forest_tree.proofs.Sound.{KeepsTo, root-sound, at_path-keeps}
 use Rattle.forest_tree.proofs.Places.{subtree-sound}
-use Rattle.forest_tree.proofs.Projected.{subtree-map}
-use Rattle.forest_history.specs.Places.{at_path, home, out, parked, Spot, spots}
-use Rattle.talking_history.specs.Places.{bare, placed, spot_talks}
+use Rattle.forest_tree.proofs.Projected.{subtree-map, at_path-map}
+use Rattle.talking_history.specs.Places.{home, out, parked, Spot, spots, bare, placed, spot_talks}
 use Rattle.talking_history.proofs.Ends.{rests-bare}
-use Rattle.forest_history.specs.World.{is_out_at}
-use Rattle.talking_history.specs.World.{IsWhole, holds, is_out, lives_ready}
+use Rattle.talking_history.specs.World.{is_out_at, IsWhole, holds, is_out, lives_ready}
 use Rattle.talking_history.specs.Rows.{took, does}
-use Rattle.forest_history.proofs.Changes.{at_path-agree, at_path-here, at_path-leaves, at_path-twice}
-use Rattle.forest_history.proofs.Ends.{at_path-keeps, at_path-map}
+use Rattle.forest_tree.proofs.Changes.{at_path-agree, at_path-here, at_path-leaves, at_path-twice}
 use Rattle.forest_model.specs.Machine.{Machine, after_steps}
 use Rattle.forest_model.specs.Forest.{machines, talks}
 use Rattle.forest_model.specs.Paged.{Paged, Pages, advanced_by, paged_machines, paged_talks, pages_arrived}

@@ -3,9 +3,8 @@ use Rattle.sibling_forest.specs.Talk.{boxed}
 use Rattle.std.proofs.Common.{◌≡◌, Option, Bool, refl}
 use Rattle.image_depot.specs.Key.{Shelves}
 use Rattle.forest_tree.specs.Tree.{Tree, node, Path}
-use Rattle.forest_tree.specs.Settle.{has_ended}
-use Rattle.forest_history.specs.Places.{Place, spots}
-use Rattle.talking_history.specs.Places.{placed}
+use Rattle.forest_tree.specs.Step.{has_ended}
+use Rattle.talking_history.specs.Places.{Place, spots, placed}
 use Rattle.world_core.specs.declared.cell.Cell.{Cell}
 use Rattle.world_core.specs.declared.cell.State.{State}
 use Rattle.world_core.specs.Shows.{Member, forest, Holds}

@@ -6,11 +6,11 @@ use Rattle.std.specs.BTreeMap.{BTreeMap, get}
 use Rattle.std.specs.Ordering.{nat_cmp}
 use Rattle.fork_port.specs.declared.ending.Ending.{Ending}
 use Rattle.forest_tree.specs.Tree.{Tree, node, Trees, no_tree, no_brood, machine, broods_of, brood_of, child_at, Branch, Path, subtree}
-use Rattle.forest_tree.specs.Settle.{has_ended}
+use Rattle.forest_tree.specs.Step.{has_ended}
 use Rattle.forest_tree.specs.Sound.{IsSound}
 use Rattle.forest_tree.proofs.Places.{some-same, subtree-parts, subtree-sound}
-use Rattle.forest_tree.proofs.Settle.{root-sound}
-use Rattle.forest_history.specs.Places.{spots}
+use Rattle.forest_tree.proofs.Sound.{root-sound}
+use Rattle.talking_history.specs.Places.{spots}
 use Rattle.forest_model.specs.Forest.{machines}
 use Rattle.forest_model.specs.Paged.{paged_machines}
 use Rattle.image_depot.specs.Key.{Shelves, Key}

@@ -9,9 +9,9 @@ use Rattle.image_depot.specs.Reply.{Delivery}
 use Rattle.port_rules.specs.Rules.{cloned_numbers}
 use Rattle.forest_tree.specs.Operations.{is_among, is_cloned}
 use Rattle.forest_tree.specs.Tree.{Tree, no_entry, child_at, brood_of, Branch, Path, subtree}
-use Rattle.forest_tree.specs.Settle.{alone}
+use Rattle.forest_tree.specs.Step.{alone}
 use Rattle.fork_port.specs.declared.ending.Ending.{Ending}
-use Rattle.forest_history.specs.Places.{home, spots}
+use Rattle.talking_history.specs.Places.{home, spots}
 use Rattle.talking_history.specs.World.{world_of, holds, lives_ready}
 use Rattle.talking_history.proofs.Ends.{start-whole}
 use Rattle.forest_model.proofs.Paged.{paged-rules, paged-talk}

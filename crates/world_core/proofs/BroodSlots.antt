@@ -5,18 +5,17 @@ use Rattle.std.proofs.lemmas.Bool.{and_parts}
 use Rattle.fork_port.specs.declared.ending.Ending.{Ending}
 use Rattle.forest_tree.specs.Operations.{Makes, clone}
 use Rattle.forest_tree.specs.Tree.{Tree, Trees, no_tree, tree, child_at, machine, Path}
-use Rattle.forest_tree.specs.Settle.{alone, has_ended, have_ended, with_ending, endings, children_from, children}
+use Rattle.forest_tree.specs.Step.{alone, has_ended, have_ended, with_ending, endings, children_from, children}
 use Rattle.forest_tree.proofs.Places.{some-same}
-use Rattle.forest_tree.proofs.Settle.{size-children_from}
-use Rattle.forest_history.specs.Places.{spots, asleep, parked}
-use Rattle.forest_history.specs.Children.{living}
+use Rattle.forest_tree.proofs.Sound.{size-children_from}
+use Rattle.talking_history.specs.Places.{spots, asleep, parked, spot_talks}
+use Rattle.forest_tree.specs.Children.{living}
 use Rattle.forest_model.specs.Machine.{Machine}
 use Rattle.forest_model.specs.Calls.{forked, child}
 use Rattle.forest_model.specs.Forest.{machines}
 use Rattle.forest_model.proofs.Calls.{child-as-parent}
 use Rattle.forest_model.specs.Paged.{Paged, paged_machines, paged_talks}
 use Rattle.forest_model.proofs.Paged.{paged-talk}
-use Rattle.talking_history.specs.Places.{spot_talks}
 use Rattle.sibling_words.specs.Words.{words_of}
 use Rattle.sibling_words.specs.Notes.{room_of}
 use Rattle.image_depot.specs.Key.{Shelves, Key, IsKeyOf, image_of}

@@ -11,11 +11,11 @@ use Rattle.fork_port.specs.declared.commands.Call.TheVariants as fork
 use Rattle.fork_port.specs.declared.ending.Ending.{Ending}
 use Rattle.forest_tree.specs.Operations.{Call, clone, join, kill, Grant, is_cloned, Makes, IsStep, IsMachine}
 use Rattle.forest_tree.specs.Tree.{Tree, node, Trees, no_tree, Broods, machine, broods_of, brood_of, without, Path}
-use Rattle.forest_tree.specs.Settle.{have_ended, endings, children}
-use Rattle.forest_tree.proofs.Settle.{root-sound, join-step, size-cloned, length-endings}
+use Rattle.forest_tree.specs.Step.{have_ended, endings, children}
+use Rattle.forest_tree.proofs.Sound.{root-sound, join-step, size-cloned, length-endings}
 use Rattle.forest_tree.proofs.Rests.{lives-none}
 use Rattle.forest_tree.proofs.Places.{brood_of-without}
-use Rattle.forest_history.specs.Places.{spots}
+use Rattle.talking_history.specs.Places.{spots}
 use Rattle.forest_model.specs.Forest.{machines}
 use Rattle.forest_model.specs.Paged.{Paged, paged_machines}
 use Rattle.image_depot.specs.Key.{Shelves}

@@ -5,13 +5,11 @@ use Rattle.std.specs.Result.{IsErr}
 use Rattle.std.specs.declared.alloc.AllocError.{AllocError}
 use Rattle.std.specs.BTreeMap.{BTreeMap, WritesThrough, get}
 use Rattle.image_depot.specs.Key.{Shelves}
-use Rattle.forest_tree.specs.Tree.{Tree, machine, brood_of, child_at, Path, subtree}
-use Rattle.forest_tree.specs.Settle.{has_ended}
+use Rattle.forest_tree.specs.Tree.{Tree, machine, brood_of, child_at, Path, subtree, at_path}
+use Rattle.forest_tree.specs.Step.{has_ended}
 use Rattle.forest_tree.specs.Sound.{IsSound}
-use Rattle.forest_history.specs.Places.{at_path, Place, asleep, home, out, parked}
-use Rattle.talking_history.specs.Places.{placed}
-use Rattle.forest_history.specs.World.{is_asleep_at, is_ready_at, is_at_home_at}
-use Rattle.talking_history.specs.World.{lives_at_home, holds, is_at_home}
+use Rattle.talking_history.specs.Places.{Place, asleep, home, out, parked, placed}
+use Rattle.talking_history.specs.World.{is_asleep_at, is_ready_at, is_at_home_at, lives_at_home, holds, is_at_home}
 use Rattle.talking_history.specs.Rows.{took, does}
 use Rattle.forest_model.specs.Paged.{paged_machines, paged_talks}
 use Rattle.machine_names.specs.Name.{child_path}

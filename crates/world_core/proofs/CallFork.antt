@@ -10,18 +10,15 @@ use Rattle.fork_port.specs.declared.commands.Call.{Call}
 use Rattle.fork_port.specs.declared.commands.Call.TheVariants.{Clone, Join, Kill}
 use Rattle.forest_tree.specs.Operations.{clone, is_cloned, Makes, IsStep}
 use Rattle.forest_tree.specs.Tree.{Tree, node, Trees, Broods, no_brood, brood, Log, machine, broods_of, child_at, brood_of, broods_with, Branch, Path, subtree}
-use Rattle.forest_tree.specs.Settle.{children_from, children, step, waits, waits_by}
+use Rattle.forest_tree.specs.Step.{children_from, children, step, waits, waits_by}
 use Rattle.forest_tree.specs.Sound.{IsSound}
 use Rattle.forest_tree.proofs.Broods.{one_if}
 use Rattle.forest_tree.proofs.Calls.{step-clone}
 use Rattle.forest_tree.proofs.Places.{some-same, brood_of-none, subtree-sound}
-use Rattle.forest_tree.proofs.Settle.{root-sound, clone-is-new}
-use Rattle.forest_history.specs.Places.{home, spots}
-use Rattle.talking_history.specs.Places.{placed, spot_talks}
-use Rattle.forest_history.specs.World.{is_asleep_at}
-use Rattle.talking_history.specs.World.{holds, lives_ready}
-use Rattle.forest_history.specs.Rows.{is_clone}
-use Rattle.talking_history.specs.Rows.{forked, joined, sent, kept, may_spend}
+use Rattle.forest_tree.proofs.Sound.{root-sound, clone-is-new}
+use Rattle.talking_history.specs.Places.{home, spots, placed, spot_talks}
+use Rattle.talking_history.specs.World.{is_asleep_at, holds, lives_ready}
+use Rattle.talking_history.specs.Rows.{is_clone, forked, joined, sent, kept, may_spend}
 use Rattle.forest_model.specs.Calls.{forked as after_fork}
 use Rattle.forest_model.specs.Forest.{machines}
 use Rattle.forest_model.specs.Paged.{Paged, paged_machines, paged_talks}

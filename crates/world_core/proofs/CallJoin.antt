@@ -12,16 +12,14 @@ use Rattle.fork_port.specs.declared.commands.Call.TheVariants.{Join}
 use Rattle.forest_tree.specs.Operations.{join, Makes}
 use Rattle.forest_tree.specs.Tree.{joined as over}
 use Rattle.forest_tree.specs.Tree.{Tree, node, Trees, no_tree, tree, Broods, Log, machine, broods_of, child_at, brood_of, without, Branch, Path, subtree}
-use Rattle.forest_tree.specs.Settle.{has_ended, have_ended, endings, step, waits_by, waits}
+use Rattle.forest_tree.specs.Step.{has_ended, have_ended, endings, step, waits_by, waits}
 use Rattle.forest_tree.specs.Sound.{IsSound}
 use Rattle.forest_tree.proofs.Calls.{step-join}
 use Rattle.forest_tree.proofs.Places.{some-same, below-at, subtree-sound}
-use Rattle.forest_tree.proofs.Settle.{root-sound, join-step}
-use Rattle.forest_history.specs.Places.{home, parked, Spot, spots}
-use Rattle.talking_history.specs.Places.{placed}
-use Rattle.forest_history.specs.World.{is_asleep_at}
-use Rattle.forest_history.specs.Rows.{is_join, is_clone}
-use Rattle.talking_history.specs.Rows.{forked, joined, sent, waited, spent, kept, may_spend}
+use Rattle.forest_tree.proofs.Sound.{root-sound, join-step}
+use Rattle.talking_history.specs.Places.{home, parked, Spot, spots, placed}
+use Rattle.talking_history.specs.World.{is_asleep_at}
+use Rattle.talking_history.specs.Rows.{is_join, is_clone, forked, joined, sent, waited, spent, kept, may_spend}
 use Rattle.talking_history.proofs.Spots.{machine-placed}
 use Rattle.forest_model.specs.Calls.{after_join}
 use Rattle.forest_model.specs.Forest.{machines}

@@ -11,14 +11,12 @@ use Rattle.fork_port.specs.declared.commands.Call.TheVariants.{Kill}
 use Rattle.forest_tree.specs.Operations.{kill, Makes}
 use Rattle.forest_tree.specs.Tree.{killed as dead}
 use Rattle.forest_tree.specs.Tree.{Tree, node, Broods, Log, machine, without, Branch, Path, beyond}
-use Rattle.forest_tree.specs.Settle.{step, waits, waits_by}
-use Rattle.forest_tree.proofs.Run.{step-lives}
-use Rattle.forest_tree.proofs.Settle.{root-sound}
+use Rattle.forest_tree.specs.Step.{step, waits, waits_by}
+use Rattle.forest_tree.proofs.Steps.{step-lives}
+use Rattle.forest_tree.proofs.Sound.{root-sound}
 use Rattle.forest_tree.proofs.Broods.{eqb-sym}
-use Rattle.forest_history.specs.Places.{home, spots}
-use Rattle.talking_history.specs.Places.{placed}
-use Rattle.forest_history.specs.Rows.{is_kill}
-use Rattle.talking_history.specs.Rows.{killed, may_spend}
+use Rattle.talking_history.specs.Places.{home, spots, placed}
+use Rattle.talking_history.specs.Rows.{is_kill, killed, may_spend}
 use Rattle.forest_model.specs.Calls.{after_kill}
 use Rattle.forest_model.specs.Forest.{machines}
 use Rattle.forest_model.specs.Paged.{Paged, paged_machines, paged_talks}

@@ -9,18 +9,16 @@ use Rattle.image_depot.specs.Key.{Shelves}
 use Rattle.fork_port.specs.declared.commands.Call as port
 use Rattle.fork_port.specs.declared.ending.Ending.{Ending}
 use Rattle.forest_tree.specs.Operations.{Call, is_cloned, IsStep}
-use Rattle.forest_tree.specs.Tree.{Tree, node, no_tree, Broods, Log, machine, child_at, brood_of, without, broods_with, Branch, Path, subtree, beyond}
-use Rattle.forest_tree.specs.Settle.{has_ended, waits, step, settled, settled_by}
+use Rattle.forest_tree.specs.Tree.{Tree, node, no_tree, Broods, Log, machine, child_at, brood_of, without, broods_with, Branch, Path, subtree, beyond, at_path}
+use Rattle.forest_tree.specs.Step.{has_ended, waits, step, settled, settled_by, steps}
 use Rattle.forest_tree.specs.Sound.{IsSound}
 use Rattle.forest_tree.proofs.Broods.{one_if, broods_with-without}
 use Rattle.forest_tree.proofs.Places.{some-same, brood_of-without, subtree-parts, subtree-sound}
-use Rattle.forest_tree.proofs.Settle.{root-sound}
+use Rattle.forest_tree.proofs.Sound.{root-sound, steps-keeps}
 use Rattle.forest_tree.proofs.Rests.{lives-none}
 use Rattle.sibling_forest.specs.Talk.{Inbox, boxed, kept_by}
 use Rattle.sibling_forest.specs.Settle.{rests_at, rests_there, sibling_rests}
-use Rattle.forest_history.specs.Places.{at_path, home, out, parked, spots, steps}
-use Rattle.forest_history.proofs.Ends.{steps-keeps}
-use Rattle.talking_history.specs.Places.{placed, spot_talks}
+use Rattle.talking_history.specs.Places.{home, out, parked, spots, placed, spot_talks}
 use Rattle.talking_history.specs.World.{holds, lives_ready}
 use Rattle.talking_history.specs.Rows.{How, forked, joined, sent, waited, spent, dropped, kept, made, may_spend, came_back, Allows, does}
 use Rattle.forest_model.specs.Forest.{machines, tree_call}

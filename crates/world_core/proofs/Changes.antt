@@ -9,18 +9,19 @@ use Rattle.image_depot.specs.Key.{Shelves}
 use Rattle.fork_port.specs.declared.ending.Ending.{Ending}
 use Rattle.forest_tree.specs.Operations.{is_cloned}
 use Rattle.forest_tree.specs.Tree.{Tree, node, Trees, no_tree, tree, Broods, no_brood, Log, size, machine, broods_of, at_child, child_at, brood_of, at_brood, Branch, Path, subtree, beyond, goes_on}
-use Rattle.forest_tree.specs.Settle.{alone, has_ended}
+use Rattle.forest_tree.specs.Tree.{at_path, at_beyond}
+use Rattle.forest_tree.specs.Step.{alone, has_ended}
 use Rattle.forest_tree.proofs.Places.{some-same, brood_of-at, at_child-none, child_at-same, child_at-other, subtree-parts}
 use Rattle.std.proofs.lemmas.Bool.{eqb-false}
 use Rattle.std.specs.Option.{IfSome}
 use Rattle.sibling_words.specs.declared.words.SiblingWords.{SiblingWords}
 use Rattle.sibling_words.specs.declared.notes.SiblingNotes.{SiblingNotes}
 use Rattle.sibling_words.specs.Notes.{room_of}
-use Rattle.forest_history.specs.Places.{at_path, at_beyond, parked, spots}
-use Rattle.forest_history.specs.World.{is_asleep_at}
-use Rattle.forest_history.specs.Children.{life, living}
-use Rattle.forest_history.proofs.Changes.{at_path-within, at_path-here, at_path-elsewhere, at_path-machine}
-use Rattle.forest_history.proofs.Lives.{one-child, no-child}
+use Rattle.talking_history.specs.Places.{parked, spots}
+use Rattle.talking_history.specs.World.{is_asleep_at}
+use Rattle.forest_tree.specs.Children.{life, living}
+use Rattle.forest_tree.proofs.Changes.{at_path-within, at_path-here, at_path-elsewhere, at_path-machine}
+use Rattle.forest_tree.proofs.Lives.{one-child, no-child}
 use Rattle.forest_model.specs.Forest.{machines}
 use Rattle.forest_model.specs.Paged.{paged_machines}
 use Rattle.image_depot.specs.Key.{Shelves, Key}

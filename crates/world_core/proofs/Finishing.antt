@@ -10,12 +10,11 @@ use Rattle.std.proofs.lemmas.List.{append-nil}
 use Rattle.image_depot.specs.Key.{Shelves}
 use Rattle.fork_port.specs.declared.ending.Ending.{Ending}
 use Rattle.forest_tree.specs.Operations.{is_cloned}
-use Rattle.forest_tree.specs.Tree.{Tree, node, Trees, no_tree, Broods, no_brood, machine, broods_of, child_at, brood_of, Branch, Path, subtree, beyond}
+use Rattle.forest_tree.specs.Tree.{Tree, node, Trees, no_tree, Broods, no_brood, machine, broods_of, child_at, brood_of, Branch, Path, subtree, beyond, at_path}
 use Rattle.forest_tree.specs.Sound.{IsSound}
 use Rattle.forest_tree.proofs.Places.{brood_of-none}
-use Rattle.forest_history.specs.Places.{at_path, Place, home, spots}
-use Rattle.forest_history.specs.World.{is_out_at}
-use Rattle.talking_history.specs.Places.{placed}
+use Rattle.talking_history.specs.Places.{Place, home, spots, placed}
+use Rattle.talking_history.specs.World.{is_out_at}
 use Rattle.forest_model.specs.Forest.{machines}
 use Rattle.forest_model.specs.Paged.{Paged, paged_machines}
 use Rattle.machine_names.specs.NameOrder.{path_cmp}

@@ -4,16 +4,15 @@ use Rattle.std.specs.Option.{IfSome, IsSomeAnd}
 use Rattle.std.specs.BTreeMap.{get}
 use Rattle.image_depot.specs.Key.{Shelves}
 use Rattle.fork_port.specs.declared.ending.Ending.{Ending}
-use Rattle.forest_tree.specs.Tree.{Tree, node, Broods, Log, machine, Branch, Path, subtree}
-use Rattle.forest_tree.specs.Settle.{has_ended, settled_by}
+use Rattle.forest_tree.specs.Tree.{Tree, node, Broods, Log, machine, Branch, Path, subtree, at_path}
+use Rattle.forest_tree.specs.Step.{has_ended, settled_by}
 use Rattle.forest_tree.specs.Sound.{IsSound}
-use Rattle.forest_tree.proofs.Settle.{root-sound}
+use Rattle.forest_tree.proofs.Sound.{root-sound}
 use Rattle.forest_tree.proofs.Places.{subtree-parts, subtree-sound}
 use Rattle.forest_tree.proofs.Rests.{lives-none}
 use Rattle.sibling_forest.specs.Talk.{Inbox, boxed, emptied, kept_by, queue}
 use Rattle.sibling_forest.specs.Settle.{rests_at}
-use Rattle.forest_history.specs.Places.{at_path, home, spots}
-use Rattle.talking_history.specs.Places.{placed, spot_talks}
+use Rattle.talking_history.specs.Places.{home, spots, placed, spot_talks}
 use Rattle.talking_history.specs.World.{holds, lives_ready}
 use Rattle.talking_history.specs.Rows.{gave, ended, spent, dropped, may_spend, came_back, Allows, does}
 use Rattle.forest_model.specs.Forest.{machines}

@@ -8,14 +8,13 @@ use Rattle.std.specs.BTreeMap.{btree_map_len, get}
 use Rattle.std.specs.Global.{Vec}
 use Rattle.image_depot.specs.Key.{Key, Shelves}
 use Rattle.forest_tree.specs.Operations.{is_cloned}
-use Rattle.forest_tree.specs.Tree.{Tree, node, Trees, Broods, Log, machine, broods_of, brood_of, at_brood, at_child, child_at, size, Branch, Path, subtree, beyond}
+use Rattle.forest_tree.specs.Tree.{Tree, node, Trees, Broods, Log, machine, broods_of, brood_of, at_brood, at_child, child_at, size, Branch, Path, subtree, beyond, at_path}
 use Rattle.forest_tree.proofs.Broods.{eqb-same, eqb-sym}
 use Rattle.forest_tree.proofs.Places.{some-same, brood_of-at, at_child-none, child_at-same, child_at-other}
 use Rattle.sibling_forest.specs.Talk.{Inbox, boxed, queue}
 use Rattle.sibling_forest.proofs.Crossing.{changed-brood}
-use Rattle.forest_history.specs.Places.{at_path, out, parked, Spot, spots}
-use Rattle.forest_history.specs.World.{is_asleep_at, is_out_at, is_ready_at}
-use Rattle.talking_history.specs.World.{holds, lives_ready}
+use Rattle.talking_history.specs.Places.{out, parked, Spot, spots}
+use Rattle.talking_history.specs.World.{is_asleep_at, is_out_at, is_ready_at, holds, lives_ready}
 use Rattle.forest_model.specs.Paged.{Paged, paged_machines, paged_talks}
 use Rattle.vm_descriptor.specs.declared.descriptor.Descriptor.{Descriptor}
 use Rattle.vm_descriptor.specs.declared.descriptor.TheConstants.{MAX_CLONES}

@@ -3,16 +3,15 @@ use Rattle.std.proofs.Common.{◌≡◌, ◌≢◌, ◌⊎◌, inl, inr, ℕ, ze
 use Rattle.std.proofs.Common.{refl, sym, ap, ap₂, ◌∙◌, subst, List, [], ◌∷◌, ◌++◌, Option, Some, None, is_some, option_map}
 use Rattle.std.proofs.lemmas.Bool.{and_parts, eqb-false}
 use Rattle.std.specs.Option.{IfSome}
-use Rattle.forest_tree.specs.Tree.{Tree, node, Trees, machine, broods_of, brood_of, at_child, child_at, Branch, Path, subtree, beyond, goes_on}
-use Rattle.forest_tree.specs.Settle.{has_ended, waits}
+use Rattle.forest_tree.specs.Tree.{Tree, node, Trees, machine, broods_of, brood_of, at_child, child_at, Branch, Path, subtree, beyond, goes_on, at_beyond, at_path}
+use Rattle.forest_tree.specs.Step.{has_ended, waits}
 use Rattle.forest_tree.proofs.Places.{at_child-none, child_at-same, child_at-other, some-same}
 use Rattle.sibling_forest.specs.Talk.{Inbox, Talk, send, receive, at_queue, queue}
 use Rattle.sibling_forest.specs.Settle.{box_at, is_empty, is_full, is_full_there, lives_there, waits_by}
 use Rattle.sibling_forest.specs.Laws.{child_number, is_sibling, queue_from, read_of}
 use Rattle.sibling_forest.proofs.Crossing.{changed-brood}
-use Rattle.forest_history.specs.Places.{at_beyond, at_path, out, parked, spots}
-use Rattle.forest_history.proofs.Changes.{at_path-here, at_path-elsewhere, at_path-machine}
-use Rattle.talking_history.specs.Places.{spot_talks}
+use Rattle.talking_history.specs.Places.{out, parked, spots, spot_talks}
+use Rattle.forest_tree.proofs.Changes.{at_path-here, at_path-elsewhere, at_path-machine}
 use Rattle.forest_model.specs.Paged.{paged_machines, paged_talks}
 use Rattle.machine_names.specs.Name.{child_path}
 use Rattle.machine_names.proofs.Below.{beyond-append}

@@ -12,15 +12,14 @@ use Rattle.std.proofs.lemmas.Map.Entries.{lookup-filter-keys}
 use Rattle.std.proofs.lemmas.List.{append-nil}
 use Rattle.image_depot.specs.Key.{Shelves}
 use Rattle.fork_port.specs.declared.ending.Ending.{Ending}
-use Rattle.forest_tree.specs.Tree.{Tree, node, Broods, machine, broods_of, child_at, brood_of, Branch, Path, subtree, beyond, goes_on, is_below}
+use Rattle.forest_tree.specs.Tree.{Tree, node, Broods, machine, broods_of, child_at, brood_of, Branch, Path, subtree, beyond, goes_on, is_below, at_path}
 use Rattle.forest_tree.proofs.Places.{some-same}
-use Rattle.forest_tree.specs.Settle.{has_ended}
+use Rattle.forest_tree.specs.Step.{has_ended}
 use Rattle.forest_tree.proofs.Broods.{eqb-same}
 use Rattle.sibling_forest.specs.Laws.{is_sibling}
-use Rattle.forest_history.specs.Places.{at_path, spots}
-use Rattle.forest_history.specs.World.{is_asleep_at, is_out_at, is_ready_at}
-use Rattle.talking_history.specs.World.{lives_ready, holds}
-use Rattle.forest_history.proofs.Changes.{at_path-machine}
+use Rattle.talking_history.specs.Places.{spots}
+use Rattle.talking_history.specs.World.{is_asleep_at, is_out_at, is_ready_at, lives_ready, holds}
+use Rattle.forest_tree.proofs.Changes.{at_path-machine}
 use Rattle.forest_model.specs.Forest.{machines}
 use Rattle.forest_model.specs.Paged.{paged_machines, paged_talks}
 use Rattle.run_report.specs.Report.{Ended}

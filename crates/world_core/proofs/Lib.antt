@@ -15,8 +15,10 @@ mod Saying
 mod Heard
 mod Hearing
 mod Stirs
+mod There
+mod Unnoted
 mod Telling
-mod Talked
+mod WordsSaid
 mod Made
 pub mod Slots
 pub mod SlotPlaces
@@ -29,6 +31,7 @@ pub mod Awake
 pub mod Sleepers
 pub mod TurnOut
 pub mod TakenOut
+mod Staying
 pub mod TurnOfOne
 pub mod Waking
 pub mod TurnOfChildren

@@ -21,11 +21,11 @@ use Rattle.port_rules.specs.Rules.{cloned_numbers, is_accounted}
 use Rattle.port_rules.proofs.Tickets.{accounted-is}
 use Rattle.forest_tree.specs.Operations.{is_among, is_cloned}
 use Rattle.forest_tree.specs.Tree.{Tree, node, Log, killed, log_of, machine, Path}
-use Rattle.forest_tree.specs.Settle.{log_killed}
+use Rattle.forest_tree.specs.Step.{log_killed}
 use Rattle.forest_tree.specs.Sound.{IsSound}
-use Rattle.forest_tree.proofs.Settle.{root-sound}
+use Rattle.forest_tree.proofs.Sound.{root-sound}
 use Rattle.forest_tree.proofs.Broods.{eqb-same}
-use Rattle.forest_history.specs.Places.{spots}
+use Rattle.talking_history.specs.Places.{spots}
 use Rattle.forest_model.specs.Forest.{machines, port_of}
 use Rattle.forest_model.specs.Paged.{Paged, paged_machines}
 use Rattle.run_report.specs.Lines.{Line, machine_line, ticket_line, own_line as own_line_of, lines, log_lines}

@@ -13,26 +13,23 @@ use Rattle.sibling_port.specs.declared.answers.TheConstants.{DONE, SIBLING_ENDED
 use Rattle.sibling_port.specs.declared.talk.Talk.{Talk}
 use Rattle.sibling_port.specs.declared.talk.Talk.TheVariants.{Send, Receive}
 use Rattle.forest_tree.specs.Operations.{Makes}
-use Rattle.forest_tree.specs.Tree.{Tree, node, Trees, Broods, no_brood, brood, Log, machine, at_brood, at_child, Branch, Path, subtree, beyond}
-use Rattle.forest_tree.specs.Settle.{has_ended, settled, settled_by, step}
+use Rattle.forest_tree.specs.Tree.{Tree, node, Trees, Broods, no_brood, brood, Log, machine, at_brood, at_child, Branch, Path, subtree, beyond, at_path}
+use Rattle.forest_tree.specs.Step.{has_ended, settled, settled_by, step, steps}
 use Rattle.forest_tree.specs.Sound.{IsSound}
 use Rattle.forest_tree.proofs.Calls.{step-own}
 use Rattle.forest_tree.proofs.Places.{some-same, subtree-sound}
 use Rattle.forest_tree.proofs.Rests.{lives-none}
-use Rattle.forest_tree.proofs.Settle.{root-sound}
+use Rattle.forest_tree.proofs.Sound.{root-sound, steps-keeps}
 use Rattle.sibling_forest.specs.Talk as siblings
 use Rattle.sibling_forest.specs.Talk.{Inbox, advance_by, after, after_receive, at_queue, boxed, first_taken, queue}
 use Rattle.sibling_forest.specs.Settle.{delivered}
 use Rattle.sibling_forest.specs.Laws.{child_number}
 use Rattle.sibling_forest.proofs.Families.{at_brood-twice, at_child-swap}
-use Rattle.forest_history.specs.Places.{at_path, home, parked, Spot, spots, steps}
-use Rattle.forest_history.specs.World.{is_asleep_at}
-use Rattle.talking_history.specs.World.{holds, lives_ready}
-use Rattle.forest_history.proofs.Changes.{at_path-here, at_path-twice}
-use Rattle.forest_history.proofs.Ends.{steps-keeps}
+use Rattle.talking_history.specs.Places.{home, parked, Spot, spots, placed, spot_talks}
+use Rattle.talking_history.specs.World.{is_asleep_at, holds, lives_ready}
+use Rattle.forest_tree.proofs.Changes.{at_path-here, at_path-twice}
 use Rattle.talking_history.specs.Changes.{to_sibling, told}
-use Rattle.talking_history.specs.Places.{placed, spot_talks}
-use Rattle.talking_history.specs.Rows.{How, forked, is_receive, is_send, joined, kept, made, may_spend, came_back, received, sent, speaks, spent, waited}
+use Rattle.talking_history.specs.Rows.{How, Allows, forked, is_receive, is_send, joined, kept, made, may_spend, came_back, received, sent, speaks, spent, waited}
 use Rattle.talking_history.proofs.Spots.{machine-placed}
 use Rattle.forest_model.specs.Machine.{Next, exception, timer_interrupt, plain, call, talk, next}
 use Rattle.forest_model.specs.Forest.{machines, talk_of, talks, tree_talk}
@@ -55,14 +52,14 @@ use Rattle.world_core.specs.declared.cell.State.TheVariants.{Parked}
 use Rattle.world_core.specs.declared.cell.talks.Said.{Said}
 use Rattle.world_core.specs.declared.cell.talks.Said.TheVariants as said
 use Rattle.world_core.specs.declared.world.World.{World}
-use Rattle.world_core.specs.Answers.{Goes, IsHandedOut, MayWait, MayWant, said_by, stands_waiting_of, with_machine}
+use Rattle.world_core.specs.Answers.{Goes, IsHandedOut, MayWait, MayWant, after_spent, said_by, stands_waiting_of, with_machine}
 use Rattle.world_core.specs.Between.{IsBetween, IsHeardAs, settled_tree, with_tree}
 use Rattle.world_core.specs.Images.{AreBroodsAt, AreOfImages, HasImages, Images, IsImageAt, IsStateAt}
 use Rattle.world_core.specs.Kin.{IsKin}
 use Rattle.world_core.specs.Lent.{IsLent, Lent, now_of, vm_of}
 use Rattle.world_core.specs.Listed.{IsListed, IsCovered}
 use Rattle.world_core.specs.Shows.{Member, paged_of, next_talk, forest, CellShows, HoldsAfter, IsAwake, IsKinIn, IsNoted, IsStateOf, Shows, StateShows}
-use Rattle.world_core.specs.Spoken.{NotesPeer, Spoke, said_forest, without_word, word_of}
+use Rattle.world_core.specs.Spoken.{IsPlacedAs, NotesPeer, Spoke, said_forest, without_word, word_of}
 use Rattle.world_core.specs.Talking.{IsSendOf, Parks, answer_by, parked_in, peer_of}
 use Rattle.world_core.specs.World.{Forest, IsForest, StandsFor, rests_in}
 use Rattle.world_core.proofs.AtPlaces.{holds-placed, lives-placed}
@@ -76,9 +73,9 @@ use Rattle.world_core.proofs.Saying.{sibling-last}
 use Rattle.world_core.proofs.Siblings.{TalksHere, peer-is, root-silent, talks-here}
 use Rattle.world_core.proofs.SlotEnds.{holds-same}
 use Rattle.world_core.proofs.SlotPlaces.{inbox-placed}
-use Rattle.world_core.proofs.Spending.{at_path-there, came-goes, came-own, came-told, came-whole, later, row-keeps, settled-later, then}
+use Rattle.world_core.proofs.Spending.{at_path-there, came-allowed, came-goes, came-is, came-own, came-told, came-whole, later, row-keeps, settled-later, then}
 use Rattle.world_core.proofs.Steps.{SameTickets, Holds-same, Tallies-same, came_out, forest-rules, lease-same, lease-steps, lent_out, paged-quiet, talking}
-use Rattle.world_core.proofs.Talked.{speaks as speaks-to}
+use Rattle.world_core.proofs.WordsSaid.{speaks as speaks-to}
 use Rattle.world_core.proofs.Waiting.{talk-here, waiting-rests}
 
 -- ---- a machine in the place of another
@@ -173,8 +170,8 @@ pub record IsMade (depot : Shelves) (v : World) (f : Forest) (then : Tree Member
   pub between : IsBetween depot v (record f { tree = then }) lease.name tree
   pub is : paged_of (machine tree) ≡ vm
   pub whole : IsForest (at_path (λ a. placed home (settled_tree tree)) lease.name then)
-  pub goes : (new : World) → StandsFor depot new (record f { tree = at_path (λ a. placed home (settled_tree tree)) lease.name then })
-      → Goes depot f (spent how lease.name lease.ran) new
+  pub allowed : Allows paged_machines paged_talks (spent how lease.name lease.ran) f
+  pub comes : after_spent f how lease ≡ record f { tree = at_path (λ a. placed home (settled_tree tree)) lease.name then }
 
 -- ---- two children of a ticket
 
@@ -435,9 +432,10 @@ module _ (depot : Shelves) (w : World) (f : Forest) (lease : Lent) (what : Talk)
           is = made-machine;
           whole = came-whole f lease.name h.start (now_of lease) lease.ran h.inbox h.broods h.log whole h.is.there h.has alive how may-now
               (at_path (λ a. placed home (settled_tree made_tree)) lease.name t) came-made;
-          goes = λ new stands_new.
-              came-goes f lease.name h.start (now_of lease) lease.ran h.inbox h.broods h.log whole h.is.there h.has alive how may-now
-              (at_path (λ a. placed home (settled_tree made_tree)) lease.name t) came-made depot new stands_new;
+          allowed = came-allowed f lease.name h.start (now_of lease) lease.ran h.inbox h.broods h.log whole h.is.there h.has alive how may-now
+              (at_path (λ a. placed home (settled_tree made_tree)) lease.name t) came-made;
+          comes = came-is f lease.name h.start (now_of lease) lease.ran h.inbox h.broods h.log whole h.is.there h.has alive how may-now
+              (at_path (λ a. placed home (settled_tree made_tree)) lease.name t) came-made;
         }
 
 -- ---- the talks, one by one
@@ -628,24 +626,17 @@ talked-as {old} {new} lease word answer made is =
     made ∙ ap (λ (v : KeyedMachine). record v { machine = talked v.machine word answer }) is in
     (sym (ap paged all), ap (λ (v : KeyedMachine). v.key) all)
 
--- what is to be placed
-pub record IsPlacedAs (depot : Shelves) (v : World) (f : Forest) (lease : Lent) (name : Path) (how : How) (vm : KeyedMachine) : Type 0 where
-  pub forest : Forest
-  pub tree : Tree Member
-  pub between : IsBetween depot v forest name tree
-  pub is : paged_of (machine tree) ≡ paged vm
-  pub whole : IsForest (with_tree name (placed home (settled_tree tree)) forest).tree
-  pub goes : (new : World) → StandsFor depot new (with_tree name (placed home (settled_tree tree)) forest) → Goes depot f (spent how lease.name lease.ran) new
-
+-- it is to be placed
 pub placed-as : (depot : Shelves) (v : World) (f : Forest) (lease : Lent) (name : Path) (how : How) (vm : KeyedMachine) → lease.name ≡ name → {t : Tree Member} {m : Paged}
     → IsMade depot v f t lease how m → m ≡ paged vm → IsPlacedAs depot v f lease name how vm
 placed-as depot v f lease name how vm named {t} {m} k is = subst (λ n. IsPlacedAs depot v f lease n how vm) named (record {
-  forest = record f { tree = t };
+  between_in = record f { tree = t };
   tree = k.tree;
   between = k.between;
   is = k.is ∙ is;
   whole = k.whole;
-  goes = k.goes;
+  allowed = k.allowed;
+  comes = k.comes;
 })
 
 -- the keys of a machine that is parked

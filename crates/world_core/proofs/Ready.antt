@@ -1,10 +1,8 @@
 -- Which machines are ready after a change of one.
 use Rattle.std.proofs.Common.{◌≡◌, ◌&&◌, not, Bool, true, refl, sym, ap, ◌∙◌, subst, inl, inr, List, [], ◌∷◌, ◌++◌, Option, Some, None, is_some, option_and_then, option_map}
-use Rattle.forest_tree.specs.Tree.{Tree, Branch, Path, subtree, beyond}
-use Rattle.forest_history.specs.Places.{at_path}
-use Rattle.forest_history.specs.World.{is_ready_at}
-use Rattle.talking_history.specs.World.{lives_ready, holds}
-use Rattle.forest_history.proofs.Changes.{at_path-within, at_path-here, at_path-machine}
+use Rattle.forest_tree.specs.Tree.{Tree, Branch, Path, subtree, beyond, at_path}
+use Rattle.talking_history.specs.World.{is_ready_at, lives_ready, holds}
+use Rattle.forest_tree.proofs.Changes.{at_path-within, at_path-here, at_path-machine}
 use Rattle.forest_model.specs.Paged.{paged_machines, paged_talks}
 use Rattle.ready_queue.specs.Ready.{Ready}
 use Rattle.world_core.specs.Listed.{IsListed, IsCovered}

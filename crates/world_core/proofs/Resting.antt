@@ -4,15 +4,14 @@ use Rattle.std.proofs.Math.Bool.{or-false}
 use Rattle.std.proofs.lemmas.List.{append-nil}
 use Rattle.forest_tree.specs.Operations.{Call, join}
 use Rattle.image_depot.specs.Key.{Shelves}
-use Rattle.forest_tree.specs.Tree.{Tree, node, machine, Branch, Path, subtree, beyond, goes_on}
-use Rattle.forest_tree.specs.Settle.{has_ended, waits}
+use Rattle.forest_tree.specs.Tree.{Tree, node, machine, Branch, Path, subtree, beyond, goes_on, at_path, at_beyond}
+use Rattle.forest_tree.specs.Step.{has_ended, waits}
 use Rattle.sibling_forest.specs.Talk.{boxed}
 use Rattle.sibling_forest.specs.Settle.{rests_there, rests_at}
 use Rattle.sibling_forest.specs.Laws.{child_number, is_sibling, queue_from, read_of}
-use Rattle.forest_history.specs.Places.{at_path, at_beyond, parked, Place, spots}
-use Rattle.forest_history.proofs.Changes.{at_path-elsewhere, at_path-here, at_path-machine}
-use Rattle.forest_history.proofs.Lives.{waits-deep, waits-child}
-use Rattle.talking_history.specs.Places.{placed, spot_talks}
+use Rattle.talking_history.specs.Places.{parked, Place, spots, placed, spot_talks}
+use Rattle.forest_tree.proofs.Changes.{at_path-elsewhere, at_path-here, at_path-machine}
+use Rattle.forest_tree.proofs.Lives.{waits-deep, waits-child}
 use Rattle.talking_history.specs.World.{holds, lives_ready}
 use Rattle.talking_history.proofs.Ends.{put-whole, resting-put}
 use Rattle.talking_history.proofs.Beside.{rests-beside, rests-parts, rests-within, silent-waits, talk-above, talk_waits}

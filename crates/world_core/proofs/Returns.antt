@@ -8,18 +8,16 @@ use Rattle.std.specs.declared.boxed.Box.{Box}
 use Rattle.std.specs.BTreeMap.{BTreeMap, WritesThrough, get}
 use Rattle.std.proofs.lemmas.List.{append-nil}
 use Rattle.image_depot.specs.Key.{Shelves}
-use Rattle.forest_tree.specs.Tree.{Tree, node, Broods, Log, machine, child_at, brood_of, Branch, Path, subtree, beyond}
-use Rattle.forest_tree.proofs.Settle.{root-sound}
+use Rattle.forest_tree.specs.Tree.{Tree, node, Broods, Log, machine, child_at, brood_of, Branch, Path, subtree, beyond, at_path}
+use Rattle.forest_tree.proofs.Sound.{root-sound}
 use Rattle.forest_tree.proofs.Places.{some-same}
-use Rattle.forest_tree.specs.Settle.{has_ended}
+use Rattle.forest_tree.specs.Step.{has_ended}
 use Rattle.forest_tree.specs.Sound.{IsSound}
 use Rattle.sibling_forest.specs.Talk.{Inbox, Talk}
-use Rattle.forest_history.specs.Places.{at_path, Place, asleep, home, out, parked, Spot}
-use Rattle.forest_history.specs.World.{is_asleep_at, is_out_at}
-use Rattle.forest_history.proofs.Changes.{at_path-here}
-use Rattle.talking_history.specs.Places.{placed}
-use Rattle.talking_history.specs.World.{holds, lives_ready}
-use Rattle.forest_history.specs.Rows.{first_reason}
+use Rattle.talking_history.specs.Places.{Place, asleep, home, out, parked, Spot, placed}
+use Rattle.talking_history.specs.World.{is_asleep_at, is_out_at, holds, lives_ready}
+use Rattle.forest_tree.proofs.Changes.{at_path-here}
+use Rattle.talking_history.specs.Rows.{first_reason}
 use Rattle.talking_history.proofs.Spots.{machine-placed}
 use Rattle.forest_model.specs.Paged.{Paged, paged_machines, paged_talks}
 use Rattle.machine_names.specs.NameOrder.{path_cmp}
@@ -126,7 +124,7 @@ pub there-is : {A : Type 0} (o : Option A) (P : A → Type 0) → IsSomeAnd o P 
 there-is None P h = absurd h
 there-is (Some a) P h = (a, refl, h)
 
-root-awake : (name : Path) (t b : Tree Member) → IsAwake t → IsAwake b → IsAwake (at_path (λ a. b) name t)
+pub root-awake : (name : Path) (t b : Tree Member) → IsAwake t → IsAwake b → IsAwake (at_path (λ a. b) name t)
 unfolding at_path
 root-awake [] t b h after = after
 root-awake (x ∷ rest) (node s broods log) b h after = record { lives = h.lives; awake = h.awake }

@@ -3,20 +3,18 @@ use Rattle.std.proofs.Common.{◌≡◌, ◌≢◌, ℕ, zero, suc, ◌+◌, ◌
 use Rattle.std.proofs.Common.{subst, List, [], ◌∷◌, ◌++◌, length, length-append, arith, Option, Some, None, IsSome, is_some}
 use Rattle.std.proofs.lemmas.Bool.{and_parts, eqb-false, leb-false, ne_eqb, not-true}
 use Rattle.fork_port.specs.declared.ending.Ending.{Ending}
-use Rattle.forest_tree.specs.Tree.{Tree, node, machine, Branch, Path, subtree}
-use Rattle.forest_tree.specs.Settle.{has_ended, waits}
+use Rattle.forest_tree.specs.Tree.{Tree, node, machine, Branch, Path, subtree, at_path}
+use Rattle.forest_tree.specs.Step.{has_ended, waits}
 use Rattle.forest_tree.specs.Sound.{IsSound}
-use Rattle.forest_tree.proofs.Settle.{KeepsTo}
+use Rattle.forest_tree.proofs.Sound.{KeepsTo, at_path-keeps}
 use Rattle.sibling_forest.specs.Talk.{Inbox, at_queue, boxed, emptied, first_taken, queue}
 use Rattle.sibling_forest.specs.Members.{HaveMembers, IsMember}
 use Rattle.sibling_forest.specs.Settle.{delivered, heard_by, is_full, rests_at, with_word}
 use Rattle.sibling_forest.specs.Laws.{child_number}
 use Rattle.sibling_forest.proofs.Queues.{emptied-at, queue-other, taken-within}
-use Rattle.forest_history.specs.Places.{at_path, spots}
-use Rattle.forest_history.proofs.Changes.{at_path-agree}
-use Rattle.forest_history.proofs.Ends.{at_path-keeps}
+use Rattle.talking_history.specs.Places.{spots, spot_talks}
+use Rattle.forest_tree.proofs.Changes.{at_path-agree}
 use Rattle.talking_history.specs.Changes.{to_sibling}
-use Rattle.talking_history.specs.Places.{spot_talks}
 use Rattle.forest_model.specs.Paged.{paged_machines, paged_talks}
 use Rattle.machine_names.specs.Name.{child_path}
 use Rattle.world_core.specs.Shows.{Member, forest, next_talk, siblings_of}

@@ -7,13 +7,12 @@ use Rattle.image_depot.specs.Key.{Shelves}
 use Rattle.sibling_port.specs.declared.talk.Talk.{Talk}
 use Rattle.sibling_port.specs.declared.talk.Talk.TheVariants.{Send, Receive}
 use Rattle.forest_tree.specs.Tree.{Tree, node, Trees, Broods, Log, machine, broods_of, brood_of, size, at_brood, at_child, child_at, Branch, Path, subtree}
-use Rattle.forest_tree.specs.Settle.{has_ended}
+use Rattle.forest_tree.specs.Step.{has_ended}
 use Rattle.forest_tree.proofs.Places.{some-same, at_child-none, child_at-same}
 use Rattle.sibling_forest.specs.Talk as siblings
 use Rattle.sibling_forest.specs.Talk.{Inbox, boxed}
 use Rattle.sibling_forest.proofs.Crossing.{changed-brood}
-use Rattle.forest_history.specs.Places.{out, parked, spots}
-use Rattle.talking_history.specs.Places.{spot_talks}
+use Rattle.talking_history.specs.Places.{out, parked, spots, spot_talks}
 use Rattle.forest_model.specs.Forest.{machines, tree_talk}
 use Rattle.forest_model.specs.Paged.{Paged, paged_machines, paged_talks}
 use Rattle.forest_model.proofs.Paged.{paged-talk}

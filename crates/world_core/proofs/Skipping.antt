@@ -4,16 +4,14 @@ use Rattle.std.specs.Option.{IfSome}
 use Rattle.std.proofs.lemmas.Bool.{eqb-false, ne_eqb}
 use Rattle.image_depot.specs.Key.{Shelves}
 use Rattle.forest_tree.specs.Tree.{Tree, node, Trees, machine, broods_of, brood_of, at_child, child_at, Path, subtree}
-use Rattle.forest_tree.specs.Settle.{has_ended, waits, waits_by as call_waits}
+use Rattle.forest_tree.specs.Step.{has_ended, waits, waits_by as call_waits}
 use Rattle.forest_tree.proofs.Places.{at_child-none, child_at-same, child_at-other}
 use Rattle.forest_tree.specs.Operations.{join}
 use Rattle.sibling_forest.proofs.Crossing.{changed-brood}
 use Rattle.sibling_forest.specs.Talk.{Talk, send, receive, peer, boxed, queue}
 use Rattle.sibling_forest.specs.Settle.{box_at, is_empty, is_full_there, lives_there, waits_by}
-use Rattle.forest_history.specs.Places.{Place, asleep, home, out, parked, spots}
-use Rattle.forest_history.specs.World.{is_ready_at}
-use Rattle.talking_history.specs.Places.{spot_talks}
-use Rattle.talking_history.specs.World.{holds, lives_ready}
+use Rattle.talking_history.specs.Places.{Place, asleep, home, out, parked, spots, spot_talks}
+use Rattle.talking_history.specs.World.{is_ready_at, holds, lives_ready}
 use Rattle.forest_model.specs.Paged.{paged_machines, paged_talks}
 use Rattle.std.specs.BTreeMap.{get}
 use Rattle.machine_names.specs.Name.{child_path}

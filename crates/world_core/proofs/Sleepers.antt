@@ -5,11 +5,10 @@ use Rattle.std.specs.BTreeMap.{BTreeMap, get}
 use Rattle.std.specs.Ordering.{nat_cmp}
 use Rattle.image_depot.specs.Key.{Shelves}
 use Rattle.forest_tree.specs.Tree.{Tree, Trees, no_tree, tree, no_brood, machine, broods_of, brood_of, child_at, Path, subtree}
-use Rattle.forest_tree.specs.Settle.{has_ended}
+use Rattle.forest_tree.specs.Step.{has_ended}
 use Rattle.forest_tree.proofs.Places.{some-same}
-use Rattle.forest_history.specs.Places.{Place, asleep, home, out, parked}
-use Rattle.forest_history.specs.World.{is_asleep_at, is_ready_at}
-use Rattle.talking_history.specs.World.{lives_ready, holds, is_resting}
+use Rattle.talking_history.specs.Places.{Place, asleep, home, out, parked}
+use Rattle.talking_history.specs.World.{is_asleep_at, is_ready_at, lives_ready, holds, is_resting}
 use Rattle.forest_model.specs.Paged.{paged_machines, paged_talks}
 use Rattle.image_depot.specs.Key.{Key}
 use Rattle.machine_names.specs.Name.{child_path}

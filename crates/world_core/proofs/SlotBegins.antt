@@ -7,9 +7,9 @@ use Rattle.std.specs.Map.{lookup}
 use Rattle.image_depot.specs.Key.{Shelves}
 use Rattle.forest_tree.specs.Operations.{is_cloned}
 use Rattle.forest_tree.specs.Tree.{no_tree, brood_of, Path}
-use Rattle.forest_tree.specs.Settle.{alone}
-use Rattle.forest_history.specs.Places.{Place, spots}
-use Rattle.forest_history.specs.World.{is_asleep_at}
+use Rattle.forest_tree.specs.Step.{alone}
+use Rattle.talking_history.specs.Places.{Place, spots}
+use Rattle.talking_history.specs.World.{is_asleep_at}
 use Rattle.forest_model.specs.Forest.{machines}
 use Rattle.forest_model.specs.Paged.{paged_machines, Paged}
 use Rattle.run_report.specs.Lines.{log_lines}

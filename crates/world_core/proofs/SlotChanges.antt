@@ -7,10 +7,10 @@ use Rattle.std.specs.Ordering.{nat_cmp}
 use Rattle.std.specs.BTreeMap.{get}
 use Rattle.forest_tree.specs.Operations.{is_cloned}
 use Rattle.forest_tree.specs.Tree.{Tree, Trees, no_tree, tree, machine, broods_of, brood_of, child_at, size, Path}
-use Rattle.forest_tree.specs.Settle.{has_ended}
+use Rattle.forest_tree.specs.Step.{has_ended}
 use Rattle.forest_tree.proofs.Places.{some-same}
-use Rattle.forest_history.specs.Places.{spots}
-use Rattle.forest_history.specs.World.{is_asleep_at}
+use Rattle.talking_history.specs.Places.{spots}
+use Rattle.talking_history.specs.World.{is_asleep_at}
 use Rattle.forest_model.specs.Forest.{machines}
 use Rattle.forest_model.specs.Paged.{paged_machines}
 use Rattle.image_depot.specs.Key.{Shelves, Key, IsKeyOf}

@@ -8,16 +8,14 @@ use Rattle.image_depot.specs.Key.{Shelves}
 use Rattle.fork_port.specs.declared.ending.Ending.{Ending}
 use Rattle.forest_tree.specs.Operations.{join}
 use Rattle.forest_tree.specs.Tree.{Tree, node, Broods, machine, broods_of, brood_of, child_at, at_child, at_brood, Path}
-use Rattle.forest_tree.specs.Settle.{has_ended, waits_by}
+use Rattle.forest_tree.specs.Step.{has_ended, waits_by}
 use Rattle.forest_tree.proofs.Broods.{eqb-same}
 use Rattle.sibling_forest.specs.Talk as siblings
 use Rattle.sibling_forest.specs.Talk.{boxed}
-use Rattle.forest_history.specs.Places.{home, out, parked, spots}
-use Rattle.forest_history.specs.World.{is_ready_at}
-use Rattle.forest_history.specs.Children.{life, living}
-use Rattle.forest_history.proofs.Lives.{one-child}
-use Rattle.talking_history.specs.Places.{placed}
-use Rattle.talking_history.specs.World.{lives_ready}
+use Rattle.talking_history.specs.Places.{home, out, parked, spots, placed}
+use Rattle.talking_history.specs.World.{is_ready_at, lives_ready}
+use Rattle.forest_tree.specs.Children.{life, living}
+use Rattle.forest_tree.proofs.Lives.{one-child}
 use Rattle.forest_model.specs.Forest.{machines, tree_talk}
 use Rattle.forest_model.specs.Paged.{paged_machines, paged_talks}
 use Rattle.machine_names.specs.Name.{child_path}

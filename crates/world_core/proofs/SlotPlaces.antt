@@ -2,11 +2,9 @@
 use Rattle.std.proofs.Common.{◌≡◌, Option, Some, None, MatchOption, ◌⊎◌, inl, inr, ◌&&◌, not, Bool, true, false, refl, sym, ap, ◌∙◌, subst}
 use Rattle.image_depot.specs.Key.{Shelves}
 use Rattle.forest_tree.specs.Tree.{Tree, node, machine, Path}
-use Rattle.forest_tree.specs.Settle.{has_ended}
-use Rattle.forest_history.specs.Places.{Place, asleep, home, out, parked, Spot}
-use Rattle.forest_history.specs.World.{is_ready_at, is_at_home_at, is_asleep_at}
-use Rattle.talking_history.specs.Places.{placed}
-use Rattle.talking_history.specs.World.{lives_ready, lives_at_home}
+use Rattle.forest_tree.specs.Step.{has_ended}
+use Rattle.talking_history.specs.Places.{Place, asleep, home, out, parked, Spot, placed}
+use Rattle.talking_history.specs.World.{is_ready_at, is_at_home_at, is_asleep_at, lives_ready, lives_at_home}
 use Rattle.talking_history.proofs.Spots.{machine-placed}
 use Rattle.forest_model.specs.Paged.{Paged, paged_machines, paged_talks}
 use Rattle.std.specs.declared.alloc.Global.{Global}

@@ -12,8 +12,8 @@ use Rattle.forest_tree.specs.Operations.{is_cloned}
 use Rattle.forest_tree.specs.Tree.{Tree, node, Trees, machine, brood_of, child_at, at_child, at_brood, Path}
 use Rattle.forest_tree.proofs.Broods.{eqb-same}
 use Rattle.forest_tree.proofs.Places.{some-same, brood_of-at, at_child-none, child_at-same, child_at-other}
-use Rattle.forest_history.specs.Children.{life, living}
-use Rattle.forest_history.proofs.Lives.{one-child}
+use Rattle.forest_tree.specs.Children.{life, living}
+use Rattle.forest_tree.proofs.Lives.{one-child}
 use Rattle.image_depot.specs.Key.{Shelves, Key}
 use Rattle.vm_descriptor.specs.declared.descriptor.Descriptor.{Descriptor}
 use Rattle.vm_descriptor.specs.Descriptor.{numbered}

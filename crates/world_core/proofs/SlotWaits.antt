@@ -7,10 +7,10 @@ use Rattle.std.specs.BTreeMap.{get}
 use Rattle.image_depot.specs.Key.{Shelves}
 use Rattle.forest_tree.specs.Operations.{Call, clone, join, kill, is_cloned}
 use Rattle.forest_tree.specs.Tree.{Tree, Trees, no_tree, tree, Broods, machine, broods_of, brood_of, child_at, at_child, at_brood, Path}
-use Rattle.forest_tree.specs.Settle.{has_ended, have_ended, waits_by}
+use Rattle.forest_tree.specs.Step.{has_ended, have_ended, waits_by}
 use Rattle.forest_tree.proofs.Places.{some-same, brood_of-at, at_child-none}
-use Rattle.forest_history.specs.Children.{life, living}
-use Rattle.forest_history.proofs.Lives.{none-lives, one-child}
+use Rattle.forest_tree.specs.Children.{life, living}
+use Rattle.forest_tree.proofs.Lives.{none-lives, one-child}
 use Rattle.world_core.specs.declared.cell.Brood.{Brood}
 use Rattle.world_core.specs.declared.cell.Cell.{Cell}
 use Rattle.world_core.specs.Shows.{Member, forest, BroodShows, BroodAt, Holds}

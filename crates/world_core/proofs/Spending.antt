@@ -3,17 +3,16 @@ use Rattle.std.proofs.Common.{◌≡◌, ℕ, zero, suc, ◌+◌, ◌≤◌, eqb
 use Rattle.image_depot.specs.Key.{Shelves}
 use Rattle.fork_port.specs.declared.ending.Ending.{Ending}
 use Rattle.forest_tree.specs.Operations.{Operations}
-use Rattle.forest_tree.specs.Tree.{Tree, node, Trees, no_tree, tree, Broods, no_brood, brood, Log, at_child, child_at, brood_of, at_brood, broods_with, Path, subtree}
-use Rattle.forest_tree.specs.Settle.{settled, settled_by, step}
+use Rattle.forest_tree.specs.Tree.{Tree, node, Trees, no_tree, tree, Broods, no_brood, brood, Log, at_child, child_at, brood_of, at_brood, broods_with, Path, subtree, at_path}
+use Rattle.forest_tree.specs.Step.{settled, settled_by, step, advanced, steps}
 use Rattle.forest_tree.specs.Sound.{IsSound}
 use Rattle.forest_tree.proofs.Broods.{one_if}
 use Rattle.forest_tree.proofs.Places.{some-same, below-at}
 use Rattle.forest_tree.proofs.Rests.{one-brood}
 use Rattle.sibling_forest.specs.Talk.{Inbox, boxed}
-use Rattle.forest_history.specs.Places.{at_path, home, spots, advanced, steps}
-use Rattle.forest_history.proofs.Changes.{at_path-leaves, at_path-twice}
+use Rattle.talking_history.specs.Places.{home, spots, placed, may_run, spot_talks}
+use Rattle.forest_tree.proofs.Changes.{at_path-leaves, at_path-twice}
 use Rattle.talking_history.specs.Changes.{told}
-use Rattle.talking_history.specs.Places.{placed, may_run, spot_talks}
 use Rattle.talking_history.specs.World.{is_resting}
 use Rattle.talking_history.specs.Rows.{How, forked, joined, sent, back, made, run_at, came_back, spent, kept, may_spend, RanOut, Spends, Keeps, IfThere, Allows, does}
 use Rattle.talking_history.proofs.CameBack.{own-back, called-back}
@@ -151,13 +150,18 @@ module _ (f : Forest) (name : Path) (start now : Paged) (ran : ℕ) (inbox : Inb
       unfolding does
       came-whole = subst IsForest came (does-whole paged_machines paged_talks paged-rules paged-talk {R = Reason} (spent how name ran) f whole)
 
+      pub came-allowed : Allows paged_machines paged_talks (spent how name ran) f
+      unfolding Allows
+      came-allowed =
+          subst (IfThere (Spends paged_machines paged_talks how ran (is_resting paged_machines paged_talks name (run_at paged_machines paged_talks name ran f.tree))))
+          (sym there_is) spends
+
+      pub came-is : does paged_machines paged_talks (spent how name ran) f ≡ record f { tree = u }
+      unfolding does
+      came-is = ap (λ t. record f { tree = t }) came
+
       pub came-goes : (depot : Shelves) (new : World) → StandsFor depot new (record f { tree = u }) → Goes depot f (spent how name ran) new
-      unfolding Allows does
-      came-goes depot new stands = record {
-        allowed = subst (IfThere (Spends paged_machines paged_talks how ran (is_resting paged_machines paged_talks name (run_at paged_machines paged_talks name ran f.tree))))
-            (sym there_is) spends;
-        after = subst (λ t. StandsFor depot new (record f { tree = t })) (sym came) stands;
-      }
+      came-goes depot new stands = record { allowed = came-allowed; after = subst (StandsFor depot new) (sym came-is) stands }
 
     module _ (b : Tree Member) (came : came_back paged_machines paged_talks how name ran f.tree ≡ (with_tree name b f).tree) where
       pub row-whole : IsForest (with_tree name b f).tree

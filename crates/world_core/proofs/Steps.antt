@@ -10,12 +10,11 @@ use Rattle.fork_port.specs.declared.ending.Ending.{Ending}
 use Rattle.forest_tree.specs.Operations as tree
 use Rattle.forest_tree.specs.Operations.{Operations, is_cloned, IsMachine, Makes, IsStep}
 use Rattle.forest_tree.specs.Tree.{Tree, node, Trees, Broods, Log, brood_of, machine, Path}
-use Rattle.forest_tree.specs.Settle.{settled}
+use Rattle.forest_tree.specs.Step.{settled, advanced, steps}
 use Rattle.forest_tree.proofs.Rests.{lives-none}
 use Rattle.sibling_forest.specs.Talk as siblings
 use Rattle.sibling_forest.specs.Talk.{Inbox, after, boxed}
-use Rattle.forest_history.specs.Places.{out, parked, Spot, spots, advanced, steps}
-use Rattle.talking_history.specs.Places.{may_run, placed, spot_talks}
+use Rattle.talking_history.specs.Places.{out, parked, Spot, spots, may_run, placed, spot_talks}
 use Rattle.talking_history.proofs.Spots.{machine-boxes}
 use Rattle.talking_history.proofs.Changes.{steps-own}
 use Rattle.talking_history.proofs.Turned.{may_run-spots}

@@ -11,10 +11,9 @@ use Rattle.image_depot.specs.Key.{Key, Shelves}
 use Rattle.image_depot.specs.Key.{number_of as key_number}
 use Rattle.forest_tree.specs.Operations.{is_cloned}
 use Rattle.forest_tree.specs.Tree.{Tree, Trees, no_tree, tree, machine, broods_of, brood_of, child_at, Branch, Path, subtree}
-use Rattle.forest_tree.specs.Settle.{has_ended}
-use Rattle.forest_history.specs.Places.{parked}
-use Rattle.forest_history.specs.World.{is_asleep_at}
-use Rattle.talking_history.specs.World.{holds, lives_ready}
+use Rattle.forest_tree.specs.Step.{has_ended}
+use Rattle.talking_history.specs.Places.{parked}
+use Rattle.talking_history.specs.World.{is_asleep_at, holds, lives_ready}
 use Rattle.forest_model.specs.Paged.{paged_machines, paged_talks}
 use Rattle.vm_descriptor.specs.declared.descriptor.Descriptor.{Descriptor}
 use Rattle.vm_descriptor.specs.Descriptor.{numbered}
@@ -47,7 +46,6 @@ use Rattle.world_core.proofs.Ready.{IsListed-first, IsListed-more, IsCovered-mor
 use Rattle.world_core.proofs.Returns.{apart-below, same-or-apart, some-is, written-apart, written-here}
 use Rattle.world_core.proofs.Siblings.{beside}
 use Rattle.world_core.proofs.Skipping.{cell-woken, each-as, holds-as, shows-as, woken-ready}
-use Rattle.world_core.proofs.Slots as slots
 use Rattle.world_core.proofs.Slots.{not-first, slot-of}
 use Rattle.world_core.proofs.SlotWaits.{one-held}
 
@@ -283,7 +281,7 @@ slot-awake path ticket key seed slots trees (suc j) a h found awake =
     let at : suc j - 1 ≡ j = omega arith in
     subst IsAwakeSlot (sym (ap (slice_get slots) at ∙ has.slot_at)) (awake-slot (child_path path ticket (1 + j)) key (numbered (1 + j) seed) has.slot a awake has.shows)
 
-born-awake : (depot : Shelves) (path : Path) (ticket : ℕ) (image : Option ForkImage) (slots : List ChildSlot) (trees : Trees Member) (k : ℕ) (a : Tree Member)
+pub born-awake : (depot : Shelves) (path : Path) (ticket : ℕ) (image : Option ForkImage) (slots : List ChildSlot) (trees : Trees Member) (k : ℕ) (a : Tree Member)
     → BornShows depot path ticket image slots trees → child_at k trees ≡ Some a → IsAwake a → IsAwakeSlot (slot_at k slots)
 born-awake depot path ticket None slots trees k a h found awake = slot-awake path ticket h.0 h.1 slots trees k a h.3 found awake
 born-awake depot path ticket (Some image) slots trees k a h found awake = slot-awake path ticket image.key image.seed slots trees k a h.1 found awake

@@ -10,12 +10,12 @@ use Rattle.std.specs.Global.{Vec}
 use Rattle.std.proofs.lemmas.List.{same_from_push}
 use Rattle.forest_tree.specs.Operations.{is_among, is_cloned}
 use Rattle.forest_tree.specs.Tree.{Broods, Log, Tree, Trees, node, no_tree, tree, machine, broods_of, brood_of, child_at, Branch, Path, subtree}
-use Rattle.forest_tree.specs.Settle.{has_ended}
+use Rattle.forest_tree.specs.Step.{has_ended}
 use Rattle.forest_tree.proofs.Broods.{eqb-same}
 use Rattle.forest_tree.proofs.Places.{some-same}
-use Rattle.forest_tree.proofs.Settle.{root-sound}
+use Rattle.forest_tree.proofs.Sound.{root-sound}
 use Rattle.sibling_forest.specs.Talk.{boxed}
-use Rattle.forest_history.specs.Places.{spots}
+use Rattle.talking_history.specs.Places.{spots}
 use Rattle.forest_model.specs.Forest.{machines}
 use Rattle.forest_model.specs.Paged.{paged_machines}
 use Rattle.std.specs.declared.alloc.Global.{Global}

@@ -3,14 +3,12 @@ use Rattle.std.proofs.Common.{◌≡◌, ◌≢◌, ◌&&◌, not, Bool, true, f
 use Rattle.std.specs.Option.{IfSome}
 use Rattle.std.specs.BTreeMap.{BTreeMap, get}
 use Rattle.image_depot.specs.Key.{Shelves}
-use Rattle.forest_tree.specs.Tree.{Tree, node, machine, Branch, Path, subtree, beyond}
-use Rattle.forest_tree.specs.Settle.{has_ended}
+use Rattle.forest_tree.specs.Tree.{Tree, node, machine, Branch, Path, subtree, beyond, at_path}
+use Rattle.forest_tree.specs.Step.{has_ended}
 use Rattle.forest_tree.proofs.Places.{subtree-parts}
 use Rattle.sibling_forest.specs.Talk.{boxed}
-use Rattle.forest_history.specs.Places.{at_path, Place, asleep, home, out, parked, Spot, spots}
-use Rattle.forest_history.specs.World.{is_ready_at}
-use Rattle.talking_history.specs.Places.{placed}
-use Rattle.talking_history.specs.World.{lives_ready, holds}
+use Rattle.talking_history.specs.Places.{Place, asleep, home, out, parked, Spot, spots, placed}
+use Rattle.talking_history.specs.World.{is_ready_at, lives_ready, holds}
 use Rattle.talking_history.specs.Rows.{took, Allows, does}
 use Rattle.talking_history.proofs.Spots.{machine-placed}
 use Rattle.forest_model.specs.Paged.{Paged, paged_machines, paged_talks}
@@ -56,7 +54,7 @@ module _ (depot : Shelves) (cells new : BTreeMap Path Cell) (t a : Tree Member) 
         above_it n);
   }
 
-never-ready : (resting : Bool) (a : Tree Member) → lives_ready paged_machines paged_talks resting (placed out a) ≡ true → ⊥
+pub never-ready : (resting : Bool) (a : Tree Member) → lives_ready paged_machines paged_talks resting (placed out a) ≡ true → ⊥
 never-ready resting a ready =
     by (has_ended forest (placed out a)) (machine (placed out a)).machine.place resting (ap (λ (s : Spot Paged). s.place) (machine-placed out a)) ready
   where

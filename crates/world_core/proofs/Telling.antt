@@ -6,12 +6,11 @@ use Rattle.std.specs.Option.{IfSome}
 use Rattle.std.specs.Ordering.{nat_cmp}
 use Rattle.std.specs.BTreeMap.{get}
 use Rattle.image_depot.specs.Key.{Shelves}
-use Rattle.forest_tree.specs.Tree.{Tree, node, machine, broods_of, brood_of, child_at, Branch, Path, subtree, beyond}
-use Rattle.forest_tree.specs.Settle.{has_ended}
+use Rattle.forest_tree.specs.Tree.{Tree, node, machine, broods_of, brood_of, child_at, Branch, Path, subtree, beyond, at_path}
+use Rattle.forest_tree.specs.Step.{has_ended}
 use Rattle.forest_tree.proofs.Broods.{eqb-same}
 use Rattle.forest_tree.proofs.Places.{child_at-other, some-same}
-use Rattle.forest_history.specs.Places.{at_path}
-use Rattle.forest_history.proofs.Changes.{at_path-here}
+use Rattle.forest_tree.proofs.Changes.{at_path-here}
 use Rattle.machine_names.specs.Name.{child_path}
 use Rattle.machine_names.specs.NameOrder.{path_cmp}
 use Rattle.machine_names.proofs.Below.{beyond-append, beyond-is}

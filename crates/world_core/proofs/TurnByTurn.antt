@@ -5,10 +5,9 @@ use Rattle.std.specs.Map.{lookup}
 use Rattle.std.specs.declared.snapshot.Snapshot.{Snapshot}
 use Rattle.image_depot.specs.Key.{Shelves}
 use Rattle.forest_tree.specs.Tree.{Tree, Path, machine, subtree}
-use Rattle.forest_tree.specs.Settle.{has_ended}
-use Rattle.forest_history.specs.Places.{Place, asleep, home, out, parked}
-use Rattle.forest_history.specs.World.{is_asleep_at, is_out_at}
-use Rattle.talking_history.specs.World.{holds, is_out}
+use Rattle.forest_tree.specs.Step.{has_ended}
+use Rattle.talking_history.specs.Places.{Place, asleep, home, out, parked}
+use Rattle.talking_history.specs.World.{is_asleep_at, is_out_at, holds, is_out}
 use Rattle.talking_history.specs.Rows.{over, stopped, stuck, idle, Allows, does, NoneReady}
 use Rattle.forest_model.specs.Paged.{paged_machines, paged_talks}
 use Rattle.machine_names.specs.NameOrder.{path_cmp}

@@ -5,12 +5,10 @@ use Rattle.std.specs.Option.{IfSome}
 use Rattle.std.specs.BTreeMap.{get}
 use Rattle.std.proofs.lemmas.Bool.{and_parts}
 use Rattle.image_depot.specs.Key.{Shelves}
-use Rattle.forest_tree.specs.Tree.{Tree, machine, Path, subtree}
-use Rattle.forest_tree.specs.Settle.{has_ended}
-use Rattle.forest_history.specs.Places.{at_path, out}
-use Rattle.talking_history.specs.Places.{placed}
-use Rattle.forest_history.specs.World.{is_asleep_at, is_ready_at}
-use Rattle.talking_history.specs.World.{lives_ready, holds}
+use Rattle.forest_tree.specs.Tree.{Tree, machine, Path, subtree, at_path}
+use Rattle.forest_tree.specs.Step.{has_ended}
+use Rattle.talking_history.specs.Places.{out, placed}
+use Rattle.talking_history.specs.World.{is_asleep_at, is_ready_at, lives_ready, holds}
 use Rattle.talking_history.specs.Rows.{took, wake_failed, Allows, does}
 use Rattle.forest_model.specs.Paged.{paged_machines, paged_talks}
 use Rattle.machine_names.specs.Name.{child_path}

@@ -4,8 +4,7 @@ use Rattle.std.specs.Option.{IfSome}
 use Rattle.std.specs.BTreeMap.{BTreeMap, WritesThrough, get}
 use Rattle.image_depot.specs.Key.{Shelves}
 use Rattle.forest_tree.specs.Tree.{Tree, node, machine, Path, subtree}
-use Rattle.forest_history.specs.Places.{home, out, parked}
-use Rattle.talking_history.specs.Places.{placed}
+use Rattle.talking_history.specs.Places.{home, out, parked, placed}
 use Rattle.talking_history.specs.World.{lives_ready, holds}
 use Rattle.talking_history.specs.Rows.{took}
 use Rattle.forest_model.specs.Paged.{paged_machines, paged_talks}

@@ -10,18 +10,17 @@ use Rattle.fork_port.specs.declared.ending.Ending.{Ending}
 use Rattle.sibling_port.specs.declared.talk.Talk.{Talk}
 use Rattle.sibling_port.specs.declared.talk.Talk.TheVariants.{Send, Receive}
 use Rattle.forest_tree.specs.Operations as calls
-use Rattle.forest_tree.specs.Tree.{Tree, node, Trees, no_tree, tree, machine, broods_of, brood_of, at_child, child_at, Branch, Path, subtree}
-use Rattle.forest_tree.specs.Settle as settle
-use Rattle.forest_tree.specs.Settle.{has_ended, have_ended, waits}
+use Rattle.forest_tree.specs.Tree.{Tree, node, Trees, no_tree, tree, machine, broods_of, brood_of, at_child, child_at, Branch, Path, subtree, at_path}
+use Rattle.forest_tree.specs.Step as settle
+use Rattle.forest_tree.specs.Step.{has_ended, have_ended, waits}
 use Rattle.forest_tree.proofs.Places.{child_at-same, at_child-none}
 use Rattle.sibling_forest.specs.Talk as siblings
 use Rattle.sibling_forest.specs.Talk.{Box, Talks, boxed}
 use Rattle.sibling_forest.specs.Settle.{box_at, is_empty, is_full_there, lives_there, waits_by}
 use Rattle.sibling_forest.proofs.Crossing.{changed-brood}
 use Rattle.forest_tree.specs.Operations.{Operations}
-use Rattle.forest_history.specs.Places.{at_path, spots}
-use Rattle.forest_history.proofs.Changes.{at_path-here}
-use Rattle.talking_history.specs.Places.{spot_talks}
+use Rattle.talking_history.specs.Places.{spots, spot_talks}
+use Rattle.forest_tree.proofs.Changes.{at_path-here}
 use Rattle.talking_history.specs.World.{holds}
 use Rattle.talking_history.proofs.Beside.{silent-waits, talk_by, there_by, talk_waits}
 use Rattle.forest_model.specs.Machine.{Next, exception, timer_interrupt, plain, call, talk, next}

@@ -10,16 +10,15 @@ use Rattle.std.specs.Result.{IfOk, OnOk, OnErr, IsErr}
 use Rattle.std.specs.declared.alloc.AllocError.{AllocError}
 use Rattle.image_depot.specs.Key.{Shelves}
 use Rattle.forest_tree.specs.Operations.{is_cloned}
-use Rattle.forest_tree.specs.Tree.{Tree, node, Trees, no_tree, tree, Broods, no_brood, Log, no_entry, machine, broods_of}
-use Rattle.forest_tree.specs.Tree.{brood_of, size, broods_with, child_at, at_child, at_brood, Branch, Path, subtree, beyond}
-use Rattle.forest_tree.specs.Settle.{alone, has_ended}
+use Rattle.forest_tree.specs.Tree.{Tree, node, Trees, no_tree, tree, Broods, no_brood, Log, no_entry, machine, broods_of, at_path, at_beyond, brood_of, size, broods_with, child_at, at_child, at_brood}
+use Rattle.forest_tree.specs.Tree.{Branch, Path, subtree, beyond}
+use Rattle.forest_tree.specs.Step.{alone, has_ended}
 use Rattle.forest_tree.specs.Sound.{IsSound}
 use Rattle.forest_tree.proofs.Places.{some-same, brood_of-at, at_child-none, subtree-sound}
 use Rattle.forest_tree.proofs.Rests.{lives-none}
-use Rattle.forest_tree.proofs.Settle.{root-sound}
-use Rattle.forest_history.specs.Places.{at_path, at_beyond, out, spots}
-use Rattle.talking_history.specs.Places.{placed, spot_talks}
-use Rattle.forest_history.specs.World.{is_asleep_at}
+use Rattle.forest_tree.proofs.Sound.{root-sound}
+use Rattle.talking_history.specs.Places.{out, spots, placed, spot_talks}
+use Rattle.talking_history.specs.World.{is_asleep_at}
 use Rattle.forest_model.specs.Forest.{machines}
 use Rattle.forest_model.specs.Paged.{Paged, paged_machines, paged_talks}
 use Rattle.image_depot.specs.Key.{Key}

@@ -1,5 +1,5 @@
 -- What the calls of a world answer, and what the world stands for after them.
-use Rattle.std.specs.Prelude.{◌≡◌, ℕ, Option, Some, None, Bool, true, false, not, ◌&&◌, is_some, IfSome, Result, Ok, Err}
+use Rattle.std.specs.Prelude.{◌≡◌, ◌⊎◌, ℕ, Option, Some, None, Bool, true, false, not, ◌&&◌, is_some, IfSome, IsSome, Result, Ok, Err}
 use Rattle.image_depot.specs.Key.{Shelves}
 use Rattle.std.specs.declared.alloc.AllocError.{AllocError}
 use Rattle.fork_port.specs.declared.commands.Call.{Call}
@@ -7,9 +7,9 @@ use Rattle.fork_port.specs.declared.commands.Call.TheVariants.{Clone, Join, Kill
 use Rattle.fork_port.specs.declared.ending.Ending.{Ending}
 use Rattle.sibling_port.specs.declared.talk.Talk.{Talk}
 use Rattle.sibling_port.specs.declared.talk.Talk.TheVariants.{Send, Receive}
-use Rattle.forest_tree.specs.Tree.{Tree, node, machine, Path, subtree}
-use Rattle.forest_tree.specs.Settle.{has_ended}
-use Rattle.forest_history.specs.Places.{at_path, out}
+use Rattle.forest_tree.specs.Tree.{Tree, node, machine, Path, subtree, at_path}
+use Rattle.forest_tree.specs.Step.{has_ended}
+use Rattle.talking_history.specs.Places.{out}
 use Rattle.talking_history.specs.World.{holds, is_at_home, is_resting}
 use Rattle.talking_history.specs.Rows.{How, gave, ended, forked, joined, killed, sent, received, waited}
 use Rattle.talking_history.specs.Rows.{Row, over, stopped, stuck, idle, took, wake_failed, spent, dropped, kept, Allows, does}
@@ -19,6 +19,8 @@ use Rattle.world_core.specs.declared.world.Placed.{Placed}
 use Rattle.world_core.specs.declared.world.Placed.TheVariants.{Done, Parked, Dropped, Memory}
 use Rattle.world_core.specs.declared.world.Taken.{Taken}
 use Rattle.world_core.specs.declared.world.Taken.TheVariants as taken
+use Rattle.world_core.specs.declared.world.Talked.{Talked}
+use Rattle.world_core.specs.declared.world.Talked.TheVariants as on
 use Rattle.forest_model.specs.Paged.{stalled_at, paged_machines, paged_talks, Paged, advanced_by}
 use Rattle.std.specs.Option.{IfSome}
 use Rattle.vm_cell.specs.Keyed.{IsOfDepot, KeyedMachine, paged}
@@ -128,6 +130,35 @@ Takes depot f taken.Stuck new = Goes depot f stuck new
 Takes depot f taken.Idle new = Goes depot f idle new
 Takes depot f (taken.Took lease) new = Goes depot f (took lease.name) new × Starts f lease × IsLentOf depot lease
 Takes depot f taken.Memory new = Goes depot f wake_failed new
+
+-- the forest after the machine of a lease came back so
+abbrev pub after_spent : Forest → How → Lent → Forest
+after_spent f how lease = does paged_machines paged_talks (spent how lease.name lease.ran) f
+
+-- the machine came back so, and was taken again at once
+pub record StaysOnLease (depot : Shelves) (f : Forest) (how : How) (lease next : Lent) (new : World) : Type 0 where
+  pub allowed : Allows paged_machines paged_talks (spent how lease.name lease.ran) f
+  pub same : next.name ≡ lease.name
+  pub taken_again : Goes depot (after_spent f how lease) (took lease.name) new
+  pub starts : Starts (after_spent f how lease) next
+  pub of_depot : IsLentOf depot next
+
+-- the answer to a talk whose machine may stay on lease
+abbrev pub TalksOn : Shelves → Forest → How → Lent → Talked → World → Type 0
+TalksOn depot f how lease (on.Goes next heard) new = StaysOnLease depot f how lease next new
+TalksOn depot f how lease (on.Placed answer) new = Answers depot f how lease answer new
+
+-- a machine that came back so does not run on: the world was stopped, or the machine has ended
+abbrev pub MayNotGoOn : Forest → How → Lent → Type 0
+MayNotGoOn f how lease = IsSome f.halted ⊎ (holds (has_ended forest) (subtree lease.name (after_spent f how lease).tree) ≡ true)
+
+-- only then is it taken back once it has made its talk
+abbrev pub IsHomeOnlyThen : Forest → How → Lent → Talked → Type 0
+IsHomeOnlyThen f how lease (on.Goes next heard) = Unit {0}
+IsHomeOnlyThen f how lease (on.Placed Done) = MayNotGoOn f how lease
+IsHomeOnlyThen f how lease (on.Placed Parked) = Unit {0}
+IsHomeOnlyThen f how lease (on.Placed Dropped) = Unit {0}
+IsHomeOnlyThen f how lease (on.Placed (Memory back)) = Unit {0}
 
 -- the answer of `take_named`, which takes a machine that waits too
 abbrev pub TakesNamed : Shelves → Forest → Path → Result (Option Lent) AllocError → World → Type 0

@@ -3,8 +3,7 @@ use Rattle.std.specs.Prelude.{ℕ}
 use Rattle.image_depot.specs.Key.{Shelves}
 use Rattle.cow_disk.specs.declared.arrived.Arrived.{Arrived}
 use Rattle.cow_disk.specs.declared.arrived.Arrived.TheVariants.{Got, Had}
-use Rattle.forest_tree.specs.Tree.{Tree, node, Path}
-use Rattle.forest_history.specs.Places.{at_path}
+use Rattle.forest_tree.specs.Tree.{Tree, node, Path, at_path}
 use Rattle.forest_model.specs.Paged.{Pages, pages_arrived}
 use Rattle.world_core.specs.declared.world.World.{World}
 use Rattle.world_core.specs.Lent.{Lent}

@@ -3,10 +3,10 @@ use Rattle.std.specs.Prelude.{◌≡◌, ◌⊎◌, ℕ, true, false, ◌∷◌,
 use Rattle.std.specs.BTreeMap.{BTreeMap, btree_map_len, get}
 use Rattle.image_depot.specs.Key.{Shelves}
 use Rattle.forest_tree.specs.Operations.{is_cloned}
-use Rattle.forest_tree.specs.Tree.{Tree, node, no_brood, Branch, Path, machine, broods_of, broods_with, beyond, subtree}
-use Rattle.forest_tree.specs.Settle.{has_ended, settled}
+use Rattle.forest_tree.specs.Tree.{Tree, node, no_brood, Branch, Path, machine, broods_of, broods_with, beyond, subtree, at_path}
+use Rattle.forest_tree.specs.Step.{has_ended, settled}
 use Rattle.sibling_forest.specs.Talk.{queue}
-use Rattle.forest_history.specs.Places.{at_path, home}
+use Rattle.talking_history.specs.Places.{home}
 use Rattle.std.specs.Option.{IfSome}
 use Rattle.machine_names.specs.NameOrder.{path_cmp}
 use Rattle.run_report.specs.Lines.{lines}

@@ -11,6 +11,8 @@ use Rattle.world_core.specs.declared.cell.State.{State}
 use Rattle.world_core.specs.declared.cell.State.TheVariants.{Home, Parked, Out}
 use Rattle.world_core.specs.declared.world.Taken.{Taken}
 use Rattle.world_core.specs.declared.world.Taken.TheVariants as taken
+use Rattle.world_core.specs.declared.world.Talked.{Talked}
+use Rattle.world_core.specs.declared.world.Talked.TheVariants as on
 use Rattle.world_core.specs.declared.world.World.{World}
 use Rattle.world_core.specs.Lent.{Lent}
 use Rattle.world_core.specs.PreparedFork.{Prepared}
@@ -68,6 +70,10 @@ IsTakenAt images taken.Memory = Unit {0}
 abbrev pub AreTakenAt : Images → Option Taken → Type 0
 AreTakenAt images None = Unit {0}
 AreTakenAt images (Some t) = IsTakenAt images t
+
+abbrev pub IsTalkedAt : Images → Talked → Type 0
+IsTalkedAt images (on.Goes next heard) = IsLentAt images next
+IsTalkedAt images (on.Placed answer) = Unit {0}
 
 -- the children that a CLONE is to have are of the image that is told for their brood
 abbrev pub IsPreparedAt : Images → Prepared → Type 0

@@ -6,7 +6,7 @@ use Rattle.std.specs.declared.alloc.AllocError.{AllocError}
 use Rattle.forest_tree.specs.Operations.{is_cloned}
 use Rattle.forest_tree.specs.Sound.{IsSound}
 use Rattle.forest_tree.specs.Tree.{Tree, Trees, no_tree, tree, Path, machine, broods_of, brood_of, log_of, subtree}
-use Rattle.forest_tree.specs.Settle.{has_ended}
+use Rattle.forest_tree.specs.Step.{has_ended}
 use Rattle.talking_history.specs.World.{IsWhole, is_out, is_ready}
 use Rattle.talking_history.specs.Rows.{NoneReady}
 use Rattle.forest_model.specs.Paged.{paged_machines, paged_talks}

@@ -7,13 +7,12 @@ use Rattle.forest_tree.specs.Operations.{Operations, Call, join, is_cloned}
 use Rattle.forest_tree.specs.Sound.{IsSound}
 use Rattle.forest_tree.specs.Tree.{Tree, node, Trees, no_tree, tree, no_brood, brood, joined, killed, machine, broods_of, log_of, brood_of, without}
 use Rattle.forest_tree.specs.Tree.{child_at, at_child, at_brood, size, Path}
-use Rattle.forest_tree.specs.Settle.{alone, has_ended, endings, children, log_killed}
+use Rattle.forest_tree.specs.Step.{alone, has_ended, endings, children, log_killed}
 use Rattle.sibling_forest.specs.Talk as siblings
 use Rattle.sibling_forest.specs.Talk.{Inbox, Box, peer, queue}
-use Rattle.forest_history.specs.Places.{asleep, home, out, parked, Spot}
-use Rattle.forest_history.specs.World.{is_asleep_at, is_out_at}
-use Rattle.forest_history.specs.Children.{living}
-use Rattle.talking_history.specs.Places.{spot_talks, boxes}
+use Rattle.talking_history.specs.Places.{asleep, home, out, parked, Spot, spot_talks, boxes}
+use Rattle.talking_history.specs.World.{is_asleep_at, is_out_at}
+use Rattle.forest_tree.specs.Children.{living}
 use Rattle.forest_model.specs.Forest.{tree_talk}
 use Rattle.forest_model.specs.Paged.{Paged, paged_machines, paged_talks}
 use Rattle.image_depot.specs.Key.{Shelves, Key, IsKeyOf, image_of}

@@ -2,7 +2,7 @@
 use Rattle.std.specs.Prelude.{◌≡◌, ℕ, ◌==◌, ◌||◌, Bool, false, if◌then◌else◌, Option, Some, None}
 use Rattle.forest_tree.specs.Operations.{join}
 use Rattle.forest_tree.specs.Tree.{Tree, machine}
-use Rattle.forest_tree.specs.Settle.{waits}
+use Rattle.forest_tree.specs.Step.{waits}
 use Rattle.sibling_port.specs.declared.talk.Talk.TheVariants.{Send, Receive}
 use Rattle.world_core.specs.declared.cell.Awaited.{Awaited}
 use Rattle.world_core.specs.declared.cell.Awaited.TheVariants.{Children, Sibling}

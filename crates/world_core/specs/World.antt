@@ -3,13 +3,11 @@ use Rattle.std.specs.Prelude.{◌≡◌, ℕ, ◌+◌, ◌≤◌, Bool, true, fa
 use Rattle.std.specs.BTreeMap.{get}
 use Rattle.image_depot.specs.Key.{Shelves}
 use Rattle.forest_tree.specs.Tree.{Tree, Path, machine, subtree}
-use Rattle.forest_tree.specs.Settle.{has_ended}
+use Rattle.forest_tree.specs.Step.{has_ended}
 use Rattle.sibling_forest.specs.Members.{IsWholeForest}
-use Rattle.forest_history.specs.Places.{spots}
-use Rattle.forest_history.specs.World.{is_out_at}
-use Rattle.talking_history.specs.Places.{spot_talks}
+use Rattle.talking_history.specs.Places.{spots, spot_talks}
+use Rattle.talking_history.specs.World.{is_out_at, holds, lives_ready, is_resting}
 use Rattle.talking_history.specs.World as history
-use Rattle.talking_history.specs.World.{holds, lives_ready, is_resting}
 use Rattle.forest_model.specs.Paged.{Paged, paged_machines, paged_talks}
 use Rattle.std.specs.Option.{IfSome}
 use Rattle.machine_names.specs.NameOrder.{path_cmp}

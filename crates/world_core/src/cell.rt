@@ -3,12 +3,10 @@ ghost use Rattle.std.specs.Prelude.{nat_lt, [], Option, Some, None, IfOk, IfSome
 ghost use Rattle.image_depot.specs.Key.{Shelves};
 ghost use Rattle.forest_tree.specs.Operations.{is_cloned};
 ghost use Rattle.forest_tree.specs.Tree.{Tree, machine, brood_of, broods_of, size, Path};
-ghost use Rattle.forest_tree.specs.Settle.{alone, has_ended, have_ended};
+ghost use Rattle.forest_tree.specs.Step.{alone, has_ended, have_ended};
 ghost use Rattle.sibling_forest.specs.Talk.{Inbox};
-ghost use Rattle.forest_history.specs.Places.{home, out};
-ghost use Rattle.forest_history.specs.World.{is_asleep_at};
-ghost use Rattle.talking_history.specs.Places.{placed};
-ghost use Rattle.talking_history.specs.World.{lives_ready, lives_at_home};
+ghost use Rattle.talking_history.specs.Places.{home, out, placed};
+ghost use Rattle.talking_history.specs.World.{is_asleep_at, lives_ready, lives_at_home};
 ghost use Rattle.forest_model.specs.Paged.{paged_machines, paged_talks};
 ghost use Rattle.machine_names.specs.Name.{child_path};
 ghost use Rattle.vm_cell.specs.Keyed.{IsOfDepot, paged};
@@ -20,6 +18,7 @@ ghost use Rattle.world_core.specs.Unparked.{JoinsAlone, ends_wait, is_parked_for
 ghost use Rattle.world_core.specs.Shows.{CellShows, Holds, IsAwake, IsLeft, IsNotAsleep, Member, child_of};
 ghost use Rattle.world_core.specs.Shows.{is_asleep_slot, slot_at, forest, paged_of, siblings_of, with_child};
 
+use crate::kept_image::KeptImage;
 use forest_model::Ending;
 use fork_port::Call;
 use image_depot::Depot;
@@ -33,7 +32,7 @@ use std::collections::BTreeMap;
 use std::mem;
 use std::snapshot::Snapshot;
 use std::sync::Wait;
-use vm_cell::{ForkImage, Vm};
+use vm_cell::Vm;
 
 mod broods;
 mod calls;
@@ -92,7 +91,7 @@ pub(crate) struct Brood {
     /// The name of their parent, for the line of the log where the ticket is killed.
     pub(crate) name: Name,
     /// What they start with, as long as one of them is still a descriptor.
-    pub(crate) image: Option<ForkImage>,
+    pub(crate) image: Option<KeptImage>,
     /// One for each of them, in order.
     pub(crate) slots: Vec<ChildSlot>,
     /// How many of them have not ended.
@@ -221,6 +220,7 @@ impl Cell {
         let Some(image) = &brood.image else {
             unreachable!();
         };
+        let image = image.get();
         let seed = image.seed.through_bytes(alloc, index)?;
         Vm::wake(alloc, &seed, brood.slots.len() as u32, &image.key, depot)
     }

@@ -28,7 +28,7 @@ use std::snapshot::Snapshot;
 use vm_cell::{Arrived, Ran, Slots, Stepped, Vm};
 
 /// A machine on lease. It runs by itself, and nothing else runs it meanwhile. A lease cannot be let go: it is
-/// spent by the world that handed it out, in `give`, `end`, `fork`, `commit_fork`, `join`, `kill` or `talk`.
+/// spent by the world that handed it out, in `give`, `end`, `fork`, `commit_fork`, `join`, `kill`, `talk` or `talk_on`.
 pub struct Lease {
     pub(crate) turn: ReadyTurn,
     /// The name of its parent, or `None` where it is the root.

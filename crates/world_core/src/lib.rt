@@ -3,6 +3,7 @@
 #![tactic(auto)]
 
 mod cell;
+mod kept_image;
 mod lease;
 mod prepared_fork;
 mod reason;
@@ -12,4 +13,4 @@ mod world;
 pub use lease::Lease;
 pub use prepared_fork::PreparedFork;
 pub use reason::Reason;
-pub use world::{Placed, Taken, World};
+pub use world::{Placed, Taken, Talked, World};

@@ -7,6 +7,7 @@ ghost use Rattle.world_core.specs.Lent.{vm_of};
 ghost use Rattle.world_core.specs.PreparedFork.{IsBroodOf, IsPreparedIn, IsPreparedFor};
 
 use crate::cell::{Brood, ChildSlot};
+use crate::kept_image::KeptImage;
 use crate::lease::Lease;
 use fork_port::Call;
 use image_depot::Depot;
@@ -16,7 +17,6 @@ use sibling_words::{SiblingNotes, SiblingWords};
 use std::alloc::{AllocError, Global};
 use std::marker::Model;
 use std::sync::Wait;
-use vm_cell::ForkImage;
 
 /// The children of a CLONE before they wake, with the room that they take in a world.
 #[derive(Drop)]
@@ -24,7 +24,7 @@ pub struct PreparedFork {
     /// The name of their parent.
     name: Name,
     ticket: u32,
-    image: ForkImage,
+    image: KeptImage,
     /// One for each of them. All are asleep.
     slots: Vec<ChildSlot>,
     words: SiblingWords,
@@ -65,13 +65,14 @@ impl Lease {
         let turn = ReadyTurn::of_children(alloc, self.name().copy()?, ticket)?;
         let name = self.name().copy()?;
         // Last, since the depot keeps the image, whatever fails after it.
-        let image = self.vm.child_left(rt, alloc, depot)?;
+        let left = self.vm.child_left(rt, alloc, depot)?;
+        let image = KeptImage::new(alloc, left)?;
         Ok(PreparedFork {
             name,
             ticket,
             image,
             slots,
-            words: SiblingWords::new(alloc),
+            words: SiblingWords::new(),
             notes,
             turn,
         })

@@ -1,10 +1,9 @@
 ghost use Rattle.std.specs.Prelude.{◌≡◌, [], length, None, Some, true, false, IfOk, OnOk, OnErr, IfSome, IsSome, IsSomeAnd, MatchOption, Bool};
 ghost use Rattle.std.specs.BTreeMap.{Updates, get};
 ghost use Rattle.image_depot.specs.Key.{Shelves};
-ghost use Rattle.forest_tree.specs.Settle.{has_ended};
+ghost use Rattle.forest_tree.specs.Step.{has_ended};
 ghost use Rattle.forest_tree.specs.Tree.{Path, Tree, machine, subtree};
-ghost use Rattle.forest_history.specs.Places.{home};
-ghost use Rattle.talking_history.specs.Places.{placed};
+ghost use Rattle.talking_history.specs.Places.{home, placed};
 ghost use Rattle.talking_history.specs.World.{is_at_home, world_of};
 ghost use Rattle.talking_history.specs.Rows.{ended, halted, does};
 ghost use Rattle.forest_model.specs.Forest.{machines, port_of};
@@ -68,6 +67,14 @@ pub enum Placed {
     Dropped,
     /// Want of memory: nothing was changed, and the lease comes back.
     Memory(Lease),
+}
+
+/// What became of a talk whose machine may stay on lease.
+pub enum Talked {
+    /// The talk was made, and the machine lives. It stays on lease. Whether another may be ready since then.
+    Goes(Lease, bool),
+    /// The machine was taken back, or stays for want of memory.
+    Placed(Placed),
 }
 
 /// A family of machines, some of them on lease.
@@ -166,7 +173,6 @@ impl World {
     }
 
     /// Takes a machine back. It takes no memory.
-    #[inline]
     pub fn give(&mut self, lease: Lease) -> Placed
         requires { HandedOut self.old lease }
         ensures answers { (depot : Shelves) (f : Forest) → StandsFor depot self.old f → IsHandedOut f lease → IsLentOf depot lease

@@ -65,8 +65,6 @@ impl Vm {
         requires { IsSome (standing_talk self.old) }
         ensures { self.new ≡ record self.old { machine = talked self.old.machine word answer } }
     {
-        // The call tells that the machine lives, and is at a talk.
-        let _ = self.talk();
         self.hart.talked(word, answer);
         count_step(&mut self.steps, self.limit, &mut self.ending, true);
     }

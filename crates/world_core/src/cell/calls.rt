@@ -6,7 +6,7 @@ ghost use Rattle.std.specs.Ordering.{nat_cmp};
 ghost use Rattle.image_depot.specs.Key.{Shelves};
 ghost use Rattle.forest_tree.specs.Operations.{clone, join, kill};
 ghost use Rattle.forest_tree.specs.Tree.{Path, Tree, brood_of, broods_of, machine};
-ghost use Rattle.forest_tree.specs.Settle.{endings, have_ended};
+ghost use Rattle.forest_tree.specs.Step.{endings, have_ended};
 ghost use Rattle.forest_tree.specs.Sound.{IsSound};
 ghost use Rattle.forest_model.specs.Calls.{after_join, after_kill, forked};
 ghost use Rattle.run_report.specs.Lines.{lines};
@@ -43,7 +43,7 @@ impl Cell {
             → HasImages images path self.new }
         ensures place { (self.new.state ≡ self.old.state) × (self.new.is_listed ≡ self.old.is_listed) × (self.new.kin ≡ self.old.kin) }
     {
-        self.log.reserve(self.broods.len() + 1)?;
+        make_room(&mut self.log, self.broods.len() + 1)?;
         self.broods.insert(ticket, brood)?;
         vm.cloned();
         Ok(())
@@ -112,6 +112,20 @@ impl Cell {
         log_killed(broods, &mut log);
         let steps = vm.steps();
         Outcome::new(name, Some(ending), steps, vm.into_output(), log)
+    }
+}
+
+/// Makes room for so many lines. A log that has room for none gets just that, since most machines that fork have one ticket.
+fn make_room(log: &mut Vec<Line>, lines: usize) -> Result<(), AllocError>
+    ensures items { log.new.items ≡ log.old.items }
+    ensures len { vec_len log.new ≡ vec_len log.old }
+    ensures room { OnOk result (vec_len log.new + lines ≤ vec_capacity log.new) }
+    ensures kept { vec_capacity log.old ≤ vec_capacity log.new }
+{
+    if log.capacity() == 0 {
+        log.reserve_exact(lines)
+    } else {
+        log.reserve(lines)
     }
 }
 

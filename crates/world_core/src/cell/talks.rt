@@ -1,11 +1,12 @@
 //! What the children of a ticket say to each other.
 
-ghost use Rattle.std.specs.Prelude.{◌≡◌, ◌≢◌, ◌≤◌, ℕ, false, Some, IfSome, IsSomeAnd, MatchOption, OnErr, OnOk};
+ghost use Rattle.std.specs.Prelude.{◌≡◌, ◌≢◌, ◌≤◌, ◌==◌, ℕ, false, Some, IfSome, IsSomeAnd, MatchBool, MatchOption, OnErr, OnOk};
 ghost use Rattle.std.specs.BTreeMap.{get};
 ghost use Rattle.std.specs.Ordering.{nat_cmp};
+ghost use Rattle.sibling_words.specs.Notes.{noted};
 ghost use Rattle.world_core.specs.Shows.{slot_at};
 ghost use Rattle.world_core.specs.Talking.{HasSlot, HaveSameSlots, IsNotAwake, IsSameBut, IsSameCell, IsSendOf};
-ghost use Rattle.world_core.specs.Talking.{IsUnheard, MaySay, Says, SetsSlot, answer_by, change_by, lives_in, peer_of, waits_in};
+ghost use Rattle.world_core.specs.Talking.{IsAwakeSlot, IsUnheard, MaySay, Says, SaysSo, SetsSlot, answer_by, change_by, lives_in, peer_of, slot_in, waits_in};
 
 use crate::cell::{Brood, Cell, Change, ChildSlot};
 use machine_names::Name;
@@ -50,6 +51,33 @@ impl Cell {
             unreachable!();
         };
         brood.say(alloc, index, talk, word)
+    }
+
+    /// Whether a child of a ticket is awake.
+    pub(crate) fn is_awake(&self, ticket: u32, index: u32) -> bool
+        ensures { MatchBool result ((1 ≤ index) × IsAwakeSlot (slot_in index (get nat_cmp self.now.broods ticket)))
+            (1 ≤ index → IsNotAwake (get nat_cmp self.now.broods ticket) index) }
+    {
+        let Some(brood) = self.broods.get(&ticket) else {
+            return false;
+        };
+        if index == 0 {
+            return false;
+        }
+        match brood.slots.get(index as usize - 1) {
+            Some(ChildSlot::Awake(_)) => true,
+            _ => false,
+        }
+    }
+
+    /// Whether a child of a ticket last came to wait for this sibling.
+    pub(crate) fn is_noted(&self, ticket: u32, index: u32, peer: u32) -> bool
+        ensures { IfSome (get nat_cmp self.now.broods ticket) (λ b. result ≡ (noted b.notes index == peer)) }
+    {
+        match self.broods.get(&ticket) {
+            Some(brood) => brood.notes.noted(index) == peer,
+            None => false,
+        }
     }
 
     /// Whether a child of a ticket waits that is to make this talk.
@@ -134,23 +162,44 @@ impl Brood {
         ensures err { OnErr result (IsUnheard self.old self.new × IsSendOf talk × (waits_in self.old index talk ≡ false)) }
         ensures rest { HaveSameSlots self.old self.new }
     {
-        let waits = self.waits(index, talk);
-        if waits {
-            self.notes.note(index, talk_peer(talk));
+        match talk {
+            Talk::Send(to) => self.send(alloc, index, to, word),
+            Talk::Receive(from) => Ok(self.receive(index, from)),
+        }
+    }
+
+    /// The same of a SEND. Where it waits, the words are as before.
+    fn send(&mut self, alloc: Global, index: u32, to: u32, word: u32) -> Result<Said, AllocError>
+        requires { MaySay index (Talk.Send to) self.old }
+        ensures says { OnOk result (Says self.old index (Talk.Send to) word result self.new) }
+        ensures err { OnErr result (IsUnheard self.old self.new × (waits_in self.old index (Talk.Send to) ≡ false)) }
+        ensures rest { HaveSameSlots self.old self.new }
+    {
+        if !self.lives(to) {
+            return Ok(Said::Sent);
+        }
+        if self.words.is_full(to, index) {
+            self.notes.note(index, to);
             return Ok(Said::Waits);
         }
-        match talk {
-            Talk::Send(to) => {
-                if self.lives(to) {
-                    self.words.push(alloc, to, index, word)?;
-                }
-                Ok(Said::Sent)
-            }
-            Talk::Receive(from) => match self.words.pop(index, from) {
-                Some(word) => Ok(Said::Received(word)),
-                None => Ok(Said::Ended),
-            },
+        self.words.push(alloc, to, index, word)?;
+        Ok(Said::Sent)
+    }
+
+    /// The same of a RECEIVE, which takes no memory. A word that waits is received from one that has ended too.
+    fn receive(&mut self, index: u32, from: u32) -> Said
+        requires { MaySay index (Talk.Receive from) self.old }
+        ensures says { (word : ℕ) → SaysSo self.old index (Talk.Receive from) word result self.new }
+        ensures rest { HaveSameSlots self.old self.new }
+    {
+        if let Some(word) = self.words.pop(index, from) {
+            return Said::Received(word);
         }
+        if !self.lives(from) {
+            return Said::Ended;
+        }
+        self.notes.note(index, from);
+        Said::Waits
     }
 }
 

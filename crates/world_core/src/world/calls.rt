@@ -2,8 +2,7 @@ ghost use Rattle.std.specs.Prelude.{◌≡◌, ℕ, None, Some, IfOk, if◌then�
 ghost use Rattle.std.specs.BTreeMap.{get};
 ghost use Rattle.image_depot.specs.Key.{Shelves};
 ghost use Rattle.forest_tree.specs.Tree.{Path, Tree, beyond, machine};
-ghost use Rattle.forest_history.specs.Places.{home};
-ghost use Rattle.talking_history.specs.Places.{placed};
+ghost use Rattle.talking_history.specs.Places.{home, placed};
 ghost use Rattle.talking_history.specs.Rows.{forked, joined, killed};
 ghost use Rattle.machine_names.specs.Name.{begins_with};
 ghost use Rattle.machine_names.specs.NameOrder.{path_cmp};

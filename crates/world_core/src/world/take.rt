@@ -1,9 +1,8 @@
 ghost use Rattle.std.specs.Prelude.{◌≡◌, ◌≢◌, None, Some, true, is_some, IfNone, IfSome, IfOk, OnErr, OnOk, false, MatchBool};
 ghost use Rattle.std.specs.BTreeMap.{get};
 ghost use Rattle.image_depot.specs.Key.{Shelves};
-ghost use Rattle.forest_tree.specs.Tree.{Tree, Path, machine, subtree};
-ghost use Rattle.forest_history.specs.Places.{at_path, out};
-ghost use Rattle.talking_history.specs.Places.{placed};
+ghost use Rattle.forest_tree.specs.Tree.{Tree, Path, machine, subtree, at_path};
+ghost use Rattle.talking_history.specs.Places.{out, placed};
 ghost use Rattle.world_core.specs.Images.{AreOfImages, AreTakenAt, Images, IsImageAt, IsLentAt, IsTakenAt};
 ghost use Rattle.vm_cell.specs.Keyed.{IsOfDepot, paged};
 ghost use Rattle.world_core.specs.Lent.{now_of};

@@ -1,20 +1,22 @@
 //! What machines of a world say to each other.
 
-ghost use Rattle.std.specs.Prelude.{◌≡◌, ◌≤◌, None, Some, IfOk, IfSome, IsSome, OnErr, false, true};
+ghost use Rattle.std.specs.Prelude.{◌≡◌, ◌⊎◌, ◌≤◌, None, Some, IfNone, IfOk, IfSome, IsSome, MatchBool, OnErr, false, true};
 ghost use Rattle.std.specs.BTreeMap.{get};
 ghost use Rattle.image_depot.specs.Key.{Shelves};
 ghost use Rattle.forest_tree.specs.Tree.{Tree, machine, subtree};
-ghost use Rattle.forest_tree.specs.Settle.{has_ended};
+ghost use Rattle.forest_tree.specs.Step.{has_ended};
+ghost use Rattle.talking_history.specs.Places.{out, placed};
 ghost use Rattle.machine_names.specs.Name.{child_path};
 ghost use Rattle.machine_names.specs.NameOrder.{path_cmp};
+ghost use Rattle.vm_cell.specs.Keyed.{paged};
 ghost use Rattle.vm_cell.specs.Standing.{standing_talk};
-ghost use Rattle.world_core.specs.Answers.{Answers, HandedOut, IsHandedOut, IsLentOf, said_by, stands_waiting_of};
-ghost use Rattle.world_core.specs.Between.{with_tree};
-ghost use Rattle.world_core.specs.Images.{AreOfImages, Images, IsLentAt};
+ghost use Rattle.world_core.specs.Answers.{Answers, HandedOut, IsHandedOut, IsHomeOnlyThen, IsLentOf, TalksOn, said_by, stands_waiting_of};
+ghost use Rattle.world_core.specs.Between.{IsBetween, IsSameWorld, with_tree};
+ghost use Rattle.world_core.specs.Images.{AreOfImages, Images, IsImageAt, IsLentAt, IsTalkedAt};
 ghost use Rattle.world_core.specs.Lent.{vm_of};
-ghost use Rattle.world_core.specs.Shows.{IsAwake, Member, forest};
+ghost use Rattle.world_core.specs.Shows.{IsAwake, Member, forest, paged_of};
 ghost use Rattle.world_core.specs.Stirring.{IsStirring, WakesOne};
-ghost use Rattle.world_core.specs.Spoken.{NotesPeer, Spoke, said_forest};
+ghost use Rattle.world_core.specs.Spoken.{IsOwnTurn, IsThereBy, NotesPeer, Spoke, TalksSo, said_forest};
 ghost use Rattle.world_core.specs.Talking.{IsNextNoted, IsSendOf, Parks, Rouses};
 ghost use Rattle.world_core.specs.Told.{told_of};
 ghost use Rattle.world_core.specs.World.{Forest, IsForest, Rests, ShowsEach, StandsFor};
@@ -22,13 +24,22 @@ ghost use Rattle.world_core.specs.World.{Forest, IsForest, Rests, ShowsEach, Sta
 use crate::cell::talks::{Said, talk_peer};
 use crate::cell::{Awaited, Cell, Change, State};
 use crate::lease::Lease;
-use crate::world::{Placed, World};
+use crate::world::{Placed, Talked, World};
 use machine_names::Name;
 use ready_queue::ReadyTurn;
 use sibling_port::Talk;
 use std::alloc::{AllocError, Global};
+use std::snapshot::Snapshot;
 use vm_cell::Vm;
 use vm_descriptor::MAX_CLONES;
+
+/// What became of a talk, before the machine is placed.
+pub(crate) enum AfterTalk {
+    /// The machine was taken back, or stays for want of memory.
+    Placed(Placed),
+    /// The talk was made, by the machine with its own turn and the name of its parent. Whether a sibling may have been woken.
+    Made(ReadyTurn, Option<Name>, Box<Vm>, bool),
+}
 
 impl World {
     /// Makes the SEND or the RECEIVE at which a machine stands, or parks the machine where it waits for its sibling. A
@@ -44,12 +55,55 @@ impl World {
         let Some(talk) = lease.talk() else {
             unreachable!();
         };
-        if !self.cells.contains_key(lease.name()) {
-            lease.discard();
-            return Placed::Dropped;
+        match self.make_talk(alloc, lease, talk) {
+            AfterTalk::Placed(answer) => answer,
+            AfterTalk::Made(turn, kin, vm, _) => self.place(turn, kin, vm),
         }
+    }
+
+    /// Makes the SEND or the RECEIVE at which a machine stands, which is this one. Where it need not wait, the machine lives
+    /// and the world was not stopped, the machine stays on lease, as if it had been taken again at once. Only a SEND may
+    /// want memory.
+    pub fn talk_on(&mut self, alloc: Global, lease: Lease, talk: Talk) -> Talked
+        requires lent { HandedOut self.old lease }
+        requires talks { standing_talk (vm_of lease) ≡ Some talk }
+        ensures answers { (depot : Shelves) (f : Forest) → StandsFor depot self.old f → IsHandedOut f lease → IsLentOf depot lease
+            → TalksOn depot f (said_by talk) lease result self.new }
+        ensures home { (depot : Shelves) (f : Forest) → StandsFor depot self.old f → IsHandedOut f lease → IsLentOf depot lease
+            → IsHomeOnlyThen f (said_by talk) lease result }
+        ensures told { told_of self.new ≡ told_of self.old }
+        ensures images { (images : Images) → AreOfImages images self.old → IsLentAt images lease
+            → AreOfImages images self.new × IsTalkedAt images result }
+    {
+        match self.make_talk(alloc, lease, talk) {
+            AfterTalk::Placed(answer) => Talked::Placed(answer),
+            AfterTalk::Made(turn, kin, vm, is_heard) => {
+                if !self.may_go_on(&vm) {
+                    return Talked::Placed(self.place(turn, kin, vm));
+                }
+                self.stay_out(turn.name(), &vm);
+                Talked::Goes(Lease::new(turn, kin, vm), is_heard)
+            }
+        }
+    }
+
+    /// Makes the talk of a machine on lease, which is parked where it waits, and else is still to be placed.
+    #[inline]
+    fn make_talk(&mut self, alloc: Global, lease: Lease, talk: Talk) -> AfterTalk
+        requires lent { HandedOut self.old lease }
+        requires talks { standing_talk (vm_of lease) ≡ Some talk }
+        ensures answers { (depot : Shelves) (f : Forest) → StandsFor depot self.old f → IsHandedOut f lease → IsLentOf depot lease
+            → TalksSo depot f (said_by talk) lease result self.new }
+        ensures own { IsOwnTurn lease result }
+        ensures told { told_of self.new ≡ told_of self.old }
+        ensures images { (images : Images) → AreOfImages images self.old → IsLentAt images lease → AreOfImages images self.new }
+    {
         let Ok(said) = self.say(alloc, &lease, talk) else {
-            return Placed::Memory(lease);
+            return AfterTalk::Placed(Placed::Memory(lease));
+        };
+        let Some((said, is_heard)) = said else {
+            lease.discard();
+            return AfterTalk::Placed(Placed::Dropped);
         };
         let Lease {
             turn,
@@ -60,23 +114,54 @@ impl World {
         } = lease;
         let Some((word, answer)) = said.answer() else {
             self.park(turn, kin, vm, Awaited::Sibling(talk));
-            return Placed::Parked;
+            return AfterTalk::Placed(Placed::Parked);
         };
         vm.talked(word, answer);
-        self.place(turn, kin, vm)
+        AfterTalk::Made(turn, kin, vm, is_heard)
+    }
+
+    /// Whether a machine that made its talk may run on: it lives, and the world was not stopped.
+    fn may_go_on(&self, vm: &Vm) -> bool
+        ensures { MatchBool result ((self.now.halted ≡ None) × (vm.now.machine.ending ≡ None))
+            (IsSome self.now.halted ⊎ IsSome vm.now.machine.ending) }
+    {
+        if self.halted.is_some() {
+            return false;
+        }
+        vm.ended().is_none()
+    }
+
+    /// The machine of a name is on lease still, as it stands now.
+    fn stay_out(&mut self, name: &Name, vm: &Vm)
+        ensures stands { (depot : Shelves) (f : Forest) (a : Tree Member) → IsBetween depot self.old f name.now a
+            → paged_of (machine a) ≡ paged vm.now → has_ended forest a ≡ false → IsForest (with_tree name.now (placed out a) f).tree
+            → StandsFor depot self.new (with_tree name.now (placed out a) f) }
+        ensures told { told_of self.new ≡ told_of self.old }
+        ensures images { (images : Images) → AreOfImages images self.old → IsImageAt images name.now vm.now.key → AreOfImages images self.new }
+    {
+        let Some(cell) = self.cells.get_mut(name) else {
+            return;
+        };
+        cell.state = State::Out(Snapshot::of(vm));
     }
 
     /// Makes the talk of a machine on lease, as far as it is of the words, and wakes the sibling that it names, where that
-    /// one waited for this.
-    fn say(&mut self, alloc: Global, lease: &Lease, talk: Talk) -> Result<Said, AllocError>
+    /// one waited for this. It tells beside whether it may have woken one, and nothing where the name of the lease is gone.
+    fn say(
+        &mut self,
+        alloc: Global,
+        lease: &Lease,
+        talk: Talk,
+    ) -> Result<Option<(Said, bool)>, AllocError>
         requires lent { HandedOut self.old lease.now }
         requires talks { standing_talk (vm_of lease.now) ≡ Some talk }
-        requires there { IsSome (get path_cmp self.old.cells lease.now.name) }
         ensures spoke { (depot : Shelves) (f : Forest) → StandsFor depot self.old f → IsHandedOut f lease.now
-            → IfOk result (λ said. Spoke f lease.now talk said) }
+            → IfOk result (λ told. IfSome told (λ said. Spoke f lease.now talk said.0)) }
         ensures stands { (depot : Shelves) (f : Forest) → StandsFor depot self.old f → IsHandedOut f lease.now
-            → IfOk result (λ said. StandsFor depot self.new (said_forest lease.now talk said f)) }
-        ensures notes { IfOk result (λ said. NotesPeer talk lease.now.name said self.new) }
+            → IfOk result (λ told. IfSome told (λ said. StandsFor depot self.new (said_forest lease.now talk said.0 f))) }
+        ensures notes { IfOk result (λ told. IfSome told (λ said. NotesPeer talk lease.now.name said.0 self.new)) }
+        ensures there { (depot : Shelves) (f : Forest) → StandsFor depot self.old f → IsHandedOut f lease.now → IsThereBy f lease.now result }
+        ensures gone { IfOk result (λ told. IfNone told (IsSameWorld self.old self.new)) }
         ensures err { OnErr result ((depot : Shelves) (f : Forest) → StandsFor depot self.old f → IsHandedOut f lease.now
             → IsSendOf talk × (stands_waiting_of (vm_of lease.now) lease.now.name f.tree ≡ false) × StandsFor depot self.new f) }
         ensures told { told_of self.new ≡ told_of self.old }
@@ -89,14 +174,22 @@ impl World {
             unreachable!();
         };
         let Some(cell) = self.cells.get_mut(parent) else {
-            unreachable!();
+            return Ok(None);
         };
+        if !cell.is_awake(ticket, index) {
+            return Ok(None);
+        }
         let said = cell.say(alloc, ticket, index, talk, lease.vm.data())?;
         let Some(change) = said.change(index) else {
-            return Ok(said);
+            return Ok(Some((said, false)));
         };
-        self.stir(parent, ticket, talk_peer(talk), change);
-        Ok(said)
+        // One that waits for this is noted for it.
+        let peer = talk_peer(talk);
+        if !cell.is_noted(ticket, peer, index) {
+            return Ok(Some((said, false)));
+        }
+        self.stir(parent, ticket, peer, change);
+        Ok(Some((said, true)))
     }
 
     /// Whether the talk of the machine of a cell waits.

@@ -1,4 +1,4 @@
-use Rattle.forest_tree.proofs.Settle.{length-endings}
+use Rattle.forest_tree.proofs.Sound.{length-endings}
 use Rattle.forest_tree.proofs.Calls.{step-join, ready-ended, endings-at}
 use Rattle.forest_tree.proofs.laws.join_stores_endings.Goals as goal
 

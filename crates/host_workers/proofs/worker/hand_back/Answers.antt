@@ -1,4 +1,5 @@
 use Rattle.std.proofs.Common.{ap, subst, sym, ◌∙◌}
+use Rattle.std.specs.Prelude.{is_some}
 use Rattle.talking_history.specs.Rows.{forked, joined, killed}
 use Rattle.vm_cell.specs.Standing.{IsClone, IsKill, standing_talk}
 use Rattle.vm_cell.specs.Steps.{Stands}
@@ -26,7 +27,7 @@ give-requires-clause-of_depot g c = lent-here c.args.pass c.args.shared.now.boar
 
 pub talk-requires-clause-talks : goal.talk-requires-clause-talks
 talk-requires-clause-talks g c =
-    stands-talk (vm_of c.args.lease) c.in-Talk.field-0 (subst (Stands (vm_of c.args.lease)) c.in-Talk.is c.requires.stands)
+    ap is_some (stands-talk (vm_of c.args.lease) c.in-Talk.field-0 (subst (Stands (vm_of c.args.lease)) c.in-Talk.is c.requires.stands))
 
 pub fork-requires-clause-clone : goal.fork-requires-clause-clone
 fork-requires-clause-clone g c =
@@ -49,7 +50,7 @@ kill-requires-clause-kill g c =
 pub returns-in-Talk : goal.returns-in-Talk
 returns-in-Talk g c =
     let r = c.talk.result in
-    let there = stands-talk (vm_of c.args.lease) c.in-Talk.field-0 (subst (Stands (vm_of c.args.lease)) c.in-Talk.is c.requires.stands) in
+    let there = ap is_some (stands-talk (vm_of c.args.lease) c.in-Talk.field-0 (subst (Stands (vm_of c.args.lease)) c.in-Talk.is c.requires.stands)) in
     let back =
     said-back c.args.pass r.0 c.args.lease c.requires.one r.1 (standing_talk (vm_of c.args.lease)) there c.talk.ensures.makes c.talk.ensures.places in
     record { worked = back.worked; holds = back.holds; spares = back.spares }

@@ -1,5 +1,5 @@
 use Rattle.std.proofs.Common.{refl}
-use Rattle.sibling_forest.specs.Fuel.{fuel, fuel_of}
+use Rattle.forest_tree.specs.Ahead.{most_ahead, weigh}
 use Rattle.sibling_forest.specs.Finish.{paths, first_not, run, finish}
 use Rattle.sibling_forest.specs.Report.{block_of, in_order, lines}
 use Rattle.sibling_forest.specs.Toy.{told}
@@ -7,5 +7,5 @@ use Rattle.sibling_forest.proofs.Computing.{steps_compute}
 use Rattle.sibling_forest.proofs.toy.toy_swaps.Goals as goal
 
 pub returns : goal.returns
-unfolding steps_compute fuel fuel_of paths first_not run finish block_of in_order lines told
+unfolding steps_compute most_ahead weigh paths first_not run finish block_of in_order lines told
 returns c = record { told = refl; lines = refl }

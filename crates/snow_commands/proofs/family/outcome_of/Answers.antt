@@ -12,7 +12,7 @@ pub unreachable-requires : goal.unreachable-requires
 unreachable-requires g c =
     let opening = c.args.pass.board.opening in
     let h = c.close.ensures in
-    let ends = unstopped-end c.args.pass c.args.finish c.reason.result c.requires.finish c.reason.ensures c.in_default.not-Some in
+    let ends = unstopped-end c.args.pass c.args.end c.reason.result c.requires.ends c.reason.ensures c.in_default.not-Some in
     outcome-there opening h.log c.close.result h.follows (closed-ends c.args.pass c.close.result h ends) c.outcome.result
     (c.outcome.ensures (depot_of opening) h.follows.world.forest h.follows.world.stands) (c.in-Ok-None.is ∙ ap Ok c.in-Ok-None.field-0-is)
 
@@ -20,10 +20,10 @@ pub returns-in-Ok-Some-clause-lines : goal.returns-in-Ok-Some-clause-lines
 returns-in-Ok-Some-clause-lines g c =
     let opening = c.args.pass.board.opening in
     let h = c.close.ensures in
-    let ends = unstopped-end c.args.pass c.args.finish c.reason.result c.requires.finish c.reason.ensures c.in_default.not-Some in
+    let ends = unstopped-end c.args.pass c.args.end c.reason.result c.requires.ends c.reason.ensures c.in_default.not-Some in
     ended-lines opening h.log c.close.result h.follows (closed-ends c.args.pass c.close.result h ends) c.outcome.result
     c.in-Ok-Some.outcome (c.outcome.ensures (depot_of opening) h.follows.world.forest h.follows.world.stands)
     (c.in-Ok-Some.is ∙ ap Ok c.in-Ok-Some.field-0-is)
 
 pub returns-in-Some-clause-reason : goal.returns-in-Some-clause-reason
-returns-in-Some-clause-reason g c = inl (is-stopped c.args.finish c.in-Some.reason (sym c.reason.ensures ∙ c.in-Some.is))
+returns-in-Some-clause-reason g c = inl (is-stopped c.args.end c.in-Some.reason (sym c.reason.ensures ∙ c.in-Some.is))

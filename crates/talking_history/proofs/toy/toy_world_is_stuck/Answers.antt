@@ -1,14 +1,13 @@
 use Rattle.std.proofs.Common.{refl}
-use Rattle.forest_tree.specs.Tree.{subtree, beyond}
+use Rattle.forest_tree.specs.Tree.{subtree, beyond, at_path}
 use Rattle.sibling_forest.specs.Finish.{paths, first_not}
 use Rattle.sibling_forest.specs.Settle.{settle_all}
 use Rattle.sibling_forest.specs.Toy.{speakers, speech, both_wait}
 use Rattle.sibling_forest.proofs.Computing.{steps_compute}
-use Rattle.forest_history.specs.Places.{at_path, spots, advanced}
-use Rattle.forest_history.specs.Histories.{holding, without_name}
-use Rattle.talking_history.specs.Places.{spot_talks, may_run}
+use Rattle.talking_history.specs.Places.{spots, spot_talks, may_run}
+use Rattle.forest_tree.specs.Step.{advanced}
+use Rattle.talking_history.specs.Histories.{holding, without_name, Permits, record_after, replay, IsLegal}
 use Rattle.talking_history.specs.Rows.{Allows, does}
-use Rattle.talking_history.specs.Histories.{Permits, record_after, replay, IsLegal}
 use Rattle.talking_history.specs.Toy.{first_record, waiting_history}
 use Rattle.talking_history.proofs.Stuck.{none-ready, none-out}
 use Rattle.talking_history.proofs.toy.toy_world_is_stuck.Goals as goal

@@ -1,5 +1,18 @@
-use Rattle.fork_board.proofs.Passing.{passed-at, passed-place-at}
+use Rattle.std.proofs.Common.{[], ◌∷◌, ◌++◌, sym, subst}
+use Rattle.fork_board.specs.Follows.{Follows}
+use Rattle.fork_board.specs.Notes.{entries}
+use Rattle.fork_board.proofs.Entries.{entries-push}
+use Rattle.fork_board.proofs.Passing.{at-lock, passed-at, passed-place-at}
 use Rattle.fork_board.proofs.board.Board.leave.Goals as goal
+
+pub pass-seat-requires-clause-stands : goal.pass-seat-requires-clause-stands
+pass-seat-requires-clause-stands c =
+    let b = c.self.inside in
+    let seat = c.args.visit.turn.seat in
+    let world = c.args.visit.turn.value.value in
+    at-lock (λ t o. Follows o (entries (seat.me.0.seen ++ (seat.me.0.seat, c.args.note.now) ∷ [])) world) c.args.self.now b.turns.table.shared.table_id
+    b.opening b.turns.table.shared.key c.self.view_is c.self.invariant
+    (subst (λ l. Follows c.args.self.now.opening l world) (sym (entries-push seat.me.0.seen seat.me.0.seat c.args.note.now)) c.requires.follows)
 
 pub returns : goal.returns
 returns c =

@@ -5,7 +5,7 @@ use Rattle.vm_cell.proofs.vm.Vm.run_parts.Goals as goal
 
 pub returns-in_err-first-clause-err : goal.returns-in_err-first-clause-err
 returns-in_err-first-clause-err c =
-    let cut : IsCut c.args.most c.args.self.now c.step_some.new.self = cut-less _ _ _ _ (omega arith) c.in_err-first.ensures.err in search rules
+    let cut : IsCut c.args.most c.args.self.now c.step_first.new.self = cut-less _ _ _ _ (omega arith) c.in_err-first.ensures.err in search rules
 
 pub returns-then-is_some-clause-ok : goal.returns-then-is_some-clause-ok
 returns-then-is_some-clause-ok c = part-alone _ _ _ _ c.in_ok-first.first (omega arith) (λ none made. absurd (grind arith)) c.in_ok-first.ensures.ok

@@ -6,6 +6,7 @@ use Rattle.vm_hart.specs.Kept.{ComesAside, Keeps}
 use Rattle.instruction_slots.specs.Slots.{KeptInstruction}
 use Rattle.vm_hart.proofs.Aside.{aside-keeps}
 use Rattle.vm_hart.proofs.Runs.{IsRun-none, IsRun-join, moved-once}
+use Rattle.vm_cell.proofs.Lent.{keeps-learnt, past-kept, past-learnt}
 use Rattle.vm_cell.proofs.Runs.{cut-later, cut-less, part-alone, part-moves, parts-join}
 use Rattle.vm_cell.proofs.vm.Vm.run_with.Goals as goal
 
@@ -39,9 +40,10 @@ loop-steps-preserved c =
     let one = c.count_alone-count.ensures.one aside in (
       IsRun-join _ _ _ _ _ (IsRun-join _ _ _ _ _ c.loop-steps.invariant.0 c.make_fast-made.ensures.run) is.run,
       omega (arith, within, c.count_alone-count.ensures.within, c.make_fast-made.ensures.most),
-      kept-on before after c.loop-steps.epoch part.steps c.make_fast-made.new.slots c.make_fast-made.ensures.live is.run some (omega (arith, one, within))
-          (c.leaves_ram-is_left.ensures aside) c.make_fast-made.ensures.keeps,
-      c.make_fast-made.ensures.same_length ∙ c.loop-steps.invariant.3,
+      keeps-learnt (hart_in after) c.loop-steps.epoch c.make_fast-made.new.slots _ c.step_alone.ensures.learns
+          (kept-on before after c.loop-steps.epoch part.steps c.make_fast-made.new.slots c.make_fast-made.ensures.live is.run some (omega (arith, one, within))
+          (c.leaves_ram-is_left.ensures aside) c.make_fast-made.ensures.keeps),
+      c.step_alone.ensures.learns.same_length ∙ c.make_fast-made.ensures.same_length ∙ c.loop-steps.invariant.3,
       (is.all none).0,
     )
 
@@ -55,7 +57,7 @@ loop-steps-preserved-then-not-is_left c =
       IsRun-join _ _ _ _ _ (IsRun-join _ _ _ _ _ c.loop-steps.invariant.0 c.make_fast-made.ensures.run) is.run,
       omega (arith, within, c.count_alone-count.ensures.within, c.make_fast-made.ensures.most),
       c.begin_epoch-then-not-is_left.ensures.keeps (hart_in after),
-      c.begin_epoch-then-not-is_left.ensures.same_length ∙ c.make_fast-made.ensures.same_length ∙ c.loop-steps.invariant.3,
+      c.begin_epoch-then-not-is_left.ensures.same_length ∙ c.step_alone.ensures.learns.same_length ∙ c.make_fast-made.ensures.same_length ∙ c.loop-steps.invariant.3,
       (is.all none).0,
     )
 
@@ -93,3 +95,18 @@ returns-clause-ok c = record {
   stops = tt;
   all = λ none. (c.loop-steps.invariant.4, omega (arith, c.loop-steps.invariant.1));
 }
+
+pub returns-in_err-part-clause-past : goal.returns-in_err-part-clause-past
+returns-in_err-part-clause-past c = past-learnt c.loop-steps.epoch _ _ c.step_alone.ensures.learns (past-kept _ _ _ c.make_fast-made.ensures.keeps)
+
+pub returns-in_err-part-clause-same_length : goal.returns-in_err-part-clause-same_length
+returns-in_err-part-clause-same_length c = c.step_alone.ensures.learns.same_length ∙ c.make_fast-made.ensures.same_length ∙ c.loop-steps.invariant.3
+
+pub returns-then-is_some-clause-past : goal.returns-then-is_some-clause-past
+returns-then-is_some-clause-past c = past-learnt c.loop-steps.epoch _ _ c.step_alone.ensures.learns (past-kept _ _ _ c.make_fast-made.ensures.keeps)
+
+pub returns-then-is_some-clause-same_length : goal.returns-then-is_some-clause-same_length
+returns-then-is_some-clause-same_length c = c.step_alone.ensures.learns.same_length ∙ c.make_fast-made.ensures.same_length ∙ c.loop-steps.invariant.3
+
+pub step_alone-requires-clause-some : goal.step_alone-requires-clause-some
+step_alone-requires-clause-some c = omega (arith, c.make_fast-made.ensures.same_length, c.loop-steps.invariant.3, c.requires.some)

@@ -1,12 +1,13 @@
 use Rattle.std.proofs.Common.{◌≡◌, ◌-◌, ap, arith, rules}
 use Rattle.vm_cell.specs.Parts.{IsCut}
+use Rattle.instruction_slots.proofs.Slots.{learns-again, learns-none}
 use Rattle.vm_hart.specs.Keyed.{KeyedMachine}
 use Rattle.vm_hart.proofs.Runs.{IsRun-none, IsRun-advance}
 use Rattle.vm_cell.proofs.Runs.{cut-here, cut-last, part-last, run-counted, run-limit, stops-there}
 use Rattle.vm_cell.proofs.vm.Vm.step_until.Goals as goal
 
 pub loop-self-init : goal.loop-self-init
-loop-self-init c = (run-counted _ _ 0 (IsRun-none c.args.self.now), omega arith, c.requires.from, c.requires.live)
+loop-self-init c = (run-counted _ _ 0 (IsRun-none c.args.self.now), omega arith, c.requires.from, c.requires.live, learns-none c.args.slots.now)
 
 pub step_live-requires-clause-below : goal.step_live-requires-clause-below
 step_live-requires-clause-below c = λ calm.
@@ -23,6 +24,7 @@ loop-self-preserved c =
       omega (arith, step.2, c.loop-self.invariant.1),
       omega (arith, step.2, same, c.loop-self-test.true, c.min-below.ensures),
       goes.1,
+      learns-again _ _ _ c.loop-self.invariant.4 c.step_live.ensures.learns,
     )
 
 pub returns-in_err-stop-clause-err : goal.returns-in_err-stop-clause-err
@@ -53,3 +55,21 @@ returns-then-self-until-clause-ok c =
     let limit : c.self.inside.limit ≡ c.args.self.now.machine.limit = ap (λ (v : KeyedMachine). v.machine.limit) c.self.view_is in
     part-last _ _ _ _ c.loop-self.invariant.0 c.loop-self.invariant.1 (omega (arith, after, c.if-self-until.true)) c.in_ok-last.last
     (omega (arith, same, after, limit, c.loop-self-test.false, c.if-self-until.true, c.min-below.ensures)) c.in_ok-last.ensures.within c.in_ok-last.ensures.ok
+
+pub returns-in_err-stop-clause-learns : goal.returns-in_err-stop-clause-learns
+returns-in_err-stop-clause-learns c = learns-again _ _ _ c.loop-self.invariant.4 c.step_live.ensures.learns
+
+pub returns-in-Some-clause-learns : goal.returns-in-Some-clause-learns
+returns-in-Some-clause-learns c = learns-again _ _ _ c.loop-self.invariant.4 c.step_live.ensures.learns
+
+pub returns-in_err-last-clause-learns : goal.returns-in_err-last-clause-learns
+returns-in_err-last-clause-learns c = learns-again _ _ _ c.loop-self.invariant.4 c.step_kept.ensures.learns
+
+pub returns-then-self-until-clause-learns : goal.returns-then-self-until-clause-learns
+returns-then-self-until-clause-learns c = learns-again _ _ _ c.loop-self.invariant.4 c.step_kept.ensures.learns
+
+pub step_live-requires-clause-some : goal.step_live-requires-clause-some
+step_live-requires-clause-some c = omega (arith, c.loop-self.invariant.4.same_length, c.requires.some)
+
+pub step_kept-requires-clause-some : goal.step_kept-requires-clause-some
+step_kept-requires-clause-some c = omega (arith, c.loop-self.invariant.4.same_length, c.requires.some)

@@ -8,9 +8,14 @@ use Rattle.vm_hart.proofs.Stepping.{after_count}
 use Rattle.vm_cell.proofs.Standing.{talk_there, talked_made}
 use Rattle.vm_cell.proofs.vm.Vm.talked.Goals as goal
 
+pub count_step-requires-clause-within : goal.count_step-requires-clause-within
+count_step-requires-clause-within c =
+    let at = talk_there c.args.self.now c.requires in
+    c.self.invariant.live (subst (λ (v : KeyedMachine). v.machine.ending ≡ None) (sym c.self.view_is) at.1.live)
+
 pub invariant_of-self : goal.invariant_of-self
 invariant_of-self c =
-    let at = talk_there c.args.self.now c.talk.result c.talk.ensures.value c.talk.ensures.asked c.requires in
+    let at = talk_there c.args.self.now c.requires in
     let live = subst (λ (v : KeyedMachine). v.machine.ending ≡ None) (sym c.self.view_is) at.1.live in
     counted_step _ _ _ _ _ _ _ _ c.self.invariant live c.count_step.ensures.counted c.count_step.ensures.ends
     (ap (λ (h : KeyedState). h.state.ports.fork) c.talked.ensures) (omega arith) c.self.invariant.funded
@@ -18,7 +23,7 @@ invariant_of-self c =
 pub returns : goal.returns
 returns c =
     let v : KeyedMachine = machine_of c.self.inside.hart c.self.inside.steps c.self.inside.limit c.self.inside.ending in
-    let at = talk_there c.args.self.now c.talk.result c.talk.ensures.value c.talk.ensures.asked c.requires in
+    let at = talk_there c.args.self.now c.requires in
     let spoken = subst (λ (n : KeyedMachine). IsSpoken n.machine at.0) (sym c.self.view_is) at.1 in
     after_count v.machine c.self.inside.hart _ (made_talk c.args.word c.args.answer v.machine.state) _ _ spoken.live c.talked.ensures c.count_step.ensures.counted c.count_step.ensures.ends
     ∙ ap (λ m. record v { machine = m }) (sym (talked_made v.machine at.0 c.args.word c.args.answer spoken))

@@ -3,6 +3,7 @@ use Rattle.forest_model.specs.declared.cause.TheConstants.{INSTRUCTION_ACCESS_FA
 use Rattle.forest_model.specs.Access.{faulted, of_port}
 use Rattle.vm_hart.specs.Keyed.{KeyedState}
 use Rattle.vm_hart.specs.declared.hart.Acted.TheVariants.{Trapped}
+use Rattle.instruction_slots.proofs.Slots.{learns-none}
 use Rattle.vm_hart.proofs.Acting.{absent-acts, fault-acts, interrupt-acts, next-acts, next-grows}
 use Rattle.vm_hart.proofs.hart.Hart.act.Goals as goal
 
@@ -37,3 +38,15 @@ returns-in-Ram-clause-memory c =
     let taken = sym c.takes_interrupt.ensures ∙ c.if-takes_interrupt.false in
     next-grows c.args.self.now taken _ c.in-Ram.ensures.is c.in-Ram.ensures.here c.fetched-word.result c.execute_word.result c.fetched-word.ensures
     c.execute_word.ensures.memory
+
+pub returns-then-takes_interrupt-clause-learns : goal.returns-then-takes_interrupt-clause-learns
+returns-then-takes_interrupt-clause-learns c = learns-none c.args.slots.now
+
+pub returns-in-Faulted-clause-learns : goal.returns-in-Faulted-clause-learns
+returns-in-Faulted-clause-learns c = learns-none c.args.slots.now
+
+pub returns-in-Absent-clause-learns : goal.returns-in-Absent-clause-learns
+returns-in-Absent-clause-learns c = learns-none c.args.slots.now
+
+pub returns-in-Port-clause-learns : goal.returns-in-Port-clause-learns
+returns-in-Port-clause-learns c = learns-none c.args.slots.now

@@ -1,6 +1,6 @@
 use Rattle.world_core.proofs.Images.{no-brood, key-alike}
 use Rattle.std.proofs.Common.{refl, ap}
-use Rattle.forest_history.specs.Places.{out}
+use Rattle.talking_history.specs.Places.{out}
 use Rattle.vm_cell.specs.Keyed.{KeyedMachine, paged}
 use Rattle.world_core.proofs.SlotBegins.{alone-awake, alone-holds}
 use Rattle.world_core.proofs.cell.Cell.of_lent.Goals as goal

@@ -1,6 +1,6 @@
 use Rattle.world_core.proofs.Images.{no-brood}
 use Rattle.std.proofs.Common.{[], refl, inl}
-use Rattle.forest_history.specs.Places.{home}
+use Rattle.talking_history.specs.Places.{home}
 use Rattle.vm_cell.specs.Keyed.{paged}
 use Rattle.world_core.proofs.SlotBegins.{alone-awake, alone-holds}
 use Rattle.world_core.proofs.cell.Cell.of_root.Goals as goal

@@ -5,6 +5,7 @@ use Rattle.forest_model.specs.Forest.{machines}
 use Rattle.vm_cell.specs.Keyed.{KeyedMachine}
 use Rattle.vm_cell.specs.Standing.{standing_call}
 use Rattle.vm_cell.specs.Woken.{AreSeeds}
+use Rattle.vm_cell.specs.declared.vm.fork.ForkImage.{ForkImage}
 use Rattle.vm_descriptor.specs.declared.descriptor.TheConstants.{MAX_CLONES}
 use Rattle.world_core.specs.declared.cell.ChildSlot.{ChildSlot}
 use Rattle.world_core.specs.declared.cell.ChildSlot.TheVariants.{Asleep}
@@ -19,7 +20,7 @@ invariant_of-result g c =
     slots.ok.0 ∙ ap (λ (items : List ChildSlot). length items) c.in_ok-slots.ensures ∙ length-replicate c.granted.result Asleep in
     record {
       slots = c.in_ok-slots.ensures ∙ ap (λ (n : ℕ). replicate n Asleep) (sym count);
-      wordless = c.new.ensures;
+      wordless = c.new-2.ensures;
       silent = record {
         none = c.in_ok-notes.ensures.none;
         room = omega (arith, c.in_ok-notes.ensures.room, c.len.ensures, count, c.granted.ensures.most);
@@ -33,7 +34,7 @@ invariant_of-result g c =
 pub returns-clause-of_lease : goal.returns-clause-of_lease
 returns-clause-of_lease g c =
     let slots = c.in_ok-slots.slots in
-    let image = c.in_ok-image.image in
+    let left = c.in_ok-left.left in
     let ticket : ℕ = c.in-Some-Clone.ticket in
     let count : vec_len slots ≡ c.granted.result =
     slots.ok.0 ∙ ap (λ (items : List ChildSlot). length items) c.in_ok-slots.ensures ∙ length-replicate c.granted.result Asleep in
@@ -44,7 +45,8 @@ returns-clause-of_lease g c =
       name = c.in_ok-name.ensures ∙ c.name-2.ensures;
       clone = at;
       children = many;
-      seeds = subst (λ n. AreSeeds (vm_of c.args.self.now) image.key n image.seed) (sym many)
-          (subst (λ v. AreSeeds v image.key (machines.grant v.machine ticket).children image.seed) same
-          (c.in_ok-image.ensures.seeds ticket (ap standing_call same ∙ at)));
+      seeds = subst (λ (image : ForkImage). AreSeeds (vm_of c.args.self.now) image.key (vec_len slots) image.seed) (sym c.in_ok-image.ensures)
+          (subst (λ n. AreSeeds (vm_of c.args.self.now) left.key n left.seed) (sym many)
+          (subst (λ v. AreSeeds v left.key (machines.grant v.machine ticket).children left.seed) same
+          (c.in_ok-left.ensures.seeds ticket (ap standing_call same ∙ at))));
     }

@@ -5,8 +5,7 @@ use Rattle.std.specs.BTreeMap.{BTreeMap, get}
 use Rattle.std.specs.Option.{IfSome}
 use Rattle.image_depot.specs.Key.{Shelves}
 use Rattle.forest_tree.specs.Tree.{Tree, Branch, Path, machine}
-use Rattle.forest_history.specs.Places.{home}
-use Rattle.talking_history.specs.Places.{placed}
+use Rattle.talking_history.specs.Places.{home, placed}
 use Rattle.forest_model.specs.Paged.{Paged}
 use Rattle.machine_names.specs.Name.{child_path}
 use Rattle.vm_cell.specs.Keyed.{paged}

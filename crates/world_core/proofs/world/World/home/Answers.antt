@@ -4,8 +4,7 @@ use Rattle.world_core.proofs.Images.{written}
 use Rattle.std.proofs.Common.{◌≡◌, Bool, true, refl, sym, ap, subst}
 use Rattle.std.specs.Option.{IfSome}
 use Rattle.forest_tree.specs.Tree.{Path}
-use Rattle.forest_history.specs.Places.{home}
-use Rattle.talking_history.specs.Places.{placed}
+use Rattle.talking_history.specs.Places.{home, placed}
 use Rattle.world_core.specs.declared.cell.Cell.{Cell}
 use Rattle.world_core.specs.declared.cell.State.TheVariants.{Home}
 use Rattle.world_core.specs.Listed.{IsListed, IsCovered}

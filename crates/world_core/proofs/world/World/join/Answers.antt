@@ -2,7 +2,7 @@ use Rattle.world_core.specs.Images.{HaveImages}
 use Rattle.world_core.proofs.AtName.{found-by, lent-by, writes-by}
 use Rattle.world_core.proofs.Images.{written, lent-key}
 use Rattle.std.proofs.Common.{◌≡◌, Some, sym, ap, ◌∙◌, subst, refl}
-use Rattle.forest_tree.specs.Settle.{endings}
+use Rattle.forest_tree.specs.Step.{endings}
 use Rattle.forest_tree.specs.Tree.{brood_of, broods_of}
 use Rattle.talking_history.specs.Rows.{joined, spent, waited}
 use Rattle.forest_model.specs.Calls.{after_join}

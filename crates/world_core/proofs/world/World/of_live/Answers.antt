@@ -3,7 +3,7 @@ use Rattle.world_core.proofs.Images.{none, put}
 use Rattle.std.proofs.Common.{◌≡◌, [], ◌∷◌, Some, None, sym, ap, ap₂, ◌∙◌, subst}
 use Rattle.std.specs.BTreeMap.{Updates, is_at}
 use Rattle.std.specs.Map.{lookup}
-use Rattle.forest_tree.specs.Settle.{alone}
+use Rattle.forest_tree.specs.Step.{alone}
 use Rattle.forest_model.specs.Paged.{Paged}
 use Rattle.machine_names.specs.NameOrder.{path_cmp}
 use Rattle.vm_cell.specs.Keyed.{KeyedMachine, IsOfDepot, paged}

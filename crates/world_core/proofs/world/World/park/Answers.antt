@@ -1,7 +1,7 @@
 use Rattle.world_core.specs.declared.cell.Cell.{Cell}
 use Rattle.world_core.specs.declared.cell.State.TheVariants.{Parked}
 use Rattle.world_core.proofs.AtName.{found-by, writes-by}
-use Rattle.world_core.proofs.Talked.{parks}
+use Rattle.world_core.proofs.WordsSaid.{parks}
 use Rattle.world_core.proofs.world.World.park.Goals as goal
 
 pub returns : goal.returns

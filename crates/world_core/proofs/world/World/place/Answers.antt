@@ -1,7 +1,6 @@
 use Rattle.std.proofs.Common.{◌≡◌, sym, ap, ◌∙◌, subst}
 use Rattle.forest_tree.specs.Tree.{Path}
-use Rattle.forest_history.specs.Places.{home}
-use Rattle.talking_history.specs.Places.{placed}
+use Rattle.talking_history.specs.Places.{home, placed}
 use Rattle.vm_cell.specs.Keyed.{paged}
 use Rattle.world_core.specs.declared.world.Placed.TheVariants.{Done}
 use Rattle.world_core.specs.World.{IsForest, StandsFor}

@@ -1,7 +1,7 @@
 use Rattle.std.proofs.Common.{◌≡◌, ◌+◌, ◌-◌, ◌≤◌, true}
 use Rattle.image_depot.specs.Key.{Shelves}
 use Rattle.forest_tree.specs.Tree.{Tree}
-use Rattle.forest_tree.specs.Settle.{has_ended}
+use Rattle.forest_tree.specs.Step.{has_ended}
 use Rattle.vm_descriptor.specs.declared.descriptor.TheConstants.{MAX_CLONES}
 use Rattle.world_core.specs.Images.{AreOfImages, Images}
 use Rattle.world_core.specs.Shows.{Member, forest}

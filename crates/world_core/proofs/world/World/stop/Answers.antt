@@ -1,6 +1,5 @@
 use Rattle.std.proofs.Common.{not, ap, ◌∙◌}
-use Rattle.forest_history.specs.Rows.{first_reason}
-use Rattle.talking_history.specs.Rows.{does}
+use Rattle.talking_history.specs.Rows.{first_reason, does}
 use Rattle.world_core.proofs.Returns.{stopped-first, stopped-kept, stands-halted}
 use Rattle.world_core.proofs.world.World.stop.Goals as goal
 

@@ -1,9 +1,8 @@
 use Rattle.world_core.specs.Images.{AreTakenAt}
 use Rattle.std.proofs.Common.{◌≡◌, ◌≢◌, ℕ, true, ◌∷◌, None, Some, is_some, sym, ap, ◌∙◌, subst}
 use Rattle.std.specs.BTreeMap.{get}
-use Rattle.forest_tree.specs.Tree.{Path}
-use Rattle.forest_history.specs.Places.{at_path, out}
-use Rattle.talking_history.specs.Places.{placed}
+use Rattle.forest_tree.specs.Tree.{Path, at_path}
+use Rattle.talking_history.specs.Places.{out, placed}
 use Rattle.machine_names.specs.Name.{child_path}
 use Rattle.machine_names.specs.NameOrder.{path_cmp}
 use Rattle.world_core.specs.declared.world.World.{World}

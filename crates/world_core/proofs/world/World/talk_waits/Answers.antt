@@ -4,7 +4,7 @@ use Rattle.world_core.specs.Kin.{IsKin}
 use Rattle.world_core.specs.Lent.{Lent}
 use Rattle.world_core.proofs.AtName.{lent-by}
 use Rattle.world_core.proofs.Siblings.{root-silent, talks-here}
-use Rattle.world_core.proofs.Talked.{kin-named, kin-read, no-parent, speaks, waits-as-told}
+use Rattle.world_core.proofs.WordsSaid.{kin-named, kin-read, no-parent, speaks, waits-as-told}
 use Rattle.world_core.proofs.world.World.talk_waits.Goals as goal
 
 pub returns-in_default : goal.returns-in_default

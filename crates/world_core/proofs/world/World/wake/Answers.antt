@@ -1,9 +1,8 @@
 use Rattle.std.proofs.Common.{◌≡◌, is_some, refl, sym, ap, ◌∙◌, subst}
 use Rattle.std.specs.Option.{IfSome}
 use Rattle.std.specs.BTreeMap.{get}
-use Rattle.forest_tree.specs.Tree.{Tree, Path, machine, subtree}
-use Rattle.forest_history.specs.Places.{at_path, out}
-use Rattle.talking_history.specs.Places.{placed}
+use Rattle.forest_tree.specs.Tree.{Tree, Path, machine, subtree, at_path}
+use Rattle.talking_history.specs.Places.{out, placed}
 use Rattle.machine_names.specs.Name.{child_path}
 use Rattle.machine_names.specs.NameOrder.{path_cmp}
 use Rattle.ready_queue.specs.Ready.{Ready}

@@ -1,5 +1,0 @@
-use Rattle.forest_history.proofs.Ends.{over-ends}
-use Rattle.forest_history.proofs.laws.over_is_the_end.Goals as goal
-
-pub returns : goal.returns
-returns g c = over-ends

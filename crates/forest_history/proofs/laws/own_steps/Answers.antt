@@ -1,5 +1,0 @@
-use Rattle.forest_history.proofs.Changes.{steps-own}
-use Rattle.forest_history.proofs.laws.own_steps.Goals as goal
-
-pub returns : goal.returns
-returns g c = steps-own
