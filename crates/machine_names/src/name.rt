@@ -1,6 +1,6 @@
 //! Names of machines, which are keys of maps too.
 
-ghost use Rattle.std.specs.Prelude.{◌≡◌, ◌<◌, ◌≤◌, [], drop, length, take, IfOk, IsTrue, MatchOption, OnErr, string_bytes};
+ghost use Rattle.std.specs.Prelude.{◌≡◌, ◌<◌, ◌≤◌, ◌+◌, ◌*◌, ◌^◌, [], drop, length, take, IfOk, IsTrue, MatchOption, OnErr, string_bytes};
 ghost use Rattle.std.specs.Fmt.{WritesOnOk};
 ghost use Rattle.std.specs.List.{flat_map};
 ghost use Rattle.forest_tree.specs.Tree.{Path, beyond, is_below};
@@ -28,8 +28,9 @@ const AT_ONCE: usize = 4;
 /// A fork on the way to a machine: the ticket, and which child of the ticket it is.
 #[derive(Copy)]
 pub struct Branch {
-    ticket: u32,
+    // In this order both are one number to a processor, by which forks are in order.
     child: u32,
+    ticket: u32,
 }
 
 impl Model for Branch {
@@ -71,6 +72,15 @@ impl Branch {
         ensures { result ≡ record { ticket = ticket; child = child } }
     {
         Branch { ticket, child }
+    }
+
+    /// Both numbers in one, by which forks are in order.
+    #[inline(always)]
+    fn key(&self) -> u64
+        ensures both { result ≡ self.now.ticket * 2 ^ 32 + self.now.child }
+        ensures fits { self.now.child < 2 ^ 32 }
+    {
+        (self.ticket as u64) << 32 | self.child as u64
     }
 
     /// Puts out the fork in text.
@@ -164,11 +174,9 @@ impl Ord for Branch {
 
     ghost matches_eq = { λ a b. refl };
 
-    #[tactic(auto, unfolding(crate::specs::NameOrder::branch_cmp))]
+    #[inline]
     fn cmp(&self, other: &Branch) -> Ordering {
-        self.ticket
-            .cmp(&other.ticket)
-            .then(self.child.cmp(&other.child))
+        self.key().cmp(&other.key())
     }
 }
 

@@ -93,18 +93,18 @@ parked-in : (path : Path) (resting : Bool) (state : State) (t : Tree Member) →
     → ((machine t).machine.place ≡ parked) × (resting ≡ true) × StateTells path state (machine t)
 parked-in path resting (Home vm) t is h = absurd (cc)
 parked-in path resting (Parked awaited vm turn) t is h = (h.1, h.2, (h.0, h.4))
-parked-in path resting (Out start) t is h = absurd (cc)
+parked-in path resting Out t is h = absurd (cc)
 
 not-out : (state : State) → is_parked state ≡ true → is_out_state state ≡ false
 not-out (Home vm) is = absurd (cc)
 not-out (Parked awaited vm turn) is = refl
-not-out (Out start) is = absurd (cc)
+not-out Out is = absurd (cc)
 
 -- one that is not parked
 pub not-parked : (state : State) → ((awaited : Awaited) (vm : Box KeyedMachine Global) (turn : Ready) → state ≡ Parked awaited vm turn → ⊥) → is_parked state ≡ false
 not-parked (Home vm) apart = refl
 not-parked (Parked awaited vm turn) apart = absurd (apart awaited vm turn refl)
-not-parked (Out start) apart = refl
+not-parked Out apart = refl
 
 dead-end : (ended is : Bool) → is ≡ false → not ended && is ≡ false
 dead-end true is e = refl
@@ -292,7 +292,7 @@ module _ (depot : Shelves) (w : World) (f : Forest) (h : StandsFor depot w f) (g
             ∙ (home-ready depot name (rests_in f.tree name) c vm shown.0 e shown.2).1),
       )
       by (Parked awaited vm turn) e not_parked = absurd (cc)
-      by (Out start) e not_parked = (
+      by Out e not_parked = (
         name,
         inr (out-by depot name (rests_in f.tree name) (get path_cmp w.cells name) (subtree name f.tree) (live.each.cells name)
             ∙ ap is_out_cell found ∙ ap is_out_state e),

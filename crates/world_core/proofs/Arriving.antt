@@ -135,7 +135,7 @@ module _ (flags : Pages → Pages) where
       → StateShows path state (lent_out inbox (record p { pages = flags p.pages })) after
   out-state path (Home vm) inbox p before after h = absurd (not-home before h.1)
   out-state path (Parked awaited vm turn) inbox p before after h = let no : out ≡ parked = h.1 in absurd (cc)
-  out-state path (Out start) inbox p before after h = h
+  out-state path Out inbox p before after h = h
 
   same-tickets : (inbox : Inbox) (p : Paged) → forest.is_good (lent_out inbox p) ≡ true
       → SameTickets (lent_out inbox p) (lent_out inbox (record p { pages = flags p.pages }))

@@ -17,6 +17,7 @@ use Rattle.vm_cell.proofs.Crosses.{vm_send}
 use Rattle.world_core.specs.contracts.cell.Cell as Cell
 use Rattle.world_core.specs.contracts.cell.State as State
 use Rattle.world_core.specs.contracts.lease.Lease as Lease
+use Rattle.world_core.specs.contracts.world.LastTaken as LastTaken
 use Rattle.world_core.specs.contracts.world.World as World
 use Rattle.world_core.proofs.cell.Brood.TheSendSync as brood
 
@@ -42,6 +43,9 @@ cell_send =
       ),
     )
 
+last_send : IsSend (LastTaken.the_field).row
+last_send = search (sendable, crosses, name.the_send) depth 40
+
 -- a plain struct, which serves alone, as a field, in an `Option` and in a slot of a table
 pub world_send : IsSend (World.the_field).row
 world_send =
@@ -53,7 +57,7 @@ world_send =
           search sendable depth 20,
           (
             search (sendable, crosses, sent.the_send) depth 20,
-            (search (sendable, outcome.the_send) depth 20, tt),
+            (search (sendable, outcome.the_send) depth 20, (last_send, tt)),
           ),
         ),
       ),

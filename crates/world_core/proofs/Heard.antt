@@ -170,7 +170,7 @@ heard-state : (path : Path) (resting : Bool) (state : State) (b : Member) (q : I
 heard-state path resting (Home vm) b q h = h
 heard-state path resting (Parked (Children ticket) vm turn) b q h = h
 heard-state path resting (Parked (Sibling what) vm turn) b q h = h
-heard-state path resting (Out start) b q h = h
+heard-state path resting Out b q h = h
 
 module _ (g : Member → Inbox) where
   heard-awake : (a : Tree Member) → IsAwake a → IsAwake (heard g a)

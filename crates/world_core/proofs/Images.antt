@@ -10,7 +10,7 @@ use Rattle.std.specs.BTreeMap.{BTreeMap, Updates, WritesThrough, get, is_at}
 use Rattle.fork_port.specs.declared.commands.Call.{Call}
 use Rattle.fork_port.specs.declared.commands.Call.TheVariants.{Clone}
 use Rattle.forest_tree.specs.Tree.{Path, beyond}
-use Rattle.image_depot.specs.Key.{Key, number_of}
+use Rattle.image_depot.specs.Key.{number_of}
 use Rattle.machine_names.specs.Name.{begins_with, child_path}
 use Rattle.machine_names.specs.NameOrder.{path_cmp}
 use Rattle.machine_names.proofs.NameMaps.{updated-here, updated-apart}
@@ -95,7 +95,7 @@ module _ (images : Images) (path : Path) where
       by : (b : Bool) → IsStateAt images path (cond b (Home vm) (Parked awaited vm turn))
       by true = h
       by false = h
-  unparked-at change (Out start) h = h
+  unparked-at change Out h = h
 
   -- a child wakes with the key of its brood
   pub woken-at : (ticket index siblings : ℕ) (b : Brood) (image : ForkImage) (seed : Descriptor) (r : Result KeyedMachine AllocError) (c : Cell) → HasImages images path c
@@ -121,9 +121,6 @@ module _ (images : Images) (path : Path) where
     state = subst (IsStateAt images path) (sym state) (unparked-at change c.state h.state);
     broods = subst (AreBroodsAt images path) (sym same) (brood-written c.broods broods ticket b d found w step h.broods);
   }
-
-  pub key-alike : (old new : Option Key) → new ≡ old → IsImageAt images path old → IsImageAt images path new
-  key-alike old new same h = subst (IsImageAt images path) (sym same) h
 
 -- ---- cells
 

@@ -39,6 +39,7 @@ pub mod TurnByTurn
 pub mod ByName
 mod AtName
 pub mod Depths
+mod LastTaken
 pub mod Leaving
 mod Images
 pub mod Finishing

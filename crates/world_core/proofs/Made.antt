@@ -58,7 +58,7 @@ use Rattle.world_core.specs.Images.{AreBroodsAt, AreOfImages, HasImages, Images,
 use Rattle.world_core.specs.Kin.{IsKin}
 use Rattle.world_core.specs.Lent.{IsLent, Lent, now_of, vm_of}
 use Rattle.world_core.specs.Listed.{IsListed, IsCovered}
-use Rattle.world_core.specs.Shows.{Member, paged_of, next_talk, forest, CellShows, HoldsAfter, IsAwake, IsKinIn, IsNoted, IsStateOf, Shows, StateShows}
+use Rattle.world_core.specs.Shows.{Member, paged_of, next_talk, forest, CellShows, HoldsAfter, IsAwake, IsKinIn, IsNoted, IsStateOf, Shows, StateShows, is_out_cell}
 use Rattle.world_core.specs.Spoken.{IsPlacedAs, NotesPeer, Spoke, said_forest, without_word, word_of}
 use Rattle.world_core.specs.Talking.{IsSendOf, Parks, answer_by, parked_in, peer_of}
 use Rattle.world_core.specs.World.{Forest, IsForest, StandsFor, rests_in}
@@ -75,6 +75,7 @@ use Rattle.world_core.proofs.SlotEnds.{holds-same}
 use Rattle.world_core.proofs.SlotPlaces.{inbox-placed}
 use Rattle.world_core.proofs.Spending.{at_path-there, came-allowed, came-goes, came-is, came-own, came-told, came-whole, later, row-keeps, settled-later, then}
 use Rattle.world_core.proofs.Steps.{SameTickets, Holds-same, Tallies-same, came_out, forest-rules, lease-same, lease-steps, lent_out, paged-quiet, talking}
+use Rattle.world_core.proofs.TurnByTurn.{out-by}
 use Rattle.world_core.proofs.WordsSaid.{speaks as speaks-to}
 use Rattle.world_core.proofs.Waiting.{talk-here, waiting-rests}
 
@@ -172,6 +173,7 @@ pub record IsMade (depot : Shelves) (v : World) (f : Forest) (then : Tree Member
   pub whole : IsForest (at_path (λ a. placed home (settled_tree tree)) lease.name then)
   pub allowed : Allows paged_machines paged_talks (spent how lease.name lease.ran) f
   pub comes : after_spent f how lease ≡ record f { tree = at_path (λ a. placed home (settled_tree tree)) lease.name then }
+  pub is_out : is_out_cell (get path_cmp v.cells lease.name) ≡ true
 
 -- ---- two children of a ticket
 
@@ -436,6 +438,7 @@ module _ (depot : Shelves) (w : World) (f : Forest) (lease : Lent) (what : Talk)
               (at_path (λ a. placed home (settled_tree made_tree)) lease.name t) came-made;
           comes = came-is f lease.name h.start (now_of lease) lease.ran h.inbox h.broods h.log whole h.is.there h.has alive how may-now
               (at_path (λ a. placed home (settled_tree made_tree)) lease.name t) came-made;
+          is_out = ap is_out_cell is.1.cell ∙ sym (out-by depot lease.name (rests_in t lease.name) (Some is.0) (Some start) is.1.shows);
         }
 
 -- ---- the talks, one by one
@@ -637,6 +640,7 @@ placed-as depot v f lease name how vm named {t} {m} k is = subst (λ n. IsPlaced
   whole = k.whole;
   allowed = k.allowed;
   comes = k.comes;
+  is_out = k.is_out;
 })
 
 -- the keys of a machine that is parked

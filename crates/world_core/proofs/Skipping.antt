@@ -55,7 +55,7 @@ module _ (path : Path) (before after : Bool) (t : Tree Member) (kept : RestsAsBe
       by (inl at_home) = inl at_home
       by (inr at_rest) = inr (at_rest.0, kept.same lives at_rest.0 ∙ at_rest.1)
   state-as (Parked awaited vm turn) h = (h.0, h.1, kept.same lives h.1 ∙ h.2, h.3, h.4)
-  state-as (Out start) h = h
+  state-as Out h = h
 
 cell-as : (depot : Shelves) (path : Path) (before after : Bool) (c : Cell) (t : Tree Member) → RestsAsBefore before after t
     → CellShows depot path before c t → CellShows depot path after c t
@@ -115,7 +115,7 @@ module _ (change : Change) (path : Path) (before after : Bool) (b : Member) (wok
       by : (same : Bool) → after ≡ not same → StateShows path (cond same (Home vm) (Parked awaited vm turn)) b after
       by true e = (h.0, inr (h.1, e))
       by false e = (h.0, h.1, e, h.3, h.4)
-  state-woken (Out start) h = h
+  state-woken Out h = h
 
   ready-woken : (state : State) (ended : Bool) → ended ≡ false → StateShows path state b before → not ended && is_ready_at b.machine.place after ≡ true
       → (not ended && is_ready_at b.machine.place before ≡ true) ⊎ (is_parked_for change state ≡ true)
@@ -125,8 +125,8 @@ module _ (change : Change) (path : Path) (before after : Bool) (b : Member) (wok
       by : (same : Bool) → after ≡ not same → (not ended && is_ready_at b.machine.place before ≡ true) ⊎ (same ≡ true)
       by true e = inr refl
       by false e = absurd (never-ready ended b.machine.place after (ap (λ place. is_ready_at place after) h.1 ∙ ap not e) ready)
-  ready-woken (Out start) ended lives h ready =
-      absurd (never-ready ended b.machine.place after (ap (λ place. is_ready_at place after) h.1) ready)
+  ready-woken Out ended lives h ready =
+      absurd (never-ready ended b.machine.place after (ap (λ place. is_ready_at place after) h) ready)
 
 -- its cell, of which the state is changed
 pub cell-woken : (change : Change) (depot : Shelves) (path : Path) (before after : Bool) (c d : Cell) (t : Tree Member) → IsWokenBy change before after (machine t)

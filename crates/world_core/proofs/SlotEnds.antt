@@ -124,7 +124,7 @@ module _ (path : Path) (ticket index : ℕ) (s : Member) (before : Broods Member
   state-kept (Home vm) some h = (h.0, home-kept h.1)
   state-kept (Parked (Children u) vm turn) some h = (h.0, h.1, still-by u (eqb ticket u) refl some h.3 h.2, h.3, h.4)
   state-kept (Parked (Sibling what) vm turn) some h = (h.0, h.1, talks-on (tree_talk what) h.3 ∙ h.2, h.3, h.4)
-  state-kept (Out start) some h = h
+  state-kept Out some h = h
 
   none-waits : (u : ℕ) → eqb ticket u ≡ true → left ≡ 0 → forest.call s ≡ Some (join u) → waiting ≡ false
   none-waits u e none call =
@@ -143,7 +143,7 @@ module _ (path : Path) (ticket index : ℕ) (s : Member) (before : Broods Member
       by true e over on = (h.0, inr (h.1, over e))
       by false e over on = (h.0, h.1, on e, h.3, h.4)
   state-unparked (Parked (Sibling what) vm turn) none h = (h.0, h.1, talks-on (tree_talk what) h.3 ∙ h.2, h.3, h.4)
-  state-unparked (Out start) none h = h
+  state-unparked Out none h = h
 
   -- what is ready then was ready, or waited for this ticket
   not-ready : (resting ended : Bool) → is_ready_at s.machine.place resting ≡ false → not ended && is_ready_at s.machine.place resting ≡ true → ⊥
@@ -160,7 +160,7 @@ module _ (path : Path) (ticket index : ℕ) (s : Member) (before : Broods Member
   ready-kept (Parked (Children u) vm turn) ended some on h is =
       absurd (parked-ready waiting ended h.1 (still-by u (eqb ticket u) refl some h.3 h.2) is)
   ready-kept (Parked (Sibling what) vm turn) ended some on h is = absurd (parked-ready waiting ended h.1 (talks-on (tree_talk what) h.3 ∙ h.2) is)
-  ready-kept (Out start) ended some on h is = absurd (not-ready waiting ended (ap (λ p. is_ready_at p waiting) h.1) is)
+  ready-kept Out ended some on h is = absurd (not-ready waiting ended (ap (λ p. is_ready_at p waiting) h) is)
 
   ready-unparked : (state : State) (ended : Bool) → ended ≡ false → StateShows path state s waited → not ended && is_ready_at s.machine.place waiting ≡ true
       → (not ended && is_ready_at s.machine.place waited ≡ true) ⊎ (is_parked_for (AllEnded ticket) state ≡ true)
@@ -173,7 +173,7 @@ module _ (path : Path) (ticket index : ℕ) (s : Member) (before : Broods Member
       by true e other = inr refl
       by false e other = inl (other e)
   ready-unparked (Parked (Sibling what) vm turn) ended on h is = absurd (parked-ready waiting ended h.1 (talks-on (tree_talk what) h.3 ∙ h.2) is)
-  ready-unparked (Out start) ended on h is = absurd (not-ready waiting ended (ap (λ p. is_ready_at p waiting) h.1) is)
+  ready-unparked Out ended on h is = absurd (not-ready waiting ended (ap (λ p. is_ready_at p waiting) h) is)
 
 ended-told : (b : Tree Member) (ending : Option Ending) → HasEndedAs ending (told_member.ending (machine b)) → has_ended forest b ≡ true
 unfolding boxed spots paged_machines machines
@@ -259,7 +259,7 @@ unparked-of depot change (Parked awaited vm turn) h = by (ends_wait change await
     by : (same : Bool) → IsStateOf depot (cond same (Home vm) (Parked awaited vm turn))
     by true = h
     by false = h
-unparked-of depot change (Out start) h = h
+unparked-of depot change Out h = h
 
 pub unparked-kin : (change : Change) (state : State) (kin : Option Path) (path : Path) → IsKinIn state kin path → IsKinIn (unparked change state) kin path
 unparked-kin change (Home vm) kin path h = h
@@ -268,7 +268,7 @@ unparked-kin change (Parked awaited vm turn) kin path h = by (ends_wait change a
     by : (same : Bool) → IsKinIn (cond same (Home vm) (Parked awaited vm turn)) kin path
     by true = h
     by false = h
-unparked-kin change (Out start) kin path h = h
+unparked-kin change Out kin path h = h
 
 module _ (depot : Shelves) (path : Path) (ticket index : ℕ) (by_talk : Bool) (c : Cell) (old : Brood) (outcome : Line) (t a b : Tree Member)
     (alone : JoinsAlone by_talk t) (h : CellShows depot path (rests_with by_talk t) c t) (found : child_of ticket index t ≡ Some a) (is : IsAwake a)

@@ -9,7 +9,6 @@ use Rattle.talking_history.proofs.Spots.{machine-placed}
 use Rattle.forest_model.specs.Paged.{Paged, paged_machines, paged_talks}
 use Rattle.std.specs.declared.alloc.Global.{Global}
 use Rattle.std.specs.declared.boxed.Box.{Box}
-use Rattle.std.specs.declared.snapshot.Snapshot.{Snapshot}
 use Rattle.world_core.specs.declared.cell.Awaited.{Awaited}
 use Rattle.world_core.specs.declared.cell.Cell.{Cell}
 use Rattle.world_core.specs.declared.cell.State.{State}
@@ -26,19 +25,15 @@ awake-placed place awake t lives = record { lives = lives-placed place t ∙ liv
     place-of : (place : Place) (t : Tree Member) → (machine (placed place t)).machine.place ≡ place
     place-of place t = ap (λ (s : Spot Paged). s.place) (machine-placed place t)
 
-paged-placed : (place : Place) (t : Tree Member) → paged_of (machine (placed place t)) ≡ paged_of (machine t)
-paged-placed place t = ap (λ (s : Spot Paged). s.machine) (machine-placed place t)
-
 -- the machine is on lease from now on
-pub out-shows : (depot : Shelves) (path : Path) (resting after : Bool) (c : Cell) (kin : Option Path) (start : Snapshot KeyedMachine) (t : Tree Member)
-    → start.value.machine ≡ (paged_of (machine t)).machine → CellShows depot path resting c t
-    → CellShows depot path after (record c { kin = kin; state = Out start }) (placed out t)
-out-shows depot path resting after c kin start t is h = record {
+pub out-shows : (depot : Shelves) (path : Path) (resting after : Bool) (c : Cell) (kin : Option Path) (t : Tree Member) → CellShows depot path resting c t
+    → CellShows depot path after (record c { kin = kin; state = Out }) (placed out t)
+out-shows depot path resting after c kin t h = record {
   awake = awake-placed out refl t h.awake.lives;
   kin = tt;
-  state = (is ∙ ap (λ (p : Paged). p.machine) (sym (paged-placed out t)), ap (λ (s : Spot Paged). s.place) (machine-placed out t));
+  state = ap (λ (s : Spot Paged). s.place) (machine-placed out t);
   of_depot = tt;
-  holds = holds-placed depot path c kin (Out start) c.is_listed out t h.holds;
+  holds = holds-placed depot path c kin Out c.is_listed out t h.holds;
 }
 
 -- a machine that lives
@@ -66,35 +61,32 @@ home-ready depot path resting c vm t at_home h =
     )
 
 -- a machine that is handed out is as it was
-pub lends-home : (depot : Shelves) (path : Path) (resting : Bool) (c : Cell) (vm back : Box KeyedMachine Global) (start : Snapshot KeyedMachine) (new : State)
-    (t : Tree Member) → c.state ≡ Home vm → Home back ≡ c.state → start.value ≡ vm.value → new ≡ Out start → CellShows depot path resting c t
+pub lends-home : (depot : Shelves) (path : Path) (resting : Bool) (c : Cell) (back : Box KeyedMachine Global) (new : State) (t : Tree Member) → Home back ≡ c.state
+    → new ≡ Out → CellShows depot path resting c t
     → (lives_ready paged_machines paged_talks resting t ≡ true) × (paged back.value ≡ paged_of (machine t)) × IsOfDepot depot back.value.key
     × IsKin c.kin path × CellShows depot path resting (record c { state = new }) (placed out t)
-lends-home depot path resting c vm back start new t at_home same is after h =
-    let ready = home-ready depot path resting c vm t at_home h in
-    let one : back ≡ vm = cc in (
+lends-home depot path resting c back new t same after h =
+    let ready = home-ready depot path resting c back t (sym same) h in (
       ready.1,
-      ap (λ b. paged b.value) one ∙ ready.0,
+      ready.0,
       subst (IsStateOf depot) (sym same) h.of_depot,
       ready.2,
       subst (λ s. CellShows depot path resting (record c { state = s }) (placed out t)) (sym after)
-          (out-shows depot path resting resting c c.kin start t (ap (λ (v : KeyedMachine). v.machine) is ∙ ap (λ (p : Paged). p.machine) ready.0) h),
+          (out-shows depot path resting resting c c.kin t h),
     )
 
-pub lends-parked : (depot : Shelves) (path : Path) (resting : Bool) (c : Cell) (awaited other : Awaited) (vm back : Box KeyedMachine Global) (turn kept : Ready)
-    (start : Snapshot KeyedMachine) (new : State) (t : Tree Member) → c.state ≡ Parked awaited vm turn → Parked other back kept ≡ c.state
-    → start.value ≡ vm.value → new ≡ Out start → CellShows depot path resting c t
+pub lends-parked : (depot : Shelves) (path : Path) (resting : Bool) (c : Cell) (awaited : Awaited) (back : Box KeyedMachine Global) (turn : Ready) (new : State)
+    (t : Tree Member) → Parked awaited back turn ≡ c.state → new ≡ Out → CellShows depot path resting c t
     → (lives_at_home paged_machines paged_talks t ≡ true) × (paged back.value ≡ paged_of (machine t)) × IsOfDepot depot back.value.key
     × IsKin c.kin path × CellShows depot path resting (record c { state = new }) (placed out t)
-lends-parked depot path resting c awaited other vm back turn kept start new t waits_home same is after h =
-    let shown : StateShows path (Parked awaited vm turn) (machine t) resting = subst (λ s. StateShows path s (machine t) resting) waits_home h.state in
-    let one : back ≡ vm = cc in (
+lends-parked depot path resting c awaited back turn new t same after h =
+    let shown : StateShows path (Parked awaited back turn) (machine t) resting = subst (λ s. StateShows path s (machine t) resting) (sym same) h.state in (
       both (has_ended forest t) (is_at_home_at (machine t).machine.place) h.awake.lives (ap is_at_home_at shown.1),
-      ap (λ b. paged b.value) one ∙ shown.0,
+      shown.0,
       subst (IsStateOf depot) (sym same) h.of_depot,
-      subst (λ s. IsKinIn s c.kin path) waits_home h.kin,
+      subst (λ s. IsKinIn s c.kin path) (sym same) h.kin,
       subst (λ s. CellShows depot path resting (record c { state = s }) (placed out t)) (sym after)
-          (out-shows depot path resting resting c c.kin start t (ap (λ (v : KeyedMachine). v.machine) is ∙ ap (λ (p : Paged). p.machine) shown.0) h),
+          (out-shows depot path resting resting c c.kin t h),
     )
 
 -- a machine that is not handed out as one that is ready, nor as one that waits, is not at home
@@ -106,8 +98,8 @@ at-home-by path resting c (Home vm) t apart lives shown ready =
     let is : true ≡ false = sym (both (has_ended forest t) (is_ready_at (machine t).machine.place resting) lives (ready-home (machine t).machine.place resting shown.1)) ∙ ready in
     absurd (cc)
 at-home-by path resting c (Parked awaited vm turn) t apart lives shown ready = absurd (apart awaited vm turn refl)
-at-home-by path resting c (Out start) t apart lives shown ready =
-    neither (has_ended forest t) (is_at_home_at (machine t).machine.place) (ap is_at_home_at shown.1)
+at-home-by path resting c Out t apart lives shown ready =
+    neither (has_ended forest t) (is_at_home_at (machine t).machine.place) (ap is_at_home_at shown)
 
 pub home-where-ready : (ended resting : Bool) (place : Place) → not ended && is_ready_at place resting ≡ true → not ended && is_at_home_at place ≡ true
 home-where-ready true resting place h = absurd (cc)

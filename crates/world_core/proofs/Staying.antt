@@ -1,8 +1,7 @@
 -- A machine that stays on lease, as if it had come home and had been taken again at once.
 use Rattle.std.proofs.Common.{◌≡◌, Bool, true, false, ◌⊎◌, inl, inr, refl, sym, ap, ◌∙◌, subst, Option, Some, None, IsSome, is_some, MatchBool, option_map}
 use Rattle.std.specs.Option.{IfSome, IsSomeAnd}
-use Rattle.std.specs.BTreeMap.{BTreeMap, WritesThrough, get}
-use Rattle.std.specs.declared.snapshot.Snapshot.{Snapshot}
+use Rattle.std.specs.BTreeMap.{get}
 use Rattle.fork_port.specs.declared.ending.Ending.{Ending}
 use Rattle.image_depot.specs.Key.{Shelves}
 use Rattle.forest_tree.specs.Tree.{Tree, node, machine, Path, subtree, at_path}
@@ -18,7 +17,8 @@ use Rattle.forest_model.specs.Paged.{Paged, paged_machines, paged_talks}
 use Rattle.machine_names.specs.NameOrder.{path_cmp}
 use Rattle.vm_cell.specs.Keyed.{KeyedMachine, IsOfDepot, paged}
 use Rattle.world_core.specs.declared.cell.Cell.{Cell}
-use Rattle.world_core.specs.declared.cell.State.TheVariants.{Out}
+use Rattle.world_core.specs.declared.cell.State.{State}
+use Rattle.world_core.specs.declared.cell.State.TheVariants.{Home, Parked as Waiting, Out}
 use Rattle.world_core.specs.declared.reason.Reason.{Reason}
 use Rattle.world_core.specs.declared.world.Placed.{Placed}
 use Rattle.world_core.specs.declared.world.Placed.TheVariants.{Done, Parked, Dropped, Memory}
@@ -27,52 +27,47 @@ use Rattle.world_core.specs.declared.world.talks.AfterTalk.TheVariants as talk_w
 use Rattle.world_core.specs.declared.world.World.{World}
 use Rattle.world_core.specs.Answers.{Goes, IsHomeOnlyThen, MayNotGoOn, Starts, StaysOnLease, after_spent}
 use Rattle.world_core.specs.Between.{IsBetween, IsHeardAs, settled_tree, with_tree}
-use Rattle.world_core.specs.Images.{Images, IsImageAt}
 use Rattle.world_core.specs.Lent.{Lent, lent_as}
-use Rattle.world_core.specs.Listed.{IsListed}
-use Rattle.world_core.specs.Shows.{Member, paged_of, forest, HoldsAfter, IsAwake, Shows}
+use Rattle.world_core.specs.Shows.{Member, paged_of, forest, HoldsAfter, IsAwake, IsKinIn, IsStateOf, Shows, StateShows, is_out_cell, is_out_state}
 use Rattle.world_core.specs.Spoken.{IsOwnTurn, IsPlacedAs}
 use Rattle.world_core.specs.World.{Forest, IsForest, StandsFor, is_ready_in, rests_in}
 use Rattle.world_core.proofs.AtPlaces.{holds-placed, lives-placed}
 use Rattle.world_core.proofs.Calling.{lives-by, settled-lives}
 use Rattle.world_core.proofs.Resting.{placed-rests, put-forest}
-use Rattle.world_core.proofs.Returns.{away-noted, below-placed, between-stands, heard-alive, root-awake, some-is, there-is, written-apart, written-here}
+use Rattle.world_core.proofs.Returns.{away-noted, below-placed, between-stands, heard-alive, root-awake, there-is}
 use Rattle.world_core.proofs.SlotPlaces.{both, inbox-placed, out-not-parked}
 use Rattle.world_core.proofs.TakenOut.{allows-took, never-ready}
 
 -- ---- the cell of a machine that is out still
 
-pub out-stands : (depot : Shelves) (w : World) (f : Forest) (name : Path) (a : Tree Member) (start : Snapshot KeyedMachine) (cells : BTreeMap Path Cell) (c : Cell)
-    → IsBetween depot w f name a → start.value.machine ≡ (paged_of (machine a)).machine → has_ended forest a ≡ false
-    → IsForest (with_tree name (placed out a) f).tree → Some c ≡ get path_cmp w.cells name
-    → WritesThrough path_cmp (path_cmp name) w.cells (record c { state = Out start }) cells
-    → StandsFor depot (record w { cells = cells }) (with_tree name (placed out a) f)
-out-stands depot w f name a start cells c between is lives whole found written =
-    let d : Cell = record c { state = Out start } in
-    let some = some-is c (get path_cmp w.cells name) found in
-    let now : get path_cmp cells name ≡ Some d = written-here w.cells cells name d written some in
+out-state : (state : State) → is_out_state state ≡ true → state ≡ Out
+out-state (Home vm) is = absurd (cc)
+out-state (Waiting awaited vm turn) is = absurd (cc)
+out-state Out is = refl
+
+out-stands : (depot : Shelves) (w : World) (f : Forest) (name : Path) (a : Tree Member) → IsBetween depot w f name a → has_ended forest a ≡ false
+    → IsForest (with_tree name (placed out a) f).tree → is_out_cell (get path_cmp w.cells name) ≡ true → StandsFor depot w (with_tree name (placed out a) f)
+out-stands depot w f name a between lives whole is_out =
+    let found = there-is (get path_cmp w.cells name) (λ (cell : Cell). HoldsAfter depot name cell a) between.cell in
+    let c : Cell = found.0 in
+    let here : c.state ≡ Out = out-state c.state (sym (ap is_out_cell found.1) ∙ is_out) in
+    let resting : Bool = rests_in (with_tree name (placed out a) f).tree name in
     let away : (machine (placed out a)).machine.place ≡ out = ap (λ (s : Spot Paged). s.place) (machine-placed out a) in
     let after : IsAwake (placed out a) = record { lives = lives-placed out a ∙ lives; awake = ap is_asleep_at away } in
-    let has = subst (λ o. IsSomeAnd o (λ (cell : Cell). HoldsAfter depot name cell a)) (sym found) between.cell in
-    between-stands depot w (record w { cells = cells }) f name a (placed out a) between (written-apart w.cells cells name d written some) (λ n listed. listed) (λ n covered. covered)
+    between-stands depot w w f name a (placed out a) between (λ q other. refl) (λ n listed. listed) (λ n covered. covered)
     (below-placed out a) (placed-rests out a) whole after refl refl (λ u at. (
-      λ n x e. away-noted (get path_cmp cells n) x u (placed out a) (out-not-parked a),
+      λ n x e. away-noted (get path_cmp w.cells n) x u (placed out a) (out-not-parked a),
       inbox-placed out a ∙ heard-alive a u (subst (λ o. IsSomeAnd o (IsHeardAs a)) at between.heard) lives,
     ))
-    (subst (λ o. Shows depot name (rests_in (with_tree name (placed out a) f).tree name) o (Some (placed out a))) (sym now) (record {
+    (subst (λ o. Shows depot name resting o (Some (placed out a))) (sym found.1) (record {
       awake = after;
-      kin = tt;
-      state = (is ∙ sym (ap (λ (s : Spot Paged). s.machine.machine) (machine-placed out a)), away);
-      of_depot = tt;
-      holds = holds-placed depot name c c.kin (Out start) c.is_listed out a (has.1 lives);
+      kin = subst (λ s. IsKinIn s c.kin name) (sym here) tt;
+      state = subst (λ s. StateShows name s (machine (placed out a)) resting) (sym here) away;
+      of_depot = subst (IsStateOf depot) (sym here) tt;
+      holds = holds-placed depot name c c.kin c.state c.is_listed out a (found.2.1 lives);
     }))
-    (λ ready. absurd (never-ready (rests_in (with_tree name (placed out a) f).tree name) a ready))
-    (subst (λ o. IfSome o (λ (cell : Cell). cell.is_listed ≡ true → IsListed name w.ready)) (sym now)
-    (subst (λ o. IfSome o (λ (cell : Cell). cell.is_listed ≡ true → IsListed name w.ready)) (sym found) (between.listed name)))
-
--- it has a cell
-pub has-cell : (depot : Shelves) (w : World) (f : Forest) (name : Path) (a : Tree Member) → IsBetween depot w f name a → None ≡ get path_cmp w.cells name → ⊥
-has-cell depot w f name a between none = subst (λ o. IsSomeAnd o (λ (cell : Cell). HoldsAfter depot name cell a)) (sym none) between.cell
+    (λ ready. absurd (never-ready resting a ready))
+    (between.listed name)
 
 -- ---- it came home, and was taken
 
@@ -91,7 +86,7 @@ module _ (depot : Shelves) (w : World) (f : Forest) (lease : Lent) (how : How) (
   then-is : after_spent f how lease ≡ then
   then-is = p.comes ∙ ap (λ t. with_tree name (placed home t) p.between_in) (sym settled)
 
-  pub lives-still : has_ended forest p.tree ≡ false
+  lives-still : has_ended forest p.tree ≡ false
   lives-still = lives-by p.tree (paged vm) p.is lives
 
   awake : IsAwake (placed home p.tree)
@@ -116,25 +111,24 @@ module _ (depot : Shelves) (w : World) (f : Forest) (lease : Lent) (how : How) (
   away-is =
       sym (at_path-twice (λ t. placed home p.tree) (placed out) name p.between_in.tree ∙ ap (λ b. at_path (λ t. b) name p.between_in.tree) (placed-twice p.tree))
 
-  pub away-whole : IsForest (with_tree name (placed out p.tree) p.between_in).tree
+  away-whole : IsForest (with_tree name (placed out p.tree) p.between_in).tree
   away-whole =
       subst IsForest (sym away-is)
       (put-forest out name then.tree (subst (λ t. IsForest (with_tree name (placed home t) p.between_in).tree) (sym settled) p.whole))
 
-  taken-again : (new : World) → StandsFor depot new (with_tree name (placed out p.tree) p.between_in) → Goes depot then (took name) new
+  taken-again : Goes depot then (took name) w
   unfolding does
-  taken-again new stands = record {
+  taken-again = record {
     allowed = allows-took then name (root-awake name p.between_in.tree (placed home p.tree) p.between.root awake).lives (sym p.between.halted ∙ going) is-ready;
-    after = subst (λ t. StandsFor depot new (record p.between_in { tree = t })) away-is stands;
+    after = subst (λ t. StandsFor depot w (record p.between_in { tree = t })) away-is
+        (out-stands depot w p.between_in name p.tree p.between lives-still away-whole p.is_out);
   }
 
-  pub stays : (again : Lent) (new : World) → again ≡ lent_as name vm.machine 0 vm → name ≡ lease.name → IsOfDepot depot vm.key
-      → StandsFor depot new (with_tree name (placed out p.tree) p.between_in) → StaysOnLease depot f how lease again new
-  stays again new is named of_depot stands = subst (λ (l : Lent). StaysOnLease depot f how lease l new) (sym is) (record {
+  pub stays : (again : Lent) → again ≡ lent_as name vm.machine 0 vm → name ≡ lease.name → IsOfDepot depot vm.key → StaysOnLease depot f how lease again w
+  stays again is named of_depot = subst (λ (l : Lent). StaysOnLease depot f how lease l w) (sym is) (record {
     allowed = p.allowed;
     same = named;
-    taken_again = subst (λ n. Goes depot (after_spent f how lease) (took n) new) named
-        (subst (λ (g : Forest). Goes depot g (took name) new) (sym then-is) (taken-again new stands));
+    taken_again = subst (λ n. Goes depot (after_spent f how lease) (took n) w) named (subst (λ (g : Forest). Goes depot g (took name) w) (sym then-is) taken-again);
     starts = subst (λ (g : Forest). Starts g (lent_as name vm.machine 0 vm)) (sym then-is) (record {
       ran = refl;
       now = refl;
@@ -143,15 +137,6 @@ module _ (depot : Shelves) (w : World) (f : Forest) (lease : Lent) (how : How) (
     });
     of_depot = of_depot;
   })
-
-  pub again-out : (at : Path) (v : KeyedMachine) → at ≡ name → v ≡ vm → (new : World)
-      → ((g : Forest) (a : Tree Member) → IsBetween depot w g at a → paged_of (machine a) ≡ paged v → has_ended forest a ≡ false
-      → IsForest (with_tree at (placed out a) g).tree → StandsFor depot new (with_tree at (placed out a) g))
-      → StandsFor depot new (with_tree name (placed out p.tree) p.between_in)
-  again-out at v named same new comes =
-      subst (λ n. StandsFor depot new (with_tree n (placed out p.tree) p.between_in)) named
-      (comes p.between_in p.tree (subst (λ n. IsBetween depot w p.between_in n p.tree) (sym named) p.between) (p.is ∙ ap paged (sym same)) lives-still
-      (subst (λ n. IsForest (with_tree n (placed out p.tree) p.between_in).tree) (sym named) away-whole))
 
 -- ---- whether it goes on
 
@@ -192,8 +177,3 @@ pub goes-by : (P : Type 0) (is : Bool) (halted : Option Reason) (asked v : Keyed
     → MatchBool is ((halted ≡ None) × (asked.machine.ending ≡ None)) P → (halted ≡ None) × (None ≡ v.machine.ending)
 goes-by P true halted asked v same goes h = (h.0, sym h.1 ∙ ap (λ (k : KeyedMachine). k.machine.ending) same)
 goes-by P false halted asked v same goes h = absurd (cc)
-
--- the key of its machine
-pub key-by : (images : Images) (at name : Path) (asked v : KeyedMachine) → at ≡ name → asked ≡ v → IsImageAt images name v.key → IsImageAt images at asked.key
-key-by images at name asked v named same h =
-    subst (λ n. IsImageAt images n asked.key) (sym named) (subst (λ (k : KeyedMachine). IsImageAt images name k.key) (sym same) h)

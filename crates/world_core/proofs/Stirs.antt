@@ -510,7 +510,7 @@ module _ (depot : Shelves) (w : World) (t : Tree Member) (before after : Rests) 
       own : (state : State) (one : Ready) (b : Member) (resting : Bool) → StateShows name state b resting → kept_turn state ≡ Some one → one ≡ record { name = name; children = None }
       own (Home vm) one b resting h e = absurd (cc)
       own (Parked awaited vm turn) one b resting h e = let same : turn ≡ one = cc in sym same ∙ h.4
-      own (Out start) one b resting h e = absurd (cc)
+      own Out one b resting h e = absurd (cc)
 
       by : (d : Cell) (b : Member) → StateShows name e.state b (before name) → (e.is_listed ≡ true → IsListed name w.ready) → (turn : Option Ready)
           → kept_turn e.state ≡ turn → MayList e d w.ready v.ready turn → d.is_listed ≡ true → IsListed name v.ready

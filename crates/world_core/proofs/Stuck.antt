@@ -114,7 +114,7 @@ pub never-apart : (path : Path) (state : State) (b : Member) → StateTells path
     → ((awaited : Awaited) (vm : Box KeyedMachine Global) (turn : Ready) → state ≡ Parked awaited vm turn → ⊥) → ⊥
 never-apart path (Home vm) b h apart = h
 never-apart path (Parked awaited vm turn) b h apart = apart awaited vm turn refl
-never-apart path (Out start) b h apart = h
+never-apart path Out b h apart = h
 
 pub parked-is : (path : Path) (state : State) (b : Member) (awaited : Awaited) (vm : Box KeyedMachine Global) (turn : Ready) → state ≡ Parked awaited vm turn
     → StateTells path state b → (paged vm.value ≡ paged_of b) × (turn.name ≡ path)

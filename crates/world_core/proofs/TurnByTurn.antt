@@ -2,7 +2,6 @@
 use Rattle.std.proofs.Common.{◌≡◌, ◌⊎◌, Bool, true, false, cond, refl, sym, ap, ◌∙◌, subst, inl, inr, List, ◌∷◌, Option, Some, None, is_some, []}
 use Rattle.std.specs.BTreeMap.{get}
 use Rattle.std.specs.Map.{lookup}
-use Rattle.std.specs.declared.snapshot.Snapshot.{Snapshot}
 use Rattle.image_depot.specs.Key.{Shelves}
 use Rattle.forest_tree.specs.Tree.{Tree, Path, machine, subtree}
 use Rattle.forest_tree.specs.Step.{has_ended}
@@ -11,7 +10,6 @@ use Rattle.talking_history.specs.World.{is_asleep_at, is_out_at, holds, is_out}
 use Rattle.talking_history.specs.Rows.{over, stopped, stuck, idle, Allows, does, NoneReady}
 use Rattle.forest_model.specs.Paged.{paged_machines, paged_talks}
 use Rattle.machine_names.specs.NameOrder.{path_cmp}
-use Rattle.vm_cell.specs.Keyed.{KeyedMachine}
 use Rattle.world_core.specs.declared.cell.Cell.{Cell}
 use Rattle.world_core.specs.declared.cell.State.{State}
 use Rattle.world_core.specs.declared.cell.State.TheVariants.{Home, Parked, Out}
@@ -87,7 +85,7 @@ out-by depot name resting (Some c) (Some a) h = by c.state h.state
     by : (state : State) → StateShows name state (machine a) resting → is_out_at (machine a).machine.place ≡ is_out_state state
     by (Home vm) shown = home-in (machine a).machine.place shown.1
     by (Parked awaited vm turn) shown = ap is_out_at shown.1
-    by (Out start) shown = ap is_out_at shown.1
+    by Out shown = ap is_out_at shown
 
 -- a cell that is not the first is among the others
 pub out-later : (test : Path → Bool) (key : Path) (c : Cell) (rest : List (Path × Cell)) → is_out_state c.state ≡ false
@@ -99,10 +97,10 @@ out-later test key c rest inside h = by (test key) h
     by false at = at
 
 -- one that is not on lease
-pub inside-by : (state s : State) → s ≡ state → ((start : Snapshot KeyedMachine) → s ≡ Out start → ⊥) → is_out_state s ≡ false
+pub inside-by : (state s : State) → s ≡ state → (s ≡ Out → ⊥) → is_out_state s ≡ false
 inside-by (Home vm) s e never = ap is_out_state e
 inside-by (Parked awaited vm turn) s e never = ap is_out_state e
-inside-by (Out start) s e never = absurd (never start e)
+inside-by Out s e never = absurd (never e)
 
 -- no turn is left
 module _ (depot : Shelves) (w : World) (turns : List Ready) (f : Forest) (h : StandsFor depot w f) (going : w.outcome ≡ None) (unhalted : w.halted ≡ None)

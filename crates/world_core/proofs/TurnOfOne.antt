@@ -48,7 +48,7 @@ kin-free depot path resting c kin (node b broods log) h = record {
     free : (state : State) → StateShows path state (machine (placed out (node b broods log))) resting → IsKinIn state kin path
     free (Home vm) shown = absurd (not-at-home shown.1)
     free (Parked awaited vm turn) shown = let no : out ≡ parked = shown.1 in absurd (cc)
-    free (Out start) shown = tt
+    free Out shown = tt
 
 pub relisted : (depot : Shelves) (path : Path) (resting : Bool) (c : Cell) (listed : Bool) (t : Tree Member) → CellShows depot path resting c t
     → CellShows depot path resting (record c { is_listed = listed }) t

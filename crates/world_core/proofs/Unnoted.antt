@@ -109,7 +109,7 @@ module _ (depot : Shelves) (w : World) (t : Tree Member) (before after : Rests) 
       | inr goes ↦ let no : true ≡ false = goes.1 in absurd (cc)
     ]
     awaits-by (Parked awaited vm turn) shown = (awaited, shown.3)
-    awaits-by (Out start) shown = let no : true ≡ false = ap is_out_at (sym shown.1 ∙ waits) in absurd (cc)
+    awaits-by Out shown = let no : true ≡ false = ap is_out_at (sym shown ∙ waits) in absurd (cc)
 
     awaits : (o : Option Cell) → Shows depot name true o (Some a) → (awaited : Awaited) × Awaits awaited (machine a)
     awaits None (inl over) = let no : true ≡ false = sym over.0 ∙ lives in absurd (cc)

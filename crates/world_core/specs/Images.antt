@@ -34,7 +34,7 @@ IsImageAt images path key = IfSome key (λ k. image_at images path ≡ Some (num
 abbrev pub IsStateAt : Images → Path → State → Type 0
 IsStateAt images path (Home vm) = IsImageAt images path vm.value.key
 IsStateAt images path (Parked awaited vm turn) = IsImageAt images path vm.value.key
-IsStateAt images path (Out start) = IsImageAt images path start.value.key
+IsStateAt images path Out = Unit {0}
 
 -- what the children of a ticket start with, as long as it is kept, is of the image of their brood
 abbrev pub IsBroodAt : Images → Path → ℕ → Brood → Type 0
@@ -51,7 +51,7 @@ pub record HasImages (images : Images) (path : Path) (c : Cell) : Type 0 where
 abbrev pub HaveImages : Images → BTreeMap Path Cell → Type 0
 HaveImages images cells = (name : Path) → IfSome (get path_cmp cells name) (HasImages images name)
 
--- all keys of a brood, those of its machines on lease among them, are to one image
+-- all keys of a brood but those of its machines on lease are to one image
 abbrev pub AreOfImages : Images → World → Type 0
 AreOfImages images w = HaveImages images w.cells
 

@@ -47,7 +47,7 @@ TellsOutcome t (Err e) = IsAtRest t
 abbrev pub is_parked : State → Bool
 is_parked (Home vm) = false
 is_parked (Parked awaited vm turn) = true
-is_parked (Out start) = false
+is_parked Out = false
 
 -- one of the children is still a descriptor
 abbrev pub HasAsleep : Brood → Type 0
@@ -88,7 +88,7 @@ BroodTells cells path ticket (Some b) true trees = SlotsTell cells path ticket 1
 abbrev pub StateTells : Path → State → Member → Type 0
 StateTells path (Home vm) b = ⊥
 StateTells path (Parked awaited vm turn) b = (paged vm.value ≡ paged_of b) × (turn ≡ record { name = path; children = None })
-StateTells path (Out start) b = ⊥
+StateTells path Out b = ⊥
 
 -- the machine at a path lives and waits, and its cell has its log and its children
 pub record CellTells (cells : Cells) (path : Path) (c : Cell) (t : Tree Member) : Type 0 where

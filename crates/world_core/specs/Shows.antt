@@ -162,20 +162,20 @@ abbrev pub Awaits : Awaited → Member → Type 0
 Awaits (Children ticket) b = paged_machines.call (paged_of b) ≡ Some (join ticket)
 Awaits (Sibling what) b = next_talk b ≡ Some (tree_talk what)
 
--- where a machine is, which rests or not. Nothing is told of the pages of one on lease: a page may come at any time
+-- where a machine is, which rests or not. One on lease is told by its lease
 abbrev pub StateShows : Path → State → Member → Bool → Type 0
 StateShows path (Home vm) b resting =
     (paged vm.value ≡ paged_of b) × ((b.machine.place ≡ home) ⊎ ((b.machine.place ≡ parked) × (resting ≡ false)))
 StateShows path (Parked awaited vm turn) b resting =
     (paged vm.value ≡ paged_of b) × (b.machine.place ≡ parked) × (resting ≡ true) × Awaits awaited b
     × (turn ≡ record { name = path; children = None })
-StateShows path (Out start) b resting = (start.value.machine ≡ (paged_of b).machine) × (b.machine.place ≡ out)
+StateShows path Out b resting = b.machine.place ≡ out
 
 -- the absent pages of a machine at home, if it has some, are in an image of this depot
 abbrev pub IsStateOf : Shelves → State → Type 0
 IsStateOf depot (Home vm) = IsOfDepot depot vm.value.key
 IsStateOf depot (Parked awaited vm turn) = IsOfDepot depot vm.value.key
-IsStateOf depot (Out start) = Unit {0}
+IsStateOf depot Out = Unit {0}
 
 -- what is known of a brood where its machine has ended: what its line of the log tells
 pub record IsTallied (path : Path) (count : ℕ) (b : Brood) : Type 0 where
@@ -204,7 +204,7 @@ pub record Holds (depot : Shelves) (path : Path) (c : Cell) (t : Tree Member) : 
 abbrev pub IsKinIn : State → Option Path → Path → Type 0
 IsKinIn (Home vm) kin path = IsKin kin path
 IsKinIn (Parked awaited vm turn) kin path = IsKin kin path
-IsKinIn (Out start) kin path = Unit {0}
+IsKinIn Out kin path = Unit {0}
 
 -- a cell shows the machine at a path, which rests or not
 pub record CellShows (depot : Shelves) (path : Path) (resting : Bool) (c : Cell) (t : Tree Member) : Type 0 where
@@ -274,7 +274,7 @@ is_asleep_slot (Some (Ended outcome)) = false
 abbrev pub is_out_state : State → Bool
 is_out_state (Home vm) = false
 is_out_state (Parked awaited vm turn) = false
-is_out_state (Out start) = true
+is_out_state Out = true
 
 abbrev pub is_out_cell : Option Cell → Bool
 is_out_cell None = false

@@ -27,7 +27,7 @@ use Rattle.machine_names.specs.Name.{child_path}
 use Rattle.machine_names.specs.NameOrder.{path_cmp}
 use Rattle.sibling_words.specs.Notes.{noted}
 use Rattle.world_core.specs.declared.world.World.{World}
-use Rattle.world_core.specs.Shows.{Member, paged_of}
+use Rattle.world_core.specs.Shows.{Member, is_out_cell, paged_of}
 use Rattle.world_core.specs.Talking.{peer_of}
 use Rattle.world_core.specs.World.{Forest, IsForest}
 
@@ -73,7 +73,8 @@ NotesPeer what name said.Sent w = Unit {0}
 NotesPeer what name (said.Received word) w = Unit {0}
 NotesPeer what name said.Ended w = Unit {0}
 
--- a machine that came back so far, and is to be put home, to be ended, or to stay on lease
+-- a machine that came back so far, and is to be put home, to be ended, or to stay on lease. Its cell says still that it is
+-- on lease
 pub record IsPlacedAs (depot : Shelves) (w : World) (f : Forest) (lease : Lent) (name : Path) (how : How) (vm : KeyedMachine) : Type 0 where
   pub between_in : Forest
   pub tree : Tree Member
@@ -82,6 +83,7 @@ pub record IsPlacedAs (depot : Shelves) (w : World) (f : Forest) (lease : Lent) 
   pub whole : IsForest (with_tree name (placed home (settled_tree tree)) between_in).tree
   pub allowed : Allows paged_machines paged_talks (spent how lease.name lease.ran) f
   pub comes : after_spent f how lease ≡ with_tree name (placed home (settled_tree tree)) between_in
+  pub is_out : is_out_cell (get path_cmp w.cells name) ≡ true
 
 -- the answer to a talk, or its machine is to be placed
 abbrev pub TalksSo : Shelves → Forest → How → Lent → AfterTalk → World → Type 0

@@ -31,18 +31,18 @@ ends_wait (Ended sibling) (Sibling (Receive peer)) = sibling == peer
 abbrev pub unparked : Change → State → State
 unparked change (Home vm) = Home vm
 unparked change (Parked awaited vm turn) = if ends_wait change awaited then Home vm else Parked awaited vm turn
-unparked change (Out start) = Out start
+unparked change Out = Out
 
 abbrev pub is_parked_for : Change → State → Bool
 is_parked_for change (Home vm) = false
 is_parked_for change (Parked awaited vm turn) = ends_wait change awaited
-is_parked_for change (Out start) = false
+is_parked_for change Out = false
 
 -- the turn that a machine keeps which waits
 abbrev pub kept_turn : State → Option Ready
 kept_turn (Home vm) = None
 kept_turn (Parked awaited vm turn) = Some turn
-kept_turn (Out start) = None
+kept_turn Out = None
 
 -- a live machine rests where it waits for its children, or by its talk for a sibling
 abbrev pub rests_with : Bool → Tree Member → Bool

@@ -9,7 +9,7 @@ ghost use Rattle.talking_history.specs.Places.{home, out, placed};
 ghost use Rattle.talking_history.specs.World.{is_asleep_at, lives_ready, lives_at_home};
 ghost use Rattle.forest_model.specs.Paged.{paged_machines, paged_talks};
 ghost use Rattle.machine_names.specs.Name.{child_path};
-ghost use Rattle.vm_cell.specs.Keyed.{IsOfDepot, paged};
+ghost use Rattle.vm_cell.specs.Keyed.{IsOfDepot, KeyedMachine, paged};
 ghost use Rattle.vm_descriptor.specs.declared.descriptor.TheConstants.{MAX_CLONES};
 ghost use Rattle.world_core.specs.Kin.{IsKin};
 ghost use Rattle.world_core.specs.Images.{HasImages, Images, IsImageAt};
@@ -30,7 +30,6 @@ use sibling_words::{SiblingNotes, SiblingWords};
 use std::alloc::{AllocError, Global};
 use std::collections::BTreeMap;
 use std::mem;
-use std::snapshot::Snapshot;
 use std::sync::Wait;
 use vm_cell::Vm;
 
@@ -59,8 +58,8 @@ pub(crate) enum State {
     Home(Box<Vm>),
     /// It is at home, and waits. It keeps the room for its turn.
     Parked(Awaited, Box<Vm>, ReadyTurn),
-    /// It is on lease. Contracts see the machine that was handed out.
-    Out(Snapshot<Vm>),
+    /// It is on lease.
+    Out,
 }
 
 /// What a parked machine waits for.
@@ -114,16 +113,16 @@ pub(crate) enum ChildSlot {
 
 impl Cell {
     /// The cell of a machine that is handed out as it wakes.
-    pub(crate) fn of_lent(alloc: Global, vm: &Vm) -> Cell
-        ensures shows { (depot : Shelves) (path : Path) (resting : Bool) (inbox : Inbox) → vm.now.machine.ending ≡ None
-            → ((ticket : ℕ) → is_cloned paged_machines (paged vm.now) ticket ≡ false)
-            → CellShows depot path resting result (alone forest (record { machine = record { machine = paged vm.now; place = out }; inbox = inbox })) }
-        ensures images { (images : Images) (path : Path) → IsImageAt images path vm.now.key → HasImages images path result }
+    pub(crate) fn of_lent(alloc: Global) -> Cell
+        ensures shows { (depot : Shelves) (path : Path) (resting : Bool) (inbox : Inbox) (vm : KeyedMachine) → vm.machine.ending ≡ None
+            → ((ticket : ℕ) → is_cloned paged_machines (paged vm) ticket ≡ false)
+            → CellShows depot path resting result (alone forest (record { machine = record { machine = paged vm; place = out }; inbox = inbox })) }
+        ensures images { (images : Images) (path : Path) → HasImages images path result }
         ensures listed { result.is_listed ≡ false }
     {
         Cell {
             kin: None,
-            state: State::Out(Snapshot::of(vm)),
+            state: State::Out,
             is_listed: false,
             broods: BTreeMap::new(alloc),
             log: Vec::new(alloc),
@@ -168,9 +167,8 @@ impl Cell {
             → HasImages images path self.new × IfSome result (λ vm. IsImageAt images path vm.value.key) }
         ensures place { (self.new.is_listed ≡ self.old.is_listed) × (self.new.kin ≡ self.old.kin) }
     {
-        if let State::Home(vm) = &self.state {
-            let out = State::Out(Snapshot::of(&**vm));
-            let State::Home(vm) = mem::replace(&mut self.state, out) else {
+        if let State::Home(_) = &self.state {
+            let State::Home(vm) = mem::replace(&mut self.state, State::Out) else {
                 unreachable!();
             };
             return Some(vm);
@@ -188,9 +186,8 @@ impl Cell {
             → HasImages images path self.new × IfSome result (λ vm. IsImageAt images path vm.value.key) }
         ensures place { (self.new.is_listed ≡ self.old.is_listed) × (self.new.kin ≡ self.old.kin) }
     {
-        if let State::Parked(_, vm, _) = &self.state {
-            let out = State::Out(Snapshot::of(&**vm));
-            let State::Parked(_, vm, _) = mem::replace(&mut self.state, out) else {
+        if let State::Parked(_, _, _) = &self.state {
+            let State::Parked(_, vm, _) = mem::replace(&mut self.state, State::Out) else {
                 unreachable!();
             };
             return Some(vm);
@@ -286,14 +283,13 @@ impl Cell {
         ensures listed { MatchOption result (self.new.is_listed ≡ self.old.is_listed) (λ turn. self.new.is_listed ≡ true) }
         ensures ready { is_parked_for change self.old.state ≡ true → self.new.is_listed ≡ true }
     {
-        let State::Parked(awaited, vm, _) = &self.state else {
+        let State::Parked(awaited, _, _) = &self.state else {
             return None;
         };
         if !change.ends(*awaited) {
             return None;
         }
-        let out = State::Out(Snapshot::of(&**vm));
-        let State::Parked(_, vm, turn) = mem::replace(&mut self.state, out) else {
+        let State::Parked(_, vm, turn) = mem::replace(&mut self.state, State::Out) else {
             unreachable!();
         };
         self.state = State::Home(vm);

@@ -71,7 +71,8 @@ pub enum Placed {
 
 /// What became of a talk whose machine may stay on lease.
 pub enum Talked {
-    /// The talk was made, and the machine lives. It stays on lease. Whether another may be ready since then.
+    /// The talk was made, and the machine lives. It stays on lease. A hint beside, of which no contract speaks: whether another
+    /// may be ready since then.
     Goes(Lease, bool),
     /// The machine was taken back, or stays for want of memory.
     Placed(Placed),
@@ -88,6 +89,19 @@ pub struct World {
     pub(crate) told: Vec<Sent>,
     /// How the root has ended, with all that the family did.
     pub(crate) outcome: Option<Outcome>,
+    /// The machine that was taken last, which most likely is on lease.
+    pub(crate) last_taken: LastTaken,
+}
+
+/// The machine that was taken last.
+#[derive(Drop)]
+pub(crate) enum LastTaken {
+    /// It was never asked for: where one thread takes machines, none is on lease as it takes the next.
+    NeverAsked,
+    /// It was asked for, and none was taken since.
+    Asked,
+    /// The one of this name.
+    Of(Name),
 }
 
 // By hand, since what a derive gives is proved in each crate above, for each type within.
@@ -99,6 +113,7 @@ impl Drop for World {
             halted: _,
             told: _,
             outcome: _,
+            last_taken: _,
         } = self;
     }
 }
@@ -141,6 +156,7 @@ impl World {
             halted: None,
             told,
             outcome: Some(Outcome::new(root, Some(ending), steps, output, log)),
+            last_taken: LastTaken::NeverAsked,
         })
     }
 
@@ -169,6 +185,7 @@ impl World {
             halted: None,
             told,
             outcome: None,
+            last_taken: LastTaken::NeverAsked,
         })
     }
 

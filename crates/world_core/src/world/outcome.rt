@@ -33,6 +33,7 @@ impl World {
             halted: _,
             told: _,
             outcome,
+            last_taken: _,
         } = self;
         if outcome.is_some() {
             return Ok(outcome);

@@ -16,7 +16,7 @@ ghost use Rattle.world_core.specs.Popped.{TakesBy, ShowsCells, IsFirstAsleep, is
 
 use crate::cell::{Cell, State};
 use crate::lease::Lease;
-use crate::world::{Taken, World, seat};
+use crate::world::{LastTaken, Taken, World, seat};
 use image_depot::Depot;
 use machine_names::Name;
 use ready_queue::ReadyTurn;
@@ -40,9 +40,11 @@ impl World {
         }
         while let Some(turn) = self.ready.pop() {
             if let Some(taken) = self.take_by(alloc, depot, turn) {
+                self.keep_last(&taken);
                 return taken;
             }
         }
+        self.ask_last();
         if self.is_one_out() {
             Taken::Idle
         } else {
@@ -50,18 +52,58 @@ impl World {
         }
     }
 
-    /// Whether a machine is on lease whose name is still in the forest. It looks over the machines that are awake until it
-    /// finds one.
+    /// Keeps the name of what was taken, once it was asked which machine that is. Where memory is wanting for it, the one
+    /// before stays.
+    fn keep_last(&mut self, taken: &Taken)
+        ensures { self.new ≡ record self.old { last_taken = self.new.last_taken } }
+    {
+        if let LastTaken::NeverAsked = &self.last_taken {
+            return;
+        }
+        if let Taken::Took(lease) = taken {
+            if let Ok(name) = lease.name().copy() {
+                self.last_taken = LastTaken::Of(name);
+            }
+        }
+    }
+
+    /// From now on the name is kept of what was taken last.
+    fn ask_last(&mut self)
+        ensures { self.new ≡ record self.old { last_taken = self.new.last_taken } }
+    {
+        if let LastTaken::NeverAsked = &self.last_taken {
+            self.last_taken = LastTaken::Asked;
+        }
+    }
+
+    /// Whether a machine is on lease whose name is still in the forest. Mostly the one is that was taken last: only where it
+    /// came back there is a look over the machines that are awake, until one is found.
     fn is_one_out(&self) -> bool
         ensures { MatchBool result ((name : Path) × (is_out_cell (get path_cmp self.now.cells name) ≡ true))
             ((name : Path) → is_out_cell (get path_cmp self.now.cells name) ≡ false) }
     {
+        if self.is_last_out() {
+            return true;
+        }
         for (_, cell) in &self.cells {
-            if let State::Out(_) = &cell.state {
+            if let State::Out = &cell.state {
                 return true;
             }
         }
         false
+    }
+
+    /// Whether the machine that was taken last is on lease.
+    fn is_last_out(&self) -> bool
+        ensures { result ≡ true → (name : Path) × (is_out_cell (get path_cmp self.now.cells name) ≡ true) }
+    {
+        let LastTaken::Of(name) = &self.last_taken else {
+            return false;
+        };
+        match self.cells.get(name) {
+            Some(cell) => matches!(&cell.state, State::Out),
+            None => false,
+        }
     }
 
     /// Hands out a machine by its turn, or nothing where none of the turn is ready any more.
@@ -215,7 +257,7 @@ impl World {
         let (name, turn, vm) = self.woken_child(alloc, depot, parent, ticket, index)?;
         let again = name.copy()?;
         let kin = parent.copy()?;
-        seat(&mut self.cells, name, Cell::of_lent(alloc, &vm))?;
+        seat(&mut self.cells, name, Cell::of_lent(alloc))?;
         let Some(cell) = self.cells.get_mut(parent) else {
             unreachable!();
         };

@@ -3,18 +3,16 @@
 ghost use Rattle.std.specs.Prelude.{◌≡◌, ◌⊎◌, ◌≤◌, None, Some, IfNone, IfOk, IfSome, IsSome, MatchBool, OnErr, false, true};
 ghost use Rattle.std.specs.BTreeMap.{get};
 ghost use Rattle.image_depot.specs.Key.{Shelves};
-ghost use Rattle.forest_tree.specs.Tree.{Tree, machine, subtree};
+ghost use Rattle.forest_tree.specs.Tree.{Tree, subtree};
 ghost use Rattle.forest_tree.specs.Step.{has_ended};
-ghost use Rattle.talking_history.specs.Places.{out, placed};
 ghost use Rattle.machine_names.specs.Name.{child_path};
 ghost use Rattle.machine_names.specs.NameOrder.{path_cmp};
-ghost use Rattle.vm_cell.specs.Keyed.{paged};
 ghost use Rattle.vm_cell.specs.Standing.{standing_talk};
 ghost use Rattle.world_core.specs.Answers.{Answers, HandedOut, IsHandedOut, IsHomeOnlyThen, IsLentOf, TalksOn, said_by, stands_waiting_of};
-ghost use Rattle.world_core.specs.Between.{IsBetween, IsSameWorld, with_tree};
-ghost use Rattle.world_core.specs.Images.{AreOfImages, Images, IsImageAt, IsLentAt, IsTalkedAt};
+ghost use Rattle.world_core.specs.Between.{IsSameWorld, with_tree};
+ghost use Rattle.world_core.specs.Images.{AreOfImages, Images, IsLentAt, IsTalkedAt};
 ghost use Rattle.world_core.specs.Lent.{vm_of};
-ghost use Rattle.world_core.specs.Shows.{IsAwake, Member, forest, paged_of};
+ghost use Rattle.world_core.specs.Shows.{IsAwake, Member, forest};
 ghost use Rattle.world_core.specs.Stirring.{IsStirring, WakesOne};
 ghost use Rattle.world_core.specs.Spoken.{IsOwnTurn, IsThereBy, NotesPeer, Spoke, TalksSo, said_forest};
 ghost use Rattle.world_core.specs.Talking.{IsNextNoted, IsSendOf, Parks, Rouses};
@@ -22,14 +20,13 @@ ghost use Rattle.world_core.specs.Told.{told_of};
 ghost use Rattle.world_core.specs.World.{Forest, IsForest, Rests, ShowsEach, StandsFor};
 
 use crate::cell::talks::{Said, talk_peer};
-use crate::cell::{Awaited, Cell, Change, State};
+use crate::cell::{Awaited, Change, State};
 use crate::lease::Lease;
 use crate::world::{Placed, Talked, World};
 use machine_names::Name;
 use ready_queue::ReadyTurn;
 use sibling_port::Talk;
 use std::alloc::{AllocError, Global};
-use std::snapshot::Snapshot;
 use vm_cell::Vm;
 use vm_descriptor::MAX_CLONES;
 
@@ -81,7 +78,6 @@ impl World {
                 if !self.may_go_on(&vm) {
                     return Talked::Placed(self.place(turn, kin, vm));
                 }
-                self.stay_out(turn.name(), &vm);
                 Talked::Goes(Lease::new(turn, kin, vm), is_heard)
             }
         }
@@ -129,20 +125,6 @@ impl World {
             return false;
         }
         vm.ended().is_none()
-    }
-
-    /// The machine of a name is on lease still, as it stands now.
-    fn stay_out(&mut self, name: &Name, vm: &Vm)
-        ensures stands { (depot : Shelves) (f : Forest) (a : Tree Member) → IsBetween depot self.old f name.now a
-            → paged_of (machine a) ≡ paged vm.now → has_ended forest a ≡ false → IsForest (with_tree name.now (placed out a) f).tree
-            → StandsFor depot self.new (with_tree name.now (placed out a) f) }
-        ensures told { told_of self.new ≡ told_of self.old }
-        ensures images { (images : Images) → AreOfImages images self.old → IsImageAt images name.now vm.now.key → AreOfImages images self.new }
-    {
-        let Some(cell) = self.cells.get_mut(name) else {
-            return;
-        };
-        cell.state = State::Out(Snapshot::of(vm));
     }
 
     /// Makes the talk of a machine on lease, as far as it is of the words, and wakes the sibling that it names, where that

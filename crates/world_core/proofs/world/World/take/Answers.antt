@@ -1,4 +1,4 @@
-use Rattle.std.proofs.Common.{◌≡◌, ◌<◌, suc, Bool, true, false, length, refl, sym, ap, subst, arith}
+use Rattle.std.proofs.Common.{◌≡◌, ◌<◌, suc, Bool, true, false, length, refl, sym, ap, ◌∙◌, subst, arith}
 use Rattle.forest_tree.proofs.Rests.{lives-none}
 use Rattle.std.specs.Option.{IfNone}
 use Rattle.std.specs.BTreeMap.{get}
@@ -8,6 +8,10 @@ use Rattle.world_core.specs.declared.world.World.{World}
 use Rattle.world_core.specs.Shows.{is_out_cell}
 use Rattle.world_core.proofs.TurnByTurn.{over-goes, stopped-goes, idle-goes, stuck-goes, with-popped, goes-on}
 use Rattle.std.specs.Prelude.{MatchBool}
+use Rattle.talking_history.specs.Rows.{idle, stuck}
+use Rattle.world_core.specs.Answers.{Goes, Takes}
+use Rattle.world_core.specs.Images.{AreOfImages}
+use Rattle.world_core.proofs.LastTaken.{kept-goes, kept-takes}
 use Rattle.world_core.proofs.world.World.take.Goals as goal
 
 abbrev OneOut : World → Type 0
@@ -53,9 +57,11 @@ take_by-requires-clause-going c = (c.loop-turn.invariant.going, c.loop-turn.inva
 
 pub returns-in-Some-take_by-clause-takes : goal.returns-in-Some-take_by-clause-takes
 returns-in-Some-take_by-clause-takes c = λ f h.
-    c.in-Some-take_by.ensures.takes f
+    subst (Takes c.args.depot.now f c.in-Some-take_by.taken) (sym c.keep_last.ensures)
+    (kept-takes c.args.depot.now f c.take_by.new.self c.keep_last.new.self.last_taken c.in-Some-take_by.taken
+    (c.in-Some-take_by.ensures.takes f
     (with-popped c.args.depot.now c.loop-turn.self c.in-Some-pop.turn c.pop.new.self f c.in-Some-pop.ensures
-    (c.loop-turn.invariant.stands f h))
+    (c.loop-turn.invariant.stands f h))))
 
 pub loop-turn-smaller : goal.loop-turn-smaller
 loop-turn-smaller c =
@@ -75,21 +81,29 @@ loop-turn-preserved c =
 pub returns-then-is_one_out-clause-takes : goal.returns-then-is_one_out-clause-takes
 returns-then-is_one_out-clause-takes c = λ f h.
     let left = c.in_default-pop.ensures in
-    let away = one-out c.is_one_out.result (OneOut c.loop-turn.self) (NoneOut c.loop-turn.self) c.if-is_one_out.true c.is_one_out.ensures in
-    idle-goes c.args.depot.now c.loop-turn.self c.pop.new.self f (c.loop-turn.invariant.stands f h) c.loop-turn.invariant.going c.loop-turn.invariant.unhalted
-    left.0 left.1 away.0 away.1
+    let away = one-out c.is_one_out.result (OneOut c.ask_last.new.self) (NoneOut c.ask_last.new.self) c.if-is_one_out.true c.is_one_out.ensures in
+    let same = ap (λ (w : World). is_out_cell (get path_cmp w.cells away.0)) c.ask_last.ensures in
+    subst (Goes c.args.depot.now f idle) (sym c.ask_last.ensures)
+    (kept-goes c.args.depot.now f (record c.loop-turn.self { ready = c.pop.new.self }) c.ask_last.new.self.last_taken idle
+    (idle-goes c.args.depot.now c.loop-turn.self c.pop.new.self f (c.loop-turn.invariant.stands f h) c.loop-turn.invariant.going c.loop-turn.invariant.unhalted
+    left.0 left.1 away.0 (sym same ∙ away.1)))
 
 pub returns-else-is_one_out-clause-takes : goal.returns-else-is_one_out-clause-takes
 returns-else-is_one_out-clause-takes c = λ f h.
     let left = c.in_default-pop.ensures in
-    stuck-goes c.args.depot.now c.loop-turn.self c.pop.new.self f (c.loop-turn.invariant.stands f h) c.loop-turn.invariant.going c.loop-turn.invariant.unhalted
-    left.0 left.1 (none-out c.is_one_out.result (OneOut c.loop-turn.self) (NoneOut c.loop-turn.self) c.if-is_one_out.false c.is_one_out.ensures)
+    let none = none-out c.is_one_out.result (OneOut c.ask_last.new.self) (NoneOut c.ask_last.new.self) c.if-is_one_out.false c.is_one_out.ensures in
+    subst (Goes c.args.depot.now f stuck) (sym c.ask_last.ensures)
+    (kept-goes c.args.depot.now f (record c.loop-turn.self { ready = c.pop.new.self }) c.ask_last.new.self.last_taken stuck
+    (stuck-goes c.args.depot.now c.loop-turn.self c.pop.new.self f (c.loop-turn.invariant.stands f h) c.loop-turn.invariant.going c.loop-turn.invariant.unhalted
+    left.0 left.1 (λ name. sym (ap (λ (w : World). is_out_cell (get path_cmp w.cells name)) c.ask_last.ensures) ∙ none name)))
 
 pub returns-in-Some-take_by-clause-images : goal.returns-in-Some-take_by-clause-images
-returns-in-Some-take_by-clause-images c = λ images h. c.in-Some-take_by.ensures.images images (c.loop-turn.invariant.images images h)
+returns-in-Some-take_by-clause-images c = λ images h.
+    let now = c.in-Some-take_by.ensures.images images (c.loop-turn.invariant.images images h) in
+    (subst (AreOfImages images) (sym c.keep_last.ensures) now.0, now.1)
 
 pub returns-then-is_one_out-clause-images : goal.returns-then-is_one_out-clause-images
-returns-then-is_one_out-clause-images c = λ images h. (c.loop-turn.invariant.images images h, tt)
+returns-then-is_one_out-clause-images c = λ images h. (subst (AreOfImages images) (sym c.ask_last.ensures) (c.loop-turn.invariant.images images h), tt)
 
 pub returns-else-is_one_out-clause-images : goal.returns-else-is_one_out-clause-images
-returns-else-is_one_out-clause-images c = λ images h. (c.loop-turn.invariant.images images h, tt)
+returns-else-is_one_out-clause-images c = λ images h. (subst (AreOfImages images) (sym c.ask_last.ensures) (c.loop-turn.invariant.images images h), tt)

@@ -6,7 +6,7 @@ use Rattle.world_core.specs.Images.{IsLentAt}
 use Rattle.world_core.specs.World.{StandsFor}
 use Rattle.world_core.proofs.Calling.{same-image}
 use Rattle.world_core.proofs.Images.{lent-key}
-use Rattle.world_core.proofs.Staying.{again-out, goes-by, home-only, key-by, may-not-go-on, stays}
+use Rattle.world_core.proofs.Staying.{goes-by, home-only, may-not-go-on, stays}
 use Rattle.world_core.proofs.world.World.talk_on.Goals as goal
 
 pub returns-in-Placed-clause-answers : goal.returns-in-Placed-clause-answers
@@ -52,16 +52,12 @@ returns-else-not-may_go_on-clause-answers c depot f stands out_as of_depot =
     let p = c.in-Made.ensures.answers depot f stands out_as of_depot in
     let own = c.in-Made.ensures.own in
     let goes = goes-by _ c.may_go_on.result w.halted c.deref.result.now c.in-Made.vm.value c.deref.ensures c.if-not-may_go_on.false c.may_go_on.ensures in
-    stays depot w f c.args.lease (said_by c.args.talk) c.in-Made.turn.name c.in-Made.vm.value p goes.0 goes.1 c.new.result c.stay_out.new.self c.new.ensures own.0
+    stays depot w f c.args.lease (said_by c.args.talk) c.in-Made.turn.name c.in-Made.vm.value p goes.0 goes.1 c.new.result c.new.ensures own.0
     (same-image depot c.in-Made.vm.value c.args.lease own.3 of_depot)
-    (again-out depot w f c.args.lease (said_by c.args.talk) c.in-Made.turn.name c.in-Made.vm.value p goes.0 goes.1 c.name.result.now c.deref-in-Made.result.now c.name.ensures
-    c.deref-in-Made.ensures c.stay_out.new.self (c.stay_out.ensures.stands depot))
 
 pub returns-else-not-may_go_on-clause-images : goal.returns-else-not-may_go_on-clause-images
 returns-else-not-may_go_on-clause-images c images h at =
-    let own = c.in-Made.ensures.own in
-    let key = lent-key images c.args.lease c.in-Made.turn.name c.in-Made.vm.value own.0 own.3 at in (
-      c.stay_out.ensures.images images (c.make_talk.ensures.images images h at)
-          (key-by images c.name.result.now c.in-Made.turn.name c.deref-in-Made.result.now c.in-Made.vm.value c.name.ensures c.deref-in-Made.ensures key),
-      subst (IsLentAt images) (sym c.new.ensures) key,
+    let own = c.in-Made.ensures.own in (
+      c.make_talk.ensures.images images h at,
+      subst (IsLentAt images) (sym c.new.ensures) (lent-key images c.args.lease c.in-Made.turn.name c.in-Made.vm.value own.0 own.3 at),
     )

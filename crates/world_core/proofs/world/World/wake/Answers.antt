@@ -6,8 +6,8 @@ use Rattle.talking_history.specs.Places.{out, placed}
 use Rattle.machine_names.specs.Name.{child_path}
 use Rattle.machine_names.specs.NameOrder.{path_cmp}
 use Rattle.ready_queue.specs.Ready.{Ready}
-use Rattle.vm_cell.specs.Keyed.{KeyedMachine, paged}
-use Rattle.world_core.specs.Images.{HasImages, IsImageAt, IsLentAt}
+use Rattle.vm_cell.specs.Keyed.{paged}
+use Rattle.world_core.specs.Images.{IsImageAt, IsLentAt}
 use Rattle.world_core.specs.Lent.{Lent, now_of}
 use Rattle.world_core.specs.Answers.{IsLentOf}
 use Rattle.world_core.specs.Popped.{ShowsCells, is_listed_in}
@@ -129,11 +129,10 @@ returns-clause-cells c = λ t h is.
     c.in_ok-seat.ensures.ok c.in-Some.ensures.value c.args.depot.now t h is in
     let woke : paged_of (machine s.child) ≡ paged c.in_ok-name.vm.value
     = subst (λ o. IfSome o (λ (a : Tree Member). paged_of (machine a) ≡ paged c.in_ok-name.vm.value)) s.there (c.in_ok-name.ensures.machine t h is) in
-    let same : paged c.deref.result.now ≡ paged_of (machine s.child) = ap paged c.deref.ensures ∙ sym woke in
     woken-cells cells c.seat.new.cells c.args.parent.now c.args.ticket c.args.index c.in_ok-name.name c.of_lent.result c.in-Some.cell.now c.in_ok-name.ensures.name
     c.in_ok-seat.ensures.ok c.in-Some.ensures.value (c.get_mut.follows.lender waked) waked (c.get_mut.follows.holds waked) c.args.depot.now t h s
-    (lent-shows c.args.depot.now cells c.args.parent.now c.args.ticket c.args.index t c.in-Some.cell.now c.of_lent.result (paged c.deref.result.now) h s same
-    c.of_lent.ensures.shows)
+    (lent-shows c.args.depot.now cells c.args.parent.now c.args.ticket c.args.index t c.in-Some.cell.now c.of_lent.result (paged c.in_ok-name.vm.value) h s
+    (sym woke) (λ depot path resting inbox. c.of_lent.ensures.shows depot path resting inbox c.in_ok-name.vm.value))
     (c.child_wakes.ensures.shows c.args.depot.now c.args.parent.now (rests_in t c.args.parent.now) s.above s.child s.shows s.is_child s.asleep s.lives
     (c.in_ok-again.ensures ∙ c.in_ok-name.ensures.name))
 
@@ -165,13 +164,10 @@ returns-clause-images c = λ images h.
     let path : Path = child_path parent c.args.ticket c.args.index in
     let waked = c.child_wakes.new.self in
     let named : c.in_ok-name.turn.name ≡ path = ap (λ (w : Ready). w.name) c.in_ok-name.ensures.turn in
-    let boxed : IsImageAt images path c.in_ok-name.vm.value.key = c.in_ok-name.ensures.images images h in
-    let at : IsImageAt images path c.deref.result.now.key = subst (λ (v : KeyedMachine). IsImageAt images path v.key) (sym c.deref.ensures) boxed in
-    let lent : HasImages images c.in_ok-name.name c.of_lent.result
-    = subst (λ n. HasImages images n c.of_lent.result) (sym c.in_ok-name.ensures.name) (c.of_lent.ensures.images images path at) in (
+    let boxed : IsImageAt images path c.in_ok-name.vm.value.key = c.in_ok-name.ensures.images images h in (
       written images mid (c.get_mut.follows.lender waked) parent c.in-Some.cell.now waked c.in-Some.ensures.value
           (c.get_mut.follows.holds waked) (c.child_wakes.ensures.images images parent)
-          (put images cells mid c.in_ok-name.name c.of_lent.result c.in_ok-seat.ensures.ok lent h),
+          (put images cells mid c.in_ok-name.name c.of_lent.result c.in_ok-seat.ensures.ok (c.of_lent.ensures.images images c.in_ok-name.name) h),
       subst (IsLentAt images) (sym c.new.ensures) (subst (λ n. IsImageAt images n c.in_ok-name.vm.value.key) (sym named) boxed),
     )
 
