@@ -32,7 +32,8 @@ def told(pid, name):
 
 
 def resident(command):
-    """Returns the bytes that a program has resident as it is to put out its first byte, for which the pipe has no room."""
+    """Returns the bytes that a program has resident as it is to put out its first byte, for which the pipe has no room. What is
+    resident of its file is not among them, since it differs from run to run."""
     reading, writing = os.pipe()
     fcntl.fcntl(writing, fcntl.F_SETPIPE_SZ, 4096)
     os.write(writing, bytes(4096))
@@ -42,7 +43,7 @@ def resident(command):
         while waits < 3:
             time.sleep(0.002)
             waits = waits + 1 if told(running.pid, "State") == "S" else 0
-        size = int(told(running.pid, "VmRSS")) * 1024
+        size = int(told(running.pid, "RssAnon")) * 1024
         while os.read(reading, 1 << 16):
             pass
     os.close(reading)

@@ -1,7 +1,6 @@
 -- The RAM of a booted guest, and of a clone.
-use Rattle.std.proofs.Common.{◌≡◌, ℕ, suc, ◌+◌, ◌*◌, ◌/◌, ◌%◌, ◌<◌, Bool, true, false, List, [], ◌∷◌, ◌++◌, length, map, get_or, take, Some, None, refl, sym, ap, ◌∙◌, arith}
+use Rattle.std.proofs.Common.{◌≡◌, ℕ, ◌+◌, ◌*◌, ◌/◌, ◌%◌, ◌<◌, Bool, true, false, List, [], ◌∷◌, length, map, get_or, Some, None, refl, sym, ap, ◌∙◌, arith}
 use Rattle.std.specs.Prelude.{not, if◌then◌else◌}
-use Rattle.std.proofs.Math.Seq.{take-suc}
 use Rattle.std.proofs.lemmas.List.{length-map, get_or-map}
 use Rattle.std.proofs.lemmas.List.Elements.{All-head, All-tail}
 use Rattle.std.proofs.lemmas.Option.{slice_get-get_or}
@@ -9,12 +8,13 @@ use Rattle.elf_load.specs.Image.{Image, IsWhole, held_pages, is_held}
 use Rattle.page_frames.specs.declared.page.TheConstants.{PAGE_SIZE}
 use Rattle.page_frames.specs.declared.entry.Entry.{Entry}
 use Rattle.page_frames.specs.declared.entry.Entry.TheVariants.{Held, Blank, Absent}
-use Rattle.page_frames.specs.Tables.{paged, entry_at, byte_over, laid_over, is_own, is_blank}
+use Rattle.page_frames.specs.Tables.{paged, byte_over, laid_over, is_own, is_blank}
 use Rattle.page_frames.proofs.Memory.{length-paged, get_or-paged, paged_is, laid_over_is}
 use Rattle.image_depot.specs.Key.{Key, image_of}
 use Rattle.guest_mem.specs.Ram.{Ram, IsRam, AreZero, ram_of, at_boot, cleared, cloned}
 use Rattle.shared_leaves.specs.Choices.{choice}
-use Rattle.guest_mem.specs.Table.{clone_table}
+use Rattle.vm_descriptor.specs.CloneTables.{clone_table}
+use Rattle.vm_descriptor.proofs.CloneTables.{clone_blank}
 use Rattle.guest_mem.proofs.Pages.{same_ram}
 
 same_flags : {a b : Bool} {xs ys : List Bool} → a ≡ b → xs ≡ ys → a ∷ xs ≡ b ∷ ys
@@ -55,11 +55,6 @@ clone_own [] = refl
 clone_own (true ∷ blank) = ap (λ flags. true ∷ flags) (clone_own blank)
 clone_own (false ∷ blank) = ap (λ flags. false ∷ flags) (clone_own blank)
 
-clone_blank : (blank : List Bool) → map is_blank (clone_table blank) ≡ blank
-clone_blank [] = refl
-clone_blank (true ∷ blank) = ap (λ flags. true ∷ flags) (clone_blank blank)
-clone_blank (false ∷ blank) = ap (λ flags. false ∷ flags) (clone_blank blank)
-
 clone_bytes : (blank : List Bool) (below : List ℕ) → laid_over (clone_table blank) below ≡ cleared blank below
 unfolding cleared
 clone_bytes blank below =
@@ -75,16 +70,6 @@ clone_bytes blank below =
 
 pub ram_of_clone : (blank : List Bool) (key : Key) → ram_of (clone_table blank) (Some key) ≡ cloned key blank
 ram_of_clone blank key = same_ram _ _ _ _ _ _ (Some key) (clone_bytes blank (image_of key).contents) (clone_own blank) (clone_blank blank)
-
--- one more flag, of the entry of a page
-pub flags_more : (table : List Entry) (flags : List Bool) (page : ℕ) (flag : Bool) → page < length table → flags ≡ take page (map is_blank table) → flag ≡ is_blank (entry_at table page)
-    → flags ++ flag ∷ [] ≡ take (page + 1) (map is_blank table)
-flags_more table flags page flag there so_far is =
-    let next : suc page ≡ page + 1 = omega arith in
-    ap (λ front. front ++ flag ∷ []) so_far
-    ∙ ap (λ f. take page (map is_blank table) ++ f ∷ []) (is ∙ sym (get_or-map is_blank table page Absent false there))
-    ∙ sym (take-suc (map is_blank table) page false (omega (arith, length-map table is_blank)))
-    ∙ ap (λ n. take n (map is_blank table)) next
 
 kept_byte : (is_blank : Bool) (byte : ℕ) → (is_blank ≡ true → byte ≡ 0) → (if is_blank then 0 else byte) ≡ byte
 kept_byte true byte none = sym (none refl)

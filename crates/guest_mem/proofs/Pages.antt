@@ -1,7 +1,7 @@
 -- What loads, stores, arrivals and runs of blank pages do to the RAM of a page table.
 use Rattle.std.proofs.Common.{◌≡◌, ℕ, zero, suc, ◌+◌, ◌-◌, ◌*◌, ◌/◌, ◌%◌, ◌<◌, ◌≤◌, ◌⊎◌, inl, inr, Bool, true, false, List, [], ◌∷◌, ◌++◌, length, map, get_or, take, drop, replicate, Option, Some}
 use Rattle.std.proofs.Common.{None, refl, sym, ap, ◌∙◌, subst, length-append, arith}
-use Rattle.std.specs.Prelude.{slice_get}
+use Rattle.std.specs.Prelude.{MatchBool, slice_get}
 use Rattle.std.specs.List.{splice}
 use Rattle.std.proofs.Math.ListN.{set}
 use Rattle.std.proofs.Math.Seq.{map-set_same}
@@ -18,11 +18,11 @@ use Rattle.elf_load.specs.declared.image.TheConstants.{MIN_PAGES, MAX_PAGES}
 use Rattle.page_frames.specs.declared.page.TheConstants.{PAGE_SIZE}
 use Rattle.page_frames.specs.declared.entry.Entry.{Entry}
 use Rattle.page_frames.specs.declared.entry.Entry.TheVariants.{Held, Blank, Absent}
-use Rattle.page_frames.specs.Tables.{entry_at, entry_bytes, byte_over, laid_over, is_own, own_pages, is_blank, blank_pages}
+use Rattle.page_frames.specs.Tables.{IsWrittenIn, entry_at, entry_bytes, byte_over, laid_over, is_own, own_pages, is_blank, blank_pages}
 use Rattle.page_frames.proofs.Memory.{length-laid_over, get_or-laid_over, laid_over_is, laid_over-set_same, number_of_own, number_of_other, byte_of_other, write_in_page}
 use Rattle.image_depot.specs.Image.{IsWhole}
 use Rattle.image_depot.specs.Key.{Key}
-use Rattle.guest_mem.specs.Ram.{Ram, IsRam, IsTable, IsBased, HasAbsentPages, AreZero, memory_below, ram_of, stored, arrived, zeroed, with_set}
+use Rattle.guest_mem.specs.Ram.{Ram, IsRam, IsTable, IsBased, HasAbsentPages, AreZero, IsHere, memory_below, ram_of, stored, arrived, zeroed, with_set}
 
 pub same_ram : (reads reads' : List ℕ) (here here' blank blank' : List Bool) (key : Option Key) → reads ≡ reads' → here ≡ here' → blank ≡ blank'
     → record { reads = reads; here = here; blank = blank; key = key } ≡ (let ram : Ram = record { reads = reads'; here = here'; blank = blank'; key = key } in ram)
@@ -126,6 +126,16 @@ ram_of_store entries key at bytes inside within own whole =
     ∙ ap (λ i. put_bytes (laid_over entries below) i bytes) (omega arith))
     (map-set_same is_own entries (at / PAGE_SIZE) written Absent (sym own))
     (map-set is_blank entries (at / PAGE_SIZE) written)
+
+-- a write that leaves a page as it is where it is not held alone
+pub written_or_same : (entries new : List Entry) (key : Option Key) (at : ℕ) (bytes : List ℕ) (is_written : Bool) → at < length (laid_over entries (memory_below key))
+    → at % PAGE_SIZE + length bytes ≤ PAGE_SIZE → MatchBool is_written (IsWrittenIn entries (at / PAGE_SIZE) (at % PAGE_SIZE) bytes new) (new ≡ entries)
+    → MatchBool is_written ((ram_of new key ≡ stored (ram_of entries key) at bytes) × IsHere (ram_of entries key) (at / PAGE_SIZE)) (ram_of new key ≡ ram_of entries key)
+written_or_same entries new key at bytes true inside within is = (
+  ap (λ table. ram_of table key) is.is ∙ ram_of_store entries key at bytes inside within is.own is.whole,
+  here_by_entry entries (at / PAGE_SIZE) true (page_there entries (memory_below key) at inside) is.own,
+)
+written_or_same entries new key at bytes false inside within same = ap (λ table. ram_of table key) same
 
 -- ---- arrivals
 

@@ -1,3 +1,2 @@
 pub mod Ram
-pub mod Table
 pub mod Answers

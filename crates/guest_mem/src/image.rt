@@ -13,13 +13,14 @@ use crate::memory::GuestMem;
 use crate::table::table_of;
 use console_port::Input;
 use cow_disk::FrozenDisk;
+use elf_load::{MAX_PAGES, MIN_PAGES};
 use image_depot::{Arrived, Depot, Frozen, ImageKey, Parcel};
 use page_frames::Entry;
 use shared_leaves::Steps;
 use std::alloc::{AllocError, Global};
 use std::marker::Brand;
 use std::sync::ledger::{Blank, Ledger};
-use vm_descriptor::Descriptor;
+use vm_descriptor::{CloneTable, Descriptor, MapForm};
 
 impl GuestMem {
     /// The RAM of a clone, which starts with the image of its parent. Its blank pages alone are here.
@@ -49,11 +50,34 @@ impl GuestMem {
         requires pages_of_image { descriptor.now.pages ≡ page_count (image_of key) }
         ensures { IfOk result (λ memory. memory ≡ cloned key descriptor.now.blank) }
     {
-        GuestMem::clone_counted(alloc, key, descriptor, &mut Steps::<L>::new(blank))
+        let mut steps = Steps::<L>::new(blank);
+        if let MapForm::Table(table) = descriptor.blank.form() {
+            return GuestMem::sharing_counted(key, table, &mut steps);
+        }
+        GuestMem::clone_counted(alloc, key, descriptor, &mut steps)
     }
 
-    /// The same, which counts its steps. A step is a handle on a leaf of the new page table, or an entry
-    /// that is written into one. So it costs leaves and not pages where few pages are blank
+    /// The RAM of a clone that shares a table with others, which counts its steps. A step is a handle on a leaf of the table.
+    pub fn sharing_counted<L: Ledger>(
+        key: ImageKey,
+        table: &CloneTable,
+        steps: &mut Steps<L>,
+    ) -> Result<GuestMem, AllocError>
+        requires pages_of_image { length table.now ≡ page_count (image_of key) }
+        requires least { MIN_PAGES ≤ length table.now }
+        requires most { length table.now ≤ MAX_PAGES }
+        ensures value { IfOk result (λ memory. memory ≡ cloned key table.now) }
+        ensures cost { OnOk result (steps.new ≡ steps.old + (length table.now + 63) / 64) }
+        ensures most { steps.new ≤ steps.old + (length table.now + 63) / 64 }
+    {
+        Ok(GuestMem {
+            entries: table.entries().share_counted(steps)?,
+            key: Some(key),
+        })
+    }
+
+    /// The RAM of a clone whose table is made anew, which counts its steps. A step is a handle on a leaf of that table, or an
+    /// entry that is written into one. So it costs leaves and not pages where few pages are blank
     /// (`choices_cost_leaves` of `shared_leaves`).
     pub fn clone_counted<L: Ledger>(
         alloc: Global,

@@ -1,4 +1,4 @@
-ghost use Rattle.std.specs.Prelude.{◌≡◌, ◌⊎◌, ℕ, ◌+◌, ◌*◌, ◌/◌, ◌%◌, ◌<◌, ◌≤◌, false, drop, length, slice_index, slice_index_or, take, MatchResult, OnOk, OnErr, IfOk, IfErr};
+ghost use Rattle.std.specs.Prelude.{◌≡◌, ◌⊎◌, ℕ, ◌+◌, ◌*◌, ◌/◌, ◌%◌, ◌<◌, ◌≤◌, false, drop, length, slice_index, slice_index_or, take, MatchBool, MatchResult, OnOk, OnErr, IfOk, IfErr};
 ghost use Rattle.std.specs.Option.{option_copied};
 ghost use Rattle.byteorder.specs.Endian.{little_from, little_bytes};
 ghost use Rattle.flat_memory.specs.Flat.{word_at, put_bytes};
@@ -6,10 +6,9 @@ ghost use Rattle.guest_mem.specs.Ram.{IsAbsent, IsHere, IsRam, IsRamOf, at_boot,
 ghost use Rattle.guest_mem.specs.Answers.{IsRefused};
 
 use crate::answers::{Absent, StoreError};
-use crate::table::blank_flags;
 use elf_load::{Loaded, MAX_PAGES, MIN_PAGES};
 use image_depot::{Depot, ImageKey};
-use page_frames::{Entry, PAGE_SIZE, Page, PageTable, write_page};
+use page_frames::{Entry, PAGE_SIZE, Page, PageTable, write_own_page, write_page};
 use std::alloc::{AllocError, Global};
 use std::marker::Model;
 use vm_descriptor::PageMap;
@@ -141,6 +140,35 @@ impl GuestMem {
         }
     }
 
+    /// The same where this guest holds the page and shares it with none, and it answers whether it has stored. Else nothing
+    /// changes. It takes no memory, and may answer no of any page.
+    #[inline(always)]
+    pub fn store_own(&mut self, at: u32, width: u32, word: u32) -> bool
+        requires width { (width ≡ 1) ⊎ ((width ≡ 2) ⊎ (width ≡ 4)) }
+        requires aligned { at % width ≡ 0 }
+        requires inside { at < length self.old.reads }
+        ensures { MatchBool result ((self.new ≡ stored self.old at (little_bytes width word)) × IsHere self.old (at / PAGE_SIZE)) (self.new ≡ self.old) }
+    {
+        match width {
+            1 => self.write_own(at, &[(word % 0x100) as u8]),
+            2 => self.write_own(at, &((word % 0x1_0000) as u16).to_le_bytes()),
+            _ => self.write_own(at, &word.to_le_bytes()),
+        }
+    }
+
+    /// Writes bytes that lie in one page where this guest holds that and shares it with none, and answers whether it has
+    /// written. Else nothing changes.
+    #[inline(always)]
+    fn write_own(&mut self, at: u32, bytes: &[u8]) -> bool
+        requires in_page { at % PAGE_SIZE + length bytes.now ≤ PAGE_SIZE }
+        requires inside { at < length self.old.reads }
+        ensures { MatchBool result ((self.new ≡ stored self.old at bytes.now) × IsHere self.old (at / PAGE_SIZE)) (self.new ≡ self.old) }
+    {
+        let page = at / PAGE_SIZE as u32;
+        let place = at % PAGE_SIZE as u32;
+        write_own_page(&mut self.entries, page as usize, place, bytes)
+    }
+
     /// Writes bytes that lie in one page.
     #[inline(always)]
     fn write(&mut self, at: u32, bytes: &[u8]) -> Result<(), StoreError>
@@ -204,7 +232,7 @@ impl GuestMem {
     pub fn blank(&self, alloc: Global) -> Result<PageMap, AllocError>
         ensures { IfOk result (λ map. map ≡ self.now.blank) }
     {
-        Ok(PageMap::from_vec(blank_flags(alloc, &self.entries)?))
+        PageMap::of_table(alloc, &self.entries)
     }
 }
 

@@ -1,9 +1,8 @@
-//! The page tables of clones, and what page tables tell.
+//! The page tables of clones.
 
 ghost use Rattle.std.specs.Prelude.{◌≡◌, ◌+◌, ◌≤◌, length, IfOk, OnOk};
-ghost use Rattle.page_frames.specs.Tables.{blank_pages};
 ghost use Rattle.shared_leaves.specs.Choices.{choice_steps};
-ghost use Rattle.guest_mem.specs.Table.{clone_table};
+ghost use Rattle.vm_descriptor.specs.CloneTables.{clone_table};
 
 use page_frames::{Entry, PageTable};
 use shared_leaves::{SharedList, Steps};
@@ -31,16 +30,9 @@ pub fn table_of<L: Ledger>(
             let count = pages as usize;
             SharedList::chosen_in_runs_counted(alloc, count, runs, &blank, &absent, steps)
         }
+        MapForm::Table(_) => {
+            let flags = map.flags(alloc)?;
+            SharedList::chosen_counted(alloc, &flags, &blank, &absent, steps)
+        }
     }
-}
-
-/// For each entry, whether it is blank.
-pub fn blank_flags(alloc: Global, table: &PageTable) -> Result<Vec<bool>, AllocError>
-    ensures { IfOk result (λ flags. flags.items ≡ blank_pages table.now) }
-{
-    let mut flags = Vec::with_capacity(alloc, table.len())?;
-    for page in 0..table.len() {
-        flags.push(table.get(page).is_blank())?;
-    }
-    Ok(flags)
 }

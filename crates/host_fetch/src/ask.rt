@@ -8,9 +8,10 @@ ghost use Rattle.image_depot.specs.Reply.{IsClaimOf};
 ghost use Rattle.page_claims.specs.Calls.{IsSamePass};
 ghost use Rattle.host_fetch.specs.Asked.{AreAsked, ArePartlyAsked, IsAsked, IsTold, IsUntold, first_asked, reply_in, reply_with};
 
+use crate::fetcher::Fetcher;
 use crate::waiting::Waiting;
 use image_depot::{Depot, ImageKey, Parcel, Receiver, Sent};
-use page_claims::{ClaimPass, Claimed, Claims, First};
+use page_claims::{ClaimPass, Claimed, First};
 use std::alloc::{AllocError, Global};
 use std::sync::Wait;
 
@@ -42,81 +43,102 @@ pub fn first_asked<T: Receiver>(
     Ok(asked)
 }
 
-/// Asks for these pages of an image, and gives the replies, which wait. Each page is claimed, and what was claimed for the first
-/// time is pushed, and told.
-pub fn ask_first<'a, R: Wait>(
-    rt: &R,
-    alloc: Global,
-    depot: &'a Depot,
-    key: &ImageKey,
-    pages: &[u32],
-    claims: &Claims,
-    claiming: ClaimPass,
-    pushed: &mut Vec<Sent>,
-) -> (ClaimPass, Result<Vec<Waiting<'a>>, AllocError>)
-    requires here { IsKeyOf depot.now key.now }
-    requires there { All (λ page. page < place_count (image_of key.now)) pages.now }
-    requires claims { claiming.table ≡ claims.now.table }
-    ensures waiting { IfOk result.1 (λ waiting. map reply_in waiting.items ≡ map (reply_with key.now) pages.now) }
-    ensures asked { OnOk result.1 (AreAsked depot.now claims.now key.now pages.now
-        (record { sent = pushed.old.items; pass = claiming }) (record { sent = pushed.new.items; pass = result.0 })) }
-    ensures err { OnErr result.1 ((count : ℕ) × ArePartlyAsked depot.now claims.now key.now (take count pages.now)
-        (record { sent = pushed.old.items; pass = claiming }) (record { sent = pushed.new.items; pass = result.0 })) }
-    ensures same { IsSamePass claiming result.0 }
-{
-    let Ok(mut waiting) = Vec::with_capacity(alloc, pages.len()) else {
-        return (claiming, Err(AllocError));
-    };
-    let mut claiming = claiming;
-    for page in pages {
-        let (after, asked) = ask(
-            rt,
-            depot,
-            key,
-            *page,
-            claims,
-            claiming,
-            &mut waiting,
-            pushed,
-        );
-        claiming = after;
-        let Ok(()) = asked else {
+impl<'a> Fetcher<'a> {
+    /// Asks for these pages of an image, and gives the replies, which wait. Each page is claimed, and what was claimed for the first
+    /// time is pushed, and told.
+    pub fn ask_first<R: Wait>(
+        &self,
+        rt: &R,
+        key: &ImageKey,
+        pages: &[u32],
+        claiming: ClaimPass,
+        pushed: &mut Vec<Sent>,
+    ) -> (ClaimPass, Result<Vec<Waiting<'a>>, AllocError>)
+        requires here { IsKeyOf self.now.depot.now key.now }
+        requires there { All (λ page. page < place_count (image_of key.now)) pages.now }
+        requires claims { claiming.table ≡ self.now.claims.now.table }
+        ensures waiting { IfOk result.1 (λ waiting. map reply_in waiting.items ≡ map (reply_with key.now) pages.now) }
+        ensures asked { OnOk result.1 (AreAsked self.now.depot.now self.now.claims.now key.now pages.now
+            (record { sent = pushed.old.items; pass = claiming }) (record { sent = pushed.new.items; pass = result.0 })) }
+        ensures err { OnErr result.1 ((count : ℕ) × ArePartlyAsked self.now.depot.now self.now.claims.now key.now (take count pages.now)
+            (record { sent = pushed.old.items; pass = claiming }) (record { sent = pushed.new.items; pass = result.0 })) }
+        ensures same { IsSamePass claiming result.0 }
+    {
+        let Ok(mut waiting) = Vec::with_capacity(self.alloc, pages.len()) else {
             return (claiming, Err(AllocError));
         };
+        let mut claiming = claiming;
+        for page in pages {
+            let (after, asked) = self.ask(rt, key, *page, claiming, &mut waiting, pushed);
+            claiming = after;
+            let Ok(()) = asked else {
+                return (claiming, Err(AllocError));
+            };
+        }
+        (claiming, Ok(waiting))
     }
-    (claiming, Ok(waiting))
-}
 
-/// Asks for a page of an image. The reply waits behind the others. The page is claimed, and where that is the first claim the
-/// reply is pushed, and told.
-pub fn ask<'a, R: Wait>(
-    rt: &R,
-    depot: &'a Depot,
-    key: &ImageKey,
-    page: u32,
-    claims: &Claims,
-    claiming: ClaimPass,
-    waiting: &mut Vec<Waiting<'a>>,
-    pushed: &mut Vec<Sent>,
-) -> (ClaimPass, Result<(), AllocError>)
-    requires here { IsKeyOf depot.now key.now }
-    requires there { page < place_count (image_of key.now) }
-    requires claims { claiming.table ≡ claims.now.table }
-    ensures waiting { OnOk result.1 (map reply_in waiting.new.items ≡ map reply_in waiting.old.items ++ reply_with key.now page ∷ []) }
-    ensures asked { OnOk result.1 (IsAsked depot.now claims.now key.now page
-        (record { sent = pushed.old.items; pass = claiming }) (record { sent = pushed.new.items; pass = result.0 })) }
-    ensures err { OnErr result.1 (IsUntold claims.now key.now
-        (record { sent = pushed.old.items; pass = claiming }) (record { sent = pushed.new.items; pass = result.0 })) }
-    ensures same { IsSamePass claiming result.0 }
-{
-    let Ok(parcel) = depot.answer(key, page) else {
-        return (claiming, Err(AllocError));
-    };
-    let (claiming, claimed) = claims.claim(claiming, key.number(), page);
-    match claimed {
-        Claimed::First(first) => (claiming, keep(rt, depot, first, parcel, waiting, pushed)),
-        Claimed::Repeat => (claiming, hold(parcel, waiting)),
-        Claimed::Outside => (claiming, hold(parcel, waiting)),
+    /// Asks for a page of an image. The reply waits behind the others. The page is claimed, and where that is the first claim the
+    /// reply is pushed, and told.
+    pub fn ask<R: Wait>(
+        &self,
+        rt: &R,
+        key: &ImageKey,
+        page: u32,
+        claiming: ClaimPass,
+        waiting: &mut Vec<Waiting<'a>>,
+        pushed: &mut Vec<Sent>,
+    ) -> (ClaimPass, Result<(), AllocError>)
+        requires here { IsKeyOf self.now.depot.now key.now }
+        requires there { page < place_count (image_of key.now) }
+        requires claims { claiming.table ≡ self.now.claims.now.table }
+        ensures waiting { OnOk result.1 (map reply_in waiting.new.items ≡ map reply_in waiting.old.items ++ reply_with key.now page ∷ []) }
+        ensures asked { OnOk result.1 (IsAsked self.now.depot.now self.now.claims.now key.now page
+            (record { sent = pushed.old.items; pass = claiming }) (record { sent = pushed.new.items; pass = result.0 })) }
+        ensures err { OnErr result.1 (IsUntold self.now.claims.now key.now
+            (record { sent = pushed.old.items; pass = claiming }) (record { sent = pushed.new.items; pass = result.0 })) }
+        ensures same { IsSamePass claiming result.0 }
+    {
+        let Ok(parcel) = self.depot.answer(key, page) else {
+            return (claiming, Err(AllocError));
+        };
+        let (claiming, claimed) = self.claims.claim(claiming, key.number(), page);
+        match claimed {
+            Claimed::First(first) => (
+                claiming,
+                keep(rt, self.depot, first, parcel, waiting, pushed),
+            ),
+            Claimed::Repeat => (claiming, hold(parcel, waiting)),
+            Claimed::Outside => (claiming, hold(parcel, waiting)),
+        }
+    }
+
+    /// Asks for a page of an image again, where no reply with it waits.
+    pub fn ask_again<R: Wait>(
+        &self,
+        rt: &R,
+        key: &ImageKey,
+        page: u32,
+        claiming: ClaimPass,
+        waiting: &mut Vec<Waiting<'a>>,
+        pushed: &mut Vec<Sent>,
+    ) -> (ClaimPass, Result<(), AllocError>)
+        requires here { IsKeyOf self.now.depot.now key.now }
+        requires there { page < place_count (image_of key.now) }
+        requires claims { claiming.table ≡ self.now.claims.now.table }
+        ensures waiting { OnOk result.1 (map reply_in waiting.new.items ≡ map reply_in waiting.old.items
+            ++ (if list_any (λ w. (reply_in w).page == page) waiting.old.items then [] else reply_with key.now page ∷ [])) }
+        ensures asked { OnOk result.1 (AreAsked self.now.depot.now self.now.claims.now key.now
+            (if list_any (λ w. (reply_in w).page == page) waiting.old.items then [] else page ∷ [])
+            (record { sent = pushed.old.items; pass = claiming }) (record { sent = pushed.new.items; pass = result.0 })) }
+        ensures err { OnErr result.1 (IsUntold self.now.claims.now key.now
+            (record { sent = pushed.old.items; pass = claiming }) (record { sent = pushed.new.items; pass = result.0 })) }
+        ensures same { IsSamePass claiming result.0 }
+    {
+        if waits(waiting, page) {
+            return (claiming, Ok(()));
+        }
+        self.ask(rt, key, page, claiming, waiting, pushed)
     }
 }
 
@@ -150,35 +172,6 @@ fn hold<'a>(parcel: Parcel, waiting: &mut Vec<Waiting<'a>>) -> Result<(), AllocE
 {
     waiting.push(Waiting::Own(parcel))?;
     Ok(())
-}
-
-/// Asks for a page of an image again, where no reply with it waits.
-pub fn ask_again<'a, R: Wait>(
-    rt: &R,
-    depot: &'a Depot,
-    key: &ImageKey,
-    page: u32,
-    claims: &Claims,
-    claiming: ClaimPass,
-    waiting: &mut Vec<Waiting<'a>>,
-    pushed: &mut Vec<Sent>,
-) -> (ClaimPass, Result<(), AllocError>)
-    requires here { IsKeyOf depot.now key.now }
-    requires there { page < place_count (image_of key.now) }
-    requires claims { claiming.table ≡ claims.now.table }
-    ensures waiting { OnOk result.1 (map reply_in waiting.new.items ≡ map reply_in waiting.old.items
-        ++ (if list_any (λ w. (reply_in w).page == page) waiting.old.items then [] else reply_with key.now page ∷ [])) }
-    ensures asked { OnOk result.1 (AreAsked depot.now claims.now key.now
-        (if list_any (λ w. (reply_in w).page == page) waiting.old.items then [] else page ∷ [])
-        (record { sent = pushed.old.items; pass = claiming }) (record { sent = pushed.new.items; pass = result.0 })) }
-    ensures err { OnErr result.1 (IsUntold claims.now key.now
-        (record { sent = pushed.old.items; pass = claiming }) (record { sent = pushed.new.items; pass = result.0 })) }
-    ensures same { IsSamePass claiming result.0 }
-{
-    if waits(waiting, page) {
-        return (claiming, Ok(()));
-    }
-    ask(rt, depot, key, page, claims, claiming, waiting, pushed)
 }
 
 /// Whether a reply with a page waits.

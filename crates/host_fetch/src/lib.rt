@@ -5,11 +5,13 @@ mod ask;
 mod deliver;
 mod error;
 mod fetch_page;
+mod fetcher;
 mod heard;
 mod offer_page;
 mod waiting;
 
 pub use error::FetchError;
-pub use fetch_page::{MAX_AHEAD, fetch};
+pub use fetch_page::MAX_AHEAD;
+pub use fetcher::Fetcher;
 pub use heard::Heard;
 pub use offer_page::offer;

@@ -9,7 +9,7 @@ ghost use Rattle.host_workers.specs.Claiming.{IsShare};
 ghost use Rattle.host_workers.specs.Lost.{IsLost};
 
 use crate::shared::Shared;
-use host_fetch::{FetchError, fetch};
+use host_fetch::{FetchError, Fetcher};
 use image_depot::Sent;
 use page_claims::{ClaimPass, Claims};
 use std::marker::Model;
@@ -77,17 +77,13 @@ impl<'a> Claimant<'a> {
         let Some(pass) = self.pass.take() else {
             unreachable!()
         };
-        let (pass, fetched) = fetch(
-            rt,
-            shared.alloc,
-            lease,
-            shared.depot,
-            wire,
-            shared.settings.ahead,
-            self.claims,
-            pass,
-            pushed,
-        );
+        let fetcher = Fetcher {
+            depot: shared.depot,
+            claims: self.claims,
+            ahead: shared.settings.ahead,
+            alloc: shared.alloc,
+        };
+        let (pass, fetched) = fetcher.fetch(rt, lease, wire, pass, pushed);
         self.pass = Some(pass);
         fetched
     }

@@ -3,7 +3,6 @@
 ghost use Rattle.std.specs.Prelude.{◌≡◌, ◌⊎◌, ℕ, ◌+◌, ◌-◌, ◌<◌, ◌≤◌, true, length, map};
 ghost use Rattle.std.specs.List.{All};
 ghost use Rattle.std.specs.Thread.{IsSend, IsSync};
-ghost use Rattle.fork_board.specs.Follows.{depot_of};
 ghost use Rattle.fork_board.specs.Passes.{HoldsNone, PassValue};
 ghost use Rattle.page_claims.specs.Calls.{IsSamePass};
 ghost use Rattle.host_workers.specs.Finishes.{AreDone, Finishes, IsStopped, IsStoppedElsewhere, WorkedAll, is_at_rest};
@@ -13,11 +12,10 @@ ghost use Rattle.host_workers.specs.Spread.{HasWorked, HaveWorked, IsDue, WorkAl
 use crate::finish::Finish;
 use crate::gate::Gate;
 use crate::lookout::Lookout;
-use crate::shared::{Settings, Shared, State};
+use crate::shared::{Settings, Shared, Site, State};
 use crate::worker::work;
 use arrayvec::ArrayVec;
 use fork_board::{Board, Pass};
-use image_depot::Depot;
 use page_claims::{ClaimPass, Claims};
 use std::marker::{Send, Sync};
 use std::mem;
@@ -44,23 +42,19 @@ fn finish_of(first: Finish, second: Finish) -> Finish
 }
 
 /// Lets a worker for each of the wires take machines and run them, on a thread of its own where there can be one, until
-/// the root has ended, the world was stopped, or no machine makes a step any more. Their passes, by which they enter turns and claim pages, are split off from
-/// these, and are joined to them again.
-/// The workers have the numbers from 0 on at the gate.
+/// the root has ended, the world was stopped, or no machine makes a step any more. Their passes, by which they enter turns and
+/// claim pages, are split off from these, and are joined to them again. The workers have the numbers from 0 on at the gate.
 pub fn run_hosts<R: AllocGlobal + Threads + Wait + Sync, W: Wire + Send, G: Gate + Sync>(
     rt: &R,
-    board: &Board,
+    site: &Site<'_>,
     pass: Pass,
-    claims: &Claims,
     claiming: ClaimPass,
-    depot: &Depot,
     wires: &mut [W],
     settings: &Settings<G>,
 ) -> (Pass, ClaimPass, Finish)
-    requires board { pass.board ≡ board.now }
-    requires claims { claiming.table ≡ claims.now.table }
+    requires board { pass.board ≡ site.now.board.now }
+    requires claims { claiming.table ≡ site.now.claims.now.table }
     requires shares { length wires.old < claiming.parts }
-    requires depot { depot_of board.now.opening ≡ depot.now }
     requires none { HoldsNone pass }
     requires wires { (1 ≤ length wires.old) × (length wires.old ≤ MAX_WORKERS) }
     requires parts { length pass.number < 3 }
@@ -75,10 +69,11 @@ pub fn run_hosts<R: AllocGlobal + Threads + Wait + Sync, W: Wire + Send, G: Gate
     ensures seeds { map W.seeds wires.new ≡ map W.seeds wires.old }
     ensures len { length wires.new ≡ length wires.old }
 {
+    let (board, claims) = (site.board, site.claims);
     let shared = Shared {
         board,
         claims,
-        depot,
+        depot: site.depot,
         settings,
         lookout: Lookout::new(wires.len(), processors(rt, wires.len())),
         alloc: rt.alloc(),

@@ -15,4 +15,4 @@ mod worker;
 pub use finish::Finish;
 pub use gate::{Gate, OpenGate, Point};
 pub use hosts::{MAX_WORKERS, run_hosts};
-pub use shared::Settings;
+pub use shared::{Settings, Site};

@@ -25,6 +25,18 @@ pub struct Settings<G> {
     ghost few: { ahead ≤ MAX_AHEAD },
 }
 
+/// Where workers run machines: a board, the depot of its images, and the claims of their pages.
+#[derive(Drop)]
+pub struct Site<'a> {
+    /// The board, whose machines they take.
+    pub board: &'a Board,
+    /// Who has the images of the board's clones.
+    pub depot: &'a Depot,
+    /// Who has asked for which of their pages first.
+    pub claims: &'a Claims,
+    ghost of_board: { depot_of board.now.opening ≡ depot.now },
+}
+
 /// What all workers of a board share.
 #[derive(Drop)]
 pub(crate) struct Shared<'a, G> {

@@ -3,5 +3,6 @@ pub mod NameMaps
 mod Back
 mod Keys
 mod Names
+mod Rows
 mod Same
 mod Written

@@ -16,10 +16,10 @@ both-equal Less b h = absurd (cc h)
 both-equal Equal b h = (refl, h)
 both-equal Greater b h = absurd (cc h)
 
-pub same-number : (x y : ℕ) → nat_cmp x y ≡ Equal → x ≡ y
+same-number : (x y : ℕ) → nat_cmp x y ≡ Equal → x ≡ y
 same-number x y h = ranked x y Equal (sym h)
 
-same-branch : (a b : Branch) → branch_cmp a b ≡ Equal → a ≡ b
+pub same-branch : (a b : Branch) → branch_cmp a b ≡ Equal → a ≡ b
 unfolding branch_cmp
 same-branch a b h =
     let parts = both-equal (nat_cmp a.ticket b.ticket) (nat_cmp a.child b.child) h in
@@ -47,7 +47,7 @@ unfolding path_cmp
 shorter-first a b h =
     ap (λ o. ordering_then o (back_cmp a b)) (ap (λ less. cond less Less (cond (length a == length b) Equal Greater)) (lt-ltb (length a) (length b) h))
 
-is_eq-equal : (r : Ordering) → is_eq r ≡ true → r ≡ Equal
+pub is_eq-equal : (r : Ordering) → is_eq r ≡ true → r ≡ Equal
 is_eq-equal Less h = absurd (cc)
 is_eq-equal Equal h = refl
 is_eq-equal Greater h = absurd (cc)

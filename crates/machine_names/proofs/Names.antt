@@ -1,23 +1,16 @@
 -- Names by the forks that they hold: the first of a list, as many as they are deep.
-use Rattle.std.proofs.Common.{◌≡◌, ◌-◌, ◌<◌, ◌≤◌, ◌+◌, ℕ, true, false, sym, ap, ap₂, ◌∙◌, [], ◌∷◌, ◌++◌, length, take, get_or, get_or-take, length-take-le, take-take, Some, None, arith}
-use Rattle.std.specs.Ordering.{is_ne, nat_cmp, ordering_then}
-use Rattle.std.proofs.lemmas.List.{take_more}
+use Rattle.std.proofs.Common.{◌≡◌, ◌-◌, ◌<◌, ◌≤◌, ℕ, true, false, sym, ap, ap₂, ◌∙◌, length, take, get_or, get_or-take, length-take-le, take-take, Some, None, arith}
+use Rattle.std.specs.Ordering.{is_ne, ordering_then}
 use Rattle.forest_tree.specs.Tree.{Branch, Path, beyond}
 use Rattle.machine_names.specs.Name.{next_of}
-use Rattle.machine_names.specs.NameOrder.{back_cmp, branch_cmp, path_cmp}
-use Rattle.machine_names.proofs.Back.{by-last, decided, undecided}
+use Rattle.machine_names.specs.NameOrder.{back_cmp, branch_cmp}
+use Rattle.machine_names.proofs.Back.{by-last, undecided}
 use Rattle.machine_names.proofs.Below.{next-apart, next-short, next-there}
-use Rattle.machine_names.proofs.NameMaps.{back-same, same-number}
+use Rattle.machine_names.proofs.NameMaps.{back-same}
 
 module _ (list path : Path) (depth : ℕ) (fits : depth ≤ length list) (is : take depth list ≡ path) where
-  pub deep : length path ≡ depth
+  deep : length path ≡ depth
   deep = ap length (sym is) ∙ length-take-le depth list fits
-
-  -- the last fork taken off
-  pub popped : (x : Branch) → 0 < depth → x ≡ get_or list (depth - 1) x → path ≡ take (depth - 1) list ++ x ∷ []
-  popped x some x-is =
-      let whole : depth - 1 + 1 ≡ depth = omega arith in
-      sym is ∙ ap (λ n. take n list) (sym whole) ∙ take_more list (depth - 1) x (omega arith) ∙ ap (λ e. take (depth - 1) list ++ e ∷ []) (sym x-is)
 
   module _ (other way : Path) (depth-way : ℕ) (fits-way : depth-way ≤ length other) (is-way : take depth-way other ≡ way) where
     long : length way ≡ depth-way
@@ -41,22 +34,6 @@ module _ (list path : Path) (depth : ℕ) (fits : depth ≤ length list) (is : t
         let there : x ≡ get_or path (length way) x
         = x-is ∙ sym (get_or-take depth list depth-way x longer) ∙ ap (λ xs. get_or xs depth-way x) is ∙ ap (λ n. get_or path n x) (sym long) in
         next-there way path x (omega (arith, deep, long)) begins there
-
-    -- how the two compare
-    by-depth : nat_cmp depth depth-way ≡ nat_cmp (length path) (length way)
-    by-depth = ap₂ nat_cmp (sym deep) (sym long)
-
-    pub cmp-apart : is_ne (nat_cmp depth depth-way) ≡ true → nat_cmp depth depth-way ≡ path_cmp path way
-    unfolding path_cmp
-    cmp-apart apart = decided (nat_cmp depth depth-way) (back_cmp path way) apart ∙ ap (λ o. ordering_then o (back_cmp path way)) by-depth
-
-    -- both have as many forks
-    pub as-deep : is_ne (nat_cmp depth depth-way) ≡ false → length path ≡ length way
-    as-deep alike = deep ∙ same-number depth depth-way (undecided (nat_cmp depth depth-way) alike) ∙ sym long
-
-    pub cmp-alike : is_ne (nat_cmp depth depth-way) ≡ false → back_cmp path way ≡ path_cmp path way
-    unfolding path_cmp
-    cmp-alike alike = ap (λ o. ordering_then o (back_cmp path way)) (sym (undecided (nat_cmp depth depth-way) alike) ∙ by-depth)
 
     -- by the last fork of each, and then by those before it
     pub cmp-last : (x y : Branch) → length path ≡ length way → 0 < depth → x ≡ get_or list (depth - 1) x → (0 < depth-way → y ≡ get_or other (depth-way - 1) y)

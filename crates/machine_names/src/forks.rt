@@ -1,6 +1,6 @@
 //! The forks of a name, in a row.
 
-ghost use Rattle.std.specs.Prelude.{◌≡◌, ◌<◌, ◌≤◌, ◌-◌, ◌∷◌, ◌++◌, [], drop, length, slice_index_or, take, IfOk};
+ghost use Rattle.std.specs.Prelude.{◌≡◌, ◌<◌, ◌≤◌, ◌-◌, ◌∷◌, ◌++◌, [], drop, length, slice_index_or, take, IfOk, IsTrue};
 ghost use Rattle.machine_names.specs.Forks.{IsNamed};
 
 use crate::name::Branch;
@@ -72,6 +72,14 @@ impl Forks {
             Row::Few(forks) => &forks[at],
             Row::Many(forks) => forks.get(at),
         }
+    }
+
+    /// Whether there is this fork at a place.
+    #[inline]
+    pub(crate) fn has_at(&self, at: usize, fork: Branch) -> bool
+        ensures { IsTrue result → (at < length self.now) × (fork ≡ slice_index_or self.now at fork) }
+    {
+        at < self.len() && self.get(at).cmp(&fork).is_eq()
     }
 
     /// The last of the first forks, as many as `count` tells, if there is one.

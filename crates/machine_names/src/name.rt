@@ -1,11 +1,13 @@
 //! Names of machines, which are keys of maps too.
 
 ghost use Rattle.std.specs.Prelude.{◌≡◌, ◌<◌, ◌≤◌, ◌+◌, ◌*◌, ◌^◌, [], drop, length, take, IfOk, IsTrue, MatchOption, OnErr, string_bytes};
+ghost use Rattle.std.specs.Arc.{arc_value};
 ghost use Rattle.std.specs.Fmt.{WritesOnOk};
 ghost use Rattle.std.specs.List.{flat_map};
 ghost use Rattle.forest_tree.specs.Tree.{Path, beyond, is_below};
 ghost use Rattle.io_edge.specs.Outside.{HasRisen};
 ghost use Rattle.io_edge.specs.Streamed.{Streams};
+ghost use Rattle.machine_names.specs.Forks.{BeginsWith};
 ghost use Rattle.machine_names.specs.Name.{begins_with, branch_text, child_path, name_text, next_of};
 ghost use Rattle.machine_names.specs.NameOrder.{back_cmp};
 
@@ -181,30 +183,30 @@ impl Ord for Branch {
 }
 
 /// The name of a machine: for each fork on the way to it from the root, the ticket and which child of
-/// the ticket it is. The root's name has none. A copy of a name, and the name of a parent, share the forks
-/// with it; a child's name shares them but for the last few. Names are in the order of their numbers of
+/// the ticket it is. The root's name has none. A copy of a name, and the name of a parent, share a row of forks
+/// with it, and so do the names of siblings. Names are in the order of their numbers of
 /// forks, and by the last forks where these are as many.
 #[derive(Drop)]
 pub struct Name {
-    /// The forks of this name, and maybe others behind them.
-    branches: Arc<Forks>,
-    /// How many of them are of this name.
+    /// The forks on the way to the parent, and maybe others behind them.
+    above: Arc<Forks>,
+    /// How many forks there are, with the last.
     depth: usize,
-    /// The last of these, if there is one. It decides most comparisons, which look at no row then.
+    /// The last fork, if there is one. It decides most comparisons, which look at no row then.
     last: Branch,
 }
 
 impl Model for Name {
-    ghost use Rattle.std.specs.Prelude.{take};
+    ghost use Rattle.std.specs.Prelude.{◌-◌, ◌≤◌, length};
     ghost use Rattle.std.specs.Arc.{arc_value};
     ghost use Rattle.forest_tree.specs.Tree.{Path};
-    ghost use Rattle.machine_names.specs.Forks.{IsNamed};
+    ghost use Rattle.machine_names.specs.Forks.{named};
 
     ghost Value = { Path };
 
-    ghost view = { λ n. take n.depth (arc_value n.branches) };
+    ghost view = { λ n. named n.depth n.last (arc_value n.above) };
 
-    ghost invariant = { λ n. IsNamed n.depth n.last (arc_value n.branches) };
+    ghost invariant = { λ n. n.depth - 1 ≤ length (arc_value n.above) };
 }
 
 impl Name {
@@ -223,25 +225,58 @@ impl Name {
     }
 
     /// The name that has all forks of a row.
-    fn of_forks(alloc: Global, branches: Forks) -> Result<Name, AllocError>
-        ensures { IfOk result (λ name. name ≡ branches) }
+    fn of_forks(alloc: Global, forks: Forks) -> Result<Name, AllocError>
+        ensures { IfOk result (λ name. name ≡ forks) }
     {
-        let depth = branches.len();
-        let last = branches.last_of(depth);
+        let depth = forks.len();
+        let last = forks.last_of(depth);
         Ok(Name {
-            branches: Arc::new(alloc, branches)?,
+            above: Arc::new(alloc, forks)?,
             depth,
             last,
         })
     }
 
-    /// The name of a child of this machine. Where its forks are many it costs a handle for each 64 forks of this
-    /// name, and copies of the forks behind these, which are less than 64; else a copy of this name's forks.
+    /// The name of a child of this machine. Where this name's row has its last fork too it costs one handle, else a row
+    /// as `whole` makes it.
     pub fn child(&self, alloc: Global, ticket: u32, index: u32) -> Result<Name, AllocError>
         ensures { IfOk result (λ name. name ≡ child_path self.now ticket index) }
     {
-        let last = Branch::new(ticket, index);
-        Name::of_forks(alloc, self.branches.followed_by(alloc, self.depth, last)?)
+        let Some(depth) = self.depth.checked_add(1) else {
+            return Err(AllocError);
+        };
+        Ok(Name {
+            above: self.row(alloc)?,
+            depth,
+            last: Branch::new(ticket, index),
+        })
+    }
+
+    /// The same name, whose row has its last fork too: the names of its children share it. Where its forks are many it
+    /// costs a handle for each 64 of them, and copies of the forks behind these, which are less than 64; else a copy of
+    /// its forks, and where the row has them all one handle.
+    pub fn whole(&self, alloc: Global) -> Result<Name, AllocError>
+        ensures { IfOk result (λ name. name ≡ self.now) }
+    {
+        Ok(Name {
+            above: self.row(alloc)?,
+            depth: self.depth,
+            last: self.last,
+        })
+    }
+
+    /// A row that begins with the forks of this name.
+    fn row(&self, alloc: Global) -> Result<Arc<Forks>, AllocError>
+        ensures { IfOk result (λ row. BeginsWith self.now (arc_value row)) }
+    {
+        if self.depth == 0 {
+            return Arc::try_clone(&self.above);
+        }
+        if self.above.has_at(self.depth - 1, self.last) {
+            return Arc::try_clone(&self.above);
+        }
+        let all = self.above.followed_by(alloc, self.depth - 1, self.last)?;
+        Ok(Arc::new(alloc, all)?)
     }
 
     /// The same name once more. It costs one handle.
@@ -249,7 +284,7 @@ impl Name {
         ensures { IfOk result (λ name. name ≡ self.now) }
     {
         Ok(Name {
-            branches: Arc::try_clone(&self.branches)?,
+            above: Arc::try_clone(&self.above)?,
             depth: self.depth,
             last: self.last,
         })
@@ -276,7 +311,20 @@ impl Name {
         ensures streams { Streams (K.gone sink.old) (K.gone sink.new) buffer.old (name_text self.now) buffer.new result }
     {
         buffer.put(sink, b"0")?;
-        put_first(&self.branches, self.depth, buffer, sink)
+        self.put_forks(buffer, sink)
+    }
+
+    /// Puts out the forks in text, one after another.
+    fn put_forks<K: Sink>(&self, buffer: &mut SinkBuffer, sink: &mut K) -> Result<(), WriteFault>
+        ensures counts { K.faults sink.old ≤ K.faults sink.new }
+        ensures fault { OnErr result (HasRisen (K.faults sink.old) (K.faults sink.new)) }
+        ensures streams { Streams (K.gone sink.old) (K.gone sink.new) buffer.old (flat_map branch_text self.now) buffer.new result }
+    {
+        if self.depth == 0 {
+            return Ok(());
+        }
+        put_first(&self.above, self.depth - 1, buffer, sink)?;
+        self.last.put(buffer, sink)
     }
 
     /// Takes the last fork off, its ticket and its child's number, so that the parent's name is left. The
@@ -289,7 +337,7 @@ impl Name {
         }
         let last = self.last;
         self.depth -= 1;
-        self.last = self.branches.last_of(self.depth);
+        self.last = self.above.last_of(self.depth);
         Some((last.ticket, last.child))
     }
 
@@ -300,7 +348,8 @@ impl Name {
         if self.depth == 0 {
             return None;
         }
-        Some((self.last.ticket, self.last.child))
+        let last = self.last;
+        Some((last.ticket, last.child))
     }
 
     /// Whether this name goes on from another by a child of a ticket.
@@ -327,10 +376,29 @@ impl Name {
         if self.depth <= name.depth {
             return None;
         }
-        if cmp_back(&self.branches, &name.branches, name.depth).is_ne() {
+        if name.cmp_begin(&self.above).is_ne() {
             return None;
         }
-        Some(*self.branches.get(name.depth))
+        if self.depth - 1 == name.depth {
+            return Some(self.last);
+        }
+        Some(*self.above.get(name.depth))
+    }
+
+    /// How the first forks of a row, as many as this name has, compare with it, from the last of them back.
+    fn cmp_begin(&self, forks: &Forks) -> Ordering
+        requires { length self.now ≤ length forks.now }
+        ensures { result ≡ back_cmp (take (length self.now) forks.now) self.now }
+    {
+        if self.depth == 0 {
+            return Ordering::Equal;
+        }
+        let before = self.depth - 1;
+        let order = forks.get(before).cmp(&self.last);
+        if order.is_ne() {
+            return order;
+        }
+        cmp_back(forks, &self.above, before)
     }
 
     /// How it compares with a name of as many forks, from the last of them back.
@@ -347,7 +415,7 @@ impl Name {
         if order.is_ne() {
             return order;
         }
-        cmp_back(&self.branches, &other.branches, self.depth - 1)
+        cmp_back(&self.above, &other.above, self.depth - 1)
     }
 }
 
@@ -478,7 +546,7 @@ impl Ord for Name {
 
     #[tactic(auto, unfolding(crate::specs::NameOrder::path_cmp))]
     fn cmp(&self, other: &Name) -> Ordering {
-        let order = self.depth.cmp(&other.depth);
+        let order = self.depth().cmp(&other.depth());
         if order.is_ne() {
             return order;
         }
@@ -494,8 +562,19 @@ impl fmt::Display for Name {
 
     fn fmt<W: fmt::Write>(&self, f: &mut fmt::Formatter<W>) -> fmt::Result {
         write!(f, "0")?;
-        write_first(f, &self.branches, self.depth)
+        write_forks(f, self)
     }
+}
+
+/// Writes the forks of a name in text, one after another.
+fn write_forks<W: fmt::Write>(f: &mut fmt::Formatter<W>, name: &Name) -> fmt::Result
+    ensures { WritesOnOk W.write_str_gives f.old result (flat_map branch_text name.now) f.new }
+{
+    if name.depth == 0 {
+        return Ok(());
+    }
+    write_first(f, &name.above, name.depth - 1)?;
+    write_branch(f, name.last)
 }
 
 /// Writes the first forks of a list in text, one after another.

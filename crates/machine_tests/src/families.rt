@@ -10,7 +10,7 @@ use crate::equal::succeeds;
 use crate::guests::{TWO_CHILDREN, booted, with_clones};
 use forest_model::Options;
 use fork_board::{Board, Pass};
-use host_workers::{Finish, Gate, MAX_WORKERS, OpenGate, Settings, run_hosts};
+use host_workers::{Finish, Gate, MAX_WORKERS, OpenGate, Settings, Site, run_hosts};
 use image_depot::{Depot, Sent};
 use page_claims::Claims;
 use run_report::Outcome;
@@ -100,7 +100,12 @@ fn run_family<R: AllocGlobal + Threads + Wait + Abort + Sync, W: Wire + Send, G:
     ensures { result.0.board ≡ board.now }
 {
     let (claims, claiming) = succeeds(rt, Claims::new(rt.alloc(), 256, 64, 8));
-    let (pass, _, finish) = run_hosts(rt, board, pass, &claims, claiming, depot, wires, settings);
+    let site = Site {
+        board,
+        depot,
+        claims: &claims,
+    };
+    let (pass, _, finish) = run_hosts(rt, &site, pass, claiming, wires, settings);
     (pass, finish)
 }
 

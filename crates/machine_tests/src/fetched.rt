@@ -5,7 +5,7 @@ ghost use Rattle.vm_cell.specs.Keyed.{IsOfDepot};
 use crate::absent::{ChildCourse, child_does};
 use crate::equal::{are_equal, succeeds};
 use elf_load::RAM_BASE;
-use host_fetch::fetch;
+use host_fetch::Fetcher;
 use image_depot::Depot;
 use page_claims::Claims;
 use std::alloc::Global;
@@ -39,9 +39,13 @@ pub(crate) fn fetches_two<R: Abort + Wait>(rt: &R, alloc: Global, child: &mut Vm
     let mut told = Vec::new(alloc);
     let before = first_here(child);
     let (claims, claiming) = succeeds(rt, Claims::new(alloc, 8, 16, 0));
-    let (_, answer) = fetch(
-        rt, alloc, child, depot, &mut wire, 1, &claims, claiming, &mut told,
-    );
+    let fetcher = Fetcher {
+        depot,
+        claims: &claims,
+        ahead: 1,
+        alloc,
+    };
+    let (_, answer) = fetcher.fetch(rt, child, &mut wire, claiming, &mut told);
     let fetched = (before, answer, first_here(child), told.len());
     let want = ([false, false, true], Ok(()), [true, true, true], 2);
     are_equal(rt, &fetched, &want);

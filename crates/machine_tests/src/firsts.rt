@@ -5,7 +5,7 @@ ghost use Rattle.std.specs.Prelude.{◌≤◌, length};
 use crate::equal::{are_equal, succeeds};
 use crate::families::{board_of, seeded, ungated};
 use crate::guests::{GRANDCHILD, LONG_CHAIN, THOUSAND_CHILDREN, TWO_CHILDREN, with_clones};
-use host_workers::{Finish, MAX_WORKERS, run_hosts};
+use host_workers::{Finish, MAX_WORKERS, Site, run_hosts};
 use image_depot::{Depot, Sent};
 use page_claims::Claims;
 use std::alloc::Global;
@@ -47,9 +47,12 @@ fn claimed_by<R: AllocGlobal + Threads + Wait + Abort + Sync>(
     let (claims, claiming) = succeeds(rt, Claims::new(alloc, IMAGES, 64, 0));
     let mut wires = succeeds(rt, seeded(alloc, workers));
     let settings = ungated(slice, 4);
-    let (pass, claiming, finish) = run_hosts(
-        rt, &board, pass, &claims, claiming, &depot, &mut wires, &settings,
-    );
+    let site = Site {
+        board: &board,
+        depot: &depot,
+        claims: &claims,
+    };
+    let (pass, claiming, finish) = run_hosts(rt, &site, pass, claiming, &mut wires, &settings);
     let world = board.close(rt, pass);
     Claimed {
         finish,

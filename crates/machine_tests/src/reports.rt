@@ -11,7 +11,7 @@ use forest_model::{Ending, Handed};
 use fork_port::MAX_HANDED;
 use io_edge::MemSink;
 use machine_names::Name;
-use run_report::{Line, Outcome, report_into};
+use run_report::{Line, Outcome, OutcomeRoom, report_into};
 use std::alloc::{AllocFailed, Global};
 use std::collections::BTreeMap;
 use std::process::Abort;
@@ -86,9 +86,30 @@ fn is_reported(rt: &impl Abort, alloc: Global, outcome: &Outcome, text: &[u8]) {
     are_equal(rt, &(put, sink.bytes()), &(Ok(()), text));
 }
 
+/// An outcome.
+fn outcome_of(
+    rt: &impl Abort,
+    name: Name,
+    ending: Option<Ending>,
+    steps: u64,
+    output: Vec<u8>,
+    log: Vec<Line>,
+    alloc: Global,
+) -> Outcome {
+    let room = succeeds(rt, OutcomeRoom::new(alloc));
+    Outcome::new(room, name, ending, steps, output, log)
+}
+
 /// An outcome with no output.
-fn silent(name: Name, ending: Ending, steps: u64, log: Vec<Line>, alloc: Global) -> Outcome {
-    Outcome::new(name, Some(ending), steps, Vec::new(alloc), log)
+fn silent(
+    rt: &impl Abort,
+    name: Name,
+    ending: Ending,
+    steps: u64,
+    log: Vec<Line>,
+    alloc: Global,
+) -> Outcome {
+    outcome_of(rt, name, Some(ending), steps, Vec::new(alloc), log, alloc)
 }
 
 /// A log of a killed ticket.
@@ -111,7 +132,15 @@ fn one_machine_puts_out_its_bytes(rt: HostRuntime) {
     let root = succeeds(&rt, Name::root(alloc));
     let name = succeeds(&rt, root.child(alloc, 1, 2));
     let output = succeeds(&rt, Vec::from_slice(alloc, b"A"));
-    let outcome = Outcome::new(name, Some(Ending::Limit), 10, output, Vec::new(alloc));
+    let outcome = outcome_of(
+        &rt,
+        name,
+        Some(Ending::Limit),
+        10,
+        output,
+        Vec::new(alloc),
+        alloc,
+    );
     is_reported(
         &rt,
         alloc,
@@ -125,11 +154,11 @@ fn machines_that_wait_are_stuck(rt: HostRuntime) {
     let alloc = rt.alloc();
     let root = succeeds(&rt, Name::root(alloc));
     let child = succeeds(&rt, root.child(alloc, 1, 1));
-    let child = Outcome::new(child, None, 2, Vec::new(alloc), Vec::new(alloc));
+    let child = outcome_of(&rt, child, None, 2, Vec::new(alloc), Vec::new(alloc), alloc);
     let mut log = Vec::new(alloc);
     join(&rt, &mut log, child);
     let output = succeeds(&rt, Vec::from_slice(alloc, b"A"));
-    let outcome = Outcome::new(root, None, 4, output, log);
+    let outcome = outcome_of(&rt, root, None, 4, output, log, alloc);
     is_reported(
         &rt,
         alloc,
@@ -145,6 +174,7 @@ static VALUES: [(u32, u32); 2] = [(1, 41), (2, 42)];
 fn child_of(rt: &impl Abort, alloc: Global, root: &Name, index: u32, value: u32) -> Outcome {
     let name = succeeds(rt, root.child(alloc, 1, index));
     silent(
+        rt,
         name,
         Ending::Exit(value, Handed::none()),
         16,
@@ -160,7 +190,7 @@ fn family(rt: &impl Abort, alloc: Global) -> Outcome {
     for (index, value) in VALUES.iter() {
         join(rt, &mut log, child_of(rt, alloc, &root, *index, *value));
     }
-    silent(root, Ending::Exit(41, Handed::none()), 21, log, alloc)
+    silent(rt, root, Ending::Exit(41, Handed::none()), 21, log, alloc)
 }
 
 #[test]
@@ -219,14 +249,14 @@ fn hands_over(rt: &impl Abort, alloc: Global, bytes: &[u8], text: &[u8]) {
     assert!(rt; bytes.len() <= MAX_HANDED);
     let root = succeeds(rt, Name::root(alloc));
     let ending = Ending::Exit(7, Handed::of(bytes));
-    let outcome = silent(root, ending, 7, Vec::new(alloc), alloc);
+    let outcome = silent(rt, root, ending, 7, Vec::new(alloc), alloc);
     is_reported(rt, alloc, &outcome, text);
 }
 
 fn is_told(rt: &impl Abort, alloc: Global, ending: Ending, steps: u64, text: &[u8]) {
     let root = succeeds(rt, Name::root(alloc));
     let log = log_of(rt, alloc, &root, 1, 2);
-    let outcome = silent(root, ending, steps, log, alloc);
+    let outcome = silent(rt, root, ending, steps, log, alloc);
     is_reported(rt, alloc, &outcome, text);
 }
 
@@ -234,7 +264,7 @@ fn is_told(rt: &impl Abort, alloc: Global, ending: Ending, steps: u64, text: &[u
 fn grandchild_of(rt: &impl Abort, alloc: Global, child: &Name) -> Outcome {
     let name = succeeds(rt, child.child(alloc, 1, 1));
     let log = log_of(rt, alloc, &name, 7, 3);
-    silent(name, Ending::Exit(17, Handed::none()), 29, log, alloc)
+    silent(rt, name, Ending::Exit(17, Handed::none()), 29, log, alloc)
 }
 
 /// Its parent, which has killed one too.
@@ -243,7 +273,7 @@ fn two_levels(rt: &impl Abort, alloc: Global, child: Name) -> Outcome {
     join(rt, &mut log, grandchild_of(rt, alloc, &child));
     let name = succeeds(rt, child.copy());
     succeeds(rt, log.push(Line::ticket(name, 2, 1)));
-    silent(child, Ending::Limit, 35, log, alloc)
+    silent(rt, child, Ending::Limit, 35, log, alloc)
 }
 
 /// The root of those, which has killed one before.
@@ -252,7 +282,7 @@ fn three_levels(rt: &impl Abort, alloc: Global) -> Outcome {
     let mut log = log_of(rt, alloc, &root, 3, 5);
     let child = succeeds(rt, root.child(alloc, 1, 1));
     join(rt, &mut log, two_levels(rt, alloc, child));
-    silent(root, Ending::Exit(17, Handed::none()), 26, log, alloc)
+    silent(rt, root, Ending::Exit(17, Handed::none()), 26, log, alloc)
 }
 
 #[test]
@@ -345,7 +375,7 @@ fn many_lines(rt: &impl Abort, alloc: Global) -> Outcome {
         let name = succeeds(rt, root.copy());
         succeeds(rt, log.push(Line::ticket(name, 1, 2)));
     }
-    silent(root, Ending::Limit, 10, log, alloc)
+    silent(rt, root, Ending::Limit, 10, log, alloc)
 }
 
 #[test]
@@ -380,7 +410,15 @@ fn a_long_output_goes_out_as_it_lies(rt: HostRuntime) {
     let output = succeeds(&rt, vec![in alloc; b'A'; 10_000]);
     let text = long_text(&rt, alloc, &output);
     let root = succeeds(&rt, Name::root(alloc));
-    let outcome = Outcome::new(root, Some(Ending::Limit), 10, output, Vec::new(alloc));
+    let outcome = outcome_of(
+        &rt,
+        root,
+        Some(Ending::Limit),
+        10,
+        output,
+        Vec::new(alloc),
+        alloc,
+    );
     is_cut_at_each_fault(&rt, alloc, &outcome, &text, &LONG_CUTS);
 }
 
@@ -392,7 +430,7 @@ fn chain(rt: &impl Abort, alloc: Global) -> Outcome {
     let mut log = Vec::new(alloc);
     add_chain(rt, alloc, &mut log);
     let root = succeeds(rt, Name::root(alloc));
-    silent(root, Ending::Exit(0, Handed::none()), 19, log, alloc)
+    silent(rt, root, Ending::Exit(0, Handed::none()), 19, log, alloc)
 }
 
 /// Adds the lines of the machines below the root.
@@ -408,6 +446,7 @@ fn add_chain(rt: &impl Abort, alloc: Global, log: &mut Vec<Line>) {
 fn ended(rt: &impl Abort, alloc: Global, name: &Name) -> Outcome {
     let name = succeeds(rt, name.copy());
     silent(
+        rt,
         name,
         Ending::Exit(0, Handed::none()),
         19,

@@ -5,7 +5,7 @@ ghost use Rattle.guest_mem.specs.Ram.{IsRamOf};
 use crate::equal::{are_equal, succeeds};
 use crate::guests::{bare_clone, booted, frozen};
 use crate::waiting::Guest;
-use host_fetch::{FetchError, fetch};
+use host_fetch::{FetchError, Fetcher};
 use image_depot::Depot;
 use page_claims::Claims;
 use std::alloc::Global;
@@ -40,9 +40,13 @@ fn fetched_by<R: Abort + Wait>(
 {
     let mut told = Vec::new(alloc);
     let (claims, claiming) = succeeds(rt, Claims::new(alloc, 1, 16, 0));
-    let (_, answer) = fetch(
-        rt, alloc, guest, depot, wire, 1, &claims, claiming, &mut told,
-    );
+    let fetcher = Fetcher {
+        depot,
+        claims: &claims,
+        ahead: 1,
+        alloc,
+    };
+    let (_, answer) = fetcher.fetch(rt, guest, wire, claiming, &mut told);
     (answer.err(), first_here(guest), told.len())
 }
 

@@ -1,7 +1,7 @@
 -- Page tables, and the flat memory that they stand for.
-use Rattle.std.specs.Prelude.{ℕ, ◌+◌, ◌*◌, ◌/◌, ◌%◌, Bool, true, false, List, [], ◌∷◌, length, map, slice_index, slice_index_or}
+use Rattle.std.specs.Prelude.{◌≡◌, ℕ, ◌+◌, ◌*◌, ◌/◌, ◌%◌, Bool, true, false, List, [], ◌∷◌, length, map, slice_index, slice_index_or, slice_set}
 use Rattle.std.specs.List.{range_with_len}
-use Rattle.flat_memory.specs.Flat.{zeros}
+use Rattle.flat_memory.specs.Flat.{put_bytes, zeros}
 use Rattle.page_frames.specs.declared.page.TheConstants.{PAGE_SIZE}
 use Rattle.page_frames.specs.declared.entry.Entry.{Entry}
 use Rattle.page_frames.specs.declared.entry.Entry.TheVariants.{Held, Blank, Absent}
@@ -28,9 +28,21 @@ entry_bytes (Held page) = page
 entry_bytes Blank = zeros PAGE_SIZE
 entry_bytes Absent = []
 
+-- a page of the table's own has these bytes from a place on, and the entry then holds it
+pub record IsWritten (old : Entry) (at : ℕ) (bytes : List ℕ) (new : Entry) : Type 0 where
+  pub own : is_own old ≡ true
+  pub whole : length (entry_bytes old) ≡ PAGE_SIZE
+  pub is : new ≡ Held (put_bytes (entry_bytes old) at bytes)
+
 -- the entry of a page
 abbrev pub entry_at : List Entry → ℕ → Entry
 entry_at entries page = slice_index_or entries page Absent
+
+-- the same of a table and one of its pages
+pub record IsWrittenIn (old : List Entry) (page at : ℕ) (bytes : List ℕ) (new : List Entry) : Type 0 where
+  pub own : is_own (entry_at old page) ≡ true
+  pub whole : length (entry_bytes (entry_at old page)) ≡ PAGE_SIZE
+  pub is : new ≡ slice_set old page (Held (put_bytes (entry_bytes (entry_at old page)) at bytes))
 
 -- the byte at a place of a page, which is `below` in the memory below the table
 abbrev pub byte_over : Entry → ℕ → ℕ → ℕ

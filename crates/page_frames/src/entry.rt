@@ -1,6 +1,6 @@
-ghost use Rattle.std.specs.Prelude.{◌≡◌, ◌+◌, ◌≤◌, length, IsTrue, OnOk, OnErr};
+ghost use Rattle.std.specs.Prelude.{◌≡◌, ◌+◌, ◌≤◌, length, IsTrue, MatchBool, OnOk, OnErr};
 ghost use Rattle.flat_memory.specs.Flat.{word_at, put_bytes, zeros};
-ghost use Rattle.page_frames.specs.Tables.{entry_bytes, is_blank, is_own};
+ghost use Rattle.page_frames.specs.Tables.{IsWritten, entry_bytes, is_blank, is_own};
 
 use crate::page::{PAGE_SIZE, Page};
 use shared_leaves::{Handle, SharedList};
@@ -108,6 +108,19 @@ impl Entry {
             Entry::Held(page) => page.write(at, bytes),
             Entry::Blank => self.fill(alloc, at, bytes),
             Entry::Absent => unreachable!(),
+        }
+    }
+
+    /// Writes bytes over those from a place of a page on that this entry holds and no other shares, and answers whether
+    /// it is such a one. Else nothing changes.
+    #[inline(always)]
+    pub fn write_own(&mut self, at: u32, bytes: &[u8]) -> bool
+        requires { at + length bytes.now ≤ PAGE_SIZE }
+        ensures { MatchBool result (IsWritten self.old at bytes.now self.new) (self.new ≡ self.old) }
+    {
+        match self {
+            Entry::Held(page) => page.write_own(at, bytes),
+            Entry::Blank | Entry::Absent => false,
         }
     }
 

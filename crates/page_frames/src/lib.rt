@@ -8,4 +8,4 @@ mod table;
 
 pub use entry::{Entry, PageTable};
 pub use page::{PAGE_SIZE, Page};
-pub use table::write_page;
+pub use table::{write_own_page, write_page};

@@ -1,4 +1,4 @@
-ghost use Rattle.std.specs.Prelude.{◌≡◌, ◌+◌, ◌<◌, ◌≤◌, length, slice_index, OnOk, OnErr, IfOk};
+ghost use Rattle.std.specs.Prelude.{◌≡◌, ◌+◌, ◌<◌, ◌≤◌, length, slice_index, MatchBool, OnOk, OnErr, IfOk};
 ghost use Rattle.std.specs.Arc.{arc_value};
 ghost use Rattle.flat_memory.specs.Flat.{word_at, half_at, put_bytes, zeros};
 
@@ -120,6 +120,17 @@ impl Page {
     {
         write_frame(&mut self.frame, at as usize, bytes)
     }
+
+    /// Writes bytes over those from a place on, where no other page shares them, and answers whether it has. Else
+    /// nothing changes.
+    #[inline(always)]
+    pub fn write_own(&mut self, at: u32, bytes: &[u8]) -> bool
+        requires { at + length bytes.now ≤ PAGE_SIZE }
+        ensures written { MatchBool result (self.new ≡ put_bytes self.old at bytes.now) (self.new ≡ self.old) }
+        ensures whole { length self.old ≡ PAGE_SIZE }
+    {
+        write_own_frame(&mut self.frame, at as usize, bytes)
+    }
 }
 
 /// Writes bytes of a frame, of which this owner gets a copy first where there are others.
@@ -129,11 +140,25 @@ fn write_frame(frame: &mut Arc<PageBytes>, at: usize, bytes: &[u8]) -> Result<()
     ensures ok { OnOk result ((arc_value frame.new).bytes ≡ put_bytes (arc_value frame.old).bytes at bytes.now) }
     ensures err { OnErr result ((arc_value frame.new).bytes ≡ (arc_value frame.old).bytes) }
 {
-    if let Some(own) = Arc::get_mut(frame) {
-        write_bytes(&mut own.bytes, at, bytes);
+    if write_own_frame(frame, at, bytes) {
         return Ok(());
     }
     write_copy(frame, at, bytes)
+}
+
+/// The same where this is the one owner, and it answers whether it is. Else nothing changes.
+#[inline(always)]
+fn write_own_frame(frame: &mut Arc<PageBytes>, at: usize, bytes: &[u8]) -> bool
+    requires { at + length bytes.now ≤ length (arc_value frame.old).bytes }
+    ensures { MatchBool result
+        ((arc_value frame.new).bytes ≡ put_bytes (arc_value frame.old).bytes at bytes.now)
+        ((arc_value frame.new).bytes ≡ (arc_value frame.old).bytes) }
+{
+    let Some(own) = Arc::get_mut(frame) else {
+        return false;
+    };
+    write_bytes(&mut own.bytes, at, bytes);
+    true
 }
 
 /// The same where there are others. It is apart and never inlined, so that a write to a page that has

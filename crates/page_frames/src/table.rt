@@ -1,8 +1,8 @@
 //! Writes to the pages of a table.
 
-ghost use Rattle.std.specs.Prelude.{◌≡◌, ◌+◌, ◌<◌, ◌≤◌, length, slice_set, IsTrue, OnOk, OnErr};
+ghost use Rattle.std.specs.Prelude.{◌≡◌, ◌+◌, ◌<◌, ◌≤◌, length, slice_set, IsTrue, MatchBool, OnOk, OnErr};
 ghost use Rattle.flat_memory.specs.Flat.{put_bytes};
-ghost use Rattle.page_frames.specs.Tables.{entry_at, entry_bytes, is_own};
+ghost use Rattle.page_frames.specs.Tables.{IsWrittenIn, entry_at, entry_bytes, is_own};
 
 use crate::entry::{Entry, PageTable};
 use crate::page::PAGE_SIZE;
@@ -28,4 +28,18 @@ pub fn write_page(
     let entry = table.entry_mut(page)?;
     entry.write(alloc, at, bytes)?;
     Ok(())
+}
+
+/// Writes bytes over those from a place of a page on that this table holds, where no other table shares its leaf and no other
+/// entry the page, and answers whether it is such a one. Else nothing changes.
+#[inline(always)]
+pub fn write_own_page(table: &mut PageTable, page: usize, at: u32, bytes: &[u8]) -> bool
+    requires there { page < length table.old }
+    requires within { at + length bytes.now ≤ PAGE_SIZE }
+    ensures { MatchBool result (IsWrittenIn table.old page at bytes.now table.new) (table.new ≡ table.old) }
+{
+    match table.own_entry_mut(page) {
+        Some(entry) => entry.write_own(at, bytes),
+        None => false,
+    }
 }

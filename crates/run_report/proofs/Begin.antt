@@ -6,7 +6,7 @@ use Rattle.fork_port.specs.declared.ending.Ending.{Ending}
 use Rattle.forest_tree.specs.Tree.{Broods, no_brood, brood, Log, Path, Tree, Trees, node, brood_of}
 use Rattle.sibling_forest.specs.Talk.{Box}
 use Rattle.forest_model.specs.Machine.{Machine}
-use Rattle.run_report.specs.Lines.{Line, Told, block_of, in_order, lines, log_lines, trees_lines, blocks, machine_line, text_of}
+use Rattle.run_report.specs.Lines.{Told, block_of, in_order, lines, log_lines, trees_lines, blocks, machine_line, text_of}
 use Rattle.run_report.specs.Report.{Ended, lines_of, report, report_of, told_box}
 use Rattle.run_report.specs.Summary.{summary, summary_of, summary_text, summed}
 

@@ -3,7 +3,7 @@ use Rattle.std.proofs.Common.{◌≡◌, ℕ, suc, refl, ap, ap₂, List, [], �
 use Rattle.forest_tree.specs.Tree.{Tree, node, Trees, no_tree, tree, Broods, no_brood, brood, Log, no_entry, joined, killed, Path}
 use Rattle.forest_tree.specs.Projection.{map_tree, map_trees, map_broods, map_log}
 use Rattle.machine_names.specs.Name.{child_path}
-use Rattle.run_report.specs.Lines.{Line, Block, machine_line, ticket_line, Told, TellsSame, in_order, own_line, lines, trees_lines, log_lines, blocks}
+use Rattle.run_report.specs.Lines.{Line, Block, ticket_line, Told, TellsSame, in_order, own_line, lines, trees_lines, log_lines, blocks}
 
 module _ {M N : Type 0} (told : Told M) (less : Told N) (f : M → N) (same : TellsSame told less f) where
   own-map : (path : Path) (m : M) → own_line less path (f m) ≡ own_line told path m

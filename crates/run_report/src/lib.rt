@@ -3,9 +3,11 @@
 
 pub mod laws;
 mod line;
+mod machine_end;
 mod report;
 mod summary;
 
 pub use line::Line;
+pub use machine_end::OutcomeRoom;
 pub use report::{Outcome, ReportError, report_into};
 pub use summary::summary_into;

@@ -8,6 +8,7 @@ ghost use Rattle.run_report.specs.Lines.{bytes_text, end_text, ending_text, hand
 ghost use Rattle.run_report.specs.Said.{line_of_machine, line_of_ticket, piece_text};
 ghost use Rattle.run_report.specs.Summary.{IsWithin, with_line};
 
+use crate::machine_end::MachineEnd;
 use crate::summary::Summary;
 use forest_model::Ending;
 use fork_port::MAX_HANDED;
@@ -22,10 +23,7 @@ const MAX_DIGITS: usize = 2 * MAX_HANDED;
 #[derive(Drop)]
 pub(crate) struct MachineLine {
     pub(crate) name: Name,
-    /// None where it is stuck.
-    pub(crate) ending: Option<Ending>,
-    pub(crate) steps: u64,
-    pub(crate) output: Vec<u8>,
+    pub(crate) end: MachineEnd,
 }
 
 impl MachineLine {
@@ -40,18 +38,19 @@ impl MachineLine {
         ensures fault { OnErr result (HasRisen (K.faults sink.old) (K.faults sink.new)) }
         ensures streams { Streams (K.gone sink.old) (K.gone sink.new) buffer.old (line_text (line_of_machine self.now)) buffer.new result }
     {
+        let output = self.end.output();
         let pieces = [
             Piece::Text(b"machine "),
             Piece::Named(&self.name),
             Piece::Text(b" "),
-            Piece::Ended(&self.ending),
+            Piece::Ended(&self.end),
             Piece::Text(b" steps "),
-            Piece::Number(self.steps),
+            Piece::Number(self.end.steps()),
             Piece::Text(b" out "),
-            Piece::Number(self.output.len() as u64),
-            Piece::HandedOver(&self.ending),
+            Piece::Number(output.len() as u64),
+            Piece::HandedOver(&self.end),
             Piece::Text(b"\n"),
-            Piece::Text(&self.output),
+            Piece::Text(output),
             Piece::Text(b"\n"),
         ];
         put_pieces(&pieces, buffer, sink)
@@ -166,8 +165,8 @@ impl Line {
 pub(crate) enum Piece<'a> {
     Text(&'a [u8]),
     Named(&'a Name),
-    Ended(&'a Option<Ending>),
-    HandedOver(&'a Option<Ending>),
+    Ended(&'a MachineEnd),
+    HandedOver(&'a MachineEnd),
     Number(u64),
     Sum(u128),
 }
@@ -182,8 +181,8 @@ impl Piece<'_> {
         match self {
             Piece::Text(text) => buffer.put(sink, text),
             Piece::Named(name) => name.put(buffer, sink),
-            Piece::Ended(ending) => put_end(ending, buffer, sink),
-            Piece::HandedOver(ending) => put_handed(ending, buffer, sink),
+            Piece::Ended(end) => put_end(&end.ending(), buffer, sink),
+            Piece::HandedOver(end) => put_handed(&end.ending(), buffer, sink),
             Piece::Number(number) => buffer.put_number(sink, *number),
             Piece::Sum(sum) => buffer.put(sink, itoa::Buffer::new().format(*sum).as_bytes()),
         }

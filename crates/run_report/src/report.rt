@@ -9,6 +9,7 @@ ghost use Rattle.run_report.specs.Summary.{summed};
 
 use crate::Line;
 use crate::line::MachineLine;
+use crate::machine_end::OutcomeRoom;
 use crate::summary::Summary;
 use forest_model::Ending;
 use io_edge::{Sink, SinkBuffer, WriteFault};
@@ -27,15 +28,23 @@ pub struct Outcome {
 
 impl Model for Outcome {
     ghost use Rattle.run_report.specs.Report.{Ended};
+    ghost use Rattle.run_report.specs.MachineEnd.{ending_in, output_in, steps_in};
 
     ghost Value = { Ended };
 
-    ghost view = { λ o. record { name = o.own.name; ending = o.own.ending; steps = o.own.steps; output = o.own.output.items; log = o.log.items } };
+    ghost view = { λ o. record {
+      name = o.own.name;
+      ending = ending_in o.own.end;
+      steps = steps_in o.own.end;
+      output = output_in o.own.end;
+      log = o.log.items;
+    } };
 }
 
 impl Outcome {
-    /// A machine of this name, with how it ended, or none where it is stuck.
+    /// A machine of this name, with how it ended, or none where it is stuck. It takes no memory but this room.
     pub fn new(
+        room: OutcomeRoom,
         name: Name,
         ending: Option<Ending>,
         steps: u64,
@@ -47,9 +56,7 @@ impl Outcome {
         Outcome {
             own: MachineLine {
                 name,
-                ending,
-                steps,
-                output,
+                end: room.filled(ending, steps, output),
             },
             log,
         }
@@ -66,7 +73,7 @@ impl Outcome {
     pub fn ending(&self) -> Option<Ending>
         ensures { result ≡ self.now.ending }
     {
-        self.own.ending
+        self.own.end.ending()
     }
 
     /// How many lines there are, its own among them.

@@ -61,9 +61,9 @@ impl Summary {
         ensures within { (most : ℕ) → IsWithin most self.old → IsWithin (most + 2 ^ 64) self.new }
     {
         self.machines += 1;
-        self.steps += line.steps as u128;
-        self.exits = self.exits.wrapping_add(exit_value(line.ending));
-        self.out += line.output.len() as u128;
+        self.steps += line.end.steps() as u128;
+        self.exits = self.exits.wrapping_add(exit_value(line.end.ending()));
+        self.out += line.end.output().len() as u128;
     }
 
     /// Adds a ticket that was killed.

@@ -1,8 +1,8 @@
-ghost use Rattle.std.specs.Prelude.{◌≡◌, ◌<◌, length, slice_index_or, IfOk};
+ghost use Rattle.std.specs.Prelude.{◌≡◌, ◌<◌, length, slice_index_or, IfOk, IfSome};
 ghost use Rattle.std.specs.Borrow.{sem};
 ghost use Rattle.arrayvec.specs.ArrayVec.{array_vec_len};
 ghost use Rattle.arrayvec.specs.Lends.{lends_item};
-ghost use Rattle.shared_leaves.specs.Lends.{leaf_lends};
+ghost use Rattle.shared_leaves.specs.Lends.{leaf_lends, leaf_lends_own};
 
 use crate::handle::Handle;
 use arrayvec::ArrayVec;
@@ -90,6 +90,19 @@ impl<T: Handle> Leaf<T> {
         Ok(item_mut(entries, i))
     }
 
+    /// The entry at a place, to be written, or `None` where a clone shares the entries.
+    #[inline(always)]
+    pub fn own_entry_mut(&mut self, i: usize) -> Option<&mut T>
+        requires { i < length self.old }
+        ensures* writes_back { sem 𝓛 (leaf_lends_own T.row T.Clone T.Default self.entry i result) }
+        ensures value { IfSome result (λ entry. entry.now ≡ slice_index_or self.old i entry.now) }
+    {
+        let Some(entries) = Arc::get_mut(&mut self.entries) else {
+            return None;
+        };
+        Some(item_mut(entries, i))
+    }
+
     /// Gives this leaf entries of its own where a clone shares them.
     #[inline(always)]
     fn unshare(&mut self, alloc: Global) -> Result<(), AllocError>
@@ -108,8 +121,20 @@ impl<T: Handle> Leaf<T> {
     fn copy(&mut self, alloc: Global) -> Result<(), AllocError>
         ensures { self.new ≡ self.old }
     {
-        *self = Leaf::new(alloc, ArrayVec::clone(&self.entries)?)?;
+        *self = Leaf::new(alloc, copies(&self.entries)?)?;
         Ok(())
+    }
+}
+
+/// The same entries once more. Those of a full leaf are made as an array, which takes half the time of one that grows.
+fn copies<T: Handle>(
+    entries: &ArrayVec<T, LEAF_ENTRIES>,
+) -> Result<ArrayVec<T, LEAF_ENTRIES>, AllocError>
+    ensures { IfOk result (λ copy. copy.items ≡ entries.now.items) }
+{
+    match entries.as_slice().as_array::<LEAF_ENTRIES>() {
+        Some(all) => Ok(ArrayVec::from_array_in((), all.clone()?)),
+        None => ArrayVec::clone(entries),
     }
 }
 

@@ -1,7 +1,7 @@
-ghost use Rattle.std.specs.Prelude.{◌≡◌, ◌+◌, ◌-◌, ◌*◌, ◌<◌, ◌≤◌, drop, length, slice_index_or, slice_set, take, IfOk, OnOk, OnErr};
+ghost use Rattle.std.specs.Prelude.{◌≡◌, ◌+◌, ◌-◌, ◌*◌, ◌<◌, ◌≤◌, drop, length, slice_index_or, slice_set, take, IfOk, IfSome, OnOk, OnErr};
 ghost use Rattle.std.specs.Borrow.{sem};
 ghost use Rattle.shared_leaves.specs.Leaves.{leaf_count};
-ghost use Rattle.shared_leaves.specs.Lends.{list_lends};
+ghost use Rattle.shared_leaves.specs.Lends.{list_lends, list_lends_own};
 
 use crate::handle::Handle;
 use crate::leaf::{LEAF_ENTRIES, Leaf};
@@ -98,6 +98,16 @@ impl<T: Handle> SharedList<T> {
     {
         let alloc = self.allocator();
         self.leaves[i / LEAF_ENTRIES].entry_mut(alloc, i % LEAF_ENTRIES)
+    }
+
+    /// The entry at a place, to be written in its place, or `None` where another list shares its leaf.
+    #[inline(always)]
+    pub fn own_entry_mut(&mut self, i: usize) -> Option<&mut T>
+        requires { i < length self.old }
+        ensures* writes_back { sem 𝓛 (list_lends_own T.row T.Clone T.Default self.entry i result) }
+        ensures value { IfSome result (λ entry. entry.now ≡ slice_index_or self.old i entry.now) }
+    {
+        self.leaves[i / LEAF_ENTRIES].own_entry_mut(i % LEAF_ENTRIES)
     }
 
     /// Writes the entry at a place. Its leaf is copied first where another list shares it.

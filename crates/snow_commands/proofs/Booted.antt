@@ -1,11 +1,12 @@
 -- A machine that is booted, and what is told of its family.
-use Rattle.std.proofs.Common.{◌≡◌, ℕ, [], List, Result, Ok, Err, refl, ap, ◌∙◌}
+use Rattle.std.proofs.Common.{◌≡◌, ◌⊎◌, inl, inr, ℕ, [], List, Result, Ok, Err, IfErr, IfOk, refl, sym, ap, ◌∙◌, subst}
 use Rattle.std.specs.Result.{IsOkAnd}
 use Rattle.std.specs.declared.snapshot.Snapshot.{Snapshot}
 use Rattle.image_depot.specs.Key.{Shelves}
 use Rattle.elf_load.specs.Image.{Image}
 use Rattle.command_line.specs.Words.{GuestValues}
 use Rattle.guest_files.specs.declared.stop.Stop.{Stop}
+use Rattle.guest_files.specs.declared.stop.Stop.TheVariants.{Memory, Wire}
 use Rattle.guest_files.specs.Parts.{Makes}
 use Rattle.guest_files.specs.Reads.{Guest, Refusal, and_then}
 use Rattle.drive_script.specs.Driven.{HasMachines}
@@ -21,10 +22,14 @@ use Rattle.forest_model.specs.Paged.{Paged, paged_machines, paged_talks}
 use Rattle.run_report.specs.Lines.{lines}
 use Rattle.run_report.specs.Report.{Ended as Outcome, lines_of, told_box}
 use Rattle.vm_cell.specs.Keyed.{KeyedMachine, paged}
+use Rattle.host_workers.specs.declared.finish.Finish.{Finish}
+use Rattle.host_workers.specs.declared.finish.Finish.TheVariants.{Stopped}
 use Rattle.world_core.specs.declared.reason.Reason.{Reason}
+use Rattle.world_core.specs.declared.reason.Reason.TheVariants as why
 use Rattle.world_core.specs.declared.world.World.{World}
-use Rattle.world_core.specs.World.{StandsFor}
 use Rattle.snow_commands.specs.Text.{HasLines, IsBooted, IsOfMachine, first_family, first_known, known_family, known_guest, told_by}
+use Rattle.snow_commands.specs.Writes.{MakesOver}
+use Rattle.snow_commands.proofs.TextLemmas.{told-there}
 
 pub boot-ticketless : (image : Image) (disk input : List ℕ) (options : Options) → (port_of (boot image disk input options)).tickets ≡ []
 unfolding boot
@@ -50,16 +55,23 @@ has-machine depot p made h = record {
 
 module _ (values : GuestValues) (guest : Guest) (depot : Shelves) (made : World × Snapshot KeyedMachine) where
   -- what has the lines of the family of that machine has those of the machine that is booted from the image
-  pub family-lines : (image : Result Image Refusal) (outcome : Outcome) → IsOkAnd image (IsBooted depot values guest made)
+  family-lines : (image : Result Image Refusal) (outcome : Outcome) → IsOkAnd image (IsBooted depot values guest made)
       → lines_of outcome ≡ lines told_box [] (finish (first_family made.1.value.machine))
       → IsOkAnd image (HasLines values guest outcome)
   family-lines (Ok image) outcome is ran = ran ∙ ap (λ (p : Paged). lines told_box [] (finish (first_family p.machine))) is.is
   family-lines (Err refusal) outcome is ran = absurd is
 
-  pub made-stands : (image : Result Image Refusal) → IsOkAnd image (IsBooted depot values guest made)
-      → StandsFor depot made.0 (world_of paged_machines paged_talks (paged made.1.value))
-  made-stands (Ok image) is = is.stands
-  made-stands (Err refusal) is = absurd is
+  -- what came of its family, for which else than by a lost wire only memory was wanting
+  pub family-ends : (lost : Type 0) (image : Result Image Refusal) (end : Finish) (r : Result Outcome Stop) → IsOkAnd image (IsBooted depot values guest made)
+      → IfOk r (λ outcome. lines_of outcome ≡ lines told_box [] (finish (first_family made.1.value.machine)))
+      → IfErr r (λ stop. stop ≡ Memory ⊎ (stop ≡ Wire) × (end ≡ Stopped why.Wire)) → (end ≡ Stopped why.Wire → lost)
+      → MakesOver lost image (HasLines values guest) r
+  family-ends lost image end (Ok outcome) is ran told to = family-lines image outcome is ran
+  family-ends lost image end (Err stop) is ran (inl memory) to =
+      subst (λ (s : Stop). MakesOver lost image (HasLines values guest) (Err s)) (sym memory) tt
+  family-ends lost image end (Err stop) is ran (inr wire) to =
+      subst (λ (s : Stop). MakesOver lost image (HasLines values guest) (Err s)) (sym wire.0)
+      (to wire.1, told-there (IsBooted depot values guest made) image is)
 
   -- it has machines
   pub family-there : (image : Result Image Refusal) → IsOkAnd image (IsBooted depot values guest made) → (t : Family) × HasMachines depot made.0 t

@@ -33,9 +33,8 @@ use Rattle.world_core.specs.World.{Forest}
 use Rattle.fork_board.specs.declared.note.Opening.{Opening}
 use Rattle.fork_board.specs.Follows.{Follows, family_of, opening_record, record_at}
 use Rattle.fork_board.specs.Passes.{Closes, PassValue}
-use Rattle.host_workers.specs.Finishes.{Finishes, HasStuck, IsAtEnd, stopped_for}
-use Rattle.host_workers.specs.declared.finish.Finish.{Finish}
-use Rattle.host_workers.proofs.Ending.{StuckThere, at-its-end, stuck-there}
+use Rattle.host_workers.specs.Finishes.{HasStuck, IsAtEnd}
+use Rattle.host_workers.proofs.Ending.{StuckThere, stuck-there}
 use Rattle.host_workers.proofs.Over.{over-later}
 use Rattle.snow_commands.specs.Text.{first_family}
 
@@ -167,9 +166,3 @@ module _ (opening : Opening) (log : History Reason) (w : World) (h : Follows ope
       sym (ap lines_of (some-same o outcome e)) ∙ tells.1 ∙ family-lines now
       ∙ ap (lines told_box []) (ap (λ (v : Family). bare v.tree) h.world.family ∙ at-end ends)
   ended-lines ends (Err error) outcome tells e = absurd (cc)
-
--- where a pass has seen no stop, the family is at its end
-pub unstopped-end : (pass : PassValue) (end : Finish) (reason : Option Reason) → Finishes pass end → reason ≡ stopped_for end
-    → ((r : Reason) → reason ≡ Some r → ⊥) → IsAtEnd pass
-unstopped-end pass end None ends is none = at-its-end pass end ends (sym is)
-unstopped-end pass end (Some r) ends is none = absurd (none r refl)

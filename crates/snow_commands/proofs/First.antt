@@ -1,7 +1,8 @@
 -- The first pass of a new board: no seat is foreign to it, and it has seen nothing.
-use Rattle.std.proofs.Common.{◌≡◌, ◌⊎◌, inl, inr, ℕ, ◌<◌, true, false, List, [], ◌∷◌, get_or, length, Option, Some, None, Result, Ok, Err, IfErr, IfOk, refl, ap, ◌∙◌, subst, arith}
+use Rattle.std.proofs.Common.{◌≡◌, ◌⊎◌, inl, inr, ℕ, ◌<◌, true, false, List, [], ◌∷◌, get_or, length, Option, Some, None, Result, IfOk, refl, ap, ◌∙◌, subst, arith}
 use Rattle.std.specs.Option.{IsSomeAnd}
 use Rattle.talking_history.specs.Histories.{Seat}
+use Rattle.guest_files.specs.declared.stop.Stop.{Stop}
 use Rattle.forest_model.specs.Forest.{finish}
 use Rattle.forest_model.specs.Machine.{Machine}
 use Rattle.run_report.specs.Lines.{lines}
@@ -9,12 +10,9 @@ use Rattle.run_report.specs.Report.{Ended as Outcome, lines_of, told_box}
 use Rattle.wire_fates.specs.declared.fate.TheConstants.{LONGEST_STREAK}
 use Rattle.vm_cell.specs.Keyed.{KeyedMachine}
 use Rattle.world_core.specs.declared.reason.Reason.{Reason}
-use Rattle.world_core.specs.declared.reason.Reason.TheVariants as why
 use Rattle.fork_board.specs.Passes.{BoardValue, PassValue, first_pass}
 use Rattle.host_workers.specs.Finishes.{IsForeign, IsStopped, IsStoppedElsewhere, WorkedAll, first_stop}
 use Rattle.host_workers.specs.Lost.{IsOneLost}
-use Rattle.host_workers.specs.declared.finish.Finish.{Finish}
-use Rattle.host_workers.specs.declared.finish.Finish.TheVariants.{Stopped}
 use Rattle.snow_commands.specs.Text.{first_family}
 
 not-foreign : (board : BoardValue) (seat : Seat) → IsForeign (first_pass board) seat → ⊥
@@ -39,16 +37,6 @@ first-blames {Lost} board pass later is blame = by (subst (λ (p : PassValue). L
     by (inr (inl stopped)) = absurd (unstopped board stopped)
     by (inr (inr elsewhere)) = absurd (elsewhere-not board (first_stop later.seen) elsewhere)
 
--- a family that is told to have lost a wire was stopped for that
-pub told-blames : {A : Type 0} (Lost : Type 0) (r : Result A Reason) (end : Finish) → IfErr r (λ reason. end ≡ Stopped reason ⊎ reason ≡ why.Memory)
-    → (end ≡ Stopped why.Wire → Lost) → IfErr r (λ reason. reason ≡ why.Wire → Lost)
-told-blames Lost (Ok value) end told lost = tt
-told-blames Lost (Err reason) end told lost = λ wire. by wire told
-  where
-    by : reason ≡ why.Wire → end ≡ Stopped reason ⊎ reason ≡ why.Memory → Lost
-    by wire (inl stopped) = lost (stopped ∙ ap Stopped wire)
-    by wire (inr memory) = let no : why.Memory ≡ why.Wire = cc in absurd (cc)
-
 -- the only one of the wires is not lost
 pub only-kept : {W : Type 0} (streak : W → ℕ) (wires : List W) (default : W) (count : ℕ) → IsOneLost streak wires → length wires ≡ 1
     → count ≡ streak (get_or wires 0 default) → count < LONGEST_STREAK → ⊥
@@ -58,7 +46,7 @@ only-kept streak (wire ∷ []) default count (inr lost) one is kept = lost
 only-kept streak (wire ∷ second ∷ rest) default count lost one is kept = absurd (omega (arith, one))
 
 -- the lines that are told of the machine that a board began with
-pub first-lines : (board : BoardValue) (pass later : PassValue) (first : KeyedMachine) (r : Result Outcome Reason) → board.opening.first.value ≡ first
+pub first-lines : (board : BoardValue) (pass later : PassValue) (first : KeyedMachine) (r : Result Outcome Stop) → board.opening.first.value ≡ first
     → pass ≡ first_pass board → WorkedAll pass later
     → IfOk r (λ outcome. lines_of outcome ≡ lines told_box [] (finish (first_family later.board.opening.first.value.machine)))
     → IfOk r (λ outcome. lines_of outcome ≡ lines told_box [] (finish (first_family first.machine)))

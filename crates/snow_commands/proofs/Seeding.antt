@@ -1,6 +1,7 @@
 -- The seeds that wires are given.
-use Rattle.std.proofs.Common.{◌≡◌, ℕ, zero, suc, ◌+◌, ◌<◌, ◌≤◌, true, List, [], ◌∷◌, ◌++◌, drop, length, map, min, slice_index_or}
+use Rattle.std.proofs.Common.{◌≡◌, ℕ, zero, suc, ◌+◌, ◌<◌, ◌≤◌, true, List, [], ◌∷◌, ◌++◌, drop, length, length-append, map, min, slice_index_or}
 use Rattle.std.proofs.Common.{slice_set, take, Option, Some, Result, Ok, Err, OnOk, refl, sym, ap, ap₂, ◌∙◌, subst, arith, add-one}
+use Rattle.std.proofs.Math.Seq.{take-append_seam}
 use Rattle.std.proofs.lemmas.List.{length-map, map-append}
 use Rattle.command_line.specs.Words.{Command, RunValues}
 use Rattle.guest_files.specs.declared.stop.Stop.{Stop}
@@ -8,9 +9,7 @@ use Rattle.guest_files.specs.declared.stop.Stop.TheVariants.{ReadFault, ImageRef
 use Rattle.guest_files.specs.Parts.{Stops}
 use Rattle.guest_files.specs.Reads.{Refusal}
 use Rattle.wire_fates.specs.Fates.{seeded_with}
-use Rattle.world_core.specs.declared.reason.Reason.{Reason}
-use Rattle.world_core.specs.declared.reason.Reason.TheVariants as reason
-use Rattle.snow_commands.specs.Seeded.{IfRan, IfRun, all_seeded, is_run, seeded_for}
+use Rattle.snow_commands.specs.Seeded.{IfRun, all_seeded, is_run, seeded_for}
 use Rattle.snow_commands.proofs.Codes.{status_of}
 
 -- ---- one wire after another
@@ -70,7 +69,7 @@ first-part (x ∷ front) rest (suc n) e =
     (ap (λ l. x ∷ l) more.0, more.1)
 
 -- the first of the wires are given it, and the others stay
-pub part-given : {W : Type 0} (seeds : W → Option (List ℕ)) (how : RunValues) (old front rest new front' : List W) → old ≡ front ++ rest
+part-given : {W : Type 0} (seeds : W → Option (List ℕ)) (how : RunValues) (old front rest new front' : List W) → old ≡ front ++ rest
     → length front ≡ min (length old) how.workers → new ≡ front' ++ rest → map seeds front' ≡ all_seeded how.seed (map seeds front)
     → map seeds new ≡ seeded_for how (map seeds old)
 part-given seeds how old front rest new front' old_is count new_is given =
@@ -83,6 +82,16 @@ part-given seeds how old front rest new front' old_is count new_is given =
     ap (map seeds) new_is ∙ map-append seeds front' rest
     ∙ ap₂ (λ a b. a ++ b) (given ∙ ap (all_seeded how.seed) (sym parts.0)) (sym parts.1)
     ∙ ap (seeded_for how) (sym both)
+
+-- the first of them are lent, and come back
+pub lent-given : {W : Type 0} (seeds : W → Option (List ℕ)) (how : RunValues) (old front rest part : List W) (n : ℕ) → n ≡ length old → old ≡ front ++ rest
+    → length front ≡ min (length old) how.workers → length part ≡ length front → map seeds part ≡ all_seeded how.seed (map seeds front)
+    → map seeds (take n ((part ++ rest) ++ drop (length (part ++ rest)) old)) ≡ seeded_for how (map seeds old)
+lent-given seeds how old front rest part n count split many few given =
+    let tail = drop (length (part ++ rest)) old in
+    let same : n ≡ length (part ++ rest) = omega (arith, count, ap length split, length-append front rest, length-append part rest, few) in
+    part-given seeds how old front rest (take n ((part ++ rest) ++ tail)) part split many
+    (ap (λ n. take n ((part ++ rest) ++ tail)) same ∙ take-append_seam (part ++ rest) tail) given
 
 -- ---- ends
 
@@ -107,11 +116,16 @@ stop-same A B WriteFault then h = h
 stop-same A B Wire then h = h
 stop-same A B Memory then h = tt
 
--- a family that was run, or not for want of memory
-pub always-ran : {A : Type 0} (result : Result A Reason) (then : Type 0) → then → IfRan result then
-always-ran (Ok value) then h = h
-always-ran (Err reason.Wire) then h = h
-always-ran (Err reason.Memory) then h = tt
+-- a family that was run, whatever came of it
+pub always-run : {A : Type 0} (result : Result A Stop) (then : Type 0) → then → IfRun result then
+always-run (Ok value) then h = h
+always-run (Err (ReadFault load)) then h = tt
+always-run (Err (ImageRefused number)) then h = tt
+always-run (Err (DataRefused number)) then h = tt
+always-run (Err (ScriptRefused line kind)) then h = tt
+always-run (Err WriteFault) then h = h
+always-run (Err Wire) then h = h
+always-run (Err Memory) then h = tt
 
 pub always-ok : {A E : Type 0} (result : Result A E) (then : Type 0) → then → OnOk result then
 always-ok (Ok value) then h = h

@@ -92,16 +92,16 @@ pub told-there : {B : Type 0} (P : B → Type 0) (r : Result B Refusal) → IsOk
 told-there P (Ok x) h = tt
 told-there P (Err refusal) h = absurd h
 
-ok-then : {B : Type 0} (P Q : B → Type 0) (r : Result B Refusal) → ((x : B) → P x → Q x) → IsOkAnd r P → IsOkAnd r Q
-ok-then P Q (Ok x) to h = to x h
-ok-then P Q (Err refusal) to h = absurd h
-
 -- what holds of the text that is told
+pub told-then : (r : Result (List ℕ) Refusal) (text : List ℕ) (P : List ℕ → Type 0) → IsOkAnd r (λ told. text ≡ told) → P text → IsOkAnd r P
+told-then (Ok told) text P same h = subst P same h
+told-then (Err refusal) text P same h = absurd same
+
 pub text-then : (values : GuestValues) (files : Option Files) (text : List ℕ) (P : List ℕ → Type 0)
     → IfSome (option_map (run_text values) files) (λ r. IsOkAnd r (λ told. text ≡ told)) → P text
     → IfSome files (λ told. IsOkAnd (run_text values told) P)
 text-then values None text P gave h = tt
-text-then values (Some files) text P gave h = ok-then (λ told. text ≡ told) P (run_text values files) (λ told is. subst P is h) gave
+text-then values (Some files) text P gave h = told-then (run_text values files) text P gave h
 
 -- where the files stop `run`, or its family did not come to its end
 module _ (values : GuestValues) (how : RunValues) (files : Option Files) (read_fault : ℕ → Type 0) (write_fault lost : Type 0) (old new : Option (List ℕ)) where

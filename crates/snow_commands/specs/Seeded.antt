@@ -4,8 +4,6 @@ use Rattle.command_line.specs.Words.{Command, RunValues, run, drive, generated, 
 use Rattle.guest_files.specs.declared.stop.Stop.{Stop}
 use Rattle.guest_files.specs.declared.stop.Stop.TheVariants.{WriteFault, Wire}
 use Rattle.wire_fates.specs.Fates.{seeded_with}
-use Rattle.world_core.specs.declared.reason.Reason.{Reason}
-use Rattle.world_core.specs.declared.reason.Reason.TheVariants as reason
 
 -- each of them is given this seed, once
 abbrev pub all_seeded : ℕ → List (Option (List ℕ)) → List (Option (List ℕ))
@@ -36,9 +34,3 @@ IfRun (Err stop) then = Unit {0}
 -- the same, by its code
 abbrev pub is_run : ℕ → Bool
 is_run code = code == 0 || (code == 5 || code == 7)
-
--- the same of what came of a family, for which memory may have been wanting before it was run
-abbrev pub IfRan : {A : Type 0} → Result A Reason → Type 0 → Type 0
-IfRan (Ok value) then = then
-IfRan (Err reason.Wire) then = then
-IfRan (Err reason.Memory) then = Unit {0}

@@ -9,10 +9,9 @@ ghost use Rattle.run_report.specs.Summary.{summary_of};
 ghost use Rattle.command_line.specs.Words.{generated_how};
 ghost use Rattle.snow_commands.specs.Seeded.{IfRun, seeded_for};
 ghost use Rattle.snow_commands.specs.Text.{generated_files, generated_text};
-ghost use Rattle.snow_commands.specs.Writes.{IsSilent, MakesOver, WritesFileless};
+ghost use Rattle.snow_commands.specs.Writes.{IsSilent, WritesFileless};
 
-use crate::family::Plan;
-use crate::run::run_files;
+use crate::family::{Plan, run_files};
 use command_line::GeneratedWords;
 use cow_disk::SECTOR_SIZE;
 use guest_files::{GuestFiles, Stop};
@@ -42,10 +41,10 @@ pub fn run_and_sum_up<
     ensures seeded { IfRun result (map W.seeds wires.new.items ≡ seeded_for (generated_how words.now.workers) (map W.seeds wires.old.items)) }
     ensures silent { IsSilent result (sink.new ≡ sink.old) }
 {
-    let outcome = match run_generated(rt, words, wires, gate) {
-        Ok(outcome) => outcome,
-        Err(stop) => return Err(stop),
-    };
+    let files = generated_files(rt.alloc(), words.seed())?;
+    let how = words.how();
+    let plan = Plan { how: &how, gate };
+    let outcome = run_files(rt, &words.guest(), &files, &plan, wires)?;
     match write_summary(&outcome, words.seed(), sink) {
         Ok(()) => Ok(()),
         Err(ReportError::Sink) => Err(Stop::WriteFault),
@@ -62,25 +61,6 @@ fn write_summary<K: Sink>(outcome: &Outcome, seed: u32, sink: &mut K) -> Result<
     ensures prefix { IsPrefixGone (K.gone sink.old) (K.gone sink.new) (summary_of seed outcome.now) }
 {
     summary_into(outcome, seed, sink)
-}
-
-/// Runs the family of the guest of a seed to its end.
-fn run_generated<R: AllocGlobal + Threads + Wait + Sync, W: Wire + Send, G: Gate + Sync>(
-    rt: &R,
-    words: &GeneratedWords,
-    wires: &mut Vec<W>,
-    gate: &G,
-) -> Result<Outcome, Stop>
-    requires some { 0 < vec_len wires.old }
-    requires most { vec_len wires.old ≤ MAX_WORKERS }
-    ensures makes { MakesOver (IsOneLost W.streak wires.new.items) (generated_text words.now)
-        (λ outcome text. summary_of words.now.seed outcome ≡ text) result }
-    ensures seeded { IfRun result (map W.seeds wires.new.items ≡ seeded_for (generated_how words.now.workers) (map W.seeds wires.old.items)) }
-{
-    let files = generated_files(rt.alloc(), words.seed())?;
-    let how = words.how();
-    let plan = Plan { how: &how, gate };
-    run_files(rt, &words.guest(), &files, &plan, wires)
 }
 
 /// The image of the guest of a seed, and its disk.

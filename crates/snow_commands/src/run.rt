@@ -2,28 +2,22 @@
 
 ghost use Rattle.std.specs.Prelude.{◌≡◌, ◌<◌, ◌≤◌, map, OnErr, OnOk, vec_len};
 ghost use Rattle.io_edge.specs.Outside.{HasRisen, IsPrefixGone, appended};
-ghost use Rattle.host_workers.specs.Lost.{IsOneLost};
 ghost use Rattle.run_report.specs.Report.{report_of};
 ghost use Rattle.command_line.specs.Words.{run};
 ghost use Rattle.snow_commands.specs.Lost.{IsLostIn};
 ghost use Rattle.snow_commands.specs.Seeded.{IfRun, seeded_for};
-ghost use Rattle.snow_commands.specs.Text.{HasLines, guest_image};
 ghost use Rattle.guest_files.specs.Parts.{AreAsked, IsFaultOf, guest_loads, loads_of};
-ghost use Rattle.snow_commands.specs.Writes.{IsSilent, MakesOver, Writes};
+ghost use Rattle.snow_commands.specs.Writes.{IsSilent, Writes};
 
-use crate::family::{Extent, Plan, run_family};
-use crate::guest::boot;
+use crate::family::{Plan, run_files};
 use command_line::GuestWords;
-use cow_disk::{PAGE_SECTORS, SECTOR_SIZE};
-use guest_files::{GuestFiles, Stop, read_guest};
+use guest_files::{Stop, read_guest};
 use host_workers::{Gate, MAX_WORKERS};
-use image_depot::Depot;
 use io_edge::{Shelf, Sink};
 use run_report::{Outcome, ReportError, report_into};
 use std::sync::Wait;
 use std::thread::Threads;
 use wire_fates::Wire;
-use world_core::Reason;
 
 /// Reads a guest, runs its family to its end and writes its report.
 pub fn run_and_report<
@@ -68,38 +62,4 @@ fn write_report<K: Sink>(outcome: &Outcome, sink: &mut K) -> Result<(), ReportEr
     ensures prefix { IsPrefixGone (K.gone sink.old) (K.gone sink.new) (report_of outcome.now) }
 {
     report_into(outcome, sink)
-}
-
-/// Boots a guest whose files are there, and runs its family to its end, by as many workers as are asked for, but by no more
-/// than there are wires.
-pub fn run_files<R: AllocGlobal + Threads + Wait + Sync, W: Wire + Send, G: Gate + Sync>(
-    rt: &R,
-    guest: &GuestWords<'_>,
-    files: &GuestFiles,
-    plan: &Plan<'_, G>,
-    wires: &mut Vec<W>,
-) -> Result<Outcome, Stop>
-    requires some { 0 < vec_len wires.old }
-    requires most { vec_len wires.old ≤ MAX_WORKERS }
-    ensures makes { MakesOver ((0 < guest.now.clones) × IsOneLost W.streak wires.new.items) (guest_image guest.now files.now)
-        (HasLines guest.now files.now) result }
-    ensures seeded { IfRun result (map W.seeds wires.new.items ≡ seeded_for plan.now.how.now (map W.seeds wires.old.items)) }
-{
-    let depot = Depot::new(rt.alloc())?;
-    let family = boot(rt.alloc(), guest, files, &depot)?;
-    let workers = wires.len().min(plan.how.workers() as usize);
-    let (working, _) = wires.split_at_mut(workers);
-    let extent = Extent {
-        clones: guest.clones(),
-        pages: guest.pages(),
-        disk_pages: files
-            .disk()
-            .len()
-            .div_ceil(SECTOR_SIZE * PAGE_SECTORS as usize) as u32,
-    };
-    match run_family(rt, extent, family, &depot, plan, working) {
-        Ok(outcome) => Ok(outcome),
-        Err(Reason::Wire) => Err(Stop::Wire),
-        Err(Reason::Memory) => Err(Stop::Memory),
-    }
 }

@@ -13,7 +13,6 @@ use Rattle.guest_pmp.specs.declared.registers.PmpRegisters.{PmpRegisters}
 use Rattle.guest_pmp.specs.Registers.{at_reset as no_entries}
 use Rattle.vm_descriptor.specs.Fields as field
 use Rattle.vm_descriptor.specs.declared.version.Version.{Version}
-use Rattle.vm_descriptor.specs.Maps.{flags_as}
 use Rattle.vm_descriptor.specs.Described.{agree, are_csrs, are_in_range, csrs_of, entries_in, is_reservation, numbers_from, read_as, reservation_of, status_of}
 use Rattle.std.specs.Prelude.{nat_le}
 
@@ -67,14 +66,13 @@ module _ (version : Version) (bytes identity times ports registers : List ℕ) (
     (are_identity : identity ≡ numbers_from 4 5 4 bytes) (are_times : times ≡ numbers_from 8 4 192 bytes) (are_ports : ports ≡ numbers_from 4 10 224 bytes) where
   pub all_read : (pmp : PmpRegisters) → registers ≡ numbers_from 4 31 24 bytes → csrs ≡ csrs_of (number_in bytes) pmp → pmp ≡ entries_in version.has_entries bytes
       → reservation ≡ reservation_of (get_or ports 0 0) (get_or ports 1 0) → status ≡ status_of (get_or ports 5 0)
-      → buffer ≡ take 512 (drop 264 bytes) → blank ≡ flags_as version.has_forms (get_or identity 1 0) (drop version.fields bytes)
+      → buffer ≡ take 512 (drop 264 bytes) → blank ≡ (read_as version bytes).blank
       → made identity times ports registers csrs reservation status buffer blank ≡ read_as version bytes
   unfolding numbers_from read_as
   all_read pmp are_registers are_csrs are_entries is_reservation is_status is_buffer are_blank =
       let are_all = are_csrs ∙ ap (λ (p : PmpRegisters). csrs_of (number_in bytes) p) are_entries in
       let reserved = is_reservation ∙ ap (λ (ps : List ℕ). reservation_of (get_or ps 0 0) (get_or ps 1 0)) are_ports in
       let stands = is_status ∙ ap (λ (ps : List ℕ). status_of (get_or ps 5 0)) are_ports in
-      let flags = are_blank ∙ ap (λ (ids : List ℕ). flags_as version.has_forms (get_or ids 1 0) (drop version.fields bytes)) are_identity in
       ap₂ (λ (ids ts : List ℕ). made ids ts ports registers csrs reservation status buffer blank) are_identity are_times
       ∙ ap₂ (λ (ps rs : List ℕ). made (numbers_from 4 5 4 bytes) (numbers_from 8 4 192 bytes) ps rs csrs reservation status buffer blank) are_ports are_registers
       ∙ ap₂ (λ (cs : CsrRegisters) (r : Option ℕ). made (numbers_from 4 5 4 bytes) (numbers_from 8 4 192 bytes) (numbers_from 4 10 224 bytes) (numbers_from 4 31 24 bytes) cs r status buffer blank)
@@ -84,7 +82,7 @@ module _ (version : Version) (bytes identity times ports registers : List ℕ) (
       (reservation_of (number_in bytes field.Reserved) (number_in bytes field.Reservation)) s b blank) stands is_buffer
       ∙ ap (λ (bs : List Bool). made (numbers_from 4 5 4 bytes) (numbers_from 8 4 192 bytes) (numbers_from 4 10 224 bytes) (numbers_from 4 31 24 bytes)
       (csrs_of (number_in bytes) (entries_in version.has_entries bytes))
-      (reservation_of (number_in bytes field.Reserved) (number_in bytes field.Reservation)) (status_of (number_in bytes field.BlockStatus)) (take 512 (drop 264 bytes)) bs) flags
+      (reservation_of (number_in bytes field.Reserved) (number_in bytes field.Reservation)) (status_of (number_in bytes field.BlockStatus)) (take 512 (drop 264 bytes)) bs) are_blank
 
 -- the line control register is the fourth of the ports' words
 pub line_control_read : (ports bytes : List ℕ) → ports ≡ numbers_from 4 10 224 bytes → get_or ports 3 0 ≡ number_in bytes field.LineControl

@@ -1,6 +1,7 @@
 mod Accepted
 mod Appended
 mod BitSteps
+pub mod CloneTables
 mod DecodedInRange
 mod Decoding
 mod DescribedBack

@@ -2,7 +2,7 @@
 use Rattle.std.specs.Prelude.{◌≡◌, ◌≤◌, ⊤, ℕ, zero, suc, ◌+◌, ◌*◌, ◌%◌, ◌^◌, ◌==◌, slice_index, nat_le, nat_lt, not, ◌&&◌, ◌⊎◌, Bool, true, false}
 use Rattle.std.specs.Prelude.{if◌then◌else◌, ◌<◌, List, [], ◌∷◌, ◌++◌, length, take, drop, Option, Some, None, Result, Ok, Err}
 use Rattle.std.specs.List.{flat_map, list_all}
-use Rattle.std.specs.Option.{option_or}
+use Rattle.std.specs.Option.{ForSome, option_or}
 use Rattle.byteorder.specs.Endian.{little_bytes, little_from}
 use Rattle.block_port.specs.declared.status.Status.{Status}
 use Rattle.block_port.specs.declared.status.Status.TheVariants.{Done, BadSector, UnknownCommand}
@@ -244,3 +244,8 @@ pub record Fits (d : Descriptor) : Type 0 where
 pub record IsKept (bytes : List ℕ) : Type 0 where
   pub fits : Fits (read_as version_3 bytes)
   pub spelled : described (read_as version_3 bytes) ≡ bytes
+
+-- what a seed keeps: such bytes, and maybe the table with which each clone starts, which has the blank pages that they tell
+pub record IsKeptWith (bytes : List ℕ) (table : Option (List Bool)) : Type 0 where
+  pub kept : IsKept bytes
+  pub shared : ForSome table (λ blank. blank ≡ (read_as version_3 bytes).blank)

@@ -3,6 +3,7 @@
 
 mod bits;
 mod bytes;
+mod clone_table;
 mod descriptor;
 mod error;
 mod fits;
@@ -15,6 +16,7 @@ mod runs;
 mod seed;
 mod version;
 
+pub use clone_table::CloneTable;
 pub use descriptor::{Descriptor, MAX_CLONES, MAX_LIMIT, MAX_SHARE};
 pub use error::DescError;
 pub use page_map::{MapForm, PageMap};

@@ -36,6 +36,10 @@ pub(crate) fn push_rest(
             let flags = flags_in_runs(*bytes.allocator(), runs)?;
             push_flags(bytes, has_forms, &flags)
         }
+        MapForm::Table(table) => {
+            let flags = table.flags(*bytes.allocator())?;
+            push_flags(bytes, has_forms, &flags)
+        }
     }
 }
 

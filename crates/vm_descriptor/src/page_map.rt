@@ -1,8 +1,11 @@
 ghost use Rattle.std.specs.Prelude.{◌≡◌, ◌↔◌, length, false, IsTrue, IfOk};
 ghost use Rattle.shared_leaves.specs.Choices.{flags_of_runs};
+ghost use Rattle.page_frames.specs.Tables.{blank_pages};
 ghost use Rattle.vm_descriptor.specs.PageMaps.{held};
 
+use crate::clone_table::{CloneTable, blank_flags};
 use crate::runs::{are_as_many, flags_in_runs};
+use page_frames::PageTable;
 use std::alloc::{AllocError, Global};
 use std::marker::Model;
 
@@ -19,6 +22,8 @@ pub enum MapForm {
     Flags(Vec<bool>),
     /// By the lengths of the runs of equal flags, the first of flags that are not set.
     Runs(Vec<u16>),
+    /// By the page table of a clone that has this map.
+    Table(CloneTable),
 }
 
 impl Model for PageMap {
@@ -39,6 +44,7 @@ impl Clone for PageMap {
         match &self.form {
             MapForm::Flags(flags) => Ok(PageMap::from_vec(flags.clone()?)),
             MapForm::Runs(runs) => Ok(PageMap::from_runs(runs.clone()?)),
+            MapForm::Table(table) => Ok(PageMap::from_table(table.share()?)),
         }
     }
 }
@@ -62,6 +68,22 @@ impl PageMap {
         }
     }
 
+    /// The map of a table that clones share. It takes no memory.
+    pub(crate) fn from_table(table: CloneTable) -> PageMap
+        ensures { result ≡ table }
+    {
+        PageMap {
+            form: MapForm::Table(table),
+        }
+    }
+
+    /// The map of a page table: for each page, whether it is blank there.
+    pub fn of_table(alloc: Global, table: &PageTable) -> Result<PageMap, AllocError>
+        ensures { IfOk result (λ map. map ≡ blank_pages table.now) }
+    {
+        Ok(PageMap::from_vec(blank_flags(alloc, table)?))
+    }
+
     /// The flags one by one.
     pub fn flags(&self, alloc: Global) -> Result<Vec<bool>, AllocError>
         ensures { IfOk result (λ flags. flags.items ≡ self.now) }
@@ -69,6 +91,7 @@ impl PageMap {
         match &self.form {
             MapForm::Flags(flags) => Vec::from_slice(alloc, flags),
             MapForm::Runs(runs) => flags_in_runs(alloc, runs),
+            MapForm::Table(table) => table.flags(alloc),
         }
     }
 
@@ -79,6 +102,7 @@ impl PageMap {
         match &self.form {
             MapForm::Flags(flags) => flags.len() == pages as usize,
             MapForm::Runs(runs) => are_as_many(runs, pages),
+            MapForm::Table(table) => table.len() == pages as usize,
         }
     }
 

@@ -11,9 +11,11 @@ ghost use Rattle.vm_descriptor.specs.Described.{Fits, IsGiven, IsReadAs, IsRefus
 use crate::descriptor::{Descriptor, NO_ENTRIES};
 use crate::error::DescError;
 use crate::map::{is_due, read_map};
+use crate::page_map::PageMap;
 use crate::refusal::readable;
 use crate::version::{
-    ADDRESSES, BUFFER, COUNTERS, CSRS, HEADER_SIZE, IDENTITY, PORTS, REGISTERS, TIMES, Version,
+    ADDRESSES, BUFFER, COUNTERS, CSRS, HEADER_SIZE, IDENTITY, PAGES, PORTS, REGISTERS, TIMES,
+    Version,
 };
 use block_port::{BlockFields, Status};
 use byteorder::{ByteOrder, LittleEndian};
@@ -70,6 +72,33 @@ pub(crate) fn read_fields(
     requires line_control { number_in bytes.now LineControl ≤ 255 }
     ensures { IfOk result (λ d. d ≡ read_as version.now bytes.now) }
 {
+    let blank = map_behind(alloc, version, bytes)?;
+    Ok(with_fields(version, bytes, blank))
+}
+
+/// The map behind the fields of bytes of a version.
+pub(crate) fn map_behind(
+    alloc: Global,
+    version: &Version,
+    bytes: &[u8],
+) -> Result<PageMap, AllocError>
+    requires known { IsVersion version.now }
+    requires whole { version.now.fields ≤ length bytes.now }
+    ensures { IfOk result (λ map. map ≡ (read_as version.now bytes.now).blank) }
+{
+    let pages = read_word(bytes, PAGES);
+    let rest = bytes.split_at(version.fields).1;
+    read_map(alloc, version.has_forms, pages, rest)
+}
+
+/// What the fields of bytes of a version say, with the map that stands behind them.
+pub(crate) fn with_fields(version: &Version, bytes: &[u8], blank: PageMap) -> Descriptor
+    requires known { IsVersion version.now }
+    requires whole { version.now.fields ≤ length bytes.now }
+    requires line_control { number_in bytes.now LineControl ≤ 255 }
+    requires map { blank ≡ (read_as version.now bytes.now).blank }
+    ensures { result ≡ read_as version.now bytes.now }
+{
     let [image, pages, clone_id, share, pc] = words_at::<5>(bytes, IDENTITY);
     let [mtime, mtimecmp, steps, limit] = doubles_at::<4>(bytes, TIMES);
     let [
@@ -84,9 +113,7 @@ pub(crate) fn read_fields(
         join_select,
         granted,
     ] = words_at::<10>(bytes, PORTS);
-    let rest = bytes.split_at(version.fields).1;
-    let blank = read_map(alloc, version.has_forms, pages, rest)?;
-    Ok(Descriptor {
+    Descriptor {
         image,
         pages,
         clone_id,
@@ -112,7 +139,7 @@ pub(crate) fn read_fields(
         join_select,
         granted,
         blank,
-    })
+    }
 }
 
 /// The control and status registers.

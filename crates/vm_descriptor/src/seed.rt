@@ -1,45 +1,55 @@
 //! What the clones of a ticket start with, as bytes.
 
-ghost use Rattle.std.specs.Prelude.{◌≡◌, IfOk};
+ghost use Rattle.std.specs.Prelude.{◌≡◌, ◌<◌, ◌^◌, length, IfOk};
+ghost use Rattle.std.specs.Option.{ForSome};
 ghost use Rattle.vm_descriptor.specs.Descriptor.{IsInRange, numbered};
-ghost use Rattle.vm_descriptor.specs.Described.{described, Fits};
+ghost use Rattle.vm_descriptor.specs.Described.{described};
 
+use crate::clone_table::CloneTable;
 use crate::descriptor::Descriptor;
-use crate::read::read_fields;
-use crate::version::{CLONE_ID, VERSION_3};
-use flat_memory::write_bytes;
+use crate::page_map::PageMap;
+use crate::read::{map_behind, with_fields};
+use crate::runs::run_count;
+use crate::version::VERSION_3;
 use std::alloc::{AllocError, Global};
 use std::marker::Model;
+
+/// The most runs of equal flags in a table that clones share.
+const MOST_RUNS: usize = 16;
 
 /// What the clones of a ticket start with, as the bytes of the descriptor of one of them: the others differ in
 /// their number alone. Contracts see that descriptor.
 #[derive(Drop)]
 pub struct Seed {
     bytes: Vec<u8>,
+    /// The table with which each clone starts, where it is made once for all.
+    table: Option<CloneTable>,
 }
 
 impl Model for Seed {
     ghost use Rattle.vm_descriptor.specs.declared.descriptor.Descriptor.{Descriptor};
     ghost use Rattle.vm_descriptor.specs.Versions.{version_3};
-    ghost use Rattle.vm_descriptor.specs.Described.{read_as, IsKept};
+    ghost use Rattle.vm_descriptor.specs.Described.{read_as, IsKeptWith};
 
     ghost Value = { Descriptor };
 
     ghost view = { λ s. read_as version_3 s.bytes.items };
 
-    ghost invariant = { λ s. IsKept s.bytes.items };
+    ghost invariant = { λ s. IsKeptWith s.bytes.items s.table };
 }
 
 impl Seed {
-    /// The seed of the clones of which one has this descriptor, which is in range. It takes memory once, for the bytes.
-    #[tactic(auto, using(crate::proofs::Kept::kept, crate::proofs::Kept::read_kept))]
-    pub fn new(alloc: Global, descriptor: &Descriptor) -> Result<Seed, AllocError>
+    /// The seed of so many clones, of which one has this descriptor, which is in range. It takes memory once for the bytes, and
+    /// where there is more than one clone, for the table with which each of them starts.
+    #[tactic(auto, using(crate::proofs::Kept::kept_with, crate::proofs::Kept::read_kept))]
+    pub fn new(alloc: Global, descriptor: &Descriptor, clones: u32) -> Result<Seed, AllocError>
         requires { IsInRange descriptor.now }
         ensures { IfOk result (λ seed. seed ≡ descriptor.now) }
     {
         descriptor.fits();
         Ok(Seed {
             bytes: descriptor.encode(alloc)?,
+            table: table_for(alloc, &descriptor.blank, clones)?,
         })
     }
 
@@ -50,23 +60,40 @@ impl Seed {
         &self.bytes
     }
 
-    /// The descriptor of a clone, by its number, as it comes back from its bytes.
+    /// The descriptor of a clone, by its number, as it comes back from its bytes. Where the clones share a table, its map is that.
     pub fn through_bytes(&self, alloc: Global, clone_id: u32) -> Result<Descriptor, AllocError>
         requires { IsInRange (numbered clone_id self.now) }
         ensures { IfOk result (λ descriptor. descriptor ≡ numbered clone_id self.now) }
     {
-        let bytes = self.bytes_as(alloc, clone_id)?;
-        read_fields(alloc, &VERSION_3, &bytes)
+        let blank = self.map(alloc)?;
+        let mut descriptor = with_fields(&VERSION_3, &self.bytes, blank);
+        descriptor.clone_id = clone_id;
+        Ok(descriptor)
     }
 
-    /// The bytes of the descriptor of a clone, by its number: the number is put in, and the other bytes stay.
-    #[tactic(auto, using(crate::proofs::Kept::kept_there))]
-    fn bytes_as(&self, alloc: Global, clone_id: u32) -> Result<Vec<u8>, AllocError>
-        ensures value { IfOk result (λ bytes. bytes.items ≡ described (numbered clone_id self.now)) }
-        ensures fits { Fits (numbered clone_id self.now) }
+    /// The map of the blank pages.
+    fn map(&self, alloc: Global) -> Result<PageMap, AllocError>
+        ensures { IfOk result (λ map. map ≡ self.now.blank) }
     {
-        let mut bytes = Vec::from_slice(alloc, &self.bytes)?;
-        write_bytes(&mut bytes, CLONE_ID, &clone_id.to_le_bytes());
-        Ok(bytes)
+        match &self.table {
+            Some(table) => Ok(PageMap::from_table(table.share()?)),
+            None => map_behind(alloc, &VERSION_3, &self.bytes),
+        }
     }
+}
+
+/// The table with which each of so many clones starts, where it is to be made once for all: there is more than one, and few
+/// runs of flags. Many could make each leaf one of both kinds, and tickets whose clones do not wake would hold them all.
+fn table_for(alloc: Global, map: &PageMap, clones: u32) -> Result<Option<CloneTable>, AllocError>
+    requires { length map.now < 2 ^ 16 }
+    ensures { IfOk result (λ table. ForSome table (λ t. t ≡ map.now)) }
+{
+    if clones < 2 {
+        return Ok(None);
+    }
+    let flags = map.flags(alloc)?;
+    if run_count(&flags) > MOST_RUNS {
+        return Ok(None);
+    }
+    Ok(Some(CloneTable::of_flags(alloc, &flags)?))
 }

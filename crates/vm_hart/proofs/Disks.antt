@@ -3,7 +3,7 @@
 use Rattle.std.proofs.Common.{◌≡◌, ℕ, zero, suc, ◌+◌, ◌-◌, ◌*◌, ◌/◌, ◌<◌, ◌≤◌, not, inl, inr, Bool, true, false}
 use Rattle.std.proofs.Common.{List, [], ◌∷◌, ◌++◌, length, map, take, drop, replicate, get_or, set, slice_get}
 use Rattle.std.proofs.Common.{Option, Some, None, Result, Ok, Err, refl, sym, ap, ◌∙◌, subst, append_assoc, arith}
-use Rattle.std.specs.Prelude.{MatchResult}
+use Rattle.std.specs.Prelude.{MatchBool, MatchResult}
 use Rattle.byteorder.specs.Endian.{little_from}
 use Rattle.guest_mem.specs.declared.answers.Absent.{Absent as NotHere}
 use Rattle.std.proofs.lemmas.Bool.{cases_lt}
@@ -86,6 +86,11 @@ load-flag reads ram disk at width (Err absent) h = flag-ram ram disk (at / PAGE_
 pub unput : (ram : Ram) (disk : List Bool) (page : ℕ) (error : StoreError) → IsRefused ram page error → IsUnput (record { here = ram.here ++ disk; blank = ram.blank }) page error
 unput ram disk page (store.Absent absent) h = flag-ram ram.here disk page false h.1
 unput ram disk page store.Memory h = flag-ram ram.here disk page true h
+
+-- what follows from both answers
+pub MatchBool-weaker : {P P' Q Q' : Type 0} (b : Bool) → (P → P') → (Q → Q') → MatchBool b P Q → MatchBool b P' Q'
+MatchBool-weaker true then_so else_so told = then_so told
+MatchBool-weaker false then_so else_so told = else_so told
 
 -- no flag is both
 pub not-both : (here : List Bool) (page : ℕ) → slice_get here page ≡ Some true → slice_get here page ≡ Some false → ⊥

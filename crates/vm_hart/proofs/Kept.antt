@@ -373,6 +373,37 @@ module _ (old new : KeyedState) (i : Instruction) (epoch : ℕ) (before slots : 
       let entries : new.state.csrs.pmp ≡ old.state.csrs.pmp = ap (λ (c : CsrRegisters). c.pmp) (registers-stay old new i 0 acts.0 acted).0 in
       kept-by (group_of i.kind) refl whole acts.0 ram here entries stored keeps
 
+-- RAM has as many bytes after it
+module _ (old new : KeyedState) (i : Instruction) where
+  size-by : (g : Group) → group_of i.kind ≡ g → length old.state.ram % 4 ≡ 0 → IsFastIn g i old.state → RamAfter g i old.state new.state
+      → length new.state.ram ≡ length old.state.ram
+  size-by LoadUpper g whole h ram = ap length ram
+  size-by AddUpper g whole h ram = ap length ram
+  size-by Jump g whole h ram = ap length ram
+  size-by JumpRegister g whole h ram = ap length ram
+  size-by Branch g whole h ram = ap length ram
+  size-by Load g whole h ram = ap length ram
+  size-by Store g whole h ram =
+      let stored = widths i.kind (rs2 i old.state) g in
+      ap length ram.0 ∙ same-length old.state.ram (stored_bytes i old.state) (data_address i old.state) (store_width i.kind) stored.0 stored.1 ram.1 h whole
+  size-by ComputeImmediate g whole h ram = ap length ram
+  size-by Compute g whole h ram = ap length ram
+  size-by group.Nothing g whole h ram = ap length ram
+  size-by EnvironmentCall g whole h ram = absurd h
+  size-by Breakpoint g whole h ram = absurd h
+  size-by TrapReturn g whole h ram = absurd h
+  size-by Csr g whole h ram = absurd h
+  size-by LoadReserved g whole h ram = absurd h
+  size-by StoreConditional g whole h ram = absurd h
+  size-by Amo g whole h ram = absurd h
+
+  pub acted-size : length old.state.ram % 4 ≡ 0 → ActsFast old new i → length new.state.ram ≡ length old.state.ram
+  unfolding execute
+  acted-size whole acts =
+      let acted = acts.1 0 in
+      let ram : RamAfter (group_of i.kind) i old.state new.state = subst (IsRamAction (group_of i.kind) i old.state) acted.tells (ram-action i old.state (group_of i.kind) 0 acts.0) in
+      size-by (group_of i.kind) refl whole acts.0 ram
+
 -- ---- a step
 
 -- the word at pc is fetched
@@ -443,6 +474,11 @@ pub step-made : (old new : KeyedState) (i : Instruction) (is_made : Bool) → Co
 step-made old new i true comes told =
     fast-step old new i comes.word told.0 (told.1 comes.word) (old.state.pc - RAM_BASE) (word-reaches old comes.word comes.is) (sym comes.is.is) comes.says
 step-made old new i false comes told = told
+
+pub step-size : (old new : KeyedState) (i : Instruction) (is_made : Bool) → length old.state.ram % 4 ≡ 0 → MatchBool is_made (ActsFast old new i) (new ≡ old)
+    → length new.state.ram ≡ length old.state.ram
+step-size old new i true whole told = acted-size old new i whole told
+step-size old new i false whole told = ap (λ (h : KeyedState). length h.state.ram) told
 
 pub step-keeps : (old new : KeyedState) (i : Instruction) (epoch : ℕ) (before slots : List KeptInstruction) (is_made : Bool) → length old.state.ram % 4 ≡ 0
     → MatchBool is_made (ActsFast old new i) (new ≡ old) → ForgetsAt (stored_at (group_of i.kind) i old.state) before slots → Keeps old epoch before → Keeps new epoch slots

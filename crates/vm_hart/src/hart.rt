@@ -1,4 +1,4 @@
-ghost use Rattle.std.specs.Prelude.{◌≡◌, ◌<◌, ◌≤◌, ◌+◌, ◌*◌, ◌/◌, ◌%◌, [], ◌∷◌, length, drop, slice_index_or, IfErr, IfOk, IsSomeAnd, MatchResult, OnOk, OnErr, Some, None, false};
+ghost use Rattle.std.specs.Prelude.{◌≡◌, ◌<◌, ◌≤◌, ◌+◌, ◌*◌, ◌/◌, ◌%◌, ◌^◌, [], ◌∷◌, length, drop, slice_index_or, IfErr, IfOk, IsSomeAnd, MatchBool, MatchResult, OnOk, OnErr, Some, None, false};
 ghost use Rattle.std.specs.Option.{option_copied};
 ghost use Rattle.byteorder.specs.Endian.{little_bytes, little_from};
 ghost use Rattle.flat_memory.specs.Flat.{put_bytes, word_at};
@@ -416,11 +416,20 @@ impl Hart {
         ensures answer { result ≡ Acted.Retired Written.Nothing }
         ensures new { self.new ≡ record self.old { state = at_next_instruction (with_rd instr.now value self.old.state) } }
     {
+        self.retire_into(instr.rd(), value);
+        Acted::Retired(Written::Nothing)
+    }
+
+    /// Retires, with a value for the register of this number.
+    #[inline(always)]
+    fn retire_into(&mut self, number: u32, value: u32)
+        requires { number < 32 }
+        ensures { self.new ≡ record self.old { state = at_next_instruction (record self.old.state { registers = with_register self.old.state.registers number value }) } }
+    {
         let next = self.pc.wrapping_add(4);
-        self.set_register(instr.rd(), value);
+        self.set_register(number, value);
         // It is stored last, so that the coming step need not read it.
         self.pc = next;
-        Acted::Retired(Written::Nothing)
     }
 
     /// Retires: the next instruction follows.
@@ -431,6 +440,23 @@ impl Hart {
     {
         self.pc = self.pc.wrapping_add(4);
         Acted::Retired(Written::Nothing)
+    }
+
+    /// The address of the next instruction.
+    #[inline(always)]
+    fn next_pc(&self) -> u32
+        ensures { result ≡ (self.now.state.pc + 4) % 2 ^ 32 }
+    {
+        self.pc.wrapping_add(4)
+    }
+
+    /// Retires: the next instruction, which is at this address, follows.
+    #[inline(always)]
+    fn retire_at(&mut self, next: u32)
+        requires { next ≡ (self.old.state.pc + 4) % 2 ^ 32 }
+        ensures { self.new ≡ record self.old { state = at_next_instruction self.old.state } }
+    {
+        self.pc = next;
     }
 
     /// The word at an offset in RAM, which is a multiple of 4. Its page is here.
@@ -472,6 +498,21 @@ impl Hart {
         ensures err { IfErr result (λ error. (self.new ≡ self.old) × IsUnput self.old.pages (offset / PAGE_SIZE) error) }
     {
         self.memory.store(offset, width, word)
+    }
+
+    /// The same where this hart holds the page and shares it with none, and it answers whether it has stored. Else nothing
+    /// changes.
+    #[inline(always)]
+    fn put_own(&mut self, offset: u32, width: u32, word: u32) -> bool
+        requires width { IsWidth width }
+        requires aligned { offset % width ≡ 0 }
+        requires inside { offset < length self.old.state.ram }
+        ensures { MatchBool result
+            (IsHere self.old.pages (offset / PAGE_SIZE) × IsPut self.old self.new (offset / PAGE_SIZE)
+            (record self.old.state { ram = put_bytes self.old.state.ram offset (little_bytes width word) }))
+            (self.new ≡ self.old) }
+    {
+        self.memory.store_own(offset, width, word)
     }
 
     /// Stores the low `width` bytes of a word from an offset in RAM on, which is a multiple of the width. The page is

@@ -24,7 +24,6 @@ use Rattle.run_report.specs.Report.{Ended, lines_of}
 use Rattle.machine_names.proofs.NameMaps.{updated-here, updated-apart}
 use Rattle.world_core.specs.declared.cell.Cell.{Cell}
 use Rattle.world_core.specs.declared.reason.Reason.{Reason}
-use Rattle.world_core.specs.declared.world.LastTaken.TheVariants.{NeverAsked}
 use Rattle.world_core.specs.declared.world.World.{World}
 use Rattle.ready_queue.specs.Ready.{Ready}
 use Rattle.world_core.specs.Listed.{IsListed}
@@ -61,7 +60,7 @@ pub end-stands : (depot : Shelves) (vm : Paged) (ending : Ending) (outcome : End
     → vm.machine.ending ≡ Some ending → (port_of vm.machine).tickets ≡ [] → vm.machine.state.ports.sibling.siblings ≡ 0 → machines.is_good vm.machine ≡ true
     → ((name : Path) → get path_cmp cells name ≡ None)
     → outcome ≡ record { name = []; ending = Some ending; steps = vm.machine.steps; output = vm.machine.state.ports.console.output; log = [] }
-    → StandsFor depot (record { cells = cells; ready = list; halted = None; told = told; outcome = Some outcome; last_taken = NeverAsked }) (world_of paged_machines paged_talks vm)
+    → StandsFor depot (record { cells = cells; ready = list; halted = None; told = told; outcome = Some outcome; leases = None }) (world_of paged_machines paged_talks vm)
 unfolding boxed spots paged_machines machines lines_of
 end-stands depot vm ending outcome cells list told over none single good empty is = record {
   whole = start-forest vm none single good;
@@ -81,7 +80,7 @@ module _ (depot : Shelves) (vm : Paged) (old cells : BTreeMap Path Cell) (list :
   first = alone forest (at_start vm)
 
   abbrev start : World
-  start = record { cells = cells; ready = list; halted = None; told = told; outcome = None; last_taken = NeverAsked }
+  start = record { cells = cells; ready = list; halted = None; told = told; outcome = None; leases = None }
 
   none-below : (x : Branch) (rest : Path) → subtree (x ∷ rest) first ≡ None
   unfolding subtree brood_of child_at

@@ -11,13 +11,13 @@ use Rattle.machine_names.specs.contracts.name.NamePartialEq.TheImpl as eq
 use Rattle.machine_names.specs.contracts.name.NamePartialOrd.TheImpl as partial
 use Rattle.machine_names.proofs.name.Name.TheSendSync as name
 use Rattle.ready_queue.proofs.Crosses.{queue_send, turn_send}
+use Rattle.run_report.proofs.machine_end.OutcomeRoom.TheSendSync as room
 use Rattle.run_report.proofs.line.Line.TheSendSync as line
 use Rattle.run_report.proofs.report.Outcome.TheSendSync as outcome
 use Rattle.vm_cell.proofs.Crosses.{vm_send}
 use Rattle.world_core.specs.contracts.cell.Cell as Cell
 use Rattle.world_core.specs.contracts.cell.State as State
 use Rattle.world_core.specs.contracts.lease.Lease as Lease
-use Rattle.world_core.specs.contracts.world.LastTaken as LastTaken
 use Rattle.world_core.specs.contracts.world.World as World
 use Rattle.world_core.proofs.cell.Brood.TheSendSync as brood
 
@@ -37,14 +37,14 @@ cell_send =
           search sendable,
           (
             search (BTreeMap-send, sendable, brood.the_send) depth 20,
-            (search (sendable, crosses, line.the_send) depth 20, tt),
+            (
+              search (sendable, crosses, line.the_send) depth 20,
+              (search (sendable, room.the_send) depth 20, tt),
+            ),
           ),
         ),
       ),
     )
-
-last_send : IsSend (LastTaken.the_field).row
-last_send = search (sendable, crosses, name.the_send) depth 40
 
 -- a plain struct, which serves alone, as a field, in an `Option` and in a slot of a table
 pub world_send : IsSend (World.the_field).row
@@ -57,7 +57,7 @@ world_send =
           search sendable depth 20,
           (
             search (sendable, crosses, sent.the_send) depth 20,
-            (search (sendable, outcome.the_send) depth 20, (last_send, tt)),
+            (search (sendable, outcome.the_send) depth 20, (search (sendable, crosses, name.the_send) depth 40, tt)),
           ),
         ),
       ),

@@ -39,7 +39,7 @@ pub mod TurnByTurn
 pub mod ByName
 mod AtName
 pub mod Depths
-mod LastTaken
+mod Leases
 pub mod Leaving
 mod Images
 pub mod Finishing

@@ -24,7 +24,7 @@ use fork_port::Call;
 use image_depot::Depot;
 use machine_names::Name;
 use ready_queue::ReadyTurn;
-use run_report::{Line, Outcome};
+use run_report::{Line, Outcome, OutcomeRoom};
 use sibling_port::Talk;
 use sibling_words::{SiblingNotes, SiblingWords};
 use std::alloc::{AllocError, Global};
@@ -49,6 +49,8 @@ pub(crate) struct Cell {
     pub(crate) broods: BTreeMap<u32, Brood>,
     /// It has room for a line of each brood.
     pub(crate) log: Vec<Line>,
+    /// Room for the end of the machine.
+    pub(crate) room: OutcomeRoom,
 }
 
 /// Where a machine is.
@@ -113,7 +115,7 @@ pub(crate) enum ChildSlot {
 
 impl Cell {
     /// The cell of a machine that is handed out as it wakes.
-    pub(crate) fn of_lent(alloc: Global) -> Cell
+    pub(crate) fn of_lent(alloc: Global, room: OutcomeRoom) -> Cell
         ensures shows { (depot : Shelves) (path : Path) (resting : Bool) (inbox : Inbox) (vm : KeyedMachine) → vm.machine.ending ≡ None
             → ((ticket : ℕ) → is_cloned paged_machines (paged vm) ticket ≡ false)
             → CellShows depot path resting result (alone forest (record { machine = record { machine = paged vm; place = out }; inbox = inbox })) }
@@ -126,11 +128,12 @@ impl Cell {
             is_listed: false,
             broods: BTreeMap::new(alloc),
             log: Vec::new(alloc),
+            room,
         }
     }
 
     /// The cell of a machine that is at home from its start on, and whose turn is listed.
-    pub(crate) fn of_root(alloc: Global, vm: Box<Vm>) -> Cell
+    pub(crate) fn of_root(alloc: Global, vm: Box<Vm>, room: OutcomeRoom) -> Cell
         ensures shows { (depot : Shelves) (resting : Bool) (inbox : Inbox) → vm.value.machine.ending ≡ None → IsOfDepot depot vm.value.key
             → ((ticket : ℕ) → is_cloned paged_machines (paged vm.value) ticket ≡ false)
             → CellShows depot [] resting result (alone forest (record { machine = record { machine = paged vm.value; place = home }; inbox = inbox })) }
@@ -143,6 +146,7 @@ impl Cell {
             is_listed: true,
             broods: BTreeMap::new(alloc),
             log: Vec::new(alloc),
+            room,
         }
     }
 

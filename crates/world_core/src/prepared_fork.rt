@@ -62,8 +62,9 @@ impl Lease {
         };
         let slots = all_asleep(alloc, self.vm.granted(ticket))?;
         let notes = SiblingNotes::with_room(alloc, slots.len() as u32)?;
-        let turn = ReadyTurn::of_children(alloc, self.name().copy()?, ticket)?;
-        let name = self.name().copy()?;
+        // The names of the children share its row.
+        let name = self.name().whole(alloc)?;
+        let turn = ReadyTurn::of_children(alloc, name.copy()?, ticket)?;
         // Last, since the depot keeps the image, whatever fails after it.
         let left = self.vm.child_left(rt, alloc, depot)?;
         let image = KeptImage::new(alloc, left)?;

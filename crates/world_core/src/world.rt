@@ -30,12 +30,13 @@ use forest_model::Ending;
 use image_depot::{Depot, Sent};
 use machine_names::Name;
 use ready_queue::{ReadyQueue, ReadyTurn};
-use run_report::Outcome;
+use run_report::{Outcome, OutcomeRoom};
 use std::alloc::{AllocError, Global};
 use std::collections::BTreeMap;
 use vm_cell::Vm;
 
 mod calls;
+mod leases;
 mod outcome;
 mod take;
 mod talks;
@@ -89,19 +90,9 @@ pub struct World {
     pub(crate) told: Vec<Sent>,
     /// How the root has ended, with all that the family did.
     pub(crate) outcome: Option<Outcome>,
-    /// The machine that was taken last, which most likely is on lease.
-    pub(crate) last_taken: LastTaken,
-}
-
-/// The machine that was taken last.
-#[derive(Drop)]
-pub(crate) enum LastTaken {
-    /// It was never asked for: where one thread takes machines, none is on lease as it takes the next.
-    NeverAsked,
-    /// It was asked for, and none was taken since.
-    Asked,
-    /// The one of this name.
-    Of(Name),
+    /// The names of the machines that are on lease, as far as memory was there for them, and of some that have come back. There
+    /// are none before somebody asked: where one thread takes machines, none is on lease as it takes the next.
+    pub(crate) leases: Option<Vec<Name>>,
 }
 
 // By hand, since what a derive gives is proved in each crate above, for each type within.
@@ -113,7 +104,7 @@ impl Drop for World {
             halted: _,
             told: _,
             outcome: _,
-            last_taken: _,
+            leases: _,
         } = self;
     }
 }
@@ -148,6 +139,7 @@ impl World {
         let steps = vm.steps();
         let output = vm.into_output();
         let root = Name::root(alloc)?;
+        let room = OutcomeRoom::new(alloc)?;
         let log = Vec::new(alloc);
         let told = Vec::new(alloc);
         Ok(World {
@@ -155,8 +147,8 @@ impl World {
             ready: ReadyQueue::new(),
             halted: None,
             told,
-            outcome: Some(Outcome::new(root, Some(ending), steps, output, log)),
-            last_taken: LastTaken::NeverAsked,
+            outcome: Some(Outcome::new(room, root, Some(ending), steps, output, log)),
+            leases: None,
         })
     }
 
@@ -174,8 +166,9 @@ impl World {
         let vm = Box::new(alloc, vm)?;
         let name = Name::root(alloc)?;
         let turn = ReadyTurn::of_machine(alloc, name.copy()?)?;
+        let room = OutcomeRoom::new(alloc)?;
         let mut cells = BTreeMap::new(alloc);
-        seat(&mut cells, name, Cell::of_root(alloc, vm))?;
+        seat(&mut cells, name, Cell::of_root(alloc, vm, room))?;
         let mut ready = ReadyQueue::new();
         ready.push(turn);
         let told = Vec::new(alloc);
@@ -185,7 +178,7 @@ impl World {
             halted: None,
             told,
             outcome: None,
-            last_taken: LastTaken::NeverAsked,
+            leases: None,
         })
     }
 

@@ -134,12 +134,12 @@ impl Vm {
         requires image { image_of key.now ≡ image_left self.now.machine.state }
         ensures { IfOk result (λ seed. AreSeeds self.now key.now (machines.grant self.now.machine ticket).children seed) }
     {
-        let (_, share) = self.grant(ticket);
+        let (children, share) = self.grant(ticket);
         let steps = self.steps + 1;
         let seed = self
             .hart
             .seed(alloc, key.number(), share, steps, self.limit)?;
-        Seed::new(alloc, &seed)
+        Seed::new(alloc, &seed, children)
     }
 
     /// How many children a ticket was granted, and the share of each.

@@ -139,15 +139,29 @@ impl Hart {
         ensures outside { IsNone result ↔ (is_in_ram self.now.state.ram address ≡ false) }
         ensures inside { IfSome result (λ offset. (is_in_ram self.now.state.ram address ≡ true) × (RAM_BASE ≤ address) × (offset ≡ address - RAM_BASE) × (offset < length self.now.state.ram) × (offset / PAGE_SIZE < length self.now.pages.blank)) }
     {
+        self.offset_below(self.ram_size(), address)
+    }
+
+    /// The same where it is known how many bytes RAM has.
+    #[inline(always)]
+    pub(super) fn offset_below(&self, size: u32, address: u32) -> Option<u32>
+        requires { size ≡ length self.now.state.ram }
+        ensures outside { IsNone result ↔ (is_in_ram self.now.state.ram address ≡ false) }
+        ensures inside { IfSome result (λ offset. (is_in_ram self.now.state.ram address ≡ true) × (RAM_BASE ≤ address) × (offset ≡ address - RAM_BASE) × (offset < length self.now.state.ram) × (offset / PAGE_SIZE < length self.now.pages.blank)) }
+    {
         // Below RAM it wraps to an offset behind RAM.
         let offset = address.wrapping_sub(RAM_BASE);
         // The call tells that RAM has whole pages.
         let _ = self.memory.pages();
-        if offset < self.memory.size() {
-            Some(offset)
-        } else {
-            None
-        }
+        if offset < size { Some(offset) } else { None }
+    }
+
+    /// The bytes of RAM.
+    #[inline(always)]
+    pub(super) fn ram_size(&self) -> u32
+        ensures { result ≡ length self.now.state.ram }
+    {
+        self.memory.size()
     }
 
     /// Answers the fetch of the coming instruction.

@@ -1,8 +1,9 @@
 //! Jumps and branches.
 
-ghost use Rattle.std.specs.Prelude.{◌≡◌};
+ghost use Rattle.std.specs.Prelude.{◌≡◌, ◌+◌, ◌==◌, ◌%◌, ◌^◌};
 ghost use Rattle.rv_decode.specs.declared.kinds.Group.TheVariants as group;
 ghost use Rattle.rv_decode.specs.Kinds.{group_of};
+ghost use Rattle.forest_model.specs.Action.{immediate};
 ghost use Rattle.forest_model.specs.Control.{jump_to, relative, linked, jump, jump_register, branch};
 ghost use Rattle.vm_hart.specs.Acts.{ActsAlone};
 
@@ -19,8 +20,14 @@ impl Hart {
     pub(super) fn jump(&mut self, instr: &Fields) -> Acted
         ensures { ActsAlone self.old self.new (jump instr.now self.old.state) result }
     {
-        let target = self.relative(instr);
-        self.link_and_jump(instr, target)
+        let pc = self.pc;
+        if !self.lands_aligned(instr) {
+            return trapped(INSTRUCTION_ADDRESS_MISALIGNED, after(pc, instr));
+        }
+        // The target is computed last, so that it can be where the pc was: then each step has the pc in one place.
+        self.set_register(instr.rd(), pc.wrapping_add(4));
+        self.pc = after(pc, instr);
+        Acted::Retired(Written::Nothing)
     }
 
     #[inline(always)]
@@ -73,7 +80,16 @@ impl Hart {
     fn relative(&self, instr: &Fields) -> u32
         ensures { result ≡ relative instr.now self.now.state }
     {
-        self.pc.wrapping_add(instr.imm().cast_unsigned())
+        after(self.pc, instr)
+    }
+
+    /// Whether the pc plus the immediate is a multiple of 4. The pc is one, so the immediate tells.
+    #[inline(always)]
+    fn lands_aligned(&self, instr: &Fields) -> bool
+        ensures { result ≡ (relative instr.now self.now.state % 4 == 0) }
+    {
+        let _ = &self.pc;
+        instr.imm().cast_unsigned() % 4 == 0
     }
 
     /// Jumps, with the address of the next instruction for rd.
@@ -100,4 +116,12 @@ impl Hart {
         self.pc = target;
         Acted::Retired(Written::Nothing)
     }
+}
+
+/// An address plus the immediate.
+#[inline(always)]
+fn after(address: u32, instr: &Fields) -> u32
+    ensures { result ≡ (address + immediate instr.now) % 2 ^ 32 }
+{
+    address.wrapping_add(instr.imm().cast_unsigned())
 }

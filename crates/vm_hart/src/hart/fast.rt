@@ -98,28 +98,33 @@ impl Hart {
     {
         let tag = self.mode_tag::<FREE>();
         let mut windows = Windows::shut();
+        let size = self.ram_size();
         let mut left = most;
-        while left > 0 && self.step_fast::<FREE>(slots, epoch, tag, &mut windows) {
+        while left > 0 && self.step_fast::<FREE>(slots, epoch, tag, size, &mut windows) {
             left -= 1;
         }
         most - left
     }
 
-    /// Makes the coming step if it is fast, with no look at the interrupt. Else nothing changes.
+    /// Makes the coming step if it is fast, with no look at the interrupt. Else nothing changes. RAM has `size` bytes: no fast
+    /// step changes that.
     #[inline(always)]
     fn step_fast<const FREE: bool>(
         &mut self,
         slots: &mut [Slot],
         epoch: u32,
         tag: u32,
+        size: u32,
         windows: &mut Windows,
     ) -> bool
         requires free { FREE ≡ true → is_unrestricted self.old.state.csrs ≡ true }
         requires some { 0 < length slots.old }
         requires keeps { Keeps self.old epoch slots.old }
         requires tag { tag ≡ mode_tag self.old.state.csrs.mode }
+        requires size { size ≡ length self.old.state.ram }
         requires is_open { AreOpen self.old.state.csrs windows.old }
         ensures made { MatchBool result (IsFastStep self.old self.new) (self.new ≡ self.old) }
+        ensures same_size { length self.new.state.ram ≡ length self.old.state.ram }
         ensures keeps { Keeps self.new epoch slots.new }
         ensures same_length { length slots.new ≡ length slots.old }
         ensures is_open { AreOpen self.old.state.csrs windows.new }
@@ -127,7 +132,7 @@ impl Hart {
         let Some(number) = self.slot_at_pc(slots, epoch, tag) else {
             return false;
         };
-        self.step_by::<FREE>(slots, number, windows)
+        self.step_by::<FREE>(slots, number, size, windows)
     }
 
     /// Makes the coming step, whose instruction is in the slot of this number, if it is fast. Else nothing changes. What
@@ -137,19 +142,22 @@ impl Hart {
         &mut self,
         slots: &mut [Slot],
         number: usize,
+        size: u32,
         windows: &mut Windows,
     ) -> bool
         requires free { FREE ≡ true → is_unrestricted self.old.state.csrs ≡ true }
+        requires size { size ≡ length self.old.state.ram }
         requires slot_at_pc { IsSlotAtPc self.old slots.old number }
         requires is_open { AreOpen self.old.state.csrs windows.old }
         ensures made { MatchBool result (IsFastStep self.old self.new) (self.new ≡ self.old) }
+        ensures same_size { length self.new.state.ram ≡ length self.old.state.ram }
         ensures keeps { (epoch : ℕ) → Keeps self.old epoch slots.old → Keeps self.new epoch slots.new }
         ensures same_length { length slots.new ≡ length slots.old }
         ensures is_open { AreOpen self.old.state.csrs windows.new }
     {
         self.has_whole_words();
         let instr = slots[number].instr();
-        let tried = self.execute_fast::<FREE>(instr, instr.kind(), windows);
+        let tried = self.execute_fast::<FREE>(instr, instr.kind(), size, windows);
         self.forget_stored(slots, tried);
         tried.is_made
     }
@@ -185,9 +193,11 @@ impl Hart {
         &mut self,
         instr: &Fields,
         kind: Kind,
+        size: u32,
         windows: &mut Windows,
     ) -> Tried
         requires kind { kind ≡ instr.now.kind }
+        requires size { size ≡ length self.old.state.ram }
         requires free { FREE ≡ true → is_unrestricted self.old.state.csrs ≡ true }
         requires is_open { AreOpen self.old.state.csrs windows.old }
         ensures tried { IsTry self.old self.new instr.now result }
@@ -205,23 +215,23 @@ impl Hart {
             Kind::Bltu => not_a_store(self.branch_fast(instr, Kind::Bltu), self.pc),
             Kind::Bgeu => not_a_store(self.branch_fast(instr, Kind::Bgeu), self.pc),
             Kind::Lb => not_a_store(
-                self.load_fast::<FREE>(instr, Kind::Lb, 1, &mut windows.loads),
+                self.load_fast::<FREE>(instr, Kind::Lb, 1, size, &mut windows.loads),
                 self.pc,
             ),
             Kind::Lh => not_a_store(
-                self.load_fast::<FREE>(instr, Kind::Lh, 2, &mut windows.loads),
+                self.load_fast::<FREE>(instr, Kind::Lh, 2, size, &mut windows.loads),
                 self.pc,
             ),
             Kind::Lw => not_a_store(
-                self.load_fast::<FREE>(instr, Kind::Lw, 4, &mut windows.loads),
+                self.load_fast::<FREE>(instr, Kind::Lw, 4, size, &mut windows.loads),
                 self.pc,
             ),
             Kind::Lbu => not_a_store(
-                self.load_fast::<FREE>(instr, Kind::Lbu, 1, &mut windows.loads),
+                self.load_fast::<FREE>(instr, Kind::Lbu, 1, size, &mut windows.loads),
                 self.pc,
             ),
             Kind::Lhu => not_a_store(
-                self.load_fast::<FREE>(instr, Kind::Lhu, 2, &mut windows.loads),
+                self.load_fast::<FREE>(instr, Kind::Lhu, 2, size, &mut windows.loads),
                 self.pc,
             ),
             Kind::Addi => not_a_store(self.compute_immediate_fast(instr, Kind::Addi), self.pc),
@@ -254,9 +264,9 @@ impl Hart {
             Kind::Fence => not_a_store(self.retire_fast(instr, Kind::Fence), self.pc),
             Kind::FenceI => not_a_store(self.retire_fast(instr, Kind::FenceI), self.pc),
             Kind::Wfi => not_a_store(self.retire_fast(instr, Kind::Wfi), self.pc),
-            Kind::Sb => self.store_fast::<FREE>(instr, Kind::Sb, 1, &mut windows.stores),
-            Kind::Sh => self.store_fast::<FREE>(instr, Kind::Sh, 2, &mut windows.stores),
-            Kind::Sw => self.store_fast::<FREE>(instr, Kind::Sw, 4, &mut windows.stores),
+            Kind::Sb => self.store_fast::<FREE>(instr, Kind::Sb, 1, size, &mut windows.stores),
+            Kind::Sh => self.store_fast::<FREE>(instr, Kind::Sh, 2, size, &mut windows.stores),
+            Kind::Sw => self.store_fast::<FREE>(instr, Kind::Sw, 4, size, &mut windows.stores),
             // None is left out, so that no test of the kind goes before the jump.
             Kind::Ecall | Kind::Ebreak | Kind::Mret => not_a_store(false, self.pc),
             Kind::Csrrw | Kind::Csrrs | Kind::Csrrc => not_a_store(false, self.pc),
@@ -276,19 +286,21 @@ impl Hart {
         instr: &Fields,
         kind: Kind,
         width: u32,
+        size: u32,
         window: &mut Span,
     ) -> Tried
         requires kind { kind ≡ instr.now.kind }
         requires group { group_of kind ≡ group.Store }
         requires width { width ≡ store_width kind }
         requires widths { IsWidth width }
+        requires size { size ≡ length self.old.state.ram }
         requires free { FREE ≡ true → is_unrestricted self.old.state.csrs ≡ true }
         requires is_open { IsOpen self.old.state.csrs Right.Store window.old }
         ensures tried { IsTry self.old self.new instr.now result }
         ensures is_open { IsOpen self.old.state.csrs Right.Store window.new }
     {
         let address = self.data_address(instr);
-        let is_made = self.store_here::<FREE>(instr, address, kind, width, window);
+        let is_made = self.store_here::<FREE>(instr, address, kind, width, size, window);
         let next = self.pc;
         Tried {
             is_made,

@@ -304,30 +304,34 @@ impl Hart {
         instr: &Fields,
         kind: Kind,
         width: u32,
+        size: u32,
         window: &mut Span,
     ) -> bool
         requires kind { kind ≡ instr.now.kind }
         requires group { group_of kind ≡ group.Load }
         requires width { width ≡ load_width kind }
         requires widths { IsWidth width }
+        requires size { size ≡ length self.old.state.ram }
         requires free { FREE ≡ true → is_unrestricted self.old.state.csrs ≡ true }
         requires is_open { IsOpen self.old.state.csrs Right.Load window.old }
         ensures acts { MatchBool result (ActsFast self.old self.new instr.now) (self.new ≡ self.old) }
         ensures stored { stored_at (group_of instr.now.kind) instr.now self.old.state ≡ None }
         ensures is_open { IsOpen self.old.state.csrs Right.Load window.new }
     {
+        // It is read first, as in a computation, so that both end in the same instructions.
+        let rd = instr.rd();
         let access = Access {
             address: self.data_address(instr),
             width,
             direction: Direction::Load,
         };
-        let Some(offset) = self.place_in::<FREE>(access, Right::Load, window) else {
+        let Some(offset) = self.place_in::<FREE>(access, Right::Load, size, window) else {
             return false;
         };
         let Ok(number) = self.load_at(offset, width) else {
             return false;
         };
-        self.retire_with(instr, load_value(kind, number));
+        self.retire_into(rd, load_value(kind, number));
         true
     }
 
@@ -339,6 +343,7 @@ impl Hart {
         address: u32,
         kind: Kind,
         width: u32,
+        size: u32,
         window: &mut Span,
     ) -> bool
         requires address { address ≡ data_address instr.now self.old.state }
@@ -346,6 +351,7 @@ impl Hart {
         requires group { group_of kind ≡ group.Store }
         requires width { width ≡ store_width kind }
         requires widths { IsWidth width }
+        requires size { size ≡ length self.old.state.ram }
         requires free { FREE ≡ true → is_unrestricted self.old.state.csrs ≡ true }
         requires is_open { IsOpen self.old.state.csrs Right.Store window.old }
         ensures acts { MatchBool result (ActsFast self.old self.new instr.now) (self.new ≡ self.old) }
@@ -356,20 +362,41 @@ impl Hart {
             width,
             direction: Direction::Store,
         };
-        let Some(offset) = self.place_in::<FREE>(access, Right::Store, window) else {
+        let Some(offset) = self.place_in::<FREE>(access, Right::Store, size, window) else {
             return false;
         };
         let word = self.register(instr.rs2());
+        // It is read before the store, so that it need not be read again behind it.
+        let next = self.next_pc();
         if !self.put_here(offset, width, word) {
             return false;
         }
-        self.retire();
+        self.retire_at(next);
         true
     }
 
     /// Puts the low `width` bytes of a word at an offset in RAM, if its page is here and memory is not wanting.
     #[inline(always)]
     fn put_here(&mut self, offset: u32, width: u32, word: u32) -> bool
+        requires width { IsWidth width }
+        requires aligned { offset % width ≡ 0 }
+        requires inside { offset < length self.old.state.ram }
+        ensures { MatchBool result
+            (IsHere self.old.pages (offset / PAGE_SIZE) × IsPut self.old self.new (offset / PAGE_SIZE)
+            (record self.old.state { ram = put_bytes self.old.state.ram offset (little_bytes width word) }))
+            (self.new ≡ self.old) }
+    {
+        if self.put_own(offset, width, word) {
+            return true;
+        }
+        self.put_anew(offset, width, word)
+    }
+
+    /// The same where the page may be shared, blank or absent. It is apart and never inlined, so that a store to a page that
+    /// this hart holds alone is short.
+    #[cold]
+    #[inline(never)]
+    fn put_anew(&mut self, offset: u32, width: u32, word: u32) -> bool
         requires width { IsWidth width }
         requires aligned { offset % width ≡ 0 }
         requires inside { offset < length self.old.state.ram }

@@ -1,7 +1,7 @@
 //! Where fast steps may access data. What is allowed stays for as many fast steps as are made together, so it is found out
 //! where an access is of no window, and not at each step.
 
-ghost use Rattle.std.specs.Prelude.{◌≡◌, IfSome, true};
+ghost use Rattle.std.specs.Prelude.{◌≡◌, IfSome, length, true};
 ghost use Rattle.forest_model.specs.Access.{right_for, uses};
 ghost use Rattle.rv_exec.specs.Memory.{IsWidth};
 ghost use Rattle.rv_traps.specs.Protection.{allows, is_unrestricted};
@@ -42,10 +42,12 @@ impl Hart {
         &self,
         access: Access,
         right: Right,
+        size: u32,
         window: &mut Span,
     ) -> Option<u32>
         requires width { IsWidth access.width }
         requires right { right ≡ right_for (uses access.direction) }
+        requires size { size ≡ length self.now.state.ram }
         requires free { FREE ≡ true → is_unrestricted self.now.state.csrs ≡ true }
         requires is_open { IsOpen self.now.state.csrs right window.old }
         ensures placed { IfSome result (IsPlaced self.now access) }
@@ -54,7 +56,7 @@ impl Hart {
         if !is_aligned(access) {
             return None;
         }
-        let Some(offset) = self.ram_offset(access.address) else {
+        let Some(offset) = self.offset_below(size, access.address) else {
             return None;
         };
         if FREE {

@@ -108,10 +108,11 @@ impl Cell {
             is_listed: _,
             broods,
             mut log,
+            room,
         } = self;
         log_killed(broods, &mut log);
         let steps = vm.steps();
-        Outcome::new(name, Some(ending), steps, vm.into_output(), log)
+        Outcome::new(room, name, Some(ending), steps, vm.into_output(), log)
     }
 }
 

@@ -33,7 +33,7 @@ impl World {
             halted: _,
             told: _,
             outcome,
-            last_taken: _,
+            leases: _,
         } = self;
         if outcome.is_some() {
             return Ok(outcome);
@@ -107,6 +107,7 @@ impl Cell {
             is_listed: _,
             broods,
             mut log,
+            room,
         } = self;
         let State::Parked(_, vm, turn) = state else {
             unreachable!();
@@ -117,7 +118,7 @@ impl Cell {
         }
         let vm = Box::into_inner(vm);
         let steps = vm.steps();
-        Ok(Outcome::new(turn.into_name(), None, steps, vm.into_output(), log))
+        Ok(Outcome::new(room, turn.into_name(), None, steps, vm.into_output(), log))
     }
 
     /// Puts what a child leaves into its slot.

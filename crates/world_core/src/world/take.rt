@@ -1,4 +1,4 @@
-ghost use Rattle.std.specs.Prelude.{◌≡◌, ◌≢◌, None, Some, true, is_some, IfNone, IfSome, IfOk, OnErr, OnOk, false, MatchBool};
+ghost use Rattle.std.specs.Prelude.{◌≡◌, ◌≢◌, None, Some, true, is_some, IfNone, IfSome, IfOk, OnErr, OnOk};
 ghost use Rattle.std.specs.BTreeMap.{get};
 ghost use Rattle.image_depot.specs.Key.{Shelves};
 ghost use Rattle.forest_tree.specs.Tree.{Tree, Path, machine, subtree, at_path};
@@ -9,17 +9,18 @@ ghost use Rattle.world_core.specs.Lent.{now_of};
 ghost use Rattle.machine_names.specs.Name.{child_path};
 ghost use Rattle.machine_names.specs.NameOrder.{path_cmp};
 ghost use Rattle.world_core.specs.Told.{told_of};
-ghost use Rattle.world_core.specs.Shows.{Member, is_out_cell, paged_of};
+ghost use Rattle.world_core.specs.Shows.{Member, paged_of};
 ghost use Rattle.world_core.specs.World.{Forest, StandsFor, IsWorld};
 ghost use Rattle.world_core.specs.Answers.{IsLentOf, Takes, TakesNamed};
 ghost use Rattle.world_core.specs.Popped.{TakesBy, ShowsCells, IsFirstAsleep, is_listed_in, sleeps, with_turn};
 
-use crate::cell::{Cell, State};
+use crate::cell::Cell;
 use crate::lease::Lease;
-use crate::world::{LastTaken, Taken, World, seat};
+use crate::world::{Taken, World, seat};
 use image_depot::Depot;
 use machine_names::Name;
 use ready_queue::ReadyTurn;
+use run_report::OutcomeRoom;
 use std::alloc::{AllocError, Global};
 use vm_cell::Vm;
 
@@ -40,69 +41,14 @@ impl World {
         }
         while let Some(turn) = self.ready.pop() {
             if let Some(taken) = self.take_by(alloc, depot, turn) {
-                self.keep_last(&taken);
+                self.keep_taken(&taken);
                 return taken;
             }
         }
-        self.ask_last();
-        if self.is_one_out() {
+        if self.is_one_out(alloc) {
             Taken::Idle
         } else {
             Taken::Stuck
-        }
-    }
-
-    /// Keeps the name of what was taken, once it was asked which machine that is. Where memory is wanting for it, the one
-    /// before stays.
-    fn keep_last(&mut self, taken: &Taken)
-        ensures { self.new ≡ record self.old { last_taken = self.new.last_taken } }
-    {
-        if let LastTaken::NeverAsked = &self.last_taken {
-            return;
-        }
-        if let Taken::Took(lease) = taken {
-            if let Ok(name) = lease.name().copy() {
-                self.last_taken = LastTaken::Of(name);
-            }
-        }
-    }
-
-    /// From now on the name is kept of what was taken last.
-    fn ask_last(&mut self)
-        ensures { self.new ≡ record self.old { last_taken = self.new.last_taken } }
-    {
-        if let LastTaken::NeverAsked = &self.last_taken {
-            self.last_taken = LastTaken::Asked;
-        }
-    }
-
-    /// Whether a machine is on lease whose name is still in the forest. Mostly the one is that was taken last: only where it
-    /// came back there is a look over the machines that are awake, until one is found.
-    fn is_one_out(&self) -> bool
-        ensures { MatchBool result ((name : Path) × (is_out_cell (get path_cmp self.now.cells name) ≡ true))
-            ((name : Path) → is_out_cell (get path_cmp self.now.cells name) ≡ false) }
-    {
-        if self.is_last_out() {
-            return true;
-        }
-        for (_, cell) in &self.cells {
-            if let State::Out = &cell.state {
-                return true;
-            }
-        }
-        false
-    }
-
-    /// Whether the machine that was taken last is on lease.
-    fn is_last_out(&self) -> bool
-        ensures { result ≡ true → (name : Path) × (is_out_cell (get path_cmp self.now.cells name) ≡ true) }
-    {
-        let LastTaken::Of(name) = &self.last_taken else {
-            return false;
-        };
-        match self.cells.get(name) {
-            Some(cell) => matches!(&cell.state, State::Out),
-            None => false,
         }
     }
 
@@ -254,10 +200,10 @@ impl World {
         ensures told { told_of self.new ≡ told_of self.old }
         ensures images { (images : Images) → AreOfImages images self.old → AreOfImages images self.new × IfOk result (IsLentAt images) }
     {
-        let (name, turn, vm) = self.woken_child(alloc, depot, parent, ticket, index)?;
+        let (name, turn, vm, room) = self.woken_child(alloc, depot, parent, ticket, index)?;
         let again = name.copy()?;
         let kin = parent.copy()?;
-        seat(&mut self.cells, name, Cell::of_lent(alloc))?;
+        seat(&mut self.cells, name, Cell::of_lent(alloc, room))?;
         let Some(cell) = self.cells.get_mut(parent) else {
             unreachable!();
         };
@@ -265,7 +211,7 @@ impl World {
         Ok(Lease::new(turn, Some(kin), vm))
     }
 
-    /// A child that is still a descriptor, as it wakes: its name, its turn and its machine.
+    /// A child that is still a descriptor, as it wakes: its name, its turn, its machine, and room for its end.
     fn woken_child(
         &self,
         alloc: Global,
@@ -273,7 +219,7 @@ impl World {
         parent: &Name,
         ticket: u32,
         index: u32,
-    ) -> Result<(Name, ReadyTurn, Box<Vm>), AllocError>
+    ) -> Result<(Name, ReadyTurn, Box<Vm>, OutcomeRoom), AllocError>
         requires { (t : Tree Member) × ShowsCells depot.now self.now.cells t × (sleeps parent.now ticket index t ≡ true) }
         ensures name { IfOk result (λ woken. woken.0 ≡ child_path parent.now ticket index) }
         ensures turn { IfOk result (λ woken. woken.1 ≡ record { name = child_path parent.now ticket index; children = None }) }
@@ -290,6 +236,7 @@ impl World {
         };
         let vm = cell.woken(alloc, depot, ticket, index)?;
         let vm = Box::new(alloc, vm)?;
-        Ok((name, turn, vm))
+        let room = OutcomeRoom::new(alloc)?;
+        Ok((name, turn, vm, room))
     }
 }

@@ -8,7 +8,7 @@ use Rattle.host_workers.proofs.hosts.run_hosts.Goals as goal
 pub gather-pass-requires-clause-worked : goal.gather-pass-requires-clause-worked
 gather-pass-requires-clause-worked g c =
     let run =
-    as-dealt g.W.Wire.streak c.args.claims.now c.work_all.new.wires c.args.pass (length c.args.wires.now) c.as_mut_slice-states.result.now c.work_all.new.states
+    as-dealt g.W.Wire.streak c.args.site.now.claims.now c.work_all.new.wires c.args.pass (length c.args.wires.now) c.as_mut_slice-states.result.now c.work_all.new.states
     c.requires.wires.0 c.work_all.ensures.len (λ k count. c.as_mut_slice-states.ensures.value ∙ c.deal-claiming.ensures.states k count)
     c.work_all.ensures.worked in
     (0, c.args.pass, run.0, c.requires.board, run.1, run.2)
@@ -16,7 +16,7 @@ gather-pass-requires-clause-worked g c =
 pub returns : goal.returns
 returns g c =
     let run =
-    as-dealt g.W.Wire.streak c.args.claims.now c.work_all.new.wires c.args.pass (length c.args.wires.now) c.as_mut_slice-states.result.now c.work_all.new.states
+    as-dealt g.W.Wire.streak c.args.site.now.claims.now c.work_all.new.wires c.args.pass (length c.args.wires.now) c.as_mut_slice-states.result.now c.work_all.new.states
     c.requires.wires.0 c.work_all.ensures.len (λ k count. c.as_mut_slice-states.ensures.value ∙ c.deal-claiming.ensures.states k count)
     c.work_all.ensures.worked in
     let all = c.gather-pass.ensures.worked 0 c.args.pass run.0 run.1 run.2 in

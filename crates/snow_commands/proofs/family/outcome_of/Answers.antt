@@ -1,7 +1,8 @@
-use Rattle.std.proofs.Common.{Ok, inl, sym, ap, ◌∙◌}
+use Rattle.std.proofs.Common.{Ok, Some, inr, refl, sym, ap, ◌∙◌}
 use Rattle.fork_board.specs.Follows.{depot_of}
-use Rattle.host_workers.proofs.Ending.{is-stopped}
-use Rattle.snow_commands.proofs.Ended.{closed-ends, ended-lines, outcome-there, unstopped-end}
+use Rattle.host_workers.proofs.Ending.{at-its-end, is-stopped}
+use Rattle.world_core.specs.declared.reason.Reason.TheVariants as why
+use Rattle.snow_commands.proofs.Ended.{closed-ends, ended-lines, outcome-there}
 use Rattle.snow_commands.proofs.family.outcome_of.Goals as goal
 
 pub outcome-requires : goal.outcome-requires
@@ -12,7 +13,7 @@ pub unreachable-requires : goal.unreachable-requires
 unreachable-requires g c =
     let opening = c.args.pass.board.opening in
     let h = c.close.ensures in
-    let ends = unstopped-end c.args.pass c.args.end c.reason.result c.requires.ends c.reason.ensures c.in_default.not-Some in
+    let ends = at-its-end c.args.pass c.args.end c.requires.ends (sym c.reason.ensures ∙ c.in-None.is) in
     outcome-there opening h.log c.close.result h.follows (closed-ends c.args.pass c.close.result h ends) c.outcome.result
     (c.outcome.ensures (depot_of opening) h.follows.world.forest h.follows.world.stands) (c.in-Ok-None.is ∙ ap Ok c.in-Ok-None.field-0-is)
 
@@ -20,10 +21,11 @@ pub returns-in-Ok-Some-clause-lines : goal.returns-in-Ok-Some-clause-lines
 returns-in-Ok-Some-clause-lines g c =
     let opening = c.args.pass.board.opening in
     let h = c.close.ensures in
-    let ends = unstopped-end c.args.pass c.args.end c.reason.result c.requires.ends c.reason.ensures c.in_default.not-Some in
+    let ends = at-its-end c.args.pass c.args.end c.requires.ends (sym c.reason.ensures ∙ c.in-None.is) in
     ended-lines opening h.log c.close.result h.follows (closed-ends c.args.pass c.close.result h ends) c.outcome.result
     c.in-Ok-Some.outcome (c.outcome.ensures (depot_of opening) h.follows.world.forest h.follows.world.stands)
     (c.in-Ok-Some.is ∙ ap Ok c.in-Ok-Some.field-0-is)
 
-pub returns-in-Some-clause-reason : goal.returns-in-Some-clause-reason
-returns-in-Some-clause-reason g c = inl (is-stopped c.args.end c.in-Some.reason (sym c.reason.ensures ∙ c.in-Some.is))
+pub returns-in-Some-Wire-clause-stop : goal.returns-in-Some-Wire-clause-stop
+returns-in-Some-Wire-clause-stop g c =
+    inr (refl, is-stopped c.args.end why.Wire (sym c.reason.ensures ∙ c.in-Some-Wire.is ∙ ap Some c.in-Some-Wire.field-0-is))

@@ -1,4 +1,3 @@
-use Rattle.std.proofs.Common.{◌∙◌, sym, ap, take}
 use Rattle.std.specs.List.{flat_map}
 use Rattle.std.proofs.lemmas.Result.{err_from_is_err_and}
 use Rattle.io_edge.proofs.Streaming.{stops, then}
@@ -11,5 +10,4 @@ returns-in_err-put-clause-streams g c =
     rw (p.1, p.2) (stops (flat_map branch_text c.args.self.now) c.in_err-put.ensures.streams)
 
 pub returns-clause-streams : goal.returns-clause-streams
-returns-clause-streams g c =
-    rw (sym (ap (take c.self.inside.depth) c.deref.ensures ∙ c.self.view_is)) (then c.in_ok-put.ensures.streams c.put_first.ensures.streams)
+returns-clause-streams g c = then c.in_ok-put.ensures.streams c.put_forks.ensures.streams

@@ -1,4 +1,4 @@
-use Rattle.std.proofs.Common.{◌∙◌, sym, ap, length, List, ℕ, subst}
+use Rattle.std.proofs.Common.{List, ℕ, subst}
 use Rattle.io_edge.specs.Streamed.{Streams}
 use Rattle.run_report.proofs.Pieces.{machine-text}
 use Rattle.run_report.proofs.line.MachineLine.put.Goals as goal
@@ -7,5 +7,5 @@ pub returns-clause-streams : goal.returns-clause-streams
 returns-clause-streams g c =
     subst
     (λ (text : List ℕ). Streams (g.K.Sink.gone c.args.sink.now) (g.K.Sink.gone c.put_pieces.new.sink) c.args.buffer.now text c.put_pieces.new.buffer c.put_pieces.result)
-    (machine-text c.args.self.now c.len.result c.deref.result.now (c.len.ensures ∙ sym c.deref.ensures.len ∙ ap length c.deref.ensures.value) c.deref.ensures.value)
+    (machine-text c.args.self.now c.steps.result c.output-output.result.now c.steps.ensures c.output-output.ensures)
     c.put_pieces.ensures.streams

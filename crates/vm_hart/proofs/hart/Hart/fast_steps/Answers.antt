@@ -14,6 +14,7 @@ loop-left-init g c = record {
   within = omega arith;
   keeps = c.requires.keeps;
   same_length = refl;
+  size = c.ram_size-size.ensures;
   tag = c.mode_tag-tag.ensures;
   is_open = c.shut-windows.ensures c.args.self.now.state.csrs;
 }
@@ -21,6 +22,9 @@ loop-left-init g c = record {
 pub step_fast-requires-clause-free : goal.step_fast-requires-clause-free
 step_fast-requires-clause-free g c = λ free.
     subst (λ (s : CsrRegisters). is_unrestricted s ≡ true) (sym c.loop-left.invariant.stretch.csrs) (c.requires.free free)
+
+pub step_fast-requires-clause-size : goal.step_fast-requires-clause-size
+step_fast-requires-clause-size g c = c.loop-left.invariant.size
 
 pub loop-left-preserved : goal.loop-left-preserved
 loop-left-preserved g c =
@@ -33,6 +37,7 @@ loop-left-preserved g c =
       within = omega (arith, within);
       keeps = c.step_fast.ensures.keeps;
       same_length = c.step_fast.ensures.same_length ∙ c.loop-left.invariant.same_length;
+      size = c.loop-left.invariant.size ∙ sym c.step_fast.ensures.same_size;
       tag = subst (λ (s : CsrRegisters). c.mode_tag-tag.result ≡ mode_tag s.mode) (sym step.csrs) c.loop-left.invariant.tag;
       is_open = subst (λ s. AreOpen s c.step_fast.new.windows) (sym step.csrs) c.step_fast.ensures.is_open;
     }

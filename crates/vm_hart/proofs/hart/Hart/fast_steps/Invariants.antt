@@ -10,6 +10,7 @@ invariant-loop-left g l = record {
   within : l.left ≤ l.most;
   keeps : Keeps l.self l.epoch l.slots;
   same_length : length l.slots ≡ length l.fn.slots;
+  size : l.size ≡ length l.self.state.ram;
   tag : l.tag ≡ mode_tag l.self.state.csrs.mode;
   is_open : AreOpen l.self.state.csrs l.windows;
 }

@@ -8,7 +8,7 @@ use Rattle.page_frames.specs.declared.page.TheConstants.{PAGE_SIZE}
 use Rattle.guest_pmp.specs.declared.access.Access.TheVariants as right
 use Rattle.rv_exec.specs.Memory.{load_value, load_width}
 use Rattle.rv_traps.specs.Protection.{allows}
-use Rattle.forest_model.specs.State.{at_next_instruction, is_in_ram}
+use Rattle.forest_model.specs.State.{at_next_instruction, is_in_ram, with_register}
 use Rattle.forest_model.specs.Action.{with_rd}
 use Rattle.forest_model.specs.Memory.{data_address}
 use Rattle.vm_hart.specs.Keyed.{KeyedState}
@@ -26,11 +26,13 @@ returns-clause-acts g c =
     let place : offset ≡ named - RAM_BASE = is.place ∙ ap (λ a. a - RAM_BASE) same in
     let aligned = eqb-true (c.data_address.result % c.args.width) 0 is.aligned in
     let page = c.in-Ok.ensures.1 in
-    loads-here old c.retire_with.new.self i (subst (λ a. is_in_ram old.state.ram a ≡ true) same is.in_ram)
+    loads-here old c.retire_into.new.self i (subst (λ a. is_in_ram old.state.ram a ≡ true) same is.in_ram)
     (subst (λ o. slice_get old.pages.here (o / PAGE_SIZE) ≡ Some true) place page) c.in-Ok.number (ap group_of (sym c.requires.kind) ∙ c.requires.group)
     (subst (λ w. named % w ≡ 0) (c.requires.width ∙ ap load_width c.requires.kind) (subst (λ a. a % c.args.width ≡ 0) same aligned))
     (subst (λ a. allows old.state.csrs right.Load a ≡ true) same is.allowed)
     (c.in-Ok.ensures.0
     ∙ ap (λ o. little_from o c.args.width old.state.ram) place ∙ ap (λ w. little_from (named - RAM_BASE) w old.state.ram) (c.requires.width ∙ ap load_width c.requires.kind))
-    (c.retire_with.ensures.new ∙ ap (λ v. record old { state = at_next_instruction (with_rd i v old.state) })
+    (c.retire_into.ensures
+    ∙ ap (λ n. record old { state = at_next_instruction (record old.state { registers = with_register old.state.registers n c.load_value.result }) }) c.rd-rd.ensures.value
+    ∙ ap (λ v. record old { state = at_next_instruction (with_rd i v old.state) })
     (c.load_value.ensures ∙ ap (λ k. load_value k c.in-Ok.number) c.requires.kind))

@@ -28,7 +28,7 @@ invariant_of-result g c =
       few = subst (λ n. n ≤ MAX_CLONES) (sym count) c.granted.ensures.most;
       queued = c.in_ok-turn.ensures
           ∙ ap (λ n. let turn : Ready = record { name = n; children = Some (c.in-Some-Clone.ticket, 1) } in turn)
-          (c.in_ok-copy.ensures ∙ c.name.ensures ∙ sym c.name-2.ensures ∙ sym c.in_ok-name.ensures);
+          c.in_ok-copy.ensures;
     }
 
 pub returns-clause-of_lease : goal.returns-clause-of_lease
@@ -42,7 +42,7 @@ returns-clause-of_lease g c =
     let same = c.deref-2.ensures ∙ ap vm_of c.self.view_is in
     let many = count ∙ c.granted.ensures.value ∙ ap (λ (v : KeyedMachine). (machines.grant v.machine ticket).children) (c.deref.ensures ∙ ap vm_of c.self.view_is) in
     record {
-      name = c.in_ok-name.ensures ∙ c.name-2.ensures;
+      name = c.in_ok-name.ensures ∙ c.name.ensures;
       clone = at;
       children = many;
       seeds = subst (λ (image : ForkImage). AreSeeds (vm_of c.args.self.now) image.key (vec_len slots) image.seed) (sym c.in_ok-image.ensures)

@@ -11,7 +11,7 @@ use Rattle.std.specs.Prelude.{MatchBool}
 use Rattle.talking_history.specs.Rows.{idle, stuck}
 use Rattle.world_core.specs.Answers.{Goes, Takes}
 use Rattle.world_core.specs.Images.{AreOfImages}
-use Rattle.world_core.proofs.LastTaken.{kept-goes, kept-takes}
+use Rattle.world_core.proofs.Leases.{kept-goes, kept-takes}
 use Rattle.world_core.proofs.world.World.take.Goals as goal
 
 abbrev OneOut : World → Type 0
@@ -57,8 +57,8 @@ take_by-requires-clause-going c = (c.loop-turn.invariant.going, c.loop-turn.inva
 
 pub returns-in-Some-take_by-clause-takes : goal.returns-in-Some-take_by-clause-takes
 returns-in-Some-take_by-clause-takes c = λ f h.
-    subst (Takes c.args.depot.now f c.in-Some-take_by.taken) (sym c.keep_last.ensures)
-    (kept-takes c.args.depot.now f c.take_by.new.self c.keep_last.new.self.last_taken c.in-Some-take_by.taken
+    subst (Takes c.args.depot.now f c.in-Some-take_by.taken) (sym c.keep_taken.ensures)
+    (kept-takes c.args.depot.now f c.take_by.new.self c.keep_taken.new.self.leases c.in-Some-take_by.taken
     (c.in-Some-take_by.ensures.takes f
     (with-popped c.args.depot.now c.loop-turn.self c.in-Some-pop.turn c.pop.new.self f c.in-Some-pop.ensures
     (c.loop-turn.invariant.stands f h))))
@@ -81,29 +81,30 @@ loop-turn-preserved c =
 pub returns-then-is_one_out-clause-takes : goal.returns-then-is_one_out-clause-takes
 returns-then-is_one_out-clause-takes c = λ f h.
     let left = c.in_default-pop.ensures in
-    let away = one-out c.is_one_out.result (OneOut c.ask_last.new.self) (NoneOut c.ask_last.new.self) c.if-is_one_out.true c.is_one_out.ensures in
-    let same = ap (λ (w : World). is_out_cell (get path_cmp w.cells away.0)) c.ask_last.ensures in
-    subst (Goes c.args.depot.now f idle) (sym c.ask_last.ensures)
-    (kept-goes c.args.depot.now f (record c.loop-turn.self { ready = c.pop.new.self }) c.ask_last.new.self.last_taken idle
+    let now : World = record c.loop-turn.self { ready = c.pop.new.self } in
+    let away = one-out c.is_one_out.result (OneOut now) (NoneOut now) c.if-is_one_out.true c.is_one_out.ensures.one in
+    subst (Goes c.args.depot.now f idle) (sym c.is_one_out.ensures.same)
+    (kept-goes c.args.depot.now f now c.is_one_out.new.self.leases idle
     (idle-goes c.args.depot.now c.loop-turn.self c.pop.new.self f (c.loop-turn.invariant.stands f h) c.loop-turn.invariant.going c.loop-turn.invariant.unhalted
-    left.0 left.1 away.0 (sym same ∙ away.1)))
+    left.0 left.1 away.0 away.1))
 
 pub returns-else-is_one_out-clause-takes : goal.returns-else-is_one_out-clause-takes
 returns-else-is_one_out-clause-takes c = λ f h.
     let left = c.in_default-pop.ensures in
-    let none = none-out c.is_one_out.result (OneOut c.ask_last.new.self) (NoneOut c.ask_last.new.self) c.if-is_one_out.false c.is_one_out.ensures in
-    subst (Goes c.args.depot.now f stuck) (sym c.ask_last.ensures)
-    (kept-goes c.args.depot.now f (record c.loop-turn.self { ready = c.pop.new.self }) c.ask_last.new.self.last_taken stuck
+    let now : World = record c.loop-turn.self { ready = c.pop.new.self } in
+    let none = none-out c.is_one_out.result (OneOut now) (NoneOut now) c.if-is_one_out.false c.is_one_out.ensures.one in
+    subst (Goes c.args.depot.now f stuck) (sym c.is_one_out.ensures.same)
+    (kept-goes c.args.depot.now f now c.is_one_out.new.self.leases stuck
     (stuck-goes c.args.depot.now c.loop-turn.self c.pop.new.self f (c.loop-turn.invariant.stands f h) c.loop-turn.invariant.going c.loop-turn.invariant.unhalted
-    left.0 left.1 (λ name. sym (ap (λ (w : World). is_out_cell (get path_cmp w.cells name)) c.ask_last.ensures) ∙ none name)))
+    left.0 left.1 none))
 
 pub returns-in-Some-take_by-clause-images : goal.returns-in-Some-take_by-clause-images
 returns-in-Some-take_by-clause-images c = λ images h.
     let now = c.in-Some-take_by.ensures.images images (c.loop-turn.invariant.images images h) in
-    (subst (AreOfImages images) (sym c.keep_last.ensures) now.0, now.1)
+    (subst (AreOfImages images) (sym c.keep_taken.ensures) now.0, now.1)
 
 pub returns-then-is_one_out-clause-images : goal.returns-then-is_one_out-clause-images
-returns-then-is_one_out-clause-images c = λ images h. (subst (AreOfImages images) (sym c.ask_last.ensures) (c.loop-turn.invariant.images images h), tt)
+returns-then-is_one_out-clause-images c = λ images h. (subst (AreOfImages images) (sym c.is_one_out.ensures.same) (c.loop-turn.invariant.images images h), tt)
 
 pub returns-else-is_one_out-clause-images : goal.returns-else-is_one_out-clause-images
-returns-else-is_one_out-clause-images c = λ images h. (subst (AreOfImages images) (sym c.ask_last.ensures) (c.loop-turn.invariant.images images h), tt)
+returns-else-is_one_out-clause-images c = λ images h. (subst (AreOfImages images) (sym c.is_one_out.ensures.same) (c.loop-turn.invariant.images images h), tt)
