@@ -10,7 +10,7 @@ returns-in_err-push_leaves-clause-most g c = c.push_leaves.ensures.most
 
 pub returns-then-rest-eq0-clause-value : goal.returns-then-rest-eq0-clause-value
 returns-then-rest-eq0-clause-value g c =
-    let left = flags_from c.push_leaves.new.place c.args.runs.now in
+    let left = flags_from c.push_leaves.new.self c.args.runs.now in
     let list = c.push_leaves.new.list in
     let none : left ≡ [] = nil_from_length left (omega (arith, c.in_ok-push_leaves.ensures.whole, c.if-rest-eq0.true)) in
     sym (append-nil list) ∙ ap (λ fs. list ++ chosen c.args.set.now c.args.unset.now fs) (sym none) ∙ c.in_ok-push_leaves.ensures.value
@@ -49,18 +49,18 @@ push_leaf-requires-clause-full g c = omega (arith, c.in_ok-push_leaves.ensures.s
 
 pub push_leaf-requires-clause-some : goal.push_leaf-requires-clause-some
 push_leaf-requires-clause-some g c =
-    let left = flags_from c.push_leaves.new.place c.args.runs.now in
+    let left = flags_from c.push_leaves.new.self c.args.runs.now in
     let long = ap length c.in_ok-last.ensures.value ∙ length-map left (choice c.args.set.now c.args.unset.now) in
     omega (arith, long, c.in_ok-push_leaves.ensures.whole, c.if-rest-eq0.false)
 
 pub push_leaf-requires-clause-most : goal.push_leaf-requires-clause-most
 push_leaf-requires-clause-most g c =
-    let left = flags_from c.push_leaves.new.place c.args.runs.now in
+    let left = flags_from c.push_leaves.new.self c.args.runs.now in
     let long = ap length c.in_ok-last.ensures.value ∙ length-map left (choice c.args.set.now c.args.unset.now) in
     omega (arith, long, c.in_ok-push_leaves.ensures.whole)
 
 pub push_leaf-requires-clause-fits : goal.push_leaf-requires-clause-fits
 push_leaf-requires-clause-fits g c =
-    let left = flags_from c.push_leaves.new.place c.args.runs.now in
+    let left = flags_from c.push_leaves.new.self c.args.runs.now in
     let long = ap length c.in_ok-last.ensures.value ∙ length-map left (choice c.args.set.now c.args.unset.now) in
     omega (arith, long, c.in_ok-push_leaves.ensures.size)

@@ -4,7 +4,7 @@ use Rattle.shared_leaves.specs.declared.leaf.TheConstants.{LEAF_ENTRIES}
 use Rattle.shared_leaves.specs.Choices.{choice, chosen, which}
 use Rattle.shared_leaves.specs.Runs.{flags_from, steps_from}
 use Rattle.shared_leaves.proofs.RunSteps.{leaf_behind, steps_few, steps_leaf}
-use Rattle.shared_leaves.proofs.runs.push_leaves.Goals as goal
+use Rattle.shared_leaves.proofs.runs.Place.push_leaves.Goals as goal
 
 pub leaves-preserved : goal.leaves-preserved
 leaves-preserved g c =
@@ -12,7 +12,7 @@ leaves-preserved g c =
     let runs = c.args.runs.now in
     let set = c.args.set.now in
     let unset = c.args.unset.now in
-    let flags = flags_from c.leaves.place runs in
+    let flags = flags_from c.leaves.self runs in
     let leaf = c.in_ok-next_leaf.field-0 in
     let made = which c.leaves.made.set c.leaves.made.unset in
     let enough : LEAF_ENTRIES ≤ length flags = omega (arith, so_far.left, c.leaves-test.true) in
@@ -37,7 +37,7 @@ next_leaf-requires-clause-enough g c = omega (arith, c.leaves.invariant.left, c.
 pub returns-in_err-next_leaf-clause-most : goal.returns-in_err-next_leaf-clause-most
 returns-in_err-next_leaf-clause-most g c =
     let so_far = c.leaves.invariant in
-    let flags = flags_from c.leaves.place c.args.runs.now in
+    let flags = flags_from c.leaves.self c.args.runs.now in
     let enough : LEAF_ENTRIES ≤ length flags = omega (arith, so_far.left, c.leaves-test.true) in
     let steps = steps_leaf (which c.leaves.made.set c.leaves.made.unset) flags enough in
     omega (arith, steps, c.next_leaf.ensures.most, so_far.counted)
@@ -45,7 +45,7 @@ returns-in_err-next_leaf-clause-most g c =
 pub returns-in_err-push_leaf-clause-most : goal.returns-in_err-push_leaf-clause-most
 returns-in_err-push_leaf-clause-most g c =
     let so_far = c.leaves.invariant in
-    let flags = flags_from c.leaves.place c.args.runs.now in
+    let flags = flags_from c.leaves.self c.args.runs.now in
     let enough : LEAF_ENTRIES ≤ length flags = omega (arith, so_far.left, c.leaves-test.true) in
     let steps = steps_leaf (which c.leaves.made.set c.leaves.made.unset) flags enough in
     omega (arith, steps, c.in_ok-next_leaf.ensures.cost, so_far.counted)
@@ -56,7 +56,7 @@ push_leaf-requires-clause-full g c = omega (arith, c.leaves.invariant.size)
 pub push_leaf-requires-clause-some : goal.push_leaf-requires-clause-some
 push_leaf-requires-clause-some g c =
     let so_far = c.leaves.invariant in
-    let flags = flags_from c.leaves.place c.args.runs.now in
+    let flags = flags_from c.leaves.self c.args.runs.now in
     let enough : LEAF_ENTRIES ≤ length flags = omega (arith, so_far.left, c.leaves-test.true) in
     let long = ap length c.in_ok-next_leaf.ensures.value ∙ length-map (take LEAF_ENTRIES flags) (choice c.args.set.now c.args.unset.now) ∙ length-take-le LEAF_ENTRIES flags enough in
     omega (arith, long)
@@ -64,7 +64,7 @@ push_leaf-requires-clause-some g c =
 pub push_leaf-requires-clause-most : goal.push_leaf-requires-clause-most
 push_leaf-requires-clause-most g c =
     let so_far = c.leaves.invariant in
-    let flags = flags_from c.leaves.place c.args.runs.now in
+    let flags = flags_from c.leaves.self c.args.runs.now in
     let enough : LEAF_ENTRIES ≤ length flags = omega (arith, so_far.left, c.leaves-test.true) in
     let long = ap length c.in_ok-next_leaf.ensures.value ∙ length-map (take LEAF_ENTRIES flags) (choice c.args.set.now c.args.unset.now) ∙ length-take-le LEAF_ENTRIES flags enough in
     omega (arith, long)
@@ -72,7 +72,7 @@ push_leaf-requires-clause-most g c =
 pub push_leaf-requires-clause-fits : goal.push_leaf-requires-clause-fits
 push_leaf-requires-clause-fits g c =
     let so_far = c.leaves.invariant in
-    let flags = flags_from c.leaves.place c.args.runs.now in
+    let flags = flags_from c.leaves.self c.args.runs.now in
     let enough : LEAF_ENTRIES ≤ length flags = omega (arith, so_far.left, c.leaves-test.true) in
     let long = ap length c.in_ok-next_leaf.ensures.value ∙ length-map (take LEAF_ENTRIES flags) (choice c.args.set.now c.args.unset.now) ∙ length-take-le LEAF_ENTRIES flags enough in
     omega (arith, long, so_far.size, c.leaves-test.true)
@@ -86,7 +86,7 @@ returns-clause-whole g c = omega (arith, c.leaves.invariant.left, c.leaves-test.
 pub returns-clause-cost : goal.returns-clause-cost
 returns-clause-cost g c =
     let so_far = c.leaves.invariant in
-    let flags = flags_from c.leaves.place c.args.runs.now in
+    let flags = flags_from c.leaves.self c.args.runs.now in
     let few : length flags < LEAF_ENTRIES = omega (arith, so_far.left, c.leaves-test.false) in
     let rest = steps_few (which c.leaves.made.set c.leaves.made.unset) flags few in
     omega (arith, rest, so_far.counted)
@@ -94,7 +94,7 @@ returns-clause-cost g c =
 pub returns-clause-most : goal.returns-clause-most
 returns-clause-most g c =
     let so_far = c.leaves.invariant in
-    let flags = flags_from c.leaves.place c.args.runs.now in
+    let flags = flags_from c.leaves.self c.args.runs.now in
     let few : length flags < LEAF_ENTRIES = omega (arith, so_far.left, c.leaves-test.false) in
     let rest = steps_few (which c.leaves.made.set c.leaves.made.unset) flags few in
     omega (arith, rest, so_far.counted)
