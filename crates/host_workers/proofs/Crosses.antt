@@ -11,9 +11,9 @@ use Rattle.image_depot.proofs.depot.Depot.TheSendSync as depot
 use Rattle.fork_board.proofs.Crosses.{board_sync, pass_send}
 use Rattle.page_claims.proofs.claims.ClaimPass.TheSendSync as claim_pass
 use Rattle.page_claims.proofs.claims.Claims.TheSendSync as claims
-use Rattle.host_workers.specs.contracts.shared.Shared as Shared
-use Rattle.host_workers.specs.contracts.shared.State as State
-use Rattle.host_workers.proofs.shared.Settings.TheSendSync as settings
+use Rattle.board_worker.specs.contracts.shared.Shared as Shared
+use Rattle.host_workers.specs.contracts.state.State as State
+use Rattle.board_worker.proofs.shared.Settings.TheSendSync as settings
 
 state_send : IsSend State.the_row
 state_send = search (sendable, pass_send, claim_pass.the_send) depth 40

@@ -17,15 +17,15 @@ use Rattle.fork_board.specs.Follows.{opening_record, record_at}
 use Rattle.fork_board.specs.Passes.{BoardValue, HoldsNone, Joins, PassValue, seen_record}
 use Rattle.fork_board.proofs.Entries.{none-between}
 use Rattle.fork_board.proofs.Records.{Free, free-more}
-use Rattle.host_workers.specs.Finishes.{AreDone, Finishes, IsDone, IsForeign, IsStopped, HasStuck, IsStoppedElsewhere, WorkedAll, first_stop, is_over}
-use Rattle.host_workers.specs.Lost.{IsLost, IsOneLost}
+use Rattle.board_ends.specs.Finishes.{AreDone, Finishes, IsDone, IsForeign, IsStopped, HasStuck, IsStoppedElsewhere, WorkedAll, first_stop, is_over}
+use Rattle.board_ends.specs.Lost.{IsLost, IsOneLost}
+use Rattle.board_ends.specs.Stages.{Goes, done, free}
+use Rattle.board_ends.specs.declared.finish.Finish.{Finish}
+use Rattle.board_ends.specs.declared.finish.Finish.TheVariants.{Over, Stopped, Stuck}
+use Rattle.board_ends.proofs.Over.{over-later, over-same}
+use Rattle.board_ends.proofs.Stops.{seen-halted, stops-by, stops-later, stops-on, unstopped}
 use Rattle.host_workers.specs.Spread.{BlamesOne, WorkAll, Works, child, finish_of, parent}
-use Rattle.host_workers.specs.Stages.{Goes, done, free}
-use Rattle.host_workers.specs.Stays.{Blames, Worked}
-use Rattle.host_workers.specs.declared.finish.Finish.{Finish}
-use Rattle.host_workers.specs.declared.finish.Finish.TheVariants.{Over, Stopped, Stuck}
-use Rattle.host_workers.proofs.Over.{over-later, over-same}
-use Rattle.host_workers.proofs.Stops.{seen-halted, stops-by, stops-later, stops-on, unstopped}
+use Rattle.board_worker.specs.Stays.{Blames, Worked}
 
 -- ---- who stopped the world
 

@@ -1,10 +1,3 @@
-pub mod Stops
-pub mod Working
-pub mod Swapping
-pub mod Standing
-pub mod Ending
-pub mod Hearing
-pub mod Over
 pub mod Joining
 pub mod States
 pub mod Crosses

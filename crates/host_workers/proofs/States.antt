@@ -7,11 +7,11 @@ use Rattle.std.proofs.lemmas.List.Elements.{All-append, All-cons, All-drop, All-
 use Rattle.fork_board.specs.Passes.{BoardValue, HoldsNone, Joins, PassValue}
 use Rattle.page_claims.specs.Calls.{IsSamePass}
 use Rattle.page_claims.specs.Values.{ClaimsValue, PassValue as ClaimValue}
-use Rattle.host_workers.specs.Claiming.{share}
+use Rattle.board_ends.specs.declared.finish.Finish.{Finish}
+use Rattle.board_worker.specs.Claiming.{share}
 use Rattle.host_workers.specs.Spread.{HasWorked, HaveWorked, IsDue, WorkAll, Works, child, finish_of, parent, states_of}
-use Rattle.host_workers.specs.declared.shared.State.{State}
-use Rattle.host_workers.specs.declared.shared.State.TheVariants.{Due, Begun, Done}
-use Rattle.host_workers.specs.declared.finish.Finish.{Finish}
+use Rattle.host_workers.specs.declared.state.State.{State}
+use Rattle.host_workers.specs.declared.state.State.TheVariants.{Due, Begun, Done}
 use Rattle.host_workers.proofs.Joining.{alone-works, both-work}
 
 -- ---- the seeds of wires

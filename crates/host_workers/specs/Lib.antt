@@ -1,9 +1,1 @@
-pub mod Lost
-pub mod Stages
-pub mod Claiming
-pub mod Finishes
-pub mod Fit
-pub mod Hears
-pub mod Next
-pub mod Stays
 pub mod Spread

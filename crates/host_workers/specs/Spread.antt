@@ -7,15 +7,15 @@ use Rattle.world_core.specs.declared.reason.Reason.TheVariants as reason
 use Rattle.fork_board.specs.Passes.{BoardValue, HoldsNone, PassValue}
 use Rattle.page_claims.specs.Calls.{IsSamePass}
 use Rattle.page_claims.specs.Values.{ClaimsValue}
-use Rattle.host_workers.specs.Claiming.{IsShare, share}
-use Rattle.host_workers.specs.Finishes.{AreDone, Finishes, IsStopped, IsStoppedElsewhere, WorkedAll}
-use Rattle.host_workers.specs.Lost.{IsOneLost}
-use Rattle.host_workers.specs.Stages.{done, free}
-use Rattle.host_workers.specs.Stays.{Blames, Worked}
-use Rattle.host_workers.specs.declared.shared.State.{State}
-use Rattle.host_workers.specs.declared.shared.State.TheVariants.{Due, Begun, Done}
-use Rattle.host_workers.specs.declared.finish.Finish.{Finish}
-use Rattle.host_workers.specs.declared.finish.Finish.TheVariants.{Over, Stopped, Stuck}
+use Rattle.board_ends.specs.Finishes.{AreDone, Finishes, IsStopped, IsStoppedElsewhere, WorkedAll}
+use Rattle.board_ends.specs.Lost.{IsOneLost}
+use Rattle.board_ends.specs.Stages.{done, free}
+use Rattle.board_ends.specs.declared.finish.Finish.{Finish}
+use Rattle.board_ends.specs.declared.finish.Finish.TheVariants.{Over, Stopped, Stuck}
+use Rattle.board_worker.specs.Claiming.{IsShare, share}
+use Rattle.board_worker.specs.Stays.{Blames, Worked}
+use Rattle.host_workers.specs.declared.state.State.{State}
+use Rattle.host_workers.specs.declared.state.State.TheVariants.{Due, Begun, Done}
 
 -- the pass after one was split off, and that one
 abbrev pub parent : PassValue → PassValue

@@ -1,20 +1,17 @@
 //! A guest whose files are read is booted, and its family is run to its end, by workers on a board: until the root has ended, or
 //! no machine makes a step any more.
 
-ghost use Rattle.std.specs.Prelude.{◌≡◌, ◌⊎◌, ◌+◌, ◌<◌, ◌≤◌, [], length, map, vec_len, IfErr, IfOk};
+ghost use Rattle.std.specs.Prelude.{◌≡◌, ◌⊎◌, ◌+◌, ◌<◌, ◌≤◌, length, map, vec_len};
 ghost use Rattle.page_claims.specs.Calls.{fresh};
-ghost use Rattle.forest_model.specs.Forest.{finish};
-ghost use Rattle.run_report.specs.Lines.{lines};
-ghost use Rattle.run_report.specs.Report.{lines_of, told_box};
 ghost use Rattle.fork_board.specs.Passes.{HoldsNone};
-ghost use Rattle.host_workers.specs.Finishes.{AreDone, Finishes, IsStopped, IsStoppedElsewhere, WorkedAll};
-ghost use Rattle.host_workers.specs.Lost.{IsOneLost};
-ghost use Rattle.snow_commands.specs.Seeded.{IfRun, all_seeded, seeded_for};
-ghost use Rattle.snow_commands.specs.Text.{HasLines, first_family, guest_image};
-ghost use Rattle.snow_commands.specs.Writes.{MakesOver};
+ghost use Rattle.board_ends.specs.Finishes.{AreDone, Finishes, IsStopped, IsStoppedElsewhere, WorkedAll};
+ghost use Rattle.board_ends.specs.Lost.{IsOneLost};
+ghost use Rattle.command_texts.specs.Seeded.{IfRun, all_seeded, seeded_for};
+ghost use Rattle.command_texts.specs.Text.{HasLines, guest_image};
+ghost use Rattle.command_texts.specs.Writes.{MakesOver};
 
-use crate::guest::boot;
 use command_line::{GuestWords, RunWords};
+use command_texts::{boot, outcome_of};
 use cow_disk::{PAGE_SECTORS, SECTOR_SIZE};
 use fork_board::{Board, Pass};
 use guest_files::{GuestFiles, Stop};
@@ -124,29 +121,4 @@ fn run_seeded<R: AllocGlobal + Threads + Wait + Sync, W: Wire + Send, G: Gate + 
     };
     let (pass, _, end) = run_hosts(rt, site, pass, claiming, wires, &settings);
     (pass, end)
-}
-
-/// What came of a family, of which a pass has seen that it was stopped, that its root has ended, or that no machine makes a step any
-/// more. Else than by a stop only memory can be wanting.
-fn outcome_of<R: AllocGlobal + Wait>(
-    rt: &R,
-    board: Board,
-    pass: Pass,
-    end: Finish,
-) -> Result<Outcome, Stop>
-    requires board { pass.board ≡ board }
-    requires ends { Finishes pass end }
-    ensures lines { IfOk result (λ outcome. lines_of outcome ≡ lines told_box [] (finish (first_family pass.board.opening.first.value.machine))) }
-    ensures stop { IfErr result (λ stop. stop ≡ Stop.Memory ⊎ (stop ≡ Stop.Wire) × (end ≡ Finish.Stopped Reason.Wire)) }
-{
-    match end.reason() {
-        Some(Reason::Wire) => return Err(Stop::Wire),
-        Some(Reason::Memory) => return Err(Stop::Memory),
-        None => {}
-    }
-    match board.close(rt, pass).outcome(rt.alloc()) {
-        Ok(Some(outcome)) => Ok(outcome),
-        Ok(None) => unreachable!(),
-        Err(_) => Err(Stop::Memory),
-    }
 }

@@ -1,31 +1,24 @@
 //! The command `self`: the family of a guest that is generated from a seed is run to its end.
 
-ghost use Rattle.std.specs.Prelude.{◌≡◌, ◌*◌, ◌<◌, ◌≤◌, map, vec_len, IfOk, OnErr, OnOk};
-ghost use Rattle.cow_disk.specs.declared.disk.TheConstants.{SECTOR_SIZE};
-ghost use Rattle.flat_memory.specs.Flat.{zeros};
+ghost use Rattle.std.specs.Prelude.{◌≡◌, ◌<◌, ◌≤◌, map, vec_len, OnErr, OnOk};
 ghost use Rattle.io_edge.specs.Outside.{HasRisen, IsPrefixGone, appended};
-ghost use Rattle.host_workers.specs.Lost.{IsOneLost};
 ghost use Rattle.run_report.specs.Summary.{summary_of};
+ghost use Rattle.board_ends.specs.Lost.{IsOneLost};
 ghost use Rattle.command_line.specs.Words.{generated_how};
-ghost use Rattle.snow_commands.specs.Seeded.{IfRun, seeded_for};
-ghost use Rattle.snow_commands.specs.Text.{generated_files, generated_text};
-ghost use Rattle.snow_commands.specs.Writes.{IsSilent, WritesFileless};
+ghost use Rattle.command_texts.specs.Seeded.{IfRun, seeded_for};
+ghost use Rattle.command_texts.specs.Text.{generated_text};
+ghost use Rattle.command_texts.specs.Writes.{IsSilent, WritesFileless};
 
 use crate::family::{Plan, run_files};
 use command_line::GeneratedWords;
-use cow_disk::SECTOR_SIZE;
-use guest_files::{GuestFiles, Stop};
-use guest_gen::guest_of;
+use command_texts::generated_files;
+use guest_files::Stop;
 use host_workers::{Gate, MAX_WORKERS};
 use io_edge::Sink;
 use run_report::{Outcome, ReportError, summary_into};
-use std::alloc::{AllocError, Global};
 use std::sync::Wait;
 use std::thread::Threads;
 use wire_fates::Wire;
-
-/// The sectors of the disk of a generated guest.
-pub const SECTORS: usize = 16;
 
 /// Runs the family of the guest of a seed to its end, and writes what its report comes to.
 pub fn run_and_sum_up<
@@ -61,24 +54,4 @@ fn write_summary<K: Sink>(outcome: &Outcome, seed: u32, sink: &mut K) -> Result<
     ensures prefix { IsPrefixGone (K.gone sink.old) (K.gone sink.new) (summary_of seed outcome.now) }
 {
     summary_into(outcome, seed, sink)
-}
-
-/// The image of the guest of a seed, and its disk.
-#[tactic(auto, unfolding(crate::specs::Text::generated_files))]
-fn generated_files(alloc: Global, seed: u32) -> Result<GuestFiles, AllocError>
-    ensures { IfOk result (λ files. files ≡ generated_files seed) }
-{
-    let image = guest_of(alloc, seed)?;
-    let disk = zero_sectors(alloc, SECTORS)?;
-    Ok(GuestFiles::new(image, disk, Vec::new(alloc)))
-}
-
-/// So many sectors of zeros.
-#[tactic(auto, unfolding(flat_memory::specs::Flat::zeros))]
-fn zero_sectors(alloc: Global, count: usize) -> Result<Vec<u8>, AllocError>
-    requires { count ≤ SECTORS }
-    ensures zeros { IfOk result (λ bytes. bytes.items ≡ zeros (SECTOR_SIZE * count)) }
-    ensures len { IfOk result (λ bytes. vec_len bytes ≡ SECTOR_SIZE * count) }
-{
-    Vec::from_elem(alloc, 0, SECTOR_SIZE * count)
 }

@@ -5,17 +5,17 @@ ghost use Rattle.io_edge.specs.Outside.{HasRisen};
 ghost use Rattle.command_line.specs.Commands.{meaning};
 ghost use Rattle.command_line.specs.Words.{meant, texts};
 ghost use Rattle.guest_files.specs.Parts.{AreAsked, IsDataRefusal, IsFaultOf, IsImageRefusal, IsScriptRefusal, loads_of};
-ghost use Rattle.snow_commands.specs.Lost.{IsLost, IsLostIn};
-ghost use Rattle.snow_commands.specs.Seeded.{AreSeeded, AreSeededIn, IfRun, is_run};
-ghost use Rattle.snow_commands.specs.Writes.{IsGenerated, IsSilent, IsUnrefused, Writes};
-ghost use Rattle.snow_commands.specs.Status.{AreLoaded, Completes, IsFaultAsked, IsFileless, IsLoadAsked, IsPrefixOut};
-ghost use Rattle.snow_commands.specs.Status.{IsReached, IsRefused, IsStatus, IsWritten};
+ghost use Rattle.command_texts.specs.Lost.{IsLost, IsLostIn};
+ghost use Rattle.command_texts.specs.Seeded.{AreSeeded, AreSeededIn, IfRun, is_run};
+ghost use Rattle.command_texts.specs.Writes.{IsGenerated, IsSilent, IsUnrefused, Writes};
+ghost use Rattle.command_texts.specs.Status.{AreLoaded, Completes, IsFaultAsked, IsFileless, IsLoadAsked, IsPrefixOut};
+ghost use Rattle.command_texts.specs.Status.{IsReached, IsRefused, IsStatus, IsWritten};
 
-use crate::drive::drive_and_write;
 use crate::family::Plan;
 use crate::generated::run_and_sum_up;
 use crate::run::run_and_report;
 use command_line::{Command, command_asked};
+use command_texts::{Status, drive_and_write};
 use guest_files::Stop;
 use host_workers::{Gate, MAX_WORKERS};
 use io_edge::{Shelf, Sink};
@@ -23,57 +23,6 @@ use std::alloc::AllocError;
 use std::sync::Wait;
 use std::thread::Threads;
 use wire_fates::Wire;
-
-/// How a call of `snow` ended. `first` and `second` are 0 where the code gives them no meaning.
-#[derive(Clone, Copy, Debug, PartialEq)]
-pub struct Status {
-    /// 0 done, 1 a file could not be read, 2 the words have no meaning, 3 the image is refused, 4 the
-    /// disk or the input is refused, 5 the text could not be written whole, 6 want of memory, 7 a
-    /// wire gave no reply for too long, 8 the script is refused.
-    pub code: u8,
-    /// Of code 1 which load failed: 1 the image, 2 the disk, 3 the input, 4 the script; of codes 3 and 4
-    /// the number of the refusal; of code 8 the line that is refused, or 0 where the script is too long.
-    pub first: u32,
-    /// Of code 8 the kind of what is refused.
-    pub second: u32,
-}
-
-impl Status {
-    /// The words have no meaning.
-    pub const USAGE: Status = Status {
-        code: 2,
-        first: 0,
-        second: 0,
-    };
-
-    /// Want of memory.
-    pub const OUT_OF_MEMORY: Status = Status {
-        code: 6,
-        first: 0,
-        second: 0,
-    };
-
-    fn new(code: u8, first: u32) -> Status
-        ensures { result ≡ record { code = code; first = first; second = 0 } }
-    {
-        Status {
-            code,
-            first,
-            second: 0,
-        }
-    }
-
-    /// The script is refused.
-    fn of_script(line: u32, kind: u32) -> Status
-        ensures { result ≡ record { code = 8; first = line; second = kind } }
-    {
-        Status {
-            code: 8,
-            first: line,
-            second: kind,
-        }
-    }
-}
 
 /// Does what the words ask for, which leave out the program's own name. A family is run by as many workers as they ask
 /// for, but by no more than there are wires, of which each worker has one. The workers call the gate.

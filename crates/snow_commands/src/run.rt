@@ -4,10 +4,10 @@ ghost use Rattle.std.specs.Prelude.{◌≡◌, ◌<◌, ◌≤◌, map, OnErr, O
 ghost use Rattle.io_edge.specs.Outside.{HasRisen, IsPrefixGone, appended};
 ghost use Rattle.run_report.specs.Report.{report_of};
 ghost use Rattle.command_line.specs.Words.{run};
-ghost use Rattle.snow_commands.specs.Lost.{IsLostIn};
-ghost use Rattle.snow_commands.specs.Seeded.{IfRun, seeded_for};
 ghost use Rattle.guest_files.specs.Parts.{AreAsked, IsFaultOf, guest_loads, loads_of};
-ghost use Rattle.snow_commands.specs.Writes.{IsSilent, Writes};
+ghost use Rattle.command_texts.specs.Lost.{IsLostIn};
+ghost use Rattle.command_texts.specs.Seeded.{IfRun, seeded_for};
+ghost use Rattle.command_texts.specs.Writes.{IsSilent, Writes};
 
 use crate::family::{Plan, run_files};
 use command_line::GuestWords;

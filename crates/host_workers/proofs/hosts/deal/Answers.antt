@@ -2,8 +2,8 @@ use Rattle.std.proofs.Common.{◌≡◌, ◌+◌, ◌-◌, ◌<◌, [], ◌∷�
 use Rattle.fork_board.specs.Passes.{PassValue}
 use Rattle.page_claims.specs.Calls.{fresh}
 use Rattle.page_claims.specs.Values.{PassValue as ClaimValue}
-use Rattle.host_workers.specs.Claiming.{share}
-use Rattle.host_workers.specs.declared.shared.State.TheVariants.{Due}
+use Rattle.board_worker.specs.Claiming.{share}
+use Rattle.host_workers.specs.declared.state.State.TheVariants.{Due}
 use Rattle.host_workers.proofs.States.{are-dealt, are-due, none-dealt, one-dealt}
 use Rattle.host_workers.proofs.hosts.deal.Goals as goal
 

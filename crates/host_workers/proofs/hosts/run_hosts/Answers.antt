@@ -1,7 +1,7 @@
 use Rattle.std.proofs.Common.{length, ap, subst, ◌∙◌, arith}
 use Rattle.page_claims.specs.Values.{PassValue as ClaimValue}
-use Rattle.host_workers.specs.Finishes.{Finishes}
-use Rattle.host_workers.proofs.Ending.{stuck-at-rest}
+use Rattle.board_ends.specs.Finishes.{Finishes}
+use Rattle.board_ends.proofs.Ending.{stuck-at-rest}
 use Rattle.host_workers.proofs.States.{as-dealt}
 use Rattle.host_workers.proofs.hosts.run_hosts.Goals as goal
 

@@ -1,11 +1,11 @@
 use Rattle.std.proofs.Common.{◌<◌, ◌≤◌, ◌++◌, drop, length, map, min, sym, ap, ap₂, ◌∙◌, subst, arith}
 use Rattle.std.proofs.lemmas.List.{append_assoc}
-use Rattle.snow_commands.specs.Seeded.{all_seeded}
-use Rattle.snow_commands.specs.Text.{guest_image}
-use Rattle.snow_commands.proofs.Booted.{family-ends}
-use Rattle.snow_commands.proofs.First.{first-blames, first-lines, only-kept}
-use Rattle.snow_commands.proofs.Seeding.{always-run, lent-given}
-use Rattle.snow_commands.proofs.TextLemmas.{part-lost}
+use Rattle.command_texts.specs.Seeded.{all_seeded}
+use Rattle.command_texts.specs.Text.{guest_image}
+use Rattle.command_texts.proofs.Booted.{family-ends}
+use Rattle.command_texts.proofs.First.{first-blames, first-lines, only-kept}
+use Rattle.command_texts.proofs.Seeding.{always-run, lent-given}
+use Rattle.command_texts.proofs.TextLemmas.{part-lost}
 use Rattle.snow_commands.proofs.family.run_files.Goals as goal
 
 pub returns-then-clones-gt0-2-clause-makes : goal.returns-then-clones-gt0-2-clause-makes

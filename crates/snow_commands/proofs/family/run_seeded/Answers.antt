@@ -1,5 +1,5 @@
 use Rattle.std.proofs.Common.{map, ap, ◌∙◌}
-use Rattle.snow_commands.specs.Seeded.{all_seeded}
+use Rattle.command_texts.specs.Seeded.{all_seeded}
 use Rattle.snow_commands.proofs.family.run_seeded.Goals as goal
 
 pub returns-clause-seeded : goal.returns-clause-seeded

@@ -1,5 +1,5 @@
 use Rattle.std.proofs.Common.{map, refl, arith}
-use Rattle.snow_commands.proofs.Seeding.{all-given, next-given}
+use Rattle.command_texts.proofs.Seeding.{all-given, next-given}
 use Rattle.snow_commands.proofs.family.seed_all.Goals as goal
 
 pub loop-wire-init : goal.loop-wire-init

@@ -1,5 +1,5 @@
 use Rattle.std.proofs.Common.{◌≡◌, ◌++◌, drop, map, take}
-use Rattle.snow_commands.specs.Seeded.{all_seeded}
+use Rattle.command_texts.specs.Seeded.{all_seeded}
 use Rattle.snow_commands.proofs.family.seed_all.Given as goal
 
 abbrev pub invariant-loop-wire : goal.invariant-loop-wire

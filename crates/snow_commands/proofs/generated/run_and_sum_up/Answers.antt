@@ -1,15 +1,15 @@
 use Rattle.std.proofs.Common.{◌≡◌, ℕ, List, map, Ok, Err, refl, ap, ◌∙◌, subst}
 use Rattle.std.proofs.lemmas.Result.{err_from_is_err_and}
 use Rattle.io_edge.specs.Outside.{IsPrefixGone, appended}
-use Rattle.host_workers.specs.Lost.{IsOneLost}
 use Rattle.run_report.specs.Report.{Ended as Outcome}
 use Rattle.run_report.specs.Summary.{summary_of}
+use Rattle.board_ends.specs.Lost.{IsOneLost}
 use Rattle.command_line.specs.Words.{RunValues}
-use Rattle.snow_commands.specs.Seeded.{IfRun, seeded_for}
-use Rattle.snow_commands.specs.Text.{generated_files, generated_text}
-use Rattle.snow_commands.proofs.Made.{fileless-stops, generated-made, generated-there, stop-silent}
-use Rattle.snow_commands.proofs.Seeding.{stop-same}
-use Rattle.snow_commands.proofs.TextLemmas.{told-then}
+use Rattle.command_texts.specs.Seeded.{IfRun, seeded_for}
+use Rattle.command_texts.specs.Text.{generated_files, generated_text}
+use Rattle.command_texts.proofs.Made.{fileless-stops, generated-made, generated-there, stop-silent}
+use Rattle.command_texts.proofs.Seeding.{stop-same}
+use Rattle.command_texts.proofs.TextLemmas.{told-then}
 use Rattle.snow_commands.proofs.generated.run_and_sum_up.Goals as goal
 
 pub returns-in_err-outcome-clause-writes : goal.returns-in_err-outcome-clause-writes

@@ -1,11 +1,11 @@
 use Rattle.std.proofs.Common.{Err, ap, subst, ◌∙◌}
 use Rattle.guest_files.specs.Parts.{IsFaultOf, loads_of}
-use Rattle.snow_commands.specs.Lost.{IsLost}
 use Rattle.command_line.specs.Commands.{meaning}
-use Rattle.snow_commands.specs.Status.{AreLoaded, IsFaultAsked, IsLoadAsked}
-use Rattle.snow_commands.specs.Seeded.{AreSeeded}
-use Rattle.snow_commands.proofs.Codes.{completed, ends-at-load, ends-fileless, means, reached}
-use Rattle.snow_commands.proofs.Seeding.{ends-ok, ends-run}
+use Rattle.command_texts.specs.Lost.{IsLost}
+use Rattle.command_texts.specs.Status.{AreLoaded, IsFaultAsked, IsLoadAsked}
+use Rattle.command_texts.specs.Seeded.{AreSeeded}
+use Rattle.command_texts.proofs.Codes.{completed, ends-at-load, ends-fileless, means, reached}
+use Rattle.command_texts.proofs.Seeding.{ends-ok, ends-run}
 use Rattle.snow_commands.proofs.program.snow.Goals as goal
 
 pub returns-in-Ok-clause-complete : goal.returns-in-Ok-clause-complete

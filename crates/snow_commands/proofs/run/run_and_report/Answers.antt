@@ -1,13 +1,13 @@
 use Rattle.std.proofs.Common.{◌≡◌, ℕ, ◌<◌, List, Ok, Err, refl}
 use Rattle.std.proofs.lemmas.Result.{err_from_is_err_and}
 use Rattle.io_edge.specs.Outside.{HasRisen, IsPrefixGone, appended}
+use Rattle.board_ends.specs.Lost.{IsOneLost}
 use Rattle.guest_files.specs.Parts.{IsFaultOf, IsGuestLoad, guest_loads}
 use Rattle.run_report.specs.Report.{Ended as Outcome, report, report_of}
 use Rattle.run_report.proofs.Begin.{outcome-report}
-use Rattle.host_workers.specs.Lost.{IsOneLost}
-use Rattle.snow_commands.proofs.Made.{family-made, stop-silent}
-use Rattle.snow_commands.proofs.Seeding.{stop-same, stops-unrun}
-use Rattle.snow_commands.proofs.TextLemmas.{over-gives, over-writes, run-stops, stops-writes, text-then}
+use Rattle.command_texts.proofs.Made.{family-made, stop-silent}
+use Rattle.command_texts.proofs.Seeding.{stop-same, stops-unrun}
+use Rattle.command_texts.proofs.TextLemmas.{over-gives, over-writes, run-stops, stops-writes, text-then}
 use Rattle.snow_commands.proofs.run.run_and_report.Goals as goal
 
 abbrev shows : Outcome → List ℕ → Type 0

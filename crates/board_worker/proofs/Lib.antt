@@ -1,0 +1,4 @@
+pub mod Working
+pub mod Swapping
+pub mod Standing
+pub mod Hearing

@@ -1,0 +1,5 @@
+pub mod Claiming
+pub mod Fit
+pub mod Hears
+pub mod Next
+pub mod Stays

@@ -1,0 +1,90 @@
+//! Who claims the pages that are fetched.
+
+ghost use Rattle.std.specs.Prelude.{◌≡◌, IfErr};
+ghost use Rattle.std.specs.List.{All};
+ghost use Rattle.image_depot.specs.Reply.{IsSentOf};
+ghost use Rattle.world_core.specs.Answers.{IsLentOf};
+ghost use Rattle.world_core.specs.Lent.{IsSameLease};
+ghost use Rattle.board_ends.specs.Lost.{IsLost};
+ghost use Rattle.board_worker.specs.Claiming.{IsShare};
+
+use crate::shared::Shared;
+use host_fetch::{FetchError, Fetcher};
+use image_depot::Sent;
+use page_claims::{ClaimPass, Claims};
+use std::marker::Model;
+use std::sync::Wait;
+use wire_fates::Wire;
+use world_core::Lease;
+
+/// What a worker claims pages by: a pass of one part. Contracts see in it the claims.
+#[derive(Drop)]
+pub(crate) struct Claimant<'a> {
+    claims: &'a Claims,
+    // It is away while a page is fetched.
+    pass: Option<ClaimPass>,
+}
+
+impl<'a> Model for Claimant<'a> {
+    ghost use Rattle.std.specs.Prelude.{IsSomeAnd};
+    ghost use Rattle.page_claims.specs.Values.{ClaimsValue};
+    ghost use Rattle.board_worker.specs.Claiming.{IsShare};
+
+    ghost Value = { ClaimsValue };
+
+    ghost view = { λ c. c.claims.now };
+
+    ghost invariant = { λ c. IsSomeAnd c.pass (IsShare c.claims.now) };
+}
+
+impl<'a> Claimant<'a> {
+    /// Who claims by a pass of one part.
+    pub(crate) fn new(claims: &'a Claims, pass: ClaimPass) -> Claimant<'a>
+        requires { IsShare claims.now pass }
+        ensures { result ≡ claims.now }
+    {
+        Claimant {
+            claims,
+            pass: Some(pass),
+        }
+    }
+
+    /// Its pass.
+    pub(crate) fn into_pass(self) -> ClaimPass
+        ensures { IsShare self.entry result }
+    {
+        let Claimant { claims: _, pass } = self;
+        let Some(pass) = pass else { unreachable!() };
+        pass
+    }
+
+    /// Fetches the page at which a machine stalls over a wire. Each page that is asked for is claimed.
+    pub(crate) fn fetch<R: Wait, W: Wire, G>(
+        &mut self,
+        rt: &R,
+        shared: &Shared<G>,
+        lease: &mut Lease,
+        wire: &mut W,
+        pushed: &mut Vec<Sent>,
+    ) -> Result<(), FetchError>
+        requires of_depot { IsLentOf shared.now.depot.now lease.old }
+        ensures claims { self.new ≡ self.old }
+        ensures same { IsSameLease lease.old lease.new }
+        ensures kept { All (IsSentOf shared.now.depot.now) pushed.old.items → All (IsSentOf shared.now.depot.now) pushed.new.items }
+        ensures wire { IfErr result (λ error. error ≡ FetchError.Wire → IsLost W.streak wire.new) }
+        ensures seeds { W.seeds wire.new ≡ W.seeds wire.old }
+    {
+        let Some(pass) = self.pass.take() else {
+            unreachable!()
+        };
+        let fetcher = Fetcher {
+            depot: shared.depot,
+            claims: self.claims,
+            ahead: shared.settings.ahead,
+            alloc: shared.alloc,
+        };
+        let (pass, fetched) = fetcher.fetch(rt, lease, wire, pass, pushed);
+        self.pass = Some(pass);
+        fetched
+    }
+}

@@ -1,0 +1,7 @@
+pub mod Codes
+pub mod Made
+pub mod TextLemmas
+pub mod Booted
+pub mod Ended
+pub mod First
+pub mod Seeding

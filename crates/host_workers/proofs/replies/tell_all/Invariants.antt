@@ -1,5 +1,0 @@
-use Rattle.host_workers.specs.Stays.{Stays}
-use Rattle.host_workers.proofs.replies.tell_all.Given as goal
-
-abbrev pub invariant-loop-sent : goal.invariant-loop-sent
-invariant-loop-sent g l = Stays l.initial.pass l.pass
