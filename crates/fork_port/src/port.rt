@@ -2,7 +2,7 @@ ghost use Rattle.std.specs.Prelude.{◌≡◌, ◌+◌, ◌-◌, ◌*◌, ◌^�
 ghost use Rattle.fork_port.specs.Ending.{join_kind, join_value, join_word};
 ghost use Rattle.fork_port.specs.Tickets.{cost};
 ghost use Rattle.fork_port.specs.Registers.{HasTicket, at_start, fields_of, holding, is_join_word, join_result, refused, register_store, registers_of, ticket_found, ticket_told, told_load};
-ghost use Rattle.fork_port.specs.Children.{IsAccounted, after_clone, after_join, after_kill, after_ticket, child_registers, children_granted, given_back, with_ticket};
+ghost use Rattle.fork_port.specs.Children.{after_clone, after_join, after_kill, after_ticket, child_registers, children_granted, given_back, with_ticket};
 ghost use Rattle.fork_port.specs.Commands.{IsAnswerable, answered, clone_asks, fork_command, join_asks, kill_asks, other_asks};
 ghost use Rattle.fork_port.specs.Fork.{GrantsTicket, fork_load, fork_store};
 
@@ -148,21 +148,6 @@ impl ForkPort {
         ensures { result ≡ self.now.clone_id }
     {
         self.clone_id
-    }
-
-    /// What is true of every fork port. It does nothing.
-    pub fn accounts(&self)
-        ensures { IsAccounted self.now }
-    {
-        let _allot = &self.allot;
-        let _tickets = self.tickets.as_slice();
-    }
-
-    /// The tickets, in the order of their numbers.
-    pub fn tickets(&self) -> &[Ticket]
-        ensures { result.now ≡ self.now.tickets }
-    {
-        self.tickets.as_slice()
     }
 
     /// How many children a ticket is for, the share of each, and whether they were made; `None` where

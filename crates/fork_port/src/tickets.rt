@@ -1,7 +1,7 @@
 ghost use Rattle.std.specs.Prelude.{◌≡◌, ℕ, ◌<◌, [], ◌∷◌, ◌++◌, ◌+◌, length, slice_get, Some, None, IsSome, IfOk, OnOk, OnErr};
 ghost use Rattle.std.specs.List.{AllByRecursion};
 ghost use Rattle.std.specs.Option.{option_copied};
-ghost use Rattle.fork_port.specs.Tickets.{IsAt, IsRising, children_made, cost, held, ticket_of, with_cloned, without};
+ghost use Rattle.fork_port.specs.Tickets.{IsAt, children_made, cost, held, ticket_of, with_cloned, without};
 
 use std::alloc::{AllocError, Global};
 use std::marker::Model;
@@ -59,13 +59,6 @@ impl TicketList {
         TicketList {
             tickets: Vec::new(alloc),
         }
-    }
-
-    pub fn as_slice(&self) -> &[Ticket]
-        ensures all { result.now ≡ self.now }
-        ensures rising { IsRising self.now }
-    {
-        &self.tickets
     }
 
     /// The ticket of that number.

@@ -9,8 +9,8 @@ use std::sync::Wait;
 use std::sync::atomic::{AtomicU64, Ordering};
 use wire_fates::{Fate, Wire};
 
-/// How often a worker looks for the other, at most. Each time it leaves others the processor.
-const MAX_LOOKS: u32 = 5_000_000;
+/// How often a worker looks for what others come to, at most. Each time it leaves others the processor.
+pub(crate) const MAX_LOOKS: u32 = 5_000_000;
 
 /// What holds each of two workers, when it first comes, until the other has come.
 #[derive(Drop)]

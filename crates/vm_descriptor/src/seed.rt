@@ -15,7 +15,7 @@ use std::alloc::{AllocError, Global};
 use std::marker::Model;
 
 /// The most runs of equal flags in a table that clones share.
-const MOST_RUNS: usize = 16;
+const MAX_RUNS: usize = 16;
 
 /// What the clones of a ticket start with, as the bytes of the descriptor of one of them: the others differ in
 /// their number alone. Contracts see that descriptor.
@@ -92,7 +92,7 @@ fn table_for(alloc: Global, map: &PageMap, clones: u32) -> Result<Option<CloneTa
         return Ok(None);
     }
     let flags = map.flags(alloc)?;
-    if run_count(&flags) > MOST_RUNS {
+    if run_count(&flags) > MAX_RUNS {
         return Ok(None);
     }
     Ok(Some(CloneTable::of_flags(alloc, &flags)?))

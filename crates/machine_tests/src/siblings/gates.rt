@@ -6,7 +6,7 @@ use super::{guests, texts};
 use crate::equal::{are_equal, succeeds};
 use crate::families::{AHEAD, Ended, end_over, gated};
 use crate::guests::with_clones;
-use crate::meeting::Meeting;
+use crate::meeting::{MAX_LOOKS, Meeting};
 use crate::together::is_whole;
 use crossbeam_utils::Backoff;
 use host_workers::{Finish, Gate, MAX_WORKERS, Point};
@@ -51,9 +51,6 @@ fn a_word_goes_round_between_two_workers(rt: HostRuntime) {
     let text = succeeds(&rt, texts::ring(rt.alloc(), 4, 50));
     two_meet(&rt, &guests::SMALL_RING, 4, text.as_bytes());
 }
-
-/// How often a worker looks whether another is idle, at most. Each time it leaves others the processor.
-const MAX_LOOKS: u32 = 5_000_000;
 
 /// What holds the first worker that takes a child until another finds no machine ready, so that all other children wait, or
 /// has come to its end.

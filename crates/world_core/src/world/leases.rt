@@ -14,7 +14,7 @@ use std::collections::BTreeMap;
 
 /// Where there are so many names of machines that were taken, those are dropped that have come back: twice as many as there
 /// are threads at most.
-const MOST_NAMES: usize = 128;
+const MAX_NAMES: usize = 128;
 
 impl World {
     /// Whether a machine is on lease whose name is still in the forest. The names of those that were taken are looked up, the
@@ -44,7 +44,7 @@ impl World {
             return;
         };
         if let Taken::Took(lease) = taken {
-            if names.len() >= MOST_NAMES {
+            if names.len() >= MAX_NAMES {
                 drop_returned(&self.cells, names);
             }
             keep(names, lease.name());

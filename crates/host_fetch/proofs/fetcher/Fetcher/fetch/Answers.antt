@@ -7,7 +7,8 @@ use Rattle.host_fetch.proofs.fetcher.Fetcher.fetch.Goals as goal
 
 pub returns-in_default-again-clause-fetches : goal.returns-in_default-again-clause-fetches
 returns-in_default-again-clause-fetches g c = λ page wanted key known.
-    none_asked _ _ page c.args.self.now.depot.now c.args.self.now.claims.now key _ _ (first_asked (g.T.Receiver.here c.args.receiver.now) page (end_of_kind (image_of key) page) c.args.self.now.ahead) _
+    none_asked _ _ page c.args.self.now.depot.now c.args.self.now.claims.now key _ _
+    (first_asked (g.T.Receiver.here c.args.receiver.now) page (end_of_kind (image_of key) page) c.args.self.now.ahead) _
 
 pub returns-clause-wire : goal.returns-clause-wire
 returns-clause-wire g c = finishes_wire _ _ _ _ _ _ _ _ c.fetch_page.result.1 c.fetch_page.ensures.fetches.2

@@ -19,12 +19,16 @@ returns-in_default-replies-clause-grows g c = grows_none _
 pub returns-in_default-replies-clause-fetches : goal.returns-in_default-replies-clause-fetches
 returns-in_default-replies-clause-fetches g c =
     let e = err-of c.ask_first-claiming.result.1 _ c.in_default-replies.is c.ask_first-claiming.ensures.err in
-    let same = c.deref.ensures.value ∙ c.in-Ok.ensures.value ∙ ap (λ end. first_asked (g.T.Receiver.here c.args.receiver.now) c.args.wanted.now.page end c.args.self.now.ahead) c.end_of_kind-end.ensures.value in
+    let same = c.deref.ensures.value ∙ c.in-Ok.ensures.value
+    ∙ ap (λ end. first_asked (g.T.Receiver.here c.args.receiver.now) c.args.wanted.now.page end c.args.self.now.ahead)
+    c.end_of_kind-end.ensures.value in
     part_asked _ _ _ c.args.self.now.depot.now c.args.self.now.claims.now c.args.wanted.now.key _ _ _ c.deref.result.now e.0 _ _ same e.1
 
 pub loop-claiming-init : goal.loop-claiming-init
 loop-claiming-init g c =
-    let same = c.deref.ensures.value ∙ c.in-Ok.ensures.value ∙ ap (λ end. first_asked (g.T.Receiver.here c.args.receiver.now) c.args.wanted.now.page end c.args.self.now.ahead) c.end_of_kind-end.ensures.value in
+    let same = c.deref.ensures.value ∙ c.in-Ok.ensures.value
+    ∙ ap (λ end. first_asked (g.T.Receiver.here c.args.receiver.now) c.args.wanted.now.page end c.args.self.now.ahead)
+    c.end_of_kind-end.ensures.value in
     stands _ _ _ _ _ _ _ c.args.self.now.depot.now c.args.self.now.claims.now c.args.wanted.now.key c.args.wanted.now.page _ _ _ _ _ _ _ _ _ refl refl refl
     (ok-of (λ w. map reply_in w.items ≡ map (reply_with c.args.wanted.now.key) c.deref.result.now)
     c.ask_first-claiming.result.1 _ c.in-Ok-replies.is c.ask_first-claiming.ensures.waiting ∙ ap (map (reply_with c.args.wanted.now.key)) same)
