@@ -400,6 +400,7 @@ fn has_no_tickets(rt: &impl Abort, child: &mut ForkPort, share: u32) {
         &join_result(child, 1),
         &(Ok(Effect::Done), [Ok(0), Ok(0)]),
     );
+    are_equal(rt, &child.find(0), &None);
     are_equal(rt, &child.find(1), &None);
 }
 
