@@ -3,7 +3,7 @@
 
 ghost use Rattle.std.specs.Prelude.{◌≡◌, ◌≢◌, ◌↔◌, ◌⊎◌, ◌<◌, ℕ, true, false, List, [], ◌∷◌, ◌++◌, Some, None, IsSome, option_map};
 ghost use Rattle.forest_tree.specs.Operations.{join, Operations, IsMachine};
-ghost use Rattle.forest_tree.specs.Tree.{Tree, machine, Branch, Path, subtree, is_below};
+ghost use Rattle.forest_tree.specs.Tree.{Tree, machine, log_of, Branch, Path, subtree, is_below};
 ghost use Rattle.forest_tree.specs.Step.{alone, step};
 ghost use Rattle.forest_tree.specs.Sound.{IsSound};
 ghost use Rattle.forest_tree.specs.Ahead.{ahead};
@@ -43,7 +43,8 @@ pub fn settle_keeps_queues<M, E>()
 {}
 
 /// A step of one machine makes its own step of the tree there, which is read alone. Of the machines that are not below
-/// it no other changes; and no queue to one does but that of a sibling from the machine that made the step.
+/// it no other changes, nor does the log of one; and no queue to one does but that of a sibling from the machine that made
+/// the step.
 pub fn steps_change_one<M, E>()
     ensures own { (o : Operations M E) (k : Talks M) (path : Path) (t a : Tree (Box M)) → subtree path t ≡ Some a
         → rests_at o k path t ≡ false
@@ -52,6 +53,8 @@ pub fn steps_change_one<M, E>()
     ensures machines { (o : Operations M E) (k : Talks M) (path at : Path) (t : Tree (Box M)) → at ≢ path → is_below path at ≡ false
         → option_map (λ (u : Tree (Box M)). (machine u).machine) (subtree at (settle o k path t))
         ≡ option_map (λ (u : Tree (Box M)). (machine u).machine) (subtree at t) }
+    ensures logs { (o : Operations M E) (k : Talks M) (path at : Path) (t : Tree (Box M)) → at ≢ path → is_below path at ≡ false
+        → option_map log_of (subtree at (settle o k path t)) ≡ option_map log_of (subtree at t) }
     ensures queues { (o : Operations M E) (k : Talks M) (path at : Path) (from : ℕ) (t : Tree (Box M)) → at ≢ path
         → is_below path at ≡ false → (is_sibling path at ≡ true → from ≢ child_number path)
         → option_map (λ (u : Tree (Box M)). queue from (machine u).inbox) (subtree at (settle o k path t))

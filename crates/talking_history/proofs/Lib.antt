@@ -7,6 +7,7 @@ pub mod Gone
 pub mod Leases
 pub mod Names
 pub mod Stuck
+pub mod Complete
 pub mod Turned
 pub mod Turns
 pub mod Seen

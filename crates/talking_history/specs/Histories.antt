@@ -1,5 +1,5 @@
 -- Histories of a world: what its seats did, one entry after another, and what is on record after them.
-use Rattle.std.specs.Prelude.{ℕ, ◌<◌, List, [], ◌∷◌, ◌++◌, length, Option, Some, None, ◌≡◌, Bool, true, false, if◌then◌else◌, IsSomeAnd}
+use Rattle.std.specs.Prelude.{ℕ, ◌<◌, List, [], ◌∷◌, ◌++◌, length, Option, Some, None, ◌≡◌, ◌⊎◌, Bool, true, false, if◌then◌else◌, IsSomeAnd}
 use Rattle.forest_tree.specs.Operations.{Operations}
 use Rattle.forest_tree.specs.Tree.{Tree, machine, Path, subtree, beyond}
 use Rattle.sibling_forest.specs.Talk.{Talks, Box}
@@ -128,3 +128,8 @@ module _ {M E : Type 0} (o : Operations M E) (k : Talks M) where
   unfoldable pub IsLegal : {R : Type 0} → History R → Record M R → Type 0
   IsLegal [] r = Unit {0}
   IsLegal (e ∷ rest) r = Permits e.0 e.1 r × IsLegal rest (record_after e.0 e.1 r)
+
+  -- it is legal from a world as it was made, and at the end of it the root has ended or the world is stuck
+  pub record IsComplete {R : Type 0} (history : History R) (w : World M R) : Type 0 where
+    pub legal : IsLegal history (record_of w)
+    pub ends : Allows o k over (replay history (record_of w)).world ⊎ Allows o k stuck (replay history (record_of w)).world

@@ -11,10 +11,11 @@ ghost use Rattle.sibling_forest.specs.Talk.{Talk, peer, Talks, Box, after, boxed
 ghost use Rattle.sibling_forest.specs.Settle.{settle, settle_all, rests_at};
 ghost use Rattle.sibling_forest.specs.Finish.{rests, finish};
 ghost use Rattle.sibling_forest.specs.Members.{IsWholeForest};
+ghost use Rattle.sibling_forest.specs.Report.{Told, report};
 ghost use Rattle.sibling_forest.specs.Laws.{child_number, is_sibling, TalksAlike, box_of};
 ghost use Rattle.talking_history.specs.Places.{Place, home, out, Spot, spots, placed, bare, spot_talks, boxes, may_run};
 ghost use Rattle.talking_history.specs.Seen.{spot_seen, seen};
-ghost use Rattle.talking_history.specs.Histories.{Seat, Holding, holding, Entry, History, Record, record_of, replay, IsLegal};
+ghost use Rattle.talking_history.specs.Histories.{Seat, Holding, holding, Entry, History, Record, record_of, replay, IsLegal, IsComplete};
 ghost use Rattle.talking_history.specs.World.{World, IsWhole, is_resting, is_ready, world_of};
 ghost use Rattle.talking_history.specs.Rows.{How, gave, Row, stuck, idle, took, spent, back, made, run_at, came_back, Spends, IsGoing, Allows, does};
 ghost use Rattle.talking_history.specs.Changes.{told};
@@ -156,6 +157,17 @@ pub fn histories_keep_the_end<M, E, R>()
     ensures end { (o : Operations M E) (k : Talks M) → IsMachine o → IsTalking o k → (history : History R) (w : World M R)
         → IsSound (boxes o k) w.tree → IsLegal o k history (record_of w)
         → finish o k (bare (replay o k history (record_of w)).world.tree) ≡ finish o k (bare w.tree) }
+{}
+
+/// Complete histories of one world come to one forest, whatever their seats and the order of their entries: each is legal, and
+/// at its end the root has ended or the world is stuck. So what is reported of the forest is one text.
+pub fn histories_agree<M, E, R>()
+    ensures forest { (o : Operations M E) (k : Talks M) → IsMachine o → IsTalking o k → (one other : History R) (w : World M R)
+        → IsSound (boxes o k) w.tree → IsComplete o k one w → IsComplete o k other w
+        → bare (replay o k one (record_of w)).world.tree ≡ bare (replay o k other (record_of w)).world.tree }
+    ensures report { (o : Operations M E) (k : Talks M) → IsMachine o → IsTalking o k → (one other : History R) (w : World M R)
+        → IsSound (boxes o k) w.tree → IsComplete o k one w → IsComplete o k other w → (shown : Told M) (said : E → List ℕ)
+        → report o shown said (bare (replay o k one (record_of w)).world.tree) ≡ report o shown said (bare (replay o k other (record_of w)).world.tree) }
 {}
 
 /// A machine that a seat holds is out, and as that seat found it whatever words have come to it, or it is no more in the
