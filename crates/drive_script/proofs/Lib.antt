@@ -11,6 +11,7 @@ mod Arrivals
 mod Sending
 mod Lined
 mod Runs
+mod Births
 mod Limits
 mod Lent
 mod Whys

@@ -15,7 +15,7 @@ use Rattle.sibling_forest.specs.Talk.{Talk, send, receive, Talks, queue, Box}
 use Rattle.sibling_forest.specs.Settle.{sibling_rests, sibling_step, sibling_step_by, settle}
 use Rattle.sibling_forest.specs.Laws.{child_number, is_sibling}
 use Rattle.sibling_forest.proofs.Inner.{inner, settle-is, inner-none, brings-subtree}
-use Rattle.sibling_forest.proofs.Others.{queues-stay as queues-one}
+use Rattle.sibling_forest.proofs.Others as one
 use Rattle.sibling_forest.proofs.Siblings.{brings, brings-machine, sibling-moves, after-one}
 use Rattle.drive_script.specs.Steps.{after_steps, Drops, by_kill, by_join, by_end}
 use Rattle.drive_script.proofs.Steps.{after-first, after-none}
@@ -61,169 +61,28 @@ below-apart (a ∷ path) (b ∷ at) h =
 
 -- ---- trees that are not below
 
--- what a view of a tree shows of it, where it overlooks what may change there
-module _ {M E : Type 0} (o : Operations M E) (k : Talks M) {A : Type 0} (view : Tree (Box M) → A) where
-  abbrev seen : Option (Tree (Box M)) → Option A
-  seen c = option_map view c
-
-  -- it overlooks the children
-  abbrev pub Shallow : Type 0
-  Shallow = (f : Broods (Box M) → Broods (Box M)) (t : Tree (Box M)) → view (with_broods f t) ≡ view t
-
-  -- and what child i of the same ticket says
-  abbrev pub Deaf : ℕ → Type 0
-  Deaf i = (what : Option Talk) (word : ℕ) (t : Tree (Box M)) → view (brings o k what i word t) ≡ view t
-
-  -- another child of the ticket, and below it
-  sibling-seen : (way : Path) (i j : ℕ) (trees : Trees (Box M)) → i ≢ j → (way ≡ [] → Deaf i) → (rest : Bool) → sibling_rests o k i trees ≡ rest
-      → seen (option_and_then (subtree way) (child_at j (sibling_step o k i trees))) ≡ seen (option_and_then (subtree way) (child_at j trees))
-  unfolding subtree
-  sibling-seen way i j trees other deaf true e =
-      ap (λ left. seen (option_and_then (subtree way) (child_at j left))) (ap (λ rest. sibling_step_by o k rest (child_at i trees) i trees) e)
-  sibling-seen way i j trees other deaf false e =
-      let a = sibling-moves o k i trees e in
-      ap (λ left. seen (option_and_then (subtree way) (child_at j left))) (a.1).steps
-      ∙ after-one o k i trees a.0 a.1 (λ c. seen (option_and_then (subtree way) c) ≡ seen (option_and_then (subtree way) (child_at j trees))) j refl
-      (λ here. absurd (other here))
-      (λ t was. hears way deaf (k.talk (machine a.0).machine) (k.word (machine a.0).machine) t ∙ was)
-    where
-      hears : (way : Path) → (way ≡ [] → Deaf i) → (what : Option Talk) (word : ℕ) (t : Tree (Box M))
-          → seen (subtree way (brings o k what i word t)) ≡ seen (subtree way t)
-      hears [] deaf what word t = ap Some (deaf refl what word t)
-      hears (z ∷ way) deaf what word t = ap seen (brings-subtree o k what i word z way t)
-
-  inside-seen : (c : Branch) (p way : Path) (there : Option (Tree (Box M)))
-      → ((u : Tree (Box M)) → seen (subtree way (settle o k (c ∷ p) u)) ≡ seen (subtree way u))
-      → seen (option_and_then (subtree way) (option_map (settle o k (c ∷ p)) there)) ≡ seen (option_and_then (subtree way) there)
-  inside-seen c p way None down = refl
-  inside-seen c p way (Some u) down = down u
-
-  -- how the ways go on
-  abbrev OnWay : Path → Path → Type 0
-  OnWay at path = (beyond at path ≡ None → ⊥) → Shallow
-
-  abbrev Beside : Path → Path → Type 0
-  Beside at path = is_sibling path at ≡ true → Deaf (child_number path)
-
-  -- of two ways that begin alike
-  goes-alike : (b y : Branch) (p way : Path) → b.ticket ≡ y.ticket → b.child ≡ y.child → beyond (y ∷ way) (b ∷ p) ≡ beyond way p
-  unfolding beyond
-  goes-alike b y p way ticket child =
-      ap₂ (λ s c. cond (s && c) (beyond way p) None) (eq-eqb b.ticket y.ticket ticket) (eq-eqb b.child y.child child)
-
-  below-alike : (b y : Branch) (p way : Path) → b.ticket ≡ y.ticket → b.child ≡ y.child → is_below (b ∷ p) (y ∷ way) ≡ false → is_below p way ≡ false
-  unfolding beyond
-  below-alike b y p way ticket child h =
-      sym (ap₂ (λ s c. goes_on (cond (s && c) (beyond p way) None))
-      (eq-eqb y.ticket b.ticket (sym ticket)) (eq-eqb y.child b.child (sym child))) ∙ h
-
-  on-way : (b y : Branch) (p way : Path) → b.ticket ≡ y.ticket → b.child ≡ y.child → OnWay (y ∷ way) (b ∷ p) → OnWay way p
-  on-way b y p way ticket child h there = h (λ none. there (sym (goes-alike b y p way ticket child) ∙ none))
-
-  not-below : (way : Path) → is_below [] way ≡ false → way ≡ []
-  unfolding beyond
-  not-below [] h = refl
-  not-below (z ∷ way) h = absurd (cc)
-
-  branch-is : (b y : Branch) → b.ticket ≡ y.ticket → b.child ≡ y.child → y ≡ b
-  branch-is b y ticket child = ap₂ (λ (t c : ℕ). record { ticket = t; child = c }) (sym ticket) (sym child)
-
-  -- what goes on below a branch
-  abbrev Down : Path → Path → Type 0
-  Down p way = (u : Tree (Box M)) → way ≢ p → is_below p way ≡ false → OnWay way p → Beside way p
-      → seen (subtree way (settle o k p u)) ≡ seen (subtree way u)
-
-  branch-seen : (p way : Path) (b y : Branch) (trees : Trees (Box M)) (child : Bool) → eqb b.child y.child ≡ child → b.ticket ≡ y.ticket
-      → (y ∷ way) ≢ (b ∷ p) → is_below (b ∷ p) (y ∷ way) ≡ false → OnWay (y ∷ way) (b ∷ p) → Beside (y ∷ way) (b ∷ p) → Down p way
-      → seen (option_and_then (subtree way) (child_at y.child (inner o k p b.child trees))) ≡ seen (option_and_then (subtree way) (child_at y.child trees))
-  unfolding is_sibling child_number
-  branch-seen [] way b y trees true e ticket other below on deaf down =
-      let child : b.child ≡ y.child = eqb-true b.child y.child e in
-      absurd (other (ap₂ (λ (v : Branch) (w : Path). v ∷ w) (branch-is b y ticket child) (not-below way (below-alike b y [] way ticket child below))))
-  branch-seen [] way b y trees false e ticket other below on deaf down =
-      sibling-seen way b.child y.child trees (eqb-false b.child y.child e)
-      (λ none. deaf (ap (λ w. is_sibling (b ∷ []) (y ∷ w)) none ∙ eq-eqb b.ticket y.ticket ticket)) (sibling_rests o k b.child trees) refl
-  branch-seen (c ∷ p) way b y trees false e ticket other below on deaf down =
-      ap (λ d. seen (option_and_then (subtree way) d)) (child_at-other (settle o k (c ∷ p)) b.child y.child trees (eqb-false b.child y.child e))
-  branch-seen (c ∷ p) way b y trees true e ticket other below on deaf down =
-      let child : b.child ≡ y.child = eqb-true b.child y.child e in
-      ap (λ n. seen (option_and_then (subtree way) (child_at y.child (at_child (settle o k (c ∷ p)) n trees)))) child
-      ∙ ap (λ d. seen (option_and_then (subtree way) d)) (child_at-same (settle o k (c ∷ p)) y.child trees)
-      ∙ inside-seen c p way (child_at y.child trees) (λ u. down u
-      (λ same. other (ap₂ (λ (v : Branch) (w : Path). v ∷ w) (branch-is b y ticket child) same))
-      (below-alike b y (c ∷ p) way ticket child below)
-      (on-way b y (c ∷ p) way ticket child on)
-      (λ is. deaf (ap₂ (λ s d. s && d && is_sibling (c ∷ p) way) (eq-eqb b.ticket y.ticket ticket) e ∙ is)))
-
-  in-root : (y : Branch) (way : Path) → is_below [] (y ∷ way) ≡ false → ⊥
-  unfolding beyond
-  in-root y way h = absurd (cc)
-
-  -- where nothing is left of a way the view is shallow
-  on-first : (b : Branch) (p : Path) → OnWay [] (b ∷ p) → Shallow
-  unfolding beyond
-  on-first b p on = on (λ none. absurd (cc none))
-
-  view-stays : (path at : Path) (t : Tree (Box M)) → at ≢ path → is_below path at ≡ false → OnWay at path → Beside at path
-      → seen (subtree at (settle o k path t)) ≡ seen (subtree at t)
-  unfolding subtree
-  view-stays [] [] t other below on deaf = absurd (other refl)
-  view-stays [] (y ∷ way) t other below on deaf = absurd (in-root y way below)
-  view-stays (b ∷ p) [] t other below on deaf =
-      ap (λ u. Some (view u)) (settle-is o k b p t)
-      ∙ ap Some (on-first b p on (at_brood (inner o k p b.child) b.ticket) t)
-  view-stays (b ∷ p) (y ∷ way) (node x broods log) other below on deaf =
-      ap (λ u. seen (subtree (y ∷ way) u)) (settle-is o k b p (node x broods log))
-      ∙ ap (λ trees. seen (option_and_then (subtree way) (child_at y.child trees))) (brood_of-at (inner o k p b.child) (inner-none o k p b.child) b.ticket y.ticket broods)
-      ∙ by (eqb b.ticket y.ticket) refl (λ u. view-stays p way u)
-    where
-      by : (ticket : Bool) → eqb b.ticket y.ticket ≡ ticket → Down p way
-          → seen (option_and_then (subtree way) (child_at y.child (cond ticket (inner o k p b.child (brood_of y.ticket broods)) (brood_of y.ticket broods))))
-          ≡ seen (option_and_then (subtree way) (child_at y.child (brood_of y.ticket broods)))
-      by false e down = refl
-      by true e down =
-          branch-seen p way b y (brood_of y.ticket broods) (eqb b.child y.child) refl (eqb-true b.ticket y.ticket e) other below on deaf down
-
-  -- it is the same after any steps of the machine at a path
-  pub views-stay : (n : ℕ) (path at : Path) (t : Tree (Box M)) → at ≢ path → is_below path at ≡ false → ((beyond at path ≡ None → ⊥) → Shallow)
-      → (is_sibling path at ≡ true → Deaf (child_number path))
-      → option_map view (subtree at (after_steps o k n path t)) ≡ option_map view (subtree at t)
-  views-stay zero path at t other below on deaf = ap (λ u. option_map view (subtree at u)) (after-none o k path t)
-  views-stay (suc n) path at t other below on deaf =
-      ap (λ u. option_map view (subtree at u)) (after-first o k n path t)
-      ∙ views-stay n path at (settle o k path t) other below on deaf ∙ view-stays path at t other below on deaf
-
 module _ {M E : Type 0} (o : Operations M E) (k : Talks M) where
-  shallow-machine : (f : Broods (Box M) → Broods (Box M)) (t : Tree (Box M)) → machine (with_broods f t) ≡ machine t
-  shallow-machine f (node b broods log) = refl
-
-  shallow-log : (f : Broods (Box M) → Broods (Box M)) (t : Tree (Box M)) → log_of (with_broods f t) ≡ log_of t
-  shallow-log f (node b broods log) = refl
-
-  deaf-log : (what : Option Talk) (i word : ℕ) (t : Tree (Box M)) → log_of (brings o k what i word t) ≡ log_of t
-  deaf-log None i word t = refl
-  deaf-log (Some (send j)) i word (node b broods log) = refl
-  deaf-log (Some (receive j)) i word t = refl
+  -- a law of one step holds of all
+  steps-stay : {A : Type 0} (seen : Tree (Box M) → A) (path at : Path) → ((t : Tree (Box M)) → option_map seen (subtree at (settle o k path t)) ≡ option_map seen (subtree at t))
+      → (n : ℕ) (t : Tree (Box M)) → option_map seen (subtree at (after_steps o k n path t)) ≡ option_map seen (subtree at t)
+  steps-stay seen path at same zero t = ap (λ u. option_map seen (subtree at u)) (after-none o k path t)
+  steps-stay seen path at same (suc n) t =
+      ap (λ u. option_map seen (subtree at u)) (after-first o k n path t) ∙ steps-stay seen path at same n (settle o k path t) ∙ same t
 
   pub others-stay : (n : ℕ) (path at : Path) (t : Tree (Box M)) → at ≢ path → is_below path at ≡ false
       → option_map (λ (a : Tree (Box M)). (machine a).machine) (subtree at (after_steps o k n path t)) ≡ option_map (λ (a : Tree (Box M)). (machine a).machine) (subtree at t)
-  others-stay n path at t other below =
-      views-stay o k (λ a. (machine a).machine) n path at t other below (λ on f u. ap (λ (b : Box M). b.machine) (shallow-machine f u))
-      (λ is what word u. brings-machine o k what (child_number path) word u)
+  others-stay n path at t other below = steps-stay (λ a. (machine a).machine) path at (λ u. one.others-stay o k path at u other below) n t
 
   pub words-stay : (n : ℕ) (path at : Path) (from : ℕ) (t : Tree (Box M)) → at ≢ path → is_below path at ≡ false
       → (is_sibling path at ≡ true → from ≢ child_number path)
       → option_map (λ (a : Tree (Box M)). queue from (machine a).inbox) (subtree at (after_steps o k n path t))
       ≡ option_map (λ (a : Tree (Box M)). queue from (machine a).inbox) (subtree at t)
-  words-stay zero path at from t other below apart = ap (λ u. option_map (λ (a : Tree (Box M)). queue from (machine a).inbox) (subtree at u)) (after-none o k path t)
-  words-stay (suc n) path at from t other below apart =
-      ap (λ u. option_map (λ (a : Tree (Box M)). queue from (machine a).inbox) (subtree at u)) (after-first o k n path t)
-      ∙ words-stay n path at from (settle o k path t) other below apart ∙ queues-one o k path at from t other below apart
+  words-stay n path at from t other below apart =
+      steps-stay (λ a. queue from (machine a).inbox) path at (λ u. one.queues-stay o k path at from u other below apart) n t
 
   pub logs-stay : (n : ℕ) (path at : Path) (t : Tree (Box M)) → at ≢ path → is_below path at ≡ false
       → option_map log_of (subtree at (after_steps o k n path t)) ≡ option_map log_of (subtree at t)
-  logs-stay n path at t other below =
-      views-stay o k log_of n path at t other below (λ on f u. shallow-log f u) (λ is what word u. deaf-log what (child_number path) word u)
+  logs-stay n path at t other below = steps-stay log_of path at (λ u. one.logs-stay o k path at u other below) n t
 
   same-option : (c : Option (Tree (Box M))) → option_map (λ (a : Tree (Box M)). a) c ≡ c
   same-option None = refl
@@ -241,7 +100,8 @@ module _ {M E : Type 0} (o : Operations M E) (k : Talks M) where
       → subtree at (after_steps o k n path t) ≡ subtree at t
   apart-stays n path at t below off beside =
       sym (same-option (subtree at (after_steps o k n path t)))
-      ∙ views-stay o k (λ a. a) n path at t (off-other at path off) below (λ on. absurd (on off)) (λ is. absurd (yes-no (is_sibling path at) is beside))
+      ∙ steps-stay (λ a. a) path at (λ u. one.view-stays o k (λ a. a) path at u (off-other at path off) below (λ on. absurd (on off))
+      (λ is. absurd (yes-no (is_sibling path at) is beside))) n t
       ∙ same-option (subtree at t)
     where
       yes-no : (b : Bool) → b ≡ true → b ≡ false → ⊥

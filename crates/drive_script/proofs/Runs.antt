@@ -14,6 +14,7 @@ use Rattle.sibling_forest.specs.Settle.{settle, settle_all, rests_at}
 use Rattle.sibling_forest.specs.Laws.{box_of, child_number, is_sibling, read_of}
 use Rattle.sibling_forest.specs.Members.{IsWholeForest}
 use Rattle.sibling_forest.proofs.Finish.{same-path}
+use Rattle.sibling_forest.proofs.MemberAt.{names-other}
 use Rattle.sibling_forest.proofs.Members.{settle-whole}
 use Rattle.sibling_forest.proofs.Others.{own-step}
 use Rattle.sibling_forest.proofs.Projected.{boxes-project, settle-map}
@@ -28,7 +29,6 @@ use Rattle.talking_history.proofs.Ends.{bare-put}
 use Rattle.talking_history.proofs.Turned.{run-is}
 use Rattle.drive_script.specs.Steps.{steps_made, stops, after_steps, with_machine}
 use Rattle.drive_script.proofs.Steps.{after-both, after-first, after-none, made-both, made-more, made-zero}
-use Rattle.drive_script.proofs.Stories.{number-is}
 use Rattle.drive_script.proofs.Ways.{beyond-beside, no-sibling, sibling-is}
 
 module _ {M E : Type 0} (o : Operations M E) (k : Talks M) where
@@ -226,20 +226,9 @@ module _ {M E : Type 0} (o : Operations M E) (k : Talks M) (stall : M → Option
       stalls-in None = false
       stalls-in (Some b) = is_some (stall (machine b).machine)
 
--- ---- a talk names another
+-- ---- steps keep the queues
 
 module _ {M E : Type 0} (o : Operations M E) (k : Talks M) (rules : IsMachine o) (talking : IsTalking o k) where
-  pub names-other : (path : Path) (t a : Tree (Box M)) → IsWholeForest o k t → subtree path t ≡ Some a → (what : Talk) → k.talk (machine a).machine ≡ Some what
-      → peer what ≢ child_number path
-  unfolding subtree
-  names-other [] t a h found what talks e =
-      let least = talking.first (machine a).machine what talks in
-      let most = talking.last (machine a).machine what talks in
-      let root : k.siblings (machine a).machine ≡ 0 = ap (λ (u : Tree (Box M)). k.siblings (machine u).machine) (some-same a t (sym found)) ∙ h.root in
-      absurd (omega (arith, least, most, root))
-  names-other (b ∷ path) t a h found what talks e =
-      talking.other (machine a).machine what talks (e ∙ sym (number-is o k b path t a h.members found))
-
   pub all-whole : (paths : List Path) (t : Tree (Box M)) → IsWholeForest o k t → IsWholeForest o k (settle_all o k paths t)
   unfolding settle_all
   all-whole [] t h = h
@@ -284,7 +273,7 @@ module _ {M E : Type 0} (o : Operations M E) (k : Talks M) (rules : IsMachine o)
     then-other : (what : Talk) → k.talk (machine (steps (boxed o k) n (bare a))).machine ≡ Some what → peer what ≢ child_number name
     unfolding spot_talks
     then-other what talks =
-        names-other (spots o) (spot_talks k) (machine-spots o rules) (talking-spots o k talking) name (run_at o k name n t) (steps (boxes o k) n a)
+        names-other (spots o) (spot_talks k) (talking-spots o k talking) name (run_at o k name n t) (steps (boxes o k) n a)
         (all-whole (spots o) (spot_talks k) (machine-spots o rules) (talking-spots o k talking) (replicate n name) t h) spot-here what (same-talk ∙ talks)
 
     -- and then it makes its call or its talk

@@ -20,6 +20,7 @@ use Rattle.sibling_forest.proofs.Crossing.{changed-brood}
 use Rattle.sibling_forest.proofs.Finish.{same-path}
 use Rattle.sibling_forest.proofs.Inner.{inner, settle-is, inner-none}
 use Rattle.sibling_forest.proofs.Meets as meets
+use Rattle.sibling_forest.proofs.MemberAt.{names-other}
 use Rattle.sibling_forest.proofs.Members.{settle-whole}
 use Rattle.sibling_forest.proofs.Others.{own-step}
 use Rattle.sibling_forest.proofs.Resting.{settle-rests}
@@ -51,56 +52,6 @@ module _ {M E : Type 0} (o : Operations M E) (k : Talks M) where
   unfolding story
   story-append [] rest t = refl
   story-append (e ∷ before) rest t = story-append before rest (after_event o k e t)
-
-  -- ---- the number of a machine
-
-  brood-have : (ticket : ℕ) (broods : Broods (Box M)) → BroodsHave o k broods → AreMembers o k (size (brood_of ticket broods)) 1 (brood_of ticket broods)
-  unfolding HaveMembers brood_of size
-  brood-have ticket no_brood h = tt
-  brood-have ticket (brood u trees rest) h = by (u == ticket) (brood-have ticket rest h.1)
-    where
-      by : (same : Bool) → AreMembers o k (size (brood_of ticket rest)) 1 (brood_of ticket rest)
-          → AreMembers o k (size (cond same trees (brood_of ticket rest))) 1 (cond same trees (brood_of ticket rest))
-      by true later = h.0
-      by false later = later
-
-  -- child j of some, the first of which has a number
-  numbered-from : (count from j : ℕ) (trees : Trees (Box M)) (t : Tree (Box M)) → child_at (suc j) trees ≡ Some t → AreMembers o k count from trees
-      → (k.number (machine t).machine ≡ from + j) × HaveMembers o k t
-  unfolding HaveMembers child_at
-  numbered-from count from j no_tree t e h = absurd (cc)
-  numbered-from count from zero (tree c rest) t e h =
-      let same : c ≡ t = some-same c t e in
-      let number : k.number (machine t).machine ≡ from = ap (λ (u : Tree (Box M)). k.number (machine u).machine) (sym same) ∙ h.0.number in
-      (omega (arith, number), subst (HaveMembers o k) same h.1)
-  numbered-from count from (suc j) (tree c rest) t e h =
-      let later = numbered-from count (suc from) j rest t e h.2 in
-      (omega (arith, later.0), later.1)
-
-  numbered : (count j : ℕ) (trees : Trees (Box M)) (t : Tree (Box M)) → child_at j trees ≡ Some t → AreMembers o k count 1 trees
-      → (k.number (machine t).machine ≡ j) × HaveMembers o k t
-  unfolding child_at
-  numbered count zero no_tree t e h = absurd (cc)
-  numbered count zero (tree c rest) t e h = absurd (cc)
-  numbered count (suc j) trees t e h = let is = numbered-from count 1 j trees t e h in (omega (arith, is.0), is.1)
-
-  child-number : (b : Branch) (path : Path) (t a : Tree (Box M)) → HaveMembers o k t → option_and_then (subtree path) (child_at b.child (brood_of b.ticket (broods_of t))) ≡ Some a
-      → (u : Tree (Box M)) × (k.number (machine u).machine ≡ b.child) × HaveMembers o k u × (subtree path u ≡ Some a)
-  unfolding HaveMembers
-  child-number b path (node x broods log) a h here =
-      let is = is-within (boxed o k) path (child_at b.child (brood_of b.ticket broods)) a here in
-      let one = numbered (size (brood_of b.ticket broods)) b.child (brood_of b.ticket broods) is.0 is.1 (brood-have b.ticket broods h) in
-      (is.0, one.0, one.1, is.2)
-
-  pub number-is : (b : Branch) (path : Path) (t a : Tree (Box M)) → HaveMembers o k t → subtree (b ∷ path) t ≡ Some a
-      → k.number (machine a).machine ≡ child_number (b ∷ path)
-  unfolding subtree child_number
-  number-is b [] t a h here =
-      let one = child-number b [] t a h here in
-      ap (λ (v : Tree (Box M)). k.number (machine v).machine) (some-same a one.0 (sym one.3)) ∙ one.1
-  number-is b (c ∷ path) t a h here =
-      let one = child-number b (c ∷ path) t a h here in
-      number-is c path one.0 a one.2 one.3
 
   -- ---- a step within a machine's tree
 
@@ -308,24 +259,13 @@ module _ {M E : Type 0} (o : Operations M E) (k : Talks M) (rules : IsMachine o)
   unfolding story own_steps settle subtree
   own-story at t a b h here there moves =
       let same : b ≡ step (boxed o k) a =
-      some-same b (step (boxed o k) a) (sym there ∙ own-step o k at t a here moves (λ what talks. other at what here talks)) in
+      some-same b (step (boxed o k) a) (sym there ∙ own-step o k at t a here moves (names-other o k talking at t a h here)) in
       let counts = own-counts a (subtree-sound (boxed o k) at t a h.sound here) (parts-goes (rests (boxed o k) (Some a)) _ (sym (rests-parts o k at t a here) ∙ moves)) in
       record { story_is = same; counted = counts ∙ ap (λ (t : Tree (Box M)). 1 + o.left (machine t).machine) (sym same) }
     where
       parts-goes : (x y : Bool) → x || y ≡ false → x ≡ false
       parts-goes true y e = e
       parts-goes false y e = refl
-
-      -- a talk names another
-      other : (way : Path) (what : Talk) → subtree way t ≡ Some a → k.talk (machine a).machine ≡ Some what → peer what ≢ child_number way
-      other [] what found talks e =
-          let least = talking.first (machine a).machine what talks in
-          let most = talking.last (machine a).machine what talks in
-          let root : k.siblings (machine a).machine ≡ 0 =
-          ap (λ (u : Tree (Box M)). k.siblings (machine u).machine) (some-same a t (sym found)) ∙ h.root in
-          absurd (omega (arith, least, most, root))
-      other (b ∷ path) what found talks e =
-          talking.other (machine a).machine what talks (e ∙ sym (number-is o k b path t a h.members found))
 
   -- a step of one below it
   within-story : (at : Path) (b : Branch) (rest : Path) (t a c : Tree (Box M)) → subtree at t ≡ Some a → subtree at (settle o k (at ++ (b ∷ rest)) t) ≡ Some c
@@ -370,7 +310,7 @@ module _ {M E : Type 0} (o : Operations M E) (k : Talks M) (rules : IsMachine o)
       }
 
   -- what is gone stays so
-  gone-on : (at : Path) (paths : List Path) (t : Tree (Box M)) → IsSound (boxed o k) t → IsGone (boxed o k) all at t
+  pub gone-on : (at : Path) (paths : List Path) (t : Tree (Box M)) → IsSound (boxed o k) t → IsGone (boxed o k) all at t
       → subtree at (settle_all o k paths t) ≡ None
   unfolding settle_all
   gone-on at [] t h gone = gone-none (boxed o k) all at t gone

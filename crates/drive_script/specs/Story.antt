@@ -1,8 +1,9 @@
 -- What becomes of one machine of a family, with all below it: what happens to it, in order.
-use Rattle.std.specs.Prelude.{ℕ, suc, ◌==◌, ◌&&◌, Bool, true, false, if◌then◌else◌, List, [], ◌∷◌, ◌++◌, Option, Some, None}
-use Rattle.forest_tree.specs.Operations.{Operations}
-use Rattle.forest_tree.specs.Tree.{Tree, machine, Path, subtree, beyond}
-use Rattle.sibling_forest.specs.Talk.{Talk, send, receive, Talks, Box}
+use Rattle.std.specs.Prelude.{ℕ, suc, ◌≡◌, ◌≤◌, ◌==◌, ◌&&◌, Bool, true, false, if◌then◌else◌, List, [], ◌∷◌, ◌++◌, Option, Some, None}
+use Rattle.forest_tree.specs.Operations.{clone, Operations}
+use Rattle.forest_tree.specs.Tree.{Tree, machine, Branch, Path, subtree, beyond}
+use Rattle.forest_tree.specs.Step.{alone}
+use Rattle.sibling_forest.specs.Talk.{Talk, send, receive, Talks, Box, boxed}
 use Rattle.sibling_forest.specs.Settle.{delivered, settle, rests_at}
 use Rattle.sibling_forest.specs.Laws.{child_number, is_sibling}
 
@@ -53,3 +54,15 @@ module _ {M E : Type 0} (o : Operations M E) (k : Talks M) where
   unfoldable pub events : Path → List Path → Tree (Box M) → List Event
   events at [] t = []
   events at (path ∷ rest) t = event_at at path t ++ events at rest (settle o k path t)
+
+  -- p is the tree at a path of which the machine can make its next step, and that is a clone that bears the child
+  pub record Bears (child : Branch) (path : Path) (p t : Tree (Box M)) : Type 0 where
+    pub there : subtree path t ≡ Some p
+    pub moves : rests_at o k path t ≡ false
+    pub clones : o.call (machine p).machine ≡ Some (clone child.ticket)
+    pub least : 1 ≤ child.child
+    pub most : child.child ≤ (o.grant (machine p).machine child.ticket).children
+
+  -- the child with this number that a clone of the machine bears: alone, and with no words to it
+  abbrev pub born : ℕ → Tree (Box M) → Tree (Box M)
+  born number p = alone (boxed o k) ((boxed o k).child (machine p) number)

@@ -1,7 +1,7 @@
 //! Laws of the definitions, each the contract of a function that does nothing.
 
 ghost use Rattle.std.specs.Prelude.{◌≡◌, ◌≢◌, ◌+◌, ◌<◌, ◌≤◌, ◌++◌, ◌∷◌, ℕ, suc, true};
-ghost use Rattle.std.specs.Prelude.{false, List, Some, None, IsSome, option_map, slice_get, length, map, Ok, ◌^◌};
+ghost use Rattle.std.specs.Prelude.{false, List, [], Some, None, IsSome, option_map, slice_get, length, map, Ok, ◌^◌};
 ghost use Rattle.std.specs.Char.{to_ascii_lowercase};
 ghost use Rattle.std.specs.Fmt.{decimal};
 ghost use Rattle.forest_tree.specs.Operations.{join};
@@ -9,7 +9,7 @@ ghost use Rattle.forest_tree.specs.Tree.{Tree, node, Broods, Log, Branch, Path, 
 ghost use Rattle.forest_tree.specs.Step.{waits};
 ghost use Rattle.forest_tree.specs.Sound.{IsSound};
 ghost use Rattle.sibling_forest.specs.Talk.{Box, boxed, queue};
-ghost use Rattle.sibling_forest.specs.Settle.{settle_all};
+ghost use Rattle.sibling_forest.specs.Settle.{settle, settle_all};
 ghost use Rattle.sibling_forest.specs.Laws.{child_number, is_sibling};
 ghost use Rattle.sibling_forest.specs.Members.{IsWholeForest};
 ghost use Rattle.forest_model.specs.Machine.{Machine};
@@ -21,7 +21,7 @@ ghost use Rattle.drive_script.specs.declared.answer.Answer.TheVariants.{Ran};
 ghost use Rattle.drive_script.specs.declared.answer.Why.TheVariants.{MayGoOn};
 ghost use Rattle.drive_script.specs.Replies.{Siblings, siblings_of};
 ghost use Rattle.drive_script.specs.Steps.{Family, after_steps, stops, Drops};
-ghost use Rattle.drive_script.specs.Story.{events, own_steps, story};
+ghost use Rattle.drive_script.specs.Story.{events, own_steps, story, Bears, born};
 ghost use Rattle.drive_script.specs.Written.{AreForks, AreInForm, IsTextOf, script_text};
 ghost use Rattle.drive_script.specs.Told.{Driven, made_at, whole, name_in, steps_of, after_line, after_script, steps_of_script, answer, word_text};
 
@@ -136,4 +136,27 @@ pub fn scripts_are_steps()
         → subtree at (whole s.tree) ≡ Some a → subtree at (whole (after_script lines s).tree) ≡ Some b
         → machines.left (machine a).machine ≡ own_steps (events machines talks at (steps_of_script lines s) (whole s.tree))
         + machines.left (machine b).machine }
+{}
+
+/// A child is what happened to it since it was born. Let a step of a script be a clone of the machine at a path, and `t` the
+/// machines before it. Unless that machine has ended with it, child k of the ticket is then there, alone and with no words to
+/// it. What is there after the script is that child after just the steps that were made at its place and below, in their
+/// order, and the words that siblings sent to it. As many of these steps are its own as it has counted.
+pub fn children_are_what_happened()
+    ensures born { (lines : List ScriptLine) (s : Driven) (before after : List Path) (path : Path) (child : Branch) (t p q : Tree (Box Machine))
+        → IsWholeForest machines talks (whole s.tree) → steps_of_script lines s ≡ before ++ (path ∷ after)
+        → settle_all machines talks before (whole s.tree) ≡ t → Bears machines talks child path p t
+        → subtree path (settle machines talks path t) ≡ Some q → (machine q).machine.ending ≡ None
+        → subtree (path ++ (child ∷ [])) (settle machines talks path t) ≡ Some (born machines talks child.child p) }
+    ensures alone { (lines : List ScriptLine) (s : Driven) (before after : List Path) (path : Path) (child : Branch) (t p c : Tree (Box Machine))
+        → IsWholeForest machines talks (whole s.tree) → steps_of_script lines s ≡ before ++ (path ∷ after)
+        → settle_all machines talks before (whole s.tree) ≡ t → Bears machines talks child path p t
+        → subtree (path ++ (child ∷ [])) (whole (after_script lines s).tree) ≡ Some c
+        → c ≡ story machines talks (events machines talks (path ++ (child ∷ [])) after (settle machines talks path t)) (born machines talks child.child p) }
+    ensures counted { (lines : List ScriptLine) (s : Driven) (before after : List Path) (path : Path) (child : Branch) (t p c : Tree (Box Machine))
+        → IsWholeForest machines talks (whole s.tree) → steps_of_script lines s ≡ before ++ (path ∷ after)
+        → settle_all machines talks before (whole s.tree) ≡ t → Bears machines talks child path p t
+        → subtree (path ++ (child ∷ [])) (whole (after_script lines s).tree) ≡ Some c
+        → machines.left (machine (born machines talks child.child p)).machine
+        ≡ own_steps (events machines talks (path ++ (child ∷ [])) after (settle machines talks path t)) + machines.left (machine c).machine }
 {}

@@ -11,6 +11,7 @@ pub mod Meets
 pub mod Resting
 pub mod Falls
 pub mod Finish
+pub mod MemberAt
 pub mod Members
 pub mod Others
 pub mod Wakes
@@ -20,4 +21,5 @@ pub mod Holdings
 pub mod Projected
 pub mod WhatIsRead
 pub mod Silent
+pub mod Joins
 pub mod Undisturbed

@@ -17,6 +17,7 @@ use Rattle.sibling_forest.proofs.Queues.{queue-other}
 use Rattle.sibling_forest.proofs.Siblings.{brings, target, Moves, moves-by}
 use Rattle.sibling_forest.proofs.Sound.{sibling_step-size, settle-keeps}
 use Rattle.sibling_forest.proofs.Meets.{below-stays}
+use Rattle.sibling_forest.proofs.MemberAt.{member-found}
 
 -- lists of queues
 length-emptied : (inbox : Inbox) → length (emptied inbox) ≡ length inbox
@@ -293,27 +294,6 @@ module _ {M E : Type 0} (o : Operations M E) (k : Talks M) where
         let same : suc j ≡ 1 + j = omega arith in
         members-at f count 1 j trees (λ t found. subst (λ n. Keeps f count n t) same (keeps t found)) h
 
-    -- the number of a member that is found
-    member-from : (count from j : ℕ) (trees : Trees (Box M)) (t : Tree (Box M)) → child_at (suc j) trees ≡ Some t → AreMembers o k count from trees
-        → IsMember o k count (from + j) (machine t)
-    unfolding HaveMembers child_at
-    member-from count from j no_tree t found h = absurd (cc)
-    member-from count from zero (tree u rest) t found h =
-        let same : from ≡ from + 0 = omega arith in
-        subst (λ (v : Tree (Box M)). IsMember o k count (from + 0) (machine v)) (some-same u t found) (subst (λ n. IsMember o k count n (machine u)) same h.0)
-    member-from count from (suc j) (tree u rest) t found h =
-        let same : suc from + j ≡ from + suc j = omega arith in
-        subst (λ n. IsMember o k count n (machine t)) same (member-from count (suc from) j rest t found h.2)
-
-    member-found : (count i : ℕ) (trees : Trees (Box M)) (t : Tree (Box M)) → child_at i trees ≡ Some t → AreMembers o k count 1 trees
-        → IsMember o k count i (machine t)
-    unfolding child_at
-    member-found count zero no_tree t found h = absurd (cc)
-    member-found count zero (tree u rest) t found h = absurd (cc)
-    member-found count (suc j) trees t found h =
-        let same : 1 + j ≡ suc j = omega arith in
-        subst (λ n. IsMember o k count n (machine t)) same (member-from count 1 j trees t found h)
-
     and-second : (a b : Bool) → a && b ≡ false → a ≡ true → b ≡ false
     and-second true b h e = h
     and-second false b h e = absurd (cc)
@@ -356,7 +336,7 @@ module _ {M E : Type 0} (o : Operations M E) (k : Talks M) where
             let a = moves-by o k c i trees found moves in
             let t : Tree (Box M) = a.0 in
             let m : Moves o k i trees t = a.1 in
-            let member : IsMember o k (size trees) i (machine t) = member-found (size trees) i trees t m.found h in
+            let member : IsMember o k (size trees) i (machine t) = member-found o k (size trees) i trees t m.found h in
             subst (AreMembers o k (size trees) 1) (sym m.steps)
             (brings-members (k.talk (machine t).machine) (size trees) i trees t (k.word (machine t).machine) m.found refl member m.speaks
             (family-at (step (boxed o k)) (size trees) i trees

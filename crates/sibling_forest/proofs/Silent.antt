@@ -64,7 +64,7 @@ module _ {M E : Type 0} (o : Operations M E) (k : Talks M) where
       by None down = ([], refl)
       by (Some path) down = (path ∷ (down path).0, (down path).1)
 
-  finish-steps : (t : Tree (Box M)) → (paths : List Path) × (finish o k t ≡ settle_all o k paths t)
+  pub finish-steps : (t : Tree (Box M)) → (paths : List Path) × (finish o k t ≡ settle_all o k paths t)
   unfolding finish
   finish-steps t = run-steps _ t
 

@@ -5,3 +5,4 @@ pub mod Members
 pub mod Laws
 pub mod Toy
 pub mod Report
+pub mod Joins

@@ -11,6 +11,7 @@ ghost use Rattle.forest_tree.specs.Projection.{map_tree, Projects};
 ghost use Rattle.sibling_forest.specs.Talk.{Talk, peer, Talks, queue, Box, boxed, IsTalking};
 ghost use Rattle.sibling_forest.specs.Settle.{settle, settle_all, rests_at};
 ghost use Rattle.sibling_forest.specs.Finish.{rests, finish, IsFinish};
+ghost use Rattle.sibling_forest.specs.Joins.{with_brood, finish_by_joins};
 ghost use Rattle.sibling_forest.specs.Members.{IsWholeForest};
 ghost use Rattle.sibling_forest.specs.Laws.{Meet, child_number, is_sibling, ReadAlike, IsSilent, TalksAlike, box_of};
 
@@ -156,6 +157,20 @@ pub fn stuck_machines_talk<M, E>()
         × IsSome (k.talk (machine a).machine) }
     ensures silent { (o : Operations M E) (k : Talks M) → IsMachine o → IsTalking o k → (t : Tree (Box M)) → IsSound (boxed o k) t
         → IsSilent o k t → IsSome (o.ending (machine (finish o k t)).machine) }
+{}
+
+/// A tree in which no machine ever comes to a talk comes to the end to which the joins of its root bring it: one that has
+/// ended stays, else its root makes its next step, and before a join each child of the ticket is run to its end by itself.
+pub fn silent_trees_finish_by_joins<M, E>()
+    ensures same { (o : Operations M E) (k : Talks M) → IsMachine o → IsTalking o k → (t : Tree (Box M)) → IsSound (boxed o k) t
+        → IsSilent o k t → finish o k t ≡ finish_by_joins (boxed o k) t }
+    ensures ended { (o : Operations M E) (k : Talks M) → IsMachine o → IsTalking o k → (t : Tree (Box M))
+        → IsSome (o.ending (machine t).machine) → finish_by_joins (boxed o k) t ≡ t }
+    ensures steps { (o : Operations M E) (k : Talks M) → IsMachine o → IsTalking o k → (t : Tree (Box M)) → IsSound (boxed o k) t
+        → IsSilent o k t → finish_by_joins (boxed o k) t ≡ finish_by_joins (boxed o k) (step (boxed o k) t) }
+    ensures joins { (o : Operations M E) (k : Talks M) → IsMachine o → IsTalking o k → (ticket : ℕ) (t : Tree (Box M)) → IsSound (boxed o k) t
+        → IsSilent o k t
+        → finish_by_joins (boxed o k) t ≡ finish_by_joins (boxed o k) (step (boxed o k) (with_brood (finish_by_joins (boxed o k)) ticket t)) }
 {}
 
 /// Machines with more inside that talk alike have the steps and the finish of what is seen of them.

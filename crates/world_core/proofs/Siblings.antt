@@ -31,7 +31,7 @@ use Rattle.world_core.specs.World.{Forest, IsForest, Rests, ShowsEach, StandsFor
 use Rattle.world_core.proofs.Awake.{awake-cell, awake-there, child-below}
 use Rattle.world_core.proofs.Changes.{KeepsSlot, child-there, holds-kept, keeps-awake, notes-away}
 use Rattle.world_core.proofs.Finishing.{barren}
-use Rattle.world_core.proofs.MembersKept.{member-of}
+use Rattle.sibling_forest.proofs.MemberAt.{member-of}
 use Rattle.world_core.proofs.Returns.{Handed, IsOutHere, gone, handed, there}
 use Rattle.world_core.proofs.SlotChanges.{brood-size, child-place, no-brood-no-child}
 use Rattle.world_core.proofs.SlotWaits.{one-held}

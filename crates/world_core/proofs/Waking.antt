@@ -37,7 +37,7 @@ use Rattle.world_core.specs.Answers.{IsLentOf}
 use Rattle.world_core.proofs.Awake.{child-below, slotted}
 use Rattle.machine_names.proofs.Below.{beyond-append, beyond-is}
 use Rattle.world_core.proofs.Changes.{child_by, is_one, outside, beyond-parent}
-use Rattle.world_core.proofs.MembersKept.{member-of}
+use Rattle.sibling_forest.proofs.MemberAt.{member-of}
 use Rattle.world_core.proofs.Returns.{apart-below, same-or-apart, written-here, written-apart, some-is}
 use Rattle.world_core.proofs.Sleepers.{wakes, sleeps-by, wakes-is, wakes-slot, none-sleeps, cell-shows}
 use Rattle.world_core.proofs.TurnOut.{unlisted}

@@ -62,7 +62,7 @@ use Rattle.world_core.proofs.Awake.{child-below}
 use Rattle.world_core.proofs.Heard.{Rewrites, brood-alike, brood-heard, cell-heard, cell-told, each-heard, each-told, slots-alike, told-noted, told-unheard}
 use Rattle.world_core.proofs.Hearing.{and-false, queue_from-other, room-wakes, root-heard, sibling-was, word-wakes}
 use Rattle.world_core.proofs.Leaving.{same-parent}
-use Rattle.world_core.proofs.MembersKept.{member-of}
+use Rattle.sibling_forest.proofs.MemberAt.{member-of}
 use Rattle.world_core.proofs.Returns.{Handed, gone, handed, some-is, there, there-is, written-apart, written-here}
 use Rattle.world_core.proofs.Saying.{delivered-path, ending_of, heard, number-last, queue-here, sibling-last, taken, taken-path, taken-whole, told-whole, told_word}
 use Rattle.world_core.proofs.Siblings.{IsBeside, TalksHere, child-talks, peer-is, talks-here}
