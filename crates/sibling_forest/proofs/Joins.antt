@@ -1,5 +1,5 @@
 -- A silent tree comes to the end to which the joins of its root bring it.
-use Rattle.std.proofs.Common.{◌≡◌, ◌≢◌, ℕ, zero, suc, ◌+◌, ◌<◌, ◌≤◌, ◌||◌, ◌&&◌, not, eqb, inl, inr, Bool, true, false, cond, refl, sym, ap, ap₂, ◌∙◌, subst, arith, le_refl}
+use Rattle.std.proofs.Common.{◌≡◌, ℕ, zero, suc, ◌+◌, ◌<◌, ◌≤◌, ◌||◌, ◌&&◌, not, eqb, inl, inr, Bool, true, false, cond, refl, sym, ap, ap₂, ◌∙◌, subst, arith, le_refl}
 use Rattle.std.proofs.Common.{List, [], ◌∷◌, map, Option, Some, None, IsSome, is_some, option_map, option_and_then}
 use Rattle.std.proofs.lemmas.Bool.{or_left, or_from}
 use Rattle.forest_tree.specs.Operations.{Call, clone, join, kill, Operations, IsMachine}
@@ -9,10 +9,10 @@ use Rattle.forest_tree.specs.Step as own
 use Rattle.forest_tree.specs.Sound.{IsSound}
 use Rattle.forest_tree.specs.Ahead.{most_ahead, own_weight, weigh, weigh_trees, weigh_broods, ahead}
 use Rattle.forest_tree.proofs.Places.{below-at, at_child-none, child_at-same}
-use Rattle.forest_tree.proofs.Rests.{lives-none, one-brood, step-rests}
+use Rattle.forest_tree.proofs.Rests.{one-brood, step-rests}
 use Rattle.forest_tree.proofs.Sound.{root-sound}
 use Rattle.forest_tree.proofs.Steps.{cases-ending}
-use Rattle.sibling_forest.specs.Talk.{Talk, Talks, Box, boxed, IsTalking}
+use Rattle.sibling_forest.specs.Talk.{Talks, Box, boxed, IsTalking}
 use Rattle.sibling_forest.specs.Settle as sibling
 use Rattle.sibling_forest.specs.Settle.{sibling_rests_by, deliver_by, sibling_step_by, sibling_step, settle, settle_all, rests_at}
 use Rattle.sibling_forest.specs.Finish.{next_path, finish}
@@ -23,7 +23,6 @@ use Rattle.sibling_forest.proofs.Crossing.{changed-brood}
 use Rattle.sibling_forest.proofs.Families.{at_child-twice, at_child-agree, at_child-leaves, at_brood-agree, at_brood-twice}
 use Rattle.sibling_forest.proofs.Falls.{settle-falls}
 use Rattle.sibling_forest.proofs.Finish.{IsOver, finish-none, finish-over, finish-stays}
-use Rattle.sibling_forest.proofs.Inner.{below-machine}
 use Rattle.sibling_forest.proofs.Resting.{at_brood-leaves, settle-rests, next-moves}
 use Rattle.sibling_forest.proofs.Silent.{finish-steps, silent-ends}
 use Rattle.sibling_forest.proofs.Sound.{settle-keeps}

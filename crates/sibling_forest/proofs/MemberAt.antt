@@ -1,5 +1,5 @@
 -- The member of a brood at a place of a tree, and its number.
-use Rattle.std.proofs.Common.{◌≡◌, ◌≢◌, ℕ, zero, suc, ◌+◌, ◌≤◌, eqb, cond, Bool, true, false, refl, sym, ap, ◌∙◌, subst, arith, [], ◌∷◌, Some}
+use Rattle.std.proofs.Common.{◌≡◌, ◌≢◌, ℕ, zero, suc, ◌+◌, eqb, cond, Bool, true, false, refl, sym, ap, ◌∙◌, subst, arith, [], ◌∷◌, Some}
 use Rattle.forest_tree.specs.Operations.{Operations}
 use Rattle.forest_tree.specs.Tree.{Tree, node, Trees, no_tree, tree, Broods, no_brood, brood, machine, size, child_at, brood_of, broods_of, Branch, Path, subtree}
 use Rattle.forest_tree.proofs.Places.{is-within, some-same}
