@@ -15,6 +15,7 @@ ghost use Rattle.sibling_port.specs.Commands.{HasSibling, named};
 ghost use Rattle.sibling_forest.specs.Talk.{Box, IsTalking, boxed};
 ghost use Rattle.sibling_forest.specs.Laws.{IsSilent, TalksAlike, box_of};
 ghost use Rattle.sibling_forest.specs.Finish as forest;
+ghost use Rattle.sibling_forest.specs.Joins.{finish_by_joins};
 ghost use Rattle.sibling_forest.specs.Members.{IsWholeForest};
 ghost use Rattle.forest_tree.specs.Operations.{clone, join, kill, IsMachine};
 ghost use Rattle.forest_tree.specs.Tree.{Tree, machine};
@@ -157,9 +158,12 @@ pub fn machines_keep_the_rules()
         → IsWholeForest machines talks (booted image disk input options) }
 {}
 
-/// A family whose machines never come to a talk is run until its root has ended.
+/// A family whose machines never come to a talk is run until its root has ended, and comes to the end to which the joins of
+/// its root bring it.
 pub fn silent_families_end()
-    ensures { (t : Tree (Box Machine)) → IsSound (boxed machines talks) t → IsSilent machines talks t → IsSome (machine (finish t)).machine.ending }
+    ensures ended { (t : Tree (Box Machine)) → IsSound (boxed machines talks) t → IsSilent machines talks t → IsSome (machine (finish t)).machine.ending }
+    ensures by_joins { (t : Tree (Box Machine)) → IsSound (boxed machines talks) t → IsSilent machines talks t
+        → finish t ≡ finish_by_joins (boxed machines talks) t }
 {}
 
 /// A machine that may have no clones and has no ticket and no siblings never makes a call or a talk, and neither does it
