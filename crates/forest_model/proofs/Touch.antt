@@ -431,7 +431,7 @@ Leaves-amo_by at (of_ram (Some page)) i s e aside =
     Leaves-put at (amo_access i s) page (to_le_bytes w32 _) s e refl refl (of_ram-is (amo_access i s) s (Some page) e).aligned refl (inr (inr refl)) aside
 Leaves-amo_by at of_port i s e aside = refl
 
-store_widths : (kind : Kind) (value : ℕ) → group_of kind ≡ Store → (length (store_bytes kind value) ≡ store_width kind) × IsWidth (store_width kind)
+pub store_widths : (kind : Kind) (value : ℕ) → group_of kind ≡ Store → (length (store_bytes kind value) ≡ store_width kind) × IsWidth (store_width kind)
 unfolding group_of
 store_widths Sb value h = (refl, inl refl)
 store_widths Sh value h = (refl, inr (inl refl))

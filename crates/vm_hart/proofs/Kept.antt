@@ -15,8 +15,6 @@ use Rattle.page_frames.proofs.Memory.{little_from_same}
 use Rattle.rv_decode.specs.Instruction.{Instruction}
 use Rattle.rv_decode.specs.Kinds.{group_of}
 use Rattle.rv_decode.specs.Table.{decoded}
-use Rattle.rv_decode.specs.declared.kinds.Kind.{Kind}
-use Rattle.rv_decode.specs.declared.kinds.Kind.TheVariants.{Sb, Sh, Sw}
 use Rattle.rv_decode.specs.declared.kinds.Group.{Group}
 use Rattle.rv_decode.specs.declared.kinds.Group.TheVariants.{LoadUpper, AddUpper, Jump, JumpRegister, Branch, Load, Store, ComputeImmediate}
 use Rattle.rv_decode.specs.declared.kinds.Group.TheVariants.{Compute, EnvironmentCall, Breakpoint, TrapReturn, Csr, LoadReserved, StoreConditional, Amo}
@@ -29,7 +27,7 @@ use Rattle.rv_traps.specs.declared.registers.CsrRegisters.{CsrRegisters}
 use Rattle.guest_pmp.specs.Registers.{has_lock}
 use Rattle.rv_traps.specs.Protection.{allows, data_mode, is_unrestricted}
 use Rattle.rv_exec.specs.Branch.{branch_taken}
-use Rattle.rv_exec.specs.Memory.{IsWidth, store_bytes, store_width}
+use Rattle.rv_exec.specs.Memory.{IsWidth, store_width}
 use Rattle.forest_model.specs.State.{State, is_in_ram}
 use Rattle.forest_model.specs.Action.{Action, trap, interrupt, retire, exit, ask, speak, rs1, rs2, immediate}
 use Rattle.forest_model.specs.Access.{Reached, faulted, of_ram, of_port, reached, fetch_access}
@@ -38,6 +36,7 @@ use Rattle.forest_model.specs.Control.{aligned_jump, branch, branch_by, jump, ju
 use Rattle.forest_model.specs.Memory.{data_address, load, load_access, load_by, store, store_access, store_action, store_by, stored_bytes}
 use Rattle.forest_model.specs.Execute.{execute, execute_group, fetched}
 use Rattle.forest_model.specs.Touch.{access_by, data_footprint, footprint_reached}
+use Rattle.forest_model.proofs.Touch.{store_widths}
 use Rattle.forest_model.specs.Footprint.{Change}
 use Rattle.forest_model.specs.Paged.{Pages, pages_after}
 use Rattle.forest_model.proofs.Accesses.{of_ram-is, reached-ram}
@@ -237,13 +236,6 @@ apart place address width j (inr (inl two)) aligned whole other from_base from b
 apart place address width j (inr (inr four)) aligned whole other from_base from below =
     let by_four : address % 4 ≡ 0 = subst (λ w. address % w ≡ 0) four aligned in grind arith
 
-widths : (kind : Kind) (value : ℕ) → group_of kind ≡ Store → (length (store_bytes kind value) ≡ store_width kind) × IsWidth (store_width kind)
-unfolding group_of
-widths Sb value h = (refl, inl refl)
-widths Sh value h = (refl, inr (inl refl))
-widths Sw value h = (refl, inr (inr refl))
-widths _ value h = absurd (cc)
-
 in-ram-bounds : (ram : List ℕ) (address : ℕ) → is_in_ram ram address ≡ true → (RAM_BASE ≤ address) × (address < RAM_BASE + length ram)
 in-ram-bounds ram address inside = (grind (arith, nat_tests), grind (arith, nat_tests))
 
@@ -347,7 +339,7 @@ module _ (old new : KeyedState) (i : Instruction) (epoch : ℕ) (before slots : 
   kept-by Branch g whole h ram here entries is keeps = kept-same old new epoch slots (record { ram = ram; here = here; entries = entries }) (subst (Keeps old epoch) (sym is) keeps)
   kept-by Load g whole h ram here entries is keeps = kept-same old new epoch slots (record { ram = ram; here = here; entries = entries }) (subst (Keeps old epoch) (sym is) keeps)
   kept-by Store g whole h ram here entries is keeps =
-      let stored = widths i.kind (rs2 i old.state) g in
+      let stored = store_widths i.kind (rs2 i old.state) g in
       let address : ℕ = data_address i old.state in
       kept-store old new epoch address (store_width i.kind) slots (stored_bytes i old.state) ram.0 here entries stored.0 stored.1 ram.1 h whole
       (subst (λ n. (d : KeptInstruction) → (get_or slots (slot_of address n) d).place ≡ NOWHERE) (sym is.same_length) (λ d. ap (λ (s : KeptInstruction). s.place) (is.there d)))
@@ -384,7 +376,7 @@ module _ (old new : KeyedState) (i : Instruction) where
   size-by Branch g whole h ram = ap length ram
   size-by Load g whole h ram = ap length ram
   size-by Store g whole h ram =
-      let stored = widths i.kind (rs2 i old.state) g in
+      let stored = store_widths i.kind (rs2 i old.state) g in
       ap length ram.0 ∙ same-length old.state.ram (stored_bytes i old.state) (data_address i old.state) (store_width i.kind) stored.0 stored.1 ram.1 h whole
   size-by ComputeImmediate g whole h ram = ap length ram
   size-by Compute g whole h ram = ap length ram
