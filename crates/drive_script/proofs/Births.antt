@@ -1,7 +1,7 @@
 -- What becomes of a child since its birth.
-use Rattle.std.proofs.Common.{◌≡◌, inl, inr, cond, false, refl, sym, ap, ◌∙◌, subst, ◌≤◌, List, [], ◌∷◌, ◌++◌, Option, Some, None, IsSome, option_and_then}
+use Rattle.std.proofs.Common.{◌≡◌, inl, inr, cond, refl, sym, ap, ◌∙◌, subst, List, [], ◌∷◌, ◌++◌, Option, Some, None, IsSome, option_and_then}
 use Rattle.std.proofs.lemmas.Bool.{or_parts}
-use Rattle.forest_tree.specs.Operations.{clone, Operations, IsMachine}
+use Rattle.forest_tree.specs.Operations.{Operations, IsMachine}
 use Rattle.forest_tree.specs.Tree.{Tree, node, Broods, brood, Log, machine, broods_of, child_at, brood_of, Branch, Path, subtree}
 use Rattle.forest_tree.specs.Step.{has_ended, waits, children, settled_by, settled, step}
 use Rattle.forest_tree.proofs.Broods.{eqb-same}

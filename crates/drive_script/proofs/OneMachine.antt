@@ -1,22 +1,20 @@
 -- What steps of one machine leave at each place of a family.
 use Rattle.std.proofs.Common.{◌≡◌, ◌≢◌, ℕ, zero, suc, ◌&&◌, eqb, eqb-true, eq-eqb, Bool, true, false, cond, refl, sym, ap, ap₂, ◌∙◌, subst, ◌⊎◌}
 use Rattle.std.proofs.Common.{inl, inr, [], ◌∷◌, Option, Some, None, IsSome, option_and_then, option_map}
-use Rattle.std.proofs.lemmas.Bool.{and_parts, eqb-false}
+use Rattle.std.proofs.lemmas.Bool.{and_parts}
 use Rattle.forest_tree.specs.Operations.{Call, clone, join, kill, Operations, is_cloned, Makes, IsMachine}
-use Rattle.forest_tree.specs.Tree.{Tree, node, Trees, no_tree, Broods, brood, Log, joined, killed, machine, log_of, broods_of, at_child, child_at, brood_of, with_broods, at_brood, without, Branch}
+use Rattle.forest_tree.specs.Tree.{Tree, node, Trees, no_tree, Broods, brood, Log, joined, killed, machine, log_of, broods_of, child_at, brood_of, without, Branch}
 use Rattle.forest_tree.specs.Tree.{Path, subtree, beyond, goes_on, is_below}
 use Rattle.forest_tree.specs.Step.{have_ended, endings, children, settled_by, settled, join_by, step_by, step}
 use Rattle.forest_tree.specs.Sound.{IsSound}
 use Rattle.forest_tree.proofs.Broods.{one_if}
 use Rattle.forest_tree.proofs.Sound.{clone-is-new, machine-settled, root-sound}
 use Rattle.forest_tree.proofs.Steps.{cases-ending, step-ended, step-lives}
-use Rattle.forest_tree.proofs.Places.{some-same, brood_of-at, brood_of-none, brood_of-without, child_at-same, child_at-other}
-use Rattle.sibling_forest.specs.Talk.{Talk, send, receive, Talks, queue, Box}
-use Rattle.sibling_forest.specs.Settle.{sibling_rests, sibling_step, sibling_step_by, settle}
+use Rattle.forest_tree.proofs.Places.{some-same, brood_of-none, brood_of-without}
+use Rattle.sibling_forest.specs.Talk.{Talks, queue, Box}
+use Rattle.sibling_forest.specs.Settle.{settle}
 use Rattle.sibling_forest.specs.Laws.{child_number, is_sibling}
-use Rattle.sibling_forest.proofs.Inner.{inner, settle-is, inner-none, brings-subtree}
 use Rattle.sibling_forest.proofs.Others as one
-use Rattle.sibling_forest.proofs.Siblings.{brings, brings-machine, sibling-moves, after-one}
 use Rattle.drive_script.specs.Steps.{after_steps, Drops, by_kill, by_join, by_end}
 use Rattle.drive_script.proofs.Steps.{after-first, after-none}
 

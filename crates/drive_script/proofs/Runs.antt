@@ -6,7 +6,6 @@ use Rattle.forest_tree.specs.Operations.{Operations, IsMachine}
 use Rattle.forest_tree.specs.Tree.{Tree, node, Broods, Log, Path, machine, subtree, beyond, is_below, at_path, at_beyond}
 use Rattle.forest_tree.specs.Step.{settled_by, settled, step, advanced, steps}
 use Rattle.forest_tree.specs.Projection.{map_tree}
-use Rattle.forest_tree.proofs.Places.{some-same}
 use Rattle.forest_tree.proofs.Projected.{step-map, subtree-map, at_path-map}
 use Rattle.forest_tree.proofs.Rests.{lives-none}
 use Rattle.sibling_forest.specs.Talk.{Talk, peer, Talks, Inbox, Box, kept_by, after, boxed, IsTalking}

@@ -3,18 +3,18 @@ use Rattle.std.proofs.Common.{◌≡◌, ◌≢◌, ◌⊎◌, inl, inr, ℕ, ze
 use Rattle.std.proofs.Common.{List, [], ◌∷◌, ◌++◌, replicate, Option, Some, None, option_and_then, option_map}
 use Rattle.std.proofs.lemmas.Bool.{and_parts}
 use Rattle.forest_tree.specs.Operations.{Operations, IsMachine}
-use Rattle.forest_tree.specs.Tree.{Tree, node, Trees, no_tree, tree, Broods, no_brood, brood, machine, broods_of, size, at_child, child_at, brood_of, Branch, Path, subtree, beyond, goes_on, is_below}
+use Rattle.forest_tree.specs.Tree.{Tree, node, Trees, machine, at_child, child_at, brood_of, Branch, Path, subtree, beyond, goes_on, is_below}
 use Rattle.forest_tree.specs.Tree.{at_path, at_beyond}
 use Rattle.forest_tree.specs.Step.{rests, step}
 use Rattle.forest_tree.specs.Sound.{IsSound}
 use Rattle.forest_tree.proofs.Names.{IsGone, gone-none}
-use Rattle.forest_tree.proofs.Places.{some-same, is-within, child_at-same, stepped-at, subtree-parts, subtree-sound}
+use Rattle.forest_tree.proofs.Places.{some-same, child_at-same, stepped-at, subtree-parts, subtree-sound}
 use Rattle.forest_tree.proofs.Rests.{step-one}
 use Rattle.forest_tree.proofs.Steps.{cases-ending}
-use Rattle.sibling_forest.specs.Talk.{Talk, send, receive, peer, Talks, Box, boxed, IsTalking}
+use Rattle.sibling_forest.specs.Talk.{Talk, send, receive, Talks, Box, boxed, IsTalking}
 use Rattle.sibling_forest.specs.Settle.{delivered, settle, settle_all, rests_at}
 use Rattle.sibling_forest.specs.Laws.{child_number, is_sibling}
-use Rattle.sibling_forest.specs.Members.{HaveMembers, BroodsHave, AreMembers, IsWholeForest}
+use Rattle.sibling_forest.specs.Members.{IsWholeForest}
 use Rattle.sibling_forest.proofs.Boxes.{boxed-machine}
 use Rattle.sibling_forest.proofs.Crossing.{changed-brood}
 use Rattle.sibling_forest.proofs.Finish.{same-path}

@@ -1,10 +1,9 @@
 -- The queues of broods where one machine of a forest is changed.
-use Rattle.std.proofs.Common.{◌≡◌, ℕ, zero, suc, ◌+◌, eqb, cond, Bool, true, false, sym, subst, arith, [], ◌∷◌, Some}
+use Rattle.std.proofs.Common.{ℕ, zero, suc, eqb, cond, Bool, true, false, sym, subst, [], ◌∷◌}
 use Rattle.forest_tree.specs.Operations.{Operations}
-use Rattle.forest_tree.specs.Tree.{Tree, node, Trees, no_tree, tree, Broods, no_brood, brood, machine, size, at_child, at_brood, child_at, brood_of, broods_of, Branch, Path, subtree, at_path}
+use Rattle.forest_tree.specs.Tree.{Tree, node, Trees, no_tree, tree, Broods, no_brood, brood, machine, size, at_child, at_brood, Path, at_path}
 use Rattle.forest_tree.proofs.Broods.{size-at_child}
-use Rattle.forest_tree.proofs.Places.{is-within, some-same}
-use Rattle.sibling_forest.specs.Talk.{Talks, Box, boxed}
+use Rattle.sibling_forest.specs.Talk.{Talks, Box}
 use Rattle.sibling_forest.specs.Members.{IsMember, HaveMembers, BroodsHave, AreMembers}
 
 module _ {M E : Type 0} (o : Operations M E) (k : Talks M) where
