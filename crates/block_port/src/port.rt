@@ -13,7 +13,7 @@ use cow_disk::{Arrived, Disk, PAGE_SECTORS, ReadError, SECTOR_SIZE, WriteError};
 use flat_memory::{read_word, write_bytes};
 use page_frames::PAGE_SIZE;
 use port_error::{Fault, PortError};
-use std::alloc::{AllocError, Global};
+use std::alloc::AllocError;
 use std::marker::Model;
 
 /// The registers of a block port that a clone of a machine starts with.
@@ -30,8 +30,7 @@ pub struct BlockFields {
 pub struct BlockPort {
     sector: u32,
     status: Status,
-    // At a place of its own, so that a machine is moved without it.
-    buffer: Box<[u8; SECTOR_SIZE]>,
+    buffer: [u8; SECTOR_SIZE],
     disk: Disk,
 }
 
@@ -40,37 +39,33 @@ impl Model for BlockPort {
 
     ghost Value = { BlockParts };
 
-    ghost view = { λ p. record { sector = p.sector; status = p.status; buffer = p.buffer.value; disk = p.disk } };
+    ghost view = { λ p. record { sector = p.sector; status = p.status; buffer = p.buffer; disk = p.disk } };
 }
 
 impl BlockPort {
-    /// A port over this disk, with all registers 0.
+    /// Makes a port over this disk, with all registers 0. It takes no memory.
     #[tactic(auto, unfolding(flat_memory::specs::Flat::zeros))]
-    pub fn new(alloc: Global, disk: Disk) -> Result<BlockPort, AllocError>
-        ensures { IfOk result (λ port. port ≡ parts_at_start disk) }
+    pub fn new(disk: Disk) -> BlockPort
+        ensures { result ≡ parts_at_start disk }
     {
-        Ok(BlockPort {
+        BlockPort {
             sector: 0,
             status: Status::Done,
-            buffer: Box::new(alloc, [0; SECTOR_SIZE])?,
+            buffer: [0; SECTOR_SIZE],
             disk,
-        })
+        }
     }
 
-    /// A port with these registers over this disk. It takes memory once, for the buffer.
-    pub fn of_fields(
-        alloc: Global,
-        fields: &BlockFields,
-        disk: Disk,
-    ) -> Result<BlockPort, AllocError>
-        ensures { IfOk result (λ port. port ≡ record { sector = fields.now.sector; status = fields.now.status; buffer = fields.now.buffer; disk = disk }) }
+    /// Makes a port with these registers over this disk. It takes no memory.
+    pub fn of_fields(fields: &BlockFields, disk: Disk) -> BlockPort
+        ensures { result ≡ record { sector = fields.now.sector; status = fields.now.status; buffer = fields.now.buffer; disk = disk } }
     {
-        Ok(BlockPort {
+        BlockPort {
             sector: fields.sector,
             status: fields.status,
-            buffer: Box::new(alloc, fields.buffer)?,
+            buffer: fields.buffer,
             disk,
-        })
+        }
     }
 
     /// The registers that a clone of the machine starts with.
@@ -80,7 +75,7 @@ impl BlockPort {
         BlockFields {
             sector: self.sector,
             status: self.status,
-            buffer: *self.buffer,
+            buffer: self.buffer,
         }
     }
 
@@ -136,7 +131,7 @@ impl BlockPort {
             (BLOCK_STATUS, 4) => Ok(self.status.word()),
             (BLOCK_COUNT, 4) => Ok(self.disk.sectors()),
             (_, 4) => match buffer_place(offset) {
-                Some(at) => Ok(read_word(&*self.buffer, at)),
+                Some(at) => Ok(read_word(&self.buffer, at)),
                 None => Err(Fault),
             },
             _ => Err(Fault),
@@ -158,7 +153,7 @@ impl BlockPort {
             (BLOCK_SECTOR, 4) => self.sector = word,
             (BLOCK_COMMAND, 4) => self.command(word)?,
             (_, 4) => match buffer_place(offset) {
-                Some(at) => write_bytes(&mut *self.buffer, at, &word.to_le_bytes()),
+                Some(at) => write_bytes(&mut self.buffer, at, &word.to_le_bytes()),
                 None => return Err(PortError::Fault),
             },
             _ => return Err(PortError::Fault),
@@ -190,7 +185,7 @@ impl BlockPort {
         ensures value { (below : List ℕ) → record (block_over self.new below) { status = result } ≡ commanded (block_over self.old below) READ_COMMAND }
         ensures disk { self.new.disk ≡ self.old.disk }
     {
-        match self.disk.read_sector(self.sector, &mut *self.buffer) {
+        match self.disk.read_sector(self.sector, &mut self.buffer) {
             Ok(()) => Status::Done,
             Err(ReadError::BadSector) => Status::BadSector,
             Err(ReadError::Absent(_)) => unreachable!(),
@@ -206,7 +201,7 @@ impl BlockPort {
         ensures err { OnErr result (self.new ≡ self.old) }
         ensures memory { OnErr result ((below : List ℕ) → self.old.sector < sector_count (disk_over self.old.disk below)) }
     {
-        match self.disk.write_sector(self.sector, &*self.buffer) {
+        match self.disk.write_sector(self.sector, &self.buffer) {
             Ok(()) => Ok(Status::Done),
             Err(WriteError::BadSector) => Ok(Status::BadSector),
             Err(WriteError::Absent(_)) => unreachable!(),

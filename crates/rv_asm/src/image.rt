@@ -7,7 +7,7 @@ ghost use Rattle.elf_load.specs.OneSegment.{half, bytes_of_words, elf_header, pr
 use flat_memory::push_words;
 use std::alloc::{AllocError, Global};
 
-/// The most words of an image, which fill the greatest RAM.
+/// The most words of an image: those of 1,024 pages, or 4 MiB.
 pub const MAX_WORDS: usize = 0x10_0000;
 
 /// The bytes of an ELF header.

@@ -63,7 +63,7 @@ impl Ports {
         Ok(Ports {
             timer: TimerPort::new(),
             console: ConsolePort::new(alloc, input)?,
-            block: BlockPort::new(alloc, disk)?,
+            block: BlockPort::new(disk),
             fork: ForkPort::new(alloc, allot),
             sibling: SiblingPort::new(0),
         })
@@ -285,25 +285,25 @@ impl Ports {
         }
     }
 
-    /// Ports with these registers, this disk and this input, and no output, tickets and join results, of a child
-    /// of a ticket for so many.
+    /// Makes ports with these registers, this disk and this input, and no output, tickets and join results, of a
+    /// child of a ticket for so many. It takes no memory: `alloc` is for what the ports take later.
     pub fn of_fields(
         alloc: Global,
         fields: &PortFields,
         disk: Disk,
         input: Input,
         siblings: u32,
-    ) -> Result<Ports, AllocError>
+    ) -> Ports
         requires { fields.now.console.place ≤ MAX_INPUT }
-        ensures { IfOk result (λ ports. ports ≡ parts_of_fields fields.now disk input siblings) }
+        ensures { result ≡ parts_of_fields fields.now disk input siblings }
     {
-        Ok(Ports {
+        Ports {
             timer: TimerPort::of_fields(fields.timer),
             console: ConsolePort::of_fields(alloc, fields.console, input),
-            block: BlockPort::of_fields(alloc, &fields.block, disk)?,
+            block: BlockPort::of_fields(&fields.block, disk),
             fork: ForkPort::of_fields(alloc, fields.fork),
             sibling: SiblingPort::new(siblings),
-        })
+        }
     }
 
     /// What a command of the fork port asks for.

@@ -101,7 +101,7 @@ impl Hart {
             csrs: Csrs::of_fields(descriptor.csrs),
             reservation: descriptor.reservation,
             memory: GuestMem::clone_of(alloc, key.again()?, descriptor)?,
-            ports: Ports::of_fields(alloc, &port_fields(descriptor), disk, input, siblings)?,
+            ports: Ports::of_fields(alloc, &port_fields(descriptor), disk, input, siblings),
         })
     }
 }
