@@ -1,6 +1,6 @@
 """Guests that the measurements run: families in which a parent makes tickets and joins them, as instruction words."""
 
-from words import add, addi, bne, jal, lui, lw, number, sw
+from words import add, addi, beq, bne, jal, lui, lw, number, placed, slt, sub, sw, to
 
 # Registers: x5 is the fork port, x9 a page of data, x6 to x8 are for use, x10 counts rounds, x11 what a child does, x12 is the
 # size of a page, x13 the block port.
@@ -35,6 +35,19 @@ def touching(children, tickets, touched):
     data = [lui(9, 0x80001), *(touched - 1) * [sw(10, 0, 9), lw(8, 0, 9), add(9, 9, 12)]]
     child = [addi(11, 0, 40), addi(11, 11, -1), bne(11, 0, -4), *data, *exit_with(8)]
     return family(children, tickets, data, child)
+
+
+def joining(tickets, first, step):
+    """Returns a guest that makes so many tickets of one child and then joins them: first one of them, and from each on the one
+    that is so many behind it, beginning anew behind the last. Without a step it joins none."""
+    ask = [addi(6, 0, 1), sw(6, ARG0, 5), sw(0, ARG1, 5), *call(TICKET)]
+    clone = [lw(7, RESULT, 5), sw(7, ARG0, 5), *call(CLONE), lw(8, CLONE_ID, 5), to(bne, 8, 0, place="child")]
+    code = [lui(5, 0x10002), *number(10, tickets), "fork", *ask, *clone, addi(10, 10, -1), to(bne, 10, 0, place="fork")]
+    if step is not None:
+        start = [*number(10, tickets), *number(9, first), *number(11, step), *number(12, tickets)]
+        on = [add(9, 9, 11), slt(13, 12, 9), to(beq, 13, 0, place="among"), sub(9, 9, 12), "among"]
+        code += [*start, "join", sw(9, ARG0, 5), *call(JOIN), *on, addi(10, 10, -1), to(bne, 10, 0, place="join")]
+    return placed([*code, *exit_with(0), "child", *exit_with(8)])
 
 
 def reading(children, tickets, sectors, reads):

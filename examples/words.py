@@ -13,6 +13,14 @@ def add(rd, rs1, rs2):
     return rs2 << 20 | rs1 << 15 | rd << 7 | 0x33
 
 
+def sub(rd, rs1, rs2):
+    return add(rd, rs1, rs2) | 1 << 30
+
+
+def slt(rd, rs1, rs2):
+    return add(rd, rs1, rs2) | 2 << 12
+
+
 def lw(rd, offset, rs1):
     return (offset & 0xFFF) << 20 | rs1 << 15 | 2 << 12 | rd << 7 | 0x03
 

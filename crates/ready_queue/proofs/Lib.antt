@@ -1,3 +1,3 @@
 pub mod NodeLists
-mod Orders
+mod Raised
 pub mod Crosses

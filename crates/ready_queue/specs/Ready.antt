@@ -1,6 +1,5 @@
 -- Machines that are ready, and what a queue of them makes of a list.
 use Rattle.std.specs.Prelude.{◌≡◌, ◌⊎◌, ℕ, List, ◌∷◌, ◌++◌, Option, Some}
-use Rattle.std.specs.List.{All}
 use Rattle.forest_tree.specs.Tree.{Path}
 
 -- the machine of that name, or the children of one of its tickets, from one on
@@ -12,9 +11,6 @@ pub record Ready : Type 0 where
 abbrev pub IsOfTicket : Path → ℕ → Ready → Type 0
 IsOfTicket name ticket turn = (first : ℕ) × (turn ≡ record { name = name; children = Some (ticket, first) })
 
-abbrev pub HasNone : Path → ℕ → List Ready → Type 0
-HasNone name ticket turns = All (λ turn. ¬ (IsOfTicket name ticket turn)) turns
-
 -- the first is theirs
 pub record Begins (name : Path) (ticket : ℕ) (turns : List Ready) : Type 0 where
   pub turn : Ready
@@ -22,21 +18,21 @@ pub record Begins (name : Path) (ticket : ℕ) (turns : List Ready) : Type 0 whe
   pub rest : List Ready
   pub is : turns ≡ turn ∷ rest
 
--- a turn of theirs is taken out, and the others stay in their order
-pub record TakesOut (name : Path) (ticket : ℕ) (old new : List Ready) (turn : Ready) : Type 0 where
-  pub of : IsOfTicket name ticket turn
+-- the turn stood among the others, which stay in their order
+pub record StoodAmong (turn : Ready) (turns others : List Ready) : Type 0 where
   pub before : List Ready
   pub after : List Ready
-  pub was : old ≡ before ++ turn ∷ after
-  pub now : new ≡ before ++ after
+  pub was : turns ≡ before ++ turn ∷ after
+  pub left : others ≡ before ++ after
 
--- a turn of theirs comes to the front, and the others stay in their order
-pub record Fronts (name : Path) (ticket : ℕ) (old new : List Ready) : Type 0 where
+-- the turn is one more, of all children of the ticket
+abbrev pub IsOneMore : Path → ℕ → Ready → List Ready → List Ready → Type 0
+IsOneMore name ticket turn turns others = (turn ≡ record { name = name; children = Some (ticket, 1) }) × (others ≡ turns)
+
+-- a turn of theirs is the first then, and the others stay in their order
+pub record Raises (name : Path) (ticket : ℕ) (old new : List Ready) : Type 0 where
   pub turn : Ready
-  pub rest : List Ready
-  pub taken : TakesOut name ticket old rest turn
-  pub first : new ≡ turn ∷ rest
-
--- the same, if one is among them
-abbrev pub Raises : Path → ℕ → List Ready → List Ready → Type 0
-Raises name ticket old new = Fronts name ticket old new ⊎ (HasNone name ticket old × (new ≡ old))
+  pub of : IsOfTicket name ticket turn
+  pub others : List Ready
+  pub first : new ≡ turn ∷ others
+  pub from : StoodAmong turn old others ⊎ IsOneMore name ticket turn old others

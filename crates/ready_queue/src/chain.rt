@@ -1,7 +1,7 @@
 //! Turns one behind another.
 
 ghost use Rattle.std.specs.Prelude.{◌≡◌, ◌∷◌, ◌++◌, [], reverse, IsTrue, MatchOption};
-ghost use Rattle.ready_queue.specs.Ready.{Begins, HasNone, TakesOut};
+ghost use Rattle.ready_queue.specs.Ready.{Begins, IsOfTicket};
 
 use crate::turn::{Node, ReadyTurn};
 use machine_names::Name;
@@ -46,12 +46,6 @@ impl Chain {
         Chain { first: None }
     }
 
-    pub(crate) fn is_empty(&self) -> bool
-        ensures { IsTrue result → self.now ≡ [] }
-    {
-        self.first.is_none()
-    }
-
     /// Whether the first turn is that of the children of a ticket.
     pub(crate) fn begins_with(&self, name: &Name, ticket: u32) -> bool
         ensures { IsTrue result → Begins name.now ticket self.now }
@@ -83,20 +77,14 @@ impl Chain {
         Some(ReadyTurn { node })
     }
 
-    /// Takes out the first turn of the children of a ticket, if there is one.
-    pub(crate) fn take_out(&mut self, name: &Name, ticket: u32) -> Option<ReadyTurn>
-        ensures { MatchOption result (HasNone name.now ticket self.old × (self.new ≡ self.old)) (TakesOut name.now ticket self.old self.new) }
+    /// Takes out the first turn, if it is that of the children of a ticket.
+    pub(crate) fn pop_of(&mut self, name: &Name, ticket: u32) -> Option<ReadyTurn>
+        ensures { MatchOption result (self.new ≡ self.old) (λ turn. IsOfTicket name.now ticket turn × (self.old ≡ turn ∷ self.new)) }
     {
-        let mut before = Chain::new();
-        while let Some(turn) = self.pop() {
-            if turn.node.is_of(name, ticket) {
-                turn_over(&mut before, self);
-                return Some(turn);
-            }
-            before.push(turn);
+        if !self.begins_with(name, ticket) {
+            return None;
         }
-        turn_over(&mut before, self);
-        None
+        self.pop()
     }
 }
 

@@ -1,14 +1,15 @@
 //! The queue itself.
 
-ghost use Rattle.std.specs.Prelude.{◌≡◌, ◌∷◌, ◌++◌, [], MatchOption};
+ghost use Rattle.std.specs.Prelude.{◌≡◌, ◌∷◌, ◌++◌, [], MatchOption, OnErr, OnOk};
 ghost use Rattle.ready_queue.specs.Ready.{Raises};
 
 use crate::chain::{Chain, turn_over};
 use crate::turn::ReadyTurn;
 use machine_names::Name;
+use std::alloc::{AllocError, Global};
 use std::marker::Model;
 
-/// Turns, in the order in which they are taken. No call takes memory.
+/// Turns, in the order in which they are taken. Only `raise` may want memory.
 #[derive(Drop)]
 pub struct ReadyQueue {
     front: Chain,
@@ -61,36 +62,21 @@ impl ReadyQueue {
         self.front.pop()
     }
 
-    /// Lets the turn of the children of a ticket be the first, if it is among them. The others stay in their order.
-    pub fn raise(&mut self, name: &Name, ticket: u32)
-        ensures { Raises name.now ticket self.old self.new }
+    /// Lets a turn of the children of a ticket be the first: one that stands at an end of the queue, or else one more. The
+    /// others stay in their order. Fails if memory is wanting for one more, and changes nothing then.
+    pub fn raise(&mut self, alloc: Global, name: &Name, ticket: u32) -> Result<(), AllocError>
+        ensures raised { OnOk result (Raises name.now ticket self.old self.new) }
+        ensures same { OnErr result (self.new ≡ self.old) }
     {
-        self.fill();
-        // Most are the oldest or the newest.
-        if !self.front.begins_with(name, ticket) {
-            self.bring_up(name, ticket);
+        if self.front.begins_with(name, ticket) {
+            return Ok(());
         }
-    }
-
-    /// Lets the first turn be at the front, if there is one.
-    fn fill(&mut self)
-        ensures { self.new ≡ self.old }
-    {
-        if self.front.is_empty() {
-            turn_over(&mut self.back, &mut self.front);
-        }
-    }
-
-    /// Puts the turn of the children of a ticket before all others, if it is among them. The newest come first.
-    fn bring_up(&mut self, name: &Name, ticket: u32)
-        ensures { Raises name.now ticket self.old self.new }
-    {
-        if let Some(turn) = self.back.take_out(name, ticket) {
-            self.front.push(turn);
-            return;
-        }
-        if let Some(turn) = self.front.take_out(name, ticket) {
-            self.front.push(turn);
-        }
+        // The newest is the first of those behind. One in the midst would have to be looked for, and stays.
+        let turn = match self.back.pop_of(name, ticket) {
+            Some(turn) => turn,
+            None => ReadyTurn::of_children(alloc, name.copy()?, ticket)?,
+        };
+        self.front.push(turn);
+        Ok(())
     }
 }

@@ -1,9 +1,11 @@
 -- Turns in another order are the same turns.
-use Rattle.std.proofs.Common.{◌≡◌, ℕ, inl, inr, List, [], ◌∷◌, ◌++◌, sym, ap, ◌∙◌, subst}
+use Rattle.std.proofs.Common.{◌≡◌, ◌⊎◌, ℕ, inl, inr, List, [], ◌∷◌, ◌++◌, Result, Ok, Err, sym, subst}
+use Rattle.std.specs.Result.{OnErr, OnOk}
 use Rattle.std.proofs.lemmas.List.{append-nil}
 use Rattle.forest_tree.specs.Tree.{Path}
-use Rattle.ready_queue.specs.Ready.{Raises, Ready}
+use Rattle.ready_queue.specs.Ready.{IsOneMore, Raises, Ready, StoodAmong}
 use Rattle.world_core.specs.Listed.{IsListed, IsCovered, Keeps}
+use Rattle.world_core.proofs.Ready.{IsListed-more, IsCovered-more}
 
 listed-front : (n : Path) (w : Ready) (xs ys : List Ready) → IsListed n (xs ++ (w ∷ ys)) → IsListed n (w ∷ (xs ++ ys))
 unfolding IsListed
@@ -58,10 +60,20 @@ pub keeps-last : (turn : Ready) (old new : List Ready) → new ≡ old ++ turn �
 keeps-last turn old new e =
     subst (Keeps (turn ∷ old)) (sym e) (subst (λ list. Keeps (turn ∷ list) (old ++ turn ∷ [])) (append-nil old) (keeps-back turn old []))
 
--- a turn that was brought to the front
-pub keeps-raised : (name : Path) (ticket : ℕ) (old new : List Ready) → Raises name ticket old new → Keeps old new
-keeps-raised name ticket old new (inl fronts) =
-    let out = fronts.taken in
-    subst (λ list. Keeps list new) (sym out.was)
-    (subst (Keeps (out.before ++ fronts.turn ∷ out.after)) (sym (fronts.first ∙ ap (λ rest. fronts.turn ∷ rest) out.now)) (keeps-front fronts.turn out.before out.after))
-keeps-raised name ticket old new (inr same) = keeps-same old new (sym same.1)
+-- one more turn before the others
+keeps-more : (turn : Ready) (turns : List Ready) → Keeps turns (turn ∷ turns)
+keeps-more turn turns = record { listed = λ n. IsListed-more n turn turns; covered = λ n. IsCovered-more n turn turns }
+
+-- a turn that is the first then
+keeps-raised : (name : Path) (ticket : ℕ) (old new : List Ready) → Raises name ticket old new → Keeps old new
+keeps-raised name ticket old new raises = subst (Keeps old) (sym raises.first) (by raises.from)
+  where
+    by : StoodAmong raises.turn old raises.others ⊎ IsOneMore name ticket raises.turn old raises.others → Keeps old (raises.turn ∷ raises.others)
+    by (inl stood) =
+        subst (λ list. Keeps list (raises.turn ∷ raises.others)) (sym stood.was)
+        (subst (λ list. Keeps (stood.before ++ raises.turn ∷ stood.after) (raises.turn ∷ list)) (sym stood.left) (keeps-front raises.turn stood.before stood.after))
+    by (inr more) = subst (λ list. Keeps old (raises.turn ∷ list)) (sym more.1) (keeps-more raises.turn old)
+
+pub keeps-tried : {T E : Type 0} (name : Path) (ticket : ℕ) (old new : List Ready) (r : Result T E) → OnOk r (Raises name ticket old new) → OnErr r (new ≡ old) → Keeps old new
+keeps-tried name ticket old new (Ok x) raised same = keeps-raised name ticket old new raised
+keeps-tried name ticket old new (Err e) raised same = keeps-same old new (sym same)

@@ -123,7 +123,7 @@ impl World {
             start,
         } = lease;
         if cell.waits(ticket) {
-            raise_asleep(&mut self.ready, cell, turn.name(), ticket);
+            raise_asleep(alloc, &mut self.ready, cell, turn.name(), ticket);
             cell.kin = kin;
             cell.state = State::Parked(Awaited::Children(ticket), vm, turn);
             return Placed::Parked;
@@ -189,15 +189,16 @@ impl World {
     }
 }
 
-/// Lets the children of a ticket be next, as far as they are still descriptors.
-fn raise_asleep(ready: &mut ReadyQueue, cell: &Cell, name: &Name, ticket: u32)
+/// Lets the children of a ticket be next, as far as they are still descriptors. Where memory is wanting for it, they come
+/// in the order of tickets.
+fn raise_asleep(alloc: Global, ready: &mut ReadyQueue, cell: &Cell, name: &Name, ticket: u32)
     ensures { Keeps ready.old ready.new }
 {
     let Some(brood) = cell.broods.get(&ticket) else {
         return;
     };
     if brood.image.is_some() {
-        ready.raise(name, ticket);
+        let _ = ready.raise(alloc, name, ticket);
     }
 }
 
