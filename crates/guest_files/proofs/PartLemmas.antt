@@ -1,21 +1,25 @@
 -- What the parts of a reading tell of the whole.
-use Rattle.std.proofs.Common.{ap, refl, ◌≡◌, ℕ, ◌≤◌, inl, inr, Bool, true, false, cond, List, [], ◌∷◌, ◌++◌, length}
+use Rattle.std.proofs.Common.{ap, refl, ◌≡◌, ℕ, zero, suc, ◌<◌, ◌≤◌, inl, inr, Bool, true, false, cond, List, [], ◌∷◌, ◌++◌, length}
 use Rattle.std.proofs.Common.{append_assoc, Option, Some, None, Result, Ok, Err, IfSome, sym, ◌∙◌, subst, arith, ltb}
 use Rattle.std.specs.Option.{option_map}
 use Rattle.std.specs.Result.{IsOkAnd, IsErrAnd}
+use Rattle.std.proofs.lemmas.List.{append-nil}
+use Rattle.std.proofs.lemmas.List.Elements.{filter-append}
 use Rattle.console_port.specs.declared.port.TheConstants.{MAX_INPUT}
 use Rattle.io_edge.specs.Outside.{HasRisen, next_count}
 use Rattle.io_edge.specs.declared.outside.ShelfError.{ShelfError}
 use Rattle.io_edge.specs.declared.outside.ShelfError.TheVariants.{Fault}
 use Rattle.io_edge.specs.Asked.{Asked, asked_after, names_after}
-use Rattle.command_line.specs.Words.{GuestValues}
-use Rattle.guest_files.specs.declared.stop.TheConstants.{MAX_IMAGE, MAX_DISK, IMAGE_LOAD, DISK_LOAD, INPUT_LOAD}
+use Rattle.command_line.specs.Words.{Command, GuestValues, run, drive, generated}
+use Rattle.guest_files.specs.declared.stop.TheConstants.{MAX_IMAGE, MAX_DISK, IMAGE_LOAD, DISK_LOAD, INPUT_LOAD, SCRIPT_LOAD}
 use Rattle.guest_files.specs.declared.stop.Stop.{Stop}
 use Rattle.guest_files.specs.declared.stop.Stop.TheVariants.{ReadFault, ImageRefused, DataRefused, ScriptRefused, WriteFault, Wire, Memory}
 use Rattle.guest_files.specs.Reads.{Files, Refusal, no_meaning, no_file, image_too_long, image_refused, disk_too_long, disk_not_sectors}
 use Rattle.guest_files.specs.Reads.{input_too_long, script_too_long, script_refused, and_then, file_read, option_read}
 use Rattle.guest_files.specs.Reads.{image_read, disk_read, input_read, guest_read, Guest, with_disk, with_image}
-use Rattle.guest_files.specs.Parts.{IsImageRefusal, IsDataRefusal, IsScriptRefusal, last_load_before, last_load, Load, load_of, AreAsked, counted, named, IsFaultOf, Stops, Gives, Makes}
+use Rattle.guest_files.specs.Parts.{IsImageRefusal, IsDataRefusal, IsScriptRefusal, last_load_before, last_load, Load, load_if, load_of, guest_loads, loads_of, AreAsked, ArePartlyAsked, counted, named}
+use Rattle.std.specs.Prelude.{nat_le}
+use Rattle.guest_files.specs.Parts.{IsFaultOf, IsAskedUntil, Stops, StopsAt, StopsEarly, last_made, up_to, Gives, Makes}
 
 -- ---- a part before others
 
@@ -230,6 +234,110 @@ fault-after first loads number old mid new before h =
           (asked-both first (h.before ++ (load ∷ [])) old mid new before h.asked);
       fault = h.fault;
     }
+
+-- ---- the loads that a part made
+
+-- where a load stops a part, which is the last that was made
+pub made-to : (loads made rest : List Load) (load : ℕ) (long stop : Stop) (old new : Asked) → loads ≡ made ++ rest → up_to load loads ≡ made
+    → last_made long ≡ load → StopsAt load long stop → AreAsked made old new → IsAskedUntil loads stop old new
+made-to loads made rest load long stop old new place is_made last stops asked =
+    let some : ArePartlyAsked loads old new = record { made = made; rest = rest; place = place; asked = asked } in
+    let just : last_made stop ≡ load → AreAsked (up_to (last_made stop) loads) old new
+    = λ is. subst (λ part. AreAsked part old new) (sym (ap (λ n. up_to n loads) is ∙ is_made)) asked in
+    elim stops as (λ _. IsAskedUntil loads stop old new) [
+      | inl is ↦ record { some = some; just = λ other. just (ap last_made is ∙ last) }
+      | inr later ↦ elim later as (λ _. IsAskedUntil loads stop old new) [
+        | inl is ↦ record { some = some; just = λ other. just (ap last_made is) }
+        | inr is ↦ record { some = some; just = λ other. absurd (other is) }
+      ]
+    ]
+
+-- where all were made before
+pub made-all : (loads : List Load) (stop : Stop) (old new : Asked) → last_made stop ≡ SCRIPT_LOAD → up_to SCRIPT_LOAD loads ≡ loads
+    → AreAsked loads old new → IsAskedUntil loads stop old new
+made-all loads stop old new late all asked =
+    made-to loads loads [] SCRIPT_LOAD stop stop old new (sym (append-nil loads)) all late (inl refl) asked
+
+pub stops-early : (load : ℕ) (long stop : Stop) → last_made long ≡ load → load < SCRIPT_LOAD → StopsAt load long stop → StopsEarly stop
+stops-early load long stop last low (inl is) = let same : last_made stop ≡ load = ap last_made is ∙ last in inr (omega arith)
+stops-early load long stop last low (inr (inl is)) = let same : last_made stop ≡ load = ap last_made is in inr (omega arith)
+stops-early load long stop last low (inr (inr is)) = inl is
+
+-- the loads of a guest up to each of them
+pub to-image : (image : List ℕ) (disk input : Option (List ℕ))
+    → up_to IMAGE_LOAD (load_of IMAGE_LOAD image ∷ (load_if DISK_LOAD disk ++ load_if INPUT_LOAD input)) ≡ load_of IMAGE_LOAD image ∷ []
+to-image image None None = refl
+to-image image None (Some input) = refl
+to-image image (Some disk) None = refl
+to-image image (Some disk) (Some input) = refl
+
+pub to-disk : (image : List ℕ) (disk input : Option (List ℕ))
+    → up_to DISK_LOAD (load_of IMAGE_LOAD image ∷ (load_if DISK_LOAD disk ++ load_if INPUT_LOAD input)) ≡ load_of IMAGE_LOAD image ∷ load_if DISK_LOAD disk
+to-disk image None None = refl
+to-disk image None (Some input) = refl
+to-disk image (Some disk) None = refl
+to-disk image (Some disk) (Some input) = refl
+
+all-to-input : (image : List ℕ) (disk input : Option (List ℕ))
+    → up_to INPUT_LOAD (load_of IMAGE_LOAD image ∷ (load_if DISK_LOAD disk ++ load_if INPUT_LOAD input))
+    ≡ load_of IMAGE_LOAD image ∷ (load_if DISK_LOAD disk ++ load_if INPUT_LOAD input)
+all-to-input image None None = refl
+all-to-input image None (Some input) = refl
+all-to-input image (Some disk) None = refl
+all-to-input image (Some disk) (Some input) = refl
+
+pub to-input : (values : GuestValues) → up_to INPUT_LOAD (guest_loads values) ≡ guest_loads values
+to-input values = all-to-input values.image values.disk values.input
+
+all-to-script : (image : List ℕ) (disk input : Option (List ℕ))
+    → up_to SCRIPT_LOAD (load_of IMAGE_LOAD image ∷ (load_if DISK_LOAD disk ++ load_if INPUT_LOAD input))
+    ≡ load_of IMAGE_LOAD image ∷ (load_if DISK_LOAD disk ++ load_if INPUT_LOAD input)
+all-to-script image None None = refl
+all-to-script image None (Some input) = refl
+all-to-script image (Some disk) None = refl
+all-to-script image (Some disk) (Some input) = refl
+
+pub to-all : (values : GuestValues) → up_to SCRIPT_LOAD (guest_loads values) ≡ guest_loads values
+to-all values = all-to-script values.image values.disk values.input
+
+up-both : (n : ℕ) (loads more : List Load) → up_to n (loads ++ more) ≡ up_to n loads ++ up_to n more
+up-both n loads more = filter-append (λ load. nat_le load.number n) loads more
+
+-- one that is higher is not among those up to a number
+up-below : (n : ℕ) (name : List ℕ) → n < SCRIPT_LOAD → up_to n (load_of SCRIPT_LOAD name ∷ []) ≡ []
+up-below zero name low = refl
+up-below (suc zero) name low = refl
+up-below (suc (suc zero)) name low = refl
+up-below (suc (suc (suc zero))) name low = refl
+up-below (suc (suc (suc (suc n)))) name low = absurd (omega arith)
+
+-- all that a command asks for are up to the one of the script
+pub all-loads : (command : Command) → up_to SCRIPT_LOAD (loads_of command) ≡ loads_of command
+all-loads (run values how) = to-all values
+all-loads (drive values script) =
+    up-both SCRIPT_LOAD (guest_loads values) (load_of SCRIPT_LOAD script ∷ []) ∙ ap (λ loads. loads ++ (load_of SCRIPT_LOAD script ∷ [])) (to-all values)
+all-loads (generated values) = refl
+
+-- a part that stops early is followed by the load of the script
+pub until-script : (loads : List Load) (name : List ℕ) (stop : Stop) (old new : Asked) → IsAskedUntil loads stop old new → StopsEarly stop
+    → IsAskedUntil (loads ++ (load_of SCRIPT_LOAD name ∷ [])) stop old new
+until-script loads name stop old new h early =
+    let script = load_of SCRIPT_LOAD name ∷ [] in
+    let some : ArePartlyAsked (loads ++ script) old new = record {
+      made = h.some.made;
+      rest = h.some.rest ++ script;
+      place = ap (λ all. all ++ script) h.some.place ∙ append_assoc h.some.made h.some.rest script;
+      asked = h.some.asked;
+    } in
+    elim early as (λ _. IsAskedUntil (loads ++ script) stop old new) [
+      | inl is ↦ record { some = some; just = λ other. absurd (other is) }
+      | inr low ↦ record {
+        some = some;
+        just = λ other. subst (λ part. AreAsked part old new)
+            (sym (up-both (last_made stop) loads script ∙ ap (λ l. up_to (last_made stop) loads ++ l) (up-below (last_made stop) name low)
+            ∙ append-nil (up_to (last_made stop) loads))) (h.just other);
+      }
+    ]
 
 -- ---- the files of a guest, over those that the shelf tells before each load
 

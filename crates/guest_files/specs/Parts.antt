@@ -1,5 +1,5 @@
 -- How the parts of the program end, by what the files tell of each (none where the shelf does not tell its files).
-use Rattle.std.specs.Prelude.{◌≡◌, ℕ, ◌≤◌, ◌⊎◌, List, [], ◌∷◌, ◌++◌, Option, Some, None, Result, Ok, Err, IfSome, IsSome, IsOkAnd, IsErrAnd}
+use Rattle.std.specs.Prelude.{◌≡◌, ℕ, ◌<◌, ◌≤◌, ◌==◌, ◌⊎◌, nat_le, if◌then◌else◌, filter, List, [], ◌∷◌, ◌++◌, Option, Some, None, Result, Ok, Err, IfSome, IsSome, IsOkAnd, IsErrAnd}
 use Rattle.io_edge.specs.Outside.{next_count}
 use Rattle.io_edge.specs.Asked.{Asked, names_after}
 use Rattle.guest_files.specs.declared.stop.TheConstants.{TOO_LONG, DISK_TOO_LONG, DISK_NOT_SECTORS, INPUT_TOO_LONG, SCRIPT_TOO_LONG}
@@ -97,6 +97,46 @@ pub record IsFaultOf (loads : List Load) (number : ℕ) (old new : Asked) : Type
   pub place : loads ≡ before ++ (load_of number name ∷ rest)
   pub asked : AreAsked (before ++ (load_of number name ∷ [])) old new
   pub fault : new.last_fault ≡ new.loads
+
+-- ---- the loads that were made
+
+-- the first of these loads were asked for, however many, each once and in this order
+pub record ArePartlyAsked (loads : List Load) (old new : Asked) : Type 0 where
+  pub made : List Load
+  pub rest : List Load
+  pub place : loads ≡ made ++ rest
+  pub asked : AreAsked made old new
+
+-- those of the loads that come up to the one of a number
+abbrev pub up_to : ℕ → List Load → List Load
+up_to number loads = filter (λ load. nat_le load.number number) loads
+
+-- why a load stops a part: its file is too long, or it had a fault, or memory was wanting
+abbrev pub StopsAt : ℕ → Stop → Stop → Type 0
+StopsAt load too_long stop = (stop ≡ too_long) ⊎ ((stop ≡ ReadFault load) ⊎ (stop ≡ Memory))
+
+-- the last load that is made where a part stops so. A file that is too long is the last that is read, and what the files
+-- hold is looked at once all are read
+abbrev pub last_made : Stop → ℕ
+last_made (ReadFault load) = load
+last_made (ImageRefused number) = if number == TOO_LONG then IMAGE_LOAD else SCRIPT_LOAD
+last_made (DataRefused number) = if number == DISK_TOO_LONG then DISK_LOAD else (if number == INPUT_TOO_LONG then INPUT_LOAD else SCRIPT_LOAD)
+last_made stop = SCRIPT_LOAD
+
+-- a part that stops has asked for those of these loads up to the one at which it stops, or for the first of them, however
+-- many, where memory was wanting
+pub record IsAskedUntil (loads : List Load) (stop : Stop) (old new : Asked) : Type 0 where
+  pub some : ArePartlyAsked loads old new
+  pub just : ¬ (stop ≡ Memory) → AreAsked (up_to (last_made stop) loads) old new
+
+-- and one that gives a value for all of them
+abbrev pub HasMade : {A : Type 0} → List Load → Result A Stop → Asked → Asked → Type 0
+HasMade loads (Ok value) old new = AreAsked loads old new
+HasMade loads (Err stop) old new = IsAskedUntil loads stop old new
+
+-- a part stops at one of the loads of a guest, or for want of memory
+abbrev pub StopsEarly : Stop → Type 0
+StopsEarly stop = (stop ≡ Memory) ⊎ (last_made stop < SCRIPT_LOAD)
 
 -- the last load that a command may ask for, or 0 where it asks for none
 abbrev pub final_load : Command → ℕ

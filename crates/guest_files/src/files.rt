@@ -1,10 +1,10 @@
 //! The files of a guest are read.
 
-ghost use Rattle.std.specs.Prelude.{◌≡◌, ◌≤◌, [], ◌∷◌, length, vec_len, IfOk, IsSome, OnOk};
+ghost use Rattle.std.specs.Prelude.{◌≡◌, ◌≤◌, [], ◌∷◌, length, vec_len, IfErr, IfOk, IsSome};
 ghost use Rattle.std.specs.Option.{option_map};
 ghost use Rattle.io_edge.specs.Outside.{HasRisen};
 ghost use Rattle.guest_files.specs.Reads.{Refusal, file_read, guest_read, option_read};
-ghost use Rattle.guest_files.specs.Parts.{AreAsked, Gives, IsFaultOf, IsGuestLoad, IsTooLong, guest_loads, load_if, load_of};
+ghost use Rattle.guest_files.specs.Parts.{AreAsked, Gives, HasMade, IsFaultOf, IsGuestLoad, IsTooLong, StopsAt, StopsEarly, guest_loads, load_if, load_of};
 
 use crate::stop::{
     DISK_LOAD, DISK_TOO_LONG, IMAGE_LOAD, INPUT_LOAD, INPUT_TOO_LONG, MAX_DISK, MAX_IMAGE, Stop,
@@ -82,7 +82,8 @@ pub fn read_guest<S: Shelf>(
         (option_map (guest_read guest.now) (S.files shelf.old)) (λ files told. files ≡ told) result }
     ensures same { S.files shelf.new ≡ S.files shelf.old }
     ensures counts { S.faults shelf.old ≤ S.faults shelf.new }
-    ensures asked { OnOk result (AreAsked (guest_loads guest.now) (S.asked shelf.old) (S.asked shelf.new)) }
+    ensures asked { HasMade (guest_loads guest.now) result (S.asked shelf.old) (S.asked shelf.new) }
+    ensures stops { IfErr result StopsEarly }
 {
     let too_long = Stop::ImageRefused(TOO_LONG);
     let image = load_file(alloc, shelf, guest.image(), IMAGE_LOAD, MAX_IMAGE, too_long)?;
@@ -109,7 +110,8 @@ fn load_named<S: Shelf>(
     ensures most { IfOk result (λ bytes. vec_len bytes ≤ most) }
     ensures same { S.files shelf.new ≡ S.files shelf.old }
     ensures counts { S.faults shelf.old ≤ S.faults shelf.new }
-    ensures asked { OnOk result (AreAsked (load_if load (option_map (λ text. text.now) name.entry)) (S.asked shelf.old) (S.asked shelf.new)) }
+    ensures asked { AreAsked (load_if load (option_map (λ text. text.now) name.entry)) (S.asked shelf.old) (S.asked shelf.new) }
+    ensures stops { IfErr result (StopsAt load too_long) }
 {
     match name {
         Some(name) => load_file(alloc, shelf, name, load, most, too_long),
@@ -133,7 +135,8 @@ pub fn load_file<S: Shelf>(
     ensures most { IfOk result (λ bytes. vec_len bytes ≤ most) }
     ensures same { S.files shelf.new ≡ S.files shelf.old }
     ensures counts { S.faults shelf.old ≤ S.faults shelf.new }
-    ensures asked { OnOk result (AreAsked (load_of load name.now ∷ []) (S.asked shelf.old) (S.asked shelf.new)) }
+    ensures asked { AreAsked (load_of load name.now ∷ []) (S.asked shelf.old) (S.asked shelf.new) }
+    ensures stops { IfErr result (StopsAt load too_long) }
 {
     match shelf.load(alloc, name, most) {
         Ok(bytes) => Ok(bytes),

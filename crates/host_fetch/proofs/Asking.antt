@@ -1,9 +1,10 @@
 -- Pages that are asked for, and replies that wait.
-use Rattle.std.proofs.Common.{◌≡◌, ◌⊎◌, inl, inr, Result, Ok, Err, OnOk, OnErr, IfOk, ℕ, zero, suc, ◌+◌, ◌-◌, ◌<◌, ◌≤◌, Bool, true, false, not, cond, List, [], ◌∷◌, ◌++◌, length, map, take, get_or}
+use Rattle.std.proofs.Common.{◌≡◌, ◌⊎◌, inl, inr, Result, Ok, Err, OnOk, OnErr, IfOk, ℕ, zero, suc, ◌+◌, ◌-◌, ◌<◌, ◌≤◌, Bool, true, false, not, cond, List, [], ◌∷◌, ◌++◌, drop, length, map, take, get_or}
 use Rattle.std.proofs.Common.{slice_get, slice_set, Option, Some, refl, sym, ap, ◌∙◌, subst, arith, append_assoc, add-one, length-append}
 use Rattle.std.specs.List.{All, remove, take-map, drop-map}
-use Rattle.std.proofs.lemmas.List.{append-nil, map-append, set-get_or}
-use Rattle.std.proofs.lemmas.List.Elements.{All-push}
+use Rattle.std.specs.Prelude.{Contains}
+use Rattle.std.proofs.lemmas.List.{append-nil, at_drop_more, map-append, set-get_or, take-append-drop}
+use Rattle.std.proofs.lemmas.List.Elements.{All-push, Contains-append_left, Contains-append_right}
 use Rattle.std.proofs.lemmas.Option.{get_or_from_slice_get}
 use Rattle.cow_disk.specs.declared.arrived.Arrived.{Arrived}
 use Rattle.cow_disk.specs.declared.arrived.Arrived.TheVariants.{Got, Had}
@@ -16,7 +17,7 @@ use Rattle.page_claims.specs.Calls.{Answers, IsSamePass}
 use Rattle.page_claims.specs.Values.{ClaimsValue, PassValue}
 use Rattle.host_fetch.specs.declared.error.FetchError.{FetchError}
 use Rattle.host_fetch.specs.declared.error.FetchError.TheVariants.{Wire, Memory}
-use Rattle.host_fetch.specs.Asked.{AreAsked, HasAsked, IsAsked, IsTold, IsUntold, Telling, absent_among, reply_with}
+use Rattle.host_fetch.specs.Asked.{AreAsked, ArePartlyAsked, HasAsked, IsAsked, IsTold, IsUntold, Telling, absent_among, reply_with}
 
 -- a page that was here is set here once more
 set_again : (here : List Bool) (page : ℕ) → slice_get here page ≡ Some true → slice_set here page true ≡ here
@@ -129,17 +130,40 @@ asked_kept depot claims key [] old new same kept = subst (λ (t : Telling). All 
 asked_kept depot claims key (page ∷ pages) old new asked kept =
     asked_kept depot claims key pages asked.0 new asked.2 (told_kept depot (reply_with key page) asked.1.claimed old.sent asked.0.sent asked.1.told kept)
 
-partly_kept : (depot : Shelves) (claims : ClaimsValue) (key : Key) (old new : Telling) → (new ≡ old) ⊎ IsUntold claims key old new → All (IsSentOf depot) old.sent → All (IsSentOf depot) new.sent
-partly_kept depot claims key old new (inl same) kept = subst (λ (t : Telling). All (IsSentOf depot) t.sent) (sym same) kept
-partly_kept depot claims key old new (inr untold) kept = subst (All (IsSentOf depot)) (sym untold.sent) kept
+partly_kept : (depot : Shelves) (claims : ClaimsValue) (key : Key) (due : List ℕ) (old new : Telling)
+    → (new ≡ old) ⊎ ((page : ℕ) × Contains due page × IsUntold claims key page old new) → All (IsSentOf depot) old.sent → All (IsSentOf depot) new.sent
+partly_kept depot claims key due old new (inl same) kept = subst (λ (t : Telling). All (IsSentOf depot) t.sent) (sym same) kept
+partly_kept depot claims key due old new (inr untold) kept = subst (All (IsSentOf depot)) (sym untold.2.sent) kept
 
 -- all that was told is kept, where what was told before is
-pub fetched_kept : (depot : Shelves) (claims : ClaimsValue) (key : Key) (r : Result (Unit {0}) FetchError) (pages : List ℕ) (old new : Telling) → HasAsked depot claims key r pages old new
+pub fetched_kept : (depot : Shelves) (claims : ClaimsValue) (key : Key) (due : List ℕ) (r : Result (Unit {0}) FetchError) (pages : List ℕ) (old new : Telling)
+    → HasAsked depot claims key due r pages old new
     → All (IsSentOf depot) old.sent → All (IsSentOf depot) new.sent
-fetched_kept depot claims key (Ok done) pages old new asked kept = asked_kept depot claims key pages old new asked kept
-fetched_kept depot claims key (Err Wire) pages old new asked kept = asked_kept depot claims key pages old new asked kept
-fetched_kept depot claims key (Err Memory) pages old new partly kept =
-    partly_kept depot claims key partly.middle new partly.last (asked_kept depot claims key pages old partly.middle partly.asked kept)
+fetched_kept depot claims key due (Ok done) pages old new asked kept = asked_kept depot claims key pages old new asked kept
+fetched_kept depot claims key due (Err Wire) pages old new asked kept = asked_kept depot claims key pages old new asked kept
+fetched_kept depot claims key due (Err Memory) pages old new partly kept =
+    partly_kept depot claims key due partly.middle new partly.last (asked_kept depot claims key pages old partly.middle partly.asked kept)
+
+-- the next page that is due is due
+pub due_next : (pages : List ℕ) (i : ℕ) → i < length pages → Contains (take 1 (drop i pages)) (get_or pages i 0)
+due_next pages i below =
+    subst (λ l. Contains l (get_or pages i 0)) (sym (at_drop_more (take 1) pages i 0 below)) (0, omega arith, refl)
+
+due_all : (count : ℕ) (pages : List ℕ) (page : ℕ) → Contains (take 1 (drop count pages)) page → Contains pages page
+due_all count pages page due =
+    subst (λ l. Contains l page) (take-append-drop count pages) (Contains-append_right (take count pages) (drop count pages) page
+    (subst (λ l. Contains l page) (take-append-drop 1 (drop count pages)) (Contains-append_left (take 1 (drop count pages)) (drop 1 (drop count pages)) page due)))
+
+all_due : (claims : ClaimsValue) (key : Key) (pages : List ℕ) (count : ℕ) (old new : Telling)
+    → (new ≡ old) ⊎ ((page : ℕ) × Contains (take 1 (drop count pages)) page × IsUntold claims key page old new)
+    → (new ≡ old) ⊎ ((page : ℕ) × Contains pages page × IsUntold claims key page old new)
+all_due claims key pages count old new (inl same) = inl same
+all_due claims key pages count old new (inr untold) = inr (untold.0, due_all count pages untold.0 untold.1, untold.2)
+
+pub partly_due : (depot : Shelves) (claims : ClaimsValue) (key : Key) (pages : List ℕ) (count : ℕ) (old new : Telling)
+    → ArePartlyAsked depot claims key (take 1 (drop count pages)) (take count pages) old new → ArePartlyAsked depot claims key pages (take count pages) old new
+partly_due depot claims key pages count old new partly =
+    record { middle = partly.middle; asked = partly.asked; last = all_due claims key pages count partly.middle new partly.last }
 
 -- ---- a pass stays of the same claims, with as many parts
 

@@ -2,3 +2,4 @@ pub mod Asking
 pub mod Failing
 pub mod Loop
 pub mod Hearing
+pub mod Firsts

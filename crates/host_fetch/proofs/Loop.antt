@@ -1,6 +1,6 @@
 -- A fetch goes on fate by fate, and comes to an end.
 use Rattle.std.proofs.Common.{◌≡◌, ℕ, zero, suc, ◌+◌, ◌-◌, ◌*◌, ◌<◌, ◌≤◌, Bool, true, false, cond, if◌then◌else◌, ◌||◌}
-use Rattle.std.proofs.Common.{eqb, eqb-true, eq-eqb, List, [], ◌∷◌, ◌++◌, length, map, take, get_or, slice_get, slice_set}
+use Rattle.std.proofs.Common.{eqb, eqb-true, eq-eqb, List, [], ◌∷◌, ◌++◌, drop, length, map, take, get_or, slice_get, slice_set}
 use Rattle.std.proofs.Common.{Option, Some, refl, sym, ap, ◌∙◌, subst, arith, inl, Err, length-append}
 use Rattle.std.specs.List.{All, remove, list_any}
 use Rattle.std.proofs.lemmas.List.{length-map, length-set, append-nil}
@@ -18,7 +18,7 @@ use Rattle.host_fetch.specs.Asked.{AreAsked, ArePartlyAsked, Telling, reply_with
 use Rattle.host_fetch.specs.declared.error.FetchError.TheVariants.{Memory}
 use Rattle.host_fetch.specs.Fetch.{Fetching, Comes, Ends, Finishes, Grows, StopsGiving, after_fate, asked_again, begun, here_after, waiting_after, waits}
 use Rattle.host_fetch.specs.Fetch.Comes.{begins, goes_on}
-use Rattle.host_fetch.proofs.Asking.{asked_more, map-remove, waits_more}
+use Rattle.host_fetch.proofs.Asking.{asked_more, map-remove, partly_due, waits_more}
 
 -- where a fetch stands between two fates
 pub record Stands {T W X : Type 0} (here : T → List Bool) (key : T → Option Key) (rest : T → T) (tells : W → ℕ → Fate → W → Type 0) (streak : W → ℕ) (seeds : W → Option (List ℕ)) (now : X → Reply)
@@ -172,13 +172,13 @@ is_absent here page below e = slice_get_read here (length here) page false refl 
 
 -- where memory was wanting, some of the first pages were asked for
 pub part_asked : {W : Type 0} (tells : W → ℕ → Fate → W → Type 0) (streak : W → ℕ) (page : ℕ) (depot : Shelves) (claims : ClaimsValue) (k : Key) (here : List Bool) (w : W)
-    (first asked : List ℕ) (count : ℕ) (old new : Telling) → asked ≡ first → ArePartlyAsked depot claims k (take count asked) old new
-    → (x : List ℕ) × ArePartlyAsked depot claims k x old new × Finishes tells streak page w (begun here first) w here x (Err Memory)
+    (first asked : List ℕ) (count : ℕ) (old new : Telling) → asked ≡ first → ArePartlyAsked depot claims k (take 1 (drop count asked)) (take count asked) old new
+    → (x : List ℕ) × ArePartlyAsked depot claims k first x old new × Finishes tells streak page w (begun here first) w here x (Err Memory)
 part_asked tells streak page depot claims k here w first asked count old new same partly =
-    (take count asked, partly, inl (record { count = count; asked_is = ap (take count) same; here_is = refl; wire_is = refl }))
+    (take count asked, subst (λ due. ArePartlyAsked depot claims k due (take count asked) old new) same (partly_due depot claims k asked count old new partly), inl (record { count = count; asked_is = ap (take count) same; here_is = refl; wire_is = refl }))
 
 pub none_asked : {W : Type 0} (tells : W → ℕ → Fate → W → Type 0) (streak : W → ℕ) (page : ℕ) (depot : Shelves) (claims : ClaimsValue) (k : Key) (here : List Bool) (w : W)
-    (first : List ℕ) (t : Telling) → (x : List ℕ) × ArePartlyAsked depot claims k x t t × Finishes tells streak page w (begun here first) w here x (Err Memory)
+    (first : List ℕ) (t : Telling) → (x : List ℕ) × ArePartlyAsked depot claims k first x t t × Finishes tells streak page w (begun here first) w here x (Err Memory)
 none_asked tells streak page depot claims k here w first t =
     part_asked tells streak page depot claims k here w first first 0 t t refl (record { middle = t; asked = refl; last = inl refl })
 

@@ -1,6 +1,6 @@
 //! Requests for pages.
 
-ghost use Rattle.std.specs.Prelude.{◌≡◌, ℕ, ◌<◌, ◌≤◌, ◌==◌, if◌then◌else◌, [], ◌∷◌, ◌++◌, length, map, take, IfOk, OnOk, OnErr};
+ghost use Rattle.std.specs.Prelude.{◌≡◌, ℕ, ◌<◌, ◌≤◌, ◌==◌, if◌then◌else◌, [], ◌∷◌, ◌++◌, drop, length, map, take, IfOk, OnOk, OnErr};
 ghost use Rattle.std.specs.List.{All, list_any};
 ghost use Rattle.image_depot.specs.Image.{place_count};
 ghost use Rattle.image_depot.specs.Key.{IsKeyOf, image_of};
@@ -60,7 +60,7 @@ impl<'a> Fetcher<'a> {
         ensures waiting { IfOk result.1 (λ waiting. map reply_in waiting.items ≡ map (reply_with key.now) pages.now) }
         ensures asked { OnOk result.1 (AreAsked self.now.depot.now self.now.claims.now key.now pages.now
             (record { sent = pushed.old.items; pass = claiming }) (record { sent = pushed.new.items; pass = result.0 })) }
-        ensures err { OnErr result.1 ((count : ℕ) × ArePartlyAsked self.now.depot.now self.now.claims.now key.now (take count pages.now)
+        ensures err { OnErr result.1 ((count : ℕ) × ArePartlyAsked self.now.depot.now self.now.claims.now key.now (take 1 (drop count pages.now)) (take count pages.now)
             (record { sent = pushed.old.items; pass = claiming }) (record { sent = pushed.new.items; pass = result.0 })) }
         ensures same { IsSamePass claiming result.0 }
     {
@@ -95,7 +95,7 @@ impl<'a> Fetcher<'a> {
         ensures waiting { OnOk result.1 (map reply_in waiting.new.items ≡ map reply_in waiting.old.items ++ reply_with key.now page ∷ []) }
         ensures asked { OnOk result.1 (IsAsked self.now.depot.now self.now.claims.now key.now page
             (record { sent = pushed.old.items; pass = claiming }) (record { sent = pushed.new.items; pass = result.0 })) }
-        ensures err { OnErr result.1 (IsUntold self.now.claims.now key.now
+        ensures err { OnErr result.1 (IsUntold self.now.claims.now key.now page
             (record { sent = pushed.old.items; pass = claiming }) (record { sent = pushed.new.items; pass = result.0 })) }
         ensures same { IsSamePass claiming result.0 }
     {
@@ -131,7 +131,7 @@ impl<'a> Fetcher<'a> {
         ensures asked { OnOk result.1 (AreAsked self.now.depot.now self.now.claims.now key.now
             (if list_any (λ w. (reply_in w).page == page) waiting.old.items then [] else page ∷ [])
             (record { sent = pushed.old.items; pass = claiming }) (record { sent = pushed.new.items; pass = result.0 })) }
-        ensures err { OnErr result.1 (IsUntold self.now.claims.now key.now
+        ensures err { OnErr result.1 (IsUntold self.now.claims.now key.now page
             (record { sent = pushed.old.items; pass = claiming }) (record { sent = pushed.new.items; pass = result.0 })) }
         ensures same { IsSamePass claiming result.0 }
     {

@@ -6,7 +6,7 @@ ghost use Rattle.image_depot.specs.Key.{IsKeyOf, image_of};
 ghost use Rattle.image_depot.specs.Receiver.{IsAbsent, IsHere};
 ghost use Rattle.image_depot.specs.Reply.{IsSentOf};
 ghost use Rattle.page_claims.specs.Calls.{IsSamePass};
-ghost use Rattle.host_fetch.specs.Asked.{HasAsked, end_of_kind, first_asked};
+ghost use Rattle.host_fetch.specs.Asked.{HasAsked, HasToldFirsts, end_of_kind, first_asked, untold_most};
 ghost use Rattle.host_fetch.specs.Fetch.{Finishes, Grows, begun};
 
 use crate::ask::first_asked;
@@ -47,11 +47,13 @@ impl Fetcher<'_> {
         ensures none { T.wanted receiver.old ≡ None → (result ≡ (claiming, Ok tt)) × (receiver.new ≡ receiver.old) × (wire.new ≡ wire.old) × (pushed.new.items ≡ pushed.old.items) }
         ensures here { OnOk result.1 (ForSome (T.wanted receiver.old) (IsHere (T.here receiver.new))) }
         ensures fetches { ForSome (T.wanted receiver.old) (λ page. ForSome (T.key receiver.old) (λ key. (asked : List ℕ)
-            × HasAsked self.now.depot.now self.now.claims.now key result.1 asked
+            × HasAsked self.now.depot.now self.now.claims.now key (first_asked (T.here receiver.old) page (end_of_kind (image_of key) page) self.now.ahead) result.1 asked
             (record { sent = pushed.old.items; pass = claiming }) (record { sent = pushed.new.items; pass = result.0 })
             × Finishes W.tells W.streak page
             wire.old (begun (T.here receiver.old) (first_asked (T.here receiver.old) page (end_of_kind (image_of key) page) self.now.ahead))
             wire.new (T.here receiver.new) asked result.1)) }
+        ensures firsts { HasToldFirsts self.now.claims.now (untold_most result.1)
+            (record { sent = pushed.old.items; pass = claiming }) (record { sent = pushed.new.items; pass = result.0 }) }
         ensures wire { IfErr result.1 (λ error. error ≡ FetchError.Wire → W.streak wire.new ≡ LONGEST_STREAK) }
         ensures same { IsSamePass claiming result.0 }
         ensures kept { All (IsSentOf self.now.depot.now) pushed.old.items → All (IsSentOf self.now.depot.now) pushed.new.items }
@@ -89,7 +91,8 @@ impl Fetcher<'_> {
         requires pages { place_count (image_of wanted.now.key) ≡ length (T.here receiver.old) }
         requires absent { IsAbsent (T.here receiver.old) wanted.now.page }
         ensures fetches { (asked : List ℕ)
-            × HasAsked self.now.depot.now self.now.claims.now wanted.now.key result.1 asked
+            × HasAsked self.now.depot.now self.now.claims.now wanted.now.key
+            (first_asked (T.here receiver.old) wanted.now.page (end_of_kind (image_of wanted.now.key) wanted.now.page) self.now.ahead) result.1 asked
             (record { sent = pushed.old.items; pass = claiming }) (record { sent = pushed.new.items; pass = result.0 })
             × Finishes W.tells W.streak wanted.now.page
             wire.old (begun (T.here receiver.old) (first_asked (T.here receiver.old) wanted.now.page (end_of_kind (image_of wanted.now.key) wanted.now.page) self.now.ahead))

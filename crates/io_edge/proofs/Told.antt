@@ -1,6 +1,6 @@
 -- What the clauses of a shelf and a sink in memory tell of the counts, the files and the bytes that are gone.
 use Rattle.std.proofs.Common.{◌≡◌, ℕ, ◌+◌, ◌<◌, ◌≤◌, ◌⊎◌, inl, inr, Bool, true, false, cond, List, length, take, ◌++◌, min, Option, Some, None}
-use Rattle.std.proofs.Common.{Result, Ok, Err, IfOk, OnErr, IsErrOf, IsSomeAnd, refl, sym, ap, ◌∙◌, subst, arith, Vec, vec_len, Global}
+use Rattle.std.proofs.Common.{Result, Ok, Err, IfOk, OnErr, OnOk, IsErrOf, IsSomeAnd, refl, sym, ap, ◌∙◌, subst, arith, Vec, vec_len, Global}
 use Rattle.std.proofs.lemmas.Bool.{cases_lt}
 use Rattle.io_edge.specs.declared.outside.ShelfError.{ShelfError}
 use Rattle.io_edge.specs.declared.outside.ShelfError.TheVariants.{Fault, TooLong, Memory}
@@ -31,6 +31,10 @@ none_out-Puts old new piece (Err fault) puts = ap (λ (sink : Kept). Some sink.b
 pub fault-Puts : (old new : Kept) (piece : List ℕ) (r : Result ℕ WriteFault) → Puts old piece r new → OnErr r (HasRisen old.faults new.faults)
 fault-Puts old new piece (Ok n) puts = tt
 fault-Puts old new piece (Err fault) puts = rw puts.1 (HasRisen-next_count old.faults)
+
+pub faultless-Puts : (old new : Kept) (piece : List ℕ) (r : Result ℕ WriteFault) → Puts old piece r new → OnOk r (new.faults ≡ old.faults)
+faultless-Puts old new piece (Ok n) puts = ap (λ (sink : Kept). sink.faults) puts.2
+faultless-Puts old new piece (Err fault) puts = tt
 
 -- ---- a shelf, whose coming call is listed or not, and what file has the name
 

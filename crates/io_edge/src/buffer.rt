@@ -43,6 +43,7 @@ impl SinkBuffer {
     pub fn put<K: Sink>(&mut self, sink: &mut K, piece: &[u8]) -> Result<(), WriteFault>
         ensures counts { K.faults sink.old ≤ K.faults sink.new }
         ensures fault { OnErr result (HasRisen (K.faults sink.old) (K.faults sink.new)) }
+        ensures faultless { OnOk result (K.faults sink.new ≡ K.faults sink.old) }
         ensures streams { Streams (K.gone sink.old) (K.gone sink.new) self.old piece.now self.new result }
         ensures gathers { length self.old + length piece.now ≤ BUFFER_SIZE → sink.new ≡ sink.old }
     {
@@ -58,6 +59,7 @@ impl SinkBuffer {
     fn put_beyond<K: Sink>(&mut self, sink: &mut K, piece: &[u8]) -> Result<(), WriteFault>
         ensures counts { K.faults sink.old ≤ K.faults sink.new }
         ensures fault { OnErr result (HasRisen (K.faults sink.old) (K.faults sink.new)) }
+        ensures faultless { OnOk result (K.faults sink.new ≡ K.faults sink.old) }
         ensures streams { Streams (K.gone sink.old) (K.gone sink.new) self.old piece.now self.new result }
     {
         self.flush(sink)?;
@@ -72,6 +74,7 @@ impl SinkBuffer {
     pub fn put_number<K: Sink>(&mut self, sink: &mut K, number: u64) -> Result<(), WriteFault>
         ensures counts { K.faults sink.old ≤ K.faults sink.new }
         ensures fault { OnErr result (HasRisen (K.faults sink.old) (K.faults sink.new)) }
+        ensures faultless { OnOk result (K.faults sink.new ≡ K.faults sink.old) }
         ensures streams { Streams (K.gone sink.old) (K.gone sink.new) self.old (decimal number) self.new result }
     {
         let mut digits = itoa::Buffer::new();
@@ -84,6 +87,7 @@ impl SinkBuffer {
         ensures counts { K.faults sink.old ≤ K.faults sink.new }
         ensures ok { OnOk result (K.gone sink.new ≡ appended (K.gone sink.old) self.old) }
         ensures fault { OnErr result (HasRisen (K.faults sink.old) (K.faults sink.new)) }
+        ensures faultless { OnOk result (K.faults sink.new ≡ K.faults sink.old) }
         ensures prefix { IsPrefixGone (K.gone sink.old) (K.gone sink.new) self.old }
     {
         let flushed = put_all(sink, self.waiting.as_slice());

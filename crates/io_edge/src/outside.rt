@@ -69,14 +69,16 @@ pub trait Sink {
         ensures some { IfOk result (λ n. 0 < length piece.now → 0 < n) }
         ensures out { IfOk result (λ n. gone self.new ≡ appended (gone self.old) (take n piece.now)) }
         ensures none_out { OnErr result (gone self.new ≡ gone self.old) }
-        ensures fault { OnErr result (HasRisen (faults self.old) (faults self.new)) };
+        ensures fault { OnErr result (HasRisen (faults self.old) (faults self.new)) }
+        ensures faultless { OnOk result (faults self.new ≡ faults self.old) };
 }
 
-/// Puts out all of the bytes, or a prefix of them up to a fault.
+/// Puts out all of the bytes, or a prefix of them up to the first fault.
 pub fn put_all<K: Sink>(sink: &mut K, bytes: &[u8]) -> Result<(), WriteFault>
     ensures counts { K.faults sink.old ≤ K.faults sink.new }
     ensures ok { OnOk result (K.gone sink.new ≡ appended (K.gone sink.old) bytes.now) }
     ensures fault { OnErr result (HasRisen (K.faults sink.old) (K.faults sink.new)) }
+    ensures faultless { OnOk result (K.faults sink.new ≡ K.faults sink.old) }
     ensures prefix { IsPrefixGone (K.gone sink.old) (K.gone sink.new) bytes.now }
 {
     let mut done = 0;

@@ -1,11 +1,14 @@
-use Rattle.std.proofs.Common.{◌≡◌, ℕ, ◌++◌, [], ◌∷◌, inl, inr, refl, subst, IsSome, arith}
+use Rattle.std.proofs.Common.{◌≡◌, ℕ, ◌++◌, [], ◌∷◌, inl, inr, refl, sym, subst, IsSome, arith}
 use Rattle.std.specs.Option.{option_map}
+use Rattle.std.proofs.lemmas.List.{append-nil}
 use Rattle.std.proofs.lemmas.Result.{err_from_is_err_and}
 use Rattle.io_edge.specs.Outside.{HasRisen}
-use Rattle.guest_files.specs.declared.stop.TheConstants.{IMAGE_LOAD, DISK_LOAD, INPUT_LOAD}
+use Rattle.guest_files.specs.declared.stop.TheConstants.{IMAGE_LOAD, DISK_LOAD, INPUT_LOAD, TOO_LONG, DISK_TOO_LONG, INPUT_TOO_LONG}
+use Rattle.guest_files.specs.declared.stop.Stop.TheVariants.{ImageRefused, DataRefused}
 use Rattle.guest_files.specs.Reads.{disk_too_long, image_too_long, input_too_long}
-use Rattle.guest_files.specs.Parts.{AreAsked, IsFaultOf, Stops, load_if, load_of}
+use Rattle.guest_files.specs.Parts.{AreAsked, IsFaultOf, Stops, guest_loads, load_if, load_of}
 use Rattle.guest_files.proofs.PartLemmas.{Gave, image-read, disk-read, input-read, image-stops, disk-stops, input-stops, guest-given, rises, asked-both, fault-before, fault-after}
+use Rattle.guest_files.proofs.PartLemmas.{made-to, stops-early, to-disk, to-image, to-input}
 use Rattle.guest_files.proofs.files.read_guest.Goals as goal
 
 pub returns-in_err-image-clause-gives : goal.returns-in_err-image-clause-gives
@@ -125,3 +128,65 @@ returns-clause-asked g c =
     (asked-both disk input with_image with_disk with_input
     (subst (λ it. AreAsked (load_if DISK_LOAD it) with_image with_disk) c.disk.ensures c.in_ok-disk.ensures.asked)
     (subst (λ it. AreAsked (load_if INPUT_LOAD it) with_disk with_input) c.input.ensures c.in_ok-input.ensures.asked))
+
+pub returns-in_err-image-clause-asked : goal.returns-in_err-image-clause-asked
+returns-in_err-image-clause-asked g c =
+    let guest = c.args.guest.now in
+    let start = g.S.Shelf.asked c.args.shelf.now in
+    let with_image = g.S.Shelf.asked c.load_file.new.shelf in
+    let p = err_from_is_err_and c.from_residual.result c.from_residual.ensures.1 in
+    rw (p.1, p.2)
+    (made-to (guest_loads guest) (load_of IMAGE_LOAD guest.image ∷ []) (load_if DISK_LOAD guest.disk ++ load_if INPUT_LOAD guest.input) IMAGE_LOAD
+    (ImageRefused TOO_LONG) c.in_err-image.field-0.0 start with_image refl (to-image guest.image guest.disk guest.input) refl c.in_err-image.ensures.stops
+    (subst (λ it. AreAsked (load_of IMAGE_LOAD it ∷ []) start with_image) c.image.ensures c.in_err-image.ensures.asked))
+
+pub returns-in_err-image-clause-stops : goal.returns-in_err-image-clause-stops
+returns-in_err-image-clause-stops g c =
+    let p = err_from_is_err_and c.from_residual.result c.from_residual.ensures.1 in
+    rw (p.1, p.2) (stops-early IMAGE_LOAD (ImageRefused TOO_LONG) c.in_err-image.field-0.0 refl (omega arith) c.in_err-image.ensures.stops)
+
+pub returns-in_err-disk-clause-asked : goal.returns-in_err-disk-clause-asked
+returns-in_err-disk-clause-asked g c =
+    let guest = c.args.guest.now in
+    let start = g.S.Shelf.asked c.args.shelf.now in
+    let with_image = g.S.Shelf.asked c.load_file.new.shelf in
+    let with_disk = g.S.Shelf.asked c.load_named.new.shelf in
+    let p = err_from_is_err_and c.from_residual-in_err-disk.result c.from_residual-in_err-disk.ensures.1 in
+    let image = load_of IMAGE_LOAD guest.image ∷ [] in
+    let disk = load_if DISK_LOAD guest.disk in
+    rw (p.1, p.2)
+    (made-to (guest_loads guest) (image ++ disk) (load_if INPUT_LOAD guest.input) DISK_LOAD
+    (DataRefused DISK_TOO_LONG) c.in_err-disk.field-0.0 start with_disk refl (to-disk guest.image guest.disk guest.input) refl c.in_err-disk.ensures.stops
+    (asked-both image disk start with_image with_disk
+    (subst (λ it. AreAsked (load_of IMAGE_LOAD it ∷ []) start with_image) c.image.ensures c.in_ok-image.ensures.asked)
+    (subst (λ it. AreAsked (load_if DISK_LOAD it) with_image with_disk) c.disk.ensures c.in_err-disk.ensures.asked)))
+
+pub returns-in_err-disk-clause-stops : goal.returns-in_err-disk-clause-stops
+returns-in_err-disk-clause-stops g c =
+    let p = err_from_is_err_and c.from_residual-in_err-disk.result c.from_residual-in_err-disk.ensures.1 in
+    rw (p.1, p.2) (stops-early DISK_LOAD (DataRefused DISK_TOO_LONG) c.in_err-disk.field-0.0 refl (omega arith) c.in_err-disk.ensures.stops)
+
+pub returns-in_err-input-clause-asked : goal.returns-in_err-input-clause-asked
+returns-in_err-input-clause-asked g c =
+    let guest = c.args.guest.now in
+    let start = g.S.Shelf.asked c.args.shelf.now in
+    let with_image = g.S.Shelf.asked c.load_file.new.shelf in
+    let with_disk = g.S.Shelf.asked c.load_named.new.shelf in
+    let with_input = g.S.Shelf.asked c.load_named-2.new.shelf in
+    let p = err_from_is_err_and c.from_residual-in_err-input.result c.from_residual-in_err-input.ensures.1 in
+    let image = load_of IMAGE_LOAD guest.image ∷ [] in
+    let disk = load_if DISK_LOAD guest.disk in
+    let input = load_if INPUT_LOAD guest.input in
+    rw (p.1, p.2)
+    (made-to (guest_loads guest) (guest_loads guest) [] INPUT_LOAD
+    (DataRefused INPUT_TOO_LONG) c.in_err-input.field-0.0 start with_input (sym (append-nil (guest_loads guest))) (to-input guest) refl c.in_err-input.ensures.stops
+    (asked-both image (disk ++ input) start with_image with_input
+    (subst (λ it. AreAsked (load_of IMAGE_LOAD it ∷ []) start with_image) c.image.ensures c.in_ok-image.ensures.asked)
+    (asked-both disk input with_image with_disk with_input
+    (subst (λ it. AreAsked (load_if DISK_LOAD it) with_image with_disk) c.disk.ensures c.in_ok-disk.ensures.asked)
+    (subst (λ it. AreAsked (load_if INPUT_LOAD it) with_disk with_input) c.input.ensures c.in_err-input.ensures.asked))))
+
+pub returns-in_err-input-clause-stops : goal.returns-in_err-input-clause-stops
+returns-in_err-input-clause-stops g c =
+    let p = err_from_is_err_and c.from_residual-in_err-input.result c.from_residual-in_err-input.ensures.1 in
+    rw (p.1, p.2) (stops-early INPUT_LOAD (DataRefused INPUT_TOO_LONG) c.in_err-input.field-0.0 refl (omega arith) c.in_err-input.ensures.stops)

@@ -6,7 +6,7 @@ use Rattle.io_edge.proofs.outside.put_all.Goals as goal
 pub loop-done-preserved : goal.loop-done-preserved
 loop-done-preserved g c = record {
   within = omega (arith, c.split_at.ensures.back_len, c.in_ok-done.ensures.within);
-  counts = omega (arith, c.loop-done.invariant.counts, c.put.ensures.counts);
+  faultless = c.in_ok-done.ensures.faultless ∙ c.loop-done.invariant.faultless;
   out =
       c.in_ok-done.ensures.out
       ∙ ap (λ gone. appended gone (take c.in_ok-done.field-0 c.split_at.result.1.now)) c.loop-done.invariant.out

@@ -6,7 +6,7 @@ abbrev pub invariant-loop-done : goal.invariant-loop-done
 invariant-loop-done g l =
     record {
       within : l.done ≤ length l.bytes;
-      counts : g.K.Sink.faults l.fn.sink ≤ g.K.Sink.faults l.sink;
+      faultless : g.K.Sink.faults l.sink ≡ g.K.Sink.faults l.fn.sink;
       out : g.K.Sink.gone l.sink ≡ appended (g.K.Sink.gone l.fn.sink) (take l.done l.bytes);
     }
 

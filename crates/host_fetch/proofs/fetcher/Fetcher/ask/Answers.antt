@@ -7,16 +7,16 @@ pub returns-in-First-clause-err : goal.returns-in-First-clause-err
 returns-in-First-clause-err g c =
     let answers = subst (λ n. Answers c.args.self.now.claims.now n c.args.page c.args.claiming c.claim-claiming.result.0 c.claim-claiming.result.1) c.number.ensures
     c.claim-claiming.ensures.answered.answers in
-    err-with c.keep.result (λ same. record { page = c.args.page; sent = same; pass = inr (c.claim-claiming.result.1, answers) }) c.keep.ensures.err
+    err-with c.keep.result (λ same. record { sent = same; pass = inr (c.claim-claiming.result.1, answers) }) c.keep.ensures.err
 
 pub returns-in-Repeat-clause-err : goal.returns-in-Repeat-clause-err
 returns-in-Repeat-clause-err g c =
     let answers = subst (λ n. Answers c.args.self.now.claims.now n c.args.page c.args.claiming c.claim-claiming.result.0 c.claim-claiming.result.1) c.number.ensures
     c.claim-claiming.ensures.answered.answers in
-    err-any c.hold.result (record { page = c.args.page; sent = refl; pass = inr (c.claim-claiming.result.1, answers) })
+    err-any c.hold.result (record { sent = refl; pass = inr (c.claim-claiming.result.1, answers) })
 
 pub returns-in-Outside-clause-err : goal.returns-in-Outside-clause-err
 returns-in-Outside-clause-err g c =
     let answers = subst (λ n. Answers c.args.self.now.claims.now n c.args.page c.args.claiming c.claim-claiming.result.0 c.claim-claiming.result.1) c.number.ensures
     c.claim-claiming.ensures.answered.answers in
-    err-any c.hold-in-Outside.result (record { page = c.args.page; sent = refl; pass = inr (c.claim-claiming.result.1, answers) })
+    err-any c.hold-in-Outside.result (record { sent = refl; pass = inr (c.claim-claiming.result.1, answers) })

@@ -1,7 +1,7 @@
 use Rattle.std.proofs.Common.{[], ◌∷◌, map, take, get_or, refl, sym, ap, ◌∙◌, subst, arith, inl, inr}
 use Rattle.std.proofs.lemmas.List.{take_all, take_more}
 use Rattle.host_fetch.specs.Asked.{AreAsked, reply_in, reply_with}
-use Rattle.host_fetch.proofs.Asking.{asked_more, asked_one, err-of, ok-on, same_asked, same_more, waits_more}
+use Rattle.host_fetch.proofs.Asking.{asked_more, asked_one, due_next, err-of, ok-on, same_asked, same_more, waits_more}
 use Rattle.host_fetch.proofs.fetcher.Fetcher.ask_first.Goals as goal
 
 pub returns-in_default-clause-err : goal.returns-in_default-clause-err
@@ -16,7 +16,7 @@ ask-after-requires-clause-claims g c = (same_asked _ _ _ _ _ _ c.loop-page.invar
 pub returns-in_default-asked-clause-err : goal.returns-in_default-asked-clause-err
 returns-in_default-asked-clause-err g c = (
   c.loop-page.page-index,
-  record { middle = _; asked = c.loop-page.invariant.asked; last = inr (err-of c.ask-after.result.1 _ c.in_default-asked.is c.ask-after.ensures.err) },
+  record { middle = _; asked = c.loop-page.invariant.asked; last = inr (get_or c.args.pages.now c.loop-page.page-index 0, due_next c.args.pages.now c.loop-page.page-index c.loop-page-test.true, err-of c.ask-after.result.1 _ c.in_default-asked.is c.ask-after.ensures.err) },
 )
 
 pub returns-in_default-asked-clause-same : goal.returns-in_default-asked-clause-same

@@ -132,7 +132,7 @@ pub returns-in_default-asked-clause-fetches : goal.returns-in_default-asked-clau
 returns-in_default-asked-clause-fetches g c =
     let s = c.loop-claiming.invariant in (
       s.f.asked,
-      record { middle = _; asked = s.grown; last = inr (err-of c.ask_again-after.result.1 _ c.in_default-asked.is c.ask_again-after.ensures.err) },
+      record { middle = _; asked = s.grown; last = inr (c.args.wanted.now.page, (0, omega arith, refl), err-of c.ask_again-after.result.1 _ c.in_default-asked.is c.ask_again-after.ensures.err) },
       inr (inr (
         ended _ _ _ _ _ _ _ _ _ _ _ _ _ _ _ _ _ _ _ _ _ c.next-fate.result c.len.result s (c.len.ensures ∙ c.loop-claiming.waiting.ok.0) c.next-fate.ensures.tells c.in-Ok-deliver.ensures.here,
         is_absent _ c.args.wanted.now.page (below_after _ _ _ _ _ _ _ _ _ _ _ _ _ _ _ _ _ _ _ _ _ s c.in-Ok-deliver.ensures.here) (sym c.is_here.ensures ∙ c.if-is_here.false),

@@ -1,4 +1,4 @@
-use Rattle.io_edge.proofs.Told.{within-Puts, out-Puts, none_out-Puts, fault-Puts}
+use Rattle.io_edge.proofs.Told.{within-Puts, out-Puts, none_out-Puts, fault-Puts, faultless-Puts}
 use Rattle.io_edge.proofs.memory.MemSinkSink.TheImpl.Goals as goal
 
 pub put-tells : goal.put-tells
@@ -13,4 +13,5 @@ put-tells c =
       out = out-Puts old new piece c.result c.ensures.puts;
       none_out = none_out-Puts old new piece c.result c.ensures.puts;
       fault = fault-Puts old new piece c.result c.ensures.puts;
+      faultless = faultless-Puts old new piece c.result c.ensures.puts;
     }
