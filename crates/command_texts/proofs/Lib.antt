@@ -1,4 +1,5 @@
 pub mod Codes
+pub mod Late
 pub mod Made
 pub mod TextLemmas
 pub mod Booted

@@ -1,15 +1,18 @@
 -- The seeds that wires are given.
-use Rattle.std.proofs.Common.{◌≡◌, ℕ, zero, suc, ◌+◌, ◌<◌, ◌≤◌, true, List, [], ◌∷◌, ◌++◌, drop, length, length-append, map, min, slice_index_or}
-use Rattle.std.proofs.Common.{slice_set, take, Option, Some, Result, Ok, Err, OnOk, refl, sym, ap, ap₂, ◌∙◌, subst, arith, add-one}
+use Rattle.std.proofs.Common.{◌≡◌, ◌⊎◌, inl, inr, ℕ, zero, suc, ◌+◌, ◌<◌, ◌≤◌, true, List, [], ◌∷◌, ◌++◌, drop, length, length-append, map, min, slice_index_or}
+use Rattle.std.proofs.Common.{slice_set, take, Option, None, Some, Result, Ok, Err, IfErr, refl, sym, ap, ap₂, ◌∙◌, subst, arith, add-one}
 use Rattle.std.proofs.Math.Seq.{take-append_seam}
-use Rattle.std.proofs.lemmas.List.{length-map, map-append}
+use Rattle.std.proofs.lemmas.List.{append-nil, length-map, map-append}
 use Rattle.command_line.specs.Words.{Command, RunValues}
 use Rattle.guest_files.specs.declared.stop.Stop.{Stop}
 use Rattle.guest_files.specs.declared.stop.Stop.TheVariants.{ReadFault, ImageRefused, DataRefused, ScriptRefused, WriteFault, Wire, Memory}
-use Rattle.guest_files.specs.Parts.{Stops}
+use Rattle.io_edge.specs.Asked.{Asked}
+use Rattle.guest_files.specs.Parts.{AreAsked, HasMade, Stops, loads_of}
+use Rattle.guest_files.proofs.PartLemmas.{all-loads}
 use Rattle.guest_files.specs.Reads.{Refusal}
 use Rattle.wire_fates.specs.Fates.{seeded_with}
-use Rattle.command_texts.specs.Seeded.{IfRun, all_seeded, is_run, seeded_for}
+use Rattle.command_texts.specs.Seeded.{IfBefore, IfRun, all_seeded, is_before, is_run, seeded_for}
+use Rattle.command_texts.specs.Status.{AreLoaded, ArePartlyLoaded, has_read, last_read}
 use Rattle.command_texts.proofs.Codes.{status_of}
 
 -- ---- one wire after another
@@ -127,9 +130,22 @@ always-run (Err WriteFault) then h = h
 always-run (Err Wire) then h = h
 always-run (Err Memory) then h = tt
 
-pub always-ok : {A E : Type 0} (result : Result A E) (then : Type 0) → then → OnOk result then
-always-ok (Ok value) then h = h
-always-ok (Err e) then h = tt
+-- whatever stopped it before
+pub before-all : (stop : Stop) (then : Type 0) → then → IfBefore stop then
+before-all (ReadFault load) then h = h
+before-all (ImageRefused number) then h = h
+before-all (DataRefused number) then h = h
+before-all (ScriptRefused line kind) then h = h
+before-all WriteFault then h = tt
+before-all Wire then h = tt
+before-all Memory then h = tt
+
+-- a family that was run did not stop before
+pub run-after : {A : Type 0} (result : Result A Stop) (P then : Type 0) → IfErr result (λ stop. (stop ≡ Memory) ⊎ ((stop ≡ Wire) × P))
+    → IfErr result (λ stop. IfBefore stop then)
+run-after (Ok value) P then h = tt
+run-after (Err stop) P then (inl is) = subst (λ s. IfBefore s then) (sym is) tt
+run-after (Err stop) P then (inr is) = subst (λ s. IfBefore s then) (sym is.0) tt
 
 -- ---- codes
 
@@ -149,7 +165,47 @@ pub ends-run : {done end : Result Unit Stop} {meant : Option Command} (P : Optio
 ends-run {end = end} P command is same h code =
     subst P same (run-ends (P (Some command)) end (subst (λ (r : Result Unit Stop). IfRun r (P (Some command))) is h) code)
 
--- a command that is done
-pub ends-ok : {done : Result Unit Stop} {meant : Option Command} (P : Option Command → Type 0) (command : Command) → done ≡ Ok tt → Some command ≡ meant
-    → OnOk done (P (Some command)) → P meant
-ends-ok P command is same h = subst P same (subst (λ (r : Result Unit Stop). OnOk r (P (Some command))) is h)
+before-ends : (P : Type 0) (end : Result Unit Stop) → IfErr end (λ stop. IfBefore stop P) → is_before (status_of end).code ≡ true → P
+before-ends P (Ok done) h code = absurd (cc)
+before-ends P (Err (ReadFault load)) h code = h
+before-ends P (Err (ImageRefused number)) h code = h
+before-ends P (Err (DataRefused number)) h code = h
+before-ends P (Err (ScriptRefused line kind)) h code = h
+before-ends P (Err WriteFault) h code = absurd (cc)
+before-ends P (Err Wire) h code = absurd (cc)
+before-ends P (Err Memory) h code = absurd (cc)
+
+pub ends-before : {done end : Result Unit Stop} {P : Type 0} → done ≡ end → IfErr done (λ stop. IfBefore stop P) → is_before (status_of end).code ≡ true → P
+ends-before {end = end} {P} is h code = before-ends P end (subst (λ (r : Result Unit Stop). IfErr r (λ stop. IfBefore stop P)) is h) code
+
+-- ---- the loads of a command, by its code
+
+made-ends : (command : Command) (old new : Asked) (end : Result Unit Stop) → HasMade (loads_of command) end old new → has_read (status_of end).code ≡ true
+    → AreLoaded (Some command) (last_read (status_of end)) old new
+made-ends command old new (Ok done) h code = subst (λ loads. AreAsked loads old new) (sym (all-loads command)) h
+made-ends command old new (Err (ReadFault load)) h code = absurd (cc)
+made-ends command old new (Err (ImageRefused number)) h code = h.just (λ is. absurd (cc))
+made-ends command old new (Err (DataRefused number)) h code = h.just (λ is. absurd (cc))
+made-ends command old new (Err (ScriptRefused line kind)) h code = h.just (λ is. absurd (cc))
+made-ends command old new (Err WriteFault) h code = h.just (λ is. absurd (cc))
+made-ends command old new (Err Wire) h code = h.just (λ is. absurd (cc))
+made-ends command old new (Err Memory) h code = absurd (cc)
+
+pub ends-read : {done end : Result Unit Stop} {meant : Option Command} (old new : Asked) (command : Command) → done ≡ end → Some command ≡ meant
+    → HasMade (loads_of command) done old new → has_read (status_of end).code ≡ true → AreLoaded meant (last_read (status_of end)) old new
+ends-read {end = end} old new command is same h code =
+    subst (λ m. AreLoaded m (last_read (status_of end)) old new) same
+    (made-ends command old new end (subst (λ (r : Result Unit Stop). HasMade (loads_of command) r old new) is h) code)
+
+made-first : (command : Command) (old new : Asked) (end : Result Unit Stop) → HasMade (loads_of command) end old new → ArePartlyLoaded (Some command) old new
+made-first command old new (Ok done) h = record { made = loads_of command; rest = []; place = sym (append-nil (loads_of command)); asked = h }
+made-first command old new (Err stop) h = h.some
+
+pub ends-first : {meant : Option Command} (old new : Asked) (command : Command) (done : Result Unit Stop) → Some command ≡ meant
+    → HasMade (loads_of command) done old new → ArePartlyLoaded meant old new
+ends-first old new command done same h = subst (λ m. ArePartlyLoaded m old new) same (made-first command old new done h)
+
+-- where none was made
+pub none-first : (meant : Option Command) (asked : Asked) → ArePartlyLoaded meant asked asked
+none-first None asked = (refl, refl)
+none-first (Some command) asked = record { made = []; rest = loads_of command; place = refl; asked = (refl, refl) }

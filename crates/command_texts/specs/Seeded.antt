@@ -2,7 +2,7 @@
 use Rattle.std.specs.Prelude.{◌≡◌, ℕ, ◌==◌, ◌||◌, Bool, List, ◌++◌, drop, map, take, Option, Some, None, Result, Ok, Err}
 use Rattle.command_line.specs.Words.{Command, RunValues, run, drive, generated, generated_how}
 use Rattle.guest_files.specs.declared.stop.Stop.{Stop}
-use Rattle.guest_files.specs.declared.stop.Stop.TheVariants.{WriteFault, Wire}
+use Rattle.guest_files.specs.declared.stop.Stop.TheVariants.{ReadFault, ImageRefused, DataRefused, ScriptRefused, WriteFault, Wire}
 use Rattle.wire_fates.specs.Fates.{seeded_with}
 
 -- each of them is given this seed, once
@@ -34,3 +34,15 @@ IfRun (Err stop) then = Unit {0}
 -- the same, by its code
 abbrev pub is_run : ℕ → Bool
 is_run code = code == 0 || (code == 5 || code == 7)
+
+-- a command stopped before it ran a family, and then this holds
+abbrev pub IfBefore : Stop → Type 0 → Type 0
+IfBefore (ReadFault load) then = then
+IfBefore (ImageRefused number) then = then
+IfBefore (DataRefused number) then = then
+IfBefore (ScriptRefused line kind) then = then
+IfBefore stop then = Unit {0}
+
+-- the same, by its code
+abbrev pub is_before : ℕ → Bool
+is_before code = code == 1 || (code == 2 || (code == 3 || (code == 4 || code == 8)))

@@ -1,11 +1,13 @@
 -- What the codes of `snow` say, over the files that the shelf tells (none where it tells none).
-use Rattle.std.specs.Prelude.{◌≡◌, ℕ, ◌≤◌, ◌⊎◌, List, Option, Some, None, Result, Ok, Err, IfSome, IsOkAnd, IsErrAnd}
+use Rattle.std.specs.Prelude.{◌≡◌, ℕ, ◌≤◌, ◌==◌, ◌||◌, ◌⊎◌, not, if◌then◌else◌, Bool, List, [], Option, Some, None, Result, Ok, Err, IfSome, IsOkAnd, IsErrAnd}
 use Rattle.io_edge.specs.Outside.{appended, IsPrefixGone}
 use Rattle.io_edge.specs.Asked.{Asked}
 use Rattle.command_line.specs.Words.{Command, generated, meant}
 use Rattle.guest_files.specs.Reads.{Files, Refusal, no_meaning, no_file, image_too_long, image_refused, disk_too_long}
 use Rattle.guest_files.specs.Reads.{disk_not_sectors, input_too_long, script_too_long, script_refused}
-use Rattle.guest_files.specs.Parts.{AreAsked, IsImageRefusal, IsDataRefusal, IsScriptRefusal, IsFaultOf, IsLoadOf, final_load, last_load, loads_of}
+use Rattle.guest_files.specs.Parts.{AreAsked, ArePartlyAsked, IsImageRefusal, IsDataRefusal, IsScriptRefusal, IsFaultOf, IsLoadOf, final_load, last_load, last_made, loads_of, up_to}
+use Rattle.guest_files.specs.declared.stop.TheConstants.{SCRIPT_LOAD}
+use Rattle.guest_files.specs.declared.stop.Stop.TheVariants.{ImageRefused, DataRefused}
 use Rattle.command_texts.specs.Text.{text}
 use Rattle.command_texts.specs.declared.status.Status.{Status}
 
@@ -31,10 +33,24 @@ abbrev pub IsFaultAsked : Option Command → ℕ → Asked → Asked → Type 0
 IsFaultAsked None load old new = ⊥
 IsFaultAsked (Some command) load old new = IsFaultOf (loads_of command) load old new
 
--- just the loads that the words ask for were made, each once and in their order
-abbrev pub AreLoaded : Option Command → Asked → Asked → Type 0
-AreLoaded None old new = ⊥
-AreLoaded (Some command) old new = AreAsked (loads_of command) old new
+-- just the loads that the words ask for were made up to the one of a number, each once and in their order
+abbrev pub AreLoaded : Option Command → ℕ → Asked → Asked → Type 0
+AreLoaded None last old new = ⊥
+AreLoaded (Some command) last old new = AreAsked (up_to last (loads_of command)) old new
+
+-- the first of the loads that the words ask for were made, however many, and none where they have no meaning
+abbrev pub ArePartlyLoaded : Option Command → Asked → Asked → Type 0
+ArePartlyLoaded None old new = AreAsked [] old new
+ArePartlyLoaded (Some command) old new = ArePartlyAsked (loads_of command) old new
+
+-- by its code, a command has read its files: all of them, or those up to the one that is too long
+abbrev pub has_read : ℕ → Bool
+has_read code = not (code == 1 || (code == 2 || code == 6))
+
+-- the last load that it has made then. No load has a higher number than that of the script
+abbrev pub last_read : Status → ℕ
+last_read s =
+    if s.code == 3 then last_made (ImageRefused s.first) else (if s.code == 4 then last_made (DataRefused s.first) else SCRIPT_LOAD)
 
 -- no check before this load refuses the files
 abbrev pub IsLoadReached : Option Command → Result (List ℕ) Refusal → ℕ → Type 0

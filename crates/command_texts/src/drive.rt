@@ -1,13 +1,13 @@
 //! The command `drive`: a guest's family is driven by a script.
 
-ghost use Rattle.std.specs.Prelude.{◌≡◌, ◌≤◌, [], ◌∷◌, length, vec_len, IfOk, OnOk};
+ghost use Rattle.std.specs.Prelude.{◌≡◌, ◌≤◌, [], ◌∷◌, length, vec_len, IfErr, IfOk};
 ghost use Rattle.std.specs.Option.{option_map};
 ghost use Rattle.drive_script.specs.Driven.{HasMachines};
 ghost use Rattle.drive_script.specs.Script.{script};
 ghost use Rattle.drive_script.specs.Steps.{Family};
 ghost use Rattle.io_edge.specs.Outside.{HasRisen};
 ghost use Rattle.command_line.specs.Words.{drive};
-ghost use Rattle.guest_files.specs.Parts.{AreAsked, Gives, IsFaultOf, IsLoadOf, Makes, load_of, loads_of};
+ghost use Rattle.guest_files.specs.Parts.{AreAsked, Gives, HasMade, IsFaultOf, IsLoadOf, Makes, StopsAt, load_of, loads_of};
 ghost use Rattle.command_texts.specs.Text.{drive_text, drive_with, lines_of, script_read, told_by};
 ghost use Rattle.command_texts.specs.Writes.{IsSilent, Writes};
 
@@ -34,7 +34,7 @@ pub fn drive_and_write<R: AllocGlobal + Wait, S: Shelf, K: Sink>(
         × IsFaultOf (loads_of (drive guest.now script.now)) load (S.asked shelf.old) (S.asked shelf.new))
         (HasRisen (K.faults sink.old) (K.faults sink.new)) ⊥
         (K.gone sink.old) (K.gone sink.new) result }
-    ensures loads { OnOk result (AreAsked (loads_of (drive guest.now script.now)) (S.asked shelf.old) (S.asked shelf.new)) }
+    ensures loads { HasMade (loads_of (drive guest.now script.now)) result (S.asked shelf.old) (S.asked shelf.new) }
     ensures silent { IsSilent result (sink.new ≡ sink.old) }
 {
     let text = drive_guest(rt, guest, script, shelf)?;
@@ -54,7 +54,7 @@ fn drive_guest<R: AllocGlobal + Wait, S: Shelf>(
     ensures gives { Gives SCRIPT_LOAD (λ load. IsLoadOf (drive guest.now script.now) load
         × HasRisen (S.faults shelf.old) (S.faults shelf.new) × IsFaultOf (loads_of (drive guest.now script.now)) load (S.asked shelf.old) (S.asked shelf.new))
         (option_map (drive_text guest.now script.now) (S.files shelf.old)) (λ text told. text.items ≡ told) result }
-    ensures loads { OnOk result (AreAsked (loads_of (drive guest.now script.now)) (S.asked shelf.old) (S.asked shelf.new)) }
+    ensures loads { HasMade (loads_of (drive guest.now script.now)) result (S.asked shelf.old) (S.asked shelf.new) }
 {
     let files = read_guest(rt.alloc(), guest, shelf)?;
     let text = load_script(rt.alloc(), script, shelf)?;
@@ -69,7 +69,8 @@ fn load_script<S: Shelf>(alloc: Global, name: &str, shelf: &mut S) -> Result<Vec
     ensures most { IfOk result (λ bytes. vec_len bytes ≤ MAX_SCRIPT) }
     ensures same { S.files shelf.new ≡ S.files shelf.old }
     ensures counts { S.faults shelf.old ≤ S.faults shelf.new }
-    ensures asked { OnOk result (AreAsked (load_of SCRIPT_LOAD name.now ∷ []) (S.asked shelf.old) (S.asked shelf.new)) }
+    ensures asked { AreAsked (load_of SCRIPT_LOAD name.now ∷ []) (S.asked shelf.old) (S.asked shelf.new) }
+    ensures stops { IfErr result (StopsAt SCRIPT_LOAD (Stop.ScriptRefused 0 SCRIPT_TOO_LONG)) }
 {
     let too_long = Stop::ScriptRefused {
         line: 0,

@@ -1,24 +1,26 @@
 //! A guest whose files are read is booted, and its family is run to its end, by workers on a board: until the root has ended, or
 //! no machine makes a step any more.
 
-ghost use Rattle.std.specs.Prelude.{◌≡◌, ◌⊎◌, ◌+◌, ◌<◌, ◌≤◌, length, map, vec_len};
+ghost use Rattle.std.specs.Prelude.{◌≡◌, ◌⊎◌, ◌+◌, ◌<◌, ◌≤◌, length, map, vec_len, IfErr, IfOk};
 ghost use Rattle.page_claims.specs.Calls.{fresh};
 ghost use Rattle.fork_board.specs.Passes.{HoldsNone};
 ghost use Rattle.board_ends.specs.Finishes.{AreDone, Finishes, IsStopped, IsStoppedElsewhere, WorkedAll};
 ghost use Rattle.board_ends.specs.Lost.{IsOneLost};
-ghost use Rattle.command_texts.specs.Seeded.{IfRun, all_seeded, seeded_for};
+ghost use Rattle.command_texts.specs.Seeded.{IfBefore, IfRun, all_seeded, seeded_for};
 ghost use Rattle.command_texts.specs.Text.{HasLines, guest_image};
 ghost use Rattle.command_texts.specs.Writes.{MakesOver};
+ghost use Rattle.snow_commands.specs.Claimed.{AreOfGuest, claimed_images, disk_pages};
 
 use command_line::{GuestWords, RunWords};
 use command_texts::{boot, outcome_of};
 use cow_disk::{PAGE_SECTORS, SECTOR_SIZE};
 use fork_board::{Board, Pass};
-use guest_files::{GuestFiles, Stop};
+use guest_files::{GuestFiles, MAX_DISK, Stop};
 use host_workers::{Finish, Gate, MAX_WORKERS, Settings, Site, run_hosts};
 use image_depot::Depot;
 use page_claims::{ClaimPass, Claims};
 use run_report::Outcome;
+use std::alloc::{AllocError, Global};
 use std::sync::Wait;
 use std::thread::Threads;
 use wire_fates::{Seeded, Wire};
@@ -49,16 +51,11 @@ pub fn run_files<R: AllocGlobal + Threads + Wait + Sync, W: Wire + Send, G: Gate
     ensures makes { MakesOver ((0 < guest.now.clones) × IsOneLost W.streak wires.new.items) (guest_image guest.now files.now)
         (HasLines guest.now files.now) result }
     ensures seeded { IfRun result (map W.seeds wires.new.items ≡ seeded_for plan.now.how.now (map W.seeds wires.old.items)) }
+    ensures untouched { IfErr result (λ stop. IfBefore stop (wires.new ≡ wires.old)) }
 {
     let depot = Depot::new(rt.alloc())?;
     let family = boot(rt.alloc(), guest, files, &depot)?;
-    let clones = guest.clones();
-    let images = if clones > 0 { CLAIMED_IMAGES } else { 0 };
-    let disk_pages = files
-        .disk()
-        .len()
-        .div_ceil(SECTOR_SIZE * PAGE_SECTORS as usize) as u32;
-    let (claims, claiming) = Claims::new(rt.alloc(), images, guest.pages(), disk_pages)?;
+    let (claims, claiming) = claims_of(rt.alloc(), guest, files)?;
     let (world, first) = family;
     let (board, pass) = Board::new(rt.alloc(), world, first, &depot)?;
     let site = Site {
@@ -68,16 +65,49 @@ pub fn run_files<R: AllocGlobal + Threads + Wait + Sync, W: Wire + Send, G: Gate
     };
     let workers = wires.len().min(plan.how.workers() as usize);
     let (working, _) = wires.split_at_mut(workers);
+    let clones = guest.clones();
     if clones > 0 {
-        let (pass, end) = run_seeded(rt, &site, pass, claiming, plan, working);
+        let (pass, end) = run_seeded(rt, guest, files, &site, pass, claiming, plan, working);
         return outcome_of(rt, board, pass, end);
     }
     seed_all(working, plan.how.seed());
     let mut unused = [Seeded::new()];
-    let (pass, end) = run_seeded(rt, &site, pass, claiming, plan, &mut unused);
+    let (pass, end) = run_seeded(rt, guest, files, &site, pass, claiming, plan, &mut unused);
     // The call tells that this wire is not lost.
     let _ = unused[0].streak();
     outcome_of(rt, board, pass, end)
+}
+
+/// The claims of a guest's family, which have a place for each page of its RAM and of its disk, and the first pass. Where no
+/// machine may be cloned no page of an image is fetched, and they have no image.
+fn claims_of(
+    alloc: Global,
+    guest: &GuestWords<'_>,
+    files: &GuestFiles,
+) -> Result<(Claims, ClaimPass), AllocError>
+    ensures claims { IfOk result (λ made. AreOfGuest guest.now files.now made.0) }
+    ensures pass { IfOk result (λ made. made.1 ≡ fresh made.0.table 65536) }
+{
+    let images = claimed_images(guest.clones());
+    let disk_pages = disk_pages(files.disk().len());
+    Claims::new(alloc, images, guest.pages(), disk_pages)
+}
+
+/// How many images have claims, where so many machines may be cloned.
+fn claimed_images(clones: u32) -> u32
+    ensures value { result ≡ claimed_images clones }
+    ensures most { result ≤ CLAIMED_IMAGES }
+{
+    if clones > 0 { CLAIMED_IMAGES } else { 0 }
+}
+
+/// How many pages a disk of so many bytes has.
+fn disk_pages(bytes: usize) -> u32
+    requires { bytes ≤ MAX_DISK }
+    ensures value { result ≡ disk_pages bytes }
+    ensures most { result ≤ 1024 }
+{
+    bytes.div_ceil(SECTOR_SIZE * PAGE_SECTORS as usize) as u32
 }
 
 /// Seeds each wire.
@@ -91,9 +121,11 @@ fn seed_all<W: Wire>(wires: &mut [W], seed: u32)
 }
 
 /// Gives each wire the seed of the words, and lets a worker for each of them work on a board, until the root has ended, the
-/// world was stopped, or no machine makes a step any more.
+/// world was stopped, or no machine makes a step any more. The claims are those of this guest.
 fn run_seeded<R: AllocGlobal + Threads + Wait + Sync, W: Wire + Send, G: Gate + Sync>(
     rt: &R,
+    guest: &GuestWords<'_>,
+    files: &GuestFiles,
     site: &Site<'_>,
     pass: Pass,
     claiming: ClaimPass,
@@ -102,6 +134,7 @@ fn run_seeded<R: AllocGlobal + Threads + Wait + Sync, W: Wire + Send, G: Gate + 
 ) -> (Pass, Finish)
     requires board { pass.board ≡ site.now.board.now }
     requires claims { claiming ≡ fresh site.now.claims.now.table 65536 }
+    requires claimed { AreOfGuest guest.now files.now site.now.claims.now }
     requires none { HoldsNone pass }
     requires wires { (1 ≤ length wires.old) × (length wires.old ≤ MAX_WORKERS) }
     requires parts { length pass.number < 3 }

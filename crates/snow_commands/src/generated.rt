@@ -1,11 +1,11 @@
 //! The command `self`: the family of a guest that is generated from a seed is run to its end.
 
-ghost use Rattle.std.specs.Prelude.{◌≡◌, ◌<◌, ◌≤◌, map, vec_len, OnErr, OnOk};
+ghost use Rattle.std.specs.Prelude.{◌≡◌, ◌<◌, ◌≤◌, map, vec_len, IfErr, OnErr, OnOk};
 ghost use Rattle.io_edge.specs.Outside.{HasRisen, IsPrefixGone, appended};
 ghost use Rattle.run_report.specs.Summary.{summary_of};
 ghost use Rattle.board_ends.specs.Lost.{IsOneLost};
 ghost use Rattle.command_line.specs.Words.{generated_how};
-ghost use Rattle.command_texts.specs.Seeded.{IfRun, seeded_for};
+ghost use Rattle.command_texts.specs.Seeded.{IfBefore, IfRun, seeded_for};
 ghost use Rattle.command_texts.specs.Text.{generated_text};
 ghost use Rattle.command_texts.specs.Writes.{IsSilent, WritesFileless};
 
@@ -32,6 +32,7 @@ pub fn run_and_sum_up<
     ensures writes { WritesFileless (generated_text words.now) (HasRisen (K.faults sink.old) (K.faults sink.new))
         (IsOneLost W.streak wires.new.items) (K.gone sink.old) (K.gone sink.new) result }
     ensures seeded { IfRun result (map W.seeds wires.new.items ≡ seeded_for (generated_how words.now.workers) (map W.seeds wires.old.items)) }
+    ensures untouched { IfErr result (λ stop. IfBefore stop (wires.new ≡ wires.old)) }
     ensures silent { IsSilent result (sink.new ≡ sink.old) }
 {
     let files = generated_files(rt.alloc(), words.seed())?;

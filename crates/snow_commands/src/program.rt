@@ -1,15 +1,15 @@
 //! What the program does with its words.
 
-ghost use Rattle.std.specs.Prelude.{◌≡◌, ◌↔◌, ◌<◌, ◌≤◌, true, None, OnOk, vec_len};
+ghost use Rattle.std.specs.Prelude.{◌≡◌, ◌↔◌, ◌<◌, ◌≤◌, true, None, IfErr, vec_len};
 ghost use Rattle.io_edge.specs.Outside.{HasRisen};
 ghost use Rattle.command_line.specs.Commands.{meaning};
 ghost use Rattle.command_line.specs.Words.{meant, texts};
-ghost use Rattle.guest_files.specs.Parts.{AreAsked, IsDataRefusal, IsFaultOf, IsImageRefusal, IsScriptRefusal, loads_of};
+ghost use Rattle.guest_files.specs.Parts.{HasMade, IsDataRefusal, IsFaultOf, IsImageRefusal, IsScriptRefusal, loads_of};
 ghost use Rattle.command_texts.specs.Lost.{IsLost, IsLostIn};
-ghost use Rattle.command_texts.specs.Seeded.{AreSeeded, AreSeededIn, IfRun, is_run};
+ghost use Rattle.command_texts.specs.Seeded.{AreSeeded, AreSeededIn, IfBefore, IfRun, is_before, is_run};
 ghost use Rattle.command_texts.specs.Writes.{IsGenerated, IsSilent, IsUnrefused, Writes};
-ghost use Rattle.command_texts.specs.Status.{AreLoaded, Completes, IsFaultAsked, IsFileless, IsLoadAsked, IsPrefixOut};
-ghost use Rattle.command_texts.specs.Status.{IsReached, IsRefused, IsStatus, IsWritten};
+ghost use Rattle.command_texts.specs.Status.{AreLoaded, ArePartlyLoaded, Completes, IsFaultAsked, IsFileless, IsLoadAsked, IsPrefixOut};
+ghost use Rattle.command_texts.specs.Status.{IsReached, IsRefused, IsStatus, IsWritten, has_read, last_read};
 
 use crate::family::Plan;
 use crate::generated::run_and_sum_up;
@@ -41,10 +41,15 @@ pub fn snow<
     // what the script tells of that family, line by line.
     ensures written { result.code ≡ 0 → IsWritten (S.files shelf.old) (texts words.now) (K.gone sink.old) (K.gone sink.new) }
 
-    // Just the loads that the words ask for were made. And on codes 0, 5 and 7 the wires were given the seed of the
-    // words, once, as many as there are workers to be, or all where there are fewer.
-    ensures loads { result.code ≡ 0 → AreLoaded (meant (texts words.now)) (S.asked shelf.old) (S.asked shelf.new) }
+    // Just the loads that the words ask for were made, each once and in their order: on codes 0, 5, 7 and 8 all of them, and
+    // on 3 and 4 those up to the file that is too long, or all. On every code no more than the first of them were made.
+    ensures loads { has_read result.code ≡ true → AreLoaded (meant (texts words.now)) (last_read result) (S.asked shelf.old) (S.asked shelf.new) }
+    ensures first_loads { ArePartlyLoaded (meant (texts words.now)) (S.asked shelf.old) (S.asked shelf.new) }
+
+    // On codes 0, 5 and 7 the wires were given the seed of the words, once, as many as there are workers to be, or all where
+    // there are fewer. On 1, 2, 3, 4 and 8 they are as they were.
     ensures seeded { is_run result.code ≡ true → AreSeeded (meant (texts words.now)) W.seeds wires.old.items wires.new.items }
+    ensures untouched { is_before result.code ≡ true → wires.new ≡ wires.old }
 
     // 1: only where the shelf had a fault, in a load that the words ask for and no earlier check
     // forestalls. It is that of the last load that was asked for.
@@ -119,8 +124,9 @@ fn write_text<
         (λ load. HasRisen (S.faults shelf.old) (S.faults shelf.new) × IsFaultOf (loads_of (meaning command.now)) load (S.asked shelf.old) (S.asked shelf.new))
         (HasRisen (K.faults sink.old) (K.faults sink.new)) (IsLostIn (meaning command.now) W.streak wires.new.items)
         (K.gone sink.old) (K.gone sink.new) result }
-    ensures loads { OnOk result (AreAsked (loads_of (meaning command.now)) (S.asked shelf.old) (S.asked shelf.new)) }
+    ensures loads { HasMade (loads_of (meaning command.now)) result (S.asked shelf.old) (S.asked shelf.new) }
     ensures seeded { IfRun result (AreSeededIn (meaning command.now) W.seeds wires.old.items wires.new.items) }
+    ensures untouched { IfErr result (λ stop. IfBefore stop (wires.new ≡ wires.old)) }
     ensures fileless { IsGenerated (meaning command.now) → (shelf.new ≡ shelf.old) × IsUnrefused result }
     ensures silent { IsSilent result (sink.new ≡ sink.old) }
 {

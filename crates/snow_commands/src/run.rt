@@ -1,12 +1,12 @@
 //! The command `run`: a guest's family is run to its end.
 
-ghost use Rattle.std.specs.Prelude.{◌≡◌, ◌<◌, ◌≤◌, map, OnErr, OnOk, vec_len};
+ghost use Rattle.std.specs.Prelude.{◌≡◌, ◌<◌, ◌≤◌, map, IfErr, OnErr, OnOk, vec_len};
 ghost use Rattle.io_edge.specs.Outside.{HasRisen, IsPrefixGone, appended};
 ghost use Rattle.run_report.specs.Report.{report_of};
 ghost use Rattle.command_line.specs.Words.{run};
-ghost use Rattle.guest_files.specs.Parts.{AreAsked, IsFaultOf, guest_loads, loads_of};
+ghost use Rattle.guest_files.specs.Parts.{HasMade, IsFaultOf, guest_loads, loads_of};
 ghost use Rattle.command_texts.specs.Lost.{IsLostIn};
-ghost use Rattle.command_texts.specs.Seeded.{IfRun, seeded_for};
+ghost use Rattle.command_texts.specs.Seeded.{IfBefore, IfRun, seeded_for};
 ghost use Rattle.command_texts.specs.Writes.{IsSilent, Writes};
 
 use crate::family::{Plan, run_files};
@@ -41,8 +41,9 @@ pub fn run_and_report<
         × IsFaultOf (loads_of (run guest.now plan.now.how.now)) load (S.asked shelf.old) (S.asked shelf.new))
         (HasRisen (K.faults sink.old) (K.faults sink.new)) (IsLostIn (run guest.now plan.now.how.now) W.streak wires.new.items)
         (K.gone sink.old) (K.gone sink.new) result }
-    ensures loads { OnOk result (AreAsked (guest_loads guest.now) (S.asked shelf.old) (S.asked shelf.new)) }
+    ensures loads { HasMade (guest_loads guest.now) result (S.asked shelf.old) (S.asked shelf.new) }
     ensures seeded { IfRun result (map W.seeds wires.new.items ≡ seeded_for plan.now.how.now (map W.seeds wires.old.items)) }
+    ensures untouched { IfErr result (λ stop. IfBefore stop (wires.new ≡ wires.old)) }
     ensures silent { IsSilent result (sink.new ≡ sink.old) }
 {
     let files = read_guest(rt.alloc(), guest, shelf)?;

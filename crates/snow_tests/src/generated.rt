@@ -1,15 +1,14 @@
 //! What `self` writes of the guest of seed 1, by some workers and by several at once.
 
 use crate::equal::{are_equal, succeeds};
+use crate::meeting::Meeting;
 use crate::tests::{answer_of, words_of};
-use crossbeam_utils::Backoff;
-use host_workers::{Gate, OpenGate, Point};
+use host_workers::{Gate, OpenGate};
 use io_edge::{MemShelf, MemSink};
 use snow_commands::Status;
 use std::alloc::Global;
 use std::process::Abort;
 use std::sync::Wait;
-use std::sync::atomic::{AtomicU64, Ordering};
 use std::thread::Threads;
 use wire_fates::Seeded;
 
@@ -18,58 +17,6 @@ use wire_fates::Seeded;
 #[rattlefmt::skip]
 static LINE: &[u8] =
     b"self 1 machines 21 steps 77581 exits 55940547 killed 20 out 1298\n";
-
-/// How often a worker looks for the others, at most. Each time it leaves others the processor.
-const MAX_LOOKS: u32 = 1_000_000;
-
-/// What holds each worker at the first child of the root that it takes, until so many have taken one.
-#[derive(Drop)]
-struct Meeting {
-    wanted: u32,
-    /// A bit for each that has come.
-    came: AtomicU64,
-    /// How many waited in vain.
-    alone: AtomicU64,
-}
-
-impl Meeting {
-    fn new(wanted: u32) -> Meeting {
-        Meeting {
-            wanted,
-            came: AtomicU64::new(0),
-            alone: AtomicU64::new(0),
-        }
-    }
-
-    fn is_met(&self) -> bool {
-        self.came.load(Ordering::SeqCst).count_ones() >= self.wanted
-    }
-
-    /// Whether they have met, and nobody waited in vain.
-    fn was_held(&self) -> bool {
-        self.is_met() && self.alone.load(Ordering::SeqCst) == 0
-    }
-
-    fn wait(&self) {
-        let backoff = Backoff::new();
-        for _ in 0..MAX_LOOKS {
-            if self.is_met() {
-                return;
-            }
-            backoff.snooze();
-        }
-        self.alone.fetch_add(1, Ordering::SeqCst);
-    }
-}
-
-impl Gate for Meeting {
-    fn at<R: Wait>(&self, _rt: &R, worker: u32, point: Point) {
-        let bit = 1u64 << (worker % 64);
-        if matches!(point, Point::Took(1)) && self.came.fetch_or(bit, Ordering::SeqCst) & bit == 0 {
-            self.wait();
-        }
-    }
-}
 
 /// So many wires that give each reply.
 pub(crate) fn wires_of(rt: &impl Abort, alloc: Global, count: usize) -> Vec<Seeded> {

@@ -11,6 +11,8 @@ mod handed;
 #[cfg(test)]
 mod hostile;
 #[cfg(test)]
+mod meeting;
+#[cfg(test)]
 mod numbers;
 #[cfg(test)]
 mod seeds;
@@ -18,5 +20,7 @@ mod seeds;
 mod siblings;
 #[cfg(test)]
 mod tests;
+#[cfg(test)]
+mod together;
 #[cfg(test)]
 mod workers;

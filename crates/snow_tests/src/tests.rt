@@ -28,7 +28,7 @@ static TWO_CHILDREN: [u32; 25] = [
 ];
 
 /// Its report, where it gets its children.
-static TWO_CHILDREN_REPORT: &[u8] =
+pub(crate) static TWO_CHILDREN_REPORT: &[u8] =
     b"machine 0 exit 41 steps 21 out 0\n\nmachine 0.1.1 exit 41 steps 16 out 0\n\nmachine 0.1.2 exit 42 steps 16 out 0\n\n";
 
 /// The words of a command line.
@@ -104,10 +104,17 @@ fn wires_of(rt: &impl Abort, alloc: Global, wires: Wires) -> Vec<Scripted> {
     all
 }
 
+/// A sink that takes so many bytes a put. Its put of this number fails.
+fn sink_that_takes(rt: &impl Abort, alloc: Global, most: usize, fails: u64) -> MemSink
+    requires { 1 ≤ most }
+{
+    let faults = succeeds(rt, vec![in alloc; fails]);
+    succeeds(rt, MemSink::new(alloc, most, 1000, faults))
+}
+
 /// A sink that takes seven bytes a put. Its put of this number fails.
 pub(crate) fn sink_of(rt: &impl Abort, alloc: Global, fails: u64) -> MemSink {
-    let faults = succeeds(rt, vec![in alloc; fails]);
-    succeeds(rt, MemSink::new(alloc, 7, 1000, faults))
+    sink_that_takes(rt, alloc, 7, fails)
 }
 
 /// The words of a command line, and all that it is run over.
@@ -391,6 +398,12 @@ fn two_children(rt: &impl Abort, alloc: Global) -> Vec<u8> {
     succeeds(rt, elf_of(alloc, RAM_BASE, &TWO_CHILDREN))
 }
 
+/// A shelf with it, and a script that is empty.
+pub(crate) fn shelf_of_two(rt: &impl Abort, alloc: Global) -> MemShelf {
+    let image = two_children(rt, alloc);
+    shelf_of(rt, alloc, &image, b"", 0)
+}
+
 #[test]
 fn loses_its_wire(rt: HostRuntime) {
     let image = two_children(&rt, rt.alloc());
@@ -441,4 +454,21 @@ fn stops_at_each_put(rt: HostRuntime) {
     for fails in 1..=16u64 {
         stops_at_put(&rt, &image, fails);
     }
+}
+
+/// Expects code 5, and the first ten bytes of the report.
+fn compare_ten<R: Abort>(rt: &R, found: &Status, sink: &MemSink) {
+    let ten: &[u8] = b"machine 0 ";
+    are_equal(rt, &(found.code, sink.bytes()), &(5, ten));
+}
+
+// A sink that takes ten bytes a put, and fails at the second. No put comes after the one that failed.
+#[test]
+fn stops_at_the_second_put(rt: HostRuntime) {
+    let words = words_of(&rt, rt.alloc(), "run guest");
+    let mut shelf = shelf_with(&rt, rt.alloc());
+    let mut sink = sink_that_takes(&rt, rt.alloc(), 10, 2);
+    let mut wires = wires_of(&rt, rt.alloc(), GIVING);
+    let found = answer_of(&rt, &words, &mut shelf, &mut sink, &mut wires, &OpenGate);
+    compare_ten(&rt, &found, &sink);
 }

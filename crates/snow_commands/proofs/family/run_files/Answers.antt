@@ -1,15 +1,16 @@
-use Rattle.std.proofs.Common.{◌<◌, ◌≤◌, ◌++◌, drop, length, map, min, sym, ap, ap₂, ◌∙◌, subst, arith}
+use Rattle.std.proofs.Common.{◌<◌, ◌≤◌, ◌++◌, drop, length, map, min, refl, sym, ap, ap₂, ◌∙◌, subst, arith}
 use Rattle.std.proofs.lemmas.List.{append_assoc}
+use Rattle.std.proofs.lemmas.Result.{err_from_is_err_and}
 use Rattle.command_texts.specs.Seeded.{all_seeded}
 use Rattle.command_texts.specs.Text.{guest_image}
 use Rattle.command_texts.proofs.Booted.{family-ends}
 use Rattle.command_texts.proofs.First.{first-blames, first-lines, only-kept}
-use Rattle.command_texts.proofs.Seeding.{always-run, lent-given}
+use Rattle.command_texts.proofs.Seeding.{always-run, before-all, lent-given, run-after}
 use Rattle.command_texts.proofs.TextLemmas.{part-lost}
 use Rattle.snow_commands.proofs.family.run_files.Goals as goal
 
-pub returns-then-clones-gt0-2-clause-makes : goal.returns-then-clones-gt0-2-clause-makes
-returns-then-clones-gt0-2-clause-makes g c =
+pub returns-then-clones-gt0-clause-makes : goal.returns-then-clones-gt0-clause-makes
+returns-then-clones-gt0-clause-makes g c =
     let made = c.in_ok-family.family in
     let ran = c.run_seeded-pass in
     let part = ran.new.wires in
@@ -24,13 +25,13 @@ returns-then-clones-gt0-2-clause-makes g c =
     c.in_ok-board.ensures.pass ran.ensures.worked c.outcome_of.ensures.lines)
     c.outcome_of.ensures.stop
     (λ stopped. (
-      subst (λ n. 0 < n) c.clones-clones.ensures.value c.if-clones-gt0-2.true,
+      subst (λ n. 0 < n) c.clones-clones.ensures.value c.if-clones-gt0.true,
       part-lost g.W.Wire.streak part (rest ++ tail) ((part ++ rest) ++ tail) count (append_assoc part rest tail) few
           (first-blames c.in_ok-board.board c.in_ok-board.pass ran.result.0 c.in_ok-board.ensures.pass (ran.ensures.wire stopped)),
     ))
 
-pub returns-then-clones-gt0-2-clause-seeded : goal.returns-then-clones-gt0-2-clause-seeded
-returns-then-clones-gt0-2-clause-seeded g c =
+pub returns-then-clones-gt0-clause-seeded : goal.returns-then-clones-gt0-clause-seeded
+returns-then-clones-gt0-clause-seeded g c =
     let split = c.split_at_mut-working in
     let lent = c.deref_mut.ensures in
     let count = sym lent.len ∙ ap length lent.value in
@@ -63,3 +64,14 @@ returns-clause-seeded g c =
     (lent-given g.W.Wire.seeds c.args.plan.now.how.now c.args.wires.now.items split.result.0.now split.result.1.now c.seed_all.new.wires
     c.args.wires.now.len count (sym lent.value ∙ split.ensures.value) many c.seed_all.ensures.len
     (c.seed_all.ensures.seeded ∙ ap (λ n. all_seeded n (map g.W.Wire.seeds split.result.0.now)) c.seed.ensures))
+
+pub returns-in_err-family-clause-untouched : goal.returns-in_err-family-clause-untouched
+returns-in_err-family-clause-untouched g c =
+    let p = err_from_is_err_and c.from_residual-in_err-family.result c.from_residual-in_err-family.ensures.1 in
+    rw (p.1, p.2) (before-all c.in_err-family.field-0.0 _ refl)
+
+pub returns-then-clones-gt0-clause-untouched : goal.returns-then-clones-gt0-clause-untouched
+returns-then-clones-gt0-clause-untouched g c = run-after c.outcome_of.result _ _ c.outcome_of.ensures.stop
+
+pub returns-clause-untouched : goal.returns-clause-untouched
+returns-clause-untouched g c = run-after c.outcome_of-2.result _ _ c.outcome_of-2.ensures.stop

@@ -60,3 +60,8 @@ returns-clause-writes g c =
           (c.in_ok-files.ensures ∙ ap generated_files c.seed.ensures) c.in_ok-outcome.ensures.makes)
           (subst (λ seed. gone (summary_of seed outcome)) c.seed-2.ensures c.write_summary.ensures.prefix),
     )
+
+pub returns-in_err-outcome-clause-untouched : goal.returns-in_err-outcome-clause-untouched
+returns-in_err-outcome-clause-untouched g c =
+    let p = err_from_is_err_and c.from_residual-in_err-outcome.result c.from_residual-in_err-outcome.ensures.1 in
+    rw (p.1, p.2) c.in_err-outcome.ensures.untouched

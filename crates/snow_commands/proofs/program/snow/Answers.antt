@@ -2,10 +2,10 @@ use Rattle.std.proofs.Common.{Err, ap, subst, ◌∙◌}
 use Rattle.guest_files.specs.Parts.{IsFaultOf, loads_of}
 use Rattle.command_line.specs.Commands.{meaning}
 use Rattle.command_texts.specs.Lost.{IsLost}
-use Rattle.command_texts.specs.Status.{AreLoaded, IsFaultAsked, IsLoadAsked}
+use Rattle.command_texts.specs.Status.{IsFaultAsked, IsLoadAsked}
 use Rattle.command_texts.specs.Seeded.{AreSeeded}
 use Rattle.command_texts.proofs.Codes.{completed, ends-at-load, ends-fileless, means, reached}
-use Rattle.command_texts.proofs.Seeding.{ends-ok, ends-run}
+use Rattle.command_texts.proofs.Seeding.{ends-before, ends-first, ends-read, ends-run}
 use Rattle.snow_commands.proofs.program.snow.Goals as goal
 
 pub returns-in-Ok-clause-complete : goal.returns-in-Ok-clause-complete
@@ -125,12 +125,6 @@ pub returns-in-Err-Memory-clause-fileless : goal.returns-in-Err-Memory-clause-fi
 returns-in-Err-Memory-clause-fileless g c =
     (ends-fileless (meaning c.in-Ok-Some.command) (c.in-Err-Memory.is ∙ ap Err c.in-Err-Memory.field-0-is) (means c.in-Ok-Some.field-0-is c.in-Ok-Some.ensures) c.write_text.ensures.fileless)
 
-pub returns-in-Ok-clause-loads : goal.returns-in-Ok-clause-loads
-returns-in-Ok-clause-loads g c = λ code.
-    ends-ok (λ m. AreLoaded m (g.S.Shelf.asked c.args.shelf.now) (g.S.Shelf.asked c.write_text.new.shelf)) (meaning c.in-Ok-Some.command) c.in-Ok.is
-    (means c.in-Ok-Some.field-0-is c.in-Ok-Some.ensures)
-    c.write_text.ensures.loads
-
 pub returns-in-Ok-clause-seeded : goal.returns-in-Ok-clause-seeded
 returns-in-Ok-clause-seeded g c =
     rw c.new.ensures
@@ -172,3 +166,104 @@ returns-in-Err-Wire-clause-seeded g c =
     rw c.new-in-Err-Wire.ensures
     (ends-run (λ m. AreSeeded m g.W.Wire.seeds c.args.wires.now.items c.write_text.new.wires.items) (meaning c.in-Ok-Some.command)
     (c.in-Err-Wire.is ∙ ap Err c.in-Err-Wire.field-0-is) (means c.in-Ok-Some.field-0-is c.in-Ok-Some.ensures) c.write_text.ensures.seeded)
+
+pub returns-in-Ok-clause-loads : goal.returns-in-Ok-clause-loads
+returns-in-Ok-clause-loads g c =
+    rw c.new.ensures
+    (ends-read _ _ (meaning c.in-Ok-Some.command)
+    c.in-Ok.is (means c.in-Ok-Some.field-0-is c.in-Ok-Some.ensures) c.write_text.ensures.loads)
+
+pub returns-in-Ok-clause-untouched : goal.returns-in-Ok-clause-untouched
+returns-in-Ok-clause-untouched g c = rw c.new.ensures (ends-before c.in-Ok.is c.write_text.ensures.untouched)
+
+pub returns-in-Err-ReadFault-clause-loads : goal.returns-in-Err-ReadFault-clause-loads
+returns-in-Err-ReadFault-clause-loads g c =
+    rw c.new-in-Err-ReadFault.ensures
+    (ends-read _ _ (meaning c.in-Ok-Some.command)
+    (c.in-Err-ReadFault.is ∙ ap Err c.in-Err-ReadFault.field-0-is) (means c.in-Ok-Some.field-0-is c.in-Ok-Some.ensures) c.write_text.ensures.loads)
+
+pub returns-in-Err-ReadFault-clause-untouched : goal.returns-in-Err-ReadFault-clause-untouched
+returns-in-Err-ReadFault-clause-untouched g c =
+    rw c.new-in-Err-ReadFault.ensures (ends-before (c.in-Err-ReadFault.is ∙ ap Err c.in-Err-ReadFault.field-0-is) c.write_text.ensures.untouched)
+
+pub returns-in-Err-ImageRefused-clause-loads : goal.returns-in-Err-ImageRefused-clause-loads
+returns-in-Err-ImageRefused-clause-loads g c =
+    rw c.new-in-Err-ImageRefused.ensures
+    (ends-read _ _ (meaning c.in-Ok-Some.command)
+    (c.in-Err-ImageRefused.is ∙ ap Err c.in-Err-ImageRefused.field-0-is) (means c.in-Ok-Some.field-0-is c.in-Ok-Some.ensures) c.write_text.ensures.loads)
+
+pub returns-in-Err-ImageRefused-clause-untouched : goal.returns-in-Err-ImageRefused-clause-untouched
+returns-in-Err-ImageRefused-clause-untouched g c =
+    rw c.new-in-Err-ImageRefused.ensures (ends-before (c.in-Err-ImageRefused.is ∙ ap Err c.in-Err-ImageRefused.field-0-is) c.write_text.ensures.untouched)
+
+pub returns-in-Err-DataRefused-clause-loads : goal.returns-in-Err-DataRefused-clause-loads
+returns-in-Err-DataRefused-clause-loads g c =
+    rw c.new-in-Err-DataRefused.ensures
+    (ends-read _ _ (meaning c.in-Ok-Some.command)
+    (c.in-Err-DataRefused.is ∙ ap Err c.in-Err-DataRefused.field-0-is) (means c.in-Ok-Some.field-0-is c.in-Ok-Some.ensures) c.write_text.ensures.loads)
+
+pub returns-in-Err-DataRefused-clause-untouched : goal.returns-in-Err-DataRefused-clause-untouched
+returns-in-Err-DataRefused-clause-untouched g c =
+    rw c.new-in-Err-DataRefused.ensures (ends-before (c.in-Err-DataRefused.is ∙ ap Err c.in-Err-DataRefused.field-0-is) c.write_text.ensures.untouched)
+
+pub returns-in-Err-ScriptRefused-clause-loads : goal.returns-in-Err-ScriptRefused-clause-loads
+returns-in-Err-ScriptRefused-clause-loads g c =
+    rw c.of_script.ensures
+    (ends-read _ _ (meaning c.in-Ok-Some.command)
+    (c.in-Err-ScriptRefused.is ∙ ap Err c.in-Err-ScriptRefused.field-0-is) (means c.in-Ok-Some.field-0-is c.in-Ok-Some.ensures) c.write_text.ensures.loads)
+
+pub returns-in-Err-ScriptRefused-clause-untouched : goal.returns-in-Err-ScriptRefused-clause-untouched
+returns-in-Err-ScriptRefused-clause-untouched g c =
+    rw c.of_script.ensures (ends-before (c.in-Err-ScriptRefused.is ∙ ap Err c.in-Err-ScriptRefused.field-0-is) c.write_text.ensures.untouched)
+
+pub returns-in-Err-WriteFault-clause-loads : goal.returns-in-Err-WriteFault-clause-loads
+returns-in-Err-WriteFault-clause-loads g c =
+    rw c.new-in-Err-WriteFault.ensures
+    (ends-read _ _ (meaning c.in-Ok-Some.command)
+    (c.in-Err-WriteFault.is ∙ ap Err c.in-Err-WriteFault.field-0-is) (means c.in-Ok-Some.field-0-is c.in-Ok-Some.ensures) c.write_text.ensures.loads)
+
+pub returns-in-Err-WriteFault-clause-untouched : goal.returns-in-Err-WriteFault-clause-untouched
+returns-in-Err-WriteFault-clause-untouched g c =
+    rw c.new-in-Err-WriteFault.ensures (ends-before (c.in-Err-WriteFault.is ∙ ap Err c.in-Err-WriteFault.field-0-is) c.write_text.ensures.untouched)
+
+pub returns-in-Err-Wire-clause-loads : goal.returns-in-Err-Wire-clause-loads
+returns-in-Err-Wire-clause-loads g c =
+    rw c.new-in-Err-Wire.ensures
+    (ends-read _ _ (meaning c.in-Ok-Some.command)
+    (c.in-Err-Wire.is ∙ ap Err c.in-Err-Wire.field-0-is) (means c.in-Ok-Some.field-0-is c.in-Ok-Some.ensures) c.write_text.ensures.loads)
+
+pub returns-in-Err-Wire-clause-untouched : goal.returns-in-Err-Wire-clause-untouched
+returns-in-Err-Wire-clause-untouched g c =
+    rw c.new-in-Err-Wire.ensures (ends-before (c.in-Err-Wire.is ∙ ap Err c.in-Err-Wire.field-0-is) c.write_text.ensures.untouched)
+
+pub returns-in-Ok-clause-first_loads : goal.returns-in-Ok-clause-first_loads
+returns-in-Ok-clause-first_loads g c =
+    ends-first _ _ (meaning c.in-Ok-Some.command) c.write_text.result (means c.in-Ok-Some.field-0-is c.in-Ok-Some.ensures) c.write_text.ensures.loads
+
+pub returns-in-Err-ReadFault-clause-first_loads : goal.returns-in-Err-ReadFault-clause-first_loads
+returns-in-Err-ReadFault-clause-first_loads g c =
+    ends-first _ _ (meaning c.in-Ok-Some.command) c.write_text.result (means c.in-Ok-Some.field-0-is c.in-Ok-Some.ensures) c.write_text.ensures.loads
+
+pub returns-in-Err-ImageRefused-clause-first_loads : goal.returns-in-Err-ImageRefused-clause-first_loads
+returns-in-Err-ImageRefused-clause-first_loads g c =
+    ends-first _ _ (meaning c.in-Ok-Some.command) c.write_text.result (means c.in-Ok-Some.field-0-is c.in-Ok-Some.ensures) c.write_text.ensures.loads
+
+pub returns-in-Err-DataRefused-clause-first_loads : goal.returns-in-Err-DataRefused-clause-first_loads
+returns-in-Err-DataRefused-clause-first_loads g c =
+    ends-first _ _ (meaning c.in-Ok-Some.command) c.write_text.result (means c.in-Ok-Some.field-0-is c.in-Ok-Some.ensures) c.write_text.ensures.loads
+
+pub returns-in-Err-ScriptRefused-clause-first_loads : goal.returns-in-Err-ScriptRefused-clause-first_loads
+returns-in-Err-ScriptRefused-clause-first_loads g c =
+    ends-first _ _ (meaning c.in-Ok-Some.command) c.write_text.result (means c.in-Ok-Some.field-0-is c.in-Ok-Some.ensures) c.write_text.ensures.loads
+
+pub returns-in-Err-WriteFault-clause-first_loads : goal.returns-in-Err-WriteFault-clause-first_loads
+returns-in-Err-WriteFault-clause-first_loads g c =
+    ends-first _ _ (meaning c.in-Ok-Some.command) c.write_text.result (means c.in-Ok-Some.field-0-is c.in-Ok-Some.ensures) c.write_text.ensures.loads
+
+pub returns-in-Err-Wire-clause-first_loads : goal.returns-in-Err-Wire-clause-first_loads
+returns-in-Err-Wire-clause-first_loads g c =
+    ends-first _ _ (meaning c.in-Ok-Some.command) c.write_text.result (means c.in-Ok-Some.field-0-is c.in-Ok-Some.ensures) c.write_text.ensures.loads
+
+pub returns-in-Err-Memory-clause-first_loads : goal.returns-in-Err-Memory-clause-first_loads
+returns-in-Err-Memory-clause-first_loads g c =
+    ends-first _ _ (meaning c.in-Ok-Some.command) c.write_text.result (means c.in-Ok-Some.field-0-is c.in-Ok-Some.ensures) c.write_text.ensures.loads

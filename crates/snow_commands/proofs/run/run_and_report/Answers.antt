@@ -3,10 +3,13 @@ use Rattle.std.proofs.lemmas.Result.{err_from_is_err_and}
 use Rattle.io_edge.specs.Outside.{HasRisen, IsPrefixGone, appended}
 use Rattle.board_ends.specs.Lost.{IsOneLost}
 use Rattle.guest_files.specs.Parts.{IsFaultOf, IsGuestLoad, guest_loads}
+use Rattle.guest_files.specs.declared.stop.Stop.TheVariants.{WriteFault}
+use Rattle.guest_files.proofs.PartLemmas.{made-all, to-all}
 use Rattle.run_report.specs.Report.{Ended as Outcome, report, report_of}
 use Rattle.run_report.proofs.Begin.{outcome-report}
+use Rattle.command_texts.proofs.Late.{run-late}
 use Rattle.command_texts.proofs.Made.{family-made, stop-silent}
-use Rattle.command_texts.proofs.Seeding.{stop-same, stops-unrun}
+use Rattle.command_texts.proofs.Seeding.{before-all, stop-same, stops-unrun}
 use Rattle.command_texts.proofs.TextLemmas.{over-gives, over-writes, run-stops, stops-writes, text-then}
 use Rattle.snow_commands.proofs.run.run_and_report.Goals as goal
 
@@ -87,3 +90,29 @@ returns-clause-writes g c =
           (family-made report report_of outcome-report lost guest c.in_ok-files.files (Ok outcome) c.in_ok-outcome.ensures.makes))
           c.write_report.ensures.prefix,
     )
+
+pub returns-in_err-files-clause-loads : goal.returns-in_err-files-clause-loads
+returns-in_err-files-clause-loads g c =
+    let p = err_from_is_err_and c.from_residual.result c.from_residual.ensures.1 in
+    rw (p.1, p.2) c.in_err-files.ensures.asked
+
+pub returns-in_err-files-clause-untouched : goal.returns-in_err-files-clause-untouched
+returns-in_err-files-clause-untouched g c =
+    let p = err_from_is_err_and c.from_residual.result c.from_residual.ensures.1 in
+    rw (p.1, p.2) (before-all c.in_err-files.field-0.0 _ refl)
+
+pub returns-in_err-outcome-clause-loads : goal.returns-in_err-outcome-clause-loads
+returns-in_err-outcome-clause-loads g c =
+    let guest = c.args.guest.now in
+    let stop = c.in_err-outcome.field-0.0 in
+    let p = err_from_is_err_and c.from_residual-in_err-outcome.result c.from_residual-in_err-outcome.ensures.1 in
+    rw (p.1, p.2)
+    (made-all (guest_loads guest) stop _ _ (run-late _ guest c.in_ok-files.files _ stop c.in_err-outcome.ensures.makes) (to-all guest) c.in_ok-files.ensures.asked)
+
+pub returns-in_err-outcome-clause-untouched : goal.returns-in_err-outcome-clause-untouched
+returns-in_err-outcome-clause-untouched g c =
+    let p = err_from_is_err_and c.from_residual-in_err-outcome.result c.from_residual-in_err-outcome.ensures.1 in
+    rw (p.1, p.2) c.in_err-outcome.ensures.untouched
+
+pub returns-clause-loads : goal.returns-clause-loads
+returns-clause-loads g c = made-all (guest_loads c.args.guest.now) WriteFault _ _ refl (to-all c.args.guest.now) c.in_ok-files.ensures.asked
