@@ -1,17 +1,19 @@
 """Guests that the measurements run: families in which a parent makes tickets and joins them, as instruction words."""
 
+import os
+import sys
+
+sys.path.insert(0, f"{os.path.dirname(os.path.dirname(os.path.realpath(__file__)))}/tools/lib")
+from ports import (ARG0, ARG1, BLOCK_COMMAND, BUFFER, CLONE, CLONE_ID, COMMAND, EXIT, JOIN, READ, RESULT, SECTOR, TICKET,
+                   WRITE)  # fmt: skip
 from words import add, addi, beq, bne, jal, lui, lw, number, placed, slt, sub, sw, to
 
 # Registers: x5 is the fork port, x9 a page of data, x6 to x8 are for use, x10 counts rounds, x11 what a child does, x12 is the
 # size of a page, x13 the block port.
-ARG0, ARG1, CMD, RESULT, CLONE_ID = 0, 4, 8, 12, 16
-TICKET, CLONE, JOIN, EXIT = 1, 2, 3, 5
-SECTOR, BLOCK_CMD, BUFFER = 0, 4, 0x200
-READ, WRITE = 1, 2
 
 
 def call(command):
-    return [addi(6, 0, command), sw(6, CMD, 5)]
+    return [addi(6, 0, command), sw(6, COMMAND, 5)]
 
 
 def exit_with(register):
@@ -52,7 +54,7 @@ def joining(tickets, first, step):
 
 def reading(children, tickets, sectors, reads):
     """Returns a family whose children read so many sectors in a row, or make as many rounds in which they read none."""
-    read = [addi(6, 0, READ), sw(6, BLOCK_CMD, 13) if reads else addi(6, 0, READ), lw(8, BUFFER, 13)]
+    read = [addi(6, 0, READ), sw(6, BLOCK_COMMAND, 13) if reads else addi(6, 0, READ), lw(8, BUFFER, 13)]
     rounds = [sw(11, SECTOR, 13), *read, addi(11, 11, 1), addi(7, 11, -sectors)]
     child = [addi(11, 0, 0), *rounds, bne(7, 0, -4 * len(rounds)), *exit_with(8)]
     return family(children, tickets, [], child)
@@ -61,6 +63,6 @@ def reading(children, tickets, sectors, reads):
 def copying():
     """Returns a guest that for ever reads a sector, changes a word of it and writes it, one sector of 1,024 after another."""
     change = [lw(8, BUFFER, 13), addi(8, 8, 1), sw(8, BUFFER, 13)]
-    copy = [sw(11, SECTOR, 13), addi(6, 0, READ), sw(6, BLOCK_CMD, 13), *change, addi(6, 0, WRITE), sw(6, BLOCK_CMD, 13)]
+    copy = [sw(11, SECTOR, 13), addi(6, 0, READ), sw(6, BLOCK_COMMAND, 13), *change, addi(6, 0, WRITE), sw(6, BLOCK_COMMAND, 13)]
     rounds = [*copy, addi(11, 11, -1), bne(11, 0, -4 * (len(copy) + 1))]
     return [lui(13, 0x10001), *number(11, 1023), *rounds, jal(-4 * (len(rounds) + 2))]

@@ -3,20 +3,22 @@
 The reports and the answers are those of whole copies. tests/siblings compares them with tests/whole_copies and the program.
 """
 
+import os
+import sys
+
+sys.path.insert(0, f"{os.path.dirname(os.path.dirname(os.path.realpath(__file__)))}/tools/lib")
+from ports import (ALLOT, ARG0, ARG1, CLONE, CLONE_ID, COMMAND, DATA, EXIT, JOIN, JSEL, JVALUE, KILL, PEER, RECEIVE, RESULT, SEND,
+                   SIBLINGS, TALK, TICKET)  # fmt: skip
 from words import add, addi, beq, bne, jal, lui, lw, number, placed, sb, sub, sw, to
 
 # Registers: x5 is the fork port and x13 the sibling port, x6 is for commands, x7 has the ticket's number, x8 the number among
 # the siblings, x9 counts rounds, x10 and x11 are peers, x12 a word, x14 a sum. They are 0 at the start.
-ARG0, ARG1, CMD, RESULT, CLONE_ID, ALLOT, JSEL, JVALUE = 0, 4, 8, 12, 16, 20, 24, 32
-PEER, DATA, SIBLINGS = 0, 4, 16
-TICKET, CLONE, JOIN, KILL, EXIT = 1, 2, 3, 4, 5
-SEND, RECEIVE = 1, 2
 
 PORTS = [lui(5, 0x10002), lui(13, 0x10003)]
 
 
 def call(command):
-    return [addi(6, 0, command), sw(6, CMD, 5)]
+    return [addi(6, 0, command), sw(6, COMMAND, 5)]
 
 
 def exit_with(register):
@@ -46,7 +48,7 @@ def adds_value(child):
 
 
 def talk(command):
-    return [addi(6, 0, command), sw(6, CMD, 13)]
+    return [addi(6, 0, command), sw(6, TALK, 13)]
 
 
 def send(peer, word):
@@ -98,7 +100,7 @@ def rounds(count, name, body):
 def swap(first, second):
     """Returns a guest that is two_children up to its children. Each of these gives two commands with its number as the word
     and the other one as the peer, and exits with the word that it has then."""
-    parent = [addi(6, 0, JOIN), sw(7, ARG0, 5), sw(6, CMD, 5), addi(6, 0, 1), sw(6, JSEL, 5), lw(6, JVALUE, 5), *exit_with(6)]
+    parent = [addi(6, 0, JOIN), sw(7, ARG0, 5), sw(6, COMMAND, 5), addi(6, 0, 1), sw(6, JSEL, 5), lw(6, JVALUE, 5), *exit_with(6)]
     port = [lui(13, 0x10003), addi(6, 0, 3), sub(6, 6, 8), sw(6, PEER, 13), sw(8, DATA, 13)]
     child = [*port, *talk(first), *talk(second), lw(6, DATA, 13), *exit_with(6)]
     ticket = [addi(6, 0, 2), sw(6, ARG0, 5), sw(0, ARG1, 5), *call(TICKET), lw(7, RESULT, 5), sw(7, ARG0, 5), *call(CLONE)]
@@ -645,10 +647,10 @@ SCRIPTS = [
 
 # Accesses to the port with x13 at its address, and the cause of the trap that each is, or 0.
 ACCESSES = [
-    *((lw(12, offset, 13), cause) for offset, cause in ((PEER, 0), (DATA, 0), (CMD, 5), (RESULT, 0), (SIBLINGS, 0), (20, 5), (2, 4), (-4, 5))),
-    *((sw(12, offset, 13), cause) for offset, cause in ((PEER, 0), (DATA, 0), (CMD, 0), (RESULT, 7), (SIBLINGS, 7), (20, 7), (2, 6), (-4, 7))),
+    *((lw(12, offset, 13), cause) for offset, cause in ((PEER, 0), (DATA, 0), (COMMAND, 5), (RESULT, 0), (SIBLINGS, 0), (20, 5), (2, 4), (-4, 5))),
+    *((sw(12, offset, 13), cause) for offset, cause in ((PEER, 0), (DATA, 0), (COMMAND, 0), (RESULT, 7), (SIBLINGS, 7), (20, 7), (2, 6), (-4, 7))),
     *((lw(12, PEER, 13) & ~0x7000 | kind << 12, 5) for kind in (0, 1, 4, 5)),
-    *((sw(12, CMD, 13) & ~0x7000 | kind << 12, 7) for kind in (0, 1)),
+    *((sw(12, COMMAND, 13) & ~0x7000 | kind << 12, 7) for kind in (0, 1)),
     (0x1006A62F, 5),  # lr.w
     (0x00C6A62F, 7),  # amoadd.w
 ]
