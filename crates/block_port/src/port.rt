@@ -30,7 +30,8 @@ pub struct BlockFields {
 pub struct BlockPort {
     sector: u32,
     status: Status,
-    buffer: [u8; SECTOR_SIZE],
+    // At a place of its own, so that a machine is moved without it.
+    buffer: Box<[u8; SECTOR_SIZE]>,
     disk: Disk,
 }
 
@@ -39,31 +40,39 @@ impl Model for BlockPort {
 
     ghost Value = { BlockParts };
 
-    ghost view = { λ p. record { sector = p.sector; status = p.status; buffer = p.buffer; disk = p.disk } };
+    ghost view = { λ p. record { sector = p.sector; status = p.status; buffer = p.buffer.value; disk = p.disk } };
 }
 
 impl BlockPort {
-    /// Makes a port over this disk, with all registers 0. It takes no memory.
+    /// Makes a port over this disk, with all registers 0. It takes no memory: the place of the buffer is handed in, and what
+    /// stands there is overwritten.
     #[tactic(auto, unfolding(flat_memory::specs::Flat::zeros))]
-    pub fn new(disk: Disk) -> BlockPort
+    pub fn new(mut buffer: Box<[u8; SECTOR_SIZE]>, disk: Disk) -> BlockPort
         ensures { result ≡ parts_at_start disk }
     {
+        *buffer = [0; SECTOR_SIZE];
         BlockPort {
             sector: 0,
             status: Status::Done,
-            buffer: [0; SECTOR_SIZE],
+            buffer,
             disk,
         }
     }
 
-    /// Makes a port with these registers over this disk. It takes no memory.
-    pub fn of_fields(fields: &BlockFields, disk: Disk) -> BlockPort
+    /// Makes a port with these registers over this disk. It takes no memory: the place of the buffer is handed in, and what
+    /// stands there is overwritten.
+    pub fn of_fields(
+        fields: &BlockFields,
+        mut buffer: Box<[u8; SECTOR_SIZE]>,
+        disk: Disk,
+    ) -> BlockPort
         ensures { result ≡ record { sector = fields.now.sector; status = fields.now.status; buffer = fields.now.buffer; disk = disk } }
     {
+        *buffer = fields.buffer;
         BlockPort {
             sector: fields.sector,
             status: fields.status,
-            buffer: fields.buffer,
+            buffer,
             disk,
         }
     }
@@ -75,7 +84,7 @@ impl BlockPort {
         BlockFields {
             sector: self.sector,
             status: self.status,
-            buffer: self.buffer,
+            buffer: *self.buffer,
         }
     }
 
@@ -131,7 +140,7 @@ impl BlockPort {
             (BLOCK_STATUS, 4) => Ok(self.status.word()),
             (BLOCK_COUNT, 4) => Ok(self.disk.sectors()),
             (_, 4) => match buffer_place(offset) {
-                Some(at) => Ok(read_word(&self.buffer, at)),
+                Some(at) => Ok(read_word(&*self.buffer, at)),
                 None => Err(Fault),
             },
             _ => Err(Fault),
@@ -153,7 +162,7 @@ impl BlockPort {
             (BLOCK_SECTOR, 4) => self.sector = word,
             (BLOCK_COMMAND, 4) => self.command(word)?,
             (_, 4) => match buffer_place(offset) {
-                Some(at) => write_bytes(&mut self.buffer, at, &word.to_le_bytes()),
+                Some(at) => write_bytes(&mut *self.buffer, at, &word.to_le_bytes()),
                 None => return Err(PortError::Fault),
             },
             _ => return Err(PortError::Fault),
@@ -185,7 +194,7 @@ impl BlockPort {
         ensures value { (below : List ℕ) → record (block_over self.new below) { status = result } ≡ commanded (block_over self.old below) READ_COMMAND }
         ensures disk { self.new.disk ≡ self.old.disk }
     {
-        match self.disk.read_sector(self.sector, &mut self.buffer) {
+        match self.disk.read_sector(self.sector, &mut *self.buffer) {
             Ok(()) => Status::Done,
             Err(ReadError::BadSector) => Status::BadSector,
             Err(ReadError::Absent(_)) => unreachable!(),
@@ -201,7 +210,7 @@ impl BlockPort {
         ensures err { OnErr result (self.new ≡ self.old) }
         ensures memory { OnErr result ((below : List ℕ) → self.old.sector < sector_count (disk_over self.old.disk below)) }
     {
-        match self.disk.write_sector(self.sector, &self.buffer) {
+        match self.disk.write_sector(self.sector, &*self.buffer) {
             Ok(()) => Ok(Status::Done),
             Err(WriteError::BadSector) => Ok(Status::BadSector),
             Err(WriteError::Absent(_)) => unreachable!(),

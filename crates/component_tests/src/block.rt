@@ -16,13 +16,22 @@ fn frozen_disk(rt: &impl Abort, alloc: Global) -> FrozenDisk {
 }
 
 /// A port over this disk, which is opened now.
-fn port_over(rt: &impl Abort, frozen: &FrozenDisk) -> BlockPort {
-    BlockPort::new(succeeds(rt, frozen.open()))
+fn port_over(rt: &impl Abort, alloc: Global, frozen: &FrozenDisk) -> BlockPort {
+    BlockPort::new(buffer_place(rt, alloc), succeeds(rt, frozen.open()))
+}
+
+/// A place for a buffer, where other bytes stand.
+fn buffer_place(rt: &impl Abort, alloc: Global) -> Box<[u8; 512]> {
+    succeeds(rt, boxed(alloc, [0xcc; 512]))
+}
+
+fn boxed(alloc: Global, bytes: [u8; 512]) -> Result<Box<[u8; 512]>, AllocError> {
+    Ok(Box::new(alloc, bytes)?)
 }
 
 /// A port over that disk.
 fn port_at_start(rt: &impl Abort, alloc: Global) -> BlockPort {
-    port_over(rt, &frozen_disk(rt, alloc))
+    port_over(rt, alloc, &frozen_disk(rt, alloc))
 }
 
 /// A store. Where it touches an absent page of the disk, it is not made.
@@ -157,18 +166,18 @@ fn writes_alone(rt: &impl Abort, first: &mut BlockPort, second: &mut BlockPort) 
 }
 
 /// Writes behind one of two ports over this disk. It shows behind none that is opened then.
-fn is_written_behind_one(rt: &impl Abort, frozen: &FrozenDisk) {
-    let mut first = port_over(rt, frozen);
-    let mut second = port_over(rt, frozen);
+fn is_written_behind_one(rt: &impl Abort, alloc: Global, frozen: &FrozenDisk) {
+    let mut first = port_over(rt, alloc, frozen);
+    let mut second = port_over(rt, alloc, frozen);
     writes_alone(rt, &mut first, &mut second);
-    let mut third = port_over(rt, frozen);
+    let mut third = port_over(rt, alloc, frozen);
     are_equal(rt, &first_word(&mut third), &read(0xaaaa_aaaa));
 }
 
 #[test]
 fn a_write_shows_behind_one_port(rt: HostRuntime) {
     let frozen = frozen_disk(&rt, rt.alloc());
-    is_written_behind_one(&rt, &frozen);
+    is_written_behind_one(&rt, rt.alloc(), &frozen);
 }
 
 /// The sector, the command, and the page that it touches, of a disk of nine sectors.
@@ -216,7 +225,7 @@ fn arrives(port: &mut BlockPort, page: u32) -> Result<Option<Arrived>, AllocErro
 #[test]
 fn waits_for_a_page_of_the_disk(rt: HostRuntime) {
     let disk = succeeds(&rt, Disk::absent(rt.alloc(), 9));
-    let mut port = BlockPort::new(disk);
+    let mut port = BlockPort::new(buffer_place(&rt, rt.alloc()), disk);
     touches_a_page(&rt, &mut port);
     reads_what_came(&rt, &mut port);
 }
@@ -235,14 +244,14 @@ fn has_fields(rt: &impl Abort, port: &mut BlockPort, fields: &BlockFields) {
 }
 
 /// A port of the same fields over a disk that is opened now.
-fn same_port(rt: &impl Abort, port: &BlockPort) -> BlockPort {
+fn same_port(rt: &impl Abort, alloc: Global, port: &BlockPort) -> BlockPort {
     let frozen = succeeds(rt, port.disk().freeze());
     let disk = succeeds(rt, frozen.open());
-    BlockPort::of_fields(&port.fields(), disk)
+    BlockPort::of_fields(&port.fields(), buffer_place(rt, alloc), disk)
 }
 
-fn is_equal_to_its_same(rt: &impl Abort, port: &BlockPort) {
-    let mut same = same_port(rt, port);
+fn is_equal_to_its_same(rt: &impl Abort, alloc: Global, port: &BlockPort) {
+    let mut same = same_port(rt, alloc, port);
     has_fields(rt, &mut same, &port.fields());
 }
 
@@ -250,7 +259,7 @@ fn is_equal_to_its_same(rt: &impl Abort, port: &BlockPort) {
 fn fields_make_an_equal_port(rt: HostRuntime) {
     let mut port = port_at_start(&rt, rt.alloc());
     asks_for_no_sector(&rt, &mut port);
-    is_equal_to_its_same(&rt, &port);
+    is_equal_to_its_same(&rt, rt.alloc(), &port);
 }
 
 /// The numbers by which STATUS tells what became of a command.

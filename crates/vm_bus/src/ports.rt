@@ -13,7 +13,7 @@ ghost use Rattle.vm_bus.specs.Bus.{at_start, bus_load, bus_over, bus_store, disk
 
 use block_port::{BlockFields, BlockPort};
 use console_port::{ConsoleFields, ConsolePort, Input};
-use cow_disk::{Arrived, Disk};
+use cow_disk::{Arrived, Disk, SECTOR_SIZE};
 use fork_port::refusals::TICKETS_END;
 use fork_port::registers::{FORK_COMMAND, TICKET_COMMAND};
 use fork_port::{Asked, Effect, Ending, ForkFields, ForkPort};
@@ -60,10 +60,12 @@ impl Ports {
         requires { length input.now ≤ MAX_INPUT }
         ensures { IfOk result (λ ports. ports ≡ at_start disk input.now allot) }
     {
+        let console = ConsolePort::new(alloc, input)?;
+        let buffer = Box::new(alloc, [0; SECTOR_SIZE])?;
         Ok(Ports {
             timer: TimerPort::new(),
-            console: ConsolePort::new(alloc, input)?,
-            block: BlockPort::new(disk),
+            console,
+            block: BlockPort::new(buffer, disk),
             fork: ForkPort::new(alloc, allot),
             sibling: SiblingPort::new(0),
         })
@@ -286,10 +288,12 @@ impl Ports {
     }
 
     /// Makes ports with these registers, this disk and this input, and no output, tickets and join results, of a
-    /// child of a ticket for so many. It takes no memory: `alloc` is for what the ports take later.
+    /// child of a ticket for so many. It takes no memory: `alloc` is for what the ports take later, and the place of the
+    /// block port's buffer is handed in.
     pub fn of_fields(
         alloc: Global,
         fields: &PortFields,
+        buffer: Box<[u8; SECTOR_SIZE]>,
         disk: Disk,
         input: Input,
         siblings: u32,
@@ -300,7 +304,7 @@ impl Ports {
         Ports {
             timer: TimerPort::of_fields(fields.timer),
             console: ConsolePort::of_fields(alloc, fields.console, input),
-            block: BlockPort::of_fields(&fields.block, disk),
+            block: BlockPort::of_fields(&fields.block, buffer, disk),
             fork: ForkPort::of_fields(alloc, fields.fork),
             sibling: SiblingPort::new(siblings),
         }

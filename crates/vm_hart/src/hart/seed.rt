@@ -10,7 +10,7 @@ ghost use Rattle.vm_hart.specs.Keyed.{IsOfDepot};
 ghost use Rattle.vm_hart.specs.Seeds.{IsBlankMap, IsOfImage, image_left, port_fields, seed_of, woken_hart};
 
 use super::Hart;
-use cow_disk::Disk;
+use cow_disk::{Disk, SECTOR_SIZE};
 use fork_port::ForkFields;
 use guest_mem::GuestMem;
 use image_depot::{Depot, Frozen, ImageKey};
@@ -95,13 +95,21 @@ impl Hart {
         let image = depot.frozen(key);
         let disk = Disk::absent(alloc, image.sectors())?;
         let input = image.input().share()?;
+        let buffer = Box::new(alloc, [0; SECTOR_SIZE])?;
         Ok(Hart {
             registers: with_zero(&descriptor.registers),
             pc: descriptor.pc,
             csrs: Csrs::of_fields(descriptor.csrs),
             reservation: descriptor.reservation,
             memory: GuestMem::clone_of(alloc, key.again()?, descriptor)?,
-            ports: Ports::of_fields(alloc, &port_fields(descriptor), disk, input, siblings),
+            ports: Ports::of_fields(
+                alloc,
+                &port_fields(descriptor),
+                buffer,
+                disk,
+                input,
+                siblings,
+            ),
         })
     }
 }
