@@ -38,7 +38,7 @@ use Rattle.board_ends.specs.Finishes.{IsStopped, IsStoppedBy, first_stop, reason
 use Rattle.board_ends.specs.Lost.{IsLost}
 use Rattle.board_ends.specs.Stages.{Goes, Stage, Steps, free, halting, runs}
 use Rattle.board_ends.proofs.Stops.{stops-by, stops-later, stops-on}
-use Rattle.board_worker.specs.Claiming.{IsShare}
+use Rattle.board_worker.specs.Claiming.{Claiming, IsShare}
 use Rattle.board_worker.specs.Fit.{IsFit}
 use Rattle.board_worker.specs.declared.replies.Hearing.{Hearing}
 use Rattle.board_worker.specs.declared.worker.Worker.{Worker}
@@ -435,7 +435,7 @@ stays-heard old new place answer m =
 pub fit-on : (claims : ClaimsValue) (depot : Shelves) (old new : Worker) → new.hearing ≡ old.hearing → new.claimant ≡ old.claimant → IsFit claims depot old → IsFit claims depot new
 fit-on claims depot old new hearing claimant fit = record {
   heard = subst (λ (h : Hearing). AreHeardOf depot h.heard) (sym hearing) fit.heard;
-  claims_are = claimant ∙ fit.claims_are;
+  claims_are = ap (λ (c : Claiming). c.claims) claimant ∙ fit.claims_are;
 }
 
 pub share-of : (claims own : ClaimsValue) (pass : ClaimValue) → own ≡ claims → IsShare own pass → IsShare claims pass

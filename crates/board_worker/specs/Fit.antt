@@ -8,4 +8,4 @@ use Rattle.board_worker.specs.declared.worker.Worker.{Worker}
 -- it has heard replies of this depot alone, and claims pages by these claims
 pub record IsFit (claims : ClaimsValue) (depot : Shelves) (worker : Worker) : Type 0 where
   pub heard : AreHeardOf depot worker.hearing.heard
-  pub claims_are : worker.claimant ≡ claims
+  pub claims_are : worker.claimant.claims ≡ claims

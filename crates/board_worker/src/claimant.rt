@@ -1,7 +1,8 @@
 //! Who claims the pages that are fetched.
 
-ghost use Rattle.std.specs.Prelude.{◌≡◌, IfErr};
+ghost use Rattle.std.specs.Prelude.{◌≡◌, IfErr, IsSomeAnd};
 ghost use Rattle.std.specs.List.{All};
+ghost use Rattle.host_fetch.specs.Asked.{HasToldFirsts, untold_most};
 ghost use Rattle.image_depot.specs.Reply.{IsSentOf};
 ghost use Rattle.world_core.specs.Answers.{IsLentOf};
 ghost use Rattle.world_core.specs.Lent.{IsSameLease};
@@ -17,7 +18,7 @@ use std::sync::Wait;
 use wire_fates::Wire;
 use world_core::Lease;
 
-/// What a worker claims pages by: a pass of one part. Contracts see in it the claims.
+/// What a worker claims pages by: a pass of one part. Contracts see in it the claims and the pass.
 #[derive(Drop)]
 pub(crate) struct Claimant<'a> {
     claims: &'a Claims,
@@ -27,12 +28,11 @@ pub(crate) struct Claimant<'a> {
 
 impl<'a> Model for Claimant<'a> {
     ghost use Rattle.std.specs.Prelude.{IsSomeAnd};
-    ghost use Rattle.page_claims.specs.Values.{ClaimsValue};
-    ghost use Rattle.board_worker.specs.Claiming.{IsShare};
+    ghost use Rattle.board_worker.specs.Claiming.{Claiming, IsShare};
 
-    ghost Value = { ClaimsValue };
+    ghost Value = { Claiming };
 
-    ghost view = { λ c. c.claims.now };
+    ghost view = { λ c. record { claims = c.claims.now; pass = c.pass } };
 
     ghost invariant = { λ c. IsSomeAnd c.pass (IsShare c.claims.now) };
 }
@@ -41,7 +41,7 @@ impl<'a> Claimant<'a> {
     /// Who claims by a pass of one part.
     pub(crate) fn new(claims: &'a Claims, pass: ClaimPass) -> Claimant<'a>
         requires { IsShare claims.now pass }
-        ensures { result ≡ claims.now }
+        ensures { result ≡ record { claims = claims.now; pass = Some pass } }
     {
         Claimant {
             claims,
@@ -51,14 +51,16 @@ impl<'a> Claimant<'a> {
 
     /// Its pass.
     pub(crate) fn into_pass(self) -> ClaimPass
-        ensures { IsShare self.entry result }
+        ensures value { self.entry.pass ≡ Some result }
+        ensures share { IsShare self.entry.claims result }
     {
         let Claimant { claims: _, pass } = self;
         let Some(pass) = pass else { unreachable!() };
         pass
     }
 
-    /// Fetches the page at which a machine stalls over a wire. Each page that is asked for is claimed.
+    /// Fetches the page at which a machine stalls over a wire. Each page that is asked for is claimed, and just what its pass
+    /// claimed first is pushed.
     pub(crate) fn fetch<R: Wait, W: Wire, G>(
         &mut self,
         rt: &R,
@@ -68,7 +70,9 @@ impl<'a> Claimant<'a> {
         pushed: &mut Vec<Sent>,
     ) -> Result<(), FetchError>
         requires of_depot { IsLentOf shared.now.depot.now lease.old }
-        ensures claims { self.new ≡ self.old }
+        ensures claims { self.new.claims ≡ self.old.claims }
+        ensures firsts { IsSomeAnd self.old.pass (λ old. IsSomeAnd self.new.pass (λ new. HasToldFirsts self.old.claims (untold_most result)
+            (record { sent = pushed.old.items; pass = old }) (record { sent = pushed.new.items; pass = new }))) }
         ensures same { IsSameLease lease.old lease.new }
         ensures kept { All (IsSentOf shared.now.depot.now) pushed.old.items → All (IsSentOf shared.now.depot.now) pushed.new.items }
         ensures wire { IfErr result (λ error. error ≡ FetchError.Wire → IsLost W.streak wire.new) }

@@ -185,7 +185,7 @@ fn fetch_and_tell<R: Wait, W: Wire, G>(
 ) -> (Pass, Result<(), FetchError>)
     requires board { pass.board ≡ shared.now.board.now }
     requires of_depot { IsLentOf shared.now.depot.now lease.old }
-    ensures claims { claimant.new ≡ claimant.old }
+    ensures claims { claimant.new.claims ≡ claimant.old.claims }
     ensures same { IsSameLease lease.old lease.new }
     ensures stays { Stays pass result.0 }
     ensures wire { IfErr result.1 (λ error. error ≡ FetchError.Wire → IsLost W.streak wire.new) }
