@@ -4,6 +4,7 @@ import dataclasses
 import os
 
 from lib import images, scripts
+from lib.images import listed
 
 COMMANDS = {"run": ("IMAGE",), "drive": ("IMAGE", "SCRIPT"), "self": ("SEED",)}
 FILES = {"--disk": "the disk", "--input": "the console's input"}
@@ -55,11 +56,6 @@ class Call:
 
     def pages(self) -> int:
         return int(self.options.get("--ram", DEFAULT_PAGES))
-
-
-def listed(words: list[str] | tuple[str, ...]) -> str:
-    """Returns words as a list in a sentence."""
-    return " and ".join([", ".join(words[:-1]), words[-1]] if len(words) > 1 else words)
 
 
 def usage(text: str) -> Refused:

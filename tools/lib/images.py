@@ -3,11 +3,14 @@ and the places in its sources."""
 
 import bisect
 import dataclasses
+import difflib
 import re
 import shutil
 import struct
 import subprocess
 from typing import NamedTuple
+
+from lib.command import Problem
 
 RAM, PAGE, MOST_PAGES = 0x80000000, 4096, 16384
 LONGEST = 16777216
@@ -248,3 +251,45 @@ def lines_of(path: str, addresses: list[int]) -> dict[int, str]:
         if name and name != "??" and number not in ("?", "0"):
             found[address] = f"{name.rsplit('/', 1)[-1]}:{number}"
     return found
+
+
+class Image:
+    """An image by its file: its bytes, its names, and the places in its sources, which are asked for as they are needed."""
+
+    def __init__(self, path: str):
+        self.path = path
+        with open(path, "rb") as file:
+            self.data = file.read(LONGEST)
+        self.symbols = Symbols(self.data)
+        self.lines: dict[int, str] = {}
+
+    def look_up(self, addresses: set[int]) -> None:
+        """Finds out the file and the line of addresses, where the image has them."""
+        new = sorted(addresses - self.lines.keys())
+        if self.symbols.has_lines and new:
+            self.lines |= dict.fromkeys(new, "") | lines_of(self.path, new)
+
+    def line_of(self, address: int) -> str:
+        """Returns the file and the line of an address, or nothing."""
+        self.look_up({address})
+        return self.lines.get(address, "")
+
+    def address_of(self, place: str) -> int:
+        """Returns the address of a function or an object, or the one that stands there in hexadecimal. Of a function that the
+        compiler changed, such as gcd.constprop.0, the name before the point is enough, where there is but one."""
+        functions = {name: value for value, name, _ in self.symbols.places}
+        known = functions | self.symbols.objects
+        changed = [name for name in known if name.partition(".")[0] == place]
+        if place in known or len(changed) == 1:
+            return known.get(place, known[changed[0]] if changed else 0)
+        if re.fullmatch(r"(0x)?[0-9a-fA-F]{1,8}", place) and (place.startswith("0x") or any(map(str.isdigit, place))):
+            return int(place, 16)
+        if not functions:
+            raise Problem(f"the image names no functions: {place} is to be an address of eight hexadecimal digits")
+        near = changed or difflib.get_close_matches(place, known, 3, 0.5)
+        raise Problem(f"the image names nothing {place}{f': it has {listed(near)}' if near else ''}")
+
+
+def listed(words: list[str]) -> str:
+    """Returns words as a list in a sentence."""
+    return " and ".join([", ".join(words[:-1]), words[-1]] if len(words) > 1 else words)
