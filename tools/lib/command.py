@@ -10,8 +10,9 @@ from typing import BinaryIO, NoReturn
 
 ROOT = os.path.dirname(os.path.dirname(os.path.dirname(os.path.realpath(__file__))))
 
-# The statuses that all tools have in common. A tool that a signal ended has 128 and the signal's number.
-WRONG, USAGE, CLOSED_PIPE = 1, 2, 128 + signal.SIGPIPE
+# The statuses that all tools have in common. A tool that a signal ended has 128 and the signal's number. A reader that has had
+# enough and closes its pipe is no fault.
+WRONG, USAGE, CLOSED_PIPE = 1, 2, 0
 
 
 class Problem(Exception):

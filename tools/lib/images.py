@@ -274,9 +274,10 @@ class Image:
         self.look_up({address})
         return self.lines.get(address, "")
 
-    def address_of(self, place: str) -> int:
+    def address_of(self, place: str, option: str) -> int:
         """Returns the address of a function or an object, or the one that stands there in hexadecimal. Of a function that the
-        compiler changed, such as gcd.constprop.0, the name before the point is enough, where there is but one."""
+        compiler changed, such as gcd.constprop.0, the name before the point is enough, where there is but one. What is wrong with
+        the place is said with the option that names it."""
         functions = {name: value for value, name, _ in self.symbols.places}
         known = functions | self.symbols.objects
         changed = [name for name in known if name.partition(".")[0] == place]
@@ -285,9 +286,9 @@ class Image:
         if re.fullmatch(r"(0x)?[0-9a-fA-F]{1,8}", place) and (place.startswith("0x") or any(map(str.isdigit, place))):
             return int(place, 16)
         if not functions:
-            raise Problem(f"the image names no functions: {place} is to be an address of eight hexadecimal digits")
+            raise Problem(f"the image names no functions: {option} takes an address of eight digits")
         near = changed or difflib.get_close_matches(place, known, 3, 0.5)
-        raise Problem(f"the image names nothing {place}{f': it has {listed(near)}' if near else ''}")
+        raise Problem(f"the image names no function {place}{f': it has {listed(near)}' if near else ''}")
 
 
 def listed(words: list[str]) -> str:

@@ -154,7 +154,7 @@ class Listing:
 
     def say_word(self, place: str) -> None:
         """Tells the word at an address."""
-        address = self.image.address_of(place)
+        address = self.image.address_of(place, "--word")
         at = self.there()
         word = self.steps.words_at(at, address, address + 1)[0] if address % 4 == 0 else None
         print(f"word {address:08x} behind step {at}: {'none' if word is None else f'{word:08x}'}")
@@ -173,7 +173,7 @@ class Listing:
 
     def say_writer(self, place: str, end: int) -> None:
         """Tells which step wrote the byte at an address last, before the machine counts so many steps."""
-        address, machine = self.image.address_of(place), self.machine
+        address, machine = self.image.address_of(place, "--wrote"), self.machine
         if not RAM <= address < self.steps.ram_end:
             print(f"{address:08x} is not in RAM, which is {RAM:08x} to {self.steps.ram_end - 1:08x}")
             return

@@ -12,9 +12,15 @@ class Clock:
     """When it was told last, and whether a line stands on the terminal. Time is looked at once in so many calls."""
 
     calls = 0
-    began = time.monotonic()
+    began = 0.0
     told = 0.0
     stands = False
+    tool = ""
+
+
+def begin(tool: str) -> None:
+    """Counts the time of a tool from now on."""
+    Clock.tool, Clock.began, Clock.told = tool, time.monotonic(), 0.0
 
 
 def tell(text: Callable[[], str]) -> None:
@@ -28,7 +34,8 @@ def tell(text: Callable[[], str]) -> None:
         return
     Clock.told = now
     Clock.stands = is_terminal
-    sys.stderr.write(f"\r{text()}\x1b[K" if is_terminal else f"{text()}\n")
+    line = f"{Clock.tool}: {text()}"
+    sys.stderr.write(f"\r{line}\x1b[K" if is_terminal else f"{line}\n")
     sys.stderr.flush()
 
 
