@@ -1,6 +1,7 @@
 """Drives the machines of a family by scripts of `snow drive`, up to where one of them is looked at."""
 
 import re
+from collections.abc import Iterator
 
 from lib import program, reports, scripts
 from lib.command import Problem
@@ -23,7 +24,7 @@ class Family:
         # where machines stand behind the last round, in the words of `snow drive`
         self.stands: dict[str, str] = {}
 
-    def room(self, script, line):
+    def room(self, script: list[str], line: int) -> int:
         """Returns how many more lines of a length a script can have, and 1 at least."""
         return max(1, (scripts.LONGEST - sum(len(line) + 1 for line in script)) // line)
 
@@ -53,13 +54,13 @@ class Family:
                     self.joined_by[machine.name].append(ticket)
         return self.counts
 
-    def tickets_joined(self, name):
+    def tickets_joined(self, name: str) -> list[tuple[str, int]]:
         """Returns the tickets that a machine joins, in their order, each with how many children it has. A machine that is
         killed in the end, or an ancestor of which is, joins none here."""
         counts = self.read_report()
         return [(ticket.rsplit(".", 1)[1], counts[ticket]) for ticket in self.joined_by.get(name, [])]
 
-    def lives(self, name, tickets, counts):
+    def lives(self, name: str, tickets: list[tuple[str, int]], counts: dict[str, int]) -> list[str]:
         """Returns lines that bring the children of these tickets of a machine to their ends, each ticket behind a line that
         brings the machine to its join, and then the machine to its end. Each child is given all pages of which it is known
         that one waits for them. The counts tell how many pages each ticket was sent, and go on."""
@@ -82,7 +83,7 @@ class Family:
                 lines.append(f"step {machine} {MOST}")
         return lines
 
-    def rest_of(self, script, name, tickets):
+    def rest_of(self, script: list[str], name: str, tickets: list[tuple[str, int]]) -> tuple[list[str], list[str]]:
         """Returns lines that bring a machine from the join of the first of these tickets to its end, and their answers. Each
         run of the program finds out pages that machines wait for, until none is missing."""
         counts = {}
@@ -104,15 +105,15 @@ class Family:
                 return lines, answers
             self.pages += sorted(missing, key=int)
 
-    def sent(self, script, siblings):
+    def sent(self, script: list[str], siblings: str) -> int:
         """Returns how many pages a script sends to the children of a ticket, which are named but for their numbers."""
         return sum(line.startswith("push ") and line.split()[1].rsplit(".", 1)[0] == siblings for line in script)
 
-    def bring(self, script, name, page):
+    def bring(self, script: list[str], name: str, page: str) -> list[str]:
         """Returns lines that bring a machine the page that it waits for, behind a script."""
         return [f"push {name} {page}", f"give {name} {self.sent(script, name.rsplit('.', 1)[0])}"]
 
-    def children(self, script, siblings):
+    def children(self, script: list[str], siblings: str) -> list[str]:
         """Returns the names of the children of a ticket, those that have ended maybe among them. Where the report does not tell how
         many there are, these are those that live behind a script, of as many as the clones are enough for."""
         counts = self.read_report()
@@ -174,7 +175,7 @@ class Sent:
     """The pages that were sent to the children of each ticket, and those that were given to each machine, by a script and since.
     What is to be known of a page to send it is a list of those that some machine was found to wait for."""
 
-    def __init__(self, script, known):
+    def __init__(self, script: list[str], known: list[str]):
         self.known, self.pages, self.given = known, {}, set()
         for line in script:
             word, name, *rest = line.split()
@@ -184,7 +185,7 @@ class Sent:
             elif word == "give":
                 self.given.add((name, pages[int(rest[0])]))
 
-    def to(self, name, page):
+    def to(self, name: str, page: str) -> list[tuple[str, str]]:
         """Returns lines by which a page comes to a machine."""
         pages, lines = self.pages.setdefault(name.rsplit(".", 1)[0], []), []
         if page not in self.known:
@@ -195,7 +196,7 @@ class Sent:
         self.given.add((name, page))
         return [*lines, (f"give {name} {pages.index(page)}", "")]
 
-    def all_to(self, name):
+    def all_to(self, name: str) -> list[tuple[str, str]]:
         """Returns lines by which all pages that are known come to a machine."""
         new = [page for page in self.known if (name, page) not in self.given] if name != "0" else []
         return [line for page in new for line in self.to(name, page)]
@@ -205,18 +206,20 @@ class Machine:
     """A machine of a family: its name, a script behind which it is there and has made no step, and how many steps it counts
     there. Its legs are the lines that come before some steps of it, and how many steps those are."""
 
-    def __init__(self, family, name, script, count):
+    def __init__(self, family: Family, name: str, script: list[str], count: int):
         self.family, self.name, self.script, self.born = family, name, script, count
-        self.legs = [([], 0)]
+        self.legs: list[tuple[list[str], int]] = [([], 0)]
         # what it waits for, in the words of `snow drive`; how it ended; and what it waits for where it goes no further
-        self.waits_for = self.ending = self.rests = None
+        self.waits_for: str | None = None
+        self.ending: str | None = None
+        self.rests: str | None = None
         # how many steps it counts where it waits for a ticket that it joins, of those that a report told
-        self.joins = {}
+        self.joins: dict[str, int] = {}
 
-    def reached(self):
+    def reached(self) -> int:
         return self.born + sum(count for _, count in self.legs)
 
-    def script_to(self, count):
+    def script_to(self, count: int) -> list[str]:
         """Returns a script behind which it counts so many steps, of those that it has made."""
         script, left = list(self.script), count - self.born
         for before, steps in self.legs:
@@ -227,7 +230,7 @@ class Machine:
                 break
         return script
 
-    def step(self, count):
+    def step(self, count: int) -> None:
         """Makes at most so many steps, and stops where it waits or has ended, or at a page, which is brought then."""
         answer = self.family.ask(self.script_to(self.reached()), [f"step {self.name} {min(count, MOST)}"])[0]
         made, why = re.fullmatch(r"\S+ ran (\d+) (.+)", answer).groups()
@@ -241,7 +244,7 @@ class Machine:
         elif why != "ok" and not self.waits_for:
             raise Problem(f"machine {self.name}: {why}")
 
-    def pass_wait(self):
+    def pass_wait(self) -> None:
         """Where it waits, runs the machines that it waits for. Where a report tells which children it joins, it runs these and
         itself to their ends."""
         if not self.waits_for:
@@ -256,7 +259,7 @@ class Machine:
         self.rests = self.waits_for if self.reached() == reached and not self.ending else None
         self.waits_for = None
 
-    def pass_together(self, script, names):
+    def pass_together(self, script: list[str], names: list[str]) -> None:
         """Runs machines, itself among them, and all that come of them as far as they go without others."""
         before = []
         for line, answer in self.family.go_on(script, names, self.name):
@@ -269,10 +272,10 @@ class Machine:
             before = []
         self.legs.append((before, 0))
 
-    def is_over(self):
+    def is_over(self) -> bool:
         return bool(self.ending or self.rests)
 
-    def told(self):
+    def told(self) -> str:
         """Returns in words how it ended, or what it waits for where it goes no further."""
         if self.ending:
             return f"{self.ending}, steps {self.reached()}"
@@ -280,7 +283,7 @@ class Machine:
         waits = {"wait": "the children of ticket", "send": f"room for a word to {self.name.rsplit('.', 1)[0]}.", "receive": f"a word of {self.name.rsplit('.', 1)[0]}."}
         return f"it waits for {waits[kind]}{' ' if kind == 'wait' else ''}{number}, steps {self.reached()}"
 
-    def pass_all(self, script, tickets):
+    def pass_all(self, script: list[str], tickets: list[tuple[str, int]]) -> bool:
         """Runs it from the join of the first of these tickets to its end, and returns whether it came there."""
         lines, answers = self.family.rest_of(script, self.name, tickets)
         before, legs = [], []
@@ -302,7 +305,7 @@ class Machine:
         self.ending = why
         return True
 
-    def lines_within(self, start, count):
+    def lines_within(self, start: int, count: int) -> Iterator[list[str]]:
         """Yields, for each of so many steps from one on, the lines that come before it, but for those before the first, which
         are in the script up to there."""
         at, before = self.born, []
@@ -314,18 +317,18 @@ class Machine:
                 before = []
             at += steps
 
-    def extend(self, target):
+    def extend(self, target: int) -> None:
         """Runs it until it counts so many steps or has ended, past its waits."""
         while self.reached() < target and not self.is_over():
             self.pass_wait()
             if self.reached() < target and not self.is_over():
                 self.step(target - self.reached())
 
-    def has(self, child, count):
+    def has(self, child: str, count: int) -> bool:
         """Returns whether a child is there when this counts so many steps."""
         return not self.family.ask(self.script_to(count), [f"step {child} 0"])[0].endswith(" none")
 
-    def child(self, name):
+    def child(self, name: str) -> "Machine":
         """Returns a child by its name."""
         seen = self.born
         ticket = name.rsplit(".", 2)[1]
@@ -341,14 +344,14 @@ class Machine:
             seen = self.reached()
         return self.killed_child(name)
 
-    def born_between(self, name, low, high):
+    def born_between(self, name: str, low: int, high: int) -> "Machine":
         """Returns a child that is not there at one count and is at another."""
         while high - low > 1:
             middle = (low + high) // 2
             low, high = (low, middle) if self.has(name, middle) else (middle, high)
         return Machine(self.family, name, self.script_to(high), high)
 
-    def killed_child(self, name):
+    def killed_child(self, name: str) -> "Machine":
         """Returns a child that was gone where this waited or had ended: it looks for it ever more closely."""
         stride = 4096
         while stride:
@@ -370,11 +373,11 @@ class Machine:
 class Disk:
     """A disk and its port, which follow the stores of a machine."""
 
-    def __init__(self, data):
+    def __init__(self, data: bytes):
         self.sectors = [data[at : at + 512] for at in range(0, len(data), 512)]
         self.sector, self.buffer = 0, bytearray(512)
 
-    def store(self, address, value):
+    def store(self, address: int, value: int) -> None:
         if address == 0x10001000:
             self.sector = value
         elif address == 0x10001004 and self.sector < len(self.sectors):

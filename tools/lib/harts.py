@@ -32,7 +32,7 @@ SEND, RECEIVE = 1, 2
 WIDTHS = {"lb": 1, "lbu": 1, "sb": 1, "lh": 2, "lhu": 2, "sh": 2}
 
 
-def command_name(word):
+def command_name(word: int) -> str | None:
     """Returns what a word is as a command of the fork port, or None."""
     if word & 0xFF == EXIT_WITH_BYTES:
         return f"EXIT with {word >> 8} bytes"
@@ -42,18 +42,18 @@ def command_name(word):
 class State:
     """What `regs` tells of a machine: the pc, and x0 to x31. The numbers have nine places each in the answer."""
 
-    def __init__(self, answer):
+    def __init__(self, answer: str):
         self.numbers = answer[answer.index(" regs ") + 6 :]
         self.pc = int(self.numbers[:8], 16)
 
-    def register(self, number):
+    def register(self, number: int) -> int:
         return int(self.numbers[9 * number : 9 * number + 8], 16) if number else 0
 
-    def registers(self):
+    def registers(self) -> list[int]:
         return [self.register(number) for number in range(32)]
 
 
-def is_given(address, width, direction, ram_end):
+def is_given(address: int, width: int, direction: str, ram_end: int) -> bool:
     """Returns whether RAM or a port gives an access."""
     if RAM <= address < ram_end:
         return True
@@ -66,14 +66,14 @@ class Control:
     """What traps depend on beside the registers: the mode, the control and status registers, the entries of memory
     protection and the timer. It is that of a machine at its boot, and follows its steps."""
 
-    def __init__(self):
+    def __init__(self) -> None:
         self.user = False
         self.csrs = {MSTATUS: 0x1800, MIE: 0, MTVEC: 0, MSCRATCH: 0, MEPC: 0, MCAUSE: 0, MTVAL: 0}
         self.bytes, self.words = [0] * ENTRIES, [0] * ENTRIES
         self.regions = [(0, 0)] * ENTRIES
         self.time, self.compare = 0, 2**64 - 1
 
-    def region(self, place):
+    def region(self, place: int) -> tuple[int, int]:
         """Returns the first byte that an entry matches, and the one behind its last."""
         how, word = self.bytes[place] >> 3 & 3, self.words[place]
         if how == 1:
@@ -85,7 +85,7 @@ class Control:
             return 4 * (word & ~low), 4 * ((word | low) + 1)
         return 0, 0
 
-    def denial(self, needs, address, is_user):
+    def denial(self, needs: int, address: int, is_user: bool) -> str | None:
         """Returns which entry denies an access, in words, or None where it is allowed."""
         if not is_user and max(self.bytes) < 0x80:
             return None
@@ -99,16 +99,16 @@ class Control:
                 return f"entry {place} decides, {rights} from {first:08x} to {min(behind - 1, 0xFFFFFFFF):08x}{locked}"
         return "no entry matches" if is_user else None
 
-    def data_denial(self, needs, address):
+    def data_denial(self, needs: int, address: int) -> str | None:
         """Returns the same of a load or a store, which MPRV has made in the mode in MPP."""
         status = self.csrs[MSTATUS]
         return self.denial(needs, address, self.user or bool(status >> 17 & 1) and not status & 0x1800)
 
-    def is_interrupted(self):
+    def is_interrupted(self) -> bool:
         """Returns whether the coming step is the interrupt of the timer."""
         return bool(self.csrs[MIE]) and self.time >= self.compare and (self.user or bool(self.csrs[MSTATUS] & 8))
 
-    def read(self, number):
+    def read(self, number: int) -> int | None:
         """Returns what a register reads, or None for those that it does not follow."""
         if number in (0x3A0, 0x3A1):
             return sum(byte << 8 * at for at, byte in enumerate(self.bytes[4 * (number - 0x3A0) :][:4]))
@@ -118,7 +118,7 @@ class Control:
             return 0x80 if self.time >= self.compare else 0
         return self.csrs.get(number)
 
-    def write(self, number, value):
+    def write(self, number: int, value: int) -> None:
         if number == MSTATUS:
             kept = 0x21888 if value >> 11 & 3 in (0, 3) else 0x20088
             self.csrs[MSTATUS] = self.csrs[MSTATUS] & ~kept & 0x21888 | value & kept
@@ -136,7 +136,7 @@ class Control:
                 self.words[place] = value
         self.regions = [self.region(place) for place in range(ENTRIES)]
 
-    def trap(self, cause, value, pc):
+    def trap(self, cause: int, value: int, pc: int) -> int:
         """Goes to the handler, and returns its address."""
         status = self.csrs[MSTATUS]
         self.csrs[MSTATUS] = status & 0x20000 | (status & 8) << 4 | (0 if self.user else 0x1800)
@@ -145,14 +145,14 @@ class Control:
         base = self.csrs[MTVEC] & ~3
         return base + 28 & 0xFFFFFFFF if cause >> 31 and self.csrs[MTVEC] & 1 else base
 
-    def returned(self):
+    def returned(self) -> int:
         """Does what MRET does, and returns where it leads."""
         status = self.csrs[MSTATUS]
         self.user = not status & 0x1800
         self.csrs[MSTATUS] = status & (0 if self.user else 0x20000) | (status & 0x80) >> 4 | 0x80
         return self.csrs[MEPC]
 
-    def step(self, state, word, ram_end):
+    def step(self, state: State, word: int | None, ram_end: int) -> tuple[Trap | None, int]:
         """Makes a step, and returns the trap that it is, or None, and where the pc goes."""
         trap, target = foresee(state, word, ram_end, self)
         is_counted = True
@@ -169,14 +169,14 @@ class Control:
         self.time = self.time + is_counted & 2**64 - 1
         return trap, target
 
-    def access(self, known, state):
+    def access(self, known: Instruction, state: State) -> None:
         old = self.read(known.csr)
         operand = known.rs1 if known.name.endswith("i") else state.register(known.rs1)
         if old is None or known.rs1 == 0 and known.name not in ("csrrw", "csrrwi"):
             return
         self.write(known.csr, {"w": operand, "s": old | operand, "c": old & ~operand}[known.name[4]])
 
-    def store(self, address, value):
+    def store(self, address: int, value: int) -> bool:
         """Follows a store to the timer, and returns whether the time counts the step."""
         if address in (0x02004000, 0x02004004):
             self.compare = half_put(self.compare, address & 4, value)
@@ -186,12 +186,12 @@ class Control:
         return True
 
 
-def half_put(number, is_high, value):
+def half_put(number: int, is_high: int, value: int) -> int:
     """Returns a number of 64 bits whose high or low half is a value."""
     return number & 0xFFFFFFFF | value << 32 if is_high else number >> 32 << 32 | value
 
 
-def foresee(state, word, ram_end, control):
+def foresee(state: State, word: int | None, ram_end: int, control: Control) -> tuple[Trap | None, int | None]:
     """Returns the trap that comes at a state, as its cause, its value and which entry of memory protection made it, or
     None; and where the pc goes where none comes, None where it returns from a trap."""
     if control.is_interrupted():
@@ -218,7 +218,7 @@ def foresee(state, word, ram_end, control):
     return None, target
 
 
-def target_of(state, known):
+def target_of(state: State, known: Instruction) -> int:
     """Returns where an instruction leads, if it is no trap and no return from one."""
     target = state.pc + 4
     if known.form == "J":
@@ -234,7 +234,7 @@ def target_of(state, known):
     return target & 0xFFFFFFFF
 
 
-def trap_of_access(state, known, ram_end, control):
+def trap_of_access(state: State, known: Instruction, ram_end: int, control: Control) -> Trap | None:
     """Returns the trap that a load or a store is, or None."""
     address = state.register(known.rs1) + known.immediate & 0xFFFFFFFF
     width = WIDTHS.get(known.name, 4)
@@ -248,7 +248,7 @@ def trap_of_access(state, known, ram_end, control):
     return None
 
 
-def denials(state, word):
+def denials(state: State, word: int) -> list[Trap]:
     """Returns the causes and values of the exceptions that user mode or memory protection may make of a step."""
     known = decode(word)
     if known.is_load() or known.is_store():
@@ -259,7 +259,7 @@ def denials(state, word):
     return [(1, state.pc, None)]
 
 
-def store_of(state, word):
+def store_of(state: State, word: int | None) -> tuple[int, int] | None:
     """Returns the address and the word that an instruction stores, where it is SW, or None."""
     known = decode(word) if word is not None else None
     if known and known.name == "sw":
@@ -267,7 +267,7 @@ def store_of(state, word):
     return None
 
 
-def written_by(state, word):
+def written_by(state: State, word: int | None) -> tuple[int, int] | None:
     """Returns the address and the width of what an instruction writes to memory or a port, or None. Whether it traps, or an SC
     fails, is another matter."""
     known = decode(word) if word is not None else None
@@ -276,7 +276,7 @@ def written_by(state, word):
     return state.register(known.rs1) + known.immediate & 0xFFFFFFFF, WIDTHS.get(known.name, 4)
 
 
-def note_of(state, known, ram_end):
+def note_of(state: State, known: Instruction, ram_end: int) -> str:
     """Returns what an instruction stores, or which port it loads from, in words, and nothing for others."""
     if not (known.is_load() or known.is_store()):
         return ""

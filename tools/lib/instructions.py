@@ -1,6 +1,7 @@
 """The instructions of a machine, as docs/machine.md has them, and the names of its registers."""
 
 import functools
+from collections.abc import Callable
 
 ENTRIES = 8
 
@@ -45,7 +46,7 @@ ABI_NAMES = (
 ).split()
 
 
-def signed(value, bits):
+def signed(value: int, bits: int) -> int:
     """Returns the number that the low bits of a value are in two's complement."""
     value &= (1 << bits) - 1
     return value - (value >> (bits - 1) << bits)
@@ -54,7 +55,7 @@ def signed(value, bits):
 class Instruction:
     """A word that matches a row, with its fields."""
 
-    def __init__(self, word, name, form):
+    def __init__(self, word: int, name: str, form: str):
         self.name, self.form = name, form
         self.rd, self.rs1, self.rs2 = word >> 7 & 31, word >> 15 & 31, word >> 20 & 31
         self.csr = word >> 20
@@ -67,13 +68,13 @@ class Instruction:
             "shift": word >> 20 & 31,
         }.get(form, 0)
 
-    def is_load(self):
+    def is_load(self) -> bool:
         return self.name in ("lb", "lh", "lw", "lbu", "lhu", "lr.w")
 
-    def is_store(self):
+    def is_store(self) -> bool:
         return self.form in ("S", "A") and self.name != "lr.w"
 
-    def text(self, pc, names, place_of):
+    def text(self, pc: int, names: list[str], place_of: Callable[[int], str]) -> str:
         """Returns the instruction as an assembler has it."""
         rd, rs1, rs2 = names[self.rd], names[self.rs1], names[self.rs2]
         if self.form == "bare":
@@ -97,7 +98,7 @@ class Instruction:
 
 
 @functools.lru_cache(maxsize=None)
-def decode(word):
+def decode(word: int) -> Instruction | None:
     """Returns the instruction of a word, or None where it is none."""
     for mask, bits, name, form in ROWS:
         if word & mask == bits:
@@ -110,7 +111,7 @@ OTHERS = {0x07: "floating point", 0x27: "floating point", 0x53: "floating point"
 OTHERS |= {opcode: "floating point" for opcode in (0x43, 0x47, 0x4B, 0x4F)}
 
 
-def lack_of(word):
+def lack_of(word: int) -> str:
     """Returns what a word is that matches no row, in words, or nothing where that can't be told."""
     if word & 0xFFFF and word & 3 != 3:
         return "a compressed instruction"

@@ -1,7 +1,7 @@
 """Shows the steps of a machine as lines."""
 
 from lib.families import STEPS_IN_A_SCRIPT
-from lib.harts import DATA, EXIT_WITH_BYTES, PEER, RAM, RECEIVE, SEND, TALK, State, Trap, note_of, store_of
+from lib.harts import DATA, EXIT_WITH_BYTES, PEER, RAM, RECEIVE, SEND, TALK, note_of, store_of
 from lib.instructions import decode, lack_of
 from lib.sayings import CAUSES
 from lib.traces import Step, Steps
