@@ -3,10 +3,10 @@
 import os
 import sys
 
-sys.path.insert(0, f"{os.path.dirname(os.path.dirname(os.path.realpath(__file__)))}/tools/lib")
-from ports import (ARG0, ARG1, BLOCK_COMMAND, BUFFER, CLONE, CLONE_ID, COMMAND, EXIT, JOIN, READ, RESULT, SECTOR, TICKET,
+sys.path.insert(0, f"{os.path.dirname(os.path.dirname(os.path.realpath(__file__)))}/tools")
+from lib.ports import (ARG0, ARG1, BLOCK_COMMAND, BUFFER, CLONE, CLONE_ID, COMMAND, EXIT, JOIN, READ, RESULT, SECTOR, TICKET,
                    WRITE)  # fmt: skip
-from words import add, addi, beq, bne, jal, lui, lw, number, placed, slt, sub, sw, to
+from lib.words import add, addi, beq, bne, jal, lui, lw, number, placed, slt, sub, sw, to
 
 # Registers: x5 is the fork port, x9 a page of data, x6 to x8 are for use, x10 counts rounds, x11 what a child does, x12 is the
 # size of a page, x13 the block port.

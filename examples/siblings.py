@@ -6,10 +6,10 @@ The reports and the answers are those of whole copies. tests/siblings compares t
 import os
 import sys
 
-sys.path.insert(0, f"{os.path.dirname(os.path.dirname(os.path.realpath(__file__)))}/tools/lib")
-from ports import (ALLOT, ARG0, ARG1, CLONE, CLONE_ID, COMMAND, DATA, EXIT, JOIN, JSEL, JVALUE, KILL, PEER, RECEIVE, RESULT, SEND,
+sys.path.insert(0, f"{os.path.dirname(os.path.dirname(os.path.realpath(__file__)))}/tools")
+from lib.ports import (ALLOT, ARG0, ARG1, CLONE, CLONE_ID, COMMAND, DATA, EXIT, JOIN, JSEL, JVALUE, KILL, PEER, RECEIVE, RESULT, SEND,
                    SIBLINGS, TALK, TICKET)  # fmt: skip
-from words import add, addi, beq, bne, jal, lui, lw, number, placed, sb, sub, sw, to
+from lib.words import add, addi, beq, bne, jal, lui, lw, number, placed, sb, sub, sw, to
 
 # Registers: x5 is the fork port and x13 the sibling port, x6 is for commands, x7 has the ticket's number, x8 the number among
 # the siblings, x9 counts rounds, x10 and x11 are peers, x12 a word, x14 a sum. They are 0 at the start.

@@ -11,11 +11,11 @@ import sys
 import tempfile
 
 ROOT = os.path.dirname(os.path.dirname(os.path.dirname(os.path.realpath(__file__))))
-sys.path[:0] = [f"{ROOT}/tools/lib", f"{ROOT}/examples", f"{ROOT}/tests/lib"]
+sys.path[:0] = [f"{ROOT}/tools", f"{ROOT}/examples", f"{ROOT}/tests/lib"]
 sys.dont_write_bytecode = True
 
 import make
-from assembly import assembled
+from lib.assembly import assembled
 
 SECONDS_A_RUN = 60
 LONGEST_TELLING = 24

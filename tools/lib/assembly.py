@@ -8,8 +8,11 @@ are, `label:` names the place of the next word, and what follows a `#` is a comm
 
 import re
 
-import ports
-from instructions import CSRS, INSTRUCTIONS, encoded
+from lib import ports
+from lib.encoding import INSTRUCTIONS, encoded
+from lib.instructions import CSRS as CSR_NAMES
+
+CSRS = {name: number for number, name in CSR_NAMES.items()}
 
 # Short forms, and the instruction that each stands for.
 SHORT = {

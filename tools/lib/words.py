@@ -2,7 +2,7 @@
 
 from functools import partial
 
-from instructions import encoded
+from lib.encoding import encoded
 
 lui, addi, add, sub, slt, lw, sw, sb, bne, beq = (partial(encoded, name) for name in "lui addi add sub slt lw sw sb bne beq".split())
 jal = partial(encoded, "jal", 0)
