@@ -1,6 +1,7 @@
 /* What picolibc asks of the machine for its streams, and where its own functions fall short. */
 
 #include <errno.h>
+#include <stdbool.h>
 #include <stdio.h>
 #include <unistd.h>
 #include "snow.h"
@@ -51,17 +52,27 @@ FILE *const stdin = &input.cfile.file;
 FILE *const stdout = &output.cfile.file;
 FILE *const stderr = &error.cfile.file;
 
-/* The linker has picolibc's own fdopen under the second name, and this one in its place. A descriptor of the console has
- * a stream already. */
+/* picolibc's own fdopen and fileno know of files alone. The linker has them under the names __real_.., and calls of them lead
+ * to these, by which the descriptors of the console have these streams. */
 FILE *__real_fdopen(int number, const char *mode);
+int __real_fileno(FILE *stream);
 
 FILE *__wrap_fdopen(int number, const char *mode)
 {
     FILE *const consoles[] = {[STDIN_FILENO] = stdin, [STDOUT_FILENO] = stdout, [STDERR_FILENO] = stderr};
-    /* the console, as far as it was not closed */
-    if (number >= STDIN_FILENO && number <= STDERR_FILENO && lseek(number, 0, SEEK_CUR) < 0 && errno == ESPIPE)
-        return consoles[number];
-    return __real_fdopen(number, mode);
+    /* closed, the number may be that of a file */
+    bool is_console = lseek(number, 0, SEEK_CUR) < 0 && errno == ESPIPE;
+
+    return is_console ? consoles[number] : __real_fdopen(number, mode);
+}
+
+int __wrap_fileno(FILE *stream)
+{
+    if (stream == stdin)
+        return STDIN_FILENO;
+    if (stream == stdout)
+        return STDOUT_FILENO;
+    return stream == stderr ? STDERR_FILENO : __real_fileno(stream);
 }
 
 /* picolibc's own loses a last line that has no newline. */

@@ -89,7 +89,7 @@ static _Noreturn void end_by(int number)
     snow_print("ended by signal ");
     snow_print_number((uint32_t)number);
     snow_print(": ");
-    snow_print(strsignal(number));
+    snow_print(number == SIGABRT ? "Aborted" : strsignal(number));
     snow_put('\n');
     snow_exit(SNOW_SIGNALLED + (uint32_t)number);
 }
