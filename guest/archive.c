@@ -282,7 +282,7 @@ static bool take_ahead(char type, uint32_t sector, uint32_t size, struct ahead *
 
     if (!text)
         return false;
-    size = (uint32_t)archive_read(&content, 0, text, size);
+    archive_read(&content, 0, text, size);
     text[size] = '\0';
     if (type == LONG_NAME)
         taken = replace_text(&ahead->name, text, ARCHIVE_PATH);
@@ -317,7 +317,7 @@ static bool take_header(const struct header *header, struct ahead *ahead, uint32
     /* directories and links have a size in some archives, and bytes in none */
     if (header->type >= LNKTYPE && header->type <= FIFOTYPE)
         size = 0;
-    archive.is_damaged = size > left * SECTOR_BYTES;
+    archive.is_damaged = (size + SECTOR_BYTES - 1) / SECTOR_BYTES > left;
     if (!archive.is_damaged)
         *sector += (size + SECTOR_BYTES - 1) / SECTOR_BYTES;
     if (is_ahead)
@@ -502,16 +502,19 @@ const struct archive_entry *archive_next(const struct archive_entry *directory, 
     return NULL;
 }
 
+bool archive_is_whole(const struct archive_entry *file)
+{
+    return file->size == 0 || file->sector + (file->size - 1) / SECTOR_BYTES < snow_sectors();
+}
+
 /* Copies bytes of a sector, from a place within it on, by the port: no sector is kept, so a guest that writes its disk sees
- * what it wrote. Returns whether the disk has the sector. */
-static bool copy_sector(uint32_t sector, uint32_t at, uint8_t *to, uint32_t length)
+ * what it wrote. */
+static void copy_sector(uint32_t sector, uint32_t at, uint8_t *to, uint32_t length)
 {
     uint32_t word = 0;
 
     SNOW_BLOCK_PORT->sector = sector;
     SNOW_BLOCK_PORT->command = READ_SECTOR;
-    if (SNOW_BLOCK_PORT->status != SNOW_DISK_DONE)
-        return false;
     if ((uintptr_t)to % 4 == 0 && at % 4 == 0)
         for (; length >= 4; length -= 4, at += 4, to += 4) {
             word = SNOW_BLOCK_PORT->buffer[at / 4];
@@ -522,30 +525,22 @@ static bool copy_sector(uint32_t sector, uint32_t at, uint8_t *to, uint32_t leng
             word = SNOW_BLOCK_PORT->buffer[at / 4];
         *to++ = (uint8_t)(word >> 8 * (at % 4));
     }
-    return true;
 }
 
-ptrdiff_t archive_read(const struct archive_entry *file, uint32_t at, void *to, size_t length)
+size_t archive_read(const struct archive_entry *file, uint32_t at, void *to, size_t length)
 {
     uint8_t *next = to;
+    uint32_t left, count;
 
     if (at >= file->size)
         return 0;
     if (length > file->size - at)
         length = file->size - at;
-    while (length) {
+    for (left = length; left; left -= count, at += count, next += count) {
         uint32_t from = at % SECTOR_BYTES;
-        uint32_t count = length < SECTOR_BYTES - from ? length : SECTOR_BYTES - from;
 
-        if (!copy_sector(file->sector + at / SECTOR_BYTES, from, next, count))
-            break;
-        next += count;
-        at += count;
-        length -= count;
+        count = left < SECTOR_BYTES - from ? left : SECTOR_BYTES - from;
+        copy_sector(file->sector + at / SECTOR_BYTES, from, next, count);
     }
-    if (length && next == (uint8_t *)to) {
-        errno = EIO;
-        return -1;
-    }
-    return next - (uint8_t *)to;
+    return length;
 }

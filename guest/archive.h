@@ -35,8 +35,10 @@ const struct archive_entry *archive_find(const char *path, bool follow);
 /* Returns the entry that is behind another one in the same directory, or the first one for NULL, by name; or NULL. */
 const struct archive_entry *archive_next(const struct archive_entry *directory, const struct archive_entry *before);
 
-/* Copies bytes of a file from a place on, as many as it has up to the length. Returns how many they are, or -1 and EIO
- * where the disk ends before the first of them. */
-ptrdiff_t archive_read(const struct archive_entry *file, uint32_t at, void *to, size_t length);
+/* Returns whether all bytes of a file are on the disk, and not cut off. */
+bool archive_is_whole(const struct archive_entry *file);
+
+/* Copies bytes of a file that is whole from a place on, as many as it has up to the length. Returns how many they are. */
+size_t archive_read(const struct archive_entry *file, uint32_t at, void *to, size_t length);
 
 #endif

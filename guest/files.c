@@ -56,7 +56,6 @@ static struct descriptor *opened(int number)
 
 int open(const char *path, int flags, ...)
 {
-    bool writes = (flags & O_ACCMODE) != O_RDONLY || flags & (O_CREAT | O_TRUNC);
     const struct archive_entry *file = archive_find(path, true);
 
     if (!file)
@@ -65,8 +64,10 @@ int open(const char *path, int flags, ...)
         return fail(EISDIR);
     if ((flags & O_CREAT) && (flags & O_EXCL))
         return fail(EEXIST);
-    if (writes && ((flags & O_ACCMODE) != O_RDONLY || flags & O_TRUNC))
+    if ((flags & O_ACCMODE) != O_RDONLY || flags & O_TRUNC)
         return fail(EROFS);
+    if (!archive_is_whole(file))
+        return fail(EIO);
     for (int number = 0; number < DESCRIPTORS; number++)
         if (descriptors[number].use == CLOSED) {
             descriptors[number] = (struct descriptor){FILE_ON_DISK, file, 0};
@@ -98,7 +99,7 @@ static ssize_t read_console(uint8_t *to, size_t length)
 ssize_t read(int number, void *to, size_t length)
 {
     struct descriptor *descriptor = opened(number);
-    ptrdiff_t count;
+    size_t count;
 
     if (!descriptor)
         return -1;
@@ -107,9 +108,8 @@ ssize_t read(int number, void *to, size_t length)
     if (descriptor->use == CONSOLE_OUTPUT)
         return fail(EBADF);
     count = archive_read(descriptor->file, descriptor->at, to, length);
-    if (count > 0)
-        descriptor->at += (uint32_t)count;
-    return count;
+    descriptor->at += count;
+    return (ssize_t)count;
 }
 
 ssize_t write(int number, const void *from, size_t length)
