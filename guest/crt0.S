@@ -27,8 +27,8 @@ _start:
     j       1b
 2:
 #ifdef SNOW_PICOLIBC
-    li      a0, 1                       # the name of the image is the one argument
-    la      a1, snow_arguments
+    la      a1, snow_arguments          # in a file that guest/cc makes
+    lw      a0, snow_argument_count
 #else
     li      a0, 0                       # no arguments
     li      a1, 0

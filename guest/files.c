@@ -8,6 +8,7 @@
 #include <string.h>
 #include <sys/stat.h>
 #include <unistd.h>
+#include <utime.h>
 #include "archive.h"
 #include "snow.h"
 
@@ -274,6 +275,71 @@ int mkdir(const char *path, mode_t mode)
 int rmdir(const char *path)
 {
     return unchanged(path);
+}
+
+int symlink(const char *target, const char *path)
+{
+    (void)target;
+    return unmade(path);
+}
+
+int chmod(const char *path, mode_t mode)
+{
+    (void)mode;
+    return unchanged(path);
+}
+
+int chown(const char *path, uid_t user, gid_t group)
+{
+    (void)user, (void)group;
+    return unchanged(path);
+}
+
+int truncate(const char *path, off_t size)
+{
+    (void)size;
+    return unchanged(path);
+}
+
+int utime(const char *path, const struct utimbuf *times)
+{
+    (void)times;
+    return unchanged(path);
+}
+
+/* Fails to change what a descriptor is of. */
+static int unchanged_opened(int number)
+{
+    return opened(number) ? fail(EROFS) : -1;
+}
+
+int fchmod(int number, mode_t mode)
+{
+    (void)mode;
+    return unchanged_opened(number);
+}
+
+int fchown(int number, uid_t user, gid_t group)
+{
+    (void)user, (void)group;
+    return unchanged_opened(number);
+}
+
+int ftruncate(int number, off_t size)
+{
+    (void)size;
+    return unchanged_opened(number);
+}
+
+int fsync(int number)
+{
+    return opened(number) ? 0 : -1;
+}
+
+/* Nothing is made for which the bits would count. */
+mode_t umask(mode_t mask)
+{
+    return mask;
 }
 
 /* ---- Directories ---- */

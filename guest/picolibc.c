@@ -95,7 +95,3 @@ int fflush(FILE *stream)
 {
     return stream && stream->flush ? stream->flush(stream) : 0;
 }
-
-/* ---- What main is given: the name of the image, by which guest/cc compiles this ---- */
-
-char *snow_arguments[] = {(char[]){SNOW_NAME}, NULL};
