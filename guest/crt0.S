@@ -25,11 +25,17 @@ _start:
     addi    s0, s0, 4
     jalr    t0
     j       1b
-2:  li      a0, 0                       # no arguments
-    li      a1, 0
-    call    main
+2:
 #ifdef SNOW_PICOLIBC
-    call    exit                        # what atexit was told, and then _exit
+    la      a1, snow_arguments          # in a file that guest/cc makes
+    lw      a0, snow_argument_count
+#else
+    li      a0, 0                       # no arguments
+    li      a1, 0
+#endif
+    call    main
+#if defined SNOW_PICOLIBC || defined SNOW_CPLUSPLUS
+    call    exit                        # what atexit was told, destructors, and then _exit
 #endif
 
     .globl _exit
@@ -87,6 +93,22 @@ tell_trap:
     add     a0, a0, a3
     li      t1, TRAPPED
     add     a0, a0, t1
+#ifdef SNOW_PICOLIBC
+    mv      s0, a0                      # what the trap means is told on a stack anew, as nothing goes back
+    la      t0, end_trapped
+    csrw    mtvec, t0
+    srli    a0, sp, 31
+    xori    a0, a0, 1
+    la      sp, __stack_top
+    .option push
+    .option norelax
+    la      gp, __global_pointer$
+    .option pop
+    call    snow_explain_trap
+    .balign 4
+end_trapped:
+    mv      a0, s0
+#endif
     j       _exit
 
     .section .rodata.tell_trap, "a"

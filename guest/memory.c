@@ -2,6 +2,7 @@
 
 #include <stddef.h>
 #include <stdint.h>
+#include "snow.h"
 
 /* These loops must not be made calls of the functions that they are. */
 #pragma GCC optimize("no-tree-loop-distribute-patterns")
@@ -52,4 +53,11 @@ int memcmp(const void *one, const void *other, size_t size)
         if (*a != *b)
             return *a - *b;
     return 0;
+}
+
+/* Ends the machine as the abort of a C library does, of which no signal is handled here. */
+_Noreturn void abort(void)
+{
+    snow_print("ended by signal 6: Aborted\n");
+    snow_exit(SNOW_ABORTED);
 }

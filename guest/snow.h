@@ -1,4 +1,4 @@
-/* The machine of `snow` for guests in C: its registers and commands, and inline calls for them.
+/* The machine of `snow` for guests in C and C++: its registers and commands, and inline calls for them.
  *
  * A guest runs on one hart, in machine mode, and its tasks in user mode (docs/machine.md). Outside RAM it has a
  * timer, a console, a disk, the fork port and the sibling port. The registers of the console are bytes, and all
@@ -9,6 +9,20 @@
 #define SNOW_H
 
 #include <stdint.h>
+
+#ifdef __cplusplus
+extern "C" {
+#define SNOW_NORETURN [[noreturn]]
+#define SNOW_AT_LEAST(count) /* C++ has no word for the least size of an array that a function is given */
+#else
+#define SNOW_NORETURN _Noreturn
+#define SNOW_AT_LEAST(count) static count
+#endif
+
+/* ---- RAM ---- */
+
+#define SNOW_RAM 0x80000000u    /* the address of the first byte */
+#define SNOW_PAGE_BYTES 4096u   /* RAM is so many bytes for each page of --ram */
 
 /* ---- The fork port, at 0x10002000 ---- */
 
@@ -144,7 +158,7 @@ static inline uint32_t snow_value(uint32_t child)
 
 /* Copies the bytes that a child of the last join handed over, by its number from 1, to a buffer of 64 bytes, and zeros
  * behind them. Returns how many they are: 0 where it handed over none, there is no such child, or it ended by its limit. */
-static inline uint32_t snow_joined_bytes(uint32_t child, uint32_t buffer[static SNOW_HANDED_WORDS])
+static inline uint32_t snow_joined_bytes(uint32_t child, uint32_t buffer[SNOW_AT_LEAST(SNOW_HANDED_WORDS)])
 {
     SNOW_FORK_PORT->jsel = child;
     for (int at = 0; at < SNOW_HANDED_WORDS; at++)
@@ -163,7 +177,7 @@ static inline uint32_t snow_kill(uint32_t ticket)
 }
 
 /* Ends this machine with a value. Its children that it has not joined are killed. */
-static inline _Noreturn void snow_exit(uint32_t value)
+SNOW_NORETURN static inline void snow_exit(uint32_t value)
 {
     SNOW_FORK_PORT->arg0 = value;
     SNOW_FORK_PORT->command = SNOW_EXIT;
@@ -173,7 +187,7 @@ static inline _Noreturn void snow_exit(uint32_t value)
 /* Ends this machine as snow_exit does, and hands over so many bytes of RAM from an address on, up to 64, as they are
  * then. Its parent reads them by snow_joined_bytes once it has joined this machine, and the report tells them. Where
  * they are more, or not all of RAM, the machine is to end all the same: it traps, as by EBREAK. */
-static inline _Noreturn void snow_exit_bytes(uint32_t value, const void *address, uint32_t length)
+SNOW_NORETURN static inline void snow_exit_bytes(uint32_t value, const void *address, uint32_t length)
 {
     SNOW_FORK_PORT->arg0 = value;
     SNOW_FORK_PORT->arg1 = (uint32_t)(uintptr_t)address;
@@ -266,6 +280,12 @@ static inline uint32_t snow_receive(uint32_t peer, uint32_t *word)
  * with `stack overflow` before, in place of snow_trap. */
 #define SNOW_TRAPPED 900000u
 #define SNOW_TRAPPED_BY_TIMER (SNOW_TRAPPED + 32 + 7)
+void snow_trap(void);
+
+/* What a guest exits with that a signal ends: this and the number of the signal. abort ends it so, and with it an assert
+ * that fails and a call of a pure virtual function; and raise or kill, of a signal that it does not handle. */
+#define SNOW_SIGNALLED 910000u
+#define SNOW_ABORTED (SNOW_SIGNALLED + 6)
 
 /* The causes of exceptions. */
 enum {
@@ -296,6 +316,9 @@ static inline void snow_set_trap(void (*handler)(void))
 }
 
 /* ---- The timer, at 0x02004000 ---- */
+
+/* How many steps the clocks of the C library take for a second. */
+#define SNOW_STEPS_A_SECOND 1000000
 
 #define SNOW_TIMER_COMPARE ((volatile uint32_t *)0x02004000) /* mtimecmp, low half and high half */
 #define SNOW_TIMER_TIME ((volatile uint32_t *)0x0200BFF8)    /* mtime, low half and high half */
@@ -388,7 +411,7 @@ static inline int snow_returned(const struct snow_stop *stop)
 
 /* Makes entries of protection of the regions, two of each, as snow_user does. They bind user mode alone. Returns
  * whether they are made: the ends are multiples of 4, the rights those above, and no entry was locked. */
-static inline int snow_protect(const struct snow_region regions[static SNOW_REGIONS])
+static inline int snow_protect(const struct snow_region regions[SNOW_AT_LEAST(SNOW_REGIONS)])
 {
     uint32_t bytes[SNOW_REGIONS / 2] = {0}, wrong = 0;
 
@@ -412,6 +435,9 @@ static inline int snow_protect(const struct snow_region regions[static SNOW_REGI
     return SNOW_READ_CSR(pmpcfg0) == bytes[0] && SNOW_READ_CSR(pmpcfg1) == bytes[1];
 }
 
+/* What the guest may have for the ECALLs of its tasks, as snow_user says below. */
+uint32_t snow_service(const uint32_t registers[8]);
+
 /* What snow_user calls, in user.S. */
 void snow_enter_user(uint32_t (*task)(void), void *stack, struct snow_stop *stop);
 
@@ -427,7 +453,7 @@ void snow_enter_user(uint32_t (*task)(void), void *stack, struct snow_stop *stop
  * is given is not trusted: snow_may tells whether the task itself may go to an address. A trap of its own goes to the
  * guest's handler. It does not call snow_user, whose regions would be those of the task. */
 static inline struct snow_stop snow_user(uint32_t (*task)(void), void *stack,
-                                         const struct snow_region regions[static SNOW_REGIONS])
+                                         const struct snow_region regions[SNOW_AT_LEAST(SNOW_REGIONS)])
 {
     struct snow_stop stop = {SNOW_UNPROTECTED, 0, 0, 0};
 
@@ -438,7 +464,7 @@ static inline struct snow_stop snow_user(uint32_t (*task)(void), void *stack,
 }
 
 /* Returns whether a task may do this with all of so many bytes from an address on, which are in one region. */
-static inline int snow_may(const struct snow_region regions[static SNOW_REGIONS], uint32_t rights, uint32_t address,
+static inline int snow_may(const struct snow_region regions[SNOW_AT_LEAST(SNOW_REGIONS)], uint32_t rights, uint32_t address,
                            uint32_t length)
 {
     if (address + length < address)
@@ -558,5 +584,9 @@ static inline uint32_t snow_disk_write(uint32_t sector, const uint32_t *words)
     SNOW_BLOCK_PORT->command = 2;
     return SNOW_BLOCK_PORT->status;
 }
+
+#ifdef __cplusplus
+}
+#endif
 
 #endif

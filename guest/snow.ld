@@ -31,6 +31,9 @@ SECTIONS
         __init_array_start = .;
         KEEP(*(SORT_BY_INIT_PRIORITY(.init_array.*) .init_array))
         __init_array_end = .;
+        __fini_array_start = .;
+        KEEP(*(SORT_BY_INIT_PRIORITY(.fini_array.*) .fini_array))
+        __fini_array_end = .;
         __code_end = .;
     } >ram :code
 
