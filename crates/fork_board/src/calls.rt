@@ -1,7 +1,7 @@
 //! The calls of a world, each in a turn of its pass.
 ghost use Rattle.std.specs.Prelude.{◌≡◌, IfSome, IsSome};
 ghost use Rattle.talking_history.specs.Histories.{row};
-ghost use Rattle.talking_history.specs.Rows.{forked, halted, joined, killed};
+ghost use Rattle.talking_history.specs.Rows.{ended, forked, halted, joined, killed};
 ghost use Rattle.vm_cell.specs.Standing.{IsClone, IsKill, standing_call, standing_talk};
 ghost use Rattle.world_core.specs.Answers.{IsJoinCall, IsLentOf, home_by, said_by};
 ghost use Rattle.world_core.specs.Lent.{vm_of};
@@ -42,6 +42,18 @@ impl Board {
         requires of_depot { IsLentOf (depot_of self.now.opening) lease }
         ensures makes { Makes pass result.0 (placed_entry (home_by lease.now.ending) lease.name lease.ran result.1) }
         ensures places { Places (home_by lease.now.ending) lease result.0 result.1 }
+    {
+        self.hand_back(rt, pass, lease, Deed::Give)
+    }
+
+    /// Takes back a machine that has ended, and drops its descendants. It takes no memory.
+    pub fn end<R: Wait>(&self, rt: &R, pass: Pass, lease: Lease) -> (Pass, Placed)
+        requires board { pass.board ≡ self.now }
+        requires held { IsHeld pass lease }
+        requires of_depot { IsLentOf (depot_of self.now.opening) lease }
+        requires ended { IsSome lease.now.ending }
+        ensures makes { Makes pass result.0 (placed_entry ended lease.name lease.ran result.1) }
+        ensures places { Places ended lease result.0 result.1 }
     {
         self.hand_back(rt, pass, lease, Deed::Give)
     }

@@ -113,6 +113,9 @@ fn hands_back<R: Wait>(
     if is_at_a_talk(&lease) {
         return talks(rt, alloc, board, pass, lease);
     }
+    if lease.ended().is_some() {
+        return board.end(rt, pass, lease);
+    }
     match lease.call() {
         Some(Call::Clone(_)) => board.fork(rt, alloc, pass, lease, depot),
         Some(Call::Join(_)) => board.join(rt, alloc, pass, lease),
