@@ -48,6 +48,8 @@ static TOLD: &[u8] =
 pub(crate) enum Deed<'a> {
     // A script drives it, and writes this.
     Drive(&'a [u8], &'a [u8]),
+    // A script drives it until the root has ended.
+    Finish,
     // A machine is taken and given back.
     GiveBack,
     // A reply is told, and heard.
@@ -65,6 +67,7 @@ fn world_does<R: Abort + Wait>(
 {
     match deed {
         Deed::Drive(script, text) => drives(rt, alloc, world, depot, script, text),
+        Deed::Finish => finishes(rt, alloc, world, depot),
         Deed::GiveBack => gives_back(rt, alloc, world, depot),
         Deed::Tell => tells(rt, alloc, world, depot),
     }
@@ -111,6 +114,19 @@ fn drives<R: Abort + Wait>(
     let script = in_form(rt, alloc, script);
     let told = succeeds(rt, drive(rt, alloc, &script, world, depot));
     are_equal(rt, &told.as_slice(), &text);
+}
+
+#[test]
+fn a_world_lends_the_outcome_once_its_root_has_ended(rt: HostRuntime) {
+    does(&rt, rt.alloc(), Deed::Finish);
+}
+
+fn finishes<R: Abort + Wait>(rt: &R, alloc: Global, world: &mut World, depot: &Depot)
+    requires { (t : Family) × HasMachines depot.now world.old t }
+{
+    let before = world.finished().is_some();
+    drives(rt, alloc, world, depot, SCRIPT, TOLD);
+    are_equal(rt, &[before, world.finished().is_some()], &[false, true]);
 }
 
 #[test]

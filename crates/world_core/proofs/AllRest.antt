@@ -35,7 +35,7 @@ use Rattle.world_core.specs.declared.cell.ChildSlot.TheVariants.{Asleep, Awake, 
 use Rattle.world_core.specs.declared.cell.State.{State}
 use Rattle.world_core.specs.declared.cell.State.TheVariants.{Home, Parked, Out}
 use Rattle.world_core.specs.declared.world.World.{World}
-use Rattle.world_core.specs.Outcome.{CellTells, CellsTell, GoesOn, GoesOnIn, HasAsleep, IsAtRest, RestsIn, BroodTells, SlotTells, SlotsTell, StateTells, TellsOutcome, is_parked}
+use Rattle.world_core.specs.Outcome.{CellTells, CellsTell, GoesOn, GoesOnIn, HasAsleep, IsAtRest, RestsIn, BroodTells, SlotTells, SlotsTell, StateTells, TellsFinished, TellsOutcome, is_parked}
 use Rattle.world_core.specs.Popped.{ShowsCells, sleeps}
 use Rattle.world_core.specs.Shows.{Member, forest, AreAwake, BornShows, BroodAt, CellShows, IsNotAsleep, Shows, SlotShows, SlotsShow, StateShows, is_asleep_slot, is_out_cell, is_out_state, slot_at}
 use Rattle.world_core.specs.World.{Forest, ShowsLive, ShowsTree, StandsFor, rests_in}
@@ -329,6 +329,13 @@ over-tells depot w f h over = by w.outcome h.tree over
     by : (o : Option Report) → ShowsTree o depot w f.tree → is_some o ≡ true → TellsOutcome f.tree (Ok o)
     by None shown over = absurd (cc)
     by (Some outcome) shown over = (inl shown.ended, shown.lines)
+
+pub finished-tells : (depot : Shelves) (w : World) (f : Forest) → StandsFor depot w f → TellsFinished f.tree w.outcome
+finished-tells depot w f h = by w.outcome h.tree
+  where
+    by : (o : Option Report) → ShowsTree o depot w f.tree → TellsFinished f.tree o
+    by None shown = shown.root.lives
+    by (Some outcome) shown = (shown.ended, shown.lines)
 
 pub err-tells : (t : Tree Member) (r : Result (Option Report) AllocError) → IsErr r → IsAtRest t → TellsOutcome t r
 err-tells t (Ok outcome) err rests = absurd (cc)

@@ -42,6 +42,11 @@ TellsOutcome t (Ok None) = GoesOn t
 TellsOutcome t (Ok (Some outcome)) = IsOver t × (lines_of outcome ≡ lines told_member [] t)
 TellsOutcome t (Err e) = IsAtRest t
 
+-- the answer of `finished`: there is an outcome exactly where the root has ended
+abbrev pub TellsFinished : Tree Member → Option Report → Type 0
+TellsFinished t None = has_ended forest t ≡ false
+TellsFinished t (Some outcome) = (has_ended forest t ≡ true) × (lines_of outcome ≡ lines told_member [] t)
+
 -- ---- whether it rests
 
 abbrev pub is_parked : State → Bool

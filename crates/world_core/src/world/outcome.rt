@@ -2,13 +2,14 @@
 
 ghost use Rattle.std.specs.Prelude.{◌≡◌, ◌<◌, ◌≤◌, ◌-◌, [], IfOk, IfSome, IsSomeAnd, MatchBool, vec_len};
 ghost use Rattle.std.specs.BTreeMap.{get};
+ghost use Rattle.std.specs.Option.{option_copied};
 ghost use Rattle.std.specs.Ordering.{nat_cmp};
 ghost use Rattle.image_depot.specs.Key.{Shelves};
 ghost use Rattle.forest_tree.specs.Tree.{Path, Tree};
 ghost use Rattle.machine_names.specs.NameOrder.{path_cmp};
 ghost use Rattle.run_report.specs.Lines.{lines};
 ghost use Rattle.run_report.specs.Report.{lines_of};
-ghost use Rattle.world_core.specs.Outcome.{CellTells, Cells, CellsTell, GoesOnIn, HasAsleep, NoneBelow, RestsIn, TellsOutcome};
+ghost use Rattle.world_core.specs.Outcome.{CellTells, Cells, CellsTell, GoesOnIn, HasAsleep, NoneBelow, RestsIn, TellsFinished, TellsOutcome};
 ghost use Rattle.world_core.specs.Shows.{AreAwake, Member, told_member};
 ghost use Rattle.world_core.specs.Talking.{SetsSlot};
 ghost use Rattle.world_core.specs.World.{Forest, IsWorld, StandsFor};
@@ -43,6 +44,13 @@ impl World {
         }
         let outcome = stuck_outcome(alloc, cells)?;
         Ok(Some(outcome))
+    }
+
+    /// Lends how the family came to its end by the end of its root, and `None` exactly where the root lives. It takes no memory.
+    pub fn finished(&self) -> Option<&Outcome>
+        ensures { (depot : Shelves) (f : Forest) → StandsFor depot self.now f → TellsFinished f.tree (option_copied result) }
+    {
+        self.outcome.as_ref()
     }
 }
 
