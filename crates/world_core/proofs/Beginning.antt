@@ -25,6 +25,7 @@ use Rattle.machine_names.proofs.NameMaps.{updated-here, updated-apart}
 use Rattle.world_core.specs.declared.cell.Cell.{Cell}
 use Rattle.world_core.specs.declared.reason.Reason.{Reason}
 use Rattle.world_core.specs.declared.world.World.{World}
+use Rattle.world_core.specs.declared.world.leases.Leases.{Leases}
 use Rattle.ready_queue.specs.Ready.{Ready}
 use Rattle.world_core.specs.Listed.{IsListed}
 use Rattle.world_core.specs.Shows.{Member, forest, told_member, CellShows, Shows}
@@ -56,13 +57,13 @@ own-line : (vm : Paged) (ending : Ending) → vm.machine.ending ≡ Some ending
 unfolding lines
 own-line vm ending over = lines-ended told_member [] (at_start vm) no_entry ending over
 
-pub end-stands : (depot : Shelves) (vm : Paged) (ending : Ending) (outcome : Ended) (cells : BTreeMap Path Cell) (list : List Ready) (told : Vec Delivery)
+pub end-stands : (depot : Shelves) (vm : Paged) (ending : Ending) (outcome : Ended) (cells : BTreeMap Path Cell) (list : List Ready) (told : Vec Delivery) (leases : Leases)
     → vm.machine.ending ≡ Some ending → (port_of vm.machine).tickets ≡ [] → vm.machine.state.ports.sibling.siblings ≡ 0 → machines.is_good vm.machine ≡ true
     → ((name : Path) → get path_cmp cells name ≡ None)
     → outcome ≡ record { name = []; ending = Some ending; steps = vm.machine.steps; output = vm.machine.state.ports.console.output; log = [] }
-    → StandsFor depot (record { cells = cells; ready = list; halted = None; told = told; outcome = Some outcome; leases = None }) (world_of paged_machines paged_talks vm)
+    → StandsFor depot (record { cells = cells; ready = list; halted = None; told = told; outcome = Some outcome; leases = leases }) (world_of paged_machines paged_talks vm)
 unfolding boxed spots paged_machines machines lines_of
-end-stands depot vm ending outcome cells list told over none single good empty is = record {
+end-stands depot vm ending outcome cells list told leases over none single good empty is = record {
   whole = start-forest vm none single good;
   halted = refl;
   tree = record {
@@ -75,12 +76,12 @@ end-stands depot vm ending outcome cells list told over none single good empty i
 
 -- ---- a machine that lives
 
-module _ (depot : Shelves) (vm : Paged) (old cells : BTreeMap Path Cell) (list : List Ready) (cell : Cell) (told : Vec Delivery) where
+module _ (depot : Shelves) (vm : Paged) (old cells : BTreeMap Path Cell) (list : List Ready) (cell : Cell) (told : Vec Delivery) (leases : Leases) where
   abbrev first : Tree Member
   first = alone forest (at_start vm)
 
   abbrev start : World
-  start = record { cells = cells; ready = list; halted = None; told = told; outcome = None; leases = None }
+  start = record { cells = cells; ready = list; halted = None; told = told; outcome = None; leases = leases }
 
   none-below : (x : Branch) (rest : Path) → subtree (x ∷ rest) first ≡ None
   unfolding subtree brood_of child_at

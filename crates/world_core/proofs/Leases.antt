@@ -1,18 +1,17 @@
 -- A world that keeps other names of what was taken.
-use Rattle.std.proofs.Common.{◌≡◌, refl, Option}
-use Rattle.std.specs.Global.{Vec}
-use Rattle.forest_tree.specs.Tree.{Path}
+use Rattle.std.proofs.Common.{◌≡◌, refl}
 use Rattle.image_depot.specs.Key.{Shelves}
 use Rattle.talking_history.specs.Rows.{Row}
 use Rattle.world_core.specs.declared.reason.Reason.{Reason}
 use Rattle.world_core.specs.declared.world.Taken.{Taken}
 use Rattle.world_core.specs.declared.world.Taken.TheVariants.{Over, Stopped, Stuck, Idle, Took, Memory}
 use Rattle.world_core.specs.declared.world.World.{World}
+use Rattle.world_core.specs.declared.world.leases.Leases.{Leases}
 use Rattle.world_core.specs.Answers.{Goes, Takes}
 use Rattle.world_core.specs.World.{Forest, StandsFor}
 use Rattle.world_core.proofs.Giving.{same-stands}
 
-module _ (depot : Shelves) (f : Forest) (w : World) (names : Option (Vec Path)) where
+module _ (depot : Shelves) (f : Forest) (w : World) (names : Leases) where
   abbrev kept : World
   kept = record w { leases = names }
 

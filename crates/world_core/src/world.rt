@@ -26,6 +26,7 @@ ghost use Rattle.world_core.specs.Answers.{Answers, HandedOut, IsHandedOut, IsLe
 use crate::cell::{Cell, State};
 use crate::lease::Lease;
 use crate::reason::Reason;
+use crate::world::leases::Leases;
 use forest_model::Ending;
 use image_depot::{Depot, Sent};
 use machine_names::Name;
@@ -90,9 +91,8 @@ pub struct World {
     pub(crate) told: Vec<Sent>,
     /// How the root has ended, with all that the family did.
     pub(crate) outcome: Option<Outcome>,
-    /// The names of the machines that are on lease, as far as memory was there for them, and of some that have come back. There
-    /// are none before somebody asked: where one thread takes machines, none is on lease as it takes the next.
-    pub(crate) leases: Option<Vec<Name>>,
+    /// Names that tell whether a machine is on lease.
+    pub(crate) leases: Leases,
 }
 
 // By hand, since what a derive gives is proved in each crate above, for each type within.
@@ -142,13 +142,14 @@ impl World {
         let room = OutcomeRoom::new(alloc)?;
         let log = Vec::new(alloc);
         let told = Vec::new(alloc);
+        let leases = Leases::new(alloc)?;
         Ok(World {
             cells: BTreeMap::new(alloc),
             ready: ReadyQueue::new(),
             halted: None,
             told,
             outcome: Some(Outcome::new(room, root, Some(ending), steps, output, log)),
-            leases: None,
+            leases,
         })
     }
 
@@ -172,13 +173,14 @@ impl World {
         let mut ready = ReadyQueue::new();
         ready.push(turn);
         let told = Vec::new(alloc);
+        let leases = Leases::new(alloc)?;
         Ok(World {
             cells,
             ready,
             halted: None,
             told,
             outcome: None,
-            leases: None,
+            leases,
         })
     }
 

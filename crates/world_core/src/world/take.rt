@@ -45,7 +45,7 @@ impl World {
                 return taken;
             }
         }
-        if self.is_one_out(alloc) {
+        if self.is_one_out() {
             Taken::Idle
         } else {
             Taken::Stuck

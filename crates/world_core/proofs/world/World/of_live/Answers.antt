@@ -29,7 +29,7 @@ returns-clause-stands c = λ depot.
     subst (λ m. CellShows depot [] resting c.of_root.result (alone forest (at_start m))) same
     (c.of_root.ensures.shows depot resting [] (ap (λ (p : Paged). p.machine.ending) same ∙ c.requires.lives) of_depot
     (none-cloned (paged c.in_ok-vm.vm.value) (ap (λ (p : Paged). p.machine.state.ports.fork.tickets) same ∙ c.requires.no_ticket))) in
-    start-stands depot vm c.new-cells.result c.seat.new.cells c.push.new.self c.of_root.result c.new-told.result c.requires.lives c.requires.no_ticket c.requires.no_siblings c.requires.good
+    start-stands depot vm c.new-cells.result c.seat.new.cells c.push.new.self c.of_root.result c.new-told.result c.in_ok-leases.leases c.requires.lives c.requires.no_ticket c.requires.no_siblings c.requires.good
     (λ name. ap (lookup (is_at (path_cmp name))) c.new-cells.ensures.empty) inserted shows list
 
 pub returns-clause-images : goal.returns-clause-images

@@ -6,7 +6,7 @@ use Rattle.std.proofs.lemmas.Map.Iter.{btree_map_turn}
 use Rattle.machine_names.specs.NameOrder.{path_cmp, path_cmp_total}
 use Rattle.world_core.specs.Shows.{is_out_cell, is_out_state}
 use Rattle.world_core.proofs.TurnByTurn.{inside-by, never-due, out-later}
-use Rattle.world_core.proofs.world.leases.all_out.Goals as goal
+use Rattle.world_core.proofs.world.leases.Leases.look_over.Goals as goal
 
 unless : (b : Bool) (P Q R : Type 0) → (Q → R) → MatchBool b P Q → MatchBool b P R
 unless true P Q R f h = h

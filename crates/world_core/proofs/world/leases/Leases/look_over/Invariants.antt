@@ -4,7 +4,7 @@ use Rattle.std.specs.Map.{lookup}
 use Rattle.forest_tree.specs.Tree.{Path}
 use Rattle.machine_names.specs.NameOrder.{path_cmp}
 use Rattle.world_core.specs.Shows.{is_out_cell}
-use Rattle.world_core.proofs.world.leases.all_out.Given as goal
+use Rattle.world_core.proofs.world.leases.Leases.look_over.Given as goal
 
 -- one was seen that is on lease, or all that are on lease are among those that are left
 abbrev pub invariant-loop-name : goal.invariant-loop-name
