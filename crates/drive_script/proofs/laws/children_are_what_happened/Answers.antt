@@ -3,7 +3,7 @@ use Rattle.drive_script.proofs.laws.children_are_what_happened.Goals as goal
 
 pub returns : goal.returns
 returns c = record {
-  born = script-born;
+  born = λ lines s before after path child t p q h parts made bears there lives. script-born lines s before after path child t p h parts made bears q there lives;
   alone = λ lines s before after path child t p c h parts made bears there. (script-birth lines s before after path child t p h parts made bears c there).story_is;
   counted = λ lines s before after path child t p c h parts made bears there. (script-birth lines s before after path child t p h parts made bears c there).counted;
 }
