@@ -7,6 +7,7 @@ use Rattle.guest_files.specs.declared.stop.Stop.TheVariants.{WriteFault}
 use Rattle.guest_files.proofs.PartLemmas.{made-all, to-all}
 use Rattle.run_report.specs.Report.{Ended as Outcome, report, report_of}
 use Rattle.run_report.proofs.Begin.{outcome-report}
+use Rattle.command_texts.specs.Text.{HasLines}
 use Rattle.command_texts.proofs.Late.{run-late}
 use Rattle.command_texts.proofs.Made.{family-made, stop-silent}
 use Rattle.command_texts.proofs.Seeding.{before-all, stop-same, stops-unrun}
@@ -104,10 +105,13 @@ returns-in_err-files-clause-untouched g c =
 pub returns-in_err-outcome-clause-loads : goal.returns-in_err-outcome-clause-loads
 returns-in_err-outcome-clause-loads g c =
     let guest = c.args.guest.now in
+    let files = c.in_ok-files.files in
+    let lost = (0 < guest.clones) × IsOneLost g.W.Wire.streak c.run_files.new.wires.items in
     let stop = c.in_err-outcome.field-0.0 in
     let p = err_from_is_err_and c.from_residual-in_err-outcome.result c.from_residual-in_err-outcome.ensures.1 in
     rw (p.1, p.2)
-    (made-all (guest_loads guest) stop _ _ (run-late _ guest c.in_ok-files.files _ stop c.in_err-outcome.ensures.makes) (to-all guest) c.in_ok-files.ensures.asked)
+    (made-all (guest_loads guest) stop _ _ (run-late lost guest files (HasLines guest files) stop c.in_err-outcome.ensures.makes) (to-all guest)
+    c.in_ok-files.ensures.asked)
 
 pub returns-in_err-outcome-clause-untouched : goal.returns-in_err-outcome-clause-untouched
 returns-in_err-outcome-clause-untouched g c =
