@@ -7,8 +7,9 @@
 #include <stdlib.h>
 #include <string.h>
 #include <sys/stat.h>
+#include <sys/time.h>
+#include <sys/utime.h>
 #include <unistd.h>
-#include <utime.h>
 #include "archive.h"
 #include "snow.h"
 
@@ -301,9 +302,18 @@ int truncate(const char *path, off_t size)
     return unchanged(path);
 }
 
-int utime(const char *path, const struct utimbuf *times)
+/* picolibc has the struct of it, and no declaration. */
+int utime(const char *path, const struct utimbuf *when);
+
+int utime(const char *path, const struct utimbuf *when)
 {
-    (void)times;
+    (void)when;
+    return unchanged(path);
+}
+
+int utimes(const char *path, const struct timeval when[2])
+{
+    (void)when;
     return unchanged(path);
 }
 

@@ -6,7 +6,7 @@
 #include <unistd.h>
 #include "snow.h"
 
-/* ---- The streams, which are the console. What is put to it is out at once, so nothing is left to be flushed at the end or
+/* ---- The streams, which are the console: what is put to it is out at once, so nothing is left to be flushed at the end or
  * before a fork, and the place in the input is the machine's own. ---- */
 
 static int put(char byte, FILE *stream)
@@ -16,9 +16,12 @@ static int put(char byte, FILE *stream)
     return 0;
 }
 
+/* The file that stdin reads since freopen, or NULL for the console. */
+static FILE *redirected;
+
 static int get(FILE *stream)
 {
-    int byte = snow_get();
+    int byte = redirected ? getc(redirected) : snow_get();
 
     (void)stream;
     return byte < 0 ? _FDEV_EOF : byte;
@@ -32,7 +35,8 @@ static int done(FILE *stream)
 
 static off_t seek(FILE *stream, off_t offset, int from)
 {
-    (void)stream, (void)offset, (void)from;
+    if (redirected && stream == stdin)
+        return fseeko(redirected, offset, from) ? -1 : ftello(redirected);
     errno = ESPIPE;
     return -1;
 }
@@ -52,9 +56,10 @@ FILE *const stdin = &input.cfile.file;
 FILE *const stdout = &output.cfile.file;
 FILE *const stderr = &error.cfile.file;
 
-/* picolibc's own fdopen and fileno know of files alone. The linker has them under the names __real_.., and calls of them lead
- * to these, by which the descriptors of the console have these streams. */
+/* picolibc's own fdopen, fileno and freopen know of files alone. The linker has them under the names __real_.., and calls of
+ * them lead to these, by which the descriptors of the console have these streams. */
 FILE *__real_fdopen(int number, const char *mode);
+FILE *__real_freopen(const char *path, const char *mode, FILE *stream);
 int __real_fileno(FILE *stream);
 
 FILE *__wrap_fdopen(int number, const char *mode)
@@ -73,6 +78,28 @@ int __wrap_fileno(FILE *stream)
     if (stream == stdout)
         return STDOUT_FILENO;
     return stream == stderr ? STDERR_FILENO : __real_fileno(stream);
+}
+
+/* stdin may become a file. The others may not, since no file is written. */
+FILE *__wrap_freopen(const char *path, const char *mode, FILE *stream)
+{
+    FILE *file;
+
+    if (stream == stdout || stream == stderr) {
+        errno = EROFS;
+        return NULL;
+    }
+    if (stream != stdin)
+        return __real_freopen(path, mode, stream);
+    file = fopen(path, mode);
+    if (!file)
+        return NULL;
+    if (redirected)
+        fclose(redirected);
+    redirected = file;
+    clearerr(stdin);
+    stdin->unget = 0; /* what ungetc put back is gone with the old stream */
+    return stdin;
 }
 
 /* picolibc's own loses a last line that has no newline. */
