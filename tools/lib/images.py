@@ -287,7 +287,9 @@ class Image:
             return int(place, 16)
         if not functions:
             raise Problem(f"the image names no functions: {option} takes an address of eight digits")
-        near = changed or difflib.get_close_matches(place, known, 3, 0.5)
+        plain = {name.partition(".")[0] for name in known}
+        found = difflib.get_close_matches(place, plain, 3, 0.6)
+        near = changed or [name for name in known if name.partition(".")[0] in found]
         raise Problem(f"the image names no function {place}{f': it has {listed(near)}' if near else ''}")
 
 
