@@ -128,8 +128,8 @@ def body_fault(image: bytes, pages: int) -> tuple[int, str] | None:
     for segment in placed:
         if segment.address < RAM or segment.address + segment.in_ram > ram_end:
             return 10, place_fault(segment, pages, ram_end, max(other.address + other.in_ram for other in placed))
-    spans = sorted((segment.address, segment) for segment in placed if segment.in_ram)
-    for (_, one), (_, other) in zip(spans, spans[1:]):
+    spans = sorted(placed, key=lambda segment: segment.address)
+    for one, other in zip(spans, spans[1:]):
         if other.address < one.address + one.in_ram:
             return 11, f"has two segments that share bytes of RAM, {one.span()} and {other.span()}: {LINK}"
     if header.entry % 4 or not RAM <= header.entry < ram_end:
@@ -287,7 +287,9 @@ class Image:
             return int(place, 16)
         if not functions:
             raise Problem(f"the image names no functions: {option} takes an address of eight digits")
-        near = changed or difflib.get_close_matches(place, known, 3, 0.5)
+        plain = {name.partition(".")[0] for name in known}
+        found = difflib.get_close_matches(place, plain, 3, 0.6)
+        near = changed or [name for name in known if name.partition(".")[0] in found]
         raise Problem(f"the image names no function {place}{f': it has {listed(near)}' if near else ''}")
 
 

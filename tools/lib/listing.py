@@ -179,8 +179,8 @@ class Listing:
             return
         found = self.steps.last_writer(address, end)
         if not found:
-            before = f"since step {machine.born}, which made it: --machine {machine.name.rsplit('.', 2)[0]} tells of before" if machine.born else "at all: it is as the image has it"
-            print(f"machine {machine.name} has not changed the byte at {address:08x} {before}")
+            since = f"since step {machine.born}, which made it: --machine {machine.name.rsplit('.', 2)[0]} tells of before" if machine.born else "from its boot on: it is as the image has it"
+            print(f"no step up to {end} of machine {machine.name} changed the byte at {address:08x} {since}")
             return
         step, is_last = found
         if is_last:

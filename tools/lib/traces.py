@@ -208,9 +208,11 @@ class Steps:
         born = self.machine.born
         if end - born < 2:
             return end
-        final = self.state_at(end).numbers
-        if self.state_at(end - 1).numbers != final:
+        machine, regs = self.machine, f"regs {self.machine.name}"
+        before, _, final = machine.family.ask(machine.script_to(end - 1), [regs, f"step {machine.name} 1", regs])
+        if before != final:
             return end
+        final = State(final).numbers
         low, high, stride = born - 1, born, 1
         while self.state_at(high).numbers != final:
             low, high, stride = high, min(end - 1, born + stride), 2 * stride
