@@ -77,6 +77,8 @@ def ended_by(number: int, _frame: object) -> NoReturn:
 def main(tool: str, run: Callable[[list[str]], int | None], failed: int | None = None) -> NoReturn:
     """Runs a tool on the words of the command line, and ends with its status, which `run` returns. Where `failed` is given it is
     the status of each problem, for a tool whose other statuses mean something else."""
+    if signal.getsignal(signal.SIGINT) is signal.SIG_DFL:
+        signal.signal(signal.SIGINT, signal.default_int_handler)
     signal.signal(signal.SIGTERM, ended_by)
     signal.signal(signal.SIGHUP, ended_by)
     sys.stdout.reconfigure(encoding="utf-8", errors="surrogateescape")

@@ -179,7 +179,9 @@ class Listing:
             return
         found = self.steps.last_writer(address, end)
         if not found:
-            since = f"since step {machine.born}, which made it: --machine {machine.name.rsplit('.', 2)[0]} tells of before" if machine.born else "from its boot on: it is as the image has it"
+            since = "from its boot on: it is as the image has it"
+            if machine.born:
+                since = f"since step {machine.born}, which made it: --machine {machine.name.rsplit('.', 2)[0]} tells of before"
             print(f"no step up to {end} of machine {machine.name} changed the byte at {address:08x} {since}")
             return
         step, is_last = found

@@ -5,7 +5,7 @@ import time
 from collections.abc import Callable
 
 # After how many seconds there is a first line, and how many are between two.
-TERMINAL, PLAIN = (1.0, 0.2), (10.0, 10.0)
+TERMINAL, PLAIN = (1.0, 0.2), (30.0, 30.0)
 
 
 class Clock:

@@ -85,7 +85,8 @@ def ending(said: str) -> str | None:
     except (ValueError, IndexError):
         return None
     if isinstance(item, reports.Killed):
-        return f"machine {item.name.rsplit('.', 1)[0]} killed the {item.count} children of its ticket {item.name.rsplit('.', 1)[1]}, or ended before it joined them"
+        parent, ticket = item.name.rsplit(".", 1)
+        return f"machine {parent} killed the {item.count} children of its ticket {ticket}, or ended before it joined them"
     if item.ending == "limit":
         return (
             f"machine {item.name} came to its limit of {item.steps} steps: it takes more (--limit N, to 1000000000), runs for ever, or traps"
@@ -96,7 +97,8 @@ def ending(said: str) -> str | None:
     cause = (item.value or 0) - TRAPPED
     if cause in CAUSES or cause == TIMER:
         what = CAUSES.get(cause, "the timer's interrupt")
-        return f"machine {item.name} trapped, if it is a guest of guest/cc: cause {cause}, {what}; its output has the pc, and tools/trace IMAGE --to-trap the steps before it"
+        more = "its output has the pc, and tools/trace IMAGE --to-trap the steps before it"
+        return f"machine {item.name} trapped, if it is a guest of guest/cc: cause {cause}, {what}; {more}"
     return f"machine {item.name} ended itself with the value {item.value}"
 
 
