@@ -17,6 +17,12 @@ CAUSES = {
     8: "environment call from user mode",
     11: "environment call from machine mode",
 }
+# The C library of guests ends a machine by a signal that nobody handles with this and the signal's number.
+SIGNALLED = 910000
+SIGNALS = {
+    1: "SIGHUP", 2: "SIGINT", 3: "SIGQUIT", 4: "SIGILL", 5: "SIGTRAP", 6: "SIGABRT, as by abort or an assert that fails", 8: "SIGFPE",
+    9: "SIGKILL", 10: "SIGBUS", 11: "SIGSEGV", 13: "SIGPIPE", 14: "SIGALRM", 15: "SIGTERM",
+}  # fmt: skip
 # What the handler of guest/crt0.S makes of the timer's interrupt, whose cause is 0x80000007.
 TIMER = 39
 
@@ -99,6 +105,8 @@ def ending(said: str) -> str | None:
         what = CAUSES.get(cause, "the timer's interrupt")
         more = "its output has the pc, and tools/trace IMAGE --to-trap the steps before it"
         return f"machine {item.name} trapped, if it is a guest of guest/cc: cause {cause}, {what}; {more}"
+    if (signal := (item.value or 0) - SIGNALLED) in SIGNALS:
+        return f"machine {item.name} was ended by a signal, if it is a guest of guest/cc --picolibc: {SIGNALS[signal]}; its output says where"
     return f"machine {item.name} ended itself with the value {item.value}"
 
 
