@@ -20,6 +20,8 @@ const LONGEST_SLEEP: u64 = 256_000;
 pub struct Lookout {
     workers: u64,
     processors: u64,
+    /// How many have begun. Who has not counts for nothing.
+    begun: AtomicU64,
     /// How many are on duty.
     on_duty: AtomicU64,
     /// How many sleep and were not called.
@@ -37,12 +39,13 @@ pub struct Lookout {
 }
 
 impl Lookout {
-    /// Of so many workers, of which the first is on duty. The others are to sleep.
+    /// Of so many workers, none of which has begun.
     pub fn new(workers: usize, processors: usize) -> Lookout {
         Lookout {
             workers: workers as u64,
             processors: processors as u64,
-            on_duty: AtomicU64::new(1),
+            begun: AtomicU64::new(0),
+            on_duty: AtomicU64::new(0),
             asleep: AtomicU64::new(0),
             called: AtomicU64::new(0),
             returns: AtomicU64::new(0),
@@ -52,8 +55,18 @@ impl Lookout {
         }
     }
 
-    /// Whether there is nothing more to be done.
-    pub(crate) fn is_over(&self) -> bool {
+    /// Lets a worker begin, before it works: at once where nobody is on duty and some machine may be ready, as the first one
+    /// finds it, and else when it is called. One that gets no thread begins when there is nothing more to be done.
+    pub fn begin<R: Wait>(&self, rt: &R) {
+        self.begun.fetch_add(1, Ordering::SeqCst);
+        let has_processor = self.awake() <= self.processors;
+        if !(has_processor && self.is_wanted() && changes(&self.on_duty, 0, 1)) {
+            self.sleep(rt);
+        }
+    }
+
+    /// Returns whether there is nothing more to be done.
+    pub fn is_over(&self) -> bool {
         self.over.load(Ordering::SeqCst)
     }
 
@@ -134,12 +147,11 @@ impl Lookout {
     /// Calls a worker that sleeps, where nobody is on duty and some machine may be ready. Only where a worker has run its
     /// machine for very long may more be awake than there are processors.
     pub(crate) fn call(&self, is_very_long: bool) {
-        if self.on_duty.load(Ordering::SeqCst) > 0 || !self.may_be_ready() {
+        if !self.is_wanted() || self.asleep.load(Ordering::SeqCst) == 0 {
             return;
         }
-        let asleep = self.asleep.load(Ordering::SeqCst);
-        let has_processor = self.workers.saturating_sub(asleep) < self.processors;
-        if asleep == 0 || !(has_processor || is_very_long) || !changes(&self.on_duty, 0, 1) {
+        let has_processor = self.awake() < self.processors;
+        if !(has_processor || is_very_long) || !changes(&self.on_duty, 0, 1) {
             return;
         }
         if takes_one(&self.asleep) {
@@ -148,6 +160,17 @@ impl Lookout {
         } else {
             self.leave();
         }
+    }
+
+    /// How many have begun and do not sleep.
+    fn awake(&self) -> u64 {
+        let asleep = self.asleep.load(Ordering::SeqCst);
+        self.begun.load(Ordering::SeqCst).saturating_sub(asleep)
+    }
+
+    /// Whether nobody is on duty, and some machine may be ready.
+    fn is_wanted(&self) -> bool {
+        self.on_duty.load(Ordering::SeqCst) == 0 && self.may_be_ready()
     }
 
     /// Whether a machine was handed back since one looked last and found none ready.

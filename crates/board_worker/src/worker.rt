@@ -56,7 +56,7 @@ enum Turned {
 }
 
 /// Takes machines and runs them until the root has ended, the world was stopped, or no machine makes a step any more. The
-/// pages of clones come over a wire.
+/// pages of clones come over a wire. The lookout has let a worker begin before.
 pub fn work<R: Wait, W: Wire, G: Gate>(
     rt: &R,
     shared: &Shared<G>,
@@ -79,9 +79,6 @@ pub fn work<R: Wait, W: Wire, G: Gate>(
     let slice = u64::from(shared.settings.slice);
     let mut worker = Worker::new(shared.alloc, number, slice, claimant);
     let mut pass = pass;
-    if number > 0 {
-        shared.lookout.sleep(rt);
-    }
     for _ in rt.forever() {
         let (after, turned) = worker.turn(rt, shared, pass, wire);
         pass = after;

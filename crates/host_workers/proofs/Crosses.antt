@@ -21,10 +21,10 @@ state_send = search (sendable, pass_send, claim_pass.the_send) depth 40
 shared_sync : (ℓ : NamedLft) (G : RattleType) → IsSync G → IsSync (Shared.the_row ℓ G)
 shared_sync ℓ G g = search (sendable, crosses, board_sync, claims.the_sync, depot.the_sync, settings.the_sync) depth 40
 
--- what the closure takes along that lets half of the workers work
-pub half_send : (name : List ℕ) (runtime all inside states wires : NamedLft) (R W G : RattleType)
+-- what the closure takes along that lets the other workers work
+pub rest_send : (name : List ℕ) (runtime all inside states wires : NamedLft) (R W G : RattleType)
     → IsSync (param 0 R) → IsSend (param 1 W) → IsSync (param 2 G)
     → IsSend (TupleAt name (
     (shr_ref_field runtime (param 0 R) tt).row ∷ (shr_ref_field all (Shared.the_row inside (param 2 G)) tt).row
     ∷ (mut_slice_field states State.the_row tt).row ∷ (mut_slice_field wires (param 1 W) tt).row ∷ []))
-half_send name ℓ ℓ₁ ℓ₂ ℓ₃ ℓ₄ R W G r w g = search (shared_sync, state_send, sendable) depth 60
+rest_send name ℓ ℓ₁ ℓ₂ ℓ₃ ℓ₄ R W G r w g = search (shared_sync, state_send, sendable) depth 60

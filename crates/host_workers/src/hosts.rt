@@ -39,7 +39,7 @@ fn finish_of(first: Finish, second: Finish) -> Finish
     }
 }
 
-/// Lets a worker for each of the wires take machines and run them, on a thread of its own where there can be one, until
+/// Lets a worker for each of the wires take machines and run them, on a thread of its own where it is called and there can be one, until
 /// the root has ended, the world was stopped, or no machine makes a step any more. Their passes, by which they enter turns and
 /// claim pages, are split off from these, and are joined to them again. The workers have the numbers from 0 on at the gate.
 pub fn run_hosts<R: AllocGlobal + Threads + Wait + Sync, W: Wire + Send, G: Gate + Sync>(
@@ -130,10 +130,66 @@ fn deal(
     (left, states)
 }
 
-/// Lets the workers work, each from its state on and over its wire. They are halved again and again, and one half goes to
-/// a new thread, if there can be one: so the stack grows as the logarithm of their number.
-#[cycle(halves)]
+/// Lets the workers work, each from its state on and over its wire. The first works in this thread, once it is let begin.
+/// The others go to a new thread, if there can be one, in which the same holds: so a thread is made as one is called.
+#[cycle(rest)]
 fn work_all<R: Threads + Wait + Sync, W: Wire + Send, G: Gate + Sync>(
+    rt: &R,
+    shared: &Shared<G>,
+    states: &mut [State],
+    wires: &mut [W],
+)
+    requires due { All (IsDue shared.now.board.now shared.now.claims.now) states.old }
+    requires each { length states.old ≡ length wires.old }
+    requires some { 1 ≤ length wires.old }
+    ensures worked { HaveWorked W.streak wires.new states.old states.new }
+    ensures seeds { map W.seeds wires.new ≡ map W.seeds wires.old }
+    ensures len { length wires.new ≡ length wires.old }
+{
+    shared.lookout.begin(rt);
+    if wires.len() > 1 && !shared.lookout.is_over() {
+        let (here, there) = wires.split_at_mut(1);
+        let (first, rest) = states.split_at_mut(1);
+        work_beside(rt, shared, first, here, rest, there);
+        return;
+    }
+    work_in_turn(rt, shared, states, wires);
+}
+
+/// The first worker beside the others. A function of its own, so that what the closures require is what it is given.
+#[cycle(rest)]
+fn work_beside<R: Threads + Wait + Sync, W: Wire + Send, G: Gate + Sync>(
+    rt: &R,
+    shared: &Shared<G>,
+    first: &mut [State],
+    here: &mut [W],
+    rest: &mut [State],
+    there: &mut [W],
+)
+    requires crosses { IsSync R.row × IsSend W.row × IsSync G.row }
+    requires first { All (IsDue shared.now.board.now shared.now.claims.now) first.old × (length first.old ≡ length here.old) × (1 ≤ length here.old) }
+    requires rest { All (IsDue shared.now.board.now shared.now.claims.now) rest.old × (length rest.old ≡ length there.old) × (1 ≤ length there.old) }
+    ensures first { HaveWorked W.streak here.new first.old first.new × (length here.new ≡ length here.old) × (map W.seeds here.new ≡ map W.seeds here.old) }
+    ensures rest { HaveWorked W.streak there.new rest.old rest.new × (length there.new ≡ length there.old) × (map W.seeds there.new ≡ map W.seeds there.old) }
+{
+    let mut front = move ||
+        requires { All (IsDue shared.now.board.now shared.now.claims.now) first.now × (length first.now ≡ length here.now) × (1 ≤ length here.now) }
+        ensures { HaveWorked W.streak here.exit.now first.entry.now first.exit.now × (length here.exit.now ≡ length here.entry.now)
+            × (map W.seeds here.exit.now ≡ map W.seeds here.entry.now) }
+    { work_in_turn(rt, shared, first, here) };
+    let mut back = move ||
+        requires { IsSync R.row × IsSend W.row × IsSync G.row
+            × All (IsDue shared.now.board.now shared.now.claims.now) rest.now × (length rest.now ≡ length there.now) × (1 ≤ length there.now) }
+        ensures { HaveWorked W.streak there.exit.now rest.entry.now rest.exit.now × (length there.exit.now ≡ length there.entry.now)
+            × (map W.seeds there.exit.now ≡ map W.seeds there.entry.now) }
+    { work_all(rt, shared, rest, there) };
+    join_mut(rt, &mut back, &mut front);
+}
+
+/// Lets workers work in this thread, one after another. They are halved again and again, so the stack grows as the logarithm
+/// of their number.
+#[cycle(halves)]
+fn work_in_turn<R: Wait, W: Wire, G: Gate>(
     rt: &R,
     shared: &Shared<G>,
     states: &mut [State],
@@ -153,38 +209,8 @@ fn work_all<R: Threads + Wait + Sync, W: Wire + Send, G: Gate + Sync>(
     let half = wires.len() / 2;
     let (here, there) = wires.split_at_mut(half);
     let (first, second) = states.split_at_mut(half);
-    work_halves(rt, shared, first, here, second, there);
-}
-
-/// Two halves, one beside the other. A function of its own, so that what the closures require is what it is given.
-#[cycle(halves)]
-fn work_halves<R: Threads + Wait + Sync, W: Wire + Send, G: Gate + Sync>(
-    rt: &R,
-    shared: &Shared<G>,
-    first: &mut [State],
-    here: &mut [W],
-    second: &mut [State],
-    there: &mut [W],
-)
-    requires crosses { IsSync R.row × IsSend W.row × IsSync G.row }
-    requires first { All (IsDue shared.now.board.now shared.now.claims.now) first.old × (length first.old ≡ length here.old) × (1 ≤ length here.old) }
-    requires second { All (IsDue shared.now.board.now shared.now.claims.now) second.old × (length second.old ≡ length there.old) × (1 ≤ length there.old) }
-    ensures first { HaveWorked W.streak here.new first.old first.new × (length here.new ≡ length here.old) × (map W.seeds here.new ≡ map W.seeds here.old) }
-    ensures second { HaveWorked W.streak there.new second.old second.new × (length there.new ≡ length there.old) × (map W.seeds there.new ≡ map W.seeds there.old) }
-{
-    let mut front = move ||
-        requires { IsSync R.row × IsSend W.row × IsSync G.row
-            × All (IsDue shared.now.board.now shared.now.claims.now) first.now × (length first.now ≡ length here.now) × (1 ≤ length here.now) }
-        ensures { HaveWorked W.streak here.exit.now first.entry.now first.exit.now × (length here.exit.now ≡ length here.entry.now)
-            × (map W.seeds here.exit.now ≡ map W.seeds here.entry.now) }
-    { work_all(rt, shared, first, here) };
-    let mut back = move ||
-        requires { IsSync R.row × IsSend W.row × IsSync G.row
-            × All (IsDue shared.now.board.now shared.now.claims.now) second.now × (length second.now ≡ length there.now) × (1 ≤ length there.now) }
-        ensures { HaveWorked W.streak there.exit.now second.entry.now second.exit.now × (length there.exit.now ≡ length there.entry.now)
-            × (map W.seeds there.exit.now ≡ map W.seeds there.entry.now) }
-    { work_all(rt, shared, second, there) };
-    join_mut(rt, &mut front, &mut back);
+    work_in_turn(rt, shared, first, here);
+    work_in_turn(rt, shared, second, there);
 }
 
 /// Lets one worker work.
