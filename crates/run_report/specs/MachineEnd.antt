@@ -1,5 +1,5 @@
 -- How a machine came to its end, by the values of the code.
-use Rattle.std.specs.Prelude.{ℕ, List, [], Option, Some, None}
+use Rattle.std.specs.Prelude.{◌≡◌, ℕ, List, [], Option, Some, None}
 use Rattle.fork_port.specs.declared.ending.Ending.{Ending}
 use Rattle.fork_port.specs.declared.ending.Ending.TheVariants as endings
 use Rattle.fork_port.specs.Handed.{handed_of}
@@ -26,3 +26,7 @@ output_in (Stuck steps) = []
 output_in (Value value steps) = []
 output_in (Limit steps) = []
 output_in (Full full) = full.value.output.items
+
+-- both tell the same of a machine
+abbrev pub IsSameEnd : MachineEnd → MachineEnd → Type 0
+IsSameEnd e f = (ending_in f ≡ ending_in e) × (steps_in f ≡ steps_in e) × (output_in f ≡ output_in e)

@@ -5,7 +5,8 @@ ghost use Rattle.std.specs.List.{flat_map};
 ghost use Rattle.io_edge.specs.Outside.{HasRisen};
 ghost use Rattle.io_edge.specs.Streamed.{Streams};
 ghost use Rattle.run_report.specs.Lines.{bytes_text, end_text, ending_text, handed_text, line_text, ticket_line};
-ghost use Rattle.run_report.specs.Said.{line_of_machine, line_of_ticket, piece_text};
+ghost use Rattle.run_report.specs.MachineEnd.{IsSameEnd};
+ghost use Rattle.run_report.specs.Said.{line_of, line_of_machine, line_of_ticket, piece_text};
 ghost use Rattle.run_report.specs.Summary.{IsWithin, with_line};
 
 use crate::machine_end::MachineEnd;
@@ -14,6 +15,7 @@ use forest_model::Ending;
 use fork_port::MAX_HANDED;
 use io_edge::{Sink, SinkBuffer, WriteFault};
 use machine_names::Name;
+use std::alloc::AllocError;
 use std::marker::Model;
 
 /// The most hexadecimal digits of bytes that a machine hands over.
@@ -57,6 +59,17 @@ impl MachineLine {
     }
 }
 
+impl Clone for MachineLine {
+    ghost is_clone = { λ line copy. (copy.name ≡ line.name) × IsSameEnd line.end copy.end };
+
+    fn clone(&self) -> Result<MachineLine, AllocError> {
+        Ok(MachineLine {
+            name: self.name.copy()?,
+            end: self.end.clone()?,
+        })
+    }
+}
+
 /// What a report says of a killed ticket.
 #[derive(Drop)]
 pub(crate) struct TicketLine {
@@ -86,10 +99,33 @@ impl TicketLine {
     }
 }
 
+impl Clone for TicketLine {
+    ghost is_clone = { λ line copy. copy ≡ line };
+
+    fn clone(&self) -> Result<TicketLine, AllocError> {
+        Ok(TicketLine {
+            name: self.name.copy()?,
+            ticket: self.ticket,
+            killed: self.killed,
+        })
+    }
+}
+
 #[derive(Drop)]
 enum Said {
     Machine(MachineLine),
     Ticket(TicketLine),
+}
+
+impl Clone for Said {
+    ghost is_clone = { λ said copy. line_of copy ≡ line_of said };
+
+    fn clone(&self) -> Result<Said, AllocError> {
+        match self {
+            Said::Machine(line) => Ok(Said::Machine(line.clone()?)),
+            Said::Ticket(line) => Ok(Said::Ticket(line.clone()?)),
+        }
+    }
 }
 
 /// A line of a report: of a machine that has ended or is stuck, or of a ticket that was killed.
@@ -106,6 +142,16 @@ impl Model for Line {
     ghost use Rattle.run_report.specs.Said.{line_of};
 
     ghost view = { λ l. line_of l.said };
+}
+
+impl Clone for Line {
+    ghost is_clone = { λ line copy. copy ≡ line };
+
+    fn clone(&self) -> Result<Line, AllocError> {
+        Ok(Line {
+            said: self.said.clone()?,
+        })
+    }
 }
 
 impl Line {

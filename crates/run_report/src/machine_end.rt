@@ -1,7 +1,7 @@
 //! How machines came to their ends, in little room.
 
 ghost use Rattle.std.specs.Prelude.{◌≡◌, [], IfSome};
-ghost use Rattle.run_report.specs.MachineEnd.{ending_in, output_in, steps_in};
+ghost use Rattle.run_report.specs.MachineEnd.{IsSameEnd, ending_in, output_in, steps_in};
 
 use forest_model::Ending;
 use fork_port::Handed;
@@ -117,6 +117,27 @@ impl MachineEnd {
         match self {
             MachineEnd::Full(full) => full.output.as_slice(),
             _ => b"",
+        }
+    }
+}
+
+impl Clone for MachineEnd {
+    ghost is_clone = { λ end copy. IsSameEnd end copy };
+
+    fn clone(&self) -> Result<MachineEnd, AllocError> {
+        match self {
+            MachineEnd::Stuck(steps) => Ok(MachineEnd::Stuck(*steps)),
+            MachineEnd::Value(value, steps) => Ok(MachineEnd::Value(*value, *steps)),
+            MachineEnd::Limit(steps) => Ok(MachineEnd::Limit(*steps)),
+            MachineEnd::Full(full) => {
+                let copy = FullEnd {
+                    ending: full.ending,
+                    steps: full.steps,
+                    output: full.output.clone()?,
+                };
+                let full = Box::new(*full.output.allocator(), copy)?;
+                Ok(MachineEnd::Full(full))
+            }
         }
     }
 }

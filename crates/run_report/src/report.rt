@@ -14,6 +14,7 @@ use crate::summary::Summary;
 use forest_model::Ending;
 use io_edge::{Sink, SinkBuffer, WriteFault};
 use machine_names::Name;
+use std::alloc::AllocError;
 use std::marker::Model;
 use thiserror::Error;
 
@@ -39,6 +40,17 @@ impl Model for Outcome {
       output = output_in o.own.end;
       log = o.log.items;
     } };
+}
+
+impl Clone for Outcome {
+    ghost is_clone = { λ outcome copy. copy ≡ outcome };
+
+    fn clone(&self) -> Result<Outcome, AllocError> {
+        Ok(Outcome {
+            own: self.own.clone()?,
+            log: self.log.clone()?,
+        })
+    }
 }
 
 impl Outcome {
