@@ -32,7 +32,7 @@ pub fn outcome_of<R: AllocGlobal + Wait>(
         Some(Reason::Memory) => return Err(Stop::Memory),
         None => {}
     }
-    match board.close(rt, pass).outcome(rt.alloc()) {
+    match board.close(rt, pass).into_outcome(rt.alloc()) {
         Ok(Some(outcome)) => Ok(outcome),
         Ok(None) => unreachable!(),
         Err(_) => Err(Stop::Memory),

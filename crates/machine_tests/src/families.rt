@@ -118,7 +118,7 @@ pub(crate) fn finished<R: Abort + Wait>(
 ) -> Option<Outcome>
     requires { pass.board ≡ board }
 {
-    succeeds(rt, board.close(rt, pass).outcome(alloc))
+    succeeds(rt, board.close(rt, pass).into_outcome(alloc))
 }
 
 /// Lets a worker for each wire run the family of the machine of these words, in a depot of its own.

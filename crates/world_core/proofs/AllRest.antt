@@ -35,7 +35,7 @@ use Rattle.world_core.specs.declared.cell.ChildSlot.TheVariants.{Asleep, Awake, 
 use Rattle.world_core.specs.declared.cell.State.{State}
 use Rattle.world_core.specs.declared.cell.State.TheVariants.{Home, Parked, Out}
 use Rattle.world_core.specs.declared.world.World.{World}
-use Rattle.world_core.specs.Outcome.{CellTells, CellsTell, GoesOn, GoesOnIn, HasAsleep, IsAtRest, RestsIn, BroodTells, SlotTells, SlotsTell, StateTells, TellsFinished, TellsOutcome, is_parked}
+use Rattle.world_core.specs.Outcome.{CellTells, CellsTell, GoesOn, GoesOnIn, HasAsleep, IsAtRest, IsOver, RestsIn, BroodTells, SlotTells, SlotsTell, StateTells, TellsFinished, TellsOutcome, is_parked}
 use Rattle.world_core.specs.Popped.{ShowsCells, sleeps}
 use Rattle.world_core.specs.Shows.{Member, forest, AreAwake, BornShows, BroodAt, CellShows, IsNotAsleep, Shows, SlotShows, SlotsShow, StateShows, is_asleep_slot, is_out_cell, is_out_state, slot_at}
 use Rattle.world_core.specs.World.{Forest, ShowsLive, ShowsTree, StandsFor, rests_in}
@@ -320,6 +320,40 @@ module _ (depot : Shelves) (w : World) (f : Forest) (h : StandsFor depot w f) (g
       by : (c : Option Cell) → get path_cmp w.cells name ≡ c → IsSomeAnd c GoesOnIn → GoesOn f.tree
       by None e is = absurd is
       by (Some c) e is = goes-in name c e is
+
+  -- ---- a family that has come to its end
+
+  no-more : IsOver f.tree → GoesOn f.tree → ⊥
+  no-more (inl ended) goes = let no : true ≡ false = sym ended ∙ goes.0 in cc
+  no-more (inr rest) goes = by goes.1
+    where
+      by : (p : (n : Path) × ((is_ready paged_machines paged_talks n f.tree ≡ true) ⊎ (is_out n f.tree ≡ true))) → ⊥
+      by p = elim p.1 [
+        | inl ready ↦ let no : true ≡ false = sym ready ∙ rest.1 p.0 in cc
+        | inr lent ↦ let no : true ≡ false = sym lent ∙ rest.2 p.0 in cc
+      ]
+
+  pub rests-by : IsOver f.tree → (name : Path) → IfSome (get path_cmp w.cells name) RestsIn
+  rests-by over name = by (get path_cmp w.cells name) refl
+    where
+      waiting : (c : Cell) → get path_cmp w.cells name ≡ Some c → (is : Bool) → is_parked c.state ≡ is → is_parked c.state ≡ true
+      waiting c found true e = e
+      waiting c found false e = absurd (no-more over (goes-in name c found (inl e)))
+
+      awoken : (c : Cell) → get path_cmp w.cells name ≡ Some c → (ticket : ℕ) (b : Option Brood) → get nat_cmp c.broods ticket ≡ b
+          → IfSome b (λ (x : Brood). AreAwake x.slots.items)
+      awoken c found ticket None held = tt
+      awoken c found ticket (Some b) held = λ k. in_slot k (slice_get b.slots.items k) refl
+        where
+          in_slot : (k : ℕ) (s : Option ChildSlot) → slice_get b.slots.items k ≡ s → IsNotAsleep s
+          in_slot k None e = tt
+          in_slot k (Some Asleep) e = absurd (no-more over (goes-in name c found (inr (ticket, subst (λ o. IsSomeAnd o HasAsleep) (sym held) (k, e)))))
+          in_slot k (Some (Awake n)) e = tt
+          in_slot k (Some (Ended outcome)) e = tt
+
+      by : (o : Option Cell) → get path_cmp w.cells name ≡ o → IfSome o RestsIn
+      by None e = tt
+      by (Some c) e = (waiting c e (is_parked c.state) refl, λ ticket. awoken c e ticket (get nat_cmp c.broods ticket) refl)
 
 -- ---- the answer
 

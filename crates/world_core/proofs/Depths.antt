@@ -34,11 +34,11 @@ last-fork (b ∷ (c ∷ rest)) some =
     record { parent = b ∷ last.parent; ticket = last.ticket; child = last.child; is = ap (λ path. b ∷ path) last.is }
 
 -- no key of a map is longer than one that is an upper bound
-pub beyond-longest : (cells : BTreeMap Path Cell) (longest name : Path) → IsUpperBound path_cmp cells longest → length longest < length name
+pub beyond-longest : {V : Type 0} (cells : BTreeMap Path V) (longest name : Path) → IsUpperBound path_cmp cells longest → length longest < length name
     → get path_cmp cells name ≡ None
-beyond-longest cells longest name bound longer = by (get path_cmp cells name) refl
+beyond-longest {V} cells longest name bound longer = by (get path_cmp cells name) refl
   where
-    by : (c : Option Cell) → get path_cmp cells name ≡ c → get path_cmp cells name ≡ None
+    by : (c : Option V) → get path_cmp cells name ≡ c → get path_cmp cells name ≡ None
     by None e = e
     by (Some c) e =
         let there : IsSome (get path_cmp cells name) = ap is_some e in
@@ -50,7 +50,7 @@ pub no-entries : {A : Type 0} (xs : List A) → (0 < length xs → ⊥) → xs �
 no-entries [] none = refl
 no-entries (x ∷ xs) none = absurd (none (omega arith))
 
-pub none-left : (cells : BTreeMap Path Cell) (name : Path) → cells.entries ≡ [] → get path_cmp cells name ≡ None
+pub none-left : {V : Type 0} (cells : BTreeMap Path V) (name : Path) → cells.entries ≡ [] → get path_cmp cells name ≡ None
 none-left cells name empty = ap (lookup (is_at (path_cmp name))) empty
 
 module _ (depot : Shelves) (w : World) (f : Forest) (h : StandsFor depot w f) where

@@ -46,6 +46,7 @@ pub mod Finishing
 mod LogKilled
 mod BroodSlots
 mod AllRest
+mod Copies
 mod Stuck
 mod Broods
 pub mod Spending

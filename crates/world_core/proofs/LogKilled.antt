@@ -88,34 +88,34 @@ looked_up_rest e es u differs = grind (arith, nat_tests)
 
 -- ---- broods in the order of their tickets
 
-module _ (IsOf : ℕ → Brood → Type 0) where
+module _ {V : Type 0} (IsOf : ℕ → V → Type 0) where
   -- there is a brood exactly where the ticket is cloned, and it is of the ticket
-  abbrev pub BroodOf : ℕ → Option Brood → Bool → Type 0
+  abbrev pub BroodOf : ℕ → Option V → Bool → Type 0
   BroodOf u None false = Unit {0}
   BroodOf u None true = ⊥
   BroodOf u (Some b) false = ⊥
   BroodOf u (Some b) true = IsOf u b
 
-  abbrev pub AreOf : List (ℕ × Brood) → List ℕ → Type 0
+  abbrev pub AreOf : List (ℕ × V) → List ℕ → Type 0
   AreOf entries tickets = (u : ℕ) → BroodOf u (lookup (is_at (nat_cmp u)) entries) (is_among u tickets)
 
   -- each brood with its ticket
-  unfoldable pub Paired : List (ℕ × Brood) → List ℕ → Type 0
+  unfoldable pub Paired : List (ℕ × V) → List ℕ → Type 0
   Paired [] [] = Unit {0}
   Paired [] (t ∷ ts) = ⊥
   Paired (e ∷ es) [] = ⊥
   Paired (e ∷ es) (t ∷ ts) = (e.0 ≡ t) × IsOf t e.1 × Paired es ts
 
-  is_of : (o : Option Brood) (among : Bool) (b : Brood) (u : ℕ) → o ≡ Some b → among ≡ true → BroodOf u o among → IsOf u b
-  is_of o among b u found is h = subst (λ (p : Option Brood). BroodOf u p true) found (subst (BroodOf u o) is h)
+  is_of : (o : Option V) (among : Bool) (b : V) (u : ℕ) → o ≡ Some b → among ≡ true → BroodOf u o among → IsOf u b
+  is_of o among b u found is h = subst (λ (p : Option V). BroodOf u p true) found (subst (BroodOf u o) is h)
 
-  no_brood_for : (o : Option Brood) (among : Bool) (u : ℕ) → o ≡ None → among ≡ true → BroodOf u o among → ⊥
-  no_brood_for o among u found is h = subst (λ (p : Option Brood). BroodOf u p true) found (subst (BroodOf u o) is h)
+  no_brood_for : (o : Option V) (among : Bool) (u : ℕ) → o ≡ None → among ≡ true → BroodOf u o among → ⊥
+  no_brood_for o among u found is h = subst (λ (p : Option V). BroodOf u p true) found (subst (BroodOf u o) is h)
 
-  no_ticket_for : (o : Option Brood) (among : Bool) (b : Brood) (u : ℕ) → o ≡ Some b → among ≡ false → BroodOf u o among → ⊥
-  no_ticket_for o among b u found is h = subst (λ (p : Option Brood). BroodOf u p false) found (subst (BroodOf u o) is h)
+  no_ticket_for : (o : Option V) (among : Bool) (b : V) (u : ℕ) → o ≡ Some b → among ≡ false → BroodOf u o among → ⊥
+  no_ticket_for o among b u found is h = subst (λ (p : Option V). BroodOf u p false) found (subst (BroodOf u o) is h)
 
-  of_rest : (e : ℕ × Brood) (es : List (ℕ × Brood)) (t : ℕ) (ts : List ℕ) → e.0 ≡ t → AreAbove t (keys_of es) → AreAbove t ts
+  of_rest : (e : ℕ × V) (es : List (ℕ × V)) (t : ℕ) (ts : List ℕ) → e.0 ≡ t → AreAbove t (keys_of es) → AreAbove t ts
       → AreOf (e ∷ es) (t ∷ ts) → AreOf es ts
   of_rest e es t ts same above_keys above h u = by (eqb t u) refl
     where
@@ -124,13 +124,13 @@ module _ (IsOf : ℕ → Brood → Type 0) where
           let it : t ≡ u = eqb-true t u is in
           let none = not_looked_up u es (subst (λ n. AreAbove n (keys_of es)) it above_keys) in
           let not_there = not_among u ts (subst (λ n. AreAbove n ts) it above) in
-          subst (λ (o : Option Brood). BroodOf u o (is_among u ts)) (sym none) (subst (BroodOf u None) (sym not_there) tt)
+          subst (λ (o : Option V). BroodOf u o (is_among u ts)) (sym none) (subst (BroodOf u None) (sym not_there) tt)
       by false is =
           let there = looked_up_rest e es u (ap (λ n. eqb n u) same ∙ is) in
-          subst (λ (o : Option Brood). BroodOf u o (is_among u ts)) there
+          subst (λ (o : Option V). BroodOf u o (is_among u ts)) there
           (subst (BroodOf u (lookup (is_at (nat_cmp u)) (e ∷ es))) (among_rest u t ts is) (h u))
 
-  pub in_pairs : (entries : List (ℕ × Brood)) (tickets : List ℕ) → IsStrictlySortedBy nat_cmp (keys_of entries) → IsStrictlySortedBy nat_cmp tickets
+  pub in_pairs : (entries : List (ℕ × V)) (tickets : List ℕ) → IsStrictlySortedBy nat_cmp (keys_of entries) → IsStrictlySortedBy nat_cmp tickets
       → AreOf entries tickets → Paired entries tickets
   unfolding is_among Paired
   in_pairs [] [] keys numbers h = tt

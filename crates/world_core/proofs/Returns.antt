@@ -110,11 +110,11 @@ same-or-apart name n = by (lies name n)
 
 -- ---- maps by names
 
-pub written-here : (m n : BTreeMap Path Cell) (name : Path) (c : Cell) → WritesThrough path_cmp (path_cmp name) m c n → IsSome (get path_cmp m name)
+pub written-here : {V : Type 0} (m n : BTreeMap Path V) (name : Path) (c : V) → WritesThrough path_cmp (path_cmp name) m c n → IsSome (get path_cmp m name)
     → get path_cmp n name ≡ Some c
 written-here m n name c h some = updated-here m n name (Some c) (h.3 some)
 
-pub written-apart : (m n : BTreeMap Path Cell) (name : Path) (c : Cell) → WritesThrough path_cmp (path_cmp name) m c n → IsSome (get path_cmp m name)
+pub written-apart : {V : Type 0} (m n : BTreeMap Path V) (name : Path) (c : V) → WritesThrough path_cmp (path_cmp name) m c n → IsSome (get path_cmp m name)
     → (q : Path) → name ≢ q → get path_cmp n q ≡ get path_cmp m q
 written-apart m n name c h some = updated-apart m n name (Some c) (h.3 some)
 

@@ -35,7 +35,3 @@ slot_lines slots = flat_map lines_in slots
 -- the line of a brood by its ticket, where the ticket is killed
 abbrev pub killed_line : ℕ × Brood → Line
 killed_line entry = ticket_line entry.1.name entry.0 (vec_len entry.1.slots)
-
--- those of the children of a brood
-abbrev pub brood_lines : ℕ × Brood → List Line
-brood_lines entry = slot_lines entry.1.slots.items

@@ -33,7 +33,7 @@ use std::mem;
 use std::sync::Wait;
 use vm_cell::Vm;
 
-mod broods;
+pub(crate) mod broods;
 mod calls;
 pub(crate) mod talks;
 
@@ -111,6 +111,18 @@ pub(crate) enum ChildSlot {
     /// It lives, in the cell of this name.
     Awake(Name),
     Ended(Outcome),
+}
+
+impl Clone for ChildSlot {
+    ghost is_clone = { λ slot copy. copy ≡ slot };
+
+    fn clone(&self) -> Result<ChildSlot, AllocError> {
+        match self {
+            ChildSlot::Asleep => Ok(ChildSlot::Asleep),
+            ChildSlot::Awake(name) => Ok(ChildSlot::Awake(name.copy()?)),
+            ChildSlot::Ended(outcome) => Ok(ChildSlot::Ended(outcome.clone()?)),
+        }
+    }
 }
 
 impl Cell {

@@ -39,6 +39,7 @@ use vm_cell::Vm;
 mod calls;
 mod leases;
 mod outcome;
+mod parting;
 mod take;
 mod talks;
 mod told;

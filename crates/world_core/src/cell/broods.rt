@@ -25,34 +25,6 @@ impl Brood {
         Ok(endings)
     }
 
-    /// How many lines a log gets of the children that have ended, or `usize::MAX` where they are more: no log
-    /// has room for so many.
-    pub(crate) fn line_count(&self) -> usize
-        ensures { result ≡ min (length (slot_lines self.now.slots.items)) usize.MAX }
-    {
-        let mut count = 0usize;
-        for slot in &self.slots {
-            if let ChildSlot::Ended(outcome) = slot {
-                count = count.saturating_add(outcome.line_count());
-            }
-        }
-        count
-    }
-
-    /// Moves the lines of the children that have ended to a log, which has room for them.
-    pub(crate) fn into_log(self, log: &mut Vec<Line>)
-        requires { vec_len log.old + length (slot_lines self.slots.items) ≤ vec_capacity log.old }
-        ensures lines { log.new.items ≡ log.old.items ++ slot_lines self.slots.items }
-        ensures len { vec_len log.new ≡ vec_len log.old + length (slot_lines self.slots.items) }
-        ensures capacity { vec_capacity log.old ≤ vec_capacity log.new }
-    {
-        for slot in self.slots {
-            if let ChildSlot::Ended(outcome) = slot {
-                outcome.into_log(log);
-            }
-        }
-    }
-
     /// The line of the ticket, where it is killed.
     pub(super) fn into_line(self, ticket: u32) -> Line
         requires { vec_len self.slots < 2 ^ 32 }
@@ -60,5 +32,33 @@ impl Brood {
     {
         let children = self.slots.len() as u32;
         Line::ticket(self.name, ticket, children)
+    }
+}
+
+/// How many lines a log gets of the children that have ended, or `usize::MAX` where they are more: no log
+/// has room for so many.
+pub(crate) fn line_count(slots: &Vec<ChildSlot>) -> usize
+    ensures { result ≡ min (length (slot_lines slots.now.items)) usize.MAX }
+{
+    let mut count = 0usize;
+    for slot in slots {
+        if let ChildSlot::Ended(outcome) = slot {
+            count = count.saturating_add(outcome.line_count());
+        }
+    }
+    count
+}
+
+/// Moves the lines of the children that have ended to a log, which has room for them.
+pub(crate) fn put_lines(slots: Vec<ChildSlot>, log: &mut Vec<Line>)
+    requires { vec_len log.old + length (slot_lines slots.items) ≤ vec_capacity log.old }
+    ensures lines { log.new.items ≡ log.old.items ++ slot_lines slots.items }
+    ensures len { vec_len log.new ≡ vec_len log.old + length (slot_lines slots.items) }
+    ensures capacity { vec_capacity log.old ≤ vec_capacity log.new }
+{
+    for slot in slots {
+        if let ChildSlot::Ended(outcome) = slot {
+            outcome.into_log(log);
+        }
     }
 }

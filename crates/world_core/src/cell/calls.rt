@@ -20,6 +20,7 @@ ghost use Rattle.world_core.specs.PreparedFork.{IsNewBrood};
 ghost use Rattle.world_core.specs.Shows.{Holds, HoldsAfter, Member, StandsAt, Tallies, ended_tree};
 ghost use Rattle.world_core.specs.Shows.{forest, forked_tree, joined_tree, killed_tree, paged_of, told_member};
 
+use crate::cell::broods::{line_count, put_lines};
 use crate::cell::{Brood, Cell};
 use forest_model::Ending;
 use fork_port::Call;
@@ -68,13 +69,13 @@ impl Cell {
             unreachable!();
         };
         let endings = brood.endings(alloc)?;
-        self.log
-            .reserve(brood.line_count().saturating_add(self.broods.len()))?;
+        let lines = line_count(&brood.slots).saturating_add(self.broods.len());
+        self.log.reserve(lines)?;
         vm.joined(&endings)?;
         let Some(brood) = self.broods.remove(&ticket) else {
             unreachable!();
         };
-        brood.into_log(&mut self.log);
+        put_lines(brood.slots, &mut self.log);
         Ok(())
     }
 

@@ -1,30 +1,41 @@
 //! How the family of a world came to its end.
 
-ghost use Rattle.std.specs.Prelude.{◌≡◌, ◌<◌, ◌≤◌, ◌-◌, [], IfOk, IfSome, IsSomeAnd, MatchBool, vec_len};
+ghost use Rattle.std.specs.Prelude.{◌≡◌, [], IfOk, IfSome, IsSomeAnd, MatchBool};
 ghost use Rattle.std.specs.BTreeMap.{get};
 ghost use Rattle.std.specs.Option.{option_copied};
-ghost use Rattle.std.specs.Ordering.{nat_cmp};
 ghost use Rattle.image_depot.specs.Key.{Shelves};
 ghost use Rattle.forest_tree.specs.Tree.{Path, Tree};
 ghost use Rattle.machine_names.specs.NameOrder.{path_cmp};
 ghost use Rattle.run_report.specs.Lines.{lines};
 ghost use Rattle.run_report.specs.Report.{lines_of};
-ghost use Rattle.world_core.specs.Outcome.{CellTells, Cells, CellsTell, GoesOnIn, HasAsleep, NoneBelow, RestsIn, TellsFinished, TellsOutcome};
+ghost use Rattle.world_core.specs.Outcome.{CellsTell, GoesOnIn, HasAsleep, IsOver, RestsIn, TellsFinished, TellsOutcome};
 ghost use Rattle.world_core.specs.Shows.{AreAwake, Member, told_member};
-ghost use Rattle.world_core.specs.Talking.{SetsSlot};
 ghost use Rattle.world_core.specs.World.{Forest, IsWorld, StandsFor};
 
 use crate::cell::{Brood, Cell, ChildSlot, State};
 use crate::world::World;
+use crate::world::parting::{partings_of, put_together};
 use machine_names::Name;
 use run_report::Outcome;
 use std::alloc::{AllocError, Global};
 use std::collections::BTreeMap;
 
 impl World {
-    /// How the family came to its end, once the root has ended, or once no machine is on lease and none is ready: it is stuck
-    /// then, and each machine that lives has a line that says so. Memory is wanted only there.
-    pub fn outcome(self, alloc: Global) -> Result<Option<Outcome>, AllocError>
+    /// How the family came to its end: its root has ended, or no machine is on lease and none is ready, so it is stuck, and
+    /// each machine that lives has a line that says so. The world stays as it is, and the lines are copied.
+    pub fn outcome(&self, alloc: Global) -> Result<Outcome, AllocError>
+        requires { (depot : Shelves) × (f : Forest) × StandsFor depot self.now f × IsOver f.tree }
+        ensures { IfOk result (λ outcome. (depot : Shelves) (f : Forest) → StandsFor depot self.now f → lines_of outcome ≡ lines told_member [] f.tree) }
+    {
+        match &self.outcome {
+            Some(outcome) => outcome.clone(),
+            None => stuck_outcome(alloc, &self.cells),
+        }
+    }
+
+    /// Moves the outcome out of a world whose family has come to its end, as `outcome` has it, and finds none where the
+    /// family goes on. Memory is wanted only where it is stuck.
+    pub fn into_outcome(self, alloc: Global) -> Result<Option<Outcome>, AllocError>
         requires { (depot : Shelves) × IsWorld depot self }
         ensures { (depot : Shelves) (f : Forest) → StandsFor depot self f → TellsOutcome f.tree result }
     {
@@ -42,7 +53,7 @@ impl World {
         if !all_rest(&cells) {
             return Ok(None);
         }
-        let outcome = stuck_outcome(alloc, cells)?;
+        let outcome = stuck_outcome(alloc, &cells)?;
         Ok(Some(outcome))
     }
 
@@ -67,24 +78,12 @@ fn all_rest(cells: &BTreeMap<Name, Cell>) -> bool
     true
 }
 
-/// What a family leaves that is stuck. The longest names come first: each machine's outcome has the lines of its children,
-/// and goes into its parent's slot.
-fn stuck_outcome(alloc: Global, cells: BTreeMap<Name, Cell>) -> Result<Outcome, AllocError>
-    requires { (t : Tree Member) × CellsTell cells t }
-    ensures { IfOk result (λ outcome. (t : Tree Member) → CellsTell cells t → lines_of outcome ≡ lines told_member [] t) }
+/// What a family leaves that is stuck.
+fn stuck_outcome(alloc: Global, cells: &BTreeMap<Name, Cell>) -> Result<Outcome, AllocError>
+    requires { (t : Tree Member) × CellsTell cells.now t }
+    ensures { IfOk result (λ outcome. (t : Tree Member) → CellsTell cells.now t → lines_of outcome ≡ lines told_member [] t) }
 {
-    let mut cells = cells;
-    while let Some((mut name, cell)) = cells.pop_last() {
-        let outcome = cell.into_stuck(alloc)?;
-        let Some((ticket, index)) = name.pop() else {
-            return Ok(outcome);
-        };
-        let Some(parent) = cells.get_mut(&name) else {
-            unreachable!();
-        };
-        parent.put_outcome(ticket, index, outcome);
-    }
-    unreachable!();
+    put_together(partings_of(alloc, cells)?)
 }
 
 impl Cell {
@@ -101,44 +100,6 @@ impl Cell {
             }
         }
         true
-    }
-
-    /// What a machine that is stuck leaves, whose children have all left theirs.
-    fn into_stuck(self, alloc: Global) -> Result<Outcome, AllocError>
-        requires { (cells : Cells) × (path : Path) × (t : Tree Member) × CellTells cells path self t × NoneBelow cells path }
-        ensures { IfOk result (λ outcome. (cells : Cells) (path : Path) (t : Tree Member) → CellTells cells path self t → NoneBelow cells path
-            → lines_of outcome ≡ lines told_member path t) }
-    {
-        let Cell {
-            kin: _,
-            state,
-            is_listed: _,
-            broods,
-            mut log,
-            room,
-        } = self;
-        let State::Parked(_, vm, turn) = state else {
-            unreachable!();
-        };
-        for (_, brood) in broods {
-            log.reserve(brood.line_count())?;
-            brood.into_log(&mut log);
-        }
-        let vm = Box::into_inner(vm);
-        let steps = vm.steps();
-        Ok(Outcome::new(room, turn.into_name(), None, steps, vm.into_output(), log))
-    }
-
-    /// Puts what a child leaves into its slot.
-    fn put_outcome(&mut self, ticket: u32, index: u32, outcome: Outcome)
-        requires first { 1 ≤ index }
-        requires there { IsSomeAnd (get nat_cmp self.old.broods ticket) (λ brood. index - 1 < vec_len brood.slots) }
-        ensures { SetsSlot (ChildSlot.Ended outcome) ticket index self.old self.new }
-    {
-        let Some(brood) = self.broods.get_mut(&ticket) else {
-            unreachable!();
-        };
-        brood.slots[index as usize - 1] = ChildSlot::Ended(outcome);
     }
 }
 

@@ -39,24 +39,24 @@ returns-clause-ok c = λ t depot path h at all.
     let told = c.deref.ensures.value ∙ c.in_ok-endings.ensures
     ∙ joined_endings depot path (paged c.args.vm.now) c.args.ticket old t c.in-Some.brood.now (sym c.in-Some.ensures.value) h at all in
     let same = ap (λ (x : Brood). length (slot_lines x.slots.items)) (some-same c.in-Some.brood.now b (c.in-Some.ensures.value ∙ found)) in
-    let new : Cell = record old { broods = c.remove.new.self; log = c.into_log.new.log } in
+    let new : Cell = record old { broods = c.remove.new.self; log = c.put_lines.new.log } in
     let room : vec_len new.log + btree_map_len new.broods ≤ vec_capacity new.log =
     omega (
       arith,
       same,
       c.line_count.ensures,
       c.len.ensures.len,
-      c.saturating_add.ensures,
+      c.saturating_add-lines.ensures,
       c.reserve.ensures.len,
       c.in_ok-reserve.ensures.ok,
       c.reserve.new.self.small,
-      c.into_log.ensures.len,
-      c.into_log.ensures.capacity,
+      c.put_lines.ensures.len,
+      c.put_lines.ensures.capacity,
       c.in-Some-remove.ensures.len,
     ) in (
       c.in_ok-joined.ensures.ok ∙ ap (λ (es : List Ending). record c.args.vm.now { machine = after_join c.args.vm.now.machine es }) told,
       joined_after depot path (paged c.args.vm.now) c.args.ticket old new b found c.remove.ensures.updates.0 room t
-          (c.into_log.ensures.lines ∙ ap (λ (items : List Line). items ++ slot_lines b.slots.items) c.reserve.ensures.items) all h at,
+          (c.put_lines.ensures.lines ∙ ap (λ (items : List Line). items ++ slot_lines b.slots.items) c.reserve.ensures.items) all h at,
     )
 
 pub returns-clause-images : goal.returns-clause-images

@@ -1,7 +1,7 @@
 use Rattle.std.proofs.Common.{◌≡◌, ◌+◌, ◌≤◌, ◌++◌, length, vec_capacity, vec_len}
 use Rattle.std.specs.Vec.Iter.{into_iter_items}
 use Rattle.world_core.specs.Broods.{slot_lines}
-use Rattle.world_core.proofs.cell.Brood.into_log.Given as goal
+use Rattle.world_core.proofs.cell.broods.put_lines.Given as goal
 
 abbrev pub invariant-loop-slot : goal.invariant-loop-slot
 invariant-loop-slot l = record {
