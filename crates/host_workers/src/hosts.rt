@@ -39,9 +39,10 @@ fn finish_of(first: Finish, second: Finish) -> Finish
     }
 }
 
-/// Lets a worker for each of the wires take machines and run them, on a thread of its own where it is called and there can be one, until
-/// the root has ended, the world was stopped, or no machine makes a step any more. Their passes, by which they enter turns and
-/// claim pages, are split off from these, and are joined to them again. The workers have the numbers from 0 on at the gate.
+/// Lets a worker for each of the wires take machines and run them, on a thread of its own where it is called and there can be
+/// one, until the root has ended, the world was stopped, or no machine makes a step any more. Their passes, by which they enter
+/// turns and claim pages, are split off from these, and are joined to them again. The workers have the numbers from 0 on at the
+/// gate.
 pub fn run_hosts<R: AllocGlobal + Threads + Wait + Sync, W: Wire + Send, G: Gate + Sync>(
     rt: &R,
     site: &Site<'_>,
