@@ -78,6 +78,10 @@ class Tests:
         print(f"{self.name}: {what}", file=sys.stderr)
         self.failed = True
 
+    def skip(self, what):
+        """Says what is left out here, and why."""
+        print(f"{self.name}: skipped {what}")
+
     def tell(self, text):
         print(f"    {text}", file=sys.stderr)
 
