@@ -120,8 +120,8 @@ def text_of(path):
 
 def main(doc, test, options=(), runs=True):
     """Runs a test by the words of the command line, and returns the status. `test(tests, values)` returns what the closing line
-    tells; an option is its name and default, which is False for one without a value. Where `runs` is False the test runs no
-    program, and none is named."""
+    tells, or False where there is to be none. An option is its name and its default, which is False for one without a value,
+    and the type of its value. Where `runs` is False the test runs no program, and none is named."""
     name = os.path.basename(sys.argv[0])
     parser = argparse.ArgumentParser(prog=name, description=doc, formatter_class=argparse.RawDescriptionHelpFormatter)
     for option, default in options:
@@ -133,6 +133,6 @@ def main(doc, test, options=(), runs=True):
     with tempfile.TemporaryDirectory() as room:
         tests = Tests(name, os.path.realpath(values.program) if runs else None, room)
         told = test(tests, values)
-    if not tests.failed:
+    if not tests.failed and told is not False:
         print(f"{name}: all well, {told or f'{tests.count} runs and scripts'}")
     return int(tests.failed)
