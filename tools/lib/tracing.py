@@ -6,10 +6,10 @@ import re
 from lib import command, program, progress
 from lib.command import Problem
 from lib.families import MOST, Disk, Family, Machine
-from lib.images import PAGE, Image
-from lib.harts import RAM
+from lib.images import Image
 from lib.instructions import ABI_NAMES
 from lib.listing import Listing
+from lib.ports import PAGE, RAM, SECTOR_SIZE
 from lib.traces import Steps
 
 FOLLOWED, FOLLOWED_TO_TRAP = 1000000, 100000
@@ -138,7 +138,7 @@ def say_sectors(listing: Listing, line: list[Steps], options: argparse.Namespace
             print(f"sector {sector}: the disk has none of this number")
             continue
         print(f"sector {sector} behind step {listing.shown}:")
-        for at in range(0, 512, 32):
+        for at in range(0, SECTOR_SIZE, 32):
             print(f"  {at:3}  {disk.sectors[sector][at : at + 32].hex(' ', 4)}")
 
 
