@@ -10,6 +10,7 @@ import os
 import struct
 import sys
 
+sys.dont_write_bytecode = True
 sys.path.insert(0, f"{os.path.dirname(os.path.dirname(os.path.realpath(__file__)))}/tools")
 from lib.assembly import AssemblyError, assembled
 from lib.ports import RAM

@@ -10,7 +10,6 @@ import tempfile
 
 ROOT = os.path.dirname(os.path.dirname(os.path.dirname(os.path.realpath(__file__))))
 sys.path[:0] = [f"{ROOT}/tools", f"{ROOT}/examples", f"{ROOT}/tests/lib"]
-sys.dont_write_bytecode = True
 
 import make
 from lib.assembly import assembled
