@@ -1,4 +1,4 @@
-"""What the measurements of this folder share: the words of a call, the images of guests, and an interpreter beside the program."""
+"""What the measurements of this folder share: the words of a call, the images of guests, and a plain interpreter."""
 
 import glob
 import os
@@ -26,8 +26,8 @@ def named(words):
 
 
 def main(doc, measure):
-    """Runs a measurement by the words of the command line, and returns the status. `measure(words, folder)` returns whether a bar is
-    not met."""
+    """Runs a measurement by the words of the command line, and returns the status. `measure(words, folder)` returns whether
+    a bar is not met."""
     if sys.argv[1:] == ["--help"]:
         print(doc)
         return 0

@@ -8,8 +8,8 @@ import sys
 
 sys.path.insert(0, f"{os.path.dirname(os.path.dirname(os.path.realpath(__file__)))}/tools")
 from lib.assembly import assembled
-from lib.ports import (ALLOT, ARG0, ARG1, CLONE, CLONE_ID, COMMAND, CONSOLE, DATA, EXIT, FORK, JOIN, JSEL, JVALUE, KILL, PAGE, PEER,
-                   RAM, RECEIVE, RESULT, SEND, SIBLING, SIBLINGS, TALK, TICKET)  # fmt: skip
+from lib.ports import (ALLOT, ARG0, ARG1, CLONE, CLONE_ID, COMMAND, CONSOLE, DATA, EXIT, FORK, JOIN, JSEL, JVALUE, KILL, PAGE,
+                       PEER, RAM, RECEIVE, RESULT, SEND, SIBLING, SIBLINGS, TALK, TICKET)  # fmt: skip
 from lib.words import add, addi, beq, bne, jal, li, lw, number, placed, sb, sub, sw, to
 
 # Registers: x5 is the fork port and x13 the sibling port, x6 is for commands, x7 has the ticket's number, x8 the number among
