@@ -1,64 +1,152 @@
 #!/usr/bin/env python3
 """Writes guest images: ELF files with one segment, of instruction words that go to 0x80000000.
 
-    examples/make.py                  writes the images of this folder
-    examples/make.py FILE WORD..      writes one image of these words, each in hexadecimal
+    examples/make.py                     writes the images of this folder
+    examples/make.py FILE WORD..         writes one image of these words, each in hexadecimal
+    examples/make.py FILE --text TEXT    writes one image of assembly text, such as "li x5, FORK; sw x0, ARG0(x5)"
 """
 
 import os
 import struct
 import sys
 
-BASE = 0x80000000
+sys.dont_write_bytecode = True
+sys.path.insert(0, f"{os.path.dirname(os.path.dirname(os.path.realpath(__file__)))}/tools")
+from lib.assembly import AssemblyError, assembled
+from lib.ports import RAM
 
-# The guests by name, each as its words. README.md has them instruction by instruction.
+# The guests by name, each as assembly text. README.md has them instruction by instruction.
 GUESTS = {
-    "exit_seven": "100022B7 00700313 0062A023 00500313 0062A423",
-    "print_letter": "100002B7 04100313 00628023 100022B7 0002A023 00500313 0062A423",
-    "illegal_word": "00000000",
-    "trap_handler": "100022B7 00000317 01430313 30531073 00000073 00100073 342023F3 0072A023 00500313 0062A423",
-    "user_mode": "100022B7 00000317 02430313 30531073 FF830313 34131073 30001073 30200073 00000073 00100073 342023F3 0072A023 00500313"
-    " 0062A423",
-    "protected_user": "100022B7 FFF00313 3B031073 01F00313 3A031073 00000317 02430313 30531073 FF830313 34131073 30001073 30200073"
-    " 00000073 00100073 342023F3 0072A023 00500313 0062A423",
-    "ten_ticks": "100022B7 00000317 02C30313 30531073 02004437 00042223 01400513 00A42023 08000313 30431073 30046073"
-    " 0000006F 00138393 00A00593 00B38863 01450513 00A42023 30200073 0072A023 00500313 0062A423",
-    "echo_byte": "100002B7 0002C303 00628023 100022B7 0002A023 00500313 0062A423",
-    "copy_sector": "100012B7 00100313 0002A023 0062A223 800013B7 20028413 40028493 00042503 00A3A023 00440413 00438393 FE9418E3"
-    " 0062A023 00200593 00B2A223 20028413 00042023 00440413 FE941CE3 0062A223 800013B7 20028413 00000613 00042503"
-    " 0003A683 00D50463 00160613 00440413 00438393 FE9414E3 0082A703 00E60633 00C2A703 00200793 00F70463 00160613"
-    " 10000837 2002A503 00A80023 3FC2A503 01855513 00A80023 100022B7 00C2A023 00500313 0062A423",
-    "two_children": "100022B7 00200313 0062A023 0002A223 00100313 0062A423 00C2A383 0072A023 00200313 0062A423 0102A403 02041463"
-    " 00300313 0072A023 0062A423 00100313 0062AC23 0202A303 0062A023 00500313 0062A423 02840313 0062A023 00500313 0062A423",
-    "hand_over_bytes": "100022B7 800004B7 0092A223 00700313 0062A023 40700313 0062A423",
-    "join_bytes": "100022B7 00200313 0062A023 0002A223 00100313 0062A423 00C2A383 0072A023 00200313 0062A423 0102A403 02041463"
-    " 00300313 0072A023 0062A423 00100313 0062AC23 0402A303 0062A023 00500313 0062A423 02840313 0062A023 800004B7 0092A223"
-    " 40700313 0062A423",
-    "kill_then_join": "100022B7 00200313 0062A023 0002A223 00100313 0062A423 00C2A383 0072A023 00200313 0062A423 0102A403 02041463"
-    " 00400313 0072A023 0062A423 00300313 0062A423 00C2A303 0062A023 00500313 0062A423 02840313 0062A023 00500313 0062A423",
-    "sibling_swap": "100022B7 00200313 0062A023 0002A223 00100313 0062A423 00C2A383 0072A023 00200313 0062A423"
-    " 0102A403 02041463 00300313 0072A023 0062A423 00100313 0062AC23 0202A303 0062A023 00500313 0062A423 100036B7"
-    " 00300313 40830333 0066A023 0086A223 00100313 0066A423 00200313 0066A423 0046A303 0062A023 00500313 0062A423",
-    "sibling_stuck": "100022B7 00200313 0062A023 0002A223 00100313 0062A423 00C2A383 0072A023 00200313 0062A423"
-    " 0102A403 02041463 00300313 0072A023 0062A423 00100313 0062AC23 0202A303 0062A023 00500313 0062A423 100036B7"
-    " 00300313 40830333 0066A023 0086A223 00200313 0066A423 00200313 0066A423 0046A303 0062A023 00500313 0062A423",
-    "grandchild": "100022B7 800014B7 01100513 00A4A023 00100313 0062A023 0062A223 0062A423 00C2A383 0072A023 00200313 0062A423"
-    " 00C2A403 00041863 01200513 00A4A023 0340006F 00100313 0062A023 0002A223 0062A423 00C2A383 0072A023 00200313"
-    " 0062A423 00C2A403 02041863 01300513 00A4A023 00300313 0072A023 0062A423 00100313 0062AC23 0202A503 00A2A023"
-    " 00500313 0062A423 0004A503 FF1FF06F",
-    "timer_at_fork": "100022B7 020044B7 80002537 30551073 00552023 00100313 0062A023 0002A223 0062A423 00C2A383 0072A023 08000313"
-    " 30431073 01300313 0064A023 0004A223 30046073 00200313 0062A423",
-    "thousand_children": "100022B7 3E800313 0062A023 0002A223 00100313 0062A423 00C2A383 0072A023 00200313 0062A423 0102A403 00041E63"
-    " 00300313 0062A423 00C2A303 0062A023 00500313 0062A423 0082A023 00500313 0062A423",
-    "long_chain": "100022B7 0142A483 04048A63 00100313 0062A023 FFF48513 00A2A223 0062A423 00C2A383 0072A023 00200313 0062A423"
-    " 00C2A403 FC0418E3 00300313 0062A423 00100313 0062AC23 0202A583 00158593 00B2A023 00500313 0062A423 0002A023"
-    " 00500313 0062A423",
-    "straight_line": f"100022B7 800403B7 00000313 {32497 * '00130313 FE63A823 '} 0062A023 00500313 0062A423",
-    "loop_compute": "00100313 00D31393 00734333 01135393 00734333 00531393 00734333 00137393 00038463 00140413 FDDFF06F",
-    "loop_memory": "800012B7 80002337 00028393 0003A403 00140413 0083A023 0003D483 00939123 00038503 00A380A3"
-    " 00438393 FE6390E3 FD9FF06F",
-    "loop_multiply": "001962B7 60D28293 00100313 02530333 00130313 025333B3 02735433 025364B3 FEDFF06F",
+    "exit_seven": "li x5, FORK; li x6, 7; sw x6, ARG0(x5); li x6, EXIT; sw x6, COMMAND(x5)",
+    "print_letter": (
+        "li x5, CONSOLE; li x6, 65; sb x6, 0(x5); li x5, FORK; sw x0, ARG0(x5); li x6, EXIT; sw x6, COMMAND(x5)"
+    ),
+    "illegal_word": ".word 0",
+    "trap_handler": (
+        "li x5, FORK; la x6, handler; csrw mtvec, x6; ecall; ebreak; handler: csrr x7, mcause; sw x7, ARG0(x5); "
+        "li x6, EXIT; sw x6, COMMAND(x5)"
+    ),
+    "user_mode": (
+        "li x5, FORK; la x6, handler; csrw mtvec, x6; addi x6, x6, -8; csrw mepc, x6; csrw mstatus, x0; mret; ecall; "
+        "ebreak; handler: csrr x7, mcause; sw x7, ARG0(x5); li x6, EXIT; sw x6, COMMAND(x5)"
+    ),
+    "protected_user": (
+        "li x5, FORK; li x6, -1; csrw pmpaddr0, x6; li x6, 31; csrw pmpcfg0, x6; la x6, handler; csrw mtvec, x6; "
+        "addi x6, x6, -8; csrw mepc, x6; csrw mstatus, x0; mret; ecall; ebreak; handler: csrr x7, mcause; "
+        "sw x7, ARG0(x5); li x6, EXIT; sw x6, COMMAND(x5)"
+    ),
+    "ten_ticks": (
+        "li x5, FORK; la x6, handler; csrw mtvec, x6; li x8, TIMER; sw x0, MTIMECMPH(x8); li x10, 20; "
+        "sw x10, MTIMECMP(x8); li x6, 128; csrw mie, x6; csrrsi x0, mstatus, 8; wait: j wait; "
+        "handler: addi x7, x7, 1; li x11, 10; beq x7, x11, ends; addi x10, x10, 20; sw x10, MTIMECMP(x8); mret; "
+        "ends: sw x7, ARG0(x5); li x6, EXIT; sw x6, COMMAND(x5)"
+    ),
+    "echo_byte": (
+        "li x5, CONSOLE; lbu x6, 0(x5); sb x6, 0(x5); li x5, FORK; sw x0, ARG0(x5); li x6, EXIT; sw x6, COMMAND(x5)"
+    ),
+    "copy_sector": (
+        "li x5, BLOCK; li x6, READ; sw x0, SECTOR(x5); sw x6, BLOCK_COMMAND(x5); li x7, RAM + PAGE; "
+        "addi x8, x5, BUFFER; addi x9, x5, BUFFER + SECTOR_SIZE; copies: lw x10, 0(x8); sw x10, 0(x7); "
+        "addi x8, x8, 4; addi x7, x7, 4; bne x8, x9, copies; sw x6, SECTOR(x5); li x11, WRITE; "
+        "sw x11, BLOCK_COMMAND(x5); addi x8, x5, BUFFER; clears: sw x0, 0(x8); addi x8, x8, 4; bne x8, x9, clears; "
+        "sw x6, BLOCK_COMMAND(x5); li x7, RAM + PAGE; addi x8, x5, BUFFER; li x12, 0; compares: lw x10, 0(x8); "
+        "lw x13, 0(x7); beq x10, x13, is_same; addi x12, x12, 1; is_same: addi x8, x8, 4; addi x7, x7, 4; "
+        "bne x8, x9, compares; lw x14, STATUS(x5); add x12, x12, x14; lw x14, COUNT(x5); li x15, 2; "
+        "beq x14, x15, is_told; addi x12, x12, 1; is_told: li x16, CONSOLE; lw x10, BUFFER(x5); sb x10, 0(x16); "
+        "lw x10, BUFFER + 508(x5); srli x10, x10, 24; sb x10, 0(x16); li x5, FORK; sw x12, ARG0(x5); li x6, EXIT; "
+        "sw x6, COMMAND(x5)"
+    ),
+    "two_children": (
+        "li x5, FORK; li x6, 2; sw x6, ARG0(x5); sw x0, ARG1(x5); li x6, TICKET; sw x6, COMMAND(x5); "
+        "lw x7, RESULT(x5); sw x7, ARG0(x5); li x6, CLONE; sw x6, COMMAND(x5); lw x8, CLONE_ID(x5); "
+        "bne x8, x0, child; li x6, JOIN; sw x7, ARG0(x5); sw x6, COMMAND(x5); li x6, 1; sw x6, JSEL(x5); "
+        "lw x6, JVALUE(x5); sw x6, ARG0(x5); li x6, EXIT; sw x6, COMMAND(x5); child: addi x6, x8, 40; "
+        "sw x6, ARG0(x5); li x6, EXIT; sw x6, COMMAND(x5)"
+    ),
+    "hand_over_bytes": (
+        "li x5, FORK; li x9, RAM; sw x9, ARG1(x5); li x6, 7; sw x6, ARG0(x5); li x6, 0x400 + EXIT_BYTES; "
+        "sw x6, COMMAND(x5)"
+    ),
+    "join_bytes": (
+        "li x5, FORK; li x6, 2; sw x6, ARG0(x5); sw x0, ARG1(x5); li x6, TICKET; sw x6, COMMAND(x5); "
+        "lw x7, RESULT(x5); sw x7, ARG0(x5); li x6, CLONE; sw x6, COMMAND(x5); lw x8, CLONE_ID(x5); "
+        "bne x8, x0, child; li x6, JOIN; sw x7, ARG0(x5); sw x6, COMMAND(x5); li x6, 1; sw x6, JSEL(x5); "
+        "lw x6, JBYTES(x5); sw x6, ARG0(x5); li x6, EXIT; sw x6, COMMAND(x5); child: addi x6, x8, 40; "
+        "sw x6, ARG0(x5); li x9, RAM; sw x9, ARG1(x5); li x6, 0x400 + EXIT_BYTES; sw x6, COMMAND(x5)"
+    ),
+    "kill_then_join": (
+        "li x5, FORK; li x6, 2; sw x6, ARG0(x5); sw x0, ARG1(x5); li x6, TICKET; sw x6, COMMAND(x5); "
+        "lw x7, RESULT(x5); sw x7, ARG0(x5); li x6, CLONE; sw x6, COMMAND(x5); lw x8, CLONE_ID(x5); "
+        "bne x8, x0, child; li x6, KILL; sw x7, ARG0(x5); sw x6, COMMAND(x5); li x6, JOIN; sw x6, COMMAND(x5); "
+        "lw x6, RESULT(x5); sw x6, ARG0(x5); li x6, EXIT; sw x6, COMMAND(x5); child: addi x6, x8, 40; "
+        "sw x6, ARG0(x5); li x6, EXIT; sw x6, COMMAND(x5)"
+    ),
+    "sibling_swap": (
+        "li x5, FORK; li x6, 2; sw x6, ARG0(x5); sw x0, ARG1(x5); li x6, TICKET; sw x6, COMMAND(x5); "
+        "lw x7, RESULT(x5); sw x7, ARG0(x5); li x6, CLONE; sw x6, COMMAND(x5); lw x8, CLONE_ID(x5); "
+        "bne x8, x0, child; li x6, JOIN; sw x7, ARG0(x5); sw x6, COMMAND(x5); li x6, 1; sw x6, JSEL(x5); "
+        "lw x6, JVALUE(x5); sw x6, ARG0(x5); li x6, EXIT; sw x6, COMMAND(x5); child: li x13, SIBLING; li x6, 3; "
+        "sub x6, x6, x8; sw x6, PEER(x13); sw x8, DATA(x13); li x6, SEND; sw x6, TALK(x13); li x6, RECEIVE; "
+        "sw x6, TALK(x13); lw x6, DATA(x13); sw x6, ARG0(x5); li x6, EXIT; sw x6, COMMAND(x5)"
+    ),
+    "sibling_stuck": (
+        "li x5, FORK; li x6, 2; sw x6, ARG0(x5); sw x0, ARG1(x5); li x6, TICKET; sw x6, COMMAND(x5); "
+        "lw x7, RESULT(x5); sw x7, ARG0(x5); li x6, CLONE; sw x6, COMMAND(x5); lw x8, CLONE_ID(x5); "
+        "bne x8, x0, child; li x6, JOIN; sw x7, ARG0(x5); sw x6, COMMAND(x5); li x6, 1; sw x6, JSEL(x5); "
+        "lw x6, JVALUE(x5); sw x6, ARG0(x5); li x6, EXIT; sw x6, COMMAND(x5); child: li x13, SIBLING; li x6, 3; "
+        "sub x6, x6, x8; sw x6, PEER(x13); sw x8, DATA(x13); li x6, RECEIVE; sw x6, TALK(x13); li x6, RECEIVE; "
+        "sw x6, TALK(x13); lw x6, DATA(x13); sw x6, ARG0(x5); li x6, EXIT; sw x6, COMMAND(x5)"
+    ),
+    "grandchild": (
+        "li x5, FORK; li x9, RAM + PAGE; li x10, 17; sw x10, 0(x9); li x6, TICKET; sw x6, ARG0(x5); sw x6, ARG1(x5); "
+        "sw x6, COMMAND(x5); lw x7, RESULT(x5); sw x7, ARG0(x5); li x6, CLONE; sw x6, COMMAND(x5); "
+        "lw x8, RESULT(x5); bne x8, x0, child; li x10, 18; sw x10, 0(x9); j joins; child: li x6, TICKET; "
+        "sw x6, ARG0(x5); sw x0, ARG1(x5); sw x6, COMMAND(x5); lw x7, RESULT(x5); sw x7, ARG0(x5); li x6, CLONE; "
+        "sw x6, COMMAND(x5); lw x8, RESULT(x5); bne x8, x0, grandchild; li x10, 19; sw x10, 0(x9); "
+        "joins: li x6, JOIN; sw x7, ARG0(x5); sw x6, COMMAND(x5); li x6, 1; sw x6, JSEL(x5); lw x10, JVALUE(x5); "
+        "ends: sw x10, ARG0(x5); li x6, EXIT; sw x6, COMMAND(x5); grandchild: lw x10, 0(x9); j ends"
+    ),
+    "timer_at_fork": (
+        "li x5, FORK; li x9, TIMER; li x10, RAM + 0x2000; csrw mtvec, x10; sw x5, 0(x10); li x6, TICKET; "
+        "sw x6, ARG0(x5); sw x0, ARG1(x5); sw x6, COMMAND(x5); lw x7, RESULT(x5); sw x7, ARG0(x5); li x6, 128; "
+        "csrw mie, x6; li x6, 19; sw x6, MTIMECMP(x9); sw x0, MTIMECMPH(x9); csrrsi x0, mstatus, 8; li x6, CLONE; "
+        "sw x6, COMMAND(x5)"
+    ),
+    "thousand_children": (
+        "li x5, FORK; li x6, 1000; sw x6, ARG0(x5); sw x0, ARG1(x5); li x6, TICKET; sw x6, COMMAND(x5); "
+        "lw x7, RESULT(x5); sw x7, ARG0(x5); li x6, CLONE; sw x6, COMMAND(x5); lw x8, CLONE_ID(x5); "
+        "bne x8, x0, child; li x6, JOIN; sw x6, COMMAND(x5); lw x6, RESULT(x5); sw x6, ARG0(x5); li x6, EXIT; "
+        "sw x6, COMMAND(x5); child: sw x8, ARG0(x5); li x6, EXIT; sw x6, COMMAND(x5)"
+    ),
+    "long_chain": (
+        "li x5, FORK; again: lw x9, ALLOT(x5); beq x9, x0, last; li x6, TICKET; sw x6, ARG0(x5); addi x10, x9, -1; "
+        "sw x10, ARG1(x5); sw x6, COMMAND(x5); lw x7, RESULT(x5); sw x7, ARG0(x5); li x6, CLONE; sw x6, COMMAND(x5); "
+        "lw x8, RESULT(x5); bne x8, x0, again; li x6, JOIN; sw x6, COMMAND(x5); li x6, 1; sw x6, JSEL(x5); "
+        "lw x11, JVALUE(x5); addi x11, x11, 1; sw x11, ARG0(x5); li x6, EXIT; sw x6, COMMAND(x5); "
+        "last: sw x0, ARG0(x5); li x6, EXIT; sw x6, COMMAND(x5)"
+    ),
+    "straight_line": (
+        f"li x5, FORK; li x7, RAM + 0x40000; li x6, 0; {32497 * 'addi x6, x6, 1; sw x6, -16(x7); '}"
+        "sw x6, ARG0(x5); li x6, EXIT; sw x6, COMMAND(x5)"
+    ),
+    "loop_compute": (
+        "li x6, 1; again: slli x7, x6, 13; xor x6, x6, x7; srli x7, x6, 17; xor x6, x6, x7; slli x7, x6, 5; "
+        "xor x6, x6, x7; andi x7, x6, 1; beq x7, x0, even; addi x8, x8, 1; even: j again"
+    ),
+    "loop_memory": (
+        "li x5, RAM + PAGE; li x6, RAM + 0x2000; again: mv x7, x5; next: lw x8, 0(x7); addi x8, x8, 1; sw x8, 0(x7); "
+        "lhu x9, 0(x7); sh x9, 2(x7); lb x10, 0(x7); sb x10, 1(x7); addi x7, x7, 4; bne x7, x6, next; j again"
+    ),
+    "loop_multiply": (
+        "li x5, 0x19660d; li x6, 1; again: mul x6, x6, x5; addi x6, x6, 1; mulhu x7, x6, x5; divu x8, x6, x7; "
+        "rem x9, x6, x5; j again"
+    ),
 }
+
+
+def words_of(name):
+    """Returns the words of a guest of this folder."""
+    return assembled(GUESTS[name])
 
 
 def image(words):
@@ -66,14 +154,14 @@ def image(words):
     code = struct.pack(f"<{len(words)}I", *words)
     size = len(code)
     ident = b"\x7fELF" + bytes([1, 1, 1]) + bytes(9)
-    header = struct.pack("<HHIIIIIHHHHHH", 2, 243, 1, BASE, 52, 0, 0, 52, 32, 1, 0, 0, 0)
-    segment = struct.pack("<8I", 1, 84, BASE, BASE, size, size, 7, 4)
+    header = struct.pack("<HHIIIIIHHHHHH", 2, 243, 1, RAM, 52, 0, 0, 52, 32, 1, 0, 0, 0)
+    segment = struct.pack("<8I", 1, 84, RAM, RAM, size, size, 7, 4)
     return ident + header + segment + code
 
 
 def write(file, words):
     with open(file, "wb") as to:
-        to.write(image([int(word, 16) for word in words]))
+        to.write(image(words))
 
 
 def main(arguments):
@@ -82,12 +170,18 @@ def main(arguments):
         return
     if len(arguments) == 1 or arguments and arguments[0].startswith("-"):
         sys.exit("make.py: an image wants a name and its words; examples/make.py --help tells more")
+    if arguments[1:2] == ["--text"]:
+        try:
+            write(arguments[0], assembled("; ".join(arguments[2:])))
+        except AssemblyError as fault:
+            sys.exit(f"make.py: {fault}")
+        return
     if arguments:
-        write(arguments[0], arguments[1:])
+        write(arguments[0], [int(word, 16) for word in arguments[1:]])
         return
     folder = os.path.dirname(os.path.abspath(__file__))
-    for name, words in GUESTS.items():
-        write(f"{folder}/{name}.elf", words.split())
+    for name in GUESTS:
+        write(f"{folder}/{name}.elf", words_of(name))
 
 
 if __name__ == "__main__":

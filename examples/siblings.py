@@ -7,14 +7,15 @@ import os
 import sys
 
 sys.path.insert(0, f"{os.path.dirname(os.path.dirname(os.path.realpath(__file__)))}/tools")
-from lib.ports import (ALLOT, ARG0, ARG1, CLONE, CLONE_ID, COMMAND, DATA, EXIT, JOIN, JSEL, JVALUE, KILL, PEER, RECEIVE, RESULT, SEND,
-                   SIBLINGS, TALK, TICKET)  # fmt: skip
-from lib.words import add, addi, beq, bne, jal, lui, lw, number, placed, sb, sub, sw, to
+from lib.assembly import assembled
+from lib.ports import (ALLOT, ARG0, ARG1, CLONE, CLONE_ID, COMMAND, CONSOLE, DATA, EXIT, FORK, JOIN, JSEL, JVALUE, KILL, PAGE,
+                       PEER, RAM, RECEIVE, RESULT, SEND, SIBLING, SIBLINGS, TALK, TICKET)  # fmt: skip
+from lib.words import add, addi, beq, bne, jal, li, lw, number, placed, sb, sub, sw, to
 
 # Registers: x5 is the fork port and x13 the sibling port, x6 is for commands, x7 has the ticket's number, x8 the number among
 # the siblings, x9 counts rounds, x10 and x11 are peers, x12 a word, x14 a sum. They are 0 at the start.
 
-PORTS = [lui(5, 0x10002), lui(13, 0x10003)]
+PORTS = [*li(5, FORK), *li(13, SIBLING)]
 
 
 def call(command):
@@ -101,10 +102,10 @@ def swap(first, second):
     """Returns a guest that is two_children up to its children. Each of these gives two commands with its number as the word
     and the other one as the peer, and exits with the word that it has then."""
     parent = [addi(6, 0, JOIN), sw(7, ARG0, 5), sw(6, COMMAND, 5), addi(6, 0, 1), sw(6, JSEL, 5), lw(6, JVALUE, 5), *exit_with(6)]
-    port = [lui(13, 0x10003), addi(6, 0, 3), sub(6, 6, 8), sw(6, PEER, 13), sw(8, DATA, 13)]
+    port = [*li(13, SIBLING), addi(6, 0, 3), sub(6, 6, 8), sw(6, PEER, 13), sw(8, DATA, 13)]
     child = [*port, *talk(first), *talk(second), lw(6, DATA, 13), *exit_with(6)]
     ticket = [addi(6, 0, 2), sw(6, ARG0, 5), sw(0, ARG1, 5), *call(TICKET), lw(7, RESULT, 5), sw(7, ARG0, 5), *call(CLONE)]
-    return placed([lui(5, 0x10002), *ticket, lw(8, CLONE_ID, 5), to(bne, 8, 0, place="child"), *parent, "child", *child])
+    return placed([*li(5, FORK), *ticket, lw(8, CLONE_ID, 5), to(bne, 8, 0, place="child"), *parent, "child", *child])
 
 
 def ring(children, count):
@@ -197,7 +198,7 @@ def stuck_family():
 
 def stuck_with_output():
     """Returns a guest that puts out a letter and joins two children which put one out, too, and are stuck."""
-    put = [lui(15, 0x10000), addi(12, 8, 65), sb(12, 0, 15)]
+    put = [*li(15, CONSOLE), addi(12, 8, 65), sb(12, 0, 15)]
     child = ["child", *put, *OTHER, *receive(10, 12)]
     return placed([*PORTS, *put, *ask(2), to(bne, 8, 0, place="child"), *JOINS, *child])
 
@@ -205,7 +206,7 @@ def stuck_with_output():
 def late_word():
     """Returns a guest of which child 1 loads from two pages that its parent wrote, and sends the last word. The other one receives it,
     and wants the page of its code alone."""
-    pages = [lui(15, 0x8000A), sw(5, 0, 15), lui(16, 0x8000B), sw(13, 0, 16)]
+    pages = [*li(15, RAM + 10 * PAGE), sw(5, 0, 15), *li(16, RAM + 11 * PAGE), sw(13, 0, 16)]
     sends = [lw(12, 0, 15), lw(12, 0, 16), *send(10, 12), *exit_with(12)]
     child = ["child", *OTHER, *where(8, 1, "sends"), *receive(10, 12), *exit_with(12), "sends", *sends]
     return placed([*PORTS, *pages, *ask(2), to(bne, 8, 0, place="child"), *JOINS, *child])
@@ -646,17 +647,20 @@ SCRIPTS = [
 ]
 
 # Accesses to the port with x13 at its address, and the cause of the trap that each is, or 0.
+LOADS = ("PEER", 0), ("DATA", 0), ("TALK", 5), ("TALK_RESULT", 0), ("SIBLINGS", 0), ("20", 5), ("2", 4), ("-4", 5)
+STORES = ("PEER", 0), ("DATA", 0), ("TALK", 0), ("TALK_RESULT", 7), ("SIBLINGS", 7), ("20", 7), ("2", 6), ("-4", 7)
 ACCESSES = [
-    *((lw(12, offset, 13), cause) for offset, cause in ((PEER, 0), (DATA, 0), (COMMAND, 5), (RESULT, 0), (SIBLINGS, 0), (20, 5), (2, 4), (-4, 5))),
-    *((sw(12, offset, 13), cause) for offset, cause in ((PEER, 0), (DATA, 0), (COMMAND, 0), (RESULT, 7), (SIBLINGS, 7), (20, 7), (2, 6), (-4, 7))),
-    *((lw(12, PEER, 13) & ~0x7000 | kind << 12, 5) for kind in (0, 1, 4, 5)),
-    *((sw(12, COMMAND, 13) & ~0x7000 | kind << 12, 7) for kind in (0, 1)),
-    (0x1006A62F, 5),  # lr.w
-    (0x00C6A62F, 7),  # amoadd.w
+    *((f"lw x12, {offset}(x13)", cause) for offset, cause in LOADS),
+    *((f"sw x12, {offset}(x13)", cause) for offset, cause in STORES),
+    *((f"{name} x12, PEER(x13)", 5) for name in ("lb", "lh", "lbu", "lhu")),
+    *((f"{name} x12, TALK(x13)", 7) for name in ("sb", "sh")),
+    ("lr.w x12, (x13)", 5),
+    ("amoadd.w x12, x12, (x13)", 7),
 ]
 
 
-def access(word):
+def access(text):
     """Returns a guest that makes an access, and exits with 0, or with the cause of a trap."""
-    handler = [0x00000317, addi(6, 6, 28), 0x30531073]  # auipc, and csrrw to mtvec
-    return [*PORTS, *handler, word, *exit_with(0), 0x342023F3, *exit_with(7)]
+    ends = "sw {}, ARG0(x5); li x6, EXIT; sw x6, COMMAND(x5)"
+    begins = f"li x5, FORK; li x13, SIBLING; la x6, handler; csrw mtvec, x6; {text}; {ends.format('x0')}"
+    return assembled(f"{begins}; handler: csrr x7, mcause; {ends.format('x7')}")

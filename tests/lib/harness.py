@@ -2,8 +2,6 @@
 
 import argparse
 import difflib
-import importlib.machinery
-import importlib.util
 import os
 import shlex
 import subprocess
@@ -12,7 +10,6 @@ import tempfile
 
 ROOT = os.path.dirname(os.path.dirname(os.path.dirname(os.path.realpath(__file__))))
 sys.path[:0] = [f"{ROOT}/tools", f"{ROOT}/examples", f"{ROOT}/tests/lib"]
-sys.dont_write_bytecode = True
 
 import make
 from lib.assembly import assembled
@@ -80,6 +77,10 @@ class Tests:
         print(f"{self.name}: {what}", file=sys.stderr)
         self.failed = True
 
+    def skip(self, what):
+        """Says what is left out here, and why."""
+        print(f"{self.name}: skipped {what}")
+
     def tell(self, text):
         print(f"    {text}", file=sys.stderr)
 
@@ -102,26 +103,35 @@ def image(guest):
     return make.image(assembled(guest) if isinstance(guest, str) else guest)
 
 
-def script(path):
-    """Returns a script of the repository, which has no suffix, as a module."""
-    loader = importlib.machinery.SourceFileLoader(os.path.basename(path), f"{ROOT}/{path}")
-    module = importlib.util.module_from_spec(importlib.util.spec_from_loader(loader.name, loader))
-    loader.exec_module(module)
-    return module
+def changed(seven, *places):
+    """Returns an image of one header with this twice more behind it, and with bytes put to places, each behind its place."""
+    data = bytearray(seven + seven[52:84] * 2)
+    for at, byte in zip(places[::2], places[1::2]):
+        data[at] = byte
+    return bytes(data)
 
 
-def main(doc, test, options=()):
+def text_of(path):
+    """Returns the text of a file of the repository."""
+    with open(f"{ROOT}/{path}", encoding="utf-8") as file:
+        return file.read()
+
+
+def main(doc, test, options=(), runs=True):
     """Runs a test by the words of the command line, and returns the status. `test(tests, values)` returns what the closing line
-    tells; an option is its name and default."""
+    tells, or False where there is to be none. An option is its name and its default, which is False for one without a value,
+    and the type of its value. Where `runs` is False the test runs no program, and none is named."""
     name = os.path.basename(sys.argv[0])
     parser = argparse.ArgumentParser(prog=name, description=doc, formatter_class=argparse.RawDescriptionHelpFormatter)
     for option, default in options:
-        parser.add_argument(option, type=type(default), default=default)
-    parser.add_argument("program", nargs="?", default=f"{ROOT}/snow", metavar="PROGRAM")
+        how = {"action": "store_true"} if default is False else {"type": type(default), "default": default}
+        parser.add_argument(option, **how)
+    if runs:
+        parser.add_argument("program", nargs="?", default=f"{ROOT}/snow", metavar="PROGRAM")
     values = parser.parse_args()
     with tempfile.TemporaryDirectory() as room:
-        tests = Tests(name, os.path.abspath(values.program), room)
+        tests = Tests(name, os.path.realpath(values.program) if runs else None, room)
         told = test(tests, values)
-    if not tests.failed:
+    if not tests.failed and told is not False:
         print(f"{name}: all well, {told or f'{tests.count} runs and scripts'}")
     return int(tests.failed)

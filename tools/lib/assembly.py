@@ -3,7 +3,8 @@
 A line has an instruction, or several with a `;` between them, in the manual's spelling: `lw x7, RESULT(x5)`. Registers are
 x0 to x31. A number may be a name of `ports`, or a sum such as `RAM + 8`. `li rd, number` is one instruction or two,
 `la rd, label` is AUIPC and ADDI, and `mv`, `nop`, `j`, `csrr` and `csrw` are as in the manual. `.word` gives words as they
-are, `label:` names the place of the next word, and what follows a `#` is a comment.
+are, `label:` names the place of the next word, and what follows a `#` is a comment. Where a label is wanted, a sum may
+stand behind it: `la x6, handler + 1`.
 """
 
 import re
@@ -27,6 +28,7 @@ TERM = re.compile(r"([+-]?)\s*(\w+)")
 SUM = re.compile(rf"({TERM.pattern}\s*)*")
 PLACE = re.compile(r"(.*)\((\w+)\)")
 LABEL = re.compile(r"([A-Za-z_]\w*):\s*")
+NEAR_LABEL = re.compile(r"(\w+)\s*([+-].*)?")
 REGISTERS = {f"x{number}": number for number in range(32)}
 
 
@@ -64,11 +66,12 @@ class Assembler:
             value += -one if sign == "-" else one
         return value
 
-    def distance(self, label):
-        """Returns how far it is from the next word to a label."""
-        if label not in self.labels:
-            raise AssemblyError(f"there is no label {label}")
-        return self.labels[label] - 4 * len(self.words)
+    def distance(self, text):
+        """Returns how far it is from the next word to a label, or to so many bytes behind or before one."""
+        found = NEAR_LABEL.fullmatch(text)
+        if not found or found[1] not in self.labels:
+            raise AssemblyError(f"there is no label {text}")
+        return self.labels[found[1]] + self.number(found[2] or "0") - 4 * len(self.words)
 
     def place(self, text):
         """Returns the offset and the register of `offset(register)`."""

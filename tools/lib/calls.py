@@ -5,6 +5,7 @@ import os
 
 from lib import images, scripts
 from lib.images import listed
+from lib.ports import PAGE, SECTOR_SIZE
 
 COMMANDS = {"run": ("IMAGE",), "drive": ("IMAGE", "SCRIPT"), "self": ("SEED",)}
 FILES = {"--disk": "the disk", "--input": "the console's input"}
@@ -22,7 +23,7 @@ NUMBERS = {
 GUEST = ("--disk", "--input", "--ram", "--limit", "--clones")
 OPTIONS = {"run": (*GUEST, "--wire", "--ahead", "--workers", "--slice"), "drive": GUEST, "self": ("--workers",)}
 DEFAULT_PAGES = 64
-LONGEST_DISK, LONGEST_INPUT, SECTOR = 4194304, 65536, 512
+LONGEST_DISK, LONGEST_INPUT = 4194304, 65536
 
 READ_FAULT, USAGE, IMAGE, DISK_OR_INPUT, WRITE_FAULT, MEMORY, WIRE, SCRIPT = 1, 2, 3, 4, 5, 6, 7, 8
 
@@ -167,7 +168,7 @@ def size_hint(option: str, value: str) -> str:
         digits, unit = digits[:-1], digits[-1]
     if not digits.isascii() or not digits.isdigit() or not unit and int(digits) < 65536:
         return "; it counts pages of 4,096 bytes"
-    pages = int(digits) * units[unit] // 4096
+    pages = int(digits) * units[unit] // PAGE
     return f"; it counts pages of 4,096 bytes, so {value} is --ram {pages}" if 16 <= pages <= 16384 else "; it counts pages of 4,096 bytes, and 16384 are 64 MiB"
 
 
@@ -205,8 +206,8 @@ def check_files(call: Call) -> bytes:
     refused = images.fault_of(image, call.pages())
     if refused:
         raise Refused(IMAGE, f"{image_name} {refused[1]}", refused[0])
-    if len(disk) % SECTOR:
-        over = len(disk) % SECTOR
+    if len(disk) % SECTOR_SIZE:
+        over = len(disk) % SECTOR_SIZE
         raise Refused(DISK_OR_INPUT, f"the disk {disk_name} is no whole number of sectors, {over} bytes over: truncate -s %512 {disk_name} fills it up", 2)
     if fault:
         raise Refused(SCRIPT, f"the script {call.names[1]}: {fault.text}", fault.line, fault.kind)

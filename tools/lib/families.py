@@ -5,6 +5,7 @@ from collections.abc import Iterator
 
 from lib import program, reports, scripts
 from lib.command import Problem
+from lib.ports import BLOCK, BLOCK_COMMAND, BUFFER, READ, SECTOR, SECTOR_SIZE, WRITE
 
 MOST = scripts.MOST_STEPS
 STEPS_IN_A_SCRIPT = 30000
@@ -374,17 +375,17 @@ class Disk:
     """A disk and its port, which follow the stores of a machine."""
 
     def __init__(self, data: bytes):
-        self.sectors = [data[at : at + 512] for at in range(0, len(data), 512)]
-        self.sector, self.buffer = 0, bytearray(512)
+        self.sectors = [data[at : at + SECTOR_SIZE] for at in range(0, len(data), SECTOR_SIZE)]
+        self.sector, self.buffer = 0, bytearray(SECTOR_SIZE)
 
     def store(self, address: int, value: int) -> None:
-        if address == 0x10001000:
+        place = address - BLOCK - BUFFER
+        if address == BLOCK + SECTOR:
             self.sector = value
-        elif address == 0x10001004 and self.sector < len(self.sectors):
-            if value == 1:
+        elif address == BLOCK + BLOCK_COMMAND and self.sector < len(self.sectors):
+            if value == READ:
                 self.buffer[:] = self.sectors[self.sector]
-            elif value == 2:
+            elif value == WRITE:
                 self.sectors[self.sector] = bytes(self.buffer)
-        elif 0x10001200 <= address < 0x10001400:
-            place = address - 0x10001200
+        elif 0 <= place < SECTOR_SIZE:
             self.buffer[place : place + 4] = value.to_bytes(4, "little")

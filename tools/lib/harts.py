@@ -1,40 +1,42 @@
 """What a machine does at a step: which trap it is, and what it stores. It is derived from what `snow drive` tells, and from the
 mode, the control and status registers, memory protection and the timer, which are followed from the boot on."""
 
+from lib import ports
 from lib.instructions import CSRS, ENTRIES, Instruction, decode, signed
+from lib.ports import BLOCK, CONSOLE, EXIT_BYTES, FORK, RAM, RECEIVE, SECTOR_SIZE, SEND, SIBLING, TIMER
 
-RAM = 0x80000000
 # A trap: its cause, its value, and which entry of memory protection made it, in words, or None.
 Trap = tuple[int, int, str | None]
 
 MSTATUS, MIE, MTVEC, MSCRATCH, MEPC, MCAUSE, MTVAL = 0x300, 0x304, 0x305, 0x340, 0x341, 0x342, 0x343
 
 # The registers of the ports that are words: name, and whether it is loaded and stored.
+MTIMECMP, MTIMECMPH = TIMER + ports.MTIMECMP, TIMER + ports.MTIMECMPH
+MTIME, MTIMEH = TIMER + ports.MTIME, TIMER + ports.MTIMEH
+ARG0, ARG1, COMMAND = FORK + ports.ARG0, FORK + ports.ARG1, FORK + ports.COMMAND
+PEER, DATA, TALK = SIBLING + ports.PEER, SIBLING + ports.DATA, SIBLING + ports.TALK
 WORDS = {
-    0x02004000: ("mtimecmp", "ls"), 0x02004004: ("mtimecmph", "ls"), 0x0200BFF8: ("mtime", "ls"), 0x0200BFFC: ("mtimeh", "ls"),
-    0x10001000: ("SECTOR", "ls"), 0x10001004: ("disk COMMAND", "s"), 0x10001008: ("STATUS", "l"), 0x1000100C: ("COUNT", "l"),
-    0x10002000: ("ARG0", "ls"), 0x10002004: ("ARG1", "ls"), 0x10002008: ("COMMAND", "s"), 0x1000200C: ("RESULT", "l"),
-    0x10002010: ("CLONE ID", "l"), 0x10002014: ("ALLOT", "l"), 0x10002018: ("JSEL", "ls"), 0x1000201C: ("JKIND", "l"),
-    0x10002020: ("JVALUE", "l"), 0x10002024: ("GRANTED", "l"), 0x1000202C: ("JLEN", "l"),
-    0x10003000: ("PEER", "ls"), 0x10003004: ("DATA", "ls"), 0x10003008: ("sibling COMMAND", "s"), 0x1000300C: ("sibling RESULT", "l"),
-    0x10003010: ("SIBLINGS", "l"),
-}
-for number in range(128):
-    WORDS[0x10001200 + 4 * number] = (f"buffer[{number}]", "ls")
+    MTIMECMP: ("mtimecmp", "ls"), MTIMECMPH: ("mtimecmph", "ls"), MTIME: ("mtime", "ls"), MTIMEH: ("mtimeh", "ls"),
+    BLOCK + ports.SECTOR: ("SECTOR", "ls"), BLOCK + ports.BLOCK_COMMAND: ("disk COMMAND", "s"),
+    BLOCK + ports.STATUS: ("STATUS", "l"), BLOCK + ports.COUNT: ("COUNT", "l"),
+    ARG0: ("ARG0", "ls"), ARG1: ("ARG1", "ls"), COMMAND: ("COMMAND", "s"), FORK + ports.RESULT: ("RESULT", "l"),
+    FORK + ports.CLONE_ID: ("CLONE ID", "l"), FORK + ports.ALLOT: ("ALLOT", "l"), FORK + ports.JSEL: ("JSEL", "ls"),
+    FORK + ports.JKIND: ("JKIND", "l"), FORK + ports.JVALUE: ("JVALUE", "l"), FORK + ports.GRANTED: ("GRANTED", "l"),
+    FORK + ports.JLEN: ("JLEN", "l"),
+    PEER: ("PEER", "ls"), DATA: ("DATA", "ls"), TALK: ("sibling COMMAND", "s"),
+    SIBLING + ports.TALK_RESULT: ("sibling RESULT", "l"), SIBLING + ports.SIBLINGS: ("SIBLINGS", "l"),
+}  # fmt: skip
+for number in range(SECTOR_SIZE // 4):
+    WORDS[BLOCK + ports.BUFFER + 4 * number] = (f"buffer[{number}]", "ls")
 for number in range(16):
-    WORDS[0x10002040 + 4 * number] = (f"JBYTES[{number}]", "l")
-COMMANDS = {1: "TICKET", 2: "CLONE", 3: "JOIN", 4: "KILL", 5: "EXIT", 6: "ZERO"}
-EXIT_WITH_BYTES = 7
-ARG0, ARG1, COMMAND = 0x10002000, 0x10002004, 0x10002008
-ZERO = 6
-PEER, DATA, TALK = 0x10003000, 0x10003004, 0x10003008
-SEND, RECEIVE = 1, 2
+    WORDS[FORK + ports.JBYTES + 4 * number] = (f"JBYTES[{number}]", "l")
+COMMANDS = {getattr(ports, name): name for name in ("TICKET", "CLONE", "JOIN", "KILL", "EXIT", "ZERO")}
 WIDTHS = {"lb": 1, "lbu": 1, "sb": 1, "lh": 2, "lhu": 2, "sh": 2}
 
 
 def command_name(word: int) -> str | None:
     """Returns what a word is as a command of the fork port, or None."""
-    if word & 0xFF == EXIT_WITH_BYTES:
+    if word & 0xFF == EXIT_BYTES:
         return f"EXIT with {word >> 8} bytes"
     return COMMANDS.get(word)
 
@@ -57,7 +59,7 @@ def is_given(address: int, width: int, direction: str, ram_end: int) -> bool:
     """Returns whether RAM or a port gives an access."""
     if RAM <= address < ram_end:
         return True
-    if 0x10000000 <= address <= 0x10000007:
+    if CONSOLE <= address < CONSOLE + 8:
         return width == 1
     return width == 4 and direction in WORDS.get(address, ("", ""))[1]
 
@@ -178,9 +180,9 @@ class Control:
 
     def store(self, address: int, value: int) -> bool:
         """Follows a store to the timer, and returns whether the time counts the step."""
-        if address in (0x02004000, 0x02004004):
+        if address in (MTIMECMP, MTIMECMPH):
             self.compare = half_put(self.compare, address & 4, value)
-        elif address in (0x0200BFF8, 0x0200BFFC):
+        elif address in (MTIME, MTIMEH):
             self.time = half_put(self.time, address & 4, value)
             return False
         return True
@@ -283,7 +285,7 @@ def note_of(state: State, known: Instruction, ram_end: int) -> str:
     address = state.register(known.rs1) + known.immediate & 0xFFFFFFFF
     in_ram = RAM <= address < ram_end
     place = f"[{address:08x}]"
-    if 0x10000000 <= address <= 0x10000007:
+    if CONSOLE <= address < CONSOLE + 8:
         place = f"console {address & 7}"
     elif address in WORDS:
         place = WORDS[address][0]
@@ -297,6 +299,6 @@ def note_of(state: State, known: Instruction, ram_end: int) -> str:
         text += f" {name}"
     elif address == TALK and value in (SEND, RECEIVE):
         text += " SEND" if value == SEND else " RECEIVE"
-    elif address == 0x10000000 and 32 <= value < 127:
+    elif address == CONSOLE and 32 <= value < 127:
         text += f" '{chr(value)}'"
     return text

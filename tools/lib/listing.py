@@ -1,8 +1,9 @@
 """Shows the steps of a machine as lines."""
 
 from lib.families import STEPS_IN_A_SCRIPT
-from lib.harts import DATA, EXIT_WITH_BYTES, PEER, RAM, RECEIVE, SEND, TALK, note_of, store_of
+from lib.harts import DATA, PEER, TALK, note_of, store_of
 from lib.instructions import decode, lack_of
+from lib.ports import EXIT_BYTES, RAM, RECEIVE, SEND
 from lib.sayings import CAUSES
 from lib.traces import Step, Steps
 
@@ -102,7 +103,7 @@ class Listing:
             return ""
         state, word = (final or next(self.steps.between(end - 1, 1)))[:2]
         asked = state.register(decode(word).rs2)
-        if asked & 0xFF != EXIT_WITH_BYTES or not asked >> 8:
+        if asked & 0xFF != EXIT_BYTES or not asked >> 8:
             return ""
         first = self.steps.second_argument(end - 1)
         return f", handed {self.steps.bytes_at(end - 1, first, first + (asked >> 8)).hex()}"

@@ -7,10 +7,11 @@ from collections.abc import Callable, Iterator
 from lib import progress, scripts
 from lib.command import Problem
 from lib.families import MOST, STEPS_IN_A_SCRIPT, Disk, Machine
-from lib.harts import ARG0, ARG1, COMMAND, RAM, ZERO, Control, State, Trap
+from lib.harts import ARG0, ARG1, COMMAND, Control, State, Trap
 from lib.harts import denials, foresee, store_of, written_by
-from lib.images import PAGE, Image
+from lib.images import Image
 from lib.instructions import decode
+from lib.ports import PAGE, RAM, ZERO
 from lib.sayings import CAUSES
 
 # How many steps before a place are looked at one by one.

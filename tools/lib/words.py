@@ -2,6 +2,7 @@
 
 from functools import partial
 
+from lib.assembly import assembled, halves
 from lib.encoding import encoded
 
 lui, addi, add, sub, slt, lw, sw, sb, bne, beq = (partial(encoded, name) for name in "lui addi add sub slt lw sw sb bne beq".split())
@@ -10,7 +11,13 @@ jal = partial(encoded, "jal", 0)
 
 def number(rd, value):
     """Returns the two words that put a number into a register."""
-    return [lui(rd, (value + 0x800 >> 12) & 0xFFFFF), addi(rd, rd, (value & 0xFFF ^ 0x800) - 0x800)]
+    upper, rest = halves(value)
+    return [lui(rd, upper), addi(rd, rd, rest)]
+
+
+def li(rd, value):
+    """Returns the word that puts a number into a register, or the two, where one does not."""
+    return assembled(f"li x{rd}, {value}")
 
 
 def placed(lines):
