@@ -4,12 +4,15 @@ import argparse
 import difflib
 import os
 import shlex
+import signal
 import subprocess
 import sys
 import tempfile
 
 ROOT = os.path.dirname(os.path.dirname(os.path.dirname(os.path.realpath(__file__))))
 sys.path[:0] = [f"{ROOT}/tools", f"{ROOT}/examples", f"{ROOT}/tests/lib"]
+# A shell ignores Ctrl-C for what it runs in the background, and all that is started here would inherit that.
+signal.signal(signal.SIGINT, signal.default_int_handler)
 
 import make
 from lib.assembly import assembled
