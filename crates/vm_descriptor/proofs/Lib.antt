@@ -1,5 +1,6 @@
 mod Accepted
 mod Appended
+mod BitRuns
 mod BitSteps
 pub mod CloneTables
 mod DecodedInRange
@@ -18,7 +19,9 @@ mod Modes
 mod NotRefused
 mod ReadBack
 mod RunLengths
+mod RunMaking
 mod Spelled
 mod Spelling
 mod VersionList
+mod WordBits
 mod Words
