@@ -13,7 +13,6 @@ mod Forms
 mod Kept
 mod MapLast
 mod MapSpelled
-mod Maps
 mod Marks
 mod Modes
 mod NotRefused

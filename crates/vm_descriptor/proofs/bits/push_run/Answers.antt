@@ -1,5 +1,4 @@
 use Rattle.std.proofs.Common.{◌≡◌, ◌+◌, ◌-◌, ◌/◌, ◌%◌, ◌++◌, ℕ, List, replicate, ap, ◌∙◌, arith}
-use Rattle.std.specs.Prelude.{Bool}
 use Rattle.vm_descriptor.specs.Maps.{bits_of, whole_byte}
 use Rattle.vm_descriptor.proofs.BitRuns.{run_added}
 use Rattle.vm_descriptor.proofs.bits.push_run.Goals as goal

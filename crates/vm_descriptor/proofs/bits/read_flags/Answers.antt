@@ -22,11 +22,14 @@ words-preserved c =
     let rest : c.in-Some.behind.now ≡ drop 8 bytes = search rules in
     let whole : c.in-Some.eight.now ++ c.in-Some.behind.now ≡ bytes = ap (λ (xs : List ℕ). xs ++ c.in-Some.behind.now) first ∙ ap (λ (xs : List ℕ). take 8 bytes ++ xs) rest ∙ take-append-drop 8 bytes in
     record {
-      in_turn = c.in_ok-put_eight.ensures.in_turn;
+      in_turn = c.in_ok-left.ensures.in_turn;
       so_far =
-          c.in_ok-put_eight.ensures.behind c.in-Some.behind.now
+          c.in_ok-left.ensures.behind c.in-Some.behind.now
           ∙ ap (λ (xs : List ℕ). from_the_start c.words.runs ++ flags_of c.words.left xs) whole ∙ was.so_far;
     }
+
+pub loop-byte-init : goal.loop-byte-init
+loop-byte-init c = record { in_turn = c.words.invariant.in_turn; so_far = c.words.invariant.so_far }
 
 pub loop-byte-preserved : goal.loop-byte-preserved
 loop-byte-preserved c =
@@ -41,9 +44,10 @@ loop-byte-preserved c =
       in_turn = c.in_ok-put_word.ensures.in_turn;
       so_far =
           ap (λ (fs : List Bool). fs ++ behind) c.in_ok-put_word.ensures.behind
-          ∙ append_assoc old (bits_of bits byte) behind
+          ∙ append_assoc old (bits_of bits c.from.result) behind
           ∙ ap (λ (fs : List Bool). old ++ fs)
-          (sym (flags_step loop.left bits byte (drop (i + 1) bytes) (c.at_most-bits.ensures ∙ first_by (nat_lt 8 loop.left) loop.left refl))
+          (ap (λ (n : ℕ). bits_of bits n ++ behind) c.from.ensures
+          ∙ sym (flags_step loop.left bits byte (drop (i + 1) bytes) (c.at_most-bits.ensures ∙ first_by (nat_lt 8 loop.left) loop.left refl))
           ∙ sym (at_drop_more (flags_of loop.left) bytes i 0 c.loop-byte-test.true))
           ∙ loop.invariant.so_far;
     }

@@ -10,4 +10,4 @@ abbrev pub decreases-words : goal.decreases-words
 decreases-words l = length l.bytes
 
 abbrev pub invariant-loop-byte : goal.invariant-loop-byte
-invariant-loop-byte l = record { in_turn : IsInTurn l.runs; so_far : from_the_start l.runs ++ flags_of l.left (drop l.byte-index l.bytes) ≡ flags_of l.count l.map }
+invariant-loop-byte l = record { in_turn : IsInTurn l.runs; so_far : from_the_start l.runs ++ flags_of l.left (drop l.byte-index l.byte-items) ≡ flags_of l.count l.map }
