@@ -1,5 +1,6 @@
 mod Accepted
 mod Appended
+mod BitRuns
 mod BitSteps
 pub mod CloneTables
 mod DecodedInRange
@@ -12,13 +13,14 @@ mod Forms
 mod Kept
 mod MapLast
 mod MapSpelled
-mod Maps
 mod Marks
 mod Modes
 mod NotRefused
 mod ReadBack
 mod RunLengths
+mod RunMaking
 mod Spelled
 mod Spelling
 mod VersionList
+mod WordBits
 mod Words

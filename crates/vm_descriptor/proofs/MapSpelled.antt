@@ -25,7 +25,7 @@ bits_back (suc count) n below =
     ap (λ (b : ℕ). b + 2 * number_of_bits (bits_of count (n / 2))) bit ∙ (ap (λ (r : ℕ). n % 2 + 2 * r) rest ∙ whole)
 
 -- the byte of so few flags
-map_few : (count byte : ℕ) → 0 < count → count ≤ 8 → byte < 2 ^ count → map_bytes (bits_of count byte) ≡ byte ∷ []
+pub map_few : (count byte : ℕ) → 0 < count → count ≤ 8 → byte < 2 ^ count → map_bytes (bits_of count byte) ≡ byte ∷ []
 unfolding map_bytes bits_of
 map_few zero byte some most below = absurd (omega (arith, some))
 map_few (suc zero) byte some most below = ap (λ (b : ℕ). b ∷ []) (bits_back 1 byte below)
@@ -39,7 +39,7 @@ map_few (suc (suc (suc (suc (suc (suc (suc (suc zero)))))))) byte some most belo
 map_few (suc (suc (suc (suc (suc (suc (suc (suc (suc count))))))))) byte some most below = absurd (omega (arith, most))
 
 -- a whole byte, and what stands behind it
-map_whole_back : (byte : ℕ) (flags : List Bool) → byte < 256 → map_bytes (bits_of 8 byte ++ flags) ≡ byte ∷ map_bytes flags
+pub map_whole_back : (byte : ℕ) (flags : List Bool) → byte < 256 → map_bytes (bits_of 8 byte ++ flags) ≡ byte ∷ map_bytes flags
 unfolding map_bytes bits_of
 map_whole_back byte flags below = ap (λ (b : ℕ). b ∷ map_bytes flags) (bits_back 8 byte below)
 

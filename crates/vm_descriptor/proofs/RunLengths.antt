@@ -1,10 +1,10 @@
 -- The lengths of runs of equal flags, and their flags.
 use Rattle.std.proofs.Common.{◌≡◌, ◌≢◌, ◌≤◌, ◌<◌, ◌+◌, ◌-◌, ◌*◌, ◌%◌, ◌^◌, ℕ, zero, suc, List, [], ◌∷◌, ◌++◌, length, take, drop, replicate, get_or, sym, ap, ap₂, ◌∙◌, refl, true, false, arith}
-use Rattle.std.specs.Prelude.{Bool, not, ◌&&◌, ◌==◌, nat_le, nat_lt, if◌then◌else◌}
+use Rattle.std.specs.Prelude.{Bool, not, ◌&&◌, ◌||◌, ◌==◌, nat_le, nat_lt, if◌then◌else◌}
 use Rattle.std.specs.Bool.{beq}
 use Rattle.std.specs.Cmp.Derive.{both_true}
 use Rattle.std.specs.List.{flat_map, list_all, sum}
-use Rattle.std.proofs.lemmas.Bool.{and_parts, eq-eqb, eqb-true, le-leb, leb-true, lt-ltb}
+use Rattle.std.proofs.lemmas.Bool.{and_parts, eq-eqb, eqb-false, eqb-true, le-leb, leb-true, lt-ltb}
 use Rattle.std.proofs.lemmas.List.{append_assoc, length-append, length-replicate, replicate_more}
 use Rattle.std.proofs.lemmas.List.Sums.{sum_by-cons}
 use Rattle.byteorder.specs.Numbers.{little_number-reads_back}
@@ -30,6 +30,10 @@ flags_back true count (true ∷ flags) = flags_back true (count + 1) flags ∙ o
 flags_back false count (false ∷ flags) = flags_back false (count + 1) flags ∙ one_more false count flags
 flags_back true count (false ∷ flags) = ap (λ fs. replicate count true ++ fs) (flags_back false 1 flags)
 flags_back false count (true ∷ flags) = ap (λ fs. replicate count false ++ fs) (flags_back true 1 flags)
+
+-- the flags of their runs
+pub flags_in_again : (flags : List Bool) → flags_of_runs false (runs flags) ≡ flags
+flags_in_again flags = flags_back false 0 flags
 
 -- there are as many flags as the runs tell
 pub length_of_runs : (flag : Bool) (lengths : List ℕ) → length (flags_of_runs flag lengths) ≡ sum lengths
@@ -144,6 +148,78 @@ next_changes false false flags differ = absurd (differ refl)
 
 pub count_runs : (flags : List Bool) → length (runs flags) ≡ 1 + changes false flags
 count_runs flags = count_by false 0 flags
+
+changes_few : (last : Bool) (flags : List Bool) → changes last flags ≤ length flags
+changes_few last [] = omega arith
+changes_few true (true ∷ flags) = let rest = changes_few true flags in omega (arith, rest)
+changes_few false (false ∷ flags) = let rest = changes_few false flags in omega (arith, rest)
+changes_few true (false ∷ flags) = let rest = changes_few false flags in omega (arith, rest)
+changes_few false (true ∷ flags) = let rest = changes_few true flags in omega (arith, rest)
+
+-- no more than there are flags, and one
+pub few_runs : (flags : List Bool) → length (runs flags) ≤ length flags + 1
+few_runs flags = let few = changes_few false flags in omega (arith, few, count_runs flags)
+
+-- ---- the runs of the flags of runs, some of which may be 0
+
+no_run : (last : Bool) (count : ℕ) (flag : Bool) (run : ℕ) (later : List ℕ) → run ≡ 0
+    → runs_behind last count (flags_of_runs flag (run ∷ later)) ≡ runs_behind last (count + run) (flags_of_runs (not flag) later)
+unfolding flags_of_runs
+no_run last count flag zero later is = ap (λ n. runs_behind last n (flags_of_runs (not flag) later)) (omega arith)
+no_run last count flag (suc run) later is = absurd (omega (arith, is))
+
+same_flag : (last : Bool) (count : ℕ) (flag : Bool) (run : ℕ) (later : List ℕ) → beq flag last ≡ true
+    → runs_behind last count (flags_of_runs flag (run ∷ later)) ≡ runs_behind last (count + run) (flags_of_runs (not flag) later)
+unfolding flags_of_runs
+same_flag true count true run later is = runs_more true count run (flags_of_runs false later)
+same_flag false count false run later is = runs_more false count run (flags_of_runs true later)
+same_flag true count false run later is = absurd (cc)
+same_flag false count true run later is = absurd (cc)
+
+first_flag : (last : Bool) (count : ℕ) (flag : Bool) (run : ℕ) (flags : List Bool) → beq flag last ≡ false
+    → runs_behind last count (flag ∷ (replicate run flag ++ flags)) ≡ count ∷ runs_behind flag (1 + run) flags
+unfolding runs_behind
+first_flag true count false run flags is = ap (λ rs. count ∷ rs) (runs_more false 1 run flags)
+first_flag false count true run flags is = ap (λ rs. count ∷ rs) (runs_more true 1 run flags)
+first_flag true count true run flags is = absurd (cc)
+first_flag false count false run flags is = absurd (cc)
+
+other_flag : (last : Bool) (count : ℕ) (flag : Bool) (run : ℕ) (later : List ℕ) → 0 < run → beq flag last ≡ false
+    → runs_behind last count (flags_of_runs flag (run ∷ later)) ≡ count ∷ runs_behind flag run (flags_of_runs (not flag) later)
+unfolding flags_of_runs
+other_flag last count flag zero later some is = absurd (omega (arith, some))
+other_flag last count flag (suc run) later some is =
+    first_flag last count flag run (flags_of_runs (not flag) later) is ∙ ap (λ n. count ∷ runs_behind flag n (flags_of_runs (not flag) later)) (omega arith)
+
+-- a run that belongs to the flags before it
+pub run_on : (last : Bool) (count : ℕ) (flag : Bool) (run : ℕ) (later : List ℕ) → (run == 0 || beq flag last) ≡ true
+    → runs_behind last count (flags_of_runs flag (run ∷ later)) ≡ runs_behind last (count + run) (flags_of_runs (not flag) later)
+run_on last count flag run later is = by (run == 0) refl is where
+  by : (none : Bool) → (run == 0) ≡ none → (none || beq flag last) ≡ true
+      → runs_behind last count (flags_of_runs flag (run ∷ later)) ≡ runs_behind last (count + run) (flags_of_runs (not flag) later)
+  by true none is = no_run last count flag run later (eqb-true run 0 none)
+  by false none is = same_flag last count flag run later is
+
+-- a run of other flags
+pub run_off : (last : Bool) (count : ℕ) (flag : Bool) (run : ℕ) (later : List ℕ) → (run == 0 || beq flag last) ≡ false
+    → runs_behind last count (flags_of_runs flag (run ∷ later)) ≡ count ∷ runs_behind flag run (flags_of_runs (not flag) later)
+run_off last count flag run later is = by (run == 0) refl is where
+  by : (none : Bool) → (run == 0) ≡ none → (none || beq flag last) ≡ false
+      → runs_behind last count (flags_of_runs flag (run ∷ later)) ≡ count ∷ runs_behind flag run (flags_of_runs (not flag) later)
+  by true none is = absurd (cc)
+  by false none is = let some = eqb-false run 0 none in other_flag last count flag run later (omega (arith, some)) is
+
+pub changes_on : (last flag : Bool) (run : ℕ) (later : List ℕ) → (run == 0 || beq flag last) ≡ true
+    → changes last (flags_of_runs flag (run ∷ later)) ≡ changes last (flags_of_runs (not flag) later)
+changes_on last flag run later is =
+    let same = ap (λ (rs : List ℕ). length rs) (run_on last 0 flag run later is) in
+    omega (arith, same, count_by last 0 (flags_of_runs flag (run ∷ later)), count_by last (0 + run) (flags_of_runs (not flag) later))
+
+pub changes_off : (last flag : Bool) (run : ℕ) (later : List ℕ) → (run == 0 || beq flag last) ≡ false
+    → changes last (flags_of_runs flag (run ∷ later)) ≡ 1 + changes flag (flags_of_runs (not flag) later)
+changes_off last flag run later is =
+    let same = ap (λ (rs : List ℕ). length rs) (run_off last 0 flag run later is) in
+    omega (arith, same, count_by last 0 (flags_of_runs flag (run ∷ later)), count_by flag run (flags_of_runs (not flag) later))
 
 -- ---- their bytes
 

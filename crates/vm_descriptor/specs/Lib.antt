@@ -5,3 +5,4 @@ pub mod Maps
 pub mod CloneTables
 pub mod PageMaps
 pub mod Described
+pub mod MadeRuns

@@ -21,6 +21,11 @@ unfoldable pub number_of_bits : List Bool → ℕ
 number_of_bits [] = 0
 number_of_bits (bit ∷ bits) = bit_value bit + 2 * number_of_bits bits
 
+-- the number of eight equal bits
+abbrev pub whole_byte : Bool → ℕ
+whole_byte false = 0
+whole_byte true = 255
+
 -- a byte for each eight flags, of which the first is the lowest bit. The bits past the last flag are 0
 unfoldable pub map_bytes : List Bool → List ℕ
 map_bytes [] = []

@@ -17,6 +17,9 @@ use guest_pmp::{Mode, PmpRegisters};
 use rv_traps::CsrRegisters;
 use std::alloc::{AllocError, Global};
 
+/// The room for a map at first, in bytes: that of the lengths of some twenty runs.
+const MAP_ROOM: usize = 40;
+
 impl Descriptor {
     /// The bytes of a descriptor that is in range, in the newest version.
     pub fn encode(&self, alloc: Global) -> Result<Vec<u8>, AllocError>
@@ -52,7 +55,7 @@ impl Descriptor {
         requires known { IsVersion version.now }
         ensures { IfOk result (λ bytes. bytes.items ≡ described_as version.now self.now) }
     {
-        let mut bytes = Vec::with_capacity(alloc, version.fields + self.pages as usize / 8 + 2)?;
+        let mut bytes = Vec::with_capacity(alloc, version.fields + MAP_ROOM)?;
         self.push_fields(version, &mut bytes)?;
         bytes.extend_from_slice(&self.block.buffer)?;
         push_entries(&mut bytes, version.has_entries, &self.csrs.pmp)?;

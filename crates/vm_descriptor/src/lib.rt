@@ -8,6 +8,7 @@ mod descriptor;
 mod error;
 mod fits;
 pub mod laws;
+mod made_runs;
 mod map;
 mod page_map;
 mod read;

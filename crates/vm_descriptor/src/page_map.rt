@@ -3,7 +3,7 @@ ghost use Rattle.shared_leaves.specs.Choices.{flags_of_runs};
 ghost use Rattle.page_frames.specs.Tables.{blank_pages};
 ghost use Rattle.vm_descriptor.specs.PageMaps.{held};
 
-use crate::clone_table::{CloneTable, blank_flags};
+use crate::clone_table::{CloneTable, blank_runs};
 use crate::runs::{are_as_many, flags_in_runs};
 use page_frames::PageTable;
 use std::alloc::{AllocError, Global};
@@ -81,7 +81,7 @@ impl PageMap {
     pub fn of_table(alloc: Global, table: &PageTable) -> Result<PageMap, AllocError>
         ensures { IfOk result (λ map. map ≡ blank_pages table.now) }
     {
-        Ok(PageMap::from_vec(blank_flags(alloc, table)?))
+        Ok(PageMap::from_runs(blank_runs(alloc, table)?))
     }
 
     /// The flags one by one.
@@ -91,7 +91,10 @@ impl PageMap {
         match &self.form {
             MapForm::Flags(flags) => Vec::from_slice(alloc, flags),
             MapForm::Runs(runs) => flags_in_runs(alloc, runs),
-            MapForm::Table(table) => table.flags(alloc),
+            MapForm::Table(table) => {
+                let lengths = table.runs(alloc)?;
+                flags_in_runs(alloc, &lengths)
+            }
         }
     }
 

@@ -41,8 +41,8 @@ impl Descriptor {
         let version = readable(bytes)?;
         let descriptor = read_fields(alloc, version, bytes)?;
         let rest = bytes.split_at(version.fields).1;
-        let flags = descriptor.blank.flags(alloc)?;
-        if !is_due(version.has_forms, rest, &flags) {
+        let due = is_due(alloc, version.has_forms, rest, &descriptor.blank)?;
+        if !due {
             return Err(DescError::Refused(7));
         }
         Ok(descriptor)
@@ -262,7 +262,7 @@ pub(crate) fn doubles_at<const N: usize>(bytes: &[u8], at: usize) -> [u64; N]
 }
 
 /// The number of 64 bits in the eight bytes from `at`.
-fn read_double(bytes: &[u8], at: usize) -> u64
+pub(crate) fn read_double(bytes: &[u8], at: usize) -> u64
     requires { at + 8 ≤ length bytes.now }
     ensures { result ≡ little_from at 8 bytes.now }
 {

@@ -1,35 +1,58 @@
 //! The map of pages as the lengths of runs of equal flags.
 
-ghost use Rattle.std.specs.Prelude.{◌≡◌, ◌+◌, ◌≤◌, ◌<◌, ◌^◌, ◌++◌, ◌&&◌, ◌==◌, ◌↔◌, nat_le, nat_lt, false, length, replicate, IsTrue, IfOk, OnOk};
+ghost use Rattle.std.specs.Prelude.{◌≡◌, ◌+◌, ◌≤◌, ◌<◌, ◌^◌, ◌++◌, ◌&&◌, ◌||◌, ◌==◌, ◌↔◌, nat_le, nat_lt, false, length, replicate, IsTrue, IfOk, OnOk};
+ghost use Rattle.std.specs.Bool.{beq};
 ghost use Rattle.std.specs.List.{flat_map, list_all, sum};
 ghost use Rattle.vm_descriptor.specs.Maps.{are_runs, flags_of_runs, half, halves, runs};
 
 use flat_memory::read_half;
 use std::alloc::{AllocError, Global};
 
-/// How many runs there are.
-pub(crate) fn run_count(flags: &[bool]) -> usize
-    requires { length flags.now < 2 ^ 16 }
-    ensures value { result ≡ length (runs flags.now) }
-    ensures most { result ≤ length flags.now + 1 }
+/// How many runs of equal flags the flags of runs have.
+pub(crate) fn run_count(lengths: &[u16]) -> usize
+    ensures value { result ≡ length (runs (flags_of_runs false lengths.now)) }
+    ensures most { result ≤ length (flags_of_runs false lengths.now) + 1 }
 {
     let mut count = 1;
     let mut last = false;
-    for flag in flags {
-        if *flag == last {
+    let mut flag = false;
+    for run in lengths {
+        if goes_on(flag, last, *run) {
+            flag = !flag;
             continue;
         }
         count += 1;
-        last = *flag;
+        last = flag;
+        flag = !flag;
     }
     count
 }
 
-/// Adds the lengths of the runs.
-pub(crate) fn push_runs(bytes: &mut Vec<u8>, flags: &[bool]) -> Result<(), AllocError>
-    requires { length flags.now < 2 ^ 16 }
-    ensures { OnOk result (bytes.new.items ≡ bytes.old.items ++ flat_map half (runs flags.now)) }
+/// How many flags runs have.
+pub(crate) fn flag_count(lengths: &[u16]) -> usize
+    requires { length (flags_of_runs false lengths.now) < 2 ^ 16 }
+    ensures { result ≡ length (flags_of_runs false lengths.now) }
 {
+    let mut count = 0;
+    for run in lengths {
+        count += usize::from(*run);
+    }
+    count
+}
+
+/// Whether a run belongs to the flags before it: it has none, or they are equal.
+fn goes_on(flag: bool, last: bool, run: u16) -> bool
+    ensures { result ≡ (run == 0 || beq flag last) }
+{
+    run == 0 || flag == last
+}
+
+/// The lengths of the runs of flags.
+pub(crate) fn runs_in(alloc: Global, flags: &[bool]) -> Result<Vec<u16>, AllocError>
+    requires { length flags.now < 2 ^ 16 }
+    ensures { IfOk result (λ lengths. lengths.items ≡ runs flags.now) }
+{
+    let mut lengths = Vec::new(alloc);
     let mut run: u16 = 0;
     let mut last = false;
     for flag in flags {
@@ -37,11 +60,34 @@ pub(crate) fn push_runs(bytes: &mut Vec<u8>, flags: &[bool]) -> Result<(), Alloc
             run += 1;
             continue;
         }
-        push_length(bytes, run)?;
+        lengths.push(run)?;
         run = 1;
         last = *flag;
     }
-    push_length(bytes, run)
+    lengths.push(run)?;
+    Ok(lengths)
+}
+
+/// Adds the lengths of the runs of equal flags of the flags of runs.
+pub(crate) fn push_runs(bytes: &mut Vec<u8>, lengths: &[u16]) -> Result<(), AllocError>
+    requires { length (flags_of_runs false lengths.now) < 2 ^ 16 }
+    ensures { OnOk result (bytes.new.items ≡ bytes.old.items ++ flat_map half (runs (flags_of_runs false lengths.now))) }
+{
+    let mut count: u16 = 0;
+    let mut last = false;
+    let mut flag = false;
+    for run in lengths {
+        if goes_on(flag, last, *run) {
+            count += *run;
+            flag = !flag;
+            continue;
+        }
+        push_length(bytes, count)?;
+        count = *run;
+        last = flag;
+        flag = !flag;
+    }
+    push_length(bytes, count)
 }
 
 /// Adds the length of a run.

@@ -1,15 +1,16 @@
 //! What the clones of a ticket start with, as bytes.
 
-ghost use Rattle.std.specs.Prelude.{◌≡◌, ◌<◌, ◌^◌, length, IfOk};
+ghost use Rattle.std.specs.Prelude.{◌≡◌, ◌<◌, ◌^◌, false, length, IfOk};
 ghost use Rattle.std.specs.Option.{ForSome};
 ghost use Rattle.vm_descriptor.specs.Descriptor.{IsInRange, numbered};
 ghost use Rattle.vm_descriptor.specs.Described.{described};
+ghost use Rattle.vm_descriptor.specs.Maps.{flags_of_runs};
 
 use crate::clone_table::CloneTable;
 use crate::descriptor::Descriptor;
-use crate::page_map::PageMap;
+use crate::page_map::{MapForm, PageMap};
 use crate::read::{map_behind, with_fields};
-use crate::runs::run_count;
+use crate::runs::runs_in;
 use crate::version::VERSION_3;
 use std::alloc::{AllocError, Global};
 use std::marker::Model;
@@ -84,6 +85,7 @@ impl Seed {
 
 /// The table with which each of so many clones starts, where it is to be made once for all: there is more than one, and few
 /// runs of flags. Many could make each leaf one of both kinds, and tickets whose clones do not wake would hold them all.
+#[tactic(auto, using(crate::proofs::RunLengths::flags_in_again))]
 fn table_for(alloc: Global, map: &PageMap, clones: u32) -> Result<Option<CloneTable>, AllocError>
     requires { length map.now < 2 ^ 16 }
     ensures { IfOk result (λ table. ForSome table (λ t. t ≡ map.now)) }
@@ -91,9 +93,23 @@ fn table_for(alloc: Global, map: &PageMap, clones: u32) -> Result<Option<CloneTa
     if clones < 2 {
         return Ok(None);
     }
-    let flags = map.flags(alloc)?;
-    if run_count(&flags) > MAX_RUNS {
+    match map.form() {
+        MapForm::Flags(flags) => {
+            let lengths = runs_in(alloc, flags)?;
+            table_in(alloc, &lengths)
+        }
+        MapForm::Runs(lengths) => table_in(alloc, lengths),
+        MapForm::Table(table) => Ok(Some(table.share()?)),
+    }
+}
+
+/// The table of clones whose blank pages are the set flags of these runs, where there are few of them.
+fn table_in(alloc: Global, lengths: &[u16]) -> Result<Option<CloneTable>, AllocError>
+    requires { length (flags_of_runs false lengths.now) < 2 ^ 16 }
+    ensures { IfOk result (λ table. ForSome table (λ t. t ≡ flags_of_runs false lengths.now)) }
+{
+    if lengths.len() > MAX_RUNS {
         return Ok(None);
     }
-    Ok(Some(CloneTable::of_flags(alloc, &flags)?))
+    Ok(Some(CloneTable::of_runs(alloc, lengths)?))
 }

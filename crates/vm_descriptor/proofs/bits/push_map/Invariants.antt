@@ -1,9 +1,13 @@
-use Rattle.std.proofs.Common.{◌≡◌, ◌++◌, length}
-use Rattle.vm_descriptor.specs.Maps.{map_bytes}
+use Rattle.std.proofs.Common.{◌≡◌, ◌<◌, ◌++◌, drop, false}
+use Rattle.std.specs.Prelude.{◌^◌}
+use Rattle.shared_leaves.specs.Choices.{flags_of_runs}
+use Rattle.vm_descriptor.specs.Maps.{bits_of, map_bytes}
 use Rattle.vm_descriptor.proofs.bits.push_map.Given as goal
 
-abbrev pub invariant-loop-eight : goal.invariant-loop-eight
-invariant-loop-eight l = l.bytes.items ++ map_bytes l.left ≡ l.initial.bytes.items ++ map_bytes l.flags
-
-abbrev pub decreases-loop-eight : goal.decreases-loop-eight
-decreases-loop-eight l = length l.left
+abbrev pub invariant-loop-run : goal.invariant-loop-run
+invariant-loop-run l = record {
+  so_far : l.bytes.items ++ map_bytes (bits_of l.last.count l.last.byte ++ flags_of_runs l.flag (drop l.run-index l.lengths))
+      ≡ l.initial.bytes.items ++ map_bytes (flags_of_runs false l.lengths);
+  few : l.last.count < 8;
+  below : l.last.byte < 2 ^ l.last.count;
+}

@@ -38,27 +38,27 @@ pub is_due-requires : goal.is_due-requires
 is_due-requires c =
     let bytes = c.args.bytes.now in
     let are : (i : ℕ) → get_or bytes i 0 < 256 = λ i. let fits = c.type_inv.bytes i in search rules in
-    few_flags bytes are c.in_ok-version.version.now c.in_ok-version.ensures.readable c.deref.result.now
-    (c.deref.ensures.value ∙ c.in_ok-flags.ensures ∙ ap (λ (d : Descriptor). d.blank) c.in_ok-descriptor.ensures)
+    few_flags bytes are c.in_ok-version.version.now c.in_ok-version.ensures.readable c.in_ok-descriptor.descriptor.blank
+    (ap (λ (d : Descriptor). d.blank) c.in_ok-descriptor.ensures)
 
-pub returns-then-not-is_due-clause-refuses : goal.returns-then-not-is_due-clause-refuses
-returns-then-not-is_due-clause-refuses c =
+pub returns-then-not-due-clause-refuses : goal.returns-then-not-due-clause-refuses
+returns-then-not-due-clause-refuses c =
     let bytes = c.args.bytes.now in
     let version = c.in_ok-version.version.now in
     let are : (i : ℕ) → get_or bytes i 0 < 256 = λ i. let fits = c.type_inv.bytes i in search rules in
-    refused_by_form bytes are version c.in_ok-version.ensures.readable c.split_at.result.1.now c.deref.result.now c.is_due.result
-    c.split_at.ensures.back (c.deref.ensures.value ∙ c.in_ok-flags.ensures ∙ ap (λ (d : Descriptor). d.blank) c.in_ok-descriptor.ensures) c.is_due.ensures
-    ∙ ap (λ (due : Bool). let found : Option ℕ = if due then None else Some 7 in found) c.if-not-is_due.true
+    refused_by_form bytes are version c.in_ok-version.ensures.readable c.split_at.result.1.now c.in_ok-descriptor.descriptor.blank c.in_ok-due.due
+    c.split_at.ensures.back (ap (λ (d : Descriptor). d.blank) c.in_ok-descriptor.ensures) c.in_ok-due.ensures
+    ∙ ap (λ (due : Bool). let found : Option ℕ = if due then None else Some 7 in found) c.if-not-due.true
 
-pub returns-then-not-is_due-clause-taken : goal.returns-then-not-is_due-clause-taken
-returns-then-not-is_due-clause-taken c d fits range is =
+pub returns-then-not-due-clause-taken : goal.returns-then-not-due-clause-taken
+returns-then-not-due-clause-taken c d fits range is =
     let bytes = c.args.bytes.now in
     let version = c.in_ok-version.version.now in
     let are : (i : ℕ) → get_or bytes i 0 < 256 = λ i. let fits = c.type_inv.bytes i in search rules in
     let seven : refused bytes ≡ Some 7 =
-    refused_by_form bytes are version c.in_ok-version.ensures.readable c.split_at.result.1.now c.deref.result.now c.is_due.result
-    c.split_at.ensures.back (c.deref.ensures.value ∙ c.in_ok-flags.ensures ∙ ap (λ (d : Descriptor). d.blank) c.in_ok-descriptor.ensures) c.is_due.ensures
-    ∙ ap (λ (due : Bool). let found : Option ℕ = if due then None else Some 7 in found) c.if-not-is_due.true in
+    refused_by_form bytes are version c.in_ok-version.ensures.readable c.split_at.result.1.now c.in_ok-descriptor.descriptor.blank c.in_ok-due.due
+    c.split_at.ensures.back (ap (λ (d : Descriptor). d.blank) c.in_ok-descriptor.ensures) c.in_ok-due.ensures
+    ∙ ap (λ (due : Bool). let found : Option ℕ = if due then None else Some 7 in found) c.if-not-due.true in
     let none : refused bytes ≡ None = spelling_taken d fits range bytes is in
     cc
 
@@ -67,9 +67,9 @@ returns-clause-accepts c =
     let bytes = c.args.bytes.now in
     let version = c.in_ok-version.version.now in
     let are : (i : ℕ) → get_or bytes i 0 < 256 = λ i. let fits = c.type_inv.bytes i in search rules in
-    refused_by_form bytes are version c.in_ok-version.ensures.readable c.split_at.result.1.now c.deref.result.now c.is_due.result
-    c.split_at.ensures.back (c.deref.ensures.value ∙ c.in_ok-flags.ensures ∙ ap (λ (d : Descriptor). d.blank) c.in_ok-descriptor.ensures) c.is_due.ensures
-    ∙ ap (λ (due : Bool). let found : Option ℕ = if due then None else Some 7 in found) c.if-not-is_due.false
+    refused_by_form bytes are version c.in_ok-version.ensures.readable c.split_at.result.1.now c.in_ok-descriptor.descriptor.blank c.in_ok-due.due
+    c.split_at.ensures.back (ap (λ (d : Descriptor). d.blank) c.in_ok-descriptor.ensures) c.in_ok-due.ensures
+    ∙ ap (λ (due : Bool). let found : Option ℕ = if due then None else Some 7 in found) c.if-not-due.false
 
 pub returns-clause-reads : goal.returns-clause-reads
 returns-clause-reads c = c.in_ok-descriptor.ensures ∙ sym (read_by_version c.args.bytes.now c.in_ok-version.version.now c.in_ok-version.ensures.readable)

@@ -1,7 +1,0 @@
-use Rattle.std.proofs.Common.{ap, ◌∙◌}
-use Rattle.std.proofs.lemmas.Result.{IfOk-weaker}
-use Rattle.page_frames.specs.Tables.{blank_pages}
-use Rattle.vm_descriptor.proofs.clone_table.CloneTable.flags.Goals as goal
-
-pub returns : goal.returns
-returns c = IfOk-weaker c.blank_flags.result _ _ (λ flags is. is ∙ ap blank_pages c.deref.ensures ∙ c.self.view_is) c.blank_flags.ensures
