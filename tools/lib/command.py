@@ -99,6 +99,8 @@ def main(tool: str, run: Callable[[list[str]], int | None], failed: int | None =
         status = WRONG if failed is None else failed
     except KeyboardInterrupt:
         end_by_interrupt()
+    except SystemExit as end:  # of --help, which has written, or of a signal
+        status = end.code
     finish(status)
 
 
@@ -109,7 +111,7 @@ def end_by_interrupt() -> NoReturn:
     sys.exit(128 + signal.SIGINT)
 
 
-def finish(status: int) -> NoReturn:
+def finish(status: int | str | None) -> NoReturn:
     """Writes what is left to be written, and ends. Of a pipe that is closed nothing is said."""
     try:
         sys.stdout.flush()
