@@ -7,12 +7,15 @@
 #define WRITE 1
 #define EXECVE 59
 #define EXIT_GROUP 231
+#define PRLIMIT64 302
+#define RLIMIT_STACK 3
 #define SIGXFSZ 25
 #define PATH_MAX 4096
 
 static const char setting[] = "GLIBC_TUNABLES=" TUNABLES;
 static const char suffix[] = "-program";
-static const char fault[] = "snow: there is no snow-program beside this command\n";
+static const char no_memory[] = "snow: want of memory\n";
+static const char no_program[] = "snow: there is no snow-program beside this command\n";
 
 static long system_call(long number, long first, long second, long third, long fourth)
 {
@@ -33,12 +36,23 @@ static int is_setting(const char *entry)
     }
 }
 
+static void end(const char *said, long length, long status)
+{
+    system_call(WRITE, 2, (long)said, length, 0);
+    system_call(EXIT_GROUP, status, 0, 0, 0);
+}
+
 /* Begins with the stack as the system leaves it: the number of words, the words and a null, the environment and a null. */
 __attribute__((used)) static void begin(long *stack)
 {
     char path[PATH_MAX + sizeof suffix];
     long count = stack[0];
     char **words = (char **)(stack + 1), **environment = words + count + 1, **at;
+
+    /* A smaller stack is answered as the program does, which needs 20 KiB of it to find out. */
+    unsigned long limits[2] = {0, 0};
+    if (!system_call(PRLIMIT64, 0, RLIMIT_STACK, 0, (long)limits) && limits[0] < LEAST_STACK)
+        end(no_memory, sizeof no_memory - 1, 6);
 
     /* A file that may grow no more is a write fault. */
     long ignored[4] = {1, 0, 0, 0};
@@ -62,8 +76,7 @@ __attribute__((used)) static void begin(long *stack)
             path[length + byte] = suffix[byte];
         system_call(EXECVE, (long)path, (long)words, (long)environment, 0);
     }
-    system_call(WRITE, 2, (long)fault, sizeof fault - 1, 0);
-    system_call(EXIT_GROUP, 127, 0, 0, 0);
+    end(no_program, sizeof no_program - 1, 127);
 }
 
 __asm__(".globl _start\n_start:\n    mov %rsp, %rdi\n    and $-16, %rsp\n    call begin\n");
