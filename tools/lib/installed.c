@@ -1,5 +1,5 @@
 /* The command that tools/install puts beside the program, where there is a compiler: it calls the program with the settings for
- * memory, and costs a twentieth of a run, where a shell costs as much as the smallest. It stands on no library, since a C library's
+ * memory, and costs a fifth of the smallest run, where a shell costs as much as that. It stands on no library, since a C library's
  * start takes longer than all that it does. For Linux on x86-64, as the program itself. */
 
 #define READLINK 89
