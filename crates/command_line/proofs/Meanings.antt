@@ -2,23 +2,23 @@
 use Rattle.std.proofs.Common.{◌≡◌, ◌≢◌, ℕ, ◌+◌, ◌<◌, ◌^◌, ◌⊎◌, inl, inr, Bool, true, false, ◌||◌, cond, option_map, List, []}
 use Rattle.std.proofs.Common.{◌∷◌, get_or, length, take, Option, Some, None, Result, Ok, Err, refl, sym, ap, ◌∙◌, subst}
 use Rattle.std.specs.Borrow.{Bor}
-use Rattle.std.specs.List.{fold}
-use Rattle.std.specs.Result.{IfOk, IsOkAnd, OkIff, result_ok}
+use Rattle.std.specs.Result.{OkIff, result_ok}
 use Rattle.std.specs.Str.{all_ascii_digits}
 use Rattle.std.specs.Str.Parse.{IsNumeral, ParsesUnsigned, digits_value, without_leading_plus}
 use Rattle.std.proofs.lemmas.Str.Parse.{IsNumeralModel, numerals_by_value, tells_all_ascii_digits}
 use Rattle.std.proofs.lemmas.List.Sums.{fold_more}
 use Rattle.std.proofs.lemmas.Bool.{and_from, and_parts, lt-ltb, ltb-true}
-use Rattle.std.proofs.lemmas.Result.{IfOk-weaker}
 use Rattle.clap.proofs.WalkLemmas.{first_value-rows}
-use Rattle.clap.specs.Words.{AddsArg, AddsSubcommand, App, HasMatchesOf, IsAmong, Kinds, Row, Rule, app_of, fault_of, first_of, first_value, found_of}
-use Rattle.clap.specs.Words.{is_simple, is_simple_and_free, new_rule, rows_of, rule_of, subcommand_rows_of, with_rule, with_subcommand}
+use Rattle.clap.specs.Words.{AddsArg, App, HasMatchesOf, IsAmong, Kinds, Row, Rule, app_of, fault_of, first_of, first_value, found_of}
+use Rattle.clap.specs.Words.{is_simple, is_simple_and_free, new_rule, rows_of, rule_of, subcommand_rows_of, with_rule}
 use Rattle.clap.specs.declared.Arg.{Arg}
 use Rattle.clap.specs.declared.Command.{Command}
 use Rattle.clap.specs.declared.Command.TheViews.{out-Command}
 use Rattle.clap.specs.declared.error.kind.ErrorKind.{ErrorKind}
 use Rattle.clap.specs.declared.error.kind.ErrorKind.TheVariants.{OutOfMemory}
 use Rattle.clap.specs.declared.parser.matches.ArgMatches.{ArgMatches}
+use Rattle.command_line.specs.declared.words.Parameter.{Parameter}
+use Rattle.command_line.specs.Commands.{rule_for, taking}
 use Rattle.command_line.specs.Words.{argument_rule, command_of, found, meant, meant_by, number_of, option_rule, refusals, snow_app, with_files, with_numbers, with_slice, with_wire, with_workers}
 
 -- ---- numbers
@@ -55,14 +55,14 @@ unfolding with_files with_numbers with_wire with_workers with_slice
 simple_and_free = refl
 
 -- a command with one more argument, which is not global: its rule is the last
-pub rule-added : {E : Type 0} (old : Command) (a : Arg) (rule : Rule) (r : Result Command E) → rule_of a ≡ rule → a.global ≡ false
-    → IfOk r (AddsArg old a) → IfOk r (λ added. app_of added ≡ with_rule (app_of old) rule)
-rule-added old a rule r is local added = IfOk-weaker r _ _ (λ new adds. adds.shape local ∙ ap (with_rule (app_of old)) is) added
+pub rule-added : {old new : Command} {a : Arg} {rule : Rule} → AddsArg old a new → rule_of a ≡ rule → a.global ≡ false
+    → app_of new ≡ with_rule (app_of old) rule
+rule-added {old} adds is local = adds.shape local ∙ ap (with_rule (app_of old)) is
 
 -- and it has no global one, if it had none
-pub not-global : {E : Type 0} (old : Command) (a : Arg) (r : Result Command E) → a.global ≡ false → IfOk r (AddsArg old a)
-    → IfOk r (λ added. (out-Command old).has_globals ≡ false → (out-Command added).has_globals ≡ false)
-not-global old a r local added = IfOk-weaker r _ _ (λ new adds none. adds.globals ∙ ap (λ v. v || a.global) none ∙ local) added
+pub not-global : {old new : Command} {a : Arg} → AddsArg old a new → a.global ≡ false → (out-Command old).has_globals ≡ false
+    → (out-Command new).has_globals ≡ false
+not-global {a} adds local none = adds.globals ∙ ap (λ v. v || a.global) none ∙ local
 
 -- an argument that has to be given
 pub made-required : (old new : Arg) (id : List ℕ) → new ≡ record old { required = true } → old.global ≡ false → rule_of old ≡ new_rule id
@@ -81,29 +81,12 @@ pub text-found : (m : ArgMatches) (id : List ℕ) (text : Option (Bor (List ℕ)
     → option_map (λ (t : Bor (List ℕ)). t.now) text ≡ first_of id (rows_of (found_of m))
 text-found m id text is = is ∙ first_value-rows (found_of m) id
 
--- one option more
-pub option-more : (names : List (Bor (List ℕ))) (first old new : App) (at : ℕ) (d : Bor (List ℕ)) → at < length names
-    → old ≡ fold (λ app name. with_rule app (option_rule name.now)) first (take at names)
-    → new ≡ with_rule old (option_rule (get_or names at d).now)
-    → new ≡ fold (λ app name. with_rule app (option_rule name.now)) first (take (at + 1) names)
-option-more names first old new at d inside so_far is =
-    is ∙ ap (λ (app : App). with_rule app (option_rule (get_or names at d).now)) so_far
-    ∙ sym (fold_more (λ (app : App) (name : Bor (List ℕ)). with_rule app (option_rule name.now)) first names at d inside)
-
--- a subcommand that could be made
-pub subcommand-added : {E F : Type 0} (made : Result Command E) (old sub : Command) (r : Result Command F) → made ≡ Ok sub
-    → IfOk r (AddsSubcommand old sub)
-    → IfOk r (λ added. IsOkAnd made (λ sub. (out-Command sub).has_globals ≡ false → app_of added ≡ with_subcommand (app_of old) (app_of sub).top))
-subcommand-added {E} made old sub r was added =
-    IfOk-weaker r _ _ (λ new adds. subst (λ (m : Result Command E). IsOkAnd m
-    (λ sub. (out-Command sub).has_globals ≡ false → app_of new ≡ with_subcommand (app_of old) (app_of sub).top)) (sym was) adds.shape) added
-
--- a subcommand that could be made, whose own parser is known
-pub subcommand-known : {E : Type 0} (made : Result Command E) (old new known : App)
-    → IsOkAnd made (λ sub. (out-Command sub).has_globals ≡ false → new ≡ with_subcommand old (app_of sub).top) → IfOk made (λ sub. app_of sub ≡ known)
-    → IfOk made (λ sub. (out-Command sub).has_globals ≡ false) → new ≡ with_subcommand old known.top
-subcommand-known (Ok sub) old new known adds is local = adds local ∙ ap (λ (app : App). with_subcommand old app.top) is
-subcommand-known (Err e) old new known adds is local = absurd adds
+-- one parameter more
+pub parameter-more : (parameters : List Parameter) (first old new : App) (at : ℕ) (d : Parameter) → at < length parameters
+    → old ≡ taking (take at parameters) first → new ≡ with_rule old (rule_for (get_or parameters at d)) → new ≡ taking (take (at + 1) parameters) first
+parameter-more parameters first old new at d inside so_far is =
+    is ∙ ap (λ (app : App). with_rule app (rule_for (get_or parameters at d))) so_far
+    ∙ sym (fold_more (λ (app : App) (parameter : Parameter). with_rule app (rule_for parameter)) first parameters at d inside)
 
 -- words that the parser takes mean what the subcommand that was found says
 pub meant-taken : (app : App) (words : List (List ℕ)) (m : ArgMatches) → app ≡ snow_app

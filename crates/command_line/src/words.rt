@@ -1,12 +1,12 @@
 //! What the words of the command line ask for.
 
-ghost use Rattle.std.specs.Prelude.{◌≡◌, ◌≤◌, false, codes, IfOk, IfSome, IsOkAnd, option_and_then, option_map};
-ghost use Rattle.std.specs.List.{fold};
+ghost use Rattle.std.specs.Prelude.{◌≡◌, ◌≤◌, false, codes, IfOk, IfSome, option_and_then, option_map};
 ghost use Rattle.clap.specs.declared.Command.TheViews.{out-Command};
-ghost use Rattle.clap.specs.Words.{app_of, first_of, found_of, rows_of, rule_of, subcommand_rows_of, with_rule, with_subcommand};
+ghost use Rattle.clap.specs.Words.{app_of, first_of, found_of, new_app, rows_of, rule_of, subcommand_rows_of, with_subcommand};
 ghost use Rattle.command_line.specs.Commands.{meaning};
-ghost use Rattle.command_line.specs.Words.{argument_rule, command_of, drive_app, drive_with, generated_app, generated_guest, generated_how, generated_with, guest_of, how_of, meant, number_of};
-ghost use Rattle.command_line.specs.Words.{option_rule, run_app, run_with, snow_app, texts, value_of, with_files, with_numbers, with_slice, with_wire, with_workers, workers_of};
+ghost use Rattle.command_line.specs.Commands.{rule_for, taking};
+ghost use Rattle.command_line.specs.Words.{command_of, drive_with, generated_guest, generated_how, generated_with, guest_of, how_of, meant, number_of};
+ghost use Rattle.command_line.specs.Words.{run_with, snow_app, texts, value_of, workers_of};
 
 use clap::error::ErrorKind;
 use clap::{Arg, ArgMatches};
@@ -279,126 +279,95 @@ pub fn command_asked(alloc: Global, words: &[String]) -> Result<Option<Command<'
     }
 }
 
+/// What a subcommand takes.
+enum Parameter<'a> {
+    /// An argument that has to be given.
+    Positional(&'a str),
+    /// An option `--name` with one value.
+    Named(&'a str),
+}
+
 /// The command line that the parser is to take.
 fn snow_command<'a>(alloc: Global) -> Result<clap::Command<'a>, AllocError>
     ensures { IfOk result (λ command. app_of command ≡ snow_app) }
 {
     let command = clap::Command::new(alloc, "snow").no_binary_name(true);
-    let command = with_made(command, run_command(alloc))?;
-    let command = with_made(command, drive_command(alloc))?;
-    with_made(command, generated_command(alloc))
+    let command = subcommand_added(
+        alloc,
+        command,
+        "run",
+        &[
+            Parameter::Positional("IMAGE"),
+            Parameter::Named("disk"),
+            Parameter::Named("input"),
+            Parameter::Named("ram"),
+            Parameter::Named("limit"),
+            Parameter::Named("clones"),
+            Parameter::Named("wire"),
+            Parameter::Named("ahead"),
+            Parameter::Named("workers"),
+            Parameter::Named("slice"),
+        ],
+    )?;
+    let command = subcommand_added(
+        alloc,
+        command,
+        "drive",
+        &[
+            Parameter::Positional("IMAGE"),
+            Parameter::Positional("SCRIPT"),
+            Parameter::Named("disk"),
+            Parameter::Named("input"),
+            Parameter::Named("ram"),
+            Parameter::Named("limit"),
+            Parameter::Named("clones"),
+        ],
+    )?;
+    subcommand_added(
+        alloc,
+        command,
+        "self",
+        &[Parameter::Positional("SEED"), Parameter::Named("workers")],
+    )
 }
 
-/// A command with a subcommand, where that could be made.
-fn with_made<'a>(
-    command: clap::Command<'a>,
-    made: Result<clap::Command<'a>, AllocError>,
-) -> Result<clap::Command<'a>, AllocError>
-    ensures { IfOk result (λ added. IsOkAnd made.entry (λ subcommand. (out-Command subcommand).has_globals ≡ false
-        → app_of added ≡ with_subcommand (app_of command.entry) (app_of subcommand).top)) }
-{
-    command.subcommand(made?)
-}
-
-fn run_command<'a>(alloc: Global) -> Result<clap::Command<'a>, AllocError>
-    ensures app { IfOk result (λ command. app_of command ≡ run_app) }
-    ensures local { IfOk result (λ command. (out-Command command).has_globals ≡ false) }
-{
-    let command = with_argument(alloc, clap::Command::new(alloc, "run"), "IMAGE")?;
-    run_options_added(alloc, guest_options_added(alloc, command)?)
-}
-
-fn drive_command<'a>(alloc: Global) -> Result<clap::Command<'a>, AllocError>
-    ensures app { IfOk result (λ command. app_of command ≡ drive_app) }
-    ensures local { IfOk result (λ command. (out-Command command).has_globals ≡ false) }
-{
-    let command = with_argument(alloc, clap::Command::new(alloc, "drive"), "IMAGE")?;
-    guest_options_added(alloc, with_argument(alloc, command, "SCRIPT")?)
-}
-
-fn generated_command<'a>(alloc: Global) -> Result<clap::Command<'a>, AllocError>
-    ensures app { IfOk result (λ command. app_of command ≡ generated_app) }
-    ensures local { IfOk result (λ command. (out-Command command).has_globals ≡ false) }
-{
-    let command = with_argument(alloc, clap::Command::new(alloc, "self"), "SEED")?;
-    with_option(alloc, command, "workers")
-}
-
-/// A command with the options that say of a guest what it is given: the names of its files, and its numbers.
-#[tactic(auto, unfolding(crate::specs::Words::with_files, crate::specs::Words::with_numbers))]
-fn guest_options_added<'a>(
+/// A command with a subcommand of this name, which takes these in their order.
+fn subcommand_added<'a>(
     alloc: Global,
     command: clap::Command<'a>,
+    name: &'a str,
+    parameters: &[Parameter<'a>],
 ) -> Result<clap::Command<'a>, AllocError>
-    ensures app { IfOk result (λ added. app_of added ≡ with_numbers (with_files (app_of command.entry))) }
-    ensures local { IfOk result (λ added. (out-Command command.entry).has_globals ≡ false → (out-Command added).has_globals ≡ false) }
+    ensures { IfOk result (λ added. app_of added ≡ with_subcommand (app_of command.entry) (taking parameters.entry.now (new_app name.entry.now)).top) }
 {
-    with_options(alloc, command, &["disk", "input", "ram", "limit", "clones"])
+    let made = made_subcommand(alloc, name, parameters)?;
+    command.subcommand(made)
 }
 
-/// A command with the options that say how a family is run: how pages come, by how many workers, and in how long slices.
-#[tactic(auto, unfolding(crate::specs::Words::with_wire, crate::specs::Words::with_workers, crate::specs::Words::with_slice))]
-fn run_options_added<'a>(
+/// A subcommand of this name, which takes these in their order.
+fn made_subcommand<'a>(
     alloc: Global,
-    command: clap::Command<'a>,
+    name: &'a str,
+    parameters: &[Parameter<'a>],
 ) -> Result<clap::Command<'a>, AllocError>
-    ensures app { IfOk result (λ added. app_of added ≡ with_slice (with_workers (with_wire (app_of command.entry)))) }
-    ensures local { IfOk result (λ added. (out-Command command.entry).has_globals ≡ false → (out-Command added).has_globals ≡ false) }
+    ensures app { IfOk result (λ made. app_of made ≡ taking parameters.entry.now (new_app name.entry.now)) }
+    ensures local { IfOk result (λ made. (out-Command made).has_globals ≡ false) }
 {
-    with_options(alloc, command, &["wire", "ahead", "workers", "slice"])
-}
-
-/// A command with options of these names, in their order.
-fn with_options<'a>(
-    alloc: Global,
-    mut command: clap::Command<'a>,
-    names: &[&'a str],
-) -> Result<clap::Command<'a>, AllocError>
-    ensures app { IfOk result (λ added. app_of added ≡ fold (λ app name. with_rule app (option_rule name.now)) (app_of command.entry) names.entry.now) }
-    ensures local { IfOk result (λ added. (out-Command command.entry).has_globals ≡ false → (out-Command added).has_globals ≡ false) }
-{
-    'names: for name in names {
-        command = with_option(alloc, command, *name)?;
+    let mut made = clap::Command::new(alloc, name);
+    'parameters: for parameter in parameters {
+        made = made.arg(argument(alloc, parameter))?;
     }
-    Ok(command)
+    Ok(made)
 }
 
-/// A command with an argument that has to be given.
-fn with_argument<'a>(
-    alloc: Global,
-    command: clap::Command<'a>,
-    name: &'a str,
-) -> Result<clap::Command<'a>, AllocError>
-    ensures app { IfOk result (λ added. app_of added ≡ with_rule (app_of command.entry) (argument_rule name.entry.now)) }
-    ensures local { IfOk result (λ added. (out-Command command.entry).has_globals ≡ false → (out-Command added).has_globals ≡ false) }
+/// A parameter, as the parser is told of it.
+fn argument<'a>(alloc: Global, parameter: &Parameter<'a>) -> Arg<'a>
+    ensures { (result.global ≡ false) × (rule_of result ≡ rule_for parameter.entry.now) }
 {
-    command.arg(required_argument(alloc, name))
-}
-
-/// An argument that has to be given.
-fn required_argument<'a>(alloc: Global, name: &'a str) -> Arg<'a>
-    ensures { (result.global ≡ false) × (rule_of result ≡ argument_rule name.entry.now) }
-{
-    Arg::new(alloc, name).required(true)
-}
-
-/// A command with an option `--name` that takes a value.
-fn with_option<'a>(
-    alloc: Global,
-    command: clap::Command<'a>,
-    name: &'a str,
-) -> Result<clap::Command<'a>, AllocError>
-    ensures app { IfOk result (λ added. app_of added ≡ with_rule (app_of command.entry) (option_rule name.entry.now)) }
-    ensures local { IfOk result (λ added. (out-Command command.entry).has_globals ≡ false → (out-Command added).has_globals ≡ false) }
-{
-    command.arg(named_option(alloc, name))
-}
-
-/// An option `--name` that takes a value.
-fn named_option<'a>(alloc: Global, name: &'a str) -> Arg<'a>
-    ensures { (result.global ≡ false) × (rule_of result ≡ option_rule name.entry.now) }
-{
-    Arg::new(alloc, name).long(name)
+    match parameter {
+        Parameter::Positional(name) => Arg::new(alloc, *name).required(true),
+        Parameter::Named(name) => Arg::new(alloc, *name).long(*name),
+    }
 }
 
 /// The subcommand that was found, with its values.
