@@ -1,7 +1,7 @@
 -- The small machine keeps the rules of a machine in a forest.
 use Rattle.std.proofs.Common.{◌≡◌, ℕ, zero, suc, pred, ◌+◌, ◌<◌, ◌≤◌, ◌&&◌, ◌||◌, not, eqb, ltb, leb, Bool, true, false, cond, refl, sym, ap, ◌∙◌, subst, arith, ltb-true, lt-ltb, leb-true, le-leb}
 use Rattle.std.proofs.Common.{eqb-true, [], Option, Some, None, is_some}
-use Rattle.std.proofs.lemmas.Bool.{eqb-false, lt-leb, and_parts, and_from}
+use Rattle.std.proofs.lemmas.Bool.{eqb-false, lt-leb, and_parts, and_from, or_right}
 use Rattle.forest_tree.proofs.Broods.{eqb-same}
 use Rattle.forest_tree.specs.Operations.{Call, clone, join, kill, Grant, is_among, is_cloned, Makes, IsStep, IsChild, IsMachine}
 use Rattle.forest_tree.specs.Toy.{Order, pause, request, clone_children, join_children, kill_children, exit, Ticket, no_ticket, granted, cloned, ToyEnding, by_limit, Toy, cost, ticket_cost}
@@ -32,10 +32,6 @@ good-after exit left value = refl
 or-left : (a b c : Bool) → b ≡ false → a || b ≡ true → a || c ≡ true
 or-left true b c e h = refl
 or-left false b c e h = let no : false ≡ true = sym e ∙ h in absurd (cc)
-
-or-right : (a b : Bool) → b ≡ true → a || b ≡ true
-or-right true b h = refl
-or-right false b h = h
 
 is-below : (m : Toy) → toy.is_good m ≡ true → is_numbered_below m.ticket m.next_ticket ≡ true
 is-below m good = (and_parts (is_numbered_below m.ticket m.next_ticket) (is_some m.ending || ltb 0 m.left) good).0
@@ -162,10 +158,6 @@ unfolding is_among
 after-gone held t g e u =
     subst (λ k. is_among u [] ≡ (not (eqb t u) && is_among u (cloned_numbers k))) (sym e) (neither-one (eqb t u))
 
-not-cloned : (held : Ticket) (t : ℕ) (g : Grant) → held ≡ granted t g → (u : ℕ) → is_among u (cloned_numbers held) ≡ false
-unfolding is_among
-not-cloned held t g e u = ap (λ k. is_among u (cloned_numbers k)) e
-
 one-cloned : (held : Ticket) (t : ℕ) (g : Grant) → held ≡ cloned t g → is_among t (cloned_numbers held) ≡ true
 unfolding is_among
 one-cloned held t g e = ap (λ k. is_among t (cloned_numbers k)) e ∙ ap (λ b. b || false) (eqb-same t)
@@ -255,7 +247,7 @@ IsMachine-toy = record {
       omega arith;
   clone_may = λ m t makes.
       let is = clone-stands m t makes in
-      or-right (leb m.next_ticket t) (is_uncloned m.ticket t) (ap (λ k. is_uncloned k t) is.1 ∙ eqb-same t);
+      or_right (leb m.next_ticket t) (is_uncloned m.ticket t) (ap (λ k. is_uncloned k t) is.1 ∙ eqb-same t);
   forked = forked-step;
   child = λ m t k makes first last. child-is m t k makes;
   join_is_cloned = λ m t makes. let is = join-stands m t makes in one-cloned m.ticket t is.0 is.1;

@@ -2,7 +2,7 @@
 use Rattle.std.proofs.Common.{◌≡◌, ℕ, zero, suc, ◌+◌, ◌*◌, ◌^◌, ◌<◌, ◌≤◌, ◌&&◌, ◌||◌, not, eqb, ltb, leb, Bool, true}
 use Rattle.std.proofs.Common.{false, cond, refl, sym, ap, ◌∙◌, subst, arith, ltb-true, lt-ltb, leb-true, le-leb, eqb-true}
 use Rattle.std.proofs.Common.{eq-eqb, List, [], ◌∷◌, Option, Some, None, IsSome, IsSomeAnd, option_map, is_some}
-use Rattle.std.proofs.lemmas.Bool.{eqb-false, lt-leb, and_parts, and_from}
+use Rattle.std.proofs.lemmas.Bool.{lt-leb, and_parts, and_from, or_right}
 use Rattle.std.proofs.lemmas.Bool.Decides.{nat_tests}
 use Rattle.std.specs.List.{AllByRecursion}
 use Rattle.forest_tree.specs.Operations.{is_among}
@@ -171,11 +171,7 @@ module _ (f : ForkRegisters) (children : ℕ) (good : IsAccounted f) where
       → later || is_uncloned (cond same (Some (new_ticket f children)) (ticket_found f u)) ≡ true → may_clone f u ≡ true
   new-once u true same e k h = let past : f.next_ticket + 1 ≤ u = leb-true (f.next_ticket + 1) u e in ap (λ b. b || is_uncloned (ticket_found f u)) (le-leb f.next_ticket u (omega arith))
   new-once u false true e k h = let at : u ≡ f.next_ticket = eqb-true u f.next_ticket k in ap (λ b. b || is_uncloned (ticket_found f u)) (le-leb f.next_ticket u (omega arith))
-  new-once u false false e k h = or-false (leb f.next_ticket u) (is_uncloned (ticket_found f u)) h
-    where
-      or-false : (a b : Bool) → b ≡ true → a || b ≡ true
-      or-false true b h = refl
-      or-false false b h = h
+  new-once u false false e k h = or_right (leb f.next_ticket u) (is_uncloned (ticket_found f u)) h
 
   with-new : TicketsStep f (with_ticket f children) (still f)
   unfolding still
@@ -371,14 +367,10 @@ once-by f number (Some ticket) e c good =
 pub cloned-once : (f : ForkRegisters) (number : ℕ) → is_accounted f ≡ true → is_cloned (ticket_found f number) ≡ true → may_clone f number ≡ false
 cloned-once f number h cloned = once-by f number (ticket_found f number) refl cloned (accounted-is f h)
 
-or-true : (a b : Bool) → b ≡ true → a || b ≡ true
-or-true true b h = refl
-or-true false b h = h
-
 pub clone-may : (f : ForkRegisters) (number : ℕ) → HasTicket f number false → may_clone f number ≡ true
 clone-may f number has =
     let is = has-ticket (ticket_found f number) false has in
-    or-true (leb f.next_ticket number) (is_uncloned (ticket_found f number)) (ap is_uncloned is.1 ∙ ap not is.2)
+    or_right (leb f.next_ticket number) (is_uncloned (ticket_found f number)) (ap is_uncloned is.1 ∙ ap not is.2)
 
 pub cloned-has : (f : ForkRegisters) (number : ℕ) → HasTicket f number true → is_cloned (ticket_found f number) ≡ true
 cloned-has f number has = found-some (ticket_found f number) true (has-ticket (ticket_found f number) true has)

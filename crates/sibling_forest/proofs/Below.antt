@@ -1,5 +1,6 @@
 -- A step of a machine, and a change of one of its broods.
 use Rattle.std.proofs.Common.{◌≡◌, ℕ, not, eqb, eqb-true, Bool, true, false, cond, refl, sym, ap, ap₂, ◌∙◌, subst, Option, Some, None}
+use Rattle.std.proofs.lemmas.Bool.{not-false}
 use Rattle.forest_tree.specs.Operations.{Call, clone, join, kill, Operations, is_cloned, Makes, IsMachine}
 use Rattle.forest_tree.specs.Tree.{Tree, node, Trees, no_tree, Broods, brood, Log, joined, killed, broods_of, brood_of, without, at_brood, with_broods}
 use Rattle.forest_tree.specs.Step.{have_ended, endings, children, settled_by, settled, waits_by, join_by, step_by, step}
@@ -9,10 +10,6 @@ use Rattle.forest_tree.proofs.Sound.{root-sound, clone-is-new}
 use Rattle.forest_tree.proofs.Steps.{step-lives}
 use Rattle.forest_tree.proofs.Places.{brood_of-at, brood_of-without, brood_of-none}
 use Rattle.sibling_forest.proofs.Families.{without-at, without-gone}
-
-not-false : (b : Bool) → not b ≡ false → b ≡ true
-not-false true h = refl
-not-false false h = absurd (cc)
 
 module _ {M E : Type 0} (o : Operations M E) (g : Trees M → Trees M) (u : ℕ) where
   -- where a step leads, with a brood changed before or not: the change may as well come after, or its brood is gone

@@ -18,10 +18,6 @@ use Rattle.sibling_forest.proofs.Siblings.{child_at-by, brings, target, brings-b
 use Rattle.sibling_forest.proofs.Inner.{inner, inner_rests, settle-is, rests-is, inner-none, inner_rests-none, ended-rest, below-machine, boxes-stay, waits-stay, brings-inner, brings-subtree}
 use Rattle.sibling_forest.proofs.Crossing.{Cross, both, first, second, flip, IsGoneIn, IsGone, cross-child, in_brood, IsGoneAt, cross-brood, cross-broods}
 
-is-false : (b : Bool) → (b ≡ true → ⊥) → b ≡ false
-is-false true h = absurd (h refl)
-is-false false h = refl
-
 module _ {M E : Type 0} (o : Operations M E) (k : Talks M) where
   pub below-stays : (d : Branch) (q : Path) (t : Tree (Box M)) → machine (settle o k (d ∷ q) t) ≡ machine t
   below-stays d q t = ap machine (settle-is o k d q t) ∙ below-machine o k (at_brood (inner o k q d.child) d.ticket) t

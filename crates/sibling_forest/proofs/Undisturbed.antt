@@ -1,7 +1,7 @@
 -- A step of a machine that lives after it leaves waiting each sibling that its talk does not name.
 use Rattle.std.proofs.Common.{◌≡◌, ◌≢◌, ℕ, eqb, eqb-true, not, ◌&&◌, ◌||◌, ◌⊎◌, inl, inr, Bool, true, false, refl, sym, ap, ap₂, ◌∙◌, subst, List, [], ◌∷◌, Option, Some, None, is_some, option_map}
 use Rattle.std.proofs.Common.{option_and_then}
-use Rattle.std.proofs.lemmas.Bool.{and_parts, or_left, or_right}
+use Rattle.std.proofs.lemmas.Bool.{and_parts, or_cases, or_left, or_right}
 use Rattle.forest_tree.specs.Operations.{Call, clone, join, kill, Operations}
 use Rattle.forest_tree.specs.Tree.{Tree, node, Trees, Broods, brood, Log, joined, killed, machine, at_child, child_at, brood_of, without, at_brood, Branch, Path, subtree}
 use Rattle.forest_tree.specs.Step.{have_ended, endings, children, settled, join_by, step_by, step, rests}
@@ -18,10 +18,6 @@ use Rattle.sibling_forest.proofs.Crossing.{changed-brood}
 use Rattle.sibling_forest.proofs.Siblings.{brings, target, brings-machine, IsReady, Moves, sibling-moves, later, after-one}
 use Rattle.sibling_forest.proofs.Inner.{inner-none}
 use Rattle.sibling_forest.proofs.Wakes.{brings-full}
-
-or-either : (a b : Bool) → a || b ≡ true → (a ≡ true) ⊎ (b ≡ true)
-or-either true b h = inl refl
-or-either false b h = inr h
 
 module _ {M E : Type 0} (o : Operations M E) (k : Talks M) where
   -- after a step a box has the queue from child i that it had, but for the end of its machine
@@ -130,7 +126,7 @@ module _ {M E : Type 0} (o : Operations M E) (k : Talks M) where
     sibling-still : (a : Tree (Box M)) → child_at i trees ≡ Some a → sibling_rests o k i trees ≡ true → sibling_rests o k i then ≡ true
     sibling-still a found h =
         ap (λ c. sibling_rests_by o k c i then) (stays-there ∙ found)
-        ∙ by (or-either (rests (boxed o k) (Some a)) (waits_by o k (k.talk (machine a).machine) i (machine a) trees)
+        ∙ by (or_cases (rests (boxed o k) (Some a)) (waits_by o k (k.talk (machine a).machine) i (machine a) trees)
         (ap (λ c. sibling_rests_by o k c i trees) (sym found) ∙ h))
       where
         by : (rests (boxed o k) (Some a) ≡ true) ⊎ (waits_by o k (k.talk (machine a).machine) i (machine a) trees ≡ true)

@@ -1,7 +1,7 @@
 -- Who waits goes on waiting after a step of another, but for a child that it joins and the sibling that its talk names.
 use Rattle.std.proofs.Common.{◌≡◌, ◌≢◌, ℕ, zero, suc, eqb, eqb-true, eq-eqb, Bool, true, false, cond, not, ◌&&◌, ◌||◌, ◌⊎◌, inl, inr, refl, sym, ap, ap₂, ◌∙◌, [], ◌∷◌, ◌++◌, Option, Some, None}
 use Rattle.std.proofs.Common.{is_some, option_map, option_and_then}
-use Rattle.std.proofs.lemmas.Bool.{eqb-false, or_left, or_right}
+use Rattle.std.proofs.lemmas.Bool.{eqb-false, or_cases, or_left, or_right}
 use Rattle.forest_tree.specs.Operations.{Call, clone, join, kill, Operations, IsMachine}
 use Rattle.forest_tree.specs.Tree.{Tree, node, Trees, no_tree, tree, Broods, Log, machine, broods_of, at_child, child_at, brood_of, at_brood, Branch, Path, subtree}
 use Rattle.forest_tree.specs.Step.{has_ended, have_ended, step, rests}
@@ -17,10 +17,6 @@ use Rattle.sibling_forest.proofs.Queues.{queue-other}
 use Rattle.sibling_forest.proofs.Siblings.{brings, brings-machine, brings-rests, Moves, sibling-moves, later, after-one}
 use Rattle.sibling_forest.proofs.Inner.{inner, inner_rests, settle-is, rests-is, inner-none, inner_rests-none, boxes-stay, waits-stay, brings-inner}
 use Rattle.sibling_forest.proofs.Meets.{below-stays}
-
-or-cases : (a b : Bool) → a || b ≡ true → (a ≡ true) ⊎ (b ≡ true)
-or-cases true b h = inl refl
-or-cases false b h = inr h
 
 module _ {M E : Type 0} (o : Operations M E) (k : Talks M) where
   -- machines that stay have ended as before
@@ -52,7 +48,7 @@ module _ {M E : Type 0} (o : Operations M E) (k : Talks M) where
       → rests (boxed o k) (Some t) ≡ true → rests (boxed o k) (Some (settle o k (d ∷ p) t)) ≡ true
   unfolding boxed
   own-waits d p (node x broods log) other h =
-      ap (λ u. rests (boxed o k) (Some u)) (settle-is o k d p (node x broods log)) ∙ by (or-cases (is_some (o.ending x.machine)) (own.waits_by (boxed o k) (o.call x.machine) broods) h)
+      ap (λ u. rests (boxed o k) (Some u)) (settle-is o k d p (node x broods log)) ∙ by (or_cases (is_some (o.ending x.machine)) (own.waits_by (boxed o k) (o.call x.machine) broods) h)
     where
       by : (is_some (o.ending x.machine) ≡ true) ⊎ (own.waits_by (boxed o k) (o.call x.machine) broods ≡ true)
           → is_some (o.ending x.machine) || own.waits_by (boxed o k) (o.call x.machine) (at_brood (inner o k p d.child) d.ticket broods) ≡ true
@@ -155,7 +151,7 @@ module _ {M E : Type 0} (o : Operations M E) (k : Talks M) where
       let here : j ≡ i = eqb-true j i e in
       ap (λ c. sibling_rests_by o k c i (at_child (settle o k (d ∷ p)) j trees))
       (ap (λ n. child_at i (at_child (settle o k (d ∷ p)) n trees)) here ∙ child_at-same (settle o k (d ∷ p)) i trees ∙ ap (option_map (settle o k (d ∷ p))) found)
-      ∙ by here (or-cases (rests (boxed o k) (Some a)) (waits_by o k (k.talk (machine a).machine) i (machine a) trees) (ap (λ c. sibling_rests_by o k c i trees) (sym found) ∙ h))
+      ∙ by here (or_cases (rests (boxed o k) (Some a)) (waits_by o k (k.talk (machine a).machine) i (machine a) trees) (ap (λ c. sibling_rests_by o k c i trees) (sym found) ∙ h))
     where
       by : j ≡ i → (rests (boxed o k) (Some a) ≡ true) ⊎ (waits_by o k (k.talk (machine a).machine) i (machine a) trees ≡ true)
           → rests (boxed o k) (Some (settle o k (d ∷ p) a))

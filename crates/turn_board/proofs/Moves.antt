@@ -16,10 +16,11 @@ use Rattle.turn_board.specs.declared.view.Content.{Content}
 use Rattle.turn_board.specs.declared.view.View.{View}
 use Rattle.turn_board.specs.Seats.{has_seat, next_seat, room}
 use Rattle.turn_board.specs.History.{History, HasEnded, StartsWith, entries_by, longer}
-use Rattle.turn_board.specs.Rule.{content, count_if, IsLive, room_of, drawn_of, newcomer, parent, child, informed, spent, IsNamed, IsOver, HasAll, HasDrawn, Outlives, Fits, Unlike, Home, Turning}
+use Rattle.turn_board.specs.Rule.{content, count_if, IsLive, room_of, drawn_of, newcomer, parent, child, informed, spent, IsNamed, IsOver, HasAll, HasDrawn, Fits, Unlike, Home, Turning}
 use Rattle.turn_board.specs.Steps.{drawn_view, served_view, learned_view, passed_view, drew, looked, passed, learned}
 use Rattle.turn_board.proofs.Views.{total_set, total_push, total_le, set_at, each_set, each_push, each_two, pairs_set, pairs_push}
-use Rattle.turn_board.proofs.Names.{not_true, has_new, has_old, has_not, had, had_append, had_not, unmade_below, above_self, same_child, room_split, room_pos}
+use Rattle.std.proofs.lemmas.Bool.{false_from_ne_true}
+use Rattle.turn_board.proofs.Names.{has_new, has_old, has_not, had, had_append, had_not, unmade_below, above_self, same_child, room_split, room_pos}
 use Rattle.turn_board.proofs.Entries.{begins_self, begins_longer, longer_is, entries_by-push_same, entries_by-push_other, none_before, same_between}
 
 off : {P : Type 0} (b : Bool) → b ≡ false → b ≡ true → P
@@ -470,12 +471,12 @@ module _ {A N T : Type 0} (stands : A → History N → T → Type 0) (key : A) 
                 depth = omega arith;
                 few = omega arith;
                 made_is = λ l. has_new h.made x.seat;
-                unmade = λ l k le. has_not h.made x.seat (x.seat ++ k ∷ []) (λ same. above_self x.seat k (sym same)) (not_true _ (λ has. true≢false (sym (h.rooted x.seat k has) ∙ unmade)));
+                unmade = λ l k le. has_not h.made x.seat (x.seat ++ k ∷ []) (λ same. above_self x.seat k (sym same)) (false_from_ne_true _ (λ has. true≢false (sym (h.rooted x.seat k has) ∙ unmade)));
               };
               sees = record { seen_is = f.sees.seen_is; told_is = (h.log, refl); mine_is = λ l. none_yet; own_is = λ l. none_before x.seat h.log v.seen f.sees.seen_is none_yet };
               draws = record { number_is = λ m e. no_number x.number m refl e; served_is = λ on. off x.served refl on };
               outlives = record {
-                here = λ l. not_true (has_seat h.gone x.seat) (λ has. true≢false (sym (h.gone_made x.seat has) ∙ unmade));
+                here = λ l. false_from_ne_true (has_seat h.gone x.seat) (λ has. true≢false (sym (h.gone_made x.seat has) ∙ unmade));
                 ended_is = none_ended h.log made h.gone v.seen;
                 told_is = none_ended h.log made h.gone [];
               };

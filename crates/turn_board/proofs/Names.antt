@@ -1,19 +1,16 @@
 -- Numbers of seats: which are made, and how many may yet be.
 use Rattle.std.proofs.Common.{◌≡◌, ◌≢◌, ◌⊎◌, ℕ, zero, suc, ◌+◌, ◌<◌, ◌≤◌, List, [], ◌∷◌, ◌++◌, length, Bool, true, false, true≢false, refl, sym, ap, ◌∙◌, subst, inl, inr, arith, append_assoc}
 use Rattle.std.specs.Prelude.{◌||◌}
+use Rattle.std.proofs.lemmas.Bool.{false_from_ne_true}
 use Rattle.std.proofs.lemmas.List.{length_push, same_from_push}
 use Rattle.std.proofs.lemmas.Slice.Eq.{bytes_eq-Decides}
 use Rattle.turn_board.specs.Seats.{is_seat, has_seat, room}
-
-pub not_true : (b : Bool) → (b ≡ true → ⊥) → b ≡ false
-not_true true h = absurd (h refl)
-not_true false h = refl
 
 pub same_is : (s : List ℕ) → is_seat s s ≡ true
 same_is s = (bytes_eq-Decides s s).1 refl
 
 pub unlike_is : (s t : List ℕ) → s ≢ t → is_seat s t ≡ false
-unlike_is s t other = not_true (is_seat s t) (λ e. other ((bytes_eq-Decides s t).0 e))
+unlike_is s t other = false_from_ne_true (is_seat s t) (λ e. other ((bytes_eq-Decides s t).0 e))
 
 pub has_new : (made : List (List ℕ)) (s : List ℕ) → has_seat (s ∷ made) s ≡ true
 has_new made s = ap (λ b. b || has_seat made s) (same_is s)
@@ -65,7 +62,7 @@ has_back (s ∷ made) more t has = has_old (made ++ more) s t (has_back made mor
 pub had_not : (made : List (List ℕ)) (s t : List ℕ) → has_seat (s ∷ made) t ≡ false → (s ≢ t) × (has_seat made t ≡ false)
 had_not made s t none = (
   (λ same. differ (sym (subst (λ u. has_seat (s ∷ made) u ≡ true) same (has_new made s)) ∙ none)),
-  not_true (has_seat made t) (λ has. differ (sym (has_old made s t has) ∙ none)),
+  false_from_ne_true (has_seat made t) (λ has. differ (sym (has_old made s t has) ∙ none)),
 )
   where
     differ : true ≡ false → ⊥
@@ -81,7 +78,7 @@ unmade_below made rooted [] seat k none = none
 unmade_below made rooted (j ∷ below) seat k none =
     ap (has_seat made) (sym (append_assoc seat (k ∷ []) (j ∷ below)))
     ∙ unmade_below made rooted below (seat ++ k ∷ []) j
-    (not_true (has_seat made ((seat ++ k ∷ []) ++ j ∷ [])) (λ has. true≢false (sym (rooted (seat ++ k ∷ []) j has) ∙ none)))
+    (false_from_ne_true (has_seat made ((seat ++ k ∷ []) ++ j ∷ [])) (λ has. true≢false (sym (rooted (seat ++ k ∷ []) j has) ∙ none)))
 
 pub same_child : (s t : List ℕ) (j k : ℕ) → s ++ j ∷ [] ≡ t ++ k ∷ [] → (s ≡ t) × (j ≡ k)
 same_child s t j k e = same_from_push s t j k e
