@@ -4,14 +4,10 @@ use Rattle.std.proofs.Common.{◌≡◌, ℕ, ◌*◌, ◌<◌, Bool, true, fals
 use Rattle.std.specs.Option.{IfSome}
 use Rattle.std.proofs.lemmas.Bool.Decides.{nat_tests}
 use Rattle.page_frames.specs.declared.page.TheConstants.{PAGE_SIZE}
-use Rattle.rv_decode.specs.Instruction.{Instruction}
-use Rattle.rv_decode.specs.Table.{decoded}
-use Rattle.rv_traps.specs.Trap.{takes_interrupt}
 use Rattle.forest_model.specs.declared.access.Access.{Access}
-use Rattle.forest_model.specs.State.{State, is_in_ram, is_timer_due}
+use Rattle.forest_model.specs.State.{State, is_in_ram}
 use Rattle.forest_model.specs.Access.{faulted, of_ram, of_port, uses, is_made, is_aligned_for, misaligned_cause, fault_cause}
-use Rattle.forest_model.specs.Access.{is_allowed, outside_ram, page_of, page_for, reached_if, reached_by, reached, fetch_access}
-use Rattle.forest_model.specs.Execute.{action, action_by, execute, decoded_action, fetched, fetch_action, coming_instruction, instruction_at, instruction_by}
+use Rattle.forest_model.specs.Access.{is_allowed, outside_ram, page_of, page_for, reached_if, reached_by, reached}
 
 pub record IsOfRam (a : Access) (s : State) (page : Option ℕ) : Type 0 where
   pub aligned : is_aligned_for a.direction a.address a.width ≡ true
@@ -77,15 +73,3 @@ pub begins-for : (a : Access) (s : State) (page : Option ℕ) → reached a s �
 begins-for a s page e =
     let is = of_ram-is a s page e in
     subst (λ p. IfSome p (λ q. PAGE_SIZE * q < length s.ram)) (sym is.needs) (begins-if (is_made a.direction) s.ram a.address is.in_ram)
-
--- ---- the instruction that the coming step executes
-
-module _ (s : State) (i : Instruction) (page : Option ℕ) (taken : takes_interrupt s.csrs (is_timer_due s) ≡ false)
-    (inside : reached (fetch_access s) s ≡ of_ram page) (is : decoded (fetched s) ≡ Some i) where
-  pub coming-is : coming_instruction s ≡ Some i
-  unfolding coming_instruction
-  coming-is = ap (λ b. instruction_by b s) taken ∙ ap (λ r. instruction_at r s) inside ∙ is
-
-  pub action-is : action s ≡ execute i (fetched s) s
-  unfolding action
-  action-is = ap (λ b. action_by b s) taken ∙ ap (λ r. fetch_action r s) inside ∙ ap (λ d. decoded_action d (fetched s) s) is

@@ -73,10 +73,6 @@ pub given : {A B : Type 0} (P : A → Type 0) (G : Result B Refusal → Type 0) 
 given P G (Ok x) rest h to = to x h
 given P G (Err refusal) rest h to = absurd h
 
-pub given-some : {A : Type 0} (P : A → Type 0) (r : Result A Refusal) → IsOkAnd r P → (x : A) × P x
-given-some P (Ok x) h = (x, h)
-given-some P (Err refusal) h = absurd h
-
 -- more loads may have had a fault
 more-faults : {A B : Type 0} (final : ℕ) (P Q : ℕ → Type 0) (told : Option (Result B Refusal)) (shows : A → B → Type 0) (result : Result A Stop)
     → ((load : ℕ) → P load → Q load) → Gives final P told shows result → Gives final Q told shows result
@@ -115,26 +111,7 @@ makes final Q files r shows (Err WriteFault) h = absurd h
 makes final Q files r shows (Err Wire) h = absurd h
 makes final Q files r shows (Err Memory) h = tt
 
--- where such a part stops, the whole does
-pub makes-not : {A B : Type 0} (r : Result A Refusal) (rest : A → Result B Refusal) (stop : Stop)
-    → Stops 0 (λ load. ⊥) (Some r) stop → Stops 0 (λ load. ⊥) (Some (and_then rest r)) stop
-makes-not r rest (ReadFault load) h = absurd h.0
-makes-not r rest (ImageRefused number) h = refused (IsImageRefusal number) r rest h
-makes-not r rest (DataRefused number) h = refused (IsDataRefusal number) r rest h
-makes-not r rest (ScriptRefused line kind) h = refused (IsScriptRefusal line kind) r rest h
-makes-not r rest WriteFault h = h
-makes-not r rest Wire h = h
-makes-not r rest Memory h = h
-
 -- ---- files
-
--- the part that reads a file
-pub file-part : {V : Type 0} (load : ℕ) (P Q : ℕ → Type 0) (files : Option Files) (read other : Files → Result (List ℕ) Refusal)
-    (shows : V → List ℕ → Type 0) (result : Result V Stop) → ((told : Files) → other told ≡ read told) → ((at : ℕ) → P at → Q at)
-    → Gives load P (option_map read files) shows result → Gives load Q (option_map other files) shows result
-file-part load P Q None read other shows result same to h = more-faults load P Q None shows result to h
-file-part load P Q (Some told) read other shows result same to h =
-    subst (λ r. Gives load Q (Some r) shows result) (sym (same told)) (more-faults load P Q (Some (read told)) shows result to h)
 
 -- no refusal of a file forestalls a load that is not after it
 by_length : (is_long : Bool) (least final : ℕ) (refusal : Refusal) (bytes : List ℕ) → least ≤ final → least ≤ last_load_before final refusal

@@ -42,13 +42,6 @@ after_words words (Err error) = Err error
 abbrev pub AreWordsBefore : Listing → ℕ → List ℕ → Type 0
 AreWordsBefore p at words = assembled p ≡ after_words words (assembled_from p at (drop at p.lines))
 
-after_words_none : (rest : Result (List ℕ) AsmError) → after_words [] rest ≡ rest
-after_words_none (Ok rest) = refl
-after_words_none (Err error) = refl
-
-pub AreWordsBefore-none : (p : Listing) → AreWordsBefore p 0 []
-AreWordsBefore-none p = sym (after_words_none (assembled p))
-
 after_words_more : (words : List ℕ) (i : Instruction) (rest : Result (List ℕ) AsmError) → after_words words (then_words (Ok i) rest) ≡ after_words (words ++ encoded i ∷ []) rest
 after_words_more words i (Ok rest) = ap Ok (sym (append_assoc words (encoded i ∷ []) rest))
 after_words_more words i (Err error) = refl

@@ -49,11 +49,6 @@ no_rd_of _ rd rs1 rs2 imm takes other h = cc
 pub no_rd : (i : Instruction) → IsTrue (takes_label i.kind) → (format_of i.kind ≡ J → ⊥) → IsInstruction i → i.rd ≡ 0
 no_rd i takes other h = no_rd_of i.kind i.rd i.rs1 i.rs2 i.imm takes other h
 
--- an offset is a multiple of 4, and in reach where the places are
-reach_most : (kind : Kind) → reach kind ≤ 0x10_0000
-reach_most Jal = omega arith
-reach_most _ = omega arith
-
 offset_ahead : (at place : ℕ) → at ≤ place → offset at place ≡ pos (4 * (place - at))
 offset_ahead at place ahead = omega (arith, ints)
 
