@@ -7,36 +7,36 @@
 #![tactic(auto)]
 
 #[cfg(test)]
-mod assembly;
+mod block_port;
 #[cfg(test)]
-mod block;
-#[cfg(test)]
-mod bus;
-#[cfg(test)]
-mod console;
-#[cfg(test)]
-mod decoding;
-#[cfg(test)]
-mod effects;
+mod console_port;
 #[cfg(test)]
 mod equal;
 #[cfg(test)]
-mod fates;
-#[cfg(test)]
 mod fields;
 #[cfg(test)]
-mod fork;
+mod fork_port;
 #[cfg(test)]
-mod guests;
+mod guest_gen;
 #[cfg(test)]
-mod protection;
+mod guest_pmp;
 #[cfg(test)]
 mod rows;
 #[cfg(test)]
-mod sibling;
+mod rv_asm;
+#[cfg(test)]
+mod rv_decode;
+#[cfg(test)]
+mod rv_exec;
+#[cfg(test)]
+mod rv_traps;
+#[cfg(test)]
+mod sibling_port;
 #[cfg(test)]
 mod sizes;
 #[cfg(test)]
-mod timer;
+mod timer_port;
 #[cfg(test)]
-mod traps;
+mod vm_bus;
+#[cfg(test)]
+mod wire_fates;

@@ -8,7 +8,7 @@
 #[cfg(test)]
 mod absent;
 #[cfg(test)]
-mod claims;
+mod drive_script;
 #[cfg(test)]
 mod equal;
 #[cfg(test)]
@@ -20,19 +20,19 @@ mod firsts;
 #[cfg(test)]
 mod guests;
 #[cfg(test)]
-mod machine;
+mod host_workers;
+#[cfg(test)]
+mod io_edge;
+#[cfg(test)]
+mod machine_names;
 #[cfg(test)]
 mod meeting;
 #[cfg(test)]
-mod names;
-#[cfg(test)]
 mod numbers;
 #[cfg(test)]
-mod outside;
+mod page_claims;
 #[cfg(test)]
-mod reports;
-#[cfg(test)]
-mod scripts;
+mod run_report;
 #[cfg(test)]
 mod siblings;
 #[cfg(test)]
@@ -44,8 +44,8 @@ mod together;
 #[cfg(test)]
 mod told;
 #[cfg(test)]
-mod turns;
+mod turn_board;
 #[cfg(test)]
-mod workers;
+mod vm_cell;
 #[cfg(test)]
-mod worlds;
+mod world_core;

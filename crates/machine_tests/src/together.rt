@@ -7,7 +7,7 @@ use crate::families::{AHEAD, Ended, end_over, gated, ungated};
 use crate::guests::{TWO_CHILDREN, with_clones};
 use crate::meeting::{Meeting, MeetingWire};
 use crate::texts;
-use crate::workers::ends_with;
+use crate::host_workers::ends_with;
 use host_workers::Finish;
 use std::alloc::Global;
 use std::process::Abort;

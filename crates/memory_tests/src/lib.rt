@@ -8,34 +8,34 @@
 #[cfg(test)]
 mod changes;
 #[cfg(test)]
-mod depots;
+mod cow_disk;
 #[cfg(test)]
-mod descriptors;
-#[cfg(test)]
-mod disks;
+mod elf_load;
 #[cfg(test)]
 mod equal;
 #[cfg(test)]
-mod fetches;
-#[cfg(test)]
-mod files;
-#[cfg(test)]
-mod frames;
+mod fetch_proto;
 #[cfg(test)]
 mod freezes;
 #[cfg(test)]
-mod guests;
+mod guest_mem;
 #[cfg(test)]
-mod lists;
+mod host_fetch;
+#[cfg(test)]
+mod image_depot;
 #[cfg(test)]
 mod numbers;
 #[cfg(test)]
-mod pages;
+mod page_frames;
 #[cfg(test)]
 mod parcels;
 #[cfg(test)]
 mod process;
 #[cfg(test)]
+mod shared_leaves;
+#[cfg(test)]
 mod token;
+#[cfg(test)]
+mod vm_descriptor;
 #[cfg(test)]
 mod waiting;
