@@ -4,9 +4,9 @@ ghost use Rattle.std.specs.Prelude.{◌≤◌, IfOk, length};
 ghost use Rattle.drive_script.specs.Driven.{HasMachines};
 ghost use Rattle.drive_script.specs.Steps.{Family};
 
+use crate::drive_script::in_form;
 use crate::equal::{are_equal, succeeds};
 use crate::guests::{TWO_CHILDREN, booted, with_clones};
-use crate::drive_script::in_form;
 use crate::told::tells;
 use drive_script::drive;
 use forest_model::Options;

@@ -5,8 +5,8 @@ ghost use Rattle.std.specs.Prelude.{◌≡◌, IfSome};
 ghost use Rattle.image_depot.specs.Key.{IsKeyOf};
 ghost use Rattle.image_depot.specs.Reply.{IsSentOf};
 
-use crate::image_depot::frozen;
 use crate::equal::{are_equal, succeeds};
+use crate::image_depot::frozen;
 use image_depot::{Depot, ImageKey, Parcel, Sent};
 use page_claims::{Claimed, Claims, First};
 use std::alloc::Global;
