@@ -7,36 +7,36 @@
 #![tactic(auto)]
 
 #[cfg(test)]
-mod block_port;
+mod block_port_tests;
 #[cfg(test)]
-mod console_port;
+mod console_port_tests;
 #[cfg(test)]
 mod equal;
 #[cfg(test)]
 mod fields;
 #[cfg(test)]
-mod fork_port;
+mod fork_port_tests;
 #[cfg(test)]
-mod guest_gen;
+mod guest_gen_tests;
 #[cfg(test)]
-mod guest_pmp;
+mod guest_pmp_tests;
 #[cfg(test)]
 mod rows;
 #[cfg(test)]
-mod rv_asm;
+mod rv_asm_tests;
 #[cfg(test)]
-mod rv_decode;
+mod rv_decode_tests;
 #[cfg(test)]
-mod rv_exec;
+mod rv_exec_tests;
 #[cfg(test)]
-mod rv_traps;
+mod rv_traps_tests;
 #[cfg(test)]
-mod sibling_port;
+mod sibling_port_tests;
 #[cfg(test)]
 mod sizes;
 #[cfg(test)]
-mod timer_port;
+mod timer_port_tests;
 #[cfg(test)]
-mod vm_bus;
+mod vm_bus_tests;
 #[cfg(test)]
-mod wire_fates;
+mod wire_fates_tests;

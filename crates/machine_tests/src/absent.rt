@@ -9,7 +9,7 @@ ghost use Rattle.vm_cell.specs.Woken.{AreOfImage};
 use crate::equal::{are_equal_at, succeeds};
 use crate::fetched::fetches_two;
 use crate::guests::{run, step};
-use crate::vm_cell::{Course, machine_does, run_and_fork};
+use crate::vm_cell_tests::{Course, machine_does, run_and_fork};
 use elf_load::RAM_BASE;
 use forest_model::{Ending, Handed};
 use image_depot::Depot;

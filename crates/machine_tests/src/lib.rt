@@ -8,7 +8,7 @@
 #[cfg(test)]
 mod absent;
 #[cfg(test)]
-mod drive_script;
+mod drive_script_tests;
 #[cfg(test)]
 mod equal;
 #[cfg(test)]
@@ -20,19 +20,19 @@ mod firsts;
 #[cfg(test)]
 mod guests;
 #[cfg(test)]
-mod host_workers;
+mod host_workers_tests;
 #[cfg(test)]
-mod io_edge;
+mod io_edge_tests;
 #[cfg(test)]
-mod machine_names;
+mod machine_names_tests;
 #[cfg(test)]
 mod meeting;
 #[cfg(test)]
 mod numbers;
 #[cfg(test)]
-mod page_claims;
+mod page_claims_tests;
 #[cfg(test)]
-mod run_report;
+mod run_report_tests;
 #[cfg(test)]
 mod siblings;
 #[cfg(test)]
@@ -44,8 +44,8 @@ mod together;
 #[cfg(test)]
 mod told;
 #[cfg(test)]
-mod turn_board;
+mod turn_board_tests;
 #[cfg(test)]
-mod vm_cell;
+mod vm_cell_tests;
 #[cfg(test)]
-mod world_core;
+mod world_core_tests;

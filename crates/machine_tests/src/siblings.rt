@@ -10,7 +10,7 @@ mod texts;
 
 use crate::equal::succeeds;
 use crate::guests::with_clones;
-use crate::host_workers::{ALL, SOME, each_ends_with};
+use crate::host_workers_tests::{ALL, SOME, each_ends_with};
 use forest_model::Options;
 
 #[test]

@@ -5,7 +5,7 @@ ghost use Rattle.std.specs.Prelude.{◌≡◌, length};
 use crate::equal::{are_equal, succeeds};
 use crate::families::{AHEAD, Ended, end_over, gated, ungated};
 use crate::guests::{TWO_CHILDREN, with_clones};
-use crate::host_workers::ends_with;
+use crate::host_workers_tests::ends_with;
 use crate::meeting::{Meeting, MeetingWire};
 use crate::texts;
 use host_workers::Finish;

@@ -2,8 +2,8 @@
 
 use crate::equal::{are_equal, succeeds};
 use crate::guests::{TWO_CHILDREN, booted_at};
-use crate::vm_cell::run_and_fork;
-use crate::world_core::{Deed, does};
+use crate::vm_cell_tests::run_and_fork;
+use crate::world_core_tests::{Deed, does};
 use elf_load::RAM_BASE;
 use image_depot::{Depot, Sent};
 use page_claims::{Claimed, Claims};

@@ -4,7 +4,7 @@ ghost use Rattle.std.specs.Prelude.{◌≡◌, ◌+◌, ◌<◌, length, OnOk};
 ghost use Rattle.guest_mem.specs.Ram.{IsDiskBased, IsRamOf};
 
 use crate::equal::{are_equal, succeeds};
-use crate::guest_mem::{SIZES, booted, first_word, frozen_disk, input};
+use crate::guest_mem_tests::{SIZES, booted, first_word, frozen_disk, input};
 use console_port::Input;
 use cow_disk::FrozenDisk;
 use elf_load::{MAX_PAGES, MIN_PAGES};

@@ -8,34 +8,34 @@
 #[cfg(test)]
 mod changes;
 #[cfg(test)]
-mod cow_disk;
+mod cow_disk_tests;
 #[cfg(test)]
-mod elf_load;
+mod elf_load_tests;
 #[cfg(test)]
 mod equal;
 #[cfg(test)]
-mod fetch_proto;
+mod fetch_proto_tests;
 #[cfg(test)]
 mod freezes;
 #[cfg(test)]
-mod guest_mem;
+mod guest_mem_tests;
 #[cfg(test)]
-mod host_fetch;
+mod host_fetch_tests;
 #[cfg(test)]
-mod image_depot;
+mod image_depot_tests;
 #[cfg(test)]
 mod numbers;
 #[cfg(test)]
-mod page_frames;
+mod page_frames_tests;
 #[cfg(test)]
 mod parcels;
 #[cfg(test)]
 mod process;
 #[cfg(test)]
-mod shared_leaves;
+mod shared_leaves_tests;
 #[cfg(test)]
 mod token;
 #[cfg(test)]
-mod vm_descriptor;
+mod vm_descriptor_tests;
 #[cfg(test)]
 mod waiting;

@@ -6,7 +6,7 @@ ghost use Rattle.image_depot.specs.Key.{IsKeyOf};
 ghost use Rattle.image_depot.specs.Reply.{IsSentOf};
 
 use crate::equal::{are_equal, succeeds};
-use crate::image_depot::frozen;
+use crate::image_depot_tests::frozen;
 use image_depot::{Depot, ImageKey, Parcel, Sent};
 use page_claims::{Claimed, Claims, First};
 use std::alloc::Global;

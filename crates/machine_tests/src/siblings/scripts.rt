@@ -5,7 +5,7 @@ ghost use Rattle.std.specs.Prelude.{◌≤◌, length};
 use super::{at_most, guests};
 use crate::equal::succeeds;
 use crate::guests::with_clones;
-use crate::world_core::{Deed, family_does};
+use crate::world_core_tests::{Deed, family_does};
 use forest_model::Options;
 use std::alloc::{AllocError, Global};
 use std::process::Abort;

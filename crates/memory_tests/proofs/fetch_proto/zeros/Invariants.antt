@@ -1,5 +1,0 @@
-use Rattle.std.specs.Prelude.{◌≤◌}
-use Rattle.memory_tests.proofs.fetch_proto.zeros.Given as goal
-
-abbrev pub invariant-loop-byte : goal.invariant-loop-byte
-invariant-loop-byte l = l.zeros ≤ l.byte-index

@@ -1,5 +1,0 @@
-use Rattle.std.specs.Prelude.{◌≤◌}
-use Rattle.memory_tests.proofs.vm_descriptor.counts.Given as goal
-
-abbrev pub invariant-loop-is_blank : goal.invariant-loop-is_blank
-invariant-loop-is_blank l = l.blank ≤ l.is_blank-index
