@@ -1,8 +1,7 @@
-"""The subcommands of `snow` and their options, read from the one table that the program has of them."""
+"""The subcommands of `snow` and their options, by the usage that the program tells, which stands in its source."""
 
 import dataclasses
 import functools
-import glob
 import re
 
 from lib.command import ROOT
@@ -13,11 +12,11 @@ MOST_WORD = 4294967295
 
 @dataclasses.dataclass(frozen=True)
 class Option:
-    """An option: its name with the dashes, what it is, and of a number the least, the most and the default. A file has the most
-    units of its kind, and no least."""
+    """An option: its name with the dashes, and what it sets. Of a number it has the least, the most and the default, and of a
+    file the most units alone."""
 
     name: str
-    help: str
+    sets: str
     most: int
     least: int | None = None
     default: int | None = None
@@ -30,70 +29,57 @@ class Option:
 class Subcommand:
     """A subcommand: the words that it wants, and its options by their names."""
 
-    name: str
     words: tuple[str, ...]
     options: dict[str, Option]
 
 
-def read_source(path: str) -> str:
-    with open(path, encoding="utf-8") as file:
-        return file.read()
-
-
 @functools.cache
-def constant(name: str) -> int:
-    """Returns the number of a constant of the program's crates."""
-    if name == "u32::MAX":
-        return MOST_WORD
-    for path in glob.glob(f"{ROOT}/crates/*/src/**/*.rt", recursive=True):
-        found = re.search(rf"^pub const {name}: \w+ = (.+);$", read_source(path), re.M)
-        if found:
-            return number(found[1])
-    raise ValueError(f"no crate has a constant {name}")
+def usage() -> str:
+    """Returns what the program says of words that have no meaning."""
+    with open(TABLE, encoding="utf-8") as file:
+        return file.read().partition('pub const USAGE: &str = "')[2].partition('";')[0]
 
 
-def number(text: str) -> int:
-    """Returns a number that is written as a literal or by the name of a constant."""
-    plain = text.partition(" as ")[0].replace("_", "")
-    return int(plain) if plain.isdigit() else constant(text.partition(" as ")[0])
+def option_of(name: str, kind: str, told: str) -> Option:
+    """Returns an option by its line of the usage."""
+    numbers = re.fullmatch(r"(.*), (\d+) to (\d+); (\d+),? if not given.*", told)
+    if kind == "N" and numbers:
+        return Option(name, numbers[1], int(numbers[3]), int(numbers[2]), int(numbers[4]))
+    size = re.fullmatch(r"(.*), at most (\d+) .*", told)
+    if kind == "F" and size:
+        return Option(name, size[1], int(size[2]))
+    raise ValueError(f"the usage tells of {name}: {told}")
 
 
-def read_rows(table: str, kind: str) -> dict[str, dict[str, str]]:
-    """Returns the constants of a type by their names, each with what its fields are, texts without their quotes."""
-    rows = re.findall(rf"^pub(?:\(crate\))? const (\w+): {kind} = {kind} \{{\n(.*?)^\}};$", table, re.M | re.S)
-    field = re.compile(r'^    (\w+):\s+"?(.*?)"?,\n(?=    \w|\Z)', re.M | re.S)
-    return {name: dict(field.findall(fields)) for name, fields in rows}
-
-
-def read_options(table: str) -> dict[str, Option]:
-    """Returns the options by the names of their constants."""
-    options = {}
-    for name, row in read_rows(table, "FileOption").items():
-        options[name] = Option(f"--{row['name']}", row["help"], number(row["most"]))
-    limits = read_rows(table, "Limits")
-    for name, row in read_rows(table, "NumberOption").items():
-        least, most, default = (number(limits[row["limits"]][field]) for field in ("least", "most", "default"))
-        options[name] = Option(f"--{row['name']}", row["help"], most, least, default)
-    return options
+def subcommands_of(told: str) -> dict[str, Subcommand]:
+    """Returns the subcommands by their names, as a usage tells them."""
+    options = {line[0]: option_of(*line) for line in re.findall(r"(?m)^  (--\w+) (\w) +(.*)$", told)}
+    found = {}
+    for name, words, taken in re.findall(r"(?m)^  snow (\w+)((?: [A-Z]+)+)((?:\s+\[--\w+ \w\])*)$", told):
+        found[name] = Subcommand(tuple(words.split()), {one: options[one] for one in re.findall(r"--\w+", taken)})
+    return found
 
 
 @functools.cache
 def subcommands() -> dict[str, Subcommand]:
     """Returns the subcommands by their names."""
-    table = read_source(TABLE)
-    options, found = read_options(table), {}
-    for row in read_rows(table, "Subcommand").values():
-        words = tuple(re.findall(r'Parameter::Word\("(\w+)"\)', row["parameters"]))
-        taken = [options[name] for name in re.findall(r"Parameter::(?:File|Number)\((\w+)\)", row["parameters"])]
-        found[row["name"]] = Subcommand(row["name"], words, {option.name: option for option in taken})
-    return found
+    return subcommands_of(usage())
 
 
 def options_of(command: str) -> dict[str, Option]:
-    """Returns the options of a subcommand by their names."""
+    """Returns the options of a subcommand by their names. `run` takes each that there is."""
     return subcommands()[command].options
 
 
-def all_options() -> dict[str, Option]:
-    """Returns each option that there is, by its name."""
-    return {name: option for subcommand in subcommands().values() for name, option in subcommand.options.items()}
+def option_named(name: str) -> Option:
+    return options_of("run")[name]
+
+
+def files() -> dict[str, Option]:
+    """Returns the options that name files."""
+    return {name: option for name, option in options_of("run").items() if option.is_file()}
+
+
+def numbers(command: str = "run") -> dict[str, Option]:
+    """Returns the options of a subcommand that set numbers."""
+    return {name: option for name, option in options_of(command).items() if not option.is_file()}

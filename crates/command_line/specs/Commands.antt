@@ -17,7 +17,7 @@ meaning (asked.Generated values) = generated values
 -- what the parser is told of a word or an option
 abbrev pub rule_for : Parameter → Rule
 rule_for (Word name) = argument_rule name.now
-rule_for (File option) = option_rule option.name.now
+rule_for (File name) = option_rule name.now
 rule_for (Number option) = option_rule option.name.now
 
 -- the command line of a command that takes these too, in their order

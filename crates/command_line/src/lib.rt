@@ -2,10 +2,8 @@
 #![tactic(auto)]
 
 pub mod options;
-mod usage;
 mod words;
 
-pub use usage::Usage;
 pub use words::{
     Command, GENERATED_AHEAD, GENERATED_CLONES, GeneratedWords, GuestWords, RunWords, command_asked,
 };

@@ -1,42 +1,33 @@
-//! The one table of the subcommands and their options. The parser is told of them by it, values are read by it, the usage is
-//! written of it, and the tools and tests of the repository read it here. A row has one field a line, and a number is a literal
-//! or the name of a constant.
+//! The one table of the subcommands and their options: the usage, which people, the launcher and the tools read, and rows by
+//! which the parser is told of them and values are read. Tests compare each row with its line of the usage.
 
-use console_port::MAX_INPUT;
-use cow_disk::MAX_SECTORS;
 use elf_load::{MAX_PAGES, MIN_PAGES};
 use host_fetch::MAX_AHEAD;
 use vm_descriptor::{MAX_CLONES, MAX_LIMIT};
 
-/// An option `--name` that names a file.
-#[derive(Drop)]
-pub(crate) struct FileOption {
-    /// Its name, without the dashes.
-    pub(crate) name: &'static str,
-    /// What the file is.
-    pub(crate) help: &'static str,
-    /// The most units that the file may have.
-    pub(crate) most: usize,
-    /// What is counted in it.
-    pub(crate) unit: &'static str,
-    /// What there is where the option is not given.
-    pub(crate) default: &'static str,
-}
+/// What is said of words that have no meaning: what each subcommand takes and does, and a line for each option, with the least
+/// number, the most and the default. The last line has no end.
+pub const USAGE: &str = "snow: usage
+  snow run IMAGE [--disk F] [--input F] [--ram N] [--limit N] [--clones N] [--wire N] [--ahead N]
+                 [--workers N] [--slice N]
+      run an executable image with all its children, and write their report
+  snow drive IMAGE SCRIPT [--disk F] [--input F] [--ram N] [--limit N] [--clones N]
+      step through it and its children by a script, and write what each line tells
+  snow self SEED [--workers N]
+      run a guest that is drawn from a seed, 0 to 4294967295, and write what it and its children came to
 
-/// An option `--name` that sets a number.
-#[derive(Drop)]
-pub(crate) struct NumberOption {
-    /// Its name, without the dashes.
-    pub(crate) name: &'static str,
-    /// What the number is.
-    pub(crate) help: &'static str,
-    /// The numbers that it may set.
-    pub(crate) limits: Limits,
-    /// What the default does, where its number does not tell.
-    pub(crate) note: &'static str,
-}
+  --disk F     the file of the disk, at most 8192 sectors of 512 bytes; no sectors if not given
+  --input F    the file of the console's input, at most 65536 bytes; empty if not given
+  --ram N      the pages of RAM, 16 to 16384; 64 if not given
+  --limit N    the most steps of a machine, 1 to 1000000000; 1000000 if not given
+  --clones N   the most children and children's children, 0 to 4096; 0 if not given
+  --wire N     what the wire does with the pages of children, 0 to 4294967295; 0, if not given, hands on each
+  --ahead N    how many pages are asked for beside one that is wanted, 0 to 16; 0 if not given
+  --workers N  how many machines may run at once, 1 to 64; 1 if not given
+  --slice N    the steps after which a worker looks up from a machine, 1 to 1000000; 1000 if not given";
 
-/// The numbers that an option may set. These are constants of their own, without a text, since definitions name no others.
+/// The numbers that an option may set. They are constants of their own, without the name, since definitions cite them, and can
+/// cite no constant with a text.
 #[derive(Clone, Copy)]
 pub struct Limits {
     /// The least of them.
@@ -47,43 +38,30 @@ pub struct Limits {
     pub default: u32,
 }
 
+/// An option `--name N`.
+#[derive(Drop)]
+pub struct NumberOption {
+    pub name: &'static str,
+    pub limits: Limits,
+}
+
 /// What a subcommand takes.
 #[derive(Drop)]
-pub(crate) enum Parameter {
+pub enum Parameter {
     /// A word that has to be given.
     Word(&'static str),
-    /// An option that names a file.
-    File(FileOption),
-    /// An option that sets a number.
+    /// An option `--name F`, where F is the name of a file.
+    File(&'static str),
+    /// An option `--name N`, where N is a number.
     Number(NumberOption),
 }
 
-/// A subcommand.
+/// A subcommand: its name, and what it takes, its words in their order.
 #[derive(Drop)]
-pub(crate) struct Subcommand {
-    /// Its name.
-    pub(crate) name: &'static str,
-    /// What it does.
-    pub(crate) help: &'static str,
-    /// What it takes: its words in their order, and its options.
-    pub(crate) parameters: &'static [Parameter],
+pub struct Subcommand {
+    pub name: &'static str,
+    pub parameters: &'static [Parameter],
 }
-
-pub(crate) const DISK_OPTION: FileOption = FileOption {
-    name: "disk",
-    help: "the file of the disk",
-    most: MAX_SECTORS as usize,
-    unit: "sectors of 512 bytes",
-    default: "no sectors",
-};
-
-pub(crate) const INPUT_OPTION: FileOption = FileOption {
-    name: "input",
-    help: "the file of the console's input",
-    most: MAX_INPUT,
-    unit: "bytes",
-    default: "empty",
-};
 
 /// The pages of RAM.
 pub const RAM: Limits = Limits {
@@ -94,9 +72,7 @@ pub const RAM: Limits = Limits {
 
 pub(crate) const RAM_OPTION: NumberOption = NumberOption {
     name: "ram",
-    help: "the pages of RAM",
     limits: RAM,
-    note: "",
 };
 
 /// The most steps of a machine.
@@ -108,9 +84,7 @@ pub const LIMIT: Limits = Limits {
 
 pub(crate) const LIMIT_OPTION: NumberOption = NumberOption {
     name: "limit",
-    help: "the most steps of a machine",
     limits: LIMIT,
-    note: "",
 };
 
 /// The most machines at one time beside the first.
@@ -122,9 +96,7 @@ pub const CLONES: Limits = Limits {
 
 pub(crate) const CLONES_OPTION: NumberOption = NumberOption {
     name: "clones",
-    help: "the most children and children's children",
     limits: CLONES,
-    note: "",
 };
 
 /// The seed of the wires. By 0 they hand on each page.
@@ -136,9 +108,7 @@ pub const WIRE: Limits = Limits {
 
 pub(crate) const WIRE_OPTION: NumberOption = NumberOption {
     name: "wire",
-    help: "what the wire does with the pages of children",
     limits: WIRE,
-    note: "hands on each",
 };
 
 /// The pages that are asked for beside one that is wanted.
@@ -150,9 +120,7 @@ pub const AHEAD: Limits = Limits {
 
 pub(crate) const AHEAD_OPTION: NumberOption = NumberOption {
     name: "ahead",
-    help: "how many pages are asked for beside one that is wanted",
     limits: AHEAD,
-    note: "",
 };
 
 /// The workers, and so the machines that run at one time.
@@ -164,9 +132,7 @@ pub const WORKERS: Limits = Limits {
 
 pub(crate) const WORKERS_OPTION: NumberOption = NumberOption {
     name: "workers",
-    help: "how many machines may run at once",
     limits: WORKERS,
-    note: "",
 };
 
 /// The steps of a machine after which its worker first looks up, or 1,000 if that is fewer.
@@ -178,19 +144,16 @@ pub const SLICE: Limits = Limits {
 
 pub(crate) const SLICE_OPTION: NumberOption = NumberOption {
     name: "slice",
-    help: "the steps after which a worker looks up from a machine",
     limits: SLICE,
-    note: "",
 };
 
-/// It takes each option that there is, in the order of the usage.
-pub(crate) const RUN: Subcommand = Subcommand {
+/// `run`, which takes each option that there is, in the order of the usage.
+pub const RUN: Subcommand = Subcommand {
     name: "run",
-    help: "run an executable image with all its children, and write their report",
     parameters: &[
         Parameter::Word("IMAGE"),
-        Parameter::File(DISK_OPTION),
-        Parameter::File(INPUT_OPTION),
+        Parameter::File("disk"),
+        Parameter::File("input"),
         Parameter::Number(RAM_OPTION),
         Parameter::Number(LIMIT_OPTION),
         Parameter::Number(CLONES_OPTION),
@@ -201,22 +164,22 @@ pub(crate) const RUN: Subcommand = Subcommand {
     ],
 };
 
-pub(crate) const DRIVE: Subcommand = Subcommand {
+/// `drive`.
+pub const DRIVE: Subcommand = Subcommand {
     name: "drive",
-    help: "step through it and its children by a script, and write what each line tells",
     parameters: &[
         Parameter::Word("IMAGE"),
         Parameter::Word("SCRIPT"),
-        Parameter::File(DISK_OPTION),
-        Parameter::File(INPUT_OPTION),
+        Parameter::File("disk"),
+        Parameter::File("input"),
         Parameter::Number(RAM_OPTION),
         Parameter::Number(LIMIT_OPTION),
         Parameter::Number(CLONES_OPTION),
     ],
 };
 
-pub(crate) const GENERATED: Subcommand = Subcommand {
+/// `self`.
+pub const GENERATED: Subcommand = Subcommand {
     name: "self",
-    help: "run a guest that is drawn from a seed, 0 to 4294967295, and write what it and its children came to",
     parameters: &[Parameter::Word("SEED"), Parameter::Number(WORKERS_OPTION)],
 };

@@ -292,7 +292,7 @@ fn argument<'a>(alloc: Global, parameter: &Parameter) -> Arg<'a>
 {
     match parameter {
         Parameter::Word(name) => Arg::new(alloc, name).required(true),
-        Parameter::File(option) => named(alloc, option.name),
+        Parameter::File(name) => named(alloc, name),
         Parameter::Number(option) => named(alloc, option.name),
     }
 }

@@ -1,7 +1,9 @@
 //! The numbers that stand behind the names of constants.
 
-use crate::equal::are_equal;
-use command_line::options::{AHEAD, CLONES, LIMIT, Limits, RAM, SLICE, WIRE, WORKERS};
+use crate::equal::{are_equal, succeeds};
+use command_line::options::{
+    AHEAD, CLONES, LIMIT, Limits, NumberOption, Parameter, RAM, RUN, SLICE, USAGE, WIRE, WORKERS,
+};
 use command_line::{GENERATED_AHEAD, GENERATED_CLONES};
 use guest_files::{
     DISK_LOAD, DISK_NOT_SECTORS, DISK_TOO_LONG, IMAGE_LOAD, INPUT_LOAD, INPUT_TOO_LONG, MAX_DISK,
@@ -72,4 +74,30 @@ fn constants_are_these(rt: HostRuntime) {
     are_these(&rt, &GENERATED);
     options_are_these(&rt);
     sizes_are_these(&rt);
+}
+
+/// Compares the numbers of an option with its line of the usage.
+fn is_told<R: AllocGlobal + Abort>(rt: &R, option: &NumberOption) {
+    let Limits {
+        least,
+        most,
+        default,
+    } = option.limits;
+    let begins = succeeds(rt, format!(in rt.alloc(); "  --{} N ", option.name));
+    let numbers = succeeds(rt, format!(in rt.alloc(); ", {least} to {most}; {default}"));
+    let mut told = false;
+    for line in USAGE.lines() {
+        told = told || line.starts_with(begins.as_str()) && line.contains(numbers.as_str());
+    }
+    are_equal(rt, &told, &true);
+}
+
+#[test]
+fn usage_tells_of_each_number(rt: HostRuntime) {
+    for parameter in RUN.parameters.iter() {
+        match parameter {
+            Parameter::Number(option) => is_told(&rt, option),
+            _ => {}
+        }
+    }
 }
