@@ -7,7 +7,8 @@ parent, and any machine that can make a step may be the next to make one.
 
 The words are those of ./snow, whose other options are taken and change nothing, and so is what is written. So this may stand
 in the place of the program for tools/trace and tools/family, by the environment's SNOW. It was written from the documents
-alone, in the plainest way, and reads no file of crates/. It refuses nothing: an image and a script are to be in form.
+alone, in the plainest way, and of crates/ it reads the table of options alone. It refuses nothing: an image and a script are
+to be in form.
 
 With --draw a seed decides which machine makes the next steps and how many. It comes to the same report. With --compare the
 guests of examples/ are run by a program, too, those with one of the words in their names, and what both write is compared.
@@ -23,6 +24,9 @@ import subprocess
 import sys
 
 ROOT = os.path.dirname(os.path.dirname(os.path.dirname(os.path.abspath(__file__))))
+sys.path.append(f"{ROOT}/tools")
+from lib.options import options_of
+
 RAM, PAGE, SECTOR = 0x80000000, 4096, 512
 ONES = 0xFFFFFFFF
 DISK_PAGE = 1 << 31
@@ -774,19 +778,16 @@ def drive(root, script):
     return "".join(f"{line.split(' ')[1]} {driver.answer(line)}\n" for line in script.split("\n") if line)
 
 
-def options_of(words):
+def asked_by(words):
     parser = argparse.ArgumentParser(prog="whole_copies", usage="tests/whole_copies run|drive IMAGE [SCRIPT] [OPTION]..; --help tells more")
     parser.format_help = lambda: __doc__
     parser.add_argument("command", choices=("run", "drive"))
     parser.add_argument("image")
     if words[:1] == ["drive"]:
         parser.add_argument("script")
-    for name in ("--disk", "--input"):
-        parser.add_argument(name)
-    for name, value in (("--ram", 64), ("--limit", 1000000), ("--clones", 0), ("--draw", None)):
-        parser.add_argument(name, type=int, default=value)
-    for name in ("--workers", "--slice", "--wire", "--ahead"):
-        parser.add_argument(name)
+    for name, option in options_of("run").items():
+        parser.add_argument(name, type=str if option.is_file() else int, default=option.default)
+    parser.add_argument("--draw", type=int)
     return parser.parse_args(words)
 
 
@@ -799,13 +800,11 @@ def read(name):
 
 def wrote(words):
     """Returns what a command of these words writes."""
-    options = options_of(words)
-    root = Machine(
-        read(options.image), read(options.disk), read(options.input), options.ram, options.limit, options.clones, options.command == "drive"
-    )
-    if options.command == "drive":
-        return drive(root, read(options.script).decode("ascii")).encode()
-    root.finish(options.draw and random.Random(options.draw))
+    asked = asked_by(words)
+    root = Machine(read(asked.image), read(asked.disk), read(asked.input), asked.ram, asked.limit, asked.clones, asked.command == "drive")
+    if asked.command == "drive":
+        return drive(root, read(asked.script).decode("ascii")).encode()
+    root.finish(asked.draw and random.Random(asked.draw))
     return root.report()
 
 

@@ -3,27 +3,15 @@
 import dataclasses
 import os
 
-from lib import images, scripts
+from lib import images, options, scripts
 from lib.images import listed
+from lib.options import MOST_WORD
 from lib.ports import PAGE, SECTOR_SIZE
 
-COMMANDS = {"run": ("IMAGE",), "drive": ("IMAGE", "SCRIPT"), "self": ("SEED",)}
-FILES = {"--disk": "the disk", "--input": "the console's input"}
-MOST_WORD = 4294967295
-# The least and the most of each option that is a number.
-NUMBERS = {
-    "--ram": (16, 16384),
-    "--limit": (1, 1000000000),
-    "--clones": (0, 4096),
-    "--wire": (0, MOST_WORD),
-    "--ahead": (0, 16),
-    "--workers": (1, 64),
-    "--slice": (1, 1000000),
-}
-GUEST = ("--disk", "--input", "--ram", "--limit", "--clones")
-OPTIONS = {"run": (*GUEST, "--wire", "--ahead", "--workers", "--slice"), "drive": GUEST, "self": ("--workers",)}
-DEFAULT_PAGES = 64
-LONGEST_DISK, LONGEST_INPUT = 4194304, 65536
+COMMANDS = {name: one.words for name, one in options.subcommands().items()}
+OPTIONS = {name: tuple(one.options) for name, one in options.subcommands().items()}
+FILES, NUMBERS, RAM = options.files(), options.numbers(), options.option_named("--ram")
+LONGEST_DISK, LONGEST_INPUT = FILES["--disk"].most * SECTOR_SIZE, FILES["--input"].most
 
 READ_FAULT, USAGE, IMAGE, DISK_OR_INPUT, WRITE_FAULT, MEMORY, WIRE, SCRIPT = 1, 2, 3, 4, 5, 6, 7, 8
 
@@ -56,7 +44,7 @@ class Call:
     options: dict[str, str] = dataclasses.field(default_factory=dict)
 
     def pages(self) -> int:
-        return int(self.options.get("--ram", DEFAULT_PAGES))
+        return int(self.options.get("--ram", RAM.default))
 
 
 def usage(text: str) -> Refused:
@@ -110,7 +98,7 @@ def read_option(call: Call, word: str, left: list[str]) -> None:
         raise usage(option_fault(call.command, option))
     if option in call.options:
         raise usage(f"{option} is given twice: each option is given once at most")
-    wanted = f"the name of the file of {FILES[option]}" if option in FILES else f"a number from {NUMBERS[option][0]} to {NUMBERS[option][1]}"
+    wanted = f"the name of {FILES[option].sets}" if option in FILES else f"a number from {NUMBERS[option].least} to {NUMBERS[option].most}"
     if equals:
         call.options[option] = value
     elif not left:
@@ -146,7 +134,7 @@ def check_names(call: Call) -> None:
 
 
 def check_numbers(call: Call) -> None:
-    numbers = [(option, value, *NUMBERS[option]) for option, value in call.options.items() if option in NUMBERS]
+    numbers = [(option, value, NUMBERS[option].least, NUMBERS[option].most) for option, value in call.options.items() if option in NUMBERS]
     if call.command == "self":
         numbers.insert(0, ("SEED", call.names[0], 0, MOST_WORD))
     for option, value, least, most in numbers:
@@ -169,7 +157,7 @@ def size_hint(option: str, value: str) -> str:
     if not digits.isascii() or not digits.isdigit() or not unit and int(digits) < 65536:
         return "; it counts pages of 4,096 bytes"
     pages = int(digits) * units[unit] // PAGE
-    return f"; it counts pages of 4,096 bytes, so {value} is --ram {pages}" if 16 <= pages <= 16384 else "; it counts pages of 4,096 bytes, and 16384 are 64 MiB"
+    return f"; it counts pages of 4,096 bytes, so {value} is --ram {pages}" if RAM.least <= pages <= RAM.most else f"; it counts pages of 4,096 bytes, and {RAM.most} are 64 MiB"
 
 
 def load(number: int, what: str, name: str, longest: int) -> bytes:

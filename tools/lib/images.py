@@ -11,9 +11,10 @@ import subprocess
 from typing import NamedTuple
 
 from lib.command import Problem
+from lib.options import option_named
 from lib.ports import PAGE, RAM
 
-MOST_PAGES = 16384
+MOST_PAGES = option_named("--ram").most
 LONGEST = 16777216
 
 MACHINES = {3: "x86", 8: "MIPS", 20: "PowerPC", 21: "64-bit PowerPC", 22: "s390", 40: "ARM", 42: "SuperH", 62: "x86-64", 183: "AArch64", 243: "RISC-V", 258: "LoongArch"}

@@ -10,10 +10,11 @@ from typing import BinaryIO
 
 from lib import scripts
 from lib.command import ROOT, Parser, Problem
+from lib.options import options_of
 
 NOT_RUN = 70
 # The options that tell what a guest is made of, which `snow run` and `snow drive` have in common.
-GUEST_OPTIONS = ("disk", "input", "ram", "limit", "clones")
+GUEST_OPTIONS = tuple(name.strip("-") for name in options_of("drive"))
 
 
 @functools.cache

@@ -3,6 +3,7 @@
 import re
 
 from lib import reports
+from lib.scripts import MOST_STEPS
 
 TRAPPED = 900000
 CAUSES = {
@@ -95,7 +96,7 @@ def ending(said: str) -> str | None:
         return f"machine {parent} killed the {item.count} children of its ticket {ticket}, or ended before it joined them"
     if item.ending == "limit":
         return (
-            f"machine {item.name} came to its limit of {item.steps} steps: it takes more (--limit N, to 1000000000), runs for ever, or traps"
+            f"machine {item.name} came to its limit of {item.steps} steps: it takes more (--limit N, to {MOST_STEPS}), runs for ever, or traps"
             " for ever without a handler; tools/trace IMAGE --to-trap tells"
         )
     if item.ending == "stuck":

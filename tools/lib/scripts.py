@@ -4,8 +4,10 @@ import dataclasses
 import difflib
 import re
 
+from lib.options import MOST_WORD, option_named
+
 LONGEST = 1048576
-MOST_STEPS, MOST_NUMBER = 1000000000, 4294967295
+MOST_STEPS, MOST_NUMBER = option_named("--limit").most, MOST_WORD
 
 # The fields of each word: a name, a number up to its most, or an address.
 FIELDS: dict[str, tuple[str | int, ...]] = {

@@ -9,6 +9,7 @@ from lib.families import MOST, Disk, Family, Machine
 from lib.images import Image
 from lib.instructions import ABI_NAMES
 from lib.listing import Listing
+from lib.options import option_named
 from lib.ports import PAGE, RAM, SECTOR_SIZE
 from lib.traces import Steps
 
@@ -90,7 +91,7 @@ def tell(options: argparse.Namespace) -> None:
     most = options.follow if options.follow is not None else FOLLOWED_TO_TRAP if options.to_trap else FOLLOWED
     steps: list[Steps] = []
     for one in line:
-        steps.append(Steps(one, image, RAM + PAGE * int(options.ram or 64), most, steps[-1] if steps else None))
+        steps.append(Steps(one, image, RAM + PAGE * int(options.ram or option_named("--ram").default), most, steps[-1] if steps else None))
     listing = Listing(steps[-1], [f"x{i}" for i in range(32)] if options.numeric else ABI_NAMES)
     is_asked = options.registers is not None or options.wrote
     shows = not is_asked or any(it is not None for it in (options.first, options.at, options.last, options.steps)) or options.to_trap

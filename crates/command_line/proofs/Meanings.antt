@@ -17,9 +17,9 @@ use Rattle.clap.specs.declared.Command.TheViews.{out-Command}
 use Rattle.clap.specs.declared.error.kind.ErrorKind.{ErrorKind}
 use Rattle.clap.specs.declared.error.kind.ErrorKind.TheVariants.{OutOfMemory}
 use Rattle.clap.specs.declared.parser.matches.ArgMatches.{ArgMatches}
-use Rattle.command_line.specs.declared.words.Parameter.{Parameter}
+use Rattle.command_line.specs.declared.options.Parameter.{Parameter}
 use Rattle.command_line.specs.Commands.{rule_for, taking}
-use Rattle.command_line.specs.Words.{argument_rule, command_of, found, meant, meant_by, number_of, option_rule, refusals, snow_app, with_files, with_numbers, with_slice, with_wire, with_workers}
+use Rattle.command_line.specs.Words.{argument_rule, command_of, found, meant, meant_by, number_of, refusals, snow_app, with_files, with_numbers, with_slice, with_wire, with_workers}
 
 -- ---- numbers
 
@@ -69,12 +69,6 @@ pub made-required : (old new : Arg) (id : List ℕ) → new ≡ record old { req
     → (new.global ≡ false) × (rule_of new ≡ argument_rule id)
 made-required old new id is local of_old =
     (ap (λ (a : Arg). a.global) is ∙ local, ap rule_of is ∙ ap (λ (r : Rule). record r { required = true }) of_old)
-
--- an option `--name`
-pub made-long : (old new : Arg) (name : Bor (List ℕ)) → new ≡ record old { long = Some name } → old.global ≡ false → rule_of old ≡ new_rule name.now
-    → (new.global ≡ false) × (rule_of new ≡ option_rule name.now)
-made-long old new name is local of_old =
-    (ap (λ (a : Arg). a.global) is ∙ local, ap rule_of is ∙ ap (λ (r : Rule). record r { long = Some name.now }) of_old)
 
 -- the text that is given for an argument
 pub text-found : (m : ArgMatches) (id : List ℕ) (text : Option (Bor (List ℕ))) → option_map (λ (t : Bor (List ℕ)). t.now) text ≡ first_value (found_of m) id

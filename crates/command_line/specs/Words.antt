@@ -5,12 +5,9 @@ use Rattle.std.specs.Str.{all_ascii_digits, bytes_eq}
 use Rattle.std.specs.Str.Parse.{digits_value, without_leading_plus}
 use Rattle.std.specs.declared.alloc.Global.{Global}
 use Rattle.clap.specs.Words.{App, Kinds, Row, Rule, fault_of, first_of, new_app, new_rule, subcommand_of, with_rule, with_subcommand}
-use Rattle.elf_load.specs.declared.image.TheConstants.{MIN_PAGES, MAX_PAGES}
-use Rattle.vm_descriptor.specs.declared.descriptor.TheConstants.{MAX_CLONES, MAX_LIMIT}
-use Rattle.host_fetch.specs.declared.fetch_page.TheConstants.{MAX_AHEAD}
-use Rattle.command_line.specs.declared.words.TheConstants.{DEFAULT_PAGES, DEFAULT_LIMIT, DEFAULT_CLONES, DEFAULT_SEED}
-use Rattle.command_line.specs.declared.words.TheConstants.{DEFAULT_AHEAD, DEFAULT_WORKERS, DEFAULT_SLICE}
-use Rattle.command_line.specs.declared.words.TheConstants.{MIN_LIMIT, MIN_WORKERS, MAX_WORKERS, MIN_SLICE, MAX_SLICE, GENERATED_CLONES, GENERATED_AHEAD}
+use Rattle.command_line.specs.declared.options.Limits.{Limits}
+use Rattle.command_line.specs.declared.options.TheConstants.{AHEAD, CLONES, LIMIT, RAM, SLICE, WIRE, WORKERS}
+use Rattle.command_line.specs.declared.words.TheConstants.{GENERATED_CLONES, GENERATED_AHEAD}
 
 -- what a guest is made of and what it may do: the names of its image, of its disk and of its input, its pages of RAM,
 -- the most steps of a machine, and how many clones its family may have
@@ -37,11 +34,11 @@ pub record GeneratedValues : Type 0 where
 
 -- what a generated guest is given, which has no files
 abbrev pub generated_guest : GuestValues
-generated_guest = record { image = []; disk = None; input = None; pages = DEFAULT_PAGES; limit = DEFAULT_LIMIT; clones = GENERATED_CLONES }
+generated_guest = record { image = []; disk = None; input = None; pages = RAM.default; limit = LIMIT.default; clones = GENERATED_CLONES }
 
 -- and how its family is run, by so many workers
 abbrev pub generated_how : ℕ → RunValues
-generated_how workers = record { seed = DEFAULT_SEED; ahead = GENERATED_AHEAD; workers = workers; slice = DEFAULT_SLICE }
+generated_how workers = record { seed = WIRE.default; ahead = GENERATED_AHEAD; workers = workers; slice = SLICE.default }
 
 pub data Command : Type 0 where
   -- the guest's family is run to its end
@@ -126,9 +123,9 @@ number_within least most None = None
 number_within least most (Some n) = if nat_le least n && nat_le n most then Some n else None
 
 -- the value of an option: a number within its limits, or the default where the option is not given
-abbrev pub value_of : ℕ → ℕ → ℕ → Option (List ℕ) → Option ℕ
-value_of least most default None = Some default
-value_of least most default (Some text) = number_within least most (number_of text)
+abbrev pub value_of : Limits → Option (List ℕ) → Option ℕ
+value_of limits None = Some limits.default
+value_of limits (Some text) = number_within limits.least limits.most (number_of text)
 
 abbrev pub guest_with : Option (List ℕ) → Option (List ℕ) → Option (List ℕ) → Option ℕ → Option ℕ → Option ℕ → Option GuestValues
 guest_with (Some image) disk input (Some pages) (Some limit) (Some clones) =
@@ -141,13 +138,13 @@ guest_of rows =
     (first_of (codes "IMAGE") rows)
     (first_of (codes "disk") rows)
     (first_of (codes "input") rows)
-    (value_of MIN_PAGES MAX_PAGES DEFAULT_PAGES (first_of (codes "ram") rows))
-    (value_of MIN_LIMIT MAX_LIMIT DEFAULT_LIMIT (first_of (codes "limit") rows))
-    (value_of 0 MAX_CLONES DEFAULT_CLONES (first_of (codes "clones") rows))
+    (value_of RAM (first_of (codes "ram") rows))
+    (value_of LIMIT (first_of (codes "limit") rows))
+    (value_of CLONES (first_of (codes "clones") rows))
 
 -- how many workers there are to be
 abbrev pub workers_of : List Row → Option ℕ
-workers_of rows = value_of MIN_WORKERS MAX_WORKERS DEFAULT_WORKERS (first_of (codes "workers") rows)
+workers_of rows = value_of WORKERS (first_of (codes "workers") rows)
 
 abbrev pub how_with : Option ℕ → Option ℕ → Option ℕ → Option ℕ → Option RunValues
 how_with (Some seed) (Some ahead) (Some workers) (Some slice) = Some (record { seed = seed; ahead = ahead; workers = workers; slice = slice })
@@ -157,10 +154,10 @@ how_with _ _ _ _ = None
 abbrev pub how_of : List Row → Option RunValues
 how_of rows =
     how_with
-    (value_of 0 4294967295 DEFAULT_SEED (first_of (codes "wire") rows))
-    (value_of 0 MAX_AHEAD DEFAULT_AHEAD (first_of (codes "ahead") rows))
+    (value_of WIRE (first_of (codes "wire") rows))
+    (value_of AHEAD (first_of (codes "ahead") rows))
     (workers_of rows)
-    (value_of MIN_SLICE MAX_SLICE DEFAULT_SLICE (first_of (codes "slice") rows))
+    (value_of SLICE (first_of (codes "slice") rows))
 
 abbrev pub run_with : Option GuestValues → Option RunValues → Option Command
 run_with (Some guest) (Some how) = Some (run guest how)

@@ -2,12 +2,17 @@
 
 ghost use Rattle.std.specs.Prelude.{◌≡◌, ◌≤◌, false, codes, IfOk, IfSome, option_and_then, option_map};
 ghost use Rattle.clap.specs.declared.Command.TheViews.{out-Command};
-ghost use Rattle.clap.specs.Words.{app_of, first_of, found_of, new_app, rows_of, rule_of, subcommand_rows_of, with_subcommand};
+ghost use Rattle.clap.specs.Words.{app_of, first_of, found_of, rows_of, rule_of, subcommand_rows_of, with_subcommand};
 ghost use Rattle.command_line.specs.Commands.{meaning};
-ghost use Rattle.command_line.specs.Commands.{rule_for, taking};
-ghost use Rattle.command_line.specs.Words.{command_of, drive_with, generated_guest, generated_how, generated_with, guest_of, how_of, meant, number_of};
+ghost use Rattle.command_line.specs.Commands.{app_for, rule_for};
+ghost use Rattle.command_line.specs.Words.{command_of, drive_with, generated_guest, generated_how, generated_with, guest_of, how_of, meant, number_of, option_rule};
 ghost use Rattle.command_line.specs.Words.{run_with, snow_app, texts, value_of, workers_of};
 
+use crate::options::{
+    AHEAD_OPTION, CLONES_OPTION, DRIVE, GENERATED, LIMIT, LIMIT_OPTION, Limits, NumberOption,
+    Parameter, RAM, RAM_OPTION, RUN, SLICE, SLICE_OPTION, Subcommand, WIRE, WIRE_OPTION, WORKERS,
+    WORKERS_OPTION,
+};
 use clap::error::ErrorKind;
 use clap::{Arg, ArgMatches};
 use elf_load::{MAX_PAGES, MIN_PAGES};
@@ -15,42 +20,6 @@ use host_fetch::MAX_AHEAD;
 use std::alloc::{AllocError, Global};
 use std::marker::Model;
 use vm_descriptor::{MAX_CLONES, MAX_LIMIT};
-
-/// The pages of RAM where `--ram` is not given.
-pub const DEFAULT_PAGES: u32 = 64;
-
-/// The fewest steps that `--limit` may allow.
-pub const MIN_LIMIT: u32 = 1;
-
-/// The most steps of a machine where `--limit` is not given.
-pub const DEFAULT_LIMIT: u32 = 1_000_000;
-
-/// The clones of a family where `--clones` is not given.
-pub const DEFAULT_CLONES: u32 = 0;
-
-/// The pages that are asked for beside one that is wanted where `--ahead` is not given.
-pub const DEFAULT_AHEAD: u32 = 0;
-
-/// The seed of the wires where `--wire` is not given.
-pub const DEFAULT_SEED: u32 = 0;
-
-/// The fewest workers that `--workers` may ask for.
-pub const MIN_WORKERS: u32 = 1;
-
-/// The most workers that `--workers` may ask for.
-pub const MAX_WORKERS: u32 = 64;
-
-/// The workers where `--workers` is not given.
-pub const DEFAULT_WORKERS: u32 = 1;
-
-/// The fewest steps that `--slice` may say.
-pub const MIN_SLICE: u32 = 1;
-
-/// The most steps that `--slice` may say.
-pub const MAX_SLICE: u32 = 1_000_000;
-
-/// The steps of a slice where `--slice` is not given.
-pub const DEFAULT_SLICE: u32 = 1000;
 
 /// The clones of the family of a generated guest.
 pub const GENERATED_CLONES: u32 = 72;
@@ -84,14 +53,14 @@ impl<'a> Model for GuestWords<'a> {
     ghost use Rattle.std.specs.Prelude.{◌≤◌, option_map};
     ghost use Rattle.elf_load.specs.declared.image.TheConstants.{MIN_PAGES, MAX_PAGES};
     ghost use Rattle.vm_descriptor.specs.declared.descriptor.TheConstants.{MAX_CLONES, MAX_LIMIT};
-    ghost use Rattle.command_line.specs.declared.words.TheConstants.{MIN_LIMIT};
+    ghost use Rattle.command_line.specs.declared.options.TheConstants.{LIMIT};
     ghost use Rattle.command_line.specs.Words.{GuestValues};
 
     ghost Value = { GuestValues };
 
     ghost view = { λ g. record { image = g.image.now; disk = option_map (λ name. name.now) g.disk; input = option_map (λ name. name.now) g.input; pages = g.pages; limit = g.limit; clones = g.clones } };
 
-    ghost invariant = { λ g. (MIN_PAGES ≤ g.pages) × (g.pages ≤ MAX_PAGES) × (MIN_LIMIT ≤ g.limit) × (g.limit ≤ MAX_LIMIT) × (g.clones ≤ MAX_CLONES) };
+    ghost invariant = { λ g. (MIN_PAGES ≤ g.pages) × (g.pages ≤ MAX_PAGES) × (LIMIT.least ≤ g.limit) × (g.limit ≤ MAX_LIMIT) × (g.clones ≤ MAX_CLONES) };
 }
 
 impl GuestWords<'_> {
@@ -128,7 +97,7 @@ impl GuestWords<'_> {
     /// The most steps of the machine.
     pub fn limit(&self) -> u64
         ensures value { result ≡ self.now.limit }
-        ensures least { MIN_LIMIT ≤ result }
+        ensures least { LIMIT.least ≤ result }
         ensures most { result ≤ MAX_LIMIT }
     {
         self.limit
@@ -155,14 +124,14 @@ pub struct RunWords {
 impl Model for RunWords {
     ghost use Rattle.std.specs.Prelude.{◌≤◌};
     ghost use Rattle.host_fetch.specs.declared.fetch_page.TheConstants.{MAX_AHEAD};
-    ghost use Rattle.command_line.specs.declared.words.TheConstants.{MAX_SLICE, MAX_WORKERS, MIN_SLICE, MIN_WORKERS};
+    ghost use Rattle.command_line.specs.declared.options.TheConstants.{SLICE, WORKERS};
     ghost use Rattle.command_line.specs.Words.{RunValues};
 
     ghost Value = { RunValues };
 
     ghost view = { λ r. record { seed = r.seed; ahead = r.ahead; workers = r.workers; slice = r.slice } };
 
-    ghost invariant = { λ r. (r.ahead ≤ MAX_AHEAD) × (MIN_WORKERS ≤ r.workers) × (r.workers ≤ MAX_WORKERS) × (MIN_SLICE ≤ r.slice) × (r.slice ≤ MAX_SLICE) };
+    ghost invariant = { λ r. (r.ahead ≤ MAX_AHEAD) × (WORKERS.least ≤ r.workers) × (r.workers ≤ WORKERS.most) × (SLICE.least ≤ r.slice) × (r.slice ≤ SLICE.most) };
 }
 
 impl RunWords {
@@ -184,8 +153,8 @@ impl RunWords {
     /// How many workers there are to be.
     pub fn workers(&self) -> u32
         ensures value { result ≡ self.now.workers }
-        ensures least { MIN_WORKERS ≤ result }
-        ensures most { result ≤ MAX_WORKERS }
+        ensures least { WORKERS.least ≤ result }
+        ensures most { result ≤ WORKERS.most }
     {
         self.workers
     }
@@ -194,8 +163,8 @@ impl RunWords {
     /// whether another is to look for machines.
     pub fn slice(&self) -> u32
         ensures value { result ≡ self.now.slice }
-        ensures least { MIN_SLICE ≤ result }
-        ensures most { result ≤ MAX_SLICE }
+        ensures least { SLICE.least ≤ result }
+        ensures most { result ≤ SLICE.most }
     {
         self.slice
     }
@@ -210,14 +179,14 @@ pub struct GeneratedWords {
 
 impl Model for GeneratedWords {
     ghost use Rattle.std.specs.Prelude.{◌≤◌};
-    ghost use Rattle.command_line.specs.declared.words.TheConstants.{MAX_WORKERS, MIN_WORKERS};
+    ghost use Rattle.command_line.specs.declared.options.TheConstants.{WORKERS};
     ghost use Rattle.command_line.specs.Words.{GeneratedValues};
 
     ghost Value = { GeneratedValues };
 
     ghost view = { λ g. record { seed = g.seed; workers = g.workers } };
 
-    ghost invariant = { λ g. (MIN_WORKERS ≤ g.workers) × (g.workers ≤ MAX_WORKERS) };
+    ghost invariant = { λ g. (WORKERS.least ≤ g.workers) × (g.workers ≤ WORKERS.most) };
 }
 
 impl GeneratedWords {
@@ -236,8 +205,8 @@ impl GeneratedWords {
             image: "",
             disk: None,
             input: None,
-            pages: DEFAULT_PAGES,
-            limit: DEFAULT_LIMIT as u64,
+            pages: RAM.default,
+            limit: u64::from(LIMIT.default),
             clones: GENERATED_CLONES,
         }
     }
@@ -247,18 +216,18 @@ impl GeneratedWords {
         ensures { result ≡ generated_how self.now.workers }
     {
         RunWords {
-            seed: DEFAULT_SEED,
+            seed: WIRE.default,
             ahead: GENERATED_AHEAD,
             workers: self.workers,
-            slice: DEFAULT_SLICE,
+            slice: SLICE.default,
         }
     }
 
     /// How many workers there are to be.
     pub fn workers(&self) -> u32
         ensures value { result ≡ self.now.workers }
-        ensures least { MIN_WORKERS ≤ result }
-        ensures most { result ≤ MAX_WORKERS }
+        ensures least { WORKERS.least ≤ result }
+        ensures most { result ≤ WORKERS.most }
     {
         self.workers
     }
@@ -279,81 +248,38 @@ pub fn command_asked(alloc: Global, words: &[String]) -> Result<Option<Command<'
     }
 }
 
-/// What a subcommand takes.
-enum Parameter<'a> {
-    /// An argument that has to be given.
-    Positional(&'a str),
-    /// An option `--name` with one value.
-    Named(&'a str),
-}
-
 /// The command line that the parser is to take.
 fn snow_command<'a>(alloc: Global) -> Result<clap::Command<'a>, AllocError>
     ensures { IfOk result (λ command. app_of command ≡ snow_app) }
 {
     let command = clap::Command::new(alloc, "snow").no_binary_name(true);
-    let command = subcommand_added(
-        alloc,
-        command,
-        "run",
-        &[
-            Parameter::Positional("IMAGE"),
-            Parameter::Named("disk"),
-            Parameter::Named("input"),
-            Parameter::Named("ram"),
-            Parameter::Named("limit"),
-            Parameter::Named("clones"),
-            Parameter::Named("wire"),
-            Parameter::Named("ahead"),
-            Parameter::Named("workers"),
-            Parameter::Named("slice"),
-        ],
-    )?;
-    let command = subcommand_added(
-        alloc,
-        command,
-        "drive",
-        &[
-            Parameter::Positional("IMAGE"),
-            Parameter::Positional("SCRIPT"),
-            Parameter::Named("disk"),
-            Parameter::Named("input"),
-            Parameter::Named("ram"),
-            Parameter::Named("limit"),
-            Parameter::Named("clones"),
-        ],
-    )?;
-    subcommand_added(
-        alloc,
-        command,
-        "self",
-        &[Parameter::Positional("SEED"), Parameter::Named("workers")],
-    )
+    let command = subcommand_added(alloc, command, &RUN)?;
+    let command = subcommand_added(alloc, command, &DRIVE)?;
+    subcommand_added(alloc, command, &GENERATED)
 }
 
-/// A command with a subcommand of this name, which takes these in their order.
+/// A command that has this subcommand, too.
 fn subcommand_added<'a>(
     alloc: Global,
     command: clap::Command<'a>,
-    name: &'a str,
-    parameters: &[Parameter<'a>],
+    subcommand: &Subcommand,
 ) -> Result<clap::Command<'a>, AllocError>
-    ensures { IfOk result (λ added. app_of added ≡ with_subcommand (app_of command.entry) (taking parameters.entry.now (new_app name.entry.now)).top) }
+    ensures { IfOk result (λ added. app_of added ≡ with_subcommand (app_of command.entry) (app_for subcommand.now).top) }
 {
-    let made = made_subcommand(alloc, name, parameters)?;
+    let made = made_subcommand(alloc, subcommand)?;
     command.subcommand(made)
 }
 
-/// A subcommand of this name, which takes these in their order.
+/// A subcommand, as the parser is told of it.
 fn made_subcommand<'a>(
     alloc: Global,
-    name: &'a str,
-    parameters: &[Parameter<'a>],
+    subcommand: &Subcommand,
 ) -> Result<clap::Command<'a>, AllocError>
-    ensures app { IfOk result (λ made. app_of made ≡ taking parameters.entry.now (new_app name.entry.now)) }
+    ensures app { IfOk result (λ made. app_of made ≡ app_for subcommand.now) }
     ensures local { IfOk result (λ made. (out-Command made).has_globals ≡ false) }
 {
-    let mut made = clap::Command::new(alloc, name);
+    let mut made = clap::Command::new(alloc, subcommand.name);
+    let parameters = subcommand.parameters;
     'parameters: for parameter in parameters {
         made = made.arg(argument(alloc, parameter))?;
     }
@@ -361,13 +287,21 @@ fn made_subcommand<'a>(
 }
 
 /// A parameter, as the parser is told of it.
-fn argument<'a>(alloc: Global, parameter: &Parameter<'a>) -> Arg<'a>
-    ensures { (result.global ≡ false) × (rule_of result ≡ rule_for parameter.entry.now) }
+fn argument<'a>(alloc: Global, parameter: &Parameter) -> Arg<'a>
+    ensures { (result.global ≡ false) × (rule_of result ≡ rule_for parameter.now) }
 {
     match parameter {
-        Parameter::Positional(name) => Arg::new(alloc, *name).required(true),
-        Parameter::Named(name) => Arg::new(alloc, *name).long(*name),
+        Parameter::Word(name) => Arg::new(alloc, name).required(true),
+        Parameter::File(name) => named(alloc, name),
+        Parameter::Number(option) => named(alloc, option.name),
     }
+}
+
+/// An option `--name` with one value, as the parser is told of it.
+fn named<'a>(alloc: Global, name: &'static str) -> Arg<'a>
+    ensures { (result.global ≡ false) × (rule_of result ≡ option_rule name.now) }
+{
+    Arg::new(alloc, name).long(name)
 }
 
 /// The subcommand that was found, with its values.
@@ -416,9 +350,9 @@ fn guest_of<'a>(found: &ArgMatches<'a>) -> Option<GuestWords<'a>>
     let image = text_of(found, "IMAGE")?;
     let disk = text_of(found, "disk");
     let input = text_of(found, "input");
-    let pages = value_of(found, "ram", MIN_PAGES, MAX_PAGES, DEFAULT_PAGES)?;
-    let limit = value_of(found, "limit", MIN_LIMIT, MAX_LIMIT as u32, DEFAULT_LIMIT)?;
-    let clones = value_of(found, "clones", 0, MAX_CLONES, DEFAULT_CLONES)?;
+    let pages = value_of(found, &RAM_OPTION)?;
+    let limit = value_of(found, &LIMIT_OPTION)?;
+    let clones = value_of(found, &CLONES_OPTION)?;
     Some(GuestWords {
         image,
         disk,
@@ -433,10 +367,10 @@ fn guest_of<'a>(found: &ArgMatches<'a>) -> Option<GuestWords<'a>>
 fn how_of(found: &ArgMatches<'_>) -> Option<RunWords>
     ensures { result ≡ how_of (rows_of (found_of found.now)) }
 {
-    let seed = value_of(found, "wire", 0, u32::MAX, DEFAULT_SEED)?;
-    let ahead = value_of(found, "ahead", 0, MAX_AHEAD, DEFAULT_AHEAD)?;
+    let seed = value_of(found, &WIRE_OPTION)?;
+    let ahead = value_of(found, &AHEAD_OPTION)?;
     let workers = workers_of(found)?;
-    let slice = value_of(found, "slice", MIN_SLICE, MAX_SLICE, DEFAULT_SLICE)?;
+    let slice = value_of(found, &SLICE_OPTION)?;
     Some(RunWords {
         seed,
         ahead,
@@ -448,21 +382,26 @@ fn how_of(found: &ArgMatches<'_>) -> Option<RunWords>
 /// How many workers are asked for.
 fn workers_of(found: &ArgMatches<'_>) -> Option<u32>
     ensures value { result ≡ workers_of (rows_of (found_of found.now)) }
-    ensures least { IfSome result (λ n. MIN_WORKERS ≤ n) }
-    ensures most { IfSome result (λ n. n ≤ MAX_WORKERS) }
+    ensures least { IfSome result (λ n. WORKERS.least ≤ n) }
+    ensures most { IfSome result (λ n. n ≤ WORKERS.most) }
 {
-    value_of(found, "workers", MIN_WORKERS, MAX_WORKERS, DEFAULT_WORKERS)
+    value_of(found, &WORKERS_OPTION)
 }
 
 /// The value of an option: a number within its limits, or the default where the option is not given.
-fn value_of(found: &ArgMatches<'_>, id: &str, least: u32, most: u32, default: u32) -> Option<u32>
-    requires least { least ≤ default }
-    requires most { default ≤ most }
-    ensures value { result ≡ value_of least most default (first_of id.now (rows_of (found_of found.now))) }
-    ensures least { IfSome result (λ n. least ≤ n) }
-    ensures most { IfSome result (λ n. n ≤ most) }
+fn value_of(found: &ArgMatches<'_>, option: &NumberOption) -> Option<u32>
+    requires least { option.now.limits.least ≤ option.now.limits.default }
+    requires most { option.now.limits.default ≤ option.now.limits.most }
+    ensures value { result ≡ value_of option.now.limits (first_of option.now.name.now (rows_of (found_of found.now))) }
+    ensures least { IfSome result (λ n. option.now.limits.least ≤ n) }
+    ensures most { IfSome result (λ n. n ≤ option.now.limits.most) }
 {
-    match text_of(found, id) {
+    let Limits {
+        least,
+        most,
+        default,
+    } = option.limits;
+    match text_of(found, option.name) {
         None => Some(default),
         Some(text) => match number_of(text) {
             Some(n) if least <= n && n <= most => Some(n),

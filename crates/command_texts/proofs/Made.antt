@@ -9,7 +9,7 @@ use Rattle.elf_load.specs.declared.image.TheConstants.{RAM_BASE}
 use Rattle.guest_gen.specs.Guest.{words}
 use Rattle.guest_gen.proofs.Loading.{loads}
 use Rattle.command_line.specs.Words.{GeneratedValues, GuestValues, generated_guest}
-use Rattle.command_line.specs.declared.words.TheConstants.{DEFAULT_PAGES}
+use Rattle.command_line.specs.declared.options.TheConstants.{RAM}
 use Rattle.guest_files.specs.declared.stop.Stop.{Stop}
 use Rattle.guest_files.specs.declared.stop.Stop.TheVariants.{ReadFault, ImageRefused, DataRefused, ScriptRefused, WriteFault, Wire, Memory}
 use Rattle.guest_files.specs.Reads.{Guest, Refusal, and_then, disk_not_sectors}
@@ -87,19 +87,19 @@ generated-made lost values given files result is made h =
     lost-more any lost (family_text (summary values.seed) generated_guest there) (λ outcome text. summary_of values.seed outcome ≡ text) result (λ l. l.1)
     (family-made (summary values.seed) (summary_of values.seed) (outcome-summary values.seed) any generated_guest there result with_guest)
 
-generated-image : (seed : ℕ) → guest_image generated_guest (generated_files seed) ≡ Ok (image_of_code RAM_BASE (bytes_of_words (words seed)) DEFAULT_PAGES)
+generated-image : (seed : ℕ) → guest_image generated_guest (generated_files seed) ≡ Ok (image_of_code RAM_BASE (bytes_of_words (words seed)) RAM.default)
 unfolding guest_image generated_files
 generated-image seed =
-    let image : Image = image_of_code RAM_BASE (bytes_of_words (words seed)) DEFAULT_PAGES in
+    let image : Image = image_of_code RAM_BASE (bytes_of_words (words seed)) RAM.default in
     let beside : ℕ → Result Image Refusal = λ size. if size % SECTOR_SIZE == 0 then Ok image else Err disk_not_sectors in
-    ap (image_from (generated_files seed)) (loads seed DEFAULT_PAGES (lit≤ tt) (lit≤ tt)) ∙ ap beside (length-zeros (SECTOR_SIZE * SECTORS))
+    ap (image_from (generated_files seed)) (loads seed RAM.default (lit≤ tt) (lit≤ tt)) ∙ ap beside (length-zeros (SECTOR_SIZE * SECTORS))
 
 -- no guest of a seed is refused
 pub generated-there : (values : GeneratedValues) → (bytes : List ℕ) × (generated_text values ≡ Ok bytes)
 unfolding generated_text
 generated-there values =
     let tell : Image → Result (List ℕ) Refusal = λ image. Ok (summary values.seed (finish (family_of generated_guest (generated_files values.seed) image))) in
-    let image = image_of_code RAM_BASE (bytes_of_words (words values.seed)) DEFAULT_PAGES in
+    let image = image_of_code RAM_BASE (bytes_of_words (words values.seed)) RAM.default in
     (summary values.seed (finish (family_of generated_guest (generated_files values.seed) image)), ap (and_then tell) (generated-image values.seed))
 
 -- a run of a generated guest that stopped, with a text that is there

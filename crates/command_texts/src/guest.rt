@@ -6,7 +6,8 @@ ghost use Rattle.guest_files.specs.Parts.{Makes};
 ghost use Rattle.world_core.specs.Told.{told_of};
 ghost use Rattle.command_texts.specs.Text.{IsBooted, IsOfMachine, booted_paged, guest_image, image_beside};
 
-use command_line::{GuestWords, MIN_LIMIT};
+use command_line::GuestWords;
+use command_line::options::LIMIT;
 use console_port::MAX_INPUT;
 use cow_disk::{Disk, DiskError};
 use elf_load::{ImageError, Loaded, load_elf};
@@ -73,7 +74,7 @@ fn boot_machine(
     depot: &Depot,
 ) -> Result<(World, Snapshot<Vm>), AllocError>
     requires input { length input.now ≤ MAX_INPUT }
-    requires least { MIN_LIMIT ≤ options.limit }
+    requires least { LIMIT.least ≤ options.limit }
     requires most { options.limit ≤ MAX_LIMIT }
     requires clones { options.allot ≤ MAX_CLONES }
     requires disk_whole { IsWholeDisk disk }

@@ -6,6 +6,6 @@ use Rattle.command_line.proofs.words.made_subcommand.Given as goal
 
 abbrev pub invariant-parameters : goal.invariant-parameters
 invariant-parameters l = record {
-  app : app_of l.made ≡ taking (take l.parameter-index l.parameters) (new_app l.fn.name);
+  app : app_of l.made ≡ taking (take l.parameter-index l.fn.subcommand.parameters.now) (new_app l.fn.subcommand.name.now);
   local : (out-Command l.made).has_globals ≡ false;
 }
